@@ -1,0 +1,2 @@
+pub mod RegexLemmas
+pub mod ShapesLemmas

@@ -1,0 +1,168 @@
+-- The terminals of the four grammars (N-Triples 7, N-Quads 4, Turtle 6.5, TriG 4.5), and the table of the shapes of the kinds.
+use Rattle.std.specs.Prelude.{ℕ, ◌+◌, Bool, cond, List, [], ◌∷◌, ◌++◌, codes, Option, Some, None}
+use Rattle.rdf_terms.specs.declared.kind.Kind.{Kind}
+use Rattle.rdf_terms.specs.declared.kind.Kind.TheVariants.{IriRef, LabelNode, ShortString, LongString, LangTag, Carets, Dot, LineEnd, Integer, Decimal, Double, True, False, A, AtPrefix, AtBase, Prefix, Base, Graph, PnameNs, PnameLn, Semicolon, Comma, OpenBracket, CloseBracket, OpenParen, CloseParen, OpenBrace, CloseBrace, End}
+use Rattle.rdf_terms.specs.declared.kind.Dialect.{Dialect}
+use Rattle.rdf_terms.specs.declared.kind.Dialect.TheVariants.{Lines, Turtle}
+use Rattle.rdf_terms.specs.Classes.{Class}
+use Rattle.rdf_terms.specs.Classes.Class.{the, digit, hex_digit, letter, letter_or_digit, iri_char, local_escape, escape_letter, plain_double, plain_single, long_double, long_single, pn_base, pn_u, pn_char}
+use Rattle.rdf_terms.specs.Regex.{Regex, Matches, nullable, after_all, longer, ◌·◌, ◌∣◌}
+use Rattle.rdf_terms.specs.Regex.Regex.{nothing, empty, one, ◌·◌, ◌∣◌, many}
+
+-- the expression of a word, of a word in any case, of an optional part, of one or more
+abbrev pub word : List ℕ → Regex
+word [] = empty
+word (c ∷ cs) = one (the c) · word cs
+
+abbrev pub any_case : List ℕ → Regex
+any_case [] = empty
+any_case (c ∷ cs) = (one (the c) ∣ one (the (c + 32))) · any_case cs
+
+abbrev pub optional : Regex → Regex
+optional r = empty ∣ r
+
+abbrev pub some : Regex → Regex
+some r = r · many r
+
+abbrev pub hex : Regex
+hex = one hex_digit
+
+-- UCHAR ::= '\\u' HEX HEX HEX HEX | '\\U' HEX HEX HEX HEX HEX HEX HEX HEX
+abbrev pub uchar : Regex
+uchar = word (codes "\\u") · hex · hex · hex · hex ∣ word (codes "\\U") · hex · hex · hex · hex · hex · hex · hex · hex
+
+-- ECHAR ::= '\\' [tbnrf"'\\]
+abbrev pub echar : Regex
+echar = one (the 92) · one escape_letter
+
+abbrev pub double_quote : Regex
+double_quote = one (the 34)
+
+abbrev pub single_quote : Regex
+single_quote = one (the 39)
+
+-- STRING_LITERAL_QUOTE ::= '"' ([^#x22#x5C#xA#xD] | ECHAR | UCHAR)* '"', and with "'" STRING_LITERAL_SINGLE_QUOTE
+abbrev pub short_string : Regex → Class → Regex
+short_string quote plain = quote · many (one plain ∣ echar ∣ uchar) · quote
+
+-- STRING_LITERAL_LONG_QUOTE ::= '"""' (('"' | '""')? ([^"\\] | ECHAR | UCHAR))* '"""', and with "'" STRING_LITERAL_LONG_SINGLE_QUOTE
+abbrev pub long_string : Regex → Class → Regex
+long_string quote plain =
+    quote · quote · quote · many (optional (quote ∣ quote · quote) · (one plain ∣ echar ∣ uchar)) · quote · quote · quote
+
+abbrev pub dot : Regex
+dot = one (the 46)
+
+abbrev pub sign : Regex
+sign = optional (one (the 43) ∣ one (the 45))
+
+abbrev pub digits : Regex
+digits = some (one digit)
+
+-- EXPONENT ::= [eE] [+-]? [0-9]+
+abbrev pub exponent : Regex
+exponent = (one (the 101) ∣ one (the 69)) · sign · digits
+
+-- PN_PREFIX ::= PN_CHARS_BASE ((PN_CHARS | '.')* PN_CHARS)?
+abbrev pub pn_prefix : Regex
+pn_prefix = one pn_base · optional (many (one (pn_char Turtle) ∣ dot) · one (pn_char Turtle))
+
+-- PLX ::= PERCENT | PN_LOCAL_ESC; PERCENT ::= '%' HEX HEX
+abbrev pub plx : Regex
+plx = one (the 37) · hex · hex ∣ one (the 92) · one local_escape
+
+-- PN_LOCAL ::= (PN_CHARS_U | ':' | [0-9] | PLX) ((PN_CHARS | '.' | ':' | PLX)* (PN_CHARS | ':' | PLX))?
+abbrev pub pn_local : Regex
+pn_local = (one (pn_u Turtle) ∣ one (the 58) ∣ one digit ∣ plx)
+    · optional (many (one (pn_char Turtle) ∣ dot ∣ one (the 58) ∣ plx) · (one (pn_char Turtle) ∣ one (the 58) ∣ plx))
+
+-- the part of BLANK_NODE_LABEL behind "_:" ::= (PN_CHARS_U | [0-9]) ((PN_CHARS | '.')* PN_CHARS)?
+abbrev pub label_name : Dialect → Regex
+label_name d = (one (pn_u d) ∣ one digit) · optional (many (one (pn_char d) ∣ dot) · one (pn_char d))
+
+-- the part of LANGTAG behind '@' ::= [a-zA-Z]+ ('-' [a-zA-Z0-9]+)*
+abbrev pub tag_name : Regex
+tag_name = some (one letter) · many (one (the 45) · some (one letter_or_digit))
+
+-- a shape of one dialect alone
+abbrev pub only_turtle : Dialect → Regex → Regex
+only_turtle Lines r = nothing
+only_turtle Turtle r = r
+
+abbrev pub only_lines : Dialect → Regex → Regex
+only_lines Lines r = r
+only_lines Turtle r = nothing
+
+-- The table of shapes. A keyword that is also a language tag is in both rows; the row of the keyword counts.
+unfoldable pub shape : Dialect → Kind → Regex
+shape d IriRef = one (the 60) · many (one iri_char ∣ uchar) · one (the 62)
+shape d LabelNode = word (codes "_:") · label_name d
+shape d ShortString = short_string double_quote plain_double ∣ only_turtle d (short_string single_quote plain_single)
+shape d LongString = only_turtle d (long_string double_quote long_double ∣ long_string single_quote long_single)
+shape d LangTag = one (the 64) · tag_name
+shape d Carets = word (codes "^^")
+shape d Dot = word (codes ".")
+shape d LineEnd = only_lines d (word (13 ∷ []) ∣ word (10 ∷ []))
+shape d Integer = only_turtle d (sign · digits)
+shape d Decimal = only_turtle d (sign · many (one digit) · dot · digits)
+shape d Double = only_turtle d (sign · (digits · dot · many (one digit) · exponent ∣ dot · digits · exponent ∣ digits · exponent))
+shape d True = only_turtle d (word (codes "true"))
+shape d False = only_turtle d (word (codes "false"))
+shape d A = only_turtle d (word (codes "a"))
+shape d AtPrefix = only_turtle d (word (codes "@prefix"))
+shape d AtBase = only_turtle d (word (codes "@base"))
+shape d Prefix = only_turtle d (any_case (codes "PREFIX"))
+shape d Base = only_turtle d (any_case (codes "BASE"))
+shape d Graph = only_turtle d (any_case (codes "GRAPH"))
+shape d PnameNs = only_turtle d (optional pn_prefix · one (the 58))
+shape d PnameLn = only_turtle d (optional pn_prefix · one (the 58) · pn_local)
+shape d Semicolon = only_turtle d (word (codes ";"))
+shape d Comma = only_turtle d (word (codes ","))
+shape d OpenBracket = only_turtle d (word (codes "["))
+shape d CloseBracket = only_turtle d (word (codes "]"))
+shape d OpenParen = only_turtle d (word (codes "("))
+shape d CloseParen = only_turtle d (word (codes ")"))
+shape d OpenBrace = only_turtle d (word (codes "{"))
+shape d CloseBrace = only_turtle d (word (codes "}"))
+shape d End = nothing
+
+-- w has the form of the kind
+abbrev pub Shape : Dialect → Kind → List ℕ → Type 0
+Shape d LangTag w = Matches (shape d LangTag) w × (Matches (shape d AtPrefix ∣ shape d AtBase) w → ⊥)
+Shape d k w = Matches (shape d k) w
+
+-- some text with a shape begins with r and is longer
+abbrev pub Live : Dialect → List ℕ → Type 0
+Live d r = (k : Kind) × (c : ℕ) × (w : List ℕ) × Shape d k (r ++ c ∷ w)
+
+-- the kinds of one spelling, and the others
+abbrev pub fixed : List Kind
+fixed = AtPrefix ∷ AtBase ∷ Carets ∷ Dot ∷ LineEnd ∷ True ∷ False ∷ A ∷ Prefix ∷ Base ∷ Graph ∷ Semicolon ∷ Comma
+    ∷ OpenBracket ∷ CloseBracket ∷ OpenParen ∷ CloseParen ∷ OpenBrace ∷ CloseBrace ∷ []
+
+abbrev pub shaped : List Kind
+shaped = IriRef ∷ LabelNode ∷ ShortString ∷ LongString ∷ LangTag ∷ Integer ∷ Decimal ∷ Double ∷ PnameNs ∷ PnameLn ∷ []
+
+-- all kinds, a keyword before the tag that it also is
+abbrev pub kinds : List Kind
+kinds = fixed ++ shaped
+
+abbrev pub any_shape : Dialect → List Kind → Regex
+any_shape d [] = nothing
+any_shape d (k ∷ ks) = shape d k ∣ any_shape d ks
+
+-- whether a text is the beginning of a longer shape, as a test
+unfoldable pub is_live : Dialect → List ℕ → Bool
+is_live d r = longer (after_all (any_shape d kinds) r)
+
+-- the first kind of a list that a text has the form of
+abbrev pub first_kind : Dialect → List Kind → List ℕ → Option Kind
+first_kind d [] w = None
+first_kind d (k ∷ ks) w = cond (nullable (after_all (shape d k) w)) (Some k) (first_kind d ks w)
+
+unfoldable pub kind_of : Dialect → List ℕ → Option Kind
+kind_of d w = first_kind d kinds w
+
+abbrev pub or_else : Option Kind → Option Kind → Option Kind
+or_else (Some k) o = Some k
+or_else None o = o

@@ -1,0 +1,86 @@
+-- Terms and quads. A text is its characters.
+use Rattle.std.specs.Prelude.{◌≡◌, ℕ, ◌<◌, ◌^◌, Bool, true, false, List, [], ◌∷◌, ◌&&◌, ◌||◌, ◌==◌, codes, Option, Some, None}
+use Rattle.rdf_terms.specs.Classes.{has, scalar, is_letter, is_digit}
+use Rattle.rdf_terms.specs.declared.kind.Dialect.TheVariants.{Lines}
+use Rattle.rdf_terms.specs.Classes.Class.{iri_char}
+use Rattle.rdf_terms.specs.Regex.{Matches}
+use Rattle.rdf_terms.specs.Shapes.{label_name, tag_name}
+
+pub data Node : Type 0 where
+  Label : List ℕ → Node
+  Anon : ℕ → Node
+  Cell : ℕ → Node
+
+pub data Tail : Type 0 where
+  Lang : List ℕ → Tail
+  Typed : List ℕ → Tail
+
+-- a subject or a graph label
+pub data Subject : Type 0 where
+  Iri : List ℕ → Subject
+  Blank : Node → Subject
+
+pub data Term : Type 0 where
+  Resource : Subject → Term
+  Literal : List ℕ → Tail → Term
+
+pub record Quad : Type 0 where
+  pub subject : Subject
+  pub predicate : List ℕ
+  pub object : Term
+  pub graph : Option Subject
+
+-- the type of a plain string (RDF 1.1 Concepts 3.3)
+abbrev pub xsd_string : List ℕ
+xsd_string = codes "http://www.w3.org/2001/XMLSchema#string"
+
+-- a scheme and its colon stand first (RFC 3986, 3.1): ALPHA (ALPHA | DIGIT | '+' | '-' | '.')* ':'
+abbrev pub scheme_goes_on : List ℕ → Bool
+scheme_goes_on [] = false
+scheme_goes_on (c ∷ w) = c == 58 || ((is_letter c || is_digit c || c == 43 || c == 45 || c == 46) && scheme_goes_on w)
+
+abbrev pub has_scheme : List ℕ → Bool
+has_scheme [] = false
+has_scheme (c ∷ w) = is_letter c && scheme_goes_on w
+
+abbrev pub all_have : (ℕ → Bool) → List ℕ → Bool
+all_have test [] = true
+all_have test (c ∷ w) = test c && all_have test w
+
+-- what the types of terms say of their texts
+pub record IsIri (w : List ℕ) : Type 0 where
+  pub characters : all_have (has iri_char) w ≡ true
+  pub scheme : has_scheme w ≡ true
+
+abbrev pub IsLabel : List ℕ → Type 0
+IsLabel w = Matches (label_name Lines) w
+
+abbrev pub IsTag : List ℕ → Type 0
+IsTag w = Matches tag_name w
+
+abbrev pub IsNode : Node → Type 0
+IsNode (Label x) = IsLabel x
+IsNode (Anon n) = n < 2 ^ 64
+IsNode (Cell n) = n < 2 ^ 64
+
+abbrev pub IsSubject : Subject → Type 0
+IsSubject (Iri i) = IsIri i
+IsSubject (Blank n) = IsNode n
+
+abbrev pub IsTail : Tail → Type 0
+IsTail (Lang t) = IsTag t
+IsTail (Typed i) = IsIri i
+
+abbrev pub IsTerm : Term → Type 0
+IsTerm (Resource s) = IsSubject s
+IsTerm (Literal w t) = (all_have scalar w ≡ true) × IsTail t
+
+abbrev pub IsGraph : Option Subject → Type 0
+IsGraph None = Unit
+IsGraph (Some s) = IsSubject s
+
+pub record IsQuad (q : Quad) : Type 0 where
+  pub subject : IsSubject q.subject
+  pub predicate : IsIri q.predicate
+  pub object : IsTerm q.object
+  pub graph : IsGraph q.graph

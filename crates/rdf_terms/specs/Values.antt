@@ -1,0 +1,79 @@
+-- The characters that a token's inside means: each escape stands for one.
+use Rattle.std.specs.Prelude.{ℕ, zero, suc, ◌+◌, ◌-◌, ◌*◌, Bool, true, cond, List, [], ◌∷◌, ◌==◌, length, take, drop, Option, Some, None, is_some, option_map}
+use Rattle.rdf_terms.specs.Classes.{has, scalar, within}
+use Rattle.rdf_terms.specs.Classes.Class.{hex_digit, iri_char}
+use Rattle.rdf_terms.specs.declared.kind.Kind.{Kind}
+use Rattle.rdf_terms.specs.declared.kind.Kind.TheVariants.{IriRef, ShortString, LongString}
+
+-- the two kinds of text that have escapes
+pub data Inside : Type 0 where
+  of_string : Inside
+  of_iri : Inside
+
+-- where a character stands: outside an escape, behind the backslash, or where so many hex digits are still to come, with the number so far
+pub data Spot : Type 0 where
+  outside : Spot
+  slash : Spot
+  digits : ℕ → ℕ → Spot
+
+-- what a character does there: it leads on inside an escape, it completes the character that is meant, or it cannot stand there
+pub data Move : Type 0 where
+  leads : Spot → Move
+  means : ℕ → Move
+  fails : Move
+
+abbrev pub hex_value : ℕ → ℕ
+hex_value c = cond (within 48 57 c) (c - 48) (cond (within 65 70 c) (c - 55) (c - 87))
+
+-- ECHAR: t b n r f " ' \
+abbrev pub letter_move : ℕ → Move
+letter_move c = cond (c == 116) (means 9) (cond (c == 98) (means 8) (cond (c == 110) (means 10) (cond (c == 114) (means 13)
+    (cond (c == 102) (means 12) (cond (c == 34) (means 34) (cond (c == 39) (means 39) (cond (c == 92) (means 92) fails)))))))
+
+-- an IRI has IRI characters alone, written as they are or by UCHAR
+abbrev pub allowed : Inside → ℕ → Move
+allowed of_string c = means c
+allowed of_iri c = cond (has iri_char c) (means c) fails
+
+-- ECHAR stands in strings alone
+abbrev pub echar_move : Inside → ℕ → Move
+echar_move of_string c = letter_move c
+echar_move of_iri c = fails
+
+abbrev pub digit_move : Inside → ℕ → ℕ → Move
+digit_move i zero n = cond (scalar n) (allowed i n) fails
+digit_move i (suc k) n = leads (digits (suc k) n)
+
+abbrev pub move : Inside → Spot → ℕ → Move
+move i outside c = cond (c == 92) (leads slash) (allowed i c)
+move i slash c = cond (c == 117) (leads (digits 4 0)) (cond (c == 85) (leads (digits 8 0)) (echar_move i c))
+move i (digits zero n) c = fails
+move i (digits (suc k) n) c = cond (has hex_digit c) (digit_move i k (16 * n + hex_value c)) fails
+
+abbrev pub go : Move → (Spot → Option (List ℕ)) → Option (List ℕ)
+go (leads s) rest = rest s
+go (means c) rest = option_map (λ w. c ∷ w) (rest outside)
+go fails rest = None
+
+abbrev pub value : Inside → Spot → List ℕ → Option (List ℕ)
+value i outside [] = Some []
+value i slash [] = None
+value i (digits k n) [] = None
+value i s (c ∷ w) = go (move i s c) (λ t. value i t w)
+
+-- None where an escape is unknown, cut or not fit, or a character of an IRI is none
+abbrev pub string_value : List ℕ → Option (List ℕ)
+string_value w = value of_string outside w
+
+abbrev pub iri_value : List ℕ → Option (List ℕ)
+iri_value w = value of_iri outside w
+
+-- a text without n characters at both ends
+abbrev pub inside : ℕ → List ℕ → List ℕ
+inside n w = take (length w - 2 * n) (drop n w)
+
+unfoldable pub is_fit : Kind → List ℕ → Bool
+is_fit IriRef w = is_some (iri_value (inside 1 w))
+is_fit ShortString w = is_some (string_value (inside 1 w))
+is_fit LongString w = is_some (string_value (inside 3 w))
+is_fit k w = true

@@ -1,0 +1,26 @@
+// Why a document is refused, or why reading stopped.
+
+/// Why reading stopped.
+#[derive(Clone, Copy, PartialEq, Eq, Debug)]
+pub enum Reason {
+    /// The bytes here are no UTF-8, and the token before them is not decided.
+    BadUtf8,
+    /// No token begins here.
+    NoToken,
+    /// The token has an escape that stands for no character allowed there.
+    BadEscape,
+    /// The token has more characters than the limit.
+    TokenTooLong,
+    /// More than 2^63 - 1 bytes came.
+    DocumentTooLong,
+    /// A growth of memory was refused.
+    Memory,
+    /// The value has told a fault before, or has come to its end.
+    Ended,
+    /// No document has this token here.
+    Unexpected,
+    /// The IRI has no scheme.
+    RelativeIri,
+    /// The sink failed.
+    Sink,
+}

@@ -1,0 +1,37 @@
+// Where quads go.
+
+ghost use Rattle.std.specs.Prelude.{◌≡◌, ◌↔◌, Bool, true, false, OnOk, OnErr};
+ghost use Rattle.rdf_terms.specs.Terms.{Quad};
+ghost use Rattle.rdf_terms.specs.Views.{quad_of};
+
+use crate::views::QuadRef;
+
+/// Why a sink did not take a quad.
+#[derive(Clone, Copy, PartialEq, Eq, Debug)]
+pub enum PutFault {
+    /// A growth of memory was refused.
+    Memory,
+    /// The device behind the sink failed.
+    Device,
+}
+
+/// Takes quads, one by one.
+pub trait QuadSink {
+    /// What a put that answers Ok does.
+    ghost takes: { Self → Quad → Self → Type 0 };
+    /// What a put that is refused leaves.
+    ghost leaves: { Self → Quad → Self → Type 0 };
+    /// Whether a put has answered `Device`.
+    ghost has_failed: { Self → Bool };
+
+    /// Takes a quad, in the order of the calls. After `Device` it is not called again.
+    fn put(&mut self, quad: QuadRef<'_>) -> Result<(), PutFault>
+        requires live { has_failed self.old ≡ false }
+        ensures taken { OnOk result (takes self.old (quad_of quad.entry) self.new) }
+        ensures left { OnErr result (leaves self.old (quad_of quad.entry) self.new) }
+        ensures device { (has_failed self.new ≡ true) ↔ (result ≡ Err PutFault.Device) };
+
+    /// Whether a put has answered `Device`.
+    fn failed(&self) -> bool
+        ensures { result ≡ has_failed self.now };
+}

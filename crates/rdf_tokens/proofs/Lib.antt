@@ -1,0 +1,2 @@
+pub mod TokensLemmas
+pub mod GoodLemmas

@@ -1,0 +1,4 @@
+pub mod Tokens
+pub mod Good
+pub mod Unread
+pub mod Scans

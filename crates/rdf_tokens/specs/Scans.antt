@@ -1,0 +1,135 @@
+-- What a scanner has read, and what its calls give.
+use Rattle.std.specs.Prelude.{◌≡◌, ◌≢◌, ℕ, ◌<◌, ◌≤◌, ◌+◌, ◌-◌, ◌^◌, Bool, true, false, cond, List, [], ◌∷◌, ◌++◌, ◌⊎◌, length, take, Option, Some, None, Result, Ok, Err}
+use Rattle.std.specs.Str.{chars}
+use Rattle.rdf_terms.specs.declared.kind.Dialect.{Dialect}
+use Rattle.rdf_terms.specs.declared.kind.Kind.{Kind}
+use Rattle.rdf_terms.specs.declared.kind.Kind.TheVariants.{End}
+use Rattle.rdf_terms.specs.declared.reason.Reason.{Reason}
+use Rattle.rdf_terms.specs.declared.reason.Reason.TheVariants.{BadUtf8, NoToken, BadEscape, TokenTooLong, DocumentTooLong, Memory, Ended}
+use Rattle.rdf_terms.specs.Shapes.{Shape}
+use Rattle.rdf_terms.specs.Values.{is_fit}
+use Rattle.rdf_tokens.specs.declared.token.Token.{Token as Given}
+use Rattle.rdf_tokens.specs.declared.token.ScanFault.{ScanFault}
+use Rattle.rdf_tokens.specs.Tokens.{Tail, Place, Outcome, Token, Reading, with_tokens}
+use Rattle.rdf_tokens.specs.Tokens.Tail.{broken}
+use Rattle.rdf_tokens.specs.Tokens.Outcome.{undecided, complete, token_too_long, bad_utf8, no_token, bad_escape}
+use Rattle.rdf_tokens.specs.Good.{good, tail_of, end_of, tokens_at, tokens_of}
+use Rattle.rdf_tokens.specs.Unread.{Unread}
+
+-- the most bytes that a document has
+abbrev pub most_bytes : ℕ
+most_bytes = 2 ^ 63 - 1
+
+-- what is still to be read, where these bytes come, and whether they are the last
+abbrev pub reading_by : Bool → Unread → List ℕ → Bool → Reading
+reading_by true v more is_end = tokens_at v.dialect v.limit broken v.begun v.comment v.place v.text
+reading_by false v more is_end =
+    tokens_at v.dialect v.limit (tail_of (v.pending ++ more) is_end) v.begun v.comment v.place (v.text ++ good (v.pending ++ more))
+
+abbrev pub reading_of : Unread → List ℕ → Bool → Reading
+reading_of v more is_end = reading_by v.broken v more is_end
+
+-- Whatever comes, the tokens are these, and then what is read of the text that is left. Once it has stopped, they are all.
+abbrev pub Reads : Bool → Bool → Unread → List ℕ → List Token → Type 0
+Reads true e v bytes ts = ((tokens_of v.dialect v.limit bytes e).tokens ≡ ts) × ((tokens_of v.dialect v.limit bytes e).outcome ≢ undecided)
+Reads false true v bytes ts = tokens_of v.dialect v.limit bytes true ≡ with_tokens ts (reading_of v [] true)
+Reads false false v bytes ts = (more : List ℕ) (e : Bool) → tokens_of v.dialect v.limit (bytes ++ more) e ≡ with_tokens ts (reading_of v more e)
+
+-- The scanner has taken these bytes and has given these tokens.
+pub record HasRead (v : Unread) (bytes : List ℕ) (ts : List Token) : Type 0 where
+  pub taken : v.taken ≡ end_of bytes
+  pub reads : Reads v.stopped v.ended v bytes ts
+
+-- a token that the scanner gives, by its characters
+abbrev pub token_of : Given → Token
+token_of t = record { kind = t.kind; text = chars t.text.now; at = record { offset = t.offset; line = t.line } }
+
+abbrev pub place_of : ScanFault → Place
+place_of f = record { offset = f.offset; line = f.line }
+
+-- the kind of the input's end
+abbrev pub is_end : Kind → Bool
+is_end End = true
+is_end k = false
+
+-- a token of the dialect: End is empty, and any other has the shape of its kind and fit escapes
+abbrev pub IsToken : Dialect → Token → Type 0
+IsToken d t = ((t.kind ≡ End) × (t.text ≡ [])) ⊎ (Shape d t.kind t.text × (is_fit t.kind t.text ≡ true))
+
+-- the dialect and the limit stay
+pub record SameScan (old new : Unread) : Type 0 where
+  pub dialect : new.dialect ≡ old.dialect
+  pub limit : new.limit ≡ old.limit
+
+-- neither stopped nor ended: bytes may come
+pub record IsOpen (v : Unread) : Type 0 where
+  pub running : v.stopped ≡ false
+  pub more : v.ended ≡ false
+
+-- how many tokens can still be given, at most
+abbrev pub left : Unread → ℕ
+left v = length v.text + cond v.stopped 0 1
+
+-- n bytes of the piece were taken
+pub record TakesBytes (old : Unread) (piece : List ℕ) (n : ℕ) (new : Unread) : Type 0 where
+  pub same : SameScan old new
+  pub before : IsOpen old
+  pub after : IsOpen new
+  pub within : n ≤ length piece
+  pub progress : 0 < length piece → 0 < n
+  pub read : (bytes : List ℕ) (ts : List Token) → HasRead old bytes ts → HasRead new (bytes ++ take n piece) ts
+
+-- why a piece was not taken
+abbrev pub RefusesFor : Reason → Unread → List ℕ → Place → Unread → Type 0
+RefusesFor Ended old piece at new = ((old.stopped ≡ true) ⊎ (old.ended ≡ true)) × (new ≡ old)
+RefusesFor DocumentTooLong old piece at new =
+    IsOpen old × (0 < length piece) × (old.taken.offset ≡ most_bytes) × (at ≡ old.taken) × (new.stopped ≡ true)
+RefusesFor Memory old piece at new = IsOpen old × (new.stopped ≡ true)
+RefusesFor r old piece at new = ⊥
+
+-- what a push does
+abbrev pub Pushes : Unread → List ℕ → Result ℕ ScanFault → Unread → Type 0
+Pushes old piece (Ok n) new = TakesBytes old piece n new
+Pushes old piece (Err f) new = RefusesFor f.reason old piece (place_of f) new
+
+-- the next token was given
+pub record GivesToken (old : Unread) (t : Token) (new : Unread) : Type 0 where
+  pub same : SameScan old new
+  pub before : old.stopped ≡ false
+  pub ended : new.ended ≡ old.ended
+  pub token : IsToken old.dialect t
+  pub less : left new < left old
+  pub stops : new.stopped ≡ cond (is_end t.kind) true false
+  pub read : (bytes : List ℕ) (ts : List Token) → HasRead old bytes ts → HasRead new bytes (ts ++ t ∷ [])
+
+-- all tokens that the bytes decide were given
+pub record Waits (old new : Unread) : Type 0 where
+  pub same : SameScan old new
+  pub before : IsOpen old
+  pub after : IsOpen new
+  pub read : (bytes : List ℕ) (ts : List Token) → HasRead old bytes ts → HasRead new bytes ts
+      × ((tokens_of old.dialect old.limit bytes false).tokens ≡ ts) × ((tokens_of old.dialect old.limit bytes false).outcome ≡ undecided)
+
+-- no token stands at the place of the stop
+pub record Stops (old : Unread) (o : Outcome) (at : Place) (new : Unread) : Type 0 where
+  pub same : SameScan old new
+  pub before : old.stopped ≡ false
+  pub after : new.stopped ≡ true
+  pub ended : new.ended ≡ old.ended
+  pub read : (bytes : List ℕ) (ts : List Token) → HasRead old bytes ts → HasRead new bytes ts
+      × (tokens_of old.dialect old.limit bytes old.ended ≡ record { tokens = ts; outcome = o; at = at })
+
+-- why there is no next token
+abbrev pub StopsFor : Reason → Unread → Place → Unread → Type 0
+StopsFor Ended old at new = (old.stopped ≡ true) × (new ≡ old)
+StopsFor BadUtf8 old at new = Stops old bad_utf8 at new
+StopsFor NoToken old at new = Stops old no_token at new
+StopsFor BadEscape old at new = Stops old bad_escape at new
+StopsFor TokenTooLong old at new = Stops old token_too_long at new
+StopsFor r old at new = ⊥
+
+-- what next gives
+abbrev pub Gives : Unread → Result (Option Given) ScanFault → Unread → Type 0
+Gives old (Ok (Some t)) new = GivesToken old (token_of t) new
+Gives old (Ok None) new = Waits old new
+Gives old (Err f) new = StopsFor f.reason old (place_of f) new

@@ -1,0 +1,27 @@
+// Tokens, and the faults of a scanner.
+
+use rdf_terms::{Kind, Reason};
+
+/// A token: its kind, its text as it is written, and its place.
+#[derive(Clone, Copy, Debug)]
+pub struct Token<'a> {
+    /// The kind.
+    pub kind: Kind,
+    /// The text as it stands in the input, escapes and delimiters included. That of `End` is empty.
+    pub text: &'a str,
+    /// The offset of the first byte, from the first byte of the input.
+    pub offset: u64,
+    /// One plus the number of LF bytes before it.
+    pub line: u64,
+}
+
+/// Why a scanner gives no more tokens, and where.
+#[derive(Clone, Copy, PartialEq, Eq, Debug)]
+pub struct ScanFault {
+    /// The reason.
+    pub reason: Reason,
+    /// The byte offset of the place, from the first byte of the input.
+    pub offset: u64,
+    /// One plus the number of LF bytes before it.
+    pub line: u64,
+}
