@@ -1,0 +1,4 @@
+pub mod Lines
+pub mod Machine
+pub mod Writing
+pub mod Laws

@@ -1,0 +1,139 @@
+-- The line formats (N-Triples 7, N-Quads 4): a type for each production. A leaf is a token of the kind that the production names.
+use Rattle.std.specs.Prelude.{◌≡◌, ℕ, Bool, true, List, [], ◌∷◌, ◌++◌, drop, Option, Some, None, option_map, unwrap_or}
+use Rattle.rdf_terms.specs.declared.kind.Kind.{Kind}
+use Rattle.rdf_terms.specs.declared.kind.Kind.TheVariants.{IriRef, LabelNode, ShortString, LangTag, Carets, Dot, LineEnd, End}
+use Rattle.rdf_terms.specs.Values.{iri_value, string_value, inside}
+use Rattle.rdf_tokens.specs.Tokens.{Token, Place}
+use Rattle.rdf_terms.specs.Terms.{Label, Lang, Typed, Subject, Iri, Blank, Term, Resource, Literal, Quad, xsd_string}
+use Rattle.rdf_lines.specs.declared.form.LineForm.{LineForm}
+use Rattle.rdf_lines.specs.declared.form.LineForm.TheVariants.{NTriples, NQuads}
+
+pub record Leaf : Type 0 where
+  pub text : List ℕ
+  pub at : Place
+
+-- subject, graphLabel ::= IriRef | LabelNode
+pub data Name : Type 0 where
+  Ref : Leaf → Name
+  Lab : Leaf → Name
+
+-- object ::= IriRef | LabelNode | literal; literal ::= ShortString (Carets IriRef | LangTag)?
+pub data Object : Type 0 where
+  Named : Name → Object
+  Plain : Leaf → Object
+  WithType : Leaf → Leaf → Leaf → Object
+  WithTag : Leaf → Leaf → Object
+
+-- statement ::= subject predicate object graphLabel? '.'
+pub record Statement : Type 0 where
+  pub subject : Name
+  pub predicate : Leaf
+  pub object : Object
+  pub graph : Option Name
+  pub dot : Leaf
+
+-- Line ::= (nothing) | statement
+pub data Line : Type 0 where
+  empty : Line
+  one : Statement → Line
+
+-- document ::= Line (LineEnd Line)* End
+pub data Document : Type 0 where
+  last : Line → Leaf → Document
+  next : Line → Leaf → Document → Document
+
+-- the tokens that a tree derives
+abbrev pub token : Kind → Leaf → Token
+token k l = record { kind = k; text = l.text; at = l.at }
+
+abbrev pub name_tokens : Name → List Token
+name_tokens (Ref l) = token IriRef l ∷ []
+name_tokens (Lab l) = token LabelNode l ∷ []
+
+abbrev pub object_tokens : Object → List Token
+object_tokens (Named n) = name_tokens n
+object_tokens (Plain s) = token ShortString s ∷ []
+object_tokens (WithType s c i) = token ShortString s ∷ token Carets c ∷ token IriRef i ∷ []
+object_tokens (WithTag s t) = token ShortString s ∷ token LangTag t ∷ []
+
+abbrev pub graph_tokens : Option Name → List Token
+graph_tokens None = []
+graph_tokens (Some n) = name_tokens n
+
+abbrev pub statement_tokens : Statement → List Token
+statement_tokens s = name_tokens s.subject ++ (token IriRef s.predicate ∷ []) ++ object_tokens s.object ++ graph_tokens s.graph ++ (token Dot s.dot ∷ [])
+
+abbrev pub line_tokens : Line → List Token
+line_tokens empty = []
+line_tokens (one s) = statement_tokens s
+
+abbrev pub document_tokens : Document → List Token
+document_tokens (last l e) = line_tokens l ++ token End e ∷ []
+document_tokens (next l e d) = line_tokens l ++ token LineEnd e ∷ document_tokens d
+
+-- the quads of a tree; the value of a token is there, since each token is fit
+abbrev pub iri_of : Leaf → List ℕ
+iri_of l = unwrap_or (iri_value (inside 1 l.text)) []
+
+abbrev pub string_of : Leaf → List ℕ
+string_of l = unwrap_or (string_value (inside 1 l.text)) []
+
+abbrev pub subject_of : Name → Subject
+subject_of (Ref l) = Iri (iri_of l)
+subject_of (Lab l) = Blank (Label (drop 2 l.text))
+
+abbrev pub term_of : Object → Term
+term_of (Named n) = Resource (subject_of n)
+term_of (Plain s) = Literal (string_of s) (Typed xsd_string)
+term_of (WithType s c i) = Literal (string_of s) (Typed (iri_of i))
+term_of (WithTag s t) = Literal (string_of s) (Lang (drop 1 t.text))
+
+abbrev pub quad_of : Statement → Quad
+quad_of s = record { subject = subject_of s.subject; predicate = iri_of s.predicate; object = term_of s.object; graph = option_map subject_of s.graph }
+
+abbrev pub line_quads : Line → List Quad
+line_quads empty = []
+line_quads (one s) = quad_of s ∷ []
+
+abbrev pub quads : Document → List Quad
+quads (last l e) = line_quads l
+quads (next l e d) = line_quads l ++ quads d
+
+-- each IRI passes a test: that it has a scheme, in documents; or any, in what is shaped so
+abbrev pub name_bound : (List ℕ → Bool) → Name → Type 0
+name_bound test (Ref l) = test (iri_of l) ≡ true
+name_bound test (Lab l) = Unit
+
+abbrev pub object_bound : (List ℕ → Bool) → Object → Type 0
+object_bound test (Named n) = name_bound test n
+object_bound test (Plain s) = Unit
+object_bound test (WithType s c i) = test (iri_of i) ≡ true
+object_bound test (WithTag s t) = Unit
+
+abbrev pub graph_bound : (List ℕ → Bool) → Option Name → Type 0
+graph_bound test None = Unit
+graph_bound test (Some n) = name_bound test n
+
+-- a graph label stands in N-Quads only
+abbrev pub graph_fits : LineForm → Option Name → Type 0
+graph_fits NTriples g = g ≡ None
+graph_fits NQuads g = Unit
+
+pub record GoodStatement (test : List ℕ → Bool) (form : LineForm) (s : Statement) : Type 0 where
+  pub subject : name_bound test s.subject
+  pub predicate : test (iri_of s.predicate) ≡ true
+  pub object : object_bound test s.object
+  pub graph : graph_bound test s.graph
+  pub labels : graph_fits form s.graph
+
+abbrev pub GoodLine : (List ℕ → Bool) → LineForm → Line → Type 0
+GoodLine test form empty = Unit
+GoodLine test form (one s) = GoodStatement test form s
+
+abbrev pub GoodDocument : (List ℕ → Bool) → LineForm → Document → Type 0
+GoodDocument test form (last l e) = GoodLine test form l
+GoodDocument test form (next l e d) = GoodLine test form l × GoodDocument test form d
+
+-- the tokens are a document of the form, with these quads
+abbrev pub IsDocument : (List ℕ → Bool) → LineForm → List Token → List Quad → Type 0
+IsDocument test form ts qs = (d : Document) × (ts ≡ document_tokens d) × GoodDocument test form d × (quads d ≡ qs)

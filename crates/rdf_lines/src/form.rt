@@ -1,0 +1,19 @@
+// The formats, and the names of nodes in what is written.
+
+/// A line format.
+#[derive(Clone, Copy, PartialEq, Eq, Debug)]
+pub enum LineForm {
+    /// N-Triples: a statement has no graph label.
+    NTriples,
+    /// N-Quads.
+    NQuads,
+}
+
+/// How blank nodes are named in what is written.
+#[derive(Clone, Copy, PartialEq, Eq, Debug)]
+pub enum Style {
+    /// A label stays as it is; a node without one can't be written.
+    Kept,
+    /// A letter before each name tells labels, unnamed nodes and cells apart.
+    Tagged,
+}
