@@ -1,2 +1,12 @@
 pub mod RegexLemmas
 pub mod ShapesLemmas
+pub mod CharsLemmas
+pub mod TermsLemmas
+pub mod UsedCharacters
+pub mod EscapesLemmas
+pub mod ValuesLemmas
+pub mod InsideLemmas
+pub mod KnownLemmas
+pub mod NamesLemmas
+pub mod ViewLemmas
+pub mod LocalLemmas

@@ -5,3 +5,8 @@ pub mod Values
 pub mod Terms
 pub mod Views
 pub mod Sinks
+pub mod Owned
+pub mod Escapes
+pub mod Known
+pub mod Names
+pub mod Local

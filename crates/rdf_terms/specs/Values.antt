@@ -1,7 +1,7 @@
 -- The characters that a token's inside means: each escape stands for one.
-use Rattle.std.specs.Prelude.{ℕ, zero, suc, ◌+◌, ◌-◌, ◌*◌, Bool, true, cond, List, [], ◌∷◌, ◌==◌, length, take, drop, Option, Some, None, is_some, option_map}
+use Rattle.std.specs.Prelude.{ℕ, zero, suc, ◌+◌, ◌-◌, ◌*◌, Bool, true, false, cond, List, [], ◌∷◌, ◌==◌, length, take, drop, Option, Some, None, is_some, option_map}
 use Rattle.rdf_terms.specs.Classes.{has, scalar, within}
-use Rattle.rdf_terms.specs.Classes.Class.{hex_digit, iri_char}
+use Rattle.rdf_terms.specs.Classes.Class.{hex_digit, iri_char, local_escape}
 use Rattle.rdf_terms.specs.declared.kind.Kind.{Kind}
 use Rattle.rdf_terms.specs.declared.kind.Kind.TheVariants.{IriRef, ShortString, LongString}
 
@@ -67,6 +67,16 @@ string_value w = value of_string outside w
 
 abbrev pub iri_value : List ℕ → Option (List ℕ)
 iri_value w = value of_iri outside w
+
+-- a local part, behind a backslash or not: PN_LOCAL_ESC stands for its last character, and `%` stands for itself
+abbrev pub local_from : Bool → List ℕ → Option (List ℕ)
+local_from true [] = None
+local_from false [] = Some []
+local_from true (c ∷ w) = cond (has local_escape c) (option_map (λ v. c ∷ v) (local_from false w)) None
+local_from false (c ∷ w) = cond (c == 92) (local_from true w) (cond (has iri_char c) (option_map (λ v. c ∷ v) (local_from false w)) None)
+
+abbrev pub local_value : List ℕ → Option (List ℕ)
+local_value w = local_from false w
 
 -- a text without n characters at both ends
 abbrev pub inside : ℕ → List ℕ → List ℕ

@@ -2,14 +2,40 @@
 //! the tokens that spell them, and the sinks that quads go to.
 #![tactic(auto)]
 
+mod classes;
+mod constants;
+mod fault;
+mod iris;
 mod kind;
+mod labels;
+mod list;
+mod local;
 mod reason;
 mod sink;
+mod spelled;
+mod tags;
+mod terms;
+#[cfg(test)]
+mod tests;
+mod values;
 mod views;
 
+pub use classes::{
+    has_scheme, hex_value, iri_text, is_iri_char, is_local_escape, is_pn_base, is_pn_char, is_pn_u,
+};
+pub use constants::Known;
+pub use fault::TermFault;
+pub use iris::Iri;
 pub use kind::{Dialect, Kind};
+pub use labels::Label;
+pub use list::QuadList;
+pub use local::local_value;
 pub use reason::Reason;
 pub use sink::{PutFault, QuadSink};
+pub use spelled::known;
+pub use tags::Tag;
+pub use terms::{Literal, Node, Quad, Subject, Tail, Term};
+pub use values::{ValueFault, iri_value, is_fit, string_value, without_ends, without_first};
 pub use views::{
     IriView, LabelView, LiteralRef, NodeRef, QuadRef, SubjectRef, TagView, TailRef, TermRef,
 };

@@ -29,6 +29,14 @@ pub struct TagView<'a> {
 }
 
 impl<'a> IriView<'a> {
+    /// A text that is known to be an absolute IRI.
+    pub fn new(text: &'a str) -> IriView<'a>
+        requires { IsIri (chars text.now) }
+        ensures { result.text.now ≡ text.entry.now }
+    {
+        IriView { text }
+    }
+
     /// The IRI, without brackets.
     pub fn as_str(self) -> &'a str
         ensures { result.now ≡ self.entry.text.now }
@@ -38,6 +46,14 @@ impl<'a> IriView<'a> {
 }
 
 impl<'a> LabelView<'a> {
+    /// A text that is known to be a label.
+    pub fn new(text: &'a str) -> LabelView<'a>
+        requires { IsLabel (chars text.now) }
+        ensures { result.text.now ≡ text.entry.now }
+    {
+        LabelView { text }
+    }
+
     /// The label, without its `_:`.
     pub fn as_str(self) -> &'a str
         ensures { result.now ≡ self.entry.text.now }
@@ -47,6 +63,14 @@ impl<'a> LabelView<'a> {
 }
 
 impl<'a> TagView<'a> {
+    /// A text that is known to be a tag.
+    pub fn new(text: &'a str) -> TagView<'a>
+        requires { IsTag (chars text.now) }
+        ensures { result.text.now ≡ text.entry.now }
+    {
+        TagView { text }
+    }
+
     /// The tag, without its `@`.
     pub fn as_str(self) -> &'a str
         ensures { result.now ≡ self.entry.text.now }
@@ -83,6 +107,16 @@ pub struct LiteralRef<'a> {
     /// The language tag or the datatype.
     pub tail: TailRef<'a>,
     ghost utf8: { ∥ IsUtf8 lexical.now ∥₁ },
+}
+
+impl<'a> LiteralRef<'a> {
+    /// The literal of a lexical form and what it has besides.
+    pub fn new(lexical: &'a str, tail: TailRef<'a>) -> LiteralRef<'a>
+        ensures lexical { result.lexical.now ≡ lexical.entry.now }
+        ensures tail { result.tail ≡ tail.entry }
+    {
+        LiteralRef { lexical, tail }
+    }
 }
 
 /// A subject or a graph label.

@@ -1,0 +1,24 @@
+-- What a term's type keeps of its text can be used: that there is a proof gives one.
+use Rattle.std.proofs.Common.{ℕ, List}
+use Rattle.std.proofs.Math.Logic.{∥∥₁_elim}
+use mathlib.Core.Bool.{Bool-set}
+use Rattle.rdf_terms.specs.Terms.{IsIri, IsLabel, IsTag}
+use Rattle.rdf_terms.specs.Regex.{Regex, Matches}
+use Rattle.rdf_terms.specs.Shapes.{label_name, tag_name}
+use Rattle.rdf_terms.specs.declared.kind.Dialect.TheVariants.{Lines}
+use Rattle.rdf_terms.proofs.ShapesLemmas.{form-matches, matches-form}
+
+pub IsIri-had : (w : List ℕ) → ∥ IsIri w ∥₁ → IsIri w
+IsIri-had w h = record {
+  characters = ∥∥₁_elim h (Bool-set _ _) (λ i. i.characters);
+  scheme = ∥∥₁_elim h (Bool-set _ _) (λ i. i.scheme);
+}
+
+pub Matches-had : (r : Regex) (w : List ℕ) → ∥ Matches r w ∥₁ → Matches r w
+Matches-had r w h = form-matches r w (∥∥₁_elim h (Bool-set _ _) (matches-form r w))
+
+pub IsLabel-had : (w : List ℕ) → ∥ IsLabel w ∥₁ → IsLabel w
+IsLabel-had w = Matches-had (label_name Lines) w
+
+pub IsTag-had : (w : List ℕ) → ∥ IsTag w ∥₁ → IsTag w
+IsTag-had w = Matches-had tag_name w

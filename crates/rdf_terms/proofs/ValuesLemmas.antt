@@ -1,0 +1,116 @@
+-- The value of a text in which every character stands for itself, and of a token's inside.
+use Rattle.std.proofs.Common.{◌≡◌, ℕ, zero, suc, ◌+◌, ◌*◌, Bool, true, false, lit<, List, [], ◌∷◌, ◌==◌, not, Option, Some, None, is_some, option_map, refl, ap, subst}
+use Rattle.std.proofs.lemmas.Bool.{and_parts, and_from, cond_both, MatchBool-at_false, not-true, ne_eqb, false≢true}
+use Rattle.std.specs.Str.{chars, IsUtf8, NonePass, NoCharPasses}
+use Rattle.std.proofs.lemmas.Str.{chars_from_encodes, encodes-chars}
+use Rattle.std.specs.Bool.{MatchBool}
+use Rattle.std.specs.Str.Pattern.{FindsChar, HasMatch}
+use Rattle.std.proofs.lemmas.Str.Pattern.{contains_char, NoCharPasses-char}
+use Rattle.rdf_terms.specs.declared.kind.Kind.{Kind}
+use Rattle.rdf_terms.specs.declared.kind.Kind.TheVariants.{IriRef, ShortString, LongString}
+use Rattle.rdf_terms.specs.Classes.{has, scalar}
+use Rattle.rdf_terms.specs.Classes.Class.{iri_char, hex_digit}
+use Rattle.rdf_terms.specs.Terms.{all_have}
+use Rattle.rdf_terms.specs.Values.{of_iri, Spot, outside, slash, digits, Move, leads, means, fails, allowed, digit_move, hex_value, move, go, value, string_value, iri_value, is_fit}
+use Rattle.rdf_terms.specs.Escapes.{is_plain}
+
+pub string_value_plain : (w : List ℕ) → all_have is_plain w ≡ true → string_value w ≡ Some w
+string_value_plain [] h = refl
+string_value_plain (c ∷ w) h =
+    let p = and_parts (is_plain c) (all_have is_plain w) h in
+    rw (not-true (c == 92) p.0, string_value_plain w p.1) refl
+
+-- no character of an IRI is a backslash
+backslash_excluded : (c : ℕ) → has iri_char c ≡ true → (c ≡ 92 → ⊥)
+unfolding has
+backslash_excluded c h e = false≢true (subst (λ x. has iri_char x ≡ true) e h)
+
+pub iri_value_plain : (w : List ℕ) → all_have (has iri_char) w ≡ true → iri_value w ≡ Some w
+iri_value_plain [] h = refl
+iri_value_plain (c ∷ w) h =
+    let p = and_parts (has iri_char c) (all_have (has iri_char) w) h in
+    rw (ne_eqb c 92 (backslash_excluded c p.0), p.0, iri_value_plain w p.1) refl
+
+pub is_some-of : {X : Type 0} (o : Option X) (x : X) → o ≡ Some x → is_some o ≡ true
+is_some-of o x e = ap is_some e
+
+-- a kind without escapes
+pub is_fit_other : (k : Kind) (w : List ℕ) → (k ≡ IriRef → ⊥) → (k ≡ ShortString → ⊥) → (k ≡ LongString → ⊥) → is_fit k w ≡ true
+unfolding is_fit
+is_fit_other IriRef w i s l = absurd (i refl)
+is_fit_other ShortString w i s l = absurd (s refl)
+is_fit_other LongString w i s l = absurd (l refl)
+is_fit_other _ w i s l = refl
+
+none_plain : (w : List ℕ) → NonePass (λ d. d == 92) w → all_have is_plain w ≡ true
+none_plain [] h = refl
+none_plain (c ∷ w) h = rw (h.0, none_plain w h.1) refl
+
+chars_plain : (bytes : List ℕ) → IsUtf8 bytes → NoCharPasses (λ d. d == 92) bytes → all_have is_plain (chars bytes) ≡ true
+chars_plain bytes u h = subst (λ w. all_have is_plain w ≡ true) (chars_from_encodes h.0 bytes u h.1) (none_plain h.0 h.2)
+
+plain_none : (w : List ℕ) → all_have is_plain w ≡ true → NonePass (λ d. d == 92) w
+plain_none [] h = tt
+plain_none (c ∷ w) h = let p = and_parts (is_plain c) (all_have is_plain w) h in (not-true (c == 92) p.0, plain_none w p.1)
+
+decided : (b t : Bool) → (b ≡ false → t ≡ true) → (b ≡ true → t ≡ true → ⊥) → b ≡ not t
+decided true true f g = absurd (g refl refl)
+decided true false f g = refl
+decided false true f g = refl
+decided false false f g = f refl
+
+-- what `contains` says of a backslash
+pub contains_backslash : (bytes : List ℕ) (r : Bool) → IsUtf8 bytes → MatchBool r (HasMatch (FindsChar 92) bytes) (FindsChar 92 bytes None) →
+    r ≡ not (all_have is_plain (chars bytes))
+contains_backslash bytes r u h =
+    decided r (all_have is_plain (chars bytes))
+    (λ e. chars_plain bytes u (MatchBool-at_false _ _ e h))
+    (λ e f. let at = (contains_char 92 bytes r h (lit< tt)).0 e in
+    NoCharPasses-char 92 bytes at.0 (chars bytes, encodes-chars bytes u, plain_none (chars bytes) f) (lit< tt) at.1 at.2)
+
+-- what a move in an IRI completes is one of its characters
+abbrev IsIriMove : Move → Type 0
+IsIriMove (leads s) = Unit
+IsIriMove (means c) = has iri_char c ≡ true
+IsIriMove fails = Unit
+
+IsIriMove-allowed : (c : ℕ) → IsIriMove (allowed of_iri c)
+IsIriMove-allowed c = cond_both (has iri_char c) (means c) fails IsIriMove (λ h. h) (λ _. tt)
+
+IsIriMove-digit : (k n : ℕ) → IsIriMove (digit_move of_iri k n)
+IsIriMove-digit zero n = cond_both (scalar n) (allowed of_iri n) fails IsIriMove (λ _. IsIriMove-allowed n) (λ _. tt)
+IsIriMove-digit (suc k) n = tt
+
+IsIriMove-move : (s : Spot) (c : ℕ) → IsIriMove (move of_iri s c)
+IsIriMove-move outside c = cond_both (c == 92) (leads slash) (allowed of_iri c) IsIriMove (λ _. tt) (λ _. IsIriMove-allowed c)
+IsIriMove-move slash c =
+    cond_both (c == 117) (leads (digits 4 0)) _ IsIriMove (λ _. tt)
+    (λ _. cond_both (c == 85) (leads (digits 8 0)) fails IsIriMove (λ _. tt) (λ _. tt))
+IsIriMove-move (digits zero n) c = tt
+IsIriMove-move (digits (suc k) n) c =
+    cond_both (has hex_digit c) _ fails IsIriMove (λ _. IsIriMove-digit k (16 * n + hex_value c)) (λ _. tt)
+
+abbrev AllIri : Option (List ℕ) → Type 0
+AllIri None = Unit
+AllIri (Some w) = all_have (has iri_char) w ≡ true
+
+AllIri-cons : (c : ℕ) (o : Option (List ℕ)) → has iri_char c ≡ true → AllIri o → AllIri (option_map (λ w. c ∷ w) o)
+AllIri-cons c None k h = tt
+AllIri-cons c (Some w) k h = and_from (has iri_char c) (all_have (has iri_char) w) k h
+
+AllIri-go : (m : Move) (rest : Spot → Option (List ℕ)) → IsIriMove m → ((t : Spot) → AllIri (rest t)) → AllIri (go m rest)
+AllIri-go (leads s) rest k h = h s
+AllIri-go (means c) rest k h = AllIri-cons c (rest outside) k (h outside)
+AllIri-go fails rest k h = tt
+
+AllIri-value : (s : Spot) (w : List ℕ) → AllIri (value of_iri s w)
+AllIri-value outside [] = refl
+AllIri-value slash [] = tt
+AllIri-value (digits k n) [] = tt
+AllIri-value outside (c ∷ w) = AllIri-go (move of_iri outside c) (λ t. value of_iri t w) (IsIriMove-move outside c) (λ t. AllIri-value t w)
+AllIri-value slash (c ∷ w) = AllIri-go (move of_iri slash c) (λ t. value of_iri t w) (IsIriMove-move slash c) (λ t. AllIri-value t w)
+AllIri-value (digits k n) (c ∷ w) = AllIri-go (move of_iri (digits k n) c) (λ t. value of_iri t w) (IsIriMove-move (digits k n) c) (λ t. AllIri-value t w)
+
+-- the value of an IRI has IRI characters alone
+pub iri_value_characters : (w v : List ℕ) → iri_value w ≡ Some v → all_have (has iri_char) v ≡ true
+iri_value_characters w v e = subst AllIri e (AllIri-value outside w)

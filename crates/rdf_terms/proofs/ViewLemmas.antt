@@ -1,0 +1,15 @@
+-- A list of quads shows each quad by its view.
+use Rattle.std.proofs.Common.{◌≡◌, ℕ, ◌<◌, ◌≤◌, List, length, get_or, map, Some, None, refl, sym, ap, ◌∙◌}
+use Rattle.std.specs.List.{slice_get}
+use Rattle.std.proofs.lemmas.Option.{slice_get-map, slice_get_read, slice_get_past}
+use Rattle.std.specs.Option.{option_map}
+
+module _ {X Y : Type 0} (view : X → Y) (items shown : List X) (seen : List Y) (i : ℕ) (same : shown ≡ items) (is : map view items ≡ seen) where
+  seen_at : slice_get seen i ≡ option_map view (slice_get shown i)
+  seen_at = ap (λ l. slice_get l i) (sym is) ∙ slice_get-map view items i ∙ ap (λ l. option_map view (slice_get l i)) (sym same)
+
+  pub seen_here : (x : X) (y : Y) → i < length shown → x ≡ get_or shown i x → y ≡ view x → Some y ≡ slice_get seen i
+  seen_here x y h e f = ap Some f ∙ sym (seen_at ∙ ap (option_map view) (slice_get_read shown (length shown) i x refl h e))
+
+  pub seen_past : length shown ≤ i → None ≡ slice_get seen i
+  seen_past h = sym (seen_at ∙ ap (option_map view) (slice_get_past shown i h))

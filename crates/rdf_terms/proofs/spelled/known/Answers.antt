@@ -1,0 +1,7 @@
+use Rattle.std.proofs.Common.{sym, subst}
+use Rattle.rdf_terms.specs.Terms.{IsIri}
+use Rattle.rdf_terms.proofs.KnownLemmas.{IsIri-known_chars}
+use Rattle.rdf_terms.proofs.spelled.known.Goals as goal
+
+pub new-requires : goal.new-requires
+new-requires c = subst IsIri (sym c.text.ensures) (IsIri-known_chars c.args.known)

@@ -1,0 +1,13 @@
+use Rattle.std.proofs.Common.{◌≡◌, is_some}
+use Rattle.std.specs.Str.{chars, IsUtf8}
+use Rattle.std.specs.Str.Iter.{chars_rest}
+use Rattle.rdf_terms.specs.Values.{value, outside}
+use Rattle.rdf_terms.specs.Escapes.{inside_of, spot_of, HasRoom}
+use Rattle.rdf_terms.proofs.values.has_value.Given as goal
+
+abbrev pub invariant-loop-c : goal.invariant-loop-c
+invariant-loop-c l = record {
+  utf8 : IsUtf8 (chars_rest l.c-iterator);
+  room : HasRoom l.spot;
+  same : is_some (value (inside_of l.inside) outside (chars l.text)) ≡ is_some (value (inside_of l.inside) (spot_of l.spot) (chars (chars_rest l.c-iterator)));
+}

@@ -1,0 +1,10 @@
+use Rattle.std.proofs.Common.{drop, sym, ap, subst, ◌∙◌}
+use Rattle.std.specs.Str.{chars, IsUtf8}
+use Rattle.rdf_terms.proofs.InsideLemmas.{front_off}
+use Rattle.rdf_terms.proofs.values.without_first.Goals as goal
+
+pub returns : goal.returns
+returns c =
+    let utf8 = subst IsUtf8 (sym c.chars-chars.ensures.rest) c.utf8.text in
+    let front = front_off _ _ c.next.result utf8 c.next.ensures.steps.0 in
+    ap chars c.as_str.ensures ∙ front.1 ∙ ap (λ w. drop 1 (chars w)) c.chars-chars.ensures.rest

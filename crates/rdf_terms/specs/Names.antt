@@ -1,0 +1,48 @@
+-- Labels and tags, read character by character.
+use Rattle.std.specs.Prelude.{ℕ, Bool, true, false, cond, List, [], ◌∷◌, ◌&&◌, ◌||◌, Option, Some, None}
+use Rattle.rdf_terms.specs.Classes.{has}
+use Rattle.rdf_terms.specs.Classes.Class.{the, digit, letter, letter_or_digit, pn_u, pn_char}
+use Rattle.rdf_terms.specs.declared.kind.Dialect.TheVariants.{Lines}
+use Rattle.rdf_terms.specs.declared.tags.Place.{Place as CodePlace}
+use Rattle.rdf_terms.specs.declared.tags.Place.TheVariants.{Start, Letters, Hyphen, Part}
+
+abbrev pub begins_label : ℕ → Bool
+begins_label c = has (pn_u Lines) c || has digit c
+
+-- the rest of a label, where the characters before it may or may not be its end
+abbrev pub label_goes_on : Bool → List ℕ → Bool
+label_goes_on ends [] = ends
+label_goes_on ends (c ∷ w) = cond (has (pn_char Lines) c) (label_goes_on true w) (has (the 46) c && label_goes_on false w)
+
+-- where a character of a tag stands: at the start, behind letters of the first part, a hyphen, or what stands in a later part
+pub data Place : Type 0 where
+  start : Place
+  letters : Place
+  hyphen : Place
+  part : Place
+
+abbrev pub after_tag : Place → ℕ → Option Place
+after_tag start c = cond (has letter c) (Some letters) None
+after_tag letters c = cond (has letter c) (Some letters) (cond (has (the 45) c) (Some hyphen) None)
+after_tag hyphen c = cond (has letter_or_digit c) (Some part) None
+after_tag part c = cond (has letter_or_digit c) (Some part) (cond (has (the 45) c) (Some hyphen) None)
+
+abbrev pub ends_tag : Place → Bool
+ends_tag start = false
+ends_tag letters = true
+ends_tag hyphen = false
+ends_tag part = true
+
+abbrev pub if_some : Option Place → (Place → Bool) → Bool
+if_some None test = false
+if_some (Some p) test = test p
+
+abbrev pub tag_goes_on : Place → List ℕ → Bool
+tag_goes_on p [] = ends_tag p
+tag_goes_on p (c ∷ w) = if_some (after_tag p c) (λ q. tag_goes_on q w)
+
+abbrev pub place_of : CodePlace → Place
+place_of Start = start
+place_of Letters = letters
+place_of Hyphen = hyphen
+place_of Part = part

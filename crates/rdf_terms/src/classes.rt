@@ -1,0 +1,145 @@
+// The classes of characters, as tests.
+
+ghost use Rattle.std.specs.Prelude.{◌≡◌, ◌||◌, ◌==◌, ◌<◌, SomeIff, IfSome, IsUtf8, true};
+ghost use Rattle.std.specs.Str.{chars};
+ghost use Rattle.std.specs.Str.Iter.{chars_rest};
+ghost use Rattle.rdf_terms.specs.Classes.{has, is_letter, is_digit};
+ghost use Rattle.rdf_terms.specs.Classes.Class.{hex_digit, iri_char, local_escape, pn_base, pn_u, pn_char};
+ghost use Rattle.rdf_terms.specs.Terms.{has_scheme, scheme_goes_on, all_have};
+ghost use Rattle.rdf_terms.specs.Values.{hex_value};
+
+use crate::Dialect;
+use std::str::Chars;
+
+/// PN_CHARS_BASE (Turtle 6.5)
+#[tactic(auto, unfolding(crate::specs::Classes::has))]
+pub fn is_pn_base(c: char) -> bool
+    ensures { result ≡ has pn_base c }
+{
+    matches!(c, 'A'..='Z' | 'a'..='z' | '\u{C0}'..='\u{D6}' | '\u{D8}'..='\u{F6}' | '\u{F8}'..='\u{2FF}'
+        | '\u{370}'..='\u{37D}' | '\u{37F}'..='\u{1FFF}' | '\u{200C}'..='\u{200D}' | '\u{2070}'..='\u{218F}'
+        | '\u{2C00}'..='\u{2FEF}' | '\u{3001}'..='\u{D7FF}' | '\u{F900}'..='\u{FDCF}' | '\u{FDF0}'..='\u{FFFD}'
+        | '\u{10000}'..='\u{EFFFF}')
+}
+
+/// PN_CHARS_U; in the line formats with `:` (N-Triples 7, Turtle 6.5)
+#[tactic(auto, unfolding(crate::specs::Classes::has))]
+pub fn is_pn_u(c: char, dialect: Dialect) -> bool
+    ensures { result ≡ has (pn_u dialect) c }
+{
+    is_pn_base(c) || c == '_' || matches!(dialect, Dialect::Lines) && c == ':'
+}
+
+/// PN_CHARS (N-Triples 7, Turtle 6.5)
+#[tactic(auto, unfolding(crate::specs::Classes::has))]
+pub fn is_pn_char(c: char, dialect: Dialect) -> bool
+    ensures { result ≡ has (pn_char dialect) c }
+{
+    is_pn_u(c, dialect)
+        || matches!(c, '-' | '0'..='9' | '\u{B7}' | '\u{300}'..='\u{36F}' | '\u{203F}'..='\u{2040}')
+}
+
+/// The characters that an IRIREF has as they are.
+#[tactic(auto, unfolding(crate::specs::Classes::has))]
+pub fn is_iri_char(c: char) -> bool
+    ensures { result ≡ has iri_char c }
+{
+    !matches!(
+        c,
+        '\0'..=' ' | '<' | '>' | '"' | '{' | '}' | '|' | '^' | '`' | '\\'
+    )
+}
+
+/// The characters behind the backslash of a PN_LOCAL_ESC (Turtle 6.5)
+#[tactic(auto, unfolding(crate::specs::Classes::has))]
+pub fn is_local_escape(c: char) -> bool
+    ensures { result ≡ has local_escape c }
+{
+    matches!(
+        c,
+        '_' | '~'
+            | '.'
+            | '-'
+            | '!'
+            | '$'
+            | '&'
+            | '\''
+            | '('
+            | ')'
+            | '*'
+            | '+'
+            | ','
+            | ';'
+            | '='
+            | '/'
+            | '?'
+            | '#'
+            | '@'
+            | '%'
+    )
+}
+
+/// The value of a HEX, in either case.
+#[tactic(auto, unfolding(crate::specs::Classes::has))]
+pub fn hex_value(c: char) -> Option<u8>
+    ensures value { SomeIff result (has hex_digit c ≡ true) (hex_value c) }
+    ensures small { IfSome result (λ v. v < 16) }
+{
+    match c {
+        '0'..='9' => Some(c as u8 - b'0'),
+        'A'..='F' => Some(c as u8 - b'A' + 10),
+        'a'..='f' => Some(c as u8 - b'a' + 10),
+        _ => None,
+    }
+}
+
+/// Whether each character of the text is one that an IRIREF has as it is.
+pub fn iri_text(text: &str) -> bool
+    ensures { result ≡ all_have (has iri_char) (chars text.now) }
+{
+    for c in text.chars() {
+        if !is_iri_char(c) {
+            return false;
+        }
+    }
+    true
+}
+
+/// Whether the text begins with a scheme and its colon (RFC 3986, 3.1).
+pub fn has_scheme(text: &str) -> bool
+    ensures { result ≡ has_scheme (chars text.now) }
+{
+    let mut rest = text.chars();
+    match rest.next() {
+        Some(c) => is_letter(c) && scheme_goes_on(rest),
+        None => false,
+    }
+}
+
+fn scheme_goes_on(rest: Chars<'_>) -> bool
+    requires { IsUtf8 (chars_rest rest) }
+    ensures { result ≡ scheme_goes_on (chars (chars_rest rest.entry)) }
+{
+    for c in rest {
+        if c == ':' {
+            return true;
+        }
+        if !is_scheme_char(c) {
+            return false;
+        }
+    }
+    false
+}
+
+fn is_letter(c: char) -> bool
+    ensures { result ≡ is_letter c }
+{
+    matches!(c, 'A'..='Z' | 'a'..='z')
+}
+
+/// ALPHA, DIGIT, `+`, `-` or `.`
+fn is_scheme_char(c: char) -> bool
+    ensures { result ≡ (is_letter c || is_digit c || c == 43 || c == 45 || c == 46) }
+{
+    matches!(c, 'A'..='Z' | 'a'..='z' | '0'..='9' | '+' | '-' | '.')
+}
