@@ -1,0 +1,14 @@
+pub mod TextsLemmas
+pub mod PartsLemmas
+pub mod DotsLemmas
+pub mod ResolveLemmas
+pub mod Vectors
+pub mod IriKept
+pub mod CutPlaces
+pub mod Written
+pub mod Encoded
+pub mod RulesLemmas
+pub mod InPlace
+pub mod Slices
+pub mod ResolvedText
+pub mod ScopeLemmas

@@ -1,0 +1,54 @@
+-- What is resolved over the bytes of texts is a text, and its characters are what is resolved over theirs.
+use Rattle.std.proofs.Common.{◌≡◌, ℕ, true, false, List, Some, refl, sym, ap, ◌∙◌, length}
+use Rattle.std.specs.Str.{IsUtf8, chars, encode_utf8_all}
+use Rattle.std.proofs.lemmas.Str.{encodes-chars, chars-encodes, scalars-chars}
+use lib.Utf8.{scalar, scalars}
+use Rattle.rdf_terms.specs.Classes.{has}
+use Rattle.rdf_terms.specs.Classes.Class.{iri_char}
+use Rattle.rdf_terms.specs.Terms.{IsIri, has_scheme}
+use Rattle.rdf_iri.specs.Texts.{IsIriText, byte_len}
+use Rattle.rdf_iri.specs.Parts.{parts_of, recompose}
+use Rattle.rdf_iri.specs.Resolve.{Resolves, target}
+use Rattle.rdf_iri.proofs.Slices.{scalars-all, scalar_marks}
+use Rattle.rdf_iri.proofs.IriKept.{Delimits, target-good, target-has_scheme}
+use Rattle.rdf_iri.proofs.ResolveLemmas.{based-holds}
+use Rattle.rdf_iri.proofs.Encoded.{target-bytes}
+
+-- the bytes of a text's characters
+pub byte_len-chars : (w : List ℕ) → IsUtf8 w → byte_len (chars w) ≡ length w
+byte_len-chars w u = ap length (encodes-chars w u)
+
+-- the text of a reference without a scheme
+abbrev pub target_text : List ℕ → List ℕ → List ℕ
+target_text base reference = recompose (target (parts_of base) (parts_of reference))
+
+over_bytes : (base reference : List ℕ) → IsUtf8 base → IsUtf8 reference → target_text base reference ≡ encode_utf8_all (target_text (chars base) (chars reference))
+over_bytes base reference u v =
+    ap (λ x. target_text x reference) (sym (encodes-chars base u))
+    ∙ (ap (λ x. target_text (encode_utf8_all (chars base)) x) (sym (encodes-chars reference v)) ∙ target-bytes (chars base) (chars reference))
+
+are_scalars : (base reference : List ℕ) → IsUtf8 base → IsUtf8 reference → scalars (target_text (chars base) (chars reference)) ≡ true
+are_scalars base reference u v =
+    scalars-all (target_text (chars base) (chars reference))
+    ∙ target-good scalar scalar_marks (chars base) (chars reference)
+    (sym (scalars-all (chars base)) ∙ scalars-chars base u) (sym (scalars-all (chars reference)) ∙ scalars-chars reference v)
+
+pub IsUtf8-target : (base reference : List ℕ) → IsUtf8 base → IsUtf8 reference → IsUtf8 (target_text base reference)
+IsUtf8-target base reference u v = (target_text (chars base) (chars reference), (are_scalars base reference u v, sym (over_bytes base reference u v)))
+
+pub chars-target : (base reference : List ℕ) → IsUtf8 base → IsUtf8 reference → chars (target_text base reference) ≡ target_text (chars base) (chars reference)
+chars-target base reference u v = ap chars (over_bytes base reference u v) ∙ chars-encodes _ (are_scalars base reference u v)
+
+-- what is resolved against an IRI is one
+iri_marks : Delimits (has iri_char)
+unfolding has
+iri_marks = record { slash = refl; colon = refl; question = refl; hash = refl }
+
+pub IsIri-target : (base reference : List ℕ) → IsIri base → IsIriText reference → IsIri (target_text base reference)
+IsIri-target base reference i t = record {
+  characters = target-good (has iri_char) iri_marks base reference i.characters t;
+  scheme = target-has_scheme base reference i.scheme;
+}
+
+pub Resolves-target : (base reference : List ℕ) → has_scheme reference ≡ false → Resolves (Some base) reference (target_text base reference)
+Resolves-target base reference n = based-holds (Some base) reference n

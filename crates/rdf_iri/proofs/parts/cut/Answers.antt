@@ -1,0 +1,28 @@
+use Rattle.std.proofs.Common.{◌∙◌, ap, sym, Some}
+use Rattle.std.proofs.lemmas.Str.Pattern.{split_parts}
+use Rattle.rdf_iri.specs.Texts.{before, after}
+use Rattle.rdf_iri.proofs.TextsLemmas.{cut_suffix}
+use Rattle.rdf_iri.proofs.CutPlaces.{Lacks-from_places, cut_none}
+use Rattle.rdf_iri.proofs.parts.cut.Goals as goal
+
+pub returns-in-Some-clause-front : goal.returns-in-Some-clause-front
+returns-in-Some-clause-front c =
+    let p = rw c.in-Some.is at (split_parts c.args.mark c.args.text.now c.split_once.result c.split_once.ensures.cases c.requires) in
+    let r = cut_suffix c.args.mark c.in-Some.front.now (Some c.in-Some.rest.now) (Lacks-from_places c.args.mark c.in-Some.front.now p.1) in
+    sym (ap (before c.args.mark) p.0 ∙ r.0)
+
+pub returns-in-Some-clause-rest : goal.returns-in-Some-clause-rest
+returns-in-Some-clause-rest c =
+    let p = rw c.in-Some.is at (split_parts c.args.mark c.args.text.now c.split_once.result c.split_once.ensures.cases c.requires) in
+    let r = cut_suffix c.args.mark c.in-Some.front.now (Some c.in-Some.rest.now) (Lacks-from_places c.args.mark c.in-Some.front.now p.1) in
+    sym (ap (after c.args.mark) p.0 ∙ r.1)
+
+pub returns-in-None-clause-front : goal.returns-in-None-clause-front
+returns-in-None-clause-front c =
+    let p = rw c.in-None.is at (split_parts c.args.mark c.args.text.now c.split_once.result c.split_once.ensures.cases c.requires) in
+    sym (cut_none c.args.mark c.args.text.now (Lacks-from_places c.args.mark c.args.text.now p)).0
+
+pub returns-in-None-clause-rest : goal.returns-in-None-clause-rest
+returns-in-None-clause-rest c =
+    let p = rw c.in-None.is at (split_parts c.args.mark c.args.text.now c.split_once.result c.split_once.ensures.cases c.requires) in
+    sym (cut_none c.args.mark c.args.text.now (Lacks-from_places c.args.mark c.args.text.now p)).1

@@ -1,0 +1,25 @@
+use Rattle.std.proofs.Common.{◌≡◌, ◌∙◌, ℕ, ◌+◌, ◌-◌, ap, sym, take, drop, subst, arith}
+use Rattle.rdf_iri.specs.Texts.{Lacks}
+use Rattle.rdf_iri.proofs.CutPlaces.{directory_there, directory_none, Lacks-less}
+use Rattle.rdf_iri.proofs.places.directory_len.Goals as goal
+
+pub returns-then-text-len-eq47-clause-front : goal.returns-then-text-len-eq47-clause-front
+returns-then-text-len-eq47-clause-front c =
+    let e : (c.loop-len.len - 1) + 1 ≡ c.loop-len.len = omega arith in
+    ap (λ (k : ℕ). take k c.args.text.now) (sym e)
+    ∙ directory_there c.args.text.now (c.loop-len.len - 1) (omega arith) c.if-text-len-eq47.true
+    (subst (λ (k : ℕ). Lacks 47 (drop k c.args.text.now)) (sym e) c.loop-len.invariant.lacks)
+
+pub loop-len-preserved : goal.loop-len-preserved
+loop-len-preserved c =
+    let e : c.loop-len.len ≡ (c.loop-len.len - 1) + 1 = omega arith in
+    record {
+      within = omega arith;
+      lacks = Lacks-less c.args.text.now (c.loop-len.len - 1) (omega arith) c.if-text-len-eq47.false
+          (subst (λ (k : ℕ). Lacks 47 (drop k c.args.text.now)) e c.loop-len.invariant.lacks);
+    }
+
+pub returns-clause-front : goal.returns-clause-front
+returns-clause-front c =
+    let e : c.loop-len.len ≡ 0 = omega arith in
+    sym (directory_none c.args.text.now (subst (λ (k : ℕ). Lacks 47 (drop k c.args.text.now)) e c.loop-len.invariant.lacks))

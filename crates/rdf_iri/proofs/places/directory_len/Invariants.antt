@@ -1,0 +1,9 @@
+use Rattle.std.proofs.Common.{◌≤◌, length, drop}
+use Rattle.rdf_iri.specs.Texts.{Lacks}
+use Rattle.rdf_iri.proofs.places.directory_len.Given as goal
+
+abbrev pub invariant-loop-len : goal.invariant-loop-len
+invariant-loop-len l = record { within : l.len ≤ length l.text; lacks : Lacks 47 (drop l.len l.text) }
+
+abbrev pub decreases-loop-len : goal.decreases-loop-len
+decreases-loop-len l = l.len

@@ -1,0 +1,30 @@
+use Rattle.std.proofs.Common.{◌∙◌, ap, sym, subst, arith}
+use Rattle.std.proofs.lemmas.Result.{err_from_is_err_and}
+use Rattle.rdf_terms.specs.Terms.{IsIri}
+use Rattle.rdf_iri.specs.Texts.{byte_len}
+use Rattle.rdf_iri.proofs.ScopeLemmas.{IsIri-append, byte_len-joined, chars-joined}
+use Rattle.rdf_iri.proofs.scope.joined.Goals as goal
+
+pub returns-then-len-limit-clause-refused : goal.returns-then-len-limit-clause-refused
+returns-then-len-limit-clause-refused g c =
+    omega (arith, byte_len-joined _ _ _ c.as_str-front.utf8 c.utf8.local c.as_str-front.ensures.value, c.if-len-limit.true)
+
+pub returns-in_err-text-clause-refused : goal.returns-in_err-text-clause-refused
+returns-in_err-text-clause-refused g c =
+    let p = err_from_is_err_and c.from_residual.result c.from_residual.ensures.1 in
+    rw (p.1, p.2) (omega (arith, byte_len-joined _ _ _ c.as_str-front.utf8 c.utf8.local c.as_str-front.ensures.value, c.if-len-limit.false))
+
+pub of_text-requires : goal.of_text-requires
+of_text-requires g c =
+    subst IsIri
+    (sym (chars-joined _ _ _ _ _ _ c.in_ok-text.ensures.bytes c.in_ok-push_str.ensures.bytes c.in_ok-push_str-2.ensures.bytes c.as_str-front.utf8 c.as_str-front.ensures.value))
+    (IsIri-append _ _ c.as_str-front.ensures.is_iri c.requires)
+
+pub returns-clause-joined : goal.returns-clause-joined
+returns-clause-joined g c =
+    c.of_text.ensures
+    ∙ chars-joined _ _ _ _ _ _ c.in_ok-text.ensures.bytes c.in_ok-push_str.ensures.bytes c.in_ok-push_str-2.ensures.bytes c.as_str-front.utf8 c.as_str-front.ensures.value
+
+pub returns-clause-within : goal.returns-clause-within
+returns-clause-within g c =
+    omega (arith, ap byte_len (returns-clause-joined g c), byte_len-joined _ _ _ c.as_str-front.utf8 c.utf8.local c.as_str-front.ensures.value, c.if-len-limit.false)

@@ -1,0 +1,9 @@
+pub mod Limits
+pub mod Texts
+pub mod Parts
+pub mod Seen
+pub mod Dots
+pub mod Rules
+pub mod Resolve
+pub mod Faults
+pub mod Scope

@@ -1,0 +1,94 @@
+-- The scope at a place of a document: the base in force, or none, and the prefixes that are bound, with their IRIs.
+use Rattle.std.specs.Prelude.{◌≡◌, ℕ, ◌+◌, ◌*◌, ◌<◌, ◌≤◌, cond, List, [], ◌∷◌, ◌++◌, length, Option, Some, None, MatchOption, is_some, String, ⊤}
+use Rattle.std.specs.String.{string_bytes}
+use Rattle.std.specs.Str.{chars}
+use Rattle.rdf_iri.specs.declared.fault.IriFault.{IriFault}
+use Rattle.rdf_iri.specs.declared.fault.IriFault.TheVariants.{NoBase, IriTooLong, Memory, Unbound, TooManyBindings}
+use Rattle.rdf_iri.specs.Limits.{Sizes}
+use Rattle.rdf_iri.specs.Texts.{equal, byte_len}
+use Rattle.rdf_iri.specs.Resolve.{Resolves}
+use Rattle.rdf_iri.specs.Faults.{Unresolved}
+
+pub record InForce : Type 0 where
+  pub base : Option (List ℕ)
+  pub bindings : List (List ℕ × List ℕ)
+  pub limits : Sizes
+
+-- the prefixes and IRIs of a map, in its order
+abbrev pub entries_of : {Z : Type 0} → List (String Z × List ℕ) → List (List ℕ × List ℕ)
+entries_of [] = []
+entries_of (e ∷ es) = (chars (string_bytes e.0), e.1) ∷ entries_of es
+
+-- the IRI that a prefix is bound to
+abbrev pub bound_to : List (List ℕ × List ℕ) → List ℕ → Option (List ℕ)
+bound_to [] prefix = None
+bound_to (e ∷ es) prefix = cond (equal prefix e.0) (Some e.1) (bound_to es prefix)
+
+-- the base, or none, has at most so many bytes
+abbrev pub BaseFits : Option (List ℕ) → Sizes → Type 0
+BaseFits base limits = MatchOption base ⊤ (λ b. byte_len b ≤ limits.iri)
+
+-- what every scope keeps to; a character of a prefix has at most four bytes
+pub record KeepsLimits (s : InForce) : Type 0 where
+  pub base : BaseFits s.base s.limits
+  pub count : length s.bindings ≤ s.limits.bindings
+  pub bindings : (prefix iri : List ℕ) → bound_to s.bindings prefix ≡ Some iri → (byte_len prefix ≤ 4 * s.limits.token) × (byte_len iri ≤ s.limits.iri)
+
+-- the IRI that a reference stands for
+abbrev pub ResolvesHere : InForce → List ℕ → List ℕ → Type 0
+ResolvesHere s reference iri = Resolves s.base reference iri × (byte_len iri ≤ s.limits.iri)
+
+-- why a reference stands for none
+abbrev pub UnresolvedHere : InForce → List ℕ → IriFault → Type 0
+UnresolvedHere s reference fault = Unresolved s.base reference s.limits.iri fault
+
+-- the reference's IRI is the base
+abbrev pub IsBased : InForce → List ℕ → InForce → Type 0
+IsBased s reference t = (iri : List ℕ) × ResolvesHere s reference iri × (t ≡ record s { base = Some iri })
+
+-- the prefix is bound to the IRI, and all others are bound as before
+pub record Binds (s : InForce) (prefix iri : List ℕ) (t : InForce) : Type 0 where
+  pub base : t.base ≡ s.base
+  pub limits : t.limits ≡ s.limits
+  pub bound : (q : List ℕ) → bound_to t.bindings q ≡ cond (equal prefix q) (Some iri) (bound_to s.bindings q)
+  pub count : length t.bindings ≡ length s.bindings + cond (is_some (bound_to s.bindings prefix)) 0 1
+
+-- a prefix that is new is one more
+abbrev pub HasRoom : InForce → List ℕ → Type 0
+HasRoom s prefix = bound_to s.bindings prefix ≡ None → length s.bindings < s.limits.bindings
+
+-- a new prefix would be one too many
+abbrev pub IsFull : InForce → List ℕ → Type 0
+IsFull s prefix = (bound_to s.bindings prefix ≡ None) × (s.limits.bindings ≤ length s.bindings)
+
+-- the prefix is bound to the reference's IRI
+abbrev pub IsBound : InForce → List ℕ → List ℕ → InForce → Type 0
+IsBound s prefix reference t = (iri : List ℕ) × ResolvesHere s reference iri × HasRoom s prefix × Binds s prefix iri t
+
+-- why a prefix was not bound
+abbrev pub NotBound : InForce → List ℕ → List ℕ → IriFault → Type 0
+NotBound s prefix reference TooManyBindings = (iri : List ℕ) × ResolvesHere s reference iri × IsFull s prefix
+NotBound s prefix reference fault = UnresolvedHere s reference fault
+
+-- the prefix's IRI with the local part behind it
+abbrev pub Expands : InForce → List ℕ → List ℕ → List ℕ → Type 0
+Expands s prefix local iri = (front : List ℕ) × (bound_to s.bindings prefix ≡ Some front) × (iri ≡ front ++ local)
+
+abbrev pub ExpandsHere : InForce → List ℕ → List ℕ → List ℕ → Type 0
+ExpandsHere s prefix local iri = Expands s prefix local iri × (byte_len iri ≤ s.limits.iri)
+
+-- why a name was not expanded
+abbrev pub NotExpanded : InForce → List ℕ → List ℕ → IriFault → Type 0
+NotExpanded s prefix local Unbound = bound_to s.bindings prefix ≡ None
+NotExpanded s prefix local IriTooLong = (iri : List ℕ) × Expands s prefix local iri × (s.limits.iri < byte_len iri)
+NotExpanded s prefix local Memory = (iri : List ℕ) × ExpandsHere s prefix local iri
+NotExpanded s prefix local NoBase = ⊥
+NotExpanded s prefix local TooManyBindings = ⊥
+
+-- why two texts were not joined
+abbrev pub NotJoined : List ℕ → List ℕ → ℕ → IriFault → Type 0
+NotJoined front local limit IriTooLong = limit < byte_len (front ++ local)
+NotJoined front local limit Memory = byte_len (front ++ local) ≤ limit
+NotJoined front local limit NoBase = ⊥
+NotJoined front local limit Unbound = ⊥
+NotJoined front local limit TooManyBindings = ⊥

@@ -1,0 +1,19 @@
+//! References of RFC 3986, the scope of a document (a base and prefixes), and the limits that every reader keeps.
+#![tactic(auto)]
+
+mod dots;
+mod fault;
+mod limits;
+mod parts;
+mod places;
+mod resolution;
+mod scope;
+#[cfg(test)]
+mod tests;
+
+pub use fault::IriFault;
+pub use limits::Limits;
+pub use parts::{Parts, split};
+pub use rdf_terms::has_scheme;
+pub use resolution::resolve;
+pub use scope::Scope;

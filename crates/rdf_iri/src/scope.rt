@@ -1,0 +1,128 @@
+// The scope of a document: a base and prefixes.
+
+ghost use Rattle.std.specs.Prelude.{◌≡◌, ◌++◌, ◌*◌, ◌≤◌, [], IfOk, IfErr, OnOk, OnErr, MatchBool, length};
+ghost use Rattle.std.specs.Str.{chars};
+ghost use Rattle.rdf_iri.specs.Texts.{IsIriText, byte_len};
+ghost use Rattle.rdf_iri.specs.Scope.{BaseFits, ResolvesHere, UnresolvedHere, IsBased, IsBound, NotBound, HasRoom, IsFull, ExpandsHere, NotExpanded, NotJoined};
+
+use crate::fault::IriFault;
+use crate::limits::Limits;
+use crate::resolution::resolve;
+use rdf_terms::Iri;
+use std::alloc::{Allocator, Global};
+use std::collections::BTreeMap;
+use std::marker::Model;
+
+/// What is in force at a place of a document: the base, or none, and the IRIs of the prefixes that are bound.
+#[derive(Drop)]
+pub struct Scope<A: Allocator = Global> {
+    alloc: A,
+    base: Option<Iri<A>>,
+    limits: Limits,
+    names: BTreeMap<String<A>, Iri<A>, A>,
+}
+
+impl<A: Allocator> Model for Scope<A> {
+    ghost use Rattle.rdf_iri.specs.Scope.{InForce, KeepsLimits, entries_of};
+
+    ghost Value = { InForce };
+
+    ghost view = { λ s. record { base = s.base; bindings = entries_of s.names.entries; limits = s.limits } };
+
+    ghost invariant = { λ s. KeepsLimits (record { base = s.base; bindings = entries_of s.names.entries; limits = s.limits }) };
+}
+
+impl<A: Allocator + Copy> Scope<A> {
+    /// A scope with this base, or none, and no prefixes.
+    pub fn new(alloc: A, base: Option<Iri<A>>, limits: Limits) -> Scope<A>
+        requires { BaseFits base limits }
+        ensures { result ≡ record { base = base; bindings = []; limits = limits } }
+    {
+        Scope {
+            alloc,
+            base,
+            limits,
+            names: BTreeMap::new(alloc),
+        }
+    }
+
+    /// The IRI of a reference, against the base in force.
+    pub fn resolve_here(&self, reference: &str) -> Result<Iri<A>, IriFault>
+        requires { IsIriText (chars reference.now) }
+        ensures resolved { IfOk result (ResolvesHere self.now (chars reference.now)) }
+        ensures refused { IfErr result (UnresolvedHere self.now (chars reference.now)) }
+    {
+        resolve(self.alloc, self.base.as_ref(), reference, self.limits.iri())
+    }
+
+    /// Takes the IRI of a reference as the base.
+    pub fn set_base(&mut self, reference: &str) -> Result<(), IriFault>
+        requires { IsIriText (chars reference.now) }
+        ensures based { OnOk result (IsBased self.old (chars reference.now) self.new) }
+        ensures refused { IfErr result (UnresolvedHere self.old (chars reference.now)) }
+        ensures unchanged { OnErr result (self.new ≡ self.old) }
+    {
+        let base = self.resolve_here(reference)?;
+        self.base = Some(base);
+        Ok(())
+    }
+
+    /// Binds a prefix, written without its colon, to the IRI of a reference. A prefix that is bound is bound anew.
+    pub fn bind(&mut self, prefix: &str, reference: &str) -> Result<(), IriFault>
+        requires text { IsIriText (chars reference.now) }
+        requires short { length prefix.now ≤ 4 * self.old.limits.token }
+        ensures bound { OnOk result (IsBound self.old (chars prefix.now) (chars reference.now) self.new) }
+        ensures refused { IfErr result (NotBound self.old (chars prefix.now) (chars reference.now)) }
+        ensures unchanged { OnErr result (self.new ≡ self.old) }
+    {
+        let iri = self.resolve_here(reference)?;
+        if !self.has_room(prefix) {
+            return Err(IriFault::TooManyBindings);
+        }
+        let key = String::from_str(self.alloc, prefix)?;
+        self.names.insert(key, iri)?;
+        Ok(())
+    }
+
+    fn has_room(&self, prefix: &str) -> bool
+        ensures { MatchBool result (HasRoom self.now (chars prefix.now)) (IsFull self.now (chars prefix.now)) }
+    {
+        self.names.contains_key(prefix) || (self.names.len() as u64) < self.limits.bindings()
+    }
+
+    /// The IRI of a name: that of its prefix, with the local part behind it. The local part is a value, without the
+    /// backslashes of its escapes.
+    pub fn expand(&self, prefix: &str, local: &str) -> Result<Iri<A>, IriFault>
+        requires { IsIriText (chars local.now) }
+        ensures expanded { IfOk result (ExpandsHere self.now (chars prefix.now) (chars local.now)) }
+        ensures refused { IfErr result (NotExpanded self.now (chars prefix.now) (chars local.now)) }
+    {
+        let Some(front) = self.names.get(prefix) else {
+            return Err(IriFault::Unbound);
+        };
+        joined(self.alloc, front, local, self.limits.iri())
+    }
+}
+
+/// An IRI with more characters behind it.
+fn joined<A: Allocator + Copy>(
+    alloc: A,
+    front: &Iri<A>,
+    local: &str,
+    limit: u64,
+) -> Result<Iri<A>, IriFault>
+    requires { IsIriText (chars local.now) }
+    ensures joined { IfOk result (λ iri. iri ≡ front.now ++ chars local.now) }
+    ensures within { IfOk result (λ iri. byte_len iri ≤ limit) }
+    ensures refused { IfErr result (NotJoined front.now (chars local.now) limit) }
+{
+    let front = front.as_str();
+    let len = front.len() + local.len();
+    if len as u64 > limit {
+        return Err(IriFault::IriTooLong);
+    }
+    let mut text = String::with_capacity(alloc, len)?;
+    text.push_str(front)?;
+    text.push_str(local)?;
+    Ok(Iri::of_text(text))
+}
