@@ -11,7 +11,7 @@ use Rattle.std.proofs.lemmas.Bool.{lt-ltb, le-ltb}
 use Rattle.rdf_tokens.specs.Good.{good}
 
 -- the greatest length is at least that of any front
-at_least : (bs : List ℕ) (n m : ℕ) → m ≤ n → IsUtf8 (take m bs) → m ≤ valid_len_up_to bs n
+pub at_least : (bs : List ℕ) (n m : ℕ) → m ≤ n → IsUtf8 (take m bs) → m ≤ valid_len_up_to bs n
 at_least bs zero m l u = l
 at_least bs (suc n) m l u =
     ⊎_elim
@@ -133,7 +133,7 @@ starts_none c k s p q =
     by_four e n m o (suc (suc (suc zero))) p q = ap (λ x. utf8_error_len (take 3 x)) e ∙ o
     by_four e n m o (suc (suc (suc (suc k)))) p q = absurd (omega arith)
 
-utf8_error_len-nil : utf8_error_len [] ≡ None
+pub utf8_error_len-nil : utf8_error_len [] ≡ None
 unfolding utf8_error_len
 utf8_error_len-nil = refl
 
@@ -200,7 +200,7 @@ valid_broken bs more e = ⊎_elim (λ l. absurd (longer l)) (λ l. let k = valid
         first rest.0 (drop (utf8_valid_len bs) t) tail [] rest.1.0 rest.1.1 all (omega (arith, length-drop (utf8_valid_len bs) t))
 
 -- what cannot begin a character still cannot when more bytes come
-error_more : (ds more : List ℕ) → is_some (utf8_error_len ds) ≡ true → is_some (utf8_error_len (ds ++ more)) ≡ true
+pub error_more : (ds more : List ℕ) → is_some (utf8_error_len ds) ≡ true → is_some (utf8_error_len (ds ++ more)) ≡ true
 unfolding utf8_error_len
 error_more [] more e = absurd (let h : false ≡ true = e in cc)
 error_more (a ∷ []) more e = grind (arith, nat_tests)

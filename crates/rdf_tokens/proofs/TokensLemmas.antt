@@ -143,7 +143,7 @@ same_pair : (x y : ℕ × Kind) → Some x ≡ Some y → x ≡ y
 same_pair x y e = cc
 
 -- a front that has a token is no longer than the text
-longest_fits : (d : Dialect) (w : List ℕ) (n : ℕ) (m : ℕ) (k : Kind) → longest d w n ≡ Some (m, k) → (0 < m) × (m ≤ n)
+pub longest_fits : (d : Dialect) (w : List ℕ) (n : ℕ) (m : ℕ) (k : Kind) → longest d w n ≡ Some (m, k) → (0 < m) × (m ≤ n)
 longest_fits d w zero m k e = absurd (let h : None ≡ Some (m, k) = e in cc)
 longest_fits d w (suc n) m k e =
     fits d w n m k (only_long (three_quotes d w) (kind_of d (take (suc n) w))) (λ h. longest_fits d w n m k h) e
@@ -240,7 +240,7 @@ step-more d limit t u v n =
     still (c ∷ u) v e = refl
 
 -- a token has a character, and lies within the text
-step_token : (d : Dialect) (limit : ℕ) (t : Tail) (w : List ℕ) (n : ℕ) (k : Kind) → step d limit t w ≡ token n k → (0 < n) × (n ≤ length w)
+pub step_token : (d : Dialect) (limit : ℕ) (t : Tail) (w : List ℕ) (n : ℕ) (k : Kind) → step d limit t w ≡ token n k → (0 < n) × (n ≤ length w)
 unfolding step
 step_token d limit t w n k e =
     ⊎_elim
@@ -279,7 +279,7 @@ go_on-same (stop o) p w f g h = refl
 go_on-same (token n k) p w f g h =
     ap (with_token (record { kind = k; text = take n w; at = p })) (h n k refl (past p (take n w)))
 
-shorter : (d : Dialect) (limit : ℕ) (t : Tail) (b : Bool) (w : List ℕ) (n : ℕ) (k : Kind) → step d limit t (rest_of d b w) ≡ token n k →
+pub shorter : (d : Dialect) (limit : ℕ) (t : Tail) (b : Bool) (w : List ℕ) (n : ℕ) (k : Kind) → step d limit t (rest_of d b w) ≡ token n k →
     length (drop n (rest_of d b w)) < length w
 shorter d limit t b w n k e =
     let r = step_token d limit t (rest_of d b w) n k e in
@@ -318,7 +318,7 @@ Extends d limit b p w =
     ((tokens d limit goes_on b p w).outcome ≡ undecided → LeftOver d limit b p w)
     × ((tokens d limit goes_on b p w).outcome ≢ undecided → (t : Tail) (v : List ℕ) → tokens d limit t b p (w ++ v) ≡ tokens d limit goes_on b p w)
 
-rest_more : (d : Dialect) (b : Bool) (p : Place) (w v : List ℕ) → is_empty (rest_of d b w) ≡ false →
+pub rest_more : (d : Dialect) (b : Bool) (p : Place) (w v : List ℕ) → is_empty (rest_of d b w) ≡ false →
     (rest_of d b (w ++ v) ≡ rest_of d b w ++ v) × (place_of d b p (w ++ v) ≡ place_of d b p w)
 rest_more d b p w v e =
     let l = not_empty_drop (blank d b w) w e in
@@ -329,7 +329,7 @@ rest_more d b p w v e =
     )
 
 -- before more bytes come, no step is refused for what is no character
-no_bad_utf8 : (d : Dialect) (limit : ℕ) (w : List ℕ) → step d limit goes_on w ≢ stop bad_utf8
+pub no_bad_utf8 : (d : Dialect) (limit : ℕ) (w : List ℕ) → step d limit goes_on w ≢ stop bad_utf8
 unfolding step
 no_bad_utf8 d limit w e =
     ⊎_elim
@@ -389,7 +389,7 @@ more_stop d limit b p w o e n t v =
     place no_token n q u w = refl
     place bad_escape n q u w = refl
 
-more_token : (d : Dialect) (limit : ℕ) (b : Bool) (p : Place) (w : List ℕ) (n : ℕ) (k : Kind) → step d limit goes_on (rest_of d b w) ≡ token n k →
+pub more_token : (d : Dialect) (limit : ℕ) (b : Bool) (p : Place) (w : List ℕ) (n : ℕ) (k : Kind) → step d limit goes_on (rest_of d b w) ≡ token n k →
     (t : Tail) (v : List ℕ) → tokens d limit t b p (w ++ v) ≡ with_token (record { kind = k; text = take n (rest_of d b w); at = place_of d b p w })
     (tokens d limit t false (past (place_of d b p w) (take n (rest_of d b w))) (drop n (rest_of d b w) ++ v))
 more_token d limit b p w n k e t v =

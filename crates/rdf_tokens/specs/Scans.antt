@@ -10,9 +10,9 @@ use Rattle.rdf_terms.specs.Shapes.{Shape}
 use Rattle.rdf_terms.specs.Values.{is_fit}
 use Rattle.rdf_tokens.specs.declared.token.Token.{Token as Given}
 use Rattle.rdf_tokens.specs.declared.token.ScanFault.{ScanFault}
-use Rattle.rdf_tokens.specs.Tokens.{Tail, Place, Outcome, Token, Reading, with_tokens}
+use Rattle.rdf_tokens.specs.Tokens.{Place, Outcome, Token, Reading, with_tokens}
 use Rattle.rdf_tokens.specs.Tokens.Tail.{broken}
-use Rattle.rdf_tokens.specs.Tokens.Outcome.{undecided, complete, token_too_long, bad_utf8, no_token, bad_escape}
+use Rattle.rdf_tokens.specs.Tokens.Outcome.{undecided, token_too_long, bad_utf8, no_token, bad_escape}
 use Rattle.rdf_tokens.specs.Good.{good, tail_of, end_of, tokens_at, tokens_of}
 use Rattle.rdf_tokens.specs.Unread.{Unread}
 
@@ -77,6 +77,7 @@ pub record TakesBytes (old : Unread) (piece : List ℕ) (n : ℕ) (new : Unread)
   pub after : IsOpen new
   pub within : n ≤ length piece
   pub progress : 0 < length piece → 0 < n
+  pub most : new.taken.offset ≤ most_bytes
   pub read : (bytes : List ℕ) (ts : List Token) → HasRead old bytes ts → HasRead new (bytes ++ take n piece) ts
 
 -- why a piece was not taken

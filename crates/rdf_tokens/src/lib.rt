@@ -1,6 +1,20 @@
+//! Tokens of the line formats and of Turtle and TriG: their shapes as states, and a scanner that takes bytes in pieces.
 #![tactic(auto)]
 
+mod blank;
+mod bytes;
+mod front;
+mod good;
+pub mod laws;
+mod look;
+mod over;
+mod scanner;
+mod states;
 mod token;
 
 pub use rdf_terms::{Dialect, Kind};
+pub use scanner::Scanner;
 pub use token::{ScanFault, Token};
+
+#[cfg(test)]
+mod tests;

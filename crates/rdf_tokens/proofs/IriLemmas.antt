@@ -1,0 +1,101 @@
+-- The states of references against their shape.
+use Rattle.std.proofs.Common.{◌≡◌, ℕ, zero, suc, true, cond, List, [], ◌∷◌, refl, ◌∙◌, inl, Some, None, map}
+use Rattle.rdf_terms.specs.declared.kind.Kind.TheVariants.{IriRef}
+use Rattle.rdf_terms.specs.declared.kind.Dialect.{Dialect}
+use Rattle.rdf_terms.specs.Classes.{Class, has}
+use Rattle.rdf_terms.specs.Classes.Class.{the, hex_digit, iri_char}
+use Rattle.rdf_terms.specs.Regex.{Regex, longer, after_all, ◌·◌, ◌∣◌}
+use Rattle.rdf_terms.specs.Regex.Regex.{nothing, empty, one, ◌·◌, ◌∣◌, many}
+use Rattle.rdf_terms.specs.Shapes.{shape, any_shape, first_kind, uchar}
+use Rattle.rdf_tokens.specs.Machines.{run, IsChars}
+use Rattle.rdf_tokens.specs.declared.states.iri.Sort.{Sort}
+use Rattle.rdf_tokens.specs.declared.states.iri.Sort.TheVariants.{OpenAngle, CloseAngle, Backslash, SmallU, BigU, HexDigit, Plain, Excluded}
+use Rattle.rdf_tokens.specs.declared.states.iri.Iri.{Iri}
+use Rattle.rdf_tokens.specs.declared.states.iri.Iri.TheVariants.{Start, Inside, Escape, Hex, Whole, Dead}
+use Rattle.rdf_tokens.specs.Iri.{ascii, high, move, step, accepts, goes_on}
+use Rattle.rdf_tokens.proofs.SortLemmas.{sorts_agree}
+use Rattle.rdf_tokens.proofs.FamilyLemmas.{Family, Moves, hexes, possible-hexes, covers_all, kind_in, longer_in, kind-run, live-run}
+
+-- a character of each sort
+abbrev rep : Sort → ℕ
+rep OpenAngle = 60
+rep CloseAngle = 62
+rep Backslash = 92
+rep SmallU = 117
+rep BigU = 85
+rep HexDigit = 48
+rep Plain = 103
+rep Excluded = 32
+
+abbrev classes : List Class
+classes = the 60 ∷ the 62 ∷ the 92 ∷ the 117 ∷ the 85 ∷ hex_digit ∷ iri_char ∷ []
+
+-- what is left to match in a state
+abbrev rest : Iri → Regex
+rest Start = one (the 60) · many (one iri_char ∣ uchar) · one (the 62)
+rest Inside = many (one iri_char ∣ uchar) · one (the 62)
+rest Escape = (((one (the 117) · empty) · hexes 3 ∣ (one (the 85) · empty) · hexes 7) · many (one iri_char ∣ uchar)) · one (the 62)
+rest (Hex n) = (hexes n · many (one iri_char ∣ uchar)) · one (the 62)
+rest Whole = empty
+rest Dead = nothing
+
+unfoldable meaning : Iri → List Regex
+meaning s = rest s ∷ []
+
+moves : (s : Iri) (x : Sort) → Moves rep move meaning s x
+unfolding meaning has
+moves Start OpenAngle = inl refl
+moves Start x = inl refl
+moves Inside OpenAngle = inl refl
+moves Inside x = inl refl
+moves Escape OpenAngle = inl refl
+moves Escape x = inl refl
+moves (Hex zero) OpenAngle = inl refl
+moves (Hex zero) x = inl refl
+moves (Hex (suc zero)) OpenAngle = inl refl
+moves (Hex (suc zero)) x = inl refl
+moves (Hex (suc (suc n))) OpenAngle = inl refl
+moves (Hex (suc (suc n))) x = inl refl
+moves Whole OpenAngle = inl refl
+moves Whole x = inl refl
+moves Dead OpenAngle = inl refl
+moves Dead x = inl refl
+
+covered : (s : Iri) → covers_all classes (meaning s) ≡ true
+unfolding meaning
+covered (Hex zero) = refl
+covered (Hex (suc n)) = covered (Hex n)
+covered Start = refl
+covered s = refl
+
+sorts : sorts_agree ascii high rep classes ≡ true
+unfolding has
+sorts = refl
+
+abbrev family : Family Iri Sort
+family = record { ascii = ascii; high = high; rep = rep; move = move; meaning = meaning; classes = classes; sorts = sorts; covered = covered; moves = moves }
+
+kind_of_state : (s : Iri) → kind_in (IriRef ∷ []) (meaning s) ≡ cond (accepts s) (Some IriRef) None
+unfolding meaning
+kind_of_state (Hex zero) = refl
+kind_of_state (Hex (suc n)) = refl
+kind_of_state Start = refl
+kind_of_state s = refl
+
+live_state : (s : Iri) → longer_in (meaning s) ≡ goes_on s
+unfolding meaning has
+live_state (Hex zero) = refl
+live_state (Hex (suc n)) = rw (possible-hexes n) refl
+live_state Start = refl
+live_state s = refl
+
+starts : (d : Dialect) → meaning Start ≡ map (shape d) (IriRef ∷ [])
+unfolding meaning shape
+starts d = refl
+
+-- the law of the family
+pub iri-kind : (d : Dialect) (w : List ℕ) → IsChars w → first_kind d (IriRef ∷ []) w ≡ cond (accepts (run step Start w)) (Some IriRef) None
+iri-kind d w b = kind-run family d (IriRef ∷ []) Start (starts d) w b ∙ kind_of_state (run step Start w)
+
+pub iri-live : (d : Dialect) (w : List ℕ) → IsChars w → longer (after_all (any_shape d (IriRef ∷ [])) w) ≡ goes_on (run step Start w)
+iri-live d w b = live-run family d (IriRef ∷ []) Start (starts d) w b ∙ live_state (run step Start w)

@@ -1,0 +1,104 @@
+-- The states of labels against their shape.
+use Rattle.std.proofs.Common.{◌≡◌, ℕ, true, cond, List, [], ◌∷◌, refl, ◌∙◌, inl, Some, None, map}
+use Rattle.rdf_terms.specs.declared.kind.Kind.TheVariants.{LabelNode}
+use Rattle.rdf_terms.specs.declared.kind.Dialect.{Dialect}
+use Rattle.rdf_terms.specs.declared.kind.Dialect.TheVariants.{Lines, Turtle}
+use Rattle.rdf_terms.specs.Classes.{Class, has}
+use Rattle.rdf_terms.specs.Classes.Class.{the, digit, pn_u, pn_char}
+use Rattle.rdf_terms.specs.Regex.{Regex, longer, after_all}
+use Rattle.rdf_terms.specs.Regex.Regex.{nothing, empty, one, ◌·◌, ◌∣◌, many}
+use Rattle.rdf_terms.specs.Shapes.{shape, any_shape, first_kind, dot}
+use Rattle.rdf_tokens.specs.Machines.{run, IsChars}
+use Rattle.rdf_tokens.specs.declared.states.label.Sort.{Sort}
+use Rattle.rdf_tokens.specs.declared.states.label.Sort.TheVariants as sort
+use Rattle.rdf_tokens.specs.declared.states.label.Label.{Label}
+use Rattle.rdf_tokens.specs.declared.states.label.Label.TheVariants.{Start, Underscore, Colon, Name, Dots, Dead}
+use Rattle.rdf_tokens.specs.Label.{ascii, high, move, step, accepts, goes_on}
+use Rattle.rdf_tokens.proofs.SortLemmas.{sorts_agree}
+use Rattle.rdf_tokens.proofs.FamilyLemmas.{Family, Moves, covers_all, kind_in, longer_in, kind-run, live-run}
+
+abbrev rep : Sort → ℕ
+rep sort.Underscore = 95
+rep sort.Colon = 58
+rep sort.Dot = 46
+rep sort.Digit = 48
+rep sort.Letter = 97
+rep sort.Mark = 45
+rep sort.Other = 32
+
+abbrev classes : Dialect → List Class
+classes d = the 95 ∷ the 58 ∷ the 46 ∷ digit ∷ pn_u d ∷ pn_char d ∷ []
+
+abbrev more : Dialect → Regex
+more d = many (one (pn_char d) ∣ dot) · one (pn_char d)
+
+-- what is left to match in a state
+unfoldable meaning : Dialect → Label → List Regex
+meaning d Start = shape d LabelNode ∷ []
+meaning d Underscore = ((one (the 58) · empty) · (one (pn_u d) ∣ one digit) · (empty ∣ more d)) ∷ []
+meaning d Colon = ((one (pn_u d) ∣ one digit) · (empty ∣ more d)) ∷ []
+meaning d Name = (empty ∣ more d) ∷ []
+meaning d Dots = more d ∷ []
+meaning d Dead = nothing ∷ []
+
+moves : (d : Dialect) (s : Label) (x : Sort) → Moves rep (move d) (meaning d) s x
+unfolding meaning has shape
+moves Lines Start sort.Dot = inl refl
+moves Lines Start x = inl refl
+moves Lines Underscore sort.Dot = inl refl
+moves Lines Underscore x = inl refl
+moves Lines Colon sort.Dot = inl refl
+moves Lines Colon x = inl refl
+moves Lines Name sort.Dot = inl refl
+moves Lines Name x = inl refl
+moves Lines Dots sort.Dot = inl refl
+moves Lines Dots x = inl refl
+moves Turtle Start sort.Dot = inl refl
+moves Turtle Start x = inl refl
+moves Turtle Underscore sort.Dot = inl refl
+moves Turtle Underscore x = inl refl
+moves Turtle Colon sort.Dot = inl refl
+moves Turtle Colon x = inl refl
+moves Turtle Name sort.Dot = inl refl
+moves Turtle Name x = inl refl
+moves Turtle Dots sort.Dot = inl refl
+moves Turtle Dots x = inl refl
+moves d Dead x = inl refl
+
+covered : (d : Dialect) (s : Label) → covers_all (classes d) (meaning d s) ≡ true
+unfolding meaning shape
+covered Lines Start = refl
+covered Lines s = refl
+covered Turtle Start = refl
+covered Turtle s = refl
+
+sorts : (d : Dialect) → sorts_agree ascii high rep (classes d) ≡ true
+unfolding has
+sorts Lines = refl
+sorts Turtle = refl
+
+abbrev family : Dialect → Family Label Sort
+family d = record { ascii = ascii; high = high; rep = rep; move = move d; meaning = meaning d; classes = classes d; sorts = sorts d; covered = covered d; moves = moves d }
+
+kind_of_state : (d : Dialect) (s : Label) → kind_in (LabelNode ∷ []) (meaning d s) ≡ cond (accepts s) (Some LabelNode) None
+unfolding meaning shape
+kind_of_state d Start = refl
+kind_of_state d s = refl
+
+live_state : (d : Dialect) (s : Label) → longer_in (meaning d s) ≡ goes_on s
+unfolding meaning shape has
+live_state Lines Start = refl
+live_state Lines s = refl
+live_state Turtle Start = refl
+live_state Turtle s = refl
+
+starts : (d : Dialect) → meaning d Start ≡ map (shape d) (LabelNode ∷ [])
+unfolding meaning
+starts d = refl
+
+-- the law of the family
+pub label-kind : (d : Dialect) (w : List ℕ) → IsChars w → first_kind d (LabelNode ∷ []) w ≡ cond (accepts (run (step d) Start w)) (Some LabelNode) None
+label-kind d w b = kind-run (family d) d (LabelNode ∷ []) Start (starts d) w b ∙ kind_of_state d (run (step d) Start w)
+
+pub label-live : (d : Dialect) (w : List ℕ) → IsChars w → longer (after_all (any_shape d (LabelNode ∷ [])) w) ≡ goes_on (run (step d) Start w)
+label-live d w b = live-run (family d) d (LabelNode ∷ []) Start (starts d) w b ∙ live_state d (run (step d) Start w)

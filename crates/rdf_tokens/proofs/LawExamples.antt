@@ -1,0 +1,70 @@
+-- The laws at the text `1 .`, an integer and a dot.
+use Rattle.std.proofs.Common.{◌≡◌, true, false, List, [], ◌∷◌, ◌++◌, refl, sym, ap, ◌∙◌, subst}
+use Rattle.std.specs.List.{All}
+use Rattle.std.proofs.lemmas.List.Elements.{All-head, All-tail}
+use Rattle.std.proofs.Math.Utf8.{encode}
+use Rattle.std.specs.Str.{chars, is_utf8}
+use Rattle.std.specs.Str.Lossy.{utf8_valid_len, utf8_error_len}
+use Rattle.rdf_terms.specs.declared.kind.Dialect.TheVariants.{Turtle}
+use Rattle.rdf_terms.specs.declared.kind.Kind.TheVariants.{Integer, Dot, End}
+use Rattle.rdf_terms.specs.Classes.{has}
+use Rattle.rdf_terms.specs.Shapes.{shape, kind_of, is_live}
+use Rattle.rdf_terms.specs.Values.{is_fit}
+use Rattle.rdf_tokens.specs.Tokens.{Token, step, read, tokens}
+use Rattle.rdf_tokens.specs.Tokens.Outcome.{undecided, complete}
+use Rattle.rdf_tokens.specs.Good.{tokens_of}
+use Rattle.rdf_tokens.specs.Scans.{HasRead, IsToken}
+use Rattle.rdf_tokens.specs.Moves.{grown}
+use Rattle.rdf_tokens.specs.Laws.{IsBeginning, StandsIn}
+use Rattle.rdf_tokens.proofs.ReadLemmas.{unread, read_new, read_push}
+use Rattle.rdf_tokens.proofs.LawLemmas.{lengthens, given_beginning, places, have_shapes, end_last}
+
+one : Token
+one = record { kind = Integer; text = 49 ∷ []; at = record { offset = 0; line = 1 } }
+
+dot : Token
+dot = record { kind = Dot; text = 46 ∷ []; at = record { offset = 2; line = 1 } }
+
+end : Token
+end = record { kind = End; text = []; at = record { offset = 3; line = 1 } }
+
+-- `1 ` and more to come
+read_part : tokens_of Turtle 8 (49 ∷ 32 ∷ []) false ≡ record { tokens = one ∷ []; outcome = undecided; at = record { offset = 2; line = 1 } }
+unfolding tokens_of tokens read step kind_of is_live shape has chars utf8_valid_len utf8_error_len is_utf8 encode one is_fit
+read_part = refl
+
+-- `1 .` and no more
+read_whole : tokens_of Turtle 8 (49 ∷ 32 ∷ 46 ∷ []) true ≡ record { tokens = one ∷ dot ∷ end ∷ []; outcome = complete; at = record { offset = 3; line = 1 } }
+unfolding tokens_of tokens read step kind_of is_live shape has chars utf8_valid_len utf8_error_len is_utf8 encode one dot end is_fit
+read_whole = refl
+
+-- the dot only lengthens the list
+part_first : IsBeginning (one ∷ []) (one ∷ dot ∷ end ∷ [])
+part_first =
+    subst (λ r. IsBeginning r.tokens (one ∷ dot ∷ end ∷ [])) read_part
+    (subst (λ r. IsBeginning (tokens_of Turtle 8 (49 ∷ 32 ∷ []) false).tokens r.tokens) read_whole (lengthens Turtle 8 (49 ∷ 32 ∷ []) (46 ∷ []) true).0)
+
+-- nothing was given before the first call
+nothing_first : IsBeginning [] (one ∷ [])
+nothing_first =
+    let new : HasRead (unread Turtle 8 (chars []) []) [] [] = read_new Turtle 8 [] [] refl refl in
+    subst (λ r. IsBeginning [] r.tokens) read_part
+    (given_beginning (grown (unread Turtle 8 (chars []) []) (49 ∷ 32 ∷ [])) (49 ∷ 32 ∷ []) [] (read_push (unread Turtle 8 (chars []) []) [] (49 ∷ 32 ∷ []) [] refl refl new))
+
+-- the dot stands at its place, and has its shape
+dot_stands : StandsIn (49 ∷ 32 ∷ 46 ∷ []) dot
+dot_stands =
+    let all = subst (λ r. All (StandsIn (49 ∷ 32 ∷ 46 ∷ [])) r.tokens) read_whole (places Turtle 8 (49 ∷ 32 ∷ 46 ∷ []) true).0 in
+    All-head (StandsIn (49 ∷ 32 ∷ 46 ∷ [])) dot (end ∷ []) (All-tail (StandsIn (49 ∷ 32 ∷ 46 ∷ [])) one (dot ∷ end ∷ []) all)
+
+dot_is_token : IsToken Turtle dot
+dot_is_token =
+    let all = subst (λ r. All (IsToken Turtle) r.tokens) read_whole (have_shapes Turtle 8 (49 ∷ 32 ∷ 46 ∷ []) true) in
+    All-head (IsToken Turtle) dot (end ∷ []) (All-tail (IsToken Turtle) one (dot ∷ end ∷ []) all)
+
+-- the end is last
+last_is_end : (ts : List Token) × (one ∷ dot ∷ end ∷ [] ≡ ts ++ end ∷ [])
+unfolding end
+last_is_end =
+    let whole = (end_last Turtle 8 (49 ∷ 32 ∷ 46 ∷ []) true).whole (ap (λ r. r.outcome) read_whole) in
+    (whole.0, sym (ap (λ r. r.tokens) read_whole) ∙ (whole.1 ∙ ap (λ r. whole.0 ++ (record { kind = End; text = []; at = r.at }) ∷ []) read_whole))

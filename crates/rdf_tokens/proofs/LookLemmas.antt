@@ -1,0 +1,89 @@
+-- What a look tells is the step.
+use Rattle.std.proofs.Common.{◌≡◌, ℕ, ◌≤◌, Bool, true, false, cond, List, [], ◌∷◌, ◌++◌, ◌||◌, ◌⊎◌, refl, sym, ap, ◌∙◌, subst, ⊎_elim, length, length-append, take, arith, Option, Some, None, IsUtf8, encode_utf8}
+use Rattle.std.specs.Prelude.{encode_utf8_all}
+use Rattle.std.specs.Str.{chars}
+use Rattle.std.proofs.lemmas.Bool.{cond-true, cond-false, true≢false, false≢true}
+use Rattle.std.proofs.lemmas.Str.{encodes-chars, length-encode, len_utf8_bounds}
+use Rattle.rdf_terms.specs.declared.kind.Kind.{Kind}
+use Rattle.rdf_terms.specs.declared.kind.Dialect.{Dialect}
+use Rattle.rdf_terms.specs.Shapes.{is_live}
+use Rattle.rdf_terms.specs.Values.{is_fit}
+use Rattle.rdf_terms.specs.declared.reason.Reason.TheVariants.{BadEscape}
+use Rattle.rdf_tokens.specs.declared.look.Look.TheVariants.{Stop, Token as Given}
+use Rattle.rdf_tokens.specs.Tokens.{Tail, longest, over, is_empty, chosen, decided, by_tail, step}
+use Rattle.rdf_tokens.specs.Tokens.Tail.{goes_on, ended, broken}
+use Rattle.rdf_tokens.specs.Tokens.Outcome.{token_too_long, bad_escape}
+use Rattle.rdf_tokens.specs.Tokens.Step.{token, stop}
+use Rattle.rdf_tokens.specs.Front.{bytes_of, in_bytes}
+use Rattle.rdf_tokens.specs.Look.{IsLook, CutsAt, chosen_by, decided_by}
+use Rattle.rdf_tokens.proofs.ByteLemmas.{cut}
+use Rattle.rdf_tokens.proofs.TokensLemmas.{longest_fits}
+
+-- a text is empty by its bytes or its characters
+empty-encodes : (w : List ℕ) → is_empty (encode_utf8_all w) ≡ is_empty w
+empty-encodes [] = refl
+empty-encodes (c ∷ w) = go (encode_utf8 c ++ encode_utf8_all w) (omega (arith, length-append (encode_utf8 c) (encode_utf8_all w), length-encode c, len_utf8_bounds c))
+  where
+    go : (v : List ℕ) → 1 ≤ length v → is_empty v ≡ false
+    go [] l = absurd (omega arith)
+    go (x ∷ v) l = refl
+
+pub empty-bytes : (bs : List ℕ) → IsUtf8 bs → is_empty bs ≡ is_empty (chars bs)
+empty-bytes bs u = ap is_empty (sym (encodes-chars bs u)) ∙ empty-encodes (chars bs)
+
+-- the step, as far as the limit and the tail decide it
+pub step-over : (d : Dialect) (limit : ℕ) (t : Tail) (w : List ℕ) → over d limit w ≡ true → step d limit t w ≡ stop token_too_long
+unfolding step
+step-over d limit t w o = cond-true _ _ _ o
+
+pub step-open : (d : Dialect) (limit : ℕ) (t : Tail) (w : List ℕ) (b : Bool) → over d limit w ≡ false → b ≡ (is_empty w || is_live d w) → step d limit t w ≡ by_tail d t w b
+unfolding step
+step-open d limit t w b o e = cond-false _ _ _ o ∙ ap (by_tail d t w) (sym e)
+
+pub step-done : (d : Dialect) (limit : ℕ) (t : Tail) (w : List ℕ) (b : Bool) → over d limit w ≡ false → b ≡ (is_empty w || is_live d w) → (t ≡ ended) ⊎ (b ≡ false) →
+    step d limit t w ≡ decided d w
+step-done d limit t w b o e h =
+    step-open d limit t w b o e ∙ ⊎_elim (λ x. ap (λ t. by_tail d t w b) x ∙ at_end b) (λ x. ap (by_tail d t w) x ∙ at_false t) h
+  where
+    at_end : (b : Bool) → by_tail d ended w b ≡ decided d w
+    at_end true = refl
+    at_end false = refl
+
+    at_false : (t : Tail) → by_tail d t w false ≡ decided d w
+    at_false goes_on = refl
+    at_false ended = refl
+    at_false broken = refl
+
+-- the decision by the longest front
+chosen-look : (bs w : List ℕ) (o : Option (ℕ × Kind)) → ((n : ℕ) (k : Kind) → o ≡ Some (n, k) → (n ≤ length w) × (chars (take (bytes_of n w) bs) ≡ take n w)) →
+    IsLook (chosen_by bs (in_bytes w o)) (chosen w o) w
+chosen-look bs w None h = refl
+chosen-look bs w (Some x) h =
+    let p = h x.0 x.1 refl in
+    subst (λ u. IsLook (cond (is_fit x.1 u) (Given (bytes_of x.0 w) x.1) (Stop BadEscape)) (chosen w (Some x)) w) (sym p.1) (go (is_fit x.1 (take x.0 w)) p.0)
+  where
+    go : (t : Bool) → x.0 ≤ length w → IsLook (cond t (Given (bytes_of x.0 w) x.1) (Stop BadEscape)) (cond t (token x.0 x.1) (stop bad_escape)) w
+    go true l = (x.0, refl, l, refl)
+    go false l = refl
+
+decided-front : (d : Dialect) (bs w : List ℕ) → is_empty bs ≡ is_empty w →
+    ((n : ℕ) (k : Kind) → longest d w (length w) ≡ Some (n, k) → (n ≤ length w) × (chars (take (bytes_of n w) bs) ≡ take n w)) →
+    IsLook (decided_by bs (in_bytes w (longest d w (length w)))) (decided d w) w
+decided-front d [] [] e h = refl
+decided-front d [] (c ∷ w) e h = absurd (true≢false e)
+decided-front d (x ∷ bs) [] e h = absurd (false≢true e)
+decided-front d (x ∷ bs) (c ∷ w) e h = chosen-look (x ∷ bs) (c ∷ w) (longest d (c ∷ w) (length (c ∷ w))) h
+
+pub decided-look : (d : Dialect) (bs : List ℕ) (best : Option (ℕ × Kind)) → IsUtf8 bs → best ≡ in_bytes (chars bs) (longest d (chars bs) (length (chars bs))) →
+    IsLook (decided_by bs best) (decided d (chars bs)) (chars bs)
+decided-look d bs best u e =
+    let w = chars bs in
+    subst (λ b. IsLook (decided_by bs b) (decided d w) w) (sym e)
+    (decided-front d bs w (empty-bytes bs u) (λ n k l. ((longest_fits d w (length w) n k l).1, (cut bs (bytes_of n w) n u refl).front)))
+
+pub cuts-front : (d : Dialect) (bs : List ℕ) (best : Option (ℕ × Kind)) → IsUtf8 bs → best ≡ in_bytes (chars bs) (longest d (chars bs) (length (chars bs))) → CutsAt bs best
+cuts-front d bs best u e = subst (CutsAt bs) (sym e) (go (longest d (chars bs) (length (chars bs))))
+  where
+    go : (o : Option (ℕ × Kind)) → CutsAt bs (in_bytes (chars bs) o)
+    go None = tt
+    go (Some x) = (cut bs (bytes_of x.0 (chars bs)) x.0 u refl).boundary

@@ -1,0 +1,130 @@
+-- The states of prefixed names against their shapes.
+use Rattle.std.proofs.Common.{◌≡◌, ℕ, zero, suc, true, List, [], ◌∷◌, refl, ◌∙◌, inl, inr, map}
+use Rattle.rdf_terms.specs.declared.kind.Kind.{Kind}
+use Rattle.rdf_terms.specs.declared.kind.Kind.TheVariants.{PnameNs, PnameLn}
+use Rattle.rdf_terms.specs.declared.kind.Dialect.{Dialect}
+use Rattle.rdf_terms.specs.declared.kind.Dialect.TheVariants.{Lines, Turtle}
+use Rattle.rdf_terms.specs.Classes.{Class, has}
+use Rattle.rdf_terms.specs.Classes.Class.{the, digit, hex_digit, local_escape, pn_base, pn_u, pn_char}
+use Rattle.rdf_terms.specs.Regex.{Regex, longer, after_all}
+use Rattle.rdf_terms.specs.Regex.Regex.{nothing, empty, one, ◌·◌, ◌∣◌, many}
+use Rattle.rdf_terms.specs.Shapes.{shape, any_shape, first_kind, dot, plx, pn_local}
+use Rattle.rdf_tokens.specs.Machines.{run, IsChars}
+use Rattle.rdf_tokens.specs.declared.states.name.Sort.{Sort}
+use Rattle.rdf_tokens.specs.declared.states.name.Sort.TheVariants as sort
+use Rattle.rdf_tokens.specs.declared.states.name.Name.{Name}
+use Rattle.rdf_tokens.specs.declared.states.name.Name.TheVariants.{Start, Prefix, PrefixDots, Colon, Local, LocalDots, Escape, Hex, Dead}
+use Rattle.rdf_tokens.specs.Name.{ascii, high, move, step, kind_at, goes_on}
+use Rattle.rdf_tokens.proofs.SortLemmas.{sorts_agree}
+use Rattle.rdf_tokens.proofs.FamilyLemmas.{Family, Moves, factored, same, hexes, possible-hexes, covers_all, kind_in, longer_in, kind-run, live-run}
+
+abbrev rep : Sort → ℕ
+rep sort.Colon = 58
+rep sort.Dot = 46
+rep sort.Digit = 48
+rep sort.HexLetter = 97
+rep sort.Letter = 103
+rep sort.Underscore = 95
+rep sort.Hyphen = 45
+rep sort.Mark = 0xB7
+rep sort.Percent = 37
+rep sort.Backslash = 92
+rep sort.Escapable = 33
+rep sort.Other = 32
+
+abbrev classes : List Class
+classes = the 58 ∷ the 46 ∷ the 37 ∷ the 92 ∷ digit ∷ hex_digit ∷ local_escape ∷ pn_base ∷ pn_u Turtle ∷ pn_char Turtle ∷ []
+
+abbrev pub names : List Kind
+names = PnameNs ∷ PnameLn ∷ []
+
+abbrev prefix_more : Regex
+prefix_more = many (one (pn_char Turtle) ∣ dot) · one (pn_char Turtle)
+
+abbrev inner : Regex
+inner = many (one (pn_char Turtle) ∣ dot ∣ one (the 58) ∣ plx)
+
+abbrev last : Regex
+last = one (pn_char Turtle) ∣ one (the 58) ∣ plx
+
+-- what is left to match in a state, of a namespace and a name
+unfoldable meaning : Dialect → Name → List Regex
+meaning d Start = map (shape d) names
+meaning d Prefix = ((empty ∣ prefix_more) · one (the 58)) ∷ ((empty ∣ prefix_more) · one (the 58) · pn_local) ∷ []
+meaning d PrefixDots = (prefix_more · one (the 58)) ∷ (prefix_more · one (the 58) · pn_local) ∷ []
+meaning d Colon = empty ∷ pn_local ∷ []
+meaning d Local = nothing ∷ (empty ∣ inner · last) ∷ []
+meaning d LocalDots = nothing ∷ (inner · last) ∷ []
+meaning d Escape = nothing ∷ (one local_escape · (empty ∣ inner · last)) ∷ []
+meaning d (Hex n) = nothing ∷ (hexes n · (empty ∣ inner · last)) ∷ []
+meaning d Dead = nothing ∷ nothing ∷ []
+
+moves : (d : Dialect) (s : Name) (x : Sort) → Moves rep (move d) (meaning d) s x
+unfolding meaning shape has
+moves Lines Start sort.Dot = inl refl
+moves Lines Start x = inl refl
+moves Turtle Start sort.Dot = inl refl
+moves Turtle Start x = inl refl
+moves d Prefix sort.Dot = inl refl
+moves d Prefix x = inl refl
+moves d PrefixDots sort.Dot = inl refl
+moves d PrefixDots x = inl refl
+moves d Colon sort.Dot = inl refl
+moves d Colon x = inl refl
+moves d Local sort.Percent = inr (same nothing, (factored (hexes 1) inner last, tt))
+moves d Local sort.Backslash = inr (same nothing, (factored (one local_escape) inner last, tt))
+moves d Local x = inl refl
+moves d LocalDots sort.Percent = inr (same nothing, (factored (hexes 1) inner last, tt))
+moves d LocalDots sort.Backslash = inr (same nothing, (factored (one local_escape) inner last, tt))
+moves d LocalDots x = inl refl
+moves d Escape sort.Dot = inl refl
+moves d Escape x = inl refl
+moves d (Hex zero) sort.Dot = inl refl
+moves d (Hex zero) x = inl refl
+moves d (Hex (suc zero)) sort.Dot = inl refl
+moves d (Hex (suc zero)) x = inl refl
+moves d (Hex (suc (suc n))) sort.Dot = inl refl
+moves d (Hex (suc (suc n))) x = inl refl
+moves d Dead x = inl refl
+
+covered : (d : Dialect) (s : Name) → covers_all classes (meaning d s) ≡ true
+unfolding meaning shape
+covered Lines Start = refl
+covered Turtle Start = refl
+covered d (Hex zero) = refl
+covered d (Hex (suc n)) = covered d (Hex n)
+covered d s = refl
+
+sorts : sorts_agree ascii high rep classes ≡ true
+unfolding has
+sorts = refl
+
+abbrev family : Dialect → Family Name Sort
+family d = record { ascii = ascii; high = high; rep = rep; move = move d; meaning = meaning d; classes = classes; sorts = sorts; covered = covered d; moves = moves d }
+
+kind_of_state : (d : Dialect) (s : Name) → kind_in names (meaning d s) ≡ kind_at s
+unfolding meaning shape
+kind_of_state Lines Start = refl
+kind_of_state Turtle Start = refl
+kind_of_state d (Hex zero) = refl
+kind_of_state d (Hex (suc n)) = refl
+kind_of_state d s = refl
+
+live_state : (d : Dialect) (s : Name) → longer_in (meaning d s) ≡ goes_on d s
+unfolding meaning shape has
+live_state Lines Start = refl
+live_state Turtle Start = refl
+live_state d (Hex zero) = refl
+live_state d (Hex (suc n)) = rw (possible-hexes n) refl
+live_state d s = refl
+
+starts : (d : Dialect) → meaning d Start ≡ map (shape d) names
+unfolding meaning
+starts d = refl
+
+-- the law of the family
+pub name-kind : (d : Dialect) (w : List ℕ) → IsChars w → first_kind d names w ≡ kind_at (run (step d) Start w)
+name-kind d w b = kind-run (family d) d names Start (starts d) w b ∙ kind_of_state d (run (step d) Start w)
+
+pub name-live : (d : Dialect) (w : List ℕ) → IsChars w → longer (after_all (any_shape d names) w) ≡ goes_on d (run (step d) Start w)
+name-live d w b = live-run (family d) d names Start (starts d) w b ∙ live_state d (run (step d) Start w)

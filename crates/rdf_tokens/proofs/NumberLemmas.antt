@@ -1,0 +1,110 @@
+-- The states of numbers against their shapes.
+use Rattle.std.proofs.Common.{◌≡◌, ℕ, true, List, [], ◌∷◌, refl, ◌∙◌, inl, map}
+use Rattle.rdf_terms.specs.declared.kind.Kind.{Kind}
+use Rattle.rdf_terms.specs.declared.kind.Kind.TheVariants.{Integer, Decimal, Double}
+use Rattle.rdf_terms.specs.declared.kind.Dialect.{Dialect}
+use Rattle.rdf_terms.specs.declared.kind.Dialect.TheVariants.{Lines, Turtle}
+use Rattle.rdf_terms.specs.Classes.{Class, has}
+use Rattle.rdf_terms.specs.Classes.Class.{the, digit}
+use Rattle.rdf_terms.specs.Regex.{Regex, longer, after_all}
+use Rattle.rdf_terms.specs.Regex.Regex.{nothing, one, ◌·◌, ◌∣◌, many}
+use Rattle.rdf_terms.specs.Shapes.{shape, any_shape, first_kind, dot, sign, digits, exponent}
+use Rattle.rdf_tokens.specs.Machines.{run, IsChars}
+use Rattle.rdf_tokens.specs.declared.states.number.Sort.{Sort}
+use Rattle.rdf_tokens.specs.declared.states.number.Sort.TheVariants as sort
+use Rattle.rdf_tokens.specs.declared.states.number.Number.{Number}
+use Rattle.rdf_tokens.specs.declared.states.number.Number.TheVariants.{Start, Sign, Dot, Digits, DigitsDot, Fraction, Exponent, ExponentSign, ExponentDigits, Dead}
+use Rattle.rdf_tokens.specs.Number.{ascii, high, move, step, kind_at, goes_on}
+use Rattle.rdf_tokens.proofs.SortLemmas.{sorts_agree}
+use Rattle.rdf_tokens.proofs.FamilyLemmas.{Family, Moves, covers_all, kind_in, longer_in, kind-run, live-run}
+
+abbrev rep : Sort → ℕ
+rep sort.Plus = 43
+rep sort.Minus = 45
+rep sort.Dot = 46
+rep sort.Digit = 48
+rep sort.SmallE = 101
+rep sort.BigE = 69
+rep sort.Other = 32
+
+abbrev classes : List Class
+classes = the 43 ∷ the 45 ∷ the 46 ∷ digit ∷ the 101 ∷ the 69 ∷ []
+
+abbrev pub numbers : List Kind
+numbers = Integer ∷ Decimal ∷ Double ∷ []
+
+abbrev d* : Regex
+d* = many (one digit)
+
+-- what is left to match in a state, of an integer, a decimal and a double
+unfoldable meaning : Dialect → Number → List Regex
+meaning d Start = map (shape d) numbers
+meaning d Sign = digits ∷ (d* · dot · digits) ∷ (digits · dot · d* · exponent ∣ dot · digits · exponent ∣ digits · exponent) ∷ []
+meaning d Dot = nothing ∷ digits ∷ (digits · exponent) ∷ []
+meaning d Digits = d* ∷ (d* · dot · digits) ∷ (d* · dot · d* · exponent ∣ d* · exponent) ∷ []
+meaning d DigitsDot = nothing ∷ digits ∷ (d* · exponent) ∷ []
+meaning d Fraction = nothing ∷ d* ∷ (d* · exponent) ∷ []
+meaning d Exponent = nothing ∷ nothing ∷ (sign · digits) ∷ []
+meaning d ExponentSign = nothing ∷ nothing ∷ digits ∷ []
+meaning d ExponentDigits = nothing ∷ nothing ∷ d* ∷ []
+meaning d Dead = nothing ∷ nothing ∷ nothing ∷ []
+
+moves : (d : Dialect) (s : Number) (x : Sort) → Moves rep (move d) (meaning d) s x
+unfolding meaning shape has
+moves Lines Start sort.Dot = inl refl
+moves Lines Start x = inl refl
+moves Turtle Start sort.Dot = inl refl
+moves Turtle Start x = inl refl
+moves d Sign sort.Dot = inl refl
+moves d Sign x = inl refl
+moves d Dot sort.Dot = inl refl
+moves d Dot x = inl refl
+moves d Digits sort.Dot = inl refl
+moves d Digits x = inl refl
+moves d DigitsDot sort.Dot = inl refl
+moves d DigitsDot x = inl refl
+moves d Fraction sort.Dot = inl refl
+moves d Fraction x = inl refl
+moves d Exponent sort.Dot = inl refl
+moves d Exponent x = inl refl
+moves d ExponentSign sort.Dot = inl refl
+moves d ExponentSign x = inl refl
+moves d ExponentDigits sort.Dot = inl refl
+moves d ExponentDigits x = inl refl
+moves d Dead x = inl refl
+
+covered : (d : Dialect) (s : Number) → covers_all classes (meaning d s) ≡ true
+unfolding meaning shape
+covered Lines Start = refl
+covered Turtle Start = refl
+covered d s = refl
+
+sorts : sorts_agree ascii high rep classes ≡ true
+unfolding has
+sorts = refl
+
+abbrev family : Dialect → Family Number Sort
+family d = record { ascii = ascii; high = high; rep = rep; move = move d; meaning = meaning d; classes = classes; sorts = sorts; covered = covered d; moves = moves d }
+
+kind_of_state : (d : Dialect) (s : Number) → kind_in numbers (meaning d s) ≡ kind_at s
+unfolding meaning shape
+kind_of_state Lines Start = refl
+kind_of_state Turtle Start = refl
+kind_of_state d s = refl
+
+live_state : (d : Dialect) (s : Number) → longer_in (meaning d s) ≡ goes_on d s
+unfolding meaning shape has
+live_state Lines Start = refl
+live_state Turtle Start = refl
+live_state d s = refl
+
+starts : (d : Dialect) → meaning d Start ≡ map (shape d) numbers
+unfolding meaning
+starts d = refl
+
+-- the law of the family
+pub number-kind : (d : Dialect) (w : List ℕ) → IsChars w → first_kind d numbers w ≡ kind_at (run (step d) Start w)
+number-kind d w b = kind-run (family d) d numbers Start (starts d) w b ∙ kind_of_state d (run (step d) Start w)
+
+pub number-live : (d : Dialect) (w : List ℕ) → IsChars w → longer (after_all (any_shape d numbers) w) ≡ goes_on d (run (step d) Start w)
+number-live d w b = live-run (family d) d numbers Start (starts d) w b ∙ live_state d (run (step d) Start w)

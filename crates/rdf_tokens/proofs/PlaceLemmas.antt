@@ -1,0 +1,70 @@
+-- Places behind bytes, and behind the characters that they spell.
+use Rattle.std.proofs.Common.{◌≡◌, ℕ, ◌+◌, ◌/◌, ◌%◌, ◌≤◌, cond, List, [], ◌∷◌, ◌++◌, ◌==◌, sym, ap, ◌∙◌, ⊎_elim, arith, length-append}
+use Rattle.std.proofs.lemmas.Bool.{cases_lt}
+use Rattle.std.proofs.lemmas.Bool.Decides.{nat_tests}
+use Rattle.std.proofs.lemmas.List.Sums.{sum_by-append}
+use Rattle.std.proofs.lemmas.Str.{chars-encodes, length-encode}
+use Rattle.std.proofs.Math.Utf8.{encode, encodes}
+use Rattle.std.specs.Char.{len_utf8}
+use Rattle.std.specs.List.{count_by}
+use Rattle.std.specs.Str.{chars, IsUtf8}
+use Rattle.rdf_tokens.specs.Tokens.{Place, past}
+use Rattle.rdf_tokens.specs.Good.{end_of}
+use Rattle.rdf_tokens.specs.Moves.{beyond}
+use Rattle.rdf_tokens.proofs.GoodLemmas.{encode_one, encode_two, encode_three, encode_four}
+
+abbrev feeds : List ℕ → ℕ
+feeds bytes = count_by (λ b. b == 10) bytes
+
+place_same : {m n k l : ℕ} → m ≡ n → k ≡ l → (let p : Place = record { offset = m; line = k } in p) ≡ record { offset = n; line = l }
+place_same a b = cc
+
+pub feeds-append : (u v : List ℕ) → count_by (λ b. b == 10) (u ++ v) ≡ count_by (λ b. b == 10) u + count_by (λ b. b == 10) v
+feeds-append u v = sum_by-append (λ b. cond (b == 10) 1 0) u v
+
+pub beyond-append : (p : Place) (u v : List ℕ) → beyond (beyond p u) v ≡ beyond p (u ++ v)
+beyond-append p u v = place_same (omega (arith, length-append u v)) (omega (arith, feeds-append u v))
+
+pub end_of-append : (u v : List ℕ) → beyond (end_of u) v ≡ end_of (u ++ v)
+end_of-append u v = place_same (omega (arith, length-append u v)) (omega (arith, feeds-append u v))
+
+-- a line feed is its own byte
+feeds-encode : (c : ℕ) → count_by (λ b. b == 10) (encode c) ≡ cond (c == 10) 1 0
+feeds-encode c =
+    ⊎_elim
+    (λ a. let e : feeds (c ∷ []) ≡ cond (c == 10) 1 0 = one (cond (c == 10) 1 0) in ap feeds (encode_one c a) ∙ e)
+    (λ a. ⊎_elim
+    (λ b. ap feeds (encode_two c a b) ∙ many c a (two (192 + c / 64) (128 + c % 64) (omega arith) (omega arith)))
+    (λ b. ⊎_elim
+    (λ d. ap feeds (encode_three c b d) ∙ many c a (three (224 + c / 4096) (128 + (c / 64) % 64) (128 + c % 64) (omega arith) (omega arith) (omega arith)))
+    (λ d. ap feeds (encode_four c d) ∙ many c a (four (240 + c / 262144) (128 + (c / 4096) % 64) (128 + (c / 64) % 64) (128 + c % 64) (omega arith) (omega arith) (omega arith) (omega arith)))
+    (cases_lt c 65536))
+    (cases_lt c 2048))
+    (cases_lt c 128)
+  where
+    one : (n : ℕ) → 0 + n ≡ n
+    one n = omega arith
+
+    many : (c : ℕ) → 128 ≤ c → {n : ℕ} → n ≡ 0 → n ≡ cond (c == 10) 1 0
+    many c a e = grind (arith, nat_tests)
+
+    two : (a b : ℕ) → 128 ≤ a → 128 ≤ b → feeds (a ∷ b ∷ []) ≡ 0
+    two a b p q = grind (arith, nat_tests)
+
+    three : (a b c : ℕ) → 128 ≤ a → 128 ≤ b → 128 ≤ c → feeds (a ∷ b ∷ c ∷ []) ≡ 0
+    three a b c p q r = grind (arith, nat_tests)
+
+    four : (a b c d : ℕ) → 128 ≤ a → 128 ≤ b → 128 ≤ c → 128 ≤ d → feeds (a ∷ b ∷ c ∷ d ∷ []) ≡ 0
+    four a b c d p q r s = grind (arith, nat_tests)
+
+pub past-encodes : (p : Place) (cs : List ℕ) → past p cs ≡ beyond p (encodes cs)
+past-encodes p [] = place_same (omega arith) (omega arith)
+past-encodes p (c ∷ cs) =
+    past-encodes (record { offset = p.offset + len_utf8 c; line = p.line + cond (c == 10) 1 0 }) cs
+    ∙ (ap (λ q. beyond q (encodes cs)) (place_same (ap (λ n. p.offset + n) (sym (length-encode c))) (ap (λ n. p.line + n) (sym (feeds-encode c))))
+    ∙ beyond-append p (encode c) (encodes cs))
+
+-- the place behind a text is that behind its bytes
+pub past-chars : (p : Place) (bytes : List ℕ) → IsUtf8 bytes → past p (chars bytes) ≡ beyond p bytes
+past-chars p bytes u =
+    ap (past p) (ap chars (sym u.1.1) ∙ chars-encodes u.0 u.1.0) ∙ (past-encodes p u.0 ∙ ap (beyond p) u.1.1)

@@ -1,0 +1,86 @@
+-- The states of language tags against their shape.
+use Rattle.std.proofs.Common.{◌≡◌, ℕ, true, cond, List, [], ◌∷◌, refl, ◌∙◌, inl, Some, None, map}
+use Rattle.rdf_terms.specs.declared.kind.Kind.TheVariants.{LangTag}
+use Rattle.rdf_terms.specs.declared.kind.Dialect.{Dialect}
+use Rattle.rdf_terms.specs.Classes.{Class, has}
+use Rattle.rdf_terms.specs.Classes.Class.{the, letter, letter_or_digit}
+use Rattle.rdf_terms.specs.Regex.{Regex, longer, after_all}
+use Rattle.rdf_terms.specs.Regex.Regex.{nothing, one, ◌·◌, many}
+use Rattle.rdf_terms.specs.Shapes.{shape, any_shape, first_kind, some}
+use Rattle.rdf_tokens.specs.Machines.{run, IsChars}
+use Rattle.rdf_tokens.specs.declared.states.tag.Sort.{Sort}
+use Rattle.rdf_tokens.specs.declared.states.tag.Sort.TheVariants as sort
+use Rattle.rdf_tokens.specs.declared.states.tag.Tag.{Tag}
+use Rattle.rdf_tokens.specs.declared.states.tag.Tag.TheVariants.{Start, At, Letters, Hyphen, Part, Dead}
+use Rattle.rdf_tokens.specs.Tag.{ascii, high, move, step, accepts, goes_on}
+use Rattle.rdf_tokens.proofs.SortLemmas.{sorts_agree}
+use Rattle.rdf_tokens.proofs.FamilyLemmas.{Family, Moves, covers_all, kind_in, longer_in, kind-run, live-run}
+
+abbrev rep : Sort → ℕ
+rep sort.At = 64
+rep sort.Hyphen = 45
+rep sort.Digit = 48
+rep sort.Letter = 97
+rep sort.Other = 32
+
+abbrev classes : List Class
+classes = the 64 ∷ the 45 ∷ letter ∷ letter_or_digit ∷ []
+
+abbrev parts : Regex
+parts = many (one (the 45) · some (one letter_or_digit))
+
+-- what is left to match in a state
+unfoldable meaning : Tag → List Regex
+meaning Start = (one (the 64) · some (one letter) · parts) ∷ []
+meaning At = (some (one letter) · parts) ∷ []
+meaning Letters = (many (one letter) · parts) ∷ []
+meaning Hyphen = (some (one letter_or_digit) · parts) ∷ []
+meaning Part = (many (one letter_or_digit) · parts) ∷ []
+meaning Dead = nothing ∷ []
+
+moves : (s : Tag) (x : Sort) → Moves rep move meaning s x
+unfolding meaning has
+moves Start sort.At = inl refl
+moves Start x = inl refl
+moves At sort.At = inl refl
+moves At x = inl refl
+moves Letters sort.At = inl refl
+moves Letters x = inl refl
+moves Hyphen sort.At = inl refl
+moves Hyphen x = inl refl
+moves Part sort.At = inl refl
+moves Part x = inl refl
+moves Dead x = inl refl
+
+covered : (s : Tag) → covers_all classes (meaning s) ≡ true
+unfolding meaning
+covered Start = refl
+covered s = refl
+
+sorts : sorts_agree ascii high rep classes ≡ true
+unfolding has
+sorts = refl
+
+abbrev family : Family Tag Sort
+family = record { ascii = ascii; high = high; rep = rep; move = move; meaning = meaning; classes = classes; sorts = sorts; covered = covered; moves = moves }
+
+kind_of_state : (s : Tag) → kind_in (LangTag ∷ []) (meaning s) ≡ cond (accepts s) (Some LangTag) None
+unfolding meaning
+kind_of_state Start = refl
+kind_of_state s = refl
+
+live_state : (s : Tag) → longer_in (meaning s) ≡ goes_on s
+unfolding meaning has
+live_state Start = refl
+live_state s = refl
+
+starts : (d : Dialect) → meaning Start ≡ map (shape d) (LangTag ∷ [])
+unfolding meaning shape
+starts d = refl
+
+-- the law of the family
+pub tag-kind : (d : Dialect) (w : List ℕ) → IsChars w → first_kind d (LangTag ∷ []) w ≡ cond (accepts (run step Start w)) (Some LangTag) None
+tag-kind d w b = kind-run family d (LangTag ∷ []) Start (starts d) w b ∙ kind_of_state (run step Start w)
+
+pub tag-live : (d : Dialect) (w : List ℕ) → IsChars w → longer (after_all (any_shape d (LangTag ∷ [])) w) ≡ goes_on (run step Start w)
+tag-live d w b = live-run family d (LangTag ∷ []) Start (starts d) w b ∙ live_state (run step Start w)

@@ -1,0 +1,11 @@
+use Rattle.std.proofs.Common.{◌≡◌, ◌-◌, ◌+◌, ◌≤◌, length, take}
+use Rattle.std.specs.Str.{chars}
+use Rattle.rdf_tokens.proofs.ByteLemmas.{IsAt}
+use Rattle.rdf_tokens.proofs.StateLemmas.{state_of}
+use Rattle.rdf_tokens.proofs.over.is_shaped_over.Given as goal
+
+abbrev pub invariant-loop-count : goal.invariant-loop-count
+invariant-loop-count l = record { here : IsAt l.text l.at l.count; state : l.state ≡ state_of l.dialect (take l.count (chars l.text)); few : l.count ≤ l.limit + 1 }
+
+abbrev pub decreases-loop-count : goal.decreases-loop-count
+decreases-loop-count l = length l.text - l.at

@@ -1,0 +1,74 @@
+use Rattle.std.proofs.Common.{rules, refl, false, ◌≡◌, ◌+◌, ◌≤◌, ℕ, List, ◌-◌, ◌==◌, count_by, drop, take, length, sym, ap, ◌∙◌, subst}
+use Rattle.std.proofs.lemmas.Str.{IsUtf8-string_bytes}
+use Rattle.std.specs.Str.{chars, IsCharBoundary}
+use Rattle.std.specs.String.{string_bytes}
+use Rattle.rdf_terms.specs.declared.kind.Kind.{Kind}
+use Rattle.rdf_tokens.specs.Tokens.{Place, Token, past}
+use Rattle.rdf_tokens.specs.Unread.{Unread}
+use Rattle.rdf_tokens.specs.Moves.{moved, IsGiven}
+use Rattle.rdf_tokens.specs.Front.{bytes_of}
+use Rattle.rdf_tokens.proofs.Inside.{unread_of}
+use Rattle.rdf_tokens.proofs.HeldLemmas.{boundary_advanced, front_advanced, held_advanced, place_advanced, text_advanced, advance_within}
+use Rattle.rdf_tokens.proofs.scanner.Scanner.give.Goals as goal
+
+pub overflow_add-end : goal.overflow_add-end
+overflow_add-end g c =
+    let s = c.self.inside in
+    let n = c.requires.0 in
+    let e : c.args.len ≡ bytes_of n (chars (drop s.start (string_bytes s.text))) = c.requires.1 ∙ ap (λ v. bytes_of n v.text) (sym c.self.view_is) in
+    let l = advance_within (string_bytes s.text) s.start n c.args.len s.pending.items _ _ c.self.invariant (IsUtf8-string_bytes s.text) e in
+    let k = s.text.bytes.ok.0 in
+    search rules
+
+pub slice_bounds-line_feeds-end : goal.slice_bounds-line_feeds-end
+slice_bounds-line_feeds-end g c =
+    let s = c.self.inside in
+    let n = c.requires.0 in
+    let e : c.args.len ≡ bytes_of n (chars (drop s.start (string_bytes s.text))) = c.requires.1 ∙ ap (λ v. bytes_of n v.text) (sym c.self.view_is) in
+    let l = advance_within (string_bytes s.text) s.start n c.args.len s.pending.items _ _ c.self.invariant (IsUtf8-string_bytes s.text) e in
+    let m : s.start + c.args.len ≤ length c.as_bytes.result.now = subst (λ b. s.start + c.args.len ≤ length b) (sym c.as_bytes.ensures.value) l in
+    search rules
+
+pub invariant_of-self : goal.invariant_of-self
+invariant_of-self g c =
+    let s = c.self.inside in
+    let n = c.requires.0 in
+    let e : c.args.len ≡ bytes_of n (chars (drop s.start (string_bytes s.text))) = c.requires.1 ∙ ap (λ v. bytes_of n v.text) (sym c.self.view_is) in
+    let bytes = c.as_bytes.ensures.value in
+    let feeds = c.line_feeds.ensures ∙ ap (λ b. count_by (λ x. x == 10) (take (s.start + c.args.len - s.start) (drop s.start b))) bytes in
+    held_advanced (string_bytes s.text) s.start n c.args.len s.pending.items _ _ c.self.invariant (IsUtf8-string_bytes s.text) e c.line_feeds.result feeds
+
+pub range-requires-clause-end_boundary : goal.range-requires-clause-end_boundary
+range-requires-clause-end_boundary g c =
+    let s = c.self.inside in
+    let n = c.requires.0 in
+    let e : c.args.len ≡ bytes_of n (chars (drop s.start (string_bytes s.text))) = c.requires.1 ∙ ap (λ v. bytes_of n v.text) (sym c.self.view_is) in
+    subst (λ b. IsCharBoundary b (s.start + c.args.len)) (sym c.as_str.ensures.value)
+    (boundary_advanced (string_bytes s.text) s.start n c.args.len s.pending.items _ _ c.self.invariant (IsUtf8-string_bytes s.text) e)
+
+same_given : (v : Unread) (k : Kind) (n : ℕ) {p : Place} {t u : List ℕ} → t ≡ take n v.text → p ≡ past v.place (take n v.text) → u ≡ drop n v.text →
+    IsGiven v k n (record { kind = k; text = t; at = v.place }) (moved v p v.begun false u)
+same_given v k n e p f = record { token = cc; moved_on = cc }
+
+given_too : {v w new : Unread} {k : Kind} {n : ℕ} {t : Token} → v ≡ w → IsGiven v k n t new → IsGiven w k n t new
+given_too {v} {w} {new} {k} {n} {t} e h = subst (λ v. IsGiven v k n t new) e h
+
+pub returns : goal.returns
+returns g c = (
+  (
+    refl,
+    (λ _. tt),
+    λ n e.
+        let s = c.self.inside in
+        let e : c.args.len ≡ bytes_of n (chars (drop s.start (string_bytes s.text))) = e ∙ ap (λ v. bytes_of n v.text) (sym c.self.view_is) in
+        let bytes = c.as_bytes.ensures.value in
+        let feeds = c.line_feeds.ensures ∙ ap (λ b. count_by (λ x. x == 10) (take (s.start + c.args.len - s.start) (drop s.start b))) bytes in
+        let place = place_advanced (string_bytes s.text) s.start n c.args.len s.pending.items _ _ c.self.invariant (IsUtf8-string_bytes s.text) e c.line_feeds.result feeds in
+        let text = text_advanced (string_bytes s.text) s.start n c.args.len s.pending.items _ _ c.self.invariant (IsUtf8-string_bytes s.text) e in
+        let front = ap chars (c.range.ensures.value ∙ ap (λ b. take (s.start + c.args.len - s.start) (drop s.start b)) c.as_str.ensures.value)
+        ∙ front_advanced (string_bytes s.text) s.start n c.args.len s.pending.items _ _ c.self.invariant (IsUtf8-string_bytes s.text) e in
+        let all = same_given (unread_of s) c.args.kind n front place text in
+        given_too c.self.view_is all,
+  ),
+  tt,
+)

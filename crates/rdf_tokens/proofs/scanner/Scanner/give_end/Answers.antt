@@ -1,0 +1,19 @@
+use Rattle.std.proofs.Common.{[], refl, ap, true, ◌∙◌}
+use Rattle.std.proofs.lemmas.Str.{chars-nil}
+use Rattle.rdf_terms.specs.declared.kind.Kind.TheVariants.{End}
+use Rattle.rdf_tokens.specs.Tokens.{Token}
+use Rattle.rdf_tokens.specs.Unread.{Unread}
+use Rattle.rdf_tokens.proofs.scanner.Scanner.give_end.Goals as goal
+
+pub returns : goal.returns
+returns g c = (
+  (
+    refl,
+    (λ _. tt),
+    (
+      (let F : Unread → Unread = λ v. record v { stopped = true } in ap F c.self.view_is),
+      (let F : Unread → Token = λ v. record { kind = End; text = []; at = v.place } in ap (λ w. record { kind = End; text = w; at = record { offset = c.self.inside.offset; line = c.self.inside.line } }) chars-nil ∙ ap F c.self.view_is),
+    ),
+  ),
+  tt,
+)

@@ -1,0 +1,49 @@
+use Rattle.std.proofs.Common.{◌≡◌, [], false, refl, sym, ap, ◌∙◌, subst}
+use Rattle.rdf_tokens.specs.Moves.{BeginsChar}
+use Rattle.rdf_tokens.proofs.MoveLemmas.{moves_both}
+use Rattle.rdf_tokens.proofs.NextLemmas.{dry, waits, ends_at, gives_look, stops_at}
+use Rattle.rdf_tokens.proofs.scanner.Scanner.next.Goals as goal
+
+pub returns-then-not-is_settled : goal.returns-then-not-is_settled
+returns-then-not-is_settled g c =
+    let old = c.args.self.now in
+    let running : old.stopped ≡ false = ap (λ v. v.stopped) (sym c.self.view_is) ∙ c.if-self.false in
+    let begins : BeginsChar old.pending = subst (λ v. BeginsChar v.pending) c.self.view_is c.self.invariant.begins in
+    ((refl, (λ _. tt), dry old (sym c.is_settled.ensures ∙ c.if-not-is_settled.true) running begins), tt)
+
+pub returns-in-Undecided : goal.returns-in-Undecided
+returns-in-Undecided g c =
+    let old = c.args.self.now in
+    let mid = c.drop_blanks.new.self in
+    let running : old.stopped ≡ false = ap (λ v. v.stopped) (sym c.self.view_is) ∙ c.if-self.false in
+    let begins : BeginsChar old.pending = subst (λ v. BeginsChar v.pending) c.self.view_is c.self.invariant.begins in
+    let m = moves_both old c.drop_mark.new.self mid [] [] c.drop_mark.ensures.moves c.drop_blanks.ensures.moves in
+    ((refl, (λ _. tt), waits old mid m running begins c.drop_blanks.ensures.stands c.in-Undecided.ensures), tt)
+
+pub returns-in-Complete : goal.returns-in-Complete
+returns-in-Complete g c =
+    let old = c.args.self.now in
+    let mid = c.drop_blanks.new.self in
+    let running : old.stopped ≡ false = ap (λ v. v.stopped) (sym c.self.view_is) ∙ c.if-self.false in
+    let begins : BeginsChar old.pending = subst (λ v. BeginsChar v.pending) c.self.view_is c.self.invariant.begins in
+    let m = moves_both old c.drop_mark.new.self mid [] [] c.drop_mark.ensures.moves c.drop_blanks.ensures.moves in
+    ((refl, (λ _. tt), ends_at old mid m running begins c.drop_blanks.ensures.stands c.give_end.follows.holds-at-none c.in-Complete.ensures), tt)
+
+pub returns-in-Stop : goal.returns-in-Stop
+returns-in-Stop g c =
+    let old = c.args.self.now in
+    let mid = c.drop_blanks.new.self in
+    let running : old.stopped ≡ false = ap (λ v. v.stopped) (sym c.self.view_is) ∙ c.if-self.false in
+    let begins : BeginsChar old.pending = subst (λ v. BeginsChar v.pending) c.self.view_is c.self.invariant.begins in
+    let m = moves_both old c.drop_mark.new.self mid [] [] c.drop_mark.ensures.moves c.drop_blanks.ensures.moves in
+    let e = c.stop_here.ensures in
+    ((refl, (λ _. tt), stops_at old mid m running begins c.drop_blanks.ensures.stands e.reason e.place e.stopped c.in-Stop.ensures), tt)
+
+pub returns-in-Token : goal.returns-in-Token
+returns-in-Token g c =
+    let old = c.args.self.now in
+    let mid = c.drop_blanks.new.self in
+    let running : old.stopped ≡ false = ap (λ v. v.stopped) (sym c.self.view_is) ∙ c.if-self.false in
+    let begins : BeginsChar old.pending = subst (λ v. BeginsChar v.pending) c.self.view_is c.self.invariant.begins in
+    let m = moves_both old c.drop_mark.new.self mid [] [] c.drop_mark.ensures.moves c.drop_blanks.ensures.moves in
+    ((refl, (λ _. tt), gives_look old mid m running begins c.drop_blanks.ensures.stands _ _ _ _ c.in-Token.ensures c.give.follows.holds-at-none), tt)

@@ -1,0 +1,67 @@
+use Rattle.std.proofs.Common.{◌≡◌, ℕ, ◌+◌, ◌++◌, drop, length, sym, ap, ◌∙◌, subst, ◌≤◌, List, [], Bool, cond}
+use Rattle.std.proofs.lemmas.Bool.{cond-true, cond-false}
+use Rattle.std.proofs.lemmas.Str.{IsUtf8-string_bytes}
+use Rattle.std.specs.String.{string_bytes}
+use Rattle.rdf_tokens.specs.Tokens.{Place}
+use Rattle.rdf_tokens.specs.Unread.{Unread}
+use Rattle.rdf_tokens.specs.Moves.{good_bytes, rest_of_bytes, is_broken, grown, counted, lengthened}
+use Rattle.rdf_tokens.specs.Held.{Held}
+use Rattle.rdf_tokens.specs.Scans.{most_bytes}
+use Rattle.rdf_tokens.specs.declared.scanner.Scanner.TheInside.{Inside}
+use Rattle.rdf_tokens.proofs.Inside.{unread_at, unread_of}
+use Rattle.rdf_tokens.proofs.HeldLemmas.{held_counted, held_grown, text_grown}
+use Rattle.rdf_tokens.proofs.scanner.Scanner.take_in.Goals.{then-not-self+in_ok-drop_front+in_ok-self-inside, else-not-self}
+use Rattle.rdf_tokens.proofs.scanner.Scanner.take_in.Goals as goal
+
+module _ {Z : Type 0} where
+  -- the place behind a piece, of which so many bytes are line feeds
+  abbrev behind : Inside Z → List ℕ → ℕ → Place
+  behind s piece feeds = record { offset = s.taken + length piece; line = s.last_line + feeds }
+
+  abbrev HeldAt : Inside Z → Place → Type 0
+  HeldAt s p = Held (string_bytes s.text) s.start s.pending.items (record { offset = s.offset; line = s.line }) p
+
+abbrev with_fields : Unread → List ℕ → List ℕ → Bool → Place → Unread
+with_fields v text pending broken taken = record v { text = text; pending = pending; broken = broken; taken = taken }
+
+same_fields : (v : Unread) {t t' p p' : List ℕ} {b b' : Bool} {q q' : Place} → t ≡ t' → p ≡ p' → b ≡ b' → q ≡ q' → with_fields v t p b q ≡ with_fields v t' p' b' q'
+same_fields v e f h k = cc
+
+pub invariant_of-self-2 : goal.invariant_of-self-2
+invariant_of-self-2 g c =
+    let s = c.self.inside in
+    let piece = c.args.piece.now in
+    let most : s.taken + length piece ≤ most_bytes = subst (λ v. v.taken.offset + length piece ≤ most_bytes) (sym c.self.view_is) c.requires in
+    let P : Inside _ → Type 0 = λ i. HeldAt i (behind i piece c.line_feeds.result) in
+    elim c.if-not-self.branch [
+      | then-not-self+in_ok-drop_front+in_ok-self-inside w ↦
+          let new : string_bytes w.add_piece.new.text ≡ drop s.start (string_bytes s.text) ++ good_bytes (s.pending.items ++ piece) =
+          w.in_ok-self-inside.ensures.text ∙ ap (λ x. x ++ good_bytes (s.pending.items ++ piece)) w.in_ok-drop_front.ensures.ok in
+          let kept : w.add_piece.new.pending.items ≡ cond (is_broken (s.pending.items ++ piece)) [] (rest_of_bytes (s.pending.items ++ piece)) =
+          w.in_ok-self-inside.ensures.pending ∙ ap (λ b. cond b [] (rest_of_bytes (s.pending.items ++ piece))) w.in_ok-self-inside.ensures.broken in
+          subst P (sym w.self-inside-is) (subst (λ n. Held (string_bytes w.add_piece.new.text) 0 w.add_piece.new.pending.items (record { offset = s.offset; line = s.line }) (behind s piece n)) (sym c.line_feeds.ensures)
+          (held_grown (string_bytes s.text) (string_bytes w.add_piece.new.text) s.start s.pending.items w.add_piece.new.pending.items piece _ _ c.self.invariant most (IsUtf8-string_bytes w.add_piece.new.text) new kept))
+      | else-not-self w ↦
+          subst P (sym w.self-inside-is) (subst (λ n. HeldAt s (behind s piece n)) (sym c.line_feeds.ensures) (held_counted (string_bytes s.text) s.start s.pending.items piece _ _ c.self.invariant most))
+    ]
+
+pub returns-clause-ok : goal.returns-clause-ok
+returns-clause-ok g c =
+    let s = c.self.inside in
+    let piece = c.args.piece.now in
+    let v : Unread = unread_of s in
+    let P : Inside _ → Type 0 = λ i. unread_at i (behind i piece c.line_feeds.result) ≡ grown v piece in
+    let all : unread_at c.if-not-self.self-inside (behind c.if-not-self.self-inside piece c.line_feeds.result) ≡ grown v piece = elim c.if-not-self.branch [
+      | then-not-self+in_ok-drop_front+in_ok-self-inside w ↦
+          let new : string_bytes w.add_piece.new.text ≡ drop s.start (string_bytes s.text) ++ good_bytes (s.pending.items ++ piece) =
+          w.in_ok-self-inside.ensures.text ∙ ap (λ x. x ++ good_bytes (s.pending.items ++ piece)) w.in_ok-drop_front.ensures.ok in
+          let text = text_grown (string_bytes s.text) (string_bytes w.add_piece.new.text) s.start s.pending.items piece _ _ c.self.invariant (IsUtf8-string_bytes s.text) new in
+          let kept : w.add_piece.new.pending.items ≡ cond (is_broken (s.pending.items ++ piece)) [] (rest_of_bytes (s.pending.items ++ piece)) =
+          w.in_ok-self-inside.ensures.pending ∙ ap (λ b. cond b [] (rest_of_bytes (s.pending.items ++ piece))) w.in_ok-self-inside.ensures.broken in
+          subst P (sym w.self-inside-is) (same_fields v text kept w.in_ok-self-inside.ensures.broken (ap (λ n. behind s piece n) c.line_feeds.ensures)
+          ∙ sym (cond-false s.broken (counted v piece) (lengthened v piece) w.if-not-self.true))
+      | else-not-self w ↦
+          subst P (sym w.self-inside-is)
+          (ap (λ n. unread_at s (behind s piece n)) c.line_feeds.ensures ∙ sym (cond-true s.broken (counted v piece) (lengthened v piece) w.if-not-self.false))
+    ] in
+    all ∙ ap (λ v. grown v piece) c.self.view_is

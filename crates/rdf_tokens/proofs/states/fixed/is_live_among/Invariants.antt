@@ -1,0 +1,7 @@
+use Rattle.std.proofs.Common.{◌≡◌, map, drop}
+use Rattle.rdf_tokens.specs.Fixed.{live_by}
+use Rattle.rdf_tokens.specs.Spellings.{row_of}
+use Rattle.rdf_tokens.proofs.states.fixed.is_live_among.Given as goal
+
+abbrev pub invariant-loop-row : goal.invariant-loop-row
+invariant-loop-row l = live_by (map row_of l.rows) l.text ≡ live_by (map row_of (drop l.row-index l.rows)) l.text

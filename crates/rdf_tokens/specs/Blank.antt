@@ -1,0 +1,15 @@
+-- White space and comments: whether a comment is open behind them.
+use Rattle.std.specs.Prelude.{ℕ, Bool, true, false, cond, List, [], ◌∷◌, ◌==◌, Option, Some, None}
+use Rattle.rdf_terms.specs.declared.kind.Dialect.{Dialect}
+use Rattle.rdf_tokens.specs.Tokens.{is_line_end, is_space}
+
+-- where a character of white space or of a comment leads: whether a comment is open behind it
+abbrev pub comment_step : Dialect → Bool → ℕ → Option Bool
+comment_step d false c = cond (is_space d c) (Some false) (cond (c == 35) (Some true) None)
+comment_step d true c = cond (is_line_end c) (cond (is_space d c) (Some false) None) (Some true)
+
+-- all of the text is white space and comments, and a comment is open at its end; the test says that it begins in a comment
+abbrev pub comment_after : Dialect → Bool → List ℕ → Bool
+comment_after d b [] = b
+comment_after d false (c ∷ w) = cond (is_space d c) (comment_after d false w) (cond (c == 35) (comment_after d true w) false)
+comment_after d true (c ∷ w) = cond (is_line_end c) (cond (is_space d c) (comment_after d false w) false) (comment_after d true w)

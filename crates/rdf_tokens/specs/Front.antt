@@ -1,0 +1,44 @@
+-- Fronts of a text: the longest that is a token, by characters and by bytes.
+use Rattle.std.specs.Prelude.{ℕ, zero, suc, Bool, true, false, cond, ◌&&◌, ◌||◌, nat_lt, List, [], ◌∷◌, length, take, encode_utf8_all, Option, Some, None}
+use Rattle.rdf_terms.specs.declared.kind.Kind.{Kind}
+use Rattle.rdf_tokens.specs.Tokens.{with_length}
+use Rattle.rdf_tokens.specs.Fixed.{Row, fits}
+
+-- how many bytes the first n characters have
+abbrev pub bytes_of : ℕ → List ℕ → ℕ
+bytes_of n w = length (encode_utf8_all (take n w))
+
+-- a front with its length in bytes
+abbrev pub in_bytes : List ℕ → Option (ℕ × Kind) → Option (ℕ × Kind)
+in_bytes w None = None
+in_bytes w (Some x) = Some (bytes_of x.0 w, x.1)
+
+-- the longest front that has a kind, of at most n characters
+abbrev pub longest_by : (List ℕ → Option Kind) → List ℕ → ℕ → Option (ℕ × Kind)
+longest_by kind w zero = None
+longest_by kind w (suc n) = with_length (suc n) (kind (take (suc n) w)) (longest_by kind w n)
+
+-- the longer of two fronts, the first of two of one length
+abbrev pub longer_front : Option (ℕ × Kind) → Option (ℕ × Kind) → Option (ℕ × Kind)
+longer_front None o = o
+longer_front (Some x) None = Some x
+longer_front (Some x) (Some y) = cond (nat_lt x.0 y.0) (Some y) (Some x)
+
+-- a spelling stands at the front of a text
+abbrev pub begins : Bool → List ℕ → List ℕ → Bool
+begins b [] w = true
+begins b (c ∷ s) [] = false
+begins b (c ∷ s) (x ∷ w) = fits b c x && begins b s w
+
+-- the longest spelling that stands at the front
+abbrev pub row_front : Row → List ℕ → Option (ℕ × Kind)
+row_front r w = cond (begins r.any_case r.text w) (Some (length r.text, r.kind)) None
+
+abbrev pub front_by : List Row → List ℕ → Option (ℕ × Kind)
+front_by [] w = None
+front_by (r ∷ rs) w = longer_front (row_front r w) (front_by rs w)
+
+-- some spelling begins with a character
+abbrev pub starts : List Row → ℕ → Bool
+starts [] x = false
+starts (r ∷ rs) x = begins r.any_case (take 1 r.text) (x ∷ []) || starts rs x

@@ -1,0 +1,19 @@
+-- What always holds of a scanner's fields.
+use Rattle.std.specs.Prelude.{ℕ, ◌≤◌, ◌+◌, ◌-◌, List, length}
+use Rattle.std.specs.Str.{IsCharBoundary}
+use Rattle.rdf_tokens.specs.Tokens.{Place}
+use Rattle.rdf_tokens.specs.Moves.{BeginsChar}
+use Rattle.rdf_tokens.specs.Scans.{most_bytes}
+
+-- a place has no more lines than bytes before it
+abbrev pub IsPlace : Place → Type 0
+IsPlace p = p.line ≤ p.offset + 1
+
+-- a text of which a front is read, the bytes behind it, the place where the rest begins, and that behind all bytes
+pub record Held (text : List ℕ) (start : ℕ) (pending : List ℕ) (place taken : Place) : Type 0 where
+  pub boundary : IsCharBoundary text start
+  pub begins : BeginsChar pending
+  pub within : place.offset + (length text - start) + length pending ≤ taken.offset
+  pub most : taken.offset ≤ most_bytes
+  pub lines : IsPlace place
+  pub last : IsPlace taken

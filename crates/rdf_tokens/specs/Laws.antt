@@ -1,0 +1,55 @@
+-- The laws of token lists.
+use Rattle.std.specs.Prelude.{◌≡◌, ◌≢◌, ℕ, ◌≤◌, ◌+◌, ◌==◌, Bool, false, List, [], ◌∷◌, ◌++◌, length, take, drop, count_by, encode_utf8_all}
+use Rattle.std.specs.List.{All}
+use Rattle.rdf_terms.specs.declared.kind.Dialect.{Dialect}
+use Rattle.rdf_terms.specs.declared.kind.Kind.TheVariants.{End}
+use Rattle.rdf_tokens.specs.Tokens.{Place, Token, Reading}
+use Rattle.rdf_tokens.specs.Tokens.Outcome.{undecided, complete}
+use Rattle.rdf_tokens.specs.Good.{tokens_of}
+use Rattle.rdf_tokens.specs.Unread.{Unread}
+use Rattle.rdf_tokens.specs.Scans.{HasRead, IsToken}
+
+-- a list that goes on with further tokens
+abbrev pub IsBeginning : List Token → List Token → Type 0
+IsBeginning ts us = (more : List Token) × (us ≡ ts ++ more)
+
+-- More bytes, or the end, only lengthen the list of tokens. They change no outcome that is decided, nor its place.
+abbrev pub MoreBytesOnlyLengthen : Type 0
+MoreBytesOnlyLengthen = (d : Dialect) (limit : ℕ) (bytes more : List ℕ) (e : Bool) →
+    IsBeginning (tokens_of d limit bytes false).tokens (tokens_of d limit (bytes ++ more) e).tokens
+    × ((tokens_of d limit bytes false).outcome ≢ undecided → tokens_of d limit (bytes ++ more) e ≡ tokens_of d limit bytes false)
+
+-- What a scanner has given is a beginning of the tokens of the bytes that it has taken.
+abbrev pub GivenTokensAreABeginning : Type 0
+GivenTokensAreABeginning = (v : Unread) (bytes : List ℕ) (ts : List Token) → HasRead v bytes ts →
+    IsBeginning ts (tokens_of v.dialect v.limit bytes v.ended).tokens
+
+-- a place within some bytes: its line is one more than the line feeds before it
+pub record IsPlaceIn (bytes : List ℕ) (p : Place) : Type 0 where
+  pub within : p.offset ≤ length bytes
+  pub line : p.line ≡ 1 + count_by (λ b. b == 10) (take p.offset bytes)
+
+-- the bytes of a token stand at its place
+pub record StandsIn (bytes : List ℕ) (t : Token) : Type 0 where
+  pub place : IsPlaceIn bytes t.at
+  pub text : take (length (encode_utf8_all t.text)) (drop t.at.offset bytes) ≡ encode_utf8_all t.text
+
+-- Each token stands at its place in the bytes, and the list ends at a place in them.
+abbrev pub TokensStandAtTheirPlaces : Type 0
+TokensStandAtTheirPlaces = (d : Dialect) (limit : ℕ) (bytes : List ℕ) (e : Bool) →
+    All (StandsIn bytes) (tokens_of d limit bytes e).tokens × IsPlaceIn bytes (tokens_of d limit bytes e).at
+
+-- Each token has the shape of its kind and fit escapes, or is the end.
+abbrev pub TokensHaveShapes : Type 0
+TokensHaveShapes = (d : Dialect) (limit : ℕ) (bytes : List ℕ) (e : Bool) → All (IsToken d) (tokens_of d limit bytes e).tokens
+
+abbrev pub NoEnd : Token → Type 0
+NoEnd t = t.kind ≢ End
+
+-- the end is there where all was read, and then it is the last token
+pub record EndsWell (r : Reading) : Type 0 where
+  pub whole : r.outcome ≡ complete → (ts : List Token) × (r.tokens ≡ ts ++ record { kind = End; text = []; at = r.at } ∷ []) × All NoEnd ts
+  pub part : r.outcome ≢ complete → All NoEnd r.tokens
+
+abbrev pub EndStandsLast : Type 0
+EndStandsLast = (d : Dialect) (limit : ℕ) (bytes : List ℕ) (e : Bool) → EndsWell (tokens_of d limit bytes e)

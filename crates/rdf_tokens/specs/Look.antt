@@ -1,0 +1,46 @@
+-- What a look at the front of a text tells of the next step.
+use Rattle.std.specs.Prelude.{◌≡◌, ◌≤◌, ℕ, cond, List, [], ◌∷◌, length, take, Option, Some, None}
+use Rattle.std.specs.Str.{chars, IsCharBoundary}
+use Rattle.rdf_terms.specs.declared.kind.Kind.{Kind}
+use Rattle.rdf_terms.specs.Values.{is_fit}
+use Rattle.rdf_terms.specs.declared.reason.Reason.TheVariants.{BadUtf8, NoToken, BadEscape, TokenTooLong}
+use Rattle.rdf_tokens.specs.declared.look.Tail.{Tail as Behind}
+use Rattle.rdf_tokens.specs.declared.look.Tail.TheVariants.{GoesOn, Ended, Broken}
+use Rattle.rdf_tokens.specs.declared.look.Look.{Look}
+use Rattle.rdf_tokens.specs.declared.look.Look.TheVariants.{Undecided, Complete, Stop, Token}
+use Rattle.rdf_tokens.specs.Tokens.{Tail, Step}
+use Rattle.rdf_tokens.specs.Tokens.Tail.{goes_on, ended, broken}
+use Rattle.rdf_tokens.specs.Tokens.Outcome.{undecided, complete, token_too_long, bad_utf8, no_token, bad_escape}
+use Rattle.rdf_tokens.specs.Tokens.Step.{token, stop}
+use Rattle.rdf_tokens.specs.Front.{bytes_of}
+
+-- what comes behind the text, by the code's name for it
+abbrev pub behind : Behind → Tail
+behind GoesOn = goes_on
+behind Ended = ended
+behind Broken = broken
+
+-- A look tells the step; that of a token has its length in bytes, which lies within the text.
+abbrev pub IsLook : Look → Step → List ℕ → Type 0
+IsLook Undecided s w = s ≡ stop undecided
+IsLook Complete s w = s ≡ stop complete
+IsLook (Stop TokenTooLong) s w = s ≡ stop token_too_long
+IsLook (Stop BadUtf8) s w = s ≡ stop bad_utf8
+IsLook (Stop NoToken) s w = s ≡ stop no_token
+IsLook (Stop BadEscape) s w = s ≡ stop bad_escape
+IsLook (Stop r) s w = ⊥
+IsLook (Token m k) s w = (n : ℕ) × (s ≡ token n k) × (n ≤ length w) × (m ≡ bytes_of n w)
+
+-- what is decided by the longest front, in bytes
+abbrev pub chosen_by : List ℕ → Option (ℕ × Kind) → Look
+chosen_by bs None = Stop NoToken
+chosen_by bs (Some x) = cond (is_fit x.1 (chars (take x.0 bs))) (Token x.0 x.1) (Stop BadEscape)
+
+abbrev pub decided_by : List ℕ → Option (ℕ × Kind) → Look
+decided_by [] best = Complete
+decided_by (b ∷ bs) best = chosen_by (b ∷ bs) best
+
+-- a front ends where a character does
+abbrev pub CutsAt : List ℕ → Option (ℕ × Kind) → Type 0
+CutsAt bs None = Unit {0}
+CutsAt bs (Some x) = IsCharBoundary bs x.0

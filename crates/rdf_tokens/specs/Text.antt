@@ -1,0 +1,92 @@
+-- The states of strings.
+use Rattle.std.specs.Prelude.{ℕ, zero, suc, Bool, true, false, cond, ◌||◌, ◌&&◌, ◌==◌, Option, Some, None}
+use Rattle.rdf_terms.specs.Classes.{is_digit, is_turtle, within}
+use Rattle.rdf_tokens.specs.Sorts.{sort_by}
+use Rattle.rdf_terms.specs.declared.kind.Kind.{Kind}
+use Rattle.rdf_terms.specs.declared.kind.Kind.TheVariants.{ShortString, LongString}
+use Rattle.rdf_terms.specs.declared.kind.Dialect.{Dialect}
+use Rattle.rdf_terms.specs.declared.kind.Dialect.TheVariants.{Turtle}
+use Rattle.rdf_tokens.specs.declared.states.wide.Wide.{Wide}
+use Rattle.rdf_tokens.specs.declared.states.text.Sort.{Sort}
+use Rattle.rdf_tokens.specs.declared.states.text.Sort.TheVariants as sort
+use Rattle.rdf_tokens.specs.declared.states.text.Quote.{Quote}
+use Rattle.rdf_tokens.specs.declared.states.text.Quote.TheVariants.{Double, Single}
+use Rattle.rdf_tokens.specs.declared.states.text.Text.{Text}
+use Rattle.rdf_tokens.specs.declared.states.text.Text.TheVariants.{Start, Opened, Empty, Short, ShortEscape, ShortHex, ShortWhole, Long, LongOneQuote, LongTwoQuotes, LongEscape, LongHex, LongWhole, Dead}
+
+abbrev pub ascii : ℕ → Sort
+ascii c = cond (c == 34) sort.DoubleQuote (cond (c == 39) sort.SingleQuote (cond (c == 92) sort.Backslash (cond (c == 10 || c == 13) sort.LineBreak
+    (cond (c == 117) sort.SmallU (cond (c == 85) sort.BigU (cond (c == 116 || c == 110 || c == 114) sort.Letter (cond (c == 98 || c == 102) sort.HexLetter
+    (cond (is_digit c || within 65 70 c || within 97 102 c) sort.HexDigit sort.Plain))))))))
+
+abbrev pub high : Wide → Sort
+high v = sort.Plain
+
+abbrev pub closes : Quote → Sort → Bool
+closes Double sort.DoubleQuote = true
+closes Single sort.SingleQuote = true
+closes q x = false
+
+abbrev pub in_short : Quote → Sort → Text
+in_short q sort.Backslash = ShortEscape q
+in_short q sort.LineBreak = Dead
+in_short q x = Short q
+
+abbrev pub in_long : Quote → Sort → Text
+in_long q sort.Backslash = LongEscape q
+in_long q x = Long q
+
+-- what comes behind a backslash
+abbrev pub escaped : (ℕ → Text) → Text → Sort → Text
+escaped hex inside sort.SmallU = hex 3
+escaped hex inside sort.BigU = hex 7
+escaped hex inside sort.DoubleQuote = inside
+escaped hex inside sort.SingleQuote = inside
+escaped hex inside sort.Backslash = inside
+escaped hex inside sort.Letter = inside
+escaped hex inside sort.HexLetter = inside
+escaped hex inside x = Dead
+
+abbrev pub if_hex : Text → Sort → Text
+if_hex s sort.HexLetter = s
+if_hex s sort.HexDigit = s
+if_hex s x = Dead
+
+abbrev pub begin : Dialect → Sort → Text
+begin d sort.DoubleQuote = Opened Double
+begin Turtle sort.SingleQuote = Opened Single
+begin d x = Dead
+
+abbrev pub move : Dialect → Text → Sort → Text
+move d Start x = begin d x
+move d (Opened q) x = cond (closes q x) (Empty q) (in_short q x)
+move d (Empty q) x = cond (closes q x && is_turtle d) (Long q) Dead
+move d (Short q) x = cond (closes q x) ShortWhole (in_short q x)
+move d (ShortEscape q) x = escaped (λ n. ShortHex q n) (Short q) x
+move d (ShortHex q zero) x = if_hex (Short q) x
+move d (ShortHex q (suc n)) x = if_hex (ShortHex q n) x
+move d ShortWhole x = Dead
+move d (Long q) x = cond (closes q x) (LongOneQuote q) (in_long q x)
+move d (LongOneQuote q) x = cond (closes q x) (LongTwoQuotes q) (in_long q x)
+move d (LongTwoQuotes q) x = cond (closes q x) LongWhole (in_long q x)
+move d (LongEscape q) x = escaped (λ n. LongHex q n) (Long q) x
+move d (LongHex q zero) x = if_hex (Long q) x
+move d (LongHex q (suc n)) x = if_hex (LongHex q n) x
+move d LongWhole x = Dead
+move d Dead x = Dead
+
+abbrev pub step : Dialect → Text → ℕ → Text
+step d s c = move d s (sort_by ascii high c)
+
+abbrev pub kind_at : Text → Option Kind
+kind_at (Empty q) = Some ShortString
+kind_at ShortWhole = Some ShortString
+kind_at LongWhole = Some LongString
+kind_at s = None
+
+abbrev pub goes_on : Dialect → Text → Bool
+goes_on d (Empty q) = is_turtle d
+goes_on d ShortWhole = false
+goes_on d LongWhole = false
+goes_on d Dead = false
+goes_on d s = true

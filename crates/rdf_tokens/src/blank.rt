@@ -1,0 +1,79 @@
+// White space and comments.
+
+ghost use Rattle.std.specs.Prelude.{◌≡◌};
+ghost use Rattle.std.specs.Str.{chars};
+ghost use Rattle.rdf_tokens.specs.Tokens.{blank, is_line_end as ends_line, is_space as spaces};
+ghost use Rattle.rdf_tokens.specs.Blank.{comment_step, comment_after};
+ghost use Rattle.rdf_tokens.specs.Front.{bytes_of};
+
+use rdf_terms::Dialect;
+
+/// The white space and the comments at the front of a text.
+#[derive(Clone, Copy)]
+pub(crate) struct Blank {
+    /// How many bytes they have.
+    pub(crate) len: usize,
+    /// They are the whole text, and a comment goes on behind it.
+    pub(crate) in_comment: bool,
+}
+
+/// The white space and the comments at the front of a text that may begin in a comment.
+pub(crate) fn blank_run(dialect: Dialect, in_comment: bool, text: &str) -> Blank
+    ensures len { result.len ≡ bytes_of (blank dialect in_comment (chars text.now)) (chars text.now) }
+    ensures comment { result.in_comment ≡ comment_after dialect in_comment (chars text.now) }
+{
+    blank_bytes(dialect, in_comment, text.as_bytes())
+}
+
+/// A byte from 128 on stands in a comment as it is, and is no white space.
+fn blank_bytes(dialect: Dialect, in_comment: bool, bytes: &[u8]) -> Blank
+    ensures len { result.len ≡ blank dialect in_comment bytes.now }
+    ensures comment { result.in_comment ≡ comment_after dialect in_comment bytes.now }
+{
+    let mut comment = in_comment;
+    for (i, byte) in bytes.iter().enumerate() {
+        match behind(dialect, comment, *byte) {
+            Some(next) => comment = next,
+            None => {
+                return Blank {
+                    len: i,
+                    in_comment: false,
+                };
+            }
+        }
+    }
+    Blank {
+        len: bytes.len(),
+        in_comment: comment,
+    }
+}
+
+/// Whether a comment is open behind a byte; None where the byte is neither white space nor in a comment.
+fn behind(dialect: Dialect, in_comment: bool, byte: u8) -> Option<bool>
+    ensures { result ≡ comment_step dialect in_comment byte }
+{
+    if in_comment && !is_line_end(byte) {
+        Some(true)
+    } else if is_space(dialect, byte) {
+        Some(false)
+    } else if !in_comment && byte == b'#' {
+        Some(true)
+    } else {
+        None
+    }
+}
+
+fn is_line_end(byte: u8) -> bool
+    ensures { result ≡ ends_line byte }
+{
+    byte == b'\n' || byte == b'\r'
+}
+
+fn is_space(dialect: Dialect, byte: u8) -> bool
+    ensures { result ≡ spaces dialect byte }
+{
+    match dialect {
+        Dialect::Lines => byte == b' ' || byte == b'\t',
+        Dialect::Turtle => byte == b' ' || byte == b'\t' || is_line_end(byte),
+    }
+}

@@ -1,0 +1,28 @@
+//! The laws of token lists. These functions do nothing: their contracts are the laws.
+
+ghost use Rattle.rdf_tokens.specs.Laws.{MoreBytesOnlyLengthen, GivenTokensAreABeginning, TokensStandAtTheirPlaces, TokensHaveShapes, EndStandsLast};
+
+/// More bytes, or the end, only lengthen the list of tokens, and change no outcome that is decided.
+pub fn more_bytes_only_lengthen()
+    ensures { MoreBytesOnlyLengthen }
+{}
+
+/// What a scanner has given is a beginning of the tokens of the bytes that it has taken.
+pub fn given_tokens_are_a_beginning()
+    ensures { GivenTokensAreABeginning }
+{}
+
+/// Each token stands at its place in the bytes, and its line counts the LF bytes before it.
+pub fn tokens_stand_at_their_places()
+    ensures { TokensStandAtTheirPlaces }
+{}
+
+/// Each token has the shape of its kind and escapes that stand for characters.
+pub fn tokens_have_shapes()
+    ensures { TokensHaveShapes }
+{}
+
+/// `End` is in the list where all of the input was read, and there it is the last token.
+pub fn end_stands_last()
+    ensures { EndStandsLast }
+{}

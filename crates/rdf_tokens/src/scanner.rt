@@ -1,0 +1,354 @@
+// The scanner.
+
+ghost use Rattle.std.specs.Prelude.{◌≡◌, ℕ, List, [], ◌++◌, true, IsErrOf, OnOk, OnErr, IfOk, cond, min, ◌-◌, ◌+◌, ◌≤◌, ◌<◌, length, drop, take, ⊤};
+ghost use Rattle.std.specs.Str.{chars, IsCharBoundary};
+ghost use Rattle.std.specs.String.{string_bytes};
+ghost use mathlib.Core.Option.{none};
+ghost use Rattle.std.specs.Borrow.{sem, follows_so};
+ghost use Rattle.rdf_tokens.specs.Tokens.{Token as Read, past, step};
+ghost use Rattle.rdf_tokens.specs.Scans.{HasRead, Pushes, Gives, most_bytes, token_of, place_of};
+ghost use Rattle.rdf_tokens.specs.Look.{behind, IsLook};
+ghost use Rattle.rdf_tokens.specs.contracts.scanner.Scanner.{the_row};
+ghost use Rattle.rdf_tokens.specs.Moves.{closed, grown, good_bytes, is_broken, rest_of_bytes, is_settled, moved, tail_now, fault_place, IsGiven, Moves, Stands};
+ghost use Rattle.rdf_tokens.specs.Good.{mark};
+ghost use Rattle.rdf_tokens.specs.Front.{bytes_of};
+
+use crate::blank::blank_run;
+use crate::good::{good_front, line_feeds, mark_len};
+use crate::look::{Look, Tail, look_at};
+use crate::token::{ScanFault, Token};
+use rdf_terms::{Dialect, Kind, Reason};
+use std::alloc::{AllocError, Allocator, Global};
+use std::marker::Model;
+
+/// The greatest number of bytes in a document.
+const MOST_BYTES: u64 = 0x7fff_ffff_ffff_ffff;
+
+/// Takes the bytes of a document in pieces, and gives its tokens.
+#[derive(Drop)]
+pub struct Scanner<A: Allocator = Global> {
+    dialect: Dialect,
+    limit: u64,
+    // Good text, of which the first `start` bytes are read.
+    text: String<A>,
+    start: usize,
+    // The bytes behind the text that begin a character.
+    pending: Vec<u8, A>,
+    broken: bool,
+    begun: bool,
+    comment: bool,
+    offset: u64,
+    line: u64,
+    taken: u64,
+    last_line: u64,
+    ended: bool,
+    stopped: bool,
+}
+
+impl<A: Allocator> Model for Scanner<A> {
+    ghost use Rattle.std.specs.Prelude.{drop};
+    ghost use Rattle.std.specs.Str.{chars};
+    ghost use Rattle.std.specs.String.{string_bytes};
+    ghost use Rattle.rdf_tokens.specs.Unread.{Unread};
+    ghost use Rattle.rdf_tokens.specs.Held.{Held};
+
+    ghost Value = { Unread };
+
+    ghost view = { λ s. record {
+      dialect = s.dialect;
+      limit = s.limit;
+      place = record { offset = s.offset; line = s.line };
+      begun = s.begun;
+      comment = s.comment;
+      text = chars (drop s.start (string_bytes s.text));
+      pending = s.pending.items;
+      broken = s.broken;
+      taken = record { offset = s.taken; line = s.last_line };
+      ended = s.ended;
+      stopped = s.stopped;
+    } };
+
+    ghost invariant = { λ s. Held (string_bytes s.text) s.start s.pending.items (record { offset = s.offset; line = s.line }) (record { offset = s.taken; line = s.last_line }) };
+}
+
+impl<A: Allocator + Copy> Scanner<A> {
+    /// A scanner that has read nothing. It takes no memory.
+    pub fn new(alloc: A, dialect: Dialect, limit: u64) -> Scanner<A>
+        ensures read { HasRead result [] [] }
+        ensures dialect { result.dialect ≡ dialect }
+        ensures limit { result.limit ≡ limit }
+    {
+        Scanner {
+            dialect,
+            limit,
+            text: String::new(alloc),
+            start: 0,
+            pending: Vec::new(alloc),
+            broken: false,
+            begun: false,
+            comment: false,
+            offset: 0,
+            line: 1,
+            taken: 0,
+            last_line: 1,
+            ended: false,
+            stopped: false,
+        }
+    }
+
+    /// Says that no more bytes come. After a stop it does nothing.
+    pub fn end(&mut self)
+        ensures after { self.new ≡ closed self.old }
+        ensures read { (bytes : List ℕ) (ts : List Read) → HasRead self.old bytes ts → HasRead self.new bytes ts }
+    {
+        if !self.stopped {
+            self.ended = true;
+        }
+    }
+
+    /// Takes bytes of the piece, and answers how many: at least one of a piece that is not empty. After a
+    /// stop and after `end` it answers `Ended`. A document has at most 2^63 - 1 bytes: for a piece
+    /// behind them it answers `DocumentTooLong`. After that, and after `Memory`, the scanner is stopped.
+    pub fn push(&mut self, piece: &[u8]) -> Result<usize, ScanFault>
+        ensures { Pushes self.old piece.now result self.new }
+    {
+        if self.stopped || self.ended {
+            return Err(self.fault(Reason::Ended));
+        }
+        let len = self.room(piece.len());
+        if len == 0 && !piece.is_empty() {
+            return Err(self.stop(Reason::DocumentTooLong));
+        }
+        match self.take_in(&piece[..len]) {
+            Ok(()) => Ok(len),
+            Err(_) => Err(self.stop(Reason::Memory)),
+        }
+    }
+
+    /// Gives the next token, or `None` where the bytes so far leave it undecided. Behind the last one it
+    /// gives `End`, once. A fault stands at the place of the token that is not there; `BadUtf8` behind
+    /// all of the text. After it, and after `End`, the scanner is stopped and answers `Ended`.
+    pub fn next(&mut self) -> Result<Option<Token<'_>>, ScanFault>
+        ensures* { sem 𝓛 (follows_so (the_row A.row A.Allocator) (the_row A.row A.Allocator) self.entry.ghost_name none (λ _ _. ⊤) (λ v. Gives self.old result v)) }
+    {
+        if self.stopped {
+            return Err(self.fault(Reason::Ended));
+        }
+        if !self.is_settled() {
+            return Ok(None);
+        }
+        self.drop_mark();
+        self.drop_blanks();
+        match self.look() {
+            Look::Undecided => Ok(None),
+            Look::Complete => Ok(Some(self.give_end())),
+            Look::Stop(reason) => Err(self.stop_here(reason)),
+            Look::Token(len, kind) => Ok(Some(self.give(kind, len))),
+        }
+    }
+
+    fn look(&self) -> Look
+        ensures { IsLook result (step self.now.dialect self.now.limit (tail_now self.now) self.now.text) self.now.text }
+    {
+        look_at(self.dialect, self.rest(), self.limit, self.tail())
+    }
+
+    fn tail(&self) -> Tail
+        ensures { behind result ≡ tail_now self.now }
+    {
+        if self.broken || self.ended && !self.pending.is_empty() {
+            Tail::Broken
+        } else if self.ended {
+            Tail::Ended
+        } else {
+            Tail::GoesOn
+        }
+    }
+
+    fn give_end(&mut self) -> Token<'_>
+        ensures* { sem 𝓛 (follows_so (the_row A.row A.Allocator) (the_row A.row A.Allocator) self.entry.ghost_name none (λ _ _. ⊤) (λ v. (v ≡ record self.old { stopped = true }) × (token_of result ≡ record { kind = Kind.End; text = []; at = self.old.place }))) }
+    {
+        self.stopped = true;
+        Token {
+            kind: Kind::End,
+            text: "",
+            offset: self.offset,
+            line: self.line,
+        }
+    }
+
+    fn give(&mut self, kind: Kind, len: usize) -> Token<'_>
+        requires { (n : ℕ) × (len ≡ bytes_of n self.old.text) }
+        ensures* { sem 𝓛 (follows_so (the_row A.row A.Allocator) (the_row A.row A.Allocator) self.entry.ghost_name none (λ _ _. ⊤) (λ v. (n : ℕ) → len ≡ bytes_of n self.old.text → IsGiven self.old kind n (token_of result) v)) }
+    {
+        let start = self.start;
+        let end = start + len;
+        let offset = self.offset;
+        let line = self.line;
+        self.line += line_feeds(&self.text.as_bytes()[start..end]) as u64;
+        self.offset += len as u64;
+        self.start = end;
+        self.comment = false;
+        Token {
+            kind,
+            text: &self.text.as_str()[start..end],
+            offset,
+            line,
+        }
+    }
+
+    fn stop_here(&mut self, reason: Reason) -> ScanFault
+        ensures stopped { self.new ≡ record self.old { stopped = true } }
+        ensures reason { result.reason ≡ reason }
+        ensures place { place_of result ≡ fault_place reason self.old.place self.old.text }
+    {
+        self.stopped = true;
+        match reason {
+            Reason::BadUtf8 => {
+                let rest = &self.text.as_str()[self.start..];
+                ScanFault {
+                    reason,
+                    offset: self.offset + rest.len() as u64,
+                    line: self.line + line_feeds(rest.as_bytes()) as u64,
+                }
+            }
+            _ => ScanFault {
+                reason,
+                offset: self.offset,
+                line: self.line,
+            },
+        }
+    }
+
+    // How many of so many bytes can be taken.
+    fn room(&self, len: usize) -> usize
+        ensures { result ≡ min len (most_bytes - self.now.taken.offset) }
+    {
+        len.min((MOST_BYTES - self.taken) as usize)
+    }
+
+    // Where a growth is refused, nothing changes.
+    fn take_in(&mut self, piece: &[u8]) -> Result<(), AllocError>
+        requires { self.old.taken.offset + length piece.now ≤ most_bytes }
+        ensures ok { OnOk result (self.new ≡ grown self.old piece.now) }
+        ensures err { OnErr result (self.new ≡ self.old) }
+    {
+        if !self.broken {
+            drop_front(&mut self.text, self.start)?;
+            self.start = 0;
+            self.broken = add_piece(&mut self.text, &mut self.pending, piece)?;
+        }
+        self.taken += piece.len() as u64;
+        self.last_line += line_feeds(piece) as u64;
+        Ok(())
+    }
+
+    // Whether there is some text, or nothing more comes.
+    fn is_settled(&self) -> bool
+        ensures { result ≡ is_settled self.now }
+    {
+        if self.rest().is_empty() {
+            return self.broken || self.ended;
+        }
+        true
+    }
+
+    fn rest(&self) -> &str
+        ensures { chars result.now ≡ self.now.text }
+    {
+        &self.text.as_str()[self.start..]
+    }
+
+    // A leading U+FEFF is no part of the document.
+    fn drop_mark(&mut self)
+        requires { is_settled self.old ≡ true }
+        ensures moves { Moves self.old [] self.new }
+        ensures begun { self.new.begun ≡ true }
+    {
+        if !self.begun {
+            let len = mark_len(self.rest());
+            self.begun = true;
+            self.advance(len);
+        }
+    }
+
+    fn drop_blanks(&mut self)
+        requires { self.old.begun ≡ true }
+        ensures moves { Moves self.old [] self.new }
+        ensures stands { Stands self.new }
+    {
+        let blank = blank_run(self.dialect, self.comment, self.rest());
+        self.comment = blank.in_comment;
+        self.advance(blank.len);
+    }
+
+    // Moves on over the bytes of some characters.
+    fn advance(&mut self, len: usize)
+        requires { (n : ℕ) × (len ≡ bytes_of n self.old.text) }
+        ensures { (n : ℕ) → len ≡ bytes_of n self.old.text → self.new ≡ moved self.old (past self.old.place (take n self.old.text)) self.old.begun self.old.comment (drop n self.old.text) }
+    {
+        let end = self.start + len;
+        self.line += line_feeds(&self.text.as_bytes()[self.start..end]) as u64;
+        self.offset += len as u64;
+        self.start += len;
+    }
+
+    fn stop(&mut self, reason: Reason) -> ScanFault
+        ensures fault { result ≡ record { reason = reason; offset = self.old.taken.offset; line = self.old.taken.line } }
+        ensures stopped { self.new ≡ record self.old { stopped = true } }
+    {
+        self.stopped = true;
+        self.fault(reason)
+    }
+
+    fn fault(&self, reason: Reason) -> ScanFault
+        ensures { result ≡ record { reason = reason; offset = self.now.taken.offset; line = self.now.taken.line } }
+    {
+        ScanFault {
+            reason,
+            offset: self.taken,
+            line: self.last_line,
+        }
+    }
+}
+
+fn drop_front<A: Allocator + Copy>(text: &mut String<A>, start: usize) -> Result<(), AllocError>
+    requires { IsCharBoundary (string_bytes text.old) start }
+    ensures ok { OnOk result (string_bytes text.new ≡ drop start (string_bytes text.old)) }
+    ensures err { OnErr result (string_bytes text.new ≡ string_bytes text.old) }
+{
+    if start > 0 {
+        text.replace_range(..start, "")?;
+    }
+    Ok(())
+}
+
+// Puts the characters of the bytes behind the text, and says whether the bytes behind them can begin no
+// character. If they can, they are kept. Where a growth is refused, nothing changes.
+fn add_piece<A: Allocator + Copy>(
+    text: &mut String<A>,
+    pending: &mut Vec<u8, A>,
+    piece: &[u8],
+) -> Result<bool, AllocError>
+    ensures text { OnOk result (string_bytes text.new ≡ string_bytes text.old ++ good_bytes (pending.old.items ++ piece.now)) }
+    ensures broken { IfOk result (λ broken. broken ≡ is_broken (pending.old.items ++ piece.now)) }
+    ensures pending { IfOk result (λ broken. pending.new.items ≡ cond broken [] (rest_of_bytes (pending.old.items ++ piece.now))) }
+    ensures err { OnErr result ((string_bytes text.new ≡ string_bytes text.old) × (pending.new.items ≡ pending.old.items)) }
+{
+    let held = pending.len();
+    pending.extend_from_slice(piece)?;
+    let front = good_front(pending.as_slice());
+    if let Err(e) = text.push_str(front.text) {
+        pending.truncate(held);
+        return Err(e);
+    }
+    if front.broken {
+        pending.clear();
+        return Ok(true);
+    }
+    let len = front.text.len();
+    let rest = pending.len() - len;
+    pending.copy_within(len.., 0);
+    pending.truncate(rest);
+    Ok(false)
+}

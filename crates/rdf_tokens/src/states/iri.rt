@@ -1,0 +1,104 @@
+// The states of references in angle brackets (IRIREF).
+
+ghost use Rattle.std.specs.Prelude.{◌≡◌};
+ghost use Rattle.rdf_tokens.specs.Sorts.{sort_by};
+ghost use Rattle.rdf_tokens.specs.Iri.{step, ascii, high, move, accepts, goes_on};
+
+/// What the shape of a reference can tell of a character.
+#[derive(Clone, Copy)]
+pub(crate) enum Sort {
+    OpenAngle,
+    CloseAngle,
+    Backslash,
+    SmallU,
+    BigU,
+    HexDigit,
+    Plain,
+    Excluded,
+}
+
+/// How far a reference has come.
+#[derive(Clone, Copy)]
+pub(crate) enum Iri {
+    Start,
+    Inside,
+    /// Behind the backslash of an escape.
+    Escape,
+    /// So many hex digits come behind the next.
+    Hex(u8),
+    Whole,
+    /// No reference begins so.
+    Dead,
+}
+
+#[inline(always)]
+fn sort_of_ascii(byte: u8) -> Sort
+    ensures { result ≡ ascii byte }
+{
+    match byte {
+        b'<' => Sort::OpenAngle,
+        b'>' => Sort::CloseAngle,
+        b'\\' => Sort::Backslash,
+        b'u' => Sort::SmallU,
+        b'U' => Sort::BigU,
+        b'0'..=b'9' | b'A'..=b'F' | b'a'..=b'f' => Sort::HexDigit,
+        0..=32 | b'"' | b'{'..=b'}' | b'^' | b'`' => Sort::Excluded,
+        _ => Sort::Plain,
+    }
+}
+
+fn sort_of(c: char) -> Sort
+    ensures { result ≡ sort_by ascii high c }
+{
+    let code = c as u32;
+    if code < 128 {
+        sort_of_ascii(code as u8)
+    } else {
+        Sort::Plain
+    }
+}
+
+impl Iri {
+    /// The state behind one more character.
+    #[inline(always)]
+    pub(crate) fn step(self, c: char) -> Iri
+        ensures { result ≡ step self c }
+    {
+        self.after(sort_of(c))
+    }
+
+    /// The same by the character's sort.
+    #[inline(always)]
+    fn after(self, sort: Sort) -> Iri
+        ensures { result ≡ move self sort }
+    {
+        match (self, sort) {
+            (Iri::Start, Sort::OpenAngle) => Iri::Inside,
+            (Iri::Inside, Sort::CloseAngle) => Iri::Whole,
+            (Iri::Inside, Sort::Backslash) => Iri::Escape,
+            (Iri::Inside, Sort::OpenAngle | Sort::Excluded) => Iri::Dead,
+            (Iri::Inside, _) => Iri::Inside,
+            (Iri::Escape, Sort::SmallU) => Iri::Hex(3),
+            (Iri::Escape, Sort::BigU) => Iri::Hex(7),
+            (Iri::Hex(0), Sort::HexDigit) => Iri::Inside,
+            (Iri::Hex(n), Sort::HexDigit) => Iri::Hex(n - 1),
+            _ => Iri::Dead,
+        }
+    }
+
+    /// Whether what has come is whole.
+    #[inline(always)]
+    pub(crate) fn is_accepted(self) -> bool
+        ensures { result ≡ accepts self }
+    {
+        matches!(self, Iri::Whole)
+    }
+
+    /// Whether something longer begins so.
+    #[inline(always)]
+    pub(crate) fn is_live(self) -> bool
+        ensures { result ≡ goes_on self }
+    {
+        !matches!(self, Iri::Whole | Iri::Dead)
+    }
+}

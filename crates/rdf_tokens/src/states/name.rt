@@ -1,0 +1,283 @@
+// The states of prefixed names (PNAME_NS, PNAME_LN).
+
+ghost use Rattle.std.specs.Prelude.{◌≡◌, ◌<◌};
+ghost use Rattle.rdf_tokens.specs.Sorts.{sort_by};
+ghost use Rattle.rdf_tokens.specs.Name.{step, ascii, high, move, kind_at, goes_on};
+
+use crate::states::wide::{Wide, width};
+use rdf_terms::{Dialect, Kind};
+
+/// What the shapes of prefixed names can tell of a character.
+#[derive(Clone, Copy)]
+pub(crate) enum Sort {
+    Colon,
+    Dot,
+    Digit,
+    HexLetter,
+    Letter,
+    Underscore,
+    Hyphen,
+    Mark,
+    Percent,
+    Backslash,
+    Escapable,
+    Other,
+}
+
+/// How far a prefixed name has come.
+#[derive(Clone, Copy)]
+pub(crate) enum Name {
+    Start,
+    /// A prefix that may end here.
+    Prefix,
+    /// A prefix and dots.
+    PrefixDots,
+    /// A whole namespace.
+    Colon,
+    /// A whole name.
+    Local,
+    /// A name and dots.
+    LocalDots,
+    /// Behind a backslash.
+    Escape,
+    /// So many hex digits come behind the next.
+    Hex(u8),
+    /// No prefixed name begins so.
+    Dead,
+}
+
+/// The sorts of ASCII.
+static SORTS: [Sort; 128] = [
+    Sort::Other,
+    Sort::Other,
+    Sort::Other,
+    Sort::Other,
+    Sort::Other,
+    Sort::Other,
+    Sort::Other,
+    Sort::Other,
+    Sort::Other,
+    Sort::Other,
+    Sort::Other,
+    Sort::Other,
+    Sort::Other,
+    Sort::Other,
+    Sort::Other,
+    Sort::Other,
+    Sort::Other,
+    Sort::Other,
+    Sort::Other,
+    Sort::Other,
+    Sort::Other,
+    Sort::Other,
+    Sort::Other,
+    Sort::Other,
+    Sort::Other,
+    Sort::Other,
+    Sort::Other,
+    Sort::Other,
+    Sort::Other,
+    Sort::Other,
+    Sort::Other,
+    Sort::Other,
+    Sort::Other,
+    Sort::Escapable,
+    Sort::Other,
+    Sort::Escapable,
+    Sort::Escapable,
+    Sort::Percent,
+    Sort::Escapable,
+    Sort::Escapable,
+    Sort::Escapable,
+    Sort::Escapable,
+    Sort::Escapable,
+    Sort::Escapable,
+    Sort::Escapable,
+    Sort::Hyphen,
+    Sort::Dot,
+    Sort::Escapable,
+    Sort::Digit,
+    Sort::Digit,
+    Sort::Digit,
+    Sort::Digit,
+    Sort::Digit,
+    Sort::Digit,
+    Sort::Digit,
+    Sort::Digit,
+    Sort::Digit,
+    Sort::Digit,
+    Sort::Colon,
+    Sort::Escapable,
+    Sort::Other,
+    Sort::Escapable,
+    Sort::Other,
+    Sort::Escapable,
+    Sort::Escapable,
+    Sort::HexLetter,
+    Sort::HexLetter,
+    Sort::HexLetter,
+    Sort::HexLetter,
+    Sort::HexLetter,
+    Sort::HexLetter,
+    Sort::Letter,
+    Sort::Letter,
+    Sort::Letter,
+    Sort::Letter,
+    Sort::Letter,
+    Sort::Letter,
+    Sort::Letter,
+    Sort::Letter,
+    Sort::Letter,
+    Sort::Letter,
+    Sort::Letter,
+    Sort::Letter,
+    Sort::Letter,
+    Sort::Letter,
+    Sort::Letter,
+    Sort::Letter,
+    Sort::Letter,
+    Sort::Letter,
+    Sort::Letter,
+    Sort::Letter,
+    Sort::Other,
+    Sort::Backslash,
+    Sort::Other,
+    Sort::Other,
+    Sort::Underscore,
+    Sort::Other,
+    Sort::HexLetter,
+    Sort::HexLetter,
+    Sort::HexLetter,
+    Sort::HexLetter,
+    Sort::HexLetter,
+    Sort::HexLetter,
+    Sort::Letter,
+    Sort::Letter,
+    Sort::Letter,
+    Sort::Letter,
+    Sort::Letter,
+    Sort::Letter,
+    Sort::Letter,
+    Sort::Letter,
+    Sort::Letter,
+    Sort::Letter,
+    Sort::Letter,
+    Sort::Letter,
+    Sort::Letter,
+    Sort::Letter,
+    Sort::Letter,
+    Sort::Letter,
+    Sort::Letter,
+    Sort::Letter,
+    Sort::Letter,
+    Sort::Letter,
+    Sort::Other,
+    Sort::Other,
+    Sort::Other,
+    Sort::Escapable,
+    Sort::Other,
+];
+
+#[inline(always)]
+fn sort_of_ascii(byte: u8) -> Sort
+    requires { byte < 128 }
+    ensures { result ≡ ascii byte }
+{
+    SORTS[byte as usize]
+}
+
+#[inline(always)]
+fn sort_of_wide(wide: Wide) -> Sort
+    ensures { result ≡ high wide }
+{
+    match wide {
+        Wide::Letter => Sort::Letter,
+        Wide::Mark => Sort::Mark,
+        Wide::Other => Sort::Other,
+    }
+}
+
+fn sort_of(c: char) -> Sort
+    ensures { result ≡ sort_by ascii high c }
+{
+    let code = c as u32;
+    if code < 128 {
+        sort_of_ascii(code as u8)
+    } else {
+        sort_of_wide(width(c))
+    }
+}
+
+impl Name {
+    /// The state behind one more character.
+    #[inline(always)]
+    pub(crate) fn step(self, dialect: Dialect, c: char) -> Name
+        ensures { result ≡ step dialect self c }
+    {
+        self.after(dialect, sort_of(c))
+    }
+
+    /// The same by the character's sort.
+    #[inline(always)]
+    fn after(self, dialect: Dialect, sort: Sort) -> Name
+        ensures { result ≡ move dialect self sort }
+    {
+        match (self, sort) {
+            (Name::Start, _) => match (dialect, sort) {
+                (Dialect::Turtle, Sort::Letter | Sort::HexLetter) => Name::Prefix,
+                (Dialect::Turtle, Sort::Colon) => Name::Colon,
+                _ => Name::Dead,
+            },
+            (Name::Prefix, Sort::Colon) => Name::Colon,
+            (Name::Prefix | Name::PrefixDots, Sort::Dot) => Name::PrefixDots,
+            (
+                Name::Prefix | Name::PrefixDots,
+                Sort::Digit
+                | Sort::HexLetter
+                | Sort::Letter
+                | Sort::Underscore
+                | Sort::Hyphen
+                | Sort::Mark,
+            ) => Name::Prefix,
+            (
+                Name::Colon | Name::Local | Name::LocalDots,
+                Sort::Colon | Sort::Digit | Sort::HexLetter | Sort::Letter | Sort::Underscore,
+            ) => Name::Local,
+            (Name::Local | Name::LocalDots, Sort::Hyphen | Sort::Mark) => Name::Local,
+            (Name::Local | Name::LocalDots, Sort::Dot) => Name::LocalDots,
+            (Name::Colon | Name::Local | Name::LocalDots, Sort::Percent) => Name::Hex(1),
+            (Name::Colon | Name::Local | Name::LocalDots, Sort::Backslash) => Name::Escape,
+            (
+                Name::Escape,
+                Sort::Underscore | Sort::Hyphen | Sort::Dot | Sort::Percent | Sort::Escapable,
+            ) => Name::Local,
+            (Name::Hex(0), Sort::Digit | Sort::HexLetter) => Name::Local,
+            (Name::Hex(n), Sort::Digit | Sort::HexLetter) => Name::Hex(n - 1),
+            _ => Name::Dead,
+        }
+    }
+
+    /// The kind of what has come, where it is whole.
+    #[inline(always)]
+    pub(crate) fn kind(self) -> Option<Kind>
+        ensures { result ≡ kind_at self }
+    {
+        match self {
+            Name::Colon => Some(Kind::PnameNs),
+            Name::Local => Some(Kind::PnameLn),
+            _ => None,
+        }
+    }
+
+    /// Whether something longer begins so.
+    #[inline(always)]
+    pub(crate) fn is_live(self, dialect: Dialect) -> bool
+        ensures { result ≡ goes_on dialect self }
+    {
+        match self {
+            Name::Start => dialect == Dialect::Turtle,
+            Name::Dead => false,
+            _ => true,
+        }
+    }
+}

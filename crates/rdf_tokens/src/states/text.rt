@@ -1,0 +1,233 @@
+// The states of strings, short and long (the four STRING_LITERALs).
+
+ghost use Rattle.std.specs.Prelude.{◌≡◌};
+ghost use Rattle.rdf_tokens.specs.Sorts.{sort_by};
+ghost use Rattle.rdf_tokens.specs.Text.{step, ascii, high, closes, in_short, in_long, move, kind_at, goes_on};
+
+use rdf_terms::{Dialect, Kind};
+
+/// What the shapes of strings can tell of a character.
+#[derive(Clone, Copy)]
+pub(crate) enum Sort {
+    DoubleQuote,
+    SingleQuote,
+    Backslash,
+    LineBreak,
+    SmallU,
+    BigU,
+    /// A letter of an escape that is no hex digit.
+    Letter,
+    /// A letter of an escape that is a hex digit.
+    HexLetter,
+    HexDigit,
+    Plain,
+}
+
+/// The quote that a string stands in.
+#[derive(Clone, Copy)]
+pub(crate) enum Quote {
+    Double,
+    Single,
+}
+
+/// How far a string has come.
+#[derive(Clone, Copy)]
+pub(crate) enum Text {
+    Start,
+    /// The first quote.
+    Opened(Quote),
+    /// Two quotes.
+    Empty(Quote),
+    Short(Quote),
+    ShortEscape(Quote),
+    /// So many hex digits come behind the next.
+    ShortHex(Quote, u8),
+    ShortWhole,
+    Long(Quote),
+    LongOneQuote(Quote),
+    LongTwoQuotes(Quote),
+    LongEscape(Quote),
+    LongHex(Quote, u8),
+    LongWhole,
+    /// No string begins so.
+    Dead,
+}
+
+#[inline(always)]
+fn sort_of_ascii(byte: u8) -> Sort
+    ensures { result ≡ ascii byte }
+{
+    match byte {
+        b'"' => Sort::DoubleQuote,
+        b'\'' => Sort::SingleQuote,
+        b'\\' => Sort::Backslash,
+        b'\n' | b'\r' => Sort::LineBreak,
+        b'u' => Sort::SmallU,
+        b'U' => Sort::BigU,
+        b't' | b'n' | b'r' => Sort::Letter,
+        b'b' | b'f' => Sort::HexLetter,
+        b'0'..=b'9' | b'A'..=b'F' | b'a'..=b'f' => Sort::HexDigit,
+        _ => Sort::Plain,
+    }
+}
+
+#[inline(always)]
+fn is_closed_by(quote: Quote, sort: Sort) -> bool
+    ensures { result ≡ closes quote sort }
+{
+    matches!(
+        (quote, sort),
+        (Quote::Double, Sort::DoubleQuote) | (Quote::Single, Sort::SingleQuote)
+    )
+}
+
+#[inline(always)]
+fn in_short_string(quote: Quote, sort: Sort) -> Text
+    ensures { result ≡ in_short quote sort }
+{
+    match sort {
+        Sort::Backslash => Text::ShortEscape(quote),
+        Sort::LineBreak => Text::Dead,
+        _ => Text::Short(quote),
+    }
+}
+
+#[inline(always)]
+fn in_long_string(quote: Quote, sort: Sort) -> Text
+    ensures { result ≡ in_long quote sort }
+{
+    match sort {
+        Sort::Backslash => Text::LongEscape(quote),
+        _ => Text::Long(quote),
+    }
+}
+
+fn sort_of(c: char) -> Sort
+    ensures { result ≡ sort_by ascii high c }
+{
+    let code = c as u32;
+    if code < 128 {
+        sort_of_ascii(code as u8)
+    } else {
+        Sort::Plain
+    }
+}
+
+impl Text {
+    /// The state behind one more character.
+    #[inline(always)]
+    pub(crate) fn step(self, dialect: Dialect, c: char) -> Text
+        ensures { result ≡ step dialect self c }
+    {
+        self.after(dialect, sort_of(c))
+    }
+
+    /// The same by the character's sort.
+    #[inline(always)]
+    fn after(self, dialect: Dialect, sort: Sort) -> Text
+        ensures { result ≡ move dialect self sort }
+    {
+        match (self, sort) {
+            (Text::Start, Sort::DoubleQuote) => Text::Opened(Quote::Double),
+            (Text::Start, Sort::SingleQuote) => match dialect {
+                Dialect::Lines => Text::Dead,
+                Dialect::Turtle => Text::Opened(Quote::Single),
+            },
+            (Text::Opened(quote), _) => {
+                if is_closed_by(quote, sort) {
+                    Text::Empty(quote)
+                } else {
+                    in_short_string(quote, sort)
+                }
+            }
+            (Text::Empty(quote), _) => {
+                if is_closed_by(quote, sort) && dialect == Dialect::Turtle {
+                    Text::Long(quote)
+                } else {
+                    Text::Dead
+                }
+            }
+            (Text::Short(quote), _) => {
+                if is_closed_by(quote, sort) {
+                    Text::ShortWhole
+                } else {
+                    in_short_string(quote, sort)
+                }
+            }
+            (Text::ShortEscape(quote), Sort::SmallU) => Text::ShortHex(quote, 3),
+            (Text::ShortEscape(quote), Sort::BigU) => Text::ShortHex(quote, 7),
+            (
+                Text::ShortEscape(quote),
+                Sort::DoubleQuote
+                | Sort::SingleQuote
+                | Sort::Backslash
+                | Sort::Letter
+                | Sort::HexLetter,
+            ) => Text::Short(quote),
+            (Text::ShortHex(quote, 0), Sort::HexLetter | Sort::HexDigit) => Text::Short(quote),
+            (Text::ShortHex(quote, n), Sort::HexLetter | Sort::HexDigit) => {
+                Text::ShortHex(quote, n - 1)
+            }
+            (Text::Long(quote), _) => {
+                if is_closed_by(quote, sort) {
+                    Text::LongOneQuote(quote)
+                } else {
+                    in_long_string(quote, sort)
+                }
+            }
+            (Text::LongOneQuote(quote), _) => {
+                if is_closed_by(quote, sort) {
+                    Text::LongTwoQuotes(quote)
+                } else {
+                    in_long_string(quote, sort)
+                }
+            }
+            (Text::LongTwoQuotes(quote), _) => {
+                if is_closed_by(quote, sort) {
+                    Text::LongWhole
+                } else {
+                    in_long_string(quote, sort)
+                }
+            }
+            (Text::LongEscape(quote), Sort::SmallU) => Text::LongHex(quote, 3),
+            (Text::LongEscape(quote), Sort::BigU) => Text::LongHex(quote, 7),
+            (
+                Text::LongEscape(quote),
+                Sort::DoubleQuote
+                | Sort::SingleQuote
+                | Sort::Backslash
+                | Sort::Letter
+                | Sort::HexLetter,
+            ) => Text::Long(quote),
+            (Text::LongHex(quote, 0), Sort::HexLetter | Sort::HexDigit) => Text::Long(quote),
+            (Text::LongHex(quote, n), Sort::HexLetter | Sort::HexDigit) => {
+                Text::LongHex(quote, n - 1)
+            }
+            _ => Text::Dead,
+        }
+    }
+
+    /// The kind of what has come, where it is whole.
+    #[inline(always)]
+    pub(crate) fn kind(self) -> Option<Kind>
+        ensures { result ≡ kind_at self }
+    {
+        match self {
+            Text::Empty(_) | Text::ShortWhole => Some(Kind::ShortString),
+            Text::LongWhole => Some(Kind::LongString),
+            _ => None,
+        }
+    }
+
+    /// Whether something longer begins so.
+    #[inline(always)]
+    pub(crate) fn is_live(self, dialect: Dialect) -> bool
+        ensures { result ≡ goes_on dialect self }
+    {
+        match self {
+            Text::Empty(_) => dialect == Dialect::Turtle,
+            Text::ShortWhole | Text::LongWhole | Text::Dead => false,
+            _ => true,
+        }
+    }
+}
