@@ -2,3 +2,10 @@ pub mod Lines
 pub mod Machine
 pub mod Writing
 pub mod Laws
+pub mod Documents
+pub mod WrittenBytes
+pub mod States
+pub mod Spelled
+pub mod LineRead
+pub mod Readers
+pub mod Reading

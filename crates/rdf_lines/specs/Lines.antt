@@ -1,16 +1,20 @@
 -- The line formats (N-Triples 7, N-Quads 4): a type for each production. A leaf is a token of the kind that the production names.
-use Rattle.std.specs.Prelude.{◌≡◌, ℕ, Bool, true, List, [], ◌∷◌, ◌++◌, drop, Option, Some, None, option_map, unwrap_or}
+use Rattle.std.specs.Prelude.{◌≡◌, ℕ, ◌+◌, Bool, true, List, [], ◌∷◌, ◌++◌, length, drop, Option, Some, None, option_map, unwrap_or}
 use Rattle.rdf_terms.specs.declared.kind.Kind.{Kind}
 use Rattle.rdf_terms.specs.declared.kind.Kind.TheVariants.{IriRef, LabelNode, ShortString, LangTag, Carets, Dot, LineEnd, End}
 use Rattle.rdf_terms.specs.Values.{iri_value, string_value, inside}
 use Rattle.rdf_tokens.specs.Tokens.{Token, Place}
-use Rattle.rdf_terms.specs.Terms.{Label, Lang, Typed, Subject, Iri, Blank, Term, Resource, Literal, Quad, xsd_string}
+use Rattle.rdf_tokens.specs.Grammars.{Marked}
+use Rattle.rdf_terms.specs.Terms.{Label, Lang, Typed, Subject, Iri, Blank, Term, Resource, Literal, Quad, xsd_string, has_scheme}
 use Rattle.rdf_lines.specs.declared.form.LineForm.{LineForm}
 use Rattle.rdf_lines.specs.declared.form.LineForm.TheVariants.{NTriples, NQuads}
 
 pub record Leaf : Type 0 where
   pub text : List ℕ
   pub at : Place
+
+abbrev pub leaf_of : Token → Leaf
+leaf_of t = record { text = t.text; at = t.at }
 
 -- subject, graphLabel ::= IriRef | LabelNode
 pub data Name : Type 0 where
@@ -60,8 +64,12 @@ abbrev pub graph_tokens : Option Name → List Token
 graph_tokens None = []
 graph_tokens (Some n) = name_tokens n
 
+-- the head of a statement's quad ends at the last token of its object, or at its graph label where there is one
+abbrev pub head_tokens : Statement → List Token
+head_tokens s = name_tokens s.subject ++ (token IriRef s.predicate ∷ []) ++ object_tokens s.object ++ graph_tokens s.graph
+
 abbrev pub statement_tokens : Statement → List Token
-statement_tokens s = name_tokens s.subject ++ (token IriRef s.predicate ∷ []) ++ object_tokens s.object ++ graph_tokens s.graph ++ (token Dot s.dot ∷ [])
+statement_tokens s = head_tokens s ++ (token Dot s.dot ∷ [])
 
 abbrev pub line_tokens : Line → List Token
 line_tokens empty = []
@@ -98,6 +106,15 @@ line_quads (one s) = quad_of s ∷ []
 abbrev pub quads : Document → List Quad
 quads (last l e) = line_quads l
 quads (next l e d) = line_quads l ++ quads d
+
+-- the quads with their marks, where n tokens stand before the tree
+abbrev pub marked_line : ℕ → Line → List Marked
+marked_line n empty = []
+marked_line n (one s) = record { quad = quad_of s; mark = n + length (head_tokens s) } ∷ []
+
+abbrev pub marked : ℕ → Document → List Marked
+marked n (last l e) = marked_line n l
+marked n (next l e d) = marked_line n l ++ marked (n + length (line_tokens l) + 1) d
 
 -- each IRI passes a test: that it has a scheme, in documents; or any, in what is shaped so
 abbrev pub name_bound : (List ℕ → Bool) → Name → Type 0
@@ -137,3 +154,18 @@ GoodDocument test form (next l e d) = GoodLine test form l × GoodDocument test 
 -- the tokens are a document of the form, with these quads
 abbrev pub IsDocument : (List ℕ → Bool) → LineForm → List Token → List Quad → Type 0
 IsDocument test form ts qs = (d : Document) × (ts ≡ document_tokens d) × GoodDocument test form d × (quads d ≡ qs)
+
+-- the same with the quads' marks
+abbrev pub IsMarked : (List ℕ → Bool) → LineForm → List Token → List Marked → Type 0
+IsMarked test form ts qs = (d : Document) × (ts ≡ document_tokens d) × GoodDocument test form d × (marked 0 d ≡ qs)
+
+-- every IRI passes
+abbrev pub any_iri : List ℕ → Bool
+any_iri i = true
+
+-- the documents of a form, and its trees whether their IRIs have a scheme or not
+abbrev pub documents : LineForm → List Token → List Marked → Type 0
+documents form ts qs = IsMarked has_scheme form ts qs
+
+abbrev pub trees : LineForm → List Token → List Marked → Type 0
+trees form ts qs = IsMarked any_iri form ts qs

@@ -2,11 +2,13 @@
 use Rattle.std.specs.Prelude.{ℕ, Bool, cond, List, [], ◌∷◌, drop, Option, Some, None}
 use Rattle.rdf_terms.specs.declared.kind.Kind.{Kind}
 use Rattle.rdf_terms.specs.declared.kind.Kind.TheVariants.{IriRef, LabelNode, ShortString, LangTag, Carets, Dot, LineEnd, End}
+use Rattle.rdf_terms.specs.declared.reason.Reason.{Reason}
+use Rattle.rdf_terms.specs.declared.reason.Reason.TheVariants.{Unexpected, RelativeIri}
 use Rattle.rdf_tokens.specs.Tokens.{Token}
 use Rattle.rdf_terms.specs.Terms.{Label, Lang, Typed, Subject, Iri, Blank, Term, Resource, Literal, Quad, xsd_string}
 use Rattle.rdf_lines.specs.declared.form.LineForm.{LineForm}
-use Rattle.rdf_lines.specs.declared.form.LineForm.TheVariants.{NTriples, NQuads}
-use Rattle.rdf_lines.specs.Lines.{Leaf, iri_of, string_of}
+use Rattle.rdf_lines.specs.declared.form.LineForm.TheVariants.{NQuads}
+use Rattle.rdf_lines.specs.Lines.{Leaf, leaf_of, iri_of, string_of}
 
 -- what has been read of the line
 pub data Mode : Type 0 where
@@ -19,10 +21,6 @@ pub data Mode : Type 0 where
   AfterGraph : Subject → List ℕ → Term → Subject → Mode
   AfterDot : Mode
   Finished : Mode
-
-pub data Reason : Type 0 where
-  Unexpected : Reason
-  RelativeIri : Reason
 
 -- what a token does: it is accepted, and may give out a quad, or it is refused
 pub data Answer : Type 0 where
@@ -81,4 +79,4 @@ go_on (refuses r) more = refused r
 
 abbrev pub run : (List ℕ → Bool) → LineForm → Mode → List Token → Run
 run test f m [] = ran m []
-run test f m (t ∷ ts) = go_on (accept test f m t.kind (record { text = t.text; at = t.at })) (λ n. run test f n ts)
+run test f m (t ∷ ts) = go_on (accept test f m t.kind (leaf_of t)) (λ n. run test f n ts)

@@ -1,5 +1,5 @@
 -- The text that is written for a quad, and how labels are renamed in it.
-use Rattle.std.specs.Prelude.{ℕ, Bool, true, false, cond, List, [], ◌∷◌, ◌++◌, ◌==◌, flat_map, decimal, bytes_eq, Option, Some, None, option_map}
+use Rattle.std.specs.Prelude.{ℕ, Bool, true, false, cond, List, [], ◌∷◌, ◌++◌, ◌==◌, ◌||◌, flat_map, decimal, bytes_eq, Option, Some, None, option_map}
 use Rattle.rdf_terms.specs.Terms.{Node, Label, Anon, Cell, Tail, Lang, Typed, Subject, Iri, Blank, Term, Resource, Literal, Quad, xsd_string, IsQuad}
 use Rattle.std.specs.List.{AllByRecursion}
 use Rattle.rdf_lines.specs.declared.form.Style.{Style}
@@ -48,6 +48,9 @@ pub record CanWrite (s : Style) (q : Quad) : Type 0 where
   pub graph : CanWriteGraph s q.graph
 
 -- in a string " \ LF CR are escaped
+abbrev pub is_escaped : ℕ → Bool
+is_escaped c = c == 34 || c == 92 || c == 10 || c == 13
+
 abbrev pub escaped : ℕ → List ℕ
 escaped c = cond (c == 34) (92 ∷ 34 ∷ []) (cond (c == 92) (92 ∷ 92 ∷ []) (cond (c == 10) (92 ∷ 110 ∷ []) (cond (c == 13) (92 ∷ 114 ∷ []) (c ∷ []))))
 

@@ -1,6 +1,19 @@
 //! The line formats N-Triples and N-Quads: a reader, and the writer of N-Quads lines.
 #![tactic(auto)]
 
+mod accept;
+mod fault;
 mod form;
+pub mod laws;
+mod line;
+mod reader;
+mod spelled;
+mod state;
+mod string;
+mod term;
+mod writable;
+mod writer;
 
+pub use fault::{Fault, Summary};
 pub use form::{LineForm, Style};
+pub use writer::{LabelFault, label_text, write_line};

@@ -1,0 +1,22 @@
+pub mod NextToken
+pub mod WritingLemmas
+pub mod SpelledLine
+pub mod Renamed
+pub mod WrittenText
+pub mod ReadBack
+mod Complete
+mod Sound
+mod LinesLemmas
+mod Runs
+mod Viable
+mod Refusals
+mod Lag
+mod Due
+mod DocumentsLemmas
+pub mod EncodedLine
+pub mod PlainRuns
+pub mod WrittenBytesLemmas
+pub mod LawExamples
+mod SpelledLemmas
+mod StatesLemmas
+mod ReadingLemmas

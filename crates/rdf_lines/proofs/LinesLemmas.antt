@@ -1,0 +1,26 @@
+-- The marked quads of a tree, without their marks, are its quads; so every tree that is marked is a document, and the other way round.
+use Rattle.std.proofs.Common.{◌≡◌, ℕ, ◌+◌, Bool, List, ◌∷◌, refl, sym, ap, ◌∙◌, length}
+use Rattle.rdf_tokens.specs.Tokens.{Token}
+use Rattle.rdf_tokens.specs.Grammars.{Marked, unmarked}
+use Rattle.rdf_terms.specs.Terms.{Quad}
+use Rattle.rdf_lines.specs.declared.form.LineForm.{LineForm}
+use Rattle.rdf_lines.specs.Lines.{Line, Document, last, next, line_tokens, line_quads, quads, marked_line, marked, quad_of, IsDocument, IsMarked}
+use Rattle.rdf_lines.specs.Lines as L
+
+unmarked_line : (n : ℕ) (l : Line) → unmarked (marked_line n l) ≡ line_quads l
+unmarked_line n L.empty = refl
+unmarked_line n (L.one s) = refl
+
+pub unmarked_quads : (n : ℕ) (d : Document) → unmarked (marked n d) ≡ quads d
+unmarked_quads n (last l e) = unmarked_line n l
+unmarked_quads n (next L.empty e d) = unmarked_quads (n + length (line_tokens L.empty) + 1) d
+unmarked_quads n (next (L.one s) e d) = ap (λ x. quad_of s ∷ x) (unmarked_quads (n + length (line_tokens (L.one s)) + 1) d)
+
+pub marked_document : (test : List ℕ → Bool) (f : LineForm) (ts : List Token) (qs : List Marked) → IsMarked test f ts qs → IsDocument test f ts (unmarked qs)
+marked_document test f ts qs d = (d.0, d.1, d.2, sym_ap d.3)
+  where
+    sym_ap : marked 0 d.0 ≡ qs → quads d.0 ≡ unmarked qs
+    sym_ap e = sym (unmarked_quads 0 d.0) ∙ ap unmarked e
+
+pub document_marked : (test : List ℕ → Bool) (f : LineForm) (ts : List Token) (qs : List Quad) → IsDocument test f ts qs → (ms : List Marked) × IsMarked test f ts ms × (unmarked ms ≡ qs)
+document_marked test f ts qs d = (marked 0 d.0, (d.0, d.1, d.2, refl), unmarked_quads 0 d.0 ∙ d.3)

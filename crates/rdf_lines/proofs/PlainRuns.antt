@@ -1,0 +1,48 @@
+-- A run without escaped characters is written as it stands.
+use Rattle.std.proofs.Common.{◌≡◌, ℕ, zero, suc, ◌+◌, ◌-◌, ◌<◌, Bool, true, false, not, List, [], ◌∷◌, ◌++◌, refl, sym, ap, ◌∙◌, Some, None, length, take, drop, get_or, add-one, length-drop, arith}
+use Rattle.std.specs.Prelude.{flat_map}
+use Rattle.std.specs.List.{position}
+use Rattle.std.proofs.lemmas.Bool.{false≢true}
+use Rattle.std.proofs.lemmas.Bool.Decides.{nat_tests}
+use Rattle.std.proofs.Math.Seq.{take-length, take-suc, take-add}
+use Rattle.std.proofs.lemmas.List.{append-nil, take_all}
+use Rattle.std.proofs.lemmas.List.Concat.{flat_map-append}
+use Rattle.std.proofs.lemmas.List.Quantifiers.{position-Some}
+use Rattle.std.proofs.lemmas.List.Sums.{prefix_len_passes}
+use Rattle.rdf_lines.specs.Writing.{escaped, is_escaped}
+
+plain : (c : ℕ) → is_escaped c ≡ false → escaped c ≡ c ∷ []
+plain c e = grind (arith, nat_tests)
+
+plain_front : (w : List ℕ) (n : ℕ) → ((k : ℕ) → k < n → is_escaped (get_or w k 0) ≡ false) → flat_map escaped (take n w) ≡ take n w
+plain_front w zero h = refl
+plain_front [] (suc n) h = refl
+plain_front (c ∷ w) (suc n) h =
+    ap (λ x. x ++ flat_map escaped (take n w)) (plain c (h 0 (omega arith)))
+    ∙ ap (λ x. c ∷ x) (plain_front w n (λ k l. h (suc k) (omega arith)))
+
+not_escaped : (b : Bool) → not b ≡ true → b ≡ false
+not_escaped true e = absurd (false≢true e)
+not_escaped false e = refl
+
+none_escaped : (w : List ℕ) → position is_escaped w ≡ None → (k : ℕ) → k < length w → is_escaped (get_or w k 0) ≡ false
+none_escaped w e k l = not_escaped _ (prefix_len_passes (λ c. not (is_escaped c)) w k 0 (grind (arith, nat_tests)))
+
+pub plain_text : (w : List ℕ) → position is_escaped w ≡ None → flat_map escaped (take (length w) w) ≡ w
+plain_text w e = plain_front w (length w) (none_escaped w e) ∙ take-length w
+
+-- a run and the escaped character behind it
+pub run_written : (w : List ℕ) (n : ℕ) → position is_escaped w ≡ Some n → flat_map escaped (take (n + 1) w) ≡ take n w ++ escaped (get_or w n 0)
+run_written w n e =
+    let p = position-Some is_escaped w n 0 e in
+    ap (flat_map escaped) (ap (λ x. take x w) (add-one n) ∙ take-suc w n 0 p.0)
+    ∙ (flat_map-append escaped (take n w) (get_or w n 0 ∷ [])
+    ∙ (ap (λ x. x ++ flat_map escaped (get_or w n 0 ∷ [])) (plain_front w n p.2) ∙ ap (λ x. take n w ++ x) (append-nil (escaped (get_or w n 0)))))
+
+-- what is done of a text, and a front of what is left
+pub escaped_more : (w : List ℕ) (m n : ℕ) →
+    flat_map escaped (take (m + n) w) ≡ flat_map escaped (take m w) ++ flat_map escaped (take n (take (length w - m) (drop m w)))
+escaped_more w m n =
+    let left : take (length w - m) (drop m w) ≡ drop m w = take_all (length w - m) (drop m w) (omega (arith, length-drop m w)) in
+    ap (flat_map escaped) (take-add m n w)
+    ∙ (flat_map-append escaped (take m w) (take n (drop m w)) ∙ ap (λ x. flat_map escaped (take m w) ++ flat_map escaped (take n x)) (sym left))

@@ -1,0 +1,133 @@
+-- Renamed nodes have labels.
+use Rattle.std.proofs.Common.{◌≡◌, ℕ, ◌+◌, ◌<◌, ◌^◌, ◌%◌, Bool, true, false, List, [], ◌∷◌, ◌++◌, inl, inr, refl, sym, ap, ◌∙◌, subst, ⊎_elim, append_assoc, arith}
+use Rattle.std.specs.Prelude.{decimal, Option, Some, None, option_map, ◌&&◌, ◌||◌, ◌==◌}
+use Rattle.std.specs.List.{concat, AllByRecursion}
+use Rattle.std.proofs.lemmas.Bool.{false≢true}
+use Rattle.std.proofs.lemmas.Bool.Decides.{nat_tests}
+use Rattle.std.proofs.lemmas.List.{append-nil}
+use Rattle.std.proofs.lemmas.Fmt.{decimal_by_steps, decimal_injective}
+use Rattle.rdf_terms.specs.Classes.{has, scalar, is_u, is_digit}
+use Rattle.rdf_terms.specs.declared.kind.Dialect.TheVariants.{Lines}
+use Rattle.rdf_terms.specs.Classes.Class.{digit, pn_u, pn_char}
+use Rattle.rdf_terms.specs.Regex.{Regex, Matches, ◌·◌, ◌∣◌}
+use Rattle.rdf_terms.specs.Regex.Regex.{one, many}
+use Rattle.rdf_terms.specs.Shapes.{dot, optional}
+use Rattle.rdf_terms.specs.Terms.{Node, Label, Anon, Cell, Subject, Iri, Blank, Term, Resource, Literal, Quad, IsLabel, IsNode, IsSubject, IsTerm, IsGraph, IsQuad}
+use Rattle.rdf_lines.specs.declared.form.Style.{Style}
+use Rattle.rdf_lines.specs.declared.form.Style.TheVariants.{Kept, Tagged}
+use Rattle.rdf_lines.specs.Writing.{rename_node, rename_subject, rename_term, rename, CanWriteNode, CanWriteSubject, CanWriteTerm, CanWriteGraph, CanWrite}
+
+abbrev middle : Regex
+middle = one (pn_char Lines) ∣ dot
+
+abbrev rest : Regex
+rest = optional (many middle · one (pn_char Lines))
+
+first_char : (c : ℕ) → has (pn_u Lines) c ≡ true → has (pn_char Lines) c ≡ true
+unfolding has
+first_char c h = wide (scalar c) (is_u Lines c) _ _ _ _ _ h
+  where
+    wide : (s u a b d e f : Bool) → (s && u) ≡ true → (s && (u || a || b || d || e || f)) ≡ true
+    wide true true a b d e f h = refl
+    wide true false a b d e f h = absurd (false≢true h)
+    wide false u a b d e f h = absurd (false≢true h)
+
+digit_char : (c : ℕ) → has digit c ≡ true → has (pn_char Lines) c ≡ true
+unfolding has
+digit_char c h = wide (scalar c) (is_u Lines c) (c == 45) (is_digit c) _ _ _ h
+  where
+    wide : (s u a b d e f : Bool) → (s && b) ≡ true → (s && (u || a || b || d || e || f)) ≡ true
+    wide true true a true d e f h = refl
+    wide true false true true d e f h = refl
+    wide true false false true d e f h = refl
+    wide true u a false d e f h = absurd (false≢true h)
+    wide false u a b d e f h = absurd (false≢true h)
+
+many_before : (r : Regex) (u w : List ℕ) → Matches r u → Matches (many r) w → Matches (many r) (u ++ w)
+many_before r u w m n = (u ∷ n.0, (m, n.1), ap (λ x. u ++ x) n.2)
+
+many_behind : (r : Regex) (w u : List ℕ) → Matches (many r) w → Matches r u → Matches (many r) (w ++ u)
+many_behind r w u n m = subst (λ x. Matches (many r) (x ++ u)) (sym n.2) (at n.0 n.1)
+  where
+    at : (ps : List (List ℕ)) → AllByRecursion (Matches r) ps → Matches (many r) (concat ps ++ u)
+    at [] a = (u ∷ [], (m, tt), sym (append-nil u))
+    at (p ∷ ps) a = subst (Matches (many r)) (sym (append_assoc p (concat ps) u)) (many_before r p (concat ps ++ u) a.0 (at ps a.1))
+
+rest_before : (u w : List ℕ) → Matches (one (pn_char Lines)) u → Matches rest w → Matches (many middle · one (pn_char Lines)) (u ++ w)
+rest_before u w m n =
+    ⊎_elim
+    (λ e. subst (λ x. Matches (many middle · one (pn_char Lines)) (u ++ x)) (sym e) ([], u, ([], tt, refl), m, append-nil u))
+    (λ t. (u ++ t.0, t.1, many_before middle u t.0 (inl m) t.2, t.3, ap (λ x. u ++ x) t.4 ∙ sym (append_assoc u t.0 t.1)))
+    n
+
+label_front : (c : ℕ) (x : List ℕ) → has (pn_u Lines) c ≡ true → IsLabel x → IsLabel (c ∷ x)
+label_front c x h m =
+    let first : Matches (one (pn_char Lines)) m.0 = ⊎_elim (λ a. (a.0, first_char a.0 a.1, a.2)) (λ a. (a.0, digit_char a.0 a.1, a.2)) m.2 in
+    (c ∷ [], x, inl (c, h, refl), inr (subst (Matches (many middle · one (pn_char Lines))) (sym m.4) (rest_before m.0 m.1 first m.3)), refl)
+
+label_more : (x : List ℕ) (c : ℕ) → has (pn_char Lines) c ≡ true → IsLabel x → IsLabel (x ++ c ∷ [])
+label_more x c h m =
+    let end : Matches rest (m.1 ++ c ∷ []) = ⊎_elim
+    (λ e. subst (λ y. Matches rest (y ++ c ∷ [])) (sym e) (inr ([], c ∷ [], ([], tt, refl), (c, h, refl), refl)))
+    (λ t. inr (m.1, c ∷ [], subst (Matches (many middle)) (sym t.4) (many_behind middle t.0 t.1 t.2 (inl t.3)), (c, h, refl), refl))
+    m.3 in
+    (m.0, m.1 ++ c ∷ [], m.2, end, ap (λ y. y ++ c ∷ []) m.4 ∙ append_assoc m.0 m.1 (c ∷ []))
+
+written_digit : (d : ℕ) → d < 10 → has digit (48 + d) ≡ true
+unfolding has
+written_digit d l = grind (arith, nat_tests)
+
+digit_at : (d : ℕ) → d < 10 → has (pn_char Lines) (48 + d) ≡ true
+digit_at d l = digit_char (48 + d) (written_digit d l)
+
+letter_label : (c : ℕ) → has (pn_u Lines) c ≡ true → IsLabel (c ∷ [])
+letter_label c h = (c ∷ [], [], inl (c, h, refl), inl refl, refl)
+
+label_number : (c : ℕ) → has (pn_u Lines) c ≡ true → (n : ℕ) → n < 2 ^ 64 → IsLabel (c ∷ decimal n)
+label_number c h =
+    decimal_by_steps (λ n ds. IsLabel (c ∷ ds))
+    (λ n l. label_more (c ∷ []) (48 + n) (digit_at n l) (letter_label c h))
+    (λ n ds l m. label_more (c ∷ ds) (48 + n % 10) (digit_at (n % 10) (omega arith)) m)
+
+renamed_node : (s : Style) (n : Node) → IsNode n → CanWriteNode s n → IsNode (rename_node s n) × CanWriteNode Kept (rename_node s n)
+unfolding has
+renamed_node Kept n h c = (h, c)
+renamed_node Tagged (Label x) h c = (label_front 110 x refl h, tt)
+renamed_node Tagged (Anon n) h c = (label_number 97 refl n h, tt)
+renamed_node Tagged (Cell n) h c = (label_number 99 refl n h, tt)
+
+renamed_subject : (s : Style) (t : Subject) → IsSubject t → CanWriteSubject s t → IsSubject (rename_subject s t) × CanWriteSubject Kept (rename_subject s t)
+renamed_subject s (Iri i) h c = (h, tt)
+renamed_subject s (Blank n) h c = renamed_node s n h c
+
+renamed_term : (s : Style) (t : Term) → IsTerm t → CanWriteTerm s t → IsTerm (rename_term s t) × CanWriteTerm Kept (rename_term s t)
+renamed_term s (Resource t) h c = renamed_subject s t h c
+renamed_term s (Literal w t) h c = (h, tt)
+
+renamed_graph : (s : Style) (g : Option Subject) → IsGraph g → CanWriteGraph s g →
+    IsGraph (option_map (rename_subject s) g) × CanWriteGraph Kept (option_map (rename_subject s) g)
+renamed_graph s None h c = (tt, tt)
+renamed_graph s (Some g) h c = renamed_subject s g h c
+
+pub renamed : (s : Style) (q : Quad) → IsQuad q → CanWrite s q → IsQuad (rename s q) × CanWrite Kept (rename s q)
+renamed s q h c =
+    let a = renamed_subject s q.subject h.subject c.subject in
+    let b = renamed_term s q.object h.object c.object in
+    let d = renamed_graph s q.graph h.graph c.graph in
+    (record { subject = a.0; predicate = h.predicate; object = b.0; graph = d.0 }, record { subject = a.1; object = b.1; graph = d.1 })
+
+same_head : {c d : ℕ} {u v : List ℕ} → Label (c ∷ u) ≡ Label (d ∷ v) → c ≡ d
+same_head e = cc
+
+-- Two nodes never get one name.
+pub rename_injective : (s : Style) (m n : Node) → IsNode m → IsNode n → rename_node s m ≡ rename_node s n → m ≡ n
+rename_injective Kept m n g h e = e
+rename_injective Tagged (Label x) (Label y) g h e = let z : x ≡ y = cc in ap Label z
+rename_injective Tagged (Anon x) (Anon y) g h e = let z : decimal x ≡ decimal y = cc in ap Anon (decimal_injective x y g h z)
+rename_injective Tagged (Cell x) (Cell y) g h e = let z : decimal x ≡ decimal y = cc in ap Cell (decimal_injective x y g h z)
+rename_injective Tagged (Label x) (Anon y) g h e = absurd (let z : 110 ≡ 97 = same_head e in omega arith)
+rename_injective Tagged (Label x) (Cell y) g h e = absurd (let z : 110 ≡ 99 = same_head e in omega arith)
+rename_injective Tagged (Anon x) (Label y) g h e = absurd (let z : 97 ≡ 110 = same_head e in omega arith)
+rename_injective Tagged (Anon x) (Cell y) g h e = absurd (let z : 97 ≡ 99 = same_head e in omega arith)
+rename_injective Tagged (Cell x) (Label y) g h e = absurd (let z : 99 ≡ 110 = same_head e in omega arith)
+rename_injective Tagged (Cell x) (Anon y) g h e = absurd (let z : 99 ≡ 97 = same_head e in omega arith)

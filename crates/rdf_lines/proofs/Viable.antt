@@ -1,0 +1,74 @@
+-- The machine accepts some tokens one by one exactly if some document begins with them: each mode has a completion.
+use Rattle.std.proofs.Common.{◌≡◌, ℕ, Bool, true, List, [], ◌∷◌, ◌++◌, refl, sym, ap, ◌∙◌, Some, None}
+use Rattle.std.specs.Prelude.{codes}
+use Rattle.rdf_terms.specs.Classes.{has}
+use Rattle.rdf_terms.specs.declared.kind.Kind.TheVariants.{IriRef, Dot, End}
+use Rattle.rdf_terms.specs.declared.reason.Reason.{Reason}
+use Rattle.rdf_tokens.specs.Tokens.{Token}
+use Rattle.rdf_tokens.specs.Good.{first_place}
+use Rattle.rdf_tokens.specs.Grammars.{Viable}
+use Rattle.rdf_terms.specs.Terms.{Iri, Resource, Literal, Typed, Quad, xsd_string}
+use Rattle.rdf_lines.specs.declared.form.LineForm.{LineForm}
+use Rattle.rdf_lines.specs.Lines.{Leaf, leaf_of, token, quads, IsMarked, marked}
+use Rattle.rdf_lines.specs.Machine.{Mode, Begin, AfterSubject, AfterPredicate, AfterString, AfterCarets, AfterObject, AfterGraph, AfterDot, Finished, refuses, quad, accept, ran, refused, go_on, run}
+use Rattle.rdf_lines.proofs.Sound.{sound}
+use Rattle.rdf_lines.proofs.Runs.{run_document, run_append, run_one, with_quads, then, then_ran}
+
+abbrev leaf : List ℕ → Leaf
+leaf w = record { text = w; at = first_place }
+
+abbrev iri : Token
+iri = token IriRef (leaf (codes "<a:>"))
+
+abbrev ends : List Token
+ends = token Dot (leaf (codes ".")) ∷ token End (leaf []) ∷ []
+
+-- each mode has one completion
+abbrev completion : Mode → List Token
+completion Begin = token End (leaf []) ∷ []
+completion (AfterSubject s) = iri ∷ iri ∷ ends
+completion (AfterPredicate s p) = iri ∷ ends
+completion (AfterString s p w) = ends
+completion (AfterCarets s p w) = iri ∷ ends
+completion (AfterObject s p o) = ends
+completion (AfterGraph s p o g) = ends
+completion AfterDot = token End (leaf []) ∷ []
+completion Finished = []
+
+abbrev word : List ℕ
+word = codes "a:"
+
+completes : (test : List ℕ → Bool) (f : LineForm) → test word ≡ true → (m : Mode) → (qs : List Quad) × (run test f m (completion m) ≡ ran Finished qs)
+unfolding has
+completes test f h Begin = ([], refl)
+completes test f h (AfterSubject s) = (quad s word (Resource (Iri word)) None ∷ [], simp h)
+completes test f h (AfterPredicate s p) = (quad s p (Resource (Iri word)) None ∷ [], simp h)
+completes test f h (AfterString s p w) = (quad s p (Literal w (Typed xsd_string)) None ∷ [], refl)
+completes test f h (AfterCarets s p w) = (quad s p (Literal w (Typed word)) None ∷ [], simp h)
+completes test f h (AfterObject s p o) = (quad s p o None ∷ [], refl)
+completes test f h (AfterGraph s p o g) = (quad s p o (Some g) ∷ [], refl)
+completes test f h AfterDot = ([], refl)
+completes test f h Finished = ([], refl)
+
+pub viable_ran : (test : List ℕ → Bool) (f : LineForm) → test word ≡ true → (ts : List Token) (m : Mode) (qs : List Quad) → run test f Begin ts ≡ ran m qs → Viable (IsMarked test f) ts
+viable_ran test f h ts m qs e =
+    let c = completes test f h m in
+    let all : run test f Begin (ts ++ completion m) ≡ ran Finished (qs ++ c.0) =
+    run_append test f ts (completion m) Begin ∙ (ap (λ r. then r (λ n. run test f n (completion m))) e ∙ ap (with_quads qs) c.1) in
+    let d = sound test f (ts ++ completion m) (qs ++ c.0) all in
+    (completion m, marked 0 d.0, (d.0, d.1, d.2, refl))
+
+pub ran_viable : (test : List ℕ → Bool) (f : LineForm) (ts : List Token) → Viable (IsMarked test f) ts → (m : Mode) × (qs : List Quad) × (run test f Begin ts ≡ ran m qs)
+ran_viable test f ts v =
+    let d = v.2 in
+    then_ran (run test f Begin ts) (λ n. run test f n v.0) Finished (quads d.0)
+    (sym (run_append test f ts v.0 Begin) ∙ run_document test f (ts ++ v.0) (quads d.0) (d.0, d.1, d.2, refl))
+
+-- A token that the machine refuses begins no document with those before it.
+pub not_viable : (test : List ℕ → Bool) (f : LineForm) (ts : List Token) (t : Token) (m : Mode) (qs : List Quad) (r : Reason) → run test f Begin ts ≡ ran m qs →
+    accept test f m t.kind (leaf_of t) ≡ refuses r → Viable (IsMarked test f) (ts ++ t ∷ []) → ⊥
+not_viable test f ts t m qs r e a v =
+    let w = ran_viable test f (ts ++ t ∷ []) v in
+    let x : run test f Begin (ts ++ t ∷ []) ≡ refused r = run_one test f ts t Begin m qs e ∙ ap (λ y. with_quads qs (go_on y (λ n. run test f n []))) a in
+    let z : refused r ≡ ran w.0 w.1 = sym x ∙ w.2 in
+    cc

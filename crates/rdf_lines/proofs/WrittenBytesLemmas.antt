@@ -1,0 +1,25 @@
+-- Parts that are appended in turn, and what stands in front of them.
+use Rattle.std.proofs.Common.{◌≡◌, ℕ, ◌+◌, List, ◌++◌, append_assoc, Result, Ok, Err, OnOk, OnErr, take, length, sym, ap, ◌∙◌, arith, length-append}
+use Rattle.std.proofs.lemmas.List.{take-take}
+use Rattle.std.proofs.Math.Seq.{take-append_seam}
+use Rattle.rdf_lines.specs.WrittenBytes.{BeginsWith}
+
+pub begins_with_front : (a b w c : List ℕ) → b ≡ a ++ w → BeginsWith b c → BeginsWith a c
+begins_with_front a b w c e h =
+    let l : length b ≡ length a + length w = ap length e ∙ length-append a w in
+    sym (take-take (length a) (length b) c (omega arith))
+    ∙ (ap (take (length a)) (h ∙ e) ∙ take-append_seam a w)
+
+-- what follows of an answer
+pub on_ok : {T E : Type 0} {P Q : Type 0} (r : Result T E) → (P → Q) → OnOk r P → OnOk r Q
+on_ok (Ok x) f h = f h
+on_ok (Err e) f h = tt
+
+pub on_err : {T E : Type 0} {P Q : Type 0} (r : Result T E) → (P → Q) → OnErr r P → OnErr r Q
+on_err (Ok x) f h = tt
+on_err (Err e) f h = f h
+
+-- three parts that were appended in turn
+pub parts_appended : (out a b c first second third : List ℕ) → first ≡ out ++ a → second ≡ first ++ b → third ≡ second ++ c → third ≡ out ++ (a ++ b ++ c)
+parts_appended out a b c first second third e f g =
+    g ∙ (ap (λ x. x ++ c) (f ∙ (ap (λ x. x ++ b) e ∙ append_assoc out a b)) ∙ append_assoc out (a ++ b) c)

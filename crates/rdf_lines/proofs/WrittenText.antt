@@ -1,0 +1,133 @@
+-- The written bytes are good text.
+use Rattle.std.proofs.Common.{◌≡◌, ℕ, Bool, true, false, cond, List, [], ◌∷◌, ◌++◌, ◌==◌, refl, ap, ◌∙◌, ⊎_elim, length, take, drop, Option, Some, None, arith}
+use Rattle.std.specs.Prelude.{flat_map, encode_utf8_all, bytes_eq}
+use Rattle.std.specs.List.{AllByRecursion}
+use Rattle.std.specs.Str.{chars}
+use Rattle.std.specs.Str.Lossy.{utf8_valid_len}
+use Rattle.std.proofs.Math.Utf8.{encodes, scalars}
+use Rattle.std.proofs.Math.Utf8.{scalar as utf8_scalar}
+use Rattle.std.proofs.lemmas.Bool.{cases_Bool, cond-true, cond-false, and_parts, and_from, or_cases, false≢true, eq-eqb}
+use Rattle.std.proofs.lemmas.Bool.Decides.{nat_tests}
+use Rattle.std.proofs.lemmas.List.{take_all}
+use Rattle.std.proofs.lemmas.Str.{utf8_valid_len-IsUtf8, chars-encodes}
+use Rattle.rdf_terms.specs.declared.kind.Dialect.{Dialect}
+use Rattle.rdf_terms.specs.Classes.{Class, has, scalar}
+use Rattle.rdf_terms.specs.declared.kind.Dialect.TheVariants.{Lines}
+use Rattle.rdf_terms.specs.Classes.Class.{iri_char}
+use Rattle.rdf_terms.specs.Regex.{Regex, Matches}
+use Rattle.rdf_terms.specs.Regex.Regex.{nothing, empty, one, ◌·◌, ◌∣◌, many}
+use Rattle.rdf_terms.specs.Shapes.{label_name, tag_name}
+use Rattle.rdf_tokens.specs.Good.{good, tail_of, mark, marked, tokens_of, first_place}
+use Rattle.rdf_tokens.specs.Tokens.{past, tokens}
+use Rattle.rdf_tokens.specs.Tokens.Tail.{ended}
+use Rattle.rdf_terms.specs.Terms.{Label, Anon, Cell, Lang, Typed, Subject, Iri, Blank, Term, Resource, Literal, Quad, xsd_string, all_have, IsIri, IsSubject, IsTerm, IsGraph, IsQuad}
+use Rattle.rdf_lines.specs.declared.form.Style.TheVariants.{Kept}
+use Rattle.rdf_lines.specs.Writing.{escaped, CanWrite, CanWriteSubject, CanWriteTerm, CanWriteGraph, iri_text, subject_text, string_text, type_text, term_text, space, graph_text, quad_text}
+use Rattle.rdf_terms.proofs.UsedCharacters.{uses, all_used}
+use Rattle.rdf_lines.proofs.SpelledLine.{Written, upto_subject, upto_predicate, upto_object, upto_graph}
+
+-- each character of a matched text is a scalar value
+uses_scalar : (r : Regex) (c : ℕ) → uses r c ≡ true → scalar c ≡ true
+unfolding has
+uses_scalar nothing c e = absurd (false≢true e)
+uses_scalar empty c e = absurd (false≢true e)
+uses_scalar (one k) c e = (and_parts (scalar c) _ e).0
+uses_scalar (r · s) c e = ⊎_elim (λ x. uses_scalar r c x) (λ x. uses_scalar s c x) (or_cases (uses r c) (uses s c) e)
+uses_scalar (r ∣ s) c e = ⊎_elim (λ x. uses_scalar r c x) (λ x. uses_scalar s c x) (or_cases (uses r c) (uses s c) e)
+uses_scalar (many r) c e = uses_scalar r c e
+
+same_scalar : (c : ℕ) → scalar c ≡ true → utf8_scalar c ≡ true
+same_scalar c h = grind (arith, nat_tests)
+
+scalars_from : (test : ℕ → Bool) → ((c : ℕ) → test c ≡ true → scalar c ≡ true) → (w : List ℕ) → AllByRecursion (λ c. test c ≡ true) w → scalars w ≡ true
+scalars_from test f [] a = refl
+scalars_from test f (c ∷ w) a = and_from _ _ (same_scalar c (f c a.0)) (scalars_from test f w a.1)
+
+scalars_have : (test : ℕ → Bool) → ((c : ℕ) → test c ≡ true → scalar c ≡ true) → (w : List ℕ) → all_have test w ≡ true → scalars w ≡ true
+scalars_have test f [] a = refl
+scalars_have test f (c ∷ w) a = let p = and_parts (test c) (all_have test w) a in and_from _ _ (same_scalar c (f c p.0)) (scalars_have test f w p.1)
+
+matched_scalars : (r : Regex) (w : List ℕ) → Matches r w → scalars w ≡ true
+matched_scalars r w m = scalars_from (uses r) (uses_scalar r) w (all_used r w m)
+
+scalars_append : (u v : List ℕ) → scalars u ≡ true → scalars v ≡ true → scalars (u ++ v) ≡ true
+scalars_append [] v a b = b
+scalars_append (c ∷ u) v a b = let p = and_parts (utf8_scalar c) (scalars u) a in and_from _ _ p.0 (scalars_append u v p.1 b)
+
+has_scalar : (k : Class) (c : ℕ) → has k c ≡ true → scalar c ≡ true
+unfolding has
+has_scalar k c h = (and_parts (scalar c) _ h).0
+
+iri_scalars : (i : List ℕ) → IsIri i → scalars (iri_text i) ≡ true
+iri_scalars i h = scalars_append i (62 ∷ []) (scalars_have (has iri_char) (has_scalar iri_char) i h.characters) refl
+
+subject_scalars : (s : Subject) → IsSubject s → CanWriteSubject Kept s → scalars (subject_text s) ≡ true
+subject_scalars (Iri i) h c = iri_scalars i h
+subject_scalars (Blank (Label x)) h c = matched_scalars (label_name Lines) x h
+subject_scalars (Blank (Anon n)) h c = absurd c
+subject_scalars (Blank (Cell n)) h c = absurd c
+
+escaped_scalars : (c : ℕ) → scalar c ≡ true → scalars (escaped c) ≡ true
+escaped_scalars c h =
+    test 34 _ _ refl (test 92 _ _ refl (test 10 _ _ refl (test 13 _ _ refl (and_from _ true (same_scalar c h) refl))))
+  where
+    test : (x : ℕ) (u v : List ℕ) → scalars u ≡ true → scalars v ≡ true → scalars (cond (c == x) u v) ≡ true
+    test x u v a b = ⊎_elim (λ e. ap scalars (cond-true (c == x) u v e) ∙ a) (λ e. ap scalars (cond-false (c == x) u v e) ∙ b) (cases_Bool (c == x))
+
+all_escaped : (w : List ℕ) → all_have scalar w ≡ true → scalars (flat_map escaped w) ≡ true
+all_escaped [] a = refl
+all_escaped (c ∷ w) a = let p = and_parts (scalar c) (all_have scalar w) a in scalars_append (escaped c) (flat_map escaped w) (escaped_scalars c p.0) (all_escaped w p.1)
+
+string_scalars : (w : List ℕ) → all_have scalar w ≡ true → scalars (string_text w) ≡ true
+string_scalars w a = scalars_append (flat_map escaped w) (34 ∷ []) (all_escaped w a) refl
+
+type_scalars : (b : Bool) (i : List ℕ) → IsIri i → scalars (type_text b i) ≡ true
+type_scalars true i h = refl
+type_scalars false i h = iri_scalars i h
+
+term_scalars : (t : Term) → IsTerm t → CanWriteTerm Kept t → scalars (term_text t) ≡ true
+term_scalars (Resource s) h c = subject_scalars s h c
+term_scalars (Literal w (Lang t)) h c = scalars_append (string_text w) (64 ∷ t) (string_scalars w h.0) (matched_scalars tag_name t h.1)
+term_scalars (Literal w (Typed i)) h c = scalars_append (string_text w) (type_text (bytes_eq i xsd_string) i) (string_scalars w h.0) (type_scalars (bytes_eq i xsd_string) i h.1)
+
+graph_scalars : (g : Option Subject) → IsGraph g → CanWriteGraph Kept g → scalars (graph_text g) ≡ true
+graph_scalars None h c = refl
+graph_scalars (Some g) h c = scalars_append (subject_text g) space (subject_scalars g h c) refl
+
+quad_scalars : (q : Quad) → IsQuad q → CanWrite Kept q → scalars (quad_text q) ≡ true
+quad_scalars q h c =
+    let a = scalars_append (subject_text q.subject) space (subject_scalars q.subject h.subject c.subject) refl in
+    let b = scalars_append (iri_text q.predicate) space (iri_scalars q.predicate h.predicate) refl in
+    let d = scalars_append (term_text q.object) space (term_scalars q.object h.object c.object) refl in
+    let e = graph_scalars q.graph h.graph c.graph in
+    scalars_append (upto_graph q ++ 46 ∷ []) (10 ∷ []) (scalars_append (upto_graph q) (46 ∷ []) (scalars_append (upto_object q) (graph_text q.graph)
+    (scalars_append (upto_predicate q) (term_text q.object ++ space) (scalars_append (upto_subject q) (iri_text q.predicate ++ space) a b) d) e) refl) refl
+
+pub text_scalars : (qs : List Quad) → Written qs → scalars (flat_map quad_text qs) ≡ true
+text_scalars [] h = refl
+text_scalars (q ∷ qs) h = scalars_append (quad_text q) (flat_map quad_text qs) (quad_scalars q h.0.0 h.0.1) (text_scalars qs h.1)
+
+-- no text that is written begins with U+FEFF
+pub no_mark : (qs : List Quad) → Written qs → marked (flat_map quad_text qs) ≡ false
+no_mark [] h = refl
+no_mark (q ∷ qs) h = at q.subject space (iri_text q.predicate ++ space) (term_text q.object ++ space) (graph_text q.graph) (46 ∷ []) (10 ∷ []) (flat_map quad_text qs) h.0.0.subject h.0.1.subject
+  where
+    at : (s : Subject) (a b d e f g r : List ℕ) → IsSubject s → CanWriteSubject Kept s → marked (subject_text s ++ a ++ b ++ d ++ e ++ f ++ g ++ r) ≡ false
+    at (Iri i) a b d e f g r h c = refl
+    at (Blank (Label x)) a b d e f g r h c = refl
+    at (Blank (Anon n)) a b d e f g r h c = absurd c
+    at (Blank (Cell n)) a b d e f g r h c = absurd c
+
+-- the tokens of encoded characters are those of the characters
+pub encoded_tokens : (d : Dialect) (limit : ℕ) (w : List ℕ) → scalars w ≡ true → marked w ≡ false →
+    tokens_of d limit (encode_utf8_all w) true ≡ tokens d limit ended false first_place w
+unfolding tokens_of
+encoded_tokens d limit w s n =
+    let bytes = encode_utf8_all w in
+    let l : utf8_valid_len bytes ≡ length bytes = utf8_valid_len-IsUtf8 bytes (w, (s, refl)) in
+    let g : good bytes ≡ w = ap chars (ap (λ x. take x bytes) l ∙ take_all (length bytes) bytes (omega arith)) ∙ chars-encodes w s in
+    let t : tail_of bytes true ≡ ended = cond-true _ _ _ (eq-eqb (utf8_valid_len bytes) (length bytes) l) in
+    let m : mark w ≡ 0 = cond-false (marked w) 1 0 n in
+    ap (λ x. tokens d limit x false (past first_place (take (mark (good bytes)) (good bytes))) (drop (mark (good bytes)) (good bytes))) t
+    ∙ (ap (λ x. tokens d limit ended false (past first_place (take (mark x) x)) (drop (mark x) x)) g
+    ∙ ap (λ x. tokens d limit ended false (past first_place (take x w)) (drop x w)) m)

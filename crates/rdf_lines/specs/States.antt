@@ -1,0 +1,76 @@
+-- What the states of the reader's code mean, and what taking a token does.
+use Rattle.std.specs.Prelude.{◌≡◌, Bool, true, false, ◌⊎◌}
+use Rattle.std.specs.Str.{chars}
+use Rattle.std.specs.String.{string_bytes}
+use Rattle.rdf_terms.specs.declared.reason.Reason.{Reason}
+use Rattle.rdf_terms.specs.declared.reason.Reason.TheVariants.{Memory, Unexpected, RelativeIri, Sink}
+use Rattle.rdf_terms.specs.Terms.{Lang, Typed, Term, Resource, Literal, Quad, xsd_string}
+use Rattle.rdf_terms.specs.Owned.{owned_subject}
+use Rattle.rdf_tokens.specs.declared.token.Token.{Token as Given}
+use Rattle.rdf_terms.specs.declared.kind.Dialect.TheVariants.{Lines}
+use Rattle.rdf_tokens.specs.Scans.{token_of, IsToken}
+use Rattle.rdf_lines.specs.declared.state.Object.{Object}
+use Rattle.rdf_lines.specs.declared.state.Object.TheVariants.{Named, Plain, WithType, WithTag}
+use Rattle.rdf_lines.specs.declared.state.State.{State}
+use Rattle.rdf_lines.specs.declared.state.State.TheVariants as state
+use Rattle.rdf_lines.specs.Lines.{Leaf, leaf_of}
+use Rattle.rdf_lines.specs.Machine.{Mode, Begin, AfterSubject, AfterPredicate, AfterString, AfterCarets, AfterObject, AfterGraph, AfterDot, Finished, Answer, goes, gives, refuses}
+
+-- the term of an object that was read
+abbrev pub object_of : {A : Type 0} → Object A → Term
+object_of (Named s) = Resource (owned_subject s)
+object_of (Plain w) = Literal (chars (string_bytes w)) (Typed xsd_string)
+object_of (WithType w i) = Literal (chars (string_bytes w)) (Typed i)
+object_of (WithTag w t) = Literal (chars (string_bytes w)) (Lang t)
+
+-- the mode of the machine that a state is
+abbrev pub mode_of : {A : Type 0} → State A → Mode
+mode_of state.Begin = Begin
+mode_of (state.AfterSubject s) = AfterSubject (owned_subject s)
+mode_of (state.AfterPredicate s p) = AfterPredicate (owned_subject s) p
+mode_of (state.AfterString s p w) = AfterString (owned_subject s) p (chars (string_bytes w))
+mode_of (state.AfterCarets s p w) = AfterCarets (owned_subject s) p (chars (string_bytes w))
+mode_of (state.AfterObject s p o) = AfterObject (owned_subject s) p (object_of o)
+mode_of (state.AfterGraph s p o g) = AfterGraph (owned_subject s) p (object_of o) (owned_subject g)
+mode_of state.AfterDot = AfterDot
+mode_of state.Finished = Finished
+
+-- a mode that is reached by giving a quad
+abbrev pub gave : Mode → Bool
+gave AfterDot = true
+gave m = false
+
+-- a token and its leaf
+abbrev pub leaf : Given → Leaf
+leaf t = leaf_of (token_of t)
+
+-- a token that the line formats have
+abbrev pub IsLineToken : Given → Type 0
+IsLineToken t = IsToken Lines (token_of t)
+
+-- why a token is not accepted where nothing is put
+abbrev pub Declines : Reason → Answer → Type 0
+Declines Unexpected a = a ≡ refuses Unexpected
+Declines RelativeIri a = a ≡ refuses RelativeIri
+Declines Memory a = Unit
+Declines r a = ⊥
+
+-- a token is accepted, and the quad that it gives is put
+abbrev pub Does : {S : Type 0} → (S → Quad → S → Type 0) → Answer → S → Mode → S → Type 0
+Does takes (goes m) old mode new = (mode ≡ m) × (new ≡ old)
+Does takes (gives q m) old mode new = (mode ≡ m) × takes old q new
+Does takes (refuses r) old mode new = ⊥
+
+-- a put of the quad that is given was refused
+abbrev pub Leaves : {S : Type 0} → (S → Quad → S → Type 0) → Answer → S → S → Type 0
+Leaves leaves (goes m) old new = ⊥
+Leaves leaves (gives q m) old new = leaves old q new
+Leaves leaves (refuses r) old new = ⊥
+
+-- why a token is not accepted: the machine refuses it, and nothing was put; memory is short, for its text or for the quad; or the device failed
+abbrev pub Fails : {S : Type 0} → (S → Quad → S → Type 0) → (S → Bool) → Reason → Answer → S → S → Type 0
+Fails leaves failed Unexpected a old new = (a ≡ refuses Unexpected) × (new ≡ old)
+Fails leaves failed RelativeIri a old new = (a ≡ refuses RelativeIri) × (new ≡ old)
+Fails leaves failed Memory a old new = (new ≡ old) ⊎ Leaves leaves a old new
+Fails leaves failed Sink a old new = Leaves leaves a old new × (failed new ≡ true)
+Fails leaves failed r a old new = ⊥

@@ -1,0 +1,285 @@
+// What a token does to the state of the reader.
+
+ghost use Rattle.std.specs.Prelude.{◌≡◌, false, OnOk, IfOk, IfErr, option_map};
+ghost use Rattle.std.specs.Str.{chars};
+ghost use Rattle.std.specs.String.{string_bytes};
+ghost use Rattle.rdf_terms.specs.Terms.{has_scheme};
+ghost use Rattle.rdf_terms.specs.Owned.{owned_subject};
+ghost use Rattle.rdf_terms.specs.Views.{subject_by};
+ghost use Rattle.rdf_lines.specs.Machine as M;
+ghost use Rattle.rdf_lines.specs.Machine.{goes, gives, quad};
+ghost use Rattle.rdf_lines.specs.States.{mode_of, object_of, leaf, IsLineToken, Declines, Does, Fails};
+
+use crate::form::LineForm;
+use crate::spelled::{iri, label, string, tag};
+use crate::state::{Object, State};
+use rdf_terms::{Iri, Kind, PutFault, QuadRef, QuadSink, Reason, Subject, SubjectRef};
+use rdf_tokens::Token;
+use std::alloc::Allocator;
+
+/// Takes a token. A statement's quad is put at its dot; after an error the line's parts are gone.
+pub fn accept<A: Allocator, S: QuadSink>(
+    alloc: A,
+    form: LineForm,
+    state: State<A>,
+    token: Token<'_>,
+    sink: &mut S,
+) -> Result<State<A>, Reason>
+    requires token { IsLineToken token }
+    requires live { S.has_failed sink.old ≡ false }
+    ensures ok { IfOk result (λ s. Does S.takes (M.accept has_scheme form (mode_of state) token.entry.kind (leaf token.entry)) sink.old (mode_of s) sink.new) }
+    ensures live { OnOk result (S.has_failed sink.new ≡ false) }
+    ensures err { IfErr result (λ r. Fails S.leaves S.has_failed r (M.accept has_scheme form (mode_of state) token.entry.kind (leaf token.entry)) sink.old sink.new) }
+{
+    match state {
+        State::Begin => at_begin(alloc, token),
+        State::AfterSubject { subject } => after_subject(alloc, subject, token),
+        State::AfterPredicate { subject, predicate } => {
+            after_predicate(alloc, subject, predicate, token)
+        }
+        State::AfterString {
+            subject,
+            predicate,
+            lexical,
+        } => after_string(alloc, form, subject, predicate, lexical, token, sink),
+        State::AfterCarets {
+            subject,
+            predicate,
+            lexical,
+        } => after_carets(alloc, subject, predicate, lexical, token),
+        State::AfterObject {
+            subject,
+            predicate,
+            object,
+        } => after_object(alloc, form, subject, predicate, object, token, sink),
+        State::AfterGraph {
+            subject,
+            predicate,
+            object,
+            graph,
+        } => after_graph(subject, predicate, object, graph, token, sink),
+        State::AfterDot => after_dot(token),
+        State::Finished => Err(Reason::Unexpected),
+    }
+}
+
+fn at_begin<A: Allocator>(alloc: A, token: Token<'_>) -> Result<State<A>, Reason>
+    requires { IsLineToken token }
+    ensures ok { IfOk result (λ s. (f : LineForm) → M.accept has_scheme f M.Begin token.entry.kind (leaf token.entry) ≡ goes (mode_of s)) }
+    ensures err { IfErr result (λ r. (f : LineForm) → Declines r (M.accept has_scheme f M.Begin token.entry.kind (leaf token.entry))) }
+{
+    match token.kind {
+        Kind::IriRef => Ok(State::AfterSubject {
+            subject: Subject::Iri(iri(alloc, token.text)?),
+        }),
+        Kind::LabelNode => Ok(State::AfterSubject {
+            subject: label(alloc, token.text)?,
+        }),
+        Kind::LineEnd => Ok(State::Begin),
+        Kind::End => Ok(State::Finished),
+        _ => Err(Reason::Unexpected),
+    }
+}
+
+fn after_subject<A: Allocator>(
+    alloc: A,
+    subject: Subject<A>,
+    token: Token<'_>,
+) -> Result<State<A>, Reason>
+    requires { IsLineToken token }
+    ensures ok { IfOk result (λ s. (f : LineForm) → M.accept has_scheme f (M.AfterSubject (owned_subject subject)) token.entry.kind (leaf token.entry) ≡ goes (mode_of s)) }
+    ensures err { IfErr result (λ r. (f : LineForm) → Declines r (M.accept has_scheme f (M.AfterSubject (owned_subject subject)) token.entry.kind (leaf token.entry))) }
+{
+    match token.kind {
+        Kind::IriRef => Ok(State::AfterPredicate {
+            subject,
+            predicate: iri(alloc, token.text)?,
+        }),
+        _ => Err(Reason::Unexpected),
+    }
+}
+
+fn after_predicate<A: Allocator>(
+    alloc: A,
+    subject: Subject<A>,
+    predicate: Iri<A>,
+    token: Token<'_>,
+) -> Result<State<A>, Reason>
+    requires { IsLineToken token }
+    ensures ok { IfOk result (λ s. (f : LineForm) → M.accept has_scheme f (M.AfterPredicate (owned_subject subject) predicate) token.entry.kind (leaf token.entry) ≡ goes (mode_of s)) }
+    ensures err { IfErr result (λ r. (f : LineForm) → Declines r (M.accept has_scheme f (M.AfterPredicate (owned_subject subject) predicate) token.entry.kind (leaf token.entry))) }
+{
+    match token.kind {
+        Kind::IriRef => Ok(State::AfterObject {
+            subject,
+            predicate,
+            object: Object::Named(Subject::Iri(iri(alloc, token.text)?)),
+        }),
+        Kind::LabelNode => Ok(State::AfterObject {
+            subject,
+            predicate,
+            object: Object::Named(label(alloc, token.text)?),
+        }),
+        Kind::ShortString => Ok(State::AfterString {
+            subject,
+            predicate,
+            lexical: string(alloc, token.text)?,
+        }),
+        _ => Err(Reason::Unexpected),
+    }
+}
+
+fn after_string<A: Allocator, S: QuadSink>(
+    alloc: A,
+    form: LineForm,
+    subject: Subject<A>,
+    predicate: Iri<A>,
+    lexical: String<A>,
+    token: Token<'_>,
+    sink: &mut S,
+) -> Result<State<A>, Reason>
+    requires token { IsLineToken token }
+    requires live { S.has_failed sink.old ≡ false }
+    ensures ok { IfOk result (λ s. Does S.takes (M.accept has_scheme form (M.AfterString (owned_subject subject) predicate (chars (string_bytes lexical))) token.entry.kind (leaf token.entry)) sink.old (mode_of s) sink.new) }
+    ensures live { OnOk result (S.has_failed sink.new ≡ false) }
+    ensures err { IfErr result (λ r. Fails S.leaves S.has_failed r (M.accept has_scheme form (M.AfterString (owned_subject subject) predicate (chars (string_bytes lexical))) token.entry.kind (leaf token.entry)) sink.old sink.new) }
+{
+    match token.kind {
+        Kind::LangTag => Ok(State::AfterObject {
+            subject,
+            predicate,
+            object: Object::WithTag(lexical, tag(alloc, token.text)?),
+        }),
+        Kind::Carets => Ok(State::AfterCarets {
+            subject,
+            predicate,
+            lexical,
+        }),
+        _ => after_object(
+            alloc,
+            form,
+            subject,
+            predicate,
+            Object::Plain(lexical),
+            token,
+            sink,
+        ),
+    }
+}
+
+fn after_carets<A: Allocator>(
+    alloc: A,
+    subject: Subject<A>,
+    predicate: Iri<A>,
+    lexical: String<A>,
+    token: Token<'_>,
+) -> Result<State<A>, Reason>
+    requires { IsLineToken token }
+    ensures ok { IfOk result (λ s. (f : LineForm) → M.accept has_scheme f (M.AfterCarets (owned_subject subject) predicate (chars (string_bytes lexical))) token.entry.kind (leaf token.entry) ≡ goes (mode_of s)) }
+    ensures err { IfErr result (λ r. (f : LineForm) → Declines r (M.accept has_scheme f (M.AfterCarets (owned_subject subject) predicate (chars (string_bytes lexical))) token.entry.kind (leaf token.entry))) }
+{
+    match token.kind {
+        Kind::IriRef => Ok(State::AfterObject {
+            subject,
+            predicate,
+            object: Object::WithType(lexical, iri(alloc, token.text)?),
+        }),
+        _ => Err(Reason::Unexpected),
+    }
+}
+
+// A graph label stands in N-Quads only.
+fn after_object<A: Allocator, S: QuadSink>(
+    alloc: A,
+    form: LineForm,
+    subject: Subject<A>,
+    predicate: Iri<A>,
+    object: Object<A>,
+    token: Token<'_>,
+    sink: &mut S,
+) -> Result<State<A>, Reason>
+    requires token { IsLineToken token }
+    requires live { S.has_failed sink.old ≡ false }
+    ensures ok { IfOk result (λ s. Does S.takes (M.object_then has_scheme form (owned_subject subject) predicate (object_of object) token.entry.kind (leaf token.entry)) sink.old (mode_of s) sink.new) }
+    ensures live { OnOk result (S.has_failed sink.new ≡ false) }
+    ensures err { IfErr result (λ r. Fails S.leaves S.has_failed r (M.object_then has_scheme form (owned_subject subject) predicate (object_of object) token.entry.kind (leaf token.entry)) sink.old sink.new) }
+{
+    match (form, token.kind) {
+        (_, Kind::Dot) => {
+            give(&subject, &predicate, &object, None, sink)?;
+            Ok(State::AfterDot)
+        }
+        (LineForm::NQuads, Kind::IriRef) => Ok(State::AfterGraph {
+            subject,
+            predicate,
+            object,
+            graph: Subject::Iri(iri(alloc, token.text)?),
+        }),
+        (LineForm::NQuads, Kind::LabelNode) => Ok(State::AfterGraph {
+            subject,
+            predicate,
+            object,
+            graph: label(alloc, token.text)?,
+        }),
+        _ => Err(Reason::Unexpected),
+    }
+}
+
+fn after_graph<A: Allocator, S: QuadSink>(
+    subject: Subject<A>,
+    predicate: Iri<A>,
+    object: Object<A>,
+    graph: Subject<A>,
+    token: Token<'_>,
+    sink: &mut S,
+) -> Result<State<A>, Reason>
+    requires { S.has_failed sink.old ≡ false }
+    ensures ok { IfOk result (λ s. (f : LineForm) → Does S.takes (M.accept has_scheme f (M.AfterGraph (owned_subject subject) predicate (object_of object) (owned_subject graph)) token.entry.kind (leaf token.entry)) sink.old (mode_of s) sink.new) }
+    ensures live { OnOk result (S.has_failed sink.new ≡ false) }
+    ensures err { IfErr result (λ r. (f : LineForm) → Fails S.leaves S.has_failed r (M.accept has_scheme f (M.AfterGraph (owned_subject subject) predicate (object_of object) (owned_subject graph)) token.entry.kind (leaf token.entry)) sink.old sink.new) }
+{
+    match token.kind {
+        Kind::Dot => {
+            give(&subject, &predicate, &object, Some(graph.view()), sink)?;
+            Ok(State::AfterDot)
+        }
+        _ => Err(Reason::Unexpected),
+    }
+}
+
+fn after_dot<A: Allocator>(token: Token<'_>) -> Result<State<A>, Reason>
+    ensures ok { IfOk result (λ s. (f : LineForm) → M.accept has_scheme f M.AfterDot token.entry.kind (leaf token.entry) ≡ goes (mode_of s)) }
+    ensures err { IfErr result (λ r. (f : LineForm) → Declines r (M.accept has_scheme f M.AfterDot token.entry.kind (leaf token.entry))) }
+{
+    match token.kind {
+        Kind::LineEnd => Ok(State::Begin),
+        Kind::End => Ok(State::Finished),
+        _ => Err(Reason::Unexpected),
+    }
+}
+
+// Puts the quad of these parts.
+fn give<A: Allocator, S: QuadSink>(
+    subject: &Subject<A>,
+    predicate: &Iri<A>,
+    object: &Object<A>,
+    graph: Option<SubjectRef<'_>>,
+    sink: &mut S,
+) -> Result<(), Reason>
+    requires { S.has_failed sink.old ≡ false }
+    ensures ok { OnOk result (S.takes sink.old (quad (owned_subject subject.now) predicate.now (object_of object.now) (option_map (subject_by chars) graph.entry)) sink.new) }
+    ensures live { OnOk result (S.has_failed sink.new ≡ false) }
+    ensures err { IfErr result (λ r. Fails S.leaves S.has_failed r (gives (quad (owned_subject subject.now) predicate.now (object_of object.now) (option_map (subject_by chars) graph.entry)) M.AfterDot) sink.old sink.new) }
+{
+    let quad = QuadRef {
+        subject: subject.view(),
+        predicate: predicate.view(),
+        object: object.view(),
+        graph,
+    };
+    match sink.put(quad) {
+        Ok(()) => Ok(()),
+        Err(PutFault::Memory) => Err(Reason::Memory),
+        Err(PutFault::Device) => Err(Reason::Sink),
+    }
+}

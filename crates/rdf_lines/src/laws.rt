@@ -1,0 +1,18 @@
+// Laws of the written lines, over the definitions alone.
+
+ghost use Rattle.std.specs.Prelude.{◌≡◌, ℕ, List, ◌≤◌, length};
+ghost use Rattle.rdf_terms.specs.Terms.{IsNode, Node, Quad};
+ghost use Rattle.rdf_lines.specs.declared.form.Style.{Style};
+ghost use Rattle.rdf_lines.specs.Writing.{Writable, rename_node, text};
+ghost use Rattle.rdf_lines.specs.Laws.{ReadsBack};
+
+/// The bytes written for quads are a document of N-Quads, whose quads are these, renamed, one for one and in
+/// order. Any limit on a token's characters that is not below the text's length serves.
+pub fn written_text_reads_back()
+    ensures { (s : Style) (qs : List Quad) (limit : ℕ) → Writable s qs → length (text s qs) ≤ limit → ReadsBack s qs limit }
+{}
+
+/// No two nodes are written under one name.
+pub fn names_stay_apart()
+    ensures { (s : Style) (m n : Node) → IsNode m → IsNode n → rename_node s m ≡ rename_node s n → m ≡ n }
+{}

@@ -1,0 +1,150 @@
+// The reader of the line formats.
+
+ghost use Rattle.std.specs.Prelude.{◌≡◌, ◌≤◌, ◌+◌, false, cond, OnOk, IfOk, IfErr};
+ghost use Rattle.rdf_terms.specs.Terms.{has_scheme};
+ghost use Rattle.rdf_tokens.specs.Scans.{is_end, most_bytes};
+ghost use Rattle.rdf_lines.specs.Machine as M;
+ghost use Rattle.rdf_lines.specs.States.{mode_of, leaf, IsLineToken, Does, Fails};
+ghost use Rattle.rdf_lines.specs.Reading.{stand, Steps, ReadsTokens, IsReady, step_of, with_token};
+ghost use Rattle.rdf_tokens.specs.Scans.{token_of};
+
+use crate::accept::accept;
+use crate::fault::{Fault, Summary};
+use crate::form::LineForm;
+use crate::state::State;
+use rdf_terms::{Kind, QuadSink, Reason};
+use rdf_tokens::{ScanFault, Scanner, Token};
+use std::alloc::{Allocator, Global};
+use std::mem;
+
+/// What has been read: of the line, and in all.
+#[derive(Drop)]
+pub struct Progress<A: Allocator = Global> {
+    state: State<A>,
+    so_far: Summary,
+}
+
+/// What the next token was.
+#[derive(Clone, Copy)]
+pub enum Step {
+    /// A token that was accepted.
+    Accepted,
+    /// The end, which was accepted.
+    Complete,
+    /// It is not decided.
+    Waiting,
+}
+
+impl<A: Allocator> Progress<A> {
+    // Accepts a token. After an error nothing is known of the line.
+    fn take<S: QuadSink>(
+        &mut self,
+        alloc: A,
+        form: LineForm,
+        token: Token<'_>,
+        sink: &mut S,
+    ) -> Result<(), Reason>
+        requires token { IsLineToken token }
+        requires live { S.has_failed sink.old ≡ false }
+        requires room { self.old.so_far.tokens ≤ most_bytes }
+        requires fewer { self.old.so_far.quads ≤ self.old.so_far.tokens }
+        ensures ok { OnOk result (Does S.takes (M.accept has_scheme form (mode_of self.old.state) token.entry.kind (leaf token.entry)) sink.old (mode_of self.new.state) sink.new) }
+        ensures so_far { OnOk result (self.new.so_far ≡ with_token self.old.so_far token.entry.kind (mode_of self.new.state)) }
+        ensures live { OnOk result (S.has_failed sink.new ≡ false) }
+        ensures err { IfErr result (λ r. Fails S.leaves S.has_failed r (M.accept has_scheme form (mode_of self.old.state) token.entry.kind (leaf token.entry)) sink.old sink.new) }
+    {
+        let state = mem::replace(&mut self.state, State::Finished);
+        self.state = accept(alloc, form, state, token, sink)?;
+        self.so_far = with_token(self.so_far, token.kind, self.state.gave());
+        Ok(())
+    }
+}
+
+// Reads one token.
+fn read_token<A: Allocator + Copy, S: QuadSink>(
+    alloc: A,
+    form: LineForm,
+    scanner: &mut Scanner<A>,
+    progress: &mut Progress<A>,
+    sink: &mut S,
+) -> Result<Step, Fault>
+    requires ready { IsReady scanner.old progress.old.so_far }
+    requires live { S.has_failed sink.old ≡ false }
+    ensures steps { Steps S.takes S.leaves S.has_failed form (stand scanner.old progress.old sink.old) result (stand scanner.new progress.new sink.new) }
+    ensures live { OnOk result (S.has_failed sink.new ≡ false) }
+{
+    match scanner.next() {
+        Err(fault) => Err(told(fault)),
+        Ok(None) => Ok(Step::Waiting),
+        Ok(Some(token)) => match progress.take(alloc, form, token, sink) {
+            Ok(()) => Ok(accepted(token.kind)),
+            Err(reason) => Err(Fault {
+                reason,
+                offset: token.offset,
+                line: token.line,
+            }),
+        },
+    }
+}
+
+fn told(fault: ScanFault) -> Fault
+    ensures { result ≡ record { reason = fault.reason; offset = fault.offset; line = fault.line } }
+{
+    Fault {
+        reason: fault.reason,
+        offset: fault.offset,
+        line: fault.line,
+    }
+}
+
+fn accepted(kind: Kind) -> Step
+    ensures { result ≡ step_of kind }
+{
+    if is_end(kind) {
+        Step::Complete
+    } else {
+        Step::Accepted
+    }
+}
+
+// The counts with a token more, and a quad more where one was given.
+fn with_token(so_far: Summary, kind: Kind, gave: bool) -> Summary
+    requires room { so_far.tokens ≤ most_bytes }
+    requires fewer { so_far.quads ≤ so_far.tokens }
+    ensures { result ≡ record { quads = so_far.quads + cond gave 1 0; tokens = so_far.tokens + cond (is_end kind) 0 1; bytes = so_far.bytes } }
+{
+    Summary {
+        quads: so_far.quads + u64::from(gave),
+        tokens: so_far.tokens + u64::from(!is_end(kind)),
+        bytes: so_far.bytes,
+    }
+}
+
+fn is_end(kind: Kind) -> bool
+    ensures { result ≡ is_end kind }
+{
+    matches!(kind, Kind::End)
+}
+
+// Reads all tokens that come.
+fn read_tokens<A: Allocator + Copy, S: QuadSink>(
+    alloc: A,
+    form: LineForm,
+    scanner: &mut Scanner<A>,
+    progress: &mut Progress<A>,
+    sink: &mut S,
+) -> Result<(), Fault>
+    requires ready { IsReady scanner.old progress.old.so_far }
+    requires live { S.has_failed sink.old ≡ false }
+    ensures reads { ReadsTokens S.takes S.leaves S.has_failed form (stand scanner.old progress.old sink.old) result (stand scanner.new progress.new sink.new) }
+    ensures live { OnOk result (S.has_failed sink.new ≡ false) }
+{
+    'tokens: loop {
+        match read_token(alloc, form, scanner, progress, sink) {
+            Ok(Step::Accepted) => {}
+            Ok(Step::Waiting) => return Ok(()),
+            Ok(Step::Complete) => return Ok(()),
+            Err(fault) => return Err(fault),
+        }
+    }
+}
