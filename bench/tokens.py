@@ -1,0 +1,37 @@
+#!/usr/bin/env python3
+"""Counts the tokens of N-Triples and of prefix-heavy Turtle, beside `wc -l` on the same file in the same run.
+
+    bench/tokens.py [MEGABYTES]     (50)
+
+For each: MB/s of both (the best of three runs) and their ratio. `rt ci` or `rt run` in crates/token_count builds the program.
+"""
+import os
+import subprocess
+import sys
+import tempfile
+import time
+
+TOP = os.path.dirname(os.path.dirname(os.path.abspath(__file__)))
+PROGRAM = os.path.join(TOP, 'crates', 'token_count', 'out', 'token_count')
+
+
+def seconds(words, path):
+    with open(path, 'rb') as f:
+        begin = time.monotonic()
+        subprocess.run(words, stdin=f, stdout=subprocess.DEVNULL, check=True)
+        return time.monotonic() - begin
+
+
+def main():
+    size = int(sys.argv[1]) if len(sys.argv) > 1 else 50
+    with tempfile.TemporaryDirectory() as folder:
+        for kind, dialect in (('nt', 'lines'), ('ttl', 'turtle')):
+            path = os.path.join(folder, 'document.' + kind)
+            subprocess.run([sys.executable, os.path.join(TOP, 'bench', 'documents.py'), kind, str(size), path], check=True)
+            megabytes = os.path.getsize(path) / 1e6
+            scan = megabytes / min(seconds([PROGRAM, dialect], path) for _ in range(3))
+            count = megabytes / min(seconds(['wc', '-l'], path) for _ in range(3))
+            print('%d MB of %s: tokens %.1f MB/s, wc -l %.1f MB/s, ratio 1 to %.1f' % (megabytes, kind, scan, count, count / scan))
+
+
+main()
