@@ -2,7 +2,7 @@
 use Rattle.std.proofs.Common.{◌≡◌, ◌≢◌, ℕ, ◌+◌, ◌≤◌, Bool, true, false, cond, List, [], ◌∷◌, ◌++◌, ◌||◌, ◌==◌, Option, Some, None, is_some, ⊎_elim, refl, sym, ap, ◌∙◌, subst, length, take, drop, arith, length-drop, length-append}
 use Rattle.std.proofs.lemmas.Bool.{cases_Bool, cond-true, cond-false, cond_both}
 use Rattle.std.proofs.lemmas.List.{append-nil, length-take-le}
-use Rattle.std.proofs.lemmas.Str.{length-le-encodes, encodes-chars, utf8_valid_len_le}
+use Rattle.std.proofs.lemmas.Str.{chars-nil, length-le-encodes, encodes-chars, utf8_valid_len_le}
 use Rattle.std.specs.Str.Lossy.{utf8_valid_len, utf8_error_len}
 use Rattle.std.specs.List.{All}
 use Rattle.std.proofs.lemmas.List.Elements.{All-head, All-tail}
@@ -15,13 +15,13 @@ use Rattle.rdf_terms.specs.Values.{is_fit}
 use Rattle.rdf_tokens.specs.Tokens.{Tail, Place, Outcome, Token, Reading, token, stop, blank, longest, over, is_empty, chosen, decided, by_tail, step, with_token, with_tokens, rest_of, place_of, past, tokens, end_tokens}
 use Rattle.rdf_tokens.specs.Tokens.Tail.{goes_on, ended, broken}
 use Rattle.rdf_tokens.specs.Tokens.Outcome.{undecided, complete, token_too_long, bad_utf8, no_token, bad_escape}
-use Rattle.rdf_tokens.specs.Good.{good, mark, first_place, tokens_of, tail_of}
+use Rattle.rdf_tokens.specs.Good.{good, mark, first_place, tokens_at, tokens_of, tail_of}
 use Rattle.rdf_tokens.specs.Unread.{Unread}
 use Rattle.rdf_tokens.specs.Scans.{is_end, HasRead, Reads, reading_of}
 use Rattle.rdf_tokens.specs.Grammars.{counted}
 use Rattle.rdf_tokens.proofs.GoodLemmas.{good_front}
 use Rattle.rdf_tokens.proofs.TokensLemmas.{step_token}
-use Rattle.rdf_tokens.proofs.LawLemmas.{by_steps, tokens_of-tokens, end_last}
+use Rattle.rdf_tokens.proofs.LawLemmas.{by_steps, tokens_of-tokens, end_last, nothing_yet}
 
 pub counted-append : (ts us : List Token) → counted (ts ++ us) ≡ counted ts + counted us
 counted-append [] us = omega arith
@@ -166,3 +166,8 @@ counted_complete d limit bytes e x =
     let b = ap length w.1 ∙ length-append w.0 (last ∷ []) in
     let c = counted_all w.0 w.2 in
     omega arith
+
+-- before any bytes nothing is decided
+pub tokens_of-nil : (d : Dialect) (limit : ℕ) → tokens_of d limit [] false ≡ record { tokens = []; outcome = undecided; at = first_place }
+unfolding tokens_of utf8_valid_len
+tokens_of-nil d limit = ap (tokens_at d limit goes_on false false first_place) chars-nil ∙ nothing_yet d limit false first_place

@@ -107,7 +107,7 @@ given_beginning v bytes ts h = by_stop v.stopped v.ended h.reads
     by_stop false false r = (_, ap (λ x. x.tokens) (ap (λ b. tokens_of v.dialect v.limit b false) (sym (append-nil bytes)) ∙ r [] false))
 
 -- nothing is read of no text before more comes
-nothing_yet : (d : Dialect) (limit : ℕ) (b : Bool) (p : Place) → tokens d limit goes_on b p [] ≡ record { tokens = []; outcome = undecided; at = p }
+pub nothing_yet : (d : Dialect) (limit : ℕ) (b : Bool) (p : Place) → tokens d limit goes_on b p [] ≡ record { tokens = []; outcome = undecided; at = p }
 nothing_yet d limit b p = at_stop d limit goes_on b p [] undecided (open_step d limit)
 
 -- more bytes only lengthen the list

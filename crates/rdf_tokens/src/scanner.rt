@@ -6,7 +6,7 @@ ghost use Rattle.std.specs.String.{string_bytes};
 ghost use mathlib.Core.Option.{none};
 ghost use Rattle.std.specs.Borrow.{sem, follows_so};
 ghost use Rattle.rdf_tokens.specs.Tokens.{Token as Read, past, step};
-ghost use Rattle.rdf_tokens.specs.Scans.{HasRead, Pushes, Gives, most_bytes, token_of, place_of};
+ghost use Rattle.rdf_tokens.specs.Scans.{HasRead, IsOpen, Pushes, Gives, most_bytes, token_of, place_of};
 ghost use Rattle.rdf_tokens.specs.Look.{behind, IsLook};
 ghost use Rattle.rdf_tokens.specs.contracts.scanner.Scanner.{the_row};
 ghost use Rattle.rdf_tokens.specs.Moves.{closed, grown, good_bytes, is_broken, rest_of_bytes, is_settled, moved, tail_now, fault_place, IsGiven, Moves, Stands};
@@ -77,6 +77,7 @@ impl<A: Allocator + Copy> Scanner<A> {
         ensures read { HasRead result [] [] }
         ensures dialect { result.dialect ≡ dialect }
         ensures limit { result.limit ≡ limit }
+        ensures running { IsOpen result }
     {
         Scanner {
             dialect,
