@@ -12,7 +12,7 @@ mod Viable
 mod Refusals
 mod Lag
 mod Due
-mod DocumentsLemmas
+pub mod DocumentsLemmas
 pub mod EncodedLine
 pub mod PlainRuns
 pub mod WrittenBytesLemmas
@@ -20,3 +20,8 @@ pub mod LawExamples
 mod SpelledLemmas
 mod StatesLemmas
 mod ReadingLemmas
+mod ReachedLemmas
+mod FailsLemmas
+mod FeedsLemmas
+mod FinishLemmas
+mod NewLemmas

@@ -40,6 +40,7 @@ pub record SameReader (old new : LineRead) : Type 0 where
 
 -- All tokens that the piece decides were accepted, and their quads put.
 pub record Feeds {S : Type 0} (takes : S → Quad → S → Type 0) (old : LineRead) (before : S) (piece : List ℕ) (new : LineRead) (after : S) : Type 0 where
+  pub same : SameReader old new
   pub more : List Quad
   pub puts : Appends takes before more after
   pub read : (bytes : List ℕ) (quads : List Quad) → HasRead old bytes quads → HasRead new (bytes ++ piece) (quads ++ more)

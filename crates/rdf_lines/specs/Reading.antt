@@ -16,12 +16,14 @@ use Rattle.rdf_tokens.specs.Grammars.{counted}
 use Rattle.rdf_lines.specs.declared.form.LineForm.{LineForm}
 use Rattle.rdf_lines.specs.declared.fault.Fault.{Fault}
 use Rattle.rdf_lines.specs.declared.fault.Summary.{Summary}
-use Rattle.rdf_lines.specs.declared.reader.Progress.{Progress}
-use Rattle.rdf_lines.specs.declared.reader.Step.{Step}
-use Rattle.rdf_lines.specs.declared.reader.Step.TheVariants.{Accepted, Waiting, Complete}
+use Rattle.rdf_lines.specs.declared.reading.Progress.{Progress}
+use Rattle.rdf_lines.specs.declared.reading.Step.{Step}
+use Rattle.rdf_lines.specs.declared.reading.Step.TheVariants.{Accepted, Waiting, Complete}
 use Rattle.rdf_lines.specs.Lines.{leaf_of}
 use Rattle.rdf_lines.specs.Machine.{Mode, accept, ran, run}
 use Rattle.rdf_lines.specs.States.{mode_of, gave, Does, Fails}
+use Rattle.rdf_lines.specs.LineRead.{LineRead}
+use Rattle.rdf_lines.specs.Readers as R
 use Rattle.rdf_lines.specs.Readers.{place_of}
 
 -- where reading stands
@@ -128,3 +130,14 @@ pub record IsReady (v : Unread) (s : Summary) : Type 0 where
   pub lines : v.dialect ≡ Lines
   pub running : v.stopped ≡ false
   pub known : ∥ Known v s ∥₁
+
+-- the reader that these parts are
+abbrev pub line_read : {A : Type 0} → Unread → LineForm → Progress A → LineRead
+line_read v form p = record { scanner = v; form = form; mode = mode_of p.state; so_far = p.so_far; done = false }
+
+-- a reader that has read some bytes, and takes more
+pub record IsLive (r : LineRead) : Type 0 where
+  pub lines : r.scanner.dialect ≡ Lines
+  pub more : IsOpen r.scanner
+  pub most : r.scanner.taken.offset ≤ most_bytes
+  pub read : ∥ ((bytes : List ℕ) × (quads : List Quad) × R.HasRead r bytes quads) ∥₁

@@ -7,6 +7,7 @@ mod form;
 pub mod laws;
 mod line;
 mod reader;
+mod reading;
 mod spelled;
 mod state;
 mod string;
@@ -16,4 +17,5 @@ mod writer;
 
 pub use fault::{Fault, Summary};
 pub use form::{LineForm, Style};
+pub use reader::LineReader;
 pub use writer::{LabelFault, label_text, write_line};

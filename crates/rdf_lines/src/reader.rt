@@ -1,150 +1,123 @@
 // The reader of the line formats.
 
-ghost use Rattle.std.specs.Prelude.{◌≡◌, ◌≤◌, ◌+◌, false, cond, OnOk, IfOk, IfErr};
-ghost use Rattle.rdf_terms.specs.Terms.{has_scheme};
-ghost use Rattle.rdf_tokens.specs.Scans.{is_end, most_bytes};
-ghost use Rattle.rdf_lines.specs.Machine as M;
-ghost use Rattle.rdf_lines.specs.States.{mode_of, leaf, IsLineToken, Does, Fails};
-ghost use Rattle.rdf_lines.specs.Reading.{stand, Steps, ReadsTokens, IsReady, step_of, with_token};
-ghost use Rattle.rdf_tokens.specs.Scans.{token_of};
+ghost use Rattle.std.specs.Prelude.{◌≡◌, ◌≤◌, ◌<◌, ℕ, [], true, false, OnOk, OnErr, IfOk, IfErr};
+ghost use Rattle.rdf_tokens.specs.Scans.{most_bytes};
+ghost use Rattle.rdf_lines.specs.Readers.{HasRead, SameReader, Feeds, FeedFails, Finishes, FinishFails, place_of};
 
-use crate::accept::accept;
 use crate::fault::{Fault, Summary};
 use crate::form::LineForm;
-use crate::state::State;
-use rdf_terms::{Kind, QuadSink, Reason};
-use rdf_tokens::{ScanFault, Scanner, Token};
+use crate::reading::{Progress, read_end, read_piece};
+use rdf_terms::{QuadSink, Reason};
+use rdf_tokens::{Dialect, Scanner};
 use std::alloc::{Allocator, Global};
-use std::mem;
+use std::marker::Model;
 
-/// What has been read: of the line, and in all.
+/// Reads N-Triples or N-Quads, in pieces of any lengths, and puts the quads into sinks.
+///
+/// A quad is put when the dot of its statement is accepted. `feed` accepts all tokens that the bytes so far decide. The first
+/// token that no document can have there is refused, at its place. After a fault, and after `finish`, each call answers `Ended`.
 #[derive(Drop)]
-pub struct Progress<A: Allocator = Global> {
-    state: State<A>,
-    so_far: Summary,
+pub struct LineReader<A: Allocator = Global> {
+    alloc: A,
+    form: LineForm,
+    scanner: Scanner<A>,
+    progress: Progress<A>,
+    done: bool,
 }
 
-/// What the next token was.
-#[derive(Clone, Copy)]
-pub enum Step {
-    /// A token that was accepted.
-    Accepted,
-    /// The end, which was accepted.
-    Complete,
-    /// It is not decided.
-    Waiting,
+impl<A: Allocator> Model for LineReader<A> {
+    ghost use Rattle.std.specs.Prelude.{◌≡◌, false};
+    ghost use Rattle.rdf_lines.specs.LineRead.{LineRead};
+    ghost use Rattle.rdf_lines.specs.States.{mode_of};
+    ghost use Rattle.rdf_lines.specs.Reading.{IsLive, line_read};
+
+    ghost Value = { LineRead };
+
+    ghost view = { λ r. record {
+      scanner = r.scanner;
+      form = r.form;
+      mode = mode_of r.progress.state;
+      so_far = r.progress.so_far;
+      done = r.done;
+    } };
+
+    ghost invariant = { λ r. r.done ≡ false → IsLive (line_read r.scanner r.form r.progress) };
 }
 
-impl<A: Allocator> Progress<A> {
-    // Accepts a token. After an error nothing is known of the line.
-    fn take<S: QuadSink>(
-        &mut self,
-        alloc: A,
-        form: LineForm,
-        token: Token<'_>,
-        sink: &mut S,
-    ) -> Result<(), Reason>
-        requires token { IsLineToken token }
-        requires live { S.has_failed sink.old ≡ false }
-        requires room { self.old.so_far.tokens ≤ most_bytes }
-        requires fewer { self.old.so_far.quads ≤ self.old.so_far.tokens }
-        ensures ok { OnOk result (Does S.takes (M.accept has_scheme form (mode_of self.old.state) token.entry.kind (leaf token.entry)) sink.old (mode_of self.new.state) sink.new) }
-        ensures so_far { OnOk result (self.new.so_far ≡ with_token self.old.so_far token.entry.kind (mode_of self.new.state)) }
-        ensures live { OnOk result (S.has_failed sink.new ≡ false) }
-        ensures err { IfErr result (λ r. Fails S.leaves S.has_failed r (M.accept has_scheme form (mode_of self.old.state) token.entry.kind (leaf token.entry)) sink.old sink.new) }
+impl<A: Allocator + Copy> LineReader<A> {
+    /// A reader that has read nothing. A token has at most `limit` characters. It takes no memory.
+    pub fn new(alloc: A, form: LineForm, limit: u64) -> LineReader<A>
+        ensures read { HasRead result [] [] }
+        ensures form { result.form ≡ form }
+        ensures limit { result.scanner.limit ≡ limit }
     {
-        let state = mem::replace(&mut self.state, State::Finished);
-        self.state = accept(alloc, form, state, token, sink)?;
-        self.so_far = with_token(self.so_far, token.kind, self.state.gave());
-        Ok(())
+        LineReader {
+            alloc,
+            form,
+            scanner: Scanner::new(alloc, Dialect::Lines, limit),
+            progress: Progress::new(),
+            done: false,
+        }
     }
-}
 
-// Reads one token.
-fn read_token<A: Allocator + Copy, S: QuadSink>(
-    alloc: A,
-    form: LineForm,
-    scanner: &mut Scanner<A>,
-    progress: &mut Progress<A>,
-    sink: &mut S,
-) -> Result<Step, Fault>
-    requires ready { IsReady scanner.old progress.old.so_far }
-    requires live { S.has_failed sink.old ≡ false }
-    ensures steps { Steps S.takes S.leaves S.has_failed form (stand scanner.old progress.old sink.old) result (stand scanner.new progress.new sink.new) }
-    ensures live { OnOk result (S.has_failed sink.new ≡ false) }
-{
-    match scanner.next() {
-        Err(fault) => Err(told(fault)),
-        Ok(None) => Ok(Step::Waiting),
-        Ok(Some(token)) => match progress.take(alloc, form, token, sink) {
-            Ok(()) => Ok(accepted(token.kind)),
-            Err(reason) => Err(Fault {
-                reason,
-                offset: token.offset,
-                line: token.line,
-            }),
-        },
+    /// Reads a piece of the document. The sink keeps the quads that were put before a fault.
+    pub fn feed<S: QuadSink>(&mut self, piece: &[u8], sink: &mut S) -> Result<(), Fault>
+        requires { self.old.done ≡ false → S.has_failed sink.old ≡ false }
+        ensures ok { OnOk result (Feeds S.takes self.old sink.old piece.now self.new sink.new) }
+        ensures few { OnOk result (self.new.scanner.taken.offset ≤ most_bytes) }
+        ensures err { IfErr result (λ f. FeedFails S.takes S.leaves S.has_failed f.reason (place_of f) self.old sink.old piece.now self.new sink.new) }
+        ensures done { OnErr result (self.new.done ≡ true) }
+    {
+        if self.done {
+            return Err(self.ended());
+        }
+        match read_piece(
+            self.alloc,
+            self.form,
+            &mut self.scanner,
+            &mut self.progress,
+            piece,
+            sink,
+        ) {
+            Ok(()) => Ok(()),
+            Err(fault) => {
+                self.done = true;
+                Err(fault)
+            }
+        }
     }
-}
 
-fn told(fault: ScanFault) -> Fault
-    ensures { result ≡ record { reason = fault.reason; offset = fault.offset; line = fault.line } }
-{
-    Fault {
-        reason: fault.reason,
-        offset: fault.offset,
-        line: fault.line,
+    /// Reads the end of the document, and says what was read in all. It is the last call that does so.
+    pub fn finish<S: QuadSink>(&mut self, sink: &mut S) -> Result<Summary, Fault>
+        requires { self.old.done ≡ false → S.has_failed sink.old ≡ false }
+        ensures ok { IfOk result (λ s. Finishes S.takes self.old sink.old s sink.new) }
+        ensures err { IfErr result (λ f. FinishFails S.takes S.leaves S.has_failed f.reason (place_of f) self.old sink.old self.new sink.new) }
+        ensures done { self.new.done ≡ true }
+    {
+        if self.done {
+            return Err(self.ended());
+        }
+        self.done = true;
+        match read_end(
+            self.alloc,
+            self.form,
+            &mut self.scanner,
+            &mut self.progress,
+            sink,
+        ) {
+            Ok(()) => Ok(self.progress.so_far()),
+            Err(fault) => Err(fault),
+        }
     }
-}
 
-fn accepted(kind: Kind) -> Step
-    ensures { result ≡ step_of kind }
-{
-    if is_end(kind) {
-        Step::Complete
-    } else {
-        Step::Accepted
-    }
-}
-
-// The counts with a token more, and a quad more where one was given.
-fn with_token(so_far: Summary, kind: Kind, gave: bool) -> Summary
-    requires room { so_far.tokens ≤ most_bytes }
-    requires fewer { so_far.quads ≤ so_far.tokens }
-    ensures { result ≡ record { quads = so_far.quads + cond gave 1 0; tokens = so_far.tokens + cond (is_end kind) 0 1; bytes = so_far.bytes } }
-{
-    Summary {
-        quads: so_far.quads + u64::from(gave),
-        tokens: so_far.tokens + u64::from(!is_end(kind)),
-        bytes: so_far.bytes,
-    }
-}
-
-fn is_end(kind: Kind) -> bool
-    ensures { result ≡ is_end kind }
-{
-    matches!(kind, Kind::End)
-}
-
-// Reads all tokens that come.
-fn read_tokens<A: Allocator + Copy, S: QuadSink>(
-    alloc: A,
-    form: LineForm,
-    scanner: &mut Scanner<A>,
-    progress: &mut Progress<A>,
-    sink: &mut S,
-) -> Result<(), Fault>
-    requires ready { IsReady scanner.old progress.old.so_far }
-    requires live { S.has_failed sink.old ≡ false }
-    ensures reads { ReadsTokens S.takes S.leaves S.has_failed form (stand scanner.old progress.old sink.old) result (stand scanner.new progress.new sink.new) }
-    ensures live { OnOk result (S.has_failed sink.new ≡ false) }
-{
-    'tokens: loop {
-        match read_token(alloc, form, scanner, progress, sink) {
-            Ok(Step::Accepted) => {}
-            Ok(Step::Waiting) => return Ok(()),
-            Ok(Step::Complete) => return Ok(()),
-            Err(fault) => return Err(fault),
+    fn ended(&self) -> Fault
+        ensures { result.reason ≡ Reason.Ended }
+    {
+        let so_far = self.progress.so_far();
+        Fault {
+            reason: Reason::Ended,
+            offset: so_far.bytes,
+            line: 1,
         }
     }
 }

@@ -2,7 +2,7 @@ use Rattle.std.proofs.Common.{[], ◌∷◌, ◌++◌, inl, inr, refl, ap, cond,
 use Rattle.rdf_tokens.specs.Scans.{is_end}
 use Rattle.rdf_lines.specs.Reading.{stand}
 use Rattle.rdf_lines.proofs.ReadingLemmas.{advances_none, advances_token, advances_waits, decided_waits, ready_token}
-use Rattle.rdf_lines.proofs.reader.read_tokens.Goals as goal
+use Rattle.rdf_lines.proofs.reading.read_tokens.Goals as goal
 
 pub tokens-init : goal.tokens-init
 tokens-init g c = record {

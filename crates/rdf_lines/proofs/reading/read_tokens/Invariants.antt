@@ -3,7 +3,7 @@ use Rattle.rdf_terms.specs.Terms.{Quad}
 use Rattle.rdf_tokens.specs.Tokens.{Token}
 use Rattle.rdf_tokens.specs.Scans.{left}
 use Rattle.rdf_lines.specs.Reading.{stand, Advances, IsReady}
-use Rattle.rdf_lines.proofs.reader.read_tokens.Given as goal
+use Rattle.rdf_lines.proofs.reading.read_tokens.Given as goal
 
 abbrev pub invariant-tokens : goal.invariant-tokens
 invariant-tokens g l = record {
