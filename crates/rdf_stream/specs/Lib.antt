@@ -1,0 +1,5 @@
+pub mod Devices
+pub mod Messages
+pub mod LineText
+pub mod Converts
+pub mod Faults

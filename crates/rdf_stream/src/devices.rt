@@ -1,0 +1,178 @@
+// Where bytes come from and where they go, and std's readers and writers in these places.
+
+ghost use Rattle.std.specs.Prelude.{◌≡◌, ℕ, ◌<◌, ◌≤◌, List, length, true, false, is_err, is_ok, Option, Bool, IfOk};
+ghost use Rattle.std.specs.Io.KnownBytes.{Keeps, ReadConsumes, WriteAppends};
+ghost use Rattle.rdf_stream.specs.Devices.{Reading, Written};
+
+use std::io::{Read, Write};
+use std::marker::Model;
+
+/// The device failed.
+#[derive(Clone, Copy, Debug, PartialEq, Eq)]
+pub struct Failed;
+
+/// Gives bytes, a piece at a time.
+pub trait Source {
+    /// The bytes that are left, where they are known.
+    ghost remaining: { Self → Option (List ℕ) };
+    /// Whether a call has failed.
+    ghost has_failed: { Self → Bool };
+
+    /// Fills a front of the buffer, and answers its length in bytes. A 0 into a buffer that is not empty is
+    /// the end. After a failure it is not called again.
+    fn fill(&mut self, buf: &mut [u8]) -> Result<usize, Failed>
+        requires live { has_failed self.old ≡ false }
+        ensures bound { IfOk result (λ n. n ≤ length buf.new) }
+        ensures len { length buf.new ≡ length buf.old }
+        ensures bytes { ReadConsumes (remaining self.old) (remaining self.new) result buf.new }
+        ensures failed { has_failed self.new ≡ is_err result };
+
+    /// Whether a call has failed.
+    fn failed(&self) -> bool
+        ensures { result ≡ has_failed self.now };
+}
+
+/// Takes bytes, a piece at a time.
+pub trait Drain {
+    /// The bytes that were taken, where they are known.
+    ghost contents: { Self → Option (List ℕ) };
+    /// Whether a call has failed.
+    ghost has_failed: { Self → Bool };
+    /// Whether a flush answered Ok since the last byte.
+    ghost is_flushed: { Self → Bool };
+
+    /// Takes a front of the bytes, and answers its length. It takes at least one byte, where there is one.
+    /// After a failure neither this nor `flush` is called again.
+    fn put_some(&mut self, bytes: &[u8]) -> Result<usize, Failed>
+        requires live { has_failed self.old ≡ false }
+        ensures bound { IfOk result (λ n. n ≤ length bytes.now) }
+        ensures progress { IfOk result (λ n. 0 < length bytes.now → 0 < n) }
+        ensures bytes { WriteAppends (contents self.old) (contents self.new) result bytes.now }
+        ensures unflushed { IfOk result (λ n. 0 < n → is_flushed self.new ≡ false) }
+        ensures failed { has_failed self.new ≡ is_err result };
+
+    /// Sends on what was taken.
+    fn flush(&mut self) -> Result<(), Failed>
+        requires live { has_failed self.old ≡ false }
+        ensures bytes { Keeps (contents self.old) (contents self.new) }
+        ensures flushed { is_flushed self.new ≡ is_ok result }
+        ensures failed { has_failed self.new ≡ is_err result };
+
+    /// Whether a call has failed.
+    fn failed(&self) -> bool
+        ensures { result ≡ has_failed self.now };
+}
+
+/// A reader as a source. Each error of the reader, `Interrupted` too, is a failure.
+#[derive(Drop)]
+pub struct In<R: Read> {
+    reader: R,
+    failed: bool,
+}
+
+impl<R: Read> Model for In<R> {
+    ghost Value = { Reading };
+
+    ghost view = { λ s. record { remaining = R.remaining s.reader; has_failed = s.failed } };
+}
+
+impl<R: Read> In<R> {
+    /// A source that reads on from where the reader stands.
+    pub fn new(reader: R) -> In<R>
+        ensures { result ≡ record { remaining = R.remaining reader; has_failed = false } }
+    {
+        In {
+            reader,
+            failed: false,
+        }
+    }
+}
+
+impl<R: Read> Source for In<R> {
+    ghost remaining = { λ s. s.remaining };
+
+    ghost has_failed = { λ s. s.has_failed };
+
+    fn fill(&mut self, buf: &mut [u8]) -> Result<usize, Failed> {
+        match self.reader.read(buf) {
+            Ok(count) => Ok(count),
+            Err(_) => {
+                self.failed = true;
+                Err(Failed)
+            }
+        }
+    }
+
+    fn failed(&self) -> bool {
+        self.failed
+    }
+}
+
+/// A writer as a drain. Each error of the writer, `Interrupted` too, is a failure, and so is a write of 0 bytes
+/// where there are some.
+#[derive(Drop)]
+pub struct Out<W: Write> {
+    writer: W,
+    failed: bool,
+    flushed: bool,
+}
+
+impl<W: Write> Model for Out<W> {
+    ghost Value = { Written };
+
+    ghost view = { λ s. record { contents = W.contents s.writer; has_failed = s.failed; is_flushed = s.flushed } };
+}
+
+impl<W: Write> Out<W> {
+    /// A drain that writes on from where the writer stands.
+    pub fn new(writer: W) -> Out<W>
+        ensures { result ≡ record { contents = W.contents writer; has_failed = false; is_flushed = false } }
+    {
+        Out {
+            writer,
+            failed: false,
+            flushed: false,
+        }
+    }
+}
+
+impl<W: Write> Drain for Out<W> {
+    ghost contents = { λ s. s.contents };
+
+    ghost has_failed = { λ s. s.has_failed };
+
+    ghost is_flushed = { λ s. s.is_flushed };
+
+    fn put_some(&mut self, bytes: &[u8]) -> Result<usize, Failed> {
+        self.flushed = false;
+        match self.writer.write(bytes) {
+            Ok(count) if count == 0 && !bytes.is_empty() => {
+                self.failed = true;
+                Err(Failed)
+            }
+            Ok(count) => Ok(count),
+            Err(_) => {
+                self.failed = true;
+                Err(Failed)
+            }
+        }
+    }
+
+    fn flush(&mut self) -> Result<(), Failed> {
+        match self.writer.flush() {
+            Ok(()) => {
+                self.flushed = true;
+                Ok(())
+            }
+            Err(_) => {
+                self.flushed = false;
+                self.failed = true;
+                Err(Failed)
+            }
+        }
+    }
+
+    fn failed(&self) -> bool {
+        self.failed
+    }
+}

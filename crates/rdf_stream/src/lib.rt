@@ -1,0 +1,19 @@
+//! From a source of bytes to a drain of bytes: a document is read, and its quads are written as lines of N-Quads.
+#![tactic(auto)]
+
+mod conversions;
+mod devices;
+mod fault;
+mod line_text;
+mod messages;
+mod put;
+#[cfg(test)]
+mod tests;
+mod views;
+
+pub use conversions::convert;
+pub use devices::{Drain, Failed, In, Out, Source};
+pub use fault::{Form, StreamFault};
+pub use messages::report;
+pub use put::put_all;
+pub use rdf_lines::{Fault, Summary};

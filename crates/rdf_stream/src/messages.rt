@@ -1,0 +1,81 @@
+// The line that tells of a fault.
+
+ghost use Rattle.std.specs.Prelude.{◌≡◌, ◌++◌, codes, decimal, IfOk, IfErr, OnOk, OnErr};
+ghost use Rattle.rdf_stream.specs.Messages.{reason_text, place_text, fault_text, report_text};
+
+use crate::fault::StreamFault;
+use itoa::Buffer;
+use rdf_lines::Fault;
+use rdf_terms::Reason;
+use std::alloc::{AllocError, Allocator};
+
+/// Appends the line that tells of the fault, with its LF. Where a growth of memory is refused, it appends nothing.
+pub fn report<A: Allocator + Copy>(
+    alloc: A,
+    fault: &StreamFault,
+    out: &mut Vec<u8, A>,
+) -> Result<(), StreamFault>
+    ensures ok { OnOk result (out.new.items ≡ out.old.items ++ report_text fault.now) }
+    ensures err { OnErr result (out.new.items ≡ out.old.items) }
+    ensures memory { IfErr result (λ e. e ≡ StreamFault.Memory) }
+{
+    let line = report_line(alloc, fault)?;
+    out.extend_from_slice(line.as_slice())?;
+    Ok(())
+}
+
+fn report_line<A: Allocator + Copy>(alloc: A, fault: &StreamFault) -> Result<Vec<u8, A>, AllocError>
+    ensures { IfOk result (λ line. line.items ≡ report_text fault.now) }
+{
+    let mut line = Vec::from_slice(alloc, b"rdfconv: ")?;
+    put_fault(fault, &mut line)?;
+    line.extend_from_slice(b"\n")?;
+    Ok(line)
+}
+
+fn put_fault<A: Allocator + Copy>(
+    fault: &StreamFault,
+    line: &mut Vec<u8, A>,
+) -> Result<(), AllocError>
+    ensures { OnOk result (line.new.items ≡ line.old.items ++ fault_text fault.now) }
+{
+    match fault {
+        StreamFault::Refused(fault) => put_refusal(fault, line),
+        StreamFault::Read => line.extend_from_slice(b"read failed"),
+        StreamFault::Write => line.extend_from_slice(b"write failed"),
+        StreamFault::Memory => line.extend_from_slice(b"out of memory"),
+    }
+}
+
+fn put_refusal<A: Allocator + Copy>(fault: &Fault, line: &mut Vec<u8, A>) -> Result<(), AllocError>
+    ensures { OnOk result (line.new.items ≡ line.old.items ++ place_text fault.now) }
+{
+    line.extend_from_slice(words(fault.reason).as_bytes())?;
+    line.extend_from_slice(b" at byte ")?;
+    put_number(fault.offset, line)?;
+    line.extend_from_slice(b", line ")?;
+    put_number(fault.line, line)
+}
+
+fn put_number<A: Allocator + Copy>(number: u64, line: &mut Vec<u8, A>) -> Result<(), AllocError>
+    ensures { OnOk result (line.new.items ≡ line.old.items ++ decimal number) }
+{
+    line.extend_from_slice(Buffer::new().format(number).as_bytes())
+}
+
+fn words(reason: Reason) -> &'static str
+    ensures { result.now ≡ reason_text reason }
+{
+    match reason {
+        Reason::BadUtf8 => "bad UTF-8",
+        Reason::NoToken => "no token",
+        Reason::BadEscape => "bad escape",
+        Reason::TokenTooLong => "token too long",
+        Reason::DocumentTooLong => "document too long",
+        Reason::Memory => "out of memory",
+        Reason::Ended => "ended",
+        Reason::Unexpected => "unexpected token",
+        Reason::RelativeIri => "relative IRI",
+        Reason::Sink => "write failed",
+    }
+}
