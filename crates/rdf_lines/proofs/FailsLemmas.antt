@@ -96,7 +96,7 @@ module _ {S : Type 0} (takes leaves : S → Quad → S → Type 0) (failed : S �
       let t = x.fails in
       ⊎_elim
       (λ e. leaves_here x.stand x.tokens x.quads [] sink x.advances e
-          (λ bytes us quads r. subst (IsDueIn old.form (tokens_of Lines x.stand.scanner.limit bytes x.stand.scanner.ended)) (sym (append-nil quads)) (due_in_reading old.form x.stand.scanner x.stand.mode bytes us quads r)))
+      (λ bytes us quads r. subst (IsDueIn old.form (tokens_of Lines x.stand.scanner.limit bytes x.stand.scanner.ended)) (sym (append-nil quads)) (due_in_reading old.form x.stand.scanner x.stand.mode bytes us quads r)))
       (λ l. leaves_put x.stand x.tokens x.quads t.token scanner sink x.advances t.given l)
       t.fails
 
