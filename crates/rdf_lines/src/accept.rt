@@ -205,10 +205,7 @@ fn after_object<A: Allocator, S: QuadSink>(
     ensures err { IfErr result (λ r. Fails S.leaves S.has_failed r (M.object_then has_scheme form (owned_subject subject) predicate (object_of object) token.entry.kind (leaf token.entry)) sink.old sink.new) }
 {
     match (form, token.kind) {
-        (_, Kind::Dot) => {
-            give(&subject, &predicate, &object, None, sink)?;
-            Ok(State::AfterDot)
-        }
+        (_, Kind::Dot) => give(&subject, &predicate, &object, None, sink),
         (LineForm::NQuads, Kind::IriRef) => Ok(State::AfterGraph {
             subject,
             predicate,
@@ -239,10 +236,7 @@ fn after_graph<A: Allocator, S: QuadSink>(
     ensures err { IfErr result (λ r. (f : LineForm) → Fails S.leaves S.has_failed r (M.accept has_scheme f (M.AfterGraph (owned_subject subject) predicate (object_of object) (owned_subject graph)) token.entry.kind (leaf token.entry)) sink.old sink.new) }
 {
     match token.kind {
-        Kind::Dot => {
-            give(&subject, &predicate, &object, Some(graph.view()), sink)?;
-            Ok(State::AfterDot)
-        }
+        Kind::Dot => give(&subject, &predicate, &object, Some(graph.view()), sink),
         _ => Err(Reason::Unexpected),
     }
 }
@@ -258,16 +252,16 @@ fn after_dot<A: Allocator>(token: Token<'_>) -> Result<State<A>, Reason>
     }
 }
 
-// Puts the quad of these parts.
+// Puts the quad of these parts, whose dot has come.
 fn give<A: Allocator, S: QuadSink>(
     subject: &Subject<A>,
     predicate: &Iri<A>,
     object: &Object<A>,
     graph: Option<SubjectRef<'_>>,
     sink: &mut S,
-) -> Result<(), Reason>
+) -> Result<State<A>, Reason>
     requires { S.has_failed sink.old ≡ false }
-    ensures ok { OnOk result (S.takes sink.old (quad (owned_subject subject.now) predicate.now (object_of object.now) (option_map (subject_by chars) graph.entry)) sink.new) }
+    ensures ok { IfOk result (λ s. Does S.takes (gives (quad (owned_subject subject.now) predicate.now (object_of object.now) (option_map (subject_by chars) graph.entry)) M.AfterDot) sink.old (mode_of s) sink.new) }
     ensures live { OnOk result (S.has_failed sink.new ≡ false) }
     ensures err { IfErr result (λ r. Fails S.leaves S.has_failed r (gives (quad (owned_subject subject.now) predicate.now (object_of object.now) (option_map (subject_by chars) graph.entry)) M.AfterDot) sink.old sink.new) }
 {
@@ -278,7 +272,7 @@ fn give<A: Allocator, S: QuadSink>(
         graph,
     };
     match sink.put(quad) {
-        Ok(()) => Ok(()),
+        Ok(()) => Ok(State::AfterDot),
         Err(PutFault::Memory) => Err(Reason::Memory),
         Err(PutFault::Device) => Err(Reason::Sink),
     }

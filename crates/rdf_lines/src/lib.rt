@@ -12,6 +12,8 @@ mod spelled;
 mod state;
 mod string;
 mod term;
+#[cfg(test)]
+mod tests;
 mod writable;
 mod writer;
 

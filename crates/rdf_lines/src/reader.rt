@@ -65,6 +65,7 @@ impl<A: Allocator + Copy> LineReader<A> {
         requires { self.old.done ≡ false → S.has_failed sink.old ≡ false }
         ensures ok { OnOk result (Feeds S.takes self.old sink.old piece.now self.new sink.new) }
         ensures few { OnOk result (self.new.scanner.taken.offset ≤ most_bytes) }
+        ensures live { OnOk result (S.has_failed sink.new ≡ false) }
         ensures err { IfErr result (λ f. FeedFails S.takes S.leaves S.has_failed f.reason (place_of f) self.old sink.old piece.now self.new sink.new) }
         ensures done { OnErr result (self.new.done ≡ true) }
     {

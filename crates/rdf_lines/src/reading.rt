@@ -213,6 +213,7 @@ pub fn read_piece<A: Allocator + Copy, S: QuadSink>(
     requires live { S.has_failed sink.old ≡ false }
     ensures ok { OnOk result (Feeds S.takes (line_read scanner.old form progress.old) sink.old piece.now (line_read scanner.new form progress.new) sink.new) }
     ensures reader { OnOk result (IsLive (line_read scanner.new form progress.new)) }
+    ensures live { OnOk result (S.has_failed sink.new ≡ false) }
     ensures err { IfErr result (λ f. FeedFails S.takes S.leaves S.has_failed f.reason (place_of f) (line_read scanner.old form progress.old) sink.old piece.now (line_read scanner.new form progress.new) sink.new) }
 {
     let mut rest = piece;
