@@ -78,18 +78,8 @@ mod tests {
     fn the_longest_token_at_the_end_of_the_input(rt: HostRuntime) {
         let table = [
             ("", Look::Complete),
-            ("1.", Look::Token(1, Kind::Integer)),
-            ("1.e5", Look::Token(4, Kind::Double)),
-            ("1e:x", Look::Token(1, Kind::Integer)),
-            ("x:d.e.", Look::Token(5, Kind::PnameLn)),
-            ("truefalse", Look::Token(4, Kind::True)),
-            ("true:x", Look::Token(6, Kind::PnameLn)),
-            ("@prefixed", Look::Token(9, Kind::LangTag)),
             ("@prefix :", Look::Token(7, Kind::AtPrefix)),
-            ("\"\" ", Look::Token(2, Kind::ShortString)),
-            ("\"\"\"\"\"\"", Look::Token(6, Kind::LongString)),
             ("\"\"\"a", Look::Stop(Reason::NoToken)),
-            ("..5", Look::Token(1, Kind::Dot)),
             ("_:a.", Look::Token(3, Kind::LabelNode)),
             ("é:ü ", Look::Token(5, Kind::PnameLn)),
             ("<a b>", Look::Stop(Reason::NoToken)),

@@ -94,31 +94,101 @@ fn a_bad_byte_is_told_behind_the_text(rt: HostRuntime) {
     assert_eq!(rt; next(&mut scanner), Told::Fault(Reason::BadUtf8, 4));
 }
 
-const DOCUMENT: &[u8] = b"\xEF\xBB\xBF<http://\xC3\xA9/> a \"x\", 1.5e0 # \xC3\xBC\n'''y\n''' .";
-
-fn tokens_of(alloc: Global, pieces: [&[u8]; 3]) -> Result<Vec<Told>, Fail> {
-    let mut scanner = Scanner::new(alloc, Dialect::Turtle, 64);
-    let mut tokens = Vec::new(alloc);
-    for piece in pieces {
-        push(&mut scanner, piece);
-        for _ in 0..20 {
-            let told = next(&mut scanner);
-            if told == Told::Undecided {
-                break;
-            }
-            tokens.push(told)?;
-        }
-    }
-    scanner.end();
+// Takes answers until the scanner waits or stops.
+fn take_answers(scanner: &mut Scanner, told: &mut Vec<Told>) -> Result<(), Fail> {
     for _ in 0..20 {
-        let told = next(&mut scanner);
-        tokens.push(told)?;
-        if matches!(told, Told::Fault(_, _)) {
+        let answer = next(scanner);
+        if answer == Told::Undecided {
+            break;
+        }
+        told.push(answer)?;
+        if matches!(answer, Told::Fault(_, _)) {
             break;
         }
     }
-    Ok(tokens)
+    Ok(())
 }
+
+// The answers to a text of the Turtle dialect, cut behind each byte whose bit is set.
+fn answers_to(alloc: Global, text: &[u8], cuts: u64) -> Result<Vec<Told>, Fail> {
+    let mut scanner = Scanner::new(alloc, Dialect::Turtle, 64);
+    let mut told = Vec::new(alloc);
+    let mut piece = Vec::new(alloc);
+    let mut left = cuts;
+    for byte in text {
+        piece.push(*byte)?;
+        if left % 2 == 1 {
+            push(&mut scanner, piece.as_slice());
+            piece.clear();
+            take_answers(&mut scanner, &mut told)?;
+        }
+        left /= 2;
+    }
+    push(&mut scanner, piece.as_slice());
+    scanner.end();
+    take_answers(&mut scanner, &mut told)?;
+    Ok(told)
+}
+
+/// Texts of the Turtle dialect, and their tokens before the end.
+const EXAMPLES: [(&str, &[Told]); 10] = [
+    (
+        "1.",
+        &[
+            Told::Token(Kind::Integer, 0, 1, 1),
+            Told::Token(Kind::Dot, 1, 1, 1),
+        ],
+    ),
+    ("1.e5", &[Told::Token(Kind::Double, 0, 1, 4)]),
+    (
+        "1e:x",
+        &[
+            Told::Token(Kind::Integer, 0, 1, 1),
+            Told::Token(Kind::PnameLn, 1, 1, 3),
+        ],
+    ),
+    (
+        "x:d.e.",
+        &[
+            Told::Token(Kind::PnameLn, 0, 1, 5),
+            Told::Token(Kind::Dot, 5, 1, 1),
+        ],
+    ),
+    (
+        "truefalse",
+        &[
+            Told::Token(Kind::True, 0, 1, 4),
+            Told::Token(Kind::False, 4, 1, 5),
+        ],
+    ),
+    ("true:x", &[Told::Token(Kind::PnameLn, 0, 1, 6)]),
+    ("@prefixed", &[Told::Token(Kind::LangTag, 0, 1, 9)]),
+    ("\"\" ", &[Told::Token(Kind::ShortString, 0, 1, 2)]),
+    ("\"\"\"\"\"\"", &[Told::Token(Kind::LongString, 0, 1, 6)]),
+    (
+        "..5",
+        &[
+            Told::Token(Kind::Dot, 0, 1, 1),
+            Told::Token(Kind::Decimal, 1, 1, 2),
+        ],
+    ),
+];
+
+#[test]
+fn cuts_change_no_example(rt: HostRuntime) -> Result<(), Fail> {
+    for (text, tokens) in EXAMPLES {
+        let mut want = Vec::from_slice(rt.alloc(), tokens)?;
+        want.push(Told::Token(Kind::End, text.len() as u64, 1, 0))?;
+        want.push(Told::Fault(Reason::Ended, text.len() as u64))?;
+        for cuts in 0..512 {
+            let told = answers_to(rt.alloc(), text.as_bytes(), cuts)?;
+            assert_eq!(rt; told.as_slice(), want.as_slice(), "{text} cut by {cuts}");
+        }
+    }
+    Ok(())
+}
+
+const DOCUMENT: &[u8] = b"\xEF\xBB\xBF<http://\xC3\xA9/> a \"x\", 1.5e0 # \xC3\xBC\n'''y\n''' .";
 
 #[test]
 fn cuts_change_nothing(rt: HostRuntime) -> Result<(), Fail> {
@@ -133,11 +203,11 @@ fn cuts_change_nothing(rt: HostRuntime) -> Result<(), Fail> {
         Told::Token(Kind::End, 44, 3, 0),
         Told::Fault(Reason::Ended, 44),
     ];
-    for i in 0..DOCUMENT.len() {
-        for j in i..DOCUMENT.len() {
-            let pieces = [&DOCUMENT[..i], &DOCUMENT[i..j], &DOCUMENT[j..]];
-            let tokens = tokens_of(rt.alloc(), pieces)?;
-            assert_eq!(rt; tokens.as_slice(), want.as_slice(), "cut at {i} and {j}");
+    for i in 0..44 {
+        for j in 0..=i {
+            let cuts = 1u64.rotate_left(i) | 1u64.rotate_left(j);
+            let told = answers_to(rt.alloc(), DOCUMENT, cuts)?;
+            assert_eq!(rt; told.as_slice(), want.as_slice(), "cut at {i} and {j}");
         }
     }
     Ok(())
