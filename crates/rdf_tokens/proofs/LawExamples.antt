@@ -12,11 +12,11 @@ use Rattle.rdf_terms.specs.Shapes.{shape, kind_of, is_live}
 use Rattle.rdf_terms.specs.Values.{is_fit}
 use Rattle.rdf_tokens.specs.Tokens.{Token, step, read, tokens}
 use Rattle.rdf_tokens.specs.Tokens.Outcome.{undecided, complete}
-use Rattle.rdf_tokens.specs.Good.{tokens_of}
+use Rattle.rdf_tokens.specs.Good.{end_of, tokens_of}
+use Rattle.rdf_tokens.specs.Unread.{Unread}
 use Rattle.rdf_tokens.specs.Scans.{HasRead, IsToken}
-use Rattle.rdf_tokens.specs.Moves.{grown}
 use Rattle.rdf_tokens.specs.Laws.{IsBeginning, StandsIn}
-use Rattle.rdf_tokens.proofs.ReadLemmas.{unread, read_new, read_push}
+use Rattle.rdf_tokens.proofs.ReadLemmas.{unread}
 use Rattle.rdf_tokens.proofs.LawLemmas.{lengthens, given_beginning, places, have_shapes, end_last}
 
 one : Token
@@ -44,12 +44,24 @@ part_first =
     subst (λ r. IsBeginning r.tokens (one ∷ dot ∷ end ∷ [])) read_part
     (subst (λ r. IsBeginning (tokens_of Turtle 8 (49 ∷ 32 ∷ []) false).tokens r.tokens) read_whole (lengthens Turtle 8 (49 ∷ 32 ∷ []) (46 ∷ []) true).0)
 
--- nothing was given before the first call
-nothing_first : IsBeginning [] (one ∷ [])
-nothing_first =
-    let new : HasRead (unread Turtle 8 (chars []) []) [] [] = read_new Turtle 8 [] [] refl refl in
-    subst (λ r. IsBeginning [] r.tokens) read_part
-    (given_beginning (grown (unread Turtle 8 (chars []) []) (49 ∷ 32 ∷ [])) (49 ∷ 32 ∷ []) [] (read_push (unread Turtle 8 (chars []) []) [] (49 ∷ 32 ∷ []) [] refl refl new))
+-- a scanner that was handed `1 .` and its end, and has given the integer
+given_one : Unread
+given_one = record (unread Turtle 8 (32 ∷ 46 ∷ []) []) {
+  place = record { offset = 1; line = 1 };
+  begun = true;
+  taken = end_of (49 ∷ 32 ∷ 46 ∷ []);
+  ended = true;
+}
+
+has_given_one : HasRead given_one (49 ∷ 32 ∷ 46 ∷ []) (one ∷ [])
+unfolding given_one tokens_of tokens read step kind_of is_live shape has chars utf8_valid_len utf8_error_len is_utf8 encode one is_fit
+has_given_one = record { taken = refl; reads = refl }
+
+-- the integer is first
+one_first : IsBeginning (one ∷ []) (one ∷ dot ∷ end ∷ [])
+unfolding given_one
+one_first =
+    subst (λ r. IsBeginning (one ∷ []) r.tokens) read_whole (given_beginning given_one (49 ∷ 32 ∷ 46 ∷ []) (one ∷ []) has_given_one)
 
 -- the dot stands at its place, and has its shape
 dot_stands : StandsIn (49 ∷ 32 ∷ 46 ∷ []) dot
