@@ -1,5 +1,5 @@
 -- The laws at the text `1 .`, an integer and a dot.
-use Rattle.std.proofs.Common.{◌≡◌, true, false, List, [], ◌∷◌, ◌++◌, refl, sym, ap, ◌∙◌, subst}
+use Rattle.std.proofs.Common.{Err, ◌≡◌, true, false, List, [], ◌∷◌, ◌++◌, refl, sym, ap, ◌∙◌, subst}
 use Rattle.std.specs.List.{All}
 use Rattle.std.proofs.lemmas.List.Elements.{All-head, All-tail}
 use Rattle.std.proofs.Math.Utf8.{encode}
@@ -7,6 +7,7 @@ use Rattle.std.specs.Str.{chars, is_utf8}
 use Rattle.std.specs.Str.Lossy.{utf8_valid_len, utf8_error_len}
 use Rattle.rdf_terms.specs.declared.kind.Dialect.TheVariants.{Turtle}
 use Rattle.rdf_terms.specs.declared.kind.Kind.TheVariants.{Integer, Dot, End}
+use Rattle.rdf_terms.specs.declared.reason.Reason.TheVariants.{Ended}
 use Rattle.rdf_terms.specs.Classes.{has}
 use Rattle.rdf_terms.specs.Shapes.{shape, kind_of, is_live}
 use Rattle.rdf_terms.specs.Values.{is_fit}
@@ -15,9 +16,9 @@ use Rattle.rdf_tokens.specs.Tokens.Outcome.{undecided, complete}
 use Rattle.rdf_tokens.specs.Good.{end_of, tokens_of}
 use Rattle.rdf_tokens.specs.Unread.{Unread}
 use Rattle.rdf_tokens.specs.Scans.{HasRead, IsToken}
-use Rattle.rdf_tokens.specs.Laws.{IsBeginning, StandsIn}
+use Rattle.rdf_tokens.specs.Laws.{IsBeginning, IsNext, StandsIn}
 use Rattle.rdf_tokens.proofs.ReadLemmas.{unread}
-use Rattle.rdf_tokens.proofs.LawLemmas.{lengthens, given_beginning, places, have_shapes, end_last}
+use Rattle.rdf_tokens.proofs.LawLemmas.{lengthens, given_beginning, next_given, places, have_shapes, end_last}
 
 one : Token
 one = record { kind = Integer; text = 49 ∷ []; at = record { offset = 0; line = 1 } }
@@ -62,6 +63,27 @@ one_first : IsBeginning (one ∷ []) (one ∷ dot ∷ end ∷ [])
 unfolding given_one
 one_first =
     subst (λ r. IsBeginning (one ∷ []) r.tokens) read_whole (given_beginning given_one (49 ∷ 32 ∷ 46 ∷ []) (one ∷ []) has_given_one)
+
+-- a scanner that has given the end has given all
+given_end : Unread
+given_end = record (unread Turtle 8 [] []) {
+  place = record { offset = 3; line = 1 };
+  begun = true;
+  taken = end_of (49 ∷ 32 ∷ 46 ∷ []);
+  ended = true;
+  stopped = true;
+}
+
+has_given_end : HasRead given_end (49 ∷ 32 ∷ 46 ∷ []) (one ∷ dot ∷ end ∷ [])
+unfolding given_end
+has_given_end = record {
+  taken = refl;
+  reads = (ap (λ r. r.tokens) read_whole, λ h. let e : complete ≡ undecided = sym (ap (λ r. r.outcome) read_whole) ∙ h in cc);
+}
+
+no_more : IsNext (tokens_of Turtle 8 (49 ∷ 32 ∷ 46 ∷ []) true) (one ∷ dot ∷ end ∷ []) (Err (record { reason = Ended; offset = 3; line = 1 }))
+unfolding given_end
+no_more = next_given given_end given_end (49 ∷ 32 ∷ 46 ∷ []) (one ∷ dot ∷ end ∷ []) (Err (record { reason = Ended; offset = 3; line = 1 })) has_given_end (refl, refl)
 
 -- the dot stands at its place, and has its shape
 dot_stands : StandsIn (49 ∷ 32 ∷ 46 ∷ []) dot

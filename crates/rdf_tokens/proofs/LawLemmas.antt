@@ -1,5 +1,5 @@
 -- The laws of token lists.
-use Rattle.std.proofs.Common.{◌≡◌, ◌≢◌, ℕ, zero, suc, ◌+◌, ◌<◌, ◌≤◌, Bool, true, false, cond, List, [], ◌∷◌, ◌++◌, ◌==◌, count_by, inl, inr, refl, sym, ap, ◌∙◌, subst, append_assoc, is_some, length, take, drop, arith, length-append}
+use Rattle.std.proofs.Common.{Option, Some, None, Result, Ok, Err, ◌≡◌, ◌≢◌, ℕ, zero, suc, ◌+◌, ◌<◌, ◌≤◌, Bool, true, false, cond, List, [], ◌∷◌, ◌++◌, ◌==◌, count_by, inl, inr, refl, sym, ap, ◌∙◌, subst, append_assoc, is_some, length, take, drop, arith, length-append}
 use Rattle.std.proofs.lemmas.List.{append-nil, take_all, take_at, drop_at, take-append-drop, take-append-le, drop-append-le}
 use Rattle.std.proofs.lemmas.List.Elements.{All-nil, All-cons}
 use Rattle.std.specs.List.{All}
@@ -11,8 +11,13 @@ use Rattle.rdf_tokens.specs.Tokens.Tail.{goes_on, broken}
 use Rattle.rdf_tokens.specs.Tokens.Step.{token, stop}
 use Rattle.rdf_tokens.specs.Tokens.Outcome.{undecided, complete, token_too_long, bad_utf8, no_token, bad_escape}
 use Rattle.rdf_tokens.specs.Good.{first_place, good, mark, tail_of, end_of, tokens_at, tokens_of}
-use Rattle.rdf_tokens.specs.Scans.{Reads, IsToken}
-use Rattle.rdf_tokens.specs.Laws.{IsBeginning, MoreBytesOnlyLengthen, GivenTokensAreABeginning, IsPlaceIn, StandsIn, TokensStandAtTheirPlaces, TokensHaveShapes, NoEnd, EndsWell, EndStandsLast}
+use Rattle.rdf_tokens.specs.declared.token.Token.{Token as Given}
+use Rattle.rdf_tokens.specs.declared.token.ScanFault.{ScanFault}
+use Rattle.rdf_terms.specs.declared.reason.Reason.{Reason}
+use Rattle.rdf_terms.specs.declared.reason.Reason.TheVariants.{BadUtf8, NoToken, BadEscape, TokenTooLong, DocumentTooLong, Memory, Ended, Unexpected, RelativeIri, Sink}
+use Rattle.rdf_tokens.specs.Unread.{Unread}
+use Rattle.rdf_tokens.specs.Scans.{Reads, HasRead, IsToken, Stops, StopsFor, token_of, place_of as fault_place}
+use Rattle.rdf_tokens.specs.Laws.{IsBeginning, MoreBytesOnlyLengthen, GivenTokensAreABeginning, IsStop, NextTokenIsGiven, IsPlaceIn, StandsIn, TokensStandAtTheirPlaces, TokensHaveShapes, NoEnd, EndsWell, EndStandsLast}
 use Rattle.rdf_tokens.proofs.TokensLemmas.{at_stop, at_token, shorter, same_outcome, more_tokens}
 use Rattle.rdf_tokens.specs.Moves.{is_broken}
 use Rattle.std.proofs.lemmas.Bool.{cond-false}
@@ -105,6 +110,44 @@ given_beginning v bytes ts h = by_stop v.stopped v.ended h.reads
     by_stop true e r = ([], r.0 ∙ sym (append-nil ts))
     by_stop false true r = (_, ap (λ x. x.tokens) r)
     by_stop false false r = (_, ap (λ x. x.tokens) (ap (λ b. tokens_of v.dialect v.limit b false) (sym (append-nil bytes)) ∙ r [] false))
+
+-- a scanner that has stopped has given all
+given_all : (v : Unread) (bytes : List ℕ) (ts : List Token) → v.stopped ≡ true → HasRead v bytes ts →
+    ((tokens_of v.dialect v.limit bytes v.ended).tokens ≡ ts) × ((tokens_of v.dialect v.limit bytes v.ended).outcome ≢ undecided)
+given_all v bytes ts s h = subst (λ s. Reads s v.ended v bytes ts) s h.reads
+
+-- what is given is next
+pub next_given : NextTokenIsGiven
+next_given old new bytes ts (Ok (Some t)) h g =
+    subst (λ e. IsBeginning (ts ++ token_of t ∷ []) (tokens_of old.dialect old.limit bytes e).tokens) g.ended
+    (subst (λ d. IsBeginning (ts ++ token_of t ∷ []) (tokens_of d old.limit bytes new.ended).tokens) g.same.dialect
+    (subst (λ l. IsBeginning (ts ++ token_of t ∷ []) (tokens_of new.dialect l bytes new.ended).tokens) g.same.limit
+    (given_beginning new bytes (ts ++ token_of t ∷ []) (g.read bytes ts h))))
+next_given old new bytes ts (Ok None) h g =
+    let x = g.read bytes ts h in
+    subst (λ e. ((tokens_of old.dialect old.limit bytes e).tokens ≡ ts) × ((tokens_of old.dialect old.limit bytes e).outcome ≡ undecided))
+    (sym g.before.more) (x.1, x.2)
+next_given old new bytes ts (Err f) h g = by_reason f.reason (fault_place f) g
+  where
+    read : Reading
+    read = tokens_of old.dialect old.limit bytes old.ended
+
+    here : (o : Outcome) (at : Place) → Stops old o at new → (read.tokens ≡ ts) × (read.outcome ≡ o) × (at ≡ read.at)
+    here o at g =
+        let same : read ≡ record { tokens = ts; outcome = o; at = at } = (g.read bytes ts h).1 in
+        (ap (λ x. x.tokens) same, ap (λ x. x.outcome) same, sym (ap (λ x. x.at) same))
+
+    by_reason : (r : Reason) (at : Place) → StopsFor r old at new → IsStop read ts r at
+    by_reason BadUtf8 at g = let x = here bad_utf8 at g in (x.0, x.1, λ n. x.2)
+    by_reason NoToken at g = let x = here no_token at g in (x.0, x.1, λ n. x.2)
+    by_reason BadEscape at g = let x = here bad_escape at g in (x.0, x.1, λ n. x.2)
+    by_reason TokenTooLong at g = let x = here token_too_long at g in (x.0, x.1, λ n. x.2)
+    by_reason Ended at g = let x = given_all old bytes ts g.0 h in (x.0, x.1, λ n. absurd (n refl))
+    by_reason DocumentTooLong at g = absurd g
+    by_reason Memory at g = absurd g
+    by_reason Unexpected at g = absurd g
+    by_reason RelativeIri at g = absurd g
+    by_reason Sink at g = absurd g
 
 -- nothing is read of no text before more comes
 pub nothing_yet : (d : Dialect) (limit : ℕ) (b : Bool) (p : Place) → tokens d limit goes_on b p [] ≡ record { tokens = []; outcome = undecided; at = p }

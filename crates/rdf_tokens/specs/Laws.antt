@@ -1,13 +1,17 @@
 -- The laws of token lists.
-use Rattle.std.specs.Prelude.{◌≡◌, ◌≢◌, ℕ, ◌≤◌, ◌+◌, ◌==◌, Bool, false, List, [], ◌∷◌, ◌++◌, length, take, drop, count_by, encode_utf8_all}
+use Rattle.std.specs.Prelude.{◌≡◌, ◌≢◌, ℕ, ◌≤◌, ◌+◌, ◌==◌, Bool, false, List, [], ◌∷◌, ◌++◌, length, take, drop, count_by, encode_utf8_all, Option, Some, None, Result, Ok, Err}
 use Rattle.std.specs.List.{All}
 use Rattle.rdf_terms.specs.declared.kind.Dialect.{Dialect}
 use Rattle.rdf_terms.specs.declared.kind.Kind.TheVariants.{End}
-use Rattle.rdf_tokens.specs.Tokens.{Place, Token, Reading}
-use Rattle.rdf_tokens.specs.Tokens.Outcome.{undecided, complete}
+use Rattle.rdf_terms.specs.declared.reason.Reason.{Reason}
+use Rattle.rdf_terms.specs.declared.reason.Reason.TheVariants.{BadUtf8, NoToken, BadEscape, TokenTooLong, Ended}
+use Rattle.rdf_tokens.specs.declared.token.Token.{Token as Given}
+use Rattle.rdf_tokens.specs.declared.token.ScanFault.{ScanFault}
+use Rattle.rdf_tokens.specs.Tokens.{Place, Outcome, Token, Reading}
+use Rattle.rdf_tokens.specs.Tokens.Outcome.{undecided, complete, token_too_long, bad_utf8, no_token, bad_escape}
 use Rattle.rdf_tokens.specs.Good.{tokens_of}
 use Rattle.rdf_tokens.specs.Unread.{Unread}
-use Rattle.rdf_tokens.specs.Scans.{HasRead, IsToken}
+use Rattle.rdf_tokens.specs.Scans.{HasRead, IsToken, Gives, token_of, place_of}
 
 -- a list that goes on with further tokens
 abbrev pub IsBeginning : List Token → List Token → Type 0
@@ -23,6 +27,30 @@ MoreBytesOnlyLengthen = (d : Dialect) (limit : ℕ) (bytes more : List ℕ) (e :
 abbrev pub GivenTokensAreABeginning : Type 0
 GivenTokensAreABeginning = (v : Unread) (bytes : List ℕ) (ts : List Token) → HasRead v bytes ts →
     IsBeginning ts (tokens_of v.dialect v.limit bytes v.ended).tokens
+
+-- the outcome that a fault tells
+abbrev pub Tells : Reason → Outcome → Type 0
+Tells BadUtf8 o = o ≡ bad_utf8
+Tells NoToken o = o ≡ no_token
+Tells BadEscape o = o ≡ bad_escape
+Tells TokenTooLong o = o ≡ token_too_long
+Tells Ended o = o ≢ undecided
+Tells r o = ⊥
+
+-- some tokens are all, and a fault tells the outcome and its place; of a scanner that has stopped it tells only that one is there
+abbrev pub IsStop : Reading → List Token → Reason → Place → Type 0
+IsStop r ts reason at = (r.tokens ≡ ts) × Tells reason r.outcome × (reason ≢ Ended → at ≡ r.at)
+
+-- the next token behind some, or that more bytes decide it, or why there is none
+abbrev pub IsNext : Reading → List Token → Result (Option Given) ScanFault → Type 0
+IsNext r ts (Ok (Some t)) = IsBeginning (ts ++ token_of t ∷ []) r.tokens
+IsNext r ts (Ok None) = (r.tokens ≡ ts) × (r.outcome ≡ undecided)
+IsNext r ts (Err f) = IsStop r ts f.reason (place_of f)
+
+-- What a scanner gives is next among the tokens of the bytes that it has taken, behind those that it has given.
+abbrev pub NextTokenIsGiven : Type 0
+NextTokenIsGiven = (old new : Unread) (bytes : List ℕ) (ts : List Token) (result : Result (Option Given) ScanFault) →
+    HasRead old bytes ts → Gives old result new → IsNext (tokens_of old.dialect old.limit bytes old.ended) ts result
 
 -- a place within some bytes: its line is one more than the line feeds before it
 pub record IsPlaceIn (bytes : List ℕ) (p : Place) : Type 0 where

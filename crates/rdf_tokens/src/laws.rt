@@ -1,6 +1,6 @@
 //! The laws of token lists. These functions do nothing: their contracts are the laws.
 
-ghost use Rattle.rdf_tokens.specs.Laws.{MoreBytesOnlyLengthen, GivenTokensAreABeginning, TokensStandAtTheirPlaces, TokensHaveShapes, EndStandsLast};
+ghost use Rattle.rdf_tokens.specs.Laws.{MoreBytesOnlyLengthen, GivenTokensAreABeginning, NextTokenIsGiven, TokensStandAtTheirPlaces, TokensHaveShapes, EndStandsLast};
 
 /// More bytes, or the end, only lengthen the list of tokens, and change no outcome that is decided.
 pub fn more_bytes_only_lengthen()
@@ -10,6 +10,12 @@ pub fn more_bytes_only_lengthen()
 /// What a scanner has given is a beginning of the tokens of the bytes that it has taken.
 pub fn given_tokens_are_a_beginning()
     ensures { GivenTokensAreABeginning }
+{}
+
+/// What `next` gives is the next token of the bytes that the scanner has taken, behind those that it has given, or
+/// their outcome.
+pub fn next_token_is_given()
+    ensures { NextTokenIsGiven }
 {}
 
 /// Each token stands at its place in the bytes, and its line counts the LF bytes before it.
