@@ -13,6 +13,7 @@ mod Refusals
 mod Lag
 mod Due
 pub mod DocumentsLemmas
+pub mod DueLaws
 pub mod EncodedLine
 pub mod PlainRuns
 pub mod WrittenBytesLemmas

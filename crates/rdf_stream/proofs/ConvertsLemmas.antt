@@ -1,32 +1,171 @@
--- From what was read to what a conversion promises.
-use Rattle.std.proofs.Common.{◌≡◌, ℕ, List, [], ◌++◌, Option, Some, None, IfSome, sym, subst, ap, ◌∙◌}
-use Rattle.std.specs.Io.KnownBytes.{Appends}
-use Rattle.rdf_terms.specs.Terms.{Quad}
+-- From the pieces of a source to all of its bytes.
+use Rattle.std.proofs.Common.{◌≡◌, ◌<◌, ◌≤◌, ◌+◌, ◌-◌, ◌^◌, ℕ, Bool, true, false, List, [], ◌++◌, length, take, Option, Some, None, IfSome, IfOk, IfErr, Result, Ok, Err, refl, sym, ap, subst, ◌∙◌, append_assoc, arith, length-append}
+use Rattle.std.proofs.lemmas.List.{append-nil}
+use Rattle.std.proofs.lemmas.Bool.{false≢true}
+use Rattle.std.proofs.KnownBytes.{Appends-nil, Consumes-kept, Consumes-nil, Consumes-trans, Consumes-whole}
+use Rattle.std.specs.Io.KnownBytes.{Consumes, IsAtEnd, Keeps}
+use Rattle.std.specs.Result.{IsErrAnd}
+use Rattle.rdf_terms.specs.declared.reason.Reason.{Reason}
+use Rattle.rdf_terms.specs.declared.reason.Reason.TheVariants as reason
+use Rattle.rdf_terms.specs.declared.kind.Dialect.TheVariants.{Lines}
+use Rattle.rdf_tokens.specs.Tokens.{Place}
+use Rattle.rdf_tokens.specs.Tokens.Outcome.{undecided}
+use Rattle.rdf_tokens.specs.Good.{tokens_of}
+use Rattle.rdf_tokens.specs.Grammars.{Due}
+use Rattle.rdf_lines.specs.Lines.{documents}
+use Rattle.rdf_tokens.specs.Scans.{most_bytes}
 use Rattle.rdf_lines.specs.declared.fault.Summary.{Summary}
+use Rattle.rdf_lines.specs.LineRead.{LineRead}
+use Rattle.rdf_lines.specs.Readers.{HasRead, place_of}
+use Rattle.rdf_lines.proofs.DocumentsLemmas.{refused_in_more}
+use Rattle.rdf_lines.proofs.DueLaws.{due_more, due_none, read_due}
 use Rattle.rdf_lines.specs.declared.form.Style.TheVariants.{Kept}
-use Rattle.rdf_lines.proofs.ReadBack.{bytes_read_back}
 use Rattle.rdf_stream.specs.declared.fault.Form.{Form}
-use Rattle.rdf_stream.specs.Converts.{Accepts, Counts, HasQuads, ReadsAll, lines_of}
-use Rattle.rdf_stream.specs.Devices.{AppendsFront}
+use Rattle.rdf_stream.specs.declared.fault.StreamFault.{StreamFault}
+use Rattle.rdf_stream.specs.declared.fault.StreamFault.TheVariants as stream
+use Rattle.rdf_stream.specs.declared.line_out.LineOut.{LineOut}
+use Rattle.rdf_stream.specs.Converts.{Accepts, HasGiven, Refuses, StopsFor, line_form, reading_of, token_limit}
+use Rattle.rdf_stream.specs.LineOut.{SameOut}
+use Rattle.rdf_stream.specs.Pieces.{Ends, HandedOver, Halts, HaltsBehind}
 
-text_is : (form : Form) (known : Option (List ℕ)) (old new : List ℕ) (s : Summary) (r : ReadsAll form known old new s) → old ≡ [] → new ≡ lines_of r.quads
-text_is form known old new s r e = r.text ∙ ap (λ l. l ++ lines_of r.quads) e
+-- What left the source was read, and all lines that are due of it were handed over.
+pub record IsConverting {D A : Type 0} (contents : D → Option (List ℕ)) (failed : D → Bool) (form : Form) (known left : Option (List ℕ)) (source_failed : Bool) (reader : LineRead) (first lines : LineOut D A) (room : ℕ) : Type 0 where
+  pub bytes : List ℕ
+  pub consumed : Consumes known left bytes
+  pub handed : HandedOver contents failed form reader bytes first lines
+  pub live : source_failed ≡ false
+  pub has_room : 0 < room
 
--- all of the lines were written
-pub accepts : (form : Form) (known : Option (List ℕ)) (old new : List ℕ) (s : Summary) (before after : Option (List ℕ)) →
-    ReadsAll form known old new s → old ≡ [] → Appends before after new → IfSome known (λ b. Accepts form b before after s)
-accepts form None old new s before after r e w = tt
-accepts form (Some b) old new s before after r e w = record {
-  quads = r.quads;
-  document = subst (λ x. HasQuads form x r.quads) (sym r.all) r.document;
-  written = subst (Appends before after) (text_is form (Some b) old new s r e) w;
-  reads_back = λ limit h. bytes_read_back Kept r.quads limit r.writable h;
-  counts = subst (λ x. Counts x r.quads s) (sym r.all) r.counts;
+-- what is refused stays refused, with all the bytes
+refuses_more : (why : Reason) (form : Form) (bytes more : List ℕ) (at : Place) (old new : Option (List ℕ)) → Refuses why form bytes false at old new → Refuses why form (bytes ++ more) true at old new
+refuses_more reason.DocumentTooLong form bytes more at old new h =
+    let some = h.1 in (
+      omega (arith, h.0, length-append bytes more),
+      record {
+        quads = some.quads;
+        later = some.later;
+        due = due_more (line_form form) token_limit bytes more true (some.quads ++ some.later) some.due;
+        written = some.written;
+      },
+    )
+refuses_more why form bytes more at old new h = (h.0, refused_in_more (line_form form) token_limit bytes more true why at h.0 h.1, h.2)
+
+-- the bytes that were known are those that were read and those that are left
+known_more : (known left : Option (List ℕ)) (bytes : List ℕ) (P : List ℕ → Type 0) → Consumes known left bytes → ((rest : List ℕ) → P (bytes ++ rest)) → IfSome known P
+known_more None left bytes P c h = tt
+known_more (Some b) None bytes P c h = absurd c
+known_more (Some b) (Some rest) bytes P c h = subst P (sym c) (h rest)
+
+-- the source gave no byte into a buffer that has room
+pub no_more : (left left' : Option (List ℕ)) (n : ℕ) (buf : List ℕ) → Consumes left left' (take n buf) × (n ≡ 0 → 0 < length buf → IsAtEnd left') → n ≡ 0 → 0 < length buf → Consumes left left' []
+no_more left left' n buf h e room = subst (λ k. Consumes left left' (take k buf)) e h.0
+
+-- nothing was read or written
+pub begins : {D A : Type 0} (contents : D → Option (List ℕ)) (failed : D → Bool) (form : Form) (r : LineRead) (lines : LineOut D A) → r.form ≡ line_form form → r.scanner.limit ≡ token_limit → HasRead r [] [] →
+    lines.buffer.now.items ≡ [] → lines.style ≡ Kept → failed lines.drain.now ≡ false → HandedOver contents failed form r [] lines lines
+begins contents failed form r lines f l h none style live = record {
+  form_stays = f;
+  limit = l;
+  quads = [];
+  read = h;
+  due = subst (λ n. Due (documents (line_form form)) (tokens_of Lines n [] false).tokens []) l
+      (subst (λ y. Due (documents y) (tokens_of Lines r.scanner.limit [] false).tokens []) f (read_due r [] [] h));
+  written = Appends-nil (contents lines.drain.now);
+  none_waits = none;
+  writable = tt;
+  style = style;
+  same = record { style = refl; buffer = refl; drain = refl };
+  live = live;
 }
 
--- a beginning of the lines was written
-pub front_written : (form : Form) (known : Option (List ℕ)) (old new : List ℕ) (s : Summary) (before after : Option (List ℕ)) →
-    ReadsAll form known old new s → old ≡ [] → AppendsFront before after new → IfSome known (λ b. (qs : List Quad) × HasQuads form b qs × AppendsFront before after (lines_of qs))
-front_written form None old new s before after r e w = tt
-front_written form (Some b) old new s before after r e w =
-    (r.quads, subst (λ x. HasQuads form x r.quads) (sym r.all) r.document, subst (AppendsFront before after) (text_is form (Some b) old new s r e) w)
+module _ {D A : Type 0} (contents : D → Option (List ℕ)) (failed : D → Bool) (form : Form) (known left left' : Option (List ℕ)) (source_failed : Bool) (reader : LineRead) (first lines : LineOut D A) (room : ℕ)
+    (i : IsConverting contents failed form known left source_failed reader first lines room) where
+  -- the reader has taken the bytes, and there are not too many
+  taken : reader.so_far.bytes ≡ length i.bytes
+  taken = ap (λ (s : Summary). s.bytes) i.handed.read.so_far
+
+  module _ (piece : List ℕ) (c : Consumes left left' piece) where
+    all_consumed : Consumes known left' (i.bytes ++ piece)
+    all_consumed = Consumes-trans known left left' i.bytes piece i.consumed c
+
+    -- a piece more
+    pub on_piece : (source_failed' : Bool) (reader' : LineRead) (lines' : LineOut D A) (room' : ℕ) → source_failed' ≡ false → 0 < room' →
+        HandedOver contents failed form reader' (i.bytes ++ piece) first lines' → IsConverting contents failed form known left' source_failed' reader' first lines' room'
+    on_piece source_failed' reader' lines' room' live has_room h = record { bytes = i.bytes ++ piece; consumed = all_consumed; handed = h; live = live; has_room = has_room }
+
+    -- each piece takes a byte, and there are not too many
+    pub piece_less : (reader' : LineRead) (lines' : LineOut D A) → HandedOver contents failed form reader' (i.bytes ++ piece) first lines' → reader'.scanner.taken.offset ≤ most_bytes → 0 < length piece →
+        2 ^ 63 - reader'.so_far.bytes < 2 ^ 63 - reader.so_far.bytes
+    piece_less reader' lines' h few some =
+        let behind : reader'.so_far.bytes ≡ length (i.bytes ++ piece) = ap (λ (s : Summary). s.bytes) h.read.so_far in
+        let small : reader'.scanner.taken.offset ≡ length (i.bytes ++ piece) = ap (λ (p : Place). p.offset) h.read.scanned.taken in
+        omega (arith, taken, few, small, length-append i.bytes piece)
+
+    -- a fault in a piece
+    pub piece_stops : (told : StreamFault) (source_failed' : Bool) (after : LineOut D A) → Halts contents failed told form (i.bytes ++ piece) false first after →
+        StopsFor told form known left' source_failed' (contents first.drain.now) (contents after.drain.now) (failed after.drain.now)
+    piece_stops (stream.Refused f) x after h =
+        known_more known left' (i.bytes ++ piece) (λ b. Refuses f.reason form b true (place_of f) (contents first.drain.now) (contents after.drain.now)) all_consumed
+        (λ rest. refuses_more f.reason form (i.bytes ++ piece) rest (place_of f) (contents first.drain.now) (contents after.drain.now) h.halts)
+    piece_stops stream.Read x after h = absurd h.halts
+    piece_stops stream.Write x after h = (h.halts.0, given, h.halts.1)
+      where
+        given : HasGiven known left'
+        given = record { bytes = i.bytes ++ piece; is_end = false; consumed = all_consumed; ended = λ e. absurd (false≢true e) }
+    piece_stops stream.Memory x after h = (record { bytes = i.bytes ++ piece; is_end = false; consumed = all_consumed; ended = λ e. absurd (false≢true e) }, h.halts)
+
+  module _ (c : Consumes left left' []) (ended : IsAtEnd left') where
+    whole_consumed : Consumes known left' i.bytes
+    whole_consumed = subst (Consumes known left') (append-nil i.bytes) (Consumes-trans known left left' i.bytes [] i.consumed c)
+
+    -- the document was read and written
+    pub whole_accepted : (after : LineOut D A) (s : Summary) → SameOut first after × Accepts form i.bytes (contents first.drain.now) (contents after.drain.now) s →
+        IfSome known (λ b. Accepts form b (contents first.drain.now) (contents after.drain.now) s)
+    whole_accepted after s a = Consumes-whole known left' i.bytes (λ b. Accepts form b (contents first.drain.now) (contents after.drain.now) s) whole_consumed ended a.1
+
+    -- a fault at the end
+    pub end_stops : (told : StreamFault) (source_failed' : Bool) (after : LineOut D A) → Halts contents failed told form i.bytes true first after →
+        StopsFor told form known left' source_failed' (contents first.drain.now) (contents after.drain.now) (failed after.drain.now)
+    end_stops (stream.Refused f) x after h =
+        Consumes-whole known left' i.bytes (λ b. Refuses f.reason form b true (place_of f) (contents first.drain.now) (contents after.drain.now)) whole_consumed ended h.halts
+    end_stops stream.Read x after h = absurd h.halts
+    end_stops stream.Write x after h = (h.halts.0, record { bytes = i.bytes; is_end = true; consumed = whole_consumed; ended = λ e. ended }, h.halts.1)
+    end_stops stream.Memory x after h = (record { bytes = i.bytes; is_end = true; consumed = whole_consumed; ended = λ e. ended }, h.halts)
+
+    -- the end was read, or a fault was told
+    pub ended_same : (r : Result Summary StreamFault) (after : LineOut D A) → IfOk r (λ s. Ends contents failed s reader lines after) →
+        IfErr r (λ told. HaltsBehind contents failed told reader lines (λ b. b) true after) → SameOut first after
+    ended_same (Ok s) after a h = (a form i.bytes first i.handed).0
+    ended_same (Err told) after a h = (h form i.bytes first i.handed).same
+
+    pub ended_stops : (r : Result Summary StreamFault) (source_failed' : Bool) (after : LineOut D A) → IfErr r (λ told. HaltsBehind contents failed told reader lines (λ b. b) true after) →
+        IfErr r (λ told. StopsFor told form known left' source_failed' (contents first.drain.now) (contents after.drain.now) (failed after.drain.now))
+    ended_stops (Ok s) x after h = tt
+    ended_stops (Err told) x after h = end_stops told x after (h form i.bytes first i.handed)
+
+    pub ended_accepted : (r : Result Summary StreamFault) (after : LineOut D A) → IfOk r (λ s. Ends contents failed s reader lines after) →
+        IfOk r (λ s. IfSome known (λ b. Accepts form b (contents first.drain.now) (contents after.drain.now) s))
+    ended_accepted (Ok s) after a = whole_accepted after s (a form i.bytes first i.handed)
+    ended_accepted (Err told) after a = tt
+
+  -- the source failed
+  pub read_stops : (source_failed' : Bool) → Keeps left left' → source_failed' ≡ true →
+      StopsFor stream.Read form known left' source_failed' (contents first.drain.now) (contents lines.drain.now) (failed lines.drain.now)
+  read_stops source_failed' k e = (
+    e,
+    record {
+      bytes = i.bytes;
+      consumed = Consumes-kept known left left' i.bytes i.consumed k;
+      waits = subst (λ n. (tokens_of Lines n i.bytes false).outcome ≡ undecided) i.handed.limit i.handed.read.undecided;
+      writes = record { quads = i.handed.quads; due = i.handed.due; written = i.handed.written };
+    },
+  )
+
+-- there was no memory to begin with
+pub none_stops : {T : Type 0} (r : Result T StreamFault) (form : Form) (known old : Option (List ℕ)) (read_failed write_failed : Bool) → IsErrAnd r (λ t. t ≡ stream.Memory) →
+    IfErr r (λ told. StopsFor told form known known read_failed old old write_failed)
+none_stops (Ok x) form known old read_failed write_failed e = tt
+none_stops (Err told) form known old read_failed write_failed e = subst (λ t. StopsFor t form known known read_failed old old write_failed) (sym e) (
+  record { bytes = []; is_end = false; consumed = Consumes-nil known; ended = λ x. absurd (false≢true x) },
+  record { quads = []; later = []; due = due_none (line_form form) (reading_of [] false); written = Appends-nil old },
+)

@@ -1,9 +1,15 @@
--- A document of a line format names each of its blank nodes, so its quads can be written with their labels kept.
-use Rattle.std.proofs.Common.{List, ◌++◌, Option, Some, None}
+-- A document of a line format names each of its blank nodes, so its quads, and those that are due of it, can be written with their labels kept.
+use Rattle.std.proofs.Common.{◌≡◌, ℕ, ◌+◌, Bool, true, false, List, [], ◌∷◌, ◌++◌, length, refl, subst, Option, Some, None}
+use Rattle.std.specs.Prelude.{nat_lt, cond}
+use Rattle.std.proofs.lemmas.Bool.{cond_both}
 use Rattle.std.specs.List.{AllByRecursion}
 use Rattle.rdf_terms.specs.Terms.{Quad}
 use Rattle.rdf_lines.specs.declared.form.Style.TheVariants.{Kept}
-use Rattle.rdf_lines.specs.Lines.{Name, Ref, Lab, Object, Named, Plain, WithType, WithTag, Statement, Line, empty, one, Document, last, next, subject_of, term_of, quad_of, line_quads, quads}
+use Rattle.rdf_tokens.specs.Tokens.{Token, Reading}
+use Rattle.rdf_tokens.specs.Grammars.{Marked, before, Due}
+use Rattle.rdf_lines.specs.declared.form.LineForm.{LineForm}
+use Rattle.rdf_lines.specs.Readers.{IsDueIn}
+use Rattle.rdf_lines.specs.Lines.{Name, Ref, Lab, Object, Named, Plain, WithType, WithTag, Statement, Line, empty, one, Document, last, next, subject_of, term_of, quad_of, line_quads, quads, line_tokens, marked, documents}
 use Rattle.rdf_lines.specs.Writing.{CanWrite, CanWriteSubject, CanWriteTerm, CanWriteGraph}
 use Rattle.std.proofs.Common.{option_map}
 
@@ -24,14 +30,26 @@ graph_kept (Some n) = name_kept n
 statement_kept : (s : Statement) → CanWrite Kept (quad_of s)
 statement_kept s = record { subject = name_kept s.subject; object = object_kept s.object; graph = graph_kept s.graph }
 
-more_kept : (l : Line) (qs : List Quad) → AllByRecursion (CanWrite Kept) qs → AllByRecursion (CanWrite Kept) (line_quads l ++ qs)
-more_kept empty qs h = h
-more_kept (one s) qs h = (statement_kept s, h)
+-- what is put before the quads that are due
+more_kept : (b : Bool) (q : Quad) (qs : List Quad) → CanWrite Kept q → AllByRecursion (CanWrite Kept) qs → AllByRecursion (CanWrite Kept) (cond b (q ∷ qs) qs)
+more_kept true q qs h hs = (h, hs)
+more_kept false q qs h hs = hs
 
-line_kept : (l : Line) → AllByRecursion (CanWrite Kept) (line_quads l)
-line_kept empty = tt
-line_kept (one s) = (statement_kept s, tt)
+marked_kept : (d : Document) (n k : ℕ) → AllByRecursion (CanWrite Kept) (before k (marked n d))
+marked_kept (last empty e) n k = tt
+marked_kept (last (one s) e) n k = more_kept _ (quad_of s) [] (statement_kept s) tt
+marked_kept (next empty e d) n k = marked_kept d _ k
+marked_kept (next (one s) e d) n k = more_kept _ (quad_of s) _ (statement_kept s) (marked_kept d _ k)
 
-pub document_kept : (d : Document) → AllByRecursion (CanWrite Kept) (quads d)
-document_kept (last l e) = line_kept l
-document_kept (next l e d) = more_kept l (quads d) (document_kept d)
+-- what is due behind some tokens
+pub due_kept : (f : LineForm) (ts : List Token) (qs : List Quad) → Due (documents f) ts qs → AllByRecursion (CanWrite Kept) qs
+due_kept f ts qs d =
+    let (tree, same, good, marks) = d.2 in
+    subst (AllByRecursion (CanWrite Kept)) d.3 (subst (λ ms. AllByRecursion (CanWrite Kept) (before (length ts) ms)) marks (marked_kept tree 0 (length ts)))
+
+pub is_due_kept : (f : LineForm) (r : Reading) (qs : List Quad) → IsDueIn f r qs → AllByRecursion (CanWrite Kept) qs
+is_due_kept f r qs d = due_kept f d.0 qs d.3
+
+pub behind_kept : (qs rs : List Quad) → AllByRecursion (CanWrite Kept) (qs ++ rs) → AllByRecursion (CanWrite Kept) rs
+behind_kept [] rs h = h
+behind_kept (q ∷ qs) rs h = behind_kept qs rs h.1

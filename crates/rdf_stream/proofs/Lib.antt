@@ -1,6 +1,6 @@
 pub mod ViewsLemmas
 pub mod WellFormedLemmas
-pub mod LineTextLemmas
-pub mod DocumentLemmas
+pub mod LineOutLemmas
+pub mod PiecesLemmas
 pub mod ConvertsLemmas
-pub mod ReadingLemmas
+pub mod DocumentLemmas

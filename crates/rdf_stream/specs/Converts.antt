@@ -1,21 +1,25 @@
 -- What a conversion writes, and why it stops.
-use Rattle.std.specs.Prelude.{◌≡◌, ℕ, ◌+◌, ◌-◌, ◌^◌, ◌<◌, ◌≤◌, Bool, true, List, ◌++◌, length, Option, IfSome, encode_utf8_all}
-use Rattle.std.specs.Io.KnownBytes.{Appends, Keeps}
+use Rattle.std.specs.Prelude.{◌≡◌, ℕ, ◌+◌, ◌-◌, ◌^◌, ◌<◌, ◌≤◌, Bool, true, false, List, [], ◌++◌, length, Option, IfSome, encode_utf8_all}
+use Rattle.std.specs.Io.KnownBytes.{Appends, Consumes, IsAtEnd}
 use Rattle.rdf_terms.specs.declared.kind.Dialect.TheVariants.{Lines}
 use Rattle.rdf_terms.specs.declared.reason.Reason.{Reason}
 use Rattle.rdf_terms.specs.declared.reason.Reason.TheVariants.{DocumentTooLong}
 use Rattle.rdf_terms.specs.Terms.{Quad}
-use Rattle.rdf_tokens.specs.Tokens.{Place}
-use Rattle.rdf_tokens.specs.Good.{end_of, tokens_of}
+use Rattle.rdf_tokens.specs.Tokens.{Place, Token, Reading}
+use Rattle.rdf_tokens.specs.Tokens.Outcome.{undecided}
+use Rattle.rdf_tokens.specs.Good.{tokens_of}
+use Rattle.rdf_tokens.specs.Grammars.{Due}
 use Rattle.rdf_tokens.specs.Scans.{most_bytes}
 use Rattle.rdf_lines.specs.declared.form.LineForm.{LineForm}
 use Rattle.rdf_lines.specs.declared.form.LineForm.TheVariants as lines
 use Rattle.rdf_lines.specs.declared.form.Style.TheVariants.{Kept}
 use Rattle.rdf_lines.specs.declared.fault.Fault.{Fault}
 use Rattle.rdf_lines.specs.declared.fault.Summary.{Summary}
-use Rattle.rdf_lines.specs.Documents.{Document, Refused as IsRefused}
+use Rattle.rdf_lines.specs.Documents.{Document, RefusedIn}
 use Rattle.rdf_lines.specs.Laws.{ReadsBack}
-use Rattle.rdf_lines.specs.Writing.{text, Writable}
+use Rattle.rdf_lines.specs.Lines.{documents}
+use Rattle.rdf_lines.specs.Readers.{IsDueIn, place_of}
+use Rattle.rdf_lines.specs.Writing.{text}
 use Rattle.rdf_stream.specs.declared.fault.Form.{Form}
 use Rattle.rdf_stream.specs.declared.fault.Form.TheVariants.{NTriples, NQuads}
 use Rattle.rdf_stream.specs.declared.fault.StreamFault.{StreamFault}
@@ -34,6 +38,10 @@ token_limit = 2 ^ 64 - 1
 abbrev pub HasQuads : Form → List ℕ → List Quad → Type 0
 HasQuads form bytes qs = Document (line_form form) token_limit bytes qs
 
+-- the tokens of the bytes, with their end or before more come
+abbrev pub reading_of : List ℕ → Bool → Reading
+reading_of bytes is_end = tokens_of Lines token_limit bytes is_end
+
 -- the bytes of the quads' lines
 abbrev pub lines_of : List Quad → List ℕ
 lines_of qs = encode_utf8_all (text Kept qs)
@@ -41,7 +49,7 @@ lines_of qs = encode_utf8_all (text Kept qs)
 -- the numbers of quads, of tokens without the end, and of bytes
 pub record Counts (input : List ℕ) (qs : List Quad) (s : Summary) : Type 0 where
   pub quads : s.quads ≡ length qs
-  pub tokens : s.tokens + 1 ≡ length (tokens_of Lines token_limit input true).tokens
+  pub tokens : s.tokens + 1 ≡ length (reading_of input true).tokens
   pub bytes : s.bytes ≡ length input
 
 -- The bytes are a document, the lines of its quads were written, and what was written reads back as these quads.
@@ -56,35 +64,49 @@ pub record Accepts (form : Form) (bytes : List ℕ) (old new : Option (List ℕ)
 abbrev pub IsConverted : Form → List ℕ → Option (List ℕ) → Option (List ℕ) → Type 0
 IsConverted form bytes old new = (s : Summary) × Accepts form bytes old new s
 
-abbrev pub place_of : Fault → Place
-place_of f = record { offset = f.offset; line = f.line }
-
--- The bytes are refused at the place of the fault, and are no document; or there are too many.
-abbrev pub RefusesFor : Reason → Form → List ℕ → Place → Type 0
-RefusesFor DocumentTooLong form bytes at = most_bytes < length bytes
-RefusesFor reason form bytes at = IsRefused (line_form form) token_limit bytes true reason at
-
--- Why a conversion stopped, and what it had written: nothing, or a beginning of the lines where the drain failed.
-abbrev pub StopsFor : StreamFault → Form → Option (List ℕ) → Bool → Option (List ℕ) → Option (List ℕ) → Bool → Type 0
-StopsFor (Refused f) form bytes read_failed old new write_failed = IfSome bytes (λ b. RefusesFor f.reason form b (place_of f)) × Keeps old new
-StopsFor Read form bytes read_failed old new write_failed = (read_failed ≡ true) × Keeps old new
-StopsFor Write form bytes read_failed old new write_failed =
-    (write_failed ≡ true) × IfSome bytes (λ b. (qs : List Quad) × HasQuads form b qs × AppendsFront old new (lines_of qs))
-StopsFor Memory form bytes read_failed old new write_failed = Keeps old new
-
--- The bytes are all that the source had, a document with these quads, and their lines stand behind what the text was.
-pub record ReadsAll (form : Form) (known : Option (List ℕ)) (old new : List ℕ) (s : Summary) : Type 0 where
-  pub bytes : List ℕ
+-- the lines of the quads that are due behind these tokens were written
+pub record WritesDue (form : Form) (ahead : List Token) (old new : Option (List ℕ)) : Type 0 where
   pub quads : List Quad
-  pub all : IfSome known (λ b. b ≡ bytes)
-  pub document : HasQuads form bytes quads
-  pub counts : Counts bytes quads s
-  pub writable : Writable Kept quads
-  pub text : new ≡ old ++ lines_of quads
+  pub due : Due (documents (line_form form)) ahead quads
+  pub written : Appends old new (lines_of quads)
 
--- why reading stopped
-abbrev pub ReadStops : StreamFault → Form → Option (List ℕ) → Bool → Type 0
-ReadStops (Refused f) form bytes read_failed = IfSome bytes (λ b. RefusesFor f.reason form b (place_of f))
-ReadStops Read form bytes read_failed = read_failed ≡ true
-ReadStops Write form bytes read_failed = ⊥
-ReadStops Memory form bytes read_failed = Unit
+-- whole lines were written, of a beginning of the quads that are due in the reading
+pub record WritesSome (form : Form) (reading : Reading) (old new : Option (List ℕ)) : Type 0 where
+  pub quads : List Quad
+  pub later : List Quad
+  pub due : IsDueIn (line_form form) reading (quads ++ later)
+  pub written : Appends old new (lines_of quads)
+
+-- a beginning of the lines of the quads that are due in the reading was written
+pub record WritesFront (form : Form) (reading : Reading) (old new : Option (List ℕ)) : Type 0 where
+  pub quads : List Quad
+  pub due : IsDueIn (line_form form) reading quads
+  pub written : AppendsFront old new (lines_of quads)
+
+-- The bytes are refused at the place, so they are no document, and the lines of the quads that are due before it were written; or there are too many bytes.
+abbrev pub Refuses : Reason → Form → List ℕ → Bool → Place → Option (List ℕ) → Option (List ℕ) → Type 0
+Refuses DocumentTooLong form bytes is_end at old new = (most_bytes < length bytes) × WritesSome form (reading_of bytes is_end) old new
+Refuses reason form bytes is_end at old new =
+    (ahead : List Token) × RefusedIn (line_form form) (reading_of bytes is_end) reason at ahead × WritesDue form ahead old new
+
+-- What a source has given: these bytes, and their end where it has told that.
+pub record HasGiven (known left : Option (List ℕ)) : Type 0 where
+  pub bytes : List ℕ
+  pub is_end : Bool
+  pub consumed : Consumes known left bytes
+  pub ended : is_end ≡ true → IsAtEnd left
+
+-- The source has given these bytes, which do not decide what stands behind them, and the lines of all quads that are due in them were written.
+pub record BreaksOff (form : Form) (known left old new : Option (List ℕ)) : Type 0 where
+  pub bytes : List ℕ
+  pub consumed : Consumes known left bytes
+  pub waits : (reading_of bytes false).outcome ≡ undecided
+  pub writes : WritesDue form (reading_of bytes false).tokens old new
+
+-- Why a conversion stopped, and what it had written: whole lines, but where the drain failed a beginning of them.
+abbrev pub StopsFor : StreamFault → Form → Option (List ℕ) → Option (List ℕ) → Bool → Option (List ℕ) → Option (List ℕ) → Bool → Type 0
+StopsFor (Refused f) form known left read_failed old new write_failed = IfSome known (λ bytes. Refuses f.reason form bytes true (place_of f) old new)
+StopsFor Read form known left read_failed old new write_failed = (read_failed ≡ true) × BreaksOff form known left old new
+StopsFor Write form known left read_failed old new write_failed =
+    (write_failed ≡ true) × (given : HasGiven known left) × WritesFront form (reading_of given.bytes given.is_end) old new
+StopsFor Memory form known left read_failed old new write_failed = (given : HasGiven known left) × WritesSome form (reading_of given.bytes given.is_end) old new

@@ -1,5 +1,6 @@
 pub mod Devices
 pub mod Messages
-pub mod LineText
+pub mod LineOut
 pub mod Converts
 pub mod Faults
+pub mod Pieces

@@ -1,15 +1,17 @@
 // From a document to the lines of its quads.
 
-ghost use Rattle.std.specs.Prelude.{◌≡◌, ◌<◌, [], true, false, length, OnOk, IfOk, IfErr, IfSome};
-ghost use Rattle.rdf_lines.specs.Readers.{HasRead};
+ghost use Rattle.std.specs.Prelude.{◌≡◌, ◌<◌, ◌≤◌, ◌++◌, [], true, false, length, OnOk, IfOk, IfErr, IfSome};
+ghost use Rattle.rdf_tokens.specs.Scans.{most_bytes};
 ghost use Rattle.rdf_lines.specs.declared.form.Style.TheVariants.{Kept};
-ghost use Rattle.rdf_stream.specs.Converts.{Accepts, ReadStops, ReadsAll, StopsFor, line_form, token_limit};
+ghost use Rattle.rdf_stream.specs.Converts.{Accepts, StopsFor, line_form};
+ghost use Rattle.rdf_stream.specs.LineOut.{SameOut};
+ghost use Rattle.rdf_stream.specs.Pieces.{Ends, HaltsBehind, HandedOver, HandsOver, Tells};
 
 use crate::devices::{Drain, Failed, Source};
 use crate::fault::{Form, StreamFault};
-use crate::line_text::LineText;
-use crate::put::send_all;
-use rdf_lines::{LineForm, LineReader, Style, Summary};
+use crate::line_out::LineOut;
+use rdf_lines::{Fault, LineForm, LineReader, Style, Summary};
+use rdf_terms::QuadSink;
 use std::alloc::{AllocError, Allocator};
 
 /// The number of bytes that are asked of a source at a time.
@@ -18,8 +20,10 @@ const PIECE_LEN: usize = 65536;
 /// No limit on the characters of a token yet.
 const TOKEN_LIMIT: u64 = u64::MAX;
 
-/// Reads a document of the form from the source to its end, writes the lines of its quads to the drain, and
-/// flushes it. Nothing is written before the whole document is accepted.
+/// Reads a document of the form from the source, writes the lines of its quads to the drain, and flushes it.
+///
+/// Before it asks the source for more, all lines that are due of the bytes so far have been handed to the drain, and so
+/// they have before a refusal or a failed read is told.
 pub fn convert<A: Allocator + Copy, S: Source, D: Drain>(
     alloc: A,
     form: Form,
@@ -31,49 +35,53 @@ pub fn convert<A: Allocator + Copy, S: Source, D: Drain>(
     ensures accepted { IfOk result (λ summary. IfSome (S.remaining source.old) (λ bytes. Accepts form bytes (D.contents drain.old) (D.contents drain.new) summary)) }
     ensures flushed { OnOk result (D.is_flushed drain.new ≡ true) }
     ensures stops { IfErr result (λ fault.
-        StopsFor fault form (S.remaining source.old) (S.has_failed source.new) (D.contents drain.old) (D.contents drain.new) (D.has_failed drain.new)) }
+        StopsFor fault form (S.remaining source.old) (S.remaining source.new) (S.has_failed source.new) (D.contents drain.old) (D.contents drain.new) (D.has_failed drain.new)) }
 {
     let mut piece = piece_buffer(alloc)?;
-    let mut lines = LineText::new(alloc, Style::Kept);
-    let summary = read_document(alloc, form, source, piece.as_mut_slice(), &mut lines)?;
-    match send_all(drain, lines.as_bytes()) {
-        Ok(()) => Ok(summary),
-        Err(Failed) => Err(StreamFault::Write),
-    }
+    let mut buffer = Vec::new(alloc);
+    let mut lines = LineOut::new(Style::Kept, &mut buffer, drain);
+    convert_document(alloc, form, source, piece.as_mut_slice(), &mut lines)
 }
 
-fn read_document<A: Allocator + Copy, S: Source>(
+fn convert_document<A: Allocator + Copy, S: Source, D: Drain>(
     alloc: A,
     form: Form,
     source: &mut S,
     piece: &mut [u8],
-    lines: &mut LineText<A>,
+    lines: &mut LineOut<'_, D, A>,
 ) -> Result<Summary, StreamFault>
     requires source { S.has_failed source.old ≡ false }
     requires room { 0 < length piece.old }
     requires style { lines.old.style ≡ Kept }
-    ensures read { IfOk result (λ summary. ReadsAll form (S.remaining source.old) lines.old.text.items lines.new.text.items summary) }
-    ensures stops { IfErr result (λ fault. ReadStops fault form (S.remaining source.old) (S.has_failed source.new)) }
+    requires none_waits { lines.old.buffer.now.items ≡ [] }
+    requires live { D.has_failed lines.old.drain.now ≡ false }
+    ensures accepted { IfOk result (λ summary. IfSome (S.remaining source.old) (λ bytes.
+        Accepts form bytes (D.contents lines.old.drain.now) (D.contents lines.new.drain.now) summary)) }
+    ensures flushed { OnOk result (D.is_flushed lines.new.drain.now ≡ true) }
+    ensures same { SameOut lines.old lines.new }
+    ensures stops { IfErr result (λ fault. StopsFor fault form (S.remaining source.old) (S.remaining source.new) (S.has_failed source.new)
+        (D.contents lines.old.drain.now) (D.contents lines.new.drain.now) (D.has_failed lines.new.drain.now)) }
 {
     let mut reader = LineReader::new(alloc, line_form(form), TOKEN_LIMIT);
-    read_pieces(&mut reader, form, source, piece, lines)
+    convert_pieces(&mut reader, form, source, piece, lines)
 }
 
-fn read_pieces<A: Allocator + Copy, S: Source>(
+fn convert_pieces<A: Allocator + Copy, S: Source, D: Drain>(
     reader: &mut LineReader<A>,
     form: Form,
     source: &mut S,
     piece: &mut [u8],
-    lines: &mut LineText<A>,
+    lines: &mut LineOut<'_, D, A>,
 ) -> Result<Summary, StreamFault>
-    requires reader { HasRead reader.old [] [] }
-    requires form { reader.old.form ≡ line_form form }
-    requires limit { reader.old.scanner.limit ≡ token_limit }
+    requires begun { HandedOver D.contents D.has_failed form reader.old [] lines.old lines.old }
     requires source { S.has_failed source.old ≡ false }
     requires room { 0 < length piece.old }
-    requires style { lines.old.style ≡ Kept }
-    ensures read { IfOk result (λ summary. ReadsAll form (S.remaining source.old) lines.old.text.items lines.new.text.items summary) }
-    ensures stops { IfErr result (λ fault. ReadStops fault form (S.remaining source.old) (S.has_failed source.new)) }
+    ensures accepted { IfOk result (λ summary. IfSome (S.remaining source.old) (λ bytes.
+        Accepts form bytes (D.contents lines.old.drain.now) (D.contents lines.new.drain.now) summary)) }
+    ensures flushed { OnOk result (D.is_flushed lines.new.drain.now ≡ true) }
+    ensures same { SameOut lines.old lines.new }
+    ensures stops { IfErr result (λ fault. StopsFor fault form (S.remaining source.old) (S.remaining source.new) (S.has_failed source.new)
+        (D.contents lines.old.drain.now) (D.contents lines.new.drain.now) (D.has_failed lines.new.drain.now)) }
 {
     loop {
         let count = match source.fill(piece) {
@@ -81,9 +89,65 @@ fn read_pieces<A: Allocator + Copy, S: Source>(
             Err(Failed) => return Err(StreamFault::Read),
         };
         if count == 0 {
-            return Ok(reader.finish(lines)?);
+            return convert_end(reader, lines);
         }
-        reader.feed(&piece[..count], lines)?;
+        match convert_piece(reader, &piece[..count], lines) {
+            Ok(()) => {}
+            Err(fault) => return Err(fault),
+        }
+    }
+}
+
+/// Reads a piece, and hands all lines over that are due then.
+fn convert_piece<A: Allocator + Copy, D: Drain>(
+    reader: &mut LineReader<A>,
+    piece: &[u8],
+    lines: &mut LineOut<'_, D, A>,
+) -> Result<(), StreamFault>
+    requires live { D.has_failed lines.old.drain.now ≡ false }
+    ensures handed_over { OnOk result (HandsOver D.contents D.has_failed reader.old lines.old piece.now reader.new lines.new) }
+    ensures few { OnOk result (reader.new.scanner.taken.offset ≤ most_bytes) }
+    ensures halts { IfErr result (λ told. HaltsBehind D.contents D.has_failed told reader.old lines.old (λ bytes. bytes ++ piece.now) false lines.new) }
+{
+    match reader.feed(piece, lines) {
+        Ok(()) => match lines.hand_over() {
+            Ok(()) => Ok(()),
+            Err(Failed) => Err(StreamFault::Write),
+        },
+        Err(fault) => Err(stop(fault, lines)),
+    }
+}
+
+/// Reads the end, hands all lines over, and sends them on.
+fn convert_end<A: Allocator + Copy, D: Drain>(
+    reader: &mut LineReader<A>,
+    lines: &mut LineOut<'_, D, A>,
+) -> Result<Summary, StreamFault>
+    requires live { D.has_failed lines.old.drain.now ≡ false }
+    ensures accepted { IfOk result (λ summary. Ends D.contents D.has_failed summary reader.old lines.old lines.new) }
+    ensures flushed { OnOk result (D.is_flushed lines.new.drain.now ≡ true) }
+    ensures halts { IfErr result (λ told. HaltsBehind D.contents D.has_failed told reader.old lines.old (λ bytes. bytes) true lines.new) }
+{
+    match reader.finish(lines) {
+        Ok(summary) => match lines.send() {
+            Ok(()) => Ok(summary),
+            Err(Failed) => Err(StreamFault::Write),
+        },
+        Err(fault) => Err(stop(fault, lines)),
+    }
+}
+
+// Hands over what waits, and says what is told of the reader's fault: a failure of the drain comes first.
+fn stop<A: Allocator + Copy, D: Drain>(fault: Fault, lines: &mut LineOut<'_, D, A>) -> StreamFault
+    ensures same { SameOut lines.old lines.new }
+    ensures tells { Tells D.contents D.has_failed fault result lines.old lines.new }
+{
+    if lines.failed() {
+        return StreamFault::Write;
+    }
+    match lines.hand_over() {
+        Ok(()) => StreamFault::from(fault),
+        Err(Failed) => StreamFault::Write,
     }
 }
 

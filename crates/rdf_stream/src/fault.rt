@@ -43,13 +43,14 @@ impl From<AllocError> for StreamFault {
     }
 }
 
-/// A fault of a reader whose sink has no device. Its `Memory` is the run's.
+/// A fault of a reader whose sink has the run's drain. Its `Memory` is the run's, and its `Sink` the drain's failure.
 impl From<Fault> for StreamFault {
     ghost from_gives = { λ fault told. told ≡ fault_by fault.reason fault };
 
     fn from(fault: Fault) -> StreamFault {
         match fault.reason {
             Reason::Memory => StreamFault::Memory,
+            Reason::Sink => StreamFault::Write,
             _ => StreamFault::Refused(fault),
         }
     }

@@ -4,7 +4,7 @@
 mod conversions;
 mod devices;
 mod fault;
-mod line_text;
+mod line_out;
 mod messages;
 mod put;
 #[cfg(test)]

@@ -20,15 +20,3 @@ pub fn put_all<D: Drain>(drain: &mut D, bytes: &[u8]) -> Result<(), Failed>
     }
     Ok(())
 }
-
-/// Puts all of the bytes, and sends them on.
-pub(crate) fn send_all<D: Drain>(drain: &mut D, bytes: &[u8]) -> Result<(), Failed>
-    requires live { D.has_failed drain.old ≡ false }
-    ensures ok { OnOk result (Appends (D.contents drain.old) (D.contents drain.new) bytes.now) }
-    ensures flushed { OnOk result (D.is_flushed drain.new ≡ true) }
-    ensures err { OnErr result (AppendsFront (D.contents drain.old) (D.contents drain.new) bytes.now) }
-    ensures failed { D.has_failed drain.new ≡ is_err result }
-{
-    put_all(drain, bytes)?;
-    drain.flush()
-}

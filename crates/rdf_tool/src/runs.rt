@@ -27,8 +27,8 @@ pub fn run<S: Source, O: Drain, E: Drain>(
     requires err { E.has_failed err.old ≡ false }
     ensures accepted { IfSome source.entry (λ s. result ≡ 0 → IfSome (S.remaining s.now) (λ bytes. IsConverted form bytes (O.contents out.old) (O.contents out.new))
         × (O.is_flushed out.new ≡ true)) }
-    ensures stopped { IfSome source.entry (λ s. result ≢ 0 → (fault : StreamFault) × (read_failed : Bool) × (result ≡ status_of fault)
-        × StopsFor fault form (S.remaining s.now) read_failed (O.contents out.old) (O.contents out.new) (O.has_failed out.new)
+    ensures stopped { IfSome source.entry (λ s. result ≢ 0 → (fault : StreamFault) × (left : Option (List ℕ)) × (read_failed : Bool) × (result ≡ status_of fault)
+        × StopsFor fault form (S.remaining s.now) left read_failed (O.contents out.old) (O.contents out.new) (O.has_failed out.new)
         × AppendsFront (E.contents err.old) (E.contents err.new) (report_text fault)) }
     ensures not_open { IfNone source.entry ((result ≡ 3) × Tells (codes "rdfconv: cannot open file\n") (E.contents err.old) (E.contents err.new) (E.has_failed err.new)) }
 {
@@ -54,7 +54,7 @@ fn run_from<S: Source, O: Drain, E: Drain>(
     ensures accepted { result ≡ 0 → IfSome (S.remaining source.old) (λ bytes. IsConverted form bytes (O.contents out.old) (O.contents out.new))
         × (O.is_flushed out.new ≡ true) }
     ensures stopped { result ≢ 0 → (fault : StreamFault) × (result ≡ status_of fault)
-        × StopsFor fault form (S.remaining source.old) (S.has_failed source.new) (O.contents out.old) (O.contents out.new) (O.has_failed out.new)
+        × StopsFor fault form (S.remaining source.old) (S.remaining source.new) (S.has_failed source.new) (O.contents out.old) (O.contents out.new) (O.has_failed out.new)
         × AppendsFront (E.contents err.old) (E.contents err.new) (report_text fault) }
 {
     match convert(alloc, form, source, out) {

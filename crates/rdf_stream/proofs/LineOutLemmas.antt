@@ -1,0 +1,159 @@
+-- What a sink of lines has handed over behind some puts, and what waits.
+use Rattle.std.proofs.Common.{◌≡◌, ◌<◌, ◌≤◌, ℕ, Bool, true, false, List, [], ◌∷◌, ◌++◌, length, Option, Some, None, refl, sym, ap, subst, ◌∙◌, append_assoc, ⊎_elim, inl, inr}
+use Rattle.std.proofs.lemmas.List.{append-nil}
+use Rattle.std.proofs.lemmas.Str.{encodes-append}
+use Rattle.std.proofs.lemmas.Bool.{false≢true}
+use Rattle.std.proofs.lemmas.Grind.{flat_map-append}
+use Rattle.std.proofs.KnownBytes.{Appends-nil, Appends-trans}
+use Rattle.std.specs.Prelude.{encode_utf8_all}
+use Rattle.std.specs.Io.KnownBytes.{Appends}
+use Rattle.std.specs.List.{AllByRecursion}
+use Rattle.rdf_terms.specs.Sinks as sink
+use Rattle.rdf_terms.specs.Sinks.{Attempts}
+use Rattle.rdf_terms.specs.Terms.{Quad}
+use Rattle.rdf_lines.specs.declared.form.Style.{Style}
+use Rattle.rdf_lines.specs.Writing.{line, text, CanWrite, Writable}
+use Rattle.rdf_stream.specs.Devices.{AppendsFront}
+use Rattle.rdf_stream.specs.LineOut.{Leaves, Moves, SameOut, Takes, Writes, line_bytes}
+use Rattle.rdf_stream.specs.declared.line_out.LineOut.{LineOut}
+use Rattle.rdf_stream.proofs.WellFormedLemmas.{quad_had}
+
+-- nothing was taken
+pub waits : (known : Option (List ℕ)) (bytes rest : List ℕ) → rest ≡ bytes → Moves known known bytes rest
+waits known bytes rest e = record { front = []; whole = sym e; taken = Appends-nil known }
+
+pub waits_same : (known : Option (List ℕ)) (bytes rest : List ℕ) → rest ≡ bytes → Moves known known (bytes ++ []) rest
+waits_same known bytes rest e = waits known (bytes ++ []) rest (e ∙ sym (append-nil bytes))
+
+-- a front was taken, and then one of what was left of it and of more bytes
+pub moves_on : (a b c : Option (List ℕ)) (bytes more rest last : List ℕ) → Moves a b bytes rest → Moves b c (rest ++ more) last → Moves a c (bytes ++ more) last
+moves_on a b c bytes more rest last m n = record {
+  front = m.front ++ n.front;
+  whole = ap (λ l. l ++ more) m.whole ∙ (append_assoc m.front rest more ∙ (ap (λ l. m.front ++ l) n.whole ∙ sym (append_assoc m.front n.front last)));
+  taken = Appends-trans a b c m.front n.front m.taken n.taken;
+}
+
+-- what is moved of some bytes is moved of more
+pub moves_more : (a b : Option (List ℕ)) (bytes more rest : List ℕ) → Moves a b bytes rest → Moves a b (bytes ++ more) (rest ++ more)
+moves_more a b bytes more rest m = record { front = m.front; whole = ap (λ l. l ++ more) m.whole ∙ append_assoc m.front rest more; taken = m.taken }
+
+pub moves_front : (a b : Option (List ℕ)) (bytes rest : List ℕ) → Moves a b bytes rest → AppendsFront a b bytes
+moves_front a b bytes rest m = (m.front, rest, m.whole, m.taken)
+
+pub front_moves : (a b : Option (List ℕ)) (bytes : List ℕ) → AppendsFront a b bytes → (rest : List ℕ) × Moves a b bytes rest
+front_moves a b bytes f = (f.1, record { front = f.0; whole = f.2; taken = f.3 })
+
+-- all of the bytes were taken
+pub moves_all : (a b c : Option (List ℕ)) (bytes rest : List ℕ) → Moves a b bytes rest → Appends b c rest → Appends a c bytes
+moves_all a b c bytes rest m t = subst (Appends a c) (sym m.whole) (Appends-trans a b c m.front rest m.taken t)
+
+-- the bytes of the quads' lines
+abbrev pub bytes_of : Style → List Quad → List ℕ
+bytes_of s qs = encode_utf8_all (text s qs)
+
+pub bytes_of-append : (s : Style) (qs rs : List Quad) → bytes_of s (qs ++ rs) ≡ bytes_of s qs ++ bytes_of s rs
+bytes_of-append s qs rs = ap encode_utf8_all (flat_map-append (line s) qs rs) ∙ encodes-append (text s qs) (text s rs)
+
+pub same_out : {D A : Type 0} (a b c : LineOut D A) → SameOut a b → SameOut b c → SameOut a c
+same_out a b c p q = record { style = q.style ∙ p.style; buffer = q.buffer ∙ p.buffer; drain = q.drain ∙ p.drain }
+
+module _ {D A : Type 0} (contents : D → Option (List ℕ)) (failed : D → Bool) where
+  abbrev Puts : LineOut D A → List Quad → LineOut D A → Type 0
+  Puts a qs b = sink.Appends (Takes contents failed) a qs b
+
+  abbrev Tries : LineOut D A → List Quad → LineOut D A → Type 0
+  Tries a qs b = Attempts (Takes contents failed) (Leaves contents failed) a qs b
+
+  -- puts of quads that the style can write
+  pub record Taken (a : LineOut D A) (qs : List Quad) (b : LineOut D A) : Type 0 where
+    pub same : SameOut a b
+    pub writable : Writable a.style qs
+    pub writes : Writes contents a (bytes_of a.style qs) b
+    pub live : failed a.drain.now ≡ false → failed b.drain.now ≡ false
+
+  -- the line was written, since the style can write the quad
+  wrote : (a b : LineOut D A) (q : Quad) → Takes contents failed a q b → CanWrite a.style q → Writes contents a (line_bytes a.style q) b
+  wrote a b q t w = ⊎_elim (λ m. m) (λ p. absurd (p.0 w)) t.writes
+
+  -- some bytes were written, and then others
+  writes_on : (a b c : LineOut D A) (bs cs : List ℕ) → Writes contents a bs b → Writes contents b cs c → Writes contents a (bs ++ cs) c
+  writes_on a b c bs cs p q =
+      subst (λ l. Moves (contents a.drain.now) (contents c.drain.now) l c.buffer.now.items) (append_assoc a.buffer.now.items bs cs)
+      (moves_on (contents a.drain.now) (contents b.drain.now) (contents c.drain.now) (a.buffer.now.items ++ bs) cs b.buffer.now.items c.buffer.now.items p q)
+
+  pub taken : (qs : List Quad) (a b : LineOut D A) → Puts a qs b → AllByRecursion (CanWrite a.style) qs → Taken a qs b
+  taken [] a b h w = subst (Taken a []) (sym h) (record {
+    same = record { style = refl; buffer = refl; drain = refl };
+    writable = tt;
+    writes = waits_same (contents a.drain.now) a.buffer.now.items a.buffer.now.items refl;
+    live = λ l. l;
+  })
+  taken (q ∷ qs) a b h w =
+      let (next, t, rest) = h in
+      let r = taken qs next b rest (subst (λ s. AllByRecursion (CanWrite s) qs) (sym t.same.style) w.1) in
+      let more = subst (λ s. Writes contents next (bytes_of s qs) b) t.same.style r.writes in
+      record {
+        same = same_out a next b t.same r.same;
+        writable = ((quad_had q t.formed, w.0), subst (λ s. Writable s qs) t.same.style r.writable);
+        writes = subst (λ l. Writes contents a l b) (sym (encodes-append (line a.style q) (text a.style qs)))
+            (writes_on a next b (line_bytes a.style q) (bytes_of a.style qs) (wrote a next q t w.0) more);
+        live = λ l. r.live t.live;
+      }
+
+  -- puts of which the last may have been refused
+  pub record Tried (a : LineOut D A) (qs : List Quad) (b : LineOut D A) : Type 0 where
+    pub same : SameOut a b
+    pub rest : List ℕ
+    pub moves : Moves (contents a.drain.now) (contents b.drain.now) (a.buffer.now.items ++ bytes_of a.style qs) rest
+    -- where the drain has not failed, the lines of some of the quads were written
+    pub whole : failed b.drain.now ≡ false → (done later : List Quad) × (qs ≡ done ++ later) × Writes contents a (bytes_of a.style done) b
+
+  pub tried : (qs : List Quad) (a b : LineOut D A) → Tries a qs b → AllByRecursion (CanWrite a.style) qs → Tried a qs b
+  tried [] a b h w = subst (Tried a []) (sym h) (record {
+    same = record { style = refl; buffer = refl; drain = refl };
+    rest = a.buffer.now.items;
+    moves = waits_same (contents a.drain.now) a.buffer.now.items a.buffer.now.items refl;
+    whole = λ l. ([], [], refl, waits_same (contents a.drain.now) a.buffer.now.items a.buffer.now.items refl);
+  })
+  tried (q ∷ qs) a b h w = ⊎_elim last (more (λ n x y. tried qs n b x y)) h
+    where
+      last : (qs ≡ []) × Leaves contents failed a q b → Tried a (q ∷ qs) b
+      last p = record {
+        same = p.1.same;
+        rest = p.1.rest;
+        moves = subst (λ l. Moves (contents a.drain.now) (contents b.drain.now) (a.buffer.now.items ++ l) p.1.rest)
+            (ap encode_utf8_all (sym (append-nil (line a.style q))) ∙ ap (λ rs. bytes_of a.style (q ∷ rs)) (sym p.0)) p.1.moves;
+        whole = λ l. ([], q ∷ qs, refl, p.1.live l);
+      }
+
+      more : ((n : LineOut D A) → Tries n qs b → AllByRecursion (CanWrite n.style) qs → Tried n qs b) → (next : LineOut D A) × Takes contents failed a q next × Tries next qs b → Tried a (q ∷ qs) b
+      more behind p =
+          let (next, t, tries) = p in
+          let r = behind next tries (subst (λ s. AllByRecursion (CanWrite s) qs) (sym t.same.style) w.1) in
+          let first = wrote a next q t w.0 in
+          let join = encodes-append (line a.style q) (text a.style qs) in
+          record {
+            same = same_out a next b t.same r.same;
+            rest = r.rest;
+            moves = subst (λ l. Moves (contents a.drain.now) (contents b.drain.now) l r.rest)
+                (append_assoc a.buffer.now.items (line_bytes a.style q) (bytes_of a.style qs) ∙ ap (λ l. a.buffer.now.items ++ l) (sym join))
+                (moves_on (contents a.drain.now) (contents next.drain.now) (contents b.drain.now) (a.buffer.now.items ++ line_bytes a.style q) (bytes_of a.style qs) next.buffer.now.items r.rest first
+                (subst (λ s. Moves (contents next.drain.now) (contents b.drain.now) (next.buffer.now.items ++ bytes_of s qs) r.rest) t.same.style r.moves));
+            whole = λ l.
+                let (done, later, split, writes) = r.whole l in (
+                  q ∷ done,
+                  later,
+                  ap (λ rs. q ∷ rs) split,
+                  subst (λ l. Writes contents a l b) (sym (encodes-append (line a.style q) (text a.style done)))
+                      (writes_on a next b (line_bytes a.style q) (bytes_of a.style done) first (subst (λ s. Writes contents next (bytes_of s done) b) t.same.style writes)),
+                );
+          }
+
+  -- puts that were all taken are some that were tried
+  pub puts_tries : (qs : List Quad) (a b : LineOut D A) → Puts a qs b → Tries a qs b
+  puts_tries [] a b h = h
+  puts_tries (q ∷ qs) a b h = inr (h.0, h.1, puts_tries qs h.0 b h.2)
+
+  pub puts_live : (qs : List Quad) (a b : LineOut D A) → Puts a qs b → failed a.drain.now ≡ false → failed b.drain.now ≡ false
+  puts_live [] a b h l = subst (λ (x : LineOut D A). failed x.drain.now ≡ false) (sym h) l
+  puts_live (q ∷ qs) a b h l = puts_live qs h.0 b h.2 h.1.live

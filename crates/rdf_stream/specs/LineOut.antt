@@ -1,0 +1,50 @@
+-- What a sink of lines does to the bytes of its drain and to those that wait for it.
+use Rattle.std.specs.Prelude.{◌≡◌, ◌<◌, ℕ, Bool, true, false, List, [], ◌++◌, ◌⊎◌, length, Option, encode_utf8_all}
+use Rattle.std.specs.Io.KnownBytes.{Appends}
+use Rattle.rdf_terms.specs.Terms.{Quad, IsQuad}
+use Rattle.rdf_lines.specs.declared.form.Style.{Style}
+use Rattle.rdf_lines.specs.Writing.{line, CanWrite}
+use Rattle.rdf_stream.specs.declared.line_out.LineOut.{LineOut}
+
+-- fewer bytes wait when a line has been put
+abbrev pub most_waiting : ℕ
+most_waiting = 65536
+
+-- The drain took a front of the bytes.
+pub record Moves (before after : Option (List ℕ)) (bytes rest : List ℕ) : Type 0 where
+  pub front : List ℕ
+  pub whole : bytes ≡ front ++ rest
+  pub taken : Appends before after front
+
+-- the style stays, and where the bytes go
+pub record SameOut {D A : Type 0} (before after : LineOut D A) : Type 0 where
+  pub style : after.style ≡ before.style
+  pub buffer : after.buffer.ghost_name ≡ before.buffer.ghost_name
+  pub drain : after.drain.ghost_name ≡ before.drain.ghost_name
+
+-- The drain took a front of the bytes that waited and of these, and the others wait.
+abbrev pub Writes : {D A : Type 0} → (D → Option (List ℕ)) → LineOut D A → List ℕ → LineOut D A → Type 0
+Writes contents before bytes after = Moves (contents before.drain.now) (contents after.drain.now) (before.buffer.now.items ++ bytes) after.buffer.now.items
+
+-- the bytes of the quad's line
+abbrev pub line_bytes : Style → Quad → List ℕ
+line_bytes style q = encode_utf8_all (line style q)
+
+-- the quad's line is written behind the others, or the style can't write the quad and nothing is
+abbrev pub WritesLine : {D A : Type 0} → (D → Option (List ℕ)) → LineOut D A → Quad → LineOut D A → Type 0
+WritesLine contents before q after = Writes contents before (line_bytes before.style q) after ⊎ ((CanWrite before.style q → ⊥) × Writes contents before [] after)
+
+-- what a put of a quad does; the quad's type says that it is well formed
+pub record Takes {D A : Type 0} (contents : D → Option (List ℕ)) (failed : D → Bool) (before : LineOut D A) (q : Quad) (after : LineOut D A) : Type 0 where
+  pub same : SameOut before after
+  pub formed : ∥ IsQuad q ∥₁
+  pub writes : WritesLine contents before q after
+  pub few : length before.buffer.now.items < most_waiting → length after.buffer.now.items < most_waiting
+  pub live : failed after.drain.now ≡ false
+
+-- what a refused put leaves: the drain took a beginning of the lines, and where it has not failed nothing of the quad's line
+pub record Leaves {D A : Type 0} (contents : D → Option (List ℕ)) (failed : D → Bool) (before : LineOut D A) (q : Quad) (after : LineOut D A) : Type 0 where
+  pub same : SameOut before after
+  pub rest : List ℕ
+  pub moves : Moves (contents before.drain.now) (contents after.drain.now) (before.buffer.now.items ++ line_bytes before.style q) rest
+  pub live : failed after.drain.now ≡ false → Writes contents before [] after

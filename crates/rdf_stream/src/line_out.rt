@@ -1,0 +1,101 @@
+// The sink that hands lines on to a drain.
+
+ghost use Rattle.std.specs.Prelude.{◌≡◌, [], ◌<◌, length, true, false, Bool, List, ℕ, Option, is_err, OnOk, OnErr};
+ghost use Rattle.std.specs.Io.KnownBytes.{Appends};
+ghost use Rattle.rdf_stream.specs.Devices.{AppendsFront};
+ghost use Rattle.rdf_stream.specs.LineOut.{Leaves, SameOut, Takes};
+
+use crate::devices::{Drain, Failed};
+use crate::put::put_all;
+use crate::views::see_quad;
+use rdf_lines::{LabelFault, Style, write_line};
+use rdf_terms::{PutFault, QuadRef, QuadSink};
+use std::alloc::{Allocator, Global};
+
+/// The number of bytes that wait for the drain at most, once a line has been put.
+const WAITING_LEN: usize = 65536;
+
+/// The lines of the quads that were put: the drain has their front, and the buffer what waits for it. A quad that the
+/// style can't write has no line.
+#[derive(Drop)]
+pub(crate) struct LineOut<'a, D: Drain, A: Allocator = Global> {
+    style: Style,
+    buffer: &'a mut Vec<u8, A>,
+    drain: &'a mut D,
+}
+
+impl<'a, D: Drain, A: Allocator + Copy> LineOut<'a, D, A> {
+    /// No line waits.
+    pub(crate) fn new(
+        style: Style,
+        buffer: &'a mut Vec<u8, A>,
+        drain: &'a mut D,
+    ) -> LineOut<'a, D, A>
+        ensures style { result.style ≡ style }
+        ensures buffer { result.buffer.now ≡ buffer.old }
+        ensures same_buffer { result.buffer.ghost_name ≡ buffer.entry.ghost_name }
+        ensures drain { result.drain.now ≡ drain.old }
+        ensures same_drain { result.drain.ghost_name ≡ drain.entry.ghost_name }
+    {
+        LineOut {
+            style,
+            buffer,
+            drain,
+        }
+    }
+
+    /// Hands over all that waits.
+    pub(crate) fn hand_over(&mut self) -> Result<(), Failed>
+        requires live { D.has_failed self.old.drain.now ≡ false }
+        ensures same { SameOut self.old self.new }
+        ensures empty { OnOk result (self.new.buffer.now.items ≡ []) }
+        ensures ok { OnOk result (Appends (D.contents self.old.drain.now) (D.contents self.new.drain.now) self.old.buffer.now.items) }
+        ensures err { OnErr result (AppendsFront (D.contents self.old.drain.now) (D.contents self.new.drain.now) self.old.buffer.now.items) }
+        ensures failed { D.has_failed self.new.drain.now ≡ is_err result }
+    {
+        put_all(self.drain, self.buffer.as_slice())?;
+        self.buffer.clear();
+        Ok(())
+    }
+
+    /// Hands over all that waits, and sends it on.
+    pub(crate) fn send(&mut self) -> Result<(), Failed>
+        requires live { D.has_failed self.old.drain.now ≡ false }
+        ensures same { SameOut self.old self.new }
+        ensures ok { OnOk result (Appends (D.contents self.old.drain.now) (D.contents self.new.drain.now) self.old.buffer.now.items) }
+        ensures flushed { OnOk result (D.is_flushed self.new.drain.now ≡ true) }
+        ensures err { OnErr result (AppendsFront (D.contents self.old.drain.now) (D.contents self.new.drain.now) self.old.buffer.now.items) }
+        ensures failed { D.has_failed self.new.drain.now ≡ is_err result }
+    {
+        self.hand_over()?;
+        self.drain.flush()
+    }
+}
+
+impl<'a, D: Drain, A: Allocator + Copy> QuadSink for LineOut<'a, D, A> {
+    ghost takes = { λ before quad after. Takes D.contents D.has_failed before quad after };
+
+    ghost leaves = { λ before quad after. Leaves D.contents D.has_failed before quad after };
+
+    ghost has_failed = { λ sink. D.has_failed sink.drain.now };
+
+    fn put(&mut self, quad: QuadRef<'_>) -> Result<(), PutFault> {
+        see_quad(quad);
+        match write_line(quad, self.style, self.buffer) {
+            Ok(()) => {}
+            Err(LabelFault::NotLabelled) => return Ok(()),
+            Err(LabelFault::Memory) => return Err(PutFault::Memory),
+        }
+        if self.buffer.len() < WAITING_LEN {
+            return Ok(());
+        }
+        match self.hand_over() {
+            Ok(()) => Ok(()),
+            Err(Failed) => Err(PutFault::Device),
+        }
+    }
+
+    fn failed(&self) -> bool {
+        self.drain.failed()
+    }
+}
