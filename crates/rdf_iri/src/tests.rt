@@ -3,7 +3,7 @@
 ghost use Rattle.std.specs.Prelude.{◌≡◌, ◌*◌, ◌≤◌, IfOk, length};
 ghost use Rattle.rdf_iri.specs.Texts.{byte_len};
 
-use crate::{IriFault, Limits, Scope, resolve, split};
+use crate::{IriFault, Limits, Scope, has_scheme, resolve, split};
 use rdf_terms::{Iri, TermFault, iri_text};
 use std::alloc::Global;
 
@@ -53,8 +53,9 @@ const REFERENCES: [(&str, &str); 42] = [
     ("http:g", "http:g"),
 ];
 
-/// What the RFC's examples leave out: bases without a path, an authority or a slash, and texts that are not ASCII.
-const OTHER_BASES: [(&str, &str, &str); 8] = [
+/// What the RFC's examples leave out: bases without a path, an authority or a slash, texts that are not ASCII, and dots
+/// in a reference that is kept.
+const OTHER_BASES: [(&str, &str, &str); 9] = [
     ("http://a", "g", "http://a/g"),
     ("a:b/c", "d", "a:b/d"),
     ("a:b", "../c", "a:c"),
@@ -63,6 +64,7 @@ const OTHER_BASES: [(&str, &str, &str); 8] = [
     ("http://a/b#c", "", "http://a/b"),
     ("http://é/ß/x", "ü", "http://é/ß/ü"),
     ("http://é/ß/", "../ü?ö#ä", "http://é/ü?ö#ä"),
+    ("http://a/b", "http://c/d/../e", "http://c/d/../e"),
 ];
 
 const BASE: &str = "http://a/b/c/d;p?q";
@@ -147,6 +149,7 @@ fn the_parts_of_a_reference(rt: HostRuntime) {
     assert_eq!(rt; none.path, "1a:b");
     assert_eq!(rt; none.query, None);
     assert_eq!(rt; none.fragment, None);
+    assert!(rt; has_scheme("a+1://b") && !has_scheme("1a:b"));
     let empty = split("//?#");
     assert_eq!(rt; empty.authority, Some(""));
     assert_eq!(rt; empty.path, "");
