@@ -1,5 +1,5 @@
 -- The laws of token lists.
-use Rattle.std.proofs.Common.{Option, Some, None, Result, Ok, Err, ◌≡◌, ◌≢◌, ℕ, zero, suc, ◌+◌, ◌<◌, ◌≤◌, Bool, true, false, cond, List, [], ◌∷◌, ◌++◌, ◌==◌, count_by, inl, inr, refl, sym, ap, ◌∙◌, subst, append_assoc, is_some, length, take, drop, arith, length-append}
+use Rattle.std.proofs.Common.{Some, None, Ok, Err, ◌≡◌, ◌≢◌, ℕ, zero, suc, ◌+◌, ◌<◌, ◌≤◌, Bool, true, false, cond, List, [], ◌∷◌, ◌++◌, ◌==◌, count_by, inl, inr, refl, sym, ap, ◌∙◌, subst, append_assoc, is_some, length, take, drop, arith, length-append}
 use Rattle.std.proofs.lemmas.List.{append-nil, take_all, take_at, drop_at, take-append-drop, take-append-le, drop-append-le}
 use Rattle.std.proofs.lemmas.List.Elements.{All-nil, All-cons}
 use Rattle.std.specs.List.{All}
@@ -11,8 +11,6 @@ use Rattle.rdf_tokens.specs.Tokens.Tail.{goes_on, broken}
 use Rattle.rdf_tokens.specs.Tokens.Step.{token, stop}
 use Rattle.rdf_tokens.specs.Tokens.Outcome.{undecided, complete, token_too_long, bad_utf8, no_token, bad_escape}
 use Rattle.rdf_tokens.specs.Good.{first_place, good, mark, tail_of, end_of, tokens_at, tokens_of}
-use Rattle.rdf_tokens.specs.declared.token.Token.{Token as Given}
-use Rattle.rdf_tokens.specs.declared.token.ScanFault.{ScanFault}
 use Rattle.rdf_terms.specs.declared.reason.Reason.{Reason}
 use Rattle.rdf_terms.specs.declared.reason.Reason.TheVariants.{BadUtf8, NoToken, BadEscape, TokenTooLong, DocumentTooLong, Memory, Ended, Unexpected, RelativeIri, Sink}
 use Rattle.rdf_tokens.specs.Unread.{Unread}
