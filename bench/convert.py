@@ -16,14 +16,27 @@ PROGRAM = os.path.join(TOP, 'crates', 'rdf_tool', 'out', 'rdf_tool')
 
 
 def run(words, path):
-    """Seconds and kilobytes of a run that reads the file."""
+    """Seconds of a run that reads the file."""
     with open(path, 'rb') as f:
         begin = time.monotonic()
+        subprocess.run(words, stdin=f, stdout=subprocess.DEVNULL, check=True)
+        return time.monotonic() - begin
+
+
+def held(words, path):
+    """Kilobytes that a run held at most: the kernel's high-water mark of its memory, read until it ends."""
+    most = 0
+    with open(path, 'rb') as f:
         p = subprocess.Popen(words, stdin=f, stdout=subprocess.DEVNULL)
-        _, status, usage = os.wait4(p.pid, 0)
-        if status:
-            sys.exit('%s: status %d' % (words, status))
-        return time.monotonic() - begin, usage.ru_maxrss
+        while p.poll() is None:
+            with open('/proc/%d/status' % p.pid) as status:
+                for line in status:
+                    if line.startswith('VmHWM:'):
+                        most = max(most, int(line.split()[1]))
+            time.sleep(0.001)
+    if p.returncode:
+        sys.exit('%s: status %d' % (words, p.returncode))
+    return most
 
 
 def main():
@@ -33,12 +46,13 @@ def main():
         for size in sizes:
             subprocess.run([sys.executable, os.path.join(TOP, 'bench', 'documents.py'), 'nt', str(size), path], check=True)
             megabytes = os.path.getsize(path) / 1e6
-            convert = [run([PROGRAM, 'convert', '--format', 'nt'], path) for _ in range(3)]
+            words = [PROGRAM, 'convert', '--format', 'nt']
+            convert = [run(words, path) for _ in range(3)]
             count = [run(['wc', '-l'], path) for _ in range(3)]
-            speed = megabytes / min(c[0] for c in convert)
-            plain = megabytes / min(c[0] for c in count)
-            print('%4d MB: convert %6.1f MB/s, wc -l %7.1f MB/s, ratio 1 to %5.1f, at most %6.1f MB held'
-                  % (size, speed, plain, plain / speed, max(c[1] for c in convert) / 1e3))
+            speed = megabytes / min(convert)
+            plain = megabytes / min(count)
+            print('%4d MB: convert %6.1f MB/s, wc -l %7.1f MB/s, ratio 1 to %5.1f, at most %5d kB held'
+                  % (size, speed, plain, plain / speed, held(words, path)))
 
 
 main()

@@ -11,15 +11,17 @@ use rdf_lines::{Fault, Summary};
 use rdf_terms::Reason;
 use std::alloc::{AllocError, Global};
 
-/// Gives one byte a call, and fails once a number of calls has been made.
+/// Gives its bytes in parts: the first of one length, the others of another. It fails once a number of calls has been made.
 #[derive(Drop)]
-struct SlowSource<'a> {
+struct Parts<'a> {
     bytes: &'a [u8],
+    part: usize,
+    others: usize,
     calls: u64,
     failed: bool,
 }
 
-impl<'a> Source for SlowSource<'a> {
+impl<'a> Source for Parts<'a> {
     ghost remaining = { λ s. Some s.bytes.now };
 
     ghost has_failed = { λ s. s.failed };
@@ -30,14 +32,12 @@ impl<'a> Source for SlowSource<'a> {
             return Err(Failed);
         }
         self.calls -= 1;
-        match self.bytes.first() {
-            Some(byte) if !buf.is_empty() => {
-                buf[0] = *byte;
-                self.bytes = &self.bytes[1..];
-                Ok(1)
-            }
-            _ => Ok(0),
-        }
+        let count = self.part.max(1).min(self.bytes.len()).min(buf.len());
+        let (front, rest) = self.bytes.split_at(count);
+        buf[..count].copy_from_slice(front);
+        self.bytes = rest;
+        self.part = self.others;
+        Ok(count)
     }
 
     fn failed(&self) -> bool {
@@ -45,10 +45,11 @@ impl<'a> Source for SlowSource<'a> {
     }
 }
 
-/// Takes one byte a call, and fails once a number of calls has been made.
+/// Takes at most some bytes a call, and fails once a number of calls has been made.
 #[derive(Drop)]
 struct SlowDrain {
     bytes: Vec<u8>,
+    room: usize,
     calls: u64,
     failed: bool,
     flushed: bool,
@@ -63,31 +64,22 @@ impl Drain for SlowDrain {
 
     fn put_some(&mut self, bytes: &[u8]) -> Result<usize, Failed> {
         self.flushed = false;
-        if self.calls == 0 {
+        let count = self.room.max(1).min(bytes.len());
+        if self.calls == 0 || self.bytes.extend_from_slice(&bytes[..count]).is_err() {
             self.failed = true;
             return Err(Failed);
         }
         self.calls -= 1;
-        match bytes.first() {
-            None => Ok(0),
-            Some(byte) => match self.bytes.push(*byte) {
-                Ok(()) => Ok(1),
-                Err(_) => {
-                    self.failed = true;
-                    Err(Failed)
-                }
-            },
-        }
+        Ok(count)
     }
 
     fn flush(&mut self) -> Result<(), Failed> {
-        self.flushed = false;
-        if self.calls == 0 {
-            self.failed = true;
+        self.flushed = self.calls > 0;
+        self.failed = self.calls == 0;
+        if self.failed {
             return Err(Failed);
         }
         self.calls -= 1;
-        self.flushed = true;
         Ok(())
     }
 
@@ -96,21 +88,36 @@ impl Drain for SlowDrain {
     }
 }
 
-fn slow_source(text: &str, calls: u64) -> SlowSource<'_>
+fn in_parts(bytes: &[u8], part: usize, others: usize) -> Parts<'_>
     ensures { result.failed ≡ false }
 {
-    SlowSource {
+    Parts {
+        bytes,
+        part,
+        others,
+        calls: u64::MAX,
+        failed: false,
+    }
+}
+
+fn slow(text: &str, calls: u64) -> Parts<'_>
+    ensures { result.failed ≡ false }
+{
+    Parts {
         bytes: text.as_bytes(),
+        part: 1,
+        others: 1,
         calls,
         failed: false,
     }
 }
 
-fn slow_drain(alloc: Global, calls: u64) -> SlowDrain
+fn drain(alloc: Global, room: usize, calls: u64) -> SlowDrain
     ensures { result.failed ≡ false }
 {
     SlowDrain {
         bytes: Vec::new(alloc),
+        room,
         calls,
         failed: false,
         flushed: false,
@@ -119,10 +126,10 @@ fn slow_drain(alloc: Global, calls: u64) -> SlowDrain
 
 #[test]
 fn a_put_goes_on_behind_a_short_one(rt: HostRuntime) {
-    let mut drain = slow_drain(rt.alloc(), 5);
-    assert_eq!(rt; put_all(&mut drain, b"bytes"), Ok(()));
-    assert_eq!(rt; drain.bytes.as_slice(), b"bytes".as_slice());
-    let mut short = slow_drain(rt.alloc(), 3);
+    let mut taken = drain(rt.alloc(), 1, 5);
+    assert_eq!(rt; put_all(&mut taken, b"bytes"), Ok(()));
+    assert_eq!(rt; taken.bytes.as_slice(), b"bytes".as_slice());
+    let mut short = drain(rt.alloc(), 1, 3);
     assert_eq!(rt; put_all(&mut short, b"bytes"), Err(Failed));
     assert_eq!(rt; short.bytes.as_slice(), b"byt".as_slice());
     assert!(rt; short.failed());
@@ -169,9 +176,9 @@ const LINES: &str = "<http://a/s> <http://a/p> \"x\" .\n_:x <a:> <b:> .\n";
 
 #[test]
 fn devices_of_one_byte_a_call_change_nothing(rt: HostRuntime) {
-    let mut source = slow_source(TWO, 53);
-    let mut drain = slow_drain(rt.alloc(), 49);
-    let result = convert(rt.alloc(), Form::NTriples, &mut source, &mut drain);
+    let mut source = slow(TWO, 53);
+    let mut taken = drain(rt.alloc(), 1, 49);
+    let result = convert(rt.alloc(), Form::NTriples, &mut source, &mut taken);
     assert!(rt;
         matches!(
             result,
@@ -182,88 +189,271 @@ fn devices_of_one_byte_a_call_change_nothing(rt: HostRuntime) {
             })
         )
     );
-    assert_eq!(rt; drain.bytes.as_slice(), LINES.as_bytes());
-    assert!(rt; drain.flushed);
+    assert_eq!(rt; taken.bytes.as_slice(), LINES.as_bytes());
+    assert!(rt; taken.flushed);
 }
 
 #[test]
 fn a_source_that_fails_is_not_at_its_end(rt: HostRuntime) {
-    for calls in [0, 1, 36, 52] {
-        let mut source = slow_source(TWO, calls);
-        let mut drain = slow_drain(rt.alloc(), 49);
-        let result = convert(rt.alloc(), Form::NTriples, &mut source, &mut drain);
+    for (calls, written) in [(0, 0), (1, 0), (30, 0), (31, 32), (51, 32), (52, 48)] {
+        let mut source = slow(TWO, calls);
+        let mut taken = drain(rt.alloc(), 1, 49);
+        let result = convert(rt.alloc(), Form::NTriples, &mut source, &mut taken);
         assert!(rt;
             matches!(result, Err(StreamFault::Read)),
             "after {calls} calls"
         );
         assert!(rt; source.failed());
-        assert!(rt; drain.bytes.is_empty());
+        assert_eq!(rt;
+            Some(taken.bytes.as_slice()),
+            LINES.as_bytes().get(..written)
+        );
     }
 }
 
 #[test]
 fn a_drain_that_fails_has_a_beginning_of_the_lines(rt: HostRuntime) {
-    for calls in [0usize, 1, 32, 47, 48] {
-        let mut source = slow_source(TWO, 53);
-        let mut drain = slow_drain(rt.alloc(), calls as u64);
-        let result = convert(rt.alloc(), Form::NTriples, &mut source, &mut drain);
-        assert!(rt;
+    for calls in 0usize..50 {
+        let mut source = slow(TWO, 53);
+        let mut taken = drain(rt.alloc(), 1, calls as u64);
+        let result = convert(rt.alloc(), Form::NTriples, &mut source, &mut taken);
+        assert_eq!(rt;
             matches!(result, Err(StreamFault::Write)),
+            calls < 49,
             "after {calls} calls"
         );
-        assert!(rt; drain.failed());
-        assert_eq!(rt; Some(drain.bytes.as_slice()), LINES.as_bytes().get(..calls));
+        assert_eq!(rt; taken.failed(), calls < 49);
+        assert_eq!(rt;
+            Some(taken.bytes.as_slice()),
+            LINES.as_bytes().get(..calls.min(48))
+        );
     }
 }
 
 #[test]
-fn a_refusal_writes_nothing(rt: HostRuntime) {
-    let documents = [
-        (
-            Form::NTriples,
-            "<http://a/s> <http://a/p> <http://a/s> <http://g/> .",
-            Reason::Unexpected,
-            39,
-            1,
-        ),
-        (
-            Form::NTriples,
-            "\n<http://a/s> <http://a/p>\n",
-            Reason::Unexpected,
-            26,
-            2,
-        ),
-        (
+fn the_lines_of_a_piece_are_one_call(rt: HostRuntime) -> Result<(), AllocError> {
+    let mut text = String::new(rt.alloc());
+    for _ in 0..1000 {
+        text.push_str("<a:> <b:> <c:> .\n")?;
+    }
+    let mut source = in_parts(text.as_bytes(), usize::MAX, usize::MAX);
+    let mut taken = drain(rt.alloc(), usize::MAX, 2);
+    assert!(rt; convert(rt.alloc(), Form::NQuads, &mut source, &mut taken).is_ok());
+    assert_eq!(rt; taken.bytes.as_slice(), text.as_bytes());
+    assert!(rt; taken.flushed);
+    Ok(())
+}
+
+/// A document, the lines that are written, and why it is refused, at which byte and line, if it is.
+#[derive(Clone, Copy)]
+struct Row {
+    form: Form,
+    bytes: &'static [u8],
+    lines: &'static str,
+    refused: Option<(Reason, u64, u64)>,
+}
+
+fn when(
+    form: Form,
+    bytes: &'static [u8],
+    lines: &'static str,
+    refused: Option<(Reason, u64, u64)>,
+) -> Row {
+    Row {
+        form,
+        bytes,
+        lines,
+        refused,
+    }
+}
+
+#[test]
+fn a_document_is_converted_however_it_is_cut(rt: HostRuntime) {
+    let rows = [
+        when(
             Form::NQuads,
-            "<s> <http://a/p> <http://a/s> .",
-            Reason::RelativeIri,
-            0,
-            1,
+            b"<http://a/s> <http://a/p> <http://a/s> . <http://a/s> <http://a/p> <http://a/s> .",
+            "<http://a/s> <http://a/p> <http://a/s> .\n",
+            Some((Reason::Unexpected, 41, 1)),
         ),
-        (
+        when(
             Form::NQuads,
-            "<http://a/\\u0020> <a:> <b:> .",
-            Reason::BadEscape,
-            0,
-            1,
+            b"_:x <http://a/p> _:x _:g .",
+            "_:x <http://a/p> _:x _:g .\n",
+            None,
+        ),
+        when(
+            Form::NQuads,
+            b"<http://a/s> <http://a/p> <http://a/s> .\r\n<http://a/s> <http://a/p> <http://a/s> .",
+            "<http://a/s> <http://a/p> <http://a/s> .\n<http://a/s> <http://a/p> <http://a/s> .\n",
+            None,
+        ),
+        when(
+            Form::NTriples,
+            b"<http://a/s> <http://a/p> <http://a/s> <http://g/> .",
+            "",
+            Some((Reason::Unexpected, 39, 1)),
+        ),
+        when(
+            Form::NTriples,
+            b"<http://a/s> <http://a/p>\n",
+            "",
+            Some((Reason::Unexpected, 25, 1)),
+        ),
+        when(
+            Form::NQuads,
+            b"<s> <http://a/p> <http://a/s> .",
+            "",
+            Some((Reason::RelativeIri, 0, 1)),
+        ),
+        when(
+            Form::NQuads,
+            b"<http://a/s> <http://a/p> <http://a/s> .\xff",
+            "<http://a/s> <http://a/p> <http://a/s> .\n",
+            Some((Reason::BadUtf8, 40, 1)),
+        ),
+        when(Form::NTriples, b"", "", None),
+        when(
+            Form::NTriples,
+            b"<http://a/s> <http://a/p> \"x\" .",
+            "<http://a/s> <http://a/p> \"x\" .\n",
+            None,
+        ),
+        when(
+            Form::NTriples,
+            b"<http://a/s> <http://a/p> <http://a/s>",
+            "",
+            Some((Reason::Unexpected, 38, 1)),
+        ),
+        when(
+            Form::NTriples,
+            b"<s> <http://a/p> <http://a/s> .",
+            "",
+            Some((Reason::RelativeIri, 0, 1)),
+        ),
+        when(
+            Form::NTriples,
+            b"<http://a/s>\xc3",
+            "",
+            Some((Reason::BadUtf8, 12, 1)),
+        ),
+        when(
+            Form::NTriples,
+            b"<http://a/\\u0020> <http://a/p> <http://a/s> .",
+            "",
+            Some((Reason::BadEscape, 0, 1)),
+        ),
+        when(
+            Form::NTriples,
+            b"<http://a/s> <http://a/p> <http://a/s> .\r\n<http://a/s> <http://a/p> <http://a/s> .",
+            "<http://a/s> <http://a/p> <http://a/s> .\n<http://a/s> <http://a/p> <http://a/s> .\n",
+            None,
+        ),
+        when(
+            Form::NTriples,
+            b"<http://a/s> <http://a/p> <http://a/s> .\xff",
+            "<http://a/s> <http://a/p> <http://a/s> .\n",
+            Some((Reason::BadUtf8, 40, 1)),
+        ),
+        when(
+            Form::NTriples,
+            b"<http://a/s> <http://a/p> <http://a/s> . <http://a/s> <http://a/p> <http://a/s> .",
+            "<http://a/s> <http://a/p> <http://a/s> .\n",
+            Some((Reason::Unexpected, 41, 1)),
+        ),
+        when(
+            Form::NQuads,
+            b"<http://a/\\u0020> <http://a/p> <http://a/s> .",
+            "",
+            Some((Reason::BadEscape, 0, 1)),
+        ),
+        when(
+            Form::NQuads,
+            b"<http://a/s>\xc3",
+            "",
+            Some((Reason::BadUtf8, 12, 1)),
+        ),
+        when(
+            Form::NQuads,
+            b"<http://a/s> <http://a/p>\n",
+            "",
+            Some((Reason::Unexpected, 25, 1)),
+        ),
+        when(
+            Form::NTriples,
+            b"\n<http://a/s> <http://a/p> <http://a/s> .\n\n",
+            "<http://a/s> <http://a/p> <http://a/s> .\n",
+            None,
+        ),
+        when(
+            Form::NTriples,
+            b"<http://a/s> <http://a/p> _:x .",
+            "<http://a/s> <http://a/p> _:x .\n",
+            None,
+        ),
+        when(
+            Form::NTriples,
+            b"<http://a/s> <http://a/p> <http://a/s> .\n<s> <http://a/p> <http://a/s> .",
+            "<http://a/s> <http://a/p> <http://a/s> .\n",
+            Some((Reason::RelativeIri, 41, 2)),
+        ),
+        when(
+            Form::NQuads,
+            b"<http://a/s> <http://a/p> \"a\\tb\\u00E9\\n\" @en-GB <http://g/> .",
+            "<http://a/s> <http://a/p> \"a\tbé\\n\"@en-GB <http://g/> .\n",
+            None,
+        ),
+        when(
+            Form::NQuads,
+            b"<http://a/s> <http://a/p> \"x\"^^<http://www.w3.org/2001/XMLSchema#string> . # c",
+            "<http://a/s> <http://a/p> \"x\" .\n",
+            None,
+        ),
+        when(
+            Form::NQuads,
+            b"<http://a/s> <http://a/p> \"\\uD800\" .",
+            "",
+            Some((Reason::BadEscape, 26, 1)),
+        ),
+        when(
+            Form::NQuads,
+            b"<http://a/\\u003E> <http://a/p> <http://a/s> .",
+            "",
+            Some((Reason::BadEscape, 0, 1)),
+        ),
+        when(
+            Form::NQuads,
+            b"_:a:b <http://a/p> <http://a/s> .#",
+            "_:a:b <http://a/p> <http://a/s> .\n",
+            None,
+        ),
+        when(
+            Form::NQuads,
+            b"<http://a/s> <http://a/p> \"\\q\" .",
+            "",
+            Some((Reason::NoToken, 26, 1)),
         ),
     ];
-    for (form, text, reason, offset, line) in documents {
-        let mut source = In::new(text.as_bytes());
-        let mut drain = Out::new(Vec::new(rt.alloc()));
-        match convert(rt.alloc(), form, &mut source, &mut drain) {
-            Err(StreamFault::Refused(fault)) => {
-                assert_eq!(rt;
-                    fault,
-                    Fault {
-                        reason,
-                        offset,
-                        line
-                    },
-                    "{text}"
-                );
+    for row in rows {
+        for cut in 0..row.bytes.len().saturating_add(1) {
+            let others = if cut == 0 { 1 } else { usize::MAX };
+            let mut source = in_parts(row.bytes, cut, others);
+            let mut taken = drain(rt.alloc(), usize::MAX, u64::MAX);
+            let result = convert(rt.alloc(), row.form, &mut source, &mut taken);
+            assert_eq!(rt;
+                taken.bytes.as_slice(),
+                row.lines.as_bytes(),
+                "cut at {cut}"
+            );
+            assert_eq!(rt; taken.flushed, row.refused.is_none());
+            match result {
+                Ok(_) => assert!(rt; row.refused.is_none()),
+                Err(StreamFault::Refused(fault)) => assert_eq!(rt;
+                    Some((fault.reason, fault.offset, fault.line)),
+                    row.refused
+                ),
+                Err(_) => assert!(rt; false),
             }
-            _ => assert!(rt; false, "{text}"),
         }
     }
 }
