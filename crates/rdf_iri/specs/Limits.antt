@@ -19,3 +19,7 @@ pub record InRange (s : Sizes) : Type 0 where
   pub bindings : s.bindings ≤ 2 ^ 24
   pub some_iri : 1 ≤ s.iri
   pub iri : s.iri ≤ 2 ^ 28
+
+-- the sizes where none are asked for
+abbrev pub default_sizes : Sizes
+default_sizes = record { token = 2 ^ 24; depth = 2 ^ 10; bindings = 2 ^ 16; iri = 2 ^ 20 }

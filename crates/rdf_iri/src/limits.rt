@@ -1,7 +1,7 @@
 // The limits of a run.
 
 ghost use Rattle.std.specs.Prelude.{◌≡◌, SomeIff};
-ghost use Rattle.rdf_iri.specs.Limits.{Sizes, InRange};
+ghost use Rattle.rdf_iri.specs.Limits.{Sizes, InRange, default_sizes};
 
 use std::marker::Model;
 
@@ -75,5 +75,19 @@ impl Limits {
         ensures { result ≡ self.iri }
     {
         self.iri
+    }
+}
+
+impl Default for Limits {
+    ghost is_default = { λ l. l ≡ default_sizes };
+
+    /// 16,777,216 characters of a token, 1,024 brackets, 65,536 prefixes and 1,048,576 bytes of an IRI.
+    fn default() -> Limits {
+        Limits {
+            token: 1 << 24,
+            depth: 1 << 10,
+            bindings: 1 << 16,
+            iri: 1 << 20,
+        }
     }
 }

@@ -9,14 +9,13 @@ use Rattle.rdf_lines.specs.declared.form.LineForm.{LineForm}
 use Rattle.rdf_lines.specs.declared.form.LineForm.TheVariants.{NTriples, NQuads}
 use Rattle.rdf_lines.specs.Lines.{Leaf, Name, Ref, Lab, Object, Named, Plain, WithType, WithTag, Statement, Line, Document, last, next, token, name_tokens, object_tokens, graph_tokens, statement_tokens, line_tokens, document_tokens, iri_of, string_of, subject_of, term_of, quad_of, line_quads, quads, name_bound, object_bound, graph_bound, graph_fits, GoodStatement, GoodLine, GoodDocument, IsDocument}
 use Rattle.rdf_lines.specs.Lines as L
-use Rattle.rdf_terms.specs.declared.reason.Reason.TheVariants.{RelativeIri}
-use Rattle.rdf_lines.specs.Machine.{Mode, Begin, AfterSubject, AfterPredicate, AfterString, AfterObject, AfterDot, Finished, goes, refuses, absolute, quad, Run, ran, with_quad, go_on, run}
+use Rattle.rdf_lines.specs.Machine.{Mode, Begin, AfterSubject, AfterPredicate, AfterString, AfterObject, AfterDot, Finished, goes, refuses, iri_refused, absolute, quad, Run, ran, with_quad, go_on, run}
 
 -- Complete: the run over a tree's tokens.
 
 -- an IRI that passes is accepted
 absolute_goes : (test : List ℕ → Bool) (i : List ℕ) (m : Mode) (more : Mode → Run) → test i ≡ true → go_on (absolute test i m) more ≡ more m
-absolute_goes test i m more h = ap (λ x. go_on x more) (cond-true (test i) (goes m) (refuses RelativeIri) h)
+absolute_goes test i m more h = ap (λ x. go_on x more) (cond-true (test i) (goes m) (refuses (iri_refused i)) h)
 
 run_subject : (test : List ℕ → Bool) (f : LineForm) (n : Name) (ts : List Token) → name_bound test n → run test f Begin (name_tokens n ++ ts) ≡ run test f (AfterSubject (subject_of n)) ts
 run_subject test f (Ref l) ts b = absolute_goes test (iri_of l) _ (λ m. run test f m ts) b

@@ -10,7 +10,7 @@ use Rattle.rdf_terms.specs.declared.kind.Kind.{Kind}
 use Rattle.rdf_terms.specs.declared.kind.Kind.TheVariants.{Dot}
 use Rattle.rdf_terms.specs.declared.reason.Reason.{Reason}
 use Rattle.rdf_terms.specs.declared.reason.Reason.TheVariants.{DocumentTooLong, Memory, Ended, Sink}
-use Rattle.rdf_terms.specs.Terms.{Quad, has_scheme}
+use Rattle.rdf_terms.specs.Terms.{Quad}
 use Rattle.rdf_tokens.specs.Tokens.{Place, Token, Reading}
 use Rattle.rdf_tokens.specs.Tokens.Outcome.{complete}
 use Rattle.rdf_tokens.specs.Good.{tokens_of}
@@ -21,9 +21,10 @@ use Rattle.rdf_tokens.specs.Grammars.{Due, counted}
 use Rattle.rdf_tokens.proofs.LawLemmas.{lengthens}
 use Rattle.rdf_tokens.proofs.GrammarsLemmas.{counted-append, counted_undecided, end_complete, only_ended}
 use Rattle.rdf_lines.specs.declared.form.LineForm.{LineForm}
+use Rattle.rdf_lines.specs.declared.rules.Rules.{Rules}
 use Rattle.rdf_lines.specs.declared.fault.Summary.{Summary}
 use Rattle.rdf_lines.specs.Lines.{documents}
-use Rattle.rdf_lines.specs.Machine.{Mode, Begin, ran, run}
+use Rattle.rdf_lines.specs.Machine.{Mode, Begin, is_taken, ran, run}
 use Rattle.rdf_lines.specs.Documents.{RefusedIn}
 use Rattle.rdf_lines.specs.LineRead.{LineRead}
 use Rattle.rdf_lines.specs.Readers.{tokens_so_far, HasRead, IsDueIn, LeavesOff, Refuses, Feeds, FeedFails}
@@ -31,7 +32,7 @@ use Rattle.rdf_lines.specs.Reading.{Stand, Advances, IsDecided, IsEnded, ReadsAl
 use Rattle.rdf_lines.proofs.DocumentsLemmas.{refused_in_more}
 use Rattle.rdf_lines.proofs.ReachedLemmas.{Reached, reached_on, reached_begins, due_in_reading, appends_both, appends_attempts}
 use Rattle.rdf_lines.proofs.ReadingLemmas.{advances_none}
-use Rattle.rdf_lines.proofs.FailsLemmas.{Reaches, Told, told, leaves_here}
+use Rattle.rdf_lines.proofs.FailsLemmas.{rules_of, Reaches, Told, told, leaves_here}
 use Rattle.rdf_lines.proofs.Lag.{is_dot, dots, given_dots}
 
 -- a reader as a stand
@@ -62,12 +63,12 @@ module _ {S : Type 0} (old : LineRead) (piece : List ℕ) (sink : S) where
         bytes = bytes;
         tokens = (tokens_so_far old.scanner.limit bytes).tokens;
         reached = record { lines = h.lines; scanned = h.scanned; ran = h.ran };
-        refused = λ reason at ahead x. refused_in_more old.form old.scanner.limit bytes piece false reason at ahead (subst (λ r. RefusedIn old.form r reason at ahead) same x);
+        refused = λ reason at ahead x. refused_in_more old.form old.iri old.scanner.limit bytes piece false reason at ahead (subst (λ r. RefusedIn old.form old.iri r reason at ahead) same x);
         due = λ qs x. due_more old.form old.scanner.limit bytes piece false qs (subst (λ r. IsDueIn old.form r qs) same x);
       }
 
   reached_push : (v : Unread) (n : ℕ) → TakesBytes old.scanner piece n v → (bytes : List ℕ) (quads : List Quad) → HasRead old bytes quads →
-      Reached old.form v old.mode (bytes ++ take n piece) (tokens_so_far old.scanner.limit bytes).tokens quads
+      Reached (rules_of old) v old.mode (bytes ++ take n piece) (tokens_so_far old.scanner.limit bytes).tokens quads
   reached_push v n t bytes quads h = record { lines = t.same.dialect ∙ h.lines; scanned = t.read bytes (tokens_so_far old.scanner.limit bytes).tokens h.scanned; ran = h.ran }
 
   -- and where some of its bytes were taken
@@ -83,8 +84,8 @@ module _ {S : Type 0} (old : LineRead) (piece : List ℕ) (sink : S) where
         tokens = (tokens_so_far old.scanner.limit bytes).tokens;
         reached = reached_push v n t bytes quads h;
         refused = λ reason at ahead x.
-            subst (λ w. RefusedIn old.form (tokens_of Lines old.scanner.limit w false) reason at ahead) all
-            (refused_in_more old.form old.scanner.limit now (drop n piece) false reason at ahead (subst (λ r. RefusedIn old.form r reason at ahead) same x));
+            subst (λ w. RefusedIn old.form old.iri (tokens_of Lines old.scanner.limit w false) reason at ahead) all
+            (refused_in_more old.form old.iri old.scanner.limit now (drop n piece) false reason at ahead (subst (λ r. RefusedIn old.form old.iri r reason at ahead) same x));
         due = λ qs x.
             subst (λ w. IsDueIn old.form (tokens_of Lines old.scanner.limit w false) qs) all
             (due_more old.form old.scanner.limit now (drop n piece) false qs (subst (λ r. IsDueIn old.form r qs) same x));
@@ -110,8 +111,8 @@ module _ {S : Type 0} (old : LineRead) (piece : List ℕ) (sink : S) where
       nothing : LeavesOff takes leaves old sink (λ bytes. tokens_of Lines old.scanner.limit (bytes ++ piece) false) sink
       nothing =
           leaves_here takes leaves failed old running (stand_of old sink) (λ bytes. tokens_of Lines old.scanner.limit (bytes ++ piece) false) (reaches_here o)
-          (stand_of old sink) [] [] [] sink (advances_none takes old.form (stand_of old sink)) refl
-          (λ bytes us quads r. subst (IsDueIn old.form (tokens_of Lines old.scanner.limit bytes old.scanner.ended)) (sym (append-nil quads)) (due_in_reading old.form old.scanner old.mode bytes us quads r))
+          (stand_of old sink) [] [] [] sink (advances_none takes (rules_of old) (stand_of old sink)) refl
+          (λ bytes us quads r. subst (IsDueIn old.form (tokens_of Lines old.scanner.limit bytes old.scanner.ended)) (sym (append-nil quads)) (due_in_reading (rules_of old) old.scanner old.mode bytes us quads r))
 
       long : (0 < length piece) → old.scanner.taken.offset ≡ most_bytes → (bytes : List ℕ) (quads : List Quad) → HasRead old bytes quads → most_bytes < length (bytes ++ piece)
       long l m bytes quads h =
@@ -129,9 +130,9 @@ module _ {S : Type 0} (old : LineRead) (piece : List ℕ) (sink : S) where
       by reason r = absurd r
 
 -- tokens before the input's end
-no_end_yet : (f : LineForm) (v : Unread) (m : Mode) (bytes : List ℕ) (us ts : List Token) (quads : List Quad) → Reached f v m bytes (us ++ ts) quads → v.ended ≡ false → IsEnded ts → ⊥
-no_end_yet f v m bytes us ts quads r more e =
-    let b = reached_begins f v m bytes (us ++ ts) quads r in
+no_end_yet : (g : Rules) (v : Unread) (m : Mode) (bytes : List ℕ) (us ts : List Token) (quads : List Quad) → Reached g v m bytes (us ++ ts) quads → v.ended ≡ false → IsEnded ts → ⊥
+no_end_yet g v m bytes us ts quads r more e =
+    let b = reached_begins g v m bytes (us ++ ts) quads r in
     let tokens : (tokens_of Lines v.limit bytes v.ended).tokens ≡ (us ++ e.0) ++ e.1 ∷ b.0 =
     b.1 ∙ (ap (λ x. (us ++ x) ++ b.0) e.2 ∙ (ap (λ x. x ++ b.0) (sym (append_assoc us e.0 (e.1 ∷ []))) ∙ append_assoc (us ++ e.0) (e.1 ∷ []) b.0)) in
     let whole = end_complete Lines v.limit bytes v.ended (us ++ e.0) b.0 e.1 tokens e.3 in
@@ -148,23 +149,23 @@ dots_le (t ∷ ts) = let h = dots_le ts in let l = one t.kind in omega (arith, l
 summary_same : {a b c d e g : ℕ} → a ≡ b → c ≡ d → e ≡ g → (let x : Summary = record { quads = a; tokens = c; bytes = e } in x) ≡ record { quads = b; tokens = d; bytes = g }
 summary_same p q r = cc
 
-module _ {S : Type 0} (takes : S → Quad → S → Type 0) (old new : LineRead) (form : new.form ≡ old.form) (running : new.done ≡ false) (piece : List ℕ) (n : ℕ) (v : Unread)
-    (taken : TakesBytes old.scanner piece n v) (before after : S) (all : ReadsAll takes old.form (pushed old v n before) (stand_of new after)) where
+module _ {S : Type 0} (takes : S → Quad → S → Type 0) (old new : LineRead) (form : new.form ≡ old.form) (iri : new.iri ≡ old.iri) (running : new.done ≡ false) (piece : List ℕ) (n : ℕ) (v : Unread)
+    (taken : TakesBytes old.scanner piece n v) (before after : S) (all : ReadsAll takes (rules_of old) (pushed old v n before) (stand_of new after)) where
   -- all tokens that come were accepted, and bytes may still come
   open_now : new.scanner.ended ≡ false
   open_now = all.advances.ended ∙ taken.after.more
 
   reached : (bytes : List ℕ) (quads : List Quad) → HasRead old bytes quads →
-      Reached old.form new.scanner new.mode (bytes ++ take n piece) ((tokens_so_far old.scanner.limit bytes).tokens ++ all.tokens) (quads ++ all.quads)
+      Reached (rules_of old) new.scanner new.mode (bytes ++ take n piece) ((tokens_so_far old.scanner.limit bytes).tokens ++ all.tokens) (quads ++ all.quads)
   reached bytes quads h =
-      reached_on takes old.form (pushed old v n before) (stand_of new after) (bytes ++ take n piece) (tokens_so_far old.scanner.limit bytes).tokens all.tokens quads all.quads
+      reached_on takes (rules_of old) (pushed old v n before) (stand_of new after) (bytes ++ take n piece) (tokens_so_far old.scanner.limit bytes).tokens all.tokens quads all.quads
       (reached_push old piece before v n taken bytes quads h) all.advances
 
   decided : (bytes : List ℕ) (quads : List Quad) → HasRead old bytes quads → IsDecided v all.tokens new.scanner
   decided bytes quads h =
       ⊎_elim
       (λ d. d)
-      (λ e. absurd (no_end_yet old.form new.scanner new.mode (bytes ++ take n piece) (tokens_so_far old.scanner.limit bytes).tokens all.tokens (quads ++ all.quads) (reached bytes quads h) open_now e.0))
+      (λ e. absurd (no_end_yet (rules_of old) new.scanner new.mode (bytes ++ take n piece) (tokens_so_far old.scanner.limit bytes).tokens all.tokens (quads ++ all.quads) (reached bytes quads h) open_now e.0))
       all.rests
 
   has_read : (bytes : List ℕ) (quads : List Quad) → HasRead old bytes quads → HasRead new (bytes ++ take n piece) (quads ++ all.quads)
@@ -196,12 +197,13 @@ module _ {S : Type 0} (takes : S → Quad → S → Type 0) (old new : LineRead)
         more = d.more;
         scanned = subst (Scan.HasRead new.scanner now) (sym tokens) r.scanned;
         undecided = open_outcome;
-        ran = ap (λ f. run has_scheme f Begin (tokens_so_far new.scanner.limit now).tokens) form ∙ (ap (run has_scheme old.form Begin) tokens ∙ r.ran);
+        ran = ap (λ f. run (is_taken new.iri) f Begin (tokens_so_far new.scanner.limit now).tokens) form
+            ∙ (ap (λ i. run (is_taken i) old.form Begin (tokens_so_far new.scanner.limit now).tokens) iri ∙ (ap (run (is_taken old.iri) old.form Begin) tokens ∙ r.ran));
         so_far = all.advances.so_far ∙ summary_same (omega arith) (omega arith) (omega arith);
       }
 
   pub feeds : Feeds takes old before (take n piece) new after
-  feeds = record { same = record { form = form; limit = all.advances.same.limit ∙ taken.same.limit }; more = all.quads; puts = all.advances.puts; read = has_read }
+  feeds = record { same = record { form = form; limit = all.advances.same.limit ∙ taken.same.limit; iri = iri }; more = all.quads; puts = all.advances.puts; read = has_read }
 
   pub live : IsLive old → IsLive new
   live l = record {
@@ -234,7 +236,7 @@ ready_pushed old piece n v sink l t = record {
         let size : v.taken.offset ≡ length (bytes ++ take n piece) = ap (λ p. p.offset) r.taken in
         let m = t.most in
         let c = counted_undecided Lines old.scanner.limit bytes false h.undecided in
-        let given = given_dots has_scheme old.form us Begin old.mode quads h.ran in
+        let given = given_dots (is_taken old.iri) old.form us Begin old.mode quads h.ran in
         let few = dots_le us in
         let old_quads : old.so_far.quads ≡ length quads = ap (λ s. s.quads) h.so_far in
         let old_tokens : old.so_far.tokens ≡ length us = ap (λ s. s.tokens) h.so_far in
@@ -257,7 +259,7 @@ bytes_fit old piece n v l t = ∥∥₁_elim l.read le_prop (λ x. fit x.0 x.1 x
 module _ {S : Type 0} (takes : S → Quad → S → Type 0) where
   pub feeds_none : (old : LineRead) (sink : S) → Feeds takes old sink [] old sink
   feeds_none old sink = record {
-    same = record { form = refl; limit = refl };
+    same = record { form = refl; limit = refl; iri = refl };
     more = [];
     puts = refl;
     read = λ bytes quads h. subst (λ w. HasRead old w (quads ++ [])) (sym (append-nil bytes)) (subst (HasRead old bytes) (sym (append-nil quads)) h);
@@ -265,7 +267,7 @@ module _ {S : Type 0} (takes : S → Quad → S → Type 0) where
 
   pub feeds_both : (a b c : LineRead) (front part : List ℕ) (x y z : S) → Feeds takes a x front b y → Feeds takes b y part c z → Feeds takes a x (front ++ part) c z
   feeds_both a b c front part x y z f g = record {
-    same = record { form = g.same.form ∙ f.same.form; limit = g.same.limit ∙ f.same.limit };
+    same = record { form = g.same.form ∙ f.same.form; limit = g.same.limit ∙ f.same.limit; iri = g.same.iri ∙ f.same.iri };
     more = f.more ++ g.more;
     puts = appends_both takes f.more g.more x y z f.puts g.puts;
     read = λ bytes quads h.
@@ -301,8 +303,9 @@ module _ {S : Type 0} (takes : S → Quad → S → Type 0) where
       refused = λ bytes quads h.
           let d = l.refused (bytes ++ front) (quads ++ fed.more) (fed.read bytes quads h) in (
             d.0,
-            subst (λ f. RefusedIn f (tokens_of Lines a.scanner.limit (bytes ++ (front ++ rest)) false) reason at d.0) fed.same.form
-                (subst (λ r. RefusedIn b.form r reason at d.0) (later bytes) d.1),
+            subst (λ f. RefusedIn f a.iri (tokens_of Lines a.scanner.limit (bytes ++ (front ++ rest)) false) reason at d.0) fed.same.form
+                (subst (λ i. RefusedIn b.form i (tokens_of Lines a.scanner.limit (bytes ++ (front ++ rest)) false) reason at d.0) fed.same.iri
+                (subst (λ r. RefusedIn b.form b.iri r reason at d.0) (later bytes) d.1)),
             subst (λ f. Due (documents f) d.0 (quads ++ (fed.more ++ l.more))) fed.same.form (subst (Due (documents b.form) d.0) (append_assoc quads fed.more l.more) d.2),
           );
     }

@@ -21,7 +21,7 @@ use Rattle.rdf_lines.specs.declared.form.LineForm.{LineForm}
 use Rattle.rdf_lines.specs.declared.form.LineForm.TheVariants.{NTriples, NQuads}
 use Rattle.rdf_lines.specs.declared.fault.Fault.{Fault}
 use Rattle.rdf_lines.specs.Lines.{Leaf, leaf_of, IsDocument}
-use Rattle.rdf_lines.specs.Machine.{Mode, Begin, AfterString, AfterObject, AfterDot, Finished, Answer, goes, gives, refuses, accept, ran, refused, go_on, run}
+use Rattle.rdf_lines.specs.Machine.{Mode, Begin, AfterString, AfterObject, AfterDot, Finished, Answer, goes, gives, refuses, is_taken, accept, ran, refused, go_on, run}
 use Rattle.rdf_lines.specs.Documents.{Document, RefusedIn}
 use Rattle.rdf_lines.specs.LineRead.{LineRead}
 use Rattle.rdf_lines.specs.Readers.{tokens_so_far, HasRead, IsDueIn, Sums, Finishes, FinishFails, place_of}
@@ -29,35 +29,36 @@ use Rattle.rdf_lines.specs.Reading.{Stand, Advances, IsEnded, ReadsAll, ReadsTok
 use Rattle.rdf_lines.proofs.Sound.{sound}
 use Rattle.rdf_lines.proofs.Runs.{with_quads, run_one, then_ran, run_append}
 use Rattle.rdf_lines.proofs.DocumentsLemmas.{document_complete}
+use Rattle.rdf_lines.proofs.Refusals.{in_documents}
 use Rattle.rdf_lines.proofs.ReachedLemmas.{Reached, reached_on}
-use Rattle.rdf_lines.proofs.FailsLemmas.{Reaches, Told, told}
+use Rattle.rdf_lines.proofs.FailsLemmas.{rules_of, Reaches, Told, told}
 use Rattle.rdf_lines.proofs.FeedsLemmas.{stand_of, dots_le}
 use Rattle.rdf_lines.proofs.Lag.{given_dots}
 
 -- behind the end a document is finished
-accept_end : (f : LineForm) (m : Mode) (l : Leaf) → (accept has_scheme f m End l ≡ goes Finished) ⊎ (accept has_scheme f m End l ≡ refuses Unexpected)
-accept_end f Begin l = inl refl
-accept_end f AfterDot l = inl refl
-accept_end NTriples (AfterString s p w) l = inr refl
-accept_end NQuads (AfterString s p w) l = inr refl
-accept_end NTriples (AfterObject s p o) l = inr refl
-accept_end NQuads (AfterObject s p o) l = inr refl
-accept_end f m l = inr refl
+accept_end : (test : List ℕ → Bool) (f : LineForm) (m : Mode) (l : Leaf) → (accept test f m End l ≡ goes Finished) ⊎ (accept test f m End l ≡ refuses Unexpected)
+accept_end test f Begin l = inl refl
+accept_end test f AfterDot l = inl refl
+accept_end test NTriples (AfterString s p w) l = inr refl
+accept_end test NQuads (AfterString s p w) l = inr refl
+accept_end test NTriples (AfterObject s p o) l = inr refl
+accept_end test NQuads (AfterObject s p o) l = inr refl
+accept_end test f m l = inr refl
 
-pub end_finishes : (f : LineForm) (ts : List Token) (t : Token) (m n : Mode) (qs : List Quad) → run has_scheme f m (ts ++ t ∷ []) ≡ ran n qs → t.kind ≡ End → n ≡ Finished
-end_finishes f ts t m n qs e k =
-    let before = then_ran (run has_scheme f m ts) (λ x. run has_scheme f x (t ∷ [])) n qs (sym (run_append has_scheme f ts (t ∷ []) m) ∙ e) in
-    let one = run_one has_scheme f ts t m before.0 before.1 before.2 in
+pub end_finishes : (test : List ℕ → Bool) (f : LineForm) (ts : List Token) (t : Token) (m n : Mode) (qs : List Quad) → run test f m (ts ++ t ∷ []) ≡ ran n qs → t.kind ≡ End → n ≡ Finished
+end_finishes test f ts t m n qs e k =
+    let before = then_ran (run test f m ts) (λ x. run test f x (t ∷ [])) n qs (sym (run_append test f ts (t ∷ []) m) ∙ e) in
+    let one = run_one test f ts t m before.0 before.1 before.2 in
     by before.0 before.1 (sym one ∙ e)
   where
-    by : (x : Mode) (rs : List Quad) → with_quads rs (go_on (accept has_scheme f x t.kind (leaf_of t)) (λ j. ran j [])) ≡ ran n qs → n ≡ Finished
+    by : (x : Mode) (rs : List Quad) → with_quads rs (go_on (accept test f x t.kind (leaf_of t)) (λ j. ran j [])) ≡ ran n qs → n ≡ Finished
     by x rs h =
-        let h : with_quads rs (go_on (accept has_scheme f x End (leaf_of t)) (λ j. ran j [])) ≡ ran n qs =
-        subst (λ k. with_quads rs (go_on (accept has_scheme f x k (leaf_of t)) (λ j. ran j [])) ≡ ran n qs) k h in
+        let h : with_quads rs (go_on (accept test f x End (leaf_of t)) (λ j. ran j [])) ≡ ran n qs =
+        subst (λ k. with_quads rs (go_on (accept test f x k (leaf_of t)) (λ j. ran j [])) ≡ ran n qs) k h in
         ⊎_elim
         (λ a. let z : ran Finished (rs ++ []) ≡ ran n qs = sym (ap (λ y. with_quads rs (go_on y (λ j. ran j []))) a) ∙ h in cc)
         (λ a. absurd (let z : refused Unexpected ≡ ran n qs = sym (ap (λ y. with_quads rs (go_on y (λ j. ran j []))) a) ∙ h in cc))
-        (accept_end f x (leaf_of t))
+        (accept_end test f x (leaf_of t))
 
 module _ {S : Type 0} (old : LineRead) (v : Unread) (sink : S) (last : v ≡ record old.scanner { ended = true })
     (read : (bytes : List ℕ) (ts : List Token) → Scan.HasRead old.scanner bytes ts → Scan.HasRead v bytes ts) (before : IsOpen old.scanner) where
@@ -71,7 +72,7 @@ module _ {S : Type 0} (old : LineRead) (v : Unread) (sink : S) (last : v ≡ rec
   ended_now : v.ended ≡ true
   ended_now = ap (λ x. x.ended) last
 
-  reached_last : (bytes : List ℕ) (quads : List Quad) → HasRead old bytes quads → Reached old.form v old.mode bytes (tokens_so_far old.scanner.limit bytes).tokens quads
+  reached_last : (bytes : List ℕ) (quads : List Quad) → HasRead old bytes quads → Reached (rules_of old) v old.mode bytes (tokens_so_far old.scanner.limit bytes).tokens quads
   reached_last bytes quads h = record { lines = ap (λ x. x.dialect) last ∙ h.lines; scanned = read bytes (tokens_so_far old.scanner.limit bytes).tokens h.scanned; ran = h.ran }
 
   last_reading : (bytes : List ℕ) → tokens_of Lines v.limit bytes v.ended ≡ tokens_of Lines old.scanner.limit bytes true
@@ -82,7 +83,7 @@ module _ {S : Type 0} (old : LineRead) (v : Unread) (sink : S) (last : v ≡ rec
     bytes = bytes;
     tokens = (tokens_so_far old.scanner.limit bytes).tokens;
     reached = reached_last bytes quads h;
-    refused = λ reason at ahead x. subst (λ r. RefusedIn old.form r reason at ahead) (last_reading bytes) x;
+    refused = λ reason at ahead x. subst (λ r. RefusedIn old.form old.iri r reason at ahead) (last_reading bytes) x;
     due = λ qs x. subst (λ r. IsDueIn old.form r qs) (last_reading bytes) x;
   }
 
@@ -99,7 +100,7 @@ module _ {S : Type 0} (old : LineRead) (v : Unread) (sink : S) (last : v ≡ rec
           let size : old.scanner.taken.offset ≡ length bytes = ap (λ p. p.offset) h.scanned.taken in
           let m = l.most in
           let c = counted_undecided Lines old.scanner.limit bytes false h.undecided in
-          let given = given_dots has_scheme old.form us Begin old.mode quads h.ran in
+          let given = given_dots (is_taken old.iri) old.form us Begin old.mode quads h.ran in
           let few = dots_le us in
           let old_quads : old.so_far.quads ≡ length quads = ap (λ s. s.quads) h.so_far in
           let old_tokens : old.so_far.tokens ≡ length us = ap (λ s. s.tokens) h.so_far in
@@ -116,7 +117,7 @@ module _ {S : Type 0} (old : LineRead) (v : Unread) (sink : S) (last : v ≡ rec
   finish_told takes leaves failed running reason at new after x = x
 
   -- all tokens were accepted
-  pub finishes : (takes : S → Quad → S → Type 0) (new : LineRead) (after : S) → ReadsAll takes old.form last_stand (stand_of new after) → Finishes takes old sink new.so_far after
+  pub finishes : (takes : S → Quad → S → Type 0) (new : LineRead) (after : S) → ReadsAll takes (rules_of old) last_stand (stand_of new after) → Finishes takes old sink new.so_far after
   finishes takes new after all = record { more = all.quads; puts = all.advances.puts; read = sums }
     where
       ended : IsEnded all.tokens × (new.scanner.stopped ≡ true)
@@ -126,12 +127,12 @@ module _ {S : Type 0} (old : LineRead) (v : Unread) (sink : S) (last : v ≡ rec
       sums bytes quads h =
           let us = (tokens_so_far old.scanner.limit bytes).tokens in
           let ts = us ++ all.tokens in
-          let r = reached_on takes old.form last_stand (stand_of new after) bytes us all.tokens quads all.quads (reached_last bytes quads h) all.advances in
+          let r = reached_on takes (rules_of old) last_stand (stand_of new after) bytes us all.tokens quads all.quads (reached_last bytes quads h) all.advances in
           let e = ended in
           let whole : ts ≡ (us ++ e.0.0) ++ e.0.1 ∷ [] = ap (λ x. us ++ x) e.0.2 ∙ sym (append_assoc us e.0.0 (e.0.1 ∷ [])) in
           let finished : new.mode ≡ Finished =
-          end_finishes old.form (us ++ e.0.0) e.0.1 Begin new.mode (quads ++ all.quads) (ap (run has_scheme old.form Begin) (sym whole) ∙ r.ran) e.0.3 in
-          let document = sound has_scheme old.form ts (quads ++ all.quads) (r.ran ∙ ap (λ m. ran m (quads ++ all.quads)) finished) in
+          end_finishes (is_taken old.iri) old.form (us ++ e.0.0) e.0.1 Begin new.mode (quads ++ all.quads) (ap (run (is_taken old.iri) old.form Begin) (sym whole) ∙ r.ran) e.0.3 in
+          let document = sound has_scheme old.form ts (quads ++ all.quads) (in_documents old.iri old.form ts Finished (quads ++ all.quads) (r.ran ∙ ap (λ m. ran m (quads ++ all.quads)) finished)) in
           let reads = subst (λ s. Scan.Reads s new.scanner.ended new.scanner bytes ts) e.1 r.scanned.reads in
           let same : tokens_of new.scanner.dialect new.scanner.limit bytes new.scanner.ended ≡ tokens_of Lines old.scanner.limit bytes true =
           ap (λ d. tokens_of d new.scanner.limit bytes new.scanner.ended) r.lines
@@ -156,13 +157,13 @@ module _ {S : Type 0} (old : LineRead) (v : Unread) (sink : S) (last : v ≡ rec
             taken = ap (λ s. s.bytes) all.advances.so_far ∙ ap (λ s. s.bytes) h.so_far;
           }
 
-  pub finish_ok : (takes leaves : S → Quad → S → Type 0) (failed : S → Bool) (new : LineRead) (after : S) (r : Result Unit Fault) → ReadsTokens takes leaves failed old.form last_stand r (stand_of new after) →
+  pub finish_ok : (takes leaves : S → Quad → S → Type 0) (failed : S → Bool) (new : LineRead) (after : S) (r : Result Unit Fault) → ReadsTokens takes leaves failed (rules_of old) last_stand r (stand_of new after) →
       OnOk r (Finishes takes old sink new.so_far after)
   finish_ok takes leaves failed new after (Ok x) h = finishes takes new after h
   finish_ok takes leaves failed new after (Err f) h = tt
 
   pub finish_err : (takes leaves : S → Quad → S → Type 0) (failed : S → Bool) (running : old.done ≡ false) (new : LineRead) (after : S) (r : Result Unit Fault) →
-      ReadsTokens takes leaves failed old.form last_stand r (stand_of new after) → IfErr r (λ f. FinishFails takes leaves failed f.reason (place_of f) old sink new after)
+      ReadsTokens takes leaves failed (rules_of old) last_stand r (stand_of new after) → IfErr r (λ f. FinishFails takes leaves failed f.reason (place_of f) old sink new after)
   finish_err takes leaves failed running new after (Ok x) h = tt
   finish_err takes leaves failed running new after (Err f) h =
       finish_told takes leaves failed running f.reason (place_of f) new after

@@ -8,8 +8,7 @@ use Rattle.rdf_terms.specs.Terms.{Subject, Term, Literal, Typed, Quad, xsd_strin
 use Rattle.rdf_lines.specs.declared.form.LineForm.{LineForm}
 use Rattle.rdf_lines.specs.declared.form.LineForm.TheVariants.{NQuads}
 use Rattle.rdf_lines.specs.Lines.{Leaf, leaf_of, iri_of}
-use Rattle.rdf_terms.specs.declared.reason.Reason.TheVariants.{RelativeIri}
-use Rattle.rdf_lines.specs.Machine.{Mode, Begin, AfterSubject, AfterPredicate, AfterString, AfterCarets, AfterObject, AfterGraph, AfterDot, Answer, goes, gives, refuses, absolute, object_then, accept, ran, refused, go_on, run}
+use Rattle.rdf_lines.specs.Machine.{Mode, Begin, AfterSubject, AfterPredicate, AfterString, AfterCarets, AfterObject, AfterGraph, AfterDot, Answer, goes, gives, refuses, iri_refused, absolute, object_then, accept, ran, refused, go_on, run}
 use Rattle.rdf_lines.proofs.Sound.{quad_first}
 
 abbrev pub is_dot : Kind → ℕ
@@ -26,7 +25,7 @@ Counts (gives q m) d = d ≡ 1
 Counts (refuses r) d = Unit
 
 absolute_counts : (test : List ℕ → Bool) (i : List ℕ) (m : Mode) → Counts (absolute test i m) 0
-absolute_counts test i m = cond_both (test i) (goes m) (refuses RelativeIri) (λ x. Counts x 0) (λ e. refl) (λ e. tt)
+absolute_counts test i m = cond_both (test i) (goes m) (refuses (iri_refused i)) (λ x. Counts x 0) (λ e. refl) (λ e. tt)
 
 object_counts : (test : List ℕ → Bool) (f : LineForm) (s : Subject) (p : List ℕ) (o : Term) (k : Kind) (l : Leaf) → Counts (object_then test f s p o k l) (is_dot k)
 object_counts test f s p o Dot l = refl

@@ -6,8 +6,7 @@ use Rattle.std.proofs.lemmas.List.{append-nil}
 use Rattle.std.proofs.lemmas.Bool.{cond_both}
 use Rattle.rdf_terms.specs.declared.kind.Kind.{Kind}
 use Rattle.rdf_terms.specs.declared.kind.Kind.TheVariants.{IriRef, LabelNode, ShortString, LangTag, Carets, Dot, LineEnd, End}
-use Rattle.rdf_terms.specs.declared.reason.Reason.TheVariants.{RelativeIri}
-use Rattle.rdf_terms.specs.Terms.{Subject, Term, Literal, Typed, Quad, xsd_string, has_scheme}
+use Rattle.rdf_terms.specs.Terms.{Subject, Term, Literal, Typed, Quad, xsd_string}
 use Rattle.rdf_terms.specs.Sinks.{Appends}
 use Rattle.rdf_tokens.specs.Tokens.{Place, Token}
 use Rattle.rdf_tokens.specs.Good.{tokens_of}
@@ -17,9 +16,10 @@ use Rattle.rdf_tokens.specs.Grammars.{counted}
 use Rattle.rdf_tokens.proofs.GrammarsLemmas.{given_few, counted-append}
 use Rattle.rdf_lines.specs.declared.form.LineForm.{LineForm}
 use Rattle.rdf_lines.specs.declared.form.LineForm.TheVariants.{NQuads}
+use Rattle.rdf_lines.specs.declared.rules.Rules.{Rules}
 use Rattle.rdf_lines.specs.declared.fault.Summary.{Summary}
 use Rattle.rdf_lines.specs.Lines.{Leaf, leaf_of, iri_of}
-use Rattle.rdf_lines.specs.Machine.{Mode, Begin, AfterSubject, AfterPredicate, AfterString, AfterCarets, AfterObject, AfterGraph, AfterDot, Answer, goes, gives, refuses, absolute, object_then, accept, ran, go_on, run}
+use Rattle.rdf_lines.specs.Machine.{Mode, Begin, AfterSubject, AfterPredicate, AfterString, AfterCarets, AfterObject, AfterGraph, AfterDot, Answer, goes, gives, refuses, is_taken, iri_refused, absolute, object_then, accept, ran, go_on, run}
 use Rattle.rdf_lines.specs.States.{gave, Does}
 use Rattle.rdf_lines.specs.Reading.{Stand, with_token, TakesToken, WaitsHere, Advances, IsDecided, ReadsAll, IsEnded, Known, IsReady}
 use Rattle.rdf_lines.proofs.Runs.{with_quads, run_one}
@@ -40,35 +40,35 @@ GaveRight (goes m) = gave m ≡ false
 GaveRight (gives q m) = gave m ≡ true
 GaveRight (refuses r) = Unit
 
-absolute_gave : (i : List ℕ) (m : Mode) → gave m ≡ false → GaveRight (absolute has_scheme i m)
-absolute_gave i m e = cond_both (has_scheme i) (goes m) (refuses RelativeIri) GaveRight (λ h. e) (λ h. tt)
+absolute_gave : (test : List ℕ → Bool) (i : List ℕ) (m : Mode) → gave m ≡ false → GaveRight (absolute test i m)
+absolute_gave test i m e = cond_both (test i) (goes m) (refuses (iri_refused i)) GaveRight (λ h. e) (λ h. tt)
 
-object_gave : (f : LineForm) (s : Subject) (p : List ℕ) (o : Term) (k : Kind) (l : Leaf) → GaveRight (object_then has_scheme f s p o k l)
-object_gave f s p o Dot l = refl
-object_gave NQuads s p o IriRef l = absolute_gave (iri_of l) _ refl
-object_gave NQuads s p o LabelNode l = refl
-object_gave f s p o k l = tt
+object_gave : (test : List ℕ → Bool) (f : LineForm) (s : Subject) (p : List ℕ) (o : Term) (k : Kind) (l : Leaf) → GaveRight (object_then test f s p o k l)
+object_gave test f s p o Dot l = refl
+object_gave test NQuads s p o IriRef l = absolute_gave test (iri_of l) _ refl
+object_gave test NQuads s p o LabelNode l = refl
+object_gave test f s p o k l = tt
 
-accept_gave : (f : LineForm) (m : Mode) (k : Kind) (l : Leaf) → GaveRight (accept has_scheme f m k l)
-accept_gave f Begin IriRef l = absolute_gave (iri_of l) _ refl
-accept_gave f (AfterSubject s) IriRef l = absolute_gave (iri_of l) _ refl
-accept_gave f (AfterPredicate s p) IriRef l = absolute_gave (iri_of l) _ refl
-accept_gave f (AfterCarets s p w) IriRef l = absolute_gave (iri_of l) _ refl
-accept_gave f Begin LabelNode l = refl
-accept_gave f Begin LineEnd l = refl
-accept_gave f Begin End l = refl
-accept_gave f (AfterPredicate s p) LabelNode l = refl
-accept_gave f (AfterPredicate s p) ShortString l = refl
-accept_gave f (AfterString s p w) LangTag l = refl
-accept_gave f (AfterString s p w) Carets l = refl
-accept_gave f (AfterString s p w) k l = object_gave f s p (Literal w (Typed xsd_string)) k l
-accept_gave f (AfterObject s p o) k l = object_gave f s p o k l
-accept_gave f (AfterGraph s p o g) Dot l = refl
-accept_gave f AfterDot LineEnd l = refl
-accept_gave f AfterDot End l = refl
-accept_gave f m k l = tt
+accept_gave : (test : List ℕ → Bool) (f : LineForm) (m : Mode) (k : Kind) (l : Leaf) → GaveRight (accept test f m k l)
+accept_gave test f Begin IriRef l = absolute_gave test (iri_of l) _ refl
+accept_gave test f (AfterSubject s) IriRef l = absolute_gave test (iri_of l) _ refl
+accept_gave test f (AfterPredicate s p) IriRef l = absolute_gave test (iri_of l) _ refl
+accept_gave test f (AfterCarets s p w) IriRef l = absolute_gave test (iri_of l) _ refl
+accept_gave test f Begin LabelNode l = refl
+accept_gave test f Begin LineEnd l = refl
+accept_gave test f Begin End l = refl
+accept_gave test f (AfterPredicate s p) LabelNode l = refl
+accept_gave test f (AfterPredicate s p) ShortString l = refl
+accept_gave test f (AfterString s p w) LangTag l = refl
+accept_gave test f (AfterString s p w) Carets l = refl
+accept_gave test f (AfterString s p w) k l = object_gave test f s p (Literal w (Typed xsd_string)) k l
+accept_gave test f (AfterObject s p o) k l = object_gave test f s p o k l
+accept_gave test f (AfterGraph s p o g) Dot l = refl
+accept_gave test f AfterDot LineEnd l = refl
+accept_gave test f AfterDot End l = refl
+accept_gave test f m k l = tt
 
-module _ {S : Type 0} (takes : S → Quad → S → Type 0) (f : LineForm) where
+module _ {S : Type 0} (takes : S → Quad → S → Type 0) (g : Rules) where
   pub appends_more : (qs : List Quad) (q : Quad) (a b c : S) → Appends takes a qs b → takes b q c → Appends takes a (qs ++ q ∷ []) c
   appends_more [] q a b c e t = (c, subst (λ x. takes x q c) e t, refl)
   appends_more (p ∷ qs) q a b c h t = (h.0, h.1, appends_more qs q h.0 b c h.2 t)
@@ -76,7 +76,7 @@ module _ {S : Type 0} (takes : S → Quad → S → Type 0) (f : LineForm) where
   summary_same : {a b c d e g : ℕ} → a ≡ b → c ≡ d → e ≡ g → (let x : Summary = record { quads = a; tokens = c; bytes = e } in x) ≡ record { quads = b; tokens = d; bytes = g }
   summary_same p q r = cc
 
-  pub advances_none : (s : Stand S) → Advances takes f s [] [] s
+  pub advances_none : (s : Stand S) → Advances takes g s [] [] s
   advances_none s = record {
     same = record { dialect = refl; limit = refl };
     ended = refl;
@@ -94,8 +94,8 @@ module _ {S : Type 0} (takes : S → Quad → S → Type 0) (f : LineForm) where
     count : quads + length before + cond (gave mode) 1 0 ≡ quads + length (before ++ more)
 
   adds : (a : Answer) (n : ℕ) (qs : List Quad) (old new : S) (m : Mode) → Does takes a old m new → GaveRight a → Adds a n qs old new m
-  adds (goes k) n qs old new m d g =
-      let none : ◌≡◌ {A = ℕ} (cond (gave m) 1 0) 0 = ap (λ x. cond (gave x) 1 0) d.0 ∙ ap (λ b. cond b 1 0) g in
+  adds (goes k) n qs old new m d right =
+      let none : ◌≡◌ {A = ℕ} (cond (gave m) 1 0) 0 = ap (λ x. cond (gave x) 1 0) d.0 ∙ ap (λ b. cond b 1 0) right in
       let same = ap length (append-nil qs) in
       record {
         more = [];
@@ -103,8 +103,8 @@ module _ {S : Type 0} (takes : S → Quad → S → Type 0) (f : LineForm) where
         puts = λ first h. subst (λ x. Appends takes first x new) (sym (append-nil qs)) (subst (λ x. Appends takes first qs x) (sym d.1) h);
         count = omega (arith, none, same);
       }
-  adds (gives q k) n qs old new m d g =
-      let one : ◌≡◌ {A = ℕ} (cond (gave m) 1 0) 1 = ap (λ x. cond (gave x) 1 0) d.0 ∙ ap (λ b. cond b 1 0) g in
+  adds (gives q k) n qs old new m d right =
+      let one : ◌≡◌ {A = ℕ} (cond (gave m) 1 0) 1 = ap (λ x. cond (gave x) 1 0) d.0 ∙ ap (λ b. cond b 1 0) right in
       let size = length-append qs (q ∷ []) in
       record {
         more = q ∷ [];
@@ -112,12 +112,12 @@ module _ {S : Type 0} (takes : S → Quad → S → Type 0) (f : LineForm) where
         puts = λ first h. appends_more qs q first old new h d.1;
         count = omega (arith, one, size);
       }
-  adds (refuses r) n qs old new m d g = absurd d
+  adds (refuses r) n qs old new m d right = absurd d
 
-  pub advances_token : (a b c : Stand S) (ts : List Token) (qs : List Quad) (t : Token) → Advances takes f a ts qs b → TakesToken takes f b t c →
-      (more : List Quad) × Advances takes f a (ts ++ t ∷ []) more c
+  pub advances_token : (a b c : Stand S) (ts : List Token) (qs : List Quad) (t : Token) → Advances takes g a ts qs b → TakesToken takes g b t c →
+      (more : List Quad) × Advances takes g a (ts ++ t ∷ []) more c
   advances_token a b c ts qs t h k =
-      let x = adds (accept has_scheme f b.mode t.kind (leaf_of t)) a.so_far.quads qs b.sink c.sink c.mode k.does (accept_gave f b.mode t.kind (leaf_of t)) in
+      let x = adds (accept (is_taken g.iri) g.form b.mode t.kind (leaf_of t)) a.so_far.quads qs b.sink c.sink c.mode k.does (accept_gave (is_taken g.iri) g.form b.mode t.kind (leaf_of t)) in
       let tokens : a.so_far.tokens + counted ts + cond (is_end t.kind) 0 1 ≡ a.so_far.tokens + counted (ts ++ t ∷ []) =
       let all = counted-append ts (t ∷ []) in omega (arith, all) in (
         qs ++ x.more,
@@ -125,13 +125,13 @@ module _ {S : Type 0} (takes : S → Quad → S → Type 0) (f : LineForm) where
           same = record { dialect = k.given.same.dialect ∙ h.same.dialect; limit = k.given.same.limit ∙ h.same.limit };
           ended = k.given.ended ∙ h.ended;
           scanned = λ bytes us z. subst (HasRead c.scanner bytes) (append_assoc us ts (t ∷ [])) (k.given.read bytes (us ++ ts) (h.scanned bytes us z));
-          ran = run_one has_scheme f ts t a.mode b.mode qs h.ran ∙ x.ran;
+          ran = run_one (is_taken g.iri) g.form ts t a.mode b.mode qs h.ran ∙ x.ran;
           puts = x.puts a.sink h.puts;
           so_far = k.so_far ∙ (ap (λ s. with_token s t.kind c.mode) h.so_far ∙ summary_same x.count tokens refl);
         },
       )
 
-  pub advances_waits : (a b c : Stand S) (ts : List Token) (qs : List Quad) → Advances takes f a ts qs b → WaitsHere b c → Advances takes f a ts qs c
+  pub advances_waits : (a b c : Stand S) (ts : List Token) (qs : List Quad) → Advances takes g a ts qs b → WaitsHere b c → Advances takes g a ts qs c
   advances_waits a b c ts qs h w = record {
     same = record { dialect = w.waits.same.dialect ∙ h.same.dialect; limit = w.waits.same.limit ∙ h.same.limit };
     ended = w.waits.after.more ∙ (sym w.waits.before.more ∙ h.ended);
@@ -141,7 +141,7 @@ module _ {S : Type 0} (takes : S → Quad → S → Type 0) (f : LineForm) where
     so_far = w.so_far ∙ h.so_far;
   }
 
-  pub decided_waits : (a b c : Stand S) (ts : List Token) (qs : List Quad) → Advances takes f a ts qs b → WaitsHere b c → IsDecided a.scanner ts c.scanner
+  pub decided_waits : (a b c : Stand S) (ts : List Token) (qs : List Quad) → Advances takes g a ts qs b → WaitsHere b c → IsDecided a.scanner ts c.scanner
   decided_waits a b c ts qs h w = record {
     more = w.waits.after;
     read = λ bytes us z.
@@ -151,7 +151,7 @@ module _ {S : Type 0} (takes : S → Quad → S → Type 0) (f : LineForm) where
         (ap (λ x. x.tokens) (sym e) ∙ r.1, ap (λ x. x.outcome) (sym e) ∙ r.2);
   }
 
-  pub ready_token : (b c : Stand S) (t : Token) → IsReady b.scanner b.so_far → TakesToken takes f b t c → is_end t.kind ≡ false → IsReady c.scanner c.so_far
+  pub ready_token : (b c : Stand S) (t : Token) → IsReady b.scanner b.so_far → TakesToken takes g b t c → is_end t.kind ≡ false → IsReady c.scanner c.so_far
   ready_token b c t r k e = record {
     lines = k.given.same.dialect ∙ r.lines;
     running = k.given.stops ∙ ap (λ x. cond x true false) e;

@@ -10,8 +10,8 @@ use Rattle.rdf_lines.specs.declared.form.LineForm.{LineForm}
 use Rattle.rdf_lines.specs.declared.form.LineForm.TheVariants.{NTriples, NQuads}
 use Rattle.rdf_lines.specs.Lines.{Leaf, leaf_of, Name, Ref, Lab, Object, Named, Plain, WithType, WithTag, Statement, Line, Document, last, next, token, name_tokens, object_tokens, graph_tokens, statement_tokens, line_tokens, document_tokens, iri_of, string_of, subject_of, term_of, quad_of, line_quads, quads, name_bound, object_bound, graph_bound, graph_fits, GoodStatement, GoodLine, GoodDocument, IsDocument}
 use Rattle.rdf_lines.specs.Lines as L
-use Rattle.rdf_terms.specs.declared.reason.Reason.TheVariants.{Unexpected, RelativeIri}
-use Rattle.rdf_lines.specs.Machine.{Mode, Begin, AfterSubject, AfterPredicate, AfterString, AfterCarets, AfterObject, AfterGraph, AfterDot, Finished, goes, refuses, absolute, accept, Run, ran, refused, with_quad, go_on, run}
+use Rattle.rdf_terms.specs.declared.reason.Reason.TheVariants.{Unexpected}
+use Rattle.rdf_lines.specs.Machine.{Mode, Begin, AfterSubject, AfterPredicate, AfterString, AfterCarets, AfterObject, AfterGraph, AfterDot, Finished, goes, refuses, iri_refused, absolute, accept, Run, ran, refused, with_quad, go_on, run}
 
 -- what has been read of a line, as parts of its tree
 data Part : Type 0 where
@@ -69,8 +69,8 @@ Sound test f ts r = (qs : List Quad) → Bound test f r → run test f (mode r) 
 accepted_absolute : (test : List ℕ → Bool) (i : List ℕ) (m n : Mode) (qs : List Quad) (more : Mode → Run) → go_on (absolute test i m) more ≡ ran n qs → (test i ≡ true) × (more m ≡ ran n qs)
 accepted_absolute test i m n qs more e =
     ⊎_elim
-    (λ h. (h, sym (ap (λ x. go_on x more) (cond-true (test i) (goes m) (refuses RelativeIri) h)) ∙ e))
-    (λ h. absurd (let z : refused RelativeIri ≡ ran n qs = sym (ap (λ x. go_on x more) (cond-false (test i) (goes m) (refuses RelativeIri) h)) ∙ e in cc))
+    (λ h. (h, sym (ap (λ x. go_on x more) (cond-true (test i) (goes m) (refuses (iri_refused i)) h)) ∙ e))
+    (λ h. absurd (let z : refused (iri_refused i) ≡ ran n qs = sym (ap (λ x. go_on x more) (cond-false (test i) (goes m) (refuses (iri_refused i)) h)) ∙ e in cc))
     (cases_Bool (test i))
 
 pub quad_first : (q : Quad) (r : Run) (m : Mode) (qs : List Quad) → with_quad q r ≡ ran m qs → (rest : List Quad) × (r ≡ ran m rest) × (qs ≡ q ∷ rest)

@@ -1,13 +1,18 @@
 -- What the shape of a token says of what it spells.
-use Rattle.std.proofs.Common.{◌≡◌, ℕ, zero, suc, ◌+◌, ◌*◌, true, false, cond, List, [], ◌∷◌, ◌++◌, ◌&&◌, ◌==◌, drop, Option, Some, None, is_some, option_map, refl, sym, ap, ◌∙◌, subst, ⊎_elim}
-use Rattle.std.proofs.lemmas.Bool.{cases_Bool, cond-true, cond-false, cond_both}
+use Rattle.std.proofs.Common.{◌≡◌, ℕ, zero, suc, ◌+◌, ◌*◌, ◌<◌, ◌≤◌, not, nat_lt, true, false, cond, List, [], ◌∷◌, ◌++◌, ◌&&◌, ◌==◌, drop, length, IsUtf8, arith, Option, Some, None, is_some, option_map, refl, sym, ap, ◌∙◌, subst, ⊎_elim}
+use Rattle.std.proofs.lemmas.Bool.{and_from, and_right, le-ltb, lt-ltb, cases_Bool, cond-true, cond-false, cond_both}
+use Rattle.std.specs.Str.{chars}
 use Rattle.rdf_terms.specs.Classes.{has, scalar}
 use Rattle.rdf_terms.specs.Classes.Class.{hex_digit, iri_char}
 use Rattle.rdf_terms.specs.declared.kind.Dialect.TheVariants.{Lines}
 use Rattle.rdf_terms.specs.declared.kind.Kind.TheVariants.{IriRef, LabelNode, ShortString, LangTag}
+use Rattle.rdf_terms.specs.declared.reason.Reason.TheVariants.{RelativeIri, IriTooLong}
 use Rattle.rdf_terms.specs.Shapes.{shape, Shape}
 use Rattle.rdf_terms.specs.Terms.{all_have, has_scheme, IsIri, IsLabel, IsTag}
 use Rattle.rdf_terms.specs.Values.{Spot, outside, slash, digits, Move, leads, means, fails, of_iri, allowed, hex_value, digit_move, move, go, value, iri_value, string_value, inside, is_fit}
+use Rattle.rdf_iri.specs.Texts.{byte_len}
+use Rattle.rdf_iri.proofs.ResolvedText.{byte_len-chars}
+use Rattle.rdf_lines.specs.Machine.{is_taken, iri_refused}
 
 -- a label behind "_:", and a tag behind '@'
 pub label_in : (w : List ℕ) → Shape Lines LabelNode w → IsLabel (drop 2 w)
@@ -76,3 +81,17 @@ iri_characters s (c ∷ w) v e = by_move (move of_iri s c) (move_fits s c) (λ t
 
 pub is_iri : (w v : List ℕ) → iri_value w ≡ Some v → has_scheme v ≡ true → IsIri v
 is_iri w v e s = record { characters = iri_characters outside w v e; scheme = s }
+
+-- The bytes of a text are those of its characters, so its length decides whether an IRI is taken.
+module _ (n : ℕ) (bytes : List ℕ) (utf8 : IsUtf8 bytes) (scheme : has_scheme (chars bytes) ≡ true) where
+  size : byte_len (chars bytes) ≡ length bytes
+  size = byte_len-chars bytes utf8
+
+  pub short_taken : length bytes ≤ n → is_taken n (chars bytes) ≡ true
+  short_taken l = and_from (has_scheme (chars bytes)) (not (nat_lt n (byte_len (chars bytes)))) scheme (ap not (le-ltb n (byte_len (chars bytes)) (omega (arith, size))))
+
+  pub long_refused : n < length bytes → (is_taken n (chars bytes) ≡ false) × (iri_refused (chars bytes) ≡ IriTooLong)
+  long_refused l = (
+    and_right (has_scheme (chars bytes)) (not (nat_lt n (byte_len (chars bytes)))) (ap not (lt-ltb n (byte_len (chars bytes)) (omega (arith, size)))),
+    cond-true (has_scheme (chars bytes)) IriTooLong RelativeIri scheme,
+  )

@@ -1,11 +1,12 @@
 -- The line reader, a token at a time.
-use Rattle.std.specs.Prelude.{ℕ, Bool, cond, List, [], ◌∷◌, drop, Option, Some, None}
+use Rattle.std.specs.Prelude.{ℕ, Bool, cond, not, nat_lt, ◌&&◌, List, [], ◌∷◌, drop, Option, Some, None}
 use Rattle.rdf_terms.specs.declared.kind.Kind.{Kind}
 use Rattle.rdf_terms.specs.declared.kind.Kind.TheVariants.{IriRef, LabelNode, ShortString, LangTag, Carets, Dot, LineEnd, End}
 use Rattle.rdf_terms.specs.declared.reason.Reason.{Reason}
-use Rattle.rdf_terms.specs.declared.reason.Reason.TheVariants.{Unexpected, RelativeIri}
+use Rattle.rdf_terms.specs.declared.reason.Reason.TheVariants.{Unexpected, RelativeIri, IriTooLong}
 use Rattle.rdf_tokens.specs.Tokens.{Token}
-use Rattle.rdf_terms.specs.Terms.{Label, Lang, Typed, Subject, Iri, Blank, Term, Resource, Literal, Quad, xsd_string}
+use Rattle.rdf_terms.specs.Terms.{Label, Lang, Typed, Subject, Iri, Blank, Term, Resource, Literal, Quad, xsd_string, has_scheme}
+use Rattle.rdf_iri.specs.Texts.{byte_len}
 use Rattle.rdf_lines.specs.declared.form.LineForm.{LineForm}
 use Rattle.rdf_lines.specs.declared.form.LineForm.TheVariants.{NQuads}
 use Rattle.rdf_lines.specs.Lines.{Leaf, leaf_of, iri_of, string_of}
@@ -28,8 +29,17 @@ pub data Answer : Type 0 where
   gives : Quad → Mode → Answer
   refuses : Reason → Answer
 
+-- an IRI that is taken has a scheme and at most n bytes
+abbrev pub is_taken : ℕ → List ℕ → Bool
+is_taken n i = has_scheme i && not (nat_lt n (byte_len i))
+
+-- why another is not
+abbrev pub iri_refused : List ℕ → Reason
+iri_refused i = cond (has_scheme i) IriTooLong RelativeIri
+
+-- an IRI is accepted where it passes the test
 abbrev pub absolute : (List ℕ → Bool) → List ℕ → Mode → Answer
-absolute test i m = cond (test i) (goes m) (refuses RelativeIri)
+absolute test i m = cond (test i) (goes m) (refuses (iri_refused i))
 
 abbrev pub quad : Subject → List ℕ → Term → Option Subject → Quad
 quad s p o g = record { subject = s; predicate = p; object = o; graph = g }

@@ -3,7 +3,7 @@ use Rattle.std.specs.Prelude.{◌≡◌, ◌<◌, ◌+◌, ℕ, Bool, true, fals
 use Rattle.rdf_terms.specs.declared.kind.Dialect.TheVariants.{Lines}
 use Rattle.rdf_terms.specs.declared.reason.Reason.{Reason}
 use Rattle.rdf_terms.specs.declared.reason.Reason.TheVariants.{DocumentTooLong, Memory, Ended, Sink}
-use Rattle.rdf_terms.specs.Terms.{Quad, has_scheme}
+use Rattle.rdf_terms.specs.Terms.{Quad}
 use Rattle.rdf_terms.specs.Sinks.{Appends, Attempts}
 use Rattle.rdf_tokens.specs.Tokens.{Place, Token, Reading}
 use Rattle.rdf_tokens.specs.Tokens.Outcome.{undecided}
@@ -15,7 +15,7 @@ use Rattle.rdf_lines.specs.declared.form.LineForm.{LineForm}
 use Rattle.rdf_lines.specs.declared.fault.Fault.{Fault}
 use Rattle.rdf_lines.specs.declared.fault.Summary.{Summary}
 use Rattle.rdf_lines.specs.Lines.{documents}
-use Rattle.rdf_lines.specs.Machine.{Begin, ran, run}
+use Rattle.rdf_lines.specs.Machine.{Begin, ran, run, is_taken}
 use Rattle.rdf_lines.specs.Documents.{Document, RefusedIn}
 use Rattle.rdf_lines.specs.LineRead.{LineRead}
 
@@ -30,13 +30,14 @@ pub record HasRead (reader : LineRead) (bytes : List ℕ) (quads : List Quad) : 
   pub more : IsOpen reader.scanner
   pub scanned : S.HasRead reader.scanner bytes (tokens_so_far reader.scanner.limit bytes).tokens
   pub undecided : (tokens_so_far reader.scanner.limit bytes).outcome ≡ undecided
-  pub ran : run has_scheme reader.form Begin (tokens_so_far reader.scanner.limit bytes).tokens ≡ ran reader.mode quads
+  pub ran : run (is_taken reader.iri) reader.form Begin (tokens_so_far reader.scanner.limit bytes).tokens ≡ ran reader.mode quads
   pub so_far : reader.so_far ≡ record { quads = length quads; tokens = length (tokens_so_far reader.scanner.limit bytes).tokens; bytes = length bytes }
 
--- the form and the limit stay
+-- the form and the limits stay
 pub record SameReader (old new : LineRead) : Type 0 where
   pub form : new.form ≡ old.form
   pub limit : new.scanner.limit ≡ old.scanner.limit
+  pub iri : new.iri ≡ old.iri
 
 -- All tokens that the piece decides were accepted, and their quads put.
 pub record Feeds {S : Type 0} (takes : S → Quad → S → Type 0) (old : LineRead) (before : S) (piece : List ℕ) (new : LineRead) (after : S) : Type 0 where
@@ -75,7 +76,7 @@ pub record Refuses {S : Type 0} (takes : S → Quad → S → Type 0) (old : Lin
   pub more : List Quad
   pub puts : Appends takes before more after
   pub refused : (bytes : List ℕ) (quads : List Quad) → HasRead old bytes quads →
-      (ahead : List Token) × RefusedIn old.form (reading bytes) reason at ahead × Due (documents old.form) ahead (quads ++ more)
+      (ahead : List Token) × RefusedIn old.form old.iri (reading bytes) reason at ahead × Due (documents old.form) ahead (quads ++ more)
 
 -- a reader that has faulted or finished does nothing
 abbrev pub DoesNothing : {S : Type 0} → LineRead → S → LineRead → S → Type 0

@@ -3,7 +3,7 @@ use Rattle.std.specs.Prelude.{◌≡◌, Bool, true, false, ◌⊎◌}
 use Rattle.std.specs.Str.{chars}
 use Rattle.std.specs.String.{string_bytes}
 use Rattle.rdf_terms.specs.declared.reason.Reason.{Reason}
-use Rattle.rdf_terms.specs.declared.reason.Reason.TheVariants.{Memory, Unexpected, RelativeIri, Sink}
+use Rattle.rdf_terms.specs.declared.reason.Reason.TheVariants.{Memory, Unexpected, RelativeIri, IriTooLong, Sink}
 use Rattle.rdf_terms.specs.Terms.{Lang, Typed, Term, Resource, Literal, Quad, xsd_string}
 use Rattle.rdf_terms.specs.Owned.{owned_subject}
 use Rattle.rdf_tokens.specs.declared.token.Token.{Token as Given}
@@ -52,6 +52,7 @@ IsLineToken t = IsToken Lines (token_of t)
 abbrev pub Declines : Reason → Answer → Type 0
 Declines Unexpected a = a ≡ refuses Unexpected
 Declines RelativeIri a = a ≡ refuses RelativeIri
+Declines IriTooLong a = a ≡ refuses IriTooLong
 Declines Memory a = Unit
 Declines r a = ⊥
 
@@ -71,6 +72,7 @@ Leaves leaves (refuses r) old new = ⊥
 abbrev pub Fails : {S : Type 0} → (S → Quad → S → Type 0) → (S → Bool) → Reason → Answer → S → S → Type 0
 Fails leaves failed Unexpected a old new = (a ≡ refuses Unexpected) × (new ≡ old)
 Fails leaves failed RelativeIri a old new = (a ≡ refuses RelativeIri) × (new ≡ old)
+Fails leaves failed IriTooLong a old new = (a ≡ refuses IriTooLong) × (new ≡ old)
 Fails leaves failed Memory a old new = (new ≡ old) ⊎ Leaves leaves a old new
 Fails leaves failed Sink a old new = Leaves leaves a old new × (failed new ≡ true)
 Fails leaves failed r a old new = ⊥

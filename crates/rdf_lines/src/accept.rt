@@ -3,14 +3,15 @@
 ghost use Rattle.std.specs.Prelude.{◌≡◌, false, OnOk, IfOk, IfErr, option_map};
 ghost use Rattle.std.specs.Str.{chars};
 ghost use Rattle.std.specs.String.{string_bytes};
-ghost use Rattle.rdf_terms.specs.Terms.{has_scheme};
 ghost use Rattle.rdf_terms.specs.Owned.{owned_subject};
 ghost use Rattle.rdf_terms.specs.Views.{subject_by};
+ghost use Rattle.rdf_lines.specs.declared.rules.Rules.{Rules};
 ghost use Rattle.rdf_lines.specs.Machine as M;
-ghost use Rattle.rdf_lines.specs.Machine.{goes, gives, quad};
+ghost use Rattle.rdf_lines.specs.Machine.{goes, gives, quad, is_taken};
 ghost use Rattle.rdf_lines.specs.States.{mode_of, object_of, leaf, IsLineToken, Declines, Does, Fails};
 
 use crate::form::LineForm;
+use crate::rules::Rules;
 use crate::spelled::{iri, label, string, tag};
 use crate::state::{Object, State};
 use rdf_terms::{Iri, Kind, PutFault, QuadRef, QuadSink, Reason, Subject, SubjectRef};
@@ -20,38 +21,38 @@ use std::alloc::Allocator;
 /// Takes a token. A statement's quad is put at its dot; after an error the line's parts are gone.
 pub fn accept<A: Allocator, S: QuadSink>(
     alloc: A,
-    form: LineForm,
+    rules: Rules,
     state: State<A>,
     token: Token<'_>,
     sink: &mut S,
 ) -> Result<State<A>, Reason>
     requires token { IsLineToken token }
     requires live { S.has_failed sink.old ≡ false }
-    ensures ok { IfOk result (λ s. Does S.takes (M.accept has_scheme form (mode_of state) token.entry.kind (leaf token.entry)) sink.old (mode_of s) sink.new) }
+    ensures ok { IfOk result (λ s. Does S.takes (M.accept (is_taken rules.iri) rules.form (mode_of state) token.entry.kind (leaf token.entry)) sink.old (mode_of s) sink.new) }
     ensures live { OnOk result (S.has_failed sink.new ≡ false) }
-    ensures err { IfErr result (λ r. Fails S.leaves S.has_failed r (M.accept has_scheme form (mode_of state) token.entry.kind (leaf token.entry)) sink.old sink.new) }
+    ensures err { IfErr result (λ r. Fails S.leaves S.has_failed r (M.accept (is_taken rules.iri) rules.form (mode_of state) token.entry.kind (leaf token.entry)) sink.old sink.new) }
 {
     match state {
-        State::Begin => at_begin(alloc, token),
-        State::AfterSubject { subject } => after_subject(alloc, subject, token),
+        State::Begin => at_begin(alloc, rules.iri, token),
+        State::AfterSubject { subject } => after_subject(alloc, rules.iri, subject, token),
         State::AfterPredicate { subject, predicate } => {
-            after_predicate(alloc, subject, predicate, token)
+            after_predicate(alloc, rules.iri, subject, predicate, token)
         }
         State::AfterString {
             subject,
             predicate,
             lexical,
-        } => after_string(alloc, form, subject, predicate, lexical, token, sink),
+        } => after_string(alloc, rules, subject, predicate, lexical, token, sink),
         State::AfterCarets {
             subject,
             predicate,
             lexical,
-        } => after_carets(alloc, subject, predicate, lexical, token),
+        } => after_carets(alloc, rules.iri, subject, predicate, lexical, token),
         State::AfterObject {
             subject,
             predicate,
             object,
-        } => after_object(alloc, form, subject, predicate, object, token, sink),
+        } => after_object(alloc, rules, subject, predicate, object, token, sink),
         State::AfterGraph {
             subject,
             predicate,
@@ -63,14 +64,14 @@ pub fn accept<A: Allocator, S: QuadSink>(
     }
 }
 
-fn at_begin<A: Allocator>(alloc: A, token: Token<'_>) -> Result<State<A>, Reason>
+fn at_begin<A: Allocator>(alloc: A, limit: u64, token: Token<'_>) -> Result<State<A>, Reason>
     requires { IsLineToken token }
-    ensures ok { IfOk result (λ s. (f : LineForm) → M.accept has_scheme f M.Begin token.entry.kind (leaf token.entry) ≡ goes (mode_of s)) }
-    ensures err { IfErr result (λ r. (f : LineForm) → Declines r (M.accept has_scheme f M.Begin token.entry.kind (leaf token.entry))) }
+    ensures ok { IfOk result (λ s. (f : LineForm) → M.accept (is_taken limit) f M.Begin token.entry.kind (leaf token.entry) ≡ goes (mode_of s)) }
+    ensures err { IfErr result (λ r. (f : LineForm) → Declines r (M.accept (is_taken limit) f M.Begin token.entry.kind (leaf token.entry))) }
 {
     match token.kind {
         Kind::IriRef => Ok(State::AfterSubject {
-            subject: Subject::Iri(iri(alloc, token.text)?),
+            subject: Subject::Iri(iri(alloc, token.text, limit)?),
         }),
         Kind::LabelNode => Ok(State::AfterSubject {
             subject: label(alloc, token.text)?,
@@ -83,17 +84,18 @@ fn at_begin<A: Allocator>(alloc: A, token: Token<'_>) -> Result<State<A>, Reason
 
 fn after_subject<A: Allocator>(
     alloc: A,
+    limit: u64,
     subject: Subject<A>,
     token: Token<'_>,
 ) -> Result<State<A>, Reason>
     requires { IsLineToken token }
-    ensures ok { IfOk result (λ s. (f : LineForm) → M.accept has_scheme f (M.AfterSubject (owned_subject subject)) token.entry.kind (leaf token.entry) ≡ goes (mode_of s)) }
-    ensures err { IfErr result (λ r. (f : LineForm) → Declines r (M.accept has_scheme f (M.AfterSubject (owned_subject subject)) token.entry.kind (leaf token.entry))) }
+    ensures ok { IfOk result (λ s. (f : LineForm) → M.accept (is_taken limit) f (M.AfterSubject (owned_subject subject)) token.entry.kind (leaf token.entry) ≡ goes (mode_of s)) }
+    ensures err { IfErr result (λ r. (f : LineForm) → Declines r (M.accept (is_taken limit) f (M.AfterSubject (owned_subject subject)) token.entry.kind (leaf token.entry))) }
 {
     match token.kind {
         Kind::IriRef => Ok(State::AfterPredicate {
             subject,
-            predicate: iri(alloc, token.text)?,
+            predicate: iri(alloc, token.text, limit)?,
         }),
         _ => Err(Reason::Unexpected),
     }
@@ -101,19 +103,20 @@ fn after_subject<A: Allocator>(
 
 fn after_predicate<A: Allocator>(
     alloc: A,
+    limit: u64,
     subject: Subject<A>,
     predicate: Iri<A>,
     token: Token<'_>,
 ) -> Result<State<A>, Reason>
     requires { IsLineToken token }
-    ensures ok { IfOk result (λ s. (f : LineForm) → M.accept has_scheme f (M.AfterPredicate (owned_subject subject) predicate) token.entry.kind (leaf token.entry) ≡ goes (mode_of s)) }
-    ensures err { IfErr result (λ r. (f : LineForm) → Declines r (M.accept has_scheme f (M.AfterPredicate (owned_subject subject) predicate) token.entry.kind (leaf token.entry))) }
+    ensures ok { IfOk result (λ s. (f : LineForm) → M.accept (is_taken limit) f (M.AfterPredicate (owned_subject subject) predicate) token.entry.kind (leaf token.entry) ≡ goes (mode_of s)) }
+    ensures err { IfErr result (λ r. (f : LineForm) → Declines r (M.accept (is_taken limit) f (M.AfterPredicate (owned_subject subject) predicate) token.entry.kind (leaf token.entry))) }
 {
     match token.kind {
         Kind::IriRef => Ok(State::AfterObject {
             subject,
             predicate,
-            object: Object::Named(Subject::Iri(iri(alloc, token.text)?)),
+            object: Object::Named(Subject::Iri(iri(alloc, token.text, limit)?)),
         }),
         Kind::LabelNode => Ok(State::AfterObject {
             subject,
@@ -131,7 +134,7 @@ fn after_predicate<A: Allocator>(
 
 fn after_string<A: Allocator, S: QuadSink>(
     alloc: A,
-    form: LineForm,
+    rules: Rules,
     subject: Subject<A>,
     predicate: Iri<A>,
     lexical: String<A>,
@@ -140,9 +143,9 @@ fn after_string<A: Allocator, S: QuadSink>(
 ) -> Result<State<A>, Reason>
     requires token { IsLineToken token }
     requires live { S.has_failed sink.old ≡ false }
-    ensures ok { IfOk result (λ s. Does S.takes (M.accept has_scheme form (M.AfterString (owned_subject subject) predicate (chars (string_bytes lexical))) token.entry.kind (leaf token.entry)) sink.old (mode_of s) sink.new) }
+    ensures ok { IfOk result (λ s. Does S.takes (M.accept (is_taken rules.iri) rules.form (M.AfterString (owned_subject subject) predicate (chars (string_bytes lexical))) token.entry.kind (leaf token.entry)) sink.old (mode_of s) sink.new) }
     ensures live { OnOk result (S.has_failed sink.new ≡ false) }
-    ensures err { IfErr result (λ r. Fails S.leaves S.has_failed r (M.accept has_scheme form (M.AfterString (owned_subject subject) predicate (chars (string_bytes lexical))) token.entry.kind (leaf token.entry)) sink.old sink.new) }
+    ensures err { IfErr result (λ r. Fails S.leaves S.has_failed r (M.accept (is_taken rules.iri) rules.form (M.AfterString (owned_subject subject) predicate (chars (string_bytes lexical))) token.entry.kind (leaf token.entry)) sink.old sink.new) }
 {
     match token.kind {
         Kind::LangTag => Ok(State::AfterObject {
@@ -157,7 +160,7 @@ fn after_string<A: Allocator, S: QuadSink>(
         }),
         _ => after_object(
             alloc,
-            form,
+            rules,
             subject,
             predicate,
             Object::Plain(lexical),
@@ -169,20 +172,21 @@ fn after_string<A: Allocator, S: QuadSink>(
 
 fn after_carets<A: Allocator>(
     alloc: A,
+    limit: u64,
     subject: Subject<A>,
     predicate: Iri<A>,
     lexical: String<A>,
     token: Token<'_>,
 ) -> Result<State<A>, Reason>
     requires { IsLineToken token }
-    ensures ok { IfOk result (λ s. (f : LineForm) → M.accept has_scheme f (M.AfterCarets (owned_subject subject) predicate (chars (string_bytes lexical))) token.entry.kind (leaf token.entry) ≡ goes (mode_of s)) }
-    ensures err { IfErr result (λ r. (f : LineForm) → Declines r (M.accept has_scheme f (M.AfterCarets (owned_subject subject) predicate (chars (string_bytes lexical))) token.entry.kind (leaf token.entry))) }
+    ensures ok { IfOk result (λ s. (f : LineForm) → M.accept (is_taken limit) f (M.AfterCarets (owned_subject subject) predicate (chars (string_bytes lexical))) token.entry.kind (leaf token.entry) ≡ goes (mode_of s)) }
+    ensures err { IfErr result (λ r. (f : LineForm) → Declines r (M.accept (is_taken limit) f (M.AfterCarets (owned_subject subject) predicate (chars (string_bytes lexical))) token.entry.kind (leaf token.entry))) }
 {
     match token.kind {
         Kind::IriRef => Ok(State::AfterObject {
             subject,
             predicate,
-            object: Object::WithType(lexical, iri(alloc, token.text)?),
+            object: Object::WithType(lexical, iri(alloc, token.text, limit)?),
         }),
         _ => Err(Reason::Unexpected),
     }
@@ -191,7 +195,7 @@ fn after_carets<A: Allocator>(
 // A graph label stands in N-Quads only.
 fn after_object<A: Allocator, S: QuadSink>(
     alloc: A,
-    form: LineForm,
+    rules: Rules,
     subject: Subject<A>,
     predicate: Iri<A>,
     object: Object<A>,
@@ -200,17 +204,17 @@ fn after_object<A: Allocator, S: QuadSink>(
 ) -> Result<State<A>, Reason>
     requires token { IsLineToken token }
     requires live { S.has_failed sink.old ≡ false }
-    ensures ok { IfOk result (λ s. Does S.takes (M.object_then has_scheme form (owned_subject subject) predicate (object_of object) token.entry.kind (leaf token.entry)) sink.old (mode_of s) sink.new) }
+    ensures ok { IfOk result (λ s. Does S.takes (M.object_then (is_taken rules.iri) rules.form (owned_subject subject) predicate (object_of object) token.entry.kind (leaf token.entry)) sink.old (mode_of s) sink.new) }
     ensures live { OnOk result (S.has_failed sink.new ≡ false) }
-    ensures err { IfErr result (λ r. Fails S.leaves S.has_failed r (M.object_then has_scheme form (owned_subject subject) predicate (object_of object) token.entry.kind (leaf token.entry)) sink.old sink.new) }
+    ensures err { IfErr result (λ r. Fails S.leaves S.has_failed r (M.object_then (is_taken rules.iri) rules.form (owned_subject subject) predicate (object_of object) token.entry.kind (leaf token.entry)) sink.old sink.new) }
 {
-    match (form, token.kind) {
+    match (rules.form, token.kind) {
         (_, Kind::Dot) => give(&subject, &predicate, &object, None, sink),
         (LineForm::NQuads, Kind::IriRef) => Ok(State::AfterGraph {
             subject,
             predicate,
             object,
-            graph: Subject::Iri(iri(alloc, token.text)?),
+            graph: Subject::Iri(iri(alloc, token.text, rules.iri)?),
         }),
         (LineForm::NQuads, Kind::LabelNode) => Ok(State::AfterGraph {
             subject,
@@ -231,9 +235,9 @@ fn after_graph<A: Allocator, S: QuadSink>(
     sink: &mut S,
 ) -> Result<State<A>, Reason>
     requires { S.has_failed sink.old ≡ false }
-    ensures ok { IfOk result (λ s. (f : LineForm) → Does S.takes (M.accept has_scheme f (M.AfterGraph (owned_subject subject) predicate (object_of object) (owned_subject graph)) token.entry.kind (leaf token.entry)) sink.old (mode_of s) sink.new) }
+    ensures ok { IfOk result (λ s. (g : Rules) → Does S.takes (M.accept (is_taken g.iri) g.form (M.AfterGraph (owned_subject subject) predicate (object_of object) (owned_subject graph)) token.entry.kind (leaf token.entry)) sink.old (mode_of s) sink.new) }
     ensures live { OnOk result (S.has_failed sink.new ≡ false) }
-    ensures err { IfErr result (λ r. (f : LineForm) → Fails S.leaves S.has_failed r (M.accept has_scheme f (M.AfterGraph (owned_subject subject) predicate (object_of object) (owned_subject graph)) token.entry.kind (leaf token.entry)) sink.old sink.new) }
+    ensures err { IfErr result (λ r. (g : Rules) → Fails S.leaves S.has_failed r (M.accept (is_taken g.iri) g.form (M.AfterGraph (owned_subject subject) predicate (object_of object) (owned_subject graph)) token.entry.kind (leaf token.entry)) sink.old sink.new) }
 {
     match token.kind {
         Kind::Dot => give(&subject, &predicate, &object, Some(graph.view()), sink),
@@ -242,8 +246,8 @@ fn after_graph<A: Allocator, S: QuadSink>(
 }
 
 fn after_dot<A: Allocator>(token: Token<'_>) -> Result<State<A>, Reason>
-    ensures ok { IfOk result (λ s. (f : LineForm) → M.accept has_scheme f M.AfterDot token.entry.kind (leaf token.entry) ≡ goes (mode_of s)) }
-    ensures err { IfErr result (λ r. (f : LineForm) → Declines r (M.accept has_scheme f M.AfterDot token.entry.kind (leaf token.entry))) }
+    ensures ok { IfOk result (λ s. (g : Rules) → M.accept (is_taken g.iri) g.form M.AfterDot token.entry.kind (leaf token.entry) ≡ goes (mode_of s)) }
+    ensures err { IfErr result (λ r. (g : Rules) → Declines r (M.accept (is_taken g.iri) g.form M.AfterDot token.entry.kind (leaf token.entry))) }
 {
     match token.kind {
         Kind::LineEnd => Ok(State::Begin),

@@ -8,6 +8,7 @@ pub mod laws;
 mod line;
 mod reader;
 mod reading;
+mod rules;
 mod spelled;
 mod state;
 mod string;

@@ -7,6 +7,8 @@ ghost use Rattle.rdf_lines.specs.Readers.{HasRead, SameReader, Feeds, FeedFails,
 use crate::fault::{Fault, Summary};
 use crate::form::LineForm;
 use crate::reading::{Progress, read_end, read_piece};
+use crate::rules::Rules;
+use rdf_iri::Limits;
 use rdf_terms::{QuadSink, Reason};
 use rdf_tokens::{Dialect, Scanner};
 use std::alloc::{Allocator, Global};
@@ -19,7 +21,7 @@ use std::marker::Model;
 #[derive(Drop)]
 pub struct LineReader<A: Allocator = Global> {
     alloc: A,
-    form: LineForm,
+    rules: Rules,
     scanner: Scanner<A>,
     progress: Progress<A>,
     done: bool,
@@ -35,26 +37,31 @@ impl<A: Allocator> Model for LineReader<A> {
 
     ghost view = { λ r. record {
       scanner = r.scanner;
-      form = r.form;
+      form = r.rules.form;
+      iri = r.rules.iri;
       mode = mode_of r.progress.state;
       so_far = r.progress.so_far;
       done = r.done;
     } };
 
-    ghost invariant = { λ r. r.done ≡ false → IsLive (line_read r.scanner r.form r.progress) };
+    ghost invariant = { λ r. r.done ≡ false → IsLive (line_read r.scanner r.rules r.progress) };
 }
 
 impl<A: Allocator + Copy> LineReader<A> {
-    /// A reader that has read nothing. A token has at most `limit` characters. It takes no memory.
-    pub fn new(alloc: A, form: LineForm, limit: u64) -> LineReader<A>
+    /// A reader that has read nothing. Of the limits, those on tokens and on IRIs are looked at. It takes no memory.
+    pub fn new(alloc: A, form: LineForm, limits: Limits) -> LineReader<A>
         ensures read { HasRead result [] [] }
         ensures form { result.form ≡ form }
-        ensures limit { result.scanner.limit ≡ limit }
+        ensures token { result.scanner.limit ≡ limits.token }
+        ensures iri { result.iri ≡ limits.iri }
     {
         LineReader {
             alloc,
-            form,
-            scanner: Scanner::new(alloc, Dialect::Lines, limit),
+            rules: Rules {
+                form,
+                iri: limits.iri(),
+            },
+            scanner: Scanner::new(alloc, Dialect::Lines, limits.token()),
             progress: Progress::new(),
             done: false,
         }
@@ -74,7 +81,7 @@ impl<A: Allocator + Copy> LineReader<A> {
         }
         match read_piece(
             self.alloc,
-            self.form,
+            self.rules,
             &mut self.scanner,
             &mut self.progress,
             piece,
@@ -101,7 +108,7 @@ impl<A: Allocator + Copy> LineReader<A> {
         self.done = true;
         match read_end(
             self.alloc,
-            self.form,
+            self.rules,
             &mut self.scanner,
             &mut self.progress,
             sink,

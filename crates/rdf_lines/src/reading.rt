@@ -1,16 +1,16 @@
 // Reading tokens: one, all that come, a part of a piece, a piece, and the end.
 
 ghost use Rattle.std.specs.Prelude.{◌≡◌, ◌≤◌, ◌<◌, ◌+◌, false, cond, take, drop, length, OnOk, IfOk, IfErr};
-ghost use Rattle.rdf_terms.specs.Terms.{has_scheme};
 ghost use Rattle.rdf_tokens.specs.Scans.{is_end, most_bytes};
 ghost use Rattle.rdf_lines.specs.Machine as M;
+ghost use Rattle.rdf_lines.specs.Machine.{is_taken};
 ghost use Rattle.rdf_lines.specs.States.{mode_of, leaf, IsLineToken, Does, Fails};
 ghost use Rattle.rdf_lines.specs.Reading.{stand, line_read, Steps, ReadsTokens, IsReady, IsLive, step_of, with_token};
 ghost use Rattle.rdf_lines.specs.Readers.{Feeds, FeedFails, Finishes, FinishFails, place_of};
 
 use crate::accept::accept;
 use crate::fault::{Fault, Summary};
-use crate::form::LineForm;
+use crate::rules::Rules;
 use crate::state::State;
 use rdf_terms::{Kind, QuadSink, Reason};
 use rdf_tokens::{ScanFault, Scanner, Token};
@@ -62,7 +62,7 @@ impl<A: Allocator> Progress<A> {
     fn take<S: QuadSink>(
         &mut self,
         alloc: A,
-        form: LineForm,
+        rules: Rules,
         token: Token<'_>,
         sink: &mut S,
     ) -> Result<(), Reason>
@@ -70,13 +70,13 @@ impl<A: Allocator> Progress<A> {
         requires live { S.has_failed sink.old ≡ false }
         requires room { self.old.so_far.tokens ≤ most_bytes }
         requires fewer { self.old.so_far.quads ≤ self.old.so_far.tokens }
-        ensures ok { OnOk result (Does S.takes (M.accept has_scheme form (mode_of self.old.state) token.entry.kind (leaf token.entry)) sink.old (mode_of self.new.state) sink.new) }
+        ensures ok { OnOk result (Does S.takes (M.accept (is_taken rules.iri) rules.form (mode_of self.old.state) token.entry.kind (leaf token.entry)) sink.old (mode_of self.new.state) sink.new) }
         ensures so_far { OnOk result (self.new.so_far ≡ with_token self.old.so_far token.entry.kind (mode_of self.new.state)) }
         ensures live { OnOk result (S.has_failed sink.new ≡ false) }
-        ensures err { IfErr result (λ r. Fails S.leaves S.has_failed r (M.accept has_scheme form (mode_of self.old.state) token.entry.kind (leaf token.entry)) sink.old sink.new) }
+        ensures err { IfErr result (λ r. Fails S.leaves S.has_failed r (M.accept (is_taken rules.iri) rules.form (mode_of self.old.state) token.entry.kind (leaf token.entry)) sink.old sink.new) }
     {
         let state = mem::replace(&mut self.state, State::Finished);
-        self.state = accept(alloc, form, state, token, sink)?;
+        self.state = accept(alloc, rules, state, token, sink)?;
         self.so_far = with_token(self.so_far, token.kind, self.state.gave());
         Ok(())
     }
@@ -85,20 +85,20 @@ impl<A: Allocator> Progress<A> {
 // Reads one token.
 fn read_token<A: Allocator + Copy, S: QuadSink>(
     alloc: A,
-    form: LineForm,
+    rules: Rules,
     scanner: &mut Scanner<A>,
     progress: &mut Progress<A>,
     sink: &mut S,
 ) -> Result<Step, Fault>
     requires ready { IsReady scanner.old progress.old.so_far }
     requires live { S.has_failed sink.old ≡ false }
-    ensures steps { Steps S.takes S.leaves S.has_failed form (stand scanner.old progress.old sink.old) result (stand scanner.new progress.new sink.new) }
+    ensures steps { Steps S.takes S.leaves S.has_failed rules (stand scanner.old progress.old sink.old) result (stand scanner.new progress.new sink.new) }
     ensures live { OnOk result (S.has_failed sink.new ≡ false) }
 {
     match scanner.next() {
         Err(fault) => Err(told(fault)),
         Ok(None) => Ok(Step::Waiting),
-        Ok(Some(token)) => match progress.take(alloc, form, token, sink) {
+        Ok(Some(token)) => match progress.take(alloc, rules, token, sink) {
             Ok(()) => Ok(accepted(token.kind)),
             Err(reason) => Err(Fault {
                 reason,
@@ -151,18 +151,18 @@ fn is_end(kind: Kind) -> bool
 // Reads all tokens that come.
 fn read_tokens<A: Allocator + Copy, S: QuadSink>(
     alloc: A,
-    form: LineForm,
+    rules: Rules,
     scanner: &mut Scanner<A>,
     progress: &mut Progress<A>,
     sink: &mut S,
 ) -> Result<(), Fault>
     requires ready { IsReady scanner.old progress.old.so_far }
     requires live { S.has_failed sink.old ≡ false }
-    ensures reads { ReadsTokens S.takes S.leaves S.has_failed form (stand scanner.old progress.old sink.old) result (stand scanner.new progress.new sink.new) }
+    ensures reads { ReadsTokens S.takes S.leaves S.has_failed rules (stand scanner.old progress.old sink.old) result (stand scanner.new progress.new sink.new) }
     ensures live { OnOk result (S.has_failed sink.new ≡ false) }
 {
     'tokens: loop {
-        match read_token(alloc, form, scanner, progress, sink) {
+        match read_token(alloc, rules, scanner, progress, sink) {
             Ok(Step::Accepted) => {}
             Ok(Step::Waiting) => return Ok(()),
             Ok(Step::Complete) => return Ok(()),
@@ -174,27 +174,27 @@ fn read_tokens<A: Allocator + Copy, S: QuadSink>(
 // Takes some bytes of a piece, and answers how many: at least one of a piece that is not empty.
 fn read_part<A: Allocator + Copy, S: QuadSink>(
     alloc: A,
-    form: LineForm,
+    rules: Rules,
     scanner: &mut Scanner<A>,
     progress: &mut Progress<A>,
     piece: &[u8],
     sink: &mut S,
 ) -> Result<usize, Fault>
-    requires reader { IsLive (line_read scanner.old form progress.old) }
+    requires reader { IsLive (line_read scanner.old rules progress.old) }
     requires live { S.has_failed sink.old ≡ false }
-    ensures ok { IfOk result (λ n. Feeds S.takes (line_read scanner.old form progress.old) sink.old (take n piece.now) (line_read scanner.new form progress.new) sink.new) }
+    ensures ok { IfOk result (λ n. Feeds S.takes (line_read scanner.old rules progress.old) sink.old (take n piece.now) (line_read scanner.new rules progress.new) sink.new) }
     ensures within { IfOk result (λ n. n ≤ length piece.now) }
     ensures forward { IfOk result (λ n. 0 < length piece.now → 0 < n) }
-    ensures reader { OnOk result (IsLive (line_read scanner.new form progress.new)) }
+    ensures reader { OnOk result (IsLive (line_read scanner.new rules progress.new)) }
     ensures live { OnOk result (S.has_failed sink.new ≡ false) }
-    ensures err { IfErr result (λ f. FeedFails S.takes S.leaves S.has_failed f.reason (place_of f) (line_read scanner.old form progress.old) sink.old piece.now (line_read scanner.new form progress.new) sink.new) }
+    ensures err { IfErr result (λ f. FeedFails S.takes S.leaves S.has_failed f.reason (place_of f) (line_read scanner.old rules progress.old) sink.old piece.now (line_read scanner.new rules progress.new) sink.new) }
 {
     let taken = match scanner.push(piece) {
         Ok(taken) => taken,
         Err(fault) => return Err(told(fault)),
     };
     progress.so_far.bytes += taken as u64;
-    match read_tokens(alloc, form, scanner, progress, sink) {
+    match read_tokens(alloc, rules, scanner, progress, sink) {
         Ok(()) => Ok(taken),
         Err(fault) => Err(fault),
     }
@@ -203,22 +203,22 @@ fn read_part<A: Allocator + Copy, S: QuadSink>(
 /// Reads a piece to its end.
 pub fn read_piece<A: Allocator + Copy, S: QuadSink>(
     alloc: A,
-    form: LineForm,
+    rules: Rules,
     scanner: &mut Scanner<A>,
     progress: &mut Progress<A>,
     piece: &[u8],
     sink: &mut S,
 ) -> Result<(), Fault>
-    requires reader { IsLive (line_read scanner.old form progress.old) }
+    requires reader { IsLive (line_read scanner.old rules progress.old) }
     requires live { S.has_failed sink.old ≡ false }
-    ensures ok { OnOk result (Feeds S.takes (line_read scanner.old form progress.old) sink.old piece.now (line_read scanner.new form progress.new) sink.new) }
-    ensures reader { OnOk result (IsLive (line_read scanner.new form progress.new)) }
+    ensures ok { OnOk result (Feeds S.takes (line_read scanner.old rules progress.old) sink.old piece.now (line_read scanner.new rules progress.new) sink.new) }
+    ensures reader { OnOk result (IsLive (line_read scanner.new rules progress.new)) }
     ensures live { OnOk result (S.has_failed sink.new ≡ false) }
-    ensures err { IfErr result (λ f. FeedFails S.takes S.leaves S.has_failed f.reason (place_of f) (line_read scanner.old form progress.old) sink.old piece.now (line_read scanner.new form progress.new) sink.new) }
+    ensures err { IfErr result (λ f. FeedFails S.takes S.leaves S.has_failed f.reason (place_of f) (line_read scanner.old rules progress.old) sink.old piece.now (line_read scanner.new rules progress.new) sink.new) }
 {
     let mut rest = piece;
     'parts: while !rest.is_empty() {
-        match read_part(alloc, form, scanner, progress, rest, sink) {
+        match read_part(alloc, rules, scanner, progress, rest, sink) {
             Ok(taken) => rest = behind(rest, taken),
             Err(fault) => return Err(fault),
         }
@@ -237,16 +237,16 @@ fn behind(bytes: &[u8], taken: usize) -> &[u8]
 /// Reads what the bytes leave where no more come.
 pub fn read_end<A: Allocator + Copy, S: QuadSink>(
     alloc: A,
-    form: LineForm,
+    rules: Rules,
     scanner: &mut Scanner<A>,
     progress: &mut Progress<A>,
     sink: &mut S,
 ) -> Result<(), Fault>
-    requires reader { IsLive (line_read scanner.old form progress.old) }
+    requires reader { IsLive (line_read scanner.old rules progress.old) }
     requires live { S.has_failed sink.old ≡ false }
-    ensures ok { OnOk result (Finishes S.takes (line_read scanner.old form progress.old) sink.old progress.new.so_far sink.new) }
-    ensures err { IfErr result (λ f. FinishFails S.takes S.leaves S.has_failed f.reason (place_of f) (line_read scanner.old form progress.old) sink.old (line_read scanner.new form progress.new) sink.new) }
+    ensures ok { OnOk result (Finishes S.takes (line_read scanner.old rules progress.old) sink.old progress.new.so_far sink.new) }
+    ensures err { IfErr result (λ f. FinishFails S.takes S.leaves S.has_failed f.reason (place_of f) (line_read scanner.old rules progress.old) sink.old (line_read scanner.new rules progress.new) sink.new) }
 {
     scanner.end();
-    read_tokens(alloc, form, scanner, progress, sink)
+    read_tokens(alloc, rules, scanner, progress, sink)
 }

@@ -7,6 +7,7 @@ ghost use Rattle.rdf_terms.specs.Shapes.{Shape};
 ghost use Rattle.rdf_terms.specs.Values as V;
 ghost use Rattle.rdf_terms.specs.Terms.{IsIri, has_scheme, Blank, Label};
 ghost use Rattle.rdf_terms.specs.Owned.{owned_subject};
+ghost use Rattle.rdf_lines.specs.Machine.{is_taken};
 ghost use Rattle.rdf_lines.specs.Spelled.{iri_in, string_in, IriRefused};
 
 use rdf_terms::{
@@ -15,31 +16,34 @@ use rdf_terms::{
 };
 use std::alloc::Allocator;
 
-/// The IRI of an IRIREF. Where it has no scheme, that is `RelativeIri`.
-pub fn iri<A: Allocator>(alloc: A, text: &str) -> Result<Iri<A>, Reason>
+/// The IRI of an IRIREF. Where it has no scheme, that is `RelativeIri`, and where it has more bytes than the limit, `IriTooLong`.
+pub fn iri<A: Allocator>(alloc: A, text: &str, limit: u64) -> Result<Iri<A>, Reason>
     requires shape { Shape Dialect.Lines Kind.IriRef (chars text.now) }
     requires fit { V.is_fit Kind.IriRef (chars text.now) ≡ true }
     ensures ok { IfOk result (λ i. i ≡ iri_in (chars text.now)) }
-    ensures scheme { IfOk result (λ i. has_scheme i ≡ true) }
-    ensures err { IfErr result (λ r. IriRefused r (iri_in (chars text.now))) }
+    ensures taken { IfOk result (λ i. is_taken limit i ≡ true) }
+    ensures err { IfErr result (λ r. IriRefused limit r (iri_in (chars text.now))) }
 {
     match iri_value(alloc, without_ends(text)) {
-        Ok(value) => absolute(value),
+        Ok(value) => absolute(value, limit),
         Err(ValueFault::BadEscape) => unreachable!(),
         Err(ValueFault::Memory) => Err(Reason::Memory),
     }
 }
 
-fn absolute<A: Allocator>(value: String<A>) -> Result<Iri<A>, Reason>
+fn absolute<A: Allocator>(value: String<A>, limit: u64) -> Result<Iri<A>, Reason>
     requires { has_scheme (chars (string_bytes value)) ≡ true → IsIri (chars (string_bytes value)) }
     ensures ok { IfOk result (λ i. i ≡ chars (string_bytes value)) }
-    ensures scheme { IfOk result (λ i. has_scheme i ≡ true) }
-    ensures err { IfErr result (λ r. (r ≡ Reason.RelativeIri) × (has_scheme (chars (string_bytes value)) ≡ false)) }
+    ensures taken { IfOk result (λ i. is_taken limit i ≡ true) }
+    ensures err { IfErr result (λ r. IriRefused limit r (chars (string_bytes value))) }
 {
-    if has_scheme(value.as_str()) {
-        Ok(Iri::of_text(value))
-    } else {
+    let text = value.as_str();
+    if !has_scheme(text) {
         Err(Reason::RelativeIri)
+    } else if text.len() as u64 > limit {
+        Err(Reason::IriTooLong)
+    } else {
+        Ok(Iri::of_text(value))
     }
 }
 

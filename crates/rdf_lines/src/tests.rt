@@ -5,6 +5,7 @@ ghost use Rattle.rdf_lines.specs.declared.form.Style.TheVariants.{Kept};
 ghost use Rattle.rdf_lines.specs.Writing.{line};
 
 use crate::{Fault, LineForm, LineReader, Style, Summary, write_line};
+use rdf_iri::Limits;
 use rdf_terms::{PutFault, QuadRef, QuadSink, Reason};
 use std::alloc::Global;
 
@@ -50,8 +51,10 @@ fn recording_sink(alloc: Global, puts: u64) -> RecordingSink
     }
 }
 
+/// A reader of tokens of 18 characters and IRIs of 14 bytes.
 fn line_reader(alloc: Global, form: LineForm) -> LineReader {
-    LineReader::new(alloc, form, 16)
+    let limits = Limits::new(18, 0, 0, 14).unwrap_or_default();
+    LineReader::new(alloc, form, limits)
 }
 
 /// Reads a document whose bytes come in two pieces.
@@ -176,9 +179,19 @@ fn a_document_is_read_the_same_however_it_is_cut(rt: HostRuntime) {
         ),
         ("<a:s> <a:p> 1 .", "", refused(Reason::NoToken, 12, 1)),
         (
-            "<a:s> <a:0123456789abc> .",
+            "<a:s> <a:0123456789abcdef> .",
             "",
             refused(Reason::TokenTooLong, 6, 1),
+        ),
+        (
+            "<a:s> <a:\\u004123456789> <a:0123456789ab> .\n<a:0123456789a\u{E9}> <a:p> <a:o> .",
+            "<a:s> <a:A23456789> <a:0123456789ab> .\n",
+            refused(Reason::IriTooLong, 44, 2),
+        ),
+        (
+            "<0123456789abcde> <a:p> <a:o> .",
+            "",
+            refused(Reason::RelativeIri, 0, 1),
         ),
     ];
     for (text, lines, told) in rows {

@@ -21,6 +21,8 @@ pub enum Reason {
     Unexpected,
     /// The IRI has no scheme.
     RelativeIri,
+    /// The IRI has more bytes than the limit.
+    IriTooLong,
     /// The sink failed.
     Sink,
 }

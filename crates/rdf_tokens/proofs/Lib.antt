@@ -23,6 +23,7 @@ pub mod OverLemmas
 pub mod LookLemmas
 pub mod PastGood
 pub mod GrammarsLemmas
+pub mod GrammarFronts
 pub mod CutLemmas
 pub mod HeldLemmas
 pub mod MoveLemmas

@@ -6,16 +6,16 @@ use Rattle.rdf_lines.proofs.reading.read_piece.Goals as goal
 
 pub parts-init : goal.parts-init
 parts-init g c = record {
-  fed = ([], refl, feeds_none g.S.QuadSink.takes (line_read c.args.scanner.now c.args.form c.args.progress.now) c.args.sink.now);
+  fed = ([], refl, feeds_none g.S.QuadSink.takes (line_read c.args.scanner.now c.args.rules c.args.progress.now) c.args.sink.now);
   reader = c.requires.reader;
   live = c.requires.live;
 }
 
 pub parts-preserved : goal.parts-preserved
 parts-preserved g c =
-    let first = line_read c.args.scanner.now c.args.form c.args.progress.now in
-    let now = line_read c.parts.scanner c.args.form c.parts.progress in
-    let next = line_read c.read_part.new.scanner c.args.form c.read_part.new.progress in
+    let first = line_read c.args.scanner.now c.args.rules c.args.progress.now in
+    let now = line_read c.parts.scanner c.args.rules c.parts.progress in
+    let next = line_read c.read_part.new.scanner c.args.rules c.read_part.new.progress in
     let f = c.parts.invariant.fed in
     let part = take c.in-Ok.taken c.parts.rest.now in
     record {
@@ -30,9 +30,9 @@ parts-preserved g c =
 
 pub returns-in-Err-clause-err : goal.returns-in-Err-clause-err
 returns-in-Err-clause-err g c =
-    let first = line_read c.args.scanner.now c.args.form c.args.progress.now in
-    let now = line_read c.parts.scanner c.args.form c.parts.progress in
-    let next = line_read c.read_part.new.scanner c.args.form c.read_part.new.progress in
+    let first = line_read c.args.scanner.now c.args.rules c.args.progress.now in
+    let now = line_read c.parts.scanner c.args.rules c.parts.progress in
+    let next = line_read c.read_part.new.scanner c.args.rules c.read_part.new.progress in
     let f = c.parts.invariant.fed in
     let fault = c.in-Err.fault in
     let sink = c.read_part.new.sink in

@@ -6,7 +6,7 @@ use Rattle.rdf_lines.proofs.reading.read_tokens.Goals as goal
 
 pub tokens-init : goal.tokens-init
 tokens-init g c = record {
-  advances = ([], [], advances_none g.S.QuadSink.takes c.args.form (stand c.args.scanner.now c.args.progress.now c.args.sink.now));
+  advances = ([], [], advances_none g.S.QuadSink.takes c.args.rules (stand c.args.scanner.now c.args.progress.now c.args.sink.now));
   ready = c.requires.ready;
   live = c.requires.live;
 }
@@ -18,10 +18,10 @@ tokens-preserved g c =
     let next = stand c.read_token.new.scanner c.read_token.new.progress c.read_token.new.sink in
     let a = c.tokens.invariant.advances in
     let s = rw c.in-Ok-Accepted.field-0-is at c.in-Ok-Accepted.ensures.steps in
-    let m = advances_token g.S.QuadSink.takes c.args.form first now next a.0 a.1 s.0 a.2 s.1 in
+    let m = advances_token g.S.QuadSink.takes c.args.rules first now next a.0 a.1 s.0 a.2 s.1 in
     record {
       advances = (a.0 ++ s.0 ∷ [], m.0, m.1);
-      ready = ready_token g.S.QuadSink.takes c.args.form now next s.0 c.tokens.invariant.ready s.1 s.2;
+      ready = ready_token g.S.QuadSink.takes c.args.rules now next s.0 c.tokens.invariant.ready s.1 s.2;
       live = c.in-Ok-Accepted.ensures.live;
     }
 
@@ -32,7 +32,7 @@ returns-in-Ok-Complete-clause-reads g c =
     let next = stand c.read_token.new.scanner c.read_token.new.progress c.read_token.new.sink in
     let a = c.tokens.invariant.advances in
     let s = rw c.in-Ok-Complete.field-0-is at c.in-Ok-Complete.ensures.steps in
-    let m = advances_token g.S.QuadSink.takes c.args.form first now next a.0 a.1 s.0 a.2 s.1 in
+    let m = advances_token g.S.QuadSink.takes c.args.rules first now next a.0 a.1 s.0 a.2 s.1 in
     record {
       tokens = a.0 ++ s.0 ∷ [];
       quads = m.0;
