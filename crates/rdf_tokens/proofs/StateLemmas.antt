@@ -18,7 +18,7 @@ use Rattle.rdf_tokens.specs.declared.states.tag.Tag.TheVariants as tag_state
 use Rattle.rdf_tokens.specs.declared.states.number.Number.TheVariants as number_state
 use Rattle.rdf_tokens.specs.declared.states.name.Name.TheVariants as name_state
 use Rattle.rdf_tokens.specs.Tokens.{longest, with_length, three_quotes, only_long}
-use Rattle.rdf_tokens.specs.Front.{bytes_of, in_bytes, longest_by, longer_front, front_by}
+use Rattle.rdf_tokens.specs.Front.{Begun, bytes_of, in_bytes, longest_by, longer_front, front_by}
 use Rattle.rdf_tokens.specs.Fixed.{kind_by_table, rows_of, live_by}
 use Rattle.rdf_tokens.specs.Machines.{run, IsChars}
 use Rattle.rdf_tokens.specs.Sorts.{sort_by}
@@ -130,6 +130,13 @@ reached-step d bs at next c s s' k b b' r e en l es ek eb =
     let p = char-step bs at r.n c next r.here e en l in
     let st : s' ≡ state_of d (take (r.n + 1) (chars bs)) = es ∙ run-more (step d) Start s (chars bs) _ r.n c p.0 r.state in
     record { n = r.n + 1; here = p.1; state = st; front = front-more d (chars bs) r.n next s' k b b' st p.1.bytes ek r.front eb }
+
+-- behind the first character
+pub reached-first : (d : Dialect) (bs : List ℕ) (at : ℕ) (s : State) (k : Option Kind) (b : Option (ℕ × Kind)) → IsUtf8 bs → Begun d bs at s →
+    k ≡ only_long (three_quotes d (chars bs)) (kind_at s) → b ≡ with_length at k None → Reached d bs at s b
+reached-first d bs at s k b u h ek eb =
+    let past : at ≡ 0 + len_utf8 h.first = omega (arith, h.past) in
+    reached-step d bs 0 at h.first Start s k None b (reached-start d bs u) h.is past h.fits h.state ek eb
 
 -- what is known where the states do not go on
 reached-dead : (d : Dialect) (bs : List ℕ) (at : ℕ) (s : State) (b : Option (ℕ × Kind)) → Reached d bs at s b → goes_on d s ≡ false →

@@ -1,6 +1,11 @@
 -- Fronts of a text: the longest that is a token, by characters and by bytes.
-use Rattle.std.specs.Prelude.{ℕ, zero, suc, Bool, true, false, cond, ◌&&◌, ◌||◌, nat_lt, List, [], ◌∷◌, length, take, encode_utf8_all, Option, Some, None}
+use Rattle.std.specs.Prelude.{ℕ, zero, suc, Bool, true, false, cond, ◌&&◌, ◌||◌, ◌≡◌, ◌≤◌, nat_lt, List, [], ◌∷◌, ◌++◌, length, take, drop, encode_utf8, encode_utf8_all, Option, Some, None}
+use Rattle.std.specs.Char.{len_utf8}
+use Rattle.rdf_terms.specs.declared.kind.Dialect.{Dialect}
 use Rattle.rdf_terms.specs.declared.kind.Kind.{Kind}
+use Rattle.rdf_tokens.specs.declared.states.machine.State.{State}
+use Rattle.rdf_tokens.specs.declared.states.machine.State.TheVariants.{Start}
+use Rattle.rdf_tokens.specs.Machine.{step}
 use Rattle.rdf_tokens.specs.Tokens.{with_length}
 use Rattle.rdf_tokens.specs.Fixed.{Row, fits}
 
@@ -42,3 +47,11 @@ front_by (r ∷ rs) w = longer_front (row_front r w) (front_by rs w)
 abbrev pub starts : List Row → ℕ → Bool
 starts [] x = false
 starts (r ∷ rs) x = begins r.any_case (take 1 r.text) (x ∷ []) || starts rs x
+
+-- the first character of some bytes ends there, and the states have come to it
+pub record Begun (d : Dialect) (bs : List ℕ) (at : ℕ) (s : State) : Type 0 where
+  pub first : ℕ
+  pub is : bs ≡ encode_utf8 first ++ drop at bs
+  pub past : at ≡ len_utf8 first
+  pub fits : at ≤ length bs
+  pub state : s ≡ step d Start first

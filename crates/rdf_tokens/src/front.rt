@@ -4,7 +4,7 @@ ghost use Rattle.std.specs.Prelude.{◌≡◌, length};
 ghost use Rattle.std.specs.Str.{chars};
 ghost use Rattle.rdf_terms.specs.Shapes.{is_live};
 ghost use Rattle.rdf_tokens.specs.Tokens.{three_quotes, only_long, with_length, longest};
-ghost use Rattle.rdf_tokens.specs.Front.{in_bytes, longest_by, longer_front};
+ghost use Rattle.rdf_tokens.specs.Front.{Begun, in_bytes, longest_by, longer_front};
 ghost use Rattle.rdf_tokens.specs.Machines.{run};
 ghost use Rattle.rdf_tokens.specs.Machine.{step, kind_at, goes_on};
 ghost use Rattle.rdf_tokens.specs.declared.states.machine.State.TheVariants.{Start};
@@ -12,6 +12,7 @@ ghost use Rattle.rdf_tokens.specs.declared.states.machine.State.TheVariants.{Sta
 use crate::bytes::char_at;
 use crate::states::fixed::{fixed_front, is_fixed_live};
 use crate::states::machine::State;
+use crate::states::shape::Shape;
 use rdf_terms::{Dialect, Kind};
 
 /// What stands at the front of a text.
@@ -41,19 +42,49 @@ fn shaped_front(dialect: Dialect, text: &str) -> Front
         (longest_by (λ u. only_long (three_quotes dialect (chars text.now)) (kind_at (run (step dialect) Start u))) (chars text.now) (length (chars text.now))) }
     ensures live { result.live ≡ goes_on dialect (run (step dialect) Start (chars text.now)) }
 {
+    if text.is_empty() {
+        return Front {
+            best: None,
+            live: true,
+        };
+    }
+    let (c, next) = char_at(text, 0);
+    match State::Start.step(dialect, c) {
+        State::Iri(state) => front_from(dialect, text, next, state),
+        State::Label(state) => front_from(dialect, text, next, state),
+        State::Text(state) => front_from(dialect, text, next, state),
+        State::Tag(state) => front_from(dialect, text, next, state),
+        State::Number(state) => front_from(dialect, text, next, state),
+        State::Name(state) => front_from(dialect, text, next, state),
+        state => front_from(dialect, text, next, state),
+    }
+}
+
+/// The same where a text's first character led to this state.
+#[inline(never)]
+fn front_from<S: Shape>(dialect: Dialect, text: &str, first: usize, begun: S) -> Front
+    requires { Begun dialect text.now first (S.whole begun) }
+    ensures best { result.best ≡ in_bytes (chars text.now)
+        (longest_by (λ u. only_long (three_quotes dialect (chars text.now)) (kind_at (run (step dialect) Start u))) (chars text.now) (length (chars text.now))) }
+    ensures live { result.live ≡ goes_on dialect (run (step dialect) Start (chars text.now)) }
+{
     let three = has_three_quotes(dialect, text.as_bytes());
-    let mut state = State::Start;
-    let mut best = None;
-    let mut at = 0;
-    while at < text.len() && state.is_live(dialect) {
+    let mut state = begun;
+    let mut at = first;
+    let mut len = first;
+    let mut kind = only_long_string(three, state.whole_kind());
+    while at < text.len() && state.goes_on(dialect) {
         let (c, next) = char_at(text, at);
-        state = state.step(dialect, c);
+        state = state.after_char(dialect, c);
         at = next;
-        best = with_front(at, only_long_string(three, state.kind()), best);
+        if let Some(longer) = only_long_string(three, state.whole_kind()) {
+            len = at;
+            kind = Some(longer);
+        }
     }
     Front {
-        best,
-        live: state.is_live(dialect),
+        best: with_length(len, kind),
+        live: state.goes_on(dialect),
     }
 }
 
@@ -76,16 +107,12 @@ fn only_long_string(three: bool, kind: Option<Kind>) -> Option<Kind>
     }
 }
 
-fn with_front(
-    len: usize,
-    kind: Option<Kind>,
-    shorter: Option<(usize, Kind)>,
-) -> Option<(usize, Kind)>
-    ensures { result ≡ with_length len kind shorter }
+fn with_length(len: usize, kind: Option<Kind>) -> Option<(usize, Kind)>
+    ensures { result ≡ with_length len kind None }
 {
     match kind {
         Some(kind) => Some((len, kind)),
-        None => shorter,
+        None => None,
     }
 }
 

@@ -6,6 +6,7 @@ pub(crate) mod label;
 pub(crate) mod machine;
 pub(crate) mod name;
 pub(crate) mod number;
+pub(crate) mod shape;
 pub(crate) mod tag;
 pub(crate) mod text;
 pub(crate) mod wide;

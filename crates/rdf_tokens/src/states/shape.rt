@@ -1,0 +1,178 @@
+// What a loop over the characters of a token asks of its states.
+
+ghost use Rattle.std.specs.Prelude.{◌≡◌};
+ghost use Rattle.rdf_tokens.specs.Machine.{step, kind_at, goes_on};
+ghost use Rattle.rdf_tokens.specs.declared.states.machine.State.{State};
+ghost use Rattle.rdf_tokens.specs.declared.states.machine.State.TheVariants as state;
+
+use crate::states::iri::Iri;
+use crate::states::label::Label;
+use crate::states::machine::State;
+use crate::states::name::Name;
+use crate::states::number::Number;
+use crate::states::tag::Tag;
+use crate::states::text::Text;
+use rdf_terms::{Dialect, Kind};
+
+/// The states of one family, or of all.
+pub(crate) trait Shape: Copy {
+    /// The same state among those of all families.
+    ghost whole: { Self → State };
+
+    /// The state behind one more character.
+    fn after_char(self, dialect: Dialect, c: char) -> Self
+        ensures { whole result ≡ step dialect (whole self) c };
+
+    /// The kind of what has come, where it is whole.
+    fn whole_kind(self) -> Option<Kind>
+        ensures { result ≡ kind_at (whole self) };
+
+    /// Whether something longer begins so.
+    fn goes_on(self, dialect: Dialect) -> bool
+        ensures { result ≡ goes_on dialect (whole self) };
+}
+
+impl Shape for Iri {
+    ghost whole = { state.Iri };
+
+    #[inline(always)]
+    fn after_char(self, _dialect: Dialect, c: char) -> Iri {
+        self.step(c)
+    }
+
+    #[inline(always)]
+    fn whole_kind(self) -> Option<Kind> {
+        if self.is_accepted() {
+            Some(Kind::IriRef)
+        } else {
+            None
+        }
+    }
+
+    #[inline(always)]
+    fn goes_on(self, _dialect: Dialect) -> bool {
+        self.is_live()
+    }
+}
+
+impl Shape for Label {
+    ghost whole = { state.Label };
+
+    #[inline(always)]
+    fn after_char(self, dialect: Dialect, c: char) -> Label {
+        self.step(dialect, c)
+    }
+
+    #[inline(always)]
+    fn whole_kind(self) -> Option<Kind> {
+        if self.is_accepted() {
+            Some(Kind::LabelNode)
+        } else {
+            None
+        }
+    }
+
+    #[inline(always)]
+    fn goes_on(self, _dialect: Dialect) -> bool {
+        self.is_live()
+    }
+}
+
+impl Shape for Text {
+    ghost whole = { state.Text };
+
+    #[inline(always)]
+    fn after_char(self, dialect: Dialect, c: char) -> Text {
+        self.step(dialect, c)
+    }
+
+    #[inline(always)]
+    fn whole_kind(self) -> Option<Kind> {
+        self.kind()
+    }
+
+    #[inline(always)]
+    fn goes_on(self, dialect: Dialect) -> bool {
+        self.is_live(dialect)
+    }
+}
+
+impl Shape for Tag {
+    ghost whole = { state.Tag };
+
+    #[inline(always)]
+    fn after_char(self, _dialect: Dialect, c: char) -> Tag {
+        self.step(c)
+    }
+
+    #[inline(always)]
+    fn whole_kind(self) -> Option<Kind> {
+        if self.is_accepted() {
+            Some(Kind::LangTag)
+        } else {
+            None
+        }
+    }
+
+    #[inline(always)]
+    fn goes_on(self, _dialect: Dialect) -> bool {
+        self.is_live()
+    }
+}
+
+impl Shape for Number {
+    ghost whole = { state.Number };
+
+    #[inline(always)]
+    fn after_char(self, dialect: Dialect, c: char) -> Number {
+        self.step(dialect, c)
+    }
+
+    #[inline(always)]
+    fn whole_kind(self) -> Option<Kind> {
+        self.kind()
+    }
+
+    #[inline(always)]
+    fn goes_on(self, dialect: Dialect) -> bool {
+        self.is_live(dialect)
+    }
+}
+
+impl Shape for Name {
+    ghost whole = { state.Name };
+
+    #[inline(always)]
+    fn after_char(self, dialect: Dialect, c: char) -> Name {
+        self.step(dialect, c)
+    }
+
+    #[inline(always)]
+    fn whole_kind(self) -> Option<Kind> {
+        self.kind()
+    }
+
+    #[inline(always)]
+    fn goes_on(self, dialect: Dialect) -> bool {
+        self.is_live(dialect)
+    }
+}
+
+impl Shape for State {
+    ghost whole = { λ s. s };
+
+    #[inline(always)]
+    fn after_char(self, dialect: Dialect, c: char) -> State {
+        self.step(dialect, c)
+    }
+
+    #[inline(always)]
+    fn whole_kind(self) -> Option<Kind> {
+        self.kind()
+    }
+
+    #[inline(always)]
+    fn goes_on(self, dialect: Dialect) -> bool {
+        self.is_live(dialect)
+    }
+}
