@@ -1,5 +1,5 @@
 -- The longest spelling at the front of a text, by characters and by bytes: spellings are ASCII.
-use Rattle.std.proofs.Common.{◌≡◌, ℕ, zero, suc, ◌+◌, ◌<◌, ◌≤◌, Bool, true, false, cond, nat_lt, List, [], ◌∷◌, ◌++◌, ◌&&◌, ◌||◌, ◌==◌, refl, sym, ap, ◌∙◌, subst, ⊎_elim, length, take, drop, arith, encode_utf8, length-append, Option, Some, None, IsUtf8}
+use Rattle.std.proofs.Common.{true≢false, ◌≡◌, ℕ, zero, suc, ◌+◌, ◌<◌, ◌≤◌, Bool, true, false, cond, nat_lt, List, [], ◌∷◌, ◌++◌, ◌&&◌, ◌||◌, ◌==◌, refl, sym, ap, ◌∙◌, subst, ⊎_elim, length, take, drop, arith, encode_utf8, length-append, Option, Some, None, IsUtf8}
 use Rattle.std.proofs.lemmas.Bool.{and_parts, cases_lt, lt-ltb, le-ltb, ltb-true, eqb-true, or_cases, or_left, or_right, false≢true}
 use Rattle.std.proofs.lemmas.Bool.Decides.{nat_tests}
 use Rattle.std.proofs.lemmas.List.{drop_all, drop_more}
@@ -12,8 +12,9 @@ use Rattle.rdf_terms.specs.declared.kind.Dialect.TheVariants.{Lines, Turtle}
 use Rattle.rdf_terms.specs.Classes.{is_turtle}
 use Rattle.rdf_terms.specs.Shapes.{fixed, or_else}
 use Rattle.rdf_tokens.specs.Tokens.{three_quotes, only_long, with_length}
+use Rattle.std.specs.List.{slice_get}
 use Rattle.rdf_tokens.specs.Fixed.{Row, fits, left, is_done, is_begun, kind_by, live_by, rows_of, kind_by_table, live_by_table}
-use Rattle.rdf_tokens.specs.Front.{bytes_of, in_bytes, longest_by, longer_front, begins, row_front, front_by}
+use Rattle.rdf_tokens.specs.Front.{at_first, bytes_of, in_bytes, longest_by, longer_front, begins, row_front, front_by}
 use Rattle.rdf_tokens.proofs.FrontLemmas.{AtMost, longest_by-or, longest_by-same, longest_by-at_most, in_bytes-longer}
 
 -- a front of n characters is the spelling
@@ -296,3 +297,27 @@ only_long-table d (c ∷ w) m k = go (three_quotes d (c ∷ w)) (λ e. no_quote 
         only_long t (or_else (kind_by_table d (c ∷ take m w)) k) ≡ or_else (kind_by_table d (c ∷ take m w)) (only_long t k)
     go true h = ap (λ o. only_long true (or_else o k)) (h refl) ∙ sym (ap (λ o. or_else o (only_long true k)) (h refl))
     go false h = refl
+
+-- a spelling that does not begin with a text's first character does not stand at its front
+other_first : (b : Bool) (s : List ℕ) (x : ℕ) (w : List ℕ) → begins b (take 1 s) (x ∷ []) ≡ false → begins b s (x ∷ w) ≡ false
+other_first b [] x w e = absurd (true≢false e)
+other_first b (c ∷ s) x w e = go (fits b c x) e
+  where
+    go : (t : Bool) → (t && true) ≡ false → (t && begins b s w) ≡ false
+    go true e = absurd (true≢false e)
+    go false e = refl
+
+-- only those that begin with its first character count
+pub front_by-first : (rs : List Row) (x : ℕ) (w : List ℕ) → front_by (at_first x rs) (x ∷ w) ≡ front_by rs (x ∷ w)
+front_by-first [] x w = refl
+front_by-first (r ∷ rs) x w = go (begins r.any_case (take 1 r.text) (x ∷ [])) refl (front_by-first rs x w)
+  where
+    go : (t : Bool) → begins r.any_case (take 1 r.text) (x ∷ []) ≡ t → front_by (at_first x rs) (x ∷ w) ≡ front_by rs (x ∷ w) →
+        front_by (cond t (r ∷ at_first x rs) (at_first x rs)) (x ∷ w) ≡ longer_front (row_front r (x ∷ w)) (front_by rs (x ∷ w))
+    go true e h = ap (longer_front (row_front r (x ∷ w))) h
+    go false e h =
+        h ∙ sym (ap (λ t. longer_front (cond t (Some (length r.text, r.kind)) None) (front_by rs (x ∷ w))) (other_first r.any_case r.text x w e))
+
+pub front_by-at : (rs : List Row) (x : ℕ) (w : List ℕ) → Some x ≡ slice_get w 0 → front_by (at_first x rs) w ≡ front_by rs w
+front_by-at rs x [] e = absurd cc
+front_by-at rs x (y ∷ w) e = let h : x ≡ y = cc in subst (λ y. front_by (at_first x rs) (y ∷ w) ≡ front_by rs (y ∷ w)) h (front_by-first rs x w)

@@ -1,5 +1,5 @@
 -- Fronts of a text: the longest that is a token, by characters and by bytes.
-use Rattle.std.specs.Prelude.{ℕ, zero, suc, Bool, true, false, cond, ◌&&◌, ◌||◌, ◌≡◌, ◌≤◌, nat_lt, List, [], ◌∷◌, ◌++◌, length, take, drop, encode_utf8, encode_utf8_all, Option, Some, None}
+use Rattle.std.specs.Prelude.{ℕ, zero, suc, Bool, true, false, cond, ◌&&◌, ◌≡◌, ◌≤◌, nat_lt, List, [], ◌∷◌, ◌++◌, length, take, drop, encode_utf8, encode_utf8_all, Option, Some, None}
 use Rattle.std.specs.Char.{len_utf8}
 use Rattle.rdf_terms.specs.declared.kind.Dialect.{Dialect}
 use Rattle.rdf_terms.specs.declared.kind.Kind.{Kind}
@@ -43,10 +43,10 @@ abbrev pub front_by : List Row → List ℕ → Option (ℕ × Kind)
 front_by [] w = None
 front_by (r ∷ rs) w = longer_front (row_front r w) (front_by rs w)
 
--- some spelling begins with a character
-abbrev pub starts : List Row → ℕ → Bool
-starts [] x = false
-starts (r ∷ rs) x = begins r.any_case (take 1 r.text) (x ∷ []) || starts rs x
+-- the spellings that begin with a character
+abbrev pub at_first : ℕ → List Row → List Row
+at_first x [] = []
+at_first x (r ∷ rs) = cond (begins r.any_case (take 1 r.text) (x ∷ [])) (r ∷ at_first x rs) (at_first x rs)
 
 -- the first character of some bytes ends there, and the states have come to it
 pub record Begun (d : Dialect) (bs : List ℕ) (at : ℕ) (s : State) : Type 0 where

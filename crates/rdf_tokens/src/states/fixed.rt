@@ -3,7 +3,7 @@
 ghost use Rattle.std.specs.Prelude.{◌≡◌, map};
 ghost use Rattle.rdf_terms.specs.Shapes.{fixed};
 ghost use Rattle.rdf_tokens.specs.Fixed.{fits, left, is_begun, live_by, rows_of};
-ghost use Rattle.rdf_tokens.specs.Front.{begins, row_front, front_by, starts};
+ghost use Rattle.rdf_tokens.specs.Front.{at_first, begins, row_front, front_by};
 ghost use Rattle.rdf_tokens.specs.Over.{row_over, fixed_over};
 ghost use Rattle.rdf_tokens.specs.Spellings.{row_of};
 
@@ -145,44 +145,48 @@ fn spellings(dialect: Dialect) -> &'static [Spelling]
     }
 }
 
+/// Those that begin with a byte: most tokens begin with none.
+fn spellings_at(dialect: Dialect, first: u8) -> &'static [Spelling]
+    ensures { map row_of result.now ≡ at_first first (rows_of dialect fixed) }
+{
+    match dialect {
+        Dialect::Lines => match first {
+            b'^' => &LINES[..1],
+            b'.' => &LINES[1..2],
+            b'\r' => &LINES[2..3],
+            b'\n' => &LINES[3..],
+            _ => &[],
+        },
+        Dialect::Turtle => match first {
+            b'@' => &TURTLE[..2],
+            b'^' => &TURTLE[2..3],
+            b'.' => &TURTLE[3..4],
+            b't' => &TURTLE[4..5],
+            b'f' => &TURTLE[5..6],
+            b'a' => &TURTLE[6..7],
+            b'P' | b'p' => &TURTLE[7..8],
+            b'B' | b'b' => &TURTLE[8..9],
+            b'G' | b'g' => &TURTLE[9..10],
+            b';' => &TURTLE[10..11],
+            b',' => &TURTLE[11..12],
+            b'[' => &TURTLE[12..13],
+            b']' => &TURTLE[13..14],
+            b'(' => &TURTLE[14..15],
+            b')' => &TURTLE[15..16],
+            b'{' => &TURTLE[16..17],
+            b'}' => &TURTLE[17..],
+            _ => &[],
+        },
+    }
+}
+
 /// The longest spelling of the dialect at the front of a text.
 pub(crate) fn fixed_front(dialect: Dialect, text: &[u8]) -> Option<(usize, Kind)>
     ensures { result ≡ front_by (rows_of dialect fixed) text.now }
 {
     match text.first() {
-        Some(first) if begins_spelling(dialect, *first) => front_among(spellings(dialect), text),
-        _ => None,
-    }
-}
-
-/// Whether a spelling of the dialect begins with a byte: most tokens are told apart from the spellings by their first.
-fn begins_spelling(dialect: Dialect, byte: u8) -> bool
-    ensures { result ≡ starts (rows_of dialect fixed) byte }
-{
-    match dialect {
-        Dialect::Lines => matches!(byte, b'^' | b'.' | b'\r' | b'\n'),
-        Dialect::Turtle => matches!(
-            byte,
-            b'@' | b'^'
-                | b'.'
-                | b't'
-                | b'f'
-                | b'a'
-                | b'P'
-                | b'p'
-                | b'B'
-                | b'b'
-                | b'G'
-                | b'g'
-                | b';'
-                | b','
-                | b'['
-                | b']'
-                | b'('
-                | b')'
-                | b'{'
-                | b'}'
-        ),
+        Some(first) => front_among(spellings_at(dialect, *first), text),
+        None => None,
     }
 }
 
@@ -225,7 +229,7 @@ pub(crate) fn is_fixed_live(dialect: Dialect, text: &[u8]) -> bool
     ensures { result ≡ live_by (rows_of dialect fixed) text.now }
 {
     match text.first() {
-        Some(first) => begins_spelling(dialect, *first) && is_live_among(spellings(dialect), text),
+        Some(first) => is_live_among(spellings_at(dialect, *first), text),
         None => true,
     }
 }
