@@ -3,7 +3,7 @@ use Rattle.std.proofs.Common.{◌≡◌, ℕ, Bool, true, false, List, [], ◌�
 use Rattle.std.proofs.lemmas.List.{append-nil}
 use Rattle.rdf_terms.specs.declared.kind.Dialect.TheVariants.{Lines}
 use Rattle.rdf_terms.specs.declared.reason.Reason.{Reason}
-use Rattle.rdf_terms.specs.declared.reason.Reason.TheVariants.{BadUtf8, NoToken, BadEscape, TokenTooLong, Unexpected, RelativeIri}
+use Rattle.rdf_terms.specs.declared.reason.Reason.TheVariants.{BadUtf8, NoToken, BadEscape, TokenTooLong, Unexpected, RelativeIri, IriTooLong}
 use Rattle.rdf_terms.specs.Terms.{Quad, has_scheme}
 use Rattle.rdf_tokens.specs.Tokens.{Place, Token, Reading}
 use Rattle.rdf_tokens.specs.Good.{tokens_of}
@@ -16,11 +16,13 @@ use Rattle.rdf_lines.specs.Documents.{Document, RefusedIn}
 use Rattle.rdf_lines.specs.LineRead.{LineRead}
 use Rattle.rdf_lines.specs.Readers.{HasRead, IsDueIn, tokens_so_far}
 use Rattle.rdf_lines.proofs.Due.{due_ran}
+use Rattle.rdf_lines.proofs.Refusals.{in_documents}
 use Rattle.rdf_lines.proofs.Runs.{run_document}
 
 -- A reader has put the quads that are due of what it has read.
 pub read_due : (r : LineRead) (bytes : List ℕ) (qs : List Quad) → HasRead r bytes qs → Due (documents r.form) (tokens_so_far r.scanner.limit bytes).tokens qs
-read_due r bytes qs h = due_ran r.form (tokens_so_far r.scanner.limit bytes).tokens r.mode qs h.ran
+read_due r bytes qs h =
+    due_ran r.form (tokens_so_far r.scanner.limit bytes).tokens r.mode qs (in_documents r.iri r.form (tokens_so_far r.scanner.limit bytes).tokens r.mode qs h.ran)
 
 -- All quads of a document are due at its end.
 pub document_due : (f : LineForm) (limit : ℕ) (bytes : List ℕ) (qs : List Quad) → Document f limit bytes qs → Due (documents f) (tokens_of Lines limit bytes true).tokens qs
@@ -31,14 +33,15 @@ pub due_whole : (f : LineForm) (r : Reading) (qs : List Quad) → Due (documents
 due_whole f r qs d = (r.tokens, [], sym (append-nil r.tokens), d)
 
 -- what is due behind the tokens before a refusal
-pub due_refused : (f : LineForm) (r : Reading) (reason : Reason) (at : Place) (ahead : List Token) (qs : List Quad) → RefusedIn f r reason at ahead → Due (documents f) ahead qs → IsDueIn f r qs
-due_refused f r BadUtf8 at ahead qs x d = (ahead, [], x.tokens ∙ sym (append-nil ahead), d)
-due_refused f r NoToken at ahead qs x d = (ahead, [], x.tokens ∙ sym (append-nil ahead), d)
-due_refused f r BadEscape at ahead qs x d = (ahead, [], x.tokens ∙ sym (append-nil ahead), d)
-due_refused f r TokenTooLong at ahead qs x d = (ahead, [], x.tokens ∙ sym (append-nil ahead), d)
-due_refused f r Unexpected at ahead qs x d = (ahead, x.token ∷ x.behind, x.tokens, d)
-due_refused f r RelativeIri at ahead qs x d = (ahead, x.token ∷ x.behind, x.tokens, d)
-due_refused f r reason at ahead qs x d = absurd x
+pub due_refused : (f : LineForm) (iri : ℕ) (r : Reading) (reason : Reason) (at : Place) (ahead : List Token) (qs : List Quad) → RefusedIn f iri r reason at ahead → Due (documents f) ahead qs → IsDueIn f r qs
+due_refused f iri r BadUtf8 at ahead qs x d = (ahead, [], x.tokens ∙ sym (append-nil ahead), d)
+due_refused f iri r NoToken at ahead qs x d = (ahead, [], x.tokens ∙ sym (append-nil ahead), d)
+due_refused f iri r BadEscape at ahead qs x d = (ahead, [], x.tokens ∙ sym (append-nil ahead), d)
+due_refused f iri r TokenTooLong at ahead qs x d = (ahead, [], x.tokens ∙ sym (append-nil ahead), d)
+due_refused f iri r Unexpected at ahead qs x d = (ahead, x.token ∷ x.behind, x.tokens, d)
+due_refused f iri r RelativeIri at ahead qs x d = (ahead, x.token ∷ x.behind, x.tokens, d)
+due_refused f iri r IriTooLong at ahead qs x d = (ahead, x.token ∷ x.behind, x.tokens, d)
+due_refused f iri r reason at ahead qs x d = absurd x
 
 -- More bytes, or the end, take nothing back.
 pub due_more : (f : LineForm) (limit : ℕ) (bytes more : List ℕ) (e : Bool) (qs : List Quad) → IsDueIn f (tokens_of Lines limit bytes false) qs → IsDueIn f (tokens_of Lines limit (bytes ++ more) e) qs

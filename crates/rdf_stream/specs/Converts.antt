@@ -10,6 +10,7 @@ use Rattle.rdf_tokens.specs.Tokens.Outcome.{undecided}
 use Rattle.rdf_tokens.specs.Good.{tokens_of}
 use Rattle.rdf_tokens.specs.Grammars.{Due}
 use Rattle.rdf_tokens.specs.Scans.{most_bytes}
+use Rattle.rdf_iri.specs.Limits.{Sizes}
 use Rattle.rdf_lines.specs.declared.form.LineForm.{LineForm}
 use Rattle.rdf_lines.specs.declared.form.LineForm.TheVariants as lines
 use Rattle.rdf_lines.specs.declared.form.Style.TheVariants.{Kept}
@@ -30,39 +31,35 @@ abbrev pub line_form : Form → LineForm
 line_form NTriples = lines.NTriples
 line_form NQuads = lines.NQuads
 
--- no document has a token of more characters
-abbrev pub token_limit : ℕ
-token_limit = 2 ^ 64 - 1
-
 -- the bytes are a document of the form, with these quads
-abbrev pub HasQuads : Form → List ℕ → List Quad → Type 0
-HasQuads form bytes qs = Document (line_form form) token_limit bytes qs
+abbrev pub HasQuads : Form → Sizes → List ℕ → List Quad → Type 0
+HasQuads form limits bytes qs = Document (line_form form) limits.token bytes qs
 
 -- the tokens of the bytes, with their end or before more come
-abbrev pub reading_of : List ℕ → Bool → Reading
-reading_of bytes is_end = tokens_of Lines token_limit bytes is_end
+abbrev pub reading_of : Sizes → List ℕ → Bool → Reading
+reading_of limits bytes is_end = tokens_of Lines limits.token bytes is_end
 
 -- the bytes of the quads' lines
 abbrev pub lines_of : List Quad → List ℕ
 lines_of qs = encode_utf8_all (text Kept qs)
 
 -- the numbers of quads, of tokens without the end, and of bytes
-pub record Counts (input : List ℕ) (qs : List Quad) (s : Summary) : Type 0 where
+pub record Counts (limits : Sizes) (input : List ℕ) (qs : List Quad) (s : Summary) : Type 0 where
   pub quads : s.quads ≡ length qs
-  pub tokens : s.tokens + 1 ≡ length (reading_of input true).tokens
+  pub tokens : s.tokens + 1 ≡ length (reading_of limits input true).tokens
   pub bytes : s.bytes ≡ length input
 
 -- The bytes are a document, the lines of its quads were written, and what was written reads back as these quads.
-pub record Accepts (form : Form) (bytes : List ℕ) (old new : Option (List ℕ)) (s : Summary) : Type 0 where
+pub record Accepts (form : Form) (limits : Sizes) (bytes : List ℕ) (old new : Option (List ℕ)) (s : Summary) : Type 0 where
   pub quads : List Quad
-  pub document : HasQuads form bytes quads
+  pub document : HasQuads form limits bytes quads
   pub written : Appends old new (lines_of quads)
   pub reads_back : (limit : ℕ) → length (text Kept quads) ≤ limit → ReadsBack Kept quads limit
-  pub counts : Counts bytes quads s
+  pub counts : Counts limits bytes quads s
 
 -- the same, whatever was counted
-abbrev pub IsConverted : Form → List ℕ → Option (List ℕ) → Option (List ℕ) → Type 0
-IsConverted form bytes old new = (s : Summary) × Accepts form bytes old new s
+abbrev pub IsConverted : Form → Sizes → List ℕ → Option (List ℕ) → Option (List ℕ) → Type 0
+IsConverted form limits bytes old new = (s : Summary) × Accepts form limits bytes old new s
 
 -- the lines of the quads that are due behind these tokens were written
 pub record WritesDue (form : Form) (ahead : List Token) (old new : Option (List ℕ)) : Type 0 where
@@ -84,10 +81,10 @@ pub record WritesFront (form : Form) (reading : Reading) (old new : Option (List
   pub written : AppendsFront old new (lines_of quads)
 
 -- The bytes are refused at the place, so they are no document, and the lines of the quads that are due before it were written; or there are too many bytes.
-abbrev pub Refuses : Reason → Form → List ℕ → Bool → Place → Option (List ℕ) → Option (List ℕ) → Type 0
-Refuses DocumentTooLong form bytes is_end at old new = (most_bytes < length bytes) × WritesSome form (reading_of bytes is_end) old new
-Refuses reason form bytes is_end at old new =
-    (ahead : List Token) × RefusedIn (line_form form) (reading_of bytes is_end) reason at ahead × WritesDue form ahead old new
+abbrev pub Refuses : Reason → Form → Sizes → List ℕ → Bool → Place → Option (List ℕ) → Option (List ℕ) → Type 0
+Refuses DocumentTooLong form limits bytes is_end at old new = (most_bytes < length bytes) × WritesSome form (reading_of limits bytes is_end) old new
+Refuses reason form limits bytes is_end at old new =
+    (ahead : List Token) × RefusedIn (line_form form) limits.iri (reading_of limits bytes is_end) reason at ahead × WritesDue form ahead old new
 
 -- What a source has given: these bytes, and their end where it has told that.
 pub record HasGiven (known left : Option (List ℕ)) : Type 0 where
@@ -97,16 +94,16 @@ pub record HasGiven (known left : Option (List ℕ)) : Type 0 where
   pub ended : is_end ≡ true → IsAtEnd left
 
 -- The source has given these bytes, which do not decide what stands behind them, and the lines of all quads that are due in them were written.
-pub record BreaksOff (form : Form) (known left old new : Option (List ℕ)) : Type 0 where
+pub record BreaksOff (form : Form) (limits : Sizes) (known left old new : Option (List ℕ)) : Type 0 where
   pub bytes : List ℕ
   pub consumed : Consumes known left bytes
-  pub waits : (reading_of bytes false).outcome ≡ undecided
-  pub writes : WritesDue form (reading_of bytes false).tokens old new
+  pub waits : (reading_of limits bytes false).outcome ≡ undecided
+  pub writes : WritesDue form (reading_of limits bytes false).tokens old new
 
 -- Why a conversion stopped, and what it had written: whole lines, but where the drain failed a beginning of them.
-abbrev pub StopsFor : StreamFault → Form → Option (List ℕ) → Option (List ℕ) → Bool → Option (List ℕ) → Option (List ℕ) → Bool → Type 0
-StopsFor (Refused f) form known left read_failed old new write_failed = IfSome known (λ bytes. Refuses f.reason form bytes true (place_of f) old new)
-StopsFor Read form known left read_failed old new write_failed = (read_failed ≡ true) × BreaksOff form known left old new
-StopsFor Write form known left read_failed old new write_failed =
-    (write_failed ≡ true) × (given : HasGiven known left) × WritesFront form (reading_of given.bytes given.is_end) old new
-StopsFor Memory form known left read_failed old new write_failed = (given : HasGiven known left) × WritesSome form (reading_of given.bytes given.is_end) old new
+abbrev pub StopsFor : StreamFault → Form → Sizes → Option (List ℕ) → Option (List ℕ) → Bool → Option (List ℕ) → Option (List ℕ) → Bool → Type 0
+StopsFor (Refused f) form limits known left read_failed old new write_failed = IfSome known (λ bytes. Refuses f.reason form limits bytes true (place_of f) old new)
+StopsFor Read form limits known left read_failed old new write_failed = (read_failed ≡ true) × BreaksOff form limits known left old new
+StopsFor Write form limits known left read_failed old new write_failed =
+    (write_failed ≡ true) × (given : HasGiven known left) × WritesFront form (reading_of limits given.bytes given.is_end) old new
+StopsFor Memory form limits known left read_failed old new write_failed = (given : HasGiven known left) × WritesSome form (reading_of limits given.bytes given.is_end) old new

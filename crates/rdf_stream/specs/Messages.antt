@@ -16,6 +16,7 @@ reason_text reason.Memory = codes "out of memory"
 reason_text reason.Ended = codes "ended"
 reason_text reason.Unexpected = codes "unexpected token"
 reason_text reason.RelativeIri = codes "relative IRI"
+reason_text reason.IriTooLong = codes "IRI too long"
 reason_text reason.Sink = codes "write failed"
 
 -- why, and where in decimal digits

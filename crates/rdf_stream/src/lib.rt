@@ -16,4 +16,6 @@ pub use devices::{Drain, Failed, In, Out, Source};
 pub use fault::{Form, StreamFault};
 pub use messages::report;
 pub use put::put_all;
+pub use rdf_iri::Limits;
 pub use rdf_lines::{Fault, Summary};
+pub use rdf_terms::Iri;

@@ -76,6 +76,7 @@ fn words(reason: Reason) -> &'static str
         Reason::Ended => "ended",
         Reason::Unexpected => "unexpected token",
         Reason::RelativeIri => "relative IRI",
+        Reason::IriTooLong => "IRI too long",
         Reason::Sink => "write failed",
     }
 }

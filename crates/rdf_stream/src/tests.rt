@@ -7,6 +7,7 @@ use crate::devices::{Drain, Failed, In, Out, Source};
 use crate::fault::{Form, StreamFault};
 use crate::messages::report;
 use crate::put::put_all;
+use rdf_iri::Limits;
 use rdf_lines::{Fault, Summary};
 use rdf_terms::Reason;
 use std::alloc::{AllocError, Global};
@@ -153,6 +154,7 @@ fn a_report_names_the_reason_and_the_place(rt: HostRuntime) -> Result<(), AllocE
         (Reason::DocumentTooLong, "document too long"),
         (Reason::Unexpected, "unexpected token"),
         (Reason::RelativeIri, "relative IRI"),
+        (Reason::IriTooLong, "IRI too long"),
     ];
     for (reason, words) in faults {
         let fault = StreamFault::Refused(Fault {
@@ -178,7 +180,13 @@ const LINES: &str = "<http://a/s> <http://a/p> \"x\" .\n_:x <a:> <b:> .\n";
 fn devices_of_one_byte_a_call_change_nothing(rt: HostRuntime) {
     let mut source = slow(TWO, 53);
     let mut taken = drain(rt.alloc(), 1, 49);
-    let result = convert(rt.alloc(), Form::NTriples, &mut source, &mut taken);
+    let result = convert(
+        rt.alloc(),
+        Form::NTriples,
+        Limits::default(),
+        &mut source,
+        &mut taken,
+    );
     assert!(rt;
         matches!(
             result,
@@ -198,7 +206,13 @@ fn a_source_that_fails_is_not_at_its_end(rt: HostRuntime) {
     for (calls, written) in [(0, 0), (1, 0), (30, 0), (31, 32), (51, 32), (52, 48)] {
         let mut source = slow(TWO, calls);
         let mut taken = drain(rt.alloc(), 1, 49);
-        let result = convert(rt.alloc(), Form::NTriples, &mut source, &mut taken);
+        let result = convert(
+            rt.alloc(),
+            Form::NTriples,
+            Limits::default(),
+            &mut source,
+            &mut taken,
+        );
         assert!(rt;
             matches!(result, Err(StreamFault::Read)),
             "after {calls} calls"
@@ -216,7 +230,13 @@ fn a_drain_that_fails_has_a_beginning_of_the_lines(rt: HostRuntime) {
     for calls in 0usize..50 {
         let mut source = slow(TWO, 53);
         let mut taken = drain(rt.alloc(), 1, calls as u64);
-        let result = convert(rt.alloc(), Form::NTriples, &mut source, &mut taken);
+        let result = convert(
+            rt.alloc(),
+            Form::NTriples,
+            Limits::default(),
+            &mut source,
+            &mut taken,
+        );
         assert_eq!(rt;
             matches!(result, Err(StreamFault::Write)),
             calls < 49,
@@ -238,7 +258,16 @@ fn the_lines_of_a_piece_are_one_call(rt: HostRuntime) -> Result<(), AllocError> 
     }
     let mut source = in_parts(text.as_bytes(), usize::MAX, usize::MAX);
     let mut taken = drain(rt.alloc(), usize::MAX, 2);
-    assert!(rt; convert(rt.alloc(), Form::NQuads, &mut source, &mut taken).is_ok());
+    assert!(rt;
+        convert(
+            rt.alloc(),
+            Form::NQuads,
+            Limits::default(),
+            &mut source,
+            &mut taken
+        )
+        .is_ok()
+    );
     assert_eq!(rt; taken.bytes.as_slice(), text.as_bytes());
     assert!(rt; taken.flushed);
     Ok(())
@@ -439,7 +468,13 @@ fn a_document_is_converted_however_it_is_cut(rt: HostRuntime) {
             let others = if cut == 0 { 1 } else { usize::MAX };
             let mut source = in_parts(row.bytes, cut, others);
             let mut taken = drain(rt.alloc(), usize::MAX, u64::MAX);
-            let result = convert(rt.alloc(), row.form, &mut source, &mut taken);
+            let result = convert(
+                rt.alloc(),
+                row.form,
+                Limits::default(),
+                &mut source,
+                &mut taken,
+            );
             assert_eq!(rt;
                 taken.bytes.as_slice(),
                 row.lines.as_bytes(),

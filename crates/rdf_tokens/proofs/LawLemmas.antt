@@ -141,11 +141,7 @@ next_given old new bytes ts (Err f) h g = by_reason f.reason (fault_place f) g
     by_reason BadEscape at g = let x = here bad_escape at g in (x.0, x.1, λ n. x.2)
     by_reason TokenTooLong at g = let x = here token_too_long at g in (x.0, x.1, λ n. x.2)
     by_reason Ended at g = let x = given_all old bytes ts g.0 h in (x.0, x.1, λ n. absurd (n refl))
-    by_reason DocumentTooLong at g = absurd g
-    by_reason Memory at g = absurd g
-    by_reason Unexpected at g = absurd g
-    by_reason RelativeIri at g = absurd g
-    by_reason Sink at g = absurd g
+    by_reason reason at g = absurd g
 
 -- nothing is read of no text before more comes
 pub nothing_yet : (d : Dialect) (limit : ℕ) (b : Bool) (p : Place) → tokens d limit goes_on b p [] ≡ record { tokens = []; outcome = undecided; at = p }

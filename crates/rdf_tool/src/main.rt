@@ -8,7 +8,7 @@ mod tests;
 
 use crate::commands::command_of;
 use crate::runs::{refuse_words, run, tell_memory};
-use rdf_stream::{In, Out};
+use rdf_stream::{In, Limits, Out};
 use std::alloc::AllocError;
 use std::env;
 use std::io::ErrorKind;
@@ -28,7 +28,14 @@ fn main(rt: HostRuntime) -> ExitCode {
     let status = match command_of(rt.alloc(), texts.as_slice()) {
         Ok(task) => {
             let mut source = In::new(rt.stdin());
-            run(rt.alloc(), task.form, Some(&mut source), &mut out, &mut err)
+            run(
+                rt.alloc(),
+                task.form,
+                Limits::default(),
+                Some(&mut source),
+                &mut out,
+                &mut err,
+            )
         }
         Err(fault) => refuse_words(rt.alloc(), &fault, &mut out, &mut err),
     };

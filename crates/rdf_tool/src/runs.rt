@@ -11,13 +11,14 @@ ghost use Rattle.rdf_tool.specs.Statuses.{Tells, status_of};
 
 use crate::commands::WordsFault;
 use clap::Error;
-use rdf_stream::{Drain, Failed, Form, Source, StreamFault, convert, put_all, report};
+use rdf_stream::{Drain, Failed, Form, Limits, Source, StreamFault, convert, put_all, report};
 use std::alloc::Global;
 
 /// Runs a conversion, and answers the status. A `None` is a file that did not open.
 pub fn run<S: Source, O: Drain, E: Drain>(
     alloc: Global,
     form: Form,
+    limits: Limits,
     source: Option<&mut S>,
     out: &mut O,
     err: &mut E,
@@ -25,15 +26,15 @@ pub fn run<S: Source, O: Drain, E: Drain>(
     requires source { ForSome source (λ s. S.has_failed s.now ≡ false) }
     requires out { O.has_failed out.old ≡ false }
     requires err { E.has_failed err.old ≡ false }
-    ensures accepted { IfSome source.entry (λ s. result ≡ 0 → IfSome (S.remaining s.now) (λ bytes. IsConverted form bytes (O.contents out.old) (O.contents out.new))
+    ensures accepted { IfSome source.entry (λ s. result ≡ 0 → IfSome (S.remaining s.now) (λ bytes. IsConverted form limits bytes (O.contents out.old) (O.contents out.new))
         × (O.is_flushed out.new ≡ true)) }
     ensures stopped { IfSome source.entry (λ s. result ≢ 0 → (fault : StreamFault) × (left : Option (List ℕ)) × (read_failed : Bool) × (result ≡ status_of fault)
-        × StopsFor fault form (S.remaining s.now) left read_failed (O.contents out.old) (O.contents out.new) (O.has_failed out.new)
+        × StopsFor fault form limits (S.remaining s.now) left read_failed (O.contents out.old) (O.contents out.new) (O.has_failed out.new)
         × AppendsFront (E.contents err.old) (E.contents err.new) (report_text fault)) }
     ensures not_open { IfNone source.entry ((result ≡ 3) × Tells (codes "rdfconv: cannot open file\n") (E.contents err.old) (E.contents err.new) (E.has_failed err.new)) }
 {
     match source {
-        Some(source) => run_from(alloc, form, source, out, err),
+        Some(source) => run_from(alloc, form, limits, source, out, err),
         None => {
             tell("rdfconv: cannot open file\n", err);
             3
@@ -44,6 +45,7 @@ pub fn run<S: Source, O: Drain, E: Drain>(
 fn run_from<S: Source, O: Drain, E: Drain>(
     alloc: Global,
     form: Form,
+    limits: Limits,
     source: &mut S,
     out: &mut O,
     err: &mut E,
@@ -51,13 +53,13 @@ fn run_from<S: Source, O: Drain, E: Drain>(
     requires source { S.has_failed source.old ≡ false }
     requires out { O.has_failed out.old ≡ false }
     requires err { E.has_failed err.old ≡ false }
-    ensures accepted { result ≡ 0 → IfSome (S.remaining source.old) (λ bytes. IsConverted form bytes (O.contents out.old) (O.contents out.new))
+    ensures accepted { result ≡ 0 → IfSome (S.remaining source.old) (λ bytes. IsConverted form limits bytes (O.contents out.old) (O.contents out.new))
         × (O.is_flushed out.new ≡ true) }
     ensures stopped { result ≢ 0 → (fault : StreamFault) × (result ≡ status_of fault)
-        × StopsFor fault form (S.remaining source.old) (S.remaining source.new) (S.has_failed source.new) (O.contents out.old) (O.contents out.new) (O.has_failed out.new)
+        × StopsFor fault form limits (S.remaining source.old) (S.remaining source.new) (S.has_failed source.new) (O.contents out.old) (O.contents out.new) (O.has_failed out.new)
         × AppendsFront (E.contents err.old) (E.contents err.new) (report_text fault) }
 {
-    match convert(alloc, form, source, out) {
+    match convert(alloc, form, limits, source, out) {
         Ok(_) => 0,
         Err(fault) => {
             tell_fault(alloc, &fault, err);

@@ -2,7 +2,7 @@
 
 use crate::commands::{Task, WordsFault, command_of};
 use crate::runs::{refuse_words, run};
-use rdf_stream::{Form, In, Out};
+use rdf_stream::{Form, In, Limits, Out};
 
 #[test]
 fn a_run_writes_the_lines_or_tells_why_not(rt: HostRuntime) {
@@ -37,7 +37,14 @@ fn a_run_writes_the_lines_or_tells_why_not(rt: HostRuntime) {
         let mut out = Out::new(&mut written);
         let mut err = Out::new(&mut told);
         assert_eq!(rt;
-            run(rt.alloc(), form, Some(&mut source), &mut out, &mut err),
+            run(
+                rt.alloc(),
+                form,
+                Limits::default(),
+                Some(&mut source),
+                &mut out,
+                &mut err
+            ),
             status,
             "{text}"
         );
@@ -54,7 +61,17 @@ fn a_file_that_did_not_open_is_told(rt: HostRuntime) {
     let mut out = Out::new(Vec::new(rt.alloc()));
     let mut err = Out::new(&mut told);
     let none: Option<&mut In<&[u8]>> = None;
-    assert_eq!(rt; run(rt.alloc(), Form::NQuads, none, &mut out, &mut err), 3);
+    assert_eq!(rt;
+        run(
+            rt.alloc(),
+            Form::NQuads,
+            Limits::default(),
+            none,
+            &mut out,
+            &mut err
+        ),
+        3
+    );
     drop(err);
     assert_eq!(rt; told.as_slice(), b"rdfconv: cannot open file\n".as_slice());
 }
