@@ -12,6 +12,8 @@ pub mod TagLemmas
 pub mod NumberLemmas
 pub mod NameLemmas
 pub mod NameSorts
+pub mod IriSorts
+pub mod TextSorts
 pub mod FixedLemmas
 pub mod MachineLemmas
 pub mod ByteLemmas

@@ -50,7 +50,11 @@ fn text_of(bytes: &[u8]) -> &str
 pub fn line_feeds(bytes: &[u8]) -> usize
     ensures { result ≡ count_by (λ b. b == 10) bytes.now }
 {
-    bytes.iter().filter(|b| **b == b'\n').count()
+    let mut count = 0;
+    for byte in bytes {
+        count += usize::from(*byte == b'\n');
+    }
+    count
 }
 
 /// How many bytes the leading U+FEFF has, if there is one.

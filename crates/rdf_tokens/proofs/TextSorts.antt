@@ -1,0 +1,33 @@
+-- The table of sorts against their definition: a test of each byte.
+use Rattle.std.proofs.Common.{◌≡◌, ℕ, ◌<◌, true, List, [], ◌∷◌, ◌==◌, refl, sym, ap, ◌∙◌, get_or}
+use Rattle.std.proofs.lemmas.Bool.{agree_below_at, eqb-true}
+use Rattle.rdf_tokens.specs.declared.states.text.Sort.{Sort}
+use Rattle.rdf_tokens.specs.declared.states.text.Sort.TheVariants as sort
+use Rattle.rdf_tokens.specs.declared.states.text.TheConstants.{SORTS}
+use Rattle.rdf_tokens.specs.Text.{ascii}
+
+abbrev all : List Sort
+all = sort.DoubleQuote ∷ sort.SingleQuote ∷ sort.Backslash ∷ sort.LineBreak ∷ sort.SmallU ∷ sort.BigU ∷ sort.Letter ∷ sort.HexLetter ∷ sort.HexDigit ∷ sort.Plain ∷ []
+
+abbrev place : Sort → ℕ
+place sort.DoubleQuote = 0
+place sort.SingleQuote = 1
+place sort.Backslash = 2
+place sort.LineBreak = 3
+place sort.SmallU = 4
+place sort.BigU = 5
+place sort.Letter = 6
+place sort.HexLetter = 7
+place sort.HexDigit = 8
+place sort.Plain = 9
+
+at_place : (x : Sort) → get_or all (place x) sort.DoubleQuote ≡ x
+at_place sort.DoubleQuote = refl
+at_place x = refl
+
+same_place : (x y : Sort) → place x ≡ place y → x ≡ y
+same_place x y e = sym (at_place x) ∙ (ap (λ n. get_or all n sort.DoubleQuote) e ∙ at_place y)
+
+pub table-ascii : (c : ℕ) → c < 128 → get_or SORTS c sort.DoubleQuote ≡ ascii c
+table-ascii c l =
+    same_place _ _ (eqb-true _ _ (agree_below_at (λ c. place (get_or SORTS c sort.DoubleQuote) == place (ascii c)) (λ c. true) 128 c refl l))
