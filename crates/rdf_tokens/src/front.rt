@@ -11,8 +11,14 @@ ghost use Rattle.rdf_tokens.specs.declared.states.machine.State.TheVariants.{Sta
 
 use crate::bytes::char_at;
 use crate::states::fixed::{fixed_front, is_fixed_live};
-use crate::states::machine::State;
+use crate::states::iri::Iri;
+use crate::states::label::Label;
+use crate::states::machine::{Family, State, family_of};
+use crate::states::name::Name;
+use crate::states::number::Number;
 use crate::states::shape::Shape;
+use crate::states::tag::Tag;
+use crate::states::text::Text;
 use rdf_terms::{Dialect, Kind};
 
 /// What stands at the front of a text.
@@ -31,40 +37,51 @@ pub(crate) fn front_of(dialect: Dialect, text: &str) -> Front
 {
     let shaped = shaped_front(dialect, text);
     Front {
-        best: longer(fixed_front(dialect, text.as_bytes()), shaped.best),
+        best: longer(
+            fixed_front(dialect, text.as_bytes()),
+            with_length(shaped.len, shaped.kind),
+        ),
         live: shaped.live || is_fixed_live(dialect, text.as_bytes()),
     }
 }
 
-/// The same for the kinds that have states.
-fn shaped_front(dialect: Dialect, text: &str) -> Front
-    ensures best { result.best ≡ in_bytes (chars text.now)
+/// The same for the kinds that have states, the longest front as its length and its kind: so it stays in registers.
+#[derive(Drop)]
+struct Shaped {
+    len: usize,
+    kind: Option<Kind>,
+    live: bool,
+}
+
+fn shaped_front(dialect: Dialect, text: &str) -> Shaped
+    ensures best { with_length result.len result.kind None ≡ in_bytes (chars text.now)
         (longest_by (λ u. only_long (three_quotes dialect (chars text.now)) (kind_at (run (step dialect) Start u))) (chars text.now) (length (chars text.now))) }
     ensures live { result.live ≡ goes_on dialect (run (step dialect) Start (chars text.now)) }
 {
     if text.is_empty() {
-        return Front {
-            best: None,
+        return Shaped {
+            len: 0,
+            kind: None,
             live: true,
         };
     }
     let (c, next) = char_at(text, 0);
-    match State::Start.step(dialect, c) {
-        State::Iri(state) => front_from(dialect, text, next, state),
-        State::Label(state) => front_from(dialect, text, next, state),
-        State::Text(state) => front_from(dialect, text, next, state),
-        State::Tag(state) => front_from(dialect, text, next, state),
-        State::Number(state) => front_from(dialect, text, next, state),
-        State::Name(state) => front_from(dialect, text, next, state),
-        state => front_from(dialect, text, next, state),
+    match family_of(c) {
+        Family::Iri => front_from(dialect, text, next, Iri::Start.step(c)),
+        Family::Label => front_from(dialect, text, next, Label::Start.step(dialect, c)),
+        Family::Text => front_from(dialect, text, next, Text::Start.step(dialect, c)),
+        Family::Tag => front_from(dialect, text, next, Tag::Start.step(c)),
+        Family::Number => front_from(dialect, text, next, Number::Start.step(dialect, c)),
+        Family::Name => front_from(dialect, text, next, Name::Start.step(dialect, c)),
+        Family::None => front_from(dialect, text, next, State::Dead),
     }
 }
 
 /// The same where a text's first character led to this state.
 #[inline(never)]
-fn front_from<S: Shape>(dialect: Dialect, text: &str, first: usize, begun: S) -> Front
+fn front_from<S: Shape>(dialect: Dialect, text: &str, first: usize, begun: S) -> Shaped
     requires { Begun dialect text.now first (S.whole begun) }
-    ensures best { result.best ≡ in_bytes (chars text.now)
+    ensures best { with_length result.len result.kind None ≡ in_bytes (chars text.now)
         (longest_by (λ u. only_long (three_quotes dialect (chars text.now)) (kind_at (run (step dialect) Start u))) (chars text.now) (length (chars text.now))) }
     ensures live { result.live ≡ goes_on dialect (run (step dialect) Start (chars text.now)) }
 {
@@ -82,8 +99,9 @@ fn front_from<S: Shape>(dialect: Dialect, text: &str, first: usize, begun: S) ->
             kind = Some(longer);
         }
     }
-    Front {
-        best: with_length(len, kind),
+    Shaped {
+        len,
+        kind,
         live: state.goes_on(dialect),
     }
 }

@@ -63,7 +63,8 @@ fn family_of_wide(wide: Wide) -> Family
     }
 }
 
-fn family_of(c: char) -> Family
+/// The family that a character begins.
+pub(crate) fn family_of(c: char) -> Family
     ensures { result ≡ sort_by ascii high c }
 {
     let code = c as u32;

@@ -47,7 +47,7 @@ loop-at-preserved g c =
 
 pub returns-clause-best : goal.returns-clause-best
 returns-clause-best g c =
-    c.with_length.ensures ∙ (reached-out c.args.dialect c.args.text.now c.loop-at.at (g.S.Shape.whole c.loop-at.state) (with_length c.loop-at.len c.loop-at.kind None)
+    (reached-out c.args.dialect c.args.text.now c.loop-at.at (g.S.Shape.whole c.loop-at.state) (with_length c.loop-at.len c.loop-at.kind None)
     c.loop-at.invariant (elim c.loop-at-test.branch [
       | then-loop-at-test+else-goes_on w ↦ inr (sym w.goes_on.ensures ∙ w.if-goes_on.false)
       | else-loop-at-test w ↦ inl (let l = w.loop-at-test.false in omega arith)

@@ -7,8 +7,8 @@ use Rattle.rdf_tokens.proofs.front.front_of.Goals as goal
 
 pub returns-then-shaped-clause-best : goal.returns-then-shaped-clause-best
 returns-then-shaped-clause-best c =
-    front-bytes c.args.dialect c.args.text.now c.fixed_front.result c.shaped_front-shaped.result.best c.longer.result c.utf8.text
-    (c.fixed_front.ensures ∙ ap (front_by (rows_of c.args.dialect fixed)) c.as_bytes.ensures.value) c.shaped_front-shaped.ensures.best c.longer.ensures
+    front-bytes c.args.dialect c.args.text.now c.fixed_front.result c.with_length.result c.longer.result c.utf8.text
+    (c.fixed_front.ensures ∙ ap (front_by (rows_of c.args.dialect fixed)) c.as_bytes.ensures.value) (c.with_length.ensures ∙ c.shaped_front-shaped.ensures.best) c.longer.ensures
 
 pub returns-then-shaped-clause-live : goal.returns-then-shaped-clause-live
 returns-then-shaped-clause-live c =
@@ -17,8 +17,8 @@ returns-then-shaped-clause-live c =
 
 pub returns-else-shaped-clause-best : goal.returns-else-shaped-clause-best
 returns-else-shaped-clause-best c =
-    front-bytes c.args.dialect c.args.text.now c.fixed_front.result c.shaped_front-shaped.result.best c.longer.result c.utf8.text
-    (c.fixed_front.ensures ∙ ap (front_by (rows_of c.args.dialect fixed)) c.as_bytes.ensures.value) c.shaped_front-shaped.ensures.best c.longer.ensures
+    front-bytes c.args.dialect c.args.text.now c.fixed_front.result c.with_length.result c.longer.result c.utf8.text
+    (c.fixed_front.ensures ∙ ap (front_by (rows_of c.args.dialect fixed)) c.as_bytes.ensures.value) (c.with_length.ensures ∙ c.shaped_front-shaped.ensures.best) c.longer.ensures
 
 pub returns-else-shaped-clause-live : goal.returns-else-shaped-clause-live
 returns-else-shaped-clause-live c =
