@@ -45,7 +45,7 @@ pub(crate) fn front_of(dialect: Dialect, text: &str) -> Front
     }
 }
 
-/// The same for the kinds that have states, the longest front as its length and its kind: so it stays in registers.
+/// The same for the kinds that have states: the length and the kind of the longest, which a loop keeps in registers.
 #[derive(Drop)]
 struct Shaped {
     len: usize,
@@ -53,6 +53,7 @@ struct Shaped {
     live: bool,
 }
 
+/// The longest token of a kind that has states.
 fn shaped_front(dialect: Dialect, text: &str) -> Shaped
     ensures best { with_length result.len result.kind None ≡ in_bytes (chars text.now)
         (longest_by (λ u. only_long (three_quotes dialect (chars text.now)) (kind_at (run (step dialect) Start u))) (chars text.now) (length (chars text.now))) }
