@@ -10,3 +10,4 @@ pub mod KnownLemmas
 pub mod NamesLemmas
 pub mod ViewLemmas
 pub mod LocalLemmas
+mod IriBytes

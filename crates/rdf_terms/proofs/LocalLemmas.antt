@@ -1,11 +1,11 @@
 -- The value of a local part, and the walk over it.
-use Rattle.std.proofs.Common.{◌≡◌, ℕ, Bool, true, false, cond, List, [], ◌∷◌, ◌++◌, ◌==◌, ◌&&◌, ◌||◌, Option, Some, None, is_some, option_map, encode_utf8, refl, sym, ap, ◌∙◌, subst, ⊎_elim, append_assoc}
+use Rattle.std.proofs.Common.{◌≡◌, ℕ, Bool, true, false, cond, List, [], ◌∷◌, ◌++◌, ◌==◌, ◌&&◌, ◌||◌, Option, Some, None, is_some, option_map, encode_utf8, refl, sym, ap, ◌∙◌, ⊎_elim, append_assoc}
 use Rattle.std.specs.Prelude.{not}
 use Rattle.std.specs.Option.{unwrap_or}
 use Rattle.std.specs.Str.{chars, IsUtf8}
 use Rattle.std.proofs.lemmas.Str.{chars-append, chars-encodes, chars-nil, scalars-chars}
 use Rattle.std.proofs.lemmas.List.{append-nil}
-use Rattle.std.proofs.lemmas.Bool.{cases_Bool, and_parts, and_from, or_left, or_right, or_cases, cond-true, cond-false, false≢true, ne_eqb, eqb-true, eq-eqb}
+use Rattle.std.proofs.lemmas.Bool.{cases_Bool, and_parts, and_from, or_cases, cond-true, cond-false, false≢true, ne_eqb, eqb-true, eq-eqb}
 use lib.Utf8.{scalar, scalars}
 use Rattle.rdf_terms.specs.Classes.{has, scalar as is_scalar, one_of}
 use Rattle.rdf_terms.specs.Classes.Class.{iri_char, local_escape}

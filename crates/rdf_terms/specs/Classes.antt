@@ -74,6 +74,10 @@ member (pn_char d) c = is_u d c || c == 45 || is_digit c || c == 0xB7 || within 
 unfoldable pub has : Class → ℕ → Bool
 has k c = scalar c && member k c
 
+-- a byte of the UTF-8 of the characters of an IRIREF: what it excludes is ASCII
+abbrev pub iri_byte : ℕ → Bool
+iri_byte b = nat_le 128 b || member iri_char b
+
 -- a member of the class
 abbrev pub sample : Class → ℕ
 sample (the x) = x

@@ -3,7 +3,7 @@
 ghost use Rattle.std.specs.Prelude.{◌≡◌, ◌||◌, ◌==◌, ◌<◌, SomeIff, IfSome, IsUtf8, true};
 ghost use Rattle.std.specs.Str.{chars};
 ghost use Rattle.std.specs.Str.Iter.{chars_rest};
-ghost use Rattle.rdf_terms.specs.Classes.{has, is_letter, is_digit};
+ghost use Rattle.rdf_terms.specs.Classes.{has, iri_byte, is_letter, is_digit};
 ghost use Rattle.rdf_terms.specs.Classes.Class.{hex_digit, iri_char, local_escape, pn_base, pn_u, pn_char};
 ghost use Rattle.rdf_terms.specs.Terms.{has_scheme, scheme_goes_on, all_have};
 ghost use Rattle.rdf_terms.specs.Values.{hex_value};
@@ -94,15 +94,24 @@ pub fn hex_value(c: char) -> Option<u8>
 }
 
 /// Whether each character of the text is one that an IRIREF has as it is.
+#[tactic(auto, using(crate::proofs::IriBytes::iri_bytes))]
 pub fn iri_text(text: &str) -> bool
     ensures { result ≡ all_have (has iri_char) (chars text.now) }
 {
-    for c in text.chars() {
-        if !is_iri_char(c) {
+    for byte in text.as_bytes() {
+        if !is_iri_byte(*byte) {
             return false;
         }
     }
     true
+}
+
+/// What an IRIREF excludes is ASCII.
+#[tactic(auto, unfolding(crate::specs::Classes::has))]
+fn is_iri_byte(byte: u8) -> bool
+    ensures { result ≡ iri_byte byte }
+{
+    byte >= 128 || is_iri_char(byte as char)
 }
 
 /// Whether the text begins with a scheme and its colon (RFC 3986, 3.1).

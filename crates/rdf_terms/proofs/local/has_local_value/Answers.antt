@@ -1,4 +1,4 @@
-use Rattle.std.proofs.Common.{◌&&◌, Bool, is_some, refl, sym, ap, ◌∙◌}
+use Rattle.std.proofs.Common.{◌&&◌, Bool, is_some, sym, ap, ◌∙◌}
 use Rattle.std.specs.Str.{chars}
 use Rattle.std.specs.Str.Iter.{chars_rest}
 use Rattle.rdf_terms.specs.Values.{local_from}

@@ -1,0 +1,67 @@
+-- The characters of IRIREF by the bytes of a text: what it excludes is ASCII.
+use Rattle.std.proofs.Common.{◌≡◌, ℕ, suc, ◌<◌, ◌≤◌, Bool, true, false, List, [], ◌∷◌, ◌++◌, ◌&&◌, ◌||◌, refl, sym, ap, ◌∙◌, ⊎_elim, length, get_or, arith, encode_utf8, IsUtf8}
+use Rattle.std.specs.Prelude.{encode_utf8_all, nat_le}
+use Rattle.std.specs.Str.{chars}
+use Rattle.std.proofs.lemmas.Bool.{and_parts, and_from, cases_lt}
+use Rattle.std.proofs.lemmas.Bool.Decides.{nat_tests}
+use Rattle.std.proofs.lemmas.List.{append-nil}
+use Rattle.std.proofs.lemmas.Str.{encode_ascii, inside_one, scalars-chars, encodes-chars}
+use Rattle.std.proofs.Math.Utf8.{scalars}
+use Rattle.rdf_terms.specs.Classes.{has, member, scalar, iri_byte}
+use Rattle.rdf_terms.specs.Classes.Class.{iri_char}
+use Rattle.rdf_terms.specs.Terms.{all_have}
+
+high_char : (c : ℕ) → 128 ≤ c → member iri_char c ≡ true
+high_char c l = grind (arith, nat_tests)
+
+high_byte : (b : ℕ) → 128 ≤ b → iri_byte b ≡ true
+high_byte b l = grind (arith, nat_tests)
+
+all_high : (xs : List ℕ) → ((k : ℕ) → k < length xs → 128 ≤ get_or xs k 0) → all_have iri_byte xs ≡ true
+all_high [] h = refl
+all_high (b ∷ xs) h = and_from (iri_byte b) (all_have iri_byte xs) (high_byte b (h 0 (omega arith))) (all_high xs (λ k l. h (suc k) (omega arith)))
+
+-- no byte of a character from 128 on is ASCII
+high_bytes : (c : ℕ) → 128 ≤ c → (k : ℕ) → k < length (encode_utf8 c) → 128 ≤ get_or (encode_utf8 c) k 0
+high_bytes c l k m =
+    ⊎_elim
+    (λ (h : get_or (encode_utf8 c) k 0 < 128). let e = inside_one c [] (encode_utf8 c) k (sym (append-nil (encode_utf8 c))) m h in absurd (omega (arith, e)))
+    (λ h. h)
+    (cases_lt (get_or (encode_utf8 c) k 0) 128)
+
+one_char : (c : ℕ) → scalar c ≡ true → all_have iri_byte (encode_utf8 c) ≡ has iri_char c
+unfolding has
+one_char c s = ⊎_elim low high (cases_lt c 128)
+  where
+    same : (m : Bool) → ((false || m) && true) ≡ (true && m)
+    same true = refl
+    same false = refl
+
+    low : c < 128 → all_have iri_byte (encode_utf8 c) ≡ (scalar c && member iri_char c)
+    low l =
+        let e : nat_le 128 c ≡ false = grind (arith, nat_tests) in
+        ap (all_have iri_byte) (encode_ascii c l) ∙ (ap (λ t. (t || member iri_char c) && true) e ∙ (same (member iri_char c) ∙ ap (λ t. t && member iri_char c) (sym s)))
+
+    high : 128 ≤ c → all_have iri_byte (encode_utf8 c) ≡ (scalar c && member iri_char c)
+    high l = all_high (encode_utf8 c) (high_bytes c l) ∙ sym (and_from (scalar c) (member iri_char c) s (high_char c l))
+
+have-append : (test : ℕ → Bool) (u v : List ℕ) → all_have test (u ++ v) ≡ (all_have test u && all_have test v)
+have-append test [] v = refl
+have-append test (c ∷ u) v = ap (λ t. test c && t) (have-append test u v) ∙ assoc (test c) (all_have test u) (all_have test v)
+  where
+    assoc : (a b c : Bool) → (a && (b && c)) ≡ ((a && b) && c)
+    assoc true b c = refl
+    assoc false b c = refl
+
+scalar_same : (c : ℕ) → scalars (c ∷ []) ≡ true → scalar c ≡ true
+scalar_same c e = grind (arith, nat_tests)
+
+all_chars : (w : List ℕ) → scalars w ≡ true → all_have iri_byte (encode_utf8_all w) ≡ all_have (has iri_char) w
+all_chars [] s = refl
+all_chars (c ∷ w) s =
+    let p = and_parts _ _ s in
+    have-append iri_byte (encode_utf8 c) (encode_utf8_all w)
+    ∙ (ap (λ t. t && all_have iri_byte (encode_utf8_all w)) (one_char c (scalar_same c (ap (λ b. b && true) p.0))) ∙ ap (λ t. has iri_char c && t) (all_chars w p.1))
+
+pub iri_bytes : (bs : List ℕ) → IsUtf8 bs → all_have iri_byte bs ≡ all_have (has iri_char) (chars bs)
+iri_bytes bs u = ap (all_have iri_byte) (sym (encodes-chars bs u)) ∙ all_chars (chars bs) (scalars-chars bs u)
