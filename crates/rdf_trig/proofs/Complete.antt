@@ -292,9 +292,9 @@ module _ (form : DocForm) where
 
 -- behind a subject a verb may come, in both forms
 subject_verb : (form : DocForm) (v : Level) (c : Setting) (s : Option term.Subject) → TakesVerb form c (after_subject form v s) s (Statement v)
+subject_verb form InBlock c s = want_verb form c s (Statement InBlock)
+subject_verb Turtle Top c s = want_verb Turtle c s (Statement Top)
 subject_verb TriG Top c s = label_verb TriG c s
-subject_verb TriG InBlock c s = want_verb TriG c s (Statement InBlock)
-subject_verb Turtle v c s = want_verb Turtle c s (Statement v)
 
 module _ (form : DocForm) where
   triples_good : (t : Triples) (c0 : Setting) (m : Mode) (c : Setting) (v : Level) (k : Kind) (l : Leaf) (c' : Setting) (m' : Mode) (rest : List Event) → TakesSubject form c0 m c v → EndsTriples form c v k l c' m' →

@@ -1,1 +1,2 @@
 mod Complete
+mod Sound

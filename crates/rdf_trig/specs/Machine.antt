@@ -12,7 +12,7 @@ use Rattle.rdf_iri.specs.Texts.{byte_len}
 use Rattle.rdf_iri.specs.Scope.{InForce}
 use Rattle.rdf_lines.specs.Lines.{Leaf, leaf_of}
 use Rattle.rdf_trig.specs.declared.form.DocForm.{DocForm}
-use Rattle.rdf_trig.specs.declared.form.DocForm.TheVariants.{TriG}
+use Rattle.rdf_trig.specs.declared.form.DocForm.TheVariants.{Turtle, TriG}
 use Rattle.rdf_trig.specs.Names.{prefix_of, reference_in, name_in, with_base, with_binding, is_full}
 use Rattle.rdf_trig.specs.Quads.{Setting, in_default, in_graph, stated, named, node, resource, anon_at, labelled, short_value, long_value, tag_of, plain_literal, tagged_literal, typed_literal, cell_at, rest_quad}
 use Rattle.rdf_trig.specs.Events.{Use, itself, stands, binds, Event, Took, give}
@@ -152,8 +152,9 @@ verb_start c s a k l = No
 
 -- Where the reader stands behind a subject that is a name or node, a property list, and a collection.
 abbrev pub after_subject : DocForm → Level → Option term.Subject → Mode
+after_subject form InBlock s = WantVerb s (Statement InBlock)
+after_subject Turtle Top s = WantVerb s (Statement Top)
 after_subject TriG Top s = AfterLabel s
-after_subject form v s = WantVerb s (Statement v)
 
 abbrev pub node_closed : DocForm → Up → Option term.Subject → Mode
 node_closed form (Subject v) s = after_subject form v s
