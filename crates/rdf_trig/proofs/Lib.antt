@@ -1,2 +1,4 @@
 mod Complete
 mod Sound
+mod TokensOfEvents
+mod MarksOfEvents
