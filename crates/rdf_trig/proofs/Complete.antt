@@ -24,7 +24,7 @@ module _ (form : DocForm) where
   pub record Good (c : Setting) (m : Mode) (es : List Event) : Type 0 where
     pub runs : run form c m (tokens es) ≡ Some es
 
-  tokens_give : (q : Option Quad) (es : List Event) → tokens (give q es) ≡ tokens es
+  pub tokens_give : (q : Option Quad) (es : List Event) → tokens (give q es) ≡ tokens es
   tokens_give None es = refl
   tokens_give (Some q) es = refl
 
@@ -62,7 +62,7 @@ module _ (form : DocForm) where
   text_step c w p Carets l ts es e = dead (after c p Carets l) (token Carets l) (λ c' m'. run form c' m' ts) es (no_tag c p l).3 e
   text_step c w p k l ts es e = shift _ _ es e
 
-  text_run : (c : Setting) (w : List ℕ) (p : Place) (ts : List Token) (es : List Event) → run form c (After p) ts ≡ Some es →
+  pub text_run : (c : Setting) (w : List ℕ) (p : Place) (ts : List Token) (es : List Event) → run form c (After p) ts ≡ Some es →
       run form c (AfterText w p) ts ≡ Some (give (quad_at c p (plain_literal w)) es)
   text_run c w p [] es e = absurd (let z : None ≡ Some es = e in cc)
   text_run c w p (t ∷ ts) es e = text_step c w p t.kind (leaf_of t) ts es e

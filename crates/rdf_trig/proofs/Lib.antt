@@ -2,3 +2,4 @@ mod Complete
 mod Sound
 mod TokensOfEvents
 mod MarksOfEvents
+mod Completions
