@@ -3,3 +3,4 @@ mod Sound
 mod TokensOfEvents
 mod MarksOfEvents
 mod Completions
+mod Reached
