@@ -4,3 +4,5 @@ mod TokensOfEvents
 mod MarksOfEvents
 mod Completions
 mod Reached
+mod Lag
+mod Accepted
