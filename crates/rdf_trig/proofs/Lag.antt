@@ -20,7 +20,8 @@ use Rattle.rdf_trig.specs.Names.{prefix_of, reference_in, name_in, prefixed_in, 
 use Rattle.rdf_trig.specs.Quads.{Setting, in_default, in_graph, stated, named, node, resource, anon_at, labelled, blank_of, verb_of, short_value, long_value, lexical, tag_of, language, plain_literal, tagged_literal, typed_literal, literal_of, iri_leaf, string_leaf, literal_leaf, object_leaf, cell_at, cell_of, items_of, collection_of, list_of, object_of, subject_of, label_of, rest_quad}
 use Rattle.rdf_trig.specs.Events.{Use, itself, stands, binds, Event, Took, Gave, take, name, give, prefixed_events, iri_events, verb_events, string_events, tag_events, blank_object_events, literal_events, object_quad, object_events, collection_events, items_events, rest_events, list_events, predicates_events, more_events, objects_events, commas_events, subject_events, maybe_events, triples_events, binding, directive_events, label_events, block_events, maybe_block_events, wrapped_events, trig_events, body_events, document_events, tokens, marked, HasIri, Bound, BoundFront}
 use Rattle.rdf_trig.specs.Machine.{Level, Top, InBlock, Place, Listed, InCells, Around, Statement, Boxed, Up, Subject, At, Spelling, Dotted, Sparql, Mode, Start, Over, WantPrefix, WantPrefixIri, WantBaseIri, WantDot, AfterLabel, GraphWord, GraphBox, WantBrace, Inside, Want, After, AfterText, WantType, Box, Paren, WantVerb, Semi, AfterBox, Reply, No, Go, goes, cell, subject_at, verb_at, quad_at, quad_up, nil, iri_object_at, literal_at, object_start, type_at, want_type, verb_is, verb_start, after_subject, node_closed, box_closed, list_closed, list_end, semi, after, tag_at, after_text, box, paren, after_box, subject_is, subject_start, start, inside, want_brace, after_label, graph_is, graph_word, graph_box, directive_end, want_prefix, want_prefix_iri, want_base_iri, want_dot, step, waiting, fronted, put, stop, go_on, run}
-use Rattle.rdf_trig.specs.Machine.{kept, State, Answer, refuses, accepts, Refusal, unexpected, too_deep, unbound, no_base, iri_too_long, too_many_bindings, unnamed, too_long, by_use, deepens, by_depth, answer, accept, at_start, Run, ran, refused, with_quads, go, accept_all, depth, depth_at, depth_around, depth_up}
+use Rattle.rdf_trig.specs.Refusals.{Refusal, unexpected, too_deep, unbound, no_base, iri_too_long, too_many_bindings}
+use Rattle.rdf_trig.specs.Machine.{kept, State, Answer, refuses, accepts, unnamed, too_long, by_use, deepens, by_depth, answer, accept, at_start, Run, ran, refused, with_quads, go, accept_all, depth, depth_at, depth_around, depth_up}
 use Rattle.rdf_trig.proofs.Complete.{document_good}
 use Rattle.rdf_trig.proofs.Sound.{unput}
 use Rattle.rdf_trig.proofs.Reached.{run_tree}

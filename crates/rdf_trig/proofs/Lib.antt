@@ -6,3 +6,5 @@ mod Completions
 mod Reached
 mod Lag
 mod Accepted
+mod StepFacts
+mod Senses

@@ -102,7 +102,7 @@ module _ (strict : Bool) (form : DocForm) where
   begins_reached ts start (d, us, e, b) = back ts us (in_default start) Start (document_events start d) (run_tree d start (ts ++ us) e) b
 
 -- With names that have to stand for something this is what documents are, without, what trees are.
-bound_passing : (es : List Event) → Bound es → Passing true es
+pub bound_passing : (es : List Event) → Bound es → Passing true es
 bound_passing [] b = tt
 bound_passing (Took t u ∷ es) b = (fine u b.0, bound_passing es b.1)
   where
@@ -121,7 +121,7 @@ use_bound (stands (Some i)) h = λ z. cc
 use_bound (binds full None) h = absurd (let z : false ≡ true = h in cc)
 use_bound (binds full (Some i)) h = λ z. cc
 
-passing_bound : (es : List Event) → Passing true es → Bound es
+pub passing_bound : (es : List Event) → Passing true es → Bound es
 passing_bound [] b = tt
 passing_bound (Took t u ∷ es) b = (use_bound u b.0, passing_bound es b.1)
 passing_bound (Gave q ∷ es) b = passing_bound es b

@@ -71,14 +71,18 @@ abbrev pub IsOneMore : Use → Type 0
 IsOneMore (binds full i) = full ≡ true
 IsOneMore u = ⊥
 
--- what the token stands for in a document that begins with the tokens before it and with it
-pub record StandsFor (form : DocForm) (start : InForce) (ahead : List Token) (t : Token) (u : Use) : Type 0 where
+-- what the token stands for in a tree that begins with the tokens before it and with it
+pub record InTree (form : DocForm) (start : InForce) (ahead : List Token) (t : Token) (u : Use) : Type 0 where
   pub tree : Document form
-  pub bound : Bound (document_events start tree)
   pub front : List Event
   pub rest : List Event
   pub events : document_events start tree ≡ front ++ Took t u ∷ rest
   pub read : tokens front ≡ ahead
+
+-- the same in a document
+pub record StandsFor (form : DocForm) (start : InForce) (ahead : List Token) (t : Token) (u : Use) : Type 0 where
+  pub place : InTree form start ahead t u
+  pub bound : Bound (document_events start place.tree)
 
 -- one bracket more than may be open
 abbrev pub IsDeep : InForce → List Token → Token → Type 0

@@ -3,4 +3,5 @@ pub mod Names
 pub mod Quads
 pub mod Events
 pub mod Documents
+pub mod Refusals
 pub mod Machine

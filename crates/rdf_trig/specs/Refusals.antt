@@ -1,0 +1,40 @@
+-- Why a token is refused behind some tokens that begin a document.
+use Rattle.std.specs.Prelude.{◌≡◌, ◌⊎◌, Bool, List, [], ◌∷◌, ◌++◌, Option, None}
+use Rattle.rdf_terms.specs.declared.kind.Kind.TheVariants.{IriRef, PnameNs, PnameLn}
+use Rattle.rdf_tokens.specs.Tokens.{Token}
+use Rattle.rdf_tokens.specs.Grammars.{Viable, Shaped}
+use Rattle.rdf_iri.specs.Scope.{InForce}
+use Rattle.rdf_trig.specs.declared.form.DocForm.{DocForm}
+use Rattle.rdf_trig.specs.Events.{Use, stands, binds}
+use Rattle.rdf_trig.specs.Documents.{documents, trees, InTree, StandsFor, IsDeep, IsLong, IsOneMore}
+
+pub data Refusal : Type 0 where
+  unexpected : Refusal
+  too_deep : Refusal
+  unbound : Refusal
+  no_base : Refusal
+  iri_too_long : Refusal
+  too_many_bindings : Refusal
+
+-- with the token no document begins so, but some tree does
+pub record Excluded (form : DocForm) (start : InForce) (ahead : List Token) (t : Token) : Type 0 where
+  pub shaped : Shaped (trees form start) (ahead ++ t ∷ [])
+  pub excluded : Viable (documents form start) (ahead ++ t ∷ []) → ⊥
+
+-- a prefixed name whose prefix is not bound in the scope at its place
+abbrev pub IsUnbound : DocForm → InForce → List Token → Token → Type 0
+IsUnbound form start ahead t = ((t.kind ≡ PnameLn) ⊎ (t.kind ≡ PnameNs)) × InTree form start ahead t (stands None)
+
+-- an IRIREF that needs a base, where none is in force
+abbrev pub IsBaseless : DocForm → InForce → List Token → Token → Type 0
+IsBaseless form start ahead t = (t.kind ≡ IriRef) × (InTree form start ahead t (stands None) ⊎ ((full : Bool) × InTree form start ahead t (binds full None)))
+
+-- The token is unexpected where no tree has it behind those before it. A name or reference that stands for nothing is in some tree, and in no document.
+-- A token that passes a limit is in some document.
+abbrev pub RefusedFor : DocForm → InForce → List Token → Token → Refusal → Type 0
+RefusedFor form start ahead t unexpected = Shaped (trees form start) (ahead ++ t ∷ []) → ⊥
+RefusedFor form start ahead t unbound = Excluded form start ahead t × IsUnbound form start ahead t
+RefusedFor form start ahead t no_base = Excluded form start ahead t × IsBaseless form start ahead t
+RefusedFor form start ahead t too_deep = Viable (documents form start) (ahead ++ t ∷ []) × IsDeep start ahead t
+RefusedFor form start ahead t iri_too_long = (u : Use) × StandsFor form start ahead t u × IsLong start.limits u
+RefusedFor form start ahead t too_many_bindings = (u : Use) × StandsFor form start ahead t u × IsOneMore u
