@@ -8,3 +8,4 @@ mod Lag
 mod Accepted
 mod StepFacts
 mod Senses
+mod Refused

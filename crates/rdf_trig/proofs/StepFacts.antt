@@ -218,7 +218,7 @@ step_facts form c (Semi s a) k l = semi_facts c s a k l
 step_facts form c (AfterBox s v) k l = after_box_facts c s v k l
 
 -- As many brackets are open as the tokens have opened and not closed.
-reached_depth : (strict : Bool) (form : DocForm) (ts : List Token) (c : Setting) (m : Mode) (s : Stand) → reach strict form c m ts ≡ Some s → opened ts + depth m ≡ closed ts + depth s.mode
+pub reached_depth : (strict : Bool) (form : DocForm) (ts : List Token) (c : Setting) (m : Mode) (s : Stand) → reach strict form c m ts ≡ Some s → opened ts + depth m ≡ closed ts + depth s.mode
 reached_depth strict form [] c m s e = let z : stand c m ≡ s = cc in ap (λ x. 0 + depth (Stand.mode x)) z
 reached_depth strict form (t ∷ ts) c m s e = by (step form c m t.kind (leaf_of t)) (step_facts form c m t.kind (leaf_of t)) (λ c' m' h. reached_depth strict form ts c' m' s h) e
   where
