@@ -223,9 +223,6 @@ refused_for form start ts t s x e a = by x (why s.setting.scope.limits s t.kind 
     stood : (u : Use) → has_iri u ≡ true → Went (step form s.setting s.mode t.kind (leaf_of t)) u → StandsFor form start ts t u
     stood u h (early, now, c, m, n) = stands_for form start ts t (place s) u early now c m e n h
 
-    viable : (u : Use) → has_iri u ≡ true → Went (step form s.setting s.mode t.kind (leaf_of t)) u → Viable (documents form start) (ts ++ t ∷ [])
-    viable u h (early, now, c, m, n) = reached_viable form start (ts ++ t ∷ []) (stand c m) (goes_on form start ts t (place s) u early now c m e n h)
-
     limits : s.setting.scope.limits ≡ start.limits
     limits = same_limits form start ts (place s) e
 
@@ -241,6 +238,6 @@ refused_for form start ts t s x e a = by x (why s.setting.scope.limits s t.kind 
         let d : s.setting.scope.limits.depth ≤ depth s.mode = leb-true _ _ p.1 in
         let m : s.setting.scope.limits.depth ≡ start.limits.depth = ap (λ y. y.depth) limits in
         let z : open_in (ts ++ t ∷ []) ≡ depth s.mode + 1 = depth_with form ts t start (place s) e o.0 o.1 in
-        (viable w.1.0 (deep_use s.setting.scope t.kind (leaf_of t) w.1.0 p.0 (used w.1.0 w.1.1)) w.1.1, (o.0, omega (arith, d, m, z)))
+        (w.1.0, stood w.1.0 (deep_use s.setting.scope t.kind (leaf_of t) w.1.0 p.0 (used w.1.0 w.1.1)) w.1.1, (o.0, omega (arith, d, m, z)))
     by iri_too_long w = (w.0, stood w.0 w.1 w.2, subst (λ y. IsLong y w.0) limits w.3)
     by too_many_bindings w = (w.0, stood w.0 w.1 w.2, w.3)

@@ -17,10 +17,11 @@ use Rattle.rdf_trig.specs.Names.{prefix_of, reference_in, name_in, prefixed_in, 
 use Rattle.rdf_trig.specs.Quads.{Setting, in_default, in_graph, stated, named, node, resource, anon_at, labelled, blank_of, verb_of, short_value, long_value, lexical, tag_of, language, plain_literal, tagged_literal, typed_literal, literal_of, iri_leaf, string_leaf, literal_leaf, object_leaf, cell_at, cell_of, items_of, collection_of, list_of, object_of, subject_of, label_of, rest_quad}
 use Rattle.rdf_trig.specs.Events.{Use, itself, stands, binds, Event, Took, Gave, take, name, give, prefixed_events, iri_events, verb_events, string_events, tag_events, blank_object_events, literal_events, object_quad, object_events, collection_events, items_events, rest_events, list_events, predicates_events, more_events, objects_events, commas_events, subject_events, maybe_events, triples_events, binding, directive_events, label_events, block_events, maybe_block_events, wrapped_events, trig_events, body_events, document_events, tokens, marked, HasIri, Bound, BoundFront}
 use Rattle.rdf_trig.specs.Machine.{Level, Top, InBlock, Place, Listed, InCells, Around, Statement, Boxed, Up, Subject, At, Spelling, Dotted, Sparql, Mode, Start, Over, WantPrefix, WantPrefixIri, WantBaseIri, WantDot, AfterLabel, GraphWord, GraphBox, WantBrace, Inside, Want, After, AfterText, WantType, Box, Paren, WantVerb, Semi, AfterBox, Reply, No, Go, goes, cell, subject_at, verb_at, quad_at, quad_up, nil, iri_object_at, literal_at, object_start, type_at, want_type, verb_is, verb_start, after_subject, node_closed, box_closed, list_closed, list_end, semi, after, tag_at, after_text, box, paren, after_box, subject_is, subject_start, start, inside, want_brace, after_label, graph_is, graph_word, graph_box, directive_end, want_prefix, want_prefix_iri, want_base_iri, want_dot, step, waiting, fronted, put, stop, go_on, run}
-use Rattle.rdf_trig.specs.Documents.{InTree, StandsFor}
+use Rattle.rdf_tokens.specs.Grammars.{Viable}
+use Rattle.rdf_trig.specs.Documents.{documents, InTree, StandsFor}
 use Rattle.rdf_trig.proofs.Sound.{unput}
 use Rattle.rdf_trig.proofs.Completions.{has_iri, passes}
-use Rattle.rdf_trig.proofs.Reached.{Stand, stand, reach, on_reply, if_true, run_tree, Begins, reached_begins, reach-snoc, and_on, passing_bound, goes_on, lax}
+use Rattle.rdf_trig.proofs.Reached.{Stand, stand, reach, on_reply, if_true, run_tree, Begins, reached_begins, reach-snoc, and_on, passing_bound, bound_passing, begins_viable, goes_on, lax}
 
 -- what the token of this number, from 0, stands for
 abbrev pub sense_at : ℕ → List Event → Option Use
@@ -122,3 +123,11 @@ stands_for form start ts t s u early now c m e n h =
     let b = reached_begins true form (ts ++ t ∷ []) start (stand c m) (goes_on form start ts t s u early now c m e n h) in
     let p = placed true form start ts t s u early now c m e n b in
     record { place = p.0; bound = subst (λ d. Bound (document_events start d)) (sym p.1) (passing_bound (document_events start b.0) b.3) }
+
+-- the tokens before it begin a document with it
+pub stands_viable : (form : DocForm) (start : InForce) (ts : List Token) (t : Token) (u : Use) → StandsFor form start ts t u → Viable (documents form start) (ts ++ t ∷ [])
+stands_viable form start ts t u p =
+    let x = p.place in
+    let told : tokens (document_events start x.tree) ≡ (ts ++ t ∷ []) ++ tokens x.rest =
+    ap tokens x.events ∙ tokens_behind x.front t u x.rest ∙ ap (λ y. y ++ t ∷ tokens x.rest) x.read ∙ sym (append_assoc ts (t ∷ []) (tokens x.rest)) in
+    begins_viable form start (ts ++ t ∷ []) (x.tree, tokens x.rest, told, bound_passing (document_events start x.tree) p.bound)

@@ -29,10 +29,15 @@ IsUse s PnameLn l u = u ≡ stands (name_in s l)
 IsUse s PnameNs l u = (u ≡ stands (name_in s l)) ⊎ (u ≡ itself)
 IsUse s k l u = u ≡ itself
 
+-- no quad's head ends with the end of the input
+abbrev pub Quiet : Mode → Option Quad → Option Quad → Type 0
+Quiet Over early now = (early ≡ None) × (now ≡ None)
+Quiet m early now = Unit {0}
+
 -- the facts of a reply, where n brackets are open
 abbrev pub Facts : ℕ → InForce → Kind → Leaf → Reply → Type 0
 Facts n s k l No = Unit {0}
-Facts n s k l (Go u early now c m) = (depth m + closes k ≡ n + opens k) × IsUse s k l u × (c.scope.limits ≡ s.limits)
+Facts n s k l (Go u early now c m) = (depth m + closes k ≡ n + opens k) × IsUse s k l u × (c.scope.limits ≡ s.limits) × Quiet m early now
 
 with_base_limits : (s : InForce) (i : Option (List ℕ)) → (with_base s i).limits ≡ s.limits
 with_base_limits s None = refl
@@ -42,27 +47,44 @@ with_binding_limits : (s : InForce) (p : List ℕ) (i : Option (List ℕ)) → (
 with_binding_limits s p None = refl
 with_binding_limits s p (Some i) = refl
 
+box_quiet : (u : Up) (s : Option term.Subject) → Quiet (box_closed u s) None None
+box_quiet (Subject v) s = tt
+box_quiet (At p) s = tt
+
+list_quiet : (u : Up) (s : Option term.Subject) (early now : Option Quad) → Quiet (list_closed u s) early now
+list_quiet (Subject v) s early now = tt
+list_quiet (At p) s early now = tt
+
+subject_quiet : (form : DocForm) (v : Level) (s : Option term.Subject) → Quiet (after_subject form v s) None None
+subject_quiet form InBlock s = tt
+subject_quiet Turtle Top s = tt
+subject_quiet TriG Top s = tt
+
+node_quiet : (form : DocForm) (u : Up) (s : Option term.Subject) → Quiet (node_closed form u s) None None
+node_quiet form (Subject v) s = subject_quiet form v s
+node_quiet form (At p) s = tt
+
 object_facts : (c : Setting) (p : Place) (early : Option Quad) (k : Kind) (l : Leaf) → Facts (depth_at p) c.scope k l (object_start c p early k l)
-object_facts c p early IriRef l = (refl, inl refl, refl)
-object_facts c p early PnameLn l = (refl, refl, refl)
-object_facts c p early PnameNs l = (refl, inl refl, refl)
-object_facts c p early LabelNode l = (refl, refl, refl)
-object_facts c p early ShortString l = (refl, refl, refl)
-object_facts c p early LongString l = (refl, refl, refl)
-object_facts c p early Integer l = (refl, refl, refl)
-object_facts c p early Decimal l = (refl, refl, refl)
-object_facts c p early Double l = (refl, refl, refl)
-object_facts c p early True l = (refl, refl, refl)
-object_facts c p early False l = (refl, refl, refl)
-object_facts c p early OpenBracket l = (omega arith, refl, refl)
-object_facts c p early OpenParen l = (omega arith, refl, refl)
+object_facts c p early IriRef l = (refl, inl refl, refl, tt)
+object_facts c p early PnameLn l = (refl, refl, refl, tt)
+object_facts c p early PnameNs l = (refl, inl refl, refl, tt)
+object_facts c p early LabelNode l = (refl, refl, refl, tt)
+object_facts c p early ShortString l = (refl, refl, refl, tt)
+object_facts c p early LongString l = (refl, refl, refl, tt)
+object_facts c p early Integer l = (refl, refl, refl, tt)
+object_facts c p early Decimal l = (refl, refl, refl, tt)
+object_facts c p early Double l = (refl, refl, refl, tt)
+object_facts c p early True l = (refl, refl, refl, tt)
+object_facts c p early False l = (refl, refl, refl, tt)
+object_facts c p early OpenBracket l = (omega arith, refl, refl, tt)
+object_facts c p early OpenParen l = (omega arith, refl, refl, tt)
 object_facts c p early k l = tt
 
 verb_facts : (c : Setting) (s : Option term.Subject) (a : Around) (k : Kind) (l : Leaf) → Facts (depth_around a) c.scope k l (verb_start c s a k l)
-verb_facts c s a IriRef l = (refl, inl refl, refl)
-verb_facts c s a PnameLn l = (refl, refl, refl)
-verb_facts c s a PnameNs l = (refl, inl refl, refl)
-verb_facts c s a A l = (refl, refl, refl)
+verb_facts c s a IriRef l = (refl, inl refl, refl, tt)
+verb_facts c s a PnameLn l = (refl, refl, refl, tt)
+verb_facts c s a PnameNs l = (refl, inl refl, refl, tt)
+verb_facts c s a A l = (refl, refl, refl, tt)
 verb_facts c s a k l = tt
 
 box_depth : (u : Up) (s : Option term.Subject) → depth (box_closed u s) ≡ depth_up u
@@ -83,16 +105,16 @@ node_depth form (Subject v) s = subject_depth form v s
 node_depth form (At p) s = refl
 
 end_facts : (c : Setting) (s : Option term.Subject) (a : Around) (k : Kind) (l : Leaf) → Facts (depth_around a) c.scope k l (list_end c s a k l)
-end_facts c s (Statement Top) Dot l = (refl, refl, refl)
-end_facts c s (Statement InBlock) Dot l = (refl, refl, refl)
-end_facts c s (Statement InBlock) CloseBrace l = (refl, refl, refl)
-end_facts c s (Boxed u) CloseBracket l = (omega (arith, box_depth u s), refl, refl)
+end_facts c s (Statement Top) Dot l = (refl, refl, refl, tt)
+end_facts c s (Statement InBlock) Dot l = (refl, refl, refl, tt)
+end_facts c s (Statement InBlock) CloseBrace l = (refl, refl, refl, tt)
+end_facts c s (Boxed u) CloseBracket l = (omega (arith, box_depth u s), refl, refl, box_quiet u s)
 end_facts c s (Statement Top) k l = tt
 end_facts c s (Statement InBlock) k l = tt
 end_facts c s (Boxed u) k l = tt
 
 semi_facts : (c : Setting) (s : Option term.Subject) (a : Around) (k : Kind) (l : Leaf) → Facts (depth_around a) c.scope k l (semi c s a k l)
-semi_facts c s a Semicolon l = (refl, refl, refl)
+semi_facts c s a Semicolon l = (refl, refl, refl, tt)
 semi_facts c s a IriRef l = verb_facts c s a IriRef l
 semi_facts c s a PnameLn l = verb_facts c s a PnameLn l
 semi_facts c s a PnameNs l = verb_facts c s a PnameNs l
@@ -100,31 +122,31 @@ semi_facts c s a A l = verb_facts c s a A l
 semi_facts c s a k l = end_facts c s a k l
 
 after_facts : (c : Setting) (p : Place) (k : Kind) (l : Leaf) → Facts (depth_at p) c.scope k l (after c p k l)
-after_facts c (Listed s p a) Comma l = (refl, refl, refl)
-after_facts c (Listed s p a) Semicolon l = (refl, refl, refl)
+after_facts c (Listed s p a) Comma l = (refl, refl, refl, tt)
+after_facts c (Listed s p a) Semicolon l = (refl, refl, refl, tt)
 after_facts c (Listed s p a) k l = end_facts c s a k l
-after_facts c (InCells f n u) CloseParen l = (omega (arith, list_depth u (cell f)), refl, refl)
+after_facts c (InCells f n u) CloseParen l = (omega (arith, list_depth u (cell f)), refl, refl, list_quiet u (cell f) None (rest_quad c (Cell n) nil))
 after_facts c (InCells f n u) k l = object_facts c (InCells f l.at.offset u) (rest_quad c (Cell n) (Blank (cell_at l))) k l
 
 text_facts : (c : Setting) (w : List ℕ) (p : Place) (k : Kind) (l : Leaf) → Facts (depth_at p) c.scope k l (after_text c w p k l)
-text_facts c w p LangTag l = (refl, refl, refl)
-text_facts c w p AtBase l = (refl, refl, refl)
-text_facts c w p AtPrefix l = (refl, refl, refl)
-text_facts c w p Carets l = (refl, refl, refl)
+text_facts c w p LangTag l = (refl, refl, refl, tt)
+text_facts c w p AtBase l = (refl, refl, refl, tt)
+text_facts c w p AtPrefix l = (refl, refl, refl, tt)
+text_facts c w p Carets l = (refl, refl, refl, tt)
 text_facts c w p k l = after_facts c p k l
 
 type_facts : (c : Setting) (w : List ℕ) (p : Place) (k : Kind) (l : Leaf) → Facts (depth_at p) c.scope k l (want_type c w p k l)
-type_facts c w p IriRef l = (refl, inl refl, refl)
-type_facts c w p PnameLn l = (refl, refl, refl)
-type_facts c w p PnameNs l = (refl, inl refl, refl)
+type_facts c w p IriRef l = (refl, inl refl, refl, tt)
+type_facts c w p PnameLn l = (refl, refl, refl, tt)
+type_facts c w p PnameNs l = (refl, inl refl, refl, tt)
 type_facts c w p k l = tt
 
 box_facts : (form : DocForm) (c : Setting) (n : ℕ) (u : Up) (k : Kind) (l : Leaf) → Facts (depth_up u + 1) c.scope k l (box form c n u k l)
-box_facts form c n u CloseBracket l = (omega (arith, node_depth form u (node (Anon n))), refl, refl)
+box_facts form c n u CloseBracket l = (omega (arith, node_depth form u (node (Anon n))), refl, refl, node_quiet form u (node (Anon n)))
 box_facts form c n u k l = verb_facts c (node (Anon n)) (Boxed u) k l
 
 paren_facts : (c : Setting) (u : Up) (k : Kind) (l : Leaf) → Facts (depth_up u + 1) c.scope k l (paren c u k l)
-paren_facts c u CloseParen l = (omega (arith, list_depth u (Some nil)), refl, refl)
+paren_facts c u CloseParen l = (omega (arith, list_depth u (Some nil)), refl, refl, list_quiet u (Some nil) None None)
 paren_facts c u k l = object_facts c (InCells l.at.offset l.at.offset u) None k l
 
 after_box_facts : (c : Setting) (s : Option term.Subject) (v : Level) (k : Kind) (l : Leaf) → Facts 0 c.scope k l (after_box c s v k l)
@@ -135,64 +157,64 @@ after_box_facts c s v A l = verb_facts c s (Statement v) A l
 after_box_facts c s v k l = end_facts c s (Statement v) k l
 
 subject_facts : (form : DocForm) (c : Setting) (v : Level) (k : Kind) (l : Leaf) → Facts 0 c.scope k l (subject_start form c v k l)
-subject_facts form c v IriRef l = (omega (arith, subject_depth form v (named (reference_in c.scope l))), inl refl, refl)
-subject_facts form c v PnameLn l = (omega (arith, subject_depth form v (named (name_in c.scope l))), refl, refl)
-subject_facts form c v PnameNs l = (omega (arith, subject_depth form v (named (name_in c.scope l))), inl refl, refl)
-subject_facts form c v LabelNode l = (omega (arith, subject_depth form v (node (labelled l))), refl, refl)
-subject_facts form c v OpenBracket l = (refl, refl, refl)
-subject_facts form c v OpenParen l = (refl, refl, refl)
+subject_facts form c v IriRef l = (omega (arith, subject_depth form v (named (reference_in c.scope l))), inl refl, refl, subject_quiet form v (named (reference_in c.scope l)))
+subject_facts form c v PnameLn l = (omega (arith, subject_depth form v (named (name_in c.scope l))), refl, refl, subject_quiet form v (named (name_in c.scope l)))
+subject_facts form c v PnameNs l = (omega (arith, subject_depth form v (named (name_in c.scope l))), inl refl, refl, subject_quiet form v (named (name_in c.scope l)))
+subject_facts form c v LabelNode l = (omega (arith, subject_depth form v (node (labelled l))), refl, refl, subject_quiet form v (node (labelled l)))
+subject_facts form c v OpenBracket l = (refl, refl, refl, tt)
+subject_facts form c v OpenParen l = (refl, refl, refl, tt)
 subject_facts form c v k l = tt
 
 start_facts : (form : DocForm) (c : Setting) (k : Kind) (l : Leaf) → Facts 0 c.scope k l (start form c k l)
-start_facts form c End l = (refl, refl, refl)
-start_facts form c AtPrefix l = (refl, refl, refl)
-start_facts form c Prefix l = (refl, refl, refl)
-start_facts form c AtBase l = (refl, refl, refl)
-start_facts form c Base l = (refl, refl, refl)
-start_facts TriG c Graph l = (refl, refl, refl)
-start_facts TriG c OpenBrace l = (refl, refl, refl)
+start_facts form c End l = (refl, refl, refl, (refl, refl))
+start_facts form c AtPrefix l = (refl, refl, refl, tt)
+start_facts form c Prefix l = (refl, refl, refl, tt)
+start_facts form c AtBase l = (refl, refl, refl, tt)
+start_facts form c Base l = (refl, refl, refl, tt)
+start_facts TriG c Graph l = (refl, refl, refl, tt)
+start_facts TriG c OpenBrace l = (refl, refl, refl, tt)
 start_facts form c k l = subject_facts form (in_default c.scope) Top k l
 
 inside_facts : (form : DocForm) (c : Setting) (k : Kind) (l : Leaf) → Facts 0 c.scope k l (inside form c k l)
-inside_facts form c CloseBrace l = (refl, refl, refl)
+inside_facts form c CloseBrace l = (refl, refl, refl, tt)
 inside_facts form c k l = subject_facts form c InBlock k l
 
 brace_facts : (c : Setting) (g : Option term.Subject) (k : Kind) (l : Leaf) → Facts 0 c.scope k l (want_brace c g k l)
-brace_facts c g OpenBrace l = (refl, refl, refl)
+brace_facts c g OpenBrace l = (refl, refl, refl, tt)
 brace_facts c g k l = tt
 
 label_facts : (c : Setting) (g : Option term.Subject) (k : Kind) (l : Leaf) → Facts 0 c.scope k l (after_label c g k l)
-label_facts c g OpenBrace l = (refl, refl, refl)
+label_facts c g OpenBrace l = (refl, refl, refl, tt)
 label_facts c g k l = verb_facts c g (Statement Top) k l
 
 graph_facts : (c : Setting) (k : Kind) (l : Leaf) → Facts 0 c.scope k l (graph_word c k l)
-graph_facts c IriRef l = (refl, inl refl, refl)
-graph_facts c PnameLn l = (refl, refl, refl)
-graph_facts c PnameNs l = (refl, inl refl, refl)
-graph_facts c LabelNode l = (refl, refl, refl)
-graph_facts c OpenBracket l = (refl, refl, refl)
+graph_facts c IriRef l = (refl, inl refl, refl, tt)
+graph_facts c PnameLn l = (refl, refl, refl, tt)
+graph_facts c PnameNs l = (refl, inl refl, refl, tt)
+graph_facts c LabelNode l = (refl, refl, refl, tt)
+graph_facts c OpenBracket l = (refl, refl, refl, tt)
 graph_facts c k l = tt
 
 graph_box_facts : (c : Setting) (n : ℕ) (k : Kind) (l : Leaf) → Facts 1 c.scope k l (graph_box c n k l)
-graph_box_facts c n CloseBracket l = (refl, refl, refl)
+graph_box_facts c n CloseBracket l = (refl, refl, refl, tt)
 graph_box_facts c n k l = tt
 
 prefix_facts : (c : Setting) (w : Spelling) (k : Kind) (l : Leaf) → Facts 0 c.scope k l (want_prefix c w k l)
-prefix_facts c w PnameNs l = (refl, inr refl, refl)
+prefix_facts c w PnameNs l = (refl, inr refl, refl, tt)
 prefix_facts c w k l = tt
 
 prefix_iri_facts : (c : Setting) (w : Spelling) (p : List ℕ) (k : Kind) (l : Leaf) → Facts 0 c.scope k l (want_prefix_iri c w p k l)
-prefix_iri_facts c Dotted p IriRef l = (refl, inr (p, refl), with_binding_limits c.scope p (reference_in c.scope l))
-prefix_iri_facts c Sparql p IriRef l = (refl, inr (p, refl), with_binding_limits c.scope p (reference_in c.scope l))
+prefix_iri_facts c Dotted p IriRef l = (refl, inr (p, refl), with_binding_limits c.scope p (reference_in c.scope l), tt)
+prefix_iri_facts c Sparql p IriRef l = (refl, inr (p, refl), with_binding_limits c.scope p (reference_in c.scope l), tt)
 prefix_iri_facts c w p k l = tt
 
 base_iri_facts : (c : Setting) (w : Spelling) (k : Kind) (l : Leaf) → Facts 0 c.scope k l (want_base_iri c w k l)
-base_iri_facts c Dotted IriRef l = (refl, inl refl, with_base_limits c.scope (reference_in c.scope l))
-base_iri_facts c Sparql IriRef l = (refl, inl refl, with_base_limits c.scope (reference_in c.scope l))
+base_iri_facts c Dotted IriRef l = (refl, inl refl, with_base_limits c.scope (reference_in c.scope l), tt)
+base_iri_facts c Sparql IriRef l = (refl, inl refl, with_base_limits c.scope (reference_in c.scope l), tt)
 base_iri_facts c w k l = tt
 
 dot_facts : (c : Setting) (k : Kind) (l : Leaf) → Facts 0 c.scope k l (want_dot c k l)
-dot_facts c Dot l = (refl, refl, refl)
+dot_facts c Dot l = (refl, refl, refl, tt)
 dot_facts c k l = tt
 
 pub step_facts : (form : DocForm) (c : Setting) (m : Mode) (k : Kind) (l : Leaf) → Facts (depth m) c.scope k l (step form c m k l)

@@ -35,6 +35,6 @@ abbrev pub RefusedFor : DocForm → InForce → List Token → Token → Refusal
 RefusedFor form start ahead t unexpected = Shaped (trees form start) (ahead ++ t ∷ []) → ⊥
 RefusedFor form start ahead t unbound = Excluded form start ahead t × IsUnbound form start ahead t
 RefusedFor form start ahead t no_base = Excluded form start ahead t × IsBaseless form start ahead t
-RefusedFor form start ahead t too_deep = Viable (documents form start) (ahead ++ t ∷ []) × IsDeep start ahead t
+RefusedFor form start ahead t too_deep = (u : Use) × StandsFor form start ahead t u × IsDeep start ahead t
 RefusedFor form start ahead t iri_too_long = (u : Use) × StandsFor form start ahead t u × IsLong start.limits u
 RefusedFor form start ahead t too_many_bindings = (u : Use) × StandsFor form start ahead t u × IsOneMore u
