@@ -9,3 +9,4 @@ mod Accepted
 mod StepFacts
 mod Senses
 mod Refused
+mod Exact
