@@ -22,6 +22,7 @@ use Rattle.rdf_trig.specs.Events.{Use, itself, stands, binds, Event, Took, Gave,
 use Rattle.rdf_trig.specs.Machine.{Level, Top, InBlock, Place, Listed, InCells, Around, Statement, Boxed, Up, Subject, At, Spelling, Dotted, Sparql, Mode, Start, Over, WantPrefix, WantPrefixIri, WantBaseIri, WantDot, AfterLabel, GraphWord, GraphBox, WantBrace, Inside, Want, After, AfterText, WantType, Box, Paren, WantVerb, Semi, AfterBox, Reply, No, Go, goes, cell, subject_at, verb_at, quad_at, quad_up, nil, iri_object_at, literal_at, object_start, type_at, want_type, verb_is, verb_start, after_subject, node_closed, box_closed, list_closed, list_end, semi, after, tag_at, after_text, box, paren, after_box, subject_is, subject_start, start, inside, want_brace, after_label, graph_is, graph_word, graph_box, directive_end, want_prefix, want_prefix_iri, want_base_iri, want_dot, step, waiting, fronted, put, stop, go_on, run}
 use Rattle.rdf_trig.specs.Refusals.{Refusal, unexpected, too_deep, unbound, no_base, iri_too_long, too_many_bindings}
 use Rattle.rdf_trig.specs.Machine.{kept, State, Answer, refuses, accepts, unnamed, too_long, by_use, deepens, by_depth, answer, accept, at_start, Run, ran, refused, with_quads, go, accept_all, depth, depth_at, depth_around, depth_up}
+use Rattle.rdf_trig.specs.Laws.{Rises}
 use Rattle.rdf_trig.proofs.Complete.{document_good}
 use Rattle.rdf_trig.proofs.Sound.{unput}
 use Rattle.rdf_trig.proofs.Reached.{run_tree}
@@ -43,11 +44,6 @@ before_due es zero k j e = before_none es j k (omega arith)
 before_due [] (suc n) k j e = refl
 before_due (Took t u ∷ es) (suc n) k j e = before_due es n (k + 1) j (omega arith)
 before_due (Gave q ∷ es) (suc n) k j e = cond-true (nat_lt k j) _ _ (lt-ltb _ _ (omega arith)) ∙ ap (λ x. q ∷ x) (before_due es (suc n) k j e)
-
--- the marks are at least n, and none is below the one before it
-abbrev pub Rises : ℕ → List Marked → Type 0
-Rises n [] = Unit {0}
-Rises n (q ∷ qs) = (n ≤ q.mark) × Rises q.mark qs
 
 rises_from : (qs : List Marked) (m n : ℕ) → m ≤ n → Rises n qs → Rises m qs
 rises_from [] m n l r = tt

@@ -10,3 +10,5 @@ mod StepFacts
 mod Senses
 mod Refused
 mod Exact
+mod Bounds
+mod NamesLemmas

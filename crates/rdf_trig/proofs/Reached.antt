@@ -126,7 +126,7 @@ passing_bound [] b = tt
 passing_bound (Took t u ∷ es) b = (use_bound u b.0, passing_bound es b.1)
 passing_bound (Gave q ∷ es) b = passing_bound es b
 
-any_passing : (es : List Event) → Passing false es
+pub any_passing : (es : List Event) → Passing false es
 any_passing [] = tt
 any_passing (Took t u ∷ es) = (refl, any_passing es)
 any_passing (Gave q ∷ es) = any_passing es

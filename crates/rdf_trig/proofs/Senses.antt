@@ -39,7 +39,7 @@ sense_behind [] t u rest = refl
 sense_behind (Took x v ∷ front) t u rest = sense_behind front t u rest
 sense_behind (Gave q ∷ front) t u rest = sense_behind front t u rest
 
-tokens_behind : (front : List Event) (t : Token) (u : Use) (rest : List Event) → tokens (front ++ Took t u ∷ rest) ≡ tokens front ++ t ∷ tokens rest
+pub tokens_behind : (front : List Event) (t : Token) (u : Use) (rest : List Event) → tokens (front ++ Took t u ∷ rest) ≡ tokens front ++ t ∷ tokens rest
 tokens_behind [] t u rest = refl
 tokens_behind (Took x v ∷ front) t u rest = ap (λ y. x ∷ y) (tokens_behind front t u rest)
 tokens_behind (Gave q ∷ front) t u rest = tokens_behind front t u rest

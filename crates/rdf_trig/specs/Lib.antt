@@ -5,3 +5,4 @@ pub mod Events
 pub mod Documents
 pub mod Refusals
 pub mod Machine
+pub mod Laws

@@ -1,0 +1,123 @@
+-- The laws of the definitions, and of the machine against them.
+use Rattle.std.specs.Prelude.{◌≡◌, ◌≤◌, ℕ, Bool, true, false, List, [], ◌∷◌, ◌++◌, length, codes, Option, Some, None}
+use Rattle.std.specs.List.{All}
+use Rattle.rdf_terms.specs.declared.kind.Kind.{Kind}
+use Rattle.rdf_terms.specs.declared.kind.Kind.TheVariants.{IriRef, PnameNs, Dot, CloseBracket, CloseParen, OpenBrace, CloseBrace, End}
+use Rattle.rdf_terms.specs.Terms.{Quad, has_scheme}
+use Rattle.rdf_tokens.specs.Tokens.{Token}
+use Rattle.rdf_tokens.specs.Grammars.{Marked, unmarked, Viable, Shaped, Due, PassesNone, IsFront}
+use Rattle.rdf_iri.specs.Scope.{InForce, bound_to, Binds}
+use Rattle.rdf_lines.specs.Lines.{Leaf, leaf_of, iri_of}
+use Rattle.rdf_trig.specs.declared.form.DocForm.{DocForm}
+use Rattle.rdf_trig.specs.Trees.{Document, document_tokens}
+use Rattle.rdf_trig.specs.Names.{reference_in, name_in, prefix_of, with_binding}
+use Rattle.rdf_trig.specs.Quads.{document_quads}
+use Rattle.rdf_trig.specs.Events.{Use, Event, tokens, marked, document_events, BoundFront}
+use Rattle.rdf_trig.specs.Documents.{documents, trees, InTree, Passes}
+use Rattle.rdf_trig.specs.Refusals.{Refusal, RefusedFor}
+use Rattle.rdf_trig.specs.Machine.{Over, State, Answer, accepts, refuses, accept, at_start, ran, accept_all}
+
+-- The events of a tree have the tokens that it derives, and its quads with their marks.
+abbrev pub EventsTellTheTree : Type 0
+EventsTellTheTree = (form : DocForm) (start : InForce) (d : Document form) →
+    (tokens (document_events start d) ≡ document_tokens d) × (marked 0 (document_events start d) ≡ document_quads start 0 d)
+
+-- the marks are at least n, and none is below the one before it
+abbrev pub Rises : ℕ → List Marked → Type 0
+Rises n [] = Unit {0}
+Rises n (q ∷ qs) = (n ≤ q.mark) × Rises q.mark qs
+
+abbrev pub MarksNeverFall : Type 0
+MarksNeverFall = (form : DocForm) (start : InForce) (d : Document form) → Rises 0 (document_quads start 0 d)
+
+-- Every tree of the same tokens has the same quads with the same marks.
+abbrev pub TokensSettleTheQuads : Type 0
+TokensSettleTheQuads = (form : DocForm) (start : InForce) (ts : List Token) (qs rs : List Marked) → trees form start ts qs → trees form start ts rs → qs ≡ rs
+
+-- What is due behind some tokens is the same in every document that begins with them.
+abbrev pub TokensSettleWhatIsDue : Type 0
+TokensSettleWhatIsDue = (form : DocForm) (start : InForce) (ts : List Token) (qs rs : List Quad) → Due (documents form start) ts qs → Due (documents form start) ts rs → qs ≡ rs
+
+-- What a token stands for is the same in every tree that begins with the tokens before it and with it.
+abbrev pub TokensSettleTheirSenses : Type 0
+TokensSettleTheirSenses = (form : DocForm) (start : InForce) (ahead : List Token) (t : Token) (u v : Use) → InTree form start ahead t u → InTree form start ahead t v → u ≡ v
+
+-- some tree begins with the tokens, and each name and reference among them stands for an IRI in the scope that the start and the directives among them give
+pub record ShapedAndBound (form : DocForm) (start : InForce) (ts : List Token) : Type 0 where
+  pub tree : Document form
+  pub more : List Token
+  pub tokens : ts ++ more ≡ document_tokens tree
+  pub bound : BoundFront (length ts) (document_events start tree)
+
+-- Tokens begin a document exactly where they begin a tree with their names bound by what stands before, and then they are bound in every such tree.
+pub record ViableWhereBound (form : DocForm) (start : InForce) (ts : List Token) : Type 0 where
+  pub bound : Viable (documents form start) ts → ShapedAndBound form start ts
+  pub viable : ShapedAndBound form start ts → Viable (documents form start) ts
+  pub every : Viable (documents form start) ts → (tree : Document form) (more : List Token) → ts ++ more ≡ document_tokens tree → BoundFront (length ts) (document_events start tree)
+
+abbrev pub ViableIsShapedAndBound : Type 0
+ViableIsShapedAndBound = (form : DocForm) (start : InForce) (ts : List Token) → ViableWhereBound form start ts
+
+-- the tokens of which completions are made
+abbrev pub closing_text : Kind → Option (List ℕ)
+closing_text PnameNs = Some (codes ":")
+closing_text IriRef = Some (codes "<a:>")
+closing_text OpenBrace = Some (codes "{")
+closing_text CloseBrace = Some (codes "}")
+closing_text CloseBracket = Some (codes "]")
+closing_text CloseParen = Some (codes ")")
+closing_text Dot = Some (codes ".")
+closing_text End = Some []
+closing_text k = None
+
+abbrev pub IsClosing : Token → Type 0
+IsClosing t = closing_text t.kind ≡ Some t.text
+
+-- Tokens that begin a document are completed to one by such tokens, and tokens that begin a tree, to a tree. They need no binding and no base.
+abbrev pub CompletedBy : (List Token → List Marked → Type 0) → List Token → Type 0
+CompletedBy documents ts = (more : List Token) × (qs : List Marked) × All IsClosing more × documents (ts ++ more) qs
+
+abbrev pub BeginningsAreCompleted : Type 0
+BeginningsAreCompleted = (form : DocForm) (start : InForce) (ts : List Token) →
+    (Viable (documents form start) ts → CompletedBy (documents form start) ts) × (Shaped (trees form start) ts → CompletedBy (trees form start) ts)
+
+-- A name stands for nothing exactly where its prefix is not bound, and a reference where it has no scheme and there is no base.
+pub record NamelessWhere (s : InForce) (l : Leaf) : Type 0 where
+  pub name : name_in s l ≡ None → bound_to s.bindings (prefix_of l) ≡ None
+  pub no_name : bound_to s.bindings (prefix_of l) ≡ None → name_in s l ≡ None
+  pub reference : reference_in s l ≡ None → (has_scheme (iri_of l) ≡ false) × (s.base ≡ None)
+  pub no_reference : (has_scheme (iri_of l) ≡ false) × (s.base ≡ None) → reference_in s l ≡ None
+
+abbrev pub NamelessIsUnbound : Type 0
+NamelessIsUnbound = (s : InForce) (l : Leaf) → NamelessWhere s l
+
+-- A directive binds its prefix to the IRI, and no other.
+abbrev pub DirectivesBind : Type 0
+DirectivesBind = (s : InForce) (prefix iri : List ℕ) → Binds s prefix iri (with_binding s prefix (Some iri))
+
+-- The machine accepts a document of which no token passes a limit to its end, and gives out its quads.
+abbrev pub DocumentsAreAccepted : Type 0
+DocumentsAreAccepted = (form : DocForm) (start : InForce) (ts : List Token) (qs : List Marked) → documents form start ts qs → PassesNone (Passes form start) ts →
+    (s : State) × (accept_all form (at_start start) ts ≡ ran s (unmarked qs)) × (s.mode ≡ Over)
+
+-- What it accepts to its end is a document, and what it gave out are its quads.
+abbrev pub AcceptedIsADocument : Type 0
+AcceptedIsADocument = (form : DocForm) (start : InForce) (ts : List Token) (s : State) (qs : List Quad) → accept_all form (at_start start) ts ≡ ran s qs → s.mode ≡ Over →
+    (all : List Marked) × documents form start ts all × (unmarked all ≡ qs)
+
+-- What it accepts begins a document within the limits, and what it gave out is due.
+pub record Reads (form : DocForm) (start : InForce) (ts : List Token) (qs : List Quad) : Type 0 where
+  pub front : IsFront (documents form start) (Passes form start) ts ts
+  pub due : Due (documents form start) ts qs
+
+abbrev pub AcceptedBeginsADocument : Type 0
+AcceptedBeginsADocument = (form : DocForm) (start : InForce) (ts : List Token) (s : State) (qs : List Quad) → accept_all form (at_start start) ts ≡ ran s qs → Reads form start ts qs
+
+-- Each token that it refuses is refused for its reason, and what stands before it is the front of the whole.
+pub record Stops (form : DocForm) (start : InForce) (ts : List Token) (t : Token) (more : List Token) (x : Refusal) : Type 0 where
+  pub reason : RefusedFor form start ts t x
+  pub front : IsFront (documents form start) (Passes form start) (ts ++ t ∷ more) ts
+
+abbrev pub RefusedForItsReason : Type 0
+RefusedForItsReason = (form : DocForm) (start : InForce) (ts : List Token) (t : Token) (more : List Token) (s : State) (qs : List Quad) (x : Refusal) → accept_all form (at_start start) ts ≡ ran s qs →
+    accept form s t.kind (leaf_of t) ≡ refuses x → Stops form start ts t more x
