@@ -1,29 +1,21 @@
 -- Tokens begin a document exactly where they begin a tree with their names bound by what stands before.
-use Rattle.std.proofs.Common.{◌≡◌, ◌≢◌, ℕ, zero, suc, Bool, true, false, List, [], ◌∷◌, ◌++◌, length, Option, Some, None, refl, sym, ap, ◌∙◌, subst, append_assoc}
-use Rattle.rdf_tokens.specs.Grammars.{Viable, Shaped}
-use Rattle.rdf_terms.specs.declared.kind.Kind.{Kind}
-use Rattle.rdf_terms.specs.declared.kind.Kind.TheVariants.{IriRef, LabelNode, ShortString, LongString, LangTag, Carets, Dot, Integer, Decimal, Double, True, False, A, AtPrefix, AtBase, Prefix, Base, Graph, PnameNs, PnameLn, Semicolon, Comma, OpenBracket, CloseBracket, OpenParen, CloseParen, OpenBrace, CloseBrace, End}
-use Rattle.rdf_terms.specs.Terms.{Node, Label, Anon, Cell, Blank, Term, Quad}
-use Rattle.rdf_terms.specs.Terms as term
-use Rattle.rdf_terms.specs.Known.{known_chars}
-use Rattle.rdf_terms.specs.declared.constants.Known.TheVariants.{RdfType, RdfFirst, RdfRest, RdfNil, XsdString, XsdInteger, XsdDecimal, XsdDouble, XsdBoolean}
+use Rattle.std.proofs.Common.{◌≡◌, ℕ, zero, suc, Bool, true, false, List, [], ◌∷◌, ◌++◌, length, Option, Some, None, refl, sym, ap, ◌∙◌, subst, append_assoc}
+use Rattle.rdf_tokens.specs.Grammars.{Viable}
+use Rattle.rdf_terms.specs.Terms.{Quad}
 use Rattle.rdf_tokens.specs.Tokens.{Token}
-use Rattle.rdf_tokens.specs.Grammars.{Marked}
 use Rattle.rdf_iri.specs.Scope.{InForce}
-use Rattle.rdf_lines.specs.Lines.{Leaf, leaf_of, token}
+use Rattle.rdf_lines.specs.Lines.{leaf_of}
 use Rattle.rdf_trig.specs.declared.form.DocForm.{DocForm}
-use Rattle.rdf_trig.specs.declared.form.DocForm.TheVariants.{Turtle, TriG}
 use Rattle.rdf_trig.specs.Trees.{Document, document_tokens}
-use Rattle.rdf_trig.specs.Names.{prefix_of, reference_in, name_in, prefixed_in, iri_in, with_base, with_binding, behind, is_full}
-use Rattle.rdf_trig.specs.Quads.{Setting, in_default, in_graph, stated, named, node, resource, anon_at, labelled, blank_of, verb_of, short_value, long_value, lexical, tag_of, language, plain_literal, tagged_literal, typed_literal, literal_of, iri_leaf, string_leaf, literal_leaf, object_leaf, cell_at, cell_of, items_of, collection_of, list_of, object_of, subject_of, label_of, rest_quad}
-use Rattle.rdf_trig.specs.Events.{Use, itself, stands, binds, Event, Took, Gave, take, name, give, prefixed_events, iri_events, verb_events, string_events, tag_events, blank_object_events, literal_events, object_quad, object_events, collection_events, items_events, rest_events, list_events, predicates_events, more_events, objects_events, commas_events, subject_events, maybe_events, triples_events, binding, directive_events, label_events, block_events, maybe_block_events, wrapped_events, trig_events, body_events, document_events, tokens, marked, HasIri, Bound, BoundFront}
-use Rattle.rdf_trig.specs.Machine.{Level, Top, InBlock, Place, Listed, InCells, Around, Statement, Boxed, Up, Subject, At, Spelling, Dotted, Sparql, Mode, Start, Over, WantPrefix, WantPrefixIri, WantBaseIri, WantDot, AfterLabel, GraphWord, GraphBox, WantBrace, Inside, Want, After, AfterText, WantType, Box, Paren, WantVerb, Semi, AfterBox, Reply, No, Go, goes, cell, subject_at, verb_at, quad_at, quad_up, nil, iri_object_at, literal_at, object_start, type_at, want_type, verb_is, verb_start, after_subject, node_closed, box_closed, list_closed, list_end, semi, after, tag_at, after_text, box, paren, after_box, subject_is, subject_start, start, inside, want_brace, after_label, graph_is, graph_word, graph_box, directive_end, want_prefix, want_prefix_iri, want_base_iri, want_dot, step, waiting, fronted, put, stop, go_on, run}
-use Rattle.rdf_trig.specs.Documents.{documents, trees, InTree}
-use Rattle.rdf_trig.specs.Laws.{ShapedAndBound, ViableWhereBound}
+use Rattle.rdf_trig.specs.Quads.{Setting, in_default}
+use Rattle.rdf_trig.specs.Events.{Use, itself, stands, binds, Event, Took, Gave, give, document_events, tokens, HasIri, BoundFront}
+use Rattle.rdf_trig.specs.Machine.{Mode, Start, Reply, No, Go, start, step, waiting, fronted, go_on, run}
+use Rattle.rdf_trig.specs.Documents.{documents, InTree}
+use Rattle.rdf_trig.specs.Laws.{ViableWhereBound}
 use Rattle.rdf_trig.proofs.Sound.{unput}
 use Rattle.rdf_trig.proofs.TokensOfEvents.{document_told}
-use Rattle.rdf_trig.proofs.Completions.{has_iri, passes}
-use Rattle.rdf_trig.proofs.Reached.{Stand, stand, reach, on_reply, if_true, run_tree, reach-snoc, step_on, and_on, use_bound, reached_viable, viable_reached, viable_begins, begins_shaped, shaped_reached, begins_reached, Begins, any_passing}
+use Rattle.rdf_trig.proofs.Completions.{has_iri}
+use Rattle.rdf_trig.proofs.Reached.{Stand, stand, reach, on_reply, if_true, run_tree, reach-snoc, step_on, and_on, use_bound, reached_viable, viable_reached, begins_reached, any_passing}
 use Rattle.rdf_trig.proofs.Senses.{same_sense, tokens_behind}
 
 bound_give : (q : Option Quad) (n : ℕ) (es : List Event) → BoundFront n es → BoundFront n (give q es)
@@ -81,13 +73,13 @@ bound_reached form (t ∷ ts) us c m es r b = by (step form c m t.kind (leaf_of 
 
 pub viable_bound : (form : DocForm) (start : InForce) (ts : List Token) → ViableWhereBound form start ts
 viable_bound form start ts = record {
-    bound = λ v. let d = v.2 in record { tree = d.tree; more = v.0; tokens = d.tokens; bound = every v d.tree v.0 d.tokens };
-    viable = λ b.
-    let r = run_tree true form b.tree start (ts ++ b.more) (document_told b.tree start ∙ sym b.tokens) in
-    let s = bound_reached form ts b.more (in_default start) Start (document_events start b.tree) r b.bound in
-    reached_viable form start ts s.0 s.1;
-    every = every;
-  }
+  bound = λ v. let d = v.2 in record { tree = d.tree; more = v.0; tokens = d.tokens; bound = every v d.tree v.0 d.tokens };
+  viable = λ b.
+      let r = run_tree true form b.tree start (ts ++ b.more) (document_told b.tree start ∙ sym b.tokens) in
+      let s = bound_reached form ts b.more (in_default start) Start (document_events start b.tree) r b.bound in
+      reached_viable form start ts s.0 s.1;
+  every = every;
+}
   where
     every : Viable (documents form start) ts → (d : Document form) (more : List Token) → ts ++ more ≡ document_tokens d → BoundFront (length ts) (document_events start d)
     every v d more e =

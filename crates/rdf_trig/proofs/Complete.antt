@@ -1,23 +1,20 @@
 -- A tree's tokens are read, with its events.
-use Rattle.std.proofs.Common.{◌≡◌, ℕ, Bool, List, [], ◌∷◌, Option, Some, None, refl, sym, ap, ◌∙◌}
+use Rattle.std.proofs.Common.{◌≡◌, ℕ, List, [], ◌∷◌, Option, Some, None, refl, sym, ap, ◌∙◌}
 use Rattle.rdf_terms.specs.declared.kind.Kind.{Kind}
 use Rattle.rdf_terms.specs.declared.kind.Kind.TheVariants.{IriRef, LabelNode, ShortString, LongString, LangTag, Carets, Dot, Integer, Decimal, Double, True, False, A, AtPrefix, AtBase, Prefix, Base, Graph, PnameNs, PnameLn, Semicolon, Comma, OpenBracket, CloseBracket, OpenParen, CloseParen, OpenBrace, CloseBrace, End}
 use Rattle.rdf_terms.specs.Terms.{Node, Label, Anon, Cell, Blank, Term, Quad}
 use Rattle.rdf_terms.specs.Terms as term
-use Rattle.rdf_terms.specs.Known.{known_chars}
-use Rattle.rdf_terms.specs.declared.constants.Known.TheVariants.{RdfType, RdfFirst, RdfRest, RdfNil, XsdString, XsdInteger, XsdDecimal, XsdDouble, XsdBoolean}
 use Rattle.rdf_tokens.specs.Tokens.{Token}
-use Rattle.rdf_tokens.specs.Grammars.{Marked}
 use Rattle.rdf_iri.specs.Scope.{InForce}
 use Rattle.rdf_lines.specs.Lines.{Leaf, leaf_of, token}
 use Rattle.rdf_trig.specs.declared.form.DocForm.{DocForm}
 use Rattle.rdf_trig.specs.declared.form.DocForm.TheVariants.{Turtle, TriG}
 use Rattle.rdf_trig.specs.Trees.{PrefixedName, pname_ln, pname_ns, Iri, iri_ref, prefixed, BlankNode, label, anon, Verb, predicate, type_word, String, short, long, Tag, lang_tag, base_tag, prefix_tag, RDFLiteral, plain, tagged, typed, NumericLiteral, integer, decimal, double, BooleanLiteral, true_word, false_word, Literal, rdf, numeric, boolean, Object, iri_object, blank_object, collection_object, list_object, literal_object, Collection, collection, Items, no_items, item, BlankNodePropertyList, property_list, PredicateObjectList, predicate_objects, More, no_more, semicolon, semicolon_objects, ObjectList, objects, Commas, no_commas, comma, iri_subject, blank_subject, collection_subject, Triples, subject_triples, list_triples, Directive, prefix_id, base, sparql_prefix, sparql_base, LabelOrSubject, iri_label, blank_label, TriplesBlock, last, last_dot, dot, WrappedGraph, wrapped, TriplesOrGraph, named_graph, label_triples, Triples2, list_triples2, collection_triples2, Block, triples_or_graph, default_graph, triples2, Body, Document, end, with_directive, with_body}
 use Rattle.rdf_trig.specs.Trees as tree
-use Rattle.rdf_trig.specs.Names.{prefix_of, reference_in, name_in, prefixed_in, iri_in, with_base, with_binding, behind, is_full}
-use Rattle.rdf_trig.specs.Quads.{Setting, in_default, in_graph, stated, named, node, resource, anon_at, labelled, blank_of, verb_of, short_value, long_value, lexical, tag_of, language, plain_literal, tagged_literal, typed_literal, literal_of, iri_leaf, string_leaf, literal_leaf, object_leaf, cell_at, cell_of, items_of, collection_of, list_of, object_of, subject_of, label_of, rest_quad}
-use Rattle.rdf_trig.specs.Events.{Use, itself, stands, binds, Event, Took, Gave, take, name, give, prefixed_events, iri_events, verb_events, string_events, tag_events, blank_object_events, literal_events, object_quad, object_events, collection_events, items_events, rest_events, list_events, predicates_events, more_events, objects_events, commas_events, subject_events, maybe_events, triples_events, binding, directive_events, label_events, block_events, maybe_block_events, wrapped_events, trig_events, body_events, document_events, tokens, marked, HasIri, Bound, BoundFront}
-use Rattle.rdf_trig.specs.Machine.{Level, Top, InBlock, Place, Listed, InCells, Around, Statement, Boxed, Up, Subject, At, Spelling, Dotted, Sparql, Mode, Start, Over, WantPrefix, WantPrefixIri, WantBaseIri, WantDot, AfterLabel, GraphWord, GraphBox, WantBrace, Inside, Want, After, AfterText, WantType, Box, Paren, WantVerb, Semi, AfterBox, Reply, No, Go, goes, cell, subject_at, verb_at, quad_at, quad_up, nil, iri_object_at, literal_at, object_start, type_at, want_type, verb_is, verb_start, after_subject, node_closed, box_closed, list_closed, list_end, semi, after, tag_at, after_text, box, paren, after_box, subject_is, subject_start, start, inside, want_brace, after_label, graph_is, graph_word, graph_box, directive_end, want_prefix, want_prefix_iri, want_base_iri, want_dot, step, waiting, fronted, put, stop, go_on, run}
+use Rattle.rdf_trig.specs.Names.{reference_in, name_in, iri_in, behind}
+use Rattle.rdf_trig.specs.Quads.{Setting, in_default, in_graph, named, node, resource, anon_at, blank_of, verb_of, lexical, language, plain_literal, tagged_literal, typed_literal, literal_of, iri_leaf, string_leaf, literal_leaf, object_leaf, cell_at, items_of, collection_of, list_of, label_of, rest_quad}
+use Rattle.rdf_trig.specs.Events.{Use, itself, stands, Event, Took, take, give, iri_events, verb_events, string_events, tag_events, blank_object_events, literal_events, object_quad, object_events, collection_events, items_events, rest_events, list_events, predicates_events, more_events, objects_events, commas_events, maybe_events, triples_events, label_events, block_events, maybe_block_events, wrapped_events, body_events, document_events, tokens}
+use Rattle.rdf_trig.specs.Machine.{Level, Top, InBlock, Place, Listed, InCells, Around, Statement, Boxed, Up, Subject, At, Mode, Start, AfterLabel, GraphWord, WantBrace, Inside, Want, After, AfterText, WantType, Box, Paren, WantVerb, Semi, AfterBox, Reply, No, Go, goes, cell, subject_at, verb_at, quad_at, quad_up, nil, object_start, verb_start, after_subject, list_closed, after, subject_start, step, waiting, fronted, put, go_on, run}
 
 module _ (form : DocForm) where
   -- the run from a state takes these events' tokens, and has these events
@@ -30,11 +27,13 @@ module _ (form : DocForm) where
 
   one : (k : Kind) (l : Leaf) (before : Option Quad) (u : Use) (early now : Option Quad) {c : Setting} {m : Mode} {c' : Setting} {m' : Mode} {rest : List Event} →
       waiting c m k l ≡ before → step form c m k l ≡ Go u early now c' m' → Good c' m' rest → Good c m (give before (Took (token k l) u ∷ give early (give now rest)))
-  one k l before u early now {c} {m} {c'} {m'} {rest} w s g = record { runs =
-      rw (tokens_give before (Took (token k l) u ∷ give early (give now rest)), tokens_give early (give now rest), tokens_give now rest)
-      (ap (λ b. fronted b (go_on (token k l) (step form c m k l) (λ c1 m1. run form c1 m1 (tokens rest)))) w
-      ∙ ap (λ r. fronted before (go_on (token k l) r (λ c1 m1. run form c1 m1 (tokens rest)))) s
-      ∙ ap (λ o. fronted before (put (token k l) u early now o)) g.runs) }
+  one k l before u early now {c} {m} {c'} {m'} {rest} w s g = record {
+    runs =
+        rw (tokens_give before (Took (token k l) u ∷ give early (give now rest)), tokens_give early (give now rest), tokens_give now rest)
+        (ap (λ b. fronted b (go_on (token k l) (step form c m k l) (λ c1 m1. run form c1 m1 (tokens rest)))) w
+        ∙ ap (λ r. fronted before (go_on (token k l) r (λ c1 m1. run form c1 m1 (tokens rest)))) s
+        ∙ ap (λ o. fronted before (put (token k l) u early now o)) g.runs);
+  }
 
   alone : (k : Kind) (l : Leaf) {c : Setting} {m : Mode} {c' : Setting} {m' : Mode} {rest : List Event} → waiting c m k l ≡ None → step form c m k l ≡ goes c' m' → Good c' m' rest → Good c m (take k l rest)
   alone k l w s g = one k l None itself None None w s g
@@ -102,48 +101,48 @@ module _ (form : DocForm) where
 
   want_takes : (c : Setting) (p : Place) (l : Leaf) → TakesObject c (Want p) p None None l
   want_takes c p l = record {
-      iri = record { waits = (refl, refl, refl); ref = refl; ln = refl; ns = refl };
-      label = (refl, refl);
-      short = (refl, refl);
-      long = (refl, refl);
-      integer = (refl, refl);
-      decimal = (refl, refl);
-      double = (refl, refl);
-      true_word = (refl, refl);
-      false_word = (refl, refl);
-      box = (refl, refl);
-      list = (refl, refl);
-    }
+    iri = record { waits = (refl, refl, refl); ref = refl; ln = refl; ns = refl };
+    label = (refl, refl);
+    short = (refl, refl);
+    long = (refl, refl);
+    integer = (refl, refl);
+    decimal = (refl, refl);
+    double = (refl, refl);
+    true_word = (refl, refl);
+    false_word = (refl, refl);
+    box = (refl, refl);
+    list = (refl, refl);
+  }
 
   paren_takes : (c : Setting) (u : Up) (l : Leaf) → TakesObject c (Paren u) (InCells l.at.offset l.at.offset u) (quad_up c u (Blank (cell_at l))) None l
   paren_takes c u l = record {
-      iri = record { waits = (refl, refl, refl); ref = refl; ln = refl; ns = refl };
-      label = (refl, refl);
-      short = (refl, refl);
-      long = (refl, refl);
-      integer = (refl, refl);
-      decimal = (refl, refl);
-      double = (refl, refl);
-      true_word = (refl, refl);
-      false_word = (refl, refl);
-      box = (refl, refl);
-      list = (refl, refl);
-    }
+    iri = record { waits = (refl, refl, refl); ref = refl; ln = refl; ns = refl };
+    label = (refl, refl);
+    short = (refl, refl);
+    long = (refl, refl);
+    integer = (refl, refl);
+    decimal = (refl, refl);
+    double = (refl, refl);
+    true_word = (refl, refl);
+    false_word = (refl, refl);
+    box = (refl, refl);
+    list = (refl, refl);
+  }
 
   item_takes : (c : Setting) (f n : ℕ) (u : Up) (l : Leaf) → TakesObject c (After (InCells f n u)) (InCells f l.at.offset u) None (rest_quad c (Cell n) (Blank (cell_at l))) l
   item_takes c f n u l = record {
-      iri = record { waits = (refl, refl, refl); ref = refl; ln = refl; ns = refl };
-      label = (refl, refl);
-      short = (refl, refl);
-      long = (refl, refl);
-      integer = (refl, refl);
-      decimal = (refl, refl);
-      double = (refl, refl);
-      true_word = (refl, refl);
-      false_word = (refl, refl);
-      box = (refl, refl);
-      list = (refl, refl);
-    }
+    iri = record { waits = (refl, refl, refl); ref = refl; ln = refl; ns = refl };
+    label = (refl, refl);
+    short = (refl, refl);
+    long = (refl, refl);
+    integer = (refl, refl);
+    decimal = (refl, refl);
+    double = (refl, refl);
+    true_word = (refl, refl);
+    false_word = (refl, refl);
+    box = (refl, refl);
+    list = (refl, refl);
+  }
 
   record TakesVerb (c : Setting) (m : Mode) (s : Option term.Subject) (a : Around) : Type 0 where
     iri : (l : Leaf) → TakesIri c m c.scope None None (λ i. None) c (λ i. Want (Listed s i a)) l
@@ -313,19 +312,19 @@ module _ (form : DocForm) where
 
   start_takes : (c : Setting) → TakesSubject form c Start (in_default c.scope) Top
   start_takes c = record {
-      iri = λ l. record { waits = (refl, refl, refl); ref = refl; ln = refl; ns = refl };
-      label = λ l. (refl, refl);
-      box = λ l. (refl, refl);
-      list = λ l. (refl, refl);
-    }
+    iri = λ l. record { waits = (refl, refl, refl); ref = refl; ln = refl; ns = refl };
+    label = λ l. (refl, refl);
+    box = λ l. (refl, refl);
+    list = λ l. (refl, refl);
+  }
 
   inside_takes : (c : Setting) → TakesSubject form c Inside c InBlock
   inside_takes c = record {
-      iri = λ l. record { waits = (refl, refl, refl); ref = refl; ln = refl; ns = refl };
-      label = λ l. (refl, refl);
-      box = λ l. (refl, refl);
-      list = λ l. (refl, refl);
-    }
+    iri = λ l. record { waits = (refl, refl, refl); ref = refl; ln = refl; ns = refl };
+    label = λ l. (refl, refl);
+    box = λ l. (refl, refl);
+    list = λ l. (refl, refl);
+  }
 
   top_ends : (c : Setting) (l : Leaf) → EndsTriples form c Top Dot l c Start
   top_ends c l = record { list = λ s. record { after = λ v. refl; semi = refl }; box = λ s. refl }

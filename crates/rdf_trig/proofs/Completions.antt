@@ -1,25 +1,22 @@
 -- Each state has one completion, which needs no binding and no base.
-use Rattle.std.proofs.Common.{◌≡◌, ℕ, Bool, true, false, List, [], ◌∷◌, Option, Some, None, refl, sym, ap, ◌∙◌}
+use Rattle.std.proofs.Common.{◌≡◌, ℕ, Bool, true, false, List, [], ◌∷◌, Option, Some, None, refl, ap, ◌∙◌}
 use Rattle.std.specs.Prelude.{codes}
 use Rattle.rdf_terms.specs.Classes.{has}
 use Rattle.rdf_iri.specs.Resolve.{resolved}
 use Rattle.rdf_tokens.specs.Good.{first_place}
 use Rattle.rdf_terms.specs.declared.kind.Kind.{Kind}
-use Rattle.rdf_terms.specs.declared.kind.Kind.TheVariants.{IriRef, LabelNode, ShortString, LongString, LangTag, Carets, Dot, Integer, Decimal, Double, True, False, A, AtPrefix, AtBase, Prefix, Base, Graph, PnameNs, PnameLn, Semicolon, Comma, OpenBracket, CloseBracket, OpenParen, CloseParen, OpenBrace, CloseBrace, End}
+use Rattle.rdf_terms.specs.declared.kind.Kind.TheVariants.{IriRef, Dot, PnameNs, CloseBracket, CloseParen, OpenBrace, CloseBrace, End}
 use Rattle.rdf_terms.specs.Terms.{Node, Label, Anon, Cell, Blank, Term, Quad}
 use Rattle.rdf_terms.specs.Terms as term
-use Rattle.rdf_terms.specs.Known.{known_chars}
-use Rattle.rdf_terms.specs.declared.constants.Known.TheVariants.{RdfType, RdfFirst, RdfRest, RdfNil, XsdString, XsdInteger, XsdDecimal, XsdDouble, XsdBoolean}
 use Rattle.rdf_tokens.specs.Tokens.{Token}
-use Rattle.rdf_tokens.specs.Grammars.{Marked}
 use Rattle.rdf_iri.specs.Scope.{InForce}
-use Rattle.rdf_lines.specs.Lines.{Leaf, leaf_of, token}
+use Rattle.rdf_lines.specs.Lines.{Leaf, token}
 use Rattle.rdf_trig.specs.declared.form.DocForm.{DocForm}
 use Rattle.rdf_trig.specs.declared.form.DocForm.TheVariants.{Turtle, TriG}
-use Rattle.rdf_trig.specs.Names.{prefix_of, reference_in, name_in, prefixed_in, iri_in, with_base, with_binding, behind, is_full}
-use Rattle.rdf_trig.specs.Quads.{Setting, in_default, in_graph, stated, named, node, resource, anon_at, labelled, blank_of, verb_of, short_value, long_value, lexical, tag_of, language, plain_literal, tagged_literal, typed_literal, literal_of, iri_leaf, string_leaf, literal_leaf, object_leaf, cell_at, cell_of, items_of, collection_of, list_of, object_of, subject_of, label_of, rest_quad}
-use Rattle.rdf_trig.specs.Events.{Use, itself, stands, binds, Event, Took, Gave, take, name, give, prefixed_events, iri_events, verb_events, string_events, tag_events, blank_object_events, literal_events, object_quad, object_events, collection_events, items_events, rest_events, list_events, predicates_events, more_events, objects_events, commas_events, subject_events, maybe_events, triples_events, binding, directive_events, label_events, block_events, maybe_block_events, wrapped_events, trig_events, body_events, document_events, tokens, marked, HasIri, Bound, BoundFront}
-use Rattle.rdf_trig.specs.Machine.{Level, Top, InBlock, Place, Listed, InCells, Around, Statement, Boxed, Up, Subject, At, Spelling, Dotted, Sparql, Mode, Start, Over, WantPrefix, WantPrefixIri, WantBaseIri, WantDot, AfterLabel, GraphWord, GraphBox, WantBrace, Inside, Want, After, AfterText, WantType, Box, Paren, WantVerb, Semi, AfterBox, Reply, No, Go, goes, cell, subject_at, verb_at, quad_at, quad_up, nil, iri_object_at, literal_at, object_start, type_at, want_type, verb_is, verb_start, after_subject, node_closed, box_closed, list_closed, list_end, semi, after, tag_at, after_text, box, paren, after_box, subject_is, subject_start, start, inside, want_brace, after_label, graph_is, graph_word, graph_box, directive_end, want_prefix, want_prefix_iri, want_base_iri, want_dot, step, waiting, fronted, put, stop, go_on, run}
+use Rattle.rdf_trig.specs.Names.{prefix_of, reference_in, with_base, with_binding, is_full}
+use Rattle.rdf_trig.specs.Quads.{Setting, in_default, named, node, resource, plain_literal, typed_literal, rest_quad}
+use Rattle.rdf_trig.specs.Events.{Use, itself, stands, binds, Event, Took, Gave, give}
+use Rattle.rdf_trig.specs.Machine.{Level, Top, InBlock, Place, Listed, InCells, Around, Statement, Boxed, Up, Subject, At, Spelling, Dotted, Sparql, Mode, Start, Over, WantPrefix, WantPrefixIri, WantBaseIri, WantDot, AfterLabel, GraphWord, GraphBox, WantBrace, Inside, Want, After, AfterText, WantType, Box, Paren, WantVerb, Semi, AfterBox, Go, goes, cell, quad_at, nil, after_subject, node_closed, box_closed, list_closed, directive_end, step, waiting, fronted, put, go_on, run}
 use Rattle.rdf_trig.proofs.Complete.{text_run}
 
 -- whether a token that stands for this is taken: with a name that stands for something, or with any
@@ -159,10 +156,10 @@ module _ (strict : Bool) (form : DocForm) where
   takes : (k : Kind) (l : Leaf) (u : Use) (early now : Option Quad) {c : Setting} {m : Mode} {c' : Setting} {m' : Mode} {ts : List Token} → passes strict u ≡ true → step form c m k l ≡ Go u early now c' m' → Accepts c' m' ts →
       Accepts c m (token k l ∷ ts)
   takes k l u early now {c} {m} {c'} {m'} {ts} p s a = record {
-      events = give (waiting c m k l) (Took (token k l) u ∷ give early (give now a.events));
-      runs = ap (λ r. fronted (waiting c m k l) (go_on (token k l) r (λ c1 m1. run form c1 m1 ts))) s ∙ ap (λ o. fronted (waiting c m k l) (put (token k l) u early now o)) a.runs;
-      bound = passing_give (waiting c m k l) _ (p, passing_give early _ (passing_give now _ a.bound));
-    }
+    events = give (waiting c m k l) (Took (token k l) u ∷ give early (give now a.events));
+    runs = ap (λ r. fronted (waiting c m k l) (go_on (token k l) r (λ c1 m1. run form c1 m1 ts))) s ∙ ap (λ o. fronted (waiting c m k l) (put (token k l) u early now o)) a.runs;
+    bound = passing_give (waiting c m k l) _ (p, passing_give early _ (passing_give now _ a.bound));
+  }
 
   plain : (k : Kind) (l : Leaf) {c : Setting} {m : Mode} {c' : Setting} {m' : Mode} {ts : List Token} → step form c m k l ≡ goes c' m' → Accepts c' m' ts → Accepts c m (token k l ∷ ts)
   plain k l s a = takes k l itself None None (itself_passes strict) s a
@@ -226,10 +223,10 @@ module _ (strict : Bool) (form : DocForm) where
 
   text_closes : (c : Setting) (w : List ℕ) (p : Place) (ts : List Token) → Accepts c (After p) ts → Accepts c (AfterText w p) ts
   text_closes c w p ts a = record {
-      events = give (quad_at c p (plain_literal w)) a.events;
-      runs = text_run form c w p ts a.events a.runs;
-      bound = passing_give (quad_at c p (plain_literal w)) a.events a.bound;
-    }
+    events = give (quad_at c p (plain_literal w)) a.events;
+    runs = text_run form c w p ts a.events a.runs;
+    bound = passing_give (quad_at c p (plain_literal w)) a.events a.bound;
+  }
 
 -- behind a subject, in both forms
 subject_closes : (strict : Bool) (form : DocForm) (v : Level) (c : Setting) (s : Option term.Subject) → Accepts strict form c (after_subject form v s) (close_verb v)

@@ -1,38 +1,29 @@
 -- The machine accepts exactly the documents within the limits, and what it gives out is due, and at the end all of a document's quads.
-use Rattle.std.proofs.Common.{◌≡◌, ◌≢◌, ℕ, zero, suc, ◌+◌, ◌≤◌, ◌<◌, ◌⊎◌, inl, inr, Bool, true, false, List, [], ◌∷◌, ◌++◌, length, Option, Some, None, refl, sym, ap, ◌∙◌, subst, ⊎_elim, append_assoc, length-append, arith}
+use Rattle.std.proofs.Common.{◌≡◌, ℕ, zero, suc, ◌+◌, ◌≤◌, ◌⊎◌, inl, inr, Bool, true, false, List, [], ◌∷◌, ◌++◌, length, Option, Some, None, refl, sym, ap, ◌∙◌, subst, ⊎_elim, append_assoc, length-append, arith}
 use Rattle.std.proofs.lemmas.List.{append-nil}
 use Rattle.rdf_tokens.specs.Grammars.{Viable, Due, PassesNone, IsFront, before, unmarked}
-use Rattle.rdf_terms.specs.declared.kind.Kind.{Kind}
-use Rattle.rdf_terms.specs.declared.kind.Kind.TheVariants.{IriRef, LabelNode, ShortString, LongString, LangTag, Carets, Dot, Integer, Decimal, Double, True, False, A, AtPrefix, AtBase, Prefix, Base, Graph, PnameNs, PnameLn, Semicolon, Comma, OpenBracket, CloseBracket, OpenParen, CloseParen, OpenBrace, CloseBrace, End}
-use Rattle.rdf_terms.specs.Terms.{Node, Label, Anon, Cell, Blank, Term, Quad}
-use Rattle.rdf_terms.specs.Terms as term
-use Rattle.rdf_terms.specs.Known.{known_chars}
-use Rattle.rdf_terms.specs.declared.constants.Known.TheVariants.{RdfType, RdfFirst, RdfRest, RdfNil, XsdString, XsdInteger, XsdDecimal, XsdDouble, XsdBoolean}
+use Rattle.rdf_terms.specs.Terms.{Quad}
 use Rattle.rdf_tokens.specs.Tokens.{Token}
 use Rattle.rdf_tokens.specs.Grammars.{Marked}
 use Rattle.rdf_iri.specs.Scope.{InForce}
-use Rattle.rdf_lines.specs.Lines.{Leaf, leaf_of, token}
+use Rattle.rdf_lines.specs.Lines.{leaf_of}
 use Rattle.rdf_trig.specs.declared.form.DocForm.{DocForm}
-use Rattle.rdf_trig.specs.declared.form.DocForm.TheVariants.{Turtle, TriG}
 use Rattle.rdf_trig.specs.Trees.{Document, document_tokens}
-use Rattle.rdf_trig.specs.Names.{prefix_of, reference_in, name_in, prefixed_in, iri_in, with_base, with_binding, behind, is_full}
-use Rattle.rdf_trig.specs.Quads.{Setting, in_default, in_graph, stated, named, node, resource, anon_at, labelled, blank_of, verb_of, short_value, long_value, lexical, tag_of, language, plain_literal, tagged_literal, typed_literal, literal_of, iri_leaf, string_leaf, literal_leaf, object_leaf, cell_at, cell_of, items_of, collection_of, list_of, object_of, subject_of, label_of, rest_quad}
-use Rattle.rdf_trig.specs.Events.{Use, itself, stands, binds, Event, Took, Gave, take, name, give, prefixed_events, iri_events, verb_events, string_events, tag_events, blank_object_events, literal_events, object_quad, object_events, collection_events, items_events, rest_events, list_events, predicates_events, more_events, objects_events, commas_events, subject_events, maybe_events, triples_events, binding, directive_events, label_events, block_events, maybe_block_events, wrapped_events, trig_events, body_events, document_events, tokens, marked, HasIri, Bound, BoundFront}
-use Rattle.rdf_trig.specs.Machine.{Level, Top, InBlock, Place, Listed, InCells, Around, Statement, Boxed, Up, Subject, At, Spelling, Dotted, Sparql, Mode, Start, Over, WantPrefix, WantPrefixIri, WantBaseIri, WantDot, AfterLabel, GraphWord, GraphBox, WantBrace, Inside, Want, After, AfterText, WantType, Box, Paren, WantVerb, Semi, AfterBox, Reply, No, Go, goes, cell, subject_at, verb_at, quad_at, quad_up, nil, iri_object_at, literal_at, object_start, type_at, want_type, verb_is, verb_start, after_subject, node_closed, box_closed, list_closed, list_end, semi, after, tag_at, after_text, box, paren, after_box, subject_is, subject_start, start, inside, want_brace, after_label, graph_is, graph_word, graph_box, directive_end, want_prefix, want_prefix_iri, want_base_iri, want_dot, step, waiting, fronted, put, stop, go_on, run}
-use Rattle.rdf_trig.specs.Machine.{kept, State, Answer, refuses, accepts, unnamed, too_long, by_use, deepens, by_depth, answer, accept, at_start, Run, ran, refused, with_quads, go, accept_all, depth, depth_at, depth_around, depth_up}
-use Rattle.rdf_trig.specs.Refusals.{Refusal, unexpected, too_deep, unbound, no_base, iri_too_long, too_many_bindings, Excluded, IsUnbound, IsBaseless, RefusedFor}
+use Rattle.rdf_trig.specs.Quads.{Setting, in_default}
+use Rattle.rdf_trig.specs.Events.{Event, Took, Gave, give, document_events, tokens, marked}
+use Rattle.rdf_trig.specs.Machine.{Mode, Start, Over, Reply, No, Go, start, step, waiting, fronted, stop, go_on, run}
+use Rattle.rdf_trig.specs.Machine.{State, Answer, refuses, accepts, accept, at_start, ran, with_quads, go, accept_all, depth}
+use Rattle.rdf_trig.specs.Refusals.{Refusal, unexpected, too_deep, unbound, no_base, iri_too_long, too_many_bindings, Excluded, RefusedFor}
 use Rattle.rdf_trig.specs.Quads.{document_quads}
-use Rattle.rdf_trig.specs.Documents.{documents, trees, IsDocument, IsTree, Passes, PassesBy, StandsFor, IsDeep, IsLong, IsOneMore}
-use Rattle.rdf_trig.proofs.Complete.{document_good}
+use Rattle.rdf_trig.specs.Documents.{documents, trees, Passes}
 use Rattle.rdf_trig.proofs.Sound.{read_found, unput}
 use Rattle.rdf_trig.proofs.TokensOfEvents.{document_told}
 use Rattle.rdf_trig.proofs.MarksOfEvents.{document_marks}
-use Rattle.rdf_trig.proofs.Completions.{Accepts, close, passes}
-use Rattle.rdf_trig.proofs.Reached.{Stand, stand, reach, on_reply, if_true, front, run_tree, passing_bound, bound_passing, reached_viable, viable_reached, viable_begins, begins_reached}
+use Rattle.rdf_trig.proofs.Completions.{Accepts, passes}
+use Rattle.rdf_trig.proofs.Reached.{Stand, stand, reach, on_reply, if_true, front, run_tree, passing_bound, reached_viable}
 use Rattle.rdf_trig.proofs.Lag.{due, before_due, emits, lag}
-use Rattle.rdf_trig.proofs.Accepted.{Ran, ran_tokens, first_ran}
+use Rattle.rdf_trig.proofs.Accepted.{ran_tokens}
 use Rattle.rdf_trig.proofs.StepFacts.{Facts, Quiet, step_facts}
-use Rattle.rdf_trig.proofs.Senses.{stands_viable}
 use Rattle.rdf_trig.proofs.Refused.{place, reached_start, passes_none, refused_for}
 
 -- what is due
@@ -132,8 +123,7 @@ accepted_document form start ts s qs e o =
     let a = front true form ts [] (in_default start) Start (place s) at_over r.reached in
     let runs : run form (in_default start) Start ts ≡ Some a.events = ap (run form (in_default start) Start) (sym (append-nil ts)) ∙ a.runs in
     let f = read_found form ts (in_default start) a.events runs in
-    let told : ts ≡ document_tokens f.0 = sym f.2 ∙ document_told f.0 start in
-    (
+    let told : ts ≡ document_tokens f.0 = sym f.2 ∙ document_told f.0 start in (
       document_quads start 0 f.0,
       record { tree = f.0; tokens = told; bound = passing_bound (document_events start f.0) (rw f.1 at a.bound); quads = refl },
       sym (document_due form start ts f.0 f.2) ∙ sym r.given,
@@ -239,9 +229,9 @@ front_to form start ts t more s qs x e a =
       viable = reached_viable form start ts (place s) reached;
       kept = passes_none form start ts s qs e;
       longest = λ longer rest h v p. most longer rest h (λ more2 w.
-        not_both form start ts t x (refused_for form start ts t s x reached a)
-        (viable_front form start (ts ++ t ∷ []) more2 (subst (Viable (documents form start)) (w ∙ sym (append_assoc ts (t ∷ []) more2)) v))
-        (p ts more2 t w));
+          not_both form start ts t x (refused_for form start ts t s x reached a)
+          (viable_front form start (ts ++ t ∷ []) more2 (subst (Viable (documents form start)) (w ∙ sym (append_assoc ts (t ∷ []) more2)) v))
+          (p ts more2 t w));
     }
   where
     -- a longer beginning has the token too
@@ -260,8 +250,8 @@ front_to form start ts t more s qs x e a =
 -- Tokens that are all accepted are their own front.
 pub front_all : (form : DocForm) (start : InForce) (ts : List Token) (s : State) (qs : List Quad) → accept_all form (at_start start) ts ≡ ran s qs → IsFront (documents form start) (Passes form start) ts ts
 front_all form start ts s qs e = record {
-    begins = ([], sym (append-nil ts));
-    viable = reached_viable form start ts (place s) (reached_start form start ts s qs e);
-    kept = passes_none form start ts s qs e;
-    longest = λ longer rest h v p. let l = ap length h ∙ length-append longer rest in omega (arith, l);
-  }
+  begins = ([], sym (append-nil ts));
+  viable = reached_viable form start ts (place s) (reached_start form start ts s qs e);
+  kept = passes_none form start ts s qs e;
+  longest = λ longer rest h v p. let l = ap length h ∙ length-append longer rest in omega (arith, l);
+}

@@ -1,14 +1,16 @@
-mod Complete
-mod Sound
-mod TokensOfEvents
-mod MarksOfEvents
-mod Completions
-mod Reached
-mod Lag
-mod Accepted
-mod StepFacts
-mod Senses
-mod Refused
-mod Exact
-mod Bounds
-mod NamesLemmas
+pub mod Complete
+pub mod Sound
+pub mod TokensOfEvents
+pub mod MarksOfEvents
+pub mod Completions
+pub mod Reached
+pub mod Lag
+pub mod Accepted
+pub mod StepFacts
+pub mod Senses
+pub mod Refused
+pub mod Exact
+pub mod Bounds
+pub mod NamesLemmas
+pub mod Completed
+pub mod LawLemmas

@@ -1,7 +1,7 @@
 -- Names and references that stand for nothing, and what a directive binds.
-use Rattle.std.proofs.Common.{◌≡◌, ◌≢◌, ℕ, ◌+◌, Bool, true, false, cond, List, [], ◌∷◌, ◌++◌, ◌&&◌, ◌==◌, length, Option, Some, None, is_some, refl, sym, ap, ◌∙◌, ⊎_elim, arith}
+use Rattle.std.proofs.Common.{◌≡◌, ℕ, ◌+◌, Bool, true, false, cond, List, [], ◌∷◌, ◌++◌, length, Option, Some, None, is_some, refl, sym, ap, ◌∙◌, ⊎_elim, arith}
 use Rattle.std.specs.Prelude.{option_map}
-use Rattle.std.proofs.lemmas.Bool.{cases_Bool, cond-true, cond-false}
+use Rattle.std.proofs.lemmas.Bool.{cases_Bool, cond-false}
 use Rattle.rdf_terms.specs.Terms.{has_scheme}
 use Rattle.rdf_iri.specs.Texts.{equal}
 use Rattle.rdf_iri.specs.Resolve.{resolved, based}
@@ -29,11 +29,11 @@ unresolved base r false e = (refl, based_none base r e)
 pub nameless_where : (s : InForce) (l : Leaf) → NamelessWhere s l
 unfolding reference_in name_in resolved
 nameless_where s l = record {
-    name = λ e. map_none (λ front. front ++ local_of l) (bound_to s.bindings (prefix_of l)) e;
-    no_name = λ e. ap (option_map (λ front. front ++ local_of l)) e;
-    reference = λ e. unresolved s.base (iri_of l) (has_scheme (iri_of l)) e;
-    no_reference = λ e. cond-false (has_scheme (iri_of l)) _ _ e.0 ∙ ap (λ b. based b (iri_of l)) e.1;
-  }
+  name = λ e. map_none (λ front. front ++ local_of l) (bound_to s.bindings (prefix_of l)) e;
+  no_name = λ e. ap (option_map (λ front. front ++ local_of l)) e;
+  reference = λ e. unresolved s.base (iri_of l) (has_scheme (iri_of l)) e;
+  no_reference = λ e. cond-false (has_scheme (iri_of l)) _ _ e.0 ∙ ap (λ b. based b (iri_of l)) e.1;
+}
 
 -- Equal texts, in either order.
 equal-sym : (v w : List ℕ) → equal v w ≡ equal w v

@@ -1,23 +1,22 @@
 -- What is read is a tree's tokens, with its events.
-use Rattle.std.proofs.Common.{◌≡◌, ℕ, Bool, List, [], ◌∷◌, Option, Some, None, refl, sym, ap, ◌∙◌, ◌⊎◌, inl, inr}
+use Rattle.std.proofs.Common.{◌≡◌, ℕ, List, [], ◌∷◌, Option, Some, None, refl, sym, ap, ◌∙◌, ◌⊎◌, inl, inr}
 use Rattle.rdf_terms.specs.declared.kind.Kind.{Kind}
 use Rattle.rdf_terms.specs.declared.kind.Kind.TheVariants.{IriRef, LabelNode, ShortString, LongString, LangTag, Carets, Dot, Integer, Decimal, Double, True, False, A, AtPrefix, AtBase, Prefix, Base, Graph, PnameNs, PnameLn, Semicolon, Comma, OpenBracket, CloseBracket, OpenParen, CloseParen, OpenBrace, CloseBrace, End}
 use Rattle.rdf_terms.specs.Terms.{Node, Label, Anon, Cell, Blank, Term, Quad}
 use Rattle.rdf_terms.specs.Terms as term
 use Rattle.rdf_terms.specs.Known.{known_chars}
-use Rattle.rdf_terms.specs.declared.constants.Known.TheVariants.{RdfType, RdfFirst, RdfRest, RdfNil, XsdString, XsdInteger, XsdDecimal, XsdDouble, XsdBoolean}
+use Rattle.rdf_terms.specs.declared.constants.Known.TheVariants.{RdfType, RdfFirst}
 use Rattle.rdf_tokens.specs.Tokens.{Token}
-use Rattle.rdf_tokens.specs.Grammars.{Marked}
 use Rattle.rdf_iri.specs.Scope.{InForce}
 use Rattle.rdf_lines.specs.Lines.{Leaf, leaf_of, token}
 use Rattle.rdf_trig.specs.declared.form.DocForm.{DocForm}
 use Rattle.rdf_trig.specs.declared.form.DocForm.TheVariants.{Turtle, TriG}
 use Rattle.rdf_trig.specs.Trees.{PrefixedName, pname_ln, pname_ns, Iri, iri_ref, prefixed, BlankNode, label, anon, Verb, predicate, type_word, String, short, long, Tag, lang_tag, base_tag, prefix_tag, RDFLiteral, plain, tagged, typed, NumericLiteral, integer, decimal, double, BooleanLiteral, true_word, false_word, Literal, rdf, numeric, boolean, Object, iri_object, blank_object, collection_object, list_object, literal_object, Collection, collection, Items, no_items, item, BlankNodePropertyList, property_list, PredicateObjectList, predicate_objects, More, no_more, semicolon, semicolon_objects, ObjectList, objects, Commas, no_commas, comma, iri_subject, blank_subject, collection_subject, Triples, subject_triples, list_triples, Directive, prefix_id, base, sparql_prefix, sparql_base, LabelOrSubject, iri_label, blank_label, TriplesBlock, last, last_dot, dot, WrappedGraph, wrapped, TriplesOrGraph, named_graph, label_triples, Triples2, list_triples2, collection_triples2, Block, triples_or_graph, default_graph, triples2, Body, Document, end, with_directive, with_body}
 use Rattle.rdf_trig.specs.Trees as tree
-use Rattle.rdf_trig.specs.Names.{prefix_of, reference_in, name_in, prefixed_in, iri_in, with_base, with_binding, behind, is_full}
-use Rattle.rdf_trig.specs.Quads.{Setting, in_default, in_graph, stated, named, node, resource, anon_at, labelled, blank_of, verb_of, short_value, long_value, lexical, tag_of, language, plain_literal, tagged_literal, typed_literal, literal_of, iri_leaf, string_leaf, literal_leaf, object_leaf, cell_at, cell_of, items_of, collection_of, list_of, object_of, subject_of, label_of, rest_quad}
-use Rattle.rdf_trig.specs.Events.{Use, itself, stands, binds, Event, Took, Gave, take, name, give, prefixed_events, iri_events, verb_events, string_events, tag_events, blank_object_events, literal_events, object_quad, object_events, collection_events, items_events, rest_events, list_events, predicates_events, more_events, objects_events, commas_events, subject_events, maybe_events, triples_events, binding, directive_events, label_events, block_events, maybe_block_events, wrapped_events, trig_events, body_events, document_events, tokens, marked, HasIri, Bound, BoundFront}
-use Rattle.rdf_trig.specs.Machine.{Level, Top, InBlock, Place, Listed, InCells, Around, Statement, Boxed, Up, Subject, At, Spelling, Dotted, Sparql, Mode, Start, Over, WantPrefix, WantPrefixIri, WantBaseIri, WantDot, AfterLabel, GraphWord, GraphBox, WantBrace, Inside, Want, After, AfterText, WantType, Box, Paren, WantVerb, Semi, AfterBox, Reply, No, Go, goes, cell, subject_at, verb_at, quad_at, quad_up, nil, iri_object_at, literal_at, object_start, type_at, want_type, verb_is, verb_start, after_subject, node_closed, box_closed, list_closed, list_end, semi, after, tag_at, after_text, box, paren, after_box, subject_is, subject_start, start, inside, want_brace, after_label, graph_is, graph_word, graph_box, directive_end, want_prefix, want_prefix_iri, want_base_iri, want_dot, step, waiting, fronted, put, stop, go_on, run}
+use Rattle.rdf_trig.specs.Names.{prefix_of, reference_in, name_in, iri_in, with_base, with_binding, is_full}
+use Rattle.rdf_trig.specs.Quads.{Setting, in_default, in_graph, named, node, resource, anon_at, labelled, blank_of, short_value, long_value, lexical, language, plain_literal, tagged_literal, typed_literal, literal_of, iri_leaf, string_leaf, literal_leaf, object_leaf, cell_at, items_of, collection_of, list_of, label_of, rest_quad}
+use Rattle.rdf_trig.specs.Events.{Use, itself, binds, Event, Took, take, name, give, iri_events, string_events, tag_events, blank_object_events, literal_events, object_events, collection_events, items_events, rest_events, list_events, predicates_events, more_events, commas_events, maybe_events, triples_events, label_events, maybe_block_events, wrapped_events, document_events, tokens}
+use Rattle.rdf_trig.specs.Machine.{Level, Top, InBlock, Place, Listed, InCells, Around, Statement, Boxed, Up, Subject, At, Spelling, Dotted, Sparql, Mode, Start, Over, WantPrefix, WantPrefixIri, WantBaseIri, WantDot, AfterLabel, GraphWord, GraphBox, WantBrace, Inside, Want, After, AfterText, WantType, Box, Paren, WantVerb, Semi, AfterBox, Reply, No, Go, cell, subject_at, verb_at, quad_at, quad_up, nil, object_start, want_type, verb_start, after_subject, node_closed, box_closed, list_closed, list_end, semi, after, after_text, box, paren, after_box, subject_start, start, inside, want_brace, after_label, graph_word, graph_box, want_prefix, want_prefix_iri, want_base_iri, want_dot, step, waiting, fronted, put, stop, go_on, run}
 
 -- what a bracket was
 data Was : Type 0 where
@@ -300,9 +299,10 @@ module _ (form : DocForm) (next : Setting → Mode → Option (List Event)) (ih 
       let x = as_list form u (cell f) c b.0 in
       ((no_items, l, x.0), b.1 ∙ ap (λ fs. give w (take CloseParen l (give (rest_quad c (Cell n) nil) fs))) x.1)
   after_found c (InCells f n u) w k l es e =
-      let x = object_found c (InCells f l.at.offset u) (rest_quad c (Cell n) (Blank (cell_at l))) w k l es e in
-      ((item x.obj x.rest.0, x.rest.1, x.rest.2),
-      x.events ∙ ap (λ y. give w (object_events c x.obj (node (cell_at y)) (Some (known_chars RdfFirst)) (rest_quad c (Cell n) (Blank (cell_at y))) (rest_events c x.rest.0 (cell_at y) x.rest.1 (up_events form c u was_list (cell f) x.rest.2)))) (sym x.first))
+      let x = object_found c (InCells f l.at.offset u) (rest_quad c (Cell n) (Blank (cell_at l))) w k l es e in (
+        (item x.obj x.rest.0, x.rest.1, x.rest.2),
+        x.events ∙ ap (λ y. give w (object_events c x.obj (node (cell_at y)) (Some (known_chars RdfFirst)) (rest_quad c (Cell n) (Blank (cell_at y))) (rest_events c x.rest.0 (cell_at y) x.rest.1 (up_events form c u was_list (cell f) x.rest.2)))) (sym x.first),
+      )
 
   -- a predicate list from its verb
   abbrev PredicatesFound : Setting → Option term.Subject → Around → List Event → Type 0
@@ -344,9 +344,10 @@ module _ (form : DocForm) (next : Setting → Mode → Option (List Event)) (ih 
       let x = as_list form u (Some nil) c b.0 in
       ((no_items, l, x.0), b.1 ∙ ap (λ fs. give (quad_up c u nil) (take CloseParen l fs)) x.1)
   paren_found c u k l es e =
-      let x = object_found c (InCells l.at.offset l.at.offset u) None (quad_up c u (Blank (cell_at l))) k l es e in
-      ((item x.obj x.rest.0, x.rest.1, x.rest.2),
-      x.events ∙ ap (λ y. give (quad_up c u (Blank (cell_at y))) (object_events c x.obj (node (cell_at y)) (Some (known_chars RdfFirst)) None (rest_events c x.rest.0 (cell_at y) x.rest.1 (up_events form c u was_list (node (cell_at y)) x.rest.2)))) (sym x.first))
+      let x = object_found c (InCells l.at.offset l.at.offset u) None (quad_up c u (Blank (cell_at l))) k l es e in (
+        (item x.obj x.rest.0, x.rest.1, x.rest.2),
+        x.events ∙ ap (λ y. give (quad_up c u (Blank (cell_at y))) (object_events c x.obj (node (cell_at y)) (Some (known_chars RdfFirst)) None (rest_events c x.rest.0 (cell_at y) x.rest.1 (up_events form c u was_list (node (cell_at y)) x.rest.2)))) (sym x.first),
+      )
 
   after_text_found : (c : Setting) (w : List ℕ) (p : Place) (k : Kind) (l : Leaf) (es : List Event) → fronted (waiting c (AfterText w p) k l) (go_on (token k l) (after_text c w p k l) next) ≡ Some es →
       Found form c (AfterText w p) es

@@ -1,21 +1,19 @@
 -- The tokens of a tree's events are those that the tree derives.
-use Rattle.std.proofs.Common.{◌≡◌, ℕ, ◌+◌, Bool, List, [], ◌∷◌, ◌++◌, Option, Some, None, refl, sym, ap, ◌∙◌, append_assoc}
-use Rattle.rdf_terms.specs.declared.kind.Kind.{Kind}
-use Rattle.rdf_terms.specs.declared.kind.Kind.TheVariants.{IriRef, LabelNode, ShortString, LongString, LangTag, Carets, Dot, Integer, Decimal, Double, True, False, A, AtPrefix, AtBase, Prefix, Base, Graph, PnameNs, PnameLn, Semicolon, Comma, OpenBracket, CloseBracket, OpenParen, CloseParen, OpenBrace, CloseBrace, End}
+use Rattle.std.proofs.Common.{◌≡◌, ℕ, List, [], ◌∷◌, ◌++◌, Option, Some, None, refl, sym, ap, ◌∙◌, append_assoc}
+use Rattle.rdf_terms.specs.declared.kind.Kind.TheVariants.{LabelNode, Carets, Dot, Integer, Decimal, Double, True, False, Graph, Semicolon, Comma, OpenBracket, CloseBracket, OpenParen, CloseParen, OpenBrace, CloseBrace}
 use Rattle.rdf_terms.specs.Terms.{Node, Label, Anon, Cell, Blank, Term, Quad}
 use Rattle.rdf_terms.specs.Terms as term
 use Rattle.rdf_terms.specs.Known.{known_chars}
-use Rattle.rdf_terms.specs.declared.constants.Known.TheVariants.{RdfType, RdfFirst, RdfRest, RdfNil, XsdString, XsdInteger, XsdDecimal, XsdDouble, XsdBoolean}
+use Rattle.rdf_terms.specs.declared.constants.Known.TheVariants.{RdfFirst}
 use Rattle.rdf_tokens.specs.Tokens.{Token}
-use Rattle.rdf_tokens.specs.Grammars.{Marked}
 use Rattle.rdf_iri.specs.Scope.{InForce}
-use Rattle.rdf_lines.specs.Lines.{Leaf, leaf_of, token}
+use Rattle.rdf_lines.specs.Lines.{Leaf, token}
 use Rattle.rdf_trig.specs.declared.form.DocForm.{DocForm}
 use Rattle.rdf_trig.specs.declared.form.DocForm.TheVariants.{Turtle, TriG}
-use Rattle.rdf_trig.specs.Trees.{PrefixedName, pname_ln, pname_ns, Iri, iri_ref, prefixed, BlankNode, label, anon, Verb, predicate, type_word, String, short, long, Tag, lang_tag, base_tag, prefix_tag, RDFLiteral, plain, tagged, typed, NumericLiteral, integer, decimal, double, BooleanLiteral, true_word, false_word, Literal, rdf, numeric, boolean, Object, iri_object, blank_object, collection_object, list_object, literal_object, Collection, collection, Items, no_items, item, BlankNodePropertyList, property_list, PredicateObjectList, predicate_objects, More, no_more, semicolon, semicolon_objects, ObjectList, objects, Commas, no_commas, comma, Subject, iri_subject, blank_subject, collection_subject, Triples, subject_triples, list_triples, Directive, prefix_id, base, sparql_prefix, sparql_base, LabelOrSubject, iri_label, blank_label, TriplesBlock, last, last_dot, dot, WrappedGraph, wrapped, TriplesOrGraph, named_graph, label_triples, Triples2, list_triples2, collection_triples2, Block, triples_or_graph, default_graph, triples2, graph_word, Statement, Body, Document, end, with_directive, with_body, iri_tokens, verb_tokens, string_tokens, tag_tokens, rdf_tokens, literal_tokens, blank_tokens, object_tokens, collection_tokens, items_tokens, list_tokens, predicates_tokens, more_tokens, objects_tokens, commas_tokens, subject_tokens, maybe_tokens, triples_tokens, directive_tokens, label_tokens, block_tokens, wrapped_tokens, trig_tokens, body_tokens, document_tokens}
-use Rattle.rdf_trig.specs.Names.{prefix_of, reference_in, name_in, prefixed_in, iri_in, with_base, with_binding, behind, is_full}
-use Rattle.rdf_trig.specs.Quads.{Setting, in_default, in_graph, stated, named, node, resource, anon_at, labelled, blank_of, verb_of, short_value, long_value, lexical, tag_of, language, plain_literal, tagged_literal, typed_literal, literal_of, iri_leaf, string_leaf, literal_leaf, object_leaf, cell_at, cell_of, items_of, collection_of, list_of, object_of, subject_of, label_of, rest_quad, head_length, marked_at, own_quad, first_quad, inner_quads, collection_quads, items_quads, list_quads, predicates_quads, more_quads, objects_quads, commas_quads, subject_quads, maybe_quads, triples_quads, block_quads, maybe_block, wrapped_quads, trig_quads, body_quads, document_quads}
-use Rattle.rdf_trig.specs.Events.{Use, itself, stands, binds, Event, Took, Gave, take, name, give, prefixed_events, iri_events, verb_events, string_events, tag_events, blank_object_events, literal_events, object_quad, object_events, collection_events, items_events, rest_events, list_events, predicates_events, more_events, objects_events, commas_events, subject_events, maybe_events, triples_events, binding, directive_events, label_events, block_events, maybe_block_events, wrapped_events, trig_events, body_events, document_events, tokens, marked, HasIri, Bound, BoundFront}
+use Rattle.rdf_trig.specs.Trees.{pname_ln, pname_ns, Iri, iri_ref, prefixed, BlankNode, label, anon, Verb, predicate, type_word, String, short, long, Tag, lang_tag, base_tag, prefix_tag, plain, tagged, typed, integer, decimal, double, true_word, false_word, Literal, rdf, numeric, boolean, Object, iri_object, blank_object, collection_object, list_object, literal_object, Collection, collection, Items, no_items, item, BlankNodePropertyList, property_list, PredicateObjectList, predicate_objects, More, no_more, semicolon, semicolon_objects, ObjectList, objects, Commas, no_commas, comma, Subject, iri_subject, blank_subject, collection_subject, Triples, subject_triples, list_triples, Directive, prefix_id, base, sparql_prefix, sparql_base, LabelOrSubject, iri_label, blank_label, TriplesBlock, last, last_dot, dot, WrappedGraph, wrapped, named_graph, label_triples, list_triples2, collection_triples2, triples_or_graph, default_graph, triples2, graph_word, Body, Document, end, with_directive, with_body, iri_tokens, verb_tokens, string_tokens, tag_tokens, literal_tokens, blank_tokens, object_tokens, collection_tokens, items_tokens, list_tokens, predicates_tokens, more_tokens, objects_tokens, commas_tokens, subject_tokens, maybe_tokens, triples_tokens, directive_tokens, label_tokens, block_tokens, wrapped_tokens, body_tokens, document_tokens}
+use Rattle.rdf_trig.specs.Names.{behind}
+use Rattle.rdf_trig.specs.Quads.{Setting, in_default, in_graph, node, anon_at, verb_of, cell_of, items_of, collection_of, list_of, subject_of, label_of, rest_quad}
+use Rattle.rdf_trig.specs.Events.{Event, take, give, iri_events, verb_events, string_events, tag_events, blank_object_events, literal_events, object_quad, object_events, collection_events, items_events, rest_events, list_events, predicates_events, more_events, objects_events, commas_events, subject_events, maybe_events, triples_events, directive_events, label_events, block_events, maybe_block_events, wrapped_events, body_events, document_events, tokens}
 
 pub tokens_give : (q : Option Quad) (es : List Event) → tokens (give q es) ≡ tokens es
 tokens_give None es = refl

@@ -1,5 +1,5 @@
 -- The laws of the definitions, and of the machine against them.
-use Rattle.std.specs.Prelude.{◌≡◌, ◌≤◌, ℕ, Bool, true, false, List, [], ◌∷◌, ◌++◌, length, codes, Option, Some, None}
+use Rattle.std.specs.Prelude.{◌≡◌, ◌≤◌, ℕ, false, List, [], ◌∷◌, ◌++◌, length, codes, Option, Some, None}
 use Rattle.std.specs.List.{All}
 use Rattle.rdf_terms.specs.declared.kind.Kind.{Kind}
 use Rattle.rdf_terms.specs.declared.kind.Kind.TheVariants.{IriRef, PnameNs, Dot, CloseBracket, CloseParen, OpenBrace, CloseBrace, End}
@@ -12,10 +12,10 @@ use Rattle.rdf_trig.specs.declared.form.DocForm.{DocForm}
 use Rattle.rdf_trig.specs.Trees.{Document, document_tokens}
 use Rattle.rdf_trig.specs.Names.{reference_in, name_in, prefix_of, with_binding}
 use Rattle.rdf_trig.specs.Quads.{document_quads}
-use Rattle.rdf_trig.specs.Events.{Use, Event, tokens, marked, document_events, BoundFront}
+use Rattle.rdf_trig.specs.Events.{Use, tokens, marked, document_events, BoundFront}
 use Rattle.rdf_trig.specs.Documents.{documents, trees, InTree, Passes}
 use Rattle.rdf_trig.specs.Refusals.{Refusal, RefusedFor}
-use Rattle.rdf_trig.specs.Machine.{Over, State, Answer, accepts, refuses, accept, at_start, ran, accept_all}
+use Rattle.rdf_trig.specs.Machine.{Over, State, refuses, accept, at_start, ran, accept_all}
 
 -- The events of a tree have the tokens that it derives, and its quads with their marks.
 abbrev pub EventsTellTheTree : Type 0

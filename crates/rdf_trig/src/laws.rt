@@ -1,1 +1,68 @@
 //! The laws of Turtle and TriG. These functions do nothing: their contracts are the laws.
+
+ghost use Rattle.rdf_trig.specs.Laws.{EventsTellTheTree, MarksNeverFall, TokensSettleTheQuads, TokensSettleWhatIsDue, TokensSettleTheirSenses, ViableIsShapedAndBound, BeginningsAreCompleted, NamelessIsUnbound, DirectivesBind, DocumentsAreAccepted, AcceptedIsADocument, AcceptedBeginsADocument, RefusedForItsReason};
+
+/// The events of a tree, from left to right, have the tokens that it derives, and its quads with their marks.
+pub fn events_tell_the_tree()
+    ensures { EventsTellTheTree }
+{}
+
+/// The marks never fall along the quads of a tree: a quad is not due before one that stands in front of it.
+pub fn marks_never_fall()
+    ensures { MarksNeverFall }
+{}
+
+/// Every tree of the same tokens has the same quads, with the same marks.
+pub fn tokens_settle_the_quads()
+    ensures { TokensSettleTheQuads }
+{}
+
+/// What is due behind some tokens is the same in every document that begins with them.
+pub fn tokens_settle_what_is_due()
+    ensures { TokensSettleWhatIsDue }
+{}
+
+/// What a token stands for is settled by the tokens before it.
+pub fn tokens_settle_their_senses()
+    ensures { TokensSettleTheirSenses }
+{}
+
+/// Tokens begin a document exactly where they begin a tree and their names are bound by what stands before.
+pub fn viable_is_shaped_and_bound()
+    ensures { ViableIsShapedAndBound }
+{}
+
+/// What begins a document is completed to one by a few fixed tokens, which need no binding and no base.
+pub fn beginnings_are_completed()
+    ensures { BeginningsAreCompleted }
+{}
+
+/// A name stands for nothing exactly where its prefix is not bound, a reference where it needs a base and has none.
+pub fn nameless_is_unbound()
+    ensures { NamelessIsUnbound }
+{}
+
+/// A directive binds its prefix to the IRI, and leaves all others as they were.
+pub fn directives_bind()
+    ensures { DirectivesBind }
+{}
+
+/// The machine accepts each document of which no token passes a limit, and gives out its quads.
+pub fn documents_are_accepted()
+    ensures { DocumentsAreAccepted }
+{}
+
+/// What the machine accepts to its end is a document, and what it gave out are its quads.
+pub fn accepted_is_a_document()
+    ensures { AcceptedIsADocument }
+{}
+
+/// What the machine accepts begins a document within the limits, and what it gave out is due.
+pub fn accepted_begins_a_document()
+    ensures { AcceptedBeginsADocument }
+{}
+
+/// Each token that the machine refuses is refused for its reason, and what stands before it is the longest front.
+pub fn refused_for_its_reason()
+    ensures { RefusedForItsReason }
+{}

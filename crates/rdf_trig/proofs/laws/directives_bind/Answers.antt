@@ -1,0 +1,5 @@
+use Rattle.rdf_trig.proofs.NamesLemmas.{binds_prefix}
+use Rattle.rdf_trig.proofs.laws.directives_bind.Goals as goal
+
+pub returns : goal.returns
+returns c = binds_prefix

@@ -1,0 +1,5 @@
+use Rattle.rdf_trig.proofs.Exact.{document_accepted}
+use Rattle.rdf_trig.proofs.laws.documents_are_accepted.Goals as goal
+
+pub returns : goal.returns
+returns c = document_accepted

@@ -1,0 +1,5 @@
+use Rattle.rdf_trig.proofs.LawLemmas.{tree_told}
+use Rattle.rdf_trig.proofs.laws.events_tell_the_tree.Goals as goal
+
+pub returns : goal.returns
+returns c = tree_told

@@ -1,0 +1,5 @@
+use Rattle.rdf_trig.proofs.NamesLemmas.{nameless_where}
+use Rattle.rdf_trig.proofs.laws.nameless_is_unbound.Goals as goal
+
+pub returns : goal.returns
+returns c = nameless_where

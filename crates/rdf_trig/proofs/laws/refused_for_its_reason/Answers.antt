@@ -1,0 +1,5 @@
+use Rattle.rdf_trig.proofs.LawLemmas.{stops}
+use Rattle.rdf_trig.proofs.laws.refused_for_its_reason.Goals as goal
+
+pub returns : goal.returns
+returns c = stops

@@ -1,0 +1,5 @@
+use Rattle.rdf_trig.proofs.Exact.{same_due}
+use Rattle.rdf_trig.proofs.laws.tokens_settle_what_is_due.Goals as goal
+
+pub returns : goal.returns
+returns c = same_due

@@ -1,0 +1,5 @@
+use Rattle.rdf_trig.proofs.Bounds.{viable_bound}
+use Rattle.rdf_trig.proofs.laws.viable_is_shaped_and_bound.Goals as goal
+
+pub returns : goal.returns
+returns c = viable_bound
