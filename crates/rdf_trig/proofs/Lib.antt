@@ -14,3 +14,4 @@ pub mod Bounds
 pub mod NamesLemmas
 pub mod Completed
 pub mod LawLemmas
+pub mod Vectors
