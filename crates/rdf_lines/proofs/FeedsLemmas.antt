@@ -3,6 +3,7 @@ use Rattle.std.proofs.Common.{◌≡◌, ℕ, zero, suc, ◌+◌, ◌<◌, ◌�
 use mathlib.Core.Bool.{Bool-set}
 use Rattle.std.proofs.Math.Bridge.{le_prop}
 use Rattle.std.proofs.Math.Logic.{∥∥₁_elim, ∥∥₁_prop}
+use Rattle.std.proofs.Math.Seq.{take-append_seam}
 use Rattle.std.proofs.lemmas.List.{append-nil, take-append-drop, length-take-le}
 use Rattle.rdf_terms.specs.declared.kind.Dialect.{Dialect}
 use Rattle.rdf_terms.specs.declared.kind.Dialect.TheVariants.{Lines}
@@ -13,7 +14,7 @@ use Rattle.rdf_terms.specs.declared.reason.Reason.TheVariants.{DocumentTooLong, 
 use Rattle.rdf_terms.specs.Terms.{Quad}
 use Rattle.rdf_tokens.specs.Tokens.{Place, Token, Reading}
 use Rattle.rdf_tokens.specs.Tokens.Outcome.{complete}
-use Rattle.rdf_tokens.specs.Good.{tokens_of}
+use Rattle.rdf_tokens.specs.Good.{tokens_of, end_of}
 use Rattle.rdf_tokens.specs.Unread.{Unread}
 use Rattle.rdf_tokens.specs.Scans as Scan
 use Rattle.rdf_tokens.specs.Scans.{IsOpen, TakesBytes, RefusesFor, most_bytes}
@@ -27,7 +28,7 @@ use Rattle.rdf_lines.specs.Lines.{documents}
 use Rattle.rdf_lines.specs.Machine.{Mode, Begin, is_taken, ran, run}
 use Rattle.rdf_lines.specs.Documents.{RefusedIn}
 use Rattle.rdf_lines.specs.LineRead.{LineRead}
-use Rattle.rdf_lines.specs.Readers.{tokens_so_far, HasRead, IsDueIn, LeavesOff, Refuses, Feeds, FeedFails}
+use Rattle.rdf_lines.specs.Readers.{tokens_so_far, HasRead, IsDueIn, LeavesOff, Refuses, Feeds, FeedFails, IsTooLong}
 use Rattle.rdf_lines.specs.Reading.{Stand, Advances, IsDecided, IsEnded, ReadsAll, FailsAfter, Known, IsReady, IsLive}
 use Rattle.rdf_lines.proofs.DocumentsLemmas.{refused_in_more}
 use Rattle.rdf_lines.proofs.ReachedLemmas.{Reached, reached_on, reached_begins, due_in_reading, appends_both, appends_attempts}
@@ -114,10 +115,12 @@ module _ {S : Type 0} (old : LineRead) (piece : List ℕ) (sink : S) where
           (stand_of old sink) [] [] [] sink (advances_none takes (rules_of old) (stand_of old sink)) refl
           (λ bytes us quads r. subst (IsDueIn old.form (tokens_of Lines old.scanner.limit bytes old.scanner.ended)) (sym (append-nil quads)) (due_in_reading (rules_of old) old.scanner old.mode bytes us quads r))
 
-      long : (0 < length piece) → old.scanner.taken.offset ≡ most_bytes → (bytes : List ℕ) (quads : List Quad) → HasRead old bytes quads → most_bytes < length (bytes ++ piece)
-      long l m bytes quads h =
+      long : (0 < length piece) → old.scanner.taken.offset ≡ most_bytes → at ≡ old.scanner.taken → (bytes : List ℕ) (quads : List Quad) → HasRead old bytes quads → IsTooLong (bytes ++ piece) at
+      long l m p bytes quads h =
           let a : old.scanner.taken.offset ≡ length bytes = ap (λ p. p.offset) h.scanned.taken in
-          omega (arith, length-append bytes piece)
+          let size = length-append bytes piece in
+          let front : take most_bytes (bytes ++ piece) ≡ bytes = ap (λ k. take k (bytes ++ piece)) (sym m ∙ a) ∙ take-append_seam bytes piece in
+          (omega arith, p ∙ (h.scanned.taken ∙ ap end_of (sym front)))
 
       by : (reason : Reason) → RefusesFor reason old.scanner piece at v → FeedFails takes leaves failed reason at old sink piece new sink
       by Ended r =
@@ -125,7 +128,7 @@ module _ {S : Type 0} (old : LineRead) (piece : List ℕ) (sink : S) where
           (λ s. absurd (let z : true ≡ false = sym s ∙ o.running in cc))
           (λ s. absurd (let z : true ≡ false = sym s ∙ o.more in cc))
           r.0
-      by DocumentTooLong r = (nothing, long r.1 r.2)
+      by DocumentTooLong r = (nothing, long r.1 r.2 r.3)
       by Memory r = nothing
       by reason r = absurd r
 
@@ -315,7 +318,7 @@ module _ {S : Type 0} (takes : S → Quad → S → Type 0) where
     fails_later Memory at c d z r l = leaves_later z l
     fails_later Sink at c d z r l = (leaves_later z l.0, l.1)
     fails_later DocumentTooLong at c d z r l =
-        (leaves_later z l.0, λ bytes quads h. subst (λ w. most_bytes < length w) (append_assoc bytes front rest) (l.1 (bytes ++ front) (quads ++ fed.more) (fed.read bytes quads h)))
+        (leaves_later z l.0, λ bytes quads h. subst (λ w. IsTooLong w at) (append_assoc bytes front rest) (l.1 (bytes ++ front) (quads ++ fed.more) (fed.read bytes quads h)))
     fails_later reason at c d z r l = refuses_later reason at z l
 
 -- what was taken goes to the front

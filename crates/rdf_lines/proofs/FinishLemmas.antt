@@ -15,21 +15,21 @@ use Rattle.rdf_tokens.specs.Unread.{Unread}
 use Rattle.rdf_tokens.specs.Moves.{closed}
 use Rattle.rdf_tokens.specs.Scans as Scan
 use Rattle.rdf_tokens.specs.Scans.{IsOpen}
-use Rattle.rdf_tokens.specs.Grammars.{counted}
+use Rattle.rdf_tokens.specs.Grammars.{counted, PassesNone}
 use Rattle.rdf_tokens.proofs.GrammarsLemmas.{counted-append, counted_undecided, counted_complete}
 use Rattle.rdf_lines.specs.declared.form.LineForm.{LineForm}
 use Rattle.rdf_lines.specs.declared.form.LineForm.TheVariants.{NTriples, NQuads}
 use Rattle.rdf_lines.specs.declared.fault.Fault.{Fault}
 use Rattle.rdf_lines.specs.Lines.{Leaf, leaf_of, IsDocument}
 use Rattle.rdf_lines.specs.Machine.{Mode, Begin, AfterString, AfterObject, AfterDot, Finished, Answer, goes, gives, refuses, is_taken, accept, ran, refused, go_on, run}
-use Rattle.rdf_lines.specs.Documents.{Document, RefusedIn}
+use Rattle.rdf_lines.specs.Documents.{Document, Passes, RefusedIn}
 use Rattle.rdf_lines.specs.LineRead.{LineRead}
 use Rattle.rdf_lines.specs.Readers.{tokens_so_far, HasRead, IsDueIn, Sums, Finishes, FinishFails, place_of}
 use Rattle.rdf_lines.specs.Reading.{Stand, Advances, IsEnded, ReadsAll, ReadsTokens, Known, IsReady, IsLive}
 use Rattle.rdf_lines.proofs.Sound.{sound}
 use Rattle.rdf_lines.proofs.Runs.{with_quads, run_one, then_ran, run_append}
-use Rattle.rdf_lines.proofs.DocumentsLemmas.{document_complete}
-use Rattle.rdf_lines.proofs.Refusals.{in_documents}
+use Rattle.rdf_lines.proofs.DocumentsLemmas.{document_complete, document_front}
+use Rattle.rdf_lines.proofs.Refusals.{in_documents, ran_none}
 use Rattle.rdf_lines.proofs.ReachedLemmas.{Reached, reached_on}
 use Rattle.rdf_lines.proofs.FailsLemmas.{rules_of, Reaches, Told, told}
 use Rattle.rdf_lines.proofs.FeedsLemmas.{stand_of, dots_le}
@@ -123,7 +123,7 @@ module _ {S : Type 0} (old : LineRead) (v : Unread) (sink : S) (last : v ≡ rec
       ended : IsEnded all.tokens × (new.scanner.stopped ≡ true)
       ended = ⊎_elim (λ d. absurd (let z : true ≡ false = sym ended_now ∙ (sym all.advances.ended ∙ d.more.more) in cc)) (λ e. e) all.rests
 
-      sums : (bytes : List ℕ) (quads : List Quad) → HasRead old bytes quads → Sums old.form old.scanner.limit bytes (quads ++ all.quads) new.so_far
+      sums : (bytes : List ℕ) (quads : List Quad) → HasRead old bytes quads → Sums old.form old.scanner.limit old.iri bytes (quads ++ all.quads) new.so_far
       sums bytes quads h =
           let us = (tokens_so_far old.scanner.limit bytes).tokens in
           let ts = us ++ all.tokens in
@@ -141,6 +141,7 @@ module _ {S : Type 0} (old : LineRead) (v : Unread) (sink : S) (last : v ≡ rec
           let tokens : (tokens_of Lines old.scanner.limit bytes true).tokens ≡ ts = ap (λ x. x.tokens) (sym same) ∙ reads.0 in
           let is_document = subst (λ x. IsDocument has_scheme old.form x (quads ++ all.quads)) (sym tokens) document in
           let complete = document_complete old.form old.scanner.limit bytes true (quads ++ all.quads) is_document in
+          let none = subst (PassesNone (Passes old.iri)) (sym tokens) (ran_none old.iri old.form ts Begin new.mode (quads ++ all.quads) r.ran) in
           let count = counted_complete Lines old.scanner.limit bytes true complete in
           let same_count : counted (tokens_of Lines old.scanner.limit bytes true).tokens ≡ counted ts = ap counted tokens in
           let parts_counted = counted-append us all.tokens in
@@ -152,6 +153,7 @@ module _ {S : Type 0} (old : LineRead) (v : Unread) (sink : S) (last : v ≡ rec
           let new_tokens : new.so_far.tokens ≡ old.so_far.tokens + counted all.tokens = ap (λ s. s.tokens) all.advances.so_far in
           record {
             document = (complete, is_document);
+            whole = record { ends = complete; front = document_front old.form old.iri (tokens_of Lines old.scanner.limit bytes true) (quads ++ all.quads) is_document none };
             given = omega arith;
             accepted = omega arith;
             taken = ap (λ s. s.bytes) all.advances.so_far ∙ ap (λ s. s.bytes) h.so_far;

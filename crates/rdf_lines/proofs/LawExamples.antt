@@ -1,15 +1,35 @@
--- The laws at two quads that have each kind of node, a string with characters that are escaped, and a graph label.
-use Rattle.std.proofs.Common.{◌≡◌, ◌≢◌, ℕ, List, [], ◌∷◌, refl, Some, None, lit<, lit≤}
-use Rattle.std.specs.Prelude.{codes}
+-- The laws at two quads that have each kind of node, a string with characters that are escaped, and a graph label; and at a document of one line.
+use Rattle.std.proofs.Common.{◌≡◌, ◌≢◌, ℕ, true, false, List, [], ◌∷◌, refl, sym, ◌∙◌, subst, Some, None, lit<, lit≤}
+use Rattle.std.specs.Prelude.{codes, map, encode_utf8_all}
+use Rattle.std.specs.List.{AllByRecursion}
+use Rattle.std.proofs.Math.Utf8.{encode}
+use Rattle.std.specs.Str.{chars, is_utf8}
+use Rattle.std.specs.Str.Lossy.{utf8_valid_len, utf8_error_len}
 use Rattle.std.specs.Fmt.{digits}
 use Rattle.rdf_terms.specs.declared.kind.Dialect.TheVariants.{Lines}
+use Rattle.rdf_terms.specs.declared.kind.Kind.{Kind}
+use Rattle.rdf_terms.specs.declared.kind.Kind.TheVariants.{IriRef, Dot, LineEnd}
+use Rattle.rdf_terms.specs.declared.reason.Reason.{Reason}
 use Rattle.rdf_terms.specs.Classes.{has}
-use Rattle.rdf_terms.specs.Shapes.{label_name, tag_name}
-use Rattle.rdf_terms.specs.Terms.{Label, Anon, Cell, Lang, Iri, Blank, Resource, Literal, Quad, IsIri, IsLabel, IsTag}
+use Rattle.rdf_terms.specs.Shapes.{label_name, tag_name, shape, kind_of, is_live}
+use Rattle.rdf_terms.specs.Values.{is_fit}
+use Rattle.rdf_terms.specs.Terms.{Label, Anon, Cell, Lang, Iri, Blank, Resource, Literal, Quad, IsIri, IsLabel, IsTag, has_scheme}
+use Rattle.rdf_tokens.specs.Tokens.{Place, Token, step, read, tokens}
+use Rattle.rdf_tokens.specs.Tokens.Outcome.{complete, token_too_long}
+use Rattle.rdf_tokens.specs.Good.{tokens_of}
+use Rattle.rdf_tokens.specs.Grammars.{Due, Within}
+use Rattle.rdf_lines.specs.declared.form.LineForm.TheVariants.{NTriples, NQuads}
 use Rattle.rdf_terms.proofs.ShapesLemmas.{form-matches}
 use Rattle.rdf_lines.specs.declared.form.Style.TheVariants.{Tagged}
-use Rattle.rdf_lines.specs.Writing.{Writable, rename_node, text}
-use Rattle.rdf_lines.specs.Laws.{ReadsBack}
+use Rattle.rdf_lines.specs.Lines.{documents}
+use Rattle.rdf_lines.specs.Machine.{Begin, ran, run}
+use Rattle.rdf_lines.specs.Documents.{Passes, Refused, GoesOn}
+use Rattle.rdf_lines.specs.LineRead.{LineRead}
+use Rattle.rdf_lines.specs.Readers.{HasRead}
+use Rattle.rdf_lines.specs.Writing.{Writable, rename, rename_node, text}
+use Rattle.rdf_lines.specs.Laws.{ReadsBack, IrisWithin, IsReadToItsEnd}
+use Rattle.rdf_lines.proofs.AcceptedLemmas.{quads_due, documents_read, refused_no_document, text_read}
+use Rattle.rdf_lines.proofs.Due.{due_ran, same_due}
 use Rattle.rdf_lines.proofs.ReadBack.{bytes_read_back}
 use Rattle.rdf_lines.proofs.Renamed.{rename_injective}
 
@@ -57,3 +77,63 @@ example_reads_back = bytes_read_back Tagged example 80 writable (lit≤ tt)
 
 pub label_and_node_apart : rename_node Tagged (Label label) ≢ rename_node Tagged (Anon 27)
 label_and_node_apart e = let same : Label label ≡ Anon 27 = rename_injective Tagged (Label label) (Anon 27) label_is (lit< tt) e in cc
+
+-- the bytes of the two lines are read to their end, where a token may have 80 characters and an IRI 10 bytes
+short : AllByRecursion (IrisWithin 10) example
+unfolding encode
+short = (
+  record { subject = tt; predicate = lit≤ tt; object = tt; graph = tt },
+  (record { subject = tt; predicate = lit≤ tt; object = tt; graph = lit≤ tt }, tt),
+)
+
+abbrev bytes : List ℕ
+bytes = encode_utf8_all (text Tagged example)
+
+pub example_is_read : IsReadToItsEnd NQuads 80 10 bytes
+unfolding digits
+example_is_read = text_read Tagged example 80 10 writable (lit≤ tt) short
+
+-- they are refused nowhere, and are a document that is read
+within : Within (documents NQuads) (Passes 10) (tokens_of Lines 80 bytes true) bytes
+unfolding digits encode
+within = record {
+  tokens = λ v e. let z : complete ≡ token_too_long = sym example_is_read.whole.ends ∙ e in cc;
+  limits = example_is_read.whole.front.kept;
+  size = lit≤ tt;
+}
+
+pub example_is_not_refused : (reason : Reason) (at : Place) → Refused NQuads 80 10 bytes true reason at → ⊥
+example_is_not_refused reason at x = refused_no_document NQuads 80 10 bytes (map (rename Tagged) example) reason at x example_reads_back within
+
+pub example_goes_on : GoesOn NQuads 80 10 []
+example_goes_on = (documents_read NQuads 80 10 bytes (map (rename Tagged) example) example_reads_back within).fronts [] bytes refl
+
+-- a line of N-Triples
+abbrev one_line : List ℕ
+one_line = codes "<a:> <a:> <a:>.\n"
+
+abbrev spelled : Kind → ℕ → List ℕ → Token
+spelled k n w = record { kind = k; text = w; at = record { offset = n; line = 1 } }
+
+abbrev line_tokens : List Token
+line_tokens =
+    spelled IriRef 0 (codes "<a:>") ∷ spelled IriRef 5 (codes "<a:>") ∷ spelled IriRef 10 (codes "<a:>") ∷ spelled Dot 14 (codes ".") ∷ spelled LineEnd 15 (codes "\n") ∷ []
+
+line_read : (tokens_of Lines 8 one_line false).tokens ≡ line_tokens
+unfolding tokens_of tokens read step kind_of is_live shape has chars utf8_valid_len utf8_error_len is_utf8 encode is_fit
+line_read = refl
+
+abbrev line_quad : Quad
+line_quad = record { subject = Iri (codes "a:"); predicate = codes "a:"; object = Resource (Iri (codes "a:")); graph = None }
+
+line_ran : run has_scheme NTriples Begin line_tokens ≡ ran Begin (line_quad ∷ [])
+unfolding has
+line_ran = refl
+
+-- a reader that has read it has put its quad, and no other
+pub line_is_put : (r : LineRead) (quads : List Quad) → r.form ≡ NTriples → r.scanner.limit ≡ 8 → HasRead r one_line quads → quads ≡ line_quad ∷ []
+line_is_put r quads f l h =
+    let due = (quads_due r one_line quads h).1 in
+    let here : Due (documents NTriples) (tokens_of Lines 8 one_line false).tokens quads =
+    subst (λ x. Due (documents x) (tokens_of Lines 8 one_line false).tokens quads) f (subst (λ n. Due (documents r.form) (tokens_of Lines n one_line false).tokens quads) l due) in
+    same_due NTriples line_tokens quads (line_quad ∷ []) (subst (λ ts. Due (documents NTriples) ts quads) line_read here) (due_ran NTriples line_tokens Begin (line_quad ∷ []) line_ran)

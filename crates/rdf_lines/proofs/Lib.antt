@@ -26,3 +26,5 @@ mod FailsLemmas
 mod FeedsLemmas
 mod FinishLemmas
 mod NewLemmas
+mod PromiseLemmas
+mod AcceptedLemmas

@@ -6,7 +6,7 @@ use Rattle.rdf_terms.specs.declared.reason.Reason.{Reason}
 use Rattle.rdf_terms.specs.declared.reason.Reason.TheVariants.{BadUtf8, NoToken, BadEscape, TokenTooLong, Unexpected, RelativeIri, IriTooLong}
 use Rattle.rdf_terms.specs.Terms.{Quad, has_scheme}
 use Rattle.rdf_tokens.specs.Tokens.{Place, Outcome, Token, Reading}
-use Rattle.rdf_tokens.specs.Tokens.Outcome.{complete, token_too_long, bad_utf8, no_token, bad_escape}
+use Rattle.rdf_tokens.specs.Tokens.Outcome.{undecided, complete, token_too_long, bad_utf8, no_token, bad_escape}
 use Rattle.rdf_tokens.specs.Good.{tokens_of}
 use Rattle.rdf_tokens.specs.Grammars.{Viable, Shaped, IsFront}
 use Rattle.rdf_iri.specs.Texts.{byte_len}
@@ -25,6 +25,19 @@ Passes iri ahead t = (t.kind ≡ IriRef) × (iri < byte_len (iri_of (leaf_of t))
 -- the front of a reading's tokens: what a document has, up to the first token that passes the limit
 abbrev pub IsFrontOf : LineForm → ℕ → Reading → List Token → Type 0
 IsFrontOf form iri reading ahead = IsFront (documents form) (Passes iri) reading.tokens ahead
+
+-- All tokens of the reading are in the front, and it ends so.
+pub record InFront (form : LineForm) (iri : ℕ) (reading : Reading) (end : Outcome) : Type 0 where
+  pub ends : reading.outcome ≡ end
+  pub front : IsFrontOf form iri reading reading.tokens
+
+-- The bytes decide tokens that are all in the front, and leave the next one open.
+abbrev pub GoesOn : LineForm → ℕ → ℕ → List ℕ → Type 0
+GoesOn form limit iri bytes = InFront form iri (tokens_of Lines limit bytes false) undecided
+
+-- The tokens of the bytes come to their end, and are all in the front.
+abbrev pub IsWhole : LineForm → ℕ → ℕ → List ℕ → Type 0
+IsWhole form limit iri bytes = InFront form iri (tokens_of Lines limit bytes true) complete
 
 -- No token stands at the place, and all tokens before it are in the front.
 pub record Stops (form : LineForm) (iri : ℕ) (reading : Reading) (why : Outcome) (at : Place) (ahead : List Token) : Type 0 where

@@ -1,10 +1,10 @@
-// Laws of the written lines, over the definitions alone.
+// Laws of line reading and of the written lines, over the definitions alone.
 
 ghost use Rattle.std.specs.Prelude.{◌≡◌, ℕ, List, ◌≤◌, length};
 ghost use Rattle.rdf_terms.specs.Terms.{IsNode, Node, Quad};
 ghost use Rattle.rdf_lines.specs.declared.form.Style.{Style};
 ghost use Rattle.rdf_lines.specs.Writing.{Writable, rename_node, text};
-ghost use Rattle.rdf_lines.specs.Laws.{ReadsBack};
+ghost use Rattle.rdf_lines.specs.Laws.{ReadsBack, ReadQuadsAreDue, DocumentsAreRead, RefusedIsNoDocument, WrittenTextIsRead};
 
 /// The bytes written for quads are a document of N-Quads, whose quads are these, renamed, one for one and in
 /// order. Any limit on a token's characters that is not below the text's length serves.
@@ -15,4 +15,25 @@ pub fn written_text_reads_back()
 /// No two nodes are written under one name.
 pub fn names_stay_apart()
     ensures { (s : Style) (m n : Node) → IsNode m → IsNode n → rename_node s m ≡ rename_node s n → m ≡ n }
+{}
+
+/// What a reader has read begins a document within the limits, and the quads that were put are those that are due.
+pub fn read_quads_are_due()
+    ensures { ReadQuadsAreDue }
+{}
+
+/// A document within the limits is read to its end, and nothing that begins it is refused.
+pub fn documents_are_read()
+    ensures { DocumentsAreRead }
+{}
+
+/// What is refused is no document within the limits.
+pub fn refused_is_no_document()
+    ensures { RefusedIsNoDocument }
+{}
+
+/// What is written for quads is read to its end by a reader of N-Quads. Any limit on a token's characters that is not
+/// below the text's length serves, and any limit on IRIs that is not below the bytes of the longest.
+pub fn written_text_is_read()
+    ensures { WrittenTextIsRead }
 {}

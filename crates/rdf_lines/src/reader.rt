@@ -1,8 +1,10 @@
 // The reader of the line formats.
 
-ghost use Rattle.std.specs.Prelude.{◌≡◌, ◌≤◌, ◌<◌, ℕ, [], true, false, OnOk, OnErr, IfOk, IfErr};
+ghost use Rattle.std.specs.Prelude.{◌≡◌, ◌≤◌, ◌<◌, ◌++◌, ℕ, List, [], true, false, not, is_ok, OnOk, OnErr, IfOk, IfErr};
 ghost use Rattle.rdf_tokens.specs.Scans.{most_bytes};
-ghost use Rattle.rdf_lines.specs.Readers.{HasRead, SameReader, Feeds, FeedFails, Finishes, FinishFails, place_of};
+ghost use Rattle.rdf_terms.specs.Terms.{Quad};
+ghost use Rattle.rdf_lines.specs.Documents.{GoesOn, IsWhole};
+ghost use Rattle.rdf_lines.specs.Readers.{HasRead, SameReader, Feeds, FeedFails, Finishes, FinishFails, Exactly, IsPlaced, place_of};
 
 use crate::fault::{Fault, Summary};
 use crate::form::LineForm;
@@ -74,7 +76,9 @@ impl<A: Allocator + Copy> LineReader<A> {
         ensures few { OnOk result (self.new.scanner.taken.offset ≤ most_bytes) }
         ensures live { OnOk result (S.has_failed sink.new ≡ false) }
         ensures err { IfErr result (λ f. FeedFails S.takes S.leaves S.has_failed f.reason (place_of f) self.old sink.old piece.now self.new sink.new) }
-        ensures done { OnErr result (self.new.done ≡ true) }
+        ensures exact { (bytes : List ℕ) (quads : List Quad) → HasRead self.old bytes quads → Exactly result (GoesOn self.old.form self.old.scanner.limit self.old.iri (bytes ++ piece.now)) }
+        ensures place { IfErr result (λ f. (bytes : List ℕ) (quads : List Quad) → HasRead self.old bytes quads → IsPlaced f.reason (bytes ++ piece.now) (place_of f)) }
+        ensures done { self.new.done ≡ not (is_ok result) }
     {
         if self.done {
             return Err(self.ended());
@@ -100,6 +104,8 @@ impl<A: Allocator + Copy> LineReader<A> {
         requires { self.old.done ≡ false → S.has_failed sink.old ≡ false }
         ensures ok { IfOk result (λ s. Finishes S.takes self.old sink.old s sink.new) }
         ensures err { IfErr result (λ f. FinishFails S.takes S.leaves S.has_failed f.reason (place_of f) self.old sink.old self.new sink.new) }
+        ensures exact { (bytes : List ℕ) (quads : List Quad) → HasRead self.old bytes quads → Exactly result (IsWhole self.old.form self.old.scanner.limit self.old.iri bytes) }
+        ensures place { IfErr result (λ f. (bytes : List ℕ) (quads : List Quad) → HasRead self.old bytes quads → IsPlaced f.reason bytes (place_of f)) }
         ensures done { self.new.done ≡ true }
     {
         if self.done {

@@ -1,0 +1,131 @@
+-- A document within the limits is read to its end, and so is what was written.
+use Rattle.std.proofs.Common.{◌≡◌, ◌≢◌, ℕ, ◌≤◌, Bool, true, false, not, nat_lt, List, [], ◌∷◌, ◌++◌, inr, length, refl, sym, ap, ◌∙◌, subst, Option, Some, None}
+use Rattle.std.specs.List.{AllByRecursion}
+use Rattle.std.specs.Prelude.{map, option_map, encode_utf8_all}
+use Rattle.std.proofs.lemmas.Bool.{and_from, le-ltb}
+use Rattle.rdf_terms.specs.declared.kind.Dialect.TheVariants.{Lines}
+use Rattle.rdf_terms.specs.Terms.{Lang, Typed, Subject, Iri, Blank, Term, Resource, Literal, Quad, has_scheme}
+use Rattle.rdf_iri.specs.Texts.{byte_len}
+use Rattle.rdf_tokens.specs.Tokens.{Outcome, Token, Reading}
+use Rattle.rdf_tokens.specs.Tokens.Outcome.{undecided, complete}
+use Rattle.rdf_tokens.specs.Good.{tokens_of}
+use Rattle.rdf_tokens.specs.Grammars.{Viable, PassesNone}
+use Rattle.rdf_tokens.proofs.LawLemmas.{lengthens}
+use Rattle.rdf_tokens.proofs.GrammarsLemmas.{only_ended}
+use Rattle.rdf_tokens.proofs.GrammarFronts.{viable_front, none_front, front_whole}
+use Rattle.rdf_lines.specs.declared.form.LineForm.{LineForm}
+use Rattle.rdf_lines.specs.declared.form.LineForm.TheVariants.{NQuads}
+use Rattle.rdf_lines.specs.declared.form.Style.{Style}
+use Rattle.rdf_lines.specs.Lines.{Name, Ref, Lab, Object, Named, Plain, WithType, WithTag, Statement, Line, Document as Tree, last, next, iri_of, subject_of, term_of, quad_of, quads, name_bound, object_bound, graph_bound, GoodStatement, GoodDocument, IsDocument, documents}
+use Rattle.rdf_lines.specs.Lines as L
+use Rattle.rdf_lines.specs.Machine.{Begin, Finished, is_taken}
+use Rattle.rdf_lines.specs.Documents.{Document, Passes, IsFrontOf, InFront, GoesOn, IsWhole}
+use Rattle.rdf_lines.specs.Writing.{rename_subject, rename_term, rename, text, Writable}
+use Rattle.rdf_lines.specs.Laws.{ReadQuadsAreDue, DocumentsAreRead, RefusedIsNoDocument, WrittenTextIsRead, IsReadToItsEnd, SubjectWithin, TermWithin, GraphWithin, IrisWithin}
+use Rattle.rdf_lines.proofs.Runs.{run_document}
+use Rattle.rdf_lines.proofs.Refusals.{ran_none}
+use Rattle.rdf_lines.proofs.DocumentsLemmas.{document_front, none_refused}
+use Rattle.rdf_lines.proofs.PromiseLemmas.{read_goes_on, read_due}
+use Rattle.rdf_lines.proofs.ReadBack.{bytes_read_back}
+
+pub quads_due : ReadQuadsAreDue
+quads_due r bytes quads h = (read_goes_on r bytes quads h, read_due r bytes quads h)
+
+-- a beginning of what is read to its end goes on
+front_goes_on : (f : LineForm) (limit n : ℕ) (front rest : List ℕ) → IsWhole f limit n (front ++ rest) → GoesOn f limit n front
+front_goes_on f limit n front rest w = record { ends = by (tokens_of Lines limit front false).outcome refl; front = in_front }
+  where
+    by : (o : Outcome) → (tokens_of Lines limit front false).outcome ≡ o → (tokens_of Lines limit front false).outcome ≡ undecided
+    by undecided e = e
+    by complete e = absurd (only_ended Lines limit front e)
+    by o e = absurd (let same = (lengthens Lines limit front rest true).1 (λ x. let z : o ≡ undecided = sym e ∙ x in cc) in let z : o ≡ complete = sym e ∙ (sym (ap (λ r. r.outcome) same) ∙ w.ends) in cc)
+
+    in_front : IsFrontOf f n (tokens_of Lines limit front false) (tokens_of Lines limit front false).tokens
+    in_front =
+        let more = (lengthens Lines limit front rest true).0 in
+        let part = tokens_of Lines limit front false in
+        let whole = w.front in
+        front_whole (documents f) (Passes n) part.tokens (viable_front (documents f) (Passes n) part.tokens more.0 (subst (λ ts. Viable (documents f) ts) more.1 whole.viable))
+        (none_front (documents f) (Passes n) part.tokens more.0 (subst (PassesNone (Passes n)) more.1 whole.kept))
+
+whole_read : (f : LineForm) (limit n : ℕ) (bytes : List ℕ) → IsWhole f limit n bytes → IsReadToItsEnd f limit n bytes
+whole_read f limit n bytes w = record { whole = w; fronts = λ front rest e. front_goes_on f limit n front rest (subst (IsWhole f limit n) e w) }
+
+document_whole : (f : LineForm) (limit n : ℕ) (bytes : List ℕ) (qs : List Quad) → Document f limit bytes qs → PassesNone (Passes n) (tokens_of Lines limit bytes true).tokens → IsWhole f limit n bytes
+document_whole f limit n bytes qs d k = record { ends = d.0; front = document_front f n (tokens_of Lines limit bytes true) qs d.1 k }
+
+pub documents_read : DocumentsAreRead
+documents_read f limit n bytes qs d w = whole_read f limit n bytes (document_whole f limit n bytes qs d w.limits)
+
+pub refused_no_document : RefusedIsNoDocument
+refused_no_document f limit n bytes qs reason at x d w =
+    none_refused f n (tokens_of Lines limit bytes true) complete reason at x.0 d.0 (inr refl) (document_whole f limit n bytes qs d w.limits).front x.1
+
+-- An IRI of at most n bytes with a scheme is taken.
+taken : (n : ℕ) (i : List ℕ) → has_scheme i ≡ true → byte_len i ≤ n → is_taken n i ≡ true
+taken n i s l = and_from (has_scheme i) (not (nat_lt n (byte_len i))) s (ap not (le-ltb n (byte_len i) l))
+
+-- Where the quads of a tree have no longer IRI, each of its IRIs is taken.
+name_taken : (n : ℕ) (x : Name) → name_bound has_scheme x → SubjectWithin n (subject_of x) → name_bound (is_taken n) x
+name_taken n (Ref l) s w = taken n (iri_of l) s w
+name_taken n (Lab l) s w = tt
+
+object_taken : (n : ℕ) (x : Object) → object_bound has_scheme x → TermWithin n (term_of x) → object_bound (is_taken n) x
+object_taken n (Named x) s w = name_taken n x s w
+object_taken n (Plain l) s w = tt
+object_taken n (WithType l c i) s w = taken n (iri_of i) s w
+object_taken n (WithTag l t) s w = tt
+
+graph_taken : (n : ℕ) (x : Option Name) → graph_bound has_scheme x → GraphWithin n (option_map subject_of x) → graph_bound (is_taken n) x
+graph_taken n None s w = tt
+graph_taken n (Some x) s w = name_taken n x s w
+
+statement_taken : (n : ℕ) (f : LineForm) (s : Statement) → GoodStatement has_scheme f s → IrisWithin n (quad_of s) → GoodStatement (is_taken n) f s
+statement_taken n f s g w = record {
+  subject = name_taken n s.subject g.subject w.subject;
+  predicate = taken n (iri_of s.predicate) g.predicate w.predicate;
+  object = object_taken n s.object g.object w.object;
+  graph = graph_taken n s.graph g.graph w.graph;
+  labels = g.labels;
+}
+
+tree_taken : (n : ℕ) (f : LineForm) (d : Tree) → GoodDocument has_scheme f d → AllByRecursion (IrisWithin n) (quads d) → GoodDocument (is_taken n) f d
+tree_taken n f (last L.empty e) g w = tt
+tree_taken n f (last (L.one s) e) g w = statement_taken n f s g w.0
+tree_taken n f (next L.empty e d) g w = (tt, tree_taken n f d g.1 w)
+tree_taken n f (next (L.one s) e d) g w = (statement_taken n f s g.0 w.0, tree_taken n f d g.1 w.1)
+
+-- renaming keeps the IRIs
+subject_renamed : (n : ℕ) (s : Style) (x : Subject) → SubjectWithin n x → SubjectWithin n (rename_subject s x)
+subject_renamed n s (Iri i) w = w
+subject_renamed n s (Blank b) w = tt
+
+term_renamed : (n : ℕ) (s : Style) (x : Term) → TermWithin n x → TermWithin n (rename_term s x)
+term_renamed n s (Resource x) w = subject_renamed n s x w
+term_renamed n s (Literal l t) w = w
+
+graph_renamed : (n : ℕ) (s : Style) (x : Option Subject) → GraphWithin n x → GraphWithin n (option_map (rename_subject s) x)
+graph_renamed n s None w = tt
+graph_renamed n s (Some x) w = subject_renamed n s x w
+
+all_renamed : (n : ℕ) (s : Style) (qs : List Quad) → AllByRecursion (IrisWithin n) qs → AllByRecursion (IrisWithin n) (map (rename s) qs)
+all_renamed n s [] w = tt
+all_renamed n s (q ∷ qs) w = (
+  record {
+    subject = subject_renamed n s q.subject w.0.subject;
+    predicate = w.0.predicate;
+    object = term_renamed n s q.object w.0.object;
+    graph = graph_renamed n s q.graph w.0.graph;
+  },
+  all_renamed n s qs w.1,
+)
+
+pub text_read : WrittenTextIsRead
+text_read s qs limit n h l w =
+    let bytes = encode_utf8_all (text s qs) in
+    let b = bytes_read_back s qs limit h l in
+    let (tree, tokens, good, same) = b.1 in
+    let ts = (tokens_of Lines limit bytes true).tokens in
+    let narrow = tree_taken n NQuads tree good (subst (AllByRecursion (IrisWithin n)) (sym same) (all_renamed n s qs w)) in
+    let none = ran_none n NQuads ts Begin Finished (map (rename s) qs) (run_document (is_taken n) NQuads ts (map (rename s) qs) (tree, tokens, narrow, same)) in
+    whole_read NQuads limit n bytes (document_whole NQuads limit n bytes (map (rename s) qs) b none)
