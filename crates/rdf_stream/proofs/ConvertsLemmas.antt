@@ -1,6 +1,6 @@
 -- From the pieces of a source to all of its bytes.
 use Rattle.std.proofs.Common.{◌≡◌, ◌<◌, ◌≤◌, ◌+◌, ◌-◌, ◌^◌, ℕ, Bool, true, false, List, [], ◌++◌, length, take, Option, Some, None, IfSome, IfOk, IfErr, Result, Ok, Err, refl, sym, ap, subst, ◌∙◌, append_assoc, arith, length-append}
-use Rattle.std.proofs.lemmas.List.{append-nil}
+use Rattle.std.proofs.lemmas.List.{append-nil, take-append-le}
 use Rattle.std.proofs.lemmas.Bool.{false≢true}
 use Rattle.std.proofs.KnownBytes.{Appends-nil, Consumes-kept, Consumes-nil, Consumes-trans, Consumes-whole}
 use Rattle.std.specs.Io.KnownBytes.{Consumes, IsAtEnd, Keeps}
@@ -10,7 +10,7 @@ use Rattle.rdf_terms.specs.declared.reason.Reason.TheVariants as reason
 use Rattle.rdf_terms.specs.declared.kind.Dialect.TheVariants.{Lines}
 use Rattle.rdf_tokens.specs.Tokens.{Place}
 use Rattle.rdf_tokens.specs.Tokens.Outcome.{undecided}
-use Rattle.rdf_tokens.specs.Good.{tokens_of}
+use Rattle.rdf_tokens.specs.Good.{tokens_of, end_of}
 use Rattle.rdf_tokens.specs.Grammars.{Due}
 use Rattle.rdf_lines.specs.Lines.{documents}
 use Rattle.rdf_tokens.specs.Scans.{most_bytes}
@@ -41,7 +41,7 @@ pub record IsConverting {D A : Type 0} (contents : D → Option (List ℕ)) (fai
 refuses_more : (why : Reason) (form : Form) (limits : Sizes) (bytes more : List ℕ) (at : Place) (old new : Option (List ℕ)) → Refuses why form limits bytes false at old new → Refuses why form limits (bytes ++ more) true at old new
 refuses_more reason.DocumentTooLong form limits bytes more at old new h =
     let some = h.1 in (
-      omega (arith, h.0, length-append bytes more),
+      (omega (arith, h.0.0, length-append bytes more), h.0.1 ∙ ap (λ l. end_of l) (sym (take-append-le most_bytes bytes more (omega (arith, h.0.0))))),
       record {
         quads = some.quads;
         later = some.later;

@@ -12,7 +12,6 @@ use Rattle.rdf_terms.specs.Terms.{Quad}
 use Rattle.rdf_tokens.specs.Tokens.{Place, Token, Reading}
 use Rattle.rdf_tokens.specs.Good.{tokens_of}
 use Rattle.rdf_tokens.specs.Grammars.{Due}
-use Rattle.rdf_tokens.specs.Scans.{most_bytes}
 use Rattle.rdf_lines.specs.declared.form.LineForm.{LineForm}
 use Rattle.rdf_lines.specs.declared.form.Style.{Style}
 use Rattle.rdf_lines.specs.declared.form.Style.TheVariants.{Kept}
@@ -286,7 +285,7 @@ module _ {D A : Type 0} (contents : D → Option (List ℕ)) (failed : D → Boo
         }
 
   module _ (summary : Summary) (mid : LineOut D A) (f : Finishes (Takes contents failed) reader lines summary mid) where
-    abbrev sums : R.Sums reader.form reader.scanner.limit bytes (o.quads ++ f.more) summary
+    abbrev sums : R.Sums reader.form reader.scanner.limit reader.iri bytes (o.quads ++ f.more) summary
     sums = f.read bytes o.quads o.read
 
     document' : Document (line_form form) limits.token bytes (o.quads ++ f.more)

@@ -9,7 +9,6 @@ use Rattle.rdf_tokens.specs.Tokens.{Place, Token, Reading}
 use Rattle.rdf_tokens.specs.Tokens.Outcome.{undecided}
 use Rattle.rdf_tokens.specs.Good.{tokens_of}
 use Rattle.rdf_tokens.specs.Grammars.{Due}
-use Rattle.rdf_tokens.specs.Scans.{most_bytes}
 use Rattle.rdf_iri.specs.Limits.{Sizes}
 use Rattle.rdf_lines.specs.declared.form.LineForm.{LineForm}
 use Rattle.rdf_lines.specs.declared.form.LineForm.TheVariants as lines
@@ -19,7 +18,7 @@ use Rattle.rdf_lines.specs.declared.fault.Summary.{Summary}
 use Rattle.rdf_lines.specs.Documents.{Document, RefusedIn}
 use Rattle.rdf_lines.specs.Laws.{ReadsBack}
 use Rattle.rdf_lines.specs.Lines.{documents}
-use Rattle.rdf_lines.specs.Readers.{IsDueIn, place_of}
+use Rattle.rdf_lines.specs.Readers.{IsDueIn, IsTooLong, place_of}
 use Rattle.rdf_lines.specs.Writing.{text}
 use Rattle.rdf_stream.specs.declared.fault.Form.{Form}
 use Rattle.rdf_stream.specs.declared.fault.Form.TheVariants.{NTriples, NQuads}
@@ -80,9 +79,9 @@ pub record WritesFront (form : Form) (reading : Reading) (old new : Option (List
   pub due : IsDueIn (line_form form) reading quads
   pub written : AppendsFront old new (lines_of quads)
 
--- The bytes are refused at the place, so they are no document, and the lines of the quads that are due before it were written; or there are too many bytes.
+-- The bytes are refused at the place, so they are no document, and the lines of the quads that are due before it were written; or there are too many bytes, and the place is behind as many as a document may have.
 abbrev pub Refuses : Reason → Form → Sizes → List ℕ → Bool → Place → Option (List ℕ) → Option (List ℕ) → Type 0
-Refuses DocumentTooLong form limits bytes is_end at old new = (most_bytes < length bytes) × WritesSome form (reading_of limits bytes is_end) old new
+Refuses DocumentTooLong form limits bytes is_end at old new = IsTooLong bytes at × WritesSome form (reading_of limits bytes is_end) old new
 Refuses reason form limits bytes is_end at old new =
     (ahead : List Token) × RefusedIn (line_form form) limits.iri (reading_of limits bytes is_end) reason at ahead × WritesDue form ahead old new
 
