@@ -15,3 +15,4 @@ pub mod NamesLemmas
 pub mod Completed
 pub mod LawLemmas
 pub mod Vectors
+pub mod LawExamples

@@ -59,6 +59,13 @@ split (Took x v ∷ es) (y ∷ ts) t us e =
     let w : tokens es ≡ ts ++ t ∷ us = cc in
     subst (λ a. Split (Took x v ∷ es) (a ∷ ts) t) z (took_first x v (split es ts t us w))
 
+first_sense : (w : Option Quad) (t : Token) (u : Use) (early now : Option Quad) (fs es : List Event) → es ≡ give w (Took t u ∷ give early (give now fs)) → sense_at zero es ≡ Some u
+first_sense w t u early now fs es e = ap (sense_at zero) e ∙ sense_give w zero (Took t u ∷ give early (give now fs))
+
+later_sense : (w : Option Quad) (t : Token) (u : Use) (early now : Option Quad) (n : ℕ) (fs es : List Event) → es ≡ give w (Took t u ∷ give early (give now fs)) → sense_at (suc n) es ≡ sense_at n fs
+later_sense w t u early now n fs es e =
+    ap (sense_at (suc n)) e ∙ sense_give w (suc n) (Took t u ∷ give early (give now fs)) ∙ sense_give early n (give now fs) ∙ sense_give now n fs
+
 -- in a run the token stands for what the machine's step says
 sense_run : (strict : Bool) (form : DocForm) (ts : List Token) (t : Token) (us : List Token) (c : Setting) (m : Mode) (es : List Event) (s : Stand) (u : Use) (early now : Option Quad) (c1 : Setting) (m1 : Mode) →
     run form c m (ts ++ t ∷ us) ≡ Some es → reach strict form c m ts ≡ Some s → step form s.setting s.mode t.kind (leaf_of t) ≡ Go u early now c1 m1 → sense_at (length ts) es ≡ Some u
@@ -67,7 +74,7 @@ sense_run strict form [] t us c m es s u early now c1 m1 r e n =
     let n1 : step form c m t.kind (leaf_of t) ≡ Go u early now c1 m1 = subst (λ x. step form (Stand.setting x) (Stand.mode x) t.kind (leaf_of t) ≡ Go u early now c1 m1) (sym z) n in
     let r1 = sym (ap (λ x. fronted (waiting c m t.kind (leaf_of t)) (go_on t x (λ c' m'. run form c' m' us))) n1) ∙ r in
     let x = unput (waiting c m t.kind (leaf_of t)) t u early now (run form c1 m1 us) es r1 in
-    ap (sense_at zero) x.2 ∙ sense_give (waiting c m t.kind (leaf_of t)) zero (Took t u ∷ give early (give now x.0))
+    first_sense (waiting c m t.kind (leaf_of t)) t u early now x.0 es x.2
 sense_run strict form (y ∷ ts) t us c m es s u early now c1 m1 r e n =
     by (step form c m y.kind (leaf_of y)) r e (λ c' m' fs a b. sense_run strict form ts t us c' m' fs s u early now c1 m1 a b n)
   where
@@ -80,7 +87,7 @@ sense_run strict form (y ∷ ts) t us c m es s u early now c1 m1 r e n =
     by No r e ih = absurd (let z : None ≡ Some s = e in cc)
     by (Go v e1 n1 c' m') r e ih =
         let x = unput (waiting c m y.kind (leaf_of y)) y v e1 n1 (run form c' m' (ts ++ t ∷ us)) es r in
-        ap (sense_at (suc (length ts))) x.2 ∙ sense_give (waiting c m y.kind (leaf_of y)) (suc (length ts)) (Took y v ∷ give e1 (give n1 x.0)) ∙ sense_give e1 (length ts) (give n1 x.0) ∙ sense_give n1 (length ts) x.0 ∙ ih c' m' x.0 x.1 (when (passes strict v) (reach strict form c' m' ts) e)
+        later_sense (waiting c m y.kind (leaf_of y)) y v e1 n1 (length ts) x.0 es x.2 ∙ ih c' m' x.0 x.1 (when (passes strict v) (reach strict form c' m' ts) e)
 
 pub same_sense : (strict : Bool) (form : DocForm) (start : InForce) (ts : List Token) (t : Token) (s : Stand) (u v : Use) (early now : Option Quad) (c : Setting) (m : Mode) →
     reach strict form (in_default start) Start ts ≡ Some s → step form s.setting s.mode t.kind (leaf_of t) ≡ Go u early now c m → InTree form start ts t v → v ≡ u
