@@ -1,7 +1,7 @@
 #!/usr/bin/env python3
 """Runs `rdfconv convert --format nt` over N-Triples of several sizes, beside `wc -l` on the same file in the same run.
 
-    bench/convert.py [MEGABYTES ..]     (10 20 40 80)
+    bench/convert.py [MEGABYTES ..]     (10 100 400)
 
 For each size: MB/s of both (the best of three runs), their ratio, and the most memory that the converter held.
 """
@@ -40,7 +40,7 @@ def held(words, path):
 
 
 def main():
-    sizes = [int(w) for w in sys.argv[1:]] or [10, 20, 40, 80]
+    sizes = [int(w) for w in sys.argv[1:]] or [10, 100, 400]
     with tempfile.TemporaryDirectory() as folder:
         path = os.path.join(folder, 'document.nt')
         for size in sizes:
