@@ -18,4 +18,4 @@ pub use messages::report;
 pub use put::put_all;
 pub use rdf_iri::Limits;
 pub use rdf_lines::{Fault, Summary};
-pub use rdf_terms::Iri;
+pub use rdf_terms::{Iri, TermFault};

@@ -1,9 +1,15 @@
 -- The status that the program exits with, and the texts that it tells.
-use Rattle.std.specs.Prelude.{◌≡◌, ℕ, Bool, false, List, Option}
+use Rattle.std.specs.Prelude.{◌≡◌, ◌≢◌, ℕ, Bool, false, List, Option, codes}
 use Rattle.std.specs.Io.KnownBytes.{Appends}
+use Rattle.clap.specs.Words.{kind_of}
+use Rattle.clap.specs.declared.error.kind.ErrorKind.{ErrorKind}
+use Rattle.clap.specs.declared.error.kind.ErrorKind.TheVariants.{DisplayHelp, DisplayVersion}
 use Rattle.rdf_stream.specs.Devices.{AppendsFront}
+use Rattle.rdf_stream.specs.Messages.{report_text}
 use Rattle.rdf_stream.specs.declared.fault.StreamFault.{StreamFault}
 use Rattle.rdf_stream.specs.declared.fault.StreamFault.TheVariants.{Refused, Read, Write, Memory}
+use Rattle.rdf_tool.specs.declared.task.WordsFault.{WordsFault}
+use Rattle.rdf_tool.specs.declared.task.WordsFault.TheVariants as words
 
 -- 0 is for what was accepted, and 2 for words that are no command
 abbrev pub status_of : StreamFault → ℕ
@@ -15,3 +21,13 @@ status_of Memory = 4
 -- The text is written to a device, or a beginning of it, where the device failed.
 abbrev pub Tells : List ℕ → Option (List ℕ) → Option (List ℕ) → Bool → Type 0
 Tells text old new failed = AppendsFront old new text × (failed ≡ false → Appends old new text)
+
+-- 0 where help was asked for, and else 2
+abbrev pub IsUsageStatus : ErrorKind → ℕ → Type 0
+IsUsageStatus kind status = (kind ≡ DisplayHelp → status ≡ 0) × (kind ≢ DisplayHelp → kind ≢ DisplayVersion → status ≡ 2)
+
+-- the status of words that are no task, and the text that is told where it is no text of clap's
+abbrev pub Refuses : WordsFault → ℕ → Option (List ℕ) → Option (List ℕ) → Bool → Type 0
+Refuses (words.Usage e) status old new failed = IsUsageStatus (kind_of e) status
+Refuses words.BadBase status old new failed = (status ≡ 2) × Tells (codes "rdfconv: bad base\n") old new failed
+Refuses words.Memory status old new failed = (status ≡ 4) × Tells (report_text Memory) old new failed

@@ -1,45 +1,190 @@
 -- The program's command line, and the task that its words ask for.
-use Rattle.std.specs.Prelude.{◌≡◌, ◌∷◌, true, false, List, [], Option, Some, codes}
-use Rattle.clap.specs.Words.{App, Row, Rule, Text, new_app, new_rule, with_rule, with_subcommand, first_of}
+use Rattle.std.specs.Prelude.{◌≡◌, ◌≢◌, ◌∷◌, ◌≤◌, ◌^◌, ℕ, true, false, List, [], Option, Some, codes, length, map, option_map, IfSome}
+use Rattle.std.specs.Borrow.{Bor}
+use Rattle.std.specs.Str.{chars}
+use Rattle.std.specs.Str.Parse.{digits_value, without_leading_plus}
+use Rattle.std.specs.String.{string_bytes}
+use Rattle.clap.specs.Words.{App, IsAmong, IsUnsignedIn, Row, Rule, Text, fault_of, first_of, kind_of, new_app, new_rule, subcommand_of, with_rule, with_subcommand}
+use Rattle.clap.specs.Walk.{texts}
 use Rattle.clap.specs.Simple.{app_of, on_top}
 use Rattle.clap.specs.declared.builder.command.Command.{Command}
 use Rattle.clap.specs.declared.builder.command.Command.TheViews.{out-Command}
 use Rattle.clap.specs.declared.builder.action.ArgAction.TheVariants.{Set}
 use Rattle.clap.specs.declared.builder.value_parser.ValueParser.{ValueParser}
+use Rattle.clap.specs.declared.builder.value_parser.ValueParser.TheVariants.{Names, Unsigned}
+use Rattle.clap.specs.declared.error.Error.{Error}
+use Rattle.clap.specs.declared.error.kind.ErrorKind.{ErrorKind}
+use Rattle.clap.specs.declared.error.kind.ErrorKind.TheVariants.{OutOfMemory}
+use Rattle.rdf_terms.specs.Terms.{IsIri}
+use Rattle.rdf_iri.specs.Limits.{Sizes}
 use Rattle.rdf_stream.specs.declared.fault.Form.{Form}
 use Rattle.rdf_stream.specs.declared.fault.Form.TheVariants.{NTriples, NQuads}
-use Rattle.rdf_tool.specs.declared.commands.Task.{Task}
+use Rattle.rdf_tool.specs.declared.task.Action.{Action}
+use Rattle.rdf_tool.specs.declared.task.Action.TheVariants.{Convert}
+use Rattle.rdf_tool.specs.declared.task.Task.{Task}
+use Rattle.rdf_tool.specs.declared.task.WordsFault.{WordsFault}
+use Rattle.rdf_tool.specs.declared.task.WordsFault.TheVariants.{Usage, BadBase, Memory}
 
--- an option that has to be given, with one value
-abbrev pub format_rule : ValueParser → Rule
-format_rule parser = record (new_rule (codes "format")) {
-  long = Some (codes "format");
-  required = true;
-  action = Some Set;
-  parser = Some parser;
-}
-
-abbrev pub convert_app : ValueParser → App
-convert_app format = with_rule (new_app (codes "convert")) (format_rule format)
-
--- the program's command line, where the parser takes the names of the formats
-abbrev pub rdfconv : ValueParser → App
-rdfconv format = with_subcommand (on_top (λ s. record s { subcommand_required = true }) (new_app (codes "rdfconv"))) (convert_app format).top
-
-abbrev pub format_names : List Text
-format_names = codes "nt" ∷ codes "nq" ∷ []
+-- ---- names
 
 abbrev pub form_name : Form → Text
 form_name NTriples = codes "nt"
 form_name NQuads = codes "nq"
 
+abbrev pub forms : List Form
+forms = NTriples ∷ NQuads ∷ []
+
+abbrev pub format_names : List Text
+format_names = map form_name forms
+
+abbrev pub action_name : Action → Text
+action_name Convert = codes "convert"
+
+-- ---- the command line
+
+-- an option with one value, which help calls by one name
+abbrev pub option_rule : Text → ValueParser → Rule
+option_rule id parser = record (new_rule id) {
+  long = Some id;
+  action = Some Set;
+  value_names = 1;
+  parser = Some parser;
+}
+
+-- the format has to be given
+abbrev pub format_rule : ValueParser → Rule
+format_rule names = record (option_rule (codes "format") names) { required = true }
+
+abbrev pub base_rule : Rule
+base_rule = record (new_rule (codes "base")) { long = Some (codes "base"); action = Some Set; value_names = 1 }
+
+-- a number in a range, with a default
+abbrev pub limit_rule : Text → ℕ → ℕ → Text → Rule
+limit_rule id least most default = record (option_rule id (Unsigned least most)) { defaults = default ∷ [] }
+
+abbrev pub token_rule : Rule
+token_rule = limit_rule (codes "token") 1 268435456 (codes "16777216")
+
+abbrev pub depth_rule : Rule
+depth_rule = limit_rule (codes "depth") 0 1048576 (codes "1024")
+
+abbrev pub bindings_rule : Rule
+bindings_rule = limit_rule (codes "bindings") 0 16777216 (codes "65536")
+
+abbrev pub iri_rule : Rule
+iri_rule = limit_rule (codes "iri") 1 268435456 (codes "1048576")
+
+abbrev pub file_rule : Rule
+file_rule = record (new_rule (codes "file")) { action = Some Set; value_names = 1 }
+
+-- a subcommand, where the parser takes the names of the formats
+abbrev pub action_app : ValueParser → Text → App
+action_app names action =
+    with_rule (with_rule (with_rule (with_rule (with_rule (with_rule (with_rule (new_app action)
+    (format_rule names)) base_rule) token_rule) depth_rule) bindings_rule) iri_rule) file_rule
+
+-- the program's command line
+abbrev pub rdfconv : ValueParser → App
+rdfconv names = with_subcommand
+    (on_top (λ s. record s { subcommand_required = true }) (new_app (codes "rdfconv")))
+    (action_app names (codes "convert")).top
+
 -- the command has no global argument, and a parse reads this of it
 abbrev pub ReadsAs : Command → App → Type 0
 ReadsAs c a = ((out-Command c).has_globals ≡ false) × (app_of c ≡ a)
 
--- each field of the task is what the subcommand's name and matches give
-abbrev pub IsTaskOf : Text × List Row → Task → Type 0
-IsTaskOf p t = (p.0 ≡ codes "convert") × (first_of (codes "format") p.1 ≡ Some (form_name t.form))
+-- ---- what a parse gives
 
-abbrev pub MeansTask : Option (Text × List Row) → Task → Type 0
-MeansTask o t = (p : Text × List Row) × (o ≡ Some p) × IsTaskOf p t
+-- a subcommand's name and matches
+abbrev pub Entered : Type 0
+Entered = Text × List Row
+
+-- the number that a text in decimal digits reads as
+abbrev pub number_in : Text → ℕ
+number_in text = digits_value 10 (without_leading_plus text)
+
+-- the number of an option
+abbrev pub number_of : Text → List Row → Option ℕ
+number_of id rows = option_map number_in (first_of id rows)
+
+-- there is a text for the option, and it is a number in the range
+abbrev pub HasNumber : Text → ℕ → ℕ → List Row → Type 0
+HasNumber id least most rows = (text : Text) × (first_of id rows ≡ Some text) × IsUnsignedIn least most text
+
+-- there is a number in its range for each limit
+pub record HasLimits (rows : List Row) : Type 0 where
+  pub token : HasNumber (codes "token") 1 (2 ^ 28) rows
+  pub depth : HasNumber (codes "depth") 0 (2 ^ 20) rows
+  pub bindings : HasNumber (codes "bindings") 0 (2 ^ 24) rows
+  pub iri : HasNumber (codes "iri") 1 (2 ^ 28) rows
+
+-- what holds of each parse that finds no fault
+pub record IsEntered (p : Entered) : Type 0 where
+  pub action : (a : Action) × (action_name a ≡ p.0)
+  pub form : (f : Form) × (first_of (codes "format") p.1 ≡ Some (form_name f))
+  pub limits : HasLimits p.1
+
+-- ---- the task
+
+-- the text is an IRI of at most so many bytes
+pub record IsBase (most : ℕ) (text : Text) : Type 0 where
+  pub iri : IsIri (chars text)
+  pub within : length text ≤ most
+
+-- the limits are the numbers of their options
+pub record HasSizes (rows : List Row) (sizes : Sizes) : Type 0 where
+  pub token : number_of (codes "token") rows ≡ Some sizes.token
+  pub depth : number_of (codes "depth") rows ≡ Some sizes.depth
+  pub bindings : number_of (codes "bindings") rows ≡ Some sizes.bindings
+  pub iri : number_of (codes "iri") rows ≡ Some sizes.iri
+
+-- each field of the task is what the subcommand's name and matches give
+pub record IsTaskBy (p : Entered) (t : Task) : Type 0 where
+  pub action : action_name t.action ≡ p.0
+  pub form : first_of (codes "format") p.1 ≡ Some (form_name t.form)
+  pub base : t.base ≡ option_map chars (first_of (codes "base") p.1)
+  pub good_base : IfSome (first_of (codes "base") p.1) (IsBase t.limits.iri)
+  pub limits : HasSizes p.1 t.limits
+  pub file : option_map string_bytes t.file ≡ first_of (codes "file") p.1
+
+-- the base among the matches is no IRI, or too long
+abbrev pub HasBadBase : Entered → Type 0
+HasBadBase p = (text : Text) × (most : ℕ) × (first_of (codes "base") p.1 ≡ Some text)
+    × (number_of (codes "iri") p.1 ≡ Some most) × (IsBase most text → ⊥)
+
+-- why a text gives no base
+abbrev pub NoBaseOf : ℕ → Option Text → WordsFault → Type 0
+NoBaseOf most base (Usage e) = ⊥
+NoBaseOf most base BadBase = (text : Text) × (base ≡ Some text) × (IsBase most text → ⊥)
+NoBaseOf most base Memory = Unit
+
+-- why matches give no task
+abbrev pub NoTaskBy : Entered → WordsFault → Type 0
+NoTaskBy p (Usage e) = ⊥
+NoTaskBy p BadBase = HasBadBase p
+NoTaskBy p Memory = Unit
+
+-- the parser takes these names of formats and no others
+abbrev pub TakesFormats : ValueParser → Type 0
+TakesFormats parser = (names : Bor (List (Bor Text))) × (parser ≡ Names names) × (texts names.now ≡ format_names)
+
+-- by clap's definition the command line takes the words, and this holds of what they give
+pub record Gives (a : App) (words : List Text) (P : Entered → Type 0) : Type 0 where
+  pub entered : Entered
+  pub taken : fault_of a words ≡ []
+  pub matches : subcommand_of a words ≡ Some entered
+  pub holds : P entered
+
+abbrev pub GivesTask : App → List Text → Task → Type 0
+GivesTask a words t = Gives a words (λ p. IsTaskBy p t)
+
+-- Why the words give no task: clap's definition refuses them, or asks for help, with a kind that it names; or the base is bad.
+abbrev pub GivesNone : App → List Text → WordsFault → Type 0
+GivesNone a words (Usage e) = (kind_of e ≢ OutOfMemory) × IsAmong (kind_of e) (fault_of a words)
+GivesNone a words BadBase = Gives a words HasBadBase
+GivesNone a words Memory = Unit
+
+-- the fault of an error of clap, by its kind
+abbrev pub fault_by : ErrorKind → Error → WordsFault
+fault_by OutOfMemory e = Memory
+fault_by kind e = Usage e

@@ -1,149 +1,112 @@
-// The command line.
+// The task that the words of the command line ask for.
 
-ghost use Rattle.std.specs.Prelude.{◌≡◌, IfOk, IfSome, Some, false, codes, map, option_map, List, ℕ};
-ghost use Rattle.std.specs.Borrow.{Bor};
-ghost use Rattle.clap.specs.Words.{app_of, first_of, found_of, rows_of, rule_of, subcommand_of, subcommand_rows_of};
+ghost use Rattle.std.specs.Prelude.{◌≡◌, ◌⊎◌, ◌<◌, ◌^◌, IfErr, IfOk, IfSome, OnOk, Some, Option, chars, codes, map, option_map, string_bytes, ℕ, List};
+ghost use Rattle.clap.specs.Words.{App, Text, first_of, found_of, rows_of, subcommand_rows_of};
+ghost use Rattle.clap.specs.declared.builder.value_parser.ValueParser.{ValueParser};
 ghost use Rattle.clap.specs.declared.builder.value_parser.ValueParser.TheVariants.{Names};
-ghost use Rattle.rdf_tool.specs.Words.{IsTaskOf, MeansTask, ReadsAs, convert_app, form_name, format_names, format_rule, rdfconv};
-ghost use Rattle.rdf_tool.specs.declared.commands.WordsFault.TheVariants.{Memory};
+ghost use Rattle.rdf_tool.specs.Words.{Entered, GivesNone, GivesTask, HasLimits, HasNumber, HasSizes, IsBase, IsEntered, IsTaskBy, NoBaseOf, NoTaskBy, TakesFormats, format_names, number_of, rdfconv};
 
+use crate::names::{FORMATS, action_of, form_of};
+use crate::options::program;
+use crate::task::{Task, WordsFault};
+use clap::ArgMatches;
 use clap::error::ErrorKind;
-use clap::{Arg, ArgAction, ArgMatches, Command, Error};
-use rdf_stream::Form;
+use rdf_stream::{Iri, Limits, TermFault};
 use std::alloc::{AllocError, Global};
-
-/// A run of the program: a conversion of standard input.
-#[derive(Clone, Copy, Debug, PartialEq, Eq)]
-pub struct Task {
-    /// The format of the document.
-    pub form: Form,
-}
-
-/// Why the words are no task.
-#[derive(Drop)]
-pub enum WordsFault {
-    /// The words are no command, or ask for help.
-    Usage(Error),
-    /// A growth of memory was refused.
-    Memory,
-}
-
-impl From<AllocError> for WordsFault {
-    ghost from_gives = { λ _ fault. fault ≡ Memory };
-
-    fn from(_: AllocError) -> WordsFault {
-        WordsFault::Memory
-    }
-}
-
-impl From<Error> for WordsFault {
-    fn from(error: Error) -> WordsFault {
-        match error.kind() {
-            ErrorKind::OutOfMemory => WordsFault::Memory,
-            _ => WordsFault::Usage(error),
-        }
-    }
-}
-
-static FORMATS: [&str; 2] = ["nt", "nq"];
 
 /// The task that the words ask for. The first word is the program's name.
 pub fn command_of<'a>(alloc: Global, words: &'a [&'a str]) -> Result<Task, WordsFault>
-    ensures { IfOk result (λ task. (formats : Bor (List (Bor (List ℕ)))) × (map (λ s. s.now) formats.now ≡ format_names)
-        × MeansTask (subcommand_of (rdfconv (Names formats)) (map (λ s. s.now) words.entry.now)) task) }
+    ensures task { IfOk result (λ task. (formats : ValueParser) × TakesFormats formats × GivesTask (rdfconv formats) (map (λ s. s.now) words.entry.now) task) }
+    ensures refused { IfErr result (λ fault. (formats : ValueParser) × TakesFormats formats × GivesNone (rdfconv formats) (map (λ s. s.now) words.entry.now) fault) }
 {
-    task_by(alloc, words, FORMATS.as_slice())
+    command_by(alloc, words, FORMATS.as_slice())
 }
 
-fn task_by<'a>(
-    alloc: Global,
-    words: &'a [&'a str],
-    formats: &'a [&'a str],
-) -> Result<Task, WordsFault>
-    ensures { IfOk result (λ task.
-        MeansTask (subcommand_of (rdfconv (Names formats.entry)) (map (λ s. s.now) words.entry.now)) task) }
-{
-    let mut command = program(alloc, formats)?;
-    let matches = command.try_get_matches_from_mut(words)?;
-    match entered(&matches) {
-        Some((name, found)) => match task_of(name, found) {
-            Some(task) => Ok(task),
-            None => Err(no_task(&mut command)),
+/// The fault of a command line with a word that is no UTF-8.
+pub fn not_utf8(alloc: Global) -> WordsFault {
+    match program(alloc, FORMATS.as_slice()) {
+        Ok(mut command) => match command.error(ErrorKind::InvalidValue, "a word is no UTF-8") {
+            Ok(error) => WordsFault::from(error),
+            Err(error) => WordsFault::from(error),
         },
-        None => Err(no_task(&mut command)),
-    }
-}
-
-// clap lets no such words through.
-fn no_task(command: &mut Command<'_>) -> WordsFault {
-    match command.error(ErrorKind::MissingSubcommand, "no format to convert from") {
-        Ok(error) => WordsFault::from(error),
         Err(error) => WordsFault::from(error),
     }
 }
 
-fn task_of(name: &str, found: &ArgMatches<'_>) -> Option<Task>
-    ensures { IfSome result (λ task. IsTaskOf (name.now, rows_of (found_of found.now)) task) }
+fn command_by<'a>(
+    alloc: Global,
+    words: &'a [&'a str],
+    formats: &'a [&'a str],
+) -> Result<Task, WordsFault>
+    requires { map (λ s. s.now) formats.now ≡ format_names }
+    ensures task { IfOk result (GivesTask (rdfconv (Names formats.entry)) (map (λ s. s.now) words.entry.now)) }
+    ensures refused { IfErr result (GivesNone (rdfconv (Names formats.entry)) (map (λ s. s.now) words.entry.now)) }
 {
-    if name == "convert" {
-        Some(Task {
-            form: form_of(found)?,
-        })
-    } else {
-        None
+    let matches = program(alloc, formats)?.try_get_matches_from(words)?;
+    let (name, found) = matches.subcommand().unwrap();
+    task_of(alloc, name, found)
+}
+
+fn task_of(alloc: Global, name: &str, found: &ArgMatches<'_>) -> Result<Task, WordsFault>
+    requires { IsEntered (name.now, rows_of (found_of found.now)) }
+    ensures task { IfOk result (IsTaskBy (name.now, rows_of (found_of found.now))) }
+    ensures refused { IfErr result (NoTaskBy (name.now, rows_of (found_of found.now))) }
+{
+    let action = action_of(name);
+    let form = form_of(found.get_str("format").unwrap());
+    let limits = limits_of(found);
+    let base = base_of(alloc, found.get_str("base"), limits.iri())?;
+    let file = owned(alloc, found.get_str("file"))?;
+    Ok(Task {
+        action,
+        form,
+        base,
+        limits,
+        file,
+    })
+}
+
+fn limits_of(found: &ArgMatches<'_>) -> Limits
+    requires { HasLimits (rows_of (found_of found.now)) }
+    ensures { HasSizes (rows_of (found_of found.now)) result }
+{
+    let token = limit_of(found, "token");
+    let depth = limit_of(found, "depth");
+    let bindings = limit_of(found, "bindings");
+    let iri = limit_of(found, "iri");
+    Limits::new(token, depth, bindings, iri).unwrap()
+}
+
+fn limit_of(found: &ArgMatches<'_>, id: &str) -> u64
+    requires { (least : ℕ) × (most : ℕ) × HasNumber id.now least most (rows_of (found_of found.now)) }
+    ensures { number_of id.now (rows_of (found_of found.now)) ≡ Some result }
+{
+    found.get_str(id).unwrap().parse::<u64>().unwrap()
+}
+
+fn base_of(alloc: Global, text: Option<&str>, most: u64) -> Result<Option<Iri>, WordsFault>
+    ensures base { IfOk result (λ base. base ≡ option_map chars (option_map (λ s. s.now) text.entry)) }
+    ensures good { OnOk result (IfSome (option_map (λ s. s.now) text.entry) (IsBase most)) }
+    ensures bad { IfErr result (NoBaseOf most (option_map (λ s. s.now) text.entry)) }
+{
+    let Some(text) = text else {
+        return Ok(None);
+    };
+    if text.len() as u64 > most {
+        return Err(WordsFault::BadBase);
+    }
+    match Iri::new(alloc, text) {
+        Ok(base) => Ok(Some(base)),
+        Err(TermFault::BadTerm) => Err(WordsFault::BadBase),
+        Err(TermFault::Memory) => Err(WordsFault::Memory),
     }
 }
 
-fn form_of(found: &ArgMatches<'_>) -> Option<Form>
-    ensures { IfSome result (λ form.
-        first_of (codes "format") (rows_of (found_of found.now)) ≡ Some (form_name form)) }
+fn owned(alloc: Global, text: Option<&str>) -> Result<Option<String>, AllocError>
+    ensures { IfOk result (λ copy. option_map string_bytes copy ≡ option_map (λ s. s.now) text.entry) }
 {
-    let text = text_of(found, "format")?;
-    if text == "nt" {
-        Some(Form::NTriples)
-    } else if text == "nq" {
-        Some(Form::NQuads)
-    } else {
-        None
+    match text {
+        Some(text) => Ok(Some(String::from_str(alloc, text)?)),
+        None => Ok(None),
     }
-}
-
-fn text_of<'a>(found: &ArgMatches<'a>, id: &str) -> Option<&'a str>
-    ensures { option_map (λ s. s.now) result ≡ first_of id.now (rows_of (found_of found.now)) }
-{
-    found.get_str(id)
-}
-
-fn entered<'m, 'a>(matches: &'m ArgMatches<'a>) -> Option<(&'a str, &'m ArgMatches<'a>)>
-    ensures { IfSome result (λ p.
-        subcommand_rows_of matches.now ≡ Some (p.0.now, rows_of (found_of p.1.now))) }
-{
-    matches.subcommand()
-}
-
-fn program<'a>(alloc: Global, formats: &'a [&'a str]) -> Result<Command<'a>, AllocError>
-    ensures { IfOk result (λ c. app_of c ≡ rdfconv (Names formats.entry)) }
-{
-    let convert = convert_command(alloc, formats)?;
-    Command::new(alloc, "rdfconv")
-        .subcommand_required(true)
-        .subcommand(convert)
-}
-
-fn convert_command<'a>(alloc: Global, formats: &'a [&'a str]) -> Result<Command<'a>, AllocError>
-    ensures { IfOk result (λ c. ReadsAs c (convert_app (Names formats.entry))) }
-{
-    let format = format_option(alloc, formats);
-    Command::new(alloc, "convert").arg(format)
-}
-
-fn format_option<'a>(alloc: Global, formats: &'a [&'a str]) -> Arg<'a>
-    ensures rule { rule_of result ≡ format_rule (Names formats.entry) }
-    ensures local { result.global ≡ false }
-{
-    Arg::new(alloc, "format")
-        .long("format")
-        .required(true)
-        .action(ArgAction::Set)
-        .value_parser(formats)
 }

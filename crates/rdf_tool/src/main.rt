@@ -2,51 +2,66 @@
 #![tactic(auto)]
 
 mod commands;
+mod names;
+mod options;
 mod runs;
+mod task;
 #[cfg(test)]
 mod tests;
 
-use crate::commands::command_of;
-use crate::runs::{refuse_words, run, tell_memory};
-use rdf_stream::{In, Limits, Out};
-use std::alloc::AllocError;
+ghost use Rattle.std.specs.Prelude.{◌≡◌, false};
+
+use crate::commands::{command_of, not_utf8};
+use crate::runs::{refuse_words, run};
+use crate::task::{Task, WordsFault};
+use rdf_stream::{Drain, In, Out};
 use std::env;
+use std::fs::File;
 use std::io::ErrorKind;
 use std::process::ExitCode;
 
 fn main(rt: HostRuntime) -> ExitCode {
     let mut out = Out::new(rt.stdout());
     let mut err = Out::new(rt.stderr());
-    let words = match words_of(&rt) {
-        Ok(words) => words,
-        Err(_) => return ExitCode::from(tell_memory(&mut err)),
-    };
-    let texts: Vec<&str> = match words.iter().map(|word| word.as_str()).collect(rt.alloc()) {
-        Ok(texts) => texts,
-        Err(_) => return ExitCode::from(tell_memory(&mut err)),
-    };
-    let status = match command_of(rt.alloc(), texts.as_slice()) {
-        Ok(task) => {
-            let mut source = In::new(rt.stdin());
-            run(
-                rt.alloc(),
-                task.form,
-                Limits::default(),
-                Some(&mut source),
-                &mut out,
-                &mut err,
-            )
-        }
+    let status = match task_of(&rt) {
+        Ok(task) => run_task(&rt, task, &mut out, &mut err),
         Err(fault) => refuse_words(rt.alloc(), &fault, &mut out, &mut err),
     };
     ExitCode::from(status)
 }
 
-// The words of the command line. Where one of them is no UTF-8 there are none, which are no command.
-fn words_of(rt: &HostRuntime) -> Result<Vec<String>, AllocError> {
-    match env::args(rt) {
-        Ok(words) => words.collect(rt.alloc()),
-        Err(error) if matches!(error.kind(), ErrorKind::OutOfMemory) => Err(AllocError),
-        Err(_) => Ok(Vec::new(rt.alloc())),
+// The task of the command line. A word that is no UTF-8 makes it no command.
+fn task_of(rt: &HostRuntime) -> Result<Task, WordsFault> {
+    let words: Vec<String> = match env::args(rt) {
+        Ok(words) => words.collect(rt.alloc())?,
+        Err(error) if matches!(error.kind(), ErrorKind::OutOfMemory) => {
+            return Err(WordsFault::Memory);
+        }
+        Err(_) => return Err(not_utf8(rt.alloc())),
+    };
+    let texts: Vec<&str> = words.iter().map(|word| word.as_str()).collect(rt.alloc())?;
+    command_of(rt.alloc(), texts.as_slice())
+}
+
+fn run_task<O: Drain, E: Drain>(rt: &HostRuntime, task: Task, out: &mut O, err: &mut E) -> u8
+    requires out { O.has_failed out.old ≡ false }
+    requires err { E.has_failed err.old ≡ false }
+{
+    let opened = match &task.file {
+        None => {
+            let mut source = In::new(rt.stdin());
+            return run(rt.alloc(), task, Some(&mut source), out, err);
+        }
+        Some(path) => File::open(rt, path.as_str()),
+    };
+    match opened {
+        Ok(file) => {
+            let mut source = In::new(file);
+            run(rt.alloc(), task, Some(&mut source), out, err)
+        }
+        Err(_) => {
+            let none: Option<&mut In<File>> = None;
+            run(rt.alloc(), task, none, out, err)
+        }
     }
 }

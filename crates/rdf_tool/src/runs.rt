@@ -7,18 +7,17 @@ ghost use Rattle.rdf_stream.specs.Converts.{IsConverted, StopsFor};
 ghost use Rattle.rdf_stream.specs.Devices.{AppendsFront};
 ghost use Rattle.rdf_stream.specs.Messages.{report_text};
 ghost use Rattle.rdf_stream.specs.declared.fault.StreamFault.{StreamFault};
-ghost use Rattle.rdf_tool.specs.Statuses.{Tells, status_of};
+ghost use Rattle.rdf_tool.specs.Statuses.{Refuses, Tells, status_of};
 
-use crate::commands::WordsFault;
+use crate::task::{Action, Task, WordsFault};
 use clap::Error;
 use rdf_stream::{Drain, Failed, Form, Limits, Source, StreamFault, convert, put_all, report};
 use std::alloc::Global;
 
-/// Runs a conversion, and answers the status. A `None` is a file that did not open.
+/// Runs a task, and answers the status. A `None` is a file that did not open.
 pub fn run<S: Source, O: Drain, E: Drain>(
     alloc: Global,
-    form: Form,
-    limits: Limits,
+    task: Task,
     source: Option<&mut S>,
     out: &mut O,
     err: &mut E,
@@ -26,15 +25,17 @@ pub fn run<S: Source, O: Drain, E: Drain>(
     requires source { ForSome source (λ s. S.has_failed s.now ≡ false) }
     requires out { O.has_failed out.old ≡ false }
     requires err { E.has_failed err.old ≡ false }
-    ensures accepted { IfSome source.entry (λ s. result ≡ 0 → IfSome (S.remaining s.now) (λ bytes. IsConverted form limits bytes (O.contents out.old) (O.contents out.new))
+    ensures accepted { IfSome source.entry (λ s. result ≡ 0 → IfSome (S.remaining s.now) (λ bytes. IsConverted task.form task.limits bytes (O.contents out.old) (O.contents out.new))
         × (O.is_flushed out.new ≡ true)) }
     ensures stopped { IfSome source.entry (λ s. result ≢ 0 → (fault : StreamFault) × (left : Option (List ℕ)) × (read_failed : Bool) × (result ≡ status_of fault)
-        × StopsFor fault form limits (S.remaining s.now) left read_failed (O.contents out.old) (O.contents out.new) (O.has_failed out.new)
+        × StopsFor fault task.form task.limits (S.remaining s.now) left read_failed (O.contents out.old) (O.contents out.new) (O.has_failed out.new)
         × AppendsFront (E.contents err.old) (E.contents err.new) (report_text fault)) }
     ensures not_open { IfNone source.entry ((result ≡ 3) × Tells (codes "rdfconv: cannot open file\n") (E.contents err.old) (E.contents err.new) (E.has_failed err.new)) }
 {
     match source {
-        Some(source) => run_from(alloc, form, limits, source, out, err),
+        Some(source) => match task.action {
+            Action::Convert => convert_from(alloc, task.form, task.limits, source, out, err),
+        },
         None => {
             tell("rdfconv: cannot open file\n", err);
             3
@@ -42,7 +43,7 @@ pub fn run<S: Source, O: Drain, E: Drain>(
     }
 }
 
-fn run_from<S: Source, O: Drain, E: Drain>(
+fn convert_from<S: Source, O: Drain, E: Drain>(
     alloc: Global,
     form: Form,
     limits: Limits,
@@ -93,8 +94,8 @@ fn tell_fault<E: Drain>(alloc: Global, fault: &StreamFault, err: &mut E)
     }
 }
 
-/// Tells that memory was refused, which takes none, and answers the status.
-pub fn tell_memory<E: Drain>(err: &mut E) -> u8
+// Tells that memory was refused, which takes none, and answers the status.
+fn tell_memory<E: Drain>(err: &mut E) -> u8
     requires { E.has_failed err.old ≡ false }
     ensures status { result ≡ 4 }
     ensures told { Tells (report_text StreamFault.Memory) (E.contents err.old) (E.contents err.new) (E.has_failed err.new) }
@@ -112,6 +113,7 @@ pub fn refuse_words<O: Drain, E: Drain>(
 ) -> u8
     requires out { O.has_failed out.old ≡ false }
     requires err { E.has_failed err.old ≡ false }
+    ensures { Refuses fault.now result (E.contents err.old) (E.contents err.new) (E.has_failed err.new) }
 {
     match fault {
         WordsFault::Usage(error) => {
@@ -122,6 +124,10 @@ pub fn refuse_words<O: Drain, E: Drain>(
                 tell_usage(alloc, error, out);
                 0
             }
+        }
+        WordsFault::BadBase => {
+            tell("rdfconv: bad base\n", err);
+            2
         }
         WordsFault::Memory => tell_memory(err),
     }

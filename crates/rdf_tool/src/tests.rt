@@ -1,8 +1,20 @@
 // Runs over memory, and words.
 
-use crate::commands::{Task, WordsFault, command_of};
+use crate::commands::{command_of, not_utf8};
 use crate::runs::{refuse_words, run};
+use crate::task::{Action, Task, WordsFault};
 use rdf_stream::{Form, In, Limits, Out};
+use std::alloc::Global;
+
+fn convert_task(form: Form) -> Option<Task> {
+    Some(Task {
+        action: Action::Convert,
+        form,
+        base: None,
+        limits: Limits::new(1 << 24, 1024, 65536, 1 << 20)?,
+        file: None,
+    })
+}
 
 #[test]
 fn a_run_writes_the_lines_or_tells_why_not(rt: HostRuntime) {
@@ -31,20 +43,14 @@ fn a_run_writes_the_lines_or_tells_why_not(rt: HostRuntime) {
         (Form::NTriples, "", 0, "", ""),
     ];
     for (form, text, status, lines, message) in rows {
+        let task = convert_task(form).expect(&rt, "a task");
         let mut written = Vec::new(rt.alloc());
         let mut told = Vec::new(rt.alloc());
         let mut source = In::new(text.as_bytes());
         let mut out = Out::new(&mut written);
         let mut err = Out::new(&mut told);
         assert_eq!(rt;
-            run(
-                rt.alloc(),
-                form,
-                Limits::default(),
-                Some(&mut source),
-                &mut out,
-                &mut err
-            ),
+            run(rt.alloc(), task, Some(&mut source), &mut out, &mut err),
             status,
             "{text}"
         );
@@ -57,47 +63,163 @@ fn a_run_writes_the_lines_or_tells_why_not(rt: HostRuntime) {
 
 #[test]
 fn a_file_that_did_not_open_is_told(rt: HostRuntime) {
+    let task = convert_task(Form::NQuads).expect(&rt, "a task");
     let mut told = Vec::new(rt.alloc());
     let mut out = Out::new(Vec::new(rt.alloc()));
     let mut err = Out::new(&mut told);
     let none: Option<&mut In<&[u8]>> = None;
-    assert_eq!(rt;
-        run(
-            rt.alloc(),
-            Form::NQuads,
-            Limits::default(),
-            none,
-            &mut out,
-            &mut err
-        ),
-        3
-    );
+    assert_eq!(rt; run(rt.alloc(), task, none, &mut out, &mut err), 3);
     drop(err);
     assert_eq!(rt; told.as_slice(), b"rdfconv: cannot open file\n".as_slice());
 }
 
 #[test]
-fn words_are_a_task_or_usage(rt: HostRuntime) {
-    let task = command_of(rt.alloc(), &["rdfconv", "convert", "--format=nq"]);
-    assert!(rt; matches!(task, Ok(Task { form: Form::NQuads })));
-    let rows = [
-        (["rdfconv", "convert", "--format", "ttl"], 2),
-        (["rdfconv", "check", "--format", "nt"], 2),
-        (["rdfconv", "convert", "--format", "--help"], 2),
-        (["rdfconv", "convert", "--help", ""], 0),
+fn words_give_a_task_with_defaults(rt: HostRuntime) {
+    let task = command_of(rt.alloc(), &["rdfconv", "convert", "--format", "nq"]);
+    match task {
+        Ok(task) => {
+            assert_eq!(rt; task.action, Action::Convert);
+            assert_eq!(rt; task.form, Form::NQuads);
+            assert_eq!(rt;
+                Some(task.limits),
+                Limits::new(16777216, 1024, 65536, 1048576)
+            );
+            assert!(rt; task.base.is_none());
+            assert!(rt; task.file.is_none());
+        }
+        Err(_) => assert!(rt; false, "no task"),
+    }
+}
+
+#[test]
+fn words_give_each_field_of_a_task(rt: HostRuntime) {
+    let words = [
+        "rdfconv",
+        "convert",
+        "--iri",
+        "12",
+        "--format=nt",
+        "--base",
+        "http://a/b/c",
+        "--token=1",
+        "--depth",
+        "0",
+        "data.nt",
+        "--bindings",
+        "2",
     ];
-    for (words, status) in rows {
-        let mut out = Out::new(Vec::new(rt.alloc()));
-        let mut err = Out::new(Vec::new(rt.alloc()));
-        match command_of(rt.alloc(), &words) {
-            Ok(_) => assert!(rt; false),
-            Err(fault) => {
-                assert!(rt; matches!(fault, WordsFault::Usage(_)));
-                assert_eq!(rt;
-                    refuse_words(rt.alloc(), &fault, &mut out, &mut err),
-                    status
-                );
+    match command_of(rt.alloc(), &words) {
+        Ok(task) => {
+            assert_eq!(rt; task.form, Form::NTriples);
+            assert_eq!(rt; Some(task.limits), Limits::new(1, 0, 2, 12));
+            match &task.base {
+                Some(base) => assert_eq!(rt; base.as_str(), "http://a/b/c"),
+                None => assert!(rt; false, "no base"),
+            }
+            match &task.file {
+                Some(file) => assert_eq!(rt; file.as_str(), "data.nt"),
+                None => assert!(rt; false, "no file"),
             }
         }
+        Err(_) => assert!(rt; false, "no task"),
     }
+}
+
+/// The status of words that are no task, and what is told on both outputs.
+fn refused(alloc: Global, words: &[&str]) -> Option<(u8, Vec<u8>, Vec<u8>)> {
+    let mut written = Vec::new(alloc);
+    let mut told = Vec::new(alloc);
+    let mut out = Out::new(&mut written);
+    let mut err = Out::new(&mut told);
+    let status = match command_of(alloc, words) {
+        Ok(_) => return None,
+        Err(fault) => refuse_words(alloc, &fault, &mut out, &mut err),
+    };
+    drop(out);
+    drop(err);
+    Some((status, written, told))
+}
+
+#[test]
+fn a_bad_base_is_told(rt: HostRuntime) {
+    let rows = [
+        ["rdfconv", "convert", "--format=nt", "--base", "s"],
+        ["rdfconv", "convert", "--format=nt", "--base", ""],
+        [
+            "rdfconv",
+            "convert",
+            "--format=nq",
+            "--iri=9",
+            "--base=http://a/b",
+        ],
+    ];
+    for words in rows {
+        match refused(rt.alloc(), &words) {
+            Some((status, written, told)) => {
+                assert_eq!(rt; status, 2);
+                assert!(rt; written.is_empty());
+                assert_eq!(rt; told.as_slice(), b"rdfconv: bad base\n".as_slice());
+            }
+            None => assert!(rt; false),
+        }
+    }
+    let fits = [
+        "rdfconv",
+        "convert",
+        "--format=nq",
+        "--iri=10",
+        "--base=http://a/b",
+    ];
+    assert!(rt; command_of(rt.alloc(), &fits).is_ok());
+}
+
+#[test]
+fn words_that_are_no_command_are_usage(rt: HostRuntime) {
+    let rows = [
+        ["rdfconv", "convert", "--format", "ttl"],
+        ["rdfconv", "delete", "--format", "nt"],
+        ["rdfconv", "convert", "--format", "--help"],
+        ["rdfconv", "convert", "a.nt", "b.nt"],
+        ["rdfconv", "convert", "--format=nt", "--depth=1048577"],
+        ["rdfconv", "convert", "--format=nt", "--token=0"],
+        ["rdfconv", "convert", "--format=nt", "--iri=ten"],
+        ["rdfconv", "convert", "--format=nt", "--format=nt"],
+    ];
+    for words in rows {
+        match refused(rt.alloc(), &words) {
+            Some((status, written, told)) => {
+                assert_eq!(rt; status, 2);
+                assert!(rt; written.is_empty());
+                assert!(rt; told.starts_with(b"error: "));
+            }
+            None => assert!(rt; false),
+        }
+    }
+    assert!(rt; matches!(refused(rt.alloc(), &["rdfconv"]), Some((2, _, _))));
+    assert!(rt; matches!(refused(rt.alloc(), &[]), Some((2, _, _))));
+}
+
+#[test]
+fn help_goes_to_the_output(rt: HostRuntime) {
+    let rows = [
+        ["rdfconv", "convert", "--help"],
+        ["rdfconv", "--help", ""],
+        ["rdfconv", "help", "convert"],
+        ["rdfconv", "convert", "-h"],
+    ];
+    for words in rows {
+        match refused(rt.alloc(), &words) {
+            Some((status, written, told)) => {
+                assert_eq!(rt; status, 0);
+                assert!(rt; !written.is_empty());
+                assert!(rt; told.is_empty());
+            }
+            None => assert!(rt; false),
+        }
+    }
+}
+
+#[test]
+fn a_word_that_is_no_utf8_is_usage(rt: HostRuntime) {
+    assert!(rt; matches!(not_utf8(rt.alloc()), WordsFault::Usage(_)));
 }

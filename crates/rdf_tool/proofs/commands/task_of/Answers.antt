@@ -1,0 +1,36 @@
+use Rattle.std.proofs.Common.{◌∙◌, ap, sym, subst, codes, chars, option_map, IfSome, Some}
+use Rattle.clap.proofs.WalkLemmas.{first_value-rows}
+use Rattle.clap.proofs.TakesLemmas.{passed_up}
+use Rattle.clap.specs.Words.{found_of, rows_of}
+use Rattle.rdf_tool.specs.Words.{IsBase}
+use Rattle.rdf_tool.proofs.GivenLemmas.{no_task, text_given, text_is}
+use Rattle.rdf_tool.proofs.commands.task_of.Goals as goal
+
+pub unwrap-requires : goal.unwrap-requires
+unwrap-requires c = text_given (found_of c.args.found.now) (codes "format") _ c.get_str.result c.get_str.ensures c.requires.form.1
+
+pub form_of-form-requires : goal.form_of-form-requires
+form_of-form-requires c =
+    (c.requires.form.0, sym (text_is (found_of c.args.found.now) (codes "format") _ c.get_str.result c.get_str.ensures c.requires.form.1 c.unwrap.result c.unwrap.ensures))
+
+pub returns-in_err-base-clause-refused : goal.returns-in_err-base-clause-refused
+returns-in_err-base-clause-refused c =
+    let found = found_of c.args.found.now in
+    let base = c.get_str-2.ensures ∙ first_value-rows found (codes "base") in
+    passed_up c.from_residual.result c.in_err-base.field-0.0 _ c.from_residual.ensures.1
+    (no_task (c.args.name.now, rows_of found) c.iri.result _ c.in_err-base.field-0.0 base (c.limits_of-limits.ensures.iri ∙ ap (λ n. Some n) (sym c.iri.ensures)) c.in_err-base.ensures.bad)
+
+pub returns-clause-task : goal.returns-clause-task
+returns-clause-task c =
+    let found = found_of c.args.found.now in
+    let base = c.get_str-2.ensures ∙ first_value-rows found (codes "base") in
+    let file = c.get_str-3.ensures ∙ first_value-rows found (codes "file") in
+    let form = text_is found (codes "format") _ c.get_str.result c.get_str.ensures c.requires.form.1 c.unwrap.result c.unwrap.ensures in
+    record {
+      action = c.action_of-action.ensures;
+      form = c.requires.form.1 ∙ ap (λ t. Some t) (sym (c.form_of-form.ensures ∙ form));
+      base = c.in_ok-base.ensures.base ∙ ap (option_map chars) base;
+      good_base = subst (λ text. IfSome text (IsBase c.limits_of-limits.result.iri)) base (rw c.iri.ensures at c.in_ok-base.ensures.good);
+      limits = c.limits_of-limits.ensures;
+      file = c.in_ok-file.ensures ∙ file;
+    }

@@ -1,0 +1,162 @@
+// The command line: its subcommands, their options, and what help says of them.
+
+ghost use Rattle.std.specs.Prelude.{◌≡◌, IfOk, codes, false};
+ghost use Rattle.clap.specs.Words.{app_of, rule_of};
+ghost use Rattle.clap.specs.declared.builder.value_parser.ValueParser.TheVariants.{Names};
+ghost use Rattle.rdf_tool.specs.Words.{ReadsAs, action_app, base_rule, file_rule, format_rule, limit_rule, rdfconv};
+
+use clap::builder::ValueParser;
+use clap::{Arg, ArgAction, Command};
+use std::alloc::{AllocError, Global};
+
+/// What the subcommands do.
+const CONVERT: &str = "Write the quads of a document as lines of N-Quads";
+
+/// What stands below the help of the program.
+const PROGRAM_NOTES: &str = "\
+Options of a command, which reads FILE or standard input:
+  --format FORMAT  nt (N-Triples) or nq (N-Quads); it is not guessed from the file's name
+  --base IRI       base of relative references, at most --iri bytes; line formats have none
+  --token N        characters of one token, 1 to 268435456 [default: 16777216]
+  --depth N        brackets and parentheses open at one time, 0 to 1048576 [default: 1024]
+  --bindings N     prefixes bound at one time, 0 to 16777216 [default: 65536]
+  --iri N          bytes of one IRI, 1 to 268435456 [default: 1048576]
+
+Exit status:
+  0  accepted, or help was asked for
+  1  refused, with `rdfconv: REASON at byte N, line M` on standard error
+  2  the words are no command, or the base is no IRI or too long
+  3  the file does not open, or a read or write failed
+  4  out of memory";
+
+/// What stands below the help of a subcommand.
+const COMMAND_NOTES: &str = "\
+The format is not guessed from the file's name. Past one of the limits N a document is refused.
+
+Exit status:
+  0  accepted, or help was asked for
+  1  refused, with `rdfconv: REASON at byte N, line M` on standard error
+  2  the words are no command, or the base is no IRI or too long
+  3  the file does not open, or a read or write failed
+  4  out of memory";
+
+/// The whole command line, where a format has one of these names.
+pub fn program<'a>(alloc: Global, formats: &'a [&'a str]) -> Result<Command<'a>, AllocError>
+    ensures { IfOk result (λ c. app_of c ≡ rdfconv (Names formats.entry)) }
+{
+    let convert = action_command(alloc, "convert", CONVERT, formats)?;
+    Command::new(alloc, "rdfconv")
+        .about("Read N-Triples or N-Quads, and write N-Quads")
+        .after_help(PROGRAM_NOTES)
+        .subcommand_required(true)
+        .subcommand(convert)
+}
+
+fn action_command<'a>(
+    alloc: Global,
+    name: &'a str,
+    about: &'a str,
+    formats: &'a [&'a str],
+) -> Result<Command<'a>, AllocError>
+    ensures { IfOk result (λ c. ReadsAs c (action_app (Names formats.entry) name.now)) }
+{
+    let format = format_option(alloc, formats);
+    let base = base_option(alloc);
+    let token = limit_option(
+        alloc,
+        "token",
+        1,
+        268435456,
+        "16777216",
+        "Characters of one token, 1 to 268435456",
+    );
+    let depth = limit_option(
+        alloc,
+        "depth",
+        0,
+        1048576,
+        "1024",
+        "Brackets and parentheses open at one time, 0 to 1048576",
+    );
+    let bindings = limit_option(
+        alloc,
+        "bindings",
+        0,
+        16777216,
+        "65536",
+        "Prefixes bound at one time, 0 to 16777216",
+    );
+    let iri = limit_option(
+        alloc,
+        "iri",
+        1,
+        268435456,
+        "1048576",
+        "Bytes of one IRI, 1 to 268435456",
+    );
+    let file = file_argument(alloc);
+    Command::new(alloc, name)
+        .about(about)
+        .after_help(COMMAND_NOTES)
+        .arg(format)?
+        .arg(base)?
+        .arg(token)?
+        .arg(depth)?
+        .arg(bindings)?
+        .arg(iri)?
+        .arg(file)
+}
+
+fn format_option<'a>(alloc: Global, formats: &'a [&'a str]) -> Arg<'a>
+    ensures rule { rule_of result ≡ format_rule (Names formats.entry) }
+    ensures local { result.global ≡ false }
+{
+    Arg::new(alloc, "format")
+        .long("format")
+        .action(ArgAction::Set)
+        .value_name("FORMAT")
+        .help("Format of the document: N-Triples or N-Quads")
+        .required(true)
+        .value_parser(formats)
+}
+
+fn base_option<'a>(alloc: Global) -> Arg<'a>
+    ensures rule { rule_of result ≡ base_rule }
+    ensures local { result.global ≡ false }
+{
+    Arg::new(alloc, "base")
+        .long("base")
+        .action(ArgAction::Set)
+        .value_name("IRI")
+        .help("Base of relative references, at most --iri bytes; line formats have none")
+}
+
+fn limit_option<'a>(
+    alloc: Global,
+    name: &'a str,
+    least: u64,
+    most: u64,
+    default: &'a str,
+    help: &'a str,
+) -> Arg<'a>
+    ensures rule { rule_of result ≡ limit_rule name.now least most default.now }
+    ensures local { result.global ≡ false }
+{
+    Arg::new(alloc, name)
+        .long(name)
+        .action(ArgAction::Set)
+        .value_name("N")
+        .help(help)
+        .value_parser(ValueParser::unsigned(least, most))
+        .default_value(default)
+}
+
+fn file_argument<'a>(alloc: Global) -> Arg<'a>
+    ensures rule { rule_of result ≡ file_rule }
+    ensures local { result.global ≡ false }
+{
+    Arg::new(alloc, "file")
+        .action(ArgAction::Set)
+        .value_name("FILE")
+        .help("Document to read, in place of standard input")
+}

@@ -1,0 +1,63 @@
+// What the words of the command line ask for.
+
+ghost use Rattle.std.specs.Prelude.{◌≡◌};
+ghost use Rattle.clap.specs.Words.{kind_of};
+ghost use Rattle.rdf_tool.specs.Words.{fault_by};
+ghost use Rattle.rdf_tool.specs.declared.task.WordsFault.TheVariants.{Memory};
+
+use clap::Error;
+use clap::error::ErrorKind;
+use rdf_stream::{Form, Iri, Limits};
+use std::alloc::AllocError;
+
+/// What is done with a document.
+#[derive(Clone, Copy, Debug, PartialEq, Eq)]
+pub enum Action {
+    /// Its quads are written as lines of N-Quads.
+    Convert,
+}
+
+/// A run of the program.
+#[derive(Drop)]
+pub struct Task {
+    /// What is done.
+    pub action: Action,
+    /// The format of the document.
+    pub form: Form,
+    /// What relative references are resolved against.
+    pub base: Option<Iri>,
+    /// How large the parts of the document may be.
+    pub limits: Limits,
+    /// The file that is read, or None for standard input.
+    pub file: Option<String>,
+}
+
+/// Why the words are no task.
+#[derive(Drop)]
+pub enum WordsFault {
+    /// The words are no command, or ask for help.
+    Usage(Error),
+    /// The base is no IRI, or has more bytes than an IRI may have.
+    BadBase,
+    /// A growth of memory was refused.
+    Memory,
+}
+
+impl From<AllocError> for WordsFault {
+    ghost from_gives = { λ _ fault. fault ≡ Memory };
+
+    fn from(_: AllocError) -> WordsFault {
+        WordsFault::Memory
+    }
+}
+
+impl From<Error> for WordsFault {
+    ghost from_gives = { λ error fault. fault ≡ fault_by (kind_of error) error };
+
+    fn from(error: Error) -> WordsFault {
+        match error.kind() {
+            ErrorKind::OutOfMemory => WordsFault::Memory,
+            _ => WordsFault::Usage(error),
+        }
+    }
+}
