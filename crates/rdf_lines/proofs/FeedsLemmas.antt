@@ -152,7 +152,7 @@ dots_le (t ∷ ts) = let h = dots_le ts in let l = one t.kind in omega (arith, l
 summary_same : {a b c d e g : ℕ} → a ≡ b → c ≡ d → e ≡ g → (let x : Summary = record { quads = a; tokens = c; bytes = e } in x) ≡ record { quads = b; tokens = d; bytes = g }
 summary_same p q r = cc
 
-module _ {S : Type 0} (takes : S → Quad → S → Type 0) (old new : LineRead) (form : new.form ≡ old.form) (iri : new.iri ≡ old.iri) (running : new.done ≡ false) (piece : List ℕ) (n : ℕ) (v : Unread)
+module _ {S : Type 0} (takes : S → Quad → S → Type 0) (old new : LineRead) (form : new.form ≡ old.form) (iri : new.iri ≡ old.iri) (was : old.done ≡ false) (running : new.done ≡ false) (piece : List ℕ) (n : ℕ) (v : Unread)
     (taken : TakesBytes old.scanner piece n v) (before after : S) (all : ReadsAll takes (rules_of old) (pushed old v n before) (stand_of new after)) where
   -- all tokens that come were accepted, and bytes may still come
   open_now : new.scanner.ended ≡ false
@@ -206,7 +206,7 @@ module _ {S : Type 0} (takes : S → Quad → S → Type 0) (old new : LineRead)
       }
 
   pub feeds : Feeds takes old before (take n piece) new after
-  feeds = record { same = record { form = form; limit = all.advances.same.limit ∙ taken.same.limit; iri = iri }; more = all.quads; puts = all.advances.puts; read = has_read }
+  feeds = record { running = was; same = record { form = form; limit = all.advances.same.limit ∙ taken.same.limit; iri = iri }; more = all.quads; puts = all.advances.puts; read = has_read }
 
   pub live : IsLive old → IsLive new
   live l = record {
@@ -260,8 +260,9 @@ bytes_fit old piece n v l t = ∥∥₁_elim l.read le_prop (λ x. fit x.0 x.1 x
 
 -- A piece is read in parts.
 module _ {S : Type 0} (takes : S → Quad → S → Type 0) where
-  pub feeds_none : (old : LineRead) (sink : S) → Feeds takes old sink [] old sink
-  feeds_none old sink = record {
+  pub feeds_none : (old : LineRead) (sink : S) → old.done ≡ false → Feeds takes old sink [] old sink
+  feeds_none old sink running = record {
+    running = running;
     same = record { form = refl; limit = refl; iri = refl };
     more = [];
     puts = refl;
@@ -270,6 +271,7 @@ module _ {S : Type 0} (takes : S → Quad → S → Type 0) where
 
   pub feeds_both : (a b c : LineRead) (front part : List ℕ) (x y z : S) → Feeds takes a x front b y → Feeds takes b y part c z → Feeds takes a x (front ++ part) c z
   feeds_both a b c front part x y z f g = record {
+    running = f.running;
     same = record { form = g.same.form ∙ f.same.form; limit = g.same.limit ∙ f.same.limit; iri = g.same.iri ∙ f.same.iri };
     more = f.more ++ g.more;
     puts = appends_both takes f.more g.more x y z f.puts g.puts;

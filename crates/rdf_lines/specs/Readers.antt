@@ -42,6 +42,7 @@ pub record SameReader (old new : LineRead) : Type 0 where
 
 -- All tokens that the piece decides were accepted, and their quads put.
 pub record Feeds {S : Type 0} (takes : S → Quad → S → Type 0) (old : LineRead) (before : S) (piece : List ℕ) (new : LineRead) (after : S) : Type 0 where
+  pub running : old.done ≡ false
   pub same : SameReader old new
   pub more : List Quad
   pub puts : Appends takes before more after
@@ -57,6 +58,7 @@ pub record Sums (form : LineForm) (limit iri : ℕ) (bytes : List ℕ) (quads : 
 
 -- All tokens were accepted up to the end, and their quads put.
 pub record Finishes {S : Type 0} (takes : S → Quad → S → Type 0) (old : LineRead) (before : S) (summary : Summary) (after : S) : Type 0 where
+  pub running : old.done ≡ false
   pub more : List Quad
   pub puts : Appends takes before more after
   pub read : (bytes : List ℕ) (quads : List Quad) → HasRead old bytes quads → Sums old.form old.scanner.limit old.iri bytes (quads ++ more) summary

@@ -28,13 +28,13 @@ pub returns-in-Ok-read_tokens-clause-ok : goal.returns-in-Ok-read_tokens-clause-
 returns-in-Ok-read_tokens-clause-ok g c =
     let old = line_read c.args.scanner.now c.args.rules c.args.progress.now in
     let new = line_read c.read_tokens.new.scanner c.args.rules c.read_tokens.new.progress in
-    feeds g.S.QuadSink.takes old new refl refl refl c.args.piece.now c.in-Ok.taken c.push.new.self c.in-Ok.ensures c.args.sink.now c.read_tokens.new.sink c.in-Ok-read_tokens.ensures.reads
+    feeds g.S.QuadSink.takes old new refl refl refl refl c.args.piece.now c.in-Ok.taken c.push.new.self c.in-Ok.ensures c.args.sink.now c.read_tokens.new.sink c.in-Ok-read_tokens.ensures.reads
 
 pub returns-in-Ok-read_tokens-clause-reader : goal.returns-in-Ok-read_tokens-clause-reader
 returns-in-Ok-read_tokens-clause-reader g c =
     let old = line_read c.args.scanner.now c.args.rules c.args.progress.now in
     let new = line_read c.read_tokens.new.scanner c.args.rules c.read_tokens.new.progress in
-    live g.S.QuadSink.takes old new refl refl refl c.args.piece.now c.in-Ok.taken c.push.new.self c.in-Ok.ensures c.args.sink.now c.read_tokens.new.sink c.in-Ok-read_tokens.ensures.reads
+    live g.S.QuadSink.takes old new refl refl refl refl c.args.piece.now c.in-Ok.taken c.push.new.self c.in-Ok.ensures c.args.sink.now c.read_tokens.new.sink c.in-Ok-read_tokens.ensures.reads
     c.requires.reader
 
 pub returns-in-Err-read_tokens-clause-err : goal.returns-in-Err-read_tokens-clause-err
