@@ -106,12 +106,31 @@ pub fn iri_text(text: &str) -> bool
     true
 }
 
-/// What an IRIREF excludes is ASCII.
-#[tactic(auto, unfolding(crate::specs::Classes::has))]
+/// The bytes that the characters of an IRIREF have: what it excludes is ASCII.
+static IRI_BYTES: [bool; 256] = [
+    false, false, false, false, false, false, false, false, false, false, false, false, false,
+    false, false, false, false, false, false, false, false, false, false, false, false, false,
+    false, false, false, false, false, false, false, true, false, true, true, true, true, true,
+    true, true, true, true, true, true, true, true, true, true, true, true, true, true, true, true,
+    true, true, true, true, false, true, false, true, true, true, true, true, true, true, true,
+    true, true, true, true, true, true, true, true, true, true, true, true, true, true, true, true,
+    true, true, true, true, true, false, true, false, true, false, true, true, true, true, true,
+    true, true, true, true, true, true, true, true, true, true, true, true, true, true, true, true,
+    true, true, true, true, true, false, false, false, true, true, true, true, true, true, true,
+    true, true, true, true, true, true, true, true, true, true, true, true, true, true, true, true,
+    true, true, true, true, true, true, true, true, true, true, true, true, true, true, true, true,
+    true, true, true, true, true, true, true, true, true, true, true, true, true, true, true, true,
+    true, true, true, true, true, true, true, true, true, true, true, true, true, true, true, true,
+    true, true, true, true, true, true, true, true, true, true, true, true, true, true, true, true,
+    true, true, true, true, true, true, true, true, true, true, true, true, true, true, true, true,
+    true, true, true, true, true, true, true, true, true, true, true, true, true, true, true, true,
+    true, true, true, true, true, true, true, true, true, true, true,
+];
+
 fn is_iri_byte(byte: u8) -> bool
     ensures { result ≡ iri_byte byte }
 {
-    byte >= 128 || is_iri_char(byte as char)
+    IRI_BYTES[byte as usize]
 }
 
 /// Whether the text begins with a scheme and its colon (RFC 3986, 3.1).
