@@ -25,9 +25,11 @@ IsUse s PnameLn l u = u ≡ stands (name_in s l)
 IsUse s PnameNs l u = (u ≡ stands (name_in s l)) ⊎ (u ≡ itself)
 IsUse s k l u = u ≡ itself
 
--- no quad's head ends with the end of the input
+-- no quad's head ends with the end of the input, and none of an object that is known only by the next token
 abbrev pub Quiet : Mode → Option Quad → Option Quad → Type 0
 Quiet Over early now = (early ≡ None) × (now ≡ None)
+Quiet (AfterText w p) early now = now ≡ None
+Quiet (Paren u) early now = now ≡ None
 Quiet m early now = Unit {0}
 
 -- the facts of a reply, where n brackets are open
@@ -65,15 +67,15 @@ object_facts c p early IriRef l = (refl, inl refl, refl, tt)
 object_facts c p early PnameLn l = (refl, refl, refl, tt)
 object_facts c p early PnameNs l = (refl, inl refl, refl, tt)
 object_facts c p early LabelNode l = (refl, refl, refl, tt)
-object_facts c p early ShortString l = (refl, refl, refl, tt)
-object_facts c p early LongString l = (refl, refl, refl, tt)
+object_facts c p early ShortString l = (refl, refl, refl, refl)
+object_facts c p early LongString l = (refl, refl, refl, refl)
 object_facts c p early Integer l = (refl, refl, refl, tt)
 object_facts c p early Decimal l = (refl, refl, refl, tt)
 object_facts c p early Double l = (refl, refl, refl, tt)
 object_facts c p early True l = (refl, refl, refl, tt)
 object_facts c p early False l = (refl, refl, refl, tt)
 object_facts c p early OpenBracket l = (omega arith, refl, refl, tt)
-object_facts c p early OpenParen l = (omega arith, refl, refl, tt)
+object_facts c p early OpenParen l = (omega arith, refl, refl, refl)
 object_facts c p early k l = tt
 
 verb_facts : (c : Setting) (s : Option term.Subject) (a : Around) (k : Kind) (l : Leaf) → Facts (depth_around a) c.scope k l (verb_start c s a k l)
@@ -158,7 +160,7 @@ subject_facts form c v PnameLn l = (omega (arith, subject_depth form v (named (n
 subject_facts form c v PnameNs l = (omega (arith, subject_depth form v (named (name_in c.scope l))), inl refl, refl, subject_quiet form v (named (name_in c.scope l)))
 subject_facts form c v LabelNode l = (omega (arith, subject_depth form v (node (labelled l))), refl, refl, subject_quiet form v (node (labelled l)))
 subject_facts form c v OpenBracket l = (refl, refl, refl, tt)
-subject_facts form c v OpenParen l = (refl, refl, refl, tt)
+subject_facts form c v OpenParen l = (refl, refl, refl, refl)
 subject_facts form c v k l = tt
 
 start_facts : (form : DocForm) (c : Setting) (k : Kind) (l : Leaf) → Facts 0 c.scope k l (start form c k l)
