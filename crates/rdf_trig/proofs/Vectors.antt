@@ -19,7 +19,8 @@ use Rattle.rdf_trig.specs.Trees.{PrefixedName, pname_ln, pname_ns, Iri, iri_ref,
 use Rattle.rdf_trig.specs.Trees as tree
 use Rattle.rdf_trig.specs.Names.{reference_in, name_in, is_full}
 use Rattle.rdf_trig.specs.Events.{Event, Took, Gave, document_events, Bound}
-use Rattle.rdf_trig.specs.Documents.{documents, document_held, Owed, most_held}
+use Rattle.rdf_trig.specs.Documents.{documents}
+use Rattle.rdf_trig.specs.Owed.{document_held, Owed, most_held}
 use Rattle.std.proofs.Math.Utf8.{encode}
 use Rattle.rdf_trig.proofs.Completions.{has_iri}
 use Rattle.rdf_trig.proofs.Reached.{use_bound}

@@ -3,6 +3,7 @@ pub mod Names
 pub mod Quads
 pub mod Events
 pub mod Documents
+pub mod Owed
 pub mod Refusals
 pub mod Machine
 pub mod Laws
