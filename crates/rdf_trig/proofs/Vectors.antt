@@ -3,13 +3,15 @@ use Rattle.std.proofs.Common.{◌≡◌, ℕ, Bool, true, List, [], ◌∷◌, �
 use Rattle.std.specs.Prelude.{codes}
 use Rattle.std.proofs.lemmas.Bool.{and_parts}
 use Rattle.rdf_terms.specs.Classes.{has}
-use Rattle.rdf_terms.specs.Terms.{Typed, Resource}
+use Rattle.rdf_terms.specs.Terms.{Typed, Lang, Resource}
 use Rattle.rdf_iri.specs.Resolve.{resolved}
-use Rattle.rdf_terms.specs.declared.kind.Kind.TheVariants.{IriRef, LabelNode, ShortString, Dot, Integer, True, False, Prefix, Graph, PnameNs, PnameLn, Comma, OpenBracket, CloseBracket, OpenParen, CloseParen, OpenBrace, CloseBrace, End}
+use Rattle.rdf_iri.specs.Parts.{parts_of}
+use Rattle.rdf_iri.specs.Dots.{remove_dots, finish, step}
+use Rattle.rdf_terms.specs.declared.kind.Kind.TheVariants.{IriRef, LabelNode, ShortString, LangTag, Carets, Dot, Integer, True, False, A, AtBase, Prefix, Base, Graph, PnameNs, PnameLn, Comma, OpenBracket, CloseBracket, OpenParen, CloseParen, OpenBrace, CloseBrace, End}
 use Rattle.rdf_terms.specs.Terms.{Node, Label, Anon, Cell, Blank, Term, Quad}
 use Rattle.rdf_terms.specs.Terms as term
 use Rattle.rdf_terms.specs.Known.{known_chars}
-use Rattle.rdf_terms.specs.declared.constants.Known.TheVariants.{RdfFirst, RdfRest, RdfNil, XsdString, XsdInteger, XsdBoolean}
+use Rattle.rdf_terms.specs.declared.constants.Known.TheVariants.{RdfType, RdfFirst, RdfRest, RdfNil, XsdString, XsdInteger, XsdBoolean}
 use Rattle.rdf_tokens.specs.Tokens.{Token}
 use Rattle.rdf_tokens.specs.Grammars.{Marked}
 use Rattle.rdf_iri.specs.Scope.{InForce}
@@ -294,6 +296,96 @@ pub word_and_label_is : documents TriG start word_and_label_tokens word_and_labe
 unfolding reference_in name_in resolved is_full has
 word_and_label_is = record { tree = word_and_label_tree; tokens = refl; bound = named_bound (document_events start word_and_label_tree) refl; quads = refl }
 
+-- A base, and a second one that is resolved against it, in Turtle: `BASE <http://h/b/> <s> a <t> . @base <c/> . <s> a <t> .`.
+abbrev pub bases_tokens : List Token
+bases_tokens =
+    token Base (leaf (codes "BASE") 0 1) ∷ token IriRef (leaf (codes "<http://h/b/>") 5 1) ∷ token IriRef (leaf (codes "<s>") 19 1) ∷
+    token A (leaf (codes "a") 23 1) ∷ token IriRef (leaf (codes "<t>") 25 1) ∷ token Dot (leaf (codes ".") 29 1) ∷ token AtBase (leaf (codes "@base") 31 1) ∷
+    token IriRef (leaf (codes "<c/>") 37 1) ∷ token Dot (leaf (codes ".") 42 1) ∷ token IriRef (leaf (codes "<s>") 44 1) ∷ token A (leaf (codes "a") 48 1) ∷
+    token IriRef (leaf (codes "<t>") 50 1) ∷ token Dot (leaf (codes ".") 54 1) ∷ token End (leaf (codes "") 55 1) ∷ []
+
+abbrev pub bases_tree : Document Turtle
+bases_tree =
+    with_directive (sparql_base (leaf (codes "BASE") 0 1) (leaf (codes "<http://h/b/>") 5 1)) (with_body record {
+      triples = subject_triples
+          (iri_subject (iri_ref (leaf (codes "<s>") 19 1))) (predicate_objects (type_word (leaf (codes "a") 23 1)) (objects (iri_object (iri_ref
+          (leaf (codes "<t>") 25 1))) no_commas) no_more);
+      dot = (leaf (codes ".") 29 1);
+    } (with_directive (base (leaf (codes "@base") 31 1) (leaf
+    (codes "<c/>") 37 1) (leaf (codes ".") 42 1)) (with_body record {
+      triples = subject_triples (iri_subject (iri_ref (leaf
+          (codes "<s>") 44 1))) (predicate_objects (type_word (leaf (codes "a") 48 1)) (objects (iri_object (iri_ref (leaf
+          (codes "<t>") 50 1))) no_commas) no_more);
+      dot = (leaf (codes ".") 54 1);
+    } (end (leaf (codes "") 55 1)))))
+
+abbrev pub bases_quads : List Marked
+bases_quads =
+    at 5 (quad (term.Iri (codes "http://h/b/s")) (known_chars RdfType) (Resource (term.Iri (codes "http://h/b/t"))) None) ∷
+    at 12 (quad (term.Iri (codes "http://h/b/c/s")) (known_chars RdfType) (Resource (term.Iri (codes "http://h/b/c/t"))) None) ∷ []
+
+pub bases_is : documents Turtle start bases_tokens bases_quads
+unfolding reference_in name_in resolved is_full has parts_of remove_dots finish step
+bases_is = record { tree = bases_tree; tokens = refl; bound = named_bound (document_events start bases_tree) refl; quads = refl }
+
+-- A prefix that is bound anew: `PREFIX x: <http://x/> x:s x:p x:o . PREFIX x: <http://y/> x:s x:p x:o .`.
+abbrev pub rebound_tokens : List Token
+rebound_tokens =
+    token Prefix (leaf (codes "PREFIX") 0 1) ∷ token PnameNs (leaf (codes "x:") 7 1) ∷ token IriRef (leaf (codes "<http://x/>") 10 1) ∷
+    token PnameLn (leaf (codes "x:s") 22 1) ∷ token PnameLn (leaf (codes "x:p") 26 1) ∷ token PnameLn (leaf (codes "x:o") 30 1) ∷
+    token Dot (leaf (codes ".") 34 1) ∷ token Prefix (leaf (codes "PREFIX") 36 1) ∷ token PnameNs (leaf (codes "x:") 43 1) ∷
+    token IriRef (leaf (codes "<http://y/>") 46 1) ∷ token PnameLn (leaf (codes "x:s") 58 1) ∷ token PnameLn (leaf (codes "x:p") 62 1) ∷
+    token PnameLn (leaf (codes "x:o") 66 1) ∷ token Dot (leaf (codes ".") 70 1) ∷ token End (leaf (codes "") 71 1) ∷ []
+
+abbrev pub rebound_tree : Document TriG
+rebound_tree =
+    with_directive (sparql_prefix (leaf (codes "PREFIX") 0 1) (leaf (codes "x:") 7 1) (leaf (codes "<http://x/>") 10 1)) (with_body
+    (triples_or_graph (label_triples (iri_label (prefixed (pname_ln (leaf (codes "x:s") 22 1)))) (predicate_objects (predicate (prefixed
+    (pname_ln (leaf (codes "x:p") 26 1)))) (objects (iri_object (prefixed (pname_ln (leaf (codes "x:o") 30 1)))) no_commas) no_more) (leaf
+    (codes ".") 34 1))) (with_directive (sparql_prefix (leaf (codes "PREFIX") 36 1) (leaf (codes "x:") 43 1) (leaf
+    (codes "<http://y/>") 46 1)) (with_body (triples_or_graph (label_triples (iri_label (prefixed (pname_ln (leaf (codes "x:s") 58 1))))
+    (predicate_objects (predicate (prefixed (pname_ln (leaf (codes "x:p") 62 1)))) (objects (iri_object (prefixed (pname_ln (leaf
+    (codes "x:o") 66 1)))) no_commas) no_more) (leaf (codes ".") 70 1))) (end (leaf (codes "") 71 1)))))
+
+abbrev pub rebound_quads : List Marked
+rebound_quads =
+    at 6 (quad (term.Iri (codes "http://x/s")) (codes "http://x/p") (Resource (term.Iri (codes "http://x/o"))) None) ∷
+    at 13 (quad (term.Iri (codes "http://y/s")) (codes "http://y/p") (Resource (term.Iri (codes "http://y/o"))) None) ∷ []
+
+pub rebound_is : documents TriG start rebound_tokens rebound_quads
+unfolding reference_in name_in resolved is_full has
+rebound_is = record { tree = rebound_tree; tokens = refl; bound = named_bound (document_events start rebound_tree) refl; quads = refl }
+
+-- Strings with tags and with a type, in Turtle: `S P "A"@base , "b"@en , "c"^^<a:t> .`.
+abbrev pub strings_tokens : List Token
+strings_tokens =
+    token IriRef (leaf (codes "<http://a/s>") 0 1) ∷ token IriRef (leaf (codes "<http://a/p>") 13 1) ∷ token ShortString (leaf (codes "\"A\"") 26 1) ∷
+    token AtBase (leaf (codes "@base") 29 1) ∷ token Comma (leaf (codes ",") 35 1) ∷ token ShortString (leaf (codes "\"b\"") 37 1) ∷
+    token LangTag (leaf (codes "@en") 40 1) ∷ token Comma (leaf (codes ",") 44 1) ∷ token ShortString (leaf (codes "\"c\"") 46 1) ∷
+    token Carets (leaf (codes "^^") 49 1) ∷ token IriRef (leaf (codes "<a:t>") 51 1) ∷ token Dot (leaf (codes ".") 57 1) ∷ token End (leaf (codes "") 58 1) ∷ []
+
+abbrev pub strings_tree : Document Turtle
+strings_tree =
+    with_body record {
+      triples = subject_triples (iri_subject (iri_ref (leaf (codes "<http://a/s>") 0 1))) (predicate_objects (predicate
+          (iri_ref (leaf (codes "<http://a/p>") 13 1))) (objects (literal_object (rdf (tagged (short (leaf (codes "\"A\"") 26 1)) (base_tag (leaf
+          (codes "@base") 29 1))))) (comma (leaf (codes ",") 35 1) (literal_object (rdf (tagged (short (leaf (codes "\"b\"") 37 1)) (lang_tag
+          (leaf (codes "@en") 40 1))))) (comma (leaf (codes ",") 44 1) (literal_object (rdf (typed (short (leaf (codes "\"c\"") 46 1)) (leaf
+          (codes "^^") 49 1) (iri_ref (leaf (codes "<a:t>") 51 1))))) no_commas))) no_more);
+      dot = (leaf (codes ".") 57 1);
+    } (end (leaf
+    (codes "") 58 1))
+
+abbrev pub strings_quads : List Marked
+strings_quads =
+    at 4 (quad (term.Iri (codes "http://a/s")) (codes "http://a/p") (term.Literal (codes "A") (Lang (codes "base"))) None) ∷
+    at 7 (quad (term.Iri (codes "http://a/s")) (codes "http://a/p") (term.Literal (codes "b") (Lang (codes "en"))) None) ∷
+    at 11 (quad (term.Iri (codes "http://a/s")) (codes "http://a/p") (term.Literal (codes "c") (Typed (codes "a:t"))) None) ∷ []
+
+pub strings_is : documents Turtle start strings_tokens strings_quads
+unfolding reference_in name_in resolved is_full has
+strings_is = record { tree = strings_tree; tokens = refl; bound = named_bound (document_events start strings_tree) refl; quads = refl }
+
 -- What is owed in `S P [ P ( ) ] .`: behind the parenthesis that opens, subject and verb of the statement and the verb of the property list; behind the
 -- bracket that closes, those of the statement; behind the dot nothing.
 abbrev pub open_tokens : List Token
@@ -314,8 +406,7 @@ open_bound : Bound (document_events start open_tree)
 unfolding reference_in name_in resolved is_full has
 open_bound = named_bound (document_events start open_tree) refl
 
-owed_by : (k size : ℕ) → take k open_tokens ++ drop k open_tokens ≡ open_tokens → document_held start (length (take k open_tokens)) 0 open_tree ≡ size →
-    Owed TriG start (take k open_tokens) size
+owed_by : (k size : ℕ) → take k open_tokens ++ drop k open_tokens ≡ open_tokens → document_held start (length (take k open_tokens)) 0 open_tree ≡ size → Owed TriG start (take k open_tokens) size
 owed_by k size e h = record { tree = open_tree; more = drop k open_tokens; tokens = e; bound = open_bound; held = h }
 
 pub owed_inside : Owed TriG start (take 5 open_tokens) 30
