@@ -1,5 +1,5 @@
 -- Each law at an example.
-use Rattle.std.proofs.Common.{◌≡◌, List, [], ◌∷◌, take, drop, Some, None, refl, ◌∙◌, subst}
+use Rattle.std.proofs.Common.{◌++◌, ◌≡◌, List, [], ◌∷◌, take, drop, Some, None, refl, ◌∙◌, subst}
 use Rattle.std.specs.Prelude.{codes}
 use Rattle.std.proofs.Math.Utf8.{encode}
 use Rattle.rdf_terms.specs.Classes.{has}
@@ -26,7 +26,7 @@ use Rattle.rdf_trig.specs.Refusals.{unexpected, too_deep, unbound, no_base, iri_
 use Rattle.rdf_trig.specs.Machine.{Top, Listed, WantPrefixIri, Sparql, Statement, Boxed, At, Start, Over, Want, After, AfterBox, State, at_start, ran, accept_all}
 use Rattle.rdf_trig.specs.Laws.{Rises, CompletedBy, Stops, Reads, ViableWhereBound, ShapedAndBound, NamelessWhere}
 use Rattle.rdf_trig.proofs.Vectors.{leaf, quad, start, nested_tokens, nested_tree, nested_quads, nested_is, booleans_tokens, booleans_tree, booleans_quads, booleans_is, inner_collection_quads, inner_collection_tree, one_label_tokens, one_label_quads, one_label_is}
-use Rattle.rdf_trig.proofs.LawLemmas.{stops, begins, tree_told, never_fall}
+use Rattle.rdf_trig.proofs.LawLemmas.{due_front, stops, begins, tree_told, never_fall}
 use Rattle.rdf_trig.proofs.Exact.{same_quads, same_due, accepted_document, document_accepted}
 use Rattle.rdf_trig.proofs.Bounds.{settled, viable_bound}
 use Rattle.rdf_trig.proofs.Completed.{completed}
@@ -245,3 +245,7 @@ label_read = begins TriG start one_label_tokens over (unmarked one_label_quads) 
 
 pub label_accepted : (s : State) × (accept_all TriG (at_start start) one_label_tokens ≡ ran s (unmarked one_label_quads)) × (s.mode ≡ Over)
 label_accepted = document_accepted TriG start one_label_tokens one_label_quads one_label_is (IsFront.kept (Reads.front label_read))
+
+pub booleans_begin : (rest : List Quad) × (unmarked booleans_quads ≡ due_quads ++ rest)
+booleans_begin =
+    due_front TriG start (take 5 booleans_tokens) (drop 5 booleans_tokens) due_quads booleans_quads (drop 5 booleans_tokens, booleans_quads, booleans_is, refl) booleans_is

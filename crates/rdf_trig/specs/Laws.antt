@@ -38,6 +38,11 @@ TokensSettleTheQuads = (form : DocForm) (start : InForce) (ts : List Token) (qs 
 abbrev pub TokensSettleWhatIsDue : Type 0
 TokensSettleWhatIsDue = (form : DocForm) (start : InForce) (ts : List Token) (qs rs : List Quad) → Due (documents form start) ts qs → Due (documents form start) ts rs → qs ≡ rs
 
+-- What is due is a beginning of the quads of each document that begins so.
+abbrev pub DueBeginsTheQuads : Type 0
+DueBeginsTheQuads = (form : DocForm) (start : InForce) (ts more : List Token) (qs : List Quad) (all : List Marked) → Due (documents form start) ts qs →
+    documents form start (ts ++ more) all → (rest : List Quad) × (unmarked all ≡ qs ++ rest)
+
 -- What a token stands for is the same in every tree that begins with the tokens before it and with it.
 abbrev pub TokensSettleTheirSenses : Type 0
 TokensSettleTheirSenses = (form : DocForm) (start : InForce) (ahead : List Token) (t : Token) (u v : Use) → InTree form start ahead t u → InTree form start ahead t v → u ≡ v

@@ -1,6 +1,6 @@
 //! The laws of Turtle and TriG. These functions do nothing: their contracts are the laws.
 
-ghost use Rattle.rdf_trig.specs.Laws.{EventsTellTheTree, MarksNeverFall, TokensSettleTheQuads, TokensSettleWhatIsDue, TokensSettleTheirSenses, ViableIsShapedAndBound, BeginningsAreCompleted, NamelessIsUnbound, DirectivesBind, DocumentsAreAccepted, AcceptedIsADocument, AcceptedBeginsADocument, RefusedForItsReason};
+ghost use Rattle.rdf_trig.specs.Laws.{EventsTellTheTree, MarksNeverFall, TokensSettleTheQuads, TokensSettleWhatIsDue, DueBeginsTheQuads, TokensSettleTheirSenses, ViableIsShapedAndBound, BeginningsAreCompleted, NamelessIsUnbound, DirectivesBind, DocumentsAreAccepted, AcceptedIsADocument, AcceptedBeginsADocument, RefusedForItsReason};
 
 /// The events of a tree, from left to right, have the tokens that it derives, and its quads with their marks.
 pub fn events_tell_the_tree()
@@ -20,6 +20,11 @@ pub fn tokens_settle_the_quads()
 /// What is due behind some tokens is the same in every document that begins with them.
 pub fn tokens_settle_what_is_due()
     ensures { TokensSettleWhatIsDue }
+{}
+
+/// What is due is a beginning of the quads of each document that begins so.
+pub fn due_begins_the_quads()
+    ensures { DueBeginsTheQuads }
 {}
 
 /// What a token stands for is settled by the tokens before it.

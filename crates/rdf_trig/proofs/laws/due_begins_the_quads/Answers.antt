@@ -1,0 +1,5 @@
+use Rattle.rdf_trig.proofs.LawLemmas.{due_front}
+use Rattle.rdf_trig.proofs.laws.due_begins_the_quads.Goals as goal
+
+pub returns : goal.returns
+returns c = due_front
