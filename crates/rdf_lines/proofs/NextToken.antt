@@ -1,7 +1,7 @@
 -- When a text is the next token, whatever comes behind it.
-use Rattle.std.proofs.Common.{◌≡◌, ℕ, zero, suc, ◌+◌, ◌<◌, ◌≤◌, true, false, List, [], ◌∷◌, ◌++◌, refl, sym, ap, ◌∙◌, subst, Option, Some, None, length, take, drop, nat_lt, arith, length-append}
-use Rattle.std.proofs.lemmas.Bool.{cond-true, cond-false, false≢true, le-ltb, and_left}
-use Rattle.std.proofs.lemmas.List.{take_at, drop_at}
+use Rattle.std.proofs.Common.{◌≡◌, ℕ, zero, suc, ◌+◌, ◌-◌, ◌<◌, ◌≤◌, true, false, ◌||◌, ◌⊎◌, ⊎_elim, is_some, List, [], ◌∷◌, ◌++◌, refl, sym, ap, ◌∙◌, subst, Option, Some, None, length, take, drop, nat_lt, arith, length-append, append_assoc}
+use Rattle.std.proofs.lemmas.Bool.{cond-true, cond-false, false≢true, le-ltb, and_left, and_right, cases_lt, cases_Bool}
+use Rattle.std.proofs.lemmas.List.{append-nil, take_at, drop_at}
 use Rattle.rdf_terms.specs.declared.kind.Dialect.TheVariants.{Lines}
 use Rattle.rdf_terms.specs.Regex.{Matches, after, possible}
 use Rattle.rdf_terms.specs.declared.kind.Kind.{Kind}
@@ -11,7 +11,7 @@ use Rattle.rdf_tokens.specs.Tokens.{Place, past, over, chosen, longest, with_len
 use Rattle.rdf_tokens.specs.Tokens.Tail.{ended}
 use Rattle.rdf_tokens.specs.Tokens.Step.{token}
 use Rattle.rdf_terms.proofs.RegexLemmas.{matches-after, matches-possible}
-use Rattle.rdf_terms.proofs.ShapesLemmas.{first_kind-matches, matches-first_kind, kind-front}
+use Rattle.rdf_terms.proofs.ShapesLemmas.{first_kind-matches, matches-first_kind, live-matches, matches-live}
 use Rattle.rdf_tokens.proofs.TokensLemmas.{none_longer, at_token, tokens-step}
 use Rattle.rdf_terms.proofs.UsedCharacters.{uses, not_used}
 
@@ -35,9 +35,9 @@ kind_at c k b w m =
     let e = b.only f.0 (matches-possible _ w (matches-after (shape Lines f.0) c w n)) in
     f.1 ∙ ap (λ l. Some l) e
 
--- A text ends where it stands, if no longer front of the whole has a kind.
+-- A text ends where it stands, if no text with a shape begins with a longer front of the whole.
 abbrev pub Cut : List ℕ → List ℕ → Type 0
-Cut w v = (m : ℕ) → m < length v → kind_of Lines (w ++ take (suc m) v) ≡ None
+Cut w v = (m : ℕ) → m < length v → (u : List ℕ) → Matches (any_shape Lines kinds) ((w ++ take (suc m) v) ++ u) → ⊥
 
 no_kind : (w : List ℕ) → (Matches (any_shape Lines kinds) w → ⊥) → kind_of Lines w ≡ None
 unfolding kind_of
@@ -47,15 +47,26 @@ no_kind w n = at (first_kind Lines kinds w) refl
     at None e = refl
     at (Some k) e = absurd (n (first_kind-matches Lines kinds w k e).1)
 
+-- a longer front has no kind, and begins nothing longer
+cut_kind : (w v : List ℕ) → Cut w v → (m : ℕ) → m < length v → kind_of Lines (w ++ take (suc m) v) ≡ None
+cut_kind w v t m l = no_kind (w ++ take (suc m) v) (λ n. t m l [] (subst (Matches (any_shape Lines kinds)) (sym (append-nil (w ++ take (suc m) v))) n))
+
+cut_live : (w v : List ℕ) → Cut w v → (m : ℕ) → m < length v → is_live Lines (w ++ take (suc m) v) ≡ false
+cut_live w v t m l =
+    ⊎_elim (λ e. absurd (let x = live-matches Lines (w ++ take (suc m) v) e in t m l (x.0 ∷ x.1) x.2)) (λ e. e) (cases_Bool (is_live Lines (w ++ take (suc m) v)))
+
 -- The first character behind it cannot stand in the shape.
 pub cut_by_other : (c : ℕ) (k : Kind) → Begins c k → (w : List ℕ) (x : ℕ) (v : List ℕ) → uses (shape Lines k) x ≡ false → Cut (c ∷ w) (x ∷ v)
-cut_by_other c k b w x v e m l =
-    no_kind (c ∷ w ++ x ∷ take m v) (λ n. not_used (shape Lines k) (c ∷ w) (take m v) x e (shape_at c k b (w ++ x ∷ take m v) n))
+cut_by_other c k b w x v e m l u n =
+    let s : (c ∷ w ++ x ∷ take m v) ++ u ≡ c ∷ w ++ x ∷ (take m v ++ u) = append_assoc (c ∷ w) (x ∷ take m v) u in
+    not_used (shape Lines k) (c ∷ w) (take m v ++ u) x e (shape_at c k b (w ++ x ∷ (take m v ++ u)) (subst (Matches (any_shape Lines kinds)) s n))
 
 -- No longer text of the shape begins so.
 pub cut_by_shape : (c : ℕ) (k : Kind) → Begins c k → (w v : List ℕ) → ((x : ℕ) (u : List ℕ) → Matches (shape Lines k) (c ∷ w ++ x ∷ u) → ⊥) → Cut (c ∷ w) v
-cut_by_shape c k b w [] e m l = absurd (omega arith)
-cut_by_shape c k b w (x ∷ v) e m l = no_kind (c ∷ w ++ x ∷ take m v) (λ n. e x (take m v) (shape_at c k b (w ++ x ∷ take m v) n))
+cut_by_shape c k b w [] e m l u n = absurd (omega arith)
+cut_by_shape c k b w (x ∷ v) e m l u n =
+    let s : (c ∷ w ++ x ∷ take m v) ++ u ≡ c ∷ w ++ x ∷ (take m v ++ u) = append_assoc (c ∷ w) (x ∷ take m v) u in
+    e x (take m v ++ u) (shape_at c k b (w ++ x ∷ (take m v ++ u)) (subst (Matches (any_shape Lines kinds)) s n))
 
 take-append : (w v : List ℕ) (n : ℕ) → take (length w + n) (w ++ v) ≡ w ++ take n v
 take-append [] v n = ap (λ x. take x v) (let e : length (let x : List ℕ = [] in x) + n ≡ n = omega arith in e)
@@ -75,16 +86,30 @@ longest_high c w v k e t (suc n) l =
     let f : take (suc (length (c ∷ w) + n)) (c ∷ w ++ v) ≡ c ∷ w ++ take (suc n) v = ap (λ x. take x (c ∷ w ++ v)) (sym z) ∙ take-append (c ∷ w) v (suc n) in
     ap (longest Lines (c ∷ w ++ v)) z
     ∙ (none_longer (suc (length (c ∷ w) + n)) false (kind_of Lines (take (suc (length (c ∷ w) + n)) (c ∷ w ++ v))) (longest Lines (c ∷ w ++ v) (length (c ∷ w) + n))
-    (ap (kind_of Lines) f ∙ t n (omega arith))
+    (ap (kind_of Lines) f ∙ cut_kind (c ∷ w) v t n (omega arith))
     ∙ longest_high c w v k e t n (omega arith))
 
+-- where the token has at most limit characters, no more of them begin anything
+not_over : (limit c : ℕ) (w v : List ℕ) → Cut (c ∷ w) v → length (c ∷ w) ≤ limit → over Lines limit (c ∷ w ++ v) ≡ false
+not_over limit c w v t l = ⊎_elim long (λ h. and_left _ _ (le-ltb _ _ h)) (cases_lt limit (length (c ∷ w ++ v)))
+  where
+    long : limit < length (c ∷ w ++ v) → over Lines limit (c ∷ w ++ v) ≡ false
+    long h =
+        let m = limit - length (c ∷ w) in
+        let size : length (c ∷ w ++ v) ≡ length (c ∷ w) + length v = length-append (c ∷ w) v in
+        let n : limit + 1 ≡ length (c ∷ w) + suc m = omega arith in
+        let within : m < length v = omega arith in
+        let front : take (limit + 1) (c ∷ w ++ v) ≡ c ∷ w ++ take (suc m) v = ap (λ k. take k (c ∷ w ++ v)) n ∙ take-append (c ∷ w) v (suc m) in
+        let kind : is_some (kind_of Lines (take (limit + 1) (c ∷ w ++ v))) ≡ false = ap (λ x. is_some (kind_of Lines x)) front ∙ ap is_some (cut_kind (c ∷ w) v t m within) in
+        let live : is_live Lines (take (limit + 1) (c ∷ w ++ v)) ≡ false = ap (is_live Lines) front ∙ cut_live (c ∷ w) v t m within in
+        and_right _ _ (ap (λ b. b || is_live Lines (take (limit + 1) (c ∷ w ++ v))) kind ∙ live)
+
 next_step : (limit : ℕ) (c : ℕ) (w v : List ℕ) (k : Kind) → kind_of Lines (c ∷ w) ≡ Some k → is_fit k (c ∷ w) ≡ true → Cut (c ∷ w) v →
-    length (c ∷ w ++ v) ≤ limit → step Lines limit ended (c ∷ w ++ v) ≡ token (length (c ∷ w)) k
+    length (c ∷ w) ≤ limit → step Lines limit ended (c ∷ w ++ v) ≡ token (length (c ∷ w)) k
 unfolding step
 next_step limit c w v k e f t l =
     let W = c ∷ w ++ v in
-    let a : nat_lt limit (length W) ≡ false = le-ltb _ _ l in
-    let o : over Lines limit W ≡ false = and_left _ _ a in
+    let o : over Lines limit W ≡ false = not_over limit c w v t l in
     let s : length W ≡ length (c ∷ w) + length v = length-append (c ∷ w) v in
     let g : longest Lines W (length W) ≡ Some (length (c ∷ w), k) = ap (longest Lines W) s ∙ longest_high c w v k e t (length v) (omega arith) in
     let h : is_fit k (take (length (c ∷ w)) W) ≡ true = ap (is_fit k) (take_at (c ∷ w) v (length (c ∷ w)) refl) ∙ f in
@@ -92,7 +117,7 @@ next_step limit c w v k e f t l =
 
 -- For all kinds: a text with a kind, fit and cut off by what follows, is the next token.
 pub next_token : (limit : ℕ) (p : Place) (c : ℕ) (w v : List ℕ) (k : Kind) → blank Lines false (c ∷ w ++ v) ≡ 0 →
-    kind_of Lines (c ∷ w) ≡ Some k → is_fit k (c ∷ w) ≡ true → Cut (c ∷ w) v → length (c ∷ w ++ v) ≤ limit →
+    kind_of Lines (c ∷ w) ≡ Some k → is_fit k (c ∷ w) ≡ true → Cut (c ∷ w) v → length (c ∷ w) ≤ limit →
     tokens Lines limit ended false p (c ∷ w ++ v) ≡ with_token (record { kind = k; text = c ∷ w; at = p }) (tokens Lines limit ended false (past p (c ∷ w)) v)
 next_token limit p c w v k z e f t l =
     let W = c ∷ w ++ v in
@@ -113,9 +138,6 @@ skip_space limit p v = tokens-step Lines limit ended false p (32 ∷ v) ∙ sym 
 
 -- No longer shape begins so at all.
 pub cut_by_dead : (w v : List ℕ) → is_live Lines w ≡ false → Cut w v
-cut_by_dead w [] f m l = absurd (omega arith)
-cut_by_dead w (x ∷ v) f m l = at (kind_of Lines (w ++ x ∷ take m v)) refl
-  where
-    at : (o : Option Kind) → kind_of Lines (w ++ x ∷ take m v) ≡ o → o ≡ None
-    at None e = refl
-    at (Some k) e = absurd (false≢true (sym f ∙ kind-front Lines w x (take m v) k e))
+cut_by_dead w [] f m l u n = absurd (omega arith)
+cut_by_dead w (x ∷ v) f m l u n =
+    false≢true (sym f ∙ matches-live Lines w x (take m v ++ u) (subst (Matches (any_shape Lines kinds)) (append_assoc w (x ∷ take m v) u) n))

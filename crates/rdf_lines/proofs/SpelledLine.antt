@@ -1,5 +1,5 @@
 -- What is written reads back as the same quads.
-use Rattle.std.proofs.Common.{◌≡◌, ℕ, ◌+◌, ◌≤◌, Bool, true, false, List, [], ◌∷◌, ◌++◌, refl, sym, ap, ◌∙◌, subst, append_assoc, Option, Some, None, length, nat_lt, arith, length-append}
+use Rattle.std.proofs.Common.{◌≡◌, ℕ, ◌+◌, ◌≤◌, Bool, true, false, List, [], ◌∷◌, ◌++◌, refl, sym, ap, ◌∙◌, subst, append_assoc, Option, Some, None, length, nat_lt, arith, length-append, zero-add}
 use Rattle.std.specs.Prelude.{flat_map, option_map, unwrap_or, bytes_eq}
 use Rattle.std.specs.List.{AllByRecursion}
 use Rattle.std.proofs.lemmas.Bool.{cond-false, le-ltb, and_left}
@@ -27,10 +27,36 @@ use Rattle.rdf_terms.proofs.UsedCharacters.{uses}
 use Rattle.rdf_lines.proofs.NextToken.{Cut, kind_at, cut_by_other, cut_by_shape, cut_by_dead, next_token, skip_space}
 use Rattle.rdf_lines.proofs.WritingLemmas.{begins_iri, begins_label, begins_string, begins_tag, iri_shape, iri_fit, iri_meant, string_shape, string_ends, string_fit, string_meant, inside_one}
 
--- A text spells tokens, if these are read from it, whatever comes behind it; they depend on its place alone.
-abbrev pub Spells : ℕ → List ℕ → (Place → List Token) → Type 0
-Spells limit w f = (p : Place) (v : List ℕ) → length (w ++ v) ≤ limit →
-    tokens Lines limit ended false p (w ++ v) ≡ with_tokens (f p) (tokens Lines limit ended false (past p w) v)
+-- no token of the list has more characters
+abbrev pub AllShort : ℕ → List Token → Type 0
+AllShort limit ts = AllByRecursion (λ t. length t.text ≤ limit) ts
+
+-- how many characters the tokens have
+abbrev total : List Token → ℕ
+total [] = 0
+total (t ∷ ts) = length t.text + total ts
+
+-- A text spells tokens, if these are read from it, whatever comes behind it, where none is too long; they depend on its place alone.
+pub record Spells (limit : ℕ) (w : List ℕ) (f : Place → List Token) : Type 0 where
+  pub size : (p : Place) → total (f p) ≤ length w
+  pub reads : (p : Place) (v : List ℕ) → AllShort limit (f p) → tokens Lines limit ended false p (w ++ v) ≡ with_tokens (f p) (tokens Lines limit ended false (past p w) v)
+
+total-append : (ts us : List Token) → total (ts ++ us) ≡ total ts + total us
+total-append [] us = sym (zero-add (total us))
+total-append (t ∷ ts) us = let h = total-append ts us in omega arith
+
+short_front : (limit : ℕ) (ts us : List Token) → AllShort limit (ts ++ us) → AllShort limit ts
+short_front limit [] us h = tt
+short_front limit (t ∷ ts) us h = (h.0, short_front limit ts us h.1)
+
+short_rest : (limit : ℕ) (ts us : List Token) → AllShort limit (ts ++ us) → AllShort limit us
+short_rest limit [] us h = h
+short_rest limit (t ∷ ts) us h = short_rest limit ts us h.1
+
+-- where all of them have no more, each has none
+total_short : (limit : ℕ) (ts : List Token) → total ts ≤ limit → AllShort limit ts
+total_short limit [] l = tt
+total_short limit (t ∷ ts) l = (omega arith, total_short limit ts (omega arith))
 
 abbrev leaf : List ℕ → Place → Leaf
 leaf w p = record { text = w; at = p }
@@ -43,34 +69,40 @@ past-append [] w p = refl
 past-append (c ∷ u) w p = past-append u w _
 
 spells_nothing : (limit : ℕ) → Spells limit [] (λ p. [])
-spells_nothing limit p v l = refl
+spells_nothing limit = record { size = λ p. omega arith; reads = λ p v h. refl }
 
 spells_then : (limit : ℕ) (u w : List ℕ) (f g : Place → List Token) → Spells limit u f → Spells limit w g → Spells limit (u ++ w) (λ p. f p ++ g (past p u))
-spells_then limit u w f g a b p v l =
-    let s : u ++ w ++ v ≡ u ++ (w ++ v) = append_assoc u w v in
-    let m : length (u ++ (w ++ v)) ≤ limit = subst (λ x. length x ≤ limit) s l in
-    let n : length (u ++ (w ++ v)) ≡ length u + length (w ++ v) = length-append u (w ++ v) in
-    let r = tokens Lines limit ended false (past (past p u) w) v in
-    ap (tokens Lines limit ended false p) s
-    ∙ (a p (w ++ v) m
-    ∙ (ap (with_tokens (f p)) (b (past p u) v (omega arith))
-    ∙ (ap (λ (x : List Token). record { tokens = x; outcome = r.outcome; at = r.at }) (sym (append_assoc (f p) (g (past p u)) r.tokens))
-    ∙ ap (λ q. with_tokens (f p ++ g (past p u)) (tokens Lines limit ended false q v)) (sym (past-append u w p)))))
+spells_then limit u w f g a b = record { size = size; reads = reads }
+  where
+    size : (p : Place) → total (f p ++ g (past p u)) ≤ length (u ++ w)
+    size p = omega (arith, total-append (f p) (g (past p u)), length-append u w, a.size p, b.size (past p u))
+
+    reads : (p : Place) (v : List ℕ) → AllShort limit (f p ++ g (past p u)) →
+        tokens Lines limit ended false p ((u ++ w) ++ v) ≡ with_tokens (f p ++ g (past p u)) (tokens Lines limit ended false (past p (u ++ w)) v)
+    reads p v h =
+        let r = tokens Lines limit ended false (past (past p u) w) v in
+        ap (tokens Lines limit ended false p) (append_assoc u w v)
+        ∙ (a.reads p (w ++ v) (short_front limit (f p) (g (past p u)) h)
+        ∙ (ap (with_tokens (f p)) (b.reads (past p u) v (short_rest limit (f p) (g (past p u)) h))
+        ∙ (ap (λ (x : List Token). record { tokens = x; outcome = r.outcome; at = r.at }) (sym (append_assoc (f p) (g (past p u)) r.tokens))
+        ∙ ap (λ q. with_tokens (f p ++ g (past p u)) (tokens Lines limit ended false q v)) (sym (past-append u w p)))))
 
 spells_alone : (limit c : ℕ) (w : List ℕ) (k : Kind) → ((v : List ℕ) → blank Lines false (c ∷ v) ≡ 0) → kind_of Lines (c ∷ w) ≡ Some k → is_fit k (c ∷ w) ≡ true →
     ((v : List ℕ) → Cut (c ∷ w) v) → Spells limit (c ∷ w) (alone k (c ∷ w))
-spells_alone limit c w k z e f t p v l = next_token limit p c w v k (z (w ++ v)) e f (t v) l
+spells_alone limit c w k z e f t = record { size = λ p. omega arith; reads = λ p v h. next_token limit p c w v k (z (w ++ v)) e f (t v) h.0 }
 
 spells_before_space : (limit c : ℕ) (w : List ℕ) (k : Kind) → ((v : List ℕ) → blank Lines false (c ∷ v) ≡ 0) → kind_of Lines (c ∷ w) ≡ Some k → is_fit k (c ∷ w) ≡ true →
     ((v : List ℕ) → Cut (c ∷ w) (32 ∷ v)) → Spells limit (c ∷ w ++ space) (alone k (c ∷ w))
-spells_before_space limit c w k z e f t p v l =
-    let s : c ∷ w ++ space ++ v ≡ c ∷ w ++ 32 ∷ v = append_assoc (c ∷ w) space v in
-    ap (tokens Lines limit ended false p) s
-    ∙ (next_token limit p c w (32 ∷ v) k (z (w ++ 32 ∷ v)) e f (t v) (subst (λ x. length x ≤ limit) s l)
-    ∙ ap (with_tokens (alone k (c ∷ w) p)) (skip_space limit (past p (c ∷ w)) v ∙ ap (λ q. tokens Lines limit ended false q v) (sym (past-append (c ∷ w) space p))))
+spells_before_space limit c w k z e f t = record {
+  size = λ p. let s = length-append (c ∷ w) space in omega arith;
+  reads = λ p v h.
+      ap (tokens Lines limit ended false p) (append_assoc (c ∷ w) space v)
+      ∙ (next_token limit p c w (32 ∷ v) k (z (w ++ 32 ∷ v)) e f (t v) h.0
+      ∙ ap (with_tokens (alone k (c ∷ w) p)) (skip_space limit (past p (c ∷ w)) v ∙ ap (λ q. tokens Lines limit ended false q v) (sym (past-append (c ∷ w) space p))));
+}
 
 spells_space : (limit : ℕ) → Spells limit space (λ p. [])
-spells_space limit p v l = skip_space limit p v
+spells_space limit = record { size = λ p. omega arith; reads = λ p v h. skip_space limit p v }
 
 -- the parts of a line
 iri_space : uses (shape Lines IriRef) 32 ≡ false
@@ -236,16 +268,31 @@ reads_end limit p = at_stop Lines limit ended false p [] complete (ends limit)
     ends : (limit : ℕ) → step Lines limit ended [] ≡ stop complete
     ends limit = cond-false (over Lines limit []) _ _ (and_left (nat_lt limit 0) _ (le-ltb limit 0 (omega arith)))
 
-reads_text : (limit : ℕ) (qs : List Quad) → Written qs → length (flat_map quad_text qs) ≤ limit → (p : Place) →
-    tokens Lines limit ended false p (flat_map quad_text qs) ≡ record { tokens = document_tokens (document_tree p qs); outcome = complete; at = past p (flat_map quad_text qs) }
-reads_text limit [] h l p = reads_end limit p
-reads_text limit (q ∷ qs) h l p =
+-- the tokens of the text have no more characters than it
+text_size : (limit : ℕ) (qs : List Quad) → Written qs → (p : Place) → total (document_tokens (document_tree p qs)) ≤ length (flat_map quad_text qs)
+text_size limit [] h p = omega arith
+text_size limit (q ∷ qs) h p =
     let w = quad_text q in
-    let rest = flat_map quad_text qs in
-    let m = reads_text limit qs h.1 (omega (arith, length-append w rest)) (past p w) in
     let f = statement_tokens (statement_tree p q) in
     let e = alone LineEnd (10 ∷ []) (past p (upto_graph q ++ 46 ∷ [])) in
-    spells_line limit q h.0.0 h.0.1 p rest l
+    let line = (spells_line limit q h.0.0 h.0.1).size p in
+    let more = text_size limit qs h.1 (past p w) in
+    let ts = document_tokens (document_tree (past p w) qs) in
+    let parts : total (f ++ (e ++ ts)) ≡ total (f ++ e) + total ts = ap total (sym (append_assoc f e ts)) ∙ total-append (f ++ e) ts in
+    omega (arith, line, more, parts, length-append w (flat_map quad_text qs))
+
+reads_text : (limit : ℕ) (qs : List Quad) → Written qs → (p : Place) → AllShort limit (document_tokens (document_tree p qs)) →
+    tokens Lines limit ended false p (flat_map quad_text qs) ≡ record { tokens = document_tokens (document_tree p qs); outcome = complete; at = past p (flat_map quad_text qs) }
+reads_text limit [] h p s = reads_end limit p
+reads_text limit (q ∷ qs) h p s =
+    let w = quad_text q in
+    let rest = flat_map quad_text qs in
+    let f = statement_tokens (statement_tree p q) in
+    let e = alone LineEnd (10 ∷ []) (past p (upto_graph q ++ 46 ∷ [])) in
+    let ts = document_tokens (document_tree (past p w) qs) in
+    let all : AllShort limit ((f ++ e) ++ ts) = subst (AllShort limit) (sym (append_assoc f e ts)) s in
+    let m = reads_text limit qs h.1 (past p w) (short_rest limit (f ++ e) ts all) in
+    (spells_line limit q h.0.0 h.0.1).reads p rest (short_front limit (f ++ e) ts all)
     ∙ (ap (with_tokens (f ++ e)) m
     ∙ (ap (λ (x : List Token). record { tokens = x; outcome = complete; at = past (past p w) rest }) (append_assoc f e (document_tokens (document_tree (past p w) qs)))
     ∙ ap (λ (x : Place). record { tokens = document_tokens (document_tree p (q ∷ qs)); outcome = complete; at = x }) (sym (past-append w rest p))))
@@ -312,6 +359,6 @@ document_meant p (q ∷ qs) h =
 pub reads_back : (limit : ℕ) (qs : List Quad) → Written qs → length (flat_map quad_text qs) ≤ limit → (p : Place) →
     ((tokens Lines limit ended false p (flat_map quad_text qs)).outcome ≡ complete) × IsDocument has_scheme NQuads (tokens Lines limit ended false p (flat_map quad_text qs)).tokens qs
 reads_back limit qs h l p =
-    let r = reads_text limit qs h l p in
+    let r = reads_text limit qs h p (total_short limit (document_tokens (document_tree p qs)) (let s = text_size limit qs h p in omega arith)) in
     let m = document_meant p qs h in
     (ap (λ x. x.outcome) r, (document_tree p qs, ap (λ x. x.tokens) r, m.1, m.0))
