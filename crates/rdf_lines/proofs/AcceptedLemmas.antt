@@ -26,7 +26,7 @@ use Rattle.rdf_lines.proofs.Runs.{run_document}
 use Rattle.rdf_lines.proofs.Refusals.{ran_none}
 use Rattle.rdf_lines.proofs.DocumentsLemmas.{document_front, none_refused}
 use Rattle.rdf_lines.proofs.PromiseLemmas.{read_goes_on, read_due}
-use Rattle.rdf_lines.proofs.ReadBack.{bytes_read_back}
+use Rattle.rdf_lines.proofs.ReadBack.{tokens_read_back}
 
 pub quads_due : ReadQuadsAreDue
 quads_due r bytes quads h = (read_goes_on r bytes quads h, read_due r bytes quads h)
@@ -121,9 +121,9 @@ all_renamed n s (q ∷ qs) w = (
 )
 
 pub text_read : WrittenTextIsRead
-text_read s qs limit n h l w =
+text_read s qs limit n h e l w =
     let bytes = encode_utf8_all (text s qs) in
-    let b = bytes_read_back s qs limit h l in
+    let b = tokens_read_back s qs limit h e l in
     let (tree, tokens, good, same) = b.1 in
     let ts = (tokens_of Lines limit bytes true).tokens in
     let narrow = tree_taken n NQuads tree good (subst (AllByRecursion (IrisWithin n)) (sym same) (all_renamed n s qs w)) in

@@ -27,10 +27,10 @@ use Rattle.rdf_lines.specs.Documents.{Passes, Refused, GoesOn}
 use Rattle.rdf_lines.specs.LineRead.{LineRead}
 use Rattle.rdf_lines.specs.Readers.{HasRead}
 use Rattle.rdf_lines.specs.Writing.{Writable, rename, rename_node, text}
-use Rattle.rdf_lines.specs.Laws.{ReadsBack, IrisWithin, IsReadToItsEnd}
+use Rattle.rdf_lines.specs.Laws.{ReadsBack, IrisWithin, TokensWithin, IsReadToItsEnd}
 use Rattle.rdf_lines.proofs.AcceptedLemmas.{quads_due, documents_read, refused_no_document, text_read}
 use Rattle.rdf_lines.proofs.Due.{due_ran, same_due}
-use Rattle.rdf_lines.proofs.ReadBack.{bytes_read_back}
+use Rattle.rdf_lines.proofs.ReadBack.{bytes_read_back, tokens_read_back}
 use Rattle.rdf_lines.proofs.Renamed.{rename_injective}
 
 abbrev iri : List ℕ
@@ -78,7 +78,7 @@ example_reads_back = bytes_read_back Tagged example 80 writable (lit≤ tt)
 pub label_and_node_apart : rename_node Tagged (Label label) ≢ rename_node Tagged (Anon 27)
 label_and_node_apart e = let same : Label label ≡ Anon 27 = rename_injective Tagged (Label label) (Anon 27) label_is (lit< tt) e in cc
 
--- the bytes of the two lines are read to their end, where a token may have 80 characters and an IRI 10 bytes
+-- the bytes of the two lines are read to their end, where a token may have 12 characters and an IRI 10 bytes
 short : AllByRecursion (IrisWithin 10) example
 unfolding encode
 short = (
@@ -89,12 +89,21 @@ short = (
 abbrev bytes : List ℕ
 bytes = encode_utf8_all (text Tagged example)
 
-pub example_is_read : IsReadToItsEnd NQuads 80 10 bytes
+short_tokens : AllByRecursion (TokensWithin 12) (map (rename Tagged) example)
 unfolding digits
-example_is_read = text_read Tagged example 80 10 writable (lit≤ tt) short
+short_tokens = (
+  record { subject = lit≤ tt; predicate = lit≤ tt; object = lit≤ tt; graph = tt },
+  (record { subject = lit≤ tt; predicate = lit≤ tt; object = (lit≤ tt, lit≤ tt); graph = lit≤ tt }, tt),
+)
+
+pub example_is_read : IsReadToItsEnd NQuads 12 10 bytes
+example_is_read = text_read Tagged example 12 10 writable (lit≤ tt) short_tokens short
+
+short_reads_back : ReadsBack Tagged example 12
+short_reads_back = tokens_read_back Tagged example 12 writable (lit≤ tt) short_tokens
 
 -- they are refused nowhere, and are a document that is read
-within : Within (documents NQuads) (Passes 10) (tokens_of Lines 80 bytes true) bytes
+within : Within (documents NQuads) (Passes 10) (tokens_of Lines 12 bytes true) bytes
 unfolding digits encode
 within = record {
   tokens = λ v e. let z : complete ≡ token_too_long = sym example_is_read.whole.ends ∙ e in cc;
@@ -102,11 +111,11 @@ within = record {
   size = lit≤ tt;
 }
 
-pub example_is_not_refused : (reason : Reason) (at : Place) → Refused NQuads 80 10 bytes true reason at → ⊥
-example_is_not_refused reason at x = refused_no_document NQuads 80 10 bytes (map (rename Tagged) example) reason at x example_reads_back within
+pub example_is_not_refused : (reason : Reason) (at : Place) → Refused NQuads 12 10 bytes true reason at → ⊥
+example_is_not_refused reason at x = refused_no_document NQuads 12 10 bytes (map (rename Tagged) example) reason at x short_reads_back within
 
-pub example_goes_on : GoesOn NQuads 80 10 []
-example_goes_on = (documents_read NQuads 80 10 bytes (map (rename Tagged) example) example_reads_back within).fronts [] bytes refl
+pub example_goes_on : GoesOn NQuads 12 10 []
+example_goes_on = (documents_read NQuads 12 10 bytes (map (rename Tagged) example) short_reads_back within).fronts [] bytes refl
 
 -- a line of N-Triples
 abbrev one_line : List ℕ

@@ -22,6 +22,7 @@ use Rattle.rdf_lines.specs.Lines.{Leaf, Name, Ref, Lab, Object, Named, Plain, Wi
 use Rattle.rdf_lines.specs.declared.form.LineForm.TheVariants.{NQuads}
 use Rattle.rdf_lines.specs.declared.form.Style.TheVariants.{Kept}
 use Rattle.rdf_lines.specs.Writing.{CanWriteSubject, CanWriteTerm, CanWriteGraph, CanWrite, escaped, iri_text, node_text, subject_text, string_text, type_text, term_text, space, graph_text, quad_text}
+use Rattle.rdf_lines.specs.Laws.{TermShort, GraphShort, TokensWithin}
 use Rattle.rdf_tokens.proofs.TokensLemmas.{at_stop}
 use Rattle.rdf_terms.proofs.UsedCharacters.{uses}
 use Rattle.rdf_lines.proofs.NextToken.{Cut, kind_at, cut_by_other, cut_by_shape, cut_by_dead, next_token, skip_space}
@@ -205,7 +206,7 @@ statement_tree p q = record {
   dot = leaf (46 ∷ []) (past p (upto_graph q));
 }
 
-abbrev document_tree : Place → List Quad → Document
+abbrev pub document_tree : Place → List Quad → Document
 document_tree p [] = last L.empty (leaf [] p)
 document_tree p (q ∷ qs) = next (L.one (statement_tree p q)) (leaf (10 ∷ []) (past p (upto_graph q ++ 46 ∷ []))) (document_tree (past p (quad_text q)) qs)
 
@@ -297,6 +298,49 @@ reads_text limit (q ∷ qs) h p s =
     ∙ (ap (λ (x : List Token). record { tokens = x; outcome = complete; at = past (past p w) rest }) (append_assoc f e (document_tokens (document_tree (past p w) qs)))
     ∙ ap (λ (x : Place). record { tokens = document_tokens (document_tree p (q ∷ qs)); outcome = complete; at = x }) (sym (past-append w rest p))))
 
+-- The tokens of the tree are short where those of the quads are.
+short_both : (limit : ℕ) (ts us : List Token) → AllShort limit ts → AllShort limit us → AllShort limit (ts ++ us)
+short_both limit [] us h k = k
+short_both limit (t ∷ ts) us h k = (h.0, short_both limit ts us h.1 k)
+
+name_short : (limit : ℕ) (p : Place) (s : Subject) → length (subject_text s) ≤ limit → AllShort limit (name_tokens (name_tree p s))
+name_short limit p (Iri i) h = (h, tt)
+name_short limit p (Blank n) h = (h, tt)
+
+typed_short : (limit : ℕ) (p : Place) (b : Bool) (w i : List ℕ) → 2 ≤ limit → length (string_text w) ≤ limit → length (iri_text i) ≤ limit → AllShort limit (object_tokens (typed_tree b p w i))
+typed_short limit p true w i t h k = (h, tt)
+typed_short limit p false w i t h k = (h, (t, (k, tt)))
+
+object_short : (limit : ℕ) (p : Place) (t : Term) → 2 ≤ limit → TermShort limit t → AllShort limit (object_tokens (object_tree p t))
+object_short limit p (Resource s) e h = name_short limit p s h
+object_short limit p (Literal w (Lang t)) e h = (h.0, (h.1, tt))
+object_short limit p (Literal w (Typed i)) e h = typed_short limit p (bytes_eq i xsd_string) w i e h.0 h.1
+
+graph_short : (limit : ℕ) (p : Place) (g : Option Subject) → GraphShort limit g → AllShort limit (graph_tokens (graph_tree p g))
+graph_short limit p None h = tt
+graph_short limit p (Some g) h = name_short limit p g h
+
+statement_short : (limit : ℕ) (p : Place) (q : Quad) → 2 ≤ limit → TokensWithin limit q → AllShort limit (statement_tokens (statement_tree p q))
+statement_short limit p q e h =
+    let s = statement_tree p q in
+    let n = name_tokens s.subject in
+    let i = L.token IriRef s.predicate ∷ [] in
+    let o = object_tokens s.object in
+    short_both limit (n ++ i ++ o ++ graph_tokens s.graph) (L.token Dot s.dot ∷ [])
+    (short_both limit (n ++ i ++ o) (graph_tokens s.graph)
+    (short_both limit (n ++ i) o
+    (short_both limit n i (name_short limit p q.subject h.subject) (h.predicate, tt))
+    (object_short limit (past p (upto_predicate q)) q.object e h.object))
+    (graph_short limit (past p (upto_object q)) q.graph h.graph))
+    (omega arith, tt)
+
+pub document_short : (limit : ℕ) (qs : List Quad) → 2 ≤ limit → AllByRecursion (TokensWithin limit) qs → (p : Place) → AllShort limit (document_tokens (document_tree p qs))
+document_short limit [] e h p = (omega arith, tt)
+document_short limit (q ∷ qs) e h p =
+    short_both limit (statement_tokens (statement_tree p q)) (L.token LineEnd (leaf (10 ∷ []) (past p (upto_graph q ++ 46 ∷ []))) ∷ document_tokens (document_tree (past p (quad_text q)) qs))
+    (statement_short limit p q e h.0)
+    (omega arith, document_short limit qs e h.1 (past p (quad_text q)))
+
 -- the tree's quads are those that were written
 iri_leaf : (i : List ℕ) → IsIri i → (p : Place) → iri_of (leaf (iri_text i) p) ≡ i
 iri_leaf i h p = ap (λ x. unwrap_or (iri_value x) []) (inside_one 60 62 i) ∙ ap (λ x. unwrap_or x []) (iri_meant i h.characters)
@@ -356,9 +400,13 @@ document_meant p (q ∷ qs) h =
     (ap (λ x. x ∷ quads (document_tree (past p (quad_text q)) qs)) s.0 ∙ ap (λ x. q ∷ x) d.0, (s.1, d.1))
 
 -- the law for quads whose nodes have labels
-pub reads_back : (limit : ℕ) (qs : List Quad) → Written qs → length (flat_map quad_text qs) ≤ limit → (p : Place) →
+pub reads_back : (limit : ℕ) (qs : List Quad) → Written qs → (p : Place) → AllShort limit (document_tokens (document_tree p qs)) →
     ((tokens Lines limit ended false p (flat_map quad_text qs)).outcome ≡ complete) × IsDocument has_scheme NQuads (tokens Lines limit ended false p (flat_map quad_text qs)).tokens qs
-reads_back limit qs h l p =
-    let r = reads_text limit qs h p (total_short limit (document_tokens (document_tree p qs)) (let s = text_size limit qs h p in omega arith)) in
+reads_back limit qs h p s =
+    let r = reads_text limit qs h p s in
     let m = document_meant p qs h in
     (ap (λ x. x.outcome) r, (document_tree p qs, ap (λ x. x.tokens) r, m.1, m.0))
+
+-- no token has more characters than the text
+pub text_short : (limit : ℕ) (qs : List Quad) → Written qs → length (flat_map quad_text qs) ≤ limit → (p : Place) → AllShort limit (document_tokens (document_tree p qs))
+text_short limit qs h l p = total_short limit (document_tokens (document_tree p qs)) (let s = text_size limit qs h p in omega arith)

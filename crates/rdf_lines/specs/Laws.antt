@@ -1,5 +1,5 @@
 -- The laws of line reading and of the written lines.
-use Rattle.std.specs.Prelude.{◌≡◌, ◌≤◌, ℕ, true, List, ◌++◌, map, length, Option, Some, None, encode_utf8_all}
+use Rattle.std.specs.Prelude.{◌≡◌, ◌≤◌, ℕ, true, List, ◌∷◌, ◌++◌, map, length, Option, Some, None, encode_utf8_all}
 use Rattle.std.specs.List.{AllByRecursion}
 use Rattle.rdf_terms.specs.declared.kind.Dialect.TheVariants.{Lines}
 use Rattle.rdf_tokens.specs.Good.{tokens_of}
@@ -16,7 +16,7 @@ use Rattle.rdf_lines.specs.Documents.{Document, Passes, Refused, GoesOn, IsWhole
 use Rattle.rdf_lines.specs.LineRead.{LineRead}
 use Rattle.rdf_lines.specs.Readers.{HasRead, tokens_so_far}
 use Rattle.rdf_lines.specs.declared.form.Style.{Style}
-use Rattle.rdf_lines.specs.Writing.{rename, text, Writable}
+use Rattle.rdf_lines.specs.Writing.{rename, iri_text, subject_text, string_text, text, Writable}
 
 -- The tokens of the written bytes are complete, and a document of N-Quads whose quads are the renamed ones.
 abbrev pub ReadsBack : Style → List Quad → ℕ → Type 0
@@ -66,7 +66,26 @@ pub record IrisWithin (n : ℕ) (q : Quad) : Type 0 where
   pub object : TermWithin n q.object
   pub graph : GraphWithin n q.graph
 
--- What is written for quads is read to its end as N-Quads, where no token can be longer than the limit and no IRI of the quads is.
+-- no token of the quad, as it is written, has more characters
+abbrev pub TailShort : ℕ → Tail → Type 0
+TailShort n (Lang t) = length (64 ∷ t) ≤ n
+TailShort n (Typed i) = length (iri_text i) ≤ n
+
+abbrev pub TermShort : ℕ → Term → Type 0
+TermShort n (Resource s) = length (subject_text s) ≤ n
+TermShort n (Literal w t) = (length (string_text w) ≤ n) × TailShort n t
+
+abbrev pub GraphShort : ℕ → Option Subject → Type 0
+GraphShort n None = Unit
+GraphShort n (Some g) = length (subject_text g) ≤ n
+
+pub record TokensWithin (n : ℕ) (q : Quad) : Type 0 where
+  pub subject : length (subject_text q.subject) ≤ n
+  pub predicate : length (iri_text q.predicate) ≤ n
+  pub object : TermShort n q.object
+  pub graph : GraphShort n q.graph
+
+-- What is written for quads is read to its end as N-Quads, where no token of the lines and no IRI of the quads passes a limit; `^^` has two characters.
 abbrev pub WrittenTextIsRead : Type 0
-WrittenTextIsRead = (s : Style) (qs : List Quad) (limit iri : ℕ) → Writable s qs → length (text s qs) ≤ limit → AllByRecursion (IrisWithin iri) qs →
-    IsReadToItsEnd NQuads limit iri (encode_utf8_all (text s qs))
+WrittenTextIsRead = (s : Style) (qs : List Quad) (limit iri : ℕ) → Writable s qs → 2 ≤ limit → AllByRecursion (TokensWithin limit) (map (rename s) qs) →
+    AllByRecursion (IrisWithin iri) qs → IsReadToItsEnd NQuads limit iri (encode_utf8_all (text s qs))

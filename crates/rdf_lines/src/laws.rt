@@ -32,8 +32,8 @@ pub fn refused_is_no_document()
     ensures { RefusedIsNoDocument }
 {}
 
-/// What is written for quads is read to its end by a reader of N-Quads. Any limit on a token's characters that is not
-/// below the text's length serves, and any limit on IRIs that is not below the bytes of the longest.
+/// What is written for quads is read to its end by a reader of N-Quads, with any limit on tokens that no token of the
+/// lines passes, and any limit on IRIs that no IRI of the quads passes.
 pub fn written_text_is_read()
     ensures { WrittenTextIsRead }
 {}
