@@ -1,5 +1,5 @@
 -- The laws at the text `1 .`, an integer and a dot.
-use Rattle.std.proofs.Common.{Err, ◌≡◌, true, false, List, [], ◌∷◌, ◌++◌, refl, sym, ap, ◌∙◌, subst}
+use Rattle.std.proofs.Common.{Err, ◌≡◌, true, false, List, [], ◌∷◌, ◌++◌, ◌≤◌, length, refl, sym, ap, ◌∙◌, subst}
 use Rattle.std.specs.List.{All}
 use Rattle.std.proofs.lemmas.List.Elements.{All-head, All-tail}
 use Rattle.std.proofs.Math.Utf8.{encode}
@@ -19,6 +19,7 @@ use Rattle.rdf_tokens.specs.Scans.{HasRead, IsToken}
 use Rattle.rdf_tokens.specs.Laws.{IsBeginning, IsNext, StandsIn}
 use Rattle.rdf_tokens.proofs.ReadLemmas.{unread}
 use Rattle.rdf_tokens.proofs.LawLemmas.{lengthens, given_beginning, next_given, places, have_shapes, end_last}
+use Rattle.rdf_tokens.proofs.LimitLemmas.{no_longer}
 
 one : Token
 one = record { kind = Integer; text = 49 ∷ []; at = record { offset = 0; line = 1 } }
@@ -102,3 +103,8 @@ unfolding end
 last_is_end =
     let whole = (end_last Turtle 8 (49 ∷ 32 ∷ 46 ∷ []) true).whole (ap (λ r. r.outcome) read_whole) in
     (whole.0, sym (ap (λ r. r.tokens) read_whole) ∙ (whole.1 ∙ ap (λ r. whole.0 ++ (record { kind = End; text = []; at = r.at }) ∷ []) read_whole))
+
+-- the integer keeps the limit
+one_is_short : length one.text ≤ 8
+one_is_short =
+    All-head (λ t. length t.text ≤ 8) one (dot ∷ end ∷ []) (subst (λ r. All (λ t. length t.text ≤ 8) r.tokens) read_whole (no_longer Turtle 8 (49 ∷ 32 ∷ 46 ∷ []) true))

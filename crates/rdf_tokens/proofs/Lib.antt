@@ -33,3 +33,4 @@ pub mod NextLemmas
 pub mod Inside
 pub mod LawLemmas
 pub mod LawExamples
+pub mod LimitLemmas

@@ -102,3 +102,6 @@ step-token d limit t w n k e =
     let p = decided-token d w n k (step-decided d limit t w n k e) in
     let q = kind-shape d (take n w) k (longest-kind d w (length w) n k p.0) in
     (q.0, p.1, q.1)
+
+pub step-kind : (d : Dialect) (limit : ℕ) (t : Tail) (w : List ℕ) (n : ℕ) (k : Kind) → step d limit t w ≡ token n k → kind_of d (take n w) ≡ Some k
+step-kind d limit t w n k e = longest-kind d w (length w) n k (decided-token d w n k (step-decided d limit t w n k e)).0

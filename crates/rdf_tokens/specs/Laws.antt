@@ -81,3 +81,7 @@ pub record EndsWell (r : Reading) : Type 0 where
 
 abbrev pub EndStandsLast : Type 0
 EndStandsLast = (d : Dialect) (limit : ℕ) (bytes : List ℕ) (e : Bool) → EndsWell (tokens_of d limit bytes e)
+
+-- No token has more characters than the limit.
+abbrev pub TokensKeepTheLimit : Type 0
+TokensKeepTheLimit = (d : Dialect) (limit : ℕ) (bytes : List ℕ) (e : Bool) → All (λ t. length t.text ≤ limit) (tokens_of d limit bytes e).tokens

@@ -1,6 +1,6 @@
 //! The laws of token lists. These functions do nothing: their contracts are the laws.
 
-ghost use Rattle.rdf_tokens.specs.Laws.{MoreBytesOnlyLengthen, GivenTokensAreABeginning, NextTokenIsGiven, TokensStandAtTheirPlaces, TokensHaveShapes, EndStandsLast};
+ghost use Rattle.rdf_tokens.specs.Laws.{MoreBytesOnlyLengthen, GivenTokensAreABeginning, NextTokenIsGiven, TokensStandAtTheirPlaces, TokensHaveShapes, TokensKeepTheLimit, EndStandsLast};
 
 /// More bytes, or the end, only lengthen the list of tokens, and change no outcome that is decided.
 pub fn more_bytes_only_lengthen()
@@ -31,4 +31,9 @@ pub fn tokens_have_shapes()
 /// `End` is in the list where all of the input was read, and there it is the last token.
 pub fn end_stands_last()
     ensures { EndStandsLast }
+{}
+
+/// No token has more characters than the limit.
+pub fn tokens_keep_the_limit()
+    ensures { TokensKeepTheLimit }
 {}

@@ -1,0 +1,79 @@
+-- No token has more characters than the limit.
+use Rattle.std.proofs.Common.{◌≡◌, ◌≢◌, ℕ, suc, ◌+◌, ◌-◌, ◌<◌, ◌≤◌, Bool, true, false, cond, ◌||◌, ◌&&◌, nat_lt, List, [], ◌∷◌, ◌++◌, refl, sym, ap, ◌∙◌, subst, ⊎_elim, Some, None, is_some, length, take, drop, arith}
+use Rattle.std.specs.List.{All}
+use Rattle.std.proofs.lemmas.List.{length-take-le, take-append-drop}
+use Rattle.std.proofs.lemmas.List.Elements.{All-nil, All-cons}
+use Rattle.std.proofs.lemmas.Bool.{cases_lt, cases_eq, lt-ltb, false≢true, and_from}
+use Rattle.rdf_terms.specs.declared.kind.Dialect.{Dialect}
+use Rattle.rdf_terms.specs.declared.kind.Kind.{Kind}
+use Rattle.rdf_terms.specs.declared.kind.Kind.TheVariants.{End}
+use Rattle.rdf_terms.specs.Shapes.{kind_of, is_live}
+use Rattle.rdf_terms.proofs.ShapesLemmas.{kind-front}
+use Rattle.rdf_tokens.specs.Tokens.{Place, Tail, Outcome, Token, Reading, rest_of, place_of, over, is_empty, by_tail, step, tokens, end_tokens}
+use Rattle.rdf_tokens.specs.Tokens.Step.{token, stop}
+use Rattle.rdf_tokens.specs.Tokens.Outcome.{complete, token_too_long}
+use Rattle.rdf_tokens.specs.Good.{tail_of, tokens_of}
+use Rattle.rdf_tokens.proofs.TokensLemmas.{longer_take, step_token}
+use Rattle.rdf_tokens.proofs.StepLemmas.{step-kind}
+use Rattle.rdf_tokens.proofs.LawLemmas.{by_steps, tokens_of-tokens}
+
+step-over : (d : Dialect) (limit : ℕ) (t : Tail) (w : List ℕ) (n : ℕ) (k : Kind) → step d limit t w ≡ token n k → over d limit w ≡ false
+unfolding step
+step-over d limit t w n k e = go (over d limit w) refl e
+  where
+    go : (o : Bool) → over d limit w ≡ o → cond o (stop token_too_long) (by_tail d t w (is_empty w || is_live d w)) ≡ token n k → over d limit w ≡ false
+    go true h e = absurd (let z : stop token_too_long ≡ token n k = e in cc)
+    go false h e = h
+
+or_right : (a b : Bool) → b ≡ true → (a || b) ≡ true
+or_right true b e = refl
+or_right false b e = e
+
+pub step_within : (d : Dialect) (limit : ℕ) (t : Tail) (w : List ℕ) (n : ℕ) (k : Kind) → step d limit t w ≡ token n k → n ≤ limit
+step_within d limit t w n k e = ⊎_elim (λ h. absurd (too_long h)) (λ h. h) (cases_lt limit n)
+  where
+    fits : n ≤ length w
+    fits = (step_token d limit t w n k e).1
+
+    -- the first limit + 1 characters are the token, or the token begins with them
+    begun : limit < n → (is_some (kind_of d (take (limit + 1) w)) || is_live d (take (limit + 1) w)) ≡ true
+    begun h =
+        let kind = step-kind d limit t w n k e in
+        ⊎_elim
+        (λ s. ap (λ b. b || is_live d (take (limit + 1) w)) (ap (λ i. is_some (kind_of d (take i w))) (sym s) ∙ ap is_some kind))
+        (λ s. or_right (is_some (kind_of d (take (limit + 1) w))) (is_live d (take (limit + 1) w)) (longer s kind))
+        (cases_eq n (limit + 1))
+      where
+        longer : (n ≡ limit + 1 → ⊥) → kind_of d (take n w) ≡ Some k → is_live d (take (limit + 1) w) ≡ true
+        longer s kind =
+            let u = take (limit + 1) w in
+            let size : length u ≡ limit + 1 = length-take-le (limit + 1) w (let f = fits in omega arith) in
+            let whole : u ++ drop (limit + 1) w ≡ w = take-append-drop (limit + 1) w in
+            let more : limit + 1 < n = ⊎_elim (λ l. l) (λ l. absurd (s (let g = h in omega arith))) (cases_lt (limit + 1) n) in
+            let l = longer_take u (drop (limit + 1) w) n (omega arith) (let f = fits in let z = ap length whole in omega arith) in
+            kind-front d u l.0 l.1 k (ap (kind_of d) (sym l.2 ∙ ap (take n) whole) ∙ kind)
+
+    too_long : limit < n → ⊥
+    too_long h =
+        let o : over d limit w ≡ true = and_from _ _ (lt-ltb limit (length w) (let f = fits in omega arith)) (begun h) in
+        false≢true (sym (step-over d limit t w n k e) ∙ o)
+
+-- the law for all tokens of some bytes
+pub no_longer : (d : Dialect) (limit : ℕ) (bytes : List ℕ) (e : Bool) → All (λ t. length t.text ≤ limit) (tokens_of d limit bytes e).tokens
+no_longer d limit bytes e =
+    subst (λ r. All Short r.tokens) (sym (tokens_of-tokens d limit bytes e)) (by_steps d limit (tail_of bytes e) (λ p w r. All Short r.tokens) stops takes false _ _)
+  where
+    Short : Token → Type 0
+    Short t = length t.text ≤ limit
+
+    stops : (b : Bool) (p : Place) (w : List ℕ) (o : Outcome) → step d limit (tail_of bytes e) (rest_of d b w) ≡ stop o → All Short (end_tokens o (place_of d b p w))
+    stops b p w complete h = All-cons Short (record { kind = End; text = []; at = place_of d b p w }) [] (omega arith) (All-nil Short)
+    stops b p w o h = All-nil Short
+
+    takes : (b : Bool) (p : Place) (w : List ℕ) (n : ℕ) (k : Kind) (r : Reading) → step d limit (tail_of bytes e) (rest_of d b w) ≡ token n k → All Short r.tokens →
+        All Short (record { kind = k; text = take n (rest_of d b w); at = place_of d b p w } ∷ r.tokens)
+    takes b p w n k r h a =
+        let s = step_token d limit (tail_of bytes e) (rest_of d b w) n k h in
+        let size : length (take n (rest_of d b w)) ≡ n = length-take-le n (rest_of d b w) s.1 in
+        let l = step_within d limit (tail_of bytes e) (rest_of d b w) n k h in
+        All-cons Short (record { kind = k; text = take n (rest_of d b w); at = place_of d b p w }) r.tokens (omega arith) a
