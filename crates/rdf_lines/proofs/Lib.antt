@@ -28,3 +28,4 @@ mod FinishLemmas
 mod NewLemmas
 mod PromiseLemmas
 mod AcceptedLemmas
+mod WrittenLimits

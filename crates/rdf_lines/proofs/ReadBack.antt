@@ -17,7 +17,7 @@ use Rattle.rdf_lines.proofs.WrittenText.{text_scalars, no_mark, encoded_tokens}
 use Rattle.rdf_lines.proofs.SpelledLine.{Written, AllShort, document_tree, document_short, text_short, reads_back}
 use Rattle.rdf_lines.proofs.Renamed.{renamed}
 
-all_written : (s : Style) (qs : List Quad) → Writable s qs → Written (map (rename s) qs)
+pub all_written : (s : Style) (qs : List Quad) → Writable s qs → Written (map (rename s) qs)
 all_written s [] h = tt
 all_written s (q ∷ qs) h = (renamed s q h.0.0 h.0.1, all_written s qs h.1)
 

@@ -1,5 +1,5 @@
 -- The laws of line reading and of the written lines.
-use Rattle.std.specs.Prelude.{◌≡◌, ◌≤◌, ℕ, true, List, ◌∷◌, ◌++◌, map, length, Option, Some, None, encode_utf8_all}
+use Rattle.std.specs.Prelude.{◌≡◌, ◌≤◌, ◌+◌, ◌*◌, ℕ, true, List, ◌∷◌, ◌++◌, map, length, Option, Some, None, encode_utf8_all}
 use Rattle.std.specs.List.{AllByRecursion}
 use Rattle.rdf_terms.specs.declared.kind.Dialect.TheVariants.{Lines}
 use Rattle.rdf_tokens.specs.Good.{tokens_of}
@@ -16,6 +16,7 @@ use Rattle.rdf_lines.specs.Documents.{Document, Passes, Refused, GoesOn, IsWhole
 use Rattle.rdf_lines.specs.LineRead.{LineRead}
 use Rattle.rdf_lines.specs.Readers.{HasRead, tokens_so_far}
 use Rattle.rdf_lines.specs.declared.form.Style.{Style}
+use Rattle.rdf_lines.specs.declared.form.Style.TheVariants.{Kept}
 use Rattle.rdf_lines.specs.Writing.{rename, iri_text, subject_text, string_text, text, Writable}
 
 -- The tokens of the written bytes are complete, and a document of N-Quads whose quads are the renamed ones.
@@ -89,3 +90,9 @@ pub record TokensWithin (n : ℕ) (q : Quad) : Type 0 where
 abbrev pub WrittenTextIsRead : Type 0
 WrittenTextIsRead = (s : Style) (qs : List Quad) (limit iri : ℕ) → Writable s qs → 2 ≤ limit → AllByRecursion (TokensWithin limit) (map (rename s) qs) →
     AllByRecursion (IrisWithin iri) qs → IsReadToItsEnd NQuads limit iri (encode_utf8_all (text s qs))
+
+-- What is written, with the labels kept, for a document within some limits is read to its end with limits that are a little higher.
+abbrev pub WrittenDocumentIsRead : Type 0
+WrittenDocumentIsRead = (form : LineForm) (token iri : ℕ) (bytes : List ℕ) (qs : List Quad) → Document form token bytes qs → IsWhole form token iri bytes → Writable Kept qs →
+    (token_then iri_then : ℕ) → 2 * token ≤ token_then → iri + 2 ≤ token_then → 64 ≤ token_then → iri ≤ iri_then → 64 ≤ iri_then →
+    IsReadToItsEnd NQuads token_then iri_then (encode_utf8_all (text Kept qs))

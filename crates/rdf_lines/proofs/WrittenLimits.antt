@@ -1,0 +1,164 @@
+-- The lines of a document's quads keep limits that are a little higher than the document's.
+use Rattle.std.proofs.Common.{◌≡◌, ℕ, zero, suc, ◌+◌, ◌-◌, ◌*◌, ◌<◌, ◌≤◌, Bool, true, false, cond, List, [], ◌∷◌, ◌++◌, length, take, drop, refl, sym, ap, ◌∙◌, subst, ⊎_elim, Option, Some, None, option_map, unwrap_or, arith, length-append}
+use Rattle.std.specs.Prelude.{map, flat_map, ◌==◌}
+use Rattle.std.specs.List.{All, AllByRecursion}
+use Rattle.std.proofs.lemmas.List.{length-take, length-drop}
+use Rattle.std.proofs.lemmas.List.Elements.{All-head, All-tail}
+use Rattle.std.proofs.lemmas.Bool.{cases_lt, cond_both}
+use Rattle.std.proofs.lemmas.Str.{length-le-encodes}
+use Rattle.std.proofs.Math.Utf8.{encode}
+use Rattle.rdf_terms.specs.declared.kind.Dialect.TheVariants.{Lines}
+use Rattle.rdf_terms.specs.declared.kind.Kind.{Kind}
+use Rattle.rdf_terms.specs.declared.kind.Kind.TheVariants.{IriRef, LabelNode, ShortString, LangTag, Carets, Dot, LineEnd, End}
+use Rattle.rdf_terms.specs.Values.{Spot, outside, slash, digits, Move, leads, means, fails, of_string, move, go, value, string_value, inside}
+use Rattle.rdf_terms.specs.Terms.{Label, Lang, Typed, Subject, Iri, Blank, Term, Resource, Literal, Quad, xsd_string, has_scheme}
+use Rattle.rdf_iri.specs.Texts.{byte_len}
+use Rattle.rdf_tokens.specs.Tokens.{Token}
+use Rattle.rdf_tokens.specs.Good.{tokens_of}
+use Rattle.rdf_tokens.specs.Grammars.{PassesNone}
+use Rattle.rdf_tokens.proofs.LimitLemmas.{no_longer}
+use Rattle.rdf_lines.specs.declared.form.LineForm.{LineForm}
+use Rattle.rdf_lines.specs.declared.form.Style.TheVariants.{Kept}
+use Rattle.rdf_lines.specs.Lines.{Leaf, leaf_of, Name, Ref, Lab, Object, Named, Plain, WithType, WithTag, Statement, Line, Document as Tree, last, next, token, name_tokens, object_tokens, graph_tokens, head_tokens, statement_tokens, line_tokens, document_tokens, iri_of, string_of, subject_of, term_of, quad_of, quads}
+use Rattle.rdf_lines.specs.Lines as L
+use Rattle.rdf_lines.specs.Documents.{Passes}
+use Rattle.rdf_lines.specs.Writing.{escaped, iri_text, subject_text, string_text, rename_node, rename_subject, rename_term, rename}
+use Rattle.rdf_lines.specs.Laws.{WrittenDocumentIsRead, SubjectWithin, TermWithin, GraphWithin, IrisWithin, TermShort, GraphShort, TokensWithin}
+use Rattle.rdf_lines.proofs.AcceptedLemmas.{text_read}
+
+-- a value has no more characters than the text that spells it
+value_short : (s : Spot) (w v : List ℕ) → value of_string s w ≡ Some v → length v ≤ length w
+value_short outside [] v e = let h : [] ≡ v = cc in let z = ap length h in omega arith
+value_short slash [] v e = absurd (let h : None ≡ Some v = e in cc)
+value_short (digits k n) [] v e = absurd (let h : None ≡ Some v = e in cc)
+value_short s (c ∷ w) v e = by_move (move of_string s c) (λ t u f. value_short t w u f) v e
+  where
+    head : (c : ℕ) (o : Option (List ℕ)) (v : List ℕ) → option_map (λ u. c ∷ u) o ≡ Some v → (u : List ℕ) × (o ≡ Some u) × (v ≡ c ∷ u)
+    head c None v e = absurd (let h : None ≡ Some v = e in cc)
+    head c (Some u) v e = (u, refl, cc)
+
+    by_move : (m : Move) → ((t : Spot) (u : List ℕ) → value of_string t w ≡ Some u → length u ≤ length w) → (v : List ℕ) → go m (λ t. value of_string t w) ≡ Some v → length v ≤ length (c ∷ w)
+    by_move (leads t) h v e = let z = h t v e in omega arith
+    by_move (means d) h v e =
+        let z = head d (value of_string outside w) v e in
+        let l = h outside z.0 z.1 in
+        let s = ap length z.2 in
+        omega arith
+    by_move fails h v e = absurd (let h : None ≡ Some v = e in cc)
+
+inside_short : (w : List ℕ) → length (inside 1 w) ≤ length w - 1
+inside_short w = let a = length-take (length w - 2 * 1) (drop 1 w) in let b = length-drop 1 w in omega (arith, a, b)
+
+string_short : (l : Leaf) → length (string_of l) ≤ length l.text - 1
+string_short l = by (string_value (inside 1 l.text)) refl
+  where
+    by : (o : Option (List ℕ)) → string_value (inside 1 l.text) ≡ o → length (unwrap_or o []) ≤ length l.text - 1
+    by None e = omega arith
+    by (Some v) e = let a = value_short outside (inside 1 l.text) v e in let b = inside_short l.text in omega arith
+
+escaped_short : (c : ℕ) → length (escaped c) ≤ 2
+escaped_short c =
+    cond_both (c == 34) _ _ (λ x. length x ≤ 2) (λ h. omega arith)
+    (λ h. cond_both (c == 92) _ _ (λ x. length x ≤ 2) (λ h. omega arith)
+    (λ h. cond_both (c == 10) _ _ (λ x. length x ≤ 2) (λ h. omega arith) (λ h. cond_both (c == 13) _ _ (λ x. length x ≤ 2) (λ h. omega arith) (λ h. omega arith))))
+
+all_escaped : (w : List ℕ) → length (flat_map escaped w) ≤ 2 * length w
+all_escaped [] = omega arith
+all_escaped (c ∷ w) = let a = escaped_short c in let b = all_escaped w in let s = length-append (escaped c) (flat_map escaped w) in omega arith
+
+written_string : (w : List ℕ) → length (string_text w) ≤ 2 + 2 * length w
+written_string w = let a = all_escaped w in let s = length-append (flat_map escaped w) (34 ∷ []) in omega arith
+
+written_iri : (i : List ℕ) → length (iri_text i) ≤ 2 + byte_len i
+written_iri i = let a = length-le-encodes i in let s = length-append i (62 ∷ []) in omega arith
+
+xsd_bytes : byte_len xsd_string ≡ 39
+unfolding encode
+xsd_bytes = refl
+
+module _ (limit n token_then iri_then : ℕ) (a : 2 * limit ≤ token_then) (b : n + 2 ≤ token_then) (c : 64 ≤ token_then) (d : n ≤ iri_then) (e : 64 ≤ iri_then) where
+  -- what is known of a token
+  abbrev Good : Token → Type 0
+  Good t = (length t.text ≤ limit) × (t.kind ≡ IriRef → byte_len (iri_of (leaf_of t)) ≤ n)
+
+  split : (ts us : List Token) → AllByRecursion Good (ts ++ us) → AllByRecursion Good ts × AllByRecursion Good us
+  split [] us h = (tt, h)
+  split (t ∷ ts) us h = let r = split ts us h.1 in ((h.0, r.0), r.1)
+
+  iri_fits : (l : Leaf) → Good (token IriRef l) → (byte_len (iri_of l) ≤ iri_then) × (length (iri_text (iri_of l)) ≤ token_then)
+  iri_fits l g = let z = g.1 refl in let w = written_iri (iri_of l) in (omega arith, omega arith)
+
+  label_fits : (l : Leaf) → Good (token LabelNode l) → length (95 ∷ 58 ∷ drop 2 l.text) ≤ token_then
+  label_fits l g = let s = length-drop 2 l.text in let z = g.0 in omega (arith, s)
+
+  string_fits : (l : Leaf) → Good (token ShortString l) → length (string_text (string_of l)) ≤ token_then
+  string_fits l g = let s = string_short l in let w = written_string (string_of l) in let z = g.0 in omega arith
+
+  tag_fits : (l : Leaf) → Good (token LangTag l) → length (64 ∷ drop 1 l.text) ≤ token_then
+  tag_fits l g = let s = length-drop 1 l.text in let z = g.0 in omega (arith, s)
+
+  name_fits : (x : Name) → AllByRecursion Good (name_tokens x) → SubjectWithin iri_then (subject_of x) × (length (subject_text (rename_subject Kept (subject_of x))) ≤ token_then)
+  name_fits (Ref l) g = iri_fits l g.0
+  name_fits (Lab l) g = (tt, label_fits l g.0)
+
+  object_fits : (x : Object) → AllByRecursion Good (object_tokens x) → TermWithin iri_then (term_of x) × TermShort token_then (rename_term Kept (term_of x))
+  object_fits (Named x) g = name_fits x g
+  object_fits (Plain l) g = (let z = xsd_bytes in omega arith, (string_fits l g.0, let z = xsd_bytes in let w = written_iri xsd_string in omega arith))
+  object_fits (WithType l k i) g = let z = iri_fits i g.1.1.0 in (z.0, (string_fits l g.0, z.1))
+  object_fits (WithTag l t) g = (tt, (string_fits l g.0, tag_fits t g.1.0))
+
+  graph_fits_in : (x : Option Name) → AllByRecursion Good (graph_tokens x) →
+      GraphWithin iri_then (option_map subject_of x) × GraphShort token_then (option_map (rename_subject Kept) (option_map subject_of x))
+  graph_fits_in None g = (tt, tt)
+  graph_fits_in (Some x) g = name_fits x g
+
+  abbrev Fits : Quad → Type 0
+  Fits q = IrisWithin iri_then q × TokensWithin token_then (rename Kept q)
+
+  statement_fits : (s : Statement) → AllByRecursion Good (statement_tokens s) → Fits (quad_of s)
+  statement_fits s g =
+      let n = name_tokens s.subject in
+      let i = token IriRef s.predicate ∷ [] in
+      let o = object_tokens s.object in
+      let r = graph_tokens s.graph in
+      let h = (split (n ++ i ++ o ++ r) (token Dot s.dot ∷ []) g).0 in
+      let k = split (n ++ i ++ o) r h in
+      let j = split (n ++ i) o k.0 in
+      let m = split n i j.0 in
+      let x = name_fits s.subject m.0 in
+      let y = iri_fits s.predicate m.1.0 in
+      let z = object_fits s.object j.1 in
+      let w = graph_fits_in s.graph k.1 in
+      (record { subject = x.0; predicate = y.0; object = z.0; graph = w.0 }, record { subject = x.1; predicate = y.1; object = z.1; graph = w.1 })
+
+  tree_fits : (t : Tree) → AllByRecursion Good (document_tokens t) → AllByRecursion Fits (quads t)
+  tree_fits (last L.empty l) g = tt
+  tree_fits (last (L.one s) l) g = (statement_fits s (split (statement_tokens s) (token End l ∷ []) g).0, tt)
+  tree_fits (next L.empty l t) g = tree_fits t g.1
+  tree_fits (next (L.one s) l t) g =
+      let p = split (statement_tokens s) (token LineEnd l ∷ document_tokens t) g in
+      (statement_fits s p.0, tree_fits t p.1.1)
+
+  iris : (qs : List Quad) → AllByRecursion Fits qs → AllByRecursion (IrisWithin iri_then) qs
+  iris [] h = tt
+  iris (q ∷ qs) h = (h.0.0, iris qs h.1)
+
+  shorts : (qs : List Quad) → AllByRecursion Fits qs → AllByRecursion (TokensWithin token_then) (map (rename Kept) qs)
+  shorts [] h = tt
+  shorts (q ∷ qs) h = (h.0.1, shorts qs h.1)
+
+  -- what is known of all tokens of a reading
+  good : (ts : List Token) → All (λ t. length t.text ≤ limit) ts → PassesNone (Passes n) ts → AllByRecursion Good ts
+  good [] s k = tt
+  good (t ∷ ts) s k = (
+    (All-head (λ t. length t.text ≤ limit) t ts s, λ i. ⊎_elim (λ l. absurd (k [] ts t refl (i, l))) (λ l. l) (cases_lt n (byte_len (iri_of (leaf_of t))))),
+    good ts (All-tail (λ t. length t.text ≤ limit) t ts s) (λ ahead behind u r p. k (t ∷ ahead) behind u (ap (λ x. t ∷ x) r) p),
+  )
+
+pub document_read_back : WrittenDocumentIsRead
+document_read_back form limit n bytes qs document whole writable token_then iri_then a b c d e =
+    let ts = (tokens_of Lines limit bytes true).tokens in
+    let (tree, tokens, bound, same) = document.1 in
+    let g = good limit n token_then iri_then a b c d e ts (no_longer Lines limit bytes true) whole.front.kept in
+    let fits = subst (AllByRecursion (Fits limit n token_then iri_then a b c d e)) same (tree_fits limit n token_then iri_then a b c d e tree (subst (AllByRecursion (Good limit n token_then iri_then a b c d e)) tokens g)) in
+    text_read Kept qs token_then iri_then writable (omega arith) (shorts limit n token_then iri_then a b c d e qs fits) (iris limit n token_then iri_then a b c d e qs fits)
