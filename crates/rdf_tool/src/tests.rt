@@ -62,6 +62,29 @@ fn a_run_writes_the_lines_or_tells_why_not(rt: HostRuntime) {
 }
 
 #[test]
+fn a_run_keeps_to_the_limits_of_its_task(rt: HostRuntime) {
+    let rows = [
+        (4, 2, 0, ""),
+        (3, 2, 1, "rdfconv: token too long at byte 0, line 1\n"),
+        (4, 1, 1, "rdfconv: IRI too long at byte 0, line 1\n"),
+    ];
+    for (token, iri, status, message) in rows {
+        let mut task = convert_task(Form::NTriples).expect(&rt, "a task");
+        task.limits = Limits::new(token, 0, 0, iri).expect(&rt, "limits");
+        let mut told = Vec::new(rt.alloc());
+        let mut source = In::new(b"<a:> <b:> <c:> .".as_slice());
+        let mut out = Out::new(Vec::new(rt.alloc()));
+        let mut err = Out::new(&mut told);
+        assert_eq!(rt;
+            run(rt.alloc(), task, Some(&mut source), &mut out, &mut err),
+            status
+        );
+        drop(err);
+        assert_eq!(rt; told.as_slice(), message.as_bytes());
+    }
+}
+
+#[test]
 fn a_file_that_did_not_open_is_told(rt: HostRuntime) {
     let task = convert_task(Form::NQuads).expect(&rt, "a task");
     let mut told = Vec::new(rt.alloc());
