@@ -12,17 +12,20 @@ use Rattle.rdf_tokens.proofs.LawLemmas.{lengthens}
 use Rattle.rdf_lines.specs.declared.form.LineForm.{LineForm}
 use Rattle.rdf_lines.specs.Lines.{documents}
 use Rattle.rdf_lines.specs.Machine.{Begin, Finished}
-use Rattle.rdf_lines.specs.Documents.{Document, RefusedIn}
+use Rattle.rdf_lines.specs.Documents.{Document, GoesOn, RefusedIn}
 use Rattle.rdf_lines.specs.LineRead.{LineRead}
 use Rattle.rdf_lines.specs.Readers.{HasRead, IsDueIn, tokens_so_far}
+use Rattle.rdf_lines.proofs.AcceptedLemmas.{quads_due}
 use Rattle.rdf_lines.proofs.Due.{due_ran}
-use Rattle.rdf_lines.proofs.Refusals.{in_documents}
 use Rattle.rdf_lines.proofs.Runs.{run_document}
 
 -- A reader has put the quads that are due of what it has read.
 pub read_due : (r : LineRead) (bytes : List ℕ) (qs : List Quad) → HasRead r bytes qs → Due (documents r.form) (tokens_so_far r.scanner.limit bytes).tokens qs
-read_due r bytes qs h =
-    due_ran r.form (tokens_so_far r.scanner.limit bytes).tokens r.mode qs (in_documents r.iri r.form (tokens_so_far r.scanner.limit bytes).tokens r.mode qs h.ran)
+read_due r bytes qs h = (quads_due r bytes qs h).1
+
+-- What a reader has read goes on.
+pub read_goes_on : (r : LineRead) (bytes : List ℕ) (qs : List Quad) → HasRead r bytes qs → GoesOn r.form r.scanner.limit r.iri bytes
+read_goes_on r bytes qs h = (quads_due r bytes qs h).0
 
 -- All quads of a document are due at its end.
 pub document_due : (f : LineForm) (limit : ℕ) (bytes : List ℕ) (qs : List Quad) → Document f limit bytes qs → Due (documents f) (tokens_of Lines limit bytes true).tokens qs

@@ -10,18 +10,17 @@ use Rattle.rdf_terms.specs.declared.reason.Reason.TheVariants as reason
 use Rattle.rdf_terms.specs.declared.kind.Dialect.TheVariants.{Lines}
 use Rattle.rdf_tokens.specs.Tokens.{Place}
 use Rattle.rdf_tokens.specs.Tokens.Outcome.{undecided}
-use Rattle.rdf_tokens.specs.Good.{tokens_of, end_of}
+use Rattle.rdf_tokens.specs.Good.{end_of, tokens_of}
 use Rattle.rdf_tokens.specs.Grammars.{Due}
 use Rattle.rdf_lines.specs.Lines.{documents}
 use Rattle.rdf_tokens.specs.Scans.{most_bytes}
 use Rattle.rdf_lines.specs.declared.fault.Summary.{Summary}
 use Rattle.rdf_lines.specs.LineRead.{LineRead}
-use Rattle.rdf_lines.specs.Readers.{HasRead, place_of}
+use Rattle.rdf_lines.specs.Readers.{HasRead, IsTooLong, place_of}
 use Rattle.rdf_lines.proofs.DocumentsLemmas.{refused_in_more}
 use Rattle.rdf_lines.proofs.DueLaws.{due_more, due_none, read_due}
 use Rattle.rdf_lines.specs.declared.form.Style.TheVariants.{Kept}
-use Rattle.rdf_iri.specs.Limits.{Sizes}
-use Rattle.rdf_stream.specs.declared.fault.Form.{Form}
+use Rattle.rdf_stream.specs.Jobs.{JobRead}
 use Rattle.rdf_stream.specs.declared.fault.StreamFault.{StreamFault}
 use Rattle.rdf_stream.specs.declared.fault.StreamFault.TheVariants as stream
 use Rattle.rdf_stream.specs.declared.line_out.LineOut.{LineOut}
@@ -30,29 +29,33 @@ use Rattle.rdf_stream.specs.LineOut.{SameOut}
 use Rattle.rdf_stream.specs.Pieces.{Ends, HandedOver, Halts, HaltsBehind}
 
 -- What left the source was read, and all lines that are due of it were handed over.
-pub record IsConverting {D A : Type 0} (contents : D → Option (List ℕ)) (failed : D → Bool) (form : Form) (limits : Sizes) (known left : Option (List ℕ)) (source_failed : Bool) (reader : LineRead) (first lines : LineOut D A) (room : ℕ) : Type 0 where
+pub record IsConverting {D A : Type 0} (contents : D → Option (List ℕ)) (failed : D → Bool) (job : JobRead) (known left : Option (List ℕ)) (source_failed : Bool) (reader : LineRead) (first lines : LineOut D A) (room : ℕ) : Type 0 where
   pub bytes : List ℕ
   pub consumed : Consumes known left bytes
-  pub handed : HandedOver contents failed form limits reader bytes first lines
+  pub handed : HandedOver contents failed job reader bytes first lines
   pub live : source_failed ≡ false
   pub has_room : 0 < room
 
+-- too many bytes are too many with more
+pub too_long_more : (bytes more : List ℕ) (at : Place) → IsTooLong bytes at → IsTooLong (bytes ++ more) at
+too_long_more bytes more at h = (omega (arith, h.0, length-append bytes more), h.1 ∙ ap end_of (sym (take-append-le most_bytes bytes more (omega (arith, h.0)))))
+
 -- what is refused stays refused, with all the bytes
-refuses_more : (why : Reason) (form : Form) (limits : Sizes) (bytes more : List ℕ) (at : Place) (old new : Option (List ℕ)) → Refuses why form limits bytes false at old new → Refuses why form limits (bytes ++ more) true at old new
-refuses_more reason.DocumentTooLong form limits bytes more at old new h =
+refuses_more : (why : Reason) (job : JobRead) (bytes more : List ℕ) (at : Place) (old new : Option (List ℕ)) → Refuses why job bytes false at old new → Refuses why job (bytes ++ more) true at old new
+refuses_more reason.DocumentTooLong job bytes more at old new h =
     let some = h.1 in (
-      (omega (arith, h.0.0, length-append bytes more), h.0.1 ∙ ap (λ l. end_of l) (sym (take-append-le most_bytes bytes more (omega (arith, h.0.0))))),
+      too_long_more bytes more at h.0,
       record {
         quads = some.quads;
         later = some.later;
-        due = due_more (line_form form) limits.token bytes more true (some.quads ++ some.later) some.due;
+        due = due_more (line_form job.form) job.limits.token bytes more true (some.quads ++ some.later) some.due;
         written = some.written;
       },
     )
-refuses_more why form limits bytes more at old new h = (h.0, refused_in_more (line_form form) limits.iri limits.token bytes more true why at h.0 h.1, h.2)
+refuses_more why job bytes more at old new h = (h.0, refused_in_more (line_form job.form) job.limits.iri job.limits.token bytes more true why at h.0 h.1, h.2)
 
 -- the bytes that were known are those that were read and those that are left
-known_more : (known left : Option (List ℕ)) (bytes : List ℕ) (P : List ℕ → Type 0) → Consumes known left bytes → ((rest : List ℕ) → P (bytes ++ rest)) → IfSome known P
+pub known_more : (known left : Option (List ℕ)) (bytes : List ℕ) (P : List ℕ → Type 0) → Consumes known left bytes → ((rest : List ℕ) → P (bytes ++ rest)) → IfSome known P
 known_more None left bytes P c h = tt
 known_more (Some b) None bytes P c h = absurd c
 known_more (Some b) (Some rest) bytes P c h = subst P (sym c) (h rest)
@@ -62,15 +65,15 @@ pub no_more : (left left' : Option (List ℕ)) (n : ℕ) (buf : List ℕ) → Co
 no_more left left' n buf h e room = subst (λ k. Consumes left left' (take k buf)) e h.0
 
 -- nothing was read or written
-pub begins : {D A : Type 0} (contents : D → Option (List ℕ)) (failed : D → Bool) (form : Form) (limits : Sizes) (r : LineRead) (lines : LineOut D A) → r.form ≡ line_form form → r.scanner.limit ≡ limits.token → r.iri ≡ limits.iri → HasRead r [] [] →
-    lines.buffer.now.items ≡ [] → lines.style ≡ Kept → failed lines.drain.now ≡ false → HandedOver contents failed form limits r [] lines lines
-begins contents failed form limits r lines f l i h none style live = record {
+pub begins : {D A : Type 0} (contents : D → Option (List ℕ)) (failed : D → Bool) (job : JobRead) (r : LineRead) (lines : LineOut D A) → r.form ≡ line_form job.form → r.scanner.limit ≡ job.limits.token → r.iri ≡ job.limits.iri → HasRead r [] [] →
+    lines.buffer.now.items ≡ [] → lines.style ≡ Kept → failed lines.drain.now ≡ false → HandedOver contents failed job r [] lines lines
+begins contents failed job r lines f l n h none style live = record {
   form_stays = f;
-  token = l;
-  iri = i;
+  limit = l;
+  iri = n;
   quads = [];
   read = h;
-  due = subst (λ n. Due (documents (line_form form)) (tokens_of Lines n [] false).tokens []) l
+  due = subst (λ k. Due (documents (line_form job.form)) (tokens_of Lines k [] false).tokens []) l
       (subst (λ y. Due (documents y) (tokens_of Lines r.scanner.limit [] false).tokens []) f (read_due r [] [] h));
   written = Appends-nil (contents lines.drain.now);
   none_waits = none;
@@ -80,8 +83,8 @@ begins contents failed form limits r lines f l i h none style live = record {
   live = live;
 }
 
-module _ {D A : Type 0} (contents : D → Option (List ℕ)) (failed : D → Bool) (form : Form) (limits : Sizes) (known left left' : Option (List ℕ)) (source_failed : Bool) (reader : LineRead) (first lines : LineOut D A) (room : ℕ)
-    (i : IsConverting contents failed form limits known left source_failed reader first lines room) where
+module _ {D A : Type 0} (contents : D → Option (List ℕ)) (failed : D → Bool) (job : JobRead) (known left left' : Option (List ℕ)) (source_failed : Bool) (reader : LineRead) (first lines : LineOut D A) (room : ℕ)
+    (i : IsConverting contents failed job known left source_failed reader first lines room) where
   -- the reader has taken the bytes, and there are not too many
   taken : reader.so_far.bytes ≡ length i.bytes
   taken = ap (λ (s : Summary). s.bytes) i.handed.read.so_far
@@ -92,11 +95,11 @@ module _ {D A : Type 0} (contents : D → Option (List ℕ)) (failed : D → Boo
 
     -- a piece more
     pub on_piece : (source_failed' : Bool) (reader' : LineRead) (lines' : LineOut D A) (room' : ℕ) → source_failed' ≡ false → 0 < room' →
-        HandedOver contents failed form limits reader' (i.bytes ++ piece) first lines' → IsConverting contents failed form limits known left' source_failed' reader' first lines' room'
+        HandedOver contents failed job reader' (i.bytes ++ piece) first lines' → IsConverting contents failed job known left' source_failed' reader' first lines' room'
     on_piece source_failed' reader' lines' room' live has_room h = record { bytes = i.bytes ++ piece; consumed = all_consumed; handed = h; live = live; has_room = has_room }
 
     -- each piece takes a byte, and there are not too many
-    pub piece_less : (reader' : LineRead) (lines' : LineOut D A) → HandedOver contents failed form limits reader' (i.bytes ++ piece) first lines' → reader'.scanner.taken.offset ≤ most_bytes → 0 < length piece →
+    pub piece_less : (reader' : LineRead) (lines' : LineOut D A) → HandedOver contents failed job reader' (i.bytes ++ piece) first lines' → reader'.scanner.taken.offset ≤ most_bytes → 0 < length piece →
         2 ^ 63 - reader'.so_far.bytes < 2 ^ 63 - reader.so_far.bytes
     piece_less reader' lines' h few some =
         let behind : reader'.so_far.bytes ≡ length (i.bytes ++ piece) = ap (λ (s : Summary). s.bytes) h.read.so_far in
@@ -104,11 +107,11 @@ module _ {D A : Type 0} (contents : D → Option (List ℕ)) (failed : D → Boo
         omega (arith, taken, few, small, length-append i.bytes piece)
 
     -- a fault in a piece
-    pub piece_stops : (told : StreamFault) (source_failed' : Bool) (after : LineOut D A) → Halts contents failed told form limits (i.bytes ++ piece) false first after →
-        StopsFor told form limits known left' source_failed' (contents first.drain.now) (contents after.drain.now) (failed after.drain.now)
+    pub piece_stops : (told : StreamFault) (source_failed' : Bool) (after : LineOut D A) → Halts contents failed told job (i.bytes ++ piece) false first after →
+        StopsFor told job known left' source_failed' (contents first.drain.now) (contents after.drain.now) (failed after.drain.now)
     piece_stops (stream.Refused f) x after h =
-        known_more known left' (i.bytes ++ piece) (λ b. Refuses f.reason form limits b true (place_of f) (contents first.drain.now) (contents after.drain.now)) all_consumed
-        (λ rest. refuses_more f.reason form limits (i.bytes ++ piece) rest (place_of f) (contents first.drain.now) (contents after.drain.now) h.halts)
+        known_more known left' (i.bytes ++ piece) (λ b. Refuses f.reason job b true (place_of f) (contents first.drain.now) (contents after.drain.now)) all_consumed
+        (λ rest. refuses_more f.reason job (i.bytes ++ piece) rest (place_of f) (contents first.drain.now) (contents after.drain.now) h.halts)
     piece_stops stream.Read x after h = absurd h.halts
     piece_stops stream.Write x after h = (h.halts.0, given, h.halts.1)
       where
@@ -121,15 +124,15 @@ module _ {D A : Type 0} (contents : D → Option (List ℕ)) (failed : D → Boo
     whole_consumed = subst (Consumes known left') (append-nil i.bytes) (Consumes-trans known left left' i.bytes [] i.consumed c)
 
     -- the document was read and written
-    pub whole_accepted : (after : LineOut D A) (s : Summary) → SameOut first after × Accepts form limits i.bytes (contents first.drain.now) (contents after.drain.now) s →
-        IfSome known (λ b. Accepts form limits b (contents first.drain.now) (contents after.drain.now) s)
-    whole_accepted after s a = Consumes-whole known left' i.bytes (λ b. Accepts form limits b (contents first.drain.now) (contents after.drain.now) s) whole_consumed ended a.1
+    pub whole_accepted : (after : LineOut D A) (s : Summary) → SameOut first after × Accepts job i.bytes (contents first.drain.now) (contents after.drain.now) s →
+        IfSome known (λ b. Accepts job b (contents first.drain.now) (contents after.drain.now) s)
+    whole_accepted after s a = Consumes-whole known left' i.bytes (λ b. Accepts job b (contents first.drain.now) (contents after.drain.now) s) whole_consumed ended a.1
 
     -- a fault at the end
-    pub end_stops : (told : StreamFault) (source_failed' : Bool) (after : LineOut D A) → Halts contents failed told form limits i.bytes true first after →
-        StopsFor told form limits known left' source_failed' (contents first.drain.now) (contents after.drain.now) (failed after.drain.now)
+    pub end_stops : (told : StreamFault) (source_failed' : Bool) (after : LineOut D A) → Halts contents failed told job i.bytes true first after →
+        StopsFor told job known left' source_failed' (contents first.drain.now) (contents after.drain.now) (failed after.drain.now)
     end_stops (stream.Refused f) x after h =
-        Consumes-whole known left' i.bytes (λ b. Refuses f.reason form limits b true (place_of f) (contents first.drain.now) (contents after.drain.now)) whole_consumed ended h.halts
+        Consumes-whole known left' i.bytes (λ b. Refuses f.reason job b true (place_of f) (contents first.drain.now) (contents after.drain.now)) whole_consumed ended h.halts
     end_stops stream.Read x after h = absurd h.halts
     end_stops stream.Write x after h = (h.halts.0, record { bytes = i.bytes; is_end = true; consumed = whole_consumed; ended = λ e. ended }, h.halts.1)
     end_stops stream.Memory x after h = (record { bytes = i.bytes; is_end = true; consumed = whole_consumed; ended = λ e. ended }, h.halts)
@@ -137,37 +140,42 @@ module _ {D A : Type 0} (contents : D → Option (List ℕ)) (failed : D → Boo
     -- the end was read, or a fault was told
     pub ended_same : (r : Result Summary StreamFault) (after : LineOut D A) → IfOk r (λ s. Ends contents failed s reader lines after) →
         IfErr r (λ told. HaltsBehind contents failed told reader lines (λ b. b) true after) → SameOut first after
-    ended_same (Ok s) after a h = (a form limits i.bytes first i.handed).0
-    ended_same (Err told) after a h = (h form limits i.bytes first i.handed).same
+    ended_same (Ok s) after a h = (a job i.bytes first i.handed).0
+    ended_same (Err told) after a h = (h job i.bytes first i.handed).same
 
     pub ended_stops : (r : Result Summary StreamFault) (source_failed' : Bool) (after : LineOut D A) → IfErr r (λ told. HaltsBehind contents failed told reader lines (λ b. b) true after) →
-        IfErr r (λ told. StopsFor told form limits known left' source_failed' (contents first.drain.now) (contents after.drain.now) (failed after.drain.now))
+        IfErr r (λ told. StopsFor told job known left' source_failed' (contents first.drain.now) (contents after.drain.now) (failed after.drain.now))
     ended_stops (Ok s) x after h = tt
-    ended_stops (Err told) x after h = end_stops told x after (h form limits i.bytes first i.handed)
+    ended_stops (Err told) x after h = end_stops told x after (h job i.bytes first i.handed)
 
     pub ended_accepted : (r : Result Summary StreamFault) (after : LineOut D A) → IfOk r (λ s. Ends contents failed s reader lines after) →
-        IfOk r (λ s. IfSome known (λ b. Accepts form limits b (contents first.drain.now) (contents after.drain.now) s))
-    ended_accepted (Ok s) after a = whole_accepted after s (a form limits i.bytes first i.handed)
+        IfOk r (λ s. IfSome known (λ b. Accepts job b (contents first.drain.now) (contents after.drain.now) s))
+    ended_accepted (Ok s) after a = whole_accepted after s (a job i.bytes first i.handed)
     ended_accepted (Err told) after a = tt
 
   -- the source failed
   pub read_stops : (source_failed' : Bool) → Keeps left left' → source_failed' ≡ true →
-      StopsFor stream.Read form limits known left' source_failed' (contents first.drain.now) (contents lines.drain.now) (failed lines.drain.now)
+      StopsFor stream.Read job known left' source_failed' (contents first.drain.now) (contents lines.drain.now) (failed lines.drain.now)
   read_stops source_failed' k e = (
     e,
     record {
       bytes = i.bytes;
       consumed = Consumes-kept known left left' i.bytes i.consumed k;
-      waits = subst (λ n. (tokens_of Lines n i.bytes false).outcome ≡ undecided) i.handed.token i.handed.read.undecided;
+      waits = subst (λ n. (tokens_of Lines n i.bytes false).outcome ≡ undecided) i.handed.limit i.handed.read.undecided;
       writes = record { quads = i.handed.quads; due = i.handed.due; written = i.handed.written };
     },
   )
 
+-- a `?` that told a fault
+pub told_stops : {T : Type 0} (r : Result T StreamFault) (told : StreamFault) (P : StreamFault → Type 0) → IsErrAnd r (λ t. t ≡ told) → P told → IfErr r P
+told_stops (Ok x) told P e h = tt
+told_stops (Err t) told P e h = subst P (sym e) h
+
 -- there was no memory to begin with
-pub none_stops : {T : Type 0} (r : Result T StreamFault) (form : Form) (limits : Sizes) (known old : Option (List ℕ)) (read_failed write_failed : Bool) → IsErrAnd r (λ t. t ≡ stream.Memory) →
-    IfErr r (λ told. StopsFor told form limits known known read_failed old old write_failed)
-none_stops (Ok x) form limits known old read_failed write_failed e = tt
-none_stops (Err told) form limits known old read_failed write_failed e = subst (λ t. StopsFor t form limits known known read_failed old old write_failed) (sym e) (
+pub none_stops : {T : Type 0} (r : Result T StreamFault) (job : JobRead) (known old : Option (List ℕ)) (read_failed write_failed : Bool) → IsErrAnd r (λ t. t ≡ stream.Memory) →
+    IfErr r (λ told. StopsFor told job known known read_failed old old write_failed)
+none_stops (Ok x) job known old read_failed write_failed e = tt
+none_stops (Err told) job known old read_failed write_failed e = subst (λ t. StopsFor t job known known read_failed old old write_failed) (sym e) (
   record { bytes = []; is_end = false; consumed = Consumes-nil known; ended = λ x. absurd (false≢true x) },
-  record { quads = []; later = []; due = due_none (line_form form) (reading_of limits [] false); written = Appends-nil old },
+  record { quads = []; later = []; due = due_none (line_form job.form) (reading_of job [] false); written = Appends-nil old },
 )

@@ -4,3 +4,4 @@ pub mod LineOutLemmas
 pub mod PiecesLemmas
 pub mod ConvertsLemmas
 pub mod DocumentLemmas
+pub mod ChecksLemmas

@@ -9,8 +9,8 @@ ghost use Rattle.rdf_stream.specs.Pieces.{Ends, HaltsBehind, HandedOver, HandsOv
 
 use crate::devices::{Drain, Failed, Source};
 use crate::fault::{Form, StreamFault};
+use crate::job::Job;
 use crate::line_out::LineOut;
-use rdf_iri::Limits;
 use rdf_lines::{Fault, LineForm, LineReader, Style, Summary};
 use rdf_terms::QuadSink;
 use std::alloc::{AllocError, Allocator};
@@ -18,41 +18,32 @@ use std::alloc::{AllocError, Allocator};
 /// The number of bytes that are asked of a source at a time.
 const PIECE_LEN: usize = 65536;
 
-/// Reads a document of the form from the source, writes the lines of its quads to the drain, and flushes it.
+/// Reads a document of the job's format from the source, writes the lines of its quads to the drain, and flushes it.
 ///
 /// Before it asks the source for more, all lines that are due of the bytes so far have been handed to the drain, and so
 /// they have before a refusal or a failed read is told.
 pub fn convert<A: Allocator + Copy, S: Source, D: Drain>(
     alloc: A,
-    form: Form,
-    limits: Limits,
+    job: Job<A>,
     source: &mut S,
     drain: &mut D,
 ) -> Result<Summary, StreamFault>
     requires source { S.has_failed source.old ≡ false }
     requires drain { D.has_failed drain.old ≡ false }
-    ensures accepted { IfOk result (λ summary. IfSome (S.remaining source.old) (λ bytes. Accepts form limits bytes (D.contents drain.old) (D.contents drain.new) summary)) }
+    ensures accepted { IfOk result (λ summary. IfSome (S.remaining source.old) (λ bytes. Accepts job bytes (D.contents drain.old) (D.contents drain.new) summary)) }
     ensures flushed { OnOk result (D.is_flushed drain.new ≡ true) }
     ensures stops { IfErr result (λ fault.
-        StopsFor fault form limits (S.remaining source.old) (S.remaining source.new) (S.has_failed source.new) (D.contents drain.old) (D.contents drain.new) (D.has_failed drain.new)) }
+        StopsFor fault job (S.remaining source.old) (S.remaining source.new) (S.has_failed source.new) (D.contents drain.old) (D.contents drain.new) (D.has_failed drain.new)) }
 {
     let mut piece = piece_buffer(alloc)?;
     let mut buffer = Vec::new(alloc);
     let mut lines = LineOut::new(Style::Kept, &mut buffer, drain);
-    convert_document(
-        alloc,
-        form,
-        limits,
-        source,
-        piece.as_mut_slice(),
-        &mut lines,
-    )
+    convert_document(alloc, &job, source, piece.as_mut_slice(), &mut lines)
 }
 
 fn convert_document<A: Allocator + Copy, S: Source, D: Drain>(
     alloc: A,
-    form: Form,
-    limits: Limits,
+    job: &Job<A>,
     source: &mut S,
     piece: &mut [u8],
     lines: &mut LineOut<'_, D, A>,
@@ -63,32 +54,31 @@ fn convert_document<A: Allocator + Copy, S: Source, D: Drain>(
     requires none_waits { lines.old.buffer.now.items ≡ [] }
     requires live { D.has_failed lines.old.drain.now ≡ false }
     ensures accepted { IfOk result (λ summary. IfSome (S.remaining source.old) (λ bytes.
-        Accepts form limits bytes (D.contents lines.old.drain.now) (D.contents lines.new.drain.now) summary)) }
+        Accepts job.now bytes (D.contents lines.old.drain.now) (D.contents lines.new.drain.now) summary)) }
     ensures flushed { OnOk result (D.is_flushed lines.new.drain.now ≡ true) }
     ensures same { SameOut lines.old lines.new }
-    ensures stops { IfErr result (λ fault. StopsFor fault form limits (S.remaining source.old) (S.remaining source.new) (S.has_failed source.new)
+    ensures stops { IfErr result (λ fault. StopsFor fault job.now (S.remaining source.old) (S.remaining source.new) (S.has_failed source.new)
         (D.contents lines.old.drain.now) (D.contents lines.new.drain.now) (D.has_failed lines.new.drain.now)) }
 {
-    let mut reader = LineReader::new(alloc, line_form(form), limits);
-    convert_pieces(&mut reader, form, limits, source, piece, lines)
+    let mut reader = LineReader::new(alloc, line_form(job.form()), job.limits());
+    convert_pieces(&mut reader, job, source, piece, lines)
 }
 
 fn convert_pieces<A: Allocator + Copy, S: Source, D: Drain>(
     reader: &mut LineReader<A>,
-    form: Form,
-    limits: Limits,
+    job: &Job<A>,
     source: &mut S,
     piece: &mut [u8],
     lines: &mut LineOut<'_, D, A>,
 ) -> Result<Summary, StreamFault>
-    requires begun { HandedOver D.contents D.has_failed form limits reader.old [] lines.old lines.old }
+    requires begun { HandedOver D.contents D.has_failed job.now reader.old [] lines.old lines.old }
     requires source { S.has_failed source.old ≡ false }
     requires room { 0 < length piece.old }
     ensures accepted { IfOk result (λ summary. IfSome (S.remaining source.old) (λ bytes.
-        Accepts form limits bytes (D.contents lines.old.drain.now) (D.contents lines.new.drain.now) summary)) }
+        Accepts job.now bytes (D.contents lines.old.drain.now) (D.contents lines.new.drain.now) summary)) }
     ensures flushed { OnOk result (D.is_flushed lines.new.drain.now ≡ true) }
     ensures same { SameOut lines.old lines.new }
-    ensures stops { IfErr result (λ fault. StopsFor fault form limits (S.remaining source.old) (S.remaining source.new) (S.has_failed source.new)
+    ensures stops { IfErr result (λ fault. StopsFor fault job.now (S.remaining source.old) (S.remaining source.new) (S.has_failed source.new)
         (D.contents lines.old.drain.now) (D.contents lines.new.drain.now) (D.has_failed lines.new.drain.now)) }
 {
     loop {
@@ -159,13 +149,15 @@ fn stop<A: Allocator + Copy, D: Drain>(fault: Fault, lines: &mut LineOut<'_, D, 
     }
 }
 
-fn piece_buffer<A: Allocator + Copy>(alloc: A) -> Result<Vec<u8, A>, AllocError>
+/// A buffer for pieces.
+pub(crate) fn piece_buffer<A: Allocator + Copy>(alloc: A) -> Result<Vec<u8, A>, AllocError>
     ensures { IfOk result (λ piece. 0 < length piece.items) }
 {
     Vec::from_elem(alloc, 0u8, PIECE_LEN)
 }
 
-fn line_form(form: Form) -> LineForm
+/// The line format of a format.
+pub(crate) fn line_form(form: Form) -> LineForm
     ensures { result ≡ line_form form }
 {
     match form {

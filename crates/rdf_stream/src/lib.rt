@@ -1,9 +1,11 @@
 //! From a source of bytes to a drain of bytes: a document is read, and its quads are written as lines of N-Quads.
 #![tactic(auto)]
 
+mod checks;
 mod conversions;
 mod devices;
 mod fault;
+mod job;
 mod line_out;
 mod messages;
 mod put;
@@ -11,9 +13,11 @@ mod put;
 mod tests;
 mod views;
 
+pub use checks::check;
 pub use conversions::convert;
 pub use devices::{Drain, Failed, In, Out, Source};
 pub use fault::{Form, StreamFault};
+pub use job::Job;
 pub use messages::report;
 pub use put::put_all;
 pub use rdf_iri::Limits;

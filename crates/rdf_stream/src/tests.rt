@@ -2,14 +2,16 @@
 
 ghost use Rattle.std.specs.Prelude.{Some, ◌≡◌, false};
 
+use crate::checks::check;
 use crate::conversions::convert;
 use crate::devices::{Drain, Failed, In, Out, Source};
 use crate::fault::{Form, StreamFault};
+use crate::job::Job;
 use crate::messages::report;
 use crate::put::put_all;
 use rdf_iri::Limits;
 use rdf_lines::{Fault, Summary};
-use rdf_terms::Reason;
+use rdf_terms::{Iri, Reason};
 use std::alloc::{AllocError, Global};
 
 /// Gives its bytes in parts: the first of one length, the others of another. It fails once a number of calls has been made.
@@ -125,6 +127,22 @@ fn drain(alloc: Global, room: usize, calls: u64) -> SlowDrain
     }
 }
 
+fn job(form: Form) -> Option<Job> {
+    Job::new(form, None, Limits::default())
+}
+
+#[test]
+fn a_base_is_no_longer_than_an_iri_may_be(rt: HostRuntime) {
+    for (limit, fits) in [(11, false), (12, true)] {
+        let limits = Limits::new(1, 0, 0, limit).expect(&rt, "limits");
+        let base = Iri::new(rt.alloc(), "http://a/b\u{e9}");
+        match base {
+            Ok(base) => assert_eq!(rt; Job::new(Form::NQuads, Some(base), limits).is_some(), fits),
+            Err(_) => assert!(rt; false),
+        }
+    }
+}
+
 #[test]
 fn a_put_goes_on_behind_a_short_one(rt: HostRuntime) {
     let mut taken = drain(rt.alloc(), 1, 5);
@@ -182,8 +200,7 @@ fn devices_of_one_byte_a_call_change_nothing(rt: HostRuntime) {
     let mut taken = drain(rt.alloc(), 1, 49);
     let result = convert(
         rt.alloc(),
-        Form::NTriples,
-        Limits::default(),
+        job(Form::NTriples).expect(&rt, "a job"),
         &mut source,
         &mut taken,
     );
@@ -208,8 +225,7 @@ fn a_source_that_fails_is_not_at_its_end(rt: HostRuntime) {
         let mut taken = drain(rt.alloc(), 1, 49);
         let result = convert(
             rt.alloc(),
-            Form::NTriples,
-            Limits::default(),
+            job(Form::NTriples).expect(&rt, "a job"),
             &mut source,
             &mut taken,
         );
@@ -226,14 +242,29 @@ fn a_source_that_fails_is_not_at_its_end(rt: HostRuntime) {
 }
 
 #[test]
+fn a_check_tells_that_the_source_failed(rt: HostRuntime) {
+    for calls in [0, 1, 31, 52] {
+        let mut source = slow(TWO, calls);
+        let result = check(
+            rt.alloc(),
+            job(Form::NTriples).expect(&rt, "a job"),
+            &mut source,
+        );
+        assert!(rt;
+            matches!(result, Err(StreamFault::Read)),
+            "after {calls} calls"
+        );
+    }
+}
+
+#[test]
 fn a_drain_that_fails_has_a_beginning_of_the_lines(rt: HostRuntime) {
     for calls in 0usize..50 {
         let mut source = slow(TWO, 53);
         let mut taken = drain(rt.alloc(), 1, calls as u64);
         let result = convert(
             rt.alloc(),
-            Form::NTriples,
-            Limits::default(),
+            job(Form::NTriples).expect(&rt, "a job"),
             &mut source,
             &mut taken,
         );
@@ -261,8 +292,7 @@ fn the_lines_of_a_piece_are_one_call(rt: HostRuntime) -> Result<(), AllocError> 
     assert!(rt;
         convert(
             rt.alloc(),
-            Form::NQuads,
-            Limits::default(),
+            job(Form::NQuads).expect(&rt, "a job"),
             &mut source,
             &mut taken
         )
@@ -470,8 +500,7 @@ fn a_document_is_converted_however_it_is_cut(rt: HostRuntime) {
             let mut taken = drain(rt.alloc(), usize::MAX, u64::MAX);
             let result = convert(
                 rt.alloc(),
-                row.form,
-                Limits::default(),
+                job(row.form).expect(&rt, "a job"),
                 &mut source,
                 &mut taken,
             );
@@ -481,13 +510,19 @@ fn a_document_is_converted_however_it_is_cut(rt: HostRuntime) {
                 "cut at {cut}"
             );
             assert_eq!(rt; taken.flushed, row.refused.is_none());
-            match result {
-                Ok(_) => assert!(rt; row.refused.is_none()),
-                Err(StreamFault::Refused(fault)) => assert_eq!(rt;
-                    Some((fault.reason, fault.offset, fault.line)),
-                    row.refused
-                ),
-                Err(_) => assert!(rt; false),
+            let mut again = in_parts(row.bytes, cut, others);
+            let checked = check(rt.alloc(), job(row.form).expect(&rt, "a job"), &mut again);
+            match (result, checked) {
+                (Ok(converted), Ok(summary)) => {
+                    assert!(rt; row.refused.is_none());
+                    assert_eq!(rt; summary, converted);
+                    assert_eq!(rt; summary.bytes, row.bytes.len() as u64);
+                }
+                (Err(StreamFault::Refused(fault)), Err(StreamFault::Refused(checked))) => {
+                    assert_eq!(rt; Some((fault.reason, fault.offset, fault.line)), row.refused);
+                    assert_eq!(rt; checked, fault);
+                }
+                _ => assert!(rt; false),
             }
         }
     }

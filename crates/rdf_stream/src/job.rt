@@ -1,0 +1,71 @@
+// What a run is asked for.
+
+ghost use Rattle.std.specs.Prelude.{◌≡◌, ◌↔◌, None, Decides, IfSome};
+ghost use Rattle.rdf_iri.specs.Scope.{BaseFits};
+ghost use Rattle.rdf_iri.specs.Texts.{byte_len};
+ghost use Rattle.rdf_stream.specs.Jobs.{JobRead};
+
+use crate::fault::Form;
+use rdf_iri::Limits;
+use rdf_terms::Iri;
+use std::alloc::{Allocator, Global};
+use std::marker::Model;
+
+/// The format of a document, the base that its references are resolved against first, and the limits. The line
+/// formats have no relative references, so they do not look at the base.
+#[derive(Drop)]
+pub struct Job<A: Allocator = Global> {
+    form: Form,
+    base: Option<Iri<A>>,
+    limits: Limits,
+}
+
+impl<A: Allocator> Model for Job<A> {
+    ghost use Rattle.rdf_stream.specs.Jobs.{JobRead};
+
+    ghost Value = { JobRead };
+
+    ghost view = { λ j. record { form = j.form; base = j.base; limits = j.limits } };
+}
+
+impl<A: Allocator> Job<A> {
+    /// A job, or None where the base has more bytes than the limits allow for an IRI. It takes no memory.
+    pub fn new(form: Form, base: Option<Iri<A>>, limits: Limits) -> Option<Job<A>>
+        ensures made { IfSome result (λ job. job ≡ record { form = form; base = base; limits = limits }) }
+        ensures none { (result ≡ None) ↔ ¬ BaseFits base limits }
+    {
+        if !fits(&base, limits) {
+            return None;
+        }
+        Some(Job { form, base, limits })
+    }
+
+    /// The document's format.
+    pub(crate) fn form(&self) -> Form
+        ensures { result ≡ self.now.form }
+    {
+        self.form
+    }
+
+    /// The limits.
+    pub(crate) fn limits(&self) -> Limits
+        ensures { result ≡ self.now.limits }
+    {
+        self.limits
+    }
+}
+
+fn fits<A: Allocator>(base: &Option<Iri<A>>, limits: Limits) -> bool
+    ensures { Decides result (BaseFits base.now limits) }
+{
+    match base {
+        None => true,
+        Some(iri) => byte_len(iri) <= limits.iri(),
+    }
+}
+
+fn byte_len<A: Allocator>(iri: &Iri<A>) -> u64
+    ensures { result ≡ byte_len iri.now }
+{
+    iri.as_str().len() as u64
+}
