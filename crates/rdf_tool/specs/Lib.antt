@@ -1,2 +1,3 @@
 pub mod Words
 pub mod Statuses
+pub mod Runs

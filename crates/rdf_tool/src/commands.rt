@@ -1,9 +1,11 @@
 // The task that the words of the command line ask for.
 
-ghost use Rattle.std.specs.Prelude.{◌≡◌, ◌⊎◌, ◌<◌, ◌^◌, IfErr, IfOk, IfSome, OnOk, Some, Option, chars, codes, map, option_map, string_bytes, ℕ, List};
+ghost use Rattle.std.specs.Prelude.{◌≡◌, ◌⊎◌, ◌<◌, ◌≤◌, ◌^◌, IfErr, IfOk, IfSome, OnOk, Some, Option, chars, codes, map, option_map, string_bytes, ℕ, List};
 ghost use Rattle.clap.specs.Words.{App, Text, first_of, found_of, rows_of, subcommand_rows_of};
 ghost use Rattle.clap.specs.declared.builder.value_parser.ValueParser.{ValueParser};
 ghost use Rattle.clap.specs.declared.builder.value_parser.ValueParser.TheVariants.{Names};
+ghost use Rattle.rdf_iri.specs.Scope.{BaseFits};
+ghost use Rattle.rdf_iri.specs.Texts.{byte_len};
 ghost use Rattle.rdf_tool.specs.Words.{Entered, GivesNone, GivesTask, HasLimits, HasNumber, HasSizes, IsBase, IsEntered, IsTaskBy, NoBaseOf, NoTaskBy, TakesFormats, format_names, number_of, rdfconv};
 
 use crate::names::{FORMATS, action_of, form_of};
@@ -16,6 +18,7 @@ use std::alloc::{AllocError, Global};
 
 /// The task that the words ask for. The first word is the program's name.
 pub fn command_of<'a>(alloc: Global, words: &'a [&'a str]) -> Result<Task, WordsFault>
+    ensures base { IfOk result (λ task. BaseFits task.base task.limits) }
     ensures task { IfOk result (λ task. (formats : ValueParser) × TakesFormats formats × GivesTask (rdfconv formats) (map (λ s. s.now) words.entry.now) task) }
     ensures refused { IfErr result (λ fault. (formats : ValueParser) × TakesFormats formats × GivesNone (rdfconv formats) (map (λ s. s.now) words.entry.now) fault) }
 {
@@ -40,6 +43,7 @@ fn command_by<'a>(
 ) -> Result<Task, WordsFault>
     requires { map (λ s. s.now) formats.now ≡ format_names }
     ensures task { IfOk result (GivesTask (rdfconv (Names formats.entry)) (map (λ s. s.now) words.entry.now)) }
+    ensures base { IfOk result (λ task. BaseFits task.base task.limits) }
     ensures refused { IfErr result (GivesNone (rdfconv (Names formats.entry)) (map (λ s. s.now) words.entry.now)) }
 {
     let matches = program(alloc, formats)?.try_get_matches_from(words)?;
@@ -50,6 +54,7 @@ fn command_by<'a>(
 fn task_of(alloc: Global, name: &str, found: &ArgMatches<'_>) -> Result<Task, WordsFault>
     requires { IsEntered (name.now, rows_of (found_of found.now)) }
     ensures task { IfOk result (IsTaskBy (name.now, rows_of (found_of found.now))) }
+    ensures base { IfOk result (λ task. BaseFits task.base task.limits) }
     ensures refused { IfErr result (NoTaskBy (name.now, rows_of (found_of found.now))) }
 {
     let action = action_of(name);
@@ -87,16 +92,26 @@ fn limit_of(found: &ArgMatches<'_>, id: &str) -> u64
 fn base_of(alloc: Global, text: Option<&str>, most: u64) -> Result<Option<Iri>, WordsFault>
     ensures base { IfOk result (λ base. base ≡ option_map chars (option_map (λ s. s.now) text.entry)) }
     ensures good { OnOk result (IfSome (option_map (λ s. s.now) text.entry) (IsBase most)) }
+    ensures fits { IfOk result (λ base. IfSome base (λ b. byte_len b ≤ most)) }
     ensures bad { IfErr result (NoBaseOf most (option_map (λ s. s.now) text.entry)) }
 {
-    let Some(text) = text else {
-        return Ok(None);
-    };
+    match text {
+        Some(text) => Ok(Some(base_within(alloc, text, most)?)),
+        None => Ok(None),
+    }
+}
+
+fn base_within(alloc: Global, text: &str, most: u64) -> Result<Iri, WordsFault>
+    ensures base { IfOk result (λ base. base ≡ chars text.now) }
+    ensures good { OnOk result (IsBase most text.now) }
+    ensures fits { IfOk result (λ base. byte_len base ≤ most) }
+    ensures bad { IfErr result (NoBaseOf most (Some text.now)) }
+{
     if text.len() as u64 > most {
         return Err(WordsFault::BadBase);
     }
     match Iri::new(alloc, text) {
-        Ok(base) => Ok(Some(base)),
+        Ok(base) => Ok(base),
         Err(TermFault::BadTerm) => Err(WordsFault::BadBase),
         Err(TermFault::Memory) => Err(WordsFault::Memory),
     }

@@ -9,7 +9,8 @@ mod task;
 #[cfg(test)]
 mod tests;
 
-ghost use Rattle.std.specs.Prelude.{◌≡◌, false};
+ghost use Rattle.std.specs.Prelude.{◌≡◌, IfOk, false};
+ghost use Rattle.rdf_iri.specs.Scope.{BaseFits};
 
 use crate::commands::{command_of, not_utf8};
 use crate::runs::{refuse_words, run};
@@ -31,7 +32,9 @@ fn main(rt: HostRuntime) -> ExitCode {
 }
 
 // The task of the command line. A word that is no UTF-8 makes it no command.
-fn task_of(rt: &HostRuntime) -> Result<Task, WordsFault> {
+fn task_of(rt: &HostRuntime) -> Result<Task, WordsFault>
+    ensures { IfOk result (λ task. BaseFits task.base task.limits) }
+{
     let words: Vec<String> = match env::args(rt) {
         Ok(words) => words.collect(rt.alloc())?,
         Err(error) if matches!(error.kind(), ErrorKind::OutOfMemory) => {
@@ -44,6 +47,7 @@ fn task_of(rt: &HostRuntime) -> Result<Task, WordsFault> {
 }
 
 fn run_task<O: Drain, E: Drain>(rt: &HostRuntime, task: Task, out: &mut O, err: &mut E) -> u8
+    requires base { BaseFits task.base task.limits }
     requires out { O.has_failed out.old ≡ false }
     requires err { E.has_failed err.old ≡ false }
 {

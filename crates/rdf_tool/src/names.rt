@@ -29,6 +29,7 @@ pub fn action_of(name: &str) -> Action
     ensures { action_name result ≡ name.now }
 {
     match name {
+        "check" => Action::Check,
         "convert" => Action::Convert,
         _ => unreachable!(),
     }

@@ -10,6 +10,8 @@ use clap::{Arg, ArgAction, Command};
 use std::alloc::{AllocError, Global};
 
 /// What the subcommands do.
+const CHECK: &str = "Read a document to its end, and count its quads and bytes";
+
 const CONVERT: &str = "Write the quads of a document as lines of N-Quads";
 
 /// What stands below the help of the program.
@@ -44,11 +46,13 @@ Exit status:
 pub fn program<'a>(alloc: Global, formats: &'a [&'a str]) -> Result<Command<'a>, AllocError>
     ensures { IfOk result (λ c. app_of c ≡ rdfconv (Names formats.entry)) }
 {
+    let check = action_command(alloc, "check", CHECK, formats)?;
     let convert = action_command(alloc, "convert", CONVERT, formats)?;
     Command::new(alloc, "rdfconv")
         .about("Read N-Triples or N-Quads, and write N-Quads")
         .after_help(PROGRAM_NOTES)
         .subcommand_required(true)
+        .subcommand(check)?
         .subcommand(convert)
 }
 

@@ -1,18 +1,22 @@
 // A run, its status, and what it tells.
 
-ghost use Rattle.std.specs.Prelude.{◌≡◌, ◌≢◌, false, true, codes, Bool, List, ℕ, Option, IfSome};
+ghost use Rattle.std.specs.Prelude.{◌≡◌, ◌≢◌, ◌++◌, false, true, codes, decimal, Bool, List, ℕ, Option, IfErr, IfOk, IfSome, OnErr, OnOk, is_err};
 ghost use Rattle.std.specs.Option.{ForSome, IfNone};
-ghost use Rattle.std.specs.Io.KnownBytes.{Keeps};
-ghost use Rattle.rdf_stream.specs.Converts.{IsConverted, StopsFor};
+ghost use Rattle.std.specs.Io.KnownBytes.{Appends, Keeps};
+ghost use Rattle.rdf_iri.specs.Scope.{BaseFits};
 ghost use Rattle.rdf_stream.specs.Devices.{AppendsFront};
 ghost use Rattle.rdf_stream.specs.Messages.{report_text};
 ghost use Rattle.rdf_stream.specs.declared.fault.StreamFault.{StreamFault};
+ghost use Rattle.rdf_tool.specs.Runs.{Does, IsChecked, Stops, StopsCheck, accepted_text, job_of};
 ghost use Rattle.rdf_tool.specs.Statuses.{Refuses, Tells, status_of};
 
 use crate::task::{Action, Task, WordsFault};
 use clap::Error;
-use rdf_stream::{Drain, Failed, Form, Limits, Source, StreamFault, convert, put_all, report};
-use std::alloc::Global;
+use itoa::Buffer;
+use rdf_stream::{
+    Drain, Failed, Job, Source, StreamFault, Summary, check, convert, put_all, report,
+};
+use std::alloc::{AllocError, Global};
 
 /// Runs a task, and answers the status. A `None` is a file that did not open.
 pub fn run<S: Source, O: Drain, E: Drain>(
@@ -22,20 +26,23 @@ pub fn run<S: Source, O: Drain, E: Drain>(
     out: &mut O,
     err: &mut E,
 ) -> u8
+    requires base { BaseFits task.base task.limits }
     requires source { ForSome source (λ s. S.has_failed s.now ≡ false) }
     requires out { O.has_failed out.old ≡ false }
     requires err { E.has_failed err.old ≡ false }
-    ensures accepted { IfSome source.entry (λ s. result ≡ 0 → IfSome (S.remaining s.now) (λ bytes. IsConverted task.form task.limits bytes (O.contents out.old) (O.contents out.new))
+    ensures accepted { IfSome source.entry (λ s. result ≡ 0 → IfSome (S.remaining s.now) (λ bytes. Does task.action (job_of task) bytes (O.contents out.old) (O.contents out.new))
         × (O.is_flushed out.new ≡ true)) }
     ensures stopped { IfSome source.entry (λ s. result ≢ 0 → (fault : StreamFault) × (left : Option (List ℕ)) × (read_failed : Bool) × (result ≡ status_of fault)
-        × StopsFor fault task.form task.limits (S.remaining s.now) left read_failed (O.contents out.old) (O.contents out.new) (O.has_failed out.new)
+        × Stops task.action fault (job_of task) (S.remaining s.now) left read_failed (O.contents out.old) (O.contents out.new) (O.has_failed out.new)
         × AppendsFront (E.contents err.old) (E.contents err.new) (report_text fault)) }
     ensures not_open { IfNone source.entry ((result ≡ 3) × Tells (codes "rdfconv: cannot open file\n") (E.contents err.old) (E.contents err.new) (E.has_failed err.new)) }
 {
     match source {
-        Some(source) => match task.action {
-            Action::Convert => convert_from(alloc, task.form, task.limits, source, out, err),
-        },
+        Some(source) => {
+            let action = task.action;
+            let job = Job::new(task.form, task.base, task.limits).unwrap();
+            run_job(alloc, action, job, source, out, err)
+        }
         None => {
             tell("rdfconv: cannot open file\n", err);
             3
@@ -43,10 +50,10 @@ pub fn run<S: Source, O: Drain, E: Drain>(
     }
 }
 
-fn convert_from<S: Source, O: Drain, E: Drain>(
+fn run_job<S: Source, O: Drain, E: Drain>(
     alloc: Global,
-    form: Form,
-    limits: Limits,
+    action: Action,
+    job: Job,
     source: &mut S,
     out: &mut O,
     err: &mut E,
@@ -54,19 +61,93 @@ fn convert_from<S: Source, O: Drain, E: Drain>(
     requires source { S.has_failed source.old ≡ false }
     requires out { O.has_failed out.old ≡ false }
     requires err { E.has_failed err.old ≡ false }
-    ensures accepted { result ≡ 0 → IfSome (S.remaining source.old) (λ bytes. IsConverted form limits bytes (O.contents out.old) (O.contents out.new))
+    ensures accepted { result ≡ 0 → IfSome (S.remaining source.old) (λ bytes. Does action job bytes (O.contents out.old) (O.contents out.new))
         × (O.is_flushed out.new ≡ true) }
     ensures stopped { result ≢ 0 → (fault : StreamFault) × (result ≡ status_of fault)
-        × StopsFor fault form limits (S.remaining source.old) (S.remaining source.new) (S.has_failed source.new) (O.contents out.old) (O.contents out.new) (O.has_failed out.new)
+        × Stops action fault job (S.remaining source.old) (S.remaining source.new) (S.has_failed source.new) (O.contents out.old) (O.contents out.new) (O.has_failed out.new)
         × AppendsFront (E.contents err.old) (E.contents err.new) (report_text fault) }
 {
-    match convert(alloc, form, limits, source, out) {
-        Ok(_) => 0,
+    match act(alloc, action, job, source, out) {
+        Ok(()) => 0,
         Err(fault) => {
             tell_fault(alloc, &fault, err);
             status(&fault)
         }
     }
+}
+
+fn act<S: Source, O: Drain>(
+    alloc: Global,
+    action: Action,
+    job: Job,
+    source: &mut S,
+    out: &mut O,
+) -> Result<(), StreamFault>
+    requires source { S.has_failed source.old ≡ false }
+    requires out { O.has_failed out.old ≡ false }
+    ensures accepted { OnOk result (IfSome (S.remaining source.old) (λ bytes. Does action job bytes (O.contents out.old) (O.contents out.new))) }
+    ensures flushed { OnOk result (O.is_flushed out.new ≡ true) }
+    ensures stops { IfErr result (λ fault.
+        Stops action fault job (S.remaining source.old) (S.remaining source.new) (S.has_failed source.new) (O.contents out.old) (O.contents out.new) (O.has_failed out.new)) }
+{
+    match action {
+        Action::Check => check_to(alloc, job, source, out),
+        Action::Convert => match convert(alloc, job, source, out) {
+            Ok(_) => Ok(()),
+            Err(fault) => Err(fault),
+        },
+    }
+}
+
+// Checks a document, and tells what is in it.
+fn check_to<S: Source, O: Drain>(
+    alloc: Global,
+    job: Job,
+    source: &mut S,
+    out: &mut O,
+) -> Result<(), StreamFault>
+    requires source { S.has_failed source.old ≡ false }
+    requires out { O.has_failed out.old ≡ false }
+    ensures accepted { OnOk result (IfSome (S.remaining source.old) (λ bytes. IsChecked job bytes (O.contents out.old) (O.contents out.new))) }
+    ensures flushed { OnOk result (O.is_flushed out.new ≡ true) }
+    ensures stops { IfErr result (λ fault.
+        StopsCheck fault job (S.remaining source.old) (S.remaining source.new) (S.has_failed source.new) (O.contents out.old) (O.contents out.new) (O.has_failed out.new)) }
+{
+    let summary = match check(alloc, job, source) {
+        Ok(summary) => summary,
+        Err(fault) => return Err(fault),
+    };
+    let text = match accepted_line(alloc, summary) {
+        Ok(text) => text,
+        Err(AllocError) => return Err(StreamFault::Memory),
+    };
+    match write_out(text.as_slice(), out) {
+        Ok(()) => Ok(()),
+        Err(Failed) => Err(StreamFault::Write),
+    }
+}
+
+fn accepted_line(alloc: Global, summary: Summary) -> Result<Vec<u8>, AllocError>
+    ensures { IfOk result (λ text. text.items ≡ accepted_text summary) }
+{
+    let mut text = Vec::from_slice(alloc, b"accepted, ")?;
+    text.extend_from_slice(Buffer::new().format(summary.quads).as_bytes())?;
+    text.extend_from_slice(b" quads, ")?;
+    text.extend_from_slice(Buffer::new().format(summary.bytes).as_bytes())?;
+    text.extend_from_slice(b" bytes\n")?;
+    Ok(text)
+}
+
+// Writes the bytes, and sends them on.
+fn write_out<O: Drain>(bytes: &[u8], out: &mut O) -> Result<(), Failed>
+    requires { O.has_failed out.old ≡ false }
+    ensures ok { OnOk result (Appends (O.contents out.old) (O.contents out.new) bytes.now) }
+    ensures flushed { OnOk result (O.is_flushed out.new ≡ true) }
+    ensures err { OnErr result (AppendsFront (O.contents out.old) (O.contents out.new) bytes.now) }
+    ensures failed { O.has_failed out.new ≡ is_err result }
+{
+    put_all(out, bytes)?;
+    out.flush()
 }
 
 fn status(fault: &StreamFault) -> u8

@@ -13,6 +13,8 @@ use std::alloc::AllocError;
 /// What is done with a document.
 #[derive(Clone, Copy, Debug, PartialEq, Eq)]
 pub enum Action {
+    /// It is read to its end, and counted.
+    Check,
     /// Its quads are written as lines of N-Quads.
     Convert,
 }

@@ -1,25 +1,46 @@
 // Runs over memory, and words.
 
+ghost use Rattle.rdf_iri.specs.Scope.{BaseFits};
+
 use crate::commands::{command_of, not_utf8};
 use crate::runs::{refuse_words, run};
 use crate::task::{Action, Task, WordsFault};
 use rdf_stream::{Form, In, Limits, Out};
 use std::alloc::Global;
 
-fn convert_task(form: Form) -> Option<Task> {
-    Some(Task {
-        action: Action::Convert,
+fn task(action: Action, form: Form, limits: Limits) -> Task
+    ensures { BaseFits result.base result.limits }
+{
+    Task {
+        action,
         form,
         base: None,
-        limits: Limits::new(1 << 24, 1024, 65536, 1 << 20)?,
+        limits,
         file: None,
-    })
+    }
 }
 
 #[test]
 fn a_run_writes_the_lines_or_tells_why_not(rt: HostRuntime) {
     let rows = [
         (
+            Action::Check,
+            Form::NQuads,
+            "<a:> <b:> <c:> <g:>.\n_:x <b:> <c:>.",
+            0,
+            "accepted, 2 quads, 35 bytes\n",
+            "",
+        ),
+        (
+            Action::Check,
+            Form::NTriples,
+            "<a:> <b:> <c:>.\n<a> <b:> <c:>.",
+            1,
+            "",
+            "rdfconv: relative IRI at byte 16, line 2\n",
+        ),
+        (
+            Action::Convert,
             Form::NTriples,
             "<a:> <b:> \"x\" .",
             0,
@@ -27,6 +48,7 @@ fn a_run_writes_the_lines_or_tells_why_not(rt: HostRuntime) {
             "",
         ),
         (
+            Action::Convert,
             Form::NQuads,
             "<a:> <b:> _:x <g:>.",
             0,
@@ -34,16 +56,17 @@ fn a_run_writes_the_lines_or_tells_why_not(rt: HostRuntime) {
             "",
         ),
         (
+            Action::Convert,
             Form::NTriples,
             "<a:> <b:> <c:> <g:> .",
             1,
             "",
             "rdfconv: unexpected token at byte 15, line 1\n",
         ),
-        (Form::NTriples, "", 0, "", ""),
+        (Action::Convert, Form::NTriples, "", 0, "", ""),
     ];
-    for (form, text, status, lines, message) in rows {
-        let task = convert_task(form).expect(&rt, "a task");
+    for (action, form, text, status, lines, message) in rows {
+        let task = task(action, form, Limits::default());
         let mut written = Vec::new(rt.alloc());
         let mut told = Vec::new(rt.alloc());
         let mut source = In::new(text.as_bytes());
@@ -69,8 +92,8 @@ fn a_run_keeps_to_the_limits_of_its_task(rt: HostRuntime) {
         (4, 1, 1, "rdfconv: IRI too long at byte 0, line 1\n"),
     ];
     for (token, iri, status, message) in rows {
-        let mut task = convert_task(Form::NTriples).expect(&rt, "a task");
-        task.limits = Limits::new(token, 0, 0, iri).expect(&rt, "limits");
+        let limits = Limits::new(token, 0, 0, iri).expect(&rt, "limits");
+        let task = task(Action::Convert, Form::NTriples, limits);
         let mut told = Vec::new(rt.alloc());
         let mut source = In::new(b"<a:> <b:> <c:> .".as_slice());
         let mut out = Out::new(Vec::new(rt.alloc()));
@@ -86,7 +109,7 @@ fn a_run_keeps_to_the_limits_of_its_task(rt: HostRuntime) {
 
 #[test]
 fn a_file_that_did_not_open_is_told(rt: HostRuntime) {
-    let task = convert_task(Form::NQuads).expect(&rt, "a task");
+    let task = task(Action::Convert, Form::NQuads, Limits::default());
     let mut told = Vec::new(rt.alloc());
     let mut out = Out::new(Vec::new(rt.alloc()));
     let mut err = Out::new(&mut told);
