@@ -19,3 +19,14 @@ pub mod LawExamples
 pub mod ScopeLemmas
 pub mod ReadingsLemmas
 pub mod Runs
+pub mod Stack
+pub mod SpelledLemmas
+pub mod Fallbacks
+pub mod TurnsLemmas
+pub mod ColonLemmas
+pub mod StepsLemmas
+pub mod ScopesLemmas
+pub mod LocalShapes
+pub mod MachineLaws
+pub mod SameScopes
+pub mod AcceptLemmas

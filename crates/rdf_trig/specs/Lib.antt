@@ -8,3 +8,7 @@ pub mod Refusals
 pub mod Machine
 pub mod Laws
 pub mod Readings
+pub mod States
+pub mod Spelled
+pub mod Steps
+pub mod Scopes
