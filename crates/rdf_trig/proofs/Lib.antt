@@ -16,3 +16,4 @@ pub mod Completed
 pub mod LawLemmas
 pub mod Vectors
 pub mod LawExamples
+pub mod ScopeLemmas

@@ -1,5 +1,5 @@
 -- What references and prefixed names stand for in a scope, and how directives change the scope (Turtle 2.4 and 6.3).
-use Rattle.std.specs.Prelude.{ℕ, Bool, cond, List, [], ◌∷◌, ◌++◌, ◌&&◌, length, nat_le, not, is_some, Option, Some, None, option_map, unwrap_or}
+use Rattle.std.specs.Prelude.{◌≡◌, ℕ, Bool, cond, List, [], ◌∷◌, ◌++◌, ◌&&◌, length, nat_le, not, is_some, Option, Some, None, option_map, unwrap_or}
 use Rattle.rdf_terms.specs.Values.{local_value}
 use Rattle.rdf_iri.specs.Texts.{before, after, equal}
 use Rattle.rdf_iri.specs.Resolve.{resolved}
@@ -53,3 +53,10 @@ behind s (sparql_base w i) = with_base s (reference_in s i)
 -- the prefix is new, and as many are bound as may be
 unfoldable pub is_full : InForce → List ℕ → Bool
 is_full s prefix = not (is_some (bound_to s.bindings prefix)) && nat_le s.limits.bindings (length s.bindings)
+
+-- scopes in which every reference and name stands for the same, and a new prefix has room or not
+pub record SameNames (s t : InForce) : Type 0 where
+  pub base : s.base ≡ t.base
+  pub limits : s.limits ≡ t.limits
+  pub bound : (q : List ℕ) → bound_to s.bindings q ≡ bound_to t.bindings q
+  pub count : length s.bindings ≡ length t.bindings
