@@ -1,14 +1,14 @@
 -- What the calls of a scope give is what references and names stand for.
-use Rattle.std.proofs.Common.{◌≡◌, ◌≢◌, ℕ, ◌+◌, ◌≤◌, ◌<◌, Bool, true, false, cond, List, [], ◌∷◌, ◌++◌, ◌&&◌, length, Option, Some, None, is_some, refl, sym, ap, ◌∙◌, arith}
+use Rattle.std.proofs.Common.{◌≡◌, ℕ, ◌+◌, ◌<◌, true, false, cond, List, ◌++◌, ◌&&◌, length, Option, Some, None, is_some, refl, sym, ap, ◌∙◌}
 use Rattle.std.specs.Prelude.{option_map, nat_le, not}
-use Rattle.std.proofs.lemmas.Bool.{cond-false, le-leb, lt-leb, and_right}
+use Rattle.std.proofs.lemmas.Bool.{cond-false, le-leb, lt-leb}
 use Rattle.rdf_iri.specs.declared.fault.IriFault.TheVariants.{NoBase, IriTooLong, Unbound}
 use Rattle.rdf_iri.specs.Texts.{byte_len, equal}
 use Rattle.rdf_iri.specs.Resolve.{resolved, based}
 use Rattle.rdf_iri.specs.Scope.{InForce, bound_to, Binds, ResolvesHere, UnresolvedHere, ExpandsHere, NotExpanded, HasRoom, IsFull}
 use Rattle.rdf_iri.proofs.ResolveLemmas.{resolves-only}
 use Rattle.rdf_lines.specs.Lines.{Leaf, iri_of}
-use Rattle.rdf_trig.specs.Names.{reference_in, name_in, prefix_of, local_of, bind, with_base, with_binding, is_full, SameNames}
+use Rattle.rdf_trig.specs.Names.{reference_in, name_in, prefix_of, local_of, with_base, with_binding, is_full, SameNames}
 use Rattle.rdf_trig.proofs.NamesLemmas.{binds_prefix}
 
 pub same_reference : (s t : InForce) (l : Leaf) → SameNames s t → reference_in s l ≡ reference_in t l

@@ -1,5 +1,5 @@
 -- Documents whose quads, with their marks, are computed from the definitions: from a list of tokens to what it means.
-use Rattle.std.proofs.Common.{◌≡◌, ℕ, Bool, true, List, [], ◌∷◌, ◌&&◌, Option, Some, None, refl}
+use Rattle.std.proofs.Common.{◌≡◌, ℕ, Bool, true, List, [], ◌∷◌, ◌++◌, ◌&&◌, length, take, drop, Option, Some, None, refl}
 use Rattle.std.specs.Prelude.{codes}
 use Rattle.std.proofs.lemmas.Bool.{and_parts}
 use Rattle.rdf_terms.specs.Classes.{has}
@@ -19,7 +19,8 @@ use Rattle.rdf_trig.specs.Trees.{PrefixedName, pname_ln, pname_ns, Iri, iri_ref,
 use Rattle.rdf_trig.specs.Trees as tree
 use Rattle.rdf_trig.specs.Names.{reference_in, name_in, is_full}
 use Rattle.rdf_trig.specs.Events.{Event, Took, Gave, document_events, Bound}
-use Rattle.rdf_trig.specs.Documents.{documents}
+use Rattle.rdf_trig.specs.Documents.{documents, document_held, Owed, most_held}
+use Rattle.std.proofs.Math.Utf8.{encode}
 use Rattle.rdf_trig.proofs.Completions.{has_iri}
 use Rattle.rdf_trig.proofs.Reached.{use_bound}
 
@@ -247,3 +248,41 @@ word_and_label_quads =
 pub word_and_label_is : documents TriG start word_and_label_tokens word_and_label_quads
 unfolding reference_in name_in resolved is_full has
 word_and_label_is = record { tree = word_and_label_tree; tokens = refl; bound = named_bound (document_events start word_and_label_tree) refl; quads = refl }
+
+-- What is owed in `S P [ P ( ) ] .`: behind the parenthesis that opens, subject and verb of the statement and the verb of the property list; behind the
+-- bracket that closes, those of the statement; behind the dot nothing.
+abbrev pub open_tokens : List Token
+open_tokens =
+    token IriRef (leaf (codes "<http://a/s>") 0 1) ∷ token IriRef (leaf (codes "<http://a/p>") 13 1) ∷ token OpenBracket (leaf (codes "[") 26 1) ∷
+    token IriRef (leaf (codes "<http://a/p>") 28 1) ∷ token OpenParen (leaf (codes "(") 41 1) ∷ token CloseParen (leaf (codes ")") 43 1) ∷
+    token CloseBracket (leaf (codes "]") 45 1) ∷ token Dot (leaf (codes ".") 47 1) ∷ token End (leaf (codes "") 48 1) ∷ []
+
+abbrev pub open_tree : Document TriG
+open_tree =
+    with_body (triples_or_graph (label_triples (iri_label (iri_ref (leaf (codes "<http://a/s>") 0 1))) (predicate_objects (predicate (iri_ref (leaf (codes "<http://a/p>") 13 1))) (objects (list_object (property_list (leaf (codes "[") 26 1) (predicate_objects (predicate (iri_ref (leaf (codes "<http://a/p>") 28 1))) (objects (collection_object (collection (leaf (codes "(") 41 1) no_items (leaf (codes ")") 43 1))) no_commas) no_more) (leaf (codes "]") 45 1))) no_commas) no_more) (leaf (codes ".") 47 1))) (end (leaf (codes "") 48 1))
+
+open_bound : Bound (document_events start open_tree)
+unfolding reference_in name_in resolved is_full has
+open_bound = named_bound (document_events start open_tree) refl
+
+owed_by : (k size : ℕ) → take k open_tokens ++ drop k open_tokens ≡ open_tokens → document_held start (length (take k open_tokens)) 0 open_tree ≡ size → Owed TriG start (take k open_tokens) size
+owed_by k size e h = record { tree = open_tree; more = drop k open_tokens; tokens = e; bound = open_bound; held = h }
+
+pub owed_inside : Owed TriG start (take 5 open_tokens) 30
+unfolding reference_in name_in resolved is_full has encode
+owed_inside = owed_by 5 30 refl refl
+
+pub owed_behind : Owed TriG start (take 7 open_tokens) 20
+unfolding reference_in name_in resolved is_full has encode
+owed_behind = owed_by 7 20 refl refl
+
+pub owed_not : Owed TriG start (take 8 open_tokens) 0
+unfolding reference_in name_in resolved is_full has encode
+owed_not = owed_by 8 0 refl refl
+
+-- the most that may be held, for two sets of limits
+pub most_of_some : most_held (record { token = 16; depth = 2; bindings = 1; iri = 64 }) ≡ 839
+most_of_some = refl
+
+pub most_of_least : most_held (record { token = 1; depth = 0; bindings = 0; iri = 1 }) ≡ 32
+most_of_least = refl
