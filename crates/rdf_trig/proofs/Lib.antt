@@ -17,3 +17,4 @@ pub mod LawLemmas
 pub mod Vectors
 pub mod LawExamples
 pub mod ScopeLemmas
+pub mod ReadingsLemmas

@@ -6,3 +6,4 @@ pub mod Documents
 pub mod Refusals
 pub mod Machine
 pub mod Laws
+pub mod Readings
