@@ -61,7 +61,8 @@ fitted sizes k (binds full (Some i)) a qs n e =
     let y = second full (refuses too_many_bindings) a (accepts qs n) x.1 (λ z. cc) in
     ((x.0, y.0), y.1)
 
-pub accepted : (sizes : Sizes) (s : State) (k : Kind) (w : Option Quad) (r : Reply) (qs : List Quad) (n : State) → answer sizes s k w r ≡ accepts qs n → Accepted sizes s k w r qs n
+pub accepted : (sizes : Sizes) (s : State) (k : Kind) (w : Option Quad) (r : Reply) (qs : List Quad) (n : State) → answer sizes s k w r ≡ accepts qs n →
+    Accepted sizes s k w r qs n
 accepted sizes s k w No qs n e = absurd (let z : refuses unexpected ≡ accepts qs n = e in cc)
 accepted sizes s k w (Go u early now c m) qs n e =
     let a : Answer = accepts (s.held ++ kept w []) (moved early now c m) in
@@ -70,7 +71,8 @@ accepted sizes s k w (Go u early now c m) qs n e =
     let same : accepts (s.held ++ kept w []) (moved early now c m) ≡ accepts qs n = f.1 in
     record { sense = u; early = early; now = now; setting = c; mode = m; reply = refl; shallow = d.0; fits = f.0; given = cc; state = cc }
 
-pub first_ran : (qs : List Quad) (r : Run) (n : State) (all : List Quad) → with_quads qs r ≡ ran n all → (rest : List Quad) × (r ≡ ran n rest) × (all ≡ qs ++ rest)
+pub first_ran : (qs : List Quad) (r : Run) (n : State) (all : List Quad) → with_quads qs r ≡ ran n all →
+    (rest : List Quad) × (r ≡ ran n rest) × (all ≡ qs ++ rest)
 first_ran qs (ran m rest) n all e = (rest, (let z : m ≡ n = cc in ap (λ x. ran x rest) z), cc)
 first_ran qs (refused r) n all e = absurd (let z : refused r ≡ ran n all = e in cc)
 

@@ -42,12 +42,15 @@ both : (b : Bool) (o : Option Stand) (s : Stand) → if_true b o ≡ Some s → 
 both true o s e = (refl, e)
 both false o s e = absurd (let z : None ≡ Some s = e in cc)
 
-reached_bound : (form : DocForm) (ts us : List Token) (c : Setting) (m : Mode) (es : List Event) (s : Stand) → run form c m (ts ++ us) ≡ Some es → reach true form c m ts ≡ Some s → BoundFront (length ts) es
+reached_bound : (form : DocForm) (ts us : List Token) (c : Setting) (m : Mode) (es : List Event) (s : Stand) → run form c m (ts ++ us) ≡ Some es →
+    reach true form c m ts ≡ Some s → BoundFront (length ts) es
 reached_bound form [] us c m es s r e = bound_none es
 reached_bound form (t ∷ ts) us c m es s r e = by (step form c m t.kind (leaf_of t)) r e (λ c' m' fs a b. reached_bound form ts us c' m' fs s a b)
   where
-    by : (x : Reply) → fronted (waiting c m t.kind (leaf_of t)) (go_on t x (λ c' m'. run form c' m' (ts ++ us))) ≡ Some es → on_reply true x (λ c' m'. reach true form c' m' ts) ≡ Some s →
-        ((c' : Setting) (m' : Mode) (fs : List Event) → run form c' m' (ts ++ us) ≡ Some fs → reach true form c' m' ts ≡ Some s → BoundFront (length ts) fs) → BoundFront (suc (length ts)) es
+    by : (x : Reply) → fronted (waiting c m t.kind (leaf_of t)) (go_on t x (λ c' m'. run form c' m' (ts ++ us))) ≡ Some es →
+        on_reply true x (λ c' m'. reach true form c' m' ts) ≡ Some s →
+        ((c' : Setting) (m' : Mode) (fs : List Event) → run form c' m' (ts ++ us) ≡ Some fs → reach true form c' m' ts ≡ Some s → BoundFront (length ts) fs) →
+        BoundFront (suc (length ts)) es
     by No r e ih = absurd (let z : None ≡ Some s = e in cc)
     by (Go u early now c' m') r e ih =
         let w = waiting c m t.kind (leaf_of t) in
@@ -56,7 +59,8 @@ reached_bound form (t ∷ ts) us c m es s r e = by (step form c m t.kind (leaf_o
         let i = bound_give early (length ts) (give now x.0) (bound_give now (length ts) x.0 (ih c' m' x.0 x.1 p.1)) in
         subst (BoundFront (suc (length ts))) (sym x.2) (bound_give w (suc (length ts)) (Took t u ∷ give early (give now x.0)) (use_bound u p.0, i))
 
-bound_reached : (form : DocForm) (ts us : List Token) (c : Setting) (m : Mode) (es : List Event) → run form c m (ts ++ us) ≡ Some es → BoundFront (length ts) es → (s : Stand) × (reach true form c m ts ≡ Some s)
+bound_reached : (form : DocForm) (ts us : List Token) (c : Setting) (m : Mode) (es : List Event) → run form c m (ts ++ us) ≡ Some es →
+    BoundFront (length ts) es → (s : Stand) × (reach true form c m ts ≡ Some s)
 bound_reached form [] us c m es r b = (stand c m, refl)
 bound_reached form (t ∷ ts) us c m es r b = by (step form c m t.kind (leaf_of t)) r (λ c' m' fs a b. bound_reached form ts us c' m' fs a b)
   where
@@ -81,13 +85,15 @@ viable_bound form start ts = record {
   every = every;
 }
   where
-    every : Viable (documents form start) ts → (d : Document form) (more : List Token) → ts ++ more ≡ document_tokens d → BoundFront (length ts) (document_events start d)
+    every : Viable (documents form start) ts → (d : Document form) (more : List Token) → ts ++ more ≡ document_tokens d →
+        BoundFront (length ts) (document_events start d)
     every v d more e =
         let s = viable_reached form start ts v in
         reached_bound form ts more (in_default start) Start (document_events start d) s.0 (run_tree true form d start (ts ++ more) (document_told d start ∙ sym e)) s.1
 
 -- What a token stands for is settled by the tokens before it.
-pub settled : (form : DocForm) (start : InForce) (ahead : List Token) (t : Token) (u v : Use) → InTree form start ahead t u → InTree form start ahead t v → u ≡ v
+pub settled : (form : DocForm) (start : InForce) (ahead : List Token) (t : Token) (u v : Use) → InTree form start ahead t u → InTree form start ahead t v →
+    u ≡ v
 settled form start ahead t u v p q =
     let told : tokens (document_events start p.tree) ≡ ahead ++ t ∷ tokens p.rest = ap tokens p.events ∙ tokens_behind p.front t u p.rest ∙ ap (λ x. x ++ t ∷ tokens p.rest) p.read in
     let all = any_passing (document_events start p.tree) in

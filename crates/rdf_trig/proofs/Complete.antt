@@ -35,7 +35,8 @@ module _ (form : DocForm) where
         ∙ ap (λ o. fronted before (put (token k l) u early now o)) g.runs);
   }
 
-  alone : (k : Kind) (l : Leaf) {c : Setting} {m : Mode} {c' : Setting} {m' : Mode} {rest : List Event} → waiting c m k l ≡ None → step form c m k l ≡ goes c' m' → Good c' m' rest → Good c m (take k l rest)
+  alone : (k : Kind) (l : Leaf) {c : Setting} {m : Mode} {c' : Setting} {m' : Mode} {rest : List Event} → waiting c m k l ≡ None →
+      step form c m k l ≡ goes c' m' → Good c' m' rest → Good c m (take k l rest)
   alone k l w s g = one k l None itself None None w s g
 
   -- A string's quad waits for the token behind it.
@@ -44,16 +45,19 @@ module _ (form : DocForm) where
   shift q (Some fs) es e = let z : fs ≡ es = cc in ap (λ x. Some (give q x)) z
 
   -- no tag, and no type
-  no_tag : (c : Setting) (p : Place) (l : Leaf) → (after c p LangTag l ≡ No) × (after c p AtBase l ≡ No) × (after c p AtPrefix l ≡ No) × (after c p Carets l ≡ No)
+  no_tag : (c : Setting) (p : Place) (l : Leaf) →
+      (after c p LangTag l ≡ No) × (after c p AtBase l ≡ No) × (after c p AtPrefix l ≡ No) × (after c p Carets l ≡ No)
   no_tag c (Listed s v (Statement Top)) l = (refl, refl, refl, refl)
   no_tag c (Listed s v (Statement InBlock)) l = (refl, refl, refl, refl)
   no_tag c (Listed s v (Boxed u)) l = (refl, refl, refl, refl)
   no_tag c (InCells f n u) l = (refl, refl, refl, refl)
 
-  dead : {T : Type 0} (r : Reply) (t : Token) (next : Setting → Mode → Option (List Event)) (es : List Event) → r ≡ No → fronted None (go_on t r next) ≡ Some es → T
+  dead : {T : Type 0} (r : Reply) (t : Token) (next : Setting → Mode → Option (List Event)) (es : List Event) → r ≡ No →
+      fronted None (go_on t r next) ≡ Some es → T
   dead r t next es n e = absurd (let h = ap (λ x. fronted None (go_on t x next)) n in let z : None ≡ Some es = sym h ∙ e in cc)
 
-  text_step : (c : Setting) (w : List ℕ) (p : Place) (k : Kind) (l : Leaf) (ts : List Token) (es : List Event) → run form c (After p) (token k l ∷ ts) ≡ Some es →
+  text_step : (c : Setting) (w : List ℕ) (p : Place) (k : Kind) (l : Leaf) (ts : List Token) (es : List Event) →
+      run form c (After p) (token k l ∷ ts) ≡ Some es →
       run form c (AfterText w p) (token k l ∷ ts) ≡ Some (give (quad_at c p (plain_literal w)) es)
   text_step c w p LangTag l ts es e = dead (after c p LangTag l) (token LangTag l) (λ c' m'. run form c' m' ts) es (no_tag c p l).0 e
   text_step c w p AtBase l ts es e = dead (after c p AtBase l) (token AtBase l) (λ c' m'. run form c' m' ts) es (no_tag c p l).1 e
@@ -66,7 +70,8 @@ module _ (form : DocForm) where
   text_run c w p [] es e = absurd (let z : None ≡ Some es = e in cc)
   text_run c w p (t ∷ ts) es e = text_step c w p t.kind (leaf_of t) ts es e
 
-  text_good : {c : Setting} {p : Place} {rest : List Event} (w : List ℕ) → Good c (After p) rest → Good c (AfterText w p) (give (quad_at c p (plain_literal w)) rest)
+  text_good : {c : Setting} {p : Place} {rest : List Event} (w : List ℕ) → Good c (After p) rest →
+      Good c (AfterText w p) (give (quad_at c p (plain_literal w)) rest)
   text_good {c} {p} {rest} w g = record { runs = rw (tokens_give (quad_at c p (plain_literal w)) rest) (text_run c w p (tokens rest) rest g.runs) }
 
   -- The state takes a name, whose first token is this, and stands behind it as told.
@@ -129,7 +134,8 @@ module _ (form : DocForm) where
     list = (refl, refl);
   }
 
-  item_takes : (c : Setting) (f n : ℕ) (u : Up) (l : Leaf) → TakesObject c (After (InCells f n u)) (InCells f l.at.offset u) None (rest_quad c (Cell n) (Blank (cell_at l))) l
+  item_takes : (c : Setting) (f n : ℕ) (u : Up) (l : Leaf) →
+      TakesObject c (After (InCells f n u)) (InCells f l.at.offset u) None (rest_quad c (Cell n) (Blank (cell_at l))) l
   item_takes c f n u l = record {
     iri = record { waits = (refl, refl, refl); ref = refl; ln = refl; ns = refl };
     label = (refl, refl);
@@ -153,24 +159,29 @@ module _ (form : DocForm) where
     after : (p : Option (List ℕ)) → step form c (After (Listed s p a)) k l ≡ goes c' m'
     semi : step form c (Semi s a) k l ≡ goes c' m'
 
-  verb_good : (v : Verb) (c : Setting) (m : Mode) (s : Option term.Subject) (a : Around) (rest : List Event) → TakesVerb c m s a → Good c (Want (Listed s (verb_of c.scope v) a)) rest → Good c m (verb_events c.scope v rest)
+  verb_good : (v : Verb) (c : Setting) (m : Mode) (s : Option term.Subject) (a : Around) (rest : List Event) → TakesVerb c m s a →
+      Good c (Want (Listed s (verb_of c.scope v) a)) rest → Good c m (verb_events c.scope v rest)
   verb_good (predicate i) c m s a rest h g = iri_good i c m c.scope None None (λ i. None) c (λ i. Want (Listed s i a)) rest (h.iri (iri_leaf i)) g
   verb_good (type_word l) c m s a rest h g = alone A l (h.type l).0 (h.type l).1 g
 
-  string_good : (w : String) (c : Setting) (m : Mode) (p : Place) (before early : Option Quad) (rest : List Event) → TakesObject c m p before early (string_leaf w) →
+  string_good : (w : String) (c : Setting) (m : Mode) (p : Place) (before early : Option Quad) (rest : List Event) →
+      TakesObject c m p before early (string_leaf w) →
       Good c (AfterText (lexical w) p) rest → Good c m (give before (string_events w (give early rest)))
   string_good (short l) c m p before early rest h g = one ShortString l before itself early None h.short.0 h.short.1 g
   string_good (long l) c m p before early rest h g = one LongString l before itself early None h.long.0 h.long.1 g
 
-  tag_good : (t : Tag) (c : Setting) (w : List ℕ) (p : Place) (rest : List Event) → Good c (After p) rest → Good c (AfterText w p) (tag_events t (give (quad_at c p (tagged_literal w (language t))) rest))
+  tag_good : (t : Tag) (c : Setting) (w : List ℕ) (p : Place) (rest : List Event) → Good c (After p) rest →
+      Good c (AfterText w p) (tag_events t (give (quad_at c p (tagged_literal w (language t))) rest))
   tag_good (lang_tag l) c w p rest g = one LangTag l None itself None _ refl refl g
   tag_good (base_tag l) c w p rest g = one AtBase l None itself None _ refl refl g
   tag_good (prefix_tag l) c w p rest g = one AtPrefix l None itself None _ refl refl g
 
-  type_takes : (c : Setting) (w : List ℕ) (p : Place) (l : Leaf) → TakesIri c (WantType w p) c.scope None None (λ i. quad_at c p (typed_literal w i)) c (λ i. After p) l
+  type_takes : (c : Setting) (w : List ℕ) (p : Place) (l : Leaf) →
+      TakesIri c (WantType w p) c.scope None None (λ i. quad_at c p (typed_literal w i)) c (λ i. After p) l
   type_takes c w p l = record { waits = (refl, refl, refl); ref = refl; ln = refl; ns = refl }
 
-  literal_good : (x : Literal) (c : Setting) (m : Mode) (p : Place) (before early : Option Quad) (rest : List Event) → TakesObject c m p before early (literal_leaf x) → Good c (After p) rest →
+  literal_good : (x : Literal) (c : Setting) (m : Mode) (p : Place) (before early : Option Quad) (rest : List Event) →
+      TakesObject c m p before early (literal_leaf x) → Good c (After p) rest →
       Good c m (give before (literal_events c.scope x early (quad_at c p (literal_of c.scope x)) rest))
   literal_good (rdf (plain w)) c m p before early rest h g = string_good w c m p before early _ h (text_good (lexical w) g)
   literal_good (rdf (tagged w t)) c m p before early rest h g = string_good w c m p before early _ h (tag_good t c (lexical w) p rest g)
@@ -193,7 +204,8 @@ module _ (form : DocForm) where
   want_verb c s a = record { iri = λ l. record { waits = (refl, refl, refl); ref = refl; ln = refl; ns = refl }; type = λ l. (refl, refl) }
 
   mutual
-    object_good : (o : Object) (c : Setting) (m : Mode) (p : Place) (before early : Option Quad) (rest : List Event) → TakesObject c m p before early (object_leaf o) → Good c (After p) rest →
+    object_good : (o : Object) (c : Setting) (m : Mode) (p : Place) (before early : Option Quad) (rest : List Event) →
+        TakesObject c m p before early (object_leaf o) → Good c (After p) rest →
         Good c m (give before (object_events c o (subject_at p) (verb_at p) early rest))
     object_good (iri_object i) c m p before early rest h g = iri_good i c m c.scope before early (λ j. quad_at c p (resource (named j))) c (λ j. After p) rest h.iri g
     object_good (blank_object (label l)) c m p before early rest h g = one LabelNode l before itself early _ h.label.0 h.label.1 g
@@ -202,23 +214,27 @@ module _ (form : DocForm) where
     object_good (list_object ps) c m p before early rest h g = list_object_good ps c m p before early rest h g
     object_good (literal_object x) c m p before early rest h g = literal_good x c m p before early rest h g
 
-    collection_object_good : (os : Collection) (c : Setting) (m : Mode) (p : Place) (before early : Option Quad) (rest : List Event) → TakesObject c m p before early (object_leaf (collection_object os)) →
+    collection_object_good : (os : Collection) (c : Setting) (m : Mode) (p : Place) (before early : Option Quad) (rest : List Event) →
+        TakesObject c m p before early (object_leaf (collection_object os)) →
         Good c (After p) rest → Good c m (give before (collection_events c os early (object_quad c (subject_at p) (verb_at p) (collection_object os)) rest))
     collection_object_good (collection l os r) c m p before early rest h g = one OpenParen l before itself early None h.list.0 h.list.1 (items_good os c (At p) r rest g)
 
-    list_object_good : (ps : BlankNodePropertyList) (c : Setting) (m : Mode) (p : Place) (before early : Option Quad) (rest : List Event) → TakesObject c m p before early (object_leaf (list_object ps)) →
+    list_object_good : (ps : BlankNodePropertyList) (c : Setting) (m : Mode) (p : Place) (before early : Option Quad) (rest : List Event) →
+        TakesObject c m p before early (object_leaf (list_object ps)) →
         Good c (After p) rest → Good c m (give before (list_events c ps early (object_quad c (subject_at p) (verb_at p) (list_object ps)) rest))
     list_object_good (property_list l ps r) c m p before early rest h g =
         one OpenBracket l before itself early _ h.box.0 h.box.1
         (predicates_good ps c (Box l.at.offset (At p)) (node (anon_at l)) (Boxed (At p)) CloseBracket r c (After p) rest (box_verb c l.at.offset (At p)) record { after = λ v. refl; semi = refl } g)
 
-    items_good : (os : Items) (c : Setting) (u : Up) (r : Leaf) (rest : List Event) → Good c (list_closed u (Some (items_of os))) rest → Good c (Paren u) (give (quad_up c u (items_of os)) (items_events c os r rest))
+    items_good : (os : Items) (c : Setting) (u : Up) (r : Leaf) (rest : List Event) → Good c (list_closed u (Some (items_of os))) rest →
+        Good c (Paren u) (give (quad_up c u (items_of os)) (items_events c os r rest))
     items_good no_items c u r rest g = one CloseParen r (quad_up c u nil) itself None None refl refl g
     items_good (item o os) c u r rest g =
         let l = object_leaf o in
         object_good o c (Paren u) (InCells l.at.offset l.at.offset u) (quad_up c u (Blank (cell_at l))) None _ (paren_takes c u l) (rest_good os c l.at.offset l.at.offset u r rest g)
 
-    rest_good : (os : Items) (c : Setting) (f n : ℕ) (u : Up) (r : Leaf) (rest : List Event) → Good c (list_closed u (cell f)) rest → Good c (After (InCells f n u)) (rest_events c os (Cell n) r rest)
+    rest_good : (os : Items) (c : Setting) (f n : ℕ) (u : Up) (r : Leaf) (rest : List Event) → Good c (list_closed u (cell f)) rest →
+        Good c (After (InCells f n u)) (rest_events c os (Cell n) r rest)
     rest_good no_items c f n u r rest g = one CloseParen r None itself None (rest_quad c (Cell n) nil) refl refl g
     rest_good (item o os) c f n u r rest g =
         let l = object_leaf o in
@@ -229,24 +245,28 @@ module _ (form : DocForm) where
     predicates_good (predicate_objects v os ms) c m s a k l c' m' rest h e g =
         verb_good v c m s a _ h (objects_good os c s (verb_of c.scope v) a _ (more_good ms c s (verb_of c.scope v) a k l c' m' rest e g))
 
-    objects_good : (os : ObjectList) (c : Setting) (s : Option term.Subject) (v : Option (List ℕ)) (a : Around) (rest : List Event) → Good c (After (Listed s v a)) rest →
+    objects_good : (os : ObjectList) (c : Setting) (s : Option term.Subject) (v : Option (List ℕ)) (a : Around) (rest : List Event) →
+        Good c (After (Listed s v a)) rest →
         Good c (Want (Listed s v a)) (objects_events c os s v rest)
     objects_good (objects o os) c s v a rest g = object_good o c (Want (Listed s v a)) (Listed s v a) None None _ (want_takes c (Listed s v a) (object_leaf o)) (commas_good os c s v a rest g)
 
-    commas_good : (os : Commas) (c : Setting) (s : Option term.Subject) (v : Option (List ℕ)) (a : Around) (rest : List Event) → Good c (After (Listed s v a)) rest →
+    commas_good : (os : Commas) (c : Setting) (s : Option term.Subject) (v : Option (List ℕ)) (a : Around) (rest : List Event) →
+        Good c (After (Listed s v a)) rest →
         Good c (After (Listed s v a)) (commas_events c os s v rest)
     commas_good no_commas c s v a rest g = g
     commas_good (comma l o os) c s v a rest g =
         alone Comma l refl refl (object_good o c (Want (Listed s v a)) (Listed s v a) None None _ (want_takes c (Listed s v a) (object_leaf o)) (commas_good os c s v a rest g))
 
-    more_good : (ms : More) (c : Setting) (s : Option term.Subject) (v : Option (List ℕ)) (a : Around) (k : Kind) (l : Leaf) (c' : Setting) (m' : Mode) (rest : List Event) → Ends c s a k l c' m' → Good c' m' rest →
+    more_good : (ms : More) (c : Setting) (s : Option term.Subject) (v : Option (List ℕ)) (a : Around) (k : Kind) (l : Leaf) (c' : Setting) (m' : Mode) (rest : List Event) →
+        Ends c s a k l c' m' → Good c' m' rest →
         Good c (After (Listed s v a)) (more_events c ms s (take k l rest))
     more_good no_more c s v a k l c' m' rest e g = alone k l refl (e.after v) g
     more_good (semicolon d ms) c s v a k l c' m' rest e g = alone Semicolon d refl refl (semi_good ms c s a k l c' m' rest e g)
     more_good (semicolon_objects d w os ms) c s v a k l c' m' rest e g =
         alone Semicolon d refl refl (verb_good w c (Semi s a) s a _ (semi_verb c s a) (objects_good os c s (verb_of c.scope w) a _ (more_good ms c s (verb_of c.scope w) a k l c' m' rest e g)))
 
-    semi_good : (ms : More) (c : Setting) (s : Option term.Subject) (a : Around) (k : Kind) (l : Leaf) (c' : Setting) (m' : Mode) (rest : List Event) → Ends c s a k l c' m' → Good c' m' rest →
+    semi_good : (ms : More) (c : Setting) (s : Option term.Subject) (a : Around) (k : Kind) (l : Leaf) (c' : Setting) (m' : Mode) (rest : List Event) →
+        Ends c s a k l c' m' → Good c' m' rest →
         Good c (Semi s a) (more_events c ms s (take k l rest))
     semi_good no_more c s a k l c' m' rest e g = alone k l refl e.semi g
     semi_good (semicolon d ms) c s a k l c' m' rest e g = alone Semicolon d refl refl (semi_good ms c s a k l c' m' rest e g)
@@ -270,21 +290,25 @@ module _ (form : DocForm) where
   box_then_verb : (c : Setting) (s : Option term.Subject) (v : Level) → TakesVerb c (AfterBox s v) s (Statement v)
   box_then_verb c s v = record { iri = λ l. record { waits = (refl, refl, refl); ref = refl; ln = refl; ns = refl }; type = λ l. (refl, refl) }
 
-  maybe_good : (ps : Option PredicateObjectList) (c : Setting) (s : Option term.Subject) (v : Level) (k : Kind) (l : Leaf) (c' : Setting) (m' : Mode) (rest : List Event) → EndsTriples c v k l c' m' → Good c' m' rest →
+  maybe_good : (ps : Option PredicateObjectList) (c : Setting) (s : Option term.Subject) (v : Level) (k : Kind) (l : Leaf) (c' : Setting) (m' : Mode) (rest : List Event) →
+      EndsTriples c v k l c' m' → Good c' m' rest →
       Good c (AfterBox s v) (maybe_events c s ps (take k l rest))
   maybe_good None c s v k l c' m' rest e g = alone k l refl (e.box s) g
   maybe_good (Some ps) c s v k l c' m' rest e g = predicates_good ps c (AfterBox s v) s (Statement v) k l c' m' rest (box_then_verb c s v) (e.list s) g
 
-  list_good : (p : BlankNodePropertyList) (c0 : Setting) (m : Mode) (c : Setting) (v : Level) (rest : List Event) → TakesSubject c0 m c v → Good c (AfterBox (Some (list_of p)) v) rest → Good c0 m (list_events c p None None rest)
+  list_good : (p : BlankNodePropertyList) (c0 : Setting) (m : Mode) (c : Setting) (v : Level) (rest : List Event) → TakesSubject c0 m c v →
+      Good c (AfterBox (Some (list_of p)) v) rest → Good c0 m (list_events c p None None rest)
   list_good (property_list l ps r) c0 m c v rest h g =
       alone OpenBracket l (h.box l).0 (h.box l).1
       (predicates_good ps c (Box l.at.offset (Subject v)) (node (anon_at l)) (Boxed (Subject v)) CloseBracket r c (AfterBox (node (anon_at l)) v) rest (box_verb c l.at.offset (Subject v)) record { after = λ x. refl; semi = refl } g)
 
-  collection_good : (x : Collection) (c0 : Setting) (m : Mode) (c : Setting) (v : Level) (rest : List Event) → TakesSubject c0 m c v → Good c (WantVerb (Some (collection_of x)) (Statement v)) rest →
+  collection_good : (x : Collection) (c0 : Setting) (m : Mode) (c : Setting) (v : Level) (rest : List Event) → TakesSubject c0 m c v →
+      Good c (WantVerb (Some (collection_of x)) (Statement v)) rest →
       Good c0 m (collection_events c x None None rest)
   collection_good (collection l os r) c0 m c v rest h g = alone OpenParen l (h.list l).0 (h.list l).1 (items_good os c (Subject v) r rest g)
 
-  blank_good : (b : BlankNode) (c0 : Setting) (m : Mode) (c : Setting) (v : Level) (rest : List Event) → TakesSubject c0 m c v → Good c (after_subject form v (node (blank_of b))) rest →
+  blank_good : (b : BlankNode) (c0 : Setting) (m : Mode) (c : Setting) (v : Level) (rest : List Event) → TakesSubject c0 m c v →
+      Good c (after_subject form v (node (blank_of b))) rest →
       Good c0 m (blank_object_events b None None rest)
   blank_good (label l) c0 m c v rest h g = alone LabelNode l (h.label l).0 (h.label l).1 g
   blank_good (anon l r) c0 m c v rest h g = alone OpenBracket l (h.box l).0 (h.box l).1 (alone CloseBracket r refl refl g)
@@ -296,7 +320,8 @@ subject_verb Turtle Top c s = want_verb Turtle c s (Statement Top)
 subject_verb TriG Top c s = label_verb TriG c s
 
 module _ (form : DocForm) where
-  triples_good : (t : Triples) (c0 : Setting) (m : Mode) (c : Setting) (v : Level) (k : Kind) (l : Leaf) (c' : Setting) (m' : Mode) (rest : List Event) → TakesSubject form c0 m c v → EndsTriples form c v k l c' m' →
+  triples_good : (t : Triples) (c0 : Setting) (m : Mode) (c : Setting) (v : Level) (k : Kind) (l : Leaf) (c' : Setting) (m' : Mode) (rest : List Event) →
+      TakesSubject form c0 m c v → EndsTriples form c v k l c' m' →
       Good form c' m' rest → Good form c0 m (triples_events c t (take k l rest))
   triples_good (subject_triples (iri_subject i) ps) c0 m c v k l c' m' rest h e g =
       let s = named (iri_in c.scope i) in
@@ -335,31 +360,37 @@ module _ (form : DocForm) where
   brace_ends : (c : Setting) (l : Leaf) → EndsTriples form c InBlock CloseBrace l (in_default c.scope) Start
   brace_ends c l = record { list = λ s. record { after = λ v. refl; semi = refl }; box = λ s. refl }
 
-  block_good : (b : TriplesBlock) (c : Setting) (r : Leaf) (rest : List Event) → Good form (in_default c.scope) Start rest → Good form c Inside (block_events c b (take CloseBrace r rest))
+  block_good : (b : TriplesBlock) (c : Setting) (r : Leaf) (rest : List Event) → Good form (in_default c.scope) Start rest →
+      Good form c Inside (block_events c b (take CloseBrace r rest))
   block_good (last t) c r rest g = triples_good t c Inside c InBlock CloseBrace r (in_default c.scope) Start rest (inside_takes c) (brace_ends c r) g
   block_good (last_dot t d) c r rest g = triples_good t c Inside c InBlock Dot d c Inside _ (inside_takes c) (dot_ends c d) (alone form CloseBrace r refl refl g)
   block_good (dot t d b) c r rest g = triples_good t c Inside c InBlock Dot d c Inside _ (inside_takes c) (dot_ends c d) (block_good b c r rest g)
 
-  maybe_block_good : (b : Option TriplesBlock) (c : Setting) (r : Leaf) (rest : List Event) → Good form (in_default c.scope) Start rest → Good form c Inside (maybe_block_events c b (take CloseBrace r rest))
+  maybe_block_good : (b : Option TriplesBlock) (c : Setting) (r : Leaf) (rest : List Event) → Good form (in_default c.scope) Start rest →
+      Good form c Inside (maybe_block_events c b (take CloseBrace r rest))
   maybe_block_good None c r rest g = alone form CloseBrace r refl refl g
   maybe_block_good (Some b) c r rest g = block_good b c r rest g
 
-  wrapped_good : (w : WrappedGraph) (c0 : Setting) (m : Mode) (c : Setting) (rest : List Event) → ((l : Leaf) → (waiting c0 m OpenBrace l ≡ None) × (step form c0 m OpenBrace l ≡ goes c Inside)) →
+  wrapped_good : (w : WrappedGraph) (c0 : Setting) (m : Mode) (c : Setting) (rest : List Event) →
+      ((l : Leaf) → (waiting c0 m OpenBrace l ≡ None) × (step form c0 m OpenBrace l ≡ goes c Inside)) →
       Good form (in_default c.scope) Start rest → Good form c0 m (wrapped_events c w rest)
   wrapped_good (wrapped l b r) c0 m c rest h g = alone form OpenBrace l (h l).0 (h l).1 (maybe_block_good b c r rest g)
 
 -- a label that begins a block
-label_good : (x : LabelOrSubject) (c : Setting) (rest : List Event) → Good TriG (in_default c.scope) (AfterLabel (label_of c.scope x)) rest → Good TriG c Start (label_events c.scope x rest)
+label_good : (x : LabelOrSubject) (c : Setting) (rest : List Event) → Good TriG (in_default c.scope) (AfterLabel (label_of c.scope x)) rest →
+    Good TriG c Start (label_events c.scope x rest)
 label_good (iri_label i) c rest g = iri_good TriG i c Start c.scope None None (λ j. None) (in_default c.scope) (λ j. AfterLabel (named j)) rest ((start_takes TriG c).iri (iri_leaf i)) g
 label_good (blank_label b) c rest g = blank_good TriG b c Start (in_default c.scope) Top rest (start_takes TriG c) g
 
 -- a label behind GRAPH
-graph_good : (x : LabelOrSubject) (c : Setting) (rest : List Event) → Good TriG c (WantBrace (label_of c.scope x)) rest → Good TriG c GraphWord (label_events c.scope x rest)
+graph_good : (x : LabelOrSubject) (c : Setting) (rest : List Event) → Good TriG c (WantBrace (label_of c.scope x)) rest →
+    Good TriG c GraphWord (label_events c.scope x rest)
 graph_good (iri_label i) c rest g = iri_good TriG i c GraphWord c.scope None None (λ j. None) c (λ j. WantBrace (named j)) rest record { waits = (refl, refl, refl); ref = refl; ln = refl; ns = refl } g
 graph_good (blank_label (label l)) c rest g = alone TriG LabelNode l refl refl g
 graph_good (blank_label (anon l r)) c rest g = alone TriG OpenBracket l refl refl (alone TriG CloseBracket r refl refl g)
 
-body_good : (form : DocForm) (b : Body form) (c : Setting) (rest : List Event) → Good form (in_default c.scope) Start rest → Good form c Start (body_events form c.scope b rest)
+body_good : (form : DocForm) (b : Body form) (c : Setting) (rest : List Event) → Good form (in_default c.scope) Start rest →
+    Good form c Start (body_events form c.scope b rest)
 body_good Turtle b c rest g = triples_good Turtle b.triples c Start (in_default c.scope) Top Dot b.dot (in_default c.scope) Start rest (start_takes Turtle c) (top_ends Turtle (in_default c.scope) b.dot) g
 body_good TriG (triples_or_graph (named_graph x w)) c rest g =
     label_good x c _ (wrapped_good TriG w (in_default c.scope) (AfterLabel (label_of c.scope x)) (in_graph c.scope (label_of c.scope x)) rest (λ l. (refl, refl)) g)

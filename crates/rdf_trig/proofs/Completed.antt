@@ -89,7 +89,8 @@ record Whole (strict : Bool) (form : DocForm) (start : InForce) (ts : List Token
   told : tokens (document_events start tree) ≡ ts
   passing : Passing strict (document_events start tree)
 
-whole : (strict : Bool) (form : DocForm) (start : InForce) (ts : List Token) (s : Stand) → reach strict form (in_default start) Start ts ≡ Some s → Whole strict form start (ts ++ close s.mode)
+whole : (strict : Bool) (form : DocForm) (start : InForce) (ts : List Token) (s : Stand) → reach strict form (in_default start) Start ts ≡ Some s →
+    Whole strict form start (ts ++ close s.mode)
 whole strict form start ts s e =
     let a = front strict form ts (close s.mode) (in_default start) Start s (closes strict form s.mode s.setting) e in
     let f = read_found form (ts ++ close s.mode) (in_default start) a.events a.runs in

@@ -153,7 +153,8 @@ module _ (strict : Bool) (form : DocForm) where
   passing_back None es b = b
   passing_back (Some q) es b = b
 
-  takes : (k : Kind) (l : Leaf) (u : Use) (early now : Option Quad) {c : Setting} {m : Mode} {c' : Setting} {m' : Mode} {ts : List Token} → passes strict u ≡ true → step form c m k l ≡ Go u early now c' m' → Accepts c' m' ts →
+  takes : (k : Kind) (l : Leaf) (u : Use) (early now : Option Quad) {c : Setting} {m : Mode} {c' : Setting} {m' : Mode} {ts : List Token} →
+      passes strict u ≡ true → step form c m k l ≡ Go u early now c' m' → Accepts c' m' ts →
       Accepts c m (token k l ∷ ts)
   takes k l u early now {c} {m} {c'} {m'} {ts} p s a = record {
     events = give (waiting c m k l) (Took (token k l) u ∷ give early (give now a.events));
@@ -161,10 +162,12 @@ module _ (strict : Bool) (form : DocForm) where
     bound = passing_give (waiting c m k l) _ (p, passing_give early _ (passing_give now _ a.bound));
   }
 
-  plain : (k : Kind) (l : Leaf) {c : Setting} {m : Mode} {c' : Setting} {m' : Mode} {ts : List Token} → step form c m k l ≡ goes c' m' → Accepts c' m' ts → Accepts c m (token k l ∷ ts)
+  plain : (k : Kind) (l : Leaf) {c : Setting} {m : Mode} {c' : Setting} {m' : Mode} {ts : List Token} → step form c m k l ≡ goes c' m' → Accepts c' m' ts →
+      Accepts c m (token k l ∷ ts)
   plain k l s a = takes k l itself None None (itself_passes strict) s a
 
-  named_by : (early now : Option Quad) {c : Setting} {m : Mode} {c' : Setting} {m' : Mode} {ts : List Token} → step form c m IriRef any_iri ≡ Go (stands (reference_in c.scope any_iri)) early now c' m' → Accepts c' m' ts →
+  named_by : (early now : Option Quad) {c : Setting} {m : Mode} {c' : Setting} {m' : Mode} {ts : List Token} →
+      step form c m IriRef any_iri ≡ Go (stands (reference_in c.scope any_iri)) early now c' m' → Accepts c' m' ts →
       Accepts c m (iri ∷ ts)
   named_by early now {c} s a = takes IriRef any_iri (stands (reference_in c.scope any_iri)) early now (any_iri_passes strict c.scope) s a
 
@@ -229,7 +232,8 @@ module _ (strict : Bool) (form : DocForm) where
   }
 
 -- behind a subject, in both forms
-subject_closes : (strict : Bool) (form : DocForm) (v : Level) (c : Setting) (s : Option term.Subject) → Accepts strict form c (after_subject form v s) (close_verb v)
+subject_closes : (strict : Bool) (form : DocForm) (v : Level) (c : Setting) (s : Option term.Subject) →
+    Accepts strict form c (after_subject form v s) (close_verb v)
 subject_closes strict form InBlock c s = verb_closes strict form InBlock c s
 subject_closes strict Turtle Top c s = verb_closes strict Turtle Top c s
 subject_closes strict TriG Top c s = label_closes strict TriG c s

@@ -67,7 +67,8 @@ kept_all (Some a) (Some b) qs = refl
 module _ (form : DocForm) where
   on_due : (t u : Token) (ts us : List Token) (w : Option Quad) (r : Reply) →
       ((c : Setting) (m : Mode) (held : List Quad) (es : List Event) → run form c m ((u ∷ ts) ++ us) ≡ Some es → emits form c m held (u ∷ ts) ≡ held ++ due (suc (length ts)) es) →
-      (es : List Event) → fronted w (go_on t r (λ c m. run form c m ((u ∷ ts) ++ us))) ≡ Some es → on_emits w r (λ c m held. emits form c m held (u ∷ ts)) ≡ due (suc (suc (length ts))) es
+      (es : List Event) → fronted w (go_on t r (λ c m. run form c m ((u ∷ ts) ++ us))) ≡ Some es →
+      on_emits w r (λ c m held. emits form c m held (u ∷ ts)) ≡ due (suc (suc (length ts))) es
   on_due t u ts us w No ih es e = absurd (let z : None ≡ Some es = e in cc)
   on_due t u ts us w (Go v early now c m) ih es e =
       let x = unput w t v early now _ es e in
@@ -79,12 +80,14 @@ module _ (form : DocForm) where
   on_due_last t us w No es e = absurd (let z : None ≡ Some es = e in cc)
   on_due_last t us w (Go u early now c m) es e = let x = unput w t u early now _ es e in sym (ap (due (suc zero)) x.2 ∙ due_give w zero _)
 
-  emits_due : (t : Token) (ts us : List Token) (c : Setting) (m : Mode) (held : List Quad) (es : List Event) → run form c m ((t ∷ ts) ++ us) ≡ Some es → emits form c m held (t ∷ ts) ≡ held ++ due (suc (length ts)) es
+  emits_due : (t : Token) (ts us : List Token) (c : Setting) (m : Mode) (held : List Quad) (es : List Event) → run form c m ((t ∷ ts) ++ us) ≡ Some es →
+      emits form c m held (t ∷ ts) ≡ held ++ due (suc (length ts)) es
   emits_due t [] us c m held es e = ap (λ qs. held ++ qs) (on_due_last t us (waiting c m t.kind (leaf_of t)) (step form c m t.kind (leaf_of t)) es e)
   emits_due t (u ∷ ts) us c m held es e =
       ap (λ qs. held ++ qs) (on_due t u ts us (waiting c m t.kind (leaf_of t)) (step form c m t.kind (leaf_of t)) (λ c' m' held' fs h. emits_due u ts us c' m' held' fs h) es e)
 
   -- in each tree that begins with the tokens
-  pub lag : (ts us : List Token) (start : InForce) (d : Document form) → tokens (document_events start d) ≡ ts ++ us → emits form (in_default start) Start [] ts ≡ due (length ts) (document_events start d)
+  pub lag : (ts us : List Token) (start : InForce) (d : Document form) → tokens (document_events start d) ≡ ts ++ us →
+      emits form (in_default start) Start [] ts ≡ due (length ts) (document_events start d)
   lag [] us start d e = refl
   lag (t ∷ ts) us start d e = emits_due t ts us (in_default start) Start [] (document_events start d) (run_tree true form d start ((t ∷ ts) ++ us) e)

@@ -67,10 +67,12 @@ tag_one (prefix_tag l) = refl
 abbrev Behind : ℕ → ℕ → Option Quad → Option Quad → List Event → List Event → Type 0
 Behind n j early q es rest = marked n es ≡ marked_at (n + 1) early ++ (marked_at j q ++ marked j rest)
 
-one_token : (n j : ℕ) (early q : Option Quad) (rest : List Event) → j ≡ n + 1 → marked (n + 1) (give early (give q rest)) ≡ marked_at (n + 1) early ++ (marked_at j q ++ marked j rest)
+one_token : (n j : ℕ) (early q : Option Quad) (rest : List Event) → j ≡ n + 1 →
+    marked (n + 1) (give early (give q rest)) ≡ marked_at (n + 1) early ++ (marked_at j q ++ marked j rest)
 one_token n j early q rest e = marked_both early q (n + 1) rest ∙ ap (λ k. marked_at (n + 1) early ++ (marked_at k q ++ marked k rest)) (sym e)
 
-literal_marks : (x : Literal) (s : InForce) (n j : ℕ) (early q : Option Quad) (rest : List Event) → j ≡ n + length (literal_tokens x) → Behind n j early q (literal_events s x early q rest) rest
+literal_marks : (x : Literal) (s : InForce) (n j : ℕ) (early q : Option Quad) (rest : List Event) → j ≡ n + length (literal_tokens x) →
+    Behind n j early q (literal_events s x early q rest) rest
 literal_marks (rdf (plain w)) s n j early q rest e = string_marks w n (give early (give q rest)) ∙ one_token n j early q rest (e ∙ ap (λ k. n + k) (string_one w))
 literal_marks (rdf (tagged w t)) s n j early q rest e =
     let size : n + 1 + 1 ≡ j = omega (arith, e, length-append (string_tokens w) (tag_tokens t), string_one w, tag_one t) in
@@ -100,7 +102,8 @@ abbrev ObjectMarks : Setting → ℕ → ℕ → Option term.Subject → Option 
 ObjectMarks c n j s p early o rest = marked n (object_events c o s p early rest) ≡ marked_at (n + 1) early ++ (own_quad c n s p o ++ (inner_quads c n o ++ marked j rest))
 
 mutual
-  object_marks : (o : Object) (c : Setting) (n j : ℕ) (s : Option term.Subject) (p : Option (List ℕ)) (early : Option Quad) (rest : List Event) → j ≡ n + length (object_tokens o) → ObjectMarks c n j s p early o rest
+  object_marks : (o : Object) (c : Setting) (n j : ℕ) (s : Option term.Subject) (p : Option (List ℕ)) (early : Option Quad) (rest : List Event) →
+      j ≡ n + length (object_tokens o) → ObjectMarks c n j s p early o rest
   object_marks (iri_object i) c n j s p early rest e =
       let q = object_quad c s p (iri_object i) in
       iri_marks i c.scope n (give early (give q rest)) ∙ marked_both early q (n + 1) rest
@@ -118,7 +121,8 @@ mutual
       marked_both early q (n + 1) (items_events c os r rest)
       ∙ ap (λ x. marked_at (n + 1) early ++ (marked_at (n + 1) q ++ x)) (items_marks os c (n + 1) j r rest (omega (arith, e, length-append (items_tokens os) (token CloseParen r ∷ []))))
 
-  items_marks : (os : Items) (c : Setting) (n j : ℕ) (r : Leaf) (rest : List Event) → j ≡ n + length (items_tokens os) + 1 → marked n (items_events c os r rest) ≡ items_quads c n os ++ marked j rest
+  items_marks : (os : Items) (c : Setting) (n j : ℕ) (r : Leaf) (rest : List Event) → j ≡ n + length (items_tokens os) + 1 →
+      marked n (items_events c os r rest) ≡ items_quads c n os ++ marked j rest
   items_marks no_items c n j r rest e = moved [] (n + 1) j rest (omega (arith, e))
   items_marks (item o os) c n j r rest e =
       let i = n + length (object_tokens o) in
@@ -155,7 +159,8 @@ mutual
       (more_marks m c i j s rest (omega (arith, e, verb_one v, length-append (verb_tokens v ++ objects_tokens os) (more_tokens m), length-append (verb_tokens v) (objects_tokens os))))
       ∙ sym (append_assoc (objects_quads c (n + 1) s (verb_of c.scope v) os) (more_quads c i s m) (marked j rest))
 
-  more_marks : (m : More) (c : Setting) (n j : ℕ) (s : Option term.Subject) (rest : List Event) → j ≡ n + length (more_tokens m) → marked n (more_events c m s rest) ≡ more_quads c n s m ++ marked j rest
+  more_marks : (m : More) (c : Setting) (n j : ℕ) (s : Option term.Subject) (rest : List Event) → j ≡ n + length (more_tokens m) →
+      marked n (more_events c m s rest) ≡ more_quads c n s m ++ marked j rest
   more_marks no_more c n j s rest e = moved [] n j rest (omega (arith, e))
   more_marks (semicolon l m) c n j s rest e = more_marks m c (n + 1) j s rest (omega (arith, e))
   more_marks (semicolon_objects l v os m) c n j s rest e =
@@ -168,7 +173,8 @@ mutual
       (more_marks m c i j s rest (omega (arith, e, verb_one v, length-append (verb_tokens v ++ objects_tokens os) (more_tokens m), length-append (verb_tokens v) (objects_tokens os))))
       ∙ sym (append_assoc (objects_quads c (n + 2) s (verb_of c.scope v) os) (more_quads c i s m) (marked j rest))
 
-  objects_marks : (os : ObjectList) (c : Setting) (n j : ℕ) (s : Option term.Subject) (p : Option (List ℕ)) (rest : List Event) → j ≡ n + length (objects_tokens os) →
+  objects_marks : (os : ObjectList) (c : Setting) (n j : ℕ) (s : Option term.Subject) (p : Option (List ℕ)) (rest : List Event) →
+      j ≡ n + length (objects_tokens os) →
       marked n (objects_events c os s p rest) ≡ objects_quads c n s p os ++ marked j rest
   objects_marks (objects o os) c n j s p rest e =
       let i = n + length (object_tokens o) in
@@ -185,17 +191,20 @@ mutual
       ∙ ap (λ x. own_quad c (n + 1) s p o ++ (inner_quads c (n + 1) o ++ x)) (commas_marks os c i j s p rest (omega (arith, e, length-append (object_tokens o) (commas_tokens os))))
       ∙ simp append_assoc
 
-maybe_marks : (ps : Option PredicateObjectList) (c : Setting) (n j : ℕ) (s : Option term.Subject) (rest : List Event) → j ≡ n + length (maybe_tokens predicates_tokens ps) →
+maybe_marks : (ps : Option PredicateObjectList) (c : Setting) (n j : ℕ) (s : Option term.Subject) (rest : List Event) →
+    j ≡ n + length (maybe_tokens predicates_tokens ps) →
     marked n (maybe_events c s ps rest) ≡ maybe_quads c n s ps ++ marked j rest
 maybe_marks None c n j s rest e = moved [] n j rest (omega (arith, e))
 maybe_marks (Some ps) c n j s rest e = predicates_marks ps c n j s rest e
 
-subject_marks : (x : Subject) (c : Setting) (n j : ℕ) (rest : List Event) → j ≡ n + length (subject_tokens x) → marked n (subject_events c x rest) ≡ subject_quads c n x ++ marked j rest
+subject_marks : (x : Subject) (c : Setting) (n j : ℕ) (rest : List Event) → j ≡ n + length (subject_tokens x) →
+    marked n (subject_events c x rest) ≡ subject_quads c n x ++ marked j rest
 subject_marks (iri_subject i) c n j rest e = iri_marks i c.scope n rest ∙ moved [] (n + 1) j rest (omega (arith, e, iri_one i))
 subject_marks (blank_subject b) c n j rest e = blank_marks b n j None None rest e
 subject_marks (collection_subject x) c n j rest e = collection_marks x c n j None None rest e
 
-triples_marks : (t : Triples) (c : Setting) (n j : ℕ) (rest : List Event) → j ≡ n + length (triples_tokens t) → marked n (triples_events c t rest) ≡ triples_quads c n t ++ marked j rest
+triples_marks : (t : Triples) (c : Setting) (n j : ℕ) (rest : List Event) → j ≡ n + length (triples_tokens t) →
+    marked n (triples_events c t rest) ≡ triples_quads c n t ++ marked j rest
 triples_marks (subject_triples x ps) c n j rest e =
     let i = n + length (subject_tokens x) in
     let s = subject_of c.scope x in
@@ -209,7 +218,8 @@ triples_marks (list_triples x ps) c n j rest e =
     ∙ ap (λ y. list_quads c n x ++ y) (maybe_marks ps c i j s rest (omega (arith, e, length-append (list_tokens x) (maybe_tokens predicates_tokens ps))))
     ∙ sym (append_assoc (list_quads c n x) (maybe_quads c i s ps) (marked j rest))
 
-label_marks : (x : LabelOrSubject) (s : InForce) (n j : ℕ) (rest : List Event) → j ≡ n + length (label_tokens x) → marked n (label_events s x rest) ≡ marked j rest
+label_marks : (x : LabelOrSubject) (s : InForce) (n j : ℕ) (rest : List Event) → j ≡ n + length (label_tokens x) →
+    marked n (label_events s x rest) ≡ marked j rest
 label_marks (iri_label i) s n j rest e = iri_marks i s n rest ∙ moved [] (n + 1) j rest (omega (arith, e, iri_one i))
 label_marks (blank_label b) s n j rest e = blank_marks b n j None None rest e
 
@@ -217,7 +227,8 @@ label_marks (blank_label b) s n j rest e = blank_marks b n j None None rest e
 dotted : (qs : List Marked) (n j i : ℕ) (k : Kind) (l : Leaf) (rest : List Event) → i ≡ j + 1 → qs ++ marked j (take k l rest) ≡ qs ++ marked i rest
 dotted qs n j i k l rest e = moved qs (j + 1) i rest (sym e)
 
-block_marks : (b : TriplesBlock) (c : Setting) (n j : ℕ) (rest : List Event) → j ≡ n + length (block_tokens b) → marked n (block_events c b rest) ≡ block_quads c n b ++ marked j rest
+block_marks : (b : TriplesBlock) (c : Setting) (n j : ℕ) (rest : List Event) → j ≡ n + length (block_tokens b) →
+    marked n (block_events c b rest) ≡ block_quads c n b ++ marked j rest
 block_marks (last t) c n j rest e = triples_marks t c n j rest e
 block_marks (last_dot t d) c n j rest e =
     let i = n + length (triples_tokens t) in
@@ -228,17 +239,20 @@ block_marks (dot t d b) c n j rest e =
     ∙ ap (λ y. triples_quads c n t ++ y) (block_marks b c (i + 1) j rest (omega (arith, e, length-append (triples_tokens t ++ token Dot d ∷ []) (block_tokens b), length-append (triples_tokens t) (token Dot d ∷ []))))
     ∙ sym (append_assoc (triples_quads c n t) (block_quads c (i + 1) b) (marked j rest))
 
-maybe_block_marks : (b : Option TriplesBlock) (c : Setting) (n j : ℕ) (rest : List Event) → j ≡ n + length (maybe_tokens block_tokens b) → marked n (maybe_block_events c b rest) ≡ maybe_block c n b ++ marked j rest
+maybe_block_marks : (b : Option TriplesBlock) (c : Setting) (n j : ℕ) (rest : List Event) → j ≡ n + length (maybe_tokens block_tokens b) →
+    marked n (maybe_block_events c b rest) ≡ maybe_block c n b ++ marked j rest
 maybe_block_marks None c n j rest e = moved [] n j rest (omega (arith, e))
 maybe_block_marks (Some b) c n j rest e = block_marks b c n j rest e
 
-wrapped_marks : (w : WrappedGraph) (c : Setting) (n j : ℕ) (rest : List Event) → j ≡ n + length (wrapped_tokens w) → marked n (wrapped_events c w rest) ≡ wrapped_quads c n w ++ marked j rest
+wrapped_marks : (w : WrappedGraph) (c : Setting) (n j : ℕ) (rest : List Event) → j ≡ n + length (wrapped_tokens w) →
+    marked n (wrapped_events c w rest) ≡ wrapped_quads c n w ++ marked j rest
 wrapped_marks (wrapped l b r) c n j rest e =
     let i = n + 1 + length (maybe_tokens block_tokens b) in
     maybe_block_marks b c (n + 1) i (take CloseBrace r rest) refl
     ∙ dotted (maybe_block c (n + 1) b) n i j CloseBrace r rest (omega (arith, e, length-append (maybe_tokens block_tokens b) (token CloseBrace r ∷ [])))
 
-body_marks : (form : DocForm) (b : Body form) (s : InForce) (n j : ℕ) (rest : List Event) → j ≡ n + length (body_tokens form b) → marked n (body_events form s b rest) ≡ body_quads form s n b ++ marked j rest
+body_marks : (form : DocForm) (b : Body form) (s : InForce) (n j : ℕ) (rest : List Event) → j ≡ n + length (body_tokens form b) →
+    marked n (body_events form s b rest) ≡ body_quads form s n b ++ marked j rest
 body_marks Turtle b s n j rest e =
     let i = n + length (triples_tokens b.triples) in
     triples_marks b.triples (in_default s) n i (take Dot b.dot rest) refl
@@ -278,7 +292,8 @@ body_marks TriG (graph_word l x w) s n j rest e =
     let c = in_graph s (label_of s x) in
     label_marks x s (n + 1) i (wrapped_events c w rest) refl ∙ wrapped_marks w c i j rest (omega (arith, e, length-append (label_tokens x) (wrapped_tokens w)))
 
-directive_marks : (d : Directive) (s : InForce) (n j : ℕ) (rest : List Event) → j ≡ n + length (directive_tokens d) → marked n (directive_events s d rest) ≡ marked j rest
+directive_marks : (d : Directive) (s : InForce) (n j : ℕ) (rest : List Event) → j ≡ n + length (directive_tokens d) →
+    marked n (directive_events s d rest) ≡ marked j rest
 directive_marks (prefix_id w p i d) s n j rest e = moved [] (n + 1 + 1 + 1 + 1) j rest (omega (arith, e))
 directive_marks (base w i d) s n j rest e = moved [] (n + 1 + 1 + 1) j rest (omega (arith, e))
 directive_marks (sparql_prefix w p i) s n j rest e = moved [] (n + 1 + 1 + 1) j rest (omega (arith, e))

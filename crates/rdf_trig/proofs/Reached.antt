@@ -56,7 +56,8 @@ module _ (strict : Bool) (form : DocForm) where
       let a = ih c m p.1 in
       (give w (Took t u ∷ give early (give now a.events)), ap (λ o. fronted w (put t u early now o)) a.runs, passing_give strict form w _ (p.0, passing_give strict form early _ (passing_give strict form now _ a.bound)))
 
-  pub front : (ts us : List Token) (c : Setting) (m : Mode) (s1 : Stand) → Accepts strict form s1.setting s1.mode us → reach strict form c m ts ≡ Some s1 → Accepts strict form c m (ts ++ us)
+  pub front : (ts us : List Token) (c : Setting) (m : Mode) (s1 : Stand) → Accepts strict form s1.setting s1.mode us → reach strict form c m ts ≡ Some s1 →
+      Accepts strict form c m (ts ++ us)
   front [] us c m s1 a e =
       let h : stand c m ≡ s1 = cc in
       record { events = a.events; runs = ap (λ s. run form (Stand.setting s) (Stand.mode s) us) h ∙ a.runs; bound = a.bound }
@@ -81,12 +82,14 @@ module _ (strict : Bool) (form : DocForm) where
       let s = ih c m x.0 x.1 (passing_back strict form now _ (passing_back strict form early _ b1.1)) in
       (s.0, ap (λ f. if_true f (next c m)) b1.0 ∙ s.1)
 
-  back : (ts us : List Token) (c : Setting) (m : Mode) (es : List Event) → run form c m (ts ++ us) ≡ Some es → Passing strict es → (s : Stand) × (reach strict form c m ts ≡ Some s)
+  back : (ts us : List Token) (c : Setting) (m : Mode) (es : List Event) → run form c m (ts ++ us) ≡ Some es → Passing strict es →
+      (s : Stand) × (reach strict form c m ts ≡ Some s)
   back [] us c m es e b = (stand c m, refl)
   back (t ∷ ts) us c m es e b = reply_back t (waiting c m t.kind (leaf_of t)) (step form c m t.kind (leaf_of t)) (λ c' m'. reach strict form c' m' ts) ts us (back ts us) es e b
 
   -- the run over a tree's tokens
-  pub run_tree : (d : Document form) (start : InForce) (ts : List Token) → tokens (document_events start d) ≡ ts → run form (in_default start) Start ts ≡ Some (document_events start d)
+  pub run_tree : (d : Document form) (start : InForce) (ts : List Token) → tokens (document_events start d) ≡ ts →
+      run form (in_default start) Start ts ≡ Some (document_events start d)
   run_tree d start ts e = ap (run form (in_default start) Start) (sym e) ∙ (document_good d (in_default start)).runs
 
   -- no document has tokens that are refused
@@ -136,16 +139,20 @@ begins_shaped form start ts (d, us, e, b) = (us, document_quads start 0 d, recor
 pub shaped_begins : (form : DocForm) (start : InForce) (ts : List Token) → Shaped (trees form start) ts → Begins false form start ts
 shaped_begins form start ts v = let d = v.2 in (d.tree, v.0, document_told d.tree start ∙ sym d.tokens, any_passing (document_events start d.tree))
 
-pub reached_viable : (form : DocForm) (start : InForce) (ts : List Token) (s : Stand) → reach true form (in_default start) Start ts ≡ Some s → Viable (documents form start) ts
+pub reached_viable : (form : DocForm) (start : InForce) (ts : List Token) (s : Stand) → reach true form (in_default start) Start ts ≡ Some s →
+    Viable (documents form start) ts
 reached_viable form start ts s e = begins_viable form start ts (reached_begins true form ts start s e)
 
-pub viable_reached : (form : DocForm) (start : InForce) (ts : List Token) → Viable (documents form start) ts → (s : Stand) × (reach true form (in_default start) Start ts ≡ Some s)
+pub viable_reached : (form : DocForm) (start : InForce) (ts : List Token) → Viable (documents form start) ts →
+    (s : Stand) × (reach true form (in_default start) Start ts ≡ Some s)
 viable_reached form start ts v = begins_reached true form ts start (viable_begins form start ts v)
 
-pub reached_shaped : (form : DocForm) (start : InForce) (ts : List Token) (s : Stand) → reach false form (in_default start) Start ts ≡ Some s → Shaped (trees form start) ts
+pub reached_shaped : (form : DocForm) (start : InForce) (ts : List Token) (s : Stand) → reach false form (in_default start) Start ts ≡ Some s →
+    Shaped (trees form start) ts
 reached_shaped form start ts s e = begins_shaped form start ts (reached_begins false form ts start s e)
 
-pub shaped_reached : (form : DocForm) (start : InForce) (ts : List Token) → Shaped (trees form start) ts → (s : Stand) × (reach false form (in_default start) Start ts ≡ Some s)
+pub shaped_reached : (form : DocForm) (start : InForce) (ts : List Token) → Shaped (trees form start) ts →
+    (s : Stand) × (reach false form (in_default start) Start ts ≡ Some s)
 shaped_reached form start ts v = begins_reached false form ts start (shaped_begins form start ts v)
 
 -- one more token
@@ -156,11 +163,13 @@ abbrev pub and_on : Bool → DocForm → Option Stand → Token → Option Stand
 and_on strict form None t = None
 and_on strict form (Some s) t = step_on strict form s t
 
-snoc_true : (strict : Bool) (form : DocForm) (b : Bool) (o o' : Option Stand) (t : Token) → o ≡ and_on strict form o' t → if_true b o ≡ and_on strict form (if_true b o') t
+snoc_true : (strict : Bool) (form : DocForm) (b : Bool) (o o' : Option Stand) (t : Token) → o ≡ and_on strict form o' t →
+    if_true b o ≡ and_on strict form (if_true b o') t
 snoc_true strict form true o o' t e = e
 snoc_true strict form false o o' t e = refl
 
-pub reach-snoc : (strict : Bool) (form : DocForm) (ts : List Token) (t : Token) (c : Setting) (m : Mode) → reach strict form c m (ts ++ t ∷ []) ≡ and_on strict form (reach strict form c m ts) t
+pub reach-snoc : (strict : Bool) (form : DocForm) (ts : List Token) (t : Token) (c : Setting) (m : Mode) →
+    reach strict form c m (ts ++ t ∷ []) ≡ and_on strict form (reach strict form c m ts) t
 reach-snoc strict form [] t c m = refl
 reach-snoc strict form (u ∷ ts) t c m = by (step form c m u.kind (leaf_of u)) (λ c' m'. reach-snoc strict form ts t c' m')
   where
@@ -178,12 +187,14 @@ pub lax : (form : DocForm) (ts : List Token) (c : Setting) (m : Mode) (s : Stand
 lax form [] c m s e = e
 lax form (t ∷ ts) c m s e = by (step form c m t.kind (leaf_of t)) (λ c' m' h. lax form ts c' m' s h) e
   where
-    by : (r : Reply) → ((c' : Setting) (m' : Mode) → reach true form c' m' ts ≡ Some s → reach false form c' m' ts ≡ Some s) → on_reply true r (λ c' m'. reach true form c' m' ts) ≡ Some s →
+    by : (r : Reply) → ((c' : Setting) (m' : Mode) → reach true form c' m' ts ≡ Some s → reach false form c' m' ts ≡ Some s) →
+        on_reply true r (λ c' m'. reach true form c' m' ts) ≡ Some s →
         on_reply false r (λ c' m'. reach false form c' m' ts) ≡ Some s
     by No ih e = absurd (let z : None ≡ Some s = e in cc)
     by (Go u early now c' m') ih e = ih c' m' (lax_true (has_iri u) _ s e)
 
-not_begins : (strict : Bool) (form : DocForm) (ts : List Token) (t : Token) (start : InForce) (s : Stand) → reach strict form (in_default start) Start ts ≡ Some s → step_on strict form s t ≡ None →
+not_begins : (strict : Bool) (form : DocForm) (ts : List Token) (t : Token) (start : InForce) (s : Stand) →
+    reach strict form (in_default start) Start ts ≡ Some s → step_on strict form s t ≡ None →
     Begins strict form start (ts ++ t ∷ []) → ⊥
 not_begins strict form ts t start s e n v =
     let r = begins_reached strict form (ts ++ t ∷ []) start v in
@@ -192,22 +203,26 @@ not_begins strict form ts t start s e n v =
     let z : None ≡ Some r.0 = sym n ∙ sym b ∙ sym a ∙ r.1 in
     cc
 
-pub not_viable : (form : DocForm) (ts : List Token) (t : Token) (start : InForce) (s : Stand) → reach true form (in_default start) Start ts ≡ Some s → step_on true form s t ≡ None →
+pub not_viable : (form : DocForm) (ts : List Token) (t : Token) (start : InForce) (s : Stand) → reach true form (in_default start) Start ts ≡ Some s →
+    step_on true form s t ≡ None →
     Viable (documents form start) (ts ++ t ∷ []) → ⊥
 not_viable form ts t start s e n v = not_begins true form ts t start s e n (viable_begins form start (ts ++ t ∷ []) v)
 
-pub not_shaped : (form : DocForm) (ts : List Token) (t : Token) (start : InForce) (s : Stand) → reach false form (in_default start) Start ts ≡ Some s → step_on false form s t ≡ None →
+pub not_shaped : (form : DocForm) (ts : List Token) (t : Token) (start : InForce) (s : Stand) → reach false form (in_default start) Start ts ≡ Some s →
+    step_on false form s t ≡ None →
     Shaped (trees form start) (ts ++ t ∷ []) → ⊥
 not_shaped form ts t start s e n v = not_begins false form ts t start s e n (shaped_begins form start (ts ++ t ∷ []) v)
 
 -- A token that no state takes here begins no tree with those before it.
-pub unexpected : (form : DocForm) (start : InForce) (ts : List Token) (t : Token) (s : Stand) → reach true form (in_default start) Start ts ≡ Some s → step form s.setting s.mode t.kind (leaf_of t) ≡ No →
+pub unexpected : (form : DocForm) (start : InForce) (ts : List Token) (t : Token) (s : Stand) → reach true form (in_default start) Start ts ≡ Some s →
+    step form s.setting s.mode t.kind (leaf_of t) ≡ No →
     Viable (documents form start) ts × (Shaped (trees form start) (ts ++ t ∷ []) → ⊥)
 unexpected form start ts t s e n =
     (reached_viable form start ts s e, not_shaped form ts t start s (lax form ts (in_default start) Start s e) (ap (λ r. on_reply false r (λ c' m'. Some (stand c' m'))) n))
 
 -- A name that stands for nothing begins a tree with those before it, and no document.
-pub nameless : (form : DocForm) (start : InForce) (ts : List Token) (t : Token) (s : Stand) (u : Use) (early now : Option Quad) (c : Setting) (m : Mode) → reach true form (in_default start) Start ts ≡ Some s →
+pub nameless : (form : DocForm) (start : InForce) (ts : List Token) (t : Token) (s : Stand) (u : Use) (early now : Option Quad) (c : Setting) (m : Mode) →
+    reach true form (in_default start) Start ts ≡ Some s →
     step form s.setting s.mode t.kind (leaf_of t) ≡ Go u early now c m → has_iri u ≡ false →
     Viable (documents form start) ts × Shaped (trees form start) (ts ++ t ∷ []) × (Viable (documents form start) (ts ++ t ∷ []) → ⊥)
 nameless form start ts t s u early now c m e n h = (
@@ -218,7 +233,8 @@ nameless form start ts t s u early now c m e n h = (
 )
 
 -- A token that stands for something begins a document with those before it.
-pub goes_on : (form : DocForm) (start : InForce) (ts : List Token) (t : Token) (s : Stand) (u : Use) (early now : Option Quad) (c : Setting) (m : Mode) → reach true form (in_default start) Start ts ≡ Some s →
+pub goes_on : (form : DocForm) (start : InForce) (ts : List Token) (t : Token) (s : Stand) (u : Use) (early now : Option Quad) (c : Setting) (m : Mode) →
+    reach true form (in_default start) Start ts ≡ Some s →
     step form s.setting s.mode t.kind (leaf_of t) ≡ Go u early now c m → has_iri u ≡ true → reach true form (in_default start) Start (ts ++ t ∷ []) ≡ Some (stand c m)
 goes_on form start ts t s u early now c m e n h =
     reach-snoc true form ts t (in_default start) Start ∙ ap (λ o. and_on true form o t) e ∙ ap (λ r. on_reply true r (λ c' m'. Some (stand c' m'))) n ∙ ap (λ b. if_true b (Some (stand c m))) h

@@ -46,18 +46,21 @@ document_end {form} (with_body b rest) =
     (body_tokens form b ++ h.0, h.1, h.2, ap (λ x. body_tokens form b ++ x) h.3 ∙ sym (append_assoc (body_tokens form b) h.0 (h.1 ∷ [])))
 
 -- so tokens that are a document are complete
-pub document_complete : (form : DocForm) (start : InForce) (bytes : List ℕ) (e : Bool) (qs : List Marked) → documents form start (reading start bytes e).tokens qs → (reading start bytes e).outcome ≡ complete
+pub document_complete : (form : DocForm) (start : InForce) (bytes : List ℕ) (e : Bool) (qs : List Marked) →
+    documents form start (reading start bytes e).tokens qs → (reading start bytes e).outcome ≡ complete
 document_complete form start bytes e qs d =
     let h = document_end d.tree in
     end_complete turtle start.limits.token bytes e h.0 [] h.1 (d.tokens ∙ h.3) h.2
 
 -- The tokens of what stops are no document,
-pub stops_none : (form : DocForm) (start : InForce) (bytes : List ℕ) (e : Bool) (why : Outcome) (at : Place) (ahead : List Token) (qs : List Marked) → why ≢ complete →
+pub stops_none : (form : DocForm) (start : InForce) (bytes : List ℕ) (e : Bool) (why : Outcome) (at : Place) (ahead : List Token) (qs : List Marked) →
+    why ≢ complete →
     StopsAt form start (reading start bytes e) why at ahead → documents form start (reading start bytes e).tokens qs → ⊥
 stops_none form start bytes e why at ahead qs n s d = n (sym s.outcome ∙ document_complete form start bytes e qs d)
 
 -- and those of what is refused are none, or one of them passes a limit.
-pub refuses_none : (form : DocForm) (start : InForce) (r : Reading) (why : Refusal) (at : Place) (ahead : List Token) (qs : List Marked) → RefusesAt form start r why at ahead → documents form start r.tokens qs →
+pub refuses_none : (form : DocForm) (start : InForce) (r : Reading) (why : Refusal) (at : Place) (ahead : List Token) (qs : List Marked) →
+    RefusesAt form start r why at ahead → documents form start r.tokens qs →
     PassesNone (Passes form start) r.tokens → ⊥
 refuses_none form start r why at ahead qs x d p =
     not_both form start ahead x.token why x.because

@@ -37,7 +37,8 @@ deepens_kind OpenBracket e = (refl, refl)
 deepens_kind OpenParen e = (refl, refl)
 deepens_kind k e = absurd (let z : false ≡ true = e in cc)
 
-depth_with : (form : DocForm) (ts : List Token) (t : Token) (start : InForce) (s : Stand) → reach true form (in_default start) Start ts ≡ Some s → opens t.kind ≡ 1 → closes t.kind ≡ 0 →
+depth_with : (form : DocForm) (ts : List Token) (t : Token) (start : InForce) (s : Stand) → reach true form (in_default start) Start ts ≡ Some s →
+    opens t.kind ≡ 1 → closes t.kind ≡ 0 →
     open_in (ts ++ t ∷ []) ≡ depth s.mode + 1
 depth_with form ts t start s e o k =
     let h : opened ts + 0 ≡ closed ts + depth s.mode = reached_depth true form ts (in_default start) Start s e in
@@ -60,14 +61,17 @@ one_more sizes (binds full (Some i)) f l = let z : true ≡ false = sym l ∙ f.
 abbrev pub place : State → Stand
 place s = stand s.setting s.mode
 
-pub reached_start : (form : DocForm) (start : InForce) (ts : List Token) (s : State) (qs : List Quad) → accept_all form (at_start start) ts ≡ ran s qs → reach true form (in_default start) Start ts ≡ Some (place s)
+pub reached_start : (form : DocForm) (start : InForce) (ts : List Token) (s : State) (qs : List Quad) → accept_all form (at_start start) ts ≡ ran s qs →
+    reach true form (in_default start) Start ts ≡ Some (place s)
 reached_start form start ts s qs e = (ran_tokens form ts (at_start start) s qs e).reached
 
-same_limits : (form : DocForm) (start : InForce) (ts : List Token) (s : Stand) → reach true form (in_default start) Start ts ≡ Some s → s.setting.scope.limits ≡ start.limits
+same_limits : (form : DocForm) (start : InForce) (ts : List Token) (s : Stand) → reach true form (in_default start) Start ts ≡ Some s →
+    s.setting.scope.limits ≡ start.limits
 same_limits form start ts s e = reached_limits true form ts (in_default start) Start s e
 
 -- An accepted token passes no limit.
-passes_not : (form : DocForm) (start : InForce) (ts : List Token) (t : Token) (s : State) (gs : List Quad) (n : State) → reach true form (in_default start) Start ts ≡ Some (place s) →
+passes_not : (form : DocForm) (start : InForce) (ts : List Token) (t : Token) (s : State) (gs : List Quad) (n : State) →
+    reach true form (in_default start) Start ts ≡ Some (place s) →
     accept form s t.kind (leaf_of t) ≡ accepts gs n → Passes form start ts t → ⊥
 passes_not form start ts t s gs n e a (u, p, by) =
     let x = accepted s.setting.scope.limits s t.kind (waiting s.setting s.mode t.kind (leaf_of t)) (step form s.setting s.mode t.kind (leaf_of t)) gs n a in
@@ -94,7 +98,8 @@ pub record Halfway (form : DocForm) (s : State) (ahead : List Token) (t : Token)
   pub before : accept_all form s ahead ≡ ran state given
   pub accepts_it : accept form state t.kind (leaf_of t) ≡ accepts quads next
 
-pub halfway : (form : DocForm) (ahead : List Token) (t : Token) (more : List Token) (s n : State) (qs : List Quad) → accept_all form s (ahead ++ t ∷ more) ≡ ran n qs → Halfway form s ahead t
+pub halfway : (form : DocForm) (ahead : List Token) (t : Token) (more : List Token) (s n : State) (qs : List Quad) →
+    accept_all form s (ahead ++ t ∷ more) ≡ ran n qs → Halfway form s ahead t
 halfway form [] t more s n qs e = by (accept form s t.kind (leaf_of t)) refl e
   where
     by : (a : Answer) → accept form s t.kind (leaf_of t) ≡ a → go a (λ x. accept_all form x more) ≡ ran n qs → Halfway form s [] t
@@ -118,7 +123,8 @@ halfway form (y ∷ ahead) t more s n qs e = by (λ m rest x. halfway form ahead
         }
 
 -- No token of a run passes a limit.
-pub passes_none : (form : DocForm) (start : InForce) (ts : List Token) (n : State) (qs : List Quad) → accept_all form (at_start start) ts ≡ ran n qs → PassesNone (Passes form start) ts
+pub passes_none : (form : DocForm) (start : InForce) (ts : List Token) (n : State) (qs : List Quad) → accept_all form (at_start start) ts ≡ ran n qs →
+    PassesNone (Passes form start) ts
 passes_none form start ts n qs e ahead behind t split p =
     let h = halfway form ahead t behind (at_start start) n qs (ap (accept_all form (at_start start)) (sym split) ∙ e) in
     passes_not form start ahead t h.state h.quads h.next (reached_start form start ahead h.state h.given h.before) h.accepts_it p
@@ -147,7 +153,8 @@ either : {T : Type 0} (b : Bool) (x y z : T) → cond b x y ≡ z → ((b ≡ tr
 either true x y z e = inl (refl, e)
 either false x y z e = inr (refl, e)
 
-use_why : (sizes : Sizes) (s : State) (k : Kind) (r : Reply) (u : Use) (gs : List Quad) (n : State) (x : Refusal) → Went r u → by_use sizes k u (accepts gs n) ≡ refuses x → Why sizes s k r x
+use_why : (sizes : Sizes) (s : State) (k : Kind) (r : Reply) (u : Use) (gs : List Quad) (n : State) (x : Refusal) → Went r u →
+    by_use sizes k u (accepts gs n) ≡ refuses x → Why sizes s k r x
 use_why sizes s k r itself gs n x w e = absurd (let z : accepts gs n ≡ refuses x = e in cc)
 use_why sizes s k r (stands None) gs n x w e = unnamed_why sizes s k r x w e
 use_why sizes s k r (stands (Some i)) gs n x w e =
@@ -199,7 +206,8 @@ use_of : (form : DocForm) (c : Setting) (m : Mode) (k : Kind) (l : Leaf) (u : Us
 use_of form c m k l u (early, now, c1, m1, e) = (subst (Facts (depth m) c.scope k l) e (step_facts form c m k l)).1
 
 -- Each token that is refused is so for its reason.
-pub refused_for : (form : DocForm) (start : InForce) (ts : List Token) (t : Token) (s : State) (x : Refusal) → reach true form (in_default start) Start ts ≡ Some (place s) →
+pub refused_for : (form : DocForm) (start : InForce) (ts : List Token) (t : Token) (s : State) (x : Refusal) →
+    reach true form (in_default start) Start ts ≡ Some (place s) →
     accept form s t.kind (leaf_of t) ≡ refuses x → RefusedFor form start ts t x
 refused_for form start ts t s x e a = by x (why s.setting.scope.limits s t.kind (waiting s.setting s.mode t.kind (leaf_of t)) (step form s.setting s.mode t.kind (leaf_of t)) x a)
   where

@@ -53,7 +53,8 @@ pub reference_baseless : (s : InForce) (l : Leaf) → UnresolvedHere s (iri_of l
 unfolding reference_in resolved
 reference_baseless s l h = cond-false _ _ _ h.0 ∙ ap (λ b. based b (iri_of l)) h.1
 
-pub reference_long : (s : InForce) (l : Leaf) → UnresolvedHere s (iri_of l) IriTooLong → (i : List ℕ) × (reference_in s l ≡ Some i) × (s.limits.iri < byte_len i)
+pub reference_long : (s : InForce) (l : Leaf) → UnresolvedHere s (iri_of l) IriTooLong →
+    (i : List ℕ) × (reference_in s l ≡ Some i) × (s.limits.iri < byte_len i)
 unfolding reference_in
 reference_long s l h = (h.0, resolves-only s.base (iri_of l) h.0 h.1, h.2)
 
@@ -66,7 +67,8 @@ pub name_unbound : (s : InForce) (l : Leaf) → NotExpanded s (prefix_of l) (loc
 unfolding name_in
 name_unbound s l h = ap (option_map (λ front. front ++ local_of l)) h
 
-pub name_long : (s : InForce) (l : Leaf) → NotExpanded s (prefix_of l) (local_of l) IriTooLong → (i : List ℕ) × (name_in s l ≡ Some i) × (s.limits.iri < byte_len i)
+pub name_long : (s : InForce) (l : Leaf) → NotExpanded s (prefix_of l) (local_of l) IriTooLong →
+    (i : List ℕ) × (name_in s l ≡ Some i) × (s.limits.iri < byte_len i)
 unfolding name_in
 name_long s l h = (h.0, ap (option_map (λ front. front ++ local_of l)) h.1.1 ∙ ap Some (sym h.1.2), h.2)
 

@@ -59,10 +59,12 @@ split (Took x v ∷ es) (y ∷ ts) t us e =
     let w : tokens es ≡ ts ++ t ∷ us = cc in
     subst (λ a. Split (Took x v ∷ es) (a ∷ ts) t) z (took_first x v (split es ts t us w))
 
-first_sense : (w : Option Quad) (t : Token) (u : Use) (early now : Option Quad) (fs es : List Event) → es ≡ give w (Took t u ∷ give early (give now fs)) → sense_at zero es ≡ Some u
+first_sense : (w : Option Quad) (t : Token) (u : Use) (early now : Option Quad) (fs es : List Event) → es ≡ give w (Took t u ∷ give early (give now fs)) →
+    sense_at zero es ≡ Some u
 first_sense w t u early now fs es e = ap (sense_at zero) e ∙ sense_give w zero (Took t u ∷ give early (give now fs))
 
-later_sense : (w : Option Quad) (t : Token) (u : Use) (early now : Option Quad) (n : ℕ) (fs es : List Event) → es ≡ give w (Took t u ∷ give early (give now fs)) → sense_at (suc n) es ≡ sense_at n fs
+later_sense : (w : Option Quad) (t : Token) (u : Use) (early now : Option Quad) (n : ℕ) (fs es : List Event) →
+    es ≡ give w (Took t u ∷ give early (give now fs)) → sense_at (suc n) es ≡ sense_at n fs
 later_sense w t u early now n fs es e =
     ap (sense_at (suc n)) e ∙ sense_give w (suc n) (Took t u ∷ give early (give now fs)) ∙ sense_give early n (give now fs) ∙ sense_give now n fs
 
@@ -82,8 +84,10 @@ sense_run strict form (y ∷ ts) t us c m es s u early now c1 m1 r e n =
     when true o e = e
     when false o e = absurd (let z : None ≡ Some s = e in cc)
 
-    by : (x : Reply) → fronted (waiting c m y.kind (leaf_of y)) (go_on y x (λ c' m'. run form c' m' (ts ++ t ∷ us))) ≡ Some es → on_reply strict x (λ c' m'. reach strict form c' m' ts) ≡ Some s →
-        ((c' : Setting) (m' : Mode) (fs : List Event) → run form c' m' (ts ++ t ∷ us) ≡ Some fs → reach strict form c' m' ts ≡ Some s → sense_at (length ts) fs ≡ Some u) → sense_at (suc (length ts)) es ≡ Some u
+    by : (x : Reply) → fronted (waiting c m y.kind (leaf_of y)) (go_on y x (λ c' m'. run form c' m' (ts ++ t ∷ us))) ≡ Some es →
+        on_reply strict x (λ c' m'. reach strict form c' m' ts) ≡ Some s →
+        ((c' : Setting) (m' : Mode) (fs : List Event) → run form c' m' (ts ++ t ∷ us) ≡ Some fs → reach strict form c' m' ts ≡ Some s → sense_at (length ts) fs ≡ Some u) →
+        sense_at (suc (length ts)) es ≡ Some u
     by No r e ih = absurd (let z : None ≡ Some s = e in cc)
     by (Go v e1 n1 c' m') r e ih =
         let x = unput (waiting c m y.kind (leaf_of y)) y v e1 n1 (run form c' m' (ts ++ t ∷ us)) es r in
@@ -108,14 +112,16 @@ placed strict form start ts t s u early now c m e n (d, us, told, b) =
     let z = same_sense strict form start ts t s u x.sense early now c m e n p in
     (record { tree = d; front = x.front; rest = x.rest; events = x.events ∙ ap (λ y. x.front ++ Took t y ∷ x.rest) z; read = x.read }, refl)
 
-pub in_tree : (form : DocForm) (start : InForce) (ts : List Token) (t : Token) (s : Stand) (u : Use) (early now : Option Quad) (c : Setting) (m : Mode) → reach true form (in_default start) Start ts ≡ Some s →
+pub in_tree : (form : DocForm) (start : InForce) (ts : List Token) (t : Token) (s : Stand) (u : Use) (early now : Option Quad) (c : Setting) (m : Mode) →
+    reach true form (in_default start) Start ts ≡ Some s →
     step form s.setting s.mode t.kind (leaf_of t) ≡ Go u early now c m → InTree form start ts t u
 in_tree form start ts t s u early now c m e n =
     let f = lax form ts (in_default start) Start s e in
     let g = reach-snoc false form ts t (in_default start) Start ∙ ap (λ o. and_on false form o t) f ∙ ap (λ r. on_reply false r (λ c' m'. Some (stand c' m'))) n in
     (placed false form start ts t s u early now c m f n (reached_begins false form (ts ++ t ∷ []) start (stand c m) g)).0
 
-pub stands_for : (form : DocForm) (start : InForce) (ts : List Token) (t : Token) (s : Stand) (u : Use) (early now : Option Quad) (c : Setting) (m : Mode) → reach true form (in_default start) Start ts ≡ Some s →
+pub stands_for : (form : DocForm) (start : InForce) (ts : List Token) (t : Token) (s : Stand) (u : Use) (early now : Option Quad) (c : Setting) (m : Mode) →
+    reach true form (in_default start) Start ts ≡ Some s →
     step form s.setting s.mode t.kind (leaf_of t) ≡ Go u early now c m → has_iri u ≡ true → StandsFor form start ts t u
 stands_for form start ts t s u early now c m e n h =
     let b = reached_begins true form (ts ++ t ∷ []) start (stand c m) (goes_on form start ts t s u early now c m e n h) in
@@ -123,7 +129,8 @@ stands_for form start ts t s u early now c m e n h =
     record { place = p.0; bound = subst (λ d. Bound (document_events start d)) (sym p.1) (passing_bound (document_events start b.0) b.3) }
 
 -- the tokens before it begin a document with it
-pub stands_viable : (form : DocForm) (start : InForce) (ts : List Token) (t : Token) (u : Use) → StandsFor form start ts t u → Viable (documents form start) (ts ++ t ∷ [])
+pub stands_viable : (form : DocForm) (start : InForce) (ts : List Token) (t : Token) (u : Use) → StandsFor form start ts t u →
+    Viable (documents form start) (ts ++ t ∷ [])
 stands_viable form start ts t u p =
     let x = p.place in
     let told : tokens (document_events start x.tree) ≡ (ts ++ t ∷ []) ++ tokens x.rest =

@@ -163,13 +163,15 @@ all_events form c (AfterBox s v) r = maybe_events c s r.0 (level_events form c v
 abbrev Found : DocForm → Setting → Mode → List Event → Type 0
 Found form c m es = (r : Rest form m) × (es ≡ all_events form c m r)
 
-pub unput : (w : Option Quad) (t : Token) (u : Use) (early now : Option Quad) (o : Option (List Event)) (es : List Event) → fronted w (put t u early now o) ≡ Some es →
+pub unput : (w : Option Quad) (t : Token) (u : Use) (early now : Option Quad) (o : Option (List Event)) (es : List Event) →
+    fronted w (put t u early now o) ≡ Some es →
     (fs : List Event) × (o ≡ Some fs) × (es ≡ give w (Took t u ∷ give early (give now fs)))
 unput w t u early now None es e = absurd (let z : None ≡ Some es = e in cc)
 unput w t u early now (Some fs) es e = (fs, refl, cc)
 
 -- what the parts of a statement at the top are in each form
-iri_body : (form : DocForm) (i : Iri) (s : InForce) (es : List Event) (r : RestSubject form Top) → es ≡ iri_events s i (behind_subject form (in_default s) Top (named (iri_in s i)) r) →
+iri_body : (form : DocForm) (i : Iri) (s : InForce) (es : List Event) (r : RestSubject form Top) →
+    es ≡ iri_events s i (behind_subject form (in_default s) Top (named (iri_in s i)) r) →
     (d : Document form) × (es ≡ document_events s d)
 iri_body Turtle i s es (ps, (d, rest)) e = (with_body record { triples = subject_triples (iri_subject i) ps; dot = d } rest, e)
 iri_body TriG i s es (inl (ps, (d, rest))) e = (with_body (triples_or_graph (label_triples (iri_label i) ps d)) rest, e)
@@ -198,7 +200,8 @@ as_subject form InBlock s c r = (r, refl)
 as_subject Turtle Top s c r = (r, refl)
 as_subject TriG Top s c r = (r, refl)
 
-as_box : (form : DocForm) (u : Up) (s : Option term.Subject) (c : Setting) (r : Rest form (box_closed u s)) → (x : RestUp form u was_box) × (all_events form c (box_closed u s) r ≡ up_events form c u was_box s x)
+as_box : (form : DocForm) (u : Up) (s : Option term.Subject) (c : Setting) (r : Rest form (box_closed u s)) →
+    (x : RestUp form u was_box) × (all_events form c (box_closed u s) r ≡ up_events form c u was_box s x)
 as_box form (Subject v) s c r = (r, refl)
 as_box form (At p) s c r = (r, refl)
 
@@ -207,7 +210,8 @@ as_node : (form : DocForm) (u : Up) (s : Option term.Subject) (c : Setting) (r :
 as_node form (Subject v) s c r = as_subject form v s c r
 as_node form (At p) s c r = (r, refl)
 
-as_list : (form : DocForm) (u : Up) (s : Option term.Subject) (c : Setting) (r : Rest form (list_closed u s)) → (x : RestUp form u was_list) × (all_events form c (list_closed u s) r ≡ up_events form c u was_list s x)
+as_list : (form : DocForm) (u : Up) (s : Option term.Subject) (c : Setting) (r : Rest form (list_closed u s)) →
+    (x : RestUp form u was_list) × (all_events form c (list_closed u s) r ≡ up_events form c u was_list s x)
 as_list form (Subject v) s c r = (r, refl)
 as_list form (At p) s c r = (r, refl)
 
@@ -216,21 +220,24 @@ more_of : Leaf → PredicateObjectList ⊎ More → More
 more_of l (inl (predicate_objects v os m)) = semicolon_objects l v os m
 more_of l (inr m) = semicolon l m
 
-more_of-events : (c : Setting) (s : Option term.Subject) (l : Leaf) (x : PredicateObjectList ⊎ More) (rest : List Event) → take Semicolon l (semi_events c s x rest) ≡ more_events c (more_of l x) s rest
+more_of-events : (c : Setting) (s : Option term.Subject) (l : Leaf) (x : PredicateObjectList ⊎ More) (rest : List Event) →
+    take Semicolon l (semi_events c s x rest) ≡ more_events c (more_of l x) s rest
 unfolding more_of
 more_of-events c s l (inl (predicate_objects v os m)) rest = refl
 more_of-events c s l (inr m) rest = refl
 
 module _ (form : DocForm) (next : Setting → Mode → Option (List Event)) (ih : (c : Setting) (m : Mode) (es : List Event) → next c m ≡ Some es → Found form c m es) where
   -- one step, from what is found behind it
-  behind_it : (k : Kind) (l : Leaf) (w : Option Quad) (u : Use) (early now : Option Quad) (c : Setting) (m : Mode) (es : List Event) → fronted w (put (token k l) u early now (next c m)) ≡ Some es →
+  behind_it : (k : Kind) (l : Leaf) (w : Option Quad) (u : Use) (early now : Option Quad) (c : Setting) (m : Mode) (es : List Event) →
+      fronted w (put (token k l) u early now (next c m)) ≡ Some es →
       (r : Rest form m) × (es ≡ give w (Took (token k l) u ∷ give early (give now (all_events form c m r))))
   behind_it k l w u early now c m es e =
       let x = unput w (token k l) u early now (next c m) es e in
       let f = ih c m x.0 x.1 in
       (f.0, x.2 ∙ ap (λ fs. give w (Took (token k l) u ∷ give early (give now fs))) f.1)
 
-  list_end_found : (c : Setting) (s : Option term.Subject) (a : Around) (k : Kind) (l : Leaf) (w : Option Quad) (es : List Event) → fronted w (go_on (token k l) (list_end c s a k l) next) ≡ Some es →
+  list_end_found : (c : Setting) (s : Option term.Subject) (a : Around) (k : Kind) (l : Leaf) (w : Option Quad) (es : List Event) →
+      fronted w (go_on (token k l) (list_end c s a k l) next) ≡ Some es →
       (r : RestAround form a) × (es ≡ give w (around_events form c a s r))
   list_end_found c s (Statement Top) Dot l w es e = let b = behind_it Dot l w itself None None c Start es e in ((l, b.0), b.1)
   list_end_found c s (Statement Top) k l w es e = absurd (let z : None ≡ Some es = e in cc)
@@ -268,7 +275,8 @@ module _ (form : DocForm) (next : Setting → Mode → Option (List Event)) (ih 
   box_found c p early w l es (inl r) e = record { obj = blank_object (anon l r.0); rest = r.1; first = refl; events = e }
   box_found c p early w l es (inr r) e = record { obj = list_object (property_list l r.0 r.1.0); rest = r.1.1; first = refl; events = e }
 
-  object_found : (c : Setting) (p : Place) (early w : Option Quad) (k : Kind) (l : Leaf) (es : List Event) → fronted w (go_on (token k l) (object_start c p early k l) next) ≡ Some es → ObjectFound c p early w l es
+  object_found : (c : Setting) (p : Place) (early w : Option Quad) (k : Kind) (l : Leaf) (es : List Event) →
+      fronted w (go_on (token k l) (object_start c p early k l) next) ≡ Some es → ObjectFound c p early w l es
   object_found c p early w IriRef l es e = let b = behind_it IriRef l w _ early _ c (After p) es e in iri_found (iri_ref l) c p early w es b.0 b.1
   object_found c p early w PnameLn l es e = let b = behind_it PnameLn l w _ early _ c (After p) es e in iri_found (prefixed (pname_ln l)) c p early w es b.0 b.1
   object_found c p early w PnameNs l es e = let b = behind_it PnameNs l w _ early _ c (After p) es e in iri_found (prefixed (pname_ns l)) c p early w es b.0 b.1
@@ -286,7 +294,8 @@ module _ (form : DocForm) (next : Setting → Mode → Option (List Event)) (ih 
       record { obj = collection_object (collection l b.0.0 b.0.1); rest = b.0.2; first = refl; events = b.1 }
   object_found c p early w k l es e = absurd (let z : None ≡ Some es = e in cc)
 
-  after_found : (c : Setting) (p : Place) (w : Option Quad) (k : Kind) (l : Leaf) (es : List Event) → fronted w (go_on (token k l) (after c p k l) next) ≡ Some es →
+  after_found : (c : Setting) (p : Place) (w : Option Quad) (k : Kind) (l : Leaf) (es : List Event) →
+      fronted w (go_on (token k l) (after c p k l) next) ≡ Some es →
       (r : RestPlace form p) × (es ≡ give w (place_events form c p r))
   after_found c (Listed s v a) w Comma l es e =
       let b = behind_it Comma l w itself None None c (Want (Listed s v a)) es e in ((comma l b.0.0 b.0.1.0, b.0.1.1, b.0.1.2), b.1)
@@ -312,7 +321,8 @@ module _ (form : DocForm) (next : Setting → Mode → Option (List Event)) (ih 
       es ≡ iri_events c.scope i (all_events form c (Want (Listed s (iri_in c.scope i) a)) r) → PredicatesFound c s a es
   predicate_found i c s a es r e = ((predicate_objects (predicate i) (objects r.0 r.1.0) r.1.1, r.1.2), e)
 
-  verb_found : (c : Setting) (s : Option term.Subject) (a : Around) (k : Kind) (l : Leaf) (es : List Event) → fronted None (go_on (token k l) (verb_start c s a k l) next) ≡ Some es → PredicatesFound c s a es
+  verb_found : (c : Setting) (s : Option term.Subject) (a : Around) (k : Kind) (l : Leaf) (es : List Event) →
+      fronted None (go_on (token k l) (verb_start c s a k l) next) ≡ Some es → PredicatesFound c s a es
   verb_found c s a IriRef l es e = let b = behind_it IriRef l None _ None None c (Want (Listed s (reference_in c.scope l) a)) es e in predicate_found (iri_ref l) c s a es b.0 b.1
   verb_found c s a PnameLn l es e = let b = behind_it PnameLn l None _ None None c (Want (Listed s (name_in c.scope l) a)) es e in predicate_found (prefixed (pname_ln l)) c s a es b.0 b.1
   verb_found c s a PnameNs l es e = let b = behind_it PnameNs l None _ None None c (Want (Listed s (name_in c.scope l) a)) es e in predicate_found (prefixed (pname_ns l)) c s a es b.0 b.1
@@ -321,7 +331,8 @@ module _ (form : DocForm) (next : Setting → Mode → Option (List Event)) (ih 
       ((predicate_objects (type_word l) (objects b.0.0 b.0.1.0) b.0.1.1, b.0.1.2), b.1)
   verb_found c s a k l es e = absurd (let z : None ≡ Some es = e in cc)
 
-  semi_found : (c : Setting) (s : Option term.Subject) (a : Around) (k : Kind) (l : Leaf) (es : List Event) → fronted None (go_on (token k l) (semi c s a k l) next) ≡ Some es → Found form c (Semi s a) es
+  semi_found : (c : Setting) (s : Option term.Subject) (a : Around) (k : Kind) (l : Leaf) (es : List Event) →
+      fronted None (go_on (token k l) (semi c s a k l) next) ≡ Some es → Found form c (Semi s a) es
   semi_found c s a Semicolon l es e =
       let b = behind_it Semicolon l None itself None None c (Semi s a) es e in
       ((inr (more_of l b.0.0), b.0.1), b.1 ∙ more_of-events c s l b.0.0 (around_events form c a s b.0.1))
@@ -331,14 +342,16 @@ module _ (form : DocForm) (next : Setting → Mode → Option (List Event)) (ih 
   semi_found c s a A l es e = let x = verb_found c s a A l es e in ((inl x.0.0, x.0.1), x.1)
   semi_found c s a k l es e = let x = list_end_found c s a k l None es e in ((inr no_more, x.0), x.1)
 
-  box_mode_found : (c : Setting) (n : ℕ) (u : Up) (k : Kind) (l : Leaf) (es : List Event) → fronted None (go_on (token k l) (box form c n u k l) next) ≡ Some es → Found form c (Box n u) es
+  box_mode_found : (c : Setting) (n : ℕ) (u : Up) (k : Kind) (l : Leaf) (es : List Event) →
+      fronted None (go_on (token k l) (box form c n u k l) next) ≡ Some es → Found form c (Box n u) es
   box_mode_found c n u CloseBracket l es e =
       let b = behind_it CloseBracket l None itself None None c (node_closed form u (node (Anon n))) es e in
       let x = as_node form u (node (Anon n)) c b.0 in
       (inl (l, x.0), b.1 ∙ ap (take CloseBracket l) x.1)
   box_mode_found c n u k l es e = let x = verb_found c (node (Anon n)) (Boxed u) k l es e in (inr x.0, x.1)
 
-  paren_found : (c : Setting) (u : Up) (k : Kind) (l : Leaf) (es : List Event) → fronted (waiting c (Paren u) k l) (go_on (token k l) (paren c u k l) next) ≡ Some es → Found form c (Paren u) es
+  paren_found : (c : Setting) (u : Up) (k : Kind) (l : Leaf) (es : List Event) →
+      fronted (waiting c (Paren u) k l) (go_on (token k l) (paren c u k l) next) ≡ Some es → Found form c (Paren u) es
   paren_found c u CloseParen l es e =
       let b = behind_it CloseParen l (quad_up c u nil) itself None None c (list_closed u (Some nil)) es e in
       let x = as_list form u (Some nil) c b.0 in
@@ -349,7 +362,8 @@ module _ (form : DocForm) (next : Setting → Mode → Option (List Event)) (ih 
         x.events ∙ ap (λ y. give (quad_up c u (Blank (cell_at y))) (object_events c x.obj (node (cell_at y)) (Some (known_chars RdfFirst)) None (rest_events c x.rest.0 (cell_at y) x.rest.1 (up_events form c u was_list (node (cell_at y)) x.rest.2)))) (sym x.first),
       )
 
-  after_text_found : (c : Setting) (w : List ℕ) (p : Place) (k : Kind) (l : Leaf) (es : List Event) → fronted (waiting c (AfterText w p) k l) (go_on (token k l) (after_text c w p k l) next) ≡ Some es →
+  after_text_found : (c : Setting) (w : List ℕ) (p : Place) (k : Kind) (l : Leaf) (es : List Event) →
+      fronted (waiting c (AfterText w p) k l) (go_on (token k l) (after_text c w p k l) next) ≡ Some es →
       Found form c (AfterText w p) es
   after_text_found c w p LangTag l es e = let b = behind_it LangTag l None itself None _ c (After p) es e in ((tag_end (lang_tag l), b.0), b.1)
   after_text_found c w p AtBase l es e = let b = behind_it AtBase l None itself None _ c (After p) es e in ((tag_end (base_tag l), b.0), b.1)
@@ -357,13 +371,15 @@ module _ (form : DocForm) (next : Setting → Mode → Option (List Event)) (ih 
   after_text_found c w p Carets l es e = let b = behind_it Carets l None itself None None c (WantType w p) es e in ((type_end l b.0.0, b.0.1), b.1)
   after_text_found c w p k l es e = let x = after_found c p (quad_at c p (plain_literal w)) k l es e in ((no_end, x.0), x.1)
 
-  want_type_found : (c : Setting) (w : List ℕ) (p : Place) (k : Kind) (l : Leaf) (es : List Event) → fronted None (go_on (token k l) (want_type c w p k l) next) ≡ Some es → Found form c (WantType w p) es
+  want_type_found : (c : Setting) (w : List ℕ) (p : Place) (k : Kind) (l : Leaf) (es : List Event) →
+      fronted None (go_on (token k l) (want_type c w p k l) next) ≡ Some es → Found form c (WantType w p) es
   want_type_found c w p IriRef l es e = let b = behind_it IriRef l None _ None _ c (After p) es e in ((iri_ref l, b.0), b.1)
   want_type_found c w p PnameLn l es e = let b = behind_it PnameLn l None _ None _ c (After p) es e in ((prefixed (pname_ln l), b.0), b.1)
   want_type_found c w p PnameNs l es e = let b = behind_it PnameNs l None _ None _ c (After p) es e in ((prefixed (pname_ns l), b.0), b.1)
   want_type_found c w p k l es e = absurd (let z : None ≡ Some es = e in cc)
 
-  after_box_found : (c : Setting) (s : Option term.Subject) (v : Level) (k : Kind) (l : Leaf) (es : List Event) → fronted None (go_on (token k l) (after_box c s v k l) next) ≡ Some es → Found form c (AfterBox s v) es
+  after_box_found : (c : Setting) (s : Option term.Subject) (v : Level) (k : Kind) (l : Leaf) (es : List Event) →
+      fronted None (go_on (token k l) (after_box c s v k l) next) ≡ Some es → Found form c (AfterBox s v) es
   after_box_found c s v IriRef l es e = let x = verb_found c s (Statement v) IriRef l es e in ((Some x.0.0, x.0.1), x.1)
   after_box_found c s v PnameLn l es e = let x = verb_found c s (Statement v) PnameLn l es e in ((Some x.0.0, x.0.1), x.1)
   after_box_found c s v PnameNs l es e = let x = verb_found c s (Statement v) PnameNs l es e in ((Some x.0.0, x.0.1), x.1)
@@ -374,7 +390,8 @@ module _ (form : DocForm) (next : Setting → Mode → Option (List Event)) (ih 
   abbrev TriplesFound : Setting → List Event → Type 0
   TriplesFound c es = (t : Triples) × (r : RestLevel form InBlock) × (es ≡ triples_events c t (level_events form c InBlock r))
 
-  block_box : (c : Setting) (l : Leaf) (es : List Event) (r : Rest form (Box l.at.offset (Subject InBlock))) → es ≡ take OpenBracket l (box_events form c l.at.offset (Subject InBlock) r) → TriplesFound c es
+  block_box : (c : Setting) (l : Leaf) (es : List Event) (r : Rest form (Box l.at.offset (Subject InBlock))) →
+      es ≡ take OpenBracket l (box_events form c l.at.offset (Subject InBlock) r) → TriplesFound c es
   block_box c l es (inl (d, (ps, r))) e = (subject_triples (blank_subject (anon l d)) ps, r, e)
   block_box c l es (inr (ps, (d, (qs, r)))) e = (list_triples (property_list l ps d) qs, r, e)
 
@@ -382,7 +399,8 @@ module _ (form : DocForm) (next : Setting → Mode → Option (List Event)) (ih 
       es ≡ iri_events c.scope i (all_events form c (WantVerb (named (iri_in c.scope i)) (Statement InBlock)) r) → TriplesFound c es
   block_iri i c es r e = (subject_triples (iri_subject i) r.0, r.1, e)
 
-  block_triples : (c : Setting) (k : Kind) (l : Leaf) (es : List Event) → fronted None (go_on (token k l) (subject_start form c InBlock k l) next) ≡ Some es → TriplesFound c es
+  block_triples : (c : Setting) (k : Kind) (l : Leaf) (es : List Event) → fronted None (go_on (token k l) (subject_start form c InBlock k l) next) ≡ Some es →
+      TriplesFound c es
   block_triples c IriRef l es e = let b = behind_it IriRef l None _ None None c (WantVerb (named (reference_in c.scope l)) (Statement InBlock)) es e in block_iri (iri_ref l) c es b.0 b.1
   block_triples c PnameLn l es e = let b = behind_it PnameLn l None _ None None c (WantVerb (named (name_in c.scope l)) (Statement InBlock)) es e in block_iri (prefixed (pname_ln l)) c es b.0 b.1
   block_triples c PnameNs l es e = let b = behind_it PnameNs l None _ None None c (WantVerb (named (name_in c.scope l)) (Statement InBlock)) es e in block_iri (prefixed (pname_ns l)) c es b.0 b.1
@@ -393,12 +411,14 @@ module _ (form : DocForm) (next : Setting → Mode → Option (List Event)) (ih 
       let b = behind_it OpenParen l None itself None None c (Paren (Subject InBlock)) es e in (subject_triples (collection_subject (collection l b.0.0 b.0.1)) b.0.2.0, b.0.2.1, b.1)
   block_triples c k l es e = absurd (let z : None ≡ Some es = e in cc)
 
-  block_of : (c : Setting) (es : List Event) (t : Triples) (r : RestLevel form InBlock) → es ≡ triples_events c t (level_events form c InBlock r) → Found form c Inside es
+  block_of : (c : Setting) (es : List Event) (t : Triples) (r : RestLevel form InBlock) → es ≡ triples_events c t (level_events form c InBlock r) →
+      Found form c Inside es
   block_of c es t (inl (d, None, r, rest)) e = ((Some (last_dot t d), r, rest), e)
   block_of c es t (inl (d, Some b, r, rest)) e = ((Some (dot t d b), r, rest), e)
   block_of c es t (inr (r, rest)) e = ((Some (last t), r, rest), e)
 
-  inside_found : (c : Setting) (k : Kind) (l : Leaf) (es : List Event) → fronted None (go_on (token k l) (inside form c k l) next) ≡ Some es → Found form c Inside es
+  inside_found : (c : Setting) (k : Kind) (l : Leaf) (es : List Event) → fronted None (go_on (token k l) (inside form c k l) next) ≡ Some es →
+      Found form c Inside es
   inside_found c CloseBrace l es e = let b = behind_it CloseBrace l None itself None None (in_default c.scope) Start es e in ((None, l, b.0), b.1)
   inside_found c k l es e = let x = block_triples c k l es e in block_of c es x.0 x.1 x.2
 
@@ -407,12 +427,14 @@ module _ (form : DocForm) (next : Setting → Mode → Option (List Event)) (ih 
       es ≡ iri_events c.scope i (all_events form (in_default c.scope) (after_subject form Top (named (iri_in c.scope i))) r) → Found form c Start es
   start_iri i c es r e = let x = as_subject form Top (named (iri_in c.scope i)) (in_default c.scope) r in iri_body form i c.scope es x.0 (e ∙ ap (iri_events c.scope i) x.1)
 
-  start_box : (c : Setting) (l : Leaf) (es : List Event) (r : Rest form (Box l.at.offset (Subject Top))) → es ≡ take OpenBracket l (box_events form (in_default c.scope) l.at.offset (Subject Top) r) →
+  start_box : (c : Setting) (l : Leaf) (es : List Event) (r : Rest form (Box l.at.offset (Subject Top))) →
+      es ≡ take OpenBracket l (box_events form (in_default c.scope) l.at.offset (Subject Top) r) →
       Found form c Start es
   start_box c l es (inl (d, r)) e = blank_body form (anon l d) c.scope es r e
   start_box c l es (inr (ps, (d, (qs, r)))) e = list_body form (property_list l ps d) c.scope es qs r e
 
-  subject_found : (c : Setting) (k : Kind) (l : Leaf) (es : List Event) → fronted None (go_on (token k l) (subject_start form (in_default c.scope) Top k l) next) ≡ Some es → Found form c Start es
+  subject_found : (c : Setting) (k : Kind) (l : Leaf) (es : List Event) →
+      fronted None (go_on (token k l) (subject_start form (in_default c.scope) Top k l) next) ≡ Some es → Found form c Start es
   subject_found c IriRef l es e = let b = behind_it IriRef l None _ None None (in_default c.scope) (after_subject form Top (named (reference_in c.scope l))) es e in start_iri (iri_ref l) c es b.0 b.1
   subject_found c PnameLn l es e = let b = behind_it PnameLn l None _ None None (in_default c.scope) (after_subject form Top (named (name_in c.scope l))) es e in start_iri (prefixed (pname_ln l)) c es b.0 b.1
   subject_found c PnameNs l es e = let b = behind_it PnameNs l None _ None None (in_default c.scope) (after_subject form Top (named (name_in c.scope l))) es e in start_iri (prefixed (pname_ns l)) c es b.0 b.1
@@ -425,30 +447,37 @@ module _ (form : DocForm) (next : Setting → Mode → Option (List Event)) (ih 
       let b = behind_it OpenParen l None itself None None (in_default c.scope) (Paren (Subject Top)) es e in collection_body form (collection l b.0.0 b.0.1) c.scope es b.0.2.0 b.0.2.1 b.1
   subject_found c k l es e = absurd (let z : None ≡ Some es = e in cc)
 
-  prefix_found : (c : Setting) (k : Kind) (w : Spelling) (l : Leaf) (es : List Event) → fronted None (put (token k l) itself None None (next c (WantPrefix w))) ≡ Some es →
+  prefix_found : (c : Setting) (k : Kind) (w : Spelling) (l : Leaf) (es : List Event) →
+      fronted None (put (token k l) itself None None (next c (WantPrefix w))) ≡ Some es →
       (r : Rest form (WantPrefix w)) × (es ≡ take k l (all_events form c (WantPrefix w) r))
   prefix_found c k w l es e = behind_it k l None itself None None c (WantPrefix w) es e
 
-  base_found : (c : Setting) (k : Kind) (w : Spelling) (l : Leaf) (es : List Event) → fronted None (put (token k l) itself None None (next c (WantBaseIri w))) ≡ Some es →
+  base_found : (c : Setting) (k : Kind) (w : Spelling) (l : Leaf) (es : List Event) →
+      fronted None (put (token k l) itself None None (next c (WantBaseIri w))) ≡ Some es →
       (r : Rest form (WantBaseIri w)) × (es ≡ take k l (all_events form c (WantBaseIri w) r))
   base_found c k w l es e = behind_it k l None itself None None c (WantBaseIri w) es e
 
-  after_label_found : (c : Setting) (g : Option term.Subject) (k : Kind) (l : Leaf) (es : List Event) → fronted None (go_on (token k l) (after_label c g k l) next) ≡ Some es → Found form c (AfterLabel g) es
+  after_label_found : (c : Setting) (g : Option term.Subject) (k : Kind) (l : Leaf) (es : List Event) →
+      fronted None (go_on (token k l) (after_label c g k l) next) ≡ Some es → Found form c (AfterLabel g) es
   after_label_found c g OpenBrace l es e = let b = behind_it OpenBrace l None itself None None (in_graph c.scope g) Inside es e in (inr (wrapped l b.0.0 b.0.1, b.0.2), b.1)
   after_label_found c g k l es e = let x = verb_found c g (Statement Top) k l es e in (inl (x.0.0, x.0.1), x.1)
 
-  want_brace_found : (c : Setting) (g : Option term.Subject) (k : Kind) (l : Leaf) (es : List Event) → fronted None (go_on (token k l) (want_brace c g k l) next) ≡ Some es → Found form c (WantBrace g) es
+  want_brace_found : (c : Setting) (g : Option term.Subject) (k : Kind) (l : Leaf) (es : List Event) →
+      fronted None (go_on (token k l) (want_brace c g k l) next) ≡ Some es → Found form c (WantBrace g) es
   want_brace_found c g OpenBrace l es e = let b = behind_it OpenBrace l None itself None None (in_graph c.scope g) Inside es e in ((wrapped l b.0.0 b.0.1, b.0.2), b.1)
   want_brace_found c g k l es e = absurd (let z : None ≡ Some es = e in cc)
 
-  graph_box_found : (c : Setting) (n : ℕ) (k : Kind) (l : Leaf) (es : List Event) → fronted None (go_on (token k l) (graph_box c n k l) next) ≡ Some es → Found form c (GraphBox n) es
+  graph_box_found : (c : Setting) (n : ℕ) (k : Kind) (l : Leaf) (es : List Event) → fronted None (go_on (token k l) (graph_box c n k l) next) ≡ Some es →
+      Found form c (GraphBox n) es
   graph_box_found c n CloseBracket l es e = let b = behind_it CloseBracket l None itself None None c (WantBrace (node (Anon n))) es e in ((l, b.0.0, b.0.1), b.1)
   graph_box_found c n k l es e = absurd (let z : None ≡ Some es = e in cc)
 
-  graph_iri : (i : Iri) (c : Setting) (es : List Event) (r : Rest form (WantBrace (named (iri_in c.scope i)))) → es ≡ iri_events c.scope i (brace_events form c (named (iri_in c.scope i)) r) → Found form c GraphWord es
+  graph_iri : (i : Iri) (c : Setting) (es : List Event) (r : Rest form (WantBrace (named (iri_in c.scope i)))) →
+      es ≡ iri_events c.scope i (brace_events form c (named (iri_in c.scope i)) r) → Found form c GraphWord es
   graph_iri i c es r e = ((iri_label i, r.0, r.1), e)
 
-  graph_word_found : (c : Setting) (k : Kind) (l : Leaf) (es : List Event) → fronted None (go_on (token k l) (graph_word c k l) next) ≡ Some es → Found form c GraphWord es
+  graph_word_found : (c : Setting) (k : Kind) (l : Leaf) (es : List Event) → fronted None (go_on (token k l) (graph_word c k l) next) ≡ Some es →
+      Found form c GraphWord es
   graph_word_found c IriRef l es e = let b = behind_it IriRef l None _ None None c (WantBrace (named (reference_in c.scope l))) es e in graph_iri (iri_ref l) c es b.0 b.1
   graph_word_found c PnameLn l es e = let b = behind_it PnameLn l None _ None None c (WantBrace (named (name_in c.scope l))) es e in graph_iri (prefixed (pname_ln l)) c es b.0 b.1
   graph_word_found c PnameNs l es e = let b = behind_it PnameNs l None _ None None c (WantBrace (named (name_in c.scope l))) es e in graph_iri (prefixed (pname_ns l)) c es b.0 b.1
@@ -456,22 +485,26 @@ module _ (form : DocForm) (next : Setting → Mode → Option (List Event)) (ih 
   graph_word_found c OpenBracket l es e = let b = behind_it OpenBracket l None itself None None c (GraphBox l.at.offset) es e in ((blank_label (anon l b.0.0), b.0.1, b.0.2), b.1)
   graph_word_found c k l es e = absurd (let z : None ≡ Some es = e in cc)
 
-  want_prefix_found : (c : Setting) (w : Spelling) (k : Kind) (l : Leaf) (es : List Event) → fronted None (go_on (token k l) (want_prefix c w k l) next) ≡ Some es → Found form c (WantPrefix w) es
+  want_prefix_found : (c : Setting) (w : Spelling) (k : Kind) (l : Leaf) (es : List Event) →
+      fronted None (go_on (token k l) (want_prefix c w k l) next) ≡ Some es → Found form c (WantPrefix w) es
   want_prefix_found c w PnameNs l es e = let b = behind_it PnameNs l None itself None None c (WantPrefixIri w (prefix_of l)) es e in ((l, b.0.0, b.0.1), b.1)
   want_prefix_found c w k l es e = absurd (let z : None ≡ Some es = e in cc)
 
-  want_prefix_iri_found : (c : Setting) (w : Spelling) (p : List ℕ) (k : Kind) (l : Leaf) (es : List Event) → fronted None (go_on (token k l) (want_prefix_iri c w p k l) next) ≡ Some es → Found form c (WantPrefixIri w p) es
+  want_prefix_iri_found : (c : Setting) (w : Spelling) (p : List ℕ) (k : Kind) (l : Leaf) (es : List Event) →
+      fronted None (go_on (token k l) (want_prefix_iri c w p k l) next) ≡ Some es → Found form c (WantPrefixIri w p) es
   want_prefix_iri_found c Dotted p IriRef l es e =
       let b = behind_it IriRef l None _ None None (in_default (with_binding c.scope p (reference_in c.scope l))) WantDot es e in ((l, (b.0.0, b.0.1)), b.1)
   want_prefix_iri_found c Sparql p IriRef l es e = let b = behind_it IriRef l None _ None None (in_default (with_binding c.scope p (reference_in c.scope l))) Start es e in ((l, b.0), b.1)
   want_prefix_iri_found c w p k l es e = absurd (let z : None ≡ Some es = e in cc)
 
-  want_base_iri_found : (c : Setting) (w : Spelling) (k : Kind) (l : Leaf) (es : List Event) → fronted None (go_on (token k l) (want_base_iri c w k l) next) ≡ Some es → Found form c (WantBaseIri w) es
+  want_base_iri_found : (c : Setting) (w : Spelling) (k : Kind) (l : Leaf) (es : List Event) →
+      fronted None (go_on (token k l) (want_base_iri c w k l) next) ≡ Some es → Found form c (WantBaseIri w) es
   want_base_iri_found c Dotted IriRef l es e = let b = behind_it IriRef l None _ None None (in_default (with_base c.scope (reference_in c.scope l))) WantDot es e in ((l, (b.0.0, b.0.1)), b.1)
   want_base_iri_found c Sparql IriRef l es e = let b = behind_it IriRef l None _ None None (in_default (with_base c.scope (reference_in c.scope l))) Start es e in ((l, b.0), b.1)
   want_base_iri_found c w k l es e = absurd (let z : None ≡ Some es = e in cc)
 
-  want_dot_found : (c : Setting) (k : Kind) (l : Leaf) (es : List Event) → fronted None (go_on (token k l) (want_dot c k l) next) ≡ Some es → Found form c WantDot es
+  want_dot_found : (c : Setting) (k : Kind) (l : Leaf) (es : List Event) → fronted None (go_on (token k l) (want_dot c k l) next) ≡ Some es →
+      Found form c WantDot es
   want_dot_found c Dot l es e = let b = behind_it Dot l None itself None None c Start es e in ((l, b.0), b.1)
   want_dot_found c k l es e = absurd (let z : None ≡ Some es = e in cc)
 
@@ -533,7 +566,8 @@ tokens_give : (q : Option Quad) (es : List Event) → tokens (give q es) ≡ tok
 tokens_give None es = refl
 tokens_give (Some q) es = refl
 
-reply_tokens : (t : Token) (w : Option Quad) (r : Reply) (next : Setting → Mode → Option (List Event)) (ts : List Token) → ((c : Setting) (m : Mode) (es : List Event) → next c m ≡ Some es → tokens es ≡ ts) →
+reply_tokens : (t : Token) (w : Option Quad) (r : Reply) (next : Setting → Mode → Option (List Event)) (ts : List Token) →
+    ((c : Setting) (m : Mode) (es : List Event) → next c m ≡ Some es → tokens es ≡ ts) →
     (es : List Event) → fronted w (go_on t r next) ≡ Some es → tokens es ≡ t ∷ ts
 reply_tokens t w No next ts ih es e = absurd (let z : None ≡ Some es = e in cc)
 reply_tokens t w (Go u early now c m) next ts ih es e =

@@ -236,7 +236,8 @@ step_facts form c (Semi s a) k l = semi_facts c s a k l
 step_facts form c (AfterBox s v) k l = after_box_facts c s v k l
 
 -- As many brackets are open as the tokens have opened and not closed.
-pub reached_depth : (strict : Bool) (form : DocForm) (ts : List Token) (c : Setting) (m : Mode) (s : Stand) → reach strict form c m ts ≡ Some s → opened ts + depth m ≡ closed ts + depth s.mode
+pub reached_depth : (strict : Bool) (form : DocForm) (ts : List Token) (c : Setting) (m : Mode) (s : Stand) → reach strict form c m ts ≡ Some s →
+    opened ts + depth m ≡ closed ts + depth s.mode
 reached_depth strict form [] c m s e = let z : stand c m ≡ s = cc in ap (λ x. 0 + depth (Stand.mode x)) z
 reached_depth strict form (t ∷ ts) c m s e = by (step form c m t.kind (leaf_of t)) (step_facts form c m t.kind (leaf_of t)) (λ c' m' h. reached_depth strict form ts c' m' s h) e
   where
@@ -244,13 +245,15 @@ reached_depth strict form (t ∷ ts) c m s e = by (step form c m t.kind (leaf_of
     when true o e = e
     when false o e = absurd (let z : None ≡ Some s = e in cc)
 
-    by : (r : Reply) → Facts (depth m) c.scope t.kind (leaf_of t) r → ((c' : Setting) (m' : Mode) → reach strict form c' m' ts ≡ Some s → opened ts + depth m' ≡ closed ts + depth s.mode) →
+    by : (r : Reply) → Facts (depth m) c.scope t.kind (leaf_of t) r →
+        ((c' : Setting) (m' : Mode) → reach strict form c' m' ts ≡ Some s → opened ts + depth m' ≡ closed ts + depth s.mode) →
         on_reply strict r (λ c' m'. reach strict form c' m' ts) ≡ Some s → opens t.kind + opened ts + depth m ≡ closes t.kind + closed ts + depth s.mode
     by No f ih e = absurd (let z : None ≡ Some s = e in cc)
     by (Go u early now c' m') f ih e = let h : opened ts + depth m' ≡ closed ts + depth s.mode = ih c' m' (when (passes strict u) (reach strict form c' m' ts) e) in omega (arith, h, f.0)
 
 -- no token changes the limits
-pub reached_limits : (strict : Bool) (form : DocForm) (ts : List Token) (c : Setting) (m : Mode) (s : Stand) → reach strict form c m ts ≡ Some s → s.setting.scope.limits ≡ c.scope.limits
+pub reached_limits : (strict : Bool) (form : DocForm) (ts : List Token) (c : Setting) (m : Mode) (s : Stand) → reach strict form c m ts ≡ Some s →
+    s.setting.scope.limits ≡ c.scope.limits
 reached_limits strict form [] c m s e = let z : stand c m ≡ s = cc in ap (λ x. (Stand.setting x).scope.limits) (sym z)
 reached_limits strict form (t ∷ ts) c m s e = by (step form c m t.kind (leaf_of t)) (step_facts form c m t.kind (leaf_of t)) (λ c' m' h. reached_limits strict form ts c' m' s h) e
   where
@@ -258,12 +261,14 @@ reached_limits strict form (t ∷ ts) c m s e = by (step form c m t.kind (leaf_o
     when true o e = e
     when false o e = absurd (let z : None ≡ Some s = e in cc)
 
-    by : (r : Reply) → Facts (depth m) c.scope t.kind (leaf_of t) r → ((c' : Setting) (m' : Mode) → reach strict form c' m' ts ≡ Some s → s.setting.scope.limits ≡ c'.scope.limits) →
+    by : (r : Reply) → Facts (depth m) c.scope t.kind (leaf_of t) r →
+        ((c' : Setting) (m' : Mode) → reach strict form c' m' ts ≡ Some s → s.setting.scope.limits ≡ c'.scope.limits) →
         on_reply strict r (λ c' m'. reach strict form c' m' ts) ≡ Some s → s.setting.scope.limits ≡ c.scope.limits
     by No f ih e = absurd (let z : None ≡ Some s = e in cc)
     by (Go u early now c' m') f ih e = ih c' m' (when (passes strict u) (reach strict form c' m' ts) e) ∙ f.2
 
-pub depth_open : (strict : Bool) (form : DocForm) (ts : List Token) (start : InForce) (s : Stand) → reach strict form (in_default start) Start ts ≡ Some s → depth s.mode ≡ open_in ts
+pub depth_open : (strict : Bool) (form : DocForm) (ts : List Token) (start : InForce) (s : Stand) → reach strict form (in_default start) Start ts ≡ Some s →
+    depth s.mode ≡ open_in ts
 depth_open strict form ts start s e = let h = reached_depth strict form ts (in_default start) Start s e in omega (arith, h)
 
 pub opened-append : (ts us : List Token) → opened (ts ++ us) ≡ opened ts + opened us

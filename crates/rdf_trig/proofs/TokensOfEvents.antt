@@ -48,7 +48,8 @@ blank_told : (b : BlankNode) (early q : Option Quad) (rest : List Event) → tok
 blank_told (label l) early q rest = ap (λ x. token LabelNode l ∷ x) (give_both early q rest)
 blank_told (anon l r) early q rest = ap (λ x. token OpenBracket l ∷ x) (give_both early q (take CloseBracket r rest))
 
-literal_told : (x : Literal) (s : InForce) (early q : Option Quad) (rest : List Event) → tokens (literal_events s x early q rest) ≡ literal_tokens x ++ tokens rest
+literal_told : (x : Literal) (s : InForce) (early q : Option Quad) (rest : List Event) →
+    tokens (literal_events s x early q rest) ≡ literal_tokens x ++ tokens rest
 literal_told (rdf (plain w)) s early q rest = string_told w (give early (give q rest)) ∙ ap (λ x. string_tokens w ++ x) (give_both early q rest)
 literal_told (rdf (tagged w t)) s early q rest =
     string_told w (give early (tag_events t (give q rest)))
@@ -66,38 +67,44 @@ literal_told (boolean (true_word l)) s early q rest = ap (λ x. token True l ∷
 literal_told (boolean (false_word l)) s early q rest = ap (λ x. token False l ∷ x) (give_both early q rest)
 
 mutual
-  object_told : (o : Object) (c : Setting) (s : Option term.Subject) (p : Option (List ℕ)) (early : Option Quad) (rest : List Event) → tokens (object_events c o s p early rest) ≡ object_tokens o ++ tokens rest
+  object_told : (o : Object) (c : Setting) (s : Option term.Subject) (p : Option (List ℕ)) (early : Option Quad) (rest : List Event) →
+      tokens (object_events c o s p early rest) ≡ object_tokens o ++ tokens rest
   object_told (iri_object i) c s p early rest = iri_told i c.scope (give early (give (object_quad c s p (iri_object i)) rest)) ∙ ap (λ x. iri_tokens i ++ x) (give_both early (object_quad c s p (iri_object i)) rest)
   object_told (blank_object b) c s p early rest = blank_told b early (object_quad c s p (blank_object b)) rest
   object_told (collection_object x) c s p early rest = collection_told x c early (object_quad c s p (collection_object x)) rest
   object_told (list_object x) c s p early rest = list_told x c early (object_quad c s p (list_object x)) rest
   object_told (literal_object x) c s p early rest = literal_told x c.scope early (object_quad c s p (literal_object x)) rest
 
-  collection_told : (x : Collection) (c : Setting) (early q : Option Quad) (rest : List Event) → tokens (collection_events c x early q rest) ≡ collection_tokens x ++ tokens rest
+  collection_told : (x : Collection) (c : Setting) (early q : Option Quad) (rest : List Event) →
+      tokens (collection_events c x early q rest) ≡ collection_tokens x ++ tokens rest
   collection_told (collection l os r) c early q rest =
       ap (λ x. token OpenParen l ∷ x) (give_both early q (items_events c os r rest) ∙ items_told os c r rest ∙ sym (append_assoc (items_tokens os) (token CloseParen r ∷ []) (tokens rest)))
 
-  items_told : (os : Items) (c : Setting) (r : Leaf) (rest : List Event) → tokens (items_events c os r rest) ≡ items_tokens os ++ token CloseParen r ∷ tokens rest
+  items_told : (os : Items) (c : Setting) (r : Leaf) (rest : List Event) →
+      tokens (items_events c os r rest) ≡ items_tokens os ++ token CloseParen r ∷ tokens rest
   items_told no_items c r rest = refl
   items_told (item o os) c r rest =
       object_told o c (node (cell_of o)) (Some (known_chars RdfFirst)) None (rest_events c os (cell_of o) r rest)
       ∙ ap (λ x. object_tokens o ++ x) (rest_told os c (cell_of o) r rest)
       ∙ sym (append_assoc (object_tokens o) (items_tokens os) (token CloseParen r ∷ tokens rest))
 
-  rest_told : (os : Items) (c : Setting) (cell : Node) (r : Leaf) (rest : List Event) → tokens (rest_events c os cell r rest) ≡ items_tokens os ++ token CloseParen r ∷ tokens rest
+  rest_told : (os : Items) (c : Setting) (cell : Node) (r : Leaf) (rest : List Event) →
+      tokens (rest_events c os cell r rest) ≡ items_tokens os ++ token CloseParen r ∷ tokens rest
   rest_told no_items c cell r rest = ap (λ x. token CloseParen r ∷ x) (tokens_give (rest_quad c cell (items_of no_items)) rest)
   rest_told (item o os) c cell r rest =
       object_told o c (node (cell_of o)) (Some (known_chars RdfFirst)) (rest_quad c cell (items_of (item o os))) (rest_events c os (cell_of o) r rest)
       ∙ ap (λ x. object_tokens o ++ x) (rest_told os c (cell_of o) r rest)
       ∙ sym (append_assoc (object_tokens o) (items_tokens os) (token CloseParen r ∷ tokens rest))
 
-  list_told : (x : BlankNodePropertyList) (c : Setting) (early q : Option Quad) (rest : List Event) → tokens (list_events c x early q rest) ≡ list_tokens x ++ tokens rest
+  list_told : (x : BlankNodePropertyList) (c : Setting) (early q : Option Quad) (rest : List Event) →
+      tokens (list_events c x early q rest) ≡ list_tokens x ++ tokens rest
   list_told (property_list l ps r) c early q rest =
       ap (λ x. token OpenBracket l ∷ x)
       (give_both early q (predicates_events c ps (node (anon_at l)) (take CloseBracket r rest)) ∙ predicates_told ps c (node (anon_at l)) (take CloseBracket r rest)
       ∙ sym (append_assoc (predicates_tokens ps) (token CloseBracket r ∷ []) (tokens rest)))
 
-  predicates_told : (ps : PredicateObjectList) (c : Setting) (s : Option term.Subject) (rest : List Event) → tokens (predicates_events c ps s rest) ≡ predicates_tokens ps ++ tokens rest
+  predicates_told : (ps : PredicateObjectList) (c : Setting) (s : Option term.Subject) (rest : List Event) →
+      tokens (predicates_events c ps s rest) ≡ predicates_tokens ps ++ tokens rest
   predicates_told (predicate_objects v os m) c s rest =
       verb_told v c.scope (objects_events c os s (verb_of c.scope v) (more_events c m s rest))
       ∙ ap (λ x. verb_tokens v ++ x) (objects_told os c s (verb_of c.scope v) (more_events c m s rest) ∙ ap (λ x. objects_tokens os ++ x) (more_told m c s rest))
@@ -112,17 +119,20 @@ mutual
       ∙ ap (λ x. verb_tokens v ++ x) (objects_told os c s (verb_of c.scope v) (more_events c m s rest) ∙ ap (λ x. objects_tokens os ++ x) (more_told m c s rest))
       ∙ three (verb_tokens v) (objects_tokens os) (more_tokens m) (tokens rest))
 
-  objects_told : (os : ObjectList) (c : Setting) (s : Option term.Subject) (p : Option (List ℕ)) (rest : List Event) → tokens (objects_events c os s p rest) ≡ objects_tokens os ++ tokens rest
+  objects_told : (os : ObjectList) (c : Setting) (s : Option term.Subject) (p : Option (List ℕ)) (rest : List Event) →
+      tokens (objects_events c os s p rest) ≡ objects_tokens os ++ tokens rest
   objects_told (objects o os) c s p rest =
       object_told o c s p None (commas_events c os s p rest) ∙ ap (λ x. object_tokens o ++ x) (commas_told os c s p rest) ∙ sym (append_assoc (object_tokens o) (commas_tokens os) (tokens rest))
 
-  commas_told : (os : Commas) (c : Setting) (s : Option term.Subject) (p : Option (List ℕ)) (rest : List Event) → tokens (commas_events c os s p rest) ≡ commas_tokens os ++ tokens rest
+  commas_told : (os : Commas) (c : Setting) (s : Option term.Subject) (p : Option (List ℕ)) (rest : List Event) →
+      tokens (commas_events c os s p rest) ≡ commas_tokens os ++ tokens rest
   commas_told no_commas c s p rest = refl
   commas_told (comma l o os) c s p rest =
       ap (λ x. token Comma l ∷ x)
       (object_told o c s p None (commas_events c os s p rest) ∙ ap (λ x. object_tokens o ++ x) (commas_told os c s p rest) ∙ sym (append_assoc (object_tokens o) (commas_tokens os) (tokens rest)))
 
-maybe_told : (ps : Option PredicateObjectList) (c : Setting) (s : Option term.Subject) (rest : List Event) → tokens (maybe_events c s ps rest) ≡ maybe_tokens predicates_tokens ps ++ tokens rest
+maybe_told : (ps : Option PredicateObjectList) (c : Setting) (s : Option term.Subject) (rest : List Event) →
+    tokens (maybe_events c s ps rest) ≡ maybe_tokens predicates_tokens ps ++ tokens rest
 maybe_told None c s rest = refl
 maybe_told (Some ps) c s rest = predicates_told ps c s rest
 
@@ -149,7 +159,8 @@ block_told (last_dot t d) c rest = triples_told t c (take Dot d rest) ∙ sym (a
 block_told (dot t d b) c rest =
     triples_told t c (take Dot d (block_events c b rest)) ∙ ap (λ x. triples_tokens t ++ token Dot d ∷ x) (block_told b c rest) ∙ simp append_assoc
 
-maybe_block_told : (b : Option TriplesBlock) (c : Setting) (rest : List Event) → tokens (maybe_block_events c b rest) ≡ maybe_tokens block_tokens b ++ tokens rest
+maybe_block_told : (b : Option TriplesBlock) (c : Setting) (rest : List Event) →
+    tokens (maybe_block_events c b rest) ≡ maybe_tokens block_tokens b ++ tokens rest
 maybe_block_told None c rest = refl
 maybe_block_told (Some b) c rest = block_told b c rest
 

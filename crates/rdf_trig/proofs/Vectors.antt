@@ -58,7 +58,13 @@ nested_tokens =
 
 abbrev pub nested_tree : Document TriG
 nested_tree =
-    with_directive (sparql_prefix (leaf (codes "PREFIX") 0 1) (leaf (codes ":") 7 1) (leaf (codes "<http://e/>") 9 1)) (with_body (triples_or_graph (label_triples (iri_label (prefixed (pname_ln (leaf (codes ":s") 21 2)))) (predicate_objects (predicate (prefixed (pname_ln (leaf (codes ":p") 24 2)))) (objects (list_object (property_list (leaf (codes "[") 27 2) (predicate_objects (predicate (prefixed (pname_ln (leaf (codes ":q") 29 2)))) (objects (collection_object (collection (leaf (codes "(") 32 2) (item (literal_object (numeric (integer (leaf (codes "1") 34 2)))) (item (literal_object (numeric (integer (leaf (codes "2") 36 2)))) no_items)) (leaf (codes ")") 38 2))) no_commas) no_more) (leaf (codes "]") 40 2))) no_commas) no_more) (leaf (codes ".") 42 2))) (end (leaf (codes "") 43 2)))
+    with_directive (sparql_prefix (leaf (codes "PREFIX") 0 1) (leaf (codes ":") 7 1) (leaf (codes "<http://e/>") 9 1)) (with_body
+    (triples_or_graph (label_triples (iri_label (prefixed (pname_ln (leaf (codes ":s") 21 2)))) (predicate_objects (predicate (prefixed
+    (pname_ln (leaf (codes ":p") 24 2)))) (objects (list_object (property_list (leaf (codes "[") 27 2) (predicate_objects (predicate
+    (prefixed (pname_ln (leaf (codes ":q") 29 2)))) (objects (collection_object (collection (leaf (codes "(") 32 2) (item (literal_object
+    (numeric (integer (leaf (codes "1") 34 2)))) (item (literal_object (numeric (integer (leaf (codes "2") 36 2)))) no_items)) (leaf
+    (codes ")") 38 2))) no_commas) no_more) (leaf (codes "]") 40 2))) no_commas) no_more) (leaf (codes ".") 42 2))) (end (leaf
+    (codes "") 43 2)))
 
 abbrev pub nested_quads : List Marked
 nested_quads =
@@ -82,7 +88,10 @@ booleans_tokens =
 
 abbrev pub booleans_tree : Document TriG
 booleans_tree =
-    with_body (triples_or_graph (label_triples (iri_label (iri_ref (leaf (codes "<http://a/s>") 0 1))) (predicate_objects (predicate (iri_ref (leaf (codes "<http://a/p>") 13 1))) (objects (collection_object (collection (leaf (codes "(") 26 1) (item (literal_object (boolean (true_word (leaf (codes "true") 27 1)))) (item (literal_object (boolean (false_word (leaf (codes "false") 31 1)))) no_items)) (leaf (codes ")") 36 1))) no_commas) no_more) (leaf (codes ".") 38 1))) (end (leaf (codes "") 39 1))
+    with_body (triples_or_graph (label_triples (iri_label (iri_ref (leaf (codes "<http://a/s>") 0 1))) (predicate_objects (predicate
+    (iri_ref (leaf (codes "<http://a/p>") 13 1))) (objects (collection_object (collection (leaf (codes "(") 26 1) (item (literal_object
+    (boolean (true_word (leaf (codes "true") 27 1)))) (item (literal_object (boolean (false_word (leaf (codes "false") 31 1)))) no_items))
+    (leaf (codes ")") 36 1))) no_commas) no_more) (leaf (codes ".") 38 1))) (end (leaf (codes "") 39 1))
 
 abbrev pub booleans_quads : List Marked
 booleans_quads =
@@ -105,7 +114,10 @@ labelled_block_tokens =
 
 abbrev pub labelled_block_tree : Document TriG
 labelled_block_tree =
-    with_body (triples_or_graph (named_graph (iri_label (iri_ref (leaf (codes "<http://g/>") 0 1))) (wrapped (leaf (codes "{") 12 1) (Some (last (subject_triples (iri_subject (iri_ref (leaf (codes "<http://a/s>") 14 1))) (predicate_objects (predicate (iri_ref (leaf (codes "<http://a/p>") 27 1))) (objects (iri_object (iri_ref (leaf (codes "<http://a/s>") 40 1))) no_commas) no_more)))) (leaf (codes "}") 53 1)))) (end (leaf (codes "") 54 1))
+    with_body (triples_or_graph (named_graph (iri_label (iri_ref (leaf (codes "<http://g/>") 0 1))) (wrapped (leaf (codes "{") 12 1) (Some
+    (last (subject_triples (iri_subject (iri_ref (leaf (codes "<http://a/s>") 14 1))) (predicate_objects (predicate (iri_ref (leaf
+    (codes "<http://a/p>") 27 1))) (objects (iri_object (iri_ref (leaf (codes "<http://a/s>") 40 1))) no_commas) no_more)))) (leaf
+    (codes "}") 53 1)))) (end (leaf (codes "") 54 1))
 
 abbrev pub labelled_block_quads : List Marked
 labelled_block_quads =
@@ -125,7 +137,11 @@ unnamed_graph_tokens =
 
 abbrev pub unnamed_graph_tree : Document TriG
 unnamed_graph_tree =
-    with_body (default_graph (wrapped (leaf (codes "{") 0 1) None (leaf (codes "}") 2 1))) (with_body (tree.graph_word (leaf (codes "GRAPH") 4 1) (blank_label (anon (leaf (codes "[") 10 1) (leaf (codes "]") 11 1))) (wrapped (leaf (codes "{") 13 1) (Some (last (subject_triples (iri_subject (iri_ref (leaf (codes "<http://a/s>") 15 1))) (predicate_objects (predicate (iri_ref (leaf (codes "<http://a/p>") 28 1))) (objects (iri_object (iri_ref (leaf (codes "<http://a/s>") 41 1))) no_commas) no_more)))) (leaf (codes "}") 54 1))) (end (leaf (codes "") 55 1)))
+    with_body (default_graph (wrapped (leaf (codes "{") 0 1) None (leaf (codes "}") 2 1))) (with_body (tree.graph_word (leaf
+    (codes "GRAPH") 4 1) (blank_label (anon (leaf (codes "[") 10 1) (leaf (codes "]") 11 1))) (wrapped (leaf (codes "{") 13 1) (Some (last
+    (subject_triples (iri_subject (iri_ref (leaf (codes "<http://a/s>") 15 1))) (predicate_objects (predicate (iri_ref (leaf
+    (codes "<http://a/p>") 28 1))) (objects (iri_object (iri_ref (leaf (codes "<http://a/s>") 41 1))) no_commas) no_more)))) (leaf
+    (codes "}") 54 1))) (end (leaf (codes "") 55 1)))
 
 abbrev pub unnamed_graph_quads : List Marked
 unnamed_graph_quads =
@@ -144,7 +160,10 @@ inner_collection_tokens =
 
 abbrev pub inner_collection_tree : Document TriG
 inner_collection_tree =
-    with_body (triples_or_graph (label_triples (iri_label (iri_ref (leaf (codes "<http://a/s>") 0 1))) (predicate_objects (predicate (iri_ref (leaf (codes "<http://a/p>") 13 1))) (objects (collection_object (collection (leaf (codes "(") 26 1) (item (literal_object (rdf (plain (short (leaf (codes "\"a\"") 28 1))))) (item (collection_object (collection (leaf (codes "(") 32 1) no_items (leaf (codes ")") 34 1))) no_items)) (leaf (codes ")") 36 1))) no_commas) no_more) (leaf (codes ".") 38 1))) (end (leaf (codes "") 39 1))
+    with_body (triples_or_graph (label_triples (iri_label (iri_ref (leaf (codes "<http://a/s>") 0 1))) (predicate_objects (predicate
+    (iri_ref (leaf (codes "<http://a/p>") 13 1))) (objects (collection_object (collection (leaf (codes "(") 26 1) (item (literal_object (rdf
+    (plain (short (leaf (codes "\"a\"") 28 1))))) (item (collection_object (collection (leaf (codes "(") 32 1) no_items (leaf
+    (codes ")") 34 1))) no_items)) (leaf (codes ")") 36 1))) no_commas) no_more) (leaf (codes ".") 38 1))) (end (leaf (codes "") 39 1))
 
 abbrev pub inner_collection_quads : List Marked
 inner_collection_quads =
@@ -168,7 +187,14 @@ list_subject_tokens =
 
 abbrev pub list_subject_tree : Document Turtle
 list_subject_tree =
-    with_body record { triples = subject_triples (collection_subject (collection (leaf (codes "(") 0 1) (item (iri_object (iri_ref (leaf (codes "<http://a/s>") 2 1))) no_items) (leaf (codes ")") 15 1))) (predicate_objects (predicate (iri_ref (leaf (codes "<http://a/p>") 17 1))) (objects (blank_object (anon (leaf (codes "[") 30 1) (leaf (codes "]") 31 1))) (comma (leaf (codes ",") 33 1) (collection_object (collection (leaf (codes "(") 35 1) no_items (leaf (codes ")") 36 1))) no_commas)) no_more); dot = (leaf (codes ".") 38 1) } (end (leaf (codes "") 39 1))
+    with_body record {
+      triples = subject_triples (collection_subject (collection (leaf (codes "(") 0 1) (item (iri_object (iri_ref (leaf
+          (codes "<http://a/s>") 2 1))) no_items) (leaf (codes ")") 15 1))) (predicate_objects (predicate (iri_ref (leaf
+          (codes "<http://a/p>") 17 1))) (objects (blank_object (anon (leaf (codes "[") 30 1) (leaf (codes "]") 31 1))) (comma (leaf
+          (codes ",") 33 1) (collection_object (collection (leaf (codes "(") 35 1) no_items (leaf (codes ")") 36 1))) no_commas)) no_more);
+      dot =
+          (leaf (codes ".") 38 1);
+    } (end (leaf (codes "") 39 1))
 
 abbrev pub list_subject_quads : List Marked
 list_subject_quads =
@@ -191,7 +217,15 @@ list_in_collection_tokens =
 
 abbrev pub list_in_collection_tree : Document Turtle
 list_in_collection_tree =
-    with_body record { triples = subject_triples (iri_subject (iri_ref (leaf (codes "<http://a/s>") 0 1))) (predicate_objects (predicate (iri_ref (leaf (codes "<http://a/p>") 13 1))) (objects (collection_object (collection (leaf (codes "(") 26 1) (item (list_object (property_list (leaf (codes "[") 28 1) (predicate_objects (predicate (iri_ref (leaf (codes "<http://a/p>") 30 1))) (objects (iri_object (iri_ref (leaf (codes "<http://a/s>") 43 1))) no_commas) no_more) (leaf (codes "]") 56 1))) (item (literal_object (numeric (integer (leaf (codes "1") 58 1)))) no_items)) (leaf (codes ")") 60 1))) no_commas) no_more); dot = (leaf (codes ".") 62 1) } (end (leaf (codes "") 63 1))
+    with_body record {
+      triples = subject_triples (iri_subject (iri_ref (leaf (codes "<http://a/s>") 0 1))) (predicate_objects (predicate
+          (iri_ref (leaf (codes "<http://a/p>") 13 1))) (objects (collection_object (collection (leaf (codes "(") 26 1) (item (list_object
+          (property_list (leaf (codes "[") 28 1) (predicate_objects (predicate (iri_ref (leaf (codes "<http://a/p>") 30 1))) (objects (iri_object
+          (iri_ref (leaf (codes "<http://a/s>") 43 1))) no_commas) no_more) (leaf (codes "]") 56 1))) (item (literal_object (numeric (integer
+          (leaf (codes "1") 58 1)))) no_items)) (leaf (codes ")") 60 1))) no_commas) no_more);
+      dot = (leaf (codes ".") 62 1);
+    } (end (leaf
+    (codes "") 63 1))
 
 abbrev pub list_in_collection_quads : List Marked
 list_in_collection_quads =
@@ -216,7 +250,12 @@ one_label_tokens =
 
 abbrev pub one_label_tree : Document TriG
 one_label_tree =
-    with_body (triples_or_graph (named_graph (iri_label (iri_ref (leaf (codes "<http://g/>") 0 1))) (wrapped (leaf (codes "{") 12 1) (Some (last_dot (subject_triples (blank_subject (label (leaf (codes "_:x") 14 1))) (predicate_objects (predicate (iri_ref (leaf (codes "<http://a/p>") 18 1))) (objects (iri_object (iri_ref (leaf (codes "<http://a/s>") 31 1))) no_commas) no_more)) (leaf (codes ".") 44 1))) (leaf (codes "}") 46 1)))) (with_body (triples_or_graph (label_triples (blank_label (label (leaf (codes "_:x") 48 1))) (predicate_objects (predicate (iri_ref (leaf (codes "<http://a/p>") 52 1))) (objects (iri_object (iri_ref (leaf (codes "<http://a/s>") 65 1))) no_commas) no_more) (leaf (codes ".") 78 1))) (end (leaf (codes "") 79 1)))
+    with_body (triples_or_graph (named_graph (iri_label (iri_ref (leaf (codes "<http://g/>") 0 1))) (wrapped (leaf (codes "{") 12 1) (Some
+    (last_dot (subject_triples (blank_subject (label (leaf (codes "_:x") 14 1))) (predicate_objects (predicate (iri_ref (leaf
+    (codes "<http://a/p>") 18 1))) (objects (iri_object (iri_ref (leaf (codes "<http://a/s>") 31 1))) no_commas) no_more)) (leaf
+    (codes ".") 44 1))) (leaf (codes "}") 46 1)))) (with_body (triples_or_graph (label_triples (blank_label (label (leaf
+    (codes "_:x") 48 1))) (predicate_objects (predicate (iri_ref (leaf (codes "<http://a/p>") 52 1))) (objects (iri_object (iri_ref (leaf
+    (codes "<http://a/s>") 65 1))) no_commas) no_more) (leaf (codes ".") 78 1))) (end (leaf (codes "") 79 1)))
 
 abbrev pub one_label_quads : List Marked
 one_label_quads =
@@ -238,7 +277,12 @@ word_and_label_tokens =
 
 abbrev pub word_and_label_tree : Document TriG
 word_and_label_tree =
-    with_body (tree.graph_word (leaf (codes "GRAPH") 0 1) (iri_label (iri_ref (leaf (codes "<http://g/>") 6 1))) (wrapped (leaf (codes "{") 18 1) (Some (dot (list_triples (property_list (leaf (codes "[") 20 1) (predicate_objects (predicate (iri_ref (leaf (codes "<http://a/p>") 22 1))) (objects (iri_object (iri_ref (leaf (codes "<http://a/s>") 35 1))) no_commas) no_more) (leaf (codes "]") 48 1)) None) (leaf (codes ".") 50 1) (last (subject_triples (iri_subject (iri_ref (leaf (codes "<http://a/s>") 52 1))) (predicate_objects (predicate (iri_ref (leaf (codes "<http://a/p>") 65 1))) (objects (collection_object (collection (leaf (codes "(") 78 1) no_items (leaf (codes ")") 80 1))) no_commas) no_more))))) (leaf (codes "}") 82 1))) (end (leaf (codes "") 83 1))
+    with_body (tree.graph_word (leaf (codes "GRAPH") 0 1) (iri_label (iri_ref (leaf (codes "<http://g/>") 6 1))) (wrapped (leaf
+    (codes "{") 18 1) (Some (dot (list_triples (property_list (leaf (codes "[") 20 1) (predicate_objects (predicate (iri_ref (leaf
+    (codes "<http://a/p>") 22 1))) (objects (iri_object (iri_ref (leaf (codes "<http://a/s>") 35 1))) no_commas) no_more) (leaf
+    (codes "]") 48 1)) None) (leaf (codes ".") 50 1) (last (subject_triples (iri_subject (iri_ref (leaf (codes "<http://a/s>") 52 1)))
+    (predicate_objects (predicate (iri_ref (leaf (codes "<http://a/p>") 65 1))) (objects (collection_object (collection (leaf
+    (codes "(") 78 1) no_items (leaf (codes ")") 80 1))) no_commas) no_more))))) (leaf (codes "}") 82 1))) (end (leaf (codes "") 83 1))
 
 abbrev pub word_and_label_quads : List Marked
 word_and_label_quads =
@@ -259,13 +303,18 @@ open_tokens =
 
 abbrev pub open_tree : Document TriG
 open_tree =
-    with_body (triples_or_graph (label_triples (iri_label (iri_ref (leaf (codes "<http://a/s>") 0 1))) (predicate_objects (predicate (iri_ref (leaf (codes "<http://a/p>") 13 1))) (objects (list_object (property_list (leaf (codes "[") 26 1) (predicate_objects (predicate (iri_ref (leaf (codes "<http://a/p>") 28 1))) (objects (collection_object (collection (leaf (codes "(") 41 1) no_items (leaf (codes ")") 43 1))) no_commas) no_more) (leaf (codes "]") 45 1))) no_commas) no_more) (leaf (codes ".") 47 1))) (end (leaf (codes "") 48 1))
+    with_body (triples_or_graph (label_triples (iri_label (iri_ref (leaf (codes "<http://a/s>") 0 1))) (predicate_objects (predicate
+    (iri_ref (leaf (codes "<http://a/p>") 13 1))) (objects (list_object (property_list (leaf (codes "[") 26 1) (predicate_objects (predicate
+    (iri_ref (leaf (codes "<http://a/p>") 28 1))) (objects (collection_object (collection (leaf (codes "(") 41 1) no_items (leaf
+    (codes ")") 43 1))) no_commas) no_more) (leaf (codes "]") 45 1))) no_commas) no_more) (leaf (codes ".") 47 1))) (end (leaf
+    (codes "") 48 1))
 
 open_bound : Bound (document_events start open_tree)
 unfolding reference_in name_in resolved is_full has
 open_bound = named_bound (document_events start open_tree) refl
 
-owed_by : (k size : ℕ) → take k open_tokens ++ drop k open_tokens ≡ open_tokens → document_held start (length (take k open_tokens)) 0 open_tree ≡ size → Owed TriG start (take k open_tokens) size
+owed_by : (k size : ℕ) → take k open_tokens ++ drop k open_tokens ≡ open_tokens → document_held start (length (take k open_tokens)) 0 open_tree ≡ size →
+    Owed TriG start (take k open_tokens) size
 owed_by k size e h = record { tree = open_tree; more = drop k open_tokens; tokens = e; bound = open_bound; held = h }
 
 pub owed_inside : Owed TriG start (take 5 open_tokens) 30
