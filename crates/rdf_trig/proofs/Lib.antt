@@ -18,3 +18,4 @@ pub mod Vectors
 pub mod LawExamples
 pub mod ScopeLemmas
 pub mod ReadingsLemmas
+pub mod AlikeLemmas

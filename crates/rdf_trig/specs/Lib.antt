@@ -7,3 +7,4 @@ pub mod Refusals
 pub mod Machine
 pub mod Laws
 pub mod Readings
+pub mod Alike
