@@ -19,3 +19,5 @@ pub mod LawExamples
 pub mod ScopeLemmas
 pub mod ReadingsLemmas
 pub mod AlikeLemmas
+pub mod FewLemmas
+pub mod RunsLemmas

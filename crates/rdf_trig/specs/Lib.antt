@@ -8,3 +8,6 @@ pub mod Machine
 pub mod Laws
 pub mod Readings
 pub mod Alike
+pub mod TrigRead
+pub mod Readers
+pub mod Reading
