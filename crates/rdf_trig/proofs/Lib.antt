@@ -21,3 +21,7 @@ pub mod ReadingsLemmas
 pub mod AlikeLemmas
 pub mod FewLemmas
 pub mod RunsLemmas
+pub mod ReadingLemmas
+pub mod ReachedLemmas
+pub mod FailsLemmas
+pub mod RefusedLemmas
