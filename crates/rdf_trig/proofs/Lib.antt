@@ -25,3 +25,4 @@ pub mod ReadingLemmas
 pub mod ReachedLemmas
 pub mod FailsLemmas
 pub mod RefusedLemmas
+pub mod FeedsLemmas
