@@ -26,3 +26,6 @@ pub mod ReachedLemmas
 pub mod FailsLemmas
 pub mod RefusedLemmas
 pub mod FeedsLemmas
+pub mod FinishLemmas
+pub mod NewLemmas
+pub mod PromiseLemmas
