@@ -1,0 +1,212 @@
+-- Documents of Turtle and TriG as a relation between tokens and marked quads, what passes a limit, and what a reader has to hold.
+use Rattle.std.specs.Prelude.{◌≡◌, ℕ, ◌+◌, ◌-◌, ◌*◌, ◌<◌, ◌⊎◌, Bool, true, cond, List, [], ◌∷◌, ◌++◌, ◌&&◌, length, nat_lt, nat_le, max, Option, Some, None}
+use Rattle.rdf_terms.specs.declared.kind.Kind.{Kind}
+use Rattle.rdf_terms.specs.declared.kind.Kind.TheVariants.{OpenBracket, CloseBracket, OpenParen, CloseParen}
+use Rattle.rdf_terms.specs.Terms.{Node, Label, Anon, Cell}
+use Rattle.rdf_terms.specs.Terms as term
+use Rattle.rdf_tokens.specs.Tokens.{Token}
+use Rattle.rdf_tokens.specs.Grammars.{Marked}
+use Rattle.rdf_iri.specs.Limits.{Sizes}
+use Rattle.rdf_iri.specs.Texts.{byte_len}
+use Rattle.rdf_iri.specs.Scope.{InForce}
+use Rattle.rdf_trig.specs.declared.form.DocForm.{DocForm}
+use Rattle.rdf_trig.specs.declared.form.DocForm.TheVariants.{Turtle, TriG}
+use Rattle.rdf_trig.specs.Trees.{Verb, predicate, type_word, Object, iri_object, blank_object, collection_object, list_object, literal_object, Collection, collection, Items, no_items, item, BlankNodePropertyList, property_list, PredicateObjectList, predicate_objects, More, no_more, semicolon, semicolon_objects, ObjectList, objects, Commas, no_commas, comma, Subject, iri_subject, blank_subject, collection_subject, Triples, subject_triples, list_triples, TriplesBlock, last, last_dot, dot, WrappedGraph, wrapped, named_graph, label_triples, list_triples2, collection_triples2, Block, triples_or_graph, default_graph, triples2, graph_word, Body, Document, end, with_directive, with_body, object_tokens, objects_tokens, predicates_tokens, collection_tokens, list_tokens, subject_tokens, label_tokens, triples_tokens, directive_tokens, body_tokens, document_tokens}
+use Rattle.rdf_trig.specs.Names.{iri_in, behind}
+use Rattle.rdf_trig.specs.Quads.{subject_of, label_of, document_quads}
+use Rattle.rdf_trig.specs.Events.{Use, itself, stands, binds, Event, Took, tokens, Bound, document_events}
+
+-- A tree of the form derives the tokens, each of its names and references stands for an IRI in the scope at its place, and these are its quads.
+-- The scope at the start has the base, or none, the bindings that were handed in, and the limits.
+pub record IsDocument (form : DocForm) (start : InForce) (ts : List Token) (qs : List Marked) : Type 0 where
+  pub tree : Document form
+  pub tokens : ts ≡ document_tokens tree
+  pub bound : Bound (document_events start tree)
+  pub quads : document_quads start 0 tree ≡ qs
+
+abbrev pub documents : DocForm → InForce → List Token → List Marked → Type 0
+documents form start ts qs = IsDocument form start ts qs
+
+-- the same whether names and references stand for something or not
+pub record IsTree (form : DocForm) (start : InForce) (ts : List Token) (qs : List Marked) : Type 0 where
+  pub tree : Document form
+  pub tokens : ts ≡ document_tokens tree
+  pub quads : document_quads start 0 tree ≡ qs
+
+abbrev pub trees : DocForm → InForce → List Token → List Marked → Type 0
+trees form start ts qs = IsTree form start ts qs
+
+-- '[' and '(' that are open behind some tokens
+abbrev pub opens : Kind → ℕ
+opens OpenBracket = 1
+opens OpenParen = 1
+opens k = 0
+
+abbrev pub closes : Kind → ℕ
+closes CloseBracket = 1
+closes CloseParen = 1
+closes k = 0
+
+abbrev pub opened : List Token → ℕ
+opened [] = 0
+opened (t ∷ ts) = opens t.kind + opened ts
+
+abbrev pub closed : List Token → ℕ
+closed [] = 0
+closed (t ∷ ts) = closes t.kind + closed ts
+
+abbrev pub open_in : List Token → ℕ
+open_in ts = opened ts - closed ts
+
+-- the IRI that a token stands for has too many bytes
+abbrev pub IsLong : Sizes → Use → Type 0
+IsLong sizes itself = ⊥
+IsLong sizes (stands None) = ⊥
+IsLong sizes (stands (Some i)) = sizes.iri < byte_len i
+IsLong sizes (binds full None) = ⊥
+IsLong sizes (binds full (Some i)) = sizes.iri < byte_len i
+
+-- the token would bind one prefix too many
+abbrev pub IsOneMore : Use → Type 0
+IsOneMore (binds full i) = full ≡ true
+IsOneMore u = ⊥
+
+-- what the token stands for in a document that begins with the tokens before it and with it
+pub record StandsFor (form : DocForm) (start : InForce) (ahead : List Token) (t : Token) (u : Use) : Type 0 where
+  pub tree : Document form
+  pub bound : Bound (document_events start tree)
+  pub front : List Event
+  pub rest : List Event
+  pub events : document_events start tree ≡ front ++ Took t u ∷ rest
+  pub read : tokens front ≡ ahead
+
+-- one bracket more than may be open
+abbrev pub IsDeep : InForce → List Token → Token → Type 0
+IsDeep start ahead t = (opens t.kind ≡ 1) × (start.limits.depth < open_in (ahead ++ t ∷ []))
+
+-- The token passes a limit: of open brackets, of the bytes of an IRI, or of bound prefixes.
+abbrev pub PassesBy : InForce → List Token → Token → Use → Type 0
+PassesBy start ahead t u = IsDeep start ahead t ⊎ (IsLong start.limits u ⊎ IsOneMore u)
+
+abbrev pub Passes : DocForm → InForce → List Token → Token → Type 0
+Passes form start ahead t = (u : Use) × StandsFor form start ahead t u × PassesBy start ahead t u
+
+-- What a reader has to hold when k tokens are read: for each predicate list that has its verb among them and may go on behind them, the bytes of its
+-- subject's IRI or label; and those of its last verb, where a further object of it can come. Nodes without a label, and IRIs that no token spells, are not
+-- held. In what follows n tokens stand before the tree.
+abbrev pub iri_size : Option (List ℕ) → ℕ
+iri_size None = 0
+iri_size (Some i) = byte_len i
+
+abbrev pub node_size : Node → ℕ
+node_size (Label x) = byte_len x
+node_size (Anon n) = 0
+node_size (Cell n) = 0
+
+abbrev pub term_size : Option term.Subject → ℕ
+term_size None = 0
+term_size (Some (term.Iri i)) = byte_len i
+term_size (Some (term.Blank x)) = node_size x
+
+-- a collection, rdf:nil too, is not held
+abbrev pub subject_size : InForce → Subject → ℕ
+subject_size s (collection_subject c) = 0
+subject_size s (iri_subject i) = iri_size (iri_in s i)
+subject_size s (blank_subject b) = term_size (subject_of s (blank_subject b))
+
+abbrev pub verb_size : InForce → Verb → ℕ
+verb_size s (predicate i) = iri_size (iri_in s i)
+verb_size s (type_word l) = 0
+
+-- the first of a part's tokens is read, and one of its own may come behind those read
+abbrev pub is_open : ℕ → ℕ → List Token → Bool
+is_open k n ts = nat_lt n k && nat_le k (n + length ts)
+
+abbrev pub verb_held : InForce → ℕ → ℕ → Verb → ObjectList → ℕ
+verb_held s k n v os = cond (nat_lt n k && nat_le k (n + 1 + length (objects_tokens os))) (verb_size s v) 0
+
+abbrev mutual
+  pub object_held : InForce → ℕ → ℕ → Object → ℕ
+  object_held s k n (iri_object i) = 0
+  object_held s k n (blank_object b) = 0
+  object_held s k n (collection_object c) = collection_held s k n c
+  object_held s k n (list_object p) = list_held s k n p
+  object_held s k n (literal_object l) = 0
+
+  pub collection_held : InForce → ℕ → ℕ → Collection → ℕ
+  collection_held s k n (collection l os r) = items_held s k (n + 1) os
+
+  pub items_held : InForce → ℕ → ℕ → Items → ℕ
+  items_held s k n no_items = 0
+  items_held s k n (item o os) = object_held s k n o + items_held s k (n + length (object_tokens o)) os
+
+  pub list_held : InForce → ℕ → ℕ → BlankNodePropertyList → ℕ
+  list_held s k n (property_list l ps r) = predicates_held s k (n + 1) 0 ps
+
+  pub predicates_held : InForce → ℕ → ℕ → ℕ → PredicateObjectList → ℕ
+  predicates_held s k n size (predicate_objects v os m) =
+      cond (is_open k n (predicates_tokens (predicate_objects v os m))) size 0 + verb_held s k n v os + objects_held s k (n + 1) os
+      + more_held s k (n + 1 + length (objects_tokens os)) m
+
+  pub more_held : InForce → ℕ → ℕ → More → ℕ
+  more_held s k n no_more = 0
+  more_held s k n (semicolon l m) = more_held s k (n + 1) m
+  more_held s k n (semicolon_objects l v os m) =
+      verb_held s k (n + 1) v os + objects_held s k (n + 2) os + more_held s k (n + 2 + length (objects_tokens os)) m
+
+  pub objects_held : InForce → ℕ → ℕ → ObjectList → ℕ
+  objects_held s k n (objects o os) = object_held s k n o + commas_held s k (n + length (object_tokens o)) os
+
+  pub commas_held : InForce → ℕ → ℕ → Commas → ℕ
+  commas_held s k n no_commas = 0
+  commas_held s k n (comma l o os) = object_held s k (n + 1) o + commas_held s k (n + 1 + length (object_tokens o)) os
+
+abbrev pub subject_held : InForce → ℕ → ℕ → Subject → ℕ
+subject_held s k n (collection_subject c) = collection_held s k n c
+subject_held s k n t = 0
+
+abbrev pub maybe_held : InForce → ℕ → ℕ → Option PredicateObjectList → ℕ
+maybe_held s k n None = 0
+maybe_held s k n (Some ps) = predicates_held s k n 0 ps
+
+abbrev pub triples_held : InForce → ℕ → ℕ → Triples → ℕ
+triples_held s k n (subject_triples t ps) = subject_held s k n t + predicates_held s k (n + length (subject_tokens t)) (subject_size s t) ps
+triples_held s k n (list_triples p ps) = list_held s k n p + maybe_held s k (n + length (list_tokens p)) ps
+
+abbrev pub block_held : InForce → ℕ → ℕ → TriplesBlock → ℕ
+block_held s k n (last t) = triples_held s k n t
+block_held s k n (last_dot t d) = triples_held s k n t
+block_held s k n (dot t d b) = triples_held s k n t + block_held s k (n + length (triples_tokens t) + 1) b
+
+abbrev pub wrapped_held : InForce → ℕ → ℕ → WrappedGraph → ℕ
+wrapped_held s k n (wrapped l None r) = 0
+wrapped_held s k n (wrapped l (Some b) r) = block_held s k (n + 1) b
+
+abbrev pub trig_held : InForce → ℕ → ℕ → Block → ℕ
+trig_held s k n (triples_or_graph (named_graph g w)) = wrapped_held s k (n + length (label_tokens g)) w
+trig_held s k n (triples_or_graph (label_triples g ps d)) = predicates_held s k (n + length (label_tokens g)) (term_size (label_of s g)) ps
+trig_held s k n (default_graph w) = wrapped_held s k n w
+trig_held s k n (triples2 (list_triples2 p ps d)) = list_held s k n p + maybe_held s k (n + length (list_tokens p)) ps
+trig_held s k n (triples2 (collection_triples2 c ps d)) = collection_held s k n c + predicates_held s k (n + length (collection_tokens c)) 0 ps
+trig_held s k n (graph_word l g w) = wrapped_held s k (n + 1 + length (label_tokens g)) w
+
+abbrev pub body_held : (form : DocForm) → InForce → ℕ → ℕ → Body form → ℕ
+body_held Turtle s k n b = triples_held s k n b.triples
+body_held TriG s k n b = trig_held s k n b
+
+abbrev pub document_held : {form : DocForm} → InForce → ℕ → ℕ → Document form → ℕ
+document_held s k n (end l) = 0
+document_held s k n (with_directive d rest) = document_held (behind s d) k (n + length (directive_tokens d)) rest
+document_held {form} s k n (with_body b rest) = body_held form s k n b + document_held s k (n + length (body_tokens form b)) rest
+
+-- what is owed behind some tokens: what has to be held in a document that begins with them
+pub record Owed (form : DocForm) (start : InForce) (ts : List Token) (size : ℕ) : Type 0 where
+  pub tree : Document form
+  pub more : List Token
+  pub tokens : ts ++ more ≡ document_tokens tree
+  pub bound : Bound (document_events start tree)
+  pub held : document_held start (length ts) 0 tree ≡ size
+
+-- the most bytes that may be held: a piece of a token, the texts of the open frames and of what is read, the base, and the prefixes with their IRIs
+abbrev pub most_held : Sizes → ℕ
+most_held l = 4 * (l.token + 1) + 3 + max l.iri (4 * l.token) * (2 * (l.depth + 1) + 3) + l.iri + l.bindings * (4 * l.token + l.iri)

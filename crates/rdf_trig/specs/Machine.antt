@@ -1,0 +1,446 @@
+-- The reader, a token at a time: what it stands in, and what a token does there.
+use Rattle.std.specs.Prelude.{ℕ, ◌+◌, Bool, true, false, cond, List, [], ◌∷◌, ◌++◌, ◌&&◌, nat_lt, nat_le, codes, Option, Some, None}
+use Rattle.rdf_terms.specs.declared.kind.Kind.{Kind}
+use Rattle.rdf_terms.specs.declared.kind.Kind.TheVariants.{IriRef, LabelNode, ShortString, LongString, LangTag, Carets, Dot, Integer, Decimal, Double, True, False, A, AtPrefix, AtBase, Prefix, Base, Graph, PnameNs, PnameLn, Semicolon, Comma, OpenBracket, CloseBracket, OpenParen, CloseParen, OpenBrace, CloseBrace, End}
+use Rattle.rdf_terms.specs.Terms.{Cell, Blank, Term, Quad}
+use Rattle.rdf_terms.specs.Terms as term
+use Rattle.rdf_terms.specs.Known.{known_chars}
+use Rattle.rdf_terms.specs.declared.constants.Known.TheVariants.{RdfType, RdfFirst, RdfNil, XsdInteger, XsdDecimal, XsdDouble, XsdBoolean}
+use Rattle.rdf_tokens.specs.Tokens.{Token}
+use Rattle.rdf_iri.specs.Limits.{Sizes}
+use Rattle.rdf_iri.specs.Texts.{byte_len}
+use Rattle.rdf_iri.specs.Scope.{InForce}
+use Rattle.rdf_lines.specs.Lines.{Leaf, leaf_of}
+use Rattle.rdf_trig.specs.declared.form.DocForm.{DocForm}
+use Rattle.rdf_trig.specs.declared.form.DocForm.TheVariants.{TriG}
+use Rattle.rdf_trig.specs.Names.{prefix_of, reference_in, name_in, with_base, with_binding, is_full}
+use Rattle.rdf_trig.specs.Quads.{Setting, in_default, in_graph, stated, named, node, resource, anon_at, labelled, short_value, long_value, tag_of, plain_literal, tagged_literal, typed_literal, cell_at, rest_quad}
+use Rattle.rdf_trig.specs.Events.{Use, itself, stands, binds, Event, Took, give}
+
+-- outside of a block, or in one
+pub data Level : Type 0 where
+  Top : Level
+  InBlock : Level
+
+-- The frames. Each holds a subject and a verb at most; what it stands in is the frame below.
+mutual
+  -- where an object stands: behind a subject and a verb, or in a collection with its first and its present cell, as offsets
+  pub data Place : Type 0 where
+    Listed : Option term.Subject → Option (List ℕ) → Around → Place
+    InCells : ℕ → ℕ → Up → Place
+
+  -- what a predicate list stands in
+  pub data Around : Type 0 where
+    Statement : Level → Around
+    Boxed : Up → Around
+
+  -- what a bracket stands for: a subject, or the object at a place
+  pub data Up : Type 0 where
+    Subject : Level → Up
+    At : Place → Up
+
+-- a directive that ends in a dot, or not
+pub data Spelling : Type 0 where
+  Dotted : Spelling
+  Sparql : Spelling
+
+-- what has been read, as far as it matters for what may come
+pub data Mode : Type 0 where
+  -- between statements, and behind the end
+  Start : Mode
+  Over : Mode
+  -- in a directive: its prefix is to come, its IRIREF, its dot
+  WantPrefix : Spelling → Mode
+  WantPrefixIri : Spelling → List ℕ → Mode
+  WantBaseIri : Spelling → Mode
+  WantDot : Mode
+  -- behind a label or subject; behind GRAPH, behind its '[' and behind its label
+  AfterLabel : Option term.Subject → Mode
+  GraphWord : Mode
+  GraphBox : ℕ → Mode
+  WantBrace : Option term.Subject → Mode
+  -- in a block, before a subject
+  Inside : Mode
+  -- an object is to come, or has come; a string has come, and behind it '^^'
+  Want : Place → Mode
+  After : Place → Mode
+  AfterText : List ℕ → Place → Mode
+  WantType : List ℕ → Place → Mode
+  -- behind '[' and behind '('
+  Box : ℕ → Up → Mode
+  Paren : Up → Mode
+  -- a verb has to come; behind ';' one may; behind a property list that is a subject
+  WantVerb : Option term.Subject → Around → Mode
+  Semi : Option term.Subject → Around → Mode
+  AfterBox : Option term.Subject → Level → Mode
+
+-- What a token does by the grammar alone: nothing has it there; or what it stands for, a quad whose head ends with it as the first token of
+-- the next item, a quad whose head ends with it as an object, and where the reader stands behind it.
+pub data Reply : Type 0 where
+  No : Reply
+  Go : Use → Option Quad → Option Quad → Setting → Mode → Reply
+
+-- the token alone, with no quad
+abbrev pub goes : Setting → Mode → Reply
+goes c m = Go itself None None c m
+
+abbrev pub cell : ℕ → Option term.Subject
+cell n = node (Cell n)
+
+abbrev pub subject_at : Place → Option term.Subject
+subject_at (Listed s p a) = s
+subject_at (InCells f n u) = cell n
+
+abbrev pub verb_at : Place → Option (List ℕ)
+verb_at (Listed s p a) = p
+verb_at (InCells f n u) = Some (known_chars RdfFirst)
+
+abbrev pub quad_at : Setting → Place → Option Term → Option Quad
+quad_at c p o = stated c.graph (subject_at p) (verb_at p) o
+
+-- the quad of a bracket's object, once it is known
+abbrev pub quad_up : Setting → Up → term.Subject → Option Quad
+quad_up c (Subject v) s = None
+quad_up c (At p) s = quad_at c p (resource (Some s))
+
+abbrev pub nil : term.Subject
+nil = term.Iri (known_chars RdfNil)
+
+-- Objects.
+abbrev pub iri_object_at : Setting → Place → Option Quad → Option (List ℕ) → Reply
+iri_object_at c p early i = Go (stands i) early (quad_at c p (resource (named i))) c (After p)
+
+abbrev pub literal_at : Setting → Place → Option Quad → Option Term → Reply
+literal_at c p early o = Go itself early (quad_at c p o) c (After p)
+
+-- the first token of an object; early is the quad that was waiting for it
+abbrev pub object_start : Setting → Place → Option Quad → Kind → Leaf → Reply
+object_start c p early IriRef l = iri_object_at c p early (reference_in c.scope l)
+object_start c p early PnameLn l = iri_object_at c p early (name_in c.scope l)
+object_start c p early PnameNs l = iri_object_at c p early (name_in c.scope l)
+object_start c p early LabelNode l = literal_at c p early (resource (node (labelled l)))
+object_start c p early ShortString l = Go itself early None c (AfterText (short_value l) p)
+object_start c p early LongString l = Go itself early None c (AfterText (long_value l) p)
+object_start c p early Integer l = literal_at c p early (typed_literal l.text (Some (known_chars XsdInteger)))
+object_start c p early Decimal l = literal_at c p early (typed_literal l.text (Some (known_chars XsdDecimal)))
+object_start c p early Double l = literal_at c p early (typed_literal l.text (Some (known_chars XsdDouble)))
+object_start c p early True l = literal_at c p early (typed_literal (codes "true") (Some (known_chars XsdBoolean)))
+object_start c p early False l = literal_at c p early (typed_literal (codes "false") (Some (known_chars XsdBoolean)))
+object_start c p early OpenBracket l = Go itself early (quad_at c p (resource (node (anon_at l)))) c (Box l.at.offset (At p))
+object_start c p early OpenParen l = Go itself early None c (Paren (At p))
+object_start c p early k l = No
+
+abbrev pub type_at : Setting → List ℕ → Place → Option (List ℕ) → Reply
+type_at c w p i = Go (stands i) None (quad_at c p (typed_literal w i)) c (After p)
+
+abbrev pub want_type : Setting → List ℕ → Place → Kind → Leaf → Reply
+want_type c w p IriRef l = type_at c w p (reference_in c.scope l)
+want_type c w p PnameLn l = type_at c w p (name_in c.scope l)
+want_type c w p PnameNs l = type_at c w p (name_in c.scope l)
+want_type c w p k l = No
+
+-- Verbs.
+abbrev pub verb_is : Setting → Option term.Subject → Around → Option (List ℕ) → Reply
+verb_is c s a i = Go (stands i) None None c (Want (Listed s i a))
+
+abbrev pub verb_start : Setting → Option term.Subject → Around → Kind → Leaf → Reply
+verb_start c s a IriRef l = verb_is c s a (reference_in c.scope l)
+verb_start c s a PnameLn l = verb_is c s a (name_in c.scope l)
+verb_start c s a PnameNs l = verb_is c s a (name_in c.scope l)
+verb_start c s a A l = goes c (Want (Listed s (Some (known_chars RdfType)) a))
+verb_start c s a k l = No
+
+-- Where the reader stands behind a subject that is a name or node, a property list, and a collection.
+abbrev pub after_subject : DocForm → Level → Option term.Subject → Mode
+after_subject TriG Top s = AfterLabel s
+after_subject form v s = WantVerb s (Statement v)
+
+abbrev pub node_closed : DocForm → Up → Option term.Subject → Mode
+node_closed form (Subject v) s = after_subject form v s
+node_closed form (At p) s = After p
+
+abbrev pub box_closed : Up → Option term.Subject → Mode
+box_closed (Subject v) s = AfterBox s v
+box_closed (At p) s = After p
+
+abbrev pub list_closed : Up → Option term.Subject → Mode
+list_closed (Subject v) s = WantVerb s (Statement v)
+list_closed (At p) s = After p
+
+-- the end of a predicate list
+abbrev pub list_end : Setting → Option term.Subject → Around → Kind → Leaf → Reply
+list_end c s (Statement Top) Dot l = goes c Start
+list_end c s (Statement InBlock) Dot l = goes c Inside
+list_end c s (Statement InBlock) CloseBrace l = goes (in_default c.scope) Start
+list_end c s (Boxed u) CloseBracket l = goes c (box_closed u s)
+list_end c s a k l = No
+
+abbrev pub semi : Setting → Option term.Subject → Around → Kind → Leaf → Reply
+semi c s a Semicolon l = goes c (Semi s a)
+semi c s a IriRef l = verb_start c s a IriRef l
+semi c s a PnameLn l = verb_start c s a PnameLn l
+semi c s a PnameNs l = verb_start c s a PnameNs l
+semi c s a A l = verb_start c s a A l
+semi c s a k l = list_end c s a k l
+
+abbrev pub after : Setting → Place → Kind → Leaf → Reply
+after c (Listed s p a) Comma l = goes c (Want (Listed s p a))
+after c (Listed s p a) Semicolon l = goes c (Semi s a)
+after c (Listed s p a) k l = list_end c s a k l
+after c (InCells f n u) CloseParen l = Go itself None (rest_quad c (Cell n) nil) c (list_closed u (cell f))
+after c (InCells f n u) k l = object_start c (InCells f l.at.offset u) (rest_quad c (Cell n) (Blank (cell_at l))) k l
+
+abbrev pub tag_at : Setting → List ℕ → Place → Leaf → Reply
+tag_at c w p l = Go itself None (quad_at c p (tagged_literal w (tag_of l))) c (After p)
+
+abbrev pub after_text : Setting → List ℕ → Place → Kind → Leaf → Reply
+after_text c w p LangTag l = tag_at c w p l
+after_text c w p AtBase l = tag_at c w p l
+after_text c w p AtPrefix l = tag_at c w p l
+after_text c w p Carets l = goes c (WantType w p)
+after_text c w p k l = after c p k l
+
+-- Brackets.
+abbrev pub box : DocForm → Setting → ℕ → Up → Kind → Leaf → Reply
+box form c n u CloseBracket l = goes c (node_closed form u (node (term.Anon n)))
+box form c n u k l = verb_start c (node (term.Anon n)) (Boxed u) k l
+
+abbrev pub paren : Setting → Up → Kind → Leaf → Reply
+paren c u CloseParen l = goes c (list_closed u (Some nil))
+paren c u k l = object_start c (InCells l.at.offset l.at.offset u) None k l
+
+abbrev pub after_box : Setting → Option term.Subject → Level → Kind → Leaf → Reply
+after_box c s v IriRef l = verb_start c s (Statement v) IriRef l
+after_box c s v PnameLn l = verb_start c s (Statement v) PnameLn l
+after_box c s v PnameNs l = verb_start c s (Statement v) PnameNs l
+after_box c s v A l = verb_start c s (Statement v) A l
+after_box c s v k l = list_end c s (Statement v) k l
+
+-- Subjects, labels and blocks.
+abbrev pub subject_is : DocForm → Setting → Level → Option (List ℕ) → Reply
+subject_is form c v i = Go (stands i) None None c (after_subject form v (named i))
+
+abbrev pub subject_start : DocForm → Setting → Level → Kind → Leaf → Reply
+subject_start form c v IriRef l = subject_is form c v (reference_in c.scope l)
+subject_start form c v PnameLn l = subject_is form c v (name_in c.scope l)
+subject_start form c v PnameNs l = subject_is form c v (name_in c.scope l)
+subject_start form c v LabelNode l = goes c (after_subject form v (node (labelled l)))
+subject_start form c v OpenBracket l = goes c (Box l.at.offset (Subject v))
+subject_start form c v OpenParen l = goes c (Paren (Subject v))
+subject_start form c v k l = No
+
+abbrev pub start : DocForm → Setting → Kind → Leaf → Reply
+start form c End l = goes c Over
+start form c AtPrefix l = goes c (WantPrefix Dotted)
+start form c Prefix l = goes c (WantPrefix Sparql)
+start form c AtBase l = goes c (WantBaseIri Dotted)
+start form c Base l = goes c (WantBaseIri Sparql)
+start TriG c Graph l = goes c GraphWord
+start TriG c OpenBrace l = goes (in_default c.scope) Inside
+start form c k l = subject_start form (in_default c.scope) Top k l
+
+abbrev pub inside : DocForm → Setting → Kind → Leaf → Reply
+inside form c CloseBrace l = goes (in_default c.scope) Start
+inside form c k l = subject_start form c InBlock k l
+
+abbrev pub want_brace : Setting → Option term.Subject → Kind → Leaf → Reply
+want_brace c g OpenBrace l = goes (in_graph c.scope g) Inside
+want_brace c g k l = No
+
+abbrev pub after_label : Setting → Option term.Subject → Kind → Leaf → Reply
+after_label c g OpenBrace l = goes (in_graph c.scope g) Inside
+after_label c g k l = verb_start c g (Statement Top) k l
+
+abbrev pub graph_is : Setting → Option (List ℕ) → Reply
+graph_is c i = Go (stands i) None None c (WantBrace (named i))
+
+abbrev pub graph_word : Setting → Kind → Leaf → Reply
+graph_word c IriRef l = graph_is c (reference_in c.scope l)
+graph_word c PnameLn l = graph_is c (name_in c.scope l)
+graph_word c PnameNs l = graph_is c (name_in c.scope l)
+graph_word c LabelNode l = goes c (WantBrace (node (labelled l)))
+graph_word c OpenBracket l = goes c (GraphBox l.at.offset)
+graph_word c k l = No
+
+abbrev pub graph_box : Setting → ℕ → Kind → Leaf → Reply
+graph_box c n CloseBracket l = goes c (WantBrace (node (term.Anon n)))
+graph_box c n k l = No
+
+-- Directives.
+abbrev pub directive_end : Spelling → Mode
+directive_end Dotted = WantDot
+directive_end Sparql = Start
+
+abbrev pub want_prefix : Setting → Spelling → Kind → Leaf → Reply
+want_prefix c w PnameNs l = goes c (WantPrefixIri w (prefix_of l))
+want_prefix c w k l = No
+
+abbrev pub want_prefix_iri : Setting → Spelling → List ℕ → Kind → Leaf → Reply
+want_prefix_iri c w p IriRef l =
+    Go (binds (is_full c.scope p) (reference_in c.scope l)) None None (in_default (with_binding c.scope p (reference_in c.scope l))) (directive_end w)
+want_prefix_iri c w p k l = No
+
+abbrev pub want_base_iri : Setting → Spelling → Kind → Leaf → Reply
+want_base_iri c w IriRef l = Go (stands (reference_in c.scope l)) None None (in_default (with_base c.scope (reference_in c.scope l))) (directive_end w)
+want_base_iri c w k l = No
+
+abbrev pub want_dot : Setting → Kind → Leaf → Reply
+want_dot c Dot l = goes c Start
+want_dot c k l = No
+
+abbrev pub step : DocForm → Setting → Mode → Kind → Leaf → Reply
+step form c Start k l = start form c k l
+step form c Over k l = No
+step form c (WantPrefix w) k l = want_prefix c w k l
+step form c (WantPrefixIri w p) k l = want_prefix_iri c w p k l
+step form c (WantBaseIri w) k l = want_base_iri c w k l
+step form c WantDot k l = want_dot c k l
+step form c (AfterLabel g) k l = after_label c g k l
+step form c GraphWord k l = graph_word c k l
+step form c (GraphBox n) k l = graph_box c n k l
+step form c (WantBrace g) k l = want_brace c g k l
+step form c Inside k l = inside form c k l
+step form c (Want p) k l = object_start c p None k l
+step form c (After p) k l = after c p k l
+step form c (AfterText w p) k l = after_text c w p k l
+step form c (WantType w p) k l = want_type c w p k l
+step form c (Box n u) k l = box form c n u k l
+step form c (Paren u) k l = paren c u k l
+step form c (WantVerb s a) k l = verb_start c s a k l
+step form c (Semi s a) k l = semi c s a k l
+step form c (AfterBox s v) k l = after_box c s v k l
+
+-- a quad whose head has ended, but whose object is known only by this token
+abbrev pub waiting : Setting → Mode → Kind → Leaf → Option Quad
+waiting c (AfterText w p) LangTag l = None
+waiting c (AfterText w p) AtBase l = None
+waiting c (AfterText w p) AtPrefix l = None
+waiting c (AfterText w p) Carets l = None
+waiting c (AfterText w p) k l = quad_at c p (plain_literal w)
+waiting c (Paren u) CloseParen l = quad_up c u nil
+waiting c (Paren u) k l = quad_up c u (Blank (cell_at l))
+waiting c m k l = None
+
+-- The run over all tokens of a document, as its events; none where it refuses a token or stops short.
+abbrev pub fronted : Option Quad → Option (List Event) → Option (List Event)
+fronted q None = None
+fronted q (Some es) = Some (give q es)
+
+abbrev pub put : Token → Use → Option Quad → Option Quad → Option (List Event) → Option (List Event)
+put t u early now None = None
+put t u early now (Some es) = Some (Took t u ∷ give early (give now es))
+
+abbrev pub stop : Mode → Option (List Event)
+stop Over = Some []
+stop m = None
+
+abbrev pub go_on : Token → Reply → (Setting → Mode → Option (List Event)) → Option (List Event)
+go_on t No next = None
+go_on t (Go u early now c m) next = put t u early now (next c m)
+
+abbrev pub run : DocForm → Setting → Mode → List Token → Option (List Event)
+run form c m [] = stop m
+run form c m (t ∷ ts) = fronted (waiting c m t.kind (leaf_of t)) (go_on t (step form c m t.kind (leaf_of t)) (λ c' m'. run form c' m' ts))
+
+-- How many '[' and '(' are open.
+abbrev mutual
+  pub depth_at : Place → ℕ
+  depth_at (Listed s p a) = depth_around a
+  depth_at (InCells f n u) = depth_up u + 1
+
+  pub depth_around : Around → ℕ
+  depth_around (Statement v) = 0
+  depth_around (Boxed u) = depth_up u + 1
+
+  pub depth_up : Up → ℕ
+  depth_up (Subject v) = 0
+  depth_up (At p) = depth_at p
+
+abbrev pub depth : Mode → ℕ
+depth (GraphBox n) = 1
+depth (Want p) = depth_at p
+depth (After p) = depth_at p
+depth (AfterText w p) = depth_at p
+depth (WantType w p) = depth_at p
+depth (Box n u) = depth_up u + 1
+depth (Paren u) = depth_up u + 1
+depth (WantVerb s a) = depth_around a
+depth (Semi s a) = depth_around a
+depth m = 0
+
+-- Why a token is not accepted.
+pub data Refusal : Type 0 where
+  unexpected : Refusal
+  too_deep : Refusal
+  unbound : Refusal
+  no_base : Refusal
+  iri_too_long : Refusal
+  too_many_bindings : Refusal
+
+-- where the reader stands, with the quads whose heads have ended at the last token: at most two
+pub record State : Type 0 where
+  pub setting : Setting
+  pub mode : Mode
+  pub held : List Quad
+
+-- what a token does: it is refused; or accepted, with the quads that are given out
+pub data Answer : Type 0 where
+  refuses : Refusal → Answer
+  accepts : List Quad → State → Answer
+
+-- an IRIREF has no IRI where it needs a base; a prefixed name where its prefix is not bound
+abbrev pub unnamed : Kind → Refusal
+unnamed IriRef = no_base
+unnamed k = unbound
+
+abbrev pub too_long : Sizes → List ℕ → Bool
+too_long sizes i = nat_lt sizes.iri (byte_len i)
+
+-- the order of the checks: the depth, what the token stands for, its size, the number of bindings
+abbrev pub by_use : Sizes → Kind → Use → Answer → Answer
+by_use sizes k itself a = a
+by_use sizes k (stands None) a = refuses (unnamed k)
+by_use sizes k (stands (Some i)) a = cond (too_long sizes i) (refuses iri_too_long) a
+by_use sizes k (binds full None) a = refuses no_base
+by_use sizes k (binds full (Some i)) a = cond (too_long sizes i) (refuses iri_too_long) (cond full (refuses too_many_bindings) a)
+
+abbrev pub deepens : Kind → Bool
+deepens OpenBracket = true
+deepens OpenParen = true
+deepens k = false
+
+abbrev pub by_depth : Sizes → ℕ → Kind → Answer → Answer
+by_depth sizes n k a = cond (deepens k && nat_le sizes.depth n) (refuses too_deep) a
+
+abbrev pub kept : Option Quad → List Quad → List Quad
+kept None qs = qs
+kept (Some q) qs = q ∷ qs
+
+-- the quads that were held are given out, and the one that was waiting
+abbrev pub answer : Sizes → State → Kind → Option Quad → Reply → Answer
+answer sizes s k w No = refuses unexpected
+answer sizes s k w (Go u early now c m) =
+    by_depth sizes (depth s.mode) k (by_use sizes k u (accepts (s.held ++ kept w []) (record { setting = c; mode = m; held = kept early (kept now []) })))
+
+abbrev pub accept : DocForm → State → Kind → Leaf → Answer
+accept form s k l = answer s.setting.scope.limits s k (waiting s.setting s.mode k l) (step form s.setting s.mode k l)
+
+abbrev pub at_start : InForce → State
+at_start scope = record { setting = in_default scope; mode = Start; held = [] }
+
+-- some tokens: the state behind them and the quads that were given out, or the first refusal
+pub data Run : Type 0 where
+  ran : State → List Quad → Run
+  refused : Refusal → Run
+
+abbrev pub with_quads : List Quad → Run → Run
+with_quads qs (ran s rs) = ran s (qs ++ rs)
+with_quads qs (refused r) = refused r
+
+abbrev pub go : Answer → (State → Run) → Run
+go (refuses r) more = refused r
+go (accepts qs s) more = with_quads qs (more s)
+
+abbrev pub accept_all : DocForm → State → List Token → Run
+accept_all form s [] = ran s []
+accept_all form s (t ∷ ts) = go (accept form s t.kind (leaf_of t)) (λ n. accept_all form n ts)
