@@ -1,0 +1,6 @@
+pub mod Stack
+pub mod SpelledLemmas
+pub mod Fallbacks
+pub mod TurnsLemmas
+pub mod NamesLemmas
+pub mod StepsLemmas

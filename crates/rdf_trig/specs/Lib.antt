@@ -4,3 +4,6 @@ pub mod Quads
 pub mod Events
 pub mod Documents
 pub mod Machine
+pub mod States
+pub mod Spelled
+pub mod Steps

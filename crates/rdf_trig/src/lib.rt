@@ -1,7 +1,12 @@
 //! Turtle and TriG: what a document is, and the laws of that.
 #![tactic(auto)]
 
+mod fault;
 mod form;
+mod give;
 pub mod laws;
+mod spelled;
+mod state;
+pub mod turns;
 
 pub use form::DocForm;
