@@ -4,3 +4,5 @@ pub mod Fallbacks
 pub mod TurnsLemmas
 pub mod NamesLemmas
 pub mod StepsLemmas
+pub mod ScopesLemmas
+pub mod LocalShapes

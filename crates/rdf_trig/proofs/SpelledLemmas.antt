@@ -9,10 +9,11 @@ use Rattle.rdf_terms.specs.Regex.{Regex, Matches}
 use Rattle.rdf_terms.specs.Regex.Regex.{nothing, empty, one, ◌·◌, ◌∣◌, many}
 use Rattle.rdf_terms.specs.declared.kind.Kind.{Kind}
 use Rattle.rdf_terms.specs.declared.kind.Dialect.TheVariants.{Lines, Turtle}
-use Rattle.rdf_terms.specs.declared.kind.Kind.TheVariants.{LabelNode, LangTag, AtPrefix, AtBase, ShortString, LongString}
+use Rattle.rdf_terms.specs.declared.kind.Kind.TheVariants.{IriRef, LabelNode, LangTag, AtPrefix, AtBase, ShortString, LongString}
 use Rattle.rdf_terms.specs.Shapes.{shape, Shape, label_name, tag_name, word}
 use Rattle.rdf_terms.specs.Terms.{IsLabel, IsTag}
-use Rattle.rdf_terms.specs.Values.{string_value, inside, is_fit}
+use Rattle.rdf_terms.specs.Values.{string_value, iri_value, inside, is_fit}
+use Rattle.rdf_trig.specs.Scopes.{IsReference}
 use Rattle.rdf_tokens.specs.declared.token.Token.{Token as Given}
 use Rattle.rdf_trig.specs.States.{leaf, IsTurtleToken}
 use Rattle.rdf_trig.specs.Spelled.{SpellsTag}
@@ -123,3 +124,18 @@ spelled_tag k w t m = absurd t
 
 pub token_tag : (t : Given) → SpellsTag t.kind → IsTurtleToken t → IsTag (drop 1 (leaf t).text)
 token_tag t s k = ⊎_elim (λ e. absurd (subst SpellsTag e.0 s)) (λ h. spelled_tag t.kind (leaf t).text s h.0) k
+
+-- a fit reference has a value
+pub fit_reference : (t : Given) → IsReference t.kind → IsTurtleToken t → iri_value (inside 1 (leaf t).text) ≡ None → ⊥
+unfolding is_fit
+fit_reference t r k n =
+    ⊎_elim
+    (λ e. subst IsReference e.0 r)
+    (λ h.
+    let fit : is_fit IriRef (leaf t).text ≡ true = subst (λ k. is_fit k (leaf t).text ≡ true) (reference_kind t.kind r) h.1 in
+    let z : false ≡ true = sym (ap is_some n) ∙ fit in absurd (false≢true z))
+    k
+  where
+    reference_kind : (k : Kind) → IsReference k → k ≡ IriRef
+    reference_kind IriRef r = refl
+    reference_kind k r = absurd r

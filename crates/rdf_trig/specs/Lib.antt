@@ -7,3 +7,4 @@ pub mod Machine
 pub mod States
 pub mod Spelled
 pub mod Steps
+pub mod Scopes

@@ -192,6 +192,9 @@ begins_verb k = false
 abbrev pub use_in : InForce → M.Mode → Kind → Leaf → Use
 use_in s (M.WantPrefix w) k l = itself
 use_in s (M.WantPrefixIri w p) IriRef l = binds (is_full s p) (reference_in s l)
+use_in s (M.WantPrefixIri w p) k l = itself
+use_in s (M.WantBaseIri w) IriRef l = stands (reference_in s l)
+use_in s (M.WantBaseIri w) k l = itself
 use_in s m k l = use_at s k l
 
 abbrev pub scope_in : InForce → M.Mode → Kind → Leaf → InForce

@@ -1,7 +1,6 @@
 // Why a token is not accepted.
 
 use rdf_iri::IriFault;
-use rdf_terms::PutFault;
 use std::alloc::{AllocError, AllocFailed};
 
 /// Why a token was not accepted.
@@ -44,5 +43,22 @@ impl<T: Drop> From<AllocFailed<T>> for StepFault {
 
     fn from(_error: AllocFailed<T>) -> StepFault {
         StepFault::Memory
+    }
+}
+
+impl From<IriFault> for StepFault {
+    ghost use Rattle.std.specs.Prelude.{◌≡◌};
+    ghost use Rattle.rdf_trig.specs.Scopes.{step_fault};
+
+    ghost from_gives = { λ f e. e ≡ step_fault f };
+
+    fn from(fault: IriFault) -> StepFault {
+        match fault {
+            IriFault::NoBase => StepFault::NoBase,
+            IriFault::IriTooLong => StepFault::IriTooLong,
+            IriFault::Memory => StepFault::Memory,
+            IriFault::Unbound => StepFault::Unbound,
+            IriFault::TooManyBindings => StepFault::TooManyBindings,
+        }
     }
 }

@@ -5,6 +5,7 @@ mod fault;
 mod form;
 mod give;
 pub mod laws;
+pub mod names;
 mod spelled;
 mod state;
 pub mod turns;
