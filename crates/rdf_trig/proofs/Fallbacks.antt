@@ -2,11 +2,11 @@
 use Rattle.std.proofs.Common.{◌≡◌, ℕ, Bool, true, false, List, Option, None, refl}
 use Rattle.std.proofs.lemmas.Bool.{false≢true}
 use Rattle.rdf_terms.specs.declared.kind.Kind.{Kind}
-use Rattle.rdf_terms.specs.declared.kind.Kind.TheVariants.{IriRef, PnameNs, PnameLn, A, CloseBracket, CloseParen, CloseBrace, OpenBrace, Semicolon, LangTag, AtBase, AtPrefix, Carets}
+use Rattle.rdf_terms.specs.declared.kind.Kind.TheVariants.{IriRef, PnameNs, PnameLn, A, CloseBracket, CloseParen, CloseBrace, OpenBrace, Semicolon, LangTag, AtBase, AtPrefix, Base, Prefix, Graph, End, Carets}
 use Rattle.rdf_terms.specs.Terms as term
 use Rattle.rdf_lines.specs.Lines.{Leaf}
 use Rattle.rdf_trig.specs.declared.form.DocForm.{DocForm}
-use Rattle.rdf_trig.specs.Quads.{Setting, node, cell_at, rest_quad}
+use Rattle.rdf_trig.specs.Quads.{Setting, in_default, node, cell_at, rest_quad}
 use Rattle.rdf_trig.specs.Machine as M
 use Rattle.rdf_trig.specs.States.{begins_verb}
 
@@ -67,5 +67,16 @@ text-else c w p AtBase l h i j n = absurd (i refl)
 text-else c w p AtPrefix l h i j n = absurd (j refl)
 text-else c w p Carets l h i j n = absurd (n refl)
 text-else c w p k l h i j n = refl
+
+pub start-else : (form : DocForm) (c : Setting) (k : Kind) (l : Leaf) → (k ≡ End → ⊥) → (k ≡ AtPrefix → ⊥) → (k ≡ Prefix → ⊥) → (k ≡ AtBase → ⊥) → (k ≡ Base → ⊥)
+    → (k ≡ Graph → ⊥) → (k ≡ OpenBrace → ⊥) → M.start form c k l ≡ M.subject_start form (in_default c.scope) M.Top k l
+start-else form c End l a b d e f g h = absurd (a refl)
+start-else form c AtPrefix l a b d e f g h = absurd (b refl)
+start-else form c Prefix l a b d e f g h = absurd (d refl)
+start-else form c AtBase l a b d e f g h = absurd (e refl)
+start-else form c Base l a b d e f g h = absurd (f refl)
+start-else form c Graph l a b d e f g h = absurd (g refl)
+start-else form c OpenBrace l a b d e f g h = absurd (h refl)
+start-else form c k l a b d e f g h = refl
 
 pub ruleset fallbacks = (box-else, label-else, inside-else, semi-verb, semi-else, after_box-verb, after_box-else, cells-else, paren-else, text-else)

@@ -6,3 +6,6 @@ pub mod NamesLemmas
 pub mod StepsLemmas
 pub mod ScopesLemmas
 pub mod LocalShapes
+pub mod MachineLaws
+pub mod SameScopes
+pub mod AcceptLemmas

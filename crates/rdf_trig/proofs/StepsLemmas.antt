@@ -5,7 +5,7 @@ use Rattle.rdf_terms.specs.Terms.{Quad}
 use Rattle.rdf_terms.specs.Sinks.{Appends, Attempts}
 use Rattle.rdf_trig.specs.declared.fault.StepFault.{StepFault}
 use Rattle.rdf_trig.specs.declared.fault.StepFault.TheVariants.{Memory, Sink}
-use Rattle.std.specs.Prelude.{IfErr}
+use Rattle.std.specs.Prelude.{IfErr, IsErrAnd, OnOk}
 use Rattle.rdf_iri.specs.Scope.{InForce}
 use Rattle.rdf_trig.specs.declared.form.DocForm.{DocForm}
 use Rattle.rdf_trig.specs.Machine.{kept}
@@ -61,3 +61,24 @@ pub gave_given : {S X : Type 0} (takes leaves : S → Quad → S → Type 0) (fa
     IfErr r (λ e. (form : DocForm) (s : InForce) → GaveUp takes leaves failed e (f form s) old new)
 gave_given takes leaves failed (Ok x) old new qs f e h = tt
 gave_given takes leaves failed (Err r) old new qs f e h = λ form s. subst (λ x. GaveUp takes leaves failed r x old new) (sym (e form s)) h
+
+pub told_stops : {T : Type 0} (r : Result T StepFault) (told : StepFault) (P : StepFault → Type 0) → IsErrAnd r (λ t. t ≡ told) → P told → IfErr r P
+told_stops (Ok x) told P e h = tt
+told_stops (Err t) told P e h = subst P (sym e) h
+
+-- what follows from what holds of a result
+pub on_ok : {X E : Type 0} (r : Result X E) (P Q : Type 0) → (P → Q) → OnOk r P → OnOk r Q
+on_ok (Ok x) P Q f h = f h
+on_ok (Err e) P Q f h = tt
+
+pub on_ok_both : {X E : Type 0} (r : Result X E) (P Q R : Type 0) → (P → Q → R) → OnOk r P → OnOk r Q → OnOk r R
+on_ok_both (Ok x) P Q R f h k = f h k
+on_ok_both (Err e) P Q R f h k = tt
+
+pub on_ok_any : {X E : Type 0} (r : Result X E) (P : Type 0) → P → OnOk r P
+on_ok_any (Ok x) P h = h
+on_ok_any (Err e) P h = tt
+
+pub if_err : {X E : Type 0} (r : Result X E) (P Q : E → Type 0) → ((e : E) → P e → Q e) → IfErr r P → IfErr r Q
+if_err (Ok x) P Q f h = tt
+if_err (Err e) P Q f h = f e h

@@ -14,7 +14,7 @@ use Rattle.rdf_trig.specs.Names.{reference_in, with_base, is_full}
 use Rattle.rdf_trig.specs.Events.{Use, stands, binds}
 use Rattle.rdf_trig.specs.Machine as M
 use Rattle.rdf_trig.specs.Machine.{by_use, refuses}
-use Rattle.rdf_trig.specs.States.{name_at, use_at, IsNamed}
+use Rattle.rdf_trig.specs.States.{name_at, use_at, IsNamed, NameIn, IsNamedIn, use_in, scope_in}
 
 abbrev pub IsReference : Kind → Type 0
 IsReference IriRef = ⊤
@@ -79,3 +79,13 @@ pub record SameScope (s t : InForce) : Type 0 where
   pub limits : s.limits ≡ t.limits
   pub bound : (q : List ℕ) → bound_to s.bindings q ≡ bound_to t.bindings q
   pub count : length s.bindings ≡ length t.bindings
+
+-- what a token stands for in a mode is allowed: its IRI comes, or the scope changes; or it is not
+pub record LooksUp (s : InForce) (m : M.Mode) (k : Kind) (l : Leaf) (i : Option (List ℕ)) (t : InForce) : Type 0 where
+  pub passes : Passes s.limits k (use_in s m k l)
+  pub name : NameIn s m k l i
+  pub named : IsNamedIn m k i
+  pub scope : SameScope (scope_in s m k l) t
+
+abbrev pub LooksUpNone : InForce → M.Mode → Kind → Leaf → StepFault → Type 0
+LooksUpNone s m k l r = Stops s.limits k (use_in s m k l) r

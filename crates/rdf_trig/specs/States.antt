@@ -1,9 +1,9 @@
 -- What the states of the reader's code mean.
-use Rattle.std.specs.Prelude.{◌≡◌, ℕ, Bool, true, false, List, [], ◌∷◌, Option, Some, None, option_map, Result, Ok, Err, ⊤}
+use Rattle.std.specs.Prelude.{◌≡◌, ℕ, Bool, true, false, List, [], ◌∷◌, Option, Some, None, option_map, Result, Ok, Err, ⊤, ◌+◌, ◌≤◌}
 use Rattle.std.specs.Str.{chars}
 use Rattle.std.specs.String.{string_bytes}
 use Rattle.rdf_terms.specs.declared.kind.Kind.{Kind}
-use Rattle.rdf_terms.specs.declared.kind.Kind.TheVariants.{IriRef, PnameNs, PnameLn, A}
+use Rattle.rdf_terms.specs.declared.kind.Kind.TheVariants.{IriRef, PnameNs, PnameLn, A, OpenBracket, OpenParen, CloseBracket, CloseParen}
 use Rattle.rdf_terms.specs.declared.kind.Dialect.TheVariants as dialect
 use Rattle.rdf_terms.specs.Terms.{Cell, Blank, Lang, Typed, Term, Resource, Literal, Quad}
 use Rattle.rdf_terms.specs.Terms as term
@@ -12,6 +12,7 @@ use Rattle.rdf_terms.specs.Known.{known_chars}
 use Rattle.rdf_terms.specs.declared.constants.Known.TheVariants.{RdfType, RdfRest}
 use Rattle.rdf_tokens.specs.declared.token.Token.{Token as Given}
 use Rattle.rdf_tokens.specs.Scans.{token_of, IsToken}
+use Rattle.rdf_iri.specs.Texts.{byte_len}
 use Rattle.rdf_iri.specs.Scope.{InForce}
 use Rattle.rdf_lines.specs.Lines.{Leaf, leaf_of}
 use Rattle.rdf_trig.specs.declared.form.DocForm.{DocForm}
@@ -235,3 +236,25 @@ GivesOuter s u (Ok o) reply = reply ≡ Go u None None (setting s (outer_graph o
 GivesOuter s u (Err fault.Unexpected) reply = reply ≡ No
 GivesOuter s u (Err fault.Memory) reply = ⊤
 GivesOuter s u (Err e) reply = ⊥
+
+-- the token is allowed by the grammar alone
+abbrev pub is_go : Reply → Bool
+is_go No = false
+is_go (Go u early now c m) = true
+
+-- how a token changes the number of open brackets
+abbrev pub DepthMoves : Kind → ℕ → ℕ → Type 0
+DepthMoves OpenBracket old new = new ≡ old + 1
+DepthMoves OpenParen old new = new ≡ old + 1
+DepthMoves CloseBracket old new = new + 1 ≡ old
+DepthMoves CloseParen old new = new + 1 ≡ old
+DepthMoves k old new = new ≡ old
+
+-- the prefix of a directive has at most so many bytes
+abbrev pub ShortPrefix : ℕ → M.Mode → Type 0
+ShortPrefix n (M.WantPrefixIri w p) = byte_len p ≤ n
+ShortPrefix n m = ⊤
+
+abbrev pub PrefixFits : {A : Type 0} → ℕ → Mode A → Type 0
+PrefixFits n (mode.Outer (outer.WantPrefixIri w p)) = byte_len (chars (string_bytes p)) ≤ n
+PrefixFits n m = ⊤

@@ -1,6 +1,8 @@
 //! Turtle and TriG: what a document is, and the laws of that.
 #![tactic(auto)]
 
+pub mod accept;
+pub mod allows;
 mod fault;
 mod form;
 mod give;

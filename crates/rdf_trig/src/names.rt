@@ -4,13 +4,14 @@ ghost use Rattle.std.specs.Prelude.{◌≡◌, ◌≤◌, ◌*◌, ◌++◌, tru
 ghost use Rattle.std.specs.Str.{chars};
 ghost use Rattle.std.specs.String.{string_bytes};
 ghost use Rattle.rdf_terms.specs.Values.{local_value};
-ghost use Rattle.rdf_iri.specs.Texts.{IsIriText};
+ghost use Rattle.rdf_iri.specs.Texts.{IsIriText, byte_len};
 ghost use Rattle.rdf_iri.specs.Scope.{InForce};
 ghost use Rattle.rdf_lines.specs.Lines.{iri_of};
+ghost use Rattle.rdf_trig.specs.declared.form.DocForm.{DocForm};
 ghost use Rattle.rdf_trig.specs.Machine as M;
 ghost use Rattle.rdf_trig.specs.Names.{local_of, name_in, reference_in};
-ghost use Rattle.rdf_trig.specs.States.{leaf, IsTurtleToken, mode_of, setting};
-ghost use Rattle.rdf_trig.specs.Scopes.{IsReference, IsPrefixed, MeansLocal, Names, Unnamed, Binding, NotBinding, Based};
+ghost use Rattle.rdf_trig.specs.States.{leaf, IsTurtleToken, PrefixFits, mode_at, outer_of};
+ghost use Rattle.rdf_trig.specs.Scopes.{IsReference, IsPrefixed, MeansLocal, Names, Unnamed, Binding, NotBinding, Based, SameScope, LooksUp, LooksUpNone};
 
 use crate::fault::StepFault;
 use crate::spelled::parts;
@@ -131,4 +132,79 @@ fn bind<A: Allocator + Copy>(
     let reference = reference_text(alloc, token)?;
     scope.bind(prefix.as_str(), reference.as_str())?;
     Ok(())
+}
+
+/// Looks up what a token stands for. In a directive the scope changes, and no IRI comes back.
+pub fn look_up<A: Allocator + Copy>(
+    alloc: A,
+    mode: &Mode<A>,
+    scope: &mut Scope<A>,
+    token: Token<'_>,
+) -> Result<Option<Iri<A>>, StepFault>
+    requires token { IsTurtleToken token }
+    requires short { PrefixFits (4 * scope.old.limits.token) mode.now }
+    ensures ok { IfOk result (λ i. (form : DocForm) (v : M.Level) (u : M.Up) (s : InForce) → SameScope s scope.old → LooksUp s (mode_at form v u mode.now) token.entry.kind (leaf token.entry) i scope.new) }
+    ensures err { IfErr result (λ r. (form : DocForm) (v : M.Level) (u : M.Up) (s : InForce) → SameScope s scope.old → LooksUpNone s (mode_at form v u mode.now) token.entry.kind (leaf token.entry) r) }
+{
+    match mode {
+        Mode::Outer(outer) => look_up_outer(alloc, outer, scope, token),
+        _ => name(alloc, scope, token),
+    }
+}
+
+fn look_up_outer<A: Allocator + Copy>(
+    alloc: A,
+    outer: &Outer<A>,
+    scope: &mut Scope<A>,
+    token: Token<'_>,
+) -> Result<Option<Iri<A>>, StepFault>
+    requires token { IsTurtleToken token }
+    requires short { PrefixFits (4 * scope.old.limits.token) (Mode.Outer outer.now) }
+    ensures ok { IfOk result (λ i. (s : InForce) → SameScope s scope.old → LooksUp s (outer_of outer.now) token.entry.kind (leaf token.entry) i scope.new) }
+    ensures err { IfErr result (λ r. (s : InForce) → SameScope s scope.old → LooksUpNone s (outer_of outer.now) token.entry.kind (leaf token.entry) r) }
+{
+    match outer {
+        Outer::WantPrefix(_) => Ok(None),
+        Outer::WantPrefixIri(_, prefix) => look_up_prefix(alloc, prefix, scope, token),
+        Outer::WantBaseIri(_) => look_up_base(alloc, scope, token),
+        _ => name(alloc, scope, token),
+    }
+}
+
+fn look_up_prefix<A: Allocator + Copy>(
+    alloc: A,
+    prefix: &String<A>,
+    scope: &mut Scope<A>,
+    token: Token<'_>,
+) -> Result<Option<Iri<A>>, StepFault>
+    requires token { IsTurtleToken token }
+    requires short { byte_len (chars (string_bytes prefix.now)) ≤ 4 * scope.old.limits.token }
+    ensures ok { IfOk result (λ i. (w : M.Spelling) (s : InForce) → SameScope s scope.old → LooksUp s (M.WantPrefixIri w (chars (string_bytes prefix.now))) token.entry.kind (leaf token.entry) i scope.new) }
+    ensures err { IfErr result (λ r. (w : M.Spelling) (s : InForce) → SameScope s scope.old → LooksUpNone s (M.WantPrefixIri w (chars (string_bytes prefix.now))) token.entry.kind (leaf token.entry) r) }
+{
+    match token.kind {
+        Kind::IriRef => match bind(alloc, scope, prefix, token) {
+            Ok(()) => Ok(None),
+            Err(fault) => Err(fault),
+        },
+        _ => Ok(None),
+    }
+}
+
+fn look_up_base<A: Allocator + Copy>(
+    alloc: A,
+    scope: &mut Scope<A>,
+    token: Token<'_>,
+) -> Result<Option<Iri<A>>, StepFault>
+    requires token { IsTurtleToken token }
+    ensures ok { IfOk result (λ i. (w : M.Spelling) (s : InForce) → SameScope s scope.old → LooksUp s (M.WantBaseIri w) token.entry.kind (leaf token.entry) i scope.new) }
+    ensures err { IfErr result (λ r. (w : M.Spelling) (s : InForce) → SameScope s scope.old → LooksUpNone s (M.WantBaseIri w) token.entry.kind (leaf token.entry) r) }
+{
+    match token.kind {
+        Kind::IriRef => match set_base(alloc, scope, token) {
+            Ok(()) => Ok(None),
+            Err(fault) => Err(fault),
+        },
+        _ => Ok(None),
+    }
 }

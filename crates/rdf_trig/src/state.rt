@@ -134,3 +134,20 @@ pub struct Turn<A: Allocator = Global> {
     pub held: Held<A>,
     pub mode: Mode<A>,
 }
+
+/// What has been read, as far as it matters for what may come.
+#[derive(Drop)]
+pub struct State<A: Allocator = Global> {
+    /// Where the reader stands.
+    pub mode: Mode<A>,
+    /// Where the statement stands that is being read.
+    pub level: Level<A>,
+    /// What is open round that place, the innermost last.
+    pub frames: Vec<Frame<A>, A>,
+    /// The cell before the one that the last token opened, and that cell.
+    pub rest: Option<(u64, u64)>,
+    /// The quad whose head ended with the last token.
+    pub held: Held<A>,
+    /// How many `[` and `(` are open.
+    pub depth: u64,
+}
