@@ -1,7 +1,7 @@
 // A token is accepted: the checks, then the quads that are due, then the move.
 
-ghost use Rattle.std.specs.Prelude.{◌≡◌, ◌≤◌, ◌<◌, ◌+◌, ◌*◌, ◌^◌, ◌&&◌, nat_le, true, false, OnOk, IfErr};
-ghost use Rattle.rdf_iri.specs.Texts.{byte_len};
+ghost use Rattle.std.specs.Prelude.{◌≡◌, ◌≤◌, ◌<◌, ◌+◌, ◌^◌, ◌&&◌, length, nat_le, true, false, OnOk, IfErr};
+ghost use Rattle.rdf_iri.specs.Limits.{Sizes};
 ghost use Rattle.rdf_iri.specs.Scope.{InForce};
 ghost use Rattle.rdf_lines.specs.Lines.{Leaf};
 ghost use Rattle.rdf_trig.specs.Machine as M;
@@ -14,7 +14,7 @@ use crate::fault::StepFault;
 use crate::form::DocForm;
 use crate::give::give;
 use crate::names::look_up;
-use crate::state::{Mode, Outer, State};
+use crate::state::{Held, Level, Mode, Outer, State};
 use crate::turns::turn;
 use rdf_iri::{Limits, Scope};
 use rdf_terms::{Iri, Kind, QuadSink};
@@ -49,6 +49,21 @@ fn depth_behind(depth: u64, kind: Kind) -> u64
 }
 
 impl<A: Allocator + Copy> State<A> {
+    /// Nothing was read. It takes no memory.
+    pub fn new(alloc: A) -> State<A>
+        ensures start { (form : DocForm) (s : InForce) → state_of form s result ≡ M.at_start s }
+        ensures keeps { (form : DocForm) (sizes : Sizes) → Keeps form sizes result }
+    {
+        State {
+            mode: Mode::Outer(Outer::Start),
+            level: Level::Top,
+            frames: Vec::new(alloc),
+            rest: None,
+            held: Held::Nothing,
+            depth: 0,
+        }
+    }
+
     // Whether the token may stand here by the grammar, and by the limit of open brackets.
     fn check(&self, form: DocForm, limits: Limits, kind: Kind) -> Result<(), StepFault>
         requires { self.now.depth ≡ M.depth (mode_of form self.now.level self.now.frames.items self.now.mode) }
@@ -108,7 +123,7 @@ impl<A: Allocator + Copy> State<A> {
         sink: &mut S,
     ) -> Result<(), StepFault>
         requires token { IsTurtleToken token }
-        requires short { byte_len (leaf token).text ≤ 4 * limits.token }
+        requires short { length (leaf token).text ≤ limits.token }
         requires limits { scope.old.limits ≡ limits }
         requires keeps { Keeps form limits self.old }
         requires live { S.has_failed sink.old ≡ false }

@@ -10,6 +10,8 @@ pub mod laws;
 mod names;
 mod spelled;
 mod state;
+#[cfg(test)]
+mod tests;
 mod turns;
 
 pub use form::DocForm;

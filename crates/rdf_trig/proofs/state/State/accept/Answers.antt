@@ -8,7 +8,7 @@ use Rattle.rdf_trig.specs.States.{leaf, level_of, up_of, use_in, scope_in, NameI
 use Rattle.rdf_trig.specs.Scopes.{SameScope, LooksUp}
 use Rattle.rdf_trig.specs.Steps.{GaveUp, given, state_of, moved, Stays, Keeps, Accepts, Fails}
 use Rattle.rdf_trig.proofs.StepsLemmas.{told_stops, on_ok, on_ok_both, on_ok_any, if_err}
-use Rattle.rdf_trig.proofs.AcceptLemmas.{fails_stops, fails_gave, fails_stays, accepts_moved, keeps_moved, limits_kept, same_scope}
+use Rattle.rdf_trig.proofs.AcceptLemmas.{fails_stops, fails_gave, fails_stays, accepts_moved, keeps_moved, limits_kept, same_scope, bytes_at_most}
 use Rattle.rdf_trig.proofs.state.State.accept.Goals as goal
 
 pub returns-in_err-name-clause-err : goal.returns-in_err-name-clause-err
@@ -85,7 +85,7 @@ returns-clause-keeps g c =
     let u = up_of v self.frames.items in
     let s = c.args.scope.now in
     on_ok_both c.move_on.result _ _ _
-    (λ moves depth. keeps_moved form s c.args.limits self c.move_on.new.self k l _ _ c.requires.keeps c.requires.short
+    (λ moves depth. keeps_moved form s c.args.limits self c.move_on.new.self k l _ _ c.requires.keeps (bytes_at_most l.text c.args.limits.token c.requires.short)
     (moves s (c.in_ok-name.ensures.ok form v u s (same_scope s)).name) depth)
     c.move_on.ensures.ok c.move_on.ensures.depth
 
