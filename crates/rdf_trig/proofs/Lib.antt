@@ -29,3 +29,14 @@ pub mod FeedsLemmas
 pub mod FinishLemmas
 pub mod NewLemmas
 pub mod PromiseLemmas
+pub mod Stack
+pub mod SpelledLemmas
+pub mod Fallbacks
+pub mod TurnsLemmas
+pub mod ColonLemmas
+pub mod StepsLemmas
+pub mod ScopesLemmas
+pub mod LocalShapes
+pub mod MachineLaws
+pub mod SameScopes
+pub mod AcceptLemmas

@@ -11,3 +11,7 @@ pub mod Alike
 pub mod TrigRead
 pub mod Readers
 pub mod Reading
+pub mod States
+pub mod Spelled
+pub mod Steps
+pub mod Scopes

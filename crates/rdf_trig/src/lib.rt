@@ -1,7 +1,17 @@
 //! Turtle and TriG: what a document is, and the laws of that.
 #![tactic(auto)]
 
+mod accept;
+mod allows;
+mod fault;
 mod form;
+mod give;
 pub mod laws;
+mod names;
+mod spelled;
+mod state;
+#[cfg(test)]
+mod tests;
+mod turns;
 
 pub use form::DocForm;

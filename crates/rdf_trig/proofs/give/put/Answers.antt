@@ -1,0 +1,10 @@
+use Rattle.std.proofs.Common.{[], ◌∷◌, refl, inl, ap, ◌∙◌, Err}
+use Rattle.rdf_terms.specs.Views.{quad_of}
+use Rattle.rdf_trig.proofs.give.put.Goals as goal
+
+pub returns-in-Err-Memory-clause-err : goal.returns-in-Err-Memory-clause-err
+returns-in-Err-Memory-clause-err g c = rw c.in-Some.is (quad_of c.in-Some.quad ∷ [], [], refl, inl (refl, c.in-Err-Memory.ensures.left))
+
+pub returns-in-Err-Device-clause-err : goal.returns-in-Err-Device-clause-err
+returns-in-Err-Device-clause-err g c =
+    rw c.in-Some.is ((quad_of c.in-Some.quad ∷ [], [], refl, inl (refl, c.in-Err-Device.ensures.left)), c.put.ensures.device.1 (c.in-Err-Device.is ∙ ap Err c.in-Err-Device.field-0-is))

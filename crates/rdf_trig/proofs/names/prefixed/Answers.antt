@@ -1,0 +1,19 @@
+use Rattle.std.proofs.Common.{[], ap, sym, ◌∙◌, subst}
+use Rattle.std.specs.Prelude.{unwrap_or}
+use Rattle.std.specs.Str.{chars}
+use Rattle.rdf_terms.specs.Values.{local_value}
+use Rattle.rdf_trig.specs.Scopes.{MeansLocal}
+use Rattle.rdf_trig.specs.States.{leaf}
+use Rattle.rdf_trig.proofs.LocalShapes.{token_local}
+use Rattle.rdf_trig.proofs.ScopesLemmas.{name_names}
+use Rattle.rdf_trig.proofs.names.prefixed.Goals as goal
+
+pub local_text-requires : goal.local_text-requires
+local_text-requires g c = subst MeansLocal (sym c.parts.ensures.local) (token_local c.args.token c.requires.kind c.requires.token)
+
+pub returns-clause-ok : goal.returns-clause-ok
+returns-clause-ok g c =
+    name_names c.args.scope.now c.args.token.kind (leaf c.args.token) (chars c.parts.result.0.now) (chars c.as_str.result.now) c.in_ok-expand.field-0 c.requires.kind
+    c.parts.ensures.prefix
+    (ap chars c.as_str.ensures.value ∙ ap (λ o. unwrap_or o []) (c.in_ok-local.ensures.ok ∙ ap local_value c.parts.ensures.local))
+    c.in_ok-expand.ensures.expanded

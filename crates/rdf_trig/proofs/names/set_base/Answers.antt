@@ -1,0 +1,10 @@
+use Rattle.std.proofs.Common.{ap, ◌∙◌}
+use Rattle.std.specs.Str.{chars}
+use Rattle.rdf_trig.specs.States.{leaf}
+use Rattle.rdf_trig.proofs.ScopesLemmas.{base_is}
+use Rattle.rdf_trig.proofs.names.set_base.Goals as goal
+
+pub returns-clause-ok : goal.returns-clause-ok
+returns-clause-ok g c =
+    base_is c.args.scope.now c.set_base.new.self (leaf c.args.token) (chars c.as_str.result.now)
+    (ap chars c.as_str.ensures.value ∙ c.in_ok-reference.ensures.ok) c.in_ok-set_base.ensures.based

@@ -1,0 +1,88 @@
+-- What a look-up answers, and scopes that agree in every look-up.
+use Rattle.std.specs.Prelude.{◌≡◌, ℕ, ◌≤◌, true, false, List, length, is_some, Option, Some, None, ⊤}
+use Rattle.rdf_terms.specs.declared.kind.Kind.{Kind}
+use Rattle.rdf_terms.specs.declared.kind.Kind.TheVariants.{IriRef, PnameNs, PnameLn}
+use Rattle.rdf_terms.specs.Values.{local_value}
+use Rattle.rdf_iri.specs.declared.fault.IriFault.{IriFault}
+use Rattle.rdf_iri.specs.declared.fault.IriFault.TheVariants as iri
+use Rattle.rdf_iri.specs.Limits.{Sizes}
+use Rattle.rdf_iri.specs.Scope.{InForce, bound_to, Binds}
+use Rattle.rdf_lines.specs.Lines.{Leaf}
+use Rattle.rdf_trig.specs.declared.fault.StepFault.{StepFault}
+use Rattle.rdf_trig.specs.declared.fault.StepFault.TheVariants as fault
+use Rattle.rdf_trig.specs.Names.{reference_in, with_base, is_full, SameNames}
+use Rattle.rdf_trig.specs.Events.{Use, stands, binds}
+use Rattle.rdf_trig.specs.Machine as M
+use Rattle.rdf_trig.specs.Machine.{by_use, refuses}
+use Rattle.rdf_trig.specs.States.{name_at, use_at, IsNamed, NameIn, IsNamedIn, use_in, scope_in}
+
+abbrev pub IsReference : Kind → Type 0
+IsReference IriRef = ⊤
+IsReference k = ⊥
+
+abbrev pub IsPrefixed : Kind → Type 0
+IsPrefixed PnameNs = ⊤
+IsPrefixed PnameLn = ⊤
+IsPrefixed k = ⊥
+
+-- the text means something as a local part
+abbrev pub MeansLocal : List ℕ → Type 0
+MeansLocal w = is_some (local_value w) ≡ true
+
+-- a fault of a scope, as one of a step
+abbrev pub step_fault : IriFault → StepFault
+step_fault iri.NoBase = fault.NoBase
+step_fault iri.IriTooLong = fault.IriTooLong
+step_fault iri.Memory = fault.Memory
+step_fault iri.Unbound = fault.Unbound
+step_fault iri.TooManyBindings = fault.TooManyBindings
+
+-- what the token stands for is allowed; or it is refused for this reason, or memory is short
+abbrev pub Passes : Sizes → Kind → Use → Type 0
+Passes sizes k u = (a : M.Answer) → by_use sizes k u a ≡ a
+
+abbrev pub Stops : Sizes → Kind → Use → StepFault → Type 0
+Stops sizes k u fault.Unbound = (a : M.Answer) → by_use sizes k u a ≡ refuses M.unbound
+Stops sizes k u fault.NoBase = (a : M.Answer) → by_use sizes k u a ≡ refuses M.no_base
+Stops sizes k u fault.IriTooLong = (a : M.Answer) → by_use sizes k u a ≡ refuses M.iri_too_long
+Stops sizes k u fault.TooManyBindings = (a : M.Answer) → by_use sizes k u a ≡ refuses M.too_many_bindings
+Stops sizes k u fault.Memory = ⊤
+Stops sizes k u r = ⊥
+
+-- the token stands for this IRI, or for none
+pub record Names (s : InForce) (k : Kind) (l : Leaf) (i : Option (List ℕ)) : Type 0 where
+  pub name : name_at s k l ≡ i
+  pub named : IsNamed k i
+  pub passes : Passes s.limits k (use_at s k l)
+
+abbrev pub Unnamed : InForce → Kind → Leaf → StepFault → Type 0
+Unnamed s k l r = Stops s.limits k (use_at s k l) r
+
+-- the reference is the base
+pub record Based (s : InForce) (l : Leaf) (t : InForce) : Type 0 where
+  pub passes : Passes s.limits IriRef (stands (reference_in s l))
+  pub scope : t ≡ with_base s (reference_in s l)
+
+-- the prefix is bound to the reference's IRI
+pub record Binding (s : InForce) (prefix : List ℕ) (l : Leaf) (t : InForce) : Type 0 where
+  pub iri : List ℕ
+  pub reference : reference_in s l ≡ Some iri
+  pub passes : Passes s.limits IriRef (binds (is_full s prefix) (reference_in s l))
+  pub binds : Binds s prefix iri t
+
+abbrev pub NotBinding : InForce → List ℕ → Leaf → StepFault → Type 0
+NotBinding s prefix l r = Stops s.limits IriRef (binds (is_full s prefix) (reference_in s l)) r
+
+-- the same base and limits, and each prefix bound alike
+abbrev pub SameScope : InForce → InForce → Type 0
+SameScope s t = SameNames s t
+
+-- what a token stands for in a mode is allowed: its IRI comes, or the scope changes; or it is not
+pub record LooksUp (s : InForce) (m : M.Mode) (k : Kind) (l : Leaf) (i : Option (List ℕ)) (t : InForce) : Type 0 where
+  pub passes : Passes s.limits k (use_in s m k l)
+  pub name : NameIn s m k l i
+  pub named : IsNamedIn m k i
+  pub scope : SameScope (scope_in s m k l) t
+
+abbrev pub LooksUpNone : InForce → M.Mode → Kind → Leaf → StepFault → Type 0
+LooksUpNone s m k l r = Stops s.limits k (use_in s m k l) r

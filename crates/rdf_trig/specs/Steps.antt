@@ -1,0 +1,111 @@
+-- What a step of the reader does to its sink.
+use Rattle.std.specs.Prelude.{◌≡◌, ℕ, ◌+◌, ◌*◌, ◌^◌, ◌<◌, ◌≤◌, ◌&&◌, nat_le, Bool, true, false, List, [], ◌++◌, Option, Some, None, ⊤}
+use Rattle.rdf_terms.specs.Terms.{Term, Quad}
+use Rattle.rdf_terms.specs.Terms as term
+use Rattle.rdf_terms.specs.Sinks.{Appends, Attempts}
+use Rattle.rdf_tokens.specs.declared.token.Token.{Token as Given}
+use Rattle.rdf_iri.specs.Limits.{Sizes}
+use Rattle.rdf_iri.specs.Scope.{InForce}
+use Rattle.rdf_trig.specs.declared.form.DocForm.{DocForm}
+use Rattle.rdf_trig.specs.declared.fault.StepFault.{StepFault}
+use Rattle.rdf_trig.specs.declared.fault.StepFault.TheVariants.{Unexpected, TooDeep, Unbound, NoBase, IriTooLong, TooManyBindings, Memory, Sink}
+use Rattle.rdf_trig.specs.declared.state.Level.{Level}
+use Rattle.rdf_trig.specs.declared.state.Frame.{Frame}
+use Rattle.rdf_trig.specs.declared.state.Mode.{Mode}
+use Rattle.rdf_trig.specs.declared.state.Held.{Held}
+use Rattle.rdf_trig.specs.declared.state.State.{State}
+use Rattle.rdf_trig.specs.Quads.{stated}
+use Rattle.rdf_trig.specs.Machine as M
+use Rattle.rdf_terms.specs.declared.kind.Kind.{Kind}
+use Rattle.rdf_terms.specs.declared.kind.Kind.TheVariants.{OpenBracket, CloseBracket, OpenParen, CloseParen}
+use Rattle.rdf_lines.specs.Lines.{Leaf}
+use Rattle.rdf_trig.specs.Events.{Use}
+use Rattle.rdf_trig.specs.Machine.{Reply, No, Go, subject_at, verb_at, kept}
+use Rattle.rdf_trig.specs.States.{leaf, mode_of, graph_of, graph_at, setting, rest_of, held_of, is_go, PrefixFits}
+use Rattle.rdf_trig.specs.Scopes.{SameScope}
+
+-- puts of some of the quads, from the first one on, lead from one sink to the other; the last of them may have been refused
+abbrev pub Begins : {S : Type 0} → (S → Quad → S → Type 0) → (S → Quad → S → Type 0) → List Quad → S → S → Type 0
+Begins takes leaves qs old new = (front back : List Quad) × (qs ≡ front ++ back) × Attempts takes leaves old front new
+
+-- not all of the quads were put: memory was short, or the device failed
+abbrev pub GaveUp : {S : Type 0} → (S → Quad → S → Type 0) → (S → Quad → S → Type 0) → (S → Bool) → StepFault → List Quad → S → S → Type 0
+GaveUp takes leaves failed Memory qs old new = Begins takes leaves qs old new
+GaveUp takes leaves failed Sink qs old new = Begins takes leaves qs old new × (failed new ≡ true)
+GaveUp takes leaves failed r qs old new = ⊥
+
+-- the quad of what a bracket stands for
+abbrev pub up_quad : Option term.Subject → M.Up → Term → Option Quad
+up_quad g (M.Subject v) o = None
+up_quad g (M.At p) o = stated (Some g) (subject_at p) (verb_at p) (Some o)
+
+-- the quads that are held, and those with the one that waits to know the token
+abbrev pub held_quads : {A : Type 0} → DocForm → Mode A → Level A → List (Frame A) → Option (ℕ × ℕ) → Held A → List Quad
+held_quads form m v fs rest held = let g = graph_at m (graph_of v) in kept (rest_of g rest) (kept (held_of g (mode_of form v fs m) held) [])
+
+abbrev pub given : {A : Type 0} → DocForm → InForce → Mode A → Level A → List (Frame A) → Option (ℕ × ℕ) → Held A → Given → List Quad
+given form s m v fs rest held t =
+    held_quads form m v fs rest held ++ kept (M.waiting (setting s (graph_at m (graph_of v))) (mode_of form v fs m) t.kind (leaf t)) []
+
+-- the state of the machine that a state of the reader is, in a scope
+abbrev pub state_of : {A : Type 0} → DocForm → InForce → State A → M.State
+state_of form s r = record {
+  setting = setting s (graph_at r.mode (graph_of r.level));
+  mode = mode_of form r.level r.frames.items r.mode;
+  held = held_quads form r.mode r.level r.frames.items r.rest r.held;
+}
+
+-- the token is allowed by the grammar and by the limit of open brackets
+abbrev pub May : DocForm → M.State → Kind → Leaf → Type 0
+May form n k l = (is_go (M.step form n.setting n.mode k l) ≡ true) × ((M.deepens k && nat_le n.setting.scope.limits.depth (M.depth n.mode)) ≡ false)
+
+abbrev pub Refused : StepFault → M.Answer → Type 0
+Refused Unexpected a = a ≡ M.refuses M.unexpected
+Refused TooDeep a = a ≡ M.refuses M.too_deep
+Refused r a = ⊥
+
+-- the count of open brackets can change so
+abbrev pub DepthMay : Kind → ℕ → Type 0
+DepthMay OpenBracket n = n + 1 < 2 ^ 64
+DepthMay OpenParen n = n + 1 < 2 ^ 64
+DepthMay CloseBracket n = 1 ≤ n
+DepthMay CloseParen n = 1 ≤ n
+DepthMay k n = ⊤
+
+-- what the token does, by the state behind it
+abbrev pub moved : {A : Type 0} → DocForm → InForce → Use → State A → Reply
+moved form s u r =
+    let g = graph_at r.mode (graph_of r.level) in
+    let m = mode_of form r.level r.frames.items r.mode in
+    Go u (rest_of g r.rest) (held_of g m r.held) (setting s g) m
+
+abbrev pub Stays : StepFault → Reply → Type 0
+Stays Unexpected reply = reply ≡ No
+Stays Memory reply = ⊤
+Stays r reply = ⊥
+
+-- what each step keeps: the brackets are counted, and a prefix is no longer than a token
+pub record Keeps {A : Type 0} (form : DocForm) (sizes : Sizes) (r : State A) : Type 0 where
+  pub depth : r.depth ≡ M.depth (mode_of form r.level r.frames.items r.mode)
+  pub short : PrefixFits (4 * sizes.token) r.mode
+
+-- the machine accepts: its quads were put, and its state is the reader's, in a scope that agrees with the reader's
+abbrev pub Accepts : {A S : Type 0} → (S → Quad → S → Type 0) → DocForm → M.Answer → S → State A → InForce → S → Type 0
+Accepts takes form (M.accepts qs n) old r t new = Appends takes old qs new × ((s : InForce) × SameScope s t × (n ≡ state_of form s r))
+Accepts takes form (M.refuses e) old r t new = ⊥
+
+-- the quads that an answer gives out
+abbrev pub answered : M.Answer → List Quad
+answered (M.accepts qs n) = qs
+answered (M.refuses e) = []
+
+-- the machine refuses for this reason and nothing was put; or memory was short or the device failed, when some of the quads were put
+abbrev pub Fails : {S : Type 0} → (S → Quad → S → Type 0) → (S → Quad → S → Type 0) → (S → Bool) → StepFault → M.Answer → S → S → Type 0
+Fails takes leaves failed Unexpected a old new = (a ≡ M.refuses M.unexpected) × (new ≡ old)
+Fails takes leaves failed TooDeep a old new = (a ≡ M.refuses M.too_deep) × (new ≡ old)
+Fails takes leaves failed Unbound a old new = (a ≡ M.refuses M.unbound) × (new ≡ old)
+Fails takes leaves failed NoBase a old new = (a ≡ M.refuses M.no_base) × (new ≡ old)
+Fails takes leaves failed IriTooLong a old new = (a ≡ M.refuses M.iri_too_long) × (new ≡ old)
+Fails takes leaves failed TooManyBindings a old new = (a ≡ M.refuses M.too_many_bindings) × (new ≡ old)
+Fails takes leaves failed Memory a old new = Begins takes leaves (answered a) old new
+Fails takes leaves failed Sink a old new = Begins takes leaves (answered a) old new × (failed new ≡ true)

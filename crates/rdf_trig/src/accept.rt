@@ -1,0 +1,149 @@
+// A token is accepted: the checks, then the quads that are due, then the move.
+
+ghost use Rattle.std.specs.Prelude.{◌≡◌, ◌≤◌, ◌<◌, ◌+◌, ◌^◌, ◌&&◌, length, nat_le, true, false, OnOk, IfErr};
+ghost use Rattle.rdf_iri.specs.Limits.{Sizes};
+ghost use Rattle.rdf_iri.specs.Scope.{InForce};
+ghost use Rattle.rdf_lines.specs.Lines.{Leaf};
+ghost use Rattle.rdf_trig.specs.Machine as M;
+ghost use Rattle.rdf_trig.specs.States.{leaf, IsTurtleToken, IsNamedIn, NameIn, use_in, scope_in, setting, graph_at, graph_of, mode_of, DepthMoves};
+ghost use Rattle.rdf_trig.specs.Scopes.{SameScope};
+ghost use Rattle.rdf_trig.specs.Steps.{state_of, moved, May, Refused, Stays, DepthMay, Keeps, Accepts, Fails};
+
+use crate::allows::allows;
+use crate::fault::StepFault;
+use crate::form::DocForm;
+use crate::give::give;
+use crate::names::look_up;
+use crate::state::{Held, Level, Mode, Outer, State};
+use crate::turns::turn;
+use rdf_iri::{Limits, Scope};
+use rdf_terms::{Iri, Kind, QuadSink};
+use rdf_tokens::Token;
+use std::alloc::Allocator;
+use std::mem;
+
+fn deepens(kind: Kind) -> bool
+    ensures { result ≡ M.deepens kind }
+{
+    matches!(kind, Kind::OpenBracket | Kind::OpenParen)
+}
+
+// Whether the token opens a bracket more than may be open.
+fn is_too_deep(limits: Limits, depth: u64, kind: Kind) -> bool
+    ensures is { result ≡ (M.deepens kind && nat_le limits.depth depth) }
+    ensures room { result ≡ false → M.deepens kind ≡ true → depth + 1 < 2 ^ 64 }
+{
+    deepens(kind) && limits.depth() <= depth
+}
+
+// How many brackets are open behind a token.
+fn depth_behind(depth: u64, kind: Kind) -> u64
+    requires { DepthMay kind depth }
+    ensures { DepthMoves kind depth result }
+{
+    match kind {
+        Kind::OpenBracket | Kind::OpenParen => depth + 1,
+        Kind::CloseBracket | Kind::CloseParen => depth - 1,
+        _ => depth,
+    }
+}
+
+impl<A: Allocator + Copy> State<A> {
+    /// Nothing was read. It takes no memory.
+    pub fn new(alloc: A) -> State<A>
+        ensures start { (form : DocForm) (s : InForce) → state_of form s result ≡ M.at_start s }
+        ensures keeps { (form : DocForm) (sizes : Sizes) → Keeps form sizes result }
+    {
+        State {
+            mode: Mode::Outer(Outer::Start),
+            level: Level::Top,
+            frames: Vec::new(alloc),
+            rest: None,
+            held: Held::Nothing,
+            depth: 0,
+        }
+    }
+
+    // Whether the token may stand here by the grammar, and by the limit of open brackets.
+    fn check(&self, form: DocForm, limits: Limits, kind: Kind) -> Result<(), StepFault>
+        requires { self.now.depth ≡ M.depth (mode_of form self.now.level self.now.frames.items self.now.mode) }
+        ensures ok { OnOk result ((s : InForce) (l : Leaf) → s.limits ≡ limits → May form (state_of form s self.now) kind l) }
+        ensures room { OnOk result (DepthMay kind self.now.depth) }
+        ensures err { IfErr result (λ r. (s : InForce) (l : Leaf) → s.limits ≡ limits → Refused r (M.accept form (state_of form s self.now) kind l)) }
+    {
+        if !allows(form, &self.mode, &self.level, kind) {
+            return Err(StepFault::Unexpected);
+        }
+        if is_too_deep(limits, self.depth, kind) {
+            return Err(StepFault::TooDeep);
+        }
+        Ok(())
+    }
+
+    // Moves, once the quads were put.
+    fn move_on(
+        &mut self,
+        alloc: A,
+        form: DocForm,
+        token: Token<'_>,
+        name: Option<Iri<A>>,
+    ) -> Result<(), StepFault>
+        requires token { IsTurtleToken token }
+        requires named { IsNamedIn (mode_of form self.old.level self.old.frames.items self.old.mode) token.kind name }
+        requires room { DepthMay token.kind self.old.depth }
+        ensures ok { OnOk result ((s : InForce) → let m = mode_of form self.old.level self.old.frames.items self.old.mode in NameIn s m token.entry.kind (leaf token.entry) name → M.step form (setting s (graph_at self.old.mode (graph_of self.old.level))) m token.entry.kind (leaf token.entry) ≡ moved form (scope_in s m token.entry.kind (leaf token.entry)) (use_in s m token.entry.kind (leaf token.entry)) self.new) }
+        ensures depth { OnOk result (DepthMoves token.entry.kind self.old.depth self.new.depth) }
+        ensures err { IfErr result (λ r. (s : InForce) → let m = mode_of form self.old.level self.old.frames.items self.old.mode in NameIn s m token.entry.kind (leaf token.entry) name → Stays r (M.step form (setting s (graph_at self.old.mode (graph_of self.old.level))) m token.entry.kind (leaf token.entry))) }
+    {
+        let mode = mem::replace(&mut self.mode, Mode::Outer(Outer::Over));
+        let turn = turn(
+            alloc,
+            form,
+            mode,
+            &mut self.level,
+            &mut self.frames,
+            token,
+            name,
+        )?;
+        self.mode = turn.mode;
+        self.rest = turn.rest;
+        self.held = turn.held;
+        self.depth = depth_behind(self.depth, token.kind);
+        Ok(())
+    }
+
+    /// Accepts a token, or says why not. After an error nothing is known of the state.
+    pub fn accept<S: QuadSink>(
+        &mut self,
+        alloc: A,
+        form: DocForm,
+        limits: Limits,
+        scope: &mut Scope<A>,
+        token: Token<'_>,
+        sink: &mut S,
+    ) -> Result<(), StepFault>
+        requires token { IsTurtleToken token }
+        requires short { length (leaf token).text ≤ limits.token }
+        requires limits { scope.old.limits ≡ limits }
+        requires keeps { Keeps form limits self.old }
+        requires live { S.has_failed sink.old ≡ false }
+        ensures ok { OnOk result ((s : InForce) → SameScope s scope.old → Accepts S.takes form (M.accept form (state_of form s self.old) token.entry.kind (leaf token.entry)) sink.old self.new scope.new sink.new) }
+        ensures limits { OnOk result (scope.new.limits ≡ limits) }
+        ensures keeps { OnOk result (Keeps form limits self.new) }
+        ensures live { OnOk result (S.has_failed sink.new ≡ false) }
+        ensures err { IfErr result (λ r. (s : InForce) → SameScope s scope.old → Fails S.takes S.leaves S.has_failed r (M.accept form (state_of form s self.old) token.entry.kind (leaf token.entry)) sink.old sink.new) }
+    {
+        self.check(form, limits, token.kind)?;
+        let name = look_up(alloc, &self.mode, scope, token)?;
+        give(
+            &self.mode,
+            &self.level,
+            &self.frames,
+            self.rest,
+            &self.held,
+            token,
+            sink,
+        )?;
+        self.move_on(alloc, form, token, name)
+    }
+}

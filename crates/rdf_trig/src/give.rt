@@ -1,0 +1,283 @@
+// The quads that a token determines are put: those that were held for it, and the one that waited to know it.
+
+ghost use Rattle.std.specs.Prelude.{◌≡◌, ◌++◌, false, [], Option, Some, None, OnOk, IfErr, option_map};
+ghost use Rattle.std.specs.Str.{chars};
+ghost use Rattle.std.specs.String.{string_bytes};
+ghost use Rattle.rdf_terms.specs.Terms as term;
+ghost use Rattle.rdf_terms.specs.Sinks.{Appends};
+ghost use Rattle.rdf_terms.specs.Owned.{owned_subject};
+ghost use Rattle.rdf_terms.specs.Known.{known_chars};
+ghost use Rattle.rdf_terms.specs.Views.{iri_chars, subject_by, term_by, tail_by, quad_of};
+ghost use Rattle.rdf_iri.specs.Scope.{InForce};
+ghost use Rattle.rdf_trig.specs.Quads.{stated, plain_literal};
+ghost use Rattle.rdf_trig.specs.declared.form.DocForm.{DocForm};
+ghost use Rattle.rdf_trig.specs.Machine as M;
+ghost use Rattle.rdf_trig.specs.Machine.{subject_at, verb_at, kept};
+ghost use Rattle.rdf_trig.specs.States.{leaf, topic_of, verb_of, object_of, place_of, up_of, mode_at, level_of, mode_of, graph_of, graph_at, setting, cells_quad, rest_of, held_of};
+ghost use Rattle.rdf_trig.specs.Steps.{GaveUp, given, up_quad};
+
+use crate::fault::StepFault;
+use crate::state::{Frame, Held, Level, Mode, Object, Outer, Topic, Verb};
+use rdf_terms::{
+    Iri, IriView, Kind, Known, LiteralRef, NodeRef, PutFault, QuadRef, QuadSink, Subject,
+    SubjectRef, TailRef, TermRef, known,
+};
+use rdf_tokens::Token;
+use std::alloc::Allocator;
+
+fn topic<A: Allocator>(topic: &Topic<A>) -> SubjectRef<'_>
+    ensures { subject_by chars result ≡ topic_of topic.now }
+{
+    match topic {
+        Topic::Term(subject) => subject.view(),
+        Topic::Nil => nil(),
+    }
+}
+
+fn nil() -> SubjectRef<'static>
+    ensures { subject_by chars result ≡ M.nil }
+{
+    SubjectRef::Iri(known(Known::RdfNil))
+}
+
+fn verb<A: Allocator>(verb: &Verb<A>) -> IriView<'_>
+    ensures { iri_chars result ≡ verb_of verb.now }
+{
+    match verb {
+        Verb::Named(iri) => iri.view(),
+        Verb::Type => known(Known::RdfType),
+    }
+}
+
+fn resource(subject: SubjectRef<'_>) -> TermRef<'_>
+    ensures { term_by chars result ≡ term.Resource (subject_by chars subject.entry) }
+{
+    match subject {
+        SubjectRef::Iri(iri) => TermRef::Iri(iri),
+        SubjectRef::Node(node) => TermRef::Node(node),
+    }
+}
+
+fn literal<'a>(lexical: &'a str, tail: TailRef<'a>) -> TermRef<'a>
+    ensures { term_by chars result ≡ term.Literal (chars lexical.entry.now) (tail_by chars tail.entry) }
+{
+    TermRef::Literal(LiteralRef::new(lexical, tail))
+}
+
+fn object<A: Allocator>(object: &Object<A>) -> TermRef<'_>
+    ensures { term_by chars result ≡ object_of object.now }
+{
+    match object {
+        Object::Named(subject) => resource(subject.view()),
+        Object::WithType(lexical, datatype) => {
+            literal(lexical.as_str(), TailRef::Typed(datatype.view()))
+        }
+        Object::WithTag(lexical, tag) => literal(lexical.as_str(), TailRef::Lang(tag.view())),
+        Object::OfKnown(lexical, datatype) => {
+            literal(lexical.as_str(), TailRef::Typed(known(*datatype)))
+        }
+    }
+}
+
+fn plain<A: Allocator>(lexical: &String<A>) -> TermRef<'_>
+    ensures { Some (term_by chars result) ≡ plain_literal (chars (string_bytes lexical.now)) }
+{
+    literal(lexical.as_str(), TailRef::Typed(known(Known::XsdString)))
+}
+
+// The graph of the quads.
+fn graph<'a, A: Allocator>(mode: &'a Mode<A>, level: &'a Level<A>) -> Option<SubjectRef<'a>>
+    ensures { option_map (subject_by chars) result ≡ graph_at mode.now (graph_of level.now) }
+{
+    match mode {
+        Mode::Outer(Outer::Inside(graph)) => label(graph),
+        Mode::Outer(_) => None,
+        _ => match level {
+            Level::Top => None,
+            Level::Block(graph) => label(graph),
+        },
+    }
+}
+
+fn label<A: Allocator>(graph: &Option<Subject<A>>) -> Option<SubjectRef<'_>>
+    ensures { option_map (subject_by chars) result ≡ option_map owned_subject graph.now }
+{
+    match graph {
+        None => None,
+        Some(subject) => Some(subject.view()),
+    }
+}
+
+// The quad of an object at a place.
+fn quad_at<'a, A: Allocator>(
+    frame: &'a Frame<A>,
+    object: TermRef<'a>,
+    graph: Option<SubjectRef<'a>>,
+) -> QuadRef<'a>
+    ensures { (v : M.Level) (u : M.Up) → Some (quad_of result) ≡ stated (Some (option_map (subject_by chars) graph.entry)) (subject_at (place_of v frame.now u)) (verb_at (place_of v frame.now u)) (Some (term_by chars object.entry)) }
+{
+    match frame {
+        Frame::List {
+            subject,
+            verb: predicate,
+            ..
+        } => QuadRef {
+            subject: topic(subject),
+            predicate: verb(predicate),
+            object,
+            graph,
+        },
+        Frame::Cells { cell, .. } => QuadRef {
+            subject: SubjectRef::Node(NodeRef::Cell(*cell)),
+            predicate: known(Known::RdfFirst),
+            object,
+            graph,
+        },
+    }
+}
+
+// The quad of what a bracket stands for, where that is an object.
+#[tactic(auto, using(crate::proofs::Stack::up_last))]
+fn quad_up<'a, A: Allocator>(
+    frames: &'a [Frame<A>],
+    object: TermRef<'a>,
+    graph: Option<SubjectRef<'a>>,
+) -> Option<QuadRef<'a>>
+    ensures { (v : M.Level) → option_map quad_of result ≡ up_quad (option_map (subject_by chars) graph.entry) (up_of v frames.now) (term_by chars object.entry) }
+{
+    match frames.last() {
+        None => None,
+        Some(frame) => Some(quad_at(frame, object, graph)),
+    }
+}
+
+// The quad between a cell and what comes behind it.
+fn cells<'a>(cell: u64, next: SubjectRef<'a>, graph: Option<SubjectRef<'a>>) -> QuadRef<'a>
+    ensures { Some (quad_of result) ≡ cells_quad (option_map (subject_by chars) graph.entry) cell (subject_by chars next.entry) }
+{
+    QuadRef {
+        subject: SubjectRef::Node(NodeRef::Cell(cell)),
+        predicate: known(Known::RdfRest),
+        object: resource(next),
+        graph,
+    }
+}
+
+fn cell_node(offset: u64) -> SubjectRef<'static>
+    ensures { subject_by chars result ≡ term.Blank (term.Cell offset) }
+{
+    SubjectRef::Node(NodeRef::Cell(offset))
+}
+
+fn rest_quad<'a>(rest: Option<(u64, u64)>, graph: Option<SubjectRef<'a>>) -> Option<QuadRef<'a>>
+    ensures { option_map quad_of result ≡ rest_of (option_map (subject_by chars) graph.entry) rest }
+{
+    match rest {
+        None => None,
+        Some((cell, next)) => Some(cells(cell, cell_node(next), graph)),
+    }
+}
+
+// The quad whose head ended with the last token.
+fn held_quad<'a, A: Allocator>(
+    held: &'a Held<A>,
+    mode: &'a Mode<A>,
+    frames: &'a [Frame<A>],
+    graph: Option<SubjectRef<'a>>,
+) -> Option<QuadRef<'a>>
+    ensures { (form : DocForm) (v : M.Level) → option_map quad_of result ≡ held_of (option_map (subject_by chars) graph.entry) (mode_at form v (up_of v frames.now) mode.now) held.now }
+{
+    match held {
+        Held::Nothing => None,
+        Held::Object(kept) => match mode {
+            Mode::After(frame) => Some(quad_at(frame, object(kept), graph)),
+            Mode::Bracket(_) => quad_up(frames, object(kept), graph),
+            _ => None,
+        },
+        Held::Nil(cell) => Some(cells(*cell, nil(), graph)),
+    }
+}
+
+// The quad that waits to know the token.
+fn waiting_quad<'a, A: Allocator>(
+    mode: &'a Mode<A>,
+    frames: &'a [Frame<A>],
+    graph: Option<SubjectRef<'a>>,
+    token: Token<'_>,
+) -> Option<QuadRef<'a>>
+    ensures { (form : DocForm) (s : InForce) (v : M.Level) → option_map quad_of result ≡ M.waiting (setting s (option_map (subject_by chars) graph.entry)) (mode_at form v (up_of v frames.now) mode.now) token.entry.kind (leaf token.entry) }
+{
+    match mode {
+        Mode::AfterText(lexical, frame) => match token.kind {
+            Kind::LangTag | Kind::AtBase | Kind::AtPrefix | Kind::Carets => None,
+            _ => Some(quad_at(frame, plain(lexical), graph)),
+        },
+        Mode::Paren => {
+            let first = match token.kind {
+                Kind::CloseParen => nil(),
+                _ => cell_node(token.offset),
+            };
+            quad_up(frames, resource(first), graph)
+        }
+        _ => None,
+    }
+}
+
+// Puts a quad, if there is one.
+fn put<S: QuadSink>(quad: Option<QuadRef<'_>>, sink: &mut S) -> Result<(), StepFault>
+    requires live { S.has_failed sink.old ≡ false }
+    ensures ok { OnOk result (Appends S.takes sink.old (kept (option_map quad_of quad.entry) []) sink.new) }
+    ensures live { OnOk result (S.has_failed sink.new ≡ false) }
+    ensures err { IfErr result (λ r. GaveUp S.takes S.leaves S.has_failed r (kept (option_map quad_of quad.entry) []) sink.old sink.new) }
+{
+    let Some(quad) = quad else {
+        return Ok(());
+    };
+    match sink.put(quad) {
+        Ok(()) => Ok(()),
+        Err(PutFault::Memory) => Err(StepFault::Memory),
+        Err(PutFault::Device) => Err(StepFault::Sink),
+    }
+}
+
+// Puts three quads, those that there are.
+#[tactic(auto, using(crate::proofs::StepsLemmas::appends_append, crate::proofs::StepsLemmas::gave_more, crate::proofs::StepsLemmas::gave_behind))]
+fn put_all<S: QuadSink>(
+    first: Option<QuadRef<'_>>,
+    second: Option<QuadRef<'_>>,
+    third: Option<QuadRef<'_>>,
+    sink: &mut S,
+) -> Result<(), StepFault>
+    requires live { S.has_failed sink.old ≡ false }
+    ensures ok { OnOk result (Appends S.takes sink.old (kept (option_map quad_of first.entry) [] ++ (kept (option_map quad_of second.entry) [] ++ kept (option_map quad_of third.entry) [])) sink.new) }
+    ensures live { OnOk result (S.has_failed sink.new ≡ false) }
+    ensures err { IfErr result (λ r. GaveUp S.takes S.leaves S.has_failed r (kept (option_map quad_of first.entry) [] ++ (kept (option_map quad_of second.entry) [] ++ kept (option_map quad_of third.entry) [])) sink.old sink.new) }
+{
+    put(first, sink)?;
+    put(second, sink)?;
+    put(third, sink)
+}
+
+/// Puts the quads that the token determines.
+pub fn give<A: Allocator, S: QuadSink>(
+    mode: &Mode<A>,
+    level: &Level<A>,
+    frames: &[Frame<A>],
+    rest: Option<(u64, u64)>,
+    held: &Held<A>,
+    token: Token<'_>,
+    sink: &mut S,
+) -> Result<(), StepFault>
+    requires live { S.has_failed sink.old ≡ false }
+    ensures ok { OnOk result ((form : DocForm) (s : InForce) → Appends S.takes sink.old (given form s mode.now level.now frames.now rest held.now token.entry) sink.new) }
+    ensures live { OnOk result (S.has_failed sink.new ≡ false) }
+    ensures err { IfErr result (λ r. (form : DocForm) (s : InForce) → GaveUp S.takes S.leaves S.has_failed r (given form s mode.now level.now frames.now rest held.now token.entry) sink.old sink.new) }
+{
+    let graph = graph(mode, level);
+    put_all(
+        rest_quad(rest, graph),
+        held_quad(held, mode, frames, graph),
+        waiting_quad(mode, frames, graph, token),
+        sink,
+    )
+}

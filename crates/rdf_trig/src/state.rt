@@ -1,0 +1,153 @@
+// Where the reader stands: what has been read, as far as it matters for what may come.
+
+use rdf_terms::{Iri, Known, Subject, Tag};
+use std::alloc::{Allocator, Global};
+
+/// A verb.
+#[derive(Drop)]
+pub enum Verb<A: Allocator = Global> {
+    /// An IRI.
+    Named(Iri<A>),
+    /// `a`, which is rdf:type.
+    Type,
+}
+
+/// The subject of a predicate list.
+#[derive(Drop)]
+pub enum Topic<A: Allocator = Global> {
+    /// An IRI or a blank node.
+    Term(Subject<A>),
+    /// The empty collection, which is rdf:nil.
+    Nil,
+}
+
+/// Where a statement stands.
+#[derive(Drop)]
+pub enum Level<A: Allocator = Global> {
+    /// Outside of a block.
+    Top,
+    /// In a block, of this graph or of the default graph.
+    Block(Option<Subject<A>>),
+}
+
+/// What a predicate list stands in.
+#[derive(Clone, Copy)]
+pub enum Around {
+    /// It is that of a statement.
+    Statement,
+    /// `[` and `]` are round it.
+    Brackets,
+}
+
+/// What is open round an object.
+#[derive(Drop)]
+pub enum Frame<A: Allocator = Global> {
+    /// A predicate list, with its subject and its last verb.
+    List {
+        subject: Topic<A>,
+        verb: Verb<A>,
+        around: Around,
+    },
+    /// A collection, with its first and its present cell.
+    Cells {
+        first: u64,
+        cell: u64,
+    },
+}
+
+/// How a directive is spelled.
+#[derive(Clone, Copy)]
+pub enum Spelling {
+    /// With `@`, and a dot at its end.
+    Dotted,
+    /// As in SPARQL.
+    Sparql,
+}
+
+/// Where the reader stands outside of statements.
+#[derive(Drop)]
+pub enum Outer<A: Allocator = Global> {
+    /// Between statements, outside of a block.
+    Start,
+    /// Between statements, in a block of this graph.
+    Inside(Option<Subject<A>>),
+    /// Behind the end.
+    Over,
+    WantPrefix(Spelling),
+    WantPrefixIri(Spelling, String<A>),
+    WantBaseIri(Spelling),
+    WantDot,
+    /// Behind GRAPH, behind its `[`, and behind its label.
+    GraphWord,
+    GraphBracket(u64),
+    WantBrace(Subject<A>),
+}
+
+/// Where the reader stands. The parts own their texts, since the pieces that they came in are gone.
+#[derive(Drop)]
+pub enum Mode<A: Allocator = Global> {
+    Outer(Outer<A>),
+    /// Behind a subject; outside of a block it may be a graph's label in TriG.
+    AfterSubject(Subject<A>),
+    /// An object is to come, or has come; a string has come, and behind it `^^`.
+    Want(Frame<A>),
+    After(Frame<A>),
+    AfterText(String<A>, Frame<A>),
+    WantType(String<A>, Frame<A>),
+    /// Behind `[` and behind `(`.
+    Bracket(u64),
+    Paren,
+    /// A verb has to come; behind `;` one may; behind a property list that is a subject.
+    WantVerb(Topic<A>),
+    Semicolon(Topic<A>, Around),
+    AfterBrackets(Topic<A>),
+}
+
+/// An object that has come whole.
+#[derive(Drop)]
+pub enum Object<A: Allocator = Global> {
+    /// An IRI or a blank node.
+    Named(Subject<A>),
+    /// A string and its datatype.
+    WithType(String<A>, Iri<A>),
+    /// A string and its language tag.
+    WithTag(String<A>, Tag<A>),
+    /// A number or a boolean, with the datatype that its form has.
+    OfKnown(String<A>, Known),
+}
+
+/// The quad whose head ended with the last token.
+#[derive(Drop)]
+pub enum Held<A: Allocator = Global> {
+    Nothing,
+    /// That of this object, where the mode says.
+    Object(Object<A>),
+    /// The end of a collection, by its last cell.
+    Nil(u64),
+}
+
+/// What a token did: the cell before the one that it opened and that cell, the quad whose head it ended, and where
+/// the reader stands behind it.
+#[derive(Drop)]
+pub struct Turn<A: Allocator = Global> {
+    pub rest: Option<(u64, u64)>,
+    pub held: Held<A>,
+    pub mode: Mode<A>,
+}
+
+/// What has been read, as far as it matters for what may come.
+#[derive(Drop)]
+pub struct State<A: Allocator = Global> {
+    /// Where the reader stands.
+    pub mode: Mode<A>,
+    /// Where the statement stands that is being read.
+    pub level: Level<A>,
+    /// What is open round that place, the innermost last.
+    pub frames: Vec<Frame<A>, A>,
+    /// The cell before the one that the last token opened, and that cell.
+    pub rest: Option<(u64, u64)>,
+    /// The quad whose head ended with the last token.
+    pub held: Held<A>,
+    /// How many `[` and `(` are open.
+    pub depth: u64,
+}
