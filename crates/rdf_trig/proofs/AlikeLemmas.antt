@@ -1,25 +1,22 @@
 -- The machine answers alike where the look-ups of its scope do.
-use Rattle.std.proofs.Common.{◌≡◌, ℕ, ◌+◌, Bool, true, false, cond, List, [], ◌∷◌, ◌++◌, ◌&&◌, not, length, is_some, Option, Some, None, option_map, refl, sym, ap, ◌∙◌, subst, append_assoc, arith}
+use Rattle.std.proofs.Common.{◌≡◌, ℕ, Bool, true, false, cond, List, [], ◌&&◌, Option, Some, None, refl, ap, ◌∙◌, subst}
 use Rattle.std.specs.Prelude.{nat_le}
 use Rattle.rdf_terms.specs.declared.kind.Kind.{Kind}
 use Rattle.rdf_terms.specs.declared.kind.Kind.TheVariants.{IriRef, LabelNode, ShortString, LongString, LangTag, Carets, Dot, Integer, Decimal, Double, True, False, A, AtPrefix, AtBase, Prefix, Base, Graph, PnameNs, PnameLn, Semicolon, Comma, OpenBracket, CloseBracket, OpenParen, CloseParen, OpenBrace, CloseBrace, End}
 use Rattle.rdf_terms.specs.Terms.{Node, Anon, Cell, Blank, Term, Quad}
 use Rattle.rdf_terms.specs.Terms as term
-use Rattle.rdf_tokens.specs.Tokens.{Token}
 use Rattle.rdf_iri.specs.Limits.{Sizes}
-use Rattle.rdf_iri.specs.Texts.{equal}
-use Rattle.rdf_iri.specs.Resolve.{resolved}
-use Rattle.rdf_iri.specs.Scope.{InForce, bound_to, Binds}
-use Rattle.rdf_lines.specs.Lines.{Leaf, leaf_of, iri_of}
+use Rattle.rdf_iri.specs.Scope.{InForce}
+use Rattle.rdf_lines.specs.Lines.{Leaf}
 use Rattle.rdf_trig.specs.declared.form.DocForm.{DocForm}
-use Rattle.rdf_trig.specs.declared.form.DocForm.TheVariants.{Turtle, TriG}
-use Rattle.rdf_trig.specs.Names.{reference_in, name_in, prefix_of, local_of, with_base, with_binding, is_full, SameNames}
-use Rattle.rdf_trig.specs.Quads.{Setting, in_default, in_graph, named, node, resource, anon_at, labelled, plain_literal, typed_literal, cell_at, rest_quad}
-use Rattle.rdf_trig.specs.Refusals.{Refusal, unexpected, too_deep, no_base, iri_too_long, too_many_bindings}
+use Rattle.rdf_trig.specs.declared.form.DocForm.TheVariants.{TriG}
+use Rattle.rdf_trig.specs.Names.{reference_in, name_in, with_base, with_binding, is_full, SameNames}
+use Rattle.rdf_trig.specs.Quads.{Setting, named, node, resource, typed_literal, cell_at, rest_quad}
+use Rattle.rdf_trig.specs.Refusals.{Refusal, too_deep, iri_too_long, too_many_bindings}
 use Rattle.rdf_trig.specs.Events.{Use, itself, stands, binds}
-use Rattle.rdf_trig.specs.Machine.{Level, Top, InBlock, Place, Listed, InCells, Around, Statement, Boxed, Up, Subject, At, Spelling, Dotted, Sparql, Mode, Start, Over, WantPrefix, WantPrefixIri, WantBaseIri, WantDot, AfterLabel, GraphWord, GraphBox, WantBrace, Inside, Want, After, AfterText, WantType, Box, Paren, WantVerb, Semi, AfterBox, Reply, No, Go, cell, nil, quad_at, object_start, want_type, verb_start, after_subject, node_closed, box_closed, list_closed, list_end, semi, after, after_text, box, paren, after_box, subject_start, start, inside, want_brace, after_label, graph_word, graph_box, directive_end, want_prefix, want_prefix_iri, want_base_iri, want_dot, step, waiting, depth}
-use Rattle.rdf_trig.specs.Machine.{kept, State, Answer, refuses, accepts, unnamed, too_long, by_use, deepens, by_depth, answer, accept, at_start, Run, ran, refused, with_quads, go, accept_all}
-use Rattle.rdf_trig.specs.Alike.{SameState, RunsTo}
+use Rattle.rdf_trig.specs.Machine.{Level, Top, InBlock, Place, Listed, InCells, Around, Statement, Boxed, Up, Subject, At, Spelling, Mode, Start, Over, WantPrefix, WantPrefixIri, WantBaseIri, WantDot, AfterLabel, GraphWord, GraphBox, WantBrace, Inside, Want, After, AfterText, WantType, Box, Paren, WantVerb, Semi, AfterBox, Reply, No, Go, quad_at, object_start, want_type, verb_start, after_subject, list_end, semi, after, after_text, box, paren, after_box, subject_start, start, inside, want_brace, after_label, graph_word, graph_box, want_prefix, want_prefix_iri, want_base_iri, want_dot, step, waiting, depth}
+use Rattle.rdf_trig.specs.Machine.{kept, State, Answer, refuses, accepts, too_long, by_use, deepens, answer, accept}
+use Rattle.rdf_trig.specs.Alike.{SameState}
 use Rattle.rdf_trig.proofs.NamesLemmas.{binds_prefix}
 use Rattle.rdf_trig.proofs.ScopeLemmas.{same_itself, same_reference, same_name, same_full, same_based, same_binding}
 

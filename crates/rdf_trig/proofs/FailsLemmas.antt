@@ -1,5 +1,5 @@
 -- Why reading stopped, for all bytes that were read before.
-use Rattle.std.proofs.Common.{◌≡◌, ℕ, Bool, true, false, List, [], ◌∷◌, ◌++◌, ◌⊎◌, refl, sym, ap, ◌∙◌, subst, ⊎_elim, append_assoc}
+use Rattle.std.proofs.Common.{◌≡◌, ℕ, Bool, true, false, List, [], ◌++◌, sym, ap, subst, ⊎_elim, append_assoc}
 use Rattle.std.proofs.lemmas.List.{append-nil}
 use Rattle.rdf_terms.specs.declared.reason.Reason.{Reason}
 use Rattle.rdf_terms.specs.declared.reason.Reason.TheVariants.{BadUtf8, NoToken, BadEscape, TokenTooLong, DocumentTooLong, Memory, Ended, Unexpected, IriTooLong, Sink, Unbound, NoBase, TooDeep, TooManyBindings}
@@ -18,7 +18,7 @@ use Rattle.rdf_trig.specs.Machine.{refuses, accept}
 use Rattle.rdf_trig.specs.Readings.{reading, StopsAt, RefusesAt}
 use Rattle.rdf_trig.specs.TrigRead.{TrigRead}
 use Rattle.rdf_trig.specs.Readers.{HasRead, RefusedIn, BeginsDueIn, LeavesOff, Refuses}
-use Rattle.rdf_trig.specs.Reading.{Stand, Advances, Leaves, FailsToken, FailsAt, FailsAfter}
+use Rattle.rdf_trig.specs.Reading.{Stand, Advances, Leaves, FailsAfter}
 use Rattle.rdf_trig.proofs.ReachedLemmas.{Reached, reached_on, reached_due, due_in_reading, reached_stop, reached_refused, reached_gave}
 
 -- Where some bytes were read before, reading stands here, and what is refused and due in the tokens there is so in the reading.

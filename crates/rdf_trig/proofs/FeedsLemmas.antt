@@ -1,5 +1,5 @@
 -- What a piece adds to what was read before.
-use Rattle.std.proofs.Common.{◌≡◌, ℕ, ◌+◌, ◌<◌, ◌≤◌, Bool, true, false, cond, List, [], ◌∷◌, ◌++◌, ◌⊎◌, length, take, drop, refl, sym, ap, ◌∙◌, subst, ⊎_elim, append_assoc, arith, length-append}
+use Rattle.std.proofs.Common.{◌≡◌, ℕ, ◌+◌, ◌<◌, ◌≤◌, Bool, true, false, List, [], ◌∷◌, ◌++◌, length, take, drop, refl, sym, ap, ◌∙◌, subst, ⊎_elim, append_assoc, arith, length-append}
 use mathlib.Core.Bool.{Bool-set}
 use Rattle.std.proofs.Math.Bridge.{le_prop}
 use Rattle.std.proofs.Math.Logic.{∥∥₁_elim, ∥∥₁_prop}
@@ -10,7 +10,7 @@ use Rattle.rdf_terms.specs.declared.reason.Reason.{Reason}
 use Rattle.rdf_terms.specs.declared.reason.Reason.TheVariants.{DocumentTooLong, Memory, Ended, Sink}
 use Rattle.rdf_terms.specs.Terms.{Quad}
 use Rattle.rdf_terms.proofs.SinksLemmas.{appends_attempts, appends_both}
-use Rattle.rdf_tokens.specs.Tokens.{Place, Token, Reading}
+use Rattle.rdf_tokens.specs.Tokens.{Place, Token}
 use Rattle.rdf_tokens.specs.Good.{tokens_of, end_of}
 use Rattle.rdf_tokens.specs.Unread.{Unread}
 use Rattle.rdf_tokens.specs.Scans as Scan
@@ -26,7 +26,7 @@ use Rattle.rdf_trig.specs.Readings.{reading}
 use Rattle.rdf_trig.specs.Alike.{RunsTo}
 use Rattle.rdf_trig.specs.TrigRead.{TrigRead}
 use Rattle.rdf_trig.specs.Readers.{HasRead, RefusedIn, BeginsDueIn, LeavesOff, Refuses, Feeds, FeedFails, IsTooLong, piece_readings}
-use Rattle.rdf_trig.specs.Reading.{Stand, Advances, IsDecided, IsEnded, ReadsAll, Known, IsReady, IsLive}
+use Rattle.rdf_trig.specs.Reading.{Stand, IsDecided, IsEnded, ReadsAll, Known, IsReady, IsLive}
 use Rattle.rdf_trig.proofs.RefusedLemmas.{refused_in_more, due_in_more}
 use Rattle.rdf_trig.proofs.ReachedLemmas.{Reached, reached_on, reached_begins, due_in_reading}
 use Rattle.rdf_trig.proofs.ReadingLemmas.{advances_none}

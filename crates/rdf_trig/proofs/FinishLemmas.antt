@@ -1,5 +1,5 @@
 -- What the end adds to what was read before.
-use Rattle.std.proofs.Common.{◌≡◌, ℕ, ◌+◌, ◌≤◌, Bool, true, false, cond, List, [], ◌∷◌, ◌++◌, ◌⊎◌, length, Option, Some, None, refl, sym, ap, ◌∙◌, subst, ⊎_elim, append_assoc, arith, length-append}
+use Rattle.std.proofs.Common.{◌≡◌, ℕ, ◌+◌, Bool, true, false, List, [], ◌∷◌, ◌++◌, length, Option, refl, sym, ap, ◌∙◌, subst, ⊎_elim, append_assoc, arith, length-append}
 use Rattle.std.specs.Prelude.{Result, Ok, Err, OnOk, IfErr}
 use Rattle.std.proofs.Math.Logic.{∥∥₁_elim, ∥∥₁_prop}
 use Rattle.rdf_terms.specs.declared.kind.Dialect.TheVariants.{Turtle as turtle}
@@ -13,25 +13,26 @@ use Rattle.rdf_tokens.specs.Good.{tokens_of}
 use Rattle.rdf_tokens.specs.Unread.{Unread}
 use Rattle.rdf_tokens.specs.Scans as Scan
 use Rattle.rdf_tokens.specs.Scans.{IsOpen}
-use Rattle.rdf_tokens.specs.Grammars.{counted, unmarked}
+use Rattle.rdf_tokens.specs.Grammars.{counted}
 use Rattle.rdf_tokens.proofs.GrammarsLemmas.{counted-append, counted_undecided, counted_complete}
 use Rattle.rdf_iri.specs.Scope.{InForce}
 use Rattle.rdf_lines.specs.Lines.{Leaf, leaf_of}
 use Rattle.rdf_trig.specs.declared.form.DocForm.{DocForm}
 use Rattle.rdf_trig.specs.Documents.{documents}
 use Rattle.rdf_trig.specs.Quads.{Setting}
-use Rattle.rdf_trig.specs.Machine.{Level, Top, InBlock, Place as P, Listed, InCells, Around, Statement, Boxed, Up, Mode, Start, Over, AfterText, Inside, After, Want, Semi, AfterBox, Box, Paren, WantVerb, WantType, AfterLabel, Reply, No, Go, list_end, after, step, waiting}
+use Rattle.rdf_trig.specs.Machine.{Top, InBlock, Place as P, Listed, InCells, Around, Statement, Boxed, Mode, Start, Over, AfterText, After, Semi, AfterBox, Reply, No, Go, list_end, after, step, waiting}
 use Rattle.rdf_trig.specs.Machine.{State, Answer, refuses, accepts, accept, at_start, ran, refused, go, accept_all}
 use Rattle.rdf_trig.specs.Readings.{reading}
-use Rattle.rdf_trig.specs.Alike.{RunsTo}
 use Rattle.rdf_trig.specs.TrigRead.{TrigRead}
 use Rattle.rdf_trig.specs.Readers.{HasRead, RefusedIn, BeginsDueIn, Sums, Finishes, FinishFails, end_readings, place_of}
 use Rattle.rdf_trig.specs.Reading.{Stand, IsEnded, ReadsAll, Known, IsReady, IsLive}
+use Rattle.rdf_lines.specs.declared.fault.Fault.{Fault}
+use Rattle.rdf_trig.specs.Read.{ReadsTokens}
 use Rattle.rdf_trig.proofs.Accepted.{accepted, first_ran}
 use Rattle.rdf_trig.proofs.Exact.{accepted_document, front_all}
 use Rattle.rdf_trig.proofs.ReadingsLemmas.{document_complete}
 use Rattle.rdf_trig.proofs.ReachedLemmas.{Reached, reached_on}
-use Rattle.rdf_trig.proofs.FailsLemmas.{Reaches, Told}
+use Rattle.rdf_trig.proofs.FailsLemmas.{Reaches, Told, told}
 use Rattle.rdf_trig.proofs.FeedsLemmas.{stand_of}
 
 -- behind the end a document is over
@@ -176,3 +177,15 @@ module _ {S : Type 0} (old : TrigRead) (v : Unread) (sink : S) (last : v ≡ rec
             accepted = omega arith;
             taken = ap (λ s. s.bytes) all.advances.so_far ∙ ap (λ s. s.bytes) h.so_far;
           }
+
+  pub finish_ok : (takes leaves : S → Quad → S → Type 0) (failed : S → Bool) (new : TrigRead) (after : S) (r : Result Unit Fault) → ReadsTokens takes leaves failed old.form last_stand r (stand_of new after) →
+      OnOk r (Finishes takes old sink new.so_far after)
+  finish_ok takes leaves failed new after (Ok x) h = finishes takes new after h
+  finish_ok takes leaves failed new after (Err f) h = tt
+
+  pub finish_err : (takes leaves : S → Quad → S → Type 0) (failed : S → Bool) (running : old.done ≡ false) (new : TrigRead) (after : S) (r : Result Unit Fault) →
+      ReadsTokens takes leaves failed old.form last_stand r (stand_of new after) → IfErr r (λ f. FinishFails takes leaves failed f.reason (place_of f) old sink new after)
+  finish_err takes leaves failed running new after (Ok x) h = tt
+  finish_err takes leaves failed running new after (Err f) h =
+      finish_told takes leaves failed running f.reason (place_of f) new after
+      (told takes leaves failed old running last_stand end_readings reaches_last f.reason (place_of f) new.scanner after h)

@@ -40,3 +40,4 @@ pub mod LocalShapes
 pub mod MachineLaws
 pub mod SameScopes
 pub mod AcceptLemmas
+pub mod StepLemmas

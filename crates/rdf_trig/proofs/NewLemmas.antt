@@ -1,5 +1,5 @@
 -- A reader that has read nothing.
-use Rattle.std.proofs.Common.{◌≡◌, ℕ, ◌≤◌, false, List, [], length, refl, sym, ap, ◌∙◌, subst, arith}
+use Rattle.std.proofs.Common.{◌≡◌, false, [], length, refl, sym, ap, ◌∙◌, subst, arith}
 use Rattle.rdf_terms.specs.declared.kind.Dialect.TheVariants.{Turtle as turtle}
 use Rattle.rdf_tokens.specs.Unread.{Unread}
 use Rattle.rdf_tokens.specs.Scans as Scan
@@ -8,7 +8,7 @@ use Rattle.rdf_tokens.proofs.GrammarsLemmas.{tokens_of-nil}
 use Rattle.rdf_iri.specs.Scope.{InForce}
 use Rattle.rdf_lines.specs.declared.fault.Summary.{Summary}
 use Rattle.rdf_trig.specs.declared.form.DocForm.{DocForm}
-use Rattle.rdf_trig.specs.Machine.{State, at_start, ran, accept_all}
+use Rattle.rdf_trig.specs.Machine.{State, at_start}
 use Rattle.rdf_trig.specs.Readings.{reading}
 use Rattle.rdf_trig.specs.Alike.{RunsTo}
 use Rattle.rdf_trig.specs.TrigRead.{TrigRead}

@@ -1,19 +1,19 @@
 -- What is refused stays refused when more bytes come, and is no document, or meets a limit.
-use Rattle.std.proofs.Common.{◌≡◌, ◌≢◌, ℕ, Bool, true, false, List, [], ◌∷◌, ◌++◌, refl, sym, ap, ◌∙◌, subst, append_assoc}
+use Rattle.std.proofs.Common.{◌≡◌, ◌≢◌, ℕ, Bool, false, List, [], ◌∷◌, ◌++◌, refl, sym, ap, ◌∙◌, subst, append_assoc}
 use Rattle.rdf_terms.specs.declared.kind.Dialect.TheVariants.{Turtle as turtle}
 use Rattle.rdf_terms.specs.declared.kind.Kind.TheVariants.{End}
 use Rattle.rdf_tokens.specs.Tokens.{Place, Outcome, Token, Reading}
 use Rattle.rdf_tokens.specs.Tokens.Outcome.{undecided, complete}
-use Rattle.rdf_tokens.specs.Grammars.{Marked, Viable, PassesNone, IsFront}
+use Rattle.rdf_tokens.specs.Grammars.{Marked, PassesNone}
 use Rattle.rdf_tokens.proofs.LawLemmas.{lengthens}
 use Rattle.rdf_tokens.proofs.GrammarsLemmas.{end_complete}
 use Rattle.rdf_iri.specs.Scope.{InForce}
-use Rattle.rdf_lines.specs.Lines.{Leaf, token}
+use Rattle.rdf_lines.specs.Lines.{token}
 use Rattle.rdf_trig.specs.declared.form.DocForm.{DocForm}
 use Rattle.rdf_trig.specs.Trees.{Document, end, with_directive, with_body, directive_tokens, body_tokens, document_tokens}
-use Rattle.rdf_trig.specs.Documents.{documents, IsDocument, Passes}
+use Rattle.rdf_trig.specs.Documents.{documents, Passes}
 use Rattle.rdf_trig.specs.Refusals.{Refusal}
-use Rattle.rdf_trig.specs.Readings.{reading, IsDocumentOf, StopsAt, RefusesAt}
+use Rattle.rdf_trig.specs.Readings.{reading, StopsAt, RefusesAt}
 use Rattle.rdf_trig.proofs.Exact.{not_both}
 
 pub stops_more : (form : DocForm) (start : InForce) (bytes more : List ℕ) (e : Bool) (why : Outcome) (at : Place) (ahead : List Token) → why ≢ undecided →

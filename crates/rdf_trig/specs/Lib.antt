@@ -15,3 +15,4 @@ pub mod States
 pub mod Spelled
 pub mod Steps
 pub mod Scopes
+pub mod Read

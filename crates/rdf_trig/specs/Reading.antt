@@ -1,5 +1,5 @@
 -- What the parts of a reader do: one token, and all that come.
-use Rattle.std.specs.Prelude.{◌≡◌, ◌≤◌, ◌+◌, ◌*◌, ℕ, Bool, true, false, cond, List, [], ◌∷◌, ◌++◌, ◌⊎◌, length}
+use Rattle.std.specs.Prelude.{◌≡◌, ◌≤◌, ◌+◌, ℕ, Bool, true, false, cond, List, [], ◌∷◌, ◌++◌, ◌⊎◌, length}
 use Rattle.rdf_terms.specs.declared.kind.Dialect.TheVariants.{Turtle as turtle}
 use Rattle.rdf_terms.specs.declared.kind.Kind.TheVariants.{End}
 use Rattle.rdf_terms.specs.declared.reason.Reason.{Reason}
@@ -17,7 +17,7 @@ use Rattle.rdf_lines.specs.declared.fault.Summary.{Summary}
 use Rattle.rdf_lines.specs.Lines.{leaf_of}
 use Rattle.rdf_trig.specs.declared.form.DocForm.{DocForm}
 use Rattle.rdf_trig.specs.Refusals.{unexpected, too_deep, unbound, no_base, iri_too_long, too_many_bindings}
-use Rattle.rdf_trig.specs.Machine.{State, Answer, accepts, refuses, accept, at_start, ran, accept_all}
+use Rattle.rdf_trig.specs.Machine.{State, Answer, accepts, refuses, accept}
 use Rattle.rdf_trig.specs.Alike.{SameState, RunsTo}
 use Rattle.rdf_trig.specs.TrigRead.{TrigRead}
 use Rattle.rdf_trig.specs.Readers as R

@@ -1,11 +1,11 @@
 -- What it means that bytes are a document of Turtle or TriG, and that they are refused at a place.
-use Rattle.std.specs.Prelude.{◌≡◌, ℕ, Bool, true, List, [], ◌∷◌, ◌++◌}
+use Rattle.std.specs.Prelude.{◌≡◌, ℕ, Bool, true, List, ◌∷◌, ◌++◌}
 use Rattle.rdf_terms.specs.declared.kind.Dialect.TheVariants.{Turtle as turtle}
 use Rattle.rdf_terms.specs.Terms.{Quad}
 use Rattle.rdf_tokens.specs.Tokens.{Place, Outcome, Token, Reading}
 use Rattle.rdf_tokens.specs.Tokens.Outcome.{complete}
 use Rattle.rdf_tokens.specs.Good.{tokens_of}
-use Rattle.rdf_tokens.specs.Grammars.{Marked, unmarked, Viable, PassesNone, IsFront, Within}
+use Rattle.rdf_tokens.specs.Grammars.{Marked, unmarked, Viable, PassesNone, Within}
 use Rattle.rdf_iri.specs.Scope.{InForce}
 use Rattle.rdf_trig.specs.declared.form.DocForm.{DocForm}
 use Rattle.rdf_trig.specs.Documents.{documents, Passes}

@@ -3,6 +3,7 @@ use Rattle.std.specs.Prelude.{Bool}
 use Rattle.rdf_tokens.specs.Unread.{Unread}
 use Rattle.rdf_lines.specs.declared.fault.Summary.{Summary}
 use Rattle.rdf_trig.specs.declared.form.DocForm.{DocForm}
+use Rattle.rdf_iri.specs.Scope.{InForce}
 use Rattle.rdf_trig.specs.Machine.{State}
 
 pub record TrigRead : Type 0 where
@@ -14,3 +15,8 @@ pub record TrigRead : Type 0 where
   pub so_far : Summary
   -- a fault was told, or the document was finished
   pub done : Bool
+
+-- what a reader is to read: the form, and the scope before the first token
+pub record Chosen : Type 0 where
+  pub form : DocForm
+  pub start : InForce
