@@ -5,6 +5,7 @@ use Rattle.rdf_terms.specs.declared.kind.Dialect.TheVariants.{Lines}
 use Rattle.rdf_terms.specs.declared.reason.Reason.{Reason}
 use Rattle.rdf_terms.specs.declared.reason.Reason.TheVariants.{BadUtf8, NoToken, BadEscape, TokenTooLong, DocumentTooLong, Memory, Ended, Unexpected, RelativeIri, IriTooLong, Sink}
 use Rattle.rdf_terms.specs.Terms.{Quad}
+use Rattle.rdf_terms.proofs.SinksLemmas.{appends_attempts}
 use Rattle.rdf_terms.specs.Sinks.{Appends, Attempts}
 use Rattle.rdf_tokens.specs.Tokens.{Place, Outcome, Token, Reading}
 use Rattle.rdf_tokens.specs.Tokens.Outcome.{bad_utf8, no_token, bad_escape, token_too_long}
@@ -23,7 +24,7 @@ use Rattle.rdf_lines.specs.LineRead.{LineRead}
 use Rattle.rdf_lines.specs.Readers.{HasRead, IsDueIn, LeavesOff, Refuses, FeedFails, FinishFails}
 use Rattle.rdf_lines.specs.Reading.{Stand, Advances, FailsToken, FailsAt, FailsAfter}
 use Rattle.rdf_lines.proofs.DocumentsLemmas.{refused_in_more}
-use Rattle.rdf_lines.proofs.ReachedLemmas.{Reached, reached_on, reached_due, all_tokens, reached_begins, due_in_reading, reached_stop, reached_unexpected, reached_relative, reached_long, reached_gave, appends_attempts, appends_both}
+use Rattle.rdf_lines.proofs.ReachedLemmas.{Reached, reached_on, reached_due, all_tokens, reached_begins, due_in_reading, reached_stop, reached_unexpected, reached_relative, reached_long, reached_gave}
 
 abbrev pub rules_of : LineRead → Rules
 rules_of r = record { form = r.form; iri = r.iri }

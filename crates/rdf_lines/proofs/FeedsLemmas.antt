@@ -12,6 +12,7 @@ use Rattle.rdf_terms.specs.declared.kind.Kind.TheVariants.{Dot}
 use Rattle.rdf_terms.specs.declared.reason.Reason.{Reason}
 use Rattle.rdf_terms.specs.declared.reason.Reason.TheVariants.{DocumentTooLong, Memory, Ended, Sink}
 use Rattle.rdf_terms.specs.Terms.{Quad}
+use Rattle.rdf_terms.proofs.SinksLemmas.{appends_attempts, appends_both}
 use Rattle.rdf_tokens.specs.Tokens.{Place, Token, Reading}
 use Rattle.rdf_tokens.specs.Tokens.Outcome.{complete}
 use Rattle.rdf_tokens.specs.Good.{tokens_of, end_of}
@@ -31,7 +32,7 @@ use Rattle.rdf_lines.specs.LineRead.{LineRead}
 use Rattle.rdf_lines.specs.Readers.{tokens_so_far, HasRead, IsDueIn, LeavesOff, Refuses, Feeds, FeedFails, IsTooLong}
 use Rattle.rdf_lines.specs.Reading.{Stand, Advances, IsDecided, IsEnded, ReadsAll, FailsAfter, Known, IsReady, IsLive}
 use Rattle.rdf_lines.proofs.DocumentsLemmas.{refused_in_more}
-use Rattle.rdf_lines.proofs.ReachedLemmas.{Reached, reached_on, reached_begins, due_in_reading, appends_both, appends_attempts}
+use Rattle.rdf_lines.proofs.ReachedLemmas.{Reached, reached_on, reached_begins, due_in_reading}
 use Rattle.rdf_lines.proofs.ReadingLemmas.{advances_none}
 use Rattle.rdf_lines.proofs.FailsLemmas.{rules_of, Reaches, Told, told, leaves_here}
 use Rattle.rdf_lines.proofs.Lag.{is_dot, dots, given_dots}

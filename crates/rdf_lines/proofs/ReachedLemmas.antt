@@ -1,12 +1,11 @@
 -- What is known of the bytes where some of their tokens were accepted, and where the next was not.
-use Rattle.std.proofs.Common.{◌≡◌, ℕ, Bool, true, false, List, [], ◌∷◌, ◌++◌, ◌⊎◌, inl, inr, refl, sym, ap, ◌∙◌, subst, ⊎_elim, append_assoc}
+use Rattle.std.proofs.Common.{◌≡◌, ℕ, Bool, true, false, List, [], ◌∷◌, ◌++◌, ◌⊎◌, refl, sym, ap, ◌∙◌, subst, ⊎_elim, append_assoc}
 use Rattle.std.proofs.lemmas.List.{append-nil}
 use Rattle.rdf_terms.specs.declared.kind.Dialect.{Dialect}
 use Rattle.rdf_terms.specs.declared.kind.Dialect.TheVariants.{Lines}
 use Rattle.rdf_terms.specs.declared.reason.Reason.{Reason}
 use Rattle.rdf_terms.specs.declared.reason.Reason.TheVariants.{BadUtf8, NoToken, BadEscape, TokenTooLong, Memory, Unexpected, RelativeIri, IriTooLong, Sink}
 use Rattle.rdf_terms.specs.Terms.{Quad, has_scheme}
-use Rattle.rdf_terms.specs.Sinks.{Appends, Attempts}
 use Rattle.rdf_tokens.specs.Tokens.{Place, Outcome, Token, Reading}
 use Rattle.rdf_tokens.specs.Tokens.Outcome.{bad_utf8, no_token, bad_escape, token_too_long}
 use Rattle.rdf_tokens.specs.Good.{tokens_of}
@@ -144,12 +143,3 @@ module _ (g : Rules) (v : Unread) (m : Mode) (bytes : List ℕ) (ts : List Token
       let e : run (is_taken g.iri) g.form Begin (ts ++ t ∷ []) ≡ ran n (quads ++ q ∷ []) =
       run_one (is_taken g.iri) g.form ts t Begin m quads r.ran ∙ ap (λ x. with_quads quads (go_on x (λ k. ran k []))) a in
       (ts ++ t ∷ [], b.0, b.1 ∙ sym (append_assoc ts (t ∷ []) b.0), due_ran g.form (ts ++ t ∷ []) n (quads ++ q ∷ []) (in_documents g.iri g.form (ts ++ t ∷ []) n (quads ++ q ∷ []) e))
-
--- puts, and then puts of which the last may have been refused
-pub appends_attempts : {S : Type 0} (takes leaves : S → Quad → S → Type 0) (qs rs : List Quad) (a b c : S) → Appends takes a qs b → Attempts takes leaves b rs c → Attempts takes leaves a (qs ++ rs) c
-appends_attempts takes leaves [] rs a b c e t = subst (λ x. Attempts takes leaves x rs c) e t
-appends_attempts takes leaves (q ∷ qs) rs a b c h t = inr (h.0, h.1, appends_attempts takes leaves qs rs h.0 b c h.2 t)
-
-pub appends_both : {S : Type 0} (takes : S → Quad → S → Type 0) (qs rs : List Quad) (a b c : S) → Appends takes a qs b → Appends takes b rs c → Appends takes a (qs ++ rs) c
-appends_both takes [] rs a b c e t = subst (λ x. Appends takes x rs c) e t
-appends_both takes (q ∷ qs) rs a b c h t = (h.0, h.1, appends_both takes qs rs h.0 b c h.2 t)

@@ -18,6 +18,10 @@ reason_text reason.Unexpected = codes "unexpected token"
 reason_text reason.RelativeIri = codes "relative IRI"
 reason_text reason.IriTooLong = codes "IRI too long"
 reason_text reason.Sink = codes "write failed"
+reason_text reason.Unbound = codes "unbound prefix"
+reason_text reason.NoBase = codes "no base"
+reason_text reason.TooDeep = codes "too deep"
+reason_text reason.TooManyBindings = codes "too many bindings"
 
 -- why, and where in decimal digits
 abbrev pub place_text : Fault → List ℕ

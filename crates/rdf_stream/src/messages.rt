@@ -78,5 +78,9 @@ fn words(reason: Reason) -> &'static str
         Reason::RelativeIri => "relative IRI",
         Reason::IriTooLong => "IRI too long",
         Reason::Sink => "write failed",
+        Reason::Unbound => "unbound prefix",
+        Reason::NoBase => "no base",
+        Reason::TooDeep => "too deep",
+        Reason::TooManyBindings => "too many bindings",
     }
 }

@@ -173,6 +173,10 @@ fn a_report_names_the_reason_and_the_place(rt: HostRuntime) -> Result<(), AllocE
         (Reason::Unexpected, "unexpected token"),
         (Reason::RelativeIri, "relative IRI"),
         (Reason::IriTooLong, "IRI too long"),
+        (Reason::Unbound, "unbound prefix"),
+        (Reason::NoBase, "no base"),
+        (Reason::TooDeep, "too deep"),
+        (Reason::TooManyBindings, "too many bindings"),
     ];
     for (reason, words) in faults {
         let fault = StreamFault::Refused(Fault {

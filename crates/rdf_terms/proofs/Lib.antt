@@ -10,4 +10,5 @@ pub mod KnownLemmas
 pub mod NamesLemmas
 pub mod ViewLemmas
 pub mod LocalLemmas
+pub mod SinksLemmas
 mod IriBytes

@@ -25,4 +25,12 @@ pub enum Reason {
     IriTooLong,
     /// The sink failed.
     Sink,
+    /// The prefix of the name is not bound.
+    Unbound,
+    /// The reference has no scheme, and no base is in force.
+    NoBase,
+    /// The bracket is one more than may be open.
+    TooDeep,
+    /// The directive would bind one prefix more than may be bound.
+    TooManyBindings,
 }

@@ -1,6 +1,6 @@
 -- What the machine answers, from the parts of a step.
-use Rattle.std.proofs.Common.{◌≡◌, ◌≤◌, ◌<◌, ◌+◌, ◌*◌, ◌^◌, ℕ, Bool, true, false, cond, List, [], ◌∷◌, ◌++◌, ◌&&◌, length, Option, Some, None, Result, Ok, Err, refl, sym, ap, ◌∙◌, subst, arith}
-use Rattle.std.specs.Prelude.{nat_le, IfOk, IfErr, OnOk}
+use Rattle.std.proofs.Common.{◌≡◌, ◌≤◌, ◌<◌, ◌+◌, ◌*◌, ◌^◌, ℕ, Bool, true, false, List, [], ◌∷◌, ◌++◌, ◌&&◌, length, Option, Some, None, refl, sym, ap, ◌∙◌, subst, arith}
+use Rattle.std.specs.Prelude.{nat_le}
 use Rattle.std.specs.Str.{encode_utf8_all}
 use lib.Utf8.{encode}
 use Rattle.std.specs.Char.{len_utf8}
@@ -10,7 +10,7 @@ use Rattle.std.proofs.lemmas.Str.{len_utf8_bounds, length-encode}
 use Rattle.rdf_terms.specs.declared.kind.Kind.{Kind}
 use Rattle.rdf_terms.specs.declared.kind.Kind.TheVariants.{IriRef, OpenBracket, CloseBracket, OpenParen, CloseParen}
 use Rattle.rdf_terms.specs.Terms.{Quad}
-use Rattle.rdf_terms.specs.Sinks.{Appends, Attempts}
+use Rattle.rdf_terms.specs.Sinks.{Appends}
 use Rattle.rdf_iri.specs.Limits.{Sizes}
 use Rattle.rdf_iri.specs.Texts.{byte_len}
 use Rattle.rdf_iri.specs.Scope.{InForce}
@@ -31,7 +31,7 @@ use Rattle.rdf_trig.specs.Refusals as refusal
 use Rattle.rdf_trig.specs.Machine as M
 use Rattle.rdf_trig.specs.Machine.{Reply, No, Go, kept, by_use, refuses, accepts}
 use Rattle.rdf_trig.specs.States.{mode_of, use_in, scope_in, is_go, DepthMoves, ShortPrefix, PrefixFits}
-use Rattle.rdf_trig.specs.Scopes.{Passes, Stops, SameScope, LooksUp, LooksUpNone}
+use Rattle.rdf_trig.specs.Scopes.{Passes, SameScope, LooksUp, LooksUpNone}
 use Rattle.rdf_trig.specs.Steps.{Begins, GaveUp, state_of, moved, May, Stays, DepthMay, Keeps, Accepts, answered, Fails}
 use Rattle.rdf_trig.proofs.MachineLaws.{step_use, step_depth, step_prefix}
 use Rattle.rdf_trig.proofs.StepsLemmas.{begins_all}

@@ -19,6 +19,17 @@ pub mod LawExamples
 pub mod ScopeLemmas
 pub mod ReadingsLemmas
 pub mod Runs
+pub mod AlikeLemmas
+pub mod FewLemmas
+pub mod RunsLemmas
+pub mod ReadingLemmas
+pub mod ReachedLemmas
+pub mod FailsLemmas
+pub mod RefusedLemmas
+pub mod FeedsLemmas
+pub mod FinishLemmas
+pub mod NewLemmas
+pub mod PromiseLemmas
 pub mod Stack
 pub mod SpelledLemmas
 pub mod Fallbacks
@@ -30,3 +41,4 @@ pub mod LocalShapes
 pub mod MachineLaws
 pub mod SameScopes
 pub mod AcceptLemmas
+pub mod StepLemmas

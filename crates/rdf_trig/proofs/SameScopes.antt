@@ -1,6 +1,6 @@
 -- Scopes that agree in every look-up give tokens the same meaning, and stay so.
-use Rattle.std.proofs.Common.{◌≡◌, ◌≤◌, ◌+◌, ℕ, suc, Bool, true, false, cond, List, [], ◌∷◌, ◌++◌, ◌&&◌, not, length, Option, Some, None, option_map, refl, sym, ap, ◌∙◌, subst, ⊎_elim, arith}
-use Rattle.std.specs.Prelude.{nat_le, is_some, unwrap_or, Result, Ok, Err, IfOk, IfErr, OnOk}
+use Rattle.std.proofs.Common.{◌≡◌, ◌+◌, ℕ, true, false, cond, List, [], ◌∷◌, ◌++◌, ◌&&◌, not, length, Option, Some, None, option_map, refl, sym, ap, ◌∙◌, subst, ⊎_elim, arith}
+use Rattle.std.specs.Prelude.{nat_le, is_some, Result, Ok, Err, IfOk, IfErr}
 use Rattle.std.proofs.lemmas.Bool.{cases_Bool, cond-true, cond-false}
 use Rattle.rdf_terms.specs.declared.kind.Kind.{Kind}
 use Rattle.rdf_terms.specs.declared.kind.Kind.TheVariants.{IriRef, PnameNs, PnameLn}
@@ -15,17 +15,16 @@ use Rattle.rdf_lines.specs.Lines.{Leaf, iri_of}
 use Rattle.rdf_trig.specs.declared.form.DocForm.{DocForm}
 use Rattle.rdf_trig.specs.declared.form.DocForm.TheVariants.{Turtle, TriG}
 use Rattle.rdf_trig.specs.declared.fault.StepFault.{StepFault}
-use Rattle.rdf_trig.specs.declared.fault.StepFault.TheVariants as fault
 use Rattle.rdf_trig.specs.declared.state.Outer.{Outer}
 use Rattle.rdf_trig.specs.declared.state.Outer.TheVariants as outer
 use Rattle.rdf_trig.specs.declared.state.Mode.{Mode}
 use Rattle.rdf_trig.specs.declared.state.Mode.TheVariants as mode
 use Rattle.rdf_trig.specs.declared.state.Spelling.{Spelling}
 use Rattle.rdf_trig.specs.Names.{reference_in, name_in, prefix_of, local_of, bind, with_base, with_binding, is_full}
-use Rattle.rdf_trig.specs.Events.{Use, itself, stands, binds}
+use Rattle.rdf_trig.specs.Events.{Use, stands, binds}
 use Rattle.rdf_trig.specs.Machine as M
 use Rattle.rdf_trig.specs.Machine.{by_use}
-use Rattle.rdf_trig.specs.States.{name_at, use_at, use_in, scope_in, NameIn, IsNamedIn, mode_at, outer_of}
+use Rattle.rdf_trig.specs.States.{name_at, use_at, mode_at, outer_of}
 use Rattle.rdf_trig.specs.Scopes.{Passes, Stops, Names, Unnamed, Based, Binding, NotBinding, SameScope, LooksUp, LooksUpNone}
 
 reference_same : (s t : InForce) (l : Leaf) → SameScope s t → reference_in s l ≡ reference_in t l

@@ -1,29 +1,25 @@
 -- Look-ups in scopes, and what directives do to them.
-use Rattle.std.proofs.Common.{◌≡◌, ◌≤◌, ◌<◌, ◌+◌, ℕ, suc, Bool, true, false, cond, List, [], ◌∷◌, ◌++◌, ◌&&◌, not, length, Option, Some, None, option_map, refl, sym, ap, ◌∙◌, subst, ⊎_elim, arith}
-use Rattle.std.specs.Prelude.{nat_lt, nat_le, is_some, unwrap_or, Result, Ok, Err, IfOk, IfErr, OnOk}
-use Rattle.std.proofs.lemmas.Bool.{cases_Bool, cond-true, cond-false, le-ltb, lt-ltb, le-leb, lt-leb}
+use Rattle.std.proofs.Common.{◌≡◌, ◌≤◌, ◌<◌, ℕ, true, false, List, ◌++◌, ◌&&◌, not, length, Option, Some, None, option_map, refl, sym, ap, ◌∙◌, subst}
+use Rattle.std.specs.Prelude.{nat_le, is_some}
+use Rattle.std.proofs.lemmas.Bool.{cond-true, cond-false, le-ltb, lt-ltb, le-leb, lt-leb}
 use Rattle.rdf_terms.specs.declared.kind.Kind.{Kind}
 use Rattle.rdf_terms.specs.declared.kind.Kind.TheVariants.{IriRef, PnameNs, PnameLn}
 use Rattle.rdf_terms.specs.Terms.{has_scheme}
-use Rattle.rdf_terms.specs.Values.{local_value}
 use Rattle.rdf_iri.specs.declared.fault.IriFault.{IriFault}
 use Rattle.rdf_iri.specs.declared.fault.IriFault.TheVariants as iri
 use Rattle.rdf_iri.specs.Limits.{Sizes}
-use Rattle.rdf_iri.specs.Texts.{byte_len, equal}
+use Rattle.rdf_iri.specs.Texts.{byte_len}
 use Rattle.rdf_iri.specs.Resolve.{Resolves, resolved, based}
-use Rattle.rdf_iri.specs.Scope.{InForce, bound_to, Binds, HasRoom, ResolvesHere, UnresolvedHere, IsBased, IsBound, NotBound, ExpandsHere, NotExpanded}
+use Rattle.rdf_iri.specs.Scope.{InForce, bound_to, HasRoom, ResolvesHere, UnresolvedHere, IsBased, IsBound, NotBound, ExpandsHere, NotExpanded}
 use Rattle.rdf_iri.proofs.ResolveLemmas.{resolves-only}
-use Rattle.rdf_iri.proofs.TextsLemmas.{equal-true, equal-from}
-use Rattle.rdf_iri.proofs.Encoded.{same_test}
 use Rattle.rdf_lines.specs.Lines.{Leaf, iri_of}
 use Rattle.rdf_trig.specs.declared.fault.StepFault.{StepFault}
-use Rattle.rdf_trig.specs.Names.{reference_in, name_in, prefix_of, local_of, bind, with_base, with_binding, is_full}
-use Rattle.rdf_trig.specs.Events.{Use, itself, stands, binds}
+use Rattle.rdf_trig.specs.Names.{reference_in, name_in, prefix_of, local_of, with_base, is_full}
+use Rattle.rdf_trig.specs.Events.{stands, binds}
 use Rattle.rdf_trig.specs.Refusals as refusal
 use Rattle.rdf_trig.specs.Machine as M
 use Rattle.rdf_trig.specs.Machine.{by_use, refuses, too_long}
-use Rattle.rdf_trig.specs.States.{name_at, use_at, use_in, scope_in, IsNamed}
-use Rattle.rdf_trig.specs.Scopes.{IsReference, IsPrefixed, step_fault, Passes, Stops, Names, Unnamed, Based, Binding, NotBinding, SameScope}
+use Rattle.rdf_trig.specs.Scopes.{IsReference, IsPrefixed, step_fault, Passes, Stops, Names, Unnamed, Based, Binding, NotBinding}
 
 -- the checks of what a token stands for
 stands_passes : (sizes : Sizes) (k : Kind) (o : Option (List ℕ)) (i : List ℕ) → o ≡ Some i → byte_len i ≤ sizes.iri → Passes sizes k (stands o)

@@ -1,5 +1,5 @@
 -- What a function gave, where its level, frames and reply are known by equations.
-use Rattle.std.proofs.Common.{◌≡◌, ℕ, Option, List, Result, Ok, Err, sym, subst}
+use Rattle.std.proofs.Common.{◌≡◌, ℕ, Option, List, Result, sym, subst}
 use Rattle.rdf_iri.specs.Scope.{InForce}
 use Rattle.rdf_trig.specs.declared.form.DocForm.{DocForm}
 use Rattle.rdf_trig.specs.declared.fault.StepFault.{StepFault}

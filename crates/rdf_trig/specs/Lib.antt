@@ -8,7 +8,12 @@ pub mod Refusals
 pub mod Machine
 pub mod Laws
 pub mod Readings
+pub mod Alike
+pub mod TrigRead
+pub mod Readers
+pub mod Reading
 pub mod States
 pub mod Spelled
 pub mod Steps
 pub mod Scopes
+pub mod Read

@@ -40,7 +40,7 @@ use Rattle.rdf_trig.specs.declared.state.Held.{Held}
 use Rattle.rdf_trig.specs.declared.state.Held.TheVariants as held
 use Rattle.rdf_trig.specs.declared.state.Turn.{Turn}
 use Rattle.rdf_trig.specs.Names.{reference_in, name_in, with_base, with_binding, is_full}
-use Rattle.rdf_trig.specs.Quads.{Setting, stated, rest_quad}
+use Rattle.rdf_trig.specs.Quads.{Setting, stated}
 use Rattle.rdf_trig.specs.Events.{Use, itself, stands, binds}
 use Rattle.rdf_trig.specs.Machine as M
 use Rattle.rdf_trig.specs.Machine.{Reply, No, Go, nil, subject_at, verb_at}

@@ -1,7 +1,8 @@
 // A token is accepted: the checks, then the quads that are due, then the move.
 
-ghost use Rattle.std.specs.Prelude.{◌≡◌, ◌≤◌, ◌<◌, ◌+◌, ◌^◌, ◌&&◌, length, nat_le, true, false, OnOk, IfErr};
+ghost use Rattle.std.specs.Prelude.{◌≡◌, ◌≤◌, ◌<◌, ◌+◌, ◌^◌, ◌&&◌, List, length, nat_le, true, false, OnOk, IfErr};
 ghost use Rattle.rdf_iri.specs.Limits.{Sizes};
+ghost use Rattle.rdf_terms.specs.Terms.{Quad};
 ghost use Rattle.rdf_iri.specs.Scope.{InForce};
 ghost use Rattle.rdf_lines.specs.Lines.{Leaf};
 ghost use Rattle.rdf_trig.specs.Machine as M;
@@ -12,7 +13,7 @@ ghost use Rattle.rdf_trig.specs.Steps.{state_of, moved, May, Refused, Stays, Dep
 use crate::allows::allows;
 use crate::fault::StepFault;
 use crate::form::DocForm;
-use crate::give::give;
+use crate::give::{give, how_many};
 use crate::names::look_up;
 use crate::state::{Held, Level, Mode, Outer, State};
 use crate::turns::turn;
@@ -62,6 +63,20 @@ impl<A: Allocator + Copy> State<A> {
             held: Held::Nothing,
             depth: 0,
         }
+    }
+
+    /// How many quads the token determines, where it is accepted.
+    pub fn gives(&self, token: Token<'_>) -> u64
+        ensures { (form : DocForm) (s : InForce) (qs : List Quad) (n : M.State) → M.accept form (state_of form s self.now) token.entry.kind (leaf token.entry) ≡ M.accepts qs n → result ≡ length qs }
+    {
+        how_many(
+            &self.mode,
+            &self.level,
+            &self.frames,
+            self.rest,
+            &self.held,
+            token,
+        )
     }
 
     // Whether the token may stand here by the grammar, and by the limit of open brackets.

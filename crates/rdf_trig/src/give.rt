@@ -1,6 +1,6 @@
 // The quads that a token determines are put: those that were held for it, and the one that waited to know it.
 
-ghost use Rattle.std.specs.Prelude.{◌≡◌, ◌++◌, false, [], Option, Some, None, OnOk, IfErr, option_map};
+ghost use Rattle.std.specs.Prelude.{◌≡◌, ◌+◌, ◌≤◌, length, ◌++◌, false, [], Option, Some, None, OnOk, IfErr, option_map};
 ghost use Rattle.std.specs.Str.{chars};
 ghost use Rattle.std.specs.String.{string_bytes};
 ghost use Rattle.rdf_terms.specs.Terms as term;
@@ -279,5 +279,45 @@ pub fn give<A: Allocator, S: QuadSink>(
         held_quad(held, mode, frames, graph),
         waiting_quad(mode, frames, graph, token),
         sink,
+    )
+}
+
+// How many quads this is.
+fn count(quad: Option<QuadRef<'_>>) -> u64
+    ensures count { result ≡ length (kept (option_map quad_of quad.entry) []) }
+    ensures most { result ≤ 1 }
+{
+    match quad {
+        None => 0,
+        Some(_) => 1,
+    }
+}
+
+fn count_all(
+    first: Option<QuadRef<'_>>,
+    second: Option<QuadRef<'_>>,
+    third: Option<QuadRef<'_>>,
+) -> u64
+    ensures { result ≡ length (kept (option_map quad_of first.entry) []) + length (kept (option_map quad_of second.entry) []) + length (kept (option_map quad_of third.entry) []) }
+{
+    count(first) + count(second) + count(third)
+}
+
+/// How many quads the token determines, where it is accepted.
+pub fn how_many<A: Allocator>(
+    mode: &Mode<A>,
+    level: &Level<A>,
+    frames: &[Frame<A>],
+    rest: Option<(u64, u64)>,
+    held: &Held<A>,
+    token: Token<'_>,
+) -> u64
+    ensures { (form : DocForm) (s : InForce) → result ≡ length (given form s mode.now level.now frames.now rest held.now token.entry) }
+{
+    let graph = graph(mode, level);
+    count_all(
+        rest_quad(rest, graph),
+        held_quad(held, mode, frames, graph),
+        waiting_quad(mode, frames, graph, token),
     )
 }

@@ -8,6 +8,8 @@ mod form;
 mod give;
 pub mod laws;
 mod names;
+mod reading;
+mod rules;
 mod spelled;
 mod state;
 #[cfg(test)]

@@ -1,4 +1,4 @@
-use Rattle.std.proofs.Common.{◌≡◌, List, [], Err, ap, sym, ◌∙◌}
+use Rattle.std.proofs.Common.{◌≡◌, [], Err, ap, sym, ◌∙◌}
 use Rattle.std.specs.Prelude.{unwrap_or}
 use Rattle.std.specs.Str.{chars}
 use Rattle.rdf_terms.specs.Values as V

@@ -1,4 +1,4 @@
-use Rattle.std.proofs.Common.{arith, refl, sym, ap, ◌∙◌, []}
+use Rattle.std.proofs.Common.{arith, sym, ap, []}
 use Rattle.std.specs.Prelude.{unwrap_or}
 use Rattle.std.specs.Str.{chars}
 use Rattle.rdf_trig.proofs.ColonLemmas.{front_chars, back_chars, no_colon}

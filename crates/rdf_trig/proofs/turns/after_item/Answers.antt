@@ -1,5 +1,4 @@
-use Rattle.std.proofs.Common.{refl, Some}
-use Rattle.rdf_trig.specs.declared.state.Frame.TheVariants.{Cells}
+use Rattle.std.proofs.Common.{refl}
 use Rattle.rdf_trig.specs.States.{leaf, use_at, setting, graph_of, level_of, up_of}
 use Rattle.rdf_trig.proofs.Fallbacks.{cells-else}
 use Rattle.rdf_trig.proofs.TurnsLemmas.{gives_at}

@@ -1,12 +1,7 @@
-use Rattle.std.proofs.Common.{◌≡◌, Option, List, ℕ, sym, ap, ◌∙◌, subst}
-use Rattle.std.specs.Prelude.{OnOk}
+use Rattle.std.proofs.Common.{◌∙◌, subst}
 use Rattle.rdf_terms.specs.Sinks.{Appends}
-use Rattle.rdf_iri.specs.Scope.{InForce}
-use Rattle.rdf_trig.specs.declared.fault.StepFault.{StepFault}
-use Rattle.rdf_trig.specs.Machine as M
-use Rattle.rdf_trig.specs.States.{leaf, level_of, up_of, use_in, scope_in, NameIn, DepthMoves}
-use Rattle.rdf_trig.specs.Scopes.{SameScope, LooksUp}
-use Rattle.rdf_trig.specs.Steps.{GaveUp, given, state_of, moved, Stays, Keeps, Accepts, Fails}
+use Rattle.rdf_trig.specs.States.{leaf, level_of, up_of}
+use Rattle.rdf_trig.specs.Steps.{GaveUp, given, state_of}
 use Rattle.rdf_trig.proofs.StepsLemmas.{told_stops, on_ok, on_ok_both, on_ok_any, if_err}
 use Rattle.rdf_trig.proofs.AcceptLemmas.{fails_stops, fails_gave, fails_stays, accepts_moved, keeps_moved, limits_kept, same_scope, bytes_at_most}
 use Rattle.rdf_trig.proofs.state.State.accept.Goals as goal
