@@ -42,3 +42,4 @@ pub mod MachineLaws
 pub mod SameScopes
 pub mod AcceptLemmas
 pub mod StepLemmas
+pub mod NewReaderLemmas

@@ -17,3 +17,4 @@ pub mod Spelled
 pub mod Steps
 pub mod Scopes
 pub mod Read
+pub mod Coded

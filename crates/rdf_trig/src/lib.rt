@@ -8,6 +8,7 @@ mod form;
 mod give;
 pub mod laws;
 mod names;
+mod reader;
 mod reading;
 mod rules;
 mod spelled;
@@ -17,3 +18,4 @@ mod tests;
 mod turns;
 
 pub use form::DocForm;
+pub use reader::{Options, TrigReader};

@@ -1,0 +1,131 @@
+-- Places in a statement as lists: what is open, from the innermost on, and what stands round it.
+use Rattle.std.proofs.Common.{◌≡◌, ◌⊎◌, inl, inr, ℕ, Bool, true, false, List, [], ◌∷◌, Option, None, refl, ap}
+use Rattle.std.specs.Coded.{Coded, code_by, coded×, coded⊎, coded_ℕ, coded_bool, coded_list, coded_option}
+use Rattle.rdf_terms.specs.Terms.{Node, Label, Anon, Cell}
+use Rattle.rdf_terms.specs.Terms as term
+use Rattle.rdf_trig.specs.Machine.{Level, Top, InBlock, Place, Listed, InCells, Around, Statement, Boxed, Up, Subject, At}
+
+abbrev NodeOf : Type 0
+NodeOf = List ℕ ⊎ (ℕ ⊎ ℕ)
+
+abbrev node_to : Node → NodeOf
+node_to (Label x) = inl x
+node_to (Anon n) = inr (inl n)
+node_to (Cell n) = inr (inr n)
+
+abbrev node_from : NodeOf → Node
+node_from (inl x) = Label x
+node_from (inr (inl n)) = Anon n
+node_from (inr (inr n)) = Cell n
+
+abbrev node_back : (n : Node) → node_from (node_to n) ≡ n
+node_back (Label x) = refl
+node_back (Anon n) = refl
+node_back (Cell n) = refl
+
+abbrev node_code : Coded Node
+node_code = code_by NodeOf (coded⊎ (coded_list coded_ℕ) (coded⊎ coded_ℕ coded_ℕ)) node_to node_from node_back
+
+abbrev subject_to : term.Subject → List ℕ ⊎ Node
+subject_to (term.Iri i) = inl i
+subject_to (term.Blank n) = inr n
+
+abbrev subject_from : List ℕ ⊎ Node → term.Subject
+subject_from (inl i) = term.Iri i
+subject_from (inr n) = term.Blank n
+
+abbrev subject_back : (s : term.Subject) → subject_from (subject_to s) ≡ s
+subject_back (term.Iri i) = refl
+subject_back (term.Blank n) = refl
+
+abbrev subject_code : Coded term.Subject
+subject_code = code_by (List ℕ ⊎ Node) (coded⊎ (coded_list coded_ℕ) node_code) subject_to subject_from subject_back
+
+abbrev level_to : Level → Bool
+level_to Top = true
+level_to InBlock = false
+
+abbrev level_from : Bool → Level
+level_from true = Top
+level_from false = InBlock
+
+abbrev level_back : (v : Level) → level_from (level_to v) ≡ v
+level_back Top = refl
+level_back InBlock = refl
+
+-- a predicate list by its subject and verb, or a collection by two cells
+abbrev Open : Type 0
+Open = (Option term.Subject × Option (List ℕ)) ⊎ (ℕ × ℕ)
+
+-- whether the outermost predicate list is that of a statement, its level, and what is open
+abbrev Chain : Type 0
+Chain = Bool × (Bool × List Open)
+
+abbrev with_open : Open → Chain → Chain
+with_open o c = (c.0, (c.1.0, o ∷ c.1.1))
+
+abbrev mutual
+  place_to : Place → Chain
+  place_to (Listed s p a) = around_to s p a
+  place_to (InCells f n u) = with_open (inr (f, n)) (up_to u)
+
+  around_to : Option term.Subject → Option (List ℕ) → Around → Chain
+  around_to s p (Statement v) = (true, (level_to v, inl (s, p) ∷ []))
+  around_to s p (Boxed u) = with_open (inl (s, p)) (up_to u)
+
+  up_to : Up → Chain
+  up_to (Subject v) = (false, (level_to v, []))
+  up_to (At p) = place_to p
+
+abbrev around_by : List Open → Bool → Bool → Up → Around
+around_by [] true v u = Statement (level_from v)
+around_by [] false v u = Boxed u
+around_by (o ∷ os) b v u = Boxed u
+
+abbrev up_from : List Open → Bool → Bool → Up
+up_from [] b v = Subject (level_from v)
+up_from (inl x ∷ os) b v = At (Listed x.0 x.1 (around_by os b v (up_from os b v)))
+up_from (inr x ∷ os) b v = At (InCells x.0 x.1 (up_from os b v))
+
+abbrev from : Chain → Up
+from c = up_from c.1.1 c.0 c.1.0
+
+abbrev around_at : Chain → Around
+around_at c = around_by c.1.1 c.0 c.1.0 (from c)
+
+abbrev mutual
+  place_back : (p : Place) → from (place_to p) ≡ At p
+  place_back (Listed s p (Statement v)) = ap (λ x. At (Listed s p (Statement x))) (level_back v)
+  place_back (Listed s p (Boxed u)) = ap (λ x. At (Listed s p x)) (boxed_back u)
+  place_back (InCells f n u) = ap (λ x. At (InCells f n x)) (up_back u)
+
+  boxed_back : (u : Up) → around_at (up_to u) ≡ Boxed u
+  boxed_back (Subject v) = ap (λ x. Boxed (Subject x)) (level_back v)
+  boxed_back (At (Listed s p (Statement v))) = ap Boxed (place_back (Listed s p (Statement v)))
+  boxed_back (At (Listed s p (Boxed u))) = ap Boxed (place_back (Listed s p (Boxed u)))
+  boxed_back (At (InCells f n u)) = ap Boxed (place_back (InCells f n u))
+
+  up_back : (u : Up) → from (up_to u) ≡ u
+  up_back (Subject v) = ap Subject (level_back v)
+  up_back (At p) = place_back p
+
+abbrev chain_code : Coded Chain
+chain_code = coded× coded_bool (coded× coded_bool (coded_list (coded⊎ (coded× (coded_option subject_code) (coded_option (coded_list coded_ℕ))) (coded× coded_ℕ coded_ℕ))))
+
+abbrev pub up_code : Coded Up
+up_code = code_by Chain chain_code up_to from up_back
+
+abbrev place_of : Up → Place
+place_of (Subject v) = Listed None None (Statement v)
+place_of (At p) = p
+
+abbrev pub place_code : Coded Place
+place_code = code_by Up up_code At place_of (λ p. refl)
+
+abbrev around_of : Up → Around
+around_of (Subject v) = Statement v
+around_of (At (Listed s p a)) = a
+around_of (At (InCells f n u)) = Boxed u
+
+abbrev pub around_code : Coded Around
+around_code = code_by Up up_code (λ a. At (Listed None None a)) around_of (λ a. refl)
