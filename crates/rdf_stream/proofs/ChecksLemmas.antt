@@ -14,12 +14,10 @@ use Rattle.rdf_tokens.specs.Scans.{most_bytes}
 use Rattle.rdf_lines.specs.declared.fault.Summary.{Summary}
 use Rattle.rdf_lines.specs.Documents.{Document, GoesOn, IsWhole}
 use Rattle.rdf_lines.specs.LineRead.{LineRead}
-use Rattle.rdf_lines.specs.Readers as R
 use Rattle.rdf_lines.specs.Readers.{HasRead, FeedFails, Feeds, FinishFails, Finishes}
 use Rattle.rdf_lines.proofs.DocumentsLemmas.{refused_in_more}
 use Rattle.rdf_lines.proofs.DueLaws.{read_goes_on}
 use Rattle.rdf_stream.specs.declared.checks.NoQuads.{NoQuads}
-use Rattle.rdf_stream.specs.declared.fault.StreamFault.{StreamFault}
 use Rattle.rdf_stream.specs.declared.fault.StreamFault.TheVariants as stream
 use Rattle.rdf_stream.specs.Checks.{CheckStops, IsRefusedFor, Passes}
 use Rattle.rdf_stream.specs.Converts.{line_form}

@@ -1,15 +1,14 @@
 -- A document of a line format names each of its blank nodes, so its quads, and those that are due of it, can be written with their labels kept.
-use Rattle.std.proofs.Common.{◌≡◌, ℕ, ◌+◌, Bool, true, false, List, [], ◌∷◌, ◌++◌, length, refl, subst, Option, Some, None}
-use Rattle.std.specs.Prelude.{nat_lt, cond}
-use Rattle.std.proofs.lemmas.Bool.{cond_both}
+use Rattle.std.proofs.Common.{ℕ, Bool, true, false, List, [], ◌∷◌, ◌++◌, length, subst, Option, Some, None}
+use Rattle.std.specs.Prelude.{cond}
 use Rattle.std.specs.List.{AllByRecursion}
 use Rattle.rdf_terms.specs.Terms.{Quad}
 use Rattle.rdf_lines.specs.declared.form.Style.TheVariants.{Kept}
 use Rattle.rdf_tokens.specs.Tokens.{Token, Reading}
-use Rattle.rdf_tokens.specs.Grammars.{Marked, before, Due}
+use Rattle.rdf_tokens.specs.Grammars.{before, Due}
 use Rattle.rdf_lines.specs.declared.form.LineForm.{LineForm}
 use Rattle.rdf_lines.specs.Readers.{IsDueIn}
-use Rattle.rdf_lines.specs.Lines.{Name, Ref, Lab, Object, Named, Plain, WithType, WithTag, Statement, Line, empty, one, Document, last, next, subject_of, term_of, quad_of, line_quads, quads, line_tokens, marked, documents}
+use Rattle.rdf_lines.specs.Lines.{Name, Ref, Lab, Object, Named, Plain, WithType, WithTag, Statement, empty, one, Document, last, next, subject_of, term_of, quad_of, marked, documents}
 use Rattle.rdf_lines.specs.Writing.{CanWrite, CanWriteSubject, CanWriteTerm, CanWriteGraph}
 use Rattle.std.proofs.Common.{option_map}
 

@@ -5,3 +5,4 @@ pub mod PiecesLemmas
 pub mod ConvertsLemmas
 pub mod DocumentLemmas
 pub mod ChecksLemmas
+pub mod ShowsLemmas

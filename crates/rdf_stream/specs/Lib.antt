@@ -6,3 +6,5 @@ pub mod Converts
 pub mod Faults
 pub mod Pieces
 pub mod Checks
+pub mod Shows
+pub mod ShowParts

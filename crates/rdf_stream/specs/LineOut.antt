@@ -1,5 +1,5 @@
 -- What a sink of lines does to the bytes of its drain and to those that wait for it.
-use Rattle.std.specs.Prelude.{◌≡◌, ◌<◌, ℕ, Bool, true, false, List, [], ◌++◌, ◌⊎◌, length, Option, encode_utf8_all}
+use Rattle.std.specs.Prelude.{◌≡◌, ◌<◌, ℕ, Bool, false, List, [], ◌++◌, ◌⊎◌, length, Option, encode_utf8_all}
 use Rattle.std.specs.Io.KnownBytes.{Appends}
 use Rattle.rdf_terms.specs.Terms.{Quad, IsQuad}
 use Rattle.rdf_lines.specs.declared.form.Style.{Style}

@@ -135,8 +135,11 @@ fn convert_end<A: Allocator + Copy, D: Drain>(
     }
 }
 
-// Hands over what waits, and says what is told of the reader's fault: a failure of the drain comes first.
-fn stop<A: Allocator + Copy, D: Drain>(fault: Fault, lines: &mut LineOut<'_, D, A>) -> StreamFault
+/// Hands over what waits, and says what is told of the reader's fault: a failure of the drain comes first.
+pub(crate) fn stop<A: Allocator + Copy, D: Drain>(
+    fault: Fault,
+    lines: &mut LineOut<'_, D, A>,
+) -> StreamFault
     ensures same { SameOut lines.old lines.new }
     ensures tells { Tells D.contents D.has_failed fault result lines.old lines.new }
 {

@@ -9,8 +9,10 @@ mod job;
 mod line_out;
 mod messages;
 mod put;
+mod shows;
 #[cfg(test)]
 mod tests;
+mod token_line;
 mod views;
 
 pub use checks::check;
@@ -23,3 +25,4 @@ pub use put::put_all;
 pub use rdf_iri::Limits;
 pub use rdf_lines::{Fault, Summary};
 pub use rdf_terms::{Iri, TermFault};
+pub use shows::show;

@@ -1,15 +1,20 @@
 // The sink that hands lines on to a drain.
 
-ghost use Rattle.std.specs.Prelude.{◌≡◌, [], ◌<◌, length, true, false, Bool, List, ℕ, Option, is_err, OnOk, OnErr};
+ghost use Rattle.std.specs.Prelude.{◌≡◌, [], ◌<◌, length, true, false, Bool, List, ℕ, Option, is_err, OnOk, OnErr, IfErr};
 ghost use Rattle.std.specs.Io.KnownBytes.{Appends};
 ghost use Rattle.rdf_stream.specs.Devices.{AppendsFront};
-ghost use Rattle.rdf_stream.specs.LineOut.{Leaves, SameOut, Takes};
+ghost use Rattle.rdf_tokens.specs.Scans.{token_of};
+ghost use Rattle.rdf_stream.specs.LineOut.{Leaves, SameOut, Takes, Writes};
+ghost use Rattle.rdf_stream.specs.ShowParts.{LeavesToken};
+ghost use Rattle.rdf_stream.specs.Shows.{token_line};
 
 use crate::devices::{Drain, Failed};
 use crate::put::put_all;
+use crate::token_line::put_token_line;
 use crate::views::see_quad;
 use rdf_lines::{LabelFault, Style, write_line};
 use rdf_terms::{PutFault, QuadRef, QuadSink};
+use rdf_tokens::Token;
 use std::alloc::{Allocator, Global};
 
 /// The number of bytes that wait for the drain at most, once a line has been put.
@@ -69,6 +74,27 @@ impl<'a, D: Drain, A: Allocator + Copy> LineOut<'a, D, A> {
     {
         self.hand_over()?;
         self.drain.flush()
+    }
+
+    /// Puts the line of a token.
+    pub(crate) fn put_token(&mut self, token: Token<'_>) -> Result<(), PutFault>
+        requires live { D.has_failed self.old.drain.now ≡ false }
+        ensures same { SameOut self.old self.new }
+        ensures writes { OnOk result (Writes D.contents self.old (token_line (token_of token.entry)) self.new) }
+        ensures live { OnOk result (D.has_failed self.new.drain.now ≡ false) }
+        ensures err { IfErr result (λ f. LeavesToken D.contents D.has_failed f self.old (token_line (token_of token.entry)) self.new) }
+    {
+        match put_token_line(token, self.buffer) {
+            Ok(()) => {}
+            Err(_) => return Err(PutFault::Memory),
+        }
+        if WAITING_LEN <= self.buffer.len() {
+            return match self.hand_over() {
+                Ok(()) => Ok(()),
+                Err(Failed) => Err(PutFault::Device),
+            };
+        }
+        Ok(())
     }
 }
 

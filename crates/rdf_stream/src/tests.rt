@@ -9,6 +9,7 @@ use crate::fault::{Form, StreamFault};
 use crate::job::Job;
 use crate::messages::report;
 use crate::put::put_all;
+use crate::shows::show;
 use rdf_iri::Limits;
 use rdf_lines::{Fault, Summary};
 use rdf_terms::{Iri, Reason};
@@ -527,6 +528,69 @@ fn a_document_is_converted_however_it_is_cut(rt: HostRuntime) {
                     assert_eq!(rt; checked, fault);
                 }
                 _ => assert!(rt; false),
+            }
+        }
+    }
+}
+
+#[test]
+fn the_tokens_of_a_document_are_shown_however_it_is_cut(rt: HostRuntime) {
+    let rows = [
+        when(
+            Form::NQuads,
+            b"<http://a/s> <http://a/p> <http://a/s> .\n",
+            "0 12 iri\n13 12 iri\n26 12 iri\n39 1 dot\n40 1 lineend\n",
+            None,
+        ),
+        when(Form::NTriples, b"\"\xc3\xa9\"", "0 3 string\n", None),
+        when(
+            Form::NTriples,
+            b"<http://a/s> <http://a/p> ( ",
+            "0 12 iri\n13 12 iri\n",
+            Some((Reason::NoToken, 26, 1)),
+        ),
+        when(
+            Form::NQuads,
+            b". \n_:x # c\n\xff",
+            "0 1 dot\n2 1 lineend\n3 3 label\n10 1 lineend\n",
+            Some((Reason::BadUtf8, 11, 3)),
+        ),
+    ];
+    for row in rows {
+        for cut in 0..row.bytes.len().saturating_add(1) {
+            let others = if cut == 0 { 1 } else { usize::MAX };
+            let mut source = in_parts(row.bytes, cut, others);
+            let mut taken = drain(rt.alloc(), 1, u64::MAX);
+            let result = show(
+                rt.alloc(),
+                job(row.form).expect(&rt, "a job"),
+                &mut source,
+                &mut taken,
+            );
+            assert_eq!(rt;
+                taken.bytes.as_slice(),
+                row.lines.as_bytes(),
+                "cut at {cut}"
+            );
+            assert_eq!(rt; taken.flushed, row.refused.is_none());
+            match result {
+                Ok(summary) => {
+                    let tokens = row.lines.bytes().filter(|b| *b == b'\n').count() as u64;
+                    let bytes = row.bytes.len() as u64;
+                    assert!(rt; row.refused.is_none());
+                    assert_eq!(rt;
+                        summary,
+                        Summary {
+                            quads: 0,
+                            tokens,
+                            bytes
+                        }
+                    );
+                }
+                Err(StreamFault::Refused(fault)) => {
+                    assert_eq!(rt; Some((fault.reason, fault.offset, fault.line)), row.refused);
+                }
+                Err(_) => assert!(rt; false),
             }
         }
     }

@@ -1,4 +1,4 @@
-use Rattle.std.proofs.Common.{rules, refl}
+use Rattle.std.proofs.Common.{rules}
 use Rattle.rdf_stream.proofs.LineOutLemmas.{puts_live}
 use Rattle.rdf_stream.proofs.PiecesLemmas.{piece_broke, piece_halts, piece_read}
 use Rattle.rdf_stream.proofs.conversions.convert_piece.Goals as goal

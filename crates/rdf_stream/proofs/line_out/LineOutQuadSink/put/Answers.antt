@@ -1,5 +1,5 @@
-use Rattle.std.proofs.Common.{rules, refl, inl, inr, ap, subst, sym, ◌∙◌, length, ◌<◌, ◌++◌}
-use Rattle.rdf_stream.specs.LineOut.{most_waiting, line_bytes}
+use Rattle.std.proofs.Common.{rules, refl, inr, subst, sym, length, ◌<◌}
+use Rattle.rdf_stream.specs.LineOut.{most_waiting}
 use Rattle.rdf_stream.proofs.LineOutLemmas.{waits, waits_same}
 use Rattle.rdf_stream.proofs.line_out.LineOutQuadSink.put.Goals as goal
 

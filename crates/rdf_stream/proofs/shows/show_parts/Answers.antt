@@ -1,0 +1,27 @@
+use Rattle.std.proofs.Common.{[], ◌++◌, take, refl}
+use Rattle.rdf_stream.proofs.ShowsLemmas.{front_taken, joined_halts, joined_shown, none_more}
+use Rattle.rdf_stream.proofs.shows.show_parts.Goals as goal
+
+pub parts-init : goal.parts-init
+parts-init g c = record {
+  shown = ([], refl, λ job bytes first h. none_more _ _ job bytes first _ _ _ h);
+  showing = c.requires.showing;
+}
+
+pub parts-preserved : goal.parts-preserved
+parts-preserved g c =
+    let f = c.parts.invariant.shown in
+    let (job, bytes, first, h) = c.parts.invariant.showing in
+    record {
+      shown = (
+        f.0 ++ take c.in-Ok.taken c.parts.rest.now,
+        front_taken c.args.piece.now f.0 c.parts.rest.now c.behind-rest.result.now c.in-Ok.taken f.1 c.behind-rest.ensures,
+        λ job bytes first h. joined_shown _ _ job bytes f.0 (take c.in-Ok.taken c.parts.rest.now) first _ _ _ (c.in-Ok.ensures.shown job (bytes ++ f.0) first (f.2 job bytes first h)),
+      );
+      showing = (job, _, first, c.in-Ok.ensures.shown job bytes first h);
+    }
+
+pub returns-in-Err-clause-halts : goal.returns-in-Err-clause-halts
+returns-in-Err-clause-halts g c = λ job bytes first h.
+    let f = c.parts.invariant.shown in
+    joined_halts _ _ _ job bytes f.0 c.parts.rest.now c.args.piece.now first _ f.1 (c.in-Err.ensures.halts job (bytes ++ f.0) first (f.2 job bytes first h))

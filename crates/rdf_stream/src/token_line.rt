@@ -1,0 +1,95 @@
+// The line of a token.
+
+ghost use Rattle.std.specs.Prelude.{◌≡◌, ◌++◌, codes, decimal, length, OnErr, OnOk};
+ghost use Rattle.std.specs.Str.{chars};
+ghost use Rattle.rdf_tokens.specs.Scans.{token_of};
+ghost use Rattle.rdf_lines.specs.WrittenBytes.{BeginsWith};
+ghost use Rattle.rdf_stream.specs.Shows.{kind_name, token_line};
+
+use itoa::Buffer;
+use rdf_tokens::{Kind, Token};
+use std::alloc::{AllocError, Allocator};
+
+/// Appends the token's offset, its number of characters and the name of its kind, with a space between them and a LF.
+/// Where a growth of memory is refused, it appends nothing.
+pub(crate) fn put_token_line<A: Allocator + Copy>(
+    token: Token<'_>,
+    out: &mut Vec<u8, A>,
+) -> Result<(), AllocError>
+    ensures written { OnOk result (out.new.items ≡ out.old.items ++ token_line (token_of token.entry)) }
+    ensures unchanged { OnErr result (out.new.items ≡ out.old.items) }
+{
+    let start = out.len();
+    match put_parts(token, out) {
+        Ok(()) => Ok(()),
+        Err(e) => {
+            out.truncate(start);
+            Err(e)
+        }
+    }
+}
+
+fn put_parts<A: Allocator + Copy>(token: Token<'_>, out: &mut Vec<u8, A>) -> Result<(), AllocError>
+    ensures written { OnOk result (out.new.items ≡ out.old.items ++ token_line (token_of token.entry)) }
+    ensures grown { OnErr result (BeginsWith out.old.items out.new.items) }
+{
+    put_number(token.offset, out)?;
+    put_number(char_count(token.text), out)?;
+    out.extend_from_slice(kind_name(token.kind).as_bytes())?;
+    out.extend_from_slice(b"\n")
+}
+
+fn put_number<A: Allocator + Copy>(number: u64, out: &mut Vec<u8, A>) -> Result<(), AllocError>
+    ensures written { OnOk result (out.new.items ≡ out.old.items ++ (decimal number ++ codes " ")) }
+    ensures grown { OnErr result (BeginsWith out.old.items out.new.items) }
+{
+    out.extend_from_slice(Buffer::new().format(number).as_bytes())?;
+    out.extend_from_slice(b" ")
+}
+
+fn char_count(text: &str) -> u64
+    ensures { result ≡ length (chars text.now) }
+{
+    let mut count = 0u64;
+    for _ in text.chars() {
+        count += 1;
+    }
+    count
+}
+
+fn kind_name(kind: Kind) -> &'static str
+    ensures { result.now ≡ kind_name kind }
+{
+    match kind {
+        Kind::IriRef => "iri",
+        Kind::LabelNode => "label",
+        Kind::ShortString => "string",
+        Kind::LongString => "longstring",
+        Kind::LangTag => "tag",
+        Kind::Carets => "carets",
+        Kind::Dot => "dot",
+        Kind::LineEnd => "lineend",
+        Kind::Integer => "integer",
+        Kind::Decimal => "decimal",
+        Kind::Double => "double",
+        Kind::True => "true",
+        Kind::False => "false",
+        Kind::A => "a",
+        Kind::AtPrefix => "atprefix",
+        Kind::AtBase => "atbase",
+        Kind::Prefix => "prefix",
+        Kind::Base => "base",
+        Kind::Graph => "graph",
+        Kind::PnameNs => "ns",
+        Kind::PnameLn => "name",
+        Kind::Semicolon => "semicolon",
+        Kind::Comma => "comma",
+        Kind::OpenBracket => "lbracket",
+        Kind::CloseBracket => "rbracket",
+        Kind::OpenParen => "lparen",
+        Kind::CloseParen => "rparen",
+        Kind::OpenBrace => "lbrace",
+        Kind::CloseBrace => "rbrace",
+        Kind::End => "",
+    }
+}
