@@ -13,7 +13,7 @@ use Rattle.clap.proofs.ValueTestLemmas.{accepts-Accepts}
 use Rattle.clap.proofs.WalkLemmas.{list_any-map}
 use Rattle.rdf_stream.specs.declared.fault.Form.{Form}
 use Rattle.rdf_tool.specs.declared.task.Action.{Action}
-use Rattle.rdf_tool.specs.declared.task.Action.TheVariants.{Check, Convert}
+use Rattle.rdf_tool.specs.declared.task.Action.TheVariants.{Check, Show, Convert}
 use Rattle.rdf_tool.specs.Words.{Entered, HasLimits, IsEntered, action_app, action_name, form_name, format_names, forms, rdfconv}
 use Rattle.rdf_tool.proofs.RowLemmas.{Each, IsRead, same_text, value-of}
 use Rattle.rdf_tool.proofs.GivenLemmas.{pair_is, same_some}
@@ -49,7 +49,7 @@ module _ (names : Bor (List (Bor Text))) (known : texts names.now ≡ format_nam
 
   subcommands : Each (λ s. IsAction s ⊎ IsHelp s) (built (rdfconv (Names names))).subs
   unfolding clap_on_literals
-  subcommands = (inl ((Check, refl), refl, refl), (inl ((Convert, refl), refl, refl), (inr (refl, refl), tt)))
+  subcommands = (inl ((Check, refl), refl, refl), (inl ((Show, refl), refl, refl), (inl ((Convert, refl), refl, refl), (inr (refl, refl), tt))))
 
   needs_subcommand : (built (rdfconv (Names names))).top.subcommand_required ≡ true
   unfolding clap_on_literals

@@ -6,10 +6,11 @@ use Rattle.rdf_stream.specs.Checks.{CheckStops, Passes}
 use Rattle.rdf_stream.specs.Converts.{IsConverted, StopsFor}
 use Rattle.rdf_stream.specs.Devices.{AppendsFront}
 use Rattle.rdf_stream.specs.Jobs.{JobRead}
+use Rattle.rdf_stream.specs.Shows.{ShowStops, Shows}
 use Rattle.rdf_stream.specs.declared.fault.StreamFault.{StreamFault}
 use Rattle.rdf_stream.specs.declared.fault.StreamFault.TheVariants.{Refused, Read, Write, Memory}
 use Rattle.rdf_tool.specs.declared.task.Action.{Action}
-use Rattle.rdf_tool.specs.declared.task.Action.TheVariants.{Check, Convert}
+use Rattle.rdf_tool.specs.declared.task.Action.TheVariants.{Check, Show, Convert}
 use Rattle.rdf_tool.specs.declared.task.Task.{Task}
 
 -- the job that a task asks for
@@ -33,9 +34,11 @@ StopsCheck fault job known left read_failed old new write_failed = CheckStops fa
 -- what an accepted document brings
 abbrev pub Does : Action → JobRead → List ℕ → Option (List ℕ) → Option (List ℕ) → Type 0
 Does Check job bytes old new = IsChecked job bytes old new
+Does Show job bytes old new = (s : Summary) × Shows job bytes old new s
 Does Convert job bytes old new = IsConverted job bytes old new
 
 -- why a run stopped, and what it had written
 abbrev pub Stops : Action → StreamFault → JobRead → Option (List ℕ) → Option (List ℕ) → Bool → Option (List ℕ) → Option (List ℕ) → Bool → Type 0
 Stops Check fault job known left read_failed old new write_failed = StopsCheck fault job known left read_failed old new write_failed
+Stops Show fault job known left read_failed old new write_failed = ShowStops fault job known left read_failed old new write_failed
 Stops Convert fault job known left read_failed old new write_failed = StopsFor fault job known left read_failed old new write_failed

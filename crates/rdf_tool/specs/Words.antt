@@ -20,7 +20,7 @@ use Rattle.rdf_iri.specs.Limits.{Sizes}
 use Rattle.rdf_stream.specs.declared.fault.Form.{Form}
 use Rattle.rdf_stream.specs.declared.fault.Form.TheVariants.{NTriples, NQuads}
 use Rattle.rdf_tool.specs.declared.task.Action.{Action}
-use Rattle.rdf_tool.specs.declared.task.Action.TheVariants.{Check, Convert}
+use Rattle.rdf_tool.specs.declared.task.Action.TheVariants.{Check, Show, Convert}
 use Rattle.rdf_tool.specs.declared.task.Task.{Task}
 use Rattle.rdf_tool.specs.declared.task.WordsFault.{WordsFault}
 use Rattle.rdf_tool.specs.declared.task.WordsFault.TheVariants.{Usage, BadBase, Memory}
@@ -39,6 +39,7 @@ format_names = map form_name forms
 
 abbrev pub action_name : Action → Text
 action_name Check = codes "check"
+action_name Show = codes "show"
 action_name Convert = codes "convert"
 
 -- ---- the command line
@@ -86,9 +87,10 @@ action_app names action =
 
 -- the program's command line
 abbrev pub rdfconv : ValueParser → App
-rdfconv names = with_subcommand (with_subcommand
+rdfconv names = with_subcommand (with_subcommand (with_subcommand
     (on_top (λ s. record s { subcommand_required = true }) (new_app (codes "rdfconv")))
     (action_app names (codes "check")).top)
+    (action_app names (codes "show")).top)
     (action_app names (codes "convert")).top
 
 -- the command has no global argument, and a parse reads this of it

@@ -30,6 +30,7 @@ pub fn action_of(name: &str) -> Action
 {
     match name {
         "check" => Action::Check,
+        "show" => Action::Show,
         "convert" => Action::Convert,
         _ => unreachable!(),
     }

@@ -12,6 +12,8 @@ use std::alloc::{AllocError, Global};
 /// What the subcommands do.
 const CHECK: &str = "Read a document to its end, and count its quads and bytes";
 
+const SHOW: &str = "Write a line for each token: its offset, its characters and its kind";
+
 const CONVERT: &str = "Write the quads of a document as lines of N-Quads";
 
 /// What stands below the help of the program.
@@ -47,12 +49,14 @@ pub fn program<'a>(alloc: Global, formats: &'a [&'a str]) -> Result<Command<'a>,
     ensures { IfOk result (λ c. app_of c ≡ rdfconv (Names formats.entry)) }
 {
     let check = action_command(alloc, "check", CHECK, formats)?;
+    let show = action_command(alloc, "show", SHOW, formats)?;
     let convert = action_command(alloc, "convert", CONVERT, formats)?;
     Command::new(alloc, "rdfconv")
         .about("Read N-Triples or N-Quads, and write N-Quads")
         .after_help(PROGRAM_NOTES)
         .subcommand_required(true)
         .subcommand(check)?
+        .subcommand(show)?
         .subcommand(convert)
 }
 

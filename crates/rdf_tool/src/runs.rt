@@ -14,7 +14,7 @@ use crate::task::{Action, Task, WordsFault};
 use clap::Error;
 use itoa::Buffer;
 use rdf_stream::{
-    Drain, Failed, Job, Source, StreamFault, Summary, check, convert, put_all, report,
+    Drain, Failed, Job, Source, StreamFault, Summary, check, convert, put_all, report, show,
 };
 use std::alloc::{AllocError, Global};
 
@@ -92,6 +92,10 @@ fn act<S: Source, O: Drain>(
 {
     match action {
         Action::Check => check_to(alloc, job, source, out),
+        Action::Show => match show(alloc, job, source, out) {
+            Ok(_) => Ok(()),
+            Err(fault) => Err(fault),
+        },
         Action::Convert => match convert(alloc, job, source, out) {
             Ok(_) => Ok(()),
             Err(fault) => Err(fault),

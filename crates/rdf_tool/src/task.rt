@@ -15,6 +15,8 @@ use std::alloc::AllocError;
 pub enum Action {
     /// It is read to its end, and counted.
     Check,
+    /// Its tokens are shown, a line each.
+    Show,
     /// Its quads are written as lines of N-Quads.
     Convert,
 }

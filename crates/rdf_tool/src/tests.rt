@@ -40,6 +40,14 @@ fn a_run_writes_the_lines_or_tells_why_not(rt: HostRuntime) {
             "rdfconv: relative IRI at byte 16, line 2\n",
         ),
         (
+            Action::Show,
+            Form::NQuads,
+            "<a:> \"é\" .\n?",
+            1,
+            "0 4 iri\n5 3 string\n10 1 dot\n11 1 lineend\n",
+            "rdfconv: no token at byte 12, line 2\n",
+        ),
+        (
             Action::Convert,
             Form::NTriples,
             "<a:> <b:> \"x\" .",
