@@ -43,3 +43,4 @@ pub mod SameScopes
 pub mod AcceptLemmas
 pub mod StepLemmas
 pub mod NewReaderLemmas
+pub mod WholeLemmas

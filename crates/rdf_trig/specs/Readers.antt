@@ -158,3 +158,14 @@ IsPlaced Memory bytes at = Unit
 IsPlaced Sink bytes at = Unit
 IsPlaced Ended bytes at = Unit
 IsPlaced reason bytes at = IsPlaceIn bytes at
+
+-- Why the bytes are not read as a whole: they are refused, there are too many, or memory is short.
+abbrev pub NotRead : DocForm → InForce → List ℕ → Reason → Place → Type 0
+NotRead form start bytes Memory at = Unit
+NotRead form start bytes DocumentTooLong at = IsTooLong bytes at
+NotRead form start bytes reason at = Refused form start bytes true reason at
+
+-- The bytes are a document of these quads within the limits; or they are not read.
+abbrev pub ReadsWhole : {X : Type 0} → DocForm → InForce → List ℕ → (X → List Quad) → Result X Fault → Type 0
+ReadsWhole form start bytes quads (Ok x) = IsDocumentOf form start bytes (quads x) × IsWhole form start bytes
+ReadsWhole form start bytes quads (Err f) = NotRead form start bytes f.reason (place_of f)

@@ -3,6 +3,7 @@
 
 mod accept;
 mod allows;
+mod document;
 mod fault;
 mod form;
 mod give;
@@ -17,5 +18,6 @@ mod state;
 mod tests;
 mod turns;
 
+pub use document::read_document;
 pub use form::DocForm;
 pub use reader::{Options, TrigReader};

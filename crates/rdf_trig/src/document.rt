@@ -1,0 +1,44 @@
+// A document as a whole.
+
+ghost use Rattle.std.specs.Prelude.{◌≡◌, [], false};
+ghost use Rattle.rdf_iri.specs.Scope.{InForce};
+ghost use Rattle.rdf_trig.specs.Readers.{HasRead, ReadsWhole};
+
+use crate::reader::{Options, TrigReader};
+use rdf_lines::Fault;
+use rdf_terms::QuadList;
+use std::alloc::Allocator;
+
+fn read_all<A: Allocator + Copy>(
+    reader: &mut TrigReader<A>,
+    bytes: &[u8],
+    list: &mut QuadList<A>,
+) -> Result<(), Fault>
+    requires running { reader.old.done ≡ false }
+    requires empty { list.old ≡ [] }
+    ensures { (start : InForce) → HasRead reader.old start [] [] → ReadsWhole reader.old.form start bytes.now (λ _. list.new) result }
+{
+    match reader.feed(bytes, list) {
+        Err(fault) => Err(fault),
+        Ok(()) => match reader.finish(list) {
+            Ok(_) => Ok(()),
+            Err(fault) => Err(fault),
+        },
+    }
+}
+
+/// The quads of a document, in its order.
+pub fn read_document<A: Allocator + Copy>(
+    alloc: A,
+    options: Options<A>,
+    bytes: &[u8],
+) -> Result<QuadList<A>, Fault>
+    ensures { ReadsWhole options.form options.start bytes.now (λ quads. quads) result }
+{
+    let mut list = QuadList::new(alloc);
+    let mut reader = TrigReader::new(alloc, options);
+    match read_all(&mut reader, bytes, &mut list) {
+        Ok(()) => Ok(list),
+        Err(fault) => Err(fault),
+    }
+}
