@@ -108,6 +108,7 @@ step-token d limit t w n k e =
 
 pub step-kind : (d : Dialect) (limit : ℕ) (t : Tail) (w : List ℕ) (n : ℕ) (k : Kind) → step d limit t w ≡ token n k → kind_of d (take n w) ≡ Some k
 step-kind d limit t w n k e = longest-kind d w (length w) n k (decided-token d w n k (step-decided d limit t w n k e)).0
+
 take-few : (n : ℕ) (w : List ℕ) → (length (take n w) ≤ n) × (length (take n w) ≤ length w)
 take-few zero w = (omega arith, omega arith)
 take-few (suc n) [] = (omega arith, omega arith)
