@@ -21,8 +21,8 @@ def lines_ttl():
     n = 0
     while True:
         n += 1
-        yield 'lib:book-%d a t:Book ; t:shelf lib:shelf-%d , lib:shelf-%d ;\n' % (n, n % 97, n % 89)
-        yield '    t:pages %d ; t:weight %d.5 ; t:author [ t:name "A%d"@en ] ; t:parts ( lib:p%d lib:q%d ) .\n' % (
+        first = 'lib:book-%d a t:Book ; t:shelf lib:shelf-%d , lib:shelf-%d ;\n' % (n, n % 97, n % 89)
+        yield first + '    t:pages %d ; t:weight %d.5 ; t:author [ t:name "A%d"@en ] ; t:parts ( lib:p%d lib:q%d ) .\n' % (
             n % 900, n % 7, n, n, n)
 
 
