@@ -20,9 +20,8 @@ use Rattle.rdf_lines.proofs.DueLaws.{read_goes_on}
 use Rattle.rdf_stream.specs.declared.checks.NoQuads.{NoQuads}
 use Rattle.rdf_stream.specs.declared.fault.StreamFault.TheVariants as stream
 use Rattle.rdf_stream.specs.Checks.{CheckStops, IsRefusedFor, Passes}
-use Rattle.rdf_stream.specs.Converts.{line_form}
 use Rattle.rdf_stream.specs.Faults.{fault_by}
-use Rattle.rdf_stream.specs.Jobs.{JobRead}
+use Rattle.rdf_stream.specs.Languages.{LineJob, in_lines}
 use Rattle.rdf_stream.proofs.ConvertsLemmas.{known_more, too_long_more}
 use Rattle.rdf_stream.proofs.PiecesLemmas.{refused_here}
 
@@ -30,8 +29,8 @@ abbrev pub TakesNone : NoQuads → Quad → NoQuads → Type 0
 TakesNone before q after = after ≡ before
 
 -- What left the source was read.
-pub record IsChecking (job : JobRead) (known left : Option (List ℕ)) (source_failed : Bool) (reader : LineRead) (room : ℕ) : Type 0 where
-  pub form_stays : reader.form ≡ line_form job.form
+pub record IsChecking (job : LineJob) (known left : Option (List ℕ)) (source_failed : Bool) (reader : LineRead) (room : ℕ) : Type 0 where
+  pub form_stays : reader.form ≡ job.form
   pub limit : reader.scanner.limit ≡ job.limits.token
   pub iri : reader.iri ≡ job.limits.iri
   pub bytes : List ℕ
@@ -41,12 +40,12 @@ pub record IsChecking (job : JobRead) (known left : Option (List ℕ)) (source_f
   pub live : source_failed ≡ false
   pub has_room : 0 < room
 
-module _ (job : JobRead) (known left left' : Option (List ℕ)) (source_failed : Bool) (reader : LineRead) (room : ℕ) (i : IsChecking job known left source_failed reader room) where
+module _ (job : LineJob) (known left left' : Option (List ℕ)) (source_failed : Bool) (reader : LineRead) (room : ℕ) (i : IsChecking job known left source_failed reader room) where
   -- the source failed
-  pub read_stops : (source_failed' : Bool) → Keeps left left' → source_failed' ≡ true → CheckStops stream.Read job known left' source_failed'
+  pub read_stops : (source_failed' : Bool) → Keeps left left' → source_failed' ≡ true → CheckStops stream.Read (in_lines job) known left' source_failed'
   read_stops source_failed' k e =
-      let goes_on = subst (λ n. GoesOn (line_form job.form) job.limits.token n i.bytes) i.iri
-      (subst (λ n. GoesOn (line_form job.form) n reader.iri i.bytes) i.limit
+      let goes_on = subst (λ n. GoesOn job.form job.limits.token n i.bytes) i.iri
+      (subst (λ n. GoesOn job.form n reader.iri i.bytes) i.limit
       (subst (λ y. GoesOn y reader.scanner.limit reader.iri i.bytes) i.form_stays (read_goes_on reader i.bytes i.quads i.read))) in
       (e, i.bytes, Consumes-kept known left left' i.bytes i.consumed k, goes_on)
 
@@ -82,39 +81,39 @@ module _ (job : JobRead) (known left left' : Option (List ℕ)) (source_failed :
     -- a fault in a piece
     pub piece_stops : (source_failed' : Bool) (reader' : LineRead) (before after : NoQuads) (why : Reason) (x l : ℕ) →
         FeedFails TakesNone TakesNone (λ _. false) why (record { offset = x; line = l }) reader before piece reader' after →
-        CheckStops (fault_by why (record { reason = why; offset = x; line = l })) job known left' source_failed'
+        CheckStops (fault_by why (record { reason = why; offset = x; line = l })) (in_lines job) known left' source_failed'
     piece_stops s reader' before after reason.Ended x l h = absurd (false≢true (sym i.read.running ∙ h.0))
     piece_stops s reader' before after reason.Memory x l h = tt
     piece_stops s reader' before after reason.Sink x l h = absurd (false≢true h.1)
     piece_stops s reader' before after reason.DocumentTooLong x l h =
-        known_more known left' (i.bytes ++ piece) (λ b. IsRefusedFor reason.DocumentTooLong job b (record { offset = x; line = l })) all_consumed
+        known_more known left' (i.bytes ++ piece) (λ b. IsRefusedFor reason.DocumentTooLong (in_lines job) b (record { offset = x; line = l })) all_consumed
         (λ rest. too_long_more (i.bytes ++ piece) rest (record { offset = x; line = l }) (h.1 i.bytes i.quads i.read))
     piece_stops s reader' before after why x l h =
         let at : Place = record { offset = x; line = l } in
         let r = refused_here job reader (i.bytes ++ piece) false why at (i.quads ++ h.more) i.form_stays i.limit i.iri (h.refused i.bytes i.quads i.read) in
-        known_more known left' (i.bytes ++ piece) (λ b. IsRefusedFor why job b at) all_consumed
-        (λ rest. (r.0, refused_in_more (line_form job.form) job.limits.iri job.limits.token (i.bytes ++ piece) rest true why at r.0 r.1))
+        known_more known left' (i.bytes ++ piece) (λ b. IsRefusedFor why (in_lines job) b at) all_consumed
+        (λ rest. (r.0, refused_in_more job.form job.limits.iri job.limits.token (i.bytes ++ piece) rest true why at r.0 r.1))
 
   module _ (c : Consumes left left' []) (ended : IsAtEnd left') where
     whole_consumed : Consumes known left' i.bytes
     whole_consumed = subst (Consumes known left') (append-nil i.bytes) (Consumes-trans known left left' i.bytes [] i.consumed c)
 
     -- the document was read
-    pub end_passes : (before after : NoQuads) (s : Summary) → Finishes TakesNone reader before s after → IfSome known (λ b. Passes job b s)
+    pub end_passes : (before after : NoQuads) (s : Summary) → Finishes TakesNone reader before s after → IfSome known (λ b. Passes (in_lines job) b s)
     end_passes before after s f =
         let sums = f.read i.bytes i.quads i.read in
-        Consumes-whole known left' i.bytes (λ b. Passes job b s) whole_consumed ended (record {
+        Consumes-whole known left' i.bytes (λ b. Passes (in_lines job) b s) whole_consumed ended (record {
           quads = i.quads ++ f.more;
-          document = subst (λ n. Document (line_form job.form) n i.bytes (i.quads ++ f.more)) i.limit (subst (λ y. Document y reader.scanner.limit i.bytes (i.quads ++ f.more)) i.form_stays sums.document);
-          within = subst (λ n. IsWhole (line_form job.form) job.limits.token n i.bytes) i.iri
-              (subst (λ n. IsWhole (line_form job.form) n reader.iri i.bytes) i.limit (subst (λ y. IsWhole y reader.scanner.limit reader.iri i.bytes) i.form_stays sums.whole));
+          document = subst (λ n. Document job.form n i.bytes (i.quads ++ f.more)) i.limit (subst (λ y. Document y reader.scanner.limit i.bytes (i.quads ++ f.more)) i.form_stays sums.document);
+          within = subst (λ n. IsWhole job.form job.limits.token n i.bytes) i.iri
+              (subst (λ n. IsWhole job.form n reader.iri i.bytes) i.limit (subst (λ y. IsWhole y reader.scanner.limit reader.iri i.bytes) i.form_stays sums.whole));
           counts = record { quads = sums.given; tokens = subst (λ n. s.tokens + 1 ≡ length (tokens_of Lines n i.bytes true).tokens) i.limit sums.accepted; bytes = sums.taken };
         })
 
     -- a fault at the end
     pub end_stops : (source_failed' : Bool) (reader' : LineRead) (before after : NoQuads) (why : Reason) (x l : ℕ) →
         FinishFails TakesNone TakesNone (λ _. false) why (record { offset = x; line = l }) reader before reader' after →
-        CheckStops (fault_by why (record { reason = why; offset = x; line = l })) job known left' source_failed'
+        CheckStops (fault_by why (record { reason = why; offset = x; line = l })) (in_lines job) known left' source_failed'
     end_stops s reader' before after reason.Ended x l h = absurd (false≢true (sym i.read.running ∙ h.0))
     end_stops s reader' before after reason.Memory x l h = tt
     end_stops s reader' before after reason.Sink x l h = absurd (false≢true h.1)
@@ -122,4 +121,4 @@ module _ (job : JobRead) (known left left' : Option (List ℕ)) (source_failed :
     end_stops s reader' before after why x l h =
         let at : Place = record { offset = x; line = l } in
         let r = refused_here job reader i.bytes true why at (i.quads ++ h.more) i.form_stays i.limit i.iri (h.refused i.bytes i.quads i.read) in
-        Consumes-whole known left' i.bytes (λ b. IsRefusedFor why job b at) whole_consumed ended (r.0, r.1)
+        Consumes-whole known left' i.bytes (λ b. IsRefusedFor why (in_lines job) b at) whole_consumed ended (r.0, r.1)

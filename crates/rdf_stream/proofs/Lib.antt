@@ -6,3 +6,6 @@ pub mod ConvertsLemmas
 pub mod DocumentLemmas
 pub mod ChecksLemmas
 pub mod ShowsLemmas
+pub mod TreePiecesLemmas
+pub mod TreeConvertsLemmas
+pub mod TreeChecksLemmas

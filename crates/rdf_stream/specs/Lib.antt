@@ -2,9 +2,12 @@ pub mod Devices
 pub mod Messages
 pub mod LineOut
 pub mod Jobs
+pub mod Kinds
+pub mod Languages
 pub mod Converts
 pub mod Faults
 pub mod Pieces
+pub mod TreePieces
 pub mod Checks
 pub mod Shows
 pub mod ShowParts

@@ -2,7 +2,7 @@
 use Rattle.std.specs.Prelude.{◌≡◌, ℕ, ◌+◌, Bool, true, false, cond, List, [], ◌∷◌, ◌++◌, length, take, Option, IfSome, codes, decimal}
 use Rattle.std.specs.Io.KnownBytes.{Appends, Consumes}
 use Rattle.rdf_terms.specs.declared.kind.Dialect.{Dialect}
-use Rattle.rdf_terms.specs.declared.kind.Dialect.TheVariants.{Lines}
+use Rattle.rdf_terms.specs.declared.kind.Dialect.TheVariants.{Lines, Turtle as turtle}
 use Rattle.rdf_terms.specs.declared.kind.Kind.{Kind}
 use Rattle.rdf_terms.specs.declared.kind.Kind.TheVariants as kind
 use Rattle.rdf_terms.specs.declared.reason.Reason.{Reason}
@@ -14,7 +14,7 @@ use Rattle.rdf_tokens.specs.Scans.{is_end, most_bytes}
 use Rattle.rdf_lines.specs.declared.fault.Summary.{Summary}
 use Rattle.rdf_lines.specs.Readers.{IsTooLong, place_of}
 use Rattle.rdf_stream.specs.declared.fault.Form.{Form}
-use Rattle.rdf_stream.specs.declared.fault.Form.TheVariants.{NTriples, NQuads}
+use Rattle.rdf_stream.specs.declared.fault.Form.TheVariants.{NTriples, NQuads, Turtle, TriG}
 use Rattle.rdf_stream.specs.declared.fault.StreamFault.{StreamFault}
 use Rattle.rdf_stream.specs.declared.fault.StreamFault.TheVariants.{Refused, Read, Write, Memory}
 use Rattle.rdf_stream.specs.Converts.{HasGiven}
@@ -24,6 +24,8 @@ use Rattle.rdf_stream.specs.Jobs.{JobRead}
 abbrev pub dialect_of : Form → Dialect
 dialect_of NTriples = Lines
 dialect_of NQuads = Lines
+dialect_of Turtle = turtle
+dialect_of TriG = turtle
 
 -- the tokens of the bytes, with their end or before more come
 abbrev pub tokens_in : JobRead → List ℕ → Bool → Reading

@@ -3,13 +3,15 @@
 ghost use Rattle.std.specs.Prelude.{◌≡◌, ◌<◌, [], false, length, IfOk, IfErr, IfSome};
 ghost use Rattle.rdf_lines.specs.Readers.{HasRead};
 ghost use Rattle.rdf_stream.specs.Checks.{CheckStops, Passes};
-ghost use Rattle.rdf_stream.specs.Converts.{line_form};
+ghost use Rattle.rdf_stream.specs.Languages.{in_lines, language_of, line_job};
 
-use crate::conversions::{line_form, piece_buffer};
+use crate::conversions::piece_buffer;
 use crate::devices::{Failed, Source};
-use crate::fault::StreamFault;
+use crate::fault::{Kind, StreamFault};
 use crate::job::Job;
-use rdf_lines::{LineReader, Summary};
+use crate::tree_checks::check_tree;
+use rdf_iri::Limits;
+use rdf_lines::{LineForm, LineReader, Summary};
 use rdf_terms::{PutFault, QuadRef, QuadSink};
 use std::alloc::Allocator;
 
@@ -20,42 +22,47 @@ pub fn check<A: Allocator + Copy, S: Source>(
     source: &mut S,
 ) -> Result<Summary, StreamFault>
     requires source { S.has_failed source.old ≡ false }
-    ensures accepted { IfOk result (λ summary. IfSome (S.remaining source.old) (λ bytes. Passes job bytes summary)) }
-    ensures stops { IfErr result (λ fault. CheckStops fault job (S.remaining source.old) (S.remaining source.new) (S.has_failed source.new)) }
+    ensures accepted { IfOk result (λ summary. IfSome (S.remaining source.old) (λ bytes. Passes (language_of job) bytes summary)) }
+    ensures stops { IfErr result (λ fault. CheckStops fault (language_of job) (S.remaining source.old) (S.remaining source.new) (S.has_failed source.new)) }
 {
     let mut piece = piece_buffer(alloc)?;
-    check_document(alloc, &job, source, piece.as_mut_slice())
+    match job.form().kind() {
+        Kind::Line(form) => check_document(alloc, form, job.limits(), source, piece.as_mut_slice()),
+        Kind::Tree(form) => check_tree(alloc, job.options(form), source, piece.as_mut_slice()),
+    }
 }
 
 fn check_document<A: Allocator + Copy, S: Source>(
     alloc: A,
-    job: &Job<A>,
+    form: LineForm,
+    limits: Limits,
     source: &mut S,
     piece: &mut [u8],
 ) -> Result<Summary, StreamFault>
     requires source { S.has_failed source.old ≡ false }
     requires room { 0 < length piece.old }
-    ensures accepted { IfOk result (λ summary. IfSome (S.remaining source.old) (λ bytes. Passes job.now bytes summary)) }
-    ensures stops { IfErr result (λ fault. CheckStops fault job.now (S.remaining source.old) (S.remaining source.new) (S.has_failed source.new)) }
+    ensures accepted { IfOk result (λ summary. IfSome (S.remaining source.old) (λ bytes. Passes (in_lines (line_job form limits)) bytes summary)) }
+    ensures stops { IfErr result (λ fault. CheckStops fault (in_lines (line_job form limits)) (S.remaining source.old) (S.remaining source.new) (S.has_failed source.new)) }
 {
-    let mut reader = LineReader::new(alloc, line_form(job.form()), job.limits());
-    check_pieces(&mut reader, job, source, piece)
+    let mut reader = LineReader::new(alloc, form, limits);
+    check_pieces(&mut reader, form, limits, source, piece)
 }
 
 fn check_pieces<A: Allocator + Copy, S: Source>(
     reader: &mut LineReader<A>,
-    job: &Job<A>,
+    form: LineForm,
+    limits: Limits,
     source: &mut S,
     piece: &mut [u8],
 ) -> Result<Summary, StreamFault>
     requires reader { HasRead reader.old [] [] }
-    requires form { reader.old.form ≡ line_form job.now.form }
-    requires token { reader.old.scanner.limit ≡ job.now.limits.token }
-    requires iri { reader.old.iri ≡ job.now.limits.iri }
+    requires form { reader.old.form ≡ form }
+    requires token { reader.old.scanner.limit ≡ limits.token }
+    requires iri { reader.old.iri ≡ limits.iri }
     requires source { S.has_failed source.old ≡ false }
     requires room { 0 < length piece.old }
-    ensures accepted { IfOk result (λ summary. IfSome (S.remaining source.old) (λ bytes. Passes job.now bytes summary)) }
-    ensures stops { IfErr result (λ fault. CheckStops fault job.now (S.remaining source.old) (S.remaining source.new) (S.has_failed source.new)) }
+    ensures accepted { IfOk result (λ summary. IfSome (S.remaining source.old) (λ bytes. Passes (in_lines (line_job form limits)) bytes summary)) }
+    ensures stops { IfErr result (λ fault. CheckStops fault (in_lines (line_job form limits)) (S.remaining source.old) (S.remaining source.new) (S.has_failed source.new)) }
 {
     let mut sink = NoQuads;
     loop {
@@ -72,7 +79,7 @@ fn check_pieces<A: Allocator + Copy, S: Source>(
 
 /// Takes quads, and keeps nothing.
 #[derive(Clone, Copy)]
-struct NoQuads;
+pub(crate) struct NoQuads;
 
 impl QuadSink for NoQuads {
     ghost takes = { λ before quad after. after ≡ before };

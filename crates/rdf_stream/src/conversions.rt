@@ -3,14 +3,17 @@
 ghost use Rattle.std.specs.Prelude.{◌≡◌, ◌<◌, ◌≤◌, ◌++◌, [], true, false, length, OnOk, IfOk, IfErr, IfSome};
 ghost use Rattle.rdf_tokens.specs.Scans.{most_bytes};
 ghost use Rattle.rdf_lines.specs.declared.form.Style.TheVariants.{Kept};
-ghost use Rattle.rdf_stream.specs.Converts.{Accepts, StopsFor, line_form};
+ghost use Rattle.rdf_stream.specs.Converts.{Accepts, StopsFor};
+ghost use Rattle.rdf_stream.specs.Languages.{in_lines, language_of, line_job};
 ghost use Rattle.rdf_stream.specs.LineOut.{SameOut};
 ghost use Rattle.rdf_stream.specs.Pieces.{Ends, HaltsBehind, HandedOver, HandsOver, Tells};
 
 use crate::devices::{Drain, Failed, Source};
-use crate::fault::{Form, StreamFault};
+use crate::fault::{Kind, StreamFault};
 use crate::job::Job;
 use crate::line_out::LineOut;
+use crate::tree_conversions::convert_tree;
+use rdf_iri::Limits;
 use rdf_lines::{Fault, LineForm, LineReader, Style, Summary};
 use rdf_terms::QuadSink;
 use std::alloc::{AllocError, Allocator};
@@ -30,20 +33,42 @@ pub fn convert<A: Allocator + Copy, S: Source, D: Drain>(
 ) -> Result<Summary, StreamFault>
     requires source { S.has_failed source.old ≡ false }
     requires drain { D.has_failed drain.old ≡ false }
-    ensures accepted { IfOk result (λ summary. IfSome (S.remaining source.old) (λ bytes. Accepts job bytes (D.contents drain.old) (D.contents drain.new) summary)) }
+    ensures accepted { IfOk result (λ summary. IfSome (S.remaining source.old) (λ bytes. Accepts (language_of job) bytes (D.contents drain.old) (D.contents drain.new) summary)) }
     ensures flushed { OnOk result (D.is_flushed drain.new ≡ true) }
     ensures stops { IfErr result (λ fault.
-        StopsFor fault job (S.remaining source.old) (S.remaining source.new) (S.has_failed source.new) (D.contents drain.old) (D.contents drain.new) (D.has_failed drain.new)) }
+        StopsFor fault (language_of job) (S.remaining source.old) (S.remaining source.new) (S.has_failed source.new) (D.contents drain.old) (D.contents drain.new) (D.has_failed drain.new)) }
 {
     let mut piece = piece_buffer(alloc)?;
     let mut buffer = Vec::new(alloc);
-    let mut lines = LineOut::new(Style::Kept, &mut buffer, drain);
-    convert_document(alloc, &job, source, piece.as_mut_slice(), &mut lines)
+    match job.form().kind() {
+        Kind::Line(form) => {
+            let mut lines = LineOut::new(Style::Kept, &mut buffer, drain);
+            convert_document(
+                alloc,
+                form,
+                job.limits(),
+                source,
+                piece.as_mut_slice(),
+                &mut lines,
+            )
+        }
+        Kind::Tree(form) => {
+            let mut lines = LineOut::new(Style::Tagged, &mut buffer, drain);
+            convert_tree(
+                alloc,
+                job.options(form),
+                source,
+                piece.as_mut_slice(),
+                &mut lines,
+            )
+        }
+    }
 }
 
 fn convert_document<A: Allocator + Copy, S: Source, D: Drain>(
     alloc: A,
-    job: &Job<A>,
+    form: LineForm,
+    limits: Limits,
     source: &mut S,
     piece: &mut [u8],
     lines: &mut LineOut<'_, D, A>,
@@ -54,31 +79,32 @@ fn convert_document<A: Allocator + Copy, S: Source, D: Drain>(
     requires none_waits { lines.old.buffer.now.items ≡ [] }
     requires live { D.has_failed lines.old.drain.now ≡ false }
     ensures accepted { IfOk result (λ summary. IfSome (S.remaining source.old) (λ bytes.
-        Accepts job.now bytes (D.contents lines.old.drain.now) (D.contents lines.new.drain.now) summary)) }
+        Accepts (in_lines (line_job form limits)) bytes (D.contents lines.old.drain.now) (D.contents lines.new.drain.now) summary)) }
     ensures flushed { OnOk result (D.is_flushed lines.new.drain.now ≡ true) }
     ensures same { SameOut lines.old lines.new }
-    ensures stops { IfErr result (λ fault. StopsFor fault job.now (S.remaining source.old) (S.remaining source.new) (S.has_failed source.new)
+    ensures stops { IfErr result (λ fault. StopsFor fault (in_lines (line_job form limits)) (S.remaining source.old) (S.remaining source.new) (S.has_failed source.new)
         (D.contents lines.old.drain.now) (D.contents lines.new.drain.now) (D.has_failed lines.new.drain.now)) }
 {
-    let mut reader = LineReader::new(alloc, line_form(job.form()), job.limits());
-    convert_pieces(&mut reader, job, source, piece, lines)
+    let mut reader = LineReader::new(alloc, form, limits);
+    convert_pieces(&mut reader, form, limits, source, piece, lines)
 }
 
 fn convert_pieces<A: Allocator + Copy, S: Source, D: Drain>(
     reader: &mut LineReader<A>,
-    job: &Job<A>,
+    form: LineForm,
+    limits: Limits,
     source: &mut S,
     piece: &mut [u8],
     lines: &mut LineOut<'_, D, A>,
 ) -> Result<Summary, StreamFault>
-    requires begun { HandedOver D.contents D.has_failed job.now reader.old [] lines.old lines.old }
+    requires begun { HandedOver D.contents D.has_failed (line_job form limits) reader.old [] lines.old lines.old }
     requires source { S.has_failed source.old ≡ false }
     requires room { 0 < length piece.old }
     ensures accepted { IfOk result (λ summary. IfSome (S.remaining source.old) (λ bytes.
-        Accepts job.now bytes (D.contents lines.old.drain.now) (D.contents lines.new.drain.now) summary)) }
+        Accepts (in_lines (line_job form limits)) bytes (D.contents lines.old.drain.now) (D.contents lines.new.drain.now) summary)) }
     ensures flushed { OnOk result (D.is_flushed lines.new.drain.now ≡ true) }
     ensures same { SameOut lines.old lines.new }
-    ensures stops { IfErr result (λ fault. StopsFor fault job.now (S.remaining source.old) (S.remaining source.new) (S.has_failed source.new)
+    ensures stops { IfErr result (λ fault. StopsFor fault (in_lines (line_job form limits)) (S.remaining source.old) (S.remaining source.new) (S.has_failed source.new)
         (D.contents lines.old.drain.now) (D.contents lines.new.drain.now) (D.has_failed lines.new.drain.now)) }
 {
     loop {
@@ -157,14 +183,4 @@ pub(crate) fn piece_buffer<A: Allocator + Copy>(alloc: A) -> Result<Vec<u8, A>, 
     ensures { IfOk result (λ piece. 0 < length piece.items) }
 {
     Vec::from_elem(alloc, 0u8, PIECE_LEN)
-}
-
-/// The line format of a format.
-pub(crate) fn line_form(form: Form) -> LineForm
-    ensures { result ≡ line_form form }
-{
-    match form {
-        Form::NTriples => LineForm::NTriples,
-        Form::NQuads => LineForm::NQuads,
-    }
 }

@@ -4,10 +4,12 @@ ghost use Rattle.std.specs.Prelude.{◌≡◌, ◌↔◌, None, Decides, IfSome}
 ghost use Rattle.rdf_iri.specs.Scope.{BaseFits};
 ghost use Rattle.rdf_iri.specs.Texts.{byte_len};
 ghost use Rattle.rdf_stream.specs.Jobs.{JobRead};
+ghost use Rattle.rdf_stream.specs.Languages.{tree_job};
 
 use crate::fault::Form;
 use rdf_iri::Limits;
 use rdf_terms::Iri;
+use rdf_trig::{DocForm, Options};
 use std::alloc::{Allocator, Global};
 use std::marker::Model;
 
@@ -21,11 +23,14 @@ pub struct Job<A: Allocator = Global> {
 }
 
 impl<A: Allocator> Model for Job<A> {
+    ghost use Rattle.rdf_iri.specs.Scope.{BaseFits};
     ghost use Rattle.rdf_stream.specs.Jobs.{JobRead};
 
     ghost Value = { JobRead };
 
     ghost view = { λ j. record { form = j.form; base = j.base; limits = j.limits } };
+
+    ghost invariant = { λ j. BaseFits j.base j.limits };
 }
 
 impl<A: Allocator> Job<A> {
@@ -52,6 +57,19 @@ impl<A: Allocator> Job<A> {
         ensures { result ≡ self.now.limits }
     {
         self.limits
+    }
+}
+
+impl<A: Allocator + Copy> Job<A> {
+    /// What a reader of Turtle or TriG is asked for.
+    pub(crate) fn options(self, form: DocForm) -> Options<A>
+        ensures { result ≡ tree_job form self }
+    {
+        let Job { base, limits, .. } = self;
+        match Options::new(form, base, limits) {
+            Some(options) => options,
+            None => unreachable!(),
+        }
     }
 }
 

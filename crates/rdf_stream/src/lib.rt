@@ -13,6 +13,8 @@ mod shows;
 #[cfg(test)]
 mod tests;
 mod token_line;
+mod tree_checks;
+mod tree_conversions;
 mod views;
 
 pub use checks::check;

@@ -305,5 +305,7 @@ fn dialect(form: Form) -> Dialect
     match form {
         Form::NTriples => Dialect::Lines,
         Form::NQuads => Dialect::Lines,
+        Form::Turtle => Dialect::Turtle,
+        Form::TriG => Dialect::Turtle,
     }
 }

@@ -1,0 +1,17 @@
+-- A format's kind says what it is to a run.
+use Rattle.std.specs.Prelude.{◌≡◌}
+use Rattle.rdf_stream.specs.declared.fault.Form.{Form}
+use Rattle.rdf_stream.specs.declared.fault.Kind.{Kind}
+use Rattle.rdf_stream.specs.declared.fault.Kind.TheVariants.{Line, Tree}
+use Rattle.rdf_lines.specs.declared.form.LineForm.TheVariants as line
+use Rattle.rdf_trig.specs.declared.form.DocForm.TheVariants as doc
+use Rattle.rdf_stream.specs.declared.fault.Form.TheVariants.{NTriples, NQuads, Turtle, TriG}
+
+abbrev pub kind_of : Form → Kind
+kind_of NTriples = Line line.NTriples
+kind_of NQuads = Line line.NQuads
+kind_of Turtle = Tree doc.Turtle
+kind_of TriG = Tree doc.TriG
+
+abbrev pub IsKind : Form → Kind → Type 0
+IsKind f k = k ≡ kind_of f
