@@ -18,7 +18,7 @@ use Rattle.clap.specs.declared.error.kind.ErrorKind.TheVariants.{OutOfMemory}
 use Rattle.rdf_terms.specs.Terms.{IsIri}
 use Rattle.rdf_iri.specs.Limits.{Sizes}
 use Rattle.rdf_stream.specs.declared.fault.Form.{Form}
-use Rattle.rdf_stream.specs.declared.fault.Form.TheVariants.{NTriples, NQuads}
+use Rattle.rdf_stream.specs.declared.fault.Form.TheVariants.{NTriples, NQuads, Turtle, TriG}
 use Rattle.rdf_tool.specs.declared.task.Action.{Action}
 use Rattle.rdf_tool.specs.declared.task.Action.TheVariants.{Check, Show, Convert}
 use Rattle.rdf_tool.specs.declared.task.Task.{Task}
@@ -30,9 +30,11 @@ use Rattle.rdf_tool.specs.declared.task.WordsFault.TheVariants.{Usage, BadBase, 
 abbrev pub form_name : Form → Text
 form_name NTriples = codes "nt"
 form_name NQuads = codes "nq"
+form_name Turtle = codes "ttl"
+form_name TriG = codes "trig"
 
 abbrev pub forms : List Form
-forms = NTriples ∷ NQuads ∷ []
+forms = NTriples ∷ NQuads ∷ Turtle ∷ TriG ∷ []
 
 abbrev pub format_names : List Text
 format_names = map form_name forms

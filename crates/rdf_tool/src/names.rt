@@ -9,7 +9,7 @@ use crate::task::Action;
 use rdf_stream::Form;
 
 /// The names of the formats.
-pub static FORMATS: [&str; 2] = ["nt", "nq"];
+pub static FORMATS: [&str; 4] = ["nt", "nq", "ttl", "trig"];
 
 /// The format of a name.
 pub fn form_of(name: &str) -> Form
@@ -19,6 +19,8 @@ pub fn form_of(name: &str) -> Form
     match name {
         "nt" => Form::NTriples,
         "nq" => Form::NQuads,
+        "ttl" => Form::Turtle,
+        "trig" => Form::TriG,
         _ => unreachable!(),
     }
 }

@@ -72,6 +72,22 @@ fn a_run_writes_the_lines_or_tells_why_not(rt: HostRuntime) {
             "rdfconv: unexpected token at byte 15, line 1\n",
         ),
         (Action::Convert, Form::NTriples, "", 0, "", ""),
+        (
+            Action::Convert,
+            Form::TriG,
+            "PREFIX : <a:> :g { :s :p [ :q ( 1 ) ] }",
+            0,
+            "<a:s> <a:p> _:a25 <a:g> .\n_:a25 <a:q> _:c32 <a:g> .\n_:c32 <http://www.w3.org/1999/02/22-rdf-syntax-ns#first> \"1\"^^<http://www.w3.org/2001/XMLSchema#integer> <a:g> .\n_:c32 <http://www.w3.org/1999/02/22-rdf-syntax-ns#rest> <http://www.w3.org/1999/02/22-rdf-syntax-ns#nil> <a:g> .\n",
+            "",
+        ),
+        (
+            Action::Check,
+            Form::Turtle,
+            "e:s",
+            1,
+            "",
+            "rdfconv: unbound prefix at byte 0, line 1\n",
+        ),
     ];
     for (action, form, text, status, lines, message) in rows {
         let task = task(action, form, Limits::default());
@@ -230,7 +246,7 @@ fn a_bad_base_is_told(rt: HostRuntime) {
 #[test]
 fn words_that_are_no_command_are_usage(rt: HostRuntime) {
     let rows = [
-        ["rdfconv", "convert", "--format", "ttl"],
+        ["rdfconv", "convert", "--format", "xml"],
         ["rdfconv", "delete", "--format", "nt"],
         ["rdfconv", "convert", "--format", "--help"],
         ["rdfconv", "convert", "a.nt", "b.nt"],
