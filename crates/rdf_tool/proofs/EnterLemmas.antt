@@ -77,7 +77,7 @@ module _ (names : Bor (List (Bor Text))) (known : texts names.now ≡ format_nam
     form-of : (f : Form) × (first_of (codes "format") rows ≡ Some (form_name f))
     unfolding clap_on_literals
     form-of =
-        let format = value-of options _ rows are_read.0.0 holds.pass (holds.required.0 refl) in
+        let format = value-of options _ rows are_read.0.0 holds.pass (holds.defaults.0 (omega arith)) in
         let among : list_any (λ name. bytes_eq name format.0) (texts names.now) ≡ true = sym (list_any-map (λ name. bytes_eq name format.0) (λ (s : Bor Text). s.now) names.now) ∙ format.2 in
         let form = named_form forms format.0 (subst (λ xs. list_any (λ name. bytes_eq name format.0) xs ≡ true) known among) in
         (form.0, format.1 ∙ ap (λ t. Some t) (sym form.1))

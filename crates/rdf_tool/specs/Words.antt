@@ -55,9 +55,9 @@ option_rule id parser = record (new_rule id) {
   parser = Some parser;
 }
 
--- the format has to be given
+-- the format, which is TriG where nothing is said
 abbrev pub format_rule : ValueParser → Rule
-format_rule names = record (option_rule (codes "format") names) { required = true }
+format_rule names = record (option_rule (codes "format") names) { defaults = codes "trig" ∷ [] }
 
 abbrev pub base_rule : Rule
 base_rule = record (new_rule (codes "base")) { long = Some (codes "base"); action = Some Set; value_names = 1 }

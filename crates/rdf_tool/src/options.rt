@@ -19,7 +19,8 @@ const CONVERT: &str = "Write the quads of a document as lines of N-Quads";
 /// What stands below the help of the program.
 const PROGRAM_NOTES: &str = "\
 Options of a command, which reads FILE or standard input:
-  --format FORMAT  nt (N-Triples) or nq (N-Quads); it is not guessed from the file's name
+  --format FORMAT  nt (N-Triples), nq (N-Quads), ttl (Turtle) or trig (TriG) [default: trig];
+                   it is not guessed from the file's name
   --base IRI       base of relative references, at most --iri bytes; line formats have none
   --token N        characters of one token, 1 to 268435456 [default: 16777216]
   --depth N        brackets and parentheses open at one time, 0 to 1048576 [default: 1024]
@@ -52,7 +53,7 @@ pub fn program<'a>(alloc: Global, formats: &'a [&'a str]) -> Result<Command<'a>,
     let show = action_command(alloc, "show", SHOW, formats)?;
     let convert = action_command(alloc, "convert", CONVERT, formats)?;
     Command::new(alloc, "rdfconv")
-        .about("Read N-Triples or N-Quads, and write N-Quads")
+        .about("Read N-Triples, N-Quads, Turtle or TriG, and write N-Quads")
         .after_help(PROGRAM_NOTES)
         .subcommand_required(true)
         .subcommand(check)?
@@ -123,9 +124,9 @@ fn format_option<'a>(alloc: Global, formats: &'a [&'a str]) -> Arg<'a>
         .long("format")
         .action(ArgAction::Set)
         .value_name("FORMAT")
-        .help("Format of the document: N-Triples or N-Quads")
-        .required(true)
+        .help("Format of the document: N-Triples, N-Quads, Turtle or TriG")
         .value_parser(formats)
+        .default_value("trig")
 }
 
 fn base_option<'a>(alloc: Global) -> Arg<'a>

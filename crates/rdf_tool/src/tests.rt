@@ -145,11 +145,11 @@ fn a_file_that_did_not_open_is_told(rt: HostRuntime) {
 
 #[test]
 fn words_give_a_task_with_defaults(rt: HostRuntime) {
-    let task = command_of(rt.alloc(), &["rdfconv", "convert", "--format", "nq"]);
+    let task = command_of(rt.alloc(), &["rdfconv", "convert"]);
     match task {
         Ok(task) => {
             assert_eq!(rt; task.action, Action::Convert);
-            assert_eq!(rt; task.form, Form::NQuads);
+            assert_eq!(rt; task.form, Form::TriG);
             assert_eq!(rt;
                 Some(task.limits),
                 Limits::new(16777216, 1024, 65536, 1048576)
