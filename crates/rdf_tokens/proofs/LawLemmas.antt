@@ -1,7 +1,7 @@
 -- The laws of token lists.
 use Rattle.std.proofs.Common.{Some, None, Ok, Err, ◌≡◌, ◌≢◌, ℕ, zero, suc, ◌+◌, ◌<◌, ◌≤◌, Bool, true, false, cond, List, [], ◌∷◌, ◌++◌, ◌==◌, count_by, inl, inr, refl, sym, ap, ◌∙◌, subst, append_assoc, is_some, length, take, drop, arith, length-append}
 use Rattle.std.proofs.lemmas.List.{append-nil, take_all, take_at, drop_at, take-append-drop, take-append-le, drop-append-le}
-use Rattle.std.proofs.lemmas.List.Elements.{All-nil, All-cons, All-head, All-tail}
+use Rattle.std.proofs.lemmas.List.Elements.{All-nil, All-cons}
 use Rattle.std.specs.List.{All}
 use Rattle.rdf_terms.specs.declared.kind.Dialect.{Dialect}
 use Rattle.rdf_terms.specs.declared.kind.Kind.{Kind}
@@ -14,7 +14,7 @@ use Rattle.rdf_tokens.specs.Good.{first_place, good, mark, tail_of, end_of, toke
 use Rattle.rdf_terms.specs.declared.reason.Reason.{Reason}
 use Rattle.rdf_terms.specs.declared.reason.Reason.TheVariants.{BadUtf8, NoToken, BadEscape, TokenTooLong, DocumentTooLong, Memory, Ended, Unexpected, RelativeIri, Sink}
 use Rattle.rdf_tokens.specs.Unread.{Unread}
-use Rattle.rdf_tokens.specs.Scans.{Reads, HasRead, GivesToken, IsToken, Stops, StopsFor, token_of, place_of as fault_place}
+use Rattle.rdf_tokens.specs.Scans.{Reads, HasRead, IsToken, Stops, StopsFor, token_of, place_of as fault_place}
 use Rattle.rdf_tokens.specs.Laws.{IsBeginning, MoreBytesOnlyLengthen, GivenTokensAreABeginning, IsStop, NextTokenIsGiven, IsPlaceIn, StandsIn, TokensStandAtTheirPlaces, TokensHaveShapes, NoEnd, EndsWell, EndStandsLast}
 use Rattle.rdf_tokens.proofs.TokensLemmas.{at_stop, at_token, shorter, same_outcome, more_tokens}
 use Rattle.rdf_tokens.specs.Moves.{is_broken}
@@ -27,7 +27,7 @@ use Rattle.rdf_tokens.proofs.PastGood.{good_broken, still_broken, tail_broken}
 use Rattle.rdf_tokens.proofs.PlaceLemmas.{past-encodes, end_of-append}
 use Rattle.rdf_tokens.proofs.MoveLemmas.{mark_within}
 use Rattle.rdf_tokens.proofs.NextLemmas.{open_step}
-use Rattle.rdf_tokens.proofs.StepLemmas.{step-token, step-short}
+use Rattle.rdf_tokens.proofs.StepLemmas.{step-token}
 
 -- a fact of each reading, by its steps
 module _ (d : Dialect) (limit : ℕ) (t : Tail) (P : Place → List ℕ → Reading → Type 0)
@@ -72,24 +72,6 @@ have_shapes d limit bytes e =
     takes b p w n k r h a =
         let q = step-token d limit (tail_of bytes e) (rest_of d b w) n k h in
         All-cons (IsToken d) (record { kind = k; text = take n (rest_of d b w); at = place_of d b p w }) r.tokens (inr (q.0, q.1)) a
-
--- no token is longer than the limit
-abbrev IsShort : ℕ → Token → Type 0
-IsShort limit t = length t.text ≤ limit
-
-have_sizes : (d : Dialect) (limit : ℕ) (bytes : List ℕ) (e : Bool) → All (IsShort limit) (tokens_of d limit bytes e).tokens
-have_sizes d limit bytes e =
-    subst (λ r. All (IsShort limit) r.tokens) (sym (tokens_of-tokens d limit bytes e))
-    (by_steps d limit (tail_of bytes e) (λ p w r. All (IsShort limit) r.tokens) stops takes false _ _)
-  where
-    stops : (b : Bool) (p : Place) (w : List ℕ) (o : Outcome) → step d limit (tail_of bytes e) (rest_of d b w) ≡ stop o → All (IsShort limit) (end_tokens o (place_of d b p w))
-    stops b p w complete h = All-cons (IsShort limit) (record { kind = End; text = []; at = place_of d b p w }) [] (omega arith) (All-nil (IsShort limit))
-    stops b p w o h = All-nil (IsShort limit)
-
-    takes : (b : Bool) (p : Place) (w : List ℕ) (n : ℕ) (k : Kind) (r : Reading) → step d limit (tail_of bytes e) (rest_of d b w) ≡ token n k → All (IsShort limit) r.tokens →
-        All (IsShort limit) (record { kind = k; text = take n (rest_of d b w); at = place_of d b p w } ∷ r.tokens)
-    takes b p w n k r h a =
-        All-cons (IsShort limit) (record { kind = k; text = take n (rest_of d b w); at = place_of d b p w }) r.tokens (step-short d limit (tail_of bytes e) (rest_of d b w) n k h) a
 
 -- the end is last
 pub end_last : EndStandsLast
@@ -300,16 +282,3 @@ places d limit bytes e =
         let m = moves_on bytes p w (blank d b w) h in
         let x = a (moves_on bytes (place_of d b p w) (rest_of d b w) n m) in
         (All-cons (StandsIn bytes) (record { kind = k; text = take n (rest_of d b w); at = place_of d b p w }) r.tokens (stands bytes (place_of d b p w) (rest_of d b w) n k m) x.0, x.1)
-
--- the last of some tokens
-last_at : (P : Token → Type 0) (ahead behind : List Token) (t : Token) → All P (ahead ++ t ∷ behind) → P t
-last_at P [] behind t h = All-head P t behind h
-last_at P (x ∷ ahead) behind t h = last_at P ahead behind t (All-tail P x (ahead ++ t ∷ behind) h)
-
--- A token that a scanner gives is no longer than its limit.
-pub given_short : (v w : Unread) (bytes : List ℕ) (ts : List Token) (t : Token) → HasRead v bytes ts → GivesToken v t w → length t.text ≤ v.limit
-given_short v w bytes ts t h g =
-    let b = given_beginning w bytes (ts ++ t ∷ []) (g.read bytes ts h) in
-    let all : (tokens_of w.dialect w.limit bytes w.ended).tokens ≡ ts ++ t ∷ b.0 = b.1 ∙ append_assoc ts (t ∷ []) b.0 in
-    let short = last_at (IsShort w.limit) ts b.0 t (subst (All (IsShort w.limit)) all (have_sizes w.dialect w.limit bytes w.ended)) in
-    subst (λ n. length t.text ≤ n) g.same.limit short

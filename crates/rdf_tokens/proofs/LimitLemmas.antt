@@ -1,8 +1,8 @@
 -- No token has more characters than the limit.
-use Rattle.std.proofs.Common.{◌≡◌, ◌≢◌, ℕ, suc, ◌+◌, ◌-◌, ◌<◌, ◌≤◌, Bool, true, false, cond, ◌||◌, ◌&&◌, nat_lt, List, [], ◌∷◌, ◌++◌, refl, sym, ap, ◌∙◌, subst, ⊎_elim, Some, None, is_some, length, take, drop, arith}
+use Rattle.std.proofs.Common.{◌≡◌, ◌≢◌, ℕ, suc, ◌+◌, ◌-◌, ◌<◌, ◌≤◌, Bool, true, false, cond, ◌||◌, ◌&&◌, nat_lt, List, [], ◌∷◌, ◌++◌, refl, sym, ap, ◌∙◌, subst, ⊎_elim, append_assoc, Some, None, is_some, length, take, drop, arith}
 use Rattle.std.specs.List.{All}
 use Rattle.std.proofs.lemmas.List.{length-take-le, take-append-drop}
-use Rattle.std.proofs.lemmas.List.Elements.{All-nil, All-cons}
+use Rattle.std.proofs.lemmas.List.Elements.{All-nil, All-cons, All-head, All-tail}
 use Rattle.std.proofs.lemmas.Bool.{cases_lt, cases_eq, lt-ltb, false≢true, and_from}
 use Rattle.rdf_terms.specs.declared.kind.Dialect.{Dialect}
 use Rattle.rdf_terms.specs.declared.kind.Kind.{Kind}
@@ -13,9 +13,11 @@ use Rattle.rdf_tokens.specs.Tokens.{Place, Tail, Outcome, Token, Reading, rest_o
 use Rattle.rdf_tokens.specs.Tokens.Step.{token, stop}
 use Rattle.rdf_tokens.specs.Tokens.Outcome.{complete, token_too_long}
 use Rattle.rdf_tokens.specs.Good.{tail_of, tokens_of}
+use Rattle.rdf_tokens.specs.Unread.{Unread}
+use Rattle.rdf_tokens.specs.Scans.{HasRead, GivesToken}
 use Rattle.rdf_tokens.proofs.TokensLemmas.{longer_take, step_token}
 use Rattle.rdf_tokens.proofs.StepLemmas.{step-kind}
-use Rattle.rdf_tokens.proofs.LawLemmas.{by_steps, tokens_of-tokens}
+use Rattle.rdf_tokens.proofs.LawLemmas.{by_steps, tokens_of-tokens, given_beginning}
 
 step-over : (d : Dialect) (limit : ℕ) (t : Tail) (w : List ℕ) (n : ℕ) (k : Kind) → step d limit t w ≡ token n k → over d limit w ≡ false
 unfolding step
@@ -77,3 +79,16 @@ no_longer d limit bytes e =
         let size : length (take n (rest_of d b w)) ≡ n = length-take-le n (rest_of d b w) s.1 in
         let l = step_within d limit (tail_of bytes e) (rest_of d b w) n k h in
         All-cons Short (record { kind = k; text = take n (rest_of d b w); at = place_of d b p w }) r.tokens (omega arith) a
+
+-- the last of some tokens
+last_at : (P : Token → Type 0) (ahead behind : List Token) (t : Token) → All P (ahead ++ t ∷ behind) → P t
+last_at P [] behind t h = All-head P t behind h
+last_at P (x ∷ ahead) behind t h = last_at P ahead behind t (All-tail P x (ahead ++ t ∷ behind) h)
+
+-- a token that a scanner gives
+pub given_short : (v w : Unread) (bytes : List ℕ) (ts : List Token) (t : Token) → HasRead v bytes ts → GivesToken v t w → length t.text ≤ v.limit
+given_short v w bytes ts t h g =
+    let b = given_beginning w bytes (ts ++ t ∷ []) (g.read bytes ts h) in
+    let all : (tokens_of w.dialect w.limit bytes w.ended).tokens ≡ ts ++ t ∷ b.0 = b.1 ∙ append_assoc ts (t ∷ []) b.0 in
+    let short = last_at (λ x. length x.text ≤ w.limit) ts b.0 t (subst (All (λ x. length x.text ≤ w.limit)) all (no_longer w.dialect w.limit bytes w.ended)) in
+    subst (λ n. length t.text ≤ n) g.same.limit short

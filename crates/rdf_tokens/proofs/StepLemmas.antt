@@ -1,15 +1,12 @@
 -- A token that a step gives has the shape of its kind, and fit escapes.
-use Rattle.std.proofs.Common.{◌≡◌, ◌≢◌, ℕ, zero, suc, ◌+◌, ◌<◌, ◌≤◌, Bool, true, false, cond, ◌||◌, ◌&&◌, List, [], ◌∷◌, ◌++◌, ◌⊎◌, inl, inr, refl, sym, ap, ◌∙◌, subst, ⊎_elim, Option, Some, None, is_some, length, take, drop, arith}
-use Rattle.std.proofs.Math.Bool.{or-true}
-use Rattle.std.proofs.lemmas.Bool.{cases_lt, lt-ltb}
-use Rattle.std.proofs.lemmas.List.{append-nil, take-append-drop, take-take}
+use Rattle.std.proofs.Common.{◌≡◌, ◌≢◌, ℕ, zero, suc, Bool, true, false, cond, ◌||◌, List, [], ◌∷◌, ◌⊎◌, inl, inr, refl, sym, ap, ◌∙◌, subst, ⊎_elim, Option, Some, None, length, take}
 use Rattle.rdf_terms.specs.declared.kind.Dialect.{Dialect}
 use Rattle.rdf_terms.specs.declared.kind.Kind.{Kind}
 use Rattle.rdf_terms.specs.declared.kind.Kind.TheVariants.{LongString, LangTag, AtPrefix, AtBase, End}
 use Rattle.rdf_terms.specs.Regex.{Matches, nullable, after_all, ◌∣◌}
 use Rattle.rdf_terms.specs.Shapes.{Shape, shape, kinds, kind_of, is_live}
 use Rattle.rdf_terms.specs.Values.{is_fit}
-use Rattle.rdf_terms.proofs.ShapesLemmas.{matches-form, first_kind-matches, kind-front}
+use Rattle.rdf_terms.proofs.ShapesLemmas.{matches-form, first_kind-matches}
 use Rattle.rdf_tokens.specs.Tokens.{Tail, longest, with_length, three_quotes, only_long, over, is_empty, chosen, decided, by_tail, step}
 use Rattle.rdf_tokens.specs.Tokens.Tail.{goes_on, ended, broken}
 use Rattle.rdf_tokens.specs.Tokens.Outcome.{undecided, complete, token_too_long, bad_utf8, no_token, bad_escape}
@@ -108,55 +105,3 @@ step-token d limit t w n k e =
 
 pub step-kind : (d : Dialect) (limit : ℕ) (t : Tail) (w : List ℕ) (n : ℕ) (k : Kind) → step d limit t w ≡ token n k → kind_of d (take n w) ≡ Some k
 step-kind d limit t w n k e = longest-kind d w (length w) n k (decided-token d w n k (step-decided d limit t w n k e)).0
-
-take-few : (n : ℕ) (w : List ℕ) → (length (take n w) ≤ n) × (length (take n w) ≤ length w)
-take-few zero w = (omega arith, omega arith)
-take-few (suc n) [] = (omega arith, omega arith)
-take-few (suc n) (c ∷ w) = let h = take-few n w in let a = h.0 in let b = h.1 in (omega (arith, a), omega (arith, b))
-
--- A token is no longer than the limit: else the front of it that is one character longer than the limit would be over it.
-pub step-short : (d : Dialect) (limit : ℕ) (t : Tail) (w : List ℕ) (n : ℕ) (k : Kind) → step d limit t w ≡ token n k → length (take n w) ≤ limit
-unfolding step
-step-short d limit t w n k e = ⊎_elim (λ l. absurd (long l)) (λ l. l) (cases_lt limit (length (take n w)))
-  where
-    kind : kind_of d (take n w) ≡ Some k
-    kind = longest-kind d w (length w) n k (decided-token d w n k (step-decided d limit t w n k e)).0
-
-    front : List ℕ
-    front = take (limit + 1) w
-
-    under : over d limit w ≡ false
-    under = by (over d limit w) (is_empty w || is_live d w) e
-      where
-        by : (o b : Bool) → cond o (stop token_too_long) (by_tail d t w b) ≡ token n k → o ≡ false
-        by true b e = absurd (let h : stop token_too_long ≡ token n k = e in cc)
-        by false b e = refl
-
-    long : limit < length (take n w) → ⊥
-    long l = by (drop (limit + 1) (take n w)) refl
-      where
-        enough : limit + 1 ≤ length (take n w)
-        enough = omega (arith, l)
-
-        most : length (take n w) ≤ n
-        most = (take-few n w).0
-
-        all : length (take n w) ≤ length w
-        all = (take-few n w).1
-
-        split : take n w ≡ front ++ drop (limit + 1) (take n w)
-        split = sym (take-append-drop (limit + 1) (take n w)) ∙ ap (λ x. x ++ drop (limit + 1) (take n w)) (take-take (limit + 1) n w (omega (arith, l, most)))
-
-        is_over : (is_some (kind_of d front) || is_live d front) ≡ true → ⊥
-        is_over h =
-            let x : over d limit w ≡ true = ap (λ b. b && (is_some (kind_of d front) || is_live d front)) (lt-ltb limit (length w) (omega (arith, l, all))) ∙ h in
-            let z : true ≡ false = sym x ∙ under in
-            cc
-
-        by : (v : List ℕ) → drop (limit + 1) (take n w) ≡ v → ⊥
-        by [] h =
-            let same : take n w ≡ front = split ∙ (ap (λ x. front ++ x) h ∙ append-nil front) in
-            is_over (ap (λ o. is_some o || is_live d front) (ap (kind_of d) (sym same) ∙ kind))
-        by (c ∷ v) h =
-            let live = kind-front d front c v k (ap (kind_of d) (sym (split ∙ ap (λ x. front ++ x) h)) ∙ kind) in
-            is_over (ap (λ b. is_some (kind_of d front) || b) live ∙ or-true (is_some (kind_of d front)))

@@ -7,7 +7,7 @@ use Rattle.rdf_terms.specs.Sinks.{Attempts}
 use Rattle.rdf_tokens.specs.Tokens.{Token}
 use Rattle.rdf_tokens.specs.Unread.{Unread}
 use Rattle.rdf_tokens.specs.Scans.{GivesToken}
-use Rattle.rdf_tokens.proofs.LawLemmas.{given_short}
+use Rattle.rdf_tokens.proofs.LimitLemmas.{given_short}
 use Rattle.rdf_iri.specs.Scope.{InForce}
 use Rattle.rdf_lines.specs.declared.fault.Summary.{Summary}
 use Rattle.rdf_trig.specs.declared.form.DocForm.{DocForm}
