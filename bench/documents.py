@@ -1,40 +1,158 @@
 #!/usr/bin/env python3
-"""Writes a document of about so many MB: documents.py nt|ttl MEGABYTES FILE."""
+"""Writes a document to measure with, and says how many quads it has.
+
+    bench/documents.py KIND MEGABYTES FILE
+
+KIND is one of DOCUMENTS below. The document ends with the first whole statement behind so many MB.
+"""
+import collections
 import sys
 
 TITLES = ['The Sea Around Us', 'Ein "kurzer" Titel', 'Жизнь и судьба', 'a\\tb']
+PREFIXES = '@prefix lib: <http://example.org/library/> .\n@prefix t: <http://example.org/terms/> .\n'
+MOST_DEPTH = 1048576
+MOST_TOKEN = 268435456
+MOST_BINDINGS = 65536
 
 
-def lines_nt():
+class Writer:
+    """Writes text to a file, and counts its bytes and the quads that it gives."""
+
+    def __init__(self, file, size):
+        self.file = file
+        self.size = size
+        self.bytes = 0
+        self.quads = 0
+
+    def put(self, text, quads=0):
+        self.bytes += self.file.write(text.encode('utf-8'))
+        self.quads += quads
+
+    def is_full(self):
+        return self.bytes >= self.size
+
+
+def lines(out, graph):
     n = 0
-    while True:
+    while not out.is_full():
         n += 1
         book = '<http://example.org/library/book-%d>' % n
         title = TITLES[n % 4].replace('"', '\\"')
-        yield '%s <http://example.org/terms/title> "%s"@en .\n' % (book, title)
-        yield '%s <http://example.org/terms/shelf> _:shelf%d .\n' % (book, n % 97)
-        yield '%s <http://example.org/terms/pages> "%d"^^<http://www.w3.org/2001/XMLSchema#integer> .\n' % (book, n % 900)
+        end = graph % (n % 31) if graph else ''
+        out.put('%s <http://example.org/terms/title> "%s"@en%s .\n' % (book, title, end), 1)
+        out.put('%s <http://example.org/terms/shelf> _:shelf%d%s .\n' % (book, n % 97, end), 1)
+        out.put('%s <http://example.org/terms/pages> "%d"^^<http://www.w3.org/2001/XMLSchema#integer>%s .\n'
+                % (book, n % 900, end), 1)
 
 
-def lines_ttl():
-    yield '@prefix lib: <http://example.org/library/> .\n@prefix t: <http://example.org/terms/> .\n'
+def ntriples(out):
+    lines(out, '')
+
+
+def nquads(out):
+    lines(out, ' <http://example.org/halls/%d>')
+
+
+def put_book(out, n):
+    out.put('lib:book-%d a t:Book ; t:shelf lib:shelf-%d , lib:shelf-%d ;\n'
+            '    t:pages %d ; t:weight %d.5 ; t:author [ t:name "A%d"@en ] ; t:parts ( lib:p%d lib:q%d ) .\n'
+            % (n, n % 97, n % 89, n % 900, n % 7, n, n, n), 12)
+
+
+def turtle(out):
+    """Names with prefixes, in statements of twelve quads."""
+    out.put(PREFIXES)
     n = 0
-    while True:
+    while not out.is_full():
         n += 1
-        first = 'lib:book-%d a t:Book ; t:shelf lib:shelf-%d , lib:shelf-%d ;\n' % (n, n % 97, n % 89)
-        yield first + '    t:pages %d ; t:weight %d.5 ; t:author [ t:name "A%d"@en ] ; t:parts ( lib:p%d lib:q%d ) .\n' % (
-            n % 900, n % 7, n, n, n)
+        put_book(out, n)
+
+
+def trig(out):
+    """The same, four statements a graph block."""
+    out.put(PREFIXES)
+    n = 0
+    while not out.is_full():
+        out.put('lib:hall-%d {\n' % (n % 31))
+        for _ in range(4):
+            n += 1
+            put_book(out, n)
+        out.put('}\n')
+
+
+def nested(out):
+    """Statements of a thousand brackets, one in the other."""
+    out.put(PREFIXES)
+    n = 0
+    while not out.is_full():
+        n += 1
+        out.put('lib:part-%d t:part %s%d%s .\n' % (n, '[ t:part ' * 1000, n, ' ]' * 1000), 1001)
+
+
+def deep(out):
+    """One statement of brackets with some text, one in the other, as many as may be open in a document of 200 MB."""
+    level = '[ t:note "%s"@en ; t:part ' % ('a part of a part, ' * 9)
+    out.put(PREFIXES + 'lib:whole t:part ')
+    depth = 0
+    while not out.is_full() and depth < MOST_DEPTH:
+        depth += 1
+        out.put(level, 2)
+    out.put('1' + ' ]' * depth + ' .\n', 1)
+
+
+def literal(out):
+    """One literal."""
+    out.put('<http://example.org/library/book-1> <http://example.org/terms/text> "')
+    while not out.is_full():
+        out.put(''.join(TITLES).replace('"', '\\"') * 100)
+    out.put('" .\n', 1)
+
+
+def prefixes(out):
+    """As many prefixes as may be bound, or as fill a third of the document, and names that have each in turn."""
+    count = min(MOST_BINDINGS, out.size // 150)
+    for n in range(count):
+        out.put('@prefix p%d: <http://example.org/libraries/%d/> .\n' % (n, n))
+    n = 0
+    while not out.is_full():
+        n += 1
+        out.put('p%d:s p%d:p p%d:o , p%d:o-%d .\n' % (n % count, n * 7 % count, n * 49 % count, n * 343 % count, n), 2)
+
+
+def comments(out):
+    """Four comments, each a quarter of the document."""
+    for n in range(4):
+        out.put('# %s\n' % ('a note on a note, ' * (out.size // 72)))
+        out.put('<http://example.org/library/book-%d> <http://example.org/terms/part> %d .\n' % (n, n), 1)
+
+
+Document = collections.namedtuple('Document', ['name', 'format', 'options', 'write'])
+
+DOCUMENTS = {
+    'nt': Document('N-Triples', 'nt', [], ntriples),
+    'nq': Document('N-Quads', 'nq', [], nquads),
+    'ttl': Document('Turtle with prefixes', 'ttl', [], turtle),
+    'trig': Document('TriG with prefixes', 'trig', [], trig),
+    'prefixes': Document('Many prefixes', 'ttl', [], prefixes),
+    'comments': Document('Four comments', 'ttl', [], comments),
+    'nested': Document('Brackets, 1,000 deep', 'ttl', [], nested),
+    'deep': Document('One nest of brackets', 'ttl', ['--depth', str(MOST_DEPTH)], deep),
+    'literal': Document('One literal', 'nt', ['--token', str(MOST_TOKEN)], literal),
+}
+
+
+def write(kind, megabytes, path):
+    """Writes a document, and answers how many quads it has."""
+    with open(path, 'wb') as f:
+        out = Writer(f, int(megabytes * 1000000))
+        DOCUMENTS[kind].write(out)
+    return out.quads
 
 
 def main():
-    kind, size, path = sys.argv[1], int(sys.argv[2]) * 1000000, sys.argv[3]
-    with open(path, 'w', encoding='utf-8') as f:
-        written = 0
-        for line in {'nt': lines_nt, 'ttl': lines_ttl}[kind]():
-            f.write(line)
-            written += len(line.encode('utf-8'))
-            if written >= size:
-                break
+    kind, megabytes, path = sys.argv[1:]
+    print('%d quads' % write(kind, int(megabytes), path))
 
 
-main()
+if __name__ == '__main__':
+    main()

@@ -11,6 +11,8 @@ import sys
 import tempfile
 import time
 
+import documents
+
 TOP = os.path.dirname(os.path.dirname(os.path.abspath(__file__)))
 PROGRAM = os.path.join(TOP, 'crates', 'token_count', 'out', 'token_count')
 
@@ -27,7 +29,7 @@ def main():
     with tempfile.TemporaryDirectory() as folder:
         for kind, dialect in (('nt', 'lines'), ('ttl', 'turtle')):
             path = os.path.join(folder, 'document.' + kind)
-            subprocess.run([sys.executable, os.path.join(TOP, 'bench', 'documents.py'), kind, str(size), path], check=True)
+            documents.write(kind, size, path)
             megabytes = os.path.getsize(path) / 1e6
             scan = megabytes / min(seconds([PROGRAM, dialect], path) for _ in range(3))
             count = megabytes / min(seconds(['wc', '-l'], path) for _ in range(3))

@@ -13,19 +13,18 @@ import sys
 import tempfile
 import time
 
+import documents
+from memory import held
+
 TOP = os.path.dirname(os.path.dirname(os.path.abspath(__file__)))
 PROGRAM = os.path.join(TOP, 'crates', 'quad_count', 'out', 'quad_count')
-MOST_BINDINGS = 65536
 
 # Each function below that writes a document answers how many quads it gives.
 
 
 def prefix_heavy(path):
-    """50 MB of statements whose names have prefixes. Each gives 12 quads."""
-    subprocess.run([sys.executable, os.path.join(TOP, 'bench', 'documents.py'), 'ttl', '50', path], check=True)
-    with open(path, encoding='utf-8') as f:
-        statements = sum(line.startswith('lib:') for line in f)
-    return 12 * statements
+    """50 MB of statements whose names have prefixes."""
+    return documents.write('ttl', 50, path)
 
 
 def collection(megabytes):
@@ -89,27 +88,14 @@ def run(words, path):
         return time.monotonic() - begin, p.returncode, p.stdout.decode().strip()
 
 
-def held(words, path):
-    """Kilobytes that a run held at most: the kernel's high-water mark of its memory, read until it ends."""
-    most = 0
-    with open(path, 'rb') as f:
-        p = subprocess.Popen(words, stdin=f, stdout=subprocess.DEVNULL, stderr=subprocess.DEVNULL)
-        while p.poll() is None:
-            with open('/proc/%d/status' % p.pid) as status:
-                for line in status:
-                    if line.startswith('VmHWM:'):
-                        most = max(most, int(line.split()[1]))
-            time.sleep(0.001)
-    return most
-
-
 def is_refused(name, write, path, place):
     """Ends with a failure unless the document is refused for this reason at this place."""
     write(path)
     _, status, says = run([PROGRAM, 'ttl'], path)
     if (status, says) != (1, place):
         sys.exit('%s: status %d: %s, but should be: %s' % (name, status, says, place))
-    print('%s: %s' % (name, says), flush=True)
+    kilobytes = held([PROGRAM, 'ttl'], path, may_fail=True)
+    print('%s: %s, at most %d kB held' % (name, says, kilobytes), flush=True)
 
 
 def measure(name, write, words, path):
@@ -139,8 +125,8 @@ def main():
         for depth in (100000, 1000000):
             measure('%d brackets, depth limit 1,048,576' % depth, nested(depth), ['1048576'], path)
         is_refused('100,000 brackets, default limits', nested(100000), path, 'TooDeep at byte 15386, line 1')
-        measure('65,536 prefixes', bound(MOST_BINDINGS), [], path)
-        is_refused('65,537 prefixes', bound(MOST_BINDINGS + 1), path, 'TooManyBindings at byte 2337092, line 65537')
+        measure('65,536 prefixes', bound(documents.MOST_BINDINGS), [], path)
+        is_refused('65,537 prefixes', bound(documents.MOST_BINDINGS + 1), path, 'TooManyBindings at byte 2337092, line 65537')
 
 
 main()
