@@ -1,5 +1,5 @@
 -- The status that the program exits with, and the texts that it tells.
-use Rattle.std.specs.Prelude.{◌≡◌, ◌≢◌, ℕ, Bool, false, List, Option, codes}
+use Rattle.std.specs.Prelude.{◌≡◌, ◌≢◌, ◌⊎◌, ℕ, Bool, false, List, Option, codes}
 use Rattle.std.specs.Io.KnownBytes.{Appends}
 use Rattle.clap.specs.Words.{kind_of}
 use Rattle.clap.specs.declared.error.kind.ErrorKind.{ErrorKind}
@@ -22,6 +22,17 @@ status_of Memory = 4
 abbrev pub Tells : List ℕ → Option (List ℕ) → Option (List ℕ) → Bool → Type 0
 Tells text old new failed = AppendsFront old new text × (failed ≡ false → Appends old new text)
 
+-- What is told of a fault. The text of a refusal takes memory, and nothing of it is told where that is refused.
+abbrev pub TellsOf : StreamFault → Option (List ℕ) → Option (List ℕ) → Bool → Type 0
+TellsOf (Refused f) old new failed = Tells (report_text (Refused f)) old new failed ⊎ (new ≡ old)
+TellsOf fault old new failed = Tells (report_text fault) old new failed
+
+-- how a run ends that is not accepted: by a fault, or since the file did not open
+abbrev pub IsToldOf : ℕ → Option (List ℕ) → Option (List ℕ) → Bool → Type 0
+IsToldOf status old new failed =
+    ((fault : StreamFault) × (status ≡ status_of fault) × TellsOf fault old new failed)
+    ⊎ ((status ≡ 3) × Tells (codes "rdfconv: cannot open file\n") old new failed)
+
 -- 0 where help was asked for, and else 2
 abbrev pub IsUsageStatus : ErrorKind → ℕ → Type 0
 IsUsageStatus kind status = (kind ≡ DisplayHelp → status ≡ 0) × (kind ≢ DisplayHelp → kind ≢ DisplayVersion → status ≡ 2)
@@ -31,3 +42,9 @@ abbrev pub Refuses : WordsFault → ℕ → Option (List ℕ) → Option (List �
 Refuses (words.Usage e) status old new failed = IsUsageStatus (kind_of e) status
 Refuses words.BadBase status old new failed = (status ≡ 2) × Tells (codes "rdfconv: bad base\n") old new failed
 Refuses words.Memory status old new failed = (status ≡ 4) × Tells (report_text Memory) old new failed
+
+-- help changes the output alone, and all else the error output alone
+abbrev pub GoesTo : {O E : Type 0} → WordsFault → O → O → E → E → Type 0
+GoesTo (words.Usage e) out_old out_new err_old err_new =
+    (kind_of e ≡ DisplayHelp → err_new ≡ err_old) × (kind_of e ≢ DisplayHelp → kind_of e ≢ DisplayVersion → out_new ≡ out_old)
+GoesTo fault out_old out_new err_old err_new = out_new ≡ out_old

@@ -194,3 +194,9 @@ GivesNone a words Memory = Unit
 abbrev pub fault_by : ErrorKind → Error → WordsFault
 fault_by OutOfMemory e = Memory
 fault_by kind e = Usage e
+
+-- a fault of clap's of this kind, or want of memory
+abbrev pub IsUsageOf : ErrorKind → WordsFault → Type 0
+IsUsageOf kind (Usage e) = kind_of e ≡ kind
+IsUsageOf kind BadBase = ⊥
+IsUsageOf kind Memory = Unit

@@ -6,7 +6,7 @@ ghost use Rattle.clap.specs.declared.builder.value_parser.ValueParser.{ValuePars
 ghost use Rattle.clap.specs.declared.builder.value_parser.ValueParser.TheVariants.{Names};
 ghost use Rattle.rdf_iri.specs.Scope.{BaseFits};
 ghost use Rattle.rdf_iri.specs.Texts.{byte_len};
-ghost use Rattle.rdf_tool.specs.Words.{Entered, GivesNone, GivesTask, HasLimits, HasNumber, HasSizes, IsBase, IsEntered, IsTaskBy, NoBaseOf, NoTaskBy, TakesFormats, format_names, number_of, rdfconv};
+ghost use Rattle.rdf_tool.specs.Words.{Entered, GivesNone, GivesTask, HasLimits, HasNumber, HasSizes, IsBase, IsEntered, IsTaskBy, IsUsageOf, NoBaseOf, NoTaskBy, TakesFormats, format_names, number_of, rdfconv};
 
 use crate::names::{FORMATS, action_of, form_of};
 use crate::options::program;
@@ -26,7 +26,9 @@ pub fn command_of<'a>(alloc: Global, words: &'a [&'a str]) -> Result<Task, Words
 }
 
 /// The fault of a command line with a word that is no UTF-8.
-pub fn not_utf8(alloc: Global) -> WordsFault {
+pub fn not_utf8(alloc: Global) -> WordsFault
+    ensures { IsUsageOf ErrorKind.InvalidValue result }
+{
     match program(alloc, FORMATS.as_slice()) {
         Ok(mut command) => match command.error(ErrorKind::InvalidValue, "a word is no UTF-8") {
             Ok(error) => WordsFault::from(error),

@@ -9,8 +9,9 @@ mod task;
 #[cfg(test)]
 mod tests;
 
-ghost use Rattle.std.specs.Prelude.{◌≡◌, IfOk, false};
+ghost use Rattle.std.specs.Prelude.{◌≡◌, ◌≢◌, IfOk, false, true};
 ghost use Rattle.rdf_iri.specs.Scope.{BaseFits};
+ghost use Rattle.rdf_tool.specs.Statuses.{IsToldOf};
 
 use crate::commands::{command_of, not_utf8};
 use crate::runs::{refuse_words, run};
@@ -50,6 +51,8 @@ fn run_task<O: Drain, E: Drain>(rt: &HostRuntime, task: Task, out: &mut O, err: 
     requires base { BaseFits task.base task.limits }
     requires out { O.has_failed out.old ≡ false }
     requires err { E.has_failed err.old ≡ false }
+    ensures flushed { result ≡ 0 → O.is_flushed out.new ≡ true }
+    ensures told { result ≢ 0 → IsToldOf result (E.contents err.old) (E.contents err.new) (E.has_failed err.new) }
 {
     let opened = match &task.file {
         None => {

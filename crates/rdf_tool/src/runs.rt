@@ -1,6 +1,6 @@
 // A run, its status, and what it tells.
 
-ghost use Rattle.std.specs.Prelude.{◌≡◌, ◌≢◌, ◌++◌, false, true, codes, decimal, Bool, List, ℕ, Option, IfErr, IfOk, IfSome, OnErr, OnOk, is_err};
+ghost use Rattle.std.specs.Prelude.{◌≡◌, ◌≢◌, ◌⊎◌, ◌++◌, false, true, codes, decimal, Bool, List, ℕ, Option, IfErr, IfOk, IfSome, OnErr, OnOk, is_err};
 ghost use Rattle.std.specs.Option.{ForSome, IfNone};
 ghost use Rattle.std.specs.Io.KnownBytes.{Appends, Keeps};
 ghost use Rattle.rdf_iri.specs.Scope.{BaseFits};
@@ -8,7 +8,7 @@ ghost use Rattle.rdf_stream.specs.Devices.{AppendsFront};
 ghost use Rattle.rdf_stream.specs.Messages.{report_text};
 ghost use Rattle.rdf_stream.specs.declared.fault.StreamFault.{StreamFault};
 ghost use Rattle.rdf_tool.specs.Runs.{Does, IsChecked, Stops, StopsCheck, accepted_text, job_of};
-ghost use Rattle.rdf_tool.specs.Statuses.{Refuses, Tells, status_of};
+ghost use Rattle.rdf_tool.specs.Statuses.{GoesTo, Refuses, Tells, TellsOf, status_of};
 
 use crate::task::{Action, Task, WordsFault};
 use clap::Error;
@@ -34,7 +34,7 @@ pub fn run<S: Source, O: Drain, E: Drain>(
         × (O.is_flushed out.new ≡ true)) }
     ensures stopped { IfSome source.entry (λ s. result ≢ 0 → (fault : StreamFault) × (left : Option (List ℕ)) × (read_failed : Bool) × (result ≡ status_of fault)
         × Stops task.action fault (job_of task) (S.remaining s.now) left read_failed (O.contents out.old) (O.contents out.new) (O.has_failed out.new)
-        × AppendsFront (E.contents err.old) (E.contents err.new) (report_text fault)) }
+        × TellsOf fault (E.contents err.old) (E.contents err.new) (E.has_failed err.new)) }
     ensures not_open { IfNone source.entry ((result ≡ 3) × Tells (codes "rdfconv: cannot open file\n") (E.contents err.old) (E.contents err.new) (E.has_failed err.new)) }
 {
     match source {
@@ -65,7 +65,7 @@ fn run_job<S: Source, O: Drain, E: Drain>(
         × (O.is_flushed out.new ≡ true) }
     ensures stopped { result ≢ 0 → (fault : StreamFault) × (result ≡ status_of fault)
         × Stops action fault job (S.remaining source.old) (S.remaining source.new) (S.has_failed source.new) (O.contents out.old) (O.contents out.new) (O.has_failed out.new)
-        × AppendsFront (E.contents err.old) (E.contents err.new) (report_text fault) }
+        × TellsOf fault (E.contents err.old) (E.contents err.new) (E.has_failed err.new) }
 {
     match act(alloc, action, job, source, out) {
         Ok(()) => 0,
@@ -164,15 +164,26 @@ fn status(fault: &StreamFault) -> u8
     }
 }
 
-// Where memory for the text is refused, nothing is told.
+// Tells of a fault. The text of a refusal alone takes memory.
 fn tell_fault<E: Drain>(alloc: Global, fault: &StreamFault, err: &mut E)
     requires { E.has_failed err.old ≡ false }
-    ensures { AppendsFront (E.contents err.old) (E.contents err.new) (report_text fault.now) }
+    ensures { TellsOf fault.now (E.contents err.old) (E.contents err.new) (E.has_failed err.new) }
 {
-    if matches!(fault, StreamFault::Memory) {
-        tell_memory(err);
-        return;
+    match fault {
+        StreamFault::Refused(_) => tell_refusal(alloc, fault, err),
+        StreamFault::Read => tell("rdfconv: read failed\n", err),
+        StreamFault::Write => tell("rdfconv: write failed\n", err),
+        StreamFault::Memory => {
+            tell_memory(err);
+        }
     }
+}
+
+// Where memory for the text is refused, nothing is told.
+fn tell_refusal<E: Drain>(alloc: Global, fault: &StreamFault, err: &mut E)
+    requires { E.has_failed err.old ≡ false }
+    ensures { Tells (report_text fault.now) (E.contents err.old) (E.contents err.new) (E.has_failed err.new) ⊎ (E.contents err.new ≡ E.contents err.old) }
+{
     let mut text = Vec::new(alloc);
     if report(alloc, fault, &mut text).is_ok() {
         tell_bytes(text.as_slice(), err);
@@ -198,7 +209,8 @@ pub fn refuse_words<O: Drain, E: Drain>(
 ) -> u8
     requires out { O.has_failed out.old ≡ false }
     requires err { E.has_failed err.old ≡ false }
-    ensures { Refuses fault.now result (E.contents err.old) (E.contents err.new) (E.has_failed err.new) }
+    ensures status { Refuses fault.now result (E.contents err.old) (E.contents err.new) (E.has_failed err.new) }
+    ensures goes { GoesTo fault.now (O.contents out.old) (O.contents out.new) (E.contents err.old) (E.contents err.new) }
 {
     match fault {
         WordsFault::Usage(error) => {
