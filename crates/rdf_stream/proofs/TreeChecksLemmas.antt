@@ -49,7 +49,7 @@ module _ (job : Chosen) (known left left' : Option (List ℕ)) (source_failed : 
     pub on_piece : (source_failed' : Bool) (reader' : TrigRead) (room' : ℕ) (before after : NoQuads) → source_failed' ≡ false → 0 < room' → Feeds TakesNone reader before piece reader' after →
         IsChecking job known left' source_failed' reader' room'
     on_piece source_failed' reader' room' before after live has_room f = record {
-      form_stays = f.form ∙ i.form_stays;
+      form_stays = f.same.form ∙ i.form_stays;
       bytes = i.bytes ++ piece;
       quads = i.quads ++ f.more;
       consumed = all_consumed;

@@ -283,7 +283,7 @@ module _ {D A : Type 0} (contents : D → Option (List ℕ)) (failed : D → Boo
 
   module _ (piece : List ℕ) (reader' : TrigRead) (mid : LineOut D A) (f : Feeds (Takes contents failed) reader lines piece reader' mid) where
     form' : reader'.form ≡ job.form
-    form' = f.form ∙ o.form_stays
+    form' = f.same.form ∙ o.form_stays
 
     due' : Due (documents job.form job.start) (reading_of (in_trees job) (bytes ++ piece) false).tokens (o.quads ++ f.more)
     due' =

@@ -137,7 +137,8 @@ no_end_yet form start v s bytes us ts quads r more e =
 summary_same : {a b c d e g : ℕ} → a ≡ b → c ≡ d → e ≡ g → (let x : Summary = record { quads = a; tokens = c; bytes = e } in x) ≡ record { quads = b; tokens = d; bytes = g }
 summary_same p q r = cc
 
-module _ {S : Type 0} (takes : S → Quad → S → Type 0) (old new : TrigRead) (form : new.form ≡ old.form) (running : new.done ≡ false) (piece : List ℕ) (n : ℕ) (v : Unread)
+module _ {S : Type 0} (takes : S → Quad → S → Type 0) (old new : TrigRead) (form : new.form ≡ old.form) (limits : new.state.setting.scope.limits ≡ old.state.setting.scope.limits) (was : old.done ≡ false) (running : new.done ≡ false)
+    (piece : List ℕ) (n : ℕ) (v : Unread)
     (taken : TakesBytes old.scanner piece n v) (before after : S) (all : ReadsAll takes old.form (pushed old v n before) (stand_of new after)) where
   -- all tokens that come were accepted, and bytes may still come
   open_now : new.scanner.ended ≡ false
@@ -192,7 +193,13 @@ module _ {S : Type 0} (takes : S → Quad → S → Type 0) (old new : TrigRead)
       }
 
   pub feeds : Feeds takes old before (take n piece) new after
-  feeds = record { form = form; more = all.quads; puts = all.advances.puts; read = has_read }
+  feeds = record {
+    running = was;
+    same = record { form = form; limit = all.advances.same.limit ∙ taken.same.limit; limits = limits };
+    more = all.quads;
+    puts = all.advances.puts;
+    read = has_read;
+  }
 
   pub live : IsLive old → IsLive new
   live l = record {
@@ -246,9 +253,10 @@ bytes_fit old piece n v l t = ∥∥₁_elim l.read le_prop (λ x. fit x.0 x.1 x
 
 -- A piece is read in parts.
 module _ {S : Type 0} (takes : S → Quad → S → Type 0) where
-  pub feeds_none : (old : TrigRead) (sink : S) → Feeds takes old sink [] old sink
-  feeds_none old sink = record {
-    form = refl;
+  pub feeds_none : (old : TrigRead) (sink : S) → old.done ≡ false → Feeds takes old sink [] old sink
+  feeds_none old sink running = record {
+    running = running;
+    same = record { form = refl; limit = refl; limits = refl };
     more = [];
     puts = refl;
     read = λ start bytes quads h. subst (λ w. HasRead old start w (quads ++ [])) (sym (append-nil bytes)) (subst (HasRead old start bytes) (sym (append-nil quads)) h);
@@ -256,7 +264,8 @@ module _ {S : Type 0} (takes : S → Quad → S → Type 0) where
 
   pub feeds_both : (a b c : TrigRead) (front part : List ℕ) (x y z : S) → Feeds takes a x front b y → Feeds takes b y part c z → Feeds takes a x (front ++ part) c z
   feeds_both a b c front part x y z f g = record {
-    form = g.form ∙ f.form;
+    running = f.running;
+    same = record { form = g.same.form ∙ f.same.form; limit = g.same.limit ∙ f.same.limit; limits = g.same.limits ∙ f.same.limits };
     more = f.more ++ g.more;
     puts = appends_both takes f.more g.more x y z f.puts g.puts;
     read = λ start bytes quads h.
@@ -276,7 +285,7 @@ module _ {S : Type 0} (takes : S → Quad → S → Type 0) where
       puts = appends_attempts takes leaves fed.more l.more x y z fed.puts l.puts;
       due = λ start bytes quads h.
           let d = l.due start (bytes ++ front) (quads ++ fed.more) (fed.read start bytes quads h) in
-          subst (λ f. BeginsDueIn f start (piece_readings (front ++ rest) start bytes) (quads ++ (fed.more ++ l.more))) fed.form
+          subst (λ f. BeginsDueIn f start (piece_readings (front ++ rest) start bytes) (quads ++ (fed.more ++ l.more))) fed.same.form
           (subst (λ r. BeginsDueIn b.form start r (quads ++ (fed.more ++ l.more))) (later start bytes)
           (subst (BeginsDueIn b.form start (piece_readings rest start (bytes ++ front))) (append_assoc quads fed.more l.more) d));
     }
@@ -289,9 +298,9 @@ module _ {S : Type 0} (takes : S → Quad → S → Type 0) where
       refused = λ start bytes quads h.
           let d = l.refused start (bytes ++ front) (quads ++ fed.more) (fed.read start bytes quads h) in (
             d.0,
-            subst (λ f. RefusedIn f start (piece_readings (front ++ rest) start bytes) reason at d.0) fed.form
+            subst (λ f. RefusedIn f start (piece_readings (front ++ rest) start bytes) reason at d.0) fed.same.form
                 (subst (λ r. RefusedIn b.form start r reason at d.0) (later start bytes) d.1),
-            subst (λ f. Due (documents f start) d.0 (quads ++ (fed.more ++ l.more))) fed.form (subst (Due (documents b.form start) d.0) (append_assoc quads fed.more l.more) d.2),
+            subst (λ f. Due (documents f start) d.0 (quads ++ (fed.more ++ l.more))) fed.same.form (subst (Due (documents b.form start) d.0) (append_assoc quads fed.more l.more) d.2),
           );
     }
 

@@ -136,8 +136,9 @@ module _ {S : Type 0} (old : TrigRead) (v : Unread) (sink : S) (last : v ≡ rec
   finish_told takes leaves failed running reason at new after x = x
 
   -- all tokens were accepted
-  pub finishes : (takes : S → Quad → S → Type 0) (new : TrigRead) (after : S) → ReadsAll takes old.form last_stand (stand_of new after) → Finishes takes old sink new.so_far after
-  finishes takes new after all = record { more = all.quads; puts = all.advances.puts; read = sums }
+  pub finishes : (takes : S → Quad → S → Type 0) (running : old.done ≡ false) (new : TrigRead) (after : S) → ReadsAll takes old.form last_stand (stand_of new after) →
+      Finishes takes old sink new.so_far after
+  finishes takes running new after all = record { running = running; more = all.quads; puts = all.advances.puts; read = sums }
     where
       ended : IsEnded all.tokens × (new.scanner.stopped ≡ true)
       ended = ⊎_elim (λ d. absurd (let z : true ≡ false = sym ended_now ∙ (sym all.advances.ended ∙ d.more.more) in cc)) (λ e. e) all.rests
@@ -178,10 +179,10 @@ module _ {S : Type 0} (old : TrigRead) (v : Unread) (sink : S) (last : v ≡ rec
             taken = ap (λ s. s.bytes) all.advances.so_far ∙ ap (λ s. s.bytes) h.so_far;
           }
 
-  pub finish_ok : (takes leaves : S → Quad → S → Type 0) (failed : S → Bool) (new : TrigRead) (after : S) (r : Result Unit Fault) → ReadsTokens takes leaves failed old.form last_stand r (stand_of new after) →
-      OnOk r (Finishes takes old sink new.so_far after)
-  finish_ok takes leaves failed new after (Ok x) h = finishes takes new after h
-  finish_ok takes leaves failed new after (Err f) h = tt
+  pub finish_ok : (takes leaves : S → Quad → S → Type 0) (failed : S → Bool) (running : old.done ≡ false) (new : TrigRead) (after : S) (r : Result Unit Fault) →
+      ReadsTokens takes leaves failed old.form last_stand r (stand_of new after) → OnOk r (Finishes takes old sink new.so_far after)
+  finish_ok takes leaves failed running new after (Ok x) h = finishes takes running new after h
+  finish_ok takes leaves failed running new after (Err f) h = tt
 
   pub finish_err : (takes leaves : S → Quad → S → Type 0) (failed : S → Bool) (running : old.done ≡ false) (new : TrigRead) (after : S) (r : Result Unit Fault) →
       ReadsTokens takes leaves failed old.form last_stand r (stand_of new after) → IfErr r (λ f. FinishFails takes leaves failed f.reason (place_of f) old sink new after)

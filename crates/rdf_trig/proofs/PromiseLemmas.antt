@@ -82,7 +82,7 @@ module _ {S : Type 0} (takes leaves : S → Quad → S → Type 0) (failed : S �
     pub feed_goes_on : Feeds takes old before piece new after → GoesOn old.form start (bytes ++ piece)
     feed_goes_on f =
         let now = bytes ++ piece in
-        subst (λ x. GoesOn x start now) f.form (read_goes_on new start now (quads ++ f.more) (f.read start bytes quads h))
+        subst (λ x. GoesOn x start now) f.same.form (read_goes_on new start now (quads ++ f.more) (f.read start bytes quads h))
 
     pub feed_denies : (reason : Reason) (at : Place) → FeedFails takes leaves failed reason at old before piece new after → Denies reason (GoesOn old.form start (bytes ++ piece))
     feed_denies Memory at x = tt

@@ -39,10 +39,10 @@ module _ (leaves : List Quad → Quad → List Quad → Type 0) (old : TrigRead)
     not_finished Sink at new after x = absurd (let z : false ≡ true = x.1 in cc)
     not_finished reason at new after x =
         let r = x.refused start bytes fed.more (fed.read start [] [] h) in
-        (r.0, subst (λ f. RefusedIn f start (reading start bytes true) reason at r.0) fed.form r.1)
+        (r.0, subst (λ f. RefusedIn f start (reading start bytes true) reason at r.0) fed.same.form r.1)
 
     pub whole_read : (summary : Summary) (three : List Quad) → Finishes Puts mid two summary three → IsDocumentOf old.form start bytes three × IsWhole old.form start bytes
     whole_read summary three f =
         let s = f.read start bytes fed.more (fed.read start [] [] h) in
         let quads : three ≡ fed.more ++ f.more = put_all two f.more three f.puts ∙ ap (λ x. x ++ f.more) (put_all one fed.more two fed.puts ∙ ap (λ x. x ++ fed.more) empty) in
-        (subst (IsDocumentOf old.form start bytes) (sym quads) (subst (λ x. IsDocumentOf x start bytes (fed.more ++ f.more)) fed.form s.document), subst (λ x. IsWhole x start bytes) fed.form s.whole)
+        (subst (IsDocumentOf old.form start bytes) (sym quads) (subst (λ x. IsDocumentOf x start bytes (fed.more ++ f.more)) fed.same.form s.document), subst (λ x. IsWhole x start bytes) fed.same.form s.whole)

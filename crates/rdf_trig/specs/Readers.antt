@@ -64,9 +64,16 @@ pub record HasRead (reader : TrigRead) (start : InForce) (bytes : List ℕ) (qua
   pub runs : RunsTo reader.form start (reading start bytes false).tokens quads reader.state
   pub so_far : reader.so_far ≡ record { quads = length quads; tokens = length (reading start bytes false).tokens; bytes = length bytes }
 
+-- the form and the limits stay
+pub record SameReader (old new : TrigRead) : Type 0 where
+  pub form : new.form ≡ old.form
+  pub limit : new.scanner.limit ≡ old.scanner.limit
+  pub limits : new.state.setting.scope.limits ≡ old.state.setting.scope.limits
+
 -- All tokens that the piece decides were accepted, and the quads that they determine were put.
 pub record Feeds {S : Type 0} (takes : S → Quad → S → Type 0) (old : TrigRead) (before : S) (piece : List ℕ) (new : TrigRead) (after : S) : Type 0 where
-  pub form : new.form ≡ old.form
+  pub running : old.done ≡ false
+  pub same : SameReader old new
   pub more : List Quad
   pub puts : Appends takes before more after
   pub read : (start : InForce) (bytes : List ℕ) (quads : List Quad) → HasRead old start bytes quads → HasRead new start (bytes ++ piece) (quads ++ more)
@@ -81,6 +88,7 @@ pub record Sums (form : DocForm) (start : InForce) (bytes : List ℕ) (quads : L
 
 -- All tokens were accepted up to the end, and their quads put.
 pub record Finishes {S : Type 0} (takes : S → Quad → S → Type 0) (old : TrigRead) (before : S) (summary : Summary) (after : S) : Type 0 where
+  pub running : old.done ≡ false
   pub more : List Quad
   pub puts : Appends takes before more after
   pub read : (start : InForce) (bytes : List ℕ) (quads : List Quad) → HasRead old start bytes quads → Sums old.form start bytes (quads ++ more) summary

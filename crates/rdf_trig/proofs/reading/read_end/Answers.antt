@@ -24,7 +24,7 @@ returns-clause-ok g c =
     let new = trig_read c.read_tokens.new.scanner c.args.rules.now c.read_tokens.new.progress in
     let open_before = c.requires.reader.more in
     let last : c.end.new.self ≡ record c.args.scanner.now { ended = true } = c.end.ensures.after ∙ cond-false _ _ _ open_before.running in
-    finish_ok old c.end.new.self c.args.sink.now last c.end.ensures.read open_before g.S.QuadSink.takes g.S.QuadSink.leaves g.S.QuadSink.has_failed new c.read_tokens.new.sink c.read_tokens.result
+    finish_ok old c.end.new.self c.args.sink.now last c.end.ensures.read open_before g.S.QuadSink.takes g.S.QuadSink.leaves g.S.QuadSink.has_failed refl new c.read_tokens.new.sink c.read_tokens.result
     c.read_tokens.ensures.reads
 
 pub returns-clause-err : goal.returns-clause-err

@@ -1,4 +1,4 @@
-use Rattle.std.proofs.Common.{◌∙◌, arith, refl}
+use Rattle.std.proofs.Common.{◌∙◌, arith, refl, sym}
 use Rattle.rdf_trig.specs.Readers.{place_of, piece_readings}
 use Rattle.rdf_trig.specs.Read.{trig_read}
 use Rattle.rdf_trig.proofs.FailsLemmas.{told}
@@ -31,13 +31,15 @@ pub returns-in-Ok-read_tokens-clause-ok : goal.returns-in-Ok-read_tokens-clause-
 returns-in-Ok-read_tokens-clause-ok g c =
     let old = trig_read c.args.scanner.now c.args.rules.now c.args.progress.now in
     let new = trig_read c.read_tokens.new.scanner c.args.rules.now c.read_tokens.new.progress in
-    feeds g.S.QuadSink.takes old new refl refl c.args.piece.now c.in-Ok.taken c.push.new.self c.in-Ok.ensures c.args.sink.now c.read_tokens.new.sink c.in-Ok-read_tokens.ensures.reads
+    let limits = c.in-Ok-read_tokens.ensures.fit.scope ∙ sym c.requires.fit.scope in
+    feeds g.S.QuadSink.takes old new refl limits refl refl c.args.piece.now c.in-Ok.taken c.push.new.self c.in-Ok.ensures c.args.sink.now c.read_tokens.new.sink c.in-Ok-read_tokens.ensures.reads
 
 pub returns-in-Ok-read_tokens-clause-reader : goal.returns-in-Ok-read_tokens-clause-reader
 returns-in-Ok-read_tokens-clause-reader g c =
     let old = trig_read c.args.scanner.now c.args.rules.now c.args.progress.now in
     let new = trig_read c.read_tokens.new.scanner c.args.rules.now c.read_tokens.new.progress in
-    live g.S.QuadSink.takes old new refl refl c.args.piece.now c.in-Ok.taken c.push.new.self c.in-Ok.ensures c.args.sink.now c.read_tokens.new.sink c.in-Ok-read_tokens.ensures.reads
+    let limits = c.in-Ok-read_tokens.ensures.fit.scope ∙ sym c.requires.fit.scope in
+    live g.S.QuadSink.takes old new refl limits refl refl c.args.piece.now c.in-Ok.taken c.push.new.self c.in-Ok.ensures c.args.sink.now c.read_tokens.new.sink c.in-Ok-read_tokens.ensures.reads
     c.requires.reader
 
 pub returns-in-Err-read_tokens-clause-err : goal.returns-in-Err-read_tokens-clause-err

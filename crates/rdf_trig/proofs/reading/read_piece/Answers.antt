@@ -6,7 +6,7 @@ use Rattle.rdf_trig.proofs.reading.read_piece.Goals as goal
 
 pub parts-init : goal.parts-init
 parts-init g c = record {
-  fed = ([], refl, feeds_none g.S.QuadSink.takes (trig_read c.args.scanner.now c.args.rules.now c.args.progress.now) c.args.sink.now);
+  fed = ([], refl, feeds_none g.S.QuadSink.takes (trig_read c.args.scanner.now c.args.rules.now c.args.progress.now) c.args.sink.now refl);
   reader = c.requires.reader;
   fit = c.requires.fit;
   live = c.requires.live;
