@@ -30,6 +30,8 @@ pub mod FeedsLemmas
 pub mod FinishLemmas
 pub mod NewLemmas
 pub mod PromiseLemmas
+pub mod ReadersLemmas
+pub mod ReadExamples
 pub mod Stack
 pub mod SpelledLemmas
 pub mod Fallbacks

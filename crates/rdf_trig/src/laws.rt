@@ -1,6 +1,6 @@
 //! The laws of Turtle and TriG. These functions do nothing: their contracts are the laws.
 
-ghost use Rattle.rdf_trig.specs.Laws.{EventsTellTheTree, MarksNeverFall, TokensSettleTheQuads, TokensSettleWhatIsDue, DueBeginsTheQuads, TokensSettleTheirSenses, ViableIsShapedAndBound, BeginningsAreCompleted, NamelessIsUnbound, DirectivesBind, DocumentsAreAccepted, AcceptedIsADocument, AcceptedBeginsADocument, RefusedForItsReason};
+ghost use Rattle.rdf_trig.specs.Laws.{EventsTellTheTree, MarksNeverFall, TokensSettleTheQuads, TokensSettleWhatIsDue, DueBeginsTheQuads, TokensSettleTheirSenses, ViableIsShapedAndBound, BeginningsAreCompleted, NamelessIsUnbound, DirectivesBind, DocumentsAreAccepted, AcceptedIsADocument, AcceptedBeginsADocument, RefusedForItsReason, ReadQuadsAreDue, DocumentsAreRead, RefusedIsNoDocument};
 
 /// The events of a tree, from left to right, have the tokens that it derives, and its quads with their marks.
 pub fn events_tell_the_tree()
@@ -70,4 +70,19 @@ pub fn accepted_begins_a_document()
 /// Each token that the machine refuses is refused for its reason, and what stands before it is the longest front.
 pub fn refused_for_its_reason()
     ensures { RefusedForItsReason }
+{}
+
+/// What a reader has read begins a document within the limits, and the quads that were put are those that are due.
+pub fn read_quads_are_due()
+    ensures { ReadQuadsAreDue }
+{}
+
+/// A document within the limits is read to its end, and nothing that begins it is refused.
+pub fn documents_are_read()
+    ensures { DocumentsAreRead }
+{}
+
+/// What is refused is no document within the limits.
+pub fn refused_is_no_document()
+    ensures { RefusedIsNoDocument }
 {}

@@ -1,0 +1,5 @@
+use Rattle.rdf_trig.proofs.ReadersLemmas.{documents_read}
+use Rattle.rdf_trig.proofs.laws.documents_are_read.Goals as goal
+
+pub returns : goal.returns
+returns c = documents_read
