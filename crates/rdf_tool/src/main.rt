@@ -1,4 +1,4 @@
-//! The program `rdfconv`: it converts a document of N-Triples or N-Quads to lines of N-Quads.
+//! The program `rdfconv`: it reads a document of N-Triples, N-Quads, Turtle or TriG, and writes N-Quads.
 #![tactic(auto)]
 
 mod commands;

@@ -21,11 +21,13 @@ const PROGRAM_NOTES: &str = "\
 Options of a command, which reads FILE or standard input:
   --format FORMAT  nt (N-Triples), nq (N-Quads), ttl (Turtle) or trig (TriG) [default: trig];
                    it is not guessed from the file's name
-  --base IRI       base of relative references, at most --iri bytes; line formats have none
+  --base IRI       absolute IRI that relative references start from, at most --iri bytes;
+                   without one they are refused; line formats have none
   --token N        characters of one token, 1 to 268435456 [default: 16777216]
   --depth N        brackets and parentheses open at one time, 0 to 1048576 [default: 1024]
   --bindings N     prefixes bound at one time, 0 to 16777216 [default: 65536]
   --iri N          bytes of one IRI, 1 to 268435456 [default: 1048576]
+Past one of the limits N a document is refused.
 
 Exit status:
   0  accepted, or help was asked for
@@ -124,7 +126,7 @@ fn format_option<'a>(alloc: Global, formats: &'a [&'a str]) -> Arg<'a>
         .long("format")
         .action(ArgAction::Set)
         .value_name("FORMAT")
-        .help("Format of the document: N-Triples, N-Quads, Turtle or TriG")
+        .help("Format of the document: nt N-Triples, nq N-Quads, ttl Turtle, trig TriG")
         .value_parser(formats)
         .default_value("trig")
 }
@@ -137,7 +139,9 @@ fn base_option<'a>(alloc: Global) -> Arg<'a>
         .long("base")
         .action(ArgAction::Set)
         .value_name("IRI")
-        .help("Base of relative references, at most --iri bytes; line formats have none")
+        .help(
+            "Absolute IRI that relative references start from, at most --iri bytes; line formats have none",
+        )
 }
 
 fn limit_option<'a>(
