@@ -3,7 +3,7 @@ use Rattle.std.specs.Str.{chars}
 use Rattle.std.proofs.lemmas.Bool.{leb-true}
 use Rattle.rdf_iri.proofs.ResolvedText.{byte_len-chars}
 use Rattle.rdf_trig.proofs.AcceptLemmas.{bytes_at_least}
-use Rattle.rdf_trig.proofs.tests.is_short.Goals as goal
+use Rattle.rdf_trig.proofs.tests.steps.is_short.Goals as goal
 
 pub returns : goal.returns
 returns c h =

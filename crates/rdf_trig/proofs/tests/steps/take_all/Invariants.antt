@@ -1,7 +1,7 @@
 use Rattle.std.proofs.Common.{◌≡◌}
 use Rattle.rdf_terms.specs.declared.kind.Dialect.TheVariants.{Turtle}
 use Rattle.rdf_trig.specs.Steps.{Keeps}
-use Rattle.rdf_trig.proofs.tests.take_all.Given as goal
+use Rattle.rdf_trig.proofs.tests.steps.take_all.Given as goal
 
 abbrev pub invariant-tokens : goal.invariant-tokens
 invariant-tokens l = record {

@@ -1,4 +1,4 @@
-use Rattle.rdf_trig.proofs.tests.read.Goals as goal
+use Rattle.rdf_trig.proofs.tests.steps.read.Goals as goal
 
 pub take_all-requires-clause-keeps : goal.take_all-requires-clause-keeps
 take_all-requires-clause-keeps c = c.new-state.ensures.keeps c.args.form c.args.limits

@@ -1,0 +1,65 @@
+// What keeps the quads of a test.
+
+ghost use Rattle.std.specs.Prelude.{◌≡◌, ◌++◌, false, encode_utf8_all};
+ghost use Rattle.rdf_lines.specs.declared.form.Style.TheVariants.{Tagged};
+ghost use Rattle.rdf_lines.specs.Writing.{line};
+
+use rdf_lines::{LabelFault, Style, write_line};
+use rdf_terms::{PutFault, QuadList, QuadRef, QuadSink};
+use std::alloc::Global;
+
+/// Counts the quads that are put and keeps their lines, and fails where there is no room for one more.
+#[derive(Drop)]
+pub struct RecordingSink {
+    pub lines: Vec<u8>,
+    pub quads: u64,
+    pub room: u64,
+    pub failed: bool,
+}
+
+impl QuadSink for RecordingSink {
+    ghost takes = { λ before quad after. after.lines.items ≡ before.lines.items ++ encode_utf8_all (line Tagged quad) };
+
+    ghost leaves = { λ before quad after. after.lines.items ≡ before.lines.items };
+
+    ghost has_failed = { λ sink. sink.failed };
+
+    fn put(&mut self, quad: QuadRef<'_>) -> Result<(), PutFault> {
+        if self.quads >= self.room {
+            self.failed = true;
+            return Err(PutFault::Device);
+        }
+        self.quads += 1;
+        match write_line(quad, Style::Tagged, &mut self.lines) {
+            Ok(()) => Ok(()),
+            Err(_) => Err(PutFault::Memory),
+        }
+    }
+
+    fn failed(&self) -> bool {
+        self.failed
+    }
+}
+
+/// A sink that has taken nothing, with room for some quads.
+pub fn recording_sink(alloc: Global, room: u64) -> RecordingSink
+    ensures { result.failed ≡ false }
+{
+    RecordingSink {
+        lines: Vec::new(alloc),
+        quads: 0,
+        room,
+        failed: false,
+    }
+}
+
+/// The lines of the quads of a list.
+pub fn lines_of(alloc: Global, list: &QuadList) -> Result<Vec<u8>, LabelFault> {
+    let mut out = Vec::new(alloc);
+    for i in 0..list.len() {
+        if let Some(quad) = list.get(i) {
+            write_line(quad, Style::Tagged, &mut out)?;
+        }
+    }
+    Ok(out)
+}

@@ -1,0 +1,133 @@
+// Brackets and prefixes in their tens of thousands, piece by piece.
+
+ghost use Rattle.std.specs.Prelude.{◌≤◌, false};
+
+use crate::form::DocForm;
+use crate::reader::{Options, TrigReader};
+use rdf_iri::Limits;
+use rdf_lines::{Fault, Summary};
+use rdf_terms::{PutFault, QuadRef, QuadSink, Reason};
+use std::alloc::Global;
+use std::test::Fail;
+
+/// Counts the quads that are put.
+#[derive(Clone, Copy)]
+struct CountingSink {
+    quads: u64,
+}
+
+impl QuadSink for CountingSink {
+    ghost takes = { λ before _ after. before.quads ≤ after.quads };
+
+    ghost leaves = { λ before _ after. before.quads ≤ after.quads };
+
+    ghost has_failed = { λ _. false };
+
+    fn put(&mut self, _: QuadRef<'_>) -> Result<(), PutFault> {
+        self.quads = self.quads.saturating_add(1);
+        Ok(())
+    }
+
+    fn failed(&self) -> bool {
+        false
+    }
+}
+
+/// A reader of TriG in which so many brackets may be open.
+fn reader(alloc: Global, depth: u64) -> Option<TrigReader> {
+    let limits = Limits::new(100, depth, 65536, 100)?;
+    let options = Options::new(DocForm::TriG, None, limits)?;
+    Some(TrigReader::new(alloc, options))
+}
+
+fn feed_often(
+    reader: &mut TrigReader,
+    piece: &str,
+    times: u32,
+    sink: &mut CountingSink,
+) -> Result<(), Fault> {
+    for _ in 0..times {
+        reader.feed(piece.as_bytes(), sink)?;
+    }
+    Ok(())
+}
+
+/// Reads a document of pieces, each of which comes some times over.
+fn read_pieces(
+    reader: &mut TrigReader,
+    pieces: &[(&str, u32)],
+    sink: &mut CountingSink,
+) -> Result<Summary, Fault> {
+    for (piece, times) in pieces {
+        feed_often(reader, piece, *times, sink)?;
+    }
+    reader.finish(sink)
+}
+
+/// Binds prefixes from `p0` on.
+fn bind_prefixes(
+    alloc: Global,
+    reader: &mut TrigReader,
+    count: u32,
+    sink: &mut CountingSink,
+) -> Result<(), Fail> {
+    for number in 0..count {
+        let directive = format!(in alloc; "PREFIX p{number}: <http://p/{number}/> ")?;
+        reader.feed(directive.as_bytes(), sink)?;
+    }
+    Ok(())
+}
+
+const STATEMENT: &str = "<http://a/s> <http://a/p> ";
+
+#[test]
+fn brackets_nest_as_deep_as_the_limit_says(rt: HostRuntime) {
+    let lists = [
+        (STATEMENT, 1),
+        ("((((((((((", 10000),
+        ("))))))))))", 10000),
+        (" .", 1),
+    ];
+    let nodes = [
+        (STATEMENT, 1),
+        ("[ <http://a/q> (", 50000),
+        (")]", 50000),
+        (" .", 1),
+    ];
+    for (depth, pieces, quads, refused) in [
+        (100000, lists.as_slice(), 199999, None),
+        (100000, nodes.as_slice(), 149999, None),
+        (
+            99999,
+            lists.as_slice(),
+            99998,
+            Some((Reason::TooDeep, 100025)),
+        ),
+    ] {
+        let mut reader = reader(rt.alloc(), depth).expect(&rt, "a reader");
+        let mut sink = CountingSink { quads: 0 };
+        match read_pieces(&mut reader, pieces, &mut sink) {
+            Ok(summary) => {
+                assert_eq!(rt; summary.quads, quads);
+                assert!(rt; refused.is_none());
+            }
+            Err(fault) => assert_eq!(rt; Some((fault.reason, fault.offset)), refused),
+        }
+        assert_eq!(rt; sink.quads, quads);
+    }
+}
+
+#[test]
+fn a_prefix_more_than_the_limit_is_refused(rt: HostRuntime) -> Result<(), Fail> {
+    let mut reader = reader(rt.alloc(), 0).expect(&rt, "a reader");
+    let mut sink = CountingSink { quads: 0 };
+    bind_prefixes(rt.alloc(), &mut reader, 65536, &mut sink)?;
+    let rebound = b"PREFIX p0: <http://q/> p0:s p1:p p65535:o . ";
+    assert_eq!(rt; reader.feed(rebound, &mut sink), Ok(()));
+    assert_eq!(rt; sink.quads, 1);
+    match reader.feed(b"PREFIX q: <http://q/> ", &mut sink) {
+        Ok(()) => assert!(rt; false),
+        Err(fault) => assert_eq!(rt; fault.reason, Reason::TooManyBindings),
+    }
+    Ok(())
+}
