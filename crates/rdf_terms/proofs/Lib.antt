@@ -12,3 +12,4 @@ pub mod ViewLemmas
 pub mod LocalLemmas
 pub mod SinksLemmas
 mod IriBytes
+mod RunsLemmas

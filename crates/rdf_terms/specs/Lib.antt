@@ -10,3 +10,4 @@ pub mod Escapes
 pub mod Known
 pub mod Names
 pub mod Local
+pub mod Runs

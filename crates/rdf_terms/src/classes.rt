@@ -9,6 +9,7 @@ ghost use Rattle.rdf_terms.specs.Terms.{has_scheme, scheme_goes_on, all_have};
 ghost use Rattle.rdf_terms.specs.Values.{hex_value};
 
 use crate::Dialect;
+use crate::runs::{Run, is_run};
 use std::str::Chars;
 
 /// PN_CHARS_BASE (Turtle 6.5)
@@ -98,12 +99,7 @@ pub fn hex_value(c: char) -> Option<u8>
 pub fn iri_text(text: &str) -> bool
     ensures { result ≡ all_have (has iri_char) (chars text.now) }
 {
-    for byte in text.as_bytes() {
-        if !is_iri_byte(*byte) {
-            return false;
-        }
-    }
-    true
+    is_run(Run::Iri, text.as_bytes())
 }
 
 /// The bytes that the characters of an IRIREF have: what it excludes is ASCII.
@@ -127,7 +123,7 @@ static IRI_BYTES: [bool; 256] = [
     true, true, true, true, true, true, true, true, true, true, true,
 ];
 
-fn is_iri_byte(byte: u8) -> bool
+pub(crate) fn is_iri_byte(byte: u8) -> bool
     ensures { result ≡ iri_byte byte }
 {
     IRI_BYTES[byte as usize]

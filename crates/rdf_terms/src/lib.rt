@@ -11,6 +11,7 @@ mod labels;
 mod list;
 mod local;
 mod reason;
+pub mod runs;
 mod sink;
 mod spelled;
 mod tags;

@@ -1,0 +1,35 @@
+-- Runs of bytes that a text has as they are.
+use Rattle.std.specs.Prelude.{◌≡◌, ℕ, ◌+◌, ◌<◌, ◌≤◌, Bool, true, false, not, ◌||◌, ◌==◌, List, [], ◌∷◌, length, get_or}
+use Rattle.rdf_terms.specs.Classes.{iri_byte, is_digit, is_letter, one_of}
+use Rattle.rdf_terms.specs.declared.runs.Run.{Run}
+use Rattle.rdf_terms.specs.declared.runs.Run.TheVariants.{Iri, Text, Name}
+
+-- no quote, backslash or line break
+abbrev pub is_text_byte : ℕ → Bool
+is_text_byte b = not (one_of (34 ∷ 39 ∷ 92 ∷ 10 ∷ 13 ∷ []) b)
+
+abbrev pub is_name_byte : ℕ → Bool
+is_name_byte b = is_letter b || is_digit b || b == 95 || b == 45
+
+-- the bytes that a run goes over
+abbrev pub passes : Run → ℕ → Bool
+passes Iri b = iri_byte b
+passes Text b = is_text_byte b
+passes Name b = is_name_byte b
+
+-- the bytes between two places pass
+abbrev pub PassBetween : (ℕ → Bool) → List ℕ → ℕ → ℕ → Type 0
+PassBetween p bs at end = (k : ℕ) → at ≤ k → k < end → p (get_or bs k 0) ≡ true
+
+-- the longest run from a place on ends there
+pub record IsRun (p : ℕ → Bool) (bs : List ℕ) (at end : ℕ) : Type 0 where
+  pub from : at ≤ end
+  pub within : end ≤ length bs
+  pub pass : PassBetween p bs at end
+  pub stops : end < length bs → p (get_or bs end 0) ≡ false
+
+-- of n bytes from a place on, so many come before the first that does not pass
+pub record IsRunIn (p : ℕ → Bool) (bs : List ℕ) (at n count : ℕ) : Type 0 where
+  pub few : count ≤ n
+  pub pass : PassBetween p bs at (at + count)
+  pub stops : count < n → p (get_or bs (at + count) 0) ≡ false

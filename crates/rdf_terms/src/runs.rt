@@ -1,0 +1,143 @@
+// Runs of bytes that a text has as they are, seen sixteen at a time.
+
+ghost use Rattle.std.specs.Prelude.{◌≡◌, ◌+◌, ◌≤◌, length, map, not};
+ghost use Rattle.std.specs.Simd.Lanes.{mask_l};
+ghost use Rattle.rdf_terms.specs.Runs.{passes, is_name_byte, is_text_byte, IsRun, IsRunIn};
+ghost use Rattle.rdf_terms.specs.Classes.{iri_byte};
+ghost use Rattle.rdf_terms.specs.Terms.{all_have};
+
+use crate::classes::is_iri_byte;
+use std::simd::prelude::*;
+
+/// The number of bytes that are seen at a time.
+const LANES: usize = 16;
+
+/// What a run goes over.
+#[derive(Clone, Copy)]
+pub enum Run {
+    /// What an IRI has as it is.
+    Iri,
+    /// What a string has as it is, in whichever quotes it stands.
+    Text,
+    /// Letters, digits, `_` and `-`, in ASCII.
+    Name,
+}
+
+/// The place of the first byte from a place on that the run does not go over, or the length.
+#[inline(always)]
+pub fn run_end(run: Run, bytes: &[u8], from: usize) -> usize
+    requires { from ≤ length bytes.now }
+    ensures { IsRun (passes run) bytes.now from result }
+{
+    let mut at = from;
+    while bytes.len() - at >= LANES {
+        let passed = passed_lanes(run, bytes, at);
+        at += passed;
+        if passed < LANES {
+            return at;
+        }
+    }
+    short_run_end(run, bytes, at)
+}
+
+/// The same byte by byte.
+#[inline(always)]
+fn short_run_end(run: Run, bytes: &[u8], from: usize) -> usize
+    requires { from ≤ length bytes.now }
+    ensures { IsRun (passes run) bytes.now from result }
+{
+    let mut at = from;
+    while at < bytes.len() && is_passed(run, bytes[at]) {
+        at += 1;
+    }
+    at
+}
+
+#[inline(always)]
+fn is_passed(run: Run, byte: u8) -> bool
+    ensures { result ≡ passes run byte }
+{
+    match run {
+        Run::Iri => is_iri_byte(byte),
+        Run::Text => !matches!(byte, b'"' | b'\'' | b'\\' | b'\n' | b'\r'),
+        Run::Name => matches!(byte, b'A'..=b'Z' | b'a'..=b'z' | b'0'..=b'9' | b'_' | b'-'),
+    }
+}
+
+/// How many of the sixteen bytes come before the first that the run does not go over.
+#[inline(always)]
+fn passed_lanes(run: Run, bytes: &[u8], at: usize) -> usize
+    requires { at + 16 ≤ length bytes.now }
+    ensures { IsRunIn (passes run) bytes.now at 16 result }
+{
+    let hits = stops(run, u8x16::from_slice(&bytes[at..]));
+    if hits == 0 {
+        LANES
+    } else {
+        hits.trailing_zeros() as usize
+    }
+}
+
+/// Bit k says that the run does not go over lane k.
+#[inline(always)]
+fn stops(run: Run, v: u8x16) -> u64
+    ensures { result ≡ mask_l (map (λ b. not (passes run b)) v) }
+{
+    match run {
+        Run::Iri => iri_stops(v),
+        Run::Text => text_stops(v),
+        Run::Name => name_stops(v),
+    }
+}
+
+#[inline(always)]
+fn iri_stops(v: u8x16) -> u64
+    ensures { result ≡ mask_l (map (λ b. not (iri_byte b)) v) }
+{
+    let blanks = v.simd_lt(u8x16::splat(b'!')) | v.simd_eq(u8x16::splat(b'"'));
+    let angles = v.simd_eq(u8x16::splat(b'<')) | v.simd_eq(u8x16::splat(b'>'));
+    let braces = (v - u8x16::splat(b'{')).simd_lt(u8x16::splat(3));
+    let slants = v.simd_eq(u8x16::splat(b'\\')) | v.simd_eq(u8x16::splat(b'`'));
+    let others = slants | v.simd_eq(u8x16::splat(b'^'));
+    ((blanks | angles) | (braces | others)).to_bitmask()
+}
+
+#[inline(always)]
+fn text_stops(v: u8x16) -> u64
+    ensures { result ≡ mask_l (map (λ b. not (is_text_byte b)) v) }
+{
+    let quotes = v.simd_eq(u8x16::splat(b'"')) | v.simd_eq(u8x16::splat(b'\''));
+    let breaks = v.simd_eq(u8x16::splat(b'\n')) | v.simd_eq(u8x16::splat(b'\r'));
+    ((quotes | breaks) | v.simd_eq(u8x16::splat(b'\\'))).to_bitmask()
+}
+
+#[inline(always)]
+fn name_stops(v: u8x16) -> u64
+    ensures { result ≡ mask_l (map (λ b. not (is_name_byte b)) v) }
+{
+    let from_a = (v | u8x16::splat(0x20)) - u8x16::splat(b'a');
+    let from_0 = v - u8x16::splat(b'0');
+    let no_letter = from_a.simd_ge(u8x16::splat(26));
+    let no_digit = from_0.simd_ge(u8x16::splat(10));
+    let no_line = v.simd_ne(u8x16::splat(b'_')) & v.simd_ne(u8x16::splat(b'-'));
+    ((no_letter & no_digit) & no_line).to_bitmask()
+}
+
+/// Whether the run goes over all of the bytes. The last load overlaps the one before it.
+#[inline(always)]
+pub fn is_run(run: Run, bytes: &[u8]) -> bool
+    ensures { result ≡ all_have (passes run) bytes.now }
+{
+    if bytes.len() < LANES {
+        return short_run_end(run, bytes, 0) == bytes.len();
+    }
+    let last = bytes.len() - LANES;
+    let mut at = 0;
+    while at < last {
+        if passed_lanes(run, bytes, at) < LANES {
+            return false;
+        }
+        at += LANES;
+    }
+    passed_lanes(run, bytes, last) == LANES
+}
