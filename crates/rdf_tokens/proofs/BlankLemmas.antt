@@ -133,10 +133,10 @@ high_step Turtle true x l = grind (arith, nat_tests)
 high_step Lines false x l = grind (arith, nat_tests)
 high_step Turtle false x l = grind (arith, nat_tests)
 
-abbrev IsHigh : List ℕ → Type 0
+abbrev pub IsHigh : List ℕ → Type 0
 IsHigh v = (k : ℕ) → k < length v → 128 ≤ get_or v k 0
 
-high-encode : (c : ℕ) → 128 ≤ c → IsHigh (encode_utf8 c)
+pub high-encode : (c : ℕ) → 128 ≤ c → IsHigh (encode_utf8 c)
 high-encode c l k h = ⊎_elim
     (λ m. let e : c ≡ get_or (encode_utf8 c) k 0 = inside_one c [] (encode_utf8 c) k (sym (append-nil (encode_utf8 c))) h m in absurd (omega arith))
     (λ m. m)

@@ -34,3 +34,5 @@ pub mod Inside
 pub mod LawLemmas
 pub mod LawExamples
 pub mod LimitLemmas
+mod RestLemmas
+mod RestStates

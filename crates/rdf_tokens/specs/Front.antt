@@ -1,5 +1,5 @@
 -- Fronts of a text: the longest that is a token, by characters and by bytes.
-use Rattle.std.specs.Prelude.{ℕ, zero, suc, Bool, true, false, cond, ◌&&◌, ◌≡◌, ◌≤◌, nat_lt, List, [], ◌∷◌, ◌++◌, length, take, drop, encode_utf8, encode_utf8_all, Option, Some, None}
+use Rattle.std.specs.Prelude.{ℕ, zero, suc, Bool, true, false, cond, ◌&&◌, ◌≡◌, ◌<◌, ◌≤◌, nat_lt, get_or, List, [], ◌∷◌, ◌++◌, length, take, drop, encode_utf8, encode_utf8_all, Option, Some, None}
 use Rattle.std.specs.Char.{len_utf8}
 use Rattle.rdf_terms.specs.declared.kind.Dialect.{Dialect}
 use Rattle.rdf_terms.specs.declared.kind.Kind.{Kind}
@@ -55,3 +55,11 @@ pub record Begun (d : Dialect) (bs : List ℕ) (at : ℕ) (s : State) : Type 0 w
   pub past : at ≡ len_utf8 first
   pub fits : at ≤ length bs
   pub state : s ≡ step d Start first
+
+-- The bytes between two places leave a state as it is: whichever character begins with one of them, the state behind it is the same.
+-- The characters there are whole.
+pub record Rests (s : State) (bs : List ℕ) (at end : ℕ) : Type 0 where
+  pub from : at ≤ end
+  pub within : end ≤ length bs
+  pub stays : (d : Dialect) (k c : ℕ) → at ≤ k → k < end → get_or (encode_utf8 c) 0 0 ≡ get_or bs k 0 → step d s c ≡ s
+  pub whole : (k : ℕ) → at ≤ k → k < end → 128 ≤ get_or bs k 0 → end < length bs → get_or bs end 0 < 128

@@ -94,7 +94,7 @@ fn front_from<S: Shape>(dialect: Dialect, text: &str, first: usize, begun: S) ->
     while at < text.len() && state.goes_on(dialect) {
         let (c, next) = char_at(text, at);
         state = state.after_char(dialect, c);
-        at = next;
+        at = state.rest_end(text, next);
         if let Some(longer) = only_long_string(three, state.whole_kind()) {
             len = at;
             kind = Some(longer);

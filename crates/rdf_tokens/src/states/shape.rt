@@ -1,6 +1,7 @@
 // What a loop over the characters of a token asks of its states.
 
-ghost use Rattle.std.specs.Prelude.{◌≡◌};
+ghost use Rattle.std.specs.Prelude.{◌≡◌, ◌≤◌, length};
+ghost use Rattle.rdf_tokens.specs.Front.{Rests};
 ghost use Rattle.rdf_tokens.specs.Machine.{step, kind_at, goes_on};
 ghost use Rattle.rdf_tokens.specs.declared.states.machine.State.{State};
 ghost use Rattle.rdf_tokens.specs.declared.states.machine.State.TheVariants as state;
@@ -12,6 +13,7 @@ use crate::states::name::Name;
 use crate::states::number::Number;
 use crate::states::tag::Tag;
 use crate::states::text::Text;
+use rdf_terms::runs::{Run, run_end};
 use rdf_terms::{Dialect, Kind};
 
 /// The states of one family, or of all.
@@ -30,6 +32,11 @@ pub(crate) trait Shape: Copy {
     /// Whether something longer begins so.
     fn goes_on(self, dialect: Dialect) -> bool
         ensures { result ≡ goes_on dialect (whole self) };
+
+    /// The place behind the bytes from a place on that leave the state as it is, as far as they are looked for.
+    fn rest_end(self, text: &str, from: usize) -> usize
+        requires { from ≤ length text.now }
+        ensures { Rests (whole self) text.now from result };
 }
 
 impl Shape for Iri {
@@ -52,6 +59,14 @@ impl Shape for Iri {
     #[inline(always)]
     fn goes_on(self, _dialect: Dialect) -> bool {
         self.is_live()
+    }
+
+    #[inline(always)]
+    fn rest_end(self, text: &str, from: usize) -> usize {
+        match self {
+            Iri::Inside => run_end(Run::Iri, text.as_bytes(), from),
+            _ => from,
+        }
     }
 }
 
@@ -76,6 +91,14 @@ impl Shape for Label {
     fn goes_on(self, _dialect: Dialect) -> bool {
         self.is_live()
     }
+
+    #[inline(always)]
+    fn rest_end(self, text: &str, from: usize) -> usize {
+        match self {
+            Label::Name => run_end(Run::Name, text.as_bytes(), from),
+            _ => from,
+        }
+    }
 }
 
 impl Shape for Text {
@@ -94,6 +117,14 @@ impl Shape for Text {
     #[inline(always)]
     fn goes_on(self, dialect: Dialect) -> bool {
         self.is_live(dialect)
+    }
+
+    #[inline(always)]
+    fn rest_end(self, text: &str, from: usize) -> usize {
+        match self {
+            Text::Short(_) | Text::Long(_) => run_end(Run::Text, text.as_bytes(), from),
+            _ => from,
+        }
     }
 }
 
@@ -118,6 +149,11 @@ impl Shape for Tag {
     fn goes_on(self, _dialect: Dialect) -> bool {
         self.is_live()
     }
+
+    #[inline(always)]
+    fn rest_end(self, _text: &str, from: usize) -> usize {
+        from
+    }
 }
 
 impl Shape for Number {
@@ -136,6 +172,11 @@ impl Shape for Number {
     #[inline(always)]
     fn goes_on(self, dialect: Dialect) -> bool {
         self.is_live(dialect)
+    }
+
+    #[inline(always)]
+    fn rest_end(self, _text: &str, from: usize) -> usize {
+        from
     }
 }
 
@@ -156,6 +197,14 @@ impl Shape for Name {
     fn goes_on(self, dialect: Dialect) -> bool {
         self.is_live(dialect)
     }
+
+    #[inline(always)]
+    fn rest_end(self, text: &str, from: usize) -> usize {
+        match self {
+            Name::Prefix | Name::Local => run_end(Run::Name, text.as_bytes(), from),
+            _ => from,
+        }
+    }
 }
 
 impl Shape for State {
@@ -174,5 +223,10 @@ impl Shape for State {
     #[inline(always)]
     fn goes_on(self, dialect: Dialect) -> bool {
         self.is_live(dialect)
+    }
+
+    #[inline(always)]
+    fn rest_end(self, _text: &str, from: usize) -> usize {
+        from
     }
 }

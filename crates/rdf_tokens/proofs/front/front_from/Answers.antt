@@ -4,6 +4,7 @@ use Rattle.rdf_tokens.specs.Tokens.{three_quotes, only_long, with_length}
 use Rattle.rdf_tokens.specs.Machine.{kind_at}
 use Rattle.rdf_tokens.proofs.SpellingLemmas.{quotes-bytes}
 use Rattle.rdf_tokens.proofs.StateLemmas.{reached-first, reached-step, reached-out}
+use Rattle.rdf_tokens.proofs.RestLemmas.{reached-run}
 use Rattle.rdf_tokens.proofs.front.front_from.Goals as goal
 use Rattle.rdf_tokens.proofs.front.front_from.Goals.{then-loop-at-test+else-goes_on, else-loop-at-test}
 
@@ -28,8 +29,10 @@ loop-at-preserved-in-Some g c =
     let s = g.S.Shape.whole c.after_char-state.result in
     let kind : c.only_long_string.result ≡ only_long (three_quotes d (chars bs)) (kind_at s) =
     c.only_long_string.ensures ∙ (ap (λ t. only_long t c.whole_kind-in-loop-at.result) three ∙ ap (only_long (three_quotes d (chars bs))) c.whole_kind-in-loop-at.ensures) in
-    reached-step d bs c.loop-at.at x.result.1 x.result.0 (g.S.Shape.whole c.loop-at.state) s (Some c.in-Some.longer) (with_length c.loop-at.len c.loop-at.kind None)
-    (Some (x.result.1, c.in-Some.longer)) c.loop-at.invariant x.ensures.is x.ensures.past x.ensures.fits c.after_char-state.ensures (sym c.in-Some.is ∙ kind) refl
+    let longer = sym c.in-Some.is ∙ kind in
+    reached-run d bs x.result.1 c.rest_end-at.result s (Some c.in-Some.longer) (with_length c.loop-at.len c.loop-at.kind None) longer c.rest_end-at.ensures
+    (reached-step d bs c.loop-at.at x.result.1 x.result.0 (g.S.Shape.whole c.loop-at.state) s (Some c.in-Some.longer) (with_length c.loop-at.len c.loop-at.kind None)
+    (Some (x.result.1, c.in-Some.longer)) c.loop-at.invariant x.ensures.is x.ensures.past x.ensures.fits c.after_char-state.ensures longer refl)
 
 pub loop-at-preserved : goal.loop-at-preserved
 loop-at-preserved g c =
@@ -41,9 +44,10 @@ loop-at-preserved g c =
     let s = g.S.Shape.whole c.after_char-state.result in
     let kind : c.only_long_string.result ≡ only_long (three_quotes d (chars bs)) (kind_at s) =
     c.only_long_string.ensures ∙ (ap (λ t. only_long t c.whole_kind-in-loop-at.result) three ∙ ap (only_long (three_quotes d (chars bs))) c.whole_kind-in-loop-at.ensures) in
-    reached-step d bs c.loop-at.at x.result.1 x.result.0 (g.S.Shape.whole c.loop-at.state) s None (with_length c.loop-at.len c.loop-at.kind None)
-    (with_length c.loop-at.len c.loop-at.kind None) c.loop-at.invariant x.ensures.is x.ensures.past x.ensures.fits c.after_char-state.ensures
-    (sym (c.in_default.is) ∙ kind) refl
+    let shorter = sym c.in_default.is ∙ kind in
+    reached-run d bs x.result.1 c.rest_end-at.result s None (with_length c.loop-at.len c.loop-at.kind None) shorter c.rest_end-at.ensures
+    (reached-step d bs c.loop-at.at x.result.1 x.result.0 (g.S.Shape.whole c.loop-at.state) s None (with_length c.loop-at.len c.loop-at.kind None)
+    (with_length c.loop-at.len c.loop-at.kind None) c.loop-at.invariant x.ensures.is x.ensures.past x.ensures.fits c.after_char-state.ensures shorter refl)
 
 pub returns-clause-best : goal.returns-clause-best
 returns-clause-best g c =

@@ -1,0 +1,110 @@
+-- Runs of bytes that leave a state as it is.
+use Rattle.std.proofs.Common.{◌≡◌, ℕ, zero, suc, ◌+◌, ◌-◌, ◌<◌, ◌≤◌, Bool, true, false, List, [], ◌∷◌, ◌++◌, ⊎_elim, get_or, refl, sym, ap, ◌∙◌, subst, length, length-append, length-drop, drop, arith, encode_utf8, Option, Some, None, IsUtf8}
+use Rattle.std.specs.Prelude.{encode_utf8_all}
+use Rattle.std.specs.Char.{len_utf8}
+use Rattle.std.specs.Str.{chars}
+use Rattle.std.proofs.lemmas.Bool.{cases_lt}
+use Rattle.std.proofs.lemmas.List.{get_or-drop, get_or_append_left}
+use Rattle.std.proofs.lemmas.Str.{encode_ascii, length-encode, len_utf8_bounds, drop_past_char}
+use Rattle.rdf_terms.specs.Runs.{IsRun}
+use Rattle.rdf_terms.specs.declared.kind.Dialect.{Dialect}
+use Rattle.rdf_terms.specs.declared.kind.Kind.{Kind}
+use Rattle.rdf_tokens.specs.declared.states.machine.State.{State}
+use Rattle.rdf_tokens.specs.Front.{Rests}
+use Rattle.rdf_tokens.specs.Machine.{step, kind_at}
+use Rattle.rdf_tokens.specs.Tokens.{with_length, three_quotes, only_long}
+use Rattle.rdf_tokens.proofs.BlankLemmas.{high-encode}
+use Rattle.rdf_tokens.proofs.StateLemmas.{Reached, reached-step}
+
+pub rests-none : (s : State) (bs : List ℕ) (at : ℕ) → at ≤ length bs → Rests s bs at at
+rests-none s bs at l = record {
+  from = omega arith;
+  within = l;
+  stays = λ d k c from to e. absurd (omega arith);
+  whole = λ k from to high inside. absurd (omega arith);
+}
+
+low_byte : (c : ℕ) → c < 128 → get_or (encode_utf8 c) 0 0 ≡ c
+low_byte c l = ap (λ w. get_or w 0 0) (encode_ascii c l)
+
+-- The run of bytes that pass a test leaves a state as it is, where each character that begins with one of them does.
+module _ (s : State) (p : ℕ → Bool) (bs : List ℕ) (at end : ℕ) (r : IsRun p bs at end)
+    (low : (d : Dialect) (c : ℕ) → c < 128 → p c ≡ true → step d s c ≡ s)
+    (high : (d : Dialect) (c b : ℕ) → 128 ≤ c → 128 ≤ b → p b ≡ true → step d s c ≡ s)
+    (ends : (b x : ℕ) → 128 ≤ b → p b ≡ true → p x ≡ false → x < 128) where
+  pub rests_run : Rests s bs at end
+  rests_run = record {
+    from = r.from;
+    within = r.within;
+    stays = λ d k c from to e. ⊎_elim
+        (λ (l : c < 128). low d c l (ap p (sym (low_byte c l) ∙ e) ∙ r.pass k from to))
+        (λ l. high d c (get_or bs k 0) l (let h = high-encode c l 0 (omega (arith, length-encode c, len_utf8_bounds c)) in omega (arith, h, e)) (r.pass k from to))
+        (cases_lt c 128);
+    whole = λ k from to h inside. ends (get_or bs k 0) (get_or bs end 0) h (r.pass k from to) (r.stops inside);
+  }
+
+-- the character at a place before the end
+first_char : (bs : List ℕ) (at : ℕ) → IsUtf8 (drop at bs) → at < length bs →
+    (c : ℕ) × (drop at bs ≡ encode_utf8 c ++ drop (at + len_utf8 c) bs) × (at + len_utf8 c ≤ length bs)
+first_char bs at u l = go u.0 u.1.1
+  where
+    go : (w : List ℕ) → encode_utf8_all w ≡ drop at bs → (c : ℕ) × (drop at bs ≡ encode_utf8 c ++ drop (at + len_utf8 c) bs) × (at + len_utf8 c ≤ length bs)
+    go [] e = absurd (omega (arith, ap length e, length-drop at bs))
+    go (c ∷ w) e =
+        let rest = drop_past_char bs (encode_utf8_all w) at c (sym e) in (
+          c,
+          sym e ∙ ap (λ x. encode_utf8 c ++ x) (sym rest),
+          omega (arith, ap length e, length-append (encode_utf8 c) (encode_utf8_all w), length-encode c, length-drop at bs),
+        )
+
+with_length-again : (m n : ℕ) (k : Option Kind) (b : Option (ℕ × Kind)) → with_length m k b ≡ with_length m k (with_length n k b)
+with_length-again m n None b = refl
+with_length-again m n (Some x) b = refl
+
+-- The states over such a run.
+module _ (d : Dialect) (bs : List ℕ) (at end : ℕ) (s : State) (k : Option Kind) (b : Option (ℕ × Kind))
+    (ek : k ≡ only_long (three_quotes d (chars bs)) (kind_at s)) (h : Rests s bs at end) where
+  abbrev Here : ℕ → Type 0
+  Here x = Reached d bs x s (with_length x k b)
+
+  -- over one character
+  one_on : (x : ℕ) → at ≤ x → x < end → Here x → (y : ℕ) × (x < y) × (y ≤ end) × Here y
+  one_on x from l r =
+      let w = h.within in
+      let one = first_char bs x r.here.utf8 (omega arith) in
+      let c = one.0 in
+      let size = length-encode c in
+      let bound = len_utf8_bounds c in
+      let byte : (j : ℕ) → j < length (encode_utf8 c) → get_or bs (x + j) 0 ≡ get_or (encode_utf8 c) j 0 =
+      λ j m. sym (get_or-drop x bs j 0) ∙ (ap (λ v. get_or v j 0) one.1 ∙ get_or_append_left (encode_utf8 c) (drop (x + len_utf8 c) bs) 0 j m) in
+      let lead : get_or (encode_utf8 c) 0 0 ≡ get_or bs x 0 = sym (byte 0 (omega (arith, size, bound))) ∙ ap (λ y. get_or bs y 0) (let z : x + 0 ≡ x = omega arith in z) in
+      let whole : x + len_utf8 c ≤ end = ⊎_elim
+      (λ (a : c < 128). let len : length (encode_utf8 c) ≡ 1 = ap length (encode_ascii c a) in omega (arith, len, size))
+      (λ a. ⊎_elim
+      (λ (q : end < x + len_utf8 c).
+      let back : x + (end - x) ≡ end = omega arith in
+      let inside : end - x < length (encode_utf8 c) = omega (arith, size) in
+      let there = byte (end - x) inside in
+      let wide = high-encode c a (end - x) inside in
+      let here = high-encode c a 0 (omega (arith, size, bound)) in
+      let low = h.whole x from l (omega (arith, here, lead)) (let y = one.2 in omega arith) in
+      absurd (omega (arith, there, wide, low, ap (λ y. get_or bs y 0) back)))
+      (λ q. q)
+      (cases_lt end (x + len_utf8 c)))
+      (cases_lt c 128) in (
+        x + len_utf8 c,
+        omega (arith, bound),
+        whole,
+        reached-step d bs x (x + len_utf8 c) c s s k (with_length x k b) (with_length (x + len_utf8 c) k b) r one.1 refl one.2 (sym (h.stays d x c from l lead)) ek
+            (with_length-again (x + len_utf8 c) x k b),
+      )
+
+  on : (fuel x : ℕ) → at ≤ x → x ≤ end → end ≤ x + fuel → Here x → Here end
+  on zero x from to f r = subst Here (let e : x ≡ end = omega arith in e) r
+  on (suc fuel) x from to f r = ⊎_elim
+      (λ (l : x < end). let n = one_on x from l r in on fuel n.0 (let m = n.1 in omega arith) n.2 (let m = n.1 in omega arith) n.3)
+      (λ l. subst Here (let e : x ≡ end = omega arith in e) r)
+      (cases_lt x end)
+
+  pub reached-run : Here at → Here end
+  reached-run r = let f = h.from in on (end - at) at (omega arith) f (omega arith) r

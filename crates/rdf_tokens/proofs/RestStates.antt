@@ -1,0 +1,113 @@
+-- The states that a run of bytes leaves as they are, by a test of each byte.
+use Rattle.std.proofs.Common.{◌≡◌, ℕ, ◌<◌, ◌==◌, Bool, true, false, not, ◌||◌, nat_lt, List, [], ◌∷◌, get_or, refl, sym, ap, ◌∙◌, arith, ⊎_elim}
+use Rattle.std.proofs.lemmas.Bool.{agree_below, agree_below_at, cases_lt, cond-false, eqb-true, le-ltb, false≢true}
+use Rattle.std.proofs.lemmas.Bool.Decides.{nat_tests}
+use Rattle.rdf_terms.specs.Classes.{iri_byte}
+use Rattle.rdf_terms.specs.Runs.{IsRun, is_text_byte, is_name_byte}
+use Rattle.rdf_terms.specs.declared.kind.Dialect.{Dialect}
+use Rattle.rdf_tokens.specs.declared.states.machine.State.{State}
+use Rattle.rdf_tokens.specs.declared.states.machine.State.TheVariants as state
+use Rattle.rdf_tokens.specs.declared.states.iri.Iri.TheVariants as iri_state
+use Rattle.rdf_tokens.specs.declared.states.label.Label.TheVariants as label_state
+use Rattle.rdf_tokens.specs.declared.states.text.Quote.{Quote}
+use Rattle.rdf_tokens.specs.declared.states.text.Quote.TheVariants.{Double, Single}
+use Rattle.rdf_tokens.specs.declared.states.text.Text.{Text}
+use Rattle.rdf_tokens.specs.declared.states.text.Text.TheVariants as text_state
+use Rattle.rdf_tokens.specs.declared.states.text.Sort.TheVariants as text_sort
+use Rattle.rdf_tokens.specs.declared.states.name.Name.TheVariants as name_state
+use Rattle.rdf_tokens.specs.Front.{Rests}
+use Rattle.rdf_tokens.specs.Machine.{step}
+use Rattle.rdf_tokens.specs.Sorts.{wide_of}
+use Rattle.rdf_tokens.specs.Iri as iri
+use Rattle.rdf_tokens.specs.Text as text
+use Rattle.rdf_tokens.proofs.RestLemmas.{rests_run}
+
+-- the states that are left as they are, told apart
+abbrev place : State → ℕ
+place (state.Iri iri_state.Inside) = 1
+place (state.Text (text_state.Short Double)) = 2
+place (state.Text (text_state.Short Single)) = 3
+place (state.Text (text_state.Long Double)) = 4
+place (state.Text (text_state.Long Single)) = 5
+place (state.Name name_state.Prefix) = 6
+place (state.Name name_state.Local) = 7
+place (state.Label label_state.Name) = 8
+place s = 0
+
+abbrev all : List State
+all = state.Dead ∷ state.Iri iri_state.Inside ∷ state.Text (text_state.Short Double) ∷ state.Text (text_state.Short Single) ∷ state.Text (text_state.Long Double)
+    ∷ state.Text (text_state.Long Single) ∷ state.Name name_state.Prefix ∷ state.Name name_state.Local ∷ state.Label label_state.Name ∷ []
+
+abbrev at_place : ℕ → State
+at_place n = get_or all n state.Dead
+
+there : (s : State) → (place s ≡ 0 → ⊥) → at_place (place s) ≡ s
+there (state.Iri iri_state.Inside) n = refl
+there (state.Text (text_state.Short Double)) n = refl
+there (state.Text (text_state.Short Single)) n = refl
+there (state.Text (text_state.Long Double)) n = refl
+there (state.Text (text_state.Long Single)) n = refl
+there (state.Name name_state.Prefix) n = refl
+there (state.Name name_state.Local) n = refl
+there (state.Label label_state.Name) n = refl
+there s n = absurd (n refl)
+
+-- an ASCII character that passes leaves the state as it is
+abbrev rests_at : Dialect → State → (ℕ → Bool) → ℕ → Bool
+rests_at d s p c = not (p c) || (place (step d s c) == place s)
+
+low : (d : Dialect) (s : State) (p : ℕ → Bool) → (place s ≡ 0 → ⊥) → agree_below (rests_at d s p) (λ _. true) 128 ≡ true → (c : ℕ) → c < 128 → p c ≡ true → step d s c ≡ s
+low d s p n all c l pc =
+    let t : (place (step d s c) == place s) ≡ true =
+    sym (ap (λ b. not b || (place (step d s c) == place s)) pc) ∙ agree_below_at (rests_at d s p) (λ _. true) 128 c all l in
+    let e = eqb-true (place (step d s c)) (place s) t in
+    sym (there (step d s c) (λ z. n (sym e ∙ z))) ∙ (ap at_place e ∙ there s n)
+
+iri_below : (x : ℕ) → iri_byte x ≡ false → x < 128
+iri_below x e = ⊎_elim (λ l. l) (λ l. absurd (let h : iri_byte x ≡ true = grind (arith, nat_tests) in false≢true (sym e ∙ h))) (cases_lt x 128)
+
+text_below : (x : ℕ) → is_text_byte x ≡ false → x < 128
+text_below x e = ⊎_elim (λ l. l) (λ l. absurd (let h : is_text_byte x ≡ true = grind (arith, nat_tests) in false≢true (sym e ∙ h))) (cases_lt x 128)
+
+name_below : (x : ℕ) → is_name_byte x ≡ true → x < 128
+name_below x e = ⊎_elim (λ l. l) (λ l. absurd (let h : is_name_byte x ≡ false = grind (arith, nat_tests) in false≢true (sym h ∙ e))) (cases_lt x 128)
+
+pub rests_iri : (bs : List ℕ) (at end : ℕ) → IsRun iri_byte bs at end → Rests (state.Iri iri_state.Inside) bs at end
+rests_iri bs at end r =
+    rests_run (state.Iri iri_state.Inside) iri_byte bs at end r
+    (λ d c l e. low d (state.Iri iri_state.Inside) iri_byte (λ (z : 1 ≡ 0). omega (arith, z)) refl c l e)
+    (λ d c b l h e. ap (λ x. state.Iri (iri.move iri_state.Inside x)) (cond-false (nat_lt c 128) (iri.ascii c) (iri.high (wide_of c)) (le-ltb c 128 l)))
+    (λ b x h p e. iri_below x e)
+
+rests_text : (s : Text) → ((d : Dialect) → agree_below (rests_at d (state.Text s) is_text_byte) (λ _. true) 128 ≡ true) → (place (state.Text s) ≡ 0 → ⊥) →
+    ((d : Dialect) → text.move d s text_sort.Plain ≡ s) → (bs : List ℕ) (at end : ℕ) → IsRun is_text_byte bs at end → Rests (state.Text s) bs at end
+rests_text s all n plain bs at end r =
+    rests_run (state.Text s) is_text_byte bs at end r
+    (λ d c l e. low d (state.Text s) is_text_byte n (all d) c l e)
+    (λ d c b l h e. ap (λ x. state.Text (text.move d s x)) (cond-false (nat_lt c 128) (text.ascii c) (text.high (wide_of c)) (le-ltb c 128 l)) ∙ ap (λ t. state.Text t) (plain d))
+    (λ b x h p e. text_below x e)
+
+pub rests_short : (q : Quote) (bs : List ℕ) (at end : ℕ) → IsRun is_text_byte bs at end → Rests (state.Text (text_state.Short q)) bs at end
+rests_short Double bs at end r = rests_text (text_state.Short Double) (λ d. refl) (λ (z : 2 ≡ 0). omega (arith, z)) (λ d. refl) bs at end r
+rests_short Single bs at end r = rests_text (text_state.Short Single) (λ d. refl) (λ (z : 3 ≡ 0). omega (arith, z)) (λ d. refl) bs at end r
+
+pub rests_long : (q : Quote) (bs : List ℕ) (at end : ℕ) → IsRun is_text_byte bs at end → Rests (state.Text (text_state.Long q)) bs at end
+rests_long Double bs at end r = rests_text (text_state.Long Double) (λ d. refl) (λ (z : 4 ≡ 0). omega (arith, z)) (λ d. refl) bs at end r
+rests_long Single bs at end r = rests_text (text_state.Long Single) (λ d. refl) (λ (z : 5 ≡ 0). omega (arith, z)) (λ d. refl) bs at end r
+
+rests_name : (s : State) → ((d : Dialect) → agree_below (rests_at d s is_name_byte) (λ _. true) 128 ≡ true) → (place s ≡ 0 → ⊥) →
+    (bs : List ℕ) (at end : ℕ) → IsRun is_name_byte bs at end → Rests s bs at end
+rests_name s all n bs at end r =
+    rests_run s is_name_byte bs at end r
+    (λ d c l e. low d s is_name_byte n (all d) c l e)
+    (λ d c b l h e. absurd (let x = name_below b e in omega arith))
+    (λ b x h p e. absurd (let y = name_below b p in omega arith))
+
+pub rests_prefix : (bs : List ℕ) (at end : ℕ) → IsRun is_name_byte bs at end → Rests (state.Name name_state.Prefix) bs at end
+rests_prefix bs at end r = rests_name (state.Name name_state.Prefix) (λ d. refl) (λ (z : 6 ≡ 0). omega (arith, z)) bs at end r
+
+pub rests_local : (bs : List ℕ) (at end : ℕ) → IsRun is_name_byte bs at end → Rests (state.Name name_state.Local) bs at end
+rests_local bs at end r = rests_name (state.Name name_state.Local) (λ d. refl) (λ (z : 7 ≡ 0). omega (arith, z)) bs at end r
+
+pub rests_label : (bs : List ℕ) (at end : ℕ) → IsRun is_name_byte bs at end → Rests (state.Label label_state.Name) bs at end
+rests_label bs at end r = rests_name (state.Label label_state.Name) (λ d. refl) (λ (z : 8 ≡ 0). omega (arith, z)) bs at end r
