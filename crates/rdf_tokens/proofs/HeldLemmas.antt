@@ -15,7 +15,7 @@ use Rattle.rdf_tokens.specs.Held.{Held}
 use Rattle.rdf_tokens.specs.Scans.{most_bytes}
 use Rattle.rdf_tokens.proofs.GoodLemmas.{good_front}
 use Rattle.rdf_tokens.proofs.CutLemmas.{Cut, cut}
-use Rattle.rdf_tokens.proofs.PlaceLemmas.{past-chars}
+use Rattle.rdf_tokens.proofs.PlaceLemmas.{feeds-chars, past-chars}
 use Rattle.rdf_tokens.proofs.PastGood.{valid_past}
 use Rattle.rdf_tokens.proofs.ReadLemmas.{begins_nil}
 
@@ -104,6 +104,11 @@ module _ (text : List ℕ) (start n len : ℕ) (pending : List ℕ) (place taken
 
   pub front_advanced : chars (take (start + len - start) (drop start text)) ≡ take n (chars (drop start text))
   front_advanced = let c = the_cut in ap chars front ∙ c.front
+
+  pub none_advanced : count_by (λ c. c == 10) (take n (chars (drop start text))) ≡ 0 → count_by (λ b. b == 10) (take (start + len - start) (drop start text)) ≡ 0
+  none_advanced none =
+      let c = the_cut in
+      ap (count_by (λ b. b == 10)) front ∙ (feeds-chars (take len (drop start text)) c.front_utf8 ∙ (ap (count_by (λ b. b == 10)) c.front ∙ none))
 
   module _ (feeds : ℕ) (f : feeds ≡ count_by (λ b. b == 10) (take (start + len - start) (drop start text))) where
     pub place_advanced : (let q : Place = record { offset = place.offset + len; line = place.line + feeds } in q) ≡ past place (take n (chars (drop start text)))

@@ -36,3 +36,4 @@ pub mod LawExamples
 pub mod LimitLemmas
 mod RestLemmas
 mod RestStates
+mod FlatLemmas

@@ -1,5 +1,5 @@
 -- Places behind bytes, and behind the characters that they spell.
-use Rattle.std.proofs.Common.{◌≡◌, ℕ, ◌+◌, ◌/◌, ◌%◌, ◌≤◌, cond, List, [], ◌∷◌, ◌++◌, ◌==◌, sym, ap, ◌∙◌, ⊎_elim, arith, length-append}
+use Rattle.std.proofs.Common.{◌≡◌, ℕ, ◌+◌, ◌/◌, ◌%◌, ◌≤◌, cond, List, [], ◌∷◌, ◌++◌, ◌==◌, refl, sym, ap, ◌∙◌, ⊎_elim, arith, length-append}
 use Rattle.std.proofs.lemmas.Bool.{cases_lt}
 use Rattle.std.proofs.lemmas.Bool.Decides.{nat_tests}
 use Rattle.std.proofs.lemmas.List.Sums.{sum_by-append}
@@ -56,6 +56,21 @@ feeds-encode c =
 
     four : (a b c d : ℕ) → 128 ≤ a → 128 ≤ b → 128 ≤ c → 128 ≤ d → feeds (a ∷ b ∷ c ∷ d ∷ []) ≡ 0
     four a b c d p q r s = grind (arith, nat_tests)
+
+feeds-encodes : (cs : List ℕ) → count_by (λ b. b == 10) (encodes cs) ≡ count_by (λ c. c == 10) cs
+feeds-encodes [] = refl
+feeds-encodes (c ∷ cs) =
+    let one : feeds (c ∷ []) ≡ cond (c == 10) 1 0 = plus (cond (c == 10) 1 0) in
+    feeds-append (encode c) (encodes cs)
+    ∙ (ap (λ n. n + feeds (encodes cs)) (feeds-encode c ∙ sym one)
+    ∙ (ap (λ n. feeds (c ∷ []) + n) (feeds-encodes cs) ∙ sym (feeds-append (c ∷ []) cs)))
+  where
+    plus : (n : ℕ) → 0 + n ≡ n
+    plus n = omega arith
+
+-- a text has as many line feeds as its bytes
+pub feeds-chars : (bytes : List ℕ) → IsUtf8 bytes → count_by (λ b. b == 10) bytes ≡ count_by (λ c. c == 10) (chars bytes)
+feeds-chars bytes u = ap feeds (sym u.1.1) ∙ (feeds-encodes u.0 ∙ ap feeds (sym (ap chars (sym u.1.1) ∙ chars-encodes u.0 u.1.0)))
 
 pub past-encodes : (p : Place) (cs : List ℕ) → past p cs ≡ beyond p (encodes cs)
 past-encodes p [] = place_same (omega arith) (omega arith)

@@ -138,6 +138,10 @@ reached-first d bs at s k b u h ek eb =
     let past : at ≡ 0 + len_utf8 h.first = omega (arith, h.past) in
     reached-step d bs 0 at h.first Start s k None b (reached-start d bs u) h.is past h.fits h.state ek eb
 
+-- a first character that begins no family
+pub reached-none : (d : Dialect) (bs : List ℕ) (at : ℕ) → IsUtf8 bs → Begun d bs at Dead → Reached d bs at Dead None
+reached-none d bs at u h = reached-first d bs at Dead None None u h (sym (no_long (three_quotes d (chars bs)))) refl
+
 -- what is known where the states do not go on
 reached-dead : (d : Dialect) (bs : List ℕ) (at : ℕ) (s : State) (b : Option (ℕ × Kind)) → Reached d bs at s b → goes_on d s ≡ false →
     (b ≡ in_bytes (chars bs) (longest_by (kind_by_states d (chars bs)) (chars bs) (length (chars bs)))) × (false ≡ goes_on d (state_of d (chars bs)))

@@ -2,6 +2,7 @@
 use Rattle.std.specs.Prelude.{◌≡◌, ◌||◌, ℕ, Bool, true, false, cond, List, [], ◌++◌, ◌⊎◌, ◌+◌, ◌==◌, ◌≤◌, length, count_by, take, drop, not, is_some, None}
 use Rattle.std.specs.Str.Lossy.{utf8_valid_len, utf8_error_len}
 use Rattle.rdf_terms.specs.declared.kind.Kind.{Kind}
+use Rattle.rdf_terms.specs.declared.kind.Kind.TheVariants.{LineEnd, LongString}
 use Rattle.rdf_terms.specs.declared.reason.Reason.{Reason}
 use Rattle.rdf_terms.specs.declared.reason.Reason.TheVariants.{BadUtf8}
 use Rattle.rdf_tokens.specs.Tokens.{Tail, Place, Token, past, is_empty, blank, with_tokens}
@@ -67,6 +68,12 @@ moved v p begun comment text = record v { place = p; begun = begun; comment = co
 pub record IsGiven (old : Unread) (k : Kind) (n : ℕ) (t : Token) (new : Unread) : Type 0 where
   pub token : t ≡ record { kind = k; text = take n old.text; at = old.place }
   pub moved_on : new ≡ moved old (past old.place (take n old.text)) old.begun false (drop n old.text)
+
+-- a kind whose texts have no line feed
+abbrev pub is_flat : Kind → Bool
+is_flat LineEnd = false
+is_flat LongString = false
+is_flat k = true
 
 -- the place of a fault
 abbrev pub fault_place : Reason → Place → List ℕ → Place

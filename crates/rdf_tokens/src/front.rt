@@ -13,7 +13,7 @@ use crate::bytes::char_at;
 use crate::states::fixed::{fixed_front, is_fixed_live};
 use crate::states::iri::Iri;
 use crate::states::label::Label;
-use crate::states::machine::{Family, State, family_of};
+use crate::states::machine::{Family, family_of};
 use crate::states::name::Name;
 use crate::states::number::Number;
 use crate::states::shape::Shape;
@@ -74,7 +74,11 @@ fn shaped_front(dialect: Dialect, text: &str) -> Shaped
         Family::Tag => front_from(dialect, text, next, Tag::Start.step(c)),
         Family::Number => front_from(dialect, text, next, Number::Start.step(dialect, c)),
         Family::Name => front_from(dialect, text, next, Name::Start.step(dialect, c)),
-        Family::None => front_from(dialect, text, next, State::Dead),
+        Family::None => Shaped {
+            len: 0,
+            kind: None,
+            live: false,
+        },
     }
 }
 
@@ -88,8 +92,8 @@ fn front_from<S: Shape>(dialect: Dialect, text: &str, first: usize, begun: S) ->
 {
     let three = has_three_quotes(dialect, text.as_bytes());
     let mut state = begun;
-    let mut at = first;
-    let mut len = first;
+    let mut at = state.rest_end(text, first);
+    let mut len = at;
     let mut kind = only_long_string(three, state.whole_kind());
     while at < text.len() && state.goes_on(dialect) {
         let (c, next) = char_at(text, at);

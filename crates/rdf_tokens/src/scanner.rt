@@ -1,6 +1,6 @@
 // The scanner.
 
-ghost use Rattle.std.specs.Prelude.{◌≡◌, ℕ, List, [], ◌++◌, true, IsErrOf, OnOk, OnErr, IfOk, cond, min, ◌-◌, ◌+◌, ◌≤◌, ◌<◌, length, drop, take, ⊤};
+ghost use Rattle.std.specs.Prelude.{◌≡◌, ◌==◌, ℕ, List, [], ◌++◌, count_by, true, IsErrOf, OnOk, OnErr, IfOk, cond, min, ◌-◌, ◌+◌, ◌≤◌, ◌<◌, length, drop, take, ⊤};
 ghost use Rattle.std.specs.Str.{chars, IsCharBoundary};
 ghost use Rattle.std.specs.String.{string_bytes};
 ghost use mathlib.Core.Option.{none};
@@ -9,7 +9,7 @@ ghost use Rattle.rdf_tokens.specs.Tokens.{Token as Read, past, step};
 ghost use Rattle.rdf_tokens.specs.Scans.{HasRead, IsOpen, Pushes, Gives, most_bytes, token_of, place_of};
 ghost use Rattle.rdf_tokens.specs.Look.{behind, IsLook};
 ghost use Rattle.rdf_tokens.specs.contracts.scanner.Scanner.{the_row};
-ghost use Rattle.rdf_tokens.specs.Moves.{closed, grown, good_bytes, is_broken, rest_of_bytes, is_settled, moved, tail_now, fault_place, IsGiven, Moves, Stands};
+ghost use Rattle.rdf_tokens.specs.Moves.{closed, grown, good_bytes, is_broken, rest_of_bytes, is_settled, moved, tail_now, fault_place, is_flat, IsGiven, Moves, Stands};
 ghost use Rattle.rdf_tokens.specs.Good.{mark};
 ghost use Rattle.rdf_tokens.specs.Front.{bytes_of};
 
@@ -179,14 +179,14 @@ impl<A: Allocator + Copy> Scanner<A> {
     }
 
     fn give(&mut self, kind: Kind, len: usize) -> Token<'_>
-        requires { (n : ℕ) × (len ≡ bytes_of n self.old.text) }
+        requires { (n : ℕ) × (len ≡ bytes_of n self.old.text) × (is_flat kind ≡ true → count_by (λ c. c == 10) (take n self.old.text) ≡ 0) }
         ensures* { sem 𝓛 (follows_so (the_row A.row A.Allocator) (the_row A.row A.Allocator) self.entry.ghost_name none (λ _ _. ⊤) (λ v. (n : ℕ) → len ≡ bytes_of n self.old.text → IsGiven self.old kind n (token_of result) v)) }
     {
         let start = self.start;
         let end = start + len;
         let offset = self.offset;
         let line = self.line;
-        self.line += line_feeds(&self.text.as_bytes()[start..end]) as u64;
+        self.line += feeds_of(kind, &self.text.as_bytes()[start..end]) as u64;
         self.offset += len as u64;
         self.start = end;
         self.comment = false;
@@ -310,6 +310,18 @@ impl<A: Allocator + Copy> Scanner<A> {
             offset: self.taken,
             line: self.last_line,
         }
+    }
+}
+
+// How many LF bytes the text of a token has: only two kinds have some.
+#[inline(always)]
+fn feeds_of(kind: Kind, text: &[u8]) -> usize
+    requires { is_flat kind ≡ true → count_by (λ b. b == 10) text.now ≡ 0 }
+    ensures { result ≡ count_by (λ b. b == 10) text.now }
+{
+    match kind {
+        Kind::LineEnd | Kind::LongString => line_feeds(text),
+        _ => 0,
     }
 }
 

@@ -16,8 +16,9 @@ loop-at-init g c =
     c.has_three_quotes-three.ensures ∙ (ap (three_quotes d) c.as_bytes.ensures.value ∙ quotes-bytes d bs c.utf8.text) in
     let kind : c.only_long_string-kind.result ≡ only_long (three_quotes d (chars bs)) (kind_at (g.S.Shape.whole c.args.begun)) =
     c.only_long_string-kind.ensures ∙ (ap (λ t. only_long t c.whole_kind.result) three ∙ ap (only_long (three_quotes d (chars bs))) c.whole_kind.ensures) in
-    reached-first d bs c.args.first (g.S.Shape.whole c.args.begun) c.only_long_string-kind.result (with_length c.args.first c.only_long_string-kind.result None)
-    c.utf8.text c.requires kind refl
+    let k = c.only_long_string-kind.result in
+    reached-run d bs c.args.first c.rest_end-at.result (g.S.Shape.whole c.args.begun) k None kind c.rest_end-at.ensures
+    (reached-first d bs c.args.first (g.S.Shape.whole c.args.begun) k (with_length c.args.first k None) c.utf8.text c.requires kind refl)
 
 pub loop-at-preserved-in-Some : goal.loop-at-preserved-in-Some
 loop-at-preserved-in-Some g c =
@@ -30,7 +31,7 @@ loop-at-preserved-in-Some g c =
     let kind : c.only_long_string.result ≡ only_long (three_quotes d (chars bs)) (kind_at s) =
     c.only_long_string.ensures ∙ (ap (λ t. only_long t c.whole_kind-in-loop-at.result) three ∙ ap (only_long (three_quotes d (chars bs))) c.whole_kind-in-loop-at.ensures) in
     let longer = sym c.in-Some.is ∙ kind in
-    reached-run d bs x.result.1 c.rest_end-at.result s (Some c.in-Some.longer) (with_length c.loop-at.len c.loop-at.kind None) longer c.rest_end-at.ensures
+    reached-run d bs x.result.1 c.rest_end-at-in-loop-at.result s (Some c.in-Some.longer) (with_length c.loop-at.len c.loop-at.kind None) longer c.rest_end-at-in-loop-at.ensures
     (reached-step d bs c.loop-at.at x.result.1 x.result.0 (g.S.Shape.whole c.loop-at.state) s (Some c.in-Some.longer) (with_length c.loop-at.len c.loop-at.kind None)
     (Some (x.result.1, c.in-Some.longer)) c.loop-at.invariant x.ensures.is x.ensures.past x.ensures.fits c.after_char-state.ensures longer refl)
 
@@ -45,7 +46,7 @@ loop-at-preserved g c =
     let kind : c.only_long_string.result ≡ only_long (three_quotes d (chars bs)) (kind_at s) =
     c.only_long_string.ensures ∙ (ap (λ t. only_long t c.whole_kind-in-loop-at.result) three ∙ ap (only_long (three_quotes d (chars bs))) c.whole_kind-in-loop-at.ensures) in
     let shorter = sym c.in_default.is ∙ kind in
-    reached-run d bs x.result.1 c.rest_end-at.result s None (with_length c.loop-at.len c.loop-at.kind None) shorter c.rest_end-at.ensures
+    reached-run d bs x.result.1 c.rest_end-at-in-loop-at.result s None (with_length c.loop-at.len c.loop-at.kind None) shorter c.rest_end-at-in-loop-at.ensures
     (reached-step d bs c.loop-at.at x.result.1 x.result.0 (g.S.Shape.whole c.loop-at.state) s None (with_length c.loop-at.len c.loop-at.kind None)
     (with_length c.loop-at.len c.loop-at.kind None) c.loop-at.invariant x.ensures.is x.ensures.past x.ensures.fits c.after_char-state.ensures shorter refl)
 

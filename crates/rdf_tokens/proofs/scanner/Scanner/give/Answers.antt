@@ -8,7 +8,7 @@ use Rattle.rdf_tokens.specs.Unread.{Unread}
 use Rattle.rdf_tokens.specs.Moves.{moved, IsGiven}
 use Rattle.rdf_tokens.specs.Front.{bytes_of}
 use Rattle.rdf_tokens.proofs.Inside.{unread_of}
-use Rattle.rdf_tokens.proofs.HeldLemmas.{boundary_advanced, front_advanced, held_advanced, place_advanced, text_advanced, advance_within}
+use Rattle.rdf_tokens.proofs.HeldLemmas.{boundary_advanced, front_advanced, held_advanced, place_advanced, text_advanced, advance_within, none_advanced}
 use Rattle.rdf_tokens.proofs.scanner.Scanner.give.Goals as goal
 
 pub overflow_add-end : goal.overflow_add-end
@@ -20,8 +20,8 @@ overflow_add-end g c =
     let k = s.text.bytes.ok.0 in
     search rules
 
-pub slice_bounds-line_feeds-end : goal.slice_bounds-line_feeds-end
-slice_bounds-line_feeds-end g c =
+pub slice_bounds-feeds_of-end : goal.slice_bounds-feeds_of-end
+slice_bounds-feeds_of-end g c =
     let s = c.self.inside in
     let n = c.requires.0 in
     let e : c.args.len ≡ bytes_of n (chars (drop s.start (string_bytes s.text))) = c.requires.1 ∙ ap (λ v. bytes_of n v.text) (sym c.self.view_is) in
@@ -29,14 +29,24 @@ slice_bounds-line_feeds-end g c =
     let m : s.start + c.args.len ≤ length c.as_bytes.result.now = subst (λ b. s.start + c.args.len ≤ length b) (sym c.as_bytes.ensures.value) l in
     search rules
 
+pub feeds_of-requires : goal.feeds_of-requires
+feeds_of-requires g c = λ f.
+    let s = c.self.inside in
+    let n = c.requires.0 in
+    let e : c.args.len ≡ bytes_of n (chars (drop s.start (string_bytes s.text))) = c.requires.1 ∙ ap (λ v. bytes_of n v.text) (sym c.self.view_is) in
+    let none : count_by (λ x. x == 10) (take n (chars (drop s.start (string_bytes s.text)))) ≡ 0 =
+    ap (λ v. count_by (λ x. x == 10) (take n v.text)) c.self.view_is ∙ c.requires.2 f in
+    ap (λ b. count_by (λ x. x == 10) (take (s.start + c.args.len - s.start) (drop s.start b))) c.as_bytes.ensures.value
+    ∙ none_advanced (string_bytes s.text) s.start n c.args.len s.pending.items _ _ c.self.invariant (IsUtf8-string_bytes s.text) e none
+
 pub invariant_of-self : goal.invariant_of-self
 invariant_of-self g c =
     let s = c.self.inside in
     let n = c.requires.0 in
     let e : c.args.len ≡ bytes_of n (chars (drop s.start (string_bytes s.text))) = c.requires.1 ∙ ap (λ v. bytes_of n v.text) (sym c.self.view_is) in
     let bytes = c.as_bytes.ensures.value in
-    let feeds = c.line_feeds.ensures ∙ ap (λ b. count_by (λ x. x == 10) (take (s.start + c.args.len - s.start) (drop s.start b))) bytes in
-    held_advanced (string_bytes s.text) s.start n c.args.len s.pending.items _ _ c.self.invariant (IsUtf8-string_bytes s.text) e c.line_feeds.result feeds
+    let feeds = c.feeds_of.ensures ∙ ap (λ b. count_by (λ x. x == 10) (take (s.start + c.args.len - s.start) (drop s.start b))) bytes in
+    held_advanced (string_bytes s.text) s.start n c.args.len s.pending.items _ _ c.self.invariant (IsUtf8-string_bytes s.text) e c.feeds_of.result feeds
 
 pub range-requires-clause-end_boundary : goal.range-requires-clause-end_boundary
 range-requires-clause-end_boundary g c =
@@ -62,8 +72,8 @@ returns g c = (
         let s = c.self.inside in
         let e : c.args.len ≡ bytes_of n (chars (drop s.start (string_bytes s.text))) = e ∙ ap (λ v. bytes_of n v.text) (sym c.self.view_is) in
         let bytes = c.as_bytes.ensures.value in
-        let feeds = c.line_feeds.ensures ∙ ap (λ b. count_by (λ x. x == 10) (take (s.start + c.args.len - s.start) (drop s.start b))) bytes in
-        let place = place_advanced (string_bytes s.text) s.start n c.args.len s.pending.items _ _ c.self.invariant (IsUtf8-string_bytes s.text) e c.line_feeds.result feeds in
+        let feeds = c.feeds_of.ensures ∙ ap (λ b. count_by (λ x. x == 10) (take (s.start + c.args.len - s.start) (drop s.start b))) bytes in
+        let place = place_advanced (string_bytes s.text) s.start n c.args.len s.pending.items _ _ c.self.invariant (IsUtf8-string_bytes s.text) e c.feeds_of.result feeds in
         let text = text_advanced (string_bytes s.text) s.start n c.args.len s.pending.items _ _ c.self.invariant (IsUtf8-string_bytes s.text) e in
         let front = ap chars (c.range.ensures.value ∙ ap (λ b. take (s.start + c.args.len - s.start) (drop s.start b)) c.as_str.ensures.value)
         ∙ front_advanced (string_bytes s.text) s.start n c.args.len s.pending.items _ _ c.self.invariant (IsUtf8-string_bytes s.text) e in

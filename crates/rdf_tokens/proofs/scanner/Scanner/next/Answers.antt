@@ -1,5 +1,6 @@
 use Rattle.std.proofs.Common.{◌≡◌, [], false, refl, sym, ap, ◌∙◌, subst}
 use Rattle.rdf_tokens.specs.Moves.{BeginsChar}
+use Rattle.rdf_tokens.proofs.FlatLemmas.{flat_text}
 use Rattle.rdf_tokens.proofs.MoveLemmas.{moves_both}
 use Rattle.rdf_tokens.proofs.NextLemmas.{dry, waits, ends_at, gives_look, stops_at}
 use Rattle.rdf_tokens.proofs.scanner.Scanner.next.Goals as goal
@@ -38,6 +39,9 @@ returns-in-Stop g c =
     let m = moves_both old c.drop_mark.new.self mid [] [] c.drop_mark.ensures.moves c.drop_blanks.ensures.moves in
     let e = c.stop_here.ensures in
     ((refl, (λ _. tt), stops_at old mid m running begins c.drop_blanks.ensures.stands e.reason e.place e.stopped c.in-Stop.ensures), tt)
+
+pub give-requires : goal.give-requires
+give-requires g c = let l = c.in-Token.ensures in (l.0, l.3, λ f. flat_text _ _ _ _ l.0 c.in-Token.kind l.1 f)
 
 pub returns-in-Token : goal.returns-in-Token
 returns-in-Token g c =
