@@ -76,7 +76,10 @@ impl<A: Allocator> Progress<A> {
         ensures err { IfErr result (λ r. Fails S.leaves S.has_failed r (M.accept (is_taken rules.iri) rules.form (mode_of self.old.state) token.entry.kind (leaf token.entry)) sink.old sink.new) }
     {
         let state = mem::replace(&mut self.state, State::Finished);
-        self.state = accept(alloc, rules, state, token, sink)?;
+        match accept(alloc, rules, state, token, sink) {
+            Ok(state) => self.state = state,
+            Err(reason) => return Err(reason),
+        }
         self.so_far = with_token(self.so_far, token.kind, self.state.gave());
         Ok(())
     }
