@@ -1,6 +1,7 @@
 // The good text at the front of bytes.
 
-ghost use Rattle.std.specs.Prelude.{◌≡◌, take, count_by, ◌==◌, IsUtf8};
+ghost use Rattle.std.specs.Prelude.{◌≡◌, ◌+◌, ◌≤◌, length, take, count_by, ◌==◌, IsUtf8};
+ghost use Rattle.std.specs.Simd.Lanes.{chunk};
 ghost use Rattle.std.specs.Str.Lossy.{utf8_valid_len};
 ghost use Rattle.std.specs.Str.{chars};
 ghost use Rattle.rdf_tokens.specs.Front.{bytes_of};
@@ -9,6 +10,10 @@ ghost use Rattle.rdf_tokens.specs.Moves.{is_broken};
 
 use crate::bytes::char_at;
 use simdutf8::compat::from_utf8;
+use std::simd::prelude::*;
+
+/// The number of bytes that are seen at a time.
+const LANES: usize = 16;
 
 /// The longest front of some bytes that is UTF-8.
 #[derive(Drop)]
@@ -51,10 +56,26 @@ pub fn line_feeds(bytes: &[u8]) -> usize
     ensures { result ≡ count_by (λ b. b == 10) bytes.now }
 {
     let mut count = 0;
-    for byte in bytes {
-        count += usize::from(*byte == b'\n');
+    let mut at = 0;
+    while bytes.len() - at >= LANES {
+        count += feeds_in(bytes, at);
+        at += LANES;
+    }
+    while at < bytes.len() {
+        count += usize::from(bytes[at] == b'\n');
+        at += 1;
     }
     count
+}
+
+/// The same of sixteen bytes from a place on.
+#[inline(always)]
+fn feeds_in(bytes: &[u8], at: usize) -> usize
+    requires { at + 16 ≤ length bytes.now }
+    ensures { result ≡ count_by (λ b. b == 10) (chunk at 16 bytes.now) }
+{
+    let v = u8x16::from_slice(&bytes[at..]);
+    v.simd_eq(u8x16::splat(b'\n')).to_bitmask().count_ones() as usize
 }
 
 /// How many bytes the leading U+FEFF has, if there is one.
