@@ -9,6 +9,7 @@ use Rattle.std.proofs.lemmas.List.{append-nil, take_all}
 use Rattle.std.proofs.lemmas.List.Concat.{flat_map-append}
 use Rattle.std.proofs.lemmas.List.Quantifiers.{position-Some}
 use Rattle.std.proofs.lemmas.List.Sums.{prefix_len_passes}
+use Rattle.rdf_terms.specs.Runs.{IsRun, is_text_byte}
 use Rattle.rdf_lines.specs.Writing.{escaped, is_escaped}
 
 plain : (c : ℕ) → is_escaped c ≡ false → escaped c ≡ c ∷ []
@@ -21,23 +22,22 @@ plain_front (c ∷ w) (suc n) h =
     ap (λ x. x ++ flat_map escaped (take n w)) (plain c (h 0 (omega arith)))
     ∙ ap (λ x. c ∷ x) (plain_front w n (λ k l. h (suc k) (omega arith)))
 
-not_escaped : (b : Bool) → not b ≡ true → b ≡ false
-not_escaped true e = absurd (false≢true e)
-not_escaped false e = refl
+-- the bytes that a run goes over stand as they are
+run_plain : (c : ℕ) → is_text_byte c ≡ true → is_escaped c ≡ false
+run_plain c e = grind (arith, nat_tests)
 
-none_escaped : (w : List ℕ) → position is_escaped w ≡ None → (k : ℕ) → k < length w → is_escaped (get_or w k 0) ≡ false
-none_escaped w e k l = not_escaped _ (prefix_len_passes (λ c. not (is_escaped c)) w k 0 (grind (arith, nat_tests)))
+run_front : (w : List ℕ) (n : ℕ) → IsRun is_text_byte w 0 n → flat_map escaped (take n w) ≡ take n w
+run_front w n r = plain_front w n (λ k l. run_plain (get_or w k 0) (r.pass k (omega arith) l))
 
-pub plain_text : (w : List ℕ) → position is_escaped w ≡ None → flat_map escaped (take (length w) w) ≡ w
-plain_text w e = plain_front w (length w) (none_escaped w e) ∙ take-length w
+pub plain_text : (w : List ℕ) (n : ℕ) → IsRun is_text_byte w 0 n → n ≡ length w → flat_map escaped (take n w) ≡ w
+plain_text w n r e = run_front w n r ∙ take_all n w (omega (arith, e))
 
--- a run and the escaped character behind it
-pub run_written : (w : List ℕ) (n : ℕ) → position is_escaped w ≡ Some n → flat_map escaped (take (n + 1) w) ≡ take n w ++ escaped (get_or w n 0)
-run_written w n e =
-    let p = position-Some is_escaped w n 0 e in
-    ap (flat_map escaped) (ap (λ x. take x w) (add-one n) ∙ take-suc w n 0 p.0)
+-- a run and the byte behind it
+pub run_written : (w : List ℕ) (n : ℕ) → IsRun is_text_byte w 0 n → n < length w → flat_map escaped (take (n + 1) w) ≡ take n w ++ escaped (get_or w n 0)
+run_written w n r l =
+    ap (flat_map escaped) (ap (λ x. take x w) (add-one n) ∙ take-suc w n 0 l)
     ∙ (flat_map-append escaped (take n w) (get_or w n 0 ∷ [])
-    ∙ (ap (λ x. x ++ flat_map escaped (get_or w n 0 ∷ [])) (plain_front w n p.2) ∙ ap (λ x. take n w ++ x) (append-nil (escaped (get_or w n 0)))))
+    ∙ (ap (λ x. x ++ flat_map escaped (get_or w n 0 ∷ [])) (run_front w n r) ∙ ap (λ x. take n w ++ x) (append-nil (escaped (get_or w n 0)))))
 
 -- what is done of a text, and a front of what is left
 pub escaped_more : (w : List ℕ) (m n : ℕ) →

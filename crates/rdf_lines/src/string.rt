@@ -1,10 +1,10 @@
 // Strings as they are written: runs as they stand, and escapes between them (N-Quads 4).
 
 ghost use Rattle.std.specs.Prelude.{◌≡◌, ◌++◌, ◌<◌, ◌≤◌, ℕ, flat_map, length, take, IfOk, OnErr, OnOk};
-ghost use Rattle.std.specs.List.{position};
-ghost use Rattle.rdf_lines.specs.Writing.{escaped, is_escaped, string_text};
+ghost use Rattle.rdf_lines.specs.Writing.{escaped, string_text};
 ghost use Rattle.rdf_lines.specs.WrittenBytes.{BeginsWith};
 
+use rdf_terms::runs::{Run, run_end};
 use std::alloc::{AllocError, Allocator};
 
 pub fn put_string<A: Allocator + Copy>(text: &str, out: &mut Vec<u8, A>) -> Result<(), AllocError>
@@ -28,37 +28,21 @@ fn put_escaped<A: Allocator + Copy>(text: &[u8], out: &mut Vec<u8, A>) -> Result
     Ok(())
 }
 
-// The bytes in front that stand as they are, and the first escaped one: how many bytes that were.
-#[tactic(auto, using(crate::proofs::PlainRuns::plain_text))]
+// A run in front, whose bytes stand as they are, and the byte behind it: how many bytes that were.
 fn put_run<A: Allocator + Copy>(text: &[u8], out: &mut Vec<u8, A>) -> Result<usize, AllocError>
     ensures written { IfOk result (λ n. out.new.items ≡ out.old.items ++ flat_map escaped (take n text.now)) }
     ensures within { IfOk result (λ n. n ≤ length text.now) }
     ensures progress { IfOk result (λ n. 0 < length text.now → 0 < n) }
     ensures grown { OnErr result (BeginsWith out.old.items out.new.items) }
 {
-    match first_escaped(text) {
-        None => {
-            out.extend_from_slice(text)?;
-            Ok(text.len())
-        }
-        Some(at) => {
-            out.extend_from_slice(&text[..at])?;
-            put_byte(text[at], out)?;
-            Ok(at + 1)
-        }
+    let at = run_end(Run::Text, text, 0);
+    if at == text.len() {
+        out.extend_from_slice(text)?;
+        return Ok(at);
     }
-}
-
-fn first_escaped(text: &[u8]) -> Option<usize>
-    ensures { result ≡ position is_escaped text.now }
-{
-    text.iter().position(|byte| is_escaped(*byte))
-}
-
-fn is_escaped(byte: u8) -> bool
-    ensures { result ≡ is_escaped byte }
-{
-    matches!(byte, b'"' | b'\\' | b'\n' | b'\r')
+    out.extend_from_slice(&text[..at])?;
+    put_byte(text[at], out)?;
+    Ok(at + 1)
 }
 
 fn put_byte<A: Allocator + Copy>(byte: u8, out: &mut Vec<u8, A>) -> Result<(), AllocError>
