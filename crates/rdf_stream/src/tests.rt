@@ -1,135 +1,228 @@
-// Devices that give or take one byte a call and fail at a given call, and conversions between them.
+// Runs over memory: worked documents, and devices that fail.
 
-ghost use Rattle.std.specs.Prelude.{Some, ◌≡◌, false};
+ghost use Rattle.std.specs.Prelude.{◌≡◌, false};
+
+mod devices;
+mod rows;
+mod runs;
 
 use crate::checks::check;
 use crate::conversions::convert;
-use crate::devices::{Drain, Failed, In, Out, Source};
+use crate::devices::{Drain, Failed, Out, Source};
 use crate::fault::{Form, StreamFault};
 use crate::job::Job;
 use crate::messages::report;
 use crate::put::put_all;
 use crate::shows::show;
+use devices::{Parts, SlowDrain, ample_drain, cut_at, failing_drain, failing_source, wide_drain};
 use rdf_iri::Limits;
 use rdf_lines::{Fault, Summary};
 use rdf_terms::{Iri, Reason};
+use rows::{
+    LIMITED, N_QUADS, N_TRIPLES, N_TRIPLES_AND_N_QUADS, OTHER_BASES, REFERENCES, SHOWN,
+    SHOWN_OF_LINES, TRIG, TURTLE, TURTLE_AND_TRIG,
+};
+use runs::{Asked, Base, is_converted, is_read, is_refused_at, is_shown, job};
 use std::alloc::{AllocError, Global};
+use std::test::Fail;
 
-/// Gives its bytes in parts: the first of one length, the others of another. It fails once a number of calls has been made.
-#[derive(Drop)]
-struct Parts<'a> {
-    bytes: &'a [u8],
-    part: usize,
-    others: usize,
-    calls: u64,
-    failed: bool,
+#[test]
+fn a_document_is_read_however_it_is_cut(rt: HostRuntime) -> Result<(), Fail> {
+    for (document, text) in TURTLE_AND_TRIG {
+        is_read(&rt, rt.alloc(), &Asked::of(Form::Turtle), document, text)?;
+        is_read(&rt, rt.alloc(), &Asked::of(Form::TriG), document, text)?;
+    }
+    for (document, text) in TURTLE {
+        is_read(&rt, rt.alloc(), &Asked::of(Form::Turtle), document, text)?;
+    }
+    for (document, text) in TRIG {
+        is_read(&rt, rt.alloc(), &Asked::of(Form::TriG), document, text)?;
+    }
+    for (document, text) in N_TRIPLES_AND_N_QUADS {
+        is_read(&rt, rt.alloc(), &Asked::of(Form::NTriples), document, text)?;
+        is_read(&rt, rt.alloc(), &Asked::of(Form::NQuads), document, text)?;
+    }
+    for (document, text) in N_QUADS {
+        is_read(&rt, rt.alloc(), &Asked::of(Form::NQuads), document, text)?;
+    }
+    for (document, text) in N_TRIPLES {
+        is_read(&rt, rt.alloc(), &Asked::of(Form::NTriples), document, text)?;
+    }
+    Ok(())
 }
 
-impl<'a> Source for Parts<'a> {
-    ghost remaining = { λ s. Some s.bytes.now };
+#[test]
+fn a_document_is_read_within_its_limits(rt: HostRuntime) -> Result<(), Fail> {
+    for ([token, depth, bindings, iri], document, text) in LIMITED {
+        let limits = Limits::new(token, depth, bindings, iri).ok_or("limits")?;
+        is_read(
+            &rt,
+            rt.alloc(),
+            &Asked::within(Form::Turtle, limits),
+            document,
+            text,
+        )?;
+        is_read(
+            &rt,
+            rt.alloc(),
+            &Asked::within(Form::TriG, limits),
+            document,
+            text,
+        )?;
+    }
+    Ok(())
+}
 
-    ghost has_failed = { λ s. s.failed };
+#[test]
+fn a_long_run_of_letters_is_told_by_its_length(rt: HostRuntime) -> Result<(), Fail> {
+    let limits = Limits::new(1000, 9, 9, 1000).ok_or("limits")?;
+    for (letter, count, text) in [
+        ("b", 1000, "rdfconv: no token at byte 0, line 1\n"),
+        ("b", 1001, "rdfconv: token too long at byte 0, line 1\n"),
+        ("a", 1000, "rdfconv: unexpected token at byte 0, line 1\n"),
+    ] {
+        let document = repeated(rt.alloc(), "", letter, count)?;
+        is_read(
+            &rt,
+            rt.alloc(),
+            &Asked::within(Form::TriG, limits),
+            document.as_bytes(),
+            text,
+        )?;
+    }
+    Ok(())
+}
 
-    fn fill(&mut self, buf: &mut [u8]) -> Result<usize, Failed> {
-        if self.calls == 0 {
-            self.failed = true;
-            return Err(Failed);
+#[test]
+fn references_are_resolved_against_the_base(rt: HostRuntime) -> Result<(), Fail> {
+    let asked = Asked {
+        base: Base::OfTheRfc,
+        ..Asked::of(Form::TriG)
+    };
+    for (reference, iri) in REFERENCES {
+        let document = format!(in rt.alloc(); "<{reference}> a 1 .")?;
+        let line = line_of_one(rt.alloc(), iri)?;
+        is_read(&rt, rt.alloc(), &asked, document.as_bytes(), &line)?;
+    }
+    for (base, reference, iri) in OTHER_BASES {
+        let document = format!(in rt.alloc(); "BASE <{base}> <{reference}> a 1 .")?;
+        let line = line_of_one(rt.alloc(), iri)?;
+        is_read(
+            &rt,
+            rt.alloc(),
+            &Asked::of(Form::TriG),
+            document.as_bytes(),
+            &line,
+        )?;
+    }
+    let asked = Asked {
+        base: Base::Other,
+        ..Asked::of(Form::Turtle)
+    };
+    let line = "<http://h/b/s> <http://a/p> <http://a/s> .\n";
+    is_read(
+        &rt,
+        rt.alloc(),
+        &asked,
+        b"<s> <http://a/p> <http://a/s> .",
+        line,
+    )
+}
+
+#[test]
+fn a_bad_byte_is_told_where_it_stands(rt: HostRuntime) -> Result<(), Fail> {
+    for (document, text) in TURTLE_AND_TRIG {
+        if text.contains("rdfconv") {
+            continue;
         }
-        self.calls -= 1;
-        let count = self.part.max(1).min(self.bytes.len()).min(buf.len());
-        let (front, rest) = self.bytes.split_at(count);
-        buf[..count].copy_from_slice(front);
-        self.bytes = rest;
-        self.part = self.others;
-        Ok(count)
-    }
-
-    fn failed(&self) -> bool {
-        self.failed
-    }
-}
-
-/// Takes at most some bytes a call, and fails once a number of calls has been made.
-#[derive(Drop)]
-struct SlowDrain {
-    bytes: Vec<u8>,
-    room: usize,
-    calls: u64,
-    failed: bool,
-    flushed: bool,
-}
-
-impl Drain for SlowDrain {
-    ghost contents = { λ d. Some d.bytes.items };
-
-    ghost has_failed = { λ d. d.failed };
-
-    ghost is_flushed = { λ d. d.flushed };
-
-    fn put_some(&mut self, bytes: &[u8]) -> Result<usize, Failed> {
-        self.flushed = false;
-        let count = self.room.max(1).min(bytes.len());
-        if self.calls == 0 || self.bytes.extend_from_slice(&bytes[..count]).is_err() {
-            self.failed = true;
-            return Err(Failed);
+        for at in 0..document.len() {
+            is_refused_at(&rt, rt.alloc(), &Asked::of(Form::TriG), document, text, at)?;
         }
-        self.calls -= 1;
-        Ok(count)
     }
+    Ok(())
+}
 
-    fn flush(&mut self) -> Result<(), Failed> {
-        self.flushed = self.calls > 0;
-        self.failed = self.calls == 0;
-        if self.failed {
-            return Err(Failed);
+#[test]
+fn tokens_are_shown_however_they_are_cut(rt: HostRuntime) -> Result<(), Fail> {
+    for (document, text) in SHOWN {
+        is_shown(&rt, rt.alloc(), &Asked::of(Form::Turtle), document, text)?;
+        is_shown(&rt, rt.alloc(), &Asked::of(Form::TriG), document, text)?;
+    }
+    for (document, text) in SHOWN_OF_LINES {
+        is_shown(&rt, rt.alloc(), &Asked::of(Form::NTriples), document, text)?;
+        is_shown(&rt, rt.alloc(), &Asked::of(Form::NQuads), document, text)?;
+    }
+    Ok(())
+}
+
+#[test]
+fn collections_are_read_as_deep_as_the_limit(rt: HostRuntime) -> Result<(), Fail> {
+    let open = repeated(rt.alloc(), "<http://a/s> <http://a/p> ", "(", 100_000)?;
+    for (depth, last, fault) in [
+        (
+            100_000,
+            100_025,
+            "rdfconv: unexpected token at byte 100026, line 1\n",
+        ),
+        (
+            99_999,
+            100_024,
+            "rdfconv: too deep at byte 100025, line 1\n",
+        ),
+    ] {
+        let limits = Limits::new(1000, depth, 9, 1000).ok_or("limits")?;
+        let asked = Asked::within(Form::TriG, limits);
+        let mut text = nested_lines(rt.alloc(), last)?;
+        text.push_str(fault)?;
+        for cut in [0, open.len()] {
+            is_converted(
+                &rt,
+                rt.alloc(),
+                &asked,
+                open.as_bytes(),
+                text.as_bytes(),
+                cut,
+            )?;
         }
-        self.calls -= 1;
-        Ok(())
     }
-
-    fn failed(&self) -> bool {
-        self.failed
+    let limits = Limits::new(1000, 100_000, 9, 1000).ok_or("limits")?;
+    let mut whole = repeated(rt.alloc(), &open, ")", 100_000)?;
+    whole.push_str(" .")?;
+    for cut in [0, whole.len()] {
+        let mut source = cut_at(whole.as_bytes(), cut);
+        let job = job(rt.alloc(), &Asked::within(Form::TriG, limits))?;
+        let summary = check(rt.alloc(), job, &mut source)?;
+        assert_eq!(rt; (summary.quads, summary.bytes), (199_999, 200_028));
     }
+    Ok(())
 }
 
-fn in_parts(bytes: &[u8], part: usize, others: usize) -> Parts<'_>
-    ensures { result.failed ≡ false }
-{
-    Parts {
-        bytes,
-        part,
-        others,
-        calls: u64::MAX,
-        failed: false,
+/// The lines of collections of one item, each the first item of the one before, up to this cell.
+fn nested_lines(alloc: Global, last: u64) -> Result<String, Fail> {
+    let mut text = String::from_str(alloc, "<http://a/s> <http://a/p> _:c27 .\n")?;
+    for cell in 27..last {
+        let line = format!(in alloc;
+            "_:c{cell} <http://www.w3.org/1999/02/22-rdf-syntax-ns#first> _:c{} .\n",
+            cell + 1
+        )?;
+        text.push_str(&line)?;
     }
+    Ok(text)
 }
 
-fn slow(text: &str, calls: u64) -> Parts<'_>
-    ensures { result.failed ≡ false }
-{
-    Parts {
-        bytes: text.as_bytes(),
-        part: 1,
-        others: 1,
-        calls,
-        failed: false,
+fn repeated(alloc: Global, front: &str, part: &str, count: u64) -> Result<String, Fail> {
+    let mut text = String::from_str(alloc, front)?;
+    for _ in 0..count {
+        text.push_str(part)?;
     }
+    Ok(text)
 }
 
-fn drain(alloc: Global, room: usize, calls: u64) -> SlowDrain
-    ensures { result.failed ≡ false }
-{
-    SlowDrain {
-        bytes: Vec::new(alloc),
-        room,
-        calls,
-        failed: false,
-        flushed: false,
-    }
-}
-
-fn job(form: Form) -> Option<Job> {
-    Job::new(form, None, Limits::default())
+/// The line of `<..> a 1 .` for this IRI.
+fn line_of_one(alloc: Global, iri: &str) -> Result<String, Fail> {
+    Ok(format!(in alloc;
+        "<{iri}> <http://www.w3.org/1999/02/22-rdf-syntax-ns#type> \"1\"^^<http://www.w3.org/2001/XMLSchema#integer> .\n"
+    )?)
 }
 
 #[test]
@@ -146,10 +239,10 @@ fn a_base_is_no_longer_than_an_iri_may_be(rt: HostRuntime) {
 
 #[test]
 fn a_put_goes_on_behind_a_short_one(rt: HostRuntime) {
-    let mut taken = drain(rt.alloc(), 1, 5);
+    let mut taken = failing_drain(rt.alloc(), 5);
     assert_eq!(rt; put_all(&mut taken, b"bytes"), Ok(()));
     assert_eq!(rt; taken.bytes.as_slice(), b"bytes".as_slice());
-    let mut short = drain(rt.alloc(), 1, 3);
+    let mut short = failing_drain(rt.alloc(), 3);
     assert_eq!(rt; put_all(&mut short, b"bytes"), Err(Failed));
     assert_eq!(rt; short.bytes.as_slice(), b"byt".as_slice());
     assert!(rt; short.failed());
@@ -193,97 +286,171 @@ fn a_report_names_the_reason_and_the_place(rt: HostRuntime) -> Result<(), AllocE
     Ok(())
 }
 
-/// Two statements, a comment and an empty line.
+/// Two statements, a comment and an empty line, their lines, and those of their tokens.
 const TWO: &str = "<http://a/s> <http://a/p> \"x\" . # c\r\n\n_:x <a:> <b:>.";
 
-/// Their lines.
-const LINES: &str = "<http://a/s> <http://a/p> \"x\" .\n_:x <a:> <b:> .\n";
+const TWO_LINES: &str = "<http://a/s> <http://a/p> \"x\" .\n_:x <a:> <b:> .\n";
 
-#[test]
-fn devices_of_one_byte_a_call_change_nothing(rt: HostRuntime) {
-    let mut source = slow(TWO, 53);
-    let mut taken = drain(rt.alloc(), 1, 49);
-    let result = convert(
-        rt.alloc(),
-        job(Form::NTriples).expect(&rt, "a job"),
-        &mut source,
-        &mut taken,
-    );
-    assert!(rt;
-        matches!(
-            result,
-            Ok(Summary {
-                quads: 2,
-                tokens: 11,
-                bytes: 52
-            })
-        )
-    );
-    assert_eq!(rt; taken.bytes.as_slice(), LINES.as_bytes());
-    assert!(rt; taken.flushed);
+const TWO_TOKENS: &str =
+    "0 12 iri\n13 12 iri\n26 3 string\n30 1 dot\n35 1 lineend\n36 1 lineend\n37 1 lineend\n38 3 label\n42 4 iri\n47 4 iri\n51 1 dot\n";
+
+/// A collection, its lines, and those of its tokens. Its last dot may begin a number as long as the text goes on.
+const LIST: &str = "<a:s> <a:p> ( 1 ) .";
+
+const LIST_LINES: &str = "<a:s> <a:p> _:c14 .
+_:c14 <http://www.w3.org/1999/02/22-rdf-syntax-ns#first> \"1\"^^<http://www.w3.org/2001/XMLSchema#integer> .
+_:c14 <http://www.w3.org/1999/02/22-rdf-syntax-ns#rest> <http://www.w3.org/1999/02/22-rdf-syntax-ns#nil> .
+";
+
+const LIST_TOKENS: &str = "0 5 iri\n6 5 iri\n12 1 lparen\n14 1 integer\n16 1 rparen\n18 1 dot\n";
+
+/// What writes lines.
+#[derive(Clone, Copy, PartialEq, Eq, Debug)]
+enum Task {
+    Convert,
+    Show,
 }
 
-#[test]
-fn a_source_that_fails_is_not_at_its_end(rt: HostRuntime) {
-    for (calls, written) in [(0, 0), (1, 0), (30, 0), (31, 32), (51, 32), (52, 48)] {
-        let mut source = slow(TWO, calls);
-        let mut taken = drain(rt.alloc(), 1, 49);
-        let result = convert(
-            rt.alloc(),
-            job(Form::NTriples).expect(&rt, "a job"),
-            &mut source,
-            &mut taken,
-        );
-        assert!(rt;
-            matches!(result, Err(StreamFault::Read)),
-            "after {calls} calls"
-        );
-        assert!(rt; source.failed());
-        assert_eq!(rt;
-            Some(taken.bytes.as_slice()),
-            LINES.as_bytes().get(..written)
-        );
+/// The tasks over these documents, and the lines that they write.
+const TASKS: [(Task, Form, &str, &str); 4] = [
+    (Task::Convert, Form::NTriples, TWO, TWO_LINES),
+    (Task::Convert, Form::Turtle, LIST, LIST_LINES),
+    (Task::Show, Form::NTriples, TWO, TWO_TOKENS),
+    (Task::Show, Form::Turtle, LIST, LIST_TOKENS),
+];
+
+fn run(
+    alloc: Global,
+    task: Task,
+    form: Form,
+    source: &mut Parts<'_>,
+    drain: &mut SlowDrain,
+) -> Result<Summary, StreamFault>
+    requires source { source.old.failed ≡ false }
+    requires drain { drain.old.failed ≡ false }
+{
+    let Some(job) = Job::new(form, None, Limits::default()) else {
+        return Err(StreamFault::Memory);
+    };
+    match task {
+        Task::Convert => convert(alloc, job, source, drain),
+        Task::Show => show(alloc, job, source, drain),
     }
 }
 
 #[test]
-fn a_check_tells_that_the_source_failed(rt: HostRuntime) {
-    for calls in [0, 1, 31, 52] {
-        let mut source = slow(TWO, calls);
-        let result = check(
-            rt.alloc(),
-            job(Form::NTriples).expect(&rt, "a job"),
-            &mut source,
-        );
-        assert!(rt;
-            matches!(result, Err(StreamFault::Read)),
-            "after {calls} calls"
-        );
+fn devices_of_one_byte_a_call_change_nothing(rt: HostRuntime) {
+    for (task, form, text, lines) in TASKS {
+        let mut source = failing_source(text, text.len() as u64 + 1);
+        let mut drain = failing_drain(rt.alloc(), lines.len() as u64 + 1);
+        let result = run(rt.alloc(), task, form, &mut source, &mut drain);
+        assert!(rt; result.is_ok(), "{task:?} of {text}");
+        assert_eq!(rt; drain.bytes.as_slice(), lines.as_bytes());
+        assert!(rt; drain.flushed);
     }
 }
 
 #[test]
 fn a_drain_that_fails_has_a_beginning_of_the_lines(rt: HostRuntime) {
-    for calls in 0usize..50 {
-        let mut source = slow(TWO, 53);
-        let mut taken = drain(rt.alloc(), 1, calls as u64);
-        let result = convert(
-            rt.alloc(),
-            job(Form::NTriples).expect(&rt, "a job"),
-            &mut source,
-            &mut taken,
-        );
-        assert_eq!(rt;
-            matches!(result, Err(StreamFault::Write)),
-            calls < 49,
-            "after {calls} calls"
-        );
-        assert_eq!(rt; taken.failed(), calls < 49);
-        assert_eq!(rt;
-            Some(taken.bytes.as_slice()),
-            LINES.as_bytes().get(..calls.min(48))
-        );
+    for (task, form, text, lines) in TASKS {
+        for calls in 0..lines.len().saturating_add(1) {
+            let mut source = cut_at(text.as_bytes(), 0);
+            let mut drain = failing_drain(rt.alloc(), calls as u64);
+            let result = run(rt.alloc(), task, form, &mut source, &mut drain);
+            assert!(rt;
+                matches!(result, Err(StreamFault::Write)),
+                "{task:?} of {text} after {calls} calls"
+            );
+            assert!(rt; drain.failed());
+            assert_eq!(rt; Some(drain.bytes.as_slice()), lines.as_bytes().get(..calls));
+        }
     }
+}
+
+/// How many bytes of the lines are written where the source fails behind so many bytes.
+const BREAKS: [(Task, Form, &str, &str, &[(u64, usize)]); 4] = [
+    (
+        Task::Convert,
+        Form::NTriples,
+        TWO,
+        TWO_LINES,
+        &[(0, 0), (1, 0), (30, 0), (31, 32), (51, 32), (52, 48)],
+    ),
+    (
+        Task::Convert,
+        Form::Turtle,
+        LIST,
+        LIST_LINES,
+        &[(0, 0), (15, 0), (16, 20), (17, 127), (19, 127)],
+    ),
+    (
+        Task::Show,
+        Form::NTriples,
+        TWO,
+        TWO_TOKENS,
+        &[
+            (0, 0),
+            (11, 0),
+            (12, 9),
+            (35, 40),
+            (36, 53),
+            (41, 79),
+            (42, 90),
+            (52, 117),
+        ],
+    ),
+    (
+        Task::Show,
+        Form::Turtle,
+        LIST,
+        LIST_TOKENS,
+        &[
+            (0, 0),
+            (4, 0),
+            (5, 8),
+            (15, 28),
+            (16, 41),
+            (17, 53),
+            (19, 53),
+        ],
+    ),
+];
+
+#[test]
+fn a_source_that_fails_is_not_at_its_end(rt: HostRuntime) {
+    for (task, form, text, lines, places) in BREAKS {
+        for (calls, written) in places {
+            let mut source = failing_source(text, *calls);
+            let mut drain = ample_drain(rt.alloc());
+            let result = run(rt.alloc(), task, form, &mut source, &mut drain);
+            assert!(rt;
+                matches!(result, Err(StreamFault::Read)),
+                "{task:?} of {text} after {calls} calls"
+            );
+            assert!(rt; source.failed());
+            assert!(rt; !drain.flushed);
+            assert_eq!(rt;
+                Some(drain.bytes.as_slice()),
+                lines.as_bytes().get(..*written)
+            );
+        }
+    }
+}
+
+#[test]
+fn a_check_tells_that_the_source_failed(rt: HostRuntime) -> Result<(), Fail> {
+    for (form, text) in [(Form::NTriples, TWO), (Form::Turtle, LIST)] {
+        for calls in 0..text.len().saturating_add(1) {
+            let mut source = failing_source(text, calls as u64);
+            let result = check(rt.alloc(), job(rt.alloc(), &Asked::of(form))?, &mut source);
+            assert!(rt;
+                matches!(result, Err(StreamFault::Read)),
+                "{text} after {calls} calls"
+            );
+            assert!(rt; source.failed());
+        }
+    }
+    Ok(())
 }
 
 #[test]
@@ -292,306 +459,13 @@ fn the_lines_of_a_piece_are_one_call(rt: HostRuntime) -> Result<(), AllocError> 
     for _ in 0..1000 {
         text.push_str("<a:> <b:> <c:> .\n")?;
     }
-    let mut source = in_parts(text.as_bytes(), usize::MAX, usize::MAX);
-    let mut taken = drain(rt.alloc(), usize::MAX, 2);
-    assert!(rt;
-        convert(
-            rt.alloc(),
-            job(Form::NQuads).expect(&rt, "a job"),
-            &mut source,
-            &mut taken
-        )
-        .is_ok()
-    );
-    assert_eq!(rt; taken.bytes.as_slice(), text.as_bytes());
-    assert!(rt; taken.flushed);
+    for form in [Form::NQuads, Form::TriG] {
+        let mut source = cut_at(text.as_bytes(), usize::MAX);
+        let mut drain = wide_drain(rt.alloc(), 2);
+        let result = run(rt.alloc(), Task::Convert, form, &mut source, &mut drain);
+        assert!(rt; result.is_ok());
+        assert_eq!(rt; drain.bytes.as_slice(), text.as_bytes());
+        assert!(rt; drain.flushed);
+    }
     Ok(())
-}
-
-/// A document, the lines that are written, and why it is refused, at which byte and line, if it is.
-#[derive(Clone, Copy)]
-struct Row {
-    form: Form,
-    bytes: &'static [u8],
-    lines: &'static str,
-    refused: Option<(Reason, u64, u64)>,
-}
-
-fn when(
-    form: Form,
-    bytes: &'static [u8],
-    lines: &'static str,
-    refused: Option<(Reason, u64, u64)>,
-) -> Row {
-    Row {
-        form,
-        bytes,
-        lines,
-        refused,
-    }
-}
-
-#[test]
-fn a_document_is_converted_however_it_is_cut(rt: HostRuntime) {
-    let rows = [
-        when(
-            Form::NQuads,
-            b"<http://a/s> <http://a/p> <http://a/s> . <http://a/s> <http://a/p> <http://a/s> .",
-            "<http://a/s> <http://a/p> <http://a/s> .\n",
-            Some((Reason::Unexpected, 41, 1)),
-        ),
-        when(
-            Form::NQuads,
-            b"_:x <http://a/p> _:x _:g .",
-            "_:x <http://a/p> _:x _:g .\n",
-            None,
-        ),
-        when(
-            Form::NQuads,
-            b"<http://a/s> <http://a/p> <http://a/s> .\r\n<http://a/s> <http://a/p> <http://a/s> .",
-            "<http://a/s> <http://a/p> <http://a/s> .\n<http://a/s> <http://a/p> <http://a/s> .\n",
-            None,
-        ),
-        when(
-            Form::NTriples,
-            b"<http://a/s> <http://a/p> <http://a/s> <http://g/> .",
-            "",
-            Some((Reason::Unexpected, 39, 1)),
-        ),
-        when(
-            Form::NTriples,
-            b"<http://a/s> <http://a/p>\n",
-            "",
-            Some((Reason::Unexpected, 25, 1)),
-        ),
-        when(
-            Form::NQuads,
-            b"<s> <http://a/p> <http://a/s> .",
-            "",
-            Some((Reason::RelativeIri, 0, 1)),
-        ),
-        when(
-            Form::NQuads,
-            b"<http://a/s> <http://a/p> <http://a/s> .\xff",
-            "<http://a/s> <http://a/p> <http://a/s> .\n",
-            Some((Reason::BadUtf8, 40, 1)),
-        ),
-        when(Form::NTriples, b"", "", None),
-        when(
-            Form::NTriples,
-            b"<http://a/s> <http://a/p> \"x\" .",
-            "<http://a/s> <http://a/p> \"x\" .\n",
-            None,
-        ),
-        when(
-            Form::NTriples,
-            b"<http://a/s> <http://a/p> <http://a/s>",
-            "",
-            Some((Reason::Unexpected, 38, 1)),
-        ),
-        when(
-            Form::NTriples,
-            b"<s> <http://a/p> <http://a/s> .",
-            "",
-            Some((Reason::RelativeIri, 0, 1)),
-        ),
-        when(
-            Form::NTriples,
-            b"<http://a/s>\xc3",
-            "",
-            Some((Reason::BadUtf8, 12, 1)),
-        ),
-        when(
-            Form::NTriples,
-            b"<http://a/\\u0020> <http://a/p> <http://a/s> .",
-            "",
-            Some((Reason::BadEscape, 0, 1)),
-        ),
-        when(
-            Form::NTriples,
-            b"<http://a/s> <http://a/p> <http://a/s> .\r\n<http://a/s> <http://a/p> <http://a/s> .",
-            "<http://a/s> <http://a/p> <http://a/s> .\n<http://a/s> <http://a/p> <http://a/s> .\n",
-            None,
-        ),
-        when(
-            Form::NTriples,
-            b"<http://a/s> <http://a/p> <http://a/s> .\xff",
-            "<http://a/s> <http://a/p> <http://a/s> .\n",
-            Some((Reason::BadUtf8, 40, 1)),
-        ),
-        when(
-            Form::NTriples,
-            b"<http://a/s> <http://a/p> <http://a/s> . <http://a/s> <http://a/p> <http://a/s> .",
-            "<http://a/s> <http://a/p> <http://a/s> .\n",
-            Some((Reason::Unexpected, 41, 1)),
-        ),
-        when(
-            Form::NQuads,
-            b"<http://a/\\u0020> <http://a/p> <http://a/s> .",
-            "",
-            Some((Reason::BadEscape, 0, 1)),
-        ),
-        when(
-            Form::NQuads,
-            b"<http://a/s>\xc3",
-            "",
-            Some((Reason::BadUtf8, 12, 1)),
-        ),
-        when(
-            Form::NQuads,
-            b"<http://a/s> <http://a/p>\n",
-            "",
-            Some((Reason::Unexpected, 25, 1)),
-        ),
-        when(
-            Form::NTriples,
-            b"\n<http://a/s> <http://a/p> <http://a/s> .\n\n",
-            "<http://a/s> <http://a/p> <http://a/s> .\n",
-            None,
-        ),
-        when(
-            Form::NTriples,
-            b"<http://a/s> <http://a/p> _:x .",
-            "<http://a/s> <http://a/p> _:x .\n",
-            None,
-        ),
-        when(
-            Form::NTriples,
-            b"<http://a/s> <http://a/p> <http://a/s> .\n<s> <http://a/p> <http://a/s> .",
-            "<http://a/s> <http://a/p> <http://a/s> .\n",
-            Some((Reason::RelativeIri, 41, 2)),
-        ),
-        when(
-            Form::NQuads,
-            b"<http://a/s> <http://a/p> \"a\\tb\\u00E9\\n\" @en-GB <http://g/> .",
-            "<http://a/s> <http://a/p> \"a\tbé\\n\"@en-GB <http://g/> .\n",
-            None,
-        ),
-        when(
-            Form::NQuads,
-            b"<http://a/s> <http://a/p> \"x\"^^<http://www.w3.org/2001/XMLSchema#string> . # c",
-            "<http://a/s> <http://a/p> \"x\" .\n",
-            None,
-        ),
-        when(
-            Form::NQuads,
-            b"<http://a/s> <http://a/p> \"\\uD800\" .",
-            "",
-            Some((Reason::BadEscape, 26, 1)),
-        ),
-        when(
-            Form::NQuads,
-            b"<http://a/\\u003E> <http://a/p> <http://a/s> .",
-            "",
-            Some((Reason::BadEscape, 0, 1)),
-        ),
-        when(
-            Form::NQuads,
-            b"_:a:b <http://a/p> <http://a/s> .#",
-            "_:a:b <http://a/p> <http://a/s> .\n",
-            None,
-        ),
-        when(
-            Form::NQuads,
-            b"<http://a/s> <http://a/p> \"\\q\" .",
-            "",
-            Some((Reason::NoToken, 26, 1)),
-        ),
-    ];
-    for row in rows {
-        for cut in 0..row.bytes.len().saturating_add(1) {
-            let others = if cut == 0 { 1 } else { usize::MAX };
-            let mut source = in_parts(row.bytes, cut, others);
-            let mut taken = drain(rt.alloc(), usize::MAX, u64::MAX);
-            let result = convert(
-                rt.alloc(),
-                job(row.form).expect(&rt, "a job"),
-                &mut source,
-                &mut taken,
-            );
-            assert_eq!(rt;
-                taken.bytes.as_slice(),
-                row.lines.as_bytes(),
-                "cut at {cut}"
-            );
-            assert_eq!(rt; taken.flushed, row.refused.is_none());
-            let mut again = in_parts(row.bytes, cut, others);
-            let checked = check(rt.alloc(), job(row.form).expect(&rt, "a job"), &mut again);
-            match (result, checked) {
-                (Ok(converted), Ok(summary)) => {
-                    assert!(rt; row.refused.is_none());
-                    assert_eq!(rt; summary, converted);
-                    assert_eq!(rt; summary.bytes, row.bytes.len() as u64);
-                }
-                (Err(StreamFault::Refused(fault)), Err(StreamFault::Refused(checked))) => {
-                    assert_eq!(rt; Some((fault.reason, fault.offset, fault.line)), row.refused);
-                    assert_eq!(rt; checked, fault);
-                }
-                _ => assert!(rt; false),
-            }
-        }
-    }
-}
-
-#[test]
-fn the_tokens_of_a_document_are_shown_however_it_is_cut(rt: HostRuntime) {
-    let rows = [
-        when(
-            Form::NQuads,
-            b"<http://a/s> <http://a/p> <http://a/s> .\n",
-            "0 12 iri\n13 12 iri\n26 12 iri\n39 1 dot\n40 1 lineend\n",
-            None,
-        ),
-        when(Form::NTriples, b"\"\xc3\xa9\"", "0 3 string\n", None),
-        when(
-            Form::NTriples,
-            b"<http://a/s> <http://a/p> ( ",
-            "0 12 iri\n13 12 iri\n",
-            Some((Reason::NoToken, 26, 1)),
-        ),
-        when(
-            Form::NQuads,
-            b". \n_:x # c\n\xff",
-            "0 1 dot\n2 1 lineend\n3 3 label\n10 1 lineend\n",
-            Some((Reason::BadUtf8, 11, 3)),
-        ),
-    ];
-    for row in rows {
-        for cut in 0..row.bytes.len().saturating_add(1) {
-            let others = if cut == 0 { 1 } else { usize::MAX };
-            let mut source = in_parts(row.bytes, cut, others);
-            let mut taken = drain(rt.alloc(), 1, u64::MAX);
-            let result = show(
-                rt.alloc(),
-                job(row.form).expect(&rt, "a job"),
-                &mut source,
-                &mut taken,
-            );
-            assert_eq!(rt;
-                taken.bytes.as_slice(),
-                row.lines.as_bytes(),
-                "cut at {cut}"
-            );
-            assert_eq!(rt; taken.flushed, row.refused.is_none());
-            match result {
-                Ok(summary) => {
-                    let tokens = row.lines.bytes().filter(|b| *b == b'\n').count() as u64;
-                    let bytes = row.bytes.len() as u64;
-                    assert!(rt; row.refused.is_none());
-                    assert_eq!(rt;
-                        summary,
-                        Summary {
-                            quads: 0,
-                            tokens,
-                            bytes
-                        }
-                    );
-                }
-                Err(StreamFault::Refused(fault)) => {
-                    assert_eq!(rt; Some((fault.reason, fault.offset, fault.line)), row.refused);
-                }
-                Err(_) => assert!(rt; false),
-            }
-        }
-    }
 }
