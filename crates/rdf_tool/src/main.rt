@@ -9,9 +9,10 @@ mod task;
 #[cfg(test)]
 mod tests;
 
-ghost use Rattle.std.specs.Prelude.{◌≡◌, ◌≢◌, IfOk, false, true};
+ghost use Rattle.std.specs.Prelude.{◌≡◌, ◌≢◌, IfErr, IfOk, false, true};
 ghost use Rattle.rdf_iri.specs.Scope.{BaseFits};
 ghost use Rattle.rdf_tool.specs.Statuses.{IsToldOf};
+ghost use Rattle.rdf_tool.specs.Words.{IsGiven, IsNotGiven};
 
 use crate::commands::{command_of, not_utf8};
 use crate::runs::{refuse_words, run};
@@ -34,7 +35,9 @@ fn main(rt: HostRuntime) -> ExitCode {
 
 // The task of the command line. A word that is no UTF-8 makes it no command.
 fn task_of(rt: &HostRuntime) -> Result<Task, WordsFault>
-    ensures { IfOk result (λ task. BaseFits task.base task.limits) }
+    ensures base { IfOk result (λ task. BaseFits task.base task.limits) }
+    ensures task { IfOk result IsGiven }
+    ensures refused { IfErr result IsNotGiven }
 {
     let words: Vec<String> = match env::args(rt) {
         Ok(words) => words.collect(rt.alloc())?,

@@ -1,6 +1,6 @@
 // A run, its status, and what it tells.
 
-ghost use Rattle.std.specs.Prelude.{◌≡◌, ◌≢◌, ◌⊎◌, ◌++◌, false, true, codes, decimal, Bool, List, ℕ, Option, IfErr, IfOk, IfSome, OnErr, OnOk, is_err};
+ghost use Rattle.std.specs.Prelude.{◌≡◌, ◌≢◌, ◌++◌, false, true, codes, decimal, Bool, List, ℕ, Option, IfErr, IfOk, IfSome, OnErr, OnOk, is_err};
 ghost use Rattle.std.specs.Option.{ForSome, IfNone};
 ghost use Rattle.std.specs.Io.KnownBytes.{Appends, Keeps};
 ghost use Rattle.rdf_iri.specs.Scope.{BaseFits};
@@ -170,7 +170,9 @@ fn tell_fault<E: Drain>(alloc: Global, fault: &StreamFault, err: &mut E)
     ensures { TellsOf fault.now (E.contents err.old) (E.contents err.new) (E.has_failed err.new) }
 {
     match fault {
-        StreamFault::Refused(_) => tell_refusal(alloc, fault, err),
+        StreamFault::Refused(_) => match tell_refusal(alloc, fault, err) {
+            Ok(()) | Err(AllocError) => {}
+        },
         StreamFault::Read => tell("rdfconv: read failed\n", err),
         StreamFault::Write => tell("rdfconv: write failed\n", err),
         StreamFault::Memory => {
@@ -180,13 +182,18 @@ fn tell_fault<E: Drain>(alloc: Global, fault: &StreamFault, err: &mut E)
 }
 
 // Where memory for the text is refused, nothing is told.
-fn tell_refusal<E: Drain>(alloc: Global, fault: &StreamFault, err: &mut E)
+fn tell_refusal<E: Drain>(alloc: Global, fault: &StreamFault, err: &mut E) -> Result<(), AllocError>
     requires { E.has_failed err.old ≡ false }
-    ensures { Tells (report_text fault.now) (E.contents err.old) (E.contents err.new) (E.has_failed err.new) ⊎ (E.contents err.new ≡ E.contents err.old) }
+    ensures told { OnOk result (Tells (report_text fault.now) (E.contents err.old) (E.contents err.new) (E.has_failed err.new)) }
+    ensures untold { OnErr result (E.contents err.new ≡ E.contents err.old) }
 {
     let mut text = Vec::new(alloc);
-    if report(alloc, fault, &mut text).is_ok() {
-        tell_bytes(text.as_slice(), err);
+    match report(alloc, fault, &mut text) {
+        Ok(()) => {
+            tell_bytes(text.as_slice(), err);
+            Ok(())
+        }
+        Err(_) => Err(AllocError),
     }
 }
 
