@@ -1,4 +1,4 @@
-//! Turtle and TriG: what a document is, and the laws of that.
+//! Turtle and TriG: what a document is, the laws of that, and the reader.
 #![tactic(auto)]
 
 mod accept;
