@@ -30,7 +30,7 @@ pub use iris::Iri;
 pub use kind::{Dialect, Kind};
 pub use labels::Label;
 pub use list::QuadList;
-pub use local::local_value;
+pub use local::{is_plain_local, local_value};
 pub use reason::Reason;
 pub use sink::{PutFault, QuadSink};
 pub use spelled::known;

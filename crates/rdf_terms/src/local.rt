@@ -21,13 +21,22 @@ pub fn local_value<A: Allocator>(alloc: A, inside: &str) -> Result<String<A>, Va
     ensures text { IfOk result (λ s. all_have (has iri_char) (chars (string_bytes s)) ≡ true) }
     ensures bad { (result ≡ Err ValueFault.BadEscape) ↔ (local_value (chars inside.now) ≡ None) }
 {
-    if iri_text(inside) {
+    if is_plain_local(inside) {
         return copied(alloc, inside);
     }
     if !has_local_value(inside) {
         return Err(ValueFault::BadEscape);
     }
     unescaped(alloc, inside)
+}
+
+/// Whether a local part is its own value: it has IRI characters alone, so no escape. What holds a backslash is not.
+#[tactic(auto, using(crate::proofs::LocalLemmas::local_value_plain))]
+pub fn is_plain_local(inside: &str) -> bool
+    ensures text { result ≡ all_have (has iri_char) (chars inside.now) }
+    ensures value { result ≡ true → local_value (chars inside.now) ≡ Some (chars inside.now) }
+{
+    iri_text(inside)
 }
 
 fn has_local_value(inside: &str) -> bool

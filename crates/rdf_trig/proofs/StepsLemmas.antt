@@ -1,11 +1,11 @@
 -- Puts one after the other.
-use Rattle.std.proofs.Common.{◌≡◌, Bool, List, [], ◌∷◌, ◌++◌, Option, Some, None, Result, Ok, Err, inr, refl, sym, ap, ◌∙◌, subst}
+use Rattle.std.proofs.Common.{◌≡◌, ℕ, ◌+◌, Bool, List, [], ◌∷◌, ◌++◌, Option, Some, None, Result, Ok, Err, inr, refl, sym, ap, ◌∙◌, subst, length, length-append, arith}
 use Rattle.std.proofs.lemmas.List.{append-nil, append_assoc}
 use Rattle.rdf_terms.specs.Terms.{Quad}
 use Rattle.rdf_terms.specs.Sinks.{Appends, Attempts}
 use Rattle.rdf_trig.specs.declared.fault.StepFault.{StepFault}
 use Rattle.rdf_trig.specs.declared.fault.StepFault.TheVariants.{Memory, Sink}
-use Rattle.std.specs.Prelude.{IfErr, IsErrAnd, OnOk}
+use Rattle.std.specs.Prelude.{IfOk, IfErr, IsErrAnd}
 use Rattle.rdf_iri.specs.Scope.{InForce}
 use Rattle.rdf_trig.specs.declared.form.DocForm.{DocForm}
 use Rattle.rdf_trig.specs.Machine.{kept}
@@ -62,23 +62,18 @@ pub gave_given : {S X : Type 0} (takes leaves : S → Quad → S → Type 0) (fa
 gave_given takes leaves failed (Ok x) old new qs f e h = tt
 gave_given takes leaves failed (Err r) old new qs f e h = λ form s. subst (λ x. GaveUp takes leaves failed r x old new) (sym (e form s)) h
 
+-- how many quads were put
+pub counted_given : (x : Result ℕ StepFault) (q r w : Option Quad) (f : DocForm → InForce → List Quad) →
+    ((form : DocForm) (s : InForce) → f form s ≡ kept q [] ++ (kept r [] ++ kept w [])) →
+    IfOk x (λ n. n ≡ length (kept q []) + length (kept r []) + length (kept w [])) →
+    IfOk x (λ n. (form : DocForm) (s : InForce) → n ≡ length (f form s))
+counted_given (Ok n) q r w f e h = λ form s.
+    let size = ap length (e form s) in
+    let a = length-append (kept q []) (kept r [] ++ kept w []) in
+    let b = length-append (kept r []) (kept w []) in
+    omega (arith, size, a, b, h)
+counted_given (Err x) q r w f e h = tt
+
 pub told_stops : {T : Type 0} (r : Result T StepFault) (told : StepFault) (P : StepFault → Type 0) → IsErrAnd r (λ t. t ≡ told) → P told → IfErr r P
 told_stops (Ok x) told P e h = tt
 told_stops (Err t) told P e h = subst P (sym e) h
-
--- what follows from what holds of a result
-pub on_ok : {X E : Type 0} (r : Result X E) (P Q : Type 0) → (P → Q) → OnOk r P → OnOk r Q
-on_ok (Ok x) P Q f h = f h
-on_ok (Err e) P Q f h = tt
-
-pub on_ok_both : {X E : Type 0} (r : Result X E) (P Q R : Type 0) → (P → Q → R) → OnOk r P → OnOk r Q → OnOk r R
-on_ok_both (Ok x) P Q R f h k = f h k
-on_ok_both (Err e) P Q R f h k = tt
-
-pub on_ok_any : {X E : Type 0} (r : Result X E) (P : Type 0) → P → OnOk r P
-on_ok_any (Ok x) P h = h
-on_ok_any (Err e) P h = tt
-
-pub if_err : {X E : Type 0} (r : Result X E) (P Q : E → Type 0) → ((e : E) → P e → Q e) → IfErr r P → IfErr r Q
-if_err (Ok x) P Q f h = tt
-if_err (Err e) P Q f h = f e h

@@ -1,6 +1,6 @@
 // A token is accepted: the checks, then the quads that are due, then the move.
 
-ghost use Rattle.std.specs.Prelude.{◌≡◌, ◌≤◌, ◌<◌, ◌+◌, ◌^◌, ◌&&◌, List, length, nat_le, true, false, OnOk, IfErr};
+ghost use Rattle.std.specs.Prelude.{◌≡◌, ◌≤◌, ◌<◌, ◌+◌, ◌^◌, ◌&&◌, List, length, nat_le, true, false, OnOk, IfOk, IfErr};
 ghost use Rattle.rdf_iri.specs.Limits.{Sizes};
 ghost use Rattle.rdf_terms.specs.Terms.{Quad};
 ghost use Rattle.rdf_iri.specs.Scope.{InForce};
@@ -13,7 +13,7 @@ ghost use Rattle.rdf_trig.specs.Steps.{state_of, moved, May, Refused, Stays, Dep
 use crate::allows::allows;
 use crate::fault::StepFault;
 use crate::form::DocForm;
-use crate::give::{give, how_many};
+use crate::give::give;
 use crate::names::look_up;
 use crate::state::{Held, Level, Mode, Outer, State};
 use crate::turns::turn;
@@ -65,20 +65,6 @@ impl<A: Allocator + Copy> State<A> {
         }
     }
 
-    /// How many quads the token determines, where it is accepted.
-    pub fn gives(&self, token: Token<'_>) -> u64
-        ensures { (form : DocForm) (s : InForce) (qs : List Quad) (n : M.State) → M.accept form (state_of form s self.now) token.entry.kind (leaf token.entry) ≡ M.accepts qs n → result ≡ length qs }
-    {
-        how_many(
-            &self.mode,
-            &self.level,
-            &self.frames,
-            self.rest,
-            &self.held,
-            token,
-        )
-    }
-
     // Whether the token may stand here by the grammar, and by the limit of open brackets.
     fn check(&self, form: DocForm, limits: Limits, kind: Kind) -> Result<(), StepFault>
         requires { self.now.depth ≡ M.depth (mode_of form self.now.level self.now.frames.items self.now.mode) }
@@ -127,7 +113,8 @@ impl<A: Allocator + Copy> State<A> {
         Ok(())
     }
 
-    /// Accepts a token, or says why not. After an error nothing is known of the state.
+    /// Accepts a token, and answers how many quads it determined, or says why not. After an error nothing is known of the
+    /// state.
     pub fn accept<S: QuadSink>(
         &mut self,
         alloc: A,
@@ -136,13 +123,14 @@ impl<A: Allocator + Copy> State<A> {
         scope: &mut Scope<A>,
         token: Token<'_>,
         sink: &mut S,
-    ) -> Result<(), StepFault>
+    ) -> Result<u64, StepFault>
         requires token { IsTurtleToken token }
         requires short { length (leaf token).text ≤ limits.token }
         requires limits { scope.old.limits ≡ limits }
         requires keeps { Keeps form limits self.old }
         requires live { S.has_failed sink.old ≡ false }
         ensures ok { OnOk result ((s : InForce) → SameScope s scope.old → Accepts S.takes form (M.accept form (state_of form s self.old) token.entry.kind (leaf token.entry)) sink.old self.new scope.new sink.new) }
+        ensures count { IfOk result (λ n. (s : InForce) (qs : List Quad) (m : M.State) → M.accept form (state_of form s self.old) token.entry.kind (leaf token.entry) ≡ M.accepts qs m → n ≡ length qs) }
         ensures limits { OnOk result (scope.new.limits ≡ limits) }
         ensures keeps { OnOk result (Keeps form limits self.new) }
         ensures live { OnOk result (S.has_failed sink.new ≡ false) }
@@ -150,7 +138,7 @@ impl<A: Allocator + Copy> State<A> {
     {
         self.check(form, limits, token.kind)?;
         let name = look_up(alloc, &self.mode, scope, token)?;
-        give(
+        let given = give(
             &self.mode,
             &self.level,
             &self.frames,
@@ -159,6 +147,9 @@ impl<A: Allocator + Copy> State<A> {
             token,
             sink,
         )?;
-        self.move_on(alloc, form, token, name)
+        match self.move_on(alloc, form, token, name) {
+            Ok(()) => Ok(given),
+            Err(fault) => Err(fault),
+        }
     }
 }

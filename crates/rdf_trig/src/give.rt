@@ -1,6 +1,6 @@
 // The quads that a token determines are put: those that were held for it, and the one that waited to know it.
 
-ghost use Rattle.std.specs.Prelude.{◌≡◌, ◌+◌, ◌≤◌, length, ◌++◌, false, [], Option, Some, None, OnOk, IfErr, option_map};
+ghost use Rattle.std.specs.Prelude.{◌≡◌, ◌+◌, ◌≤◌, length, ◌++◌, false, [], Option, Some, None, OnOk, IfOk, IfErr, option_map};
 ghost use Rattle.std.specs.Str.{chars};
 ghost use Rattle.std.specs.String.{string_bytes};
 ghost use Rattle.rdf_terms.specs.Terms as term;
@@ -109,6 +109,7 @@ fn label<A: Allocator>(graph: &Option<Subject<A>>) -> Option<SubjectRef<'_>>
 }
 
 // The quad of an object at a place.
+#[inline(always)]
 fn quad_at<'a, A: Allocator>(
     frame: &'a Frame<A>,
     object: TermRef<'a>,
@@ -137,6 +138,7 @@ fn quad_at<'a, A: Allocator>(
 }
 
 // The quad of what a bracket stands for, where that is an object.
+#[inline(always)]
 #[tactic(auto, using(crate::proofs::Stack::up_last))]
 fn quad_up<'a, A: Allocator>(
     frames: &'a [Frame<A>],
@@ -152,6 +154,7 @@ fn quad_up<'a, A: Allocator>(
 }
 
 // The quad between a cell and what comes behind it.
+#[inline(always)]
 fn cells<'a>(cell: u64, next: SubjectRef<'a>, graph: Option<SubjectRef<'a>>) -> QuadRef<'a>
     ensures { Some (quad_of result) ≡ cells_quad (option_map (subject_by chars) graph.entry) cell (subject_by chars next.entry) }
 {
@@ -169,6 +172,7 @@ fn cell_node(offset: u64) -> SubjectRef<'static>
     SubjectRef::Node(NodeRef::Cell(offset))
 }
 
+#[inline(always)]
 fn rest_quad<'a>(rest: Option<(u64, u64)>, graph: Option<SubjectRef<'a>>) -> Option<QuadRef<'a>>
     ensures { option_map quad_of result ≡ rest_of (option_map (subject_by chars) graph.entry) rest }
 {
@@ -179,6 +183,7 @@ fn rest_quad<'a>(rest: Option<(u64, u64)>, graph: Option<SubjectRef<'a>>) -> Opt
 }
 
 // The quad whose head ended with the last token.
+#[inline(always)]
 fn held_quad<'a, A: Allocator>(
     held: &'a Held<A>,
     mode: &'a Mode<A>,
@@ -199,6 +204,7 @@ fn held_quad<'a, A: Allocator>(
 }
 
 // The quad that waits to know the token.
+#[inline(always)]
 fn waiting_quad<'a, A: Allocator>(
     mode: &'a Mode<A>,
     frames: &'a [Frame<A>],
@@ -223,42 +229,48 @@ fn waiting_quad<'a, A: Allocator>(
     }
 }
 
-// Puts a quad, if there is one.
-fn put<S: QuadSink>(quad: Option<QuadRef<'_>>, sink: &mut S) -> Result<(), StepFault>
+// Puts a quad, if there is one, and answers how many it put.
+#[inline(always)]
+fn put<S: QuadSink>(quad: Option<QuadRef<'_>>, sink: &mut S) -> Result<u64, StepFault>
     requires live { S.has_failed sink.old ≡ false }
     ensures ok { OnOk result (Appends S.takes sink.old (kept (option_map quad_of quad.entry) []) sink.new) }
+    ensures count { IfOk result (λ n. n ≡ length (kept (option_map quad_of quad.entry) [])) }
+    ensures most { IfOk result (λ n. n ≤ 1) }
     ensures live { OnOk result (S.has_failed sink.new ≡ false) }
     ensures err { IfErr result (λ r. GaveUp S.takes S.leaves S.has_failed r (kept (option_map quad_of quad.entry) []) sink.old sink.new) }
 {
     let Some(quad) = quad else {
-        return Ok(());
+        return Ok(0);
     };
     match sink.put(quad) {
-        Ok(()) => Ok(()),
+        Ok(()) => Ok(1),
         Err(PutFault::Memory) => Err(StepFault::Memory),
         Err(PutFault::Device) => Err(StepFault::Sink),
     }
 }
 
-// Puts three quads, those that there are.
+// Puts three quads, those that there are, and answers how many it put.
+#[inline(always)]
 #[tactic(auto, using(crate::proofs::StepsLemmas::appends_append, crate::proofs::StepsLemmas::gave_more, crate::proofs::StepsLemmas::gave_behind))]
 fn put_all<S: QuadSink>(
     first: Option<QuadRef<'_>>,
     second: Option<QuadRef<'_>>,
     third: Option<QuadRef<'_>>,
     sink: &mut S,
-) -> Result<(), StepFault>
+) -> Result<u64, StepFault>
     requires live { S.has_failed sink.old ≡ false }
     ensures ok { OnOk result (Appends S.takes sink.old (kept (option_map quad_of first.entry) [] ++ (kept (option_map quad_of second.entry) [] ++ kept (option_map quad_of third.entry) [])) sink.new) }
+    ensures count { IfOk result (λ n. n ≡ length (kept (option_map quad_of first.entry) []) + length (kept (option_map quad_of second.entry) []) + length (kept (option_map quad_of third.entry) [])) }
     ensures live { OnOk result (S.has_failed sink.new ≡ false) }
     ensures err { IfErr result (λ r. GaveUp S.takes S.leaves S.has_failed r (kept (option_map quad_of first.entry) [] ++ (kept (option_map quad_of second.entry) [] ++ kept (option_map quad_of third.entry) [])) sink.old sink.new) }
 {
-    put(first, sink)?;
-    put(second, sink)?;
-    put(third, sink)
+    let first = put(first, sink)?;
+    let second = put(second, sink)?;
+    let third = put(third, sink)?;
+    Ok(first + second + third)
 }
 
-/// Puts the quads that the token determines.
+/// Puts the quads that the token determines, and answers how many they are.
 pub fn give<A: Allocator, S: QuadSink>(
     mode: &Mode<A>,
     level: &Level<A>,
@@ -267,9 +279,10 @@ pub fn give<A: Allocator, S: QuadSink>(
     held: &Held<A>,
     token: Token<'_>,
     sink: &mut S,
-) -> Result<(), StepFault>
+) -> Result<u64, StepFault>
     requires live { S.has_failed sink.old ≡ false }
     ensures ok { OnOk result ((form : DocForm) (s : InForce) → Appends S.takes sink.old (given form s mode.now level.now frames.now rest held.now token.entry) sink.new) }
+    ensures count { IfOk result (λ n. (form : DocForm) (s : InForce) → n ≡ length (given form s mode.now level.now frames.now rest held.now token.entry)) }
     ensures live { OnOk result (S.has_failed sink.new ≡ false) }
     ensures err { IfErr result (λ r. (form : DocForm) (s : InForce) → GaveUp S.takes S.leaves S.has_failed r (given form s mode.now level.now frames.now rest held.now token.entry) sink.old sink.new) }
 {
@@ -279,45 +292,5 @@ pub fn give<A: Allocator, S: QuadSink>(
         held_quad(held, mode, frames, graph),
         waiting_quad(mode, frames, graph, token),
         sink,
-    )
-}
-
-// How many quads this is.
-fn count(quad: Option<QuadRef<'_>>) -> u64
-    ensures count { result ≡ length (kept (option_map quad_of quad.entry) []) }
-    ensures most { result ≤ 1 }
-{
-    match quad {
-        None => 0,
-        Some(_) => 1,
-    }
-}
-
-fn count_all(
-    first: Option<QuadRef<'_>>,
-    second: Option<QuadRef<'_>>,
-    third: Option<QuadRef<'_>>,
-) -> u64
-    ensures { result ≡ length (kept (option_map quad_of first.entry) []) + length (kept (option_map quad_of second.entry) []) + length (kept (option_map quad_of third.entry) []) }
-{
-    count(first) + count(second) + count(third)
-}
-
-/// How many quads the token determines, where it is accepted.
-pub fn how_many<A: Allocator>(
-    mode: &Mode<A>,
-    level: &Level<A>,
-    frames: &[Frame<A>],
-    rest: Option<(u64, u64)>,
-    held: &Held<A>,
-    token: Token<'_>,
-) -> u64
-    ensures { (form : DocForm) (s : InForce) → result ≡ length (given form s mode.now level.now frames.now rest held.now token.entry) }
-{
-    let graph = graph(mode, level);
-    count_all(
-        rest_quad(rest, graph),
-        held_quad(held, mode, frames, graph),
-        waiting_quad(mode, frames, graph, token),
     )
 }

@@ -17,7 +17,7 @@ use crate::fault::StepFault;
 use crate::spelled::parts;
 use crate::state::{Mode, Outer};
 use rdf_iri::Scope;
-use rdf_terms::{Iri, Kind, ValueFault, iri_value, local_value, without_ends};
+use rdf_terms::{Iri, Kind, ValueFault, iri_value, is_plain_local, local_value, without_ends};
 use rdf_tokens::Token;
 use std::alloc::Allocator;
 
@@ -79,6 +79,9 @@ fn prefixed<A: Allocator + Copy>(
     ensures err { IfErr result (λ r. Unnamed scope.now token.entry.kind (leaf token.entry) r) }
 {
     let (prefix, local) = parts(token.text);
+    if is_plain_local(local) {
+        return Ok(scope.expand(prefix, local)?);
+    }
     let local = local_text(alloc, local)?;
     Ok(scope.expand(prefix, local.as_str())?)
 }

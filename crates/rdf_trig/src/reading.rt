@@ -102,7 +102,6 @@ impl<A: Allocator + Copy> Progress<A> {
         ensures live { OnOk result (S.has_failed sink.new ≡ false) }
         ensures err { IfErr result (λ r. Fails S.takes S.leaves S.has_failed r (M.accept rules.now.form (state_of rules.now.form self.old.scope self.old.state) token.entry.kind (leaf token.entry)) sink.old sink.new) }
     {
-        let given = self.state.gives(token);
         match self.state.accept(
             alloc,
             rules.form,
@@ -111,7 +110,7 @@ impl<A: Allocator + Copy> Progress<A> {
             token,
             sink,
         ) {
-            Ok(()) => {
+            Ok(given) => {
                 self.so_far = with_token(self.so_far, token.kind, given);
                 Ok(())
             }

@@ -16,7 +16,7 @@ with_token-self-requires-clause-quads g c =
     let s = same_itself old.scope in
     let x = answered_accepts g.S.QuadSink.takes form a c.args.sink.now c.accept.new.sink c.accept.new.self c.accept.new.scope (c.in-Ok.ensures.ok old.scope s) in
     let room = c.requires.room.quads (answered a) x.0 x.1 in
-    subst (λ n. old.so_far.quads + n ≤ 2 * most_bytes) (sym (c.gives-given.ensures form old.scope (answered a) x.0 x.1)) room
+    subst (λ n. old.so_far.quads + n ≤ 2 * most_bytes) (sym (c.in-Ok.ensures.count old.scope (answered a) x.0 x.1)) room
 
 pub returns-in-Ok-clause-ok : goal.returns-in-Ok-clause-ok
 returns-in-Ok-clause-ok g c =
@@ -28,7 +28,7 @@ returns-in-Ok-clause-ok g c =
     record {
       quads = answered a;
       does = does_accept g.S.QuadSink.takes form a c.args.sink.now c.accept.new.sink c.accept.new.self c.accept.new.scope (c.in-Ok.ensures.ok old.scope s);
-      so_far = subst (λ n. c.with_token-self.result ≡ with_token old.so_far (is_end c.args.token.kind) n) (c.gives-given.ensures form old.scope (answered a) x.0 x.1) c.with_token-self.ensures;
+      so_far = subst (λ n. c.with_token-self.result ≡ with_token old.so_far (is_end c.args.token.kind) n) (c.in-Ok.ensures.count old.scope (answered a) x.0 x.1) c.with_token-self.ensures;
     }
 
 pub returns-in-Err-clause-err : goal.returns-in-Err-clause-err
