@@ -1,12 +1,12 @@
 -- A document within the limits is read to its end, and so is what was written.
-use Rattle.std.proofs.Common.{◌≡◌, ◌≢◌, ℕ, ◌≤◌, Bool, true, false, not, nat_lt, List, [], ◌∷◌, ◌++◌, inr, length, refl, sym, ap, ◌∙◌, subst, Option, Some, None}
+use Rattle.std.proofs.Common.{◌≡◌, ℕ, ◌≤◌, true, false, not, nat_lt, List, [], ◌∷◌, ◌++◌, inr, refl, sym, ap, ◌∙◌, subst, Option, Some, None}
 use Rattle.std.specs.List.{AllByRecursion}
 use Rattle.std.specs.Prelude.{map, option_map, encode_utf8_all}
 use Rattle.std.proofs.lemmas.Bool.{and_from, le-ltb}
 use Rattle.rdf_terms.specs.declared.kind.Dialect.TheVariants.{Lines}
-use Rattle.rdf_terms.specs.Terms.{Lang, Typed, Subject, Iri, Blank, Term, Resource, Literal, Quad, has_scheme}
+use Rattle.rdf_terms.specs.Terms.{Subject, Iri, Blank, Term, Resource, Literal, Quad, has_scheme}
 use Rattle.rdf_iri.specs.Texts.{byte_len}
-use Rattle.rdf_tokens.specs.Tokens.{Outcome, Token, Reading}
+use Rattle.rdf_tokens.specs.Tokens.{Outcome}
 use Rattle.rdf_tokens.specs.Tokens.Outcome.{undecided, complete}
 use Rattle.rdf_tokens.specs.Good.{tokens_of}
 use Rattle.rdf_tokens.specs.Grammars.{Viable, PassesNone}
@@ -19,8 +19,8 @@ use Rattle.rdf_lines.specs.declared.form.Style.{Style}
 use Rattle.rdf_lines.specs.Lines.{Name, Ref, Lab, Object, Named, Plain, WithType, WithTag, Statement, Line, Document as Tree, last, next, iri_of, subject_of, term_of, quad_of, quads, name_bound, object_bound, graph_bound, GoodStatement, GoodDocument, IsDocument, documents}
 use Rattle.rdf_lines.specs.Lines as L
 use Rattle.rdf_lines.specs.Machine.{Begin, Finished, is_taken}
-use Rattle.rdf_lines.specs.Documents.{Document, Passes, IsFrontOf, InFront, GoesOn, IsWhole}
-use Rattle.rdf_lines.specs.Writing.{rename_subject, rename_term, rename, text, Writable}
+use Rattle.rdf_lines.specs.Documents.{Document, Passes, IsFrontOf, GoesOn, IsWhole}
+use Rattle.rdf_lines.specs.Writing.{rename_subject, rename_term, rename, text}
 use Rattle.rdf_lines.specs.Laws.{ReadQuadsAreDue, DocumentsAreRead, RefusedIsNoDocument, WrittenTextIsRead, IsReadToItsEnd, SubjectWithin, TermWithin, GraphWithin, IrisWithin}
 use Rattle.rdf_lines.proofs.Runs.{run_document}
 use Rattle.rdf_lines.proofs.Refusals.{ran_none}

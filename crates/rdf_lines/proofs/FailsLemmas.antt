@@ -1,6 +1,6 @@
 -- Why reading stopped, for all bytes that were read before.
-use Rattle.std.proofs.Common.{◌≡◌, ℕ, ◌+◌, ◌<◌, ◌≤◌, Bool, true, false, List, [], ◌∷◌, ◌++◌, ◌⊎◌, length, take, drop, inl, inr, refl, sym, ap, ◌∙◌, subst, ⊎_elim, append_assoc, arith}
-use Rattle.std.proofs.lemmas.List.{append-nil, take-append-drop}
+use Rattle.std.proofs.Common.{◌≡◌, ℕ, Bool, true, false, List, [], ◌∷◌, ◌++◌, inl, refl, sym, ap, ◌∙◌, subst, ⊎_elim, append_assoc}
+use Rattle.std.proofs.lemmas.List.{append-nil}
 use Rattle.rdf_terms.specs.declared.kind.Dialect.TheVariants.{Lines}
 use Rattle.rdf_terms.specs.declared.reason.Reason.{Reason}
 use Rattle.rdf_terms.specs.declared.reason.Reason.TheVariants.{BadUtf8, NoToken, BadEscape, TokenTooLong, DocumentTooLong, Memory, Ended, Unexpected, RelativeIri, IriTooLong, Sink}
@@ -13,18 +13,15 @@ use Rattle.rdf_tokens.specs.Good.{tokens_of}
 use Rattle.rdf_tokens.specs.Unread.{Unread}
 use Rattle.rdf_tokens.specs.Scans as Scan
 use Rattle.rdf_tokens.specs.Scans.{GivesToken, TakesBytes, RefusesFor}
-use Rattle.rdf_tokens.specs.Grammars.{Viable, Due}
-use Rattle.rdf_tokens.proofs.LawLemmas.{lengthens}
 use Rattle.rdf_lines.specs.declared.rules.Rules.{Rules}
-use Rattle.rdf_lines.specs.Lines.{leaf_of, documents}
-use Rattle.rdf_lines.specs.Machine.{Mode, Begin, Answer, goes, gives, refuses, is_taken, accept}
+use Rattle.rdf_lines.specs.Lines.{leaf_of}
+use Rattle.rdf_lines.specs.Machine.{Answer, goes, gives, refuses, is_taken, accept}
 use Rattle.rdf_lines.specs.Documents.{Stops, Excludes, Exceeds, IsUnexpected, IsRelative, RefusedIn}
-use Rattle.rdf_lines.specs.States.{Leaves, Fails}
+use Rattle.rdf_lines.specs.States.{Leaves}
 use Rattle.rdf_lines.specs.LineRead.{LineRead}
-use Rattle.rdf_lines.specs.Readers.{HasRead, IsDueIn, LeavesOff, Refuses, FeedFails, FinishFails}
-use Rattle.rdf_lines.specs.Reading.{Stand, Advances, FailsToken, FailsAt, FailsAfter}
-use Rattle.rdf_lines.proofs.DocumentsLemmas.{refused_in_more}
-use Rattle.rdf_lines.proofs.ReachedLemmas.{Reached, reached_on, reached_due, all_tokens, reached_begins, due_in_reading, reached_stop, reached_unexpected, reached_relative, reached_long, reached_gave}
+use Rattle.rdf_lines.specs.Readers.{HasRead, IsDueIn, LeavesOff, Refuses}
+use Rattle.rdf_lines.specs.Reading.{Stand, Advances, FailsAfter}
+use Rattle.rdf_lines.proofs.ReachedLemmas.{Reached, reached_on, reached_due, due_in_reading, reached_stop, reached_unexpected, reached_relative, reached_long, reached_gave}
 
 abbrev pub rules_of : LineRead → Rules
 rules_of r = record { form = r.form; iri = r.iri }

@@ -1,11 +1,10 @@
 -- What a piece adds to what was read before.
-use Rattle.std.proofs.Common.{◌≡◌, ℕ, zero, suc, ◌+◌, ◌<◌, ◌≤◌, Bool, true, false, cond, List, [], ◌∷◌, ◌++◌, ◌⊎◌, length, take, drop, inl, inr, refl, sym, ap, ◌∙◌, subst, ⊎_elim, append_assoc, arith, length-append}
+use Rattle.std.proofs.Common.{◌≡◌, ℕ, ◌+◌, ◌<◌, ◌≤◌, Bool, true, false, List, [], ◌∷◌, ◌++◌, length, take, drop, refl, sym, ap, ◌∙◌, subst, ⊎_elim, append_assoc, arith, length-append}
 use mathlib.Core.Bool.{Bool-set}
 use Rattle.std.proofs.Math.Bridge.{le_prop}
 use Rattle.std.proofs.Math.Logic.{∥∥₁_elim, ∥∥₁_prop}
 use Rattle.std.proofs.Math.Seq.{take-append_seam}
 use Rattle.std.proofs.lemmas.List.{append-nil, take-append-drop, length-take-le}
-use Rattle.rdf_terms.specs.declared.kind.Dialect.{Dialect}
 use Rattle.rdf_terms.specs.declared.kind.Dialect.TheVariants.{Lines}
 use Rattle.rdf_terms.specs.declared.kind.Kind.{Kind}
 use Rattle.rdf_terms.specs.declared.kind.Kind.TheVariants.{Dot}
@@ -13,8 +12,7 @@ use Rattle.rdf_terms.specs.declared.reason.Reason.{Reason}
 use Rattle.rdf_terms.specs.declared.reason.Reason.TheVariants.{DocumentTooLong, Memory, Ended, Sink}
 use Rattle.rdf_terms.specs.Terms.{Quad}
 use Rattle.rdf_terms.proofs.SinksLemmas.{appends_attempts, appends_both}
-use Rattle.rdf_tokens.specs.Tokens.{Place, Token, Reading}
-use Rattle.rdf_tokens.specs.Tokens.Outcome.{complete}
+use Rattle.rdf_tokens.specs.Tokens.{Place, Token}
 use Rattle.rdf_tokens.specs.Good.{tokens_of, end_of}
 use Rattle.rdf_tokens.specs.Unread.{Unread}
 use Rattle.rdf_tokens.specs.Scans as Scan
@@ -26,15 +24,15 @@ use Rattle.rdf_lines.specs.declared.form.LineForm.{LineForm}
 use Rattle.rdf_lines.specs.declared.rules.Rules.{Rules}
 use Rattle.rdf_lines.specs.declared.fault.Summary.{Summary}
 use Rattle.rdf_lines.specs.Lines.{documents}
-use Rattle.rdf_lines.specs.Machine.{Mode, Begin, is_taken, ran, run}
+use Rattle.rdf_lines.specs.Machine.{Mode, Begin, is_taken, run}
 use Rattle.rdf_lines.specs.Documents.{RefusedIn}
 use Rattle.rdf_lines.specs.LineRead.{LineRead}
 use Rattle.rdf_lines.specs.Readers.{tokens_so_far, HasRead, IsDueIn, LeavesOff, Refuses, Feeds, FeedFails, IsTooLong}
-use Rattle.rdf_lines.specs.Reading.{Stand, Advances, IsDecided, IsEnded, ReadsAll, FailsAfter, Known, IsReady, IsLive}
+use Rattle.rdf_lines.specs.Reading.{Stand, IsDecided, IsEnded, ReadsAll, Known, IsReady, IsLive}
 use Rattle.rdf_lines.proofs.DocumentsLemmas.{refused_in_more}
 use Rattle.rdf_lines.proofs.ReachedLemmas.{Reached, reached_on, reached_begins, due_in_reading}
 use Rattle.rdf_lines.proofs.ReadingLemmas.{advances_none}
-use Rattle.rdf_lines.proofs.FailsLemmas.{rules_of, Reaches, Told, told, leaves_here}
+use Rattle.rdf_lines.proofs.FailsLemmas.{rules_of, Reaches, Told, leaves_here}
 use Rattle.rdf_lines.proofs.Lag.{is_dot, dots, given_dots}
 
 -- a reader as a stand

@@ -1,18 +1,15 @@
 -- What the end adds to what was read before.
-use Rattle.std.proofs.Common.{◌≡◌, ℕ, ◌+◌, ◌≤◌, Bool, true, false, cond, List, [], ◌∷◌, ◌++◌, ◌⊎◌, length, inl, inr, refl, sym, ap, ◌∙◌, subst, ⊎_elim, append_assoc, arith, length-append}
+use Rattle.std.proofs.Common.{◌≡◌, ℕ, ◌+◌, Bool, true, false, List, [], ◌∷◌, ◌++◌, ◌⊎◌, length, inl, inr, refl, sym, ap, ◌∙◌, subst, ⊎_elim, append_assoc, arith, length-append}
 use Rattle.std.specs.Prelude.{Result, Ok, Err, OnOk, IfErr}
 use Rattle.std.proofs.Math.Logic.{∥∥₁_elim, ∥∥₁_prop}
-use Rattle.std.proofs.lemmas.Bool.{cond-false}
 use Rattle.rdf_terms.specs.declared.kind.Dialect.TheVariants.{Lines}
-use Rattle.rdf_terms.specs.declared.kind.Kind.{Kind}
 use Rattle.rdf_terms.specs.declared.kind.Kind.TheVariants.{End}
 use Rattle.rdf_terms.specs.declared.reason.Reason.{Reason}
 use Rattle.rdf_terms.specs.declared.reason.Reason.TheVariants.{DocumentTooLong, Memory, Ended, Unexpected, Sink}
 use Rattle.rdf_terms.specs.Terms.{Quad, has_scheme}
-use Rattle.rdf_tokens.specs.Tokens.{Place, Token, Reading}
+use Rattle.rdf_tokens.specs.Tokens.{Place, Token}
 use Rattle.rdf_tokens.specs.Good.{tokens_of}
 use Rattle.rdf_tokens.specs.Unread.{Unread}
-use Rattle.rdf_tokens.specs.Moves.{closed}
 use Rattle.rdf_tokens.specs.Scans as Scan
 use Rattle.rdf_tokens.specs.Scans.{IsOpen}
 use Rattle.rdf_tokens.specs.Grammars.{counted, PassesNone}
@@ -21,11 +18,11 @@ use Rattle.rdf_lines.specs.declared.form.LineForm.{LineForm}
 use Rattle.rdf_lines.specs.declared.form.LineForm.TheVariants.{NTriples, NQuads}
 use Rattle.rdf_lines.specs.declared.fault.Fault.{Fault}
 use Rattle.rdf_lines.specs.Lines.{Leaf, leaf_of, IsDocument}
-use Rattle.rdf_lines.specs.Machine.{Mode, Begin, AfterString, AfterObject, AfterDot, Finished, Answer, goes, gives, refuses, is_taken, accept, ran, refused, go_on, run}
-use Rattle.rdf_lines.specs.Documents.{Document, Passes, RefusedIn}
+use Rattle.rdf_lines.specs.Machine.{Mode, Begin, AfterString, AfterObject, AfterDot, Finished, goes, refuses, is_taken, accept, ran, refused, go_on, run}
+use Rattle.rdf_lines.specs.Documents.{Passes, RefusedIn}
 use Rattle.rdf_lines.specs.LineRead.{LineRead}
 use Rattle.rdf_lines.specs.Readers.{tokens_so_far, HasRead, IsDueIn, Sums, Finishes, FinishFails, place_of}
-use Rattle.rdf_lines.specs.Reading.{Stand, Advances, IsEnded, ReadsAll, ReadsTokens, Known, IsReady, IsLive}
+use Rattle.rdf_lines.specs.Reading.{Stand, IsEnded, ReadsAll, ReadsTokens, Known, IsReady, IsLive}
 use Rattle.rdf_lines.proofs.Sound.{sound}
 use Rattle.rdf_lines.proofs.Runs.{with_quads, run_one, then_ran, run_append}
 use Rattle.rdf_lines.proofs.DocumentsLemmas.{document_complete, document_front}

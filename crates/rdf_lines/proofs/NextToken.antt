@@ -1,5 +1,5 @@
 -- When a text is the next token, whatever comes behind it.
-use Rattle.std.proofs.Common.{◌≡◌, ℕ, zero, suc, ◌+◌, ◌-◌, ◌<◌, ◌≤◌, true, false, ◌||◌, ◌⊎◌, ⊎_elim, is_some, List, [], ◌∷◌, ◌++◌, refl, sym, ap, ◌∙◌, subst, Option, Some, None, length, take, drop, nat_lt, arith, length-append, append_assoc}
+use Rattle.std.proofs.Common.{◌≡◌, ℕ, zero, suc, ◌+◌, ◌-◌, ◌<◌, ◌≤◌, true, false, ◌||◌, ⊎_elim, is_some, List, [], ◌∷◌, ◌++◌, refl, sym, ap, ◌∙◌, subst, Option, Some, None, length, take, drop, arith, length-append, append_assoc}
 use Rattle.std.proofs.lemmas.Bool.{cond-true, cond-false, false≢true, le-ltb, and_left, and_right, cases_lt, cases_Bool}
 use Rattle.std.proofs.lemmas.List.{append-nil, take_at, drop_at}
 use Rattle.rdf_terms.specs.declared.kind.Dialect.TheVariants.{Lines}

@@ -1,8 +1,7 @@
 -- What a reader that has read some bytes says of them, and what its answers say.
-use Rattle.std.proofs.Common.{◌≡◌, ◌≢◌, ℕ, ◌<◌, ◌≤◌, ◌+◌, Bool, true, false, List, [], ◌∷◌, ◌++◌, ◌⊎◌, inl, inr, length, take, refl, sym, ap, ◌∙◌, subst, ⊎_elim, count_by, ◌==◌, arith}
+use Rattle.std.proofs.Common.{◌≡◌, ℕ, ◌+◌, Bool, true, false, List, [], ◌∷◌, ◌++◌, ◌⊎◌, inl, inr, length, take, refl, sym, ap, subst, count_by, ◌==◌, arith}
 use Rattle.std.specs.List.{All}
 use Rattle.std.proofs.lemmas.List.Elements.{All-head, All-tail}
-use Rattle.std.specs.Prelude.{Result, Ok, Err, IfOk, IfErr, OnOk}
 use Rattle.std.proofs.lemmas.List.{length-take-le}
 use Rattle.rdf_terms.specs.declared.kind.Dialect.TheVariants.{Lines}
 use Rattle.rdf_terms.specs.declared.reason.Reason.{Reason}
@@ -10,7 +9,7 @@ use Rattle.rdf_terms.specs.declared.reason.Reason.TheVariants.{BadUtf8, NoToken,
 use Rattle.rdf_terms.specs.Terms.{Quad, has_scheme}
 use Rattle.rdf_tokens.specs.Tokens.{Place, Outcome, Token, Reading}
 use Rattle.rdf_tokens.specs.Tokens.Outcome.{undecided, complete}
-use Rattle.rdf_tokens.specs.Good.{tokens_of, end_of}
+use Rattle.rdf_tokens.specs.Good.{tokens_of}
 use Rattle.rdf_tokens.specs.Laws.{IsPlaceIn, StandsIn}
 use Rattle.rdf_tokens.specs.Scans.{most_bytes}
 use Rattle.rdf_tokens.specs.Grammars.{Due}
@@ -22,13 +21,12 @@ use Rattle.rdf_lines.specs.declared.rules.Rules.{Rules}
 use Rattle.rdf_lines.specs.declared.reading.Progress.{Progress}
 use Rattle.rdf_lines.specs.States.{mode_of}
 use Rattle.rdf_lines.specs.Reading.{line_read}
-use Rattle.rdf_lines.specs.declared.fault.Fault.{Fault}
 use Rattle.rdf_lines.specs.declared.fault.Summary.{Summary}
 use Rattle.rdf_lines.specs.Lines.{documents}
 use Rattle.rdf_lines.specs.Machine.{Begin}
-use Rattle.rdf_lines.specs.Documents.{Passes, IsUnexpected, IsRelative, Stops, Excludes, Exceeds, RefusedIn, InFront, GoesOn, IsWhole}
+use Rattle.rdf_lines.specs.Documents.{Passes, Stops, RefusedIn, InFront, GoesOn, IsWhole}
 use Rattle.rdf_lines.specs.LineRead.{LineRead}
-use Rattle.rdf_lines.specs.Readers.{tokens_so_far, HasRead, Feeds, FeedFails, Finishes, FinishFails, Sums, IsTooLong, Denies, Exactly, IsPlaced, place_of}
+use Rattle.rdf_lines.specs.Readers.{tokens_so_far, HasRead, Feeds, FeedFails, Finishes, FinishFails, IsTooLong, Denies, IsPlaced}
 use Rattle.rdf_lines.proofs.Viable.{viable_ran}
 use Rattle.rdf_lines.proofs.Due.{due_ran}
 use Rattle.rdf_lines.proofs.Refusals.{in_documents, ran_none}

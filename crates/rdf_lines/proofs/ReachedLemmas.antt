@@ -1,13 +1,9 @@
 -- What is known of the bytes where some of their tokens were accepted, and where the next was not.
-use Rattle.std.proofs.Common.{◌≡◌, ℕ, Bool, true, false, List, [], ◌∷◌, ◌++◌, ◌⊎◌, refl, sym, ap, ◌∙◌, subst, ⊎_elim, append_assoc}
-use Rattle.std.proofs.lemmas.List.{append-nil}
-use Rattle.rdf_terms.specs.declared.kind.Dialect.{Dialect}
+use Rattle.std.proofs.Common.{◌≡◌, ℕ, List, [], ◌∷◌, ◌++◌, refl, sym, ap, ◌∙◌, subst, append_assoc}
 use Rattle.rdf_terms.specs.declared.kind.Dialect.TheVariants.{Lines}
-use Rattle.rdf_terms.specs.declared.reason.Reason.{Reason}
-use Rattle.rdf_terms.specs.declared.reason.Reason.TheVariants.{BadUtf8, NoToken, BadEscape, TokenTooLong, Memory, Unexpected, RelativeIri, IriTooLong, Sink}
+use Rattle.rdf_terms.specs.declared.reason.Reason.TheVariants.{Unexpected, RelativeIri, IriTooLong}
 use Rattle.rdf_terms.specs.Terms.{Quad, has_scheme}
 use Rattle.rdf_tokens.specs.Tokens.{Place, Outcome, Token, Reading}
-use Rattle.rdf_tokens.specs.Tokens.Outcome.{bad_utf8, no_token, bad_escape, token_too_long}
 use Rattle.rdf_tokens.specs.Good.{tokens_of}
 use Rattle.rdf_tokens.specs.Unread.{Unread}
 use Rattle.rdf_tokens.specs.Scans as S
@@ -17,12 +13,10 @@ use Rattle.rdf_tokens.proofs.LawLemmas.{given_beginning}
 use Rattle.rdf_tokens.proofs.GrammarFronts.{front_before, front_whole}
 use Rattle.rdf_lines.specs.declared.rules.Rules.{Rules}
 use Rattle.rdf_lines.specs.Lines.{leaf_of, documents}
-use Rattle.rdf_lines.specs.Machine.{Mode, Begin, Answer, goes, gives, refuses, is_taken, accept, ran, go_on, run}
-use Rattle.rdf_lines.specs.Documents.{Passes, IsFrontOf, Stops, Excludes, Exceeds, IsUnexpected, IsRelative, RefusedIn}
-use Rattle.rdf_lines.specs.States.{Leaves, Fails}
-use Rattle.rdf_lines.specs.LineRead.{LineRead}
-use Rattle.rdf_lines.specs.Readers.{HasRead, IsDueIn, LeavesOff, Refuses}
-use Rattle.rdf_lines.specs.Reading.{Stand, Advances, FailsToken, FailsAt, FailsAfter}
+use Rattle.rdf_lines.specs.Machine.{Mode, Begin, Answer, gives, refuses, is_taken, accept, ran, go_on, run}
+use Rattle.rdf_lines.specs.Documents.{Passes, IsFrontOf, Stops, Excludes, Exceeds, IsUnexpected, IsRelative}
+use Rattle.rdf_lines.specs.Readers.{IsDueIn}
+use Rattle.rdf_lines.specs.Reading.{Stand, Advances}
 use Rattle.rdf_lines.proofs.Runs.{with_quads, then, run_append, run_one}
 use Rattle.rdf_lines.proofs.Viable.{viable_ran}
 use Rattle.rdf_lines.proofs.Refusals.{in_documents, ran_none, unexpected, unexpected_not_viable, relative, relative_not_viable, too_long}

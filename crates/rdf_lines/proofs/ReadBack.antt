@@ -1,11 +1,10 @@
 -- The read-back law, for both styles and for bytes.
-use Rattle.std.proofs.Common.{◌≡◌, ℕ, ◌≤◌, true, false, List, [], ◌∷◌, ◌++◌, refl, sym, ap, subst, length}
+use Rattle.std.proofs.Common.{◌≡◌, ℕ, ◌≤◌, true, List, [], ◌∷◌, ◌++◌, refl, sym, ap, subst, length}
 use Rattle.std.specs.Prelude.{map, flat_map, encode_utf8_all}
 use Rattle.std.specs.List.{AllByRecursion}
 use Rattle.rdf_terms.specs.Terms.{Quad, has_scheme}
 use Rattle.rdf_terms.specs.declared.kind.Dialect.TheVariants.{Lines}
-use Rattle.rdf_tokens.specs.Tokens.{Place, tokens, Reading}
-use Rattle.rdf_tokens.specs.Tokens.Tail.{ended}
+use Rattle.rdf_tokens.specs.Tokens.{Reading}
 use Rattle.rdf_tokens.specs.Tokens.Outcome.{complete}
 use Rattle.rdf_lines.specs.Lines.{document_tokens, IsDocument}
 use Rattle.rdf_lines.specs.declared.form.LineForm.TheVariants.{NQuads}

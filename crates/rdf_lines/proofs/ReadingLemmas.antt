@@ -1,5 +1,5 @@
 -- What reading some tokens does, token by token.
-use Rattle.std.proofs.Common.{◌≡◌, ℕ, ◌≤◌, ◌+◌, Bool, true, false, cond, List, [], ◌∷◌, ◌++◌, length, inl, inr, refl, sym, ap, ◌∙◌, subst, append_assoc, arith, length-append}
+use Rattle.std.proofs.Common.{◌≡◌, ℕ, ◌≤◌, ◌+◌, Bool, true, false, cond, List, [], ◌∷◌, ◌++◌, length, refl, sym, ap, ◌∙◌, subst, append_assoc, arith, length-append}
 use Rattle.std.proofs.Math.Bridge.{le_prop}
 use Rattle.std.proofs.Math.Logic.{∥∥₁_elim, ∥∥₁_prop}
 use Rattle.std.proofs.lemmas.List.{append-nil}
@@ -8,7 +8,7 @@ use Rattle.rdf_terms.specs.declared.kind.Kind.{Kind}
 use Rattle.rdf_terms.specs.declared.kind.Kind.TheVariants.{IriRef, LabelNode, ShortString, LangTag, Carets, Dot, LineEnd, End}
 use Rattle.rdf_terms.specs.Terms.{Subject, Term, Literal, Typed, Quad, xsd_string}
 use Rattle.rdf_terms.specs.Sinks.{Appends}
-use Rattle.rdf_tokens.specs.Tokens.{Place, Token}
+use Rattle.rdf_tokens.specs.Tokens.{Token}
 use Rattle.rdf_tokens.specs.Good.{tokens_of}
 use Rattle.rdf_tokens.specs.Unread.{Unread}
 use Rattle.rdf_tokens.specs.Scans.{HasRead, is_end, most_bytes}
@@ -19,9 +19,9 @@ use Rattle.rdf_lines.specs.declared.form.LineForm.TheVariants.{NQuads}
 use Rattle.rdf_lines.specs.declared.rules.Rules.{Rules}
 use Rattle.rdf_lines.specs.declared.fault.Summary.{Summary}
 use Rattle.rdf_lines.specs.Lines.{Leaf, leaf_of, iri_of}
-use Rattle.rdf_lines.specs.Machine.{Mode, Begin, AfterSubject, AfterPredicate, AfterString, AfterCarets, AfterObject, AfterGraph, AfterDot, Answer, goes, gives, refuses, is_taken, iri_refused, absolute, object_then, accept, ran, go_on, run}
+use Rattle.rdf_lines.specs.Machine.{Mode, Begin, AfterSubject, AfterPredicate, AfterString, AfterCarets, AfterObject, AfterGraph, AfterDot, Answer, goes, gives, refuses, is_taken, iri_refused, absolute, object_then, accept, ran, go_on}
 use Rattle.rdf_lines.specs.States.{gave, Does}
-use Rattle.rdf_lines.specs.Reading.{Stand, with_token, TakesToken, WaitsHere, Advances, IsDecided, ReadsAll, IsEnded, Known, IsReady}
+use Rattle.rdf_lines.specs.Reading.{Stand, with_token, TakesToken, WaitsHere, Advances, IsDecided, Known, IsReady}
 use Rattle.rdf_lines.proofs.Runs.{with_quads, run_one}
 
 known_room : (v : Unread) (s : Summary) → Known v s → s.tokens ≤ most_bytes

@@ -4,7 +4,6 @@ use Rattle.std.specs.Prelude.{IfOk, IfErr}
 use Rattle.rdf_terms.specs.declared.reason.Reason.{Reason}
 use Rattle.rdf_terms.specs.declared.reason.Reason.TheVariants.{Memory, Unexpected, RelativeIri, IriTooLong}
 use Rattle.rdf_terms.specs.Terms.{Quad}
-use Rattle.rdf_lines.specs.declared.form.LineForm.{LineForm}
 use Rattle.rdf_lines.specs.Machine.{Mode, Answer, goes}
 use Rattle.rdf_lines.specs.States.{Declines, Does, Fails}
 

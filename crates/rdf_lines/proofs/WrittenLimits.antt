@@ -1,5 +1,5 @@
 -- The lines of a document's quads keep limits that are a little higher than the document's.
-use Rattle.std.proofs.Common.{◌≡◌, ℕ, zero, suc, ◌+◌, ◌-◌, ◌*◌, ◌<◌, ◌≤◌, Bool, true, false, cond, List, [], ◌∷◌, ◌++◌, length, take, drop, refl, sym, ap, ◌∙◌, subst, ⊎_elim, Option, Some, None, option_map, unwrap_or, arith, length-append}
+use Rattle.std.proofs.Common.{◌≡◌, ℕ, ◌+◌, ◌-◌, ◌*◌, ◌≤◌, true, List, [], ◌∷◌, ◌++◌, length, drop, refl, ap, subst, ⊎_elim, Option, Some, None, option_map, unwrap_or, arith, length-append}
 use Rattle.std.specs.Prelude.{map, flat_map, ◌==◌}
 use Rattle.std.specs.List.{All, AllByRecursion}
 use Rattle.std.proofs.lemmas.List.{length-take, length-drop}
@@ -8,21 +8,19 @@ use Rattle.std.proofs.lemmas.Bool.{cases_lt, cond_both}
 use Rattle.std.proofs.lemmas.Str.{length-le-encodes}
 use Rattle.std.proofs.Math.Utf8.{encode}
 use Rattle.rdf_terms.specs.declared.kind.Dialect.TheVariants.{Lines}
-use Rattle.rdf_terms.specs.declared.kind.Kind.{Kind}
-use Rattle.rdf_terms.specs.declared.kind.Kind.TheVariants.{IriRef, LabelNode, ShortString, LangTag, Carets, Dot, LineEnd, End}
+use Rattle.rdf_terms.specs.declared.kind.Kind.TheVariants.{IriRef, LabelNode, ShortString, LangTag, Dot, LineEnd, End}
 use Rattle.rdf_terms.specs.Values.{Spot, outside, slash, digits, Move, leads, means, fails, of_string, move, go, value, string_value, inside}
-use Rattle.rdf_terms.specs.Terms.{Label, Lang, Typed, Subject, Iri, Blank, Term, Resource, Literal, Quad, xsd_string, has_scheme}
+use Rattle.rdf_terms.specs.Terms.{Quad, xsd_string}
 use Rattle.rdf_iri.specs.Texts.{byte_len}
 use Rattle.rdf_tokens.specs.Tokens.{Token}
 use Rattle.rdf_tokens.specs.Good.{tokens_of}
 use Rattle.rdf_tokens.specs.Grammars.{PassesNone}
 use Rattle.rdf_tokens.proofs.LimitLemmas.{no_longer}
-use Rattle.rdf_lines.specs.declared.form.LineForm.{LineForm}
 use Rattle.rdf_lines.specs.declared.form.Style.TheVariants.{Kept}
 use Rattle.rdf_lines.specs.Lines.{Leaf, leaf_of, Name, Ref, Lab, Object, Named, Plain, WithType, WithTag, Statement, Line, Document as Tree, last, next, token, name_tokens, object_tokens, graph_tokens, head_tokens, statement_tokens, line_tokens, document_tokens, iri_of, string_of, subject_of, term_of, quad_of, quads}
 use Rattle.rdf_lines.specs.Lines as L
 use Rattle.rdf_lines.specs.Documents.{Passes}
-use Rattle.rdf_lines.specs.Writing.{escaped, iri_text, subject_text, string_text, rename_node, rename_subject, rename_term, rename}
+use Rattle.rdf_lines.specs.Writing.{escaped, iri_text, subject_text, string_text, rename_subject, rename_term, rename}
 use Rattle.rdf_lines.specs.Laws.{WrittenDocumentIsRead, SubjectWithin, TermWithin, GraphWithin, IrisWithin, TermShort, GraphShort, TokensWithin}
 use Rattle.rdf_lines.proofs.AcceptedLemmas.{text_read}
 

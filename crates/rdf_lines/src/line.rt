@@ -32,7 +32,8 @@ fn put_subject<A: Allocator + Copy>(
     ensures grown { OnErr result (BeginsWith out.old.items out.new.items) }
 {
     put_name(subject, style, out)?;
-    out.extend_from_slice(b" ")
+    out.push(b' ')?;
+    Ok(())
 }
 
 fn put_predicate<A: Allocator + Copy>(
@@ -43,7 +44,8 @@ fn put_predicate<A: Allocator + Copy>(
     ensures grown { OnErr result (BeginsWith out.old.items out.new.items) }
 {
     put_iri(predicate, out)?;
-    out.extend_from_slice(b" ")
+    out.push(b' ')?;
+    Ok(())
 }
 
 fn put_object<A: Allocator + Copy>(
@@ -55,7 +57,8 @@ fn put_object<A: Allocator + Copy>(
     ensures grown { OnErr result (BeginsWith out.old.items out.new.items) }
 {
     put_term(object, style, out)?;
-    out.extend_from_slice(b" ")
+    out.push(b' ')?;
+    Ok(())
 }
 
 fn put_end<A: Allocator + Copy>(

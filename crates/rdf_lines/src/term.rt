@@ -50,9 +50,10 @@ pub fn put_iri<A: Allocator + Copy>(
     ensures written { OnOk result (out.new.items ≡ out.old.items ++ iri_text iri.entry.text.now) }
     ensures grown { OnErr result (BeginsWith out.old.items out.new.items) }
 {
-    out.extend_from_slice(b"<")?;
+    out.push(b'<')?;
     out.extend_from_slice(iri.as_str().as_bytes())?;
-    out.extend_from_slice(b">")
+    out.push(b'>')?;
+    Ok(())
 }
 
 fn put_node<A: Allocator + Copy>(

@@ -1,4 +1,4 @@
-use Rattle.std.proofs.Common.{◌++◌, List, ℕ, arith, refl, false}
+use Rattle.std.proofs.Common.{◌++◌, arith, refl, false}
 use Rattle.rdf_terms.specs.declared.kind.Dialect.TheVariants.{Lines}
 use Rattle.rdf_tokens.specs.Good.{tokens_of}
 use Rattle.rdf_lines.specs.Readers.{place_of}

@@ -1,7 +1,7 @@
-use Rattle.std.proofs.Common.{[], ◌∷◌, ◌++◌, inl, inr, refl, ap, cond, true, false, ◌∙◌}
+use Rattle.std.proofs.Common.{[], ◌∷◌, ◌++◌, inr, refl, ap, cond, true, false, ◌∙◌}
 use Rattle.rdf_tokens.specs.Scans.{is_end}
 use Rattle.rdf_lines.specs.Reading.{stand}
-use Rattle.rdf_lines.proofs.ReadingLemmas.{advances_none, advances_token, advances_waits, decided_waits, ready_token}
+use Rattle.rdf_lines.proofs.ReadingLemmas.{advances_none, advances_token, ready_token}
 use Rattle.rdf_lines.proofs.reading.read_tokens.Goals as goal
 
 pub tokens-init : goal.tokens-init

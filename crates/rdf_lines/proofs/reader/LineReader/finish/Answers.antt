@@ -1,8 +1,8 @@
-use Rattle.std.proofs.Common.{◌≡◌, ◌++◌, List, ℕ, sym, ap, subst, ◌∙◌, IfErr}
+use Rattle.std.proofs.Common.{◌≡◌, List, ℕ, sym, subst, ◌∙◌, IfErr}
 use Rattle.rdf_terms.specs.Terms.{Quad}
 use Rattle.rdf_lines.specs.Documents.{IsWhole}
 use Rattle.rdf_lines.specs.LineRead.{LineRead}
-use Rattle.rdf_lines.specs.Readers.{HasRead, Denies, Exactly, IsPlaced, place_of}
+use Rattle.rdf_lines.specs.Readers.{HasRead, Exactly, IsPlaced, place_of}
 use Rattle.rdf_lines.specs.Reading.{line_read}
 use Rattle.rdf_lines.proofs.PromiseLemmas.{as_running, finish_whole, finish_denies, finish_placed}
 use Rattle.rdf_lines.proofs.reader.LineReader.finish.Goals.{in-Ok, in-Err}
