@@ -113,14 +113,14 @@ impl<R: Read> Source for In<R> {
 #[derive(Drop)]
 pub struct Out<W: Write> {
     writer: W,
-    failed: bool,
+    has_failed: bool,
     flushed: bool,
 }
 
 impl<W: Write> Model for Out<W> {
     ghost Value = { Written };
 
-    ghost view = { λ s. record { contents = W.contents s.writer; has_failed = s.failed; is_flushed = s.flushed } };
+    ghost view = { λ s. record { contents = W.contents s.writer; has_failed = s.has_failed; is_flushed = s.flushed } };
 }
 
 impl<W: Write> Out<W> {
@@ -130,9 +130,17 @@ impl<W: Write> Out<W> {
     {
         Out {
             writer,
-            failed: false,
+            has_failed: false,
             flushed: false,
         }
+    }
+
+    // The writer failed.
+    fn fail(&mut self) -> Failed
+        ensures { self.new ≡ record self.old { has_failed = true } }
+    {
+        self.has_failed = true;
+        Failed
     }
 }
 
@@ -146,15 +154,9 @@ impl<W: Write> Drain for Out<W> {
     fn put_some(&mut self, bytes: &[u8]) -> Result<usize, Failed> {
         self.flushed = false;
         match self.writer.write(bytes) {
-            Ok(count) if count == 0 && !bytes.is_empty() => {
-                self.failed = true;
-                Err(Failed)
-            }
+            Ok(count) if count == 0 && !bytes.is_empty() => Err(self.fail()),
             Ok(count) => Ok(count),
-            Err(_) => {
-                self.failed = true;
-                Err(Failed)
-            }
+            Err(_) => Err(self.fail()),
         }
     }
 
@@ -166,13 +168,12 @@ impl<W: Write> Drain for Out<W> {
             }
             Err(_) => {
                 self.flushed = false;
-                self.failed = true;
-                Err(Failed)
+                Err(self.fail())
             }
         }
     }
 
     fn failed(&self) -> bool {
-        self.failed
+        self.has_failed
     }
 }
