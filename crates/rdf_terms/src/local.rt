@@ -108,6 +108,19 @@ mod tests {
     }
 
     #[test]
+    fn a_part_without_escapes_is_plain(rt: HostRuntime) {
+        for (inside, plain) in [
+            ("", true),
+            ("é%20", true),
+            ("a:b", true),
+            ("a\\.b", false),
+            ("a b", false),
+        ] {
+            assert_eq!(rt; is_plain_local(inside), plain, "at {inside}");
+        }
+    }
+
+    #[test]
     fn bad_escapes_are_refused(rt: HostRuntime) {
         for inside in ["a\\", "a\\b", "\\\\", "\\u0041", "a b", "\\~<"] {
             let result = local_value(rt.alloc(), inside);
