@@ -1,15 +1,23 @@
 -- Puts one after the other.
-use Rattle.std.proofs.Common.{◌≡◌, ℕ, ◌+◌, Bool, List, [], ◌∷◌, ◌++◌, Option, Some, None, Result, Ok, Err, inr, refl, sym, ap, ◌∙◌, subst, length, length-append, arith}
+use Rattle.std.proofs.Common.{◌≡◌, ℕ, Bool, List, [], ◌∷◌, ◌++◌, Option, Some, None, Result, Ok, Err, inr, refl, sym, ap, ◌∙◌, subst}
 use Rattle.std.proofs.lemmas.List.{append-nil, append_assoc}
 use Rattle.rdf_terms.specs.Terms.{Quad}
 use Rattle.rdf_terms.specs.Sinks.{Appends, Attempts}
 use Rattle.rdf_trig.specs.declared.fault.StepFault.{StepFault}
 use Rattle.rdf_trig.specs.declared.fault.StepFault.TheVariants.{Memory, Sink}
-use Rattle.std.specs.Prelude.{IfOk, IfErr, IsErrAnd}
+use Rattle.std.specs.Prelude.{IfErr, IsErrAnd}
 use Rattle.rdf_iri.specs.Scope.{InForce}
 use Rattle.rdf_trig.specs.declared.form.DocForm.{DocForm}
+use Rattle.rdf_terms.specs.Terms as term
+use Rattle.rdf_tokens.specs.declared.token.Token.{Token as Given}
+use Rattle.rdf_trig.specs.declared.state.Level.{Level}
+use Rattle.rdf_trig.specs.declared.state.Frame.{Frame}
+use Rattle.rdf_trig.specs.declared.state.Mode.{Mode}
+use Rattle.rdf_trig.specs.declared.state.Held.{Held}
+use Rattle.rdf_trig.specs.Machine as M
 use Rattle.rdf_trig.specs.Machine.{kept}
-use Rattle.rdf_trig.specs.Steps.{Begins, GaveUp}
+use Rattle.rdf_trig.specs.States.{leaf, mode_of, graph_of, graph_at, setting, rest_of, held_of}
+use Rattle.rdf_trig.specs.Steps.{Begins, GaveUp, given}
 
 pub appends_append : {S : Type 0} (takes : S → Quad → S → Type 0) (a b c : S) (qs rs : List Quad) → Appends takes a qs b → Appends takes b rs c → Appends takes a (qs ++ rs) c
 appends_append takes a b c [] rs h k = subst (λ x. Appends takes x rs c) h k
@@ -56,23 +64,15 @@ pub given_apart : (q a r b w c : Option Quad) → q ≡ a → r ≡ b → w ≡ 
 given_apart q a r b w c e f g =
     sym (ap (λ x. kept x (kept b []) ++ kept c []) e) ∙ (sym (ap (λ x. kept q (kept x []) ++ kept c []) f) ∙ (sym (ap (λ x. kept q (kept r []) ++ kept x []) g) ∙ kept_apart q r w))
 
-pub gave_given : {S X : Type 0} (takes leaves : S → Quad → S → Type 0) (failed : S → Bool) (r : Result X StepFault) (old new : S) (qs : List Quad) (f : DocForm → InForce → List Quad) →
-    ((form : DocForm) (s : InForce) → f form s ≡ qs) → IfErr r (λ e. GaveUp takes leaves failed e qs old new) →
-    IfErr r (λ e. (form : DocForm) (s : InForce) → GaveUp takes leaves failed e (f form s) old new)
-gave_given takes leaves failed (Ok x) old new qs f e h = tt
-gave_given takes leaves failed (Err r) old new qs f e h = λ form s. subst (λ x. GaveUp takes leaves failed r x old new) (sym (e form s)) h
-
--- how many quads were put
-pub counted_given : (x : Result ℕ StepFault) (q r w : Option Quad) (f : DocForm → InForce → List Quad) →
-    ((form : DocForm) (s : InForce) → f form s ≡ kept q [] ++ (kept r [] ++ kept w [])) →
-    IfOk x (λ n. n ≡ length (kept q []) + length (kept r []) + length (kept w [])) →
-    IfOk x (λ n. (form : DocForm) (s : InForce) → n ≡ length (f form s))
-counted_given (Ok n) q r w f e h = λ form s.
-    let size = ap length (e form s) in
-    let a = length-append (kept q []) (kept r [] ++ kept w []) in
-    let b = length-append (kept r []) (kept w []) in
-    omega (arith, size, a, b, h)
-counted_given (Err x) q r w f e h = tt
+pub given_in : {A : Type 0} (form : DocForm) (s : InForce) (m : Mode A) (v : Level A) (fs : List (Frame A)) (rest : Option (ℕ × ℕ)) (held : Held A) (t : Given)
+    (g : Option term.Subject) (q r w : Option Quad) →
+    g ≡ graph_at m (graph_of v) → q ≡ rest_of g rest → r ≡ held_of g (mode_of form v fs m) held → w ≡ M.waiting (setting s g) (mode_of form v fs m) t.kind (leaf t) →
+    given form s m v fs rest held t ≡ kept q [] ++ (kept r [] ++ kept w [])
+given_in form s m v fs rest held t g q r w e a b c =
+    given_apart q _ r _ w _
+    (a ∙ ap (λ x. rest_of x rest) e)
+    (b ∙ ap (λ x. held_of x (mode_of form v fs m) held) e)
+    (c ∙ ap (λ x. M.waiting (setting s x) (mode_of form v fs m) t.kind (leaf t)) e)
 
 pub told_stops : {T : Type 0} (r : Result T StepFault) (told : StepFault) (P : StepFault → Type 0) → IsErrAnd r (λ t. t ≡ told) → P told → IfErr r P
 told_stops (Ok x) told P e h = tt

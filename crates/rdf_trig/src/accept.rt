@@ -97,7 +97,7 @@ impl<A: Allocator + Copy> State<A> {
         ensures err { IfErr result (λ r. (s : InForce) → let m = mode_of form self.old.level self.old.frames.items self.old.mode in NameIn s m token.entry.kind (leaf token.entry) name → Stays r (M.step form (setting s (graph_at self.old.mode (graph_of self.old.level))) m token.entry.kind (leaf token.entry))) }
     {
         let mode = mem::replace(&mut self.mode, Mode::Outer(Outer::Over));
-        let turn = turn(
+        match turn(
             alloc,
             form,
             mode,
@@ -105,12 +105,16 @@ impl<A: Allocator + Copy> State<A> {
             &mut self.frames,
             token,
             name,
-        )?;
-        self.mode = turn.mode;
-        self.rest = turn.rest;
-        self.held = turn.held;
-        self.depth = depth_behind(self.depth, token.kind);
-        Ok(())
+        ) {
+            Ok(turn) => {
+                self.mode = turn.mode;
+                self.rest = turn.rest;
+                self.held = turn.held;
+                self.depth = depth_behind(self.depth, token.kind);
+                Ok(())
+            }
+            Err(fault) => Err(fault),
+        }
     }
 
     /// Accepts a token, and answers how many quads it determined, or says why not. After an error nothing is known of the

@@ -249,27 +249,6 @@ fn put<S: QuadSink>(quad: Option<QuadRef<'_>>, sink: &mut S) -> Result<u64, Step
     }
 }
 
-// Puts three quads, those that there are, and answers how many it put.
-#[inline(always)]
-#[tactic(auto, using(crate::proofs::StepsLemmas::appends_append, crate::proofs::StepsLemmas::gave_more, crate::proofs::StepsLemmas::gave_behind))]
-fn put_all<S: QuadSink>(
-    first: Option<QuadRef<'_>>,
-    second: Option<QuadRef<'_>>,
-    third: Option<QuadRef<'_>>,
-    sink: &mut S,
-) -> Result<u64, StepFault>
-    requires live { S.has_failed sink.old ≡ false }
-    ensures ok { OnOk result (Appends S.takes sink.old (kept (option_map quad_of first.entry) [] ++ (kept (option_map quad_of second.entry) [] ++ kept (option_map quad_of third.entry) [])) sink.new) }
-    ensures count { IfOk result (λ n. n ≡ length (kept (option_map quad_of first.entry) []) + length (kept (option_map quad_of second.entry) []) + length (kept (option_map quad_of third.entry) [])) }
-    ensures live { OnOk result (S.has_failed sink.new ≡ false) }
-    ensures err { IfErr result (λ r. GaveUp S.takes S.leaves S.has_failed r (kept (option_map quad_of first.entry) [] ++ (kept (option_map quad_of second.entry) [] ++ kept (option_map quad_of third.entry) [])) sink.old sink.new) }
-{
-    let first = put(first, sink)?;
-    let second = put(second, sink)?;
-    let third = put(third, sink)?;
-    Ok(first + second + third)
-}
-
 /// Puts the quads that the token determines, and answers how many they are.
 pub fn give<A: Allocator, S: QuadSink>(
     mode: &Mode<A>,
@@ -287,10 +266,8 @@ pub fn give<A: Allocator, S: QuadSink>(
     ensures err { IfErr result (λ r. (form : DocForm) (s : InForce) → GaveUp S.takes S.leaves S.has_failed r (given form s mode.now level.now frames.now rest held.now token.entry) sink.old sink.new) }
 {
     let graph = graph(mode, level);
-    put_all(
-        rest_quad(rest, graph),
-        held_quad(held, mode, frames, graph),
-        waiting_quad(mode, frames, graph, token),
-        sink,
-    )
+    let rest = put(rest_quad(rest, graph), sink)?;
+    let held = put(held_quad(held, mode, frames, graph), sink)?;
+    let waiting = put(waiting_quad(mode, frames, graph, token), sink)?;
+    Ok(rest + held + waiting)
 }

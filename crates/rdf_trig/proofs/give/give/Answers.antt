@@ -1,37 +1,62 @@
-use Rattle.std.proofs.Common.{ap, ◌∙◌}
+use Rattle.std.proofs.Common.{◌≡◌, ◌++◌, [], sym, ap, subst, refl, length, length-append, arith}
 use Rattle.std.specs.Prelude.{option_map}
+use Rattle.rdf_terms.specs.Sinks.{Appends}
 use Rattle.rdf_terms.specs.Views.{quad_of}
-use Rattle.rdf_trig.specs.Machine as M
-use Rattle.rdf_trig.specs.States.{leaf, level_of, mode_of, setting, rest_of, held_of}
-use Rattle.rdf_trig.specs.Steps.{given}
-use Rattle.rdf_trig.proofs.StepsLemmas.{given_apart, gave_given, counted_given}
+use Rattle.rdf_trig.specs.Machine.{kept}
+use Rattle.rdf_trig.specs.States.{level_of}
+use Rattle.rdf_trig.specs.Steps.{GaveUp, given}
+use Rattle.rdf_trig.proofs.StepsLemmas.{appends_append, gave_more, gave_behind, given_in, told_stops}
 use Rattle.rdf_trig.proofs.give.give.Goals as goal
 
-pub returns-clause-count : goal.returns-clause-count
-returns-clause-count g c =
-    let v = c.args.level.now in
-    let m = c.args.mode.now in
-    let fs = c.args.frames.now in
-    counted_given c.put_all.result
-    (option_map quad_of c.rest_quad.result) (option_map quad_of c.held_quad.result) (option_map quad_of c.waiting_quad.result)
-    (λ form s. given form s m v fs c.args.rest c.args.held.now c.args.token)
-    (λ form s. given_apart
-    (option_map quad_of c.rest_quad.result) _ (option_map quad_of c.held_quad.result) _ (option_map quad_of c.waiting_quad.result) _
-    (c.rest_quad.ensures ∙ ap (λ x. rest_of x c.args.rest) c.graph-graph.ensures)
-    (c.held_quad.ensures form (level_of v) ∙ ap (λ x. held_of x (mode_of form v fs m) c.args.held.now) c.graph-graph.ensures)
-    (c.waiting_quad.ensures form s (level_of v) ∙ ap (λ x. M.waiting (setting s x) (mode_of form v fs m) c.args.token.kind (leaf c.args.token)) c.graph-graph.ensures))
-    c.put_all.ensures.count
+pub returns-in_err-rest-clause-err : goal.returns-in_err-rest-clause-err
+returns-in_err-rest-clause-err g c =
+    let told = c.in_err-rest.field-0.0 in
+    told_stops c.from_residual.result told _ c.from_residual.ensures.1
+    (λ form s. subst (λ qs. GaveUp g.S.QuadSink.takes g.S.QuadSink.leaves g.S.QuadSink.has_failed told qs c.args.sink.now c.put.new.sink)
+    (sym (given_in form s c.args.mode.now c.args.level.now c.args.frames.now c.args.rest c.args.held.now c.args.token _
+    (option_map quad_of c.rest_quad.result) _ _ c.graph-graph.ensures c.rest_quad.ensures
+    refl refl))
+    (gave_more g.S.QuadSink.takes g.S.QuadSink.leaves g.S.QuadSink.has_failed told c.args.sink.now c.put.new.sink (kept (option_map quad_of c.rest_quad.result) []) _ c.in_err-rest.ensures.err))
 
-pub returns-clause-err : goal.returns-clause-err
-returns-clause-err g c =
-    let v = c.args.level.now in
-    let m = c.args.mode.now in
-    let fs = c.args.frames.now in
-    gave_given g.S.QuadSink.takes g.S.QuadSink.leaves g.S.QuadSink.has_failed c.put_all.result c.args.sink.now c.put_all.new.sink _
-    (λ form s. given form s m v fs c.args.rest c.args.held.now c.args.token)
-    (λ form s. given_apart
-    (option_map quad_of c.rest_quad.result) _ (option_map quad_of c.held_quad.result) _ (option_map quad_of c.waiting_quad.result) _
-    (c.rest_quad.ensures ∙ ap (λ x. rest_of x c.args.rest) c.graph-graph.ensures)
-    (c.held_quad.ensures form (level_of v) ∙ ap (λ x. held_of x (mode_of form v fs m) c.args.held.now) c.graph-graph.ensures)
-    (c.waiting_quad.ensures form s (level_of v) ∙ ap (λ x. M.waiting (setting s x) (mode_of form v fs m) c.args.token.kind (leaf c.args.token)) c.graph-graph.ensures))
-    c.put_all.ensures.err
+pub returns-in_err-held-clause-err : goal.returns-in_err-held-clause-err
+returns-in_err-held-clause-err g c =
+    let told = c.in_err-held.field-0.0 in
+    told_stops c.from_residual-in_err-held.result told _ c.from_residual-in_err-held.ensures.1
+    (λ form s. subst (λ qs. GaveUp g.S.QuadSink.takes g.S.QuadSink.leaves g.S.QuadSink.has_failed told qs c.args.sink.now c.put-2.new.sink)
+    (sym (given_in form s c.args.mode.now c.args.level.now c.args.frames.now c.args.rest c.args.held.now c.args.token _
+    (option_map quad_of c.rest_quad.result) (option_map quad_of c.held_quad.result) _ c.graph-graph.ensures c.rest_quad.ensures
+    (c.held_quad.ensures form (level_of c.args.level.now)) refl))
+    (gave_behind g.S.QuadSink.takes g.S.QuadSink.leaves g.S.QuadSink.has_failed told c.args.sink.now c.put.new.sink c.put-2.new.sink (kept (option_map quad_of c.rest_quad.result) []) _ c.in_ok-rest.ensures.ok
+    (gave_more g.S.QuadSink.takes g.S.QuadSink.leaves g.S.QuadSink.has_failed told c.put.new.sink c.put-2.new.sink (kept (option_map quad_of c.held_quad.result) []) _ c.in_err-held.ensures.err)))
+
+pub returns-in_err-waiting-clause-err : goal.returns-in_err-waiting-clause-err
+returns-in_err-waiting-clause-err g c =
+    let told = c.in_err-waiting.field-0.0 in
+    told_stops c.from_residual-in_err-waiting.result told _ c.from_residual-in_err-waiting.ensures.1
+    (λ form s. subst (λ qs. GaveUp g.S.QuadSink.takes g.S.QuadSink.leaves g.S.QuadSink.has_failed told qs c.args.sink.now c.put-3.new.sink)
+    (sym (given_in form s c.args.mode.now c.args.level.now c.args.frames.now c.args.rest c.args.held.now c.args.token _
+    (option_map quad_of c.rest_quad.result) (option_map quad_of c.held_quad.result) (option_map quad_of c.waiting_quad.result) c.graph-graph.ensures c.rest_quad.ensures
+    (c.held_quad.ensures form (level_of c.args.level.now)) (c.waiting_quad.ensures form s (level_of c.args.level.now))))
+    (gave_behind g.S.QuadSink.takes g.S.QuadSink.leaves g.S.QuadSink.has_failed told c.args.sink.now c.put.new.sink c.put-3.new.sink (kept (option_map quad_of c.rest_quad.result) []) _ c.in_ok-rest.ensures.ok
+    (gave_behind g.S.QuadSink.takes g.S.QuadSink.leaves g.S.QuadSink.has_failed told c.put.new.sink c.put-2.new.sink c.put-3.new.sink (kept (option_map quad_of c.held_quad.result) []) (kept (option_map quad_of c.waiting_quad.result) []) c.in_ok-held.ensures.ok c.in_err-waiting.ensures.err)))
+
+pub returns-clause-ok : goal.returns-clause-ok
+returns-clause-ok g c = λ form s.
+    subst (λ qs. Appends g.S.QuadSink.takes c.args.sink.now qs c.put-3.new.sink)
+    (sym (given_in form s c.args.mode.now c.args.level.now c.args.frames.now c.args.rest c.args.held.now c.args.token _
+    (option_map quad_of c.rest_quad.result) (option_map quad_of c.held_quad.result) (option_map quad_of c.waiting_quad.result) c.graph-graph.ensures c.rest_quad.ensures
+    (c.held_quad.ensures form (level_of c.args.level.now)) (c.waiting_quad.ensures form s (level_of c.args.level.now))))
+    (appends_append g.S.QuadSink.takes c.args.sink.now c.put.new.sink c.put-3.new.sink (kept (option_map quad_of c.rest_quad.result) []) _ c.in_ok-rest.ensures.ok
+    (appends_append g.S.QuadSink.takes c.put.new.sink c.put-2.new.sink c.put-3.new.sink (kept (option_map quad_of c.held_quad.result) []) (kept (option_map quad_of c.waiting_quad.result) []) c.in_ok-held.ensures.ok c.in_ok-waiting.ensures.ok))
+
+pub returns-clause-count : goal.returns-clause-count
+returns-clause-count g c = λ form s.
+    let size = ap length (given_in form s c.args.mode.now c.args.level.now c.args.frames.now c.args.rest c.args.held.now c.args.token _
+    (option_map quad_of c.rest_quad.result) (option_map quad_of c.held_quad.result) (option_map quad_of c.waiting_quad.result) c.graph-graph.ensures c.rest_quad.ensures
+    (c.held_quad.ensures form (level_of c.args.level.now)) (c.waiting_quad.ensures form s (level_of c.args.level.now))) in
+    let a = length-append (kept (option_map quad_of c.rest_quad.result) []) ((kept (option_map quad_of c.held_quad.result) []) ++ (kept (option_map quad_of c.waiting_quad.result) [])) in
+    let b = length-append (kept (option_map quad_of c.held_quad.result) []) (kept (option_map quad_of c.waiting_quad.result) []) in
+    let first = c.in_ok-rest.ensures.count in
+    let second = c.in_ok-held.ensures.count in
+    let third = c.in_ok-waiting.ensures.count in
+    omega (arith, size, a, b, first, second, third)
