@@ -15,6 +15,7 @@ use crate::fault::StepFault;
 use crate::form::DocForm;
 use crate::give::give;
 use crate::names::look_up;
+use crate::rest::Rest;
 use crate::state::{Held, Level, Mode, Outer, State};
 use crate::turns::turn;
 use rdf_iri::{Limits, Scope};
@@ -59,7 +60,7 @@ impl<A: Allocator + Copy> State<A> {
             mode: Mode::Outer(Outer::Start),
             level: Level::Top,
             frames: Vec::new(alloc),
-            rest: None,
+            rest: Rest::none(),
             held: Held::Nothing,
             depth: 0,
         }
@@ -96,7 +97,7 @@ impl<A: Allocator + Copy> State<A> {
         ensures depth { OnOk result (DepthMoves token.entry.kind self.old.depth self.new.depth) }
         ensures err { IfErr result (λ r. (s : InForce) → let m = mode_of form self.old.level self.old.frames.items self.old.mode in NameIn s m token.entry.kind (leaf token.entry) name → Stays r (M.step form (setting s (graph_at self.old.mode (graph_of self.old.level))) m token.entry.kind (leaf token.entry))) }
     {
-        let mode = mem::replace(&mut self.mode, Mode::Outer(Outer::Over));
+        let mode = mem::replace(&mut self.mode, Mode::Paren);
         match turn(
             alloc,
             form,
@@ -146,7 +147,7 @@ impl<A: Allocator + Copy> State<A> {
             &self.mode,
             &self.level,
             &self.frames,
-            self.rest,
+            &self.rest,
             &self.held,
             token,
             sink,

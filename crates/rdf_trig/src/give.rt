@@ -17,6 +17,7 @@ ghost use Rattle.rdf_trig.specs.States.{leaf, topic_of, verb_of, object_of, plac
 ghost use Rattle.rdf_trig.specs.Steps.{GaveUp, given, up_quad};
 
 use crate::fault::StepFault;
+use crate::rest::Rest;
 use crate::state::{Frame, Held, Level, Mode, Object, Outer, Topic, Verb};
 use rdf_terms::{
     Iri, IriView, Kind, Known, LiteralRef, NodeRef, PutFault, QuadRef, QuadSink, Subject,
@@ -173,10 +174,10 @@ fn cell_node(offset: u64) -> SubjectRef<'static>
 }
 
 #[inline(always)]
-fn rest_quad<'a>(rest: Option<(u64, u64)>, graph: Option<SubjectRef<'a>>) -> Option<QuadRef<'a>>
-    ensures { option_map quad_of result ≡ rest_of (option_map (subject_by chars) graph.entry) rest }
+fn rest_quad<'a>(rest: &Rest, graph: Option<SubjectRef<'a>>) -> Option<QuadRef<'a>>
+    ensures { option_map quad_of result ≡ rest_of (option_map (subject_by chars) graph.entry) rest.now }
 {
-    match rest {
+    match rest.cells() {
         None => None,
         Some((cell, next)) => Some(cells(cell, cell_node(next), graph)),
     }
@@ -254,16 +255,16 @@ pub fn give<A: Allocator, S: QuadSink>(
     mode: &Mode<A>,
     level: &Level<A>,
     frames: &[Frame<A>],
-    rest: Option<(u64, u64)>,
+    rest: &Rest,
     held: &Held<A>,
     token: Token<'_>,
     sink: &mut S,
 ) -> Result<u64, StepFault>
     requires live { S.has_failed sink.old ≡ false }
-    ensures ok { OnOk result ((form : DocForm) (s : InForce) → Appends S.takes sink.old (given form s mode.now level.now frames.now rest held.now token.entry) sink.new) }
-    ensures count { IfOk result (λ n. (form : DocForm) (s : InForce) → n ≡ length (given form s mode.now level.now frames.now rest held.now token.entry)) }
+    ensures ok { OnOk result ((form : DocForm) (s : InForce) → Appends S.takes sink.old (given form s mode.now level.now frames.now rest.now held.now token.entry) sink.new) }
+    ensures count { IfOk result (λ n. (form : DocForm) (s : InForce) → n ≡ length (given form s mode.now level.now frames.now rest.now held.now token.entry)) }
     ensures live { OnOk result (S.has_failed sink.new ≡ false) }
-    ensures err { IfErr result (λ r. (form : DocForm) (s : InForce) → GaveUp S.takes S.leaves S.has_failed r (given form s mode.now level.now frames.now rest held.now token.entry) sink.old sink.new) }
+    ensures err { IfErr result (λ r. (form : DocForm) (s : InForce) → GaveUp S.takes S.leaves S.has_failed r (given form s mode.now level.now frames.now rest.now held.now token.entry) sink.old sink.new) }
 {
     let graph = graph(mode, level);
     let rest = put(rest_quad(rest, graph), sink)?;

@@ -11,6 +11,7 @@ pub mod laws;
 mod names;
 mod reader;
 mod reading;
+mod rest;
 mod rules;
 mod spelled;
 mod state;

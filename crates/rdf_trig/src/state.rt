@@ -1,5 +1,6 @@
 // Where the reader stands: what has been read, as far as it matters for what may come.
 
+use crate::rest::Rest;
 use rdf_terms::{Iri, Known, Subject, Tag};
 use std::alloc::{Allocator, Global};
 
@@ -130,7 +131,7 @@ pub enum Held<A: Allocator = Global> {
 /// the reader stands behind it.
 #[derive(Drop)]
 pub struct Turn<A: Allocator = Global> {
-    pub rest: Option<(u64, u64)>,
+    pub rest: Rest,
     pub held: Held<A>,
     pub mode: Mode<A>,
 }
@@ -145,7 +146,7 @@ pub struct State<A: Allocator = Global> {
     /// What is open round that place, the innermost last.
     pub frames: Vec<Frame<A>, A>,
     /// The cell before the one that the last token opened, and that cell.
-    pub rest: Option<(u64, u64)>,
+    pub rest: Rest,
     /// The quad whose head ended with the last token.
     pub held: Held<A>,
     /// How many `[` and `(` are open.

@@ -15,6 +15,7 @@ ghost use Rattle.rdf_trig.specs.States.{leaf, IsTurtleToken, IsNamed, IsNamedIn,
 
 use crate::fault::StepFault;
 use crate::form::DocForm;
+use crate::rest::Rest;
 use crate::spelled::{label, long_string, prefix, short_string, tag};
 use crate::state::{Around, Frame, Held, Level, Mode, Object, Outer, Spelling, Topic, Turn, Verb};
 use rdf_terms::{Iri, Kind, Known, Node, Subject};
@@ -26,14 +27,14 @@ fn quiet<A: Allocator>(mode: Mode<A>) -> Turn<A>
     ensures { result ≡ record { rest = None; held = Held.Nothing; mode = mode } }
 {
     Turn {
-        rest: None,
+        rest: Rest::none(),
         held: Held::Nothing,
         mode,
     }
 }
 
 // The mode behind an object, whose quad is held.
-fn whole<A: Allocator>(rest: Option<(u64, u64)>, object: Object<A>, frame: Frame<A>) -> Turn<A>
+fn whole<A: Allocator>(rest: Rest, object: Object<A>, frame: Frame<A>) -> Turn<A>
     ensures { result ≡ record { rest = rest; held = Held.Object object; mode = Mode.After frame } }
 {
     Turn {
@@ -131,7 +132,7 @@ fn object_start<A: Allocator + Copy>(
     alloc: A,
     frame: Frame<A>,
     frames: &mut Vec<Frame<A>, A>,
-    rest: Option<(u64, u64)>,
+    rest: Rest,
     token: Token<'_>,
     name: Option<Iri<A>>,
 ) -> Result<Turn<A>, StepFault>
@@ -211,7 +212,7 @@ fn want_type<A: Allocator>(
 {
     match (kind, name) {
         (Kind::IriRef | Kind::PnameNs | Kind::PnameLn, Some(iri)) => {
-            Ok(whole(None, Object::WithType(lexical, iri), frame))
+            Ok(whole(Rest::none(), Object::WithType(lexical, iri), frame))
         }
         _ => Err(StepFault::Unexpected),
     }
@@ -324,7 +325,7 @@ fn after_item<A: Allocator + Copy>(
         Kind::CloseParen => {
             let mode = list_closed(frames, Topic::Term(Subject::Node(Node::Cell(first))));
             Ok(Turn {
-                rest: None,
+                rest: Rest::none(),
                 held: Held::Nil(cell),
                 mode,
             })
@@ -335,7 +336,7 @@ fn after_item<A: Allocator + Copy>(
                 alloc,
                 Frame::Cells { first, cell: next },
                 frames,
-                Some((cell, next)),
+                Rest::of(cell, next),
                 token,
                 name,
             )
@@ -360,7 +361,7 @@ fn after_text<A: Allocator + Copy>(
 {
     match token.kind {
         Kind::LangTag | Kind::AtBase | Kind::AtPrefix => Ok(whole(
-            None,
+            Rest::none(),
             Object::WithTag(lexical, tag(alloc, token)?),
             frame,
         )),
@@ -407,7 +408,7 @@ fn paren<A: Allocator + Copy>(
                 alloc,
                 Frame::Cells { first: cell, cell },
                 frames,
-                None,
+                Rest::none(),
                 token,
                 name,
             )
@@ -732,7 +733,7 @@ pub fn turn<A: Allocator + Copy>(
     match mode {
         Mode::Outer(outer) => outer_turn(alloc, form, outer, level, frames, token, name),
         Mode::AfterSubject(subject) => after_subject(form, subject, level, token.kind, name),
-        Mode::Want(frame) => object_start(alloc, frame, frames, None, token, name),
+        Mode::Want(frame) => object_start(alloc, frame, frames, Rest::none(), token, name),
         Mode::After(frame) => after(alloc, frame, level, frames, token, name),
         Mode::AfterText(lexical, frame) => {
             after_text(alloc, lexical, frame, level, frames, token, name)

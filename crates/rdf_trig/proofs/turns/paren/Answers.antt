@@ -1,11 +1,13 @@
 use Rattle.std.proofs.Common.{refl}
 use Rattle.rdf_trig.specs.States.{leaf, use_at, setting, graph_of, level_of, up_of}
+use Rattle.rdf_trig.specs.Machine as M
 use Rattle.rdf_trig.proofs.Fallbacks.{paren-else}
-use Rattle.rdf_trig.proofs.TurnsLemmas.{gives_at}
+use Rattle.rdf_trig.proofs.TurnsLemmas.{gives_at, gives_object}
 use Rattle.rdf_trig.proofs.turns.paren.Goals as goal
 
 pub returns-in_default : goal.returns-in_default
 returns-in_default g c form s v h =
     gives_at form s (use_at s c.args.token.kind (leaf c.args.token)) c.object_start.result v v c.object_start.new.frames.items c.object_start.new.frames.items _ _ refl refl
     (paren-else (setting s (graph_of v)) (up_of (level_of v) c.args.frames.now.items) c.args.token.kind (leaf c.args.token) c.in_default.not-CloseParen)
-    (c.object_start.ensures form s v h)
+    (gives_object form s c.object_start.result v c.object_start.new.frames.items (setting s (graph_of v)) (M.InCells c.args.token.offset c.args.token.offset (up_of (level_of v) c.args.frames.now.items))
+    (graph_of v) c.args.token.kind (leaf c.args.token) _ _ c.none.ensures (c.object_start.ensures form s v h))

@@ -1,7 +1,7 @@
 use Rattle.std.proofs.Common.{Some}
 use Rattle.rdf_terms.specs.Owned.{owned_subject}
-use Rattle.rdf_trig.specs.States.{leaf, level_of}
-use Rattle.rdf_trig.proofs.TurnsLemmas.{gives_subject, name_subject}
+use Rattle.rdf_trig.specs.States.{leaf, level_of, setting, graph_of, place_of, up_of}
+use Rattle.rdf_trig.proofs.TurnsLemmas.{gives_subject, gives_object, name_subject}
 use Rattle.rdf_trig.proofs.turns.turn.Goals as goal
 
 pub returns-in-AfterSubject : goal.returns-in-AfterSubject
@@ -12,7 +12,11 @@ returns-in-AfterSubject g c =
     (c.after_subject.ensures s c.args.frames.now.items (leaf c.args.token) (name_subject c.args.form v x s c.args.token.kind (leaf c.args.token) c.args.name h)))
 
 pub returns-in-Want : goal.returns-in-Want
-returns-in-Want g c = rw c.in-Want.is (λ s h. c.object_start.ensures c.args.form s c.args.level.now h)
+returns-in-Want g c =
+    let v = c.args.level.now in
+    rw c.in-Want.is (λ s h. gives_object c.args.form s c.object_start.result v c.object_start.new.frames.items (setting s (graph_of v))
+    (place_of (level_of v) c.in-Want.frame (up_of (level_of v) c.args.frames.now.items)) (graph_of v) c.args.token.kind (leaf c.args.token) _ _ c.none.ensures
+    (c.object_start.ensures c.args.form s v h))
 
 pub returns-in-After : goal.returns-in-After
 returns-in-After g c = rw c.in-After.is (λ s h. c.after.ensures c.args.form s h)
