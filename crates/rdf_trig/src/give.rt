@@ -210,9 +210,9 @@ fn waiting_quad<'a, A: Allocator>(
     mode: &'a Mode<A>,
     frames: &'a [Frame<A>],
     graph: Option<SubjectRef<'a>>,
-    token: Token<'_>,
+    token: &Token<'_>,
 ) -> Option<QuadRef<'a>>
-    ensures { (form : DocForm) (s : InForce) (v : M.Level) → option_map quad_of result ≡ M.waiting (setting s (option_map (subject_by chars) graph.entry)) (mode_at form v (up_of v frames.now) mode.now) token.entry.kind (leaf token.entry) }
+    ensures { (form : DocForm) (s : InForce) (v : M.Level) → option_map quad_of result ≡ M.waiting (setting s (option_map (subject_by chars) graph.entry)) (mode_at form v (up_of v frames.now) mode.now) token.now.kind (leaf token.now) }
 {
     match mode {
         Mode::AfterText(lexical, frame) => match token.kind {
@@ -257,14 +257,14 @@ pub fn give<A: Allocator, S: QuadSink>(
     frames: &[Frame<A>],
     rest: &Rest,
     held: &Held<A>,
-    token: Token<'_>,
+    token: &Token<'_>,
     sink: &mut S,
 ) -> Result<u64, StepFault>
     requires live { S.has_failed sink.old ≡ false }
-    ensures ok { OnOk result ((form : DocForm) (s : InForce) → Appends S.takes sink.old (given form s mode.now level.now frames.now rest.now held.now token.entry) sink.new) }
-    ensures count { IfOk result (λ n. (form : DocForm) (s : InForce) → n ≡ length (given form s mode.now level.now frames.now rest.now held.now token.entry)) }
+    ensures ok { OnOk result ((form : DocForm) (s : InForce) → Appends S.takes sink.old (given form s mode.now level.now frames.now rest.now held.now token.now) sink.new) }
+    ensures count { IfOk result (λ n. (form : DocForm) (s : InForce) → n ≡ length (given form s mode.now level.now frames.now rest.now held.now token.now)) }
     ensures live { OnOk result (S.has_failed sink.new ≡ false) }
-    ensures err { IfErr result (λ r. (form : DocForm) (s : InForce) → GaveUp S.takes S.leaves S.has_failed r (given form s mode.now level.now frames.now rest.now held.now token.entry) sink.old sink.new) }
+    ensures err { IfErr result (λ r. (form : DocForm) (s : InForce) → GaveUp S.takes S.leaves S.has_failed r (given form s mode.now level.now frames.now rest.now held.now token.now) sink.old sink.new) }
 {
     let graph = graph(mode, level);
     let rest = put(rest_quad(rest, graph), sink)?;

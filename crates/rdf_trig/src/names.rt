@@ -22,10 +22,10 @@ use rdf_tokens::Token;
 use std::alloc::Allocator;
 
 // The text of an IRIREF, with its escapes replaced.
-fn reference_text<A: Allocator>(alloc: A, token: Token<'_>) -> Result<String<A>, StepFault>
-    requires token { IsTurtleToken token }
-    requires kind { IsReference token.kind }
-    ensures ok { IfOk result (λ s. chars (string_bytes s) ≡ iri_of (leaf token.entry)) }
+fn reference_text<A: Allocator>(alloc: A, token: &Token<'_>) -> Result<String<A>, StepFault>
+    requires token { IsTurtleToken token.now }
+    requires kind { IsReference token.now.kind }
+    ensures ok { IfOk result (λ s. chars (string_bytes s) ≡ iri_of (leaf token.now)) }
     ensures text { IfOk result (λ s. IsIriText (chars (string_bytes s))) }
     ensures err { IfErr result (λ r. r ≡ StepFault.Memory) }
 {
@@ -41,12 +41,12 @@ fn reference_text<A: Allocator>(alloc: A, token: Token<'_>) -> Result<String<A>,
 fn reference<A: Allocator + Copy>(
     alloc: A,
     scope: &Scope<A>,
-    token: Token<'_>,
+    token: &Token<'_>,
 ) -> Result<Iri<A>, StepFault>
-    requires token { IsTurtleToken token }
-    requires kind { IsReference token.kind }
-    ensures ok { IfOk result (λ i. Names scope.now token.entry.kind (leaf token.entry) (Some i)) }
-    ensures err { IfErr result (λ r. Unnamed scope.now token.entry.kind (leaf token.entry) r) }
+    requires token { IsTurtleToken token.now }
+    requires kind { IsReference token.now.kind }
+    ensures ok { IfOk result (λ i. Names scope.now token.now.kind (leaf token.now) (Some i)) }
+    ensures err { IfErr result (λ r. Unnamed scope.now token.now.kind (leaf token.now) r) }
 {
     let reference = reference_text(alloc, token)?;
     Ok(scope.resolve_here(reference.as_str())?)
@@ -71,12 +71,12 @@ fn local_text<A: Allocator>(alloc: A, local: &str) -> Result<String<A>, StepFaul
 fn prefixed<A: Allocator + Copy>(
     alloc: A,
     scope: &Scope<A>,
-    token: Token<'_>,
+    token: &Token<'_>,
 ) -> Result<Iri<A>, StepFault>
-    requires token { IsTurtleToken token }
-    requires kind { IsPrefixed token.kind }
-    ensures ok { IfOk result (λ i. Names scope.now token.entry.kind (leaf token.entry) (Some i)) }
-    ensures err { IfErr result (λ r. Unnamed scope.now token.entry.kind (leaf token.entry) r) }
+    requires token { IsTurtleToken token.now }
+    requires kind { IsPrefixed token.now.kind }
+    ensures ok { IfOk result (λ i. Names scope.now token.now.kind (leaf token.now) (Some i)) }
+    ensures err { IfErr result (λ r. Unnamed scope.now token.now.kind (leaf token.now) r) }
 {
     let (prefix, local) = parts(token.text);
     if is_plain_local(local) {
@@ -90,11 +90,11 @@ fn prefixed<A: Allocator + Copy>(
 fn name<A: Allocator + Copy>(
     alloc: A,
     scope: &Scope<A>,
-    token: Token<'_>,
+    token: &Token<'_>,
 ) -> Result<Option<Iri<A>>, StepFault>
-    requires token { IsTurtleToken token }
-    ensures ok { IfOk result (λ i. Names scope.now token.entry.kind (leaf token.entry) i) }
-    ensures err { IfErr result (λ r. Unnamed scope.now token.entry.kind (leaf token.entry) r) }
+    requires token { IsTurtleToken token.now }
+    ensures ok { IfOk result (λ i. Names scope.now token.now.kind (leaf token.now) i) }
+    ensures err { IfErr result (λ r. Unnamed scope.now token.now.kind (leaf token.now) r) }
 {
     match token.kind {
         Kind::IriRef => Ok(Some(reference(alloc, scope, token)?)),
@@ -107,12 +107,12 @@ fn name<A: Allocator + Copy>(
 fn set_base<A: Allocator + Copy>(
     alloc: A,
     scope: &mut Scope<A>,
-    token: Token<'_>,
+    token: &Token<'_>,
 ) -> Result<(), StepFault>
-    requires token { IsTurtleToken token }
-    requires kind { IsReference token.kind }
-    ensures ok { OnOk result (Based scope.old (leaf token.entry) scope.new) }
-    ensures err { IfErr result (λ r. Unnamed scope.old token.entry.kind (leaf token.entry) r) }
+    requires token { IsTurtleToken token.now }
+    requires kind { IsReference token.now.kind }
+    ensures ok { OnOk result (Based scope.old (leaf token.now) scope.new) }
+    ensures err { IfErr result (λ r. Unnamed scope.old token.now.kind (leaf token.now) r) }
 {
     let reference = reference_text(alloc, token)?;
     scope.set_base(reference.as_str())?;
@@ -124,13 +124,13 @@ fn bind<A: Allocator + Copy>(
     alloc: A,
     scope: &mut Scope<A>,
     prefix: &String<A>,
-    token: Token<'_>,
+    token: &Token<'_>,
 ) -> Result<(), StepFault>
-    requires token { IsTurtleToken token }
-    requires kind { IsReference token.kind }
+    requires token { IsTurtleToken token.now }
+    requires kind { IsReference token.now.kind }
     requires short { length (string_bytes prefix.now) ≤ 4 * scope.old.limits.token }
-    ensures ok { OnOk result (Binding scope.old (chars (string_bytes prefix.now)) (leaf token.entry) scope.new) }
-    ensures err { IfErr result (λ r. NotBinding scope.old (chars (string_bytes prefix.now)) (leaf token.entry) r) }
+    ensures ok { OnOk result (Binding scope.old (chars (string_bytes prefix.now)) (leaf token.now) scope.new) }
+    ensures err { IfErr result (λ r. NotBinding scope.old (chars (string_bytes prefix.now)) (leaf token.now) r) }
 {
     let reference = reference_text(alloc, token)?;
     scope.bind(prefix.as_str(), reference.as_str())?;
@@ -142,12 +142,12 @@ pub fn look_up<A: Allocator + Copy>(
     alloc: A,
     mode: &Mode<A>,
     scope: &mut Scope<A>,
-    token: Token<'_>,
+    token: &Token<'_>,
 ) -> Result<Option<Iri<A>>, StepFault>
-    requires token { IsTurtleToken token }
+    requires token { IsTurtleToken token.now }
     requires short { PrefixFits (4 * scope.old.limits.token) mode.now }
-    ensures ok { IfOk result (λ i. (form : DocForm) (v : M.Level) (u : M.Up) (s : InForce) → SameScope s scope.old → LooksUp s (mode_at form v u mode.now) token.entry.kind (leaf token.entry) i scope.new) }
-    ensures err { IfErr result (λ r. (form : DocForm) (v : M.Level) (u : M.Up) (s : InForce) → SameScope s scope.old → LooksUpNone s (mode_at form v u mode.now) token.entry.kind (leaf token.entry) r) }
+    ensures ok { IfOk result (λ i. (form : DocForm) (v : M.Level) (u : M.Up) (s : InForce) → SameScope s scope.old → LooksUp s (mode_at form v u mode.now) token.now.kind (leaf token.now) i scope.new) }
+    ensures err { IfErr result (λ r. (form : DocForm) (v : M.Level) (u : M.Up) (s : InForce) → SameScope s scope.old → LooksUpNone s (mode_at form v u mode.now) token.now.kind (leaf token.now) r) }
 {
     match mode {
         Mode::Outer(outer) => look_up_outer(alloc, outer, scope, token),
@@ -159,12 +159,12 @@ fn look_up_outer<A: Allocator + Copy>(
     alloc: A,
     outer: &Outer<A>,
     scope: &mut Scope<A>,
-    token: Token<'_>,
+    token: &Token<'_>,
 ) -> Result<Option<Iri<A>>, StepFault>
-    requires token { IsTurtleToken token }
+    requires token { IsTurtleToken token.now }
     requires short { PrefixFits (4 * scope.old.limits.token) (Mode.Outer outer.now) }
-    ensures ok { IfOk result (λ i. (s : InForce) → SameScope s scope.old → LooksUp s (outer_of outer.now) token.entry.kind (leaf token.entry) i scope.new) }
-    ensures err { IfErr result (λ r. (s : InForce) → SameScope s scope.old → LooksUpNone s (outer_of outer.now) token.entry.kind (leaf token.entry) r) }
+    ensures ok { IfOk result (λ i. (s : InForce) → SameScope s scope.old → LooksUp s (outer_of outer.now) token.now.kind (leaf token.now) i scope.new) }
+    ensures err { IfErr result (λ r. (s : InForce) → SameScope s scope.old → LooksUpNone s (outer_of outer.now) token.now.kind (leaf token.now) r) }
 {
     match outer {
         Outer::WantPrefix(_) => Ok(None),
@@ -178,12 +178,12 @@ fn look_up_prefix<A: Allocator + Copy>(
     alloc: A,
     prefix: &String<A>,
     scope: &mut Scope<A>,
-    token: Token<'_>,
+    token: &Token<'_>,
 ) -> Result<Option<Iri<A>>, StepFault>
-    requires token { IsTurtleToken token }
+    requires token { IsTurtleToken token.now }
     requires short { byte_len (chars (string_bytes prefix.now)) ≤ 4 * scope.old.limits.token }
-    ensures ok { IfOk result (λ i. (w : M.Spelling) (s : InForce) → SameScope s scope.old → LooksUp s (M.WantPrefixIri w (chars (string_bytes prefix.now))) token.entry.kind (leaf token.entry) i scope.new) }
-    ensures err { IfErr result (λ r. (w : M.Spelling) (s : InForce) → SameScope s scope.old → LooksUpNone s (M.WantPrefixIri w (chars (string_bytes prefix.now))) token.entry.kind (leaf token.entry) r) }
+    ensures ok { IfOk result (λ i. (w : M.Spelling) (s : InForce) → SameScope s scope.old → LooksUp s (M.WantPrefixIri w (chars (string_bytes prefix.now))) token.now.kind (leaf token.now) i scope.new) }
+    ensures err { IfErr result (λ r. (w : M.Spelling) (s : InForce) → SameScope s scope.old → LooksUpNone s (M.WantPrefixIri w (chars (string_bytes prefix.now))) token.now.kind (leaf token.now) r) }
 {
     match token.kind {
         Kind::IriRef => match bind(alloc, scope, prefix, token) {
@@ -197,11 +197,11 @@ fn look_up_prefix<A: Allocator + Copy>(
 fn look_up_base<A: Allocator + Copy>(
     alloc: A,
     scope: &mut Scope<A>,
-    token: Token<'_>,
+    token: &Token<'_>,
 ) -> Result<Option<Iri<A>>, StepFault>
-    requires token { IsTurtleToken token }
-    ensures ok { IfOk result (λ i. (w : M.Spelling) (s : InForce) → SameScope s scope.old → LooksUp s (M.WantBaseIri w) token.entry.kind (leaf token.entry) i scope.new) }
-    ensures err { IfErr result (λ r. (w : M.Spelling) (s : InForce) → SameScope s scope.old → LooksUpNone s (M.WantBaseIri w) token.entry.kind (leaf token.entry) r) }
+    requires token { IsTurtleToken token.now }
+    ensures ok { IfOk result (λ i. (w : M.Spelling) (s : InForce) → SameScope s scope.old → LooksUp s (M.WantBaseIri w) token.now.kind (leaf token.now) i scope.new) }
+    ensures err { IfErr result (λ r. (w : M.Spelling) (s : InForce) → SameScope s scope.old → LooksUpNone s (M.WantBaseIri w) token.now.kind (leaf token.now) r) }
 {
     match token.kind {
         Kind::IriRef => match set_base(alloc, scope, token) {

@@ -87,20 +87,20 @@ impl<A: Allocator + Copy> Progress<A> {
         &mut self,
         alloc: A,
         rules: &Rules,
-        token: Token<'_>,
+        token: &Token<'_>,
         sink: &mut S,
     ) -> Result<(), Reason>
-        requires token { IsTurtleToken token }
-        requires short { length (leaf token).text ≤ rules.now.limits.token }
+        requires token { IsTurtleToken token.now }
+        requires short { length (leaf token.now).text ≤ rules.now.limits.token }
         requires limits { self.old.scope.limits ≡ rules.now.limits }
         requires keeps { Keeps rules.now.form rules.now.limits self.old.state }
         requires live { S.has_failed sink.old ≡ false }
-        requires room { HasRoom rules.now.form self.old token.kind (leaf token) }
-        ensures ok { OnOk result (Accepted S.takes rules.now.form self.old token.entry.kind (leaf token.entry) sink.old self.new sink.new) }
+        requires room { HasRoom rules.now.form self.old token.now.kind (leaf token.now) }
+        ensures ok { OnOk result (Accepted S.takes rules.now.form self.old token.now.kind (leaf token.now) sink.old self.new sink.new) }
         ensures limits { OnOk result (self.new.scope.limits ≡ rules.now.limits) }
         ensures keeps { OnOk result (Keeps rules.now.form rules.now.limits self.new.state) }
         ensures live { OnOk result (S.has_failed sink.new ≡ false) }
-        ensures err { IfErr result (λ r. Fails S.takes S.leaves S.has_failed r (M.accept rules.now.form (state_of rules.now.form self.old.scope self.old.state) token.entry.kind (leaf token.entry)) sink.old sink.new) }
+        ensures err { IfErr result (λ r. Fails S.takes S.leaves S.has_failed r (M.accept rules.now.form (state_of rules.now.form self.old.scope self.old.state) token.now.kind (leaf token.now)) sink.old sink.new) }
     {
         match self.state.accept(
             alloc,
@@ -137,7 +137,7 @@ fn read_token<A: Allocator + Copy, S: QuadSink>(
     match scanner.next() {
         Err(fault) => Err(told(fault)),
         Ok(None) => Ok(Step::Waiting),
-        Ok(Some(token)) => match progress.take(alloc, rules, token, sink) {
+        Ok(Some(token)) => match progress.take(alloc, rules, &token, sink) {
             Ok(()) => Ok(accepted(token.kind)),
             Err(reason) => Err(Fault {
                 reason,

@@ -56,10 +56,10 @@ pub fn label<A: Allocator>(alloc: A, text: &str) -> Result<Subject<A>, StepFault
 }
 
 /// The tag of a LANGTAG, or of a word that is one too.
-pub fn tag<A: Allocator>(alloc: A, token: Token<'_>) -> Result<Tag<A>, StepFault>
-    requires token { IsTurtleToken token }
-    requires tag { SpellsTag token.kind }
-    ensures ok { IfOk result (λ t. t ≡ drop 1 (leaf token.entry).text) }
+pub fn tag<A: Allocator>(alloc: A, token: &Token<'_>) -> Result<Tag<A>, StepFault>
+    requires token { IsTurtleToken token.now }
+    requires tag { SpellsTag token.now.kind }
+    ensures ok { IfOk result (λ t. t ≡ drop 1 (leaf token.now).text) }
     ensures err { IfErr result (λ r. r ≡ StepFault.Memory) }
 {
     Ok(TagView::new(without_first(token.text)).try_copy(alloc)?)

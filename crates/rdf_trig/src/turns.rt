@@ -133,12 +133,12 @@ fn object_start<A: Allocator + Copy>(
     frame: Frame<A>,
     frames: &mut Vec<Frame<A>, A>,
     rest: Rest,
-    token: Token<'_>,
+    token: &Token<'_>,
     name: Option<Iri<A>>,
 ) -> Result<Turn<A>, StepFault>
-    requires token { IsTurtleToken token }
-    requires named { IsNamed token.kind name }
-    ensures { (form : DocForm) (s : InForce) (v : Level A) → name_at s token.entry.kind (leaf token.entry) ≡ name → Gives form s (use_at s token.entry.kind (leaf token.entry)) result v frames.new.items (M.object_start (setting s (graph_of v)) (place_of (level_of v) frame (up_of (level_of v) frames.old.items)) (rest_of (graph_of v) rest) token.entry.kind (leaf token.entry)) }
+    requires token { IsTurtleToken token.now }
+    requires named { IsNamed token.now.kind name }
+    ensures { (form : DocForm) (s : InForce) (v : Level A) → name_at s token.now.kind (leaf token.now) ≡ name → Gives form s (use_at s token.now.kind (leaf token.now)) result v frames.new.items (M.object_start (setting s (graph_of v)) (place_of (level_of v) frame (up_of (level_of v) frames.old.items)) (rest_of (graph_of v) rest) token.now.kind (leaf token.now)) }
 {
     match (token.kind, name) {
         (Kind::IriRef | Kind::PnameNs | Kind::PnameLn, Some(iri)) => {
@@ -270,12 +270,12 @@ fn after<A: Allocator + Copy>(
     frame: Frame<A>,
     level: &mut Level<A>,
     frames: &mut Vec<Frame<A>, A>,
-    token: Token<'_>,
+    token: &Token<'_>,
     name: Option<Iri<A>>,
 ) -> Result<Turn<A>, StepFault>
-    requires token { IsTurtleToken token }
-    requires named { IsNamed token.kind name }
-    ensures { (form : DocForm) (s : InForce) → name_at s token.entry.kind (leaf token.entry) ≡ name → Gives form s (use_at s token.entry.kind (leaf token.entry)) result level.new frames.new.items (M.after (setting s (graph_of level.old)) (place_of (level_of level.old) frame (up_of (level_of level.old) frames.old.items)) token.entry.kind (leaf token.entry)) }
+    requires token { IsTurtleToken token.now }
+    requires named { IsNamed token.now.kind name }
+    ensures { (form : DocForm) (s : InForce) → name_at s token.now.kind (leaf token.now) ≡ name → Gives form s (use_at s token.now.kind (leaf token.now)) result level.new frames.new.items (M.after (setting s (graph_of level.old)) (place_of (level_of level.old) frame (up_of (level_of level.old) frames.old.items)) token.now.kind (leaf token.now)) }
 {
     match frame {
         Frame::List {
@@ -314,12 +314,12 @@ fn after_item<A: Allocator + Copy>(
     first: u64,
     cell: u64,
     frames: &mut Vec<Frame<A>, A>,
-    token: Token<'_>,
+    token: &Token<'_>,
     name: Option<Iri<A>>,
 ) -> Result<Turn<A>, StepFault>
-    requires token { IsTurtleToken token }
-    requires named { IsNamed token.kind name }
-    ensures { (form : DocForm) (s : InForce) (v : Level A) → name_at s token.entry.kind (leaf token.entry) ≡ name → Gives form s (use_at s token.entry.kind (leaf token.entry)) result v frames.new.items (M.after (setting s (graph_of v)) (M.InCells first cell (up_of (level_of v) frames.old.items)) token.entry.kind (leaf token.entry)) }
+    requires token { IsTurtleToken token.now }
+    requires named { IsNamed token.now.kind name }
+    ensures { (form : DocForm) (s : InForce) (v : Level A) → name_at s token.now.kind (leaf token.now) ≡ name → Gives form s (use_at s token.now.kind (leaf token.now)) result v frames.new.items (M.after (setting s (graph_of v)) (M.InCells first cell (up_of (level_of v) frames.old.items)) token.now.kind (leaf token.now)) }
 {
     match token.kind {
         Kind::CloseParen => {
@@ -352,12 +352,12 @@ fn after_text<A: Allocator + Copy>(
     frame: Frame<A>,
     level: &mut Level<A>,
     frames: &mut Vec<Frame<A>, A>,
-    token: Token<'_>,
+    token: &Token<'_>,
     name: Option<Iri<A>>,
 ) -> Result<Turn<A>, StepFault>
-    requires token { IsTurtleToken token }
-    requires named { IsNamed token.kind name }
-    ensures { (form : DocForm) (s : InForce) → name_at s token.entry.kind (leaf token.entry) ≡ name → Gives form s (use_at s token.entry.kind (leaf token.entry)) result level.new frames.new.items (M.after_text (setting s (graph_of level.old)) (chars (string_bytes lexical)) (place_of (level_of level.old) frame (up_of (level_of level.old) frames.old.items)) token.entry.kind (leaf token.entry)) }
+    requires token { IsTurtleToken token.now }
+    requires named { IsNamed token.now.kind name }
+    ensures { (form : DocForm) (s : InForce) → name_at s token.now.kind (leaf token.now) ≡ name → Gives form s (use_at s token.now.kind (leaf token.now)) result level.new frames.new.items (M.after_text (setting s (graph_of level.old)) (chars (string_bytes lexical)) (place_of (level_of level.old) frame (up_of (level_of level.old) frames.old.items)) token.now.kind (leaf token.now)) }
 {
     match token.kind {
         Kind::LangTag | Kind::AtBase | Kind::AtPrefix => Ok(whole(
@@ -393,12 +393,12 @@ fn bracket<A: Allocator>(
 fn paren<A: Allocator + Copy>(
     alloc: A,
     frames: &mut Vec<Frame<A>, A>,
-    token: Token<'_>,
+    token: &Token<'_>,
     name: Option<Iri<A>>,
 ) -> Result<Turn<A>, StepFault>
-    requires token { IsTurtleToken token }
-    requires named { IsNamed token.kind name }
-    ensures { (form : DocForm) (s : InForce) (v : Level A) → name_at s token.entry.kind (leaf token.entry) ≡ name → Gives form s (use_at s token.entry.kind (leaf token.entry)) result v frames.new.items (M.paren (setting s (graph_of v)) (up_of (level_of v) frames.old.items) token.entry.kind (leaf token.entry)) }
+    requires token { IsTurtleToken token.now }
+    requires named { IsNamed token.now.kind name }
+    ensures { (form : DocForm) (s : InForce) (v : Level A) → name_at s token.now.kind (leaf token.now) ≡ name → Gives form s (use_at s token.now.kind (leaf token.now)) result v frames.new.items (M.paren (setting s (graph_of v)) (up_of (level_of v) frames.old.items) token.now.kind (leaf token.now)) }
 {
     match token.kind {
         Kind::CloseParen => Ok(quiet(list_closed(frames, Topic::Nil))),
@@ -499,12 +499,12 @@ fn after_label<A: Allocator>(
 // The first token of a subject; no frame is open.
 fn subject_start<A: Allocator>(
     alloc: A,
-    token: Token<'_>,
+    token: &Token<'_>,
     name: Option<Iri<A>>,
 ) -> Result<Turn<A>, StepFault>
-    requires token { IsTurtleToken token }
-    requires named { IsNamed token.kind name }
-    ensures { (form : DocForm) (s : InForce) (v : Level A) → name_at s token.entry.kind (leaf token.entry) ≡ name → Gives form s (use_at s token.entry.kind (leaf token.entry)) result v [] (M.subject_start form (setting s (graph_of v)) (level_of v) token.entry.kind (leaf token.entry)) }
+    requires token { IsTurtleToken token.now }
+    requires named { IsNamed token.now.kind name }
+    ensures { (form : DocForm) (s : InForce) (v : Level A) → name_at s token.now.kind (leaf token.now) ≡ name → Gives form s (use_at s token.now.kind (leaf token.now)) result v [] (M.subject_start form (setting s (graph_of v)) (level_of v) token.now.kind (leaf token.now)) }
 {
     match (token.kind, name) {
         (Kind::IriRef | Kind::PnameNs | Kind::PnameLn, Some(iri)) => {
@@ -533,12 +533,12 @@ fn start<A: Allocator>(
     form: DocForm,
     level: &mut Level<A>,
     frames: &mut Vec<Frame<A>, A>,
-    token: Token<'_>,
+    token: &Token<'_>,
     name: Option<Iri<A>>,
 ) -> Result<Turn<A>, StepFault>
-    requires token { IsTurtleToken token }
-    requires named { IsNamed token.kind name }
-    ensures { (s : InForce) → name_at s token.entry.kind (leaf token.entry) ≡ name → Gives form s (use_at s token.entry.kind (leaf token.entry)) result level.new frames.new.items (M.start form (setting s None) token.entry.kind (leaf token.entry)) }
+    requires token { IsTurtleToken token.now }
+    requires named { IsNamed token.now.kind name }
+    ensures { (s : InForce) → name_at s token.now.kind (leaf token.now) ≡ name → Gives form s (use_at s token.now.kind (leaf token.now)) result level.new frames.new.items (M.start form (setting s None) token.now.kind (leaf token.now)) }
 {
     match outer_start(form, token.kind) {
         Some(outer) => Ok(quiet(Mode::Outer(outer))),
@@ -572,12 +572,12 @@ fn inside<A: Allocator>(
     graph: Option<Subject<A>>,
     level: &mut Level<A>,
     frames: &mut Vec<Frame<A>, A>,
-    token: Token<'_>,
+    token: &Token<'_>,
     name: Option<Iri<A>>,
 ) -> Result<Turn<A>, StepFault>
-    requires token { IsTurtleToken token }
-    requires named { IsNamed token.kind name }
-    ensures { (form : DocForm) (s : InForce) → name_at s token.entry.kind (leaf token.entry) ≡ name → Gives form s (use_at s token.entry.kind (leaf token.entry)) result level.new frames.new.items (M.inside form (setting s (option_map owned_subject graph)) token.entry.kind (leaf token.entry)) }
+    requires token { IsTurtleToken token.now }
+    requires named { IsNamed token.now.kind name }
+    ensures { (form : DocForm) (s : InForce) → name_at s token.now.kind (leaf token.now) ≡ name → Gives form s (use_at s token.now.kind (leaf token.now)) result level.new frames.new.items (M.inside form (setting s (option_map owned_subject graph)) token.now.kind (leaf token.now)) }
 {
     match token.kind {
         Kind::CloseBrace => Ok(quiet(Mode::Outer(Outer::Start))),
@@ -591,12 +591,12 @@ fn inside<A: Allocator>(
 // The token behind GRAPH.
 fn graph_word<A: Allocator>(
     alloc: A,
-    token: Token<'_>,
+    token: &Token<'_>,
     name: Option<Iri<A>>,
 ) -> Result<Outer<A>, StepFault>
-    requires token { IsTurtleToken token }
-    requires named { IsNamed token.kind name }
-    ensures { (s : InForce) → name_at s token.entry.kind (leaf token.entry) ≡ name → GivesOuter s (use_at s token.entry.kind (leaf token.entry)) result (M.graph_word (setting s None) token.entry.kind (leaf token.entry)) }
+    requires token { IsTurtleToken token.now }
+    requires named { IsNamed token.now.kind name }
+    ensures { (s : InForce) → name_at s token.now.kind (leaf token.now) ≡ name → GivesOuter s (use_at s token.now.kind (leaf token.now)) result (M.graph_word (setting s None) token.now.kind (leaf token.now)) }
 {
     match (token.kind, name) {
         (Kind::IriRef | Kind::PnameNs | Kind::PnameLn, Some(iri)) => {
@@ -630,10 +630,10 @@ fn want_brace<A: Allocator>(graph: Subject<A>, kind: Kind) -> Result<Outer<A>, S
 fn want_prefix<A: Allocator>(
     alloc: A,
     spelling: Spelling,
-    token: Token<'_>,
+    token: &Token<'_>,
 ) -> Result<Outer<A>, StepFault>
-    requires token { IsTurtleToken token }
-    ensures { (s : InForce) → GivesOuter s itself result (M.want_prefix (setting s None) (spelling_of spelling) token.entry.kind (leaf token.entry)) }
+    requires token { IsTurtleToken token.now }
+    ensures { (s : InForce) → GivesOuter s itself result (M.want_prefix (setting s None) (spelling_of spelling) token.now.kind (leaf token.now)) }
 {
     match token.kind {
         Kind::PnameNs => Ok(Outer::WantPrefixIri(spelling, prefix(alloc, token.text)?)),
@@ -695,12 +695,12 @@ fn outer_turn<A: Allocator>(
     outer: Outer<A>,
     level: &mut Level<A>,
     frames: &mut Vec<Frame<A>, A>,
-    token: Token<'_>,
+    token: &Token<'_>,
     name: Option<Iri<A>>,
 ) -> Result<Turn<A>, StepFault>
-    requires token { IsTurtleToken token }
-    requires named { IsNamedIn (outer_of outer) token.kind name }
-    ensures { (s : InForce) → NameIn s (outer_of outer) token.entry.kind (leaf token.entry) name → Gives form (scope_in s (outer_of outer) token.entry.kind (leaf token.entry)) (use_in s (outer_of outer) token.entry.kind (leaf token.entry)) result level.new frames.new.items (M.step form (setting s (outer_graph outer)) (outer_of outer) token.entry.kind (leaf token.entry)) }
+    requires token { IsTurtleToken token.now }
+    requires named { IsNamedIn (outer_of outer) token.now.kind name }
+    ensures { (s : InForce) → NameIn s (outer_of outer) token.now.kind (leaf token.now) name → Gives form (scope_in s (outer_of outer) token.now.kind (leaf token.now)) (use_in s (outer_of outer) token.now.kind (leaf token.now)) result level.new frames.new.items (M.step form (setting s (outer_graph outer)) (outer_of outer) token.now.kind (leaf token.now)) }
 {
     match outer {
         Outer::Start => start(alloc, form, level, frames, token, name),
@@ -723,12 +723,12 @@ pub fn turn<A: Allocator + Copy>(
     mode: Mode<A>,
     level: &mut Level<A>,
     frames: &mut Vec<Frame<A>, A>,
-    token: Token<'_>,
+    token: &Token<'_>,
     name: Option<Iri<A>>,
 ) -> Result<Turn<A>, StepFault>
-    requires token { IsTurtleToken token }
-    requires named { IsNamedIn (mode_of form level.old frames.old.items mode) token.kind name }
-    ensures { (s : InForce) → let m = mode_of form level.old frames.old.items mode in NameIn s m token.entry.kind (leaf token.entry) name → Gives form (scope_in s m token.entry.kind (leaf token.entry)) (use_in s m token.entry.kind (leaf token.entry)) result level.new frames.new.items (M.step form (setting s (graph_at mode (graph_of level.old))) m token.entry.kind (leaf token.entry)) }
+    requires token { IsTurtleToken token.now }
+    requires named { IsNamedIn (mode_of form level.old frames.old.items mode) token.now.kind name }
+    ensures { (s : InForce) → let m = mode_of form level.old frames.old.items mode in NameIn s m token.now.kind (leaf token.now) name → Gives form (scope_in s m token.now.kind (leaf token.now)) (use_in s m token.now.kind (leaf token.now)) result level.new frames.new.items (M.step form (setting s (graph_at mode (graph_of level.old))) m token.now.kind (leaf token.now)) }
 {
     match mode {
         Mode::Outer(outer) => outer_turn(alloc, form, outer, level, frames, token, name),

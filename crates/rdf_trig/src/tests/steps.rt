@@ -51,9 +51,9 @@ fn take(
     if !is_short(token.text, limits) {
         return Outcome::Stopped;
     }
-    match state.accept(alloc, form, limits, scope, token, list) {
+    match state.accept(alloc, form, limits, scope, &token, list) {
         Err(fault) => Outcome::Refused(fault, token.offset),
-        Ok(()) => match token.kind {
+        Ok(_) => match token.kind {
             Kind::End => Outcome::Complete,
             _ => Outcome::Accepted,
         },

@@ -6,6 +6,6 @@ pub returns-in_default : goal.returns-in_default
 returns-in_default g c =
     let t = c.args.scope.now in
     record {
-      ok = mode_looks c.args.mode.now t t c.args.token.kind (leaf c.args.token) c.name.result c.in_default.not-Outer c.name.ensures.ok;
-      err = mode_none c.args.mode.now t t c.args.token.kind (leaf c.args.token) c.name.result c.in_default.not-Outer c.name.ensures.err;
+      ok = mode_looks c.args.mode.now t t c.args.token.now.kind (leaf c.args.token.now) c.name.result c.in_default.not-Outer c.name.ensures.ok;
+      err = mode_none c.args.mode.now t t c.args.token.now.kind (leaf c.args.token.now) c.name.result c.in_default.not-Outer c.name.ensures.err;
     }

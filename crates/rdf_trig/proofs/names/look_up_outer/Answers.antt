@@ -14,18 +14,18 @@ returns-in_default g c =
     let t = c.args.scope.now in
     let n = c.in_default in
     record {
-      ok = outer_looks c.args.outer.now t c.args.token.kind (leaf c.args.token) c.name.result n.not-WantPrefix n.not-WantPrefixIri n.not-WantBaseIri c.name.ensures.ok;
-      err = outer_none c.args.outer.now t c.args.token.kind (leaf c.args.token) c.name.result n.not-WantPrefix n.not-WantPrefixIri n.not-WantBaseIri c.name.ensures.err;
+      ok = outer_looks c.args.outer.now t c.args.token.now.kind (leaf c.args.token.now) c.name.result n.not-WantPrefix n.not-WantPrefixIri n.not-WantBaseIri c.name.ensures.ok;
+      err = outer_none c.args.outer.now t c.args.token.now.kind (leaf c.args.token.now) c.name.result n.not-WantPrefix n.not-WantPrefixIri n.not-WantBaseIri c.name.ensures.err;
     }
 
 pub returns-in-WantPrefixIri-clause-ok : goal.returns-in-WantPrefixIri-clause-ok
-returns-in-WantPrefixIri-clause-ok g c = rw c.in-WantPrefixIri.is (picked_ok (λ (w : M.Spelling) (i : Option (List ℕ)). (s : InForce) → SameScope s c.args.scope.now → LooksUp s (M.WantPrefixIri w (chars (string_bytes c.in-WantPrefixIri.prefix))) c.args.token.kind (leaf c.args.token) i c.look_up_prefix.new.scope) c.look_up_prefix.result (spelling_of c.in-WantPrefixIri.field-0) c.look_up_prefix.ensures.ok)
+returns-in-WantPrefixIri-clause-ok g c = rw c.in-WantPrefixIri.is (picked_ok (λ (w : M.Spelling) (i : Option (List ℕ)). (s : InForce) → SameScope s c.args.scope.now → LooksUp s (M.WantPrefixIri w (chars (string_bytes c.in-WantPrefixIri.prefix))) c.args.token.now.kind (leaf c.args.token.now) i c.look_up_prefix.new.scope) c.look_up_prefix.result (spelling_of c.in-WantPrefixIri.field-0) c.look_up_prefix.ensures.ok)
 
 pub returns-in-WantPrefixIri-clause-err : goal.returns-in-WantPrefixIri-clause-err
-returns-in-WantPrefixIri-clause-err g c = rw c.in-WantPrefixIri.is (picked_err (λ (w : M.Spelling) (r : StepFault). (s : InForce) → SameScope s c.args.scope.now → LooksUpNone s (M.WantPrefixIri w (chars (string_bytes c.in-WantPrefixIri.prefix))) c.args.token.kind (leaf c.args.token) r) c.look_up_prefix.result (spelling_of c.in-WantPrefixIri.field-0) c.look_up_prefix.ensures.err)
+returns-in-WantPrefixIri-clause-err g c = rw c.in-WantPrefixIri.is (picked_err (λ (w : M.Spelling) (r : StepFault). (s : InForce) → SameScope s c.args.scope.now → LooksUpNone s (M.WantPrefixIri w (chars (string_bytes c.in-WantPrefixIri.prefix))) c.args.token.now.kind (leaf c.args.token.now) r) c.look_up_prefix.result (spelling_of c.in-WantPrefixIri.field-0) c.look_up_prefix.ensures.err)
 
 pub returns-in-WantBaseIri-clause-ok : goal.returns-in-WantBaseIri-clause-ok
-returns-in-WantBaseIri-clause-ok g c = rw c.in-WantBaseIri.is (picked_ok (λ (w : M.Spelling) (i : Option (List ℕ)). (s : InForce) → SameScope s c.args.scope.now → LooksUp s (M.WantBaseIri w) c.args.token.kind (leaf c.args.token) i c.look_up_base.new.scope) c.look_up_base.result (spelling_of c.in-WantBaseIri.field-0) c.look_up_base.ensures.ok)
+returns-in-WantBaseIri-clause-ok g c = rw c.in-WantBaseIri.is (picked_ok (λ (w : M.Spelling) (i : Option (List ℕ)). (s : InForce) → SameScope s c.args.scope.now → LooksUp s (M.WantBaseIri w) c.args.token.now.kind (leaf c.args.token.now) i c.look_up_base.new.scope) c.look_up_base.result (spelling_of c.in-WantBaseIri.field-0) c.look_up_base.ensures.ok)
 
 pub returns-in-WantBaseIri-clause-err : goal.returns-in-WantBaseIri-clause-err
-returns-in-WantBaseIri-clause-err g c = rw c.in-WantBaseIri.is (picked_err (λ (w : M.Spelling) (r : StepFault). (s : InForce) → SameScope s c.args.scope.now → LooksUpNone s (M.WantBaseIri w) c.args.token.kind (leaf c.args.token) r) c.look_up_base.result (spelling_of c.in-WantBaseIri.field-0) c.look_up_base.ensures.err)
+returns-in-WantBaseIri-clause-err g c = rw c.in-WantBaseIri.is (picked_err (λ (w : M.Spelling) (r : StepFault). (s : InForce) → SameScope s c.args.scope.now → LooksUpNone s (M.WantBaseIri w) c.args.token.now.kind (leaf c.args.token.now) r) c.look_up_base.result (spelling_of c.in-WantBaseIri.field-0) c.look_up_base.ensures.err)

@@ -14,8 +14,8 @@ bind-requires-clause-short g c =
 
 pub returns-in-Ok-clause-ok : goal.returns-in-Ok-clause-ok
 returns-in-Ok-clause-ok g c w s e =
-    rw c.in-IriRef.is (binding_looks s c.args.scope.now c.bind.new.scope w (chars (string_bytes c.args.prefix.now)) (leaf c.args.token) None e c.in-Ok.ensures.ok)
+    rw c.in-IriRef.is (binding_looks s c.args.scope.now c.bind.new.scope w (chars (string_bytes c.args.prefix.now)) (leaf c.args.token.now) None e c.in-Ok.ensures.ok)
 
 pub returns-in-Err-clause-err : goal.returns-in-Err-clause-err
 returns-in-Err-clause-err g c w s e =
-    rw c.in-IriRef.is (binding_none s c.args.scope.now w (chars (string_bytes c.args.prefix.now)) (leaf c.args.token) c.in-Err.fault e c.in-Err.ensures.err)
+    rw c.in-IriRef.is (binding_none s c.args.scope.now w (chars (string_bytes c.args.prefix.now)) (leaf c.args.token.now) c.in-Err.fault e c.in-Err.ensures.err)

@@ -9,18 +9,18 @@ use Rattle.rdf_trig.proofs.ScopesLemmas.{name_names}
 use Rattle.rdf_trig.proofs.names.prefixed.Goals as goal
 
 pub local_text-requires : goal.local_text-requires
-local_text-requires g c = subst MeansLocal (sym c.parts.ensures.local) (token_local c.args.token c.requires.kind c.requires.token)
+local_text-requires g c = subst MeansLocal (sym c.parts.ensures.local) (token_local c.args.token.now c.requires.kind c.requires.token)
 
 pub returns-clause-ok : goal.returns-clause-ok
 returns-clause-ok g c =
-    name_names c.args.scope.now c.args.token.kind (leaf c.args.token) (chars c.parts.result.0.now) (chars c.as_str.result.now) c.in_ok-expand-2.field-0 c.requires.kind
+    name_names c.args.scope.now c.args.token.now.kind (leaf c.args.token.now) (chars c.parts.result.0.now) (chars c.as_str.result.now) c.in_ok-expand-2.field-0 c.requires.kind
     c.parts.ensures.prefix
     (ap chars c.as_str.ensures.value ∙ ap (λ o. unwrap_or o []) (c.in_ok-local.ensures.ok ∙ ap local_value c.parts.ensures.local))
     c.in_ok-expand-2.ensures.expanded
 
 pub returns-then-is_plain_local-clause-ok : goal.returns-then-is_plain_local-clause-ok
 returns-then-is_plain_local-clause-ok g c =
-    name_names c.args.scope.now c.args.token.kind (leaf c.args.token) (chars c.parts.result.0.now) (chars c.parts.result.1.now) c.in_ok-expand.field-0 c.requires.kind
+    name_names c.args.scope.now c.args.token.now.kind (leaf c.args.token.now) (chars c.parts.result.0.now) (chars c.parts.result.1.now) c.in_ok-expand.field-0 c.requires.kind
     c.parts.ensures.prefix
     (ap (λ o. unwrap_or o []) (sym (c.is_plain_local.ensures.value c.if-is_plain_local.true) ∙ ap local_value c.parts.ensures.local))
     c.in_ok-expand.ensures.expanded

@@ -6,5 +6,5 @@ use Rattle.rdf_trig.proofs.names.set_base.Goals as goal
 
 pub returns-clause-ok : goal.returns-clause-ok
 returns-clause-ok g c =
-    base_is c.args.scope.now c.set_base.new.self (leaf c.args.token) (chars c.as_str.result.now)
+    base_is c.args.scope.now c.set_base.new.self (leaf c.args.token.now) (chars c.as_str.result.now)
     (ap chars c.as_str.ensures.value ∙ c.in_ok-reference.ensures.ok) c.in_ok-set_base.ensures.based

@@ -4,4 +4,4 @@ use Rattle.rdf_trig.proofs.SpelledLemmas.{token_tag}
 use Rattle.rdf_trig.proofs.spelled.tag.Goals as goal
 
 pub new-requires : goal.new-requires
-new-requires g c = subst IsTag (sym c.without_first.ensures) (token_tag c.args.token c.requires.tag c.requires.token)
+new-requires g c = subst IsTag (sym c.without_first.ensures) (token_tag c.args.token.now c.requires.tag c.requires.token)

@@ -12,8 +12,8 @@ pub returns-in_err-name-clause-err : goal.returns-in_err-name-clause-err
 returns-in_err-name-clause-err g c =
     let self = c.args.self.now in
     let form = c.args.form in
-    let k = c.args.token.kind in
-    let l = leaf c.args.token in
+    let k = c.args.token.now.kind in
+    let l = leaf c.args.token.now in
     let v = level_of self.level in
     let u = up_of v self.frames.items in
     told_stops c.from_residual-in_err-name.result c.in_err-name.field-0.0 _ c.from_residual-in_err-name.ensures.1
@@ -24,22 +24,22 @@ pub returns-in_err-given-clause-err : goal.returns-in_err-given-clause-err
 returns-in_err-given-clause-err g c =
     let self = c.args.self.now in
     let form = c.args.form in
-    let k = c.args.token.kind in
-    let l = leaf c.args.token in
+    let k = c.args.token.now.kind in
+    let l = leaf c.args.token.now in
     let v = level_of self.level in
     let u = up_of v self.frames.items in
     told_stops c.from_residual-in_err-given.result c.in_err-given.field-0.0 _ c.from_residual-in_err-given.ensures.1
     (λ s e. fails_gave g.S.QuadSink.takes g.S.QuadSink.leaves g.S.QuadSink.has_failed form (state_of form s self) k l c.in_err-given.field-0.0 c.args.sink.now c.give.new.sink
     (c.in_ok-check.ensures.ok s l (e.limits ∙ c.requires.limits)) (c.in_ok-name.ensures.ok form v u s e).passes
-    (subst (λ fs. GaveUp g.S.QuadSink.takes g.S.QuadSink.leaves g.S.QuadSink.has_failed c.in_err-given.field-0.0 (given form s self.mode self.level fs self.rest self.held c.args.token) c.args.sink.now c.give.new.sink)
+    (subst (λ fs. GaveUp g.S.QuadSink.takes g.S.QuadSink.leaves g.S.QuadSink.has_failed c.in_err-given.field-0.0 (given form s self.mode self.level fs self.rest self.held c.args.token.now) c.args.sink.now c.give.new.sink)
     c.deref.ensures.value (c.in_err-given.ensures.err form s)))
 
 pub move_on-requires-clause-named : goal.move_on-requires-clause-named
 move_on-requires-clause-named g c =
     let self = c.args.self.now in
     let form = c.args.form in
-    let k = c.args.token.kind in
-    let l = leaf c.args.token in
+    let k = c.args.token.now.kind in
+    let l = leaf c.args.token.now in
     let v = level_of self.level in
     let u = up_of v self.frames.items in
     (c.in_ok-name.ensures.ok form v u c.args.scope.now (same_scope c.args.scope.now)).named
@@ -48,33 +48,33 @@ pub returns-in-Ok-clause-ok : goal.returns-in-Ok-clause-ok
 returns-in-Ok-clause-ok g c = λ s e.
     let self = c.args.self.now in
     let form = c.args.form in
-    let k = c.args.token.kind in
-    let l = leaf c.args.token in
+    let k = c.args.token.now.kind in
+    let l = leaf c.args.token.now in
     let v = level_of self.level in
     let u = up_of v self.frames.items in
     let looks = c.in_ok-name.ensures.ok form v u s e in
     accepts_moved g.S.QuadSink.takes form s c.look_up.new.scope self c.move_on.new.self k l c.in_ok-name.name c.args.sink.now c.give.new.sink
     (c.in_ok-check.ensures.ok s l (e.limits ∙ c.requires.limits)) looks (c.in-Ok.ensures.ok s looks.name)
-    (subst (λ fs. Appends g.S.QuadSink.takes c.args.sink.now (given form s self.mode self.level fs self.rest self.held c.args.token) c.give.new.sink)
+    (subst (λ fs. Appends g.S.QuadSink.takes c.args.sink.now (given form s self.mode self.level fs self.rest self.held c.args.token.now) c.give.new.sink)
     c.deref.ensures.value (c.in_ok-given.ensures.ok form s))
 
 pub returns-in-Ok-clause-count : goal.returns-in-Ok-clause-count
 returns-in-Ok-clause-count g c = λ s qs n a.
     let self = c.args.self.now in
     let form = c.args.form in
-    let k = c.args.token.kind in
-    let l = leaf c.args.token in
+    let k = c.args.token.now.kind in
+    let l = leaf c.args.token.now in
     let m = state_of form s self in
     let x = accepted s.limits m k (M.waiting m.setting m.mode k l) (M.step form m.setting m.mode k l) qs n a in
-    subst (λ fs. c.in_ok-given.given ≡ length (given form s self.mode self.level fs self.rest self.held c.args.token))
+    subst (λ fs. c.in_ok-given.given ≡ length (given form s self.mode self.level fs self.rest self.held c.args.token.now))
     c.deref.ensures.value (c.in_ok-given.ensures.count form s) ∙ ap length (sym x.given)
 
 pub returns-in-Ok-clause-limits : goal.returns-in-Ok-clause-limits
 returns-in-Ok-clause-limits g c =
     let self = c.args.self.now in
     let form = c.args.form in
-    let k = c.args.token.kind in
-    let l = leaf c.args.token in
+    let k = c.args.token.now.kind in
+    let l = leaf c.args.token.now in
     let v = level_of self.level in
     let u = up_of v self.frames.items in
     let s = c.args.scope.now in
@@ -84,8 +84,8 @@ pub returns-in-Ok-clause-keeps : goal.returns-in-Ok-clause-keeps
 returns-in-Ok-clause-keeps g c =
     let self = c.args.self.now in
     let form = c.args.form in
-    let k = c.args.token.kind in
-    let l = leaf c.args.token in
+    let k = c.args.token.now.kind in
+    let l = leaf c.args.token.now in
     let v = level_of self.level in
     let u = up_of v self.frames.items in
     let s = c.args.scope.now in
@@ -96,13 +96,13 @@ pub returns-in-Err-clause-err : goal.returns-in-Err-clause-err
 returns-in-Err-clause-err g c = λ s e.
     let self = c.args.self.now in
     let form = c.args.form in
-    let k = c.args.token.kind in
-    let l = leaf c.args.token in
+    let k = c.args.token.now.kind in
+    let l = leaf c.args.token.now in
     let v = level_of self.level in
     let u = up_of v self.frames.items in
     let looks = c.in_ok-name.ensures.ok form v u s e in
     fails_stays g.S.QuadSink.takes g.S.QuadSink.leaves g.S.QuadSink.has_failed form (state_of form s self) k l c.in-Err.fault c.args.sink.now c.give.new.sink
     (c.in_ok-check.ensures.ok s l (e.limits ∙ c.requires.limits)) looks.passes
-    (subst (λ fs. Appends g.S.QuadSink.takes c.args.sink.now (given form s self.mode self.level fs self.rest self.held c.args.token) c.give.new.sink)
+    (subst (λ fs. Appends g.S.QuadSink.takes c.args.sink.now (given form s self.mode self.level fs self.rest self.held c.args.token.now) c.give.new.sink)
     c.deref.ensures.value (c.in_ok-given.ensures.ok form s))
     (c.in-Err.ensures.err s looks.name)
