@@ -127,13 +127,13 @@ pub enum Held<A: Allocator = Global> {
     Nil(u64),
 }
 
-/// What a token did: the cell before the one that it opened and that cell, the quad whose head it ended, and where
-/// the reader stands behind it.
+/// What a token did: where the reader stands behind it, the quad whose head it ended, and the cells that it is owed
+/// between.
 #[derive(Drop)]
 pub struct Turn<A: Allocator = Global> {
-    pub rest: Rest,
-    pub held: Held<A>,
     pub mode: Mode<A>,
+    pub held: Held<A>,
+    pub rest: Rest,
 }
 
 /// What has been read, as far as it matters for what may come.
