@@ -18,7 +18,7 @@ use Rattle.rdf_tokens.specs.declared.states.tag.Tag.TheVariants as tag_state
 use Rattle.rdf_tokens.specs.declared.states.number.Number.TheVariants as number_state
 use Rattle.rdf_tokens.specs.declared.states.name.Name.TheVariants as name_state
 use Rattle.rdf_tokens.specs.Tokens.{longest, with_length, three_quotes, only_long}
-use Rattle.rdf_tokens.specs.Front.{IsAt, Reached, bytes_of, in_bytes, longest_by, longer_front, front_by, state_of, kind_by_states, kind_here, open_state}
+use Rattle.rdf_tokens.specs.Front.{Reached, bytes_of, in_bytes, longest_by, longer_front, front_by, state_of, kind_by_states, kind_here, open_state}
 use Rattle.rdf_tokens.specs.Fixed.{kind_by_table, rows_of, live_by}
 use Rattle.rdf_tokens.specs.Machines.{run, IsChars}
 use Rattle.rdf_tokens.specs.Sorts.{sort_by}

@@ -1,5 +1,5 @@
 -- What is kept of an open token stays right where more text comes.
-use Rattle.std.proofs.Common.{◌≡◌, ℕ, zero, suc, ◌+◌, ◌≤◌, Bool, true, false, cond, nat_lt, List, [], ◌∷◌, ◌++◌, refl, sym, ap, ◌∙◌, subst, ⊎_elim, length, length-append, take, drop, arith, Option, Some, None, IsUtf8}
+use Rattle.std.proofs.Common.{◌≡◌, ℕ, zero, suc, ◌≤◌, Bool, true, false, cond, List, [], ◌∷◌, ◌++◌, refl, sym, ap, ◌∙◌, subst, ⊎_elim, length, length-append, take, drop, arith, Option, Some, None, IsUtf8}
 use Rattle.std.specs.Prelude.{encode_utf8_all}
 use Rattle.std.proofs.lemmas.Bool.{cond-true, cond-false, cases_lt, lt-ltb, le-ltb}
 use Rattle.std.proofs.lemmas.List.{take_all, drop_all, take-append-le, drop-append-le}
@@ -12,9 +12,9 @@ use Rattle.rdf_tokens.specs.declared.states.machine.State.{State}
 use Rattle.rdf_tokens.specs.declared.front.Walk.{Walk}
 use Rattle.rdf_tokens.specs.Tokens.{with_length, three_quotes, only_long}
 use Rattle.rdf_tokens.specs.Machine.{kind_at, goes_on}
-use Rattle.rdf_tokens.specs.Front.{IsAt, Reached, bytes_of, in_bytes, longest_by, state_of, kind_by_states, open_state}
+use Rattle.rdf_tokens.specs.Front.{IsAt, Reached, in_bytes, longest_by, state_of, kind_by_states, open_state}
 use Rattle.rdf_tokens.specs.Moves.{good_bytes}
-use Rattle.rdf_tokens.specs.Walk.{IsWalk, Walked, walk_kept}
+use Rattle.rdf_tokens.specs.Walk.{Walked, walk_kept}
 use Rattle.rdf_tokens.proofs.FrontLemmas.{AtMost, longest_by-at_most}
 use Rattle.rdf_tokens.proofs.GoodLemmas.{good_front}
 use Rattle.rdf_tokens.proofs.SpellingLemmas.{quotes-bytes}

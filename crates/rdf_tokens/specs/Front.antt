@@ -1,5 +1,5 @@
 -- Fronts of a text: the longest that is a token, by characters and by bytes.
-use Rattle.std.specs.Prelude.{ℕ, zero, suc, Bool, true, false, cond, ◌&&◌, ◌≡◌, ◌<◌, ◌≤◌, nat_lt, get_or, List, [], ◌∷◌, ◌++◌, length, take, drop, encode_utf8, encode_utf8_all, Option, Some, None}
+use Rattle.std.specs.Prelude.{ℕ, zero, suc, Bool, true, false, cond, ◌&&◌, ◌≡◌, ◌<◌, ◌≤◌, nat_lt, get_or, List, [], ◌∷◌, length, take, drop, encode_utf8, encode_utf8_all, Option, Some, None}
 use Rattle.std.specs.Str.{chars, IsUtf8}
 use Rattle.rdf_terms.specs.declared.kind.Dialect.{Dialect}
 use Rattle.rdf_terms.specs.declared.kind.Kind.{Kind}

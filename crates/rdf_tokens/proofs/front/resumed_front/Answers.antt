@@ -1,4 +1,4 @@
-use Rattle.std.proofs.Common.{◌≡◌, ◌<◌, arith, subst, None}
+use Rattle.std.proofs.Common.{arith, subst, None}
 use Rattle.rdf_tokens.specs.declared.states.machine.State.TheVariants.{Iri, Label, Text, Tag, Number, Name}
 use Rattle.rdf_tokens.specs.Tokens.{with_length}
 use Rattle.rdf_tokens.specs.Front.{Reached}
