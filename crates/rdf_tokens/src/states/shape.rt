@@ -21,6 +21,7 @@ pub(crate) trait Shape: Copy {
     /// The same state among those of all families.
     ghost whole: { Self → State };
 
+    /// That state, to keep it.
     fn whole_state(self) -> State
         ensures { result ≡ whole self };
 
