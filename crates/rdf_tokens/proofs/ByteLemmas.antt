@@ -10,15 +10,7 @@ use Rattle.std.proofs.lemmas.Bool.Decides.{nat_tests}
 use Rattle.std.proofs.Math.Utf8.{scalars}
 use Rattle.rdf_terms.specs.Classes.{scalar}
 use Rattle.rdf_tokens.specs.Machines.{run, IsChars}
-use Rattle.rdf_tokens.specs.Front.{bytes_of}
-
--- the byte at which the character n of a text begins, or the text ends
-pub record IsAt (bs : List ℕ) (at n : ℕ) : Type 0 where
-  pub inside : at ≤ length bs
-  pub count : n ≤ length (chars bs)
-  pub utf8 : IsUtf8 (drop at bs)
-  pub left : drop n (chars bs) ≡ chars (drop at bs)
-  pub bytes : at ≡ bytes_of n (chars bs)
+use Rattle.rdf_tokens.specs.Front.{IsAt, bytes_of}
 
 pub at-start : (bs : List ℕ) → IsUtf8 bs → IsAt bs 0 0
 at-start bs u = record { inside = omega arith; count = omega arith; utf8 = u; left = refl; bytes = refl }

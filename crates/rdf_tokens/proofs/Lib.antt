@@ -19,6 +19,7 @@ pub mod MachineLemmas
 pub mod ByteLemmas
 pub mod SpellingLemmas
 pub mod StateLemmas
+pub mod WalkLemmas
 pub mod BlankLemmas
 pub mod StepLemmas
 pub mod OverLemmas

@@ -1,6 +1,8 @@
 -- What the steps of a scanner read.
-use Rattle.std.proofs.Common.{Option, Some, None, ◌≡◌, ℕ, suc, ◌≤◌, Bool, true, false, cond, not, List, [], ◌∷◌, ◌++◌, ◌==◌, inl, inr, refl, sym, ap, ◌∙◌, subst, append_assoc, length, take, drop, arith, length-drop}
-use Rattle.std.proofs.lemmas.List.{append-nil, take_all, take-append-le, drop-append-le}
+use Rattle.std.proofs.Common.{Option, Some, None, ◌≡◌, ℕ, suc, ◌≤◌, Bool, true, false, cond, not, List, [], ◌∷◌, ◌++◌, ◌==◌, inl, inr, refl, sym, ap, ◌∙◌, subst, append_assoc, length, take, drop, arith, length-drop, length-append, encode_utf8}
+use Rattle.std.specs.Prelude.{encode_utf8_all}
+use Rattle.std.proofs.lemmas.Str.{length-encode, len_utf8_bounds}
+use Rattle.std.proofs.lemmas.List.{append-nil, take_all, take-append-le, drop-append-le, take-append-drop}
 use Rattle.std.proofs.lemmas.Bool.{cond-false, or_from}
 use Rattle.rdf_terms.specs.declared.kind.Dialect.{Dialect}
 use Rattle.rdf_terms.specs.declared.kind.Kind.{Kind}
@@ -201,3 +203,14 @@ module _ (v : Unread) (s : Stands v) where
       ∙ (ap (with_tokens ts) (at_stop v.dialect v.limit (tail_now v) v.comment v.place v.text o (ap (step v.dialect v.limit (tail_now v)) rest ∙ e))
       ∙ (ap (λ q. record { tokens = ts ++ end_tokens o q; outcome = o; at = stop_place o q (rest_of v.dialect v.comment v.text) }) place
       ∙ ap (λ w. record { tokens = ts ++ end_tokens o v.place; outcome = o; at = stop_place o v.place w }) rest)))
+
+-- no bytes are those of no characters
+none_taken : (u : List ℕ) → length (encode_utf8_all u) ≡ 0 → u ≡ []
+none_taken [] e = refl
+none_taken (c ∷ u) e = absurd (omega (arith, e, length-append (encode_utf8 c) (encode_utf8_all u), length-encode c, len_utf8_bounds c))
+
+pub moved-none : (v : Unread) (n : ℕ) → bytes_of n v.text ≡ 0 → v ≡ moved v (past v.place (take n v.text)) v.begun v.comment (drop n v.text)
+moved-none v n e =
+    let none : take n v.text ≡ [] = none_taken (take n v.text) e in
+    let all : drop n v.text ≡ v.text = sym (ap (λ x. x ++ drop n v.text) none) ∙ take-append-drop n v.text in
+    sym (ap (λ u. moved v (past v.place u) v.begun v.comment (drop n v.text)) none ∙ ap (moved v v.place v.begun v.comment) all)

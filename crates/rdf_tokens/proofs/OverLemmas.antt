@@ -14,12 +14,12 @@ use Rattle.rdf_tokens.specs.Tokens.{over}
 use Rattle.rdf_tokens.specs.Machines.{IsChars}
 use Rattle.rdf_tokens.specs.Machine.{kind_at, goes_on}
 use Rattle.rdf_tokens.specs.Fixed.{Row, fits, left, is_done, is_begun, kind_by, live_by, rows_of, kind_by_table, live_by_table}
-use Rattle.rdf_tokens.specs.Front.{begins}
+use Rattle.rdf_tokens.specs.Front.{IsAt, begins, state_of}
 use Rattle.rdf_tokens.specs.Over.{shaped_over, row_over, fixed_over}
-use Rattle.rdf_tokens.proofs.ByteLemmas.{IsAt, at-end, chars_take, is-chars}
+use Rattle.rdf_tokens.proofs.ByteLemmas.{at-end, chars_take, is-chars}
 use Rattle.rdf_tokens.proofs.MachineLemmas.{whole-kind, whole-live}
 use Rattle.rdf_tokens.proofs.SpellingLemmas.{short, is_low, all_low, rows_low, begins_bytes}
-use Rattle.rdf_tokens.proofs.StateLemmas.{state_of, longer_state}
+use Rattle.rdf_tokens.proofs.StateLemmas.{longer_state}
 
 -- a text has no more characters than bytes
 pub few : (bs : List ℕ) (at n : ℕ) → IsAt bs at n → n ≤ at

@@ -10,11 +10,11 @@ use Rattle.rdf_terms.specs.Runs.{IsRun}
 use Rattle.rdf_terms.specs.declared.kind.Dialect.{Dialect}
 use Rattle.rdf_terms.specs.declared.kind.Kind.{Kind}
 use Rattle.rdf_tokens.specs.declared.states.machine.State.{State}
-use Rattle.rdf_tokens.specs.Front.{Rests}
+use Rattle.rdf_tokens.specs.Front.{Reached, Rests}
 use Rattle.rdf_tokens.specs.Machine.{step, kind_at}
 use Rattle.rdf_tokens.specs.Tokens.{with_length, three_quotes, only_long}
 use Rattle.rdf_tokens.proofs.BlankLemmas.{high-encode}
-use Rattle.rdf_tokens.proofs.StateLemmas.{Reached, reached-step}
+use Rattle.rdf_tokens.proofs.StateLemmas.{reached-step}
 
 pub rests-none : (s : State) (bs : List ℕ) (at : ℕ) → at ≤ length bs → Rests s bs at at
 rests-none s bs at l = record {

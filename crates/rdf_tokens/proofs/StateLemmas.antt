@@ -1,6 +1,6 @@
 -- What the loop over a text's states keeps.
-use Rattle.std.proofs.Common.{◌≡◌, ℕ, zero, suc, ◌+◌, ◌-◌, ◌<◌, ◌≤◌, Bool, true, false, List, [], ◌∷◌, ◌++◌, ◌||◌, ◌⊎◌, ⊎_elim, ◌&&◌, cond, get_or, refl, sym, ap, ◌∙◌, subst, length, take, drop, arith, encode_utf8, Option, Some, None, add-one, IsUtf8}
-use Rattle.std.proofs.lemmas.Bool.{true≢false}
+use Rattle.std.proofs.Common.{◌≡◌, ℕ, zero, suc, ◌+◌, ◌-◌, ◌<◌, ◌≤◌, Bool, true, false, List, [], ◌∷◌, ◌++◌, ◌||◌, ◌⊎◌, ⊎_elim, ◌&&◌, cond, get_or, refl, sym, ap, ◌∙◌, subst, length, take, drop, arith, encode_utf8, Option, Some, None, is_some, add-one, IsUtf8}
+use Rattle.std.proofs.lemmas.Bool.{true≢false, cond-false}
 use Rattle.std.proofs.lemmas.List.{take_all, drop_more}
 use Rattle.std.proofs.Math.Seq.{take-add}
 use Rattle.std.specs.Str.{chars}
@@ -18,23 +18,16 @@ use Rattle.rdf_tokens.specs.declared.states.tag.Tag.TheVariants as tag_state
 use Rattle.rdf_tokens.specs.declared.states.number.Number.TheVariants as number_state
 use Rattle.rdf_tokens.specs.declared.states.name.Name.TheVariants as name_state
 use Rattle.rdf_tokens.specs.Tokens.{longest, with_length, three_quotes, only_long}
-use Rattle.rdf_tokens.specs.Front.{Begun, bytes_of, in_bytes, longest_by, longer_front, front_by}
+use Rattle.rdf_tokens.specs.Front.{Reached, bytes_of, in_bytes, longest_by, longer_front, front_by, state_of, kind_by_states, kind_here, open_state}
 use Rattle.rdf_tokens.specs.Fixed.{kind_by_table, rows_of, live_by}
 use Rattle.rdf_tokens.specs.Machines.{run, IsChars}
 use Rattle.rdf_tokens.specs.Sorts.{sort_by}
 use Rattle.rdf_tokens.specs.Text.{ascii, high, closes}
 use Rattle.rdf_tokens.specs.Machine.{step, kind_at, goes_on}
-use Rattle.rdf_tokens.proofs.ByteLemmas.{IsAt, at-start, char-step, at-end, run-append, run-more, chars_take, is-chars}
+use Rattle.rdf_tokens.proofs.ByteLemmas.{at-start, char-step, at-end, run-append, run-more, chars_take, is-chars}
 use Rattle.rdf_tokens.proofs.FrontLemmas.{longest-by, longest_by-same, longest_by-or, longest_by-at_most, in_bytes-longer}
 use Rattle.rdf_tokens.proofs.SpellingLemmas.{only_long-table, table-front, table-live}
 use Rattle.rdf_tokens.proofs.MachineLemmas.{whole-kind, whole-live}
-
--- the state behind a text, and its kind by the states
-abbrev pub state_of : Dialect → List ℕ → State
-state_of d u = run (step d) Start u
-
-abbrev pub kind_by_states : Dialect → List ℕ → List ℕ → Option Kind
-kind_by_states d w u = only_long (three_quotes d w) (kind_at (state_of d u))
 
 -- no shape comes behind a state that does not go on
 abbrev pub Stuck : Dialect → State → Type 0
@@ -97,13 +90,6 @@ longest-done d w n (suc k) l e =
     ap (longest_by (kind_by_states d w) w) sum
     ∙ (ap (λ x. with_length (suc (k + n)) x (longest_by (kind_by_states d w) w (k + n))) none ∙ longest-done d w n k (omega arith) e)
 
--- the states have come to a byte: the state there, and the longest front so far
-pub record Reached (d : Dialect) (bs : List ℕ) (at : ℕ) (s : State) (best : Option (ℕ × Kind)) : Type 0 where
-  pub n : ℕ
-  pub here : IsAt bs at n
-  pub state : s ≡ state_of d (take n (chars bs))
-  pub front : best ≡ in_bytes (chars bs) (longest_by (kind_by_states d (chars bs)) (chars bs) n)
-
 pub reached-start : (d : Dialect) (bs : List ℕ) → IsUtf8 bs → Reached d bs 0 Start None
 reached-start d bs u = record { n = 0; here = at-start bs u; state = refl; front = refl }
 
@@ -132,15 +118,38 @@ reached-step d bs at next c s s' k b b' r e en l es ek eb =
     record { n = r.n + 1; here = p.1; state = st; front = front-more d (chars bs) r.n next s' k b b' st p.1.bytes ek r.front eb }
 
 -- behind the first character
-pub reached-first : (d : Dialect) (bs : List ℕ) (at : ℕ) (s : State) (k : Option Kind) (b : Option (ℕ × Kind)) → IsUtf8 bs → Begun d bs at s →
-    k ≡ only_long (three_quotes d (chars bs)) (kind_at s) → b ≡ with_length at k None → Reached d bs at s b
-reached-first d bs at s k b u h ek eb =
-    let past : at ≡ 0 + len_utf8 h.first = omega (arith, h.past) in
-    reached-step d bs 0 at h.first Start s k None b (reached-start d bs u) h.is past h.fits h.state ek eb
+pub reached-first : (d : Dialect) (bs : List ℕ) (at c : ℕ) (s : State) → IsUtf8 bs → bs ≡ encode_utf8 c ++ drop at bs → at ≡ 0 + len_utf8 c → at ≤ length bs →
+    s ≡ step d Start c → Reached d bs at s (with_length at (kind_here d bs s) None)
+reached-first d bs at c s u e en l es =
+    reached-step d bs 0 at c Start s (kind_here d bs s) None (with_length at (kind_here d bs s) None) (reached-start d bs u) e en l es refl refl
 
 -- a first character that begins no family
-pub reached-none : (d : Dialect) (bs : List ℕ) (at : ℕ) → IsUtf8 bs → Begun d bs at Dead → Reached d bs at Dead None
-reached-none d bs at u h = reached-first d bs at Dead None None u h (sym (no_long (three_quotes d (chars bs)))) refl
+pub reached-none : (d : Dialect) (bs : List ℕ) (at c : ℕ) → IsUtf8 bs → bs ≡ encode_utf8 c ++ drop at bs → at ≡ 0 + len_utf8 c → at ≤ length bs →
+    Dead ≡ step d Start c → Reached d bs at Dead None
+reached-none d bs at c u e en l es =
+    reached-step d bs 0 at c Start Dead None None None (reached-start d bs u) e en l es (sym (no_long (three_quotes d (chars bs)))) refl
+
+-- the front that ends where the states are is told twice
+pub reached-again : (d : Dialect) (bs : List ℕ) (at : ℕ) (s : State) (b : Option (ℕ × Kind)) → 0 < at → Reached d bs at s b →
+    Reached d bs at s (with_length at (kind_here d bs s) b)
+reached-again d bs at s b l r = record { n = r.n; here = r.here; state = r.state; front = go r.n refl }
+  where
+    w : List ℕ
+    w = chars bs
+
+    told : (n : ℕ) (k : Option Kind) (o : Option (ℕ × Kind)) → at ≡ bytes_of n w → b ≡ in_bytes w (with_length n k o) → with_length at k b ≡ in_bytes w (with_length n k o)
+    told n None o e f = f
+    told n (Some x) o e f = ap (λ m. Some (m, x)) e
+
+    go : (n : ℕ) → r.n ≡ n → with_length at (kind_here d bs s) b ≡ in_bytes w (longest_by (kind_by_states d w) w r.n)
+    go zero e = let z : at ≡ 0 = r.here.bytes ∙ ap (λ i. bytes_of i w) e in absurd (omega arith)
+    go (suc m) e =
+        let kind : kind_here d bs s ≡ kind_by_states d w (take (suc m) w) =
+        ap (λ s. only_long (three_quotes d w) (kind_at s)) (r.state ∙ ap (λ i. state_of d (take i w)) e) in
+        let front = r.front ∙ ap (λ i. in_bytes w (longest_by (kind_by_states d w) w i)) e in
+        ap (λ k. with_length at k b) kind
+        ∙ (told (suc m) (kind_by_states d w (take (suc m) w)) (longest_by (kind_by_states d w) w m) (r.here.bytes ∙ ap (λ i. bytes_of i w) e) front
+        ∙ sym (ap (λ i. in_bytes w (longest_by (kind_by_states d w) w i)) e))
 
 -- what is known where the states do not go on
 reached-dead : (d : Dialect) (bs : List ℕ) (at : ℕ) (s : State) (b : Option (ℕ × Kind)) → Reached d bs at s b → goes_on d s ≡ false →
@@ -162,18 +171,29 @@ reached-dead d bs at s b r e =
 
 -- and where the text ends
 reached-end : (d : Dialect) (bs : List ℕ) (at : ℕ) (s : State) (b : Option (ℕ × Kind)) → Reached d bs at s b → length bs ≤ at →
-    (b ≡ in_bytes (chars bs) (longest_by (kind_by_states d (chars bs)) (chars bs) (length (chars bs)))) × (goes_on d s ≡ goes_on d (state_of d (chars bs)))
+    (b ≡ in_bytes (chars bs) (longest_by (kind_by_states d (chars bs)) (chars bs) (length (chars bs)))) × (s ≡ state_of d (chars bs))
 reached-end d bs at s b r l =
     let w = chars bs in
     let e : r.n ≡ length w = at-end bs at r.n r.here l in (
       r.front ∙ ap (λ n. in_bytes w (longest_by (kind_by_states d w) w n)) e,
-      ap (goes_on d) (r.state ∙ ap (state_of d) (take_all r.n w (omega arith))),
+      r.state ∙ ap (state_of d) (take_all r.n w (omega arith)),
     )
 
 -- what is known behind the loop
 pub reached-out : (d : Dialect) (bs : List ℕ) (at : ℕ) (s : State) (b : Option (ℕ × Kind)) → Reached d bs at s b → (length bs ≤ at) ⊎ (goes_on d s ≡ false) →
-    (b ≡ in_bytes (chars bs) (longest_by (kind_by_states d (chars bs)) (chars bs) (length (chars bs)))) × (goes_on d s ≡ goes_on d (state_of d (chars bs)))
-reached-out d bs at s b r h = ⊎_elim (reached-end d bs at s b r) (λ e. let p = reached-dead d bs at s b r e in (p.0, e ∙ p.1)) h
+    (b ≡ in_bytes (chars bs) (longest_by (kind_by_states d (chars bs)) (chars bs) (length (chars bs)))) × (open_state d s ≡ open_state d (state_of d (chars bs)))
+reached-out d bs at s b r h = ⊎_elim
+    (λ l. let p = reached-end d bs at s b r l in (p.0, ap (open_state d) p.1))
+    (λ e. let p = reached-dead d bs at s b r e in (p.0, cond-false _ _ _ e ∙ sym (cond-false _ _ _ (sym p.1))))
+    h
+
+-- whether the state is open
+pub open-live : (d : Dialect) (s : State) → is_some (open_state d s) ≡ goes_on d s
+open-live d s = go (goes_on d s)
+  where
+    go : (t : Bool) → is_some (cond t (Some s) None) ≡ t
+    go true = refl
+    go false = refl
 
 -- the longest token by the table and the states
 pub front-best : (d : Dialect) (w : List ℕ) → IsChars w → in_bytes w (longest d w (length w))

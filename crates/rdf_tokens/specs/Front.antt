@@ -1,12 +1,13 @@
 -- Fronts of a text: the longest that is a token, by characters and by bytes.
-use Rattle.std.specs.Prelude.{ℕ, zero, suc, Bool, true, false, cond, ◌&&◌, ◌≡◌, ◌<◌, ◌≤◌, nat_lt, get_or, List, [], ◌∷◌, ◌++◌, length, take, drop, encode_utf8, encode_utf8_all, Option, Some, None}
-use Rattle.std.specs.Char.{len_utf8}
+use Rattle.std.specs.Prelude.{ℕ, zero, suc, Bool, true, false, cond, ◌&&◌, ◌≡◌, ◌<◌, ◌≤◌, nat_lt, get_or, List, [], ◌∷◌, length, take, drop, encode_utf8, encode_utf8_all, Option, Some, None}
+use Rattle.std.specs.Str.{chars, IsUtf8}
 use Rattle.rdf_terms.specs.declared.kind.Dialect.{Dialect}
 use Rattle.rdf_terms.specs.declared.kind.Kind.{Kind}
 use Rattle.rdf_tokens.specs.declared.states.machine.State.{State}
 use Rattle.rdf_tokens.specs.declared.states.machine.State.TheVariants.{Start}
-use Rattle.rdf_tokens.specs.Machine.{step}
-use Rattle.rdf_tokens.specs.Tokens.{with_length}
+use Rattle.rdf_tokens.specs.Machines.{run}
+use Rattle.rdf_tokens.specs.Machine.{step, kind_at, goes_on}
+use Rattle.rdf_tokens.specs.Tokens.{with_length, three_quotes, only_long}
 use Rattle.rdf_tokens.specs.Fixed.{Row, fits}
 
 -- how many bytes the first n characters have
@@ -48,13 +49,36 @@ abbrev pub at_first : ℕ → List Row → List Row
 at_first x [] = []
 at_first x (r ∷ rs) = cond (begins r.any_case (take 1 r.text) (x ∷ [])) (r ∷ at_first x rs) (at_first x rs)
 
--- the first character of some bytes ends there, and the states have come to it
-pub record Begun (d : Dialect) (bs : List ℕ) (at : ℕ) (s : State) : Type 0 where
-  pub first : ℕ
-  pub is : bs ≡ encode_utf8 first ++ drop at bs
-  pub past : at ≡ len_utf8 first
-  pub fits : at ≤ length bs
-  pub state : s ≡ step d Start first
+-- the byte at which the character n of a text begins, or the text ends
+pub record IsAt (bs : List ℕ) (at n : ℕ) : Type 0 where
+  pub inside : at ≤ length bs
+  pub count : n ≤ length (chars bs)
+  pub utf8 : IsUtf8 (drop at bs)
+  pub left : drop n (chars bs) ≡ chars (drop at bs)
+  pub bytes : at ≡ bytes_of n (chars bs)
+
+-- the state behind a text
+abbrev pub state_of : Dialect → List ℕ → State
+state_of d u = run (step d) Start u
+
+-- the kind of a front of a text by the states
+abbrev pub kind_by_states : Dialect → List ℕ → List ℕ → Option Kind
+kind_by_states d w u = only_long (three_quotes d w) (kind_at (state_of d u))
+
+-- the same where the states have come to this one
+abbrev pub kind_here : Dialect → List ℕ → State → Option Kind
+kind_here d bs s = only_long (three_quotes d (chars bs)) (kind_at s)
+
+-- a state behind which more may come
+abbrev pub open_state : Dialect → State → Option State
+open_state d s = cond (goes_on d s) (Some s) None
+
+-- the states have come to a byte: the state there, and the longest front so far
+pub record Reached (d : Dialect) (bs : List ℕ) (at : ℕ) (s : State) (best : Option (ℕ × Kind)) : Type 0 where
+  pub n : ℕ
+  pub here : IsAt bs at n
+  pub state : s ≡ state_of d (take n (chars bs))
+  pub front : best ≡ in_bytes (chars bs) (longest_by (kind_by_states d (chars bs)) (chars bs) n)
 
 -- The bytes between two places leave a state as it is: whichever character begins with one of them, the state behind it is the same.
 -- The characters there are whole.

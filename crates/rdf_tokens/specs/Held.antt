@@ -1,7 +1,10 @@
 -- What always holds of a scanner's fields.
-use Rattle.std.specs.Prelude.{ℕ, ◌≤◌, ◌+◌, ◌-◌, List, length}
+use Rattle.std.specs.Prelude.{ℕ, ◌≤◌, ◌+◌, ◌-◌, List, Option, length, drop}
 use Rattle.std.specs.Str.{IsCharBoundary}
+use Rattle.rdf_terms.specs.declared.kind.Dialect.{Dialect}
+use Rattle.rdf_tokens.specs.declared.front.Walk.{Walk}
 use Rattle.rdf_tokens.specs.Tokens.{Place}
+use Rattle.rdf_tokens.specs.Walk.{Walked}
 use Rattle.rdf_tokens.specs.Moves.{BeginsChar}
 use Rattle.rdf_tokens.specs.Scans.{most_bytes}
 
@@ -17,3 +20,8 @@ pub record Held (text : List ℕ) (start : ℕ) (pending : List ℕ) (place take
   pub most : taken.offset ≤ most_bytes
   pub lines : IsPlace place
   pub last : IsPlace taken
+
+-- and how far the states have come in the rest
+pub record Holds (d : Dialect) (text : List ℕ) (start : ℕ) (walk : Option Walk) (pending : List ℕ) (place taken : Place) : Type 0 where
+  pub held : Held text start pending place taken
+  pub walked : Walked d (drop start text) walk

@@ -15,6 +15,7 @@ pub mod Name
 pub mod Fixed
 pub mod Spellings
 pub mod Front
+pub mod Walk
 pub mod Over
 pub mod Look
 pub mod Blank

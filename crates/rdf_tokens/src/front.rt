@@ -4,16 +4,14 @@ ghost use Rattle.std.specs.Prelude.{◌≡◌, length};
 ghost use Rattle.std.specs.Str.{chars};
 ghost use Rattle.rdf_terms.specs.Shapes.{is_live};
 ghost use Rattle.rdf_tokens.specs.Tokens.{three_quotes, only_long, with_length, longest};
-ghost use Rattle.rdf_tokens.specs.Front.{Begun, in_bytes, longest_by, longer_front};
-ghost use Rattle.rdf_tokens.specs.Machines.{run};
-ghost use Rattle.rdf_tokens.specs.Machine.{step, kind_at, goes_on};
-ghost use Rattle.rdf_tokens.specs.declared.states.machine.State.TheVariants.{Start};
+ghost use Rattle.rdf_tokens.specs.Front.{Reached, in_bytes, longest_by, longer_front, state_of, kind_by_states, kind_here, open_state};
+ghost use Rattle.rdf_tokens.specs.Walk.{Walked, IsWalk, walk_kept};
 
 use crate::bytes::char_at;
 use crate::states::fixed::{fixed_front, is_fixed_live};
 use crate::states::iri::Iri;
 use crate::states::label::Label;
-use crate::states::machine::{Family, family_of};
+use crate::states::machine::{Family, State, family_of};
 use crate::states::name::Name;
 use crate::states::number::Number;
 use crate::states::shape::Shape;
@@ -30,71 +28,141 @@ pub(crate) struct Front {
     pub(crate) live: bool,
 }
 
-/// The longest token at the front of a text.
-pub(crate) fn front_of(dialect: Dialect, text: &str) -> Front
+/// How far the states have come in a token that is open: the state behind its bytes so far, and the longest token in them.
+#[derive(Clone, Copy)]
+pub(crate) struct Walk {
+    state: State,
+    at: usize,
+    len: usize,
+    kind: Option<Kind>,
+}
+
+/// The longest token at the front of a text. The states go on from where they came in the text's first bytes, and where a
+/// longer token may come, it is kept how far they came.
+pub(crate) fn front_of(dialect: Dialect, text: &str, walk: &mut Option<Walk>) -> Front
+    requires { Walked dialect text.now walk.old }
     ensures best { result.best ≡ in_bytes (chars text.now) (longest dialect (chars text.now) (length (chars text.now))) }
     ensures live { result.live ≡ is_live dialect (chars text.now) }
+    ensures walked { Walked dialect text.now walk.new }
 {
-    let shaped = shaped_front(dialect, text);
+    let shaped = shaped_front(dialect, text, walk);
+    keep(walk, text.len(), &shaped);
     Front {
         best: longer(
             fixed_front(dialect, text.as_bytes()),
             with_length(shaped.len, shaped.kind),
         ),
-        live: shaped.live || is_fixed_live(dialect, text.as_bytes()),
+        live: shaped.state.is_some() || is_fixed_live(dialect, text.as_bytes()),
     }
 }
 
-/// The same for the kinds that have states: the length and the kind of the longest, which a loop keeps in registers.
+/// The same for the kinds that have states: the length and the kind of the longest, which a loop keeps in registers, and
+/// the state behind the whole text where it goes on.
 #[derive(Drop)]
 struct Shaped {
     len: usize,
     kind: Option<Kind>,
-    live: bool,
+    state: Option<State>,
+}
+
+/// Keeps how far the states came where they go on. Behind fewer than three bytes quotes may still turn into those of a long string.
+fn keep(walk: &mut Option<Walk>, len: usize, shaped: &Shaped)
+    ensures { walk.new ≡ walk_kept walk.old len shaped.now.len shaped.now.kind shaped.now.state }
+{
+    if let Some(state) = shaped.state {
+        if len >= 3 {
+            *walk = Some(Walk {
+                state,
+                at: len,
+                len: shaped.len,
+                kind: shaped.kind,
+            });
+        }
+    }
 }
 
 /// The longest token of a kind that has states.
-fn shaped_front(dialect: Dialect, text: &str) -> Shaped
-    ensures best { with_length result.len result.kind None ≡ in_bytes (chars text.now)
-        (longest_by (λ u. only_long (three_quotes dialect (chars text.now)) (kind_at (run (step dialect) Start u))) (chars text.now) (length (chars text.now))) }
-    ensures live { result.live ≡ goes_on dialect (run (step dialect) Start (chars text.now)) }
+fn shaped_front(dialect: Dialect, text: &str, walk: &Option<Walk>) -> Shaped
+    requires { Walked dialect text.now walk.now }
+    ensures best { with_length result.len result.kind None ≡ in_bytes (chars text.now) (longest_by (kind_by_states dialect (chars text.now)) (chars text.now) (length (chars text.now))) }
+    ensures state { result.state ≡ open_state dialect (state_of dialect (chars text.now)) }
+{
+    match walk {
+        Some(walk) => resumed_front(dialect, text, walk),
+        None => first_front(dialect, text),
+    }
+}
+
+fn resumed_front(dialect: Dialect, text: &str, walk: &Walk) -> Shaped
+    requires { IsWalk dialect text.now walk.now }
+    ensures best { with_length result.len result.kind None ≡ in_bytes (chars text.now) (longest_by (kind_by_states dialect (chars text.now)) (chars text.now) (length (chars text.now))) }
+    ensures state { result.state ≡ open_state dialect (state_of dialect (chars text.now)) }
+{
+    let at = walk.at;
+    let len = walk.len;
+    let kind = walk.kind;
+    match walk.state {
+        State::Iri(state) => front_from(dialect, text, at, state, len, kind),
+        State::Label(state) => front_from(dialect, text, at, state, len, kind),
+        State::Text(state) => front_from(dialect, text, at, state, len, kind),
+        State::Tag(state) => front_from(dialect, text, at, state, len, kind),
+        State::Number(state) => front_from(dialect, text, at, state, len, kind),
+        State::Name(state) => front_from(dialect, text, at, state, len, kind),
+        state => front_from(dialect, text, at, state, len, kind),
+    }
+}
+
+fn first_front(dialect: Dialect, text: &str) -> Shaped
+    ensures best { with_length result.len result.kind None ≡ in_bytes (chars text.now) (longest_by (kind_by_states dialect (chars text.now)) (chars text.now) (length (chars text.now))) }
+    ensures state { result.state ≡ open_state dialect (state_of dialect (chars text.now)) }
 {
     if text.is_empty() {
         return Shaped {
             len: 0,
             kind: None,
-            live: true,
+            state: Some(State::Start),
         };
     }
     let (c, next) = char_at(text, 0);
     match family_of(c) {
-        Family::Iri => front_from(dialect, text, next, Iri::Start.step(c)),
-        Family::Label => front_from(dialect, text, next, Label::Start.step(dialect, c)),
-        Family::Text => front_from(dialect, text, next, Text::Start.step(dialect, c)),
-        Family::Tag => front_from(dialect, text, next, Tag::Start.step(c)),
-        Family::Number => front_from(dialect, text, next, Number::Start.step(dialect, c)),
-        Family::Name => front_from(dialect, text, next, Name::Start.step(dialect, c)),
+        Family::Iri => front_from(dialect, text, next, Iri::Start.step(c), 0, None),
+        Family::Label => front_from(dialect, text, next, Label::Start.step(dialect, c), 0, None),
+        Family::Text => front_from(dialect, text, next, Text::Start.step(dialect, c), 0, None),
+        Family::Tag => front_from(dialect, text, next, Tag::Start.step(c), 0, None),
+        Family::Number => front_from(dialect, text, next, Number::Start.step(dialect, c), 0, None),
+        Family::Name => front_from(dialect, text, next, Name::Start.step(dialect, c), 0, None),
         Family::None => Shaped {
             len: 0,
             kind: None,
-            live: false,
+            state: None,
         },
     }
 }
 
-/// The same where a text's first character led to this state.
+/// The same where a text's first bytes led to this state, and the longest token before their end is known.
 #[inline(never)]
-fn front_from<S: Shape>(dialect: Dialect, text: &str, first: usize, begun: S) -> Shaped
-    requires { Begun dialect text.now first (S.whole begun) }
-    ensures best { with_length result.len result.kind None ≡ in_bytes (chars text.now)
-        (longest_by (λ u. only_long (three_quotes dialect (chars text.now)) (kind_at (run (step dialect) Start u))) (chars text.now) (length (chars text.now))) }
-    ensures live { result.live ≡ goes_on dialect (run (step dialect) Start (chars text.now)) }
+fn front_from<S: Shape>(
+    dialect: Dialect,
+    text: &str,
+    first: usize,
+    begun: S,
+    before: usize,
+    before_kind: Option<Kind>,
+) -> Shaped
+    requires { Reached dialect text.now first (S.whole begun)
+        (with_length first (kind_here dialect text.now (S.whole begun)) (with_length before before_kind None)) }
+    ensures best { with_length result.len result.kind None ≡ in_bytes (chars text.now) (longest_by (kind_by_states dialect (chars text.now)) (chars text.now) (length (chars text.now))) }
+    ensures state { result.state ≡ open_state dialect (state_of dialect (chars text.now)) }
 {
     let three = has_three_quotes(dialect, text.as_bytes());
     let mut state = begun;
     let mut at = state.rest_end(text, first);
-    let mut len = at;
-    let mut kind = only_long_string(three, state.whole_kind());
+    let mut len = before;
+    let mut kind = before_kind;
+    if let Some(longer) = only_long_string(three, state.whole_kind()) {
+        len = at;
+        kind = Some(longer);
+    }
     while at < text.len() && state.goes_on(dialect) {
         let (c, next) = char_at(text, at);
         state = state.after_char(dialect, c);
@@ -107,7 +175,18 @@ fn front_from<S: Shape>(dialect: Dialect, text: &str, first: usize, begun: S) ->
     Shaped {
         len,
         kind,
-        live: state.goes_on(dialect),
+        state: open_state(dialect, state),
+    }
+}
+
+#[inline(always)]
+fn open_state<S: Shape>(dialect: Dialect, state: S) -> Option<State>
+    ensures { result ≡ open_state dialect (S.whole state) }
+{
+    if state.goes_on(dialect) {
+        Some(state.whole_state())
+    } else {
+        None
     }
 }
 

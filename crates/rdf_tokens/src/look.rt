@@ -3,9 +3,10 @@
 ghost use Rattle.std.specs.Str.{chars};
 ghost use Rattle.std.specs.Prelude.{◌≡◌, ◌||◌};
 ghost use Rattle.rdf_tokens.specs.Tokens.{is_empty, step};
+ghost use Rattle.rdf_tokens.specs.Walk.{Walked};
 ghost use Rattle.rdf_tokens.specs.Look.{behind, IsLook, CutsAt, decided_by};
 
-use crate::front::front_of;
+use crate::front::{Walk, front_of};
 use crate::over::is_over;
 use rdf_terms::{Dialect, Kind, Reason, is_fit};
 
@@ -33,14 +34,23 @@ pub(crate) enum Look {
     Token(usize, Kind),
 }
 
-/// What stands at the front of a text, from which white space and comments have been taken off.
-pub(crate) fn look_at(dialect: Dialect, text: &str, limit: u64, tail: Tail) -> Look
-    ensures { IsLook result (step dialect limit (behind tail) (chars text.now)) (chars text.now) }
+/// What stands at the front of a text, from which white space and comments have been taken off. What is kept of its token
+/// is not looked at again, and what was seen of it is kept.
+pub(crate) fn look_at(
+    dialect: Dialect,
+    text: &str,
+    limit: u64,
+    tail: Tail,
+    walk: &mut Option<Walk>,
+) -> Look
+    requires { Walked dialect text.now walk.old }
+    ensures look { IsLook result (step dialect limit (behind tail) (chars text.now)) (chars text.now) }
+    ensures walked { Walked dialect text.now walk.new }
 {
     if is_over(dialect, text, limit) {
         return Look::Stop(Reason::TokenTooLong);
     }
-    let front = front_of(dialect, text);
+    let front = front_of(dialect, text, walk);
     let waits = is_open(text, front.live);
     match tail {
         Tail::GoesOn if waits => Look::Undecided,
@@ -88,7 +98,7 @@ mod tests {
         ];
         for (text, want) in table {
             assert_eq!(rt;
-                look_at(Dialect::Turtle, text, 100, Tail::Ended),
+                look_at(Dialect::Turtle, text, 100, Tail::Ended, &mut None),
                 want,
                 "at {text}"
             );
@@ -99,11 +109,11 @@ mod tests {
     fn a_line_has_no_long_strings(rt: HostRuntime) {
         let text = "\"\"\"a\"\"\"";
         for tail in [Tail::GoesOn, Tail::Ended, Tail::Broken] {
-            let first = look_at(Dialect::Lines, text, 100, tail);
+            let first = look_at(Dialect::Lines, text, 100, tail, &mut None);
             assert_eq!(rt; first, Look::Token(2, Kind::ShortString));
-            let second = look_at(Dialect::Lines, &text[2..], 100, tail);
+            let second = look_at(Dialect::Lines, &text[2..], 100, tail, &mut None);
             assert_eq!(rt; second, Look::Token(3, Kind::ShortString));
-            let third = look_at(Dialect::Lines, &text[5..], 100, tail);
+            let third = look_at(Dialect::Lines, &text[5..], 100, tail, &mut None);
             assert_eq!(rt; third, Look::Token(2, Kind::ShortString));
         }
     }
@@ -120,9 +130,9 @@ mod tests {
             "<a",
             "_",
         ] {
-            let more = look_at(Dialect::Turtle, text, 100, Tail::GoesOn);
+            let more = look_at(Dialect::Turtle, text, 100, Tail::GoesOn, &mut None);
             assert_eq!(rt; more, Look::Undecided, "at {text}");
-            let broken = look_at(Dialect::Turtle, text, 100, Tail::Broken);
+            let broken = look_at(Dialect::Turtle, text, 100, Tail::Broken, &mut None);
             assert_eq!(rt; broken, Look::Stop(Reason::BadUtf8), "at {text}");
         }
     }
@@ -139,7 +149,7 @@ mod tests {
         ];
         for (text, limit, want) in table {
             assert_eq!(rt;
-                look_at(Dialect::Turtle, text, limit, Tail::Ended),
+                look_at(Dialect::Turtle, text, limit, Tail::Ended, &mut None),
                 want,
                 "at {text}"
             );

@@ -14,6 +14,7 @@ ghost use Rattle.rdf_tokens.specs.Good.{mark};
 ghost use Rattle.rdf_tokens.specs.Front.{bytes_of};
 
 use crate::blank::blank_run;
+use crate::front::Walk;
 use crate::good::{good_front, line_feeds, mark_len};
 use crate::look::{Look, Tail, look_at};
 use crate::token::{ScanFault, Token};
@@ -32,6 +33,8 @@ pub struct Scanner<A: Allocator = Global> {
     // Good text, of which the first `start` bytes are read.
     text: String<A>,
     start: usize,
+    // How far the states have come in the token that the rest of the text begins with, where it is open.
+    walk: Option<Walk>,
     // The bytes behind the text that begin a character.
     pending: Vec<u8, A>,
     broken: bool,
@@ -50,7 +53,7 @@ impl<A: Allocator> Model for Scanner<A> {
     ghost use Rattle.std.specs.Str.{chars};
     ghost use Rattle.std.specs.String.{string_bytes};
     ghost use Rattle.rdf_tokens.specs.Unread.{Unread};
-    ghost use Rattle.rdf_tokens.specs.Held.{Held};
+    ghost use Rattle.rdf_tokens.specs.Held.{Holds};
 
     ghost Value = { Unread };
 
@@ -68,7 +71,7 @@ impl<A: Allocator> Model for Scanner<A> {
       stopped = s.stopped;
     } };
 
-    ghost invariant = { λ s. Held (string_bytes s.text) s.start s.pending.items (record { offset = s.offset; line = s.line }) (record { offset = s.taken; line = s.last_line }) };
+    ghost invariant = { λ s. Holds s.dialect (string_bytes s.text) s.start s.walk s.pending.items (record { offset = s.offset; line = s.line }) (record { offset = s.taken; line = s.last_line }) };
 }
 
 impl<A: Allocator + Copy> Scanner<A> {
@@ -84,6 +87,7 @@ impl<A: Allocator + Copy> Scanner<A> {
             limit,
             text: String::new(alloc),
             start: 0,
+            walk: None,
             pending: Vec::new(alloc),
             broken: false,
             begun: false,
@@ -148,10 +152,13 @@ impl<A: Allocator + Copy> Scanner<A> {
         }
     }
 
-    fn look(&self) -> Look
-        ensures { IsLook result (step self.now.dialect self.now.limit (tail_now self.now) self.now.text) self.now.text }
+    fn look(&mut self) -> Look
+        ensures look { IsLook result (step self.new.dialect self.new.limit (tail_now self.new) self.new.text) self.new.text }
+        ensures same { self.new ≡ self.old }
     {
-        look_at(self.dialect, self.rest(), self.limit, self.tail())
+        let tail = self.tail();
+        let rest = &self.text.as_str()[self.start..];
+        look_at(self.dialect, rest, self.limit, tail, &mut self.walk)
     }
 
     fn tail(&self) -> Tail
@@ -189,6 +196,7 @@ impl<A: Allocator + Copy> Scanner<A> {
         self.line += feeds_of(kind, &self.text.as_bytes()[start..end]) as u64;
         self.offset += len as u64;
         self.start = end;
+        self.walk = None;
         self.comment = false;
         Token {
             kind,
@@ -288,10 +296,14 @@ impl<A: Allocator + Copy> Scanner<A> {
         requires { (n : ℕ) × (len ≡ bytes_of n self.old.text) }
         ensures { (n : ℕ) → len ≡ bytes_of n self.old.text → self.new ≡ moved self.old (past self.old.place (take n self.old.text)) self.old.begun self.old.comment (drop n self.old.text) }
     {
+        if len == 0 {
+            return;
+        }
         let end = self.start + len;
         self.line += line_feeds(&self.text.as_bytes()[self.start..end]) as u64;
         self.offset += len as u64;
         self.start += len;
+        self.walk = None;
     }
 
     fn stop(&mut self, reason: Reason) -> ScanFault

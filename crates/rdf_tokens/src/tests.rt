@@ -212,3 +212,56 @@ fn cuts_change_nothing(rt: HostRuntime) -> Result<(), Fail> {
     }
     Ok(())
 }
+
+// The answers to a text of the Turtle dialect that comes in pieces of so many bytes.
+fn answers_in_pieces(alloc: Global, text: &[u8], size: usize) -> Result<Vec<Told>, Fail> {
+    let mut scanner = Scanner::new(alloc, Dialect::Turtle, 1000);
+    let mut told = Vec::new(alloc);
+    let mut piece = Vec::new(alloc);
+    for byte in text {
+        piece.push(*byte)?;
+        if piece.len() == size {
+            push(&mut scanner, piece.as_slice());
+            piece.clear();
+            take_answers(&mut scanner, &mut told)?;
+        }
+    }
+    push(&mut scanner, piece.as_slice());
+    scanner.end();
+    take_answers(&mut scanner, &mut told)?;
+    Ok(told)
+}
+
+/// Tokens by their beginning, what comes sixteen times, and their end.
+const LONG: [(&str, &str, &str, Kind); 8] = [
+    ("\"", "a\\\"é'\\u00e9 ", "\"", Kind::ShortString),
+    ("'''", "b''\n\\'\"\"\" ", "'''", Kind::LongString),
+    ("<", "http://é/\\u00e9#", ">", Kind::IriRef),
+    ("é.x:", "a.b%20-\\.:ü", "", Kind::PnameLn),
+    ("ex", "..-a", ":", Kind::PnameNs),
+    ("_:", "a.-·b..", "c", Kind::LabelNode),
+    ("@en", "-a1", "", Kind::LangTag),
+    ("1.", "05", "e5", Kind::Double),
+];
+
+#[test]
+fn a_long_token_comes_in_small_pieces(rt: HostRuntime) -> Result<(), Fail> {
+    for (begin, middle, end, kind) in LONG {
+        let mut text = String::new(rt.alloc());
+        text.push_str(begin)?;
+        for _ in 0..16 {
+            text.push_str(middle)?;
+        }
+        text.push_str(end)?;
+        let len = text.len();
+        text.push_str(" , 1.")?;
+        let whole = answers_in_pieces(rt.alloc(), text.as_bytes(), text.len())?;
+        assert_eq!(rt; whole.len(), 6, "{text}");
+        assert_eq!(rt; whole[0], Told::Token(kind, 0, 1, len), "{text}");
+        for size in 1..=7 {
+            let told = answers_in_pieces(rt.alloc(), text.as_bytes(), size)?;
+            assert_eq!(rt; told.as_slice(), whole.as_slice(), "{text} by {size}");
+        }
+    }
+    Ok(())
+}

@@ -21,6 +21,10 @@ pub(crate) trait Shape: Copy {
     /// The same state among those of all families.
     ghost whole: { Self → State };
 
+    /// That state, to keep it.
+    fn whole_state(self) -> State
+        ensures { result ≡ whole self };
+
     /// The state behind one more character.
     fn after_char(self, dialect: Dialect, c: char) -> Self
         ensures { whole result ≡ step dialect (whole self) c };
@@ -41,6 +45,11 @@ pub(crate) trait Shape: Copy {
 
 impl Shape for Iri {
     ghost whole = { state.Iri };
+
+    #[inline(always)]
+    fn whole_state(self) -> State {
+        State::Iri(self)
+    }
 
     #[inline(always)]
     fn after_char(self, _dialect: Dialect, c: char) -> Iri {
@@ -74,6 +83,11 @@ impl Shape for Label {
     ghost whole = { state.Label };
 
     #[inline(always)]
+    fn whole_state(self) -> State {
+        State::Label(self)
+    }
+
+    #[inline(always)]
     fn after_char(self, dialect: Dialect, c: char) -> Label {
         self.step(dialect, c)
     }
@@ -105,6 +119,11 @@ impl Shape for Text {
     ghost whole = { state.Text };
 
     #[inline(always)]
+    fn whole_state(self) -> State {
+        State::Text(self)
+    }
+
+    #[inline(always)]
     fn after_char(self, dialect: Dialect, c: char) -> Text {
         self.step(dialect, c)
     }
@@ -130,6 +149,11 @@ impl Shape for Text {
 
 impl Shape for Tag {
     ghost whole = { state.Tag };
+
+    #[inline(always)]
+    fn whole_state(self) -> State {
+        State::Tag(self)
+    }
 
     #[inline(always)]
     fn after_char(self, _dialect: Dialect, c: char) -> Tag {
@@ -160,6 +184,11 @@ impl Shape for Number {
     ghost whole = { state.Number };
 
     #[inline(always)]
+    fn whole_state(self) -> State {
+        State::Number(self)
+    }
+
+    #[inline(always)]
     fn after_char(self, dialect: Dialect, c: char) -> Number {
         self.step(dialect, c)
     }
@@ -182,6 +211,11 @@ impl Shape for Number {
 
 impl Shape for Name {
     ghost whole = { state.Name };
+
+    #[inline(always)]
+    fn whole_state(self) -> State {
+        State::Name(self)
+    }
 
     #[inline(always)]
     fn after_char(self, dialect: Dialect, c: char) -> Name {
@@ -209,6 +243,11 @@ impl Shape for Name {
 
 impl Shape for State {
     ghost whole = { λ s. s };
+
+    #[inline(always)]
+    fn whole_state(self) -> State {
+        self
+    }
 
     #[inline(always)]
     fn after_char(self, dialect: Dialect, c: char) -> State {

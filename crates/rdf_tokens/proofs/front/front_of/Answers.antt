@@ -1,27 +1,44 @@
-use Rattle.std.proofs.Common.{◌||◌, ap, sym, ◌∙◌}
+use Rattle.std.proofs.Common.{◌≡◌, ◌||◌, true, false, ap, sym, ◌∙◌, subst, is_some, refl}
+use Rattle.std.specs.Str.{chars}
 use Rattle.rdf_terms.specs.Shapes.{fixed}
 use Rattle.rdf_tokens.specs.Fixed.{rows_of, live_by}
-use Rattle.rdf_tokens.specs.Front.{front_by}
-use Rattle.rdf_tokens.proofs.StateLemmas.{front-bytes, live-bytes}
+use Rattle.rdf_tokens.specs.Front.{front_by, state_of}
+use Rattle.rdf_tokens.specs.Machine.{goes_on}
+use Rattle.rdf_tokens.specs.Walk.{Walked}
+use Rattle.rdf_tokens.proofs.StateLemmas.{front-bytes, live-bytes, open-live}
+use Rattle.rdf_tokens.proofs.WalkLemmas.{walked-kept}
 use Rattle.rdf_tokens.proofs.front.front_of.Goals as goal
 
-pub returns-then-shaped-clause-best : goal.returns-then-shaped-clause-best
-returns-then-shaped-clause-best c =
+pub returns-then-is_some-clause-best : goal.returns-then-is_some-clause-best
+returns-then-is_some-clause-best c =
     front-bytes c.args.dialect c.args.text.now c.fixed_front.result c.with_length.result c.longer.result c.utf8.text
     (c.fixed_front.ensures ∙ ap (front_by (rows_of c.args.dialect fixed)) c.as_bytes.ensures.value) (c.with_length.ensures ∙ c.shaped_front-shaped.ensures.best) c.longer.ensures
 
-pub returns-then-shaped-clause-live : goal.returns-then-shaped-clause-live
-returns-then-shaped-clause-live c =
-    c.if-shaped.true ∙ (sym (ap (λ t. t || live_by (rows_of c.args.dialect fixed) c.args.text.now) (sym c.shaped_front-shaped.ensures.live ∙ c.if-shaped.true))
-    ∙ live-bytes c.args.dialect c.args.text.now c.utf8.text)
+pub returns-then-is_some-clause-live : goal.returns-then-is_some-clause-live
+returns-then-is_some-clause-live c =
+    let d = c.args.dialect in
+    let bs = c.args.text.now in
+    let goes : goes_on d (state_of d (chars bs)) ≡ true =
+    sym (ap is_some c.shaped_front-shaped.ensures.state ∙ open-live d (state_of d (chars bs))) ∙ (sym c.is_some.ensures ∙ c.if-is_some.true) in
+    let whole = sym (ap (λ t. t || live_by (rows_of d fixed) bs) goes) ∙ live-bytes d bs c.utf8.text in
+    c.if-is_some.true ∙ whole
 
-pub returns-else-shaped-clause-best : goal.returns-else-shaped-clause-best
-returns-else-shaped-clause-best c =
+pub returns-then-is_some-clause-walked : goal.returns-then-is_some-clause-walked
+returns-then-is_some-clause-walked c =
+    let shaped = c.shaped_front-shaped in
+    subst (Walked c.args.dialect c.args.text.now) (sym c.keep.ensures)
+    (walked-kept c.args.dialect c.args.text.now _ _ shaped.result.len shaped.result.kind shaped.result.state c.utf8.text c.requires refl shaped.ensures.best shaped.ensures.state)
+
+pub returns-else-is_some-clause-best : goal.returns-else-is_some-clause-best
+returns-else-is_some-clause-best c =
     front-bytes c.args.dialect c.args.text.now c.fixed_front.result c.with_length.result c.longer.result c.utf8.text
     (c.fixed_front.ensures ∙ ap (front_by (rows_of c.args.dialect fixed)) c.as_bytes.ensures.value) (c.with_length.ensures ∙ c.shaped_front-shaped.ensures.best) c.longer.ensures
 
-pub returns-else-shaped-clause-live : goal.returns-else-shaped-clause-live
-returns-else-shaped-clause-live c =
-    c.is_fixed_live.ensures ∙ (ap (live_by (rows_of c.args.dialect fixed)) c.as_bytes-else-shaped.ensures.value
-    ∙ (sym (ap (λ t. t || live_by (rows_of c.args.dialect fixed) c.args.text.now) (sym c.shaped_front-shaped.ensures.live ∙ c.if-shaped.false))
-    ∙ live-bytes c.args.dialect c.args.text.now c.utf8.text))
+pub returns-else-is_some-clause-live : goal.returns-else-is_some-clause-live
+returns-else-is_some-clause-live c =
+    let d = c.args.dialect in
+    let bs = c.args.text.now in
+    let goes : goes_on d (state_of d (chars bs)) ≡ false =
+    sym (ap is_some c.shaped_front-shaped.ensures.state ∙ open-live d (state_of d (chars bs))) ∙ (sym c.is_some.ensures ∙ c.if-is_some.false) in
+    let whole = sym (ap (λ t. t || live_by (rows_of d fixed) bs) goes) ∙ live-bytes d bs c.utf8.text in
+    c.is_fixed_live.ensures ∙ (ap (live_by (rows_of d fixed)) c.as_bytes-else-is_some.ensures.value ∙ whole)

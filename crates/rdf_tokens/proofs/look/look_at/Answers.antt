@@ -8,14 +8,14 @@ use Rattle.rdf_tokens.proofs.LookLemmas.{empty-bytes, step-over, step-open, step
 use Rattle.rdf_tokens.proofs.look.look_at.Goals as goal
 use Rattle.rdf_tokens.proofs.look.look_at.Goals.{in_default-via-in-GoesOn+else-waits, in_default-via-in-Broken+else-waits-2, in_default-via-in_default}
 
-pub returns-then-is_over : goal.returns-then-is_over
-returns-then-is_over c = step-over c.args.dialect c.args.limit (behind c.args.tail) (chars c.args.text.now) (sym c.is_over.ensures ∙ c.if-is_over.true)
+pub returns-then-is_over-clause-look : goal.returns-then-is_over-clause-look
+returns-then-is_over-clause-look c = step-over c.args.dialect c.args.limit (behind c.args.tail) (chars c.args.text.now) (sym c.is_over.ensures ∙ c.if-is_over.true)
 
 pub decided-requires : goal.decided-requires
 decided-requires c = cuts-front c.args.dialect c.args.text.now c.front_of-front.result.best c.utf8.text c.front_of-front.ensures.best
 
-pub returns-in-GoesOn : goal.returns-in-GoesOn
-returns-in-GoesOn c =
+pub returns-in-GoesOn-clause-look : goal.returns-in-GoesOn-clause-look
+returns-in-GoesOn-clause-look c =
     let d = c.args.dialect in
     let w = chars c.args.text.now in
     let o : over d c.args.limit w ≡ false = sym c.is_over.ensures ∙ c.if-is_over.false in
@@ -23,8 +23,8 @@ returns-in-GoesOn c =
     c.is_open-waits.ensures ∙ (ap (λ x. x || c.front_of-front.result.live) (empty-bytes c.args.text.now c.utf8.text) ∙ ap (λ x. is_empty w || x) c.front_of-front.ensures.live) in
     step-open d c.args.limit (behind c.args.tail) w true o (sym c.if-waits.true ∙ b) ∙ ap (λ t. by_tail d (behind t) w true) c.in-GoesOn.is
 
-pub returns-in-Broken : goal.returns-in-Broken
-returns-in-Broken c =
+pub returns-in-Broken-clause-look : goal.returns-in-Broken-clause-look
+returns-in-Broken-clause-look c =
     let d = c.args.dialect in
     let w = chars c.args.text.now in
     let o : over d c.args.limit w ≡ false = sym c.is_over.ensures ∙ c.if-is_over.false in
@@ -32,8 +32,8 @@ returns-in-Broken c =
     c.is_open-waits.ensures ∙ (ap (λ x. x || c.front_of-front.result.live) (empty-bytes c.args.text.now c.utf8.text) ∙ ap (λ x. is_empty w || x) c.front_of-front.ensures.live) in
     step-open d c.args.limit (behind c.args.tail) w true o (sym c.if-waits-2.true ∙ b) ∙ ap (λ t. by_tail d (behind t) w true) c.in-Broken.is
 
-pub returns-in_default : goal.returns-in_default
-returns-in_default c =
+pub returns-in_default-clause-look : goal.returns-in_default-clause-look
+returns-in_default-clause-look c =
     let d = c.args.dialect in
     let bs = c.args.text.now in
     let w = chars bs in

@@ -1,7 +1,6 @@
 use Rattle.std.proofs.Common.{◌≡◌, ◌-◌, ◌+◌, ◌≤◌, length, take}
 use Rattle.std.specs.Str.{chars}
-use Rattle.rdf_tokens.proofs.ByteLemmas.{IsAt}
-use Rattle.rdf_tokens.proofs.StateLemmas.{state_of}
+use Rattle.rdf_tokens.specs.Front.{IsAt, state_of}
 use Rattle.rdf_tokens.proofs.over.is_shaped_over.Given as goal
 
 abbrev pub invariant-loop-count : goal.invariant-loop-count

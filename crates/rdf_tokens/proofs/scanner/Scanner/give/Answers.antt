@@ -16,7 +16,7 @@ overflow_add-end g c =
     let s = c.self.inside in
     let n = c.requires.0 in
     let e : c.args.len ≡ bytes_of n (chars (drop s.start (string_bytes s.text))) = c.requires.1 ∙ ap (λ v. bytes_of n v.text) (sym c.self.view_is) in
-    let l = advance_within (string_bytes s.text) s.start n c.args.len s.pending.items _ _ c.self.invariant (IsUtf8-string_bytes s.text) e in
+    let l = advance_within (string_bytes s.text) s.start n c.args.len s.pending.items _ _ c.self.invariant.held (IsUtf8-string_bytes s.text) e in
     let k = s.text.bytes.ok.0 in
     search rules
 
@@ -25,7 +25,7 @@ slice_bounds-feeds_of-end g c =
     let s = c.self.inside in
     let n = c.requires.0 in
     let e : c.args.len ≡ bytes_of n (chars (drop s.start (string_bytes s.text))) = c.requires.1 ∙ ap (λ v. bytes_of n v.text) (sym c.self.view_is) in
-    let l = advance_within (string_bytes s.text) s.start n c.args.len s.pending.items _ _ c.self.invariant (IsUtf8-string_bytes s.text) e in
+    let l = advance_within (string_bytes s.text) s.start n c.args.len s.pending.items _ _ c.self.invariant.held (IsUtf8-string_bytes s.text) e in
     let m : s.start + c.args.len ≤ length c.as_bytes.result.now = subst (λ b. s.start + c.args.len ≤ length b) (sym c.as_bytes.ensures.value) l in
     search rules
 
@@ -37,7 +37,7 @@ feeds_of-requires g c = λ f.
     let none : count_by (λ x. x == 10) (take n (chars (drop s.start (string_bytes s.text)))) ≡ 0 =
     ap (λ v. count_by (λ x. x == 10) (take n v.text)) c.self.view_is ∙ c.requires.2 f in
     ap (λ b. count_by (λ x. x == 10) (take (s.start + c.args.len - s.start) (drop s.start b))) c.as_bytes.ensures.value
-    ∙ none_advanced (string_bytes s.text) s.start n c.args.len s.pending.items _ _ c.self.invariant (IsUtf8-string_bytes s.text) e none
+    ∙ none_advanced (string_bytes s.text) s.start n c.args.len s.pending.items _ _ c.self.invariant.held (IsUtf8-string_bytes s.text) e none
 
 pub invariant_of-self : goal.invariant_of-self
 invariant_of-self g c =
@@ -46,7 +46,8 @@ invariant_of-self g c =
     let e : c.args.len ≡ bytes_of n (chars (drop s.start (string_bytes s.text))) = c.requires.1 ∙ ap (λ v. bytes_of n v.text) (sym c.self.view_is) in
     let bytes = c.as_bytes.ensures.value in
     let feeds = c.feeds_of.ensures ∙ ap (λ b. count_by (λ x. x == 10) (take (s.start + c.args.len - s.start) (drop s.start b))) bytes in
-    held_advanced (string_bytes s.text) s.start n c.args.len s.pending.items _ _ c.self.invariant (IsUtf8-string_bytes s.text) e c.feeds_of.result feeds
+    let held = held_advanced (string_bytes s.text) s.start n c.args.len s.pending.items _ _ c.self.invariant.held (IsUtf8-string_bytes s.text) e c.feeds_of.result feeds in
+    record { held = held; walked = tt }
 
 pub range-requires-clause-end_boundary : goal.range-requires-clause-end_boundary
 range-requires-clause-end_boundary g c =
@@ -54,7 +55,7 @@ range-requires-clause-end_boundary g c =
     let n = c.requires.0 in
     let e : c.args.len ≡ bytes_of n (chars (drop s.start (string_bytes s.text))) = c.requires.1 ∙ ap (λ v. bytes_of n v.text) (sym c.self.view_is) in
     subst (λ b. IsCharBoundary b (s.start + c.args.len)) (sym c.as_str.ensures.value)
-    (boundary_advanced (string_bytes s.text) s.start n c.args.len s.pending.items _ _ c.self.invariant (IsUtf8-string_bytes s.text) e)
+    (boundary_advanced (string_bytes s.text) s.start n c.args.len s.pending.items _ _ c.self.invariant.held (IsUtf8-string_bytes s.text) e)
 
 same_given : (v : Unread) (k : Kind) (n : ℕ) {p : Place} {t u : List ℕ} → t ≡ take n v.text → p ≡ past v.place (take n v.text) → u ≡ drop n v.text →
     IsGiven v k n (record { kind = k; text = t; at = v.place }) (moved v p v.begun false u)
@@ -73,10 +74,10 @@ returns g c = (
         let e : c.args.len ≡ bytes_of n (chars (drop s.start (string_bytes s.text))) = e ∙ ap (λ v. bytes_of n v.text) (sym c.self.view_is) in
         let bytes = c.as_bytes.ensures.value in
         let feeds = c.feeds_of.ensures ∙ ap (λ b. count_by (λ x. x == 10) (take (s.start + c.args.len - s.start) (drop s.start b))) bytes in
-        let place = place_advanced (string_bytes s.text) s.start n c.args.len s.pending.items _ _ c.self.invariant (IsUtf8-string_bytes s.text) e c.feeds_of.result feeds in
-        let text = text_advanced (string_bytes s.text) s.start n c.args.len s.pending.items _ _ c.self.invariant (IsUtf8-string_bytes s.text) e in
+        let place = place_advanced (string_bytes s.text) s.start n c.args.len s.pending.items _ _ c.self.invariant.held (IsUtf8-string_bytes s.text) e c.feeds_of.result feeds in
+        let text = text_advanced (string_bytes s.text) s.start n c.args.len s.pending.items _ _ c.self.invariant.held (IsUtf8-string_bytes s.text) e in
         let front = ap chars (c.range.ensures.value ∙ ap (λ b. take (s.start + c.args.len - s.start) (drop s.start b)) c.as_str.ensures.value)
-        ∙ front_advanced (string_bytes s.text) s.start n c.args.len s.pending.items _ _ c.self.invariant (IsUtf8-string_bytes s.text) e in
+        ∙ front_advanced (string_bytes s.text) s.start n c.args.len s.pending.items _ _ c.self.invariant.held (IsUtf8-string_bytes s.text) e in
         let all = same_given (unread_of s) c.args.kind n front place text in
         given_too c.self.view_is all,
   ),

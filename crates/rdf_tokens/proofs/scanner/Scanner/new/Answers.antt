@@ -1,19 +1,21 @@
 use Rattle.std.proofs.Common.{length, sym, subst, ap, arith}
 use Rattle.std.specs.Str.{IsCharBoundary}
+use Rattle.rdf_tokens.specs.Held.{Held}
 use Rattle.rdf_tokens.specs.Moves.{BeginsChar}
 use Rattle.rdf_tokens.proofs.ReadLemmas.{begins_nil, read_new}
 use Rattle.rdf_tokens.proofs.scanner.Scanner.new.Goals as goal
 
 pub invariant_of-result : goal.invariant_of-result
 invariant_of-result g c =
-    record {
+    let held : Held _ _ _ _ _ = record {
       boundary = subst (λ x. IsCharBoundary x 0) (sym c.new.ensures.bytes) (omega arith, λ l. absurd (omega arith));
       begins = subst BeginsChar (sym c.new-2.ensures.items) begins_nil;
       within = omega (arith, ap length c.new.ensures.bytes);
       most = omega arith;
       lines = omega arith;
       last = omega arith;
-    }
+    } in
+    record { held = held; walked = tt }
 
 pub returns-clause-read : goal.returns-clause-read
 returns-clause-read g c = read_new c.args.dialect c.args.limit _ _ c.new.ensures.bytes c.new-2.ensures.items

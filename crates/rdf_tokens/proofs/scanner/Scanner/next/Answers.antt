@@ -1,5 +1,5 @@
 use Rattle.std.proofs.Common.{◌≡◌, [], false, refl, sym, ap, ◌∙◌, subst}
-use Rattle.rdf_tokens.specs.Moves.{BeginsChar}
+use Rattle.rdf_tokens.specs.Moves.{BeginsChar, Moves, Stands}
 use Rattle.rdf_tokens.proofs.FlatLemmas.{flat_text}
 use Rattle.rdf_tokens.proofs.MoveLemmas.{moves_both}
 use Rattle.rdf_tokens.proofs.NextLemmas.{dry, waits, ends_at, gives_look, stops_at}
@@ -9,45 +9,53 @@ pub returns-then-not-is_settled : goal.returns-then-not-is_settled
 returns-then-not-is_settled g c =
     let old = c.args.self.now in
     let running : old.stopped ≡ false = ap (λ v. v.stopped) (sym c.self.view_is) ∙ c.if-self.false in
-    let begins : BeginsChar old.pending = subst (λ v. BeginsChar v.pending) c.self.view_is c.self.invariant.begins in
+    let begins : BeginsChar old.pending = subst (λ v. BeginsChar v.pending) c.self.view_is c.self.invariant.held.begins in
     ((refl, (λ _. tt), dry old (sym c.is_settled.ensures ∙ c.if-not-is_settled.true) running begins), tt)
 
 pub returns-in-Undecided : goal.returns-in-Undecided
 returns-in-Undecided g c =
     let old = c.args.self.now in
-    let mid = c.drop_blanks.new.self in
+    let mid = c.look.new.self in
+    let same = sym c.in-Undecided.ensures.same in
     let running : old.stopped ≡ false = ap (λ v. v.stopped) (sym c.self.view_is) ∙ c.if-self.false in
-    let begins : BeginsChar old.pending = subst (λ v. BeginsChar v.pending) c.self.view_is c.self.invariant.begins in
-    let m = moves_both old c.drop_mark.new.self mid [] [] c.drop_mark.ensures.moves c.drop_blanks.ensures.moves in
-    ((refl, (λ _. tt), waits old mid m running begins c.drop_blanks.ensures.stands c.in-Undecided.ensures), tt)
+    let begins : BeginsChar old.pending = subst (λ v. BeginsChar v.pending) c.self.view_is c.self.invariant.held.begins in
+    let m = subst (Moves old []) same (moves_both old c.drop_mark.new.self c.drop_blanks.new.self [] [] c.drop_mark.ensures.moves c.drop_blanks.ensures.moves) in
+    let stands = subst Stands same c.drop_blanks.ensures.stands in
+    ((refl, (λ _. tt), waits old mid m running begins stands c.in-Undecided.ensures.look), tt)
 
 pub returns-in-Complete : goal.returns-in-Complete
 returns-in-Complete g c =
     let old = c.args.self.now in
-    let mid = c.drop_blanks.new.self in
+    let mid = c.look.new.self in
+    let same = sym c.in-Complete.ensures.same in
     let running : old.stopped ≡ false = ap (λ v. v.stopped) (sym c.self.view_is) ∙ c.if-self.false in
-    let begins : BeginsChar old.pending = subst (λ v. BeginsChar v.pending) c.self.view_is c.self.invariant.begins in
-    let m = moves_both old c.drop_mark.new.self mid [] [] c.drop_mark.ensures.moves c.drop_blanks.ensures.moves in
-    ((refl, (λ _. tt), ends_at old mid m running begins c.drop_blanks.ensures.stands c.give_end.follows.holds-at-none c.in-Complete.ensures), tt)
+    let begins : BeginsChar old.pending = subst (λ v. BeginsChar v.pending) c.self.view_is c.self.invariant.held.begins in
+    let m = subst (Moves old []) same (moves_both old c.drop_mark.new.self c.drop_blanks.new.self [] [] c.drop_mark.ensures.moves c.drop_blanks.ensures.moves) in
+    let stands = subst Stands same c.drop_blanks.ensures.stands in
+    ((refl, (λ _. tt), ends_at old mid m running begins stands c.give_end.follows.holds-at-none c.in-Complete.ensures.look), tt)
 
 pub returns-in-Stop : goal.returns-in-Stop
 returns-in-Stop g c =
     let old = c.args.self.now in
-    let mid = c.drop_blanks.new.self in
+    let mid = c.look.new.self in
+    let same = sym c.in-Stop.ensures.same in
     let running : old.stopped ≡ false = ap (λ v. v.stopped) (sym c.self.view_is) ∙ c.if-self.false in
-    let begins : BeginsChar old.pending = subst (λ v. BeginsChar v.pending) c.self.view_is c.self.invariant.begins in
-    let m = moves_both old c.drop_mark.new.self mid [] [] c.drop_mark.ensures.moves c.drop_blanks.ensures.moves in
+    let begins : BeginsChar old.pending = subst (λ v. BeginsChar v.pending) c.self.view_is c.self.invariant.held.begins in
+    let m = subst (Moves old []) same (moves_both old c.drop_mark.new.self c.drop_blanks.new.self [] [] c.drop_mark.ensures.moves c.drop_blanks.ensures.moves) in
+    let stands = subst Stands same c.drop_blanks.ensures.stands in
     let e = c.stop_here.ensures in
-    ((refl, (λ _. tt), stops_at old mid m running begins c.drop_blanks.ensures.stands e.reason e.place e.stopped c.in-Stop.ensures), tt)
+    ((refl, (λ _. tt), stops_at old mid m running begins stands e.reason e.place e.stopped c.in-Stop.ensures.look), tt)
 
 pub give-requires : goal.give-requires
-give-requires g c = let l = c.in-Token.ensures in (l.0, l.3, λ f. flat_text _ _ _ _ l.0 c.in-Token.kind l.1 f)
+give-requires g c = let l = c.in-Token.ensures.look in (l.0, l.3, λ f. flat_text _ _ _ _ l.0 c.in-Token.kind l.1 f)
 
 pub returns-in-Token : goal.returns-in-Token
 returns-in-Token g c =
     let old = c.args.self.now in
-    let mid = c.drop_blanks.new.self in
+    let mid = c.look.new.self in
+    let same = sym c.in-Token.ensures.same in
     let running : old.stopped ≡ false = ap (λ v. v.stopped) (sym c.self.view_is) ∙ c.if-self.false in
-    let begins : BeginsChar old.pending = subst (λ v. BeginsChar v.pending) c.self.view_is c.self.invariant.begins in
-    let m = moves_both old c.drop_mark.new.self mid [] [] c.drop_mark.ensures.moves c.drop_blanks.ensures.moves in
-    ((refl, (λ _. tt), gives_look old mid m running begins c.drop_blanks.ensures.stands _ _ _ _ c.in-Token.ensures c.give.follows.holds-at-none), tt)
+    let begins : BeginsChar old.pending = subst (λ v. BeginsChar v.pending) c.self.view_is c.self.invariant.held.begins in
+    let m = subst (Moves old []) same (moves_both old c.drop_mark.new.self c.drop_blanks.new.self [] [] c.drop_mark.ensures.moves c.drop_blanks.ensures.moves) in
+    let stands = subst Stands same c.drop_blanks.ensures.stands in
+    ((refl, (λ _. tt), gives_look old mid m running begins stands _ _ _ _ c.in-Token.ensures.look c.give.follows.holds-at-none), tt)

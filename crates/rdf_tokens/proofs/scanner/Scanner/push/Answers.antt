@@ -17,6 +17,6 @@ returns-in-Ok g c =
     ] in
     let most : old.taken.offset + c.room-len.result ≤ most_bytes =
     let before : old.taken.offset ≡ c.self.inside.taken = ap (λ v. v.taken.offset) (sym c.self.view_is) in
-    let invariant = c.self.invariant.most in
+    let invariant = c.self.invariant.held.most in
     omega (arith, c.room-len.ensures) in
     takes_bytes old _ piece c.room-len.result stopped ended (omega (arith, c.room-len.ensures)) progress most c.in-Ok.ensures.ok

@@ -5,11 +5,12 @@ use Rattle.std.specs.String.{string_bytes}
 use Rattle.rdf_tokens.specs.Tokens.{Place}
 use Rattle.rdf_tokens.specs.Unread.{Unread}
 use Rattle.rdf_tokens.specs.Moves.{good_bytes, rest_of_bytes, is_broken, grown, counted, lengthened}
-use Rattle.rdf_tokens.specs.Held.{Held}
+use Rattle.rdf_tokens.specs.Held.{Held, Holds}
 use Rattle.rdf_tokens.specs.Scans.{most_bytes}
 use Rattle.rdf_tokens.specs.declared.scanner.Scanner.TheInside.{Inside}
 use Rattle.rdf_tokens.proofs.Inside.{unread_at, unread_of}
 use Rattle.rdf_tokens.proofs.HeldLemmas.{held_counted, held_grown, text_grown}
+use Rattle.rdf_tokens.proofs.WalkLemmas.{walked_grown}
 use Rattle.rdf_tokens.proofs.scanner.Scanner.take_in.Goals.{then-not-self+in_ok-drop_front+in_ok-self-inside, else-not-self}
 use Rattle.rdf_tokens.proofs.scanner.Scanner.take_in.Goals as goal
 
@@ -20,6 +21,9 @@ module _ {Z : Type 0} where
 
   abbrev HeldAt : Inside Z → Place → Type 0
   HeldAt s p = Held (string_bytes s.text) s.start s.pending.items (record { offset = s.offset; line = s.line }) p
+
+  abbrev HoldsAt : Inside Z → Place → Type 0
+  HoldsAt s p = Holds s.dialect (string_bytes s.text) s.start s.walk s.pending.items (record { offset = s.offset; line = s.line }) p
 
 abbrev with_fields : Unread → List ℕ → List ℕ → Bool → Place → Unread
 with_fields v text pending broken taken = record v { text = text; pending = pending; broken = broken; taken = taken }
@@ -32,17 +36,20 @@ invariant_of-self-2 g c =
     let s = c.self.inside in
     let piece = c.args.piece.now in
     let most : s.taken + length piece ≤ most_bytes = subst (λ v. v.taken.offset + length piece ≤ most_bytes) (sym c.self.view_is) c.requires in
-    let P : Inside _ → Type 0 = λ i. HeldAt i (behind i piece c.line_feeds.result) in
+    let P : Inside _ → Type 0 = λ i. HoldsAt i (behind i piece c.line_feeds.result) in
     elim c.if-not-self.branch [
       | then-not-self+in_ok-drop_front+in_ok-self-inside w ↦
           let new : string_bytes w.add_piece.new.text ≡ drop s.start (string_bytes s.text) ++ good_bytes (s.pending.items ++ piece) =
           w.in_ok-self-inside.ensures.text ∙ ap (λ x. x ++ good_bytes (s.pending.items ++ piece)) w.in_ok-drop_front.ensures.ok in
           let kept : w.add_piece.new.pending.items ≡ cond (is_broken (s.pending.items ++ piece)) [] (rest_of_bytes (s.pending.items ++ piece)) =
           w.in_ok-self-inside.ensures.pending ∙ ap (λ b. cond b [] (rest_of_bytes (s.pending.items ++ piece))) w.in_ok-self-inside.ensures.broken in
-          subst P (sym w.self-inside-is) (subst (λ n. Held (string_bytes w.add_piece.new.text) 0 w.add_piece.new.pending.items (record { offset = s.offset; line = s.line }) (behind s piece n)) (sym c.line_feeds.ensures)
-          (held_grown (string_bytes s.text) (string_bytes w.add_piece.new.text) s.start s.pending.items w.add_piece.new.pending.items piece _ _ c.self.invariant most (IsUtf8-string_bytes w.add_piece.new.text) new kept))
+          let held = subst (λ n. Held (string_bytes w.add_piece.new.text) 0 w.add_piece.new.pending.items (record { offset = s.offset; line = s.line }) (behind s piece n)) (sym c.line_feeds.ensures)
+          (held_grown (string_bytes s.text) (string_bytes w.add_piece.new.text) s.start s.pending.items w.add_piece.new.pending.items piece _ _ c.self.invariant.held most (IsUtf8-string_bytes w.add_piece.new.text) new kept) in
+          let walked = walked_grown s.dialect (string_bytes s.text) (string_bytes w.add_piece.new.text) s.start s.walk (s.pending.items ++ piece) (IsUtf8-string_bytes s.text) c.self.invariant.held.boundary new c.self.invariant.walked in
+          subst P (sym w.self-inside-is) (record { held = held; walked = walked })
       | else-not-self w ↦
-          subst P (sym w.self-inside-is) (subst (λ n. HeldAt s (behind s piece n)) (sym c.line_feeds.ensures) (held_counted (string_bytes s.text) s.start s.pending.items piece _ _ c.self.invariant most))
+          let held = subst (λ n. HeldAt s (behind s piece n)) (sym c.line_feeds.ensures) (held_counted (string_bytes s.text) s.start s.pending.items piece _ _ c.self.invariant.held most) in
+          subst P (sym w.self-inside-is) (record { held = held; walked = c.self.invariant.walked })
     ]
 
 pub returns-clause-ok : goal.returns-clause-ok
@@ -55,7 +62,7 @@ returns-clause-ok g c =
       | then-not-self+in_ok-drop_front+in_ok-self-inside w ↦
           let new : string_bytes w.add_piece.new.text ≡ drop s.start (string_bytes s.text) ++ good_bytes (s.pending.items ++ piece) =
           w.in_ok-self-inside.ensures.text ∙ ap (λ x. x ++ good_bytes (s.pending.items ++ piece)) w.in_ok-drop_front.ensures.ok in
-          let text = text_grown (string_bytes s.text) (string_bytes w.add_piece.new.text) s.start s.pending.items piece _ _ c.self.invariant (IsUtf8-string_bytes s.text) new in
+          let text = text_grown (string_bytes s.text) (string_bytes w.add_piece.new.text) s.start s.pending.items piece _ _ c.self.invariant.held (IsUtf8-string_bytes s.text) new in
           let kept : w.add_piece.new.pending.items ≡ cond (is_broken (s.pending.items ++ piece)) [] (rest_of_bytes (s.pending.items ++ piece)) =
           w.in_ok-self-inside.ensures.pending ∙ ap (λ b. cond b [] (rest_of_bytes (s.pending.items ++ piece))) w.in_ok-self-inside.ensures.broken in
           subst P (sym w.self-inside-is) (same_fields v text kept w.in_ok-self-inside.ensures.broken (ap (λ n. behind s piece n) c.line_feeds.ensures)

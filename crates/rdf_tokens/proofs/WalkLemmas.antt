@@ -1,0 +1,128 @@
+-- What is kept of an open token stays right where more text comes.
+use Rattle.std.proofs.Common.{◌≡◌, ℕ, zero, suc, ◌≤◌, Bool, true, false, cond, List, [], ◌∷◌, ◌++◌, refl, sym, ap, ◌∙◌, subst, ⊎_elim, length, length-append, take, drop, arith, Option, Some, None, IsUtf8}
+use Rattle.std.specs.Prelude.{encode_utf8_all}
+use Rattle.std.proofs.lemmas.Bool.{cond-true, cond-false, cases_lt, lt-ltb, le-ltb}
+use Rattle.std.proofs.lemmas.List.{take_all, drop_all, take-append-le, drop-append-le}
+use Rattle.std.proofs.lemmas.Str.{chars-append, chars-nil, encodes-chars, IsUtf8-append, IsUtf8-nil, IsUtf8-drop}
+use Rattle.std.specs.Str.{chars, IsCharBoundary}
+use Rattle.rdf_terms.specs.declared.kind.Kind.{Kind}
+use Rattle.rdf_terms.specs.declared.kind.Dialect.{Dialect}
+use Rattle.rdf_terms.specs.declared.kind.Dialect.TheVariants.{Lines, Turtle}
+use Rattle.rdf_tokens.specs.declared.states.machine.State.{State}
+use Rattle.rdf_tokens.specs.declared.front.Walk.{Walk}
+use Rattle.rdf_tokens.specs.Tokens.{with_length, three_quotes, only_long}
+use Rattle.rdf_tokens.specs.Machine.{kind_at, goes_on}
+use Rattle.rdf_tokens.specs.Front.{IsAt, Reached, in_bytes, longest_by, state_of, kind_by_states, open_state}
+use Rattle.rdf_tokens.specs.Moves.{good_bytes}
+use Rattle.rdf_tokens.specs.Walk.{Walked, walk_kept}
+use Rattle.rdf_tokens.proofs.FrontLemmas.{AtMost, longest_by-at_most}
+use Rattle.rdf_tokens.proofs.GoodLemmas.{good_front}
+use Rattle.rdf_tokens.proofs.SpellingLemmas.{quotes-bytes}
+
+-- three quotes come first or not, whatever comes behind three bytes
+quotes-more : (d : Dialect) (bs more : List ℕ) → 3 ≤ length bs → three_quotes d (bs ++ more) ≡ three_quotes d bs
+quotes-more Lines bs more l = refl
+quotes-more Turtle [] more l = absurd (omega arith)
+quotes-more Turtle (a ∷ []) more l = absurd (omega arith)
+quotes-more Turtle (a ∷ b ∷ []) more l = absurd (omega arith)
+quotes-more Turtle (a ∷ b ∷ c ∷ bs) more l = refl
+
+-- a place of the text is one of the longer text
+at-more : (bs more : List ℕ) (at n : ℕ) → IsUtf8 bs → IsUtf8 more → IsAt bs at n → IsAt (bs ++ more) at n
+at-more bs more at n u v h =
+    let w = chars bs in
+    let x = chars more in
+    let e : chars (bs ++ more) ≡ w ++ x = chars-append bs more u in
+    let behind : drop at (bs ++ more) ≡ drop at bs ++ more = drop-append-le at bs more h.inside in
+    record {
+      inside = omega (arith, length-append bs more, h.inside);
+      count = omega (arith, ap length e, length-append w x, h.count);
+      utf8 = subst IsUtf8 (sym behind) (IsUtf8-append (drop at bs) more h.utf8 v);
+      left = ap (drop n) e ∙ (drop-append-le n w x h.count ∙ (ap (λ y. y ++ x) h.left ∙ (sym (chars-append (drop at bs) more h.utf8) ∙ ap chars (sym behind))));
+      bytes = h.bytes ∙ ap (λ y. length (encode_utf8_all y)) (sym (ap (take n) e ∙ take-append-le n w x h.count));
+    }
+
+-- the longest front of so many characters is that of the longer text
+front-same : (d : Dialect) (w x : List ℕ) (n : ℕ) → three_quotes d (w ++ x) ≡ three_quotes d w → n ≤ length w →
+    longest_by (kind_by_states d (w ++ x)) (w ++ x) n ≡ longest_by (kind_by_states d w) w n
+front-same d w x zero e l = refl
+front-same d w x (suc n) e l =
+    let t : take (suc n) (w ++ x) ≡ take (suc n) w = take-append-le (suc n) w x l in
+    ap (λ k. with_length (suc n) k (longest_by (kind_by_states d (w ++ x)) (w ++ x) n))
+    (ap (λ b. only_long b (kind_at (state_of d (take (suc n) (w ++ x))))) e ∙ ap (λ u. only_long (three_quotes d w) (kind_at (state_of d u))) t)
+    ∙ ap (with_length (suc n) (kind_by_states d w (take (suc n) w))) (front-same d w x n e (omega arith))
+
+bytes-same : (w x : List ℕ) (o : Option (ℕ × Kind)) → AtMost (length w) o → in_bytes (w ++ x) o ≡ in_bytes w o
+bytes-same w x None h = refl
+bytes-same w x (Some y) h = ap (λ u. Some (length (encode_utf8_all u), y.1)) (take-append-le y.0 w x h.1)
+
+at_most-le : (n m : ℕ) (o : Option (ℕ × Kind)) → n ≤ m → AtMost n o → AtMost m o
+at_most-le n m None l h = tt
+at_most-le n m (Some x) l h = (h.0, omega arith)
+
+pub reached-more : (d : Dialect) (bs more : List ℕ) (at : ℕ) (s : State) (b : Option (ℕ × Kind)) → IsUtf8 bs → IsUtf8 more → 3 ≤ at → Reached d bs at s b →
+    Reached d (bs ++ more) at s b
+reached-more d bs more at s b u v l r =
+    let w = chars bs in
+    let x = chars more in
+    let e : chars (bs ++ more) ≡ w ++ x = chars-append bs more u in
+    let inside = r.here.inside in
+    let count = r.here.count in
+    let three : three_quotes d (w ++ x) ≡ three_quotes d w =
+    sym (ap (three_quotes d) e) ∙ (sym (quotes-bytes d (bs ++ more) (IsUtf8-append bs more u v)) ∙ (quotes-more d bs more (omega arith) ∙ quotes-bytes d bs u)) in
+    let best = longest_by (kind_by_states d w) w r.n in
+    record {
+      n = r.n;
+      here = at-more bs more at r.n u v r.here;
+      state = r.state ∙ ap (state_of d) (sym (ap (take r.n) e ∙ take-append-le r.n w x count));
+      front = r.front ∙ sym (ap (λ y. in_bytes y (longest_by (kind_by_states d y) y r.n)) e
+          ∙ (ap (in_bytes (w ++ x)) (front-same d w x r.n three count) ∙ bytes-same w x best (at_most-le r.n (length w) best count (longest_by-at_most (kind_by_states d w) w r.n))));
+    }
+
+pub walked-more : (d : Dialect) (bs more : List ℕ) (old : Option Walk) → IsUtf8 bs → IsUtf8 more → Walked d bs old → Walked d (bs ++ more) old
+walked-more d bs more None u v h = tt
+walked-more d bs more (Some w) u v h = record { enough = h.enough; reached = reached-more d bs more w.at w.state (with_length w.len w.kind None) u v h.enough h.reached }
+
+-- where a piece comes behind the rest of a text
+pub walked_grown : (d : Dialect) (text new : List ℕ) (start : ℕ) (old : Option Walk) (bytes : List ℕ) → IsUtf8 text → IsCharBoundary text start →
+    new ≡ drop start text ++ good_bytes bytes → Walked d (drop start text) old → Walked d new old
+walked_grown d text new start old bytes u b e h =
+    subst (λ t. Walked d t old) (sym e) (walked-more d (drop start text) (good_bytes bytes) old (IsUtf8-drop text start u b) (good_front bytes) h)
+
+-- the states have come over the whole text
+at-whole : (bs : List ℕ) → IsUtf8 bs → IsAt bs (length bs) (length (chars bs))
+at-whole bs u =
+    let w = chars bs in
+    let none : drop (length bs) bs ≡ [] = drop_all (length bs) bs (omega arith) in
+    record {
+      inside = omega arith;
+      count = omega arith;
+      utf8 = subst IsUtf8 (sym none) IsUtf8-nil;
+      left = drop_all (length w) w (omega arith) ∙ (sym chars-nil ∙ ap chars (sym none));
+      bytes = sym (ap (λ y. length (encode_utf8_all y)) (take_all (length w) w (omega arith)) ∙ ap length (encodes-chars bs u));
+    }
+
+-- the state where one is open
+opened : (t : Bool) (s x : State) → Some s ≡ cond t (Some x) None → s ≡ x
+opened true s x e = cc
+opened false s x e = absurd (let h : Some s ≡ None = e in cc)
+
+pub walked-kept : (d : Dialect) (bs : List ℕ) (old : Option Walk) (n len : ℕ) (kind : Option Kind) (state : Option State) → IsUtf8 bs → Walked d bs old → n ≡ length bs →
+    with_length len kind None ≡ in_bytes (chars bs) (longest_by (kind_by_states d (chars bs)) (chars bs) (length (chars bs))) →
+    state ≡ open_state d (state_of d (chars bs)) → Walked d bs (walk_kept old n len kind state)
+walked-kept d bs old n len kind None u h e f g = h
+walked-kept d bs old n len kind (Some s) u h e f g = ⊎_elim
+    (λ l. subst (Walked d bs) (sym (cond-true _ _ _ (lt-ltb n 3 l))) h)
+    (λ l. subst (Walked d bs) (sym (cond-false _ _ _ (le-ltb n 3 l))) (record { enough = l; reached = reached }))
+    (cases_lt n 3)
+  where
+    reached : Reached d bs n s (with_length len kind None)
+    reached =
+        let w = chars bs in
+        let state = opened (goes_on d (state_of d w)) s (state_of d w) g in
+        record {
+          n = length w;
+          here = subst (λ m. IsAt bs m (length w)) (sym e) (at-whole bs u);
+          state = state ∙ ap (state_of d) (sym (take_all (length w) w (omega arith)));
+          front = f;
+        }
