@@ -1,8 +1,12 @@
 -- What belongs to every grammar over tokens whose documents have quads: which beginnings some document has, and which quads are due in them.
-use Rattle.std.specs.Prelude.{◌≡◌, ◌≢◌, ℕ, ◌≤◌, ◌+◌, cond, List, [], ◌∷◌, ◌++◌, nat_lt, length}
+use Rattle.std.specs.Prelude.{◌≡◌, ◌≢◌, ℕ, ◌≤◌, ◌<◌, ◌+◌, Bool, true, false, cond, List, [], ◌∷◌, ◌++◌, nat_lt, length, take}
+use Rattle.rdf_terms.specs.declared.kind.Dialect.{Dialect}
+use Rattle.rdf_terms.specs.declared.reason.Reason.{Reason}
+use Rattle.rdf_terms.specs.declared.reason.Reason.TheVariants.{BadUtf8, NoToken, BadEscape, TokenTooLong, DocumentTooLong, Memory, Ended, Sink}
 use Rattle.rdf_terms.specs.Terms.{Quad}
-use Rattle.rdf_tokens.specs.Tokens.{Token, Reading}
-use Rattle.rdf_tokens.specs.Tokens.Outcome.{token_too_long}
+use Rattle.rdf_tokens.specs.Tokens.{Place, Outcome, Token, Reading}
+use Rattle.rdf_tokens.specs.Tokens.Outcome.{undecided, complete, token_too_long, bad_utf8, no_token, bad_escape}
+use Rattle.rdf_tokens.specs.Good.{tokens_of, end_of}
 use Rattle.rdf_tokens.specs.Scans.{most_bytes, is_end}
 
 -- a quad with its mark: the number of the last token of its head, where the first token of the document has the number 1
@@ -54,3 +58,89 @@ pub record Within (documents : List Token → List Marked → Type 0) (passes : 
 abbrev pub counted : List Token → ℕ
 counted [] = 0
 counted (t ∷ ts) = cond (is_end t.kind) 0 1 + counted ts
+
+-- What a format is to its readers, with the limits that it is read by.
+pub record Language : Type 1 where
+  pub dialect : Dialect
+  -- the most characters of a token
+  pub limit : ℕ
+  pub documents : List Token → List Marked → Type 0
+  -- the token passes a limit after these tokens
+  pub passes : List Token → Token → Type 0
+  -- the token is refused after these tokens, for this reason
+  pub blames : Reason → List Token → Token → Type 0
+
+-- the tokens of the bytes, with their end or before more come
+abbrev pub reading_of : Language → List ℕ → Bool → Reading
+reading_of l bytes is_end = tokens_of l.dialect l.limit bytes is_end
+
+-- The tokens of the bytes, with their end, are complete, and a document with these quads.
+abbrev pub IsDocumentOf : Language → List ℕ → List Quad → Type 0
+IsDocumentOf l bytes quads =
+    ((reading_of l bytes true).outcome ≡ complete) × (all : List Marked) × l.documents (reading_of l bytes true).tokens all × (unmarked all ≡ quads)
+
+-- The bytes meet no limit.
+abbrev pub IsWithin : Language → List ℕ → Type 0
+IsWithin l bytes = Within l.documents l.passes (reading_of l bytes true) bytes
+
+-- the front of a reading's tokens: what a document has, up to the first token that passes a limit
+abbrev pub IsFrontOf : Language → Reading → List Token → Type 0
+IsFrontOf l reading ahead = IsFront l.documents l.passes reading.tokens ahead
+
+-- All tokens of the reading are in the front, and it ends so.
+pub record InFront (l : Language) (reading : Reading) (end : Outcome) : Type 0 where
+  pub ends : reading.outcome ≡ end
+  pub front : IsFrontOf l reading reading.tokens
+
+-- The bytes decide tokens that are all in the front, and leave the next one open.
+abbrev pub GoesOn : Language → List ℕ → Type 0
+GoesOn l bytes = InFront l (reading_of l bytes false) undecided
+
+-- The tokens of the bytes come to their end, and are all in the front.
+abbrev pub IsWhole : Language → List ℕ → Type 0
+IsWhole l bytes = InFront l (reading_of l bytes true) complete
+
+-- No token stands at the place, and all tokens before it are in the front.
+pub record StopsAt (l : Language) (reading : Reading) (why : Outcome) (at : Place) (ahead : List Token) : Type 0 where
+  pub outcome : reading.outcome ≡ why
+  pub place : reading.at ≡ at
+  pub tokens : reading.tokens ≡ ahead
+  pub front : IsFrontOf l reading ahead
+
+-- The token at the place is the first after the front, and it is refused for the reason.
+pub record RefusesAt (l : Language) (reading : Reading) (reason : Reason) (at : Place) (ahead : List Token) : Type 0 where
+  pub token : Token
+  pub behind : List Token
+  pub tokens : reading.tokens ≡ ahead ++ token ∷ behind
+  pub place : token.at ≡ at
+  pub front : IsFrontOf l reading ahead
+  pub because : l.blames reason ahead token
+
+-- Why and where a reading is refused, after these tokens. For the size of the document, memory, the sink or the end of reading none is.
+abbrev pub RefusedIn : Language → Reading → Reason → Place → List Token → Type 0
+RefusedIn l reading BadUtf8 at ahead = StopsAt l reading bad_utf8 at ahead
+RefusedIn l reading NoToken at ahead = StopsAt l reading no_token at ahead
+RefusedIn l reading BadEscape at ahead = StopsAt l reading bad_escape at ahead
+RefusedIn l reading TokenTooLong at ahead = StopsAt l reading token_too_long at ahead
+RefusedIn l reading DocumentTooLong at ahead = ⊥
+RefusedIn l reading Memory at ahead = ⊥
+RefusedIn l reading Ended at ahead = ⊥
+RefusedIn l reading Sink at ahead = ⊥
+RefusedIn l reading reason at ahead = RefusesAt l reading reason at ahead
+
+-- The bytes, with their end or before more come, are refused for the reason at the place.
+abbrev pub Refused : Language → List ℕ → Bool → Reason → Place → Type 0
+Refused l bytes is_end reason at = (ahead : List Token) × RefusedIn l (reading_of l bytes is_end) reason at ahead
+
+-- The quads are the first of those that are due after some first tokens of the list, of which none passes a limit: so after tokens of the front.
+pub record BeginsDue (l : Language) (ts : List Token) (quads : List Quad) : Type 0 where
+  pub ahead : List Token
+  pub behind : List Token
+  pub tokens : ts ≡ ahead ++ behind
+  pub kept : PassesNone l.passes ahead
+  pub rest : List Quad
+  pub due : Due l.documents ahead (quads ++ rest)
+
+-- There are more bytes than a document has, and the place is after as many as one may have.
+abbrev pub IsTooLong : List ℕ → Place → Type 0
+IsTooLong bytes at = (most_bytes < length bytes) × (at ≡ end_of (take most_bytes bytes))
