@@ -133,13 +133,13 @@ abbrev pub Refused : Language → List ℕ → Bool → Reason → Place → Typ
 Refused l bytes is_end reason at = (ahead : List Token) × RefusedIn l (reading_of l bytes is_end) reason at ahead
 
 -- The quads are the first of those that are due after some first tokens of the list, of which none passes a limit: so after tokens of the front.
-pub record BeginsDue (l : Language) (ts : List Token) (quads : List Quad) : Type 0 where
+pub record BeginsDue (documents : List Token → List Marked → Type 0) (passes : List Token → Token → Type 0) (ts : List Token) (quads : List Quad) : Type 0 where
   pub ahead : List Token
   pub behind : List Token
   pub tokens : ts ≡ ahead ++ behind
-  pub kept : PassesNone l.passes ahead
+  pub kept : PassesNone passes ahead
   pub rest : List Quad
-  pub due : Due l.documents ahead (quads ++ rest)
+  pub due : Due documents ahead (quads ++ rest)
 
 -- There are more bytes than a document has, and the place is after as many as one may have.
 abbrev pub IsTooLong : List ℕ → Place → Type 0
