@@ -29,3 +29,4 @@ mod NewLemmas
 mod PromiseLemmas
 mod AcceptedLemmas
 mod WrittenLimits
+pub mod AcceptingLemmas

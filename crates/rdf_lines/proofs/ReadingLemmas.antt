@@ -35,7 +35,7 @@ pub has_fewer : (v : Unread) (s : Summary) → IsReady v s → s.quads ≤ s.tok
 has_fewer v s r = ∥∥₁_elim r.known le_prop (λ k. k.4)
 
 -- A quad is given exactly where the mode behind it is that of a dot.
-abbrev GaveRight : Answer → Type 0
+abbrev pub GaveRight : Answer → Type 0
 GaveRight (goes m) = gave m ≡ false
 GaveRight (gives q m) = gave m ≡ true
 GaveRight (refuses r) = Unit
@@ -49,7 +49,7 @@ object_gave test NQuads s p o IriRef l = absolute_gave test (iri_of l) _ refl
 object_gave test NQuads s p o LabelNode l = refl
 object_gave test f s p o k l = tt
 
-accept_gave : (test : List ℕ → Bool) (f : LineForm) (m : Mode) (k : Kind) (l : Leaf) → GaveRight (accept test f m k l)
+pub accept_gave : (test : List ℕ → Bool) (f : LineForm) (m : Mode) (k : Kind) (l : Leaf) → GaveRight (accept test f m k l)
 accept_gave test f Begin IriRef l = absolute_gave test (iri_of l) _ refl
 accept_gave test f (AfterSubject s) IriRef l = absolute_gave test (iri_of l) _ refl
 accept_gave test f (AfterPredicate s p) IriRef l = absolute_gave test (iri_of l) _ refl

@@ -9,3 +9,4 @@ pub mod Spelled
 pub mod LineRead
 pub mod Readers
 pub mod Reading
+pub mod Accepting

@@ -2,8 +2,10 @@
 #![tactic(auto)]
 
 mod accept;
+mod driven;
 mod fault;
 mod form;
+mod grammar;
 pub mod laws;
 mod line;
 mod reader;
@@ -20,5 +22,7 @@ mod writer;
 
 pub use fault::{Fault, Summary};
 pub use form::{LineForm, Style};
+pub use driven::line_reader;
+pub use grammar::LineGrammar;
 pub use reader::LineReader;
 pub use writer::{LabelFault, label_text, write_line};
