@@ -1,5 +1,5 @@
 -- What a grammar says of its documents, and of what accepting their tokens does.
-use Rattle.std.specs.Prelude.{◌≡◌, ◌≤◌, ◌*◌, ℕ, Bool, true, List, [], ◌∷◌, ◌++◌, length}
+use Rattle.std.specs.Prelude.{◌≡◌, ◌≤◌, ◌*◌, ℕ, Bool, true, false, List, [], ◌∷◌, ◌++◌, length}
 use Rattle.rdf_terms.specs.declared.kind.Dialect.{Dialect}
 use Rattle.rdf_terms.specs.declared.kind.Kind.TheVariants.{End}
 use Rattle.rdf_terms.specs.declared.reason.Reason.{Reason}
@@ -56,9 +56,9 @@ pub record Blames {G X S : Type 0} (w : Words G X) (reason : Reason) (old : G) (
   pub sink : after ≡ before
   pub blames : (x : X) (ts : List Token) (qs : List Quad) → w.reached old x ts qs → w.blames x reason ts t
 
--- why a token is not accepted
+-- Why a token is not accepted. Want of memory is reported only where the sink has not failed.
 abbrev pub Misses : {G X S : Type 0} → Words G X → (S → Quad → S → Type 0) → (S → Quad → S → Type 0) → (S → Bool) → Reason → G → Token → S → S → Type 0
-Misses w takes leaves failed Memory old t before after = GivesUp w takes leaves old t before after
+Misses w takes leaves failed Memory old t before after = GivesUp w takes leaves old t before after × (failed after ≡ false)
 Misses w takes leaves failed Sink old t before after = GivesUp w takes leaves old t before after × (failed after ≡ true)
 Misses w takes leaves failed BadUtf8 old t before after = ⊥
 Misses w takes leaves failed NoToken old t before after = ⊥
