@@ -15,9 +15,9 @@ pub record Words (G X : Type 0) : Type 1 where
   -- the most characters of a token
   pub limit : G → ℕ
   pub documents : X → List Token → List Marked → Type 0
-  -- a token passes a limit behind the tokens before it
+  -- the token passes a limit after these tokens
   pub passes : X → List Token → Token → Type 0
-  -- the token behind these tokens is refused, for this reason
+  -- the token is refused after these tokens, for this reason
   pub blames : X → Reason → List Token → Token → Type 0
   -- these tokens were accepted from the beginning on, and these quads were put
   pub reached : G → X → List Token → List Quad → Type 0

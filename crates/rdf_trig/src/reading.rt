@@ -18,7 +18,7 @@ use crate::state::State;
 use rdf_iri::{Limits, Scope};
 use rdf_lines::{Fault, Summary};
 use rdf_terms::{Iri, Kind, QuadSink, Reason};
-use rdf_tokens::{ScanFault, Scanner, Token};
+use rdf_tokens::{Scanner, Token};
 use std::alloc::{Allocator, Global};
 
 /// What has been read: of the document, and in all.
@@ -133,7 +133,7 @@ fn read_token<A: Allocator + Copy, S: QuadSink>(
     }
 }
 
-fn told(fault: ScanFault) -> Fault
+fn told(fault: Fault) -> Fault
     ensures { result ≡ record { reason = fault.reason; offset = fault.offset; line = fault.line } }
 {
     Fault {
