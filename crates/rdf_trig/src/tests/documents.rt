@@ -7,7 +7,7 @@ use crate::form::DocForm;
 use crate::reader::{Options, TrigReader};
 use crate::tests::sinks::{RecordingSink, lines_of, recording_sink};
 use rdf_iri::Limits;
-use rdf_lines::{Fault, Summary};
+use rdf_driver::{Fault, Summary};
 use rdf_terms::{Iri, QuadList, Reason};
 use std::alloc::Global;
 use std::str;
