@@ -14,7 +14,7 @@ use crate::job::Job;
 use crate::line_out::LineOut;
 use rdf_lines::{Fault, Style, Summary};
 use rdf_terms::{Dialect, Kind, PutFault, Reason};
-use rdf_tokens::{ScanFault, Scanner, Token};
+use rdf_tokens::{Scanner, Token};
 use std::alloc::Allocator;
 
 /// Reads the tokens of the source in the dialect of the job's format, and writes a line of each but the end to the drain:
@@ -288,7 +288,7 @@ fn is_end(kind: Kind) -> bool
     matches!(kind, Kind::End)
 }
 
-fn told(fault: ScanFault) -> Fault
+fn told(fault: Fault) -> Fault
     ensures { result ≡ record { reason = fault.reason; offset = fault.offset; line = fault.line } }
 {
     Fault {

@@ -6,7 +6,7 @@ use Rattle.rdf_terms.specs.declared.kind.Kind.TheVariants.{End}
 use Rattle.rdf_terms.specs.declared.reason.Reason.{Reason}
 use Rattle.rdf_terms.specs.declared.reason.Reason.TheVariants.{BadUtf8, NoToken, BadEscape, TokenTooLong, Ended}
 use Rattle.rdf_tokens.specs.declared.token.Token.{Token as Given}
-use Rattle.rdf_tokens.specs.declared.token.ScanFault.{ScanFault}
+use Rattle.rdf_tokens.specs.declared.token.Fault.{Fault}
 use Rattle.rdf_tokens.specs.Tokens.{Place, Outcome, Token, Reading}
 use Rattle.rdf_tokens.specs.Tokens.Outcome.{undecided, complete, token_too_long, bad_utf8, no_token, bad_escape}
 use Rattle.rdf_tokens.specs.Good.{tokens_of}
@@ -42,14 +42,14 @@ abbrev pub IsStop : Reading → List Token → Reason → Place → Type 0
 IsStop r ts reason at = (r.tokens ≡ ts) × Tells reason r.outcome × (reason ≢ Ended → at ≡ r.at)
 
 -- the next token behind some, or that more bytes decide it, or why there is none
-abbrev pub IsNext : Reading → List Token → Result (Option Given) ScanFault → Type 0
+abbrev pub IsNext : Reading → List Token → Result (Option Given) Fault → Type 0
 IsNext r ts (Ok (Some t)) = IsBeginning (ts ++ token_of t ∷ []) r.tokens
 IsNext r ts (Ok None) = (r.tokens ≡ ts) × (r.outcome ≡ undecided)
 IsNext r ts (Err f) = IsStop r ts f.reason (place_of f)
 
 -- What a scanner gives is next among the tokens of the bytes that it has taken, behind those that it has given.
 abbrev pub NextTokenIsGiven : Type 0
-NextTokenIsGiven = (old new : Unread) (bytes : List ℕ) (ts : List Token) (result : Result (Option Given) ScanFault) →
+NextTokenIsGiven = (old new : Unread) (bytes : List ℕ) (ts : List Token) (result : Result (Option Given) Fault) →
     HasRead old bytes ts → Gives old result new → IsNext (tokens_of old.dialect old.limit bytes old.ended) ts result
 
 -- a place within some bytes: its line is one more than the line feeds before it

@@ -9,7 +9,7 @@ use Rattle.rdf_terms.specs.declared.reason.Reason.TheVariants.{BadUtf8, NoToken,
 use Rattle.rdf_terms.specs.Shapes.{Shape}
 use Rattle.rdf_terms.specs.Values.{is_fit}
 use Rattle.rdf_tokens.specs.declared.token.Token.{Token as Given}
-use Rattle.rdf_tokens.specs.declared.token.ScanFault.{ScanFault}
+use Rattle.rdf_tokens.specs.declared.token.Fault.{Fault}
 use Rattle.rdf_tokens.specs.Tokens.{Place, Outcome, Token, Reading, with_tokens}
 use Rattle.rdf_tokens.specs.Tokens.Tail.{broken}
 use Rattle.rdf_tokens.specs.Tokens.Outcome.{undecided, token_too_long, bad_utf8, no_token, bad_escape}
@@ -44,7 +44,7 @@ pub record HasRead (v : Unread) (bytes : List ℕ) (ts : List Token) : Type 0 wh
 abbrev pub token_of : Given → Token
 token_of t = record { kind = t.kind; text = chars t.text.now; at = record { offset = t.offset; line = t.line } }
 
-abbrev pub place_of : ScanFault → Place
+abbrev pub place_of : Fault → Place
 place_of f = record { offset = f.offset; line = f.line }
 
 -- the kind of the input's end
@@ -89,7 +89,7 @@ RefusesFor Memory old piece at new = IsOpen old × (new.stopped ≡ true)
 RefusesFor r old piece at new = ⊥
 
 -- what a push does
-abbrev pub Pushes : Unread → List ℕ → Result ℕ ScanFault → Unread → Type 0
+abbrev pub Pushes : Unread → List ℕ → Result ℕ Fault → Unread → Type 0
 Pushes old piece (Ok n) new = TakesBytes old piece n new
 Pushes old piece (Err f) new = RefusesFor f.reason old piece (place_of f) new
 
@@ -130,7 +130,7 @@ StopsFor TokenTooLong old at new = Stops old token_too_long at new
 StopsFor r old at new = ⊥
 
 -- what next gives
-abbrev pub Gives : Unread → Result (Option Given) ScanFault → Unread → Type 0
+abbrev pub Gives : Unread → Result (Option Given) Fault → Unread → Type 0
 Gives old (Ok (Some t)) new = GivesToken old (token_of t) new
 Gives old (Ok None) new = Waits old new
 Gives old (Err f) new = StopsFor f.reason old (place_of f) new

@@ -14,7 +14,7 @@ mod token;
 
 pub use rdf_terms::{Dialect, Kind};
 pub use scanner::Scanner;
-pub use token::{ScanFault, Token};
+pub use token::{Fault, Token};
 
 #[cfg(test)]
 mod tests;

@@ -17,7 +17,7 @@ use crate::blank::blank_run;
 use crate::front::Walk;
 use crate::good::{good_front, line_feeds, mark_len};
 use crate::look::{Look, Tail, look_at};
-use crate::token::{ScanFault, Token};
+use crate::token::{Fault, Token};
 use rdf_terms::{Dialect, Kind, Reason};
 use std::alloc::{AllocError, Allocator, Global};
 use std::marker::Model;
@@ -114,7 +114,7 @@ impl<A: Allocator + Copy> Scanner<A> {
     /// Takes bytes of the piece, and answers how many: at least one of a piece that is not empty. After a
     /// stop and after `end` it answers `Ended`. A document has at most 2^63 - 1 bytes: for a piece
     /// behind them it answers `DocumentTooLong`. After that, and after `Memory`, the scanner is stopped.
-    pub fn push(&mut self, piece: &[u8]) -> Result<usize, ScanFault>
+    pub fn push(&mut self, piece: &[u8]) -> Result<usize, Fault>
         ensures { Pushes self.old piece.now result self.new }
     {
         if self.stopped || self.ended {
@@ -133,7 +133,7 @@ impl<A: Allocator + Copy> Scanner<A> {
     /// Gives the next token, or `None` where the bytes so far leave it undecided. Behind the last one it
     /// gives `End`, once. A fault stands at the place of the token that is not there; `BadUtf8` behind
     /// all of the text. After it, and after `End`, the scanner is stopped and answers `Ended`.
-    pub fn next(&mut self) -> Result<Option<Token<'_>>, ScanFault>
+    pub fn next(&mut self) -> Result<Option<Token<'_>>, Fault>
         ensures* { sem 𝓛 (follows_so (the_row A.row A.Allocator) (the_row A.row A.Allocator) self.entry.ghost_name none (λ _ _. ⊤) (λ v. Gives self.old result v)) }
     {
         if self.stopped {
@@ -206,7 +206,7 @@ impl<A: Allocator + Copy> Scanner<A> {
         }
     }
 
-    fn stop_here(&mut self, reason: Reason) -> ScanFault
+    fn stop_here(&mut self, reason: Reason) -> Fault
         ensures stopped { self.new ≡ record self.old { stopped = true } }
         ensures reason { result.reason ≡ reason }
         ensures place { place_of result ≡ fault_place reason self.old.place self.old.text }
@@ -215,13 +215,13 @@ impl<A: Allocator + Copy> Scanner<A> {
         match reason {
             Reason::BadUtf8 => {
                 let rest = &self.text.as_str()[self.start..];
-                ScanFault {
+                Fault {
                     reason,
                     offset: self.offset + rest.len() as u64,
                     line: self.line + line_feeds(rest.as_bytes()) as u64,
                 }
             }
-            _ => ScanFault {
+            _ => Fault {
                 reason,
                 offset: self.offset,
                 line: self.line,
@@ -306,7 +306,7 @@ impl<A: Allocator + Copy> Scanner<A> {
         self.walk = None;
     }
 
-    fn stop(&mut self, reason: Reason) -> ScanFault
+    fn stop(&mut self, reason: Reason) -> Fault
         ensures fault { result ≡ record { reason = reason; offset = self.old.taken.offset; line = self.old.taken.line } }
         ensures stopped { self.new ≡ record self.old { stopped = true } }
     {
@@ -314,10 +314,10 @@ impl<A: Allocator + Copy> Scanner<A> {
         self.fault(reason)
     }
 
-    fn fault(&self, reason: Reason) -> ScanFault
+    fn fault(&self, reason: Reason) -> Fault
         ensures { result ≡ record { reason = reason; offset = self.now.taken.offset; line = self.now.taken.line } }
     {
-        ScanFault {
+        Fault {
             reason,
             offset: self.taken,
             line: self.last_line,

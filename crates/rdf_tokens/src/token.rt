@@ -1,4 +1,4 @@
-// Tokens, and the faults of a scanner.
+// Tokens, and why reading stopped.
 
 use rdf_terms::{Kind, Reason};
 
@@ -15,9 +15,9 @@ pub struct Token<'a> {
     pub line: u64,
 }
 
-/// Why a scanner gives no more tokens, and where.
+/// Why a document was refused, or why reading stopped, and where.
 #[derive(Clone, Copy, PartialEq, Eq, Debug)]
-pub struct ScanFault {
+pub struct Fault {
     /// The reason.
     pub reason: Reason,
     /// The byte offset of the place, from the first byte of the input.

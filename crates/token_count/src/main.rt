@@ -1,7 +1,7 @@
 //! Counts the tokens of standard input, to measure the scanner with: `token_count lines` or `token_count turtle`.
 #![tactic(auto)]
 
-use rdf_tokens::{Dialect, ScanFault, Scanner};
+use rdf_tokens::{Dialect, Fault, Scanner};
 use std::alloc::Allocator;
 use std::io::Read;
 use std::process::ExitCode;
@@ -10,12 +10,12 @@ use std::{env, io};
 // Why the tokens were not counted.
 #[derive(Debug, Drop)]
 enum CountFault {
-    Scan(ScanFault),
+    Scan(Fault),
     Io(io::Error),
 }
 
-impl From<ScanFault> for CountFault {
-    fn from(fault: ScanFault) -> CountFault {
+impl From<Fault> for CountFault {
+    fn from(fault: Fault) -> CountFault {
         CountFault::Scan(fault)
     }
 }
@@ -29,7 +29,7 @@ impl From<io::Error> for CountFault {
 fn take_tokens<A: Allocator + Copy>(
     scanner: &mut Scanner<A>,
     count: &mut u64,
-) -> Result<(), ScanFault> {
+) -> Result<(), Fault> {
     for _ in 0..u64::MAX {
         match scanner.next()? {
             Some(_) => *count = count.wrapping_add(1),
@@ -43,7 +43,7 @@ fn push_all<A: Allocator + Copy>(
     scanner: &mut Scanner<A>,
     piece: &[u8],
     count: &mut u64,
-) -> Result<(), ScanFault> {
+) -> Result<(), Fault> {
     let mut rest = piece;
     for _ in 0..u64::MAX {
         if rest.is_empty() {

@@ -1,0 +1,47 @@
+-- Turtle and TriG as a grammar that a reader drives.
+use Rattle.std.specs.Prelude.{◌≡◌, ℕ}
+use Rattle.rdf_terms.specs.declared.kind.Dialect.TheVariants.{Turtle as turtle}
+use Rattle.rdf_terms.specs.declared.reason.Reason.{Reason}
+use Rattle.rdf_terms.specs.declared.reason.Reason.TheVariants as reason
+use Rattle.rdf_driver.specs.Words.{Words}
+use Rattle.rdf_driver.specs.Readers.{Driven}
+use Rattle.rdf_trig.specs.declared.form.DocForm.{DocForm}
+use Rattle.rdf_trig.specs.declared.fault.StepFault.{StepFault}
+use Rattle.rdf_trig.specs.declared.fault.StepFault.TheVariants as fault
+use Rattle.rdf_trig.specs.Documents.{documents, Passes}
+use Rattle.rdf_trig.specs.Machine.{State}
+use Rattle.rdf_trig.specs.Alike.{RunsTo}
+use Rattle.rdf_trig.specs.Language.{Chosen, Blamed}
+
+-- what accepts the tokens of Turtle or TriG: the form, the most characters of a token, and what has been read
+pub record TreeAt : Type 0 where
+  pub form : DocForm
+  pub limit : ℕ
+  -- its scope may hold the bindings in another order than the machine's
+  pub state : State
+
+-- the documents from a scope on, and what the machine has accepted of one
+abbrev pub tree_words : Words TreeAt Chosen
+tree_words = record {
+  dialect = turtle;
+  limit = λ g. g.limit;
+  documents = λ x. documents x.form x.start;
+  passes = λ x. Passes x.form x.start;
+  blames = λ x. Blamed x.form x.start;
+  reached = λ g x ts qs. (g.form ≡ x.form) × (g.limit ≡ x.start.limits.token) × RunsTo x.form x.start ts qs g.state;
+}
+
+-- a reader of Turtle or TriG as its callers see it
+abbrev pub TrigRead : Type 0
+TrigRead = Driven TreeAt
+
+-- the error of a step, as a reader reports it
+abbrev pub reason_of : StepFault → Reason
+reason_of fault.Unexpected = reason.Unexpected
+reason_of fault.TooDeep = reason.TooDeep
+reason_of fault.Unbound = reason.Unbound
+reason_of fault.NoBase = reason.NoBase
+reason_of fault.IriTooLong = reason.IriTooLong
+reason_of fault.TooManyBindings = reason.TooManyBindings
+reason_of fault.Memory = reason.Memory
+reason_of fault.Sink = reason.Sink
