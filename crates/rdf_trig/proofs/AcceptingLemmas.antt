@@ -18,7 +18,7 @@ use Rattle.rdf_trig.specs.declared.state.State.{State as Code}
 use Rattle.rdf_trig.specs.Documents.{documents, Passes}
 use Rattle.rdf_trig.specs.Refusals.{Refusal, RefusedFor, unexpected, too_deep, unbound, no_base, iri_too_long, too_many_bindings}
 use Rattle.rdf_trig.specs.Machine.{State, Answer, accepts, refuses, accept, at_start}
-use Rattle.rdf_trig.specs.Alike.{SameState, RunsTo}
+use Rattle.rdf_trig.specs.Alike.{SameState}
 use Rattle.rdf_trig.specs.Steps.{state_of, Accepts, answered, Begins, Fails}
 use Rattle.rdf_trig.specs.Language.{Chosen, Blamed}
 use Rattle.rdf_trig.specs.Accepting.{TreeAt, reason_of, tree_words}

@@ -86,10 +86,7 @@ impl<A: Allocator + Copy> Model for TrigReader<A> {
 }
 
 /// A reader of any grammar, for Turtle or TriG. It has read nothing.
-pub fn tree_reader<A: Allocator + Copy>(
-    alloc: A,
-    options: Options<A>,
-) -> Reader<TreeGrammar<A>, A>
+pub fn tree_reader<A: Allocator + Copy>(alloc: A, options: Options<A>) -> Reader<TreeGrammar<A>, A>
     ensures read { HasRead tree_words result options [] [] }
     ensures form { result.grammar.form ≡ options.form }
     ensures token { result.scanner.limit ≡ options.start.limits.token }
