@@ -1,5 +1,8 @@
 pub mod RegexLemmas
 pub mod ShapesLemmas
+pub mod Disjoint
+pub mod KindsLemmas
+mod LawExamples
 pub mod CharsLemmas
 pub mod TermsLemmas
 pub mod UsedCharacters

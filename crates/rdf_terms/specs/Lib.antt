@@ -11,3 +11,4 @@ pub mod Known
 pub mod Names
 pub mod Local
 pub mod Runs
+pub mod Laws

@@ -1,12 +1,11 @@
 -- A token that a step gives has the shape of its kind, and fit escapes.
-use Rattle.std.proofs.Common.{◌≡◌, ◌≢◌, ℕ, zero, suc, Bool, true, false, cond, ◌||◌, List, [], ◌∷◌, ◌⊎◌, inl, inr, refl, sym, ap, ◌∙◌, subst, ⊎_elim, Option, Some, None, length, take}
+use Rattle.std.proofs.Common.{◌≡◌, ◌≢◌, ℕ, zero, suc, Bool, true, false, cond, ◌||◌, List, [], ◌∷◌, refl, sym, ap, ◌∙◌, subst, Option, Some, None, length, take}
 use Rattle.rdf_terms.specs.declared.kind.Dialect.{Dialect}
 use Rattle.rdf_terms.specs.declared.kind.Kind.{Kind}
-use Rattle.rdf_terms.specs.declared.kind.Kind.TheVariants.{LongString, LangTag, AtPrefix, AtBase, End}
-use Rattle.rdf_terms.specs.Regex.{Matches, nullable, after_all, ◌∣◌}
-use Rattle.rdf_terms.specs.Shapes.{Shape, shape, kinds, kind_of, is_live}
+use Rattle.rdf_terms.specs.declared.kind.Kind.TheVariants.{LongString, End}
+use Rattle.rdf_terms.specs.Shapes.{Shape, shape, kind_of, is_live}
 use Rattle.rdf_terms.specs.Values.{is_fit}
-use Rattle.rdf_terms.proofs.ShapesLemmas.{matches-form, first_kind-matches}
+use Rattle.rdf_terms.proofs.KindsLemmas.{kind-shape}
 use Rattle.rdf_tokens.specs.Tokens.{Tail, longest, with_length, three_quotes, only_long, over, is_empty, chosen, decided, by_tail, step}
 use Rattle.rdf_tokens.specs.Tokens.Tail.{goes_on, ended, broken}
 use Rattle.rdf_tokens.specs.Tokens.Outcome.{undecided, complete, token_too_long, bad_utf8, no_token, bad_escape}
@@ -34,31 +33,10 @@ longest-kind d w (suc m) n k e =
         let x : (suc m, l) ≡ (n, k) = same_front (suc m, l) (n, k) e in
         ap (λ i. kind_of d (take i w)) (sym (ap (λ p. p.0) x)) ∙ (f l refl ∙ ap (λ p. Some p.1) x)
 
--- a text of a kind has its shape
-no_end : (d : Dialect) (w : List ℕ) → Matches (shape d End) w → ⊥
+-- no text has the shape of the end
+no_end : (d : Dialect) (w : List ℕ) → Shape d End w → ⊥
 unfolding shape
 no_end d w m = m
-
-keyword_first : (d : Dialect) (w : List ℕ) → Matches (shape d AtPrefix ∣ shape d AtBase) w → kind_of d w ≢ Some LangTag
-unfolding kind_of
-keyword_first d w m e = go _ (nullable (after_all (shape d AtPrefix) w)) (nullable (after_all (shape d AtBase) w)) (⊎_elim (λ x. inl (matches-form _ w x)) (λ x. inr (matches-form _ w x)) m) e
-  where
-    go : (o : Option Kind) (a b : Bool) → (a ≡ true) ⊎ (b ≡ true) → cond a (Some AtPrefix) (cond b (Some AtBase) o) ≡ Some LangTag → ⊥
-    go o true b h e = let x : Some AtPrefix ≡ Some LangTag = e in cc
-    go o false true h e = let x : Some AtBase ≡ Some LangTag = e in cc
-    go o false false h e = ⊎_elim (λ x. let y : false ≡ true = x in cc) (λ x. let y : false ≡ true = x in cc) h
-
-to_shape : (d : Dialect) (w : List ℕ) (k : Kind) → Matches (shape d k) w → (k ≡ LangTag → Matches (shape d AtPrefix ∣ shape d AtBase) w → ⊥) → Shape d k w
-to_shape d w LangTag m h = (m, h refl)
-to_shape d w k m h = m
-
-pub kind-shape : (d : Dialect) (w : List ℕ) (k : Kind) → kind_of d w ≡ Some k → Shape d k w × (k ≢ End)
-unfolding kind_of
-kind-shape d w k e =
-    let m : Matches (shape d k) w = (first_kind-matches d kinds w k e).0 in (
-      to_shape d w k m (λ x n. keyword_first d w n (e ∙ ap Some x)),
-      λ x. no_end d w (subst (λ k. Matches (shape d k) w) x m),
-    )
 
 -- what a step that gives a token has decided
 decided-token : (d : Dialect) (w : List ℕ) (n : ℕ) (k : Kind) → decided d w ≡ token n k → (longest d w (length w) ≡ Some (n, k)) × (is_fit k (take n w) ≡ true)
@@ -101,7 +79,7 @@ pub step-token : (d : Dialect) (limit : ℕ) (t : Tail) (w : List ℕ) (n : ℕ)
 step-token d limit t w n k e =
     let p = decided-token d w n k (step-decided d limit t w n k e) in
     let q = kind-shape d (take n w) k (longest-kind d w (length w) n k p.0) in
-    (q.0, p.1, q.1)
+    (q, p.1, λ x. no_end d (take n w) (subst (λ k. Shape d k (take n w)) x q))
 
 pub step-kind : (d : Dialect) (limit : ℕ) (t : Tail) (w : List ℕ) (n : ℕ) (k : Kind) → step d limit t w ≡ token n k → kind_of d (take n w) ≡ Some k
 step-kind d limit t w n k e = longest-kind d w (length w) n k (decided-token d w n k (step-decided d limit t w n k e)).0
