@@ -15,7 +15,7 @@ use Rattle.rdf_tokens.specs.Tokens.Step.{token, stop}
 same_front : (x y : ℕ × Kind) → Some x ≡ Some y → x ≡ y
 same_front x y e = cc
 
-only_long-kind : (t : Bool) (o : Option Kind) (k : Kind) → only_long t o ≡ Some k → o ≡ Some k
+pub only_long-kind : (t : Bool) (o : Option Kind) (k : Kind) → only_long t o ≡ Some k → o ≡ Some k
 only_long-kind false o k e = e
 only_long-kind true None k e = e
 only_long-kind true (Some LongString) k e = e
@@ -39,7 +39,7 @@ unfolding shape
 no_end d w m = m
 
 -- what a step that gives a token has decided
-decided-token : (d : Dialect) (w : List ℕ) (n : ℕ) (k : Kind) → decided d w ≡ token n k → (longest d w (length w) ≡ Some (n, k)) × (is_fit k (take n w) ≡ true)
+pub decided-token : (d : Dialect) (w : List ℕ) (n : ℕ) (k : Kind) → decided d w ≡ token n k → (longest d w (length w) ≡ Some (n, k)) × (is_fit k (take n w) ≡ true)
 decided-token d [] n k e = absurd (let h : stop complete ≡ token n k = e in cc)
 decided-token d (c ∷ w) n k e = taken (longest d (c ∷ w) (length (c ∷ w))) refl e
   where
@@ -57,7 +57,7 @@ decided-token d (c ∷ w) n k e = taken (longest d (c ∷ w) (length (c ∷ w)))
     taken None l e = absurd (let h : stop no_token ≡ token n k = e in cc)
     taken (Some x) l e = let p = made x (is_fit x.1 (take x.0 (c ∷ w))) refl e in (l ∙ p.0, p.1)
 
-step-decided : (d : Dialect) (limit : ℕ) (t : Tail) (w : List ℕ) (n : ℕ) (k : Kind) → step d limit t w ≡ token n k → decided d w ≡ token n k
+pub step-decided : (d : Dialect) (limit : ℕ) (t : Tail) (w : List ℕ) (n : ℕ) (k : Kind) → step d limit t w ≡ token n k → decided d w ≡ token n k
 unfolding step
 step-decided d limit t w n k e = go (over d limit w) t (is_empty w || is_live d w) e
   where
