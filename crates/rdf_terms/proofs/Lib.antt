@@ -13,6 +13,7 @@ pub mod KnownLemmas
 pub mod NamesLemmas
 pub mod ViewLemmas
 pub mod LocalLemmas
+pub mod PiecesLemmas
 pub mod SinksLemmas
 mod IriBytes
 mod RunsLemmas
