@@ -12,3 +12,4 @@ pub mod InPlace
 pub mod Slices
 pub mod ResolvedText
 pub mod ScopeLemmas
+pub mod LawLemmas

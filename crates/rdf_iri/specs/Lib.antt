@@ -7,3 +7,4 @@ pub mod Rules
 pub mod Resolve
 pub mod Faults
 pub mod Scope
+pub mod Laws

@@ -3,6 +3,7 @@
 
 mod dots;
 mod fault;
+pub mod laws;
 mod limits;
 mod parts;
 mod places;

@@ -1,5 +1,8 @@
 pub mod RegexLemmas
 pub mod ShapesLemmas
+pub mod Disjoint
+pub mod KindsLemmas
+mod LawExamples
 pub mod CharsLemmas
 pub mod TermsLemmas
 pub mod UsedCharacters
@@ -10,6 +13,7 @@ pub mod KnownLemmas
 pub mod NamesLemmas
 pub mod ViewLemmas
 pub mod LocalLemmas
+pub mod PiecesLemmas
 pub mod SinksLemmas
 mod IriBytes
 mod RunsLemmas

@@ -69,7 +69,7 @@ local-end true = refl
 local-end false = refl
 
 -- a value has the characters that are no backslash, and they are IRI characters
-mapped : (c : ℕ) (o : Option (List ℕ)) (v : List ℕ) → option_map (λ x. c ∷ x) o ≡ Some v → (u : List ℕ) × (o ≡ Some u) × (v ≡ c ∷ u)
+pub mapped : (c : ℕ) (o : Option (List ℕ)) (v : List ℕ) → option_map (λ x. c ∷ x) o ≡ Some v → (u : List ℕ) × (o ≡ Some u) × (v ≡ c ∷ u)
 mapped c None v h = absurd (false≢true (ap is_some h))
 mapped c (Some u) v h = (u, refl, ap (λ x. unwrap_or x []) (sym h))
 

@@ -40,7 +40,7 @@ matches-nullable (r ∣ s) m =
 matches-nullable (many r) m = refl
 
 -- a text whose first character is c splits after c, or behind an empty part
-split_first : (c : ℕ) (w u v : List ℕ) → c ∷ w ≡ u ++ v →
+pub split_first : (c : ℕ) (w u v : List ℕ) → c ∷ w ≡ u ++ v →
     ((u ≡ []) × (v ≡ c ∷ w)) ⊎ ((t : List ℕ) × (u ≡ c ∷ t) × (w ≡ t ++ v))
 split_first c w [] v e = inl (refl, sym e)
 split_first c w (d ∷ u) v e =
@@ -70,7 +70,7 @@ after-matches (many r) c w m =
     ((c ∷ m.0) ∷ p, (after-matches r c m.0 m.2, m.3.1), ap (λ x. c ∷ x) (m.4 ∙ ap (λ x. m.0 ++ x) m.3.2))
 
 -- the first part that is not empty begins with the first character
-first_part : (P : List ℕ → Type 0) (c : ℕ) (w : List ℕ) (parts : List (List ℕ)) → AllByRecursion P parts → c ∷ w ≡ concat parts →
+pub first_part : (P : List ℕ → Type 0) (c : ℕ) (w : List ℕ) (parts : List (List ℕ)) → AllByRecursion P parts → c ∷ w ≡ concat parts →
     (t : List ℕ) × (rest : List (List ℕ)) × P (c ∷ t) × AllByRecursion P rest × (w ≡ t ++ concat rest)
 first_part P c w [] a e = absurd (no_cons c w (sym e))
 first_part P c w (u ∷ parts) a e =

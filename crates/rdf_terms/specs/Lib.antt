@@ -1,6 +1,7 @@
 pub mod Classes
 pub mod Regex
 pub mod Shapes
+pub mod Pieces
 pub mod Values
 pub mod Terms
 pub mod Views
@@ -11,3 +12,4 @@ pub mod Known
 pub mod Names
 pub mod Local
 pub mod Runs
+pub mod Laws

@@ -1,14 +1,10 @@
--- The characters that a token's inside means: each escape stands for one.
-use Rattle.std.specs.Prelude.{ℕ, zero, suc, ◌+◌, ◌-◌, ◌*◌, Bool, true, false, cond, List, [], ◌∷◌, ◌==◌, length, take, drop, Option, Some, None, is_some, option_map}
-use Rattle.rdf_terms.specs.Classes.{has, scalar, within}
+-- The characters that a token's inside means, computed from left to right. That this is what its pieces mean is a law.
+use Rattle.std.specs.Prelude.{ℕ, zero, suc, ◌+◌, ◌*◌, Bool, true, false, cond, List, [], ◌∷◌, ◌==◌, Option, Some, None, is_some, option_map}
+use Rattle.rdf_terms.specs.Classes.{has, scalar}
 use Rattle.rdf_terms.specs.Classes.Class.{hex_digit, iri_char, local_escape}
+pub use Rattle.rdf_terms.specs.Pieces.{Inside, of_string, of_iri, hex_value, inside}
 use Rattle.rdf_terms.specs.declared.kind.Kind.{Kind}
 use Rattle.rdf_terms.specs.declared.kind.Kind.TheVariants.{IriRef, ShortString, LongString}
-
--- the two kinds of text that have escapes
-pub data Inside : Type 0 where
-  of_string : Inside
-  of_iri : Inside
 
 -- where a character stands: outside an escape, behind the backslash, or where so many hex digits are still to come, with the number so far
 pub data Spot : Type 0 where
@@ -21,9 +17,6 @@ pub data Move : Type 0 where
   leads : Spot → Move
   means : ℕ → Move
   fails : Move
-
-abbrev pub hex_value : ℕ → ℕ
-hex_value c = cond (within 48 57 c) (c - 48) (cond (within 65 70 c) (c - 55) (c - 87))
 
 -- ECHAR: t b n r f " ' \
 abbrev pub letter_move : ℕ → Move
@@ -77,10 +70,6 @@ local_from false (c ∷ w) = cond (c == 92) (local_from true w) (cond (has iri_c
 
 abbrev pub local_value : List ℕ → Option (List ℕ)
 local_value w = local_from false w
-
--- a text without n characters at both ends
-abbrev pub inside : ℕ → List ℕ → List ℕ
-inside n w = take (length w - 2 * n) (drop n w)
 
 unfoldable pub is_fit : Kind → List ℕ → Bool
 is_fit IriRef w = is_some (iri_value (inside 1 w))

@@ -8,6 +8,7 @@ mod fault;
 mod iris;
 mod kind;
 mod labels;
+pub mod laws;
 mod list;
 mod local;
 mod reason;

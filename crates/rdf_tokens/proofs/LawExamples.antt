@@ -12,14 +12,15 @@ use Rattle.rdf_terms.specs.Classes.{has}
 use Rattle.rdf_terms.specs.Shapes.{shape, kind_of, is_live}
 use Rattle.rdf_terms.specs.Values.{is_fit}
 use Rattle.rdf_tokens.specs.Tokens.{Token, step, read, tokens}
-use Rattle.rdf_tokens.specs.Tokens.Outcome.{undecided, complete}
+use Rattle.rdf_tokens.specs.Tokens.Outcome.{undecided, complete, no_token, bad_utf8}
 use Rattle.rdf_tokens.specs.Good.{end_of, tokens_of}
 use Rattle.rdf_tokens.specs.Unread.{Unread}
 use Rattle.rdf_tokens.specs.Scans.{HasRead, IsToken}
-use Rattle.rdf_tokens.specs.Laws.{IsBeginning, IsNext, StandsIn}
+use Rattle.rdf_tokens.specs.Laws.{IsBeginning, IsNext, StandsIn, text_at, IsLongest, HasNoFront, IsLongestIn, EndsFor}
 use Rattle.rdf_tokens.proofs.ReadLemmas.{unread}
 use Rattle.rdf_tokens.proofs.LawLemmas.{lengthens, given_beginning, next_given, places, have_shapes, end_last}
 use Rattle.rdf_tokens.proofs.LimitLemmas.{no_longer}
+use Rattle.rdf_tokens.proofs.OutcomeLemmas.{longest_found, reasons, longest_tokens}
 
 one : Token
 one = record { kind = Integer; text = 49 ∷ []; at = record { offset = 0; line = 1 } }
@@ -108,3 +109,36 @@ last_is_end =
 one_is_short : length one.text ≤ 8
 one_is_short =
     All-head (λ t. length t.text ≤ 8) one (dot ∷ end ∷ []) (subst (λ r. All (λ t. length t.text ≤ 8) r.tokens) read_whole (no_longer Turtle 8 (49 ∷ 32 ∷ 46 ∷ []) true))
+
+-- the longest front of `1` is the integer
+one_is_longest : IsLongest Turtle (49 ∷ []) 1 Integer
+unfolding kind_of shape has
+one_is_longest = ((longest_found Turtle (49 ∷ [])).0 1 Integer).0 refl
+
+-- the dot is the longest front at its place
+dot_is_longest : IsLongestIn Turtle (49 ∷ 32 ∷ 46 ∷ []) dot
+dot_is_longest =
+    let all = subst (λ r. All (IsLongestIn Turtle (49 ∷ 32 ∷ 46 ∷ [])) r.tokens) read_whole (longest_tokens Turtle 8 (49 ∷ 32 ∷ 46 ∷ []) true) in
+    All-head (IsLongestIn Turtle (49 ∷ 32 ∷ 46 ∷ [])) dot (end ∷ []) (All-tail (IsLongestIn Turtle (49 ∷ 32 ∷ 46 ∷ [])) one (dot ∷ end ∷ []) all)
+
+-- all was read up to the input's length
+read_to_the_end : (tokens_of Turtle 8 (49 ∷ 32 ∷ 46 ∷ []) true).at.offset ≡ 3
+read_to_the_end =
+    (subst (λ o. EndsFor Turtle 8 (49 ∷ 32 ∷ 46 ∷ []) true o (tokens_of Turtle 8 (49 ∷ 32 ∷ 46 ∷ []) true).at) (ap (λ r. r.outcome) read_whole)
+    (reasons Turtle 8 (49 ∷ 32 ∷ 46 ∷ []) true)).1
+
+-- no front of `!` is a token
+read_none : tokens_of Turtle 8 (33 ∷ []) true ≡ record { tokens = []; outcome = no_token; at = record { offset = 0; line = 1 } }
+unfolding tokens_of tokens read step kind_of is_live shape has chars utf8_valid_len utf8_error_len is_utf8 encode is_fit
+read_none = refl
+
+no_front : HasNoFront Turtle (text_at (33 ∷ []) (record { offset = 0; line = 1 }))
+no_front = (subst (λ r. EndsFor Turtle 8 (33 ∷ []) true r.outcome r.at) read_none (reasons Turtle 8 (33 ∷ []) true)).1
+
+-- the byte 255 is no UTF-8, and the first such
+read_bad : tokens_of Turtle 8 (49 ∷ 32 ∷ 255 ∷ []) false ≡ record { tokens = one ∷ []; outcome = bad_utf8; at = record { offset = 2; line = 1 } }
+unfolding tokens_of tokens read step kind_of is_live shape has chars utf8_valid_len utf8_error_len is_utf8 encode one is_fit
+read_bad = refl
+
+bad_place : 2 ≡ utf8_valid_len (49 ∷ 32 ∷ 255 ∷ [])
+bad_place = (subst (λ r. EndsFor Turtle 8 (49 ∷ 32 ∷ 255 ∷ []) false r.outcome r.at) read_bad (reasons Turtle 8 (49 ∷ 32 ∷ 255 ∷ []) false)).0

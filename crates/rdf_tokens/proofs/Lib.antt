@@ -34,6 +34,7 @@ pub mod MoveLemmas
 pub mod NextLemmas
 pub mod Inside
 pub mod LawLemmas
+pub mod OutcomeLemmas
 pub mod LawExamples
 pub mod LimitLemmas
 mod RestLemmas

@@ -1,12 +1,11 @@
 -- A token that a step gives has the shape of its kind, and fit escapes.
-use Rattle.std.proofs.Common.{◌≡◌, ◌≢◌, ℕ, zero, suc, Bool, true, false, cond, ◌||◌, List, [], ◌∷◌, ◌⊎◌, inl, inr, refl, sym, ap, ◌∙◌, subst, ⊎_elim, Option, Some, None, length, take}
+use Rattle.std.proofs.Common.{◌≡◌, ◌≢◌, ℕ, zero, suc, Bool, true, false, cond, ◌||◌, List, [], ◌∷◌, refl, sym, ap, ◌∙◌, subst, Option, Some, None, length, take}
 use Rattle.rdf_terms.specs.declared.kind.Dialect.{Dialect}
 use Rattle.rdf_terms.specs.declared.kind.Kind.{Kind}
-use Rattle.rdf_terms.specs.declared.kind.Kind.TheVariants.{LongString, LangTag, AtPrefix, AtBase, End}
-use Rattle.rdf_terms.specs.Regex.{Matches, nullable, after_all, ◌∣◌}
-use Rattle.rdf_terms.specs.Shapes.{Shape, shape, kinds, kind_of, is_live}
+use Rattle.rdf_terms.specs.declared.kind.Kind.TheVariants.{LongString, End}
+use Rattle.rdf_terms.specs.Shapes.{Shape, shape, kind_of, is_live}
 use Rattle.rdf_terms.specs.Values.{is_fit}
-use Rattle.rdf_terms.proofs.ShapesLemmas.{matches-form, first_kind-matches}
+use Rattle.rdf_terms.proofs.KindsLemmas.{kind-shape}
 use Rattle.rdf_tokens.specs.Tokens.{Tail, longest, with_length, three_quotes, only_long, over, is_empty, chosen, decided, by_tail, step}
 use Rattle.rdf_tokens.specs.Tokens.Tail.{goes_on, ended, broken}
 use Rattle.rdf_tokens.specs.Tokens.Outcome.{undecided, complete, token_too_long, bad_utf8, no_token, bad_escape}
@@ -16,7 +15,7 @@ use Rattle.rdf_tokens.specs.Tokens.Step.{token, stop}
 same_front : (x y : ℕ × Kind) → Some x ≡ Some y → x ≡ y
 same_front x y e = cc
 
-only_long-kind : (t : Bool) (o : Option Kind) (k : Kind) → only_long t o ≡ Some k → o ≡ Some k
+pub only_long-kind : (t : Bool) (o : Option Kind) (k : Kind) → only_long t o ≡ Some k → o ≡ Some k
 only_long-kind false o k e = e
 only_long-kind true None k e = e
 only_long-kind true (Some LongString) k e = e
@@ -34,34 +33,13 @@ longest-kind d w (suc m) n k e =
         let x : (suc m, l) ≡ (n, k) = same_front (suc m, l) (n, k) e in
         ap (λ i. kind_of d (take i w)) (sym (ap (λ p. p.0) x)) ∙ (f l refl ∙ ap (λ p. Some p.1) x)
 
--- a text of a kind has its shape
-no_end : (d : Dialect) (w : List ℕ) → Matches (shape d End) w → ⊥
+-- no text has the shape of the end
+no_end : (d : Dialect) (w : List ℕ) → Shape d End w → ⊥
 unfolding shape
 no_end d w m = m
 
-keyword_first : (d : Dialect) (w : List ℕ) → Matches (shape d AtPrefix ∣ shape d AtBase) w → kind_of d w ≢ Some LangTag
-unfolding kind_of
-keyword_first d w m e = go _ (nullable (after_all (shape d AtPrefix) w)) (nullable (after_all (shape d AtBase) w)) (⊎_elim (λ x. inl (matches-form _ w x)) (λ x. inr (matches-form _ w x)) m) e
-  where
-    go : (o : Option Kind) (a b : Bool) → (a ≡ true) ⊎ (b ≡ true) → cond a (Some AtPrefix) (cond b (Some AtBase) o) ≡ Some LangTag → ⊥
-    go o true b h e = let x : Some AtPrefix ≡ Some LangTag = e in cc
-    go o false true h e = let x : Some AtBase ≡ Some LangTag = e in cc
-    go o false false h e = ⊎_elim (λ x. let y : false ≡ true = x in cc) (λ x. let y : false ≡ true = x in cc) h
-
-to_shape : (d : Dialect) (w : List ℕ) (k : Kind) → Matches (shape d k) w → (k ≡ LangTag → Matches (shape d AtPrefix ∣ shape d AtBase) w → ⊥) → Shape d k w
-to_shape d w LangTag m h = (m, h refl)
-to_shape d w k m h = m
-
-pub kind-shape : (d : Dialect) (w : List ℕ) (k : Kind) → kind_of d w ≡ Some k → Shape d k w × (k ≢ End)
-unfolding kind_of
-kind-shape d w k e =
-    let m : Matches (shape d k) w = (first_kind-matches d kinds w k e).0 in (
-      to_shape d w k m (λ x n. keyword_first d w n (e ∙ ap Some x)),
-      λ x. no_end d w (subst (λ k. Matches (shape d k) w) x m),
-    )
-
 -- what a step that gives a token has decided
-decided-token : (d : Dialect) (w : List ℕ) (n : ℕ) (k : Kind) → decided d w ≡ token n k → (longest d w (length w) ≡ Some (n, k)) × (is_fit k (take n w) ≡ true)
+pub decided-token : (d : Dialect) (w : List ℕ) (n : ℕ) (k : Kind) → decided d w ≡ token n k → (longest d w (length w) ≡ Some (n, k)) × (is_fit k (take n w) ≡ true)
 decided-token d [] n k e = absurd (let h : stop complete ≡ token n k = e in cc)
 decided-token d (c ∷ w) n k e = taken (longest d (c ∷ w) (length (c ∷ w))) refl e
   where
@@ -79,7 +57,7 @@ decided-token d (c ∷ w) n k e = taken (longest d (c ∷ w) (length (c ∷ w)))
     taken None l e = absurd (let h : stop no_token ≡ token n k = e in cc)
     taken (Some x) l e = let p = made x (is_fit x.1 (take x.0 (c ∷ w))) refl e in (l ∙ p.0, p.1)
 
-step-decided : (d : Dialect) (limit : ℕ) (t : Tail) (w : List ℕ) (n : ℕ) (k : Kind) → step d limit t w ≡ token n k → decided d w ≡ token n k
+pub step-decided : (d : Dialect) (limit : ℕ) (t : Tail) (w : List ℕ) (n : ℕ) (k : Kind) → step d limit t w ≡ token n k → decided d w ≡ token n k
 unfolding step
 step-decided d limit t w n k e = go (over d limit w) t (is_empty w || is_live d w) e
   where
@@ -101,7 +79,7 @@ pub step-token : (d : Dialect) (limit : ℕ) (t : Tail) (w : List ℕ) (n : ℕ)
 step-token d limit t w n k e =
     let p = decided-token d w n k (step-decided d limit t w n k e) in
     let q = kind-shape d (take n w) k (longest-kind d w (length w) n k p.0) in
-    (q.0, p.1, q.1)
+    (q, p.1, λ x. no_end d (take n w) (subst (λ k. Shape d k (take n w)) x q))
 
 pub step-kind : (d : Dialect) (limit : ℕ) (t : Tail) (w : List ℕ) (n : ℕ) (k : Kind) → step d limit t w ≡ token n k → kind_of d (take n w) ≡ Some k
 step-kind d limit t w n k e = longest-kind d w (length w) n k (decided-token d w n k (step-decided d limit t w n k e)).0

@@ -1,13 +1,18 @@
 -- The laws of token lists.
-use Rattle.std.specs.Prelude.{◌≡◌, ◌≢◌, ℕ, ◌≤◌, ◌+◌, ◌==◌, Bool, false, List, [], ◌∷◌, ◌++◌, length, take, drop, count_by, encode_utf8_all, Option, Some, None, Result, Ok, Err}
+use Rattle.std.specs.Prelude.{◌≡◌, ◌≢◌, ◌↔◌, ◌⊎◌, ℕ, ◌<◌, ◌≤◌, ◌+◌, ◌==◌, Bool, true, false, List, [], ◌∷◌, ◌++◌, length, take, drop, count_by, encode_utf8_all, Option, Some, None, Result, Ok, Err}
 use Rattle.std.specs.List.{All}
+use Rattle.std.specs.Str.{chars}
+use Rattle.std.specs.Str.Lossy.{utf8_valid_len}
 use Rattle.rdf_terms.specs.declared.kind.Dialect.{Dialect}
-use Rattle.rdf_terms.specs.declared.kind.Kind.TheVariants.{End}
+use Rattle.rdf_terms.specs.declared.kind.Kind.{Kind}
+use Rattle.rdf_terms.specs.declared.kind.Kind.TheVariants.{LongString, End}
+use Rattle.rdf_terms.specs.Shapes.{Shape, Live}
+use Rattle.rdf_terms.specs.Values.{is_fit}
 use Rattle.rdf_terms.specs.declared.reason.Reason.{Reason}
 use Rattle.rdf_terms.specs.declared.reason.Reason.TheVariants.{BadUtf8, NoToken, BadEscape, TokenTooLong, Ended}
 use Rattle.rdf_tokens.specs.declared.token.Token.{Token as Given}
 use Rattle.rdf_tokens.specs.declared.token.Fault.{Fault}
-use Rattle.rdf_tokens.specs.Tokens.{Place, Outcome, Token, Reading}
+use Rattle.rdf_tokens.specs.Tokens.{Place, Outcome, Token, Reading, three_quotes, longest}
 use Rattle.rdf_tokens.specs.Tokens.Outcome.{undecided, complete, token_too_long, bad_utf8, no_token, bad_escape}
 use Rattle.rdf_tokens.specs.Good.{tokens_of}
 use Rattle.rdf_tokens.specs.Unread.{Unread}
@@ -85,3 +90,61 @@ EndStandsLast = (d : Dialect) (limit : ℕ) (bytes : List ℕ) (e : Bool) → En
 -- No token has more characters than the limit.
 abbrev pub TokensKeepTheLimit : Type 0
 TokensKeepTheLimit = (d : Dialect) (limit : ℕ) (bytes : List ℕ) (e : Bool) → All (λ t. length t.text ≤ limit) (tokens_of d limit bytes e).tokens
+
+-- The text from a place on, as far as the bytes are characters.
+abbrev pub text_at : List ℕ → Place → List ℕ
+text_at bytes p = chars (drop p.offset (take (utf8_valid_len bytes) bytes))
+
+-- The first n characters of a text may be a token of the kind: they have its shape, and where three quotes come first it is a long string.
+pub record IsFront (d : Dialect) (w : List ℕ) (n : ℕ) (k : Kind) : Type 0 where
+  pub some : 0 < n
+  pub within : n ≤ length w
+  pub shape : Shape d k (take n w)
+  pub long : three_quotes d w ≡ true → k ≡ LongString
+
+-- and no more characters may be a token
+pub record IsLongest (d : Dialect) (w : List ℕ) (n : ℕ) (k : Kind) : Type 0 where
+  pub front : IsFront d w n k
+  pub longest : (m : ℕ) (l : Kind) → IsFront d w m l → m ≤ n
+
+-- no front of the text may be a token
+abbrev pub HasNoFront : Dialect → List ℕ → Type 0
+HasNoFront d w = (n : ℕ) (k : Kind) → IsFront d w n k → ⊥
+
+-- What `longest` answers is the longest front that may be a token, with its kind; it answers none where there is none.
+abbrev pub LongestIsFound : Type 0
+LongestIsFound = (d : Dialect) (w : List ℕ) →
+    ((n : ℕ) (k : Kind) → (longest d w (length w) ≡ Some (n, k)) ↔ IsLongest d w n k) × ((longest d w (length w) ≡ None) ↔ HasNoFront d w)
+
+-- a token is the longest front of the text at its place, or it is the end
+abbrev pub IsLongestIn : Dialect → List ℕ → Token → Type 0
+IsLongestIn d bytes t =
+    (t.kind ≡ End) ⊎ (IsLongest d (text_at bytes t.at) (length t.text) t.kind × (take (length t.text) (text_at bytes t.at) ≡ t.text))
+
+-- Each token is the longest front of the text at its place.
+abbrev pub TokensAreLongest : Type 0
+TokensAreLongest = (d : Dialect) (limit : ℕ) (bytes : List ℕ) (e : Bool) → All (IsLongestIn d bytes) (tokens_of d limit bytes e).tokens
+
+-- a token, or the beginning of one, has more characters than the limit
+pub record IsOver (d : Dialect) (limit : ℕ) (w : List ℕ) : Type 0 where
+  pub more : limit < length w
+  pub front : ((k : Kind) × Shape d k (take (limit + 1) w)) ⊎ Live d (take (limit + 1) w)
+
+-- the longest front has an escape that stands for no character
+abbrev pub IsUnfit : Dialect → List ℕ → Type 0
+IsUnfit d w = (n : ℕ) × (k : Kind) × IsLongest d w n k × (is_fit k (take n w) ≡ false)
+
+-- why the tokens end with an outcome at a place of the bytes, of which more may come or none
+abbrev pub EndsFor : Dialect → ℕ → List ℕ → Bool → Outcome → Place → Type 0
+EndsFor d limit bytes e undecided p = (e ≡ false) × ((text_at bytes p ≡ []) ⊎ Live d (text_at bytes p))
+EndsFor d limit bytes e complete p = (e ≡ true) × (p.offset ≡ length bytes)
+EndsFor d limit bytes e token_too_long p = IsOver d limit (text_at bytes p)
+EndsFor d limit bytes e bad_utf8 p = (p.offset ≡ utf8_valid_len bytes) × (utf8_valid_len bytes < length bytes)
+EndsFor d limit bytes e no_token p = (text_at bytes p ≢ []) × HasNoFront d (text_at bytes p)
+EndsFor d limit bytes e bad_escape p = IsUnfit d (text_at bytes p)
+
+-- Each outcome has its reason: where all was read, its place is the input's length; where bytes are no UTF-8, the first byte after those that are;
+-- where there is no token, no front of the text there has a shape; and where it is undecided, nothing stands there, or the beginning of a shape.
+abbrev pub OutcomesHaveReasons : Type 0
+OutcomesHaveReasons = (d : Dialect) (limit : ℕ) (bytes : List ℕ) (e : Bool) →
+    EndsFor d limit bytes e (tokens_of d limit bytes e).outcome (tokens_of d limit bytes e).at

@@ -1,6 +1,6 @@
 //! The laws of token lists. These functions do nothing: their contracts are the laws.
 
-ghost use Rattle.rdf_tokens.specs.Laws.{MoreBytesOnlyLengthen, GivenTokensAreABeginning, NextTokenIsGiven, TokensStandAtTheirPlaces, TokensHaveShapes, TokensKeepTheLimit, EndStandsLast};
+ghost use Rattle.rdf_tokens.specs.Laws.{MoreBytesOnlyLengthen, GivenTokensAreABeginning, NextTokenIsGiven, TokensStandAtTheirPlaces, TokensHaveShapes, TokensKeepTheLimit, EndStandsLast, LongestIsFound, TokensAreLongest, OutcomesHaveReasons};
 
 /// More bytes, or the end, only lengthen the list of tokens, and change no outcome that is decided.
 pub fn more_bytes_only_lengthen()
@@ -36,4 +36,20 @@ pub fn end_stands_last()
 /// No token has more characters than the limit.
 pub fn tokens_keep_the_limit()
     ensures { TokensKeepTheLimit }
+{}
+
+/// `longest` finds the longest front of a text that has a shape, with its kind, if there is one.
+pub fn longest_is_found()
+    ensures { LongestIsFound }
+{}
+
+/// Each token is the longest front with a shape of the text at its place.
+pub fn tokens_are_longest()
+    ensures { TokensAreLongest }
+{}
+
+/// The outcome and its place have a reason: all was read up to the input's length; the bytes are UTF-8 up to there and
+/// no further; no front of the text there has a shape; or nothing stands there, or the beginning of a token.
+pub fn outcomes_have_reasons()
+    ensures { OutcomesHaveReasons }
 {}

@@ -1,0 +1,48 @@
+-- The laws at short texts: a dot, the beginning of a number, and texts with escapes.
+use Rattle.std.proofs.Common.{◌≡◌, ℕ, true, List, [], ◌∷◌, refl, Some, None}
+use Rattle.std.specs.Prelude.{codes}
+use Rattle.rdf_terms.specs.declared.kind.Dialect.TheVariants.{Turtle}
+use Rattle.rdf_terms.specs.declared.kind.Kind.TheVariants.{Dot, Decimal, ShortString}
+use Rattle.rdf_terms.specs.Classes.{has}
+use Rattle.rdf_terms.specs.Shapes.{Shape, Live, shape, kind_of, is_live}
+use Rattle.rdf_terms.specs.Pieces.{of_string, of_iri, IsPiece, IsLocalPiece, Means}
+use Rattle.rdf_terms.specs.Values.{is_fit}
+use Rattle.rdf_terms.proofs.PiecesLemmas.{string_means, iri_means, local_part_means, fit_means}
+use Rattle.rdf_terms.proofs.KindsLemmas.{one_kind, kind-shape, shape-kind, live-shape, shape-live}
+
+-- `.` is a dot, which is found, and no decimal
+dot_is_dot : Shape Turtle Dot (46 ∷ [])
+unfolding kind_of shape has
+dot_is_dot = kind-shape Turtle (46 ∷ []) Dot refl
+
+dot_is_found : kind_of Turtle (46 ∷ []) ≡ Some Dot
+dot_is_found = shape-kind Turtle (46 ∷ []) Dot dot_is_dot
+
+dot_is_no_decimal : Shape Turtle Decimal (46 ∷ []) → ⊥
+dot_is_no_decimal m = let e : Dot ≡ Decimal = one_kind Turtle Dot Decimal (46 ∷ []) dot_is_dot m in cc
+
+-- a longer token begins with `1`
+one_is_live : Live Turtle (49 ∷ [])
+unfolding is_live shape has
+one_is_live = live-shape Turtle (49 ∷ []) refl
+
+one_is_tested : is_live Turtle (49 ∷ []) ≡ true
+one_is_tested = shape-live Turtle (49 ∷ []) one_is_live
+
+-- a string with a tab and an escaped letter: `a\tb\u0063`
+tab_and_c : Means (IsPiece of_string) (codes "a\\tb\\u0063") (97 ∷ 9 ∷ 98 ∷ 99 ∷ [])
+unfolding has
+tab_and_c = (string_means (codes "a\\tb\\u0063") (97 ∷ 9 ∷ 98 ∷ 99 ∷ [])).0 refl
+
+string_is_fit : is_fit ShortString (codes "\"a\\tb\\u0063\"") ≡ true
+string_is_fit = (fit_means ShortString (codes "\"a\\tb\\u0063\"")).1 (97 ∷ 9 ∷ 98 ∷ 99 ∷ [], tab_and_c)
+
+-- an IRI has no escape of one letter
+no_tab_in_an_iri : (v : List ℕ) → Means (IsPiece of_iri) (codes "a:\\t") v → ⊥
+unfolding has
+no_tab_in_an_iri v m = let e : None ≡ Some v = (iri_means (codes "a:\\t") v).1 m in cc
+
+-- a local part with an escaped tilde
+tilde : Means IsLocalPiece (codes "a\\~") (codes "a~")
+unfolding has
+tilde = (local_part_means (codes "a\\~") (codes "a~")).0 refl
