@@ -28,4 +28,5 @@ mod FinishLemmas
 mod NewLemmas
 mod PromiseLemmas
 mod AcceptedLemmas
-mod WrittenLimits
+pub mod WellFormed
+pub mod WrittenLimits
