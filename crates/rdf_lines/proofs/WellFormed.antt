@@ -43,7 +43,7 @@ all_from : (test : ℕ → Bool) (w : List ℕ) → AllByRecursion (λ c. test c
 all_from test [] a = refl
 all_from test (c ∷ w) a = and_from _ _ a.0 (all_from test w a.1)
 
-matched_scalar : (r : Regex) (w : List ℕ) → Matches r w → all_have scalar w ≡ true
+pub matched_scalar : (r : Regex) (w : List ℕ) → Matches r w → all_have scalar w ≡ true
 matched_scalar r w m = all_from scalar w (each_scalar w (all_used r w m))
   where
     each_scalar : (w : List ℕ) → AllByRecursion (λ c. uses r c ≡ true) w → AllByRecursion (λ c. scalar c ≡ true) w

@@ -46,3 +46,6 @@ pub mod AcceptLemmas
 pub mod StepLemmas
 pub mod NewReaderLemmas
 pub mod WholeLemmas
+mod WrittenParts
+mod WrittenSteps
+mod WrittenLimits
