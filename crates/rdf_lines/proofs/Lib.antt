@@ -27,6 +27,6 @@ mod FeedsLemmas
 mod FinishLemmas
 mod NewLemmas
 mod PromiseLemmas
-mod AcceptedLemmas
+pub mod AcceptedLemmas
 pub mod WellFormed
 pub mod WrittenLimits

@@ -13,7 +13,7 @@ use Rattle.rdf_iri.specs.Scope.{InForce}
 use Rattle.rdf_lines.specs.Lines.{Leaf, leaf_of}
 use Rattle.rdf_trig.specs.declared.form.DocForm.{DocForm}
 use Rattle.rdf_trig.specs.declared.form.DocForm.TheVariants.{Turtle, TriG}
-use Rattle.rdf_trig.specs.Names.{reference_in, name_in, with_base, with_binding}
+use Rattle.rdf_trig.specs.Names.{prefix_of, reference_in, name_in, with_base, with_binding}
 use Rattle.rdf_trig.specs.Quads.{Setting, in_default, in_graph, named, node, resource, anon_at, labelled, short_value, long_value, tag_of, plain_literal, tagged_literal, typed_literal, cell_at, rest_quad}
 use Rattle.rdf_trig.specs.Events.{itself}
 use Rattle.rdf_trig.specs.Machine.{Level, Top, InBlock, Place, Listed, InCells, Around, Statement, Boxed, Up, Subject, At, Spelling, Dotted, Sparql, Mode, Start, Over, WantPrefix, WantPrefixIri, WantBaseIri, WantDot, AfterLabel, GraphWord, GraphBox, WantBrace, Inside, Want, After, AfterText, WantType, Box, Paren, WantVerb, Semi, AfterBox, Reply, No, Go, subject_at, verb_at, quad_at, quad_up, nil, iri_object_at, literal_at, object_start, type_at, want_type, verb_is, verb_start, after_subject, node_closed, box_closed, list_closed, list_end, semi, after, tag_at, after_text, box, paren, after_box, subject_is, subject_start, start, inside, want_brace, after_label, graph_is, graph_word, graph_box, directive_end, want_prefix, want_prefix_iri, want_base_iri, want_dot, step, waiting}
@@ -262,7 +262,7 @@ module _ (r : Room) where
 
   -- Directives.
   prefix_fits : (c : Setting) (w : Spelling) (k : Kind) (l : Leaf) → FitSetting c → FitReply (want_prefix c w k l)
-  prefix_fits c w PnameNs l f = goes_fits c (WantPrefixIri w _) f tt
+  prefix_fits c w PnameNs l f = goes_fits c (WantPrefixIri w (prefix_of l)) f tt
   prefix_fits c w k l f = tt
 
   end_mode : (w : Spelling) → FitMode (directive_end w)
@@ -333,9 +333,9 @@ module _ (r : Room) where
   kept_fits (Some q) qs f g = (f, g)
 
   pub record FitState (s : State) : Type 0 where
-    setting : FitSetting s.setting
-    mode : FitMode s.mode
-    held : AllFit s.held
+    pub setting : FitSetting s.setting
+    pub mode : FitMode s.mode
+    pub held : AllFit s.held
 
   accepted_fits : (form : DocForm) (s n : State) (t : Token) (qs : List Quad) → accept form s t.kind (leaf_of t) ≡ accepts qs n → Good r t.kind (leaf_of t) → FitState s →
       AllFit qs × FitState n
@@ -352,11 +352,12 @@ module _ (r : Room) where
   pub given_fit : (form : DocForm) (ts : List Token) (s n : State) (qs : List Quad) → accept_all form s ts ≡ ran n qs → AllByRecursion (λ t. Good r t.kind (leaf_of t)) ts → FitState s →
       AllFit qs
   given_fit form [] s n qs x g f = let z : ran s [] ≡ ran n qs = x in let y : [] ≡ qs = cc in subst AllFit y tt
-  given_fit form (t ∷ ts) s n qs x g f = by (accept form s t.kind (leaf_of t)) refl x
+  given_fit form (t ∷ ts) s n qs x g f = by (accept form s t.kind (leaf_of t)) refl x (λ m rs z i. given_fit form ts m n rs z g.1 i)
     where
-      by : (a : Answer) → accept form s t.kind (leaf_of t) ≡ a → go a (λ m. accept_all form m ts) ≡ ran n qs → AllFit qs
-      by (refuses y) h z = absurd (let v : refused y ≡ ran n qs = z in cc)
-      by (accepts gs m) h z =
+      by : (a : Answer) → accept form s t.kind (leaf_of t) ≡ a → go a (λ m. accept_all form m ts) ≡ ran n qs →
+          ((m : State) (rs : List Quad) → accept_all form m ts ≡ ran n rs → FitState m → AllFit rs) → AllFit qs
+      by (refuses y) h z ih = absurd (let v : refused y ≡ ran n qs = z in cc)
+      by (accepts gs m) h z ih =
           let p = first_ran gs (accept_all form m ts) n qs z in
           let i = accepted_fits form s m t gs h g.0 f in
-          subst AllFit (sym p.2) (both_fit gs p.0 i.0 (given_fit form ts m n p.0 p.1 g.1 i.1))
+          subst AllFit (sym p.2) (both_fit gs p.0 i.0 (ih m p.0 p.1 i.1))
