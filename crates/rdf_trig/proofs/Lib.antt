@@ -49,3 +49,4 @@ pub mod WholeLemmas
 mod WrittenParts
 mod WrittenSteps
 mod WrittenLimits
+mod WrittenExamples

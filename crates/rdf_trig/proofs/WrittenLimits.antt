@@ -1,5 +1,5 @@
 -- What is written for a document is read to its end, with limits that are a little higher.
-use Rattle.std.proofs.Common.{◌≡◌, ℕ, ◌+◌, ◌*◌, ◌^◌, ◌<◌, ◌≤◌, true, List, [], ◌∷◌, length, Option, Some, None, option_map, refl, sym, subst, arith, lit≤}
+use Rattle.std.proofs.Common.{◌≡◌, ℕ, ◌+◌, ◌*◌, ◌^◌, ◌≤◌, true, List, [], ◌∷◌, length, Option, Some, None, option_map, refl, sym, subst, arith, lit≤}
 use Rattle.std.specs.Prelude.{map, IfSome}
 use Rattle.std.specs.List.{AllByRecursion}
 use Rattle.rdf_terms.specs.declared.kind.Dialect.TheVariants.{Turtle as turtle}
@@ -13,7 +13,7 @@ use Rattle.rdf_tokens.proofs.LimitLemmas.{no_longer}
 use Rattle.rdf_iri.specs.Scope.{InForce}
 use Rattle.rdf_lines.specs.Lines.{leaf_of}
 use Rattle.rdf_lines.specs.declared.form.Style.TheVariants.{Tagged}
-use Rattle.rdf_lines.specs.Writing.{CanWriteSubject, CanWriteTerm, CanWriteGraph, CanWrite, Writable, subject_text, rename_subject, rename_term, rename}
+use Rattle.rdf_lines.specs.Writing.{CanWriteSubject, CanWriteTerm, CanWriteGraph, Writable, subject_text, rename_subject, rename_term, rename}
 use Rattle.rdf_lines.specs.Laws.{SubjectWithin, TailWithin, TermWithin, GraphWithin, IrisWithin, TailShort, TermShort, GraphShort, TokensWithin}
 use Rattle.rdf_lines.proofs.AcceptedLemmas.{text_read}
 use Rattle.rdf_lines.proofs.WellFormed.{each}
@@ -52,8 +52,7 @@ module _ (r : Room) where
   writable (q ∷ qs) f =
       let s = subject_formed q.subject f.0.0 in
       let o = term_formed q.object f.0.2 in
-      let g = graph_formed q.graph f.0.3 in
-      (
+      let g = graph_formed q.graph f.0.3 in (
         (record { subject = s.0; predicate = f.0.1.0; object = o.0; graph = g.0 }, record { subject = s.1; object = o.1; graph = g.1 }),
         writable qs f.1,
       )

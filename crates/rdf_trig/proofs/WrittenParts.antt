@@ -1,18 +1,18 @@
 -- What the machine gives out is well formed, and as it is written none of its tokens is much longer than one that was read.
-use Rattle.std.proofs.Common.{◌≡◌, ◌≢◌, ℕ, ◌+◌, ◌-◌, ◌*◌, ◌^◌, ◌<◌, ◌≤◌, Bool, true, false, cond, List, [], ◌∷◌, ◌++◌, ◌==◌, length, drop, Option, Some, None, option_map, unwrap_or, refl, sym, ap, ◌∙◌, subst, ⊎_elim, arith, lit<, lit≤, length-append, length-drop}
+use Rattle.std.proofs.Common.{◌≡◌, ◌≢◌, ℕ, ◌+◌, ◌*◌, ◌^◌, ◌<◌, ◌≤◌, Bool, true, false, cond, List, [], ◌∷◌, ◌++◌, ◌==◌, length, Option, Some, None, option_map, unwrap_or, refl, sym, ap, ◌∙◌, subst, ⊎_elim, arith, lit<, lit≤, length-append, length-drop}
 use Rattle.std.specs.Prelude.{codes, flat_map, decimal, IfSome}
 use Rattle.std.specs.List.{AllByRecursion}
 use Rattle.std.proofs.Math.Utf8.{encode}
 use Rattle.std.proofs.lemmas.Fmt.{length-decimal-le}
-use Rattle.std.proofs.lemmas.Bool.{cases_Bool, cond-true, cond-false, cond_both, eqb-true, false≢true, ltb-false}
+use Rattle.std.proofs.lemmas.Bool.{cond-true, cond-false, cond_both, eqb-true, false≢true, ltb-false}
 use Rattle.rdf_terms.specs.Classes.{has, scalar}
 use Rattle.rdf_terms.specs.Classes.Class.{iri_char}
 use Rattle.rdf_terms.specs.Regex.{Regex, Matches}
 use Rattle.rdf_terms.specs.declared.kind.Dialect.TheVariants.{Turtle as turtle}
 use Rattle.rdf_terms.specs.declared.kind.Kind.{Kind}
-use Rattle.rdf_terms.specs.declared.kind.Kind.TheVariants.{IriRef, LabelNode, ShortString, LongString, LangTag, Carets, Dot, Integer, Decimal, Double, True, False, A, AtPrefix, AtBase, Prefix, Base, Graph, PnameNs, PnameLn, Semicolon, Comma, OpenBracket, CloseBracket, OpenParen, CloseParen, OpenBrace, CloseBrace, End}
+use Rattle.rdf_terms.specs.declared.kind.Kind.TheVariants.{LabelNode, ShortString, LongString, Integer, Decimal, Double, End}
 use Rattle.rdf_terms.specs.Shapes.{shape, Shape}
-use Rattle.rdf_terms.specs.Values.{iri_value, local_value, string_value, inside}
+use Rattle.rdf_terms.specs.Values.{iri_value, local_value, inside}
 use Rattle.rdf_terms.specs.Known.{known_chars}
 use Rattle.rdf_terms.specs.declared.constants.Known.{Known}
 use Rattle.rdf_terms.specs.declared.constants.Known.TheVariants.{RdfType, RdfFirst, RdfRest, RdfNil, XsdString, XsdInteger, XsdDecimal, XsdDouble, XsdBoolean}
@@ -35,7 +35,7 @@ use Rattle.rdf_lines.specs.Writing.{escaped, rename_node, node_text, iri_text, s
 use Rattle.rdf_lines.proofs.WellFormed.{matched_scalar, string_scalars}
 use Rattle.rdf_lines.proofs.WrittenLimits.{string_short, written_string, written_iri}
 use Rattle.rdf_trig.specs.Names.{reference_in, name_in, prefix_of, local_of, with_base, with_binding}
-use Rattle.rdf_trig.specs.Quads.{stated, named, node, resource, anon_at, labelled, short_value, long_value, tag_of, plain_literal, tagged_literal, typed_literal}
+use Rattle.rdf_trig.specs.Quads.{stated, named, resource, labelled, short_value, long_value, tag_of, typed_literal}
 use Rattle.rdf_trig.specs.Events.{Use, itself, stands, binds}
 use Rattle.rdf_trig.specs.Laws.{HasIris}
 use Rattle.rdf_trig.specs.Spelled.{SpellsTag}
