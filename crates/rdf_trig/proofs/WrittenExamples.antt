@@ -78,7 +78,7 @@ small_iris = record { base = tt; bindings = λ prefix iri e. absurd (let z : Non
 
 -- its quad can be written, with a name for the node
 pub nameless_is_writable : Writable Tagged nameless_quads
-nameless_is_writable = document_writable Turtle small nameless nameless_quads small_iris (lit≤ tt) nameless_is nameless_whole
+nameless_is_writable = document_writable Turtle small nameless nameless_quads small_iris (lit≤ tt) nameless_is
 
 pub nameless_text : text Tagged nameless_quads ≡ codes "<a:> <a:> _:a10 .\n"
 unfolding digits

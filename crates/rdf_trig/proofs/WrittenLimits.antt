@@ -1,5 +1,6 @@
 -- What is written for a document is read to its end, with limits that are a little higher.
-use Rattle.std.proofs.Common.{◌≡◌, ℕ, ◌+◌, ◌*◌, ◌^◌, ◌≤◌, true, List, [], ◌∷◌, length, Option, Some, None, option_map, refl, sym, subst, arith, lit≤}
+use Rattle.std.proofs.Common.{◌≡◌, ℕ, ◌+◌, ◌*◌, ◌^◌, ◌≤◌, true, List, [], ◌∷◌, ◌++◌, length, Option, Some, None, option_map, inl, inr, ⊎_elim, refl, sym, ap, ◌∙◌, subst, append_assoc, arith, lit≤}
+use Rattle.std.proofs.lemmas.Bool.{cases_lt}
 use Rattle.std.specs.Prelude.{map, IfSome}
 use Rattle.std.specs.List.{AllByRecursion}
 use Rattle.rdf_terms.specs.declared.kind.Dialect.TheVariants.{Turtle as turtle}
@@ -7,9 +8,11 @@ use Rattle.rdf_terms.specs.Terms.{Node, Label, Anon, Cell, Tail, Lang, Typed, Bl
 use Rattle.rdf_terms.specs.Terms as term
 use Rattle.rdf_tokens.specs.Tokens.{Token}
 use Rattle.rdf_tokens.specs.Scans.{IsToken, most_bytes}
+use Rattle.rdf_tokens.specs.Grammars.{unmarked, PassesNone}
 use Rattle.rdf_tokens.specs.Laws.{StandsIn}
 use Rattle.rdf_tokens.proofs.LawLemmas.{have_shapes, places}
 use Rattle.rdf_tokens.proofs.LimitLemmas.{no_longer}
+use Rattle.rdf_iri.specs.Texts.{byte_len}
 use Rattle.rdf_iri.specs.Scope.{InForce}
 use Rattle.rdf_lines.specs.Lines.{leaf_of}
 use Rattle.rdf_lines.specs.declared.form.Style.TheVariants.{Tagged}
@@ -18,18 +21,17 @@ use Rattle.rdf_lines.specs.Laws.{SubjectWithin, TailWithin, TermWithin, GraphWit
 use Rattle.rdf_lines.proofs.AcceptedLemmas.{text_read}
 use Rattle.rdf_lines.proofs.WellFormed.{each}
 use Rattle.rdf_trig.specs.declared.form.DocForm.{DocForm}
-use Rattle.rdf_trig.specs.Machine.{at_start}
+use Rattle.rdf_trig.specs.Trees.{Document, document_tokens}
+use Rattle.rdf_trig.specs.Events.{Use, itself, stands, binds, Event, Took, Gave, tokens, Bound, document_events}
+use Rattle.rdf_trig.specs.Documents.{IsLong, Passes, InTree}
 use Rattle.rdf_trig.specs.Readings.{reading, IsDocumentOf}
-use Rattle.rdf_trig.specs.Readers.{IsWhole}
 use Rattle.rdf_trig.specs.Laws.{HasIris, DocumentIsWritable, WrittenDocumentIsRead}
-use Rattle.rdf_trig.proofs.Exact.{document_accepted}
-use Rattle.rdf_trig.proofs.WrittenParts.{Room, FitSubject, FitTail, FitTerm, FitQuad, Good}
-use Rattle.rdf_trig.proofs.WrittenSteps.{FitState, given_fit}
+use Rattle.rdf_trig.proofs.TokensOfEvents.{document_told}
+use Rattle.rdf_trig.proofs.Senses.{tokens_behind}
+use Rattle.rdf_trig.proofs.WrittenParts.{Room, FitSubject, FitTail, FitTerm, Good, Within}
+use Rattle.rdf_trig.proofs.WrittenSteps.{AllWithin, AllFit, tree_fits}
 
 module _ (r : Room) where
-  abbrev AllFit : List Quad → Type 0
-  AllFit qs = AllByRecursion (FitQuad r) qs
-
   -- What fits is well formed, and within the limits as it is written.
   subject_formed : (s : term.Subject) → FitSubject r s → IsSubject s × CanWriteSubject Tagged s
   subject_formed (term.Iri i) f = (f.0, tt)
@@ -47,7 +49,7 @@ module _ (r : Room) where
   graph_formed None f = (tt, tt)
   graph_formed (Some g) f = subject_formed g f
 
-  writable : (qs : List Quad) → AllFit qs → Writable Tagged qs
+  writable : (qs : List Quad) → AllFit r qs → Writable Tagged qs
   writable [] f = tt
   writable (q ∷ qs) f =
       let s = subject_formed q.subject f.0.0 in
@@ -73,14 +75,14 @@ module _ (r : Room) where
   graph_within None f = (tt, tt)
   graph_within (Some g) f = subject_within g f
 
-  iris : (qs : List Quad) → AllFit qs → AllByRecursion (IrisWithin r.iri_then) qs
+  iris : (qs : List Quad) → AllFit r qs → AllByRecursion (IrisWithin r.iri_then) qs
   iris [] f = tt
   iris (q ∷ qs) f = (
     record { subject = (subject_within q.subject f.0.0).0; predicate = f.0.1.1; object = (term_within q.object f.0.2).0; graph = (graph_within q.graph f.0.3).0 },
     iris qs f.1,
   )
 
-  shorts : (qs : List Quad) → AllFit qs → AllByRecursion (TokensWithin r.most_then) (map (rename Tagged) qs)
+  shorts : (qs : List Quad) → AllFit r qs → AllByRecursion (TokensWithin r.most_then) (map (rename Tagged) qs)
   shorts [] f = tt
   shorts (q ∷ qs) f = (
     record { subject = (subject_within q.subject f.0.0).1; predicate = f.0.1.2; object = (term_within q.object f.0.2).1; graph = (graph_within q.graph f.0.3).1 },
@@ -96,24 +98,38 @@ module _ (r : Room) where
       let at = z.0.place.within in
       ((x.0, y.0, omega arith), all_good bytes l ts x.1 y.1 z.1)
 
-  document_fits : (form : DocForm) (start : InForce) (bytes : List ℕ) (qs : List Quad) → r.most ≡ start.limits.token → start.limits.iri ≡ r.iri → HasIris start →
-      length bytes ≤ most_bytes → IsDocumentOf form start bytes qs → IsWhole form start bytes → AllFit qs
-  document_fits form start bytes qs m n h l d w =
+  document_fits : (form : DocForm) (start : InForce) (bytes : List ℕ) (qs : List Quad) → r.most ≡ start.limits.token → HasIris start → length bytes ≤ most_bytes →
+      (d : IsDocumentOf form start bytes qs) → AllWithin r (document_events start d.2.tree) → AllFit r qs
+  document_fits form start bytes qs m h l d w =
       let limit = start.limits.token in
       let ts = (reading start bytes true).tokens in
       let x = subst (λ k. AllByRecursion (λ t. length t.text ≤ k) ts) (sym m) (each (λ t. length t.text ≤ limit) ts (no_longer turtle limit bytes true)) in
       let g = all_good bytes l ts x (each (IsToken turtle) ts (have_shapes turtle limit bytes true)) (each (StandsIn bytes) ts (places turtle limit bytes true).0) in
-      let run = document_accepted form start ts d.1 d.2 w.front.kept in
-      let begins : FitState r (at_start start) = record { setting = (h, n, tt); mode = tt; held = tt } in
-      subst AllFit d.3 (given_fit r form ts (at_start start) run.0 _ run.1 g begins)
+      let tree = d.2.tree in
+      subst (AllFit r) (ap unmarked d.2.quads ∙ d.3) (tree_fits r form start tree h (subst (AllByRecursion (λ t. Good r t.kind (leaf_of t))) d.2.tokens g) w)
 
--- limits that suffice, whatever the document's are
-abbrev ample : InForce → Room
-ample start = record {
-  most = start.limits.token;
-  iri = start.limits.iri;
-  most_then = 2 * start.limits.token + start.limits.iri + 64;
-  iri_then = start.limits.iri + 64;
+-- The bytes of all IRIs that tokens stand for: none of them has more.
+abbrev all_bytes : List Event → ℕ
+all_bytes [] = 0
+all_bytes (Took t (stands (Some i)) ∷ es) = byte_len i + all_bytes es
+all_bytes (Took t u ∷ es) = all_bytes es
+all_bytes (Gave q ∷ es) = all_bytes es
+
+bytes_within : (r : Room) (es : List Event) → all_bytes es ≤ r.iri → AllWithin r es
+bytes_within r [] l = tt
+bytes_within r (Took t itself ∷ es) l = (tt, bytes_within r es l)
+bytes_within r (Took t (stands None) ∷ es) l = (tt, bytes_within r es l)
+bytes_within r (Took t (stands (Some i)) ∷ es) l = (omega arith, bytes_within r es (omega arith))
+bytes_within r (Took t (binds full i) ∷ es) l = (tt, bytes_within r es l)
+bytes_within r (Gave q ∷ es) l = bytes_within r es l
+
+-- limits that suffice for IRIs of so many bytes
+abbrev ample : ℕ → ℕ → Room
+ample most iri = record {
+  most = most;
+  iri = iri;
+  most_then = 2 * most + iri + 64;
+  iri_then = iri + 64;
   twice = omega arith;
   brackets = omega arith;
   least = omega arith;
@@ -122,7 +138,29 @@ ample start = record {
 }
 
 pub document_writable : DocumentIsWritable
-document_writable form start bytes qs h l d w = writable (ample start) qs (document_fits (ample start) form start bytes qs refl refl h l d w)
+document_writable form start bytes qs h l d =
+    let es = document_events start d.2.tree in
+    let r = ample start.limits.token (all_bytes es) in
+    writable r qs (document_fits r form start bytes qs refl h l d (bytes_within r es (omega arith)))
+
+-- In a document of which no token passes a limit, each IRI that one stands for is within it.
+module _ (r : Room) (form : DocForm) (start : InForce) (same : r.iri ≡ start.limits.iri) (d : Document form) (bound : Bound (document_events start d))
+    (kept : PassesNone (Passes form start) (document_tokens d)) where
+  use_within : (u : Use) → (IsLong start.limits u → ⊥) → Within r u
+  use_within itself n = tt
+  use_within (stands None) n = tt
+  use_within (stands (Some i)) n = ⊎_elim (λ x. absurd (n x)) (λ x. omega (arith, x, same)) (cases_lt start.limits.iri (byte_len i))
+  use_within (binds full i) n = tt
+
+  kept_within : (front es : List Event) → document_events start d ≡ front ++ es → AllWithin r es
+  kept_within front [] e = tt
+  kept_within front (Gave q ∷ es) e = kept_within (front ++ Gave q ∷ []) es (e ∙ sym (append_assoc front (Gave q ∷ []) es))
+  kept_within front (Took t u ∷ es) e =
+      let place : InTree form start (tokens front) t u = record { tree = d; front = front; rest = es; events = e; read = refl } in
+      let told : document_tokens d ≡ tokens front ++ t ∷ tokens es = sym (document_told d start) ∙ ap tokens e ∙ tokens_behind front t u es in (
+        use_within u (λ x. kept (tokens front) (tokens es) t told (u, record { place = place; bound = bound }, inr (inl x))),
+        kept_within (front ++ Took t u ∷ []) es (e ∙ sym (append_assoc front (Took t u ∷ []) es)),
+      )
 
 pub document_read_back : WrittenDocumentIsRead
 document_read_back form start bytes qs h l d w token_then iri_then a b c e f =
@@ -137,5 +175,7 @@ document_read_back form start bytes qs h l d w token_then iri_then a b c e f =
       higher = e;
       least_iri = f;
     } in
-    let fits = document_fits r form start bytes qs refl refl h l d w in
+    let tree = d.2.tree in
+    let within = kept_within r form start refl tree d.2.bound (subst (PassesNone (Passes form start)) d.2.tokens w.front.kept) [] (document_events start tree) refl in
+    let fits = document_fits r form start bytes qs refl h l d within in
     text_read Tagged qs token_then iri_then (writable r qs fits) (omega arith) (shorts r qs fits) (iris r qs fits)

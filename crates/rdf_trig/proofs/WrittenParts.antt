@@ -4,7 +4,7 @@ use Rattle.std.specs.Prelude.{codes, flat_map, decimal, IfSome}
 use Rattle.std.specs.List.{AllByRecursion}
 use Rattle.std.proofs.Math.Utf8.{encode}
 use Rattle.std.proofs.lemmas.Fmt.{length-decimal-le}
-use Rattle.std.proofs.lemmas.Bool.{cond-true, cond-false, cond_both, eqb-true, false≢true, ltb-false}
+use Rattle.std.proofs.lemmas.Bool.{cond-true, cond-false, cond_both, eqb-true, false≢true}
 use Rattle.rdf_terms.specs.Classes.{has, scalar}
 use Rattle.rdf_terms.specs.Classes.Class.{iri_char}
 use Rattle.rdf_terms.specs.Regex.{Regex, Matches}
@@ -23,7 +23,6 @@ use Rattle.rdf_terms.proofs.ValuesLemmas.{iri_value_characters}
 use Rattle.rdf_terms.proofs.LocalLemmas.{local-means}
 use Rattle.rdf_terms.proofs.UsedCharacters.{uses, all_used}
 use Rattle.rdf_tokens.specs.Scans.{IsToken}
-use Rattle.rdf_iri.specs.Limits.{Sizes}
 use Rattle.rdf_iri.specs.Texts.{byte_len, equal, after}
 use Rattle.rdf_iri.specs.Resolve.{resolved, based}
 use Rattle.rdf_iri.specs.Scope.{InForce, bound_to}
@@ -39,7 +38,6 @@ use Rattle.rdf_trig.specs.Quads.{stated, named, resource, labelled, short_value,
 use Rattle.rdf_trig.specs.Events.{Use, itself, stands, binds}
 use Rattle.rdf_trig.specs.Laws.{HasIris}
 use Rattle.rdf_trig.specs.Spelled.{SpellsTag}
-use Rattle.rdf_trig.proofs.Accepted.{Fits}
 use Rattle.rdf_trig.proofs.NamesLemmas.{binds_prefix}
 use Rattle.rdf_trig.proofs.SpelledLemmas.{label_in, spelled_tag}
 
@@ -90,14 +88,6 @@ binding_iris s p (Some i) h f = record { base = h.base; bindings = λ q v e. by 
     by : (q v : List ℕ) (b : Bool) → equal p q ≡ b → cond (equal p q) (Some i) (bound_to s.bindings q) ≡ Some v → IsIri v
     by q v true t e = let z : Some i ≡ Some v = sym (cond-true (equal p q) (Some i) (bound_to s.bindings q) t) ∙ e in subst IsIri (ap (λ o. unwrap_or o []) z) f
     by q v false t e = h.bindings q v (sym (cond-false (equal p q) (Some i) (bound_to s.bindings q) t) ∙ e)
-
-pub base_limits : (s : InForce) (i : Option (List ℕ)) → (with_base s i).limits ≡ s.limits
-base_limits s None = refl
-base_limits s (Some i) = refl
-
-pub binding_limits : (s : InForce) (p : List ℕ) (i : Option (List ℕ)) → (with_binding s p i).limits ≡ s.limits
-binding_limits s p None = refl
-binding_limits s p (Some i) = refl
 
 known_bytes : (k : Known) → byte_len (known_chars k) ≤ 62
 unfolding known_chars encode
@@ -206,12 +196,6 @@ module _ (r : Room) where
   Within (stands None) = Unit
   Within (stands (Some i)) = byte_len i ≤ r.iri
   Within (binds full i) = Unit
-
-  pub within : (sizes : Sizes) (u : Use) → sizes.iri ≡ r.iri → Fits sizes u → Within u
-  within sizes itself h f = tt
-  within sizes (stands None) h f = tt
-  within sizes (stands (Some i)) h f = let l = ltb-false sizes.iri (byte_len i) f in omega (arith, l, h)
-  within sizes (binds full i) h f = tt
 
   pub known_fits : (k : Known) → FitIri (known_chars k)
   known_fits k = let n = known_bytes k in let w = written_iri (known_chars k) in (IsIri-known_chars k, omega (arith, r.twice, r.brackets, r.least, r.higher, r.least_iri), omega (arith, r.twice, r.brackets, r.least, r.higher, r.least_iri))

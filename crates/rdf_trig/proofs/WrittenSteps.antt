@@ -1,5 +1,5 @@
 -- Each step of the machine gives quads that can be written within the limits, and keeps parts of quads that can.
-use Rattle.std.proofs.Common.{◌≡◌, ◌≢◌, ℕ, ◌^◌, ◌<◌, List, [], ◌∷◌, ◌++◌, Option, Some, None, refl, sym, ap, ◌∙◌, subst}
+use Rattle.std.proofs.Common.{◌≡◌, ◌≢◌, ℕ, ◌+◌, ◌^◌, ◌<◌, true, List, [], ◌∷◌, Option, Some, None, sym, subst}
 use Rattle.std.specs.Prelude.{codes, IfSome}
 use Rattle.std.specs.List.{AllByRecursion}
 use Rattle.rdf_terms.specs.declared.kind.Kind.{Kind}
@@ -9,18 +9,24 @@ use Rattle.rdf_terms.specs.declared.constants.Known.TheVariants.{RdfType, RdfFir
 use Rattle.rdf_terms.specs.Terms.{Node, Anon, Cell, Blank, Term, Quad, IsIri}
 use Rattle.rdf_terms.specs.Terms as term
 use Rattle.rdf_tokens.specs.Tokens.{Token}
+use Rattle.rdf_tokens.specs.Grammars.{unmarked}
+use Rattle.rdf_iri.specs.Scope.{InForce}
 use Rattle.rdf_lines.specs.Lines.{Leaf, leaf_of}
 use Rattle.rdf_trig.specs.declared.form.DocForm.{DocForm}
 use Rattle.rdf_trig.specs.declared.form.DocForm.TheVariants.{Turtle, TriG}
 use Rattle.rdf_trig.specs.Names.{prefix_of, reference_in, name_in}
-use Rattle.rdf_trig.specs.Quads.{Setting, in_default, in_graph, named, node, resource, anon_at, labelled, tag_of, plain_literal, tagged_literal, typed_literal, cell_at, rest_quad}
-use Rattle.rdf_trig.specs.Events.{itself}
+use Rattle.rdf_trig.specs.Trees.{Document, document_tokens}
+use Rattle.rdf_trig.specs.Quads.{document_quads, Setting, in_default, in_graph, named, node, resource, anon_at, labelled, tag_of, plain_literal, tagged_literal, typed_literal, cell_at, rest_quad}
+use Rattle.rdf_trig.specs.Events.{itself, Event, Took, Gave, give, marked, document_events}
 use Rattle.rdf_trig.specs.Machine.{Level, Top, InBlock, Place, Listed, InCells, Around, Statement, Boxed, Up, Subject, At, Spelling, Dotted, Sparql, Mode, Start, Over, WantPrefix, WantPrefixIri, WantBaseIri, WantDot, AfterLabel, GraphWord, GraphBox, WantBrace, Inside, Want, After, AfterText, WantType, Box, Paren, WantVerb, Semi, AfterBox, Reply, No, Go, subject_at, verb_at, quad_at, quad_up, nil, iri_object_at, literal_at, object_start, type_at, want_type, verb_is, verb_start, after_subject, node_closed, box_closed, list_closed, list_end, semi, after, tag_at, after_text, box, paren, after_box, subject_is, subject_start, start, inside, want_brace, after_label, graph_is, graph_word, graph_box, directive_end, want_prefix, want_prefix_iri, want_base_iri, want_dot, step, waiting}
-use Rattle.rdf_trig.specs.Machine.{kept, State, Answer, refuses, accepts, accept, ran, refused, go, accept_all}
+use Rattle.rdf_trig.specs.Machine.{stop, fronted, go_on, run}
 use Rattle.rdf_trig.specs.Spelled.{SpellsTag}
 use Rattle.rdf_trig.specs.Laws.{HasIris}
-use Rattle.rdf_trig.proofs.Accepted.{accepted, first_ran}
-use Rattle.rdf_trig.proofs.WrittenParts.{Room, FitIri, FitSubject, FitWord, FitTerm, FitQuad, Good, Within, within, known_fits, named_fits, subject_named, resource_fits, typed_fits, stated_fits, anon_fits, cell_fits, label_fits, short_fits, long_fits, integer_fits, decimal_fits, double_fits, true_fits, false_fits, tag_fits, reference_iri, name_iri, base_iris, binding_iris, base_limits, binding_limits}
+use Rattle.rdf_trig.proofs.Sound.{unput}
+use Rattle.rdf_trig.proofs.Reached.{run_tree}
+use Rattle.rdf_trig.proofs.TokensOfEvents.{document_told}
+use Rattle.rdf_trig.proofs.MarksOfEvents.{document_marks}
+use Rattle.rdf_trig.proofs.WrittenParts.{Room, FitIri, FitSubject, FitWord, FitTerm, FitQuad, Good, Within, known_fits, named_fits, subject_named, resource_fits, typed_fits, stated_fits, anon_fits, cell_fits, label_fits, short_fits, long_fits, integer_fits, decimal_fits, double_fits, true_fits, false_fits, tag_fits, reference_iri, name_iri, base_iris, binding_iris}
 
 module _ (r : Room) where
   abbrev IsSubject : Option term.Subject → Type 0
@@ -29,9 +35,9 @@ module _ (r : Room) where
   abbrev IsQuad : Option Quad → Type 0
   IsQuad q = IfSome q (FitQuad r)
 
-  -- the scope has IRIs and the limit, and the graph's label can be written
+  -- the scope has IRIs, and the graph's label can be written
   abbrev FitSetting : Setting → Type 0
-  FitSetting c = HasIris c.scope × (c.scope.limits.iri ≡ r.iri) × IfSome c.graph IsSubject
+  FitSetting c = HasIris c.scope × IfSome c.graph IsSubject
 
   -- what a mode holds can be written
   abbrev mutual
@@ -68,11 +74,11 @@ module _ (r : Room) where
   FitReply (Go u early now c m) = Within r u → IsQuad early × IsQuad now × FitSetting c × FitMode m
 
   default_fits : (c : Setting) → FitSetting c → FitSetting (in_default c.scope)
-  default_fits c f = (f.0, f.1, tt)
+  default_fits c f = (f.0, tt)
 
   graph_fits : (c : Setting) (g : Option term.Subject) → FitSetting c → IsSubject g → FitSetting (in_graph c.scope g)
-  graph_fits c None f h = (f.0, f.1, tt)
-  graph_fits c (Some g) f h = (f.0, f.1, h)
+  graph_fits c None f h = (f.0, tt)
+  graph_fits c (Some g) f h = (f.0, h)
 
   -- Quads.
   subject_fits : (p : Place) → FitPlace p → IsSubject (subject_at p)
@@ -84,14 +90,14 @@ module _ (r : Room) where
   verb_fits (InCells i n u) f = known_fits r RdfFirst
 
   quad_fits : (c : Setting) (p : Place) (o : Option Term) → FitSetting c → FitPlace p → IfSome o (FitTerm r) → IsQuad (quad_at c p o)
-  quad_fits c p o f g h = stated_fits r c.graph (subject_at p) (verb_at p) o f.2 (subject_fits p g) (verb_fits p g) h
+  quad_fits c p o f g h = stated_fits r c.graph (subject_at p) (verb_at p) o f.1 (subject_fits p g) (verb_fits p g) h
 
   up_fits : (c : Setting) (u : Up) (s : term.Subject) → FitSetting c → FitUp u → FitSubject r s → IsQuad (quad_up c u s)
   up_fits c (Subject v) s f g h = tt
   up_fits c (At p) s f g h = quad_fits c p (resource (Some s)) f g h
 
   rest_fits : (c : Setting) (n : ℕ) (s : term.Subject) → FitSetting c → n < 2 ^ 64 → FitSubject r s → IsQuad (rest_quad c (Cell n) s)
-  rest_fits c n s f h g = stated_fits r c.graph (node (Cell n)) (Some (known_chars RdfRest)) (resource (Some s)) f.2 (cell_fits r n h) (known_fits r RdfRest) g
+  rest_fits c n s f h g = stated_fits r c.graph (node (Cell n)) (Some (known_chars RdfRest)) (resource (Some s)) f.1 (cell_fits r n h) (known_fits r RdfRest) g
 
   -- Objects.
   iri_fits : (c : Setting) (p : Place) (early : Option Quad) (i : Option (List ℕ)) → FitSetting c → FitPlace p → IsQuad early → IfSome i IsIri → FitReply (iri_object_at c p early i)
@@ -272,14 +278,14 @@ module _ (r : Room) where
   prefix_iri_fits c w p IriRef l f =
       let i = reference_in c.scope l in
       let h = reference_iri c.scope l f.0 in
-      λ x. (tt, tt, (binding_iris c.scope p i f.0 h, ap (λ s. s.iri) (binding_limits c.scope p i) ∙ f.1, tt), end_mode w)
+      λ x. (tt, tt, (binding_iris c.scope p i f.0 h, tt), end_mode w)
   prefix_iri_fits c w p k l f = tt
 
   base_iri_fits : (c : Setting) (w : Spelling) (k : Kind) (l : Leaf) → FitSetting c → FitReply (want_base_iri c w k l)
   base_iri_fits c w IriRef l f =
       let i = reference_in c.scope l in
       let h = reference_iri c.scope l f.0 in
-      λ x. (tt, tt, (base_iris c.scope i f.0 h, ap (λ s. s.iri) (base_limits c.scope i) ∙ f.1, tt), end_mode w)
+      λ x. (tt, tt, (base_iris c.scope i f.0 h, tt), end_mode w)
   base_iri_fits c w k l f = tt
 
   dot_fits : (c : Setting) (k : Kind) (l : Leaf) → FitSetting c → FitReply (want_dot c k l)
@@ -319,44 +325,60 @@ module _ (r : Room) where
   waiting_fits c (Paren u) k l f g h = up_fits c u (Blank (cell_at l)) f g (cell_fits r l.at.offset h.2)
   waiting_fits c m k l f g h = tt
 
-  -- Whole runs.
-  abbrev AllFit : List Quad → Type 0
+  -- The events of whole runs: each IRI that a token stands for is within the limit, and each quad can be written.
+  abbrev pub AllWithin : List Event → Type 0
+  AllWithin [] = Unit {0}
+  AllWithin (Took t u ∷ es) = Within r u × AllWithin es
+  AllWithin (Gave q ∷ es) = AllWithin es
+
+  abbrev pub AllGiven : List Event → Type 0
+  AllGiven [] = Unit {0}
+  AllGiven (Took t u ∷ es) = AllGiven es
+  AllGiven (Gave q ∷ es) = FitQuad r q × AllGiven es
+
+  give_within : (q : Option Quad) (es : List Event) → AllWithin (give q es) → AllWithin es
+  give_within None es w = w
+  give_within (Some q) es w = w
+
+  give_fits : (q : Option Quad) (es : List Event) → IsQuad q → AllGiven es → AllGiven (give q es)
+  give_fits None es f g = g
+  give_fits (Some q) es f g = (f, g)
+
+  end_fits : (m : Mode) (es : List Event) → stop m ≡ Some es → AllGiven es
+  end_fits Over es e = let z : [] ≡ es = cc in subst AllGiven z tt
+  end_fits m es e = absurd (let z : None ≡ Some es = e in cc)
+
+  run_fits : (form : DocForm) (ts : List Token) (c : Setting) (m : Mode) (es : List Event) → run form c m ts ≡ Some es → AllByRecursion (λ t. Good r t.kind (leaf_of t)) ts →
+      AllWithin es → FitSetting c → FitMode m → AllGiven es
+  run_fits form [] c m es x g w f h = end_fits m es x
+  run_fits form (t ∷ ts) c m es x g w f h =
+      by (step form c m t.kind (leaf_of t)) (step_fits form c m t.kind (leaf_of t) f h g.0) x (λ c' m' fs z v i j. run_fits form ts c' m' fs z g.1 v i j)
+    where
+      by : (y : Reply) → FitReply y → fronted (waiting c m t.kind (leaf_of t)) (go_on t y (λ c' m'. run form c' m' ts)) ≡ Some es →
+          ((c' : Setting) (m' : Mode) (fs : List Event) → run form c' m' ts ≡ Some fs → AllWithin fs → FitSetting c' → FitMode m' → AllGiven fs) → AllGiven es
+      by No y z ih = absurd (let v : None ≡ Some es = z in cc)
+      by (Go u early now c' m') y z ih =
+          let q = waiting c m t.kind (leaf_of t) in
+          let p = unput q t u early now (run form c' m' ts) es z in
+          let v = give_within q (Took t u ∷ give early (give now p.0)) (subst AllWithin p.2 w) in
+          let k = y v.0 in
+          let i = ih c' m' p.0 p.1 (give_within now p.0 (give_within early (give now p.0) v.1)) k.2 k.3 in
+          subst AllGiven (sym p.2)
+          (give_fits q (Took t u ∷ give early (give now p.0)) (waiting_fits c m t.kind (leaf_of t) f h g.0) (give_fits early (give now p.0) k.0 (give_fits now p.0 k.1 i)))
+
+  -- the quads of events, with their marks taken off
+  abbrev pub AllFit : List Quad → Type 0
   AllFit qs = AllByRecursion (FitQuad r) qs
 
-  both_fit : (qs rs : List Quad) → AllFit qs → AllFit rs → AllFit (qs ++ rs)
-  both_fit [] rs f g = g
-  both_fit (q ∷ qs) rs f g = (f.0, both_fit qs rs f.1 g)
+  marks_fit : (n : ℕ) (es : List Event) → AllGiven es → AllFit (unmarked (marked n es))
+  marks_fit n [] f = tt
+  marks_fit n (Took t u ∷ es) f = marks_fit (n + 1) es f
+  marks_fit n (Gave q ∷ es) f = (f.0, marks_fit n es f.1)
 
-  kept_fits : (q : Option Quad) (qs : List Quad) → IsQuad q → AllFit qs → AllFit (kept q qs)
-  kept_fits None qs f g = g
-  kept_fits (Some q) qs f g = (f, g)
-
-  pub record FitState (s : State) : Type 0 where
-    pub setting : FitSetting s.setting
-    pub mode : FitMode s.mode
-    pub held : AllFit s.held
-
-  accepted_fits : (form : DocForm) (s n : State) (t : Token) (qs : List Quad) → accept form s t.kind (leaf_of t) ≡ accepts qs n → Good r t.kind (leaf_of t) → FitState s →
-      AllFit qs × FitState n
-  accepted_fits form s n t qs x g f =
-      let k = t.kind in
-      let l = leaf_of t in
-      let w = waiting s.setting s.mode k l in
-      let a = accepted s.setting.scope.limits s k w (step form s.setting s.mode k l) qs n x in
-      let y = subst FitReply a.reply (step_fits form s.setting s.mode k l f.setting f.mode g) (within r s.setting.scope.limits a.sense f.setting.1 a.fits) in
-      let after : FitState (record { setting = a.setting; mode = a.mode; held = kept a.early (kept a.now []) }) =
-      record { setting = y.2; mode = y.3; held = kept_fits a.early (kept a.now []) y.0 (kept_fits a.now [] y.1 tt) } in
-      (subst AllFit (sym a.given) (both_fit s.held (kept w []) f.held (kept_fits w [] (waiting_fits s.setting s.mode k l f.setting f.mode g) tt)), subst FitState (sym a.state) after)
-
-  pub given_fit : (form : DocForm) (ts : List Token) (s n : State) (qs : List Quad) → accept_all form s ts ≡ ran n qs → AllByRecursion (λ t. Good r t.kind (leaf_of t)) ts → FitState s →
-      AllFit qs
-  given_fit form [] s n qs x g f = let z : ran s [] ≡ ran n qs = x in let y : [] ≡ qs = cc in subst AllFit y tt
-  given_fit form (t ∷ ts) s n qs x g f = by (accept form s t.kind (leaf_of t)) refl x (λ m rs z i. given_fit form ts m n rs z g.1 i)
-    where
-      by : (a : Answer) → accept form s t.kind (leaf_of t) ≡ a → go a (λ m. accept_all form m ts) ≡ ran n qs →
-          ((m : State) (rs : List Quad) → accept_all form m ts ≡ ran n rs → FitState m → AllFit rs) → AllFit qs
-      by (refuses y) h z ih = absurd (let v : refused y ≡ ran n qs = z in cc)
-      by (accepts gs m) h z ih =
-          let p = first_ran gs (accept_all form m ts) n qs z in
-          let i = accepted_fits form s m t gs h g.0 f in
-          subst AllFit (sym p.2) (both_fit gs p.0 i.0 (ih m p.0 p.1 i.1))
+  -- those of a tree whose scope at the start has IRIs
+  pub tree_fits : (form : DocForm) (scope : InForce) (d : Document form) → HasIris scope → AllByRecursion (λ t. Good r t.kind (leaf_of t)) (document_tokens d) →
+      AllWithin (document_events scope d) → AllFit (unmarked (document_quads scope 0 d))
+  tree_fits form scope d h g w =
+      let ran = run_tree true form d scope (document_tokens d) (document_told d scope) in
+      subst (λ ms. AllFit (unmarked ms)) (document_marks d scope 0) (marks_fit 0 (document_events scope d)
+      (run_fits form (document_tokens d) (in_default scope) Start (document_events scope d) ran g w (h, tt) tt))

@@ -160,10 +160,10 @@ pub record HasIris (s : InForce) : Type 0 where
   pub base : IfSome s.base IsIri
   pub bindings : (prefix iri : List ℕ) → bound_to s.bindings prefix ≡ Some iri → IsIri iri
 
--- The quads of a document within its limits are well formed, where a node without a label is named by its offset.
+-- The quads of a document are well formed, and each of their nodes has a name where those without a label are named by their offsets.
 abbrev pub DocumentIsWritable : Type 0
 DocumentIsWritable = (form : DocForm) (start : InForce) (bytes : List ℕ) (qs : List Quad) → HasIris start → length bytes ≤ most_bytes → IsDocumentOf form start bytes qs →
-    IsWhole form start bytes → Writable Tagged qs
+    Writable Tagged qs
 
 -- What is written for a document within its limits is read to its end as N-Quads with limits that are a little higher.
 abbrev pub WrittenDocumentIsRead : Type 0

@@ -87,8 +87,7 @@ pub fn refused_is_no_document()
     ensures { RefusedIsNoDocument }
 {}
 
-/// The quads of a document within its limits can be written where a node without a label is named by its offset: they
-/// are well formed.
+/// The quads of a document can be written with a node that has no label named by its offset: they are well formed.
 pub fn document_is_writable()
     ensures { DocumentIsWritable }
 {}
