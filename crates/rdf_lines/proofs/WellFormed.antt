@@ -50,6 +50,7 @@ matched_scalar r w m = all_from scalar w (each_scalar w (all_used r w m))
     each_scalar [] a = tt
     each_scalar (c ∷ w) a = (uses_scalar r c a.0, each_scalar w a.1)
 
+-- a part of a text passes the tests that the text passes
 drop_have : (test : ℕ → Bool) (n : ℕ) (w : List ℕ) → all_have test w ≡ true → all_have test (drop n w) ≡ true
 drop_have test zero w h = h
 drop_have test (suc n) [] h = refl
@@ -87,6 +88,7 @@ abbrev AreScalars : Option (List ℕ) → Type 0
 AreScalars None = Unit
 AreScalars (Some w) = all_have scalar w ≡ true
 
+-- so a string's value has characters alone
 value_scalars : (s : Spot) (w : List ℕ) → all_have scalar w ≡ true → AreScalars (value of_string s w)
 value_scalars outside [] h = refl
 value_scalars slash [] h = tt
@@ -107,7 +109,8 @@ value_scalars s (c ∷ w) h =
 -- the value of a string that has a shape, within n quotes at both ends
 pub string_scalars : (r : Regex) (n : ℕ) (w : List ℕ) → Matches r w → all_have scalar (unwrap_or (string_value (inside n w)) []) ≡ true
 string_scalars r n w m =
-    by (string_value (inside n w)) (value_scalars outside (inside n w) (take_have scalar (length w - 2 * n) (drop n w) (drop_have scalar n w (matched_scalar r w m))))
+    let a = drop_have scalar n w (matched_scalar r w m) in
+    by (string_value (inside n w)) (value_scalars outside (inside n w) (take_have scalar (length w - 2 * n) (drop n w) a))
   where
     by : (o : Option (List ℕ)) → AreScalars o → all_have scalar (unwrap_or o []) ≡ true
     by None h = refl
@@ -121,6 +124,7 @@ absolute_iri w s = by (iri_value (inside 1 w)) refl s
     by None e s = absurd (false≢true s)
     by (Some v) e s = is_iri (inside 1 w) v e s
 
+-- the type of a plain string is an IRI
 xsd_string_is : IsIri xsd_string
 unfolding known_chars
 xsd_string_is = IsIri-known_chars XsdString
@@ -129,6 +133,7 @@ xsd_string_is = IsIri-known_chars XsdString
 abbrev AllTokens : List Token → Type 0
 AllTokens ts = AllByRecursion (IsToken Lines) ts
 
+-- a token that is not the end has the shape of its kind
 shaped : (k : Kind) (l : Leaf) → (k ≡ End → ⊥) → IsToken Lines (token k l) → Shape Lines k l.text
 shaped k l n g = ⊎_elim (λ e. absurd (n e.0)) (λ h. h.0) g
 
@@ -145,11 +150,13 @@ object_formed (Plain l) b g = ((string_formed l g.0, xsd_string_is), tt)
 object_formed (WithType l k i) b g = ((string_formed l g.0, absolute_iri i.text b), tt)
 object_formed (WithTag l t) b g = ((string_formed l g.0, tag_in t.text (shaped LangTag t (λ e. let z : LangTag ≡ End = e in cc) g.1.0)), tt)
 
-graph_formed : (x : Option Name) → graph_bound has_scheme x → AllTokens (graph_tokens x) → IsGraph (option_map subject_of x) × CanWriteGraph Kept (option_map subject_of x)
+graph_formed : (x : Option Name) → graph_bound has_scheme x → AllTokens (graph_tokens x) →
+    IsGraph (option_map subject_of x) × CanWriteGraph Kept (option_map subject_of x)
 graph_formed None b g = (tt, tt)
 graph_formed (Some x) b g = name_formed x b g
 
-statement_formed : (f : LineForm) (s : Statement) → GoodStatement has_scheme f s → AllTokens (statement_tokens s) → IsQuad (quad_of s) × CanWrite Kept (quad_of s)
+statement_formed : (f : LineForm) (s : Statement) → GoodStatement has_scheme f s → AllTokens (statement_tokens s) →
+    IsQuad (quad_of s) × CanWrite Kept (quad_of s)
 statement_formed f s b g =
     let n = name_tokens s.subject in
     let i = token IriRef s.predicate ∷ [] in

@@ -36,7 +36,8 @@ value_short s (c ∷ w) v e = by_move (move of_string s c) (λ t u f. value_shor
     head c None v e = absurd (let h : None ≡ Some v = e in cc)
     head c (Some u) v e = (u, refl, cc)
 
-    by_move : (m : Move) → ((t : Spot) (u : List ℕ) → value of_string t w ≡ Some u → length u ≤ length w) → (v : List ℕ) → go m (λ t. value of_string t w) ≡ Some v → length v ≤ length (c ∷ w)
+    by_move : (m : Move) → ((t : Spot) (u : List ℕ) → value of_string t w ≡ Some u → length u ≤ length w) → (v : List ℕ) →
+        go m (λ t. value of_string t w) ≡ Some v → length v ≤ length (c ∷ w)
     by_move (leads t) h v e = let z = h t v e in omega arith
     by_move (means d) h v e =
         let z = head d (value of_string outside w) v e in
@@ -94,7 +95,8 @@ module _ (limit n token_then iri_then : ℕ) (a : 2 * limit ≤ token_then) (b :
   tag_fits : (l : Leaf) → Good (token LangTag l) → length (64 ∷ drop 1 l.text) ≤ token_then
   tag_fits l g = let s = length-drop 1 l.text in let z = g.0 in omega (arith, s)
 
-  name_fits : (x : Name) → AllByRecursion Good (name_tokens x) → SubjectWithin iri_then (subject_of x) × (length (subject_text (rename_subject Kept (subject_of x))) ≤ token_then)
+  name_fits : (x : Name) → AllByRecursion Good (name_tokens x) →
+      SubjectWithin iri_then (subject_of x) × (length (subject_text (rename_subject Kept (subject_of x))) ≤ token_then)
   name_fits (Ref l) g = iri_fits l g.0
   name_fits (Lab l) g = (tt, label_fits l g.0)
 
@@ -157,5 +159,7 @@ document_read_back form limit n bytes qs document whole token_then iri_then a b 
     let ts = (tokens_of Lines limit bytes true).tokens in
     let (tree, tokens, bound, same) = document.1 in
     let g = good limit n token_then iri_then a b c d e ts (no_longer Lines limit bytes true) whole.front.kept in
-    let fits = subst (AllByRecursion (Fits limit n token_then iri_then a b c d e)) same (tree_fits limit n token_then iri_then a b c d e tree (subst (AllByRecursion (Good limit n token_then iri_then a b c d e)) tokens g)) in
-    text_read Kept qs token_then iri_then (document_writable form limit bytes qs document) (omega arith) (shorts limit n token_then iri_then a b c d e qs fits) (iris limit n token_then iri_then a b c d e qs fits)
+    let here = subst (AllByRecursion (Good limit n token_then iri_then a b c d e)) tokens g in
+    let fits = subst (AllByRecursion (Fits limit n token_then iri_then a b c d e)) same (tree_fits limit n token_then iri_then a b c d e tree here) in
+    let short = shorts limit n token_then iri_then a b c d e qs fits in
+    text_read Kept qs token_then iri_then (document_writable form limit bytes qs document) (omega arith) short (iris limit n token_then iri_then a b c d e qs fits)

@@ -87,4 +87,5 @@ nameless_text = refl
 -- and what is written is read to its end with limits of 64
 pub nameless_is_read : lines.IsReadToItsEnd NQuads 64 64 (encode_utf8_all (text Tagged nameless_quads))
 nameless_is_read =
-    document_read_back Turtle small nameless nameless_quads small_iris (lit≤ tt) nameless_is nameless_whole 64 64 (lit≤ tt) (lit≤ tt) (lit≤ tt) (lit≤ tt) (lit≤ tt)
+    document_read_back Turtle small nameless nameless_quads small_iris (lit≤ tt) nameless_is nameless_whole 64 64
+    (lit≤ tt) (lit≤ tt) (lit≤ tt) (lit≤ tt) (lit≤ tt)

@@ -14,7 +14,6 @@ use Rattle.rdf_tokens.proofs.LawLemmas.{have_shapes, places}
 use Rattle.rdf_tokens.proofs.LimitLemmas.{no_longer}
 use Rattle.rdf_iri.specs.Texts.{byte_len}
 use Rattle.rdf_iri.specs.Scope.{InForce}
-use Rattle.rdf_lines.specs.Lines.{leaf_of}
 use Rattle.rdf_lines.specs.declared.form.Style.TheVariants.{Tagged}
 use Rattle.rdf_lines.specs.Writing.{CanWriteSubject, CanWriteTerm, CanWriteGraph, Writable, subject_text, rename_subject, rename_term, rename}
 use Rattle.rdf_lines.specs.Laws.{SubjectWithin, TailWithin, TermWithin, GraphWithin, IrisWithin, TailShort, TermShort, GraphShort, TokensWithin}
@@ -28,7 +27,7 @@ use Rattle.rdf_trig.specs.Readings.{reading, IsDocumentOf}
 use Rattle.rdf_trig.specs.Laws.{HasIris, DocumentIsWritable, WrittenDocumentIsRead}
 use Rattle.rdf_trig.proofs.TokensOfEvents.{document_told}
 use Rattle.rdf_trig.proofs.Senses.{tokens_behind}
-use Rattle.rdf_trig.proofs.WrittenParts.{Room, FitSubject, FitTail, FitTerm, Good, Within}
+use Rattle.rdf_trig.proofs.WrittenParts.{Room, FitSubject, FitTail, FitTerm, GoodToken, Within}
 use Rattle.rdf_trig.proofs.WrittenSteps.{AllWithin, AllFit, tree_fits}
 
 module _ (r : Room) where
@@ -71,42 +70,58 @@ module _ (r : Room) where
   term_within (Resource s) f = subject_within s f
   term_within (Literal w t) f = let x = tail_within t f.1 in (x.0, (f.0.1, x.1))
 
-  graph_within : (g : Option term.Subject) → IfSome g (FitSubject r) → GraphWithin r.iri_then g × GraphShort r.most_then (option_map (rename_subject Tagged) g)
+  graph_within : (g : Option term.Subject) → IfSome g (FitSubject r) →
+      GraphWithin r.iri_then g × GraphShort r.most_then (option_map (rename_subject Tagged) g)
   graph_within None f = (tt, tt)
   graph_within (Some g) f = subject_within g f
 
   iris : (qs : List Quad) → AllFit r qs → AllByRecursion (IrisWithin r.iri_then) qs
   iris [] f = tt
   iris (q ∷ qs) f = (
-    record { subject = (subject_within q.subject f.0.0).0; predicate = f.0.1.1; object = (term_within q.object f.0.2).0; graph = (graph_within q.graph f.0.3).0 },
+    record {
+      subject = (subject_within q.subject f.0.0).0;
+      predicate = f.0.1.1;
+      object = (term_within q.object f.0.2).0;
+      graph = (graph_within q.graph f.0.3).0;
+    },
     iris qs f.1,
   )
 
   shorts : (qs : List Quad) → AllFit r qs → AllByRecursion (TokensWithin r.most_then) (map (rename Tagged) qs)
   shorts [] f = tt
   shorts (q ∷ qs) f = (
-    record { subject = (subject_within q.subject f.0.0).1; predicate = f.0.1.2; object = (term_within q.object f.0.2).1; graph = (graph_within q.graph f.0.3).1 },
+    record {
+      subject = (subject_within q.subject f.0.0).1;
+      predicate = f.0.1.2;
+      object = (term_within q.object f.0.2).1;
+      graph = (graph_within q.graph f.0.3).1;
+    },
     shorts qs f.1,
   )
 
   -- what is known of all tokens of some bytes
-  all_good : (bytes : List ℕ) → length bytes ≤ most_bytes → (ts : List Token) → AllByRecursion (λ t. length t.text ≤ r.most) ts → AllByRecursion (IsToken turtle) ts →
-      AllByRecursion (StandsIn bytes) ts → AllByRecursion (λ t. Good r t.kind (leaf_of t)) ts
+  all_good : (bytes : List ℕ) → length bytes ≤ most_bytes → (ts : List Token) → AllByRecursion (λ t. length t.text ≤ r.most) ts →
+      AllByRecursion (IsToken turtle) ts →
+      AllByRecursion (StandsIn bytes) ts → AllByRecursion (GoodToken r) ts
   all_good bytes l [] x y z = tt
   all_good bytes l (t ∷ ts) x y z =
       let far : most_bytes + 1 ≤ 2 ^ 64 = lit≤ tt in
       let at = z.0.place.within in
       ((x.0, y.0, omega arith), all_good bytes l ts x.1 y.1 z.1)
 
-  document_fits : (form : DocForm) (start : InForce) (bytes : List ℕ) (qs : List Quad) → r.most ≡ start.limits.token → HasIris start → length bytes ≤ most_bytes →
+  -- the quads of a document
+  document_fits : (form : DocForm) (start : InForce) (bytes : List ℕ) (qs : List Quad) → r.most ≡ start.limits.token → HasIris start →
+      length bytes ≤ most_bytes →
       (d : IsDocumentOf form start bytes qs) → AllWithin r (document_events start d.2.tree) → AllFit r qs
   document_fits form start bytes qs m h l d w =
       let limit = start.limits.token in
       let ts = (reading start bytes true).tokens in
       let x = subst (λ k. AllByRecursion (λ t. length t.text ≤ k) ts) (sym m) (each (λ t. length t.text ≤ limit) ts (no_longer turtle limit bytes true)) in
-      let g = all_good bytes l ts x (each (IsToken turtle) ts (have_shapes turtle limit bytes true)) (each (StandsIn bytes) ts (places turtle limit bytes true).0) in
+      let y = each (IsToken turtle) ts (have_shapes turtle limit bytes true) in
+      let z = each (StandsIn bytes) ts (places turtle limit bytes true).0 in
+      let g = all_good bytes l ts x y z in
       let tree = d.2.tree in
-      subst (AllFit r) (ap unmarked d.2.quads ∙ d.3) (tree_fits r form start tree h (subst (AllByRecursion (λ t. Good r t.kind (leaf_of t))) d.2.tokens g) w)
+      subst (AllFit r) (ap unmarked d.2.quads ∙ d.3) (tree_fits r form start tree h (subst (AllByRecursion (GoodToken r)) d.2.tokens g) w)
 
 -- The bytes of all IRIs that tokens stand for: none of them has more.
 abbrev all_bytes : List Event → ℕ
@@ -115,6 +130,7 @@ all_bytes (Took t (stands (Some i)) ∷ es) = byte_len i + all_bytes es
 all_bytes (Took t u ∷ es) = all_bytes es
 all_bytes (Gave q ∷ es) = all_bytes es
 
+-- so all are within a limit that is as high
 bytes_within : (r : Room) (es : List Event) → all_bytes es ≤ r.iri → AllWithin r es
 bytes_within r [] l = tt
 bytes_within r (Took t itself ∷ es) l = (tt, bytes_within r es l)
@@ -176,6 +192,7 @@ document_read_back form start bytes qs h l d w token_then iri_then a b c e f =
       least_iri = f;
     } in
     let tree = d.2.tree in
-    let within = kept_within r form start refl tree d.2.bound (subst (PassesNone (Passes form start)) d.2.tokens w.front.kept) [] (document_events start tree) refl in
+    let kept = subst (PassesNone (Passes form start)) d.2.tokens w.front.kept in
+    let within = kept_within r form start refl tree d.2.bound kept [] (document_events start tree) refl in
     let fits = document_fits r form start bytes qs refl h l d within in
     text_read Tagged qs token_then iri_then (writable r qs fits) (omega arith) (shorts r qs fits) (iris r qs fits)

@@ -22,13 +22,14 @@ use Rattle.rdf_terms.proofs.KnownLemmas.{IsIri-known_chars}
 use Rattle.rdf_terms.proofs.ValuesLemmas.{iri_value_characters}
 use Rattle.rdf_terms.proofs.LocalLemmas.{local-means}
 use Rattle.rdf_terms.proofs.UsedCharacters.{uses, all_used}
+use Rattle.rdf_tokens.specs.Tokens.{Token}
 use Rattle.rdf_tokens.specs.Scans.{IsToken}
 use Rattle.rdf_iri.specs.Texts.{byte_len, equal, after}
 use Rattle.rdf_iri.specs.Resolve.{resolved, based}
 use Rattle.rdf_iri.specs.Scope.{InForce, bound_to}
 use Rattle.rdf_iri.proofs.ResolvedText.{IsIri-target}
 use Rattle.rdf_iri.proofs.ScopeLemmas.{IsIri-append}
-use Rattle.rdf_lines.specs.Lines.{Leaf, token, iri_of}
+use Rattle.rdf_lines.specs.Lines.{Leaf, leaf_of, token, iri_of}
 use Rattle.rdf_lines.specs.declared.form.Style.TheVariants.{Tagged}
 use Rattle.rdf_lines.specs.Writing.{escaped, rename_node, node_text, iri_text, string_text}
 use Rattle.rdf_lines.proofs.WellFormed.{matched_scalar, string_scalars}
@@ -42,6 +43,8 @@ use Rattle.rdf_trig.proofs.NamesLemmas.{binds_prefix}
 use Rattle.rdf_trig.proofs.SpelledLemmas.{label_in, spelled_tag}
 
 -- What references and names stand for are IRIs, where the base and the bindings are.
+
+-- each character of a reference is one that an IRI has
 reference_text : (l : Leaf) → all_have (has iri_char) (iri_of l) ≡ true
 reference_text l = by (iri_value (inside 1 l.text)) refl
   where
@@ -49,6 +52,7 @@ reference_text l = by (iri_value (inside 1 l.text)) refl
     by None e = refl
     by (Some v) e = iri_value_characters (inside 1 l.text) v e
 
+-- and so is the local part of a name
 local_text : (l : Leaf) → all_have (has iri_char) (local_of l) ≡ true
 local_text l = by (local_value (unwrap_or (after 58 l.text) [])) refl
   where
@@ -56,11 +60,13 @@ local_text l = by (local_value (unwrap_or (after 58 l.text) [])) refl
     by None e = refl
     by (Some v) e = (local-means false (unwrap_or (after 58 l.text) []) v e).1
 
+-- what a reference is resolved to, or is itself, is an IRI
 based_iri : (base : Option (List ℕ)) (l : Leaf) → IfSome base IsIri → IfSome (based base (iri_of l)) IsIri
 based_iri None l h = tt
 based_iri (Some b) l h = IsIri-target b (iri_of l) h (reference_text l)
 
-absolute_or_based : (base : Option (List ℕ)) (l : Leaf) (b : Bool) → has_scheme (iri_of l) ≡ b → IfSome base IsIri → IfSome (cond b (Some (iri_of l)) (based base (iri_of l))) IsIri
+absolute_or_based : (base : Option (List ℕ)) (l : Leaf) (b : Bool) → has_scheme (iri_of l) ≡ b → IfSome base IsIri →
+    IfSome (cond b (Some (iri_of l)) (based base (iri_of l))) IsIri
 absolute_or_based base l true e h = record { characters = reference_text l; scheme = e }
 absolute_or_based base l false e h = based_iri base l h
 
@@ -68,6 +74,7 @@ pub reference_iri : (s : InForce) (l : Leaf) → HasIris s → IfSome (reference
 unfolding reference_in resolved
 reference_iri s l h = absolute_or_based s.base l (has_scheme (iri_of l)) refl h.base
 
+-- and so is what a prefix is bound to, with the local part after it
 joined_iri : (o : Option (List ℕ)) (l : Leaf) → ((i : List ℕ) → o ≡ Some i → IsIri i) → IfSome (option_map (λ front. front ++ local_of l) o) IsIri
 joined_iri None l f = tt
 joined_iri (Some i) l f = IsIri-append i (local_of l) (f i refl) (local_text l)
@@ -76,7 +83,7 @@ pub name_iri : (s : InForce) (l : Leaf) → HasIris s → IfSome (name_in s l) I
 unfolding name_in
 name_iri s l h = joined_iri (bound_to s.bindings (prefix_of l)) l (h.bindings (prefix_of l))
 
--- directives keep the scope so, and change no limit
+-- and they are still after a directive
 pub base_iris : (s : InForce) (i : Option (List ℕ)) → HasIris s → IfSome i IsIri → HasIris (with_base s i)
 base_iris s None h f = h
 base_iris s (Some i) h f = record { base = f; bindings = h.bindings }
@@ -89,6 +96,7 @@ binding_iris s p (Some i) h f = record { base = h.base; bindings = λ q v e. by 
     by q v true t e = let z : Some i ≡ Some v = sym (cond-true (equal p q) (Some i) (bound_to s.bindings q) t) ∙ e in subst IsIri (ap (λ o. unwrap_or o []) z) f
     by q v false t e = h.bindings q v (sym (cond-false (equal p q) (Some i) (bound_to s.bindings q) t) ∙ e)
 
+-- the longest of the IRIs that a document means without spelling them has 48 characters
 known_bytes : (k : Known) → byte_len (known_chars k) ≤ 62
 unfolding known_chars encode
 known_bytes RdfType = lit≤ tt
@@ -108,6 +116,7 @@ record Unescaped (r : Regex) : Type 0 where
   feed : uses r 10 ≡ false
   return : uses r 13 ≡ false
 
+-- a character that is not escaped is written as it is
 itself_escaped : (r : Regex) → Unescaped r → (c : ℕ) → uses r c ≡ true → length (escaped c) ≡ 1
 itself_escaped r u c h =
     cond_both (c == 34) _ _ One (λ e. absurd (never 34 u.quote e))
@@ -136,6 +145,7 @@ unescaped_text r u w m =
     let s = length-append (flat_map escaped w) (34 ∷ []) in
     omega (arith, x, s)
 
+-- no number has a character that is escaped
 integer_unescaped : Unescaped (shape turtle Integer)
 unfolding shape has
 integer_unescaped = record { quote = refl; backslash = refl; feed = refl; return = refl }
@@ -186,9 +196,12 @@ module _ (r : Room) where
   abbrev pub FitQuad : Quad → Type 0
   FitQuad q = FitSubject q.subject × FitIri q.predicate × FitTerm q.object × IfSome q.graph FitSubject
 
-  -- what is known of each token
+  -- what is known of each token: its length, its shape, and that its offset is within the range of an offset
   abbrev pub Good : Kind → Leaf → Type 0
   Good k l = (length l.text ≤ r.most) × IsToken turtle (token k l) × (l.at.offset < 2 ^ 64)
+
+  abbrev pub GoodToken : Token → Type 0
+  GoodToken t = Good t.kind (leaf_of t)
 
   -- the IRI that a token stands for is within the limit
   abbrev pub Within : Use → Type 0
@@ -197,12 +210,16 @@ module _ (r : Room) where
   Within (stands (Some i)) = byte_len i ≤ r.iri
   Within (binds full i) = Unit
 
+  -- Parts that fit make parts that fit.
   pub known_fits : (k : Known) → FitIri (known_chars k)
-  known_fits k = let n = known_bytes k in let w = written_iri (known_chars k) in (IsIri-known_chars k, omega (arith, r.twice, r.brackets, r.least, r.higher, r.least_iri), omega (arith, r.twice, r.brackets, r.least, r.higher, r.least_iri))
+  known_fits k =
+      let n = known_bytes k in
+      let w = written_iri (known_chars k) in
+      (IsIri-known_chars k, omega (arith, r.least_iri), omega (arith, r.least))
 
   pub named_fits : (i : Option (List ℕ)) → IfSome i IsIri → Within (stands i) → IfSome i FitIri
   named_fits None f w = tt
-  named_fits (Some i) f w = let x = written_iri i in (f, omega (arith, r.twice, r.brackets, r.least, r.higher, r.least_iri), omega (arith, r.twice, r.brackets, r.least, r.higher, r.least_iri))
+  named_fits (Some i) f w = let x = written_iri i in (f, omega (arith, r.higher), omega (arith, r.brackets))
 
   pub subject_named : (i : Option (List ℕ)) → IfSome i FitIri → IfSome (named i) FitSubject
   subject_named None f = tt
@@ -216,7 +233,8 @@ module _ (r : Room) where
   typed_fits w None h f = tt
   typed_fits w (Some i) h f = (h, f)
 
-  pub stated_fits : (g : Option (Option term.Subject)) (s : Option term.Subject) (p : Option (List ℕ)) (o : Option Term) → IfSome g (λ x. IfSome x FitSubject) → IfSome s FitSubject →
+  pub stated_fits : (g : Option (Option term.Subject)) (s : Option term.Subject) (p : Option (List ℕ)) (o : Option Term) →
+      IfSome g (λ x. IfSome x FitSubject) → IfSome s FitSubject →
       IfSome p FitIri → IfSome o FitTerm → IfSome (stated g s p o) FitQuad
   stated_fits (Some g) (Some s) (Some p) (Some o) fg fs fp fo = (fs, fp, fo, fg)
   stated_fits (Some g) (Some s) (Some p) None fg fs fp fo = tt
@@ -229,12 +247,12 @@ module _ (r : Room) where
   offset_digits n h = let far : 2 ^ 64 ≤ 10 ^ 20 = lit≤ tt in length-decimal-le 20 n (lit< tt) (omega arith) h
 
   pub anon_fits : (n : ℕ) → n < 2 ^ 64 → FitNode (Anon n)
-  anon_fits n h = let x = offset_digits n h in (h, omega (arith, r.twice, r.brackets, r.least, r.higher, r.least_iri))
+  anon_fits n h = let x = offset_digits n h in (h, omega (arith, r.twice, r.least))
 
   pub cell_fits : (n : ℕ) → n < 2 ^ 64 → FitNode (Cell n)
-  cell_fits n h = let x = offset_digits n h in (h, omega (arith, r.twice, r.brackets, r.least, r.higher, r.least_iri))
+  cell_fits n h = let x = offset_digits n h in (h, omega (arith, r.twice, r.least))
 
-  -- What tokens spell.
+  -- What tokens spell fits. A token that is not the end has the shape of its kind.
   shaped : (k : Kind) (l : Leaf) → k ≢ End → Good k l → Shape turtle k l.text
   shaped k l n g = ⊎_elim (λ x. absurd (n x.0)) (λ x. x.0) g.1
 
@@ -242,24 +260,27 @@ module _ (r : Room) where
   label_fits l g =
       let s = length-drop 2 l.text in
       let z = g.0 in
-      (label_in l.text (shaped LabelNode l (λ x. let z : LabelNode ≡ End = x in cc) g), omega (arith, s, r.twice, r.brackets, r.least, r.higher, r.least_iri))
+      (label_in l.text (shaped LabelNode l (λ x. let z : LabelNode ≡ End = x in cc) g), omega (arith, s, r.twice, r.least))
 
   pub short_fits : (l : Leaf) → Good ShortString l → FitWord (short_value l)
   short_fits l g =
+      let m = shaped ShortString l (λ x. let z : ShortString ≡ End = x in cc) g in
       let s = string_short 1 l.text in
       let w = written_string (short_value l) in
       let z = g.0 in
-      (string_scalars (shape turtle ShortString) 1 l.text (shaped ShortString l (λ x. let z : ShortString ≡ End = x in cc) g), omega (arith, r.twice, r.brackets, r.least, r.higher, r.least_iri))
+      (string_scalars (shape turtle ShortString) 1 l.text m, omega (arith, r.twice, r.least))
 
   pub long_fits : (l : Leaf) → Good LongString l → FitWord (long_value l)
   long_fits l g =
+      let m = shaped LongString l (λ x. let z : LongString ≡ End = x in cc) g in
       let s = string_short 3 l.text in
       let w = written_string (long_value l) in
       let z = g.0 in
-      (string_scalars (shape turtle LongString) 3 l.text (shaped LongString l (λ x. let z : LongString ≡ End = x in cc) g), omega (arith, r.twice, r.brackets, r.least, r.higher, r.least_iri))
+      (string_scalars (shape turtle LongString) 3 l.text m, omega (arith, r.twice, r.least))
 
+  -- a number is written with its quotes alone
   number_fits : (x : Regex) → Unescaped x → (w : List ℕ) → Matches x w → length w ≤ r.most → FitWord w
-  number_fits x u w m l = let s = unescaped_text x u w m in (matched_scalar x w m, omega (arith, s, r.twice, r.brackets, r.least, r.higher, r.least_iri))
+  number_fits x u w m l = let s = unescaped_text x u w m in (matched_scalar x w m, omega (arith, s, r.twice, r.least))
 
   pub integer_fits : (l : Leaf) → Good Integer l → FitWord l.text
   integer_fits l g = number_fits (shape turtle Integer) integer_unescaped l.text (shaped Integer l (λ x. let z : Integer ≡ End = x in cc) g) g.0
@@ -271,13 +292,13 @@ module _ (r : Room) where
   double_fits l g = number_fits (shape turtle Double) double_unescaped l.text (shaped Double l (λ x. let z : Double ≡ End = x in cc) g) g.0
 
   pub true_fits : FitWord (codes "true")
-  true_fits = let s : length (string_text (codes "true")) ≤ 64 = lit≤ tt in (refl, omega (arith, r.twice, r.brackets, r.least, r.higher, r.least_iri))
+  true_fits = let s : length (string_text (codes "true")) ≤ 64 = lit≤ tt in (refl, omega (arith, r.twice, r.least))
 
   pub false_fits : FitWord (codes "false")
-  false_fits = let s : length (string_text (codes "false")) ≤ 64 = lit≤ tt in (refl, omega (arith, r.twice, r.brackets, r.least, r.higher, r.least_iri))
+  false_fits = let s : length (string_text (codes "false")) ≤ 64 = lit≤ tt in (refl, omega (arith, r.twice, r.least))
 
   pub tag_fits : (k : Kind) (l : Leaf) → SpellsTag k → k ≢ End → Good k l → FitTail (Lang (tag_of l))
   tag_fits k l t n g =
       let s = length-drop 1 l.text in
       let z = g.0 in
-      (spelled_tag k l.text t (shaped k l n g), omega (arith, s, r.twice, r.brackets, r.least, r.higher, r.least_iri))
+      (spelled_tag k l.text t (shaped k l n g), omega (arith, s, r.twice, r.least))

@@ -5,6 +5,7 @@ use Rattle.std.specs.List.{AllByRecursion}
 use Rattle.rdf_terms.specs.declared.kind.Kind.{Kind}
 use Rattle.rdf_terms.specs.declared.kind.Kind.TheVariants.{IriRef, LabelNode, ShortString, LongString, LangTag, Carets, Dot, Integer, Decimal, Double, True, False, A, AtPrefix, AtBase, Prefix, Base, Graph, PnameNs, PnameLn, Semicolon, Comma, OpenBracket, CloseBracket, OpenParen, CloseParen, OpenBrace, CloseBrace, End}
 use Rattle.rdf_terms.specs.Known.{known_chars}
+use Rattle.rdf_terms.specs.declared.constants.Known.{Known}
 use Rattle.rdf_terms.specs.declared.constants.Known.TheVariants.{RdfType, RdfFirst, RdfRest, RdfNil, XsdString, XsdInteger, XsdDecimal, XsdDouble, XsdBoolean}
 use Rattle.rdf_terms.specs.Terms.{Node, Anon, Cell, Blank, Term, Quad, IsIri}
 use Rattle.rdf_terms.specs.Terms as term
@@ -26,9 +27,10 @@ use Rattle.rdf_trig.proofs.Sound.{unput}
 use Rattle.rdf_trig.proofs.Reached.{run_tree}
 use Rattle.rdf_trig.proofs.TokensOfEvents.{document_told}
 use Rattle.rdf_trig.proofs.MarksOfEvents.{document_marks}
-use Rattle.rdf_trig.proofs.WrittenParts.{Room, FitIri, FitSubject, FitWord, FitTerm, FitQuad, Good, Within, known_fits, named_fits, subject_named, resource_fits, typed_fits, stated_fits, anon_fits, cell_fits, label_fits, short_fits, long_fits, integer_fits, decimal_fits, double_fits, true_fits, false_fits, tag_fits, reference_iri, name_iri, base_iris, binding_iris}
+use Rattle.rdf_trig.proofs.WrittenParts.{Room, FitIri, FitSubject, FitWord, FitTerm, FitQuad, Good, GoodToken, Within, known_fits, named_fits, subject_named, resource_fits, typed_fits, stated_fits, anon_fits, cell_fits, label_fits, short_fits, long_fits, integer_fits, decimal_fits, double_fits, true_fits, false_fits, tag_fits, reference_iri, name_iri, base_iris, binding_iris}
 
 module _ (r : Room) where
+  -- what is there can be written
   abbrev IsSubject : Option term.Subject → Type 0
   IsSubject s = IfSome s (FitSubject r)
 
@@ -73,6 +75,7 @@ module _ (r : Room) where
   FitReply No = Unit {0}
   FitReply (Go u early now c m) = Within r u → IsQuad early × IsQuad now × FitSetting c × FitMode m
 
+  -- the settings outside of a block, and in one
   default_fits : (c : Setting) → FitSetting c → FitSetting (in_default c.scope)
   default_fits c f = (f.0, tt)
 
@@ -80,7 +83,7 @@ module _ (r : Room) where
   graph_fits c None f h = (f.0, tt)
   graph_fits c (Some g) f h = (f.0, h)
 
-  -- Quads.
+  -- The quads of an object at a place, of a bracket's object, and of a cell.
   subject_fits : (p : Place) → FitPlace p → IsSubject (subject_at p)
   subject_fits (Listed s p a) f = f.0
   subject_fits (InCells i n u) f = cell_fits r n f.1
@@ -99,30 +102,39 @@ module _ (r : Room) where
   rest_fits : (c : Setting) (n : ℕ) (s : term.Subject) → FitSetting c → n < 2 ^ 64 → FitSubject r s → IsQuad (rest_quad c (Cell n) s)
   rest_fits c n s f h g = stated_fits r c.graph (node (Cell n)) (Some (known_chars RdfRest)) (resource (Some s)) f.1 (cell_fits r n h) (known_fits r RdfRest) g
 
-  -- Objects.
-  iri_fits : (c : Setting) (p : Place) (early : Option Quad) (i : Option (List ℕ)) → FitSetting c → FitPlace p → IsQuad early → IfSome i IsIri → FitReply (iri_object_at c p early i)
+  -- The first token of an object, and the type of a string.
+  iri_fits : (c : Setting) (p : Place) (early : Option Quad) (i : Option (List ℕ)) → FitSetting c → FitPlace p → IsQuad early → IfSome i IsIri →
+      FitReply (iri_object_at c p early i)
   iri_fits c p early i f g q h = λ w. (q, quad_fits c p (resource (named i)) f g (resource_fits r (named i) (subject_named r i (named_fits r i h w))), f, g)
 
-  literal_fits : (c : Setting) (p : Place) (early : Option Quad) (o : Option Term) → FitSetting c → FitPlace p → IsQuad early → IfSome o (FitTerm r) → FitReply (literal_at c p early o)
+  literal_fits : (c : Setting) (p : Place) (early : Option Quad) (o : Option Term) → FitSetting c → FitPlace p → IsQuad early → IfSome o (FitTerm r) →
+      FitReply (literal_at c p early o)
   literal_fits c p early o f g q h = λ w. (q, quad_fits c p o f g h, f, g)
 
-  object_fits : (c : Setting) (p : Place) (early : Option Quad) (k : Kind) (l : Leaf) → FitSetting c → FitPlace p → IsQuad early → Good r k l → FitReply (object_start c p early k l)
+  -- a literal of a number or a Boolean
+  known_type_fits : (c : Setting) (p : Place) (early : Option Quad) (w : List ℕ) (k : Known) → FitSetting c → FitPlace p → IsQuad early → FitWord r w →
+      FitReply (literal_at c p early (typed_literal w (Some (known_chars k))))
+  known_type_fits c p early w k f g q h = literal_fits c p early (typed_literal w (Some (known_chars k))) f g q (h, known_fits r k)
+
+  object_fits : (c : Setting) (p : Place) (early : Option Quad) (k : Kind) (l : Leaf) → FitSetting c → FitPlace p → IsQuad early → Good r k l →
+      FitReply (object_start c p early k l)
   object_fits c p early IriRef l f g q h = iri_fits c p early (reference_in c.scope l) f g q (reference_iri c.scope l f.0)
   object_fits c p early PnameLn l f g q h = iri_fits c p early (name_in c.scope l) f g q (name_iri c.scope l f.0)
   object_fits c p early PnameNs l f g q h = iri_fits c p early (name_in c.scope l) f g q (name_iri c.scope l f.0)
   object_fits c p early LabelNode l f g q h = literal_fits c p early (resource (node (labelled l))) f g q (label_fits r l h)
   object_fits c p early ShortString l f g q h = λ w. (q, tt, f, (short_fits r l h, g))
   object_fits c p early LongString l f g q h = λ w. (q, tt, f, (long_fits r l h, g))
-  object_fits c p early Integer l f g q h = literal_fits c p early (typed_literal l.text (Some (known_chars XsdInteger))) f g q (integer_fits r l h, known_fits r XsdInteger)
-  object_fits c p early Decimal l f g q h = literal_fits c p early (typed_literal l.text (Some (known_chars XsdDecimal))) f g q (decimal_fits r l h, known_fits r XsdDecimal)
-  object_fits c p early Double l f g q h = literal_fits c p early (typed_literal l.text (Some (known_chars XsdDouble))) f g q (double_fits r l h, known_fits r XsdDouble)
-  object_fits c p early True l f g q h = literal_fits c p early (typed_literal (codes "true") (Some (known_chars XsdBoolean))) f g q (true_fits r, known_fits r XsdBoolean)
-  object_fits c p early False l f g q h = literal_fits c p early (typed_literal (codes "false") (Some (known_chars XsdBoolean))) f g q (false_fits r, known_fits r XsdBoolean)
+  object_fits c p early Integer l f g q h = known_type_fits c p early l.text XsdInteger f g q (integer_fits r l h)
+  object_fits c p early Decimal l f g q h = known_type_fits c p early l.text XsdDecimal f g q (decimal_fits r l h)
+  object_fits c p early Double l f g q h = known_type_fits c p early l.text XsdDouble f g q (double_fits r l h)
+  object_fits c p early True l f g q h = known_type_fits c p early (codes "true") XsdBoolean f g q (true_fits r)
+  object_fits c p early False l f g q h = known_type_fits c p early (codes "false") XsdBoolean f g q (false_fits r)
   object_fits c p early OpenBracket l f g q h = λ w. (q, quad_fits c p (resource (node (anon_at l))) f g (anon_fits r l.at.offset h.2), f, (h.2, g))
   object_fits c p early OpenParen l f g q h = λ w. (q, tt, f, g)
   object_fits c p early k l f g q h = tt
 
-  type_fits : (c : Setting) (v : List ℕ) (p : Place) (i : Option (List ℕ)) → FitSetting c → FitWord r v → FitPlace p → IfSome i IsIri → FitReply (type_at c v p i)
+  type_fits : (c : Setting) (v : List ℕ) (p : Place) (i : Option (List ℕ)) → FitSetting c → FitWord r v → FitPlace p → IfSome i IsIri →
+      FitReply (type_at c v p i)
   type_fits c v p i f h g n = λ w. (tt, quad_fits c p (typed_literal v i) f g (typed_fits r v i h (named_fits r i n w)), f, g)
 
   want_type_fits : (c : Setting) (v : List ℕ) (p : Place) (k : Kind) (l : Leaf) → FitSetting c → FitWord r v → FitPlace p → FitReply (want_type c v p k l)
@@ -132,10 +144,12 @@ module _ (r : Room) where
   want_type_fits c v p k l f h g = tt
 
   -- Verbs.
-  verb_is_fits : (c : Setting) (s : Option term.Subject) (a : Around) (i : Option (List ℕ)) → FitSetting c → IsSubject s → FitAround a → IfSome i IsIri → FitReply (verb_is c s a i)
+  verb_is_fits : (c : Setting) (s : Option term.Subject) (a : Around) (i : Option (List ℕ)) → FitSetting c → IsSubject s → FitAround a →
+      IfSome i IsIri → FitReply (verb_is c s a i)
   verb_is_fits c s a i f h g n = λ w. (tt, tt, f, (h, named_fits r i n w, g))
 
-  verb_start_fits : (c : Setting) (s : Option term.Subject) (a : Around) (k : Kind) (l : Leaf) → FitSetting c → IsSubject s → FitAround a → FitReply (verb_start c s a k l)
+  verb_start_fits : (c : Setting) (s : Option term.Subject) (a : Around) (k : Kind) (l : Leaf) → FitSetting c → IsSubject s → FitAround a →
+      FitReply (verb_start c s a k l)
   verb_start_fits c s a IriRef l f h g = verb_is_fits c s a (reference_in c.scope l) f h g (reference_iri c.scope l f.0)
   verb_start_fits c s a PnameLn l f h g = verb_is_fits c s a (name_in c.scope l) f h g (name_iri c.scope l f.0)
   verb_start_fits c s a PnameNs l f h g = verb_is_fits c s a (name_in c.scope l) f h g (name_iri c.scope l f.0)
@@ -164,7 +178,8 @@ module _ (r : Room) where
   goes_fits : (c : Setting) (m : Mode) → FitSetting c → FitMode m → FitReply (Go itself None None c m)
   goes_fits c m f g = λ w. (tt, tt, f, g)
 
-  list_end_fits : (c : Setting) (s : Option term.Subject) (a : Around) (k : Kind) (l : Leaf) → FitSetting c → IsSubject s → FitAround a → FitReply (list_end c s a k l)
+  list_end_fits : (c : Setting) (s : Option term.Subject) (a : Around) (k : Kind) (l : Leaf) → FitSetting c → IsSubject s → FitAround a →
+      FitReply (list_end c s a k l)
   list_end_fits c s (Statement Top) Dot l f h g = goes_fits c Start f tt
   list_end_fits c s (Statement InBlock) Dot l f h g = goes_fits c Inside f tt
   list_end_fits c s (Statement InBlock) CloseBrace l f h g = goes_fits (in_default c.scope) Start (default_fits c f) tt
@@ -173,7 +188,8 @@ module _ (r : Room) where
   list_end_fits c s (Statement InBlock) k l f h g = tt
   list_end_fits c s (Boxed u) k l f h g = tt
 
-  semi_fits : (c : Setting) (s : Option term.Subject) (a : Around) (k : Kind) (l : Leaf) → FitSetting c → IsSubject s → FitAround a → FitReply (semi c s a k l)
+  semi_fits : (c : Setting) (s : Option term.Subject) (a : Around) (k : Kind) (l : Leaf) → FitSetting c → IsSubject s → FitAround a →
+      FitReply (semi c s a k l)
   semi_fits c s a Semicolon l f h g = goes_fits c (Semi s a) f (h, g)
   semi_fits c s a IriRef l f h g = verb_start_fits c s a IriRef l f h g
   semi_fits c s a PnameLn l f h g = verb_start_fits c s a PnameLn l f h g
@@ -185,14 +201,19 @@ module _ (r : Room) where
   after_fits c (Listed s p a) Comma l f g h = goes_fits c (Want (Listed s p a)) f g
   after_fits c (Listed s p a) Semicolon l f g h = goes_fits c (Semi s a) f (g.0, g.2)
   after_fits c (Listed s p a) k l f g h = list_end_fits c s a k l f g.0 g.2
-  after_fits c (InCells i n u) CloseParen l f g h = λ w. (tt, rest_fits c n nil f g.1 (known_fits r RdfNil), f, list_mode u (node (Cell i)) g.2 (cell_fits r i g.0))
+  after_fits c (InCells i n u) CloseParen l f g h =
+      λ w. (tt, rest_fits c n nil f g.1 (known_fits r RdfNil), f, list_mode u (node (Cell i)) g.2 (cell_fits r i g.0))
   after_fits c (InCells i n u) k l f g h =
-      object_fits c (InCells i l.at.offset u) (rest_quad c (Cell n) (Blank (cell_at l))) k l f (g.0, h.2, g.2) (rest_fits c n (Blank (cell_at l)) f g.1 (cell_fits r l.at.offset h.2)) h
+      let q = rest_fits c n (Blank (cell_at l)) f g.1 (cell_fits r l.at.offset h.2) in
+      object_fits c (InCells i l.at.offset u) (rest_quad c (Cell n) (Blank (cell_at l))) k l f (g.0, h.2, g.2) q h
 
-  tag_at_fits : (c : Setting) (v : List ℕ) (p : Place) (k : Kind) (l : Leaf) → FitSetting c → FitWord r v → FitPlace p → SpellsTag k → k ≢ End → Good r k l → FitReply (tag_at c v p l)
+  -- after a string
+  tag_at_fits : (c : Setting) (v : List ℕ) (p : Place) (k : Kind) (l : Leaf) → FitSetting c → FitWord r v → FitPlace p → SpellsTag k → k ≢ End →
+      Good r k l → FitReply (tag_at c v p l)
   tag_at_fits c v p k l f g i t n h = λ w. (tt, quad_fits c p (tagged_literal v (tag_of l)) f i (g, tag_fits r k l t n h), f, i)
 
-  text_fits : (c : Setting) (v : List ℕ) (p : Place) (k : Kind) (l : Leaf) → FitSetting c → FitWord r v → FitPlace p → Good r k l → FitReply (after_text c v p k l)
+  text_fits : (c : Setting) (v : List ℕ) (p : Place) (k : Kind) (l : Leaf) → FitSetting c → FitWord r v → FitPlace p → Good r k l →
+      FitReply (after_text c v p k l)
   text_fits c v p LangTag l f g i h = tag_at_fits c v p LangTag l f g i tt (λ x. let z : LangTag ≡ End = x in cc) h
   text_fits c v p AtBase l f g i h = tag_at_fits c v p AtBase l f g i tt (λ x. let z : AtBase ≡ End = x in cc) h
   text_fits c v p AtPrefix l f g i h = tag_at_fits c v p AtPrefix l f g i tt (λ x. let z : AtPrefix ≡ End = x in cc) h
@@ -223,7 +244,8 @@ module _ (r : Room) where
   subject_start_fits form c v IriRef l f h = subject_is_fits form c v (reference_in c.scope l) f (reference_iri c.scope l f.0)
   subject_start_fits form c v PnameLn l f h = subject_is_fits form c v (name_in c.scope l) f (name_iri c.scope l f.0)
   subject_start_fits form c v PnameNs l f h = subject_is_fits form c v (name_in c.scope l) f (name_iri c.scope l f.0)
-  subject_start_fits form c v LabelNode l f h = goes_fits c (after_subject form v (node (labelled l))) f (subject_mode form v (node (labelled l)) (label_fits r l h))
+  subject_start_fits form c v LabelNode l f h =
+      goes_fits c (after_subject form v (node (labelled l))) f (subject_mode form v (node (labelled l)) (label_fits r l h))
   subject_start_fits form c v OpenBracket l f h = goes_fits c (Box l.at.offset (Subject v)) f (h.2, tt)
   subject_start_fits form c v OpenParen l f h = goes_fits c (Paren (Subject v)) f tt
   subject_start_fits form c v k l f h = tt
@@ -344,11 +366,13 @@ module _ (r : Room) where
   give_fits None es f g = g
   give_fits (Some q) es f g = (f, g)
 
+  -- nothing comes after the end
   end_fits : (m : Mode) (es : List Event) → stop m ≡ Some es → AllGiven es
   end_fits Over es e = let z : [] ≡ es = cc in subst AllGiven z tt
   end_fits m es e = absurd (let z : None ≡ Some es = e in cc)
 
-  run_fits : (form : DocForm) (ts : List Token) (c : Setting) (m : Mode) (es : List Event) → run form c m ts ≡ Some es → AllByRecursion (λ t. Good r t.kind (leaf_of t)) ts →
+  -- a run over good tokens gives quads that can be written
+  run_fits : (form : DocForm) (ts : List Token) (c : Setting) (m : Mode) (es : List Event) → run form c m ts ≡ Some es → AllByRecursion (GoodToken r) ts →
       AllWithin es → FitSetting c → FitMode m → AllGiven es
   run_fits form [] c m es x g w f h = end_fits m es x
   run_fits form (t ∷ ts) c m es x g w f h =
@@ -363,8 +387,8 @@ module _ (r : Room) where
           let v = give_within q (Took t u ∷ give early (give now p.0)) (subst AllWithin p.2 w) in
           let k = y v.0 in
           let i = ih c' m' p.0 p.1 (give_within now p.0 (give_within early (give now p.0) v.1)) k.2 k.3 in
-          subst AllGiven (sym p.2)
-          (give_fits q (Took t u ∷ give early (give now p.0)) (waiting_fits c m t.kind (leaf_of t) f h g.0) (give_fits early (give now p.0) k.0 (give_fits now p.0 k.1 i)))
+          let n = waiting_fits c m t.kind (leaf_of t) f h g.0 in
+          subst AllGiven (sym p.2) (give_fits q (Took t u ∷ give early (give now p.0)) n (give_fits early (give now p.0) k.0 (give_fits now p.0 k.1 i)))
 
   -- the quads of events, with their marks taken off
   abbrev pub AllFit : List Quad → Type 0
@@ -376,7 +400,7 @@ module _ (r : Room) where
   marks_fit n (Gave q ∷ es) f = (f.0, marks_fit n es f.1)
 
   -- those of a tree whose scope at the start has IRIs
-  pub tree_fits : (form : DocForm) (scope : InForce) (d : Document form) → HasIris scope → AllByRecursion (λ t. Good r t.kind (leaf_of t)) (document_tokens d) →
+  pub tree_fits : (form : DocForm) (scope : InForce) (d : Document form) → HasIris scope → AllByRecursion (GoodToken r) (document_tokens d) →
       AllWithin (document_events scope d) → AllFit (unmarked (document_quads scope 0 d))
   tree_fits form scope d h g w =
       let ran = run_tree true form d scope (document_tokens d) (document_told d scope) in

@@ -162,11 +162,11 @@ pub record HasIris (s : InForce) : Type 0 where
 
 -- The quads of a document are well formed, and each of their nodes has a name where those without a label are named by their offsets.
 abbrev pub DocumentIsWritable : Type 0
-DocumentIsWritable = (form : DocForm) (start : InForce) (bytes : List ℕ) (qs : List Quad) → HasIris start → length bytes ≤ most_bytes → IsDocumentOf form start bytes qs →
-    Writable Tagged qs
+DocumentIsWritable = (form : DocForm) (start : InForce) (bytes : List ℕ) (qs : List Quad) → HasIris start → length bytes ≤ most_bytes →
+    IsDocumentOf form start bytes qs → Writable Tagged qs
 
 -- What is written for a document within its limits is read to its end as N-Quads with limits that are a little higher.
 abbrev pub WrittenDocumentIsRead : Type 0
-WrittenDocumentIsRead = (form : DocForm) (start : InForce) (bytes : List ℕ) (qs : List Quad) → HasIris start → length bytes ≤ most_bytes → IsDocumentOf form start bytes qs →
-    IsWhole form start bytes → (token_then iri_then : ℕ) → 2 * start.limits.token ≤ token_then → start.limits.iri + 2 ≤ token_then → 64 ≤ token_then →
+WrittenDocumentIsRead = (form : DocForm) (start : InForce) (bytes : List ℕ) (qs : List Quad) → HasIris start → length bytes ≤ most_bytes →
+    IsDocumentOf form start bytes qs → IsWhole form start bytes → (token_then iri_then : ℕ) → 2 * start.limits.token ≤ token_then → start.limits.iri + 2 ≤ token_then → 64 ≤ token_then →
     start.limits.iri ≤ iri_then → 64 ≤ iri_then → lines.IsReadToItsEnd NQuads token_then iri_then (encode_utf8_all (text Tagged qs))
