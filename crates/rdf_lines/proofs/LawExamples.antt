@@ -32,7 +32,8 @@ use Rattle.rdf_lines.specs.Laws.{ReadsBack, IrisWithin, TokensWithin}
 use Rattle.rdf_lines.proofs.AcceptedLemmas.{quads_due, documents_read, refused_none, text_read}
 use Rattle.rdf_lines.proofs.Due.{due_ran}
 use Rattle.rdf_lines.proofs.SettledLemmas.{quads_settled, due_settled, due_begins}
-use Rattle.rdf_lines.proofs.ReadBack.{all_written, bytes_read_back, tokens_read_back}
+use Rattle.rdf_lines.proofs.ReadBack.{bytes_read_back, tokens_read_back}
+use Rattle.rdf_lines.proofs.WellFormed.{document_writable}
 use Rattle.rdf_lines.proofs.WrittenLimits.{document_read_back}
 use Rattle.rdf_lines.proofs.Renamed.{rename_injective}
 
@@ -120,10 +121,13 @@ example_is_not_refused reason at x = refused_none NQuads 12 10 bytes (map (renam
 pub example_goes_on : GoesOn (in_lines NQuads 12 10) []
 example_goes_on = (documents_read NQuads 12 10 bytes (map (rename Tagged) example) (short_reads_back 10) within).fronts [] bytes refl
 
--- what is written for them as a document is read with limits of 64
+-- their quads can be written as they are, and what is written for them is read with limits of 64
+pub example_is_writable : Writable Kept (map (rename Tagged) example)
+example_is_writable = document_writable NQuads 12 10 bytes (map (rename Tagged) example) (short_reads_back 10)
+
 pub example_lines_are_read : IsReadToItsEnd (in_lines NQuads 64 64) (encode_utf8_all (text Kept (map (rename Tagged) example)))
 example_lines_are_read =
-    document_read_back NQuads 12 10 bytes (map (rename Tagged) example) (short_reads_back 10) example_is_read.whole (all_written Tagged example writable) 64 64 (lit≤ tt) (lit≤ tt) (lit≤ tt) (lit≤ tt) (lit≤ tt)
+    document_read_back NQuads 12 10 bytes (map (rename Tagged) example) (short_reads_back 10) example_is_read.whole 64 64 (lit≤ tt) (lit≤ tt) (lit≤ tt) (lit≤ tt) (lit≤ tt)
 
 -- a line of N-Triples
 abbrev one_line : List ℕ

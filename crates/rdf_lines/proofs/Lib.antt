@@ -20,7 +20,8 @@ mod SpelledLemmas
 mod StatesLemmas
 mod GivenLemmas
 mod EndLemmas
-mod AcceptedLemmas
-mod WrittenLimits
+pub mod AcceptedLemmas
+pub mod WellFormed
+pub mod WrittenLimits
 mod SettledLemmas
 pub mod AcceptingLemmas

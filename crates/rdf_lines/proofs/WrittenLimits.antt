@@ -24,6 +24,7 @@ use Rattle.rdf_lines.specs.Writing.{escaped, iri_text, subject_text, string_text
 use Rattle.rdf_lines.specs.Laws.{WrittenDocumentIsRead, SubjectWithin, TermWithin, GraphWithin, IrisWithin, TermShort, GraphShort, TokensWithin}
 use Rattle.rdf_lines.proofs.LinesLemmas.{without_marks}
 use Rattle.rdf_lines.proofs.AcceptedLemmas.{text_read}
+use Rattle.rdf_lines.proofs.WellFormed.{split, document_writable}
 
 -- a value has no more characters than the text that spells it
 value_short : (s : Spot) (w v : List ℕ) → value of_string s w ≡ Some v → length v ≤ length w
@@ -36,7 +37,8 @@ value_short s (c ∷ w) v e = by_move (move of_string s c) (λ t u f. value_shor
     head c None v e = absurd (let h : None ≡ Some v = e in cc)
     head c (Some u) v e = (u, refl, cc)
 
-    by_move : (m : Move) → ((t : Spot) (u : List ℕ) → value of_string t w ≡ Some u → length u ≤ length w) → (v : List ℕ) → go m (λ t. value of_string t w) ≡ Some v → length v ≤ length (c ∷ w)
+    by_move : (m : Move) → ((t : Spot) (u : List ℕ) → value of_string t w ≡ Some u → length u ≤ length w) → (v : List ℕ) →
+        go m (λ t. value of_string t w) ≡ Some v → length v ≤ length (c ∷ w)
     by_move (leads t) h v e = let z = h t v e in omega arith
     by_move (means d) h v e =
         let z = head d (value of_string outside w) v e in
@@ -45,15 +47,16 @@ value_short s (c ∷ w) v e = by_move (move of_string s c) (λ t u f. value_shor
         omega arith
     by_move fails h v e = absurd (let h : None ≡ Some v = e in cc)
 
-inside_short : (w : List ℕ) → length (inside 1 w) ≤ length w - 1
-inside_short w = let a = length-take (length w - 2 * 1) (drop 1 w) in let b = length-drop 1 w in omega (arith, a, b)
+inside_short : (n : ℕ) (w : List ℕ) → length (inside n w) ≤ length w - n
+inside_short n w = let a = length-take (length w - 2 * n) (drop n w) in let b = length-drop n w in omega (arith, a, b)
 
-string_short : (l : Leaf) → length (string_of l) ≤ length l.text - 1
-string_short l = by (string_value (inside 1 l.text)) refl
+-- a string is shorter than its token by n characters at least
+pub string_short : (n : ℕ) (w : List ℕ) → length (unwrap_or (string_value (inside n w)) []) ≤ length w - n
+string_short n w = by (string_value (inside n w)) refl
   where
-    by : (o : Option (List ℕ)) → string_value (inside 1 l.text) ≡ o → length (unwrap_or o []) ≤ length l.text - 1
+    by : (o : Option (List ℕ)) → string_value (inside n w) ≡ o → length (unwrap_or o []) ≤ length w - n
     by None e = omega arith
-    by (Some v) e = let a = value_short outside (inside 1 l.text) v e in let b = inside_short l.text in omega arith
+    by (Some v) e = let a = value_short outside (inside n w) v e in let b = inside_short n w in omega arith
 
 escaped_short : (c : ℕ) → length (escaped c) ≤ 2
 escaped_short c =
@@ -65,10 +68,11 @@ all_escaped : (w : List ℕ) → length (flat_map escaped w) ≤ 2 * length w
 all_escaped [] = omega arith
 all_escaped (c ∷ w) = let a = escaped_short c in let b = all_escaped w in let s = length-append (escaped c) (flat_map escaped w) in omega arith
 
-written_string : (w : List ℕ) → length (string_text w) ≤ 2 + 2 * length w
+-- a string as it is written has its quotes, and two characters for each at most; an IRI its brackets, and a character for each
+pub written_string : (w : List ℕ) → length (string_text w) ≤ 2 + 2 * length w
 written_string w = let a = all_escaped w in let s = length-append (flat_map escaped w) (34 ∷ []) in omega arith
 
-written_iri : (i : List ℕ) → length (iri_text i) ≤ 2 + byte_len i
+pub written_iri : (i : List ℕ) → length (iri_text i) ≤ 2 + byte_len i
 written_iri i = let a = length-le-encodes i in let s = length-append i (62 ∷ []) in omega arith
 
 xsd_bytes : byte_len xsd_string ≡ 39
@@ -80,10 +84,6 @@ module _ (limit n token_then iri_then : ℕ) (a : 2 * limit ≤ token_then) (b :
   abbrev Good : Token → Type 0
   Good t = (length t.text ≤ limit) × (t.kind ≡ IriRef → byte_len (iri_of (leaf_of t)) ≤ n)
 
-  split : (ts us : List Token) → AllByRecursion Good (ts ++ us) → AllByRecursion Good ts × AllByRecursion Good us
-  split [] us h = (tt, h)
-  split (t ∷ ts) us h = let r = split ts us h.1 in ((h.0, r.0), r.1)
-
   iri_fits : (l : Leaf) → Good (token IriRef l) → (byte_len (iri_of l) ≤ iri_then) × (length (iri_text (iri_of l)) ≤ token_then)
   iri_fits l g = let z = g.1 refl in let w = written_iri (iri_of l) in (omega arith, omega arith)
 
@@ -91,12 +91,13 @@ module _ (limit n token_then iri_then : ℕ) (a : 2 * limit ≤ token_then) (b :
   label_fits l g = let s = length-drop 2 l.text in let z = g.0 in omega (arith, s)
 
   string_fits : (l : Leaf) → Good (token ShortString l) → length (string_text (string_of l)) ≤ token_then
-  string_fits l g = let s = string_short l in let w = written_string (string_of l) in let z = g.0 in omega arith
+  string_fits l g = let s = string_short 1 l.text in let w = written_string (string_of l) in let z = g.0 in omega arith
 
   tag_fits : (l : Leaf) → Good (token LangTag l) → length (64 ∷ drop 1 l.text) ≤ token_then
   tag_fits l g = let s = length-drop 1 l.text in let z = g.0 in omega (arith, s)
 
-  name_fits : (x : Name) → AllByRecursion Good (name_tokens x) → SubjectWithin iri_then (subject_of x) × (length (subject_text (rename_subject Kept (subject_of x))) ≤ token_then)
+  name_fits : (x : Name) → AllByRecursion Good (name_tokens x) →
+      SubjectWithin iri_then (subject_of x) × (length (subject_text (rename_subject Kept (subject_of x))) ≤ token_then)
   name_fits (Ref l) g = iri_fits l g.0
   name_fits (Lab l) g = (tt, label_fits l g.0)
 
@@ -120,10 +121,10 @@ module _ (limit n token_then iri_then : ℕ) (a : 2 * limit ≤ token_then) (b :
       let i = token IriRef s.predicate ∷ [] in
       let o = object_tokens s.object in
       let r = graph_tokens s.graph in
-      let h = (split (n ++ i ++ o ++ r) (token Dot s.dot ∷ []) g).0 in
-      let k = split (n ++ i ++ o) r h in
-      let j = split (n ++ i) o k.0 in
-      let m = split n i j.0 in
+      let h = (split Good (n ++ i ++ o ++ r) (token Dot s.dot ∷ []) g).0 in
+      let k = split Good (n ++ i ++ o) r h in
+      let j = split Good (n ++ i) o k.0 in
+      let m = split Good n i j.0 in
       let x = name_fits s.subject m.0 in
       let y = iri_fits s.predicate m.1.0 in
       let z = object_fits s.object j.1 in
@@ -132,10 +133,10 @@ module _ (limit n token_then iri_then : ℕ) (a : 2 * limit ≤ token_then) (b :
 
   tree_fits : (t : Tree) → AllByRecursion Good (document_tokens t) → AllByRecursion Fits (quads t)
   tree_fits (last L.empty l) g = tt
-  tree_fits (last (L.one s) l) g = (statement_fits s (split (statement_tokens s) (token End l ∷ []) g).0, tt)
+  tree_fits (last (L.one s) l) g = (statement_fits s (split Good (statement_tokens s) (token End l ∷ []) g).0, tt)
   tree_fits (next L.empty l t) g = tree_fits t g.1
   tree_fits (next (L.one s) l t) g =
-      let p = split (statement_tokens s) (token LineEnd l ∷ document_tokens t) g in
+      let p = split Good (statement_tokens s) (token LineEnd l ∷ document_tokens t) g in
       (statement_fits s p.0, tree_fits t p.1.1)
 
   iris : (qs : List Quad) → AllByRecursion Fits qs → AllByRecursion (IrisWithin iri_then) qs
@@ -155,9 +156,11 @@ module _ (limit n token_then iri_then : ℕ) (a : 2 * limit ≤ token_then) (b :
   )
 
 pub document_read_back : WrittenDocumentIsRead
-document_read_back form limit n bytes qs document whole writable token_then iri_then a b c d e =
+document_read_back form limit n bytes qs document whole token_then iri_then a b c d e =
     let ts = (tokens_of Lines limit bytes true).tokens in
     let (tree, tokens, bound, same) = without_marks form ts qs (document.1, document.2, document.3) in
     let g = good limit n token_then iri_then a b c d e ts (no_longer Lines limit bytes true) whole.front.kept in
-    let fits = subst (AllByRecursion (Fits limit n token_then iri_then a b c d e)) same (tree_fits limit n token_then iri_then a b c d e tree (subst (AllByRecursion (Good limit n token_then iri_then a b c d e)) tokens g)) in
-    text_read Kept qs token_then iri_then writable (omega arith) (shorts limit n token_then iri_then a b c d e qs fits) (iris limit n token_then iri_then a b c d e qs fits)
+    let here = subst (AllByRecursion (Good limit n token_then iri_then a b c d e)) tokens g in
+    let fits = subst (AllByRecursion (Fits limit n token_then iri_then a b c d e)) same (tree_fits limit n token_then iri_then a b c d e tree here) in
+    let short = shorts limit n token_then iri_then a b c d e qs fits in
+    text_read Kept qs token_then iri_then (document_writable form limit n bytes qs document) (omega arith) short (iris limit n token_then iri_then a b c d e qs fits)

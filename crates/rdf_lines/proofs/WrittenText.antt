@@ -27,7 +27,7 @@ use Rattle.rdf_terms.proofs.UsedCharacters.{uses, all_used}
 use Rattle.rdf_lines.proofs.SpelledLine.{Written, upto_subject, upto_predicate, upto_object, upto_graph}
 
 -- each character of a matched text is a scalar value
-uses_scalar : (r : Regex) (c : ℕ) → uses r c ≡ true → scalar c ≡ true
+pub uses_scalar : (r : Regex) (c : ℕ) → uses r c ≡ true → scalar c ≡ true
 unfolding has
 uses_scalar nothing c e = absurd (false≢true e)
 uses_scalar empty c e = absurd (false≢true e)

@@ -103,8 +103,12 @@ abbrev pub WrittenTextIsRead : Type 0
 WrittenTextIsRead = (s : Style) (qs : List Quad) (limit iri : ℕ) → Writable s qs → 2 ≤ limit → AllByRecursion (TokensWithin limit) (map (rename s) qs) →
     AllByRecursion (IrisWithin iri) qs → IsReadToItsEnd (in_lines NQuads limit iri) (encode_utf8_all (text s qs))
 
+-- The quads of a document are well formed, and each of their nodes has a label.
+abbrev pub DocumentIsWritable : Type 0
+DocumentIsWritable = (form : LineForm) (token iri : ℕ) (bytes : List ℕ) (qs : List Quad) → IsDocumentOf (in_lines form token iri) bytes qs → Writable Kept qs
+
 -- What is written, with the labels kept, for a document within some limits is read to its end with limits that are a little higher.
 abbrev pub WrittenDocumentIsRead : Type 0
-WrittenDocumentIsRead = (form : LineForm) (token iri : ℕ) (bytes : List ℕ) (qs : List Quad) → IsDocumentOf (in_lines form token iri) bytes qs → IsWhole (in_lines form token iri) bytes → Writable Kept qs →
+WrittenDocumentIsRead = (form : LineForm) (token iri : ℕ) (bytes : List ℕ) (qs : List Quad) → IsDocumentOf (in_lines form token iri) bytes qs → IsWhole (in_lines form token iri) bytes →
     (token_then iri_then : ℕ) → 2 * token ≤ token_then → iri + 2 ≤ token_then → 64 ≤ token_then → iri ≤ iri_then → 64 ≤ iri_then →
     IsReadToItsEnd (in_lines NQuads token_then iri_then) (encode_utf8_all (text Kept qs))

@@ -4,7 +4,7 @@ ghost use Rattle.std.specs.Prelude.{◌≡◌, ℕ, List, ◌≤◌, length};
 ghost use Rattle.rdf_terms.specs.Terms.{IsNode, Node, Quad};
 ghost use Rattle.rdf_lines.specs.declared.form.Style.{Style};
 ghost use Rattle.rdf_lines.specs.Writing.{Writable, rename_node, text};
-ghost use Rattle.rdf_lines.specs.Laws.{ReadsBack, TokensSettleTheQuads, TokensSettleWhatIsDue, DueBeginsTheQuads, ReadQuadsAreDue, DocumentsAreRead, RefusedIsNoDocument, WrittenTextIsRead, WrittenDocumentIsRead};
+ghost use Rattle.rdf_lines.specs.Laws.{ReadsBack, TokensSettleTheQuads, TokensSettleWhatIsDue, DueBeginsTheQuads, ReadQuadsAreDue, DocumentsAreRead, RefusedIsNoDocument, WrittenTextIsRead, DocumentIsWritable, WrittenDocumentIsRead};
 
 /// The bytes written for quads are a document of N-Quads, whose quads are these, renamed, one for one and in
 /// order. Any limit on a token's characters that is not below the text's length serves.
@@ -51,6 +51,12 @@ pub fn refused_is_no_document()
 /// lines passes, and any limit on IRIs that no IRI of the quads passes.
 pub fn written_text_is_read()
     ensures { WrittenTextIsRead }
+{}
+
+/// The quads of a document of a line format can be written with their labels kept: they are well formed, and each of
+/// their nodes has a label.
+pub fn document_is_writable()
+    ensures { DocumentIsWritable }
 {}
 
 /// What is written for a document of a line format is read to its end: with twice its limit on tokens, room for an IRI

@@ -38,3 +38,7 @@ pub mod NewReaderLemmas
 pub mod WholeLemmas
 pub mod EndLemmas
 pub mod AcceptingLemmas
+mod WrittenParts
+mod WrittenSteps
+mod WrittenLimits
+mod WrittenExamples

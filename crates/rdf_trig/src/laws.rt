@@ -1,6 +1,6 @@
 //! The laws of Turtle and TriG. These functions do nothing: their contracts are the laws.
 
-ghost use Rattle.rdf_trig.specs.Laws.{EventsTellTheTree, MarksNeverFall, TokensSettleTheQuads, TokensSettleWhatIsDue, DueBeginsTheQuads, TokensSettleTheirSenses, ViableIsShapedAndBound, BeginningsAreCompleted, NamelessIsUnbound, DirectivesBind, DocumentsAreAccepted, AcceptedIsADocument, AcceptedBeginsADocument, RefusedForItsReason, ReadQuadsAreDue, DocumentsAreRead, RefusedIsNoDocument};
+ghost use Rattle.rdf_trig.specs.Laws.{EventsTellTheTree, MarksNeverFall, TokensSettleTheQuads, TokensSettleWhatIsDue, DueBeginsTheQuads, TokensSettleTheirSenses, ViableIsShapedAndBound, BeginningsAreCompleted, NamelessIsUnbound, DirectivesBind, DocumentsAreAccepted, AcceptedIsADocument, AcceptedBeginsADocument, RefusedForItsReason, ReadQuadsAreDue, DocumentsAreRead, RefusedIsNoDocument, DocumentIsWritable, WrittenDocumentIsRead};
 
 /// The events of a tree, from left to right, have the tokens that it derives, and its quads with their marks.
 pub fn events_tell_the_tree()
@@ -85,4 +85,15 @@ pub fn documents_are_read()
 /// What is refused is no document within the limits.
 pub fn refused_is_no_document()
     ensures { RefusedIsNoDocument }
+{}
+
+/// The quads of a document can be written with a node that has no label named by its offset: they are well formed.
+pub fn document_is_writable()
+    ensures { DocumentIsWritable }
+{}
+
+/// What is written for a document within its limits is read to its end as N-Quads: with twice its limit on tokens, room
+/// for an IRI and its brackets, and its limit on IRIs, each at least 64.
+pub fn written_document_is_read()
+    ensures { WrittenDocumentIsRead }
 {}
