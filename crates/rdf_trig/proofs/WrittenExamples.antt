@@ -31,7 +31,7 @@ use Rattle.rdf_tokens.specs.Grammars.{IsFront, reading_of, IsDocumentOf, IsWhole
 use Rattle.rdf_trig.proofs.Vectors.{leaf, quad}
 use Rattle.rdf_trig.proofs.LawLemmas.{begins}
 use Rattle.rdf_trig.proofs.Exact.{accepted_document}
-use Rattle.rdf_trig.proofs.ReadingsLemmas.{document_complete}
+use Rattle.rdf_trig.proofs.EndLemmas.{document_complete}
 use Rattle.rdf_trig.proofs.WrittenLimits.{document_writable, document_read_back}
 
 abbrev small : InForce
@@ -63,7 +63,7 @@ nameless_is : IsDocumentOf (language Turtle small) nameless nameless_quads
 nameless_is =
     let d = accepted_document Turtle small nameless_tokens over nameless_quads nameless_ran refl in
     let here = subst (λ ts. documents Turtle small ts d.0) (sym nameless_read) d.1 in
-    (document_complete Turtle small nameless true d.0 here, d.0, here, d.2)
+    (document_complete Turtle small small.limits.token nameless true d.0 here, d.0, here, d.2)
 
 nameless_whole : IsWhole (language Turtle small) nameless
 nameless_whole = record {
