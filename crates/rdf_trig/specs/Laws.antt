@@ -6,7 +6,7 @@ use Rattle.rdf_terms.specs.declared.kind.Kind.TheVariants.{IriRef, PnameNs, Dot,
 use Rattle.rdf_terms.specs.declared.reason.Reason.{Reason}
 use Rattle.rdf_terms.specs.Terms.{Quad, has_scheme, IsIri}
 use Rattle.rdf_tokens.specs.Tokens.{Place, Token}
-use Rattle.rdf_tokens.specs.Grammars.{Marked, unmarked, Viable, Shaped, Due, PassesNone, IsFront, reading_of, IsDocumentOf, IsWithin, GoesOn, Refused, IsReadToItsEnd}
+use Rattle.rdf_tokens.specs.Grammars.{Marked, unmarked, Viable, Shaped, Due, PassesNone, IsFront, reading_of, IsDocumentOf, IsWithin, GoesOn, IsWhole, Refused, IsReadToItsEnd}
 use Rattle.rdf_driver.specs.Words.{in_words}
 use Rattle.rdf_driver.specs.Readers.{HasRead}
 use Rattle.rdf_tokens.specs.Scans.{most_bytes}
