@@ -2,7 +2,7 @@ use Rattle.std.proofs.Common.{◌++◌, append_assoc, ap, sym, ◌∙◌, ◌-�
 use Rattle.std.specs.Prelude.{flat_map}
 use Rattle.rdf_lines.specs.Writing.{escaped}
 use Rattle.rdf_lines.proofs.PlainRuns.{escaped_more}
-use Rattle.rdf_lines.proofs.string.put_escaped.Goals as goal
+use Rattle.rdf_lines.proofs.writer.string.put_escaped.Goals as goal
 
 pub loop-done-preserved : goal.loop-done-preserved
 loop-done-preserved g c =

@@ -2,7 +2,7 @@ use Rattle.std.proofs.Common.{◌≡◌, ◌++◌, [], ◌∷◌, append_assoc, 
 use Rattle.rdf_lines.specs.Writing.{iri_text, space}
 use Rattle.rdf_lines.specs.WrittenBytes.{subject_bytes, term_bytes, graph_bytes}
 use Rattle.rdf_lines.proofs.WrittenBytesLemmas.{begins_with_front, on_ok, on_err, parts_appended}
-use Rattle.rdf_lines.proofs.line.put_line.Goals as goal
+use Rattle.rdf_lines.proofs.writer.line.put_line.Goals as goal
 
 pub returns-clause-written : goal.returns-clause-written
 returns-clause-written g c =

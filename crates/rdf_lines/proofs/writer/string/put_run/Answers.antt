@@ -1,7 +1,7 @@
 use Rattle.std.proofs.Common.{◌≡◌, ◌<◌, ◌++◌, append_assoc, length, ap, sym, ◌∙◌, take, get_or, arith}
 use Rattle.rdf_lines.specs.Writing.{escaped}
 use Rattle.rdf_lines.proofs.PlainRuns.{plain_text, run_written}
-use Rattle.rdf_lines.proofs.string.put_run.Goals as goal
+use Rattle.rdf_lines.proofs.writer.string.put_run.Goals as goal
 
 pub returns-then-at-text-clause-written : goal.returns-then-at-text-clause-written
 returns-then-at-text-clause-written g c =

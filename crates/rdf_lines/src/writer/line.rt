@@ -5,7 +5,7 @@ ghost use Rattle.rdf_lines.specs.Writing.{iri_text, space};
 ghost use Rattle.rdf_lines.specs.WrittenBytes.{BeginsWith, graph_bytes, line_bytes, subject_bytes, term_bytes};
 
 use crate::form::Style;
-use crate::term::{put_iri, put_name, put_term};
+use crate::writer::term::{put_iri, put_name, put_term};
 use rdf_terms::{IriView, QuadRef, SubjectRef, TermRef};
 use std::alloc::{AllocError, Allocator};
 

@@ -1,7 +1,7 @@
 use Rattle.std.proofs.Common.{◌≡◌, ◌++◌, ◌≤◌, ◌-◌, take, length}
 use Rattle.std.specs.Prelude.{flat_map}
 use Rattle.rdf_lines.specs.Writing.{escaped}
-use Rattle.rdf_lines.proofs.string.put_escaped.Given as goal
+use Rattle.rdf_lines.proofs.writer.string.put_escaped.Given as goal
 
 abbrev pub invariant-loop-done : goal.invariant-loop-done
 invariant-loop-done g l =

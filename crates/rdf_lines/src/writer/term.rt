@@ -6,7 +6,7 @@ ghost use Rattle.rdf_lines.specs.Writing.{iri_text, type_text};
 ghost use Rattle.rdf_lines.specs.WrittenBytes.{BeginsWith, node_bytes, subject_bytes, tail_bytes, term_bytes};
 
 use crate::form::Style;
-use crate::string::put_string;
+use crate::writer::string::put_string;
 use itoa::Buffer;
 use rdf_terms::{IriView, NodeRef, SubjectRef, TailRef, TermRef};
 use std::alloc::{AllocError, Allocator};
