@@ -29,6 +29,7 @@ use Rattle.rdf_trig.proofs.LawLemmas.{begins, stops}
 use Rattle.rdf_trig.proofs.Refused.{passes_none}
 use Rattle.rdf_trig.proofs.RunsLemmas.{runs_one, runs_refused, runs_few}
 
+-- The words of Turtle and TriG keep what the driver asks of a grammar.
 pub lawful : Lawful tree_words
 lawful = record {
   due = λ g x ts qs r. due_ran x.form x.start ts r.2.machine qs r.2.accepted;
@@ -139,6 +140,7 @@ module _ {S : Type 0} (takes : S → Quad → S → Type 0) (g : TreeAt) (t : To
           (stops x.form x.start ts t [] r.2.machine qs y r.2.accepted (runs_refused x.form x.start ts t qs g.state y r.2 (by_form x (refuses y) r.0 f.0))).reason;
     }
 
+    -- The step fails for its reason, as the driver asks.
     pub misses_token : (why : StepFault) → Fails takes leaves failed why (answer g.form g t) old new → Misses tree_words takes leaves failed (reason_of why) g t old new
     misses_token fault.Unexpected f = refused reason.Unexpected unexpected f (λ x ts h. h)
     misses_token fault.TooDeep f = refused reason.TooDeep too_deep f (λ x ts h. h)

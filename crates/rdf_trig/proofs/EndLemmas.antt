@@ -24,6 +24,7 @@ abbrev IsOver : Reply → Type 0
 IsOver No = Unit {0}
 IsOver (Go u early now c m) = m ≡ Over
 
+-- each mode that takes the end, in turn
 end_over : (c : Setting) (s : Option term.Subject) (a : Around) (l : Leaf) → IsOver (list_end c s a End l)
 end_over c s (Statement Top) l = tt
 end_over c s (Statement InBlock) l = tt
@@ -41,6 +42,7 @@ step_over form c (Semi s a) l = end_over c s a l
 step_over form c (AfterBox s v) l = end_over c s (Statement v) l
 step_over form c m l = tt
 
+-- so the token End, where it is accepted,
 accept_over : (form : DocForm) (s n : State) (t : Token) (qs : List Quad) → accept form s t.kind (leaf_of t) ≡ accepts qs n → t.kind ≡ End → n.mode ≡ Over
 accept_over form s n t qs e k =
     let a = accepted s.setting.scope.limits s t.kind (waiting s.setting s.mode t.kind (leaf_of t)) (step form s.setting s.mode t.kind (leaf_of t)) qs n e in
@@ -48,6 +50,7 @@ accept_over form s n t qs e k =
     let over : a.mode ≡ Over = subst IsOver a.reply over in
     ap (λ (x : State). x.mode) a.state ∙ over
 
+-- and a run whose last token it is.
 pub ends_over : (form : DocForm) (ts : List Token) (t : Token) (s n : State) (qs : List Quad) → accept_all form s (ts ++ t ∷ []) ≡ ran n qs → t.kind ≡ End → n.mode ≡ Over
 ends_over form [] t s n qs e k = by (accept form s t.kind (leaf_of t)) refl e
   where
