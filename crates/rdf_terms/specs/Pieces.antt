@@ -1,4 +1,5 @@
 -- What a text means, piece by piece (Turtle 6.4): each character stands for itself, but an escape for the one that it spells.
+use Prim.Native.Char.{code}
 use Rattle.std.specs.Prelude.{◌≡◌, ◌≢◌, ℕ, ◌+◌, ◌-◌, ◌*◌, ◌^◌, true, cond, List, [], ◌∷◌, ◌++◌, ◌⊎◌, length, take, drop, ⊤}
 use Rattle.rdf_terms.specs.Classes.{has, scalar, within}
 use Rattle.rdf_terms.specs.Classes.Class.{hex_digit, iri_char, local_escape}
@@ -16,7 +17,7 @@ abbrev pub inside : ℕ → List ℕ → List ℕ
 inside n w = take (length w - 2 * n) (drop n w)
 
 abbrev pub backslash : ℕ
-backslash = 92
+backslash = code "\\"
 
 -- a pair is in a table
 abbrev pub IsRow : List (ℕ × ℕ) → ℕ → ℕ → Type 0
@@ -25,11 +26,11 @@ IsRow (row ∷ rows) a b = ((a ≡ row.0) × (b ≡ row.1)) ⊎ IsRow rows a b
 
 -- ECHAR ::= '\' [tbnrf"'\]: the letter, and the character that it stands for: tab, backspace, line feed, carriage return, form feed, and the other three themselves
 abbrev pub letters : List (ℕ × ℕ)
-letters = (116, 0x09) ∷ (98, 0x08) ∷ (110, 0x0A) ∷ (114, 0x0D) ∷ (102, 0x0C) ∷ (34, 34) ∷ (39, 39) ∷ (92, 92) ∷ []
+letters = (code "t", code "\t") ∷ (code "b", 0x08) ∷ (code "n", code "\n") ∷ (code "r", code "\r") ∷ (code "f", 0x0C) ∷ (code "\"", code "\"") ∷ (code "'", code "'") ∷ (code "\\", code "\\") ∷ []
 
 -- what a hex digit counts: '0' to '9', 'A' to 'F', 'a' to 'f'
 abbrev pub hex_value : ℕ → ℕ
-hex_value c = cond (within 48 57 c) (c - 48) (cond (within 65 70 c) (c - 55) (c - 87))
+hex_value c = cond (within (code "0") (code "9") c) (c - 48) (cond (within (code "A") (code "F") c) (c - 55) (c - 87))
 
 -- the number that hex digits write
 abbrev pub hex_number : List ℕ → ℕ
@@ -53,7 +54,7 @@ IsLetterEscape of_iri piece c = ⊥
 -- UCHAR ::= '\u' HEX HEX HEX HEX | '\U' HEX HEX HEX HEX HEX HEX HEX HEX: the number is that of the character
 abbrev pub IsNumberEscape : Inside → List ℕ → ℕ → Type 0
 IsNumberEscape i piece c = (hexes : List ℕ)
-    × (((piece ≡ backslash ∷ 117 ∷ hexes) × (length hexes ≡ 4)) ⊎ ((piece ≡ backslash ∷ 85 ∷ hexes) × (length hexes ≡ 8)))
+    × (((piece ≡ backslash ∷ code "u" ∷ hexes) × (length hexes ≡ 4)) ⊎ ((piece ≡ backslash ∷ code "U" ∷ hexes) × (length hexes ≡ 8)))
     × (all_have (has hex_digit) hexes ≡ true) × (c ≡ hex_number hexes) × (scalar c ≡ true) × MayMean i c
 
 -- a piece of the inside of a string or an IRI, and the character that it means

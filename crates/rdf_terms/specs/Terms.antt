@@ -1,4 +1,5 @@
 -- Terms and quads. A text is its characters.
+use Prim.Native.Char.{code}
 use Rattle.std.specs.Prelude.{◌≡◌, ℕ, ◌<◌, ◌^◌, Bool, true, false, List, [], ◌∷◌, ◌&&◌, ◌||◌, ◌==◌, codes, Option, Some, None}
 use Rattle.rdf_terms.specs.Classes.{has, scalar, is_letter, is_digit}
 use Rattle.rdf_terms.specs.declared.kind.Dialect.TheVariants.{Lines}
@@ -37,7 +38,7 @@ xsd_string = codes "http://www.w3.org/2001/XMLSchema#string"
 -- a scheme and its colon stand first (RFC 3986, 3.1): ALPHA (ALPHA | DIGIT | '+' | '-' | '.')* ':'
 abbrev pub scheme_goes_on : List ℕ → Bool
 scheme_goes_on [] = false
-scheme_goes_on (c ∷ w) = c == 58 || ((is_letter c || is_digit c || c == 43 || c == 45 || c == 46) && scheme_goes_on w)
+scheme_goes_on (c ∷ w) = c == code ":" || ((is_letter c || is_digit c || c == code "+" || c == code "-" || c == code ".") && scheme_goes_on w)
 
 abbrev pub has_scheme : List ℕ → Bool
 has_scheme [] = false

@@ -1,4 +1,5 @@
 -- The good text of some bytes, what comes behind it, and the tokens of the bytes.
+use Prim.Native.Char.{code}
 use Rattle.std.specs.Prelude.{ℕ, ◌+◌, Bool, true, false, cond, List, [], ◌∷◌, length, take, drop, count_by, is_some, ◌==◌, ◌||◌}
 use Rattle.std.specs.Str.{chars}
 use Rattle.std.specs.Str.Lossy.{utf8_valid_len, utf8_error_len}
@@ -28,7 +29,7 @@ first_place = record { offset = 0; line = 1 }
 
 -- the place behind some bytes: their number, and one more than the line feeds in them
 abbrev pub end_of : List ℕ → Place
-end_of bytes = record { offset = length bytes; line = 1 + count_by (λ b. b == 10) bytes }
+end_of bytes = record { offset = length bytes; line = 1 + count_by (λ b. b == code "\n") bytes }
 
 -- the tokens of a text whose beginning has been looked at, or that is the input's beginning
 abbrev pub tokens_at : Dialect → ℕ → Tail → Bool → Bool → Place → List ℕ → Reading

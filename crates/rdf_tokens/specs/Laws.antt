@@ -1,4 +1,5 @@
 -- The laws of token lists.
+use Prim.Native.Char.{code}
 use Rattle.std.specs.Prelude.{◌≡◌, ◌≢◌, ◌↔◌, ◌⊎◌, ℕ, ◌<◌, ◌≤◌, ◌+◌, ◌==◌, Bool, true, false, List, [], ◌∷◌, ◌++◌, length, take, drop, count_by, encode_utf8_all, Option, Some, None, Result, Ok, Err}
 use Rattle.std.specs.List.{All}
 use Rattle.std.specs.Str.{chars}
@@ -60,7 +61,7 @@ NextTokenIsGiven = (old new : Unread) (bytes : List ℕ) (ts : List Token) (resu
 -- a place within some bytes: its line is one more than the line feeds before it
 pub record IsPlaceIn (bytes : List ℕ) (p : Place) : Type 0 where
   pub within : p.offset ≤ length bytes
-  pub line : p.line ≡ 1 + count_by (λ b. b == 10) (take p.offset bytes)
+  pub line : p.line ≡ 1 + count_by (λ b. b == code "\n") (take p.offset bytes)
 
 -- the bytes of a token stand at its place
 pub record StandsIn (bytes : List ℕ) (t : Token) : Type 0 where

@@ -1,4 +1,5 @@
 -- The tokens of a text, from left to right, and why there are no more.
+use Prim.Native.Char.{code}
 use Rattle.std.specs.Prelude.{ℕ, zero, suc, ◌+◌, Bool, true, false, cond, List, [], ◌∷◌, ◌++◌, ◌&&◌, ◌||◌, ◌==◌, nat_lt, length, take, drop, Option, Some, None, is_some}
 use Rattle.std.specs.Char.{len_utf8}
 use Rattle.rdf_terms.specs.declared.kind.Dialect.{Dialect}
@@ -16,7 +17,7 @@ pub record Place : Type 0 where
 -- the place behind some characters
 abbrev pub past : Place → List ℕ → Place
 past p [] = p
-past p (c ∷ w) = past (record { offset = p.offset + len_utf8 c; line = p.line + cond (c == 10) 1 0 }) w
+past p (c ∷ w) = past (record { offset = p.offset + len_utf8 c; line = p.line + cond (c == code "\n") 1 0 }) w
 
 -- what comes behind the good text: more, nothing, or bytes that are no character
 pub data Tail : Type 0 where
@@ -37,22 +38,24 @@ pub record Token : Type 0 where
   pub text : List ℕ
   pub at : Place
 
+-- CR or LF
 abbrev pub is_line_end : ℕ → Bool
-is_line_end c = c == 10 || c == 13
+is_line_end c = c == code "\n" || c == code "\r"
 
+-- WS ::= #x20 | #x9, in Turtle and TriG also #xD | #xA
 abbrev pub is_space : Dialect → ℕ → Bool
-is_space Lines c = c == 32 || c == 9
-is_space Turtle c = c == 32 || c == 9 || is_line_end c
+is_space Lines c = c == code " " || c == code "\t"
+is_space Turtle c = c == code " " || c == code "\t" || is_line_end c
 
 -- how many characters of white space and comments come first; the test says that a comment has begun
 abbrev pub blank : Dialect → Bool → List ℕ → ℕ
 blank d b [] = 0
-blank d false (c ∷ w) = cond (is_space d c) (suc (blank d false w)) (cond (c == 35) (suc (blank d true w)) 0)
+blank d false (c ∷ w) = cond (is_space d c) (suc (blank d false w)) (cond (c == code "#") (suc (blank d true w)) 0)
 blank d true (c ∷ w) = cond (is_line_end c) (cond (is_space d c) (suc (blank d false w)) 0) (suc (blank d true w))
 
 -- three equal quotes come first
 abbrev pub three_quotes : Dialect → List ℕ → Bool
-three_quotes Turtle (a ∷ b ∷ c ∷ w) = (a == 34 && b == 34 && c == 34) || (a == 39 && b == 39 && c == 39)
+three_quotes Turtle (a ∷ b ∷ c ∷ w) = (a == code "\"" && b == code "\"" && c == code "\"") || (a == code "'" && b == code "'" && c == code "'")
 three_quotes d w = false
 
 abbrev pub only_long : Bool → Option Kind → Option Kind
