@@ -1,67 +1,9 @@
--- Removal of dot segments (RFC 3986, section 5.2.4).
-use Rattle.std.specs.Prelude.{◌≡◌, ℕ, zero, suc, Bool, false, cond, List, [], ◌∷◌, ◌++◌, ◌==◌, ◌||◌, ◌⊎◌, take, drop, length, codes}
-use Rattle.rdf_iri.specs.Texts.{Lacks, BeginsWith, begins, equal, before, from}
-
--- what is left of the path, and what was given out
-pub record Walk : Type 0 where
-  pub input : List ℕ
-  pub output : List ℕ
-
--- the output without its last segment and the '/' before it, if any
-abbrev pub LastSegmentRemoved : List ℕ → List ℕ → Type 0
-LastSegmentRemoved out shorter = ((segment : List ℕ) × Lacks 47 segment × (out ≡ shorter ++ 47 ∷ segment)) ⊎ (Lacks 47 out × (shorter ≡ []))
-
--- A: a front "../" or "./" is removed
-abbrev pub RuleA : Walk → Walk → Type 0
-RuleA s t = ((s.input ≡ codes "../" ++ t.input) ⊎ (s.input ≡ codes "./" ++ t.input)) × (t.output ≡ s.output)
-
--- the front, or the last text where it is all of the input, is replaced by "/"
-abbrev pub Slashed : List ℕ → List ℕ → Walk → Walk → Type 0
-Slashed front last s t =
-    ((rest : List ℕ) × (s.input ≡ front ++ rest) × (t.input ≡ 47 ∷ rest)) ⊎ ((s.input ≡ last) × (t.input ≡ 47 ∷ []))
-
--- B: "/./", or the last "/.", is replaced by "/"
-abbrev pub RuleB : Walk → Walk → Type 0
-RuleB s t = Slashed (codes "/./") (codes "/.") s t × (t.output ≡ s.output)
-
--- C: "/../", or the last "/..", is replaced by "/", and the last segment of the output is removed
-abbrev pub RuleC : Walk → Walk → Type 0
-RuleC s t = Slashed (codes "/../") (codes "/..") s t × LastSegmentRemoved s.output t.output
-
--- D: a last "." or ".." is removed
-abbrev pub RuleD : Walk → Walk → Type 0
-RuleD s t = ((s.input ≡ codes ".") ⊎ (s.input ≡ codes "..")) × (t.input ≡ []) × (t.output ≡ s.output)
-
--- E: the first segment, with the '/' before it, up to the next '/', moves to the output
-abbrev pub RuleE : Walk → Walk → Type 0
-RuleE s t = (c : ℕ) × (segment : List ℕ) × (s.input ≡ c ∷ (segment ++ t.input)) × Lacks 47 segment
-    × ((t.input ≡ []) ⊎ BeginsWith (47 ∷ []) t.input) × (t.output ≡ s.output ++ c ∷ segment)
-
--- the first of the rules that fits
-abbrev pub FirstOf : List (Walk → Walk → Type 0) → Walk → Walk → Type 0
-FirstOf [] s t = ⊥
-FirstOf (rule ∷ rules) s t = rule s t ⊎ (((t : Walk) × rule s t → ⊥) × FirstOf rules s t)
-
-abbrev pub Step : Walk → Walk → Type 0
-Step = FirstOf (RuleA ∷ RuleB ∷ RuleC ∷ RuleD ∷ RuleE ∷ [])
-
--- after so many steps the input is empty, and the output is the result
-abbrev pub Ends : ℕ → Walk → List ℕ → Type 0
-Ends zero s result = (s.input ≡ []) × (s.output ≡ result)
-Ends (suc n) s result = (t : Walk) × Step s t × Ends n t result
-
-abbrev pub DotsRemoved : List ℕ → List ℕ → Type 0
-DotsRemoved path result = (n : ℕ) × Ends n (record { input = path; output = [] }) result
-
--- The same as functions.
--- what stands before the last '/', or nothing where there is none
-abbrev pub has_slash : List ℕ → Bool
-has_slash [] = false
-has_slash (c ∷ w) = c == 47 || has_slash w
-
-abbrev pub parent : List ℕ → List ℕ
-parent [] = []
-parent (c ∷ w) = cond (has_slash w) (c ∷ parent w) []
+-- Removal of dot segments as a function. That it gives the one result of the rules is a law.
+use Rattle.std.specs.Prelude.{ℕ, zero, suc, Bool, cond, List, [], ◌∷◌, ◌++◌, ◌||◌, take, drop, length, codes}
+use Rattle.rdf_iri.specs.Cuts.{begins, before, from}
+use Rattle.rdf_iri.specs.Texts.{equal}
+pub use Rattle.rdf_iri.specs.Texts.{has_slash, parent}
+pub use Rattle.rdf_iri.specs.DotSegments.{Walk, LastSegmentRemoved, RuleA, Slashed, RuleB, RuleC, RuleD, RuleE, FirstOf, Step, Ends, DotsRemoved}
 
 -- the first segment, with the '/' before it, and what follows
 abbrev pub first_segment : List ℕ → List ℕ

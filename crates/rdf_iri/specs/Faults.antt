@@ -4,7 +4,7 @@ use Rattle.rdf_terms.specs.Terms.{has_scheme}
 use Rattle.rdf_iri.specs.declared.fault.IriFault.{IriFault}
 use Rattle.rdf_iri.specs.declared.fault.IriFault.TheVariants.{NoBase, IriTooLong, Memory, Unbound, TooManyBindings}
 use Rattle.rdf_iri.specs.Texts.{byte_len}
-use Rattle.rdf_iri.specs.Resolve.{Resolves}
+use Rattle.rdf_iri.specs.Resolution.{Resolves}
 
 -- why a reference is not resolved against the base, or none, within so many bytes; memory is told only where there is a result
 abbrev pub Unresolved : Option (List ℕ) → List ℕ → ℕ → IriFault → Type 0

@@ -1,9 +1,12 @@
 -- The laws of references: each relation has one result, and the functions compute it.
 use Rattle.std.specs.Prelude.{◌≡◌, ◌↔◌, ℕ, false, List, Option, Some, None}
 use Rattle.rdf_terms.specs.Terms.{has_scheme}
-use Rattle.rdf_iri.specs.Parts.{Parts, Splits, parts_of}
-use Rattle.rdf_iri.specs.Dots.{DotsRemoved, remove_dots}
-use Rattle.rdf_iri.specs.Resolve.{Resolves, resolved}
+use Rattle.rdf_iri.specs.Reference.{Parts, Splits}
+use Rattle.rdf_iri.specs.Parts.{parts_of}
+use Rattle.rdf_iri.specs.DotSegments.{DotsRemoved}
+use Rattle.rdf_iri.specs.Dots.{remove_dots}
+use Rattle.rdf_iri.specs.Resolution.{Resolves}
+use Rattle.rdf_iri.specs.Resolve.{resolved}
 
 -- A reference splits into its parts in one way.
 abbrev pub ReferencesSplitOnce : Type 0

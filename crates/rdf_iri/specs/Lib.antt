@@ -1,10 +1,16 @@
-pub mod Limits
+-- what has to be believed
 pub mod Texts
-pub mod Parts
-pub mod Seen
-pub mod Dots
-pub mod Rules
-pub mod Resolve
+pub mod Reference
+pub mod DotSegments
+pub mod Resolution
+pub mod Limits
 pub mod Faults
 pub mod Scope
+-- what need not be: functions that compute, what the code's side speaks of, and the laws, which say that both agree
+pub mod Cuts
+pub mod Parts
+pub mod Dots
+pub mod Resolve
+pub mod Seen
+pub mod Rules
 pub mod Laws

@@ -6,7 +6,7 @@ use Rattle.rdf_iri.specs.declared.fault.IriFault.{IriFault}
 use Rattle.rdf_iri.specs.declared.fault.IriFault.TheVariants.{NoBase, IriTooLong, Memory, Unbound, TooManyBindings}
 use Rattle.rdf_iri.specs.Limits.{Sizes}
 use Rattle.rdf_iri.specs.Texts.{equal, byte_len}
-use Rattle.rdf_iri.specs.Resolve.{Resolves}
+use Rattle.rdf_iri.specs.Resolution.{Resolves}
 use Rattle.rdf_iri.specs.Faults.{Unresolved}
 
 pub record InForce : Type 0 where

@@ -1,5 +1,7 @@
 -- Where a character stands in a text. What cuts a reference is ASCII, so the same words serve for the bytes of a text.
-use Rattle.std.specs.Prelude.{◌≡◌, ◌≢◌, ℕ, Bool, true, false, cond, List, [], ◌∷◌, ◌++◌, ◌==◌, ◌&&◌, length, Option, Some, None, ⊤}
+use Prim.Native.Char.{code}
+use Rattle.std.specs.Prelude.{◌≡◌, ◌≢◌, ℕ, Bool, true, false, cond, List, [], ◌∷◌, ◌++◌, ◌==◌, ◌&&◌, ◌||◌, length, ⊤}
+pub use Rattle.rdf_iri.specs.Cuts.{begins, before, after, from}
 use Rattle.std.specs.Str.{encode_utf8_all}
 use Rattle.rdf_terms.specs.Classes.{has}
 use Rattle.rdf_terms.specs.Classes.Class.{iri_char}
@@ -22,27 +24,19 @@ Lacks c (d ∷ w) = (d ≢ c) × Lacks c w
 abbrev pub BeginsWith : List ℕ → List ℕ → Type 0
 BeginsWith front w = (rest : List ℕ) × (w ≡ front ++ rest)
 
-abbrev pub begins : List ℕ → List ℕ → Bool
-begins [] w = true
-begins (c ∷ front) [] = false
-begins (c ∷ front) (d ∷ w) = c == d && begins front w
-
+-- two texts are the same
 abbrev pub equal : List ℕ → List ℕ → Bool
 equal [] [] = true
 equal [] (d ∷ w) = false
 equal (c ∷ v) [] = false
 equal (c ∷ v) (d ∷ w) = c == d && equal v w
 
--- what stands before the first c, and behind it if it is there
-abbrev pub before : ℕ → List ℕ → List ℕ
-before c [] = []
-before c (d ∷ w) = cond (d == c) [] (d ∷ before c w)
+-- a '/' is in the text
+abbrev pub has_slash : List ℕ → Bool
+has_slash [] = false
+has_slash (c ∷ w) = c == code "/" || has_slash w
 
-abbrev pub after : ℕ → List ℕ → Option (List ℕ)
-after c [] = None
-after c (d ∷ w) = cond (d == c) (Some w) (after c w)
-
--- the text from the first c on
-abbrev pub from : ℕ → List ℕ → List ℕ
-from c [] = []
-from c (d ∷ w) = cond (d == c) (d ∷ w) (from c w)
+-- what stands before the last '/', or nothing where there is none
+abbrev pub parent : List ℕ → List ℕ
+parent [] = []
+parent (c ∷ w) = cond (has_slash w) (c ∷ parent w) []

@@ -7,7 +7,8 @@ use Rattle.std.proofs.lemmas.Bool.Decides.{nat_tests}
 use Rattle.std.proofs.lemmas.List.{append-nil}
 use Rattle.std.proofs.lemmas.Str.{encode_ascii, inside_one, scalars-chars, encodes-chars}
 use Rattle.std.proofs.Math.Utf8.{scalars}
-use Rattle.rdf_terms.specs.Classes.{has, member, scalar, iri_byte}
+use Rattle.rdf_terms.specs.Classes.{has, member, scalar}
+use Rattle.rdf_terms.specs.Runs.{iri_byte}
 use Rattle.rdf_terms.specs.Classes.Class.{iri_char}
 use Rattle.rdf_terms.specs.Terms.{all_have}
 

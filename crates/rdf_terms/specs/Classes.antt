@@ -86,25 +86,3 @@ member (pn_char d) c = is_u d c || c == code "-" || is_digit c || c == 0xB7 || w
 -- a character of the class
 unfoldable pub has : Class → ℕ → Bool
 has k c = scalar c && member k c
-
--- a byte of the UTF-8 of the characters of an IRIREF: what it excludes is ASCII
-abbrev pub iri_byte : ℕ → Bool
-iri_byte b = nat_le 128 b || member iri_char b
-
--- a member of the class
-abbrev pub sample : Class → ℕ
-sample (the x) = x
-sample digit = code "0"
-sample hex_digit = code "0"
-sample escape_letter = code "t"
-sample local_escape = code "_"
-sample letter = code "a"
-sample letter_or_digit = code "a"
-sample iri_char = code "a"
-sample plain_double = code "a"
-sample plain_single = code "a"
-sample long_double = code "a"
-sample long_single = code "a"
-sample pn_base = code "a"
-sample (pn_u d) = code "a"
-sample (pn_char d) = code "a"

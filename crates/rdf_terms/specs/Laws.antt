@@ -2,7 +2,8 @@
 use Rattle.std.specs.Prelude.{◌≡◌, ◌↔◌, ℕ, true, List, Some}
 use Rattle.rdf_terms.specs.declared.kind.Dialect.{Dialect}
 use Rattle.rdf_terms.specs.declared.kind.Kind.{Kind}
-use Rattle.rdf_terms.specs.Shapes.{Shape, Live, kind_of, is_live}
+use Rattle.rdf_terms.specs.Terminals.{Shape, Live}
+use Rattle.rdf_terms.specs.Shapes.{kind_of, is_live}
 use Rattle.rdf_terms.specs.Pieces.{of_string, of_iri, IsPiece, IsLocalPiece, Means, HasMeaning}
 use Rattle.rdf_terms.specs.Values.{string_value, iri_value, local_value, is_fit}
 

@@ -1,26 +1,27 @@
--- Regular expressions over classes of characters, and the texts that they match.
-use Rattle.std.specs.Prelude.{◌≡◌, ℕ, Bool, true, false, cond, List, [], ◌∷◌, ◌++◌, ◌&&◌, ◌||◌, ◌⊎◌}
-use Rattle.std.specs.List.{concat, AllByRecursion}
-use Rattle.rdf_terms.specs.Classes.{Class, has, sample}
+-- What is left to match of an expression after some characters. That this agrees with its texts is a law.
+use Prim.Native.Char.{code}
+use Rattle.std.specs.Prelude.{ℕ, Bool, true, false, cond, List, [], ◌∷◌, ◌&&◌, ◌||◌}
+use Rattle.rdf_terms.specs.Classes.{Class, has}
+use Rattle.rdf_terms.specs.Classes.Class.{the, digit, hex_digit, letter, letter_or_digit, iri_char, local_escape, escape_letter, plain_double, plain_single, long_double, long_single, pn_base, pn_u, pn_char}
+pub use Rattle.rdf_terms.specs.Expressions.{Regex, Matches, nothing, empty, one, ◌·◌, ◌∣◌, many}
 
-infixr 24 ◌·◌
-infixr 22 ◌∣◌
-pub data Regex : Type 0 where
-  nothing : Regex
-  empty : Regex
-  one : Class → Regex
-  ◌·◌ : Regex → Regex → Regex
-  ◌∣◌ : Regex → Regex → Regex
-  many : Regex → Regex
-
--- the texts of an expression
-abbrev pub Matches : Regex → List ℕ → Type 0
-Matches nothing w = ⊥
-Matches empty w = w ≡ []
-Matches (one k) w = (c : ℕ) × (has k c ≡ true) × (w ≡ c ∷ [])
-Matches (r · s) w = (u v : List ℕ) × Matches r u × Matches s v × (w ≡ u ++ v)
-Matches (r ∣ s) w = Matches r w ⊎ Matches s w
-Matches (many r) w = (parts : List (List ℕ)) × AllByRecursion (Matches r) parts × (w ≡ concat parts)
+-- a member of the class
+abbrev pub sample : Class → ℕ
+sample (the x) = x
+sample digit = code "0"
+sample hex_digit = code "0"
+sample escape_letter = code "t"
+sample local_escape = code "_"
+sample letter = code "a"
+sample letter_or_digit = code "a"
+sample iri_char = code "a"
+sample plain_double = code "a"
+sample plain_single = code "a"
+sample long_double = code "a"
+sample long_single = code "a"
+sample pn_base = code "a"
+sample (pn_u d) = code "a"
+sample (pn_char d) = code "a"
 
 -- whether it matches the empty text
 abbrev pub nullable : Regex → Bool

@@ -1,8 +1,13 @@
 -- Runs of bytes that a text has as they are.
-use Rattle.std.specs.Prelude.{◌≡◌, ℕ, ◌+◌, ◌<◌, ◌≤◌, Bool, true, false, not, ◌||◌, ◌==◌, List, [], ◌∷◌, length, get_or}
-use Rattle.rdf_terms.specs.Classes.{iri_byte, is_digit, is_letter, one_of}
+use Rattle.std.specs.Prelude.{◌≡◌, ℕ, ◌+◌, ◌<◌, ◌≤◌, Bool, true, false, not, ◌||◌, ◌==◌, nat_le, List, [], ◌∷◌, length, get_or}
+use Rattle.rdf_terms.specs.Classes.{member, is_digit, is_letter, one_of}
+use Rattle.rdf_terms.specs.Classes.Class.{iri_char}
 use Rattle.rdf_terms.specs.declared.runs.Run.{Run}
 use Rattle.rdf_terms.specs.declared.runs.Run.TheVariants.{Iri, Text, Name}
+
+-- a byte of the UTF-8 of the characters of an IRIREF: what it excludes is ASCII
+abbrev pub iri_byte : ℕ → Bool
+iri_byte b = nat_le 128 b || member iri_char b
 
 -- no quote, backslash or line break
 abbrev pub is_text_byte : ℕ → Bool

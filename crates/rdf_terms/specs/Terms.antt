@@ -4,8 +4,8 @@ use Rattle.std.specs.Prelude.{◌≡◌, ℕ, ◌<◌, ◌^◌, Bool, true, fals
 use Rattle.rdf_terms.specs.Classes.{has, scalar, is_letter, is_digit}
 use Rattle.rdf_terms.specs.declared.kind.Dialect.TheVariants.{Lines}
 use Rattle.rdf_terms.specs.Classes.Class.{iri_char}
-use Rattle.rdf_terms.specs.Regex.{Matches}
-use Rattle.rdf_terms.specs.Shapes.{label_name, tag_name}
+use Rattle.rdf_terms.specs.Expressions.{Matches}
+use Rattle.rdf_terms.specs.Terminals.{label_name, tag_name}
 
 pub data Node : Type 0 where
   Label : List ℕ → Node

@@ -3,7 +3,8 @@
 ghost use Rattle.std.specs.Prelude.{◌≡◌, ◌||◌, ◌==◌, ◌<◌, SomeIff, IfSome, IsUtf8, true};
 ghost use Rattle.std.specs.Str.{chars};
 ghost use Rattle.std.specs.Str.Iter.{chars_rest};
-ghost use Rattle.rdf_terms.specs.Classes.{has, iri_byte, is_letter, is_digit};
+ghost use Rattle.rdf_terms.specs.Classes.{has, is_letter, is_digit};
+ghost use Rattle.rdf_terms.specs.Runs.{iri_byte};
 ghost use Rattle.rdf_terms.specs.Classes.Class.{hex_digit, iri_char, local_escape, pn_base, pn_u, pn_char};
 ghost use Rattle.rdf_terms.specs.Terms.{has_scheme, scheme_goes_on, all_have};
 ghost use Rattle.rdf_terms.specs.Values.{hex_value};

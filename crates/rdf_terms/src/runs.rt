@@ -2,8 +2,7 @@
 
 ghost use Rattle.std.specs.Prelude.{◌≡◌, ◌+◌, ◌≤◌, length, map, not};
 ghost use Rattle.std.specs.Simd.Lanes.{mask_l};
-ghost use Rattle.rdf_terms.specs.Runs.{passes, is_name_byte, is_text_byte, IsRun, IsRunIn};
-ghost use Rattle.rdf_terms.specs.Classes.{iri_byte};
+ghost use Rattle.rdf_terms.specs.Runs.{iri_byte, passes, is_name_byte, is_text_byte, IsRun, IsRunIn};
 ghost use Rattle.rdf_terms.specs.Terms.{all_have};
 
 use crate::classes::is_iri_byte;

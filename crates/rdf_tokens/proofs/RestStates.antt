@@ -2,8 +2,7 @@
 use Rattle.std.proofs.Common.{◌≡◌, ℕ, ◌<◌, ◌==◌, Bool, true, false, not, ◌||◌, nat_lt, List, [], ◌∷◌, get_or, refl, sym, ap, ◌∙◌, arith, ⊎_elim}
 use Rattle.std.proofs.lemmas.Bool.{agree_below, agree_below_at, cases_lt, cond-false, eqb-true, le-ltb, false≢true}
 use Rattle.std.proofs.lemmas.Bool.Decides.{nat_tests}
-use Rattle.rdf_terms.specs.Classes.{iri_byte}
-use Rattle.rdf_terms.specs.Runs.{IsRun, is_text_byte, is_name_byte}
+use Rattle.rdf_terms.specs.Runs.{iri_byte, IsRun, is_text_byte, is_name_byte}
 use Rattle.rdf_terms.specs.declared.kind.Dialect.{Dialect}
 use Rattle.rdf_tokens.specs.declared.states.machine.State.{State}
 use Rattle.rdf_tokens.specs.declared.states.machine.State.TheVariants as state

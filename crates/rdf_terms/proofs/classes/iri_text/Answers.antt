@@ -1,5 +1,5 @@
 use Rattle.std.proofs.Common.{ap, ◌∙◌}
-use Rattle.rdf_terms.specs.Classes.{iri_byte}
+use Rattle.rdf_terms.specs.Runs.{iri_byte}
 use Rattle.rdf_terms.specs.Terms.{all_have}
 use Rattle.rdf_terms.proofs.IriBytes.{iri_bytes}
 use Rattle.rdf_terms.proofs.classes.iri_text.Goals as goal
