@@ -27,11 +27,11 @@ object_of (WithTag w t) = Literal (chars (string_bytes w)) (Lang t)
 abbrev pub mode_of : {A : Type 0} → State A → Mode
 mode_of state.Begin = Begin
 mode_of (state.AfterSubject s) = AfterSubject (owned_subject s)
-mode_of (state.AfterPredicate s p) = AfterPredicate (owned_subject s) p
-mode_of (state.AfterString s p w) = AfterString (owned_subject s) p (chars (string_bytes w))
-mode_of (state.AfterCarets s p w) = AfterCarets (owned_subject s) p (chars (string_bytes w))
-mode_of (state.AfterObject s p o) = AfterObject (owned_subject s) p (object_of o)
-mode_of (state.AfterGraph s p o g) = AfterGraph (owned_subject s) p (object_of o) (owned_subject g)
+mode_of (state.AfterPredicate b) = AfterPredicate (owned_subject b.subject) b.predicate
+mode_of (state.AfterString b w) = AfterString (owned_subject b.subject) b.predicate (chars (string_bytes w))
+mode_of (state.AfterCarets b w) = AfterCarets (owned_subject b.subject) b.predicate (chars (string_bytes w))
+mode_of (state.AfterObject b o) = AfterObject (owned_subject b.subject) b.predicate (object_of o)
+mode_of (state.AfterGraph b o g) = AfterGraph (owned_subject b.subject) b.predicate (object_of o) (owned_subject g)
 mode_of state.AfterDot = AfterDot
 mode_of state.Finished = Finished
 

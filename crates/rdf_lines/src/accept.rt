@@ -13,10 +13,17 @@ ghost use Rattle.rdf_lines.specs.States.{mode_of, object_of, leaf, IsLineToken, 
 use crate::form::LineForm;
 use crate::rules::Rules;
 use crate::spelled::{iri, label, string, tag};
-use crate::state::{Object, State};
-use rdf_terms::{Iri, Kind, PutFault, QuadRef, QuadSink, Reason, Subject, SubjectRef};
+use crate::state::{Beginning, Object, State};
+use rdf_terms::{Kind, PutFault, QuadRef, QuadSink, Reason, Subject, SubjectRef};
 use rdf_tokens::Token;
 use std::alloc::Allocator;
+
+// What terms are made with, and the rules that they keep.
+#[derive(Drop)]
+struct Setup<A: Allocator> {
+    alloc: A,
+    rules: Rules,
+}
 
 /// Takes a token. A statement's quad is put at its dot; after an error the line's parts are gone.
 pub fn accept<A: Allocator, S: QuadSink>(
@@ -35,30 +42,21 @@ pub fn accept<A: Allocator, S: QuadSink>(
     match state {
         State::Begin => at_begin(alloc, rules.iri, token),
         State::AfterSubject { subject } => after_subject(alloc, rules.iri, subject, token),
-        State::AfterPredicate { subject, predicate } => {
-            after_predicate(alloc, rules.iri, subject, predicate, token)
+        State::AfterPredicate { beginning } => after_predicate(alloc, rules.iri, beginning, token),
+        State::AfterString { beginning, lexical } => {
+            after_string(Setup { alloc, rules }, beginning, lexical, token, sink)
         }
-        State::AfterString {
-            subject,
-            predicate,
-            lexical,
-        } => after_string(alloc, rules, subject, predicate, lexical, token, sink),
-        State::AfterCarets {
-            subject,
-            predicate,
-            lexical,
-        } => after_carets(alloc, rules.iri, subject, predicate, lexical, token),
-        State::AfterObject {
-            subject,
-            predicate,
-            object,
-        } => after_object(alloc, rules, subject, predicate, object, token, sink),
+        State::AfterCarets { beginning, lexical } => {
+            after_carets(alloc, rules.iri, beginning, lexical, token)
+        }
+        State::AfterObject { beginning, object } => {
+            after_object(Setup { alloc, rules }, beginning, object, token, sink)
+        }
         State::AfterGraph {
-            subject,
-            predicate,
+            beginning,
             object,
             graph,
-        } => after_graph(subject, predicate, object, graph, token, sink),
+        } => after_graph(beginning, object, graph, token, sink),
         State::AfterDot => after_dot(token),
         State::Finished => Err(Reason::Unexpected),
     }
@@ -93,10 +91,12 @@ fn after_subject<A: Allocator>(
     ensures err { IfErr result (λ r. (f : LineForm) → Declines r (M.accept (is_taken limit) f (M.AfterSubject (owned_subject subject)) token.entry.kind (leaf token.entry))) }
 {
     match token.kind {
-        Kind::IriRef => Ok(State::AfterPredicate {
-            subject,
-            predicate: iri(alloc, token.text, limit)?,
-        }),
+        Kind::IriRef => {
+            let predicate = iri(alloc, token.text, limit)?;
+            Ok(State::AfterPredicate {
+                beginning: Beginning { subject, predicate },
+            })
+        }
         _ => Err(Reason::Unexpected),
     }
 }
@@ -104,28 +104,24 @@ fn after_subject<A: Allocator>(
 fn after_predicate<A: Allocator>(
     alloc: A,
     limit: u64,
-    subject: Subject<A>,
-    predicate: Iri<A>,
+    beginning: Beginning<A>,
     token: Token<'_>,
 ) -> Result<State<A>, Reason>
     requires { IsLineToken token }
-    ensures ok { IfOk result (λ s. (f : LineForm) → M.accept (is_taken limit) f (M.AfterPredicate (owned_subject subject) predicate) token.entry.kind (leaf token.entry) ≡ goes (mode_of s)) }
-    ensures err { IfErr result (λ r. (f : LineForm) → Declines r (M.accept (is_taken limit) f (M.AfterPredicate (owned_subject subject) predicate) token.entry.kind (leaf token.entry))) }
+    ensures ok { IfOk result (λ s. (f : LineForm) → M.accept (is_taken limit) f (M.AfterPredicate (owned_subject beginning.subject) beginning.predicate) token.entry.kind (leaf token.entry) ≡ goes (mode_of s)) }
+    ensures err { IfErr result (λ r. (f : LineForm) → Declines r (M.accept (is_taken limit) f (M.AfterPredicate (owned_subject beginning.subject) beginning.predicate) token.entry.kind (leaf token.entry))) }
 {
     match token.kind {
         Kind::IriRef => Ok(State::AfterObject {
-            subject,
-            predicate,
+            beginning,
             object: Object::Named(Subject::Iri(iri(alloc, token.text, limit)?)),
         }),
         Kind::LabelNode => Ok(State::AfterObject {
-            subject,
-            predicate,
+            beginning,
             object: Object::Named(label(alloc, token.text)?),
         }),
         Kind::ShortString => Ok(State::AfterString {
-            subject,
-            predicate,
+            beginning,
             lexical: string(alloc, token.text)?,
         }),
         _ => Err(Reason::Unexpected),
@@ -133,59 +129,42 @@ fn after_predicate<A: Allocator>(
 }
 
 fn after_string<A: Allocator, S: QuadSink>(
-    alloc: A,
-    rules: Rules,
-    subject: Subject<A>,
-    predicate: Iri<A>,
+    setup: Setup<A>,
+    beginning: Beginning<A>,
     lexical: String<A>,
     token: Token<'_>,
     sink: &mut S,
 ) -> Result<State<A>, Reason>
     requires token { IsLineToken token }
     requires live { S.has_failed sink.old ≡ false }
-    ensures ok { IfOk result (λ s. Does S.takes (M.accept (is_taken rules.iri) rules.form (M.AfterString (owned_subject subject) predicate (chars (string_bytes lexical))) token.entry.kind (leaf token.entry)) sink.old (mode_of s) sink.new) }
+    ensures ok { IfOk result (λ s. Does S.takes (M.accept (is_taken setup.rules.iri) setup.rules.form (M.AfterString (owned_subject beginning.subject) beginning.predicate (chars (string_bytes lexical))) token.entry.kind (leaf token.entry)) sink.old (mode_of s) sink.new) }
     ensures live { OnOk result (S.has_failed sink.new ≡ false) }
-    ensures err { IfErr result (λ r. Fails S.leaves S.has_failed r (M.accept (is_taken rules.iri) rules.form (M.AfterString (owned_subject subject) predicate (chars (string_bytes lexical))) token.entry.kind (leaf token.entry)) sink.old sink.new) }
+    ensures err { IfErr result (λ r. Fails S.leaves S.has_failed r (M.accept (is_taken setup.rules.iri) setup.rules.form (M.AfterString (owned_subject beginning.subject) beginning.predicate (chars (string_bytes lexical))) token.entry.kind (leaf token.entry)) sink.old sink.new) }
 {
     match token.kind {
         Kind::LangTag => Ok(State::AfterObject {
-            subject,
-            predicate,
-            object: Object::WithTag(lexical, tag(alloc, token.text)?),
+            beginning,
+            object: Object::WithTag(lexical, tag(setup.alloc, token.text)?),
         }),
-        Kind::Carets => Ok(State::AfterCarets {
-            subject,
-            predicate,
-            lexical,
-        }),
-        _ => after_object(
-            alloc,
-            rules,
-            subject,
-            predicate,
-            Object::Plain(lexical),
-            token,
-            sink,
-        ),
+        Kind::Carets => Ok(State::AfterCarets { beginning, lexical }),
+        _ => after_object(setup, beginning, Object::Plain(lexical), token, sink),
     }
 }
 
 fn after_carets<A: Allocator>(
     alloc: A,
     limit: u64,
-    subject: Subject<A>,
-    predicate: Iri<A>,
+    beginning: Beginning<A>,
     lexical: String<A>,
     token: Token<'_>,
 ) -> Result<State<A>, Reason>
     requires { IsLineToken token }
-    ensures ok { IfOk result (λ s. (f : LineForm) → M.accept (is_taken limit) f (M.AfterCarets (owned_subject subject) predicate (chars (string_bytes lexical))) token.entry.kind (leaf token.entry) ≡ goes (mode_of s)) }
-    ensures err { IfErr result (λ r. (f : LineForm) → Declines r (M.accept (is_taken limit) f (M.AfterCarets (owned_subject subject) predicate (chars (string_bytes lexical))) token.entry.kind (leaf token.entry))) }
+    ensures ok { IfOk result (λ s. (f : LineForm) → M.accept (is_taken limit) f (M.AfterCarets (owned_subject beginning.subject) beginning.predicate (chars (string_bytes lexical))) token.entry.kind (leaf token.entry) ≡ goes (mode_of s)) }
+    ensures err { IfErr result (λ r. (f : LineForm) → Declines r (M.accept (is_taken limit) f (M.AfterCarets (owned_subject beginning.subject) beginning.predicate (chars (string_bytes lexical))) token.entry.kind (leaf token.entry))) }
 {
     match token.kind {
         Kind::IriRef => Ok(State::AfterObject {
-            subject,
-            predicate,
+            beginning,
             object: Object::WithType(lexical, iri(alloc, token.text, limit)?),
         }),
         _ => Err(Reason::Unexpected),
@@ -194,53 +173,48 @@ fn after_carets<A: Allocator>(
 
 // A graph label stands in N-Quads only.
 fn after_object<A: Allocator, S: QuadSink>(
-    alloc: A,
-    rules: Rules,
-    subject: Subject<A>,
-    predicate: Iri<A>,
+    setup: Setup<A>,
+    beginning: Beginning<A>,
     object: Object<A>,
     token: Token<'_>,
     sink: &mut S,
 ) -> Result<State<A>, Reason>
     requires token { IsLineToken token }
     requires live { S.has_failed sink.old ≡ false }
-    ensures ok { IfOk result (λ s. Does S.takes (M.object_then (is_taken rules.iri) rules.form (owned_subject subject) predicate (object_of object) token.entry.kind (leaf token.entry)) sink.old (mode_of s) sink.new) }
+    ensures ok { IfOk result (λ s. Does S.takes (M.object_then (is_taken setup.rules.iri) setup.rules.form (owned_subject beginning.subject) beginning.predicate (object_of object) token.entry.kind (leaf token.entry)) sink.old (mode_of s) sink.new) }
     ensures live { OnOk result (S.has_failed sink.new ≡ false) }
-    ensures err { IfErr result (λ r. Fails S.leaves S.has_failed r (M.object_then (is_taken rules.iri) rules.form (owned_subject subject) predicate (object_of object) token.entry.kind (leaf token.entry)) sink.old sink.new) }
+    ensures err { IfErr result (λ r. Fails S.leaves S.has_failed r (M.object_then (is_taken setup.rules.iri) setup.rules.form (owned_subject beginning.subject) beginning.predicate (object_of object) token.entry.kind (leaf token.entry)) sink.old sink.new) }
 {
-    match (rules.form, token.kind) {
-        (_, Kind::Dot) => give(&subject, &predicate, &object, None, sink),
+    match (setup.rules.form, token.kind) {
+        (_, Kind::Dot) => give(&beginning, &object, None, sink),
         (LineForm::NQuads, Kind::IriRef) => Ok(State::AfterGraph {
-            subject,
-            predicate,
+            beginning,
             object,
-            graph: Subject::Iri(iri(alloc, token.text, rules.iri)?),
+            graph: Subject::Iri(iri(setup.alloc, token.text, setup.rules.iri)?),
         }),
         (LineForm::NQuads, Kind::LabelNode) => Ok(State::AfterGraph {
-            subject,
-            predicate,
+            beginning,
             object,
-            graph: label(alloc, token.text)?,
+            graph: label(setup.alloc, token.text)?,
         }),
         _ => Err(Reason::Unexpected),
     }
 }
 
 fn after_graph<A: Allocator, S: QuadSink>(
-    subject: Subject<A>,
-    predicate: Iri<A>,
+    beginning: Beginning<A>,
     object: Object<A>,
     graph: Subject<A>,
     token: Token<'_>,
     sink: &mut S,
 ) -> Result<State<A>, Reason>
     requires { S.has_failed sink.old ≡ false }
-    ensures ok { IfOk result (λ s. (g : Rules) → Does S.takes (M.accept (is_taken g.iri) g.form (M.AfterGraph (owned_subject subject) predicate (object_of object) (owned_subject graph)) token.entry.kind (leaf token.entry)) sink.old (mode_of s) sink.new) }
+    ensures ok { IfOk result (λ s. (g : Rules) → Does S.takes (M.accept (is_taken g.iri) g.form (M.AfterGraph (owned_subject beginning.subject) beginning.predicate (object_of object) (owned_subject graph)) token.entry.kind (leaf token.entry)) sink.old (mode_of s) sink.new) }
     ensures live { OnOk result (S.has_failed sink.new ≡ false) }
-    ensures err { IfErr result (λ r. (g : Rules) → Fails S.leaves S.has_failed r (M.accept (is_taken g.iri) g.form (M.AfterGraph (owned_subject subject) predicate (object_of object) (owned_subject graph)) token.entry.kind (leaf token.entry)) sink.old sink.new) }
+    ensures err { IfErr result (λ r. (g : Rules) → Fails S.leaves S.has_failed r (M.accept (is_taken g.iri) g.form (M.AfterGraph (owned_subject beginning.subject) beginning.predicate (object_of object) (owned_subject graph)) token.entry.kind (leaf token.entry)) sink.old sink.new) }
 {
     match token.kind {
-        Kind::Dot => give(&subject, &predicate, &object, Some(graph.view()), sink),
+        Kind::Dot => give(&beginning, &object, Some(graph.view()), sink),
         _ => Err(Reason::Unexpected),
     }
 }
@@ -258,20 +232,19 @@ fn after_dot<A: Allocator>(token: Token<'_>) -> Result<State<A>, Reason>
 
 // Puts the quad of these parts, whose dot has come.
 fn give<A: Allocator, S: QuadSink>(
-    subject: &Subject<A>,
-    predicate: &Iri<A>,
+    beginning: &Beginning<A>,
     object: &Object<A>,
     graph: Option<SubjectRef<'_>>,
     sink: &mut S,
 ) -> Result<State<A>, Reason>
     requires { S.has_failed sink.old ≡ false }
-    ensures ok { IfOk result (λ s. Does S.takes (gives (quad (owned_subject subject.now) predicate.now (object_of object.now) (option_map (subject_by chars) graph.entry)) M.AfterDot) sink.old (mode_of s) sink.new) }
+    ensures ok { IfOk result (λ s. Does S.takes (gives (quad (owned_subject beginning.now.subject) beginning.now.predicate (object_of object.now) (option_map (subject_by chars) graph.entry)) M.AfterDot) sink.old (mode_of s) sink.new) }
     ensures live { OnOk result (S.has_failed sink.new ≡ false) }
-    ensures err { IfErr result (λ r. Fails S.leaves S.has_failed r (gives (quad (owned_subject subject.now) predicate.now (object_of object.now) (option_map (subject_by chars) graph.entry)) M.AfterDot) sink.old sink.new) }
+    ensures err { IfErr result (λ r. Fails S.leaves S.has_failed r (gives (quad (owned_subject beginning.now.subject) beginning.now.predicate (object_of object.now) (option_map (subject_by chars) graph.entry)) M.AfterDot) sink.old sink.new) }
 {
     let quad = QuadRef {
-        subject: subject.view(),
-        predicate: predicate.view(),
+        subject: beginning.subject.view(),
+        predicate: beginning.predicate.view(),
         object: object.view(),
         graph,
     };

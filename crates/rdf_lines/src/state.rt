@@ -58,6 +58,13 @@ fn literal<'a>(lexical: &'a str, tail: TailRef<'a>) -> TermRef<'a>
     TermRef::Literal(LiteralRef { lexical, tail })
 }
 
+/// The subject and the predicate of a statement.
+#[derive(Drop)]
+pub struct Beginning<A: Allocator = Global> {
+    pub subject: Subject<A>,
+    pub predicate: Iri<A>,
+}
+
 /// What has been read of a line. The parts own their texts, since the pieces that they came in are gone.
 #[derive(Drop)]
 pub enum State<A: Allocator = Global> {
@@ -66,27 +73,22 @@ pub enum State<A: Allocator = Global> {
         subject: Subject<A>,
     },
     AfterPredicate {
-        subject: Subject<A>,
-        predicate: Iri<A>,
+        beginning: Beginning<A>,
     },
     AfterString {
-        subject: Subject<A>,
-        predicate: Iri<A>,
+        beginning: Beginning<A>,
         lexical: String<A>,
     },
     AfterCarets {
-        subject: Subject<A>,
-        predicate: Iri<A>,
+        beginning: Beginning<A>,
         lexical: String<A>,
     },
     AfterObject {
-        subject: Subject<A>,
-        predicate: Iri<A>,
+        beginning: Beginning<A>,
         object: Object<A>,
     },
     AfterGraph {
-        subject: Subject<A>,
-        predicate: Iri<A>,
+        beginning: Beginning<A>,
         object: Object<A>,
         graph: Subject<A>,
     },

@@ -21,22 +21,22 @@ pub returns-in-AfterSubject-clause-err : goal.returns-in-AfterSubject-clause-err
 returns-in-AfterSubject-clause-err g c = rw c.in-AfterSubject.is (fails_declines g.S.QuadSink.leaves g.S.QuadSink.has_failed (λ f. M.accept (is_taken c.args.rules.iri) f (M.AfterSubject (owned_subject c.in-AfterSubject.subject)) c.args.token.kind (leaf c.args.token)) c.args.rules.form c.args.sink.now c.after_subject.result c.after_subject.ensures.err)
 
 pub returns-in-AfterPredicate-clause-ok : goal.returns-in-AfterPredicate-clause-ok
-returns-in-AfterPredicate-clause-ok g c = rw c.in-AfterPredicate.is (does_goes g.S.QuadSink.takes (λ f. M.accept (is_taken c.args.rules.iri) f (M.AfterPredicate (owned_subject c.in-AfterPredicate.subject) c.in-AfterPredicate.predicate) c.args.token.kind (leaf c.args.token)) c.args.rules.form c.args.sink.now mode_of c.after_predicate.result c.after_predicate.ensures.ok)
+returns-in-AfterPredicate-clause-ok g c = rw c.in-AfterPredicate.is (does_goes g.S.QuadSink.takes (λ f. M.accept (is_taken c.args.rules.iri) f (M.AfterPredicate (owned_subject c.in-AfterPredicate.beginning.subject) c.in-AfterPredicate.beginning.predicate) c.args.token.kind (leaf c.args.token)) c.args.rules.form c.args.sink.now mode_of c.after_predicate.result c.after_predicate.ensures.ok)
 
 pub returns-in-AfterPredicate-clause-err : goal.returns-in-AfterPredicate-clause-err
-returns-in-AfterPredicate-clause-err g c = rw c.in-AfterPredicate.is (fails_declines g.S.QuadSink.leaves g.S.QuadSink.has_failed (λ f. M.accept (is_taken c.args.rules.iri) f (M.AfterPredicate (owned_subject c.in-AfterPredicate.subject) c.in-AfterPredicate.predicate) c.args.token.kind (leaf c.args.token)) c.args.rules.form c.args.sink.now c.after_predicate.result c.after_predicate.ensures.err)
+returns-in-AfterPredicate-clause-err g c = rw c.in-AfterPredicate.is (fails_declines g.S.QuadSink.leaves g.S.QuadSink.has_failed (λ f. M.accept (is_taken c.args.rules.iri) f (M.AfterPredicate (owned_subject c.in-AfterPredicate.beginning.subject) c.in-AfterPredicate.beginning.predicate) c.args.token.kind (leaf c.args.token)) c.args.rules.form c.args.sink.now c.after_predicate.result c.after_predicate.ensures.err)
 
 pub returns-in-AfterCarets-clause-ok : goal.returns-in-AfterCarets-clause-ok
-returns-in-AfterCarets-clause-ok g c = rw c.in-AfterCarets.is (does_goes g.S.QuadSink.takes (λ f. M.accept (is_taken c.args.rules.iri) f (M.AfterCarets (owned_subject c.in-AfterCarets.subject) c.in-AfterCarets.predicate (chars (string_bytes c.in-AfterCarets.lexical))) c.args.token.kind (leaf c.args.token)) c.args.rules.form c.args.sink.now mode_of c.after_carets.result c.after_carets.ensures.ok)
+returns-in-AfterCarets-clause-ok g c = rw c.in-AfterCarets.is (does_goes g.S.QuadSink.takes (λ f. M.accept (is_taken c.args.rules.iri) f (M.AfterCarets (owned_subject c.in-AfterCarets.beginning.subject) c.in-AfterCarets.beginning.predicate (chars (string_bytes c.in-AfterCarets.lexical))) c.args.token.kind (leaf c.args.token)) c.args.rules.form c.args.sink.now mode_of c.after_carets.result c.after_carets.ensures.ok)
 
 pub returns-in-AfterCarets-clause-err : goal.returns-in-AfterCarets-clause-err
-returns-in-AfterCarets-clause-err g c = rw c.in-AfterCarets.is (fails_declines g.S.QuadSink.leaves g.S.QuadSink.has_failed (λ f. M.accept (is_taken c.args.rules.iri) f (M.AfterCarets (owned_subject c.in-AfterCarets.subject) c.in-AfterCarets.predicate (chars (string_bytes c.in-AfterCarets.lexical))) c.args.token.kind (leaf c.args.token)) c.args.rules.form c.args.sink.now c.after_carets.result c.after_carets.ensures.err)
+returns-in-AfterCarets-clause-err g c = rw c.in-AfterCarets.is (fails_declines g.S.QuadSink.leaves g.S.QuadSink.has_failed (λ f. M.accept (is_taken c.args.rules.iri) f (M.AfterCarets (owned_subject c.in-AfterCarets.beginning.subject) c.in-AfterCarets.beginning.predicate (chars (string_bytes c.in-AfterCarets.lexical))) c.args.token.kind (leaf c.args.token)) c.args.rules.form c.args.sink.now c.after_carets.result c.after_carets.ensures.err)
 
 pub returns-in-AfterGraph-clause-ok : goal.returns-in-AfterGraph-clause-ok
-returns-in-AfterGraph-clause-ok g c = rw c.in-AfterGraph.is (does_same g.S.QuadSink.takes (λ (g : Rules). M.accept (is_taken g.iri) g.form (M.AfterGraph (owned_subject c.in-AfterGraph.subject) c.in-AfterGraph.predicate (object_of c.in-AfterGraph.object) (owned_subject c.in-AfterGraph.graph)) c.args.token.kind (leaf c.args.token)) c.args.rules c.args.sink.now c.after_graph.new.sink mode_of c.after_graph.result c.after_graph.ensures.ok)
+returns-in-AfterGraph-clause-ok g c = rw c.in-AfterGraph.is (does_same g.S.QuadSink.takes (λ (g : Rules). M.accept (is_taken g.iri) g.form (M.AfterGraph (owned_subject c.in-AfterGraph.beginning.subject) c.in-AfterGraph.beginning.predicate (object_of c.in-AfterGraph.object) (owned_subject c.in-AfterGraph.graph)) c.args.token.kind (leaf c.args.token)) c.args.rules c.args.sink.now c.after_graph.new.sink mode_of c.after_graph.result c.after_graph.ensures.ok)
 
 pub returns-in-AfterGraph-clause-err : goal.returns-in-AfterGraph-clause-err
-returns-in-AfterGraph-clause-err g c = rw c.in-AfterGraph.is (fails_same g.S.QuadSink.leaves g.S.QuadSink.has_failed (λ (g : Rules). M.accept (is_taken g.iri) g.form (M.AfterGraph (owned_subject c.in-AfterGraph.subject) c.in-AfterGraph.predicate (object_of c.in-AfterGraph.object) (owned_subject c.in-AfterGraph.graph)) c.args.token.kind (leaf c.args.token)) c.args.rules c.args.sink.now c.after_graph.new.sink c.after_graph.result c.after_graph.ensures.err)
+returns-in-AfterGraph-clause-err g c = rw c.in-AfterGraph.is (fails_same g.S.QuadSink.leaves g.S.QuadSink.has_failed (λ (g : Rules). M.accept (is_taken g.iri) g.form (M.AfterGraph (owned_subject c.in-AfterGraph.beginning.subject) c.in-AfterGraph.beginning.predicate (object_of c.in-AfterGraph.object) (owned_subject c.in-AfterGraph.graph)) c.args.token.kind (leaf c.args.token)) c.args.rules c.args.sink.now c.after_graph.new.sink c.after_graph.result c.after_graph.ensures.err)
 
 pub returns-in-AfterDot-clause-ok : goal.returns-in-AfterDot-clause-ok
 returns-in-AfterDot-clause-ok g c = rw c.in-AfterDot.is (does_goes g.S.QuadSink.takes (λ (g : Rules). M.accept (is_taken g.iri) g.form M.AfterDot c.args.token.kind (leaf c.args.token)) c.args.rules c.args.sink.now mode_of c.after_dot.result c.after_dot.ensures.ok)
