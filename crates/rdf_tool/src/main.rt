@@ -15,7 +15,7 @@ ghost use Rattle.rdf_tool.specs.Statuses.{IsToldOf};
 ghost use Rattle.rdf_tool.specs.Words.{IsGiven, IsNotGiven};
 
 use crate::commands::{command_of, not_utf8};
-use crate::runs::{refuse_words, run};
+use crate::runs::{refuse_file, refuse_words, run};
 use crate::task::{Task, WordsFault};
 use rdf_stream::{Drain, In, Out};
 use std::env;
@@ -60,18 +60,15 @@ fn run_task<O: Drain, E: Drain>(rt: &HostRuntime, task: Task, out: &mut O, err: 
     let opened = match &task.file {
         None => {
             let mut source = In::new(rt.stdin());
-            return run(rt.alloc(), task, Some(&mut source), out, err);
+            return run(rt.alloc(), task, &mut source, out, err);
         }
         Some(path) => File::open(rt, path.as_str()),
     };
     match opened {
         Ok(file) => {
             let mut source = In::new(file);
-            run(rt.alloc(), task, Some(&mut source), out, err)
+            run(rt.alloc(), task, &mut source, out, err)
         }
-        Err(_) => {
-            let none: Option<&mut In<File>> = None;
-            run(rt.alloc(), task, none, out, err)
-        }
+        Err(_) => refuse_file(err),
     }
 }

@@ -97,7 +97,7 @@ fn a_run_writes_the_lines_or_tells_why_not(rt: HostRuntime) {
         let mut out = Out::new(&mut written);
         let mut err = Out::new(&mut told);
         assert_eq!(rt;
-            run(rt.alloc(), task, Some(&mut source), &mut out, &mut err),
+            run(rt.alloc(), task, &mut source, &mut out, &mut err),
             status,
             "{text}"
         );
@@ -123,24 +123,12 @@ fn a_run_keeps_to_the_limits_of_its_task(rt: HostRuntime) {
         let mut out = Out::new(Vec::new(rt.alloc()));
         let mut err = Out::new(&mut told);
         assert_eq!(rt;
-            run(rt.alloc(), task, Some(&mut source), &mut out, &mut err),
+            run(rt.alloc(), task, &mut source, &mut out, &mut err),
             status
         );
         drop(err);
         assert_eq!(rt; told.as_slice(), message.as_bytes());
     }
-}
-
-#[test]
-fn a_file_that_did_not_open_is_told(rt: HostRuntime) {
-    let task = task(Action::Convert, Form::NQuads, Limits::default());
-    let mut told = Vec::new(rt.alloc());
-    let mut out = Out::new(Vec::new(rt.alloc()));
-    let mut err = Out::new(&mut told);
-    let none: Option<&mut In<&[u8]>> = None;
-    assert_eq!(rt; run(rt.alloc(), task, none, &mut out, &mut err), 3);
-    drop(err);
-    assert_eq!(rt; told.as_slice(), b"rdfconv: cannot open file\n".as_slice());
 }
 
 #[test]
