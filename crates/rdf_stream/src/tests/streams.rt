@@ -100,18 +100,14 @@ fn a_put_is_one_write_and_a_flush_one_flush(rt: HostRuntime) -> Result<(), Fail>
     };
     assert_eq!(&rt; count, 3);
     drop(drain);
-    assert_eq!(&rt;
-        (writer.held.as_slice(), writer.sent.as_slice()),
-        (b"abc".as_slice(), b"".as_slice())
-    );
+    assert_eq!(&rt; writer.held.as_slice(), b"abc".as_slice());
+    assert_eq!(&rt; writer.sent.as_slice(), b"".as_slice());
     let mut drain = Out::new(&mut writer);
     assert_eq!(&rt; drain.flush(), Ok(()));
     assert!(&rt; !drain.failed());
     drop(drain);
-    assert_eq!(&rt;
-        (writer.held.as_slice(), writer.sent.as_slice()),
-        (b"".as_slice(), b"abc".as_slice())
-    );
+    assert_eq!(&rt; writer.held.as_slice(), b"".as_slice());
+    assert_eq!(&rt; writer.sent.as_slice(), b"abc".as_slice());
     writer.broken = true;
     let mut drain = Out::new(&mut writer);
     assert_eq!(&rt; drain.put_some(b"d"), Err(Failed));
@@ -122,9 +118,7 @@ fn a_put_is_one_write_and_a_flush_one_flush(rt: HostRuntime) -> Result<(), Fail>
     assert!(&rt; drain.failed());
     drop(drain);
     assert_eq!(&rt; (writer.calls, writer.flushes), (2, 2));
-    assert_eq!(&rt;
-        (writer.held.as_slice(), writer.sent.as_slice()),
-        (b"".as_slice(), b"abc".as_slice())
-    );
+    assert_eq!(&rt; writer.held.as_slice(), b"".as_slice());
+    assert_eq!(&rt; writer.sent.as_slice(), b"abc".as_slice());
     Ok(())
 }
