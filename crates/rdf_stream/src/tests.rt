@@ -3,8 +3,10 @@
 ghost use Rattle.std.specs.Prelude.{◌≡◌, false};
 
 mod devices;
+mod large;
 mod rows;
 mod runs;
+mod streams;
 
 use crate::checks::check;
 use crate::conversions::convert;

@@ -1,3 +1,4 @@
 pub mod Words
 pub mod Statuses
 pub mod Runs
+pub mod Programs

@@ -1,18 +1,19 @@
 -- What a run of the program does.
-use Rattle.std.specs.Prelude.{◌≡◌, ℕ, Bool, true, List, ◌++◌, codes, decimal, Option, IfSome}
+use Rattle.std.specs.Prelude.{◌≡◌, ◌≢◌, ℕ, Bool, true, List, ◌++◌, codes, decimal, Option, IfSome}
 use Rattle.std.specs.Io.KnownBytes.{Appends}
 use Rattle.rdf_lines.specs.declared.fault.Summary.{Summary}
 use Rattle.rdf_stream.specs.Checks.{CheckStops, Passes}
 use Rattle.rdf_stream.specs.Converts.{IsConverted, StopsFor}
-use Rattle.rdf_stream.specs.Devices.{AppendsFront}
+use Rattle.rdf_stream.specs.Devices.{AppendsFront, Reading, Written}
 use Rattle.rdf_stream.specs.Jobs.{JobRead}
 use Rattle.rdf_stream.specs.Languages.{language_of}
 use Rattle.rdf_stream.specs.Shows.{ShowStops, Shows}
 use Rattle.rdf_stream.specs.declared.fault.StreamFault.{StreamFault}
-use Rattle.rdf_stream.specs.declared.fault.StreamFault.TheVariants.{Refused, Read, Write, Memory}
+use Rattle.rdf_stream.specs.declared.fault.StreamFault.TheVariants.{Write}
 use Rattle.rdf_tool.specs.declared.task.Action.{Action}
 use Rattle.rdf_tool.specs.declared.task.Action.TheVariants.{Check, Show, Convert}
 use Rattle.rdf_tool.specs.declared.task.Task.{Task}
+use Rattle.rdf_tool.specs.Statuses.{TellsOf, status_of}
 
 -- the job that a task asks for
 abbrev pub job_of : Task → JobRead
@@ -43,3 +44,20 @@ abbrev pub Stops : Action → StreamFault → JobRead → Option (List ℕ) → 
 Stops Check fault job known left read_failed old new write_failed = StopsCheck fault job known left read_failed old new write_failed
 Stops Show fault job known left read_failed old new write_failed = ShowStops fault job known left read_failed old new write_failed
 Stops Convert fault job known left read_failed old new write_failed = StopsFor fault (language_of job) known left read_failed old new write_failed
+
+-- The document was accepted, and what the task asks for was written and flushed.
+abbrev pub IsDone : Task → Option (List ℕ) → Option (List ℕ) → Written → Type 0
+IsDone t known out_old out = IfSome known (λ bytes. Does t.action (job_of t) bytes out_old out.contents) × (out.is_flushed ≡ true)
+
+-- The run stopped for a fault, which its status and the text on the error output say.
+pub record RunStops (t : Task) (status : ℕ) (known : Option (List ℕ)) (source : Reading) (out_old : Option (List ℕ)) (out : Written)
+    (err_old : Option (List ℕ)) (err : Written) : Type 0 where
+  pub fault : StreamFault
+  pub status_is : status ≡ status_of fault
+  pub stops : Stops t.action fault (job_of t) known source.remaining source.has_failed out_old out.contents out.has_failed
+  pub told : TellsOf fault err_old err.contents err.has_failed
+
+-- A run over a source of these bytes left the source and the two outputs like this: it is done at 0, and else it stopped.
+abbrev pub RunEnds : Task → ℕ → Option (List ℕ) → Reading → Option (List ℕ) → Written → Option (List ℕ) → Written → Type 0
+RunEnds t status known source out_old out err_old err =
+    (status ≡ 0 → IsDone t known out_old out) × (status ≢ 0 → RunStops t status known source out_old out err_old err)

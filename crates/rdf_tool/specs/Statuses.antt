@@ -27,12 +27,6 @@ abbrev pub TellsOf : StreamFault → Option (List ℕ) → Option (List ℕ) →
 TellsOf (Refused f) old new failed = Tells (report_text (Refused f)) old new failed ⊎ (new ≡ old)
 TellsOf fault old new failed = Tells (report_text fault) old new failed
 
--- how a run ends that is not accepted: by a fault, or since the file did not open
-abbrev pub IsToldOf : ℕ → Option (List ℕ) → Option (List ℕ) → Bool → Type 0
-IsToldOf status old new failed =
-    ((fault : StreamFault) × (status ≡ status_of fault) × TellsOf fault old new failed)
-    ⊎ ((status ≡ 3) × Tells (codes "rdfconv: cannot open file\n") old new failed)
-
 -- 0 where help was asked for, and else 2
 abbrev pub IsUsageStatus : ErrorKind → ℕ → Type 0
 IsUsageStatus kind status = (kind ≡ DisplayHelp → status ≡ 0) × (kind ≢ DisplayHelp → kind ≢ DisplayVersion → status ≡ 2)

@@ -1,5 +1,5 @@
 -- The program's command line, and the task that its words ask for.
-use Rattle.std.specs.Prelude.{◌≡◌, ◌≢◌, ◌⊎◌, ◌∷◌, ◌≤◌, ◌^◌, ℕ, true, false, List, [], Option, Some, codes, length, map, option_map, IfSome}
+use Rattle.std.specs.Prelude.{◌≡◌, ◌≢◌, ◌∷◌, ◌≤◌, ◌^◌, ℕ, true, false, List, [], Option, Some, codes, length, map, option_map, IfSome}
 use Rattle.std.specs.Borrow.{Bor}
 use Rattle.std.specs.Str.{chars}
 use Rattle.std.specs.Str.Parse.{digits_value, without_leading_plus}
@@ -14,7 +14,7 @@ use Rattle.clap.specs.declared.builder.value_parser.ValueParser.{ValueParser}
 use Rattle.clap.specs.declared.builder.value_parser.ValueParser.TheVariants.{Names, Unsigned}
 use Rattle.clap.specs.declared.error.Error.{Error}
 use Rattle.clap.specs.declared.error.kind.ErrorKind.{ErrorKind}
-use Rattle.clap.specs.declared.error.kind.ErrorKind.TheVariants.{InvalidValue, OutOfMemory}
+use Rattle.clap.specs.declared.error.kind.ErrorKind.TheVariants.{OutOfMemory}
 use Rattle.rdf_terms.specs.Terms.{IsIri}
 use Rattle.rdf_iri.specs.Limits.{Sizes}
 use Rattle.rdf_stream.specs.declared.fault.Form.{Form}
@@ -200,11 +200,3 @@ abbrev pub IsUsageOf : ErrorKind → WordsFault → Type 0
 IsUsageOf kind (Usage e) = kind_of e ≡ kind
 IsUsageOf kind BadBase = ⊥
 IsUsageOf kind Memory = Unit
-
--- some words of a command line give the task, or no task for this reason
-abbrev pub IsGiven : Task → Type 0
-IsGiven t = (formats : ValueParser) × TakesFormats formats × ((words : List Text) × GivesTask (rdfconv formats) words t)
-
-abbrev pub IsNotGiven : WordsFault → Type 0
-IsNotGiven fault =
-    ((formats : ValueParser) × TakesFormats formats × ((words : List Text) × GivesNone (rdfconv formats) words fault)) ⊎ IsUsageOf InvalidValue fault

@@ -1,13 +1,12 @@
 // A run, its status, and what it tells.
 
-ghost use Rattle.std.specs.Prelude.{◌≡◌, ◌≢◌, ◌++◌, false, true, codes, decimal, Bool, List, ℕ, Option, IfErr, IfOk, IfSome, OnErr, OnOk, is_err};
-ghost use Rattle.std.specs.Option.{ForSome, IfNone};
-ghost use Rattle.std.specs.Io.KnownBytes.{Appends, Keeps};
+ghost use Rattle.std.specs.Prelude.{◌≡◌, ◌++◌, false, true, codes, decimal, IfErr, IfOk, IfSome, OnErr, OnOk, is_err};
+ghost use Rattle.std.specs.Io.KnownBytes.{Appends};
 ghost use Rattle.rdf_iri.specs.Scope.{BaseFits};
 ghost use Rattle.rdf_stream.specs.Devices.{AppendsFront};
 ghost use Rattle.rdf_stream.specs.Messages.{report_text};
 ghost use Rattle.rdf_stream.specs.declared.fault.StreamFault.{StreamFault};
-ghost use Rattle.rdf_tool.specs.Runs.{Does, IsChecked, Stops, StopsCheck, accepted_text, job_of};
+ghost use Rattle.rdf_tool.specs.Runs.{Does, IsChecked, RunEnds, Stops, StopsCheck, accepted_text};
 ghost use Rattle.rdf_tool.specs.Statuses.{GoesTo, Refuses, Tells, TellsOf, status_of};
 
 use crate::task::{Action, Task, WordsFault};
@@ -18,55 +17,25 @@ use rdf_stream::{
 };
 use std::alloc::{AllocError, Global};
 
-/// Runs a task, and answers the status. A `None` is a file that did not open.
+/// Runs a task over its document, and answers the status.
 pub fn run<S: Source, O: Drain, E: Drain>(
     alloc: Global,
     task: Task,
-    source: Option<&mut S>,
-    out: &mut O,
-    err: &mut E,
-) -> u8
-    requires base { BaseFits task.base task.limits }
-    requires source { ForSome source (λ s. S.has_failed s.now ≡ false) }
-    requires out { O.has_failed out.old ≡ false }
-    requires err { E.has_failed err.old ≡ false }
-    ensures accepted { IfSome source.entry (λ s. result ≡ 0 → IfSome (S.remaining s.now) (λ bytes. Does task.action (job_of task) bytes (O.contents out.old) (O.contents out.new))
-        × (O.is_flushed out.new ≡ true)) }
-    ensures stopped { IfSome source.entry (λ s. result ≢ 0 → (fault : StreamFault) × (left : Option (List ℕ)) × (read_failed : Bool) × (result ≡ status_of fault)
-        × Stops task.action fault (job_of task) (S.remaining s.now) left read_failed (O.contents out.old) (O.contents out.new) (O.has_failed out.new)
-        × TellsOf fault (E.contents err.old) (E.contents err.new) (E.has_failed err.new)) }
-    ensures not_open { IfNone source.entry ((result ≡ 3) × Tells (codes "rdfconv: cannot open file\n") (E.contents err.old) (E.contents err.new) (E.has_failed err.new)) }
-{
-    match source {
-        Some(source) => {
-            let action = task.action;
-            let job = Job::new(task.form, task.base, task.limits).unwrap();
-            run_job(alloc, action, job, source, out, err)
-        }
-        None => {
-            tell("rdfconv: cannot open file\n", err);
-            3
-        }
-    }
-}
-
-fn run_job<S: Source, O: Drain, E: Drain>(
-    alloc: Global,
-    action: Action,
-    job: Job,
     source: &mut S,
     out: &mut O,
     err: &mut E,
 ) -> u8
+    requires base { BaseFits task.base task.limits }
     requires source { S.has_failed source.old ≡ false }
     requires out { O.has_failed out.old ≡ false }
     requires err { E.has_failed err.old ≡ false }
-    ensures accepted { result ≡ 0 → IfSome (S.remaining source.old) (λ bytes. Does action job bytes (O.contents out.old) (O.contents out.new))
-        × (O.is_flushed out.new ≡ true) }
-    ensures stopped { result ≢ 0 → (fault : StreamFault) × (result ≡ status_of fault)
-        × Stops action fault job (S.remaining source.old) (S.remaining source.new) (S.has_failed source.new) (O.contents out.old) (O.contents out.new) (O.has_failed out.new)
-        × TellsOf fault (E.contents err.old) (E.contents err.new) (E.has_failed err.new) }
+    ensures { RunEnds task result (S.remaining source.old)
+        (record { remaining = S.remaining source.new; has_failed = S.has_failed source.new })
+        (O.contents out.old) (record { contents = O.contents out.new; has_failed = O.has_failed out.new; is_flushed = O.is_flushed out.new })
+        (E.contents err.old) (record { contents = E.contents err.new; has_failed = E.has_failed err.new; is_flushed = E.is_flushed err.new }) }
 {
+    let action = task.action;
+    let job = Job::new(task.form, task.base, task.limits).unwrap();
     match act(alloc, action, job, source, out) {
         Ok(()) => 0,
         Err(fault) => {
@@ -74,6 +43,16 @@ fn run_job<S: Source, O: Drain, E: Drain>(
             status(&fault)
         }
     }
+}
+
+/// The text and the status of a file that did not open.
+pub fn refuse_file<E: Drain>(err: &mut E) -> u8
+    requires { E.has_failed err.old ≡ false }
+    ensures status { result ≡ 3 }
+    ensures told { Tells (codes "rdfconv: cannot open file\n") (E.contents err.old) (E.contents err.new) (E.has_failed err.new) }
+{
+    tell("rdfconv: cannot open file\n", err);
+    3
 }
 
 fn act<S: Source, O: Drain>(

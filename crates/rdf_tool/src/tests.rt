@@ -2,11 +2,20 @@
 
 ghost use Rattle.rdf_iri.specs.Scope.{BaseFits};
 
-use crate::commands::{command_of, not_utf8};
+mod hosts;
+mod texts;
+
+use crate::commands::command_of;
+use crate::host::{Host, NoWords, NotOpen, Process};
 use crate::runs::{refuse_words, run};
-use crate::task::{Action, Task, WordsFault};
-use rdf_stream::{Form, In, Limits, Out};
+use crate::start::start;
+use crate::task::{Action, Task};
+use hosts::InMemory;
+use rdf_stream::{Form, In, Limits, Out, Source};
 use std::alloc::Global;
+use std::process::Abort;
+use std::test::Fail;
+use texts::{COMMAND_HELP, COMMANDS, HELP, NOT_UTF8, USAGE};
 
 fn task(action: Action, form: Form, limits: Limits) -> Task
     ensures { BaseFits result.base result.limits }
@@ -97,7 +106,7 @@ fn a_run_writes_the_lines_or_tells_why_not(rt: HostRuntime) {
         let mut out = Out::new(&mut written);
         let mut err = Out::new(&mut told);
         assert_eq!(rt;
-            run(rt.alloc(), task, Some(&mut source), &mut out, &mut err),
+            run(rt.alloc(), task, &mut source, &mut out, &mut err),
             status,
             "{text}"
         );
@@ -123,24 +132,12 @@ fn a_run_keeps_to_the_limits_of_its_task(rt: HostRuntime) {
         let mut out = Out::new(Vec::new(rt.alloc()));
         let mut err = Out::new(&mut told);
         assert_eq!(rt;
-            run(rt.alloc(), task, Some(&mut source), &mut out, &mut err),
+            run(rt.alloc(), task, &mut source, &mut out, &mut err),
             status
         );
         drop(err);
         assert_eq!(rt; told.as_slice(), message.as_bytes());
     }
-}
-
-#[test]
-fn a_file_that_did_not_open_is_told(rt: HostRuntime) {
-    let task = task(Action::Convert, Form::NQuads, Limits::default());
-    let mut told = Vec::new(rt.alloc());
-    let mut out = Out::new(Vec::new(rt.alloc()));
-    let mut err = Out::new(&mut told);
-    let none: Option<&mut In<&[u8]>> = None;
-    assert_eq!(rt; run(rt.alloc(), task, none, &mut out, &mut err), 3);
-    drop(err);
-    assert_eq!(rt; told.as_slice(), b"rdfconv: cannot open file\n".as_slice());
 }
 
 #[test]
@@ -195,101 +192,188 @@ fn words_give_each_field_of_a_task(rt: HostRuntime) {
     }
 }
 
-/// The status of words that are no task, and what is told on both outputs.
-fn refused(alloc: Global, words: &[&str]) -> Option<(u8, Vec<u8>, Vec<u8>)> {
+/// These words are no task, end with this status, and write and report these texts.
+fn is_refused(
+    rt: &impl Abort,
+    alloc: Global,
+    words: &[&str],
+    status: u8,
+    text: &str,
+    message: &str,
+) -> Result<(), Fail> {
     let mut written = Vec::new(alloc);
     let mut told = Vec::new(alloc);
     let mut out = Out::new(&mut written);
     let mut err = Out::new(&mut told);
-    let status = match command_of(alloc, words) {
-        Ok(_) => return None,
-        Err(fault) => refuse_words(alloc, &fault, &mut out, &mut err),
-    };
+    match command_of(alloc, words) {
+        Ok(_) => return Err(Fail::new("the words are a task")),
+        Err(fault) => {
+            assert_eq!(rt; refuse_words(alloc, &fault, &mut out, &mut err), status);
+        }
+    }
     drop(out);
     drop(err);
-    Some((status, written, told))
+    assert_eq!(rt; str::from_utf8(written.as_slice()), Ok(text));
+    assert_eq!(rt; str::from_utf8(told.as_slice()), Ok(message));
+    Ok(())
 }
 
 #[test]
-fn a_bad_base_is_told(rt: HostRuntime) {
-    let rows = [
-        ["rdfconv", "convert", "--format=nt", "--base", "s"],
-        ["rdfconv", "convert", "--format=nt", "--base", ""],
-        [
-            "rdfconv",
-            "convert",
-            "--format=nq",
-            "--iri=9",
-            "--base=http://a/b",
-        ],
+fn words_that_are_no_task_are_reported(rt: HostRuntime) -> Result<(), Fail> {
+    for (words, message) in USAGE {
+        is_refused(&rt, rt.alloc(), words, 2, "", message)?;
+    }
+    let bases: [&[&str]; 3] = [
+        &["rdfconv", "convert", "--format=nt", "--base", "s"],
+        &["rdfconv", "convert", "--format=nt", "--base", ""],
+        &["rdfconv", "convert", "--iri=9", "--base=http://a/b"],
+    ];
+    for words in bases {
+        is_refused(&rt, rt.alloc(), words, 2, "", "rdfconv: bad base\n")?;
+    }
+    let fits = ["rdfconv", "convert", "--iri=10", "--base=http://a/b"];
+    assert!(&rt; command_of(rt.alloc(), &fits).is_ok());
+    Ok(())
+}
+
+#[test]
+fn help_is_written_to_the_output(rt: HostRuntime) -> Result<(), Fail> {
+    let rows: [&[&str]; 3] = [
+        &["rdfconv", "--help"],
+        &["rdfconv", "-h"],
+        &["rdfconv", "help"],
     ];
     for words in rows {
-        match refused(rt.alloc(), &words) {
-            Some((status, written, told)) => {
-                assert_eq!(rt; status, 2);
-                assert!(rt; written.is_empty());
-                assert_eq!(rt; told.as_slice(), b"rdfconv: bad base\n".as_slice());
-            }
-            None => assert!(rt; false),
+        is_refused(&rt, rt.alloc(), words, 0, HELP, "")?;
+    }
+    for (name, first) in COMMANDS {
+        let text = format!(in rt.alloc(); "{first}{COMMAND_HELP}")?;
+        let rows: [&[&str]; 3] = [
+            &["rdfconv", name, "--help"],
+            &["rdfconv", name, "-h"],
+            &["rdfconv", "help", name],
+        ];
+        for words in rows {
+            is_refused(&rt, rt.alloc(), words, 0, text.as_str(), "")?;
         }
     }
-    let fits = [
+    Ok(())
+}
+
+#[test]
+fn a_long_command_line_is_taken(rt: HostRuntime) -> Result<(), Fail> {
+    let alloc = rt.alloc();
+    let mut base = String::from_str(alloc, "http://a/")?;
+    let mut file = String::new(alloc);
+    for _ in 0..100_000 {
+        base.push('b')?;
+        file.push('f')?;
+    }
+    let words = [
         "rdfconv",
-        "convert",
-        "--format=nq",
-        "--iri=10",
-        "--base=http://a/b",
+        "show",
+        "--format",
+        "ttl",
+        "--base",
+        base.as_str(),
+        "--token",
+        "1",
+        "--depth",
+        "2",
+        "--bindings",
+        "3",
+        "--iri",
+        "200000",
+        "--",
+        file.as_str(),
     ];
-    assert!(rt; command_of(rt.alloc(), &fits).is_ok());
-}
-
-#[test]
-fn words_that_are_no_command_are_usage(rt: HostRuntime) {
-    let rows = [
-        ["rdfconv", "convert", "--format", "xml"],
-        ["rdfconv", "delete", "--format", "nt"],
-        ["rdfconv", "convert", "--format", "--help"],
-        ["rdfconv", "convert", "a.nt", "b.nt"],
-        ["rdfconv", "convert", "--format=nt", "--depth=1048577"],
-        ["rdfconv", "convert", "--format=nt", "--token=0"],
-        ["rdfconv", "convert", "--format=nt", "--iri=ten"],
-        ["rdfconv", "convert", "--format=nt", "--format=nt"],
-    ];
-    for words in rows {
-        match refused(rt.alloc(), &words) {
-            Some((status, written, told)) => {
-                assert_eq!(rt; status, 2);
-                assert!(rt; written.is_empty());
-                assert!(rt; told.starts_with(b"error: "));
-            }
-            None => assert!(rt; false),
+    match command_of(alloc, &words) {
+        Ok(task) => {
+            assert_eq!(&rt;
+                task.base.as_ref().map(|iri| iri.as_str()),
+                Some(base.as_str())
+            );
+            assert_eq!(&rt; task.file.as_deref(), Some(file.as_str()));
         }
+        Err(_) => return Err(Fail::new("no task")),
     }
-    assert!(rt; matches!(refused(rt.alloc(), &["rdfconv"]), Some((2, _, _))));
-    assert!(rt; matches!(refused(rt.alloc(), &[]), Some((2, _, _))));
+    let mut many = [base.as_str(); 1000];
+    many[0] = "rdfconv";
+    many[1] = "show";
+    let message = format!(in alloc;
+        "error: unexpected argument '{base}' found\n\nUsage: rdfconv show [OPTIONS] [FILE]\n\nFor more information, try '--help'.\n"
+    )?;
+    is_refused(&rt, alloc, &many, 2, "", message.as_str())
 }
 
 #[test]
-fn help_goes_to_the_output(rt: HostRuntime) {
-    let rows = [
-        ["rdfconv", "convert", "--help"],
-        ["rdfconv", "--help", ""],
-        ["rdfconv", "help", "convert"],
-        ["rdfconv", "convert", "-h"],
+fn the_program_does_what_its_words_say(rt: HostRuntime) {
+    let rows: [(Result<&[&str], NoWords>, u8, &str, &str); 8] = [
+        (
+            Ok(&["rdfconv", "convert", "--format", "nt", "data.nt"]),
+            0,
+            "<a:> <b:> \"file\" .\n",
+            "",
+        ),
+        (Ok(&["rdfconv", "convert"]), 0, "<a:> <b:> _:ninput .\n", ""),
+        (
+            Ok(&["rdfconv", "show", "data.nt"]),
+            0,
+            "0 4 iri\n5 4 iri\n10 6 string\n17 1 dot\n",
+            "",
+        ),
+        (
+            Ok(&["rdfconv", "check", "--iri", "1", "data.nt"]),
+            1,
+            "",
+            "rdfconv: IRI too long at byte 0, line 1\n",
+        ),
+        (
+            Ok(&["rdfconv", "check", "no.nt"]),
+            3,
+            "",
+            "rdfconv: cannot open file\n",
+        ),
+        (Ok(&["rdfconv", "--help"]), 0, HELP, ""),
+        (Err(NoWords::NotUtf8), 2, "", NOT_UTF8),
+        (Err(NoWords::Memory), 4, "", "rdfconv: out of memory\n"),
     ];
-    for words in rows {
-        match refused(rt.alloc(), &words) {
-            Some((status, written, told)) => {
-                assert_eq!(rt; status, 0);
-                assert!(rt; !written.is_empty());
-                assert!(rt; told.is_empty());
-            }
-            None => assert!(rt; false),
-        }
+    for (words, status, text, message) in rows {
+        let mut host = InMemory {
+            words,
+            input: "<a:> <b:> _:input .",
+            file: ("data.nt", "<a:> <b:> \"file\" ."),
+            source: In::new(b"".as_slice()),
+        };
+        let mut written = Vec::new(rt.alloc());
+        let mut told = Vec::new(rt.alloc());
+        let mut out = Out::new(&mut written);
+        let mut err = Out::new(&mut told);
+        assert_eq!(rt; start(rt.alloc(), &mut host, &mut out, &mut err), status);
+        drop(out);
+        drop(err);
+        assert_eq!(rt; str::from_utf8(written.as_slice()), Ok(text));
+        assert_eq!(rt; str::from_utf8(told.as_slice()), Ok(message));
     }
 }
 
+/// The system's file of the words of a process has a zero byte after each, and may have a loader's words first.
 #[test]
-fn a_word_that_is_no_utf8_is_usage(rt: HostRuntime) {
-    assert!(rt; matches!(not_utf8(rt.alloc()), WordsFault::Usage(_)));
+fn the_process_has_all_its_words(rt: HostRuntime) -> Result<(), Fail> {
+    let mut process = Process::new(&rt);
+    let mut expected = String::new(rt.alloc());
+    for word in process
+        .words(rt.alloc())
+        .map_err(|_| Fail::new("no words"))?
+    {
+        expected.push_str(word.as_str())?;
+        expected.push('\0')?;
+    }
+    assert_eq!(&rt; process.open(Some("no such file")), Err(NotOpen));
+    assert_eq!(&rt; process.open(Some("/proc/self/cmdline")), Ok(()));
+    let mut buf = [0u8; 4096];
+    let count = process.fill(&mut buf).map_err(|_| Fail::new("no bytes"))?;
+    let words = buf.get(..count).ok_or("no words")?;
+    assert!(&rt; !expected.is_empty() && words.ends_with(expected.as_bytes()));
+    Ok(())
 }

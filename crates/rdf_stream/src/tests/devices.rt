@@ -140,3 +140,16 @@ pub(crate) fn failing_drain(alloc: Global, calls: u64) -> SlowDrain
         flushed: false,
     }
 }
+
+/// Gives all that it is asked for, and fails behind these calls.
+pub(crate) fn wide_source(bytes: &[u8], calls: u64) -> Parts<'_>
+    ensures { result.failed ≡ false }
+{
+    Parts {
+        bytes,
+        part: usize::MAX,
+        others: usize::MAX,
+        calls,
+        failed: false,
+    }
+}

@@ -1,4 +1,4 @@
-use Rattle.std.proofs.Common.{◌∙◌, ◌≡◌, ◌≤◌, length, ap, arith}
+use Rattle.std.proofs.Common.{◌∙◌, ◌≡◌, length, ap, arith}
 use Rattle.rdf_iri.specs.Texts.{byte_len}
 use Rattle.rdf_iri.proofs.ResolvedText.{byte_len-chars}
 use Rattle.rdf_tool.proofs.commands.base_within.Goals as goal

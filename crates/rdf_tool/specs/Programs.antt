@@ -1,0 +1,54 @@
+-- What the whole program does, over what it is started with: words, standard input and files, as the program's host says.
+use Rattle.std.specs.Prelude.{◌≡◌, ◌⊎◌, ℕ, List, codes, Option, Some, option_map}
+use Rattle.std.specs.String.{string_bytes}
+use Rattle.clap.specs.Words.{Text}
+use Rattle.clap.specs.declared.builder.value_parser.ValueParser.{ValueParser}
+use Rattle.clap.specs.declared.error.kind.ErrorKind.TheVariants.{InvalidValue}
+use Rattle.rdf_stream.specs.Devices.{Reading, Written}
+use Rattle.rdf_tool.specs.declared.task.Task.{Task}
+use Rattle.rdf_tool.specs.declared.task.WordsFault.{WordsFault}
+use Rattle.rdf_tool.specs.declared.task.WordsFault.TheVariants.{Memory}
+use Rattle.rdf_tool.specs.Runs.{RunEnds}
+use Rattle.rdf_tool.specs.Statuses.{GoesTo, Refuses, Tells}
+use Rattle.rdf_tool.specs.Words.{GivesNone, GivesTask, IsUsageOf, TakesFormats, rdfconv}
+
+-- the words of the command line give the task
+abbrev pub IsGiven : (List Text → Type 0) → Task → Type 0
+IsGiven has_words t = (words : List Text) × has_words words × ((formats : ValueParser) × TakesFormats formats × GivesTask (rdfconv formats) words t)
+
+-- the words of the command line give no task, for this reason
+abbrev pub GiveNone : (List Text → Type 0) → WordsFault → Type 0
+GiveNone has_words fault = (words : List Text) × has_words words × ((formats : ValueParser) × TakesFormats formats × GivesNone (rdfconv formats) words fault)
+
+-- There is no task: the words give none, one of them is no UTF-8, or memory was refused.
+abbrev pub IsNotGiven : (List Text → Type 0) → Type 0 → WordsFault → Type 0
+IsNotGiven has_words has_bad_word fault = GiveNone has_words fault ⊎ ((has_bad_word × IsUsageOf InvalidValue fault) ⊎ (fault ≡ Memory))
+
+-- the name of the file that the task reads, where it reads one
+abbrev pub file_of : Task → Option Text
+file_of t = option_map string_bytes t.file
+
+-- The file of the task did not open, which the status and the text on the error output say, and nothing was written.
+pub record IsNotOpen (is_shut : Text → Type 0) (t : Task) (status : ℕ) (out_old : Option (List ℕ)) (out : Written)
+    (err_old : Option (List ℕ)) (err : Written) : Type 0 where
+  pub path : Text
+  pub named : file_of t ≡ Some path
+  pub shut : is_shut path
+  pub status_is : status ≡ 3
+  pub unwritten : out.contents ≡ out_old
+  pub told : Tells (codes "rdfconv: cannot open file\n") err_old err.contents err.has_failed
+
+-- The document that the task names was read, its file or else standard input, and the run of the task over it ended so; or the file did not open.
+abbrev pub TaskEnds : (Option Text → Option (List ℕ) → Type 0) → (Text → Type 0) → Task → ℕ → Reading
+    → Option (List ℕ) → Written → Option (List ℕ) → Written → Type 0
+TaskEnds has_document is_shut t status source out_old out err_old err =
+    ((known : Option (List ℕ)) × has_document (file_of t) known × RunEnds t status known source out_old out err_old err)
+    ⊎ IsNotOpen is_shut t status out_old out err_old err
+
+-- The words give a task, which ended so; or they give none, which the status and the text on an output say.
+abbrev pub ProgramEnds : (List Text → Type 0) → Type 0 → (Option Text → Option (List ℕ) → Type 0) → (Text → Type 0) → ℕ → Reading
+    → Option (List ℕ) → Written → Option (List ℕ) → Written → Type 0
+ProgramEnds has_words has_bad_word has_document is_shut status source out_old out err_old err =
+    ((task : Task) × IsGiven has_words task × TaskEnds has_document is_shut task status source out_old out err_old err)
+    ⊎ ((fault : WordsFault) × IsNotGiven has_words has_bad_word fault
+    × Refuses fault status err_old err.contents err.has_failed × GoesTo fault out_old out.contents err_old err.contents)

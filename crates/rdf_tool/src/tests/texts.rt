@@ -1,0 +1,147 @@
+// The whole texts of help, and of words that are no task.
+
+/// What `rdfconv --help` writes.
+pub(crate) const HELP: &str = "\
+Read N-Triples, N-Quads, Turtle or TriG, and write N-Quads
+
+Usage: rdfconv <COMMAND>
+
+Commands:
+  check    Read a document to its end, and count its quads and bytes
+  show     Write a line for each token: its offset, its characters and its kind
+  convert  Write the quads of a document as lines of N-Quads
+  help     Print this message or the help of the given subcommand(s)
+
+Options:
+  -h, --help  Print help
+
+Options of a command, which reads FILE or standard input:
+  --format FORMAT  nt (N-Triples), nq (N-Quads), ttl (Turtle) or trig (TriG) [default: trig];
+                   it is not guessed from the file's name
+  --base IRI       absolute IRI that relative references start from, at most --iri bytes;
+                   without one they are refused; line formats have none
+  --token N        characters of one token, 1 to 268435456 [default: 16777216]
+  --depth N        brackets and parentheses open at one time, 0 to 1048576 [default: 1024]
+  --bindings N     prefixes bound at one time, 0 to 16777216 [default: 65536]
+  --iri N          bytes of one IRI, 1 to 268435456 [default: 1048576]
+Past one of the limits N a document is refused.
+
+Exit status:
+  0  accepted, or help was asked for
+  1  refused, with `rdfconv: REASON at byte N, line M` on standard error
+  2  the words are no command, or the base is no IRI or too long
+  3  the file does not open, or a read or write failed
+  4  out of memory
+";
+
+/// The subcommands, and the first lines of their help.
+pub(crate) const COMMANDS: [(&str, &str); 3] = [
+    (
+        "check",
+        "Read a document to its end, and count its quads and bytes\n\nUsage: rdfconv check [OPTIONS] [FILE]\n",
+    ),
+    (
+        "show",
+        "Write a line for each token: its offset, its characters and its kind\n\nUsage: rdfconv show [OPTIONS] [FILE]\n",
+    ),
+    (
+        "convert",
+        "Write the quads of a document as lines of N-Quads\n\nUsage: rdfconv convert [OPTIONS] [FILE]\n",
+    ),
+];
+
+/// What follows these lines in the help of each subcommand.
+pub(crate) const COMMAND_HELP: &str = "
+Arguments:
+  [FILE]  Document to read, in place of standard input
+
+Options:
+      --format <FORMAT>  Format of the document: nt N-Triples, nq N-Quads, ttl Turtle, trig TriG [default: trig] [possible values: nt, nq, ttl, trig]
+      --base <IRI>       Absolute IRI that relative references start from, at most --iri bytes; line formats have none
+      --token <N>        Characters of one token, 1 to 268435456 [default: 16777216]
+      --depth <N>        Brackets and parentheses open at one time, 0 to 1048576 [default: 1024]
+      --bindings <N>     Prefixes bound at one time, 0 to 16777216 [default: 65536]
+      --iri <N>          Bytes of one IRI, 1 to 268435456 [default: 1048576]
+  -h, --help             Print help
+
+The format is not guessed from the file's name. Past one of the limits N a document is refused.
+
+Exit status:
+  0  accepted, or help was asked for
+  1  refused, with `rdfconv: REASON at byte N, line M` on standard error
+  2  the words are no command, or the base is no IRI or too long
+  3  the file does not open, or a read or write failed
+  4  out of memory
+";
+
+/// What is reported of a word that is no UTF-8.
+pub(crate) const NOT_UTF8: &str = "\
+error: a word is no UTF-8
+
+Usage: rdfconv <COMMAND>
+
+For more information, try '--help'.
+";
+
+const NO_COMMAND: &str = "\
+error: 'rdfconv' requires a subcommand but one was not provided
+  [subcommands: check, show, convert, help]
+
+Usage: rdfconv <COMMAND>
+
+For more information, try '--help'.
+";
+
+/// Words that are no command, and all that is reported of them.
+pub(crate) const USAGE: [(&[&str], &str); 14] = [
+    (&[], NO_COMMAND),
+    (&["rdfconv"], NO_COMMAND),
+    (
+        &["rdfconv", "delete", "--format", "nt"],
+        "error: unrecognized subcommand 'delete'\n\nUsage: rdfconv <COMMAND>\n\nFor more information, try '--help'.\n",
+    ),
+    (
+        &["rdfconv", "convert", "--format", "xml"],
+        "error: invalid value 'xml' for '--format <FORMAT>'\n  [possible values: nt, nq, ttl, trig]\n\nFor more information, try '--help'.\n",
+    ),
+    (
+        &["rdfconv", "check", "--format", "--help"],
+        "error: a value is required for '--format <FORMAT>' but none was supplied\n  [possible values: nt, nq, ttl, trig]\n\nFor more information, try '--help'.\n",
+    ),
+    (
+        &["rdfconv", "convert", "--format=nt", "--format=nt"],
+        "error: the argument '--format <FORMAT>' cannot be used multiple times\n\nUsage: rdfconv convert [OPTIONS] [FILE]\n\nFor more information, try '--help'.\n",
+    ),
+    (
+        &["rdfconv", "show", "a.nt", "b.nt"],
+        "error: unexpected argument 'b.nt' found\n\nUsage: rdfconv show [OPTIONS] [FILE]\n\nFor more information, try '--help'.\n",
+    ),
+    (
+        &["rdfconv", "check", "--colour", "x"],
+        "error: unexpected argument '--colour' found\n\n  tip: to pass '--colour' as a value, use '-- --colour'\n\nUsage: rdfconv check [OPTIONS] [FILE]\n\nFor more information, try '--help'.\n",
+    ),
+    (
+        &["rdfconv", "convert", "--token=0"],
+        "error: invalid value '0' for '--token <N>': 0 is not in 1..=268435456\n\nFor more information, try '--help'.\n",
+    ),
+    (
+        &["rdfconv", "convert", "--depth=1048577"],
+        "error: invalid value '1048577' for '--depth <N>': 1048577 is not in 0..=1048576\n\nFor more information, try '--help'.\n",
+    ),
+    (
+        &["rdfconv", "convert", "--bindings=16777217"],
+        "error: invalid value '16777217' for '--bindings <N>': 16777217 is not in 0..=16777216\n\nFor more information, try '--help'.\n",
+    ),
+    (
+        &["rdfconv", "convert", "--iri=18446744073709551615"],
+        "error: invalid value '18446744073709551615' for '--iri <N>': 18446744073709551615 is not in 1..=268435456\n\nFor more information, try '--help'.\n",
+    ),
+    (
+        &["rdfconv", "convert", "--token", "18446744073709551616"],
+        "error: invalid value '18446744073709551616' for '--token <N>': number too large to fit in target type\n\nFor more information, try '--help'.\n",
+    ),
+    (
+        &["rdfconv", "convert", "--iri=ten"],
+        "error: invalid value 'ten' for '--iri <N>': invalid digit found in string\n\nFor more information, try '--help'.\n",
+    ),
+];
