@@ -1,9 +1,11 @@
 -- The good text of some bytes, what comes behind it, and the tokens of the bytes.
 use Prim.Native.Char.{code}
-use Rattle.std.specs.Prelude.{ℕ, ◌+◌, Bool, true, false, cond, List, [], ◌∷◌, length, take, drop, count_by, is_some, ◌==◌, ◌||◌}
+use Rattle.std.specs.Prelude.{ℕ, ◌+◌, ◌-◌, ◌^◌, Bool, true, false, cond, List, [], ◌∷◌, length, take, drop, count_by, is_some, ◌==◌, ◌||◌}
 use Rattle.std.specs.Str.{chars}
 use Rattle.std.specs.Str.Lossy.{utf8_valid_len, utf8_error_len}
 use Rattle.rdf_terms.specs.declared.kind.Dialect.{Dialect}
+use Rattle.rdf_terms.specs.declared.kind.Kind.{Kind}
+use Rattle.rdf_terms.specs.declared.kind.Kind.TheVariants.{End}
 use Rattle.rdf_tokens.specs.Tokens.{Tail, Place, Reading, past, tokens}
 use Rattle.rdf_tokens.specs.Tokens.Tail.{goes_on, ended, broken}
 
@@ -39,3 +41,12 @@ tokens_at d limit t false comment p w = tokens d limit t comment (past p (take (
 -- the tokens of some bytes
 unfoldable pub tokens_of : Dialect → ℕ → List ℕ → Bool → Reading
 tokens_of d limit bytes is_end = tokens_at d limit (tail_of bytes is_end) false false first_place (good bytes)
+
+-- the most bytes that a document has
+abbrev pub most_bytes : ℕ
+most_bytes = 2 ^ 63 - 1
+
+-- the kind of the input's end
+abbrev pub is_end : Kind → Bool
+is_end End = true
+is_end k = false

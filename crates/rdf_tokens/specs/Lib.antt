@@ -1,10 +1,10 @@
 -- what has to be believed
 pub mod Tokens
 pub mod Good
-pub mod Scans
 pub mod Grammars
--- what need not be: functions that compute, machines and states, what the code's side speaks of, and the laws
+-- what need not be: functions that compute, machines and states, what the code's side speaks of (a scanner and its calls), and the laws
 pub mod Unread
+pub mod Scans
 pub mod Moves
 pub mod Sorts
 pub mod Machines

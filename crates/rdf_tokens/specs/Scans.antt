@@ -1,8 +1,7 @@
 -- What a scanner has read, and what its calls give.
-use Rattle.std.specs.Prelude.{◌≡◌, ◌≢◌, ℕ, ◌<◌, ◌≤◌, ◌+◌, ◌-◌, ◌^◌, Bool, true, false, cond, List, [], ◌∷◌, ◌++◌, ◌⊎◌, length, take, Option, Some, None, Result, Ok, Err}
+use Rattle.std.specs.Prelude.{◌≡◌, ◌≢◌, ℕ, ◌<◌, ◌≤◌, ◌+◌, Bool, true, false, cond, List, [], ◌∷◌, ◌++◌, ◌⊎◌, length, take, Option, Some, None, Result, Ok, Err}
 use Rattle.std.specs.Str.{chars}
 use Rattle.rdf_terms.specs.declared.kind.Dialect.{Dialect}
-use Rattle.rdf_terms.specs.declared.kind.Kind.{Kind}
 use Rattle.rdf_terms.specs.declared.kind.Kind.TheVariants.{End}
 use Rattle.rdf_terms.specs.declared.reason.Reason.{Reason}
 use Rattle.rdf_terms.specs.declared.reason.Reason.TheVariants.{BadUtf8, NoToken, BadEscape, TokenTooLong, DocumentTooLong, Memory, Ended}
@@ -14,11 +13,8 @@ use Rattle.rdf_tokens.specs.Tokens.{Place, Outcome, Token, Reading, with_tokens}
 use Rattle.rdf_tokens.specs.Tokens.Tail.{broken}
 use Rattle.rdf_tokens.specs.Tokens.Outcome.{undecided, token_too_long, bad_utf8, no_token, bad_escape}
 use Rattle.rdf_tokens.specs.Good.{good, tail_of, end_of, tokens_at, tokens_of}
+pub use Rattle.rdf_tokens.specs.Good.{most_bytes, is_end}
 use Rattle.rdf_tokens.specs.Unread.{Unread}
-
--- the most bytes that a document has
-abbrev pub most_bytes : ℕ
-most_bytes = 2 ^ 63 - 1
 
 -- what is still to be read, where these bytes come, and whether they are the last
 abbrev pub reading_by : Bool → Unread → List ℕ → Bool → Reading
@@ -46,11 +42,6 @@ token_of t = record { kind = t.kind; text = chars t.text.now; at = record { offs
 
 abbrev pub place_of : Fault → Place
 place_of f = record { offset = f.offset; line = f.line }
-
--- the kind of the input's end
-abbrev pub is_end : Kind → Bool
-is_end End = true
-is_end k = false
 
 -- a token of the dialect: End is empty, and any other has the shape of its kind and fit escapes
 abbrev pub IsToken : Dialect → Token → Type 0
