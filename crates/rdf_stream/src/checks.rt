@@ -1,18 +1,18 @@
 // Reading a document to its end.
 
-ghost use Rattle.std.specs.Prelude.{◌≡◌, ◌<◌, [], false, length, IfOk, IfErr, IfSome};
-ghost use Rattle.rdf_lines.specs.Readers.{HasRead};
-ghost use Rattle.rdf_stream.specs.Checks.{CheckStops, Passes};
-ghost use Rattle.rdf_stream.specs.Languages.{in_lines, language_of, line_job};
+ghost use Rattle.std.specs.Prelude.{◌≡◌, false, IfOk, IfErr, IfSome};
+ghost use Rattle.rdf_stream.specs.Checks.{CheckEnds, CheckHalts, CheckStops, IsChecking, Passes};
+ghost use Rattle.rdf_stream.specs.Faults.{IsRefusal};
+ghost use Rattle.rdf_stream.specs.Languages.{language_of};
 
-use crate::conversions::piece_buffer;
-use crate::devices::{Failed, Source};
+use crate::devices::Source;
 use crate::fault::{Kind, StreamFault};
 use crate::job::Job;
-use crate::tree_checks::check_tree;
-use rdf_iri::Limits;
-use rdf_lines::{LineForm, LineReader, Summary};
+use crate::pieces::{Run, piece_buffer, read_pieces};
+use rdf_driver::{Grammar, Reader, Summary};
+use rdf_lines::line_reader;
 use rdf_terms::{PutFault, QuadRef, QuadSink};
+use rdf_trig::tree_reader;
 use std::alloc::Allocator;
 
 /// Reads a document of the job's format from the source to its end, and counts what is in it. It keeps nothing of it.
@@ -24,62 +24,58 @@ pub fn check<A: Allocator + Copy, S: Source>(
     requires source { S.has_failed source.old ≡ false }
     ensures accepted { IfOk result (λ summary. IfSome (S.remaining source.old) (λ bytes. Passes (language_of job) bytes summary)) }
     ensures stops { IfErr result (λ fault. CheckStops fault (language_of job) (S.remaining source.old) (S.remaining source.new) (S.has_failed source.new)) }
+    ensures refused { IfErr result IsRefusal }
 {
     let mut piece = piece_buffer(alloc)?;
     match job.form().kind() {
-        Kind::Line(form) => check_document(alloc, form, job.limits(), source, piece.as_mut_slice()),
-        Kind::Tree(form) => check_tree(alloc, job.options(form), source, piece.as_mut_slice()),
+        Kind::Line(form) => {
+            let mut run = Checking {
+                reader: line_reader(alloc, form, job.limits()),
+            };
+            read_pieces(source, piece.as_mut_slice(), &mut run)
+        }
+        Kind::Tree(form) => {
+            let mut run = Checking {
+                reader: tree_reader(alloc, job.options(form)),
+            };
+            read_pieces(source, piece.as_mut_slice(), &mut run)
+        }
     }
 }
 
-fn check_document<A: Allocator + Copy, S: Source>(
-    alloc: A,
-    form: LineForm,
-    limits: Limits,
-    source: &mut S,
-    piece: &mut [u8],
-) -> Result<Summary, StreamFault>
-    requires source { S.has_failed source.old ≡ false }
-    requires room { 0 < length piece.old }
-    ensures accepted { IfOk result (λ summary. IfSome (S.remaining source.old) (λ bytes. Passes (in_lines (line_job form limits)) bytes summary)) }
-    ensures stops { IfErr result (λ fault. CheckStops fault (in_lines (line_job form limits)) (S.remaining source.old) (S.remaining source.new) (S.has_failed source.new)) }
-{
-    let mut reader = LineReader::new(alloc, form, limits);
-    check_pieces(&mut reader, form, limits, source, piece)
+/// Reads a document, and keeps nothing of it.
+#[derive(Drop)]
+struct Checking<G: Grammar + Drop, A: Allocator> {
+    reader: Reader<G, A>,
 }
 
-fn check_pieces<A: Allocator + Copy, S: Source>(
-    reader: &mut LineReader<A>,
-    form: LineForm,
-    limits: Limits,
-    source: &mut S,
-    piece: &mut [u8],
-) -> Result<Summary, StreamFault>
-    requires reader { HasRead reader.old [] [] }
-    requires form { reader.old.form ≡ form }
-    requires token { reader.old.scanner.limit ≡ limits.token }
-    requires iri { reader.old.iri ≡ limits.iri }
-    requires source { S.has_failed source.old ≡ false }
-    requires room { 0 < length piece.old }
-    ensures accepted { IfOk result (λ summary. IfSome (S.remaining source.old) (λ bytes. Passes (in_lines (line_job form limits)) bytes summary)) }
-    ensures stops { IfErr result (λ fault. CheckStops fault (in_lines (line_job form limits)) (S.remaining source.old) (S.remaining source.new) (S.has_failed source.new)) }
-{
-    let mut sink = NoQuads;
-    loop {
-        let count = match source.fill(piece) {
-            Ok(count) => count,
-            Err(Failed) => return Err(StreamFault::Read),
-        };
-        if count == 0 {
-            return Ok(reader.finish(&mut sink)?);
+impl<G: Grammar + Drop, A: Allocator + Copy> Run for Checking<G, A> {
+    ghost taken = { λ first bytes now. IsChecking G.words first.reader bytes now.reader };
+
+    ghost halts = { λ told first bytes is_end now. CheckHalts G.words told first.reader bytes is_end };
+
+    ghost ends = { λ summary first bytes now. CheckEnds G.words summary first.reader bytes };
+
+    ghost count = { λ now. now.reader.so_far.bytes };
+
+    fn take(&mut self, piece: &[u8]) -> Result<(), StreamFault> {
+        match self.reader.feed(piece, &mut NoQuads) {
+            Ok(()) => Ok(()),
+            Err(fault) => Err(StreamFault::from(fault)),
         }
-        reader.feed(&piece[..count], &mut sink)?;
+    }
+
+    fn end(&mut self) -> Result<Summary, StreamFault> {
+        match self.reader.finish(&mut NoQuads) {
+            Ok(summary) => Ok(summary),
+            Err(fault) => Err(StreamFault::from(fault)),
+        }
     }
 }
 
 /// Takes quads, and keeps nothing.
 #[derive(Clone, Copy)]
-pub(crate) struct NoQuads;
+struct NoQuads;
 
 impl QuadSink for NoQuads {
     ghost takes = { λ before quad after. after ≡ before };

@@ -1,0 +1,75 @@
+// Reading a source to its end, piece by piece.
+
+ghost use Rattle.std.specs.Prelude.{◌≡◌, ◌+◌, ◌<◌, ◌≤◌, ◌++◌, ℕ, List, [], Bool, false, length, OnOk, IfOk, IfErr};
+ghost use Rattle.rdf_tokens.specs.Scans.{most_bytes};
+ghost use Rattle.rdf_driver.specs.declared.summary.Summary.{Summary};
+ghost use Rattle.rdf_stream.specs.declared.fault.StreamFault.{StreamFault};
+ghost use Rattle.rdf_stream.specs.Pieces.{HaltsOn, HasBegun, ReadsAll, ReadStops, ReadsEnd, TakesMore};
+
+use crate::devices::{Failed, Source};
+use crate::fault::StreamFault;
+use rdf_driver::Summary;
+use std::alloc::{AllocError, Allocator};
+
+/// The number of bytes that are asked of a source at a time.
+const PIECE_LEN: usize = 65536;
+
+/// Takes the bytes of a source, piece by piece.
+pub(crate) trait Run {
+    /// From the first state on, these bytes were taken.
+    ghost taken: { Self → List ℕ → Self → Type 0 };
+    /// From the first state on, these bytes are not read on, with their end or before more come.
+    ghost halts: { StreamFault → Self → List ℕ → Bool → Self → Type 0 };
+    /// From the first state on, these bytes were read to their end.
+    ghost ends: { Summary → Self → List ℕ → Self → Type 0 };
+    /// The number of bytes that were taken.
+    ghost count: { Self → ℕ };
+
+    /// Takes a piece.
+    fn take(&mut self, piece: &[u8]) -> Result<(), StreamFault>
+        requires begun { HasBegun taken self.old }
+        ensures takes { OnOk result (TakesMore taken self.old piece.now self.new) }
+        ensures count { OnOk result (count self.new ≡ count self.old + length piece.now) }
+        ensures few { OnOk result (count self.new ≤ most_bytes) }
+        ensures halts { IfErr result (λ f. HaltsOn taken halts f self.old (λ bytes. bytes ++ piece.now) false self.new) };
+
+    /// Takes the end.
+    fn end(&mut self) -> Result<Summary, StreamFault>
+        requires begun { HasBegun taken self.old }
+        ensures ends { IfOk result (λ summary. ReadsEnd taken ends summary self.old self.new) }
+        ensures halts { IfErr result (λ f. HaltsOn taken halts f self.old (λ bytes. bytes) true self.new) };
+}
+
+/// Reads the source to its end.
+pub(crate) fn read_pieces<S: Source, R: Run>(
+    source: &mut S,
+    piece: &mut [u8],
+    run: &mut R,
+) -> Result<Summary, StreamFault>
+    requires source { S.has_failed source.old ≡ false }
+    requires room { 0 < length piece.old }
+    requires begun { R.taken run.old [] run.old }
+    ensures read { IfOk result (λ summary. ReadsAll R.ends (S.remaining source.old) (S.remaining source.new) summary run.old run.new) }
+    ensures stops { IfErr result (λ f. ReadStops R.taken R.halts f (S.remaining source.old) (S.remaining source.new) (S.has_failed source.new) run.old run.new) }
+{
+    loop {
+        let count = match source.fill(piece) {
+            Ok(count) => count,
+            Err(Failed) => return Err(StreamFault::Read),
+        };
+        if count == 0 {
+            return run.end();
+        }
+        match run.take(&piece[..count]) {
+            Ok(()) => {}
+            Err(fault) => return Err(fault),
+        }
+    }
+}
+
+/// A buffer for pieces.
+pub(crate) fn piece_buffer<A: Allocator + Copy>(alloc: A) -> Result<Vec<u8, A>, AllocError>
+    ensures { IfOk result (λ piece. 0 < length piece.items) }
+{
+    Vec::from_elem(alloc, 0u8, PIECE_LEN)
+}
