@@ -27,6 +27,7 @@ pub mod LookLemmas
 pub mod PastGood
 pub mod GrammarsLemmas
 pub mod GrammarFronts
+pub mod LanguageLemmas
 pub mod CutLemmas
 pub mod HeldLemmas
 pub mod MoveLemmas

@@ -144,3 +144,8 @@ pub record BeginsDue (documents : List Token → List Marked → Type 0) (passes
 -- There are more bytes than a document has, and the place is after as many as one may have.
 abbrev pub IsTooLong : List ℕ → Place → Type 0
 IsTooLong bytes at = (most_bytes < length bytes) × (at ≡ end_of (take most_bytes bytes))
+
+-- The bytes are read to their end, and each beginning of them goes on: no reader refuses them, however they are cut.
+pub record IsReadToItsEnd (l : Language) (bytes : List ℕ) : Type 0 where
+  pub whole : IsWhole l bytes
+  pub fronts : (front rest : List ℕ) → bytes ≡ front ++ rest → GoesOn l front

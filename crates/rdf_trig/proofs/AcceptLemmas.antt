@@ -95,31 +95,31 @@ stops_answer form n k l e may s =
     let same = step_use form n.setting n.mode k l r.0 r.1 r.2 r.3 r.4 r.5 in
     answer_is form n k l r.0 r.1 r.2 r.3 r.4 may r.5 ∙ (ap (λ u. by_use n.setting.scope.limits k u (accepts (quads_out n k l) o)) same ∙ s (accepts (quads_out n k l) o))
 
-pub fails_stops : {S : Type 0} (takes leaves : S → Quad → S → Type 0) (failed : S → Bool) (form : DocForm) (n : M.State) (k : Kind) (l : Leaf) (r : StepFault) (sink : S) →
+pub fails_stops : {S : Type 0} (takes leaves : S → Quad → S → Type 0) (failed : S → Bool) (form : DocForm) (n : M.State) (k : Kind) (l : Leaf) (r : StepFault) (sink : S) → failed sink ≡ false →
     May form n k l → LooksUpNone n.setting.scope n.mode k l r → Fails takes leaves failed r (M.accept form n k l) sink sink
-fails_stops takes leaves failed form n k l fault.Unbound sink may s = (stops_answer form n k l refusal.unbound may s, refl)
-fails_stops takes leaves failed form n k l fault.NoBase sink may s = (stops_answer form n k l refusal.no_base may s, refl)
-fails_stops takes leaves failed form n k l fault.IriTooLong sink may s = (stops_answer form n k l refusal.iri_too_long may s, refl)
-fails_stops takes leaves failed form n k l fault.TooManyBindings sink may s = (stops_answer form n k l refusal.too_many_bindings may s, refl)
-fails_stops takes leaves failed form n k l fault.Memory sink may s = ([], answered (M.accept form n k l), refl, refl)
-fails_stops takes leaves failed form n k l r sink may s = absurd s
+fails_stops takes leaves failed form n k l fault.Unbound sink live may s = (stops_answer form n k l refusal.unbound may s, refl)
+fails_stops takes leaves failed form n k l fault.NoBase sink live may s = (stops_answer form n k l refusal.no_base may s, refl)
+fails_stops takes leaves failed form n k l fault.IriTooLong sink live may s = (stops_answer form n k l refusal.iri_too_long may s, refl)
+fails_stops takes leaves failed form n k l fault.TooManyBindings sink live may s = (stops_answer form n k l refusal.too_many_bindings may s, refl)
+fails_stops takes leaves failed form n k l fault.Memory sink live may s = (([], answered (M.accept form n k l), refl, refl), live)
+fails_stops takes leaves failed form n k l r sink live may s = absurd s
 
 pub fails_gave : {S : Type 0} (takes leaves : S → Quad → S → Type 0) (failed : S → Bool) (form : DocForm) (n : M.State) (k : Kind) (l : Leaf) (r : StepFault) (sink new : S) →
     May form n k l → Passes n.setting.scope.limits k (use_in n.setting.scope n.mode k l) → GaveUp takes leaves failed r (quads_out n k l) sink new →
     Fails takes leaves failed r (M.accept form n k l) sink new
 fails_gave takes leaves failed form n k l fault.Memory sink new may p h =
-    let a = passed form n k l may p in subst (λ x. Begins takes leaves (answered x) sink new) (sym a.1) h
+    let a = passed form n k l may p in (subst (λ x. Begins takes leaves (answered x) sink new) (sym a.1) h.0, h.1)
 fails_gave takes leaves failed form n k l fault.Sink sink new may p h =
     let a = passed form n k l may p in (subst (λ x. Begins takes leaves (answered x) sink new) (sym a.1) h.0, h.1)
 fails_gave takes leaves failed form n k l r sink new may p h = absurd h
 
 pub fails_stays : {S : Type 0} (takes leaves : S → Quad → S → Type 0) (failed : S → Bool) (form : DocForm) (n : M.State) (k : Kind) (l : Leaf) (r : StepFault) (sink new : S) →
     May form n k l → Passes n.setting.scope.limits k (use_in n.setting.scope n.mode k l) → Appends takes sink (quads_out n k l) new →
-    Stays r (M.step form n.setting n.mode k l) → Fails takes leaves failed r (M.accept form n k l) sink new
-fails_stays takes leaves failed form n k l fault.Unexpected sink new may p h s = absurd (false≢true (sym (ap is_go s) ∙ may.0))
-fails_stays takes leaves failed form n k l fault.Memory sink new may p h s =
-    let a = passed form n k l may p in subst (λ x. Begins takes leaves (answered x) sink new) (sym a.1) (begins_all takes leaves sink new (quads_out n k l) h)
-fails_stays takes leaves failed form n k l r sink new may p h s = absurd s
+    Stays r (M.step form n.setting n.mode k l) → failed new ≡ false → Fails takes leaves failed r (M.accept form n k l) sink new
+fails_stays takes leaves failed form n k l fault.Unexpected sink new may p h s live = absurd (false≢true (sym (ap is_go s) ∙ may.0))
+fails_stays takes leaves failed form n k l fault.Memory sink new may p h s live =
+    let a = passed form n k l may p in (subst (λ x. Begins takes leaves (answered x) sink new) (sym a.1) (begins_all takes leaves sink new (quads_out n k l) h), live)
+fails_stays takes leaves failed form n k l r sink new may p h s live = absurd s
 
 -- the state behind an accepted token
 pub accepts_moved : {A S : Type 0} (takes : S → Quad → S → Type 0) (form : DocForm) (s t : InForce) (old r : State A) (k : Kind) (l : Leaf) (i : Option (List ℕ)) (sink new : S) →

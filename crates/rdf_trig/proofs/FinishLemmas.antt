@@ -64,7 +64,7 @@ accept_over form s n t qs e k =
     let over : a.mode ≡ Over = subst IsOver a.reply over in
     ap (λ (x : State). x.mode) a.state ∙ over
 
-ends_over : (form : DocForm) (ts : List Token) (t : Token) (s n : State) (qs : List Quad) → accept_all form s (ts ++ t ∷ []) ≡ ran n qs → t.kind ≡ End → n.mode ≡ Over
+pub ends_over : (form : DocForm) (ts : List Token) (t : Token) (s n : State) (qs : List Quad) → accept_all form s (ts ++ t ∷ []) ≡ ran n qs → t.kind ≡ End → n.mode ≡ Over
 ends_over form [] t s n qs e k = by (accept form s t.kind (leaf_of t)) refl e
   where
     by : (a : Answer) → accept form s t.kind (leaf_of t) ≡ a → go a (λ x. ran x []) ≡ ran n qs → n.mode ≡ Over

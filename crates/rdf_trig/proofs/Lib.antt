@@ -46,3 +46,4 @@ pub mod AcceptLemmas
 pub mod StepLemmas
 pub mod NewReaderLemmas
 pub mod WholeLemmas
+mod AcceptingLemmas

@@ -139,7 +139,7 @@ Why sizes s k r unbound = (k ≢ IriRef) × Went r (stands None)
 Why sizes s k r no_base = ((k ≡ IriRef) × Went r (stands None)) ⊎ ((full : Bool) × Went r (binds full None))
 Why sizes s k r too_deep = ((deepens k && nat_le sizes.depth (depth s.mode)) ≡ true) × ((u : Use) × Went r u)
 Why sizes s k r iri_too_long = (u : Use) × (has_iri u ≡ true) × Went r u × IsLong sizes u
-Why sizes s k r too_many_bindings = (u : Use) × (has_iri u ≡ true) × Went r u × IsOneMore u
+Why sizes s k r too_many_bindings = (u : Use) × (has_iri u ≡ true) × Went r u × IsOneMore u × (IsLong sizes u → ⊥)
 
 -- a reason that is the one told
 because : (sizes : Sizes) (s : State) (k : Kind) (r : Reply) (x y : Refusal) → Answer.refuses x ≡ Answer.refuses y → Why sizes s k r x → Why sizes s k r y
@@ -168,7 +168,7 @@ use_why sizes s k r (binds full (Some i)) gs n x w e =
     (λ h. because sizes s k r iri_too_long x h.1 (binds full (Some i), refl, w, ltb-true sizes.iri (byte_len i) h.0))
     (λ h.
     ⊎_elim
-    (λ g. because sizes s k r too_many_bindings x g.1 (binds full (Some i), refl, w, g.0))
+    (λ g. because sizes s k r too_many_bindings x g.1 (binds full (Some i), refl, w, g.0, λ l. let z : true ≡ false = sym (lt-ltb sizes.iri (byte_len i) l) ∙ h.0 in cc))
     (λ g. absurd (let z : accepts gs n ≡ refuses x = g.1 in cc))
     (either full (refuses too_many_bindings) (accepts gs n) (refuses x) h.1))
     (either (too_long sizes i) (refuses iri_too_long) (cond full (refuses too_many_bindings) (accepts gs n)) (refuses x) e)
@@ -243,4 +243,4 @@ refused_for form start ts t s x e a = by x (why s.setting.scope.limits s t.kind 
         let z : open_in (ts ++ t ∷ []) ≡ depth s.mode + 1 = depth_with form ts t start (place s) e o.0 o.1 in
         (w.1.0, stood w.1.0 (deep_use s.setting.scope t.kind (leaf_of t) w.1.0 p.0 (used w.1.0 w.1.1)) w.1.1, (o.0, omega (arith, d, m, z)))
     by iri_too_long w = (w.0, stood w.0 w.1 w.2, subst (λ y. IsLong y w.0) limits w.3)
-    by too_many_bindings w = (w.0, stood w.0 w.1 w.2, w.3)
+    by too_many_bindings w = (w.0, stood w.0 w.1 w.2, w.3, λ l. w.4 (subst (λ y. IsLong y w.0) (sym limits) l))

@@ -23,7 +23,8 @@ use Rattle.rdf_trig.specs.Reading.{Does, Leaves, Fails, IsReady}
 use Rattle.rdf_trig.specs.declared.rules.Rules.{Rules}
 use Rattle.rdf_trig.specs.declared.reading.Progress.{Progress}
 use Rattle.rdf_trig.specs.TrigRead.{TrigRead}
-use Rattle.rdf_trig.specs.Read.{reason_of, state_in, trig_read}
+use Rattle.rdf_trig.specs.Accepting.{reason_of}
+use Rattle.rdf_trig.specs.Read.{state_in, trig_read}
 
 -- a token is short
 pub token_few : (form : DocForm) (v w : Unread) (state : State) (s : Summary) (t : Token) (n : ℕ) → IsReady form v state s → GivesToken v t w → v.limit ≡ n → length t.text ≤ n
@@ -46,7 +47,7 @@ module _ {A S : Type 0} (takes : S → Quad → S → Type 0) (form : DocForm) w
 
 module _ {S : Type 0} (takes leaves : S → Quad → S → Type 0) (failed : S → Bool) where
   -- some of nothing
-  begins_none : (old new : S) → Begins takes leaves [] old new → new ≡ old
+  pub begins_none : (old new : S) → Begins takes leaves [] old new → new ≡ old
   begins_none old new h = by h.0 h.1 h.2 h.3
     where
       by : (front back : List Quad) → [] ≡ front ++ back → Attempts takes leaves old front new → new ≡ old
@@ -69,7 +70,7 @@ module _ {S : Type 0} (takes leaves : S → Quad → S → Type 0) (failed : S �
   fails_step fault.NoBase a old new l h = h
   fails_step fault.IriTooLong a old new l h = h
   fails_step fault.TooManyBindings a old new l h = h
-  fails_step fault.Memory a old new l h = leaves_begins a old new h
+  fails_step fault.Memory a old new l h = leaves_begins a old new h.0
   fails_step fault.Sink a old new l h = (leaves_failed a old new l h.1 h.0, h.1)
 
 -- a reader that has neither faulted nor finished

@@ -43,13 +43,13 @@ begins_behind takes leaves a b c qs rs h k = (qs ++ k.0, k.1, ap (λ x. qs ++ x)
 
 pub gave_more : {S : Type 0} (takes leaves : S → Quad → S → Type 0) (failed : S → Bool) (r : StepFault) (a b : S) (qs rs : List Quad) →
     GaveUp takes leaves failed r qs a b → GaveUp takes leaves failed r (qs ++ rs) a b
-gave_more takes leaves failed Memory a b qs rs h = begins_more takes leaves a b qs rs h
+gave_more takes leaves failed Memory a b qs rs h = (begins_more takes leaves a b qs rs h.0, h.1)
 gave_more takes leaves failed Sink a b qs rs h = (begins_more takes leaves a b qs rs h.0, h.1)
 gave_more takes leaves failed r a b qs rs h = absurd h
 
 pub gave_behind : {S : Type 0} (takes leaves : S → Quad → S → Type 0) (failed : S → Bool) (r : StepFault) (a b c : S) (qs rs : List Quad) →
     Appends takes a qs b → GaveUp takes leaves failed r rs b c → GaveUp takes leaves failed r (qs ++ rs) a c
-gave_behind takes leaves failed Memory a b c qs rs h k = begins_behind takes leaves a b c qs rs h k
+gave_behind takes leaves failed Memory a b c qs rs h k = (begins_behind takes leaves a b c qs rs h k.0, k.1)
 gave_behind takes leaves failed Sink a b c qs rs h k = (begins_behind takes leaves a b c qs rs h k.0, k.1)
 gave_behind takes leaves failed r a b c qs rs h k = absurd k
 

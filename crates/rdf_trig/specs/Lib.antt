@@ -18,3 +18,4 @@ pub mod Steps
 pub mod Scopes
 pub mod Read
 pub mod Coded
+pub mod Accepting

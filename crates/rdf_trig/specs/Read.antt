@@ -2,8 +2,6 @@
 use Rattle.std.specs.Prelude.{◌≡◌, ◌≤◌, ◌+◌, ◌*◌, Bool, false, cond, List, length, Result, Ok, Err}
 use Rattle.rdf_terms.specs.declared.kind.Kind.{Kind}
 use Rattle.rdf_terms.specs.declared.kind.Kind.TheVariants.{End}
-use Rattle.rdf_terms.specs.declared.reason.Reason.{Reason}
-use Rattle.rdf_terms.specs.declared.reason.Reason.TheVariants as reason
 use Rattle.rdf_terms.specs.Terms.{Quad}
 use Rattle.rdf_tokens.specs.Tokens.{Token}
 use Rattle.rdf_tokens.specs.Unread.{Unread}
@@ -12,8 +10,6 @@ use Rattle.rdf_lines.specs.declared.fault.Fault.{Fault}
 use Rattle.rdf_lines.specs.Lines.{Leaf}
 use Rattle.rdf_trig.specs.declared.form.DocForm.{DocForm}
 use Rattle.rdf_trig.specs.declared.rules.Rules.{Rules}
-use Rattle.rdf_trig.specs.declared.fault.StepFault.{StepFault}
-use Rattle.rdf_trig.specs.declared.fault.StepFault.TheVariants as fault
 use Rattle.rdf_trig.specs.declared.reading.Progress.{Progress}
 use Rattle.rdf_trig.specs.declared.reading.Step.{Step}
 use Rattle.rdf_trig.specs.declared.reading.Step.TheVariants.{Accepted as Took, Waiting, Complete}
@@ -36,17 +32,6 @@ trig_read v g p = record { scanner = v; form = g.form; state = state_in g.form p
 
 abbrev pub step_of : Kind → Step
 step_of k = cond (is_end k) Complete Took
-
--- a fault of a step, as a reader tells it
-abbrev pub reason_of : StepFault → Reason
-reason_of fault.Unexpected = reason.Unexpected
-reason_of fault.TooDeep = reason.TooDeep
-reason_of fault.Unbound = reason.Unbound
-reason_of fault.NoBase = reason.NoBase
-reason_of fault.IriTooLong = reason.IriTooLong
-reason_of fault.TooManyBindings = reason.TooManyBindings
-reason_of fault.Memory = reason.Memory
-reason_of fault.Sink = reason.Sink
 
 -- the limits of the scanner and of the scope are those of the rules, and the state keeps to them
 pub record IsFit {A : Type 0} (g : Rules) (v : Unread) (p : Progress A) : Type 0 where

@@ -30,11 +30,11 @@ abbrev pub IsBaseless : DocForm → InForce → List Token → Token → Type 0
 IsBaseless form start ahead t = (t.kind ≡ IriRef) × (InTree form start ahead t (stands None) ⊎ ((full : Bool) × InTree form start ahead t (binds full None)))
 
 -- The token is unexpected where no tree has it behind those before it. A name or reference that stands for nothing is in some tree, and in no document.
--- A token that passes a limit is in some document.
+-- A token that passes a limit is in some document. A binding is one too many only where its IRI is not too long.
 abbrev pub RefusedFor : DocForm → InForce → List Token → Token → Refusal → Type 0
 RefusedFor form start ahead t unexpected = Shaped (trees form start) (ahead ++ t ∷ []) → ⊥
 RefusedFor form start ahead t unbound = Excluded form start ahead t × IsUnbound form start ahead t
 RefusedFor form start ahead t no_base = Excluded form start ahead t × IsBaseless form start ahead t
 RefusedFor form start ahead t too_deep = (u : Use) × StandsFor form start ahead t u × IsDeep start ahead t
 RefusedFor form start ahead t iri_too_long = (u : Use) × StandsFor form start ahead t u × IsLong start.limits u
-RefusedFor form start ahead t too_many_bindings = (u : Use) × StandsFor form start ahead t u × IsOneMore u
+RefusedFor form start ahead t too_many_bindings = (u : Use) × StandsFor form start ahead t u × IsOneMore u × (IsLong start.limits u → ⊥)

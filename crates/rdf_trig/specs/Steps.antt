@@ -29,9 +29,9 @@ use Rattle.rdf_trig.specs.Scopes.{SameScope}
 abbrev pub Begins : {S : Type 0} → (S → Quad → S → Type 0) → (S → Quad → S → Type 0) → List Quad → S → S → Type 0
 Begins takes leaves qs old new = (front back : List Quad) × (qs ≡ front ++ back) × Attempts takes leaves old front new
 
--- not all of the quads were put: memory was short, or the device failed
+-- not all of the quads were put: memory was short and the device had not failed, or it failed
 abbrev pub GaveUp : {S : Type 0} → (S → Quad → S → Type 0) → (S → Quad → S → Type 0) → (S → Bool) → StepFault → List Quad → S → S → Type 0
-GaveUp takes leaves failed Memory qs old new = Begins takes leaves qs old new
+GaveUp takes leaves failed Memory qs old new = Begins takes leaves qs old new × (failed new ≡ false)
 GaveUp takes leaves failed Sink qs old new = Begins takes leaves qs old new × (failed new ≡ true)
 GaveUp takes leaves failed r qs old new = ⊥
 
@@ -108,5 +108,5 @@ Fails takes leaves failed Unbound a old new = (a ≡ M.refuses refusal.unbound) 
 Fails takes leaves failed NoBase a old new = (a ≡ M.refuses refusal.no_base) × (new ≡ old)
 Fails takes leaves failed IriTooLong a old new = (a ≡ M.refuses refusal.iri_too_long) × (new ≡ old)
 Fails takes leaves failed TooManyBindings a old new = (a ≡ M.refuses refusal.too_many_bindings) × (new ≡ old)
-Fails takes leaves failed Memory a old new = Begins takes leaves (answered a) old new
+Fails takes leaves failed Memory a old new = Begins takes leaves (answered a) old new × (failed new ≡ false)
 Fails takes leaves failed Sink a old new = Begins takes leaves (answered a) old new × (failed new ≡ true)

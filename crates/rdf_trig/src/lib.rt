@@ -7,6 +7,7 @@ mod document;
 mod fault;
 mod form;
 mod give;
+mod grammar;
 pub mod laws;
 mod names;
 mod reader;
@@ -21,4 +22,5 @@ mod turns;
 
 pub use document::read_document;
 pub use form::DocForm;
+pub use grammar::TreeGrammar;
 pub use reader::{Options, TrigReader};

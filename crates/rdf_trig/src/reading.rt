@@ -9,10 +9,10 @@ ghost use Rattle.rdf_trig.specs.Machine as M;
 ghost use Rattle.rdf_trig.specs.States.{leaf, IsTurtleToken};
 ghost use Rattle.rdf_trig.specs.Steps.{state_of, Keeps};
 ghost use Rattle.rdf_trig.specs.Reading.{Fails, IsLive};
-ghost use Rattle.rdf_trig.specs.Read.{stand, trig_read, Accepted, HasRoom, IsFit, Steps, ReadsTokens, IsReadyFor, step_of, reason_of};
+ghost use Rattle.rdf_trig.specs.Read.{stand, trig_read, Accepted, HasRoom, IsFit, Steps, ReadsTokens, IsReadyFor, step_of};
 ghost use Rattle.rdf_trig.specs.Readers.{Feeds, FeedFails, Finishes, FinishFails, place_of};
 
-use crate::fault::StepFault;
+use crate::grammar::reason_of;
 use crate::rules::Rules;
 use crate::state::State;
 use rdf_iri::{Limits, Scope};
@@ -38,21 +38,6 @@ pub enum Step {
     Complete,
     /// It is not decided.
     Waiting,
-}
-
-fn reason_of(fault: StepFault) -> Reason
-    ensures { result ≡ reason_of fault }
-{
-    match fault {
-        StepFault::Unexpected => Reason::Unexpected,
-        StepFault::TooDeep => Reason::TooDeep,
-        StepFault::Unbound => Reason::Unbound,
-        StepFault::NoBase => Reason::NoBase,
-        StepFault::IriTooLong => Reason::IriTooLong,
-        StepFault::TooManyBindings => Reason::TooManyBindings,
-        StepFault::Memory => Reason::Memory,
-        StepFault::Sink => Reason::Sink,
-    }
 }
 
 impl<A: Allocator + Copy> Progress<A> {

@@ -485,6 +485,13 @@ static SHORT_IRIS: [Row; 2] = [
     },
 ];
 
+/// An IRI is too long before its binding is one too many.
+const NO_PREFIX: [Row; 1] = [Row {
+    bytes: b"PREFIX x: <http://abc/>",
+    lines: "",
+    refused: Some((Reason::IriTooLong, 10, 1)),
+}];
+
 fn limits(token: u64, depth: u64, bindings: u64, iri: u64) -> Limits {
     Limits::new(token, depth, bindings, iri).unwrap_or_default()
 }
@@ -504,6 +511,7 @@ fn a_document_is_read_the_same_however_it_is_cut(rt: HostRuntime) {
             (false, limits(99, 2, 9, 99), TWO_DEEP.as_slice()),
             (false, limits(99, 9, 1, 99), ONE_PREFIX.as_slice()),
             (false, limits(99, 9, 9, 10), SHORT_IRIS.as_slice()),
+            (false, limits(99, 9, 0, 5), NO_PREFIX.as_slice()),
         ] {
             let setting = Setting {
                 form,

@@ -17,7 +17,7 @@ returns-in_err-name-clause-err g c =
     let v = level_of self.level in
     let u = up_of v self.frames.items in
     told_stops c.from_residual-in_err-name.result c.in_err-name.field-0.0 _ c.from_residual-in_err-name.ensures.1
-    (λ s e. fails_stops g.S.QuadSink.takes g.S.QuadSink.leaves g.S.QuadSink.has_failed form (state_of form s self) k l c.in_err-name.field-0.0 c.args.sink.now
+    (λ s e. fails_stops g.S.QuadSink.takes g.S.QuadSink.leaves g.S.QuadSink.has_failed form (state_of form s self) k l c.in_err-name.field-0.0 c.args.sink.now c.requires.live
     (c.in_ok-check.ensures.ok s l (e.limits ∙ c.requires.limits)) (c.in_err-name.ensures.err form v u s e))
 
 pub returns-in_err-given-clause-err : goal.returns-in_err-given-clause-err
@@ -105,4 +105,4 @@ returns-in-Err-clause-err g c = λ s e.
     (c.in_ok-check.ensures.ok s l (e.limits ∙ c.requires.limits)) looks.passes
     (subst (λ fs. Appends g.S.QuadSink.takes c.args.sink.now (given form s self.mode self.level fs self.rest self.held c.args.token.now) c.give.new.sink)
     c.deref.ensures.value (c.in_ok-given.ensures.ok form s))
-    (c.in-Err.ensures.err s looks.name)
+    (c.in-Err.ensures.err s looks.name) c.in_ok-given.ensures.live

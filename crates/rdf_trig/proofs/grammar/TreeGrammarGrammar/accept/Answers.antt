@@ -1,0 +1,31 @@
+use Rattle.std.proofs.Common.{◌≡◌, ◌∙◌, sym, ap, subst}
+use Rattle.rdf_tokens.specs.Scans.{token_of}
+use Rattle.rdf_driver.specs.Words.{Takes, Misses}
+use Rattle.rdf_trig.specs.Steps.{state_of}
+use Rattle.rdf_trig.specs.Accepting.{TreeAt, reason_of, tree_words}
+use Rattle.rdf_trig.proofs.AcceptLemmas.{same_scope}
+use Rattle.rdf_trig.proofs.AcceptingLemmas.{takes_token, misses_token}
+use Rattle.rdf_trig.proofs.grammar.TreeGrammarGrammar.accept.Goals as goal
+
+pub invariant_of-self-in-Err : goal.invariant_of-self-in-Err
+invariant_of-self-in-Err g c = (c.clear.ensures, c.restart.ensures c.self.inside.rules.form c.self.inside.rules.limits)
+
+pub returns-in-Ok-clause-ok : goal.returns-in-Ok-clause-ok
+returns-in-Ok-clause-ok g c =
+    let r = c.self.inside in
+    let t = token_of c.args.token in
+    let old : TreeAt = record { form = r.rules.form; limit = r.rules.limits.token; state = state_of r.rules.form r.scope r.state } in
+    let new : TreeAt = record { form = r.rules.form; limit = r.rules.limits.token; state = state_of r.rules.form c.accept.new.scope c.accept.new.self } in
+    subst (λ y. Takes tree_words g.S.QuadSink.takes y t c.in-Ok.given c.args.sink.now new c.accept.new.sink) c.self.view_is
+    (takes_token g.S.QuadSink.takes old t c.accept.new.self c.accept.new.scope c.in-Ok.given c.args.sink.now c.accept.new.sink
+    (c.in-Ok.ensures.ok r.scope (same_scope r.scope)) (c.in-Ok.ensures.count r.scope))
+
+pub returns-in-Err-clause-err : goal.returns-in-Err-clause-err
+returns-in-Err-clause-err g c =
+    let r = c.self.inside in
+    let t = token_of c.args.token in
+    let old : TreeAt = record { form = r.rules.form; limit = r.rules.limits.token; state = state_of r.rules.form r.scope r.state } in
+    rw c.reason_of.ensures
+    (subst (λ y. Misses tree_words g.S.QuadSink.takes g.S.QuadSink.leaves g.S.QuadSink.has_failed (reason_of c.in-Err.fault) y t c.args.sink.now c.accept.new.sink) c.self.view_is
+    (misses_token g.S.QuadSink.takes old t g.S.QuadSink.leaves g.S.QuadSink.has_failed c.args.sink.now c.accept.new.sink c.in-Err.fault
+    (c.in-Err.ensures.err r.scope (same_scope r.scope))))

@@ -1,0 +1,5 @@
+use Rattle.rdf_trig.proofs.AcceptingLemmas.{lawful}
+use Rattle.rdf_trig.proofs.grammar.TreeGrammarGrammar.dialect.Goals as goal
+
+pub returns-clause-lawful : goal.returns-clause-lawful
+returns-clause-lawful g c = lawful

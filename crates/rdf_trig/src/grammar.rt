@@ -1,0 +1,117 @@
+// Turtle and TriG as a grammar that a reader drives.
+
+ghost use Rattle.std.specs.Prelude.{◌≡◌, []};
+ghost use Rattle.rdf_iri.specs.Limits.{Sizes};
+ghost use Rattle.rdf_iri.specs.Scope.{BaseFits};
+ghost use Rattle.rdf_trig.specs.declared.form.DocForm.{DocForm};
+ghost use Rattle.rdf_trig.specs.Machine as M;
+ghost use Rattle.rdf_trig.specs.Steps.{Keeps};
+ghost use Rattle.rdf_trig.specs.Accepting.{tree_words, reason_of};
+
+use crate::fault::StepFault;
+use crate::form::DocForm;
+use crate::reader::Options;
+use crate::rules::Rules;
+use crate::state::State;
+use rdf_driver::Grammar;
+use rdf_iri::{Limits, Scope};
+use rdf_terms::{Dialect, Iri, QuadSink, Reason};
+use rdf_tokens::Token;
+use std::alloc::{Allocator, Global};
+use std::marker::Model;
+
+/// Accepts the tokens of Turtle or TriG.
+#[derive(Drop)]
+pub struct TreeGrammar<A: Allocator = Global> {
+    alloc: A,
+    rules: Rules,
+    scope: Scope<A>,
+    state: State<A>,
+}
+
+impl<A: Allocator> Model for TreeGrammar<A> {
+    ghost use Rattle.std.specs.Prelude.{◌≡◌};
+    ghost use Rattle.rdf_trig.specs.Accepting.{TreeAt};
+    ghost use Rattle.rdf_trig.specs.Steps.{state_of, Keeps};
+    ghost use Rattle.rdf_trig.specs.Coded.{up_code, around_code, place_code};
+    ghost use Rattle.std.specs.Coded.{codes};
+
+    ghost Value = { TreeAt };
+
+    ghost coded = { Prim.hlevel (codes, up_code, around_code, place_code) };
+
+    ghost view = { λ g. record { form = g.rules.form; limit = g.rules.limits.token; state = state_of g.rules.form g.scope g.state } };
+
+    ghost invariant = { λ g. (g.scope.limits ≡ g.rules.limits) × Keeps g.rules.form g.rules.limits g.state };
+}
+
+impl<A: Allocator + Copy> TreeGrammar<A> {
+    /// Before the first token, in a document with this base, or none. It takes no memory.
+    pub fn new(alloc: A, form: DocForm, base: Option<Iri<A>>, limits: Limits) -> TreeGrammar<A>
+        requires { BaseFits base limits }
+        ensures { result ≡ record { form = form; limit = limits.token; state = M.at_start (record { base = base; bindings = []; limits = limits }) } }
+    {
+        TreeGrammar {
+            alloc,
+            rules: Rules { form, limits },
+            scope: Scope::new(alloc, base, limits),
+            state: State::new(alloc),
+        }
+    }
+}
+
+// The state before the first token.
+fn restart<A: Allocator + Copy>(alloc: A, state: &mut State<A>)
+    ensures { (form : DocForm) (sizes : Sizes) → Keeps form sizes state.new }
+{
+    *state = State::new(alloc);
+}
+
+// A scope with no base and no prefixes.
+fn clear<A: Allocator + Copy>(alloc: A, limits: Limits, scope: &mut Scope<A>)
+    ensures { scope.new.limits ≡ limits }
+{
+    *scope = Scope::new(alloc, None, limits);
+}
+
+/// The fault of a step, as a reader reports it.
+pub fn reason_of(fault: StepFault) -> Reason
+    ensures { result ≡ reason_of fault }
+{
+    match fault {
+        StepFault::Unexpected => Reason::Unexpected,
+        StepFault::TooDeep => Reason::TooDeep,
+        StepFault::Unbound => Reason::Unbound,
+        StepFault::NoBase => Reason::NoBase,
+        StepFault::IriTooLong => Reason::IriTooLong,
+        StepFault::TooManyBindings => Reason::TooManyBindings,
+        StepFault::Memory => Reason::Memory,
+        StepFault::Sink => Reason::Sink,
+    }
+}
+
+impl<A: Allocator + Copy> Grammar for TreeGrammar<A> {
+    type Setting = Options<A>;
+
+    ghost words = { tree_words };
+
+    fn dialect(&self) -> Dialect {
+        Dialect::Turtle
+    }
+
+    fn accept<S: QuadSink>(&mut self, token: Token<'_>, sink: &mut S) -> Result<u64, Reason> {
+        let Rules { form, limits } = self.rules;
+        match self
+            .state
+            .accept(self.alloc, form, limits, &mut self.scope, &token, sink)
+        {
+            Ok(given) => Ok(given),
+            Err(fault) => {
+                // A step that fails leaves any state, so both begin anew.
+                restart(self.alloc, &mut self.state);
+                clear(self.alloc, limits, &mut self.scope);
+                Err(reason_of(fault))
+            }
+        }
+    }
+}
