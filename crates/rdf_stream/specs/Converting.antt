@@ -4,7 +4,7 @@ use Rattle.std.specs.Io.KnownBytes.{Appends}
 use Rattle.std.specs.List.{AllByRecursion}
 use Rattle.rdf_terms.specs.Terms.{Quad}
 use Rattle.rdf_tokens.specs.Tokens.{Token}
-use Rattle.rdf_tokens.specs.Grammars.{Due, Marked, PassesNone, reading_of, unmarked}
+use Rattle.rdf_tokens.specs.Grammars.{Due, reading_of}
 use Rattle.rdf_tokens.specs.Scans.{place_of}
 use Rattle.rdf_tokens.specs.declared.token.Fault.{Fault}
 use Rattle.rdf_driver.specs.declared.summary.Summary.{Summary}
@@ -25,8 +25,6 @@ pub record Suits {G X : Type 0} (w : Words G X) (x : X) (style : Style) : Type 0
   pub lawful : Lawful w
   -- each quad that is due in a document can be written
   pub can_write : (ts : List Token) (quads : List Quad) → Due (w.documents x) ts quads → AllByRecursion (CanWrite style) quads
-  -- all quads of a document within the limits are due at its end
-  pub at_end : (ts : List Token) (all : List Marked) → w.documents x ts all → PassesNone (w.passes x) ts → Due (w.documents x) ts (unmarked all)
 
 -- Nothing was read, and no line waits.
 pub record Begins {G X D A : Type 0} (failed : D → Bool) (w : Words G X) (x : X) (reader : Driven G) (lines : LineOut D A) : Type 0 where
