@@ -1,65 +1,44 @@
 -- A document within the limits is read to its end, and so is what was written.
-use Rattle.std.proofs.Common.{◌≡◌, ℕ, ◌≤◌, true, false, not, nat_lt, List, [], ◌∷◌, ◌++◌, inr, refl, sym, ap, ◌∙◌, subst, Option, Some, None}
+use Rattle.std.proofs.Common.{◌≡◌, ℕ, ◌≤◌, true, false, not, nat_lt, List, [], ◌∷◌, sym, ap, subst, Option, Some, None}
 use Rattle.std.specs.List.{AllByRecursion}
 use Rattle.std.specs.Prelude.{map, option_map, encode_utf8_all}
 use Rattle.std.proofs.lemmas.Bool.{and_from, le-ltb}
 use Rattle.rdf_terms.specs.declared.kind.Dialect.TheVariants.{Lines}
 use Rattle.rdf_terms.specs.Terms.{Subject, Iri, Blank, Term, Resource, Literal, Quad, has_scheme}
 use Rattle.rdf_iri.specs.Texts.{byte_len}
-use Rattle.rdf_tokens.specs.Tokens.{Outcome}
-use Rattle.rdf_tokens.specs.Tokens.Outcome.{undecided, complete}
 use Rattle.rdf_tokens.specs.Good.{tokens_of}
-use Rattle.rdf_tokens.specs.Grammars.{Viable, PassesNone}
-use Rattle.rdf_tokens.proofs.LawLemmas.{lengthens}
-use Rattle.rdf_tokens.proofs.GrammarsLemmas.{only_ended}
-use Rattle.rdf_tokens.proofs.GrammarFronts.{viable_front, none_front, front_whole}
+use Rattle.rdf_tokens.specs.Grammars.{reading_of}
+use Rattle.rdf_tokens.proofs.LanguageLemmas.{document_read, document_whole, read_to_its_end, refused_no_document}
+use Rattle.rdf_driver.proofs.PromiseLemmas.{read_goes_on}
 use Rattle.rdf_lines.specs.declared.form.LineForm.{LineForm}
 use Rattle.rdf_lines.specs.declared.form.LineForm.TheVariants.{NQuads}
 use Rattle.rdf_lines.specs.declared.form.Style.{Style}
-use Rattle.rdf_lines.specs.Lines.{Name, Ref, Lab, Object, Named, Plain, WithType, WithTag, Statement, Line, Document as Tree, last, next, iri_of, subject_of, term_of, quad_of, quads, name_bound, object_bound, graph_bound, GoodStatement, GoodDocument, IsDocument, documents}
+use Rattle.rdf_lines.specs.Lines.{Name, Ref, Lab, Object, Named, Plain, WithType, WithTag, Statement, Line, Document as Tree, last, next, iri_of, subject_of, term_of, quad_of, quads, name_bound, object_bound, graph_bound, GoodStatement, GoodDocument}
 use Rattle.rdf_lines.specs.Lines as L
 use Rattle.rdf_lines.specs.Machine.{Begin, Finished, is_taken}
-use Rattle.rdf_lines.specs.Documents.{Document, Passes, IsFrontOf, GoesOn, IsWhole}
+use Rattle.rdf_lines.specs.Documents.{in_lines}
+use Rattle.rdf_lines.specs.Accepting.{line_words}
 use Rattle.rdf_lines.specs.Writing.{rename_subject, rename_term, rename, text}
-use Rattle.rdf_lines.specs.Laws.{ReadQuadsAreDue, DocumentsAreRead, RefusedIsNoDocument, WrittenTextIsRead, IsReadToItsEnd, SubjectWithin, TermWithin, GraphWithin, IrisWithin}
+use Rattle.rdf_lines.specs.Laws.{ReadQuadsAreDue, DocumentsAreRead, RefusedIsNoDocument, WrittenTextIsRead, SubjectWithin, TermWithin, GraphWithin, IrisWithin}
 use Rattle.rdf_lines.proofs.Runs.{run_document}
 use Rattle.rdf_lines.proofs.Refusals.{ran_none}
-use Rattle.rdf_lines.proofs.DocumentsLemmas.{document_front, none_refused}
-use Rattle.rdf_lines.proofs.PromiseLemmas.{read_goes_on, read_due}
-use Rattle.rdf_lines.proofs.ReadBack.{tokens_read_back}
+use Rattle.rdf_lines.proofs.AcceptingLemmas.{lawful}
+use Rattle.rdf_lines.proofs.ReadBack.{tokens_tree, tokens_read_back}
 
+-- What a reader has put is due, by what the grammar promises.
 pub quads_due : ReadQuadsAreDue
-quads_due r bytes quads h = (read_goes_on r bytes quads h, read_due r bytes quads h)
+quads_due r x bytes quads h = (
+  read_goes_on line_words lawful r x bytes quads h,
+  lawful.due r.grammar x (reading_of (in_lines x.form r.scanner.limit x.iri) bytes false).tokens quads h.reached,
+)
 
--- a beginning of what is read to its end goes on
-front_goes_on : (f : LineForm) (limit n : ℕ) (front rest : List ℕ) → IsWhole f limit n (front ++ rest) → GoesOn f limit n front
-front_goes_on f limit n front rest w = record { ends = by (tokens_of Lines limit front false).outcome refl; front = in_front }
-  where
-    by : (o : Outcome) → (tokens_of Lines limit front false).outcome ≡ o → (tokens_of Lines limit front false).outcome ≡ undecided
-    by undecided e = e
-    by complete e = absurd (only_ended Lines limit front e)
-    by o e = absurd (let same = (lengthens Lines limit front rest true).1 (λ x. let z : o ≡ undecided = sym e ∙ x in cc) in let z : o ≡ complete = sym e ∙ (sym (ap (λ r. r.outcome) same) ∙ w.ends) in cc)
-
-    in_front : IsFrontOf f n (tokens_of Lines limit front false) (tokens_of Lines limit front false).tokens
-    in_front =
-        let more = (lengthens Lines limit front rest true).0 in
-        let part = tokens_of Lines limit front false in
-        let whole = w.front in
-        front_whole (documents f) (Passes n) part.tokens (viable_front (documents f) (Passes n) part.tokens more.0 (subst (λ ts. Viable (documents f) ts) more.1 whole.viable))
-        (none_front (documents f) (Passes n) part.tokens more.0 (subst (PassesNone (Passes n)) more.1 whole.kept))
-
-whole_read : (f : LineForm) (limit n : ℕ) (bytes : List ℕ) → IsWhole f limit n bytes → IsReadToItsEnd f limit n bytes
-whole_read f limit n bytes w = record { whole = w; fronts = λ front rest e. front_goes_on f limit n front rest (subst (IsWhole f limit n) e w) }
-
-document_whole : (f : LineForm) (limit n : ℕ) (bytes : List ℕ) (qs : List Quad) → Document f limit bytes qs → PassesNone (Passes n) (tokens_of Lines limit bytes true).tokens → IsWhole f limit n bytes
-document_whole f limit n bytes qs d k = record { ends = d.0; front = document_front f n (tokens_of Lines limit bytes true) qs d.1 k }
-
+-- A document within the limits is read to its end.
 pub documents_read : DocumentsAreRead
-documents_read f limit n bytes qs d w = whole_read f limit n bytes (document_whole f limit n bytes qs d w.limits)
+documents_read f limit n bytes qs d w = document_read (in_lines f limit n) bytes qs d w
 
-pub refused_no_document : RefusedIsNoDocument
-refused_no_document f limit n bytes qs reason at x d w =
-    none_refused f n (tokens_of Lines limit bytes true) complete reason at x.0 d.0 (inr refl) (document_whole f limit n bytes qs d w.limits).front x.1
+-- What is refused is none.
+pub refused_none : RefusedIsNoDocument
+refused_none f limit n bytes qs reason at x d w = refused_no_document (in_lines f limit n) (lawful.ends (record { form = f; iri = n })) bytes qs reason at x d w
 
 -- An IRI of at most n bytes with a scheme is taken.
 taken : (n : ℕ) (i : List ℕ) → has_scheme i ≡ true → byte_len i ≤ n → is_taken n i ≡ true
@@ -120,12 +99,13 @@ all_renamed n s (q ∷ qs) w = (
   all_renamed n s qs w.1,
 )
 
+-- The law: what is written for quads is read to its end, where no token of the lines and no IRI of the quads passes a limit.
 pub text_read : WrittenTextIsRead
 text_read s qs limit n h e l w =
     let bytes = encode_utf8_all (text s qs) in
-    let b = tokens_read_back s qs limit h e l in
+    let b = tokens_tree s qs limit h e l in
     let (tree, tokens, good, same) = b.1 in
     let ts = (tokens_of Lines limit bytes true).tokens in
     let narrow = tree_taken n NQuads tree good (subst (AllByRecursion (IrisWithin n)) (sym same) (all_renamed n s qs w)) in
     let none = ran_none n NQuads ts Begin Finished (map (rename s) qs) (run_document (is_taken n) NQuads ts (map (rename s) qs) (tree, tokens, narrow, same)) in
-    whole_read NQuads limit n bytes (document_whole NQuads limit n bytes (map (rename s) qs) b none)
+    read_to_its_end (in_lines NQuads limit n) bytes (document_whole (in_lines NQuads limit n) bytes (map (rename s) qs) (tokens_read_back s qs limit h e l n) none)

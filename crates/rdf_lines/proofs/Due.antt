@@ -111,7 +111,7 @@ before-dots (next (L.one s) e d) n k =
         ap (λ x. before x (marked m d)) a ∙ (h j ∙ sym (ap (λ x. take x (quads d)) b))
 
 -- in each document that begins with the tokens
-due_in : (f : LineForm) (ts more : List Token) (m : Mode) (qs : List Quad) (all : List Marked) → run has_scheme f Begin ts ≡ ran m qs → documents f (ts ++ more) all → before (length ts) all ≡ qs
+pub due_in : (f : LineForm) (ts more : List Token) (m : Mode) (qs : List Quad) (all : List Marked) → run has_scheme f Begin ts ≡ ran m qs → documents f (ts ++ more) all → before (length ts) all ≡ qs
 due_in f ts more m qs all e d =
     let t : take (length ts) (document_tokens d.0) ≡ ts = ap (take (length ts)) (sym d.1) ∙ take-append_seam ts more in
     let g = given_begin has_scheme f ts more m qs (quads d.0) e (d.0, d.1, d.2, refl) in

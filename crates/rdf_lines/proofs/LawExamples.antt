@@ -1,5 +1,5 @@
 -- The laws at two quads that have each kind of node, a string with characters that are escaped, and a graph label; and at a document of one line.
-use Rattle.std.proofs.Common.{◌≡◌, ◌≢◌, ℕ, true, false, List, [], ◌∷◌, refl, sym, ◌∙◌, subst, Some, None, lit<, lit≤}
+use Rattle.std.proofs.Common.{◌≡◌, ◌≢◌, ℕ, true, false, List, [], ◌∷◌, ◌++◌, refl, sym, ◌∙◌, subst, Some, None, lit<, lit≤}
 use Rattle.std.specs.Prelude.{codes, map, encode_utf8_all}
 use Rattle.std.specs.List.{AllByRecursion}
 use Rattle.std.proofs.Math.Utf8.{encode}
@@ -17,19 +17,21 @@ use Rattle.rdf_terms.specs.Terms.{Label, Anon, Cell, Lang, Iri, Blank, Resource,
 use Rattle.rdf_tokens.specs.Tokens.{Place, Token, step, read, tokens}
 use Rattle.rdf_tokens.specs.Tokens.Outcome.{complete, token_too_long}
 use Rattle.rdf_tokens.specs.Good.{tokens_of}
-use Rattle.rdf_tokens.specs.Grammars.{Due, Within}
+use Rattle.rdf_tokens.specs.Grammars.{Marked, unmarked, Due, IsDocumentOf, IsWithin, GoesOn, Refused, IsReadToItsEnd}
+use Rattle.rdf_driver.specs.Readers.{Driven, HasRead}
 use Rattle.rdf_lines.specs.declared.form.LineForm.TheVariants.{NTriples, NQuads}
 use Rattle.rdf_terms.proofs.ShapesLemmas.{form-matches}
 use Rattle.rdf_lines.specs.declared.form.Style.TheVariants.{Kept, Tagged}
-use Rattle.rdf_lines.specs.Lines.{documents}
+use Rattle.rdf_lines.specs.declared.rules.Rules.{Rules}
+use Rattle.rdf_lines.specs.Lines.{Leaf, Ref, Named, Document, last, next, empty, one, document_tokens, documents, trees}
 use Rattle.rdf_lines.specs.Machine.{Begin, ran, run}
-use Rattle.rdf_lines.specs.Documents.{Passes, Refused, GoesOn}
-use Rattle.rdf_lines.specs.LineRead.{LineRead}
-use Rattle.rdf_lines.specs.Readers.{HasRead}
+use Rattle.rdf_lines.specs.Documents.{in_lines}
+use Rattle.rdf_lines.specs.Accepting.{LineAt, line_words}
 use Rattle.rdf_lines.specs.Writing.{Writable, rename, rename_node, text}
-use Rattle.rdf_lines.specs.Laws.{ReadsBack, IrisWithin, TokensWithin, IsReadToItsEnd}
-use Rattle.rdf_lines.proofs.AcceptedLemmas.{quads_due, documents_read, refused_no_document, text_read}
-use Rattle.rdf_lines.proofs.Due.{due_ran, same_due}
+use Rattle.rdf_lines.specs.Laws.{ReadsBack, IrisWithin, TokensWithin}
+use Rattle.rdf_lines.proofs.AcceptedLemmas.{quads_due, documents_read, refused_none, text_read}
+use Rattle.rdf_lines.proofs.Due.{due_ran}
+use Rattle.rdf_lines.proofs.SettledLemmas.{quads_settled, due_settled, due_begins}
 use Rattle.rdf_lines.proofs.ReadBack.{all_written, bytes_read_back, tokens_read_back}
 use Rattle.rdf_lines.proofs.WrittenLimits.{document_read_back}
 use Rattle.rdf_lines.proofs.Renamed.{rename_injective}
@@ -97,14 +99,14 @@ short_tokens = (
   (record { subject = lit≤ tt; predicate = lit≤ tt; object = (lit≤ tt, lit≤ tt); graph = lit≤ tt }, tt),
 )
 
-pub example_is_read : IsReadToItsEnd NQuads 12 10 bytes
+pub example_is_read : IsReadToItsEnd (in_lines NQuads 12 10) bytes
 example_is_read = text_read Tagged example 12 10 writable (lit≤ tt) short_tokens short
 
 short_reads_back : ReadsBack Tagged example 12
 short_reads_back = tokens_read_back Tagged example 12 writable (lit≤ tt) short_tokens
 
 -- they are refused nowhere, and are a document that is read
-within : Within (documents NQuads) (Passes 10) (tokens_of Lines 12 bytes true) bytes
+within : IsWithin (in_lines NQuads 12 10) bytes
 unfolding digits encode
 within = record {
   tokens = λ v e. let z : complete ≡ token_too_long = sym example_is_read.whole.ends ∙ e in cc;
@@ -112,16 +114,16 @@ within = record {
   size = lit≤ tt;
 }
 
-pub example_is_not_refused : (reason : Reason) (at : Place) → Refused NQuads 12 10 bytes true reason at → ⊥
-example_is_not_refused reason at x = refused_no_document NQuads 12 10 bytes (map (rename Tagged) example) reason at x short_reads_back within
+pub example_is_not_refused : (reason : Reason) (at : Place) → Refused (in_lines NQuads 12 10) bytes true reason at → ⊥
+example_is_not_refused reason at x = refused_none NQuads 12 10 bytes (map (rename Tagged) example) reason at x (short_reads_back 10) within
 
-pub example_goes_on : GoesOn NQuads 12 10 []
-example_goes_on = (documents_read NQuads 12 10 bytes (map (rename Tagged) example) short_reads_back within).fronts [] bytes refl
+pub example_goes_on : GoesOn (in_lines NQuads 12 10) []
+example_goes_on = (documents_read NQuads 12 10 bytes (map (rename Tagged) example) (short_reads_back 10) within).fronts [] bytes refl
 
 -- what is written for them as a document is read with limits of 64
-pub example_lines_are_read : IsReadToItsEnd NQuads 64 64 (encode_utf8_all (text Kept (map (rename Tagged) example)))
+pub example_lines_are_read : IsReadToItsEnd (in_lines NQuads 64 64) (encode_utf8_all (text Kept (map (rename Tagged) example)))
 example_lines_are_read =
-    document_read_back NQuads 12 10 bytes (map (rename Tagged) example) short_reads_back example_is_read.whole (all_written Tagged example writable) 64 64 (lit≤ tt) (lit≤ tt) (lit≤ tt) (lit≤ tt) (lit≤ tt)
+    document_read_back NQuads 12 10 bytes (map (rename Tagged) example) (short_reads_back 10) example_is_read.whole (all_written Tagged example writable) 64 64 (lit≤ tt) (lit≤ tt) (lit≤ tt) (lit≤ tt) (lit≤ tt)
 
 -- a line of N-Triples
 abbrev one_line : List ℕ
@@ -145,10 +147,34 @@ line_ran : run has_scheme NTriples Begin line_tokens ≡ ran Begin (line_quad �
 unfolding has
 line_ran = refl
 
--- a reader that has read it has put its quad, and no other
-pub line_is_put : (r : LineRead) (quads : List Quad) → r.form ≡ NTriples → r.scanner.limit ≡ 8 → HasRead r one_line quads → quads ≡ line_quad ∷ []
-line_is_put r quads f l h =
-    let due = (quads_due r one_line quads h).1 in
-    let here : Due (documents NTriples) (tokens_of Lines 8 one_line false).tokens quads =
-    subst (λ x. Due (documents x) (tokens_of Lines 8 one_line false).tokens quads) f (subst (λ n. Due (documents r.form) (tokens_of Lines n one_line false).tokens quads) l due) in
-    same_due NTriples line_tokens quads (line_quad ∷ []) (subst (λ ts. Due (documents NTriples) ts quads) line_read here) (due_ran NTriples line_tokens Begin (line_quad ∷ []) line_ran)
+-- the quad is due after them
+line_due : Due (documents NTriples) line_tokens (line_quad ∷ [])
+line_due = due_ran NTriples line_tokens Begin (line_quad ∷ []) line_ran
+
+-- A reader that has read it has put its quad, and no other.
+pub line_is_put : (r : Driven LineAt) (iri : ℕ) (quads : List Quad) → r.scanner.limit ≡ 8 → HasRead line_words r (record { form = NTriples; iri = iri }) one_line quads → quads ≡ line_quad ∷ []
+line_is_put r iri quads l h =
+    let due = (quads_due r (record { form = NTriples; iri = iri }) one_line quads h).1 in
+    let here : Due (documents NTriples) (tokens_of Lines 8 one_line false).tokens quads = subst (λ n. Due (documents NTriples) (tokens_of Lines n one_line false).tokens quads) l due in
+    due_settled NTriples line_tokens quads (line_quad ∷ []) (subst (λ ts. Due (documents NTriples) ts quads) line_read here) line_due
+
+-- Each document that begins with the line has its quad first.
+pub line_is_first : (more : List Token) (all : List Marked) → documents NTriples (line_tokens ++ more) all → (rest : List Quad) × (unmarked all ≡ line_quad ∷ rest)
+line_is_first more all d = due_begins NTriples line_tokens more (line_quad ∷ []) all line_due d
+
+-- the tree of the line, and of the end after it
+abbrev spells : ℕ → List ℕ → Leaf
+spells n w = record { text = w; at = record { offset = n; line = 1 } }
+
+abbrev line_tree : Document
+line_tree =
+    next
+    (one (record { subject = Ref (spells 0 (codes "<a:>")); predicate = spells 5 (codes "<a:>"); object = Named (Ref (spells 10 (codes "<a:>"))); graph = None; dot = spells 14 (codes ".") }))
+    (spells 15 (codes "\n")) (last empty (record { text = []; at = record { offset = 16; line = 2 } }))
+
+-- Whatever tree its tokens have, the quad is the same, and its mark is that of the object.
+pub line_quad_settled : (qs : List Marked) → trees NTriples (document_tokens line_tree) qs → qs ≡ record { quad = line_quad; mark = 3 } ∷ []
+unfolding has
+line_quad_settled qs d =
+    quads_settled NTriples (document_tokens line_tree) qs (record { quad = line_quad; mark = 3 } ∷ []) d
+    (line_tree, refl, (record { subject = refl; predicate = refl; object = refl; graph = tt; labels = refl }, tt), refl)

@@ -12,21 +12,15 @@ mod Viable
 mod Refusals
 mod Lag
 mod Due
-pub mod DocumentsLemmas
-pub mod DueLaws
 pub mod EncodedLine
 pub mod PlainRuns
 pub mod WrittenBytesLemmas
 pub mod LawExamples
 mod SpelledLemmas
 mod StatesLemmas
-mod ReadingLemmas
-mod ReachedLemmas
-mod FailsLemmas
-mod FeedsLemmas
-mod FinishLemmas
-mod NewLemmas
-mod PromiseLemmas
+mod GivenLemmas
+mod EndLemmas
 mod AcceptedLemmas
 mod WrittenLimits
+mod SettledLemmas
 pub mod AcceptingLemmas

@@ -1,10 +1,10 @@
 -- The marked quads of a tree, without their marks, are its quads; so every tree that is marked is a document, and the other way round.
-use Rattle.std.proofs.Common.{◌≡◌, ℕ, ◌+◌, Bool, List, ◌∷◌, refl, sym, ap, ◌∙◌, length}
+use Rattle.std.proofs.Common.{◌≡◌, ℕ, ◌+◌, Bool, List, ◌∷◌, refl, sym, ap, ◌∙◌, subst, length}
 use Rattle.rdf_tokens.specs.Tokens.{Token}
 use Rattle.rdf_tokens.specs.Grammars.{Marked, unmarked}
-use Rattle.rdf_terms.specs.Terms.{Quad}
+use Rattle.rdf_terms.specs.Terms.{Quad, has_scheme}
 use Rattle.rdf_lines.specs.declared.form.LineForm.{LineForm}
-use Rattle.rdf_lines.specs.Lines.{Line, Document, last, next, line_tokens, line_quads, quads, marked_line, marked, quad_of, IsDocument, IsMarked}
+use Rattle.rdf_lines.specs.Lines.{Line, Document, last, next, line_tokens, line_quads, quads, marked_line, marked, quad_of, IsDocument, IsMarked, documents}
 use Rattle.rdf_lines.specs.Lines as L
 
 unmarked_line : (n : ℕ) (l : Line) → unmarked (marked_line n l) ≡ line_quads l
@@ -24,3 +24,7 @@ marked_document test f ts qs d = (d.0, d.1, d.2, sym_ap d.3)
 
 pub document_marked : (test : List ℕ → Bool) (f : LineForm) (ts : List Token) (qs : List Quad) → IsDocument test f ts qs → (ms : List Marked) × IsMarked test f ts ms × (unmarked ms ≡ qs)
 document_marked test f ts qs d = (marked 0 d.0, (d.0, d.1, d.2, refl), unmarked_quads 0 d.0 ∙ d.3)
+
+-- What is a document with some marks has these quads.
+pub without_marks : (f : LineForm) (ts : List Token) (qs : List Quad) → (all : List Marked) × documents f ts all × (unmarked all ≡ qs) → IsDocument has_scheme f ts qs
+without_marks f ts qs d = subst (IsDocument has_scheme f ts) d.2 (marked_document has_scheme f ts d.0 d.1)

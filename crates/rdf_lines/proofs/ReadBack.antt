@@ -15,6 +15,7 @@ use Rattle.rdf_tokens.specs.Good.{tokens_of, first_place}
 use Rattle.rdf_lines.proofs.WrittenText.{text_scalars, no_mark, encoded_tokens}
 use Rattle.rdf_lines.proofs.SpelledLine.{Written, AllShort, document_tree, document_short, text_short, reads_back}
 use Rattle.rdf_lines.proofs.Renamed.{renamed}
+use Rattle.rdf_lines.proofs.LinesLemmas.{document_marked}
 
 pub all_written : (s : Style) (qs : List Quad) → Writable s qs → Written (map (rename s) qs)
 all_written s [] h = tt
@@ -24,8 +25,14 @@ text_renamed : (s : Style) (qs : List Quad) → text s qs ≡ flat_map quad_text
 text_renamed s [] = refl
 text_renamed s (q ∷ qs) = ap (λ x. line s q ++ x) (text_renamed s qs)
 
--- The law: the bytes that are written are a document of N-Quads, whose quads are the renamed ones, where no token is longer than the limit.
-pub short_read_back : (s : Style) (qs : List Quad) (limit : ℕ) → Writable s qs → AllShort limit (document_tokens (document_tree first_place (map (rename s) qs))) → ReadsBack s qs limit
+-- The tokens of the written bytes are complete, and those of a tree of N-Quads whose quads are the renamed ones.
+abbrev pub HasTree : Style → List Quad → ℕ → Type 0
+HasTree s qs limit =
+    ((tokens_of Lines limit (encode_utf8_all (text s qs)) true).outcome ≡ complete)
+    × IsDocument has_scheme NQuads (tokens_of Lines limit (encode_utf8_all (text s qs)) true).tokens (map (rename s) qs)
+
+-- So it is where no token is longer than the limit.
+short_read_back : (s : Style) (qs : List Quad) (limit : ℕ) → Writable s qs → AllShort limit (document_tokens (document_tree first_place (map (rename s) qs))) → HasTree s qs limit
 short_read_back s qs limit h l =
     let w = all_written s qs h in
     let rs = map (rename s) qs in
@@ -35,11 +42,20 @@ short_read_back s qs limit h l =
     let whole = subst (λ (r : Reading). (r.outcome ≡ complete) × IsDocument has_scheme NQuads r.tokens rs) (sym b) r in
     subst (λ x. ((tokens_of Lines limit x true).outcome ≡ complete) × IsDocument has_scheme NQuads (tokens_of Lines limit x true).tokens rs) (sym e) whole
 
--- any limit serves that is not below the text's length
+-- Any limit serves that no token of the quads passes.
+pub tokens_tree : (s : Style) (qs : List Quad) (limit : ℕ) → Writable s qs → 2 ≤ limit → AllByRecursion (TokensWithin limit) (map (rename s) qs) → HasTree s qs limit
+tokens_tree s qs limit h e l = short_read_back s qs limit h (document_short limit (map (rename s) qs) e l first_place)
+
+-- A tree with its marks makes a document.
+marked_back : (s : Style) (qs : List Quad) (limit : ℕ) → HasTree s qs limit → ReadsBack s qs limit
+marked_back s qs limit t iri =
+    let m = document_marked has_scheme NQuads (tokens_of Lines limit (encode_utf8_all (text s qs)) true).tokens (map (rename s) qs) t.1 in (t.0, m.0, m.1, m.2)
+
+-- The law: what is written reads back, with any limit that is not below the text's length.
 pub bytes_read_back : (s : Style) (qs : List Quad) (limit : ℕ) → Writable s qs → length (text s qs) ≤ limit → ReadsBack s qs limit
 bytes_read_back s qs limit h l =
-    short_read_back s qs limit h (text_short limit (map (rename s) qs) (all_written s qs h) (subst (λ x. length x ≤ limit) (text_renamed s qs) l) first_place)
+    marked_back s qs limit (short_read_back s qs limit h (text_short limit (map (rename s) qs) (all_written s qs h) (subst (λ x. length x ≤ limit) (text_renamed s qs) l) first_place))
 
--- and any that no token of the quads passes
+-- And with any that no token of the quads passes.
 pub tokens_read_back : (s : Style) (qs : List Quad) (limit : ℕ) → Writable s qs → 2 ≤ limit → AllByRecursion (TokensWithin limit) (map (rename s) qs) → ReadsBack s qs limit
-tokens_read_back s qs limit h e l = short_read_back s qs limit h (document_short limit (map (rename s) qs) e l first_place)
+tokens_read_back s qs limit h e l = marked_back s qs limit (tokens_tree s qs limit h e l)

@@ -22,6 +22,7 @@ use Rattle.rdf_lines.specs.Lines as L
 use Rattle.rdf_lines.specs.Documents.{Passes}
 use Rattle.rdf_lines.specs.Writing.{escaped, iri_text, subject_text, string_text, rename_subject, rename_term, rename}
 use Rattle.rdf_lines.specs.Laws.{WrittenDocumentIsRead, SubjectWithin, TermWithin, GraphWithin, IrisWithin, TermShort, GraphShort, TokensWithin}
+use Rattle.rdf_lines.proofs.LinesLemmas.{without_marks}
 use Rattle.rdf_lines.proofs.AcceptedLemmas.{text_read}
 
 -- a value has no more characters than the text that spells it
@@ -156,7 +157,7 @@ module _ (limit n token_then iri_then : ℕ) (a : 2 * limit ≤ token_then) (b :
 pub document_read_back : WrittenDocumentIsRead
 document_read_back form limit n bytes qs document whole writable token_then iri_then a b c d e =
     let ts = (tokens_of Lines limit bytes true).tokens in
-    let (tree, tokens, bound, same) = document.1 in
+    let (tree, tokens, bound, same) = without_marks form ts qs (document.1, document.2, document.3) in
     let g = good limit n token_then iri_then a b c d e ts (no_longer Lines limit bytes true) whole.front.kept in
     let fits = subst (AllByRecursion (Fits limit n token_then iri_then a b c d e)) same (tree_fits limit n token_then iri_then a b c d e tree (subst (AllByRecursion (Good limit n token_then iri_then a b c d e)) tokens g)) in
     text_read Kept qs token_then iri_then writable (omega arith) (shorts limit n token_then iri_then a b c d e qs fits) (iris limit n token_then iri_then a b c d e qs fits)

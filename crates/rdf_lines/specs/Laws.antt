@@ -1,85 +1,97 @@
 -- The laws of line reading and of the written lines.
-use Rattle.std.specs.Prelude.{◌≡◌, ◌≤◌, ◌+◌, ◌*◌, ℕ, true, List, ◌∷◌, ◌++◌, map, length, Option, Some, None, encode_utf8_all}
+use Rattle.std.specs.Prelude.{◌≡◌, ◌≤◌, ◌+◌, ◌*◌, ℕ, true, false, List, ◌∷◌, ◌++◌, map, length, Option, Some, None, encode_utf8_all}
 use Rattle.std.specs.List.{AllByRecursion}
-use Rattle.rdf_terms.specs.declared.kind.Dialect.TheVariants.{Lines}
-use Rattle.rdf_tokens.specs.Good.{tokens_of}
-use Rattle.rdf_tokens.specs.Tokens.Outcome.{complete}
 use Rattle.rdf_terms.specs.declared.reason.Reason.{Reason}
-use Rattle.rdf_terms.specs.Terms.{Tail, Lang, Typed, Subject, Iri, Blank, Term, Resource, Literal, Quad, has_scheme}
-use Rattle.rdf_tokens.specs.Tokens.{Place}
-use Rattle.rdf_tokens.specs.Grammars.{Due, Within}
+use Rattle.rdf_terms.specs.Terms.{Tail, Lang, Typed, Subject, Iri, Blank, Term, Resource, Literal, Quad}
+use Rattle.rdf_tokens.specs.Tokens.{Place, Token}
+use Rattle.rdf_tokens.specs.Grammars.{Marked, unmarked, Due, reading_of, IsDocumentOf, IsWithin, GoesOn, IsWhole, Refused, IsReadToItsEnd}
+use Rattle.rdf_driver.specs.Readers.{Driven, HasRead}
 use Rattle.rdf_iri.specs.Texts.{byte_len}
 use Rattle.rdf_lines.specs.declared.form.LineForm.{LineForm}
 use Rattle.rdf_lines.specs.declared.form.LineForm.TheVariants.{NQuads}
-use Rattle.rdf_lines.specs.Lines.{IsDocument, documents}
-use Rattle.rdf_lines.specs.Documents.{Document, Passes, Refused, GoesOn, IsWhole}
-use Rattle.rdf_lines.specs.LineRead.{LineRead}
-use Rattle.rdf_lines.specs.Readers.{HasRead, tokens_so_far}
+use Rattle.rdf_lines.specs.declared.rules.Rules.{Rules}
+use Rattle.rdf_lines.specs.Lines.{documents, trees}
+use Rattle.rdf_lines.specs.Documents.{in_lines}
+use Rattle.rdf_lines.specs.Accepting.{LineAt, line_words}
 use Rattle.rdf_lines.specs.declared.form.Style.{Style}
 use Rattle.rdf_lines.specs.declared.form.Style.TheVariants.{Kept}
 use Rattle.rdf_lines.specs.Writing.{rename, iri_text, subject_text, string_text, text, Writable}
 
--- The tokens of the written bytes are complete, and a document of N-Quads whose quads are the renamed ones.
+-- The written bytes are a document of N-Quads whose quads are the renamed ones, whatever the limit on IRIs.
 abbrev pub ReadsBack : Style → List Quad → ℕ → Type 0
-ReadsBack s qs limit =
-    ((tokens_of Lines limit (encode_utf8_all (text s qs)) true).outcome ≡ complete)
-    × IsDocument has_scheme NQuads (tokens_of Lines limit (encode_utf8_all (text s qs)) true).tokens (map (rename s) qs)
+ReadsBack s qs limit = (iri : ℕ) → IsDocumentOf (in_lines NQuads limit iri) (encode_utf8_all (text s qs)) (map (rename s) qs)
 
--- What a reader has read decides tokens that are all in the front, leaves the next one open, and the quads that were put are due behind them.
+-- Every tree of the same tokens has the same quads, with the same marks.
+abbrev pub TokensSettleTheQuads : Type 0
+TokensSettleTheQuads = (form : LineForm) (ts : List Token) (qs rs : List Marked) → trees form ts qs → trees form ts rs → qs ≡ rs
+
+-- What is due after some tokens is the same in every document that begins with them.
+abbrev pub TokensSettleWhatIsDue : Type 0
+TokensSettleWhatIsDue = (form : LineForm) (ts : List Token) (qs rs : List Quad) → Due (documents form) ts qs → Due (documents form) ts rs → qs ≡ rs
+
+-- What is due is a beginning of the quads of each document that begins so.
+abbrev pub DueBeginsTheQuads : Type 0
+DueBeginsTheQuads = (form : LineForm) (ts more : List Token) (qs : List Quad) (all : List Marked) → Due (documents form) ts qs → documents form (ts ++ more) all →
+    (rest : List Quad) × (unmarked all ≡ qs ++ rest)
+
+-- What a reader has read decides tokens that are all in the front, leaves the next one open, and the quads that were put are due after them.
 abbrev pub ReadQuadsAreDue : Type 0
-ReadQuadsAreDue = (r : LineRead) (bytes : List ℕ) (quads : List Quad) → HasRead r bytes quads →
-    GoesOn r.form r.scanner.limit r.iri bytes × Due (documents r.form) (tokens_so_far r.scanner.limit bytes).tokens quads
+ReadQuadsAreDue = (r : Driven LineAt) (x : Rules) (bytes : List ℕ) (quads : List Quad) → HasRead line_words r x bytes quads →
+    GoesOn (in_lines x.form r.scanner.limit x.iri) bytes × Due (documents x.form) (reading_of (in_lines x.form r.scanner.limit x.iri) bytes false).tokens quads
 
--- The bytes are read to their end, and each beginning of them goes on: no reader refuses them, however they are cut.
-pub record IsReadToItsEnd (form : LineForm) (limit iri : ℕ) (bytes : List ℕ) : Type 0 where
-  pub whole : IsWhole form limit iri bytes
-  pub fronts : (front rest : List ℕ) → bytes ≡ front ++ rest → GoesOn form limit iri front
-
+-- A document within the limits is read to its end, however it is cut.
 abbrev pub DocumentsAreRead : Type 0
-DocumentsAreRead = (form : LineForm) (limit iri : ℕ) (bytes : List ℕ) (quads : List Quad) → Document form limit bytes quads →
-    Within (documents form) (Passes iri) (tokens_of Lines limit bytes true) bytes → IsReadToItsEnd form limit iri bytes
+DocumentsAreRead = (form : LineForm) (limit iri : ℕ) (bytes : List ℕ) (quads : List Quad) → IsDocumentOf (in_lines form limit iri) bytes quads →
+    IsWithin (in_lines form limit iri) bytes → IsReadToItsEnd (in_lines form limit iri) bytes
 
 -- What is refused is no document within the limits.
 abbrev pub RefusedIsNoDocument : Type 0
-RefusedIsNoDocument = (form : LineForm) (limit iri : ℕ) (bytes : List ℕ) (quads : List Quad) (reason : Reason) (at : Place) → Refused form limit iri bytes true reason at →
-    Document form limit bytes quads → Within (documents form) (Passes iri) (tokens_of Lines limit bytes true) bytes → ⊥
+RefusedIsNoDocument = (form : LineForm) (limit iri : ℕ) (bytes : List ℕ) (quads : List Quad) (reason : Reason) (at : Place) →
+    Refused (in_lines form limit iri) bytes true reason at → IsDocumentOf (in_lines form limit iri) bytes quads → IsWithin (in_lines form limit iri) bytes → ⊥
 
--- no IRI of the quad has more bytes
+-- the subject is no IRI of more bytes
 abbrev pub SubjectWithin : ℕ → Subject → Type 0
 SubjectWithin n (Iri i) = byte_len i ≤ n
 SubjectWithin n (Blank b) = Unit
 
+-- the same of a literal's datatype
 abbrev pub TailWithin : ℕ → Tail → Type 0
 TailWithin n (Lang t) = Unit
 TailWithin n (Typed i) = byte_len i ≤ n
 
+-- the same of an object
 abbrev pub TermWithin : ℕ → Term → Type 0
 TermWithin n (Resource s) = SubjectWithin n s
 TermWithin n (Literal w t) = TailWithin n t
 
+-- the same of a graph label
 abbrev pub GraphWithin : ℕ → Option Subject → Type 0
 GraphWithin n None = Unit
 GraphWithin n (Some g) = SubjectWithin n g
 
+-- no IRI of the quad has more bytes
 pub record IrisWithin (n : ℕ) (q : Quad) : Type 0 where
   pub subject : SubjectWithin n q.subject
   pub predicate : byte_len q.predicate ≤ n
   pub object : TermWithin n q.object
   pub graph : GraphWithin n q.graph
 
--- no token of the quad, as it is written, has more characters
+-- a datatype or a language tag is written with no more characters
 abbrev pub TailShort : ℕ → Tail → Type 0
 TailShort n (Lang t) = length (64 ∷ t) ≤ n
 TailShort n (Typed i) = length (iri_text i) ≤ n
 
+-- no token of an object is written with more
 abbrev pub TermShort : ℕ → Term → Type 0
 TermShort n (Resource s) = length (subject_text s) ≤ n
 TermShort n (Literal w t) = (length (string_text w) ≤ n) × TailShort n t
 
+-- nor that of a graph label
 abbrev pub GraphShort : ℕ → Option Subject → Type 0
 GraphShort n None = Unit
 GraphShort n (Some g) = length (subject_text g) ≤ n
 
+-- no token of the quad, as it is written, has more characters
 pub record TokensWithin (n : ℕ) (q : Quad) : Type 0 where
   pub subject : length (subject_text q.subject) ≤ n
   pub predicate : length (iri_text q.predicate) ≤ n
@@ -89,10 +101,10 @@ pub record TokensWithin (n : ℕ) (q : Quad) : Type 0 where
 -- What is written for quads is read to its end as N-Quads, where no token of the lines and no IRI of the quads passes a limit; `^^` has two characters.
 abbrev pub WrittenTextIsRead : Type 0
 WrittenTextIsRead = (s : Style) (qs : List Quad) (limit iri : ℕ) → Writable s qs → 2 ≤ limit → AllByRecursion (TokensWithin limit) (map (rename s) qs) →
-    AllByRecursion (IrisWithin iri) qs → IsReadToItsEnd NQuads limit iri (encode_utf8_all (text s qs))
+    AllByRecursion (IrisWithin iri) qs → IsReadToItsEnd (in_lines NQuads limit iri) (encode_utf8_all (text s qs))
 
 -- What is written, with the labels kept, for a document within some limits is read to its end with limits that are a little higher.
 abbrev pub WrittenDocumentIsRead : Type 0
-WrittenDocumentIsRead = (form : LineForm) (token iri : ℕ) (bytes : List ℕ) (qs : List Quad) → Document form token bytes qs → IsWhole form token iri bytes → Writable Kept qs →
+WrittenDocumentIsRead = (form : LineForm) (token iri : ℕ) (bytes : List ℕ) (qs : List Quad) → IsDocumentOf (in_lines form token iri) bytes qs → IsWhole (in_lines form token iri) bytes → Writable Kept qs →
     (token_then iri_then : ℕ) → 2 * token ≤ token_then → iri + 2 ≤ token_then → 64 ≤ token_then → iri ≤ iri_then → 64 ≤ iri_then →
-    IsReadToItsEnd NQuads token_then iri_then (encode_utf8_all (text Kept qs))
+    IsReadToItsEnd (in_lines NQuads token_then iri_then) (encode_utf8_all (text Kept qs))

@@ -6,7 +6,4 @@ pub mod Documents
 pub mod WrittenBytes
 pub mod States
 pub mod Spelled
-pub mod LineRead
-pub mod Readers
-pub mod Reading
 pub mod Accepting

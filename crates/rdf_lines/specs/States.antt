@@ -73,6 +73,6 @@ abbrev pub Fails : {S : Type 0} → (S → Quad → S → Type 0) → (S → Boo
 Fails leaves failed Unexpected a old new = (a ≡ refuses Unexpected) × (new ≡ old)
 Fails leaves failed RelativeIri a old new = (a ≡ refuses RelativeIri) × (new ≡ old)
 Fails leaves failed IriTooLong a old new = (a ≡ refuses IriTooLong) × (new ≡ old)
-Fails leaves failed Memory a old new = (new ≡ old) ⊎ Leaves leaves a old new
+Fails leaves failed Memory a old new = (new ≡ old) ⊎ (Leaves leaves a old new × (failed new ≡ false))
 Fails leaves failed Sink a old new = Leaves leaves a old new × (failed new ≡ true)
 Fails leaves failed r a old new = ⊥

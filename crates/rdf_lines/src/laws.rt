@@ -4,7 +4,7 @@ ghost use Rattle.std.specs.Prelude.{◌≡◌, ℕ, List, ◌≤◌, length};
 ghost use Rattle.rdf_terms.specs.Terms.{IsNode, Node, Quad};
 ghost use Rattle.rdf_lines.specs.declared.form.Style.{Style};
 ghost use Rattle.rdf_lines.specs.Writing.{Writable, rename_node, text};
-ghost use Rattle.rdf_lines.specs.Laws.{ReadsBack, ReadQuadsAreDue, DocumentsAreRead, RefusedIsNoDocument, WrittenTextIsRead, WrittenDocumentIsRead};
+ghost use Rattle.rdf_lines.specs.Laws.{ReadsBack, TokensSettleTheQuads, TokensSettleWhatIsDue, DueBeginsTheQuads, ReadQuadsAreDue, DocumentsAreRead, RefusedIsNoDocument, WrittenTextIsRead, WrittenDocumentIsRead};
 
 /// The bytes written for quads are a document of N-Quads, whose quads are these, renamed, one for one and in
 /// order. Any limit on a token's characters that is not below the text's length serves.
@@ -15,6 +15,21 @@ pub fn written_text_reads_back()
 /// No two nodes are written under one name.
 pub fn names_stay_apart()
     ensures { (s : Style) (m n : Node) → IsNode m → IsNode n → rename_node s m ≡ rename_node s n → m ≡ n }
+{}
+
+/// Every tree of the same tokens has the same quads, with the same marks.
+pub fn tokens_settle_the_quads()
+    ensures { TokensSettleTheQuads }
+{}
+
+/// What is due after some tokens is the same in every document that begins with them.
+pub fn tokens_settle_what_is_due()
+    ensures { TokensSettleWhatIsDue }
+{}
+
+/// What is due is a beginning of the quads of each document that begins so.
+pub fn due_begins_the_quads()
+    ensures { DueBeginsTheQuads }
 {}
 
 /// What a reader has read begins a document within the limits, and the quads that were put are those that are due.

@@ -2,14 +2,11 @@
 #![tactic(auto)]
 
 mod accept;
-mod driven;
-mod fault;
 mod form;
 mod grammar;
 pub mod laws;
 mod line;
 mod reader;
-mod reading;
 mod rules;
 mod spelled;
 mod state;
@@ -20,9 +17,8 @@ mod tests;
 mod writable;
 mod writer;
 
-pub use fault::{Fault, Summary};
 pub use form::{LineForm, Style};
-pub use driven::line_reader;
 pub use grammar::LineGrammar;
-pub use reader::LineReader;
+pub use rdf_driver::{Fault, Summary};
+pub use reader::{LineReader, line_reader};
 pub use writer::{LabelFault, label_text, write_line};

@@ -1,0 +1,37 @@
+-- What the end does to a run.
+use Rattle.std.proofs.Common.{◌≡◌, ℕ, Bool, List, [], ◌∷◌, ◌++◌, ◌⊎◌, inl, inr, refl, sym, ap, ◌∙◌, subst, ⊎_elim}
+use Rattle.rdf_terms.specs.declared.kind.Kind.TheVariants.{End}
+use Rattle.rdf_terms.specs.declared.reason.Reason.TheVariants.{Unexpected}
+use Rattle.rdf_terms.specs.Terms.{Quad}
+use Rattle.rdf_tokens.specs.Tokens.{Token}
+use Rattle.rdf_lines.specs.declared.form.LineForm.{LineForm}
+use Rattle.rdf_lines.specs.declared.form.LineForm.TheVariants.{NTriples, NQuads}
+use Rattle.rdf_lines.specs.Lines.{Leaf, leaf_of}
+use Rattle.rdf_lines.specs.Machine.{Mode, Begin, AfterString, AfterObject, AfterDot, Finished, goes, refuses, accept, ran, refused, go_on, run}
+use Rattle.rdf_lines.proofs.Runs.{with_quads, run_one, then_ran, run_append}
+
+-- The end finishes a document, or is refused.
+accept_end : (test : List ℕ → Bool) (f : LineForm) (m : Mode) (l : Leaf) → (accept test f m End l ≡ goes Finished) ⊎ (accept test f m End l ≡ refuses Unexpected)
+accept_end test f Begin l = inl refl
+accept_end test f AfterDot l = inl refl
+accept_end test NTriples (AfterString s p w) l = inr refl
+accept_end test NQuads (AfterString s p w) l = inr refl
+accept_end test NTriples (AfterObject s p o) l = inr refl
+accept_end test NQuads (AfterObject s p o) l = inr refl
+accept_end test f m l = inr refl
+
+-- After the end a document is finished.
+pub end_finishes : (test : List ℕ → Bool) (f : LineForm) (ts : List Token) (t : Token) (m n : Mode) (qs : List Quad) → run test f m (ts ++ t ∷ []) ≡ ran n qs → t.kind ≡ End → n ≡ Finished
+end_finishes test f ts t m n qs e k =
+    let before = then_ran (run test f m ts) (λ x. run test f x (t ∷ [])) n qs (sym (run_append test f ts (t ∷ []) m) ∙ e) in
+    let one = run_one test f ts t m before.0 before.1 before.2 in
+    by before.0 before.1 (sym one ∙ e)
+  where
+    by : (x : Mode) (rs : List Quad) → with_quads rs (go_on (accept test f x t.kind (leaf_of t)) (λ j. ran j [])) ≡ ran n qs → n ≡ Finished
+    by x rs h =
+        let h : with_quads rs (go_on (accept test f x End (leaf_of t)) (λ j. ran j [])) ≡ ran n qs =
+        subst (λ k. with_quads rs (go_on (accept test f x k (leaf_of t)) (λ j. ran j [])) ≡ ran n qs) k h in
+        ⊎_elim
+        (λ a. let z : ran Finished (rs ++ []) ≡ ran n qs = sym (ap (λ y. with_quads rs (go_on y (λ j. ran j []))) a) ∙ h in cc)
+        (λ a. absurd (let z : refused Unexpected ≡ ran n qs = sym (ap (λ y. with_quads rs (go_on y (λ j. ran j []))) a) ∙ h in cc))
+        (accept_end test f x (leaf_of t))
