@@ -1,5 +1,5 @@
 -- A piece more, the end, or an error within one: what the drain has then.
-use Rattle.std.proofs.Common.{◌≡◌, ◌+◌, ℕ, Bool, true, false, List, [], ◌∷◌, ◌++◌, ◌⊎◌, length, Option, refl, sym, ap, subst, ◌∙◌, append_assoc, ⊎_elim, length-append, arith}
+use Rattle.std.proofs.Common.{◌≡◌, ◌≤◌, ◌+◌, ℕ, Bool, true, false, List, [], ◌∷◌, ◌++◌, ◌⊎◌, length, Option, refl, sym, ap, subst, ◌∙◌, append_assoc, ⊎_elim, length-append, arith}
 use Rattle.std.proofs.lemmas.List.{append-nil}
 use Rattle.std.proofs.lemmas.Bool.{false≢true}
 use Rattle.std.proofs.KnownBytes.{Appends-nil}
@@ -360,3 +360,95 @@ module _ {G X D A : Type 0} (contents : D → Option (List ℕ)) (failed : D →
           same = same_out first mid after (same_out first lines mid o.same all_put.same) s;
           halts = (broke, written_front after (reading_of l bytes true).tokens f.more rest (then_front mid after f.more rest all_put.writes m) all_begun);
         }
+
+-- ---- a run
+
+module _ {G X D A : Type 0} (contents : D → Option (List ℕ)) (failed : D → Bool) (w : Words G X) (reader : Driven G) (first : LineOut D A) (bytes : List ℕ) (old : Driven G) (lines : LineOut D A)
+    (i : IsConverting contents failed w reader first bytes old lines) where
+  -- the drain has not failed
+  pub live_now : failed lines.drain.now ≡ false
+  live_now = (i.handed i.begun.0 i.begun.1).live
+
+  -- what halts by the limit of the reader halts by that of the run
+  halted : (told : StreamFault) (b : List ℕ) (e : Bool) (after : LineOut D A) →
+      ((x : X) (s : Suits w x first.style) (o : HandedOver contents failed w x old bytes first lines) → Halts contents failed w x old bytes first lines s o told b e after) → RunHalts contents failed w told reader first b e after
+  halted told b e after h = record {
+    begun = i.begun;
+    same = (h i.begun.0 i.begun.1.starts.suits (i.handed i.begun.0 i.begun.1)).same;
+    halts = λ x y.
+        subst (λ n. HaltsFor told (conversion w x n first.style) b e (contents first.drain.now) (contents after.drain.now) (failed after.drain.now)) i.limit (h x y.starts.suits (i.handed x y)).halts;
+  }
+
+  -- what stays from the beginning of a run stays from any state that had it
+  pub stays_on : (after : LineOut D A) → SameOut first after → (before : LineOut D A) → SameOut before lines → SameOut before after
+  stays_on after h before s =
+      let o = (i.handed i.begun.0 i.begun.1).same in
+      record { style = h.style ∙ (sym o.style ∙ s.style); buffer = h.buffer ∙ (sym o.buffer ∙ s.buffer); drain = h.drain ∙ (sym o.drain ∙ s.drain) }
+
+  module _ (piece : List ℕ) where
+    module _ (new : Driven G) (mid : LineOut D A) (f : Feeds w (Takes contents failed) old lines piece new mid) where
+      -- a piece more
+      pub run_takes : (after : LineOut D A) → SameOut mid after → Appends (contents mid.drain.now) (contents after.drain.now) mid.buffer.now.items → after.buffer.now.items ≡ [] →
+          failed after.drain.now ≡ false → IsConverting contents failed w reader first (bytes ++ piece) new after
+      run_takes after s t none live = record {
+        begun = i.begun;
+        limit = f.limit ∙ i.limit;
+        handed = λ x y. piece_read contents failed w x old bytes first lines y.starts.suits (i.handed x y) piece new mid f after s t none live;
+      }
+
+      pub run_same : (after : LineOut D A) → SameOut mid after → SameOut first after
+      run_same after s =
+          let o = i.handed i.begun.0 i.begun.1 in
+          same_out first mid after (same_out first lines mid o.same (put' contents failed w i.begun.0 old bytes first lines i.begun.1.starts.suits o piece new mid f).same) s
+
+      -- the bytes are counted
+      pub run_counts : new.so_far.bytes ≡ old.so_far.bytes + length piece
+      run_counts =
+          let o = i.handed i.begun.0 i.begun.1 in
+          let a : old.so_far.bytes ≡ length bytes = ap (λ (s : Summary). s.bytes) o.read.so_far in
+          let b : new.so_far.bytes ≡ length (bytes ++ piece) = ap (λ (s : Summary). s.bytes) (f.read i.begun.0 bytes o.quads o.read).so_far in
+          b ∙ (length-append bytes piece ∙ ap (λ n. n + length piece) (sym a))
+
+      -- there are not too many
+      pub run_few : (most : ℕ) → new.scanner.taken.offset ≤ most → new.so_far.bytes ≤ most
+      run_few most few =
+          let o = i.handed i.begun.0 i.begun.1 in
+          let r = f.read i.begun.0 bytes o.quads o.read in
+          let b : new.so_far.bytes ≡ length (bytes ++ piece) = ap (λ (s : Summary). s.bytes) r.so_far in
+          let small : new.scanner.taken.offset ≡ length (bytes ++ piece) = ap (λ (p : Place). p.offset) r.scanned.taken in
+          omega (arith, b, small, few)
+
+      -- the drain failed
+      pub run_broke : (after : LineOut D A) → SameOut mid after → AppendsFront (contents mid.drain.now) (contents after.drain.now) mid.buffer.now.items → failed after.drain.now ≡ true →
+          RunHalts contents failed w stream.Write reader first (bytes ++ piece) false after
+      run_broke after s t broke = halted stream.Write (bytes ++ piece) false after (λ x y o. piece_broke contents failed w x old bytes first lines y o piece new mid f after s t broke)
+
+    -- an error in a piece
+    pub run_halts : (n k : ℕ) (new : Driven G) (mid after : LineOut D A) (why : Reason) (told : StreamFault) →
+        FeedFails w (Takes contents failed) (Leaves contents failed) (λ s. failed s.drain.now) why (record { offset = n; line = k }) old lines piece new mid → SameOut mid after →
+        Tells contents failed (record { reason = why; offset = n; line = k }) told mid after → RunHalts contents failed w told reader first (bytes ++ piece) false after
+    run_halts n k new mid after why told h s t =
+        halted told (bytes ++ piece) false after (λ x y o. piece_halts contents failed w x old bytes first lines y o piece n k new mid why after told h s t)
+
+  module _ (summary : Summary) (mid : LineOut D A) (f : Finishes w (Takes contents failed) old lines summary mid) where
+    -- the document was read and written
+    pub run_ends : (flushed : D → Bool) (after : LineOut D A) → SameOut mid after → Appends (contents mid.drain.now) (contents after.drain.now) mid.buffer.now.items → flushed after.drain.now ≡ true →
+        RunEnds contents failed flushed w summary reader first bytes after
+    run_ends flushed after s t sent = record {
+      same = (end_read contents failed w i.begun.0 old bytes first lines i.begun.1.starts.suits (i.handed i.begun.0 i.begun.1) summary mid f after s t).0;
+      sent = sent;
+      accepts = λ x y.
+          subst (λ n. Accepts (conversion w x n first.style) bytes (contents first.drain.now) (contents after.drain.now) summary) i.limit
+          (end_read contents failed w x old bytes first lines y.starts.suits (i.handed x y) summary mid f after s t).1;
+    }
+
+    -- the drain failed
+    pub end_run_broke : (after : LineOut D A) → SameOut mid after → AppendsFront (contents mid.drain.now) (contents after.drain.now) mid.buffer.now.items → failed after.drain.now ≡ true →
+        RunHalts contents failed w stream.Write reader first bytes true after
+    end_run_broke after s t broke = halted stream.Write bytes true after (λ x y o. end_broke contents failed w x old bytes first lines y o summary mid f after s t broke)
+
+  -- an error at the end
+  pub end_run_halts : (n k : ℕ) (new : Driven G) (mid after : LineOut D A) (why : Reason) (told : StreamFault) →
+      FinishFails w (Takes contents failed) (Leaves contents failed) (λ s. failed s.drain.now) why (record { offset = n; line = k }) old lines new mid → SameOut mid after →
+      Tells contents failed (record { reason = why; offset = n; line = k }) told mid after → RunHalts contents failed w told reader first bytes true after
+  end_run_halts n k new mid after why told h s t = halted told bytes true after (λ x y o. end_halts contents failed w x old bytes first lines y o n k new mid why after told h s t)

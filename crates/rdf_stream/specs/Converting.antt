@@ -26,10 +26,14 @@ pub record Suits {G X : Type 0} (w : Words G X) (x : X) (style : Style) : Type 0
   -- each quad that is due in a document can be written
   pub can_write : (ts : List Token) (quads : List Quad) → Due (w.documents x) ts quads → AllByRecursion (CanWrite style) quads
 
--- Nothing was read, and no line waits.
-pub record Begins {G X D A : Type 0} (failed : D → Bool) (w : Words G X) (x : X) (reader : Driven G) (lines : LineOut D A) : Type 0 where
-  pub suits : Suits w x lines.style
+-- A reader of a grammar that suits the style has read nothing.
+pub record Starts {G X : Type 0} (w : Words G X) (x : X) (reader : Driven G) (style : Style) : Type 0 where
+  pub suits : Suits w x style
   pub read : HasRead w reader x [] []
+
+-- The same, and no line waits.
+pub record Begins {G X D A : Type 0} (failed : D → Bool) (w : Words G X) (x : X) (reader : Driven G) (lines : LineOut D A) : Type 0 where
+  pub starts : Starts w x reader lines.style
   pub none_waits : lines.buffer.now.items ≡ []
   pub live : failed lines.drain.now ≡ false
 

@@ -1,16 +1,12 @@
 -- What each format is to a run: its language, and how the quads of its documents are written.
 use Rattle.std.specs.Prelude.{ℕ, []}
 use Rattle.rdf_tokens.specs.Grammars.{Language}
-use Rattle.rdf_iri.specs.Limits.{Sizes}
 use Rattle.rdf_driver.specs.Words.{Words, in_words}
-use Rattle.rdf_lines.specs.declared.form.LineForm.{LineForm}
 use Rattle.rdf_lines.specs.declared.form.Style.{Style}
 use Rattle.rdf_lines.specs.declared.form.Style.TheVariants.{Kept, Tagged}
-use Rattle.rdf_lines.specs.declared.rules.Rules.{Rules}
-use Rattle.rdf_lines.specs.Accepting.{line_words}
+use Rattle.rdf_lines.specs.Documents.{in_lines}
 use Rattle.rdf_trig.specs.declared.form.DocForm.{DocForm}
-use Rattle.rdf_trig.specs.Accepting.{tree_words}
-use Rattle.rdf_trig.specs.TrigRead.{Chosen}
+use Rattle.rdf_trig.specs.Language.{Chosen, language}
 use Rattle.rdf_stream.specs.declared.fault.Kind.{Kind}
 use Rattle.rdf_stream.specs.declared.fault.Kind.TheVariants.{Line, Tree}
 use Rattle.rdf_stream.specs.Kinds.{kind_of}
@@ -24,18 +20,14 @@ pub record Conversion : Type 1 where
 abbrev pub conversion : {G X : Type 0} → Words G X → X → ℕ → Style → Conversion
 conversion w x limit style = record { language = in_words w x limit; style = style }
 
--- a line format, and the limit on IRIs; these formats have no relative references, and so no base
-abbrev pub line_job : LineForm → Sizes → Rules
-line_job form limits = record { form = form; iri = limits.iri }
-
 -- no prefix is bound before the first token
 abbrev pub tree_job : DocForm → JobRead → Chosen
 tree_job form job = record { form = form; start = record { base = job.base; bindings = []; limits = job.limits } }
 
--- labels of the line formats are kept, those of the others are renamed
+-- The line formats have no relative references, and so no base. Their labels are kept, those of the others are renamed.
 abbrev pub conversion_by : Kind → JobRead → Conversion
-conversion_by (Line form) job = conversion line_words (line_job form job.limits) job.limits.token Kept
-conversion_by (Tree form) job = conversion tree_words (tree_job form job) job.limits.token Tagged
+conversion_by (Line form) job = record { language = in_lines form job.limits.token job.limits.iri; style = Kept }
+conversion_by (Tree form) job = record { language = language form (tree_job form job).start; style = Tagged }
 
 abbrev pub conversion_of : JobRead → Conversion
 conversion_of job = conversion_by (kind_of job.form) job

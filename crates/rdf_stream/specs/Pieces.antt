@@ -26,15 +26,15 @@ ReadsEnd {R} taken ends summary old new = (first : R) (bytes : List ℕ) → tak
 pub record ReadsAll {R : Type 0} (ends : Summary → R → List ℕ → R → Type 0) (known left : Option (List ℕ)) (summary : Summary) (first now : R) : Type 0 where
   pub bytes : List ℕ
   pub consumed : Consumes known left bytes
-  pub ended : IsAtEnd left
-  pub ends : ends summary first bytes now
+  pub at_end : IsAtEnd left
+  pub is_end : ends summary first bytes now
 
 -- The source failed after these bytes, which were taken.
 pub record SourceFails {R : Type 0} (taken : R → List ℕ → R → Type 0) (known left : Option (List ℕ)) (failed : Bool) (first now : R) : Type 0 where
   pub bytes : List ℕ
   pub consumed : Consumes known left bytes
   pub failed_now : failed ≡ true
-  pub taken : taken first bytes now
+  pub is_taken : taken first bytes now
 
 -- Why a source was not read to its end: it failed, or what takes the pieces did not read on.
 abbrev pub ReadStops : {R : Type 0} → (R → List ℕ → R → Type 0) → (StreamFault → R → List ℕ → Bool → R → Type 0) → StreamFault → Option (List ℕ) → Option (List ℕ) → Bool → R → R → Type 0

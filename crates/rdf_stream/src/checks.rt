@@ -1,7 +1,8 @@
 // Reading a document to its end.
 
 ghost use Rattle.std.specs.Prelude.{◌≡◌, false, IfOk, IfErr, IfSome};
-ghost use Rattle.rdf_stream.specs.Checks.{CheckEnds, CheckHalts, CheckStops, IsChecking, Passes};
+ghost use Rattle.rdf_driver.specs.Words.{in_words};
+ghost use Rattle.rdf_stream.specs.Checks.{BeginsToRead, CheckEnds, CheckHalts, CheckStops, IsChecking, Passes};
 ghost use Rattle.rdf_stream.specs.Faults.{IsRefusal};
 ghost use Rattle.rdf_stream.specs.Languages.{language_of};
 
@@ -26,21 +27,27 @@ pub fn check<A: Allocator + Copy, S: Source>(
     ensures stops { IfErr result (λ fault. CheckStops fault (language_of job) (S.remaining source.old) (S.remaining source.new) (S.has_failed source.new)) }
     ensures refused { IfErr result IsRefusal }
 {
-    let mut piece = piece_buffer(alloc)?;
     match job.form().kind() {
-        Kind::Line(form) => {
-            let mut run = Checking {
-                reader: line_reader(alloc, form, job.limits()),
-            };
-            read_pieces(source, piece.as_mut_slice(), &mut run)
-        }
-        Kind::Tree(form) => {
-            let mut run = Checking {
-                reader: tree_reader(alloc, job.options(form)),
-            };
-            read_pieces(source, piece.as_mut_slice(), &mut run)
-        }
+        Kind::Line(form) => check_with(alloc, line_reader(alloc, form, job.limits()), source),
+        Kind::Tree(form) => check_with(alloc, tree_reader(alloc, job.options(form)), source),
     }
+}
+
+fn check_with<G: Grammar + Drop, A: Allocator + Copy, S: Source>(
+    alloc: A,
+    reader: Reader<G, A>,
+    source: &mut S,
+) -> Result<Summary, StreamFault>
+    requires begun { (x : G.Setting) × BeginsToRead G.words x reader }
+    requires source { S.has_failed source.old ≡ false }
+    ensures accepted { IfOk result (λ summary. (x : G.Setting) → BeginsToRead G.words x reader → IfSome (S.remaining source.old) (λ bytes. Passes (in_words G.words x reader.scanner.limit) bytes summary)) }
+    ensures stops { IfErr result (λ told. (x : G.Setting) → BeginsToRead G.words x reader →
+        CheckStops told (in_words G.words x reader.scanner.limit) (S.remaining source.old) (S.remaining source.new) (S.has_failed source.new)) }
+    ensures refused { IfErr result IsRefusal }
+{
+    let mut piece = piece_buffer(alloc)?;
+    let mut run = Checking { reader };
+    read_pieces(source, piece.as_mut_slice(), &mut run)
 }
 
 /// Reads a document, and keeps nothing of it.
@@ -57,6 +64,8 @@ impl<G: Grammar + Drop, A: Allocator + Copy> Run for Checking<G, A> {
     ghost ends = { λ summary first bytes now. CheckEnds G.words summary first.reader bytes };
 
     ghost count = { λ now. now.reader.so_far.bytes };
+
+    ghost stays = { λ first now. Unit };
 
     fn take(&mut self, piece: &[u8]) -> Result<(), StreamFault> {
         match self.reader.feed(piece, &mut NoQuads) {

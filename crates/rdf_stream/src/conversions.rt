@@ -1,10 +1,11 @@
 // From a document to the lines of its quads.
 
 ghost use Rattle.std.specs.Prelude.{◌≡◌, ◌++◌, true, false, OnOk, IfOk, IfErr, IfSome};
-ghost use Rattle.rdf_stream.specs.Converting.{IsConverting, RunEnds, RunHalts};
+ghost use Rattle.rdf_stream.specs.Converting.{IsConverting, RunEnds, RunHalts, Starts};
 ghost use Rattle.rdf_stream.specs.Converts.{Accepts, StopsFor};
 ghost use Rattle.rdf_stream.specs.Faults.{IsRefusal};
-ghost use Rattle.rdf_stream.specs.Languages.{conversion_of};
+ghost use Rattle.rdf_stream.specs.Languages.{conversion, conversion_of};
+ghost use Rattle.rdf_stream.specs.LineOut.{SameOut};
 
 use crate::devices::{Drain, Failed, Source};
 use crate::fault::{Kind, StreamFault};
@@ -34,24 +35,43 @@ pub fn convert<A: Allocator + Copy, S: Source, D: Drain>(
         StopsFor fault (conversion_of job) (S.remaining source.old) (S.remaining source.new) (S.has_failed source.new) (D.contents drain.old) (D.contents drain.new) (D.has_failed drain.new)) }
     ensures refused { IfErr result IsRefusal }
 {
-    let mut piece = piece_buffer(alloc)?;
-    let mut buffer = Vec::new(alloc);
     match job.form().kind() {
         Kind::Line(form) => {
-            let mut run = Converting {
-                reader: line_reader(alloc, form, job.limits()),
-                lines: LineOut::new(Style::Kept, &mut buffer, drain),
-            };
-            read_pieces(source, piece.as_mut_slice(), &mut run)
+            let reader = line_reader(alloc, form, job.limits());
+            convert_with(alloc, reader, Style::Kept, source, drain)
         }
         Kind::Tree(form) => {
-            let mut run = Converting {
-                reader: tree_reader(alloc, job.options(form)),
-                lines: LineOut::new(Style::Tagged, &mut buffer, drain),
-            };
-            read_pieces(source, piece.as_mut_slice(), &mut run)
+            let reader = tree_reader(alloc, job.options(form));
+            convert_with(alloc, reader, Style::Tagged, source, drain)
         }
     }
+}
+
+fn convert_with<G: Grammar + Drop, A: Allocator + Copy, S: Source, D: Drain>(
+    alloc: A,
+    reader: Reader<G, A>,
+    style: Style,
+    source: &mut S,
+    drain: &mut D,
+) -> Result<Summary, StreamFault>
+    requires starts { (x : G.Setting) × Starts G.words x reader style }
+    requires source { S.has_failed source.old ≡ false }
+    requires drain { D.has_failed drain.old ≡ false }
+    ensures accepted { IfOk result (λ summary. (x : G.Setting) → Starts G.words x reader style → IfSome (S.remaining source.old) (λ bytes.
+        Accepts (conversion G.words x reader.scanner.limit style) bytes (D.contents drain.old) (D.contents drain.new) summary)) }
+    ensures flushed { OnOk result (D.is_flushed drain.new ≡ true) }
+    ensures stops { IfErr result (λ told. (x : G.Setting) → Starts G.words x reader style →
+        StopsFor told (conversion G.words x reader.scanner.limit style) (S.remaining source.old) (S.remaining source.new) (S.has_failed source.new)
+        (D.contents drain.old) (D.contents drain.new) (D.has_failed drain.new)) }
+    ensures refused { IfErr result IsRefusal }
+{
+    let mut piece = piece_buffer(alloc)?;
+    let mut buffer = Vec::new(alloc);
+    let mut run = Converting {
+        reader,
+        lines: LineOut::new(style, &mut buffer, drain),
+    };
+    read_pieces(source, piece.as_mut_slice(), &mut run)
 }
 
 /// Puts the lines of a document's quads.
@@ -69,6 +89,8 @@ impl<'a, G: Grammar + Drop, D: Drain, A: Allocator + Copy> Run for Converting<'a
     ghost ends = { λ summary first bytes now. RunEnds D.contents D.has_failed D.is_flushed G.words summary first.reader first.lines bytes now.lines };
 
     ghost count = { λ now. now.reader.so_far.bytes };
+
+    ghost stays = { λ first now. SameOut first.lines now.lines };
 
     // Reads a piece, and hands all lines over that are due then.
     fn take(&mut self, piece: &[u8]) -> Result<(), StreamFault> {

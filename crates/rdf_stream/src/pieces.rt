@@ -1,6 +1,6 @@
 // Reading a source to its end, piece by piece.
 
-ghost use Rattle.std.specs.Prelude.{◌≡◌, ◌+◌, ◌<◌, ◌≤◌, ◌++◌, ℕ, List, [], Bool, false, length, OnOk, IfOk, IfErr};
+ghost use Rattle.std.specs.Prelude.{◌≡◌, ◌+◌, ◌<◌, ◌≤◌, ◌++◌, ℕ, List, [], Bool, true, false, length, OnOk, IfOk, IfErr};
 ghost use Rattle.rdf_tokens.specs.Scans.{most_bytes};
 ghost use Rattle.rdf_driver.specs.declared.summary.Summary.{Summary};
 ghost use Rattle.rdf_stream.specs.declared.fault.StreamFault.{StreamFault};
@@ -24,6 +24,8 @@ pub(crate) trait Run {
     ghost ends: { Summary → Self → List ℕ → Self → Type 0 };
     /// The number of bytes that were taken.
     ghost count: { Self → ℕ };
+    /// What stays from the first state on.
+    ghost stays: { Self → Self → Type 0 };
 
     /// Takes a piece.
     fn take(&mut self, piece: &[u8]) -> Result<(), StreamFault>
@@ -31,12 +33,14 @@ pub(crate) trait Run {
         ensures takes { OnOk result (TakesMore taken self.old piece.now self.new) }
         ensures count { OnOk result (count self.new ≡ count self.old + length piece.now) }
         ensures few { OnOk result (count self.new ≤ most_bytes) }
+        ensures stays { (first : Self) → stays first self.old → stays first self.new }
         ensures halts { IfErr result (λ f. HaltsOn taken halts f self.old (λ bytes. bytes ++ piece.now) false self.new) };
 
     /// Takes the end.
     fn end(&mut self) -> Result<Summary, StreamFault>
         requires begun { HasBegun taken self.old }
         ensures ends { IfOk result (λ summary. ReadsEnd taken ends summary self.old self.new) }
+        ensures stays { (first : Self) → stays first self.old → stays first self.new }
         ensures halts { IfErr result (λ f. HaltsOn taken halts f self.old (λ bytes. bytes) true self.new) };
 }
 
@@ -49,6 +53,8 @@ pub(crate) fn read_pieces<S: Source, R: Run>(
     requires source { S.has_failed source.old ≡ false }
     requires room { 0 < length piece.old }
     requires begun { R.taken run.old [] run.old }
+    requires stays { R.stays run.old run.old }
+    ensures stays { R.stays run.old run.new }
     ensures read { IfOk result (λ summary. ReadsAll R.ends (S.remaining source.old) (S.remaining source.new) summary run.old run.new) }
     ensures stops { IfErr result (λ f. ReadStops R.taken R.halts f (S.remaining source.old) (S.remaining source.new) (S.has_failed source.new) run.old run.new) }
 {

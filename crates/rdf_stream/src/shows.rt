@@ -67,6 +67,8 @@ impl<'a, D: Drain, A: Allocator + Copy> Run for Showing<'a, D, A> {
 
     ghost count = { λ now. now.so_far.bytes };
 
+    ghost stays = { λ first now. SameOut first.lines now.lines };
+
     fn take(&mut self, piece: &[u8]) -> Result<(), StreamFault> {
         show_piece(&mut self.scanner, piece, &mut self.so_far, &mut self.lines)
     }

@@ -1,0 +1,103 @@
+-- From the pieces of a source to all of its bytes.
+use Rattle.std.proofs.Common.{◌≡◌, ◌<◌, ◌≤◌, ◌+◌, ◌-◌, ◌^◌, ℕ, Bool, true, false, List, [], ◌++◌, length, take, Option, Some, None, IfSome, IfOk, IfErr, Result, Ok, Err, refl, sym, ap, subst, ◌∙◌, inl, inr, arith, length-append}
+use Rattle.std.proofs.lemmas.List.{append-nil, take-append-le}
+use Rattle.std.proofs.lemmas.Bool.{false≢true}
+use Rattle.std.proofs.KnownBytes.{Consumes-kept, Consumes-nil, Consumes-trans, Consumes-whole}
+use Rattle.std.specs.Io.KnownBytes.{Consumes, IsAtEnd, Keeps}
+use Rattle.std.specs.Result.{IsErrAnd}
+use Rattle.rdf_tokens.specs.Tokens.{Place}
+use Rattle.rdf_tokens.specs.Good.{end_of}
+use Rattle.rdf_tokens.specs.Grammars.{IsTooLong}
+use Rattle.rdf_tokens.specs.Scans.{most_bytes}
+use Rattle.rdf_driver.specs.declared.summary.Summary.{Summary}
+use Rattle.rdf_stream.specs.declared.fault.StreamFault.{StreamFault}
+use Rattle.rdf_stream.specs.declared.fault.StreamFault.TheVariants as stream
+use Rattle.rdf_stream.specs.Devices.{HasGiven}
+use Rattle.rdf_stream.specs.Pieces.{HaltsOn, ReadStops, ReadsAll, ReadsEnd, TakesMore}
+
+-- too many bytes are too many with more
+pub too_long_more : (bytes more : List ℕ) (at : Place) → IsTooLong bytes at → IsTooLong (bytes ++ more) at
+too_long_more bytes more at h = (omega (arith, h.0, length-append bytes more), h.1 ∙ ap end_of (sym (take-append-le most_bytes bytes more (omega (arith, h.0)))))
+
+-- the bytes that were known are those that were read and those that are left
+known_more : (known left : Option (List ℕ)) (bytes : List ℕ) (P : List ℕ → Type 0) → Consumes known left bytes → ((rest : List ℕ) → P (bytes ++ rest)) → IfSome known P
+known_more None left bytes P c h = tt
+known_more (Some b) None bytes P c h = absurd c
+known_more (Some b) (Some rest) bytes P c h = subst P (sym c) (h rest)
+
+-- What holds of the bytes that were given, and stays with more of them and with their end, holds of all bytes.
+pub all_given : (known left : Option (List ℕ)) (failed : Bool) (P : List ℕ → Bool → Type 0) → ((bytes more : List ℕ) → P bytes false → P (bytes ++ more) true) →
+    (given : HasGiven known left failed) → P given.bytes given.is_end → IfSome known (λ bytes. P bytes true)
+all_given known left failed P more given p = by given.is_end refl p
+  where
+    by : (e : Bool) → given.is_end ≡ e → P given.bytes e → IfSome known (λ bytes. P bytes true)
+    by true e q = Consumes-whole known left given.bytes (λ bytes. P bytes true) given.consumed (given.ended e) q
+    by false e q = known_more known left given.bytes (λ bytes. P bytes true) given.consumed (λ rest. more given.bytes rest q)
+
+-- the source gave no byte into a buffer that has room
+pub no_more : (left left' : Option (List ℕ)) (n : ℕ) (buf : List ℕ) → Consumes left left' (take n buf) × (n ≡ 0 → 0 < length buf → IsAtEnd left') → n ≡ 0 → 0 < length buf → Consumes left left' []
+no_more left left' n buf h e room = subst (λ k. Consumes left left' (take k buf)) e h.0
+
+-- a `?` that reported a fault
+pub told_stops : {T : Type 0} (r : Result T StreamFault) (told : StreamFault) (P : StreamFault → Type 0) → IsErrAnd r (λ t. t ≡ told) → P told → IfErr r P
+told_stops (Ok x) told P e h = tt
+told_stops (Err t) told P e h = subst P (sym e) h
+
+-- what each value, and each fault, brings
+pub if_ok : {T E : Type 0} (r : Result T E) (P Q : T → Type 0) → ((x : T) → P x → Q x) → IfOk r P → IfOk r Q
+if_ok (Ok x) P Q f h = f x h
+if_ok (Err e) P Q f h = tt
+
+pub if_err : {T E : Type 0} (r : Result T E) (P Q : E → Type 0) → ((e : E) → P e → Q e) → IfErr r P → IfErr r Q
+if_err (Ok x) P Q f h = tt
+if_err (Err e) P Q f h = f e h
+
+-- no byte was read
+abbrev pub none_given : (known : Option (List ℕ)) (failed : Bool) → failed ≡ false → HasGiven known known failed
+none_given known failed live = record { bytes = []; is_end = false; consumed = Consumes-nil known; ended = λ e. absurd (false≢true e); live = live }
+
+-- What left the source was taken.
+pub record IsReading {R : Type 0} (taken : R → List ℕ → R → Type 0) (stays : R → R → Type 0) (known left : Option (List ℕ)) (source_failed : Bool) (first now : R) (room : ℕ) : Type 0 where
+  pub bytes : List ℕ
+  pub consumed : Consumes known left bytes
+  pub is_taken : taken first bytes now
+  pub same : stays first now
+  pub live : source_failed ≡ false
+  pub has_room : 0 < room
+
+module _ {R : Type 0} (taken : R → List ℕ → R → Type 0) (halts : StreamFault → R → List ℕ → Bool → R → Type 0) (ends : Summary → R → List ℕ → R → Type 0) (stays : R → R → Type 0)
+    (known left left' : Option (List ℕ)) (source_failed source_failed' : Bool) (first now : R) (room : ℕ) (i : IsReading taken stays known left source_failed first now room) where
+  -- the source failed
+  pub read_stops : Keeps left left' → source_failed' ≡ true → ReadStops taken halts stream.Read known left' source_failed' first now
+  read_stops k e = inl (refl, record { bytes = i.bytes; consumed = Consumes-kept known left left' i.bytes i.consumed k; failed_now = e; is_taken = i.is_taken })
+
+  module _ (live : source_failed' ≡ false) (now' : R) where
+    module _ (piece : List ℕ) (c : Consumes left left' piece) where
+      all_consumed : Consumes known left' (i.bytes ++ piece)
+      all_consumed = Consumes-trans known left left' i.bytes piece i.consumed c
+
+      -- a piece more
+      pub on_piece : (room' : ℕ) → 0 < room' → TakesMore taken now piece now' → stays first now' → IsReading taken stays known left' source_failed' first now' room'
+      on_piece room' some h s = record { bytes = i.bytes ++ piece; consumed = all_consumed; is_taken = h first i.bytes i.is_taken; same = s; live = live; has_room = some }
+
+      -- a fault in a piece
+      pub piece_stops : (told : StreamFault) → HaltsOn taken halts told now (λ bytes. bytes ++ piece) false now' → ReadStops taken halts told known left' source_failed' first now'
+      piece_stops told h =
+          inr (record { bytes = i.bytes ++ piece; is_end = false; consumed = all_consumed; ended = λ e. absurd (false≢true e); live = live }, h first i.bytes i.is_taken)
+
+    module _ (c : Consumes left left' []) (ended : IsAtEnd left') where
+      whole_consumed : Consumes known left' i.bytes
+      whole_consumed = subst (Consumes known left') (append-nil i.bytes) (Consumes-trans known left left' i.bytes [] i.consumed c)
+
+      -- all was read
+      pub end_read : (r : Result Summary StreamFault) → IfOk r (λ s. ReadsEnd taken ends s now now') → IfOk r (λ s. ReadsAll ends known left' s first now')
+      end_read r h =
+          if_ok r (λ s. ReadsEnd taken ends s now now') (λ s. ReadsAll ends known left' s first now')
+          (λ s e. record { bytes = i.bytes; consumed = whole_consumed; at_end = ended; is_end = e first i.bytes i.is_taken }) h
+
+      -- a fault at the end
+      pub end_stops : (r : Result Summary StreamFault) → IfErr r (λ told. HaltsOn taken halts told now (λ bytes. bytes) true now') →
+          IfErr r (λ told. ReadStops taken halts told known left' source_failed' first now')
+      end_stops r h =
+          if_err r (λ told. HaltsOn taken halts told now (λ bytes. bytes) true now') (λ told. ReadStops taken halts told known left' source_failed' first now')
+          (λ told e. inr (record { bytes = i.bytes; is_end = true; consumed = whole_consumed; ended = λ e. ended; live = live }, e first i.bytes i.is_taken)) h
