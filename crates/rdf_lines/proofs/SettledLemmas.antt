@@ -1,5 +1,5 @@
 -- The tokens settle the quads of a document and their marks, and so what is due.
-use Rattle.std.proofs.Common.{◌≡◌, ℕ, ◌+◌, suc, Bool, List, [], ◌∷◌, ◌++◌, refl, sym, ap, ◌∙◌, length, append_assoc, Option, Some, None, arith, length-append}
+use Rattle.std.proofs.Common.{◌≡◌, ℕ, ◌+◌, List, [], ◌∷◌, ◌++◌, refl, sym, ap, ◌∙◌, length, append_assoc, Option, Some, None, arith, length-append}
 use Rattle.rdf_terms.specs.declared.kind.Kind.{Kind}
 use Rattle.rdf_terms.specs.declared.kind.Kind.TheVariants.{IriRef, Dot, LineEnd, End}
 use Rattle.rdf_terms.specs.Terms.{Quad, has_scheme}

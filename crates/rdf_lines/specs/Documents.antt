@@ -1,5 +1,5 @@
 -- The line formats as languages: the limit on IRIs, and why a token is refused.
-use Rattle.std.specs.Prelude.{◌≡◌, ◌<◌, ℕ, Bool, false, List, [], ◌∷◌, ◌++◌}
+use Rattle.std.specs.Prelude.{◌≡◌, ◌<◌, ℕ, false, List, [], ◌∷◌, ◌++◌}
 use Rattle.rdf_terms.specs.declared.kind.Dialect.TheVariants.{Lines}
 use Rattle.rdf_terms.specs.declared.kind.Kind.TheVariants.{IriRef}
 use Rattle.rdf_terms.specs.declared.reason.Reason.{Reason}

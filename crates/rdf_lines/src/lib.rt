@@ -5,16 +5,12 @@ mod accept;
 mod form;
 mod grammar;
 pub mod laws;
-mod line;
 mod reader;
 mod rules;
 mod spelled;
 mod state;
-mod string;
-mod term;
 #[cfg(test)]
 mod tests;
-mod writable;
 mod writer;
 
 pub use form::{LineForm, Style};

@@ -1,17 +1,22 @@
 // The line that is written for a quad, and the text of a blank node (N-Quads 4).
 
+mod line;
+mod string;
+mod term;
+mod writable;
+
 ghost use Rattle.std.specs.Prelude.{◌≡◌, ◌↔◌, ◌++◌, chars, encode_utf8_all, string_bytes, IfOk, OnErr, OnOk};
 ghost use Rattle.std.specs.Result.{IsErrOf};
 ghost use Rattle.rdf_terms.specs.Views.{node_of, quad_of};
 ghost use Rattle.rdf_lines.specs.Writing.{CanWrite, CanWriteNode, line, node_text, rename_node};
 
 use crate::form::Style;
-use crate::line::put_line;
-use crate::term::mark_and_name;
-use crate::writable::{can_write, can_write_node};
 use itoa::Buffer;
+use line::put_line;
 use rdf_terms::{NodeRef, QuadRef};
 use std::alloc::{AllocError, Allocator};
+use term::mark_and_name;
+use writable::{can_write, can_write_node};
 
 /// Why a quad or a node was not written.
 #[derive(Clone, Copy, PartialEq, Eq, Debug)]
@@ -66,11 +71,8 @@ pub fn label_text<A: Allocator + Copy>(
     }
 }
 
-pub fn joined<A: Allocator + Copy>(
-    alloc: A,
-    first: &str,
-    second: &str,
-) -> Result<String<A>, AllocError>
+// Two texts, one after the other.
+fn joined<A: Allocator + Copy>(alloc: A, first: &str, second: &str) -> Result<String<A>, AllocError>
     ensures { IfOk result (λ text. string_bytes text ≡ first.now ++ second.now) }
 {
     let mut text = String::from_str(alloc, first)?;

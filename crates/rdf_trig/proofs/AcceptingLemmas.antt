@@ -5,6 +5,7 @@ use Rattle.rdf_terms.specs.declared.kind.Kind.TheVariants.{End}
 use Rattle.rdf_terms.specs.declared.reason.Reason.{Reason}
 use Rattle.rdf_terms.specs.declared.reason.Reason.TheVariants as reason
 use Rattle.rdf_terms.specs.Terms.{Quad}
+use Rattle.rdf_terms.specs.Sinks.{Attempts}
 use Rattle.rdf_tokens.specs.Tokens.{Token}
 use Rattle.rdf_tokens.specs.Grammars.{Marked, unmarked, Viable, Due, PassesNone}
 use Rattle.rdf_iri.specs.Scope.{InForce}
@@ -16,19 +17,19 @@ use Rattle.rdf_trig.specs.declared.fault.StepFault.TheVariants as fault
 use Rattle.rdf_trig.specs.declared.state.State.{State as Code}
 use Rattle.rdf_trig.specs.Documents.{documents, Passes}
 use Rattle.rdf_trig.specs.Refusals.{Refusal, RefusedFor, unexpected, too_deep, unbound, no_base, iri_too_long, too_many_bindings}
-use Rattle.rdf_trig.specs.Machine.{Answer, accepts, refuses, accept, at_start}
-use Rattle.rdf_trig.specs.Alike.{RunsTo}
+use Rattle.rdf_trig.specs.Machine.{State, Answer, accepts, refuses, accept, at_start}
+use Rattle.rdf_trig.specs.Alike.{SameState}
 use Rattle.rdf_trig.specs.Steps.{state_of, Accepts, answered, Begins, Fails}
-use Rattle.rdf_trig.specs.TrigRead.{Chosen}
-use Rattle.rdf_trig.specs.Accepting.{TreeAt, reason_of, Blamed, tree_words}
+use Rattle.rdf_trig.specs.Language.{Chosen, Blamed}
+use Rattle.rdf_trig.specs.Accepting.{TreeAt, reason_of, tree_words}
 use Rattle.rdf_trig.proofs.AlikeLemmas.{state_self}
 use Rattle.rdf_trig.proofs.Exact.{due_ran, accepted_document, not_both}
-use Rattle.rdf_trig.proofs.FinishLemmas.{ends_over}
+use Rattle.rdf_trig.proofs.EndLemmas.{ends_over}
 use Rattle.rdf_trig.proofs.LawLemmas.{begins, stops}
 use Rattle.rdf_trig.proofs.Refused.{passes_none}
 use Rattle.rdf_trig.proofs.RunsLemmas.{runs_one, runs_refused, runs_few}
-use Rattle.rdf_trig.proofs.StepLemmas.{does_accept, begins_none}
 
+-- The words of Turtle and TriG keep what the driver asks of a grammar.
 pub lawful : Lawful tree_words
 lawful = record {
   due = λ g x ts qs r. due_ran x.form x.start ts r.2.machine qs r.2.accepted;
@@ -44,13 +45,13 @@ lawful = record {
         let m = r.2.machine in
         accepted_document x.form x.start (ts ++ t ∷ []) m qs r.2.accepted (ends_over x.form ts t (at_start x.start) m qs r.2.accepted k)
 
-    ends : (x : Chosen) (why : Reason) (ts : List Token) (t : Token) → Blamed x why ts t → Viable (documents x.form x.start) (ts ++ t ∷ []) → PassesNone (Passes x.form x.start) (ts ++ t ∷ []) → ⊥
+    ends : (x : Chosen) (why : Reason) (ts : List Token) (t : Token) → Blamed x.form x.start why ts t → Viable (documents x.form x.start) (ts ++ t ∷ []) → PassesNone (Passes x.form x.start) (ts ++ t ∷ []) → ⊥
     ends x why ts t b v n = by why b
       where
         refused : (y : Refusal) → RefusedFor x.form x.start ts t y → ⊥
         refused y b = not_both x.form x.start ts t y b v (n ts [] t refl)
 
-        by : (why : Reason) → Blamed x why ts t → ⊥
+        by : (why : Reason) → Blamed x.form x.start why ts t → ⊥
         by reason.Unexpected b = refused unexpected b
         by reason.TooDeep b = refused too_deep b
         by reason.Unbound b = refused unbound b
@@ -58,6 +59,10 @@ lawful = record {
         by reason.IriTooLong b = refused iri_too_long b
         by reason.TooManyBindings b = refused too_many_bindings b
         by why b = b
+
+-- Before the first token nothing was accepted.
+pub begins_here : (g : TreeAt) (x : Chosen) → g ≡ record { form = x.form; limit = x.start.limits.token; state = at_start x.start } → tree_words.reached g x [] []
+begins_here g x e = subst (λ y. tree_words.reached y x [] []) (sym e) (refl, refl, record { machine = at_start x.start; accepted = refl; same = state_self (at_start x.start) })
 
 -- what a token does by some form
 abbrev answer : DocForm → TreeAt → Token → Answer
@@ -70,24 +75,33 @@ module _ {S : Type 0} (takes : S → Quad → S → Type 0) (g : TreeAt) (t : To
 
   -- The machine accepts: the quads that it gives out were put, and it stands where the reader does.
   pub takes_token : {A : Type 0} (r : Code A) (scope : InForce) (n : ℕ) (old new : S) → Accepts takes g.form (answer g.form g t) old r scope new →
-      ((qs : List Quad) (m : _) → answer g.form g t ≡ accepts qs m → n ≡ length qs) →
+      ((qs : List Quad) (m : State) → answer g.form g t ≡ accepts qs m → n ≡ length qs) →
       Takes tree_words takes g t n old (record { form = g.form; limit = g.limit; state = state_of g.form scope r }) new
-  takes_token r scope n old new h count =
-      let d = does_accept takes g.form (answer g.form g t) old new r scope h in
-      let quads = answered (answer g.form g t) in
-      record {
-        more = quads;
-        count = count quads d.machine d.accepted;
-        puts = d.puts;
-        limit = refl;
-        reached = λ x ts qs reached. (
-          reached.0,
-          reached.1,
-          runs_one x.form x.start ts t qs quads g.state d.machine (state_of g.form scope r) reached.2 (by_form x (accepts quads d.machine) reached.0 d.accepted) d.same,
-        );
-      }
+  takes_token r scope n old new h count = by (answer g.form g t) refl h
+    where
+      by : (a : Answer) → answer g.form g t ≡ a → Accepts takes g.form a old r scope new →
+          Takes tree_words takes g t n old (record { form = g.form; limit = g.limit; state = state_of g.form scope r }) new
+      by (refuses y) e h = absurd h
+      by (accepts quads m) e h =
+          let now = state_of g.form scope r in
+          let same : SameState m now = subst (λ y. SameState y now) (sym h.1.2) (record { scope = h.1.1; graph = refl; mode = refl; held = refl }) in
+          record {
+            more = quads;
+            count = count quads m e;
+            puts = h.0;
+            limit = refl;
+            reached = λ x ts qs reached. (reached.0, reached.1, runs_one x.form x.start ts t qs quads g.state m now reached.2 (by_form x (accepts quads m) reached.0 e) same);
+          }
 
   module _ (leaves : S → Quad → S → Type 0) (failed : S → Bool) (old new : S) where
+    -- a beginning of no quads
+    begins_none : Begins takes leaves [] old new → new ≡ old
+    begins_none h = by h.0 h.1 h.2 h.3
+      where
+        by : (front back : List Quad) → [] ≡ front ++ back → Attempts takes leaves old front new → new ≡ old
+        by [] back e t = t
+        by (q ∷ front) back e t = absurd (let z : [] ≡ q ∷ (front ++ back) = e in cc)
+
     -- Nothing was put, and nothing is due but what was due before.
     nothing : new ≡ old → GivesUp tree_words takes leaves g t old new
     nothing same = record {
@@ -104,7 +118,7 @@ module _ {S : Type 0} (takes : S → Quad → S → Type 0) (g : TreeAt) (t : To
     tried h = by (answer g.form g t) refl h
       where
         by : (a : Answer) → answer g.form g t ≡ a → Begins takes leaves (answered a) old new → GivesUp tree_words takes leaves g t old new
-        by (refuses y) e h = nothing (begins_none takes leaves failed old new h)
+        by (refuses y) e h = nothing (begins_none h)
         by (accepts all n) e h = record {
           more = h.0;
           puts = h.3;
@@ -118,7 +132,7 @@ module _ {S : Type 0} (takes : S → Quad → S → Type 0) (g : TreeAt) (t : To
 
     -- The machine refuses, and nothing was put.
     refused : (why : Reason) (y : Refusal) → (answer g.form g t ≡ refuses y) × (new ≡ old) →
-        ((x : Chosen) (ts : List Token) → RefusedFor x.form x.start ts t y → Blamed x why ts t) → Blames tree_words why g t old new
+        ((x : Chosen) (ts : List Token) → RefusedFor x.form x.start ts t y → Blamed x.form x.start why ts t) → Blames tree_words why g t old new
     refused why y f is = record {
       sink = f.1;
       blames = λ x ts qs r.
@@ -126,6 +140,7 @@ module _ {S : Type 0} (takes : S → Quad → S → Type 0) (g : TreeAt) (t : To
           (stops x.form x.start ts t [] r.2.machine qs y r.2.accepted (runs_refused x.form x.start ts t qs g.state y r.2 (by_form x (refuses y) r.0 f.0))).reason;
     }
 
+    -- The step fails for its reason, as the driver asks.
     pub misses_token : (why : StepFault) → Fails takes leaves failed why (answer g.form g t) old new → Misses tree_words takes leaves failed (reason_of why) g t old new
     misses_token fault.Unexpected f = refused reason.Unexpected unexpected f (λ x ts h. h)
     misses_token fault.TooDeep f = refused reason.TooDeep too_deep f (λ x ts h. h)

@@ -17,19 +17,10 @@ pub mod LawLemmas
 pub mod Vectors
 pub mod LawExamples
 pub mod ScopeLemmas
-pub mod ReadingsLemmas
 pub mod Runs
 pub mod AlikeLemmas
 pub mod FewLemmas
 pub mod RunsLemmas
-pub mod ReadingLemmas
-pub mod ReachedLemmas
-pub mod FailsLemmas
-pub mod RefusedLemmas
-pub mod FeedsLemmas
-pub mod FinishLemmas
-pub mod NewLemmas
-pub mod PromiseLemmas
 pub mod ReadersLemmas
 pub mod ReadExamples
 pub mod Stack
@@ -43,7 +34,7 @@ pub mod LocalShapes
 pub mod MachineLaws
 pub mod SameScopes
 pub mod AcceptLemmas
-pub mod StepLemmas
 pub mod NewReaderLemmas
 pub mod WholeLemmas
-mod AcceptingLemmas
+pub mod EndLemmas
+pub mod AcceptingLemmas

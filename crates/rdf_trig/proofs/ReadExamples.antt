@@ -4,6 +4,7 @@ use Rattle.std.specs.Prelude.{codes}
 use Rattle.std.proofs.Math.Utf8.{encode}
 use Rattle.std.specs.Str.{chars, is_utf8}
 use Rattle.std.specs.Str.Lossy.{utf8_valid_len, utf8_error_len}
+use Rattle.rdf_terms.specs.declared.kind.Dialect.TheVariants.{Turtle as turtle}
 use Rattle.rdf_terms.specs.declared.kind.Kind.TheVariants.{IriRef, Dot, End}
 use Rattle.rdf_terms.specs.declared.reason.Reason.{Reason}
 use Rattle.rdf_terms.specs.declared.reason.Reason.TheVariants.{Unexpected}
@@ -15,7 +16,8 @@ use Rattle.rdf_terms.specs.Terms as term
 use Rattle.rdf_tokens.specs.Tokens.{Place, Token, step, read, tokens}
 use Rattle.rdf_tokens.specs.Tokens.Outcome.{complete, token_too_long}
 use Rattle.rdf_tokens.specs.Good.{tokens_of}
-use Rattle.rdf_tokens.specs.Grammars.{Due, PassesNone}
+use Rattle.rdf_tokens.specs.Grammars.{Due, PassesNone, IsFront, Language, reading_of, IsDocumentOf, IsWithin, GoesOn, Refused, IsReadToItsEnd}
+use Rattle.rdf_driver.specs.Readers.{HasRead}
 use Rattle.rdf_iri.specs.Scope.{InForce}
 use Rattle.rdf_iri.specs.Resolve.{resolved}
 use Rattle.rdf_lines.specs.Lines.{token}
@@ -25,19 +27,21 @@ use Rattle.rdf_trig.specs.Quads.{in_default}
 use Rattle.rdf_trig.specs.Documents.{documents, Passes}
 use Rattle.rdf_trig.specs.Refusals.{unexpected}
 use Rattle.rdf_trig.specs.Machine.{Top, Statement, Start, Over, WantVerb, State, at_start, ran, accept_all}
-use Rattle.rdf_trig.specs.Readings.{reading, IsDocumentOf, IsWithin}
-use Rattle.rdf_trig.specs.TrigRead.{TrigRead}
-use Rattle.rdf_trig.specs.Readers.{GoesOn, Refused, HasRead}
-use Rattle.rdf_trig.specs.Laws.{Stops, IsReadToItsEnd}
+use Rattle.rdf_trig.specs.Language.{language}
+use Rattle.rdf_trig.specs.Accepting.{TrigRead, tree_words}
+use Rattle.rdf_trig.specs.Laws.{Stops}
 use Rattle.rdf_trig.proofs.Vectors.{leaf, quad}
 use Rattle.rdf_trig.proofs.LawLemmas.{begins, stops}
 use Rattle.rdf_trig.proofs.Exact.{accepted_document, same_due, due_ran}
-use Rattle.rdf_trig.proofs.ReadingsLemmas.{document_complete}
+use Rattle.rdf_trig.proofs.EndLemmas.{document_complete}
 use Rattle.rdf_trig.proofs.ReadersLemmas.{quads_due, documents_read, refused_no_document}
 
 -- no base, no bindings, and small limits
 abbrev small : InForce
 small = record { base = None; bindings = []; limits = record { token = 8; depth = 1; bindings = 1; iri = 8 } }
+
+abbrev in_turtle : Language
+in_turtle = language Turtle small
 
 abbrev at_rest : State
 at_rest = record { setting = in_default small; mode = Start; held = [] }
@@ -59,11 +63,11 @@ all_tokens = triple_tokens ++ token End (leaf [] 16 2) ∷ []
 abbrev triple_quads : List Quad
 triple_quads = quad (term.Iri (codes "a:")) (codes "a:") (Resource (term.Iri (codes "a:"))) None ∷ []
 
-tokens_so_far : (reading small triple false).tokens ≡ triple_tokens
+tokens_so_far : (reading_of in_turtle triple false).tokens ≡ triple_tokens
 unfolding tokens_of tokens read step kind_of is_live shape has chars utf8_valid_len utf8_error_len is_utf8 encode is_fit
 tokens_so_far = refl
 
-tokens_at_the_end : (reading small triple true).tokens ≡ all_tokens
+tokens_at_the_end : (reading_of in_turtle triple true).tokens ≡ all_tokens
 unfolding tokens_of tokens read step kind_of is_live shape has chars utf8_valid_len utf8_error_len is_utf8 encode is_fit
 tokens_at_the_end = refl
 
@@ -75,37 +79,37 @@ all_ran : accept_all Turtle (at_start small) all_tokens ≡ ran over triple_quad
 unfolding reference_in name_in resolved is_full has encode
 all_ran = refl
 
-triple_is : IsDocumentOf Turtle small triple triple_quads
+triple_is : IsDocumentOf in_turtle triple triple_quads
 triple_is =
     let d = accepted_document Turtle small all_tokens over triple_quads all_ran refl in
     let here = subst (λ ts. documents Turtle small ts d.0) (sym tokens_at_the_end) d.1 in
-    (document_complete Turtle small triple true d.0 here, d.0, here, d.2)
+    (document_complete Turtle small small.limits.token triple true d.0 here, d.0, here, d.2)
 
-within : IsWithin Turtle small triple
+within : IsWithin in_turtle triple
 within = record {
   tokens = λ v e. let z : complete ≡ token_too_long = sym triple_is.0 ∙ e in cc;
   limits = subst (PassesNone (Passes Turtle small)) (sym tokens_at_the_end) (begins Turtle small all_tokens over triple_quads all_ran).front.kept;
   size = lit≤ tt;
 }
 
-pub triple_is_read : IsReadToItsEnd Turtle small triple
+pub triple_is_read : IsReadToItsEnd in_turtle triple
 triple_is_read = documents_read Turtle small triple triple_quads triple_is within
 
-pub half_goes_on : GoesOn Turtle small (codes "<a:> <a")
+pub half_goes_on : GoesOn in_turtle (codes "<a:> <a")
 half_goes_on = triple_is_read.fronts (codes "<a:> <a") (codes ":> <a:>.\n") refl
 
-pub triple_is_not_refused : (reason : Reason) (at : Place) → Refused Turtle small triple true reason at → ⊥
+pub triple_is_not_refused : (reason : Reason) (at : Place) → Refused in_turtle triple true reason at → ⊥
 triple_is_not_refused reason at x = refused_no_document Turtle small triple triple_quads reason at x triple_is within
 
 -- a reader that has read it has put its quad, and no other
-pub triple_is_put : (r : TrigRead) (quads : List Quad) → r.form ≡ Turtle → HasRead r small triple quads → quads ≡ triple_quads
-triple_is_put r quads f h =
-    let due = (quads_due r small triple quads h).1 in
+pub triple_is_put : (r : TrigRead) (quads : List Quad) → r.scanner.limit ≡ small.limits.token → HasRead tree_words r (record { form = Turtle; start = small }) triple quads → quads ≡ triple_quads
+triple_is_put r quads limit h =
+    let due = (quads_due r (record { form = Turtle; start = small }) triple quads h).1 in
     let here : Due (documents Turtle small) triple_tokens quads =
-    subst (λ ts. Due (documents Turtle small) ts quads) tokens_so_far (subst (λ x. Due (documents x small) (reading small triple false).tokens quads) f due) in
+    subst (λ ts. Due (documents Turtle small) ts quads) tokens_so_far (subst (λ n. Due (documents Turtle small) (tokens_of turtle n triple false).tokens quads) limit due) in
     same_due Turtle small triple_tokens quads triple_quads here (due_ran Turtle small triple_tokens at_rest triple_quads triple_ran)
 
--- A dot behind a subject is refused, so these bytes are no document of any quads.
+-- A dot after a subject is refused, so these bytes are no document of any quads.
 abbrev subject : List ℕ
 subject = codes "<a:>.\n"
 
@@ -118,7 +122,7 @@ dot = token Dot (leaf (codes ".") 4 1)
 abbrev behind_dot : List Token
 behind_dot = token End (leaf [] 6 2) ∷ []
 
-subject_tokens : (reading small subject true).tokens ≡ subject_token ∷ dot ∷ behind_dot
+subject_tokens : (reading_of in_turtle subject true).tokens ≡ subject_token ∷ dot ∷ behind_dot
 unfolding tokens_of tokens read step kind_of is_live shape has chars utf8_valid_len utf8_error_len is_utf8 encode is_fit
 subject_tokens = refl
 
@@ -132,7 +136,7 @@ subject_ran = refl
 dot_stops : Stops Turtle small (subject_token ∷ []) dot behind_dot unexpected
 dot_stops = stops Turtle small (subject_token ∷ []) dot behind_dot behind_subject [] unexpected subject_ran refl
 
-dot_is_refused : Refused Turtle small subject true Unexpected (record { offset = 4; line = 1 })
+dot_is_refused : Refused in_turtle subject true Unexpected (record { offset = 4; line = 1 })
 dot_is_refused = (
   subject_token ∷ [],
   record {
@@ -140,11 +144,10 @@ dot_is_refused = (
     behind = behind_dot;
     tokens = subject_tokens;
     place = refl;
-    viable = dot_stops.front.viable;
-    kept = dot_stops.front.kept;
+    front = subst (λ ts. IsFront (documents Turtle small) (Passes Turtle small) ts (subject_token ∷ [])) (sym subject_tokens) dot_stops.front;
     because = dot_stops.reason;
   },
 )
 
-pub subject_is_no_document : (quads : List Quad) → IsDocumentOf Turtle small subject quads → IsWithin Turtle small subject → ⊥
+pub subject_is_no_document : (quads : List Quad) → IsDocumentOf in_turtle subject quads → IsWithin in_turtle subject → ⊥
 subject_is_no_document quads d w = refused_no_document Turtle small subject quads Unexpected (record { offset = 4; line = 1 }) dot_is_refused d w

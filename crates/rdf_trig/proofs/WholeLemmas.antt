@@ -6,43 +6,51 @@ use Rattle.rdf_terms.specs.declared.reason.Reason.TheVariants.{DocumentTooLong, 
 use Rattle.rdf_terms.specs.Terms.{Quad}
 use Rattle.rdf_terms.specs.Sinks.{Appends}
 use Rattle.rdf_tokens.specs.Tokens.{Place}
-use Rattle.rdf_iri.specs.Scope.{InForce}
-use Rattle.rdf_lines.specs.declared.fault.Summary.{Summary}
-use Rattle.rdf_trig.specs.Readings.{reading, IsDocumentOf}
-use Rattle.rdf_trig.specs.TrigRead.{TrigRead}
-use Rattle.rdf_trig.specs.Readers.{HasRead, RefusedIn, IsWhole, Feeds, FeedFails, Finishes, FinishFails, NotRead}
-use Rattle.rdf_trig.proofs.RefusedLemmas.{refused_in_more}
+use Rattle.rdf_tokens.specs.Grammars.{Language, reading_of, IsDocumentOf, IsWhole, RefusedIn}
+use Rattle.rdf_tokens.proofs.LanguageLemmas.{refused_in_more}
+use Rattle.rdf_driver.specs.declared.summary.Summary.{Summary}
+use Rattle.rdf_driver.specs.Words.{Words, Lawful, in_words}
+use Rattle.rdf_driver.specs.Readers.{Driven, HasRead, Feeds, FeedFails, Finishes, FinishFails}
+use Rattle.rdf_trig.specs.ReadWhole.{NotRead}
 
 -- what puts do to a list
 abbrev pub Puts : List Quad → Quad → List Quad → Type 0
 Puts before quad after = after ≡ before ++ quad ∷ []
 
+-- Puts of some quads leave the list with them at its end.
 pub put_all : (before qs after : List Quad) → Appends Puts before qs after → after ≡ before ++ qs
 put_all before [] after e = e ∙ sym (append-nil before)
 put_all before (q ∷ qs) after h = put_all h.0 qs after h.2 ∙ (ap (λ x. x ++ qs) h.1 ∙ append_assoc before (q ∷ []) qs)
 
-module _ (leaves : List Quad → Quad → List Quad → Type 0) (old : TrigRead) (running : old.done ≡ false) (start : InForce) (h : HasRead old start [] []) (bytes : List ℕ) where
-  pub not_fed : (reason : Reason) (at : Place) (new : TrigRead) (before after : List Quad) → FeedFails Puts leaves (λ x. false) reason at old before bytes new after → NotRead old.form start bytes reason at
-  not_fed Memory at new before after x = tt
-  not_fed DocumentTooLong at new before after x = x.1 start [] [] h
-  not_fed Ended at new before after x = absurd (let z : true ≡ false = sym x.0 ∙ running in cc)
-  not_fed Sink at new before after x = absurd (let z : false ≡ true = x.1 in cc)
-  not_fed reason at new before after x =
-      let r = x.refused start [] [] h in
-      (r.0, subst (λ w. RefusedIn old.form start (reading start w true) reason at r.0) (append-nil bytes) (refused_in_more old.form start bytes [] true reason at r.0 r.1))
+module _ {G X : Type 0} (w : Words G X) (law : Lawful w) (leaves : List Quad → Quad → List Quad → Type 0) (old : Driven G) (running : old.done ≡ false) (x : X) (h : HasRead w old x [] []) (bytes : List ℕ) where
+  -- the language that the reader reads
+  abbrev lang : Language
+  lang = in_words w x old.scanner.limit
 
-  module _ (mid : TrigRead) (going : mid.done ≡ false) (one two : List Quad) (empty : one ≡ []) (fed : Feeds Puts old one bytes mid two) where
-    pub not_finished : (reason : Reason) (at : Place) (new : TrigRead) (after : List Quad) → FinishFails Puts leaves (λ x. false) reason at mid two new after → NotRead old.form start bytes reason at
-    not_finished Memory at new after x = tt
-    not_finished DocumentTooLong at new after x = absurd (x.refused start bytes fed.more (fed.read start [] [] h)).1
-    not_finished Ended at new after x = absurd (let z : true ≡ false = sym x.0 ∙ going in cc)
-    not_finished Sink at new after x = absurd (let z : false ≡ true = x.1 in cc)
-    not_finished reason at new after x =
-        let r = x.refused start bytes fed.more (fed.read start [] [] h) in
-        (r.0, subst (λ f. RefusedIn f start (reading start bytes true) reason at r.0) fed.same.form r.1)
+  -- What fails in the only piece fails for the whole bytes: more bytes, or the end, change nothing of a refusal.
+  pub not_fed : (reason : Reason) (at : Place) (new : Driven G) (before after : List Quad) → FeedFails w Puts leaves (λ y. false) reason at old before bytes new after → NotRead lang bytes reason at
+  not_fed Memory at new before after y = tt
+  not_fed DocumentTooLong at new before after y = y.1 x [] [] h
+  not_fed Ended at new before after y = absurd (let z : true ≡ false = sym y.0 ∙ running in cc)
+  not_fed Sink at new before after y = absurd (let z : false ≡ true = y.1 in cc)
+  not_fed reason at new before after y =
+      let r = y.refused x [] [] h in
+      (r.0, subst (λ v. RefusedIn lang (reading_of lang v true) reason at r.0) (append-nil bytes) (refused_in_more lang (law.ends x) bytes [] true reason at r.0 r.1))
 
-    pub whole_read : (summary : Summary) (three : List Quad) → Finishes Puts mid two summary three → IsDocumentOf old.form start bytes three × IsWhole old.form start bytes
+  module _ (mid : Driven G) (going : mid.done ≡ false) (one two : List Quad) (empty : one ≡ []) (fed : Feeds w Puts old one bytes mid two) where
+    -- What fails at the end fails for the whole bytes.
+    pub not_finished : (reason : Reason) (at : Place) (new : Driven G) (after : List Quad) → FinishFails w Puts leaves (λ y. false) reason at mid two new after → NotRead lang bytes reason at
+    not_finished Memory at new after y = tt
+    not_finished DocumentTooLong at new after y = absurd (y.refused x bytes fed.more (fed.read x [] [] h)).1
+    not_finished Ended at new after y = absurd (let z : true ≡ false = sym y.0 ∙ going in cc)
+    not_finished Sink at new after y = absurd (let z : false ≡ true = y.1 in cc)
+    not_finished reason at new after y =
+        let r = y.refused x bytes fed.more (fed.read x [] [] h) in
+        (r.0, subst (λ n. RefusedIn (in_words w x n) (reading_of (in_words w x n) bytes true) reason at r.0) fed.limit r.1)
+
+    -- A list that was empty has the quads of the document.
+    pub whole_read : (summary : Summary) (three : List Quad) → Finishes w Puts mid two summary three → IsDocumentOf lang bytes three × IsWhole lang bytes
     whole_read summary three f =
-        let s = f.read start bytes fed.more (fed.read start [] [] h) in
-        let quads : three ≡ fed.more ++ f.more = put_all two f.more three f.puts ∙ ap (λ x. x ++ f.more) (put_all one fed.more two fed.puts ∙ ap (λ x. x ++ fed.more) empty) in
-        (subst (IsDocumentOf old.form start bytes) (sym quads) (subst (λ x. IsDocumentOf x start bytes (fed.more ++ f.more)) fed.same.form s.document), subst (λ x. IsWhole x start bytes) fed.same.form s.whole)
+        let s = f.read x bytes fed.more (fed.read x [] [] h) in
+        let quads : three ≡ fed.more ++ f.more = put_all two f.more three f.puts ∙ ap (λ y. y ++ f.more) (put_all one fed.more two fed.puts ∙ ap (λ y. y ++ fed.more) empty) in
+        (subst (IsDocumentOf lang bytes) (sym quads) (subst (λ n. IsDocumentOf (in_words w x n) bytes (fed.more ++ f.more)) fed.limit s.document), subst (λ n. IsWhole (in_words w x n) bytes) fed.limit s.whole)

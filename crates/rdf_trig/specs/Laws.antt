@@ -6,7 +6,9 @@ use Rattle.rdf_terms.specs.declared.kind.Kind.TheVariants.{IriRef, PnameNs, Dot,
 use Rattle.rdf_terms.specs.declared.reason.Reason.{Reason}
 use Rattle.rdf_terms.specs.Terms.{Quad, has_scheme}
 use Rattle.rdf_tokens.specs.Tokens.{Place, Token}
-use Rattle.rdf_tokens.specs.Grammars.{Marked, unmarked, Viable, Shaped, Due, PassesNone, IsFront}
+use Rattle.rdf_tokens.specs.Grammars.{Marked, unmarked, Viable, Shaped, Due, PassesNone, IsFront, reading_of, IsDocumentOf, IsWithin, GoesOn, Refused, IsReadToItsEnd}
+use Rattle.rdf_driver.specs.Words.{in_words}
+use Rattle.rdf_driver.specs.Readers.{HasRead}
 use Rattle.rdf_iri.specs.Scope.{InForce, bound_to, Binds}
 use Rattle.rdf_lines.specs.Lines.{Leaf, leaf_of, iri_of}
 use Rattle.rdf_trig.specs.declared.form.DocForm.{DocForm}
@@ -17,9 +19,8 @@ use Rattle.rdf_trig.specs.Events.{Use, tokens, marked, document_events, BoundFro
 use Rattle.rdf_trig.specs.Documents.{documents, trees, InTree, Passes}
 use Rattle.rdf_trig.specs.Refusals.{Refusal, RefusedFor}
 use Rattle.rdf_trig.specs.Machine.{Over, State, refuses, accept, at_start, ran, accept_all}
-use Rattle.rdf_trig.specs.Readings.{reading, IsDocumentOf, IsWithin}
-use Rattle.rdf_trig.specs.TrigRead.{TrigRead}
-use Rattle.rdf_trig.specs.Readers.{GoesOn, IsWhole, Refused, HasRead}
+use Rattle.rdf_trig.specs.Language.{Chosen, language}
+use Rattle.rdf_trig.specs.Accepting.{TrigRead, tree_words}
 
 -- The events of a tree have the tokens that it derives, and its quads with their marks.
 abbrev pub EventsTellTheTree : Type 0
@@ -131,21 +132,18 @@ abbrev pub RefusedForItsReason : Type 0
 RefusedForItsReason = (form : DocForm) (start : InForce) (ts : List Token) (t : Token) (more : List Token) (s : State) (qs : List Quad) (x : Refusal) → accept_all form (at_start start) ts ≡ ran s qs →
     accept form s t.kind (leaf_of t) ≡ refuses x → Stops form start ts t more x
 
--- What a reader has read decides tokens that are all in the front, leaves the next one open, and the quads that were put are due behind them.
+-- What a reader has read decides tokens that are all in the front, leaves the next one open, and the quads that were put are due after them.
 abbrev pub ReadQuadsAreDue : Type 0
-ReadQuadsAreDue = (r : TrigRead) (start : InForce) (bytes : List ℕ) (quads : List Quad) → HasRead r start bytes quads →
-    GoesOn r.form start bytes × Due (documents r.form start) (reading start bytes false).tokens quads
+ReadQuadsAreDue = (r : TrigRead) (x : Chosen) (bytes : List ℕ) (quads : List Quad) → HasRead tree_words r x bytes quads →
+    let l = in_words tree_words x r.scanner.limit in
+    GoesOn l bytes × Due (documents x.form x.start) (reading_of l bytes false).tokens quads
 
--- The bytes are read to their end, and each beginning of them goes on: no reader refuses them, however they are cut.
-pub record IsReadToItsEnd (form : DocForm) (start : InForce) (bytes : List ℕ) : Type 0 where
-  pub whole : IsWhole form start bytes
-  pub fronts : (front rest : List ℕ) → bytes ≡ front ++ rest → GoesOn form start front
-
+-- A document within the limits is read to its end, however it is cut.
 abbrev pub DocumentsAreRead : Type 0
-DocumentsAreRead = (form : DocForm) (start : InForce) (bytes : List ℕ) (quads : List Quad) → IsDocumentOf form start bytes quads → IsWithin form start bytes →
-    IsReadToItsEnd form start bytes
+DocumentsAreRead = (form : DocForm) (start : InForce) (bytes : List ℕ) (quads : List Quad) → IsDocumentOf (language form start) bytes quads → IsWithin (language form start) bytes →
+    IsReadToItsEnd (language form start) bytes
 
 -- What is refused is no document within the limits.
 abbrev pub RefusedIsNoDocument : Type 0
-RefusedIsNoDocument = (form : DocForm) (start : InForce) (bytes : List ℕ) (quads : List Quad) (reason : Reason) (at : Place) → Refused form start bytes true reason at →
-    IsDocumentOf form start bytes quads → IsWithin form start bytes → ⊥
+RefusedIsNoDocument = (form : DocForm) (start : InForce) (bytes : List ℕ) (quads : List Quad) (reason : Reason) (at : Place) → Refused (language form start) bytes true reason at →
+    IsDocumentOf (language form start) bytes quads → IsWithin (language form start) bytes → ⊥

@@ -7,15 +7,12 @@ pub mod Owed
 pub mod Refusals
 pub mod Machine
 pub mod Laws
-pub mod Readings
 pub mod Alike
-pub mod TrigRead
-pub mod Readers
-pub mod Reading
 pub mod States
 pub mod Spelled
 pub mod Steps
 pub mod Scopes
-pub mod Read
 pub mod Coded
+pub mod Language
 pub mod Accepting
+pub mod ReadWhole

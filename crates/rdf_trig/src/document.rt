@@ -1,11 +1,14 @@
 // A document as a whole.
 
 ghost use Rattle.std.specs.Prelude.{◌≡◌, [], false};
-ghost use Rattle.rdf_iri.specs.Scope.{InForce};
-ghost use Rattle.rdf_trig.specs.Readers.{HasRead, ReadsWhole};
+ghost use Rattle.rdf_driver.specs.Words.{in_words};
+ghost use Rattle.rdf_driver.specs.Readers.{HasRead};
+ghost use Rattle.rdf_trig.specs.Language.{Chosen, language};
+ghost use Rattle.rdf_trig.specs.Accepting.{tree_words};
+ghost use Rattle.rdf_trig.specs.ReadWhole.{ReadsWhole};
 
 use crate::reader::{Options, TrigReader};
-use rdf_lines::Fault;
+use rdf_driver::Fault;
 use rdf_terms::QuadList;
 use std::alloc::Allocator;
 
@@ -16,7 +19,7 @@ fn read_all<A: Allocator + Copy>(
 ) -> Result<(), Fault>
     requires running { reader.old.done ≡ false }
     requires empty { list.old ≡ [] }
-    ensures { (start : InForce) → HasRead reader.old start [] [] → ReadsWhole reader.old.form start bytes.now (λ _. list.new) result }
+    ensures { (x : Chosen) → HasRead tree_words reader.old x [] [] → ReadsWhole (in_words tree_words x reader.old.scanner.limit) bytes.now (λ _. list.new) result }
 {
     match reader.feed(bytes, list) {
         Err(fault) => Err(fault),
@@ -33,7 +36,7 @@ pub fn read_document<A: Allocator + Copy>(
     options: Options<A>,
     bytes: &[u8],
 ) -> Result<QuadList<A>, Fault>
-    ensures { ReadsWhole options.form options.start bytes.now (λ quads. quads) result }
+    ensures { ReadsWhole (language options.form options.start) bytes.now (λ quads. quads) result }
 {
     let mut list = QuadList::new(alloc);
     let mut reader = TrigReader::new(alloc, options);

@@ -1,19 +1,20 @@
 // The reader of Turtle and TriG.
 
-ghost use Rattle.std.specs.Prelude.{◌≡◌, ◌≤◌, ◌<◌, ◌++◌, ℕ, List, [], true, false, not, is_ok, OnOk, OnErr, IfOk, IfErr, SomeIff, MatchOption};
-ghost use Rattle.rdf_tokens.specs.Scans.{most_bytes};
+ghost use Rattle.std.specs.Prelude.{◌≡◌, ◌≤◌, ◌++◌, ℕ, List, [], true, false, not, is_ok, OnOk, IfOk, IfErr, SomeIff};
 ghost use Rattle.rdf_terms.specs.Terms.{Quad};
+ghost use Rattle.rdf_tokens.specs.Scans.{most_bytes, place_of};
+ghost use Rattle.rdf_tokens.specs.Grammars.{GoesOn, IsWhole};
+ghost use Rattle.rdf_driver.specs.Words.{in_words};
+ghost use Rattle.rdf_driver.specs.Readers.{HasRead, Feeds, FeedFails, Finishes, FinishFails, Exactly, IsPlaced};
 ghost use Rattle.rdf_iri.specs.Scope.{InForce, BaseFits};
-ghost use Rattle.rdf_trig.specs.TrigRead.{Chosen};
-ghost use Rattle.rdf_trig.specs.Readers.{GoesOn, IsWhole, HasRead, Feeds, FeedFails, Finishes, FinishFails, Exactly, IsPlaced, place_of};
+ghost use Rattle.rdf_trig.specs.Language.{Chosen};
+ghost use Rattle.rdf_trig.specs.Accepting.{tree_words};
 
 use crate::form::DocForm;
-use crate::reading::{Progress, read_end, read_piece};
-use crate::rules::Rules;
+use crate::grammar::TreeGrammar;
+use rdf_driver::{Fault, Reader, Summary};
 use rdf_iri::Limits;
-use rdf_lines::{Fault, Summary};
-use rdf_terms::{Iri, QuadSink, Reason};
-use rdf_tokens::{Dialect, Scanner};
+use rdf_terms::{Iri, QuadSink};
 use std::alloc::{Allocator, Global};
 use std::marker::Model;
 
@@ -28,7 +29,7 @@ pub struct Options<A: Allocator = Global> {
 impl<A: Allocator> Model for Options<A> {
     ghost use Rattle.std.specs.Prelude.{[]};
     ghost use Rattle.rdf_iri.specs.Scope.{BaseFits};
-    ghost use Rattle.rdf_trig.specs.TrigRead.{Chosen};
+    ghost use Rattle.rdf_trig.specs.Language.{Chosen};
 
     ghost Value = { Chosen };
 
@@ -64,22 +65,16 @@ impl<A: Allocator> Options<A> {
 
 /// Reads Turtle or TriG, in pieces of any lengths, and puts the quads into sinks.
 ///
-/// A quad is put when the token behind its head is accepted. `feed` accepts all tokens that the bytes so far decide.
-/// The first token that no document can have there is refused, at its place. After a fault, and after `finish`, each
+/// A quad is put when the token after its head is accepted. `feed` accepts all tokens that the bytes so far decide.
+/// The first token that no document can have there is refused, at its place. After an error, and after `finish`, each
 /// call answers `Ended`. No tree and no list of tokens is built: what is held is what is open.
 #[derive(Drop)]
-pub struct TrigReader<A: Allocator = Global> {
-    alloc: A,
-    rules: Rules,
-    scanner: Scanner<A>,
-    progress: Progress<A>,
-    done: bool,
+pub struct TrigReader<A: Allocator + Copy = Global> {
+    reader: Reader<TreeGrammar<A>, A>,
 }
 
-impl<A: Allocator> Model for TrigReader<A> {
-    ghost use Rattle.std.specs.Prelude.{◌≡◌, false};
-    ghost use Rattle.rdf_trig.specs.TrigRead.{TrigRead};
-    ghost use Rattle.rdf_trig.specs.Read.{IsGoing, state_in};
+impl<A: Allocator + Copy> Model for TrigReader<A> {
+    ghost use Rattle.rdf_trig.specs.Accepting.{TrigRead};
     ghost use Rattle.rdf_trig.specs.Coded.{up_code, around_code, place_code};
     ghost use Rattle.std.specs.Coded.{codes};
 
@@ -87,96 +82,58 @@ impl<A: Allocator> Model for TrigReader<A> {
 
     ghost coded = { Prim.hlevel (codes, up_code, around_code, place_code) };
 
-    ghost view = { λ r. record {
-      scanner = r.scanner;
-      form = r.rules.form;
-      state = state_in r.rules.form r.progress;
-      so_far = r.progress.so_far;
-      done = r.done;
-    } };
+    ghost view = { λ r. r.reader };
+}
 
-    ghost invariant = { λ r. r.done ≡ false → IsGoing r.scanner r.rules r.progress };
+/// A reader of any grammar, for Turtle or TriG. It has read nothing.
+pub fn tree_reader<A: Allocator + Copy>(alloc: A, options: Options<A>) -> Reader<TreeGrammar<A>, A>
+    ensures read { HasRead tree_words result options [] [] }
+    ensures form { result.grammar.form ≡ options.form }
+    ensures token { result.scanner.limit ≡ options.start.limits.token }
+{
+    let Options { form, base, limits } = options;
+    Reader::new(
+        alloc,
+        TreeGrammar::new(alloc, form, base, limits),
+        limits.token(),
+    )
 }
 
 impl<A: Allocator + Copy> TrigReader<A> {
     /// A reader that has read nothing. It takes no memory.
     pub fn new(alloc: A, options: Options<A>) -> TrigReader<A>
-        ensures read { HasRead result options.start [] [] }
-        ensures form { result.form ≡ options.form }
+        ensures read { HasRead tree_words result options [] [] }
+        ensures form { result.grammar.form ≡ options.form }
+        ensures token { result.scanner.limit ≡ options.start.limits.token }
     {
-        let Options { form, base, limits } = options;
         TrigReader {
-            alloc,
-            rules: Rules { form, limits },
-            scanner: Scanner::new(alloc, Dialect::Turtle, limits.token()),
-            progress: Progress::new(alloc, base, limits),
-            done: false,
+            reader: tree_reader(alloc, options),
         }
     }
 
-    /// Reads a piece of the document. The sink keeps the quads that were put before a fault.
+    /// Reads a piece of the document. The sink keeps the quads that were put before an error.
     pub fn feed<S: QuadSink>(&mut self, piece: &[u8], sink: &mut S) -> Result<(), Fault>
         requires { self.old.done ≡ false → S.has_failed sink.old ≡ false }
-        ensures ok { OnOk result (Feeds S.takes self.old sink.old piece.now self.new sink.new) }
+        ensures ok { OnOk result (Feeds tree_words S.takes self.old sink.old piece.now self.new sink.new) }
         ensures few { OnOk result (self.new.scanner.taken.offset ≤ most_bytes) }
         ensures live { OnOk result (S.has_failed sink.new ≡ false) }
-        ensures err { IfErr result (λ f. FeedFails S.takes S.leaves S.has_failed f.reason (place_of f) self.old sink.old piece.now self.new sink.new) }
-        ensures exact { (start : InForce) (bytes : List ℕ) (quads : List Quad) → HasRead self.old start bytes quads → Exactly result (GoesOn self.old.form start (bytes ++ piece.now)) }
-        ensures place { IfErr result (λ f. (start : InForce) (bytes : List ℕ) (quads : List Quad) → HasRead self.old start bytes quads → IsPlaced f.reason (bytes ++ piece.now) (place_of f)) }
+        ensures err { IfErr result (λ f. FeedFails tree_words S.takes S.leaves S.has_failed f.reason (place_of f) self.old sink.old piece.now self.new sink.new) }
+        ensures exact { (x : Chosen) (bytes : List ℕ) (quads : List Quad) → HasRead tree_words self.old x bytes quads → Exactly result (GoesOn (in_words tree_words x self.old.scanner.limit) (bytes ++ piece.now)) }
+        ensures place { IfErr result (λ f. (x : Chosen) (bytes : List ℕ) (quads : List Quad) → HasRead tree_words self.old x bytes quads → IsPlaced f.reason (bytes ++ piece.now) (place_of f)) }
         ensures done { self.new.done ≡ not (is_ok result) }
     {
-        if self.done {
-            return Err(self.ended());
-        }
-        match read_piece(
-            self.alloc,
-            &self.rules,
-            &mut self.scanner,
-            &mut self.progress,
-            piece,
-            sink,
-        ) {
-            Ok(()) => Ok(()),
-            Err(fault) => {
-                self.done = true;
-                Err(fault)
-            }
-        }
+        self.reader.feed(piece, sink)
     }
 
     /// Reads the end of the document, and says what was read in all. It is the last call that does so.
     pub fn finish<S: QuadSink>(&mut self, sink: &mut S) -> Result<Summary, Fault>
         requires { self.old.done ≡ false → S.has_failed sink.old ≡ false }
-        ensures ok { IfOk result (λ s. Finishes S.takes self.old sink.old s sink.new) }
-        ensures err { IfErr result (λ f. FinishFails S.takes S.leaves S.has_failed f.reason (place_of f) self.old sink.old self.new sink.new) }
-        ensures exact { (start : InForce) (bytes : List ℕ) (quads : List Quad) → HasRead self.old start bytes quads → Exactly result (IsWhole self.old.form start bytes) }
-        ensures place { IfErr result (λ f. (start : InForce) (bytes : List ℕ) (quads : List Quad) → HasRead self.old start bytes quads → IsPlaced f.reason bytes (place_of f)) }
+        ensures ok { IfOk result (λ s. Finishes tree_words S.takes self.old sink.old s sink.new) }
+        ensures err { IfErr result (λ f. FinishFails tree_words S.takes S.leaves S.has_failed f.reason (place_of f) self.old sink.old self.new sink.new) }
+        ensures exact { (x : Chosen) (bytes : List ℕ) (quads : List Quad) → HasRead tree_words self.old x bytes quads → Exactly result (IsWhole (in_words tree_words x self.old.scanner.limit) bytes) }
+        ensures place { IfErr result (λ f. (x : Chosen) (bytes : List ℕ) (quads : List Quad) → HasRead tree_words self.old x bytes quads → IsPlaced f.reason bytes (place_of f)) }
         ensures done { self.new.done ≡ true }
     {
-        if self.done {
-            return Err(self.ended());
-        }
-        self.done = true;
-        match read_end(
-            self.alloc,
-            &self.rules,
-            &mut self.scanner,
-            &mut self.progress,
-            sink,
-        ) {
-            Ok(()) => Ok(self.progress.so_far()),
-            Err(fault) => Err(fault),
-        }
-    }
-
-    fn ended(&self) -> Fault
-        ensures { result.reason ≡ Reason.Ended }
-    {
-        let so_far = self.progress.so_far();
-        Fault {
-            reason: Reason::Ended,
-            offset: so_far.bytes,
-            line: 1,
-        }
+        self.reader.finish(sink)
     }
 }

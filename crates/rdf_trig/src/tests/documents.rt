@@ -6,8 +6,8 @@ use crate::document::read_document;
 use crate::form::DocForm;
 use crate::reader::{Options, TrigReader};
 use crate::tests::sinks::{RecordingSink, lines_of, recording_sink};
+use rdf_driver::{Fault, Summary};
 use rdf_iri::Limits;
-use rdf_lines::{Fault, Summary};
 use rdf_terms::{Iri, QuadList, Reason};
 use std::alloc::Global;
 use std::str;
@@ -485,8 +485,8 @@ static SHORT_IRIS: [Row; 2] = [
     },
 ];
 
-/// An IRI is too long before its binding is one too many.
-const NO_PREFIX: [Row; 1] = [Row {
+/// With IRIs of 5 bytes and no prefix: an IRI is too long before its binding is one too many.
+static NO_PREFIX: [Row; 1] = [Row {
     bytes: b"PREFIX x: <http://abc/>",
     lines: "",
     refused: Some((Reason::IriTooLong, 10, 1)),

@@ -4,8 +4,8 @@ ghost use Rattle.std.specs.Prelude.{◌≤◌, false};
 
 use crate::form::DocForm;
 use crate::reader::{Options, TrigReader};
+use rdf_driver::{Fault, Summary};
 use rdf_iri::Limits;
-use rdf_lines::{Fault, Summary};
 use rdf_terms::{PutFault, QuadRef, QuadSink, Reason};
 use std::alloc::Global;
 use std::test::Fail;

@@ -1,15 +1,18 @@
 use Rattle.std.proofs.Common.{subst}
-use Rattle.rdf_trig.specs.Readings.{IsDocumentOf}
-use Rattle.rdf_trig.specs.Readers.{IsWhole, NotRead, place_of}
+use Rattle.rdf_tokens.specs.Scans.{place_of}
+use Rattle.rdf_tokens.specs.Grammars.{IsDocumentOf, IsWhole}
+use Rattle.rdf_driver.specs.Words.{in_words}
+use Rattle.rdf_trig.specs.Accepting.{tree_words}
+use Rattle.rdf_trig.specs.ReadWhole.{NotRead}
 use Rattle.rdf_trig.proofs.document.read_document.Goals as goal
 
 pub returns-in-Ok : goal.returns-in-Ok
 returns-in-Ok g c =
-    let start = c.args.options.start in
-    subst (λ f. IsDocumentOf f start c.args.bytes.now c.read_all.new.list × IsWhole f start c.args.bytes.now) c.new-reader.ensures.form
-    (c.in-Ok.ensures start c.new-reader.ensures.read)
+    let x = c.args.options in
+    subst (λ n. IsDocumentOf (in_words tree_words x n) c.args.bytes.now c.read_all.new.list × IsWhole (in_words tree_words x n) c.args.bytes.now) c.new-reader.ensures.token
+    (c.in-Ok.ensures x c.new-reader.ensures.read)
 
 pub returns-in-Err : goal.returns-in-Err
 returns-in-Err g c =
-    let start = c.args.options.start in
-    subst (λ f. NotRead f start c.args.bytes.now c.in-Err.fault.reason (place_of c.in-Err.fault)) c.new-reader.ensures.form (c.in-Err.ensures start c.new-reader.ensures.read)
+    let x = c.args.options in
+    subst (λ n. NotRead (in_words tree_words x n) c.args.bytes.now c.in-Err.fault.reason (place_of c.in-Err.fault)) c.new-reader.ensures.token (c.in-Err.ensures x c.new-reader.ensures.read)

@@ -1,10 +1,10 @@
-use Rattle.std.proofs.Common.{◌≡◌, ◌++◌, [], sym, ap, subst, refl, length, length-append, arith}
+use Rattle.std.proofs.Common.{◌++◌, [], sym, ap, subst, refl, length, length-append, arith}
 use Rattle.std.specs.Prelude.{option_map}
 use Rattle.rdf_terms.specs.Sinks.{Appends}
 use Rattle.rdf_terms.specs.Views.{quad_of}
 use Rattle.rdf_trig.specs.Machine.{kept}
 use Rattle.rdf_trig.specs.States.{level_of}
-use Rattle.rdf_trig.specs.Steps.{GaveUp, given}
+use Rattle.rdf_trig.specs.Steps.{GaveUp}
 use Rattle.rdf_trig.proofs.StepsLemmas.{appends_append, gave_more, gave_behind, given_in, told_stops}
 use Rattle.rdf_trig.proofs.give.give.Goals as goal
 

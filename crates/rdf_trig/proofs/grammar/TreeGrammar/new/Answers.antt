@@ -1,5 +1,4 @@
-use Rattle.std.proofs.Common.{[], ◌∙◌, ap}
-use Rattle.rdf_trig.specs.declared.form.DocForm.{DocForm}
+use Rattle.std.proofs.Common.{◌∙◌, ap}
 use Rattle.rdf_trig.specs.Machine.{State, at_start}
 use Rattle.rdf_trig.specs.Accepting.{TreeAt}
 use Rattle.rdf_trig.proofs.grammar.TreeGrammar.new.Goals as goal

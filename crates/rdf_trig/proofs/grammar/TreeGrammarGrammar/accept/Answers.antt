@@ -1,4 +1,4 @@
-use Rattle.std.proofs.Common.{◌≡◌, ◌∙◌, sym, ap, subst}
+use Rattle.std.proofs.Common.{subst}
 use Rattle.rdf_tokens.specs.Scans.{token_of}
 use Rattle.rdf_driver.specs.Words.{Takes, Misses}
 use Rattle.rdf_trig.specs.Steps.{state_of}

@@ -1,44 +1,22 @@
-use Rattle.std.proofs.Common.{◌≡◌, List, ℕ, sym, subst, ◌∙◌, IfErr}
+use Rattle.std.proofs.Common.{ℕ, List, subst}
+use Rattle.std.specs.Prelude.{IfErr}
 use Rattle.rdf_terms.specs.Terms.{Quad}
-use Rattle.rdf_iri.specs.Scope.{InForce}
-use Rattle.rdf_trig.specs.TrigRead.{TrigRead}
-use Rattle.rdf_trig.specs.Readers.{HasRead, IsWhole, Exactly, IsPlaced, place_of}
-use Rattle.rdf_trig.specs.Read.{trig_read}
-use Rattle.rdf_trig.proofs.PromiseLemmas.{finish_whole, finish_denies, finish_placed}
-use Rattle.rdf_trig.proofs.StepLemmas.{as_running}
-use Rattle.rdf_trig.proofs.reader.TrigReader.finish.Goals.{in-Ok, in-Err}
+use Rattle.rdf_tokens.specs.Scans.{place_of}
+use Rattle.rdf_tokens.specs.Grammars.{IsWhole}
+use Rattle.rdf_driver.specs.Words.{in_words}
+use Rattle.rdf_driver.specs.Readers.{HasRead, Exactly, IsPlaced}
+use Rattle.rdf_trig.specs.Language.{Chosen}
+use Rattle.rdf_trig.specs.Accepting.{TrigRead, tree_words}
 use Rattle.rdf_trig.proofs.reader.TrigReader.finish.Goals as goal
 
 pub returns-clause-exact : goal.returns-clause-exact
 returns-clause-exact g c =
-    let r = c.self.inside in
-    let old = trig_read r.scanner r.rules r.progress in
-    let new = trig_read c.read_end.new.scanner r.rules c.read_end.new.progress in
-    let same : old ≡ c.args.self.now = sym (as_running r.scanner r.rules r.progress r.done c.if-self.false) ∙ c.self.view_is in
-    subst (λ (x : TrigRead). (start : InForce) (bytes : List ℕ) (quads : List Quad) → HasRead x start bytes quads → Exactly c.match-read_end.result (IsWhole x.form start bytes)) same
-    (elim c.match-read_end.branch [
-      | in-Ok w ↦
-          rw w.result-is
-          (λ start bytes quads h. finish_whole g.S.QuadSink.takes g.S.QuadSink.leaves g.S.QuadSink.has_failed old new c.args.sink.now c.read_end.new.sink start bytes quads h c.read_end.new.progress.so_far w.in-Ok.ensures.ok)
-      | in-Err w ↦
-          rw w.result-is
-          (λ start bytes quads h.
-          finish_denies g.S.QuadSink.takes g.S.QuadSink.leaves g.S.QuadSink.has_failed old new c.args.sink.now c.read_end.new.sink start bytes quads h w.in-Err.fault.reason (place_of w.in-Err.fault)
-          w.in-Err.ensures.err)
-    ])
+    subst
+    (λ (r : TrigRead). (x : Chosen) (bytes : List ℕ) (quads : List Quad) → HasRead tree_words r x bytes quads → Exactly c.finish.result (IsWhole (in_words tree_words x r.scanner.limit) bytes))
+    c.self.view_is c.finish.ensures.exact
 
 pub returns-clause-place : goal.returns-clause-place
 returns-clause-place g c =
-    let r = c.self.inside in
-    let old = trig_read r.scanner r.rules r.progress in
-    let new = trig_read c.read_end.new.scanner r.rules c.read_end.new.progress in
-    let same : old ≡ c.args.self.now = sym (as_running r.scanner r.rules r.progress r.done c.if-self.false) ∙ c.self.view_is in
-    subst (λ (x : TrigRead). IfErr c.match-read_end.result (λ f. (start : InForce) (bytes : List ℕ) (quads : List Quad) → HasRead x start bytes quads → IsPlaced f.reason bytes (place_of f))) same
-    (elim c.match-read_end.branch [
-      | in-Ok w ↦ rw w.result-is tt
-      | in-Err w ↦
-          rw w.result-is
-          (λ start bytes quads h.
-          finish_placed g.S.QuadSink.takes g.S.QuadSink.leaves g.S.QuadSink.has_failed old new c.args.sink.now c.read_end.new.sink start bytes quads h w.in-Err.fault.reason (place_of w.in-Err.fault)
-          w.in-Err.ensures.err)
-    ])
+    subst
+    (λ (r : TrigRead). IfErr c.finish.result (λ f. (x : Chosen) (bytes : List ℕ) (quads : List Quad) → HasRead tree_words r x bytes quads → IsPlaced f.reason bytes (place_of f)))
+    c.self.view_is c.finish.ensures.place
