@@ -111,21 +111,25 @@ halts_stops stream.Read l ends known left read_failed given h = absurd h
 halts_stops stream.Write l ends known left read_failed given h = absurd h
 halts_stops stream.Memory l ends known left read_failed given h = given
 
-module _ {G X R : Type 0} (w : Words G X) (reader : R → Driven G) where
+module _ {G X : Type 0} (w : Words G X) where
+  -- a reader, and its sink
+  abbrev pub R : Type 0
+  R = Driven G × NoQuads
+
   abbrev pub Taken : R → List ℕ → R → Type 0
-  Taken first bytes now = IsChecking w (reader first) bytes (reader now)
+  Taken first bytes now = IsChecking w first.0 bytes now.0
 
   abbrev pub Halted : StreamFault → R → List ℕ → Bool → R → Type 0
-  Halted told first bytes e now = CheckHalts w told (reader first) bytes e
+  Halted told first bytes e now = CheckHalts w told first.0 bytes e
 
   abbrev pub Ended : Summary → R → List ℕ → R → Type 0
-  Ended s first bytes now = CheckEnds w s (reader first) bytes
+  Ended s first bytes now = CheckEnds w s first.0 bytes
 
   -- nothing was read
-  pub begins : (x : X) (first : R) → BeginsToRead w x (reader first) → Taken first [] first
+  pub begins : (x : X) (first : R) → BeginsToRead w x first.0 → Taken first [] first
   begins x first b = record { begun = (x, b); limit = refl; read = λ y b. ([], b.read) }
 
-  module _ (x : X) (limit : ℕ) (first now : R) (same_limit : (reader first).scanner.limit ≡ limit) (b : BeginsToRead w x (reader first)) (known left : Option (List ℕ)) where
+  module _ (x : X) (limit : ℕ) (first now : R) (same_limit : first.0.scanner.limit ≡ limit) (b : BeginsToRead w x first.0) (known left : Option (List ℕ)) where
     pub checked : (s : Summary) → ReadsAll Ended known left s first now → IfSome known (λ bytes. Passes (in_words w x limit) bytes s)
     checked s h =
         Consumes-whole known left h.bytes (λ bytes. Passes (in_words w x limit) bytes s) h.consumed h.at_end (subst (λ n. Passes (in_words w x n) h.bytes s) same_limit (h.is_end x b))
@@ -133,7 +137,7 @@ module _ {G X R : Type 0} (w : Words G X) (reader : R → Driven G) where
     broke : (source_failed : Bool) → SourceFails Taken known left source_failed first now → CheckStops stream.Read (in_words w x limit) known left source_failed
     broke source_failed h =
         let (quads, r) = h.is_taken.read x b in
-        let goes_on = read_goes_on w b.lawful (reader now) x h.bytes quads r in
+        let goes_on = read_goes_on w b.lawful now.0 x h.bytes quads r in
         (
           h.failed_now,
           h.bytes,
@@ -152,4 +156,4 @@ module _ {G X R : Type 0} (w : Words G X) (reader : R → Driven G) where
     pub refused_document : (told : StreamFault) (source_failed : Bool) → ReadStops Taken Halted told known left source_failed first now → IsRefusal told
     refused_document told source_failed h =
         ⊎_elim (λ p. subst IsRefusal (sym p.0) tt)
-        (λ p. halts_of_document told (in_words w x (reader first).scanner.limit) p.0.bytes p.0.is_end (p.1.halts x b)) h
+        (λ p. halts_of_document told (in_words w x first.0.scanner.limit) p.0.bytes p.0.is_end (p.1.halts x b)) h

@@ -54,25 +54,29 @@ halts_stops stream.Read job ends known left old new read_failed write_failed giv
 halts_stops stream.Write job ends known left old new read_failed write_failed given h = (h.0, given, h.1)
 halts_stops stream.Memory job ends known left old new read_failed write_failed given h = (h.0, given, h.1)
 
-module _ {G X D A R : Type 0} (contents : D → Option (List ℕ)) (failed flushed : D → Bool) (w : Words G X) (reader : R → Driven G) (lines : R → LineOut D A) where
+module _ {G X D A : Type 0} (contents : D → Option (List ℕ)) (failed flushed : D → Bool) (w : Words G X) where
+  -- a reader, and its lines
+  abbrev pub R : Type 0
+  R = Driven G × LineOut D A
+
   abbrev pub Taken : R → List ℕ → R → Type 0
-  Taken first bytes now = IsConverting contents failed w (reader first) (lines first) bytes (reader now) (lines now)
+  Taken first bytes now = IsConverting contents failed w first.0 first.1 bytes now.0 now.1
 
   abbrev pub Halted : StreamFault → R → List ℕ → Bool → R → Type 0
-  Halted told first bytes e now = RunHalts contents failed w told (reader first) (lines first) bytes e (lines now)
+  Halted told first bytes e now = RunHalts contents failed w told first.0 first.1 bytes e now.1
 
   abbrev pub Ended : Summary → R → List ℕ → R → Type 0
-  Ended s first bytes now = RunEnds contents failed flushed w s (reader first) (lines first) bytes (lines now)
+  Ended s first bytes now = RunEnds contents failed flushed w s first.0 first.1 bytes now.1
 
   -- nothing was read or written
-  pub begins : (x : X) (first : R) → Begins failed w x (reader first) (lines first) → Taken first [] first
+  pub begins : (x : X) (first : R) → Begins failed w x first.0 first.1 → Taken first [] first
   begins x first b = record {
     begun = (x, b);
     limit = refl;
     handed = λ y b. record {
       quads = [];
       read = b.starts.read;
-      written = Appends-nil (contents (lines first).drain.now);
+      written = Appends-nil (contents first.1.drain.now);
       writable = tt;
       none_waits = b.none_waits;
       same = record { style = refl; buffer = refl; drain = refl };
@@ -80,62 +84,57 @@ module _ {G X D A R : Type 0} (contents : D → Option (List ℕ)) (failed flush
     };
   }
 
-  module _ (x : X) (limit : ℕ) (style : Style) (first now : R) (same_limit : (reader first).scanner.limit ≡ limit) (same_style : (lines first).style ≡ style) (b : Begins failed w x (reader first) (lines first))
+  module _ (x : X) (limit : ℕ) (style : Style) (first now : R) (same_limit : first.0.scanner.limit ≡ limit) (same_style : first.1.style ≡ style) (b : Begins failed w x first.0 first.1)
       (known left : Option (List ℕ)) where
     abbrev job : Conversion
     job = conversion w x limit style
 
     abbrev old : Option (List ℕ)
-    old = contents (lines first).drain.now
+    old = contents first.1.drain.now
 
     abbrev new : Option (List ℕ)
-    new = contents (lines now).drain.now
+    new = contents now.1.drain.now
 
     -- by the limit and the style that were asked for
-    asked : (P : ℕ → Style → Type 0) → P (reader first).scanner.limit (lines first).style → P limit style
-    asked P h = subst (λ s. P limit s) same_style (subst (λ n. P n (lines first).style) same_limit h)
+    asked : (P : ℕ → Style → Type 0) → P first.0.scanner.limit first.1.style → P limit style
+    asked P h = subst (λ s. P limit s) same_style (subst (λ n. P n first.1.style) same_limit h)
 
     pub converted : (s : Summary) → ReadsAll Ended known left s first now → IfSome known (λ bytes. Accepts job bytes old new s)
     converted s h =
         Consumes-whole known left h.bytes (λ bytes. Accepts job bytes old new s) h.consumed h.at_end (asked (λ n s'. Accepts (conversion w x n s') h.bytes old new s) (h.is_end.accepts x b))
 
     -- the source failed
-    broke : (source_failed : Bool) → SourceFails Taken known left source_failed first now → StopsFor stream.Read job known left source_failed old new (failed (lines now).drain.now)
+    broke : (source_failed : Bool) → SourceFails Taken known left source_failed first now → StopsFor stream.Read job known left source_failed old new (failed now.1.drain.now)
     broke source_failed h =
         let o = h.is_taken.handed x b in
-        let n = (reader now).scanner.limit in
+        let n = now.0.scanner.limit in
         let law = b.starts.suits.lawful in
-        let writes : WritesDue (conversion w x (reader first).scanner.limit (lines first).style) (reading_of (in_words w x (reader first).scanner.limit) h.bytes false).tokens old new =
-        subst (λ k. WritesDue (conversion w x k (lines first).style) (reading_of (in_words w x k) h.bytes false).tokens old new) h.is_taken.limit
-        (record { quads = o.quads; due = law.due (reader now).grammar x (reading_of (in_words w x n) h.bytes false).tokens o.quads o.read.reached; written = o.written }) in
+        let writes : WritesDue (conversion w x first.0.scanner.limit first.1.style) (reading_of (in_words w x first.0.scanner.limit) h.bytes false).tokens old new =
+        subst (λ k. WritesDue (conversion w x k first.1.style) (reading_of (in_words w x k) h.bytes false).tokens old new) h.is_taken.limit
+        (record { quads = o.quads; due = law.due now.0.grammar x (reading_of (in_words w x n) h.bytes false).tokens o.quads o.read.reached; written = o.written }) in
         (
           h.failed_now,
           record {
             bytes = h.bytes;
             consumed = h.consumed;
-            goes_on = asked (λ k s. GoesOn (in_words w x k) h.bytes) (subst (λ k. GoesOn (in_words w x k) h.bytes) h.is_taken.limit (read_goes_on w law (reader now) x h.bytes o.quads o.read));
+            goes_on = asked (λ k s. GoesOn (in_words w x k) h.bytes) (subst (λ k. GoesOn (in_words w x k) h.bytes) h.is_taken.limit (read_goes_on w law now.0 x h.bytes o.quads o.read));
             writes = asked (λ k s. WritesDue (conversion w x k s) (reading_of (in_words w x k) h.bytes false).tokens old new) writes;
           },
         )
 
     pub stopped : (told : StreamFault) (source_failed : Bool) → ReadStops Taken Halted told known left source_failed first now →
-        StopsFor told job known left source_failed old new (failed (lines now).drain.now)
+        StopsFor told job known left source_failed old new (failed now.1.drain.now)
     stopped told source_failed h =
-        ⊎_elim (λ p. subst (λ t. StopsFor t job known left source_failed old new (failed (lines now).drain.now)) (sym p.0) (broke source_failed p.1))
+        ⊎_elim (λ p. subst (λ t. StopsFor t job known left source_failed old new (failed now.1.drain.now)) (sym p.0) (broke source_failed p.1))
         (λ p.
-        halts_stops told job (b.starts.suits.lawful.ends x) known left old new source_failed (failed (lines now).drain.now) p.0
-        (asked (λ n s. HaltsFor told (conversion w x n s) p.0.bytes p.0.is_end old new (failed (lines now).drain.now)) (p.1.halts x b)))
+        halts_stops told job (b.starts.suits.lawful.ends x) known left old new source_failed (failed now.1.drain.now) p.0
+        (asked (λ n s. HaltsFor told (conversion w x n s) p.0.bytes p.0.is_end old new (failed now.1.drain.now)) (p.1.halts x b)))
         h
 
     pub refused_document : (told : StreamFault) (source_failed : Bool) → ReadStops Taken Halted told known left source_failed first now → IsRefusal told
     refused_document told source_failed h =
         ⊎_elim (λ p. subst IsRefusal (sym p.0) tt)
-        (λ p. halts_document told (conversion w x (reader first).scanner.limit (lines first).style) p.0.bytes p.0.is_end old new (failed (lines now).drain.now) (p.1.halts x b)) h
-
--- before the first line a run begins
-pub starts_begin : {G X D A : Type 0} (failed : D → Bool) (w : Words G X) (x : X) (reader : Driven G) (style : Style) (lines : LineOut D A) → Starts w x reader style → lines.style ≡ style →
-    lines.buffer.now.items ≡ [] → failed lines.drain.now ≡ false → Begins failed w x reader lines
-starts_begin failed w x reader style lines s e none live = record { starts = subst (Starts w x reader) (sym e) s; none_waits = none; live = live }
+        (λ p. halts_document told (conversion w x first.0.scanner.limit first.1.style) p.0.bytes p.0.is_end old new (failed now.1.drain.now) (p.1.halts x b)) h
 
 -- there was no memory to begin with
 pub none_stops : {G X : Type 0} (w : Words G X) (x : X) (reader : Driven G) (style : Style) (known old : Option (List ℕ)) (read_failed write_failed : Bool) → Starts w x reader style →

@@ -25,6 +25,7 @@ use Rattle.rdf_stream.specs.Jobs.{JobRead}
 use Rattle.rdf_stream.specs.declared.fault.StreamFault.{StreamFault}
 use Rattle.rdf_stream.specs.declared.fault.StreamFault.TheVariants as stream
 use Rattle.rdf_stream.specs.declared.line_out.LineOut.{LineOut}
+use Rattle.rdf_stream.specs.declared.shows.Showing.{Showing}
 use Rattle.rdf_stream.specs.Devices.{AppendsFront, HasGiven}
 use Rattle.rdf_stream.specs.Faults.{IsOfDocument, IsRefusal, fault_by}
 use Rattle.rdf_stream.specs.LineOut.{Moves, SameOut, Writes}
@@ -515,38 +516,42 @@ halts_stops stream.Read job known left old new read_failed write_failed given h 
 halts_stops stream.Write job known left old new read_failed write_failed given h = (h.0, given, h.1)
 halts_stops stream.Memory job known left old new read_failed write_failed given h = (h.0, given, h.1)
 
-module _ {D A R : Type 0} (contents : D → Option (List ℕ)) (failed flushed : D → Bool) (scan : R → Unread) (sums : R → Summary) (lines : R → LineOut D A) where
+module _ {D A : Type 0} (contents : D → Option (List ℕ)) (failed flushed : D → Bool) where
+  -- what is shown, and its lines
+  abbrev pub R : Type 0
+  R = Showing A × LineOut D A
+
   abbrev pub Taken : R → List ℕ → R → Type 0
-  Taken first bytes now = IsShowingRun contents failed (scan first) (sums first) (lines first) bytes (scan now) (sums now) (lines now)
+  Taken first bytes now = IsShowingRun contents failed first.0.scanner first.0.so_far first.1 bytes now.0.scanner now.0.so_far now.1
 
   abbrev pub Halted : StreamFault → R → List ℕ → Bool → R → Type 0
-  Halted told first bytes e now = ShowHalts contents failed told (scan first) (sums first) (lines first) bytes e (lines now)
+  Halted told first bytes e now = ShowHalts contents failed told first.0.scanner first.0.so_far first.1 bytes e now.1
 
   abbrev pub Ended : Summary → R → List ℕ → R → Type 0
-  Ended s first bytes now = ShowEnds contents failed flushed s (scan first) (sums first) (lines first) bytes (lines now)
+  Ended s first bytes now = ShowEnds contents failed flushed s first.0.scanner first.0.so_far first.1 bytes now.1
 
   -- nothing was read
-  pub run_begins : (job : JobRead) (first : R) → Begins failed job (scan first) (sums first) (lines first) → Taken first [] first
+  pub run_begins : (job : JobRead) (first : R) → Begins failed job first.0.scanner first.0.so_far first.1 → Taken first [] first
   run_begins job first b = record {
     begun = (job, b);
     none_waits = b.none_waits;
     shown = λ y b.
-        none_shown contents failed y (lines first) (scan first) (sums first) b.read b.more b.dialect b.limit b.none_waits b.live (ap (λ (s : Summary). s.quads) b.none_shown) (ap (λ (s : Summary). s.tokens) b.none_shown)
+        none_shown contents failed y first.1 first.0.scanner first.0.so_far b.read b.more b.dialect b.limit b.none_waits b.live (ap (λ (s : Summary). s.quads) b.none_shown) (ap (λ (s : Summary). s.tokens) b.none_shown)
         (ap (λ (s : Summary). s.bytes) b.none_shown);
   }
 
-  module _ (job : JobRead) (first now : R) (b : Begins failed job (scan first) (sums first) (lines first)) (known left : Option (List ℕ)) where
+  module _ (job : JobRead) (first now : R) (b : Begins failed job first.0.scanner first.0.so_far first.1) (known left : Option (List ℕ)) where
     abbrev old : Option (List ℕ)
-    old = contents (lines first).drain.now
+    old = contents first.1.drain.now
 
     abbrev new : Option (List ℕ)
-    new = contents (lines now).drain.now
+    new = contents now.1.drain.now
 
     pub run_shown : (s : Summary) → ReadsAll Ended known left s first now → IfSome known (λ bytes. Shows job bytes old new s)
     run_shown s h = Consumes-whole known left h.bytes (λ bytes. Shows job bytes old new s) h.consumed h.at_end (h.is_end.shows job b).1
 
     -- the source failed
-    broke : (source_failed : Bool) → SourceFails Taken known left source_failed first now → ShowStops stream.Read job known left source_failed old new (failed (lines now).drain.now)
+    broke : (source_failed : Bool) → SourceFails Taken known left source_failed first now → ShowStops stream.Read job known left source_failed old new (failed now.1.drain.now)
     broke source_failed h =
         let o = h.is_taken.shown job b in (
           h.failed_now,
@@ -554,20 +559,20 @@ module _ {D A R : Type 0} (contents : D → Option (List ℕ)) (failed flushed :
             bytes = h.bytes;
             consumed = h.consumed;
             waits = o.waits;
-            written = all_written contents failed job h.bytes (lines first) (lines now) (scan now) (sums now) o h.is_taken.none_waits;
+            written = all_written contents failed job h.bytes first.1 now.1 now.0.scanner now.0.so_far o h.is_taken.none_waits;
           },
         )
 
     pub run_stopped : (told : StreamFault) (source_failed : Bool) → ReadStops Taken Halted told known left source_failed first now →
-        ShowStops told job known left source_failed old new (failed (lines now).drain.now)
+        ShowStops told job known left source_failed old new (failed now.1.drain.now)
     run_stopped told source_failed h =
-        ⊎_elim (λ p. subst (λ t. ShowStops t job known left source_failed old new (failed (lines now).drain.now)) (sym p.0) (broke source_failed p.1))
-        (λ p. halts_stops told job known left old new source_failed (failed (lines now).drain.now) p.0 (p.1.halts job b).halts) h
+        ⊎_elim (λ p. subst (λ t. ShowStops t job known left source_failed old new (failed now.1.drain.now)) (sym p.0) (broke source_failed p.1))
+        (λ p. halts_stops told job known left old new source_failed (failed now.1.drain.now) p.0 (p.1.halts job b).halts) h
 
     pub run_refused : (told : StreamFault) (source_failed : Bool) → ReadStops Taken Halted told known left source_failed first now → IsRefusal told
     run_refused told source_failed h =
         ⊎_elim (λ p. subst IsRefusal (sym p.0) tt)
-        (λ p. halts_of_document told job p.0.bytes p.0.is_end old new (failed (lines now).drain.now) (p.1.halts job b).halts) h
+        (λ p. halts_of_document told job p.0.bytes p.0.is_end old new (failed now.1.drain.now) (p.1.halts job b).halts) h
 
 -- ---- parts that follow each other
 

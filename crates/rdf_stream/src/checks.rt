@@ -46,36 +46,30 @@ fn check_with<G: Grammar + Drop, A: Allocator + Copy, S: Source>(
     ensures refused { IfErr result IsRefusal }
 {
     let mut piece = piece_buffer(alloc)?;
-    let mut run = Checking { reader };
-    read_pieces(source, piece.as_mut_slice(), &mut run)
+    let mut reader = reader;
+    read_pieces(source, piece.as_mut_slice(), &mut reader, &mut NoQuads)
 }
 
-/// Reads a document, and keeps nothing of it.
-#[derive(Drop)]
-struct Checking<G: Grammar + Drop, A: Allocator> {
-    reader: Reader<G, A>,
-}
+impl<G: Grammar + Drop, A: Allocator + Copy> Run<NoQuads> for Reader<G, A> {
+    ghost taken = { λ first bytes now. IsChecking G.words first.0 bytes now.0 };
 
-impl<G: Grammar + Drop, A: Allocator + Copy> Run for Checking<G, A> {
-    ghost taken = { λ first bytes now. IsChecking G.words first.reader bytes now.reader };
+    ghost halts = { λ told first bytes is_end now. CheckHalts G.words told first.0 bytes is_end };
 
-    ghost halts = { λ told first bytes is_end now. CheckHalts G.words told first.reader bytes is_end };
-
-    ghost ends = { λ summary first bytes now. CheckEnds G.words summary first.reader bytes };
-
-    ghost count = { λ now. now.reader.so_far.bytes };
+    ghost ends = { λ summary first bytes now. CheckEnds G.words summary first.0 bytes };
 
     ghost stays = { λ first now. Unit };
 
-    fn take(&mut self, piece: &[u8]) -> Result<(), StreamFault> {
-        match self.reader.feed(piece, &mut NoQuads) {
+    ghost count = { λ now. now.so_far.bytes };
+
+    fn take(&mut self, piece: &[u8], sink: &mut NoQuads) -> Result<(), StreamFault> {
+        match self.feed(piece, sink) {
             Ok(()) => Ok(()),
             Err(fault) => Err(StreamFault::from(fault)),
         }
     }
 
-    fn end(&mut self) -> Result<Summary, StreamFault> {
-        match self.reader.finish(&mut NoQuads) {
+    fn end(&mut self, sink: &mut NoQuads) -> Result<Summary, StreamFault> {
+        match self.finish(sink) {
             Ok(summary) => Ok(summary),
             Err(fault) => Err(StreamFault::from(fault)),
         }
@@ -84,7 +78,7 @@ impl<G: Grammar + Drop, A: Allocator + Copy> Run for Checking<G, A> {
 
 /// Takes quads, and keeps nothing.
 #[derive(Clone, Copy)]
-struct NoQuads;
+pub(crate) struct NoQuads;
 
 impl QuadSink for NoQuads {
     ghost takes = { λ before quad after. after ≡ before };

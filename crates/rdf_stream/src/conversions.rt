@@ -1,7 +1,7 @@
 // From a document to the lines of its quads.
 
-ghost use Rattle.std.specs.Prelude.{◌≡◌, ◌++◌, true, false, OnOk, IfOk, IfErr, IfSome};
-ghost use Rattle.rdf_stream.specs.Converting.{IsConverting, RunEnds, RunHalts, Starts};
+ghost use Rattle.std.specs.Prelude.{◌≡◌, ◌<◌, ◌++◌, true, false, length, OnOk, IfOk, IfErr, IfSome};
+ghost use Rattle.rdf_stream.specs.Converting.{Begins, IsConverting, RunEnds, RunHalts};
 ghost use Rattle.rdf_stream.specs.Converts.{Accepts, StopsFor};
 ghost use Rattle.rdf_stream.specs.Faults.{IsRefusal};
 ghost use Rattle.rdf_stream.specs.Languages.{conversion, conversion_of};
@@ -35,82 +35,74 @@ pub fn convert<A: Allocator + Copy, S: Source, D: Drain>(
         StopsFor fault (conversion_of job) (S.remaining source.old) (S.remaining source.new) (S.has_failed source.new) (D.contents drain.old) (D.contents drain.new) (D.has_failed drain.new)) }
     ensures refused { IfErr result IsRefusal }
 {
+    let mut piece = piece_buffer(alloc)?;
+    let mut buffer = Vec::new(alloc);
     match job.form().kind() {
         Kind::Line(form) => {
             let reader = line_reader(alloc, form, job.limits());
-            convert_with(alloc, reader, Style::Kept, source, drain)
+            let mut lines = LineOut::new(Style::Kept, &mut buffer, drain);
+            convert_with(reader, source, piece.as_mut_slice(), &mut lines)
         }
         Kind::Tree(form) => {
             let reader = tree_reader(alloc, job.options(form));
-            convert_with(alloc, reader, Style::Tagged, source, drain)
+            let mut lines = LineOut::new(Style::Tagged, &mut buffer, drain);
+            convert_with(reader, source, piece.as_mut_slice(), &mut lines)
         }
     }
 }
 
 fn convert_with<G: Grammar + Drop, A: Allocator + Copy, S: Source, D: Drain>(
-    alloc: A,
     reader: Reader<G, A>,
-    style: Style,
     source: &mut S,
-    drain: &mut D,
+    piece: &mut [u8],
+    lines: &mut LineOut<'_, D, A>,
 ) -> Result<Summary, StreamFault>
-    requires starts { (x : G.Setting) × Starts G.words x reader style }
+    requires begins { (x : G.Setting) × Begins D.has_failed G.words x reader lines.old }
     requires source { S.has_failed source.old ≡ false }
-    requires drain { D.has_failed drain.old ≡ false }
-    ensures accepted { IfOk result (λ summary. (x : G.Setting) → Starts G.words x reader style → IfSome (S.remaining source.old) (λ bytes.
-        Accepts (conversion G.words x reader.scanner.limit style) bytes (D.contents drain.old) (D.contents drain.new) summary)) }
-    ensures flushed { OnOk result (D.is_flushed drain.new ≡ true) }
-    ensures stops { IfErr result (λ told. (x : G.Setting) → Starts G.words x reader style →
-        StopsFor told (conversion G.words x reader.scanner.limit style) (S.remaining source.old) (S.remaining source.new) (S.has_failed source.new)
-        (D.contents drain.old) (D.contents drain.new) (D.has_failed drain.new)) }
+    requires room { 0 < length piece.old }
+    ensures accepted { IfOk result (λ summary. (x : G.Setting) → Begins D.has_failed G.words x reader lines.old → IfSome (S.remaining source.old) (λ bytes.
+        Accepts (conversion G.words x reader.scanner.limit lines.old.style) bytes (D.contents lines.old.drain.now) (D.contents lines.new.drain.now) summary)) }
+    ensures flushed { OnOk result (D.is_flushed lines.new.drain.now ≡ true) }
+    ensures same { SameOut lines.old lines.new }
+    ensures stops { IfErr result (λ told. (x : G.Setting) → Begins D.has_failed G.words x reader lines.old →
+        StopsFor told (conversion G.words x reader.scanner.limit lines.old.style) (S.remaining source.old) (S.remaining source.new) (S.has_failed source.new)
+        (D.contents lines.old.drain.now) (D.contents lines.new.drain.now) (D.has_failed lines.new.drain.now)) }
     ensures refused { IfErr result IsRefusal }
 {
-    let mut piece = piece_buffer(alloc)?;
-    let mut buffer = Vec::new(alloc);
-    let mut run = Converting {
-        reader,
-        lines: LineOut::new(style, &mut buffer, drain),
-    };
-    read_pieces(source, piece.as_mut_slice(), &mut run)
+    let mut reader = reader;
+    read_pieces(source, piece, &mut reader, lines)
 }
 
-/// Puts the lines of a document's quads.
-#[derive(Drop)]
-struct Converting<'a, G: Grammar + Drop, D: Drain, A: Allocator> {
-    reader: Reader<G, A>,
-    lines: LineOut<'a, D, A>,
-}
+impl<'a, G: Grammar + Drop, D: Drain, A: Allocator + Copy> Run<LineOut<'a, D, A>> for Reader<G, A> {
+    ghost taken = { λ first bytes now. IsConverting D.contents D.has_failed G.words first.0 first.1 bytes now.0 now.1 };
 
-impl<'a, G: Grammar + Drop, D: Drain, A: Allocator + Copy> Run for Converting<'a, G, D, A> {
-    ghost taken = { λ first bytes now. IsConverting D.contents D.has_failed G.words first.reader first.lines bytes now.reader now.lines };
+    ghost halts = { λ told first bytes is_end now. RunHalts D.contents D.has_failed G.words told first.0 first.1 bytes is_end now.1 };
 
-    ghost halts = { λ told first bytes is_end now. RunHalts D.contents D.has_failed G.words told first.reader first.lines bytes is_end now.lines };
+    ghost ends = { λ summary first bytes now. RunEnds D.contents D.has_failed D.is_flushed G.words summary first.0 first.1 bytes now.1 };
 
-    ghost ends = { λ summary first bytes now. RunEnds D.contents D.has_failed D.is_flushed G.words summary first.reader first.lines bytes now.lines };
+    ghost stays = { λ first now. SameOut first.1 now.1 };
 
-    ghost count = { λ now. now.reader.so_far.bytes };
-
-    ghost stays = { λ first now. SameOut first.lines now.lines };
+    ghost count = { λ now. now.so_far.bytes };
 
     // Reads a piece, and hands all lines over that are due then.
-    fn take(&mut self, piece: &[u8]) -> Result<(), StreamFault> {
-        match self.reader.feed(piece, &mut self.lines) {
-            Ok(()) => match self.lines.hand_over() {
+    fn take(&mut self, piece: &[u8], lines: &mut LineOut<'a, D, A>) -> Result<(), StreamFault> {
+        match self.feed(piece, lines) {
+            Ok(()) => match lines.hand_over() {
                 Ok(()) => Ok(()),
                 Err(Failed) => Err(StreamFault::Write),
             },
-            Err(fault) => Err(stop(fault, &mut self.lines)),
+            Err(fault) => Err(stop(fault, lines)),
         }
     }
 
     // Reads the end, hands all lines over, and sends them on.
-    fn end(&mut self) -> Result<Summary, StreamFault> {
-        match self.reader.finish(&mut self.lines) {
-            Ok(summary) => match self.lines.send() {
+    fn end(&mut self, lines: &mut LineOut<'a, D, A>) -> Result<Summary, StreamFault> {
+        match self.finish(lines) {
+            Ok(summary) => match lines.send() {
                 Ok(()) => Ok(summary),
                 Err(Failed) => Err(StreamFault::Write),
             },
-            Err(fault) => Err(stop(fault, &mut self.lines)),
+            Err(fault) => Err(stop(fault, lines)),
         }
     }
 }

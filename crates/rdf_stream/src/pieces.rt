@@ -14,49 +14,51 @@ use std::alloc::{AllocError, Allocator};
 /// The number of bytes that are asked of a source at a time.
 const PIECE_LEN: usize = 65536;
 
-/// Takes the bytes of a source, piece by piece.
-pub(crate) trait Run {
+/// Takes the bytes of a source, piece by piece, and hands on what comes of them.
+pub(crate) trait Run<L> {
     /// From the first state on, these bytes were taken.
-    ghost taken: { Self → List ℕ → Self → Type 0 };
+    ghost taken: { Self × L → List ℕ → Self × L → Type 0 };
     /// From the first state on, these bytes are not read on, with their end or before more come.
-    ghost halts: { StreamFault → Self → List ℕ → Bool → Self → Type 0 };
+    ghost halts: { StreamFault → Self × L → List ℕ → Bool → Self × L → Type 0 };
     /// From the first state on, these bytes were read to their end.
-    ghost ends: { Summary → Self → List ℕ → Self → Type 0 };
+    ghost ends: { Summary → Self × L → List ℕ → Self × L → Type 0 };
+    /// What stays from the first state on.
+    ghost stays: { Self × L → Self × L → Type 0 };
     /// The number of bytes that were taken.
     ghost count: { Self → ℕ };
-    /// What stays from the first state on.
-    ghost stays: { Self → Self → Type 0 };
 
     /// Takes a piece.
-    fn take(&mut self, piece: &[u8]) -> Result<(), StreamFault>
-        requires begun { HasBegun taken self.old }
-        ensures takes { OnOk result (TakesMore taken self.old piece.now self.new) }
+    fn take(&mut self, piece: &[u8], out: &mut L) -> Result<(), StreamFault>
+        requires begun { HasBegun taken (self.old, out.old) }
+        ensures takes { OnOk result (TakesMore taken (self.old, out.old) piece.now (self.new, out.new)) }
         ensures count { OnOk result (count self.new ≡ count self.old + length piece.now) }
         ensures few { OnOk result (count self.new ≤ most_bytes) }
-        ensures stays { (first : Self) → stays first self.old → stays first self.new }
-        ensures halts { IfErr result (λ f. HaltsOn taken halts f self.old (λ bytes. bytes ++ piece.now) false self.new) };
+        ensures stays { (first : Self × L) → stays first (self.old, out.old) → stays first (self.new, out.new) }
+        ensures halts { IfErr result (λ f. HaltsOn taken halts f (self.old, out.old) (λ bytes. bytes ++ piece.now) false (self.new, out.new)) };
 
     /// Takes the end.
-    fn end(&mut self) -> Result<Summary, StreamFault>
-        requires begun { HasBegun taken self.old }
-        ensures ends { IfOk result (λ summary. ReadsEnd taken ends summary self.old self.new) }
-        ensures stays { (first : Self) → stays first self.old → stays first self.new }
-        ensures halts { IfErr result (λ f. HaltsOn taken halts f self.old (λ bytes. bytes) true self.new) };
+    fn end(&mut self, out: &mut L) -> Result<Summary, StreamFault>
+        requires begun { HasBegun taken (self.old, out.old) }
+        ensures ends { IfOk result (λ summary. ReadsEnd taken ends summary (self.old, out.old) (self.new, out.new)) }
+        ensures stays { (first : Self × L) → stays first (self.old, out.old) → stays first (self.new, out.new) }
+        ensures halts { IfErr result (λ f. HaltsOn taken halts f (self.old, out.old) (λ bytes. bytes) true (self.new, out.new)) };
 }
 
 /// Reads the source to its end.
-pub(crate) fn read_pieces<S: Source, R: Run>(
+pub(crate) fn read_pieces<S: Source, L, R: Run<L>>(
     source: &mut S,
     piece: &mut [u8],
     run: &mut R,
+    out: &mut L,
 ) -> Result<Summary, StreamFault>
     requires source { S.has_failed source.old ≡ false }
     requires room { 0 < length piece.old }
-    requires begun { R.taken run.old [] run.old }
-    requires stays { R.stays run.old run.old }
-    ensures stays { R.stays run.old run.new }
-    ensures read { IfOk result (λ summary. ReadsAll R.ends (S.remaining source.old) (S.remaining source.new) summary run.old run.new) }
-    ensures stops { IfErr result (λ f. ReadStops R.taken R.halts f (S.remaining source.old) (S.remaining source.new) (S.has_failed source.new) run.old run.new) }
+    requires begun { R.taken (run.old, out.old) [] (run.old, out.old) }
+    requires stays { R.stays (run.old, out.old) (run.old, out.old) }
+    ensures stays { R.stays (run.old, out.old) (run.new, out.new) }
+    ensures read { IfOk result (λ summary. ReadsAll R.ends (S.remaining source.old) (S.remaining source.new) summary (run.old, out.old) (run.new, out.new)) }
+    ensures stops { IfErr result (λ f.
+        ReadStops R.taken R.halts f (S.remaining source.old) (S.remaining source.new) (S.has_failed source.new) (run.old, out.old) (run.new, out.new)) }
 {
     loop {
         let count = match source.fill(piece) {
@@ -64,9 +66,9 @@ pub(crate) fn read_pieces<S: Source, R: Run>(
             Err(Failed) => return Err(StreamFault::Read),
         };
         if count == 0 {
-            return run.end();
+            return run.end(out);
         }
-        match run.take(&piece[..count]) {
+        match run.take(&piece[..count], out) {
             Ok(()) => {}
             Err(fault) => return Err(fault),
         }

@@ -38,6 +38,29 @@ pub fn show<A: Allocator + Copy, S: Source, D: Drain>(
 {
     let mut piece = piece_buffer(alloc)?;
     let mut buffer = Vec::new(alloc);
+    let mut lines = LineOut::new(Style::Kept, &mut buffer, drain);
+    show_document(alloc, &job, source, piece.as_mut_slice(), &mut lines)
+}
+
+fn show_document<A: Allocator + Copy, S: Source, D: Drain>(
+    alloc: A,
+    job: &Job<A>,
+    source: &mut S,
+    piece: &mut [u8],
+    lines: &mut LineOut<'_, D, A>,
+) -> Result<Summary, StreamFault>
+    requires source { S.has_failed source.old ≡ false }
+    requires room { 0 < length piece.old }
+    requires none_waits { lines.old.buffer.now.items ≡ [] }
+    requires live { D.has_failed lines.old.drain.now ≡ false }
+    ensures accepted { IfOk result (λ summary. IfSome (S.remaining source.old) (λ bytes.
+        Shows job.now bytes (D.contents lines.old.drain.now) (D.contents lines.new.drain.now) summary)) }
+    ensures flushed { OnOk result (D.is_flushed lines.new.drain.now ≡ true) }
+    ensures same { SameOut lines.old lines.new }
+    ensures stops { IfErr result (λ fault. ShowStops fault job.now (S.remaining source.old) (S.remaining source.new) (S.has_failed source.new)
+        (D.contents lines.old.drain.now) (D.contents lines.new.drain.now) (D.has_failed lines.new.drain.now)) }
+    ensures refused { IfErr result IsRefusal }
+{
     let mut run = Showing {
         scanner: Scanner::new(alloc, dialect(job.form()), job.limits().token()),
         so_far: Summary {
@@ -45,36 +68,34 @@ pub fn show<A: Allocator + Copy, S: Source, D: Drain>(
             tokens: 0,
             bytes: 0,
         },
-        lines: LineOut::new(Style::Kept, &mut buffer, drain),
     };
-    read_pieces(source, piece.as_mut_slice(), &mut run)
+    read_pieces(source, piece, &mut run, lines)
 }
 
-/// Puts the lines of a document's tokens.
+/// Reads the tokens of a document.
 #[derive(Drop)]
-struct Showing<'a, D: Drain, A: Allocator> {
+struct Showing<A: Allocator> {
     scanner: Scanner<A>,
     so_far: Summary,
-    lines: LineOut<'a, D, A>,
 }
 
-impl<'a, D: Drain, A: Allocator + Copy> Run for Showing<'a, D, A> {
-    ghost taken = { λ first bytes now. IsShowingRun D.contents D.has_failed first.scanner first.so_far first.lines bytes now.scanner now.so_far now.lines };
+impl<'a, D: Drain, A: Allocator + Copy> Run<LineOut<'a, D, A>> for Showing<A> {
+    ghost taken = { λ first bytes now. IsShowingRun D.contents D.has_failed first.0.scanner first.0.so_far first.1 bytes now.0.scanner now.0.so_far now.1 };
 
-    ghost halts = { λ told first bytes is_end now. ShowHalts D.contents D.has_failed told first.scanner first.so_far first.lines bytes is_end now.lines };
+    ghost halts = { λ told first bytes is_end now. ShowHalts D.contents D.has_failed told first.0.scanner first.0.so_far first.1 bytes is_end now.1 };
 
-    ghost ends = { λ summary first bytes now. ShowEnds D.contents D.has_failed D.is_flushed summary first.scanner first.so_far first.lines bytes now.lines };
+    ghost ends = { λ summary first bytes now. ShowEnds D.contents D.has_failed D.is_flushed summary first.0.scanner first.0.so_far first.1 bytes now.1 };
+
+    ghost stays = { λ first now. SameOut first.1 now.1 };
 
     ghost count = { λ now. now.so_far.bytes };
 
-    ghost stays = { λ first now. SameOut first.lines now.lines };
-
-    fn take(&mut self, piece: &[u8]) -> Result<(), StreamFault> {
-        show_piece(&mut self.scanner, piece, &mut self.so_far, &mut self.lines)
+    fn take(&mut self, piece: &[u8], lines: &mut LineOut<'a, D, A>) -> Result<(), StreamFault> {
+        show_piece(&mut self.scanner, piece, &mut self.so_far, lines)
     }
 
-    fn end(&mut self) -> Result<Summary, StreamFault> {
-        show_end(&mut self.scanner, &mut self.so_far, &mut self.lines)
+    fn end(&mut self, lines: &mut LineOut<'a, D, A>) -> Result<Summary, StreamFault> {
+        show_end(&mut self.scanner, &mut self.so_far, lines)
     }
 }
 
