@@ -1,124 +1,159 @@
--- Reading a source to its end, piece by piece.
-use Rattle.std.proofs.Common.{◌≡◌, ◌<◌, ◌≤◌, ◌+◌, ◌-◌, ◌^◌, ℕ, Bool, true, false, List, [], ◌++◌, length, Option, IfSome, sym, ap, subst, ◌∙◌, arith, length-append}
-use Rattle.std.proofs.lemmas.List.{append-nil}
+-- A whole check, from what its run has done.
+use Rattle.std.proofs.Common.{◌≡◌, ℕ, Bool, true, false, List, [], ◌++◌, Option, IfSome, refl, sym, subst, ⊎_elim, ◌∙◌}
 use Rattle.std.proofs.lemmas.Bool.{false≢true}
-use Rattle.std.proofs.KnownBytes.{Consumes-kept, Consumes-trans, Consumes-whole}
-use Rattle.std.specs.Io.KnownBytes.{Consumes, IsAtEnd, Keeps}
-use Rattle.rdf_terms.specs.declared.kind.Dialect.TheVariants.{Lines}
+use Rattle.std.proofs.KnownBytes.{Consumes-whole}
 use Rattle.rdf_terms.specs.declared.reason.Reason.{Reason}
 use Rattle.rdf_terms.specs.declared.reason.Reason.TheVariants as reason
 use Rattle.rdf_terms.specs.Terms.{Quad}
 use Rattle.rdf_tokens.specs.Tokens.{Place}
-use Rattle.rdf_tokens.specs.Good.{tokens_of}
-use Rattle.rdf_tokens.specs.Scans.{most_bytes}
-use Rattle.rdf_lines.specs.declared.fault.Summary.{Summary}
-use Rattle.rdf_lines.specs.Documents.{Document, GoesOn, IsWhole}
-use Rattle.rdf_lines.specs.LineRead.{LineRead}
-use Rattle.rdf_lines.specs.Readers.{HasRead, FeedFails, Feeds, FinishFails, Finishes}
-use Rattle.rdf_lines.proofs.DocumentsLemmas.{refused_in_more}
-use Rattle.rdf_lines.proofs.DueLaws.{read_goes_on}
+use Rattle.rdf_tokens.specs.Scans.{place_of}
+use Rattle.rdf_tokens.specs.Grammars.{GoesOn, Language, reading_of}
+use Rattle.rdf_tokens.proofs.LanguageLemmas.{EndsAtBlame, refused_in_more}
+use Rattle.rdf_driver.specs.declared.summary.Summary.{Summary}
+use Rattle.rdf_driver.specs.Readers.{Driven, FeedFails, Feeds, FinishFails, Finishes, HasRead}
+use Rattle.rdf_driver.specs.Words.{Words, in_words}
+use Rattle.rdf_driver.proofs.PromiseLemmas.{read_goes_on}
 use Rattle.rdf_stream.specs.declared.checks.NoQuads.{NoQuads}
+use Rattle.rdf_stream.specs.declared.fault.StreamFault.{StreamFault}
 use Rattle.rdf_stream.specs.declared.fault.StreamFault.TheVariants as stream
-use Rattle.rdf_stream.specs.Checks.{CheckStops, IsRefusedFor, Passes}
-use Rattle.rdf_stream.specs.Faults.{fault_by}
-use Rattle.rdf_stream.specs.Languages.{LineJob, in_lines}
-use Rattle.rdf_stream.proofs.ConvertsLemmas.{known_more, too_long_more}
-use Rattle.rdf_stream.proofs.PiecesLemmas.{refused_here}
+use Rattle.rdf_stream.specs.Checks.{BeginsToRead, CheckEnds, CheckHalts, CheckStops, ChecksNoMore, IsChecking, IsRefusedFor, Passes}
+use Rattle.rdf_stream.specs.Devices.{HasGiven}
+use Rattle.rdf_stream.specs.Faults.{IsOfDocument, IsRefusal, fault_by}
+use Rattle.rdf_stream.specs.Pieces.{ReadStops, ReadsAll, SourceFails}
+use Rattle.rdf_stream.proofs.PiecesLemmas.{all_given, too_long_more}
 
 abbrev pub TakesNone : NoQuads → Quad → NoQuads → Type 0
 TakesNone before q after = after ≡ before
 
--- What left the source was read.
-pub record IsChecking (job : LineJob) (known left : Option (List ℕ)) (source_failed : Bool) (reader : LineRead) (room : ℕ) : Type 0 where
-  pub form_stays : reader.form ≡ job.form
-  pub limit : reader.scanner.limit ≡ job.limits.token
-  pub iri : reader.iri ≡ job.limits.iri
-  pub bytes : List ℕ
-  pub quads : List Quad
-  pub consumed : Consumes known left bytes
-  pub read : HasRead reader bytes quads
-  pub live : source_failed ≡ false
-  pub has_room : 0 < room
+module _ {G X : Type 0} (w : Words G X) (first old : Driven G) (bytes : List ℕ) (i : IsChecking w first bytes old) where
+  -- what a setting brings to what was read
+  at_limit : (P : ℕ → Type 0) → P old.scanner.limit → P first.scanner.limit
+  at_limit P h = subst P i.limit h
 
-module _ (job : LineJob) (known left left' : Option (List ℕ)) (source_failed : Bool) (reader : LineRead) (room : ℕ) (i : IsChecking job known left source_failed reader room) where
-  -- the source failed
-  pub read_stops : (source_failed' : Bool) → Keeps left left' → source_failed' ≡ true → CheckStops stream.Read (in_lines job) known left' source_failed'
-  read_stops source_failed' k e =
-      let goes_on = subst (λ n. GoesOn job.form job.limits.token n i.bytes) i.iri
-      (subst (λ n. GoesOn job.form n reader.iri i.bytes) i.limit
-      (subst (λ y. GoesOn y reader.scanner.limit reader.iri i.bytes) i.form_stays (read_goes_on reader i.bytes i.quads i.read))) in
-      (e, i.bytes, Consumes-kept known left left' i.bytes i.consumed k, goes_on)
-
-  module _ (piece : List ℕ) (c : Consumes left left' piece) where
-    all_consumed : Consumes known left' (i.bytes ++ piece)
-    all_consumed = Consumes-trans known left left' i.bytes piece i.consumed c
-
+  module _ (piece : List ℕ) where
     -- a piece more
-    pub on_piece : (source_failed' : Bool) (reader' : LineRead) (room' : ℕ) (before after : NoQuads) → source_failed' ≡ false → 0 < room' → Feeds TakesNone reader before piece reader' after →
-        IsChecking job known left' source_failed' reader' room'
-    on_piece source_failed' reader' room' before after live has_room f = record {
-      form_stays = f.same.form ∙ i.form_stays;
-      limit = f.same.limit ∙ i.limit;
-      iri = f.same.iri ∙ i.iri;
-      bytes = i.bytes ++ piece;
-      quads = i.quads ++ f.more;
-      consumed = all_consumed;
-      read = f.read i.bytes i.quads i.read;
-      live = live;
-      has_room = has_room;
+    pub piece_read : (new : Driven G) (before after : NoQuads) → Feeds w TakesNone old before piece new after → IsChecking w first (bytes ++ piece) new
+    piece_read new before after f = record {
+      begun = i.begun;
+      limit = f.limit ∙ i.limit;
+      read = λ x b. let (quads, h) = i.read x b in (quads ++ f.more, f.read x bytes quads h);
     }
 
-    -- each piece takes a byte, and there are not too many
-    pub piece_less : (reader' : LineRead) (before after : NoQuads) → Feeds TakesNone reader before piece reader' after → reader'.scanner.taken.offset ≤ most_bytes → 0 < length piece →
-        2 ^ 63 - reader'.so_far.bytes < 2 ^ 63 - reader.so_far.bytes
-    piece_less reader' before after f few some =
-        let read = f.read i.bytes i.quads i.read in
-        let ahead : reader.so_far.bytes ≡ length i.bytes = ap (λ (s : Summary). s.bytes) i.read.so_far in
-        let behind : reader'.so_far.bytes ≡ length (i.bytes ++ piece) = ap (λ (s : Summary). s.bytes) read.so_far in
-        let small : reader'.scanner.taken.offset ≡ length (i.bytes ++ piece) = ap (λ (p : Place). p.offset) read.scanned.taken in
-        omega (arith, ahead, few, small, length-append i.bytes piece)
+    -- an error in a piece
+    pub piece_halts : (new : Driven G) (before after : NoQuads) (why : Reason) (n k : ℕ) →
+        FeedFails w TakesNone TakesNone (λ _. false) why (record { offset = n; line = k }) old before piece new after →
+        CheckHalts w (fault_by why (record { reason = why; offset = n; line = k })) first (bytes ++ piece) false
+    piece_halts new before after why n k h = record { begun = i.begun; halts = λ x b. let (quads, r) = i.read x b in by x quads r why h }
+      where
+        by : (x : X) (quads : List Quad) → HasRead w old x bytes quads → (why : Reason) →
+            FeedFails w TakesNone TakesNone (λ _. false) why (record { offset = n; line = k }) old before piece new after →
+            ChecksNoMore (fault_by why (record { reason = why; offset = n; line = k })) (in_words w x first.scanner.limit) (bytes ++ piece) false
+        by x quads r reason.Ended h = absurd (false≢true (sym r.running ∙ h.0))
+        by x quads r reason.Memory h = tt
+        by x quads r reason.Sink h = absurd (false≢true h.1)
+        by x quads r reason.DocumentTooLong h = h.1 x bytes quads r
+        by x quads r why h =
+            let z = h.refused x bytes quads r in
+            at_limit (λ m. IsRefusedFor why (in_words w x m) (bytes ++ piece) false (record { offset = n; line = k })) (z.0, z.1)
 
-    -- a fault in a piece
-    pub piece_stops : (source_failed' : Bool) (reader' : LineRead) (before after : NoQuads) (why : Reason) (x l : ℕ) →
-        FeedFails TakesNone TakesNone (λ _. false) why (record { offset = x; line = l }) reader before piece reader' after →
-        CheckStops (fault_by why (record { reason = why; offset = x; line = l })) (in_lines job) known left' source_failed'
-    piece_stops s reader' before after reason.Ended x l h = absurd (false≢true (sym i.read.running ∙ h.0))
-    piece_stops s reader' before after reason.Memory x l h = tt
-    piece_stops s reader' before after reason.Sink x l h = absurd (false≢true h.1)
-    piece_stops s reader' before after reason.DocumentTooLong x l h =
-        known_more known left' (i.bytes ++ piece) (λ b. IsRefusedFor reason.DocumentTooLong (in_lines job) b (record { offset = x; line = l })) all_consumed
-        (λ rest. too_long_more (i.bytes ++ piece) rest (record { offset = x; line = l }) (h.1 i.bytes i.quads i.read))
-    piece_stops s reader' before after why x l h =
-        let at : Place = record { offset = x; line = l } in
-        let r = refused_here job reader (i.bytes ++ piece) false why at (i.quads ++ h.more) i.form_stays i.limit i.iri (h.refused i.bytes i.quads i.read) in
-        known_more known left' (i.bytes ++ piece) (λ b. IsRefusedFor why (in_lines job) b at) all_consumed
-        (λ rest. (r.0, refused_in_more job.form job.limits.iri job.limits.token (i.bytes ++ piece) rest true why at r.0 r.1))
+  -- the document was read
+  pub end_read : (before after : NoQuads) (s : Summary) → Finishes w TakesNone old before s after → CheckEnds w s first bytes
+  end_read before after s f = λ x b.
+      let (quads, h) = i.read x b in
+      let sums = f.read x bytes quads h in
+      at_limit (λ m. Passes (in_words w x m) bytes s) (record {
+        quads = quads ++ f.more;
+        document = sums.document;
+        within = sums.whole;
+        counts = record { quads = sums.given; tokens = sums.accepted; bytes = sums.taken };
+      })
 
-  module _ (c : Consumes left left' []) (ended : IsAtEnd left') where
-    whole_consumed : Consumes known left' i.bytes
-    whole_consumed = subst (Consumes known left') (append-nil i.bytes) (Consumes-trans known left left' i.bytes [] i.consumed c)
+  -- an error at the end
+  pub end_halts : (new : Driven G) (before after : NoQuads) (why : Reason) (n k : ℕ) →
+      FinishFails w TakesNone TakesNone (λ _. false) why (record { offset = n; line = k }) old before new after →
+      CheckHalts w (fault_by why (record { reason = why; offset = n; line = k })) first bytes true
+  end_halts new before after why n k h = record { begun = i.begun; halts = λ x b. let (quads, r) = i.read x b in by x quads r why h }
+    where
+      by : (x : X) (quads : List Quad) → HasRead w old x bytes quads → (why : Reason) →
+          FinishFails w TakesNone TakesNone (λ _. false) why (record { offset = n; line = k }) old before new after →
+          ChecksNoMore (fault_by why (record { reason = why; offset = n; line = k })) (in_words w x first.scanner.limit) bytes true
+      by x quads r reason.Ended h = absurd (false≢true (sym r.running ∙ h.0))
+      by x quads r reason.Memory h = tt
+      by x quads r reason.Sink h = absurd (false≢true h.1)
+      by x quads r reason.DocumentTooLong h = absurd (h.refused x bytes quads r).1
+      by x quads r why h =
+          let z = h.refused x bytes quads r in at_limit (λ m. IsRefusedFor why (in_words w x m) bytes true (record { offset = n; line = k })) (z.0, z.1)
 
-    -- the document was read
-    pub end_passes : (before after : NoQuads) (s : Summary) → Finishes TakesNone reader before s after → IfSome known (λ b. Passes (in_lines job) b s)
-    end_passes before after s f =
-        let sums = f.read i.bytes i.quads i.read in
-        Consumes-whole known left' i.bytes (λ b. Passes (in_lines job) b s) whole_consumed ended (record {
-          quads = i.quads ++ f.more;
-          document = subst (λ n. Document job.form n i.bytes (i.quads ++ f.more)) i.limit (subst (λ y. Document y reader.scanner.limit i.bytes (i.quads ++ f.more)) i.form_stays sums.document);
-          within = subst (λ n. IsWhole job.form job.limits.token n i.bytes) i.iri
-              (subst (λ n. IsWhole job.form n reader.iri i.bytes) i.limit (subst (λ y. IsWhole y reader.scanner.limit reader.iri i.bytes) i.form_stays sums.whole));
-          counts = record { quads = sums.given; tokens = subst (λ n. s.tokens + 1 ≡ length (tokens_of Lines n i.bytes true).tokens) i.limit sums.accepted; bytes = sums.taken };
-        })
+-- what is refused stays refused, with all the bytes
+refused_more : (l : Language) → EndsAtBlame l → (why : Reason) (bytes more : List ℕ) (at : Place) → IsRefusedFor why l bytes false at → IsRefusedFor why l (bytes ++ more) true at
+refused_more l ends reason.DocumentTooLong bytes more at h = too_long_more bytes more at h
+refused_more l ends why bytes more at h = (h.0, refused_in_more l ends bytes more true why at h.0 h.1)
 
-    -- a fault at the end
-    pub end_stops : (source_failed' : Bool) (reader' : LineRead) (before after : NoQuads) (why : Reason) (x l : ℕ) →
-        FinishFails TakesNone TakesNone (λ _. false) why (record { offset = x; line = l }) reader before reader' after →
-        CheckStops (fault_by why (record { reason = why; offset = x; line = l })) (in_lines job) known left' source_failed'
-    end_stops s reader' before after reason.Ended x l h = absurd (false≢true (sym i.read.running ∙ h.0))
-    end_stops s reader' before after reason.Memory x l h = tt
-    end_stops s reader' before after reason.Sink x l h = absurd (false≢true h.1)
-    end_stops s reader' before after reason.DocumentTooLong x l h = absurd (h.refused i.bytes i.quads i.read).1
-    end_stops s reader' before after why x l h =
-        let at : Place = record { offset = x; line = l } in
-        let r = refused_here job reader i.bytes true why at (i.quads ++ h.more) i.form_stays i.limit i.iri (h.refused i.bytes i.quads i.read) in
-        Consumes-whole known left' i.bytes (λ b. IsRefusedFor why (in_lines job) b at) whole_consumed ended (r.0, r.1)
+-- a refusal is of the document
+refused_of_document : (l : Language) (why : Reason) (bytes : List ℕ) (e : Bool) (at : Place) → IsRefusedFor why l bytes e at → IsOfDocument why
+refused_of_document l reason.Memory bytes e at h = h.1
+refused_of_document l reason.Sink bytes e at h = h.1
+refused_of_document l reason.Ended bytes e at h = h.1
+refused_of_document l why bytes e at h = tt
+
+halts_of_document : (told : StreamFault) (l : Language) (bytes : List ℕ) (e : Bool) → ChecksNoMore told l bytes e → IsRefusal told
+halts_of_document (stream.Refused f) l bytes e h = refused_of_document l f.reason bytes e (place_of f) h
+halts_of_document stream.Read l bytes e h = tt
+halts_of_document stream.Write l bytes e h = tt
+halts_of_document stream.Memory l bytes e h = tt
+
+-- why the bytes that were given are not read on is why a check stops
+halts_stops : (told : StreamFault) (l : Language) → EndsAtBlame l → (known left : Option (List ℕ)) (read_failed : Bool) (given : HasGiven known left read_failed) →
+    ChecksNoMore told l given.bytes given.is_end → CheckStops told l known left read_failed
+halts_stops (stream.Refused f) l ends known left read_failed given h =
+    all_given known left read_failed (λ bytes e. IsRefusedFor f.reason l bytes e (place_of f)) (λ bytes more x. refused_more l ends f.reason bytes more (place_of f) x) given h
+halts_stops stream.Read l ends known left read_failed given h = absurd h
+halts_stops stream.Write l ends known left read_failed given h = absurd h
+halts_stops stream.Memory l ends known left read_failed given h = given
+
+module _ {G X : Type 0} (w : Words G X) where
+  -- a reader, and its sink
+  abbrev pub R : Type 0
+  R = Driven G × NoQuads
+
+  abbrev pub Taken : R → List ℕ → R → Type 0
+  Taken first bytes now = IsChecking w first.0 bytes now.0
+
+  abbrev pub Halted : StreamFault → R → List ℕ → Bool → R → Type 0
+  Halted told first bytes e now = CheckHalts w told first.0 bytes e
+
+  abbrev pub Ended : Summary → R → List ℕ → R → Type 0
+  Ended s first bytes now = CheckEnds w s first.0 bytes
+
+  -- nothing was read
+  pub begins : (x : X) (first : R) → BeginsToRead w x first.0 → Taken first [] first
+  begins x first b = record { begun = (x, b); limit = refl; read = λ y b. ([], b.read) }
+
+  module _ (x : X) (limit : ℕ) (first now : R) (same_limit : first.0.scanner.limit ≡ limit) (b : BeginsToRead w x first.0) (known left : Option (List ℕ)) where
+    pub checked : (s : Summary) → ReadsAll Ended known left s first now → IfSome known (λ bytes. Passes (in_words w x limit) bytes s)
+    checked s h =
+        Consumes-whole known left h.bytes (λ bytes. Passes (in_words w x limit) bytes s) h.consumed h.at_end (subst (λ n. Passes (in_words w x n) h.bytes s) same_limit (h.is_end x b))
+
+    broke : (source_failed : Bool) → SourceFails Taken known left source_failed first now → CheckStops stream.Read (in_words w x limit) known left source_failed
+    broke source_failed h =
+        let (quads, r) = h.is_taken.read x b in
+        let goes_on = read_goes_on w b.lawful now.0 x h.bytes quads r in
+        (
+          h.failed_now,
+          h.bytes,
+          h.consumed,
+          subst (λ n. GoesOn (in_words w x n) h.bytes) same_limit (subst (λ n. GoesOn (in_words w x n) h.bytes) h.is_taken.limit goes_on),
+        )
+
+    pub stopped : (told : StreamFault) (source_failed : Bool) → ReadStops Taken Halted told known left source_failed first now → CheckStops told (in_words w x limit) known left source_failed
+    stopped told source_failed h =
+        ⊎_elim (λ p. subst (λ t. CheckStops t (in_words w x limit) known left source_failed) (sym p.0) (broke source_failed p.1))
+        (λ p.
+        halts_stops told (in_words w x limit) (b.lawful.ends x) known left source_failed p.0
+        (subst (λ n. ChecksNoMore told (in_words w x n) p.0.bytes p.0.is_end) same_limit (p.1.halts x b)))
+        h
+
+    pub refused_document : (told : StreamFault) (source_failed : Bool) → ReadStops Taken Halted told known left source_failed first now → IsRefusal told
+    refused_document told source_failed h =
+        ⊎_elim (λ p. subst IsRefusal (sym p.0) tt)
+        (λ p. halts_of_document told (in_words w x first.0.scanner.limit) p.0.bytes p.0.is_end (p.1.halts x b)) h

@@ -1,202 +1,150 @@
--- From the pieces of a source to all of its bytes.
-use Rattle.std.proofs.Common.{◌≡◌, ◌<◌, ◌≤◌, ◌-◌, ◌^◌, ℕ, Bool, true, false, List, [], ◌++◌, length, take, Option, Some, None, IfSome, IfOk, IfErr, Result, Ok, Err, refl, sym, ap, subst, ◌∙◌, append_assoc, arith, length-append}
-use Rattle.std.proofs.lemmas.List.{append-nil, take-append-le}
-use Rattle.std.proofs.lemmas.Bool.{false≢true}
-use Rattle.std.proofs.KnownBytes.{Appends-nil, Consumes-kept, Consumes-nil, Consumes-trans, Consumes-whole}
-use Rattle.std.specs.Io.KnownBytes.{Consumes, IsAtEnd, Keeps}
+-- A whole conversion, from what its run has done.
+use Rattle.std.proofs.Common.{◌≡◌, ℕ, Bool, true, false, List, [], ◌++◌, length, Option, IfSome, IfErr, Result, refl, sym, subst, ⊎_elim}
+use Rattle.std.proofs.KnownBytes.{Appends-nil, Consumes-whole}
 use Rattle.std.specs.Result.{IsErrAnd}
 use Rattle.rdf_terms.specs.declared.reason.Reason.{Reason}
 use Rattle.rdf_terms.specs.declared.reason.Reason.TheVariants as reason
-use Rattle.rdf_terms.specs.declared.kind.Dialect.TheVariants.{Lines}
-use Rattle.rdf_tokens.specs.Tokens.{Place, Token, Reading}
-use Rattle.rdf_tokens.specs.Tokens.Outcome.{undecided}
-use Rattle.rdf_tokens.specs.Good.{end_of, tokens_of}
-use Rattle.rdf_tokens.specs.Grammars.{Due}
-use Rattle.rdf_lines.specs.Lines.{documents}
-use Rattle.rdf_tokens.specs.Scans.{most_bytes}
-use Rattle.rdf_tokens.proofs.LawLemmas.{lengthens}
 use Rattle.rdf_terms.specs.Terms.{Quad}
-use Rattle.rdf_trig.specs.Machine.{at_start}
-use Rattle.rdf_trig.proofs.Exact.{due_ran}
-use Rattle.rdf_stream.specs.declared.fault.Kind.{Kind}
-use Rattle.rdf_stream.specs.declared.fault.Kind.TheVariants.{Line, Tree}
-use Rattle.rdf_stream.specs.Kinds.{kind_of}
-use Rattle.rdf_lines.specs.declared.fault.Summary.{Summary}
-use Rattle.rdf_lines.specs.LineRead.{LineRead}
-use Rattle.rdf_lines.specs.Readers.{HasRead, IsTooLong, place_of}
-use Rattle.rdf_lines.proofs.DocumentsLemmas.{refused_in_more}
-use Rattle.rdf_lines.proofs.DueLaws.{due_none, read_due}
-use Rattle.rdf_lines.specs.declared.form.Style.TheVariants.{Kept}
-use Rattle.rdf_stream.specs.Languages.{Language, LineJob, in_lines, language_by, language_of, tree_job}
-use Rattle.rdf_stream.specs.Jobs.{JobRead}
+use Rattle.rdf_tokens.specs.Tokens.{Place, Token}
+use Rattle.rdf_tokens.specs.Scans.{place_of}
+use Rattle.rdf_tokens.specs.Grammars.{BeginsDue, Due, GoesOn, Language, reading_of}
+use Rattle.rdf_tokens.proofs.LanguageLemmas.{EndsAtBlame, due_more, refused_in_more}
+use Rattle.rdf_driver.specs.declared.summary.Summary.{Summary}
+use Rattle.rdf_driver.specs.Readers.{Driven}
+use Rattle.rdf_driver.specs.Words.{Words, in_words}
+use Rattle.rdf_driver.proofs.PromiseLemmas.{read_goes_on}
+use Rattle.rdf_lines.specs.declared.form.Style.{Style}
 use Rattle.rdf_stream.specs.declared.fault.StreamFault.{StreamFault}
 use Rattle.rdf_stream.specs.declared.fault.StreamFault.TheVariants as stream
 use Rattle.rdf_stream.specs.declared.line_out.LineOut.{LineOut}
-use Rattle.rdf_stream.specs.Converts.{Accepts, HasGiven, IsDueIn, Refuses, StopsFor, reading_of}
-use Rattle.rdf_stream.specs.LineOut.{SameOut}
-use Rattle.rdf_stream.specs.Pieces.{Ends, HandedOver, Halts, HaltsBehind}
-
--- What left the source was read, and all lines that are due of it were handed over.
-pub record IsConverting {D A : Type 0} (contents : D → Option (List ℕ)) (failed : D → Bool) (job : LineJob) (known left : Option (List ℕ)) (source_failed : Bool) (reader : LineRead) (first lines : LineOut D A) (room : ℕ) : Type 0 where
-  pub bytes : List ℕ
-  pub consumed : Consumes known left bytes
-  pub handed : HandedOver contents failed job reader bytes first lines
-  pub live : source_failed ≡ false
-  pub has_room : 0 < room
-
--- too many bytes are too many with more
-pub too_long_more : (bytes more : List ℕ) (at : Place) → IsTooLong bytes at → IsTooLong (bytes ++ more) at
-too_long_more bytes more at h = (omega (arith, h.0, length-append bytes more), h.1 ∙ ap end_of (sym (take-append-le most_bytes bytes more (omega (arith, h.0)))))
-
--- more bytes, or the end, take nothing back
-due_more : (g : Language) (bytes more : List ℕ) (e : Bool) (qs : List Quad) → IsDueIn g (reading_of g bytes false) qs → IsDueIn g (reading_of g (bytes ++ more) e) qs
-due_more g bytes more e qs d = again (lengthens g.dialect g.limit bytes more e).0
-  where
-    again : (m : List Token) × ((reading_of g (bytes ++ more) e).tokens ≡ (reading_of g bytes false).tokens ++ m) → IsDueIn g (reading_of g (bytes ++ more) e) qs
-    again m = (d.0, d.1 ++ m.0, m.1 ∙ (ap (λ ts. ts ++ m.0) d.2 ∙ append_assoc d.0 d.1 m.0), d.3)
-
-abbrev pub RefusalsStay : Language → Type 0
-RefusalsStay g = (bytes more : List ℕ) (why : Reason) (at : Place) (ahead : List Token) → g.refused (reading_of g bytes false) why at ahead → g.refused (reading_of g (bytes ++ more) true) why at ahead
+use Rattle.rdf_stream.specs.Converting.{Begins, HaltsFor, IsConverting, RunEnds, RunHalts, Starts}
+use Rattle.rdf_stream.specs.Converts.{Accepts, Refuses, StopsFor, WritesDue, WritesSome}
+use Rattle.rdf_stream.specs.Devices.{HasGiven}
+use Rattle.rdf_stream.specs.Faults.{IsOfDocument, IsRefusal}
+use Rattle.rdf_stream.specs.Languages.{Conversion, conversion}
+use Rattle.rdf_stream.specs.Pieces.{ReadStops, ReadsAll, SourceFails}
+use Rattle.rdf_stream.proofs.PiecesLemmas.{all_given, none_given, too_long_more}
+use Rattle.rdf_stream.proofs.ConvertingLemmas.{begins_all}
 
 -- what is refused stays refused, with all the bytes
-pub refuses_more : (g : Language) → RefusalsStay g → (why : Reason) (bytes more : List ℕ) (at : Place) (old new : Option (List ℕ)) → Refuses why g bytes false at old new → Refuses why g (bytes ++ more) true at old new
-refuses_more g stay reason.DocumentTooLong bytes more at old new h =
-    let some = h.1 in (
-      too_long_more bytes more at h.0,
-      record { quads = some.quads; later = some.later; due = due_more g bytes more true (some.quads ++ some.later) some.due; written = some.written },
-    )
-refuses_more g stay why bytes more at old new h = (h.0, stay bytes more why at h.0 h.1, h.2)
+refuses_more : (job : Conversion) → EndsAtBlame job.language → (why : Reason) (bytes more : List ℕ) (at : Place) (old new : Option (List ℕ)) → Refuses why job bytes false at old new → Refuses why job (bytes ++ more) true at old new
+refuses_more job ends reason.DocumentTooLong bytes more at old new h =
+    let some = h.1 in (too_long_more bytes more at h.0, record { quads = some.quads; due = due_more job.language ends bytes more true some.quads some.due; written = some.written })
+refuses_more job ends why bytes more at old new h = (h.0, refused_in_more job.language ends bytes more true why at h.0 h.1, h.2)
 
-pub lines_stay : (job : LineJob) → RefusalsStay (in_lines job)
-lines_stay job bytes more why at ahead x = refused_in_more job.form job.limits.iri job.limits.token bytes more true why at ahead x
+-- a refusal is of the document
+refuses_document : (job : Conversion) (why : Reason) (bytes : List ℕ) (e : Bool) (at : Place) (old new : Option (List ℕ)) → Refuses why job bytes e at old new → IsOfDocument why
+refuses_document job reason.Memory bytes e at old new h = h.1
+refuses_document job reason.Sink bytes e at old new h = h.1
+refuses_document job reason.Ended bytes e at old new h = h.1
+refuses_document job why bytes e at old new h = tt
 
--- the bytes that were known are those that were read and those that are left
-pub known_more : (known left : Option (List ℕ)) (bytes : List ℕ) (P : List ℕ → Type 0) → Consumes known left bytes → ((rest : List ℕ) → P (bytes ++ rest)) → IfSome known P
-known_more None left bytes P c h = tt
-known_more (Some b) None bytes P c h = absurd c
-known_more (Some b) (Some rest) bytes P c h = subst P (sym c) (h rest)
+halts_document : (told : StreamFault) (job : Conversion) (bytes : List ℕ) (e : Bool) (old new : Option (List ℕ)) (failed : Bool) → HaltsFor told job bytes e old new failed → IsRefusal told
+halts_document (stream.Refused f) job bytes e old new failed h = refuses_document job f.reason bytes e (place_of f) old new h
+halts_document stream.Read job bytes e old new failed h = tt
+halts_document stream.Write job bytes e old new failed h = tt
+halts_document stream.Memory job bytes e old new failed h = tt
 
--- the source gave no byte into a buffer that has room
-pub no_more : (left left' : Option (List ℕ)) (n : ℕ) (buf : List ℕ) → Consumes left left' (take n buf) × (n ≡ 0 → 0 < length buf → IsAtEnd left') → n ≡ 0 → 0 < length buf → Consumes left left' []
-no_more left left' n buf h e room = subst (λ k. Consumes left left' (take k buf)) e h.0
+-- why the bytes that were given are not read on is why a conversion stops
+halts_stops : (told : StreamFault) (job : Conversion) → EndsAtBlame job.language → (known left old new : Option (List ℕ)) (read_failed write_failed : Bool) (given : HasGiven known left read_failed) →
+    HaltsFor told job given.bytes given.is_end old new write_failed → StopsFor told job known left read_failed old new write_failed
+halts_stops (stream.Refused f) job ends known left old new read_failed write_failed given h =
+    all_given known left read_failed (λ bytes e. Refuses f.reason job bytes e (place_of f) old new) (λ bytes more x. refuses_more job ends f.reason bytes more (place_of f) old new x) given h
+halts_stops stream.Read job ends known left old new read_failed write_failed given h = absurd h
+halts_stops stream.Write job ends known left old new read_failed write_failed given h = (h.0, given, h.1)
+halts_stops stream.Memory job ends known left old new read_failed write_failed given h = (h.0, given, h.1)
 
--- nothing was read or written
-pub begins : {D A : Type 0} (contents : D → Option (List ℕ)) (failed : D → Bool) (job : LineJob) (r : LineRead) (lines : LineOut D A) → r.form ≡ job.form → r.scanner.limit ≡ job.limits.token → r.iri ≡ job.limits.iri → HasRead r [] [] →
-    lines.buffer.now.items ≡ [] → lines.style ≡ Kept → failed lines.drain.now ≡ false → HandedOver contents failed job r [] lines lines
-begins contents failed job r lines f l n h none style live = record {
-  form_stays = f;
-  limit = l;
-  iri = n;
-  quads = [];
-  read = h;
-  due = subst (λ k. Due (documents job.form) (tokens_of Lines k [] false).tokens []) l
-      (subst (λ y. Due (documents y) (tokens_of Lines r.scanner.limit [] false).tokens []) f (read_due r [] [] h));
-  written = Appends-nil (contents lines.drain.now);
-  none_waits = none;
-  writable = tt;
-  style = style;
-  same = record { style = refl; buffer = refl; drain = refl };
-  live = live;
-}
+module _ {G X D A : Type 0} (contents : D → Option (List ℕ)) (failed flushed : D → Bool) (w : Words G X) where
+  -- a reader, and its lines
+  abbrev pub R : Type 0
+  R = Driven G × LineOut D A
 
-module _ {D A : Type 0} (contents : D → Option (List ℕ)) (failed : D → Bool) (job : LineJob) (known left left' : Option (List ℕ)) (source_failed : Bool) (reader : LineRead) (first lines : LineOut D A) (room : ℕ)
-    (i : IsConverting contents failed job known left source_failed reader first lines room) where
-  -- the reader has taken the bytes, and there are not too many
-  taken : reader.so_far.bytes ≡ length i.bytes
-  taken = ap (λ (s : Summary). s.bytes) i.handed.read.so_far
+  abbrev pub Taken : R → List ℕ → R → Type 0
+  Taken first bytes now = IsConverting contents failed w first.0 first.1 bytes now.0 now.1
 
-  module _ (piece : List ℕ) (c : Consumes left left' piece) where
-    all_consumed : Consumes known left' (i.bytes ++ piece)
-    all_consumed = Consumes-trans known left left' i.bytes piece i.consumed c
+  abbrev pub Halted : StreamFault → R → List ℕ → Bool → R → Type 0
+  Halted told first bytes e now = RunHalts contents failed w told first.0 first.1 bytes e now.1
 
-    -- a piece more
-    pub on_piece : (source_failed' : Bool) (reader' : LineRead) (lines' : LineOut D A) (room' : ℕ) → source_failed' ≡ false → 0 < room' →
-        HandedOver contents failed job reader' (i.bytes ++ piece) first lines' → IsConverting contents failed job known left' source_failed' reader' first lines' room'
-    on_piece source_failed' reader' lines' room' live has_room h = record { bytes = i.bytes ++ piece; consumed = all_consumed; handed = h; live = live; has_room = has_room }
+  abbrev pub Ended : Summary → R → List ℕ → R → Type 0
+  Ended s first bytes now = RunEnds contents failed flushed w s first.0 first.1 bytes now.1
 
-    -- each piece takes a byte, and there are not too many
-    pub piece_less : (reader' : LineRead) (lines' : LineOut D A) → HandedOver contents failed job reader' (i.bytes ++ piece) first lines' → reader'.scanner.taken.offset ≤ most_bytes → 0 < length piece →
-        2 ^ 63 - reader'.so_far.bytes < 2 ^ 63 - reader.so_far.bytes
-    piece_less reader' lines' h few some =
-        let behind : reader'.so_far.bytes ≡ length (i.bytes ++ piece) = ap (λ (s : Summary). s.bytes) h.read.so_far in
-        let small : reader'.scanner.taken.offset ≡ length (i.bytes ++ piece) = ap (λ (p : Place). p.offset) h.read.scanned.taken in
-        omega (arith, taken, few, small, length-append i.bytes piece)
+  -- nothing was read or written
+  pub begins : (x : X) (first : R) → Begins failed w x first.0 first.1 → Taken first [] first
+  begins x first b = record {
+    begun = (x, b);
+    limit = refl;
+    handed = λ y b. record {
+      quads = [];
+      read = b.starts.read;
+      written = Appends-nil (contents first.1.drain.now);
+      writable = tt;
+      none_waits = b.none_waits;
+      same = record { style = refl; buffer = refl; drain = refl };
+      live = b.live;
+    };
+  }
 
-    -- a fault in a piece
-    pub piece_stops : (told : StreamFault) (source_failed' : Bool) (after : LineOut D A) → Halts contents failed told (in_lines job) (i.bytes ++ piece) false first after →
-        StopsFor told (in_lines job) known left' source_failed' (contents first.drain.now) (contents after.drain.now) (failed after.drain.now)
-    piece_stops (stream.Refused f) x after h =
-        known_more known left' (i.bytes ++ piece) (λ b. Refuses f.reason (in_lines job) b true (place_of f) (contents first.drain.now) (contents after.drain.now)) all_consumed
-        (λ rest. refuses_more (in_lines job) (lines_stay job) f.reason (i.bytes ++ piece) rest (place_of f) (contents first.drain.now) (contents after.drain.now) h.halts)
-    piece_stops stream.Read x after h = absurd h.halts
-    piece_stops stream.Write x after h = (h.halts.0, given, h.halts.1)
-      where
-        given : HasGiven known left'
-        given = record { bytes = i.bytes ++ piece; is_end = false; consumed = all_consumed; ended = λ e. absurd (false≢true e) }
-    piece_stops stream.Memory x after h = (record { bytes = i.bytes ++ piece; is_end = false; consumed = all_consumed; ended = λ e. absurd (false≢true e) }, h.halts)
+  module _ (x : X) (limit : ℕ) (style : Style) (first now : R) (same_limit : first.0.scanner.limit ≡ limit) (same_style : first.1.style ≡ style) (b : Begins failed w x first.0 first.1)
+      (known left : Option (List ℕ)) where
+    abbrev job : Conversion
+    job = conversion w x limit style
 
-  module _ (c : Consumes left left' []) (ended : IsAtEnd left') where
-    whole_consumed : Consumes known left' i.bytes
-    whole_consumed = subst (Consumes known left') (append-nil i.bytes) (Consumes-trans known left left' i.bytes [] i.consumed c)
+    abbrev old : Option (List ℕ)
+    old = contents first.1.drain.now
 
-    -- the document was read and written
-    pub whole_accepted : (after : LineOut D A) (s : Summary) → SameOut first after × Accepts (in_lines job) i.bytes (contents first.drain.now) (contents after.drain.now) s →
-        IfSome known (λ b. Accepts (in_lines job) b (contents first.drain.now) (contents after.drain.now) s)
-    whole_accepted after s a = Consumes-whole known left' i.bytes (λ b. Accepts (in_lines job) b (contents first.drain.now) (contents after.drain.now) s) whole_consumed ended a.1
+    abbrev new : Option (List ℕ)
+    new = contents now.1.drain.now
 
-    -- a fault at the end
-    pub end_stops : (told : StreamFault) (source_failed' : Bool) (after : LineOut D A) → Halts contents failed told (in_lines job) i.bytes true first after →
-        StopsFor told (in_lines job) known left' source_failed' (contents first.drain.now) (contents after.drain.now) (failed after.drain.now)
-    end_stops (stream.Refused f) x after h =
-        Consumes-whole known left' i.bytes (λ b. Refuses f.reason (in_lines job) b true (place_of f) (contents first.drain.now) (contents after.drain.now)) whole_consumed ended h.halts
-    end_stops stream.Read x after h = absurd h.halts
-    end_stops stream.Write x after h = (h.halts.0, record { bytes = i.bytes; is_end = true; consumed = whole_consumed; ended = λ e. ended }, h.halts.1)
-    end_stops stream.Memory x after h = (record { bytes = i.bytes; is_end = true; consumed = whole_consumed; ended = λ e. ended }, h.halts)
+    -- by the limit and the style that were asked for
+    asked : (P : ℕ → Style → Type 0) → P first.0.scanner.limit first.1.style → P limit style
+    asked P h = subst (λ s. P limit s) same_style (subst (λ n. P n first.1.style) same_limit h)
 
-    -- the end was read, or a fault was told
-    pub ended_same : (r : Result Summary StreamFault) (after : LineOut D A) → IfOk r (λ s. Ends contents failed s reader lines after) →
-        IfErr r (λ told. HaltsBehind contents failed told reader lines (λ b. b) true after) → SameOut first after
-    ended_same (Ok s) after a h = (a job i.bytes first i.handed).0
-    ended_same (Err told) after a h = (h job i.bytes first i.handed).same
+    pub converted : (s : Summary) → ReadsAll Ended known left s first now → IfSome known (λ bytes. Accepts job bytes old new s)
+    converted s h =
+        Consumes-whole known left h.bytes (λ bytes. Accepts job bytes old new s) h.consumed h.at_end (asked (λ n s'. Accepts (conversion w x n s') h.bytes old new s) (h.is_end.accepts x b))
 
-    pub ended_stops : (r : Result Summary StreamFault) (source_failed' : Bool) (after : LineOut D A) → IfErr r (λ told. HaltsBehind contents failed told reader lines (λ b. b) true after) →
-        IfErr r (λ told. StopsFor told (in_lines job) known left' source_failed' (contents first.drain.now) (contents after.drain.now) (failed after.drain.now))
-    ended_stops (Ok s) x after h = tt
-    ended_stops (Err told) x after h = end_stops told x after (h job i.bytes first i.handed)
+    -- the source failed
+    broke : (source_failed : Bool) → SourceFails Taken known left source_failed first now → StopsFor stream.Read job known left source_failed old new (failed now.1.drain.now)
+    broke source_failed h =
+        let o = h.is_taken.handed x b in
+        let n = now.0.scanner.limit in
+        let law = b.starts.suits.lawful in
+        let writes : WritesDue (conversion w x first.0.scanner.limit first.1.style) (reading_of (in_words w x first.0.scanner.limit) h.bytes false).tokens old new =
+        subst (λ k. WritesDue (conversion w x k first.1.style) (reading_of (in_words w x k) h.bytes false).tokens old new) h.is_taken.limit
+        (record { quads = o.quads; due = law.due now.0.grammar x (reading_of (in_words w x n) h.bytes false).tokens o.quads o.read.reached; written = o.written }) in
+        (
+          h.failed_now,
+          record {
+            bytes = h.bytes;
+            consumed = h.consumed;
+            goes_on = asked (λ k s. GoesOn (in_words w x k) h.bytes) (subst (λ k. GoesOn (in_words w x k) h.bytes) h.is_taken.limit (read_goes_on w law now.0 x h.bytes o.quads o.read));
+            writes = asked (λ k s. WritesDue (conversion w x k s) (reading_of (in_words w x k) h.bytes false).tokens old new) writes;
+          },
+        )
 
-    pub ended_accepted : (r : Result Summary StreamFault) (after : LineOut D A) → IfOk r (λ s. Ends contents failed s reader lines after) →
-        IfOk r (λ s. IfSome known (λ b. Accepts (in_lines job) b (contents first.drain.now) (contents after.drain.now) s))
-    ended_accepted (Ok s) after a = whole_accepted after s (a job i.bytes first i.handed)
-    ended_accepted (Err told) after a = tt
+    pub stopped : (told : StreamFault) (source_failed : Bool) → ReadStops Taken Halted told known left source_failed first now →
+        StopsFor told job known left source_failed old new (failed now.1.drain.now)
+    stopped told source_failed h =
+        ⊎_elim (λ p. subst (λ t. StopsFor t job known left source_failed old new (failed now.1.drain.now)) (sym p.0) (broke source_failed p.1))
+        (λ p.
+        halts_stops told job (b.starts.suits.lawful.ends x) known left old new source_failed (failed now.1.drain.now) p.0
+        (asked (λ n s. HaltsFor told (conversion w x n s) p.0.bytes p.0.is_end old new (failed now.1.drain.now)) (p.1.halts x b)))
+        h
 
-  -- the source failed
-  pub read_stops : (source_failed' : Bool) → Keeps left left' → source_failed' ≡ true →
-      StopsFor stream.Read (in_lines job) known left' source_failed' (contents first.drain.now) (contents lines.drain.now) (failed lines.drain.now)
-  read_stops source_failed' k e = (
-    e,
-    record {
-      bytes = i.bytes;
-      consumed = Consumes-kept known left left' i.bytes i.consumed k;
-      waits = subst (λ n. (tokens_of Lines n i.bytes false).outcome ≡ undecided) i.handed.limit i.handed.read.undecided;
-      writes = record { quads = i.handed.quads; due = i.handed.due; written = i.handed.written };
-    },
-  )
-
--- a `?` that told a fault
-pub told_stops : {T : Type 0} (r : Result T StreamFault) (told : StreamFault) (P : StreamFault → Type 0) → IsErrAnd r (λ t. t ≡ told) → P told → IfErr r P
-told_stops (Ok x) told P e h = tt
-told_stops (Err t) told P e h = subst P (sym e) h
-
--- before any token nothing is due
-none_due : (k : Kind) (job : JobRead) (r : Reading) → IsDueIn (language_by k job) r []
-none_due (Line form) job r = due_none form r
-none_due (Tree form) job r = ([], r.tokens, refl, due_ran form (tree_job form job).start [] (at_start (tree_job form job).start) [] refl)
+    pub refused_document : (told : StreamFault) (source_failed : Bool) → ReadStops Taken Halted told known left source_failed first now → IsRefusal told
+    refused_document told source_failed h =
+        ⊎_elim (λ p. subst IsRefusal (sym p.0) tt)
+        (λ p. halts_document told (conversion w x first.0.scanner.limit first.1.style) p.0.bytes p.0.is_end old new (failed now.1.drain.now) (p.1.halts x b)) h
 
 -- there was no memory to begin with
-pub none_stops : {T : Type 0} (r : Result T StreamFault) (job : JobRead) (known old : Option (List ℕ)) (read_failed write_failed : Bool) → IsErrAnd r (λ t. t ≡ stream.Memory) →
-    IfErr r (λ told. StopsFor told (language_of job) known known read_failed old old write_failed)
-none_stops (Ok x) job known old read_failed write_failed e = tt
-none_stops (Err told) job known old read_failed write_failed e = subst (λ t. StopsFor t (language_of job) known known read_failed old old write_failed) (sym e) (
-  record { bytes = []; is_end = false; consumed = Consumes-nil known; ended = λ x. absurd (false≢true x) },
-  record { quads = []; later = []; due = none_due (kind_of job.form) job (reading_of (language_of job) [] false); written = Appends-nil old },
-)
+pub none_stops : {G X : Type 0} (w : Words G X) (x : X) (reader : Driven G) (style : Style) (known old : Option (List ℕ)) (read_failed write_failed : Bool) → Starts w x reader style →
+    read_failed ≡ false → write_failed ≡ false → StopsFor stream.Memory (conversion w x reader.scanner.limit style) known known read_failed old old write_failed
+none_stops w x reader style known old read_failed write_failed s r f =
+    let l = in_words w x reader.scanner.limit in
+    let ts = (reading_of l [] false).tokens in
+    let law = s.suits.lawful in
+    (
+      f,
+      none_given known read_failed r,
+      record { quads = []; due = begins_all l ts [] (law.kept reader.grammar x ts [] s.read.reached) (law.due reader.grammar x ts [] s.read.reached); written = Appends-nil old },
+    )

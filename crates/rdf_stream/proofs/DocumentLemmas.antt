@@ -1,16 +1,23 @@
--- A document of a line format names each of its blank nodes, so its quads, and those that are due of it, can be written with their labels kept.
-use Rattle.std.proofs.Common.{ℕ, Bool, true, false, List, [], ◌∷◌, ◌++◌, length, subst, Option, Some, None}
+-- A document of a line format names each of its blank nodes, so the quads that are due of it can be written with their labels kept. With labels renamed each quad can be written.
+use Rattle.std.proofs.Common.{ℕ, Bool, true, false, List, [], ◌∷◌, length, subst, Option, Some, None}
 use Rattle.std.specs.Prelude.{cond}
 use Rattle.std.specs.List.{AllByRecursion}
-use Rattle.rdf_terms.specs.Terms.{Quad}
-use Rattle.rdf_lines.specs.declared.form.Style.TheVariants.{Kept}
-use Rattle.rdf_tokens.specs.Tokens.{Token, Reading}
+use Rattle.rdf_terms.specs.Terms.{Blank, Iri, Literal, Quad, Resource, Subject, Term}
+use Rattle.rdf_lines.specs.declared.form.Style.TheVariants.{Kept, Tagged}
+use Rattle.rdf_tokens.specs.Tokens.{Token}
 use Rattle.rdf_tokens.specs.Grammars.{before, Due}
 use Rattle.rdf_lines.specs.declared.form.LineForm.{LineForm}
-use Rattle.rdf_lines.specs.Readers.{IsDueIn}
 use Rattle.rdf_lines.specs.Lines.{Name, Ref, Lab, Object, Named, Plain, WithType, WithTag, Statement, empty, one, Document, last, next, subject_of, term_of, quad_of, marked, documents}
 use Rattle.rdf_lines.specs.Writing.{CanWrite, CanWriteSubject, CanWriteTerm, CanWriteGraph}
-use Rattle.std.proofs.Common.{option_map}
+use Rattle.std.proofs.Common.{option_map, ◌≡◌, sym}
+use Rattle.rdf_lines.specs.declared.form.Style.{Style}
+use Rattle.rdf_lines.specs.declared.rules.Rules.{Rules}
+use Rattle.rdf_lines.specs.Accepting.{line_words}
+use Rattle.rdf_lines.proofs.AcceptingLemmas.{lawful as lines_lawful}
+use Rattle.rdf_trig.specs.Language.{Chosen}
+use Rattle.rdf_trig.specs.Accepting.{tree_words}
+use Rattle.rdf_trig.proofs.AcceptingLemmas.{lawful as trees_lawful}
+use Rattle.rdf_stream.specs.Converting.{Suits}
 
 name_kept : (n : Name) → CanWriteSubject Kept (subject_of n)
 name_kept (Ref l) = tt
@@ -46,9 +53,27 @@ due_kept f ts qs d =
     let (tree, same, good, marks) = d.2 in
     subst (AllByRecursion (CanWrite Kept)) d.3 (subst (λ ms. AllByRecursion (CanWrite Kept) (before (length ts) ms)) marks (marked_kept tree 0 (length ts)))
 
-pub is_due_kept : (f : LineForm) (r : Reading) (qs : List Quad) → IsDueIn f r qs → AllByRecursion (CanWrite Kept) qs
-is_due_kept f r qs d = due_kept f d.0 qs d.3
+subject_tagged : (s : Subject) → CanWriteSubject Tagged s
+subject_tagged (Iri i) = tt
+subject_tagged (Blank n) = tt
 
-pub behind_kept : (qs rs : List Quad) → AllByRecursion (CanWrite Kept) (qs ++ rs) → AllByRecursion (CanWrite Kept) rs
-behind_kept [] rs h = h
-behind_kept (q ∷ qs) rs h = behind_kept qs rs h.1
+term_tagged : (t : Term) → CanWriteTerm Tagged t
+term_tagged (Resource s) = subject_tagged s
+term_tagged (Literal w t) = tt
+
+graph_tagged : (g : Option Subject) → CanWriteGraph Tagged g
+graph_tagged None = tt
+graph_tagged (Some s) = subject_tagged s
+
+-- Labels are renamed, so each quad can be written.
+all_tagged : (qs : List Quad) → AllByRecursion (CanWrite Tagged) qs
+all_tagged [] = tt
+all_tagged (q ∷ qs) = (record { subject = subject_tagged q.subject; object = term_tagged q.object; graph = graph_tagged q.graph }, all_tagged qs)
+
+-- The line formats suit lines with labels kept.
+pub lines_suit : (x : Rules) (style : Style) → style ≡ Kept → Suits line_words x style
+lines_suit x style e = subst (Suits line_words x) (sym e) (record { lawful = lines_lawful; can_write = λ ts quads d. due_kept x.form ts quads d })
+
+-- Turtle and TriG suit lines with labels renamed.
+pub trees_suit : (x : Chosen) (style : Style) → style ≡ Tagged → Suits tree_words x style
+trees_suit x style e = subst (Suits tree_words x) (sym e) (record { lawful = trees_lawful; can_write = λ ts quads d. all_tagged quads })

@@ -2,10 +2,8 @@ pub mod ViewsLemmas
 pub mod WellFormedLemmas
 pub mod LineOutLemmas
 pub mod PiecesLemmas
+pub mod ConvertingLemmas
 pub mod ConvertsLemmas
 pub mod DocumentLemmas
 pub mod ChecksLemmas
 pub mod ShowsLemmas
-pub mod TreePiecesLemmas
-pub mod TreeConvertsLemmas
-pub mod TreeChecksLemmas

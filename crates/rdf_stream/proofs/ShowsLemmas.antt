@@ -16,23 +16,24 @@ use Rattle.rdf_tokens.specs.Good.{tokens_of, end_of}
 use Rattle.rdf_tokens.specs.Unread.{Unread}
 use Rattle.rdf_tokens.specs.Moves as Moved
 use Rattle.rdf_tokens.specs.Scans as Scan
-use Rattle.rdf_tokens.specs.Scans.{HasRead, GivesToken, IsOpen, TakesBytes, Waits, is_end, most_bytes}
+use Rattle.rdf_tokens.specs.Scans.{HasRead, GivesToken, IsOpen, TakesBytes, Waits, is_end, most_bytes, place_of}
 use Rattle.rdf_tokens.specs.Grammars.{counted}
 use Rattle.rdf_tokens.proofs.LawLemmas.{given_beginning, lengthens}
 use Rattle.rdf_tokens.proofs.GrammarsLemmas.{counted-append, counted_complete, end_complete, given_few, only_ended, tokens_of-nil}
-use Rattle.rdf_lines.specs.declared.fault.Summary.{Summary}
-use Rattle.rdf_lines.specs.Readers.{place_of}
+use Rattle.rdf_driver.specs.declared.summary.Summary.{Summary}
 use Rattle.rdf_stream.specs.Jobs.{JobRead}
 use Rattle.rdf_stream.specs.declared.fault.StreamFault.{StreamFault}
 use Rattle.rdf_stream.specs.declared.fault.StreamFault.TheVariants as stream
 use Rattle.rdf_stream.specs.declared.line_out.LineOut.{LineOut}
-use Rattle.rdf_stream.specs.Devices.{AppendsFront}
-use Rattle.rdf_stream.specs.Faults.{fault_by}
+use Rattle.rdf_stream.specs.declared.shows.Showing.{Showing}
+use Rattle.rdf_stream.specs.Devices.{AppendsFront, HasGiven}
+use Rattle.rdf_stream.specs.Faults.{IsOfDocument, IsRefusal, fault_by}
 use Rattle.rdf_stream.specs.LineOut.{Moves, SameOut, Writes}
-use Rattle.rdf_stream.specs.Pieces.{Tells, TellsFault, TellsWrite}
+use Rattle.rdf_stream.specs.Converting.{Tells, TellsFault, TellsWrite}
+use Rattle.rdf_stream.specs.Pieces.{ReadStops, ReadsAll, SourceFails}
 use Rattle.rdf_stream.specs.Shows.{ShowStops, Shows, ShowsFront, ShowsSome, Stops, StopsAt, dialect_of, shown, token_line, token_lines, tokens_in}
-use Rattle.rdf_stream.specs.ShowParts.{AreAll, Ends, Halts, HaltsBehind, HaltsFor, HasShown, HasShownAll, NowShown, PutHalts}
-use Rattle.rdf_stream.proofs.ConvertsLemmas.{known_more}
+use Rattle.rdf_stream.specs.ShowParts.{AreAll, Begins, Halts, HaltsFor, HasShown, HasShownAll, IsShowingRun, NowShown, PutHalts, ShowEnds, ShowHalts}
+use Rattle.rdf_stream.proofs.PiecesLemmas.{all_given}
 use Rattle.rdf_stream.proofs.LineOutLemmas.{front_moves, moves_all, moves_front, moves_more, moves_on, same_out}
 
 pub lines-append : (ts us : List Token) → token_lines (ts ++ us) ≡ token_lines ts ++ token_lines us
@@ -87,7 +88,7 @@ module _ (job : JobRead) (bytes more : List ℕ) (e : Bool) (old new : Option (L
   halts_more (stream.Refused f) failed h = stops_more f.reason (place_of f) h
   halts_more stream.Read failed h = h
   halts_more stream.Write failed h = (h.0, front_longer h.1)
-  halts_more stream.Memory failed h = some_longer h
+  halts_more stream.Memory failed h = (h.0, some_longer h.1)
 
 pub all_halt : {D A : Type 0} (contents : D → Option (List ℕ)) (failed : D → Bool) (told : StreamFault) (job : JobRead) (bytes more : List ℕ) (e : Bool) (first lines : LineOut D A) →
     Halts contents failed told job bytes false first lines → Halts contents failed told job (bytes ++ more) e first lines
@@ -258,7 +259,7 @@ module _ {D A : Type 0} (contents : D → Option (List ℕ)) (failed : D → Boo
     }
     one_halts stream.Memory after same p = record {
       same = same_out first lines after h.same same;
-      halts = some_lines (contents first.drain.now) (contents after.drain.now) now ts begins.0 begins.1 (all_taken after p);
+      halts = (p.0, some_lines (contents first.drain.now) (contents after.drain.now) now ts begins.0 begins.1 (all_taken after p.1));
     }
     one_halts told after same p = absurd p
 
@@ -356,14 +357,16 @@ module _ {D A : Type 0} (contents : D → Option (List ℕ)) (failed : D → Boo
   module _ (piece : List ℕ) where
     -- the scanner did not take the piece
     push_refused : (why : Reason) (x l : ℕ) (w : Unread) (after : LineOut D A) → Scan.RefusesFor why v piece (record { offset = x; line = l }) w →
-        Appends (contents lines.drain.now) (contents after.drain.now) lines.buffer.now.items →
+        failed after.drain.now ≡ false → Appends (contents lines.drain.now) (contents after.drain.now) lines.buffer.now.items →
         HaltsFor (fault_by why (record { reason = why; offset = x; line = l })) job (bytes ++ piece) false (contents first.drain.now) (contents after.drain.now) (failed after.drain.now)
-    push_refused reason.Ended x l w after p t = absurd (⊎_elim (λ e. false≢true (sym h.more.running ∙ e)) (λ e. false≢true (sym h.more.more ∙ e)) p.0)
-    push_refused reason.Memory x l w after p t =
-        some_longer job bytes piece false (contents first.drain.now) (contents after.drain.now)
-        (some_lines (contents first.drain.now) (contents after.drain.now) (tokens_in job bytes false) h.tokens [] (h.whole ∙ sym (append-nil h.tokens))
-        (moves_all (contents first.drain.now) (contents lines.drain.now) (contents after.drain.now) (token_lines h.tokens) lines.buffer.now.items h.shown.moves t))
-    push_refused reason.DocumentTooLong x l w after p t =
+    push_refused reason.Ended x l w after p live t = absurd (⊎_elim (λ e. false≢true (sym h.more.running ∙ e)) (λ e. false≢true (sym h.more.more ∙ e)) p.0)
+    push_refused reason.Memory x l w after p live t = (
+      live,
+      some_longer job bytes piece false (contents first.drain.now) (contents after.drain.now)
+          (some_lines (contents first.drain.now) (contents after.drain.now) (tokens_in job bytes false) h.tokens [] (h.whole ∙ sym (append-nil h.tokens))
+          (moves_all (contents first.drain.now) (contents lines.drain.now) (contents after.drain.now) (token_lines h.tokens) lines.buffer.now.items h.shown.moves t)),
+    )
+    push_refused reason.DocumentTooLong x l w after p live t =
         let a : v.taken.offset ≡ length bytes = ap (λ q. q.offset) h.shown.read.taken in
         let size = length-append bytes piece in
         let some = p.1 in
@@ -374,7 +377,7 @@ module _ {D A : Type 0} (contents : D → Option (List ℕ)) (failed : D → Boo
               (subst (λ us. Appends (contents first.drain.now) (contents after.drain.now) (token_lines us)) (sym h.whole)
               (moves_all (contents first.drain.now) (contents lines.drain.now) (contents after.drain.now) (token_lines h.tokens) lines.buffer.now.items h.shown.moves t)),
         )
-    push_refused why x l w after p t = absurd p
+    push_refused why x l w after p live t = absurd p
 
     pub push_halts : (why : Reason) (x l : ℕ) (w : Unread) (told : StreamFault) (after : LineOut D A) → Scan.RefusesFor why v piece (record { offset = x; line = l }) w → SameOut lines after →
         Tells contents failed (record { reason = why; offset = x; line = l }) told lines after → Halts contents failed told job (bytes ++ piece) false first after
@@ -387,7 +390,7 @@ module _ {D A : Type 0} (contents : D → Option (List ℕ)) (failed : D → Boo
         subst (λ k. Halts contents failed k job (bytes ++ piece) false first after) (sym y.0) z)
         (λ y. record {
           same = same_out first lines after h.shown.same same;
-          halts = subst (λ k. HaltsFor k job (bytes ++ piece) false (contents first.drain.now) (contents after.drain.now) (failed after.drain.now)) (sym y.0) (push_refused why x l w after p y.1.taken);
+          halts = subst (λ k. HaltsFor k job (bytes ++ piece) false (contents first.drain.now) (contents after.drain.now) (failed after.drain.now)) (sym y.0) (push_refused why x l w after p y.1.live_now y.1.taken);
         })
         t
 
@@ -490,102 +493,86 @@ module _ {D A : Type 0} (contents : D → Option (List ℕ)) (failed : D → Boo
           let m = front_moves (contents mid.drain.now) (contents after.drain.now) mid.buffer.now.items t in
           subst (λ b. Halts contents failed stream.Write job bytes b first after) is_end_now (broke_here contents failed job bytes us first mid w' s' x after m.0 same broke m.1)
 
--- ---- the pieces of a source
+-- ---- a whole run
 
--- What left the source was read, and the lines of all tokens that it decides were handed over.
-pub record IsShowingSource {D A : Type 0} (contents : D → Option (List ℕ)) (failed : D → Bool) (job : JobRead) (known left : Option (List ℕ)) (source_failed : Bool) (v : Unread) (s : Summary) (first lines : LineOut D A) (room : ℕ) : Type 0 where
-  pub bytes : List ℕ
-  pub consumed : Consumes known left bytes
-  pub shown : HasShownAll contents failed job bytes first lines v s
-  pub none_waits : lines.buffer.now.items ≡ []
-  pub live : source_failed ≡ false
-  pub has_room : 0 < room
+refusal_of_document : (why : Reason) (job : JobRead) (bytes : List ℕ) (e : Bool) (at : Place) (old new : Option (List ℕ)) → Stops why job bytes e at old new → IsOfDocument why
+refusal_of_document reason.Memory job bytes e at old new h = h
+refusal_of_document reason.Sink job bytes e at old new h = h
+refusal_of_document reason.Ended job bytes e at old new h = h
+refusal_of_document why job bytes e at old new h = tt
 
-module _ {D A : Type 0} (contents : D → Option (List ℕ)) (failed : D → Bool) (job : JobRead) (known left left' : Option (List ℕ)) (source_failed : Bool) (v : Unread) (s : Summary) (first lines : LineOut D A) (room : ℕ)
-    (i : IsShowingSource contents failed job known left source_failed v s first lines room) where
-  module _ (piece : List ℕ) (c : Consumes left left' piece) where
-    piece_consumed : Consumes known left' (i.bytes ++ piece)
-    piece_consumed = Consumes-trans known left left' i.bytes piece i.consumed c
+halts_of_document : (told : StreamFault) (job : JobRead) (bytes : List ℕ) (e : Bool) (old new : Option (List ℕ)) (failed : Bool) → HaltsFor told job bytes e old new failed → IsRefusal told
+halts_of_document (stream.Refused f) job bytes e old new failed h = refusal_of_document f.reason job bytes e (place_of f) old new h
+halts_of_document stream.Read job bytes e old new failed h = tt
+halts_of_document stream.Write job bytes e old new failed h = tt
+halts_of_document stream.Memory job bytes e old new failed h = tt
 
-    -- a piece more
-    pub on_piece : (source_failed' : Bool) (w : Unread) (s' : Summary) (lines' : LineOut D A) (room' : ℕ) → source_failed' ≡ false → 0 < room' →
-        HasShownAll contents failed job (i.bytes ++ piece) first lines' w s' → lines'.buffer.now.items ≡ [] → IsShowingSource contents failed job known left' source_failed' w s' first lines' room'
-    on_piece source_failed' w s' lines' room' live has_room h none =
-        record { bytes = i.bytes ++ piece; consumed = piece_consumed; shown = h; none_waits = none; live = live; has_room = has_room }
+-- why the bytes that were given are not read on is why the tokens are not all shown
+halts_stops : (told : StreamFault) (job : JobRead) (known left old new : Option (List ℕ)) (read_failed write_failed : Bool) (given : HasGiven known left read_failed) →
+    HaltsFor told job given.bytes given.is_end old new write_failed → ShowStops told job known left read_failed old new write_failed
+halts_stops (stream.Refused f) job known left old new read_failed write_failed given h =
+    all_given known left read_failed (λ bytes e. Stops f.reason job bytes e (place_of f) old new) (λ bytes more x. stops_more job bytes more true old new f.reason (place_of f) x) given h
+halts_stops stream.Read job known left old new read_failed write_failed given h = absurd h
+halts_stops stream.Write job known left old new read_failed write_failed given h = (h.0, given, h.1)
+halts_stops stream.Memory job known left old new read_failed write_failed given h = (h.0, given, h.1)
 
-    -- each piece takes a byte, and there are not too many
-    pub piece_less : (w : Unread) (s' : Summary) (lines' : LineOut D A) → HasShownAll contents failed job (i.bytes ++ piece) first lines' w s' → 0 < length piece → 2 ^ 63 - s'.bytes < 2 ^ 63 - s.bytes
-    piece_less w s' lines' h some =
-        let a = i.shown.shown.taken in
-        let b = h.shown.taken in
-        let f = h.shown.few in
-        omega (arith, a, b, f, some, length-append i.bytes piece)
+module _ {D A : Type 0} (contents : D → Option (List ℕ)) (failed flushed : D → Bool) where
+  -- what is shown, and its lines
+  abbrev pub R : Type 0
+  R = Showing A × LineOut D A
 
-    -- a fault in a piece
-    pub piece_stops : (told : StreamFault) (source_failed' : Bool) (after : LineOut D A) → Halts contents failed told job (i.bytes ++ piece) false first after →
-        ShowStops told job known left' source_failed' (contents first.drain.now) (contents after.drain.now) (failed after.drain.now)
-    piece_stops (stream.Refused f) x after h =
-        known_more known left' (i.bytes ++ piece) (λ b. Stops f.reason job b true (place_of f) (contents first.drain.now) (contents after.drain.now)) piece_consumed
-        (λ rest. stops_more job (i.bytes ++ piece) rest true (contents first.drain.now) (contents after.drain.now) f.reason (place_of f) h.halts)
-    piece_stops stream.Read x after h = absurd h.halts
-    piece_stops stream.Write x after h = (h.halts.0, record { bytes = i.bytes ++ piece; is_end = false; consumed = piece_consumed; ended = λ e. absurd (false≢true e) }, h.halts.1)
-    piece_stops stream.Memory x after h = (record { bytes = i.bytes ++ piece; is_end = false; consumed = piece_consumed; ended = λ e. absurd (false≢true e) }, h.halts)
+  abbrev pub Taken : R → List ℕ → R → Type 0
+  Taken first bytes now = IsShowingRun contents failed first.0.scanner first.0.so_far first.1 bytes now.0.scanner now.0.so_far now.1
 
-  module _ (c : Consumes left left' []) (ended : IsAtEnd left') where
-    whole_consumed : Consumes known left' i.bytes
-    whole_consumed = subst (Consumes known left') (append-nil i.bytes) (Consumes-trans known left left' i.bytes [] i.consumed c)
+  abbrev pub Halted : StreamFault → R → List ℕ → Bool → R → Type 0
+  Halted told first bytes e now = ShowHalts contents failed told first.0.scanner first.0.so_far first.1 bytes e now.1
 
-    end_stops : (told : StreamFault) (source_failed' : Bool) (after : LineOut D A) → Halts contents failed told job i.bytes true first after →
-        ShowStops told job known left' source_failed' (contents first.drain.now) (contents after.drain.now) (failed after.drain.now)
-    end_stops (stream.Refused f) x after h =
-        Consumes-whole known left' i.bytes (λ b. Stops f.reason job b true (place_of f) (contents first.drain.now) (contents after.drain.now)) whole_consumed ended h.halts
-    end_stops stream.Read x after h = absurd h.halts
-    end_stops stream.Write x after h = (h.halts.0, record { bytes = i.bytes; is_end = true; consumed = whole_consumed; ended = λ e. ended }, h.halts.1)
-    end_stops stream.Memory x after h = (record { bytes = i.bytes; is_end = true; consumed = whole_consumed; ended = λ e. ended }, h.halts)
+  abbrev pub Ended : Summary → R → List ℕ → R → Type 0
+  Ended s first bytes now = ShowEnds contents failed flushed s first.0.scanner first.0.so_far first.1 bytes now.1
 
-    -- the end was read, or a fault was told
-    pub source_same : (r : Result Summary StreamFault) (after : LineOut D A) → IfOk r (λ t. Ends contents failed t lines v s after) →
-        IfErr r (λ told. HaltsBehind contents failed told lines v s (λ b. b) true after) → SameOut first after
-    source_same (Ok t) after a h = (a job i.bytes first i.shown).0
-    source_same (Err told) after a h = (h job i.bytes first i.shown).same
+  -- nothing was read
+  pub run_begins : (job : JobRead) (first : R) → Begins failed job first.0.scanner first.0.so_far first.1 → Taken first [] first
+  run_begins job first b = record {
+    begun = (job, b);
+    none_waits = b.none_waits;
+    shown = λ y b.
+        none_shown contents failed y first.1 first.0.scanner first.0.so_far b.read b.more b.dialect b.limit b.none_waits b.live (ap (λ (s : Summary). s.quads) b.none_shown) (ap (λ (s : Summary). s.tokens) b.none_shown)
+        (ap (λ (s : Summary). s.bytes) b.none_shown);
+  }
 
-    pub source_stops : (r : Result Summary StreamFault) (source_failed' : Bool) (after : LineOut D A) → IfErr r (λ told. HaltsBehind contents failed told lines v s (λ b. b) true after) →
-        IfErr r (λ told. ShowStops told job known left' source_failed' (contents first.drain.now) (contents after.drain.now) (failed after.drain.now))
-    source_stops (Ok t) x after h = tt
-    source_stops (Err told) x after h = end_stops told x after (h job i.bytes first i.shown)
+  module _ (job : JobRead) (first now : R) (b : Begins failed job first.0.scanner first.0.so_far first.1) (known left : Option (List ℕ)) where
+    abbrev old : Option (List ℕ)
+    old = contents first.1.drain.now
 
-    pub source_shown : (r : Result Summary StreamFault) (after : LineOut D A) → IfOk r (λ t. Ends contents failed t lines v s after) →
-        IfOk r (λ t. IfSome known (λ b. Shows job b (contents first.drain.now) (contents after.drain.now) t))
-    source_shown (Ok t) after a = Consumes-whole known left' i.bytes (λ b. Shows job b (contents first.drain.now) (contents after.drain.now) t) whole_consumed ended (a job i.bytes first i.shown).1
-    source_shown (Err told) after a = tt
+    abbrev new : Option (List ℕ)
+    new = contents now.1.drain.now
 
-  -- the source failed
-  pub read_stops : (source_failed' : Bool) → Keeps left left' → source_failed' ≡ true →
-      ShowStops stream.Read job known left' source_failed' (contents first.drain.now) (contents lines.drain.now) (failed lines.drain.now)
-  read_stops source_failed' k e = (
-    e,
-    record {
-      bytes = i.bytes;
-      consumed = Consumes-kept known left left' i.bytes i.consumed k;
-      waits = i.shown.waits;
-      written = all_written contents failed job i.bytes first lines v s i.shown i.none_waits;
-    },
-  )
+    pub run_shown : (s : Summary) → ReadsAll Ended known left s first now → IfSome known (λ bytes. Shows job bytes old new s)
+    run_shown s h = Consumes-whole known left h.bytes (λ bytes. Shows job bytes old new s) h.consumed h.at_end (h.is_end.shows job b).1
 
--- nothing was read
-pub begun_source : {D A : Type 0} (contents : D → Option (List ℕ)) (failed : D → Bool) (job : JobRead) (known : Option (List ℕ)) (source_failed : Bool) (v : Unread) (s : Summary) (lines : LineOut D A) (room : ℕ) →
-    HasShownAll contents failed job [] lines lines v s → lines.buffer.now.items ≡ [] → source_failed ≡ false → 0 < room → IsShowingSource contents failed job known known source_failed v s lines lines room
-begun_source contents failed job known source_failed v s lines room h none live some =
-    record { bytes = []; consumed = Consumes-nil known; shown = h; none_waits = none; live = live; has_room = some }
+    -- the source failed
+    broke : (source_failed : Bool) → SourceFails Taken known left source_failed first now → ShowStops stream.Read job known left source_failed old new (failed now.1.drain.now)
+    broke source_failed h =
+        let o = h.is_taken.shown job b in (
+          h.failed_now,
+          record {
+            bytes = h.bytes;
+            consumed = h.consumed;
+            waits = o.waits;
+            written = all_written contents failed job h.bytes first.1 now.1 now.0.scanner now.0.so_far o h.is_taken.none_waits;
+          },
+        )
 
--- there was no memory to begin with
-pub no_memory : {T : Type 0} (r : Result T StreamFault) (job : JobRead) (known old : Option (List ℕ)) (read_failed write_failed : Bool) → IsErrAnd r (λ t. t ≡ stream.Memory) →
-    IfErr r (λ told. ShowStops told job known known read_failed old old write_failed)
-no_memory (Ok x) job known old read_failed write_failed e = tt
-no_memory (Err told) job known old read_failed write_failed e = subst (λ t. ShowStops t job known known read_failed old old write_failed) (sym e) (
-  record { bytes = []; is_end = false; consumed = Consumes-nil known; ended = λ x. absurd (false≢true x) },
-  record { first = []; others = (tokens_in job [] false).tokens; tokens = refl; written = Appends-nil old },
-)
+    pub run_stopped : (told : StreamFault) (source_failed : Bool) → ReadStops Taken Halted told known left source_failed first now →
+        ShowStops told job known left source_failed old new (failed now.1.drain.now)
+    run_stopped told source_failed h =
+        ⊎_elim (λ p. subst (λ t. ShowStops t job known left source_failed old new (failed now.1.drain.now)) (sym p.0) (broke source_failed p.1))
+        (λ p. halts_stops told job known left old new source_failed (failed now.1.drain.now) p.0 (p.1.halts job b).halts) h
+
+    pub run_refused : (told : StreamFault) (source_failed : Bool) → ReadStops Taken Halted told known left source_failed first now → IsRefusal told
+    run_refused told source_failed h =
+        ⊎_elim (λ p. subst IsRefusal (sym p.0) tt)
+        (λ p. halts_of_document told job p.0.bytes p.0.is_end old new (failed now.1.drain.now) (p.1.halts job b).halts) h
 
 -- ---- parts that follow each other
 
@@ -626,7 +613,9 @@ module _ {D A : Type 0} (contents : D → Option (List ℕ)) (failed : D → Boo
         (subst (λ l. Moves (contents before.drain.now) (contents after.drain.now) l p.1) (append-nil (before.buffer.now.items ++ []) ∙ append-nil before.buffer.now.items)
         (moves_on (contents before.drain.now) (contents mid.drain.now) (contents after.drain.now) (before.buffer.now.items ++ []) [] mid.buffer.now.items p.1 m p.2)),
   )
-  put_left stream.Memory p =
-      subst (Appends (contents before.drain.now) (contents after.drain.now)) (append-nil before.buffer.now.items)
-      (moves_all (contents before.drain.now) (contents mid.drain.now) (contents after.drain.now) (before.buffer.now.items ++ []) mid.buffer.now.items m p)
+  put_left stream.Memory p = (
+    p.0,
+    subst (Appends (contents before.drain.now) (contents after.drain.now)) (append-nil before.buffer.now.items)
+        (moves_all (contents before.drain.now) (contents mid.drain.now) (contents after.drain.now) (before.buffer.now.items ++ []) mid.buffer.now.items m p.1),
+  )
   put_left told p = absurd p

@@ -1,40 +1,64 @@
--- What reading a document to its end tells.
+-- What reading a document to its end reports.
 use Rattle.std.specs.Prelude.{◌≡◌, ℕ, Bool, true, List, [], Option, IfSome}
 use Rattle.std.specs.Io.KnownBytes.{Consumes}
 use Rattle.rdf_terms.specs.declared.reason.Reason.{Reason}
 use Rattle.rdf_terms.specs.declared.reason.Reason.TheVariants.{DocumentTooLong}
 use Rattle.rdf_terms.specs.Terms.{Quad}
-use Rattle.rdf_tokens.specs.Tokens.{Place, Token}
-use Rattle.rdf_lines.specs.declared.fault.Summary.{Summary}
-use Rattle.rdf_lines.specs.Readers.{IsTooLong, place_of}
+use Rattle.rdf_tokens.specs.Tokens.{Place}
+use Rattle.rdf_tokens.specs.Scans.{place_of}
+use Rattle.rdf_tokens.specs.Grammars.{GoesOn, IsDocumentOf, IsTooLong, IsWhole, Language, Refused as IsRefused}
+use Rattle.rdf_driver.specs.declared.summary.Summary.{Summary}
+use Rattle.rdf_driver.specs.Readers.{Driven, HasRead}
+use Rattle.rdf_driver.specs.Words.{Lawful, Words, in_words}
 use Rattle.rdf_stream.specs.declared.fault.StreamFault.{StreamFault}
 use Rattle.rdf_stream.specs.declared.fault.StreamFault.TheVariants.{Refused, Read, Write, Memory}
-use Rattle.rdf_stream.specs.Converts.{Counts, reading_of}
-use Rattle.rdf_trig.specs.Readers.{HasRead}
-use Rattle.rdf_trig.specs.TrigRead.{Chosen, TrigRead}
-use Rattle.rdf_stream.specs.Languages.{Language}
-
--- A reader of Turtle or TriG has read nothing yet.
-pub record BeginsToRead (job : Chosen) (reader : TrigRead) : Type 0 where
-  pub form : reader.form ≡ job.form
-  pub read : HasRead reader job.start [] []
+use Rattle.rdf_stream.specs.Converts.{Counts}
+use Rattle.rdf_stream.specs.Devices.{HasGiven}
 
 -- The bytes are a document within the limits, and the summary counts what is in it.
-pub record Passes (job : Language) (bytes : List ℕ) (s : Summary) : Type 0 where
+pub record Passes (language : Language) (bytes : List ℕ) (s : Summary) : Type 0 where
   pub quads : List Quad
-  pub document : job.has_quads bytes quads
-  pub within : job.is_whole bytes
-  pub counts : Counts job bytes quads s
+  pub document : IsDocumentOf language bytes quads
+  pub within : IsWhole language bytes
+  pub counts : Counts language bytes quads s
 
--- The bytes are refused at the place, so they are no document within the limits; or there are too many.
-abbrev pub IsRefusedFor : Reason → Language → List ℕ → Place → Type 0
-IsRefusedFor DocumentTooLong job bytes at = IsTooLong bytes at
-IsRefusedFor reason job bytes at = (ahead : List Token) × job.refused (reading_of job bytes true) reason at ahead
+-- The bytes, with their end or before more come, are refused at the place, so they are no document within the limits; or there are too many.
+abbrev pub IsRefusedFor : Reason → Language → List ℕ → Bool → Place → Type 0
+IsRefusedFor DocumentTooLong language bytes is_end at = IsTooLong bytes at
+IsRefusedFor reason language bytes is_end at = IsRefused language bytes is_end reason at
 
 -- Why a document was not read to its end. On a failed read, the bytes so far decide no refusal.
 abbrev pub CheckStops : StreamFault → Language → Option (List ℕ) → Option (List ℕ) → Bool → Type 0
-CheckStops (Refused f) job known left read_failed = IfSome known (λ bytes. IsRefusedFor f.reason job bytes (place_of f))
-CheckStops Read job known left read_failed =
-    (read_failed ≡ true) × (bytes : List ℕ) × Consumes known left bytes × job.goes_on bytes
-CheckStops Write job known left read_failed = ⊥
-CheckStops Memory job known left read_failed = Unit
+CheckStops (Refused f) language known left read_failed = IfSome known (λ bytes. IsRefusedFor f.reason language bytes true (place_of f))
+CheckStops Read language known left read_failed =
+    (read_failed ≡ true) × (bytes : List ℕ) × Consumes known left bytes × GoesOn language bytes
+CheckStops Write language known left read_failed = ⊥
+CheckStops Memory language known left read_failed = HasGiven known left read_failed
+
+-- ---- within a run
+
+-- A reader of a lawful grammar has read nothing.
+pub record BeginsToRead {G X : Type 0} (w : Words G X) (x : X) (reader : Driven G) : Type 0 where
+  pub lawful : Lawful w
+  pub read : HasRead w reader x [] []
+
+-- Since the run began these bytes were read.
+pub record IsChecking {G X : Type 0} (w : Words G X) (reader : Driven G) (bytes : List ℕ) (now : Driven G) : Type 0 where
+  pub begun : (x : X) × BeginsToRead w x reader
+  pub limit : now.scanner.limit ≡ reader.scanner.limit
+  pub read : (x : X) → BeginsToRead w x reader → (quads : List Quad) × HasRead w now x bytes quads
+
+-- why the bytes are not read on
+abbrev pub ChecksNoMore : StreamFault → Language → List ℕ → Bool → Type 0
+ChecksNoMore (Refused f) language bytes is_end = IsRefusedFor f.reason language bytes is_end (place_of f)
+ChecksNoMore Memory language bytes is_end = Unit
+ChecksNoMore told language bytes is_end = ⊥
+
+-- Since the run began these bytes came, and are not read on.
+pub record CheckHalts {G X : Type 0} (w : Words G X) (told : StreamFault) (reader : Driven G) (bytes : List ℕ) (is_end : Bool) : Type 0 where
+  pub begun : (x : X) × BeginsToRead w x reader
+  pub halts : (x : X) → BeginsToRead w x reader → ChecksNoMore told (in_words w x reader.scanner.limit) bytes is_end
+
+-- Since the run began these bytes came, they are all that there are, and are a document.
+abbrev pub CheckEnds : {G X : Type 0} → Words G X → Summary → Driven G → List ℕ → Type 0
+CheckEnds {G} {X} w summary reader bytes = (x : X) → BeginsToRead w x reader → Passes (in_words w x reader.scanner.limit) bytes summary

@@ -1,7 +1,7 @@
 -- The fault of a run, by the fault of its reader.
 use Rattle.rdf_terms.specs.declared.reason.Reason.{Reason}
-use Rattle.rdf_terms.specs.declared.reason.Reason.TheVariants.{Memory as OutOfMemory, Sink}
-use Rattle.rdf_lines.specs.declared.fault.Fault.{Fault}
+use Rattle.rdf_terms.specs.declared.reason.Reason.TheVariants.{Memory as OutOfMemory, Ended, Sink}
+use Rattle.rdf_tokens.specs.declared.token.Fault.{Fault}
 use Rattle.rdf_stream.specs.declared.fault.StreamFault.{StreamFault}
 use Rattle.rdf_stream.specs.declared.fault.StreamFault.TheVariants.{Refused, Write, Memory}
 
@@ -9,3 +9,15 @@ abbrev pub fault_by : Reason → Fault → StreamFault
 fault_by OutOfMemory f = Memory
 fault_by Sink f = Write
 fault_by reason f = Refused f
+
+-- the document is at fault, and neither memory nor the sink nor a reader that has ended
+abbrev pub IsOfDocument : Reason → Type 0
+IsOfDocument OutOfMemory = ⊥
+IsOfDocument Sink = ⊥
+IsOfDocument Ended = ⊥
+IsOfDocument reason = Unit
+
+-- What is refused is the document.
+abbrev pub IsRefusal : StreamFault → Type 0
+IsRefusal (Refused f) = IsOfDocument f.reason
+IsRefusal told = Unit

@@ -7,7 +7,7 @@ pub mod Languages
 pub mod Converts
 pub mod Faults
 pub mod Pieces
-pub mod TreePieces
+pub mod Converting
 pub mod Checks
 pub mod Shows
 pub mod ShowParts

@@ -6,10 +6,9 @@ use Rattle.rdf_terms.specs.declared.sink.PutFault.TheVariants as put
 use Rattle.rdf_tokens.specs.Tokens.{Token}
 use Rattle.rdf_tokens.specs.Tokens.Outcome.{undecided, complete}
 use Rattle.rdf_tokens.specs.Unread.{Unread}
-use Rattle.rdf_tokens.specs.Scans.{HasRead, IsOpen, most_bytes}
+use Rattle.rdf_tokens.specs.Scans.{HasRead, IsOpen, most_bytes, place_of}
 use Rattle.rdf_tokens.specs.Grammars.{counted}
-use Rattle.rdf_lines.specs.declared.fault.Summary.{Summary}
-use Rattle.rdf_lines.specs.Readers.{place_of}
+use Rattle.rdf_driver.specs.declared.summary.Summary.{Summary}
 use Rattle.rdf_stream.specs.Jobs.{JobRead}
 use Rattle.rdf_stream.specs.declared.fault.StreamFault.{StreamFault}
 use Rattle.rdf_stream.specs.declared.fault.StreamFault.TheVariants as fault
@@ -27,7 +26,8 @@ LeavesToken contents failed put.Device before bytes after =
 abbrev pub PutHalts : {D A : Type 0} → (D → Option (List ℕ)) → (D → Bool) → StreamFault → LineOut D A → List ℕ → LineOut D A → Type 0
 PutHalts contents failed fault.Write before bytes after =
     (failed after.drain.now ≡ true) × (rest : List ℕ) × Moves (contents before.drain.now) (contents after.drain.now) (before.buffer.now.items ++ bytes) rest
-PutHalts contents failed fault.Memory before bytes after = Appends (contents before.drain.now) (contents after.drain.now) before.buffer.now.items
+PutHalts contents failed fault.Memory before bytes after =
+    (failed after.drain.now ≡ false) × Appends (contents before.drain.now) (contents after.drain.now) before.buffer.now.items
 PutHalts contents failed told before bytes after = ⊥
 
 -- The scanner has given these tokens of the bytes, and their lines were put.
@@ -61,7 +61,7 @@ abbrev pub HaltsFor : StreamFault → JobRead → List ℕ → Bool → Option (
 HaltsFor (fault.Refused f) job bytes is_end old new failed = Stops f.reason job bytes is_end (place_of f) old new
 HaltsFor fault.Read job bytes is_end old new failed = ⊥
 HaltsFor fault.Write job bytes is_end old new failed = (failed ≡ true) × ShowsFront (tokens_in job bytes is_end) old new
-HaltsFor fault.Memory job bytes is_end old new failed = ShowsSome (tokens_in job bytes is_end) old new
+HaltsFor fault.Memory job bytes is_end old new failed = (failed ≡ false) × ShowsSome (tokens_in job bytes is_end) old new
 
 pub record Halts {D A : Type 0} (contents : D → Option (List ℕ)) (failed : D → Bool) (told : StreamFault) (job : JobRead) (bytes : List ℕ) (is_end : Bool) (first lines : LineOut D A) : Type 0 where
   pub same : SameOut first lines
@@ -116,3 +116,33 @@ abbrev pub Ends : {D A : Type 0} → (D → Option (List ℕ)) → (D → Bool) 
 Ends {D} {A} contents failed summary before v s after =
     (job : JobRead) (bytes : List ℕ) (first : LineOut D A) → HasShownAll contents failed job bytes first before v s →
     SameOut first after × Shows job bytes (contents first.drain.now) (contents after.drain.now) summary
+
+-- ---- a run
+
+-- Nothing was shown.
+pub record Begins {D A : Type 0} (failed : D → Bool) (job : JobRead) (v : Unread) (s : Summary) (lines : LineOut D A) : Type 0 where
+  pub dialect : v.dialect ≡ dialect_of job.form
+  pub limit : v.limit ≡ job.limits.token
+  pub read : HasRead v [] []
+  pub more : IsOpen v
+  pub none_shown : s ≡ record { quads = 0; tokens = 0; bytes = 0 }
+  pub none_waits : lines.buffer.now.items ≡ []
+  pub live : failed lines.drain.now ≡ false
+
+-- Since the run began these bytes were read, and the lines of their tokens were handed over.
+pub record IsShowingRun {D A : Type 0} (contents : D → Option (List ℕ)) (failed : D → Bool) (v : Unread) (s : Summary) (first : LineOut D A) (bytes : List ℕ) (w : Unread) (now : Summary) (lines : LineOut D A) : Type 0 where
+  pub begun : (job : JobRead) × Begins failed job v s first
+  pub none_waits : lines.buffer.now.items ≡ []
+  pub shown : (job : JobRead) → Begins failed job v s first → HasShownAll contents failed job bytes first lines w now
+
+-- Since the run began these bytes came, and are not read on.
+pub record ShowHalts {D A : Type 0} (contents : D → Option (List ℕ)) (failed : D → Bool) (told : StreamFault) (v : Unread) (s : Summary) (first : LineOut D A) (bytes : List ℕ) (is_end : Bool) (lines : LineOut D A) : Type 0 where
+  pub begun : (job : JobRead) × Begins failed job v s first
+  pub halts : (job : JobRead) → Begins failed job v s first → Halts contents failed told job bytes is_end first lines
+
+-- Since the run began these bytes came, they are all that there are, and their tokens were shown.
+pub record ShowEnds {D A : Type 0} (contents : D → Option (List ℕ)) (failed flushed : D → Bool) (summary : Summary) (v : Unread) (s : Summary) (first : LineOut D A) (bytes : List ℕ) (lines : LineOut D A) : Type 0 where
+  pub begun : (job : JobRead) × Begins failed job v s first
+  pub sent : flushed lines.drain.now ≡ true
+  pub shows : (job : JobRead) → Begins failed job v s first →
+      SameOut first lines × Shows job bytes (contents first.drain.now) (contents lines.drain.now) summary

@@ -10,15 +10,14 @@ use Rattle.rdf_terms.specs.declared.reason.Reason.TheVariants.{BadUtf8, NoToken,
 use Rattle.rdf_tokens.specs.Tokens.{Place, Outcome, Token, Reading}
 use Rattle.rdf_tokens.specs.Tokens.Outcome.{undecided, complete, token_too_long, bad_utf8, no_token, bad_escape}
 use Rattle.rdf_tokens.specs.Good.{tokens_of}
-use Rattle.rdf_tokens.specs.Scans.{is_end, most_bytes}
-use Rattle.rdf_lines.specs.declared.fault.Summary.{Summary}
-use Rattle.rdf_lines.specs.Readers.{IsTooLong, place_of}
+use Rattle.rdf_tokens.specs.Scans.{is_end, most_bytes, place_of}
+use Rattle.rdf_driver.specs.declared.summary.Summary.{Summary}
+use Rattle.rdf_tokens.specs.Grammars.{IsTooLong}
 use Rattle.rdf_stream.specs.declared.fault.Form.{Form}
 use Rattle.rdf_stream.specs.declared.fault.Form.TheVariants.{NTriples, NQuads, Turtle, TriG}
 use Rattle.rdf_stream.specs.declared.fault.StreamFault.{StreamFault}
 use Rattle.rdf_stream.specs.declared.fault.StreamFault.TheVariants.{Refused, Read, Write, Memory}
-use Rattle.rdf_stream.specs.Converts.{HasGiven}
-use Rattle.rdf_stream.specs.Devices.{AppendsFront}
+use Rattle.rdf_stream.specs.Devices.{AppendsFront, HasGiven}
 use Rattle.rdf_stream.specs.Jobs.{JobRead}
 
 abbrev pub dialect_of : Form → Dialect
@@ -122,5 +121,6 @@ abbrev pub ShowStops : StreamFault → JobRead → Option (List ℕ) → Option 
 ShowStops (Refused f) job known left read_failed old new write_failed = IfSome known (λ bytes. Stops f.reason job bytes true (place_of f) old new)
 ShowStops Read job known left read_failed old new write_failed = (read_failed ≡ true) × ShowsSoFar job known left old new
 ShowStops Write job known left read_failed old new write_failed =
-    (write_failed ≡ true) × (given : HasGiven known left) × ShowsFront (tokens_in job given.bytes given.is_end) old new
-ShowStops Memory job known left read_failed old new write_failed = (given : HasGiven known left) × ShowsSome (tokens_in job given.bytes given.is_end) old new
+    (write_failed ≡ true) × (given : HasGiven known left read_failed) × ShowsFront (tokens_in job given.bytes given.is_end) old new
+ShowStops Memory job known left read_failed old new write_failed =
+    (write_failed ≡ false) × (given : HasGiven known left read_failed) × ShowsSome (tokens_in job given.bytes given.is_end) old new

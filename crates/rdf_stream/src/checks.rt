@@ -1,18 +1,19 @@
 // Reading a document to its end.
 
-ghost use Rattle.std.specs.Prelude.{◌≡◌, ◌<◌, [], false, length, IfOk, IfErr, IfSome};
-ghost use Rattle.rdf_lines.specs.Readers.{HasRead};
-ghost use Rattle.rdf_stream.specs.Checks.{CheckStops, Passes};
-ghost use Rattle.rdf_stream.specs.Languages.{in_lines, language_of, line_job};
+ghost use Rattle.std.specs.Prelude.{◌≡◌, false, IfOk, IfErr, IfSome};
+ghost use Rattle.rdf_driver.specs.Words.{in_words};
+ghost use Rattle.rdf_stream.specs.Checks.{BeginsToRead, CheckEnds, CheckHalts, CheckStops, IsChecking, Passes};
+ghost use Rattle.rdf_stream.specs.Faults.{IsRefusal};
+ghost use Rattle.rdf_stream.specs.Languages.{language_of};
 
-use crate::conversions::piece_buffer;
-use crate::devices::{Failed, Source};
+use crate::devices::Source;
 use crate::fault::{Kind, StreamFault};
 use crate::job::Job;
-use crate::tree_checks::check_tree;
-use rdf_iri::Limits;
-use rdf_lines::{LineForm, LineReader, Summary};
+use crate::pieces::{Run, piece_buffer, read_pieces};
+use rdf_driver::{Grammar, Reader, Summary};
+use rdf_lines::line_reader;
 use rdf_terms::{PutFault, QuadRef, QuadSink};
+use rdf_trig::tree_reader;
 use std::alloc::Allocator;
 
 /// Reads a document of the job's format from the source to its end, and counts what is in it. It keeps nothing of it.
@@ -24,56 +25,54 @@ pub fn check<A: Allocator + Copy, S: Source>(
     requires source { S.has_failed source.old ≡ false }
     ensures accepted { IfOk result (λ summary. IfSome (S.remaining source.old) (λ bytes. Passes (language_of job) bytes summary)) }
     ensures stops { IfErr result (λ fault. CheckStops fault (language_of job) (S.remaining source.old) (S.remaining source.new) (S.has_failed source.new)) }
+    ensures refused { IfErr result IsRefusal }
 {
-    let mut piece = piece_buffer(alloc)?;
     match job.form().kind() {
-        Kind::Line(form) => check_document(alloc, form, job.limits(), source, piece.as_mut_slice()),
-        Kind::Tree(form) => check_tree(alloc, job.options(form), source, piece.as_mut_slice()),
+        Kind::Line(form) => check_with(alloc, line_reader(alloc, form, job.limits()), source),
+        Kind::Tree(form) => check_with(alloc, tree_reader(alloc, job.options(form)), source),
     }
 }
 
-fn check_document<A: Allocator + Copy, S: Source>(
+fn check_with<G: Grammar + Drop, A: Allocator + Copy, S: Source>(
     alloc: A,
-    form: LineForm,
-    limits: Limits,
+    reader: Reader<G, A>,
     source: &mut S,
-    piece: &mut [u8],
 ) -> Result<Summary, StreamFault>
+    requires begun { (x : G.Setting) × BeginsToRead G.words x reader }
     requires source { S.has_failed source.old ≡ false }
-    requires room { 0 < length piece.old }
-    ensures accepted { IfOk result (λ summary. IfSome (S.remaining source.old) (λ bytes. Passes (in_lines (line_job form limits)) bytes summary)) }
-    ensures stops { IfErr result (λ fault. CheckStops fault (in_lines (line_job form limits)) (S.remaining source.old) (S.remaining source.new) (S.has_failed source.new)) }
+    ensures accepted { IfOk result (λ summary. (x : G.Setting) → BeginsToRead G.words x reader → IfSome (S.remaining source.old) (λ bytes. Passes (in_words G.words x reader.scanner.limit) bytes summary)) }
+    ensures stops { IfErr result (λ told. (x : G.Setting) → BeginsToRead G.words x reader →
+        CheckStops told (in_words G.words x reader.scanner.limit) (S.remaining source.old) (S.remaining source.new) (S.has_failed source.new)) }
+    ensures refused { IfErr result IsRefusal }
 {
-    let mut reader = LineReader::new(alloc, form, limits);
-    check_pieces(&mut reader, form, limits, source, piece)
+    let mut piece = piece_buffer(alloc)?;
+    let mut reader = reader;
+    read_pieces(source, piece.as_mut_slice(), &mut reader, &mut NoQuads)
 }
 
-fn check_pieces<A: Allocator + Copy, S: Source>(
-    reader: &mut LineReader<A>,
-    form: LineForm,
-    limits: Limits,
-    source: &mut S,
-    piece: &mut [u8],
-) -> Result<Summary, StreamFault>
-    requires reader { HasRead reader.old [] [] }
-    requires form { reader.old.form ≡ form }
-    requires token { reader.old.scanner.limit ≡ limits.token }
-    requires iri { reader.old.iri ≡ limits.iri }
-    requires source { S.has_failed source.old ≡ false }
-    requires room { 0 < length piece.old }
-    ensures accepted { IfOk result (λ summary. IfSome (S.remaining source.old) (λ bytes. Passes (in_lines (line_job form limits)) bytes summary)) }
-    ensures stops { IfErr result (λ fault. CheckStops fault (in_lines (line_job form limits)) (S.remaining source.old) (S.remaining source.new) (S.has_failed source.new)) }
-{
-    let mut sink = NoQuads;
-    loop {
-        let count = match source.fill(piece) {
-            Ok(count) => count,
-            Err(Failed) => return Err(StreamFault::Read),
-        };
-        if count == 0 {
-            return Ok(reader.finish(&mut sink)?);
+impl<G: Grammar + Drop, A: Allocator + Copy> Run<NoQuads> for Reader<G, A> {
+    ghost taken = { λ first bytes now. IsChecking G.words first.0 bytes now.0 };
+
+    ghost halts = { λ told first bytes is_end now. CheckHalts G.words told first.0 bytes is_end };
+
+    ghost ends = { λ summary first bytes now. CheckEnds G.words summary first.0 bytes };
+
+    ghost stays = { λ first now. Unit };
+
+    ghost count = { λ now. now.so_far.bytes };
+
+    fn take(&mut self, piece: &[u8], sink: &mut NoQuads) -> Result<(), StreamFault> {
+        match self.feed(piece, sink) {
+            Ok(()) => Ok(()),
+            Err(fault) => Err(StreamFault::from(fault)),
         }
-        reader.feed(&piece[..count], &mut sink)?;
+    }
+
+    fn end(&mut self, sink: &mut NoQuads) -> Result<Summary, StreamFault> {
+        match self.finish(sink) {
+            Ok(summary) => Ok(summary),
+            Err(fault) => Err(StreamFault::from(fault)),
+        }
     }
 }
 

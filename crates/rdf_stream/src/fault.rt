@@ -5,8 +5,9 @@ ghost use Rattle.rdf_stream.specs.Faults.{fault_by};
 ghost use Rattle.rdf_stream.specs.Kinds.{IsKind};
 ghost use Rattle.rdf_stream.specs.declared.fault.StreamFault.TheVariants.{Memory};
 
-use rdf_lines::{Fault, LineForm};
+use rdf_lines::LineForm;
 use rdf_terms::Reason;
+use rdf_tokens::Fault;
 use rdf_trig::DocForm;
 use std::alloc::AllocError;
 use thiserror::Error;

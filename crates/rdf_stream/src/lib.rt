@@ -8,13 +8,12 @@ mod fault;
 mod job;
 mod line_out;
 mod messages;
+mod pieces;
 mod put;
 mod shows;
 #[cfg(test)]
 mod tests;
 mod token_line;
-mod tree_checks;
-mod tree_conversions;
 mod views;
 
 pub use checks::check;
@@ -24,7 +23,7 @@ pub use fault::{Form, StreamFault};
 pub use job::Job;
 pub use messages::report;
 pub use put::put_all;
+pub use rdf_driver::{Fault, Summary};
 pub use rdf_iri::Limits;
-pub use rdf_lines::{Fault, Summary};
 pub use rdf_terms::{Iri, TermFault};
 pub use shows::show;

@@ -2,6 +2,7 @@
 
 ghost use Rattle.std.specs.Prelude.{◌≡◌, [], ◌<◌, length, true, false, Bool, List, ℕ, Option, is_err, OnOk, OnErr, IfErr};
 ghost use Rattle.std.specs.Io.KnownBytes.{Appends};
+ghost use Rattle.rdf_stream.specs.Converting.{Tells};
 ghost use Rattle.rdf_stream.specs.Devices.{AppendsFront};
 ghost use Rattle.rdf_tokens.specs.Scans.{token_of};
 ghost use Rattle.rdf_stream.specs.LineOut.{Leaves, SameOut, Takes, Writes};
@@ -9,12 +10,13 @@ ghost use Rattle.rdf_stream.specs.ShowParts.{LeavesToken};
 ghost use Rattle.rdf_stream.specs.Shows.{token_line};
 
 use crate::devices::{Drain, Failed};
+use crate::fault::StreamFault;
 use crate::put::put_all;
 use crate::token_line::put_token_line;
 use crate::views::see_quad;
 use rdf_lines::{LabelFault, Style, write_line};
 use rdf_terms::{PutFault, QuadRef, QuadSink};
-use rdf_tokens::Token;
+use rdf_tokens::{Fault, Token};
 use std::alloc::{Allocator, Global};
 
 /// The number of bytes that wait for the drain at most, once a line has been put.
@@ -123,5 +125,22 @@ impl<'a, D: Drain, A: Allocator + Copy> QuadSink for LineOut<'a, D, A> {
 
     fn failed(&self) -> bool {
         self.drain.failed()
+    }
+}
+
+/// Hands over what waits, and says what is reported of the reader's fault: a failure of the drain comes first.
+pub(crate) fn stop<A: Allocator + Copy, D: Drain>(
+    fault: Fault,
+    lines: &mut LineOut<'_, D, A>,
+) -> StreamFault
+    ensures same { SameOut lines.old lines.new }
+    ensures tells { Tells D.contents D.has_failed fault result lines.old lines.new }
+{
+    if lines.failed() {
+        return StreamFault::Write;
+    }
+    match lines.hand_over() {
+        Ok(()) => StreamFault::from(fault),
+        Err(Failed) => StreamFault::Write,
     }
 }

@@ -5,8 +5,8 @@ ghost use Rattle.rdf_stream.specs.Messages.{reason_text, place_text, fault_text,
 
 use crate::fault::StreamFault;
 use itoa::Buffer;
-use rdf_lines::Fault;
 use rdf_terms::Reason;
+use rdf_tokens::Fault;
 use std::alloc::{AllocError, Allocator};
 
 /// Appends the line that tells of the fault, with its LF. Where a growth of memory is refused, it appends nothing.

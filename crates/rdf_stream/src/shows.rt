@@ -1,26 +1,27 @@
 // From a document to the lines of its tokens.
 
 ghost use Rattle.std.specs.Prelude.{◌≡◌, ◌<◌, ◌≤◌, ◌++◌, [], true, false, not, length, take, drop, OnOk, IfOk, IfErr, IfSome};
-ghost use Rattle.std.specs.Io.KnownBytes.{Appends};
-ghost use Rattle.rdf_tokens.specs.Scans.{is_end, left, most_bytes, token_of, HasRead, IsOpen};
-ghost use Rattle.rdf_stream.specs.LineOut.{Moves, SameOut, Writes};
+ghost use Rattle.rdf_tokens.specs.Scans.{is_end, left, token_of};
+ghost use Rattle.rdf_stream.specs.Faults.{IsRefusal};
+ghost use Rattle.rdf_stream.specs.LineOut.{SameOut, Writes};
 ghost use Rattle.rdf_stream.specs.Shows.{ShowStops, Shows, dialect_of, shown};
-ghost use Rattle.rdf_stream.specs.ShowParts.{Ends, HaltsBehind, HaltsHere, HasShownAll, IsShowing, IsShowingAll, PutHalts, ShowsMore, ShowsOne, ShowsRest};
+ghost use Rattle.rdf_stream.specs.ShowParts.{Ends, HaltsBehind, HaltsHere, IsShowing, IsShowingAll, IsShowingRun, PutHalts, ShowEnds, ShowHalts, ShowsMore, ShowsOne, ShowsRest};
 
-use crate::conversions::{piece_buffer, stop};
 use crate::devices::{Drain, Failed, Source};
 use crate::fault::{Form, StreamFault};
 use crate::job::Job;
-use crate::line_out::LineOut;
-use rdf_lines::{Fault, Style, Summary};
-use rdf_terms::{Dialect, Kind, PutFault, Reason};
+use crate::line_out::{LineOut, stop};
+use crate::pieces::{Run, piece_buffer, read_pieces};
+use rdf_driver::Summary;
+use rdf_lines::Style;
+use rdf_terms::{Dialect, Kind, PutFault};
 use rdf_tokens::{Scanner, Token};
 use std::alloc::Allocator;
 
 /// Reads the tokens of the source in the dialect of the job's format, and writes a line of each but the end to the drain:
 /// where it begins, its number of characters, and the name of its kind. It flushes the drain. No rule of a grammar is looked at.
 ///
-/// The lines are handed over as `convert` does it: before it asks the source for more, and before a refusal or a failed read is told.
+/// The lines are handed over as `convert` does it: before it asks the source for more, and before a refusal or a failed read is reported.
 pub fn show<A: Allocator + Copy, S: Source, D: Drain>(
     alloc: A,
     job: Job<A>,
@@ -33,6 +34,7 @@ pub fn show<A: Allocator + Copy, S: Source, D: Drain>(
     ensures flushed { OnOk result (D.is_flushed drain.new ≡ true) }
     ensures stops { IfErr result (λ fault.
         ShowStops fault job (S.remaining source.old) (S.remaining source.new) (S.has_failed source.new) (D.contents drain.old) (D.contents drain.new) (D.has_failed drain.new)) }
+    ensures refused { IfErr result IsRefusal }
 {
     let mut piece = piece_buffer(alloc)?;
     let mut buffer = Vec::new(alloc);
@@ -57,50 +59,43 @@ fn show_document<A: Allocator + Copy, S: Source, D: Drain>(
     ensures same { SameOut lines.old lines.new }
     ensures stops { IfErr result (λ fault. ShowStops fault job.now (S.remaining source.old) (S.remaining source.new) (S.has_failed source.new)
         (D.contents lines.old.drain.now) (D.contents lines.new.drain.now) (D.has_failed lines.new.drain.now)) }
+    ensures refused { IfErr result IsRefusal }
 {
-    let mut scanner = Scanner::new(alloc, dialect(job.form()), job.limits().token());
-    show_pieces(&mut scanner, job, source, piece, lines)
+    let mut run = Showing {
+        scanner: Scanner::new(alloc, dialect(job.form()), job.limits().token()),
+        so_far: Summary {
+            quads: 0,
+            tokens: 0,
+            bytes: 0,
+        },
+    };
+    read_pieces(source, piece, &mut run, lines)
 }
 
-fn show_pieces<A: Allocator + Copy, S: Source, D: Drain>(
-    scanner: &mut Scanner<A>,
-    job: &Job<A>,
-    source: &mut S,
-    piece: &mut [u8],
-    lines: &mut LineOut<'_, D, A>,
-) -> Result<Summary, StreamFault>
-    requires scanner { HasRead scanner.old [] [] }
-    requires running { IsOpen scanner.old }
-    requires dialect { scanner.old.dialect ≡ dialect_of job.now.form }
-    requires limit { scanner.old.limit ≡ job.now.limits.token }
-    requires source { S.has_failed source.old ≡ false }
-    requires room { 0 < length piece.old }
-    requires none_waits { lines.old.buffer.now.items ≡ [] }
-    requires live { D.has_failed lines.old.drain.now ≡ false }
-    ensures accepted { IfOk result (λ summary. IfSome (S.remaining source.old) (λ bytes.
-        Shows job.now bytes (D.contents lines.old.drain.now) (D.contents lines.new.drain.now) summary)) }
-    ensures flushed { OnOk result (D.is_flushed lines.new.drain.now ≡ true) }
-    ensures same { SameOut lines.old lines.new }
-    ensures stops { IfErr result (λ fault. ShowStops fault job.now (S.remaining source.old) (S.remaining source.new) (S.has_failed source.new)
-        (D.contents lines.old.drain.now) (D.contents lines.new.drain.now) (D.has_failed lines.new.drain.now)) }
-{
-    let mut so_far = Summary {
-        quads: 0,
-        tokens: 0,
-        bytes: 0,
-    };
-    loop {
-        let count = match source.fill(piece) {
-            Ok(count) => count,
-            Err(Failed) => return Err(StreamFault::Read),
-        };
-        if count == 0 {
-            return show_end(scanner, &mut so_far, lines);
-        }
-        match show_piece(scanner, &piece[..count], &mut so_far, lines) {
-            Ok(()) => {}
-            Err(fault) => return Err(fault),
-        }
+/// Reads the tokens of a document.
+#[derive(Drop)]
+struct Showing<A: Allocator> {
+    scanner: Scanner<A>,
+    so_far: Summary,
+}
+
+impl<'a, D: Drain, A: Allocator + Copy> Run<LineOut<'a, D, A>> for Showing<A> {
+    ghost taken = { λ first bytes now. IsShowingRun D.contents D.has_failed first.0.scanner first.0.so_far first.1 bytes now.0.scanner now.0.so_far now.1 };
+
+    ghost halts = { λ told first bytes is_end now. ShowHalts D.contents D.has_failed told first.0.scanner first.0.so_far first.1 bytes is_end now.1 };
+
+    ghost ends = { λ summary first bytes now. ShowEnds D.contents D.has_failed D.is_flushed summary first.0.scanner first.0.so_far first.1 bytes now.1 };
+
+    ghost stays = { λ first now. SameOut first.1 now.1 };
+
+    ghost count = { λ now. now.so_far.bytes };
+
+    fn take(&mut self, piece: &[u8], lines: &mut LineOut<'a, D, A>) -> Result<(), StreamFault> {
+        show_piece(&mut self.scanner, piece, &mut self.so_far, lines)
+    }
+
+    fn end(&mut self, lines: &mut LineOut<'a, D, A>) -> Result<Summary, StreamFault> {
+        show_end(&mut self.scanner, &mut self.so_far, lines)
     }
 }
 
@@ -169,7 +164,7 @@ fn show_part<A: Allocator + Copy, D: Drain>(
 {
     let taken = match scanner.push(piece) {
         Ok(taken) => taken,
-        Err(fault) => return Err(stop(told(fault), lines)),
+        Err(fault) => return Err(stop(fault, lines)),
     };
     so_far.bytes += taken as u64;
     match show_tokens(scanner, so_far, lines) {
@@ -235,7 +230,7 @@ fn show_token<A: Allocator + Copy, D: Drain>(
     ensures halts { IfErr result (λ told. HaltsHere D.contents D.has_failed told lines.old scanner.old so_far.old lines.new) }
 {
     match scanner.next() {
-        Err(fault) => Err(stop(told(fault), lines)),
+        Err(fault) => Err(stop(fault, lines)),
         Ok(None) => Ok(false),
         Ok(Some(token)) => match show_given(token, lines) {
             Ok(true) => {
@@ -286,16 +281,6 @@ fn is_end(kind: Kind) -> bool
     ensures { result ≡ is_end kind }
 {
     matches!(kind, Kind::End)
-}
-
-fn told(fault: Fault) -> Fault
-    ensures { result ≡ record { reason = fault.reason; offset = fault.offset; line = fault.line } }
-{
-    Fault {
-        reason: fault.reason,
-        offset: fault.offset,
-        line: fault.line,
-    }
 }
 
 /// The dialect of a format's tokens.

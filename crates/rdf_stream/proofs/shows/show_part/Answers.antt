@@ -4,7 +4,7 @@ use Rattle.rdf_stream.proofs.shows.show_part.Goals as goal
 
 pub returns-in-Err-clause-halts : goal.returns-in-Err-clause-halts
 returns-in-Err-clause-halts g c = λ job bytes first h.
-    push_halts _ _ job bytes first _ _ _ h c.args.piece.now c.in-Err.fault.reason c.in-Err.fault.offset c.in-Err.fault.line _ _ _ c.in-Err.ensures c.stop.ensures.same (rw c.told.ensures at c.stop.ensures.tells)
+    push_halts _ _ job bytes first _ _ _ h c.args.piece.now c.in-Err.fault.reason c.in-Err.fault.offset c.in-Err.fault.line _ _ _ c.in-Err.ensures c.stop.ensures.same c.stop.ensures.tells
 
 pub overflow_add-so_far : goal.overflow_add-so_far
 overflow_add-so_far g c =

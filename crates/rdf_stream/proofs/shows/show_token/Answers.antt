@@ -5,7 +5,7 @@ use Rattle.rdf_stream.proofs.shows.show_token.Goals as goal
 
 pub returns-in-Err-clause-halts : goal.returns-in-Err-clause-halts
 returns-in-Err-clause-halts g c = λ job bytes ts first h.
-    scan_halts _ _ job bytes ts first _ _ _ h _ _ _ _ _ _ c.requires.running (rw c.in-Err.is at c.next.follows.holds-at-none) c.stop.ensures.same (rw c.told.ensures at c.stop.ensures.tells)
+    scan_halts _ _ job bytes ts first _ _ _ h _ _ _ _ _ _ c.requires.running (rw c.in-Err.is at c.next.follows.holds-at-none) c.stop.ensures.same c.stop.ensures.tells
 
 pub returns-in-Err-show_given-clause-halts : goal.returns-in-Err-show_given-clause-halts
 returns-in-Err-show_given-clause-halts g c = λ job bytes ts first h.

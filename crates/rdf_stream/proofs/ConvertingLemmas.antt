@@ -1,0 +1,454 @@
+-- A piece more, the end, or an error within one: what the drain has then.
+use Rattle.std.proofs.Common.{◌≡◌, ◌≤◌, ◌+◌, ℕ, Bool, true, false, List, [], ◌∷◌, ◌++◌, ◌⊎◌, length, Option, refl, sym, ap, subst, ◌∙◌, append_assoc, ⊎_elim, length-append, arith}
+use Rattle.std.proofs.lemmas.List.{append-nil}
+use Rattle.std.proofs.lemmas.Bool.{false≢true}
+use Rattle.std.proofs.KnownBytes.{Appends-nil}
+use Rattle.std.specs.Io.KnownBytes.{Appends}
+use Rattle.std.specs.List.{AllByRecursion}
+use Rattle.rdf_terms.specs.declared.reason.Reason.{Reason}
+use Rattle.rdf_terms.specs.declared.reason.Reason.TheVariants as reason
+use Rattle.rdf_terms.specs.Terms.{Quad}
+use Rattle.rdf_tokens.specs.Tokens.{Place, Token, Reading}
+use Rattle.rdf_tokens.specs.Good.{tokens_of}
+use Rattle.rdf_tokens.specs.Grammars.{BeginsDue, Due, Language, Marked, PassesNone, RefusedIn, reading_of}
+use Rattle.rdf_driver.specs.declared.summary.Summary.{Summary}
+use Rattle.rdf_driver.specs.Readers as R
+use Rattle.rdf_driver.specs.Readers.{Driven, FeedFails, Feeds, FinishFails, Finishes, HasRead, LeavesOff, piece_reading}
+use Rattle.rdf_driver.specs.Words.{Words, in_words}
+use Rattle.rdf_lines.specs.declared.form.Style.{Style}
+use Rattle.rdf_lines.specs.Writing.{CanWrite, Writable}
+use Rattle.rdf_lines.proofs.ReadBack.{bytes_read_back}
+use Rattle.rdf_stream.specs.Languages.{Conversion, conversion}
+use Rattle.rdf_stream.specs.declared.fault.StreamFault.{StreamFault}
+use Rattle.rdf_stream.specs.declared.fault.StreamFault.TheVariants as stream
+use Rattle.rdf_stream.specs.declared.line_out.LineOut.{LineOut}
+use Rattle.rdf_stream.specs.Converting.{Begins, HandedOver, HaltsFor, IsConverting, RunEnds, RunHalts, Suits, Tells, TellsFault, TellsWrite}
+use Rattle.rdf_stream.specs.Converts.{Accepts, WritesDue, WritesFront, WritesSome, lines_of}
+use Rattle.rdf_stream.specs.Devices.{AppendsFront}
+use Rattle.rdf_stream.specs.Faults.{fault_by}
+use Rattle.rdf_stream.specs.LineOut.{Leaves, Moves, SameOut, Takes, Writes}
+use Rattle.rdf_stream.proofs.LineOutLemmas.{Taken, Tried, bytes_of, bytes_of-append, front_moves, moves_all, moves_front, moves_more, moves_on, puts_live, puts_tries, same_out, taken, tried}
+
+both_writable : (s : Style) (qs rs : List Quad) → Writable s qs → Writable s rs → Writable s (qs ++ rs)
+both_writable s [] rs p q = q
+both_writable s (x ∷ qs) rs p q = (p.0, both_writable s qs rs p.1 q)
+
+-- what holds of all quads of two lists holds of those of the first, and of the second
+first_ones : (P : Quad → Type 0) (qs rs : List Quad) → AllByRecursion P (qs ++ rs) → AllByRecursion P qs
+first_ones P [] rs h = tt
+first_ones P (q ∷ qs) rs h = (h.0, first_ones P qs rs h.1)
+
+last_ones : (P : Quad → Type 0) (qs rs : List Quad) → AllByRecursion P (qs ++ rs) → AllByRecursion P rs
+last_ones P [] rs h = h
+last_ones P (q ∷ qs) rs h = last_ones P qs rs h.1
+
+module _ (l : Language) where
+  abbrev Begun : List Token → List Quad → Type 0
+  Begun ts qs = BeginsDue l.documents l.passes ts qs
+
+  -- the first of the quads that begin what is due begin it too
+  begins_less : (ts : List Token) (qs rs : List Quad) → Begun ts (qs ++ rs) → Begun ts qs
+  begins_less ts qs rs d = record {
+    ahead = d.ahead;
+    behind = d.behind;
+    tokens = d.tokens;
+    kept = d.kept;
+    rest = rs ++ d.rest;
+    due = subst (Due l.documents d.ahead) (append_assoc qs rs d.rest) d.due;
+  }
+
+  -- what is due after some first tokens of a list, of which none passes a limit
+  begins_ahead : (ts ahead behind : List Token) (qs : List Quad) → ts ≡ ahead ++ behind → PassesNone l.passes ahead → Due l.documents ahead qs → Begun ts qs
+  begins_ahead ts ahead behind qs e k d = record {
+    ahead = ahead;
+    behind = behind;
+    tokens = e;
+    kept = k;
+    rest = [];
+    due = subst (Due l.documents ahead) (sym (append-nil qs)) d;
+  }
+
+  -- what is due after all tokens of a list, of which none passes a limit
+  pub begins_all : (ts : List Token) (qs : List Quad) → PassesNone l.passes ts → Due l.documents ts qs → Begun ts qs
+  begins_all ts qs k d = begins_ahead ts ts [] qs (sym (append-nil ts)) k d
+
+  -- what is due before a refusal
+  begins_refused : (r : Reading) (why : Reason) (at : Place) (ahead : List Token) (qs : List Quad) → RefusedIn l r why at ahead → Due l.documents ahead qs → Begun r.tokens qs
+  begins_refused r reason.BadUtf8 at ahead qs x d = begins_ahead r.tokens ahead [] qs (x.tokens ∙ sym (append-nil ahead)) x.front.kept d
+  begins_refused r reason.NoToken at ahead qs x d = begins_ahead r.tokens ahead [] qs (x.tokens ∙ sym (append-nil ahead)) x.front.kept d
+  begins_refused r reason.BadEscape at ahead qs x d = begins_ahead r.tokens ahead [] qs (x.tokens ∙ sym (append-nil ahead)) x.front.kept d
+  begins_refused r reason.TokenTooLong at ahead qs x d = begins_ahead r.tokens ahead [] qs (x.tokens ∙ sym (append-nil ahead)) x.front.kept d
+  begins_refused r reason.DocumentTooLong at ahead qs x d = absurd x
+  begins_refused r reason.Memory at ahead qs x d = absurd x
+  begins_refused r reason.Ended at ahead qs x d = absurd x
+  begins_refused r reason.Sink at ahead qs x d = absurd x
+  begins_refused r why at ahead qs x d = begins_ahead r.tokens ahead (x.token ∷ x.behind) qs x.tokens x.front.kept d
+
+module _ {G X D A : Type 0} (contents : D → Option (List ℕ)) (failed : D → Bool) (w : Words G X) (x : X) (reader : Driven G) (bytes : List ℕ) (first lines : LineOut D A) (suits : Suits w x first.style)
+    (o : HandedOver contents failed w x reader bytes first lines) where
+  abbrev l : Language
+  l = in_words w x reader.scanner.limit
+
+  abbrev job : Conversion
+  job = conversion w x reader.scanner.limit first.style
+
+  -- what the drain took after the bytes that it had
+  abbrev Behind : LineOut D A → List Quad → List ℕ → Type 0
+  Behind after qs rest = Moves (contents lines.drain.now) (contents after.drain.now) (lines.buffer.now.items ++ bytes_of lines.style qs) rest
+
+  -- from the beginning of the run
+  from_first : (after : LineOut D A) (qs : List Quad) (rest : List ℕ) → Behind after qs rest → Moves (contents first.drain.now) (contents after.drain.now) (lines_of first.style (o.quads ++ qs)) rest
+  from_first after qs rest m =
+      let clean = subst (λ s. Moves (contents lines.drain.now) (contents after.drain.now) (bytes_of s qs) rest) o.same.style
+      (subst (λ b. Moves (contents lines.drain.now) (contents after.drain.now) (b ++ bytes_of lines.style qs) rest) o.none_waits m) in
+      subst (λ b. Moves (contents first.drain.now) (contents after.drain.now) b rest) (sym (bytes_of-append first.style o.quads qs))
+      (moves_on (contents first.drain.now) (contents lines.drain.now) (contents after.drain.now) (lines_of first.style o.quads) (bytes_of first.style qs) [] rest
+      (record { front = lines_of first.style o.quads; whole = sym (append-nil (lines_of first.style o.quads)); taken = o.written }) clean)
+
+  -- a beginning of the lines was written
+  written_front : (after : LineOut D A) (ts : List Token) (qs : List Quad) (rest : List ℕ) → Behind after qs rest → Begun l ts (o.quads ++ qs) →
+      WritesFront job ts (contents first.drain.now) (contents after.drain.now)
+  written_front after ts qs rest m d = record {
+    quads = o.quads ++ qs;
+    due = d;
+    written = moves_front (contents first.drain.now) (contents after.drain.now) (lines_of first.style (o.quads ++ qs)) rest (from_first after qs rest m);
+  }
+
+  -- all that waited was taken then
+  written_all : (mid after : LineOut D A) (qs : List Quad) → Writes contents lines (bytes_of lines.style qs) mid → Appends (contents mid.drain.now) (contents after.drain.now) mid.buffer.now.items →
+      Appends (contents first.drain.now) (contents after.drain.now) (lines_of first.style (o.quads ++ qs))
+  written_all mid after qs m t =
+      moves_all (contents first.drain.now) (contents mid.drain.now) (contents after.drain.now) (lines_of first.style (o.quads ++ qs)) mid.buffer.now.items (from_first mid qs mid.buffer.now.items m) t
+
+  -- the drain took a beginning of what waited
+  then_front : (mid after : LineOut D A) (qs : List Quad) (rest : List ℕ) → Writes contents lines (bytes_of lines.style qs) mid → Moves (contents mid.drain.now) (contents after.drain.now) mid.buffer.now.items rest →
+      Behind after qs rest
+  then_front mid after qs rest m n =
+      subst (λ b. Moves (contents lines.drain.now) (contents after.drain.now) b rest) (append-nil (lines.buffer.now.items ++ bytes_of lines.style qs))
+      (moves_on (contents lines.drain.now) (contents mid.drain.now) (contents after.drain.now) (lines.buffer.now.items ++ bytes_of lines.style qs) [] mid.buffer.now.items rest m
+      (subst (λ b. Moves (contents mid.drain.now) (contents after.drain.now) b rest) (sym (append-nil mid.buffer.now.items)) n))
+
+  more_front : (after : LineOut D A) (done later : List Quad) (rest : List ℕ) → Behind after done rest → Behind after (done ++ later) (rest ++ bytes_of lines.style later)
+  more_front after done later rest m =
+      subst (λ b. Moves (contents lines.drain.now) (contents after.drain.now) b (rest ++ bytes_of lines.style later))
+      (append_assoc lines.buffer.now.items (bytes_of lines.style done) (bytes_of lines.style later) ∙ ap (λ b. lines.buffer.now.items ++ b) (sym (bytes_of-append lines.style done later)))
+      (moves_more (contents lines.drain.now) (contents after.drain.now) (lines.buffer.now.items ++ bytes_of lines.style done) (bytes_of lines.style later) rest m)
+
+  -- quads that are due can be written
+  styled : (ts : List Token) (qs rest : List Quad) → Due (w.documents x) ts ((o.quads ++ qs) ++ rest) → AllByRecursion (CanWrite lines.style) qs
+  styled ts qs rest d =
+      subst (λ s. AllByRecursion (CanWrite s) qs) (sym o.same.style)
+      (last_ones (CanWrite first.style) o.quads qs (first_ones (CanWrite first.style) (o.quads ++ qs) rest (suits.can_write ts ((o.quads ++ qs) ++ rest) d)))
+
+  styled_all : (ts : List Token) (qs : List Quad) → Due (w.documents x) ts (o.quads ++ qs) → AllByRecursion (CanWrite lines.style) qs
+  styled_all ts qs d = styled ts qs [] (subst (Due (w.documents x) ts) (sym (append-nil (o.quads ++ qs))) d)
+
+  -- ---- an error of the reader: some quads were tried, and they are due
+
+  pub record LeftOff (ts : List Token) (mid : LineOut D A) : Type 0 where
+    pub more : List Quad
+    pub tries : Tried contents failed lines more mid
+    pub due : Begun l ts (o.quads ++ more)
+
+  leaves_off : (readings : List ℕ → Reading) (mid : LineOut D A) → LeavesOff w (Takes contents failed) (Leaves contents failed) reader lines readings mid → LeftOff (readings bytes).tokens mid
+  leaves_off readings mid h =
+      let d = h.due x bytes o.quads o.read in record { more = h.more; tries = tried contents failed h.more lines mid h.puts (styled d.ahead h.more d.rest d.due); due = d }
+
+  -- the drain failed, before or when it was handed what waited
+  tells_write : (ts : List Token) (mid after : LineOut D A) → LeftOff ts mid → TellsWrite contents failed mid after → WritesFront job ts (contents first.drain.now) (contents after.drain.now)
+  tells_write ts mid after h t = by (failed mid.drain.now) refl
+    where
+      by : (b : Bool) → failed mid.drain.now ≡ b → WritesFront job ts (contents first.drain.now) (contents after.drain.now)
+      by true e =
+          written_front after ts h.more h.tries.rest
+          (subst (λ k. Moves (contents lines.drain.now) k (lines.buffer.now.items ++ bytes_of lines.style h.more) h.tries.rest) (sym (t.before_it e)) h.tries.moves) h.due
+      by false e =
+          let (done, later, split, writes) = h.tries.whole e in
+          let (rest, moves) = t.while_taking e in
+          let m = more_front after done later rest (then_front mid after done rest writes moves) in
+          written_front after ts h.more (rest ++ bytes_of lines.style later) (subst (λ qs. Behind after qs (rest ++ bytes_of lines.style later)) (sym split) m) h.due
+
+  -- the drain has all whole lines
+  tells_some : (ts : List Token) (mid after : LineOut D A) → LeftOff ts mid → TellsFault contents failed mid after → WritesSome job ts (contents first.drain.now) (contents after.drain.now)
+  tells_some ts mid after h t =
+      let (done, later, split, writes) = h.tries.whole t.live in
+      record {
+        quads = o.quads ++ done;
+        due = begins_less l ts (o.quads ++ done) later (subst (Begun l ts) (ap (λ qs. o.quads ++ qs) split ∙ sym (append_assoc o.quads done later)) h.due);
+        written = written_all mid after done writes t.taken;
+      }
+
+  -- what was refused
+  pub record RefusedAt (why : Reason) (at : Place) (reading : Reading) (mid : LineOut D A) : Type 0 where
+    pub more : List Quad
+    pub taken : Taken contents failed lines more mid
+    pub refused : (ahead : List Token) × RefusedIn l reading why at ahead × Due (w.documents x) ahead (o.quads ++ more)
+    pub left : LeftOff reading.tokens mid
+
+  refuses : (why : Reason) (at : Place) (readings : List ℕ → Reading) (mid : LineOut D A) → R.Refuses w (Takes contents failed) reader lines readings why at mid → RefusedAt why at (readings bytes) mid
+  refuses why at readings mid r =
+      let d = r.refused x bytes o.quads o.read in
+      let kept = styled_all d.0 r.more d.2 in
+      record {
+        more = r.more;
+        taken = taken contents failed r.more lines mid r.puts kept;
+        refused = d;
+        left = record {
+          more = r.more;
+          tries = tried contents failed r.more lines mid (puts_tries contents failed r.more lines mid r.puts) kept;
+          due = begins_refused l (readings bytes) why at d.0 (o.quads ++ r.more) d.1 d.2;
+        };
+      }
+
+  tells_due : (why : Reason) (at : Place) (reading : Reading) (mid after : LineOut D A) → RefusedAt why at reading mid → TellsFault contents failed mid after →
+      (ahead : List Token) × RefusedIn l reading why at ahead × WritesDue job ahead (contents first.drain.now) (contents after.drain.now)
+  tells_due why at reading mid after r t =
+      (r.refused.0, r.refused.1, record { quads = o.quads ++ r.more; due = r.refused.2; written = written_all mid after r.more r.taken.writes t.taken })
+
+  -- ---- what is reported of an error
+
+  pub record Halts (told : StreamFault) (b : List ℕ) (e : Bool) (after : LineOut D A) : Type 0 where
+    pub same : SameOut first after
+    pub halts : HaltsFor told job b e (contents first.drain.now) (contents after.drain.now) (failed after.drain.now)
+
+  halts_by : (b : List ℕ) (e : Bool) (fault told : StreamFault) (mid after : LineOut D A) → LeftOff (reading_of l b e).tokens mid → SameOut mid after →
+      (TellsFault contents failed mid after → HaltsFor fault job b e (contents first.drain.now) (contents after.drain.now) (failed after.drain.now)) →
+      ((told ≡ stream.Write) × TellsWrite contents failed mid after) ⊎ ((told ≡ fault) × TellsFault contents failed mid after) → Halts told b e after
+  halts_by b e fault told mid after h s why t = record {
+    same = same_out first mid after (same_out first lines mid o.same h.tries.same) s;
+    halts = ⊎_elim
+        (λ p. subst (λ y. HaltsFor y job b e (contents first.drain.now) (contents after.drain.now) (failed after.drain.now)) (sym p.0) (p.1.failed_now, tells_write (reading_of l b e).tokens mid after h p.1))
+        (λ p. subst (λ y. HaltsFor y job b e (contents first.drain.now) (contents after.drain.now) (failed after.drain.now)) (sym p.0) (why p.1))
+        t;
+  }
+
+  module _ (piece : List ℕ) (n k : ℕ) (reader' : Driven G) (mid : LineOut D A) where
+    abbrev FailsPiece : Reason → Type 0
+    FailsPiece why = FeedFails w (Takes contents failed) (Leaves contents failed) (λ s. failed s.drain.now) why (record { offset = n; line = k }) reader lines piece reader' mid
+
+    abbrev read_so_far : Reading
+    read_so_far = reading_of l (bytes ++ piece) false
+
+    left_piece : (why : Reason) → FailsPiece why → LeftOff read_so_far.tokens mid
+    left_piece reason.Ended h = absurd (false≢true (sym o.read.running ∙ h.0))
+    left_piece reason.Memory h = leaves_off (piece_reading w reader.scanner.limit piece) mid h.0
+    left_piece reason.Sink h = leaves_off (piece_reading w reader.scanner.limit piece) mid h.0
+    left_piece reason.DocumentTooLong h = leaves_off (piece_reading w reader.scanner.limit piece) mid h.0
+    left_piece why h = (refuses why (record { offset = n; line = k }) (piece_reading w reader.scanner.limit piece) mid h).left
+
+    fault_piece : (after : LineOut D A) (why : Reason) → FailsPiece why → TellsFault contents failed mid after →
+        HaltsFor (fault_by why (record { reason = why; offset = n; line = k })) job (bytes ++ piece) false (contents first.drain.now) (contents after.drain.now) (failed after.drain.now)
+    fault_piece after reason.Ended h t = absurd (false≢true (sym o.read.running ∙ h.0))
+    fault_piece after reason.Memory h t = (t.live_now, tells_some read_so_far.tokens mid after (left_piece reason.Memory h) t)
+    fault_piece after reason.Sink h t = absurd (false≢true (sym t.live ∙ h.1))
+    fault_piece after reason.DocumentTooLong h t = (h.1 x bytes o.quads o.read, tells_some read_so_far.tokens mid after (left_piece reason.DocumentTooLong h) t)
+    fault_piece after why h t =
+        tells_due why (record { offset = n; line = k }) read_so_far mid after (refuses why (record { offset = n; line = k }) (piece_reading w reader.scanner.limit piece) mid h) t
+
+    -- an error in a piece
+    pub piece_halts : (why : Reason) (after : LineOut D A) (told : StreamFault) → FailsPiece why → SameOut mid after → Tells contents failed (record { reason = why; offset = n; line = k }) told mid after →
+        Halts told (bytes ++ piece) false after
+    piece_halts why after told h s t =
+        halts_by (bytes ++ piece) false (fault_by why (record { reason = why; offset = n; line = k })) told mid after (left_piece why h) s (fault_piece after why h) t
+
+  module _ (n k : ℕ) (reader' : Driven G) (mid : LineOut D A) where
+    abbrev FailsEnd : Reason → Type 0
+    FailsEnd why = FinishFails w (Takes contents failed) (Leaves contents failed) (λ s. failed s.drain.now) why (record { offset = n; line = k }) reader lines reader' mid
+
+    abbrev read_all : Reading
+    read_all = reading_of l bytes true
+
+    abbrev end_reading : List ℕ → Reading
+    end_reading b = tokens_of w.dialect reader.scanner.limit b true
+
+    left_end : (why : Reason) → FailsEnd why → LeftOff read_all.tokens mid
+    left_end reason.Ended h = absurd (false≢true (sym o.read.running ∙ h.0))
+    left_end reason.Memory h = leaves_off end_reading mid h.0
+    left_end reason.Sink h = leaves_off end_reading mid h.0
+    left_end why h = (refuses why (record { offset = n; line = k }) end_reading mid h).left
+
+    fault_end : (after : LineOut D A) (why : Reason) → FailsEnd why → TellsFault contents failed mid after →
+        HaltsFor (fault_by why (record { reason = why; offset = n; line = k })) job bytes true (contents first.drain.now) (contents after.drain.now) (failed after.drain.now)
+    fault_end after reason.Ended h t = absurd (false≢true (sym o.read.running ∙ h.0))
+    fault_end after reason.Memory h t = (t.live_now, tells_some read_all.tokens mid after (left_end reason.Memory h) t)
+    fault_end after reason.Sink h t = absurd (false≢true (sym t.live ∙ h.1))
+    fault_end after reason.DocumentTooLong h t = absurd (h.refused x bytes o.quads o.read).1
+    fault_end after why h t = tells_due why (record { offset = n; line = k }) read_all mid after (refuses why (record { offset = n; line = k }) end_reading mid h) t
+
+    -- an error at the end
+    pub end_halts : (why : Reason) (after : LineOut D A) (told : StreamFault) → FailsEnd why → SameOut mid after → Tells contents failed (record { reason = why; offset = n; line = k }) told mid after →
+        Halts told bytes true after
+    end_halts why after told h s t = halts_by bytes true (fault_by why (record { reason = why; offset = n; line = k })) told mid after (left_end why h) s (fault_end after why h) t
+
+  -- ---- all that comes was read
+
+  module _ (piece : List ℕ) (reader' : Driven G) (mid : LineOut D A) (f : Feeds w (Takes contents failed) reader lines piece reader' mid) where
+    read' : HasRead w reader' x (bytes ++ piece) (o.quads ++ f.more)
+    read' = f.read x bytes o.quads o.read
+
+    -- the tokens so far, by the limit that stays
+    abbrev now' : Language
+    now' = in_words w x reader'.scanner.limit
+
+    due' : Due (w.documents x) (reading_of now' (bytes ++ piece) false).tokens (o.quads ++ f.more)
+    due' = suits.lawful.due reader'.grammar x (reading_of now' (bytes ++ piece) false).tokens (o.quads ++ f.more) read'.reached
+
+    begun' : Begun l (reading_of l (bytes ++ piece) false).tokens (o.quads ++ f.more)
+    begun' =
+        subst (λ n. Begun (in_words w x n) (reading_of (in_words w x n) (bytes ++ piece) false).tokens (o.quads ++ f.more)) f.limit
+        (begins_all now' (reading_of now' (bytes ++ piece) false).tokens (o.quads ++ f.more)
+        (suits.lawful.kept reader'.grammar x (reading_of now' (bytes ++ piece) false).tokens (o.quads ++ f.more) read'.reached) due')
+
+    put' : Taken contents failed lines f.more mid
+    put' = taken contents failed f.more lines mid f.puts (styled_all (reading_of now' (bytes ++ piece) false).tokens f.more due')
+
+    -- all lines were handed over
+    pub piece_read : (after : LineOut D A) → SameOut mid after → Appends (contents mid.drain.now) (contents after.drain.now) mid.buffer.now.items → after.buffer.now.items ≡ [] →
+        failed after.drain.now ≡ false → HandedOver contents failed w x reader' (bytes ++ piece) first after
+    piece_read after s t none live = record {
+      quads = o.quads ++ f.more;
+      read = read';
+      written = written_all mid after f.more put'.writes t;
+      writable = both_writable first.style o.quads f.more o.writable (subst (λ y. Writable y f.more) o.same.style put'.writable);
+      none_waits = none;
+      same = same_out first mid after (same_out first lines mid o.same put'.same) s;
+      live = live;
+    }
+
+    -- the drain failed
+    pub piece_broke : (after : LineOut D A) → SameOut mid after → AppendsFront (contents mid.drain.now) (contents after.drain.now) mid.buffer.now.items → failed after.drain.now ≡ true →
+        Halts stream.Write (bytes ++ piece) false after
+    piece_broke after s t broke =
+        let (rest, m) = front_moves (contents mid.drain.now) (contents after.drain.now) mid.buffer.now.items t in
+        record {
+          same = same_out first mid after (same_out first lines mid o.same put'.same) s;
+          halts = (broke, written_front after (reading_of l (bytes ++ piece) false).tokens f.more rest (then_front mid after f.more rest put'.writes m) begun');
+        }
+
+  module _ (summary : Summary) (mid : LineOut D A) (f : Finishes w (Takes contents failed) reader lines summary mid) where
+    abbrev sums : R.Sums w x reader.scanner.limit bytes (o.quads ++ f.more) summary
+    sums = f.read x bytes o.quads o.read
+
+    all_begun : Begun l (reading_of l bytes true).tokens (o.quads ++ f.more)
+    all_begun = begins_all l (reading_of l bytes true).tokens (o.quads ++ f.more) sums.whole.front.kept sums.due
+
+    all_put : Taken contents failed lines f.more mid
+    all_put = taken contents failed f.more lines mid f.puts (styled_all (reading_of l bytes true).tokens f.more sums.due)
+
+    -- the document was read and written
+    pub end_read : (after : LineOut D A) → SameOut mid after → Appends (contents mid.drain.now) (contents after.drain.now) mid.buffer.now.items →
+        SameOut first after × Accepts job bytes (contents first.drain.now) (contents after.drain.now) summary
+    end_read after s t = (
+      same_out first mid after (same_out first lines mid o.same all_put.same) s,
+      record {
+        quads = o.quads ++ f.more;
+        document = sums.document;
+        within = sums.whole;
+        written = written_all mid after f.more all_put.writes t;
+        reads_back = λ limit h.
+            bytes_read_back first.style (o.quads ++ f.more) limit (both_writable first.style o.quads f.more o.writable (subst (λ y. Writable y f.more) o.same.style all_put.writable)) h;
+        counts = record { quads = sums.given; tokens = sums.accepted; bytes = sums.taken };
+      },
+    )
+
+    -- the drain failed
+    pub end_broke : (after : LineOut D A) → SameOut mid after → AppendsFront (contents mid.drain.now) (contents after.drain.now) mid.buffer.now.items → failed after.drain.now ≡ true →
+        Halts stream.Write bytes true after
+    end_broke after s t broke =
+        let (rest, m) = front_moves (contents mid.drain.now) (contents after.drain.now) mid.buffer.now.items t in
+        record {
+          same = same_out first mid after (same_out first lines mid o.same all_put.same) s;
+          halts = (broke, written_front after (reading_of l bytes true).tokens f.more rest (then_front mid after f.more rest all_put.writes m) all_begun);
+        }
+
+-- ---- a run
+
+module _ {G X D A : Type 0} (contents : D → Option (List ℕ)) (failed : D → Bool) (w : Words G X) (reader : Driven G) (first : LineOut D A) (bytes : List ℕ) (old : Driven G) (lines : LineOut D A)
+    (i : IsConverting contents failed w reader first bytes old lines) where
+  -- the drain has not failed
+  pub live_now : failed lines.drain.now ≡ false
+  live_now = (i.handed i.begun.0 i.begun.1).live
+
+  -- what halts by the limit of the reader halts by that of the run
+  halted : (told : StreamFault) (b : List ℕ) (e : Bool) (after : LineOut D A) →
+      ((x : X) (s : Suits w x first.style) (o : HandedOver contents failed w x old bytes first lines) → Halts contents failed w x old bytes first lines s o told b e after) → RunHalts contents failed w told reader first b e after
+  halted told b e after h = record {
+    begun = i.begun;
+    same = (h i.begun.0 i.begun.1.starts.suits (i.handed i.begun.0 i.begun.1)).same;
+    halts = λ x y.
+        subst (λ n. HaltsFor told (conversion w x n first.style) b e (contents first.drain.now) (contents after.drain.now) (failed after.drain.now)) i.limit (h x y.starts.suits (i.handed x y)).halts;
+  }
+
+  -- what stays from the beginning of a run stays from any state that had it
+  pub stays_on : (after : LineOut D A) → SameOut first after → (before : LineOut D A) → SameOut before lines → SameOut before after
+  stays_on after h before s =
+      let o = (i.handed i.begun.0 i.begun.1).same in
+      record { style = h.style ∙ (sym o.style ∙ s.style); buffer = h.buffer ∙ (sym o.buffer ∙ s.buffer); drain = h.drain ∙ (sym o.drain ∙ s.drain) }
+
+  module _ (piece : List ℕ) where
+    module _ (new : Driven G) (mid : LineOut D A) (f : Feeds w (Takes contents failed) old lines piece new mid) where
+      -- a piece more
+      pub run_takes : (after : LineOut D A) → SameOut mid after → Appends (contents mid.drain.now) (contents after.drain.now) mid.buffer.now.items → after.buffer.now.items ≡ [] →
+          failed after.drain.now ≡ false → IsConverting contents failed w reader first (bytes ++ piece) new after
+      run_takes after s t none live = record {
+        begun = i.begun;
+        limit = f.limit ∙ i.limit;
+        handed = λ x y. piece_read contents failed w x old bytes first lines y.starts.suits (i.handed x y) piece new mid f after s t none live;
+      }
+
+      pub run_same : (after : LineOut D A) → SameOut mid after → SameOut first after
+      run_same after s =
+          let o = i.handed i.begun.0 i.begun.1 in
+          same_out first mid after (same_out first lines mid o.same (put' contents failed w i.begun.0 old bytes first lines i.begun.1.starts.suits o piece new mid f).same) s
+
+      -- the bytes are counted
+      pub run_counts : new.so_far.bytes ≡ old.so_far.bytes + length piece
+      run_counts =
+          let o = i.handed i.begun.0 i.begun.1 in
+          let a : old.so_far.bytes ≡ length bytes = ap (λ (s : Summary). s.bytes) o.read.so_far in
+          let b : new.so_far.bytes ≡ length (bytes ++ piece) = ap (λ (s : Summary). s.bytes) (f.read i.begun.0 bytes o.quads o.read).so_far in
+          b ∙ (length-append bytes piece ∙ ap (λ n. n + length piece) (sym a))
+
+      -- there are not too many
+      pub run_few : (most : ℕ) → new.scanner.taken.offset ≤ most → new.so_far.bytes ≤ most
+      run_few most few =
+          let o = i.handed i.begun.0 i.begun.1 in
+          let r = f.read i.begun.0 bytes o.quads o.read in
+          let b : new.so_far.bytes ≡ length (bytes ++ piece) = ap (λ (s : Summary). s.bytes) r.so_far in
+          let small : new.scanner.taken.offset ≡ length (bytes ++ piece) = ap (λ (p : Place). p.offset) r.scanned.taken in
+          omega (arith, b, small, few)
+
+      -- the drain failed
+      pub run_broke : (after : LineOut D A) → SameOut mid after → AppendsFront (contents mid.drain.now) (contents after.drain.now) mid.buffer.now.items → failed after.drain.now ≡ true →
+          RunHalts contents failed w stream.Write reader first (bytes ++ piece) false after
+      run_broke after s t broke = halted stream.Write (bytes ++ piece) false after (λ x y o. piece_broke contents failed w x old bytes first lines y o piece new mid f after s t broke)
+
+    -- an error in a piece
+    pub run_halts : (n k : ℕ) (new : Driven G) (mid after : LineOut D A) (why : Reason) (told : StreamFault) →
+        FeedFails w (Takes contents failed) (Leaves contents failed) (λ s. failed s.drain.now) why (record { offset = n; line = k }) old lines piece new mid → SameOut mid after →
+        Tells contents failed (record { reason = why; offset = n; line = k }) told mid after → RunHalts contents failed w told reader first (bytes ++ piece) false after
+    run_halts n k new mid after why told h s t =
+        halted told (bytes ++ piece) false after (λ x y o. piece_halts contents failed w x old bytes first lines y o piece n k new mid why after told h s t)
+
+  module _ (summary : Summary) (mid : LineOut D A) (f : Finishes w (Takes contents failed) old lines summary mid) where
+    -- the document was read and written
+    pub run_ends : (flushed : D → Bool) (after : LineOut D A) → SameOut mid after → Appends (contents mid.drain.now) (contents after.drain.now) mid.buffer.now.items → flushed after.drain.now ≡ true →
+        RunEnds contents failed flushed w summary reader first bytes after
+    run_ends flushed after s t sent = record {
+      same = (end_read contents failed w i.begun.0 old bytes first lines i.begun.1.starts.suits (i.handed i.begun.0 i.begun.1) summary mid f after s t).0;
+      sent = sent;
+      accepts = λ x y.
+          subst (λ n. Accepts (conversion w x n first.style) bytes (contents first.drain.now) (contents after.drain.now) summary) i.limit
+          (end_read contents failed w x old bytes first lines y.starts.suits (i.handed x y) summary mid f after s t).1;
+    }
+
+    -- the drain failed
+    pub end_run_broke : (after : LineOut D A) → SameOut mid after → AppendsFront (contents mid.drain.now) (contents after.drain.now) mid.buffer.now.items → failed after.drain.now ≡ true →
+        RunHalts contents failed w stream.Write reader first bytes true after
+    end_run_broke after s t broke = halted stream.Write bytes true after (λ x y o. end_broke contents failed w x old bytes first lines y o summary mid f after s t broke)
+
+  -- an error at the end
+  pub end_run_halts : (n k : ℕ) (new : Driven G) (mid after : LineOut D A) (why : Reason) (told : StreamFault) →
+      FinishFails w (Takes contents failed) (Leaves contents failed) (λ s. failed s.drain.now) why (record { offset = n; line = k }) old lines new mid → SameOut mid after →
+      Tells contents failed (record { reason = why; offset = n; line = k }) told mid after → RunHalts contents failed w told reader first bytes true after
+  end_run_halts n k new mid after why told h s t = halted told bytes true after (λ x y o. end_halts contents failed w x old bytes first lines y o n k new mid why after told h s t)

@@ -1,0 +1,24 @@
+use Rattle.std.proofs.Common.{refl}
+use Rattle.rdf_stream.specs.Faults.{IsRefusal}
+use Rattle.rdf_stream.proofs.ChecksLemmas.{begins, checked, refused_document, stopped}
+use Rattle.rdf_stream.proofs.PiecesLemmas.{if_err, if_ok, none_given, told_stops}
+use Rattle.rdf_stream.proofs.checks.check_with.Goals as goal
+
+pub returns-in_err-piece-clause-stops : goal.returns-in_err-piece-clause-stops
+returns-in_err-piece-clause-stops g c = told_stops _ _ _ c.from_residual.ensures.1 (λ x b. none_given _ _ c.requires.source)
+
+pub read_pieces-requires-clause-begun : goal.read_pieces-requires-clause-begun
+read_pieces-requires-clause-begun g c = begins g.G.Grammar.words c.requires.begun.0 (c.args.reader, _) c.requires.begun.1
+
+pub returns-clause-accepted : goal.returns-clause-accepted
+returns-clause-accepted g c =
+    if_ok c.read_pieces.result _ _ (λ s a x b. checked g.G.Grammar.words x _ (c.args.reader, _) (c.read_pieces.new.run, _) refl b _ _ s a) c.read_pieces.ensures.read
+
+pub returns-clause-stops : goal.returns-clause-stops
+returns-clause-stops g c =
+    if_err c.read_pieces.result _ _ (λ told a x b. stopped g.G.Grammar.words x _ (c.args.reader, _) (c.read_pieces.new.run, _) refl b _ _ told _ a) c.read_pieces.ensures.stops
+
+pub returns-clause-refused : goal.returns-clause-refused
+returns-clause-refused g c =
+    if_err c.read_pieces.result _ IsRefusal
+    (λ told a. refused_document g.G.Grammar.words c.requires.begun.0 _ (c.args.reader, _) (c.read_pieces.new.run, _) refl c.requires.begun.1 _ _ told _ a) c.read_pieces.ensures.stops

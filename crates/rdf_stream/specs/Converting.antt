@@ -1,0 +1,92 @@
+-- What a conversion has done after each piece, and why it stops within one.
+use Rattle.std.specs.Prelude.{◌≡◌, ◌⊎◌, ℕ, Bool, true, false, List, [], Option}
+use Rattle.std.specs.Io.KnownBytes.{Appends}
+use Rattle.std.specs.List.{AllByRecursion}
+use Rattle.rdf_terms.specs.Terms.{Quad}
+use Rattle.rdf_tokens.specs.Tokens.{Token}
+use Rattle.rdf_tokens.specs.Grammars.{Due, reading_of}
+use Rattle.rdf_tokens.specs.Scans.{place_of}
+use Rattle.rdf_tokens.specs.declared.token.Fault.{Fault}
+use Rattle.rdf_driver.specs.declared.summary.Summary.{Summary}
+use Rattle.rdf_driver.specs.Readers.{Driven, HasRead}
+use Rattle.rdf_driver.specs.Words.{Lawful, Words}
+use Rattle.rdf_lines.specs.declared.form.Style.{Style}
+use Rattle.rdf_lines.specs.Writing.{CanWrite, Writable}
+use Rattle.rdf_stream.specs.Languages.{Conversion, conversion}
+use Rattle.rdf_stream.specs.declared.fault.StreamFault.{StreamFault}
+use Rattle.rdf_stream.specs.declared.fault.StreamFault.TheVariants as fault
+use Rattle.rdf_stream.specs.declared.line_out.LineOut.{LineOut}
+use Rattle.rdf_stream.specs.Converts.{Accepts, Refuses, WritesFront, WritesSome, lines_of}
+use Rattle.rdf_stream.specs.Faults.{fault_by}
+use Rattle.rdf_stream.specs.LineOut.{Moves, SameOut}
+
+-- what a conversion asks of a grammar and of the style of its lines
+pub record Suits {G X : Type 0} (w : Words G X) (x : X) (style : Style) : Type 0 where
+  pub lawful : Lawful w
+  -- each quad that is due in a document can be written
+  pub can_write : (ts : List Token) (quads : List Quad) → Due (w.documents x) ts quads → AllByRecursion (CanWrite style) quads
+
+-- A reader of a grammar that suits the style has read nothing.
+pub record Starts {G X : Type 0} (w : Words G X) (x : X) (reader : Driven G) (style : Style) : Type 0 where
+  pub suits : Suits w x style
+  pub read : HasRead w reader x [] []
+
+-- The same, and no line waits.
+pub record Begins {G X D A : Type 0} (failed : D → Bool) (w : Words G X) (x : X) (reader : Driven G) (lines : LineOut D A) : Type 0 where
+  pub starts : Starts w x reader lines.style
+  pub none_waits : lines.buffer.now.items ≡ []
+  pub live : failed lines.drain.now ≡ false
+
+-- The reader has read these bytes, the drain has taken the lines of all quads that are due in them, and none waits.
+pub record HandedOver {G X D A : Type 0} (contents : D → Option (List ℕ)) (failed : D → Bool) (w : Words G X) (x : X) (reader : Driven G) (bytes : List ℕ) (first lines : LineOut D A) : Type 0 where
+  pub quads : List Quad
+  pub read : HasRead w reader x bytes quads
+  pub written : Appends (contents first.drain.now) (contents lines.drain.now) (lines_of first.style quads)
+  pub writable : Writable first.style quads
+  pub none_waits : lines.buffer.now.items ≡ []
+  pub same : SameOut first lines
+  pub live : failed lines.drain.now ≡ false
+
+-- Since the run began these bytes were read, and all lines that are due of them were handed over.
+pub record IsConverting {G X D A : Type 0} (contents : D → Option (List ℕ)) (failed : D → Bool) (w : Words G X) (reader : Driven G) (first : LineOut D A) (bytes : List ℕ) (now : Driven G) (lines : LineOut D A) : Type 0 where
+  pub begun : (x : X) × Begins failed w x reader first
+  pub limit : now.scanner.limit ≡ reader.scanner.limit
+  pub handed : (x : X) → Begins failed w x reader first → HandedOver contents failed w x now bytes first lines
+
+-- why the bytes are not read on, and what was written
+abbrev pub HaltsFor : StreamFault → Conversion → List ℕ → Bool → Option (List ℕ) → Option (List ℕ) → Bool → Type 0
+HaltsFor (fault.Refused f) job bytes is_end old new failed = Refuses f.reason job bytes is_end (place_of f) old new
+HaltsFor fault.Read job bytes is_end old new failed = ⊥
+HaltsFor fault.Write job bytes is_end old new failed = (failed ≡ true) × WritesFront job (reading_of job.language bytes is_end).tokens old new
+HaltsFor fault.Memory job bytes is_end old new failed = (failed ≡ false) × WritesSome job (reading_of job.language bytes is_end).tokens old new
+
+-- Since the run began these bytes came, and are not read on.
+pub record RunHalts {G X D A : Type 0} (contents : D → Option (List ℕ)) (failed : D → Bool) (w : Words G X) (told : StreamFault) (reader : Driven G) (first : LineOut D A) (bytes : List ℕ) (is_end : Bool) (lines : LineOut D A) : Type 0 where
+  pub begun : (x : X) × Begins failed w x reader first
+  pub same : SameOut first lines
+  pub halts : (x : X) → Begins failed w x reader first →
+      HaltsFor told (conversion w x reader.scanner.limit first.style) bytes is_end (contents first.drain.now) (contents lines.drain.now) (failed lines.drain.now)
+
+-- Since the run began these bytes came, they are all that there are, and were converted.
+pub record RunEnds {G X D A : Type 0} (contents : D → Option (List ℕ)) (failed flushed : D → Bool) (w : Words G X) (summary : Summary) (reader : Driven G) (first : LineOut D A) (bytes : List ℕ) (lines : LineOut D A) : Type 0 where
+  pub same : SameOut first lines
+  pub sent : flushed lines.drain.now ≡ true
+  pub accepts : (x : X) → Begins failed w x reader first →
+      Accepts (conversion w x reader.scanner.limit first.style) bytes (contents first.drain.now) (contents lines.drain.now) summary
+
+-- The drain has failed: before, and is as it was, or while it took what waited.
+pub record TellsWrite {D A : Type 0} (contents : D → Option (List ℕ)) (failed : D → Bool) (before after : LineOut D A) : Type 0 where
+  pub failed_now : failed after.drain.now ≡ true
+  pub while_taking : failed before.drain.now ≡ false → (rest : List ℕ) × Moves (contents before.drain.now) (contents after.drain.now) before.buffer.now.items rest
+  pub before_it : failed before.drain.now ≡ true → contents after.drain.now ≡ contents before.drain.now
+
+-- The drain has not failed, and has taken all that waited.
+pub record TellsFault {D A : Type 0} (contents : D → Option (List ℕ)) (failed : D → Bool) (before after : LineOut D A) : Type 0 where
+  pub live : failed before.drain.now ≡ false
+  pub live_now : failed after.drain.now ≡ false
+  pub taken : Appends (contents before.drain.now) (contents after.drain.now) before.buffer.now.items
+
+-- what is reported of a reader's fault, once all that waited was handed over
+abbrev pub Tells : {D A : Type 0} → (D → Option (List ℕ)) → (D → Bool) → Fault → StreamFault → LineOut D A → LineOut D A → Type 0
+Tells contents failed f told before after =
+    ((told ≡ fault.Write) × TellsWrite contents failed before after) ⊎ ((told ≡ fault_by f.reason f) × TellsFault contents failed before after)
