@@ -9,10 +9,12 @@ use Rattle.rdf_terms.specs.Terms.{Label, Lang, Typed, Subject, Iri, Blank, Term,
 use Rattle.rdf_lines.specs.declared.form.LineForm.{LineForm}
 use Rattle.rdf_lines.specs.declared.form.LineForm.TheVariants.{NTriples, NQuads}
 
+-- a token of a tree: its text and its place
 pub record Leaf : Type 0 where
   pub text : List ℕ
   pub at : Place
 
+-- a token without its kind
 abbrev pub leaf_of : Token → Leaf
 leaf_of t = record { text = t.text; at = t.at }
 
@@ -50,16 +52,19 @@ pub data Document : Type 0 where
 abbrev pub token : Kind → Leaf → Token
 token k l = record { kind = k; text = l.text; at = l.at }
 
+-- those of an IRI or a label
 abbrev pub name_tokens : Name → List Token
 name_tokens (Ref l) = token IriRef l ∷ []
 name_tokens (Lab l) = token LabelNode l ∷ []
 
+-- those of an object
 abbrev pub object_tokens : Object → List Token
 object_tokens (Named n) = name_tokens n
 object_tokens (Plain s) = token ShortString s ∷ []
 object_tokens (WithType s c i) = token ShortString s ∷ token Carets c ∷ token IriRef i ∷ []
 object_tokens (WithTag s t) = token ShortString s ∷ token LangTag t ∷ []
 
+-- those of a graph label, where there is one
 abbrev pub graph_tokens : Option Name → List Token
 graph_tokens None = []
 graph_tokens (Some n) = name_tokens n
@@ -68,13 +73,16 @@ graph_tokens (Some n) = name_tokens n
 abbrev pub head_tokens : Statement → List Token
 head_tokens s = name_tokens s.subject ++ (token IriRef s.predicate ∷ []) ++ object_tokens s.object ++ graph_tokens s.graph
 
+-- those of a statement, its dot last
 abbrev pub statement_tokens : Statement → List Token
 statement_tokens s = head_tokens s ++ (token Dot s.dot ∷ [])
 
+-- those of a line, without its end
 abbrev pub line_tokens : Line → List Token
 line_tokens empty = []
 line_tokens (one s) = statement_tokens s
 
+-- those of a document
 abbrev pub document_tokens : Document → List Token
 document_tokens (last l e) = line_tokens l ++ token End e ∷ []
 document_tokens (next l e d) = line_tokens l ++ token LineEnd e ∷ document_tokens d
@@ -83,26 +91,32 @@ document_tokens (next l e d) = line_tokens l ++ token LineEnd e ∷ document_tok
 abbrev pub iri_of : Leaf → List ℕ
 iri_of l = unwrap_or (iri_value (inside 1 l.text)) []
 
+-- the characters that a string spells
 abbrev pub string_of : Leaf → List ℕ
 string_of l = unwrap_or (string_value (inside 1 l.text)) []
 
+-- the node that a name stands for
 abbrev pub subject_of : Name → Subject
 subject_of (Ref l) = Iri (iri_of l)
 subject_of (Lab l) = Blank (Label (drop 2 l.text))
 
+-- the term that an object stands for
 abbrev pub term_of : Object → Term
 term_of (Named n) = Resource (subject_of n)
 term_of (Plain s) = Literal (string_of s) (Typed xsd_string)
 term_of (WithType s c i) = Literal (string_of s) (Typed (iri_of i))
 term_of (WithTag s t) = Literal (string_of s) (Lang (drop 1 t.text))
 
+-- the quad of a statement
 abbrev pub quad_of : Statement → Quad
 quad_of s = record { subject = subject_of s.subject; predicate = iri_of s.predicate; object = term_of s.object; graph = option_map subject_of s.graph }
 
+-- those of a line
 abbrev pub line_quads : Line → List Quad
 line_quads empty = []
 line_quads (one s) = quad_of s ∷ []
 
+-- those of a document, in order
 abbrev pub quads : Document → List Quad
 quads (last l e) = line_quads l
 quads (next l e d) = line_quads l ++ quads d
@@ -112,6 +126,7 @@ abbrev pub marked_line : ℕ → Line → List Marked
 marked_line n empty = []
 marked_line n (one s) = record { quad = quad_of s; mark = n + length (head_tokens s) } ∷ []
 
+-- those of a document
 abbrev pub marked : ℕ → Document → List Marked
 marked n (last l e) = marked_line n l
 marked n (next l e d) = marked_line n l ++ marked (n + length (line_tokens l) + 1) d
@@ -121,12 +136,14 @@ abbrev pub name_bound : (List ℕ → Bool) → Name → Type 0
 name_bound test (Ref l) = test (iri_of l) ≡ true
 name_bound test (Lab l) = Unit
 
+-- the same of an object
 abbrev pub object_bound : (List ℕ → Bool) → Object → Type 0
 object_bound test (Named n) = name_bound test n
 object_bound test (Plain s) = Unit
 object_bound test (WithType s c i) = test (iri_of i) ≡ true
 object_bound test (WithTag s t) = Unit
 
+-- the same of a graph label
 abbrev pub graph_bound : (List ℕ → Bool) → Option Name → Type 0
 graph_bound test None = Unit
 graph_bound test (Some n) = name_bound test n
@@ -136,6 +153,7 @@ abbrev pub graph_fits : LineForm → Option Name → Type 0
 graph_fits NTriples g = g ≡ None
 graph_fits NQuads g = Unit
 
+-- a statement of the form whose IRIs pass the test
 pub record GoodStatement (test : List ℕ → Bool) (form : LineForm) (s : Statement) : Type 0 where
   pub subject : name_bound test s.subject
   pub predicate : test (iri_of s.predicate) ≡ true
@@ -143,10 +161,12 @@ pub record GoodStatement (test : List ℕ → Bool) (form : LineForm) (s : State
   pub graph : graph_bound test s.graph
   pub labels : graph_fits form s.graph
 
+-- a line of such a statement, or of none
 abbrev pub GoodLine : (List ℕ → Bool) → LineForm → Line → Type 0
 GoodLine test form empty = Unit
 GoodLine test form (one s) = GoodStatement test form s
 
+-- a document of such lines
 abbrev pub GoodDocument : (List ℕ → Bool) → LineForm → Document → Type 0
 GoodDocument test form (last l e) = GoodLine test form l
 GoodDocument test form (next l e d) = GoodLine test form l × GoodDocument test form d
@@ -163,9 +183,10 @@ IsMarked test form ts qs = (d : Document) × (ts ≡ document_tokens d) × GoodD
 abbrev pub any_iri : List ℕ → Bool
 any_iri i = true
 
--- the documents of a form, and its trees whether their IRIs have a scheme or not
+-- the documents of a form: each IRI has a scheme
 abbrev pub documents : LineForm → List Token → List Marked → Type 0
 documents form ts qs = IsMarked has_scheme form ts qs
 
+-- its trees, whether their IRIs have a scheme or not
 abbrev pub trees : LineForm → List Token → List Marked → Type 0
 trees form ts qs = IsMarked any_iri form ts qs

@@ -41,9 +41,11 @@ iri_refused i = cond (has_scheme i) IriTooLong RelativeIri
 abbrev pub absolute : (List ℕ → Bool) → List ℕ → Mode → Answer
 absolute test i m = cond (test i) (goes m) (refuses (iri_refused i))
 
+-- the quad of these parts
 abbrev pub quad : Subject → List ℕ → Term → Option Subject → Quad
 quad s p o g = record { subject = s; predicate = p; object = o; graph = g }
 
+-- the node of a label
 abbrev pub blank : Leaf → Subject
 blank l = Blank (Label (drop 2 l.text))
 
@@ -54,6 +56,7 @@ object_then test NQuads s p o IriRef l = absolute test (iri_of l) (AfterGraph s 
 object_then test NQuads s p o LabelNode l = goes (AfterGraph s p o (blank l))
 object_then test f s p o k l = refuses Unexpected
 
+-- what a token does in each mode
 abbrev pub accept : (List ℕ → Bool) → LineForm → Mode → Kind → Leaf → Answer
 accept test f Begin IriRef l = absolute test (iri_of l) (AfterSubject (Iri (iri_of l)))
 accept test f Begin LabelNode l = goes (AfterSubject (blank l))
@@ -73,20 +76,23 @@ accept test f AfterDot LineEnd l = goes Begin
 accept test f AfterDot End l = goes Finished
 accept test f m k l = refuses Unexpected
 
--- some tokens: the mode behind them and the quads that were given out, or the first refusal
+-- some tokens: the mode after them and the quads that were given out, or the first refusal
 pub data Run : Type 0 where
   ran : Mode → List Quad → Run
   refused : Reason → Run
 
+-- a quad more, before those of a run
 abbrev pub with_quad : Quad → Run → Run
 with_quad q (ran m qs) = ran m (q ∷ qs)
 with_quad q (refused r) = refused r
 
+-- what a token does, and then the others
 abbrev pub go_on : Answer → (Mode → Run) → Run
 go_on (goes m) more = more m
 go_on (gives q m) more = with_quad q (more m)
 go_on (refuses r) more = refused r
 
+-- the run over some tokens, from a mode on
 abbrev pub run : (List ℕ → Bool) → LineForm → Mode → List Token → Run
 run test f m [] = ran m []
 run test f m (t ∷ ts) = go_on (accept test f m t.kind (leaf_of t)) (λ n. run test f n ts)

@@ -5,10 +5,11 @@ use Rattle.rdf_terms.specs.declared.reason.Reason.TheVariants.{Memory}
 use Rattle.rdf_terms.specs.Values.{iri_value, string_value, inside}
 use Rattle.rdf_lines.specs.Machine.{is_taken, iri_refused}
 
--- the value of an IRIREF, and of a string; it is there, since the token is fit
+-- the value of an IRIREF; it is there, since the token is fit
 abbrev pub iri_in : List ℕ → List ℕ
 iri_in w = unwrap_or (iri_value (inside 1 w)) []
 
+-- the same of a string
 abbrev pub string_in : List ℕ → List ℕ
 string_in w = unwrap_or (string_value (inside 1 w)) []
 
