@@ -45,7 +45,10 @@ returns-in-Tree-clause-accepted g c =
     trees_job (λ j. IfSome (g.S.Source.remaining c.args.source.now) (λ bytes. Accepts j bytes (g.D.Drain.contents c.new-lines-in-Tree.result.drain.now) (g.D.Drain.contents c.convert_with-in-Tree.new.lines.drain.now) s)) c.args.job c.in-Tree.form (search rules)
     c.options.result (search rules) c.tree_reader-reader.result.scanner.limit (search rules) c.new-lines-in-Tree.result.style c.new-lines-in-Tree.ensures.style (h _ (record { starts = record { suits = trees_suit _ _ c.new-lines-in-Tree.ensures.style; read = c.tree_reader-reader.ensures.read }; none_waits = search rules; live = search rules })))
     c.convert_with-in-Tree.ensures.accepted in
-    search rules
+    let same = c.convert_with-in-Tree.ensures.same in
+    let to_lines = c.new-lines-in-Tree.ensures.same_drain in
+    let first = c.new-lines-in-Tree.ensures.drain in
+    search (rules, same.drain, to_lines, first, h)
 
 pub returns-in-Tree-clause-stops : goal.returns-in-Tree-clause-stops
 returns-in-Tree-clause-stops g c =
@@ -57,4 +60,7 @@ returns-in-Tree-clause-stops g c =
     (g.D.Drain.contents c.new-lines-in-Tree.result.drain.now) (g.D.Drain.contents c.convert_with-in-Tree.new.lines.drain.now) (g.D.Drain.has_failed c.convert_with-in-Tree.new.lines.drain.now)) c.args.job c.in-Tree.form (search rules)
     c.options.result (search rules) c.tree_reader-reader.result.scanner.limit (search rules) c.new-lines-in-Tree.result.style c.new-lines-in-Tree.ensures.style (h _ (record { starts = record { suits = trees_suit _ _ c.new-lines-in-Tree.ensures.style; read = c.tree_reader-reader.ensures.read }; none_waits = search rules; live = search rules })))
     c.convert_with-in-Tree.ensures.stops in
-    search rules
+    let same = c.convert_with-in-Tree.ensures.same in
+    let to_lines = c.new-lines-in-Tree.ensures.same_drain in
+    let first = c.new-lines-in-Tree.ensures.drain in
+    search (rules, same.drain, to_lines, first, h)
