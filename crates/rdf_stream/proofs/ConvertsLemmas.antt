@@ -1,5 +1,5 @@
 -- A whole conversion, from what its run has done.
-use Rattle.std.proofs.Common.{◌≡◌, ℕ, Bool, true, false, List, [], ◌++◌, length, Option, IfSome, IfErr, Result, refl, sym, subst, ⊎_elim}
+use Rattle.std.proofs.Common.{◌≡◌, ℕ, Bool, true, false, List, [], ◌∷◌, ◌++◌, length, Option, IfSome, IfErr, Result, refl, sym, subst, ⊎_elim}
 use Rattle.std.proofs.KnownBytes.{Appends-nil, Consumes-whole}
 use Rattle.std.specs.Result.{IsErrAnd}
 use Rattle.rdf_terms.specs.declared.reason.Reason.{Reason}
@@ -7,7 +7,7 @@ use Rattle.rdf_terms.specs.declared.reason.Reason.TheVariants as reason
 use Rattle.rdf_terms.specs.Terms.{Quad}
 use Rattle.rdf_tokens.specs.Tokens.{Place, Token}
 use Rattle.rdf_tokens.specs.Scans.{place_of}
-use Rattle.rdf_tokens.specs.Grammars.{BeginsDue, Due, GoesOn, Language, reading_of}
+use Rattle.rdf_tokens.specs.Grammars.{BeginsDue, Due, GoesOn, Language, PassesNone, reading_of}
 use Rattle.rdf_tokens.proofs.LanguageLemmas.{EndsAtBlame, due_more, refused_in_more}
 use Rattle.rdf_driver.specs.declared.summary.Summary.{Summary}
 use Rattle.rdf_driver.specs.Readers.{Driven}
@@ -21,10 +21,23 @@ use Rattle.rdf_stream.specs.Converting.{Begins, HaltsFor, IsConverting, RunEnds,
 use Rattle.rdf_stream.specs.Converts.{Accepts, Refuses, StopsFor, WritesDue, WritesSome}
 use Rattle.rdf_stream.specs.Devices.{HasGiven}
 use Rattle.rdf_stream.specs.Faults.{IsOfDocument, IsRefusal}
-use Rattle.rdf_stream.specs.Languages.{Conversion, conversion}
+use Rattle.rdf_lines.specs.declared.form.LineForm.{LineForm}
+use Rattle.rdf_lines.specs.declared.form.Style.TheVariants.{Kept, Tagged}
+use Rattle.rdf_lines.specs.Accepting.{line_words}
+use Rattle.rdf_trig.specs.declared.form.DocForm.{DocForm}
+use Rattle.rdf_trig.specs.Accepting.{tree_words}
+use Rattle.rdf_trig.specs.Language.{Chosen}
+use Rattle.rdf_stream.specs.declared.fault.Kind.TheVariants.{Line, Tree}
+use Rattle.rdf_stream.specs.Jobs.{JobRead}
+use Rattle.rdf_stream.specs.Kinds.{kind_of}
+use Rattle.rdf_stream.specs.Languages.{Conversion, conversion, conversion_by, conversion_of, language_of, tree_job}
+use Rattle.rdf_stream.specs.declared.fault.Kind.{Kind}
+use Rattle.rdf_lines.specs.Machine.{Begin}
+use Rattle.rdf_lines.proofs.AcceptingLemmas.{lawful as lines_lawful}
+use Rattle.rdf_trig.specs.Machine.{at_start}
+use Rattle.rdf_trig.proofs.Exact.{due_ran}
 use Rattle.rdf_stream.specs.Pieces.{ReadStops, ReadsAll, SourceFails}
 use Rattle.rdf_stream.proofs.PiecesLemmas.{all_given, none_given, too_long_more}
-use Rattle.rdf_stream.proofs.ConvertingLemmas.{begins_all}
 
 -- what is refused stays refused, with all the bytes
 refuses_more : (job : Conversion) → EndsAtBlame job.language → (why : Reason) (bytes more : List ℕ) (at : Place) (old new : Option (List ℕ)) → Refuses why job bytes false at old new → Refuses why job (bytes ++ more) true at old new
@@ -54,7 +67,7 @@ halts_stops stream.Read job ends known left old new read_failed write_failed giv
 halts_stops stream.Write job ends known left old new read_failed write_failed given h = (h.0, given, h.1)
 halts_stops stream.Memory job ends known left old new read_failed write_failed given h = (h.0, given, h.1)
 
-module _ {G X D A : Type 0} (contents : D → Option (List ℕ)) (failed flushed : D → Bool) (w : Words G X) where
+module _ {G X D : Type 0} (A : Type 0) (contents : D → Option (List ℕ)) (failed flushed : D → Bool) (w : Words G X) where
   -- a reader, and its lines
   abbrev pub R : Type 0
   R = Driven G × LineOut D A
@@ -136,15 +149,48 @@ module _ {G X D A : Type 0} (contents : D → Option (List ℕ)) (failed flushed
         ⊎_elim (λ p. subst IsRefusal (sym p.0) tt)
         (λ p. halts_document told (conversion w x first.0.scanner.limit first.1.style) p.0.bytes p.0.is_end old new (failed now.1.drain.now) (p.1.halts x b)) h
 
+-- ---- by the job
+
+-- what holds of a line format with these limits holds of the job that asks for them
+pub lines_job : (P : Conversion → Type 0) (job : JobRead) (form : LineForm) → kind_of job.form ≡ Line form → (iri : ℕ) → iri ≡ job.limits.iri → (n : ℕ) → n ≡ job.limits.token → (s : Style) → s ≡ Kept →
+    P (conversion line_words (record { form = form; iri = iri }) n s) → P (conversion_of job)
+lines_job P job form k iri i n l s e h =
+    subst (λ y. P (conversion_by y job)) (sym k)
+    (subst (λ y. P (conversion line_words (record { form = form; iri = job.limits.iri }) job.limits.token y)) e
+    (subst (λ m. P (conversion line_words (record { form = form; iri = job.limits.iri }) m s)) l (subst (λ m. P (conversion line_words (record { form = form; iri = m }) n s)) i h)))
+
+-- the same of Turtle and TriG
+pub trees_job : (P : Conversion → Type 0) (job : JobRead) (form : DocForm) → kind_of job.form ≡ Tree form → (x : Chosen) → x ≡ tree_job form job → (n : ℕ) → n ≡ x.start.limits.token → (s : Style) → s ≡ Tagged →
+    P (conversion tree_words x n s) → P (conversion_of job)
+trees_job P job form k x i n l s e h =
+    subst (λ y. P (conversion_by y job)) (sym k)
+    (subst (λ y. P (conversion tree_words (tree_job form job) job.limits.token y)) e
+    (subst (λ y. P (conversion tree_words y y.start.limits.token s)) i (subst (λ m. P (conversion tree_words x m s)) l h)))
+
+-- before any token nothing is due
+none_due : (k : Kind) (job : JobRead) → Due (conversion_by k job).language.documents [] []
+none_due (Line form) job = lines_lawful.due (record { rules = record { form = form; iri = 0 }; limit = 0; mode = Begin }) (record { form = form; iri = 0 }) [] [] (refl, refl)
+none_due (Tree form) job = due_ran form (tree_job form job).start [] (at_start (tree_job form job).start) [] refl
+
 -- there was no memory to begin with
-pub none_stops : {G X : Type 0} (w : Words G X) (x : X) (reader : Driven G) (style : Style) (known old : Option (List ℕ)) (read_failed write_failed : Bool) → Starts w x reader style →
-    read_failed ≡ false → write_failed ≡ false → StopsFor stream.Memory (conversion w x reader.scanner.limit style) known known read_failed old old write_failed
-none_stops w x reader style known old read_failed write_failed s r f =
-    let l = in_words w x reader.scanner.limit in
-    let ts = (reading_of l [] false).tokens in
-    let law = s.suits.lawful in
-    (
-      f,
-      none_given known read_failed r,
-      record { quads = []; due = begins_all l ts [] (law.kept reader.grammar x ts [] s.read.reached) (law.due reader.grammar x ts [] s.read.reached); written = Appends-nil old },
-    )
+pub none_stops : (job : JobRead) (known old : Option (List ℕ)) (read_failed write_failed : Bool) → read_failed ≡ false → write_failed ≡ false → StopsFor stream.Memory (conversion_of job) known known read_failed old old write_failed
+none_stops job known old read_failed write_failed r f = (
+  f,
+  none_given known read_failed r,
+  record {
+    quads = [];
+    due = record {
+      ahead = [];
+      behind = (reading_of (language_of job) [] false).tokens;
+      tokens = refl;
+      kept = none_passes;
+      rest = [];
+      due = none_due (kind_of job.form) job;
+    };
+    written = Appends-nil old;
+  },
+)
+  where
+    none_passes : PassesNone (language_of job).passes []
+    none_passes [] behind t e p = let z : [] ≡ t ∷ behind = e in cc
+    none_passes (u ∷ us) behind t e p = let z : [] ≡ u ∷ (us ++ t ∷ behind) = e in cc

@@ -516,7 +516,7 @@ halts_stops stream.Read job known left old new read_failed write_failed given h 
 halts_stops stream.Write job known left old new read_failed write_failed given h = (h.0, given, h.1)
 halts_stops stream.Memory job known left old new read_failed write_failed given h = (h.0, given, h.1)
 
-module _ {D A : Type 0} (contents : D → Option (List ℕ)) (failed flushed : D → Bool) where
+module _ {D : Type 0} (A : Type 0) (contents : D → Option (List ℕ)) (failed flushed : D → Bool) where
   -- what is shown, and its lines
   abbrev pub R : Type 0
   R = Showing A × LineOut D A

@@ -1,0 +1,66 @@
+use Rattle.std.proofs.Common.{rules, IfErr, IfOk, IfSome}
+use Rattle.rdf_stream.specs.Converts.{Accepts, StopsFor}
+use Rattle.rdf_stream.specs.Languages.{conversion_of}
+use Rattle.rdf_stream.proofs.ConvertsLemmas.{lines_job, none_stops, trees_job}
+use Rattle.rdf_stream.proofs.DocumentLemmas.{lines_suit, trees_suit}
+use Rattle.rdf_stream.proofs.PiecesLemmas.{if_err, if_ok, told_stops}
+use Rattle.rdf_stream.proofs.conversions.convert.Goals as goal
+
+pub returns-in_err-piece-clause-stops : goal.returns-in_err-piece-clause-stops
+returns-in_err-piece-clause-stops g c = told_stops _ _ _ c.from_residual.ensures.1 (none_stops c.args.job _ _ _ _ c.requires.source c.requires.drain)
+
+pub convert_with-requires-clause-begins : goal.convert_with-requires-clause-begins
+convert_with-requires-clause-begins g c = (_, record { starts = record { suits = lines_suit _ _ c.new-lines.ensures.style; read = c.line_reader-reader.ensures.read }; none_waits = search rules; live = search rules })
+
+pub returns-in-Line-clause-accepted : goal.returns-in-Line-clause-accepted
+returns-in-Line-clause-accepted g c =
+    let h : IfOk c.convert_with.result (λ s. IfSome (g.S.Source.remaining c.args.source.now) (λ bytes. Accepts (conversion_of c.args.job) bytes (g.D.Drain.contents c.new-lines.result.drain.now) (g.D.Drain.contents c.convert_with.new.lines.drain.now) s)) =
+    if_ok c.convert_with.result _ _
+    (λ s h.
+    lines_job (λ j. IfSome (g.S.Source.remaining c.args.source.now) (λ bytes. Accepts j bytes (g.D.Drain.contents c.new-lines.result.drain.now) (g.D.Drain.contents c.convert_with.new.lines.drain.now) s)) c.args.job c.in-Line.form (search rules)
+    c.limits.result.iri (search rules) c.line_reader-reader.result.scanner.limit (search rules) c.new-lines.result.style c.new-lines.ensures.style (h _ (record { starts = record { suits = lines_suit _ _ c.new-lines.ensures.style; read = c.line_reader-reader.ensures.read }; none_waits = search rules; live = search rules })))
+    c.convert_with.ensures.accepted in
+    search rules
+
+pub returns-in-Line-clause-stops : goal.returns-in-Line-clause-stops
+returns-in-Line-clause-stops g c =
+    let h : IfErr c.convert_with.result (λ told. StopsFor told (conversion_of c.args.job) (g.S.Source.remaining c.args.source.now) (g.S.Source.remaining c.convert_with.new.source) (g.S.Source.has_failed c.convert_with.new.source)
+    (g.D.Drain.contents c.new-lines.result.drain.now) (g.D.Drain.contents c.convert_with.new.lines.drain.now) (g.D.Drain.has_failed c.convert_with.new.lines.drain.now)) =
+    if_err c.convert_with.result _ _
+    (λ told h.
+    lines_job (λ j. StopsFor told j (g.S.Source.remaining c.args.source.now) (g.S.Source.remaining c.convert_with.new.source) (g.S.Source.has_failed c.convert_with.new.source)
+    (g.D.Drain.contents c.new-lines.result.drain.now) (g.D.Drain.contents c.convert_with.new.lines.drain.now) (g.D.Drain.has_failed c.convert_with.new.lines.drain.now)) c.args.job c.in-Line.form (search rules)
+    c.limits.result.iri (search rules) c.line_reader-reader.result.scanner.limit (search rules) c.new-lines.result.style c.new-lines.ensures.style (h _ (record { starts = record { suits = lines_suit _ _ c.new-lines.ensures.style; read = c.line_reader-reader.ensures.read }; none_waits = search rules; live = search rules })))
+    c.convert_with.ensures.stops in
+    search rules
+
+pub convert_with-requires-in-Tree-clause-begins : goal.convert_with-requires-in-Tree-clause-begins
+convert_with-requires-in-Tree-clause-begins g c = (_, record { starts = record { suits = trees_suit _ _ c.new-lines-in-Tree.ensures.style; read = c.tree_reader-reader.ensures.read }; none_waits = search rules; live = search rules })
+
+pub returns-in-Tree-clause-accepted : goal.returns-in-Tree-clause-accepted
+returns-in-Tree-clause-accepted g c =
+    let h : IfOk c.convert_with-in-Tree.result (λ s. IfSome (g.S.Source.remaining c.args.source.now) (λ bytes. Accepts (conversion_of c.args.job) bytes (g.D.Drain.contents c.new-lines-in-Tree.result.drain.now) (g.D.Drain.contents c.convert_with-in-Tree.new.lines.drain.now) s)) =
+    if_ok c.convert_with-in-Tree.result _ _
+    (λ s h.
+    trees_job (λ j. IfSome (g.S.Source.remaining c.args.source.now) (λ bytes. Accepts j bytes (g.D.Drain.contents c.new-lines-in-Tree.result.drain.now) (g.D.Drain.contents c.convert_with-in-Tree.new.lines.drain.now) s)) c.args.job c.in-Tree.form (search rules)
+    c.options.result (search rules) c.tree_reader-reader.result.scanner.limit (search rules) c.new-lines-in-Tree.result.style c.new-lines-in-Tree.ensures.style (h _ (record { starts = record { suits = trees_suit _ _ c.new-lines-in-Tree.ensures.style; read = c.tree_reader-reader.ensures.read }; none_waits = search rules; live = search rules })))
+    c.convert_with-in-Tree.ensures.accepted in
+    let same = c.convert_with-in-Tree.ensures.same in
+    let to_lines = c.new-lines-in-Tree.ensures.same_drain in
+    let first = c.new-lines-in-Tree.ensures.drain in
+    search (rules, same.drain, to_lines, first, h)
+
+pub returns-in-Tree-clause-stops : goal.returns-in-Tree-clause-stops
+returns-in-Tree-clause-stops g c =
+    let h : IfErr c.convert_with-in-Tree.result (λ told. StopsFor told (conversion_of c.args.job) (g.S.Source.remaining c.args.source.now) (g.S.Source.remaining c.convert_with-in-Tree.new.source) (g.S.Source.has_failed c.convert_with-in-Tree.new.source)
+    (g.D.Drain.contents c.new-lines-in-Tree.result.drain.now) (g.D.Drain.contents c.convert_with-in-Tree.new.lines.drain.now) (g.D.Drain.has_failed c.convert_with-in-Tree.new.lines.drain.now)) =
+    if_err c.convert_with-in-Tree.result _ _
+    (λ told h.
+    trees_job (λ j. StopsFor told j (g.S.Source.remaining c.args.source.now) (g.S.Source.remaining c.convert_with-in-Tree.new.source) (g.S.Source.has_failed c.convert_with-in-Tree.new.source)
+    (g.D.Drain.contents c.new-lines-in-Tree.result.drain.now) (g.D.Drain.contents c.convert_with-in-Tree.new.lines.drain.now) (g.D.Drain.has_failed c.convert_with-in-Tree.new.lines.drain.now)) c.args.job c.in-Tree.form (search rules)
+    c.options.result (search rules) c.tree_reader-reader.result.scanner.limit (search rules) c.new-lines-in-Tree.result.style c.new-lines-in-Tree.ensures.style (h _ (record { starts = record { suits = trees_suit _ _ c.new-lines-in-Tree.ensures.style; read = c.tree_reader-reader.ensures.read }; none_waits = search rules; live = search rules })))
+    c.convert_with-in-Tree.ensures.stops in
+    let same = c.convert_with-in-Tree.ensures.same in
+    let to_lines = c.new-lines-in-Tree.ensures.same_drain in
+    let first = c.new-lines-in-Tree.ensures.drain in
+    search (rules, same.drain, to_lines, first, h)
