@@ -1,5 +1,5 @@
 -- What a run of the program does.
-use Rattle.std.specs.Prelude.{◌≡◌, ◌≢◌, ℕ, Bool, true, List, ◌++◌, codes, decimal, Option, IfSome}
+use Rattle.std.specs.Prelude.{◌≡◌, ◌≢◌, ◌⊎◌, ℕ, Bool, true, List, ◌++◌, codes, decimal, Option, IfSome}
 use Rattle.std.specs.Io.KnownBytes.{Appends}
 use Rattle.rdf_driver.specs.declared.summary.Summary.{Summary}
 use Rattle.rdf_stream.specs.Checks.{CheckStops, Passes}
@@ -9,7 +9,7 @@ use Rattle.rdf_stream.specs.Jobs.{JobRead}
 use Rattle.rdf_stream.specs.Languages.{conversion_of, language_of}
 use Rattle.rdf_stream.specs.Shows.{ShowStops, Shows}
 use Rattle.rdf_stream.specs.declared.fault.StreamFault.{StreamFault}
-use Rattle.rdf_stream.specs.declared.fault.StreamFault.TheVariants.{Write}
+use Rattle.rdf_stream.specs.declared.fault.StreamFault.TheVariants.{Write, Memory}
 use Rattle.rdf_tool.specs.declared.task.Action.{Action}
 use Rattle.rdf_tool.specs.declared.task.Action.TheVariants.{Check, Show, Convert}
 use Rattle.rdf_tool.specs.declared.task.Task.{Task}
@@ -27,10 +27,16 @@ accepted_text s = codes "accepted, " ++ decimal s.quads ++ codes " quads, " ++ d
 abbrev pub IsChecked : JobRead → List ℕ → Option (List ℕ) → Option (List ℕ) → Type 0
 IsChecked job bytes old new = (s : Summary) × Passes (language_of job) bytes s × Appends old new (accepted_text s)
 
+-- Memory was refused: while the document was read, or for the line that counts what is in it.
+abbrev pub LacksMemory : JobRead → Option (List ℕ) → Option (List ℕ) → Bool → Type 0
+LacksMemory job known left read_failed =
+    CheckStops Memory (language_of job) known left read_failed ⊎ IfSome known (λ bytes. (s : Summary) × Passes (language_of job) bytes s)
+
 -- Why a check stopped. The line was not written, but for a beginning where the drain failed.
 abbrev pub StopsCheck : StreamFault → JobRead → Option (List ℕ) → Option (List ℕ) → Bool → Option (List ℕ) → Option (List ℕ) → Bool → Type 0
 StopsCheck Write job known left read_failed old new write_failed =
     (write_failed ≡ true) × IfSome known (λ bytes. (s : Summary) × Passes (language_of job) bytes s × AppendsFront old new (accepted_text s))
+StopsCheck Memory job known left read_failed old new write_failed = LacksMemory job known left read_failed × (new ≡ old)
 StopsCheck fault job known left read_failed old new write_failed = CheckStops fault (language_of job) known left read_failed × (new ≡ old)
 
 -- what an accepted document brings
