@@ -1,12 +1,12 @@
 -- What a run of the program does.
 use Rattle.std.specs.Prelude.{◌≡◌, ℕ, Bool, true, List, ◌++◌, codes, decimal, Option, IfSome}
 use Rattle.std.specs.Io.KnownBytes.{Appends}
-use Rattle.rdf_lines.specs.declared.fault.Summary.{Summary}
+use Rattle.rdf_driver.specs.declared.summary.Summary.{Summary}
 use Rattle.rdf_stream.specs.Checks.{CheckStops, Passes}
 use Rattle.rdf_stream.specs.Converts.{IsConverted, StopsFor}
 use Rattle.rdf_stream.specs.Devices.{AppendsFront}
 use Rattle.rdf_stream.specs.Jobs.{JobRead}
-use Rattle.rdf_stream.specs.Languages.{language_of}
+use Rattle.rdf_stream.specs.Languages.{conversion_of, language_of}
 use Rattle.rdf_stream.specs.Shows.{ShowStops, Shows}
 use Rattle.rdf_stream.specs.declared.fault.StreamFault.{StreamFault}
 use Rattle.rdf_stream.specs.declared.fault.StreamFault.TheVariants.{Refused, Read, Write, Memory}
@@ -36,10 +36,10 @@ StopsCheck fault job known left read_failed old new write_failed = CheckStops fa
 abbrev pub Does : Action → JobRead → List ℕ → Option (List ℕ) → Option (List ℕ) → Type 0
 Does Check job bytes old new = IsChecked job bytes old new
 Does Show job bytes old new = (s : Summary) × Shows job bytes old new s
-Does Convert job bytes old new = IsConverted (language_of job) bytes old new
+Does Convert job bytes old new = IsConverted (conversion_of job) bytes old new
 
 -- why a run stopped, and what it had written
 abbrev pub Stops : Action → StreamFault → JobRead → Option (List ℕ) → Option (List ℕ) → Bool → Option (List ℕ) → Option (List ℕ) → Bool → Type 0
 Stops Check fault job known left read_failed old new write_failed = StopsCheck fault job known left read_failed old new write_failed
 Stops Show fault job known left read_failed old new write_failed = ShowStops fault job known left read_failed old new write_failed
-Stops Convert fault job known left read_failed old new write_failed = StopsFor fault (language_of job) known left read_failed old new write_failed
+Stops Convert fault job known left read_failed old new write_failed = StopsFor fault (conversion_of job) known left read_failed old new write_failed
