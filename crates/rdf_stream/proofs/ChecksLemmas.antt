@@ -137,8 +137,7 @@ module _ {G X : Type 0} (w : Words G X) where
     broke : (source_failed : Bool) → SourceFails Taken known left source_failed first now → CheckStops stream.Read (in_words w x limit) known left source_failed
     broke source_failed h =
         let (quads, r) = h.is_taken.read x b in
-        let goes_on = read_goes_on w b.lawful now.0 x h.bytes quads r in
-        (
+        let goes_on = read_goes_on w b.lawful now.0 x h.bytes quads r in (
           h.failed_now,
           h.bytes,
           h.consumed,

@@ -124,8 +124,7 @@ module _ {G X D : Type 0} (A : Type 0) (contents : D → Option (List ℕ)) (fai
         let law = b.starts.suits.lawful in
         let writes : WritesDue (conversion w x first.0.scanner.limit first.1.style) (reading_of (in_words w x first.0.scanner.limit) h.bytes false).tokens old new =
         subst (λ k. WritesDue (conversion w x k first.1.style) (reading_of (in_words w x k) h.bytes false).tokens old new) h.is_taken.limit
-        (record { quads = o.quads; due = law.due now.0.grammar x (reading_of (in_words w x n) h.bytes false).tokens o.quads o.read.reached; written = o.written }) in
-        (
+        (record { quads = o.quads; due = law.due now.0.grammar x (reading_of (in_words w x n) h.bytes false).tokens o.quads o.read.reached; written = o.written }) in (
           h.failed_now,
           record {
             bytes = h.bytes;
