@@ -440,6 +440,33 @@ fn a_source_that_fails_is_not_at_its_end(rt: HostRuntime) {
 }
 
 #[test]
+fn an_iri_that_is_too_long_is_refused_before_the_source_fails(rt: HostRuntime) -> Result<(), Fail> {
+    let text = "<http://a/ss> <p:p> <o:o> . ";
+    let limits = Limits::new(100, 10, 10, 10).ok_or("limits")?;
+    let asked = Asked::within(Form::TriG, limits);
+    let mut source = failing_source(text, text.len() as u64);
+    let mut drain = ample_drain(rt.alloc());
+    let result = convert(
+        rt.alloc(),
+        job(rt.alloc(), &asked)?,
+        &mut source,
+        &mut drain,
+    );
+    assert!(rt;
+        matches!(
+            result,
+            Err(StreamFault::Refused(Fault {
+                reason: Reason::IriTooLong,
+                offset: 0,
+                line: 1,
+            }))
+        )
+    );
+    assert!(rt; drain.bytes.is_empty());
+    Ok(())
+}
+
+#[test]
 fn a_check_tells_that_the_source_failed(rt: HostRuntime) -> Result<(), Fail> {
     for (form, text) in [(Form::NTriples, TWO), (Form::Turtle, LIST)] {
         for calls in 0..text.len().saturating_add(1) {
