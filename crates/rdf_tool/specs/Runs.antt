@@ -30,6 +30,7 @@ IsChecked job bytes old new = (s : Summary) × Passes (language_of job) bytes s 
 abbrev pub StopsCheck : StreamFault → JobRead → Option (List ℕ) → Option (List ℕ) → Bool → Option (List ℕ) → Option (List ℕ) → Bool → Type 0
 StopsCheck Write job known left read_failed old new write_failed =
     (write_failed ≡ true) × IfSome known (λ bytes. (s : Summary) × Passes (language_of job) bytes s × AppendsFront old new (accepted_text s))
+StopsCheck Memory job known left read_failed old new write_failed = Unit × (new ≡ old)
 StopsCheck fault job known left read_failed old new write_failed = CheckStops fault (language_of job) known left read_failed × (new ≡ old)
 
 -- what an accepted document brings
