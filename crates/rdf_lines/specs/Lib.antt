@@ -1,8 +1,10 @@
+-- what has to be believed
 pub mod Lines
-pub mod Machine
 pub mod Writing
-pub mod Laws
 pub mod Documents
+-- what need not be: functions that compute, machines and states, what the code's side speaks of, and the laws
+pub mod Machine
+pub mod Laws
 pub mod WrittenBytes
 pub mod States
 pub mod Spelled

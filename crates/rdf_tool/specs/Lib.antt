@@ -1,3 +1,4 @@
+-- what has to be believed
 pub mod Words
 pub mod Statuses
 pub mod Runs

@@ -1,3 +1,4 @@
+-- what has to be believed
 pub mod Trees
 pub mod Names
 pub mod Quads
@@ -5,6 +6,9 @@ pub mod Events
 pub mod Documents
 pub mod Owed
 pub mod Refusals
+pub mod Language
+pub mod ReadWhole
+-- what need not be: functions that compute, machines and states, what the code's side speaks of, and the laws
 pub mod Machine
 pub mod Laws
 pub mod Alike
@@ -13,6 +17,4 @@ pub mod Spelled
 pub mod Steps
 pub mod Scopes
 pub mod Coded
-pub mod Language
 pub mod Accepting
-pub mod ReadWhole
