@@ -9,8 +9,6 @@ mod parts;
 mod places;
 mod resolution;
 mod scope;
-#[cfg(test)]
-mod tests;
 
 pub use fault::IriFault;
 pub use limits::Limits;

@@ -9,8 +9,6 @@ mod reader;
 mod rules;
 mod spelled;
 mod state;
-#[cfg(test)]
-mod tests;
 mod writer;
 
 pub use form::{LineForm, Style};

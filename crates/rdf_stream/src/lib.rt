@@ -11,8 +11,6 @@ mod messages;
 mod pieces;
 mod put;
 mod shows;
-#[cfg(test)]
-mod tests;
 mod token_line;
 mod views;
 

@@ -17,8 +17,6 @@ mod sink;
 mod spelled;
 mod tags;
 mod terms;
-#[cfg(test)]
-mod tests;
 mod values;
 mod views;
 

@@ -15,6 +15,3 @@ mod token;
 pub use rdf_terms::{Dialect, Kind};
 pub use scanner::Scanner;
 pub use token::{Fault, Token};
-
-#[cfg(test)]
-mod tests;

@@ -15,8 +15,6 @@ mod rest;
 mod rules;
 mod spelled;
 mod state;
-#[cfg(test)]
-mod tests;
 mod turns;
 
 pub use document::read_document;

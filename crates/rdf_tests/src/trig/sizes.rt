@@ -2,11 +2,10 @@
 
 ghost use Rattle.std.specs.Prelude.{◌≤◌, false};
 
-use crate::form::DocForm;
-use crate::reader::{Options, TrigReader};
 use rdf_driver::{Fault, Summary};
 use rdf_iri::Limits;
 use rdf_terms::{PutFault, QuadRef, QuadSink, Reason};
+use rdf_trig::{DocForm, Options, TrigReader};
 use std::alloc::Global;
 use std::test::Fail;
 

@@ -2,13 +2,11 @@
 
 ghost use Rattle.std.specs.Prelude.{◌≡◌, ◌≤◌, false, length};
 
-use crate::document::read_document;
-use crate::form::DocForm;
-use crate::reader::{Options, TrigReader};
-use crate::tests::sinks::{RecordingSink, lines_of, recording_sink};
+use super::sinks::{RecordingSink, lines_of, recording_sink};
 use rdf_driver::{Fault, Summary};
 use rdf_iri::Limits;
 use rdf_terms::{Iri, QuadList, Reason};
+use rdf_trig::{DocForm, Options, TrigReader, read_document};
 use std::alloc::Global;
 use std::str;
 
@@ -138,7 +136,17 @@ fn misread(alloc: Global, setting: &Setting, rows: &[Row]) -> Option<&'static st
 }
 
 /// Terms, lists of predicates and objects, and directives.
-static STATEMENTS: [Row; 13] = [
+static STATEMENTS: [Row; 14] = [
+    Row {
+        bytes: b"@prefix e: <http://e/> . e:s a e:t ; e:p \"x\"@en , 'y'^^e:t , _:b ; . [ e:q \"z\"@prefix ] .",
+        lines: "<http://e/s> <http://www.w3.org/1999/02/22-rdf-syntax-ns#type> <http://e/t> .
+<http://e/s> <http://e/p> \"x\"@en .
+<http://e/s> <http://e/p> \"y\"^^<http://e/t> .
+<http://e/s> <http://e/p> _:nb .
+_:a69 <http://e/q> \"z\"@prefix .
+",
+        refused: None,
+    },
     Row {
         bytes: b"",
         lines: "",
@@ -282,7 +290,12 @@ _:c58 <http://www.w3.org/1999/02/22-rdf-syntax-ns#rest> <http://www.w3.org/1999/
 ];
 
 /// What neither form has.
-static REFUSED: [Row; 13] = [
+static REFUSED: [Row; 14] = [
+    Row {
+        bytes: b"@base <x> .",
+        lines: "",
+        refused: Some((Reason::NoBase, 6, 1)),
+    },
     Row {
         bytes: b"<http://a/s> <http://a/p> (\"\"\"a\") .",
         lines: "",

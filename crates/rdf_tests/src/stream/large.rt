@@ -3,10 +3,8 @@
 use super::devices::{wide_drain, wide_source};
 use super::runs::{Asked, job};
 use super::{Task, repeated, run};
-use crate::checks::check;
-use crate::fault::{Form, StreamFault};
-use crate::messages::report;
 use rdf_lines::Fault;
+use rdf_stream::{Form, StreamFault, check, report};
 use rdf_terms::{Iri, Label, LiteralRef, Node, NodeRef, Reason, Tag, Tail, TailRef, Term, TermRef};
 use std::alloc::Global;
 use std::process::Abort;

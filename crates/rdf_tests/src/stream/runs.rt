@@ -1,14 +1,9 @@
 // Runs over memory: what they write and tell, however the document is cut.
 
 use super::devices::{SlowDrain, ample_drain, cut_at};
-use crate::checks::check;
-use crate::conversions::convert;
-use crate::fault::{Form, StreamFault};
-use crate::job::Job;
-use crate::messages::report;
-use crate::shows::show;
 use rdf_iri::Limits;
 use rdf_lines::Summary;
+use rdf_stream::{Form, Job, StreamFault, check, convert, report, show};
 use rdf_terms::Iri;
 use std::alloc::Global;
 use std::process::Abort;

@@ -4,8 +4,8 @@ ghost use Rattle.std.specs.Prelude.{◌≡◌, ◌≤◌, ◌++◌, false, encod
 ghost use Rattle.rdf_lines.specs.declared.form.Style.TheVariants.{Kept};
 ghost use Rattle.rdf_lines.specs.Writing.{line};
 
-use crate::{Fault, LineForm, LineReader, Style, Summary, write_line};
 use rdf_iri::Limits;
+use rdf_lines::{Fault, LineForm, LineReader, Style, Summary, write_line};
 use rdf_terms::{PutFault, QuadRef, QuadSink, Reason};
 use std::alloc::Global;
 

@@ -1,6 +1,6 @@
 // A reader and a writer that count their calls, as devices.
 
-use crate::devices::{Drain, Failed, In, Out, Source};
+use rdf_stream::{Drain, Failed, In, Out, Source};
 use std::io;
 use std::io::{ErrorKind, Read, Write};
 use std::test::Fail;

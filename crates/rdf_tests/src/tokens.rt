@@ -1,7 +1,7 @@
 // Documents in pieces, and where they are refused.
 
-use super::*;
 use rdf_terms::Reason;
+use rdf_tokens::{Dialect, Kind, Scanner};
 use std::alloc::Global;
 use std::test::Fail;
 
@@ -264,4 +264,84 @@ fn a_long_token_comes_in_small_pieces(rt: HostRuntime) -> Result<(), Fail> {
         }
     }
     Ok(())
+}
+
+/// What a scanner answers first of a text that ends there.
+fn first(alloc: Global, dialect: Dialect, text: &str, limit: u64) -> Told {
+    let mut scanner = Scanner::new(alloc, dialect, limit);
+    push(&mut scanner, text.as_bytes());
+    scanner.end();
+    next(&mut scanner)
+}
+
+#[test]
+fn the_longest_token_at_the_end_of_the_input(rt: HostRuntime) {
+    for (text, told) in [
+        ("", Told::Token(Kind::End, 0, 1, 0)),
+        ("@prefix :", Told::Token(Kind::AtPrefix, 0, 1, 7)),
+        ("\"\"\"a", Told::Fault(Reason::NoToken, 0)),
+        ("_:a.", Told::Token(Kind::LabelNode, 0, 1, 3)),
+        ("é:ü ", Told::Token(Kind::PnameLn, 0, 1, 5)),
+        ("<a b>", Told::Fault(Reason::NoToken, 0)),
+        ("<\\u0020>", Told::Fault(Reason::BadEscape, 0)),
+        ("\"\\uD800\"", Told::Fault(Reason::BadEscape, 0)),
+    ] {
+        assert_eq!(rt;
+            first(rt.alloc(), Dialect::Turtle, text, 100),
+            told,
+            "at {text}"
+        );
+    }
+}
+
+#[test]
+fn a_line_has_no_long_strings(rt: HostRuntime) {
+    for behind in [b"".as_slice(), b" ", b"\xFF"] {
+        let mut scanner = Scanner::new(rt.alloc(), Dialect::Lines, 100);
+        push(&mut scanner, b"\"\"\"a\"\"\"");
+        push(&mut scanner, behind);
+        for (offset, len) in [(0, 2), (2, 3), (5, 2)] {
+            let told = Told::Token(Kind::ShortString, offset, 1, len);
+            assert_eq!(rt; next(&mut scanner), told);
+        }
+    }
+}
+
+#[test]
+fn more_text_may_decide_otherwise(rt: HostRuntime) {
+    for text in [
+        "",
+        "1.",
+        "truefalse",
+        "\"\"",
+        "x:d.e.",
+        "@prefix",
+        "<a",
+        "_",
+    ] {
+        let mut scanner = Scanner::new(rt.alloc(), Dialect::Turtle, 100);
+        push(&mut scanner, text.as_bytes());
+        assert_eq!(rt; next(&mut scanner), Told::Undecided, "at {text}");
+        push(&mut scanner, b"\xFF");
+        let told = Told::Fault(Reason::BadUtf8, text.len() as u64);
+        assert_eq!(rt; next(&mut scanner), told, "at {text}");
+    }
+}
+
+#[test]
+fn a_token_of_more_characters_than_the_limit(rt: HostRuntime) {
+    for (text, limit, told) in [
+        ("é:ü ", 3, Told::Token(Kind::PnameLn, 0, 1, 5)),
+        ("é:ü ", 2, Told::Fault(Reason::TokenTooLong, 0)),
+        ("^^<a>", 1, Told::Fault(Reason::TokenTooLong, 0)),
+        ("^^<a>", 2, Told::Token(Kind::Carets, 0, 1, 2)),
+        (";;;", 1, Told::Token(Kind::Semicolon, 0, 1, 1)),
+        ("\"\"\"", 2, Told::Fault(Reason::TokenTooLong, 0)),
+    ] {
+        assert_eq!(rt;
+            first(rt.alloc(), Dialect::Turtle, text, limit),
+            told,
+            "at {text}"
+        );
+    }
 }

@@ -3,7 +3,7 @@
 ghost use Rattle.std.specs.Prelude.{◌≡◌, ◌*◌, ◌≤◌, IfOk, length};
 ghost use Rattle.rdf_iri.specs.Texts.{byte_len};
 
-use crate::{IriFault, Limits, Scope, has_scheme, resolve, split};
+use rdf_iri::{IriFault, Limits, Scope, has_scheme, resolve, split};
 use rdf_terms::{Iri, TermFault, iri_text};
 use std::alloc::Global;
 

@@ -1,6 +1,6 @@
 // Outside values: the examples of the Recommendations, and characters at the ends of their classes.
 
-use crate::*;
+use rdf_terms::*;
 
 #[test]
 fn a_character_is_in_its_classes(rt: HostRuntime) {
@@ -235,4 +235,44 @@ fn a_copy_of_a_quad_views_as_the_quad(rt: HostRuntime) {
     assert!(rt;
         matches!(view.object, TermRef::Literal(literal) if matches!(literal.tail, TailRef::Typed(name) if name.as_str() == "http://www.w3.org/2001/XMLSchema#integer"))
     );
+}
+
+#[test]
+fn escapes_are_taken_out_and_percents_kept(rt: HostRuntime) -> Result<(), ValueFault> {
+    for (inside, wanted) in [
+        ("", ""),
+        ("b~c", "b~c"),
+        ("b%20\\~c", "b%20~c"),
+        ("%", "%"),
+        ("é\\.\\%\\_", "é.%_"),
+        ("a:b\\/c", "a:b/c"),
+    ] {
+        assert_eq!(rt;
+            local_value(rt.alloc(), inside)?.as_str(),
+            wanted,
+            "at {inside}"
+        );
+    }
+    Ok(())
+}
+
+#[test]
+fn a_part_without_escapes_is_plain(rt: HostRuntime) {
+    for (inside, plain) in [
+        ("", true),
+        ("é%20", true),
+        ("a:b", true),
+        ("a\\.b", false),
+        ("a b", false),
+    ] {
+        assert_eq!(rt; is_plain_local(inside), plain, "at {inside}");
+    }
+}
+
+#[test]
+fn bad_escapes_are_refused(rt: HostRuntime) {
+    for inside in ["a\\", "a\\b", "\\\\", "\\u0041", "a b", "\\~<"] {
+        let result = local_value(rt.alloc(), inside);
+        assert!(rt; matches!(result, Err(ValueFault::BadEscape)), "at {inside}");
+    }
 }

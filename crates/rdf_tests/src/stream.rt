@@ -8,17 +8,12 @@ mod rows;
 mod runs;
 mod streams;
 
-use crate::checks::check;
-use crate::conversions::convert;
-use crate::devices::{Drain, Failed, Out, Source};
-use crate::fault::{Form, StreamFault};
-use crate::job::Job;
-use crate::messages::report;
-use crate::put::put_all;
-use crate::shows::show;
 use devices::{Parts, SlowDrain, ample_drain, cut_at, failing_drain, failing_source, wide_drain};
 use rdf_iri::Limits;
 use rdf_lines::{Fault, Summary};
+use rdf_stream::{
+    Drain, Failed, Form, Job, Out, Source, StreamFault, check, convert, put_all, report, show,
+};
 use rdf_terms::{Iri, Reason};
 use rows::{
     LIMITED, N_QUADS, N_TRIPLES, N_TRIPLES_AND_N_QUADS, OTHER_BASES, REFERENCES, SHOWN,

@@ -2,7 +2,7 @@
 
 ghost use Rattle.std.specs.Prelude.{Some, ◌≡◌, false};
 
-use crate::devices::{Drain, Failed, Source};
+use rdf_stream::{Drain, Failed, Source};
 use std::alloc::Global;
 
 /// Gives its bytes in parts: the first of one length, the others of another. It fails once a number of calls has been made.

@@ -1,0 +1,18 @@
+//! Tests of the crates below the program, over their public calls. They stand in a crate of their own, since a crate
+//! with tests is proved twice.
+#![tactic(auto)]
+
+#[cfg(test)]
+mod iri;
+#[cfg(test)]
+mod lines;
+#[cfg(test)]
+mod stream;
+#[cfg(test)]
+mod terms;
+#[cfg(test)]
+mod tokens;
+#[cfg(test)]
+mod trig;
+#[cfg(test)]
+mod writer;

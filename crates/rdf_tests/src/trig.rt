@@ -1,0 +1,5 @@
+// Readers of Turtle and TriG.
+
+mod documents;
+mod sinks;
+mod sizes;
