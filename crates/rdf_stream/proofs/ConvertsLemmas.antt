@@ -35,7 +35,7 @@ use Rattle.rdf_stream.specs.declared.fault.Kind.{Kind}
 use Rattle.rdf_lines.specs.Machine.{Begin}
 use Rattle.rdf_lines.proofs.AcceptingLemmas.{lawful as lines_lawful}
 use Rattle.rdf_trig.specs.Machine.{at_start}
-use Rattle.rdf_trig.proofs.Exact.{due_ran}
+use Rattle.rdf_trig.proofs.machine.ExactDocuments.{due_ran}
 use Rattle.rdf_stream.specs.Pieces.{ReadStops, ReadsAll, SourceFails}
 use Rattle.rdf_stream.proofs.PiecesLemmas.{all_given, none_given, too_long_more}
 

@@ -16,7 +16,7 @@ use Rattle.rdf_lines.specs.Accepting.{line_words}
 use Rattle.rdf_lines.proofs.AcceptingLemmas.{lawful as lines_lawful}
 use Rattle.rdf_trig.specs.Language.{Chosen}
 use Rattle.rdf_trig.specs.Accepting.{tree_words}
-use Rattle.rdf_trig.proofs.AcceptingLemmas.{lawful as trees_lawful}
+use Rattle.rdf_trig.proofs.code.LawfulGrammar.{lawful as trees_lawful}
 use Rattle.rdf_stream.specs.Converting.{Suits}
 
 name_kept : (n : Name) → CanWriteSubject Kept (subject_of n)

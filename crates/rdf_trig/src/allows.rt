@@ -150,7 +150,7 @@ fn goes_on_after_semicolon<A: Allocator>(around: Around, level: &Level<A>, kind:
     }
 }
 
-#[tactic(auto, using(crate::proofs::Fallbacks::fallbacks))]
+#[tactic(auto, using(crate::proofs::machine::Fallbacks::fallbacks))]
 fn goes_on_after_brackets<A: Allocator>(level: &Level<A>, kind: Kind) -> bool
     ensures { (c : Setting) (s : Option term.Subject) (l : Leaf) → result ≡ is_go (M.after_box c s (level_of level.now) kind l) }
 {

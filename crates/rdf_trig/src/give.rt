@@ -140,7 +140,7 @@ fn quad_at<'a, A: Allocator>(
 
 // The quad of what a bracket stands for, where that is an object.
 #[inline(always)]
-#[tactic(auto, using(crate::proofs::Stack::up_last))]
+#[tactic(auto, using(crate::proofs::code::FrameStack::up_last))]
 fn quad_up<'a, A: Allocator>(
     frames: &'a [Frame<A>],
     object: TermRef<'a>,

@@ -37,7 +37,7 @@ fn reference_text<A: Allocator>(alloc: A, token: &Token<'_>) -> Result<String<A>
 }
 
 // The IRI of a reference.
-#[tactic(auto, using(crate::proofs::ScopesLemmas::reference_at, crate::proofs::ScopesLemmas::reference_not))]
+#[tactic(auto, using(crate::proofs::code::LookUps::reference_at, crate::proofs::code::LookUps::reference_not))]
 fn reference<A: Allocator + Copy>(
     alloc: A,
     scope: &Scope<A>,
@@ -67,7 +67,7 @@ fn local_text<A: Allocator>(alloc: A, local: &str) -> Result<String<A>, StepFaul
 }
 
 // The IRI of a prefixed name.
-#[tactic(auto, using(crate::proofs::ScopesLemmas::name_names, crate::proofs::ScopesLemmas::name_not))]
+#[tactic(auto, using(crate::proofs::code::LookUps::name_names, crate::proofs::code::LookUps::name_not))]
 fn prefixed<A: Allocator + Copy>(
     alloc: A,
     scope: &Scope<A>,
@@ -103,7 +103,7 @@ fn name<A: Allocator + Copy>(
     }
 }
 
-#[tactic(auto, using(crate::proofs::ScopesLemmas::base_is, crate::proofs::ScopesLemmas::reference_not))]
+#[tactic(auto, using(crate::proofs::code::LookUps::base_is, crate::proofs::code::LookUps::reference_not))]
 fn set_base<A: Allocator + Copy>(
     alloc: A,
     scope: &mut Scope<A>,
@@ -119,7 +119,7 @@ fn set_base<A: Allocator + Copy>(
     Ok(())
 }
 
-#[tactic(auto, using(crate::proofs::ScopesLemmas::binding_is, crate::proofs::ScopesLemmas::binding_not))]
+#[tactic(auto, using(crate::proofs::code::LookUps::binding_is, crate::proofs::code::LookUps::binding_not))]
 fn bind<A: Allocator + Copy>(
     alloc: A,
     scope: &mut Scope<A>,

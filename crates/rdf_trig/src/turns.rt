@@ -72,7 +72,7 @@ fn verb_start<A: Allocator>(
 }
 
 // The mode behind a node, a property list, and a collection.
-#[tactic(auto, using(crate::proofs::Stack::stack_steps))]
+#[tactic(auto, using(crate::proofs::code::FrameStack::stack_steps))]
 fn node_closed<A: Allocator>(frames: &mut Vec<Frame<A>, A>, subject: Subject<A>) -> Mode<A>
     ensures { (form : DocForm) (v : Level A) → mode_of form v frames.new.items result ≡ M.node_closed form (up_of (level_of v) frames.old.items) (Some (owned_subject subject)) }
 {
@@ -82,7 +82,7 @@ fn node_closed<A: Allocator>(frames: &mut Vec<Frame<A>, A>, subject: Subject<A>)
     }
 }
 
-#[tactic(auto, using(crate::proofs::Stack::stack_steps))]
+#[tactic(auto, using(crate::proofs::code::FrameStack::stack_steps))]
 fn box_closed<A: Allocator>(frames: &mut Vec<Frame<A>, A>, subject: Topic<A>) -> Mode<A>
     ensures { (form : DocForm) (v : Level A) → mode_of form v frames.new.items result ≡ M.box_closed (up_of (level_of v) frames.old.items) (Some (topic_of subject)) }
 {
@@ -92,7 +92,7 @@ fn box_closed<A: Allocator>(frames: &mut Vec<Frame<A>, A>, subject: Topic<A>) ->
     }
 }
 
-#[tactic(auto, using(crate::proofs::Stack::stack_steps))]
+#[tactic(auto, using(crate::proofs::code::FrameStack::stack_steps))]
 fn list_closed<A: Allocator>(frames: &mut Vec<Frame<A>, A>, subject: Topic<A>) -> Mode<A>
     ensures { (form : DocForm) (v : Level A) → mode_of form v frames.new.items result ≡ M.list_closed (up_of (level_of v) frames.old.items) (Some (topic_of subject)) }
 {
@@ -127,7 +127,7 @@ fn false_word() -> &'static str
 }
 
 // The first token of an object.
-#[tactic(auto, using(crate::proofs::Stack::stack_steps))]
+#[tactic(auto, using(crate::proofs::code::FrameStack::stack_steps))]
 fn object_start<A: Allocator + Copy>(
     alloc: A,
     frame: Frame<A>,
@@ -308,7 +308,7 @@ fn after_listed<A: Allocator>(
     }
 }
 
-#[tactic(auto, using(crate::proofs::Fallbacks::fallbacks))]
+#[tactic(auto, using(crate::proofs::machine::Fallbacks::fallbacks))]
 fn after_item<A: Allocator + Copy>(
     alloc: A,
     first: u64,
@@ -345,7 +345,7 @@ fn after_item<A: Allocator + Copy>(
 }
 
 // The token behind a string.
-#[tactic(auto, using(crate::proofs::Fallbacks::fallbacks))]
+#[tactic(auto, using(crate::proofs::machine::Fallbacks::fallbacks))]
 fn after_text<A: Allocator + Copy>(
     alloc: A,
     lexical: String<A>,
@@ -371,7 +371,7 @@ fn after_text<A: Allocator + Copy>(
 }
 
 // The token behind '['.
-#[tactic(auto, using(crate::proofs::Fallbacks::fallbacks))]
+#[tactic(auto, using(crate::proofs::machine::Fallbacks::fallbacks))]
 fn bracket<A: Allocator>(
     node: u64,
     frames: &mut Vec<Frame<A>, A>,
@@ -389,7 +389,7 @@ fn bracket<A: Allocator>(
 }
 
 // The token behind '('.
-#[tactic(auto, using(crate::proofs::Fallbacks::fallbacks))]
+#[tactic(auto, using(crate::proofs::machine::Fallbacks::fallbacks))]
 fn paren<A: Allocator + Copy>(
     alloc: A,
     frames: &mut Vec<Frame<A>, A>,
@@ -423,7 +423,7 @@ fn begins_verb(kind: Kind) -> bool
 }
 
 // The token behind ';'.
-#[tactic(auto, using(crate::proofs::Fallbacks::fallbacks))]
+#[tactic(auto, using(crate::proofs::machine::Fallbacks::fallbacks))]
 fn semicolon<A: Allocator>(
     subject: Topic<A>,
     around: Around,
@@ -443,7 +443,7 @@ fn semicolon<A: Allocator>(
 }
 
 // The token behind a property list that is a subject.
-#[tactic(auto, using(crate::proofs::Fallbacks::fallbacks))]
+#[tactic(auto, using(crate::proofs::machine::Fallbacks::fallbacks))]
 fn after_brackets<A: Allocator>(
     subject: Topic<A>,
     level: &mut Level<A>,
@@ -481,7 +481,7 @@ fn after_subject<A: Allocator>(
     }
 }
 
-#[tactic(auto, using(crate::proofs::Fallbacks::fallbacks))]
+#[tactic(auto, using(crate::proofs::machine::Fallbacks::fallbacks))]
 fn after_label<A: Allocator>(
     label: Subject<A>,
     kind: Kind,
@@ -527,7 +527,7 @@ fn begin<A: Allocator>(level: &mut Level<A>, frames: &mut Vec<Frame<A>, A>, new:
 }
 
 // The token between statements outside of a block.
-#[tactic(auto, using(crate::proofs::Fallbacks::fallbacks))]
+#[tactic(auto, using(crate::proofs::machine::Fallbacks::fallbacks))]
 fn start<A: Allocator>(
     alloc: A,
     form: DocForm,
@@ -566,7 +566,7 @@ fn outer_start<A: Allocator>(form: DocForm, kind: Kind) -> Option<Outer<A>>
 }
 
 // The token between statements of a block.
-#[tactic(auto, using(crate::proofs::Fallbacks::fallbacks))]
+#[tactic(auto, using(crate::proofs::machine::Fallbacks::fallbacks))]
 fn inside<A: Allocator>(
     alloc: A,
     graph: Option<Subject<A>>,

@@ -1,7 +1,7 @@
 use Rattle.std.proofs.Common.{rules, refl, IfSome}
 use Rattle.rdf_lines.specs.declared.form.Style.TheVariants.{Kept, Tagged}
 use Rattle.rdf_lines.proofs.AcceptingLemmas.{lawful as lines_lawful}
-use Rattle.rdf_trig.proofs.AcceptingLemmas.{lawful as trees_lawful}
+use Rattle.rdf_trig.proofs.code.LawfulGrammar.{lawful as trees_lawful}
 use Rattle.rdf_stream.specs.Checks.{CheckStops, Passes}
 use Rattle.rdf_stream.proofs.ConvertsLemmas.{lines_job, trees_job}
 use Rattle.rdf_stream.proofs.PiecesLemmas.{if_err, if_ok}

@@ -2,7 +2,7 @@ use Rattle.std.proofs.Common.{arith}
 use Rattle.std.specs.Str.{chars}
 use Rattle.std.proofs.lemmas.Bool.{leb-true}
 use Rattle.rdf_iri.proofs.ResolvedText.{byte_len-chars}
-use Rattle.rdf_trig.proofs.AcceptLemmas.{bytes_at_least}
+use Rattle.rdf_trig.proofs.code.AnswersOfSteps.{bytes_at_least}
 use Rattle.rdf_trig.proofs.tests.steps.is_short.Goals as goal
 
 pub returns : goal.returns

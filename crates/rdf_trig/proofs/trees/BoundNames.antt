@@ -12,11 +12,11 @@ use Rattle.rdf_trig.specs.Events.{Use, itself, stands, binds, Event, Took, Gave,
 use Rattle.rdf_trig.specs.Machine.{Mode, Start, Reply, No, Go, start, step, waiting, fronted, go_on, run}
 use Rattle.rdf_trig.specs.Documents.{documents, InTree}
 use Rattle.rdf_trig.specs.Laws.{ViableWhereBound}
-use Rattle.rdf_trig.proofs.Sound.{unput}
-use Rattle.rdf_trig.proofs.TokensOfEvents.{document_told}
-use Rattle.rdf_trig.proofs.Completions.{has_iri}
-use Rattle.rdf_trig.proofs.Reached.{Stand, stand, reach, on_reply, if_true, run_tree, reach-snoc, step_on, and_on, use_bound, reached_viable, viable_reached, begins_reached, any_passing}
-use Rattle.rdf_trig.proofs.Senses.{same_sense, tokens_behind}
+use Rattle.rdf_trig.proofs.machine.Soundness.{unput}
+use Rattle.rdf_trig.proofs.trees.TokensOfEvents.{document_told}
+use Rattle.rdf_trig.proofs.machine.ClosingTokens.{has_iri}
+use Rattle.rdf_trig.proofs.machine.ViableTokens.{Stand, stand, reach, on_reply, if_true, run_tree, reach-snoc, step_on, and_on, use_bound, reached_viable, viable_reached, begins_reached, any_passing}
+use Rattle.rdf_trig.proofs.trees.Senses.{same_sense, tokens_behind}
 
 bound_give : (q : Option Quad) (n : ℕ) (es : List Event) → BoundFront n es → BoundFront n (give q es)
 bound_give None n es b = b

@@ -30,11 +30,11 @@ use Rattle.rdf_trig.specs.Machine.{Top, Statement, Start, Over, WantVerb, State,
 use Rattle.rdf_trig.specs.Language.{language}
 use Rattle.rdf_trig.specs.Accepting.{TrigRead, tree_words}
 use Rattle.rdf_trig.specs.Laws.{Stops}
-use Rattle.rdf_trig.proofs.Vectors.{leaf, quad}
-use Rattle.rdf_trig.proofs.LawLemmas.{begins, stops}
-use Rattle.rdf_trig.proofs.Exact.{accepted_document, same_due, due_ran}
-use Rattle.rdf_trig.proofs.EndLemmas.{document_complete}
-use Rattle.rdf_trig.proofs.ReadersLemmas.{quads_due, documents_read, refused_no_document}
+use Rattle.rdf_trig.proofs.examples.Documents.{leaf, quad}
+use Rattle.rdf_trig.proofs.theorems.StatedLaws.{begins, stops}
+use Rattle.rdf_trig.proofs.machine.ExactDocuments.{accepted_document, same_due, due_ran}
+use Rattle.rdf_trig.proofs.machine.EndOfInput.{document_complete}
+use Rattle.rdf_trig.proofs.theorems.DocumentsRead.{quads_due, documents_read, refused_no_document}
 
 -- no base, no bindings, and small limits
 abbrev small : InForce

@@ -39,8 +39,8 @@ use Rattle.rdf_trig.specs.Quads.{stated, named, resource, labelled, short_value,
 use Rattle.rdf_trig.specs.Events.{Use, itself, stands, binds}
 use Rattle.rdf_trig.specs.Laws.{HasIris}
 use Rattle.rdf_trig.specs.Spelled.{SpellsTag}
-use Rattle.rdf_trig.proofs.NamesLemmas.{binds_prefix}
-use Rattle.rdf_trig.proofs.SpelledLemmas.{label_in, spelled_tag}
+use Rattle.rdf_trig.proofs.trees.NamesLemmas.{binds_prefix}
+use Rattle.rdf_trig.proofs.code.SpelledLemmas.{label_in, spelled_tag}
 
 -- What references and names stand for are IRIs, where the base and the bindings are.
 

@@ -15,11 +15,11 @@ use Rattle.rdf_trig.specs.Events.{tokens, marked, document_events}
 use Rattle.rdf_trig.specs.Refusals.{Refusal}
 use Rattle.rdf_trig.specs.Machine.{State, refuses, accept, at_start, ran, accept_all}
 use Rattle.rdf_trig.specs.Laws.{Rises, Reads, Stops}
-use Rattle.rdf_trig.proofs.TokensOfEvents.{document_told}
-use Rattle.rdf_trig.proofs.MarksOfEvents.{document_marks}
-use Rattle.rdf_trig.proofs.Lag.{marked_rises}
-use Rattle.rdf_trig.proofs.Refused.{reached_start, refused_for}
-use Rattle.rdf_trig.proofs.Exact.{same_due, due_ran, front_all, front_to}
+use Rattle.rdf_trig.proofs.trees.TokensOfEvents.{document_told}
+use Rattle.rdf_trig.proofs.trees.MarksOfEvents.{document_marks}
+use Rattle.rdf_trig.proofs.machine.DueQuads.{marked_rises}
+use Rattle.rdf_trig.proofs.machine.RefusedTokens.{reached_start, refused_for}
+use Rattle.rdf_trig.proofs.machine.ExactDocuments.{same_due, due_ran, front_all, front_to}
 
 pub tree_told : (form : DocForm) (start : InForce) (d : Document form) →
     (tokens (document_events start d) ≡ document_tokens d) × (marked 0 (document_events start d) ≡ document_quads start 0 d)

@@ -14,7 +14,7 @@ use Rattle.rdf_trig.specs.declared.form.DocForm.TheVariants.{TriG}
 use Rattle.rdf_trig.specs.Quads.{Setting, in_default, node, cell_at, rest_quad}
 use Rattle.rdf_trig.specs.Machine.{Level, Top, InBlock, Place, Listed, InCells, Around, Statement, Boxed, Up, Spelling, Mode, Start, Over, WantPrefix, WantPrefixIri, WantBaseIri, WantDot, AfterLabel, GraphWord, GraphBox, WantBrace, Inside, Want, After, AfterText, WantType, Box, Paren, WantVerb, Semi, AfterBox, Reply, No, Go, object_start, want_type, verb_start, list_end, semi, after, after_text, box, paren, after_box, subject_start, start, inside, want_brace, after_label, graph_word, graph_box, want_prefix, want_prefix_iri, want_base_iri, want_dot, step, waiting}
 use Rattle.rdf_trig.specs.Machine.{kept, State, Answer, refuses, accepts, accept, at_start, ran, refused, go, accept_all}
-use Rattle.rdf_trig.proofs.Accepted.{accepted, first_ran}
+use Rattle.rdf_trig.proofs.machine.AcceptedTokens.{accepted, first_ran}
 
 -- a quad may be waiting there
 abbrev owes : Mode → ℕ

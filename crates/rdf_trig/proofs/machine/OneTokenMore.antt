@@ -10,9 +10,9 @@ use Rattle.rdf_trig.specs.declared.form.DocForm.{DocForm}
 use Rattle.rdf_trig.specs.Refusals.{Refusal}
 use Rattle.rdf_trig.specs.Machine.{State, Answer, refuses, accepts, accept, at_start, ran, refused, with_quads, go, accept_all}
 use Rattle.rdf_trig.specs.Alike.{SameState, RunsTo}
-use Rattle.rdf_trig.proofs.Accepted.{first_ran}
-use Rattle.rdf_trig.proofs.AlikeLemmas.{state_trans, accept_same, SameAnswer, accepts_same, refuses_same}
-use Rattle.rdf_trig.proofs.FewLemmas.{ran_few}
+use Rattle.rdf_trig.proofs.machine.AcceptedTokens.{first_ran}
+use Rattle.rdf_trig.proofs.machine.AlikeLemmas.{state_trans, accept_same, SameAnswer, accepts_same, refuses_same}
+use Rattle.rdf_trig.proofs.machine.TwoQuadsAToken.{ran_few}
 
 -- one token more
 pub ran_one : (form : DocForm) (ts : List Token) (t : Token) (s m n : State) (rs qs : List Quad) → accept_all form s ts ≡ ran m rs → accept form m t.kind (leaf_of t) ≡ accepts qs n →

@@ -22,12 +22,12 @@ use Rattle.rdf_trig.specs.Alike.{SameState}
 use Rattle.rdf_trig.specs.Steps.{state_of, Accepts, answered, Begins, Fails}
 use Rattle.rdf_trig.specs.Language.{Chosen, Blamed}
 use Rattle.rdf_trig.specs.Accepting.{TreeAt, reason_of, tree_words}
-use Rattle.rdf_trig.proofs.AlikeLemmas.{state_self}
-use Rattle.rdf_trig.proofs.Exact.{due_ran, accepted_document, not_both}
-use Rattle.rdf_trig.proofs.EndLemmas.{ends_over}
-use Rattle.rdf_trig.proofs.LawLemmas.{begins, stops}
-use Rattle.rdf_trig.proofs.Refused.{passes_none}
-use Rattle.rdf_trig.proofs.RunsLemmas.{runs_one, runs_refused, runs_few}
+use Rattle.rdf_trig.proofs.machine.AlikeLemmas.{state_self}
+use Rattle.rdf_trig.proofs.machine.ExactDocuments.{due_ran, accepted_document, not_both}
+use Rattle.rdf_trig.proofs.machine.EndOfInput.{ends_over}
+use Rattle.rdf_trig.proofs.theorems.StatedLaws.{begins, stops}
+use Rattle.rdf_trig.proofs.machine.RefusedTokens.{passes_none}
+use Rattle.rdf_trig.proofs.machine.OneTokenMore.{runs_one, runs_refused, runs_few}
 
 -- The words of Turtle and TriG keep what the driver asks of a grammar.
 pub lawful : Lawful tree_words

@@ -9,7 +9,7 @@ use Rattle.rdf_iri.specs.Scope.{InForce, bound_to, Binds, ResolvesHere, Unresolv
 use Rattle.rdf_iri.proofs.ResolveLemmas.{resolves-only}
 use Rattle.rdf_lines.specs.Lines.{Leaf, iri_of}
 use Rattle.rdf_trig.specs.Names.{reference_in, name_in, prefix_of, local_of, with_base, with_binding, is_full, SameNames}
-use Rattle.rdf_trig.proofs.NamesLemmas.{binds_prefix}
+use Rattle.rdf_trig.proofs.trees.NamesLemmas.{binds_prefix}
 
 pub same_reference : (s t : InForce) (l : Leaf) → SameNames s t → reference_in s l ≡ reference_in t l
 unfolding reference_in

@@ -4,7 +4,7 @@ use Rattle.rdf_trig.specs.Accepting.{tree_words}
 use Rattle.rdf_trig.specs.Laws.{ReadQuadsAreDue, DocumentsAreRead, RefusedIsNoDocument}
 use Rattle.rdf_tokens.proofs.LanguageLemmas as L
 use Rattle.rdf_driver.proofs.PromiseLemmas.{read_goes_on}
-use Rattle.rdf_trig.proofs.AcceptingLemmas.{lawful}
+use Rattle.rdf_trig.proofs.code.LawfulGrammar.{lawful}
 
 -- The driver's law at the trees' words.
 pub quads_due : ReadQuadsAreDue

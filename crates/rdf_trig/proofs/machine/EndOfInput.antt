@@ -17,7 +17,7 @@ use Rattle.rdf_trig.specs.Documents.{documents}
 use Rattle.rdf_trig.specs.Quads.{Setting}
 use Rattle.rdf_trig.specs.Machine.{Top, InBlock, Place as P, Listed, InCells, Around, Statement, Boxed, Mode, Start, Over, AfterText, After, Semi, AfterBox, Reply, No, Go, list_end, after, step, waiting}
 use Rattle.rdf_trig.specs.Machine.{State, Answer, refuses, accepts, accept, ran, refused, go, accept_all}
-use Rattle.rdf_trig.proofs.Accepted.{accepted, first_ran}
+use Rattle.rdf_trig.proofs.machine.AcceptedTokens.{accepted, first_ran}
 
 -- after the end a document is over
 abbrev IsOver : Reply → Type 0

@@ -25,12 +25,12 @@ use Rattle.rdf_trig.specs.Documents.{documents, trees, InTree}
 use Rattle.rdf_trig.specs.Refusals.{unexpected, too_deep, unbound, no_base, iri_too_long, too_many_bindings}
 use Rattle.rdf_trig.specs.Machine.{Top, Listed, WantPrefixIri, Sparql, Statement, Boxed, At, Start, Over, Want, After, AfterBox, State, at_start, ran, accept_all}
 use Rattle.rdf_trig.specs.Laws.{Rises, CompletedBy, Stops, Reads, ViableWhereBound, ShapedAndBound, NamelessWhere}
-use Rattle.rdf_trig.proofs.Vectors.{leaf, quad, start, nested_tokens, nested_tree, nested_quads, nested_is, booleans_tokens, booleans_tree, booleans_quads, booleans_is, inner_collection_quads, inner_collection_tree, one_label_tokens, one_label_quads, one_label_is}
-use Rattle.rdf_trig.proofs.LawLemmas.{due_front, stops, begins, tree_told, never_fall}
-use Rattle.rdf_trig.proofs.Exact.{same_quads, same_due, accepted_document, document_accepted}
-use Rattle.rdf_trig.proofs.Bounds.{settled, viable_bound}
-use Rattle.rdf_trig.proofs.Completed.{completed}
-use Rattle.rdf_trig.proofs.NamesLemmas.{nameless_where, binds_prefix}
+use Rattle.rdf_trig.proofs.examples.Documents.{leaf, quad, start, nested_tokens, nested_tree, nested_quads, nested_is, booleans_tokens, booleans_tree, booleans_quads, booleans_is, inner_collection_quads, inner_collection_tree, one_label_tokens, one_label_quads, one_label_is}
+use Rattle.rdf_trig.proofs.theorems.StatedLaws.{due_front, stops, begins, tree_told, never_fall}
+use Rattle.rdf_trig.proofs.machine.ExactDocuments.{same_quads, same_due, accepted_document, document_accepted}
+use Rattle.rdf_trig.proofs.trees.BoundNames.{settled, viable_bound}
+use Rattle.rdf_trig.proofs.trees.CompletedBeginnings.{completed}
+use Rattle.rdf_trig.proofs.trees.NamesLemmas.{nameless_where, binds_prefix}
 
 -- A property list, `[ P S ]`, with S and P as in the vectors.
 abbrev box_tokens : List Token

@@ -12,10 +12,10 @@ use Rattle.rdf_trig.specs.Events.{Use, itself, stands, binds, Event, Took, Gave,
 use Rattle.rdf_trig.specs.Machine.{Mode, Start, Reply, No, Go, start, step, waiting, fronted, put, go_on, run}
 use Rattle.rdf_trig.specs.Quads.{document_quads}
 use Rattle.rdf_trig.specs.Documents.{documents, trees}
-use Rattle.rdf_trig.proofs.Complete.{document_good}
-use Rattle.rdf_trig.proofs.Sound.{read_found, unput}
-use Rattle.rdf_trig.proofs.TokensOfEvents.{document_told}
-use Rattle.rdf_trig.proofs.Completions.{has_iri, passes, Passing, Accepts, passing_give, passing_back, close, closes}
+use Rattle.rdf_trig.proofs.machine.Completeness.{document_good}
+use Rattle.rdf_trig.proofs.machine.Soundness.{read_found, unput}
+use Rattle.rdf_trig.proofs.trees.TokensOfEvents.{document_told}
+use Rattle.rdf_trig.proofs.machine.ClosingTokens.{has_iri, passes, Passing, Accepts, passing_give, passing_back, close, closes}
 
 -- where the machine stands
 pub record Stand : Type 0 where

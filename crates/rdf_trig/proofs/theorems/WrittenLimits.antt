@@ -25,10 +25,10 @@ use Rattle.rdf_trig.specs.Events.{Use, itself, stands, binds, Event, Took, Gave,
 use Rattle.rdf_trig.specs.Documents.{IsLong, Passes, InTree}
 use Rattle.rdf_trig.specs.Language.{language}
 use Rattle.rdf_trig.specs.Laws.{HasIris, DocumentIsWritable, WrittenDocumentIsRead}
-use Rattle.rdf_trig.proofs.TokensOfEvents.{document_told}
-use Rattle.rdf_trig.proofs.Senses.{tokens_behind}
-use Rattle.rdf_trig.proofs.WrittenParts.{Room, FitSubject, FitTail, FitTerm, GoodToken, Within}
-use Rattle.rdf_trig.proofs.WrittenSteps.{AllWithin, AllFit, tree_fits}
+use Rattle.rdf_trig.proofs.trees.TokensOfEvents.{document_told}
+use Rattle.rdf_trig.proofs.trees.Senses.{tokens_behind}
+use Rattle.rdf_trig.proofs.theorems.WrittenParts.{Room, FitSubject, FitTail, FitTerm, GoodToken, Within}
+use Rattle.rdf_trig.proofs.theorems.WrittenSteps.{AllWithin, AllFit, tree_fits}
 
 module _ (r : Room) where
   -- What fits is well formed, and within the limits as it is written.

@@ -28,11 +28,11 @@ use Rattle.rdf_trig.specs.Machine.{Over, State, at_start, ran, accept_all}
 use Rattle.rdf_trig.specs.Language.{language}
 use Rattle.rdf_trig.specs.Laws.{HasIris}
 use Rattle.rdf_tokens.specs.Grammars.{IsFront, reading_of, IsDocumentOf, IsWhole, IsReadToItsEnd}
-use Rattle.rdf_trig.proofs.Vectors.{leaf, quad}
-use Rattle.rdf_trig.proofs.LawLemmas.{begins}
-use Rattle.rdf_trig.proofs.Exact.{accepted_document}
-use Rattle.rdf_trig.proofs.EndLemmas.{document_complete}
-use Rattle.rdf_trig.proofs.WrittenLimits.{document_writable, document_read_back}
+use Rattle.rdf_trig.proofs.examples.Documents.{leaf, quad}
+use Rattle.rdf_trig.proofs.theorems.StatedLaws.{begins}
+use Rattle.rdf_trig.proofs.machine.ExactDocuments.{accepted_document}
+use Rattle.rdf_trig.proofs.machine.EndOfInput.{document_complete}
+use Rattle.rdf_trig.proofs.theorems.WrittenLimits.{document_writable, document_read_back}
 
 abbrev small : InForce
 small = record { base = None; bindings = []; limits = record { token = 8; depth = 1; bindings = 1; iri = 8 } }

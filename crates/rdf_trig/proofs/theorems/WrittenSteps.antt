@@ -23,11 +23,11 @@ use Rattle.rdf_trig.specs.Machine.{Level, Top, InBlock, Place, Listed, InCells, 
 use Rattle.rdf_trig.specs.Machine.{stop, fronted, go_on, run}
 use Rattle.rdf_trig.specs.Spelled.{SpellsTag}
 use Rattle.rdf_trig.specs.Laws.{HasIris}
-use Rattle.rdf_trig.proofs.Sound.{unput}
-use Rattle.rdf_trig.proofs.Reached.{run_tree}
-use Rattle.rdf_trig.proofs.TokensOfEvents.{document_told}
-use Rattle.rdf_trig.proofs.MarksOfEvents.{document_marks}
-use Rattle.rdf_trig.proofs.WrittenParts.{Room, FitIri, FitSubject, FitWord, FitTerm, FitQuad, Good, GoodToken, Within, known_fits, named_fits, subject_named, resource_fits, typed_fits, stated_fits, anon_fits, cell_fits, label_fits, short_fits, long_fits, integer_fits, decimal_fits, double_fits, true_fits, false_fits, tag_fits, reference_iri, name_iri, base_iris, binding_iris}
+use Rattle.rdf_trig.proofs.machine.Soundness.{unput}
+use Rattle.rdf_trig.proofs.machine.ViableTokens.{run_tree}
+use Rattle.rdf_trig.proofs.trees.TokensOfEvents.{document_told}
+use Rattle.rdf_trig.proofs.trees.MarksOfEvents.{document_marks}
+use Rattle.rdf_trig.proofs.theorems.WrittenParts.{Room, FitIri, FitSubject, FitWord, FitTerm, FitQuad, Good, GoodToken, Within, known_fits, named_fits, subject_named, resource_fits, typed_fits, stated_fits, anon_fits, cell_fits, label_fits, short_fits, long_fits, integer_fits, decimal_fits, double_fits, true_fits, false_fits, tag_fits, reference_iri, name_iri, base_iris, binding_iris}
 
 module _ (r : Room) where
   -- what is there can be written

@@ -15,8 +15,8 @@ use Rattle.rdf_trig.specs.Events.{Use, itself, stands, binds}
 use Rattle.rdf_trig.specs.Machine.{Level, Top, InBlock, Place, Listed, InCells, Around, Statement, Boxed, Up, Subject, At, Spelling, Dotted, Sparql, Mode, Start, Over, WantPrefix, WantPrefixIri, WantBaseIri, WantDot, AfterLabel, GraphWord, GraphBox, WantBrace, Inside, Want, After, AfterText, WantType, Box, Paren, WantVerb, Semi, AfterBox, Reply, No, Go, cell, nil, object_start, want_type, verb_start, after_subject, node_closed, box_closed, list_closed, list_end, semi, after, after_text, box, paren, after_box, subject_start, start, inside, want_brace, after_label, graph_word, graph_box, want_prefix, want_prefix_iri, want_base_iri, want_dot, step}
 use Rattle.rdf_trig.specs.Machine.{depth, depth_at, depth_around, depth_up}
 use Rattle.rdf_trig.specs.Documents.{opens, closes, opened, closed, open_in}
-use Rattle.rdf_trig.proofs.Completions.{passes}
-use Rattle.rdf_trig.proofs.Reached.{Stand, stand, reach, on_reply, if_true}
+use Rattle.rdf_trig.proofs.machine.ClosingTokens.{passes}
+use Rattle.rdf_trig.proofs.machine.ViableTokens.{Stand, stand, reach, on_reply, if_true}
 
 -- what a token of the kind may stand for
 abbrev pub IsUse : InForce → Kind → Leaf → Use → Type 0

@@ -10,9 +10,9 @@ use Rattle.rdf_trig.specs.Events.{Use, Event, Took, Gave, give, document_events,
 use Rattle.rdf_trig.specs.Machine.{Mode, Start, Reply, No, Go, start, step, waiting, fronted, go_on, run}
 use Rattle.rdf_tokens.specs.Grammars.{Viable}
 use Rattle.rdf_trig.specs.Documents.{documents, InTree, StandsFor}
-use Rattle.rdf_trig.proofs.Sound.{unput}
-use Rattle.rdf_trig.proofs.Completions.{has_iri, passes}
-use Rattle.rdf_trig.proofs.Reached.{Stand, stand, reach, on_reply, if_true, run_tree, Begins, reached_begins, reach-snoc, and_on, passing_bound, bound_passing, begins_viable, goes_on, lax}
+use Rattle.rdf_trig.proofs.machine.Soundness.{unput}
+use Rattle.rdf_trig.proofs.machine.ClosingTokens.{has_iri, passes}
+use Rattle.rdf_trig.proofs.machine.ViableTokens.{Stand, stand, reach, on_reply, if_true, run_tree, Begins, reached_begins, reach-snoc, and_on, passing_bound, bound_passing, begins_viable, goes_on, lax}
 
 -- what the token of this number, from 0, stands for
 abbrev pub sense_at : ℕ → List Event → Option Use

@@ -19,12 +19,12 @@ use Rattle.rdf_trig.specs.Machine.{Mode, Start, Reply, No, Go, start, step, wait
 use Rattle.rdf_trig.specs.Machine.{kept, State, Answer, refuses, accepts, unnamed, too_long, by_use, deepens, answer, accept, at_start, ran, refused, with_quads, go, accept_all, depth}
 use Rattle.rdf_trig.specs.Refusals.{Refusal, unexpected, too_deep, unbound, no_base, iri_too_long, too_many_bindings, Excluded, RefusedFor}
 use Rattle.rdf_trig.specs.Documents.{InTree, StandsFor, opens, closes, opened, closed, open_in, IsDeep, IsLong, IsOneMore, Passes}
-use Rattle.rdf_trig.proofs.Completions.{has_iri}
-use Rattle.rdf_trig.proofs.Reached.{Stand, stand, reach, reached_viable, nameless, goes_on}
-use Rattle.rdf_trig.proofs.Reached as reached
-use Rattle.rdf_trig.proofs.Accepted.{Fits, accepted, first_ran, ran_tokens}
-use Rattle.rdf_trig.proofs.StepFacts.{IsUse, Facts, step_facts, reached_limits, reached_depth, opened-append, closed-append}
-use Rattle.rdf_trig.proofs.Senses.{same_sense, in_tree, stands_for}
+use Rattle.rdf_trig.proofs.machine.ClosingTokens.{has_iri}
+use Rattle.rdf_trig.proofs.machine.ViableTokens.{Stand, stand, reach, reached_viable, nameless, goes_on}
+use Rattle.rdf_trig.proofs.machine.ViableTokens as reached
+use Rattle.rdf_trig.proofs.machine.AcceptedTokens.{Fits, accepted, first_ran, ran_tokens}
+use Rattle.rdf_trig.proofs.machine.DepthAndSense.{IsUse, Facts, step_facts, reached_limits, reached_depth, opened-append, closed-append}
+use Rattle.rdf_trig.proofs.trees.Senses.{same_sense, in_tree, stands_for}
 
 -- One more bracket is one more than are open.
 deep_kind : (k : Kind) → opens k ≡ 1 → (deepens k ≡ true) × (closes k ≡ 0)

@@ -33,8 +33,8 @@ use Rattle.rdf_trig.specs.Machine.{Reply, No, Go, kept, by_use, refuses, accepts
 use Rattle.rdf_trig.specs.States.{mode_of, use_in, scope_in, is_go, DepthMoves, ShortPrefix, PrefixFits}
 use Rattle.rdf_trig.specs.Scopes.{Passes, SameScope, LooksUp, LooksUpNone}
 use Rattle.rdf_trig.specs.Steps.{Begins, GaveUp, state_of, moved, May, Stays, DepthMay, Keeps, Accepts, answered, Fails}
-use Rattle.rdf_trig.proofs.MachineLaws.{step_use, step_depth, step_prefix}
-use Rattle.rdf_trig.proofs.StepsLemmas.{begins_all}
+use Rattle.rdf_trig.proofs.code.StepBounds.{step_use, step_depth, step_prefix}
+use Rattle.rdf_trig.proofs.code.PutsInRow.{begins_all}
 
 -- a reply that accepts, by its parts
 abbrev Goes : Reply → Type 0

@@ -17,8 +17,8 @@ use Rattle.rdf_trig.specs.Events.{Use, itself, stands, binds}
 use Rattle.rdf_trig.specs.Machine.{Level, Top, InBlock, Place, Listed, InCells, Around, Statement, Boxed, Up, Subject, At, Spelling, Mode, Start, Over, WantPrefix, WantPrefixIri, WantBaseIri, WantDot, AfterLabel, GraphWord, GraphBox, WantBrace, Inside, Want, After, AfterText, WantType, Box, Paren, WantVerb, Semi, AfterBox, Reply, No, Go, quad_at, object_start, want_type, verb_start, after_subject, list_end, semi, after, after_text, box, paren, after_box, subject_start, start, inside, want_brace, after_label, graph_word, graph_box, want_prefix, want_prefix_iri, want_base_iri, want_dot, step, waiting, depth}
 use Rattle.rdf_trig.specs.Machine.{kept, State, Answer, refuses, accepts, too_long, by_use, deepens, answer, accept}
 use Rattle.rdf_trig.specs.Alike.{SameState}
-use Rattle.rdf_trig.proofs.NamesLemmas.{binds_prefix}
-use Rattle.rdf_trig.proofs.ScopeLemmas.{same_itself, same_reference, same_name, same_full, same_based, same_binding}
+use Rattle.rdf_trig.proofs.trees.NamesLemmas.{binds_prefix}
+use Rattle.rdf_trig.proofs.trees.ScopeCalls.{same_itself, same_reference, same_name, same_full, same_based, same_binding}
 
 pub state_self : (s : State) → SameState s s
 state_self s = record { scope = same_itself s.setting.scope; graph = refl; mode = refl; held = refl }

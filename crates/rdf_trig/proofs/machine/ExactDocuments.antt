@@ -16,15 +16,15 @@ use Rattle.rdf_trig.specs.Machine.{State, Answer, refuses, accepts, accept, at_s
 use Rattle.rdf_trig.specs.Refusals.{Refusal, unexpected, too_deep, unbound, no_base, iri_too_long, too_many_bindings, Excluded, RefusedFor}
 use Rattle.rdf_trig.specs.Quads.{document_quads}
 use Rattle.rdf_trig.specs.Documents.{documents, trees, Passes}
-use Rattle.rdf_trig.proofs.Sound.{read_found, unput}
-use Rattle.rdf_trig.proofs.TokensOfEvents.{document_told}
-use Rattle.rdf_trig.proofs.MarksOfEvents.{document_marks}
-use Rattle.rdf_trig.proofs.Completions.{Accepts, passes}
-use Rattle.rdf_trig.proofs.Reached.{Stand, stand, reach, on_reply, if_true, front, run_tree, passing_bound, reached_viable}
-use Rattle.rdf_trig.proofs.Lag.{due, before_due, emits, lag}
-use Rattle.rdf_trig.proofs.Accepted.{ran_tokens}
-use Rattle.rdf_trig.proofs.StepFacts.{Facts, Quiet, step_facts}
-use Rattle.rdf_trig.proofs.Refused.{place, reached_start, passes_none, refused_for}
+use Rattle.rdf_trig.proofs.machine.Soundness.{read_found, unput}
+use Rattle.rdf_trig.proofs.trees.TokensOfEvents.{document_told}
+use Rattle.rdf_trig.proofs.trees.MarksOfEvents.{document_marks}
+use Rattle.rdf_trig.proofs.machine.ClosingTokens.{Accepts, passes}
+use Rattle.rdf_trig.proofs.machine.ViableTokens.{Stand, stand, reach, on_reply, if_true, front, run_tree, passing_bound, reached_viable}
+use Rattle.rdf_trig.proofs.machine.DueQuads.{due, before_due, emits, lag}
+use Rattle.rdf_trig.proofs.machine.AcceptedTokens.{ran_tokens}
+use Rattle.rdf_trig.proofs.machine.DepthAndSense.{Facts, Quiet, step_facts}
+use Rattle.rdf_trig.proofs.machine.RefusedTokens.{place, reached_start, passes_none, refused_for}
 
 -- what is due
 pub due_in : (form : DocForm) (start : InForce) (ts more : List Token) (s : State) (qs : List Quad) (all : List Marked) →

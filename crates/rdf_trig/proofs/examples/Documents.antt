@@ -24,8 +24,8 @@ use Rattle.rdf_trig.specs.Events.{Event, Took, Gave, document_events, Bound}
 use Rattle.rdf_trig.specs.Documents.{documents}
 use Rattle.rdf_trig.specs.Owed.{document_held, Owed, most_held}
 use Rattle.std.proofs.Math.Utf8.{encode}
-use Rattle.rdf_trig.proofs.Completions.{has_iri}
-use Rattle.rdf_trig.proofs.Reached.{use_bound}
+use Rattle.rdf_trig.proofs.machine.ClosingTokens.{has_iri}
+use Rattle.rdf_trig.proofs.machine.ViableTokens.{use_bound}
 
 abbrev pub leaf : List ℕ → ℕ → ℕ → Leaf
 leaf w offset line = record { text = w; at = record { offset = offset; line = line } }

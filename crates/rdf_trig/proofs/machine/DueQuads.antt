@@ -15,8 +15,8 @@ use Rattle.rdf_trig.specs.Events.{Event, Took, Gave, give, document_events, toke
 use Rattle.rdf_trig.specs.Machine.{Mode, Start, Reply, No, Go, start, step, waiting, fronted, go_on, run}
 use Rattle.rdf_trig.specs.Machine.{kept}
 use Rattle.rdf_trig.specs.Laws.{Rises}
-use Rattle.rdf_trig.proofs.Sound.{unput}
-use Rattle.rdf_trig.proofs.Reached.{run_tree}
+use Rattle.rdf_trig.proofs.machine.Soundness.{unput}
+use Rattle.rdf_trig.proofs.machine.ViableTokens.{run_tree}
 
 -- the quads in front of the token of this number, from 1
 abbrev pub due : ℕ → List Event → List Quad

@@ -17,7 +17,7 @@ use Rattle.rdf_trig.specs.Names.{prefix_of, reference_in, with_base, with_bindin
 use Rattle.rdf_trig.specs.Quads.{Setting, in_default, named, node, resource, plain_literal, typed_literal, rest_quad}
 use Rattle.rdf_trig.specs.Events.{Use, itself, stands, binds, Event, Took, Gave, give}
 use Rattle.rdf_trig.specs.Machine.{Level, Top, InBlock, Place, Listed, InCells, Around, Statement, Boxed, Up, Subject, At, Spelling, Dotted, Sparql, Mode, Start, Over, WantPrefix, WantPrefixIri, WantBaseIri, WantDot, AfterLabel, GraphWord, GraphBox, WantBrace, Inside, Want, After, AfterText, WantType, Box, Paren, WantVerb, Semi, AfterBox, Go, goes, cell, quad_at, nil, after_subject, node_closed, box_closed, list_closed, directive_end, step, waiting, fronted, put, go_on, run}
-use Rattle.rdf_trig.proofs.Complete.{text_run}
+use Rattle.rdf_trig.proofs.machine.Completeness.{text_run}
 
 -- whether a token that stands for this is taken: with a name that stands for something, or with any
 abbrev pub has_iri : Use → Bool

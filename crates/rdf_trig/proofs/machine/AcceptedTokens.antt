@@ -12,9 +12,9 @@ use Rattle.rdf_trig.specs.Events.{Use, itself, stands, binds}
 use Rattle.rdf_trig.specs.Machine.{Mode, Reply, No, Go, step, waiting}
 use Rattle.rdf_trig.specs.Refusals.{unexpected, too_deep, no_base, iri_too_long, too_many_bindings}
 use Rattle.rdf_trig.specs.Machine.{kept, State, Answer, refuses, accepts, unnamed, too_long, by_use, deepens, answer, accept, Run, ran, refused, with_quads, go, accept_all, depth}
-use Rattle.rdf_trig.proofs.Completions.{has_iri}
-use Rattle.rdf_trig.proofs.Reached.{stand, reach, on_reply, if_true}
-use Rattle.rdf_trig.proofs.Lag.{emits, on_emits}
+use Rattle.rdf_trig.proofs.machine.ClosingTokens.{has_iri}
+use Rattle.rdf_trig.proofs.machine.ViableTokens.{stand, reach, on_reply, if_true}
+use Rattle.rdf_trig.proofs.machine.DueQuads.{emits, on_emits}
 
 second : {T : Type 0} (b : Bool) (x y z : T) → cond b x y ≡ z → (x ≡ z → ⊥) → (b ≡ false) × (y ≡ z)
 second true x y z e n = absurd (n e)

@@ -13,10 +13,10 @@ use Rattle.rdf_trig.specs.Machine.{Level, Top, InBlock, Place, Listed, InCells, 
 use Rattle.rdf_trig.specs.Quads.{document_quads}
 use Rattle.rdf_trig.specs.Documents.{documents, trees}
 use Rattle.rdf_trig.specs.Laws.{IsClosing, CompletedBy}
-use Rattle.rdf_trig.proofs.Sound.{read_found}
-use Rattle.rdf_trig.proofs.TokensOfEvents.{document_told}
-use Rattle.rdf_trig.proofs.Completions.{Passing, the_end, close_level, close_verb, close_place, close_list, close_box, close_around, close_directive, close_block, close, closes}
-use Rattle.rdf_trig.proofs.Reached.{Stand, reach, front, passing_bound, viable_reached, shaped_reached}
+use Rattle.rdf_trig.proofs.machine.Soundness.{read_found}
+use Rattle.rdf_trig.proofs.trees.TokensOfEvents.{document_told}
+use Rattle.rdf_trig.proofs.machine.ClosingTokens.{Passing, the_end, close_level, close_verb, close_place, close_list, close_box, close_around, close_directive, close_block, close, closes}
+use Rattle.rdf_trig.proofs.machine.ViableTokens.{Stand, reach, front, passing_bound, viable_reached, shaped_reached}
 
 abbrev Closing : List Token → Type 0
 Closing [] = Unit {0}
