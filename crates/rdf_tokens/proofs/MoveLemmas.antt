@@ -11,7 +11,7 @@ use Rattle.rdf_tokens.specs.Tokens.Tail.{goes_on}
 use Rattle.rdf_tokens.specs.Tokens.Step.{token, stop}
 use Rattle.rdf_tokens.specs.Good.{mark, tokens_at, tokens_of}
 use Rattle.rdf_tokens.specs.Unread.{Unread}
-use Rattle.rdf_tokens.specs.Scans.{HasRead}
+use Rattle.rdf_tokens.specs.Scans.{HasScanned}
 use Rattle.rdf_tokens.specs.Moves.{BeginsChar, tail_now, is_settled, MayCome, moved, Stands, Moves}
 use Rattle.rdf_tokens.specs.Front.{bytes_of}
 use Rattle.rdf_tokens.specs.Blank.{comment_step, comment_after}
@@ -194,7 +194,7 @@ module _ (v : Unread) (s : Stands v) where
           ∙ there t x))
 
   -- there is no next token
-  pub read_stop : (bytes : List ℕ) (ts : List Token) (o : Outcome) → v.stopped ≡ false → BeginsChar v.pending → HasRead v bytes ts →
+  pub read_stop : (bytes : List ℕ) (ts : List Token) (o : Outcome) → v.stopped ≡ false → BeginsChar v.pending → HasScanned v bytes ts →
       step v.dialect v.limit (tail_now v) v.text ≡ stop o →
       tokens_of v.dialect v.limit bytes v.ended ≡ record { tokens = ts ++ end_tokens o v.place; outcome = o; at = stop_place o v.place v.text }
   read_stop bytes ts o p b r e =

@@ -19,12 +19,12 @@ tail_of bytes is_end = cond (utf8_valid_len bytes == length bytes) (cond is_end 
     (cond (is_end || is_some (utf8_error_len (drop (utf8_valid_len bytes) bytes))) broken goes_on)
 
 -- one leading U+FEFF is dropped
-abbrev pub marked : List ℕ → Bool
-marked [] = false
-marked (c ∷ w) = c == 0xFEFF
+abbrev pub has_byte_order_mark : List ℕ → Bool
+has_byte_order_mark [] = false
+has_byte_order_mark (c ∷ w) = c == 0xFEFF
 
 abbrev pub mark : List ℕ → ℕ
-mark w = cond (marked w) 1 0
+mark w = cond (has_byte_order_mark w) 1 0
 
 abbrev pub first_place : Place
 first_place = record { offset = 0; line = 1 }

@@ -6,7 +6,7 @@ ghost use Rattle.std.specs.String.{string_bytes};
 ghost use mathlib.Core.Option.{none};
 ghost use Rattle.std.specs.Borrow.{sem, follows_so};
 ghost use Rattle.rdf_tokens.specs.Tokens.{Token as Read, past, step};
-ghost use Rattle.rdf_tokens.specs.Scans.{HasRead, IsOpen, Pushes, Gives, most_bytes, token_of, place_of};
+ghost use Rattle.rdf_tokens.specs.Scans.{HasScanned, IsOpen, Pushes, Gives, most_bytes, token_of, place_of};
 ghost use Rattle.rdf_tokens.specs.Look.{behind, IsLook};
 ghost use Rattle.rdf_tokens.specs.contracts.scanner.Scanner.{the_row};
 ghost use Rattle.rdf_tokens.specs.Moves.{closed, grown, good_bytes, is_broken, rest_of_bytes, is_settled, moved, tail_now, fault_place, is_flat, IsGiven, Moves, Stands};
@@ -77,7 +77,7 @@ impl<A: Allocator> Model for Scanner<A> {
 impl<A: Allocator + Copy> Scanner<A> {
     /// A scanner that has read nothing. It takes no memory.
     pub fn new(alloc: A, dialect: Dialect, limit: u64) -> Scanner<A>
-        ensures read { HasRead result [] [] }
+        ensures read { HasScanned result [] [] }
         ensures dialect { result.dialect ≡ dialect }
         ensures limit { result.limit ≡ limit }
         ensures running { IsOpen result }
@@ -104,7 +104,7 @@ impl<A: Allocator + Copy> Scanner<A> {
     /// Says that no more bytes come. After a stop it does nothing.
     pub fn end(&mut self)
         ensures after { self.new ≡ closed self.old }
-        ensures read { (bytes : List ℕ) (ts : List Read) → HasRead self.old bytes ts → HasRead self.new bytes ts }
+        ensures read { (bytes : List ℕ) (ts : List Read) → HasScanned self.old bytes ts → HasScanned self.new bytes ts }
     {
         if !self.stopped {
             self.ended = true;

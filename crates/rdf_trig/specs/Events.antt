@@ -13,7 +13,7 @@ use Rattle.rdf_lines.specs.Lines.{Leaf, token}
 use Rattle.rdf_trig.specs.declared.form.DocForm.{DocForm}
 use Rattle.rdf_trig.specs.declared.form.DocForm.TheVariants.{Turtle, TriG}
 use Rattle.rdf_trig.specs.Trees.{PrefixedName, pname_ln, pname_ns, Iri, iri_ref, prefixed, BlankNode, label, anon, Verb, predicate, type_word, String, short, long, Tag, lang_tag, base_tag, prefix_tag, plain, tagged, typed, integer, decimal, double, true_word, false_word, Literal, rdf, numeric, boolean, Object, iri_object, blank_object, collection_object, list_object, literal_object, Collection, collection, Items, no_items, item, BlankNodePropertyList, property_list, PredicateObjectList, predicate_objects, More, no_more, semicolon, semicolon_objects, ObjectList, objects, Commas, no_commas, comma, Subject, iri_subject, blank_subject, collection_subject, Triples, subject_triples, list_triples, Directive, prefix_id, base, sparql_prefix, sparql_base, LabelOrSubject, iri_label, blank_label, TriplesBlock, last, last_dot, dot, WrappedGraph, wrapped, named_graph, label_triples, list_triples2, collection_triples2, Block, triples_or_graph, default_graph, triples2, graph_word, Body, Document, end, with_directive, with_body}
-use Rattle.rdf_trig.specs.Names.{prefix_of, reference_in, name_in, behind, is_full}
+use Rattle.rdf_trig.specs.Names.{prefix_of, reference_in, name_in, scope_after, is_full}
 use Rattle.rdf_trig.specs.Quads.{Setting, in_default, in_graph, stated, node, anon_at, verb_of, object_of, cell_of, items_of, collection_of, list_of, subject_of, label_of, rest_quad}
 
 -- what a token stands for beside itself: an IRI, if there is one; or the same of a directive that binds a prefix, which may be one too many
@@ -171,7 +171,7 @@ body_events TriG s b rest = trig_events s b rest
 
 abbrev pub document_events : {form : DocForm} → InForce → Document form → List Event
 document_events s (end l) = take End l []
-document_events s (with_directive d rest) = directive_events s d (document_events (behind s d) rest)
+document_events s (with_directive d rest) = directive_events s d (document_events (scope_after s d) rest)
 document_events {form} s (with_body b rest) = body_events form s b (document_events s rest)
 
 -- What events say: the tokens,
@@ -181,10 +181,10 @@ tokens (Took t u ∷ es) = t ∷ tokens es
 tokens (Gave q ∷ es) = tokens es
 
 -- the quads, each with the number of the token that it stands behind, where n tokens stand before the events,
-abbrev pub marked : ℕ → List Event → List Marked
-marked n [] = []
-marked n (Took t u ∷ es) = marked (n + 1) es
-marked n (Gave q ∷ es) = record { quad = q; mark = n } ∷ marked n es
+abbrev pub event_quads : ℕ → List Event → List Marked
+event_quads n [] = []
+event_quads n (Took t u ∷ es) = event_quads (n + 1) es
+event_quads n (Gave q ∷ es) = record { quad = q; mark = n } ∷ event_quads n es
 
 -- and that each name and reference stands for an IRI
 abbrev pub HasIri : Use → Type 0

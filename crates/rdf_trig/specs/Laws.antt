@@ -20,7 +20,7 @@ use Rattle.rdf_trig.specs.declared.form.DocForm.{DocForm}
 use Rattle.rdf_trig.specs.Trees.{Document, document_tokens}
 use Rattle.rdf_trig.specs.Names.{reference_in, name_in, prefix_of, with_binding}
 use Rattle.rdf_trig.specs.Quads.{document_quads}
-use Rattle.rdf_trig.specs.Events.{Use, tokens, marked, document_events, BoundFront}
+use Rattle.rdf_trig.specs.Events.{Use, tokens, event_quads, document_events, BoundFront}
 use Rattle.rdf_trig.specs.Documents.{documents, trees, InTree, Passes}
 use Rattle.rdf_trig.specs.Refusals.{Refusal, RefusedFor}
 use Rattle.rdf_trig.specs.Machine.{Over, State, refuses, accept, at_start, ran, accept_all}
@@ -30,7 +30,7 @@ use Rattle.rdf_trig.specs.Accepting.{TrigRead, tree_words}
 -- The events of a tree have the tokens that it derives, and its quads with their marks.
 abbrev pub EventsTellTheTree : Type 0
 EventsTellTheTree = (form : DocForm) (start : InForce) (d : Document form) →
-    (tokens (document_events start d) ≡ document_tokens d) × (marked 0 (document_events start d) ≡ document_quads start 0 d)
+    (tokens (document_events start d) ≡ document_tokens d) × (event_quads 0 (document_events start d) ≡ document_quads start 0 d)
 
 -- the marks are at least n, and none is below the one before it
 abbrev pub Rises : ℕ → List Marked → Type 0
@@ -129,13 +129,13 @@ abbrev pub AcceptedBeginsADocument : Type 0
 AcceptedBeginsADocument = (form : DocForm) (start : InForce) (ts : List Token) (s : State) (qs : List Quad) → accept_all form (at_start start) ts ≡ ran s qs → Reads form start ts qs
 
 -- Each token that it refuses is refused for its reason, and what stands before it is the front of the whole.
-pub record Stops (form : DocForm) (start : InForce) (ts : List Token) (t : Token) (more : List Token) (x : Refusal) : Type 0 where
+pub record IsRefusedAfter (form : DocForm) (start : InForce) (ts : List Token) (t : Token) (more : List Token) (x : Refusal) : Type 0 where
   pub reason : RefusedFor form start ts t x
   pub front : IsFront (documents form start) (Passes form start) (ts ++ t ∷ more) ts
 
 abbrev pub RefusedForItsReason : Type 0
 RefusedForItsReason = (form : DocForm) (start : InForce) (ts : List Token) (t : Token) (more : List Token) (s : State) (qs : List Quad) (x : Refusal) → accept_all form (at_start start) ts ≡ ran s qs →
-    accept form s t.kind (leaf_of t) ≡ refuses x → Stops form start ts t more x
+    accept form s t.kind (leaf_of t) ≡ refuses x → IsRefusedAfter form start ts t more x
 
 -- What a reader has read decides tokens that are all in the front, leaves the next one open, and the quads that were put are due after them.
 abbrev pub ReadQuadsAreDue : Type 0

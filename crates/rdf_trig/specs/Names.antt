@@ -44,11 +44,11 @@ abbrev pub with_binding : InForce → List ℕ → Option (List ℕ) → InForce
 with_binding s prefix None = s
 with_binding s prefix (Some iri) = record { base = s.base; bindings = bind s.bindings prefix iri; limits = s.limits }
 
-abbrev pub behind : InForce → Directive → InForce
-behind s (prefix_id w p i d) = with_binding s (prefix_of p) (reference_in s i)
-behind s (base w i d) = with_base s (reference_in s i)
-behind s (sparql_prefix w p i) = with_binding s (prefix_of p) (reference_in s i)
-behind s (sparql_base w i) = with_base s (reference_in s i)
+abbrev pub scope_after : InForce → Directive → InForce
+scope_after s (prefix_id w p i d) = with_binding s (prefix_of p) (reference_in s i)
+scope_after s (base w i d) = with_base s (reference_in s i)
+scope_after s (sparql_prefix w p i) = with_binding s (prefix_of p) (reference_in s i)
+scope_after s (sparql_base w i) = with_base s (reference_in s i)
 
 -- the prefix is new, and as many are bound as may be
 unfoldable pub is_full : InForce → List ℕ → Bool

@@ -9,7 +9,7 @@ use Rattle.rdf_iri.specs.Scope.{InForce}
 use Rattle.rdf_trig.specs.declared.form.DocForm.{DocForm}
 use Rattle.rdf_trig.specs.declared.form.DocForm.TheVariants.{Turtle, TriG}
 use Rattle.rdf_trig.specs.Trees.{Verb, predicate, type_word, Object, iri_object, blank_object, collection_object, list_object, literal_object, Collection, collection, Items, no_items, item, BlankNodePropertyList, property_list, PredicateObjectList, predicate_objects, More, no_more, semicolon, semicolon_objects, ObjectList, objects, Commas, no_commas, comma, Subject, iri_subject, blank_subject, collection_subject, Triples, subject_triples, list_triples, TriplesBlock, last, last_dot, dot, WrappedGraph, wrapped, named_graph, label_triples, list_triples2, collection_triples2, Block, triples_or_graph, default_graph, triples2, graph_word, Body, Document, end, with_directive, with_body, object_tokens, objects_tokens, predicates_tokens, collection_tokens, list_tokens, subject_tokens, label_tokens, triples_tokens, directive_tokens, body_tokens, document_tokens}
-use Rattle.rdf_trig.specs.Names.{iri_in, behind}
+use Rattle.rdf_trig.specs.Names.{iri_in, scope_after}
 use Rattle.rdf_trig.specs.Quads.{subject_of, label_of}
 use Rattle.rdf_trig.specs.Events.{Bound, document_events}
 
@@ -118,7 +118,7 @@ body_held TriG s k n b = trig_held s k n b
 
 abbrev pub document_held : {form : DocForm} → InForce → ℕ → ℕ → Document form → ℕ
 document_held s k n (end l) = 0
-document_held s k n (with_directive d rest) = document_held (behind s d) k (n + length (directive_tokens d)) rest
+document_held s k n (with_directive d rest) = document_held (scope_after s d) k (n + length (directive_tokens d)) rest
 document_held {form} s k n (with_body b rest) = body_held form s k n b + document_held s k (n + length (body_tokens form b)) rest
 
 -- what is owed behind some tokens: what has to be held in a document that begins with them

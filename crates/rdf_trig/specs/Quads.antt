@@ -11,7 +11,7 @@ use Rattle.rdf_lines.specs.Lines.{Leaf}
 use Rattle.rdf_trig.specs.declared.form.DocForm.{DocForm}
 use Rattle.rdf_trig.specs.declared.form.DocForm.TheVariants.{Turtle, TriG}
 use Rattle.rdf_trig.specs.Trees.{pname_ln, pname_ns, Iri, iri_ref, prefixed, BlankNode, label, anon, Verb, predicate, type_word, String, short, long, Tag, lang_tag, base_tag, prefix_tag, plain, tagged, typed, integer, decimal, double, true_word, false_word, Literal, rdf, numeric, boolean, Object, iri_object, blank_object, collection_object, list_object, literal_object, Collection, collection, Items, no_items, item, BlankNodePropertyList, property_list, PredicateObjectList, predicate_objects, More, no_more, semicolon, semicolon_objects, ObjectList, objects, Commas, no_commas, comma, Subject, iri_subject, blank_subject, collection_subject, Triples, subject_triples, list_triples, LabelOrSubject, iri_label, blank_label, TriplesBlock, last, last_dot, dot, WrappedGraph, wrapped, named_graph, label_triples, list_triples2, collection_triples2, Block, triples_or_graph, default_graph, triples2, graph_word, Body, Document, end, with_directive, with_body, literal_tokens, object_tokens, objects_tokens, list_tokens, subject_tokens, label_tokens, triples_tokens, directive_tokens, body_tokens, collection_tokens}
-use Rattle.rdf_trig.specs.Names.{iri_in, behind}
+use Rattle.rdf_trig.specs.Names.{iri_in, scope_after}
 
 -- What a name that stands for nothing is part of, is nothing: a term, a graph label, a quad.
 
@@ -267,5 +267,5 @@ body_quads TriG s n b = trig_quads s n b
 -- the scope at each place is that behind the directives before it
 abbrev pub document_quads : {form : DocForm} → InForce → ℕ → Document form → List Marked
 document_quads s n (end l) = []
-document_quads s n (with_directive d rest) = document_quads (behind s d) (n + length (directive_tokens d)) rest
+document_quads s n (with_directive d rest) = document_quads (scope_after s d) (n + length (directive_tokens d)) rest
 document_quads {form} s n (with_body b rest) = body_quads form s n b ++ document_quads s (n + length (body_tokens form b)) rest

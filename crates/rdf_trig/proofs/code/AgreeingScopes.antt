@@ -25,7 +25,7 @@ use Rattle.rdf_trig.specs.Events.{Use, stands, binds}
 use Rattle.rdf_trig.specs.Machine as M
 use Rattle.rdf_trig.specs.Machine.{by_use}
 use Rattle.rdf_trig.specs.States.{name_at, use_at, mode_at, outer_of}
-use Rattle.rdf_trig.specs.Scopes.{Passes, Stops, Names, Unnamed, Based, Binding, NotBinding, SameScope, LooksUp, LooksUpNone}
+use Rattle.rdf_trig.specs.Scopes.{IsAdmitted, IsDenied, Names, Unnamed, Based, Binding, NotBinding, SameScope, LooksUp, LooksUpNone}
 
 reference_same : (s t : InForce) (l : Leaf) → SameScope s t → reference_in s l ≡ reference_in t l
 unfolding reference_in
@@ -54,11 +54,11 @@ use_at-same s t PnameNs l e = ap stands (name_same s t l e)
 use_at-same s t PnameLn l e = ap stands (name_same s t l e)
 use_at-same s t k l e = refl
 
-passes_at : (a b : Sizes) (k : Kind) (u v : Use) → a ≡ b → u ≡ v → Passes b k v → Passes a k u
-passes_at a b k u v e f p = subst (λ x. Passes x k u) (sym e) (subst (Passes b k) (sym f) p)
+passes_at : (a b : Sizes) (k : Kind) (u v : Use) → a ≡ b → u ≡ v → IsAdmitted b k v → IsAdmitted a k u
+passes_at a b k u v e f p = subst (λ x. IsAdmitted x k u) (sym e) (subst (IsAdmitted b k) (sym f) p)
 
-stops_at : (a b : Sizes) (k : Kind) (u v : Use) (r : StepFault) → a ≡ b → u ≡ v → Stops b k v r → Stops a k u r
-stops_at a b k u v r e f p = subst (λ x. Stops x k u r) (sym e) (subst (λ x. Stops b k x r) (sym f) p)
+stops_at : (a b : Sizes) (k : Kind) (u v : Use) (r : StepFault) → a ≡ b → u ≡ v → IsDenied b k v r → IsDenied a k u r
+stops_at a b k u v r e f p = subst (λ x. IsDenied x k u r) (sym e) (subst (λ x. IsDenied b k x r) (sym f) p)
 
 -- outside of directives
 abbrev Ordinary : M.Mode → Type 0
@@ -67,14 +67,14 @@ Ordinary (M.WantPrefixIri w p) = ⊥
 Ordinary (M.WantBaseIri w) = ⊥
 Ordinary m = Unit {0}
 
-looks_same : (s t : InForce) (k : Kind) (l : Leaf) (i : Option (List ℕ)) → SameScope s t → Names t k l i → (name_at s k l ≡ i) × Passes s.limits k (use_at s k l)
-looks_same s t k l i e n = (name_at-same s t k l e ∙ n.name, passes_at s.limits t.limits k (use_at s k l) (use_at t k l) e.limits (use_at-same s t k l e) n.passes)
+looks_same : (s t : InForce) (k : Kind) (l : Leaf) (i : Option (List ℕ)) → SameScope s t → Names t k l i → (name_at s k l ≡ i) × IsAdmitted s.limits k (use_at s k l)
+looks_same s t k l i e n = (name_at-same s t k l e ∙ n.name, passes_at s.limits t.limits k (use_at s k l) (use_at t k l) e.limits (use_at-same s t k l e) n.admitted)
 
 looks_ordinary : (s t : InForce) (m : M.Mode) (k : Kind) (l : Leaf) (i : Option (List ℕ)) → Ordinary m → SameScope s t → Names t k l i → LooksUp s m k l i t
 looks_ordinary s t (M.WantPrefix w) k l i o e n = absurd o
 looks_ordinary s t (M.WantPrefixIri w p) k l i o e n = absurd o
 looks_ordinary s t (M.WantBaseIri w) k l i o e n = absurd o
-looks_ordinary s t m k l i o e n = let h = looks_same s t k l i e n in record { passes = h.1; name = h.0; named = n.named; scope = e }
+looks_ordinary s t m k l i o e n = let h = looks_same s t k l i e n in record { admitted = h.1; name = h.0; named = n.named; scope = e }
 
 none_ordinary : (s t : InForce) (m : M.Mode) (k : Kind) (l : Leaf) (r : StepFault) → Ordinary m → SameScope s t → Unnamed t k l r → LooksUpNone s m k l r
 none_ordinary s t (M.WantPrefix w) k l r o e n = absurd o
@@ -121,15 +121,15 @@ outer_none o t k l (Err r) a b c h = λ s e. none_ordinary s t (outer_of o) k l 
 
 -- in directives
 pub prefix_looks : (s t : InForce) (w : M.Spelling) (k : Kind) (l : Leaf) (i : Option (List ℕ)) → SameScope s t → LooksUp s (M.WantPrefix w) k l i t
-prefix_looks s t w k l i e = record { passes = λ a. refl; name = tt; named = tt; scope = e }
+prefix_looks s t w k l i e = record { admitted = λ a. refl; name = tt; named = tt; scope = e }
 
 pub other_binding : (s t : InForce) (w : M.Spelling) (p : List ℕ) (k : Kind) (l : Leaf) (i : Option (List ℕ)) → (k ≡ IriRef → ⊥) → SameScope s t → LooksUp s (M.WantPrefixIri w p) k l i t
 other_binding s t w p IriRef l i n e = absurd (n refl)
-other_binding s t w p k l i n e = record { passes = λ a. refl; name = tt; named = tt; scope = e }
+other_binding s t w p k l i n e = record { admitted = λ a. refl; name = tt; named = tt; scope = e }
 
 pub other_base : (s t : InForce) (w : M.Spelling) (k : Kind) (l : Leaf) (i : Option (List ℕ)) → (k ≡ IriRef → ⊥) → SameScope s t → LooksUp s (M.WantBaseIri w) k l i t
 other_base s t w IriRef l i n e = absurd (n refl)
-other_base s t w k l i n e = record { passes = λ a. refl; name = tt; named = tt; scope = e }
+other_base s t w k l i n e = record { admitted = λ a. refl; name = tt; named = tt; scope = e }
 
 based_same : (s t : InForce) (o : Option (List ℕ)) → SameScope s t → SameScope (with_base s o) (with_base t o)
 based_same s t None e = e
@@ -139,7 +139,7 @@ pub base_looks : (s t n : InForce) (w : M.Spelling) (l : Leaf) (i : Option (List
 base_looks s t n w l i e b =
     let r = reference_same s t l e in
     record {
-      passes = passes_at s.limits t.limits IriRef _ _ e.limits (ap stands r) b.passes;
+      admitted = passes_at s.limits t.limits IriRef _ _ e.limits (ap stands r) b.admitted;
       name = tt;
       named = tt;
       scope = subst (λ x. SameScope (with_base s x) n) (sym r) (subst (SameScope (with_base s (reference_in t l))) (sym b.scope) (based_same s t (reference_in t l) e));
@@ -208,7 +208,7 @@ binds-same s t p l e = ap (λ x. binds x (reference_in s l)) (full_same s t p e)
 
 pub binding_looks : (s t n : InForce) (w : M.Spelling) (p : List ℕ) (l : Leaf) (i : Option (List ℕ)) → SameScope s t → Binding t p l n → LooksUp s (M.WantPrefixIri w p) IriRef l i n
 binding_looks s t n w p l i e b = record {
-  passes = passes_at s.limits t.limits IriRef _ _ e.limits (binds-same s t p l e) b.passes;
+  admitted = passes_at s.limits t.limits IriRef _ _ e.limits (binds-same s t p l e) b.admitted;
   name = tt;
   named = tt;
   scope = subst (λ x. SameScope (with_binding s p x) n) (sym (reference_same s t l e ∙ b.reference)) (bound_same s t n p b.iri e b.binds);

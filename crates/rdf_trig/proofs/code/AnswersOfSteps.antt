@@ -31,7 +31,7 @@ use Rattle.rdf_trig.specs.Refusals as refusal
 use Rattle.rdf_trig.specs.Machine as M
 use Rattle.rdf_trig.specs.Machine.{Reply, No, Go, kept, by_use, refuses, accepts}
 use Rattle.rdf_trig.specs.States.{mode_of, use_in, scope_in, is_go, DepthMoves, ShortPrefix, PrefixFits}
-use Rattle.rdf_trig.specs.Scopes.{Passes, SameScope, LooksUp, LooksUpNone}
+use Rattle.rdf_trig.specs.Scopes.{IsAdmitted, SameScope, LooksUp, LooksUpNone}
 use Rattle.rdf_trig.specs.Steps.{Begins, GaveUp, state_of, moved, May, Stays, DepthMay, Keeps, Accepts, answered, Fails}
 use Rattle.rdf_trig.proofs.code.StepBounds.{step_use, step_depth, step_prefix}
 use Rattle.rdf_trig.proofs.code.PutsInRow.{begins_all}
@@ -78,7 +78,7 @@ answer_is form n k l u early now c m may e =
     ∙ cond-false (M.deepens k && nat_le n.setting.scope.limits.depth (M.depth n.mode)) (refuses refusal.too_deep) (by_use n.setting.scope.limits k u (accepts (quads_out n k l) (behind early now c m))) may.1
 
 -- and what it stands for passes
-passed : (form : DocForm) (n : M.State) (k : Kind) (l : Leaf) → May form n k l → Passes n.setting.scope.limits k (use_in n.setting.scope n.mode k l) →
+passed : (form : DocForm) (n : M.State) (k : Kind) (l : Leaf) → May form n k l → IsAdmitted n.setting.scope.limits k (use_in n.setting.scope n.mode k l) →
     (o : M.State) × (M.accept form n k l ≡ accepts (quads_out n k l) o)
 passed form n k l may p =
     let r = goes (M.step form n.setting n.mode k l) may.0 in
@@ -105,7 +105,7 @@ fails_stops takes leaves failed form n k l fault.Memory sink live may s = (([], 
 fails_stops takes leaves failed form n k l r sink live may s = absurd s
 
 pub fails_gave : {S : Type 0} (takes leaves : S → Quad → S → Type 0) (failed : S → Bool) (form : DocForm) (n : M.State) (k : Kind) (l : Leaf) (r : StepFault) (sink new : S) →
-    May form n k l → Passes n.setting.scope.limits k (use_in n.setting.scope n.mode k l) → GaveUp takes leaves failed r (quads_out n k l) sink new →
+    May form n k l → IsAdmitted n.setting.scope.limits k (use_in n.setting.scope n.mode k l) → GaveUp takes leaves failed r (quads_out n k l) sink new →
     Fails takes leaves failed r (M.accept form n k l) sink new
 fails_gave takes leaves failed form n k l fault.Memory sink new may p h =
     let a = passed form n k l may p in (subst (λ x. Begins takes leaves (answered x) sink new) (sym a.1) h.0, h.1)
@@ -114,7 +114,7 @@ fails_gave takes leaves failed form n k l fault.Sink sink new may p h =
 fails_gave takes leaves failed form n k l r sink new may p h = absurd h
 
 pub fails_stays : {S : Type 0} (takes leaves : S → Quad → S → Type 0) (failed : S → Bool) (form : DocForm) (n : M.State) (k : Kind) (l : Leaf) (r : StepFault) (sink new : S) →
-    May form n k l → Passes n.setting.scope.limits k (use_in n.setting.scope n.mode k l) → Appends takes sink (quads_out n k l) new →
+    May form n k l → IsAdmitted n.setting.scope.limits k (use_in n.setting.scope n.mode k l) → Appends takes sink (quads_out n k l) new →
     Stays r (M.step form n.setting n.mode k l) → failed new ≡ false → Fails takes leaves failed r (M.accept form n k l) sink new
 fails_stays takes leaves failed form n k l fault.Unexpected sink new may p h s live = absurd (false≢true (sym (ap is_go s) ∙ may.0))
 fails_stays takes leaves failed form n k l fault.Memory sink new may p h s live =
@@ -130,7 +130,7 @@ accepts_moved takes form s t old r k l i sink new may looks e h =
     let n = state_of form s old in
     let o = state_of form (scope_in s n.mode k l) r in
     let is : M.accept form n k l ≡ accepts (quads_out n k l) o =
-    answer_is form n k l (use_in s n.mode k l) _ _ o.setting o.mode may e ∙ looks.passes (accepts (quads_out n k l) o)
+    answer_is form n k l (use_in s n.mode k l) _ _ o.setting o.mode may e ∙ looks.admitted (accepts (quads_out n k l) o)
     in
     subst (λ a. Accepts takes form a sink r t new) (sym is) (h, (scope_in s n.mode k l, looks.scope, refl))
 

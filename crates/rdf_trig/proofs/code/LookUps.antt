@@ -19,10 +19,10 @@ use Rattle.rdf_trig.specs.Events.{stands, binds}
 use Rattle.rdf_trig.specs.Refusals as refusal
 use Rattle.rdf_trig.specs.Machine as M
 use Rattle.rdf_trig.specs.Machine.{by_use, refuses, too_long}
-use Rattle.rdf_trig.specs.Scopes.{IsReference, IsPrefixed, step_fault, Passes, Stops, Names, Unnamed, Based, Binding, NotBinding}
+use Rattle.rdf_trig.specs.Scopes.{IsReference, IsPrefixed, step_fault, IsAdmitted, IsDenied, Names, Unnamed, Based, Binding, NotBinding}
 
 -- the checks of what a token stands for
-stands_passes : (sizes : Sizes) (k : Kind) (o : Option (List ℕ)) (i : List ℕ) → o ≡ Some i → byte_len i ≤ sizes.iri → Passes sizes k (stands o)
+stands_passes : (sizes : Sizes) (k : Kind) (o : Option (List ℕ)) (i : List ℕ) → o ≡ Some i → byte_len i ≤ sizes.iri → IsAdmitted sizes k (stands o)
 stands_passes sizes k o i e h a = subst (λ x. by_use sizes k (stands x) a ≡ a) (sym e) (cond-false (too_long sizes i) _ _ (le-ltb sizes.iri (byte_len i) h))
 
 stands_long : (sizes : Sizes) (k : Kind) (o : Option (List ℕ)) (i : List ℕ) → o ≡ Some i → sizes.iri < byte_len i → (a : M.Answer) → by_use sizes k (stands o) a ≡ refuses refusal.iri_too_long
@@ -40,9 +40,9 @@ reference_none s l h = cond-false (has_scheme (iri_of l)) _ _ h.0 ∙ ap (λ b. 
 pub reference_names : (s : InForce) (l : Leaf) (w i : List ℕ) → w ≡ iri_of l → ResolvesHere s w i → Names s IriRef l (Some i)
 reference_names s l w i e r =
     let is = reference_is s l i (subst (λ x. Resolves s.base x i) e r.0) in
-    record { name = is; named = tt; passes = stands_passes s.limits IriRef (reference_in s l) i is r.1 }
+    record { name = is; named = tt; admitted = stands_passes s.limits IriRef (reference_in s l) i is r.1 }
 
-pub reference_stops : (s : InForce) (l : Leaf) (w : List ℕ) (f : IriFault) → w ≡ iri_of l → UnresolvedHere s w f → Stops s.limits IriRef (stands (reference_in s l)) (step_fault f)
+pub reference_stops : (s : InForce) (l : Leaf) (w : List ℕ) (f : IriFault) → w ≡ iri_of l → UnresolvedHere s w f → IsDenied s.limits IriRef (stands (reference_in s l)) (step_fault f)
 reference_stops s l w iri.NoBase e h =
     λ a. let none = reference_none s l (subst (λ x. (has_scheme x ≡ false) × (s.base ≡ None)) e h) in ap (λ x. by_use s.limits IriRef (stands x) a) none
 reference_stops s l w iri.IriTooLong e h =
@@ -63,13 +63,13 @@ name_none s l p e b = ap (option_map (λ x. x ++ local_of l)) (ap (bound_to s.bi
 
 pub name_names : (s : InForce) (k : Kind) (l : Leaf) (p v i : List ℕ) → IsPrefixed k → p ≡ prefix_of l → v ≡ local_of l → ExpandsHere s p v i → Names s k l (Some i)
 name_names s PnameNs l p v i k e f r =
-    let is = name_is s l p v i r.0.0 e f r.0.1 r.0.2 in record { name = is; named = tt; passes = stands_passes s.limits PnameNs (name_in s l) i is r.1 }
+    let is = name_is s l p v i r.0.0 e f r.0.1 r.0.2 in record { name = is; named = tt; admitted = stands_passes s.limits PnameNs (name_in s l) i is r.1 }
 name_names s PnameLn l p v i k e f r =
-    let is = name_is s l p v i r.0.0 e f r.0.1 r.0.2 in record { name = is; named = tt; passes = stands_passes s.limits PnameLn (name_in s l) i is r.1 }
+    let is = name_is s l p v i r.0.0 e f r.0.1 r.0.2 in record { name = is; named = tt; admitted = stands_passes s.limits PnameLn (name_in s l) i is r.1 }
 name_names s k l p v i h e f r = absurd h
 
 name_stops_at : (s : InForce) (k : Kind) (l : Leaf) (p v : List ℕ) (f : IriFault) → M.unnamed k ≡ refusal.unbound → p ≡ prefix_of l → v ≡ local_of l → NotExpanded s p v f →
-    Stops s.limits k (stands (name_in s l)) (step_fault f)
+    IsDenied s.limits k (stands (name_in s l)) (step_fault f)
 name_stops_at s k l p v iri.Unbound u e f h = λ a. ap (λ x. by_use s.limits k (stands x) a) (name_none s l p e h) ∙ ap refuses u
 name_stops_at s k l p v iri.IriTooLong u e f h = λ a. stands_long s.limits k (name_in s l) h.0 (name_is s l p v h.0 h.1.0 e f h.1.1 h.1.2) h.2 a
 name_stops_at s k l p v iri.Memory u e f h = tt
@@ -86,7 +86,7 @@ name_stops s k l p v f n e g h = absurd n
 pub base_is : (s t : InForce) (l : Leaf) (w : List ℕ) → w ≡ iri_of l → IsBased s w t → Based s l t
 base_is s t l w e h =
     let n = reference_names s l w h.0 e h.1 in
-    record { passes = n.passes; scope = h.2 ∙ sym (ap (with_base s) n.name) }
+    record { admitted = n.admitted; scope = h.2 ∙ sym (ap (with_base s) n.name) }
 
 -- bindings
 room_full : (s : InForce) (p : List ℕ) → HasRoom s p → is_full s p ≡ false
@@ -107,7 +107,7 @@ binding_is s t p l w e h =
     record {
       iri = h.0;
       reference = n.name;
-      passes = λ a. ap (λ x. by_use s.limits IriRef (binds x (reference_in s l)) a) (room_full s p h.2)
+      admitted = λ a. ap (λ x. by_use s.limits IriRef (binds x (reference_in s l)) a) (room_full s p h.2)
           ∙ (ap (λ x. by_use s.limits IriRef (binds false x) a) n.name ∙ cond-false (too_long s.limits h.0) _ _ (le-ltb s.limits.iri (byte_len h.0) h.1.1));
       binds = h.3;
     }
@@ -138,7 +138,7 @@ reference_at s IriRef l w i h e r = reference_names s l w i e r
 reference_at s k l w i h e r = absurd h
 
 pub reference_not : (s : InForce) (k : Kind) (l : Leaf) (w : List ℕ) (f : IriFault) (r : StepFault) → IsReference k → w ≡ iri_of l → r ≡ step_fault f → UnresolvedHere s w f → Unnamed s k l r
-reference_not s IriRef l w f r h e g u = subst (Stops s.limits IriRef (stands (reference_in s l))) (sym g) (reference_stops s l w f e u)
+reference_not s IriRef l w f r h e g u = subst (IsDenied s.limits IriRef (stands (reference_in s l))) (sym g) (reference_stops s l w f e u)
 reference_not s k l w f r h e g u = absurd h
 
 pub name_not : (s : InForce) (k : Kind) (l : Leaf) (p v : List ℕ) (f : IriFault) (r : StepFault) → IsPrefixed k → p ≡ prefix_of l → v ≡ local_of l → r ≡ step_fault f → NotExpanded s p v f → Unnamed s k l r

@@ -19,12 +19,12 @@ use Rattle.rdf_lines.specs.Lines.{token}
 use Rattle.rdf_trig.specs.declared.form.DocForm.TheVariants.{TriG}
 use Rattle.rdf_trig.specs.Names.{reference_in, name_in, with_binding, is_full}
 use Rattle.rdf_trig.specs.Quads.{in_default}
-use Rattle.rdf_trig.specs.Events.{Use, stands, document_events, marked}
+use Rattle.rdf_trig.specs.Events.{Use, stands, document_events, event_quads}
 use Rattle.rdf_trig.specs.Quads.{document_quads}
 use Rattle.rdf_trig.specs.Documents.{documents, trees, InTree}
 use Rattle.rdf_trig.specs.Refusals.{unexpected, too_deep, unbound, no_base, iri_too_long, too_many_bindings}
 use Rattle.rdf_trig.specs.Machine.{Top, Listed, WantPrefixIri, Sparql, Statement, Boxed, At, Start, Over, Want, After, AfterBox, State, at_start, ran, accept_all}
-use Rattle.rdf_trig.specs.Laws.{Rises, CompletedBy, Stops, Reads, ViableWhereBound, ShapedAndBound, NamelessWhere}
+use Rattle.rdf_trig.specs.Laws.{Rises, CompletedBy, IsRefusedAfter, Reads, ViableWhereBound, ShapedAndBound, NamelessWhere}
 use Rattle.rdf_trig.proofs.examples.Documents.{leaf, quad, start, nested_tokens, nested_tree, nested_quads, nested_is, booleans_tokens, booleans_tree, booleans_quads, booleans_is, inner_collection_quads, inner_collection_tree, one_label_tokens, one_label_quads, one_label_is}
 use Rattle.rdf_trig.proofs.theorems.StatedLaws.{due_front, stops, begins, tree_told, never_fall}
 use Rattle.rdf_trig.proofs.machine.ExactDocuments.{same_quads, same_due, accepted_document, document_accepted}
@@ -49,7 +49,7 @@ unfolding reference_in name_in resolved is_full has encode
 box_ran = refl
 
 -- A property list is no label of a graph: the brace behind it is in no tree.
-pub box_is_no_label : Stops TriG start box_tokens brace [] unexpected
+pub box_is_no_label : IsRefusedAfter TriG start box_tokens brace [] unexpected
 box_is_no_label = stops TriG start box_tokens brace [] box_state _ unexpected box_ran refl
 
 -- A prefix that is not bound: `S P S ; <http://a/q> e:x`.
@@ -68,7 +68,7 @@ unbound_ran : accept_all TriG (at_start start) unbound_tokens ≡ ran unbound_st
 unfolding reference_in name_in resolved is_full has encode
 unbound_ran = refl
 
-pub unbound_refused : Stops TriG start unbound_tokens unbound_token [] unbound
+pub unbound_refused : IsRefusedAfter TriG start unbound_tokens unbound_token [] unbound
 unfolding reference_in name_in resolved is_full has encode
 unbound_refused = stops TriG start unbound_tokens unbound_token [] unbound_state (quad (term.Iri (codes "http://a/s")) (codes "http://a/p") (Resource (term.Iri (codes "http://a/s"))) None ∷ []) unbound unbound_ran refl
 
@@ -86,7 +86,7 @@ baseless_ran : accept_all TriG (at_start start) baseless_tokens ≡ ran baseless
 unfolding reference_in name_in resolved is_full has encode
 baseless_ran = refl
 
-pub baseless_refused : Stops TriG start baseless_tokens baseless_token [] no_base
+pub baseless_refused : IsRefusedAfter TriG start baseless_tokens baseless_token [] no_base
 unfolding reference_in name_in resolved is_full has encode
 baseless_refused = stops TriG start baseless_tokens baseless_token [] baseless_state [] no_base baseless_ran refl
 
@@ -113,7 +113,7 @@ deep_ran : accept_all TriG (at_start tight) deep_tokens ≡ ran deep_state (quad
 unfolding reference_in name_in resolved is_full has encode
 deep_ran = refl
 
-pub deep_refused : Stops TriG tight deep_tokens deep_token [] too_deep
+pub deep_refused : IsRefusedAfter TriG tight deep_tokens deep_token [] too_deep
 unfolding reference_in name_in resolved is_full has encode
 deep_refused = stops TriG tight deep_tokens deep_token [] deep_state (quad (term.Iri (codes "a:s")) (codes "a:p") (Resource (Blank (Anon 12))) None ∷ []) too_deep deep_ran refl
 
@@ -131,7 +131,7 @@ long_ran : accept_all TriG (at_start tight) long_tokens ≡ ran long_state []
 unfolding reference_in name_in resolved is_full has encode
 long_ran = refl
 
-pub long_refused : Stops TriG tight long_tokens long_token [] iri_too_long
+pub long_refused : IsRefusedAfter TriG tight long_tokens long_token [] iri_too_long
 unfolding reference_in name_in resolved is_full has encode
 long_refused = stops TriG tight long_tokens long_token [] long_state [] iri_too_long long_ran refl
 
@@ -152,7 +152,7 @@ many_ran : accept_all TriG (at_start tight) many_tokens ≡ ran many_state []
 unfolding reference_in name_in resolved is_full has encode
 many_ran = refl
 
-pub many_refused : Stops TriG tight many_tokens many_token [] too_many_bindings
+pub many_refused : IsRefusedAfter TriG tight many_tokens many_token [] too_many_bindings
 unfolding reference_in name_in resolved is_full has encode
 many_refused = stops TriG tight many_tokens many_token [] many_state [] too_many_bindings many_ran refl
 
@@ -171,7 +171,7 @@ ended_ran : accept_all TriG (at_start start) ended_tokens ≡ ran ended_state []
 unfolding reference_in name_in resolved is_full has encode
 ended_ran = refl
 
-pub ended_refused : Stops TriG start ended_tokens ended_token [] unexpected
+pub ended_refused : IsRefusedAfter TriG start ended_tokens ended_token [] unexpected
 unfolding reference_in name_in resolved is_full has encode
 ended_refused = stops TriG start ended_tokens ended_token [] ended_state [] unexpected ended_ran refl
 
@@ -184,7 +184,7 @@ unfolding reference_in name_in resolved is_full has
 inner_are = refl
 
 -- The events of the vector of two booleans have its quads.
-pub booleans_told : marked 0 (document_events start booleans_tree) ≡ booleans_quads
+pub booleans_told : event_quads 0 (document_events start booleans_tree) ≡ booleans_quads
 booleans_told = (tree_told TriG start booleans_tree).1 ∙ booleans_are
 
 pub marks_rise : Rises 0 inner_collection_quads

@@ -29,7 +29,7 @@ use Rattle.rdf_trig.specs.Refusals.{unexpected}
 use Rattle.rdf_trig.specs.Machine.{Top, Statement, Start, Over, WantVerb, State, at_start, ran, accept_all}
 use Rattle.rdf_trig.specs.Language.{language}
 use Rattle.rdf_trig.specs.Accepting.{TrigRead, tree_words}
-use Rattle.rdf_trig.specs.Laws.{Stops}
+use Rattle.rdf_trig.specs.Laws.{IsRefusedAfter}
 use Rattle.rdf_trig.proofs.examples.Documents.{leaf, quad}
 use Rattle.rdf_trig.proofs.theorems.StatedLaws.{begins, stops}
 use Rattle.rdf_trig.proofs.machine.ExactDocuments.{accepted_document, same_due, due_ran}
@@ -133,7 +133,7 @@ subject_ran : accept_all Turtle (at_start small) (subject_token ∷ []) ≡ ran 
 unfolding reference_in name_in resolved is_full has encode
 subject_ran = refl
 
-dot_stops : Stops Turtle small (subject_token ∷ []) dot behind_dot unexpected
+dot_stops : IsRefusedAfter Turtle small (subject_token ∷ []) dot behind_dot unexpected
 dot_stops = stops Turtle small (subject_token ∷ []) dot behind_dot behind_subject [] unexpected subject_ran refl
 
 dot_is_refused : Refused in_turtle subject true Unexpected (record { offset = 4; line = 1 })

@@ -27,14 +27,14 @@ has_iri (stands (Some i)) = true
 has_iri (binds full None) = false
 has_iri (binds full (Some i)) = true
 
-abbrev pub passes : Bool → Use → Bool
-passes true u = has_iri u
-passes false u = true
+abbrev pub admits : Bool → Use → Bool
+admits true u = has_iri u
+admits false u = true
 
-abbrev pub Passing : Bool → List Event → Type 0
-Passing strict [] = Unit {0}
-Passing strict (Took t u ∷ es) = (passes strict u ≡ true) × Passing strict es
-Passing strict (Gave q ∷ es) = Passing strict es
+abbrev pub AllAdmitted : Bool → List Event → Type 0
+AllAdmitted strict [] = Unit {0}
+AllAdmitted strict (Took t u ∷ es) = (admits strict u ≡ true) × AllAdmitted strict es
+AllAdmitted strict (Gave q ∷ es) = AllAdmitted strict es
 
 abbrev leaf : List ℕ → Leaf
 leaf w = record { text = w; at = first_place }
@@ -126,15 +126,15 @@ any_iri_stands : (s : InForce) → reference_in s any_iri ≡ Some (codes "a:")
 unfolding reference_in resolved has
 any_iri_stands s = refl
 
-pub any_iri_passes : (strict : Bool) (s : InForce) → passes strict (stands (reference_in s any_iri)) ≡ true
+pub any_iri_passes : (strict : Bool) (s : InForce) → admits strict (stands (reference_in s any_iri)) ≡ true
 any_iri_passes true s = ap (λ i. has_iri (stands i)) (any_iri_stands s)
 any_iri_passes false s = refl
 
-binding_passes : (strict full : Bool) (s : InForce) → passes strict (binds full (reference_in s any_iri)) ≡ true
+binding_passes : (strict full : Bool) (s : InForce) → admits strict (binds full (reference_in s any_iri)) ≡ true
 binding_passes true full s = ap (λ i. has_iri (binds full i)) (any_iri_stands s)
 binding_passes false full s = refl
 
-pub itself_passes : (strict : Bool) → passes strict itself ≡ true
+pub itself_passes : (strict : Bool) → admits strict itself ≡ true
 itself_passes true = refl
 itself_passes false = refl
 
@@ -143,18 +143,18 @@ module _ (strict : Bool) (form : DocForm) where
   pub record Accepts (c : Setting) (m : Mode) (ts : List Token) : Type 0 where
     pub events : List Event
     pub runs : run form c m ts ≡ Some events
-    pub bound : Passing strict events
+    pub bound : AllAdmitted strict events
 
-  pub passing_give : (q : Option Quad) (es : List Event) → Passing strict es → Passing strict (give q es)
+  pub passing_give : (q : Option Quad) (es : List Event) → AllAdmitted strict es → AllAdmitted strict (give q es)
   passing_give None es b = b
   passing_give (Some q) es b = b
 
-  pub passing_back : (q : Option Quad) (es : List Event) → Passing strict (give q es) → Passing strict es
+  pub passing_back : (q : Option Quad) (es : List Event) → AllAdmitted strict (give q es) → AllAdmitted strict es
   passing_back None es b = b
   passing_back (Some q) es b = b
 
   takes : (k : Kind) (l : Leaf) (u : Use) (early now : Option Quad) {c : Setting} {m : Mode} {c' : Setting} {m' : Mode} {ts : List Token} →
-      passes strict u ≡ true → step form c m k l ≡ Go u early now c' m' → Accepts c' m' ts →
+      admits strict u ≡ true → step form c m k l ≡ Go u early now c' m' → Accepts c' m' ts →
       Accepts c m (token k l ∷ ts)
   takes k l u early now {c} {m} {c'} {m'} {ts} p s a = record {
     events = give (waiting c m k l) (Took (token k l) u ∷ give early (give now a.events));

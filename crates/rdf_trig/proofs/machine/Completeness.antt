@@ -11,7 +11,7 @@ use Rattle.rdf_trig.specs.declared.form.DocForm.{DocForm}
 use Rattle.rdf_trig.specs.declared.form.DocForm.TheVariants.{Turtle, TriG}
 use Rattle.rdf_trig.specs.Trees.{PrefixedName, pname_ln, pname_ns, Iri, iri_ref, prefixed, BlankNode, label, anon, Verb, predicate, type_word, String, short, long, Tag, lang_tag, base_tag, prefix_tag, RDFLiteral, plain, tagged, typed, NumericLiteral, integer, decimal, double, BooleanLiteral, true_word, false_word, Literal, rdf, numeric, boolean, Object, iri_object, blank_object, collection_object, list_object, literal_object, Collection, collection, Items, no_items, item, BlankNodePropertyList, property_list, PredicateObjectList, predicate_objects, More, no_more, semicolon, semicolon_objects, ObjectList, objects, Commas, no_commas, comma, iri_subject, blank_subject, collection_subject, Triples, subject_triples, list_triples, Directive, prefix_id, base, sparql_prefix, sparql_base, LabelOrSubject, iri_label, blank_label, TriplesBlock, last, last_dot, dot, WrappedGraph, wrapped, TriplesOrGraph, named_graph, label_triples, Triples2, list_triples2, collection_triples2, Block, triples_or_graph, default_graph, triples2, Body, Document, end, with_directive, with_body}
 use Rattle.rdf_trig.specs.Trees as tree
-use Rattle.rdf_trig.specs.Names.{reference_in, name_in, iri_in, behind}
+use Rattle.rdf_trig.specs.Names.{reference_in, name_in, iri_in, scope_after}
 use Rattle.rdf_trig.specs.Quads.{Setting, in_default, in_graph, named, node, resource, anon_at, blank_of, verb_of, lexical, language, plain_literal, tagged_literal, typed_literal, literal_of, iri_leaf, string_leaf, literal_leaf, object_leaf, cell_at, items_of, collection_of, list_of, label_of, rest_quad}
 use Rattle.rdf_trig.specs.Events.{Use, itself, stands, Event, Took, take, give, iri_events, verb_events, string_events, tag_events, blank_object_events, literal_events, object_quad, object_events, collection_events, items_events, rest_events, list_events, predicates_events, more_events, objects_events, commas_events, maybe_events, triples_events, label_events, block_events, maybe_block_events, wrapped_events, body_events, document_events, tokens}
 use Rattle.rdf_trig.specs.Machine.{Level, Top, InBlock, Place, Listed, InCells, Around, Statement, Boxed, Up, Subject, At, Mode, Start, AfterLabel, GraphWord, WantBrace, Inside, Want, After, AfterText, WantType, Box, Paren, WantVerb, Semi, AfterBox, Reply, No, Go, goes, cell, subject_at, verb_at, quad_at, quad_up, nil, object_start, verb_start, after_subject, list_closed, after, subject_start, step, waiting, fronted, put, go_on, run}
@@ -411,11 +411,11 @@ body_good TriG (tree.graph_word l x w) c rest g =
 pub document_good : {form : DocForm} (d : Document form) (c : Setting) → Good form c Start (document_events c.scope d)
 document_good {form} (end l) c = alone form End l refl refl record { runs = refl }
 document_good {form} (with_directive (prefix_id w p i d) rest) c =
-    alone form AtPrefix w refl refl (alone form PnameNs p refl refl (one form IriRef i None _ None None refl refl (alone form Dot d refl refl (document_good rest (in_default (behind c.scope (prefix_id w p i d)))))))
+    alone form AtPrefix w refl refl (alone form PnameNs p refl refl (one form IriRef i None _ None None refl refl (alone form Dot d refl refl (document_good rest (in_default (scope_after c.scope (prefix_id w p i d)))))))
 document_good {form} (with_directive (base w i d) rest) c =
-    alone form AtBase w refl refl (one form IriRef i None _ None None refl refl (alone form Dot d refl refl (document_good rest (in_default (behind c.scope (base w i d))))))
+    alone form AtBase w refl refl (one form IriRef i None _ None None refl refl (alone form Dot d refl refl (document_good rest (in_default (scope_after c.scope (base w i d))))))
 document_good {form} (with_directive (sparql_prefix w p i) rest) c =
-    alone form Prefix w refl refl (alone form PnameNs p refl refl (one form IriRef i None _ None None refl refl (document_good rest (in_default (behind c.scope (sparql_prefix w p i))))))
+    alone form Prefix w refl refl (alone form PnameNs p refl refl (one form IriRef i None _ None None refl refl (document_good rest (in_default (scope_after c.scope (sparql_prefix w p i))))))
 document_good {form} (with_directive (sparql_base w i) rest) c =
-    alone form Base w refl refl (one form IriRef i None _ None None refl refl (document_good rest (in_default (behind c.scope (sparql_base w i)))))
+    alone form Base w refl refl (one form IriRef i None _ None None refl refl (document_good rest (in_default (scope_after c.scope (sparql_base w i)))))
 document_good {form} (with_body b rest) c = body_good form b c (document_events c.scope rest) (document_good rest (in_default c.scope))

@@ -15,7 +15,7 @@ use Rattle.rdf_trig.specs.Events.{Use, itself, stands, binds}
 use Rattle.rdf_trig.specs.Machine.{Level, Top, InBlock, Place, Listed, InCells, Around, Statement, Boxed, Up, Subject, At, Spelling, Dotted, Sparql, Mode, Start, Over, WantPrefix, WantPrefixIri, WantBaseIri, WantDot, AfterLabel, GraphWord, GraphBox, WantBrace, Inside, Want, After, AfterText, WantType, Box, Paren, WantVerb, Semi, AfterBox, Reply, No, Go, cell, nil, object_start, want_type, verb_start, after_subject, node_closed, box_closed, list_closed, list_end, semi, after, after_text, box, paren, after_box, subject_start, start, inside, want_brace, after_label, graph_word, graph_box, want_prefix, want_prefix_iri, want_base_iri, want_dot, step}
 use Rattle.rdf_trig.specs.Machine.{depth, depth_at, depth_around, depth_up}
 use Rattle.rdf_trig.specs.Documents.{opens, closes, opened, closed, open_in}
-use Rattle.rdf_trig.proofs.machine.ClosingTokens.{passes}
+use Rattle.rdf_trig.proofs.machine.ClosingTokens.{admits}
 use Rattle.rdf_trig.proofs.machine.ViableTokens.{Stand, stand, reach, on_reply, if_true}
 
 -- what a token of the kind may stand for
@@ -251,7 +251,7 @@ reached_depth strict form (t ∷ ts) c m s e = by (step form c m t.kind (leaf_of
         ((c' : Setting) (m' : Mode) → reach strict form c' m' ts ≡ Some s → opened ts + depth m' ≡ closed ts + depth s.mode) →
         on_reply strict r (λ c' m'. reach strict form c' m' ts) ≡ Some s → opens t.kind + opened ts + depth m ≡ closes t.kind + closed ts + depth s.mode
     by No f ih e = absurd (let z : None ≡ Some s = e in cc)
-    by (Go u early now c' m') f ih e = let h : opened ts + depth m' ≡ closed ts + depth s.mode = ih c' m' (when (passes strict u) (reach strict form c' m' ts) e) in omega (arith, h, f.0)
+    by (Go u early now c' m') f ih e = let h : opened ts + depth m' ≡ closed ts + depth s.mode = ih c' m' (when (admits strict u) (reach strict form c' m' ts) e) in omega (arith, h, f.0)
 
 -- no token changes the limits
 pub reached_limits : (strict : Bool) (form : DocForm) (ts : List Token) (c : Setting) (m : Mode) (s : Stand) → reach strict form c m ts ≡ Some s →
@@ -267,7 +267,7 @@ reached_limits strict form (t ∷ ts) c m s e = by (step form c m t.kind (leaf_o
         ((c' : Setting) (m' : Mode) → reach strict form c' m' ts ≡ Some s → s.setting.scope.limits ≡ c'.scope.limits) →
         on_reply strict r (λ c' m'. reach strict form c' m' ts) ≡ Some s → s.setting.scope.limits ≡ c.scope.limits
     by No f ih e = absurd (let z : None ≡ Some s = e in cc)
-    by (Go u early now c' m') f ih e = ih c' m' (when (passes strict u) (reach strict form c' m' ts) e) ∙ f.2
+    by (Go u early now c' m') f ih e = ih c' m' (when (admits strict u) (reach strict form c' m' ts) e) ∙ f.2
 
 pub depth_open : (strict : Bool) (form : DocForm) (ts : List Token) (start : InForce) (s : Stand) → reach strict form (in_default start) Start ts ≡ Some s →
     depth s.mode ≡ open_in ts

@@ -2,7 +2,7 @@
 use Rattle.std.proofs.Common.{◌≡◌, ℕ, zero, suc, ◌+◌, ◌≤◌, true, List, [], ◌∷◌, ◌++◌, length, Option, Some, None, refl, sym, ap, ◌∙◌, arith}
 use Rattle.std.specs.Prelude.{nat_lt}
 use Rattle.std.proofs.lemmas.Bool.{cond-true, cond-false, lt-ltb, le-ltb}
-use Rattle.rdf_tokens.specs.Grammars.{before}
+use Rattle.rdf_tokens.specs.Grammars.{quads_below}
 use Rattle.rdf_terms.specs.Terms.{Quad}
 use Rattle.rdf_tokens.specs.Tokens.{Token}
 use Rattle.rdf_tokens.specs.Grammars.{Marked}
@@ -11,7 +11,7 @@ use Rattle.rdf_lines.specs.Lines.{leaf_of}
 use Rattle.rdf_trig.specs.declared.form.DocForm.{DocForm}
 use Rattle.rdf_trig.specs.Trees.{Document}
 use Rattle.rdf_trig.specs.Quads.{Setting, in_default}
-use Rattle.rdf_trig.specs.Events.{Event, Took, Gave, give, document_events, tokens, marked}
+use Rattle.rdf_trig.specs.Events.{Event, Took, Gave, give, document_events, tokens, event_quads}
 use Rattle.rdf_trig.specs.Machine.{Mode, Start, Reply, No, Go, start, step, waiting, fronted, go_on, run}
 use Rattle.rdf_trig.specs.Machine.{kept}
 use Rattle.rdf_trig.specs.Laws.{Rises}
@@ -25,12 +25,12 @@ due (suc n) [] = []
 due (suc n) (Took t u ∷ es) = due n es
 due (suc n) (Gave q ∷ es) = q ∷ due (suc n) es
 
-before_none : (es : List Event) (k n : ℕ) → k ≤ n → before k (marked n es) ≡ []
+before_none : (es : List Event) (k n : ℕ) → k ≤ n → quads_below k (event_quads n es) ≡ []
 before_none [] k n l = refl
 before_none (Took t u ∷ es) k n l = before_none es k (n + 1) (omega arith)
 before_none (Gave q ∷ es) k n l = cond-false (nat_lt n k) _ _ (le-ltb _ _ l) ∙ before_none es k n l
 
-pub before_due : (es : List Event) (n k j : ℕ) → j ≡ k + n → before j (marked k es) ≡ due n es
+pub before_due : (es : List Event) (n k j : ℕ) → j ≡ k + n → quads_below j (event_quads k es) ≡ due n es
 before_due es zero k j e = before_none es j k (omega arith)
 before_due [] (suc n) k j e = refl
 before_due (Took t u ∷ es) (suc n) k j e = before_due es n (k + 1) j (omega arith)
@@ -40,9 +40,9 @@ rises_from : (qs : List Marked) (m n : ℕ) → m ≤ n → Rises n qs → Rises
 rises_from [] m n l r = tt
 rises_from (q ∷ qs) m n l r = (omega (arith, l, r.0), r.1)
 
-pub marked_rises : (es : List Event) (n : ℕ) → Rises n (marked n es)
+pub marked_rises : (es : List Event) (n : ℕ) → Rises n (event_quads n es)
 marked_rises [] n = tt
-marked_rises (Took t u ∷ es) n = rises_from (marked (n + 1) es) n (n + 1) (omega arith) (marked_rises es (n + 1))
+marked_rises (Took t u ∷ es) n = rises_from (event_quads (n + 1) es) n (n + 1) (omega arith) (marked_rises es (n + 1))
 marked_rises (Gave q ∷ es) n = (omega arith, marked_rises es n)
 
 -- what a reader that holds these quads gives out for these tokens

@@ -1,7 +1,7 @@
 -- The machine accepts exactly the documents within the limits, and what it gives out is due, and at the end all of a document's quads.
 use Rattle.std.proofs.Common.{◌≡◌, ℕ, zero, suc, ◌+◌, ◌≤◌, ◌⊎◌, inl, inr, Bool, true, false, List, [], ◌∷◌, ◌++◌, length, Option, Some, None, refl, sym, ap, ◌∙◌, subst, ⊎_elim, append_assoc, length-append, arith}
 use Rattle.std.proofs.lemmas.List.{append-nil}
-use Rattle.rdf_tokens.specs.Grammars.{Viable, Due, PassesNone, IsFront, before, unmarked}
+use Rattle.rdf_tokens.specs.Grammars.{Viable, Due, PassesNone, IsFront, quads_below, unmarked}
 use Rattle.rdf_terms.specs.Terms.{Quad}
 use Rattle.rdf_tokens.specs.Tokens.{Token}
 use Rattle.rdf_tokens.specs.Grammars.{Marked}
@@ -10,7 +10,7 @@ use Rattle.rdf_lines.specs.Lines.{leaf_of}
 use Rattle.rdf_trig.specs.declared.form.DocForm.{DocForm}
 use Rattle.rdf_trig.specs.Trees.{Document, document_tokens}
 use Rattle.rdf_trig.specs.Quads.{Setting, in_default}
-use Rattle.rdf_trig.specs.Events.{Event, Took, Gave, give, document_events, tokens, marked}
+use Rattle.rdf_trig.specs.Events.{Event, Took, Gave, give, document_events, tokens, event_quads}
 use Rattle.rdf_trig.specs.Machine.{Mode, Start, Over, Reply, No, Go, start, step, waiting, fronted, stop, go_on, run}
 use Rattle.rdf_trig.specs.Machine.{State, Answer, refuses, accepts, accept, at_start, ran, with_quads, go, accept_all, depth}
 use Rattle.rdf_trig.specs.Refusals.{Refusal, unexpected, too_deep, unbound, no_base, iri_too_long, too_many_bindings, Excluded, RefusedFor}
@@ -19,7 +19,7 @@ use Rattle.rdf_trig.specs.Documents.{documents, trees, Passes}
 use Rattle.rdf_trig.proofs.machine.Soundness.{read_found, unput}
 use Rattle.rdf_trig.proofs.trees.TokensOfEvents.{document_told}
 use Rattle.rdf_trig.proofs.trees.MarksOfEvents.{document_marks}
-use Rattle.rdf_trig.proofs.machine.ClosingTokens.{Accepts, passes}
+use Rattle.rdf_trig.proofs.machine.ClosingTokens.{Accepts, admits}
 use Rattle.rdf_trig.proofs.machine.ViableTokens.{Stand, stand, reach, on_reply, if_true, front, run_tree, passing_bound, reached_viable}
 use Rattle.rdf_trig.proofs.machine.DueQuads.{due, before_due, emits, lag}
 use Rattle.rdf_trig.proofs.machine.AcceptedTokens.{ran_tokens}
@@ -29,10 +29,10 @@ use Rattle.rdf_trig.proofs.machine.RefusedTokens.{place, reached_start, passes_n
 -- what is due
 pub due_in : (form : DocForm) (start : InForce) (ts more : List Token) (s : State) (qs : List Quad) (all : List Marked) →
     accept_all form (at_start start) ts ≡ ran s qs → documents form start (ts ++ more) all →
-    before (length ts) all ≡ qs
+    quads_below (length ts) all ≡ qs
 due_in form start ts more s qs all e d =
     let told : tokens (document_events start d.tree) ≡ ts ++ more = document_told d.tree start ∙ sym d.tokens in
-    ap (before (length ts)) (sym d.quads ∙ sym (document_marks d.tree start 0))
+    ap (quads_below (length ts)) (sym d.quads ∙ sym (document_marks d.tree start 0))
     ∙ before_due (document_events start d.tree) (length ts) 0 (length ts) (omega arith)
     ∙ sym (lag form ts more start d.tree told)
     ∙ sym (ran_tokens form ts (at_start start) s qs e).given
@@ -49,7 +49,7 @@ due_of : (form : DocForm) (start : InForce) (ts : List Token) (qs : List Quad) �
 due_of form start ts qs (more, all, d, e) =
     let told : tokens (document_events start d.tree) ≡ ts ++ more = document_told d.tree start ∙ sym d.tokens in
     sym e
-    ∙ ap (before (length ts)) (sym d.quads ∙ sym (document_marks d.tree start 0))
+    ∙ ap (quads_below (length ts)) (sym d.quads ∙ sym (document_marks d.tree start 0))
     ∙ before_due (document_events start d.tree) (length ts) 0 (length ts) (omega arith)
     ∙ sym (lag form ts more start d.tree told)
 
@@ -68,7 +68,7 @@ tree_events form start d e h =
 
 pub same_quads : (form : DocForm) (start : InForce) (ts : List Token) (qs rs : List Marked) → trees form start ts qs → trees form start ts rs → qs ≡ rs
 same_quads form start ts qs rs a b =
-    sym a.quads ∙ sym (document_marks a.tree start 0) ∙ ap (marked 0) (tree_events form start a.tree b.tree (sym a.tokens ∙ b.tokens)) ∙ document_marks b.tree start 0 ∙ b.quads
+    sym a.quads ∙ sym (document_marks a.tree start 0) ∙ ap (event_quads 0) (tree_events form start a.tree b.tree (sym a.tokens ∙ b.tokens)) ∙ document_marks b.tree start 0 ∙ b.quads
 
 -- all quads of some events
 abbrev quads : List Event → List Quad
@@ -76,7 +76,7 @@ quads [] = []
 quads (Took t u ∷ es) = quads es
 quads (Gave q ∷ es) = q ∷ quads es
 
-quads_marked : (es : List Event) (n : ℕ) → unmarked (marked n es) ≡ quads es
+quads_marked : (es : List Event) (n : ℕ) → unmarked (event_quads n es) ≡ quads es
 quads_marked [] n = refl
 quads_marked (Took t u ∷ es) n = quads_marked es (n + 1)
 quads_marked (Gave q ∷ es) n = ap (λ x. q ∷ x) (quads_marked es n)
@@ -222,7 +222,7 @@ run_over strict form (t ∷ ts) c m es s r e = by (step form c m t.kind (leaf_of
     by No r e ih = absurd (let z : None ≡ Some s = e in cc)
     by (Go u early now c' m') r e ih =
         let x = unput (waiting c m t.kind (leaf_of t)) t u early now (run form c' m' ts) es r in
-        ih c' m' x.0 x.1 (when (passes strict u) (reach strict form c' m' ts) e)
+        ih c' m' x.0 x.1 (when (admits strict u) (reach strict form c' m' ts) e)
 
 -- A document of which no token passes a limit is accepted to its end, and its quads are given out.
 pub document_accepted : (form : DocForm) (start : InForce) (ts : List Token) (ms : List Marked) → documents form start ts ms →

@@ -15,7 +15,7 @@ use Rattle.rdf_trig.specs.Documents.{documents, trees}
 use Rattle.rdf_trig.proofs.machine.Completeness.{document_good}
 use Rattle.rdf_trig.proofs.machine.Soundness.{read_found, unput}
 use Rattle.rdf_trig.proofs.trees.TokensOfEvents.{document_told}
-use Rattle.rdf_trig.proofs.machine.ClosingTokens.{has_iri, passes, Passing, Accepts, passing_give, passing_back, close, closes}
+use Rattle.rdf_trig.proofs.machine.ClosingTokens.{has_iri, admits, AllAdmitted, Accepts, passing_give, passing_back, close, closes}
 
 -- where the machine stands
 pub record Stand : Type 0 where
@@ -35,7 +35,7 @@ was_true false o s e = absurd (let z : None ≡ Some s = e in cc)
 
 abbrev pub on_reply : Bool → Reply → (Setting → Mode → Option Stand) → Option Stand
 on_reply strict No next = None
-on_reply strict (Go u early now c m) next = if_true (passes strict u) (next c m)
+on_reply strict (Go u early now c m) next = if_true (admits strict u) (next c m)
 
 -- the state behind some tokens, or none where one is refused
 abbrev pub reach : Bool → DocForm → Setting → Mode → List Token → Option Stand
@@ -45,14 +45,14 @@ reach strict form c m (t ∷ ts) = on_reply strict (step form c m t.kind (leaf_o
 module _ (strict : Bool) (form : DocForm) where
   -- a document whose tokens begin so
   abbrev pub Begins : InForce → List Token → Type 0
-  Begins start ts = (d : Document form) × (us : List Token) × (tokens (document_events start d) ≡ ts ++ us) × Passing strict (document_events start d)
+  Begins start ts = (d : Document form) × (us : List Token) × (tokens (document_events start d) ≡ ts ++ us) × AllAdmitted strict (document_events start d)
 
   reply_front : (t : Token) (w : Option Quad) (r : Reply) (next : Setting → Mode → Option Stand) (ts us : List Token) (s1 : Stand) →
       ((c : Setting) (m : Mode) → next c m ≡ Some s1 → Accepts strict form c m (ts ++ us)) → on_reply strict r next ≡ Some s1 →
-      (es : List Event) × (fronted w (go_on t r (λ c m. run form c m (ts ++ us))) ≡ Some es) × Passing strict es
+      (es : List Event) × (fronted w (go_on t r (λ c m. run form c m (ts ++ us))) ≡ Some es) × AllAdmitted strict es
   reply_front t w No next ts us s1 ih e = absurd (let z : None ≡ Some s1 = e in cc)
   reply_front t w (Go u early now c m) next ts us s1 ih e =
-      let p = was_true (passes strict u) (next c m) s1 e in
+      let p = was_true (admits strict u) (next c m) s1 e in
       let a = ih c m p.1 in
       (give w (Took t u ∷ give early (give now a.events)), ap (λ o. fronted w (put t u early now o)) a.runs, passing_give strict form w _ (p.0, passing_give strict form early _ (passing_give strict form now _ a.bound)))
 
@@ -73,8 +73,8 @@ module _ (strict : Bool) (form : DocForm) where
       (f.0, close s1.mode, f.2, rw f.1 at a.bound)
 
   reply_back : (t : Token) (w : Option Quad) (r : Reply) (next : Setting → Mode → Option Stand) (ts us : List Token) →
-      ((c : Setting) (m : Mode) (es : List Event) → run form c m (ts ++ us) ≡ Some es → Passing strict es → (s : Stand) × (next c m ≡ Some s)) →
-      (es : List Event) → fronted w (go_on t r (λ c m. run form c m (ts ++ us))) ≡ Some es → Passing strict es → (s : Stand) × (on_reply strict r next ≡ Some s)
+      ((c : Setting) (m : Mode) (es : List Event) → run form c m (ts ++ us) ≡ Some es → AllAdmitted strict es → (s : Stand) × (next c m ≡ Some s)) →
+      (es : List Event) → fronted w (go_on t r (λ c m. run form c m (ts ++ us))) ≡ Some es → AllAdmitted strict es → (s : Stand) × (on_reply strict r next ≡ Some s)
   reply_back t w No next ts us ih es e b = absurd (let z : None ≡ Some es = e in cc)
   reply_back t w (Go u early now c m) next ts us ih es e b =
       let x = unput w t u early now _ es e in
@@ -82,7 +82,7 @@ module _ (strict : Bool) (form : DocForm) where
       let s = ih c m x.0 x.1 (passing_back strict form now _ (passing_back strict form early _ b1.1)) in
       (s.0, ap (λ f. if_true f (next c m)) b1.0 ∙ s.1)
 
-  back : (ts us : List Token) (c : Setting) (m : Mode) (es : List Event) → run form c m (ts ++ us) ≡ Some es → Passing strict es →
+  back : (ts us : List Token) (c : Setting) (m : Mode) (es : List Event) → run form c m (ts ++ us) ≡ Some es → AllAdmitted strict es →
       (s : Stand) × (reach strict form c m ts ≡ Some s)
   back [] us c m es e b = (stand c m, refl)
   back (t ∷ ts) us c m es e b = reply_back t (waiting c m t.kind (leaf_of t)) (step form c m t.kind (leaf_of t)) (λ c' m'. reach strict form c' m' ts) ts us (back ts us) es e b
@@ -97,7 +97,7 @@ module _ (strict : Bool) (form : DocForm) where
   begins_reached ts start (d, us, e, b) = back ts us (in_default start) Start (document_events start d) (run_tree d start (ts ++ us) e) b
 
 -- With names that have to stand for something this is what documents are, without, what trees are.
-pub bound_passing : (es : List Event) → Bound es → Passing true es
+pub bound_passing : (es : List Event) → Bound es → AllAdmitted true es
 bound_passing [] b = tt
 bound_passing (Took t u ∷ es) b = (fine u b.0, bound_passing es b.1)
   where
@@ -116,12 +116,12 @@ use_bound (stands (Some i)) h = λ z. cc
 use_bound (binds full None) h = absurd (let z : false ≡ true = h in cc)
 use_bound (binds full (Some i)) h = λ z. cc
 
-pub passing_bound : (es : List Event) → Passing true es → Bound es
+pub passing_bound : (es : List Event) → AllAdmitted true es → Bound es
 passing_bound [] b = tt
 passing_bound (Took t u ∷ es) b = (use_bound u b.0, passing_bound es b.1)
 passing_bound (Gave q ∷ es) b = passing_bound es b
 
-pub any_passing : (es : List Event) → Passing false es
+pub any_passing : (es : List Event) → AllAdmitted false es
 any_passing [] = tt
 any_passing (Took t u ∷ es) = (refl, any_passing es)
 any_passing (Gave q ∷ es) = any_passing es
@@ -176,7 +176,7 @@ reach-snoc strict form (u ∷ ts) t c m = by (step form c m u.kind (leaf_of u)) 
     by : (r : Reply) → ((c' : Setting) (m' : Mode) → reach strict form c' m' (ts ++ t ∷ []) ≡ and_on strict form (reach strict form c' m' ts) t) →
         on_reply strict r (λ c' m'. reach strict form c' m' (ts ++ t ∷ [])) ≡ and_on strict form (on_reply strict r (λ c' m'. reach strict form c' m' ts)) t
     by No ih = refl
-    by (Go v early now c' m') ih = snoc_true strict form (passes strict v) _ _ t (ih c' m')
+    by (Go v early now c' m') ih = snoc_true strict form (admits strict v) _ _ t (ih c' m')
 
 lax_true : (fine : Bool) (o : Option Stand) (s : Stand) → if_true fine o ≡ Some s → o ≡ Some s
 lax_true true o s e = e

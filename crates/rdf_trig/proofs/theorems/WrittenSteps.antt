@@ -18,7 +18,7 @@ use Rattle.rdf_trig.specs.declared.form.DocForm.TheVariants.{Turtle, TriG}
 use Rattle.rdf_trig.specs.Names.{prefix_of, reference_in, name_in}
 use Rattle.rdf_trig.specs.Trees.{Document, document_tokens}
 use Rattle.rdf_trig.specs.Quads.{document_quads, Setting, in_default, in_graph, named, node, resource, anon_at, labelled, tag_of, plain_literal, tagged_literal, typed_literal, cell_at, rest_quad}
-use Rattle.rdf_trig.specs.Events.{itself, Event, Took, Gave, give, marked, document_events}
+use Rattle.rdf_trig.specs.Events.{itself, Event, Took, Gave, give, event_quads, document_events}
 use Rattle.rdf_trig.specs.Machine.{Level, Top, InBlock, Place, Listed, InCells, Around, Statement, Boxed, Up, Subject, At, Spelling, Dotted, Sparql, Mode, Start, Over, WantPrefix, WantPrefixIri, WantBaseIri, WantDot, AfterLabel, GraphWord, GraphBox, WantBrace, Inside, Want, After, AfterText, WantType, Box, Paren, WantVerb, Semi, AfterBox, Reply, No, Go, subject_at, verb_at, quad_at, quad_up, nil, iri_object_at, literal_at, object_start, type_at, want_type, verb_is, verb_start, after_subject, node_closed, box_closed, list_closed, list_end, semi, after, tag_at, after_text, box, paren, after_box, subject_is, subject_start, start, inside, want_brace, after_label, graph_is, graph_word, graph_box, directive_end, want_prefix, want_prefix_iri, want_base_iri, want_dot, step, waiting}
 use Rattle.rdf_trig.specs.Machine.{stop, fronted, go_on, run}
 use Rattle.rdf_trig.specs.Spelled.{SpellsTag}
@@ -394,7 +394,7 @@ module _ (r : Room) where
   abbrev pub AllFit : List Quad → Type 0
   AllFit qs = AllByRecursion (FitQuad r) qs
 
-  marks_fit : (n : ℕ) (es : List Event) → AllGiven es → AllFit (unmarked (marked n es))
+  marks_fit : (n : ℕ) (es : List Event) → AllGiven es → AllFit (unmarked (event_quads n es))
   marks_fit n [] f = tt
   marks_fit n (Took t u ∷ es) f = marks_fit (n + 1) es f
   marks_fit n (Gave q ∷ es) f = (f.0, marks_fit n es f.1)

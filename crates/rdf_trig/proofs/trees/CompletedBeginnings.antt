@@ -15,7 +15,7 @@ use Rattle.rdf_trig.specs.Documents.{documents, trees}
 use Rattle.rdf_trig.specs.Laws.{IsClosing, CompletedBy}
 use Rattle.rdf_trig.proofs.machine.Soundness.{read_found}
 use Rattle.rdf_trig.proofs.trees.TokensOfEvents.{document_told}
-use Rattle.rdf_trig.proofs.machine.ClosingTokens.{Passing, the_end, close_level, close_verb, close_place, close_list, close_box, close_around, close_directive, close_block, close, closes}
+use Rattle.rdf_trig.proofs.machine.ClosingTokens.{AllAdmitted, the_end, close_level, close_verb, close_place, close_list, close_box, close_around, close_directive, close_block, close, closes}
 use Rattle.rdf_trig.proofs.machine.ViableTokens.{Stand, reach, front, passing_bound, viable_reached, shaped_reached}
 
 abbrev Closing : List Token → Type 0
@@ -87,7 +87,7 @@ closing (AfterBox s v) = level_closing v
 record Whole (strict : Bool) (form : DocForm) (start : InForce) (ts : List Token) : Type 0 where
   tree : Document form
   told : tokens (document_events start tree) ≡ ts
-  passing : Passing strict (document_events start tree)
+  passing : AllAdmitted strict (document_events start tree)
 
 whole : (strict : Bool) (form : DocForm) (start : InForce) (ts : List Token) (s : Stand) → reach strict form (in_default start) Start ts ≡ Some s →
     Whole strict form start (ts ++ close s.mode)

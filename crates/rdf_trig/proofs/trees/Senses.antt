@@ -11,7 +11,7 @@ use Rattle.rdf_trig.specs.Machine.{Mode, Start, Reply, No, Go, start, step, wait
 use Rattle.rdf_tokens.specs.Grammars.{Viable}
 use Rattle.rdf_trig.specs.Documents.{documents, InTree, StandsFor}
 use Rattle.rdf_trig.proofs.machine.Soundness.{unput}
-use Rattle.rdf_trig.proofs.machine.ClosingTokens.{has_iri, passes}
+use Rattle.rdf_trig.proofs.machine.ClosingTokens.{has_iri, admits}
 use Rattle.rdf_trig.proofs.machine.ViableTokens.{Stand, stand, reach, on_reply, if_true, run_tree, Begins, reached_begins, reach-snoc, and_on, passing_bound, bound_passing, begins_viable, goes_on, lax}
 
 -- what the token of this number, from 0, stands for
@@ -91,7 +91,7 @@ sense_run strict form (y ∷ ts) t us c m es s u early now c1 m1 r e n =
     by No r e ih = absurd (let z : None ≡ Some s = e in cc)
     by (Go v e1 n1 c' m') r e ih =
         let x = unput (waiting c m y.kind (leaf_of y)) y v e1 n1 (run form c' m' (ts ++ t ∷ us)) es r in
-        later_sense (waiting c m y.kind (leaf_of y)) y v e1 n1 (length ts) x.0 es x.2 ∙ ih c' m' x.0 x.1 (when (passes strict v) (reach strict form c' m' ts) e)
+        later_sense (waiting c m y.kind (leaf_of y)) y v e1 n1 (length ts) x.0 es x.2 ∙ ih c' m' x.0 x.1 (when (admits strict v) (reach strict form c' m' ts) e)
 
 pub same_sense : (strict : Bool) (form : DocForm) (start : InForce) (ts : List Token) (t : Token) (s : Stand) (u v : Use) (early now : Option Quad) (c : Setting) (m : Mode) →
     reach strict form (in_default start) Start ts ≡ Some s → step form s.setting s.mode t.kind (leaf_of t) ≡ Go u early now c m → InTree form start ts t v → v ≡ u
