@@ -1,10 +1,11 @@
--- The marked quads of a tree, without their marks, are its quads; so every tree that is marked is a document, and the other way round.
+-- The quads of a tree with their marks and without: those that are due without their marks are those that the machine gives out.
 use Rattle.std.proofs.Common.{◌≡◌, ℕ, ◌+◌, Bool, List, ◌∷◌, refl, sym, ap, ◌∙◌, subst, length}
 use Rattle.rdf_tokens.specs.Tokens.{Token}
 use Rattle.rdf_tokens.specs.Grammars.{Marked, unmarked}
 use Rattle.rdf_terms.specs.Terms.{Quad, has_scheme}
 use Rattle.rdf_lines.specs.declared.form.LineForm.{LineForm}
-use Rattle.rdf_lines.specs.Lines.{Line, Document, last, next, line_tokens, plain_line, plain_quads, line_quads, document_quads, quad_of, IsPlain, IsDocument, documents}
+use Rattle.rdf_lines.specs.Lines.{Line, Document, last, next, line_tokens, line_quads, document_quads, quad_of, IsDocument, documents}
+use Rattle.rdf_lines.proofs.PlainQuads.{plain_line, plain_quads, IsPlain}
 use Rattle.rdf_lines.specs.Lines as L
 
 unmarked_line : (n : ℕ) (l : Line) → unmarked (line_quads n l) ≡ plain_line l

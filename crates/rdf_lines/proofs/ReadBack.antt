@@ -6,7 +6,8 @@ use Rattle.rdf_terms.specs.Terms.{Quad, has_scheme}
 use Rattle.rdf_terms.specs.declared.kind.Dialect.TheVariants.{Lines}
 use Rattle.rdf_tokens.specs.Tokens.{Reading}
 use Rattle.rdf_tokens.specs.Tokens.Outcome.{complete}
-use Rattle.rdf_lines.specs.Lines.{document_tokens, IsPlain}
+use Rattle.rdf_lines.specs.Lines.{document_tokens}
+use Rattle.rdf_lines.proofs.PlainQuads.{IsPlain}
 use Rattle.rdf_lines.specs.declared.form.LineForm.TheVariants.{NQuads}
 use Rattle.rdf_lines.specs.declared.form.Style.{Style}
 use Rattle.rdf_lines.specs.Writing.{rename, quad_text, line, text, Writable}

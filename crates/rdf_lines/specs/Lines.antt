@@ -111,16 +111,6 @@ term_of (WithTag s t) = Literal (string_of s) (Lang (drop 1 t.text))
 abbrev pub quad_of : Statement → Quad
 quad_of s = record { subject = subject_of s.subject; predicate = iri_of s.predicate; object = term_of s.object; graph = option_map subject_of s.graph }
 
--- those of a line
-abbrev pub plain_line : Line → List Quad
-plain_line empty = []
-plain_line (one s) = quad_of s ∷ []
-
--- those of a document, in order
-abbrev pub plain_quads : Document → List Quad
-plain_quads (last l e) = plain_line l
-plain_quads (next l e d) = plain_line l ++ plain_quads d
-
 -- the quads with their marks, where n tokens stand before the tree
 abbrev pub line_quads : ℕ → Line → List Marked
 line_quads n empty = []
@@ -171,11 +161,7 @@ abbrev pub GoodDocument : (List ℕ → Bool) → LineForm → Document → Type
 GoodDocument test form (last l e) = GoodLine test form l
 GoodDocument test form (next l e d) = GoodLine test form l × GoodDocument test form d
 
--- the tokens are a document of the form, with these quads
-abbrev pub IsPlain : (List ℕ → Bool) → LineForm → List Token → List Quad → Type 0
-IsPlain test form ts qs = (d : Document) × (ts ≡ document_tokens d) × GoodDocument test form d × (plain_quads d ≡ qs)
-
--- the same with the quads' marks
+-- the tokens are a document of the form, and these are its quads with their marks
 abbrev pub IsDocument : (List ℕ → Bool) → LineForm → List Token → List Marked → Type 0
 IsDocument test form ts qs = (d : Document) × (ts ≡ document_tokens d) × GoodDocument test form d × (document_quads 0 d ≡ qs)
 
