@@ -19,7 +19,7 @@ use Rattle.rdf_lines.specs.Documents.{in_lines}
 use Rattle.rdf_trig.specs.declared.form.DocForm.{DocForm}
 use Rattle.rdf_trig.specs.Trees.{Document, document_tokens}
 use Rattle.rdf_trig.specs.Names.{reference_in, name_in, prefix_of, with_binding}
-use Rattle.rdf_trig.specs.Quads.{document_quads}
+use Rattle.rdf_trig.specs.TreeQuads.{document_quads}
 use Rattle.rdf_trig.specs.Events.{Use, tokens, event_quads, document_events, BoundFront}
 use Rattle.rdf_trig.specs.Documents.{documents, trees, InTree, Passes}
 use Rattle.rdf_trig.specs.Refusals.{Refusal, RefusedFor}
@@ -38,7 +38,7 @@ Rises n [] = Unit {0}
 Rises n (q ∷ qs) = (n ≤ q.mark) × Rises q.mark qs
 
 abbrev pub MarksNeverFall : Type 0
-MarksNeverFall = (form : DocForm) (start : InForce) (d : Document form) → Rises 0 (document_quads start 0 d)
+MarksNeverFall = (form : DocForm) (start : InForce) (d : Document form) → Rises 0 (event_quads 0 (document_events start d))
 
 -- Every tree of the same tokens has the same quads with the same marks.
 abbrev pub TokensSettleTheQuads : Type 0

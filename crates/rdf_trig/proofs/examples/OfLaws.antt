@@ -20,7 +20,7 @@ use Rattle.rdf_trig.specs.declared.form.DocForm.TheVariants.{TriG}
 use Rattle.rdf_trig.specs.Names.{reference_in, name_in, with_binding, is_full}
 use Rattle.rdf_trig.specs.Quads.{in_default}
 use Rattle.rdf_trig.specs.Events.{Use, stands, document_events, event_quads}
-use Rattle.rdf_trig.specs.Quads.{document_quads}
+use Rattle.rdf_trig.specs.TreeQuads.{document_quads}
 use Rattle.rdf_trig.specs.Documents.{documents, trees, InTree}
 use Rattle.rdf_trig.specs.Refusals.{unexpected, too_deep, unbound, no_base, iri_too_long, too_many_bindings}
 use Rattle.rdf_trig.specs.Machine.{Top, Listed, WantPrefixIri, Sparql, Statement, Boxed, At, Start, Over, Want, After, AfterBox, State, at_start, ran, accept_all}
@@ -179,7 +179,7 @@ booleans_are : document_quads start 0 booleans_tree ≡ booleans_quads
 unfolding reference_in name_in resolved is_full has
 booleans_are = refl
 
-inner_are : document_quads start 0 inner_collection_tree ≡ inner_collection_quads
+inner_are : event_quads 0 (document_events start inner_collection_tree) ≡ inner_collection_quads
 unfolding reference_in name_in resolved is_full has
 inner_are = refl
 
@@ -191,7 +191,7 @@ pub marks_rise : Rises 0 inner_collection_quads
 marks_rise = subst (Rises 0) inner_are (never_fall TriG start inner_collection_tree)
 
 pub booleans_settled : (qs : List Marked) → trees TriG start booleans_tokens qs → qs ≡ booleans_quads
-booleans_settled qs t = same_quads TriG start booleans_tokens qs booleans_quads t record { tree = booleans_tree; tokens = refl; quads = booleans_are }
+booleans_settled qs t = same_quads TriG start booleans_tokens qs booleans_quads t record { tree = booleans_tree; tokens = refl; quads = booleans_told }
 
 -- Behind the second boolean the collection's own quad and the first item's are due.
 abbrev due_quads : List Quad

@@ -14,11 +14,9 @@ use Rattle.rdf_trig.specs.Events.{Event, Took, Gave, give, document_events, toke
 use Rattle.rdf_trig.specs.Machine.{Mode, Start, Over, Reply, No, Go, start, step, waiting, fronted, stop, go_on, run}
 use Rattle.rdf_trig.specs.Machine.{State, Answer, refuses, accepts, accept, at_start, ran, with_quads, go, accept_all, depth}
 use Rattle.rdf_trig.specs.Refusals.{Refusal, unexpected, too_deep, unbound, no_base, iri_too_long, too_many_bindings, Excluded, RefusedFor}
-use Rattle.rdf_trig.specs.Quads.{document_quads}
 use Rattle.rdf_trig.specs.Documents.{documents, trees, Passes}
 use Rattle.rdf_trig.proofs.machine.Soundness.{read_found, unput}
 use Rattle.rdf_trig.proofs.trees.TokensOfEvents.{document_told}
-use Rattle.rdf_trig.proofs.trees.MarksOfEvents.{document_marks}
 use Rattle.rdf_trig.proofs.machine.ClosingTokens.{Accepts, admits}
 use Rattle.rdf_trig.proofs.machine.ViableTokens.{Stand, stand, reach, on_reply, if_true, front, run_tree, passing_bound, reached_viable}
 use Rattle.rdf_trig.proofs.machine.DueQuads.{due, before_due, emits, lag}
@@ -32,7 +30,7 @@ pub due_in : (form : DocForm) (start : InForce) (ts more : List Token) (s : Stat
     quads_below (length ts) all ≡ qs
 due_in form start ts more s qs all e d =
     let told : tokens (document_events start d.tree) ≡ ts ++ more = document_told d.tree start ∙ sym d.tokens in
-    ap (quads_below (length ts)) (sym d.quads ∙ sym (document_marks d.tree start 0))
+    ap (quads_below (length ts)) (sym d.quads)
     ∙ before_due (document_events start d.tree) (length ts) 0 (length ts) (omega arith)
     ∙ sym (lag form ts more start d.tree told)
     ∙ sym (ran_tokens form ts (at_start start) s qs e).given
@@ -49,7 +47,7 @@ due_of : (form : DocForm) (start : InForce) (ts : List Token) (qs : List Quad) �
 due_of form start ts qs (more, all, d, e) =
     let told : tokens (document_events start d.tree) ≡ ts ++ more = document_told d.tree start ∙ sym d.tokens in
     sym e
-    ∙ ap (quads_below (length ts)) (sym d.quads ∙ sym (document_marks d.tree start 0))
+    ∙ ap (quads_below (length ts)) (sym d.quads)
     ∙ before_due (document_events start d.tree) (length ts) 0 (length ts) (omega arith)
     ∙ sym (lag form ts more start d.tree told)
 
@@ -68,7 +66,7 @@ tree_events form start d e h =
 
 pub same_quads : (form : DocForm) (start : InForce) (ts : List Token) (qs rs : List Marked) → trees form start ts qs → trees form start ts rs → qs ≡ rs
 same_quads form start ts qs rs a b =
-    sym a.quads ∙ sym (document_marks a.tree start 0) ∙ ap (event_quads 0) (tree_events form start a.tree b.tree (sym a.tokens ∙ b.tokens)) ∙ document_marks b.tree start 0 ∙ b.quads
+    sym a.quads ∙ ap (event_quads 0) (tree_events form start a.tree b.tree (sym a.tokens ∙ b.tokens)) ∙ b.quads
 
 -- all quads of some events
 abbrev quads : List Event → List Quad
@@ -115,14 +113,13 @@ all_due form (y ∷ ys) t c m es e = more_due form t (y ∷ ys) (length ys) (wai
 
 -- the quads of a document are all given out when its tokens are accepted
 document_due : (form : DocForm) (start : InForce) (ts : List Token) (d : Document form) → tokens (document_events start d) ≡ ts →
-    emits form (in_default start) Start [] ts ≡ unmarked (document_quads start 0 d)
+    emits form (in_default start) Start [] ts ≡ unmarked (event_quads 0 (document_events start d))
 document_due form start [] d e = absurd (let r = run_tree true form d start [] e in let z : None ≡ Some (document_events start d) = r in cc)
 document_due form start (t ∷ ts) d e =
     let es = document_events start d in
     lag form (t ∷ ts) [] start d (e ∙ sym (append-nil (t ∷ ts)))
     ∙ all_due form ts t (in_default start) Start es (run_tree true form d start (t ∷ ts) e)
     ∙ sym (quads_marked es 0)
-    ∙ ap unmarked (document_marks d start 0)
 
 -- What the machine accepts to its end is a document, with these quads.
 pub accepted_document : (form : DocForm) (start : InForce) (ts : List Token) (s : State) (qs : List Quad) → accept_all form (at_start start) ts ≡ ran s qs →
@@ -135,7 +132,7 @@ accepted_document form start ts s qs e o =
     let runs : run form (in_default start) Start ts ≡ Some a.events = ap (run form (in_default start) Start) (sym (append-nil ts)) ∙ a.runs in
     let f = read_found form ts (in_default start) a.events runs in
     let told : ts ≡ document_tokens f.0 = sym f.2 ∙ document_told f.0 start in (
-      document_quads start 0 f.0,
+      event_quads 0 (document_events start f.0),
       record { tree = f.0; tokens = told; bound = passing_bound (document_events start f.0) (rw f.1 at a.bound); quads = refl },
       sym (document_due form start ts f.0 f.2) ∙ sym r.given,
     )

@@ -8,9 +8,8 @@ use Rattle.rdf_lines.specs.Lines.{leaf_of}
 use Rattle.rdf_trig.specs.declared.form.DocForm.{DocForm}
 use Rattle.rdf_trig.specs.Trees.{Document}
 use Rattle.rdf_trig.specs.Quads.{Setting, in_default}
-use Rattle.rdf_trig.specs.Events.{Use, itself, stands, binds, Event, Took, Gave, give, document_events, tokens, HasIri, Bound}
+use Rattle.rdf_trig.specs.Events.{Use, itself, stands, binds, Event, Took, Gave, give, document_events, tokens, event_quads, HasIri, Bound}
 use Rattle.rdf_trig.specs.Machine.{Mode, Start, Reply, No, Go, start, step, waiting, fronted, put, go_on, run}
-use Rattle.rdf_trig.specs.Quads.{document_quads}
 use Rattle.rdf_trig.specs.Documents.{documents, trees}
 use Rattle.rdf_trig.proofs.machine.Completeness.{document_good}
 use Rattle.rdf_trig.proofs.machine.Soundness.{read_found, unput}
@@ -128,13 +127,13 @@ any_passing (Gave q ∷ es) = any_passing es
 
 pub begins_viable : (form : DocForm) (start : InForce) (ts : List Token) → Begins true form start ts → Viable (documents form start) ts
 begins_viable form start ts (d, us, e, b) =
-    (us, document_quads start 0 d, record { tree = d; tokens = sym e ∙ document_told d start; bound = passing_bound (document_events start d) b; quads = refl })
+    (us, event_quads 0 (document_events start d), record { tree = d; tokens = sym e ∙ document_told d start; bound = passing_bound (document_events start d) b; quads = refl })
 
 pub viable_begins : (form : DocForm) (start : InForce) (ts : List Token) → Viable (documents form start) ts → Begins true form start ts
 viable_begins form start ts v = let d = v.2 in (d.tree, v.0, document_told d.tree start ∙ sym d.tokens, bound_passing (document_events start d.tree) d.bound)
 
 pub begins_shaped : (form : DocForm) (start : InForce) (ts : List Token) → Begins false form start ts → Shaped (trees form start) ts
-begins_shaped form start ts (d, us, e, b) = (us, document_quads start 0 d, record { tree = d; tokens = sym e ∙ document_told d start; quads = refl })
+begins_shaped form start ts (d, us, e, b) = (us, event_quads 0 (document_events start d), record { tree = d; tokens = sym e ∙ document_told d start; quads = refl })
 
 pub shaped_begins : (form : DocForm) (start : InForce) (ts : List Token) → Shaped (trees form start) ts → Begins false form start ts
 shaped_begins form start ts v = let d = v.2 in (d.tree, v.0, document_told d.tree start ∙ sym d.tokens, any_passing (document_events start d.tree))

@@ -10,7 +10,7 @@ use Rattle.rdf_iri.specs.Scope.{InForce}
 use Rattle.rdf_lines.specs.Lines.{leaf_of}
 use Rattle.rdf_trig.specs.declared.form.DocForm.{DocForm}
 use Rattle.rdf_trig.specs.Trees.{Document, document_tokens}
-use Rattle.rdf_trig.specs.Quads.{document_quads}
+use Rattle.rdf_trig.specs.TreeQuads.{document_quads}
 use Rattle.rdf_trig.specs.Events.{tokens, event_quads, document_events}
 use Rattle.rdf_trig.specs.Refusals.{Refusal}
 use Rattle.rdf_trig.specs.Machine.{State, refuses, accept, at_start, ran, accept_all}
@@ -25,8 +25,8 @@ pub tree_told : (form : DocForm) (start : InForce) (d : Document form) →
     (tokens (document_events start d) ≡ document_tokens d) × (event_quads 0 (document_events start d) ≡ document_quads start 0 d)
 tree_told form start d = (document_told d start, document_marks d start 0)
 
-pub never_fall : (form : DocForm) (start : InForce) (d : Document form) → Rises 0 (document_quads start 0 d)
-never_fall form start d = subst (Rises 0) (document_marks d start 0) (marked_rises (document_events start d) 0)
+pub never_fall : (form : DocForm) (start : InForce) (d : Document form) → Rises 0 (event_quads 0 (document_events start d))
+never_fall form start d = marked_rises (document_events start d) 0
 
 pub begins : (form : DocForm) (start : InForce) (ts : List Token) (s : State) (qs : List Quad) → accept_all form (at_start start) ts ≡ ran s qs →
     Reads form start ts qs

@@ -17,7 +17,7 @@ use Rattle.rdf_trig.specs.declared.form.DocForm.{DocForm}
 use Rattle.rdf_trig.specs.declared.form.DocForm.TheVariants.{Turtle, TriG}
 use Rattle.rdf_trig.specs.Names.{prefix_of, reference_in, name_in}
 use Rattle.rdf_trig.specs.Trees.{Document, document_tokens}
-use Rattle.rdf_trig.specs.Quads.{document_quads, Setting, in_default, in_graph, named, node, resource, anon_at, labelled, tag_of, plain_literal, tagged_literal, typed_literal, cell_at, rest_quad}
+use Rattle.rdf_trig.specs.Quads.{Setting, in_default, in_graph, named, node, resource, anon_at, labelled, tag_of, plain_literal, tagged_literal, typed_literal, cell_at, rest_quad}
 use Rattle.rdf_trig.specs.Events.{itself, Event, Took, Gave, give, event_quads, document_events}
 use Rattle.rdf_trig.specs.Machine.{Level, Top, InBlock, Place, Listed, InCells, Around, Statement, Boxed, Up, Subject, At, Spelling, Dotted, Sparql, Mode, Start, Over, WantPrefix, WantPrefixIri, WantBaseIri, WantDot, AfterLabel, GraphWord, GraphBox, WantBrace, Inside, Want, After, AfterText, WantType, Box, Paren, WantVerb, Semi, AfterBox, Reply, No, Go, subject_at, verb_at, quad_at, quad_up, nil, iri_object_at, literal_at, object_start, type_at, want_type, verb_is, verb_start, after_subject, node_closed, box_closed, list_closed, list_end, semi, after, tag_at, after_text, box, paren, after_box, subject_is, subject_start, start, inside, want_brace, after_label, graph_is, graph_word, graph_box, directive_end, want_prefix, want_prefix_iri, want_base_iri, want_dot, step, waiting}
 use Rattle.rdf_trig.specs.Machine.{stop, fronted, go_on, run}
@@ -26,7 +26,6 @@ use Rattle.rdf_trig.specs.Laws.{HasIris}
 use Rattle.rdf_trig.proofs.machine.Soundness.{unput}
 use Rattle.rdf_trig.proofs.machine.ViableTokens.{run_tree}
 use Rattle.rdf_trig.proofs.trees.TokensOfEvents.{document_told}
-use Rattle.rdf_trig.proofs.trees.MarksOfEvents.{document_marks}
 use Rattle.rdf_trig.proofs.theorems.WrittenParts.{Room, FitIri, FitSubject, FitWord, FitTerm, FitQuad, Good, GoodToken, Within, known_fits, named_fits, subject_named, resource_fits, typed_fits, stated_fits, anon_fits, cell_fits, label_fits, short_fits, long_fits, integer_fits, decimal_fits, double_fits, true_fits, false_fits, tag_fits, reference_iri, name_iri, base_iris, binding_iris}
 
 module _ (r : Room) where
@@ -401,8 +400,7 @@ module _ (r : Room) where
 
   -- those of a tree whose scope at the start has IRIs
   pub tree_fits : (form : DocForm) (scope : InForce) (d : Document form) → HasIris scope → AllByRecursion (GoodToken r) (document_tokens d) →
-      AllWithin (document_events scope d) → AllFit (unmarked (document_quads scope 0 d))
+      AllWithin (document_events scope d) → AllFit (unmarked (event_quads 0 (document_events scope d)))
   tree_fits form scope d h g w =
       let ran = run_tree true form d scope (document_tokens d) (document_told d scope) in
-      subst (λ ms. AllFit (unmarked ms)) (document_marks d scope 0) (marks_fit 0 (document_events scope d)
-      (run_fits form (document_tokens d) (in_default scope) Start (document_events scope d) ran g w (h, tt) tt))
+      marks_fit 0 (document_events scope d) (run_fits form (document_tokens d) (in_default scope) Start (document_events scope d) ran g w (h, tt) tt)

@@ -8,9 +8,8 @@ use Rattle.rdf_iri.specs.Scope.{InForce}
 use Rattle.rdf_trig.specs.declared.form.DocForm.{DocForm}
 use Rattle.rdf_trig.specs.Trees.{Document}
 use Rattle.rdf_trig.specs.Quads.{in_default}
-use Rattle.rdf_trig.specs.Events.{document_events, tokens}
+use Rattle.rdf_trig.specs.Events.{document_events, tokens, event_quads}
 use Rattle.rdf_trig.specs.Machine.{Level, Top, InBlock, Place, Listed, InCells, Around, Statement, Boxed, Up, Subject, At, Spelling, Dotted, Sparql, Mode, Start, Over, WantPrefix, WantPrefixIri, WantBaseIri, WantDot, AfterLabel, GraphWord, GraphBox, WantBrace, Inside, Want, After, AfterText, WantType, Box, Paren, WantVerb, Semi, AfterBox, start}
-use Rattle.rdf_trig.specs.Quads.{document_quads}
 use Rattle.rdf_trig.specs.Documents.{documents, trees}
 use Rattle.rdf_trig.specs.Laws.{IsClosing, CompletedBy}
 use Rattle.rdf_trig.proofs.machine.Soundness.{read_found}
@@ -105,7 +104,7 @@ completed form start ts = (by_document, by_tree)
         let s = viable_reached form start ts v in
         let w = whole true form start ts s.0 s.1 in (
           close (Stand.mode s.0),
-          document_quads start 0 w.tree,
+          event_quads 0 (document_events start w.tree),
           all_closing (close (Stand.mode s.0)) (closing (Stand.mode s.0)),
           record { tree = w.tree; tokens = sym w.told ∙ document_told w.tree start; bound = passing_bound (document_events start w.tree) w.passing; quads = refl },
         )
@@ -115,7 +114,7 @@ completed form start ts = (by_document, by_tree)
         let s = shaped_reached form start ts v in
         let w = whole false form start ts s.0 s.1 in (
           close (Stand.mode s.0),
-          document_quads start 0 w.tree,
+          event_quads 0 (document_events start w.tree),
           all_closing (close (Stand.mode s.0)) (closing (Stand.mode s.0)),
           record { tree = w.tree; tokens = sym w.told ∙ document_told w.tree start; quads = refl },
         )
