@@ -100,7 +100,8 @@ abbrev mutual
       object_events c o (node (cell_of o)) (Some (known_chars RdfFirst)) (rest_quad c cell (items_of (item o os))) (rest_events c os (cell_of o) r rest)
 
   pub list_events : Setting → BlankNodePropertyList → Option Quad → Option Quad → List Event → List Event
-  list_events c (property_list l ps r) early q rest = take OpenBracket l (give early (give q (predicates_events c ps (node (anon_at l)) (take CloseBracket r rest))))
+  list_events c (property_list l ps r) early q rest =
+      take OpenBracket l (give early (give q (predicates_events c ps (node (anon_at l)) (take CloseBracket r rest))))
 
   pub predicates_events : Setting → PredicateObjectList → Option term.Subject → List Event → List Event
   predicates_events c (predicate_objects v os m) s rest = verb_events c.scope v (objects_events c os s (verb_of c.scope v) (more_events c m s rest))
@@ -108,7 +109,8 @@ abbrev mutual
   pub more_events : Setting → More → Option term.Subject → List Event → List Event
   more_events c no_more s rest = rest
   more_events c (semicolon l m) s rest = take Semicolon l (more_events c m s rest)
-  more_events c (semicolon_objects l v os m) s rest = take Semicolon l (verb_events c.scope v (objects_events c os s (verb_of c.scope v) (more_events c m s rest)))
+  more_events c (semicolon_objects l v os m) s rest =
+      take Semicolon l (verb_events c.scope v (objects_events c os s (verb_of c.scope v) (more_events c m s rest)))
 
   pub objects_events : Setting → ObjectList → Option term.Subject → Option (List ℕ) → List Event → List Event
   objects_events c (objects o os) s p rest = object_events c o s p None (commas_events c os s p rest)
@@ -160,7 +162,8 @@ abbrev pub trig_events : InForce → Block → List Event → List Event
 trig_events s (triples_or_graph (named_graph g w)) rest = label_events s g (wrapped_events (in_graph s (label_of s g)) w rest)
 trig_events s (triples_or_graph (label_triples g ps d)) rest = label_events s g (predicates_events (in_default s) ps (label_of s g) (take Dot d rest))
 trig_events s (default_graph w) rest = wrapped_events (in_default s) w rest
-trig_events s (triples2 (list_triples2 p ps d)) rest = list_events (in_default s) p None None (maybe_events (in_default s) (Some (list_of p)) ps (take Dot d rest))
+trig_events s (triples2 (list_triples2 p ps d)) rest =
+    list_events (in_default s) p None None (maybe_events (in_default s) (Some (list_of p)) ps (take Dot d rest))
 trig_events s (triples2 (collection_triples2 os ps d)) rest =
     collection_events (in_default s) os None None (predicates_events (in_default s) ps (Some (collection_of os)) (take Dot d rest))
 trig_events s (graph_word l g w) rest = take Graph l (label_events s g (wrapped_events (in_graph s (label_of s g)) w rest))

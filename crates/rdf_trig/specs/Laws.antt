@@ -46,7 +46,8 @@ TokensSettleTheQuads = (form : DocForm) (start : InForce) (ts : List Token) (qs 
 
 -- What is due behind some tokens is the same in every document that begins with them.
 abbrev pub TokensSettleWhatIsDue : Type 0
-TokensSettleWhatIsDue = (form : DocForm) (start : InForce) (ts : List Token) (qs rs : List Quad) → Due (documents form start) ts qs → Due (documents form start) ts rs → qs ≡ rs
+TokensSettleWhatIsDue = (form : DocForm) (start : InForce) (ts : List Token) (qs rs : List Quad) → Due (documents form start) ts qs →
+    Due (documents form start) ts rs → qs ≡ rs
 
 -- What is due is a beginning of the quads of each document that begins so.
 abbrev pub DueBeginsTheQuads : Type 0
@@ -55,7 +56,8 @@ DueBeginsTheQuads = (form : DocForm) (start : InForce) (ts more : List Token) (q
 
 -- What a token stands for is the same in every tree that begins with the tokens before it and with it.
 abbrev pub TokensSettleTheirSenses : Type 0
-TokensSettleTheirSenses = (form : DocForm) (start : InForce) (ahead : List Token) (t : Token) (u v : Use) → InTree form start ahead t u → InTree form start ahead t v → u ≡ v
+TokensSettleTheirSenses = (form : DocForm) (start : InForce) (ahead : List Token) (t : Token) (u v : Use) → InTree form start ahead t u →
+    InTree form start ahead t v → u ≡ v
 
 -- some tree begins with the tokens, and each name and reference among them stands for an IRI in the scope that the start and the directives among them give
 pub record ShapedAndBound (form : DocForm) (start : InForce) (ts : List Token) : Type 0 where
@@ -68,7 +70,8 @@ pub record ShapedAndBound (form : DocForm) (start : InForce) (ts : List Token) :
 pub record ViableWhereBound (form : DocForm) (start : InForce) (ts : List Token) : Type 0 where
   pub bound : Viable (documents form start) ts → ShapedAndBound form start ts
   pub viable : ShapedAndBound form start ts → Viable (documents form start) ts
-  pub every : Viable (documents form start) ts → (tree : Document form) (more : List Token) → ts ++ more ≡ document_tokens tree → BoundFront (length ts) (document_events start tree)
+  pub every : Viable (documents form start) ts → (tree : Document form) (more : List Token) → ts ++ more ≡ document_tokens tree →
+      BoundFront (length ts) (document_events start tree)
 
 abbrev pub ViableIsShapedAndBound : Type 0
 ViableIsShapedAndBound = (form : DocForm) (start : InForce) (ts : List Token) → ViableWhereBound form start ts
@@ -112,12 +115,14 @@ DirectivesBind = (s : InForce) (prefix iri : List ℕ) → Binds s prefix iri (w
 
 -- The machine accepts a document of which no token passes a limit to its end, and gives out its quads.
 abbrev pub DocumentsAreAccepted : Type 0
-DocumentsAreAccepted = (form : DocForm) (start : InForce) (ts : List Token) (qs : List Marked) → documents form start ts qs → PassesNone (Passes form start) ts →
+DocumentsAreAccepted = (form : DocForm) (start : InForce) (ts : List Token) (qs : List Marked) → documents form start ts qs →
+    PassesNone (Passes form start) ts →
     (s : State) × (accept_all form (at_start start) ts ≡ ran s (unmarked qs)) × (s.mode ≡ Over)
 
 -- What it accepts to its end is a document, and what it gave out are its quads.
 abbrev pub AcceptedIsADocument : Type 0
-AcceptedIsADocument = (form : DocForm) (start : InForce) (ts : List Token) (s : State) (qs : List Quad) → accept_all form (at_start start) ts ≡ ran s qs → s.mode ≡ Over →
+AcceptedIsADocument = (form : DocForm) (start : InForce) (ts : List Token) (s : State) (qs : List Quad) →
+    accept_all form (at_start start) ts ≡ ran s qs → s.mode ≡ Over →
     (all : List Marked) × documents form start ts all × (unmarked all ≡ qs)
 
 -- What it accepts begins a document within the limits, and what it gave out is due.
@@ -126,7 +131,8 @@ pub record Reads (form : DocForm) (start : InForce) (ts : List Token) (qs : List
   pub due : Due (documents form start) ts qs
 
 abbrev pub AcceptedBeginsADocument : Type 0
-AcceptedBeginsADocument = (form : DocForm) (start : InForce) (ts : List Token) (s : State) (qs : List Quad) → accept_all form (at_start start) ts ≡ ran s qs → Reads form start ts qs
+AcceptedBeginsADocument = (form : DocForm) (start : InForce) (ts : List Token) (s : State) (qs : List Quad) →
+    accept_all form (at_start start) ts ≡ ran s qs → Reads form start ts qs
 
 -- Each token that it refuses is refused for its reason, and what stands before it is the front of the whole.
 pub record IsRefusedAfter (form : DocForm) (start : InForce) (ts : List Token) (t : Token) (more : List Token) (x : Refusal) : Type 0 where
@@ -134,7 +140,8 @@ pub record IsRefusedAfter (form : DocForm) (start : InForce) (ts : List Token) (
   pub front : IsFront (documents form start) (Passes form start) (ts ++ t ∷ more) ts
 
 abbrev pub RefusedForItsReason : Type 0
-RefusedForItsReason = (form : DocForm) (start : InForce) (ts : List Token) (t : Token) (more : List Token) (s : State) (qs : List Quad) (x : Refusal) → accept_all form (at_start start) ts ≡ ran s qs →
+RefusedForItsReason = (form : DocForm) (start : InForce) (ts : List Token) (t : Token) (more : List Token) (s : State) (qs : List Quad)
+    (x : Refusal) → accept_all form (at_start start) ts ≡ ran s qs →
     accept form s t.kind (leaf_of t) ≡ refuses x → IsRefusedAfter form start ts t more x
 
 -- What a reader has read decides tokens that are all in the front, leaves the next one open, and the quads that were put are due after them.
@@ -145,12 +152,14 @@ ReadQuadsAreDue = (r : TrigRead) (x : Chosen) (bytes : List ℕ) (quads : List Q
 
 -- A document within the limits is read to its end, however it is cut.
 abbrev pub DocumentsAreRead : Type 0
-DocumentsAreRead = (form : DocForm) (start : InForce) (bytes : List ℕ) (quads : List Quad) → IsDocumentOf (language form start) bytes quads → IsWithin (language form start) bytes →
+DocumentsAreRead = (form : DocForm) (start : InForce) (bytes : List ℕ) (quads : List Quad) → IsDocumentOf (language form start) bytes quads →
+    IsWithin (language form start) bytes →
     IsReadToItsEnd (language form start) bytes
 
 -- What is refused is no document within the limits.
 abbrev pub RefusedIsNoDocument : Type 0
-RefusedIsNoDocument = (form : DocForm) (start : InForce) (bytes : List ℕ) (quads : List Quad) (reason : Reason) (at : Place) → Refused (language form start) bytes true reason at →
+RefusedIsNoDocument = (form : DocForm) (start : InForce) (bytes : List ℕ) (quads : List Quad) (reason : Reason) (at : Place) →
+    Refused (language form start) bytes true reason at →
     IsDocumentOf (language form start) bytes quads → IsWithin (language form start) bytes → ⊥
 
 -- the base, where there is one, and what each prefix is bound to are IRIs
@@ -166,5 +175,6 @@ DocumentIsWritable = (form : DocForm) (start : InForce) (bytes : List ℕ) (qs :
 -- What is written for a document within its limits is read to its end as N-Quads with limits that are a little higher.
 abbrev pub WrittenDocumentIsRead : Type 0
 WrittenDocumentIsRead = (form : DocForm) (start : InForce) (bytes : List ℕ) (qs : List Quad) → HasIris start → length bytes ≤ most_bytes →
-    IsDocumentOf (language form start) bytes qs → IsWhole (language form start) bytes → (token_then iri_then : ℕ) → 2 * start.limits.token ≤ token_then → start.limits.iri + 2 ≤ token_then → 64 ≤ token_then →
+    IsDocumentOf (language form start) bytes qs → IsWhole (language form start) bytes → (token_then iri_then : ℕ) →
+    2 * start.limits.token ≤ token_then → start.limits.iri + 2 ≤ token_then → 64 ≤ token_then →
     start.limits.iri ≤ iri_then → 64 ≤ iri_then → IsReadToItsEnd (in_lines NQuads token_then iri_then) (encode_utf8_all (text Tagged qs))

@@ -107,7 +107,8 @@ abbrev pub trig_quads : InForce → ℕ → Block → List Marked
 trig_quads s n (triples_or_graph (named_graph g w)) = wrapped_quads (in_graph s (label_of s g)) (n + length (label_tokens g)) w
 trig_quads s n (triples_or_graph (label_triples g ps d)) = predicates_quads (in_default s) (n + length (label_tokens g)) (label_of s g) ps
 trig_quads s n (default_graph w) = wrapped_quads (in_default s) n w
-trig_quads s n (triples2 (list_triples2 p ps d)) = list_quads (in_default s) n p ++ maybe_quads (in_default s) (n + length (list_tokens p)) (Some (list_of p)) ps
+trig_quads s n (triples2 (list_triples2 p ps d)) =
+    list_quads (in_default s) n p ++ maybe_quads (in_default s) (n + length (list_tokens p)) (Some (list_of p)) ps
 trig_quads s n (triples2 (collection_triples2 os ps d)) =
     collection_quads (in_default s) n os ++ predicates_quads (in_default s) (n + length (collection_tokens os)) (Some (collection_of os)) ps
 trig_quads s n (graph_word l g w) = wrapped_quads (in_graph s (label_of s g)) (n + 1 + length (label_tokens g)) w

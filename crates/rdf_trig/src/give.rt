@@ -37,10 +37,12 @@ pub fn give<A: Allocator, S: QuadSink>(
     sink: &mut S,
 ) -> Result<u64, StepFault>
     requires live { S.has_failed sink.old ≡ false }
-    ensures ok { OnOk result ((form : DocForm) (s : InForce) → Appends S.takes sink.old (given form s mode.now level.now frames.now rest.now held.now token.now) sink.new) }
+    ensures ok { OnOk result ((form : DocForm) (s : InForce) →
+        Appends S.takes sink.old (given form s mode.now level.now frames.now rest.now held.now token.now) sink.new) }
     ensures count { IfOk result (λ n. (form : DocForm) (s : InForce) → n ≡ length (given form s mode.now level.now frames.now rest.now held.now token.now)) }
     ensures live { OnOk result (S.has_failed sink.new ≡ false) }
-    ensures err { IfErr result (λ r. (form : DocForm) (s : InForce) → GaveUp S.takes S.leaves S.has_failed r (given form s mode.now level.now frames.now rest.now held.now token.now) sink.old sink.new) }
+    ensures err { IfErr result (λ r. (form : DocForm) (s : InForce) →
+        GaveUp S.takes S.leaves S.has_failed r (given form s mode.now level.now frames.now rest.now held.now token.now) sink.old sink.new) }
 {
     let graph = graph(mode, level);
     let rest = put(rest_quad(rest, graph), sink)?;
@@ -90,7 +92,8 @@ fn held_quad<'a, A: Allocator>(
     frames: &'a [Frame<A>],
     graph: Option<SubjectRef<'a>>,
 ) -> Option<QuadRef<'a>>
-    ensures { (form : DocForm) (v : M.Level) → option_map quad_of result ≡ held_of (option_map (subject_by chars) graph.entry) (mode_at form v (up_of v frames.now) mode.now) held.now }
+    ensures { (form : DocForm) (v : M.Level) → option_map quad_of result ≡ held_of (option_map (subject_by chars) graph.entry)
+        (mode_at form v (up_of v frames.now) mode.now) held.now }
 {
     match held {
         Held::Nothing => None,
@@ -159,7 +162,8 @@ fn waiting_quad<'a, A: Allocator>(
     graph: Option<SubjectRef<'a>>,
     token: &Token<'_>,
 ) -> Option<QuadRef<'a>>
-    ensures { (form : DocForm) (s : InForce) (v : M.Level) → option_map quad_of result ≡ M.waiting (setting s (option_map (subject_by chars) graph.entry)) (mode_at form v (up_of v frames.now) mode.now) token.now.kind (leaf token.now) }
+    ensures { (form : DocForm) (s : InForce) (v : M.Level) → option_map quad_of result ≡ M.waiting
+        (setting s (option_map (subject_by chars) graph.entry)) (mode_at form v (up_of v frames.now) mode.now) token.now.kind (leaf token.now) }
 {
     match mode {
         Mode::AfterText(lexical, frame) => match token.kind {
@@ -203,7 +207,8 @@ fn quad_up<'a, A: Allocator>(
     object: TermRef<'a>,
     graph: Option<SubjectRef<'a>>,
 ) -> Option<QuadRef<'a>>
-    ensures { (v : M.Level) → option_map quad_of result ≡ up_quad (option_map (subject_by chars) graph.entry) (up_of v frames.now) (term_by chars object.entry) }
+    ensures { (v : M.Level) → option_map quad_of result ≡ up_quad (option_map (subject_by chars) graph.entry) (up_of v frames.now)
+        (term_by chars object.entry) }
 {
     match frames.last() {
         None => None,
@@ -218,7 +223,8 @@ fn quad_at<'a, A: Allocator>(
     object: TermRef<'a>,
     graph: Option<SubjectRef<'a>>,
 ) -> QuadRef<'a>
-    ensures { (v : M.Level) (u : M.Up) → Some (quad_of result) ≡ stated (Some (option_map (subject_by chars) graph.entry)) (subject_at (place_of v frame.now u)) (verb_at (place_of v frame.now u)) (Some (term_by chars object.entry)) }
+    ensures { (v : M.Level) (u : M.Up) → Some (quad_of result) ≡ stated (Some (option_map (subject_by chars) graph.entry))
+        (subject_at (place_of v frame.now u)) (verb_at (place_of v frame.now u)) (Some (term_by chars object.entry)) }
 {
     match frame {
         Frame::List {

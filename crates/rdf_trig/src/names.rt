@@ -146,8 +146,10 @@ pub fn look_up<A: Allocator + Copy>(
 ) -> Result<Option<Iri<A>>, StepFault>
     requires token { IsTurtleToken token.now }
     requires short { PrefixFits (4 * scope.old.limits.token) mode.now }
-    ensures ok { IfOk result (λ i. (form : DocForm) (v : M.Level) (u : M.Up) (s : InForce) → SameScope s scope.old → LooksUp s (mode_at form v u mode.now) token.now.kind (leaf token.now) i scope.new) }
-    ensures err { IfErr result (λ r. (form : DocForm) (v : M.Level) (u : M.Up) (s : InForce) → SameScope s scope.old → LooksUpNone s (mode_at form v u mode.now) token.now.kind (leaf token.now) r) }
+    ensures ok { IfOk result (λ i. (form : DocForm) (v : M.Level) (u : M.Up) (s : InForce) → SameScope s scope.old →
+        LooksUp s (mode_at form v u mode.now) token.now.kind (leaf token.now) i scope.new) }
+    ensures err { IfErr result (λ r. (form : DocForm) (v : M.Level) (u : M.Up) (s : InForce) → SameScope s scope.old →
+        LooksUpNone s (mode_at form v u mode.now) token.now.kind (leaf token.now) r) }
 {
     match mode {
         Mode::Outer(outer) => look_up_outer(alloc, outer, scope, token),
@@ -182,8 +184,10 @@ fn look_up_prefix<A: Allocator + Copy>(
 ) -> Result<Option<Iri<A>>, StepFault>
     requires token { IsTurtleToken token.now }
     requires short { byte_len (chars (string_bytes prefix.now)) ≤ 4 * scope.old.limits.token }
-    ensures ok { IfOk result (λ i. (w : M.Spelling) (s : InForce) → SameScope s scope.old → LooksUp s (M.WantPrefixIri w (chars (string_bytes prefix.now))) token.now.kind (leaf token.now) i scope.new) }
-    ensures err { IfErr result (λ r. (w : M.Spelling) (s : InForce) → SameScope s scope.old → LooksUpNone s (M.WantPrefixIri w (chars (string_bytes prefix.now))) token.now.kind (leaf token.now) r) }
+    ensures ok { IfOk result (λ i. (w : M.Spelling) (s : InForce) → SameScope s scope.old →
+        LooksUp s (M.WantPrefixIri w (chars (string_bytes prefix.now))) token.now.kind (leaf token.now) i scope.new) }
+    ensures err { IfErr result (λ r. (w : M.Spelling) (s : InForce) → SameScope s scope.old →
+        LooksUpNone s (M.WantPrefixIri w (chars (string_bytes prefix.now))) token.now.kind (leaf token.now) r) }
 {
     match token.kind {
         Kind::IriRef => match bind(alloc, scope, prefix, token) {
@@ -200,8 +204,10 @@ fn look_up_base<A: Allocator + Copy>(
     token: &Token<'_>,
 ) -> Result<Option<Iri<A>>, StepFault>
     requires token { IsTurtleToken token.now }
-    ensures ok { IfOk result (λ i. (w : M.Spelling) (s : InForce) → SameScope s scope.old → LooksUp s (M.WantBaseIri w) token.now.kind (leaf token.now) i scope.new) }
-    ensures err { IfErr result (λ r. (w : M.Spelling) (s : InForce) → SameScope s scope.old → LooksUpNone s (M.WantBaseIri w) token.now.kind (leaf token.now) r) }
+    ensures ok { IfOk result (λ i. (w : M.Spelling) (s : InForce) → SameScope s scope.old →
+        LooksUp s (M.WantBaseIri w) token.now.kind (leaf token.now) i scope.new) }
+    ensures err { IfErr result (λ r. (w : M.Spelling) (s : InForce) → SameScope s scope.old →
+        LooksUpNone s (M.WantBaseIri w) token.now.kind (leaf token.now) r) }
 {
     match token.kind {
         Kind::IriRef => match set_base(alloc, scope, token) {

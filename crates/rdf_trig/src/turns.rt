@@ -35,7 +35,9 @@ pub fn turn<A: Allocator + Copy>(
 ) -> Result<Turn<A>, StepFault>
     requires token { IsTurtleToken token.now }
     requires named { IsNamedIn (mode_of form level.old frames.old.items mode) token.now.kind name }
-    ensures { (s : InForce) → let m = mode_of form level.old frames.old.items mode in NameIn s m token.now.kind (leaf token.now) name → Gives form (scope_in s m token.now.kind (leaf token.now)) (use_in s m token.now.kind (leaf token.now)) result level.new frames.new.items (M.step form (setting s (graph_at mode (graph_of level.old))) m token.now.kind (leaf token.now)) }
+    ensures { (s : InForce) → let m = mode_of form level.old frames.old.items mode in NameIn s m token.now.kind (leaf token.now) name →
+        Gives form (scope_in s m token.now.kind (leaf token.now)) (use_in s m token.now.kind (leaf token.now)) result level.new frames.new.items
+        (M.step form (setting s (graph_at mode (graph_of level.old))) m token.now.kind (leaf token.now)) }
 {
     match mode {
         Mode::Outer(outer) => outer_turn(alloc, form, outer, level, frames, token, name),
@@ -68,7 +70,10 @@ fn outer_turn<A: Allocator>(
 ) -> Result<Turn<A>, StepFault>
     requires token { IsTurtleToken token.now }
     requires named { IsNamedIn (outer_of outer) token.now.kind name }
-    ensures { (s : InForce) → NameIn s (outer_of outer) token.now.kind (leaf token.now) name → Gives form (scope_in s (outer_of outer) token.now.kind (leaf token.now)) (use_in s (outer_of outer) token.now.kind (leaf token.now)) result level.new frames.new.items (M.step form (setting s (outer_graph outer)) (outer_of outer) token.now.kind (leaf token.now)) }
+    ensures { (s : InForce) → NameIn s (outer_of outer) token.now.kind (leaf token.now) name →
+        Gives form (scope_in s (outer_of outer) token.now.kind (leaf token.now))
+        (use_in s (outer_of outer) token.now.kind (leaf token.now)) result level.new frames.new.items
+        (M.step form (setting s (outer_graph outer)) (outer_of outer) token.now.kind (leaf token.now)) }
 {
     match outer {
         Outer::Start => start(alloc, form, level, frames, token, name),
@@ -96,7 +101,9 @@ fn start<A: Allocator>(
 ) -> Result<Turn<A>, StepFault>
     requires token { IsTurtleToken token.now }
     requires named { IsNamed token.now.kind name }
-    ensures { (s : InForce) → name_at s token.now.kind (leaf token.now) ≡ name → Gives form s (use_at s token.now.kind (leaf token.now)) result level.new frames.new.items (M.start form (setting s None) token.now.kind (leaf token.now)) }
+    ensures { (s : InForce) → name_at s token.now.kind (leaf token.now) ≡ name →
+        Gives form s (use_at s token.now.kind (leaf token.now)) result level.new frames.new.items
+        (M.start form (setting s None) token.now.kind (leaf token.now)) }
 {
     match outer_start(form, token.kind) {
         Some(outer) => Ok(quiet(Mode::Outer(outer))),
@@ -109,7 +116,9 @@ fn start<A: Allocator>(
 
 // What begins there besides a statement.
 fn outer_start<A: Allocator>(form: DocForm, kind: Kind) -> Option<Outer<A>>
-    ensures { MatchOption result ((s : InForce) (l : Leaf) → M.start form (setting s None) kind l ≡ M.subject_start form (setting s None) M.Top kind l) (λ o. (s : InForce) (l : Leaf) → M.start form (setting s None) kind l ≡ Go (use_at s kind l) None None (setting s (outer_graph o)) (outer_of o)) }
+    ensures { MatchOption result ((s : InForce) (l : Leaf) → M.start form (setting s None) kind l ≡ M.subject_start form
+        (setting s None) M.Top kind l) (λ o. (s : InForce) (l : Leaf) →
+        M.start form (setting s None) kind l ≡ Go (use_at s kind l) None None (setting s (outer_graph o)) (outer_of o)) }
 {
     match (kind, form) {
         (Kind::End, _) => Some(Outer::Over),
@@ -135,7 +144,9 @@ fn inside<A: Allocator>(
 ) -> Result<Turn<A>, StepFault>
     requires token { IsTurtleToken token.now }
     requires named { IsNamed token.now.kind name }
-    ensures { (form : DocForm) (s : InForce) → name_at s token.now.kind (leaf token.now) ≡ name → Gives form s (use_at s token.now.kind (leaf token.now)) result level.new frames.new.items (M.inside form (setting s (option_map owned_subject graph)) token.now.kind (leaf token.now)) }
+    ensures { (form : DocForm) (s : InForce) → name_at s token.now.kind (leaf token.now) ≡ name →
+        Gives form s (use_at s token.now.kind (leaf token.now)) result level.new frames.new.items
+        (M.inside form (setting s (option_map owned_subject graph)) token.now.kind (leaf token.now)) }
 {
     match token.kind {
         Kind::CloseBrace => Ok(quiet(Mode::Outer(Outer::Start))),
@@ -163,7 +174,9 @@ fn subject_start<A: Allocator>(
 ) -> Result<Turn<A>, StepFault>
     requires token { IsTurtleToken token.now }
     requires named { IsNamed token.now.kind name }
-    ensures { (form : DocForm) (s : InForce) (v : Level A) → name_at s token.now.kind (leaf token.now) ≡ name → Gives form s (use_at s token.now.kind (leaf token.now)) result v [] (M.subject_start form (setting s (graph_of v)) (level_of v) token.now.kind (leaf token.now)) }
+    ensures { (form : DocForm) (s : InForce) (v : Level A) → name_at s token.now.kind (leaf token.now) ≡ name →
+        Gives form s (use_at s token.now.kind (leaf token.now)) result v []
+        (M.subject_start form (setting s (graph_of v)) (level_of v) token.now.kind (leaf token.now)) }
 {
     match (token.kind, name) {
         (Kind::IriRef | Kind::PnameNs | Kind::PnameLn, Some(iri)) => {
@@ -192,7 +205,8 @@ fn want_prefix<A: Allocator>(
 }
 
 fn want_prefix_iri<A: Allocator>(spelling: Spelling, kind: Kind) -> Result<Outer<A>, StepFault>
-    ensures { (s : InForce) (p : List ℕ) (l : Leaf) → let m = M.WantPrefixIri (spelling_of spelling) p in GivesOuter (scope_in s m kind l) (use_in s m kind l) result (M.want_prefix_iri (setting s None) (spelling_of spelling) p kind l) }
+    ensures { (s : InForce) (p : List ℕ) (l : Leaf) → let m = M.WantPrefixIri (spelling_of spelling) p in
+        GivesOuter (scope_in s m kind l) (use_in s m kind l) result (M.want_prefix_iri (setting s None) (spelling_of spelling) p kind l) }
 {
     match kind {
         Kind::IriRef => Ok(directive_end(spelling)),
@@ -201,7 +215,8 @@ fn want_prefix_iri<A: Allocator>(spelling: Spelling, kind: Kind) -> Result<Outer
 }
 
 fn want_base_iri<A: Allocator>(spelling: Spelling, kind: Kind) -> Result<Outer<A>, StepFault>
-    ensures { (s : InForce) (l : Leaf) → let m = M.WantBaseIri (spelling_of spelling) in GivesOuter (scope_in s m kind l) (use_in s m kind l) result (M.want_base_iri (setting s None) (spelling_of spelling) kind l) }
+    ensures { (s : InForce) (l : Leaf) → let m = M.WantBaseIri (spelling_of spelling) in
+        GivesOuter (scope_in s m kind l) (use_in s m kind l) result (M.want_base_iri (setting s None) (spelling_of spelling) kind l) }
 {
     match kind {
         Kind::IriRef => Ok(directive_end(spelling)),
@@ -236,7 +251,8 @@ fn graph_word<A: Allocator>(
 ) -> Result<Outer<A>, StepFault>
     requires token { IsTurtleToken token.now }
     requires named { IsNamed token.now.kind name }
-    ensures { (s : InForce) → name_at s token.now.kind (leaf token.now) ≡ name → GivesOuter s (use_at s token.now.kind (leaf token.now)) result (M.graph_word (setting s None) token.now.kind (leaf token.now)) }
+    ensures { (s : InForce) → name_at s token.now.kind (leaf token.now) ≡ name →
+        GivesOuter s (use_at s token.now.kind (leaf token.now)) result (M.graph_word (setting s None) token.now.kind (leaf token.now)) }
 {
     match (token.kind, name) {
         (Kind::IriRef | Kind::PnameNs | Kind::PnameLn, Some(iri)) => {
@@ -259,7 +275,8 @@ fn graph_bracket<A: Allocator>(node: u64, kind: Kind) -> Result<Outer<A>, StepFa
 
 // Where a token leads outside of statements.
 fn led<A: Allocator>(outer: Result<Outer<A>, StepFault>) -> Result<Turn<A>, StepFault>
-    ensures { (form : DocForm) (s : InForce) (u : Use) (v : Level A) (fs : List (Frame A)) (reply : Reply) → GivesOuter s u outer reply → Gives form s u result v fs reply }
+    ensures { (form : DocForm) (s : InForce) (u : Use) (v : Level A) (fs : List (Frame A)) (reply : Reply) → GivesOuter s u outer reply →
+        Gives form s u result v fs reply }
 {
     match outer {
         Ok(outer) => Ok(quiet(Mode::Outer(outer))),
@@ -285,7 +302,9 @@ fn after_subject<A: Allocator>(
     name: Option<Iri<A>>,
 ) -> Result<Turn<A>, StepFault>
     requires named { IsNamed kind name }
-    ensures { (s : InForce) (fs : List (Frame A)) (l : Leaf) → name_at s kind l ≡ name → Gives form s (use_at s kind l) result level.now fs (M.step form (setting s (graph_of level.now)) (M.after_subject form (level_of level.now) (Some (owned_subject subject))) kind l) }
+    ensures { (s : InForce) (fs : List (Frame A)) (l : Leaf) → name_at s kind l ≡ name →
+        Gives form s (use_at s kind l) result level.now fs (M.step form (setting s (graph_of level.now))
+        (M.after_subject form (level_of level.now) (Some (owned_subject subject))) kind l) }
 {
     match level {
         Level::Block(_) => verb_start(Topic::Term(subject), Around::Statement, kind, name),
@@ -303,7 +322,8 @@ fn after_label<A: Allocator>(
     name: Option<Iri<A>>,
 ) -> Result<Turn<A>, StepFault>
     requires named { IsNamed kind name }
-    ensures { (form : DocForm) (s : InForce) (fs : List (Frame A)) (l : Leaf) → name_at s kind l ≡ name → Gives form s (use_at s kind l) result Level.Top fs (M.after_label (setting s None) (Some (owned_subject label)) kind l) }
+    ensures { (form : DocForm) (s : InForce) (fs : List (Frame A)) (l : Leaf) → name_at s kind l ≡ name →
+        Gives form s (use_at s kind l) result Level.Top fs (M.after_label (setting s None) (Some (owned_subject label)) kind l) }
 {
     match kind {
         Kind::OpenBrace => Ok(quiet(Mode::Outer(Outer::Inside(Some(label))))),
@@ -324,7 +344,10 @@ fn after_text<A: Allocator + Copy>(
 ) -> Result<Turn<A>, StepFault>
     requires token { IsTurtleToken token.now }
     requires named { IsNamed token.now.kind name }
-    ensures { (form : DocForm) (s : InForce) → name_at s token.now.kind (leaf token.now) ≡ name → Gives form s (use_at s token.now.kind (leaf token.now)) result level.new frames.new.items (M.after_text (setting s (graph_of level.old)) (chars (string_bytes lexical)) (place_of (level_of level.old) frame (up_of (level_of level.old) frames.old.items)) token.now.kind (leaf token.now)) }
+    ensures { (form : DocForm) (s : InForce) → name_at s token.now.kind (leaf token.now) ≡ name →
+        Gives form s (use_at s token.now.kind (leaf token.now)) result level.new frames.new.items
+        (M.after_text (setting s (graph_of level.old)) (chars (string_bytes lexical))
+        (place_of (level_of level.old) frame (up_of (level_of level.old) frames.old.items)) token.now.kind (leaf token.now)) }
 {
     match token.kind {
         Kind::LangTag | Kind::AtBase | Kind::AtPrefix => Ok(whole(
@@ -348,7 +371,10 @@ fn after<A: Allocator + Copy>(
 ) -> Result<Turn<A>, StepFault>
     requires token { IsTurtleToken token.now }
     requires named { IsNamed token.now.kind name }
-    ensures { (form : DocForm) (s : InForce) → name_at s token.now.kind (leaf token.now) ≡ name → Gives form s (use_at s token.now.kind (leaf token.now)) result level.new frames.new.items (M.after (setting s (graph_of level.old)) (place_of (level_of level.old) frame (up_of (level_of level.old) frames.old.items)) token.now.kind (leaf token.now)) }
+    ensures { (form : DocForm) (s : InForce) → name_at s token.now.kind (leaf token.now) ≡ name →
+        Gives form s (use_at s token.now.kind (leaf token.now)) result level.new frames.new.items
+        (M.after (setting s (graph_of level.old)) (place_of (level_of level.old) frame (up_of (level_of level.old) frames.old.items)) token.now.kind
+        (leaf token.now)) }
 {
     match frame {
         Frame::List {
@@ -368,7 +394,9 @@ fn after_listed<A: Allocator>(
     frames: &mut Vec<Frame<A>, A>,
     kind: Kind,
 ) -> Result<Turn<A>, StepFault>
-    ensures { (form : DocForm) (s : InForce) (l : Leaf) → Gives form s (use_at s kind l) result level.new frames.new.items (M.after (setting s (graph_of level.old)) (place_of (level_of level.old) (Frame.List subject verb around) (up_of (level_of level.old) frames.old.items)) kind l) }
+    ensures { (form : DocForm) (s : InForce) (l : Leaf) → Gives form s (use_at s kind l) result level.new frames.new.items
+        (M.after (setting s (graph_of level.old)) (place_of (level_of level.old) (Frame.List subject verb around)
+        (up_of (level_of level.old) frames.old.items)) kind l) }
 {
     match kind {
         Kind::Comma => Ok(quiet(Mode::Want(Frame::List {
@@ -392,7 +420,9 @@ fn after_item<A: Allocator + Copy>(
 ) -> Result<Turn<A>, StepFault>
     requires token { IsTurtleToken token.now }
     requires named { IsNamed token.now.kind name }
-    ensures { (form : DocForm) (s : InForce) (v : Level A) → name_at s token.now.kind (leaf token.now) ≡ name → Gives form s (use_at s token.now.kind (leaf token.now)) result v frames.new.items (M.after (setting s (graph_of v)) (M.InCells first cell (up_of (level_of v) frames.old.items)) token.now.kind (leaf token.now)) }
+    ensures { (form : DocForm) (s : InForce) (v : Level A) → name_at s token.now.kind (leaf token.now) ≡ name →
+        Gives form s (use_at s token.now.kind (leaf token.now)) result v frames.new.items
+        (M.after (setting s (graph_of v)) (M.InCells first cell (up_of (level_of v) frames.old.items)) token.now.kind (leaf token.now)) }
 {
     match token.kind {
         Kind::CloseParen => {
@@ -425,7 +455,9 @@ fn want_type<A: Allocator>(
     name: Option<Iri<A>>,
 ) -> Result<Turn<A>, StepFault>
     requires named { IsNamed kind name }
-    ensures { (form : DocForm) (s : InForce) (v : Level A) (fs : List (Frame A)) (l : Leaf) → name_at s kind l ≡ name → Gives form s (use_at s kind l) result v fs (M.want_type (setting s (graph_of v)) (chars (string_bytes lexical)) (place_of (level_of v) frame (up_of (level_of v) fs)) kind l) }
+    ensures { (form : DocForm) (s : InForce) (v : Level A) (fs : List (Frame A)) (l : Leaf) → name_at s kind l ≡ name →
+        Gives form s (use_at s kind l) result v fs (M.want_type (setting s (graph_of v)) (chars (string_bytes lexical))
+        (place_of (level_of v) frame (up_of (level_of v) fs)) kind l) }
 {
     match (kind, name) {
         (Kind::IriRef | Kind::PnameNs | Kind::PnameLn, Some(iri)) => {
@@ -444,7 +476,8 @@ fn bracket<A: Allocator>(
     name: Option<Iri<A>>,
 ) -> Result<Turn<A>, StepFault>
     requires named { IsNamed kind name }
-    ensures { (form : DocForm) (s : InForce) (v : Level A) (l : Leaf) → name_at s kind l ≡ name → Gives form s (use_at s kind l) result v frames.new.items (M.box form (setting s (graph_of v)) node (up_of (level_of v) frames.old.items) kind l) }
+    ensures { (form : DocForm) (s : InForce) (v : Level A) (l : Leaf) → name_at s kind l ≡ name →
+        Gives form s (use_at s kind l) result v frames.new.items (M.box form (setting s (graph_of v)) node (up_of (level_of v) frames.old.items) kind l) }
 {
     let subject = Subject::Node(Node::Anon(node));
     match kind {
@@ -456,7 +489,8 @@ fn bracket<A: Allocator>(
 // The mode behind a node, a property list, and a collection.
 #[tactic(auto, using(crate::proofs::code::FrameStack::stack_steps))]
 fn node_closed<A: Allocator>(frames: &mut Vec<Frame<A>, A>, subject: Subject<A>) -> Mode<A>
-    ensures { (form : DocForm) (v : Level A) → mode_of form v frames.new.items result ≡ M.node_closed form (up_of (level_of v) frames.old.items) (Some (owned_subject subject)) }
+    ensures { (form : DocForm) (v : Level A) → mode_of form v frames.new.items result ≡ M.node_closed form (up_of (level_of v) frames.old.items)
+        (Some (owned_subject subject)) }
 {
     match frames.pop() {
         None => Mode::AfterSubject(subject),
@@ -474,7 +508,9 @@ fn paren<A: Allocator + Copy>(
 ) -> Result<Turn<A>, StepFault>
     requires token { IsTurtleToken token.now }
     requires named { IsNamed token.now.kind name }
-    ensures { (form : DocForm) (s : InForce) (v : Level A) → name_at s token.now.kind (leaf token.now) ≡ name → Gives form s (use_at s token.now.kind (leaf token.now)) result v frames.new.items (M.paren (setting s (graph_of v)) (up_of (level_of v) frames.old.items) token.now.kind (leaf token.now)) }
+    ensures { (form : DocForm) (s : InForce) (v : Level A) → name_at s token.now.kind (leaf token.now) ≡ name →
+        Gives form s (use_at s token.now.kind (leaf token.now)) result v frames.new.items
+        (M.paren (setting s (graph_of v)) (up_of (level_of v) frames.old.items) token.now.kind (leaf token.now)) }
 {
     match token.kind {
         Kind::CloseParen => Ok(quiet(list_closed(frames, Topic::Nil))),
@@ -494,7 +530,8 @@ fn paren<A: Allocator + Copy>(
 
 #[tactic(auto, using(crate::proofs::code::FrameStack::stack_steps))]
 fn list_closed<A: Allocator>(frames: &mut Vec<Frame<A>, A>, subject: Topic<A>) -> Mode<A>
-    ensures { (form : DocForm) (v : Level A) → mode_of form v frames.new.items result ≡ M.list_closed (up_of (level_of v) frames.old.items) (Some (topic_of subject)) }
+    ensures { (form : DocForm) (v : Level A) → mode_of form v frames.new.items result ≡ M.list_closed (up_of (level_of v) frames.old.items)
+        (Some (topic_of subject)) }
 {
     match frames.pop() {
         None => Mode::WantVerb(subject),
@@ -514,7 +551,10 @@ fn object_start<A: Allocator + Copy>(
 ) -> Result<Turn<A>, StepFault>
     requires token { IsTurtleToken token.now }
     requires named { IsNamed token.now.kind name }
-    ensures { (form : DocForm) (s : InForce) (v : Level A) → name_at s token.now.kind (leaf token.now) ≡ name → Gives form s (use_at s token.now.kind (leaf token.now)) result v frames.new.items (M.object_start (setting s (graph_of v)) (place_of (level_of v) frame (up_of (level_of v) frames.old.items)) (rest_of (graph_of v) rest) token.now.kind (leaf token.now)) }
+    ensures { (form : DocForm) (s : InForce) (v : Level A) → name_at s token.now.kind (leaf token.now) ≡ name →
+        Gives form s (use_at s token.now.kind (leaf token.now)) result v frames.new.items
+        (M.object_start (setting s (graph_of v)) (place_of (level_of v) frame (up_of (level_of v) frames.old.items))
+        (rest_of (graph_of v) rest) token.now.kind (leaf token.now)) }
 {
     match (token.kind, name) {
         (Kind::IriRef | Kind::PnameNs | Kind::PnameLn, Some(iri)) => {
@@ -622,7 +662,10 @@ fn semicolon<A: Allocator>(
     name: Option<Iri<A>>,
 ) -> Result<Turn<A>, StepFault>
     requires named { IsNamed kind name }
-    ensures { (form : DocForm) (s : InForce) (l : Leaf) → name_at s kind l ≡ name → Gives form s (use_at s kind l) result level.new frames.new.items (M.semi (setting s (graph_of level.old)) (Some (topic_of subject)) (around_of around (level_of level.old) (up_of (level_of level.old) frames.old.items)) kind l) }
+    ensures { (form : DocForm) (s : InForce) (l : Leaf) → name_at s kind l ≡ name →
+        Gives form s (use_at s kind l) result level.new frames.new.items
+        (M.semi (setting s (graph_of level.old)) (Some (topic_of subject))
+        (around_of around (level_of level.old) (up_of (level_of level.old) frames.old.items)) kind l) }
 {
     match kind {
         Kind::Semicolon => Ok(quiet(Mode::Semicolon(subject, around))),
@@ -641,7 +684,9 @@ fn after_brackets<A: Allocator>(
     name: Option<Iri<A>>,
 ) -> Result<Turn<A>, StepFault>
     requires named { IsNamed kind name }
-    ensures { (form : DocForm) (s : InForce) (l : Leaf) → name_at s kind l ≡ name → Gives form s (use_at s kind l) result level.new frames.new.items (M.after_box (setting s (graph_of level.old)) (Some (topic_of subject)) (level_of level.old) kind l) }
+    ensures { (form : DocForm) (s : InForce) (l : Leaf) → name_at s kind l ≡ name →
+        Gives form s (use_at s kind l) result level.new frames.new.items
+        (M.after_box (setting s (graph_of level.old)) (Some (topic_of subject)) (level_of level.old) kind l) }
 {
     if begins_verb(kind) {
         verb_start(subject, Around::Statement, kind, name)
@@ -664,7 +709,9 @@ fn verb_start<A: Allocator>(
     name: Option<Iri<A>>,
 ) -> Result<Turn<A>, StepFault>
     requires { IsNamed kind name }
-    ensures { (form : DocForm) (s : InForce) (v : Level A) (fs : List (Frame A)) (l : Leaf) → name_at s kind l ≡ name → Gives form s (use_at s kind l) result v fs (M.verb_start (setting s (graph_of v)) (Some (topic_of subject)) (around_of around (level_of v) (up_of (level_of v) fs)) kind l) }
+    ensures { (form : DocForm) (s : InForce) (v : Level A) (fs : List (Frame A)) (l : Leaf) → name_at s kind l ≡ name →
+        Gives form s (use_at s kind l) result v fs (M.verb_start (setting s (graph_of v)) (Some (topic_of subject))
+        (around_of around (level_of v) (up_of (level_of v) fs)) kind l) }
 {
     match (kind, name) {
         (Kind::IriRef | Kind::PnameNs | Kind::PnameLn, Some(iri)) => {
@@ -691,7 +738,9 @@ fn list_end<A: Allocator>(
     frames: &mut Vec<Frame<A>, A>,
     kind: Kind,
 ) -> Result<Turn<A>, StepFault>
-    ensures { (form : DocForm) (s : InForce) (l : Leaf) → Gives form s (use_at s kind l) result level.new frames.new.items (M.list_end (setting s (graph_of level.old)) (Some (topic_of subject)) (around_of around (level_of level.old) (up_of (level_of level.old) frames.old.items)) kind l) }
+    ensures { (form : DocForm) (s : InForce) (l : Leaf) → Gives form s (use_at s kind l) result level.new frames.new.items
+        (M.list_end (setting s (graph_of level.old)) (Some (topic_of subject))
+        (around_of around (level_of level.old) (up_of (level_of level.old) frames.old.items)) kind l) }
 {
     match around {
         Around::Statement => statement_end(level, kind),
@@ -703,7 +752,8 @@ fn list_end<A: Allocator>(
 }
 
 fn statement_end<A: Allocator>(level: &mut Level<A>, kind: Kind) -> Result<Turn<A>, StepFault>
-    ensures { (form : DocForm) (s : InForce) (fs : List (Frame A)) (x : Option term.Subject) (l : Leaf) → Gives form s (use_at s kind l) result level.new fs (M.list_end (setting s (graph_of level.old)) x (M.Statement (level_of level.old)) kind l) }
+    ensures { (form : DocForm) (s : InForce) (fs : List (Frame A)) (x : Option term.Subject) (l : Leaf) →
+        Gives form s (use_at s kind l) result level.new fs (M.list_end (setting s (graph_of level.old)) x (M.Statement (level_of level.old)) kind l) }
 {
     match kind {
         Kind::Dot => Ok(quiet(Mode::Outer(statement_ended(level)))),
@@ -741,7 +791,8 @@ fn quiet<A: Allocator>(mode: Mode<A>) -> Turn<A>
 
 #[tactic(auto, using(crate::proofs::code::FrameStack::stack_steps))]
 fn box_closed<A: Allocator>(frames: &mut Vec<Frame<A>, A>, subject: Topic<A>) -> Mode<A>
-    ensures { (form : DocForm) (v : Level A) → mode_of form v frames.new.items result ≡ M.box_closed (up_of (level_of v) frames.old.items) (Some (topic_of subject)) }
+    ensures { (form : DocForm) (v : Level A) → mode_of form v frames.new.items result ≡ M.box_closed (up_of (level_of v) frames.old.items)
+        (Some (topic_of subject)) }
 {
     match frames.pop() {
         None => Mode::AfterBrackets(subject),

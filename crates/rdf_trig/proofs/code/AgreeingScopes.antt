@@ -67,7 +67,8 @@ Ordinary (M.WantPrefixIri w p) = ⊥
 Ordinary (M.WantBaseIri w) = ⊥
 Ordinary m = Unit {0}
 
-looks_same : (s t : InForce) (k : Kind) (l : Leaf) (i : Option (List ℕ)) → SameScope s t → Names t k l i → (name_at s k l ≡ i) × IsAdmitted s.limits k (use_at s k l)
+looks_same : (s t : InForce) (k : Kind) (l : Leaf) (i : Option (List ℕ)) → SameScope s t → Names t k l i →
+    (name_at s k l ≡ i) × IsAdmitted s.limits k (use_at s k l)
 looks_same s t k l i e n = (name_at-same s t k l e ∙ n.name, passes_at s.limits t.limits k (use_at s k l) (use_at t k l) e.limits (use_at-same s t k l e) n.admitted)
 
 looks_ordinary : (s t : InForce) (m : M.Mode) (k : Kind) (l : Leaf) (i : Option (List ℕ)) → Ordinary m → SameScope s t → Names t k l i → LooksUp s m k l i t
@@ -93,28 +94,36 @@ mode_ordinary form v u (mode.Outer o) n = absurd (n o refl)
 mode_ordinary form v u (mode.AfterSubject s) n = subject_ordinary form v _
 mode_ordinary form v u m n = tt
 
-outer_ordinary : {A : Type 0} (o : Outer A) → ((w : Spelling) → o ≡ outer.WantPrefix w → ⊥) → ((w : Spelling) (p : _) → o ≡ outer.WantPrefixIri w p → ⊥) → ((w : Spelling) → o ≡ outer.WantBaseIri w → ⊥) → Ordinary (outer_of o)
+outer_ordinary : {A : Type 0} (o : Outer A) → ((w : Spelling) → o ≡ outer.WantPrefix w → ⊥) →
+    ((w : Spelling) (p : _) → o ≡ outer.WantPrefixIri w p → ⊥) → ((w : Spelling) → o ≡ outer.WantBaseIri w → ⊥) → Ordinary (outer_of o)
 outer_ordinary (outer.WantPrefix w) a b c = absurd (a w refl)
 outer_ordinary (outer.WantPrefixIri w p) a b c = absurd (b w p refl)
 outer_ordinary (outer.WantBaseIri w) a b c = absurd (c w refl)
 outer_ordinary o a b c = tt
 
-pub mode_looks : {A : Type 0} (m : Mode A) (s t : InForce) (k : Kind) (l : Leaf) (r : Result (Option (List ℕ)) StepFault) → ((o : Outer A) → m ≡ mode.Outer o → ⊥) →
+pub mode_looks : {A : Type 0} (m : Mode A) (s t : InForce) (k : Kind) (l : Leaf) (r : Result (Option (List ℕ)) StepFault) →
+    ((o : Outer A) → m ≡ mode.Outer o → ⊥) →
     IfOk r (λ i. Names t k l i) → IfOk r (λ i. (form : DocForm) (v : M.Level) (u : M.Up) (s : InForce) → SameScope s t → LooksUp s (mode_at form v u m) k l i t)
 mode_looks m s t k l (Ok i) n h = λ form v u s e. looks_ordinary s t (mode_at form v u m) k l i (mode_ordinary form v u m n) e h
 mode_looks m s t k l (Err r) n h = tt
 
-pub mode_none : {A : Type 0} (m : Mode A) (s t : InForce) (k : Kind) (l : Leaf) (r : Result (Option (List ℕ)) StepFault) → ((o : Outer A) → m ≡ mode.Outer o → ⊥) →
-    IfErr r (λ f. Unnamed t k l f) → IfErr r (λ f. (form : DocForm) (v : M.Level) (u : M.Up) (s : InForce) → SameScope s t → LooksUpNone s (mode_at form v u m) k l f)
+pub mode_none : {A : Type 0} (m : Mode A) (s t : InForce) (k : Kind) (l : Leaf) (r : Result (Option (List ℕ)) StepFault) →
+    ((o : Outer A) → m ≡ mode.Outer o → ⊥) →
+    IfErr r (λ f. Unnamed t k l f) → IfErr r (λ f. (form : DocForm) (v : M.Level) (u : M.Up) (s : InForce) → SameScope s t →
+    LooksUpNone s (mode_at form v u m) k l f)
 mode_none m s t k l (Ok i) n h = tt
 mode_none m s t k l (Err r) n h = λ form v u s e. none_ordinary s t (mode_at form v u m) k l r (mode_ordinary form v u m n) e h
 
-pub outer_looks : {A : Type 0} (o : Outer A) (t : InForce) (k : Kind) (l : Leaf) (r : Result (Option (List ℕ)) StepFault) → ((w : Spelling) → o ≡ outer.WantPrefix w → ⊥) → ((w : Spelling) (p : _) → o ≡ outer.WantPrefixIri w p → ⊥) → ((w : Spelling) → o ≡ outer.WantBaseIri w → ⊥) →
+pub outer_looks : {A : Type 0} (o : Outer A) (t : InForce) (k : Kind) (l : Leaf) (r : Result (Option (List ℕ)) StepFault) →
+    ((w : Spelling) → o ≡ outer.WantPrefix w → ⊥) → ((w : Spelling) (p : _) → o ≡ outer.WantPrefixIri w p → ⊥) →
+    ((w : Spelling) → o ≡ outer.WantBaseIri w → ⊥) →
     IfOk r (λ i. Names t k l i) → IfOk r (λ i. (s : InForce) → SameScope s t → LooksUp s (outer_of o) k l i t)
 outer_looks o t k l (Ok i) a b c h = λ s e. looks_ordinary s t (outer_of o) k l i (outer_ordinary o a b c) e h
 outer_looks o t k l (Err r) a b c h = tt
 
-pub outer_none : {A : Type 0} (o : Outer A) (t : InForce) (k : Kind) (l : Leaf) (r : Result (Option (List ℕ)) StepFault) → ((w : Spelling) → o ≡ outer.WantPrefix w → ⊥) → ((w : Spelling) (p : _) → o ≡ outer.WantPrefixIri w p → ⊥) → ((w : Spelling) → o ≡ outer.WantBaseIri w → ⊥) →
+pub outer_none : {A : Type 0} (o : Outer A) (t : InForce) (k : Kind) (l : Leaf) (r : Result (Option (List ℕ)) StepFault) →
+    ((w : Spelling) → o ≡ outer.WantPrefix w → ⊥) → ((w : Spelling) (p : _) → o ≡ outer.WantPrefixIri w p → ⊥) →
+    ((w : Spelling) → o ≡ outer.WantBaseIri w → ⊥) →
     IfErr r (λ f. Unnamed t k l f) → IfErr r (λ f. (s : InForce) → SameScope s t → LooksUpNone s (outer_of o) k l f)
 outer_none o t k l (Ok i) a b c h = tt
 outer_none o t k l (Err r) a b c h = λ s e. none_ordinary s t (outer_of o) k l r (outer_ordinary o a b c) e h
@@ -123,11 +132,13 @@ outer_none o t k l (Err r) a b c h = λ s e. none_ordinary s t (outer_of o) k l 
 pub prefix_looks : (s t : InForce) (w : M.Spelling) (k : Kind) (l : Leaf) (i : Option (List ℕ)) → SameScope s t → LooksUp s (M.WantPrefix w) k l i t
 prefix_looks s t w k l i e = record { admitted = λ a. refl; name = tt; named = tt; scope = e }
 
-pub other_binding : (s t : InForce) (w : M.Spelling) (p : List ℕ) (k : Kind) (l : Leaf) (i : Option (List ℕ)) → (k ≡ IriRef → ⊥) → SameScope s t → LooksUp s (M.WantPrefixIri w p) k l i t
+pub other_binding : (s t : InForce) (w : M.Spelling) (p : List ℕ) (k : Kind) (l : Leaf) (i : Option (List ℕ)) → (k ≡ IriRef → ⊥) → SameScope s t →
+    LooksUp s (M.WantPrefixIri w p) k l i t
 other_binding s t w p IriRef l i n e = absurd (n refl)
 other_binding s t w p k l i n e = record { admitted = λ a. refl; name = tt; named = tt; scope = e }
 
-pub other_base : (s t : InForce) (w : M.Spelling) (k : Kind) (l : Leaf) (i : Option (List ℕ)) → (k ≡ IriRef → ⊥) → SameScope s t → LooksUp s (M.WantBaseIri w) k l i t
+pub other_base : (s t : InForce) (w : M.Spelling) (k : Kind) (l : Leaf) (i : Option (List ℕ)) → (k ≡ IriRef → ⊥) → SameScope s t →
+    LooksUp s (M.WantBaseIri w) k l i t
 other_base s t w IriRef l i n e = absurd (n refl)
 other_base s t w k l i n e = record { admitted = λ a. refl; name = tt; named = tt; scope = e }
 
@@ -206,7 +217,8 @@ bound_same s t n p i e b = record {
 binds-same : (s t : InForce) (p : List ℕ) (l : Leaf) → SameScope s t → binds (is_full s p) (reference_in s l) ≡ binds (is_full t p) (reference_in t l)
 binds-same s t p l e = ap (λ x. binds x (reference_in s l)) (full_same s t p e) ∙ ap (binds (is_full t p)) (reference_same s t l e)
 
-pub binding_looks : (s t n : InForce) (w : M.Spelling) (p : List ℕ) (l : Leaf) (i : Option (List ℕ)) → SameScope s t → Binding t p l n → LooksUp s (M.WantPrefixIri w p) IriRef l i n
+pub binding_looks : (s t n : InForce) (w : M.Spelling) (p : List ℕ) (l : Leaf) (i : Option (List ℕ)) → SameScope s t → Binding t p l n →
+    LooksUp s (M.WantPrefixIri w p) IriRef l i n
 binding_looks s t n w p l i e b = record {
   admitted = passes_at s.limits t.limits IriRef _ _ e.limits (binds-same s t p l e) b.admitted;
   name = tt;
@@ -214,7 +226,8 @@ binding_looks s t n w p l i e b = record {
   scope = subst (λ x. SameScope (with_binding s p x) n) (sym (reference_same s t l e ∙ b.reference)) (bound_same s t n p b.iri e b.binds);
 }
 
-pub binding_none : (s t : InForce) (w : M.Spelling) (p : List ℕ) (l : Leaf) (r : StepFault) → SameScope s t → NotBinding t p l r → LooksUpNone s (M.WantPrefixIri w p) IriRef l r
+pub binding_none : (s t : InForce) (w : M.Spelling) (p : List ℕ) (l : Leaf) (r : StepFault) → SameScope s t → NotBinding t p l r →
+    LooksUpNone s (M.WantPrefixIri w p) IriRef l r
 binding_none s t w p l r e n = stops_at s.limits t.limits IriRef _ _ r e.limits (binds-same s t p l e) n
 
 -- what holds of all holds of one

@@ -44,14 +44,17 @@ goes : (reply : Reply) → is_go reply ≡ true → Goes reply
 goes No h = absurd (false≢true h)
 goes (Go u early now c m) h = (u, early, now, c, m, refl)
 
-stays_no : (sizes : Sizes) (n : M.State) (k : Kind) (w : Option Quad) (reply : Reply) → is_go reply ≡ false → M.answer sizes n k w reply ≡ refuses refusal.unexpected
+stays_no : (sizes : Sizes) (n : M.State) (k : Kind) (w : Option Quad) (reply : Reply) → is_go reply ≡ false →
+    M.answer sizes n k w reply ≡ refuses refusal.unexpected
 stays_no sizes n k w No h = refl
 stays_no sizes n k w (Go u early now c m) h = absurd (false≢true (sym h))
 
-pub not_allowed : (form : DocForm) (n : M.State) (k : Kind) (l : Leaf) → is_go (M.step form n.setting n.mode k l) ≡ false → M.accept form n k l ≡ refuses refusal.unexpected
+pub not_allowed : (form : DocForm) (n : M.State) (k : Kind) (l : Leaf) → is_go (M.step form n.setting n.mode k l) ≡ false →
+    M.accept form n k l ≡ refuses refusal.unexpected
 not_allowed form n k l h = stays_no n.setting.scope.limits n k (M.waiting n.setting n.mode k l) (M.step form n.setting n.mode k l) h
 
-pub may_count : (form : DocForm) (c : Setting) (m : M.Mode) (k : Kind) (l : Leaf) (d : ℕ) → is_go (M.step form c m k l) ≡ true → d ≡ M.depth m → (M.deepens k ≡ true → d + 1 < 2 ^ 64) → DepthMay k d
+pub may_count : (form : DocForm) (c : Setting) (m : M.Mode) (k : Kind) (l : Leaf) (d : ℕ) → is_go (M.step form c m k l) ≡ true → d ≡ M.depth m →
+    (M.deepens k ≡ true → d + 1 < 2 ^ 64) → DepthMay k d
 may_count form c m OpenBracket l d g e h = h refl
 may_count form c m OpenParen l d g e h = h refl
 may_count form c m CloseBracket l d g e h =
@@ -72,7 +75,8 @@ abbrev behind : Option Quad → Option Quad → Setting → M.Mode → M.State
 behind early now c m = record { setting = c; mode = m; held = kept early (kept now []) }
 
 answer_is : (form : DocForm) (n : M.State) (k : Kind) (l : Leaf) (u : Use) (early now : Option Quad) (c : Setting) (m : M.Mode) → May form n k l →
-    M.step form n.setting n.mode k l ≡ Go u early now c m → M.accept form n k l ≡ by_use n.setting.scope.limits k u (accepts (quads_out n k l) (behind early now c m))
+    M.step form n.setting n.mode k l ≡ Go u early now c m → M.accept form n k l ≡ by_use n.setting.scope.limits k u
+    (accepts (quads_out n k l) (behind early now c m))
 answer_is form n k l u early now c m may e =
     ap (M.answer n.setting.scope.limits n k (M.waiting n.setting n.mode k l)) e
     ∙ cond-false (M.deepens k && nat_le n.setting.scope.limits.depth (M.depth n.mode)) (refuses refusal.too_deep) (by_use n.setting.scope.limits k u (accepts (quads_out n k l) (behind early now c m))) may.1
@@ -95,7 +99,8 @@ stops_answer form n k l e may s =
     let same = step_use form n.setting n.mode k l r.0 r.1 r.2 r.3 r.4 r.5 in
     answer_is form n k l r.0 r.1 r.2 r.3 r.4 may r.5 ∙ (ap (λ u. by_use n.setting.scope.limits k u (accepts (quads_out n k l) o)) same ∙ s (accepts (quads_out n k l) o))
 
-pub fails_stops : {S : Type 0} (takes leaves : S → Quad → S → Type 0) (failed : S → Bool) (form : DocForm) (n : M.State) (k : Kind) (l : Leaf) (r : StepFault) (sink : S) → failed sink ≡ false →
+pub fails_stops : {S : Type 0} (takes leaves : S → Quad → S → Type 0) (failed : S → Bool) (form : DocForm) (n : M.State) (k : Kind) (l : Leaf)
+    (r : StepFault) (sink : S) → failed sink ≡ false →
     May form n k l → LooksUpNone n.setting.scope n.mode k l r → Fails takes leaves failed r (M.accept form n k l) sink sink
 fails_stops takes leaves failed form n k l fault.Unbound sink live may s = (stops_answer form n k l refusal.unbound may s, refl)
 fails_stops takes leaves failed form n k l fault.NoBase sink live may s = (stops_answer form n k l refusal.no_base may s, refl)
@@ -104,7 +109,8 @@ fails_stops takes leaves failed form n k l fault.TooManyBindings sink live may s
 fails_stops takes leaves failed form n k l fault.Memory sink live may s = (([], answered (M.accept form n k l), refl, refl), live)
 fails_stops takes leaves failed form n k l r sink live may s = absurd s
 
-pub fails_gave : {S : Type 0} (takes leaves : S → Quad → S → Type 0) (failed : S → Bool) (form : DocForm) (n : M.State) (k : Kind) (l : Leaf) (r : StepFault) (sink new : S) →
+pub fails_gave : {S : Type 0} (takes leaves : S → Quad → S → Type 0) (failed : S → Bool) (form : DocForm) (n : M.State) (k : Kind) (l : Leaf)
+    (r : StepFault) (sink new : S) →
     May form n k l → IsAdmitted n.setting.scope.limits k (use_in n.setting.scope n.mode k l) → GaveUp takes leaves failed r (quads_out n k l) sink new →
     Fails takes leaves failed r (M.accept form n k l) sink new
 fails_gave takes leaves failed form n k l fault.Memory sink new may p h =
@@ -113,7 +119,8 @@ fails_gave takes leaves failed form n k l fault.Sink sink new may p h =
     let a = passed form n k l may p in (subst (λ x. Begins takes leaves (answered x) sink new) (sym a.1) h.0, h.1)
 fails_gave takes leaves failed form n k l r sink new may p h = absurd h
 
-pub fails_stays : {S : Type 0} (takes leaves : S → Quad → S → Type 0) (failed : S → Bool) (form : DocForm) (n : M.State) (k : Kind) (l : Leaf) (r : StepFault) (sink new : S) →
+pub fails_stays : {S : Type 0} (takes leaves : S → Quad → S → Type 0) (failed : S → Bool) (form : DocForm) (n : M.State) (k : Kind) (l : Leaf)
+    (r : StepFault) (sink new : S) →
     May form n k l → IsAdmitted n.setting.scope.limits k (use_in n.setting.scope n.mode k l) → Appends takes sink (quads_out n k l) new →
     Stays r (M.step form n.setting n.mode k l) → failed new ≡ false → Fails takes leaves failed r (M.accept form n k l) sink new
 fails_stays takes leaves failed form n k l fault.Unexpected sink new may p h s live = absurd (false≢true (sym (ap is_go s) ∙ may.0))
@@ -122,9 +129,11 @@ fails_stays takes leaves failed form n k l fault.Memory sink new may p h s live 
 fails_stays takes leaves failed form n k l r sink new may p h s live = absurd s
 
 -- the state behind an accepted token
-pub accepts_moved : {A S : Type 0} (takes : S → Quad → S → Type 0) (form : DocForm) (s t : InForce) (old r : State A) (k : Kind) (l : Leaf) (i : Option (List ℕ)) (sink new : S) →
+pub accepts_moved : {A S : Type 0} (takes : S → Quad → S → Type 0) (form : DocForm) (s t : InForce) (old r : State A) (k : Kind) (l : Leaf)
+    (i : Option (List ℕ)) (sink new : S) →
     May form (state_of form s old) k l → LooksUp s (state_of form s old).mode k l i t →
-    M.step form (state_of form s old).setting (state_of form s old).mode k l ≡ moved form (scope_in s (state_of form s old).mode k l) (use_in s (state_of form s old).mode k l) r →
+    M.step form (state_of form s old).setting (state_of form s old).mode k l ≡ moved form (scope_in s (state_of form s old).mode k l)
+    (use_in s (state_of form s old).mode k l) r →
     Appends takes sink (quads_out (state_of form s old) k l) new → Accepts takes form (M.accept form (state_of form s old) k l) sink r t new
 accepts_moved takes form s t old r k l i sink new may looks e h =
     let n = state_of form s old in
@@ -142,11 +151,13 @@ depth_same CloseBracket old new was is e f g = omega (arith, e, f, g)
 depth_same CloseParen old new was is e f g = omega (arith, e, f, g)
 depth_same k old new was is e f g = f ∙ (e ∙ sym g)
 
-prefix_kept : {A : Type 0} (a b : ℕ) (form : DocForm) (v : Level A) (fs : List (Frame A)) (m : Mode A) → a ≤ b → ShortPrefix a (mode_of form v fs m) → PrefixFits b m
+prefix_kept : {A : Type 0} (a b : ℕ) (form : DocForm) (v : Level A) (fs : List (Frame A)) (m : Mode A) → a ≤ b → ShortPrefix a (mode_of form v fs m) →
+    PrefixFits b m
 prefix_kept a b form v fs (mode.Outer (outer.WantPrefixIri w p)) h s = omega (arith, h, s)
 prefix_kept a b form v fs m h s = tt
 
-pub keeps_moved : {A : Type 0} (form : DocForm) (s : InForce) (sizes : Sizes) (old r : State A) (k : Kind) (l : Leaf) (u : Use) (t : InForce) → Keeps form sizes old → byte_len l.text ≤ 4 * sizes.token →
+pub keeps_moved : {A : Type 0} (form : DocForm) (s : InForce) (sizes : Sizes) (old r : State A) (k : Kind) (l : Leaf) (u : Use) (t : InForce) →
+    Keeps form sizes old → byte_len l.text ≤ 4 * sizes.token →
     M.step form (state_of form s old).setting (state_of form s old).mode k l ≡ moved form t u r → DepthMoves k old.depth r.depth → Keeps form sizes r
 keeps_moved form s sizes old r k l u t keeps short e d =
     let n = state_of form s old in

@@ -45,7 +45,8 @@ lawful = record {
         let m = r.2.machine in
         accepted_document x.form x.start (ts ++ t ∷ []) m qs r.2.accepted (ends_over x.form ts t (at_start x.start) m qs r.2.accepted k)
 
-    ends : (x : Chosen) (why : Reason) (ts : List Token) (t : Token) → Blamed x.form x.start why ts t → Viable (documents x.form x.start) (ts ++ t ∷ []) → PassesNone (Passes x.form x.start) (ts ++ t ∷ []) → ⊥
+    ends : (x : Chosen) (why : Reason) (ts : List Token) (t : Token) → Blamed x.form x.start why ts t →
+        Viable (documents x.form x.start) (ts ++ t ∷ []) → PassesNone (Passes x.form x.start) (ts ++ t ∷ []) → ⊥
     ends x why ts t b v n = by why b
       where
         refused : (y : Refusal) → RefusedFor x.form x.start ts t y → ⊥
@@ -61,7 +62,8 @@ lawful = record {
         by why b = b
 
 -- Before the first token nothing was accepted.
-pub begins_here : (g : TreeAt) (x : Chosen) → g ≡ record { form = x.form; limit = x.start.limits.token; state = at_start x.start } → tree_words.reached g x [] []
+pub begins_here : (g : TreeAt) (x : Chosen) → g ≡ record { form = x.form; limit = x.start.limits.token; state = at_start x.start } →
+    tree_words.reached g x [] []
 begins_here g x e = subst (λ y. tree_words.reached y x [] []) (sym e) (refl, refl, record { machine = at_start x.start; accepted = refl; same = state_self (at_start x.start) })
 
 -- what a token does by some form
@@ -141,7 +143,8 @@ module _ {S : Type 0} (takes : S → Quad → S → Type 0) (g : TreeAt) (t : To
     }
 
     -- The step fails for its reason, as the driver asks.
-    pub misses_token : (why : StepFault) → Fails takes leaves failed why (answer g.form g t) old new → Misses tree_words takes leaves failed (reason_of why) g t old new
+    pub misses_token : (why : StepFault) → Fails takes leaves failed why (answer g.form g t) old new →
+        Misses tree_words takes leaves failed (reason_of why) g t old new
     misses_token fault.Unexpected f = refused reason.Unexpected unexpected f (λ x ts h. h)
     misses_token fault.TooDeep f = refused reason.TooDeep too_deep f (λ x ts h. h)
     misses_token fault.Unbound f = refused reason.Unbound unbound f (λ x ts h. h)

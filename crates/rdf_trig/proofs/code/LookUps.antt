@@ -25,7 +25,8 @@ use Rattle.rdf_trig.specs.Scopes.{IsReference, IsPrefixed, step_fault, IsAdmitte
 stands_passes : (sizes : Sizes) (k : Kind) (o : Option (List ℕ)) (i : List ℕ) → o ≡ Some i → byte_len i ≤ sizes.iri → IsAdmitted sizes k (stands o)
 stands_passes sizes k o i e h a = subst (λ x. by_use sizes k (stands x) a ≡ a) (sym e) (cond-false (too_long sizes i) _ _ (le-ltb sizes.iri (byte_len i) h))
 
-stands_long : (sizes : Sizes) (k : Kind) (o : Option (List ℕ)) (i : List ℕ) → o ≡ Some i → sizes.iri < byte_len i → (a : M.Answer) → by_use sizes k (stands o) a ≡ refuses refusal.iri_too_long
+stands_long : (sizes : Sizes) (k : Kind) (o : Option (List ℕ)) (i : List ℕ) → o ≡ Some i → sizes.iri < byte_len i → (a : M.Answer) →
+    by_use sizes k (stands o) a ≡ refuses refusal.iri_too_long
 stands_long sizes k o i e h a = subst (λ x. by_use sizes k (stands x) a ≡ refuses refusal.iri_too_long) (sym e) (cond-true (too_long sizes i) _ _ (lt-ltb sizes.iri (byte_len i) h))
 
 -- references
@@ -42,7 +43,8 @@ reference_names s l w i e r =
     let is = reference_is s l i (subst (λ x. Resolves s.base x i) e r.0) in
     record { name = is; named = tt; admitted = stands_passes s.limits IriRef (reference_in s l) i is r.1 }
 
-pub reference_stops : (s : InForce) (l : Leaf) (w : List ℕ) (f : IriFault) → w ≡ iri_of l → UnresolvedHere s w f → IsDenied s.limits IriRef (stands (reference_in s l)) (step_fault f)
+pub reference_stops : (s : InForce) (l : Leaf) (w : List ℕ) (f : IriFault) → w ≡ iri_of l → UnresolvedHere s w f →
+    IsDenied s.limits IriRef (stands (reference_in s l)) (step_fault f)
 reference_stops s l w iri.NoBase e h =
     λ a. let none = reference_none s l (subst (λ x. (has_scheme x ≡ false) × (s.base ≡ None)) e h) in ap (λ x. by_use s.limits IriRef (stands x) a) none
 reference_stops s l w iri.IriTooLong e h =
@@ -52,7 +54,8 @@ reference_stops s l w iri.Unbound e h = absurd h
 reference_stops s l w iri.TooManyBindings e h = absurd h
 
 -- names
-name_is : (s : InForce) (l : Leaf) (p v i front : List ℕ) → p ≡ prefix_of l → v ≡ local_of l → bound_to s.bindings p ≡ Some front → i ≡ front ++ v → name_in s l ≡ Some i
+name_is : (s : InForce) (l : Leaf) (p v i front : List ℕ) → p ≡ prefix_of l → v ≡ local_of l → bound_to s.bindings p ≡ Some front → i ≡ front ++ v →
+    name_in s l ≡ Some i
 unfolding name_in
 name_is s l p v i front e f b g =
     ap (option_map (λ x. x ++ local_of l)) (ap (bound_to s.bindings) (sym e) ∙ b) ∙ ap Some (ap (λ x. front ++ x) (sym f) ∙ sym g)
@@ -61,14 +64,16 @@ name_none : (s : InForce) (l : Leaf) (p : List ℕ) → p ≡ prefix_of l → bo
 unfolding name_in
 name_none s l p e b = ap (option_map (λ x. x ++ local_of l)) (ap (bound_to s.bindings) (sym e) ∙ b)
 
-pub name_names : (s : InForce) (k : Kind) (l : Leaf) (p v i : List ℕ) → IsPrefixed k → p ≡ prefix_of l → v ≡ local_of l → ExpandsHere s p v i → Names s k l (Some i)
+pub name_names : (s : InForce) (k : Kind) (l : Leaf) (p v i : List ℕ) → IsPrefixed k → p ≡ prefix_of l → v ≡ local_of l → ExpandsHere s p v i →
+    Names s k l (Some i)
 name_names s PnameNs l p v i k e f r =
     let is = name_is s l p v i r.0.0 e f r.0.1 r.0.2 in record { name = is; named = tt; admitted = stands_passes s.limits PnameNs (name_in s l) i is r.1 }
 name_names s PnameLn l p v i k e f r =
     let is = name_is s l p v i r.0.0 e f r.0.1 r.0.2 in record { name = is; named = tt; admitted = stands_passes s.limits PnameLn (name_in s l) i is r.1 }
 name_names s k l p v i h e f r = absurd h
 
-name_stops_at : (s : InForce) (k : Kind) (l : Leaf) (p v : List ℕ) (f : IriFault) → M.unnamed k ≡ refusal.unbound → p ≡ prefix_of l → v ≡ local_of l → NotExpanded s p v f →
+name_stops_at : (s : InForce) (k : Kind) (l : Leaf) (p v : List ℕ) (f : IriFault) → M.unnamed k ≡ refusal.unbound → p ≡ prefix_of l → v ≡ local_of l →
+    NotExpanded s p v f →
     IsDenied s.limits k (stands (name_in s l)) (step_fault f)
 name_stops_at s k l p v iri.Unbound u e f h = λ a. ap (λ x. by_use s.limits k (stands x) a) (name_none s l p e h) ∙ ap refuses u
 name_stops_at s k l p v iri.IriTooLong u e f h = λ a. stands_long s.limits k (name_in s l) h.0 (name_is s l p v h.0 h.1.0 e f h.1.1 h.1.2) h.2 a
@@ -137,12 +142,15 @@ pub reference_at : (s : InForce) (k : Kind) (l : Leaf) (w i : List ℕ) → IsRe
 reference_at s IriRef l w i h e r = reference_names s l w i e r
 reference_at s k l w i h e r = absurd h
 
-pub reference_not : (s : InForce) (k : Kind) (l : Leaf) (w : List ℕ) (f : IriFault) (r : StepFault) → IsReference k → w ≡ iri_of l → r ≡ step_fault f → UnresolvedHere s w f → Unnamed s k l r
+pub reference_not : (s : InForce) (k : Kind) (l : Leaf) (w : List ℕ) (f : IriFault) (r : StepFault) → IsReference k → w ≡ iri_of l →
+    r ≡ step_fault f → UnresolvedHere s w f → Unnamed s k l r
 reference_not s IriRef l w f r h e g u = subst (IsDenied s.limits IriRef (stands (reference_in s l))) (sym g) (reference_stops s l w f e u)
 reference_not s k l w f r h e g u = absurd h
 
-pub name_not : (s : InForce) (k : Kind) (l : Leaf) (p v : List ℕ) (f : IriFault) (r : StepFault) → IsPrefixed k → p ≡ prefix_of l → v ≡ local_of l → r ≡ step_fault f → NotExpanded s p v f → Unnamed s k l r
+pub name_not : (s : InForce) (k : Kind) (l : Leaf) (p v : List ℕ) (f : IriFault) (r : StepFault) → IsPrefixed k → p ≡ prefix_of l → v ≡ local_of l →
+    r ≡ step_fault f → NotExpanded s p v f → Unnamed s k l r
 name_not s k l p v f r h e g i u = subst (Unnamed s k l) (sym i) (name_stops s k l p v f h e g u)
 
-pub binding_not : (s : InForce) (p : List ℕ) (l : Leaf) (w : List ℕ) (f : IriFault) (r : StepFault) → w ≡ iri_of l → r ≡ step_fault f → NotBound s p w f → NotBinding s p l r
+pub binding_not : (s : InForce) (p : List ℕ) (l : Leaf) (w : List ℕ) (f : IriFault) (r : StepFault) → w ≡ iri_of l → r ≡ step_fault f →
+    NotBound s p w f → NotBinding s p l r
 binding_not s p l w f r e g u = subst (NotBinding s p l) (sym g) (binding_stops s p l w f e u)

@@ -22,13 +22,15 @@ pub put_all : (before qs after : List Quad) → Appends Puts before qs after →
 put_all before [] after e = e ∙ sym (append-nil before)
 put_all before (q ∷ qs) after h = put_all h.0 qs after h.2 ∙ (ap (λ x. x ++ qs) h.1 ∙ append_assoc before (q ∷ []) qs)
 
-module _ {G X : Type 0} (w : Words G X) (law : Lawful w) (leaves : List Quad → Quad → List Quad → Type 0) (old : Driven G) (running : old.done ≡ false) (x : X) (h : HasRead w old x [] []) (bytes : List ℕ) where
+module _ {G X : Type 0} (w : Words G X) (law : Lawful w) (leaves : List Quad → Quad → List Quad → Type 0) (old : Driven G)
+    (running : old.done ≡ false) (x : X) (h : HasRead w old x [] []) (bytes : List ℕ) where
   -- the language that the reader reads
   abbrev lang : Language
   lang = in_words w x old.scanner.limit
 
   -- What fails in the only piece fails for the whole bytes: more bytes, or the end, change nothing of a refusal.
-  pub not_fed : (reason : Reason) (at : Place) (new : Driven G) (before after : List Quad) → FeedFails w Puts leaves (λ y. false) reason at old before bytes new after → NotRead lang bytes reason at
+  pub not_fed : (reason : Reason) (at : Place) (new : Driven G) (before after : List Quad) →
+      FeedFails w Puts leaves (λ y. false) reason at old before bytes new after → NotRead lang bytes reason at
   not_fed Memory at new before after y = tt
   not_fed DocumentTooLong at new before after y = y.1 x [] [] h
   not_fed Ended at new before after y = absurd (let z : true ≡ false = sym y.0 ∙ running in cc)
@@ -39,7 +41,8 @@ module _ {G X : Type 0} (w : Words G X) (law : Lawful w) (leaves : List Quad →
 
   module _ (mid : Driven G) (going : mid.done ≡ false) (one two : List Quad) (empty : one ≡ []) (fed : Feeds w Puts old one bytes mid two) where
     -- What fails at the end fails for the whole bytes.
-    pub not_finished : (reason : Reason) (at : Place) (new : Driven G) (after : List Quad) → FinishFails w Puts leaves (λ y. false) reason at mid two new after → NotRead lang bytes reason at
+    pub not_finished : (reason : Reason) (at : Place) (new : Driven G) (after : List Quad) →
+        FinishFails w Puts leaves (λ y. false) reason at mid two new after → NotRead lang bytes reason at
     not_finished Memory at new after y = tt
     not_finished DocumentTooLong at new after y = absurd (y.refused x bytes fed.more (fed.read x [] [] h)).1
     not_finished Ended at new after y = absurd (let z : true ≡ false = sym y.0 ∙ going in cc)

@@ -19,11 +19,13 @@ use Rattle.rdf_trig.specs.Machine.{kept}
 use Rattle.rdf_trig.specs.States.{leaf, mode_of, graph_of, graph_at, setting, rest_of, held_of}
 use Rattle.rdf_trig.specs.Steps.{Begins, GaveUp, given}
 
-pub appends_append : {S : Type 0} (takes : S → Quad → S → Type 0) (a b c : S) (qs rs : List Quad) → Appends takes a qs b → Appends takes b rs c → Appends takes a (qs ++ rs) c
+pub appends_append : {S : Type 0} (takes : S → Quad → S → Type 0) (a b c : S) (qs rs : List Quad) → Appends takes a qs b → Appends takes b rs c →
+    Appends takes a (qs ++ rs) c
 appends_append takes a b c [] rs h k = subst (λ x. Appends takes x rs c) h k
 appends_append takes a b c (q ∷ qs) rs h k = (h.0, h.1, appends_append takes h.0 b c qs rs h.2 k)
 
-attempts_append : {S : Type 0} (takes leaves : S → Quad → S → Type 0) (a b c : S) (qs rs : List Quad) → Appends takes a qs b → Attempts takes leaves b rs c → Attempts takes leaves a (qs ++ rs) c
+attempts_append : {S : Type 0} (takes leaves : S → Quad → S → Type 0) (a b c : S) (qs rs : List Quad) → Appends takes a qs b →
+    Attempts takes leaves b rs c → Attempts takes leaves a (qs ++ rs) c
 attempts_append takes leaves a b c [] rs h k = subst (λ x. Attempts takes leaves x rs c) h k
 attempts_append takes leaves a b c (q ∷ qs) rs h k = inr (h.0, h.1, attempts_append takes leaves h.0 b c qs rs h.2 k)
 
@@ -35,10 +37,12 @@ attempts_all takes leaves a b (q ∷ qs) h = inr (h.0, h.1, attempts_all takes l
 pub begins_all : {S : Type 0} (takes leaves : S → Quad → S → Type 0) (a b : S) (qs : List Quad) → Appends takes a qs b → Begins takes leaves qs a b
 begins_all takes leaves a b qs h = (qs, [], sym (append-nil qs), attempts_all takes leaves a b qs h)
 
-begins_more : {S : Type 0} (takes leaves : S → Quad → S → Type 0) (a b : S) (qs rs : List Quad) → Begins takes leaves qs a b → Begins takes leaves (qs ++ rs) a b
+begins_more : {S : Type 0} (takes leaves : S → Quad → S → Type 0) (a b : S) (qs rs : List Quad) → Begins takes leaves qs a b →
+    Begins takes leaves (qs ++ rs) a b
 begins_more takes leaves a b qs rs h = (h.0, h.1 ++ rs, ap (λ x. x ++ rs) h.2 ∙ append_assoc h.0 h.1 rs, h.3)
 
-begins_behind : {S : Type 0} (takes leaves : S → Quad → S → Type 0) (a b c : S) (qs rs : List Quad) → Appends takes a qs b → Begins takes leaves rs b c → Begins takes leaves (qs ++ rs) a c
+begins_behind : {S : Type 0} (takes leaves : S → Quad → S → Type 0) (a b c : S) (qs rs : List Quad) → Appends takes a qs b →
+    Begins takes leaves rs b c → Begins takes leaves (qs ++ rs) a c
 begins_behind takes leaves a b c qs rs h k = (qs ++ k.0, k.1, ap (λ x. qs ++ x) k.2 ∙ sym (append_assoc qs k.0 k.1), attempts_append takes leaves a b c qs k.0 h k.3)
 
 pub gave_more : {S : Type 0} (takes leaves : S → Quad → S → Type 0) (failed : S → Bool) (r : StepFault) (a b : S) (qs rs : List Quad) →

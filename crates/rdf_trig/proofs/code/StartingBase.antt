@@ -8,7 +8,8 @@ use Rattle.rdf_iri.specs.Texts.{byte_len}
 use Rattle.rdf_iri.specs.Scope.{BaseFits}
 use Rattle.rdf_iri.proofs.ResolvedText.{byte_len-chars}
 
-module _ (base : Option (List ℕ)) (i w : List ℕ) (n : ℕ) (limits : Sizes) (is : base ≡ Some i) (text : chars w ≡ i) (utf8 : IsUtf8 w) (limit : n ≡ limits.iri) where
+module _ (base : Option (List ℕ)) (i w : List ℕ) (n : ℕ) (limits : Sizes) (is : base ≡ Some i) (text : chars w ≡ i) (utf8 : IsUtf8 w)
+    (limit : n ≡ limits.iri) where
   bytes : byte_len i ≡ length w
   bytes = ap byte_len (sym text) ∙ byte_len-chars w utf8
 

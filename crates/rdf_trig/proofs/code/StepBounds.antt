@@ -43,20 +43,23 @@ type_fits c w p PnameLn l = (refl, refl, tt)
 type_fits c w p PnameNs l = (refl, refl, tt)
 type_fits c w p k l = tt
 
-verb_fits : (c : Setting) (s : Option term.Subject) (a : M.Around) (k : Kind) (l : Leaf) → Fits (use_at c.scope k l) (depth_around a) k l (M.verb_start c s a k l)
+verb_fits : (c : Setting) (s : Option term.Subject) (a : M.Around) (k : Kind) (l : Leaf) →
+    Fits (use_at c.scope k l) (depth_around a) k l (M.verb_start c s a k l)
 verb_fits c s a IriRef l = (refl, refl, tt)
 verb_fits c s a PnameLn l = (refl, refl, tt)
 verb_fits c s a PnameNs l = (refl, refl, tt)
 verb_fits c s a A l = (refl, refl, tt)
 verb_fits c s a k l = tt
 
-subject_depth : (form : DocForm) (v : M.Level) (s : Option term.Subject) (n : ℕ) → (depth (M.after_subject form v s) ≡ 0) × ShortPrefix n (M.after_subject form v s)
+subject_depth : (form : DocForm) (v : M.Level) (s : Option term.Subject) (n : ℕ) →
+    (depth (M.after_subject form v s) ≡ 0) × ShortPrefix n (M.after_subject form v s)
 subject_depth TriG M.Top s n = (refl, tt)
 subject_depth TriG M.InBlock s n = (refl, tt)
 subject_depth Turtle M.Top s n = (refl, tt)
 subject_depth Turtle M.InBlock s n = (refl, tt)
 
-node_depth : (form : DocForm) (u : M.Up) (s : Option term.Subject) (n : ℕ) → (depth (M.node_closed form u s) + 1 ≡ depth_up u + 1) × ShortPrefix n (M.node_closed form u s)
+node_depth : (form : DocForm) (u : M.Up) (s : Option term.Subject) (n : ℕ) →
+    (depth (M.node_closed form u s) + 1 ≡ depth_up u + 1) × ShortPrefix n (M.node_closed form u s)
 node_depth form (M.Subject v) s n = let d = subject_depth form v s n in (ap (λ x. x + 1) d.0, d.1)
 node_depth form (M.At p) s n = (refl, tt)
 
@@ -171,7 +174,8 @@ directive_depth : (w : M.Spelling) (n : ℕ) → (depth (M.directive_end w) ≡ 
 directive_depth M.Dotted n = (refl, tt)
 directive_depth M.Sparql n = (refl, tt)
 
-prefix_iri_fits : (c : Setting) (w : M.Spelling) (p : List ℕ) (k : Kind) (l : Leaf) → Fits (use_in c.scope (M.WantPrefixIri w p) k l) 0 k l (M.want_prefix_iri c w p k l)
+prefix_iri_fits : (c : Setting) (w : M.Spelling) (p : List ℕ) (k : Kind) (l : Leaf) →
+    Fits (use_in c.scope (M.WantPrefixIri w p) k l) 0 k l (M.want_prefix_iri c w p k l)
 prefix_iri_fits c w p IriRef l = let d = directive_depth w (byte_len l.text) in (refl, d.0, d.1)
 prefix_iri_fits c w p k l = tt
 

@@ -22,13 +22,15 @@ gives_at form s u r v w fs gs x y e f h g =
     subst (λ z. Gives form s u r z gs y) (sym e) (subst (λ z. Gives form s u r v z y) (sym f) (subst (λ z. Gives form s u r v fs z) (sym h) g))
 
 -- an object's first token, where the cells are known by an equation
-pub gives_object : {A : Type 0} (form : DocForm) (s : InForce) (r : Result (Turn A) StepFault) (v : Level A) (fs : List (Frame A)) (c : Setting) (p : M.Place) (g : Option term.Subject)
+pub gives_object : {A : Type 0} (form : DocForm) (s : InForce) (r : Result (Turn A) StepFault) (v : Level A) (fs : List (Frame A)) (c : Setting)
+    (p : M.Place) (g : Option term.Subject)
     (k : Kind) (l : Leaf) (x y : Option (ℕ × ℕ)) → x ≡ y →
     Gives form s (use_at s k l) r v fs (M.object_start c p (rest_of g x) k l) → Gives form s (use_at s k l) r v fs (M.object_start c p (rest_of g y) k l)
 gives_object form s r v fs c p g k l x y e h = subst (λ z. Gives form s (use_at s k l) r v fs (M.object_start c p (rest_of g z) k l)) e h
 
 -- behind a subject a token stands for what it does elsewhere
-pub gives_subject : {A : Type 0} (form : DocForm) (t : M.Level) (x : Option term.Subject) (s : InForce) (k : Kind) (l : Leaf) (r : Result (Turn A) StepFault) (v : Level A) (fs : List (Frame A)) (y : Reply) →
+pub gives_subject : {A : Type 0} (form : DocForm) (t : M.Level) (x : Option term.Subject) (s : InForce) (k : Kind) (l : Leaf)
+    (r : Result (Turn A) StepFault) (v : Level A) (fs : List (Frame A)) (y : Reply) →
     Gives form s (use_at s k l) r v fs y →
     Gives form (scope_in s (M.after_subject form t x) k l) (use_in s (M.after_subject form t x) k l) r v fs y
 gives_subject TriG M.Top x s k l r v fs y g = g

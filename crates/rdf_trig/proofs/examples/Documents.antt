@@ -406,7 +406,8 @@ open_bound : Bound (document_events start open_tree)
 unfolding reference_in name_in resolved is_full has
 open_bound = named_bound (document_events start open_tree) refl
 
-owed_by : (k size : ℕ) → take k open_tokens ++ drop k open_tokens ≡ open_tokens → document_held start (length (take k open_tokens)) 0 open_tree ≡ size → Owed TriG start (take k open_tokens) size
+owed_by : (k size : ℕ) → take k open_tokens ++ drop k open_tokens ≡ open_tokens →
+    document_held start (length (take k open_tokens)) 0 open_tree ≡ size → Owed TriG start (take k open_tokens) size
 owed_by k size e h = record { tree = open_tree; more = drop k open_tokens; tokens = e; bound = open_bound; held = h }
 
 pub owed_inside : Owed TriG start (take 5 open_tokens) 30

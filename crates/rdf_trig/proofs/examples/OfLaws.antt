@@ -44,7 +44,8 @@ brace = token OpenBrace (leaf (codes "{") 30 1)
 abbrev box_state : State
 box_state = record { setting = in_default start; mode = AfterBox (Some (Blank (Anon 0))) Top; held = [] }
 
-box_ran : accept_all TriG (at_start start) box_tokens ≡ ran box_state (quad (Blank (Anon 0)) (codes "http://a/p") (Resource (term.Iri (codes "http://a/s"))) None ∷ [])
+box_ran : accept_all TriG (at_start start) box_tokens ≡ ran box_state
+    (quad (Blank (Anon 0)) (codes "http://a/p") (Resource (term.Iri (codes "http://a/s"))) None ∷ [])
 unfolding reference_in name_in resolved is_full has encode
 box_ran = refl
 
@@ -64,7 +65,8 @@ unbound_token = token PnameLn (leaf (codes "e:x") 54 1)
 abbrev unbound_state : State
 unbound_state = record { setting = in_default start; mode = Want (Listed (Some (term.Iri (codes "http://a/s"))) (Some (codes "http://a/q")) (Statement Top)); held = [] }
 
-unbound_ran : accept_all TriG (at_start start) unbound_tokens ≡ ran unbound_state (quad (term.Iri (codes "http://a/s")) (codes "http://a/p") (Resource (term.Iri (codes "http://a/s"))) None ∷ [])
+unbound_ran : accept_all TriG (at_start start) unbound_tokens ≡ ran unbound_state
+    (quad (term.Iri (codes "http://a/s")) (codes "http://a/p") (Resource (term.Iri (codes "http://a/s"))) None ∷ [])
 unfolding reference_in name_in resolved is_full has encode
 unbound_ran = refl
 

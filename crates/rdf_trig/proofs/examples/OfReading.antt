@@ -102,7 +102,8 @@ pub triple_is_not_refused : (reason : Reason) (at : Place) → Refused in_turtle
 triple_is_not_refused reason at x = refused_no_document Turtle small triple triple_quads reason at x triple_is within
 
 -- a reader that has read it has put its quad, and no other
-pub triple_is_put : (r : TrigRead) (quads : List Quad) → r.scanner.limit ≡ small.limits.token → HasRead tree_words r (record { form = Turtle; start = small }) triple quads → quads ≡ triple_quads
+pub triple_is_put : (r : TrigRead) (quads : List Quad) → r.scanner.limit ≡ small.limits.token →
+    HasRead tree_words r (record { form = Turtle; start = small }) triple quads → quads ≡ triple_quads
 triple_is_put r quads limit h =
     let due = (quads_due r (record { form = Turtle; start = small }) triple quads h).1 in
     let here : Due (documents Turtle small) triple_tokens quads =

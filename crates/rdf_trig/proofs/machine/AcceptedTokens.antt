@@ -82,7 +82,8 @@ pub record Ran (form : DocForm) (s : State) (ts : List Token) (n : State) (qs : 
   pub given : qs ≡ emits form s.setting s.mode s.held ts
 
 emits_one : (form : DocForm) (w : Option Quad) (early now : Option Quad) (c : Setting) (m : Mode) (u : Use) (held rest : List Quad) (ts : List Token) →
-    rest ≡ emits form c m (kept early (kept now [])) ts → (held ++ kept w []) ++ rest ≡ held ++ on_emits w (Go u early now c m) (λ c' m' h. emits form c' m' h ts)
+    rest ≡ emits form c m (kept early (kept now [])) ts → (held ++ kept w []) ++ rest ≡ held ++ on_emits w (Go u early now c m)
+    (λ c' m' h. emits form c' m' h ts)
 emits_one form None early now c m u held rest ts e = append_assoc held [] rest ∙ ap (λ x. held ++ x) e
 emits_one form (Some q) early now c m u held rest ts e = append_assoc held (q ∷ []) rest ∙ ap (λ x. held ++ (q ∷ x)) e
 

@@ -66,11 +66,13 @@ module _ (s t : InForce) (same : SameNames s t) where
   abbrev to : Option (Option term.Subject) → Setting
   to g = record { scope = t; graph = g }
 
-  by_name : (now : Option (List ℕ) → Option Quad) (m : Option (List ℕ) → Mode) (g : Option (Option term.Subject)) (early : Option Quad) (i j : Option (List ℕ)) → i ≡ j →
+  by_name : (now : Option (List ℕ) → Option Quad) (m : Option (List ℕ) → Mode) (g : Option (Option term.Subject)) (early : Option Quad)
+      (i j : Option (List ℕ)) → i ≡ j →
       SameReply (Go (stands i) early (now i) (from g) (m i)) (Go (stands j) early (now j) (to g) (m j))
   by_name now m g early i j e = (ap stands e, refl, ap now e, (same, refl), ap m e)
 
-  object_same : (g : Option (Option term.Subject)) (p : Place) (early : Option Quad) (k : Kind) (l : Leaf) → SameReply (object_start (from g) p early k l) (object_start (to g) p early k l)
+  object_same : (g : Option (Option term.Subject)) (p : Place) (early : Option Quad) (k : Kind) (l : Leaf) →
+      SameReply (object_start (from g) p early k l) (object_start (to g) p early k l)
   object_same g p early IriRef l = by_name (λ i. quad_at (from g) p (resource (named i))) (λ i. After p) g early _ _ (reference l)
   object_same g p early PnameLn l = by_name (λ i. quad_at (from g) p (resource (named i))) (λ i. After p) g early _ _ (name l)
   object_same g p early PnameNs l = by_name (λ i. quad_at (from g) p (resource (named i))) (λ i. After p) g early _ _ (name l)
@@ -86,14 +88,16 @@ module _ (s t : InForce) (same : SameNames s t) where
   object_same g p early OpenParen l = (refl, refl, refl, (same, refl), refl)
   object_same g p early k l = tt
 
-  verb_same : (g : Option (Option term.Subject)) (x : Option term.Subject) (a : Around) (k : Kind) (l : Leaf) → SameReply (verb_start (from g) x a k l) (verb_start (to g) x a k l)
+  verb_same : (g : Option (Option term.Subject)) (x : Option term.Subject) (a : Around) (k : Kind) (l : Leaf) →
+      SameReply (verb_start (from g) x a k l) (verb_start (to g) x a k l)
   verb_same g x a IriRef l = by_name (λ i. None) (λ i. Want (Listed x i a)) g None _ _ (reference l)
   verb_same g x a PnameLn l = by_name (λ i. None) (λ i. Want (Listed x i a)) g None _ _ (name l)
   verb_same g x a PnameNs l = by_name (λ i. None) (λ i. Want (Listed x i a)) g None _ _ (name l)
   verb_same g x a A l = (refl, refl, refl, (same, refl), refl)
   verb_same g x a k l = tt
 
-  end_same : (g : Option (Option term.Subject)) (x : Option term.Subject) (a : Around) (k : Kind) (l : Leaf) → SameReply (list_end (from g) x a k l) (list_end (to g) x a k l)
+  end_same : (g : Option (Option term.Subject)) (x : Option term.Subject) (a : Around) (k : Kind) (l : Leaf) →
+      SameReply (list_end (from g) x a k l) (list_end (to g) x a k l)
   end_same g x (Statement Top) Dot l = (refl, refl, refl, (same, refl), refl)
   end_same g x (Statement InBlock) Dot l = (refl, refl, refl, (same, refl), refl)
   end_same g x (Statement InBlock) CloseBrace l = (refl, refl, refl, (same, refl), refl)
@@ -102,7 +106,8 @@ module _ (s t : InForce) (same : SameNames s t) where
   end_same g x (Statement InBlock) k l = tt
   end_same g x (Boxed u) k l = tt
 
-  semi_same : (g : Option (Option term.Subject)) (x : Option term.Subject) (a : Around) (k : Kind) (l : Leaf) → SameReply (semi (from g) x a k l) (semi (to g) x a k l)
+  semi_same : (g : Option (Option term.Subject)) (x : Option term.Subject) (a : Around) (k : Kind) (l : Leaf) →
+      SameReply (semi (from g) x a k l) (semi (to g) x a k l)
   semi_same g x a Semicolon l = (refl, refl, refl, (same, refl), refl)
   semi_same g x a IriRef l = verb_same g x a IriRef l
   semi_same g x a PnameLn l = verb_same g x a PnameLn l
@@ -117,20 +122,23 @@ module _ (s t : InForce) (same : SameNames s t) where
   after_same g (InCells f n u) CloseParen l = (refl, refl, refl, (same, refl), refl)
   after_same g (InCells f n u) k l = object_same g (InCells f l.at.offset u) (rest_quad (from g) (Cell n) (Blank (cell_at l))) k l
 
-  text_same : (g : Option (Option term.Subject)) (w : List ℕ) (p : Place) (k : Kind) (l : Leaf) → SameReply (after_text (from g) w p k l) (after_text (to g) w p k l)
+  text_same : (g : Option (Option term.Subject)) (w : List ℕ) (p : Place) (k : Kind) (l : Leaf) →
+      SameReply (after_text (from g) w p k l) (after_text (to g) w p k l)
   text_same g w p LangTag l = (refl, refl, refl, (same, refl), refl)
   text_same g w p AtBase l = (refl, refl, refl, (same, refl), refl)
   text_same g w p AtPrefix l = (refl, refl, refl, (same, refl), refl)
   text_same g w p Carets l = (refl, refl, refl, (same, refl), refl)
   text_same g w p k l = after_same g p k l
 
-  type_same : (g : Option (Option term.Subject)) (w : List ℕ) (p : Place) (k : Kind) (l : Leaf) → SameReply (want_type (from g) w p k l) (want_type (to g) w p k l)
+  type_same : (g : Option (Option term.Subject)) (w : List ℕ) (p : Place) (k : Kind) (l : Leaf) →
+      SameReply (want_type (from g) w p k l) (want_type (to g) w p k l)
   type_same g w p IriRef l = by_name (λ i. quad_at (from g) p (typed_literal w i)) (λ i. After p) g None _ _ (reference l)
   type_same g w p PnameLn l = by_name (λ i. quad_at (from g) p (typed_literal w i)) (λ i. After p) g None _ _ (name l)
   type_same g w p PnameNs l = by_name (λ i. quad_at (from g) p (typed_literal w i)) (λ i. After p) g None _ _ (name l)
   type_same g w p k l = tt
 
-  box_same : (form : DocForm) (g : Option (Option term.Subject)) (n : ℕ) (u : Up) (k : Kind) (l : Leaf) → SameReply (box form (from g) n u k l) (box form (to g) n u k l)
+  box_same : (form : DocForm) (g : Option (Option term.Subject)) (n : ℕ) (u : Up) (k : Kind) (l : Leaf) →
+      SameReply (box form (from g) n u k l) (box form (to g) n u k l)
   box_same form g n u CloseBracket l = (refl, refl, refl, (same, refl), refl)
   box_same form g n u k l = verb_same g (node (Anon n)) (Boxed u) k l
 
@@ -138,14 +146,16 @@ module _ (s t : InForce) (same : SameNames s t) where
   paren_same g u CloseParen l = (refl, refl, refl, (same, refl), refl)
   paren_same g u k l = object_same g (InCells l.at.offset l.at.offset u) None k l
 
-  after_box_same : (g : Option (Option term.Subject)) (x : Option term.Subject) (v : Level) (k : Kind) (l : Leaf) → SameReply (after_box (from g) x v k l) (after_box (to g) x v k l)
+  after_box_same : (g : Option (Option term.Subject)) (x : Option term.Subject) (v : Level) (k : Kind) (l : Leaf) →
+      SameReply (after_box (from g) x v k l) (after_box (to g) x v k l)
   after_box_same g x v IriRef l = verb_same g x (Statement v) IriRef l
   after_box_same g x v PnameLn l = verb_same g x (Statement v) PnameLn l
   after_box_same g x v PnameNs l = verb_same g x (Statement v) PnameNs l
   after_box_same g x v A l = verb_same g x (Statement v) A l
   after_box_same g x v k l = end_same g x (Statement v) k l
 
-  subject_same : (form : DocForm) (g : Option (Option term.Subject)) (v : Level) (k : Kind) (l : Leaf) → SameReply (subject_start form (from g) v k l) (subject_start form (to g) v k l)
+  subject_same : (form : DocForm) (g : Option (Option term.Subject)) (v : Level) (k : Kind) (l : Leaf) →
+      SameReply (subject_start form (from g) v k l) (subject_start form (to g) v k l)
   subject_same form g v IriRef l = by_name (λ i. None) (λ i. after_subject form v (named i)) g None _ _ (reference l)
   subject_same form g v PnameLn l = by_name (λ i. None) (λ i. after_subject form v (named i)) g None _ _ (name l)
   subject_same form g v PnameNs l = by_name (λ i. None) (λ i. after_subject form v (named i)) g None _ _ (name l)
@@ -168,11 +178,13 @@ module _ (s t : InForce) (same : SameNames s t) where
   inside_same form g CloseBrace l = (refl, refl, refl, (same, refl), refl)
   inside_same form g k l = subject_same form g InBlock k l
 
-  brace_same : (g : Option (Option term.Subject)) (x : Option term.Subject) (k : Kind) (l : Leaf) → SameReply (want_brace (from g) x k l) (want_brace (to g) x k l)
+  brace_same : (g : Option (Option term.Subject)) (x : Option term.Subject) (k : Kind) (l : Leaf) →
+      SameReply (want_brace (from g) x k l) (want_brace (to g) x k l)
   brace_same g x OpenBrace l = (refl, refl, refl, (same, refl), refl)
   brace_same g x k l = tt
 
-  label_same : (g : Option (Option term.Subject)) (x : Option term.Subject) (k : Kind) (l : Leaf) → SameReply (after_label (from g) x k l) (after_label (to g) x k l)
+  label_same : (g : Option (Option term.Subject)) (x : Option term.Subject) (k : Kind) (l : Leaf) →
+      SameReply (after_label (from g) x k l) (after_label (to g) x k l)
   label_same g x OpenBrace l = (refl, refl, refl, (same, refl), refl)
   label_same g x k l = verb_same g x (Statement Top) k l
 
@@ -192,7 +204,8 @@ module _ (s t : InForce) (same : SameNames s t) where
   prefix_same g w PnameNs l = (refl, refl, refl, (same, refl), refl)
   prefix_same g w k l = tt
 
-  prefix_iri_same : (g : Option (Option term.Subject)) (w : Spelling) (p : List ℕ) (k : Kind) (l : Leaf) → SameReply (want_prefix_iri (from g) w p k l) (want_prefix_iri (to g) w p k l)
+  prefix_iri_same : (g : Option (Option term.Subject)) (w : Spelling) (p : List ℕ) (k : Kind) (l : Leaf) →
+      SameReply (want_prefix_iri (from g) w p k l) (want_prefix_iri (to g) w p k l)
   prefix_iri_same g w p IriRef l = (
     ap (λ b. binds b (reference_in s l)) (full p) ∙ ap (binds (is_full t p)) (reference l),
     refl,
@@ -202,7 +215,8 @@ module _ (s t : InForce) (same : SameNames s t) where
   )
   prefix_iri_same g w p k l = tt
 
-  base_iri_same : (g : Option (Option term.Subject)) (w : Spelling) (k : Kind) (l : Leaf) → SameReply (want_base_iri (from g) w k l) (want_base_iri (to g) w k l)
+  base_iri_same : (g : Option (Option term.Subject)) (w : Spelling) (k : Kind) (l : Leaf) →
+      SameReply (want_base_iri (from g) w k l) (want_base_iri (to g) w k l)
   base_iri_same g w IriRef l =
       (ap stands (reference l), refl, refl, (subst (λ i. SameNames (with_base s (reference_in s l)) (with_base t i)) (reference l) (base_behind (reference_in s l)), refl), refl)
   base_iri_same g w k l = tt
@@ -211,7 +225,8 @@ module _ (s t : InForce) (same : SameNames s t) where
   dot_same g Dot l = (refl, refl, refl, (same, refl), refl)
   dot_same g k l = tt
 
-  step_same : (form : DocForm) (g : Option (Option term.Subject)) (m : Mode) (k : Kind) (l : Leaf) → SameReply (step form (from g) m k l) (step form (to g) m k l)
+  step_same : (form : DocForm) (g : Option (Option term.Subject)) (m : Mode) (k : Kind) (l : Leaf) →
+      SameReply (step form (from g) m k l) (step form (to g) m k l)
   step_same form g Start k l = start_same form g k l
   step_same form g Over k l = tt
   step_same form g (WantPrefix w) k l = prefix_same g w k l

@@ -25,8 +25,10 @@ module _ (form : DocForm) where
   tokens_give None es = refl
   tokens_give (Some q) es = refl
 
-  one : (k : Kind) (l : Leaf) (before : Option Quad) (u : Use) (early now : Option Quad) {c : Setting} {m : Mode} {c' : Setting} {m' : Mode} {rest : List Event} →
-      waiting c m k l ≡ before → step form c m k l ≡ Go u early now c' m' → Good c' m' rest → Good c m (give before (Took (token k l) u ∷ give early (give now rest)))
+  one : (k : Kind) (l : Leaf) (before : Option Quad) (u : Use)
+      (early now : Option Quad) {c : Setting} {m : Mode} {c' : Setting} {m' : Mode} {rest : List Event} →
+      waiting c m k l ≡ before → step form c m k l ≡ Go u early now c' m' → Good c' m' rest →
+      Good c m (give before (Took (token k l) u ∷ give early (give now rest)))
   one k l before u early now {c} {m} {c'} {m'} {rest} w s g = record {
     runs =
         rw (tokens_give before (Took (token k l) u ∷ give early (give now rest)), tokens_give early (give now rest), tokens_give now rest)
@@ -81,8 +83,10 @@ module _ (form : DocForm) where
     ln : step form c m PnameLn l ≡ Go (stands (name_in s l)) early (now (name_in s l)) c' (next (name_in s l))
     ns : step form c m PnameNs l ≡ Go (stands (name_in s l)) early (now (name_in s l)) c' (next (name_in s l))
 
-  iri_good : (i : Iri) (c : Setting) (m : Mode) (s : InForce) (before early : Option Quad) (now : Option (List ℕ) → Option Quad) (c' : Setting) (next : Option (List ℕ) → Mode) (rest : List Event) →
-      TakesIri c m s before early now c' next (iri_leaf i) → Good c' (next (iri_in s i)) rest → Good c m (give before (iri_events s i (give early (give (now (iri_in s i)) rest))))
+  iri_good : (i : Iri) (c : Setting) (m : Mode) (s : InForce) (before early : Option Quad) (now : Option (List ℕ) → Option Quad) (c' : Setting)
+      (next : Option (List ℕ) → Mode) (rest : List Event) →
+      TakesIri c m s before early now c' next (iri_leaf i) → Good c' (next (iri_in s i)) rest →
+      Good c m (give before (iri_events s i (give early (give (now (iri_in s i)) rest))))
   iri_good (iri_ref l) c m s before early now c' next rest h g = one IriRef l before _ early _ h.waits.0 h.ref g
   iri_good (prefixed (pname_ln l)) c m s before early now c' next rest h g = one PnameLn l before _ early _ h.waits.1 h.ln g
   iri_good (prefixed (pname_ns l)) c m s before early now c' next rest h g = one PnameNs l before _ early _ h.waits.2 h.ns g
@@ -240,7 +244,8 @@ module _ (form : DocForm) where
         let l = object_leaf o in
         object_good o c (After (InCells f n u)) (InCells f l.at.offset u) None (rest_quad c (Cell n) (Blank (cell_at l))) _ (item_takes c f n u l) (rest_good os c f l.at.offset u r rest g)
 
-    predicates_good : (ps : PredicateObjectList) (c : Setting) (m : Mode) (s : Option term.Subject) (a : Around) (k : Kind) (l : Leaf) (c' : Setting) (m' : Mode) (rest : List Event) →
+    predicates_good : (ps : PredicateObjectList) (c : Setting) (m : Mode) (s : Option term.Subject) (a : Around) (k : Kind) (l : Leaf) (c' : Setting)
+        (m' : Mode) (rest : List Event) →
         TakesVerb c m s a → Ends c s a k l c' m' → Good c' m' rest → Good c m (predicates_events c ps s (take k l rest))
     predicates_good (predicate_objects v os ms) c m s a k l c' m' rest h e g =
         verb_good v c m s a _ h (objects_good os c s (verb_of c.scope v) a _ (more_good ms c s (verb_of c.scope v) a k l c' m' rest e g))
@@ -257,7 +262,8 @@ module _ (form : DocForm) where
     commas_good (comma l o os) c s v a rest g =
         alone Comma l refl refl (object_good o c (Want (Listed s v a)) (Listed s v a) None None _ (want_takes c (Listed s v a) (object_leaf o)) (commas_good os c s v a rest g))
 
-    more_good : (ms : More) (c : Setting) (s : Option term.Subject) (v : Option (List ℕ)) (a : Around) (k : Kind) (l : Leaf) (c' : Setting) (m' : Mode) (rest : List Event) →
+    more_good : (ms : More) (c : Setting) (s : Option term.Subject) (v : Option (List ℕ)) (a : Around) (k : Kind) (l : Leaf) (c' : Setting)
+        (m' : Mode) (rest : List Event) →
         Ends c s a k l c' m' → Good c' m' rest →
         Good c (After (Listed s v a)) (more_events c ms s (take k l rest))
     more_good no_more c s v a k l c' m' rest e g = alone k l refl (e.after v) g
@@ -290,7 +296,8 @@ module _ (form : DocForm) where
   box_then_verb : (c : Setting) (s : Option term.Subject) (v : Level) → TakesVerb c (AfterBox s v) s (Statement v)
   box_then_verb c s v = record { iri = λ l. record { waits = (refl, refl, refl); ref = refl; ln = refl; ns = refl }; type = λ l. (refl, refl) }
 
-  maybe_good : (ps : Option PredicateObjectList) (c : Setting) (s : Option term.Subject) (v : Level) (k : Kind) (l : Leaf) (c' : Setting) (m' : Mode) (rest : List Event) →
+  maybe_good : (ps : Option PredicateObjectList) (c : Setting) (s : Option term.Subject) (v : Level) (k : Kind) (l : Leaf) (c' : Setting) (m' : Mode)
+      (rest : List Event) →
       EndsTriples c v k l c' m' → Good c' m' rest →
       Good c (AfterBox s v) (maybe_events c s ps (take k l rest))
   maybe_good None c s v k l c' m' rest e g = alone k l refl (e.box s) g

@@ -66,7 +66,8 @@ kept_all (Some a) (Some b) qs = refl
 
 module _ (form : DocForm) where
   on_due : (t u : Token) (ts us : List Token) (w : Option Quad) (r : Reply) →
-      ((c : Setting) (m : Mode) (held : List Quad) (es : List Event) → run form c m ((u ∷ ts) ++ us) ≡ Some es → emits form c m held (u ∷ ts) ≡ held ++ due (suc (length ts)) es) →
+      ((c : Setting) (m : Mode) (held : List Quad) (es : List Event) → run form c m ((u ∷ ts) ++ us) ≡ Some es →
+      emits form c m held (u ∷ ts) ≡ held ++ due (suc (length ts)) es) →
       (es : List Event) → fronted w (go_on t r (λ c m. run form c m ((u ∷ ts) ++ us))) ≡ Some es →
       on_emits w r (λ c m held. emits form c m held (u ∷ ts)) ≡ due (suc (suc (length ts))) es
   on_due t u ts us w No ih es e = absurd (let z : None ≡ Some es = e in cc)

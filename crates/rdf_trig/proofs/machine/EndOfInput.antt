@@ -51,7 +51,8 @@ accept_over form s n t qs e k =
     ap (λ (x : State). x.mode) a.state ∙ over
 
 -- and a run whose last token it is.
-pub ends_over : (form : DocForm) (ts : List Token) (t : Token) (s n : State) (qs : List Quad) → accept_all form s (ts ++ t ∷ []) ≡ ran n qs → t.kind ≡ End → n.mode ≡ Over
+pub ends_over : (form : DocForm) (ts : List Token) (t : Token) (s n : State) (qs : List Quad) → accept_all form s (ts ++ t ∷ []) ≡ ran n qs →
+    t.kind ≡ End → n.mode ≡ Over
 ends_over form [] t s n qs e k = by (accept form s t.kind (leaf_of t)) refl e
   where
     by : (a : Answer) → accept form s t.kind (leaf_of t) ≡ a → go a (λ x. ran x []) ≡ ran n qs → n.mode ≡ Over
@@ -78,7 +79,8 @@ document_end {form} (with_body b rest) =
     (body_tokens form b ++ h.0, h.1, h.2, ap (λ x. body_tokens form b ++ x) h.3 ∙ sym (append_assoc (body_tokens form b) h.0 (h.1 ∷ [])))
 
 -- Tokens of bytes that are a document are complete.
-pub document_complete : (form : DocForm) (start : InForce) (limit : ℕ) (bytes : List ℕ) (e : Bool) (qs : List Marked) → documents form start (tokens_of turtle limit bytes e).tokens qs →
+pub document_complete : (form : DocForm) (start : InForce) (limit : ℕ) (bytes : List ℕ) (e : Bool) (qs : List Marked) →
+    documents form start (tokens_of turtle limit bytes e).tokens qs →
     (tokens_of turtle limit bytes e).outcome ≡ complete
 document_complete form start limit bytes e qs d =
     let h = document_end d.tree in

@@ -10,11 +10,13 @@ use Rattle.rdf_trig.specs.Quads.{Setting, in_default, node, cell_at, rest_quad}
 use Rattle.rdf_trig.specs.Machine as M
 use Rattle.rdf_trig.specs.States.{begins_verb}
 
-pub box-else : (form : DocForm) (c : Setting) (n : ℕ) (u : M.Up) (k : Kind) (l : Leaf) → (k ≡ CloseBracket → ⊥) → M.box form c n u k l ≡ M.verb_start c (node (term.Anon n)) (M.Boxed u) k l
+pub box-else : (form : DocForm) (c : Setting) (n : ℕ) (u : M.Up) (k : Kind) (l : Leaf) → (k ≡ CloseBracket → ⊥) →
+    M.box form c n u k l ≡ M.verb_start c (node (term.Anon n)) (M.Boxed u) k l
 box-else form c n u CloseBracket l h = absurd (h refl)
 box-else form c n u k l h = refl
 
-pub label-else : (c : Setting) (g : Option term.Subject) (k : Kind) (l : Leaf) → (k ≡ OpenBrace → ⊥) → M.after_label c g k l ≡ M.verb_start c g (M.Statement M.Top) k l
+pub label-else : (c : Setting) (g : Option term.Subject) (k : Kind) (l : Leaf) → (k ≡ OpenBrace → ⊥) →
+    M.after_label c g k l ≡ M.verb_start c g (M.Statement M.Top) k l
 label-else c g OpenBrace l h = absurd (h refl)
 label-else c g k l h = refl
 
@@ -29,7 +31,8 @@ semi-verb c s a PnameLn l h = refl
 semi-verb c s a A l h = refl
 semi-verb c s a k l h = absurd (false≢true h)
 
-pub semi-else : (c : Setting) (s : Option term.Subject) (a : M.Around) (k : Kind) (l : Leaf) → begins_verb k ≡ false → (k ≡ Semicolon → ⊥) → M.semi c s a k l ≡ M.list_end c s a k l
+pub semi-else : (c : Setting) (s : Option term.Subject) (a : M.Around) (k : Kind) (l : Leaf) → begins_verb k ≡ false → (k ≡ Semicolon → ⊥) →
+    M.semi c s a k l ≡ M.list_end c s a k l
 semi-else c s a IriRef l h n = absurd (cc)
 semi-else c s a PnameNs l h n = absurd (cc)
 semi-else c s a PnameLn l h n = absurd (cc)
@@ -37,14 +40,16 @@ semi-else c s a A l h n = absurd (cc)
 semi-else c s a Semicolon l h n = absurd (n refl)
 semi-else c s a k l h n = refl
 
-pub after_box-verb : (c : Setting) (s : Option term.Subject) (v : M.Level) (k : Kind) (l : Leaf) → begins_verb k ≡ true → M.after_box c s v k l ≡ M.verb_start c s (M.Statement v) k l
+pub after_box-verb : (c : Setting) (s : Option term.Subject) (v : M.Level) (k : Kind) (l : Leaf) → begins_verb k ≡ true →
+    M.after_box c s v k l ≡ M.verb_start c s (M.Statement v) k l
 after_box-verb c s v IriRef l h = refl
 after_box-verb c s v PnameNs l h = refl
 after_box-verb c s v PnameLn l h = refl
 after_box-verb c s v A l h = refl
 after_box-verb c s v k l h = absurd (false≢true h)
 
-pub after_box-else : (c : Setting) (s : Option term.Subject) (v : M.Level) (k : Kind) (l : Leaf) → begins_verb k ≡ false → M.after_box c s v k l ≡ M.list_end c s (M.Statement v) k l
+pub after_box-else : (c : Setting) (s : Option term.Subject) (v : M.Level) (k : Kind) (l : Leaf) → begins_verb k ≡ false →
+    M.after_box c s v k l ≡ M.list_end c s (M.Statement v) k l
 after_box-else c s v IriRef l h = absurd (cc)
 after_box-else c s v PnameNs l h = absurd (cc)
 after_box-else c s v PnameLn l h = absurd (cc)
@@ -56,7 +61,8 @@ pub cells-else : (c : Setting) (f n : ℕ) (u : M.Up) (k : Kind) (l : Leaf) → 
 cells-else c f n u CloseParen l h = absurd (h refl)
 cells-else c f n u k l h = refl
 
-pub paren-else : (c : Setting) (u : M.Up) (k : Kind) (l : Leaf) → (k ≡ CloseParen → ⊥) → M.paren c u k l ≡ M.object_start c (M.InCells l.at.offset l.at.offset u) None k l
+pub paren-else : (c : Setting) (u : M.Up) (k : Kind) (l : Leaf) → (k ≡ CloseParen → ⊥) →
+    M.paren c u k l ≡ M.object_start c (M.InCells l.at.offset l.at.offset u) None k l
 paren-else c u CloseParen l h = absurd (h refl)
 paren-else c u k l h = refl
 
@@ -68,7 +74,8 @@ text-else c w p AtPrefix l h i j n = absurd (j refl)
 text-else c w p Carets l h i j n = absurd (n refl)
 text-else c w p k l h i j n = refl
 
-pub start-else : (form : DocForm) (c : Setting) (k : Kind) (l : Leaf) → (k ≡ End → ⊥) → (k ≡ AtPrefix → ⊥) → (k ≡ Prefix → ⊥) → (k ≡ AtBase → ⊥) → (k ≡ Base → ⊥)
+pub start-else : (form : DocForm) (c : Setting) (k : Kind) (l : Leaf) → (k ≡ End → ⊥) → (k ≡ AtPrefix → ⊥) → (k ≡ Prefix → ⊥) → (k ≡ AtBase → ⊥) →
+    (k ≡ Base → ⊥)
     → (k ≡ Graph → ⊥) → (k ≡ OpenBrace → ⊥) → M.start form c k l ≡ M.subject_start form (in_default c.scope) M.Top k l
 start-else form c End l a b d e f g h = absurd (a refl)
 start-else form c AtPrefix l a b d e f g h = absurd (b refl)

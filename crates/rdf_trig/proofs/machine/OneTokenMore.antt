@@ -15,7 +15,8 @@ use Rattle.rdf_trig.proofs.machine.AlikeLemmas.{state_trans, accept_same, SameAn
 use Rattle.rdf_trig.proofs.machine.TwoQuadsAToken.{ran_few}
 
 -- one token more
-pub ran_one : (form : DocForm) (ts : List Token) (t : Token) (s m n : State) (rs qs : List Quad) → accept_all form s ts ≡ ran m rs → accept form m t.kind (leaf_of t) ≡ accepts qs n →
+pub ran_one : (form : DocForm) (ts : List Token) (t : Token) (s m n : State) (rs qs : List Quad) → accept_all form s ts ≡ ran m rs →
+    accept form m t.kind (leaf_of t) ≡ accepts qs n →
     accept_all form s (ts ++ t ∷ []) ≡ ran n (rs ++ qs)
 ran_one form [] t s m n rs qs e a =
     let z : ran s [] ≡ ran m rs = e in
@@ -44,7 +45,8 @@ runs_one form start ts t rs qs old machine new r a s =
     }
 
 -- what the machine refuses there
-pub runs_refused : (form : DocForm) (start : InForce) (ts : List Token) (t : Token) (rs : List Quad) (old : State) (x : Refusal) (r : RunsTo form start ts rs old) →
+pub runs_refused : (form : DocForm) (start : InForce) (ts : List Token) (t : Token) (rs : List Quad) (old : State) (x : Refusal)
+    (r : RunsTo form start ts rs old) →
     accept form old t.kind (leaf_of t) ≡ refuses x → accept form r.machine t.kind (leaf_of t) ≡ refuses x
 runs_refused form start ts t rs old x r a =
     let h = subst (SameAnswer (accept form r.machine t.kind (leaf_of t))) a (accept_same form r.machine old t.kind (leaf_of t) r.same) in

@@ -184,7 +184,8 @@ blank_body TriG b s es (inl (ps, (d, rest))) e = (with_body (triples_or_graph (l
 blank_body TriG b s es (inr (w, rest)) e = (with_body (triples_or_graph (named_graph (blank_label b) w)) rest, e)
 
 list_body : (form : DocForm) (p : BlankNodePropertyList) (s : InForce) (es : List Event) (ps : Option PredicateObjectList) (r : Leaf × Document form) →
-    es ≡ list_events (in_default s) p None None (maybe_events (in_default s) (Some (list_of p)) ps (level_events form (in_default s) Top r)) → (d : Document form) × (es ≡ document_events s d)
+    es ≡ list_events (in_default s) p None None (maybe_events (in_default s) (Some (list_of p)) ps (level_events form (in_default s) Top r)) →
+    (d : Document form) × (es ≡ document_events s d)
 list_body Turtle p s es ps (d, rest) e = (with_body record { triples = list_triples p ps; dot = d } rest, e)
 list_body TriG p s es ps (d, rest) e = (with_body (triples2 (list_triples2 p ps d)) rest, e)
 
@@ -226,7 +227,8 @@ unfolding more_of
 more_of-events c s l (inl (predicate_objects v os m)) rest = refl
 more_of-events c s l (inr m) rest = refl
 
-module _ (form : DocForm) (next : Setting → Mode → Option (List Event)) (ih : (c : Setting) (m : Mode) (es : List Event) → next c m ≡ Some es → Found form c m es) where
+module _ (form : DocForm) (next : Setting → Mode → Option (List Event))
+    (ih : (c : Setting) (m : Mode) (es : List Event) → next c m ≡ Some es → Found form c m es) where
   -- one step, from what is found behind it
   behind_it : (k : Kind) (l : Leaf) (w : Option Quad) (u : Use) (early now : Option Quad) (c : Setting) (m : Mode) (es : List Event) →
       fronted w (put (token k l) u early now (next c m)) ≡ Some es →
@@ -257,7 +259,8 @@ module _ (form : DocForm) (next : Setting → Mode → Option (List Event)) (ih 
     events : es ≡ give w (object_events c obj (subject_at p) (verb_at p) early (place_events form c p rest))
 
   iri_found : (i : Iri) (c : Setting) (p : Place) (early w : Option Quad) (es : List Event) (r : RestPlace form p) →
-      es ≡ give w (iri_events c.scope i (give early (give (quad_at c p (resource (named (iri_in c.scope i)))) (place_events form c p r)))) → ObjectFound c p early w (iri_leaf i) es
+      es ≡ give w (iri_events c.scope i (give early (give (quad_at c p (resource (named (iri_in c.scope i)))) (place_events form c p r)))) →
+      ObjectFound c p early w (iri_leaf i) es
   iri_found i c p early w es r e = record { obj = iri_object i; rest = r; first = refl; events = e }
 
   text_found : (x : String) (c : Setting) (p : Place) (early w : Option Quad) (es : List Event) (t : TextEnd) (r : RestPlace form p) →
@@ -271,7 +274,8 @@ module _ (form : DocForm) (next : Setting → Mode → Option (List Event)) (ih 
   literal_found x c p early w es r e = record { obj = literal_object x; rest = r; first = refl; events = e }
 
   box_found : (c : Setting) (p : Place) (early w : Option Quad) (l : Leaf) (es : List Event) (r : Rest form (Box l.at.offset (At p))) →
-      es ≡ give w (take OpenBracket l (give early (give (quad_at c p (resource (node (anon_at l)))) (box_events form c l.at.offset (At p) r)))) → ObjectFound c p early w l es
+      es ≡ give w (take OpenBracket l (give early (give (quad_at c p (resource (node (anon_at l)))) (box_events form c l.at.offset (At p) r)))) →
+      ObjectFound c p early w l es
   box_found c p early w l es (inl r) e = record { obj = blank_object (anon l r.0); rest = r.1; first = refl; events = e }
   box_found c p early w l es (inr r) e = record { obj = list_object (property_list l r.0 r.1.0); rest = r.1.1; first = refl; events = e }
 
@@ -508,17 +512,20 @@ module _ (form : DocForm) (next : Setting → Mode → Option (List Event)) (ih 
   want_dot_found c Dot l es e = let b = behind_it Dot l None itself None None c Start es e in ((l, b.0), b.1)
   want_dot_found c k l es e = absurd (let z : None ≡ Some es = e in cc)
 
-graph_start_found : (next : Setting → Mode → Option (List Event)) (ih : (c : Setting) (m : Mode) (es : List Event) → next c m ≡ Some es → Found TriG c m es) (c : Setting) (l : Leaf) (es : List Event) →
+graph_start_found : (next : Setting → Mode → Option (List Event))
+    (ih : (c : Setting) (m : Mode) (es : List Event) → next c m ≡ Some es → Found TriG c m es) (c : Setting) (l : Leaf) (es : List Event) →
     fronted None (go_on (token Graph l) (start TriG c Graph l) next) ≡ Some es → Found TriG c Start es
 graph_start_found next ih c l es e =
     let b = behind_it TriG next ih Graph l None itself None None c GraphWord es e in (with_body (tree.graph_word l b.0.0 b.0.1) b.0.2, b.1)
 
-brace_start_found : (next : Setting → Mode → Option (List Event)) (ih : (c : Setting) (m : Mode) (es : List Event) → next c m ≡ Some es → Found TriG c m es) (c : Setting) (l : Leaf) (es : List Event) →
+brace_start_found : (next : Setting → Mode → Option (List Event))
+    (ih : (c : Setting) (m : Mode) (es : List Event) → next c m ≡ Some es → Found TriG c m es) (c : Setting) (l : Leaf) (es : List Event) →
     fronted None (go_on (token OpenBrace l) (start TriG c OpenBrace l) next) ≡ Some es → Found TriG c Start es
 brace_start_found next ih c l es e =
     let b = behind_it TriG next ih OpenBrace l None itself None None (in_default c.scope) Inside es e in (with_body (default_graph (wrapped l b.0.0 b.0.1)) b.0.2, b.1)
 
-start_found : (form : DocForm) (next : Setting → Mode → Option (List Event)) (ih : (c : Setting) (m : Mode) (es : List Event) → next c m ≡ Some es → Found form c m es) (c : Setting) (k : Kind) (l : Leaf) (es : List Event) →
+start_found : (form : DocForm) (next : Setting → Mode → Option (List Event))
+    (ih : (c : Setting) (m : Mode) (es : List Event) → next c m ≡ Some es → Found form c m es) (c : Setting) (k : Kind) (l : Leaf) (es : List Event) →
     fronted None (go_on (token k l) (start form c k l) next) ≡ Some es → Found form c Start es
 start_found form next ih c End l es e = let b = behind_it form next ih End l None itself None None c Over es e in (end l, b.1)
 start_found form next ih c AtPrefix l es e =
@@ -530,7 +537,9 @@ start_found TriG next ih c Graph l es e = graph_start_found next ih c l es e
 start_found TriG next ih c OpenBrace l es e = brace_start_found next ih c l es e
 start_found form next ih c k l es e = subject_found form next ih c k l es e
 
-step_found : (form : DocForm) (next : Setting → Mode → Option (List Event)) (ih : (c : Setting) (m : Mode) (es : List Event) → next c m ≡ Some es → Found form c m es) (c : Setting) (m : Mode) (k : Kind) (l : Leaf) (es : List Event) →
+step_found : (form : DocForm) (next : Setting → Mode → Option (List Event))
+    (ih : (c : Setting) (m : Mode) (es : List Event) → next c m ≡ Some es → Found form c m es) (c : Setting) (m : Mode) (k : Kind) (l : Leaf)
+    (es : List Event) →
     fronted (waiting c m k l) (go_on (token k l) (step form c m k l) next) ≡ Some es → Found form c m es
 step_found form next ih c Start k l es e = start_found form next ih c k l es e
 step_found form next ih c Over k l es e = absurd (let z : None ≡ Some es = e in cc)

@@ -266,5 +266,6 @@ run_few form (t ∷ ts) s n qs e = by (λ m rest x. run_few form ts m n rest x) 
         omega (arith, here, more, all)
 
 -- A run from the start gives out at most two quads for each token.
-pub ran_few : (form : DocForm) (start : InForce) (ts : List Token) (n : State) (qs : List Quad) → accept_all form (at_start start) ts ≡ ran n qs → length qs ≤ 2 * counted ts
+pub ran_few : (form : DocForm) (start : InForce) (ts : List Token) (n : State) (qs : List Quad) → accept_all form (at_start start) ts ≡ ran n qs →
+    length qs ≤ 2 * counted ts
 ran_few form start ts n qs e = let h = run_few form ts (at_start start) n qs e in omega (arith, h)

@@ -73,7 +73,8 @@ module _ (strict : Bool) (form : DocForm) where
 
   reply_back : (t : Token) (w : Option Quad) (r : Reply) (next : Setting → Mode → Option Stand) (ts us : List Token) →
       ((c : Setting) (m : Mode) (es : List Event) → run form c m (ts ++ us) ≡ Some es → AllAdmitted strict es → (s : Stand) × (next c m ≡ Some s)) →
-      (es : List Event) → fronted w (go_on t r (λ c m. run form c m (ts ++ us))) ≡ Some es → AllAdmitted strict es → (s : Stand) × (on_reply strict r next ≡ Some s)
+      (es : List Event) → fronted w (go_on t r (λ c m. run form c m (ts ++ us))) ≡ Some es → AllAdmitted strict es →
+      (s : Stand) × (on_reply strict r next ≡ Some s)
   reply_back t w No next ts us ih es e b = absurd (let z : None ≡ Some es = e in cc)
   reply_back t w (Go u early now c m) next ts us ih es e b =
       let x = unput w t u early now _ es e in
@@ -234,6 +235,7 @@ nameless form start ts t s u early now c m e n h = (
 -- A token that stands for something begins a document with those before it.
 pub goes_on : (form : DocForm) (start : InForce) (ts : List Token) (t : Token) (s : Stand) (u : Use) (early now : Option Quad) (c : Setting) (m : Mode) →
     reach true form (in_default start) Start ts ≡ Some s →
-    step form s.setting s.mode t.kind (leaf_of t) ≡ Go u early now c m → has_iri u ≡ true → reach true form (in_default start) Start (ts ++ t ∷ []) ≡ Some (stand c m)
+    step form s.setting s.mode t.kind (leaf_of t) ≡ Go u early now c m → has_iri u ≡ true →
+    reach true form (in_default start) Start (ts ++ t ∷ []) ≡ Some (stand c m)
 goes_on form start ts t s u early now c m e n h =
     reach-snoc true form ts t (in_default start) Start ∙ ap (λ o. and_on true form o t) e ∙ ap (λ r. on_reply true r (λ c' m'. Some (stand c' m'))) n ∙ ap (λ b. if_true b (Some (stand c m))) h

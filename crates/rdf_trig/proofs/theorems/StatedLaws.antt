@@ -49,7 +49,8 @@ front_below : (qs : List Marked) (m k : ℕ) → Rises m qs → (rest : List Qua
 front_below [] m k r = ([], refl)
 front_below (q ∷ qs) m k r = ⊎_elim (below (front_below qs q.mark k r.1)) behind (cases_lt q.mark k)
   where
-    below : (rest : List Quad) × (unmarked qs ≡ quads_below k qs ++ rest) → q.mark < k → (rest : List Quad) × (unmarked (q ∷ qs) ≡ quads_below k (q ∷ qs) ++ rest)
+    below : (rest : List Quad) × (unmarked qs ≡ quads_below k qs ++ rest) → q.mark < k →
+        (rest : List Quad) × (unmarked (q ∷ qs) ≡ quads_below k (q ∷ qs) ++ rest)
     below ih l = (ih.0, ap (λ x. q.quad ∷ x) ih.1 ∙ sym (ap (λ x. x ++ ih.0) (cond-true (nat_lt q.mark k) (q.quad ∷ quads_below k qs) (quads_below k qs) (lt-ltb _ _ l))))
 
     behind : k ≤ q.mark → (rest : List Quad) × (unmarked (q ∷ qs) ≡ quads_below k (q ∷ qs) ++ rest)
@@ -57,7 +58,8 @@ front_below (q ∷ qs) m k r = ⊎_elim (below (front_below qs q.mark k r.1)) be
         let e : quads_below k (q ∷ qs) ≡ [] = cond-false (nat_lt q.mark k) (q.quad ∷ quads_below k qs) (quads_below k qs) (le-ltb _ _ l) ∙ none_below qs q.mark k l r.1 in
         (unmarked (q ∷ qs), sym (ap (λ x. x ++ unmarked (q ∷ qs)) e))
 
-pub due_front : (form : DocForm) (start : InForce) (ts more : List Token) (qs : List Quad) (all : List Marked) → Due (documents form start) ts qs → documents form start (ts ++ more) all →
+pub due_front : (form : DocForm) (start : InForce) (ts more : List Token) (qs : List Quad) (all : List Marked) → Due (documents form start) ts qs →
+    documents form start (ts ++ more) all →
     (rest : List Quad) × (unmarked all ≡ qs ++ rest)
 due_front form start ts more qs all w d =
     let r = subst (Rises 0) d.quads (never_fall form start d.tree) in

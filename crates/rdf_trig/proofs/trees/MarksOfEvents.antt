@@ -21,7 +21,8 @@ marked_give : (q : Option Quad) (n : ℕ) (es : List Event) → event_quads n (g
 marked_give None n es = refl
 marked_give (Some q) n es = refl
 
-marked_both : (early q : Option Quad) (n : ℕ) (es : List Event) → event_quads n (give early (give q es)) ≡ marked_at n early ++ (marked_at n q ++ event_quads n es)
+marked_both : (early q : Option Quad) (n : ℕ) (es : List Event) →
+    event_quads n (give early (give q es)) ≡ marked_at n early ++ (marked_at n q ++ event_quads n es)
 marked_both early q n es = marked_give early n (give q es) ∙ ap (λ x. marked_at n early ++ x) (marked_give q n es)
 
 -- the same number under another spelling

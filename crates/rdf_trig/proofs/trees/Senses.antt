@@ -69,8 +69,10 @@ later_sense w t u early now n fs es e =
     ap (sense_at (suc n)) e ∙ sense_give w (suc n) (Took t u ∷ give early (give now fs)) ∙ sense_give early n (give now fs) ∙ sense_give now n fs
 
 -- in a run the token stands for what the machine's step says
-sense_run : (strict : Bool) (form : DocForm) (ts : List Token) (t : Token) (us : List Token) (c : Setting) (m : Mode) (es : List Event) (s : Stand) (u : Use) (early now : Option Quad) (c1 : Setting) (m1 : Mode) →
-    run form c m (ts ++ t ∷ us) ≡ Some es → reach strict form c m ts ≡ Some s → step form s.setting s.mode t.kind (leaf_of t) ≡ Go u early now c1 m1 → sense_at (length ts) es ≡ Some u
+sense_run : (strict : Bool) (form : DocForm) (ts : List Token) (t : Token) (us : List Token) (c : Setting) (m : Mode) (es : List Event) (s : Stand)
+    (u : Use) (early now : Option Quad) (c1 : Setting) (m1 : Mode) →
+    run form c m (ts ++ t ∷ us) ≡ Some es → reach strict form c m ts ≡ Some s → step form s.setting s.mode t.kind (leaf_of t) ≡ Go u early now c1 m1 →
+    sense_at (length ts) es ≡ Some u
 sense_run strict form [] t us c m es s u early now c1 m1 r e n =
     let z : stand c m ≡ s = cc in
     let n1 : step form c m t.kind (leaf_of t) ≡ Go u early now c1 m1 = subst (λ x. step form (Stand.setting x) (Stand.mode x) t.kind (leaf_of t) ≡ Go u early now c1 m1) (sym z) n in
@@ -93,8 +95,10 @@ sense_run strict form (y ∷ ts) t us c m es s u early now c1 m1 r e n =
         let x = unput (waiting c m y.kind (leaf_of y)) y v e1 n1 (run form c' m' (ts ++ t ∷ us)) es r in
         later_sense (waiting c m y.kind (leaf_of y)) y v e1 n1 (length ts) x.0 es x.2 ∙ ih c' m' x.0 x.1 (when (admits strict v) (reach strict form c' m' ts) e)
 
-pub same_sense : (strict : Bool) (form : DocForm) (start : InForce) (ts : List Token) (t : Token) (s : Stand) (u v : Use) (early now : Option Quad) (c : Setting) (m : Mode) →
-    reach strict form (in_default start) Start ts ≡ Some s → step form s.setting s.mode t.kind (leaf_of t) ≡ Go u early now c m → InTree form start ts t v → v ≡ u
+pub same_sense : (strict : Bool) (form : DocForm) (start : InForce) (ts : List Token) (t : Token) (s : Stand) (u v : Use) (early now : Option Quad)
+    (c : Setting) (m : Mode) →
+    reach strict form (in_default start) Start ts ≡ Some s → step form s.setting s.mode t.kind (leaf_of t) ≡ Go u early now c m →
+    InTree form start ts t v → v ≡ u
 same_sense strict form start ts t s u v early now c m e n p =
     let told : tokens (document_events start p.tree) ≡ ts ++ t ∷ tokens p.rest = ap tokens p.events ∙ tokens_behind p.front t v p.rest ∙ ap (λ x. x ++ t ∷ tokens p.rest) p.read in
     let a = sense_run strict form ts t (tokens p.rest) (in_default start) Start (document_events start p.tree) s u early now c m (run_tree strict form p.tree start (ts ++ t ∷ tokens p.rest) told) e n in
@@ -103,8 +107,10 @@ same_sense strict form start ts t s u v early now c m e n p =
     cc
 
 -- the place of a token in a tree that begins so
-placed : (strict : Bool) (form : DocForm) (start : InForce) (ts : List Token) (t : Token) (s : Stand) (u : Use) (early now : Option Quad) (c : Setting) (m : Mode) →
-    reach strict form (in_default start) Start ts ≡ Some s → step form s.setting s.mode t.kind (leaf_of t) ≡ Go u early now c m → (b : Begins strict form start (ts ++ t ∷ [])) →
+placed : (strict : Bool) (form : DocForm) (start : InForce) (ts : List Token) (t : Token) (s : Stand) (u : Use) (early now : Option Quad)
+    (c : Setting) (m : Mode) →
+    reach strict form (in_default start) Start ts ≡ Some s → step form s.setting s.mode t.kind (leaf_of t) ≡ Go u early now c m →
+    (b : Begins strict form start (ts ++ t ∷ [])) →
     (p : InTree form start ts t u) × (p.tree ≡ b.0)
 placed strict form start ts t s u early now c m e n (d, us, told, b) =
     let x = split (document_events start d) ts t us (told ∙ append_assoc ts (t ∷ []) us) in
