@@ -51,7 +51,7 @@ module _ (d : Dialect) (limit : ℕ) (t : Tail) (P : Place → List ℕ → Read
   pub by_steps : (b : Bool) (p : Place) (w : List ℕ) → P p w (tokens d limit t b p w)
   by_steps b p w = by_fuel (suc (length w)) b p w (omega arith)
 
--- the tokens of some bytes, behind the mark
+-- the tokens of some bytes, after the byte order mark
 pub tokens_of-tokens : (d : Dialect) (limit : ℕ) (bytes : List ℕ) (e : Bool) → tokens_of d limit bytes e
     ≡ tokens d limit (tail_of bytes e) false (past first_place (take (mark (good bytes)) (good bytes))) (drop (mark (good bytes)) (good bytes))
 unfolding tokens_of
@@ -207,7 +207,7 @@ record Reaches (bytes : List ℕ) (p : Place) (w : List ℕ) : Type 0 where
   place : p ≡ end_of front
 
 module _ (bytes : List ℕ) where
-  -- the place behind some characters
+  -- the place after some characters
   moves_on : (p : Place) (w : List ℕ) (n : ℕ) → Reaches bytes p w → Reaches bytes (past p (take n w)) (drop n w)
   moves_on p w n h =
       let a = encodes (take n w) in

@@ -19,7 +19,7 @@ use Rattle.rdf_tokens.proofs.BlankLemmas.{blank_by, comment_by, blank-step, comm
 use Rattle.rdf_tokens.proofs.TokensLemmas.{at_stop, at_token, more_token}
 use Rattle.rdf_tokens.proofs.ReadLemmas.{read_now}
 
--- one move behind another
+-- one move after another
 pub moves_both : (a b c : Unread) (ts us : List Token) → Moves a ts b → Moves b us c → Moves a (ts ++ us) c
 moves_both a b c ts us m n = joined b.place b.begun b.comment b.text (subst (Moves a ts) m.same m) (subst (λ b. Moves b us c) m.same n)
   where
@@ -97,7 +97,7 @@ comment-rest d b (c ∷ w) e = comment-step d b c w ∙ go (comment_step d b c) 
     go None e h = refl
     go (Some b) e h = h b e
 
--- the reader stands behind them
+-- the reader stands after them
 abbrev pub bared : Unread → Unread
 bared v = moved v (past v.place (take (blank v.dialect v.comment v.text) v.text)) true (comment_after v.dialect v.comment v.text) (rest_of v.dialect v.comment v.text)
 

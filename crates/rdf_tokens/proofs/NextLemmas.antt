@@ -1,4 +1,4 @@
--- What the next token is, behind white space and comments.
+-- What the next token is, after white space and comments.
 use Rattle.std.proofs.Common.{◌≡◌, ◌≢◌, inl, inr, not, ℕ, ◌+◌, ◌<◌, Bool, true, false, cond, List, [], ◌∷◌, ◌++◌, ◌||◌, ◌&&◌, is_some, refl, sym, ap, ◌∙◌, subst, ⊎_elim, length, take, drop, arith, length-drop, Option, Some, None}
 use Rattle.std.proofs.lemmas.List.{append-nil}
 use Rattle.std.proofs.lemmas.Bool.{le-ltb, or_parts, cases_Bool, cond-true, cond-false}

@@ -17,7 +17,7 @@ use Rattle.rdf_tokens.proofs.GoodLemmas.{good_front}
 use Rattle.rdf_tokens.proofs.PlaceLemmas.{end_of-append}
 use Rattle.rdf_tokens.proofs.PastGood.{good_past, tail_past, good_broken, still_broken, tail_broken}
 
--- what is read where nothing comes behind the pending bytes
+-- what is read where nothing comes after the pending bytes
 pending_good : (p : List ℕ) → BeginsChar p → good (p ++ []) ≡ []
 pending_good p b = ap good (append-nil p) ∙ (ap (λ n. chars (take n p)) b.none_whole ∙ chars-nil)
 

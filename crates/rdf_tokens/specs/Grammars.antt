@@ -37,7 +37,7 @@ Shaped trees ts = Viable trees ts
 abbrev pub Due : (List Token → List Marked → Type 0) → List Token → List Quad → Type 0
 Due documents ts qs = (more : List Token) × (all : List Marked) × documents (ts ++ more) all × (quads_below (length ts) all ≡ qs)
 
--- no token of the list passes a limit, where the relation says that a token does so behind the tokens before it
+-- no token of the list passes a limit, where the relation says that a token does so after the tokens before it
 abbrev pub PassesNone : (List Token → Token → Type 0) → List Token → Type 0
 PassesNone passes ts = (ahead behind : List Token) (t : Token) → ts ≡ ahead ++ t ∷ behind → passes ahead t → ⊥
 

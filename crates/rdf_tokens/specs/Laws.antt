@@ -47,13 +47,13 @@ Tells r o = ⊥
 abbrev pub IsStop : Reading → List Token → Reason → Place → Type 0
 IsStop r ts reason at = (r.tokens ≡ ts) × Tells reason r.outcome × (reason ≢ Ended → at ≡ r.at)
 
--- the next token behind some, or that more bytes decide it, or why there is none
+-- the next token after some, or that more bytes decide it, or why there is none
 abbrev pub IsNext : Reading → List Token → Result (Option Given) Fault → Type 0
 IsNext r ts (Ok (Some t)) = IsBeginning (ts ++ token_of t ∷ []) r.tokens
 IsNext r ts (Ok None) = (r.tokens ≡ ts) × (r.outcome ≡ undecided)
 IsNext r ts (Err f) = IsStop r ts f.reason (place_of f)
 
--- What a scanner gives is next among the tokens of the bytes that it has taken, behind those that it has given.
+-- What a scanner gives is next among the tokens of the bytes that it has taken, after those that it has given.
 abbrev pub NextTokenIsGiven : Type 0
 NextTokenIsGiven = (old new : Unread) (bytes : List ℕ) (ts : List Token) (result : Result (Option Given) Fault) →
     HasScanned old bytes ts → Gives old result new → IsNext (tokens_of old.dialect old.limit bytes old.ended) ts result

@@ -31,7 +31,7 @@ pub record IsTree (form : DocForm) (start : InForce) (ts : List Token) (qs : Lis
 abbrev pub trees : DocForm → InForce → List Token → List Marked → Type 0
 trees form start ts qs = IsTree form start ts qs
 
--- '[' and '(' that are open behind some tokens
+-- '[' and '(' that are open after some tokens
 abbrev pub opens : Kind → ℕ
 opens OpenBracket = 1
 opens OpenParen = 1

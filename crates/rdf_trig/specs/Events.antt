@@ -1,4 +1,4 @@
--- A document from left to right: each token with what it stands for, and each quad right behind the last token of its head.
+-- A document from left to right: each token with what it stands for, and each quad right after the last token of its head.
 use Rattle.std.specs.Prelude.{◌≢◌, ℕ, zero, suc, ◌+◌, Bool, List, [], ◌∷◌, Option, Some, None}
 use Rattle.rdf_terms.specs.declared.kind.Kind.{Kind}
 use Rattle.rdf_terms.specs.declared.kind.Kind.TheVariants.{IriRef, LabelNode, ShortString, LongString, LangTag, Carets, Dot, Integer, Decimal, Double, True, False, A, AtPrefix, AtBase, Prefix, Base, Graph, PnameNs, PnameLn, Semicolon, Comma, OpenBracket, CloseBracket, OpenParen, CloseParen, OpenBrace, CloseBrace, End}
@@ -93,7 +93,7 @@ abbrev mutual
   items_events c no_items r rest = take CloseParen r rest
   items_events c (item o os) r rest = object_events c o (node (cell_of o)) (Some (known_chars RdfFirst)) None (rest_events c os (cell_of o) r rest)
 
-  -- the items behind the one of this cell
+  -- the items after the one of this cell
   pub rest_events : Setting → Items → Node → Leaf → List Event → List Event
   rest_events c no_items cell r rest = take CloseParen r (give (rest_quad c cell (items_of no_items)) rest)
   rest_events c (item o os) cell r rest =
@@ -183,7 +183,7 @@ tokens [] = []
 tokens (Took t u ∷ es) = t ∷ tokens es
 tokens (Gave q ∷ es) = tokens es
 
--- the quads, each with the number of the token that it stands behind, where n tokens stand before the events,
+-- the quads, each with the number of the token that it stands after, where n tokens stand before the events,
 abbrev pub event_quads : ℕ → List Event → List Marked
 event_quads n [] = []
 event_quads n (Took t u ∷ es) = event_quads (n + 1) es

@@ -44,7 +44,7 @@ MarksNeverFall = (form : DocForm) (start : InForce) (d : Document form) → Rise
 abbrev pub TokensSettleTheQuads : Type 0
 TokensSettleTheQuads = (form : DocForm) (start : InForce) (ts : List Token) (qs rs : List Marked) → trees form start ts qs → trees form start ts rs → qs ≡ rs
 
--- What is due behind some tokens is the same in every document that begins with them.
+-- What is due after some tokens is the same in every document that begins with them.
 abbrev pub TokensSettleWhatIsDue : Type 0
 TokensSettleWhatIsDue = (form : DocForm) (start : InForce) (ts : List Token) (qs rs : List Quad) → Due (documents form start) ts qs →
     Due (documents form start) ts rs → qs ≡ rs

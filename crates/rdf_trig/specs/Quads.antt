@@ -144,7 +144,7 @@ object_of s (collection_object c) = resource (Some (collection_of c))
 object_of s (list_object p) = resource (Some (list_of p))
 object_of s (literal_object l) = literal_of s l
 
--- the rdf:rest of an item's cell, whose head ends at the token behind the item
+-- the rdf:rest of an item's cell, whose head ends at the token after the item
 abbrev pub rest_quad : Setting → Node → term.Subject → Option Quad
 rest_quad c cell rest = stated c.graph (node cell) (Some (known_chars RdfRest)) (resource (Some rest))
 

@@ -117,7 +117,7 @@ abbrev pub body_quads : (form : DocForm) → InForce → ℕ → Body form → L
 body_quads Turtle s n b = triples_quads (in_default s) n b.triples
 body_quads TriG s n b = trig_quads s n b
 
--- the scope at each place is that behind the directives before it
+-- the scope at each place is that after the directives before it
 abbrev pub document_quads : {form : DocForm} → InForce → ℕ → Document form → List Marked
 document_quads s n (end l) = []
 document_quads s n (with_directive d rest) = document_quads (scope_after s d) (n + length (directive_tokens d)) rest

@@ -38,7 +38,7 @@ fn is_too_deep(limits: Limits, depth: u64, kind: Kind) -> bool
     deepens(kind) && limits.depth() <= depth
 }
 
-// How many brackets are open behind a token.
+// How many brackets are open after a token.
 fn depth_behind(depth: u64, kind: Kind) -> u64
     requires { DepthMay kind depth }
     ensures { DepthMoves kind depth result }

@@ -121,7 +121,7 @@ fn object<A: Allocator>(object: &Object<A>) -> TermRef<'_>
     }
 }
 
-// The quad between a cell and what comes behind it.
+// The quad between a cell and what comes after it.
 #[inline(always)]
 fn cells<'a>(cell: u64, next: SubjectRef<'a>, graph: Option<SubjectRef<'a>>) -> QuadRef<'a>
     ensures { Some (quad_of result) ≡ cells_quad (option_map (subject_by chars) graph.entry) cell (subject_by chars next.entry) }

@@ -243,7 +243,7 @@ fn want_dot<A: Allocator>(kind: Kind) -> Result<Outer<A>, StepFault>
     }
 }
 
-// The token behind GRAPH.
+// The token after GRAPH.
 fn graph_word<A: Allocator>(
     alloc: A,
     token: &Token<'_>,
@@ -293,7 +293,7 @@ fn want_brace<A: Allocator>(graph: Subject<A>, kind: Kind) -> Result<Outer<A>, S
     }
 }
 
-// The token behind a subject, which outside of a block may be a graph's label in TriG.
+// The token after a subject, which outside of a block may be a graph's label in TriG.
 fn after_subject<A: Allocator>(
     form: DocForm,
     subject: Subject<A>,
@@ -331,7 +331,7 @@ fn after_label<A: Allocator>(
     }
 }
 
-// The token behind a string.
+// The token after a string.
 #[tactic(auto, using(crate::proofs::machine::Fallbacks::fallbacks))]
 fn after_text<A: Allocator + Copy>(
     alloc: A,
@@ -360,7 +360,7 @@ fn after_text<A: Allocator + Copy>(
     }
 }
 
-// The token behind an object.
+// The token after an object.
 fn after<A: Allocator + Copy>(
     alloc: A,
     frame: Frame<A>,
@@ -467,7 +467,7 @@ fn want_type<A: Allocator>(
     }
 }
 
-// The token behind '['.
+// The token after '['.
 #[tactic(auto, using(crate::proofs::machine::Fallbacks::fallbacks))]
 fn bracket<A: Allocator>(
     node: u64,
@@ -486,7 +486,7 @@ fn bracket<A: Allocator>(
     }
 }
 
-// The mode behind a node, a property list, and a collection.
+// The mode after a node, a property list, and a collection.
 #[tactic(auto, using(crate::proofs::code::FrameStack::stack_steps))]
 fn node_closed<A: Allocator>(frames: &mut Vec<Frame<A>, A>, subject: Subject<A>) -> Mode<A>
     ensures { (form : DocForm) (v : Level A) → mode_of form v frames.new.items result ≡ M.node_closed form (up_of (level_of v) frames.old.items)
@@ -498,7 +498,7 @@ fn node_closed<A: Allocator>(frames: &mut Vec<Frame<A>, A>, subject: Subject<A>)
     }
 }
 
-// The token behind '('.
+// The token after '('.
 #[tactic(auto, using(crate::proofs::machine::Fallbacks::fallbacks))]
 fn paren<A: Allocator + Copy>(
     alloc: A,
@@ -622,7 +622,7 @@ fn true_word() -> &'static str
     "true"
 }
 
-// The mode behind an object, whose quad is held.
+// The mode after an object, whose quad is held.
 fn whole<A: Allocator>(rest: Rest, object: Object<A>, frame: Frame<A>) -> Turn<A>
     ensures { result ≡ record { rest = rest; held = Held.Object object; mode = Mode.After frame } }
 {
@@ -651,7 +651,7 @@ fn false_word() -> &'static str
     "false"
 }
 
-// The token behind ';'.
+// The token after ';'.
 #[tactic(auto, using(crate::proofs::machine::Fallbacks::fallbacks))]
 fn semicolon<A: Allocator>(
     subject: Topic<A>,
@@ -674,7 +674,7 @@ fn semicolon<A: Allocator>(
     }
 }
 
-// The token behind a property list that is a subject.
+// The token after a property list that is a subject.
 #[tactic(auto, using(crate::proofs::machine::Fallbacks::fallbacks))]
 fn after_brackets<A: Allocator>(
     subject: Topic<A>,
@@ -768,7 +768,7 @@ fn statement_end<A: Allocator>(level: &mut Level<A>, kind: Kind) -> Result<Turn<
     }
 }
 
-// The mode behind a statement's dot, and behind the end of a block.
+// The mode after a statement's dot, and after the end of a block.
 fn statement_ended<A: Allocator>(level: &mut Level<A>) -> Outer<A>
     ensures graph { outer_graph result ≡ graph_of level.old }
     ensures mode { outer_of result ≡ behind_dot (level_of level.old) }

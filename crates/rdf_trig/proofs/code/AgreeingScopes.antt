@@ -159,7 +159,7 @@ base_looks s t n w l i e b =
 pub base_none : (s t : InForce) (w : M.Spelling) (l : Leaf) (r : StepFault) → SameScope s t → Unnamed t IriRef l r → LooksUpNone s (M.WantBaseIri w) IriRef l r
 base_none s t w l r e n = stops_at s.limits t.limits IriRef _ _ r e.limits (ap stands (reference_same s t l e)) n
 
--- what a prefix is bound to behind a binding
+-- what a prefix is bound to after a binding
 equal-swapped : (v w : List ℕ) → equal v w ≡ equal w v
 equal-swapped v w = same_test _ _ (λ h. equal-from w v (sym (equal-true v w h))) (λ h. equal-from v w (sym (equal-true w v h)))
 

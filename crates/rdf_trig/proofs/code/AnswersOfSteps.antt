@@ -128,7 +128,7 @@ fails_stays takes leaves failed form n k l fault.Memory sink new may p h s live 
     let a = passed form n k l may p in (subst (λ x. Begins takes leaves (answered x) sink new) (sym a.1) (begins_all takes leaves sink new (quads_out n k l) h), live)
 fails_stays takes leaves failed form n k l r sink new may p h s live = absurd s
 
--- the state behind an accepted token
+-- the state after an accepted token
 pub accepts_moved : {A S : Type 0} (takes : S → Quad → S → Type 0) (form : DocForm) (s t : InForce) (old r : State A) (k : Kind) (l : Leaf)
     (i : Option (List ℕ)) (sink new : S) →
     May form (state_of form s old) k l → LooksUp s (state_of form s old).mode k l i t →

@@ -75,7 +75,7 @@ front_chars bs front u e =
 after_chars : (bs : List ℕ) → IsUtf8 bs → after 58 bs ≡ option_map encode_utf8_all (after 58 (chars bs))
 after_chars bs u = ap (after 58) (sym (encodes-chars bs u)) ∙ after-bytes 58 (chars bs) (omega arith)
 
--- and the one behind it
+-- and the one after it
 pub back_chars : (bs back : List ℕ) → IsUtf8 bs → position_or_len is_colon bs < length bs → back ≡ after_first is_colon bs →
     chars back ≡ unwrap_or (after 58 (chars bs)) []
 back_chars bs back u h e = by (after 58 (chars bs)) refl (ap Some e ∙ (sym (after_is bs h) ∙ after_chars bs u))

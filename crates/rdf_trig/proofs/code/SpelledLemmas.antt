@@ -84,7 +84,7 @@ label_in w m =
     let u : m.0 ≡ front.2.0 ∷ second.2.0 ∷ [] = front.4 ∙ (ap (λ x. x ++ front.1) front.2.2 ∙ ap (λ x. front.2.0 ∷ x) (second.4 ∙ rest)) in
     subst IsLabel (sym (ap (drop 2) (m.4 ∙ ap (λ x. x ++ m.1) u))) (matches-wide (label_name Turtle) m.1 m.3)
 
--- a tag behind '@', and the two words that are tags too
+-- a tag after '@', and the two words that are tags too
 tag_in : (w : List ℕ) → Shape Turtle LangTag w → IsTag (drop 1 w)
 unfolding shape
 tag_in w m =

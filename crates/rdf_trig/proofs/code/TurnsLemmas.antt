@@ -28,7 +28,7 @@ pub gives_object : {A : Type 0} (form : DocForm) (s : InForce) (r : Result (Turn
     Gives form s (use_at s k l) r v fs (M.object_start c p (rest_of g x) k l) → Gives form s (use_at s k l) r v fs (M.object_start c p (rest_of g y) k l)
 gives_object form s r v fs c p g k l x y e h = subst (λ z. Gives form s (use_at s k l) r v fs (M.object_start c p (rest_of g z) k l)) e h
 
--- behind a subject a token stands for what it does elsewhere
+-- after a subject a token stands for what it does elsewhere
 pub gives_subject : {A : Type 0} (form : DocForm) (t : M.Level) (x : Option term.Subject) (s : InForce) (k : Kind) (l : Leaf)
     (r : Result (Turn A) StepFault) (v : Level A) (fs : List (Frame A)) (y : Reply) →
     Gives form s (use_at s k l) r v fs y →

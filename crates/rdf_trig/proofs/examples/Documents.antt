@@ -269,7 +269,7 @@ pub one_label_is : documents TriG start one_label_tokens one_label_quads
 unfolding reference_in name_in resolved is_full has
 one_label_is = record { tree = one_label_tree; tokens = refl; bound = named_bound (document_events start one_label_tree) refl; quads = refl }
 
--- A block behind GRAPH: `GRAPH <http://g/> { [ P S ] . S P ( ) }`.
+-- A block after GRAPH: `GRAPH <http://g/> { [ P S ] . S P ( ) }`.
 abbrev pub word_and_label_tokens : List Token
 word_and_label_tokens =
     token Graph (leaf (codes "GRAPH") 0 1) ∷ token IriRef (leaf (codes "<http://g/>") 6 1) ∷ token OpenBrace (leaf (codes "{") 18 1) ∷
@@ -386,8 +386,8 @@ pub strings_is : documents Turtle start strings_tokens strings_quads
 unfolding reference_in name_in resolved is_full has
 strings_is = record { tree = strings_tree; tokens = refl; bound = named_bound (document_events start strings_tree) refl; quads = refl }
 
--- What is owed in `S P [ P ( ) ] .`: behind the parenthesis that opens, subject and verb of the statement and the verb of the property list; behind the
--- bracket that closes, those of the statement; behind the dot nothing.
+-- What is owed in `S P [ P ( ) ] .`: after the parenthesis that opens, subject and verb of the statement and the verb of the property list; after the
+-- bracket that closes, those of the statement; after the dot nothing.
 abbrev pub open_tokens : List Token
 open_tokens =
     token IriRef (leaf (codes "<http://a/s>") 0 1) ∷ token IriRef (leaf (codes "<http://a/p>") 13 1) ∷ token OpenBracket (leaf (codes "[") 26 1) ∷

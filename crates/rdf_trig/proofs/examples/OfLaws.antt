@@ -49,7 +49,7 @@ box_ran : accept_all TriG (at_start start) box_tokens ≡ ran box_state
 unfolding reference_in name_in resolved is_full has encode
 box_ran = refl
 
--- A property list is no label of a graph: the brace behind it is in no tree.
+-- A property list is no label of a graph: the brace after it is in no tree.
 pub box_is_no_label : IsRefusedAfter TriG start box_tokens brace [] unexpected
 box_is_no_label = stops TriG start box_tokens brace [] box_state _ unexpected box_ran refl
 
@@ -195,7 +195,7 @@ marks_rise = subst (Rises 0) inner_are (never_fall TriG start inner_collection_t
 pub booleans_settled : (qs : List Marked) → trees TriG start booleans_tokens qs → qs ≡ booleans_quads
 booleans_settled qs t = same_quads TriG start booleans_tokens qs booleans_quads t record { tree = booleans_tree; tokens = refl; quads = booleans_told }
 
--- Behind the second boolean the collection's own quad and the first item's are due.
+-- After the second boolean the collection's own quad and the first item's are due.
 abbrev due_quads : List Quad
 due_quads =
     quad (term.Iri (codes "http://a/s")) (codes "http://a/p") (Resource (Blank (Cell 27))) None ∷

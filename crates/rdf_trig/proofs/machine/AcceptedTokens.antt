@@ -35,7 +35,7 @@ fits_iri sizes (stands (Some i)) f = refl
 fits_iri sizes (binds full None) f = absurd f
 fits_iri sizes (binds full (Some i)) f = refl
 
--- the state behind a reply
+-- the state after a reply
 abbrev pub moved : Option Quad → Option Quad → Setting → Mode → State
 moved early now c m = record { setting = c; mode = m; held = kept early (kept now []) }
 

@@ -231,7 +231,7 @@ module _ (strict : Bool) (form : DocForm) where
     bound = passing_give (quad_at c p (plain_literal w)) a.events a.bound;
   }
 
--- behind a subject, in both forms
+-- after a subject, in both forms
 subject_closes : (strict : Bool) (form : DocForm) (v : Level) (c : Setting) (s : Option term.Subject) →
     Accepts strict form c (after_subject form v s) (close_verb v)
 subject_closes strict form InBlock c s = verb_closes strict form InBlock c s

@@ -41,7 +41,7 @@ module _ (form : DocForm) where
       step form c m k l ≡ goes c' m' → Good c' m' rest → Good c m (take k l rest)
   alone k l w s g = one k l None itself None None w s g
 
-  -- A string's quad waits for the token behind it.
+  -- A string's quad waits for the token after it.
   shift : (q : Option Quad) (o : Option (List Event)) (es : List Event) → fronted None o ≡ Some es → fronted q o ≡ Some (give q es)
   shift q None es e = absurd (let z : None ≡ Some es = e in cc)
   shift q (Some fs) es e = let z : fs ≡ es = cc in ap (λ x. Some (give q x)) z
@@ -76,7 +76,7 @@ module _ (form : DocForm) where
       Good c (AfterText w p) (give (quad_at c p (plain_literal w)) rest)
   text_good {c} {p} {rest} w g = record { runs = rw (tokens_give (quad_at c p (plain_literal w)) rest) (text_run c w p (tokens rest) rest g.runs) }
 
-  -- The state takes a name, whose first token is this, and stands behind it as told.
+  -- The state takes a name, whose first token is this, and stands after it where it says.
   record TakesIri (c : Setting) (m : Mode) (s : InForce) (before early : Option Quad) (now : Option (List ℕ) → Option Quad) (c' : Setting) (next : Option (List ℕ) → Mode) (l : Leaf) : Type 0 where
     waits : (waiting c m IriRef l ≡ before) × (waiting c m PnameLn l ≡ before) × (waiting c m PnameNs l ≡ before)
     ref : step form c m IriRef l ≡ Go (stands (reference_in s l)) early (now (reference_in s l)) c' (next (reference_in s l))
@@ -158,7 +158,7 @@ module _ (form : DocForm) where
     iri : (l : Leaf) → TakesIri c m c.scope None None (λ i. None) c (λ i. Want (Listed s i a)) l
     type : (l : Leaf) → (waiting c m A l ≡ None) × (step form c m A l ≡ verb_start c s a A l)
 
-  -- a token that ends a predicate list, and the state behind it
+  -- a token that ends a predicate list, and the state after it
   record Ends (c : Setting) (s : Option term.Subject) (a : Around) (k : Kind) (l : Leaf) (c' : Setting) (m' : Mode) : Type 0 where
     after : (p : Option (List ℕ)) → step form c (After (Listed s p a)) k l ≡ goes c' m'
     semi : step form c (Semi s a) k l ≡ goes c' m'
@@ -320,7 +320,7 @@ module _ (form : DocForm) where
   blank_good (label l) c0 m c v rest h g = alone LabelNode l (h.label l).0 (h.label l).1 g
   blank_good (anon l r) c0 m c v rest h g = alone OpenBracket l (h.box l).0 (h.box l).1 (alone CloseBracket r refl refl g)
 
--- behind a subject a verb may come, in both forms
+-- after a subject a verb may come, in both forms
 subject_verb : (form : DocForm) (v : Level) (c : Setting) (s : Option term.Subject) → TakesVerb form c (after_subject form v s) s (Statement v)
 subject_verb form InBlock c s = want_verb form c s (Statement InBlock)
 subject_verb Turtle Top c s = want_verb Turtle c s (Statement Top)
@@ -389,7 +389,7 @@ label_good : (x : LabelOrSubject) (c : Setting) (rest : List Event) → Good Tri
 label_good (iri_label i) c rest g = iri_good TriG i c Start c.scope None None (λ j. None) (in_default c.scope) (λ j. AfterLabel (named j)) rest ((start_takes TriG c).iri (iri_leaf i)) g
 label_good (blank_label b) c rest g = blank_good TriG b c Start (in_default c.scope) Top rest (start_takes TriG c) g
 
--- a label behind GRAPH
+-- a label after GRAPH
 graph_good : (x : LabelOrSubject) (c : Setting) (rest : List Event) → Good TriG c (WantBrace (label_of c.scope x)) rest →
     Good TriG c GraphWord (label_events c.scope x rest)
 graph_good (iri_label i) c rest g = iri_good TriG i c GraphWord c.scope None None (λ j. None) c (λ j. WantBrace (named j)) rest record { waits = (refl, refl, refl); ref = refl; ln = refl; ns = refl } g

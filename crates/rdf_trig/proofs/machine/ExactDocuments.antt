@@ -83,7 +83,7 @@ quads_give : (q : Option Quad) (n : ℕ) (es : List Event) → due (suc n) es �
 quads_give None n es e = e
 quads_give (Some q) n es e = ap (λ x. q ∷ x) e
 
--- no quad stands behind the last token of a run
+-- no quad stands after the last token of a run
 over_due : (n : Mode) (early now : Option Quad) (fs : List Event) → stop n ≡ Some fs → Quiet n early now →
     due zero (give early (give now fs)) ≡ quads (give early (give now fs))
 over_due Over early now fs h q = let z : [] ≡ fs = cc in sym (ap (λ x. quads (give x (give now fs))) q.0 ∙ ap (λ x. quads (give x fs)) q.1 ∙ ap quads (sym z))
@@ -177,7 +177,7 @@ outcome form (t ∷ ts) s = by (λ n. outcome form ts n) (accept form s t.kind (
 viable_front : (form : DocForm) (start : InForce) (ts us : List Token) → Viable (documents form start) (ts ++ us) → Viable (documents form start) ts
 viable_front form start ts us (more, qs, d) = (us ++ more, qs, subst (λ x. documents form start x qs) (append_assoc ts us more) d)
 
--- A token that is refused is in no document behind those before it, or passes a limit there.
+-- A token that is refused is in no document after those before it, or passes a limit there.
 pub not_both : (form : DocForm) (start : InForce) (ts : List Token) (t : Token) (x : Refusal) → RefusedFor form start ts t x →
     Viable (documents form start) (ts ++ t ∷ []) → (Passes form start ts t → ⊥) → ⊥
 not_both form start ts t unexpected r v p = let d = v.2 in r (v.0, v.1, record { tree = d.tree; tokens = d.tokens; quads = d.quads })

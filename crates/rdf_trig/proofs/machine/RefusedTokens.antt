@@ -89,7 +89,7 @@ passes_not form start ts t s gs n e a (u, p, by) =
         let z : true ≡ false = sym (ap (λ y. y && nat_le s.setting.scope.limits.depth (depth s.mode)) k.0 ∙ b) ∙ h in
         cc
 
--- a run that goes on behind some tokens
+-- a run that goes on after some tokens
 pub record Halfway (form : DocForm) (s : State) (ahead : List Token) (t : Token) : Type 0 where
   pub state : State
   pub given : List Quad
@@ -141,7 +141,7 @@ Why sizes s k r too_deep = ((deepens k && nat_le sizes.depth (depth s.mode)) ≡
 Why sizes s k r iri_too_long = (u : Use) × (has_iri u ≡ true) × Went r u × IsLong sizes u
 Why sizes s k r too_many_bindings = (u : Use) × (has_iri u ≡ true) × Went r u × IsOneMore u × (IsLong sizes u → ⊥)
 
--- a reason that is the one told
+-- a reason that is the one reported
 because : (sizes : Sizes) (s : State) (k : Kind) (r : Reply) (x y : Refusal) → Answer.refuses x ≡ Answer.refuses y → Why sizes s k r x → Why sizes s k r y
 because sizes s k r x y e w = let z : x ≡ y = cc in subst (Why sizes s k r) z w
 

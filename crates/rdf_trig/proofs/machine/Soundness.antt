@@ -42,7 +42,7 @@ abbrev mutual
   RestPlace form (Listed s p a) = Commas × More × RestAround form a
   RestPlace form (InCells f n u) = Items × Leaf × RestUp form u was_list
 
-  -- behind a node, a collection and a property list
+  -- after a node, a collection and a property list
   RestUp : DocForm → Up → Was → Type 0
   RestUp form (Subject v) was_node = RestSubject form v
   RestUp form (Subject v) was_list = PredicateObjectList × RestLevel form v
@@ -82,7 +82,7 @@ abbrev mutual
   around_events form c (Statement v) s r = level_events form c v r
   around_events form c (Boxed u) s r = take CloseBracket r.0 (up_events form c u was_box s r.1)
 
--- behind a string: nothing of it, a tag or a type
+-- after a string: nothing of it, a tag or a type
 data TextEnd : Type 0 where
   no_end : TextEnd
   tag_end : Tag → TextEnd
@@ -216,7 +216,7 @@ as_list : (form : DocForm) (u : Up) (s : Option term.Subject) (c : Setting) (r :
 as_list form (Subject v) s c r = (r, refl)
 as_list form (At p) s c r = (r, refl)
 
--- what stands behind ';'
+-- what stands after ';'
 more_of : Leaf → PredicateObjectList ⊎ More → More
 more_of l (inl (predicate_objects v os m)) = semicolon_objects l v os m
 more_of l (inr m) = semicolon l m
@@ -229,7 +229,7 @@ more_of-events c s l (inr m) rest = refl
 
 module _ (form : DocForm) (next : Setting → Mode → Option (List Event))
     (ih : (c : Setting) (m : Mode) (es : List Event) → next c m ≡ Some es → Found form c m es) where
-  -- one step, from what is found behind it
+  -- one step, from what is found after it
   behind_it : (k : Kind) (l : Leaf) (w : Option Quad) (u : Use) (early now : Option Quad) (c : Setting) (m : Mode) (es : List Event) →
       fronted w (put (token k l) u early now (next c m)) ≡ Some es →
       (r : Rest form m) × (es ≡ give w (Took (token k l) u ∷ give early (give now (all_events form c m r))))

@@ -39,7 +39,7 @@ kept_length : (q : Option Quad) (qs : List Quad) → length (kept q qs) ≡ size
 kept_length None qs = omega arith
 kept_length (Some q) qs = omega arith
 
--- what a token gives, and the one that may wait behind it
+-- what a token gives, and the one that may wait after it
 record IsFew (last : Bool) (m : Mode) (early now : Option Quad) : Type 0 where
   most : owes m + size early + size now ≤ cond last 0 2
 
@@ -221,7 +221,7 @@ waiting_few c (AfterText w p) k l = size_le (waiting c (AfterText w p) k l)
 waiting_few c (Paren u) k l = size_le (waiting c (Paren u) k l)
 waiting_few c m k l = omega arith
 
--- what one token gives out, and what is held behind it
+-- what one token gives out, and what is held after it
 accept_few : (form : DocForm) (s n : State) (t : Token) (qs : List Quad) → accept form s t.kind (leaf_of t) ≡ accepts qs n →
     length qs + length n.held + owes n.mode ≤ length s.held + owes s.mode + 2 * cond (is_end t.kind) 0 1
 accept_few form s n t qs e =

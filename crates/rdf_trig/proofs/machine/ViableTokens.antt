@@ -36,7 +36,7 @@ abbrev pub on_reply : Bool → Reply → (Setting → Mode → Option Stand) →
 on_reply strict No next = None
 on_reply strict (Go u early now c m) next = if_true (admits strict u) (next c m)
 
--- the state behind some tokens, or none where one is refused
+-- the state after some tokens, or none where one is refused
 abbrev pub reach : Bool → DocForm → Setting → Mode → List Token → Option Stand
 reach strict form c m [] = Some (stand c m)
 reach strict form c m (t ∷ ts) = on_reply strict (step form c m t.kind (leaf_of t)) (λ c' m'. reach strict form c' m' ts)

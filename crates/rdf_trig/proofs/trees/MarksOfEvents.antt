@@ -1,4 +1,4 @@
--- The quads of a tree's events, each with the number of the token that it stands behind, are the tree's quads with their marks.
+-- The quads of a tree's events, each with the number of the token that it stands after, are the tree's quads with their marks.
 use Rattle.std.proofs.Common.{◌≡◌, ℕ, ◌+◌, List, [], ◌∷◌, ◌++◌, Option, Some, None, refl, sym, ap, ◌∙◌, append_assoc, length, length-append, arith}
 use Rattle.rdf_terms.specs.declared.kind.Kind.{Kind}
 use Rattle.rdf_terms.specs.declared.kind.Kind.TheVariants.{Carets, Dot, CloseBracket, CloseParen, CloseBrace}
@@ -65,7 +65,7 @@ tag_one (lang_tag l) = refl
 tag_one (base_tag l) = refl
 tag_one (prefix_tag l) = refl
 
--- a quad behind the last token of its head, which has the number j
+-- a quad after the last token of its head, which has the number j
 abbrev Behind : ℕ → ℕ → Option Quad → Option Quad → List Event → List Event → Type 0
 Behind n j early q es rest = event_quads n es ≡ marked_at (n + 1) early ++ (marked_at j q ++ event_quads j rest)
 
@@ -99,7 +99,7 @@ blank_marks (anon l r) n j early q rest e =
     let size : n + 1 + 1 ≡ j = omega (arith, e) in
     marked_both early q (n + 1) (take CloseBracket r rest) ∙ ap (λ k. marked_at (n + 1) early ++ (marked_at (n + 1) q ++ event_quads k rest)) size
 
--- what an object gives, where j tokens are behind it
+-- what an object gives, where j tokens are after it
 abbrev ObjectMarks : Setting → ℕ → ℕ → Option term.Subject → Option (List ℕ) → Option Quad → Object → List Event → Type 0
 ObjectMarks c n j s p early o rest = event_quads n (object_events c o s p early rest) ≡ marked_at (n + 1) early ++ (own_quad c n s p o ++ (inner_quads c n o ++ event_quads j rest))
 
@@ -225,7 +225,7 @@ label_marks : (x : LabelOrSubject) (s : InForce) (n j : ℕ) (rest : List Event)
 label_marks (iri_label i) s n j rest e = iri_marks i s n rest ∙ moved [] (n + 1) j rest (omega (arith, e, iri_one i))
 label_marks (blank_label b) s n j rest e = blank_marks b n j None None rest e
 
--- the same, with a token behind the tree
+-- the same, with a token after the tree
 dotted : (qs : List Marked) (n j i : ℕ) (k : Kind) (l : Leaf) (rest : List Event) → i ≡ j + 1 → qs ++ event_quads j (take k l rest) ≡ qs ++ event_quads i rest
 dotted qs n j i k l rest e = moved qs (j + 1) i rest (sym e)
 

@@ -29,11 +29,11 @@ same_full s t p h =
 pub same_itself : (s : InForce) → SameNames s s
 same_itself s = record { base = refl; limits = refl; bound = λ q. refl; count = refl }
 
--- behind a directive that took an IRI as base
+-- after a directive that took an IRI as base
 pub same_based : (s t : InForce) (i : List ℕ) → SameNames s t → SameNames (with_base s (Some i)) (with_base t (Some i))
 same_based s t i h = record { base = refl; limits = h.limits; bound = h.bound; count = h.count }
 
--- behind a directive that bound a prefix, whatever the order in which the map keeps its entries
+-- after a directive that bound a prefix, whatever the order in which the map keeps its entries
 pub same_binding : (s t u : InForce) (p i : List ℕ) → SameNames s t → Binds s p i u → SameNames u (with_binding t p (Some i))
 same_binding s t u p i h b =
     let c = binds_prefix t p i in

@@ -35,7 +35,7 @@ tokens_behind [] t u rest = refl
 tokens_behind (Took x v ∷ front) t u rest = ap (λ y. x ∷ y) (tokens_behind front t u rest)
 tokens_behind (Gave q ∷ front) t u rest = tokens_behind front t u rest
 
--- the events before a token and behind it
+-- the events before a token and after it
 record Split (es : List Event) (ts : List Token) (t : Token) : Type 0 where
   front : List Event
   sense : Use
