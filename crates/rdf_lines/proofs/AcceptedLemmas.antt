@@ -13,7 +13,8 @@ use Rattle.rdf_driver.proofs.PromiseLemmas.{read_goes_on}
 use Rattle.rdf_lines.specs.declared.form.LineForm.{LineForm}
 use Rattle.rdf_lines.specs.declared.form.LineForm.TheVariants.{NQuads}
 use Rattle.rdf_lines.specs.declared.form.Style.{Style}
-use Rattle.rdf_lines.specs.Lines.{Name, Ref, Lab, Object, Named, Plain, WithType, WithTag, Statement, Line, Document as Tree, last, next, iri_of, subject_of, term_of, quad_of, quads, name_bound, object_bound, graph_bound, GoodStatement, GoodDocument}
+use Rattle.rdf_lines.specs.Lines.{Name, Ref, Lab, Object, Named, Plain, WithType, WithTag, Statement, Line, Document as Tree, last, next, iri_of, subject_of, term_of, quad_of, name_bound, object_bound, graph_bound, GoodStatement, GoodDocument}
+use Rattle.rdf_lines.proofs.PlainQuads.{plain_quads}
 use Rattle.rdf_lines.specs.Lines as L
 use Rattle.rdf_lines.specs.Machine.{Begin, Finished, is_taken}
 use Rattle.rdf_lines.specs.Documents.{in_lines}
@@ -68,7 +69,7 @@ statement_taken n f s g w = record {
   labels = g.labels;
 }
 
-tree_taken : (n : ℕ) (f : LineForm) (d : Tree) → GoodDocument has_scheme f d → AllByRecursion (IrisWithin n) (quads d) → GoodDocument (is_taken n) f d
+tree_taken : (n : ℕ) (f : LineForm) (d : Tree) → GoodDocument has_scheme f d → AllByRecursion (IrisWithin n) (plain_quads d) → GoodDocument (is_taken n) f d
 tree_taken n f (last L.empty e) g w = tt
 tree_taken n f (last (L.one s) e) g w = statement_taken n f s g w.0
 tree_taken n f (next L.empty e d) g w = (tt, tree_taken n f d g.1 w)

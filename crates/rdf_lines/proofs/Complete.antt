@@ -7,7 +7,8 @@ use Rattle.rdf_tokens.specs.Tokens.{Token}
 use Rattle.rdf_terms.specs.Terms.{Typed, Subject, Term, Literal, xsd_string}
 use Rattle.rdf_lines.specs.declared.form.LineForm.{LineForm}
 use Rattle.rdf_lines.specs.declared.form.LineForm.TheVariants.{NTriples, NQuads}
-use Rattle.rdf_lines.specs.Lines.{Leaf, Name, Ref, Lab, Object, Named, Plain, WithType, WithTag, Statement, Line, Document, last, next, token, name_tokens, object_tokens, graph_tokens, statement_tokens, line_tokens, document_tokens, iri_of, string_of, subject_of, term_of, quad_of, line_quads, quads, name_bound, object_bound, graph_bound, graph_fits, GoodStatement, GoodLine, GoodDocument, IsDocument}
+use Rattle.rdf_lines.specs.Lines.{Leaf, Name, Ref, Lab, Object, Named, Plain, WithType, WithTag, Statement, Line, Document, last, next, token, name_tokens, object_tokens, graph_tokens, statement_tokens, line_tokens, document_tokens, iri_of, string_of, subject_of, term_of, quad_of, name_bound, object_bound, graph_bound, graph_fits, GoodStatement, GoodLine, GoodDocument}
+use Rattle.rdf_lines.proofs.PlainQuads.{plain_line, plain_quads, IsPlain}
 use Rattle.rdf_lines.specs.Lines as L
 use Rattle.rdf_lines.specs.Machine.{Mode, Begin, AfterSubject, AfterPredicate, AfterString, AfterObject, AfterDot, Finished, goes, refuses, iri_refused, absolute, quad, Run, ran, with_quad, go_on, run}
 
@@ -58,7 +59,7 @@ run_statement test f s ts g =
     ∙ (run_object test f (subject_of s.subject) (iri_of s.predicate) s.object s.graph s.dot ts g.object
     ∙ run_end test f (subject_of s.subject) (iri_of s.predicate) (term_of s.object) s.graph s.dot ts g.graph g.labels)))
 
-pub complete : (test : List ℕ → Bool) (f : LineForm) (d : Document) → GoodDocument test f d → run test f Begin (document_tokens d) ≡ ran Finished (quads d)
+pub complete : (test : List ℕ → Bool) (f : LineForm) (d : Document) → GoodDocument test f d → run test f Begin (document_tokens d) ≡ ran Finished (plain_quads d)
 complete test f (last L.empty e) g = refl
 complete test f (last (L.one s) e) g = run_statement test f s (token End e ∷ []) g
 complete test f (next L.empty e d) g = complete test f d g.1

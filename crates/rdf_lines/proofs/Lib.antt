@@ -6,6 +6,7 @@ pub mod WrittenText
 pub mod ReadBack
 mod Complete
 mod Sound
+pub mod PlainQuads
 mod LinesLemmas
 mod Runs
 mod Viable

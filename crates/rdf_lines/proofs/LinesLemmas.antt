@@ -1,30 +1,31 @@
--- The marked quads of a tree, without their marks, are its quads; so every tree that is marked is a document, and the other way round.
+-- The quads of a tree with their marks and without: those that are due without their marks are those that the machine gives out.
 use Rattle.std.proofs.Common.{◌≡◌, ℕ, ◌+◌, Bool, List, ◌∷◌, refl, sym, ap, ◌∙◌, subst, length}
 use Rattle.rdf_tokens.specs.Tokens.{Token}
 use Rattle.rdf_tokens.specs.Grammars.{Marked, unmarked}
 use Rattle.rdf_terms.specs.Terms.{Quad, has_scheme}
 use Rattle.rdf_lines.specs.declared.form.LineForm.{LineForm}
-use Rattle.rdf_lines.specs.Lines.{Line, Document, last, next, line_tokens, line_quads, quads, marked_line, marked, quad_of, IsDocument, IsMarked, documents}
+use Rattle.rdf_lines.specs.Lines.{Line, Document, last, next, line_tokens, line_quads, document_quads, quad_of, IsDocument, documents}
+use Rattle.rdf_lines.proofs.PlainQuads.{plain_line, plain_quads, IsPlain}
 use Rattle.rdf_lines.specs.Lines as L
 
-unmarked_line : (n : ℕ) (l : Line) → unmarked (marked_line n l) ≡ line_quads l
+unmarked_line : (n : ℕ) (l : Line) → unmarked (line_quads n l) ≡ plain_line l
 unmarked_line n L.empty = refl
 unmarked_line n (L.one s) = refl
 
-pub unmarked_quads : (n : ℕ) (d : Document) → unmarked (marked n d) ≡ quads d
+pub unmarked_quads : (n : ℕ) (d : Document) → unmarked (document_quads n d) ≡ plain_quads d
 unmarked_quads n (last l e) = unmarked_line n l
 unmarked_quads n (next L.empty e d) = unmarked_quads (n + length (line_tokens L.empty) + 1) d
 unmarked_quads n (next (L.one s) e d) = ap (λ x. quad_of s ∷ x) (unmarked_quads (n + length (line_tokens (L.one s)) + 1) d)
 
-pub marked_document : (test : List ℕ → Bool) (f : LineForm) (ts : List Token) (qs : List Marked) → IsMarked test f ts qs → IsDocument test f ts (unmarked qs)
+pub marked_document : (test : List ℕ → Bool) (f : LineForm) (ts : List Token) (qs : List Marked) → IsDocument test f ts qs → IsPlain test f ts (unmarked qs)
 marked_document test f ts qs d = (d.0, d.1, d.2, sym_ap d.3)
   where
-    sym_ap : marked 0 d.0 ≡ qs → quads d.0 ≡ unmarked qs
+    sym_ap : document_quads 0 d.0 ≡ qs → plain_quads d.0 ≡ unmarked qs
     sym_ap e = sym (unmarked_quads 0 d.0) ∙ ap unmarked e
 
-pub document_marked : (test : List ℕ → Bool) (f : LineForm) (ts : List Token) (qs : List Quad) → IsDocument test f ts qs → (ms : List Marked) × IsMarked test f ts ms × (unmarked ms ≡ qs)
-document_marked test f ts qs d = (marked 0 d.0, (d.0, d.1, d.2, refl), unmarked_quads 0 d.0 ∙ d.3)
+pub document_marked : (test : List ℕ → Bool) (f : LineForm) (ts : List Token) (qs : List Quad) → IsPlain test f ts qs → (ms : List Marked) × IsDocument test f ts ms × (unmarked ms ≡ qs)
+document_marked test f ts qs d = (document_quads 0 d.0, (d.0, d.1, d.2, refl), unmarked_quads 0 d.0 ∙ d.3)
 
 -- What is a document with some marks has these quads.
-pub without_marks : (f : LineForm) (ts : List Token) (qs : List Quad) → (all : List Marked) × documents f ts all × (unmarked all ≡ qs) → IsDocument has_scheme f ts qs
-without_marks f ts qs d = subst (IsDocument has_scheme f ts) d.2 (marked_document has_scheme f ts d.0 d.1)
+pub without_marks : (f : LineForm) (ts : List Token) (qs : List Quad) → (all : List Marked) × documents f ts all × (unmarked all ≡ qs) → IsPlain has_scheme f ts qs
+without_marks f ts qs d = subst (IsPlain has_scheme f ts) d.2 (marked_document has_scheme f ts d.0 d.1)

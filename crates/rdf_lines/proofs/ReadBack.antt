@@ -6,7 +6,8 @@ use Rattle.rdf_terms.specs.Terms.{Quad, has_scheme}
 use Rattle.rdf_terms.specs.declared.kind.Dialect.TheVariants.{Lines}
 use Rattle.rdf_tokens.specs.Tokens.{Reading}
 use Rattle.rdf_tokens.specs.Tokens.Outcome.{complete}
-use Rattle.rdf_lines.specs.Lines.{document_tokens, IsDocument}
+use Rattle.rdf_lines.specs.Lines.{document_tokens}
+use Rattle.rdf_lines.proofs.PlainQuads.{IsPlain}
 use Rattle.rdf_lines.specs.declared.form.LineForm.TheVariants.{NQuads}
 use Rattle.rdf_lines.specs.declared.form.Style.{Style}
 use Rattle.rdf_lines.specs.Writing.{rename, quad_text, line, text, Writable}
@@ -29,7 +30,7 @@ text_renamed s (q ∷ qs) = ap (λ x. line s q ++ x) (text_renamed s qs)
 abbrev pub HasTree : Style → List Quad → ℕ → Type 0
 HasTree s qs limit =
     ((tokens_of Lines limit (encode_utf8_all (text s qs)) true).outcome ≡ complete)
-    × IsDocument has_scheme NQuads (tokens_of Lines limit (encode_utf8_all (text s qs)) true).tokens (map (rename s) qs)
+    × IsPlain has_scheme NQuads (tokens_of Lines limit (encode_utf8_all (text s qs)) true).tokens (map (rename s) qs)
 
 -- So it is where no token is longer than the limit.
 short_read_back : (s : Style) (qs : List Quad) (limit : ℕ) → Writable s qs → AllShort limit (document_tokens (document_tree first_place (map (rename s) qs))) → HasTree s qs limit
@@ -39,8 +40,8 @@ short_read_back s qs limit h l =
     let e : encode_utf8_all (text s qs) ≡ encode_utf8_all (flat_map quad_text rs) = ap encode_utf8_all (text_renamed s qs) in
     let r = reads_back limit rs w first_place l in
     let b = encoded_tokens Lines limit (flat_map quad_text rs) (text_scalars rs w) (no_mark rs w) in
-    let whole = subst (λ (r : Reading). (r.outcome ≡ complete) × IsDocument has_scheme NQuads r.tokens rs) (sym b) r in
-    subst (λ x. ((tokens_of Lines limit x true).outcome ≡ complete) × IsDocument has_scheme NQuads (tokens_of Lines limit x true).tokens rs) (sym e) whole
+    let whole = subst (λ (r : Reading). (r.outcome ≡ complete) × IsPlain has_scheme NQuads r.tokens rs) (sym b) r in
+    subst (λ x. ((tokens_of Lines limit x true).outcome ≡ complete) × IsPlain has_scheme NQuads (tokens_of Lines limit x true).tokens rs) (sym e) whole
 
 -- Any limit serves that no token of the quads passes.
 pub tokens_tree : (s : Style) (qs : List Quad) (limit : ℕ) → Writable s qs → 2 ≤ limit → AllByRecursion (TokensWithin limit) (map (rename s) qs) → HasTree s qs limit

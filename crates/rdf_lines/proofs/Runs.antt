@@ -3,15 +3,16 @@ use Rattle.std.proofs.Common.{◌≡◌, ℕ, Bool, List, [], ◌∷◌, ◌++�
 use Rattle.rdf_tokens.specs.Tokens.{Token}
 use Rattle.rdf_terms.specs.Terms.{Quad}
 use Rattle.rdf_lines.specs.declared.form.LineForm.{LineForm}
-use Rattle.rdf_lines.specs.Lines.{leaf_of, IsDocument}
+use Rattle.rdf_lines.specs.Lines.{leaf_of}
+use Rattle.rdf_lines.proofs.PlainQuads.{IsPlain}
 use Rattle.rdf_lines.specs.Machine.{Mode, Begin, Finished, Answer, goes, gives, refuses, accept, Run, ran, refused, with_quad, go_on, run}
 use Rattle.rdf_lines.proofs.Complete.{complete}
 
-pub run_document : (test : List ℕ → Bool) (f : LineForm) (ts : List Token) (qs : List Quad) → IsDocument test f ts qs → run test f Begin ts ≡ ran Finished qs
+pub run_document : (test : List ℕ → Bool) (f : LineForm) (ts : List Token) (qs : List Quad) → IsPlain test f ts qs → run test f Begin ts ≡ ran Finished qs
 run_document test f ts qs d = ap (run test f Begin) d.1 ∙ (complete test f d.0 d.2 ∙ ap (ran Finished) d.3)
 
 -- every tree of the tokens has the same quads
-pub same_quads : (test : List ℕ → Bool) (f : LineForm) (ts : List Token) (qs rs : List Quad) → IsDocument test f ts qs → IsDocument test f ts rs → qs ≡ rs
+pub same_quads : (test : List ℕ → Bool) (f : LineForm) (ts : List Token) (qs rs : List Quad) → IsPlain test f ts qs → IsPlain test f ts rs → qs ≡ rs
 same_quads test f ts qs rs a b =
     let e : ran Finished qs ≡ ran Finished rs = sym (run_document test f ts qs a) ∙ run_document test f ts rs b in
     cc
@@ -55,7 +56,7 @@ added qs (ran n rs) m all e = (rs, cc)
 added qs (refused r) m all e = absurd (let z : refused r ≡ ran m all = e in cc)
 
 -- The quads that were given out begin those of each document that begins so.
-pub given_begin : (test : List ℕ → Bool) (f : LineForm) (ts more : List Token) (m : Mode) (qs all : List Quad) → run test f Begin ts ≡ ran m qs → IsDocument test f (ts ++ more) all →
+pub given_begin : (test : List ℕ → Bool) (f : LineForm) (ts more : List Token) (m : Mode) (qs all : List Quad) → run test f Begin ts ≡ ran m qs → IsPlain test f (ts ++ more) all →
     (rest : List Quad) × (all ≡ qs ++ rest)
 given_begin test f ts more m qs all e d =
     added qs (run test f m more) Finished all

@@ -6,7 +6,7 @@ use Rattle.rdf_terms.specs.Terms.{Quad, has_scheme}
 use Rattle.rdf_tokens.specs.Tokens.{Token}
 use Rattle.rdf_tokens.specs.Grammars.{Marked, unmarked}
 use Rattle.rdf_lines.specs.declared.form.LineForm.{LineForm}
-use Rattle.rdf_lines.specs.Lines.{Name, Ref, Lab, Object, Named, Plain, WithType, WithTag, Statement, Document, last, next, token, name_tokens, object_tokens, graph_tokens, head_tokens, statement_tokens, line_tokens, document_tokens, marked, any_iri, trees}
+use Rattle.rdf_lines.specs.Lines.{Name, Ref, Lab, Object, Named, Plain, WithType, WithTag, Statement, Document, last, next, token, name_tokens, object_tokens, graph_tokens, head_tokens, statement_tokens, line_tokens, document_tokens, document_quads, any_iri, trees}
 use Rattle.rdf_lines.specs.Lines as L
 use Rattle.rdf_lines.specs.Laws.{TokensSettleTheQuads, TokensSettleWhatIsDue, DueBeginsTheQuads}
 use Rattle.rdf_lines.proofs.LinesLemmas.{marked_document}
@@ -66,7 +66,7 @@ dots_statement : (s : Statement) (n : ℕ) (rest : List Token) → dots_at n (st
 dots_statement s n rest = ap (dots_at n) (append_assoc (head_tokens s) (token Dot s.dot ∷ []) rest) ∙ no_dot_head s n (token Dot s.dot ∷ rest)
 
 -- The marks of a tree are where its dots stand.
-marks_at : (d : Document) (n : ℕ) → marks (marked n d) ≡ dots_at n (document_tokens d)
+marks_at : (d : Document) (n : ℕ) → marks (document_quads n d) ≡ dots_at n (document_tokens d)
 marks_at (last L.empty e) n = refl
 marks_at (last (L.one s) e) n = sym (dots_statement s n (token End e ∷ []))
 marks_at (next L.empty e d) n = marks_at d (n + 0 + 1) ∙ ap (λ k. dots_at k (document_tokens d)) (omega arith)

@@ -8,7 +8,8 @@ use Rattle.rdf_tokens.specs.Tokens.{Token}
 use Rattle.rdf_terms.specs.Terms.{Quad}
 use Rattle.rdf_lines.specs.declared.form.LineForm.{LineForm}
 use Rattle.rdf_lines.specs.declared.form.LineForm.TheVariants.{NTriples, NQuads}
-use Rattle.rdf_lines.specs.Lines.{Leaf, leaf_of, Name, Ref, Lab, Object, Named, Plain, WithType, WithTag, Statement, Line, Document, last, next, token, name_tokens, object_tokens, graph_tokens, statement_tokens, line_tokens, document_tokens, iri_of, string_of, subject_of, term_of, quad_of, line_quads, quads, name_bound, object_bound, graph_bound, graph_fits, GoodStatement, GoodLine, GoodDocument, IsDocument}
+use Rattle.rdf_lines.specs.Lines.{Leaf, leaf_of, Name, Ref, Lab, Object, Named, Plain, WithType, WithTag, Statement, Line, Document, last, next, token, name_tokens, object_tokens, graph_tokens, statement_tokens, line_tokens, document_tokens, iri_of, string_of, subject_of, term_of, quad_of, name_bound, object_bound, graph_bound, graph_fits, GoodStatement, GoodLine, GoodDocument}
+use Rattle.rdf_lines.proofs.PlainQuads.{plain_line, plain_quads, IsPlain}
 use Rattle.rdf_lines.specs.Lines as L
 use Rattle.rdf_terms.specs.declared.reason.Reason.TheVariants.{Unexpected}
 use Rattle.rdf_lines.specs.Machine.{Mode, Begin, AfterSubject, AfterPredicate, AfterString, AfterCarets, AfterObject, AfterGraph, AfterDot, Finished, goes, refuses, iri_refused, absolute, accept, Run, ran, refused, with_quad, go_on, run}
@@ -49,7 +50,7 @@ read (finished l e) = line_tokens l ++ token End e ∷ []
 
 abbrev given : Part → List Quad
 given (dot s) = quad_of s ∷ []
-given (finished l e) = line_quads l
+given (finished l e) = plain_line l
 given r = []
 
 abbrev Bound : (List ℕ → Bool) → LineForm → Part → Type 0
@@ -64,7 +65,7 @@ Bound test f (dot s) = GoodStatement test f s
 Bound test f (finished l e) = GoodLine test f l
 
 abbrev Sound : (List ℕ → Bool) → LineForm → List Token → Part → Type 0
-Sound test f ts r = (qs : List Quad) → Bound test f r → run test f (mode r) ts ≡ ran Finished qs → IsDocument test f (read r ++ ts) (given r ++ qs)
+Sound test f ts r = (qs : List Quad) → Bound test f r → run test f (mode r) ts ≡ ran Finished qs → IsPlain test f (read r ++ ts) (given r ++ qs)
 
 accepted_absolute : (test : List ℕ → Bool) (i : List ℕ) (m n : Mode) (qs : List Quad) (more : Mode → Run) → go_on (absolute test i m) more ≡ ran n qs → (test i ≡ true) × (more m ≡ ran n qs)
 accepted_absolute test i m n qs more e =
@@ -79,18 +80,18 @@ quad_first q (refused r) m qs e = absurd (let z : refused r ≡ ran m qs = e in 
 
 -- one token more
 step : (test : List ℕ → Bool) (f : LineForm) (ts : List Token) → ((r : Part) → Sound test f ts r) → (r s : Part) (k : Kind) (l : Leaf) (qs : List Quad) → Bound test f s →
-    read s ++ ts ≡ read r ++ token k l ∷ ts → given s ≡ [] → given r ≡ [] → run test f (mode s) ts ≡ ran Finished qs → IsDocument test f (read r ++ token k l ∷ ts) (given r ++ qs)
+    read s ++ ts ≡ read r ++ token k l ∷ ts → given s ≡ [] → given r ≡ [] → run test f (mode s) ts ≡ ran Finished qs → IsPlain test f (read r ++ token k l ∷ ts) (given r ++ qs)
 step test f ts ih r s k l qs b e g h m =
     let d = ih s qs b m in
-    subst (λ x. IsDocument test f (read r ++ token k l ∷ ts) x) (ap (λ x. x ++ qs) (g ∙ sym h)) (subst (λ x. IsDocument test f x (given s ++ qs)) e d)
+    subst (λ x. IsPlain test f (read r ++ token k l ∷ ts) x) (ap (λ x. x ++ qs) (g ∙ sym h)) (subst (λ x. IsPlain test f x (given s ++ qs)) e d)
 
 closed : (test : List ℕ → Bool) (f : LineForm) (ts : List Token) → ((r : Part) → Sound test f ts r) → (r : Part) (s : Statement) (l : Leaf) (qs : List Quad) → GoodStatement test f s →
     statement_tokens s ++ ts ≡ read r ++ token Dot l ∷ ts → given r ≡ [] → with_quad (quad_of s) (run test f AfterDot ts) ≡ ran Finished qs →
-    IsDocument test f (read r ++ token Dot l ∷ ts) (given r ++ qs)
+    IsPlain test f (read r ++ token Dot l ∷ ts) (given r ++ qs)
 closed test f ts ih r s l qs b e h m =
     let q = quad_first (quad_of s) (run test f AfterDot ts) Finished qs m in
     let d = ih (dot s) q.0 b q.1 in
-    subst (λ x. IsDocument test f (read r ++ token Dot l ∷ ts) x) (sym q.2 ∙ ap (λ x. x ++ qs) (sym h)) (subst (λ x. IsDocument test f x (quad_of s ∷ q.0)) e d)
+    subst (λ x. IsPlain test f (read r ++ token Dot l ∷ ts) x) (sym q.2 ∙ ap (λ x. x ++ qs) (sym h)) (subst (λ x. IsPlain test f x (quad_of s ∷ q.0)) e d)
 
 abbrev plain_end : Name → Leaf → Object → Leaf → Statement
 plain_end n p o l = record { subject = n; predicate = p; object = o; graph = None; dot = l }
@@ -103,7 +104,7 @@ no_label NTriples = refl
 no_label NQuads = tt
 
 one : (test : List ℕ → Bool) (f : LineForm) (ts : List Token) → ((r : Part) → Sound test f ts r) → (r : Part) (k : Kind) (l : Leaf) (qs : List Quad) → Bound test f r →
-    go_on (accept test f (mode r) k l) (λ n. run test f n ts) ≡ ran Finished qs → IsDocument test f (read r ++ token k l ∷ ts) (given r ++ qs)
+    go_on (accept test f (mode r) k l) (λ n. run test f n ts) ≡ ran Finished qs → IsPlain test f (read r ++ token k l ∷ ts) (given r ++ qs)
 one test f ts ih begin IriRef l qs b e = let a = accepted_absolute test (iri_of l) _ Finished qs (λ n. run test f n ts) e in step test f ts ih begin (subject (Ref l)) IriRef l qs a.0 refl refl refl a.1
 one test f ts ih begin LabelNode l qs b e = step test f ts ih begin (subject (Lab l)) LabelNode l qs tt refl refl refl e
 one test f ts ih begin LineEnd l qs b e = let d = ih begin qs tt e in (next L.empty l d.0, ap (λ x. token LineEnd l ∷ x) d.1, (tt, d.2), d.3)
@@ -142,13 +143,13 @@ one test f ts ih (dot s) LineEnd l qs b e =
     let d = ih begin qs tt e in
     (next (L.one s) l d.0, ap (λ x. statement_tokens s ++ token LineEnd l ∷ x) d.1, (b, d.2), ap (λ x. quad_of s ∷ x) d.3)
 one test f ts ih (dot s) End l qs b e =
-    subst (λ x. IsDocument test f x (quad_of s ∷ qs)) (append_assoc (statement_tokens s) (token End l ∷ []) ts) (ih (finished (L.one s) l) qs b e)
+    subst (λ x. IsPlain test f x (quad_of s ∷ qs)) (append_assoc (statement_tokens s) (token End l ∷ []) ts) (ih (finished (L.one s) l) qs b e)
 one test f ts ih r k l qs b e = absurd (let z : refused Unexpected ≡ ran Finished qs = e in cc)
 
 sound_all : (test : List ℕ → Bool) (f : LineForm) (ts : List Token) (r : Part) → Sound test f ts r
 sound_all test f [] (finished l e) qs b m =
     let z : [] ≡ qs = cc in
-    (last l e, append-nil (line_tokens l ++ token End e ∷ []), b, sym (append-nil (line_quads l)) ∙ ap (λ x. line_quads l ++ x) z)
+    (last l e, append-nil (line_tokens l ++ token End e ∷ []), b, sym (append-nil (plain_line l)) ∙ ap (λ x. plain_line l ++ x) z)
 sound_all test f [] begin qs b m = absurd (let z : ran Begin [] ≡ ran Finished qs = m in cc)
 sound_all test f [] (subject n) qs b m = absurd (let z : ran (AfterSubject (subject_of n)) [] ≡ ran Finished qs = m in cc)
 sound_all test f [] (predicate n p) qs b m = absurd (let z : ran (AfterPredicate (subject_of n) (iri_of p)) [] ≡ ran Finished qs = m in cc)
@@ -159,5 +160,5 @@ sound_all test f [] (graph n p o g) qs b m = absurd (let z : ran (AfterGraph (su
 sound_all test f [] (dot s) qs b m = absurd (let z : ran AfterDot [] ≡ ran Finished qs = m in cc)
 sound_all test f (t ∷ ts) r qs b m = one test f ts (λ s. sound_all test f ts s) r t.kind (leaf_of t) qs b m
 
-pub sound : (test : List ℕ → Bool) (f : LineForm) (ts : List Token) (qs : List Quad) → run test f Begin ts ≡ ran Finished qs → IsDocument test f ts qs
+pub sound : (test : List ℕ → Bool) (f : LineForm) (ts : List Token) (qs : List Quad) → run test f Begin ts ≡ ran Finished qs → IsPlain test f ts qs
 sound test f ts qs e = sound_all test f ts begin qs tt e

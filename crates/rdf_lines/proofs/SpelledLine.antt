@@ -18,7 +18,8 @@ use Rattle.rdf_tokens.specs.Tokens.Outcome.{complete}
 use Rattle.rdf_tokens.specs.Tokens.Step.{stop}
 use Rattle.rdf_terms.specs.Terms.{Label, Anon, Cell, Lang, Typed, Subject, Iri, Blank, Term, Resource, Literal, Quad, xsd_string, has_scheme, all_have, IsIri, IsLabel, IsTag, IsSubject, IsTerm, IsGraph, IsQuad}
 use Rattle.rdf_lines.specs.Lines as L
-use Rattle.rdf_lines.specs.Lines.{Leaf, Name, Ref, Lab, Object, Named, Plain, WithType, WithTag, Statement, Line, Document, last, next, name_tokens, object_tokens, graph_tokens, statement_tokens, line_tokens, document_tokens, iri_of, string_of, subject_of, term_of, quad_of, quads, name_bound, object_bound, graph_bound, GoodStatement, GoodDocument, IsDocument}
+use Rattle.rdf_lines.specs.Lines.{Leaf, Name, Ref, Lab, Object, Named, Plain, WithType, WithTag, Statement, Line, Document, last, next, name_tokens, object_tokens, graph_tokens, statement_tokens, line_tokens, document_tokens, iri_of, string_of, subject_of, term_of, quad_of, name_bound, object_bound, graph_bound, GoodStatement, GoodDocument}
+use Rattle.rdf_lines.proofs.PlainQuads.{plain_quads, IsPlain}
 use Rattle.rdf_lines.specs.declared.form.LineForm.TheVariants.{NQuads}
 use Rattle.rdf_lines.specs.declared.form.Style.TheVariants.{Kept}
 use Rattle.rdf_lines.specs.Writing.{CanWriteSubject, CanWriteTerm, CanWriteGraph, CanWrite, escaped, iri_text, node_text, subject_text, string_text, type_text, term_text, space, graph_text, quad_text}
@@ -392,16 +393,16 @@ statement_meant p q h c =
       record { subject = s.1; predicate = iri_bound q.predicate h.predicate (past p (upto_subject q)); object = o.1; graph = g.1; labels = tt },
     )
 
-document_meant : (p : Place) (qs : List Quad) → Written qs → (quads (document_tree p qs) ≡ qs) × GoodDocument has_scheme NQuads (document_tree p qs)
+document_meant : (p : Place) (qs : List Quad) → Written qs → (plain_quads (document_tree p qs) ≡ qs) × GoodDocument has_scheme NQuads (document_tree p qs)
 document_meant p [] h = (refl, tt)
 document_meant p (q ∷ qs) h =
     let s = statement_meant p q h.0.0 h.0.1 in
     let d = document_meant (past p (quad_text q)) qs h.1 in
-    (ap (λ x. x ∷ quads (document_tree (past p (quad_text q)) qs)) s.0 ∙ ap (λ x. q ∷ x) d.0, (s.1, d.1))
+    (ap (λ x. x ∷ plain_quads (document_tree (past p (quad_text q)) qs)) s.0 ∙ ap (λ x. q ∷ x) d.0, (s.1, d.1))
 
 -- the law for quads whose nodes have labels
 pub reads_back : (limit : ℕ) (qs : List Quad) → Written qs → (p : Place) → AllShort limit (document_tokens (document_tree p qs)) →
-    ((tokens Lines limit ended false p (flat_map quad_text qs)).outcome ≡ complete) × IsDocument has_scheme NQuads (tokens Lines limit ended false p (flat_map quad_text qs)).tokens qs
+    ((tokens Lines limit ended false p (flat_map quad_text qs)).outcome ≡ complete) × IsPlain has_scheme NQuads (tokens Lines limit ended false p (flat_map quad_text qs)).tokens qs
 reads_back limit qs h p s =
     let r = reads_text limit qs h p s in
     let m = document_meant p qs h in

@@ -9,7 +9,8 @@ use Rattle.rdf_tokens.specs.Good.{first_place}
 use Rattle.rdf_tokens.specs.Grammars.{Viable}
 use Rattle.rdf_terms.specs.Terms.{Iri, Resource, Literal, Typed, Quad, xsd_string}
 use Rattle.rdf_lines.specs.declared.form.LineForm.{LineForm}
-use Rattle.rdf_lines.specs.Lines.{Leaf, leaf_of, token, quads, IsMarked, marked}
+use Rattle.rdf_lines.specs.Lines.{Leaf, leaf_of, token, IsDocument, document_quads}
+use Rattle.rdf_lines.proofs.PlainQuads.{plain_quads}
 use Rattle.rdf_lines.specs.Machine.{Mode, Begin, AfterSubject, AfterPredicate, AfterString, AfterCarets, AfterObject, AfterGraph, AfterDot, Finished, refuses, quad, accept, ran, refused, go_on, run}
 use Rattle.rdf_lines.proofs.Sound.{sound}
 use Rattle.rdf_lines.proofs.Runs.{run_document, run_append, run_one, with_quads, then, then_ran}
@@ -50,23 +51,23 @@ completes test f h (AfterGraph s p o g) = (quad s p o (Some g) ∷ [], refl)
 completes test f h AfterDot = ([], refl)
 completes test f h Finished = ([], refl)
 
-pub viable_ran : (test : List ℕ → Bool) (f : LineForm) → test word ≡ true → (ts : List Token) (m : Mode) (qs : List Quad) → run test f Begin ts ≡ ran m qs → Viable (IsMarked test f) ts
+pub viable_ran : (test : List ℕ → Bool) (f : LineForm) → test word ≡ true → (ts : List Token) (m : Mode) (qs : List Quad) → run test f Begin ts ≡ ran m qs → Viable (IsDocument test f) ts
 viable_ran test f h ts m qs e =
     let c = completes test f h m in
     let all : run test f Begin (ts ++ completion m) ≡ ran Finished (qs ++ c.0) =
     run_append test f ts (completion m) Begin ∙ (ap (λ r. then r (λ n. run test f n (completion m))) e ∙ ap (with_quads qs) c.1) in
     let d = sound test f (ts ++ completion m) (qs ++ c.0) all in
-    (completion m, marked 0 d.0, (d.0, d.1, d.2, refl))
+    (completion m, document_quads 0 d.0, (d.0, d.1, d.2, refl))
 
-pub ran_viable : (test : List ℕ → Bool) (f : LineForm) (ts : List Token) → Viable (IsMarked test f) ts → (m : Mode) × (qs : List Quad) × (run test f Begin ts ≡ ran m qs)
+pub ran_viable : (test : List ℕ → Bool) (f : LineForm) (ts : List Token) → Viable (IsDocument test f) ts → (m : Mode) × (qs : List Quad) × (run test f Begin ts ≡ ran m qs)
 ran_viable test f ts v =
     let d = v.2 in
-    then_ran (run test f Begin ts) (λ n. run test f n v.0) Finished (quads d.0)
-    (sym (run_append test f ts v.0 Begin) ∙ run_document test f (ts ++ v.0) (quads d.0) (d.0, d.1, d.2, refl))
+    then_ran (run test f Begin ts) (λ n. run test f n v.0) Finished (plain_quads d.0)
+    (sym (run_append test f ts v.0 Begin) ∙ run_document test f (ts ++ v.0) (plain_quads d.0) (d.0, d.1, d.2, refl))
 
 -- A token that the machine refuses begins no document with those before it.
 pub not_viable : (test : List ℕ → Bool) (f : LineForm) (ts : List Token) (t : Token) (m : Mode) (qs : List Quad) (r : Reason) → run test f Begin ts ≡ ran m qs →
-    accept test f m t.kind (leaf_of t) ≡ refuses r → Viable (IsMarked test f) (ts ++ t ∷ []) → ⊥
+    accept test f m t.kind (leaf_of t) ≡ refuses r → Viable (IsDocument test f) (ts ++ t ∷ []) → ⊥
 not_viable test f ts t m qs r e a v =
     let w = ran_viable test f (ts ++ t ∷ []) v in
     let x : run test f Begin (ts ++ t ∷ []) ≡ refused r = run_one test f ts t Begin m qs e ∙ ap (λ y. with_quads qs (go_on y (λ n. run test f n []))) a in

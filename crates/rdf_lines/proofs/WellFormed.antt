@@ -22,7 +22,8 @@ use Rattle.rdf_tokens.specs.Scans.{IsToken}
 use Rattle.rdf_tokens.proofs.LawLemmas.{have_shapes}
 use Rattle.rdf_lines.specs.declared.form.LineForm.{LineForm}
 use Rattle.rdf_lines.specs.declared.form.Style.TheVariants.{Kept}
-use Rattle.rdf_lines.specs.Lines.{Leaf, Name, Ref, Lab, Object, Named, Plain, WithType, WithTag, Statement, Document as Tree, last, next, token, name_tokens, object_tokens, graph_tokens, statement_tokens, document_tokens, iri_of, string_of, subject_of, term_of, quad_of, quads, name_bound, object_bound, graph_bound, GoodStatement, GoodDocument}
+use Rattle.rdf_lines.specs.Lines.{Leaf, Name, Ref, Lab, Object, Named, Plain, WithType, WithTag, Statement, Document as Tree, last, next, token, name_tokens, object_tokens, graph_tokens, statement_tokens, document_tokens, iri_of, string_of, subject_of, term_of, quad_of, name_bound, object_bound, graph_bound, GoodStatement, GoodDocument}
+use Rattle.rdf_lines.proofs.PlainQuads.{plain_quads}
 use Rattle.rdf_lines.specs.Lines as L
 use Rattle.rdf_lines.specs.Writing.{CanWriteSubject, CanWriteTerm, CanWriteGraph, CanWrite, Writable}
 use Rattle.rdf_lines.specs.Laws.{DocumentIsWritable}
@@ -175,7 +176,7 @@ statement_formed f s b g =
       record { subject = x.1; object = z.1; graph = w.1 },
     )
 
-tree_formed : (f : LineForm) (t : Tree) → GoodDocument has_scheme f t → AllTokens (document_tokens t) → Writable Kept (quads t)
+tree_formed : (f : LineForm) (t : Tree) → GoodDocument has_scheme f t → AllTokens (document_tokens t) → Writable Kept (plain_quads t)
 tree_formed f (last L.empty l) b g = tt
 tree_formed f (last (L.one s) l) b g = (statement_formed f s b (split (IsToken Lines) (statement_tokens s) (token End l ∷ []) g).0, tt)
 tree_formed f (next L.empty l t) b g = tree_formed f t b.1 g.1

@@ -17,7 +17,8 @@ use Rattle.rdf_tokens.specs.Good.{tokens_of}
 use Rattle.rdf_tokens.specs.Grammars.{PassesNone}
 use Rattle.rdf_tokens.proofs.LimitLemmas.{no_longer}
 use Rattle.rdf_lines.specs.declared.form.Style.TheVariants.{Kept}
-use Rattle.rdf_lines.specs.Lines.{Leaf, leaf_of, Name, Ref, Lab, Object, Named, Plain, WithType, WithTag, Statement, Line, Document as Tree, last, next, token, name_tokens, object_tokens, graph_tokens, head_tokens, statement_tokens, line_tokens, document_tokens, iri_of, string_of, subject_of, term_of, quad_of, quads}
+use Rattle.rdf_lines.specs.Lines.{Leaf, leaf_of, Name, Ref, Lab, Object, Named, Plain, WithType, WithTag, Statement, Line, Document as Tree, last, next, token, name_tokens, object_tokens, graph_tokens, head_tokens, statement_tokens, line_tokens, document_tokens, iri_of, string_of, subject_of, term_of, quad_of}
+use Rattle.rdf_lines.proofs.PlainQuads.{plain_quads}
 use Rattle.rdf_lines.specs.Lines as L
 use Rattle.rdf_lines.specs.Documents.{Passes}
 use Rattle.rdf_lines.specs.Writing.{escaped, iri_text, subject_text, string_text, rename_subject, rename_term, rename}
@@ -131,7 +132,7 @@ module _ (limit n token_then iri_then : ℕ) (a : 2 * limit ≤ token_then) (b :
       let w = graph_fits_in s.graph k.1 in
       (record { subject = x.0; predicate = y.0; object = z.0; graph = w.0 }, record { subject = x.1; predicate = y.1; object = z.1; graph = w.1 })
 
-  tree_fits : (t : Tree) → AllByRecursion Good (document_tokens t) → AllByRecursion Fits (quads t)
+  tree_fits : (t : Tree) → AllByRecursion Good (document_tokens t) → AllByRecursion Fits (plain_quads t)
   tree_fits (last L.empty l) g = tt
   tree_fits (last (L.one s) l) g = (statement_fits s (split Good (statement_tokens s) (token End l ∷ []) g).0, tt)
   tree_fits (next L.empty l t) g = tree_fits t g.1

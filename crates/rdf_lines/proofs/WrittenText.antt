@@ -17,7 +17,7 @@ use Rattle.rdf_terms.specs.Classes.Class.{iri_char}
 use Rattle.rdf_terms.specs.Regex.{Regex, Matches}
 use Rattle.rdf_terms.specs.Regex.Regex.{nothing, empty, one, ◌·◌, ◌∣◌, many}
 use Rattle.rdf_terms.specs.Shapes.{label_name, tag_name}
-use Rattle.rdf_tokens.specs.Good.{good, tail_of, mark, marked, tokens_of, first_place}
+use Rattle.rdf_tokens.specs.Good.{good, tail_of, mark, has_byte_order_mark, tokens_of, first_place}
 use Rattle.rdf_tokens.specs.Tokens.{past, tokens}
 use Rattle.rdf_tokens.specs.Tokens.Tail.{ended}
 use Rattle.rdf_terms.specs.Terms.{Label, Anon, Cell, Lang, Typed, Subject, Iri, Blank, Term, Resource, Literal, Quad, xsd_string, all_have, IsIri, IsSubject, IsTerm, IsGraph, IsQuad}
@@ -108,18 +108,18 @@ text_scalars [] h = refl
 text_scalars (q ∷ qs) h = scalars_append (quad_text q) (flat_map quad_text qs) (quad_scalars q h.0.0 h.0.1) (text_scalars qs h.1)
 
 -- no text that is written begins with U+FEFF
-pub no_mark : (qs : List Quad) → Written qs → marked (flat_map quad_text qs) ≡ false
+pub no_mark : (qs : List Quad) → Written qs → has_byte_order_mark (flat_map quad_text qs) ≡ false
 no_mark [] h = refl
 no_mark (q ∷ qs) h = at q.subject space (iri_text q.predicate ++ space) (term_text q.object ++ space) (graph_text q.graph) (46 ∷ []) (10 ∷ []) (flat_map quad_text qs) h.0.0.subject h.0.1.subject
   where
-    at : (s : Subject) (a b d e f g r : List ℕ) → IsSubject s → CanWriteSubject Kept s → marked (subject_text s ++ a ++ b ++ d ++ e ++ f ++ g ++ r) ≡ false
+    at : (s : Subject) (a b d e f g r : List ℕ) → IsSubject s → CanWriteSubject Kept s → has_byte_order_mark (subject_text s ++ a ++ b ++ d ++ e ++ f ++ g ++ r) ≡ false
     at (Iri i) a b d e f g r h c = refl
     at (Blank (Label x)) a b d e f g r h c = refl
     at (Blank (Anon n)) a b d e f g r h c = absurd c
     at (Blank (Cell n)) a b d e f g r h c = absurd c
 
 -- the tokens of encoded characters are those of the characters
-pub encoded_tokens : (d : Dialect) (limit : ℕ) (w : List ℕ) → scalars w ≡ true → marked w ≡ false →
+pub encoded_tokens : (d : Dialect) (limit : ℕ) (w : List ℕ) → scalars w ≡ true → has_byte_order_mark w ≡ false →
     tokens_of d limit (encode_utf8_all w) true ≡ tokens d limit ended false first_place w
 unfolding tokens_of
 encoded_tokens d limit w s n =
@@ -127,7 +127,7 @@ encoded_tokens d limit w s n =
     let l : utf8_valid_len bytes ≡ length bytes = utf8_valid_len-IsUtf8 bytes (w, (s, refl)) in
     let g : good bytes ≡ w = ap chars (ap (λ x. take x bytes) l ∙ take_all (length bytes) bytes (omega arith)) ∙ chars-encodes w s in
     let t : tail_of bytes true ≡ ended = cond-true _ _ _ (eq-eqb (utf8_valid_len bytes) (length bytes) l) in
-    let m : mark w ≡ 0 = cond-false (marked w) 1 0 n in
+    let m : mark w ≡ 0 = cond-false (has_byte_order_mark w) 1 0 n in
     ap (λ x. tokens d limit x false (past first_place (take (mark (good bytes)) (good bytes))) (drop (mark (good bytes)) (good bytes))) t
     ∙ (ap (λ x. tokens d limit ended false (past first_place (take (mark x) x)) (drop (mark x) x)) g
     ∙ ap (λ x. tokens d limit ended false (past first_place (take x w)) (drop x w)) m)

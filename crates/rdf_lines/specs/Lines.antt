@@ -111,25 +111,15 @@ term_of (WithTag s t) = Literal (string_of s) (Lang (drop 1 t.text))
 abbrev pub quad_of : Statement → Quad
 quad_of s = record { subject = subject_of s.subject; predicate = iri_of s.predicate; object = term_of s.object; graph = option_map subject_of s.graph }
 
--- those of a line
-abbrev pub line_quads : Line → List Quad
-line_quads empty = []
-line_quads (one s) = quad_of s ∷ []
-
--- those of a document, in order
-abbrev pub quads : Document → List Quad
-quads (last l e) = line_quads l
-quads (next l e d) = line_quads l ++ quads d
-
 -- the quads with their marks, where n tokens stand before the tree
-abbrev pub marked_line : ℕ → Line → List Marked
-marked_line n empty = []
-marked_line n (one s) = record { quad = quad_of s; mark = n + length (head_tokens s) } ∷ []
+abbrev pub line_quads : ℕ → Line → List Marked
+line_quads n empty = []
+line_quads n (one s) = record { quad = quad_of s; mark = n + length (head_tokens s) } ∷ []
 
 -- those of a document
-abbrev pub marked : ℕ → Document → List Marked
-marked n (last l e) = marked_line n l
-marked n (next l e d) = marked_line n l ++ marked (n + length (line_tokens l) + 1) d
+abbrev pub document_quads : ℕ → Document → List Marked
+document_quads n (last l e) = line_quads n l
+document_quads n (next l e d) = line_quads n l ++ document_quads (n + length (line_tokens l) + 1) d
 
 -- each IRI passes a test: that it has a scheme, in documents; or any, in what is shaped so
 abbrev pub name_bound : (List ℕ → Bool) → Name → Type 0
@@ -171,13 +161,9 @@ abbrev pub GoodDocument : (List ℕ → Bool) → LineForm → Document → Type
 GoodDocument test form (last l e) = GoodLine test form l
 GoodDocument test form (next l e d) = GoodLine test form l × GoodDocument test form d
 
--- the tokens are a document of the form, with these quads
-abbrev pub IsDocument : (List ℕ → Bool) → LineForm → List Token → List Quad → Type 0
-IsDocument test form ts qs = (d : Document) × (ts ≡ document_tokens d) × GoodDocument test form d × (quads d ≡ qs)
-
--- the same with the quads' marks
-abbrev pub IsMarked : (List ℕ → Bool) → LineForm → List Token → List Marked → Type 0
-IsMarked test form ts qs = (d : Document) × (ts ≡ document_tokens d) × GoodDocument test form d × (marked 0 d ≡ qs)
+-- the tokens are a document of the form, and these are its quads with their marks
+abbrev pub IsDocument : (List ℕ → Bool) → LineForm → List Token → List Marked → Type 0
+IsDocument test form ts qs = (d : Document) × (ts ≡ document_tokens d) × GoodDocument test form d × (document_quads 0 d ≡ qs)
 
 -- every IRI passes
 abbrev pub any_iri : List ℕ → Bool
@@ -185,8 +171,8 @@ any_iri i = true
 
 -- the documents of a form: each IRI has a scheme
 abbrev pub documents : LineForm → List Token → List Marked → Type 0
-documents form ts qs = IsMarked has_scheme form ts qs
+documents form ts qs = IsDocument has_scheme form ts qs
 
 -- its trees, whether their IRIs have a scheme or not
 abbrev pub trees : LineForm → List Token → List Marked → Type 0
-trees form ts qs = IsMarked any_iri form ts qs
+trees form ts qs = IsDocument any_iri form ts qs

@@ -16,7 +16,7 @@ use Rattle.rdf_driver.proofs.PromiseLemmas.{read_goes_on}
 use Rattle.rdf_stream.specs.declared.checks.NoQuads.{NoQuads}
 use Rattle.rdf_stream.specs.declared.fault.StreamFault.{StreamFault}
 use Rattle.rdf_stream.specs.declared.fault.StreamFault.TheVariants as stream
-use Rattle.rdf_stream.specs.Checks.{BeginsToRead, CheckEnds, CheckHalts, CheckStops, ChecksNoMore, IsChecking, IsRefusedFor, Passes}
+use Rattle.rdf_stream.specs.Checks.{BeginsToRead, CheckEnds, CheckHalts, CheckStops, ChecksNoMore, IsChecking, IsRefusedFor, IsAccepted}
 use Rattle.rdf_stream.specs.Devices.{HasGiven}
 use Rattle.rdf_stream.specs.Faults.{IsOfDocument, IsRefusal, fault_by}
 use Rattle.rdf_stream.specs.Pieces.{ReadStops, ReadsAll, SourceFails}
@@ -61,7 +61,7 @@ module _ {G X : Type 0} (w : Words G X) (first old : Driven G) (bytes : List ℕ
   end_read before after s f = λ x b.
       let (quads, h) = i.read x b in
       let sums = f.read x bytes quads h in
-      at_limit (λ m. Passes (in_words w x m) bytes s) (record {
+      at_limit (λ m. IsAccepted (in_words w x m) bytes s) (record {
         quads = quads ++ f.more;
         document = sums.document;
         within = sums.whole;
@@ -130,9 +130,9 @@ module _ {G X : Type 0} (w : Words G X) where
   begins x first b = record { begun = (x, b); limit = refl; read = λ y b. ([], b.read) }
 
   module _ (x : X) (limit : ℕ) (first now : R) (same_limit : first.0.scanner.limit ≡ limit) (b : BeginsToRead w x first.0) (known left : Option (List ℕ)) where
-    pub checked : (s : Summary) → ReadsAll Ended known left s first now → IfSome known (λ bytes. Passes (in_words w x limit) bytes s)
+    pub checked : (s : Summary) → ReadsAll Ended known left s first now → IfSome known (λ bytes. IsAccepted (in_words w x limit) bytes s)
     checked s h =
-        Consumes-whole known left h.bytes (λ bytes. Passes (in_words w x limit) bytes s) h.consumed h.at_end (subst (λ n. Passes (in_words w x n) h.bytes s) same_limit (h.is_end x b))
+        Consumes-whole known left h.bytes (λ bytes. IsAccepted (in_words w x limit) bytes s) h.consumed h.at_end (subst (λ n. IsAccepted (in_words w x n) h.bytes s) same_limit (h.is_end x b))
 
     broke : (source_failed : Bool) → SourceFails Taken known left source_failed first now → CheckStops stream.Read (in_words w x limit) known left source_failed
     broke source_failed h =

@@ -18,7 +18,7 @@ use Rattle.rdf_stream.specs.declared.fault.StreamFault.{StreamFault}
 use Rattle.rdf_stream.specs.declared.fault.StreamFault.TheVariants as stream
 use Rattle.rdf_stream.specs.declared.line_out.LineOut.{LineOut}
 use Rattle.rdf_stream.specs.Converting.{Begins, HaltsFor, IsConverting, RunEnds, RunHalts, Starts}
-use Rattle.rdf_stream.specs.Converts.{Accepts, Refuses, StopsFor, WritesDue, WritesSome}
+use Rattle.rdf_stream.specs.Converts.{Accepts, RefusesDocument, StopsFor, WritesDue, WritesSome}
 use Rattle.rdf_stream.specs.Devices.{HasGiven}
 use Rattle.rdf_stream.specs.Faults.{IsOfDocument, IsRefusal}
 use Rattle.rdf_lines.specs.declared.form.LineForm.{LineForm}
@@ -35,18 +35,18 @@ use Rattle.rdf_stream.specs.declared.fault.Kind.{Kind}
 use Rattle.rdf_lines.specs.Machine.{Begin}
 use Rattle.rdf_lines.proofs.AcceptingLemmas.{lawful as lines_lawful}
 use Rattle.rdf_trig.specs.Machine.{at_start}
-use Rattle.rdf_trig.proofs.Exact.{due_ran}
+use Rattle.rdf_trig.proofs.machine.ExactDocuments.{due_ran}
 use Rattle.rdf_stream.specs.Pieces.{ReadStops, ReadsAll, SourceFails}
 use Rattle.rdf_stream.proofs.PiecesLemmas.{all_given, none_given, too_long_more}
 
 -- what is refused stays refused, with all the bytes
-refuses_more : (job : Conversion) → EndsAtBlame job.language → (why : Reason) (bytes more : List ℕ) (at : Place) (old new : Option (List ℕ)) → Refuses why job bytes false at old new → Refuses why job (bytes ++ more) true at old new
+refuses_more : (job : Conversion) → EndsAtBlame job.language → (why : Reason) (bytes more : List ℕ) (at : Place) (old new : Option (List ℕ)) → RefusesDocument why job bytes false at old new → RefusesDocument why job (bytes ++ more) true at old new
 refuses_more job ends reason.DocumentTooLong bytes more at old new h =
     let some = h.1 in (too_long_more bytes more at h.0, record { quads = some.quads; due = due_more job.language ends bytes more true some.quads some.due; written = some.written })
 refuses_more job ends why bytes more at old new h = (h.0, refused_in_more job.language ends bytes more true why at h.0 h.1, h.2)
 
 -- a refusal is of the document
-refuses_document : (job : Conversion) (why : Reason) (bytes : List ℕ) (e : Bool) (at : Place) (old new : Option (List ℕ)) → Refuses why job bytes e at old new → IsOfDocument why
+refuses_document : (job : Conversion) (why : Reason) (bytes : List ℕ) (e : Bool) (at : Place) (old new : Option (List ℕ)) → RefusesDocument why job bytes e at old new → IsOfDocument why
 refuses_document job reason.Memory bytes e at old new h = h.1
 refuses_document job reason.Sink bytes e at old new h = h.1
 refuses_document job reason.Ended bytes e at old new h = h.1
@@ -62,7 +62,7 @@ halts_document stream.Memory job bytes e old new failed h = tt
 halts_stops : (told : StreamFault) (job : Conversion) → EndsAtBlame job.language → (known left old new : Option (List ℕ)) (read_failed write_failed : Bool) (given : HasGiven known left read_failed) →
     HaltsFor told job given.bytes given.is_end old new write_failed → StopsFor told job known left read_failed old new write_failed
 halts_stops (stream.Refused f) job ends known left old new read_failed write_failed given h =
-    all_given known left read_failed (λ bytes e. Refuses f.reason job bytes e (place_of f) old new) (λ bytes more x. refuses_more job ends f.reason bytes more (place_of f) old new x) given h
+    all_given known left read_failed (λ bytes e. RefusesDocument f.reason job bytes e (place_of f) old new) (λ bytes more x. refuses_more job ends f.reason bytes more (place_of f) old new x) given h
 halts_stops stream.Read job ends known left old new read_failed write_failed given h = absurd h
 halts_stops stream.Write job ends known left old new read_failed write_failed given h = (h.0, given, h.1)
 halts_stops stream.Memory job ends known left old new read_failed write_failed given h = (h.0, given, h.1)

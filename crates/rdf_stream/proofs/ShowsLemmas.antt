@@ -16,7 +16,7 @@ use Rattle.rdf_tokens.specs.Good.{tokens_of, end_of}
 use Rattle.rdf_tokens.specs.Unread.{Unread}
 use Rattle.rdf_tokens.specs.Moves as Moved
 use Rattle.rdf_tokens.specs.Scans as Scan
-use Rattle.rdf_tokens.specs.Scans.{HasRead, GivesToken, IsOpen, TakesBytes, Waits, is_end, most_bytes, place_of}
+use Rattle.rdf_tokens.specs.Scans.{HasScanned, GivesToken, IsOpen, TakesBytes, Waits, is_end, most_bytes, place_of}
 use Rattle.rdf_tokens.specs.Grammars.{counted}
 use Rattle.rdf_tokens.proofs.LawLemmas.{given_beginning, lengthens}
 use Rattle.rdf_tokens.proofs.GrammarsLemmas.{counted-append, counted_complete, end_complete, given_few, only_ended, tokens_of-nil}
@@ -31,7 +31,7 @@ use Rattle.rdf_stream.specs.Faults.{IsOfDocument, IsRefusal, fault_by}
 use Rattle.rdf_stream.specs.LineOut.{Moves, SameOut, Writes}
 use Rattle.rdf_stream.specs.Converting.{Tells, TellsFault, TellsWrite}
 use Rattle.rdf_stream.specs.Pieces.{ReadStops, ReadsAll, SourceFails}
-use Rattle.rdf_stream.specs.Shows.{ShowStops, Shows, ShowsFront, ShowsSome, Stops, StopsAt, dialect_of, shown, token_line, token_lines, tokens_in}
+use Rattle.rdf_stream.specs.Shows.{ShowStops, Shows, ShowsFront, ShowsSome, ShowRefuses, StopsAt, dialect_of, shown, token_line, token_lines, tokens_in}
 use Rattle.rdf_stream.specs.ShowParts.{AreAll, Begins, Halts, HaltsFor, HasShown, HasShownAll, IsShowingRun, NowShown, PutHalts, ShowEnds, ShowHalts}
 use Rattle.rdf_stream.proofs.PiecesLemmas.{all_given}
 use Rattle.rdf_stream.proofs.LineOutLemmas.{front_moves, moves_all, moves_front, moves_more, moves_on, same_out}
@@ -61,7 +61,7 @@ module _ (job : JobRead) (bytes more : List ℕ) (e : Bool) (old new : Option (L
   stops_at_more o at d s = subst (λ r. StopsAt r o at old new) (sym ((lengthens (dialect_of job.form) job.limits.token bytes more e).1 (λ x. d (sym s.outcome ∙ x)))) s
 
   -- what stops the tokens stops them with more bytes
-  pub stops_more : (why : Reason) (at : Place) → Stops why job bytes false at old new → Stops why job (bytes ++ more) e at old new
+  pub stops_more : (why : Reason) (at : Place) → ShowRefuses why job bytes false at old new → ShowRefuses why job (bytes ++ more) e at old new
   stops_more reason.BadUtf8 at s = stops_at_more bad_utf8 at (λ x. cc) s
   stops_more reason.NoToken at s = stops_at_more no_token at (λ x. cc) s
   stops_more reason.BadEscape at s = stops_at_more bad_escape at (λ x. cc) s
@@ -283,7 +283,7 @@ module _ {D A : Type 0} (contents : D → Option (List ℕ)) (failed : D → Boo
     fewer more m e = g.less
 
 -- nothing was shown
-pub none_shown : {D A : Type 0} (contents : D → Option (List ℕ)) (failed : D → Bool) (job : JobRead) (lines : LineOut D A) (v : Unread) (s : Summary) → HasRead v [] [] → IsOpen v →
+pub none_shown : {D A : Type 0} (contents : D → Option (List ℕ)) (failed : D → Bool) (job : JobRead) (lines : LineOut D A) (v : Unread) (s : Summary) → HasScanned v [] [] → IsOpen v →
     v.dialect ≡ dialect_of job.form → v.limit ≡ job.limits.token → lines.buffer.now.items ≡ [] → failed lines.drain.now ≡ false → s.quads ≡ 0 → s.tokens ≡ 0 → s.bytes ≡ 0 →
     HasShownAll contents failed job [] lines lines v s
 none_shown contents failed job lines v s r o d l none live q n b =
@@ -398,7 +398,7 @@ module _ {D A : Type 0} (contents : D → Option (List ℕ)) (failed : D → Boo
       size : length (bytes ++ take n piece) ≡ length bytes + n
       size = let a = length-append bytes (take n piece) in let b = length-take-le n piece p.within in omega (arith, a, b)
 
-      read_now : HasRead w (bytes ++ take n piece) h.tokens
+      read_now : HasScanned w (bytes ++ take n piece) h.tokens
       read_now = p.read bytes h.tokens h.shown.read
 
       few_now : length (bytes ++ take n piece) ≤ most_bytes
@@ -439,7 +439,7 @@ module _ {D A : Type 0} (contents : D → Option (List ℕ)) (failed : D → Boo
           subst (λ b. Halts contents failed told job b false first after) (append_assoc bytes (take n piece) (drop n piece) ∙ ap (λ b. bytes ++ b) (take-append-drop n piece))
           (all_halt contents failed told job (bytes ++ take n piece) (drop n piece) false first after (subst (λ e. Halts contents failed told job (bytes ++ take n piece) e first after) p.after.more x))
 
-  module _ (w : Unread) (closed : w ≡ record v { ended = true }) (read : HasRead w bytes h.tokens) where
+  module _ (w : Unread) (closed : w ≡ record v { ended = true }) (read : HasScanned w bytes h.tokens) where
     -- no more bytes come
     pub ended_now : HasShown contents failed job bytes h.tokens first lines w s
     ended_now = record {
@@ -495,7 +495,7 @@ module _ {D A : Type 0} (contents : D → Option (List ℕ)) (failed : D → Boo
 
 -- ---- a whole run
 
-refusal_of_document : (why : Reason) (job : JobRead) (bytes : List ℕ) (e : Bool) (at : Place) (old new : Option (List ℕ)) → Stops why job bytes e at old new → IsOfDocument why
+refusal_of_document : (why : Reason) (job : JobRead) (bytes : List ℕ) (e : Bool) (at : Place) (old new : Option (List ℕ)) → ShowRefuses why job bytes e at old new → IsOfDocument why
 refusal_of_document reason.Memory job bytes e at old new h = h
 refusal_of_document reason.Sink job bytes e at old new h = h
 refusal_of_document reason.Ended job bytes e at old new h = h
@@ -511,7 +511,7 @@ halts_of_document stream.Memory job bytes e old new failed h = tt
 halts_stops : (told : StreamFault) (job : JobRead) (known left old new : Option (List ℕ)) (read_failed write_failed : Bool) (given : HasGiven known left read_failed) →
     HaltsFor told job given.bytes given.is_end old new write_failed → ShowStops told job known left read_failed old new write_failed
 halts_stops (stream.Refused f) job known left old new read_failed write_failed given h =
-    all_given known left read_failed (λ bytes e. Stops f.reason job bytes e (place_of f) old new) (λ bytes more x. stops_more job bytes more true old new f.reason (place_of f) x) given h
+    all_given known left read_failed (λ bytes e. ShowRefuses f.reason job bytes e (place_of f) old new) (λ bytes more x. stops_more job bytes more true old new f.reason (place_of f) x) given h
 halts_stops stream.Read job known left old new read_failed write_failed given h = absurd h
 halts_stops stream.Write job known left old new read_failed write_failed given h = (h.0, given, h.1)
 halts_stops stream.Memory job known left old new read_failed write_failed given h = (h.0, given, h.1)

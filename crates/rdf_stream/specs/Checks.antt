@@ -16,7 +16,7 @@ use Rattle.rdf_stream.specs.Converts.{Counts}
 use Rattle.rdf_stream.specs.Devices.{HasGiven}
 
 -- The bytes are a document within the limits, and the summary counts what is in it.
-pub record Passes (language : Language) (bytes : List ℕ) (s : Summary) : Type 0 where
+pub record IsAccepted (language : Language) (bytes : List ℕ) (s : Summary) : Type 0 where
   pub quads : List Quad
   pub document : IsDocumentOf language bytes quads
   pub within : IsWhole language bytes
@@ -61,4 +61,4 @@ pub record CheckHalts {G X : Type 0} (w : Words G X) (told : StreamFault) (reade
 
 -- Since the run began these bytes came, they are all that there are, and are a document.
 abbrev pub CheckEnds : {G X : Type 0} → Words G X → Summary → Driven G → List ℕ → Type 0
-CheckEnds {G} {X} w summary reader bytes = (x : X) → BeginsToRead w x reader → Passes (in_words w x reader.scanner.limit) bytes summary
+CheckEnds {G} {X} w summary reader bytes = (x : X) → BeginsToRead w x reader → IsAccepted (in_words w x reader.scanner.limit) bytes summary

@@ -16,7 +16,7 @@ use Rattle.rdf_stream.specs.Languages.{Conversion, conversion}
 use Rattle.rdf_stream.specs.declared.fault.StreamFault.{StreamFault}
 use Rattle.rdf_stream.specs.declared.fault.StreamFault.TheVariants as fault
 use Rattle.rdf_stream.specs.declared.line_out.LineOut.{LineOut}
-use Rattle.rdf_stream.specs.Converts.{Accepts, Refuses, WritesFront, WritesSome, lines_of}
+use Rattle.rdf_stream.specs.Converts.{Accepts, RefusesDocument, WritesFront, WritesSome, lines_of}
 use Rattle.rdf_stream.specs.Faults.{fault_by}
 use Rattle.rdf_stream.specs.LineOut.{Moves, SameOut}
 
@@ -55,7 +55,7 @@ pub record IsConverting {G X D A : Type 0} (contents : D → Option (List ℕ)) 
 
 -- why the bytes are not read on, and what was written
 abbrev pub HaltsFor : StreamFault → Conversion → List ℕ → Bool → Option (List ℕ) → Option (List ℕ) → Bool → Type 0
-HaltsFor (fault.Refused f) job bytes is_end old new failed = Refuses f.reason job bytes is_end (place_of f) old new
+HaltsFor (fault.Refused f) job bytes is_end old new failed = RefusesDocument f.reason job bytes is_end (place_of f) old new
 HaltsFor fault.Read job bytes is_end old new failed = ⊥
 HaltsFor fault.Write job bytes is_end old new failed = (failed ≡ true) × WritesFront job (reading_of job.language bytes is_end).tokens old new
 HaltsFor fault.Memory job bytes is_end old new failed = (failed ≡ false) × WritesSome job (reading_of job.language bytes is_end).tokens old new

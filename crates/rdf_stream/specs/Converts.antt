@@ -58,9 +58,9 @@ pub record WritesFront (job : Conversion) (tokens : List Token) (old new : Optio
   pub written : AppendsFront old new (lines_of job.style quads)
 
 -- The bytes are refused at the place, so they are no document within the limits, and the lines of the quads that are due before it were written; or there are too many bytes.
-abbrev pub Refuses : Reason → Conversion → List ℕ → Bool → Place → Option (List ℕ) → Option (List ℕ) → Type 0
-Refuses DocumentTooLong job bytes is_end at old new = IsTooLong bytes at × WritesSome job (reading_of job.language bytes is_end).tokens old new
-Refuses reason job bytes is_end at old new =
+abbrev pub RefusesDocument : Reason → Conversion → List ℕ → Bool → Place → Option (List ℕ) → Option (List ℕ) → Type 0
+RefusesDocument DocumentTooLong job bytes is_end at old new = IsTooLong bytes at × WritesSome job (reading_of job.language bytes is_end).tokens old new
+RefusesDocument reason job bytes is_end at old new =
     (ahead : List Token) × RefusedIn job.language (reading_of job.language bytes is_end) reason at ahead × WritesDue job ahead old new
 
 -- The source has given these bytes, whose tokens are all in the front and leave the next one open, and the lines of all quads that are due in them were written.
@@ -72,7 +72,7 @@ pub record BreaksOff (job : Conversion) (known left old new : Option (List ℕ))
 
 -- Why a conversion stopped, and what it had written: whole lines, but where the drain failed a beginning of them.
 abbrev pub StopsFor : StreamFault → Conversion → Option (List ℕ) → Option (List ℕ) → Bool → Option (List ℕ) → Option (List ℕ) → Bool → Type 0
-StopsFor (Refused f) job known left read_failed old new write_failed = IfSome known (λ bytes. Refuses f.reason job bytes true (place_of f) old new)
+StopsFor (Refused f) job known left read_failed old new write_failed = IfSome known (λ bytes. RefusesDocument f.reason job bytes true (place_of f) old new)
 StopsFor Read job known left read_failed old new write_failed = (read_failed ≡ true) × BreaksOff job known left old new
 StopsFor Write job known left read_failed old new write_failed =
     (write_failed ≡ true) × (given : HasGiven known left read_failed) × WritesFront job (reading_of job.language given.bytes given.is_end).tokens old new

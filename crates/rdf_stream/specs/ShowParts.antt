@@ -6,7 +6,7 @@ use Rattle.rdf_terms.specs.declared.sink.PutFault.TheVariants as put
 use Rattle.rdf_tokens.specs.Tokens.{Token}
 use Rattle.rdf_tokens.specs.Tokens.Outcome.{undecided, complete}
 use Rattle.rdf_tokens.specs.Unread.{Unread}
-use Rattle.rdf_tokens.specs.Scans.{HasRead, IsOpen, most_bytes, place_of}
+use Rattle.rdf_tokens.specs.Scans.{HasScanned, IsOpen, most_bytes, place_of}
 use Rattle.rdf_tokens.specs.Grammars.{counted}
 use Rattle.rdf_driver.specs.declared.summary.Summary.{Summary}
 use Rattle.rdf_stream.specs.Jobs.{JobRead}
@@ -14,7 +14,7 @@ use Rattle.rdf_stream.specs.declared.fault.StreamFault.{StreamFault}
 use Rattle.rdf_stream.specs.declared.fault.StreamFault.TheVariants as fault
 use Rattle.rdf_stream.specs.declared.line_out.LineOut.{LineOut}
 use Rattle.rdf_stream.specs.LineOut.{Moves, SameOut, Writes}
-use Rattle.rdf_stream.specs.Shows.{Shows, ShowsFront, ShowsSome, Stops, dialect_of, token_lines, tokens_in}
+use Rattle.rdf_stream.specs.Shows.{Shows, ShowsFront, ShowsSome, ShowRefuses, dialect_of, token_lines, tokens_in}
 
 -- what a refused put of a line leaves: nothing of it, or where the drain failed, it took a beginning of what waited and of it
 abbrev pub LeavesToken : {D A : Type 0} → (D → Option (List ℕ)) → (D → Bool) → PutFault → LineOut D A → List ℕ → LineOut D A → Type 0
@@ -34,7 +34,7 @@ PutHalts contents failed told before bytes after = ⊥
 pub record HasShown {D A : Type 0} (contents : D → Option (List ℕ)) (failed : D → Bool) (job : JobRead) (bytes : List ℕ) (tokens : List Token) (first lines : LineOut D A) (v : Unread) (s : Summary) : Type 0 where
   pub dialect : v.dialect ≡ dialect_of job.form
   pub limit : v.limit ≡ job.limits.token
-  pub read : HasRead v bytes tokens
+  pub read : HasScanned v bytes tokens
   pub few : length bytes ≤ most_bytes
   pub no_quads : s.quads ≡ 0
   pub given : s.tokens ≡ counted tokens
@@ -58,7 +58,7 @@ pub record HasShownAll {D A : Type 0} (contents : D → Option (List ℕ)) (fail
 
 -- why the bytes are not read on, and what was written
 abbrev pub HaltsFor : StreamFault → JobRead → List ℕ → Bool → Option (List ℕ) → Option (List ℕ) → Bool → Type 0
-HaltsFor (fault.Refused f) job bytes is_end old new failed = Stops f.reason job bytes is_end (place_of f) old new
+HaltsFor (fault.Refused f) job bytes is_end old new failed = ShowRefuses f.reason job bytes is_end (place_of f) old new
 HaltsFor fault.Read job bytes is_end old new failed = ⊥
 HaltsFor fault.Write job bytes is_end old new failed = (failed ≡ true) × ShowsFront (tokens_in job bytes is_end) old new
 HaltsFor fault.Memory job bytes is_end old new failed = (failed ≡ false) × ShowsSome (tokens_in job bytes is_end) old new
@@ -123,7 +123,7 @@ Ends {D} {A} contents failed summary before v s after =
 pub record Begins {D A : Type 0} (failed : D → Bool) (job : JobRead) (v : Unread) (s : Summary) (lines : LineOut D A) : Type 0 where
   pub dialect : v.dialect ≡ dialect_of job.form
   pub limit : v.limit ≡ job.limits.token
-  pub read : HasRead v [] []
+  pub read : HasScanned v [] []
   pub more : IsOpen v
   pub none_shown : s ≡ record { quads = 0; tokens = 0; bytes = 0 }
   pub none_waits : lines.buffer.now.items ≡ []

@@ -90,13 +90,13 @@ pub record StopsAt (reading : Reading) (o : Outcome) (at : Place) (old new : Opt
   pub written : Appends old new (token_lines reading.tokens)
 
 -- The tokens stop at the place; or there are too many bytes, and the lines of the tokens that the allowed ones decide were written.
-abbrev pub Stops : Reason → JobRead → List ℕ → Bool → Place → Option (List ℕ) → Option (List ℕ) → Type 0
-Stops BadUtf8 job bytes is_end at old new = StopsAt (tokens_in job bytes is_end) bad_utf8 at old new
-Stops NoToken job bytes is_end at old new = StopsAt (tokens_in job bytes is_end) no_token at old new
-Stops BadEscape job bytes is_end at old new = StopsAt (tokens_in job bytes is_end) bad_escape at old new
-Stops TokenTooLong job bytes is_end at old new = StopsAt (tokens_in job bytes is_end) token_too_long at old new
-Stops DocumentTooLong job bytes is_end at old new = IsTooLong bytes at × Appends old new (token_lines (tokens_in job (take most_bytes bytes) false).tokens)
-Stops reason job bytes is_end at old new = ⊥
+abbrev pub ShowRefuses : Reason → JobRead → List ℕ → Bool → Place → Option (List ℕ) → Option (List ℕ) → Type 0
+ShowRefuses BadUtf8 job bytes is_end at old new = StopsAt (tokens_in job bytes is_end) bad_utf8 at old new
+ShowRefuses NoToken job bytes is_end at old new = StopsAt (tokens_in job bytes is_end) no_token at old new
+ShowRefuses BadEscape job bytes is_end at old new = StopsAt (tokens_in job bytes is_end) bad_escape at old new
+ShowRefuses TokenTooLong job bytes is_end at old new = StopsAt (tokens_in job bytes is_end) token_too_long at old new
+ShowRefuses DocumentTooLong job bytes is_end at old new = IsTooLong bytes at × Appends old new (token_lines (tokens_in job (take most_bytes bytes) false).tokens)
+ShowRefuses reason job bytes is_end at old new = ⊥
 
 -- The source has given these bytes, which do not decide what stands behind them, and the lines of the tokens that they decide were written.
 pub record ShowsSoFar (job : JobRead) (known left old new : Option (List ℕ)) : Type 0 where
@@ -118,7 +118,7 @@ ShowsFront reading old new = AppendsFront old new (token_lines reading.tokens)
 
 -- Why the tokens were not all shown, and what was written: whole lines, but where the drain failed a beginning of them.
 abbrev pub ShowStops : StreamFault → JobRead → Option (List ℕ) → Option (List ℕ) → Bool → Option (List ℕ) → Option (List ℕ) → Bool → Type 0
-ShowStops (Refused f) job known left read_failed old new write_failed = IfSome known (λ bytes. Stops f.reason job bytes true (place_of f) old new)
+ShowStops (Refused f) job known left read_failed old new write_failed = IfSome known (λ bytes. ShowRefuses f.reason job bytes true (place_of f) old new)
 ShowStops Read job known left read_failed old new write_failed = (read_failed ≡ true) × ShowsSoFar job known left old new
 ShowStops Write job known left read_failed old new write_failed =
     (write_failed ≡ true) × (given : HasGiven known left read_failed) × ShowsFront (tokens_in job given.bytes given.is_end) old new

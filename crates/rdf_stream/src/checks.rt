@@ -2,7 +2,7 @@
 
 ghost use Rattle.std.specs.Prelude.{◌≡◌, false, IfOk, IfErr, IfSome};
 ghost use Rattle.rdf_driver.specs.Words.{in_words};
-ghost use Rattle.rdf_stream.specs.Checks.{BeginsToRead, CheckEnds, CheckHalts, CheckStops, IsChecking, Passes};
+ghost use Rattle.rdf_stream.specs.Checks.{BeginsToRead, CheckEnds, CheckHalts, CheckStops, IsChecking, IsAccepted};
 ghost use Rattle.rdf_stream.specs.Faults.{IsRefusal};
 ghost use Rattle.rdf_stream.specs.Languages.{language_of};
 
@@ -23,7 +23,7 @@ pub fn check<A: Allocator + Copy, S: Source>(
     source: &mut S,
 ) -> Result<Summary, StreamFault>
     requires source { S.has_failed source.old ≡ false }
-    ensures accepted { IfOk result (λ summary. IfSome (S.remaining source.old) (λ bytes. Passes (language_of job) bytes summary)) }
+    ensures accepted { IfOk result (λ summary. IfSome (S.remaining source.old) (λ bytes. IsAccepted (language_of job) bytes summary)) }
     ensures stops { IfErr result (λ fault. CheckStops fault (language_of job) (S.remaining source.old) (S.remaining source.new) (S.has_failed source.new)) }
     ensures refused { IfErr result IsRefusal }
 {
@@ -40,7 +40,7 @@ fn check_with<G: Grammar + Drop, A: Allocator + Copy, S: Source>(
 ) -> Result<Summary, StreamFault>
     requires begun { (x : G.Setting) × BeginsToRead G.words x reader }
     requires source { S.has_failed source.old ≡ false }
-    ensures accepted { IfOk result (λ summary. (x : G.Setting) → BeginsToRead G.words x reader → IfSome (S.remaining source.old) (λ bytes. Passes (in_words G.words x reader.scanner.limit) bytes summary)) }
+    ensures accepted { IfOk result (λ summary. (x : G.Setting) → BeginsToRead G.words x reader → IfSome (S.remaining source.old) (λ bytes. IsAccepted (in_words G.words x reader.scanner.limit) bytes summary)) }
     ensures stops { IfErr result (λ told. (x : G.Setting) → BeginsToRead G.words x reader →
         CheckStops told (in_words G.words x reader.scanner.limit) (S.remaining source.old) (S.remaining source.new) (S.has_failed source.new)) }
     ensures refused { IfErr result IsRefusal }

@@ -142,12 +142,12 @@ fronts_fit d g [] = true
 fronts_fit d g (xs ∷ more) = every (λ k. front_fits d xs k (group k == g)) kinds && fronts_fit d (g + 1) more
 
 -- two kinds of one group are the same, a hard pair, or have marks
-abbrev marked : Dialect → Kind → Kind → Bool → Bool
-marked d j k true = true
-marked d j k false = parted_by marks (shape d j) (shape d k)
+abbrev set_apart : Dialect → Kind → Kind → Bool → Bool
+set_apart d j k true = true
+set_apart d j k false = parted_by marks (shape d j) (shape d k)
 
 abbrev pair_fits : Dialect → Kind → Kind → Bool
-pair_fits d j k = marked d j k ((number j == number k) || (not (group j == group k) || hard j k))
+pair_fits d j k = set_apart d j k ((number j == number k) || (not (group j == group k) || hard j k))
 
 fronts_all : (d : Dialect) → fronts_fit d 1 fronts ≡ true
 unfolding shape has
@@ -324,7 +324,7 @@ one_kind d j k w m n =
   where
     apart : (number j == number k) ≡ false → (group j == group k) ≡ true → hard j k ≡ false → parted_by marks (shape d j) (shape d k) ≡ true
     apart t g h =
-        ap (marked d j k) (sym (ap (λ a. a || (not (group j == group k) || hard j k)) t ∙ (ap (λ a. not a || hard j k) g ∙ h)))
+        ap (set_apart d j k) (sym (ap (λ a. a || (not (group j == group k) || hard j k)) t ∙ (ap (λ a. not a || hard j k) g ∙ h)))
         ∙ of_pair d j k (no_end d w j m) (no_end d w k n)
 
 -- the kind that the test finds is that of the shape

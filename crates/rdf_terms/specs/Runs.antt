@@ -17,10 +17,10 @@ abbrev pub is_name_byte : ℕ → Bool
 is_name_byte b = is_letter b || is_digit b || b == 95 || b == 45
 
 -- the bytes that a run goes over
-abbrev pub passes : Run → ℕ → Bool
-passes Iri b = iri_byte b
-passes Text b = is_text_byte b
-passes Name b = is_name_byte b
+abbrev pub goes_over : Run → ℕ → Bool
+goes_over Iri b = iri_byte b
+goes_over Text b = is_text_byte b
+goes_over Name b = is_name_byte b
 
 -- the bytes between two places pass
 abbrev pub PassBetween : (ℕ → Bool) → List ℕ → ℕ → ℕ → Type 0

@@ -2,7 +2,7 @@
 
 ghost use Rattle.std.specs.Prelude.{◌≡◌, ◌+◌, ◌≤◌, length, map, not};
 ghost use Rattle.std.specs.Simd.Lanes.{mask_l};
-ghost use Rattle.rdf_terms.specs.Runs.{iri_byte, passes, is_name_byte, is_text_byte, IsRun, IsRunIn};
+ghost use Rattle.rdf_terms.specs.Runs.{iri_byte, goes_over, is_name_byte, is_text_byte, IsRun, IsRunIn};
 ghost use Rattle.rdf_terms.specs.Terms.{all_have};
 
 use crate::classes::is_iri_byte;
@@ -26,7 +26,7 @@ pub enum Run {
 #[inline(always)]
 pub fn run_end(run: Run, bytes: &[u8], from: usize) -> usize
     requires { from ≤ length bytes.now }
-    ensures { IsRun (passes run) bytes.now from result }
+    ensures { IsRun (goes_over run) bytes.now from result }
 {
     let mut at = from;
     while bytes.len() - at >= LANES {
@@ -43,7 +43,7 @@ pub fn run_end(run: Run, bytes: &[u8], from: usize) -> usize
 #[inline(always)]
 fn short_run_end(run: Run, bytes: &[u8], from: usize) -> usize
     requires { from ≤ length bytes.now }
-    ensures { IsRun (passes run) bytes.now from result }
+    ensures { IsRun (goes_over run) bytes.now from result }
 {
     let mut at = from;
     while at < bytes.len() && is_passed(run, bytes[at]) {
@@ -54,7 +54,7 @@ fn short_run_end(run: Run, bytes: &[u8], from: usize) -> usize
 
 #[inline(always)]
 fn is_passed(run: Run, byte: u8) -> bool
-    ensures { result ≡ passes run byte }
+    ensures { result ≡ goes_over run byte }
 {
     match run {
         Run::Iri => is_iri_byte(byte),
@@ -67,7 +67,7 @@ fn is_passed(run: Run, byte: u8) -> bool
 #[inline(always)]
 fn passed_lanes(run: Run, bytes: &[u8], at: usize) -> usize
     requires { at + 16 ≤ length bytes.now }
-    ensures { IsRunIn (passes run) bytes.now at 16 result }
+    ensures { IsRunIn (goes_over run) bytes.now at 16 result }
 {
     let hits = stops(run, u8x16::from_slice(&bytes[at..]));
     if hits == 0 {
@@ -80,7 +80,7 @@ fn passed_lanes(run: Run, bytes: &[u8], at: usize) -> usize
 /// Bit k says that the run does not go over lane k.
 #[inline(always)]
 fn stops(run: Run, v: u8x16) -> u64
-    ensures { result ≡ mask_l (map (λ b. not (passes run b)) v) }
+    ensures { result ≡ mask_l (map (λ b. not (goes_over run b)) v) }
 {
     match run {
         Run::Iri => iri_stops(v),
@@ -125,7 +125,7 @@ fn name_stops(v: u8x16) -> u64
 /// Whether the run goes over all of the bytes. The last load overlaps the one before it.
 #[inline(always)]
 pub fn is_run(run: Run, bytes: &[u8]) -> bool
-    ensures { result ≡ all_have (passes run) bytes.now }
+    ensures { result ≡ all_have (goes_over run) bytes.now }
 {
     if bytes.len() < LANES {
         return short_run_end(run, bytes, 0) == bytes.len();

@@ -109,7 +109,7 @@ fn take_answers(scanner: &mut Scanner, told: &mut Vec<Told>) -> Result<(), Fail>
     Ok(())
 }
 
-// The answers to a text of the Turtle dialect, cut behind each byte whose bit is set.
+// The answers to a text of the Turtle dialect, cut after each byte whose bit is set.
 fn answers_to(alloc: Global, text: &[u8], cuts: u64) -> Result<Vec<Told>, Fail> {
     let mut scanner = Scanner::new(alloc, Dialect::Turtle, 64);
     let mut told = Vec::new(alloc);

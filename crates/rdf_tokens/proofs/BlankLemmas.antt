@@ -50,7 +50,7 @@ comment-step d true c w = go (is_line_end c) (is_space d c)
     go true false = refl
     go false t = refl
 
--- a text that is blank, and what comes behind it
+-- a text that is blank, and what comes after it
 pub blank-append : (d : Dialect) (b : Bool) (u v : List ℕ) → blank d b u ≡ length u → blank d b (u ++ v) ≡ length u + blank d (comment_after d b u) v
 blank-append d b [] v e = omega arith
 blank-append d b (c ∷ u) v e =
@@ -74,7 +74,7 @@ drop-over : (u v : List ℕ) (n : ℕ) → drop (length u + n) (u ++ v) ≡ drop
 drop-over [] v n = ap (λ m. drop m v) (omega arith)
 drop-over (c ∷ u) v n = let e : suc (length u) + n ≡ suc (length u + n) = omega arith in ap (λ m. drop m (c ∷ (u ++ v))) e ∙ drop-over u v n
 
--- Where all of a text is blank, the tokens are those of what comes behind it.
+-- Where all of a text is blank, the tokens are those of what comes after it.
 pub tokens-blank : (d : Dialect) (limit : ℕ) (t : Tail) (b : Bool) (p : Place) (u v : List ℕ) → blank d b u ≡ length u →
     tokens d limit t b p (u ++ v) ≡ tokens d limit t (comment_after d b u) (past p u) v
 tokens-blank d limit t b p u v e =
@@ -88,7 +88,7 @@ tokens-blank d limit t b p u v e =
     ∙ (ap (λ x. go_on (step d limit t (rest_of d (comment_after d b u) v)) x (rest_of d (comment_after d b u) v) (λ q v. tokens d limit t false q v)) place
     ∙ sym (tokens-step d limit t (comment_after d b u) (past p u) v)))
 
--- what stands behind the blanks is not blank
+-- what stands after the blanks is not blank
 ends-no-comment : (c : ℕ) → is_line_end c ≡ true → (c == 35) ≡ false
 ends-no-comment c e = grind (arith, nat_tests)
 
@@ -112,7 +112,7 @@ rest-blank d b (c ∷ u) v e =
     go None x e h = blank-step d false c (u ++ v) ∙ ap (λ o. blank_by d o (u ++ v)) (stays_none d b c x)
     go (Some b') x e h = h b' e
 
--- Where something stands behind the blanks, the tokens are those of a text that begins there.
+-- Where something stands after the blanks, the tokens are those of a text that begins there.
 pub tokens-rest : (d : Dialect) (limit : ℕ) (t : Tail) (b : Bool) (p : Place) (u v : List ℕ) → is_empty (rest_of d b u) ≡ false →
     tokens d limit t b p (u ++ v) ≡ tokens d limit t false (place_of d b p u) (rest_of d b u ++ v)
 tokens-rest d limit t b p u v e =

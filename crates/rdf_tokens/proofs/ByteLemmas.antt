@@ -88,7 +88,7 @@ chars_take zero w h = tt
 chars_take (suc n) [] h = tt
 chars_take (suc n) (c ∷ w) h = (h.0, chars_take n w h.1)
 
--- a text cut behind some of its characters
+-- a text cut after some of its characters
 pub record Cut (bs : List ℕ) (m n : ℕ) : Type 0 where
   pub inside : m ≤ length bs
   pub boundary : IsCharBoundary bs m

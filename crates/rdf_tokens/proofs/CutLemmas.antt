@@ -1,4 +1,4 @@
--- A text cut behind some of its characters.
+-- A text cut after some of its characters.
 use Rattle.std.proofs.Common.{◌≡◌, ℕ, zero, suc, ◌+◌, ◌<◌, ◌≤◌, Bool, true, false, cond, List, [], ◌∷◌, ◌++◌, ◌==◌, encode_utf8, refl, sym, ap, ◌∙◌, length, take, drop, arith, length-append, ◌&&◌}
 use Rattle.std.proofs.lemmas.Bool.{and_parts}
 use Rattle.std.proofs.lemmas.Bool.Decides.{nat_tests}

@@ -22,7 +22,7 @@ abbrev rest : Bool → Option (List ℕ) → Regex
 rest b (Some s) = spelled b s
 rest b None = nothing
 
--- what is left behind one character more
+-- what is left after one character more
 abbrev less : Bool → Option (List ℕ) → ℕ → Option (List ℕ)
 less b (Some (c ∷ s)) x = cond (fits b c x) (Some s) None
 less b o x = None

@@ -174,7 +174,7 @@ no_char bs more c r e s h =
     none_some : {x : Option ℕ} → x ≡ None → is_some x ≡ true → ⊥
     none_some a b = let h : false ≡ true = sym (ap is_some a) ∙ b in cc
 
--- Where the bytes behind the good text cannot begin a character, no more bytes lengthen it.
+-- Where the bytes after the good text cannot begin a character, no more bytes lengthen it.
 pub valid_broken : (bs more : List ℕ) → is_some (utf8_error_len (drop (utf8_valid_len bs) bs)) ≡ true → utf8_valid_len (bs ++ more) ≡ utf8_valid_len bs
 valid_broken bs more e = ⊎_elim (λ l. absurd (longer l)) (λ l. let k = valid_more bs more in omega arith) (cases_lt (utf8_valid_len bs) (utf8_valid_len (bs ++ more)))
   where

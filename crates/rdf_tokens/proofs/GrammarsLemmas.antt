@@ -17,7 +17,7 @@ use Rattle.rdf_tokens.specs.Tokens.Tail.{goes_on, ended, broken}
 use Rattle.rdf_tokens.specs.Tokens.Outcome.{undecided, complete, token_too_long, bad_utf8, no_token, bad_escape}
 use Rattle.rdf_tokens.specs.Good.{good, mark, first_place, tokens_at, tokens_of, tail_of}
 use Rattle.rdf_tokens.specs.Unread.{Unread}
-use Rattle.rdf_tokens.specs.Scans.{is_end, HasRead, Reads, reading_of}
+use Rattle.rdf_tokens.specs.Scans.{is_end, HasScanned, Reads, reading_of}
 use Rattle.rdf_tokens.specs.Grammars.{counted}
 use Rattle.rdf_tokens.proofs.GoodLemmas.{good_front}
 use Rattle.rdf_tokens.proofs.TokensLemmas.{step_token}
@@ -63,7 +63,7 @@ tokens_of_count d limit bytes e =
     omega arith
 
 -- A scanner has given no more tokens than it has taken bytes, its end apart.
-pub given_few : (v : Unread) (bytes : List ℕ) (ts : List Token) → HasRead v bytes ts → counted ts ≤ length bytes
+pub given_few : (v : Unread) (bytes : List ℕ) (ts : List Token) → HasScanned v bytes ts → counted ts ≤ length bytes
 given_few v bytes ts r = by v.stopped v.ended r.reads
   where
     front : (e : Bool) (r : Reading) → tokens_of v.dialect v.limit bytes e ≡ with_tokens ts r → counted ts ≤ length bytes

@@ -19,7 +19,7 @@ use Rattle.rdf_tokens.proofs.PlaceLemmas.{feeds-chars, past-chars}
 use Rattle.rdf_tokens.proofs.PastGood.{valid_past}
 use Rattle.rdf_tokens.proofs.ReadLemmas.{begins_nil}
 
--- what is left behind the good text begins a character
+-- what is left after the good text begins a character
 begins_rest : (bytes : List ℕ) → is_broken bytes ≡ false → BeginsChar (rest_of_bytes bytes)
 begins_rest bytes b =
     let whole : good_bytes bytes ++ rest_of_bytes bytes ≡ bytes = take-append-drop (utf8_valid_len bytes) bytes in
@@ -140,7 +140,7 @@ module _ (text : List ℕ) (start n len : ℕ) (pending : List ℕ) (place taken
           last = h.last;
         }
 
--- the place behind all of the text
+-- the place after all of the text
 pub place_behind : (text : List ℕ) (start : ℕ) (pending : List ℕ) (place taken : Place) → Held text start pending place taken → IsUtf8 text →
     beyond place (drop start text) ≡ past place (chars (drop start text))
 place_behind text start pending place taken h u = sym (past-chars place (drop start text) (IsUtf8-drop text start u h.boundary))

@@ -7,7 +7,7 @@ use Rattle.rdf_tokens.specs.Unread.{Unread}
 use Rattle.rdf_tokens.specs.declared.scanner.Scanner.TheInside.{Inside}
 
 module _ {Z : Type 0} where
-  -- with a place behind the bytes that were taken
+  -- with a place after the bytes that were taken
   abbrev pub unread_at : Inside Z → Place → Unread
   unread_at s p = record {
     dialect = s.dialect;

@@ -15,7 +15,7 @@ use Rattle.rdf_tokens.specs.Tokens.{Token, step, read, tokens}
 use Rattle.rdf_tokens.specs.Tokens.Outcome.{undecided, complete, no_token, bad_utf8}
 use Rattle.rdf_tokens.specs.Good.{end_of, tokens_of}
 use Rattle.rdf_tokens.specs.Unread.{Unread}
-use Rattle.rdf_tokens.specs.Scans.{HasRead, IsToken}
+use Rattle.rdf_tokens.specs.Scans.{HasScanned, IsToken}
 use Rattle.rdf_tokens.specs.Laws.{IsBeginning, IsNext, StandsIn, text_at, IsLongest, HasNoFront, IsLongestIn, EndsFor}
 use Rattle.rdf_tokens.proofs.ReadLemmas.{unread}
 use Rattle.rdf_tokens.proofs.LawLemmas.{lengthens, given_beginning, next_given, places, have_shapes, end_last}
@@ -56,7 +56,7 @@ given_one = record (unread Turtle 8 (32 ∷ 46 ∷ []) []) {
   ended = true;
 }
 
-has_given_one : HasRead given_one (49 ∷ 32 ∷ 46 ∷ []) (one ∷ [])
+has_given_one : HasScanned given_one (49 ∷ 32 ∷ 46 ∷ []) (one ∷ [])
 unfolding given_one tokens_of tokens read step kind_of is_live shape has chars utf8_valid_len utf8_error_len is_utf8 encode one is_fit
 has_given_one = record { taken = refl; reads = refl }
 
@@ -76,7 +76,7 @@ given_end = record (unread Turtle 8 [] []) {
   stopped = true;
 }
 
-has_given_end : HasRead given_end (49 ∷ 32 ∷ 46 ∷ []) (one ∷ dot ∷ end ∷ [])
+has_given_end : HasScanned given_end (49 ∷ 32 ∷ 46 ∷ []) (one ∷ dot ∷ end ∷ [])
 unfolding given_end
 has_given_end = record {
   taken = refl;

@@ -14,7 +14,7 @@ use Rattle.rdf_tokens.specs.Good.{first_place, good, mark, tail_of, end_of, toke
 use Rattle.rdf_terms.specs.declared.reason.Reason.{Reason}
 use Rattle.rdf_terms.specs.declared.reason.Reason.TheVariants.{BadUtf8, NoToken, BadEscape, TokenTooLong, Ended}
 use Rattle.rdf_tokens.specs.Unread.{Unread}
-use Rattle.rdf_tokens.specs.Scans.{Reads, HasRead, IsToken, Stops, StopsFor, token_of, place_of as fault_place}
+use Rattle.rdf_tokens.specs.Scans.{Reads, HasScanned, IsToken, Stops, StopsFor, token_of, place_of as fault_place}
 use Rattle.rdf_tokens.specs.Laws.{IsBeginning, MoreBytesOnlyLengthen, GivenTokensAreABeginning, IsStop, NextTokenIsGiven, IsPlaceIn, StandsIn, TokensStandAtTheirPlaces, TokensHaveShapes, NoEnd, EndsWell, EndStandsLast}
 use Rattle.rdf_tokens.proofs.TokensLemmas.{at_stop, at_token, shorter, same_outcome, more_tokens}
 use Rattle.rdf_tokens.specs.Moves.{is_broken}
@@ -51,7 +51,7 @@ module _ (d : Dialect) (limit : ℕ) (t : Tail) (P : Place → List ℕ → Read
   pub by_steps : (b : Bool) (p : Place) (w : List ℕ) → P p w (tokens d limit t b p w)
   by_steps b p w = by_fuel (suc (length w)) b p w (omega arith)
 
--- the tokens of some bytes, behind the mark
+-- the tokens of some bytes, after the byte order mark
 pub tokens_of-tokens : (d : Dialect) (limit : ℕ) (bytes : List ℕ) (e : Bool) → tokens_of d limit bytes e
     ≡ tokens d limit (tail_of bytes e) false (past first_place (take (mark (good bytes)) (good bytes))) (drop (mark (good bytes)) (good bytes))
 unfolding tokens_of
@@ -110,7 +110,7 @@ given_beginning v bytes ts h = by_stop v.stopped v.ended h.reads
     by_stop false false r = (_, ap (λ x. x.tokens) (ap (λ b. tokens_of v.dialect v.limit b false) (sym (append-nil bytes)) ∙ r [] false))
 
 -- a scanner that has stopped has given all
-given_all : (v : Unread) (bytes : List ℕ) (ts : List Token) → v.stopped ≡ true → HasRead v bytes ts →
+given_all : (v : Unread) (bytes : List ℕ) (ts : List Token) → v.stopped ≡ true → HasScanned v bytes ts →
     ((tokens_of v.dialect v.limit bytes v.ended).tokens ≡ ts) × ((tokens_of v.dialect v.limit bytes v.ended).outcome ≢ undecided)
 given_all v bytes ts s h = subst (λ s. Reads s v.ended v bytes ts) s h.reads
 
@@ -207,7 +207,7 @@ record Reaches (bytes : List ℕ) (p : Place) (w : List ℕ) : Type 0 where
   place : p ≡ end_of front
 
 module _ (bytes : List ℕ) where
-  -- the place behind some characters
+  -- the place after some characters
   moves_on : (p : Place) (w : List ℕ) (n : ℕ) → Reaches bytes p w → Reaches bytes (past p (take n w)) (drop n w)
   moves_on p w n h =
       let a = encodes (take n w) in

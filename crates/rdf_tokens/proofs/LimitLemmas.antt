@@ -14,7 +14,7 @@ use Rattle.rdf_tokens.specs.Tokens.Step.{token, stop}
 use Rattle.rdf_tokens.specs.Tokens.Outcome.{complete, token_too_long}
 use Rattle.rdf_tokens.specs.Good.{tail_of, tokens_of}
 use Rattle.rdf_tokens.specs.Unread.{Unread}
-use Rattle.rdf_tokens.specs.Scans.{HasRead, GivesToken}
+use Rattle.rdf_tokens.specs.Scans.{HasScanned, GivesToken}
 use Rattle.rdf_tokens.proofs.TokensLemmas.{longer_take, step_token}
 use Rattle.rdf_tokens.proofs.StepLemmas.{step-kind}
 use Rattle.rdf_tokens.proofs.LawLemmas.{by_steps, tokens_of-tokens, given_beginning}
@@ -86,7 +86,7 @@ last_at P [] behind t h = All-head P t behind h
 last_at P (x ∷ ahead) behind t h = last_at P ahead behind t (All-tail P x (ahead ++ t ∷ behind) h)
 
 -- a token that a scanner gives
-pub given_short : (v w : Unread) (bytes : List ℕ) (ts : List Token) (t : Token) → HasRead v bytes ts → GivesToken v t w → length t.text ≤ v.limit
+pub given_short : (v w : Unread) (bytes : List ℕ) (ts : List Token) (t : Token) → HasScanned v bytes ts → GivesToken v t w → length t.text ≤ v.limit
 given_short v w bytes ts t h g =
     let b = given_beginning w bytes (ts ++ t ∷ []) (g.read bytes ts h) in
     let all : (tokens_of w.dialect w.limit bytes w.ended).tokens ≡ ts ++ t ∷ b.0 = b.1 ∙ append_assoc ts (t ∷ []) b.0 in

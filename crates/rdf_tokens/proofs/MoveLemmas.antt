@@ -11,7 +11,7 @@ use Rattle.rdf_tokens.specs.Tokens.Tail.{goes_on}
 use Rattle.rdf_tokens.specs.Tokens.Step.{token, stop}
 use Rattle.rdf_tokens.specs.Good.{mark, tokens_at, tokens_of}
 use Rattle.rdf_tokens.specs.Unread.{Unread}
-use Rattle.rdf_tokens.specs.Scans.{HasRead}
+use Rattle.rdf_tokens.specs.Scans.{HasScanned}
 use Rattle.rdf_tokens.specs.Moves.{BeginsChar, tail_now, is_settled, MayCome, moved, Stands, Moves}
 use Rattle.rdf_tokens.specs.Front.{bytes_of}
 use Rattle.rdf_tokens.specs.Blank.{comment_step, comment_after}
@@ -19,7 +19,7 @@ use Rattle.rdf_tokens.proofs.BlankLemmas.{blank_by, comment_by, blank-step, comm
 use Rattle.rdf_tokens.proofs.TokensLemmas.{at_stop, at_token, more_token}
 use Rattle.rdf_tokens.proofs.ReadLemmas.{read_now}
 
--- one move behind another
+-- one move after another
 pub moves_both : (a b c : Unread) (ts us : List Token) → Moves a ts b → Moves b us c → Moves a (ts ++ us) c
 moves_both a b c ts us m n = joined b.place b.begun b.comment b.text (subst (Moves a ts) m.same m) (subst (λ b. Moves b us c) m.same n)
   where
@@ -97,7 +97,7 @@ comment-rest d b (c ∷ w) e = comment-step d b c w ∙ go (comment_step d b c) 
     go None e h = refl
     go (Some b) e h = h b e
 
--- the reader stands behind them
+-- the reader stands after them
 abbrev pub bared : Unread → Unread
 bared v = moved v (past v.place (take (blank v.dialect v.comment v.text) v.text)) true (comment_after v.dialect v.comment v.text) (rest_of v.dialect v.comment v.text)
 
@@ -194,7 +194,7 @@ module _ (v : Unread) (s : Stands v) where
           ∙ there t x))
 
   -- there is no next token
-  pub read_stop : (bytes : List ℕ) (ts : List Token) (o : Outcome) → v.stopped ≡ false → BeginsChar v.pending → HasRead v bytes ts →
+  pub read_stop : (bytes : List ℕ) (ts : List Token) (o : Outcome) → v.stopped ≡ false → BeginsChar v.pending → HasScanned v bytes ts →
       step v.dialect v.limit (tail_now v) v.text ≡ stop o →
       tokens_of v.dialect v.limit bytes v.ended ≡ record { tokens = ts ++ end_tokens o v.place; outcome = o; at = stop_place o v.place v.text }
   read_stop bytes ts o p b r e =

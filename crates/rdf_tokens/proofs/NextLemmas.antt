@@ -1,4 +1,4 @@
--- What the next token is, behind white space and comments.
+-- What the next token is, after white space and comments.
 use Rattle.std.proofs.Common.{◌≡◌, ◌≢◌, inl, inr, not, ℕ, ◌+◌, ◌<◌, Bool, true, false, cond, List, [], ◌∷◌, ◌++◌, ◌||◌, ◌&&◌, is_some, refl, sym, ap, ◌∙◌, subst, ⊎_elim, length, take, drop, arith, length-drop, Option, Some, None}
 use Rattle.std.proofs.lemmas.List.{append-nil}
 use Rattle.std.proofs.lemmas.Bool.{le-ltb, or_parts, cases_Bool, cond-true, cond-false}
@@ -13,7 +13,7 @@ use Rattle.rdf_tokens.specs.Tokens.Step.{token, stop}
 use Rattle.rdf_tokens.specs.Tokens.Outcome.{undecided, complete, token_too_long, bad_utf8, no_token, bad_escape}
 use Rattle.rdf_tokens.specs.Good.{tokens_at, tokens_of}
 use Rattle.rdf_tokens.specs.Unread.{Unread}
-use Rattle.rdf_tokens.specs.Scans.{HasRead, IsOpen, SameScan, IsToken, GivesToken, Waits, Stops, StopsFor, left, is_end}
+use Rattle.rdf_tokens.specs.Scans.{HasScanned, IsOpen, SameScan, IsToken, GivesToken, Waits, Stops, StopsFor, left, is_end}
 use Rattle.rdf_tokens.specs.Moves.{BeginsChar, tail_now, is_settled, fault_place, IsGiven, moved, Stands, Moves}
 use Rattle.rdf_terms.specs.declared.reason.Reason.{Reason}
 use Rattle.rdf_terms.specs.declared.reason.Reason.TheVariants.{BadUtf8, NoToken, BadEscape, TokenTooLong}
@@ -80,8 +80,8 @@ module _ (old mid : Unread) (m : Moves old [] mid) (p : old.stopped ≡ false) (
   same : SameScan old mid
   same = record { dialect = ap (λ v. v.dialect) m.same; limit = ap (λ v. v.limit) m.same }
 
-  read_mid : (bytes : List ℕ) (ts : List Token) → HasRead old bytes ts → HasRead mid bytes ts
-  read_mid bytes ts r = subst (HasRead mid bytes) (append-nil ts) (read_on old mid bytes ts [] p b m r)
+  read_mid : (bytes : List ℕ) (ts : List Token) → HasScanned old bytes ts → HasScanned mid bytes ts
+  read_mid bytes ts r = subst (HasScanned mid bytes) (append-nil ts) (read_on old mid bytes ts [] p b m r)
 
   -- a token
   pub gives_token : (n : ℕ) (k : Kind) → step mid.dialect mid.limit (tail_now mid) mid.text ≡ token n k →

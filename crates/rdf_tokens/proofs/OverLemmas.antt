@@ -58,7 +58,7 @@ ends-early d bs at n limit s h es l e = ⊎_elim
     no_more : length (chars bs) ≤ limit → shaped_over d limit (chars bs) ≡ false
     no_more m = ap (λ b. b && (is_some (kind_at (state_of d (take (limit + 1) (chars bs)))) || goes_on d (state_of d (take (limit + 1) (chars bs))))) (le-ltb _ _ m)
 
--- some of a spelling is left behind a front of n characters
+-- some of a spelling is left after a front of n characters
 same_tests : (i j : ℕ) → nat_lt (suc i) (suc j) ≡ nat_lt i j
 same_tests i j = grind (arith, nat_tests)
 

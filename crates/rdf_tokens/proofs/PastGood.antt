@@ -39,7 +39,7 @@ module _ (u y : List ℕ) (text : IsUtf8 u) where
   pub valid_past : utf8_valid_len (u ++ y) ≡ length u + utf8_valid_len y
   valid_past = let a = low in let b = high in omega arith
 
-  -- the good text behind a text
+  -- the good text after a text
   pub good_past : good (u ++ y) ≡ chars u ++ good y
   good_past = ap (λ n. chars (take n (u ++ y))) valid_past ∙ (ap chars (take-append-add u y (utf8_valid_len y)) ∙ chars-append u (take (utf8_valid_len y) y) text)
 
@@ -54,7 +54,7 @@ module _ (u y : List ℕ) (text : IsUtf8 u) where
       ap (λ b. cond b (cond e ended goes_on) (cond (e || is_some (utf8_error_len (drop (utf8_valid_len (u ++ y)) (u ++ y)))) broken goes_on)) same_whole
       ∙ ap (λ r. cond (utf8_valid_len y == length y) (cond e ended goes_on) (cond (e || is_some (utf8_error_len r)) broken goes_on)) rest_past
 
--- bytes that begin no character behind the good text
+-- bytes that begin no character after the good text
 abbrev pub IsBroken : List ℕ → Type 0
 IsBroken bytes = is_some (utf8_error_len (drop (utf8_valid_len bytes) bytes)) ≡ true
 

@@ -1,4 +1,4 @@
--- Places behind bytes, and behind the characters that they spell.
+-- Places after bytes, and after the characters that they spell.
 use Rattle.std.proofs.Common.{◌≡◌, ℕ, ◌+◌, ◌/◌, ◌%◌, ◌≤◌, cond, List, [], ◌∷◌, ◌++◌, ◌==◌, refl, sym, ap, ◌∙◌, ⊎_elim, arith, length-append}
 use Rattle.std.proofs.lemmas.Bool.{cases_lt}
 use Rattle.std.proofs.lemmas.Bool.Decides.{nat_tests}
@@ -79,7 +79,7 @@ past-encodes p (c ∷ cs) =
     ∙ (ap (λ q. beyond q (encodes cs)) (place_same (ap (λ n. p.offset + n) (sym (length-encode c))) (ap (λ n. p.line + n) (sym (feeds-encode c))))
     ∙ beyond-append p (encode c) (encodes cs))
 
--- the place behind a text is that behind its bytes
+-- the place after a text is that after its bytes
 pub past-chars : (p : Place) (bytes : List ℕ) → IsUtf8 bytes → past p (chars bytes) ≡ beyond p bytes
 past-chars p bytes u =
     ap (past p) (ap chars (sym u.1.1) ∙ chars-encodes u.0 u.1.0) ∙ (past-encodes p u.0 ∙ ap (beyond p) u.1.1)

@@ -11,13 +11,13 @@ use Rattle.rdf_tokens.specs.Tokens.Tail.{goes_on, ended, broken}
 use Rattle.rdf_terms.specs.declared.kind.Dialect.{Dialect}
 use Rattle.rdf_tokens.specs.Good.{first_place, good, tail_of, tokens_at, tokens_of}
 use Rattle.rdf_tokens.specs.Unread.{Unread}
-use Rattle.rdf_tokens.specs.Scans.{most_bytes, reading_by, reading_of, Reads, HasRead, SameScan, IsOpen, TakesBytes}
+use Rattle.rdf_tokens.specs.Scans.{most_bytes, reading_by, reading_of, Reads, HasScanned, SameScan, IsOpen, TakesBytes}
 use Rattle.rdf_tokens.specs.Moves.{beyond, BeginsChar, good_bytes, rest_of_bytes, is_broken, counted, lengthened, grown, tail_now, moved, Moves}
 use Rattle.rdf_tokens.proofs.GoodLemmas.{good_front}
 use Rattle.rdf_tokens.proofs.PlaceLemmas.{end_of-append}
 use Rattle.rdf_tokens.proofs.PastGood.{good_past, tail_past, good_broken, still_broken, tail_broken}
 
--- what is read where nothing comes behind the pending bytes
+-- what is read where nothing comes after the pending bytes
 pending_good : (p : List ℕ) → BeginsChar p → good (p ++ []) ≡ []
 pending_good p b = ap good (append-nil p) ∙ (ap (λ n. chars (take n p)) b.none_whole ∙ chars-nil)
 
@@ -52,7 +52,7 @@ reading_known v e b h = by_broken v.broken refl
         ∙ ap (λ w. tokens_at v.dialect v.limit (tail_now v) v.begun v.comment v.place w) (ap (λ w. v.text ++ w) (pending_good v.pending b) ∙ append-nil v.text)
 
 -- what is read now
-pub read_now : (v : Unread) (bytes : List ℕ) (ts : List Token) → v.stopped ≡ false → BeginsChar v.pending → HasRead v bytes ts →
+pub read_now : (v : Unread) (bytes : List ℕ) (ts : List Token) → v.stopped ≡ false → BeginsChar v.pending → HasScanned v bytes ts →
     tokens_of v.dialect v.limit bytes v.ended ≡ with_tokens ts (tokens_at v.dialect v.limit (tail_now v) v.begun v.comment v.place v.text)
 read_now v bytes ts s b r =
     by_end v.ended refl (subst (λ s. Reads s v.ended v bytes ts) s r.reads)
@@ -68,9 +68,9 @@ with_both ts us r = ap (λ x. record { tokens = x; outcome = r.outcome; at = r.a
 
 -- tokens are read
 pub read_on : (v w : Unread) (bytes : List ℕ) (ts us : List Token) → v.stopped ≡ false → BeginsChar v.pending → Moves v us w →
-    HasRead v bytes ts → HasRead w bytes (ts ++ us)
+    HasScanned v bytes ts → HasScanned w bytes (ts ++ us)
 read_on v w bytes ts us s b m r =
-    subst (λ w. HasRead w bytes (ts ++ us)) (sym m.same) (record { taken = r.taken; reads = by_stop v.stopped s r.reads })
+    subst (λ w. HasScanned w bytes (ts ++ us)) (sym m.same) (record { taken = r.taken; reads = by_stop v.stopped s r.reads })
   where
     new : Unread
     new = moved v w.place w.begun w.comment w.text
@@ -97,8 +97,8 @@ read_on v w bytes ts us s b m r =
         by_end false h r = λ more e. r more e ∙ (ap (with_tokens ts) (comes v.broken refl h more e) ∙ with_both ts us _)
 
 -- a piece comes
-pub read_push : (v : Unread) (bytes piece : List ℕ) (ts : List Token) → v.stopped ≡ false → v.ended ≡ false → HasRead v bytes ts →
-    HasRead (grown v piece) (bytes ++ piece) ts
+pub read_push : (v : Unread) (bytes piece : List ℕ) (ts : List Token) → v.stopped ≡ false → v.ended ≡ false → HasScanned v bytes ts →
+    HasScanned (grown v piece) (bytes ++ piece) ts
 read_push v bytes piece ts s n r = by_broken v.broken refl
   where
     all : List ℕ
@@ -147,15 +147,15 @@ read_push v bytes piece ts s n r = by_broken v.broken refl
             ∙ (ap (λ b. tokens_of v.dialect v.limit b e) (append_assoc bytes piece more)
             ∙ (r (piece ++ more) e ∙ ap (with_tokens ts) (h more e))))
 
-    has_read : (w : Unread) → w.taken ≡ beyond v.taken piece → Reads w.stopped w.ended w (bytes ++ piece) ts → HasRead w (bytes ++ piece) ts
+    has_read : (w : Unread) → w.taken ≡ beyond v.taken piece → Reads w.stopped w.ended w (bytes ++ piece) ts → HasScanned w (bytes ++ piece) ts
     has_read w t h = record { taken = t ∙ (ap (λ p. beyond p piece) r.taken ∙ end_of-append bytes piece); reads = h }
 
-    by_broken : (k : Bool) → v.broken ≡ k → HasRead (grown v piece) (bytes ++ piece) ts
+    by_broken : (k : Bool) → v.broken ≡ k → HasScanned (grown v piece) (bytes ++ piece) ts
     by_broken true x =
-        subst (λ w. HasRead w (bytes ++ piece) ts) (sym (cond-true v.broken (counted v piece) (lengthened v piece) x))
+        subst (λ w. HasScanned w (bytes ++ piece) ts) (sym (cond-true v.broken (counted v piece) (lengthened v piece) x))
         (has_read (counted v piece) refl (reads (counted v piece) refl refl refl refl (counts v.broken x)))
     by_broken false x =
-        subst (λ w. HasRead w (bytes ++ piece) ts) (sym (cond-false v.broken (counted v piece) (lengthened v piece) x))
+        subst (λ w. HasScanned w (bytes ++ piece) ts) (sym (cond-false v.broken (counted v piece) (lengthened v piece) x))
         (has_read (lengthened v piece) refl (reads (lengthened v piece) refl refl refl refl (grows v.broken x)))
 
 -- what a scanner has read where bytes were taken
@@ -175,7 +175,7 @@ takes_bytes old new piece n s e within progress most is =
       within = within;
       progress = progress;
       most = most;
-      read = λ bytes ts r. subst (λ w. HasRead w (bytes ++ take n piece) ts) (sym is) (read_push old bytes (take n piece) ts s e r);
+      read = λ bytes ts r. subst (λ w. HasScanned w (bytes ++ take n piece) ts) (sym is) (read_push old bytes (take n piece) ts s e r);
     }
 
     by_broken : (k : Bool) → old.broken ≡ k → TakesBytes old piece n (grown old (take n piece))
@@ -189,7 +189,7 @@ takes_bytes old new piece n s e within progress most is =
         (taken (lengthened old (take n piece)) (record { dialect = refl; limit = refl }) (record { running = s; more = e }) size (sym c))
 
 -- the end comes
-pub read_last : (v : Unread) (bytes : List ℕ) (ts : List Token) → v.stopped ≡ false → HasRead v bytes ts → HasRead (record v { ended = true }) bytes ts
+pub read_last : (v : Unread) (bytes : List ℕ) (ts : List Token) → v.stopped ≡ false → HasScanned v bytes ts → HasScanned (record v { ended = true }) bytes ts
 read_last v bytes ts s r = record { taken = r.taken; reads = by_stop v.stopped v.ended s r.reads }
   where
     same : (k : Bool) → reading_by k v [] true ≡ reading_by k (record v { ended = true }) [] true
@@ -221,11 +221,11 @@ unread d limit text pending = record {
   stopped = false;
 }
 
-read_nothing : (d : Dialect) (limit : ℕ) → HasRead (unread d limit [] []) [] []
+read_nothing : (d : Dialect) (limit : ℕ) → HasScanned (unread d limit [] []) [] []
 unfolding tokens_of
 read_nothing d limit = record { taken = refl; reads = λ more e. refl }
 
-pub read_new : (d : Dialect) (limit : ℕ) (bytes pending : List ℕ) → bytes ≡ [] → pending ≡ [] → HasRead (unread d limit (chars bytes) pending) [] []
+pub read_new : (d : Dialect) (limit : ℕ) (bytes pending : List ℕ) → bytes ≡ [] → pending ≡ [] → HasScanned (unread d limit (chars bytes) pending) [] []
 read_new d limit bytes pending a b =
-    subst (λ x. HasRead (unread d limit x pending) [] []) (sym (ap chars a ∙ chars-nil))
-    (subst (λ x. HasRead (unread d limit [] x) [] []) (sym b) (read_nothing d limit))
+    subst (λ x. HasScanned (unread d limit x pending) [] []) (sym (ap chars a ∙ chars-nil))
+    (subst (λ x. HasScanned (unread d limit [] x) [] []) (sym b) (read_nothing d limit))

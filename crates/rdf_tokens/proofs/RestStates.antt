@@ -21,7 +21,7 @@ use Rattle.rdf_tokens.specs.Iri as iri
 use Rattle.rdf_tokens.specs.Text as text
 use Rattle.rdf_tokens.proofs.RestLemmas.{rests_run}
 
--- the states that are left as they are, told apart
+-- the states that are left as they are, one by one
 abbrev place : State → ℕ
 place (state.Iri iri_state.Inside) = 1
 place (state.Text (text_state.Short Double)) = 2

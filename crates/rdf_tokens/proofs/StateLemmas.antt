@@ -29,7 +29,7 @@ use Rattle.rdf_tokens.proofs.FrontLemmas.{longest-by, longest_by-same, longest_b
 use Rattle.rdf_tokens.proofs.SpellingLemmas.{only_long-table, table-front, table-live}
 use Rattle.rdf_tokens.proofs.MachineLemmas.{whole-kind, whole-live}
 
--- no shape comes behind a state that does not go on
+-- no shape comes after a state that does not go on
 abbrev pub Stuck : Dialect → State → Type 0
 Stuck d s = (goes_on d s ≡ false) × (kind_at s ≡ None)
 
@@ -66,7 +66,7 @@ stuck_run : (d : Dialect) (s : State) (c : ℕ) (v : List ℕ) → goes_on d s �
 stuck_run d s c [] e = stuck_one d s c e
 stuck_run d s c (x ∷ v) e = stuck_run d (step d s c) x v (stuck_one d s c e).0
 
--- the state behind a longer front
+-- the state after a longer front
 pub longer_state : (d : Dialect) (w : List ℕ) (n k : ℕ) → n + k < length w → goes_on d (state_of d (take n w)) ≡ false → Stuck d (state_of d (take (n + suc k) w))
 longer_state d w n k l e =
     let more : take (suc k) (drop n w) ≡ get_or w n 0 ∷ take k (drop (n + 1) w) = ap (take (suc k)) (drop_more w n 0 (omega arith)) in
@@ -117,7 +117,7 @@ reached-step d bs at next c s s' k b b' r e en l es ek eb =
     let st : s' ≡ state_of d (take (r.n + 1) (chars bs)) = es ∙ run-more (step d) Start s (chars bs) _ r.n c p.0 r.state in
     record { n = r.n + 1; here = p.1; state = st; front = front-more d (chars bs) r.n next s' k b b' st p.1.bytes ek r.front eb }
 
--- behind the first character
+-- after the first character
 pub reached-first : (d : Dialect) (bs : List ℕ) (at c : ℕ) (s : State) → IsUtf8 bs → bs ≡ encode_utf8 c ++ drop at bs → at ≡ 0 + len_utf8 c → at ≤ length bs →
     s ≡ step d Start c → Reached d bs at s (with_length at (kind_here d bs s) None)
 reached-first d bs at c s u e en l es =
@@ -129,7 +129,7 @@ pub reached-none : (d : Dialect) (bs : List ℕ) (at c : ℕ) → IsUtf8 bs → 
 reached-none d bs at c u e en l es =
     reached-step d bs 0 at c Start Dead None None None (reached-start d bs u) e en l es (sym (no_long (three_quotes d (chars bs)))) refl
 
--- the front that ends where the states are is told twice
+-- the front that ends where the states are is given twice
 pub reached-again : (d : Dialect) (bs : List ℕ) (at : ℕ) (s : State) (b : Option (ℕ × Kind)) → 0 < at → Reached d bs at s b →
     Reached d bs at s (with_length at (kind_here d bs s) b)
 reached-again d bs at s b l r = record { n = r.n; here = r.here; state = r.state; front = go r.n refl }
@@ -179,7 +179,7 @@ reached-end d bs at s b r l =
       r.state ∙ ap (state_of d) (take_all r.n w (omega arith)),
     )
 
--- what is known behind the loop
+-- what is known after the loop
 pub reached-out : (d : Dialect) (bs : List ℕ) (at : ℕ) (s : State) (b : Option (ℕ × Kind)) → Reached d bs at s b → (length bs ≤ at) ⊎ (goes_on d s ≡ false) →
     (b ≡ in_bytes (chars bs) (longest_by (kind_by_states d (chars bs)) (chars bs) (length (chars bs)))) × (open_state d s ≡ open_state d (state_of d (chars bs)))
 reached-out d bs at s b r h = ⊎_elim

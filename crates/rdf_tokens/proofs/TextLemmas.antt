@@ -50,7 +50,7 @@ abbrev long : Quote → Class
 long Double = long_double
 long Single = long_single
 
--- a character or an escape; what is left behind a backslash
+-- a character or an escape; what is left after a backslash
 abbrev part : Class → Regex
 part k = one k ∣ echar ∣ uchar
 

@@ -365,7 +365,7 @@ pub at_token : (d : Dialect) (limit : ℕ) (t : Tail) (b : Bool) (p : Place) (w 
 at_token d limit t b p w n k e =
     tokens-step d limit t b p w ∙ ap (λ s. go_on s (place_of d b p w) (rest_of d b w) (λ q v. tokens d limit t false q v)) e
 
--- the same with more characters behind
+-- the same with more characters after
 more_stop : (d : Dialect) (limit : ℕ) (b : Bool) (p : Place) (w : List ℕ) (o : Outcome) → step d limit goes_on (rest_of d b w) ≡ stop o →
     o ≢ undecided → (t : Tail) (v : List ℕ) → tokens d limit t b p (w ++ v) ≡ tokens d limit goes_on b p w
 more_stop d limit b p w o e n t v =

@@ -19,7 +19,7 @@ use Rattle.rdf_tokens.proofs.FrontLemmas.{AtMost, longest_by-at_most}
 use Rattle.rdf_tokens.proofs.GoodLemmas.{good_front}
 use Rattle.rdf_tokens.proofs.SpellingLemmas.{quotes-bytes}
 
--- three quotes come first or not, whatever comes behind three bytes
+-- three quotes come first or not, whatever comes after three bytes
 quotes-more : (d : Dialect) (bs more : List ℕ) → 3 ≤ length bs → three_quotes d (bs ++ more) ≡ three_quotes d bs
 quotes-more Lines bs more l = refl
 quotes-more Turtle [] more l = absurd (omega arith)
@@ -83,7 +83,7 @@ pub walked-more : (d : Dialect) (bs more : List ℕ) (old : Option Walk) → IsU
 walked-more d bs more None u v h = tt
 walked-more d bs more (Some w) u v h = record { enough = h.enough; reached = reached-more d bs more w.at w.state (with_length w.len w.kind None) u v h.enough h.reached }
 
--- where a piece comes behind the rest of a text
+-- where a piece comes after the rest of a text
 pub walked_grown : (d : Dialect) (text new : List ℕ) (start : ℕ) (old : Option Walk) (bytes : List ℕ) → IsUtf8 text → IsCharBoundary text start →
     new ≡ drop start text ++ good_bytes bytes → Walked d (drop start text) old → Walked d new old
 walked_grown d text new start old bytes u b e h =

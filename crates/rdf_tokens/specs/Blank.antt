@@ -1,9 +1,9 @@
--- White space and comments: whether a comment is open behind them.
+-- White space and comments: whether a comment is open after them.
 use Rattle.std.specs.Prelude.{ℕ, Bool, true, false, cond, List, [], ◌∷◌, ◌==◌, Option, Some, None}
 use Rattle.rdf_terms.specs.declared.kind.Dialect.{Dialect}
 use Rattle.rdf_tokens.specs.Tokens.{is_line_end, is_space}
 
--- where a character of white space or of a comment leads: whether a comment is open behind it
+-- where a character of white space or of a comment leads: whether a comment is open after it
 abbrev pub comment_step : Dialect → Bool → ℕ → Option Bool
 comment_step d false c = cond (is_space d c) (Some false) (cond (c == 35) (Some true) None)
 comment_step d true c = cond (is_line_end c) (cond (is_space d c) (Some false) None) (Some true)

@@ -50,7 +50,7 @@ abbrev pub fits : Bool → ℕ → ℕ → Bool
 fits false c x = x == c
 fits true c x = x == c || x == c + 32
 
--- what is left of a spelling behind a text that begins it
+-- what is left of a spelling after a text that begins it
 abbrev pub left : Bool → List ℕ → List ℕ → Option (List ℕ)
 left b s [] = Some s
 left b [] (x ∷ w) = None

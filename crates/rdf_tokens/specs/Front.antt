@@ -57,7 +57,7 @@ pub record IsAt (bs : List ℕ) (at n : ℕ) : Type 0 where
   pub left : drop n (chars bs) ≡ chars (drop at bs)
   pub bytes : at ≡ bytes_of n (chars bs)
 
--- the state behind a text
+-- the state after a text
 abbrev pub state_of : Dialect → List ℕ → State
 state_of d u = run (step d) Start u
 
@@ -69,7 +69,7 @@ kind_by_states d w u = only_long (three_quotes d w) (kind_at (state_of d u))
 abbrev pub kind_here : Dialect → List ℕ → State → Option Kind
 kind_here d bs s = only_long (three_quotes d (chars bs)) (kind_at s)
 
--- a state behind which more may come
+-- a state after which more may come
 abbrev pub open_state : Dialect → State → Option State
 open_state d s = cond (goes_on d s) (Some s) None
 
@@ -80,7 +80,7 @@ pub record Reached (d : Dialect) (bs : List ℕ) (at : ℕ) (s : State) (best : 
   pub state : s ≡ state_of d (take n (chars bs))
   pub front : best ≡ in_bytes (chars bs) (longest_by (kind_by_states d (chars bs)) (chars bs) n)
 
--- The bytes between two places leave a state as it is: whichever character begins with one of them, the state behind it is the same.
+-- The bytes between two places leave a state as it is: whichever character begins with one of them, the state after it is the same.
 -- The characters there are whole.
 pub record Rests (s : State) (bs : List ℕ) (at end : ℕ) : Type 0 where
   pub from : at ≤ end

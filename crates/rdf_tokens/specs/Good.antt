@@ -1,4 +1,4 @@
--- The good text of some bytes, what comes behind it, and the tokens of the bytes.
+-- The good text of some bytes, what comes after it, and the tokens of the bytes.
 use Prim.Native.Char.{code}
 use Rattle.std.specs.Prelude.{ℕ, ◌+◌, ◌-◌, ◌^◌, Bool, true, false, cond, List, [], ◌∷◌, length, take, drop, count_by, is_some, ◌==◌, ◌||◌}
 use Rattle.std.specs.Str.{chars}
@@ -13,23 +13,23 @@ use Rattle.rdf_tokens.specs.Tokens.Tail.{goes_on, ended, broken}
 abbrev pub good : List ℕ → List ℕ
 good bytes = chars (take (utf8_valid_len bytes) bytes)
 
--- Bytes behind it either cannot begin a character, or are the beginning of one that has not come whole.
+-- Bytes after it either cannot begin a character, or are the beginning of one that has not come whole.
 abbrev pub tail_of : List ℕ → Bool → Tail
 tail_of bytes is_end = cond (utf8_valid_len bytes == length bytes) (cond is_end ended goes_on)
     (cond (is_end || is_some (utf8_error_len (drop (utf8_valid_len bytes) bytes))) broken goes_on)
 
 -- one leading U+FEFF is dropped
-abbrev pub marked : List ℕ → Bool
-marked [] = false
-marked (c ∷ w) = c == 0xFEFF
+abbrev pub has_byte_order_mark : List ℕ → Bool
+has_byte_order_mark [] = false
+has_byte_order_mark (c ∷ w) = c == 0xFEFF
 
 abbrev pub mark : List ℕ → ℕ
-mark w = cond (marked w) 1 0
+mark w = cond (has_byte_order_mark w) 1 0
 
 abbrev pub first_place : Place
 first_place = record { offset = 0; line = 1 }
 
--- the place behind some bytes: their number, and one more than the line feeds in them
+-- the place after some bytes: their number, and one more than the line feeds in them
 abbrev pub end_of : List ℕ → Place
 end_of bytes = record { offset = length bytes; line = 1 + count_by (λ b. b == code "\n") bytes }
 

@@ -20,9 +20,9 @@ unmarked [] = []
 unmarked (q ∷ qs) = q.quad ∷ unmarked qs
 
 -- the quads whose mark is below n, in order
-abbrev pub before : ℕ → List Marked → List Quad
-before n [] = []
-before n (q ∷ qs) = cond (nat_lt q.mark n) (q.quad ∷ before n qs) (before n qs)
+abbrev pub quads_below : ℕ → List Marked → List Quad
+quads_below n [] = []
+quads_below n (q ∷ qs) = cond (nat_lt q.mark n) (q.quad ∷ quads_below n qs) (quads_below n qs)
 
 -- A grammar is a relation: the tokens are a document, and these are its quads with their marks.
 -- some document begins with the tokens
@@ -35,9 +35,9 @@ Shaped trees ts = Viable trees ts
 
 -- The quads that are due when the tokens have been accepted: in a document that begins with them, those whose head ends before the last of the tokens.
 abbrev pub Due : (List Token → List Marked → Type 0) → List Token → List Quad → Type 0
-Due documents ts qs = (more : List Token) × (all : List Marked) × documents (ts ++ more) all × (before (length ts) all ≡ qs)
+Due documents ts qs = (more : List Token) × (all : List Marked) × documents (ts ++ more) all × (quads_below (length ts) all ≡ qs)
 
--- no token of the list passes a limit, where the relation says that a token does so behind the tokens before it
+-- no token of the list passes a limit, where the relation says that a token does so after the tokens before it
 abbrev pub PassesNone : (List Token → Token → Type 0) → List Token → Type 0
 PassesNone passes ts = (ahead behind : List Token) (t : Token) → ts ≡ ahead ++ t ∷ behind → passes ahead t → ⊥
 

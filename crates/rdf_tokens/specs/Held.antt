@@ -12,7 +12,7 @@ use Rattle.rdf_tokens.specs.Scans.{most_bytes}
 abbrev pub IsPlace : Place → Type 0
 IsPlace p = p.line ≤ p.offset + 1
 
--- a text of which a front is read, the bytes behind it, the place where the rest begins, and that behind all bytes
+-- a text of which a front is read, the bytes after it, the place where the rest begins, and that after all bytes
 pub record Held (text : List ℕ) (start : ℕ) (pending : List ℕ) (place taken : Place) : Type 0 where
   pub boundary : IsCharBoundary text start
   pub begins : BeginsChar pending

@@ -17,7 +17,7 @@ use Rattle.rdf_tokens.specs.Tokens.{Place, Outcome, Token, Reading, three_quotes
 use Rattle.rdf_tokens.specs.Tokens.Outcome.{undecided, complete, token_too_long, bad_utf8, no_token, bad_escape}
 use Rattle.rdf_tokens.specs.Good.{tokens_of}
 use Rattle.rdf_tokens.specs.Unread.{Unread}
-use Rattle.rdf_tokens.specs.Scans.{HasRead, IsToken, Gives, token_of, place_of}
+use Rattle.rdf_tokens.specs.Scans.{HasScanned, IsToken, Gives, token_of, place_of}
 
 -- a list that goes on with further tokens
 abbrev pub IsBeginning : List Token → List Token → Type 0
@@ -31,7 +31,7 @@ MoreBytesOnlyLengthen = (d : Dialect) (limit : ℕ) (bytes more : List ℕ) (e :
 
 -- What a scanner has given is a beginning of the tokens of the bytes that it has taken.
 abbrev pub GivenTokensAreABeginning : Type 0
-GivenTokensAreABeginning = (v : Unread) (bytes : List ℕ) (ts : List Token) → HasRead v bytes ts →
+GivenTokensAreABeginning = (v : Unread) (bytes : List ℕ) (ts : List Token) → HasScanned v bytes ts →
     IsBeginning ts (tokens_of v.dialect v.limit bytes v.ended).tokens
 
 -- the outcome that a fault tells
@@ -47,16 +47,16 @@ Tells r o = ⊥
 abbrev pub IsStop : Reading → List Token → Reason → Place → Type 0
 IsStop r ts reason at = (r.tokens ≡ ts) × Tells reason r.outcome × (reason ≢ Ended → at ≡ r.at)
 
--- the next token behind some, or that more bytes decide it, or why there is none
+-- the next token after some, or that more bytes decide it, or why there is none
 abbrev pub IsNext : Reading → List Token → Result (Option Given) Fault → Type 0
 IsNext r ts (Ok (Some t)) = IsBeginning (ts ++ token_of t ∷ []) r.tokens
 IsNext r ts (Ok None) = (r.tokens ≡ ts) × (r.outcome ≡ undecided)
 IsNext r ts (Err f) = IsStop r ts f.reason (place_of f)
 
--- What a scanner gives is next among the tokens of the bytes that it has taken, behind those that it has given.
+-- What a scanner gives is next among the tokens of the bytes that it has taken, after those that it has given.
 abbrev pub NextTokenIsGiven : Type 0
 NextTokenIsGiven = (old new : Unread) (bytes : List ℕ) (ts : List Token) (result : Result (Option Given) Fault) →
-    HasRead old bytes ts → Gives old result new → IsNext (tokens_of old.dialect old.limit bytes old.ended) ts result
+    HasScanned old bytes ts → Gives old result new → IsNext (tokens_of old.dialect old.limit bytes old.ended) ts result
 
 -- a place within some bytes: its line is one more than the line feeds before it
 pub record IsPlaceIn (bytes : List ℕ) (p : Place) : Type 0 where

@@ -14,7 +14,7 @@ use Rattle.rdf_tokens.specs.Tokens.Outcome.{undecided, complete, token_too_long,
 use Rattle.rdf_tokens.specs.Tokens.Step.{token, stop}
 use Rattle.rdf_tokens.specs.Front.{bytes_of}
 
--- what comes behind the text, by the code's name for it
+-- what comes after the text, by the code's name for it
 abbrev pub behind : Behind → Tail
 behind GoesOn = goes_on
 behind Ended = ended

@@ -19,7 +19,7 @@ pub record BeginsChar (bytes : List ℕ) : Type 0 where
 abbrev pub good_bytes : List ℕ → List ℕ
 good_bytes bytes = take (utf8_valid_len bytes) bytes
 
--- the bytes behind the good text
+-- the bytes after the good text
 abbrev pub rest_of_bytes : List ℕ → List ℕ
 rest_of_bytes bytes = drop (utf8_valid_len bytes) bytes
 
@@ -27,15 +27,15 @@ rest_of_bytes bytes = drop (utf8_valid_len bytes) bytes
 abbrev pub is_broken : List ℕ → Bool
 is_broken bytes = is_some (utf8_error_len (rest_of_bytes bytes))
 
--- the place behind some bytes
+-- the place after some bytes
 abbrev pub beyond : Place → List ℕ → Place
 beyond p bytes = record { offset = p.offset + length bytes; line = p.line + count_by (λ b. b == 10) bytes }
 
--- a piece came behind bytes that begin no character
+-- a piece came after bytes that begin no character
 abbrev pub counted : Unread → List ℕ → Unread
 counted v piece = record v { taken = beyond v.taken piece }
 
--- a piece came behind bytes that are good, or may become so
+-- a piece came after bytes that are good, or may become so
 abbrev pub lengthened : Unread → List ℕ → Unread
 lengthened v piece = record v {
   text = v.text ++ good (v.pending ++ piece);
@@ -52,11 +52,11 @@ grown v piece = cond v.broken (counted v piece) (lengthened v piece)
 abbrev pub closed : Unread → Unread
 closed v = cond v.stopped v (record v { ended = true })
 
--- what comes behind the text, as far as it is known
+-- what comes after the text, as far as it is known
 abbrev pub tail_now : Unread → Tail
 tail_now v = cond v.broken broken (cond v.ended (cond (is_empty v.pending) ended broken) goes_on)
 
--- a tail and characters that may come behind the text: only what is known, once it is known
+-- a tail and characters that may come after the text: only what is known, once it is known
 abbrev pub MayCome : Unread → Tail → List ℕ → Type 0
 MayCome v t x = ((t ≡ tail_now v) × (x ≡ [])) ⊎ ((v.broken ≡ false) × (v.ended ≡ false))
 
@@ -64,7 +64,7 @@ MayCome v t x = ((t ≡ tail_now v) × (x ≡ [])) ⊎ ((v.broken ≡ false) × 
 abbrev pub moved : Unread → Place → Bool → Bool → List ℕ → Unread
 moved v p begun comment text = record v { place = p; begun = begun; comment = comment; text = text }
 
--- The token of n characters was given, and the reader stands behind it.
+-- The token of n characters was given, and the reader stands after it.
 pub record IsGiven (old : Unread) (k : Kind) (n : ℕ) (t : Token) (new : Unread) : Type 0 where
   pub token : t ≡ record { kind = k; text = take n old.text; at = old.place }
   pub moved_on : new ≡ moved old (past old.place (take n old.text)) old.begun false (drop n old.text)

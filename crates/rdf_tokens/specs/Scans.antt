@@ -32,7 +32,7 @@ Reads false true v bytes ts = tokens_of v.dialect v.limit bytes true ≡ with_to
 Reads false false v bytes ts = (more : List ℕ) (e : Bool) → tokens_of v.dialect v.limit (bytes ++ more) e ≡ with_tokens ts (reading_of v more e)
 
 -- The scanner has taken these bytes and has given these tokens.
-pub record HasRead (v : Unread) (bytes : List ℕ) (ts : List Token) : Type 0 where
+pub record HasScanned (v : Unread) (bytes : List ℕ) (ts : List Token) : Type 0 where
   pub taken : v.taken ≡ end_of bytes
   pub reads : Reads v.stopped v.ended v bytes ts
 
@@ -69,7 +69,7 @@ pub record TakesBytes (old : Unread) (piece : List ℕ) (n : ℕ) (new : Unread)
   pub within : n ≤ length piece
   pub progress : 0 < length piece → 0 < n
   pub most : new.taken.offset ≤ most_bytes
-  pub read : (bytes : List ℕ) (ts : List Token) → HasRead old bytes ts → HasRead new (bytes ++ take n piece) ts
+  pub read : (bytes : List ℕ) (ts : List Token) → HasScanned old bytes ts → HasScanned new (bytes ++ take n piece) ts
 
 -- why a piece was not taken
 abbrev pub RefusesFor : Reason → Unread → List ℕ → Place → Unread → Type 0
@@ -92,14 +92,14 @@ pub record GivesToken (old : Unread) (t : Token) (new : Unread) : Type 0 where
   pub token : IsToken old.dialect t
   pub less : left new < left old
   pub stops : new.stopped ≡ cond (is_end t.kind) true false
-  pub read : (bytes : List ℕ) (ts : List Token) → HasRead old bytes ts → HasRead new bytes (ts ++ t ∷ [])
+  pub read : (bytes : List ℕ) (ts : List Token) → HasScanned old bytes ts → HasScanned new bytes (ts ++ t ∷ [])
 
 -- all tokens that the bytes decide were given
 pub record Waits (old new : Unread) : Type 0 where
   pub same : SameScan old new
   pub before : IsOpen old
   pub after : IsOpen new
-  pub read : (bytes : List ℕ) (ts : List Token) → HasRead old bytes ts → HasRead new bytes ts
+  pub read : (bytes : List ℕ) (ts : List Token) → HasScanned old bytes ts → HasScanned new bytes ts
       × ((tokens_of old.dialect old.limit bytes false).tokens ≡ ts) × ((tokens_of old.dialect old.limit bytes false).outcome ≡ undecided)
 
 -- no token stands at the place of the stop
@@ -108,7 +108,7 @@ pub record Stops (old : Unread) (o : Outcome) (at : Place) (new : Unread) : Type
   pub before : old.stopped ≡ false
   pub after : new.stopped ≡ true
   pub ended : new.ended ≡ old.ended
-  pub read : (bytes : List ℕ) (ts : List Token) → HasRead old bytes ts → HasRead new bytes ts
+  pub read : (bytes : List ℕ) (ts : List Token) → HasScanned old bytes ts → HasScanned new bytes ts
       × (tokens_of old.dialect old.limit bytes old.ended ≡ record { tokens = ts; outcome = o; at = at })
 
 -- why there is no next token

@@ -36,7 +36,7 @@ abbrev pub in_long : Quote → Sort → Text
 in_long q sort.Backslash = LongEscape q
 in_long q x = Long q
 
--- what comes behind a backslash
+-- what comes after a backslash
 abbrev pub escaped : (ℕ → Text) → Text → Sort → Text
 escaped hex inside sort.SmallU = hex 3
 escaped hex inside sort.BigU = hex 7

@@ -14,12 +14,12 @@ pub record Place : Type 0 where
   pub offset : ℕ
   pub line : ℕ
 
--- the place behind some characters
+-- the place after some characters
 abbrev pub past : Place → List ℕ → Place
 past p [] = p
 past p (c ∷ w) = past (record { offset = p.offset + len_utf8 c; line = p.line + cond (c == code "\n") 1 0 }) w
 
--- what comes behind the good text: more, nothing, or bytes that are no character
+-- what comes after the good text: more, nothing, or bytes that are no character
 pub data Tail : Type 0 where
   goes_on : Tail
   ended : Tail

@@ -14,13 +14,13 @@ pub record Unread : Type 0 where
   pub comment : Bool
   -- the characters that came whole
   pub text : List ℕ
-  -- the bytes behind them, which begin a character
+  -- the bytes after them, which begin a character
   pub pending : List ℕ
-  -- bytes that can begin no character stand behind the text
+  -- bytes that can begin no character stand after the text
   pub broken : Bool
-  -- the place behind all bytes that were taken
+  -- the place after all bytes that were taken
   pub taken : Place
   -- no more bytes come
   pub ended : Bool
-  -- a fault was told, or the end was given
+  -- a fault was reported, or the end was given
   pub stopped : Bool

@@ -17,7 +17,7 @@ abbrev pub Walked : Dialect → List ℕ → Option Walk → Type 0
 Walked d bs None = Unit {0}
 Walked d bs (Some w) = IsWalk d bs w
 
--- what is kept behind a text of so many bytes: where the states go on, all of it
+-- what is kept after a text of so many bytes: where the states go on, all of it
 abbrev pub walk_kept : Option Walk → ℕ → ℕ → Option Kind → Option State → Option Walk
 walk_kept old n len kind None = old
 walk_kept old n len kind (Some s) = cond (nat_lt n 3) old (Some (record { state = s; at = n; len = len; kind = kind }))

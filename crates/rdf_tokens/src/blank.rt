@@ -13,7 +13,7 @@ use rdf_terms::Dialect;
 pub(crate) struct Blank {
     /// How many bytes they have.
     pub(crate) len: usize,
-    /// They are the whole text, and a comment goes on behind it.
+    /// They are the whole text, and a comment goes on after it.
     pub(crate) in_comment: bool,
 }
 
@@ -48,7 +48,7 @@ fn blank_bytes(dialect: Dialect, in_comment: bool, bytes: &[u8]) -> Blank
     }
 }
 
-/// Whether a comment is open behind a byte; None where the byte is neither white space nor in a comment.
+/// Whether a comment is open after a byte; None where the byte is neither white space nor in a comment.
 fn behind(dialect: Dialect, in_comment: bool, byte: u8) -> Option<bool>
     ensures { result ≡ comment_step dialect in_comment byte }
 {

@@ -28,7 +28,7 @@ pub(crate) struct Front {
     pub(crate) live: bool,
 }
 
-/// How far the states have come in a token that is open: the state behind its bytes so far, and the longest token in them.
+/// How far the states have come in a token that is open: the state after its bytes so far, and the longest token in them.
 #[derive(Clone, Copy)]
 pub(crate) struct Walk {
     state: State,
@@ -57,7 +57,7 @@ pub(crate) fn front_of(dialect: Dialect, text: &str, walk: &mut Option<Walk>) ->
 }
 
 /// The same for the kinds that have states: the length and the kind of the longest, which a loop keeps in registers, and
-/// the state behind the whole text where it goes on.
+/// the state after the whole text where it goes on.
 #[derive(Drop)]
 struct Shaped {
     len: usize,
@@ -65,7 +65,7 @@ struct Shaped {
     state: Option<State>,
 }
 
-/// Keeps how far the states came where they go on. Behind fewer than three bytes quotes may still turn into those of a long string.
+/// Keeps how far the states came where they go on. After fewer than three bytes quotes may still turn into those of a long string.
 fn keep(walk: &mut Option<Walk>, len: usize, shaped: &Shaped)
     ensures { walk.new ≡ walk_kept walk.old len shaped.now.len shaped.now.kind shaped.now.state }
 {

@@ -20,7 +20,7 @@ const LANES: usize = 16;
 pub struct GoodText<'a> {
     /// The front.
     pub text: &'a str,
-    /// The bytes behind it can begin no character.
+    /// The bytes after it can begin no character.
     pub broken: bool,
 }
 

@@ -12,7 +12,7 @@ pub fn given_tokens_are_a_beginning()
     ensures { GivenTokensAreABeginning }
 {}
 
-/// What `next` gives is the next token of the bytes that the scanner has taken, behind those that it has given, or
+/// What `next` gives is the next token of the bytes that the scanner has taken, after those that it has given, or
 /// their outcome.
 pub fn next_token_is_given()
     ensures { NextTokenIsGiven }

@@ -10,7 +10,7 @@ use crate::front::{Walk, front_of};
 use crate::over::is_over;
 use rdf_terms::{Dialect, Kind, Reason, is_fit};
 
-/// What comes behind a text.
+/// What comes after a text.
 #[derive(Clone, Copy)]
 pub(crate) enum Tail {
     /// More may come.

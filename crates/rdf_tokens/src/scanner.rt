@@ -6,7 +6,7 @@ ghost use Rattle.std.specs.String.{string_bytes};
 ghost use mathlib.Core.Option.{none};
 ghost use Rattle.std.specs.Borrow.{sem, follows_so};
 ghost use Rattle.rdf_tokens.specs.Tokens.{Token as Read, past, step};
-ghost use Rattle.rdf_tokens.specs.Scans.{HasRead, IsOpen, Pushes, Gives, most_bytes, token_of, place_of};
+ghost use Rattle.rdf_tokens.specs.Scans.{HasScanned, IsOpen, Pushes, Gives, most_bytes, token_of, place_of};
 ghost use Rattle.rdf_tokens.specs.Look.{behind, IsLook};
 ghost use Rattle.rdf_tokens.specs.contracts.scanner.Scanner.{the_row};
 ghost use Rattle.rdf_tokens.specs.Moves.{closed, grown, good_bytes, is_broken, rest_of_bytes, is_settled, moved, tail_now, fault_place, is_flat, IsGiven, Moves, Stands};
@@ -35,7 +35,7 @@ pub struct Scanner<A: Allocator = Global> {
     start: usize,
     // How far the states have come in the token that the rest of the text begins with, where it is open.
     walk: Option<Walk>,
-    // The bytes behind the text that begin a character.
+    // The bytes after the text that begin a character.
     pending: Vec<u8, A>,
     broken: bool,
     begun: bool,
@@ -77,7 +77,7 @@ impl<A: Allocator> Model for Scanner<A> {
 impl<A: Allocator + Copy> Scanner<A> {
     /// A scanner that has read nothing. It takes no memory.
     pub fn new(alloc: A, dialect: Dialect, limit: u64) -> Scanner<A>
-        ensures read { HasRead result [] [] }
+        ensures read { HasScanned result [] [] }
         ensures dialect { result.dialect ≡ dialect }
         ensures limit { result.limit ≡ limit }
         ensures running { IsOpen result }
@@ -104,7 +104,7 @@ impl<A: Allocator + Copy> Scanner<A> {
     /// Says that no more bytes come. After a stop it does nothing.
     pub fn end(&mut self)
         ensures after { self.new ≡ closed self.old }
-        ensures read { (bytes : List ℕ) (ts : List Read) → HasRead self.old bytes ts → HasRead self.new bytes ts }
+        ensures read { (bytes : List ℕ) (ts : List Read) → HasScanned self.old bytes ts → HasScanned self.new bytes ts }
     {
         if !self.stopped {
             self.ended = true;
@@ -113,7 +113,7 @@ impl<A: Allocator + Copy> Scanner<A> {
 
     /// Takes bytes of the piece, and answers how many: at least one of a piece that is not empty. After a
     /// stop and after `end` it answers `Ended`. A document has at most 2^63 - 1 bytes: for a piece
-    /// behind them it answers `DocumentTooLong`. After that, and after `Memory`, the scanner is stopped.
+    /// after them it answers `DocumentTooLong`. After that, and after `Memory`, the scanner is stopped.
     pub fn push(&mut self, piece: &[u8]) -> Result<usize, Fault>
         ensures { Pushes self.old piece.now result self.new }
     {
@@ -130,8 +130,8 @@ impl<A: Allocator + Copy> Scanner<A> {
         }
     }
 
-    /// Gives the next token, or `None` where the bytes so far leave it undecided. Behind the last one it
-    /// gives `End`, once. A fault stands at the place of the token that is not there; `BadUtf8` behind
+    /// Gives the next token, or `None` where the bytes so far leave it undecided. After the last one it
+    /// gives `End`, once. A fault stands at the place of the token that is not there; `BadUtf8` after
     /// all of the text. After it, and after `End`, the scanner is stopped and answers `Ended`.
     pub fn next(&mut self) -> Result<Option<Token<'_>>, Fault>
         ensures* { sem 𝓛 (follows_so (the_row A.row A.Allocator) (the_row A.row A.Allocator) self.entry.ghost_name none (λ _ _. ⊤) (λ v. Gives self.old result v)) }
@@ -348,7 +348,7 @@ fn drop_front<A: Allocator + Copy>(text: &mut String<A>, start: usize) -> Result
     Ok(())
 }
 
-// Puts the characters of the bytes behind the text, and says whether the bytes behind them can begin no
+// Puts the characters of the bytes after the text, and says whether the bytes after them can begin no
 // character. If they can, they are kept. Where a growth is refused, nothing changes.
 fn add_piece<A: Allocator + Copy>(
     text: &mut String<A>,

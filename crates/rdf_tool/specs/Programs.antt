@@ -9,7 +9,7 @@ use Rattle.rdf_tool.specs.declared.task.Task.{Task}
 use Rattle.rdf_tool.specs.declared.task.WordsFault.{WordsFault}
 use Rattle.rdf_tool.specs.declared.task.WordsFault.TheVariants.{Memory}
 use Rattle.rdf_tool.specs.Runs.{RunEnds}
-use Rattle.rdf_tool.specs.Statuses.{GoesTo, Refuses, Tells}
+use Rattle.rdf_tool.specs.Statuses.{GoesTo, RefusesWords, Tells}
 use Rattle.rdf_tool.specs.Words.{GivesNone, GivesTask, IsUsageOf, TakesFormats, rdfconv}
 
 -- the words of the command line give the task
@@ -51,4 +51,4 @@ abbrev pub ProgramEnds : (List Text → Type 0) → Type 0 → (Option Text → 
 ProgramEnds has_words has_bad_word has_document is_shut status source out_old out err_old err =
     ((task : Task) × IsGiven has_words task × TaskEnds has_document is_shut task status source out_old out err_old err)
     ⊎ ((fault : WordsFault) × IsNotGiven has_words has_bad_word fault
-    × Refuses fault status err_old err.contents err.has_failed × GoesTo fault out_old out.contents err_old err.contents)
+    × RefusesWords fault status err_old err.contents err.has_failed × GoesTo fault out_old out.contents err_old err.contents)

@@ -32,10 +32,10 @@ abbrev pub IsUsageStatus : ErrorKind → ℕ → Type 0
 IsUsageStatus kind status = (kind ≡ DisplayHelp → status ≡ 0) × (kind ≢ DisplayHelp → kind ≢ DisplayVersion → status ≡ 2)
 
 -- the status of words that are no task, and the text that is told where it is no text of clap's
-abbrev pub Refuses : WordsFault → ℕ → Option (List ℕ) → Option (List ℕ) → Bool → Type 0
-Refuses (words.Usage e) status old new failed = IsUsageStatus (kind_of e) status
-Refuses words.BadBase status old new failed = (status ≡ 2) × Tells (codes "rdfconv: bad base\n") old new failed
-Refuses words.Memory status old new failed = (status ≡ 4) × Tells (report_text Memory) old new failed
+abbrev pub RefusesWords : WordsFault → ℕ → Option (List ℕ) → Option (List ℕ) → Bool → Type 0
+RefusesWords (words.Usage e) status old new failed = IsUsageStatus (kind_of e) status
+RefusesWords words.BadBase status old new failed = (status ≡ 2) × Tells (codes "rdfconv: bad base\n") old new failed
+RefusesWords words.Memory status old new failed = (status ≡ 4) × Tells (report_text Memory) old new failed
 
 -- help changes the output alone, and all else the error output alone
 abbrev pub GoesTo : {O E : Type 0} → WordsFault → O → O → E → E → Type 0

@@ -6,8 +6,8 @@ ghost use Rattle.rdf_iri.specs.Scope.{BaseFits};
 ghost use Rattle.rdf_stream.specs.Devices.{AppendsFront};
 ghost use Rattle.rdf_stream.specs.Messages.{report_text};
 ghost use Rattle.rdf_stream.specs.declared.fault.StreamFault.{StreamFault};
-ghost use Rattle.rdf_tool.specs.Runs.{Does, IsChecked, RunEnds, Stops, StopsCheck, accepted_text};
-ghost use Rattle.rdf_tool.specs.Statuses.{GoesTo, Refuses, Tells, TellsOf, status_of};
+ghost use Rattle.rdf_tool.specs.Runs.{Does, IsChecked, RunEnds, StopsAction, StopsCheck, accepted_text};
+ghost use Rattle.rdf_tool.specs.Statuses.{GoesTo, RefusesWords, Tells, TellsOf, status_of};
 
 use crate::task::{Action, Task, WordsFault};
 use clap::Error;
@@ -67,7 +67,7 @@ fn act<S: Source, O: Drain>(
     ensures accepted { OnOk result (IfSome (S.remaining source.old) (λ bytes. Does action job bytes (O.contents out.old) (O.contents out.new))) }
     ensures flushed { OnOk result (O.is_flushed out.new ≡ true) }
     ensures stops { IfErr result (λ fault.
-        Stops action fault job (S.remaining source.old) (S.remaining source.new) (S.has_failed source.new) (O.contents out.old) (O.contents out.new) (O.has_failed out.new)) }
+        StopsAction action fault job (S.remaining source.old) (S.remaining source.new) (S.has_failed source.new) (O.contents out.old) (O.contents out.new) (O.has_failed out.new)) }
 {
     match action {
         Action::Check => check_to(alloc, job, source, out),
@@ -195,7 +195,7 @@ pub fn refuse_words<O: Drain, E: Drain>(
 ) -> u8
     requires out { O.has_failed out.old ≡ false }
     requires err { E.has_failed err.old ≡ false }
-    ensures status { Refuses fault.now result (E.contents err.old) (E.contents err.new) (E.has_failed err.new) }
+    ensures status { RefusesWords fault.now result (E.contents err.old) (E.contents err.new) (E.has_failed err.new) }
     ensures goes { GoesTo fault.now (O.contents out.old) (O.contents out.new) (E.contents err.old) (E.contents err.new) }
 {
     match fault {

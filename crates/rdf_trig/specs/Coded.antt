@@ -110,7 +110,8 @@ abbrev mutual
   up_back (At p) = place_back p
 
 abbrev chain_code : Coded Chain
-chain_code = coded× coded_bool (coded× coded_bool (coded_list (coded⊎ (coded× (coded_option subject_code) (coded_option (coded_list coded_ℕ))) (coded× coded_ℕ coded_ℕ))))
+chain_code = coded× coded_bool (coded× coded_bool (coded_list
+    (coded⊎ (coded× (coded_option subject_code) (coded_option (coded_list coded_ℕ))) (coded× coded_ℕ coded_ℕ))))
 
 abbrev pub up_code : Coded Up
 up_code = code_by Chain chain_code up_to from up_back

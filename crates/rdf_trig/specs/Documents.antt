@@ -9,8 +9,7 @@ use Rattle.rdf_iri.specs.Texts.{byte_len}
 use Rattle.rdf_iri.specs.Scope.{InForce}
 use Rattle.rdf_trig.specs.declared.form.DocForm.{DocForm}
 use Rattle.rdf_trig.specs.Trees.{Document, document_tokens}
-use Rattle.rdf_trig.specs.Quads.{document_quads}
-use Rattle.rdf_trig.specs.Events.{Use, itself, stands, binds, Event, Took, tokens, Bound, document_events}
+use Rattle.rdf_trig.specs.Events.{Use, itself, stands, binds, Event, Took, tokens, event_quads, Bound, document_events}
 
 -- A tree of the form derives the tokens, each of its names and references stands for an IRI in the scope at its place, and these are its quads.
 -- The scope at the start has the base, or none, the bindings that were handed in, and the limits.
@@ -18,7 +17,7 @@ pub record IsDocument (form : DocForm) (start : InForce) (ts : List Token) (qs :
   pub tree : Document form
   pub tokens : ts ≡ document_tokens tree
   pub bound : Bound (document_events start tree)
-  pub quads : document_quads start 0 tree ≡ qs
+  pub quads : event_quads 0 (document_events start tree) ≡ qs
 
 abbrev pub documents : DocForm → InForce → List Token → List Marked → Type 0
 documents form start ts qs = IsDocument form start ts qs
@@ -27,12 +26,12 @@ documents form start ts qs = IsDocument form start ts qs
 pub record IsTree (form : DocForm) (start : InForce) (ts : List Token) (qs : List Marked) : Type 0 where
   pub tree : Document form
   pub tokens : ts ≡ document_tokens tree
-  pub quads : document_quads start 0 tree ≡ qs
+  pub quads : event_quads 0 (document_events start tree) ≡ qs
 
 abbrev pub trees : DocForm → InForce → List Token → List Marked → Type 0
 trees form start ts qs = IsTree form start ts qs
 
--- '[' and '(' that are open behind some tokens
+-- '[' and '(' that are open after some tokens
 abbrev pub opens : Kind → ℕ
 opens OpenBracket = 1
 opens OpenParen = 1

@@ -1,4 +1,4 @@
--- A document from left to right: each token with what it stands for, and each quad right behind the last token of its head.
+-- A document from left to right: each token with what it stands for, and each quad right after the last token of its head.
 use Rattle.std.specs.Prelude.{◌≢◌, ℕ, zero, suc, ◌+◌, Bool, List, [], ◌∷◌, Option, Some, None}
 use Rattle.rdf_terms.specs.declared.kind.Kind.{Kind}
 use Rattle.rdf_terms.specs.declared.kind.Kind.TheVariants.{IriRef, LabelNode, ShortString, LongString, LangTag, Carets, Dot, Integer, Decimal, Double, True, False, A, AtPrefix, AtBase, Prefix, Base, Graph, PnameNs, PnameLn, Semicolon, Comma, OpenBracket, CloseBracket, OpenParen, CloseParen, OpenBrace, CloseBrace, End}
@@ -13,7 +13,7 @@ use Rattle.rdf_lines.specs.Lines.{Leaf, token}
 use Rattle.rdf_trig.specs.declared.form.DocForm.{DocForm}
 use Rattle.rdf_trig.specs.declared.form.DocForm.TheVariants.{Turtle, TriG}
 use Rattle.rdf_trig.specs.Trees.{PrefixedName, pname_ln, pname_ns, Iri, iri_ref, prefixed, BlankNode, label, anon, Verb, predicate, type_word, String, short, long, Tag, lang_tag, base_tag, prefix_tag, plain, tagged, typed, integer, decimal, double, true_word, false_word, Literal, rdf, numeric, boolean, Object, iri_object, blank_object, collection_object, list_object, literal_object, Collection, collection, Items, no_items, item, BlankNodePropertyList, property_list, PredicateObjectList, predicate_objects, More, no_more, semicolon, semicolon_objects, ObjectList, objects, Commas, no_commas, comma, Subject, iri_subject, blank_subject, collection_subject, Triples, subject_triples, list_triples, Directive, prefix_id, base, sparql_prefix, sparql_base, LabelOrSubject, iri_label, blank_label, TriplesBlock, last, last_dot, dot, WrappedGraph, wrapped, named_graph, label_triples, list_triples2, collection_triples2, Block, triples_or_graph, default_graph, triples2, graph_word, Body, Document, end, with_directive, with_body}
-use Rattle.rdf_trig.specs.Names.{prefix_of, reference_in, name_in, behind, is_full}
+use Rattle.rdf_trig.specs.Names.{prefix_of, reference_in, name_in, scope_after, is_full}
 use Rattle.rdf_trig.specs.Quads.{Setting, in_default, in_graph, stated, node, anon_at, verb_of, object_of, cell_of, items_of, collection_of, list_of, subject_of, label_of, rest_quad}
 
 -- what a token stands for beside itself: an IRI, if there is one; or the same of a directive that binds a prefix, which may be one too many
@@ -93,14 +93,15 @@ abbrev mutual
   items_events c no_items r rest = take CloseParen r rest
   items_events c (item o os) r rest = object_events c o (node (cell_of o)) (Some (known_chars RdfFirst)) None (rest_events c os (cell_of o) r rest)
 
-  -- the items behind the one of this cell
+  -- the items after the one of this cell
   pub rest_events : Setting → Items → Node → Leaf → List Event → List Event
   rest_events c no_items cell r rest = take CloseParen r (give (rest_quad c cell (items_of no_items)) rest)
   rest_events c (item o os) cell r rest =
       object_events c o (node (cell_of o)) (Some (known_chars RdfFirst)) (rest_quad c cell (items_of (item o os))) (rest_events c os (cell_of o) r rest)
 
   pub list_events : Setting → BlankNodePropertyList → Option Quad → Option Quad → List Event → List Event
-  list_events c (property_list l ps r) early q rest = take OpenBracket l (give early (give q (predicates_events c ps (node (anon_at l)) (take CloseBracket r rest))))
+  list_events c (property_list l ps r) early q rest =
+      take OpenBracket l (give early (give q (predicates_events c ps (node (anon_at l)) (take CloseBracket r rest))))
 
   pub predicates_events : Setting → PredicateObjectList → Option term.Subject → List Event → List Event
   predicates_events c (predicate_objects v os m) s rest = verb_events c.scope v (objects_events c os s (verb_of c.scope v) (more_events c m s rest))
@@ -108,7 +109,8 @@ abbrev mutual
   pub more_events : Setting → More → Option term.Subject → List Event → List Event
   more_events c no_more s rest = rest
   more_events c (semicolon l m) s rest = take Semicolon l (more_events c m s rest)
-  more_events c (semicolon_objects l v os m) s rest = take Semicolon l (verb_events c.scope v (objects_events c os s (verb_of c.scope v) (more_events c m s rest)))
+  more_events c (semicolon_objects l v os m) s rest =
+      take Semicolon l (verb_events c.scope v (objects_events c os s (verb_of c.scope v) (more_events c m s rest)))
 
   pub objects_events : Setting → ObjectList → Option term.Subject → Option (List ℕ) → List Event → List Event
   objects_events c (objects o os) s p rest = object_events c o s p None (commas_events c os s p rest)
@@ -160,7 +162,8 @@ abbrev pub trig_events : InForce → Block → List Event → List Event
 trig_events s (triples_or_graph (named_graph g w)) rest = label_events s g (wrapped_events (in_graph s (label_of s g)) w rest)
 trig_events s (triples_or_graph (label_triples g ps d)) rest = label_events s g (predicates_events (in_default s) ps (label_of s g) (take Dot d rest))
 trig_events s (default_graph w) rest = wrapped_events (in_default s) w rest
-trig_events s (triples2 (list_triples2 p ps d)) rest = list_events (in_default s) p None None (maybe_events (in_default s) (Some (list_of p)) ps (take Dot d rest))
+trig_events s (triples2 (list_triples2 p ps d)) rest =
+    list_events (in_default s) p None None (maybe_events (in_default s) (Some (list_of p)) ps (take Dot d rest))
 trig_events s (triples2 (collection_triples2 os ps d)) rest =
     collection_events (in_default s) os None None (predicates_events (in_default s) ps (Some (collection_of os)) (take Dot d rest))
 trig_events s (graph_word l g w) rest = take Graph l (label_events s g (wrapped_events (in_graph s (label_of s g)) w rest))
@@ -171,7 +174,7 @@ body_events TriG s b rest = trig_events s b rest
 
 abbrev pub document_events : {form : DocForm} → InForce → Document form → List Event
 document_events s (end l) = take End l []
-document_events s (with_directive d rest) = directive_events s d (document_events (behind s d) rest)
+document_events s (with_directive d rest) = directive_events s d (document_events (scope_after s d) rest)
 document_events {form} s (with_body b rest) = body_events form s b (document_events s rest)
 
 -- What events say: the tokens,
@@ -180,11 +183,11 @@ tokens [] = []
 tokens (Took t u ∷ es) = t ∷ tokens es
 tokens (Gave q ∷ es) = tokens es
 
--- the quads, each with the number of the token that it stands behind, where n tokens stand before the events,
-abbrev pub marked : ℕ → List Event → List Marked
-marked n [] = []
-marked n (Took t u ∷ es) = marked (n + 1) es
-marked n (Gave q ∷ es) = record { quad = q; mark = n } ∷ marked n es
+-- the quads, each with the number of the token that it stands after, where n tokens stand before the events,
+abbrev pub event_quads : ℕ → List Event → List Marked
+event_quads n [] = []
+event_quads n (Took t u ∷ es) = event_quads (n + 1) es
+event_quads n (Gave q ∷ es) = record { quad = q; mark = n } ∷ event_quads n es
 
 -- and that each name and reference stands for an IRI
 abbrev pub HasIri : Use → Type 0

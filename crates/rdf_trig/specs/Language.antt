@@ -27,4 +27,5 @@ Blamed form start why ahead t = ⊥
 
 -- A form as a language, from this scope on, by the limits of it.
 abbrev pub language : DocForm → InForce → Language
-language form start = record { dialect = turtle; limit = start.limits.token; documents = documents form start; passes = Passes form start; blames = Blamed form start }
+language form start =
+    record { dialect = turtle; limit = start.limits.token; documents = documents form start; passes = Passes form start; blames = Blamed form start }

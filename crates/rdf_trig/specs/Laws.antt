@@ -19,8 +19,8 @@ use Rattle.rdf_lines.specs.Documents.{in_lines}
 use Rattle.rdf_trig.specs.declared.form.DocForm.{DocForm}
 use Rattle.rdf_trig.specs.Trees.{Document, document_tokens}
 use Rattle.rdf_trig.specs.Names.{reference_in, name_in, prefix_of, with_binding}
-use Rattle.rdf_trig.specs.Quads.{document_quads}
-use Rattle.rdf_trig.specs.Events.{Use, tokens, marked, document_events, BoundFront}
+use Rattle.rdf_trig.specs.TreeQuads.{document_quads}
+use Rattle.rdf_trig.specs.Events.{Use, tokens, event_quads, document_events, BoundFront}
 use Rattle.rdf_trig.specs.Documents.{documents, trees, InTree, Passes}
 use Rattle.rdf_trig.specs.Refusals.{Refusal, RefusedFor}
 use Rattle.rdf_trig.specs.Machine.{Over, State, refuses, accept, at_start, ran, accept_all}
@@ -30,7 +30,7 @@ use Rattle.rdf_trig.specs.Accepting.{TrigRead, tree_words}
 -- The events of a tree have the tokens that it derives, and its quads with their marks.
 abbrev pub EventsTellTheTree : Type 0
 EventsTellTheTree = (form : DocForm) (start : InForce) (d : Document form) →
-    (tokens (document_events start d) ≡ document_tokens d) × (marked 0 (document_events start d) ≡ document_quads start 0 d)
+    (tokens (document_events start d) ≡ document_tokens d) × (event_quads 0 (document_events start d) ≡ document_quads start 0 d)
 
 -- the marks are at least n, and none is below the one before it
 abbrev pub Rises : ℕ → List Marked → Type 0
@@ -38,15 +38,16 @@ Rises n [] = Unit {0}
 Rises n (q ∷ qs) = (n ≤ q.mark) × Rises q.mark qs
 
 abbrev pub MarksNeverFall : Type 0
-MarksNeverFall = (form : DocForm) (start : InForce) (d : Document form) → Rises 0 (document_quads start 0 d)
+MarksNeverFall = (form : DocForm) (start : InForce) (d : Document form) → Rises 0 (event_quads 0 (document_events start d))
 
 -- Every tree of the same tokens has the same quads with the same marks.
 abbrev pub TokensSettleTheQuads : Type 0
 TokensSettleTheQuads = (form : DocForm) (start : InForce) (ts : List Token) (qs rs : List Marked) → trees form start ts qs → trees form start ts rs → qs ≡ rs
 
--- What is due behind some tokens is the same in every document that begins with them.
+-- What is due after some tokens is the same in every document that begins with them.
 abbrev pub TokensSettleWhatIsDue : Type 0
-TokensSettleWhatIsDue = (form : DocForm) (start : InForce) (ts : List Token) (qs rs : List Quad) → Due (documents form start) ts qs → Due (documents form start) ts rs → qs ≡ rs
+TokensSettleWhatIsDue = (form : DocForm) (start : InForce) (ts : List Token) (qs rs : List Quad) → Due (documents form start) ts qs →
+    Due (documents form start) ts rs → qs ≡ rs
 
 -- What is due is a beginning of the quads of each document that begins so.
 abbrev pub DueBeginsTheQuads : Type 0
@@ -55,7 +56,8 @@ DueBeginsTheQuads = (form : DocForm) (start : InForce) (ts more : List Token) (q
 
 -- What a token stands for is the same in every tree that begins with the tokens before it and with it.
 abbrev pub TokensSettleTheirSenses : Type 0
-TokensSettleTheirSenses = (form : DocForm) (start : InForce) (ahead : List Token) (t : Token) (u v : Use) → InTree form start ahead t u → InTree form start ahead t v → u ≡ v
+TokensSettleTheirSenses = (form : DocForm) (start : InForce) (ahead : List Token) (t : Token) (u v : Use) → InTree form start ahead t u →
+    InTree form start ahead t v → u ≡ v
 
 -- some tree begins with the tokens, and each name and reference among them stands for an IRI in the scope that the start and the directives among them give
 pub record ShapedAndBound (form : DocForm) (start : InForce) (ts : List Token) : Type 0 where
@@ -68,7 +70,8 @@ pub record ShapedAndBound (form : DocForm) (start : InForce) (ts : List Token) :
 pub record ViableWhereBound (form : DocForm) (start : InForce) (ts : List Token) : Type 0 where
   pub bound : Viable (documents form start) ts → ShapedAndBound form start ts
   pub viable : ShapedAndBound form start ts → Viable (documents form start) ts
-  pub every : Viable (documents form start) ts → (tree : Document form) (more : List Token) → ts ++ more ≡ document_tokens tree → BoundFront (length ts) (document_events start tree)
+  pub every : Viable (documents form start) ts → (tree : Document form) (more : List Token) → ts ++ more ≡ document_tokens tree →
+      BoundFront (length ts) (document_events start tree)
 
 abbrev pub ViableIsShapedAndBound : Type 0
 ViableIsShapedAndBound = (form : DocForm) (start : InForce) (ts : List Token) → ViableWhereBound form start ts
@@ -112,12 +115,14 @@ DirectivesBind = (s : InForce) (prefix iri : List ℕ) → Binds s prefix iri (w
 
 -- The machine accepts a document of which no token passes a limit to its end, and gives out its quads.
 abbrev pub DocumentsAreAccepted : Type 0
-DocumentsAreAccepted = (form : DocForm) (start : InForce) (ts : List Token) (qs : List Marked) → documents form start ts qs → PassesNone (Passes form start) ts →
+DocumentsAreAccepted = (form : DocForm) (start : InForce) (ts : List Token) (qs : List Marked) → documents form start ts qs →
+    PassesNone (Passes form start) ts →
     (s : State) × (accept_all form (at_start start) ts ≡ ran s (unmarked qs)) × (s.mode ≡ Over)
 
 -- What it accepts to its end is a document, and what it gave out are its quads.
 abbrev pub AcceptedIsADocument : Type 0
-AcceptedIsADocument = (form : DocForm) (start : InForce) (ts : List Token) (s : State) (qs : List Quad) → accept_all form (at_start start) ts ≡ ran s qs → s.mode ≡ Over →
+AcceptedIsADocument = (form : DocForm) (start : InForce) (ts : List Token) (s : State) (qs : List Quad) →
+    accept_all form (at_start start) ts ≡ ran s qs → s.mode ≡ Over →
     (all : List Marked) × documents form start ts all × (unmarked all ≡ qs)
 
 -- What it accepts begins a document within the limits, and what it gave out is due.
@@ -126,16 +131,18 @@ pub record Reads (form : DocForm) (start : InForce) (ts : List Token) (qs : List
   pub due : Due (documents form start) ts qs
 
 abbrev pub AcceptedBeginsADocument : Type 0
-AcceptedBeginsADocument = (form : DocForm) (start : InForce) (ts : List Token) (s : State) (qs : List Quad) → accept_all form (at_start start) ts ≡ ran s qs → Reads form start ts qs
+AcceptedBeginsADocument = (form : DocForm) (start : InForce) (ts : List Token) (s : State) (qs : List Quad) →
+    accept_all form (at_start start) ts ≡ ran s qs → Reads form start ts qs
 
 -- Each token that it refuses is refused for its reason, and what stands before it is the front of the whole.
-pub record Stops (form : DocForm) (start : InForce) (ts : List Token) (t : Token) (more : List Token) (x : Refusal) : Type 0 where
+pub record IsRefusedAfter (form : DocForm) (start : InForce) (ts : List Token) (t : Token) (more : List Token) (x : Refusal) : Type 0 where
   pub reason : RefusedFor form start ts t x
   pub front : IsFront (documents form start) (Passes form start) (ts ++ t ∷ more) ts
 
 abbrev pub RefusedForItsReason : Type 0
-RefusedForItsReason = (form : DocForm) (start : InForce) (ts : List Token) (t : Token) (more : List Token) (s : State) (qs : List Quad) (x : Refusal) → accept_all form (at_start start) ts ≡ ran s qs →
-    accept form s t.kind (leaf_of t) ≡ refuses x → Stops form start ts t more x
+RefusedForItsReason = (form : DocForm) (start : InForce) (ts : List Token) (t : Token) (more : List Token) (s : State) (qs : List Quad)
+    (x : Refusal) → accept_all form (at_start start) ts ≡ ran s qs →
+    accept form s t.kind (leaf_of t) ≡ refuses x → IsRefusedAfter form start ts t more x
 
 -- What a reader has read decides tokens that are all in the front, leaves the next one open, and the quads that were put are due after them.
 abbrev pub ReadQuadsAreDue : Type 0
@@ -145,12 +152,14 @@ ReadQuadsAreDue = (r : TrigRead) (x : Chosen) (bytes : List ℕ) (quads : List Q
 
 -- A document within the limits is read to its end, however it is cut.
 abbrev pub DocumentsAreRead : Type 0
-DocumentsAreRead = (form : DocForm) (start : InForce) (bytes : List ℕ) (quads : List Quad) → IsDocumentOf (language form start) bytes quads → IsWithin (language form start) bytes →
+DocumentsAreRead = (form : DocForm) (start : InForce) (bytes : List ℕ) (quads : List Quad) → IsDocumentOf (language form start) bytes quads →
+    IsWithin (language form start) bytes →
     IsReadToItsEnd (language form start) bytes
 
 -- What is refused is no document within the limits.
 abbrev pub RefusedIsNoDocument : Type 0
-RefusedIsNoDocument = (form : DocForm) (start : InForce) (bytes : List ℕ) (quads : List Quad) (reason : Reason) (at : Place) → Refused (language form start) bytes true reason at →
+RefusedIsNoDocument = (form : DocForm) (start : InForce) (bytes : List ℕ) (quads : List Quad) (reason : Reason) (at : Place) →
+    Refused (language form start) bytes true reason at →
     IsDocumentOf (language form start) bytes quads → IsWithin (language form start) bytes → ⊥
 
 -- the base, where there is one, and what each prefix is bound to are IRIs
@@ -166,5 +175,6 @@ DocumentIsWritable = (form : DocForm) (start : InForce) (bytes : List ℕ) (qs :
 -- What is written for a document within its limits is read to its end as N-Quads with limits that are a little higher.
 abbrev pub WrittenDocumentIsRead : Type 0
 WrittenDocumentIsRead = (form : DocForm) (start : InForce) (bytes : List ℕ) (qs : List Quad) → HasIris start → length bytes ≤ most_bytes →
-    IsDocumentOf (language form start) bytes qs → IsWhole (language form start) bytes → (token_then iri_then : ℕ) → 2 * start.limits.token ≤ token_then → start.limits.iri + 2 ≤ token_then → 64 ≤ token_then →
+    IsDocumentOf (language form start) bytes qs → IsWhole (language form start) bytes → (token_then iri_then : ℕ) →
+    2 * start.limits.token ≤ token_then → start.limits.iri + 2 ≤ token_then → 64 ≤ token_then →
     start.limits.iri ≤ iri_then → 64 ≤ iri_then → IsReadToItsEnd (in_lines NQuads token_then iri_then) (encode_utf8_all (text Tagged qs))

@@ -10,6 +10,7 @@ pub mod Language
 pub mod ReadWhole
 -- what need not be: functions that compute, machines and states, what the code's side speaks of, and the laws
 pub mod Machine
+pub mod TreeQuads
 pub mod Laws
 pub mod Alike
 pub mod States

@@ -25,7 +25,7 @@ pub data Level : Type 0 where
 
 -- The frames. Each holds a subject and a verb at most; what it stands in is the frame below.
 mutual
-  -- where an object stands: behind a subject and a verb, or in a collection with its first and its present cell, as offsets
+  -- where an object stands: after a subject and a verb, or in a collection with its first and its present cell, as offsets
   pub data Place : Type 0 where
     Listed : Option term.Subject → Option (List ℕ) → Around → Place
     InCells : ℕ → ℕ → Up → Place
@@ -47,7 +47,7 @@ pub data Spelling : Type 0 where
 
 -- what has been read, as far as it matters for what may come
 pub data Mode : Type 0 where
-  -- between statements, and behind the end
+  -- between statements, and after the end
   Start : Mode
   Over : Mode
   -- in a directive: its prefix is to come, its IRIREF, its dot
@@ -55,28 +55,28 @@ pub data Mode : Type 0 where
   WantPrefixIri : Spelling → List ℕ → Mode
   WantBaseIri : Spelling → Mode
   WantDot : Mode
-  -- behind a label or subject; behind GRAPH, behind its '[' and behind its label
+  -- after a label or subject; after GRAPH, after its '[' and after its label
   AfterLabel : Option term.Subject → Mode
   GraphWord : Mode
   GraphBox : ℕ → Mode
   WantBrace : Option term.Subject → Mode
   -- in a block, before a subject
   Inside : Mode
-  -- an object is to come, or has come; a string has come, and behind it '^^'
+  -- an object is to come, or has come; a string has come, and after it '^^'
   Want : Place → Mode
   After : Place → Mode
   AfterText : List ℕ → Place → Mode
   WantType : List ℕ → Place → Mode
-  -- behind '[' and behind '('
+  -- after '[' and after '('
   Box : ℕ → Up → Mode
   Paren : Up → Mode
-  -- a verb has to come; behind ';' one may; behind a property list that is a subject
+  -- a verb has to come; after ';' one may; after a property list that is a subject
   WantVerb : Option term.Subject → Around → Mode
   Semi : Option term.Subject → Around → Mode
   AfterBox : Option term.Subject → Level → Mode
 
 -- What a token does by the grammar alone: nothing has it there; or what it stands for, a quad whose head ends with it as the first token of
--- the next item, a quad whose head ends with it as an object, and where the reader stands behind it.
+-- the next item, a quad whose head ends with it as an object, and where the reader stands after it.
 pub data Reply : Type 0 where
   No : Reply
   Go : Use → Option Quad → Option Quad → Setting → Mode → Reply
@@ -151,7 +151,7 @@ verb_start c s a PnameNs l = verb_is c s a (name_in c.scope l)
 verb_start c s a A l = goes c (Want (Listed s (Some (known_chars RdfType)) a))
 verb_start c s a k l = No
 
--- Where the reader stands behind a subject that is a name or node, a property list, and a collection.
+-- Where the reader stands after a subject that is a name or node, a property list, and a collection.
 abbrev pub after_subject : DocForm → Level → Option term.Subject → Mode
 after_subject form InBlock s = WantVerb s (Statement InBlock)
 after_subject Turtle Top s = WantVerb s (Statement Top)
@@ -421,7 +421,7 @@ accept form s k l = answer s.setting.scope.limits s k (waiting s.setting s.mode 
 abbrev pub at_start : InForce → State
 at_start scope = record { setting = in_default scope; mode = Start; held = [] }
 
--- some tokens: the state behind them and the quads that were given out, or the first refusal
+-- some tokens: the state after them and the quads that were given out, or the first refusal
 pub data Run : Type 0 where
   ran : State → List Quad → Run
   refused : Refusal → Run

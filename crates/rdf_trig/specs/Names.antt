@@ -11,14 +11,14 @@ use Rattle.rdf_trig.specs.Trees.{PrefixedName, pname_ln, pname_ns, Iri, iri_ref,
 unfoldable pub reference_in : InForce → Leaf → Option (List ℕ)
 reference_in s l = resolved s.base (iri_of l)
 
--- what stands before the first ':' of a name, and the characters that what stands behind it means; these are there, since each token is fit
+-- what stands before the first ':' of a name, and the characters that what stands after it means; these are there, since each token is fit
 abbrev pub prefix_of : Leaf → List ℕ
 prefix_of l = before 58 l.text
 
 abbrev pub local_of : Leaf → List ℕ
 local_of l = unwrap_or (local_value (unwrap_or (after 58 l.text) [])) []
 
--- a prefixed name: the IRI that its prefix is bound to, with the local part behind it; none where the prefix is not bound
+-- a prefixed name: the IRI that its prefix is bound to, with the local part after it; none where the prefix is not bound
 unfoldable pub name_in : InForce → Leaf → Option (List ℕ)
 name_in s l = option_map (λ front. front ++ local_of l) (bound_to s.bindings (prefix_of l))
 
@@ -35,7 +35,7 @@ abbrev pub bind : List (List ℕ × List ℕ) → List ℕ → List ℕ → List
 bind [] prefix iri = (prefix, iri) ∷ []
 bind (e ∷ es) prefix iri = cond (equal prefix e.0) ((prefix, iri) ∷ es) (e ∷ bind es prefix iri)
 
--- the scope behind the IRIREF of a directive; one that stands for nothing changes nothing
+-- the scope after the IRIREF of a directive; one that stands for nothing changes nothing
 abbrev pub with_base : InForce → Option (List ℕ) → InForce
 with_base s None = s
 with_base s (Some iri) = record { base = Some iri; bindings = s.bindings; limits = s.limits }
@@ -44,11 +44,11 @@ abbrev pub with_binding : InForce → List ℕ → Option (List ℕ) → InForce
 with_binding s prefix None = s
 with_binding s prefix (Some iri) = record { base = s.base; bindings = bind s.bindings prefix iri; limits = s.limits }
 
-abbrev pub behind : InForce → Directive → InForce
-behind s (prefix_id w p i d) = with_binding s (prefix_of p) (reference_in s i)
-behind s (base w i d) = with_base s (reference_in s i)
-behind s (sparql_prefix w p i) = with_binding s (prefix_of p) (reference_in s i)
-behind s (sparql_base w i) = with_base s (reference_in s i)
+abbrev pub scope_after : InForce → Directive → InForce
+scope_after s (prefix_id w p i d) = with_binding s (prefix_of p) (reference_in s i)
+scope_after s (base w i d) = with_base s (reference_in s i)
+scope_after s (sparql_prefix w p i) = with_binding s (prefix_of p) (reference_in s i)
+scope_after s (sparql_base w i) = with_base s (reference_in s i)
 
 -- the prefix is new, and as many are bound as may be
 unfoldable pub is_full : InForce → List ℕ → Bool

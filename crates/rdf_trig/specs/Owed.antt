@@ -1,4 +1,4 @@
--- What a reader has to hold behind some tokens, and the most that it may hold.
+-- What a reader has to hold after some tokens, and the most that it may hold.
 use Rattle.std.specs.Prelude.{◌≡◌, ℕ, ◌+◌, ◌*◌, Bool, cond, List, ◌++◌, ◌&&◌, length, nat_lt, nat_le, max, Option, Some, None}
 use Rattle.rdf_terms.specs.Terms.{Node, Label, Anon, Cell}
 use Rattle.rdf_terms.specs.Terms as term
@@ -9,11 +9,11 @@ use Rattle.rdf_iri.specs.Scope.{InForce}
 use Rattle.rdf_trig.specs.declared.form.DocForm.{DocForm}
 use Rattle.rdf_trig.specs.declared.form.DocForm.TheVariants.{Turtle, TriG}
 use Rattle.rdf_trig.specs.Trees.{Verb, predicate, type_word, Object, iri_object, blank_object, collection_object, list_object, literal_object, Collection, collection, Items, no_items, item, BlankNodePropertyList, property_list, PredicateObjectList, predicate_objects, More, no_more, semicolon, semicolon_objects, ObjectList, objects, Commas, no_commas, comma, Subject, iri_subject, blank_subject, collection_subject, Triples, subject_triples, list_triples, TriplesBlock, last, last_dot, dot, WrappedGraph, wrapped, named_graph, label_triples, list_triples2, collection_triples2, Block, triples_or_graph, default_graph, triples2, graph_word, Body, Document, end, with_directive, with_body, object_tokens, objects_tokens, predicates_tokens, collection_tokens, list_tokens, subject_tokens, label_tokens, triples_tokens, directive_tokens, body_tokens, document_tokens}
-use Rattle.rdf_trig.specs.Names.{iri_in, behind}
+use Rattle.rdf_trig.specs.Names.{iri_in, scope_after}
 use Rattle.rdf_trig.specs.Quads.{subject_of, label_of}
 use Rattle.rdf_trig.specs.Events.{Bound, document_events}
 
--- What a reader has to hold when k tokens are read: for each predicate list that has its verb among them and may go on behind them, the bytes of its
+-- What a reader has to hold when k tokens are read: for each predicate list that has its verb among them and may go on after them, the bytes of its
 -- subject's IRI or label; and those of its last verb, where a further object of it can come. Nodes without a label, and IRIs that no token spells, are not
 -- held. In what follows n tokens stand before the tree.
 abbrev pub iri_size : Option (List ℕ) → ℕ
@@ -40,7 +40,7 @@ abbrev pub verb_size : InForce → Verb → ℕ
 verb_size s (predicate i) = iri_size (iri_in s i)
 verb_size s (type_word l) = 0
 
--- the first of a part's tokens is read, and one of its own may come behind those read
+-- the first of a part's tokens is read, and one of its own may come after those read
 abbrev pub is_open : ℕ → ℕ → List Token → Bool
 is_open k n ts = nat_lt n k && nat_le k (n + length ts)
 
@@ -118,10 +118,10 @@ body_held TriG s k n b = trig_held s k n b
 
 abbrev pub document_held : {form : DocForm} → InForce → ℕ → ℕ → Document form → ℕ
 document_held s k n (end l) = 0
-document_held s k n (with_directive d rest) = document_held (behind s d) k (n + length (directive_tokens d)) rest
+document_held s k n (with_directive d rest) = document_held (scope_after s d) k (n + length (directive_tokens d)) rest
 document_held {form} s k n (with_body b rest) = body_held form s k n b + document_held s k (n + length (body_tokens form b)) rest
 
--- what is owed behind some tokens: what has to be held in a document that begins with them
+-- what is owed after some tokens: what has to be held in a document that begins with them
 pub record Owed (form : DocForm) (start : InForce) (ts : List Token) (size : ℕ) : Type 0 where
   pub tree : Document form
   pub more : List Token

@@ -1,4 +1,4 @@
--- Why a token is refused behind some tokens that begin a document.
+-- Why a token is refused after some tokens that begin a document.
 use Rattle.std.specs.Prelude.{◌≡◌, ◌⊎◌, Bool, List, [], ◌∷◌, ◌++◌, None}
 use Rattle.rdf_terms.specs.declared.kind.Kind.TheVariants.{IriRef, PnameNs, PnameLn}
 use Rattle.rdf_tokens.specs.Tokens.{Token}
@@ -29,7 +29,7 @@ IsUnbound form start ahead t = ((t.kind ≡ PnameLn) ⊎ (t.kind ≡ PnameNs)) �
 abbrev pub IsBaseless : DocForm → InForce → List Token → Token → Type 0
 IsBaseless form start ahead t = (t.kind ≡ IriRef) × (InTree form start ahead t (stands None) ⊎ ((full : Bool) × InTree form start ahead t (binds full None)))
 
--- The token is unexpected where no tree has it behind those before it. A name or reference that stands for nothing is in some tree, and in no document.
+-- The token is unexpected where no tree has it after those before it. A name or reference that stands for nothing is in some tree, and in no document.
 -- A token that passes a limit is in some document. A binding is one too many only where its IRI is not too long.
 abbrev pub RefusedFor : DocForm → InForce → List Token → Token → Refusal → Type 0
 RefusedFor form start ahead t unexpected = Shaped (trees form start) (ahead ++ t ∷ []) → ⊥

@@ -39,40 +39,40 @@ step_fault iri.Unbound = fault.Unbound
 step_fault iri.TooManyBindings = fault.TooManyBindings
 
 -- what the token stands for is allowed; or it is refused for this reason, or memory is short
-abbrev pub Passes : Sizes → Kind → Use → Type 0
-Passes sizes k u = (a : M.Answer) → by_use sizes k u a ≡ a
+abbrev pub IsAdmitted : Sizes → Kind → Use → Type 0
+IsAdmitted sizes k u = (a : M.Answer) → by_use sizes k u a ≡ a
 
-abbrev pub Stops : Sizes → Kind → Use → StepFault → Type 0
-Stops sizes k u fault.Unbound = (a : M.Answer) → by_use sizes k u a ≡ refuses refusal.unbound
-Stops sizes k u fault.NoBase = (a : M.Answer) → by_use sizes k u a ≡ refuses refusal.no_base
-Stops sizes k u fault.IriTooLong = (a : M.Answer) → by_use sizes k u a ≡ refuses refusal.iri_too_long
-Stops sizes k u fault.TooManyBindings = (a : M.Answer) → by_use sizes k u a ≡ refuses refusal.too_many_bindings
-Stops sizes k u fault.Memory = ⊤
-Stops sizes k u r = ⊥
+abbrev pub IsDenied : Sizes → Kind → Use → StepFault → Type 0
+IsDenied sizes k u fault.Unbound = (a : M.Answer) → by_use sizes k u a ≡ refuses refusal.unbound
+IsDenied sizes k u fault.NoBase = (a : M.Answer) → by_use sizes k u a ≡ refuses refusal.no_base
+IsDenied sizes k u fault.IriTooLong = (a : M.Answer) → by_use sizes k u a ≡ refuses refusal.iri_too_long
+IsDenied sizes k u fault.TooManyBindings = (a : M.Answer) → by_use sizes k u a ≡ refuses refusal.too_many_bindings
+IsDenied sizes k u fault.Memory = ⊤
+IsDenied sizes k u r = ⊥
 
 -- the token stands for this IRI, or for none
 pub record Names (s : InForce) (k : Kind) (l : Leaf) (i : Option (List ℕ)) : Type 0 where
   pub name : name_at s k l ≡ i
   pub named : IsNamed k i
-  pub passes : Passes s.limits k (use_at s k l)
+  pub admitted : IsAdmitted s.limits k (use_at s k l)
 
 abbrev pub Unnamed : InForce → Kind → Leaf → StepFault → Type 0
-Unnamed s k l r = Stops s.limits k (use_at s k l) r
+Unnamed s k l r = IsDenied s.limits k (use_at s k l) r
 
 -- the reference is the base
 pub record Based (s : InForce) (l : Leaf) (t : InForce) : Type 0 where
-  pub passes : Passes s.limits IriRef (stands (reference_in s l))
+  pub admitted : IsAdmitted s.limits IriRef (stands (reference_in s l))
   pub scope : t ≡ with_base s (reference_in s l)
 
 -- the prefix is bound to the reference's IRI
 pub record Binding (s : InForce) (prefix : List ℕ) (l : Leaf) (t : InForce) : Type 0 where
   pub iri : List ℕ
   pub reference : reference_in s l ≡ Some iri
-  pub passes : Passes s.limits IriRef (binds (is_full s prefix) (reference_in s l))
+  pub admitted : IsAdmitted s.limits IriRef (binds (is_full s prefix) (reference_in s l))
   pub binds : Binds s prefix iri t
 
 abbrev pub NotBinding : InForce → List ℕ → Leaf → StepFault → Type 0
-NotBinding s prefix l r = Stops s.limits IriRef (binds (is_full s prefix) (reference_in s l)) r
+NotBinding s prefix l r = IsDenied s.limits IriRef (binds (is_full s prefix) (reference_in s l)) r
 
 -- the same base and limits, and each prefix bound alike
 abbrev pub SameScope : InForce → InForce → Type 0
@@ -80,10 +80,10 @@ SameScope s t = SameNames s t
 
 -- what a token stands for in a mode is allowed: its IRI comes, or the scope changes; or it is not
 pub record LooksUp (s : InForce) (m : M.Mode) (k : Kind) (l : Leaf) (i : Option (List ℕ)) (t : InForce) : Type 0 where
-  pub passes : Passes s.limits k (use_in s m k l)
+  pub admitted : IsAdmitted s.limits k (use_in s m k l)
   pub name : NameIn s m k l i
   pub named : IsNamedIn m k i
   pub scope : SameScope (scope_in s m k l) t
 
 abbrev pub LooksUpNone : InForce → M.Mode → Kind → Leaf → StepFault → Type 0
-LooksUpNone s m k l r = Stops s.limits k (use_in s m k l) r
+LooksUpNone s m k l r = IsDenied s.limits k (use_in s m k l) r

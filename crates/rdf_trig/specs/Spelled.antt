@@ -11,7 +11,7 @@ short_in w = unwrap_or (string_value (inside 1 w)) []
 abbrev pub long_in : List ℕ → List ℕ
 long_in w = unwrap_or (string_value (inside 3 w)) []
 
--- the kinds that are a language tag behind a string
+-- the kinds that are a language tag after a string
 abbrev pub SpellsTag : Kind → Type 0
 SpellsTag LangTag = ⊤
 SpellsTag AtBase = ⊤

@@ -189,7 +189,7 @@ begins_verb PnameLn = true
 begins_verb A = true
 begins_verb k = false
 
--- the same in a directive too, and the scope behind it
+-- the same in a directive too, and the scope after it
 abbrev pub use_in : InForce → M.Mode → Kind → Leaf → Use
 use_in s (M.WantPrefix w) k l = itself
 use_in s (M.WantPrefixIri w p) IriRef l = binds (is_full s p) (reference_in s l)

@@ -73,7 +73,7 @@ DepthMay CloseBracket n = 1 ≤ n
 DepthMay CloseParen n = 1 ≤ n
 DepthMay k n = ⊤
 
--- what the token does, by the state behind it
+-- what the token does, by the state after it
 abbrev pub moved : {A : Type 0} → DocForm → InForce → Use → State A → Reply
 moved form s u r =
     let g = graph_at r.mode (graph_of r.level) in

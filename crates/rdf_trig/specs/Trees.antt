@@ -31,7 +31,7 @@ pub data String : Type 0 where
   short : Leaf → String
   long : Leaf → String
 
--- LANGTAG; the words '@base' and '@prefix' behind a string are language tags too
+-- LANGTAG; the words '@base' and '@prefix' after a string are language tags too
 pub data Tag : Type 0 where
   lang_tag : Leaf → Tag
   base_tag : Leaf → Tag

@@ -38,7 +38,7 @@ fn is_too_deep(limits: Limits, depth: u64, kind: Kind) -> bool
     deepens(kind) && limits.depth() <= depth
 }
 
-// How many brackets are open behind a token.
+// How many brackets are open after a token.
 fn depth_behind(depth: u64, kind: Kind) -> u64
     requires { DepthMay kind depth }
     ensures { DepthMoves kind depth result }
@@ -93,9 +93,14 @@ impl<A: Allocator + Copy> State<A> {
         requires token { IsTurtleToken token.now }
         requires named { IsNamedIn (mode_of form self.old.level self.old.frames.items self.old.mode) token.now.kind name }
         requires room { DepthMay token.now.kind self.old.depth }
-        ensures ok { OnOk result ((s : InForce) → let m = mode_of form self.old.level self.old.frames.items self.old.mode in NameIn s m token.now.kind (leaf token.now) name → M.step form (setting s (graph_at self.old.mode (graph_of self.old.level))) m token.now.kind (leaf token.now) ≡ moved form (scope_in s m token.now.kind (leaf token.now)) (use_in s m token.now.kind (leaf token.now)) self.new) }
+        ensures ok { OnOk result ((s : InForce) → let m = mode_of form self.old.level self.old.frames.items self.old.mode in
+            NameIn s m token.now.kind (leaf token.now) name →
+            M.step form (setting s (graph_at self.old.mode (graph_of self.old.level))) m token.now.kind (leaf token.now) ≡ moved form
+            (scope_in s m token.now.kind (leaf token.now)) (use_in s m token.now.kind (leaf token.now)) self.new) }
         ensures depth { OnOk result (DepthMoves token.now.kind self.old.depth self.new.depth) }
-        ensures err { IfErr result (λ r. (s : InForce) → let m = mode_of form self.old.level self.old.frames.items self.old.mode in NameIn s m token.now.kind (leaf token.now) name → Stays r (M.step form (setting s (graph_at self.old.mode (graph_of self.old.level))) m token.now.kind (leaf token.now))) }
+        ensures err { IfErr result (λ r. (s : InForce) → let m = mode_of form self.old.level self.old.frames.items self.old.mode in
+            NameIn s m token.now.kind (leaf token.now) name →
+            Stays r (M.step form (setting s (graph_at self.old.mode (graph_of self.old.level))) m token.now.kind (leaf token.now))) }
     {
         let mode = mem::replace(&mut self.mode, Mode::Paren);
         match turn(
@@ -134,12 +139,15 @@ impl<A: Allocator + Copy> State<A> {
         requires limits { scope.old.limits ≡ limits }
         requires keeps { Keeps form limits self.old }
         requires live { S.has_failed sink.old ≡ false }
-        ensures ok { OnOk result ((s : InForce) → SameScope s scope.old → Accepts S.takes form (M.accept form (state_of form s self.old) token.now.kind (leaf token.now)) sink.old self.new scope.new sink.new) }
-        ensures count { IfOk result (λ n. (s : InForce) (qs : List Quad) (m : M.State) → M.accept form (state_of form s self.old) token.now.kind (leaf token.now) ≡ M.accepts qs m → n ≡ length qs) }
+        ensures ok { OnOk result ((s : InForce) → SameScope s scope.old →
+            Accepts S.takes form (M.accept form (state_of form s self.old) token.now.kind (leaf token.now)) sink.old self.new scope.new sink.new) }
+        ensures count { IfOk result (λ n. (s : InForce) (qs : List Quad) (m : M.State) →
+            M.accept form (state_of form s self.old) token.now.kind (leaf token.now) ≡ M.accepts qs m → n ≡ length qs) }
         ensures limits { OnOk result (scope.new.limits ≡ limits) }
         ensures keeps { OnOk result (Keeps form limits self.new) }
         ensures live { OnOk result (S.has_failed sink.new ≡ false) }
-        ensures err { IfErr result (λ r. (s : InForce) → SameScope s scope.old → Fails S.takes S.leaves S.has_failed r (M.accept form (state_of form s self.old) token.now.kind (leaf token.now)) sink.old sink.new) }
+        ensures err { IfErr result (λ r. (s : InForce) → SameScope s scope.old →
+            Fails S.takes S.leaves S.has_failed r (M.accept form (state_of form s self.old) token.now.kind (leaf token.now)) sink.old sink.new) }
     {
         self.check(form, limits, token.kind)?;
         let name = look_up(alloc, &self.mode, scope, token)?;

@@ -13,37 +13,59 @@ use crate::state::{Around, Frame, Level, Mode, Outer};
 use rdf_terms::Kind;
 use std::alloc::Allocator;
 
-pub fn begins_verb(kind: Kind) -> bool
-    ensures { result ≡ begins_verb kind }
+/// Whether some document has a token of this kind next, as far as the kinds go.
+pub fn allows<A: Allocator>(form: DocForm, mode: &Mode<A>, level: &Level<A>, kind: Kind) -> bool
+    ensures { (c : Setting) (fs : List (Frame A)) (l : Leaf) → result ≡ is_go (M.step form c (mode_of form level.now fs mode.now) kind l) }
 {
-    matches!(kind, Kind::IriRef | Kind::PnameNs | Kind::PnameLn | Kind::A)
+    match mode {
+        Mode::Outer(outer) => allows_outer(form, outer, kind),
+        Mode::AfterSubject(_) => goes_on_after_subject(form, level, kind),
+        Mode::Want(_) => begins_object(kind),
+        Mode::After(frame) => goes_on_after(frame, level, kind),
+        Mode::AfterText(_, frame) => goes_on_after_text(frame, level, kind),
+        Mode::WantType(_, _) => is_name(kind),
+        Mode::Bracket(_) => matches!(kind, Kind::CloseBracket) || begins_verb(kind),
+        Mode::Paren => goes_on_after_paren(kind),
+        Mode::WantVerb(_) => begins_verb(kind),
+        Mode::Semicolon(_, around) => goes_on_after_semicolon(*around, level, kind),
+        Mode::AfterBrackets(_) => goes_on_after_brackets(level, kind),
+    }
 }
 
-fn is_name(kind: Kind) -> bool
-    ensures { (c : Setting) (w : List ℕ) (p : M.Place) (l : Leaf) → result ≡ is_go (M.want_type c w p kind l) }
+fn allows_outer<A: Allocator>(form: DocForm, outer: &Outer<A>, kind: Kind) -> bool
+    ensures { (c : Setting) (l : Leaf) → result ≡ is_go (M.step form c (outer_of outer.now) kind l) }
 {
-    matches!(kind, Kind::IriRef | Kind::PnameNs | Kind::PnameLn)
+    match outer {
+        Outer::Start => starts(form, kind),
+        Outer::Inside(_) => goes_on_inside(kind),
+        Outer::Over => false,
+        Outer::WantPrefix(_) => matches!(kind, Kind::PnameNs),
+        Outer::WantPrefixIri(_, _) => matches!(kind, Kind::IriRef),
+        Outer::WantBaseIri(_) => matches!(kind, Kind::IriRef),
+        Outer::WantDot => matches!(kind, Kind::Dot),
+        Outer::GraphWord => is_graph(kind),
+        Outer::GraphBracket(_) => matches!(kind, Kind::CloseBracket),
+        Outer::WantBrace(_) => matches!(kind, Kind::OpenBrace),
+    }
 }
 
-fn begins_object(kind: Kind) -> bool
-    ensures { (c : Setting) (p : M.Place) (e : Option Quad) (l : Leaf) → result ≡ is_go (M.object_start c p e kind l) }
+fn starts(form: DocForm, kind: Kind) -> bool
+    ensures { (c : Setting) (l : Leaf) → result ≡ is_go (M.start form c kind l) }
 {
-    matches!(
-        kind,
-        Kind::IriRef
-            | Kind::PnameNs
-            | Kind::PnameLn
-            | Kind::LabelNode
-            | Kind::ShortString
-            | Kind::LongString
-            | Kind::Integer
-            | Kind::Decimal
-            | Kind::Double
-            | Kind::True
-            | Kind::False
-            | Kind::OpenBracket
-            | Kind::OpenParen
-    )
+    match kind {
+        Kind::End | Kind::AtPrefix | Kind::Prefix | Kind::AtBase | Kind::Base => true,
+        Kind::Graph | Kind::OpenBrace => matches!(form, DocForm::TriG),
+        _ => begins_subject(kind),
+    }
+}
+
+fn goes_on_inside(kind: Kind) -> bool
+    ensures { (form : DocForm) (c : Setting) (l : Leaf) → result ≡ is_go (M.inside form c kind l) }
+{
+    match kind {
+        Kind::CloseBrace => true,
+        _ => begins_subject(kind),
+    }
 }
 
 fn begins_subject(kind: Kind) -> bool
@@ -69,32 +91,24 @@ fn is_graph(kind: Kind) -> bool
     )
 }
 
-fn starts(form: DocForm, kind: Kind) -> bool
-    ensures { (c : Setting) (l : Leaf) → result ≡ is_go (M.start form c kind l) }
+fn goes_on_after_subject<A: Allocator>(form: DocForm, level: &Level<A>, kind: Kind) -> bool
+    ensures { (c : Setting) (s : Option term.Subject) (l : Leaf) → result ≡ is_go (M.step form c (M.after_subject form (level_of level.now) s) kind l) }
 {
-    match kind {
-        Kind::End | Kind::AtPrefix | Kind::Prefix | Kind::AtBase | Kind::Base => true,
-        Kind::Graph | Kind::OpenBrace => matches!(form, DocForm::TriG),
-        _ => begins_subject(kind),
+    match (form, level) {
+        (DocForm::TriG, Level::Top) => matches!(kind, Kind::OpenBrace) || begins_verb(kind),
+        _ => begins_verb(kind),
     }
 }
 
-fn goes_on_inside(kind: Kind) -> bool
-    ensures { (form : DocForm) (c : Setting) (l : Leaf) → result ≡ is_go (M.inside form c kind l) }
+fn goes_on_after_text<A: Allocator>(frame: &Frame<A>, level: &Level<A>, kind: Kind) -> bool
+    ensures { (c : Setting) (w : List ℕ) (u : M.Up) (l : Leaf) → result ≡ is_go (M.after_text c w (place_of (level_of level.now) frame.now u) kind l) }
 {
     match kind {
-        Kind::CloseBrace => true,
-        _ => begins_subject(kind),
-    }
-}
-
-fn ends_list<A: Allocator>(around: Around, level: &Level<A>, kind: Kind) -> bool
-    ensures { (c : Setting) (s : Option term.Subject) (u : M.Up) (l : Leaf) → result ≡ is_go (M.list_end c s (around_of around (level_of level.now) u) kind l) }
-{
-    match (around, level) {
-        (Around::Brackets, _) => matches!(kind, Kind::CloseBracket),
-        (Around::Statement, Level::Top) => matches!(kind, Kind::Dot),
-        (Around::Statement, Level::Block(_)) => matches!(kind, Kind::Dot | Kind::CloseBrace),
+        Kind::LangTag => true,
+        Kind::AtBase => true,
+        Kind::AtPrefix => true,
+        Kind::Carets => true,
+        _ => goes_on_after(frame, level, kind),
     }
 }
 
@@ -120,16 +134,10 @@ fn goes_on_after_item(kind: Kind) -> bool
     }
 }
 
-fn goes_on_after_text<A: Allocator>(frame: &Frame<A>, level: &Level<A>, kind: Kind) -> bool
-    ensures { (c : Setting) (w : List ℕ) (u : M.Up) (l : Leaf) → result ≡ is_go (M.after_text c w (place_of (level_of level.now) frame.now u) kind l) }
+fn is_name(kind: Kind) -> bool
+    ensures { (c : Setting) (w : List ℕ) (p : M.Place) (l : Leaf) → result ≡ is_go (M.want_type c w p kind l) }
 {
-    match kind {
-        Kind::LangTag => true,
-        Kind::AtBase => true,
-        Kind::AtPrefix => true,
-        Kind::Carets => true,
-        _ => goes_on_after(frame, level, kind),
-    }
+    matches!(kind, Kind::IriRef | Kind::PnameNs | Kind::PnameLn)
 }
 
 fn goes_on_after_paren(kind: Kind) -> bool
@@ -141,6 +149,27 @@ fn goes_on_after_paren(kind: Kind) -> bool
     }
 }
 
+fn begins_object(kind: Kind) -> bool
+    ensures { (c : Setting) (p : M.Place) (e : Option Quad) (l : Leaf) → result ≡ is_go (M.object_start c p e kind l) }
+{
+    matches!(
+        kind,
+        Kind::IriRef
+            | Kind::PnameNs
+            | Kind::PnameLn
+            | Kind::LabelNode
+            | Kind::ShortString
+            | Kind::LongString
+            | Kind::Integer
+            | Kind::Decimal
+            | Kind::Double
+            | Kind::True
+            | Kind::False
+            | Kind::OpenBracket
+            | Kind::OpenParen
+    )
+}
+
 fn goes_on_after_semicolon<A: Allocator>(around: Around, level: &Level<A>, kind: Kind) -> bool
     ensures { (c : Setting) (s : Option term.Subject) (u : M.Up) (l : Leaf) → result ≡ is_go (M.semi c s (around_of around (level_of level.now) u) kind l) }
 {
@@ -150,54 +179,25 @@ fn goes_on_after_semicolon<A: Allocator>(around: Around, level: &Level<A>, kind:
     }
 }
 
-#[tactic(auto, using(crate::proofs::Fallbacks::fallbacks))]
+#[tactic(auto, using(crate::proofs::machine::Fallbacks::fallbacks))]
 fn goes_on_after_brackets<A: Allocator>(level: &Level<A>, kind: Kind) -> bool
     ensures { (c : Setting) (s : Option term.Subject) (l : Leaf) → result ≡ is_go (M.after_box c s (level_of level.now) kind l) }
 {
     begins_verb(kind) || ends_list(Around::Statement, level, kind)
 }
 
-fn goes_on_after_subject<A: Allocator>(form: DocForm, level: &Level<A>, kind: Kind) -> bool
-    ensures { (c : Setting) (s : Option term.Subject) (l : Leaf) → result ≡ is_go (M.step form c (M.after_subject form (level_of level.now) s) kind l) }
+pub fn begins_verb(kind: Kind) -> bool
+    ensures { result ≡ begins_verb kind }
 {
-    match (form, level) {
-        (DocForm::TriG, Level::Top) => matches!(kind, Kind::OpenBrace) || begins_verb(kind),
-        _ => begins_verb(kind),
-    }
+    matches!(kind, Kind::IriRef | Kind::PnameNs | Kind::PnameLn | Kind::A)
 }
 
-fn allows_outer<A: Allocator>(form: DocForm, outer: &Outer<A>, kind: Kind) -> bool
-    ensures { (c : Setting) (l : Leaf) → result ≡ is_go (M.step form c (outer_of outer.now) kind l) }
+fn ends_list<A: Allocator>(around: Around, level: &Level<A>, kind: Kind) -> bool
+    ensures { (c : Setting) (s : Option term.Subject) (u : M.Up) (l : Leaf) → result ≡ is_go (M.list_end c s (around_of around (level_of level.now) u) kind l) }
 {
-    match outer {
-        Outer::Start => starts(form, kind),
-        Outer::Inside(_) => goes_on_inside(kind),
-        Outer::Over => false,
-        Outer::WantPrefix(_) => matches!(kind, Kind::PnameNs),
-        Outer::WantPrefixIri(_, _) => matches!(kind, Kind::IriRef),
-        Outer::WantBaseIri(_) => matches!(kind, Kind::IriRef),
-        Outer::WantDot => matches!(kind, Kind::Dot),
-        Outer::GraphWord => is_graph(kind),
-        Outer::GraphBracket(_) => matches!(kind, Kind::CloseBracket),
-        Outer::WantBrace(_) => matches!(kind, Kind::OpenBrace),
-    }
-}
-
-/// Whether some document has a token of this kind next, as far as the kinds go.
-pub fn allows<A: Allocator>(form: DocForm, mode: &Mode<A>, level: &Level<A>, kind: Kind) -> bool
-    ensures { (c : Setting) (fs : List (Frame A)) (l : Leaf) → result ≡ is_go (M.step form c (mode_of form level.now fs mode.now) kind l) }
-{
-    match mode {
-        Mode::Outer(outer) => allows_outer(form, outer, kind),
-        Mode::AfterSubject(_) => goes_on_after_subject(form, level, kind),
-        Mode::Want(_) => begins_object(kind),
-        Mode::After(frame) => goes_on_after(frame, level, kind),
-        Mode::AfterText(_, frame) => goes_on_after_text(frame, level, kind),
-        Mode::WantType(_, _) => is_name(kind),
-        Mode::Bracket(_) => matches!(kind, Kind::CloseBracket) || begins_verb(kind),
-        Mode::Paren => goes_on_after_paren(kind),
-        Mode::WantVerb(_) => begins_verb(kind),
-        Mode::Semicolon(_, around) => goes_on_after_semicolon(*around, level, kind),
-        Mode::AfterBrackets(_) => goes_on_after_brackets(level, kind),
+    match (around, level) {
+        (Around::Brackets, _) => matches!(kind, Kind::CloseBracket),
+        (Around::Statement, Level::Top) => matches!(kind, Kind::Dot),
+        (Around::Statement, Level::Block(_)) => matches!(kind, Kind::Dot | Kind::CloseBrace),
     }
 }

@@ -19,7 +19,8 @@ fn read_all<A: Allocator + Copy>(
 ) -> Result<(), Fault>
     requires running { reader.old.done ≡ false }
     requires empty { list.old ≡ [] }
-    ensures { (x : Chosen) → HasRead tree_words reader.old x [] [] → ReadsWhole (in_words tree_words x reader.old.scanner.limit) bytes.now (λ _. list.new) result }
+    ensures { (x : Chosen) → HasRead tree_words reader.old x [] [] →
+        ReadsWhole (in_words tree_words x reader.old.scanner.limit) bytes.now (λ _. list.new) result }
 {
     match reader.feed(bytes, list) {
         Err(fault) => Err(fault),

@@ -26,6 +26,226 @@ use rdf_terms::{
 use rdf_tokens::Token;
 use std::alloc::Allocator;
 
+/// Puts the quads that the token determines, and answers how many they are.
+pub fn give<A: Allocator, S: QuadSink>(
+    mode: &Mode<A>,
+    level: &Level<A>,
+    frames: &[Frame<A>],
+    rest: &Rest,
+    held: &Held<A>,
+    token: &Token<'_>,
+    sink: &mut S,
+) -> Result<u64, StepFault>
+    requires live { S.has_failed sink.old ≡ false }
+    ensures ok { OnOk result ((form : DocForm) (s : InForce) →
+        Appends S.takes sink.old (given form s mode.now level.now frames.now rest.now held.now token.now) sink.new) }
+    ensures count { IfOk result (λ n. (form : DocForm) (s : InForce) → n ≡ length (given form s mode.now level.now frames.now rest.now held.now token.now)) }
+    ensures live { OnOk result (S.has_failed sink.new ≡ false) }
+    ensures err { IfErr result (λ r. (form : DocForm) (s : InForce) →
+        GaveUp S.takes S.leaves S.has_failed r (given form s mode.now level.now frames.now rest.now held.now token.now) sink.old sink.new) }
+{
+    let graph = graph(mode, level);
+    let rest = put(rest_quad(rest, graph), sink)?;
+    let held = put(held_quad(held, mode, frames, graph), sink)?;
+    let waiting = put(waiting_quad(mode, frames, graph, token), sink)?;
+    Ok(rest + held + waiting)
+}
+
+// The graph of the quads.
+fn graph<'a, A: Allocator>(mode: &'a Mode<A>, level: &'a Level<A>) -> Option<SubjectRef<'a>>
+    ensures { option_map (subject_by chars) result ≡ graph_at mode.now (graph_of level.now) }
+{
+    match mode {
+        Mode::Outer(Outer::Inside(graph)) => label(graph),
+        Mode::Outer(_) => None,
+        _ => match level {
+            Level::Top => None,
+            Level::Block(graph) => label(graph),
+        },
+    }
+}
+
+fn label<A: Allocator>(graph: &Option<Subject<A>>) -> Option<SubjectRef<'_>>
+    ensures { option_map (subject_by chars) result ≡ option_map owned_subject graph.now }
+{
+    match graph {
+        None => None,
+        Some(subject) => Some(subject.view()),
+    }
+}
+
+#[inline(always)]
+fn rest_quad<'a>(rest: &Rest, graph: Option<SubjectRef<'a>>) -> Option<QuadRef<'a>>
+    ensures { option_map quad_of result ≡ rest_of (option_map (subject_by chars) graph.entry) rest.now }
+{
+    match rest.cells() {
+        None => None,
+        Some((cell, next)) => Some(cells(cell, cell_node(next), graph)),
+    }
+}
+
+// The quad whose head ended with the last token.
+#[inline(always)]
+fn held_quad<'a, A: Allocator>(
+    held: &'a Held<A>,
+    mode: &'a Mode<A>,
+    frames: &'a [Frame<A>],
+    graph: Option<SubjectRef<'a>>,
+) -> Option<QuadRef<'a>>
+    ensures { (form : DocForm) (v : M.Level) → option_map quad_of result ≡ held_of (option_map (subject_by chars) graph.entry)
+        (mode_at form v (up_of v frames.now) mode.now) held.now }
+{
+    match held {
+        Held::Nothing => None,
+        Held::Object(kept) => match mode {
+            Mode::After(frame) => Some(quad_at(frame, object(kept), graph)),
+            Mode::Bracket(_) => quad_up(frames, object(kept), graph),
+            _ => None,
+        },
+        Held::Nil(cell) => Some(cells(*cell, nil(), graph)),
+    }
+}
+
+fn object<A: Allocator>(object: &Object<A>) -> TermRef<'_>
+    ensures { term_by chars result ≡ object_of object.now }
+{
+    match object {
+        Object::Named(subject) => resource(subject.view()),
+        Object::WithType(lexical, datatype) => {
+            literal(lexical.as_str(), TailRef::Typed(datatype.view()))
+        }
+        Object::WithTag(lexical, tag) => literal(lexical.as_str(), TailRef::Lang(tag.view())),
+        Object::OfKnown(lexical, datatype) => {
+            literal(lexical.as_str(), TailRef::Typed(known(*datatype)))
+        }
+    }
+}
+
+// The quad between a cell and what comes after it.
+#[inline(always)]
+fn cells<'a>(cell: u64, next: SubjectRef<'a>, graph: Option<SubjectRef<'a>>) -> QuadRef<'a>
+    ensures { Some (quad_of result) ≡ cells_quad (option_map (subject_by chars) graph.entry) cell (subject_by chars next.entry) }
+{
+    QuadRef {
+        subject: SubjectRef::Node(NodeRef::Cell(cell)),
+        predicate: known(Known::RdfRest),
+        object: resource(next),
+        graph,
+    }
+}
+
+// Puts a quad, if there is one, and answers how many it put.
+#[inline(always)]
+fn put<S: QuadSink>(quad: Option<QuadRef<'_>>, sink: &mut S) -> Result<u64, StepFault>
+    requires live { S.has_failed sink.old ≡ false }
+    ensures ok { OnOk result (Appends S.takes sink.old (kept (option_map quad_of quad.entry) []) sink.new) }
+    ensures count { IfOk result (λ n. n ≡ length (kept (option_map quad_of quad.entry) [])) }
+    ensures most { IfOk result (λ n. n ≤ 1) }
+    ensures live { OnOk result (S.has_failed sink.new ≡ false) }
+    ensures err { IfErr result (λ r. GaveUp S.takes S.leaves S.has_failed r (kept (option_map quad_of quad.entry) []) sink.old sink.new) }
+{
+    let Some(quad) = quad else {
+        return Ok(0);
+    };
+    match sink.put(quad) {
+        Ok(()) => Ok(1),
+        Err(PutFault::Memory) => Err(StepFault::Memory),
+        Err(PutFault::Device) => Err(StepFault::Sink),
+    }
+}
+
+// The quad that waits to know the token.
+#[inline(always)]
+fn waiting_quad<'a, A: Allocator>(
+    mode: &'a Mode<A>,
+    frames: &'a [Frame<A>],
+    graph: Option<SubjectRef<'a>>,
+    token: &Token<'_>,
+) -> Option<QuadRef<'a>>
+    ensures { (form : DocForm) (s : InForce) (v : M.Level) → option_map quad_of result ≡ M.waiting
+        (setting s (option_map (subject_by chars) graph.entry)) (mode_at form v (up_of v frames.now) mode.now) token.now.kind (leaf token.now) }
+{
+    match mode {
+        Mode::AfterText(lexical, frame) => match token.kind {
+            Kind::LangTag | Kind::AtBase | Kind::AtPrefix | Kind::Carets => None,
+            _ => Some(quad_at(frame, plain(lexical), graph)),
+        },
+        Mode::Paren => {
+            let first = match token.kind {
+                Kind::CloseParen => nil(),
+                _ => cell_node(token.offset),
+            };
+            quad_up(frames, resource(first), graph)
+        }
+        _ => None,
+    }
+}
+
+fn plain<A: Allocator>(lexical: &String<A>) -> TermRef<'_>
+    ensures { Some (term_by chars result) ≡ plain_literal (chars (string_bytes lexical.now)) }
+{
+    literal(lexical.as_str(), TailRef::Typed(known(Known::XsdString)))
+}
+
+fn literal<'a>(lexical: &'a str, tail: TailRef<'a>) -> TermRef<'a>
+    ensures { term_by chars result ≡ term.Literal (chars lexical.entry.now) (tail_by chars tail.entry) }
+{
+    TermRef::Literal(LiteralRef::new(lexical, tail))
+}
+
+fn cell_node(offset: u64) -> SubjectRef<'static>
+    ensures { subject_by chars result ≡ term.Blank (term.Cell offset) }
+{
+    SubjectRef::Node(NodeRef::Cell(offset))
+}
+
+// The quad of what a bracket stands for, where that is an object.
+#[inline(always)]
+#[tactic(auto, using(crate::proofs::code::FrameStack::up_last))]
+fn quad_up<'a, A: Allocator>(
+    frames: &'a [Frame<A>],
+    object: TermRef<'a>,
+    graph: Option<SubjectRef<'a>>,
+) -> Option<QuadRef<'a>>
+    ensures { (v : M.Level) → option_map quad_of result ≡ up_quad (option_map (subject_by chars) graph.entry) (up_of v frames.now)
+        (term_by chars object.entry) }
+{
+    match frames.last() {
+        None => None,
+        Some(frame) => Some(quad_at(frame, object, graph)),
+    }
+}
+
+// The quad of an object at a place.
+#[inline(always)]
+fn quad_at<'a, A: Allocator>(
+    frame: &'a Frame<A>,
+    object: TermRef<'a>,
+    graph: Option<SubjectRef<'a>>,
+) -> QuadRef<'a>
+    ensures { (v : M.Level) (u : M.Up) → Some (quad_of result) ≡ stated (Some (option_map (subject_by chars) graph.entry))
+        (subject_at (place_of v frame.now u)) (verb_at (place_of v frame.now u)) (Some (term_by chars object.entry)) }
+{
+    match frame {
+        Frame::List {
+            subject,
+            verb: predicate,
+            ..
+        } => QuadRef {
+            subject: topic(subject),
+            predicate: verb(predicate),
+            object,
+            graph,
+        },
+        Frame::Cells { cell, .. } => QuadRef {
+            subject: SubjectRef::Node(NodeRef::Cell(*cell)),
+            predicate: known(Known::RdfFirst),
+            object,
+            graph,
+        },
+    }
+}
+
 fn topic<A: Allocator>(topic: &Topic<A>) -> SubjectRef<'_>
     ensures { subject_by chars result ≡ topic_of topic.now }
 {
@@ -57,218 +277,4 @@ fn resource(subject: SubjectRef<'_>) -> TermRef<'_>
         SubjectRef::Iri(iri) => TermRef::Iri(iri),
         SubjectRef::Node(node) => TermRef::Node(node),
     }
-}
-
-fn literal<'a>(lexical: &'a str, tail: TailRef<'a>) -> TermRef<'a>
-    ensures { term_by chars result ≡ term.Literal (chars lexical.entry.now) (tail_by chars tail.entry) }
-{
-    TermRef::Literal(LiteralRef::new(lexical, tail))
-}
-
-fn object<A: Allocator>(object: &Object<A>) -> TermRef<'_>
-    ensures { term_by chars result ≡ object_of object.now }
-{
-    match object {
-        Object::Named(subject) => resource(subject.view()),
-        Object::WithType(lexical, datatype) => {
-            literal(lexical.as_str(), TailRef::Typed(datatype.view()))
-        }
-        Object::WithTag(lexical, tag) => literal(lexical.as_str(), TailRef::Lang(tag.view())),
-        Object::OfKnown(lexical, datatype) => {
-            literal(lexical.as_str(), TailRef::Typed(known(*datatype)))
-        }
-    }
-}
-
-fn plain<A: Allocator>(lexical: &String<A>) -> TermRef<'_>
-    ensures { Some (term_by chars result) ≡ plain_literal (chars (string_bytes lexical.now)) }
-{
-    literal(lexical.as_str(), TailRef::Typed(known(Known::XsdString)))
-}
-
-// The graph of the quads.
-fn graph<'a, A: Allocator>(mode: &'a Mode<A>, level: &'a Level<A>) -> Option<SubjectRef<'a>>
-    ensures { option_map (subject_by chars) result ≡ graph_at mode.now (graph_of level.now) }
-{
-    match mode {
-        Mode::Outer(Outer::Inside(graph)) => label(graph),
-        Mode::Outer(_) => None,
-        _ => match level {
-            Level::Top => None,
-            Level::Block(graph) => label(graph),
-        },
-    }
-}
-
-fn label<A: Allocator>(graph: &Option<Subject<A>>) -> Option<SubjectRef<'_>>
-    ensures { option_map (subject_by chars) result ≡ option_map owned_subject graph.now }
-{
-    match graph {
-        None => None,
-        Some(subject) => Some(subject.view()),
-    }
-}
-
-// The quad of an object at a place.
-#[inline(always)]
-fn quad_at<'a, A: Allocator>(
-    frame: &'a Frame<A>,
-    object: TermRef<'a>,
-    graph: Option<SubjectRef<'a>>,
-) -> QuadRef<'a>
-    ensures { (v : M.Level) (u : M.Up) → Some (quad_of result) ≡ stated (Some (option_map (subject_by chars) graph.entry)) (subject_at (place_of v frame.now u)) (verb_at (place_of v frame.now u)) (Some (term_by chars object.entry)) }
-{
-    match frame {
-        Frame::List {
-            subject,
-            verb: predicate,
-            ..
-        } => QuadRef {
-            subject: topic(subject),
-            predicate: verb(predicate),
-            object,
-            graph,
-        },
-        Frame::Cells { cell, .. } => QuadRef {
-            subject: SubjectRef::Node(NodeRef::Cell(*cell)),
-            predicate: known(Known::RdfFirst),
-            object,
-            graph,
-        },
-    }
-}
-
-// The quad of what a bracket stands for, where that is an object.
-#[inline(always)]
-#[tactic(auto, using(crate::proofs::Stack::up_last))]
-fn quad_up<'a, A: Allocator>(
-    frames: &'a [Frame<A>],
-    object: TermRef<'a>,
-    graph: Option<SubjectRef<'a>>,
-) -> Option<QuadRef<'a>>
-    ensures { (v : M.Level) → option_map quad_of result ≡ up_quad (option_map (subject_by chars) graph.entry) (up_of v frames.now) (term_by chars object.entry) }
-{
-    match frames.last() {
-        None => None,
-        Some(frame) => Some(quad_at(frame, object, graph)),
-    }
-}
-
-// The quad between a cell and what comes behind it.
-#[inline(always)]
-fn cells<'a>(cell: u64, next: SubjectRef<'a>, graph: Option<SubjectRef<'a>>) -> QuadRef<'a>
-    ensures { Some (quad_of result) ≡ cells_quad (option_map (subject_by chars) graph.entry) cell (subject_by chars next.entry) }
-{
-    QuadRef {
-        subject: SubjectRef::Node(NodeRef::Cell(cell)),
-        predicate: known(Known::RdfRest),
-        object: resource(next),
-        graph,
-    }
-}
-
-fn cell_node(offset: u64) -> SubjectRef<'static>
-    ensures { subject_by chars result ≡ term.Blank (term.Cell offset) }
-{
-    SubjectRef::Node(NodeRef::Cell(offset))
-}
-
-#[inline(always)]
-fn rest_quad<'a>(rest: &Rest, graph: Option<SubjectRef<'a>>) -> Option<QuadRef<'a>>
-    ensures { option_map quad_of result ≡ rest_of (option_map (subject_by chars) graph.entry) rest.now }
-{
-    match rest.cells() {
-        None => None,
-        Some((cell, next)) => Some(cells(cell, cell_node(next), graph)),
-    }
-}
-
-// The quad whose head ended with the last token.
-#[inline(always)]
-fn held_quad<'a, A: Allocator>(
-    held: &'a Held<A>,
-    mode: &'a Mode<A>,
-    frames: &'a [Frame<A>],
-    graph: Option<SubjectRef<'a>>,
-) -> Option<QuadRef<'a>>
-    ensures { (form : DocForm) (v : M.Level) → option_map quad_of result ≡ held_of (option_map (subject_by chars) graph.entry) (mode_at form v (up_of v frames.now) mode.now) held.now }
-{
-    match held {
-        Held::Nothing => None,
-        Held::Object(kept) => match mode {
-            Mode::After(frame) => Some(quad_at(frame, object(kept), graph)),
-            Mode::Bracket(_) => quad_up(frames, object(kept), graph),
-            _ => None,
-        },
-        Held::Nil(cell) => Some(cells(*cell, nil(), graph)),
-    }
-}
-
-// The quad that waits to know the token.
-#[inline(always)]
-fn waiting_quad<'a, A: Allocator>(
-    mode: &'a Mode<A>,
-    frames: &'a [Frame<A>],
-    graph: Option<SubjectRef<'a>>,
-    token: &Token<'_>,
-) -> Option<QuadRef<'a>>
-    ensures { (form : DocForm) (s : InForce) (v : M.Level) → option_map quad_of result ≡ M.waiting (setting s (option_map (subject_by chars) graph.entry)) (mode_at form v (up_of v frames.now) mode.now) token.now.kind (leaf token.now) }
-{
-    match mode {
-        Mode::AfterText(lexical, frame) => match token.kind {
-            Kind::LangTag | Kind::AtBase | Kind::AtPrefix | Kind::Carets => None,
-            _ => Some(quad_at(frame, plain(lexical), graph)),
-        },
-        Mode::Paren => {
-            let first = match token.kind {
-                Kind::CloseParen => nil(),
-                _ => cell_node(token.offset),
-            };
-            quad_up(frames, resource(first), graph)
-        }
-        _ => None,
-    }
-}
-
-// Puts a quad, if there is one, and answers how many it put.
-#[inline(always)]
-fn put<S: QuadSink>(quad: Option<QuadRef<'_>>, sink: &mut S) -> Result<u64, StepFault>
-    requires live { S.has_failed sink.old ≡ false }
-    ensures ok { OnOk result (Appends S.takes sink.old (kept (option_map quad_of quad.entry) []) sink.new) }
-    ensures count { IfOk result (λ n. n ≡ length (kept (option_map quad_of quad.entry) [])) }
-    ensures most { IfOk result (λ n. n ≤ 1) }
-    ensures live { OnOk result (S.has_failed sink.new ≡ false) }
-    ensures err { IfErr result (λ r. GaveUp S.takes S.leaves S.has_failed r (kept (option_map quad_of quad.entry) []) sink.old sink.new) }
-{
-    let Some(quad) = quad else {
-        return Ok(0);
-    };
-    match sink.put(quad) {
-        Ok(()) => Ok(1),
-        Err(PutFault::Memory) => Err(StepFault::Memory),
-        Err(PutFault::Device) => Err(StepFault::Sink),
-    }
-}
-
-/// Puts the quads that the token determines, and answers how many they are.
-pub fn give<A: Allocator, S: QuadSink>(
-    mode: &Mode<A>,
-    level: &Level<A>,
-    frames: &[Frame<A>],
-    rest: &Rest,
-    held: &Held<A>,
-    token: &Token<'_>,
-    sink: &mut S,
-) -> Result<u64, StepFault>
-    requires live { S.has_failed sink.old ≡ false }
-    ensures ok { OnOk result ((form : DocForm) (s : InForce) → Appends S.takes sink.old (given form s mode.now level.now frames.now rest.now held.now token.now) sink.new) }
-    ensures count { IfOk result (λ n. (form : DocForm) (s : InForce) → n ≡ length (given form s mode.now level.now frames.now rest.now held.now token.now)) }
-    ensures live { OnOk result (S.has_failed sink.new ≡ false) }
-    ensures err { IfErr result (λ r. (form : DocForm) (s : InForce) → GaveUp S.takes S.leaves S.has_failed r (given form s mode.now level.now frames.now rest.now held.now token.now) sink.old sink.new) }
-{
-    let graph = graph(mode, level);
-    let rest = put(rest_quad(rest, graph), sink)?;
-    let held = put(held_quad(held, mode, frames, graph), sink)?;
-    let waiting = put(waiting_quad(mode, frames, graph, token), sink)?;
-    Ok(rest + held + waiting)
 }

@@ -17,7 +17,7 @@ pub fn tokens_settle_the_quads()
     ensures { TokensSettleTheQuads }
 {}
 
-/// What is due behind some tokens is the same in every document that begins with them.
+/// What is due after some tokens is the same in every document that begins with them.
 pub fn tokens_settle_what_is_due()
     ensures { TokensSettleWhatIsDue }
 {}

@@ -37,7 +37,7 @@ fn reference_text<A: Allocator>(alloc: A, token: &Token<'_>) -> Result<String<A>
 }
 
 // The IRI of a reference.
-#[tactic(auto, using(crate::proofs::ScopesLemmas::reference_at, crate::proofs::ScopesLemmas::reference_not))]
+#[tactic(auto, using(crate::proofs::code::LookUps::reference_at, crate::proofs::code::LookUps::reference_not))]
 fn reference<A: Allocator + Copy>(
     alloc: A,
     scope: &Scope<A>,
@@ -67,7 +67,7 @@ fn local_text<A: Allocator>(alloc: A, local: &str) -> Result<String<A>, StepFaul
 }
 
 // The IRI of a prefixed name.
-#[tactic(auto, using(crate::proofs::ScopesLemmas::name_names, crate::proofs::ScopesLemmas::name_not))]
+#[tactic(auto, using(crate::proofs::code::LookUps::name_names, crate::proofs::code::LookUps::name_not))]
 fn prefixed<A: Allocator + Copy>(
     alloc: A,
     scope: &Scope<A>,
@@ -103,7 +103,7 @@ fn name<A: Allocator + Copy>(
     }
 }
 
-#[tactic(auto, using(crate::proofs::ScopesLemmas::base_is, crate::proofs::ScopesLemmas::reference_not))]
+#[tactic(auto, using(crate::proofs::code::LookUps::base_is, crate::proofs::code::LookUps::reference_not))]
 fn set_base<A: Allocator + Copy>(
     alloc: A,
     scope: &mut Scope<A>,
@@ -119,7 +119,7 @@ fn set_base<A: Allocator + Copy>(
     Ok(())
 }
 
-#[tactic(auto, using(crate::proofs::ScopesLemmas::binding_is, crate::proofs::ScopesLemmas::binding_not))]
+#[tactic(auto, using(crate::proofs::code::LookUps::binding_is, crate::proofs::code::LookUps::binding_not))]
 fn bind<A: Allocator + Copy>(
     alloc: A,
     scope: &mut Scope<A>,
@@ -146,8 +146,10 @@ pub fn look_up<A: Allocator + Copy>(
 ) -> Result<Option<Iri<A>>, StepFault>
     requires token { IsTurtleToken token.now }
     requires short { PrefixFits (4 * scope.old.limits.token) mode.now }
-    ensures ok { IfOk result (λ i. (form : DocForm) (v : M.Level) (u : M.Up) (s : InForce) → SameScope s scope.old → LooksUp s (mode_at form v u mode.now) token.now.kind (leaf token.now) i scope.new) }
-    ensures err { IfErr result (λ r. (form : DocForm) (v : M.Level) (u : M.Up) (s : InForce) → SameScope s scope.old → LooksUpNone s (mode_at form v u mode.now) token.now.kind (leaf token.now) r) }
+    ensures ok { IfOk result (λ i. (form : DocForm) (v : M.Level) (u : M.Up) (s : InForce) → SameScope s scope.old →
+        LooksUp s (mode_at form v u mode.now) token.now.kind (leaf token.now) i scope.new) }
+    ensures err { IfErr result (λ r. (form : DocForm) (v : M.Level) (u : M.Up) (s : InForce) → SameScope s scope.old →
+        LooksUpNone s (mode_at form v u mode.now) token.now.kind (leaf token.now) r) }
 {
     match mode {
         Mode::Outer(outer) => look_up_outer(alloc, outer, scope, token),
@@ -182,8 +184,10 @@ fn look_up_prefix<A: Allocator + Copy>(
 ) -> Result<Option<Iri<A>>, StepFault>
     requires token { IsTurtleToken token.now }
     requires short { byte_len (chars (string_bytes prefix.now)) ≤ 4 * scope.old.limits.token }
-    ensures ok { IfOk result (λ i. (w : M.Spelling) (s : InForce) → SameScope s scope.old → LooksUp s (M.WantPrefixIri w (chars (string_bytes prefix.now))) token.now.kind (leaf token.now) i scope.new) }
-    ensures err { IfErr result (λ r. (w : M.Spelling) (s : InForce) → SameScope s scope.old → LooksUpNone s (M.WantPrefixIri w (chars (string_bytes prefix.now))) token.now.kind (leaf token.now) r) }
+    ensures ok { IfOk result (λ i. (w : M.Spelling) (s : InForce) → SameScope s scope.old →
+        LooksUp s (M.WantPrefixIri w (chars (string_bytes prefix.now))) token.now.kind (leaf token.now) i scope.new) }
+    ensures err { IfErr result (λ r. (w : M.Spelling) (s : InForce) → SameScope s scope.old →
+        LooksUpNone s (M.WantPrefixIri w (chars (string_bytes prefix.now))) token.now.kind (leaf token.now) r) }
 {
     match token.kind {
         Kind::IriRef => match bind(alloc, scope, prefix, token) {
@@ -200,8 +204,10 @@ fn look_up_base<A: Allocator + Copy>(
     token: &Token<'_>,
 ) -> Result<Option<Iri<A>>, StepFault>
     requires token { IsTurtleToken token.now }
-    ensures ok { IfOk result (λ i. (w : M.Spelling) (s : InForce) → SameScope s scope.old → LooksUp s (M.WantBaseIri w) token.now.kind (leaf token.now) i scope.new) }
-    ensures err { IfErr result (λ r. (w : M.Spelling) (s : InForce) → SameScope s scope.old → LooksUpNone s (M.WantBaseIri w) token.now.kind (leaf token.now) r) }
+    ensures ok { IfOk result (λ i. (w : M.Spelling) (s : InForce) → SameScope s scope.old →
+        LooksUp s (M.WantBaseIri w) token.now.kind (leaf token.now) i scope.new) }
+    ensures err { IfErr result (λ r. (w : M.Spelling) (s : InForce) → SameScope s scope.old →
+        LooksUpNone s (M.WantBaseIri w) token.now.kind (leaf token.now) r) }
 {
     match token.kind {
         Kind::IriRef => match set_base(alloc, scope, token) {

@@ -53,7 +53,8 @@ impl<A: Allocator> Options<A> {
     /// Documents of the form, with this base or none, within the limits. None where the base has more bytes than an IRI
     /// may have; it is dropped then.
     pub fn new(form: DocForm, base: Option<Iri<A>>, limits: Limits) -> Option<Options<A>>
-        ensures { let start : InForce = record { base = base; bindings = []; limits = limits } in let chosen : Chosen = record { form = form; start = start } in SomeIff result (BaseFits base limits) chosen }
+        ensures { let start : InForce = record { base = base; bindings = []; limits = limits } in
+            let chosen : Chosen = record { form = form; start = start } in SomeIff result (BaseFits base limits) chosen }
     {
         if base_fits(&base, limits) {
             Some(Options { form, base, limits })
@@ -117,9 +118,12 @@ impl<A: Allocator + Copy> TrigReader<A> {
         ensures ok { OnOk result (Feeds tree_words S.takes self.old sink.old piece.now self.new sink.new) }
         ensures few { OnOk result (self.new.scanner.taken.offset ≤ most_bytes) }
         ensures live { OnOk result (S.has_failed sink.new ≡ false) }
-        ensures err { IfErr result (λ f. FeedFails tree_words S.takes S.leaves S.has_failed f.reason (place_of f) self.old sink.old piece.now self.new sink.new) }
-        ensures exact { (x : Chosen) (bytes : List ℕ) (quads : List Quad) → HasRead tree_words self.old x bytes quads → Exactly result (GoesOn (in_words tree_words x self.old.scanner.limit) (bytes ++ piece.now)) }
-        ensures place { IfErr result (λ f. (x : Chosen) (bytes : List ℕ) (quads : List Quad) → HasRead tree_words self.old x bytes quads → IsPlaced f.reason (bytes ++ piece.now) (place_of f)) }
+        ensures err { IfErr result (λ f. FeedFails tree_words S.takes S.leaves S.has_failed f.reason
+            (place_of f) self.old sink.old piece.now self.new sink.new) }
+        ensures exact { (x : Chosen) (bytes : List ℕ) (quads : List Quad) → HasRead tree_words self.old x bytes quads →
+            Exactly result (GoesOn (in_words tree_words x self.old.scanner.limit) (bytes ++ piece.now)) }
+        ensures place { IfErr result (λ f. (x : Chosen) (bytes : List ℕ) (quads : List Quad) → HasRead tree_words self.old x bytes quads →
+            IsPlaced f.reason (bytes ++ piece.now) (place_of f)) }
         ensures done { self.new.done ≡ not (is_ok result) }
     {
         self.reader.feed(piece, sink)
@@ -130,8 +134,10 @@ impl<A: Allocator + Copy> TrigReader<A> {
         requires { self.old.done ≡ false → S.has_failed sink.old ≡ false }
         ensures ok { IfOk result (λ s. Finishes tree_words S.takes self.old sink.old s sink.new) }
         ensures err { IfErr result (λ f. FinishFails tree_words S.takes S.leaves S.has_failed f.reason (place_of f) self.old sink.old self.new sink.new) }
-        ensures exact { (x : Chosen) (bytes : List ℕ) (quads : List Quad) → HasRead tree_words self.old x bytes quads → Exactly result (IsWhole (in_words tree_words x self.old.scanner.limit) bytes) }
-        ensures place { IfErr result (λ f. (x : Chosen) (bytes : List ℕ) (quads : List Quad) → HasRead tree_words self.old x bytes quads → IsPlaced f.reason bytes (place_of f)) }
+        ensures exact { (x : Chosen) (bytes : List ℕ) (quads : List Quad) → HasRead tree_words self.old x bytes quads →
+            Exactly result (IsWhole (in_words tree_words x self.old.scanner.limit) bytes) }
+        ensures place { IfErr result (λ f. (x : Chosen) (bytes : List ℕ) (quads : List Quad) → HasRead tree_words self.old x bytes quads →
+            IsPlaced f.reason bytes (place_of f)) }
         ensures done { self.new.done ≡ true }
     {
         self.reader.finish(sink)

@@ -33,7 +33,7 @@ impl Rest {
         }
     }
 
-    /// The second cell was opened behind the first.
+    /// The second cell was opened after the first.
     pub fn of(cell: u64, next: u64) -> Rest
         ensures { result ≡ Some (cell, next) }
     {

@@ -74,7 +74,7 @@ pub fn prefix<A: Allocator>(alloc: A, text: &str) -> Result<String<A>, StepFault
     Ok(String::from_str(alloc, prefix)?)
 }
 
-/// What stands before the first colon of a name, and behind it.
+/// What stands before the first colon of a name, and after it.
 pub fn parts(name: &str) -> (&str, &str)
     ensures prefix { chars result.0.now ≡ before 58 (chars name.now) }
     ensures local { chars result.1.now ≡ unwrap_or (after 58 (chars name.now)) [] }

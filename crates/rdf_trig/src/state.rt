@@ -72,13 +72,13 @@ pub enum Outer<A: Allocator = Global> {
     Start,
     /// Between statements, in a block of this graph.
     Inside(Option<Subject<A>>),
-    /// Behind the end.
+    /// After the end.
     Over,
     WantPrefix(Spelling),
     WantPrefixIri(Spelling, String<A>),
     WantBaseIri(Spelling),
     WantDot,
-    /// Behind GRAPH, behind its `[`, and behind its label.
+    /// After GRAPH, after its `[`, and after its label.
     GraphWord,
     GraphBracket(u64),
     WantBrace(Subject<A>),
@@ -88,17 +88,17 @@ pub enum Outer<A: Allocator = Global> {
 #[derive(Drop)]
 pub enum Mode<A: Allocator = Global> {
     Outer(Outer<A>),
-    /// Behind a subject; outside of a block it may be a graph's label in TriG.
+    /// After a subject; outside of a block it may be a graph's label in TriG.
     AfterSubject(Subject<A>),
-    /// An object is to come, or has come; a string has come, and behind it `^^`.
+    /// An object is to come, or has come; a string has come, and after it `^^`.
     Want(Frame<A>),
     After(Frame<A>),
     AfterText(String<A>, Frame<A>),
     WantType(String<A>, Frame<A>),
-    /// Behind `[` and behind `(`.
+    /// After `[` and after `(`.
     Bracket(u64),
     Paren,
-    /// A verb has to come; behind `;` one may; behind a property list that is a subject.
+    /// A verb has to come; after `;` one may; after a property list that is a subject.
     WantVerb(Topic<A>),
     Semicolon(Topic<A>, Around),
     AfterBrackets(Topic<A>),
@@ -127,7 +127,7 @@ pub enum Held<A: Allocator = Global> {
     Nil(u64),
 }
 
-/// What a token did: where the reader stands behind it, the quad whose head it ended, and the cells that it is owed
+/// What a token did: where the reader stands after it, the quad whose head it ended, and the cells that it is owed
 /// between.
 #[derive(Drop)]
 pub struct Turn<A: Allocator = Global> {

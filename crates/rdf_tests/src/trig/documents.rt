@@ -64,7 +64,7 @@ fn read_bytes(
     reader.finish(sink)
 }
 
-/// Whether this was to be told of a document, and these lines to be put.
+/// Whether this was to be reported of a document, and these lines to be put.
 fn is_told(row: &Row, told: Result<Summary, Fault>, sink: &RecordingSink) -> bool {
     let is_told = match told {
         Ok(summary) => {

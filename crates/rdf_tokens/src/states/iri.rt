@@ -22,9 +22,9 @@ pub(crate) enum Sort {
 pub(crate) enum Iri {
     Start,
     Inside,
-    /// Behind the backslash of an escape.
+    /// After the backslash of an escape.
     Escape,
-    /// So many hex digits come behind the next.
+    /// So many hex digits come after the next.
     Hex(u8),
     Whole,
     /// No reference begins so.
@@ -182,7 +182,7 @@ fn sort_of(c: char) -> Sort
 }
 
 impl Iri {
-    /// The state behind one more character.
+    /// The state after one more character.
     #[inline(always)]
     pub(crate) fn step(self, c: char) -> Iri
         ensures { result ≡ step self c }

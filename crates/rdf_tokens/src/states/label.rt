@@ -73,7 +73,7 @@ fn sort_of(c: char) -> Sort
 }
 
 impl Label {
-    /// The state behind one more character.
+    /// The state after one more character.
     #[inline(always)]
     pub(crate) fn step(self, dialect: Dialect, c: char) -> Label
         ensures { result ≡ step dialect self c }

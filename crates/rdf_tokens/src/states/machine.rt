@@ -76,7 +76,7 @@ pub(crate) fn family_of(c: char) -> Family
 }
 
 impl State {
-    /// The state behind one more character.
+    /// The state after one more character.
     #[inline]
     pub(crate) fn step(self, dialect: Dialect, c: char) -> State
         ensures { result ≡ step dialect self c }

@@ -38,9 +38,9 @@ pub(crate) enum Name {
     Local,
     /// A name and dots.
     LocalDots,
-    /// Behind a backslash.
+    /// After a backslash.
     Escape,
-    /// So many hex digits come behind the next.
+    /// So many hex digits come after the next.
     Hex(u8),
     /// No prefixed name begins so.
     Dead,
@@ -209,7 +209,7 @@ fn sort_of(c: char) -> Sort
 }
 
 impl Name {
-    /// The state behind one more character.
+    /// The state after one more character.
     #[inline(always)]
     pub(crate) fn step(self, dialect: Dialect, c: char) -> Name
         ensures { result ≡ step dialect self c }

@@ -67,7 +67,7 @@ fn sort_of(c: char) -> Sort
 }
 
 impl Number {
-    /// The state behind one more character.
+    /// The state after one more character.
     #[inline(always)]
     pub(crate) fn step(self, dialect: Dialect, c: char) -> Number
         ensures { result ≡ step dialect self c }

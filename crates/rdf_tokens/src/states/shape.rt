@@ -25,7 +25,7 @@ pub(crate) trait Shape: Copy {
     fn whole_state(self) -> State
         ensures { result ≡ whole self };
 
-    /// The state behind one more character.
+    /// The state after one more character.
     fn after_char(self, dialect: Dialect, c: char) -> Self
         ensures { whole result ≡ step dialect (whole self) c };
 
@@ -37,7 +37,7 @@ pub(crate) trait Shape: Copy {
     fn goes_on(self, dialect: Dialect) -> bool
         ensures { result ≡ goes_on dialect (whole self) };
 
-    /// The place behind the bytes from a place on that leave the state as it is, as far as they are looked for.
+    /// The place after the bytes from a place on that leave the state as it is, as far as they are looked for.
     fn rest_end(self, text: &str, from: usize) -> usize
         requires { from ≤ length text.now }
         ensures { Rests (whole self) text.now from result };

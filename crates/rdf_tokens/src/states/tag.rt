@@ -22,7 +22,7 @@ pub(crate) enum Tag {
     /// In the first part, of letters alone.
     Letters,
     Hyphen,
-    /// In a part behind a hyphen.
+    /// In a part after a hyphen.
     Part,
     /// No tag begins so.
     Dead,
@@ -53,7 +53,7 @@ fn sort_of(c: char) -> Sort
 }
 
 impl Tag {
-    /// The state behind one more character.
+    /// The state after one more character.
     #[inline(always)]
     pub(crate) fn step(self, c: char) -> Tag
         ensures { result ≡ step self c }

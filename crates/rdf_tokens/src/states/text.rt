@@ -40,7 +40,7 @@ pub(crate) enum Text {
     Empty(Quote),
     Short(Quote),
     ShortEscape(Quote),
-    /// So many hex digits come behind the next.
+    /// So many hex digits come after the next.
     ShortHex(Quote, u8),
     ShortWhole,
     Long(Quote),
@@ -235,7 +235,7 @@ fn sort_of(c: char) -> Sort
 }
 
 impl Text {
-    /// The state behind one more character.
+    /// The state after one more character.
     #[inline(always)]
     pub(crate) fn step(self, dialect: Dialect, c: char) -> Text
         ensures { result ≡ step dialect self c }

@@ -1,8 +1,8 @@
 use Rattle.std.proofs.Common.{rules, refl, IfSome}
 use Rattle.rdf_lines.specs.declared.form.Style.TheVariants.{Kept, Tagged}
 use Rattle.rdf_lines.proofs.AcceptingLemmas.{lawful as lines_lawful}
-use Rattle.rdf_trig.proofs.AcceptingLemmas.{lawful as trees_lawful}
-use Rattle.rdf_stream.specs.Checks.{CheckStops, Passes}
+use Rattle.rdf_trig.proofs.code.LawfulGrammar.{lawful as trees_lawful}
+use Rattle.rdf_stream.specs.Checks.{CheckStops, IsAccepted}
 use Rattle.rdf_stream.proofs.ConvertsLemmas.{lines_job, trees_job}
 use Rattle.rdf_stream.proofs.PiecesLemmas.{if_err, if_ok}
 use Rattle.rdf_stream.proofs.checks.check.Goals as goal
@@ -19,7 +19,7 @@ pub returns-in-Tree-clause-accepted : goal.returns-in-Tree-clause-accepted
 returns-in-Tree-clause-accepted g c =
     if_ok c.check_with-in-Tree.result _ _
     (λ s h.
-    trees_job (λ j. IfSome (g.S.Source.remaining c.args.source.now) (λ bytes. Passes j.language bytes s)) c.args.job c.in-Tree.form (search rules)
+    trees_job (λ j. IfSome (g.S.Source.remaining c.args.source.now) (λ bytes. IsAccepted j.language bytes s)) c.args.job c.in-Tree.form (search rules)
     c.options.result (search rules) c.tree_reader.result.scanner.limit (search rules) Tagged refl (h _ (record { lawful = trees_lawful; read = c.tree_reader.ensures.read })))
     c.check_with-in-Tree.ensures.accepted
 

@@ -1,12 +1,12 @@
 use Rattle.std.proofs.Common.{arith}
-use Rattle.rdf_terms.specs.Runs.{passes}
+use Rattle.rdf_terms.specs.Runs.{goes_over}
 use Rattle.rdf_terms.proofs.RunsLemmas.{run_decides, last_decides}
 use Rattle.rdf_terms.proofs.runs.is_run.Goals as goal
 
 pub returns-then-bytes-lt-LANES : goal.returns-then-bytes-lt-LANES
-returns-then-bytes-lt-LANES c = run_decides (passes c.args.run) c.args.bytes.now c.short_run_end.result c.short_run_end.ensures
+returns-then-bytes-lt-LANES c = run_decides (goes_over c.args.run) c.args.bytes.now c.short_run_end.result c.short_run_end.ensures
 
 pub returns : goal.returns
 returns c =
     let r = c.passed_lanes-2 in
-    last_decides (passes c.args.run) c.args.bytes.now _ 16 c.loop-at.at r.result (omega arith) (omega arith) c.loop-at.invariant r.ensures
+    last_decides (goes_over c.args.run) c.args.bytes.now _ 16 c.loop-at.at r.result (omega arith) (omega arith) c.loop-at.invariant r.ensures

@@ -1,7 +1,7 @@
 use Rattle.std.proofs.Common.{ap, sym, ◌∙◌}
 use Rattle.rdf_trig.specs.Machine as M
 use Rattle.rdf_trig.specs.States.{is_go, level_of}
-use Rattle.rdf_trig.proofs.Fallbacks.{after_box-else}
+use Rattle.rdf_trig.proofs.machine.Fallbacks.{after_box-else}
 use Rattle.rdf_trig.proofs.allows.goes_on_after_brackets.Goals as goal
 
 pub returns-else-begins_verb : goal.returns-else-begins_verb

@@ -3,7 +3,7 @@ use Rattle.rdf_terms.specs.Terms as term
 use Rattle.rdf_trig.specs.Quads.{rest_quad, cell_at}
 use Rattle.rdf_trig.specs.Machine as M
 use Rattle.rdf_trig.specs.States.{is_go}
-use Rattle.rdf_trig.proofs.Fallbacks.{cells-else}
+use Rattle.rdf_trig.proofs.machine.Fallbacks.{cells-else}
 use Rattle.rdf_trig.proofs.allows.goes_on_after_item.Goals as goal
 
 pub returns-in_default : goal.returns-in_default

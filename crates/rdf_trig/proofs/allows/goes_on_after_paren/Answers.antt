@@ -1,7 +1,7 @@
 use Rattle.std.proofs.Common.{ap, sym, ◌∙◌, None}
 use Rattle.rdf_trig.specs.Machine as M
 use Rattle.rdf_trig.specs.States.{is_go}
-use Rattle.rdf_trig.proofs.Fallbacks.{paren-else}
+use Rattle.rdf_trig.proofs.machine.Fallbacks.{paren-else}
 use Rattle.rdf_trig.proofs.allows.goes_on_after_paren.Goals as goal
 
 pub returns-in_default : goal.returns-in_default

@@ -1,7 +1,7 @@
 use Rattle.std.proofs.Common.{ap, sym, ◌∙◌}
 use Rattle.rdf_trig.specs.Machine as M
 use Rattle.rdf_trig.specs.States.{is_go}
-use Rattle.rdf_trig.proofs.Fallbacks.{inside-else}
+use Rattle.rdf_trig.proofs.machine.Fallbacks.{inside-else}
 use Rattle.rdf_trig.proofs.allows.goes_on_inside.Goals as goal
 
 pub returns-in_default : goal.returns-in_default

@@ -2,7 +2,7 @@ use Rattle.std.proofs.Common.{ap, sym, ◌∙◌}
 use Rattle.rdf_trig.specs.Quads.{in_default}
 use Rattle.rdf_trig.specs.Machine as M
 use Rattle.rdf_trig.specs.States.{is_go}
-use Rattle.rdf_trig.proofs.Fallbacks.{start-else}
+use Rattle.rdf_trig.proofs.machine.Fallbacks.{start-else}
 use Rattle.rdf_trig.proofs.allows.starts.Goals as goal
 
 pub returns-in_default : goal.returns-in_default

@@ -5,7 +5,7 @@ use Rattle.std.specs.Str.{chars}
 use Rattle.rdf_terms.specs.Views.{subject_by, term_by}
 use Rattle.rdf_trig.specs.Machine as M
 use Rattle.rdf_trig.specs.Steps.{up_quad}
-use Rattle.rdf_trig.proofs.Stack.{up_last}
+use Rattle.rdf_trig.proofs.code.FrameStack.{up_last}
 use Rattle.rdf_trig.proofs.give.quad_up.Goals as goal
 
 pub returns-in-Some : goal.returns-in-Some

@@ -1,4 +1,4 @@
-use Rattle.rdf_trig.proofs.Exact.{accepted_document}
+use Rattle.rdf_trig.proofs.machine.ExactDocuments.{accepted_document}
 use Rattle.rdf_trig.proofs.laws.accepted_is_a_document.Goals as goal
 
 pub returns : goal.returns

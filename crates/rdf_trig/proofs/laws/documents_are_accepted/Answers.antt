@@ -1,4 +1,4 @@
-use Rattle.rdf_trig.proofs.Exact.{document_accepted}
+use Rattle.rdf_trig.proofs.machine.ExactDocuments.{document_accepted}
 use Rattle.rdf_trig.proofs.laws.documents_are_accepted.Goals as goal
 
 pub returns : goal.returns

@@ -1,4 +1,4 @@
-use Rattle.rdf_trig.proofs.LawLemmas.{due_front}
+use Rattle.rdf_trig.proofs.theorems.StatedLaws.{due_front}
 use Rattle.rdf_trig.proofs.laws.due_begins_the_quads.Goals as goal
 
 pub returns : goal.returns

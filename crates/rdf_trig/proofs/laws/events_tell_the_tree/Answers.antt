@@ -1,4 +1,4 @@
-use Rattle.rdf_trig.proofs.LawLemmas.{tree_told}
+use Rattle.rdf_trig.proofs.theorems.StatedLaws.{tree_told}
 use Rattle.rdf_trig.proofs.laws.events_tell_the_tree.Goals as goal
 
 pub returns : goal.returns

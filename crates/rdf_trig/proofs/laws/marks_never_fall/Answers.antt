@@ -1,4 +1,4 @@
-use Rattle.rdf_trig.proofs.LawLemmas.{never_fall}
+use Rattle.rdf_trig.proofs.theorems.StatedLaws.{never_fall}
 use Rattle.rdf_trig.proofs.laws.marks_never_fall.Goals as goal
 
 pub returns : goal.returns

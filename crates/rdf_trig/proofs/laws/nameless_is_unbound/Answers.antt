@@ -1,4 +1,4 @@
-use Rattle.rdf_trig.proofs.NamesLemmas.{nameless_where}
+use Rattle.rdf_trig.proofs.trees.NamesLemmas.{nameless_where}
 use Rattle.rdf_trig.proofs.laws.nameless_is_unbound.Goals as goal
 
 pub returns : goal.returns

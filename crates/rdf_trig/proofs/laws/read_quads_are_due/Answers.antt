@@ -1,4 +1,4 @@
-use Rattle.rdf_trig.proofs.ReadersLemmas.{quads_due}
+use Rattle.rdf_trig.proofs.theorems.DocumentsRead.{quads_due}
 use Rattle.rdf_trig.proofs.laws.read_quads_are_due.Goals as goal
 
 pub returns : goal.returns

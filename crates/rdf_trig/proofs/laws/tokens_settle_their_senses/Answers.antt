@@ -1,4 +1,4 @@
-use Rattle.rdf_trig.proofs.Bounds.{settled}
+use Rattle.rdf_trig.proofs.trees.BoundNames.{settled}
 use Rattle.rdf_trig.proofs.laws.tokens_settle_their_senses.Goals as goal
 
 pub returns : goal.returns

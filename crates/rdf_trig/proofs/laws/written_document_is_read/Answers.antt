@@ -1,4 +1,4 @@
-use Rattle.rdf_trig.proofs.WrittenLimits.{document_read_back}
+use Rattle.rdf_trig.proofs.theorems.WrittenLimits.{document_read_back}
 use Rattle.rdf_trig.proofs.laws.written_document_is_read.Goals as goal
 
 pub returns : goal.returns

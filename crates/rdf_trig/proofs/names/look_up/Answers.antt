@@ -1,5 +1,5 @@
 use Rattle.rdf_trig.specs.States.{leaf}
-use Rattle.rdf_trig.proofs.SameScopes.{mode_looks, mode_none}
+use Rattle.rdf_trig.proofs.code.AgreeingScopes.{mode_looks, mode_none}
 use Rattle.rdf_trig.proofs.names.look_up.Goals as goal
 
 pub returns-in_default : goal.returns-in_default

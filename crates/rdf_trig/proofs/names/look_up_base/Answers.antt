@@ -2,7 +2,7 @@ use Rattle.std.proofs.Common.{None, subst, sym}
 use Rattle.rdf_trig.specs.Machine as M
 use Rattle.rdf_trig.specs.States.{leaf}
 use Rattle.rdf_trig.specs.Scopes.{Unnamed, LooksUpNone}
-use Rattle.rdf_trig.proofs.SameScopes.{base_looks, base_none}
+use Rattle.rdf_trig.proofs.code.AgreeingScopes.{base_looks, base_none}
 use Rattle.rdf_trig.proofs.names.look_up_base.Goals as goal
 
 pub returns-in-Ok-clause-ok : goal.returns-in-Ok-clause-ok

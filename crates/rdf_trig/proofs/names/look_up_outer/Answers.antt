@@ -6,7 +6,7 @@ use Rattle.rdf_trig.specs.declared.fault.StepFault.{StepFault}
 use Rattle.rdf_trig.specs.Machine as M
 use Rattle.rdf_trig.specs.Scopes.{SameScope, LooksUp, LooksUpNone}
 use Rattle.rdf_trig.specs.States.{leaf, spelling_of}
-use Rattle.rdf_trig.proofs.SameScopes.{outer_looks, outer_none, picked_ok, picked_err}
+use Rattle.rdf_trig.proofs.code.AgreeingScopes.{outer_looks, outer_none, picked_ok, picked_err}
 use Rattle.rdf_trig.proofs.names.look_up_outer.Goals as goal
 
 pub returns-in_default : goal.returns-in_default

@@ -4,7 +4,7 @@ use Rattle.std.specs.String.{string_bytes}
 use Rattle.std.proofs.lemmas.Str.{IsUtf8-string_bytes}
 use Rattle.rdf_iri.proofs.ResolvedText.{byte_len-chars}
 use Rattle.rdf_trig.specs.States.{leaf}
-use Rattle.rdf_trig.proofs.SameScopes.{binding_looks, binding_none}
+use Rattle.rdf_trig.proofs.code.AgreeingScopes.{binding_looks, binding_none}
 use Rattle.rdf_trig.proofs.names.look_up_prefix.Goals as goal
 
 pub bind-requires-clause-short : goal.bind-requires-clause-short

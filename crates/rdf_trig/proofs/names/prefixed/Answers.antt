@@ -4,8 +4,8 @@ use Rattle.std.specs.Str.{chars}
 use Rattle.rdf_terms.specs.Values.{local_value}
 use Rattle.rdf_trig.specs.Scopes.{MeansLocal}
 use Rattle.rdf_trig.specs.States.{leaf}
-use Rattle.rdf_trig.proofs.LocalShapes.{token_local}
-use Rattle.rdf_trig.proofs.ScopesLemmas.{name_names}
+use Rattle.rdf_trig.proofs.code.LocalShapes.{token_local}
+use Rattle.rdf_trig.proofs.code.LookUps.{name_names}
 use Rattle.rdf_trig.proofs.names.prefixed.Goals as goal
 
 pub local_text-requires : goal.local_text-requires

@@ -1,7 +1,7 @@
 use Rattle.std.proofs.Common.{ap, ◌∙◌}
 use Rattle.std.specs.Str.{chars}
 use Rattle.rdf_trig.specs.States.{leaf}
-use Rattle.rdf_trig.proofs.ScopesLemmas.{reference_at}
+use Rattle.rdf_trig.proofs.code.LookUps.{reference_at}
 use Rattle.rdf_trig.proofs.names.reference.Goals as goal
 
 pub returns-clause-ok : goal.returns-clause-ok

@@ -1,7 +1,7 @@
 use Rattle.std.proofs.Common.{ap, ◌∙◌}
 use Rattle.std.specs.Str.{chars}
 use Rattle.rdf_trig.specs.States.{leaf}
-use Rattle.rdf_trig.proofs.ScopesLemmas.{base_is}
+use Rattle.rdf_trig.proofs.code.LookUps.{base_is}
 use Rattle.rdf_trig.proofs.names.set_base.Goals as goal
 
 pub returns-clause-ok : goal.returns-clause-ok

@@ -1,4 +1,4 @@
-use Rattle.rdf_trig.proofs.NewReaderLemmas.{fits_yes, fits_no}
+use Rattle.rdf_trig.proofs.code.StartingBase.{fits_yes, fits_no}
 use Rattle.rdf_trig.proofs.reader.base_fits.Goals as goal
 
 pub returns-in-Some-clause-yes : goal.returns-in-Some-clause-yes

@@ -1,7 +1,7 @@
 use Rattle.std.proofs.Common.{[], subst}
 use Rattle.rdf_trig.specs.Language.{Chosen}
 use Rattle.rdf_trig.specs.Accepting.{tree_words}
-use Rattle.rdf_trig.proofs.AcceptingLemmas.{begins_here}
+use Rattle.rdf_trig.proofs.code.LawfulGrammar.{begins_here}
 use Rattle.rdf_trig.proofs.reader.tree_reader.Goals as goal
 
 pub new-requires-2-clause-begins : goal.new-requires-2-clause-begins

@@ -2,7 +2,7 @@ use Rattle.std.proofs.Common.{ap, sym, subst, drop, ◌∙◌}
 use Rattle.std.proofs.lemmas.List.{drop-drop}
 use Rattle.std.specs.Str.{chars}
 use Rattle.rdf_terms.specs.Terms.{IsLabel}
-use Rattle.rdf_trig.proofs.SpelledLemmas.{label_in}
+use Rattle.rdf_trig.proofs.code.SpelledLemmas.{label_in}
 use Rattle.rdf_trig.proofs.spelled.label.Goals as goal
 
 pub new-label-requires : goal.new-label-requires

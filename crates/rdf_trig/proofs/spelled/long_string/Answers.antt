@@ -3,7 +3,7 @@ use Rattle.std.specs.Prelude.{unwrap_or}
 use Rattle.std.specs.Str.{chars}
 use Rattle.rdf_terms.specs.Values as V
 use Rattle.rdf_terms.proofs.InsideLemmas.{inside-inside}
-use Rattle.rdf_trig.proofs.SpelledLemmas.{fit_long}
+use Rattle.rdf_trig.proofs.code.SpelledLemmas.{fit_long}
 use Rattle.rdf_trig.proofs.spelled.long_string.Goals as goal
 
 pub unreachable-requires : goal.unreachable-requires

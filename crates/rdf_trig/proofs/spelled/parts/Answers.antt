@@ -1,7 +1,7 @@
 use Rattle.std.proofs.Common.{arith, sym, ap, []}
 use Rattle.std.specs.Prelude.{unwrap_or}
 use Rattle.std.specs.Str.{chars}
-use Rattle.rdf_trig.proofs.ColonLemmas.{front_chars, back_chars, no_colon}
+use Rattle.rdf_trig.proofs.code.ColonLemmas.{front_chars, back_chars, no_colon}
 use Rattle.rdf_trig.proofs.spelled.parts.Goals as goal
 
 pub returns-in-Some-clause-prefix : goal.returns-in-Some-clause-prefix

@@ -1,6 +1,6 @@
 use Rattle.std.proofs.Common.{Err, ap, sym, ◌∙◌}
 use Rattle.rdf_terms.specs.Values as V
-use Rattle.rdf_trig.proofs.SpelledLemmas.{fit_short}
+use Rattle.rdf_trig.proofs.code.SpelledLemmas.{fit_short}
 use Rattle.rdf_trig.proofs.spelled.short_string.Goals as goal
 
 pub unreachable-requires : goal.unreachable-requires

@@ -1,6 +1,6 @@
 use Rattle.std.proofs.Common.{subst, sym}
 use Rattle.rdf_terms.specs.Terms.{IsTag}
-use Rattle.rdf_trig.proofs.SpelledLemmas.{token_tag}
+use Rattle.rdf_trig.proofs.code.SpelledLemmas.{token_tag}
 use Rattle.rdf_trig.proofs.spelled.tag.Goals as goal
 
 pub new-requires : goal.new-requires

@@ -1,8 +1,8 @@
 use Rattle.std.proofs.Common.{refl}
 use Rattle.rdf_trig.specs.States.{leaf, use_at, setting, graph_of, level_of, up_of}
 use Rattle.rdf_trig.specs.Machine as M
-use Rattle.rdf_trig.proofs.Fallbacks.{cells-else}
-use Rattle.rdf_trig.proofs.TurnsLemmas.{gives_at, gives_object}
+use Rattle.rdf_trig.proofs.machine.Fallbacks.{cells-else}
+use Rattle.rdf_trig.proofs.code.TurnsLemmas.{gives_at, gives_object}
 use Rattle.rdf_trig.proofs.turns.after_item.Goals as goal
 
 pub returns-in_default : goal.returns-in_default

@@ -2,8 +2,8 @@ use Rattle.std.proofs.Common.{refl}
 use Rattle.std.specs.Str.{chars}
 use Rattle.std.specs.String.{string_bytes}
 use Rattle.rdf_trig.specs.States.{leaf, use_at, setting, graph_of, level_of, up_of, place_of}
-use Rattle.rdf_trig.proofs.Fallbacks.{text-else}
-use Rattle.rdf_trig.proofs.TurnsLemmas.{gives_at}
+use Rattle.rdf_trig.proofs.machine.Fallbacks.{text-else}
+use Rattle.rdf_trig.proofs.code.TurnsLemmas.{gives_at}
 use Rattle.rdf_trig.proofs.turns.after_text.Goals as goal
 
 pub returns-in_default : goal.returns-in_default

@@ -1,8 +1,8 @@
 use Rattle.std.proofs.Common.{[]}
 use Rattle.rdf_trig.specs.declared.state.Level.TheVariants.{Block}
 use Rattle.rdf_trig.specs.States.{leaf, use_at, setting, graph_of}
-use Rattle.rdf_trig.proofs.Fallbacks.{inside-else}
-use Rattle.rdf_trig.proofs.TurnsLemmas.{gives_at}
+use Rattle.rdf_trig.proofs.machine.Fallbacks.{inside-else}
+use Rattle.rdf_trig.proofs.code.TurnsLemmas.{gives_at}
 use Rattle.rdf_trig.proofs.turns.inside.Goals as goal
 
 pub returns-in_default : goal.returns-in_default

@@ -1,7 +1,7 @@
 use Rattle.std.proofs.Common.{[]}
 use Rattle.rdf_trig.specs.declared.state.Level.TheVariants.{Top}
 use Rattle.rdf_trig.specs.States.{leaf, use_at}
-use Rattle.rdf_trig.proofs.TurnsLemmas.{gives_at}
+use Rattle.rdf_trig.proofs.code.TurnsLemmas.{gives_at}
 use Rattle.rdf_trig.proofs.turns.start.Goals as goal
 
 pub returns-in-None : goal.returns-in-None

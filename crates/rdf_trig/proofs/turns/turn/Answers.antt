@@ -1,7 +1,7 @@
 use Rattle.std.proofs.Common.{Some}
 use Rattle.rdf_terms.specs.Owned.{owned_subject}
 use Rattle.rdf_trig.specs.States.{leaf, level_of, setting, graph_of, place_of, up_of}
-use Rattle.rdf_trig.proofs.TurnsLemmas.{gives_subject, gives_object, name_subject}
+use Rattle.rdf_trig.proofs.code.TurnsLemmas.{gives_subject, gives_object, name_subject}
 use Rattle.rdf_trig.proofs.turns.turn.Goals as goal
 
 pub returns-in-AfterSubject : goal.returns-in-AfterSubject

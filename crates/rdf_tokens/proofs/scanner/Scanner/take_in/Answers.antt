@@ -15,7 +15,7 @@ use Rattle.rdf_tokens.proofs.scanner.Scanner.take_in.Goals.{then-not-self+in_ok-
 use Rattle.rdf_tokens.proofs.scanner.Scanner.take_in.Goals as goal
 
 module _ {Z : Type 0} where
-  -- the place behind a piece, of which so many bytes are line feeds
+  -- the place after a piece, of which so many bytes are line feeds
   abbrev behind : Inside Z → List ℕ → ℕ → Place
   behind s piece feeds = record { offset = s.taken + length piece; line = s.last_line + feeds }
 

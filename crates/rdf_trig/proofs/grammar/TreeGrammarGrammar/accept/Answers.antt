@@ -3,8 +3,8 @@ use Rattle.rdf_tokens.specs.Scans.{token_of}
 use Rattle.rdf_driver.specs.Words.{Takes, Misses}
 use Rattle.rdf_trig.specs.Steps.{state_of}
 use Rattle.rdf_trig.specs.Accepting.{TreeAt, reason_of, tree_words}
-use Rattle.rdf_trig.proofs.AcceptLemmas.{same_scope}
-use Rattle.rdf_trig.proofs.AcceptingLemmas.{takes_token, misses_token}
+use Rattle.rdf_trig.proofs.code.AnswersOfSteps.{same_scope}
+use Rattle.rdf_trig.proofs.code.LawfulGrammar.{takes_token, misses_token}
 use Rattle.rdf_trig.proofs.grammar.TreeGrammarGrammar.accept.Goals as goal
 
 pub invariant_of-self-in-Err : goal.invariant_of-self-in-Err

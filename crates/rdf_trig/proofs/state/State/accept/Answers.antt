@@ -1,11 +1,11 @@
 use Rattle.std.proofs.Common.{◌≡◌, ◌∙◌, sym, ap, subst, length}
 use Rattle.rdf_trig.specs.Machine as M
-use Rattle.rdf_trig.proofs.Accepted.{accepted}
+use Rattle.rdf_trig.proofs.machine.AcceptedTokens.{accepted}
 use Rattle.rdf_terms.specs.Sinks.{Appends}
 use Rattle.rdf_trig.specs.States.{leaf, level_of, up_of}
 use Rattle.rdf_trig.specs.Steps.{GaveUp, given, state_of}
-use Rattle.rdf_trig.proofs.StepsLemmas.{told_stops}
-use Rattle.rdf_trig.proofs.AcceptLemmas.{fails_stops, fails_gave, fails_stays, accepts_moved, keeps_moved, limits_kept, same_scope, bytes_at_most}
+use Rattle.rdf_trig.proofs.code.PutsInRow.{told_stops}
+use Rattle.rdf_trig.proofs.code.AnswersOfSteps.{fails_stops, fails_gave, fails_stays, accepts_moved, keeps_moved, limits_kept, same_scope, bytes_at_most}
 use Rattle.rdf_trig.proofs.state.State.accept.Goals as goal
 
 pub returns-in_err-name-clause-err : goal.returns-in_err-name-clause-err
@@ -30,7 +30,7 @@ returns-in_err-given-clause-err g c =
     let u = up_of v self.frames.items in
     told_stops c.from_residual-in_err-given.result c.in_err-given.field-0.0 _ c.from_residual-in_err-given.ensures.1
     (λ s e. fails_gave g.S.QuadSink.takes g.S.QuadSink.leaves g.S.QuadSink.has_failed form (state_of form s self) k l c.in_err-given.field-0.0 c.args.sink.now c.give.new.sink
-    (c.in_ok-check.ensures.ok s l (e.limits ∙ c.requires.limits)) (c.in_ok-name.ensures.ok form v u s e).passes
+    (c.in_ok-check.ensures.ok s l (e.limits ∙ c.requires.limits)) (c.in_ok-name.ensures.ok form v u s e).admitted
     (subst (λ fs. GaveUp g.S.QuadSink.takes g.S.QuadSink.leaves g.S.QuadSink.has_failed c.in_err-given.field-0.0 (given form s self.mode self.level fs self.rest self.held c.args.token.now) c.args.sink.now c.give.new.sink)
     c.deref.ensures.value (c.in_err-given.ensures.err form s)))
 
@@ -102,7 +102,7 @@ returns-in-Err-clause-err g c = λ s e.
     let u = up_of v self.frames.items in
     let looks = c.in_ok-name.ensures.ok form v u s e in
     fails_stays g.S.QuadSink.takes g.S.QuadSink.leaves g.S.QuadSink.has_failed form (state_of form s self) k l c.in-Err.fault c.args.sink.now c.give.new.sink
-    (c.in_ok-check.ensures.ok s l (e.limits ∙ c.requires.limits)) looks.passes
+    (c.in_ok-check.ensures.ok s l (e.limits ∙ c.requires.limits)) looks.admitted
     (subst (λ fs. Appends g.S.QuadSink.takes c.args.sink.now (given form s self.mode self.level fs self.rest self.held c.args.token.now) c.give.new.sink)
     c.deref.ensures.value (c.in_ok-given.ensures.ok form s))
     (c.in-Err.ensures.err s looks.name) c.in_ok-given.ensures.live

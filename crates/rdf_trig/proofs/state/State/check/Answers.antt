@@ -2,7 +2,7 @@ use Rattle.std.proofs.Common.{[], None, sym, ◌∙◌}
 use Rattle.rdf_iri.specs.Scope.{InForce}
 use Rattle.rdf_lines.specs.Lines.{Leaf}
 use Rattle.rdf_trig.specs.Steps.{state_of}
-use Rattle.rdf_trig.proofs.AcceptLemmas.{not_allowed, may_count}
+use Rattle.rdf_trig.proofs.code.AnswersOfSteps.{not_allowed, may_count}
 use Rattle.rdf_trig.proofs.state.State.check.Goals as goal
 
 pub returns-then-not-allows-clause-err : goal.returns-then-not-allows-clause-err

@@ -1,0 +1,240 @@
+-- Scopes that agree in every look-up give tokens the same meaning, and stay so.
+use Rattle.std.proofs.Common.{◌≡◌, ◌+◌, ℕ, true, false, cond, List, [], ◌∷◌, ◌++◌, ◌&&◌, not, length, Option, Some, None, option_map, refl, sym, ap, ◌∙◌, subst, ⊎_elim, arith}
+use Rattle.std.specs.Prelude.{nat_le, is_some, Result, Ok, Err, IfOk, IfErr}
+use Rattle.std.proofs.lemmas.Bool.{cases_Bool, cond-true, cond-false}
+use Rattle.rdf_terms.specs.declared.kind.Kind.{Kind}
+use Rattle.rdf_terms.specs.declared.kind.Kind.TheVariants.{IriRef, PnameNs, PnameLn}
+use Rattle.rdf_terms.specs.Terms as term
+use Rattle.rdf_iri.specs.Limits.{Sizes}
+use Rattle.rdf_iri.specs.Texts.{equal}
+use Rattle.rdf_iri.specs.Resolve.{resolved}
+use Rattle.rdf_iri.specs.Scope.{InForce, bound_to, Binds}
+use Rattle.rdf_iri.proofs.TextsLemmas.{equal-true, equal-from}
+use Rattle.rdf_iri.proofs.Encoded.{same_test}
+use Rattle.rdf_lines.specs.Lines.{Leaf, iri_of}
+use Rattle.rdf_trig.specs.declared.form.DocForm.{DocForm}
+use Rattle.rdf_trig.specs.declared.form.DocForm.TheVariants.{Turtle, TriG}
+use Rattle.rdf_trig.specs.declared.fault.StepFault.{StepFault}
+use Rattle.rdf_trig.specs.declared.state.Outer.{Outer}
+use Rattle.rdf_trig.specs.declared.state.Outer.TheVariants as outer
+use Rattle.rdf_trig.specs.declared.state.Mode.{Mode}
+use Rattle.rdf_trig.specs.declared.state.Mode.TheVariants as mode
+use Rattle.rdf_trig.specs.declared.state.Spelling.{Spelling}
+use Rattle.rdf_trig.specs.Names.{reference_in, name_in, prefix_of, local_of, bind, with_base, with_binding, is_full}
+use Rattle.rdf_trig.specs.Events.{Use, stands, binds}
+use Rattle.rdf_trig.specs.Machine as M
+use Rattle.rdf_trig.specs.Machine.{by_use}
+use Rattle.rdf_trig.specs.States.{name_at, use_at, mode_at, outer_of}
+use Rattle.rdf_trig.specs.Scopes.{IsAdmitted, IsDenied, Names, Unnamed, Based, Binding, NotBinding, SameScope, LooksUp, LooksUpNone}
+
+reference_same : (s t : InForce) (l : Leaf) → SameScope s t → reference_in s l ≡ reference_in t l
+unfolding reference_in
+reference_same s t l e = ap (λ b. resolved b (iri_of l)) e.base
+
+name_same : (s t : InForce) (l : Leaf) → SameScope s t → name_in s l ≡ name_in t l
+unfolding name_in
+name_same s t l e = ap (option_map (λ x. x ++ local_of l)) (e.bound (prefix_of l))
+
+full_same : (s t : InForce) (p : List ℕ) → SameScope s t → is_full s p ≡ is_full t p
+unfolding is_full
+full_same s t p e =
+    ap (λ o. not (is_some o) && nat_le s.limits.bindings (length s.bindings)) (e.bound p)
+    ∙ (ap (λ x. not (is_some (bound_to t.bindings p)) && nat_le x.bindings (length s.bindings)) e.limits
+    ∙ ap (λ n. not (is_some (bound_to t.bindings p)) && nat_le t.limits.bindings n) e.count)
+
+name_at-same : (s t : InForce) (k : Kind) (l : Leaf) → SameScope s t → name_at s k l ≡ name_at t k l
+name_at-same s t IriRef l e = reference_same s t l e
+name_at-same s t PnameNs l e = name_same s t l e
+name_at-same s t PnameLn l e = name_same s t l e
+name_at-same s t k l e = refl
+
+use_at-same : (s t : InForce) (k : Kind) (l : Leaf) → SameScope s t → use_at s k l ≡ use_at t k l
+use_at-same s t IriRef l e = ap stands (reference_same s t l e)
+use_at-same s t PnameNs l e = ap stands (name_same s t l e)
+use_at-same s t PnameLn l e = ap stands (name_same s t l e)
+use_at-same s t k l e = refl
+
+passes_at : (a b : Sizes) (k : Kind) (u v : Use) → a ≡ b → u ≡ v → IsAdmitted b k v → IsAdmitted a k u
+passes_at a b k u v e f p = subst (λ x. IsAdmitted x k u) (sym e) (subst (IsAdmitted b k) (sym f) p)
+
+stops_at : (a b : Sizes) (k : Kind) (u v : Use) (r : StepFault) → a ≡ b → u ≡ v → IsDenied b k v r → IsDenied a k u r
+stops_at a b k u v r e f p = subst (λ x. IsDenied x k u r) (sym e) (subst (λ x. IsDenied b k x r) (sym f) p)
+
+-- outside of directives
+abbrev Ordinary : M.Mode → Type 0
+Ordinary (M.WantPrefix w) = ⊥
+Ordinary (M.WantPrefixIri w p) = ⊥
+Ordinary (M.WantBaseIri w) = ⊥
+Ordinary m = Unit {0}
+
+looks_same : (s t : InForce) (k : Kind) (l : Leaf) (i : Option (List ℕ)) → SameScope s t → Names t k l i →
+    (name_at s k l ≡ i) × IsAdmitted s.limits k (use_at s k l)
+looks_same s t k l i e n = (name_at-same s t k l e ∙ n.name, passes_at s.limits t.limits k (use_at s k l) (use_at t k l) e.limits (use_at-same s t k l e) n.admitted)
+
+looks_ordinary : (s t : InForce) (m : M.Mode) (k : Kind) (l : Leaf) (i : Option (List ℕ)) → Ordinary m → SameScope s t → Names t k l i → LooksUp s m k l i t
+looks_ordinary s t (M.WantPrefix w) k l i o e n = absurd o
+looks_ordinary s t (M.WantPrefixIri w p) k l i o e n = absurd o
+looks_ordinary s t (M.WantBaseIri w) k l i o e n = absurd o
+looks_ordinary s t m k l i o e n = let h = looks_same s t k l i e n in record { admitted = h.1; name = h.0; named = n.named; scope = e }
+
+none_ordinary : (s t : InForce) (m : M.Mode) (k : Kind) (l : Leaf) (r : StepFault) → Ordinary m → SameScope s t → Unnamed t k l r → LooksUpNone s m k l r
+none_ordinary s t (M.WantPrefix w) k l r o e n = absurd o
+none_ordinary s t (M.WantPrefixIri w p) k l r o e n = absurd o
+none_ordinary s t (M.WantBaseIri w) k l r o e n = absurd o
+none_ordinary s t m k l r o e n = stops_at s.limits t.limits k (use_at s k l) (use_at t k l) r e.limits (use_at-same s t k l e) n
+
+subject_ordinary : (form : DocForm) (v : M.Level) (x : Option term.Subject) → Ordinary (M.after_subject form v x)
+subject_ordinary TriG M.Top x = tt
+subject_ordinary TriG M.InBlock x = tt
+subject_ordinary Turtle M.Top x = tt
+subject_ordinary Turtle M.InBlock x = tt
+
+mode_ordinary : {A : Type 0} (form : DocForm) (v : M.Level) (u : M.Up) (m : Mode A) → ((o : Outer A) → m ≡ mode.Outer o → ⊥) → Ordinary (mode_at form v u m)
+mode_ordinary form v u (mode.Outer o) n = absurd (n o refl)
+mode_ordinary form v u (mode.AfterSubject s) n = subject_ordinary form v _
+mode_ordinary form v u m n = tt
+
+outer_ordinary : {A : Type 0} (o : Outer A) → ((w : Spelling) → o ≡ outer.WantPrefix w → ⊥) →
+    ((w : Spelling) (p : _) → o ≡ outer.WantPrefixIri w p → ⊥) → ((w : Spelling) → o ≡ outer.WantBaseIri w → ⊥) → Ordinary (outer_of o)
+outer_ordinary (outer.WantPrefix w) a b c = absurd (a w refl)
+outer_ordinary (outer.WantPrefixIri w p) a b c = absurd (b w p refl)
+outer_ordinary (outer.WantBaseIri w) a b c = absurd (c w refl)
+outer_ordinary o a b c = tt
+
+pub mode_looks : {A : Type 0} (m : Mode A) (s t : InForce) (k : Kind) (l : Leaf) (r : Result (Option (List ℕ)) StepFault) →
+    ((o : Outer A) → m ≡ mode.Outer o → ⊥) →
+    IfOk r (λ i. Names t k l i) → IfOk r (λ i. (form : DocForm) (v : M.Level) (u : M.Up) (s : InForce) → SameScope s t → LooksUp s (mode_at form v u m) k l i t)
+mode_looks m s t k l (Ok i) n h = λ form v u s e. looks_ordinary s t (mode_at form v u m) k l i (mode_ordinary form v u m n) e h
+mode_looks m s t k l (Err r) n h = tt
+
+pub mode_none : {A : Type 0} (m : Mode A) (s t : InForce) (k : Kind) (l : Leaf) (r : Result (Option (List ℕ)) StepFault) →
+    ((o : Outer A) → m ≡ mode.Outer o → ⊥) →
+    IfErr r (λ f. Unnamed t k l f) → IfErr r (λ f. (form : DocForm) (v : M.Level) (u : M.Up) (s : InForce) → SameScope s t →
+    LooksUpNone s (mode_at form v u m) k l f)
+mode_none m s t k l (Ok i) n h = tt
+mode_none m s t k l (Err r) n h = λ form v u s e. none_ordinary s t (mode_at form v u m) k l r (mode_ordinary form v u m n) e h
+
+pub outer_looks : {A : Type 0} (o : Outer A) (t : InForce) (k : Kind) (l : Leaf) (r : Result (Option (List ℕ)) StepFault) →
+    ((w : Spelling) → o ≡ outer.WantPrefix w → ⊥) → ((w : Spelling) (p : _) → o ≡ outer.WantPrefixIri w p → ⊥) →
+    ((w : Spelling) → o ≡ outer.WantBaseIri w → ⊥) →
+    IfOk r (λ i. Names t k l i) → IfOk r (λ i. (s : InForce) → SameScope s t → LooksUp s (outer_of o) k l i t)
+outer_looks o t k l (Ok i) a b c h = λ s e. looks_ordinary s t (outer_of o) k l i (outer_ordinary o a b c) e h
+outer_looks o t k l (Err r) a b c h = tt
+
+pub outer_none : {A : Type 0} (o : Outer A) (t : InForce) (k : Kind) (l : Leaf) (r : Result (Option (List ℕ)) StepFault) →
+    ((w : Spelling) → o ≡ outer.WantPrefix w → ⊥) → ((w : Spelling) (p : _) → o ≡ outer.WantPrefixIri w p → ⊥) →
+    ((w : Spelling) → o ≡ outer.WantBaseIri w → ⊥) →
+    IfErr r (λ f. Unnamed t k l f) → IfErr r (λ f. (s : InForce) → SameScope s t → LooksUpNone s (outer_of o) k l f)
+outer_none o t k l (Ok i) a b c h = tt
+outer_none o t k l (Err r) a b c h = λ s e. none_ordinary s t (outer_of o) k l r (outer_ordinary o a b c) e h
+
+-- in directives
+pub prefix_looks : (s t : InForce) (w : M.Spelling) (k : Kind) (l : Leaf) (i : Option (List ℕ)) → SameScope s t → LooksUp s (M.WantPrefix w) k l i t
+prefix_looks s t w k l i e = record { admitted = λ a. refl; name = tt; named = tt; scope = e }
+
+pub other_binding : (s t : InForce) (w : M.Spelling) (p : List ℕ) (k : Kind) (l : Leaf) (i : Option (List ℕ)) → (k ≡ IriRef → ⊥) → SameScope s t →
+    LooksUp s (M.WantPrefixIri w p) k l i t
+other_binding s t w p IriRef l i n e = absurd (n refl)
+other_binding s t w p k l i n e = record { admitted = λ a. refl; name = tt; named = tt; scope = e }
+
+pub other_base : (s t : InForce) (w : M.Spelling) (k : Kind) (l : Leaf) (i : Option (List ℕ)) → (k ≡ IriRef → ⊥) → SameScope s t →
+    LooksUp s (M.WantBaseIri w) k l i t
+other_base s t w IriRef l i n e = absurd (n refl)
+other_base s t w k l i n e = record { admitted = λ a. refl; name = tt; named = tt; scope = e }
+
+based_same : (s t : InForce) (o : Option (List ℕ)) → SameScope s t → SameScope (with_base s o) (with_base t o)
+based_same s t None e = e
+based_same s t (Some i) e = record { base = refl; limits = e.limits; bound = e.bound; count = e.count }
+
+pub base_looks : (s t n : InForce) (w : M.Spelling) (l : Leaf) (i : Option (List ℕ)) → SameScope s t → Based t l n → LooksUp s (M.WantBaseIri w) IriRef l i n
+base_looks s t n w l i e b =
+    let r = reference_same s t l e in
+    record {
+      admitted = passes_at s.limits t.limits IriRef _ _ e.limits (ap stands r) b.admitted;
+      name = tt;
+      named = tt;
+      scope = subst (λ x. SameScope (with_base s x) n) (sym r) (subst (SameScope (with_base s (reference_in t l))) (sym b.scope) (based_same s t (reference_in t l) e));
+    }
+
+pub base_none : (s t : InForce) (w : M.Spelling) (l : Leaf) (r : StepFault) → SameScope s t → Unnamed t IriRef l r → LooksUpNone s (M.WantBaseIri w) IriRef l r
+base_none s t w l r e n = stops_at s.limits t.limits IriRef _ _ r e.limits (ap stands (reference_same s t l e)) n
+
+-- what a prefix is bound to after a binding
+equal-swapped : (v w : List ℕ) → equal v w ≡ equal w v
+equal-swapped v w = same_test _ _ (λ h. equal-from w v (sym (equal-true v w h))) (λ h. equal-from v w (sym (equal-true w v h)))
+
+bound_to-bind : (es : List (List ℕ × List ℕ)) (p i q : List ℕ) → bound_to (bind es p i) q ≡ cond (equal p q) (Some i) (bound_to es q)
+bound_to-bind [] p i q = ap (λ b. cond b (Some i) None) (equal-swapped q p)
+bound_to-bind (e ∷ es) p i q =
+    ⊎_elim
+    (λ (t : equal p e.0 ≡ true).
+    ap (λ z. bound_to z q) (cond-true (equal p e.0) ((p, i) ∷ es) (e ∷ bind es p i) t)
+    ∙ (ap (λ b. cond b (Some i) (bound_to es q)) (equal-swapped q p)
+    ∙ ⊎_elim
+    (λ (h : equal p q ≡ true). cond-true (equal p q) (Some i) (bound_to es q) h ∙ sym (cond-true (equal p q) (Some i) (bound_to (e ∷ es) q) h))
+    (λ (h : equal p q ≡ false).
+    let other : equal q e.0 ≡ false = ap (equal q) (sym (equal-true p e.0 t)) ∙ (equal-swapped q p ∙ h) in
+    cond-false (equal p q) (Some i) (bound_to es q) h
+    ∙ sym (cond-false (equal p q) (Some i) (bound_to (e ∷ es) q) h ∙ cond-false (equal q e.0) (Some e.1) (bound_to es q) other))
+    (cases_Bool (equal p q))))
+    (λ (f : equal p e.0 ≡ false).
+    ap (λ z. bound_to z q) (cond-false (equal p e.0) ((p, i) ∷ es) (e ∷ bind es p i) f)
+    ∙ (ap (λ z. cond (equal q e.0) (Some e.1) z) (bound_to-bind es p i q)
+    ∙ ⊎_elim
+    (λ (h : equal p q ≡ true).
+    let other : equal q e.0 ≡ false = ap (λ x. equal x e.0) (sym (equal-true p q h)) ∙ f in
+    cond-false (equal q e.0) (Some e.1) _ other ∙ (cond-true (equal p q) (Some i) (bound_to es q) h ∙ sym (cond-true (equal p q) (Some i) (bound_to (e ∷ es) q) h)))
+    (λ (h : equal p q ≡ false).
+    ap (λ z. cond (equal q e.0) (Some e.1) z) (cond-false (equal p q) (Some i) (bound_to es q) h) ∙ sym (cond-false (equal p q) (Some i) (bound_to (e ∷ es) q) h))
+    (cases_Bool (equal p q))))
+    (cases_Bool (equal p e.0))
+
+length-bind : (es : List (List ℕ × List ℕ)) (p i : List ℕ) → length (bind es p i) ≡ length es + cond (is_some (bound_to es p)) 0 1
+length-bind [] p i = refl
+length-bind (e ∷ es) p i =
+    ⊎_elim
+    (λ (t : equal p e.0 ≡ true).
+    let a = ap length (cond-true (equal p e.0) ((p, i) ∷ es) (e ∷ bind es p i) t) in
+    let b = ap (λ z. length (e ∷ es) + cond (is_some z) 0 1) (cond-true (equal p e.0) (Some e.1) (bound_to es p) t) in
+    omega (arith, a, b))
+    (λ (f : equal p e.0 ≡ false).
+    let a = ap length (cond-false (equal p e.0) ((p, i) ∷ es) (e ∷ bind es p i) f) in
+    let b = ap (λ z. length (e ∷ es) + cond (is_some z) 0 1) (cond-false (equal p e.0) (Some e.1) (bound_to es p) f) in
+    let c = length-bind es p i in
+    omega (arith, a, b, c))
+    (cases_Bool (equal p e.0))
+
+bound_same : (s t n : InForce) (p i : List ℕ) → SameScope s t → Binds t p i n → SameScope (with_binding s p (Some i)) n
+bound_same s t n p i e b = record {
+  base = e.base ∙ sym b.base;
+  limits = e.limits ∙ sym b.limits;
+  bound = λ q. bound_to-bind s.bindings p i q ∙ (ap (λ z. cond (equal p q) (Some i) z) (e.bound q) ∙ sym (b.bound q));
+  count = length-bind s.bindings p i
+      ∙ (ap (λ (z : ℕ). z + cond (is_some (bound_to s.bindings p)) 0 1) e.count
+      ∙ (ap (λ o. length t.bindings + cond (is_some o) 0 1) (e.bound p) ∙ sym b.count));
+}
+
+binds-same : (s t : InForce) (p : List ℕ) (l : Leaf) → SameScope s t → binds (is_full s p) (reference_in s l) ≡ binds (is_full t p) (reference_in t l)
+binds-same s t p l e = ap (λ x. binds x (reference_in s l)) (full_same s t p e) ∙ ap (binds (is_full t p)) (reference_same s t l e)
+
+pub binding_looks : (s t n : InForce) (w : M.Spelling) (p : List ℕ) (l : Leaf) (i : Option (List ℕ)) → SameScope s t → Binding t p l n →
+    LooksUp s (M.WantPrefixIri w p) IriRef l i n
+binding_looks s t n w p l i e b = record {
+  admitted = passes_at s.limits t.limits IriRef _ _ e.limits (binds-same s t p l e) b.admitted;
+  name = tt;
+  named = tt;
+  scope = subst (λ x. SameScope (with_binding s p x) n) (sym (reference_same s t l e ∙ b.reference)) (bound_same s t n p b.iri e b.binds);
+}
+
+pub binding_none : (s t : InForce) (w : M.Spelling) (p : List ℕ) (l : Leaf) (r : StepFault) → SameScope s t → NotBinding t p l r →
+    LooksUpNone s (M.WantPrefixIri w p) IriRef l r
+binding_none s t w p l r e n = stops_at s.limits t.limits IriRef _ _ r e.limits (binds-same s t p l e) n
+
+-- what holds of all holds of one
+pub picked_ok : {X E W : Type 0} (P : W → X → Type 0) (r : Result X E) (w : W) → IfOk r (λ x. (w : W) → P w x) → IfOk r (λ x. P w x)
+picked_ok P (Ok x) w h = h w
+picked_ok P (Err e) w h = tt
+
+pub picked_err : {X E W : Type 0} (P : W → E → Type 0) (r : Result X E) (w : W) → IfErr r (λ e. (w : W) → P w e) → IfErr r (λ e. P w e)
+picked_err P (Ok x) w h = tt
+picked_err P (Err e) w h = h w

@@ -1,0 +1,210 @@
+-- What the machine answers, from the parts of a step.
+use Rattle.std.proofs.Common.{◌≡◌, ◌≤◌, ◌<◌, ◌+◌, ◌*◌, ◌^◌, ℕ, Bool, true, false, List, [], ◌∷◌, ◌++◌, ◌&&◌, length, Option, Some, None, refl, sym, ap, ◌∙◌, subst, arith}
+use Rattle.std.specs.Prelude.{nat_le}
+use Rattle.std.specs.Str.{encode_utf8_all}
+use lib.Utf8.{encode}
+use Rattle.std.specs.Char.{len_utf8}
+use Rattle.std.proofs.lemmas.Bool.{cond-false, false≢true}
+use Rattle.std.proofs.lemmas.List.{length-append}
+use Rattle.std.proofs.lemmas.Str.{len_utf8_bounds, length-encode}
+use Rattle.rdf_terms.specs.declared.kind.Kind.{Kind}
+use Rattle.rdf_terms.specs.declared.kind.Kind.TheVariants.{IriRef, OpenBracket, CloseBracket, OpenParen, CloseParen}
+use Rattle.rdf_terms.specs.Terms.{Quad}
+use Rattle.rdf_terms.specs.Sinks.{Appends}
+use Rattle.rdf_iri.specs.Limits.{Sizes}
+use Rattle.rdf_iri.specs.Texts.{byte_len}
+use Rattle.rdf_iri.specs.Scope.{InForce}
+use Rattle.rdf_lines.specs.Lines.{Leaf}
+use Rattle.rdf_trig.specs.declared.form.DocForm.{DocForm}
+use Rattle.rdf_trig.specs.declared.fault.StepFault.{StepFault}
+use Rattle.rdf_trig.specs.declared.fault.StepFault.TheVariants as fault
+use Rattle.rdf_trig.specs.declared.state.State.{State}
+use Rattle.rdf_trig.specs.declared.state.Mode.{Mode}
+use Rattle.rdf_trig.specs.declared.state.Mode.TheVariants as mode
+use Rattle.rdf_trig.specs.declared.state.Outer.TheVariants as outer
+use Rattle.rdf_trig.specs.declared.state.Level.{Level}
+use Rattle.rdf_trig.specs.declared.state.Frame.{Frame}
+use Rattle.rdf_trig.specs.Names.{with_base, with_binding, reference_in}
+use Rattle.rdf_trig.specs.Quads.{Setting}
+use Rattle.rdf_trig.specs.Events.{Use}
+use Rattle.rdf_trig.specs.Refusals as refusal
+use Rattle.rdf_trig.specs.Machine as M
+use Rattle.rdf_trig.specs.Machine.{Reply, No, Go, kept, by_use, refuses, accepts}
+use Rattle.rdf_trig.specs.States.{mode_of, use_in, scope_in, is_go, DepthMoves, ShortPrefix, PrefixFits}
+use Rattle.rdf_trig.specs.Scopes.{IsAdmitted, SameScope, LooksUp, LooksUpNone}
+use Rattle.rdf_trig.specs.Steps.{Begins, GaveUp, state_of, moved, May, Stays, DepthMay, Keeps, Accepts, answered, Fails}
+use Rattle.rdf_trig.proofs.code.StepBounds.{step_use, step_depth, step_prefix}
+use Rattle.rdf_trig.proofs.code.PutsInRow.{begins_all}
+
+-- a reply that accepts, by its parts
+abbrev Goes : Reply → Type 0
+Goes reply = (u : Use) × (early now : Option Quad) × (c : Setting) × (m : M.Mode) × (reply ≡ Go u early now c m)
+
+goes : (reply : Reply) → is_go reply ≡ true → Goes reply
+goes No h = absurd (false≢true h)
+goes (Go u early now c m) h = (u, early, now, c, m, refl)
+
+stays_no : (sizes : Sizes) (n : M.State) (k : Kind) (w : Option Quad) (reply : Reply) → is_go reply ≡ false →
+    M.answer sizes n k w reply ≡ refuses refusal.unexpected
+stays_no sizes n k w No h = refl
+stays_no sizes n k w (Go u early now c m) h = absurd (false≢true (sym h))
+
+pub not_allowed : (form : DocForm) (n : M.State) (k : Kind) (l : Leaf) → is_go (M.step form n.setting n.mode k l) ≡ false →
+    M.accept form n k l ≡ refuses refusal.unexpected
+not_allowed form n k l h = stays_no n.setting.scope.limits n k (M.waiting n.setting n.mode k l) (M.step form n.setting n.mode k l) h
+
+pub may_count : (form : DocForm) (c : Setting) (m : M.Mode) (k : Kind) (l : Leaf) (d : ℕ) → is_go (M.step form c m k l) ≡ true → d ≡ M.depth m →
+    (M.deepens k ≡ true → d + 1 < 2 ^ 64) → DepthMay k d
+may_count form c m OpenBracket l d g e h = h refl
+may_count form c m OpenParen l d g e h = h refl
+may_count form c m CloseBracket l d g e h =
+    let r = goes (M.step form c m CloseBracket l) g in
+    let moves : M.depth r.4 + 1 ≡ M.depth m = step_depth form c m CloseBracket l r.0 r.1 r.2 r.3 r.4 r.5 in
+    omega (arith, moves, e)
+may_count form c m CloseParen l d g e h =
+    let r = goes (M.step form c m CloseParen l) g in
+    let moves : M.depth r.4 + 1 ≡ M.depth m = step_depth form c m CloseParen l r.0 r.1 r.2 r.3 r.4 r.5 in
+    omega (arith, moves, e)
+may_count form c m k l d g e h = tt
+
+-- the answer, once the token is allowed and not too deep
+abbrev quads_out : M.State → Kind → Leaf → List Quad
+quads_out n k l = n.held ++ kept (M.waiting n.setting n.mode k l) []
+
+abbrev behind : Option Quad → Option Quad → Setting → M.Mode → M.State
+behind early now c m = record { setting = c; mode = m; held = kept early (kept now []) }
+
+answer_is : (form : DocForm) (n : M.State) (k : Kind) (l : Leaf) (u : Use) (early now : Option Quad) (c : Setting) (m : M.Mode) → May form n k l →
+    M.step form n.setting n.mode k l ≡ Go u early now c m → M.accept form n k l ≡ by_use n.setting.scope.limits k u
+    (accepts (quads_out n k l) (behind early now c m))
+answer_is form n k l u early now c m may e =
+    ap (M.answer n.setting.scope.limits n k (M.waiting n.setting n.mode k l)) e
+    ∙ cond-false (M.deepens k && nat_le n.setting.scope.limits.depth (M.depth n.mode)) (refuses refusal.too_deep) (by_use n.setting.scope.limits k u (accepts (quads_out n k l) (behind early now c m))) may.1
+
+-- and what it stands for passes
+passed : (form : DocForm) (n : M.State) (k : Kind) (l : Leaf) → May form n k l → IsAdmitted n.setting.scope.limits k (use_in n.setting.scope n.mode k l) →
+    (o : M.State) × (M.accept form n k l ≡ accepts (quads_out n k l) o)
+passed form n k l may p =
+    let r = goes (M.step form n.setting n.mode k l) may.0 in
+    let o = behind r.1 r.2 r.3 r.4 in
+    let same = step_use form n.setting n.mode k l r.0 r.1 r.2 r.3 r.4 r.5 in
+    (o, answer_is form n k l r.0 r.1 r.2 r.3 r.4 may r.5 ∙ (ap (λ u. by_use n.setting.scope.limits k u (accepts (quads_out n k l) o)) same ∙ p (accepts (quads_out n k l) o)))
+
+-- or it does not
+stops_answer : (form : DocForm) (n : M.State) (k : Kind) (l : Leaf) (e : refusal.Refusal) → May form n k l →
+    ((a : M.Answer) → by_use n.setting.scope.limits k (use_in n.setting.scope n.mode k l) a ≡ refuses e) → M.accept form n k l ≡ refuses e
+stops_answer form n k l e may s =
+    let r = goes (M.step form n.setting n.mode k l) may.0 in
+    let o = behind r.1 r.2 r.3 r.4 in
+    let same = step_use form n.setting n.mode k l r.0 r.1 r.2 r.3 r.4 r.5 in
+    answer_is form n k l r.0 r.1 r.2 r.3 r.4 may r.5 ∙ (ap (λ u. by_use n.setting.scope.limits k u (accepts (quads_out n k l) o)) same ∙ s (accepts (quads_out n k l) o))
+
+pub fails_stops : {S : Type 0} (takes leaves : S → Quad → S → Type 0) (failed : S → Bool) (form : DocForm) (n : M.State) (k : Kind) (l : Leaf)
+    (r : StepFault) (sink : S) → failed sink ≡ false →
+    May form n k l → LooksUpNone n.setting.scope n.mode k l r → Fails takes leaves failed r (M.accept form n k l) sink sink
+fails_stops takes leaves failed form n k l fault.Unbound sink live may s = (stops_answer form n k l refusal.unbound may s, refl)
+fails_stops takes leaves failed form n k l fault.NoBase sink live may s = (stops_answer form n k l refusal.no_base may s, refl)
+fails_stops takes leaves failed form n k l fault.IriTooLong sink live may s = (stops_answer form n k l refusal.iri_too_long may s, refl)
+fails_stops takes leaves failed form n k l fault.TooManyBindings sink live may s = (stops_answer form n k l refusal.too_many_bindings may s, refl)
+fails_stops takes leaves failed form n k l fault.Memory sink live may s = (([], answered (M.accept form n k l), refl, refl), live)
+fails_stops takes leaves failed form n k l r sink live may s = absurd s
+
+pub fails_gave : {S : Type 0} (takes leaves : S → Quad → S → Type 0) (failed : S → Bool) (form : DocForm) (n : M.State) (k : Kind) (l : Leaf)
+    (r : StepFault) (sink new : S) →
+    May form n k l → IsAdmitted n.setting.scope.limits k (use_in n.setting.scope n.mode k l) → GaveUp takes leaves failed r (quads_out n k l) sink new →
+    Fails takes leaves failed r (M.accept form n k l) sink new
+fails_gave takes leaves failed form n k l fault.Memory sink new may p h =
+    let a = passed form n k l may p in (subst (λ x. Begins takes leaves (answered x) sink new) (sym a.1) h.0, h.1)
+fails_gave takes leaves failed form n k l fault.Sink sink new may p h =
+    let a = passed form n k l may p in (subst (λ x. Begins takes leaves (answered x) sink new) (sym a.1) h.0, h.1)
+fails_gave takes leaves failed form n k l r sink new may p h = absurd h
+
+pub fails_stays : {S : Type 0} (takes leaves : S → Quad → S → Type 0) (failed : S → Bool) (form : DocForm) (n : M.State) (k : Kind) (l : Leaf)
+    (r : StepFault) (sink new : S) →
+    May form n k l → IsAdmitted n.setting.scope.limits k (use_in n.setting.scope n.mode k l) → Appends takes sink (quads_out n k l) new →
+    Stays r (M.step form n.setting n.mode k l) → failed new ≡ false → Fails takes leaves failed r (M.accept form n k l) sink new
+fails_stays takes leaves failed form n k l fault.Unexpected sink new may p h s live = absurd (false≢true (sym (ap is_go s) ∙ may.0))
+fails_stays takes leaves failed form n k l fault.Memory sink new may p h s live =
+    let a = passed form n k l may p in (subst (λ x. Begins takes leaves (answered x) sink new) (sym a.1) (begins_all takes leaves sink new (quads_out n k l) h), live)
+fails_stays takes leaves failed form n k l r sink new may p h s live = absurd s
+
+-- the state after an accepted token
+pub accepts_moved : {A S : Type 0} (takes : S → Quad → S → Type 0) (form : DocForm) (s t : InForce) (old r : State A) (k : Kind) (l : Leaf)
+    (i : Option (List ℕ)) (sink new : S) →
+    May form (state_of form s old) k l → LooksUp s (state_of form s old).mode k l i t →
+    M.step form (state_of form s old).setting (state_of form s old).mode k l ≡ moved form (scope_in s (state_of form s old).mode k l)
+    (use_in s (state_of form s old).mode k l) r →
+    Appends takes sink (quads_out (state_of form s old) k l) new → Accepts takes form (M.accept form (state_of form s old) k l) sink r t new
+accepts_moved takes form s t old r k l i sink new may looks e h =
+    let n = state_of form s old in
+    let o = state_of form (scope_in s n.mode k l) r in
+    let is : M.accept form n k l ≡ accepts (quads_out n k l) o =
+    answer_is form n k l (use_in s n.mode k l) _ _ o.setting o.mode may e ∙ looks.admitted (accepts (quads_out n k l) o)
+    in
+    subst (λ a. Accepts takes form a sink r t new) (sym is) (h, (scope_in s n.mode k l, looks.scope, refl))
+
+-- what is kept
+depth_same : (k : Kind) (old new was is : ℕ) → old ≡ was → DepthMoves k old new → DepthMoves k was is → new ≡ is
+depth_same OpenBracket old new was is e f g = omega (arith, e, f, g)
+depth_same OpenParen old new was is e f g = omega (arith, e, f, g)
+depth_same CloseBracket old new was is e f g = omega (arith, e, f, g)
+depth_same CloseParen old new was is e f g = omega (arith, e, f, g)
+depth_same k old new was is e f g = f ∙ (e ∙ sym g)
+
+prefix_kept : {A : Type 0} (a b : ℕ) (form : DocForm) (v : Level A) (fs : List (Frame A)) (m : Mode A) → a ≤ b → ShortPrefix a (mode_of form v fs m) →
+    PrefixFits b m
+prefix_kept a b form v fs (mode.Outer (outer.WantPrefixIri w p)) h s = omega (arith, h, s)
+prefix_kept a b form v fs m h s = tt
+
+pub keeps_moved : {A : Type 0} (form : DocForm) (s : InForce) (sizes : Sizes) (old r : State A) (k : Kind) (l : Leaf) (u : Use) (t : InForce) →
+    Keeps form sizes old → byte_len l.text ≤ 4 * sizes.token →
+    M.step form (state_of form s old).setting (state_of form s old).mode k l ≡ moved form t u r → DepthMoves k old.depth r.depth → Keeps form sizes r
+keeps_moved form s sizes old r k l u t keeps short e d =
+    let n = state_of form s old in
+    record {
+      depth = depth_same k old.depth r.depth (M.depth n.mode) _ keeps.depth d (step_depth form n.setting n.mode k l u _ _ _ _ e);
+      short = prefix_kept (byte_len l.text) (4 * sizes.token) form r.level r.frames.items r.mode short (step_prefix form n.setting n.mode k l u _ _ _ _ e);
+    }
+
+-- a character has at most four bytes
+pub bytes_at_most : (w : List ℕ) (n : ℕ) → length w ≤ n → byte_len w ≤ 4 * n
+bytes_at_most w n h = let b = by w in omega (arith, b, h)
+  where
+    by : (w : List ℕ) → byte_len w ≤ 4 * length w
+    by [] = omega arith
+    by (c ∷ w) =
+        let one = (len_utf8_bounds c).1 in
+        let size : length (encode c) ≡ len_utf8 c = length-encode c in
+        let all : byte_len (c ∷ w) ≡ length (encode c) + byte_len w = length-append (encode c) (encode_utf8_all w) in
+        let rest = by w in
+        omega (arith, one, size, all, rest)
+
+-- and at least one
+pub bytes_at_least : (w : List ℕ) → length w ≤ byte_len w
+bytes_at_least [] = omega arith
+bytes_at_least (c ∷ w) =
+    let one = (len_utf8_bounds c).0 in
+    let size : length (encode c) ≡ len_utf8 c = length-encode c in
+    let all : byte_len (c ∷ w) ≡ length (encode c) + byte_len w = length-append (encode c) (encode_utf8_all w) in
+    let rest = bytes_at_least w in
+    omega (arith, one, size, all, rest)
+
+-- the limits stay
+bound_limits : (s : InForce) (p : List ℕ) (o : Option (List ℕ)) → (with_binding s p o).limits ≡ s.limits
+bound_limits s p None = refl
+bound_limits s p (Some i) = refl
+
+based_limits : (s : InForce) (o : Option (List ℕ)) → (with_base s o).limits ≡ s.limits
+based_limits s None = refl
+based_limits s (Some i) = refl
+
+scope_in-limits : (s : InForce) (m : M.Mode) (k : Kind) (l : Leaf) → (scope_in s m k l).limits ≡ s.limits
+scope_in-limits s (M.WantPrefixIri w p) IriRef l = bound_limits s p (reference_in s l)
+scope_in-limits s (M.WantBaseIri w) IriRef l = based_limits s (reference_in s l)
+scope_in-limits s m k l = refl
+
+pub limits_kept : (s t : InForce) (m : M.Mode) (k : Kind) (l : Leaf) (i : Option (List ℕ)) → LooksUp s m k l i t → t.limits ≡ s.limits
+limits_kept s t m k l i h = sym h.scope.limits ∙ scope_in-limits s m k l
+
+pub same_scope : (s : InForce) → SameScope s s
+same_scope s = record { base = refl; limits = refl; bound = λ q. refl; count = refl }

@@ -1,0 +1,83 @@
+-- Puts one after the other.
+use Rattle.std.proofs.Common.{◌≡◌, ℕ, Bool, List, [], ◌∷◌, ◌++◌, Option, Some, None, Result, Ok, Err, inr, refl, sym, ap, ◌∙◌, subst}
+use Rattle.std.proofs.lemmas.List.{append-nil, append_assoc}
+use Rattle.rdf_terms.specs.Terms.{Quad}
+use Rattle.rdf_terms.specs.Sinks.{Appends, Attempts}
+use Rattle.rdf_trig.specs.declared.fault.StepFault.{StepFault}
+use Rattle.rdf_trig.specs.declared.fault.StepFault.TheVariants.{Memory, Sink}
+use Rattle.std.specs.Prelude.{IfErr, IsErrAnd}
+use Rattle.rdf_iri.specs.Scope.{InForce}
+use Rattle.rdf_trig.specs.declared.form.DocForm.{DocForm}
+use Rattle.rdf_terms.specs.Terms as term
+use Rattle.rdf_tokens.specs.declared.token.Token.{Token as Given}
+use Rattle.rdf_trig.specs.declared.state.Level.{Level}
+use Rattle.rdf_trig.specs.declared.state.Frame.{Frame}
+use Rattle.rdf_trig.specs.declared.state.Mode.{Mode}
+use Rattle.rdf_trig.specs.declared.state.Held.{Held}
+use Rattle.rdf_trig.specs.Machine as M
+use Rattle.rdf_trig.specs.Machine.{kept}
+use Rattle.rdf_trig.specs.States.{leaf, mode_of, graph_of, graph_at, setting, rest_of, held_of}
+use Rattle.rdf_trig.specs.Steps.{Begins, GaveUp, given}
+
+pub appends_append : {S : Type 0} (takes : S → Quad → S → Type 0) (a b c : S) (qs rs : List Quad) → Appends takes a qs b → Appends takes b rs c →
+    Appends takes a (qs ++ rs) c
+appends_append takes a b c [] rs h k = subst (λ x. Appends takes x rs c) h k
+appends_append takes a b c (q ∷ qs) rs h k = (h.0, h.1, appends_append takes h.0 b c qs rs h.2 k)
+
+attempts_append : {S : Type 0} (takes leaves : S → Quad → S → Type 0) (a b c : S) (qs rs : List Quad) → Appends takes a qs b →
+    Attempts takes leaves b rs c → Attempts takes leaves a (qs ++ rs) c
+attempts_append takes leaves a b c [] rs h k = subst (λ x. Attempts takes leaves x rs c) h k
+attempts_append takes leaves a b c (q ∷ qs) rs h k = inr (h.0, h.1, attempts_append takes leaves h.0 b c qs rs h.2 k)
+
+attempts_all : {S : Type 0} (takes leaves : S → Quad → S → Type 0) (a b : S) (qs : List Quad) → Appends takes a qs b → Attempts takes leaves a qs b
+attempts_all takes leaves a b [] h = h
+attempts_all takes leaves a b (q ∷ qs) h = inr (h.0, h.1, attempts_all takes leaves h.0 b qs h.2)
+
+-- all of the quads were put, or all but some
+pub begins_all : {S : Type 0} (takes leaves : S → Quad → S → Type 0) (a b : S) (qs : List Quad) → Appends takes a qs b → Begins takes leaves qs a b
+begins_all takes leaves a b qs h = (qs, [], sym (append-nil qs), attempts_all takes leaves a b qs h)
+
+begins_more : {S : Type 0} (takes leaves : S → Quad → S → Type 0) (a b : S) (qs rs : List Quad) → Begins takes leaves qs a b →
+    Begins takes leaves (qs ++ rs) a b
+begins_more takes leaves a b qs rs h = (h.0, h.1 ++ rs, ap (λ x. x ++ rs) h.2 ∙ append_assoc h.0 h.1 rs, h.3)
+
+begins_behind : {S : Type 0} (takes leaves : S → Quad → S → Type 0) (a b c : S) (qs rs : List Quad) → Appends takes a qs b →
+    Begins takes leaves rs b c → Begins takes leaves (qs ++ rs) a c
+begins_behind takes leaves a b c qs rs h k = (qs ++ k.0, k.1, ap (λ x. qs ++ x) k.2 ∙ sym (append_assoc qs k.0 k.1), attempts_append takes leaves a b c qs k.0 h k.3)
+
+pub gave_more : {S : Type 0} (takes leaves : S → Quad → S → Type 0) (failed : S → Bool) (r : StepFault) (a b : S) (qs rs : List Quad) →
+    GaveUp takes leaves failed r qs a b → GaveUp takes leaves failed r (qs ++ rs) a b
+gave_more takes leaves failed Memory a b qs rs h = (begins_more takes leaves a b qs rs h.0, h.1)
+gave_more takes leaves failed Sink a b qs rs h = (begins_more takes leaves a b qs rs h.0, h.1)
+gave_more takes leaves failed r a b qs rs h = absurd h
+
+pub gave_behind : {S : Type 0} (takes leaves : S → Quad → S → Type 0) (failed : S → Bool) (r : StepFault) (a b c : S) (qs rs : List Quad) →
+    Appends takes a qs b → GaveUp takes leaves failed r rs b c → GaveUp takes leaves failed r (qs ++ rs) a c
+gave_behind takes leaves failed Memory a b c qs rs h k = (begins_behind takes leaves a b c qs rs h k.0, k.1)
+gave_behind takes leaves failed Sink a b c qs rs h k = (begins_behind takes leaves a b c qs rs h k.0, k.1)
+gave_behind takes leaves failed r a b c qs rs h k = absurd k
+
+-- the quads that a token determines, one by one
+pub kept_apart : (q r w : Option Quad) → kept q (kept r []) ++ kept w [] ≡ kept q [] ++ (kept r [] ++ kept w [])
+kept_apart None None w = refl
+kept_apart None (Some r) w = refl
+kept_apart (Some q) None w = refl
+kept_apart (Some q) (Some r) w = refl
+
+pub given_apart : (q a r b w c : Option Quad) → q ≡ a → r ≡ b → w ≡ c → kept a (kept b []) ++ kept c [] ≡ kept q [] ++ (kept r [] ++ kept w [])
+given_apart q a r b w c e f g =
+    sym (ap (λ x. kept x (kept b []) ++ kept c []) e) ∙ (sym (ap (λ x. kept q (kept x []) ++ kept c []) f) ∙ (sym (ap (λ x. kept q (kept r []) ++ kept x []) g) ∙ kept_apart q r w))
+
+pub given_in : {A : Type 0} (form : DocForm) (s : InForce) (m : Mode A) (v : Level A) (fs : List (Frame A)) (rest : Option (ℕ × ℕ)) (held : Held A) (t : Given)
+    (g : Option term.Subject) (q r w : Option Quad) →
+    g ≡ graph_at m (graph_of v) → q ≡ rest_of g rest → r ≡ held_of g (mode_of form v fs m) held → w ≡ M.waiting (setting s g) (mode_of form v fs m) t.kind (leaf t) →
+    given form s m v fs rest held t ≡ kept q [] ++ (kept r [] ++ kept w [])
+given_in form s m v fs rest held t g q r w e a b c =
+    given_apart q _ r _ w _
+    (a ∙ ap (λ x. rest_of x rest) e)
+    (b ∙ ap (λ x. held_of x (mode_of form v fs m) held) e)
+    (c ∙ ap (λ x. M.waiting (setting s x) (mode_of form v fs m) t.kind (leaf t)) e)
+
+pub told_stops : {T : Type 0} (r : Result T StepFault) (told : StepFault) (P : StepFault → Type 0) → IsErrAnd r (λ t. t ≡ told) → P told → IfErr r P
+told_stops (Ok x) told P e h = tt
+told_stops (Err t) told P e h = subst P (sym e) h

@@ -1,0 +1,222 @@
+-- What every step of the machine keeps to: what its token stands for, how many brackets are open after it, how long a directive's prefix is.
+use Rattle.std.proofs.Common.{◌≡◌, ◌≤◌, ◌+◌, ℕ, List, Option, Some, None, refl, sym, ap, ◌∙◌, subst, arith}
+use Rattle.rdf_terms.specs.declared.kind.Kind.{Kind}
+use Rattle.rdf_terms.specs.declared.kind.Kind.TheVariants.{IriRef, LabelNode, ShortString, LongString, LangTag, Carets, Dot, Integer, Decimal, Double, True, False, A, AtPrefix, AtBase, Prefix, Base, Graph, PnameNs, PnameLn, Semicolon, Comma, OpenBracket, CloseBracket, OpenParen, CloseParen, OpenBrace, CloseBrace, End}
+use Rattle.rdf_terms.specs.Terms.{Quad}
+use Rattle.rdf_terms.specs.Terms as term
+use Rattle.rdf_iri.specs.Texts.{byte_len, before, from}
+use Rattle.rdf_iri.proofs.TextsLemmas.{before-from}
+use Rattle.rdf_iri.proofs.ScopeLemmas.{byte_len-append}
+use Rattle.rdf_lines.specs.Lines.{Leaf}
+use Rattle.rdf_trig.specs.declared.form.DocForm.{DocForm}
+use Rattle.rdf_trig.specs.declared.form.DocForm.TheVariants.{Turtle, TriG}
+use Rattle.rdf_trig.specs.Quads.{Setting, in_default, rest_quad, cell_at, node}
+use Rattle.rdf_trig.specs.Events.{Use, itself}
+use Rattle.rdf_trig.specs.Machine as M
+use Rattle.rdf_trig.specs.Machine.{Reply, No, Go, depth, depth_at, depth_around, depth_up}
+use Rattle.rdf_trig.specs.States.{use_at, use_in, DepthMoves, ShortPrefix}
+
+-- a reply to a token that stands for this, where so many brackets are open
+abbrev Fits : Use → ℕ → Kind → Leaf → Reply → Type 0
+Fits u n k l No = Unit {0}
+Fits u n k l (Go v early now c m) = (v ≡ u) × DepthMoves k n (depth m) × ShortPrefix (byte_len l.text) m
+
+object_fits : (c : Setting) (p : M.Place) (e : Option Quad) (k : Kind) (l : Leaf) → Fits (use_at c.scope k l) (depth_at p) k l (M.object_start c p e k l)
+object_fits c p e IriRef l = (refl, refl, tt)
+object_fits c p e PnameLn l = (refl, refl, tt)
+object_fits c p e PnameNs l = (refl, refl, tt)
+object_fits c p e LabelNode l = (refl, refl, tt)
+object_fits c p e ShortString l = (refl, refl, tt)
+object_fits c p e LongString l = (refl, refl, tt)
+object_fits c p e Integer l = (refl, refl, tt)
+object_fits c p e Decimal l = (refl, refl, tt)
+object_fits c p e Double l = (refl, refl, tt)
+object_fits c p e True l = (refl, refl, tt)
+object_fits c p e False l = (refl, refl, tt)
+object_fits c p e OpenBracket l = (refl, refl, tt)
+object_fits c p e OpenParen l = (refl, refl, tt)
+object_fits c p e k l = tt
+
+type_fits : (c : Setting) (w : List ℕ) (p : M.Place) (k : Kind) (l : Leaf) → Fits (use_at c.scope k l) (depth_at p) k l (M.want_type c w p k l)
+type_fits c w p IriRef l = (refl, refl, tt)
+type_fits c w p PnameLn l = (refl, refl, tt)
+type_fits c w p PnameNs l = (refl, refl, tt)
+type_fits c w p k l = tt
+
+verb_fits : (c : Setting) (s : Option term.Subject) (a : M.Around) (k : Kind) (l : Leaf) →
+    Fits (use_at c.scope k l) (depth_around a) k l (M.verb_start c s a k l)
+verb_fits c s a IriRef l = (refl, refl, tt)
+verb_fits c s a PnameLn l = (refl, refl, tt)
+verb_fits c s a PnameNs l = (refl, refl, tt)
+verb_fits c s a A l = (refl, refl, tt)
+verb_fits c s a k l = tt
+
+subject_depth : (form : DocForm) (v : M.Level) (s : Option term.Subject) (n : ℕ) →
+    (depth (M.after_subject form v s) ≡ 0) × ShortPrefix n (M.after_subject form v s)
+subject_depth TriG M.Top s n = (refl, tt)
+subject_depth TriG M.InBlock s n = (refl, tt)
+subject_depth Turtle M.Top s n = (refl, tt)
+subject_depth Turtle M.InBlock s n = (refl, tt)
+
+node_depth : (form : DocForm) (u : M.Up) (s : Option term.Subject) (n : ℕ) →
+    (depth (M.node_closed form u s) + 1 ≡ depth_up u + 1) × ShortPrefix n (M.node_closed form u s)
+node_depth form (M.Subject v) s n = let d = subject_depth form v s n in (ap (λ x. x + 1) d.0, d.1)
+node_depth form (M.At p) s n = (refl, tt)
+
+box_depth : (u : M.Up) (s : Option term.Subject) (n : ℕ) → (depth (M.box_closed u s) + 1 ≡ depth_up u + 1) × ShortPrefix n (M.box_closed u s)
+box_depth (M.Subject v) s n = (refl, tt)
+box_depth (M.At p) s n = (refl, tt)
+
+list_depth : (u : M.Up) (s : Option term.Subject) (n : ℕ) → (depth (M.list_closed u s) + 1 ≡ depth_up u + 1) × ShortPrefix n (M.list_closed u s)
+list_depth (M.Subject v) s n = (refl, tt)
+list_depth (M.At p) s n = (refl, tt)
+
+end_fits : (c : Setting) (s : Option term.Subject) (a : M.Around) (k : Kind) (l : Leaf) → Fits (use_at c.scope k l) (depth_around a) k l (M.list_end c s a k l)
+end_fits c s (M.Statement M.Top) Dot l = (refl, refl, tt)
+end_fits c s (M.Statement M.InBlock) Dot l = (refl, refl, tt)
+end_fits c s (M.Statement M.InBlock) CloseBrace l = (refl, refl, tt)
+end_fits c s (M.Boxed u) CloseBracket l = let d = box_depth u s (byte_len l.text) in (refl, d.0, d.1)
+end_fits c s a k l = tt
+
+semi_fits : (c : Setting) (s : Option term.Subject) (a : M.Around) (k : Kind) (l : Leaf) → Fits (use_at c.scope k l) (depth_around a) k l (M.semi c s a k l)
+semi_fits c s a Semicolon l = (refl, refl, tt)
+semi_fits c s a IriRef l = verb_fits c s a IriRef l
+semi_fits c s a PnameLn l = verb_fits c s a PnameLn l
+semi_fits c s a PnameNs l = verb_fits c s a PnameNs l
+semi_fits c s a A l = verb_fits c s a A l
+semi_fits c s a k l = end_fits c s a k l
+
+after_fits : (c : Setting) (p : M.Place) (k : Kind) (l : Leaf) → Fits (use_at c.scope k l) (depth_at p) k l (M.after c p k l)
+after_fits c (M.Listed s p a) Comma l = (refl, refl, tt)
+after_fits c (M.Listed s p a) Semicolon l = (refl, refl, tt)
+after_fits c (M.Listed s p a) k l = end_fits c s a k l
+after_fits c (M.InCells f n u) CloseParen l = let d = list_depth u (M.cell f) (byte_len l.text) in (refl, d.0, d.1)
+after_fits c (M.InCells f n u) k l = object_fits c (M.InCells f l.at.offset u) (rest_quad c (term.Cell n) (term.Blank (cell_at l))) k l
+
+text_fits : (c : Setting) (w : List ℕ) (p : M.Place) (k : Kind) (l : Leaf) → Fits (use_at c.scope k l) (depth_at p) k l (M.after_text c w p k l)
+text_fits c w p LangTag l = (refl, refl, tt)
+text_fits c w p AtBase l = (refl, refl, tt)
+text_fits c w p AtPrefix l = (refl, refl, tt)
+text_fits c w p Carets l = (refl, refl, tt)
+text_fits c w p k l = after_fits c p k l
+
+box_fits : (form : DocForm) (c : Setting) (n : ℕ) (u : M.Up) (k : Kind) (l : Leaf) → Fits (use_at c.scope k l) (depth_up u + 1) k l (M.box form c n u k l)
+box_fits form c n u CloseBracket l = let d = node_depth form u (node (term.Anon n)) (byte_len l.text) in (refl, d.0, d.1)
+box_fits form c n u k l = verb_fits c (node (term.Anon n)) (M.Boxed u) k l
+
+paren_fits : (c : Setting) (u : M.Up) (k : Kind) (l : Leaf) → Fits (use_at c.scope k l) (depth_up u + 1) k l (M.paren c u k l)
+paren_fits c u CloseParen l = let d = list_depth u (Some M.nil) (byte_len l.text) in (refl, d.0, d.1)
+paren_fits c u k l = object_fits c (M.InCells l.at.offset l.at.offset u) None k l
+
+after_box_fits : (c : Setting) (s : Option term.Subject) (v : M.Level) (k : Kind) (l : Leaf) → Fits (use_at c.scope k l) 0 k l (M.after_box c s v k l)
+after_box_fits c s v IriRef l = verb_fits c s (M.Statement v) IriRef l
+after_box_fits c s v PnameLn l = verb_fits c s (M.Statement v) PnameLn l
+after_box_fits c s v PnameNs l = verb_fits c s (M.Statement v) PnameNs l
+after_box_fits c s v A l = verb_fits c s (M.Statement v) A l
+after_box_fits c s v k l = end_fits c s (M.Statement v) k l
+
+subject_fits : (form : DocForm) (c : Setting) (v : M.Level) (k : Kind) (l : Leaf) → Fits (use_at c.scope k l) 0 k l (M.subject_start form c v k l)
+subject_fits form c v IriRef l = let d = subject_depth form v _ (byte_len l.text) in (refl, d.0, d.1)
+subject_fits form c v PnameLn l = let d = subject_depth form v _ (byte_len l.text) in (refl, d.0, d.1)
+subject_fits form c v PnameNs l = let d = subject_depth form v _ (byte_len l.text) in (refl, d.0, d.1)
+subject_fits form c v LabelNode l = let d = subject_depth form v _ (byte_len l.text) in (refl, d.0, d.1)
+subject_fits form c v OpenBracket l = (refl, refl, tt)
+subject_fits form c v OpenParen l = (refl, refl, tt)
+subject_fits form c v k l = tt
+
+start_fits : (form : DocForm) (c : Setting) (k : Kind) (l : Leaf) → Fits (use_at c.scope k l) 0 k l (M.start form c k l)
+start_fits form c End l = (refl, refl, tt)
+start_fits form c AtPrefix l = (refl, refl, tt)
+start_fits form c Prefix l = (refl, refl, tt)
+start_fits form c AtBase l = (refl, refl, tt)
+start_fits form c Base l = (refl, refl, tt)
+start_fits TriG c Graph l = (refl, refl, tt)
+start_fits TriG c OpenBrace l = (refl, refl, tt)
+start_fits Turtle c Graph l = tt
+start_fits Turtle c OpenBrace l = tt
+start_fits form c k l = subject_fits form (in_default c.scope) M.Top k l
+
+inside_fits : (form : DocForm) (c : Setting) (k : Kind) (l : Leaf) → Fits (use_at c.scope k l) 0 k l (M.inside form c k l)
+inside_fits form c CloseBrace l = (refl, refl, tt)
+inside_fits form c k l = subject_fits form c M.InBlock k l
+
+brace_fits : (c : Setting) (g : Option term.Subject) (k : Kind) (l : Leaf) → Fits (use_at c.scope k l) 0 k l (M.want_brace c g k l)
+brace_fits c g OpenBrace l = (refl, refl, tt)
+brace_fits c g k l = tt
+
+label_fits : (c : Setting) (g : Option term.Subject) (k : Kind) (l : Leaf) → Fits (use_at c.scope k l) 0 k l (M.after_label c g k l)
+label_fits c g OpenBrace l = (refl, refl, tt)
+label_fits c g k l = verb_fits c g (M.Statement M.Top) k l
+
+graph_fits : (c : Setting) (k : Kind) (l : Leaf) → Fits (use_at c.scope k l) 0 k l (M.graph_word c k l)
+graph_fits c IriRef l = (refl, refl, tt)
+graph_fits c PnameLn l = (refl, refl, tt)
+graph_fits c PnameNs l = (refl, refl, tt)
+graph_fits c LabelNode l = (refl, refl, tt)
+graph_fits c OpenBracket l = (refl, refl, tt)
+graph_fits c k l = tt
+
+graph_box_fits : (c : Setting) (n : ℕ) (k : Kind) (l : Leaf) → Fits (use_at c.scope k l) 1 k l (M.graph_box c n k l)
+graph_box_fits c n CloseBracket l = (refl, refl, tt)
+graph_box_fits c n k l = tt
+
+-- directives
+front_short : (c : ℕ) (w : List ℕ) → byte_len (before c w) ≤ byte_len w
+front_short c w =
+    let e : byte_len w ≡ byte_len (before c w) + byte_len (from c w) = ap byte_len (sym (before-from c w)) ∙ byte_len-append (before c w) (from c w) in
+    omega (arith, e)
+
+prefix_fits : (c : Setting) (w : M.Spelling) (k : Kind) (l : Leaf) → Fits itself 0 k l (M.want_prefix c w k l)
+prefix_fits c w PnameNs l = (refl, refl, front_short 58 l.text)
+prefix_fits c w k l = tt
+
+directive_depth : (w : M.Spelling) (n : ℕ) → (depth (M.directive_end w) ≡ 0) × ShortPrefix n (M.directive_end w)
+directive_depth M.Dotted n = (refl, tt)
+directive_depth M.Sparql n = (refl, tt)
+
+prefix_iri_fits : (c : Setting) (w : M.Spelling) (p : List ℕ) (k : Kind) (l : Leaf) →
+    Fits (use_in c.scope (M.WantPrefixIri w p) k l) 0 k l (M.want_prefix_iri c w p k l)
+prefix_iri_fits c w p IriRef l = let d = directive_depth w (byte_len l.text) in (refl, d.0, d.1)
+prefix_iri_fits c w p k l = tt
+
+base_iri_fits : (c : Setting) (w : M.Spelling) (k : Kind) (l : Leaf) → Fits (use_in c.scope (M.WantBaseIri w) k l) 0 k l (M.want_base_iri c w k l)
+base_iri_fits c w IriRef l = let d = directive_depth w (byte_len l.text) in (refl, d.0, d.1)
+base_iri_fits c w k l = tt
+
+dot_fits : (c : Setting) (k : Kind) (l : Leaf) → Fits (use_at c.scope k l) 0 k l (M.want_dot c k l)
+dot_fits c Dot l = (refl, refl, tt)
+dot_fits c k l = tt
+
+step_fits : (form : DocForm) (c : Setting) (m : M.Mode) (k : Kind) (l : Leaf) → Fits (use_in c.scope m k l) (depth m) k l (M.step form c m k l)
+step_fits form c M.Start k l = start_fits form c k l
+step_fits form c M.Over k l = tt
+step_fits form c (M.WantPrefix w) k l = prefix_fits c w k l
+step_fits form c (M.WantPrefixIri w p) k l = prefix_iri_fits c w p k l
+step_fits form c (M.WantBaseIri w) k l = base_iri_fits c w k l
+step_fits form c M.WantDot k l = dot_fits c k l
+step_fits form c (M.AfterLabel g) k l = label_fits c g k l
+step_fits form c M.GraphWord k l = graph_fits c k l
+step_fits form c (M.GraphBox n) k l = graph_box_fits c n k l
+step_fits form c (M.WantBrace g) k l = brace_fits c g k l
+step_fits form c M.Inside k l = inside_fits form c k l
+step_fits form c (M.Want p) k l = object_fits c p None k l
+step_fits form c (M.After p) k l = after_fits c p k l
+step_fits form c (M.AfterText w p) k l = text_fits c w p k l
+step_fits form c (M.WantType w p) k l = type_fits c w p k l
+step_fits form c (M.Box n u) k l = box_fits form c n u k l
+step_fits form c (M.Paren u) k l = paren_fits c u k l
+step_fits form c (M.WantVerb s a) k l = verb_fits c s a k l
+step_fits form c (M.Semi s a) k l = semi_fits c s a k l
+step_fits form c (M.AfterBox s v) k l = after_box_fits c s v k l
+
+pub step_use : (form : DocForm) (c : Setting) (m : M.Mode) (k : Kind) (l : Leaf) (u : Use) (early now : Option Quad) (d : Setting) (n : M.Mode) →
+    M.step form c m k l ≡ Go u early now d n → u ≡ use_in c.scope m k l
+step_use form c m k l u early now d n e = (subst (Fits (use_in c.scope m k l) (depth m) k l) e (step_fits form c m k l)).0
+
+pub step_depth : (form : DocForm) (c : Setting) (m : M.Mode) (k : Kind) (l : Leaf) (u : Use) (early now : Option Quad) (d : Setting) (n : M.Mode) →
+    M.step form c m k l ≡ Go u early now d n → DepthMoves k (depth m) (depth n)
+step_depth form c m k l u early now d n e = (subst (Fits (use_in c.scope m k l) (depth m) k l) e (step_fits form c m k l)).1
+
+pub step_prefix : (form : DocForm) (c : Setting) (m : M.Mode) (k : Kind) (l : Leaf) (u : Use) (early now : Option Quad) (d : Setting) (n : M.Mode) →
+    M.step form c m k l ≡ Go u early now d n → ShortPrefix (byte_len l.text) n
+step_prefix form c m k l u early now d n e = (subst (Fits (use_in c.scope m k l) (depth m) k l) e (step_fits form c m k l)).2

@@ -1,0 +1,5 @@
+-- Documents, and each law at one.
+pub mod Documents
+pub mod OfLaws
+pub mod OfReading
+pub mod OfWriting

@@ -1,0 +1,282 @@
+-- What each token that is taken changes: the depth by its bracket, and it stands for what its kind says.
+use Rattle.std.proofs.Common.{◌≡◌, ℕ, ◌+◌, ◌⊎◌, inl, inr, Bool, true, false, List, [], ◌∷◌, ◌++◌, Option, Some, None, refl, sym, ap, ◌∙◌, arith}
+use Rattle.rdf_terms.specs.declared.kind.Kind.{Kind}
+use Rattle.rdf_terms.specs.declared.kind.Kind.TheVariants.{IriRef, LabelNode, ShortString, LongString, LangTag, Carets, Dot, Integer, Decimal, Double, True, False, A, AtPrefix, AtBase, Prefix, Base, Graph, PnameNs, PnameLn, Semicolon, Comma, OpenBracket, CloseBracket, OpenParen, CloseParen, OpenBrace, CloseBrace, End}
+use Rattle.rdf_terms.specs.Terms.{Node, Label, Anon, Cell, Blank, Term, Quad}
+use Rattle.rdf_terms.specs.Terms as term
+use Rattle.rdf_tokens.specs.Tokens.{Token}
+use Rattle.rdf_iri.specs.Scope.{InForce}
+use Rattle.rdf_lines.specs.Lines.{Leaf, leaf_of}
+use Rattle.rdf_trig.specs.declared.form.DocForm.{DocForm}
+use Rattle.rdf_trig.specs.declared.form.DocForm.TheVariants.{Turtle, TriG}
+use Rattle.rdf_trig.specs.Names.{reference_in, name_in, with_base, with_binding, is_full}
+use Rattle.rdf_trig.specs.Quads.{Setting, in_default, named, node, labelled, cell_at, rest_quad}
+use Rattle.rdf_trig.specs.Events.{Use, itself, stands, binds}
+use Rattle.rdf_trig.specs.Machine.{Level, Top, InBlock, Place, Listed, InCells, Around, Statement, Boxed, Up, Subject, At, Spelling, Dotted, Sparql, Mode, Start, Over, WantPrefix, WantPrefixIri, WantBaseIri, WantDot, AfterLabel, GraphWord, GraphBox, WantBrace, Inside, Want, After, AfterText, WantType, Box, Paren, WantVerb, Semi, AfterBox, Reply, No, Go, cell, nil, object_start, want_type, verb_start, after_subject, node_closed, box_closed, list_closed, list_end, semi, after, after_text, box, paren, after_box, subject_start, start, inside, want_brace, after_label, graph_word, graph_box, want_prefix, want_prefix_iri, want_base_iri, want_dot, step}
+use Rattle.rdf_trig.specs.Machine.{depth, depth_at, depth_around, depth_up}
+use Rattle.rdf_trig.specs.Documents.{opens, closes, opened, closed, open_in}
+use Rattle.rdf_trig.proofs.machine.ClosingTokens.{admits}
+use Rattle.rdf_trig.proofs.machine.ViableTokens.{Stand, stand, reach, on_reply, if_true}
+
+-- what a token of the kind may stand for
+abbrev pub IsUse : InForce → Kind → Leaf → Use → Type 0
+IsUse s IriRef l u = (u ≡ stands (reference_in s l)) ⊎ ((p : List ℕ) × (u ≡ binds (is_full s p) (reference_in s l)))
+IsUse s PnameLn l u = u ≡ stands (name_in s l)
+IsUse s PnameNs l u = (u ≡ stands (name_in s l)) ⊎ (u ≡ itself)
+IsUse s k l u = u ≡ itself
+
+-- no quad's head ends with the end of the input, and none of an object that is known only by the next token
+abbrev pub Quiet : Mode → Option Quad → Option Quad → Type 0
+Quiet Over early now = (early ≡ None) × (now ≡ None)
+Quiet (AfterText w p) early now = now ≡ None
+Quiet (Paren u) early now = now ≡ None
+Quiet m early now = Unit {0}
+
+-- the facts of a reply, where n brackets are open
+abbrev pub Facts : ℕ → InForce → Kind → Leaf → Reply → Type 0
+Facts n s k l No = Unit {0}
+Facts n s k l (Go u early now c m) = (depth m + closes k ≡ n + opens k) × IsUse s k l u × (c.scope.limits ≡ s.limits) × Quiet m early now
+
+with_base_limits : (s : InForce) (i : Option (List ℕ)) → (with_base s i).limits ≡ s.limits
+with_base_limits s None = refl
+with_base_limits s (Some i) = refl
+
+with_binding_limits : (s : InForce) (p : List ℕ) (i : Option (List ℕ)) → (with_binding s p i).limits ≡ s.limits
+with_binding_limits s p None = refl
+with_binding_limits s p (Some i) = refl
+
+box_quiet : (u : Up) (s : Option term.Subject) → Quiet (box_closed u s) None None
+box_quiet (Subject v) s = tt
+box_quiet (At p) s = tt
+
+list_quiet : (u : Up) (s : Option term.Subject) (early now : Option Quad) → Quiet (list_closed u s) early now
+list_quiet (Subject v) s early now = tt
+list_quiet (At p) s early now = tt
+
+subject_quiet : (form : DocForm) (v : Level) (s : Option term.Subject) → Quiet (after_subject form v s) None None
+subject_quiet form InBlock s = tt
+subject_quiet Turtle Top s = tt
+subject_quiet TriG Top s = tt
+
+node_quiet : (form : DocForm) (u : Up) (s : Option term.Subject) → Quiet (node_closed form u s) None None
+node_quiet form (Subject v) s = subject_quiet form v s
+node_quiet form (At p) s = tt
+
+object_facts : (c : Setting) (p : Place) (early : Option Quad) (k : Kind) (l : Leaf) → Facts (depth_at p) c.scope k l (object_start c p early k l)
+object_facts c p early IriRef l = (refl, inl refl, refl, tt)
+object_facts c p early PnameLn l = (refl, refl, refl, tt)
+object_facts c p early PnameNs l = (refl, inl refl, refl, tt)
+object_facts c p early LabelNode l = (refl, refl, refl, tt)
+object_facts c p early ShortString l = (refl, refl, refl, refl)
+object_facts c p early LongString l = (refl, refl, refl, refl)
+object_facts c p early Integer l = (refl, refl, refl, tt)
+object_facts c p early Decimal l = (refl, refl, refl, tt)
+object_facts c p early Double l = (refl, refl, refl, tt)
+object_facts c p early True l = (refl, refl, refl, tt)
+object_facts c p early False l = (refl, refl, refl, tt)
+object_facts c p early OpenBracket l = (omega arith, refl, refl, tt)
+object_facts c p early OpenParen l = (omega arith, refl, refl, refl)
+object_facts c p early k l = tt
+
+verb_facts : (c : Setting) (s : Option term.Subject) (a : Around) (k : Kind) (l : Leaf) → Facts (depth_around a) c.scope k l (verb_start c s a k l)
+verb_facts c s a IriRef l = (refl, inl refl, refl, tt)
+verb_facts c s a PnameLn l = (refl, refl, refl, tt)
+verb_facts c s a PnameNs l = (refl, inl refl, refl, tt)
+verb_facts c s a A l = (refl, refl, refl, tt)
+verb_facts c s a k l = tt
+
+box_depth : (u : Up) (s : Option term.Subject) → depth (box_closed u s) ≡ depth_up u
+box_depth (Subject v) s = refl
+box_depth (At p) s = refl
+
+list_depth : (u : Up) (s : Option term.Subject) → depth (list_closed u s) ≡ depth_up u
+list_depth (Subject v) s = refl
+list_depth (At p) s = refl
+
+subject_depth : (form : DocForm) (v : Level) (s : Option term.Subject) → depth (after_subject form v s) ≡ 0
+subject_depth form InBlock s = refl
+subject_depth Turtle Top s = refl
+subject_depth TriG Top s = refl
+
+node_depth : (form : DocForm) (u : Up) (s : Option term.Subject) → depth (node_closed form u s) ≡ depth_up u
+node_depth form (Subject v) s = subject_depth form v s
+node_depth form (At p) s = refl
+
+end_facts : (c : Setting) (s : Option term.Subject) (a : Around) (k : Kind) (l : Leaf) → Facts (depth_around a) c.scope k l (list_end c s a k l)
+end_facts c s (Statement Top) Dot l = (refl, refl, refl, tt)
+end_facts c s (Statement InBlock) Dot l = (refl, refl, refl, tt)
+end_facts c s (Statement InBlock) CloseBrace l = (refl, refl, refl, tt)
+end_facts c s (Boxed u) CloseBracket l = (omega (arith, box_depth u s), refl, refl, box_quiet u s)
+end_facts c s (Statement Top) k l = tt
+end_facts c s (Statement InBlock) k l = tt
+end_facts c s (Boxed u) k l = tt
+
+semi_facts : (c : Setting) (s : Option term.Subject) (a : Around) (k : Kind) (l : Leaf) → Facts (depth_around a) c.scope k l (semi c s a k l)
+semi_facts c s a Semicolon l = (refl, refl, refl, tt)
+semi_facts c s a IriRef l = verb_facts c s a IriRef l
+semi_facts c s a PnameLn l = verb_facts c s a PnameLn l
+semi_facts c s a PnameNs l = verb_facts c s a PnameNs l
+semi_facts c s a A l = verb_facts c s a A l
+semi_facts c s a k l = end_facts c s a k l
+
+after_facts : (c : Setting) (p : Place) (k : Kind) (l : Leaf) → Facts (depth_at p) c.scope k l (after c p k l)
+after_facts c (Listed s p a) Comma l = (refl, refl, refl, tt)
+after_facts c (Listed s p a) Semicolon l = (refl, refl, refl, tt)
+after_facts c (Listed s p a) k l = end_facts c s a k l
+after_facts c (InCells f n u) CloseParen l = (omega (arith, list_depth u (cell f)), refl, refl, list_quiet u (cell f) None (rest_quad c (Cell n) nil))
+after_facts c (InCells f n u) k l = object_facts c (InCells f l.at.offset u) (rest_quad c (Cell n) (Blank (cell_at l))) k l
+
+text_facts : (c : Setting) (w : List ℕ) (p : Place) (k : Kind) (l : Leaf) → Facts (depth_at p) c.scope k l (after_text c w p k l)
+text_facts c w p LangTag l = (refl, refl, refl, tt)
+text_facts c w p AtBase l = (refl, refl, refl, tt)
+text_facts c w p AtPrefix l = (refl, refl, refl, tt)
+text_facts c w p Carets l = (refl, refl, refl, tt)
+text_facts c w p k l = after_facts c p k l
+
+type_facts : (c : Setting) (w : List ℕ) (p : Place) (k : Kind) (l : Leaf) → Facts (depth_at p) c.scope k l (want_type c w p k l)
+type_facts c w p IriRef l = (refl, inl refl, refl, tt)
+type_facts c w p PnameLn l = (refl, refl, refl, tt)
+type_facts c w p PnameNs l = (refl, inl refl, refl, tt)
+type_facts c w p k l = tt
+
+box_facts : (form : DocForm) (c : Setting) (n : ℕ) (u : Up) (k : Kind) (l : Leaf) → Facts (depth_up u + 1) c.scope k l (box form c n u k l)
+box_facts form c n u CloseBracket l = (omega (arith, node_depth form u (node (Anon n))), refl, refl, node_quiet form u (node (Anon n)))
+box_facts form c n u k l = verb_facts c (node (Anon n)) (Boxed u) k l
+
+paren_facts : (c : Setting) (u : Up) (k : Kind) (l : Leaf) → Facts (depth_up u + 1) c.scope k l (paren c u k l)
+paren_facts c u CloseParen l = (omega (arith, list_depth u (Some nil)), refl, refl, list_quiet u (Some nil) None None)
+paren_facts c u k l = object_facts c (InCells l.at.offset l.at.offset u) None k l
+
+after_box_facts : (c : Setting) (s : Option term.Subject) (v : Level) (k : Kind) (l : Leaf) → Facts 0 c.scope k l (after_box c s v k l)
+after_box_facts c s v IriRef l = verb_facts c s (Statement v) IriRef l
+after_box_facts c s v PnameLn l = verb_facts c s (Statement v) PnameLn l
+after_box_facts c s v PnameNs l = verb_facts c s (Statement v) PnameNs l
+after_box_facts c s v A l = verb_facts c s (Statement v) A l
+after_box_facts c s v k l = end_facts c s (Statement v) k l
+
+subject_facts : (form : DocForm) (c : Setting) (v : Level) (k : Kind) (l : Leaf) → Facts 0 c.scope k l (subject_start form c v k l)
+subject_facts form c v IriRef l = (omega (arith, subject_depth form v (named (reference_in c.scope l))), inl refl, refl, subject_quiet form v (named (reference_in c.scope l)))
+subject_facts form c v PnameLn l = (omega (arith, subject_depth form v (named (name_in c.scope l))), refl, refl, subject_quiet form v (named (name_in c.scope l)))
+subject_facts form c v PnameNs l = (omega (arith, subject_depth form v (named (name_in c.scope l))), inl refl, refl, subject_quiet form v (named (name_in c.scope l)))
+subject_facts form c v LabelNode l = (omega (arith, subject_depth form v (node (labelled l))), refl, refl, subject_quiet form v (node (labelled l)))
+subject_facts form c v OpenBracket l = (refl, refl, refl, tt)
+subject_facts form c v OpenParen l = (refl, refl, refl, refl)
+subject_facts form c v k l = tt
+
+start_facts : (form : DocForm) (c : Setting) (k : Kind) (l : Leaf) → Facts 0 c.scope k l (start form c k l)
+start_facts form c End l = (refl, refl, refl, (refl, refl))
+start_facts form c AtPrefix l = (refl, refl, refl, tt)
+start_facts form c Prefix l = (refl, refl, refl, tt)
+start_facts form c AtBase l = (refl, refl, refl, tt)
+start_facts form c Base l = (refl, refl, refl, tt)
+start_facts TriG c Graph l = (refl, refl, refl, tt)
+start_facts TriG c OpenBrace l = (refl, refl, refl, tt)
+start_facts form c k l = subject_facts form (in_default c.scope) Top k l
+
+inside_facts : (form : DocForm) (c : Setting) (k : Kind) (l : Leaf) → Facts 0 c.scope k l (inside form c k l)
+inside_facts form c CloseBrace l = (refl, refl, refl, tt)
+inside_facts form c k l = subject_facts form c InBlock k l
+
+brace_facts : (c : Setting) (g : Option term.Subject) (k : Kind) (l : Leaf) → Facts 0 c.scope k l (want_brace c g k l)
+brace_facts c g OpenBrace l = (refl, refl, refl, tt)
+brace_facts c g k l = tt
+
+label_facts : (c : Setting) (g : Option term.Subject) (k : Kind) (l : Leaf) → Facts 0 c.scope k l (after_label c g k l)
+label_facts c g OpenBrace l = (refl, refl, refl, tt)
+label_facts c g k l = verb_facts c g (Statement Top) k l
+
+graph_facts : (c : Setting) (k : Kind) (l : Leaf) → Facts 0 c.scope k l (graph_word c k l)
+graph_facts c IriRef l = (refl, inl refl, refl, tt)
+graph_facts c PnameLn l = (refl, refl, refl, tt)
+graph_facts c PnameNs l = (refl, inl refl, refl, tt)
+graph_facts c LabelNode l = (refl, refl, refl, tt)
+graph_facts c OpenBracket l = (refl, refl, refl, tt)
+graph_facts c k l = tt
+
+graph_box_facts : (c : Setting) (n : ℕ) (k : Kind) (l : Leaf) → Facts 1 c.scope k l (graph_box c n k l)
+graph_box_facts c n CloseBracket l = (refl, refl, refl, tt)
+graph_box_facts c n k l = tt
+
+prefix_facts : (c : Setting) (w : Spelling) (k : Kind) (l : Leaf) → Facts 0 c.scope k l (want_prefix c w k l)
+prefix_facts c w PnameNs l = (refl, inr refl, refl, tt)
+prefix_facts c w k l = tt
+
+prefix_iri_facts : (c : Setting) (w : Spelling) (p : List ℕ) (k : Kind) (l : Leaf) → Facts 0 c.scope k l (want_prefix_iri c w p k l)
+prefix_iri_facts c Dotted p IriRef l = (refl, inr (p, refl), with_binding_limits c.scope p (reference_in c.scope l), tt)
+prefix_iri_facts c Sparql p IriRef l = (refl, inr (p, refl), with_binding_limits c.scope p (reference_in c.scope l), tt)
+prefix_iri_facts c w p k l = tt
+
+base_iri_facts : (c : Setting) (w : Spelling) (k : Kind) (l : Leaf) → Facts 0 c.scope k l (want_base_iri c w k l)
+base_iri_facts c Dotted IriRef l = (refl, inl refl, with_base_limits c.scope (reference_in c.scope l), tt)
+base_iri_facts c Sparql IriRef l = (refl, inl refl, with_base_limits c.scope (reference_in c.scope l), tt)
+base_iri_facts c w k l = tt
+
+dot_facts : (c : Setting) (k : Kind) (l : Leaf) → Facts 0 c.scope k l (want_dot c k l)
+dot_facts c Dot l = (refl, refl, refl, tt)
+dot_facts c k l = tt
+
+pub step_facts : (form : DocForm) (c : Setting) (m : Mode) (k : Kind) (l : Leaf) → Facts (depth m) c.scope k l (step form c m k l)
+step_facts form c Start k l = start_facts form c k l
+step_facts form c Over k l = tt
+step_facts form c (WantPrefix w) k l = prefix_facts c w k l
+step_facts form c (WantPrefixIri w p) k l = prefix_iri_facts c w p k l
+step_facts form c (WantBaseIri w) k l = base_iri_facts c w k l
+step_facts form c WantDot k l = dot_facts c k l
+step_facts form c (AfterLabel g) k l = label_facts c g k l
+step_facts form c GraphWord k l = graph_facts c k l
+step_facts form c (GraphBox n) k l = graph_box_facts c n k l
+step_facts form c (WantBrace g) k l = brace_facts c g k l
+step_facts form c Inside k l = inside_facts form c k l
+step_facts form c (Want p) k l = object_facts c p None k l
+step_facts form c (After p) k l = after_facts c p k l
+step_facts form c (AfterText w p) k l = text_facts c w p k l
+step_facts form c (WantType w p) k l = type_facts c w p k l
+step_facts form c (Box n u) k l = box_facts form c n u k l
+step_facts form c (Paren u) k l = paren_facts c u k l
+step_facts form c (WantVerb s a) k l = verb_facts c s a k l
+step_facts form c (Semi s a) k l = semi_facts c s a k l
+step_facts form c (AfterBox s v) k l = after_box_facts c s v k l
+
+-- As many brackets are open as the tokens have opened and not closed.
+pub reached_depth : (strict : Bool) (form : DocForm) (ts : List Token) (c : Setting) (m : Mode) (s : Stand) → reach strict form c m ts ≡ Some s →
+    opened ts + depth m ≡ closed ts + depth s.mode
+reached_depth strict form [] c m s e = let z : stand c m ≡ s = cc in ap (λ x. 0 + depth (Stand.mode x)) z
+reached_depth strict form (t ∷ ts) c m s e = by (step form c m t.kind (leaf_of t)) (step_facts form c m t.kind (leaf_of t)) (λ c' m' h. reached_depth strict form ts c' m' s h) e
+  where
+    when : (b : Bool) (o : Option Stand) → if_true b o ≡ Some s → o ≡ Some s
+    when true o e = e
+    when false o e = absurd (let z : None ≡ Some s = e in cc)
+
+    by : (r : Reply) → Facts (depth m) c.scope t.kind (leaf_of t) r →
+        ((c' : Setting) (m' : Mode) → reach strict form c' m' ts ≡ Some s → opened ts + depth m' ≡ closed ts + depth s.mode) →
+        on_reply strict r (λ c' m'. reach strict form c' m' ts) ≡ Some s → opens t.kind + opened ts + depth m ≡ closes t.kind + closed ts + depth s.mode
+    by No f ih e = absurd (let z : None ≡ Some s = e in cc)
+    by (Go u early now c' m') f ih e = let h : opened ts + depth m' ≡ closed ts + depth s.mode = ih c' m' (when (admits strict u) (reach strict form c' m' ts) e) in omega (arith, h, f.0)
+
+-- no token changes the limits
+pub reached_limits : (strict : Bool) (form : DocForm) (ts : List Token) (c : Setting) (m : Mode) (s : Stand) → reach strict form c m ts ≡ Some s →
+    s.setting.scope.limits ≡ c.scope.limits
+reached_limits strict form [] c m s e = let z : stand c m ≡ s = cc in ap (λ x. (Stand.setting x).scope.limits) (sym z)
+reached_limits strict form (t ∷ ts) c m s e = by (step form c m t.kind (leaf_of t)) (step_facts form c m t.kind (leaf_of t)) (λ c' m' h. reached_limits strict form ts c' m' s h) e
+  where
+    when : (b : Bool) (o : Option Stand) → if_true b o ≡ Some s → o ≡ Some s
+    when true o e = e
+    when false o e = absurd (let z : None ≡ Some s = e in cc)
+
+    by : (r : Reply) → Facts (depth m) c.scope t.kind (leaf_of t) r →
+        ((c' : Setting) (m' : Mode) → reach strict form c' m' ts ≡ Some s → s.setting.scope.limits ≡ c'.scope.limits) →
+        on_reply strict r (λ c' m'. reach strict form c' m' ts) ≡ Some s → s.setting.scope.limits ≡ c.scope.limits
+    by No f ih e = absurd (let z : None ≡ Some s = e in cc)
+    by (Go u early now c' m') f ih e = ih c' m' (when (admits strict u) (reach strict form c' m' ts) e) ∙ f.2
+
+pub depth_open : (strict : Bool) (form : DocForm) (ts : List Token) (start : InForce) (s : Stand) → reach strict form (in_default start) Start ts ≡ Some s →
+    depth s.mode ≡ open_in ts
+depth_open strict form ts start s e = let h = reached_depth strict form ts (in_default start) Start s e in omega (arith, h)
+
+pub opened-append : (ts us : List Token) → opened (ts ++ us) ≡ opened ts + opened us
+opened-append [] us = omega arith
+opened-append (t ∷ ts) us = let h = opened-append ts us in omega (arith, h)
+
+pub closed-append : (ts us : List Token) → closed (ts ++ us) ≡ closed ts + closed us
+closed-append [] us = omega arith
+closed-append (t ∷ ts) us = let h = closed-append ts us in omega (arith, h)

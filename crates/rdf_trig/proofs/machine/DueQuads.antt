@@ -1,0 +1,94 @@
+-- What is given out for some tokens is due: in each document that begins with them, the quads whose mark is below their number. Marks never fall.
+use Rattle.std.proofs.Common.{◌≡◌, ℕ, zero, suc, ◌+◌, ◌≤◌, true, List, [], ◌∷◌, ◌++◌, length, Option, Some, None, refl, sym, ap, ◌∙◌, arith}
+use Rattle.std.specs.Prelude.{nat_lt}
+use Rattle.std.proofs.lemmas.Bool.{cond-true, cond-false, lt-ltb, le-ltb}
+use Rattle.rdf_tokens.specs.Grammars.{quads_below}
+use Rattle.rdf_terms.specs.Terms.{Quad}
+use Rattle.rdf_tokens.specs.Tokens.{Token}
+use Rattle.rdf_tokens.specs.Grammars.{Marked}
+use Rattle.rdf_iri.specs.Scope.{InForce}
+use Rattle.rdf_lines.specs.Lines.{leaf_of}
+use Rattle.rdf_trig.specs.declared.form.DocForm.{DocForm}
+use Rattle.rdf_trig.specs.Trees.{Document}
+use Rattle.rdf_trig.specs.Quads.{Setting, in_default}
+use Rattle.rdf_trig.specs.Events.{Event, Took, Gave, give, document_events, tokens, event_quads}
+use Rattle.rdf_trig.specs.Machine.{Mode, Start, Reply, No, Go, start, step, waiting, fronted, go_on, run}
+use Rattle.rdf_trig.specs.Machine.{kept}
+use Rattle.rdf_trig.specs.Laws.{Rises}
+use Rattle.rdf_trig.proofs.machine.Soundness.{unput}
+use Rattle.rdf_trig.proofs.machine.ViableTokens.{run_tree}
+
+-- the quads in front of the token of this number, from 1
+abbrev pub due : ℕ → List Event → List Quad
+due zero es = []
+due (suc n) [] = []
+due (suc n) (Took t u ∷ es) = due n es
+due (suc n) (Gave q ∷ es) = q ∷ due (suc n) es
+
+before_none : (es : List Event) (k n : ℕ) → k ≤ n → quads_below k (event_quads n es) ≡ []
+before_none [] k n l = refl
+before_none (Took t u ∷ es) k n l = before_none es k (n + 1) (omega arith)
+before_none (Gave q ∷ es) k n l = cond-false (nat_lt n k) _ _ (le-ltb _ _ l) ∙ before_none es k n l
+
+pub before_due : (es : List Event) (n k j : ℕ) → j ≡ k + n → quads_below j (event_quads k es) ≡ due n es
+before_due es zero k j e = before_none es j k (omega arith)
+before_due [] (suc n) k j e = refl
+before_due (Took t u ∷ es) (suc n) k j e = before_due es n (k + 1) j (omega arith)
+before_due (Gave q ∷ es) (suc n) k j e = cond-true (nat_lt k j) _ _ (lt-ltb _ _ (omega arith)) ∙ ap (λ x. q ∷ x) (before_due es (suc n) k j e)
+
+rises_from : (qs : List Marked) (m n : ℕ) → m ≤ n → Rises n qs → Rises m qs
+rises_from [] m n l r = tt
+rises_from (q ∷ qs) m n l r = (omega (arith, l, r.0), r.1)
+
+pub marked_rises : (es : List Event) (n : ℕ) → Rises n (event_quads n es)
+marked_rises [] n = tt
+marked_rises (Took t u ∷ es) n = rises_from (event_quads (n + 1) es) n (n + 1) (omega arith) (marked_rises es (n + 1))
+marked_rises (Gave q ∷ es) n = (omega arith, marked_rises es n)
+
+-- what a reader that holds these quads gives out for these tokens
+abbrev pub on_emits : Option Quad → Reply → (Setting → Mode → List Quad → List Quad) → List Quad
+on_emits w No next = kept w []
+on_emits w (Go u early now c m) next = kept w (next c m (kept early (kept now [])))
+
+abbrev pub emits : DocForm → Setting → Mode → List Quad → List Token → List Quad
+emits form c m held [] = []
+emits form c m held (t ∷ ts) = held ++ on_emits (waiting c m t.kind (leaf_of t)) (step form c m t.kind (leaf_of t)) (λ c' m' held'. emits form c' m' held' ts)
+
+due_give : (q : Option Quad) (n : ℕ) (es : List Event) → due (suc n) (give q es) ≡ kept q (due (suc n) es)
+due_give None n es = refl
+due_give (Some q) n es = refl
+
+kept_all : (a b : Option Quad) (qs : List Quad) → kept a (kept b []) ++ qs ≡ kept a (kept b qs)
+kept_all None None qs = refl
+kept_all None (Some b) qs = refl
+kept_all (Some a) None qs = refl
+kept_all (Some a) (Some b) qs = refl
+
+module _ (form : DocForm) where
+  on_due : (t u : Token) (ts us : List Token) (w : Option Quad) (r : Reply) →
+      ((c : Setting) (m : Mode) (held : List Quad) (es : List Event) → run form c m ((u ∷ ts) ++ us) ≡ Some es →
+      emits form c m held (u ∷ ts) ≡ held ++ due (suc (length ts)) es) →
+      (es : List Event) → fronted w (go_on t r (λ c m. run form c m ((u ∷ ts) ++ us))) ≡ Some es →
+      on_emits w r (λ c m held. emits form c m held (u ∷ ts)) ≡ due (suc (suc (length ts))) es
+  on_due t u ts us w No ih es e = absurd (let z : None ≡ Some es = e in cc)
+  on_due t u ts us w (Go v early now c m) ih es e =
+      let x = unput w t v early now _ es e in
+      ap (kept w) (ih c m (kept early (kept now [])) x.0 x.1 ∙ kept_all early now _ ∙ sym (due_give early (length ts) (give now x.0) ∙ ap (kept early) (due_give now (length ts) x.0)))
+      ∙ sym (ap (due (suc (suc (length ts)))) x.2 ∙ due_give w (suc (length ts)) _)
+
+  on_due_last : (t : Token) (us : List Token) (w : Option Quad) (r : Reply) (es : List Event) → fronted w (go_on t r (λ c m. run form c m us)) ≡ Some es →
+      on_emits w r (λ c m held. emits form c m held []) ≡ due (suc zero) es
+  on_due_last t us w No es e = absurd (let z : None ≡ Some es = e in cc)
+  on_due_last t us w (Go u early now c m) es e = let x = unput w t u early now _ es e in sym (ap (due (suc zero)) x.2 ∙ due_give w zero _)
+
+  emits_due : (t : Token) (ts us : List Token) (c : Setting) (m : Mode) (held : List Quad) (es : List Event) → run form c m ((t ∷ ts) ++ us) ≡ Some es →
+      emits form c m held (t ∷ ts) ≡ held ++ due (suc (length ts)) es
+  emits_due t [] us c m held es e = ap (λ qs. held ++ qs) (on_due_last t us (waiting c m t.kind (leaf_of t)) (step form c m t.kind (leaf_of t)) es e)
+  emits_due t (u ∷ ts) us c m held es e =
+      ap (λ qs. held ++ qs) (on_due t u ts us (waiting c m t.kind (leaf_of t)) (step form c m t.kind (leaf_of t)) (λ c' m' held' fs h. emits_due u ts us c' m' held' fs h) es e)
+
+  -- in each tree that begins with the tokens
+  pub lag : (ts us : List Token) (start : InForce) (d : Document form) → tokens (document_events start d) ≡ ts ++ us →
+      emits form (in_default start) Start [] ts ≡ due (length ts) (document_events start d)
+  lag [] us start d e = refl
+  lag (t ∷ ts) us start d e = emits_due t ts us (in_default start) Start [] (document_events start d) (run_tree true form d start ((t ∷ ts) ++ us) e)

@@ -1,0 +1,89 @@
+-- What is left of a production for the kinds that it does not name itself.
+use Rattle.std.proofs.Common.{◌≡◌, ℕ, true, false, List, Option, None, refl}
+use Rattle.std.proofs.lemmas.Bool.{false≢true}
+use Rattle.rdf_terms.specs.declared.kind.Kind.{Kind}
+use Rattle.rdf_terms.specs.declared.kind.Kind.TheVariants.{IriRef, PnameNs, PnameLn, A, CloseBracket, CloseParen, CloseBrace, OpenBrace, Semicolon, LangTag, AtBase, AtPrefix, Base, Prefix, Graph, End, Carets}
+use Rattle.rdf_terms.specs.Terms as term
+use Rattle.rdf_lines.specs.Lines.{Leaf}
+use Rattle.rdf_trig.specs.declared.form.DocForm.{DocForm}
+use Rattle.rdf_trig.specs.Quads.{Setting, in_default, node, cell_at, rest_quad}
+use Rattle.rdf_trig.specs.Machine as M
+use Rattle.rdf_trig.specs.States.{begins_verb}
+
+pub box-else : (form : DocForm) (c : Setting) (n : ℕ) (u : M.Up) (k : Kind) (l : Leaf) → (k ≡ CloseBracket → ⊥) →
+    M.box form c n u k l ≡ M.verb_start c (node (term.Anon n)) (M.Boxed u) k l
+box-else form c n u CloseBracket l h = absurd (h refl)
+box-else form c n u k l h = refl
+
+pub label-else : (c : Setting) (g : Option term.Subject) (k : Kind) (l : Leaf) → (k ≡ OpenBrace → ⊥) →
+    M.after_label c g k l ≡ M.verb_start c g (M.Statement M.Top) k l
+label-else c g OpenBrace l h = absurd (h refl)
+label-else c g k l h = refl
+
+pub inside-else : (form : DocForm) (c : Setting) (k : Kind) (l : Leaf) → (k ≡ CloseBrace → ⊥) → M.inside form c k l ≡ M.subject_start form c M.InBlock k l
+inside-else form c CloseBrace l h = absurd (h refl)
+inside-else form c k l h = refl
+
+pub semi-verb : (c : Setting) (s : Option term.Subject) (a : M.Around) (k : Kind) (l : Leaf) → begins_verb k ≡ true → M.semi c s a k l ≡ M.verb_start c s a k l
+semi-verb c s a IriRef l h = refl
+semi-verb c s a PnameNs l h = refl
+semi-verb c s a PnameLn l h = refl
+semi-verb c s a A l h = refl
+semi-verb c s a k l h = absurd (false≢true h)
+
+pub semi-else : (c : Setting) (s : Option term.Subject) (a : M.Around) (k : Kind) (l : Leaf) → begins_verb k ≡ false → (k ≡ Semicolon → ⊥) →
+    M.semi c s a k l ≡ M.list_end c s a k l
+semi-else c s a IriRef l h n = absurd (cc)
+semi-else c s a PnameNs l h n = absurd (cc)
+semi-else c s a PnameLn l h n = absurd (cc)
+semi-else c s a A l h n = absurd (cc)
+semi-else c s a Semicolon l h n = absurd (n refl)
+semi-else c s a k l h n = refl
+
+pub after_box-verb : (c : Setting) (s : Option term.Subject) (v : M.Level) (k : Kind) (l : Leaf) → begins_verb k ≡ true →
+    M.after_box c s v k l ≡ M.verb_start c s (M.Statement v) k l
+after_box-verb c s v IriRef l h = refl
+after_box-verb c s v PnameNs l h = refl
+after_box-verb c s v PnameLn l h = refl
+after_box-verb c s v A l h = refl
+after_box-verb c s v k l h = absurd (false≢true h)
+
+pub after_box-else : (c : Setting) (s : Option term.Subject) (v : M.Level) (k : Kind) (l : Leaf) → begins_verb k ≡ false →
+    M.after_box c s v k l ≡ M.list_end c s (M.Statement v) k l
+after_box-else c s v IriRef l h = absurd (cc)
+after_box-else c s v PnameNs l h = absurd (cc)
+after_box-else c s v PnameLn l h = absurd (cc)
+after_box-else c s v A l h = absurd (cc)
+after_box-else c s v k l h = refl
+
+pub cells-else : (c : Setting) (f n : ℕ) (u : M.Up) (k : Kind) (l : Leaf) → (k ≡ CloseParen → ⊥) →
+    M.after c (M.InCells f n u) k l ≡ M.object_start c (M.InCells f l.at.offset u) (rest_quad c (term.Cell n) (term.Blank (cell_at l))) k l
+cells-else c f n u CloseParen l h = absurd (h refl)
+cells-else c f n u k l h = refl
+
+pub paren-else : (c : Setting) (u : M.Up) (k : Kind) (l : Leaf) → (k ≡ CloseParen → ⊥) →
+    M.paren c u k l ≡ M.object_start c (M.InCells l.at.offset l.at.offset u) None k l
+paren-else c u CloseParen l h = absurd (h refl)
+paren-else c u k l h = refl
+
+pub text-else : (c : Setting) (w : List ℕ) (p : M.Place) (k : Kind) (l : Leaf) → (k ≡ LangTag → ⊥) → (k ≡ AtBase → ⊥) → (k ≡ AtPrefix → ⊥) → (k ≡ Carets → ⊥) →
+    M.after_text c w p k l ≡ M.after c p k l
+text-else c w p LangTag l h i j n = absurd (h refl)
+text-else c w p AtBase l h i j n = absurd (i refl)
+text-else c w p AtPrefix l h i j n = absurd (j refl)
+text-else c w p Carets l h i j n = absurd (n refl)
+text-else c w p k l h i j n = refl
+
+pub start-else : (form : DocForm) (c : Setting) (k : Kind) (l : Leaf) → (k ≡ End → ⊥) → (k ≡ AtPrefix → ⊥) → (k ≡ Prefix → ⊥) → (k ≡ AtBase → ⊥) →
+    (k ≡ Base → ⊥)
+    → (k ≡ Graph → ⊥) → (k ≡ OpenBrace → ⊥) → M.start form c k l ≡ M.subject_start form (in_default c.scope) M.Top k l
+start-else form c End l a b d e f g h = absurd (a refl)
+start-else form c AtPrefix l a b d e f g h = absurd (b refl)
+start-else form c Prefix l a b d e f g h = absurd (d refl)
+start-else form c AtBase l a b d e f g h = absurd (e refl)
+start-else form c Base l a b d e f g h = absurd (f refl)
+start-else form c Graph l a b d e f g h = absurd (g refl)
+start-else form c OpenBrace l a b d e f g h = absurd (h refl)
+start-else form c k l a b d e f g h = refl
+
+pub ruleset fallbacks = (box-else, label-else, inside-else, semi-verb, semi-else, after_box-verb, after_box-else, cells-else, paren-else, text-else)

@@ -1,0 +1,597 @@
+-- What is read is a tree's tokens, with its events.
+use Rattle.std.proofs.Common.{◌≡◌, ℕ, List, [], ◌∷◌, Option, Some, None, refl, sym, ap, ◌∙◌, ◌⊎◌, inl, inr}
+use Rattle.rdf_terms.specs.declared.kind.Kind.{Kind}
+use Rattle.rdf_terms.specs.declared.kind.Kind.TheVariants.{IriRef, LabelNode, ShortString, LongString, LangTag, Carets, Dot, Integer, Decimal, Double, True, False, A, AtPrefix, AtBase, Prefix, Base, Graph, PnameNs, PnameLn, Semicolon, Comma, OpenBracket, CloseBracket, OpenParen, CloseParen, OpenBrace, CloseBrace, End}
+use Rattle.rdf_terms.specs.Terms.{Node, Label, Anon, Cell, Blank, Term, Quad}
+use Rattle.rdf_terms.specs.Terms as term
+use Rattle.rdf_terms.specs.Known.{known_chars}
+use Rattle.rdf_terms.specs.declared.constants.Known.TheVariants.{RdfType, RdfFirst}
+use Rattle.rdf_tokens.specs.Tokens.{Token}
+use Rattle.rdf_iri.specs.Scope.{InForce}
+use Rattle.rdf_lines.specs.Lines.{Leaf, leaf_of, token}
+use Rattle.rdf_trig.specs.declared.form.DocForm.{DocForm}
+use Rattle.rdf_trig.specs.declared.form.DocForm.TheVariants.{Turtle, TriG}
+use Rattle.rdf_trig.specs.Trees.{PrefixedName, pname_ln, pname_ns, Iri, iri_ref, prefixed, BlankNode, label, anon, Verb, predicate, type_word, String, short, long, Tag, lang_tag, base_tag, prefix_tag, RDFLiteral, plain, tagged, typed, NumericLiteral, integer, decimal, double, BooleanLiteral, true_word, false_word, Literal, rdf, numeric, boolean, Object, iri_object, blank_object, collection_object, list_object, literal_object, Collection, collection, Items, no_items, item, BlankNodePropertyList, property_list, PredicateObjectList, predicate_objects, More, no_more, semicolon, semicolon_objects, ObjectList, objects, Commas, no_commas, comma, iri_subject, blank_subject, collection_subject, Triples, subject_triples, list_triples, Directive, prefix_id, base, sparql_prefix, sparql_base, LabelOrSubject, iri_label, blank_label, TriplesBlock, last, last_dot, dot, WrappedGraph, wrapped, TriplesOrGraph, named_graph, label_triples, Triples2, list_triples2, collection_triples2, Block, triples_or_graph, default_graph, triples2, Body, Document, end, with_directive, with_body}
+use Rattle.rdf_trig.specs.Trees as tree
+use Rattle.rdf_trig.specs.Names.{prefix_of, reference_in, name_in, iri_in, with_base, with_binding, is_full}
+use Rattle.rdf_trig.specs.Quads.{Setting, in_default, in_graph, named, node, resource, anon_at, labelled, blank_of, short_value, long_value, lexical, language, plain_literal, tagged_literal, typed_literal, literal_of, iri_leaf, string_leaf, literal_leaf, object_leaf, cell_at, items_of, collection_of, list_of, label_of, rest_quad}
+use Rattle.rdf_trig.specs.Events.{Use, itself, binds, Event, Took, take, name, give, iri_events, string_events, tag_events, blank_object_events, literal_events, object_events, collection_events, items_events, rest_events, list_events, predicates_events, more_events, commas_events, maybe_events, triples_events, label_events, maybe_block_events, wrapped_events, document_events, tokens}
+use Rattle.rdf_trig.specs.Machine.{Level, Top, InBlock, Place, Listed, InCells, Around, Statement, Boxed, Up, Subject, At, Spelling, Dotted, Sparql, Mode, Start, Over, WantPrefix, WantPrefixIri, WantBaseIri, WantDot, AfterLabel, GraphWord, GraphBox, WantBrace, Inside, Want, After, AfterText, WantType, Box, Paren, WantVerb, Semi, AfterBox, Reply, No, Go, cell, subject_at, verb_at, quad_at, quad_up, nil, object_start, want_type, verb_start, after_subject, node_closed, box_closed, list_closed, list_end, semi, after, after_text, box, paren, after_box, subject_start, start, inside, want_brace, after_label, graph_word, graph_box, want_prefix, want_prefix_iri, want_base_iri, want_dot, step, waiting, fronted, put, stop, go_on, run}
+
+-- what a bracket was
+data Was : Type 0 where
+  was_node : Was
+  was_list : Was
+  was_box : Was
+
+-- What is left of the document in a state.
+abbrev RestLevel : DocForm → Level → Type 0
+RestLevel form Top = Leaf × Document form
+RestLevel form InBlock = (Leaf × Option TriplesBlock × Leaf × Document form) ⊎ (Leaf × Document form)
+
+abbrev RestLabel : DocForm → Type 0
+RestLabel form = (PredicateObjectList × RestLevel form Top) ⊎ (WrappedGraph × Document form)
+
+abbrev RestSubject : DocForm → Level → Type 0
+RestSubject form InBlock = PredicateObjectList × RestLevel form InBlock
+RestSubject Turtle Top = PredicateObjectList × RestLevel Turtle Top
+RestSubject TriG Top = RestLabel TriG
+
+abbrev mutual
+  RestPlace : DocForm → Place → Type 0
+  RestPlace form (Listed s p a) = Commas × More × RestAround form a
+  RestPlace form (InCells f n u) = Items × Leaf × RestUp form u was_list
+
+  -- after a node, a collection and a property list
+  RestUp : DocForm → Up → Was → Type 0
+  RestUp form (Subject v) was_node = RestSubject form v
+  RestUp form (Subject v) was_list = PredicateObjectList × RestLevel form v
+  RestUp form (Subject v) was_box = Option PredicateObjectList × RestLevel form v
+  RestUp form (At p) was = RestPlace form p
+
+  RestAround : DocForm → Around → Type 0
+  RestAround form (Statement v) = RestLevel form v
+  RestAround form (Boxed u) = Leaf × RestUp form u was_box
+
+abbrev level_events : (form : DocForm) → Setting → (v : Level) → RestLevel form v → List Event
+level_events form c Top r = take Dot r.0 (document_events c.scope r.1)
+level_events form c InBlock (inl r) = take Dot r.0 (maybe_block_events c r.1 (take CloseBrace r.2 (document_events c.scope r.3)))
+level_events form c InBlock (inr r) = take CloseBrace r.0 (document_events c.scope r.1)
+
+abbrev behind_label : (form : DocForm) → Setting → Option term.Subject → RestLabel form → List Event
+behind_label form c s (inl r) = predicates_events c r.0 s (level_events form c Top r.1)
+behind_label form c s (inr r) = wrapped_events (in_graph c.scope s) r.0 (document_events c.scope r.1)
+
+abbrev behind_subject : (form : DocForm) → Setting → (v : Level) → Option term.Subject → RestSubject form v → List Event
+behind_subject form c InBlock s r = predicates_events c r.0 s (level_events form c InBlock r.1)
+behind_subject Turtle c Top s r = predicates_events c r.0 s (level_events Turtle c Top r.1)
+behind_subject TriG c Top s r = behind_label TriG c s r
+
+abbrev mutual
+  place_events : (form : DocForm) → Setting → (p : Place) → RestPlace form p → List Event
+  place_events form c (Listed s p a) r = commas_events c r.0 s p (more_events c r.1 s (around_events form c a s r.2))
+  place_events form c (InCells f n u) r = rest_events c r.0 (Cell n) r.1 (up_events form c u was_list (cell f) r.2)
+
+  up_events : (form : DocForm) → Setting → (u : Up) → (was : Was) → Option term.Subject → RestUp form u was → List Event
+  up_events form c (Subject v) was_node s r = behind_subject form c v s r
+  up_events form c (Subject v) was_list s r = predicates_events c r.0 s (level_events form c v r.1)
+  up_events form c (Subject v) was_box s r = maybe_events c s r.0 (level_events form c v r.1)
+  up_events form c (At p) was s r = place_events form c p r
+
+  around_events : (form : DocForm) → Setting → (a : Around) → Option term.Subject → RestAround form a → List Event
+  around_events form c (Statement v) s r = level_events form c v r
+  around_events form c (Boxed u) s r = take CloseBracket r.0 (up_events form c u was_box s r.1)
+
+-- after a string: nothing of it, a tag or a type
+data TextEnd : Type 0 where
+  no_end : TextEnd
+  tag_end : Tag → TextEnd
+  type_end : Leaf → Iri → TextEnd
+
+abbrev end_events : Setting → List ℕ → Place → TextEnd → List Event → List Event
+end_events c w p no_end rest = give (quad_at c p (plain_literal w)) rest
+end_events c w p (tag_end t) rest = tag_events t (give (quad_at c p (tagged_literal w (language t))) rest)
+end_events c w p (type_end l i) rest = take Carets l (iri_events c.scope i (give (quad_at c p (typed_literal w (iri_in c.scope i))) rest))
+
+abbrev RestDirective : DocForm → Spelling → Type 0
+RestDirective form Dotted = Leaf × Document form
+RestDirective form Sparql = Document form
+
+abbrev spelled_events : (form : DocForm) → InForce → (w : Spelling) → RestDirective form w → List Event
+spelled_events form s Dotted r = take Dot r.0 (document_events s r.1)
+spelled_events form s Sparql r = document_events s r
+
+abbrev Rest : DocForm → Mode → Type 0
+Rest form Start = Document form
+Rest form Over = Unit {0}
+Rest form (WantPrefix w) = Leaf × Leaf × RestDirective form w
+Rest form (WantPrefixIri w p) = Leaf × RestDirective form w
+Rest form (WantBaseIri w) = Leaf × RestDirective form w
+Rest form WantDot = Leaf × Document form
+Rest form (AfterLabel s) = RestLabel form
+Rest form GraphWord = LabelOrSubject × WrappedGraph × Document form
+Rest form (GraphBox n) = Leaf × WrappedGraph × Document form
+Rest form (WantBrace g) = WrappedGraph × Document form
+Rest form Inside = Option TriplesBlock × Leaf × Document form
+Rest form (Want p) = Object × RestPlace form p
+Rest form (After p) = RestPlace form p
+Rest form (AfterText w p) = TextEnd × RestPlace form p
+Rest form (WantType w p) = Iri × RestPlace form p
+Rest form (Box n u) = (Leaf × RestUp form u was_node) ⊎ (PredicateObjectList × RestAround form (Boxed u))
+Rest form (Paren u) = Items × Leaf × RestUp form u was_list
+Rest form (WantVerb s a) = PredicateObjectList × RestAround form a
+Rest form (Semi s a) = (PredicateObjectList ⊎ More) × RestAround form a
+Rest form (AfterBox s v) = Option PredicateObjectList × RestLevel form v
+
+abbrev brace_events : (form : DocForm) → Setting → Option term.Subject → WrappedGraph × Document form → List Event
+brace_events form c g r = wrapped_events (in_graph c.scope g) r.0 (document_events c.scope r.1)
+
+abbrev box_events : (form : DocForm) → Setting → ℕ → (u : Up) → (Leaf × RestUp form u was_node) ⊎ (PredicateObjectList × RestAround form (Boxed u)) → List Event
+box_events form c n u (inl r) = take CloseBracket r.0 (up_events form c u was_node (node (Anon n)) r.1)
+box_events form c n u (inr r) = predicates_events c r.0 (node (Anon n)) (around_events form c (Boxed u) (node (Anon n)) r.1)
+
+abbrev semi_events : Setting → Option term.Subject → PredicateObjectList ⊎ More → List Event → List Event
+semi_events c s (inl ps) rest = predicates_events c ps s rest
+semi_events c s (inr ms) rest = more_events c ms s rest
+
+abbrev binding_events : (form : DocForm) → InForce → List ℕ → (w : Spelling) → Leaf × RestDirective form w → List Event
+binding_events form s p w r =
+    Took (token IriRef r.0) (binds (is_full s p) (reference_in s r.0)) ∷ spelled_events form (with_binding s p (reference_in s r.0)) w r.1
+
+abbrev all_events : (form : DocForm) → Setting → (m : Mode) → Rest form m → List Event
+all_events form c Start r = document_events c.scope r
+all_events form c Over r = []
+all_events form c (WantPrefix w) r = take PnameNs r.0 (binding_events form c.scope (prefix_of r.0) w (r.1, r.2))
+all_events form c (WantPrefixIri w p) r = binding_events form c.scope p w r
+all_events form c (WantBaseIri w) r = name IriRef r.0 (reference_in c.scope r.0) (spelled_events form (with_base c.scope (reference_in c.scope r.0)) w r.1)
+all_events form c WantDot r = take Dot r.0 (document_events c.scope r.1)
+all_events form c (AfterLabel s) r = behind_label form c s r
+all_events form c GraphWord r = label_events c.scope r.0 (brace_events form c (label_of c.scope r.0) (r.1, r.2))
+all_events form c (GraphBox n) r = take CloseBracket r.0 (brace_events form c (node (Anon n)) (r.1, r.2))
+all_events form c (WantBrace g) r = brace_events form c g r
+all_events form c Inside r = maybe_block_events c r.0 (take CloseBrace r.1 (document_events c.scope r.2))
+all_events form c (Want p) r = object_events c r.0 (subject_at p) (verb_at p) None (place_events form c p r.1)
+all_events form c (After p) r = place_events form c p r
+all_events form c (AfterText w p) r = end_events c w p r.0 (place_events form c p r.1)
+all_events form c (WantType w p) r = iri_events c.scope r.0 (give (quad_at c p (typed_literal w (iri_in c.scope r.0))) (place_events form c p r.1))
+all_events form c (Box n u) r = box_events form c n u r
+all_events form c (Paren u) r = give (quad_up c u (items_of r.0)) (items_events c r.0 r.1 (up_events form c u was_list (Some (items_of r.0)) r.2))
+all_events form c (WantVerb s a) r = predicates_events c r.0 s (around_events form c a s r.1)
+all_events form c (Semi s a) r = semi_events c s r.0 (around_events form c a s r.1)
+all_events form c (AfterBox s v) r = maybe_events c s r.0 (level_events form c v r.1)
+
+abbrev Found : DocForm → Setting → Mode → List Event → Type 0
+Found form c m es = (r : Rest form m) × (es ≡ all_events form c m r)
+
+pub unput : (w : Option Quad) (t : Token) (u : Use) (early now : Option Quad) (o : Option (List Event)) (es : List Event) →
+    fronted w (put t u early now o) ≡ Some es →
+    (fs : List Event) × (o ≡ Some fs) × (es ≡ give w (Took t u ∷ give early (give now fs)))
+unput w t u early now None es e = absurd (let z : None ≡ Some es = e in cc)
+unput w t u early now (Some fs) es e = (fs, refl, cc)
+
+-- what the parts of a statement at the top are in each form
+iri_body : (form : DocForm) (i : Iri) (s : InForce) (es : List Event) (r : RestSubject form Top) →
+    es ≡ iri_events s i (behind_subject form (in_default s) Top (named (iri_in s i)) r) →
+    (d : Document form) × (es ≡ document_events s d)
+iri_body Turtle i s es (ps, (d, rest)) e = (with_body record { triples = subject_triples (iri_subject i) ps; dot = d } rest, e)
+iri_body TriG i s es (inl (ps, (d, rest))) e = (with_body (triples_or_graph (label_triples (iri_label i) ps d)) rest, e)
+iri_body TriG i s es (inr (w, rest)) e = (with_body (triples_or_graph (named_graph (iri_label i) w)) rest, e)
+
+blank_body : (form : DocForm) (b : BlankNode) (s : InForce) (es : List Event) (r : RestSubject form Top) →
+    es ≡ blank_object_events b None None (behind_subject form (in_default s) Top (node (blank_of b)) r) → (d : Document form) × (es ≡ document_events s d)
+blank_body Turtle b s es (ps, (d, rest)) e = (with_body record { triples = subject_triples (blank_subject b) ps; dot = d } rest, e)
+blank_body TriG b s es (inl (ps, (d, rest))) e = (with_body (triples_or_graph (label_triples (blank_label b) ps d)) rest, e)
+blank_body TriG b s es (inr (w, rest)) e = (with_body (triples_or_graph (named_graph (blank_label b) w)) rest, e)
+
+list_body : (form : DocForm) (p : BlankNodePropertyList) (s : InForce) (es : List Event) (ps : Option PredicateObjectList) (r : Leaf × Document form) →
+    es ≡ list_events (in_default s) p None None (maybe_events (in_default s) (Some (list_of p)) ps (level_events form (in_default s) Top r)) →
+    (d : Document form) × (es ≡ document_events s d)
+list_body Turtle p s es ps (d, rest) e = (with_body record { triples = list_triples p ps; dot = d } rest, e)
+list_body TriG p s es ps (d, rest) e = (with_body (triples2 (list_triples2 p ps d)) rest, e)
+
+collection_body : (form : DocForm) (x : Collection) (s : InForce) (es : List Event) (ps : PredicateObjectList) (r : Leaf × Document form) →
+    es ≡ collection_events (in_default s) x None None (predicates_events (in_default s) ps (Some (collection_of x)) (level_events form (in_default s) Top r)) →
+    (d : Document form) × (es ≡ document_events s d)
+collection_body Turtle x s es ps (d, rest) e = (with_body record { triples = subject_triples (collection_subject x) ps; dot = d } rest, e)
+collection_body TriG x s es ps (d, rest) e = (with_body (triples2 (collection_triples2 x ps d)) rest, e)
+
+as_subject : (form : DocForm) (v : Level) (s : Option term.Subject) (c : Setting) (r : Rest form (after_subject form v s)) →
+    (x : RestSubject form v) × (all_events form c (after_subject form v s) r ≡ behind_subject form c v s x)
+as_subject form InBlock s c r = (r, refl)
+as_subject Turtle Top s c r = (r, refl)
+as_subject TriG Top s c r = (r, refl)
+
+as_box : (form : DocForm) (u : Up) (s : Option term.Subject) (c : Setting) (r : Rest form (box_closed u s)) →
+    (x : RestUp form u was_box) × (all_events form c (box_closed u s) r ≡ up_events form c u was_box s x)
+as_box form (Subject v) s c r = (r, refl)
+as_box form (At p) s c r = (r, refl)
+
+as_node : (form : DocForm) (u : Up) (s : Option term.Subject) (c : Setting) (r : Rest form (node_closed form u s)) →
+    (x : RestUp form u was_node) × (all_events form c (node_closed form u s) r ≡ up_events form c u was_node s x)
+as_node form (Subject v) s c r = as_subject form v s c r
+as_node form (At p) s c r = (r, refl)
+
+as_list : (form : DocForm) (u : Up) (s : Option term.Subject) (c : Setting) (r : Rest form (list_closed u s)) →
+    (x : RestUp form u was_list) × (all_events form c (list_closed u s) r ≡ up_events form c u was_list s x)
+as_list form (Subject v) s c r = (r, refl)
+as_list form (At p) s c r = (r, refl)
+
+-- what stands after ';'
+more_of : Leaf → PredicateObjectList ⊎ More → More
+more_of l (inl (predicate_objects v os m)) = semicolon_objects l v os m
+more_of l (inr m) = semicolon l m
+
+more_of-events : (c : Setting) (s : Option term.Subject) (l : Leaf) (x : PredicateObjectList ⊎ More) (rest : List Event) →
+    take Semicolon l (semi_events c s x rest) ≡ more_events c (more_of l x) s rest
+unfolding more_of
+more_of-events c s l (inl (predicate_objects v os m)) rest = refl
+more_of-events c s l (inr m) rest = refl
+
+module _ (form : DocForm) (next : Setting → Mode → Option (List Event))
+    (ih : (c : Setting) (m : Mode) (es : List Event) → next c m ≡ Some es → Found form c m es) where
+  -- one step, from what is found after it
+  behind_it : (k : Kind) (l : Leaf) (w : Option Quad) (u : Use) (early now : Option Quad) (c : Setting) (m : Mode) (es : List Event) →
+      fronted w (put (token k l) u early now (next c m)) ≡ Some es →
+      (r : Rest form m) × (es ≡ give w (Took (token k l) u ∷ give early (give now (all_events form c m r))))
+  behind_it k l w u early now c m es e =
+      let x = unput w (token k l) u early now (next c m) es e in
+      let f = ih c m x.0 x.1 in
+      (f.0, x.2 ∙ ap (λ fs. give w (Took (token k l) u ∷ give early (give now fs))) f.1)
+
+  list_end_found : (c : Setting) (s : Option term.Subject) (a : Around) (k : Kind) (l : Leaf) (w : Option Quad) (es : List Event) →
+      fronted w (go_on (token k l) (list_end c s a k l) next) ≡ Some es →
+      (r : RestAround form a) × (es ≡ give w (around_events form c a s r))
+  list_end_found c s (Statement Top) Dot l w es e = let b = behind_it Dot l w itself None None c Start es e in ((l, b.0), b.1)
+  list_end_found c s (Statement Top) k l w es e = absurd (let z : None ≡ Some es = e in cc)
+  list_end_found c s (Statement InBlock) Dot l w es e = let b = behind_it Dot l w itself None None c Inside es e in (inl (l, b.0.0, b.0.1, b.0.2), b.1)
+  list_end_found c s (Statement InBlock) CloseBrace l w es e = let b = behind_it CloseBrace l w itself None None (in_default c.scope) Start es e in (inr (l, b.0), b.1)
+  list_end_found c s (Statement InBlock) k l w es e = absurd (let z : None ≡ Some es = e in cc)
+  list_end_found c s (Boxed u) CloseBracket l w es e =
+      let b = behind_it CloseBracket l w itself None None c (box_closed u s) es e in
+      let x = as_box form u s c b.0 in
+      ((l, x.0), b.1 ∙ ap (λ fs. give w (take CloseBracket l fs)) x.1)
+  list_end_found c s (Boxed u) k l w es e = absurd (let z : None ≡ Some es = e in cc)
+
+  record ObjectFound (c : Setting) (p : Place) (early w : Option Quad) (l : Leaf) (es : List Event) : Type 0 where
+    obj : Object
+    rest : RestPlace form p
+    first : object_leaf obj ≡ l
+    events : es ≡ give w (object_events c obj (subject_at p) (verb_at p) early (place_events form c p rest))
+
+  iri_found : (i : Iri) (c : Setting) (p : Place) (early w : Option Quad) (es : List Event) (r : RestPlace form p) →
+      es ≡ give w (iri_events c.scope i (give early (give (quad_at c p (resource (named (iri_in c.scope i)))) (place_events form c p r)))) →
+      ObjectFound c p early w (iri_leaf i) es
+  iri_found i c p early w es r e = record { obj = iri_object i; rest = r; first = refl; events = e }
+
+  text_found : (x : String) (c : Setting) (p : Place) (early w : Option Quad) (es : List Event) (t : TextEnd) (r : RestPlace form p) →
+      es ≡ give w (string_events x (give early (end_events c (lexical x) p t (place_events form c p r)))) → ObjectFound c p early w (string_leaf x) es
+  text_found x c p early w es no_end r e = record { obj = literal_object (rdf (plain x)); rest = r; first = refl; events = e }
+  text_found x c p early w es (tag_end t) r e = record { obj = literal_object (rdf (tagged x t)); rest = r; first = refl; events = e }
+  text_found x c p early w es (type_end l i) r e = record { obj = literal_object (rdf (typed x l i)); rest = r; first = refl; events = e }
+
+  literal_found : (x : Literal) (c : Setting) (p : Place) (early w : Option Quad) (es : List Event) (r : RestPlace form p) →
+      es ≡ give w (literal_events c.scope x early (quad_at c p (literal_of c.scope x)) (place_events form c p r)) → ObjectFound c p early w (literal_leaf x) es
+  literal_found x c p early w es r e = record { obj = literal_object x; rest = r; first = refl; events = e }
+
+  box_found : (c : Setting) (p : Place) (early w : Option Quad) (l : Leaf) (es : List Event) (r : Rest form (Box l.at.offset (At p))) →
+      es ≡ give w (take OpenBracket l (give early (give (quad_at c p (resource (node (anon_at l)))) (box_events form c l.at.offset (At p) r)))) →
+      ObjectFound c p early w l es
+  box_found c p early w l es (inl r) e = record { obj = blank_object (anon l r.0); rest = r.1; first = refl; events = e }
+  box_found c p early w l es (inr r) e = record { obj = list_object (property_list l r.0 r.1.0); rest = r.1.1; first = refl; events = e }
+
+  object_found : (c : Setting) (p : Place) (early w : Option Quad) (k : Kind) (l : Leaf) (es : List Event) →
+      fronted w (go_on (token k l) (object_start c p early k l) next) ≡ Some es → ObjectFound c p early w l es
+  object_found c p early w IriRef l es e = let b = behind_it IriRef l w _ early _ c (After p) es e in iri_found (iri_ref l) c p early w es b.0 b.1
+  object_found c p early w PnameLn l es e = let b = behind_it PnameLn l w _ early _ c (After p) es e in iri_found (prefixed (pname_ln l)) c p early w es b.0 b.1
+  object_found c p early w PnameNs l es e = let b = behind_it PnameNs l w _ early _ c (After p) es e in iri_found (prefixed (pname_ns l)) c p early w es b.0 b.1
+  object_found c p early w LabelNode l es e = let b = behind_it LabelNode l w _ early _ c (After p) es e in record { obj = blank_object (label l); rest = b.0; first = refl; events = b.1 }
+  object_found c p early w ShortString l es e = let b = behind_it ShortString l w itself early None c (AfterText (short_value l) p) es e in text_found (short l) c p early w es b.0.0 b.0.1 b.1
+  object_found c p early w LongString l es e = let b = behind_it LongString l w itself early None c (AfterText (long_value l) p) es e in text_found (long l) c p early w es b.0.0 b.0.1 b.1
+  object_found c p early w Integer l es e = let b = behind_it Integer l w _ early _ c (After p) es e in literal_found (numeric (integer l)) c p early w es b.0 b.1
+  object_found c p early w Decimal l es e = let b = behind_it Decimal l w _ early _ c (After p) es e in literal_found (numeric (decimal l)) c p early w es b.0 b.1
+  object_found c p early w Double l es e = let b = behind_it Double l w _ early _ c (After p) es e in literal_found (numeric (double l)) c p early w es b.0 b.1
+  object_found c p early w True l es e = let b = behind_it True l w _ early _ c (After p) es e in literal_found (boolean (true_word l)) c p early w es b.0 b.1
+  object_found c p early w False l es e = let b = behind_it False l w _ early _ c (After p) es e in literal_found (boolean (false_word l)) c p early w es b.0 b.1
+  object_found c p early w OpenBracket l es e = let b = behind_it OpenBracket l w _ early _ c (Box l.at.offset (At p)) es e in box_found c p early w l es b.0 b.1
+  object_found c p early w OpenParen l es e =
+      let b = behind_it OpenParen l w _ early None c (Paren (At p)) es e in
+      record { obj = collection_object (collection l b.0.0 b.0.1); rest = b.0.2; first = refl; events = b.1 }
+  object_found c p early w k l es e = absurd (let z : None ≡ Some es = e in cc)
+
+  after_found : (c : Setting) (p : Place) (w : Option Quad) (k : Kind) (l : Leaf) (es : List Event) →
+      fronted w (go_on (token k l) (after c p k l) next) ≡ Some es →
+      (r : RestPlace form p) × (es ≡ give w (place_events form c p r))
+  after_found c (Listed s v a) w Comma l es e =
+      let b = behind_it Comma l w itself None None c (Want (Listed s v a)) es e in ((comma l b.0.0 b.0.1.0, b.0.1.1, b.0.1.2), b.1)
+  after_found c (Listed s v a) w Semicolon l es e =
+      let b = behind_it Semicolon l w itself None None c (Semi s a) es e in
+      ((no_commas, more_of l b.0.0, b.0.1), b.1 ∙ ap (give w) (more_of-events c s l b.0.0 (around_events form c a s b.0.1)))
+  after_found c (Listed s v a) w k l es e = let x = list_end_found c s a k l w es e in ((no_commas, no_more, x.0), x.1)
+  after_found c (InCells f n u) w CloseParen l es e =
+      let b = behind_it CloseParen l w itself None (rest_quad c (Cell n) nil) c (list_closed u (cell f)) es e in
+      let x = as_list form u (cell f) c b.0 in
+      ((no_items, l, x.0), b.1 ∙ ap (λ fs. give w (take CloseParen l (give (rest_quad c (Cell n) nil) fs))) x.1)
+  after_found c (InCells f n u) w k l es e =
+      let x = object_found c (InCells f l.at.offset u) (rest_quad c (Cell n) (Blank (cell_at l))) w k l es e in (
+        (item x.obj x.rest.0, x.rest.1, x.rest.2),
+        x.events ∙ ap (λ y. give w (object_events c x.obj (node (cell_at y)) (Some (known_chars RdfFirst)) (rest_quad c (Cell n) (Blank (cell_at y))) (rest_events c x.rest.0 (cell_at y) x.rest.1 (up_events form c u was_list (cell f) x.rest.2)))) (sym x.first),
+      )
+
+  -- a predicate list from its verb
+  abbrev PredicatesFound : Setting → Option term.Subject → Around → List Event → Type 0
+  PredicatesFound c s a es = (r : PredicateObjectList × RestAround form a) × (es ≡ predicates_events c r.0 s (around_events form c a s r.1))
+
+  predicate_found : (i : Iri) (c : Setting) (s : Option term.Subject) (a : Around) (es : List Event) (r : Rest form (Want (Listed s (iri_in c.scope i) a))) →
+      es ≡ iri_events c.scope i (all_events form c (Want (Listed s (iri_in c.scope i) a)) r) → PredicatesFound c s a es
+  predicate_found i c s a es r e = ((predicate_objects (predicate i) (objects r.0 r.1.0) r.1.1, r.1.2), e)
+
+  verb_found : (c : Setting) (s : Option term.Subject) (a : Around) (k : Kind) (l : Leaf) (es : List Event) →
+      fronted None (go_on (token k l) (verb_start c s a k l) next) ≡ Some es → PredicatesFound c s a es
+  verb_found c s a IriRef l es e = let b = behind_it IriRef l None _ None None c (Want (Listed s (reference_in c.scope l) a)) es e in predicate_found (iri_ref l) c s a es b.0 b.1
+  verb_found c s a PnameLn l es e = let b = behind_it PnameLn l None _ None None c (Want (Listed s (name_in c.scope l) a)) es e in predicate_found (prefixed (pname_ln l)) c s a es b.0 b.1
+  verb_found c s a PnameNs l es e = let b = behind_it PnameNs l None _ None None c (Want (Listed s (name_in c.scope l) a)) es e in predicate_found (prefixed (pname_ns l)) c s a es b.0 b.1
+  verb_found c s a A l es e =
+      let b = behind_it A l None itself None None c (Want (Listed s (Some (known_chars RdfType)) a)) es e in
+      ((predicate_objects (type_word l) (objects b.0.0 b.0.1.0) b.0.1.1, b.0.1.2), b.1)
+  verb_found c s a k l es e = absurd (let z : None ≡ Some es = e in cc)
+
+  semi_found : (c : Setting) (s : Option term.Subject) (a : Around) (k : Kind) (l : Leaf) (es : List Event) →
+      fronted None (go_on (token k l) (semi c s a k l) next) ≡ Some es → Found form c (Semi s a) es
+  semi_found c s a Semicolon l es e =
+      let b = behind_it Semicolon l None itself None None c (Semi s a) es e in
+      ((inr (more_of l b.0.0), b.0.1), b.1 ∙ more_of-events c s l b.0.0 (around_events form c a s b.0.1))
+  semi_found c s a IriRef l es e = let x = verb_found c s a IriRef l es e in ((inl x.0.0, x.0.1), x.1)
+  semi_found c s a PnameLn l es e = let x = verb_found c s a PnameLn l es e in ((inl x.0.0, x.0.1), x.1)
+  semi_found c s a PnameNs l es e = let x = verb_found c s a PnameNs l es e in ((inl x.0.0, x.0.1), x.1)
+  semi_found c s a A l es e = let x = verb_found c s a A l es e in ((inl x.0.0, x.0.1), x.1)
+  semi_found c s a k l es e = let x = list_end_found c s a k l None es e in ((inr no_more, x.0), x.1)
+
+  box_mode_found : (c : Setting) (n : ℕ) (u : Up) (k : Kind) (l : Leaf) (es : List Event) →
+      fronted None (go_on (token k l) (box form c n u k l) next) ≡ Some es → Found form c (Box n u) es
+  box_mode_found c n u CloseBracket l es e =
+      let b = behind_it CloseBracket l None itself None None c (node_closed form u (node (Anon n))) es e in
+      let x = as_node form u (node (Anon n)) c b.0 in
+      (inl (l, x.0), b.1 ∙ ap (take CloseBracket l) x.1)
+  box_mode_found c n u k l es e = let x = verb_found c (node (Anon n)) (Boxed u) k l es e in (inr x.0, x.1)
+
+  paren_found : (c : Setting) (u : Up) (k : Kind) (l : Leaf) (es : List Event) →
+      fronted (waiting c (Paren u) k l) (go_on (token k l) (paren c u k l) next) ≡ Some es → Found form c (Paren u) es
+  paren_found c u CloseParen l es e =
+      let b = behind_it CloseParen l (quad_up c u nil) itself None None c (list_closed u (Some nil)) es e in
+      let x = as_list form u (Some nil) c b.0 in
+      ((no_items, l, x.0), b.1 ∙ ap (λ fs. give (quad_up c u nil) (take CloseParen l fs)) x.1)
+  paren_found c u k l es e =
+      let x = object_found c (InCells l.at.offset l.at.offset u) None (quad_up c u (Blank (cell_at l))) k l es e in (
+        (item x.obj x.rest.0, x.rest.1, x.rest.2),
+        x.events ∙ ap (λ y. give (quad_up c u (Blank (cell_at y))) (object_events c x.obj (node (cell_at y)) (Some (known_chars RdfFirst)) None (rest_events c x.rest.0 (cell_at y) x.rest.1 (up_events form c u was_list (node (cell_at y)) x.rest.2)))) (sym x.first),
+      )
+
+  after_text_found : (c : Setting) (w : List ℕ) (p : Place) (k : Kind) (l : Leaf) (es : List Event) →
+      fronted (waiting c (AfterText w p) k l) (go_on (token k l) (after_text c w p k l) next) ≡ Some es →
+      Found form c (AfterText w p) es
+  after_text_found c w p LangTag l es e = let b = behind_it LangTag l None itself None _ c (After p) es e in ((tag_end (lang_tag l), b.0), b.1)
+  after_text_found c w p AtBase l es e = let b = behind_it AtBase l None itself None _ c (After p) es e in ((tag_end (base_tag l), b.0), b.1)
+  after_text_found c w p AtPrefix l es e = let b = behind_it AtPrefix l None itself None _ c (After p) es e in ((tag_end (prefix_tag l), b.0), b.1)
+  after_text_found c w p Carets l es e = let b = behind_it Carets l None itself None None c (WantType w p) es e in ((type_end l b.0.0, b.0.1), b.1)
+  after_text_found c w p k l es e = let x = after_found c p (quad_at c p (plain_literal w)) k l es e in ((no_end, x.0), x.1)
+
+  want_type_found : (c : Setting) (w : List ℕ) (p : Place) (k : Kind) (l : Leaf) (es : List Event) →
+      fronted None (go_on (token k l) (want_type c w p k l) next) ≡ Some es → Found form c (WantType w p) es
+  want_type_found c w p IriRef l es e = let b = behind_it IriRef l None _ None _ c (After p) es e in ((iri_ref l, b.0), b.1)
+  want_type_found c w p PnameLn l es e = let b = behind_it PnameLn l None _ None _ c (After p) es e in ((prefixed (pname_ln l), b.0), b.1)
+  want_type_found c w p PnameNs l es e = let b = behind_it PnameNs l None _ None _ c (After p) es e in ((prefixed (pname_ns l), b.0), b.1)
+  want_type_found c w p k l es e = absurd (let z : None ≡ Some es = e in cc)
+
+  after_box_found : (c : Setting) (s : Option term.Subject) (v : Level) (k : Kind) (l : Leaf) (es : List Event) →
+      fronted None (go_on (token k l) (after_box c s v k l) next) ≡ Some es → Found form c (AfterBox s v) es
+  after_box_found c s v IriRef l es e = let x = verb_found c s (Statement v) IriRef l es e in ((Some x.0.0, x.0.1), x.1)
+  after_box_found c s v PnameLn l es e = let x = verb_found c s (Statement v) PnameLn l es e in ((Some x.0.0, x.0.1), x.1)
+  after_box_found c s v PnameNs l es e = let x = verb_found c s (Statement v) PnameNs l es e in ((Some x.0.0, x.0.1), x.1)
+  after_box_found c s v A l es e = let x = verb_found c s (Statement v) A l es e in ((Some x.0.0, x.0.1), x.1)
+  after_box_found c s v k l es e = let x = list_end_found c s (Statement v) k l None es e in ((None, x.0), x.1)
+
+  -- triples in a block
+  abbrev TriplesFound : Setting → List Event → Type 0
+  TriplesFound c es = (t : Triples) × (r : RestLevel form InBlock) × (es ≡ triples_events c t (level_events form c InBlock r))
+
+  block_box : (c : Setting) (l : Leaf) (es : List Event) (r : Rest form (Box l.at.offset (Subject InBlock))) →
+      es ≡ take OpenBracket l (box_events form c l.at.offset (Subject InBlock) r) → TriplesFound c es
+  block_box c l es (inl (d, (ps, r))) e = (subject_triples (blank_subject (anon l d)) ps, r, e)
+  block_box c l es (inr (ps, (d, (qs, r)))) e = (list_triples (property_list l ps d) qs, r, e)
+
+  block_iri : (i : Iri) (c : Setting) (es : List Event) (r : Rest form (WantVerb (named (iri_in c.scope i)) (Statement InBlock))) →
+      es ≡ iri_events c.scope i (all_events form c (WantVerb (named (iri_in c.scope i)) (Statement InBlock)) r) → TriplesFound c es
+  block_iri i c es r e = (subject_triples (iri_subject i) r.0, r.1, e)
+
+  block_triples : (c : Setting) (k : Kind) (l : Leaf) (es : List Event) → fronted None (go_on (token k l) (subject_start form c InBlock k l) next) ≡ Some es →
+      TriplesFound c es
+  block_triples c IriRef l es e = let b = behind_it IriRef l None _ None None c (WantVerb (named (reference_in c.scope l)) (Statement InBlock)) es e in block_iri (iri_ref l) c es b.0 b.1
+  block_triples c PnameLn l es e = let b = behind_it PnameLn l None _ None None c (WantVerb (named (name_in c.scope l)) (Statement InBlock)) es e in block_iri (prefixed (pname_ln l)) c es b.0 b.1
+  block_triples c PnameNs l es e = let b = behind_it PnameNs l None _ None None c (WantVerb (named (name_in c.scope l)) (Statement InBlock)) es e in block_iri (prefixed (pname_ns l)) c es b.0 b.1
+  block_triples c LabelNode l es e =
+      let b = behind_it LabelNode l None itself None None c (WantVerb (node (labelled l)) (Statement InBlock)) es e in (subject_triples (blank_subject (label l)) b.0.0, b.0.1, b.1)
+  block_triples c OpenBracket l es e = let b = behind_it OpenBracket l None itself None None c (Box l.at.offset (Subject InBlock)) es e in block_box c l es b.0 b.1
+  block_triples c OpenParen l es e =
+      let b = behind_it OpenParen l None itself None None c (Paren (Subject InBlock)) es e in (subject_triples (collection_subject (collection l b.0.0 b.0.1)) b.0.2.0, b.0.2.1, b.1)
+  block_triples c k l es e = absurd (let z : None ≡ Some es = e in cc)
+
+  block_of : (c : Setting) (es : List Event) (t : Triples) (r : RestLevel form InBlock) → es ≡ triples_events c t (level_events form c InBlock r) →
+      Found form c Inside es
+  block_of c es t (inl (d, None, r, rest)) e = ((Some (last_dot t d), r, rest), e)
+  block_of c es t (inl (d, Some b, r, rest)) e = ((Some (dot t d b), r, rest), e)
+  block_of c es t (inr (r, rest)) e = ((Some (last t), r, rest), e)
+
+  inside_found : (c : Setting) (k : Kind) (l : Leaf) (es : List Event) → fronted None (go_on (token k l) (inside form c k l) next) ≡ Some es →
+      Found form c Inside es
+  inside_found c CloseBrace l es e = let b = behind_it CloseBrace l None itself None None (in_default c.scope) Start es e in ((None, l, b.0), b.1)
+  inside_found c k l es e = let x = block_triples c k l es e in block_of c es x.0 x.1 x.2
+
+  -- statements at the top
+  start_iri : (i : Iri) (c : Setting) (es : List Event) (r : Rest form (after_subject form Top (named (iri_in c.scope i)))) →
+      es ≡ iri_events c.scope i (all_events form (in_default c.scope) (after_subject form Top (named (iri_in c.scope i))) r) → Found form c Start es
+  start_iri i c es r e = let x = as_subject form Top (named (iri_in c.scope i)) (in_default c.scope) r in iri_body form i c.scope es x.0 (e ∙ ap (iri_events c.scope i) x.1)
+
+  start_box : (c : Setting) (l : Leaf) (es : List Event) (r : Rest form (Box l.at.offset (Subject Top))) →
+      es ≡ take OpenBracket l (box_events form (in_default c.scope) l.at.offset (Subject Top) r) →
+      Found form c Start es
+  start_box c l es (inl (d, r)) e = blank_body form (anon l d) c.scope es r e
+  start_box c l es (inr (ps, (d, (qs, r)))) e = list_body form (property_list l ps d) c.scope es qs r e
+
+  subject_found : (c : Setting) (k : Kind) (l : Leaf) (es : List Event) →
+      fronted None (go_on (token k l) (subject_start form (in_default c.scope) Top k l) next) ≡ Some es → Found form c Start es
+  subject_found c IriRef l es e = let b = behind_it IriRef l None _ None None (in_default c.scope) (after_subject form Top (named (reference_in c.scope l))) es e in start_iri (iri_ref l) c es b.0 b.1
+  subject_found c PnameLn l es e = let b = behind_it PnameLn l None _ None None (in_default c.scope) (after_subject form Top (named (name_in c.scope l))) es e in start_iri (prefixed (pname_ln l)) c es b.0 b.1
+  subject_found c PnameNs l es e = let b = behind_it PnameNs l None _ None None (in_default c.scope) (after_subject form Top (named (name_in c.scope l))) es e in start_iri (prefixed (pname_ns l)) c es b.0 b.1
+  subject_found c LabelNode l es e =
+      let b = behind_it LabelNode l None itself None None (in_default c.scope) (after_subject form Top (node (labelled l))) es e in
+      let x = as_subject form Top (node (labelled l)) (in_default c.scope) b.0 in
+      blank_body form (label l) c.scope es x.0 (b.1 ∙ ap (take LabelNode l) x.1)
+  subject_found c OpenBracket l es e = let b = behind_it OpenBracket l None itself None None (in_default c.scope) (Box l.at.offset (Subject Top)) es e in start_box c l es b.0 b.1
+  subject_found c OpenParen l es e =
+      let b = behind_it OpenParen l None itself None None (in_default c.scope) (Paren (Subject Top)) es e in collection_body form (collection l b.0.0 b.0.1) c.scope es b.0.2.0 b.0.2.1 b.1
+  subject_found c k l es e = absurd (let z : None ≡ Some es = e in cc)
+
+  prefix_found : (c : Setting) (k : Kind) (w : Spelling) (l : Leaf) (es : List Event) →
+      fronted None (put (token k l) itself None None (next c (WantPrefix w))) ≡ Some es →
+      (r : Rest form (WantPrefix w)) × (es ≡ take k l (all_events form c (WantPrefix w) r))
+  prefix_found c k w l es e = behind_it k l None itself None None c (WantPrefix w) es e
+
+  base_found : (c : Setting) (k : Kind) (w : Spelling) (l : Leaf) (es : List Event) →
+      fronted None (put (token k l) itself None None (next c (WantBaseIri w))) ≡ Some es →
+      (r : Rest form (WantBaseIri w)) × (es ≡ take k l (all_events form c (WantBaseIri w) r))
+  base_found c k w l es e = behind_it k l None itself None None c (WantBaseIri w) es e
+
+  after_label_found : (c : Setting) (g : Option term.Subject) (k : Kind) (l : Leaf) (es : List Event) →
+      fronted None (go_on (token k l) (after_label c g k l) next) ≡ Some es → Found form c (AfterLabel g) es
+  after_label_found c g OpenBrace l es e = let b = behind_it OpenBrace l None itself None None (in_graph c.scope g) Inside es e in (inr (wrapped l b.0.0 b.0.1, b.0.2), b.1)
+  after_label_found c g k l es e = let x = verb_found c g (Statement Top) k l es e in (inl (x.0.0, x.0.1), x.1)
+
+  want_brace_found : (c : Setting) (g : Option term.Subject) (k : Kind) (l : Leaf) (es : List Event) →
+      fronted None (go_on (token k l) (want_brace c g k l) next) ≡ Some es → Found form c (WantBrace g) es
+  want_brace_found c g OpenBrace l es e = let b = behind_it OpenBrace l None itself None None (in_graph c.scope g) Inside es e in ((wrapped l b.0.0 b.0.1, b.0.2), b.1)
+  want_brace_found c g k l es e = absurd (let z : None ≡ Some es = e in cc)
+
+  graph_box_found : (c : Setting) (n : ℕ) (k : Kind) (l : Leaf) (es : List Event) → fronted None (go_on (token k l) (graph_box c n k l) next) ≡ Some es →
+      Found form c (GraphBox n) es
+  graph_box_found c n CloseBracket l es e = let b = behind_it CloseBracket l None itself None None c (WantBrace (node (Anon n))) es e in ((l, b.0.0, b.0.1), b.1)
+  graph_box_found c n k l es e = absurd (let z : None ≡ Some es = e in cc)
+
+  graph_iri : (i : Iri) (c : Setting) (es : List Event) (r : Rest form (WantBrace (named (iri_in c.scope i)))) →
+      es ≡ iri_events c.scope i (brace_events form c (named (iri_in c.scope i)) r) → Found form c GraphWord es
+  graph_iri i c es r e = ((iri_label i, r.0, r.1), e)
+
+  graph_word_found : (c : Setting) (k : Kind) (l : Leaf) (es : List Event) → fronted None (go_on (token k l) (graph_word c k l) next) ≡ Some es →
+      Found form c GraphWord es
+  graph_word_found c IriRef l es e = let b = behind_it IriRef l None _ None None c (WantBrace (named (reference_in c.scope l))) es e in graph_iri (iri_ref l) c es b.0 b.1
+  graph_word_found c PnameLn l es e = let b = behind_it PnameLn l None _ None None c (WantBrace (named (name_in c.scope l))) es e in graph_iri (prefixed (pname_ln l)) c es b.0 b.1
+  graph_word_found c PnameNs l es e = let b = behind_it PnameNs l None _ None None c (WantBrace (named (name_in c.scope l))) es e in graph_iri (prefixed (pname_ns l)) c es b.0 b.1
+  graph_word_found c LabelNode l es e = let b = behind_it LabelNode l None itself None None c (WantBrace (node (labelled l))) es e in ((blank_label (label l), b.0.0, b.0.1), b.1)
+  graph_word_found c OpenBracket l es e = let b = behind_it OpenBracket l None itself None None c (GraphBox l.at.offset) es e in ((blank_label (anon l b.0.0), b.0.1, b.0.2), b.1)
+  graph_word_found c k l es e = absurd (let z : None ≡ Some es = e in cc)
+
+  want_prefix_found : (c : Setting) (w : Spelling) (k : Kind) (l : Leaf) (es : List Event) →
+      fronted None (go_on (token k l) (want_prefix c w k l) next) ≡ Some es → Found form c (WantPrefix w) es
+  want_prefix_found c w PnameNs l es e = let b = behind_it PnameNs l None itself None None c (WantPrefixIri w (prefix_of l)) es e in ((l, b.0.0, b.0.1), b.1)
+  want_prefix_found c w k l es e = absurd (let z : None ≡ Some es = e in cc)
+
+  want_prefix_iri_found : (c : Setting) (w : Spelling) (p : List ℕ) (k : Kind) (l : Leaf) (es : List Event) →
+      fronted None (go_on (token k l) (want_prefix_iri c w p k l) next) ≡ Some es → Found form c (WantPrefixIri w p) es
+  want_prefix_iri_found c Dotted p IriRef l es e =
+      let b = behind_it IriRef l None _ None None (in_default (with_binding c.scope p (reference_in c.scope l))) WantDot es e in ((l, (b.0.0, b.0.1)), b.1)
+  want_prefix_iri_found c Sparql p IriRef l es e = let b = behind_it IriRef l None _ None None (in_default (with_binding c.scope p (reference_in c.scope l))) Start es e in ((l, b.0), b.1)
+  want_prefix_iri_found c w p k l es e = absurd (let z : None ≡ Some es = e in cc)
+
+  want_base_iri_found : (c : Setting) (w : Spelling) (k : Kind) (l : Leaf) (es : List Event) →
+      fronted None (go_on (token k l) (want_base_iri c w k l) next) ≡ Some es → Found form c (WantBaseIri w) es
+  want_base_iri_found c Dotted IriRef l es e = let b = behind_it IriRef l None _ None None (in_default (with_base c.scope (reference_in c.scope l))) WantDot es e in ((l, (b.0.0, b.0.1)), b.1)
+  want_base_iri_found c Sparql IriRef l es e = let b = behind_it IriRef l None _ None None (in_default (with_base c.scope (reference_in c.scope l))) Start es e in ((l, b.0), b.1)
+  want_base_iri_found c w k l es e = absurd (let z : None ≡ Some es = e in cc)
+
+  want_dot_found : (c : Setting) (k : Kind) (l : Leaf) (es : List Event) → fronted None (go_on (token k l) (want_dot c k l) next) ≡ Some es →
+      Found form c WantDot es
+  want_dot_found c Dot l es e = let b = behind_it Dot l None itself None None c Start es e in ((l, b.0), b.1)
+  want_dot_found c k l es e = absurd (let z : None ≡ Some es = e in cc)
+
+graph_start_found : (next : Setting → Mode → Option (List Event))
+    (ih : (c : Setting) (m : Mode) (es : List Event) → next c m ≡ Some es → Found TriG c m es) (c : Setting) (l : Leaf) (es : List Event) →
+    fronted None (go_on (token Graph l) (start TriG c Graph l) next) ≡ Some es → Found TriG c Start es
+graph_start_found next ih c l es e =
+    let b = behind_it TriG next ih Graph l None itself None None c GraphWord es e in (with_body (tree.graph_word l b.0.0 b.0.1) b.0.2, b.1)
+
+brace_start_found : (next : Setting → Mode → Option (List Event))
+    (ih : (c : Setting) (m : Mode) (es : List Event) → next c m ≡ Some es → Found TriG c m es) (c : Setting) (l : Leaf) (es : List Event) →
+    fronted None (go_on (token OpenBrace l) (start TriG c OpenBrace l) next) ≡ Some es → Found TriG c Start es
+brace_start_found next ih c l es e =
+    let b = behind_it TriG next ih OpenBrace l None itself None None (in_default c.scope) Inside es e in (with_body (default_graph (wrapped l b.0.0 b.0.1)) b.0.2, b.1)
+
+start_found : (form : DocForm) (next : Setting → Mode → Option (List Event))
+    (ih : (c : Setting) (m : Mode) (es : List Event) → next c m ≡ Some es → Found form c m es) (c : Setting) (k : Kind) (l : Leaf) (es : List Event) →
+    fronted None (go_on (token k l) (start form c k l) next) ≡ Some es → Found form c Start es
+start_found form next ih c End l es e = let b = behind_it form next ih End l None itself None None c Over es e in (end l, b.1)
+start_found form next ih c AtPrefix l es e =
+    let b = prefix_found form next ih c AtPrefix Dotted l es e in (with_directive (prefix_id l b.0.0 b.0.1 b.0.2.0) b.0.2.1, b.1)
+start_found form next ih c Prefix l es e = let b = prefix_found form next ih c Prefix Sparql l es e in (with_directive (sparql_prefix l b.0.0 b.0.1) b.0.2, b.1)
+start_found form next ih c AtBase l es e = let b = base_found form next ih c AtBase Dotted l es e in (with_directive (base l b.0.0 b.0.1.0) b.0.1.1, b.1)
+start_found form next ih c Base l es e = let b = base_found form next ih c Base Sparql l es e in (with_directive (sparql_base l b.0.0) b.0.1, b.1)
+start_found TriG next ih c Graph l es e = graph_start_found next ih c l es e
+start_found TriG next ih c OpenBrace l es e = brace_start_found next ih c l es e
+start_found form next ih c k l es e = subject_found form next ih c k l es e
+
+step_found : (form : DocForm) (next : Setting → Mode → Option (List Event))
+    (ih : (c : Setting) (m : Mode) (es : List Event) → next c m ≡ Some es → Found form c m es) (c : Setting) (m : Mode) (k : Kind) (l : Leaf)
+    (es : List Event) →
+    fronted (waiting c m k l) (go_on (token k l) (step form c m k l) next) ≡ Some es → Found form c m es
+step_found form next ih c Start k l es e = start_found form next ih c k l es e
+step_found form next ih c Over k l es e = absurd (let z : None ≡ Some es = e in cc)
+step_found form next ih c (WantPrefix w) k l es e = want_prefix_found form next ih c w k l es e
+step_found form next ih c (WantPrefixIri w p) k l es e = want_prefix_iri_found form next ih c w p k l es e
+step_found form next ih c (WantBaseIri w) k l es e = want_base_iri_found form next ih c w k l es e
+step_found form next ih c WantDot k l es e = want_dot_found form next ih c k l es e
+step_found form next ih c (AfterLabel g) k l es e = after_label_found form next ih c g k l es e
+step_found form next ih c GraphWord k l es e = graph_word_found form next ih c k l es e
+step_found form next ih c (GraphBox n) k l es e = graph_box_found form next ih c n k l es e
+step_found form next ih c (WantBrace g) k l es e = want_brace_found form next ih c g k l es e
+step_found form next ih c Inside k l es e = inside_found form next ih c k l es e
+step_found form next ih c (Want p) k l es e = let x = object_found form next ih c p None None k l es e in ((x.obj, x.rest), x.events)
+step_found form next ih c (After p) k l es e = after_found form next ih c p None k l es e
+step_found form next ih c (AfterText w p) k l es e = after_text_found form next ih c w p k l es e
+step_found form next ih c (WantType w p) k l es e = want_type_found form next ih c w p k l es e
+step_found form next ih c (Box n u) k l es e = box_mode_found form next ih c n u k l es e
+step_found form next ih c (Paren u) k l es e = paren_found form next ih c u k l es e
+step_found form next ih c (WantVerb s a) k l es e = verb_found form next ih c s a k l es e
+step_found form next ih c (Semi s a) k l es e = semi_found form next ih c s a k l es e
+step_found form next ih c (AfterBox s v) k l es e = after_box_found form next ih c s v k l es e
+
+stop_found : (form : DocForm) (c : Setting) (m : Mode) (es : List Event) → stop m ≡ Some es → Found form c m es
+stop_found form c Over es e = (tt, cc)
+stop_found form c m es e = absurd (let z : None ≡ Some es = e in cc)
+
+found : (form : DocForm) (ts : List Token) (c : Setting) (m : Mode) (es : List Event) → run form c m ts ≡ Some es → Found form c m es
+found form [] c m es e = stop_found form c m es e
+found form (t ∷ ts) c m es e = step_found form (λ c' m'. run form c' m' ts) (found form ts) c m t.kind (leaf_of t) es e
+
+-- the events of a run are of its tokens
+tokens_give : (q : Option Quad) (es : List Event) → tokens (give q es) ≡ tokens es
+tokens_give None es = refl
+tokens_give (Some q) es = refl
+
+reply_tokens : (t : Token) (w : Option Quad) (r : Reply) (next : Setting → Mode → Option (List Event)) (ts : List Token) →
+    ((c : Setting) (m : Mode) (es : List Event) → next c m ≡ Some es → tokens es ≡ ts) →
+    (es : List Event) → fronted w (go_on t r next) ≡ Some es → tokens es ≡ t ∷ ts
+reply_tokens t w No next ts ih es e = absurd (let z : None ≡ Some es = e in cc)
+reply_tokens t w (Go u early now c m) next ts ih es e =
+    let x = unput w t u early now (next c m) es e in
+    ap tokens x.2 ∙ tokens_give w _ ∙ ap (λ l. t ∷ l) (tokens_give early (give now x.0) ∙ tokens_give now x.0 ∙ ih c m x.0 x.1)
+
+stop_tokens : (m : Mode) (es : List Event) → stop m ≡ Some es → tokens es ≡ []
+stop_tokens Over es e = let z : [] ≡ es = cc in ap tokens (sym z)
+stop_tokens m es e = absurd (let z : None ≡ Some es = e in cc)
+
+pub same_tokens : (form : DocForm) (ts : List Token) (c : Setting) (m : Mode) (es : List Event) → run form c m ts ≡ Some es → tokens es ≡ ts
+same_tokens form [] c m es e = stop_tokens m es e
+same_tokens form (t ∷ ts) c m es e = reply_tokens t (waiting c m t.kind (leaf_of t)) (step form c m t.kind (leaf_of t)) (λ c' m'. run form c' m' ts) ts (same_tokens form ts) es e
+
+-- What is read is a document's tokens, with its events.
+pub read_found : (form : DocForm) (ts : List Token) (c : Setting) (es : List Event) → run form c Start ts ≡ Some es →
+    (d : Document form) × (es ≡ document_events c.scope d) × (tokens (document_events c.scope d) ≡ ts)
+read_found form ts c es e = let f = found form ts c Start es e in (f.0, f.1, ap tokens (sym f.1) ∙ same_tokens form ts c Start es e)

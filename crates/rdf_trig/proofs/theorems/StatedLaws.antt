@@ -1,0 +1,68 @@
+-- The laws as they are stated.
+use Rattle.std.specs.Prelude.{nat_lt}
+use Rattle.std.proofs.lemmas.Bool.{cond-true, cond-false, cases_lt, lt-ltb, le-ltb}
+use Rattle.rdf_tokens.specs.Grammars.{Marked, unmarked, quads_below, Due}
+use Rattle.rdf_trig.specs.Documents.{documents}
+use Rattle.std.proofs.Common.{sym, ℕ, ◌∷◌, ◌++◌, ◌<◌, ◌≤◌, [], ap, refl, ◌∙◌, ⊎_elim, arith, length, ◌≡◌, List, subst}
+use Rattle.rdf_terms.specs.Terms.{Quad}
+use Rattle.rdf_tokens.specs.Tokens.{Token}
+use Rattle.rdf_iri.specs.Scope.{InForce}
+use Rattle.rdf_lines.specs.Lines.{leaf_of}
+use Rattle.rdf_trig.specs.declared.form.DocForm.{DocForm}
+use Rattle.rdf_trig.specs.Trees.{Document, document_tokens}
+use Rattle.rdf_trig.specs.TreeQuads.{document_quads}
+use Rattle.rdf_trig.specs.Events.{tokens, event_quads, document_events}
+use Rattle.rdf_trig.specs.Refusals.{Refusal}
+use Rattle.rdf_trig.specs.Machine.{State, refuses, accept, at_start, ran, accept_all}
+use Rattle.rdf_trig.specs.Laws.{Rises, Reads, IsRefusedAfter}
+use Rattle.rdf_trig.proofs.trees.TokensOfEvents.{document_told}
+use Rattle.rdf_trig.proofs.trees.MarksOfEvents.{document_marks}
+use Rattle.rdf_trig.proofs.machine.DueQuads.{marked_rises}
+use Rattle.rdf_trig.proofs.machine.RefusedTokens.{reached_start, refused_for}
+use Rattle.rdf_trig.proofs.machine.ExactDocuments.{same_due, due_ran, front_all, front_to}
+
+pub tree_told : (form : DocForm) (start : InForce) (d : Document form) →
+    (tokens (document_events start d) ≡ document_tokens d) × (event_quads 0 (document_events start d) ≡ document_quads start 0 d)
+tree_told form start d = (document_told d start, document_marks d start 0)
+
+pub never_fall : (form : DocForm) (start : InForce) (d : Document form) → Rises 0 (event_quads 0 (document_events start d))
+never_fall form start d = marked_rises (document_events start d) 0
+
+pub begins : (form : DocForm) (start : InForce) (ts : List Token) (s : State) (qs : List Quad) → accept_all form (at_start start) ts ≡ ran s qs →
+    Reads form start ts qs
+begins form start ts s qs e = record { front = front_all form start ts s qs e; due = due_ran form start ts s qs e }
+
+pub stops : (form : DocForm) (start : InForce) (ts : List Token) (t : Token) (more : List Token) (s : State) (qs : List Quad) (x : Refusal) →
+    accept_all form (at_start start) ts ≡ ran s qs →
+    accept form s t.kind (leaf_of t) ≡ refuses x → IsRefusedAfter form start ts t more x
+stops form start ts t more s qs x e a = record {
+  reason = refused_for form start ts t s x (reached_start form start ts s qs e) a;
+  front = front_to form start ts t more s qs x e a;
+}
+
+-- where marks rise, those below a number stand in front
+none_below : (qs : List Marked) (m k : ℕ) → k ≤ m → Rises m qs → quads_below k qs ≡ []
+none_below [] m k l r = refl
+none_below (q ∷ qs) m k l r = cond-false (nat_lt q.mark k) _ _ (le-ltb _ _ (omega (arith, l, r.0))) ∙ none_below qs q.mark k (omega (arith, l, r.0)) r.1
+
+front_below : (qs : List Marked) (m k : ℕ) → Rises m qs → (rest : List Quad) × (unmarked qs ≡ quads_below k qs ++ rest)
+front_below [] m k r = ([], refl)
+front_below (q ∷ qs) m k r = ⊎_elim (below (front_below qs q.mark k r.1)) behind (cases_lt q.mark k)
+  where
+    below : (rest : List Quad) × (unmarked qs ≡ quads_below k qs ++ rest) → q.mark < k →
+        (rest : List Quad) × (unmarked (q ∷ qs) ≡ quads_below k (q ∷ qs) ++ rest)
+    below ih l = (ih.0, ap (λ x. q.quad ∷ x) ih.1 ∙ sym (ap (λ x. x ++ ih.0) (cond-true (nat_lt q.mark k) (q.quad ∷ quads_below k qs) (quads_below k qs) (lt-ltb _ _ l))))
+
+    behind : k ≤ q.mark → (rest : List Quad) × (unmarked (q ∷ qs) ≡ quads_below k (q ∷ qs) ++ rest)
+    behind l =
+        let e : quads_below k (q ∷ qs) ≡ [] = cond-false (nat_lt q.mark k) (q.quad ∷ quads_below k qs) (quads_below k qs) (le-ltb _ _ l) ∙ none_below qs q.mark k l r.1 in
+        (unmarked (q ∷ qs), sym (ap (λ x. x ++ unmarked (q ∷ qs)) e))
+
+pub due_front : (form : DocForm) (start : InForce) (ts more : List Token) (qs : List Quad) (all : List Marked) → Due (documents form start) ts qs →
+    documents form start (ts ++ more) all →
+    (rest : List Quad) × (unmarked all ≡ qs ++ rest)
+due_front form start ts more qs all w d =
+    let r = subst (Rises 0) d.quads (never_fall form start d.tree) in
+    let f = front_below all 0 (length ts) r in
+    let e : quads_below (length ts) all ≡ qs = same_due form start ts (quads_below (length ts) all) qs (more, all, d, refl) w in
+    (f.0, f.1 ∙ ap (λ x. x ++ f.0) e)

@@ -1,0 +1,120 @@
+-- What begins a document is completed to one by a few fixed tokens.
+use Rattle.std.proofs.Common.{◌≡◌, Bool, true, false, List, [], ◌∷◌, ◌++◌, Some, refl, sym, ◌∙◌}
+use Rattle.std.specs.List.{All}
+use Rattle.std.proofs.lemmas.List.Elements.{All-nil, All-cons}
+use Rattle.rdf_tokens.specs.Grammars.{Viable, Shaped}
+use Rattle.rdf_tokens.specs.Tokens.{Token}
+use Rattle.rdf_iri.specs.Scope.{InForce}
+use Rattle.rdf_trig.specs.declared.form.DocForm.{DocForm}
+use Rattle.rdf_trig.specs.Trees.{Document}
+use Rattle.rdf_trig.specs.Quads.{in_default}
+use Rattle.rdf_trig.specs.Events.{document_events, tokens, event_quads}
+use Rattle.rdf_trig.specs.Machine.{Level, Top, InBlock, Place, Listed, InCells, Around, Statement, Boxed, Up, Subject, At, Spelling, Dotted, Sparql, Mode, Start, Over, WantPrefix, WantPrefixIri, WantBaseIri, WantDot, AfterLabel, GraphWord, GraphBox, WantBrace, Inside, Want, After, AfterText, WantType, Box, Paren, WantVerb, Semi, AfterBox, start}
+use Rattle.rdf_trig.specs.Documents.{documents, trees}
+use Rattle.rdf_trig.specs.Laws.{IsClosing, CompletedBy}
+use Rattle.rdf_trig.proofs.machine.Soundness.{read_found}
+use Rattle.rdf_trig.proofs.trees.TokensOfEvents.{document_told}
+use Rattle.rdf_trig.proofs.machine.ClosingTokens.{AllAdmitted, the_end, close_level, close_verb, close_place, close_list, close_box, close_around, close_directive, close_block, close, closes}
+use Rattle.rdf_trig.proofs.machine.ViableTokens.{Stand, reach, front, passing_bound, viable_reached, shaped_reached}
+
+abbrev Closing : List Token → Type 0
+Closing [] = Unit {0}
+Closing (t ∷ ts) = IsClosing t × Closing ts
+
+all_closing : (ts : List Token) → Closing ts → All IsClosing ts
+all_closing [] c = All-nil IsClosing
+all_closing (t ∷ ts) c = All-cons IsClosing t ts c.0 (all_closing ts c.1)
+
+ended : Closing (the_end ∷ [])
+ended = (refl, tt)
+
+level_closing : (v : Level) → Closing (close_level v)
+level_closing Top = (refl, ended)
+level_closing InBlock = (refl, ended)
+
+verb_closing : (v : Level) → Closing (close_verb v)
+verb_closing v = (refl, (refl, level_closing v))
+
+mutual
+  place_closing : (p : Place) → Closing (close_place p)
+  place_closing (Listed s p (Statement v)) = level_closing v
+  place_closing (Listed s p (Boxed u)) = (refl, box_closing u)
+  place_closing (InCells f n u) = (refl, list_closing u)
+
+  list_closing : (u : Up) → Closing (close_list u)
+  list_closing (Subject v) = verb_closing v
+  list_closing (At p) = place_closing p
+
+  box_closing : (u : Up) → Closing (close_box u)
+  box_closing (Subject v) = level_closing v
+  box_closing (At p) = place_closing p
+
+around_closing : (a : Around) → Closing (close_around a)
+around_closing (Statement v) = level_closing v
+around_closing (Boxed u) = (refl, box_closing u)
+
+directive_closing : (w : Spelling) → Closing (close_directive w)
+directive_closing Dotted = (refl, ended)
+directive_closing Sparql = ended
+
+block_closing : Closing close_block
+block_closing = (refl, (refl, ended))
+
+closing : (m : Mode) → Closing (close m)
+closing Start = ended
+closing Over = tt
+closing (WantPrefix w) = (refl, (refl, directive_closing w))
+closing (WantPrefixIri w p) = (refl, directive_closing w)
+closing (WantBaseIri w) = (refl, directive_closing w)
+closing WantDot = (refl, ended)
+closing (AfterLabel g) = verb_closing Top
+closing GraphWord = (refl, block_closing)
+closing (GraphBox n) = (refl, block_closing)
+closing (WantBrace g) = block_closing
+closing Inside = (refl, ended)
+closing (Want p) = (refl, place_closing p)
+closing (After p) = place_closing p
+closing (AfterText w p) = place_closing p
+closing (WantType w p) = (refl, place_closing p)
+closing (Box n u) = (refl, list_closing u)
+closing (Paren u) = (refl, list_closing u)
+closing (WantVerb s a) = (refl, (refl, around_closing a))
+closing (Semi s a) = around_closing a
+closing (AfterBox s v) = level_closing v
+
+-- the whole document or tree
+record Whole (strict : Bool) (form : DocForm) (start : InForce) (ts : List Token) : Type 0 where
+  tree : Document form
+  told : tokens (document_events start tree) ≡ ts
+  passing : AllAdmitted strict (document_events start tree)
+
+whole : (strict : Bool) (form : DocForm) (start : InForce) (ts : List Token) (s : Stand) → reach strict form (in_default start) Start ts ≡ Some s →
+    Whole strict form start (ts ++ close s.mode)
+whole strict form start ts s e =
+    let a = front strict form ts (close s.mode) (in_default start) Start s (closes strict form s.mode s.setting) e in
+    let f = read_found form (ts ++ close s.mode) (in_default start) a.events a.runs in
+    record { tree = f.0; told = f.2; passing = rw f.1 at a.bound }
+
+pub completed : (form : DocForm) (start : InForce) (ts : List Token) →
+    (Viable (documents form start) ts → CompletedBy (documents form start) ts) × (Shaped (trees form start) ts → CompletedBy (trees form start) ts)
+completed form start ts = (by_document, by_tree)
+  where
+    by_document : Viable (documents form start) ts → CompletedBy (documents form start) ts
+    by_document v =
+        let s = viable_reached form start ts v in
+        let w = whole true form start ts s.0 s.1 in (
+          close (Stand.mode s.0),
+          event_quads 0 (document_events start w.tree),
+          all_closing (close (Stand.mode s.0)) (closing (Stand.mode s.0)),
+          record { tree = w.tree; tokens = sym w.told ∙ document_told w.tree start; bound = passing_bound (document_events start w.tree) w.passing; quads = refl },
+        )
+
+    by_tree : Shaped (trees form start) ts → CompletedBy (trees form start) ts
+    by_tree v =
+        let s = shaped_reached form start ts v in
+        let w = whole false form start ts s.0 s.1 in (
+          close (Stand.mode s.0),
+          event_quads 0 (document_events start w.tree),
+          all_closing (close (Stand.mode s.0)) (closing (Stand.mode s.0)),
+          record { tree = w.tree; tokens = sym w.told ∙ document_told w.tree start; quads = refl },
+        )
