@@ -13,8 +13,8 @@ use Rattle.rdf_tokens.specs.Good.{tokens_of}
 use Rattle.rdf_tokens.specs.Scans.{is_end, most_bytes, place_of}
 use Rattle.rdf_driver.specs.declared.summary.Summary.{Summary}
 use Rattle.rdf_tokens.specs.Grammars.{IsTooLong}
-use Rattle.rdf_stream.specs.declared.fault.Form.{Form}
-use Rattle.rdf_stream.specs.declared.fault.Form.TheVariants.{NTriples, NQuads, Turtle, TriG}
+use Rattle.rdf_stream.specs.declared.form.Form.{Form}
+use Rattle.rdf_stream.specs.declared.form.Form.TheVariants.{NTriples, NQuads, Turtle, TriG}
 use Rattle.rdf_stream.specs.declared.fault.StreamFault.{StreamFault}
 use Rattle.rdf_stream.specs.declared.fault.StreamFault.TheVariants.{Refused, Read, Write, Memory}
 use Rattle.rdf_stream.specs.Devices.{AppendsFront, HasBroken, HasGiven, Reading as Reader}

@@ -8,7 +8,8 @@ ghost use Rattle.rdf_stream.specs.Faults.{IsRefusal};
 ghost use Rattle.rdf_stream.specs.Languages.{language_of};
 
 use crate::devices::Source;
-use crate::fault::{Kind, StreamFault};
+use crate::fault::StreamFault;
+use crate::form::Kind;
 use crate::job::Job;
 use crate::pieces::{Run, piece_buffer, read_pieces};
 use rdf_driver::{Grammar, Reader, Summary};

@@ -9,7 +9,8 @@ ghost use Rattle.rdf_stream.specs.Languages.{conversion, conversion_of};
 ghost use Rattle.rdf_stream.specs.LineOut.{SameOut};
 
 use crate::devices::{Drain, Failed, Source};
-use crate::fault::{Kind, StreamFault};
+use crate::fault::StreamFault;
+use crate::form::Kind;
 use crate::job::Job;
 use crate::line_out::{LineOut, stop};
 use crate::pieces::{Run, piece_buffer, read_pieces};

@@ -9,7 +9,8 @@ ghost use Rattle.rdf_stream.specs.Shows.{ShowStops, Shows, dialect_of, shown};
 ghost use Rattle.rdf_stream.specs.ShowParts.{Ends, HaltsBehind, HaltsHere, IsShowing, IsShowingAll, IsShowingRun, PutHalts, ShowEnds, ShowHalts, ShowsMore, ShowsOne, ShowsRest};
 
 use crate::devices::{Drain, Failed, Source};
-use crate::fault::{Form, StreamFault};
+use crate::fault::StreamFault;
+use crate::form::Form;
 use crate::job::Job;
 use crate::line_out::{LineOut, stop};
 use crate::pieces::{Run, piece_buffer, read_pieces};

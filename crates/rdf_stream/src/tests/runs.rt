@@ -3,7 +3,8 @@
 use super::devices::{SlowDrain, ample_drain, cut_at};
 use crate::checks::check;
 use crate::conversions::convert;
-use crate::fault::{Form, StreamFault};
+use crate::fault::StreamFault;
+use crate::form::Form;
 use crate::job::Job;
 use crate::messages::report;
 use crate::shows::show;
