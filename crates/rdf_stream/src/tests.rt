@@ -532,6 +532,52 @@ fn an_iri_that_is_too_long_is_refused_before_the_source_fails(rt: HostRuntime) -
     Ok(())
 }
 
+/// Limits on open brackets and on an IRI, and a document of which nothing is due before the token that passes one of them.
+const PASSED: [(Form, u64, u64, &str, Reason, u64); 3] = [
+    (
+        Form::NQuads,
+        1,
+        10,
+        "<a:s> <a:p> <http://a/o> .",
+        Reason::IriTooLong,
+        12,
+    ),
+    (
+        Form::TriG,
+        1,
+        10,
+        "<a:s> <a:p> <http://a/o> .",
+        Reason::IriTooLong,
+        12,
+    ),
+    (
+        Form::TriG,
+        1,
+        10,
+        "<a:s> <a:p> ( ( 1 ) ) .",
+        Reason::TooDeep,
+        14,
+    ),
+];
+
+#[test]
+fn no_line_beyond_a_limit_is_put(rt: HostRuntime) -> Result<(), Fail> {
+    for (form, depth, iri, text, reason, offset) in PASSED {
+        let limits = Limits::new(100, depth, 10, iri).ok_or("limits")?;
+        let job = job(rt.alloc(), &Asked::within(form, limits))?;
+        let mut source = cut_at(text.as_bytes(), 0);
+        let mut drain = failing_drain(rt.alloc(), 0);
+        match convert(rt.alloc(), job, &mut source, &mut drain) {
+            Err(StreamFault::Refused(fault)) => {
+                assert_eq!(rt; (fault.reason, fault.offset), (reason, offset));
+            }
+            _ => assert!(rt; false, "{text} was not refused"),
+        }
+        assert!(rt; drain.bytes.is_empty() && !drain.failed());
+    }
+    Ok(())
+}
+
 #[test]
 fn a_check_tells_that_the_source_failed(rt: HostRuntime) -> Result<(), Fail> {
     for (form, text) in [(Form::NTriples, TWO), (Form::Turtle, LIST)] {
