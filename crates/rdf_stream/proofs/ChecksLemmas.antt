@@ -17,7 +17,7 @@ use Rattle.rdf_stream.specs.declared.checks.NoQuads.{NoQuads}
 use Rattle.rdf_stream.specs.declared.fault.StreamFault.{StreamFault}
 use Rattle.rdf_stream.specs.declared.fault.StreamFault.TheVariants as stream
 use Rattle.rdf_stream.specs.Checks.{BeginsToRead, CheckEnds, CheckHalts, CheckStops, ChecksNoMore, IsChecking, IsRefusedFor, IsAccepted}
-use Rattle.rdf_stream.specs.Devices.{HasGiven}
+use Rattle.rdf_stream.specs.Devices.{HasGiven, Reading}
 use Rattle.rdf_stream.specs.Faults.{IsOfDocument, IsRefusal, fault_by}
 use Rattle.rdf_stream.specs.Pieces.{ReadStops, ReadsAll, SourceFails}
 use Rattle.rdf_stream.proofs.PiecesLemmas.{all_given, too_long_more}
@@ -103,13 +103,13 @@ halts_of_document stream.Write l bytes e h = tt
 halts_of_document stream.Memory l bytes e h = tt
 
 -- why the bytes that were given are not read on is why a check stops
-halts_stops : (told : StreamFault) (l : Language) → EndsAtBlame l → (known left : Option (List ℕ)) (read_failed : Bool) (given : HasGiven known left read_failed) →
-    ChecksNoMore told l given.bytes given.is_end → CheckStops told l known left read_failed
-halts_stops (stream.Refused f) l ends known left read_failed given h =
-    all_given known left read_failed (λ bytes e. IsRefusedFor f.reason l bytes e (place_of f)) (λ bytes more x. refused_more l ends f.reason bytes more (place_of f) x) given h
-halts_stops stream.Read l ends known left read_failed given h = absurd h
-halts_stops stream.Write l ends known left read_failed given h = absurd h
-halts_stops stream.Memory l ends known left read_failed given h = given
+halts_stops : (told : StreamFault) (l : Language) → EndsAtBlame l → (known : Option (List ℕ)) (left : Reading) (given : HasGiven known left) →
+    ChecksNoMore told l given.bytes left.has_ended → CheckStops told l known left
+halts_stops (stream.Refused f) l ends known left given h =
+    (all_given known left (λ bytes e. IsRefusedFor f.reason l bytes e (place_of f)) (λ bytes more x. refused_more l ends f.reason bytes more (place_of f) x) given h, given, h)
+halts_stops stream.Read l ends known left given h = absurd h
+halts_stops stream.Write l ends known left given h = absurd h
+halts_stops stream.Memory l ends known left given h = given
 
 module _ {G X : Type 0} (w : Words G X) where
   -- a reader, and its sink
@@ -129,30 +129,30 @@ module _ {G X : Type 0} (w : Words G X) where
   pub begins : (x : X) (first : R) → BeginsToRead w x first.0 → Taken first [] first
   begins x first b = record { begun = (x, b); limit = refl; read = λ y b. ([], b.read) }
 
-  module _ (x : X) (limit : ℕ) (first now : R) (same_limit : first.0.scanner.limit ≡ limit) (b : BeginsToRead w x first.0) (known left : Option (List ℕ)) where
+  module _ (x : X) (limit : ℕ) (first now : R) (same_limit : first.0.scanner.limit ≡ limit) (b : BeginsToRead w x first.0) (known : Option (List ℕ)) (left : Reading) where
     pub checked : (s : Summary) → ReadsAll Ended known left s first now → IfSome known (λ bytes. IsAccepted (in_words w x limit) bytes s)
     checked s h =
-        Consumes-whole known left h.bytes (λ bytes. IsAccepted (in_words w x limit) bytes s) h.consumed h.at_end (subst (λ n. IsAccepted (in_words w x n) h.bytes s) same_limit (h.is_end x b))
+        Consumes-whole known left.remaining h.bytes (λ bytes. IsAccepted (in_words w x limit) bytes s) h.consumed h.at_end (subst (λ n. IsAccepted (in_words w x n) h.bytes s) same_limit (h.is_end x b))
 
-    broke : (source_failed : Bool) → SourceFails Taken known left source_failed first now → CheckStops stream.Read (in_words w x limit) known left source_failed
-    broke source_failed h =
+    broke : SourceFails Taken known left first now → CheckStops stream.Read (in_words w x limit) known left
+    broke h =
         let (quads, r) = h.is_taken.read x b in
         let goes_on = read_goes_on w b.lawful now.0 x h.bytes quads r in (
-          h.failed_now,
+          h.broken,
           h.bytes,
           h.consumed,
           subst (λ n. GoesOn (in_words w x n) h.bytes) same_limit (subst (λ n. GoesOn (in_words w x n) h.bytes) h.is_taken.limit goes_on),
         )
 
-    pub stopped : (told : StreamFault) (source_failed : Bool) → ReadStops Taken Halted told known left source_failed first now → CheckStops told (in_words w x limit) known left source_failed
-    stopped told source_failed h =
-        ⊎_elim (λ p. subst (λ t. CheckStops t (in_words w x limit) known left source_failed) (sym p.0) (broke source_failed p.1))
+    pub stopped : (told : StreamFault) → ReadStops Taken Halted told known left first now → CheckStops told (in_words w x limit) known left
+    stopped told h =
+        ⊎_elim (λ p. subst (λ t. CheckStops t (in_words w x limit) known left) (sym p.0) (broke p.1))
         (λ p.
-        halts_stops told (in_words w x limit) (b.lawful.ends x) known left source_failed p.0
-        (subst (λ n. ChecksNoMore told (in_words w x n) p.0.bytes p.0.is_end) same_limit (p.1.halts x b)))
+        halts_stops told (in_words w x limit) (b.lawful.ends x) known left p.0
+        (subst (λ n. ChecksNoMore told (in_words w x n) p.0.bytes left.has_ended) same_limit (p.1.halts x b)))
         h
 
-    pub refused_document : (told : StreamFault) (source_failed : Bool) → ReadStops Taken Halted told known left source_failed first now → IsRefusal told
-    refused_document told source_failed h =
+    pub refused_document : (told : StreamFault) → ReadStops Taken Halted told known left first now → IsRefusal told
+    refused_document told h =
         ⊎_elim (λ p. subst IsRefusal (sym p.0) tt)
-        (λ p. halts_of_document told (in_words w x first.0.scanner.limit) p.0.bytes p.0.is_end (p.1.halts x b)) h
+        (λ p. halts_of_document told (in_words w x first.0.scanner.limit) p.0.bytes left.has_ended (p.1.halts x b)) h

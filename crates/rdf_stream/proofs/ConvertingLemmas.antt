@@ -152,7 +152,7 @@ module _ {G X D A : Type 0} (contents : D → Option (List ℕ)) (failed : D →
 
   leaves_off : (readings : List ℕ → Reading) (mid : LineOut D A) → LeavesOff w (Takes contents failed) (Leaves contents failed) reader lines readings mid → LeftOff (readings bytes).tokens mid
   leaves_off readings mid h =
-      let d = h.due x bytes o.quads o.read in record { more = h.more; tries = tried contents failed h.more lines mid h.puts (styled d.ahead h.more d.rest d.due); due = d }
+      let d = h.due x bytes o.quads o.read in record { more = h.more; tries = tried contents failed h.more lines mid h.puts; due = d }
 
   -- the drain failed, before or when it was handed what waited
   tells_write : (ts : List Token) (mid after : LineOut D A) → LeftOff ts mid → TellsWrite contents failed mid after → WritesFront job ts (contents first.drain.now) (contents after.drain.now)
@@ -188,14 +188,13 @@ module _ {G X D A : Type 0} (contents : D → Option (List ℕ)) (failed : D →
   refuses : (why : Reason) (at : Place) (readings : List ℕ → Reading) (mid : LineOut D A) → R.Refuses w (Takes contents failed) reader lines readings why at mid → RefusedAt why at (readings bytes) mid
   refuses why at readings mid r =
       let d = r.refused x bytes o.quads o.read in
-      let kept = styled_all d.0 r.more d.2 in
       record {
         more = r.more;
-        taken = taken contents failed r.more lines mid r.puts kept;
+        taken = taken contents failed r.more lines mid r.puts (styled_all d.0 r.more d.2);
         refused = d;
         left = record {
           more = r.more;
-          tries = tried contents failed r.more lines mid (puts_tries contents failed r.more lines mid r.puts) kept;
+          tries = tried contents failed r.more lines mid (puts_tries contents failed r.more lines mid r.puts);
           due = begins_refused l (readings bytes) why at d.0 (o.quads ++ r.more) d.1 d.2;
         };
       }

@@ -19,7 +19,7 @@ use Rattle.rdf_stream.specs.declared.fault.StreamFault.TheVariants as stream
 use Rattle.rdf_stream.specs.declared.line_out.LineOut.{LineOut}
 use Rattle.rdf_stream.specs.Converting.{Begins, HaltsFor, IsConverting, RunEnds, RunHalts, Starts}
 use Rattle.rdf_stream.specs.Converts.{Accepts, RefusesDocument, StopsFor, WritesDue, WritesSome}
-use Rattle.rdf_stream.specs.Devices.{HasGiven}
+use Rattle.rdf_stream.specs.Devices.{HasGiven, Reading}
 use Rattle.rdf_stream.specs.Faults.{IsOfDocument, IsRefusal}
 use Rattle.rdf_lines.specs.declared.form.LineForm.{LineForm}
 use Rattle.rdf_lines.specs.declared.form.Style.TheVariants.{Kept, Tagged}
@@ -27,11 +27,11 @@ use Rattle.rdf_lines.specs.Accepting.{line_words}
 use Rattle.rdf_trig.specs.declared.form.DocForm.{DocForm}
 use Rattle.rdf_trig.specs.Accepting.{tree_words}
 use Rattle.rdf_trig.specs.Language.{Chosen}
-use Rattle.rdf_stream.specs.declared.fault.Kind.TheVariants.{Line, Tree}
+use Rattle.rdf_stream.specs.declared.form.Kind.TheVariants.{Line, Tree}
 use Rattle.rdf_stream.specs.Jobs.{JobRead}
 use Rattle.rdf_stream.specs.Kinds.{kind_of}
 use Rattle.rdf_stream.specs.Languages.{Conversion, conversion, conversion_by, conversion_of, language_of, tree_job}
-use Rattle.rdf_stream.specs.declared.fault.Kind.{Kind}
+use Rattle.rdf_stream.specs.declared.form.Kind.{Kind}
 use Rattle.rdf_lines.specs.Machine.{Begin}
 use Rattle.rdf_lines.proofs.AcceptingLemmas.{lawful as lines_lawful}
 use Rattle.rdf_trig.specs.Machine.{at_start}
@@ -59,13 +59,13 @@ halts_document stream.Write job bytes e old new failed h = tt
 halts_document stream.Memory job bytes e old new failed h = tt
 
 -- why the bytes that were given are not read on is why a conversion stops
-halts_stops : (told : StreamFault) (job : Conversion) → EndsAtBlame job.language → (known left old new : Option (List ℕ)) (read_failed write_failed : Bool) (given : HasGiven known left read_failed) →
-    HaltsFor told job given.bytes given.is_end old new write_failed → StopsFor told job known left read_failed old new write_failed
-halts_stops (stream.Refused f) job ends known left old new read_failed write_failed given h =
-    all_given known left read_failed (λ bytes e. RefusesDocument f.reason job bytes e (place_of f) old new) (λ bytes more x. refuses_more job ends f.reason bytes more (place_of f) old new x) given h
-halts_stops stream.Read job ends known left old new read_failed write_failed given h = absurd h
-halts_stops stream.Write job ends known left old new read_failed write_failed given h = (h.0, given, h.1)
-halts_stops stream.Memory job ends known left old new read_failed write_failed given h = (h.0, given, h.1)
+halts_stops : (told : StreamFault) (job : Conversion) → EndsAtBlame job.language → (known : Option (List ℕ)) (left : Reading) (old new : Option (List ℕ)) (write_failed : Bool) (given : HasGiven known left) →
+    HaltsFor told job given.bytes left.has_ended old new write_failed → StopsFor told job known left old new write_failed
+halts_stops (stream.Refused f) job ends known left old new write_failed given h =
+    (all_given known left (λ bytes e. RefusesDocument f.reason job bytes e (place_of f) old new) (λ bytes more x. refuses_more job ends f.reason bytes more (place_of f) old new x) given h, given, h)
+halts_stops stream.Read job ends known left old new write_failed given h = absurd h
+halts_stops stream.Write job ends known left old new write_failed given h = (h.0, given, h.1)
+halts_stops stream.Memory job ends known left old new write_failed given h = (h.0, given, h.1)
 
 module _ {G X D : Type 0} (A : Type 0) (contents : D → Option (List ℕ)) (failed flushed : D → Bool) (w : Words G X) where
   -- a reader, and its lines
@@ -98,7 +98,7 @@ module _ {G X D : Type 0} (A : Type 0) (contents : D → Option (List ℕ)) (fai
   }
 
   module _ (x : X) (limit : ℕ) (style : Style) (first now : R) (same_limit : first.0.scanner.limit ≡ limit) (same_style : first.1.style ≡ style) (b : Begins failed w x first.0 first.1)
-      (known left : Option (List ℕ)) where
+      (known : Option (List ℕ)) (left : Reading) where
     abbrev job : Conversion
     job = conversion w x limit style
 
@@ -114,18 +114,18 @@ module _ {G X D : Type 0} (A : Type 0) (contents : D → Option (List ℕ)) (fai
 
     pub converted : (s : Summary) → ReadsAll Ended known left s first now → IfSome known (λ bytes. Accepts job bytes old new s)
     converted s h =
-        Consumes-whole known left h.bytes (λ bytes. Accepts job bytes old new s) h.consumed h.at_end (asked (λ n s'. Accepts (conversion w x n s') h.bytes old new s) (h.is_end.accepts x b))
+        Consumes-whole known left.remaining h.bytes (λ bytes. Accepts job bytes old new s) h.consumed h.at_end (asked (λ n s'. Accepts (conversion w x n s') h.bytes old new s) (h.is_end.accepts x b))
 
     -- the source failed
-    broke : (source_failed : Bool) → SourceFails Taken known left source_failed first now → StopsFor stream.Read job known left source_failed old new (failed now.1.drain.now)
-    broke source_failed h =
+    broke : SourceFails Taken known left first now → StopsFor stream.Read job known left old new (failed now.1.drain.now)
+    broke h =
         let o = h.is_taken.handed x b in
         let n = now.0.scanner.limit in
         let law = b.starts.suits.lawful in
         let writes : WritesDue (conversion w x first.0.scanner.limit first.1.style) (reading_of (in_words w x first.0.scanner.limit) h.bytes false).tokens old new =
         subst (λ k. WritesDue (conversion w x k first.1.style) (reading_of (in_words w x k) h.bytes false).tokens old new) h.is_taken.limit
         (record { quads = o.quads; due = law.due now.0.grammar x (reading_of (in_words w x n) h.bytes false).tokens o.quads o.read.reached; written = o.written }) in (
-          h.failed_now,
+          h.broken,
           record {
             bytes = h.bytes;
             consumed = h.consumed;
@@ -134,19 +134,19 @@ module _ {G X D : Type 0} (A : Type 0) (contents : D → Option (List ℕ)) (fai
           },
         )
 
-    pub stopped : (told : StreamFault) (source_failed : Bool) → ReadStops Taken Halted told known left source_failed first now →
-        StopsFor told job known left source_failed old new (failed now.1.drain.now)
-    stopped told source_failed h =
-        ⊎_elim (λ p. subst (λ t. StopsFor t job known left source_failed old new (failed now.1.drain.now)) (sym p.0) (broke source_failed p.1))
+    pub stopped : (told : StreamFault) → ReadStops Taken Halted told known left first now →
+        StopsFor told job known left old new (failed now.1.drain.now)
+    stopped told h =
+        ⊎_elim (λ p. subst (λ t. StopsFor t job known left old new (failed now.1.drain.now)) (sym p.0) (broke p.1))
         (λ p.
-        halts_stops told job (b.starts.suits.lawful.ends x) known left old new source_failed (failed now.1.drain.now) p.0
-        (asked (λ n s. HaltsFor told (conversion w x n s) p.0.bytes p.0.is_end old new (failed now.1.drain.now)) (p.1.halts x b)))
+        halts_stops told job (b.starts.suits.lawful.ends x) known left old new (failed now.1.drain.now) p.0
+        (asked (λ n s. HaltsFor told (conversion w x n s) p.0.bytes left.has_ended old new (failed now.1.drain.now)) (p.1.halts x b)))
         h
 
-    pub refused_document : (told : StreamFault) (source_failed : Bool) → ReadStops Taken Halted told known left source_failed first now → IsRefusal told
-    refused_document told source_failed h =
+    pub refused_document : (told : StreamFault) → ReadStops Taken Halted told known left first now → IsRefusal told
+    refused_document told h =
         ⊎_elim (λ p. subst IsRefusal (sym p.0) tt)
-        (λ p. halts_document told (conversion w x first.0.scanner.limit first.1.style) p.0.bytes p.0.is_end old new (failed now.1.drain.now) (p.1.halts x b)) h
+        (λ p. halts_document told (conversion w x first.0.scanner.limit first.1.style) p.0.bytes left.has_ended old new (failed now.1.drain.now) (p.1.halts x b)) h
 
 -- ---- by the job
 
@@ -172,15 +172,16 @@ none_due (Line form) job = lines_lawful.due (record { rules = record { form = fo
 none_due (Tree form) job = due_ran form (tree_job form job).start [] (at_start (tree_job form job).start) [] refl
 
 -- there was no memory to begin with
-pub none_stops : (job : JobRead) (known old : Option (List ℕ)) (read_failed write_failed : Bool) → read_failed ≡ false → write_failed ≡ false → StopsFor stream.Memory (conversion_of job) known known read_failed old old write_failed
-none_stops job known old read_failed write_failed r f = (
+pub none_stops : (job : JobRead) (left : Reading) (old : Option (List ℕ)) (write_failed : Bool) → left.has_ended ≡ false → left.has_failed ≡ false → write_failed ≡ false →
+    StopsFor stream.Memory (conversion_of job) left.remaining left old old write_failed
+none_stops job left old write_failed o r f = (
   f,
-  none_given known read_failed r,
+  none_given left o r,
   record {
     quads = [];
     due = record {
       ahead = [];
-      behind = (reading_of (language_of job) [] false).tokens;
+      behind = (reading_of (language_of job) [] left.has_ended).tokens;
       tokens = refl;
       kept = none_passes;
       rest = [];

@@ -70,10 +70,6 @@ module _ {D A : Type 0} (contents : D → Option (List ℕ)) (failed : D → Boo
     pub writes : Writes contents a (bytes_of a.style qs) b
     pub live : failed a.drain.now ≡ false → failed b.drain.now ≡ false
 
-  -- the line was written, since the style can write the quad
-  wrote : (a b : LineOut D A) (q : Quad) → Takes contents failed a q b → CanWrite a.style q → Writes contents a (line_bytes a.style q) b
-  wrote a b q t w = ⊎_elim (λ m. m) (λ p. absurd (p.0 w)) t.writes
-
   -- some bytes were written, and then others
   writes_on : (a b c : LineOut D A) (bs cs : List ℕ) → Writes contents a bs b → Writes contents b cs c → Writes contents a (bs ++ cs) c
   writes_on a b c bs cs p q =
@@ -95,7 +91,7 @@ module _ {D A : Type 0} (contents : D → Option (List ℕ)) (failed : D → Boo
         same = same_out a next b t.same r.same;
         writable = ((quad_had q t.formed, w.0), subst (λ s. Writable s qs) t.same.style r.writable);
         writes = subst (λ l. Writes contents a l b) (sym (encodes-append (line a.style q) (text a.style qs)))
-            (writes_on a next b (line_bytes a.style q) (bytes_of a.style qs) (wrote a next q t w.0) more);
+            (writes_on a next b (line_bytes a.style q) (bytes_of a.style qs) t.writes more);
         live = λ l. r.live t.live;
       }
 
@@ -107,14 +103,14 @@ module _ {D A : Type 0} (contents : D → Option (List ℕ)) (failed : D → Boo
     -- where the drain has not failed, the lines of some of the quads were written
     pub whole : failed b.drain.now ≡ false → (done later : List Quad) × (qs ≡ done ++ later) × Writes contents a (bytes_of a.style done) b
 
-  pub tried : (qs : List Quad) (a b : LineOut D A) → Tries a qs b → AllByRecursion (CanWrite a.style) qs → Tried a qs b
-  tried [] a b h w = subst (Tried a []) (sym h) (record {
+  pub tried : (qs : List Quad) (a b : LineOut D A) → Tries a qs b → Tried a qs b
+  tried [] a b h = subst (Tried a []) (sym h) (record {
     same = record { style = refl; buffer = refl; drain = refl };
     rest = a.buffer.now.items;
     moves = waits_same (contents a.drain.now) a.buffer.now.items a.buffer.now.items refl;
     whole = λ l. ([], [], refl, waits_same (contents a.drain.now) a.buffer.now.items a.buffer.now.items refl);
   })
-  tried (q ∷ qs) a b h w = ⊎_elim last (more (λ n x y. tried qs n b x y)) h
+  tried (q ∷ qs) a b h = ⊎_elim last (more (λ n x. tried qs n b x)) h
     where
       last : (qs ≡ []) × Leaves contents failed a q b → Tried a (q ∷ qs) b
       last p = record {
@@ -125,11 +121,11 @@ module _ {D A : Type 0} (contents : D → Option (List ℕ)) (failed : D → Boo
         whole = λ l. ([], q ∷ qs, refl, p.1.live l);
       }
 
-      more : ((n : LineOut D A) → Tries n qs b → AllByRecursion (CanWrite n.style) qs → Tried n qs b) → (next : LineOut D A) × Takes contents failed a q next × Tries next qs b → Tried a (q ∷ qs) b
+      more : ((n : LineOut D A) → Tries n qs b → Tried n qs b) → (next : LineOut D A) × Takes contents failed a q next × Tries next qs b → Tried a (q ∷ qs) b
       more behind p =
           let (next, t, tries) = p in
-          let r = behind next tries (subst (λ s. AllByRecursion (CanWrite s) qs) (sym t.same.style) w.1) in
-          let first = wrote a next q t w.0 in
+          let r = behind next tries in
+          let first = t.writes in
           let join = encodes-append (line a.style q) (text a.style qs) in
           record {
             same = same_out a next b t.same r.same;

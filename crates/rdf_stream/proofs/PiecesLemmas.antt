@@ -12,7 +12,7 @@ use Rattle.rdf_tokens.specs.Scans.{most_bytes}
 use Rattle.rdf_driver.specs.declared.summary.Summary.{Summary}
 use Rattle.rdf_stream.specs.declared.fault.StreamFault.{StreamFault}
 use Rattle.rdf_stream.specs.declared.fault.StreamFault.TheVariants as stream
-use Rattle.rdf_stream.specs.Devices.{HasGiven}
+use Rattle.rdf_stream.specs.Devices.{HasGiven, Reading}
 use Rattle.rdf_stream.specs.Pieces.{HaltsOn, ReadStops, ReadsAll, ReadsEnd, TakesMore}
 
 -- too many bytes are too many with more
@@ -26,13 +26,13 @@ known_more (Some b) None bytes P c h = absurd c
 known_more (Some b) (Some rest) bytes P c h = subst P (sym c) (h rest)
 
 -- What holds of the bytes that were given, and stays with more of them and with their end, holds of all bytes.
-pub all_given : (known left : Option (List ℕ)) (failed : Bool) (P : List ℕ → Bool → Type 0) → ((bytes more : List ℕ) → P bytes false → P (bytes ++ more) true) →
-    (given : HasGiven known left failed) → P given.bytes given.is_end → IfSome known (λ bytes. P bytes true)
-all_given known left failed P more given p = by given.is_end refl p
+pub all_given : (known : Option (List ℕ)) (left : Reading) (P : List ℕ → Bool → Type 0) → ((bytes more : List ℕ) → P bytes false → P (bytes ++ more) true) →
+    (given : HasGiven known left) → P given.bytes left.has_ended → IfSome known (λ bytes. P bytes true)
+all_given known left P more given p = by left.has_ended refl p
   where
-    by : (e : Bool) → given.is_end ≡ e → P given.bytes e → IfSome known (λ bytes. P bytes true)
-    by true e q = Consumes-whole known left given.bytes (λ bytes. P bytes true) given.consumed (given.ended e) q
-    by false e q = known_more known left given.bytes (λ bytes. P bytes true) given.consumed (λ rest. more given.bytes rest q)
+    by : (e : Bool) → left.has_ended ≡ e → P given.bytes e → IfSome known (λ bytes. P bytes true)
+    by true e q = Consumes-whole known left.remaining given.bytes (λ bytes. P bytes true) given.consumed (given.ended e) q
+    by false e q = known_more known left.remaining given.bytes (λ bytes. P bytes true) given.consumed (λ rest. more given.bytes rest q)
 
 -- the source gave no byte into a buffer that has room
 pub no_more : (left left' : Option (List ℕ)) (n : ℕ) (buf : List ℕ) → Consumes left left' (take n buf) × (n ≡ 0 → 0 < length buf → IsAtEnd left') → n ≡ 0 → 0 < length buf → Consumes left left' []
@@ -57,51 +57,58 @@ on_ok (Ok x) P Q f h = f x h
 on_ok (Err e) P Q f h = tt
 
 -- no byte was read
-abbrev pub none_given : (known : Option (List ℕ)) (failed : Bool) → failed ≡ false → HasGiven known known failed
-none_given known failed live = record { bytes = []; is_end = false; consumed = Consumes-nil known; ended = λ e. absurd (false≢true e); live = live }
+abbrev pub none_given : (left : Reading) → left.has_ended ≡ false → left.has_failed ≡ false → HasGiven left.remaining left
+none_given left more live = record { bytes = []; consumed = Consumes-nil left.remaining; ended = λ e. absurd (false≢true (sym more ∙ e)); live = live }
 
 -- What left the source was taken.
-pub record IsReading {R : Type 0} (taken : R → List ℕ → R → Type 0) (stays : R → R → Type 0) (known left : Option (List ℕ)) (source_failed : Bool) (first now : R) (room : ℕ) : Type 0 where
+pub record IsReading {R : Type 0} (taken : R → List ℕ → R → Type 0) (stays : R → R → Type 0) (known : Option (List ℕ)) (left : Reading) (first now : R) (room : ℕ) : Type 0 where
   pub bytes : List ℕ
-  pub consumed : Consumes known left bytes
+  pub consumed : Consumes known left.remaining bytes
   pub is_taken : taken first bytes now
   pub same : stays first now
-  pub live : source_failed ≡ false
+  pub more : left.has_ended ≡ false
+  pub live : left.has_failed ≡ false
   pub has_room : 0 < room
 
 module _ {R : Type 0} (taken : R → List ℕ → R → Type 0) (halts : StreamFault → R → List ℕ → Bool → R → Type 0) (ends : Summary → R → List ℕ → R → Type 0) (stays : R → R → Type 0)
-    (known left left' : Option (List ℕ)) (source_failed source_failed' : Bool) (first now : R) (room : ℕ) (i : IsReading taken stays known left source_failed first now room) where
+    (known : Option (List ℕ)) (left left' : Reading) (first now : R) (room : ℕ) (i : IsReading taken stays known left first now room) where
   -- the source failed
-  pub read_stops : Keeps left left' → source_failed' ≡ true → ReadStops taken halts stream.Read known left' source_failed' first now
-  read_stops k e = inl (refl, record { bytes = i.bytes; consumed = Consumes-kept known left left' i.bytes i.consumed k; failed_now = e; is_taken = i.is_taken })
+  pub read_stops : Keeps left.remaining left'.remaining → left'.has_failed ≡ true → left'.has_ended ≡ false → ReadStops taken halts stream.Read known left' first now
+  read_stops k e o = inl (refl, record { bytes = i.bytes; consumed = Consumes-kept known left.remaining left'.remaining i.bytes i.consumed k; broken = (e, o); is_taken = i.is_taken })
 
-  module _ (live : source_failed' ≡ false) (now' : R) where
-    module _ (piece : List ℕ) (c : Consumes left left' piece) where
-      all_consumed : Consumes known left' (i.bytes ++ piece)
-      all_consumed = Consumes-trans known left left' i.bytes piece i.consumed c
+  module _ (live : left'.has_failed ≡ false) (now' : R) where
+    module _ (piece : List ℕ) (c : Consumes left.remaining left'.remaining piece) (more : left'.has_ended ≡ false) where
+      all_consumed : Consumes known left'.remaining (i.bytes ++ piece)
+      all_consumed = Consumes-trans known left.remaining left'.remaining i.bytes piece i.consumed c
 
       -- a piece more
-      pub on_piece : (room' : ℕ) → 0 < room' → TakesMore taken now piece now' → stays first now' → IsReading taken stays known left' source_failed' first now' room'
-      on_piece room' some h s = record { bytes = i.bytes ++ piece; consumed = all_consumed; is_taken = h first i.bytes i.is_taken; same = s; live = live; has_room = some }
+      pub on_piece : (room' : ℕ) → 0 < room' → TakesMore taken now piece now' → stays first now' → IsReading taken stays known left' first now' room'
+      on_piece room' some h s = record { bytes = i.bytes ++ piece; consumed = all_consumed; is_taken = h first i.bytes i.is_taken; same = s; more = more; live = live; has_room = some }
 
       -- a fault in a piece
-      pub piece_stops : (told : StreamFault) → HaltsOn taken halts told now (λ bytes. bytes ++ piece) false now' → ReadStops taken halts told known left' source_failed' first now'
+      pub piece_stops : (told : StreamFault) → HaltsOn taken halts told now (λ bytes. bytes ++ piece) false now' → ReadStops taken halts told known left' first now'
       piece_stops told h =
-          inr (record { bytes = i.bytes ++ piece; is_end = false; consumed = all_consumed; ended = λ e. absurd (false≢true e); live = live }, h first i.bytes i.is_taken)
+          inr (
+            record { bytes = i.bytes ++ piece; consumed = all_consumed; ended = λ e. absurd (false≢true (sym more ∙ e)); live = live },
+            subst (λ e. halts told first (i.bytes ++ piece) e now') (sym more) (h first i.bytes i.is_taken),
+          )
 
-    module _ (c : Consumes left left' []) (ended : IsAtEnd left') where
-      whole_consumed : Consumes known left' i.bytes
-      whole_consumed = subst (Consumes known left') (append-nil i.bytes) (Consumes-trans known left left' i.bytes [] i.consumed c)
+    module _ (c : Consumes left.remaining left'.remaining []) (ended : IsAtEnd left'.remaining) (told : left'.has_ended ≡ true) where
+      whole_consumed : Consumes known left'.remaining i.bytes
+      whole_consumed = subst (Consumes known left'.remaining) (append-nil i.bytes) (Consumes-trans known left.remaining left'.remaining i.bytes [] i.consumed c)
 
       -- all was read
       pub end_read : (r : Result Summary StreamFault) → IfOk r (λ s. ReadsEnd taken ends s now now') → IfOk r (λ s. ReadsAll ends known left' s first now')
       end_read r h =
           if_ok r (λ s. ReadsEnd taken ends s now now') (λ s. ReadsAll ends known left' s first now')
-          (λ s e. record { bytes = i.bytes; consumed = whole_consumed; at_end = ended; is_end = e first i.bytes i.is_taken }) h
+          (λ s e. record { bytes = i.bytes; consumed = whole_consumed; told = told; at_end = ended; is_end = e first i.bytes i.is_taken }) h
 
       -- a fault at the end
-      pub end_stops : (r : Result Summary StreamFault) → IfErr r (λ told. HaltsOn taken halts told now (λ bytes. bytes) true now') →
-          IfErr r (λ told. ReadStops taken halts told known left' source_failed' first now')
+      pub end_stops : (r : Result Summary StreamFault) → IfErr r (λ f. HaltsOn taken halts f now (λ bytes. bytes) true now') → IfErr r (λ f. ReadStops taken halts f known left' first now')
       end_stops r h =
-          if_err r (λ told. HaltsOn taken halts told now (λ bytes. bytes) true now') (λ told. ReadStops taken halts told known left' source_failed' first now')
-          (λ told e. inr (record { bytes = i.bytes; is_end = true; consumed = whole_consumed; ended = λ e. ended; live = live }, e first i.bytes i.is_taken)) h
+          if_err r (λ f. HaltsOn taken halts f now (λ bytes. bytes) true now') (λ f. ReadStops taken halts f known left' first now')
+          (λ f e.
+          inr (
+            record { bytes = i.bytes; consumed = whole_consumed; ended = λ _. ended; live = live },
+            subst (λ b. halts f first i.bytes b now') (sym told) (e first i.bytes i.is_taken),
+          )) h

@@ -26,7 +26,7 @@ use Rattle.rdf_stream.specs.declared.fault.StreamFault.{StreamFault}
 use Rattle.rdf_stream.specs.declared.fault.StreamFault.TheVariants as stream
 use Rattle.rdf_stream.specs.declared.line_out.LineOut.{LineOut}
 use Rattle.rdf_stream.specs.declared.shows.Showing.{Showing}
-use Rattle.rdf_stream.specs.Devices.{AppendsFront, HasGiven}
+use Rattle.rdf_stream.specs.Devices.{AppendsFront, HasGiven, Reading as Reader}
 use Rattle.rdf_stream.specs.Faults.{IsOfDocument, IsRefusal, fault_by}
 use Rattle.rdf_stream.specs.LineOut.{Moves, SameOut, Writes}
 use Rattle.rdf_stream.specs.Converting.{Tells, TellsFault, TellsWrite}
@@ -508,13 +508,13 @@ halts_of_document stream.Write job bytes e old new failed h = tt
 halts_of_document stream.Memory job bytes e old new failed h = tt
 
 -- why the bytes that were given are not read on is why the tokens are not all shown
-halts_stops : (told : StreamFault) (job : JobRead) (known left old new : Option (List ℕ)) (read_failed write_failed : Bool) (given : HasGiven known left read_failed) →
-    HaltsFor told job given.bytes given.is_end old new write_failed → ShowStops told job known left read_failed old new write_failed
-halts_stops (stream.Refused f) job known left old new read_failed write_failed given h =
-    all_given known left read_failed (λ bytes e. ShowRefuses f.reason job bytes e (place_of f) old new) (λ bytes more x. stops_more job bytes more true old new f.reason (place_of f) x) given h
-halts_stops stream.Read job known left old new read_failed write_failed given h = absurd h
-halts_stops stream.Write job known left old new read_failed write_failed given h = (h.0, given, h.1)
-halts_stops stream.Memory job known left old new read_failed write_failed given h = (h.0, given, h.1)
+halts_stops : (told : StreamFault) (job : JobRead) (known : Option (List ℕ)) (left : Reader) (old new : Option (List ℕ)) (write_failed : Bool) (given : HasGiven known left) →
+    HaltsFor told job given.bytes left.has_ended old new write_failed → ShowStops told job known left old new write_failed
+halts_stops (stream.Refused f) job known left old new write_failed given h =
+    (all_given known left (λ bytes e. ShowRefuses f.reason job bytes e (place_of f) old new) (λ bytes more x. stops_more job bytes more true old new f.reason (place_of f) x) given h, given, h)
+halts_stops stream.Read job known left old new write_failed given h = absurd h
+halts_stops stream.Write job known left old new write_failed given h = (h.0, given, h.1)
+halts_stops stream.Memory job known left old new write_failed given h = (h.0, given, h.1)
 
 module _ {D : Type 0} (A : Type 0) (contents : D → Option (List ℕ)) (failed flushed : D → Bool) where
   -- what is shown, and its lines
@@ -540,7 +540,7 @@ module _ {D : Type 0} (A : Type 0) (contents : D → Option (List ℕ)) (failed 
         (ap (λ (s : Summary). s.bytes) b.none_shown);
   }
 
-  module _ (job : JobRead) (first now : R) (b : Begins failed job first.0.scanner first.0.so_far first.1) (known left : Option (List ℕ)) where
+  module _ (job : JobRead) (first now : R) (b : Begins failed job first.0.scanner first.0.so_far first.1) (known : Option (List ℕ)) (left : Reader) where
     abbrev old : Option (List ℕ)
     old = contents first.1.drain.now
 
@@ -548,13 +548,13 @@ module _ {D : Type 0} (A : Type 0) (contents : D → Option (List ℕ)) (failed 
     new = contents now.1.drain.now
 
     pub run_shown : (s : Summary) → ReadsAll Ended known left s first now → IfSome known (λ bytes. Shows job bytes old new s)
-    run_shown s h = Consumes-whole known left h.bytes (λ bytes. Shows job bytes old new s) h.consumed h.at_end (h.is_end.shows job b).1
+    run_shown s h = Consumes-whole known left.remaining h.bytes (λ bytes. Shows job bytes old new s) h.consumed h.at_end (h.is_end.shows job b).1
 
     -- the source failed
-    broke : (source_failed : Bool) → SourceFails Taken known left source_failed first now → ShowStops stream.Read job known left source_failed old new (failed now.1.drain.now)
-    broke source_failed h =
+    broke : SourceFails Taken known left first now → ShowStops stream.Read job known left old new (failed now.1.drain.now)
+    broke h =
         let o = h.is_taken.shown job b in (
-          h.failed_now,
+          h.broken,
           record {
             bytes = h.bytes;
             consumed = h.consumed;
@@ -563,16 +563,16 @@ module _ {D : Type 0} (A : Type 0) (contents : D → Option (List ℕ)) (failed 
           },
         )
 
-    pub run_stopped : (told : StreamFault) (source_failed : Bool) → ReadStops Taken Halted told known left source_failed first now →
-        ShowStops told job known left source_failed old new (failed now.1.drain.now)
-    run_stopped told source_failed h =
-        ⊎_elim (λ p. subst (λ t. ShowStops t job known left source_failed old new (failed now.1.drain.now)) (sym p.0) (broke source_failed p.1))
-        (λ p. halts_stops told job known left old new source_failed (failed now.1.drain.now) p.0 (p.1.halts job b).halts) h
+    pub run_stopped : (told : StreamFault) → ReadStops Taken Halted told known left first now →
+        ShowStops told job known left old new (failed now.1.drain.now)
+    run_stopped told h =
+        ⊎_elim (λ p. subst (λ t. ShowStops t job known left old new (failed now.1.drain.now)) (sym p.0) (broke p.1))
+        (λ p. halts_stops told job known left old new (failed now.1.drain.now) p.0 (p.1.halts job b).halts) h
 
-    pub run_refused : (told : StreamFault) (source_failed : Bool) → ReadStops Taken Halted told known left source_failed first now → IsRefusal told
-    run_refused told source_failed h =
+    pub run_refused : (told : StreamFault) → ReadStops Taken Halted told known left first now → IsRefusal told
+    run_refused told h =
         ⊎_elim (λ p. subst IsRefusal (sym p.0) tt)
-        (λ p. halts_of_document told job p.0.bytes p.0.is_end old new (failed now.1.drain.now) (p.1.halts job b).halts) h
+        (λ p. halts_of_document told job p.0.bytes left.has_ended old new (failed now.1.drain.now) (p.1.halts job b).halts) h
 
 -- ---- parts that follow each other
 

@@ -13,7 +13,7 @@ use Rattle.rdf_driver.specs.Words.{Lawful, Words, in_words}
 use Rattle.rdf_stream.specs.declared.fault.StreamFault.{StreamFault}
 use Rattle.rdf_stream.specs.declared.fault.StreamFault.TheVariants.{Refused, Read, Write, Memory}
 use Rattle.rdf_stream.specs.Converts.{Counts}
-use Rattle.rdf_stream.specs.Devices.{HasGiven}
+use Rattle.rdf_stream.specs.Devices.{HasBroken, HasGiven, Reading}
 
 -- The bytes are a document within the limits, and the summary counts what is in it.
 pub record IsAccepted (language : Language) (bytes : List ℕ) (s : Summary) : Type 0 where
@@ -27,13 +27,14 @@ abbrev pub IsRefusedFor : Reason → Language → List ℕ → Bool → Place �
 IsRefusedFor DocumentTooLong language bytes is_end at = IsTooLong bytes at
 IsRefusedFor reason language bytes is_end at = IsRefused language bytes is_end reason at
 
--- Why a document was not read to its end. On a failed read, the bytes so far decide no refusal.
-abbrev pub CheckStops : StreamFault → Language → Option (List ℕ) → Option (List ℕ) → Bool → Type 0
-CheckStops (Refused f) language known left read_failed = IfSome known (λ bytes. IsRefusedFor f.reason language bytes true (place_of f))
-CheckStops Read language known left read_failed =
-    (read_failed ≡ true) × (bytes : List ℕ) × Consumes known left bytes × GoesOn language bytes
-CheckStops Write language known left read_failed = ⊥
-CheckStops Memory language known left read_failed = HasGiven known left read_failed
+-- Why a document was not read to its end. What is refused is refused by what the source gave, and on a failed read that decides no refusal.
+abbrev pub CheckStops : StreamFault → Language → Option (List ℕ) → Reading → Type 0
+CheckStops (Refused f) language known left =
+    IfSome known (λ bytes. IsRefusedFor f.reason language bytes true (place_of f))
+    × (given : HasGiven known left) × IsRefusedFor f.reason language given.bytes left.has_ended (place_of f)
+CheckStops Read language known left = HasBroken left × (bytes : List ℕ) × Consumes known left.remaining bytes × GoesOn language bytes
+CheckStops Write language known left = ⊥
+CheckStops Memory language known left = HasGiven known left
 
 -- ---- within a run
 

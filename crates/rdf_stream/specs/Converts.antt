@@ -13,7 +13,7 @@ use Rattle.rdf_lines.specs.Laws.{ReadsBack}
 use Rattle.rdf_lines.specs.Writing.{text}
 use Rattle.rdf_stream.specs.declared.fault.StreamFault.{StreamFault}
 use Rattle.rdf_stream.specs.declared.fault.StreamFault.TheVariants.{Refused, Read, Write, Memory}
-use Rattle.rdf_stream.specs.Devices.{AppendsFront, HasGiven}
+use Rattle.rdf_stream.specs.Devices.{AppendsFront, HasBroken, HasGiven, Reading}
 use Rattle.rdf_stream.specs.Languages.{Conversion}
 
 -- the bytes of the quads' lines
@@ -70,11 +70,13 @@ pub record BreaksOff (job : Conversion) (known left old new : Option (List ℕ))
   pub goes_on : GoesOn job.language bytes
   pub writes : WritesDue job (reading_of job.language bytes false).tokens old new
 
--- Why a conversion stopped, and what it had written: whole lines, but where the drain failed a beginning of them.
-abbrev pub StopsFor : StreamFault → Conversion → Option (List ℕ) → Option (List ℕ) → Bool → Option (List ℕ) → Option (List ℕ) → Bool → Type 0
-StopsFor (Refused f) job known left read_failed old new write_failed = IfSome known (λ bytes. RefusesDocument f.reason job bytes true (place_of f) old new)
-StopsFor Read job known left read_failed old new write_failed = (read_failed ≡ true) × BreaksOff job known left old new
-StopsFor Write job known left read_failed old new write_failed =
-    (write_failed ≡ true) × (given : HasGiven known left read_failed) × WritesFront job (reading_of job.language given.bytes given.is_end).tokens old new
-StopsFor Memory job known left read_failed old new write_failed =
-    (write_failed ≡ false) × (given : HasGiven known left read_failed) × WritesSome job (reading_of job.language given.bytes given.is_end).tokens old new
+-- Why a conversion stopped, by what the source gave, and what it had written: whole lines, but where the drain failed a beginning of them.
+abbrev pub StopsFor : StreamFault → Conversion → Option (List ℕ) → Reading → Option (List ℕ) → Option (List ℕ) → Bool → Type 0
+StopsFor (Refused f) job known left old new write_failed =
+    IfSome known (λ bytes. RefusesDocument f.reason job bytes true (place_of f) old new)
+    × (given : HasGiven known left) × RefusesDocument f.reason job given.bytes left.has_ended (place_of f) old new
+StopsFor Read job known left old new write_failed = HasBroken left × BreaksOff job known left.remaining old new
+StopsFor Write job known left old new write_failed =
+    (write_failed ≡ true) × (given : HasGiven known left) × WritesFront job (reading_of job.language given.bytes left.has_ended).tokens old new
+StopsFor Memory job known left old new write_failed =
+    (write_failed ≡ false) × (given : HasGiven known left) × WritesSome job (reading_of job.language given.bytes left.has_ended).tokens old new

@@ -1,7 +1,7 @@
 -- What a run is asked for.
 use Rattle.std.specs.Prelude.{ℕ, List, Option, None}
 use Rattle.rdf_iri.specs.Limits.{Sizes, default_sizes}
-use Rattle.rdf_stream.specs.declared.fault.Form.{Form}
+use Rattle.rdf_stream.specs.declared.form.Form.{Form}
 
 -- the document's format, its base or none, and the limits
 pub record JobRead : Type 0 where

@@ -1,11 +1,11 @@
 -- A format's kind says what it is to a run.
 use Rattle.std.specs.Prelude.{◌≡◌}
-use Rattle.rdf_stream.specs.declared.fault.Form.{Form}
-use Rattle.rdf_stream.specs.declared.fault.Kind.{Kind}
-use Rattle.rdf_stream.specs.declared.fault.Kind.TheVariants.{Line, Tree}
+use Rattle.rdf_stream.specs.declared.form.Form.{Form}
+use Rattle.rdf_stream.specs.declared.form.Kind.{Kind}
+use Rattle.rdf_stream.specs.declared.form.Kind.TheVariants.{Line, Tree}
 use Rattle.rdf_lines.specs.declared.form.LineForm.TheVariants as line
 use Rattle.rdf_trig.specs.declared.form.DocForm.TheVariants as doc
-use Rattle.rdf_stream.specs.declared.fault.Form.TheVariants.{NTriples, NQuads, Turtle, TriG}
+use Rattle.rdf_stream.specs.declared.form.Form.TheVariants.{NTriples, NQuads, Turtle, TriG}
 
 abbrev pub kind_of : Form → Kind
 kind_of NTriples = Line line.NTriples

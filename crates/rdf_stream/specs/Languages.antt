@@ -7,8 +7,8 @@ use Rattle.rdf_lines.specs.declared.form.Style.TheVariants.{Kept, Tagged}
 use Rattle.rdf_lines.specs.Documents.{in_lines}
 use Rattle.rdf_trig.specs.declared.form.DocForm.{DocForm}
 use Rattle.rdf_trig.specs.Language.{Chosen, language}
-use Rattle.rdf_stream.specs.declared.fault.Kind.{Kind}
-use Rattle.rdf_stream.specs.declared.fault.Kind.TheVariants.{Line, Tree}
+use Rattle.rdf_stream.specs.declared.form.Kind.{Kind}
+use Rattle.rdf_stream.specs.declared.form.Kind.TheVariants.{Line, Tree}
 use Rattle.rdf_stream.specs.Kinds.{kind_of}
 use Rattle.rdf_stream.specs.Jobs.{JobRead}
 

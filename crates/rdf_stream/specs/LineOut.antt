@@ -1,9 +1,9 @@
 -- What a sink of lines does to the bytes of its drain and to those that wait for it.
-use Rattle.std.specs.Prelude.{◌≡◌, ◌<◌, ℕ, Bool, false, List, [], ◌++◌, ◌⊎◌, length, Option, encode_utf8_all}
+use Rattle.std.specs.Prelude.{◌≡◌, ◌<◌, ℕ, Bool, false, List, [], ◌++◌, length, Option, encode_utf8_all}
 use Rattle.std.specs.Io.KnownBytes.{Appends}
 use Rattle.rdf_terms.specs.Terms.{Quad, IsQuad}
 use Rattle.rdf_lines.specs.declared.form.Style.{Style}
-use Rattle.rdf_lines.specs.Writing.{line, CanWrite}
+use Rattle.rdf_lines.specs.Writing.{line}
 use Rattle.rdf_stream.specs.declared.line_out.LineOut.{LineOut}
 
 -- fewer bytes wait when a line has been put
@@ -30,15 +30,11 @@ Writes contents before bytes after = Moves (contents before.drain.now) (contents
 abbrev pub line_bytes : Style → Quad → List ℕ
 line_bytes style q = encode_utf8_all (line style q)
 
--- the quad's line is written behind the others, or the style can't write the quad and nothing is
-abbrev pub WritesLine : {D A : Type 0} → (D → Option (List ℕ)) → LineOut D A → Quad → LineOut D A → Type 0
-WritesLine contents before q after = Writes contents before (line_bytes before.style q) after ⊎ ((CanWrite before.style q → ⊥) × Writes contents before [] after)
-
--- what a put of a quad does; the quad's type says that it is well formed
+-- What a put of a quad does: its line is written behind the others. The quad's type says that it is well formed.
 pub record Takes {D A : Type 0} (contents : D → Option (List ℕ)) (failed : D → Bool) (before : LineOut D A) (q : Quad) (after : LineOut D A) : Type 0 where
   pub same : SameOut before after
   pub formed : ∥ IsQuad q ∥₁
-  pub writes : WritesLine contents before q after
+  pub writes : Writes contents before (line_bytes before.style q) after
   pub few : length before.buffer.now.items < most_waiting → length after.buffer.now.items < most_waiting
   pub live : failed after.drain.now ≡ false
 

@@ -4,7 +4,7 @@ use Rattle.std.specs.Io.KnownBytes.{Consumes, IsAtEnd}
 use Rattle.rdf_driver.specs.declared.summary.Summary.{Summary}
 use Rattle.rdf_stream.specs.declared.fault.StreamFault.{StreamFault}
 use Rattle.rdf_stream.specs.declared.fault.StreamFault.TheVariants.{Read}
-use Rattle.rdf_stream.specs.Devices.{HasGiven}
+use Rattle.rdf_stream.specs.Devices.{HasBroken, HasGiven, Reading}
 
 -- some bytes were taken
 abbrev pub HasBegun : {R : Type 0} → (R → List ℕ → R → Type 0) → R → Type 0
@@ -23,20 +23,21 @@ abbrev pub ReadsEnd : {R : Type 0} → (R → List ℕ → R → Type 0) → (Su
 ReadsEnd {R} taken ends summary old new = (first : R) (bytes : List ℕ) → taken first bytes old → ends summary first bytes new
 
 -- All bytes of the source were read.
-pub record ReadsAll {R : Type 0} (ends : Summary → R → List ℕ → R → Type 0) (known left : Option (List ℕ)) (summary : Summary) (first now : R) : Type 0 where
+pub record ReadsAll {R : Type 0} (ends : Summary → R → List ℕ → R → Type 0) (known : Option (List ℕ)) (left : Reading) (summary : Summary) (first now : R) : Type 0 where
   pub bytes : List ℕ
-  pub consumed : Consumes known left bytes
-  pub at_end : IsAtEnd left
+  pub consumed : Consumes known left.remaining bytes
+  pub told : left.has_ended ≡ true
+  pub at_end : IsAtEnd left.remaining
   pub is_end : ends summary first bytes now
 
 -- The source failed after these bytes, which were taken.
-pub record SourceFails {R : Type 0} (taken : R → List ℕ → R → Type 0) (known left : Option (List ℕ)) (failed : Bool) (first now : R) : Type 0 where
+pub record SourceFails {R : Type 0} (taken : R → List ℕ → R → Type 0) (known : Option (List ℕ)) (left : Reading) (first now : R) : Type 0 where
   pub bytes : List ℕ
-  pub consumed : Consumes known left bytes
-  pub failed_now : failed ≡ true
+  pub consumed : Consumes known left.remaining bytes
+  pub broken : HasBroken left
   pub is_taken : taken first bytes now
 
 -- Why a source was not read to its end: it failed, or what takes the pieces did not read on.
-abbrev pub ReadStops : {R : Type 0} → (R → List ℕ → R → Type 0) → (StreamFault → R → List ℕ → Bool → R → Type 0) → StreamFault → Option (List ℕ) → Option (List ℕ) → Bool → R → R → Type 0
-ReadStops taken halts f known left failed first now =
-    ((f ≡ Read) × SourceFails taken known left failed first now) ⊎ ((given : HasGiven known left failed) × halts f first given.bytes given.is_end now)
+abbrev pub ReadStops : {R : Type 0} → (R → List ℕ → R → Type 0) → (StreamFault → R → List ℕ → Bool → R → Type 0) → StreamFault → Option (List ℕ) → Reading → R → R → Type 0
+ReadStops taken halts f known left first now =
+    ((f ≡ Read) × SourceFails taken known left first now) ⊎ ((given : HasGiven known left) × halts f first given.bytes left.has_ended now)

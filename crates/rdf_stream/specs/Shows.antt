@@ -13,11 +13,11 @@ use Rattle.rdf_tokens.specs.Good.{tokens_of}
 use Rattle.rdf_tokens.specs.Scans.{is_end, most_bytes, place_of}
 use Rattle.rdf_driver.specs.declared.summary.Summary.{Summary}
 use Rattle.rdf_tokens.specs.Grammars.{IsTooLong}
-use Rattle.rdf_stream.specs.declared.fault.Form.{Form}
-use Rattle.rdf_stream.specs.declared.fault.Form.TheVariants.{NTriples, NQuads, Turtle, TriG}
+use Rattle.rdf_stream.specs.declared.form.Form.{Form}
+use Rattle.rdf_stream.specs.declared.form.Form.TheVariants.{NTriples, NQuads, Turtle, TriG}
 use Rattle.rdf_stream.specs.declared.fault.StreamFault.{StreamFault}
 use Rattle.rdf_stream.specs.declared.fault.StreamFault.TheVariants.{Refused, Read, Write, Memory}
-use Rattle.rdf_stream.specs.Devices.{AppendsFront, HasGiven}
+use Rattle.rdf_stream.specs.Devices.{AppendsFront, HasBroken, HasGiven, Reading as Reader}
 use Rattle.rdf_stream.specs.Jobs.{JobRead}
 
 abbrev pub dialect_of : Form → Dialect
@@ -116,11 +116,13 @@ pub record ShowsSome (reading : Reading) (old new : Option (List ℕ)) : Type 0 
 abbrev pub ShowsFront : Reading → Option (List ℕ) → Option (List ℕ) → Type 0
 ShowsFront reading old new = AppendsFront old new (token_lines reading.tokens)
 
--- Why the tokens were not all shown, and what was written: whole lines, but where the drain failed a beginning of them.
-abbrev pub ShowStops : StreamFault → JobRead → Option (List ℕ) → Option (List ℕ) → Bool → Option (List ℕ) → Option (List ℕ) → Bool → Type 0
-ShowStops (Refused f) job known left read_failed old new write_failed = IfSome known (λ bytes. ShowRefuses f.reason job bytes true (place_of f) old new)
-ShowStops Read job known left read_failed old new write_failed = (read_failed ≡ true) × ShowsSoFar job known left old new
-ShowStops Write job known left read_failed old new write_failed =
-    (write_failed ≡ true) × (given : HasGiven known left read_failed) × ShowsFront (tokens_in job given.bytes given.is_end) old new
-ShowStops Memory job known left read_failed old new write_failed =
-    (write_failed ≡ false) × (given : HasGiven known left read_failed) × ShowsSome (tokens_in job given.bytes given.is_end) old new
+-- Why the tokens were not all shown, by what the source gave, and what was written: whole lines, but where the drain failed a beginning of them.
+abbrev pub ShowStops : StreamFault → JobRead → Option (List ℕ) → Reader → Option (List ℕ) → Option (List ℕ) → Bool → Type 0
+ShowStops (Refused f) job known left old new write_failed =
+    IfSome known (λ bytes. ShowRefuses f.reason job bytes true (place_of f) old new)
+    × (given : HasGiven known left) × ShowRefuses f.reason job given.bytes left.has_ended (place_of f) old new
+ShowStops Read job known left old new write_failed = HasBroken left × ShowsSoFar job known left.remaining old new
+ShowStops Write job known left old new write_failed =
+    (write_failed ≡ true) × (given : HasGiven known left) × ShowsFront (tokens_in job given.bytes left.has_ended) old new
+ShowStops Memory job known left old new write_failed =
+    (write_failed ≡ false) × (given : HasGiven known left) × ShowsSome (tokens_in job given.bytes left.has_ended) old new

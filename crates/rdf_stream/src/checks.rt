@@ -1,13 +1,15 @@
 // Reading a document to its end.
 
-ghost use Rattle.std.specs.Prelude.{◌≡◌, false, IfOk, IfErr, IfSome};
+ghost use Rattle.std.specs.Prelude.{◌≡◌, true, false, OnOk, IfOk, IfErr, IfSome};
 ghost use Rattle.rdf_driver.specs.Words.{in_words};
 ghost use Rattle.rdf_stream.specs.Checks.{BeginsToRead, CheckEnds, CheckHalts, CheckStops, IsChecking, IsAccepted};
+ghost use Rattle.rdf_stream.specs.Devices.{reading};
 ghost use Rattle.rdf_stream.specs.Faults.{IsRefusal};
 ghost use Rattle.rdf_stream.specs.Languages.{language_of};
 
 use crate::devices::Source;
-use crate::fault::{Kind, StreamFault};
+use crate::fault::StreamFault;
+use crate::form::Kind;
 use crate::job::Job;
 use crate::pieces::{Run, piece_buffer, read_pieces};
 use rdf_driver::{Grammar, Reader, Summary};
@@ -22,9 +24,11 @@ pub fn check<A: Allocator + Copy, S: Source>(
     job: Job<A>,
     source: &mut S,
 ) -> Result<Summary, StreamFault>
+    requires more { S.has_ended source.old ≡ false }
     requires source { S.has_failed source.old ≡ false }
     ensures accepted { IfOk result (λ summary. IfSome (S.remaining source.old) (λ bytes. IsAccepted (language_of job) bytes summary)) }
-    ensures stops { IfErr result (λ fault. CheckStops fault (language_of job) (S.remaining source.old) (S.remaining source.new) (S.has_failed source.new)) }
+    ensures ended { OnOk result (S.has_ended source.new ≡ true) }
+    ensures stops { IfErr result (λ fault. CheckStops fault (language_of job) (S.remaining source.old) (reading S.remaining S.has_ended S.has_failed source.new)) }
     ensures refused { IfErr result IsRefusal }
 {
     match job.form().kind() {
@@ -39,10 +43,12 @@ fn check_with<G: Grammar + Drop, A: Allocator + Copy, S: Source>(
     source: &mut S,
 ) -> Result<Summary, StreamFault>
     requires begun { (x : G.Setting) × BeginsToRead G.words x reader }
+    requires more { S.has_ended source.old ≡ false }
     requires source { S.has_failed source.old ≡ false }
     ensures accepted { IfOk result (λ summary. (x : G.Setting) → BeginsToRead G.words x reader → IfSome (S.remaining source.old) (λ bytes. IsAccepted (in_words G.words x reader.scanner.limit) bytes summary)) }
+    ensures ended { OnOk result (S.has_ended source.new ≡ true) }
     ensures stops { IfErr result (λ told. (x : G.Setting) → BeginsToRead G.words x reader →
-        CheckStops told (in_words G.words x reader.scanner.limit) (S.remaining source.old) (S.remaining source.new) (S.has_failed source.new)) }
+        CheckStops told (in_words G.words x reader.scanner.limit) (S.remaining source.old) (reading S.remaining S.has_ended S.has_failed source.new)) }
     ensures refused { IfErr result IsRefusal }
 {
     let mut piece = piece_buffer(alloc)?;

@@ -3,12 +3,14 @@
 ghost use Rattle.std.specs.Prelude.{◌≡◌, ◌<◌, ◌++◌, true, false, length, OnOk, IfOk, IfErr, IfSome};
 ghost use Rattle.rdf_stream.specs.Converting.{Begins, IsConverting, RunEnds, RunHalts};
 ghost use Rattle.rdf_stream.specs.Converts.{Accepts, StopsFor};
+ghost use Rattle.rdf_stream.specs.Devices.{reading};
 ghost use Rattle.rdf_stream.specs.Faults.{IsRefusal};
 ghost use Rattle.rdf_stream.specs.Languages.{conversion, conversion_of};
 ghost use Rattle.rdf_stream.specs.LineOut.{SameOut};
 
 use crate::devices::{Drain, Failed, Source};
-use crate::fault::{Kind, StreamFault};
+use crate::fault::StreamFault;
+use crate::form::Kind;
 use crate::job::Job;
 use crate::line_out::{LineOut, stop};
 use crate::pieces::{Run, piece_buffer, read_pieces};
@@ -27,12 +29,14 @@ pub fn convert<A: Allocator + Copy, S: Source, D: Drain>(
     source: &mut S,
     drain: &mut D,
 ) -> Result<Summary, StreamFault>
+    requires more { S.has_ended source.old ≡ false }
     requires source { S.has_failed source.old ≡ false }
     requires drain { D.has_failed drain.old ≡ false }
     ensures accepted { IfOk result (λ summary. IfSome (S.remaining source.old) (λ bytes. Accepts (conversion_of job) bytes (D.contents drain.old) (D.contents drain.new) summary)) }
+    ensures ended { OnOk result (S.has_ended source.new ≡ true) }
     ensures flushed { OnOk result (D.is_flushed drain.new ≡ true) }
     ensures stops { IfErr result (λ fault.
-        StopsFor fault (conversion_of job) (S.remaining source.old) (S.remaining source.new) (S.has_failed source.new) (D.contents drain.old) (D.contents drain.new) (D.has_failed drain.new)) }
+        StopsFor fault (conversion_of job) (S.remaining source.old) (reading S.remaining S.has_ended S.has_failed source.new) (D.contents drain.old) (D.contents drain.new) (D.has_failed drain.new)) }
     ensures refused { IfErr result IsRefusal }
 {
     let mut piece = piece_buffer(alloc)?;
@@ -58,14 +62,16 @@ fn convert_with<G: Grammar + Drop, A: Allocator + Copy, S: Source, D: Drain>(
     lines: &mut LineOut<'_, D, A>,
 ) -> Result<Summary, StreamFault>
     requires begins { (x : G.Setting) × Begins D.has_failed G.words x reader lines.old }
+    requires more { S.has_ended source.old ≡ false }
     requires source { S.has_failed source.old ≡ false }
     requires room { 0 < length piece.old }
     ensures accepted { IfOk result (λ summary. (x : G.Setting) → Begins D.has_failed G.words x reader lines.old → IfSome (S.remaining source.old) (λ bytes.
         Accepts (conversion G.words x reader.scanner.limit lines.old.style) bytes (D.contents lines.old.drain.now) (D.contents lines.new.drain.now) summary)) }
+    ensures ended { OnOk result (S.has_ended source.new ≡ true) }
     ensures flushed { OnOk result (D.is_flushed lines.new.drain.now ≡ true) }
     ensures same { SameOut lines.old lines.new }
     ensures stops { IfErr result (λ told. (x : G.Setting) → Begins D.has_failed G.words x reader lines.old →
-        StopsFor told (conversion G.words x reader.scanner.limit lines.old.style) (S.remaining source.old) (S.remaining source.new) (S.has_failed source.new)
+        StopsFor told (conversion G.words x reader.scanner.limit lines.old.style) (S.remaining source.old) (reading S.remaining S.has_ended S.has_failed source.new)
         (D.contents lines.old.drain.now) (D.contents lines.new.drain.now) (D.has_failed lines.new.drain.now)) }
     ensures refused { IfErr result IsRefusal }
 {

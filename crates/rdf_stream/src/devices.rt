@@ -2,7 +2,7 @@
 
 ghost use Rattle.std.specs.Prelude.{◌≡◌, ℕ, ◌<◌, ◌≤◌, List, length, true, false, is_err, is_ok, Option, Bool, IfOk};
 ghost use Rattle.std.specs.Io.KnownBytes.{Keeps, ReadConsumes, WriteAppends};
-ghost use Rattle.rdf_stream.specs.Devices.{Reading, Written};
+ghost use Rattle.rdf_stream.specs.Devices.{Reading, TellsEnd, Written};
 
 use std::io::{Read, Write};
 use std::marker::Model;
@@ -15,17 +15,25 @@ pub struct Failed;
 pub trait Source {
     /// The bytes that are left, where they are known.
     ghost remaining: { Self → Option (List ℕ) };
+    /// Whether a call has told the end.
+    ghost has_ended: { Self → Bool };
     /// Whether a call has failed.
     ghost has_failed: { Self → Bool };
 
     /// Fills a front of the buffer, and answers its length in bytes. A 0 into a buffer that is not empty is
-    /// the end. After a failure it is not called again.
+    /// the end. After the end or a failure it is not called again.
     fn fill(&mut self, buf: &mut [u8]) -> Result<usize, Failed>
+        requires more { has_ended self.old ≡ false }
         requires live { has_failed self.old ≡ false }
         ensures bound { IfOk result (λ n. n ≤ length buf.new) }
         ensures len { length buf.new ≡ length buf.old }
         ensures bytes { ReadConsumes (remaining self.old) (remaining self.new) result buf.new }
+        ensures ended { TellsEnd result buf.new (has_ended self.new) }
         ensures failed { has_failed self.new ≡ is_err result };
+
+    /// Whether a call has told the end.
+    fn ended(&self) -> bool
+        ensures { result ≡ has_ended self.now };
 
     /// Whether a call has failed.
     fn failed(&self) -> bool
@@ -67,22 +75,24 @@ pub trait Drain {
 #[derive(Drop)]
 pub struct In<R: Read> {
     reader: R,
+    ended: bool,
     failed: bool,
 }
 
 impl<R: Read> Model for In<R> {
     ghost Value = { Reading };
 
-    ghost view = { λ s. record { remaining = R.remaining s.reader; has_failed = s.failed } };
+    ghost view = { λ s. record { remaining = R.remaining s.reader; has_ended = s.ended; has_failed = s.failed } };
 }
 
 impl<R: Read> In<R> {
     /// A source that reads on from where the reader stands.
     pub fn new(reader: R) -> In<R>
-        ensures { result ≡ record { remaining = R.remaining reader; has_failed = false } }
+        ensures { result ≡ record { remaining = R.remaining reader; has_ended = false; has_failed = false } }
     {
         In {
             reader,
+            ended: false,
             failed: false,
         }
     }
@@ -91,16 +101,26 @@ impl<R: Read> In<R> {
 impl<R: Read> Source for In<R> {
     ghost remaining = { λ s. s.remaining };
 
+    ghost has_ended = { λ s. s.has_ended };
+
     ghost has_failed = { λ s. s.has_failed };
 
     fn fill(&mut self, buf: &mut [u8]) -> Result<usize, Failed> {
         match self.reader.read(buf) {
+            Ok(count) if count == 0 && !buf.is_empty() => {
+                self.ended = true;
+                Ok(count)
+            }
             Ok(count) => Ok(count),
             Err(_) => {
                 self.failed = true;
                 Err(Failed)
             }
         }
+    }
+
+    fn ended(&self) -> bool {
+        self.ended
     }
 
     fn failed(&self) -> bool {

@@ -6,7 +6,7 @@ ghost use Rattle.rdf_iri.specs.Texts.{byte_len};
 ghost use Rattle.rdf_stream.specs.Jobs.{JobRead};
 ghost use Rattle.rdf_stream.specs.Languages.{tree_job};
 
-use crate::fault::Form;
+use crate::form::Form;
 use rdf_iri::Limits;
 use rdf_terms::Iri;
 use rdf_trig::{DocForm, Options};

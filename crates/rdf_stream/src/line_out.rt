@@ -22,8 +22,8 @@ use std::alloc::{Allocator, Global};
 /// The number of bytes that wait for the drain at most, once a line has been put.
 const WAITING_LEN: usize = 65536;
 
-/// The lines of the quads that were put: the drain has their front, and the buffer what waits for it. A quad that the
-/// style can't write has no line.
+/// The lines of the quads that were put: the drain has their front, and the buffer what waits for it. A put of a quad
+/// that the style can't write is refused, as one for which there is no memory.
 #[derive(Drop)]
 pub(crate) struct LineOut<'a, D: Drain, A: Allocator = Global> {
     style: Style,
@@ -111,7 +111,8 @@ impl<'a, D: Drain, A: Allocator + Copy> QuadSink for LineOut<'a, D, A> {
         see_quad(quad);
         match write_line(quad, self.style, self.buffer) {
             Ok(()) => {}
-            Err(LabelFault::NotLabelled) => return Ok(()),
+            // No reader gives a quad that its style can't write. If one did, it would end the run.
+            Err(LabelFault::NotLabelled) => return Err(PutFault::Memory),
             Err(LabelFault::Memory) => return Err(PutFault::Memory),
         }
         if self.buffer.len() < WAITING_LEN {

@@ -4,6 +4,7 @@ ghost use Rattle.std.specs.Prelude.{◌≡◌, ◌+◌, ◌<◌, ◌≤◌, ◌+
 ghost use Rattle.rdf_tokens.specs.Scans.{most_bytes};
 ghost use Rattle.rdf_driver.specs.declared.summary.Summary.{Summary};
 ghost use Rattle.rdf_stream.specs.declared.fault.StreamFault.{StreamFault};
+ghost use Rattle.rdf_stream.specs.Devices.{reading};
 ghost use Rattle.rdf_stream.specs.Pieces.{HaltsOn, HasBegun, ReadsAll, ReadStops, ReadsEnd, TakesMore};
 
 use crate::devices::{Failed, Source};
@@ -51,14 +52,15 @@ pub(crate) fn read_pieces<S: Source, L, R: Run<L>>(
     run: &mut R,
     out: &mut L,
 ) -> Result<Summary, StreamFault>
+    requires more { S.has_ended source.old ≡ false }
     requires source { S.has_failed source.old ≡ false }
     requires room { 0 < length piece.old }
     requires begun { R.taken (run.old, out.old) [] (run.old, out.old) }
     requires stays { R.stays (run.old, out.old) (run.old, out.old) }
     ensures stays { R.stays (run.old, out.old) (run.new, out.new) }
-    ensures read { IfOk result (λ summary. ReadsAll R.ends (S.remaining source.old) (S.remaining source.new) summary (run.old, out.old) (run.new, out.new)) }
+    ensures read { IfOk result (λ summary. ReadsAll R.ends (S.remaining source.old) (reading S.remaining S.has_ended S.has_failed source.new) summary (run.old, out.old) (run.new, out.new)) }
     ensures stops { IfErr result (λ f.
-        ReadStops R.taken R.halts f (S.remaining source.old) (S.remaining source.new) (S.has_failed source.new) (run.old, out.old) (run.new, out.new)) }
+        ReadStops R.taken R.halts f (S.remaining source.old) (reading S.remaining S.has_ended S.has_failed source.new) (run.old, out.old) (run.new, out.new)) }
 {
     loop {
         let count = match source.fill(piece) {

@@ -2,13 +2,15 @@
 
 ghost use Rattle.std.specs.Prelude.{◌≡◌, ◌<◌, ◌≤◌, ◌++◌, [], true, false, not, length, take, drop, OnOk, IfOk, IfErr, IfSome};
 ghost use Rattle.rdf_tokens.specs.Scans.{is_end, left, token_of};
+ghost use Rattle.rdf_stream.specs.Devices.{reading};
 ghost use Rattle.rdf_stream.specs.Faults.{IsRefusal};
 ghost use Rattle.rdf_stream.specs.LineOut.{SameOut, Writes};
 ghost use Rattle.rdf_stream.specs.Shows.{ShowStops, Shows, dialect_of, shown};
 ghost use Rattle.rdf_stream.specs.ShowParts.{Ends, HaltsBehind, HaltsHere, IsShowing, IsShowingAll, IsShowingRun, PutHalts, ShowEnds, ShowHalts, ShowsMore, ShowsOne, ShowsRest};
 
 use crate::devices::{Drain, Failed, Source};
-use crate::fault::{Form, StreamFault};
+use crate::fault::StreamFault;
+use crate::form::Form;
 use crate::job::Job;
 use crate::line_out::{LineOut, stop};
 use crate::pieces::{Run, piece_buffer, read_pieces};
@@ -28,12 +30,14 @@ pub fn show<A: Allocator + Copy, S: Source, D: Drain>(
     source: &mut S,
     drain: &mut D,
 ) -> Result<Summary, StreamFault>
+    requires more { S.has_ended source.old ≡ false }
     requires source { S.has_failed source.old ≡ false }
     requires drain { D.has_failed drain.old ≡ false }
     ensures accepted { IfOk result (λ summary. IfSome (S.remaining source.old) (λ bytes. Shows job bytes (D.contents drain.old) (D.contents drain.new) summary)) }
+    ensures ended { OnOk result (S.has_ended source.new ≡ true) }
     ensures flushed { OnOk result (D.is_flushed drain.new ≡ true) }
     ensures stops { IfErr result (λ fault.
-        ShowStops fault job (S.remaining source.old) (S.remaining source.new) (S.has_failed source.new) (D.contents drain.old) (D.contents drain.new) (D.has_failed drain.new)) }
+        ShowStops fault job (S.remaining source.old) (reading S.remaining S.has_ended S.has_failed source.new) (D.contents drain.old) (D.contents drain.new) (D.has_failed drain.new)) }
     ensures refused { IfErr result IsRefusal }
 {
     let mut piece = piece_buffer(alloc)?;
@@ -49,15 +53,17 @@ fn show_document<A: Allocator + Copy, S: Source, D: Drain>(
     piece: &mut [u8],
     lines: &mut LineOut<'_, D, A>,
 ) -> Result<Summary, StreamFault>
+    requires more { S.has_ended source.old ≡ false }
     requires source { S.has_failed source.old ≡ false }
     requires room { 0 < length piece.old }
     requires none_waits { lines.old.buffer.now.items ≡ [] }
     requires live { D.has_failed lines.old.drain.now ≡ false }
     ensures accepted { IfOk result (λ summary. IfSome (S.remaining source.old) (λ bytes.
         Shows job.now bytes (D.contents lines.old.drain.now) (D.contents lines.new.drain.now) summary)) }
+    ensures ended { OnOk result (S.has_ended source.new ≡ true) }
     ensures flushed { OnOk result (D.is_flushed lines.new.drain.now ≡ true) }
     ensures same { SameOut lines.old lines.new }
-    ensures stops { IfErr result (λ fault. ShowStops fault job.now (S.remaining source.old) (S.remaining source.new) (S.has_failed source.new)
+    ensures stops { IfErr result (λ fault. ShowStops fault job.now (S.remaining source.old) (reading S.remaining S.has_ended S.has_failed source.new)
         (D.contents lines.old.drain.now) (D.contents lines.new.drain.now) (D.has_failed lines.new.drain.now)) }
     ensures refused { IfErr result IsRefusal }
 {

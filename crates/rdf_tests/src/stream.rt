@@ -21,6 +21,7 @@ use rows::{
 };
 use runs::{Asked, Base, is_converted, is_read, is_refused_at, is_shown, job};
 use std::alloc::{AllocError, Global};
+use std::process::Abort;
 use std::test::Fail;
 
 #[test]
@@ -323,6 +324,7 @@ fn run(
     source: &mut Parts<'_>,
     drain: &mut SlowDrain,
 ) -> Result<Summary, StreamFault>
+    requires more { source.old.ended ≡ false }
     requires source { source.old.failed ≡ false }
     requires drain { drain.old.failed ≡ false }
 {
@@ -434,6 +436,69 @@ fn a_source_that_fails_is_not_at_its_end(rt: HostRuntime) {
     }
 }
 
+/// Documents that only their end refuses, and where.
+const UNFINISHED: [(Form, &str, u64); 4] = [
+    (Form::NTriples, "<a:> <b:> <c:>", 14),
+    (Form::NQuads, "<a:> <b:> _:c", 13),
+    (Form::Turtle, "<a:> <b:> <c:>, ", 16),
+    (Form::TriG, "{ <a:> <b:> 1.", 14),
+];
+
+#[test]
+fn the_end_refuses_only_where_the_source_told_it(rt: HostRuntime) -> Result<(), Fail> {
+    for (form, text, offset) in UNFINISHED {
+        let calls = text.len() as u64;
+        for (calls, told) in [(calls, false), (calls + 1, true)] {
+            let mut source = failing_source(text, calls);
+            let mut drain = ample_drain(rt.alloc());
+            let converted = convert(
+                rt.alloc(),
+                job(rt.alloc(), &Asked::of(form))?,
+                &mut source,
+                &mut drain,
+            );
+            is_refused_if(&rt, told, &converted, offset);
+            assert_eq!(rt; (source.ended(), source.failed()), (told, !told));
+            let mut source = failing_source(text, calls);
+            let checked = check(rt.alloc(), job(rt.alloc(), &Asked::of(form))?, &mut source);
+            is_refused_if(&rt, told, &checked, offset);
+            assert_eq!(rt; (source.ended(), source.failed()), (told, !told));
+        }
+    }
+    Ok(())
+}
+
+/// The end was refused at the place, or the source failed.
+fn is_refused_if(rt: &impl Abort, told: bool, outcome: &Result<Summary, StreamFault>, at: u64) {
+    match outcome {
+        Err(StreamFault::Refused(fault)) => {
+            assert_eq!(rt;
+                (told, fault.reason, fault.offset),
+                (true, Reason::Unexpected, at)
+            );
+        }
+        Err(StreamFault::Read) => assert!(rt; !told, "no end at {at}"),
+        _ => assert!(rt; false, "no end at {at}"),
+    }
+}
+
+#[test]
+fn a_source_is_asked_for_no_more_than_what_is_refused(rt: HostRuntime) -> Result<(), Fail> {
+    for (form, text) in [(Form::NTriples, "<a:> ."), (Form::TriG, "<a:> ;")] {
+        let mut source = failing_source(text, text.len() as u64);
+        let mut drain = ample_drain(rt.alloc());
+        let converted = convert(
+            rt.alloc(),
+            job(rt.alloc(), &Asked::of(form))?,
+            &mut source,
+            &mut drain,
+        );
+        is_refused_if(&rt, true, &converted, 5);
+        assert!(rt; !source.ended() && !source.failed());
+    }
+    Ok(())
+}
+
 #[test]
 fn an_iri_that_is_too_long_is_refused_before_the_source_fails(rt: HostRuntime) -> Result<(), Fail> {
     let text = "<http://a/ss> <p:p> <o:o> . ";
@@ -458,6 +523,52 @@ fn an_iri_that_is_too_long_is_refused_before_the_source_fails(rt: HostRuntime) -
         )
     );
     assert!(rt; drain.bytes.is_empty());
+    Ok(())
+}
+
+/// Limits on open brackets and on an IRI, and a document of which nothing is due before the token that passes one of them.
+const PASSED: [(Form, u64, u64, &str, Reason, u64); 3] = [
+    (
+        Form::NQuads,
+        1,
+        10,
+        "<a:s> <a:p> <http://a/o> .",
+        Reason::IriTooLong,
+        12,
+    ),
+    (
+        Form::TriG,
+        1,
+        10,
+        "<a:s> <a:p> <http://a/o> .",
+        Reason::IriTooLong,
+        12,
+    ),
+    (
+        Form::TriG,
+        1,
+        10,
+        "<a:s> <a:p> ( ( 1 ) ) .",
+        Reason::TooDeep,
+        14,
+    ),
+];
+
+#[test]
+fn no_line_beyond_a_limit_is_put(rt: HostRuntime) -> Result<(), Fail> {
+    for (form, depth, iri, text, reason, offset) in PASSED {
+        let limits = Limits::new(100, depth, 10, iri).ok_or("limits")?;
+        let job = job(rt.alloc(), &Asked::within(form, limits))?;
+        let mut source = cut_at(text.as_bytes(), 0);
+        let mut drain = failing_drain(rt.alloc(), 0);
+        match convert(rt.alloc(), job, &mut source, &mut drain) {
+            Err(StreamFault::Refused(fault)) => {
+                assert_eq!(rt; (fault.reason, fault.offset), (reason, offset));
+            }
+            _ => assert!(rt; false, "{text} was not refused"),
+        }
+        assert!(rt; drain.bytes.is_empty() && !drain.failed());
+    }
     Ok(())
 }
 

@@ -11,7 +11,7 @@ use Rattle.clap.specs.declared.builder.value_parser.ValueParser.TheVariants.{Nam
 use Rattle.clap.proofs.OnLiterals.{clap_on_literals}
 use Rattle.clap.proofs.ValueTestLemmas.{accepts-Accepts}
 use Rattle.clap.proofs.WalkLemmas.{list_any-map}
-use Rattle.rdf_stream.specs.declared.fault.Form.{Form}
+use Rattle.rdf_stream.specs.declared.form.Form.{Form}
 use Rattle.rdf_tool.specs.declared.task.Action.{Action}
 use Rattle.rdf_tool.specs.declared.task.Action.TheVariants.{Check, Show, Convert}
 use Rattle.rdf_tool.specs.Words.{Entered, HasLimits, IsEntered, action_app, action_name, form_name, format_names, forms, rdfconv}

@@ -28,16 +28,16 @@ abbrev pub IsChecked : JobRead → List ℕ → Option (List ℕ) → Option (Li
 IsChecked job bytes old new = (s : Summary) × IsAccepted (language_of job) bytes s × Appends old new (accepted_text s)
 
 -- Memory was refused: while the document was read, or for the line that counts what is in it.
-abbrev pub LacksMemory : JobRead → Option (List ℕ) → Option (List ℕ) → Bool → Type 0
-LacksMemory job known left read_failed =
-    CheckStops Memory (language_of job) known left read_failed ⊎ IfSome known (λ bytes. (s : Summary) × IsAccepted (language_of job) bytes s)
+abbrev pub LacksMemory : JobRead → Option (List ℕ) → Reading → Type 0
+LacksMemory job known left =
+    CheckStops Memory (language_of job) known left ⊎ IfSome known (λ bytes. (s : Summary) × IsAccepted (language_of job) bytes s)
 
 -- Why a check stopped. The line was not written, but for a beginning where the drain failed.
-abbrev pub StopsCheck : StreamFault → JobRead → Option (List ℕ) → Option (List ℕ) → Bool → Option (List ℕ) → Option (List ℕ) → Bool → Type 0
-StopsCheck Write job known left read_failed old new write_failed =
+abbrev pub StopsCheck : StreamFault → JobRead → Option (List ℕ) → Reading → Option (List ℕ) → Option (List ℕ) → Bool → Type 0
+StopsCheck Write job known left old new write_failed =
     (write_failed ≡ true) × IfSome known (λ bytes. (s : Summary) × IsAccepted (language_of job) bytes s × AppendsFront old new (accepted_text s))
-StopsCheck Memory job known left read_failed old new write_failed = LacksMemory job known left read_failed × (new ≡ old)
-StopsCheck fault job known left read_failed old new write_failed = CheckStops fault (language_of job) known left read_failed × (new ≡ old)
+StopsCheck Memory job known left old new write_failed = LacksMemory job known left × (new ≡ old)
+StopsCheck fault job known left old new write_failed = CheckStops fault (language_of job) known left × (new ≡ old)
 
 -- what an accepted document brings
 abbrev pub Does : Action → JobRead → List ℕ → Option (List ℕ) → Option (List ℕ) → Type 0
@@ -46,10 +46,10 @@ Does Show job bytes old new = (s : Summary) × Shows job bytes old new s
 Does Convert job bytes old new = IsConverted (conversion_of job) bytes old new
 
 -- why a run stopped, and what it had written
-abbrev pub StopsAction : Action → StreamFault → JobRead → Option (List ℕ) → Option (List ℕ) → Bool → Option (List ℕ) → Option (List ℕ) → Bool → Type 0
-StopsAction Check fault job known left read_failed old new write_failed = StopsCheck fault job known left read_failed old new write_failed
-StopsAction Show fault job known left read_failed old new write_failed = ShowStops fault job known left read_failed old new write_failed
-StopsAction Convert fault job known left read_failed old new write_failed = StopsFor fault (conversion_of job) known left read_failed old new write_failed
+abbrev pub StopsAction : Action → StreamFault → JobRead → Option (List ℕ) → Reading → Option (List ℕ) → Option (List ℕ) → Bool → Type 0
+StopsAction Check fault job known left old new write_failed = StopsCheck fault job known left old new write_failed
+StopsAction Show fault job known left old new write_failed = ShowStops fault job known left old new write_failed
+StopsAction Convert fault job known left old new write_failed = StopsFor fault (conversion_of job) known left old new write_failed
 
 -- The document was accepted, and what the task asks for was written and flushed.
 abbrev pub IsDone : Task → Option (List ℕ) → Option (List ℕ) → Written → Type 0
@@ -60,7 +60,7 @@ pub record RunStops (t : Task) (status : ℕ) (known : Option (List ℕ)) (sourc
     (err_old : Option (List ℕ)) (err : Written) : Type 0 where
   pub fault : StreamFault
   pub status_is : status ≡ status_of fault
-  pub stops : StopsAction t.action fault (job_of t) known source.remaining source.has_failed out_old out.contents out.has_failed
+  pub stops : StopsAction t.action fault (job_of t) known source out_old out.contents out.has_failed
   pub told : TellsOf fault err_old err.contents err.has_failed
 
 -- A run over a source of these bytes left the source and the two outputs like this: it is done at 0, and else it stopped.

@@ -17,8 +17,8 @@ use Rattle.clap.specs.declared.error.kind.ErrorKind.{ErrorKind}
 use Rattle.clap.specs.declared.error.kind.ErrorKind.TheVariants.{OutOfMemory}
 use Rattle.rdf_terms.specs.Terms.{IsIri}
 use Rattle.rdf_iri.specs.Limits.{Sizes}
-use Rattle.rdf_stream.specs.declared.fault.Form.{Form}
-use Rattle.rdf_stream.specs.declared.fault.Form.TheVariants.{NTriples, NQuads, Turtle, TriG}
+use Rattle.rdf_stream.specs.declared.form.Form.{Form}
+use Rattle.rdf_stream.specs.declared.form.Form.TheVariants.{NTriples, NQuads, Turtle, TriG}
 use Rattle.rdf_tool.specs.declared.task.Action.{Action}
 use Rattle.rdf_tool.specs.declared.task.Action.TheVariants.{Check, Show, Convert}
 use Rattle.rdf_tool.specs.declared.task.Task.{Task}

@@ -51,6 +51,7 @@ pub trait Host: Source {
     /// Opens the file of this name, or standard input where there is none.
     fn open(&mut self, file: Option<&str>) -> Result<(), NotOpen>
         ensures opened { OnOk result (has_document self.old (option_map (λ s. s.now) file.entry) (Self.remaining self.new)) }
+        ensures more { OnOk result (Self.has_ended self.new ≡ false) }
         ensures live { OnOk result (Self.has_failed self.new ≡ false) }
         ensures shut { OnErr result ((path : Text) × (option_map (λ s. s.now) file.entry ≡ Some path) × is_shut self.old path) };
 }
@@ -81,7 +82,8 @@ impl Read for Opened {
 impl<'a> Process<'a> {
     /// The process, which reads standard input until it opens a file.
     pub fn new(rt: &'a HostRuntime) -> Process<'a>
-        ensures { result.source.has_failed ≡ false }
+        ensures more { result.source.has_ended ≡ false }
+        ensures live { result.source.has_failed ≡ false }
     {
         Process {
             rt,
@@ -93,10 +95,16 @@ impl<'a> Process<'a> {
 impl<'a> Source for Process<'a> {
     ghost remaining = { λ p. p.source.remaining };
 
+    ghost has_ended = { λ p. p.source.has_ended };
+
     ghost has_failed = { λ p. p.source.has_failed };
 
     fn fill(&mut self, buf: &mut [u8]) -> Result<usize, Failed> {
         self.source.fill(buf)
+    }
+
+    fn ended(&self) -> bool {
+        self.source.ended()
     }
 
     fn failed(&self) -> bool {

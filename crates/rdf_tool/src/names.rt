@@ -1,7 +1,7 @@
 // The words for formats and actions. A new format or action is a row here, in both directions.
 
 ghost use Rattle.std.specs.Prelude.{◌≡◌};
-ghost use Rattle.rdf_stream.specs.declared.fault.Form.{Form};
+ghost use Rattle.rdf_stream.specs.declared.form.Form.{Form};
 ghost use Rattle.rdf_tool.specs.declared.task.Action.{Action};
 ghost use Rattle.rdf_tool.specs.Words.{action_name, form_name};
 

@@ -3,7 +3,7 @@
 ghost use Rattle.std.specs.Prelude.{◌≡◌, ◌++◌, false, true, codes, decimal, IfErr, IfOk, IfSome, OnErr, OnOk, is_err};
 ghost use Rattle.std.specs.Io.KnownBytes.{Appends};
 ghost use Rattle.rdf_iri.specs.Scope.{BaseFits};
-ghost use Rattle.rdf_stream.specs.Devices.{AppendsFront};
+ghost use Rattle.rdf_stream.specs.Devices.{AppendsFront, reading};
 ghost use Rattle.rdf_stream.specs.Messages.{report_text};
 ghost use Rattle.rdf_stream.specs.declared.fault.StreamFault.{StreamFault};
 ghost use Rattle.rdf_tool.specs.Runs.{Does, IsChecked, RunEnds, StopsAction, StopsCheck, accepted_text};
@@ -26,11 +26,12 @@ pub fn run<S: Source, O: Drain, E: Drain>(
     err: &mut E,
 ) -> u8
     requires base { BaseFits task.base task.limits }
+    requires more { S.has_ended source.old ≡ false }
     requires source { S.has_failed source.old ≡ false }
     requires out { O.has_failed out.old ≡ false }
     requires err { E.has_failed err.old ≡ false }
     ensures { RunEnds task result (S.remaining source.old)
-        (record { remaining = S.remaining source.new; has_failed = S.has_failed source.new })
+        (reading S.remaining S.has_ended S.has_failed source.new)
         (O.contents out.old) (record { contents = O.contents out.new; has_failed = O.has_failed out.new; is_flushed = O.is_flushed out.new })
         (E.contents err.old) (record { contents = E.contents err.new; has_failed = E.has_failed err.new; is_flushed = E.is_flushed err.new }) }
 {
@@ -62,12 +63,13 @@ fn act<S: Source, O: Drain>(
     source: &mut S,
     out: &mut O,
 ) -> Result<(), StreamFault>
+    requires more { S.has_ended source.old ≡ false }
     requires source { S.has_failed source.old ≡ false }
     requires out { O.has_failed out.old ≡ false }
     ensures accepted { OnOk result (IfSome (S.remaining source.old) (λ bytes. Does action job bytes (O.contents out.old) (O.contents out.new))) }
     ensures flushed { OnOk result (O.is_flushed out.new ≡ true) }
     ensures stops { IfErr result (λ fault.
-        StopsAction action fault job (S.remaining source.old) (S.remaining source.new) (S.has_failed source.new) (O.contents out.old) (O.contents out.new) (O.has_failed out.new)) }
+        StopsAction action fault job (S.remaining source.old) (reading S.remaining S.has_ended S.has_failed source.new) (O.contents out.old) (O.contents out.new) (O.has_failed out.new)) }
 {
     match action {
         Action::Check => check_to(alloc, job, source, out),
@@ -89,12 +91,13 @@ fn check_to<S: Source, O: Drain>(
     source: &mut S,
     out: &mut O,
 ) -> Result<(), StreamFault>
+    requires more { S.has_ended source.old ≡ false }
     requires source { S.has_failed source.old ≡ false }
     requires out { O.has_failed out.old ≡ false }
     ensures accepted { OnOk result (IfSome (S.remaining source.old) (λ bytes. IsChecked job bytes (O.contents out.old) (O.contents out.new))) }
     ensures flushed { OnOk result (O.is_flushed out.new ≡ true) }
     ensures stops { IfErr result (λ fault.
-        StopsCheck fault job (S.remaining source.old) (S.remaining source.new) (S.has_failed source.new) (O.contents out.old) (O.contents out.new) (O.has_failed out.new)) }
+        StopsCheck fault job (S.remaining source.old) (reading S.remaining S.has_ended S.has_failed source.new) (O.contents out.old) (O.contents out.new) (O.has_failed out.new)) }
 {
     let summary = match check(alloc, job, source) {
         Ok(summary) => summary,

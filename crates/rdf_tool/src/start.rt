@@ -2,6 +2,7 @@
 
 ghost use Rattle.std.specs.Prelude.{◌≡◌, false, IfErr, IfOk, List, map, string_bytes};
 ghost use Rattle.rdf_iri.specs.Scope.{BaseFits};
+ghost use Rattle.rdf_stream.specs.Devices.{reading};
 ghost use Rattle.rdf_tool.specs.Programs.{IsGiven, IsNotGiven, ProgramEnds, TaskEnds};
 
 use crate::commands::{command_of, not_utf8};
@@ -21,7 +22,7 @@ pub fn start<H: Host, O: Drain, E: Drain>(
     requires out { O.has_failed out.old ≡ false }
     requires err { E.has_failed err.old ≡ false }
     ensures { ProgramEnds (H.has_words host.old) (H.has_bad_word host.old) (H.has_document host.old) (H.is_shut host.old) result
-        (record { remaining = H.remaining host.new; has_failed = H.has_failed host.new })
+        (reading H.remaining H.has_ended H.has_failed host.new)
         (O.contents out.old) (record { contents = O.contents out.new; has_failed = O.has_failed out.new; is_flushed = O.is_flushed out.new })
         (E.contents err.old) (record { contents = E.contents err.new; has_failed = E.has_failed err.new; is_flushed = E.is_flushed err.new }) }
 {
@@ -63,7 +64,7 @@ fn run_task<H: Host, O: Drain, E: Drain>(
     requires out { O.has_failed out.old ≡ false }
     requires err { E.has_failed err.old ≡ false }
     ensures { TaskEnds (H.has_document host.old) (H.is_shut host.old) task result
-        (record { remaining = H.remaining host.new; has_failed = H.has_failed host.new })
+        (reading H.remaining H.has_ended H.has_failed host.new)
         (O.contents out.old) (record { contents = O.contents out.new; has_failed = O.has_failed out.new; is_flushed = O.is_flushed out.new })
         (E.contents err.old) (record { contents = E.contents err.new; has_failed = E.has_failed err.new; is_flushed = E.is_flushed err.new }) }
 {

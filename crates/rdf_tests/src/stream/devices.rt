@@ -12,11 +12,14 @@ pub(crate) struct Parts<'a> {
     part: usize,
     others: usize,
     calls: u64,
+    ended: bool,
     failed: bool,
 }
 
 impl<'a> Source for Parts<'a> {
     ghost remaining = { λ s. Some s.bytes.now };
+
+    ghost has_ended = { λ s. s.ended };
 
     ghost has_failed = { λ s. s.failed };
 
@@ -31,7 +34,14 @@ impl<'a> Source for Parts<'a> {
         buf[..count].copy_from_slice(front);
         self.bytes = rest;
         self.part = self.others;
+        if count == 0 && !buf.is_empty() {
+            self.ended = true;
+        }
         Ok(count)
+    }
+
+    fn ended(&self) -> bool {
+        self.ended
     }
 
     fn failed(&self) -> bool {
@@ -84,26 +94,30 @@ impl Drain for SlowDrain {
 
 /// All of the bytes, cut behind the first of them; at 0 each byte comes alone.
 pub(crate) fn cut_at(bytes: &[u8], cut: usize) -> Parts<'_>
-    ensures { result.failed ≡ false }
+    ensures more { result.ended ≡ false }
+    ensures live { result.failed ≡ false }
 {
     Parts {
         bytes,
         part: cut,
         others: if cut == 0 { 1 } else { usize::MAX },
         calls: u64::MAX,
+        ended: false,
         failed: false,
     }
 }
 
 /// A byte a call, and a failure behind these calls.
 pub(crate) fn failing_source(text: &str, calls: u64) -> Parts<'_>
-    ensures { result.failed ≡ false }
+    ensures more { result.ended ≡ false }
+    ensures live { result.failed ≡ false }
 {
     Parts {
         bytes: text.as_bytes(),
         part: 1,
         others: 1,
         calls,
+        ended: false,
         failed: false,
     }
 }
@@ -143,13 +157,15 @@ pub(crate) fn failing_drain(alloc: Global, calls: u64) -> SlowDrain
 
 /// Gives all that it is asked for, and fails behind these calls.
 pub(crate) fn wide_source(bytes: &[u8], calls: u64) -> Parts<'_>
-    ensures { result.failed ≡ false }
+    ensures more { result.ended ≡ false }
+    ensures live { result.failed ≡ false }
 {
     Parts {
         bytes,
         part: usize::MAX,
         others: usize::MAX,
         calls,
+        ended: false,
         failed: false,
     }
 }

@@ -65,15 +65,15 @@ fn a_fill_is_one_read(rt: HostRuntime) -> Result<(), Fail> {
     let mut buf = [0u8; 4];
     let mut source = In::new(&mut reader);
     for expected in [b"abcd".as_slice(), b"ef".as_slice(), b"".as_slice()] {
-        if source.failed() {
-            return Err(Fail::new("the source failed"));
+        if source.ended() || source.failed() {
+            return Err(Fail::new("the source ended early"));
         }
         let Ok(count) = source.fill(&mut buf) else {
             return Err(Fail::new("the reader did not fail"));
         };
         assert_eq!(&rt; buf.get(..count), Some(expected));
     }
-    assert!(&rt; !source.failed());
+    assert!(&rt; source.ended() && !source.failed());
     drop(source);
     assert_eq!(&rt; reader.calls, 3);
     reader.broken = true;

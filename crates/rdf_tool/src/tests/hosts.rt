@@ -18,10 +18,16 @@ pub(crate) struct InMemory<'a> {
 impl<'a> Source for InMemory<'a> {
     ghost remaining = { λ h. h.source.remaining };
 
+    ghost has_ended = { λ h. h.source.has_ended };
+
     ghost has_failed = { λ h. h.source.has_failed };
 
     fn fill(&mut self, buf: &mut [u8]) -> Result<usize, Failed> {
         self.source.fill(buf)
+    }
+
+    fn ended(&self) -> bool {
+        self.source.ended()
     }
 
     fn failed(&self) -> bool {

@@ -3,6 +3,7 @@ use Rattle.rdf_lines.specs.declared.form.Style.TheVariants.{Kept, Tagged}
 use Rattle.rdf_lines.proofs.AcceptingLemmas.{lawful as lines_lawful}
 use Rattle.rdf_trig.proofs.code.LawfulGrammar.{lawful as trees_lawful}
 use Rattle.rdf_stream.specs.Checks.{CheckStops, IsAccepted}
+use Rattle.rdf_stream.specs.Devices.{reading}
 use Rattle.rdf_stream.proofs.ConvertsLemmas.{lines_job, trees_job}
 use Rattle.rdf_stream.proofs.PiecesLemmas.{if_err, if_ok}
 use Rattle.rdf_stream.proofs.checks.check.Goals as goal
@@ -11,7 +12,7 @@ pub returns-in-Line-clause-stops : goal.returns-in-Line-clause-stops
 returns-in-Line-clause-stops g c =
     if_err c.check_with.result _ _
     (λ told h.
-    lines_job (λ j. CheckStops told j.language (g.S.Source.remaining c.args.source.now) (g.S.Source.remaining c.check_with.new.source) (g.S.Source.has_failed c.check_with.new.source)) c.args.job c.in-Line.form (search rules)
+    lines_job (λ j. CheckStops told j.language (g.S.Source.remaining c.args.source.now) (reading g.S.Source.remaining g.S.Source.has_ended g.S.Source.has_failed c.check_with.new.source)) c.args.job c.in-Line.form (search rules)
     c.limits.result.iri (search rules) c.line_reader.result.scanner.limit (search rules) Kept refl (h _ (record { lawful = lines_lawful; read = c.line_reader.ensures.read })))
     c.check_with.ensures.stops
 
@@ -27,6 +28,6 @@ pub returns-in-Tree-clause-stops : goal.returns-in-Tree-clause-stops
 returns-in-Tree-clause-stops g c =
     if_err c.check_with-in-Tree.result _ _
     (λ told h.
-    trees_job (λ j. CheckStops told j.language (g.S.Source.remaining c.args.source.now) (g.S.Source.remaining c.check_with-in-Tree.new.source) (g.S.Source.has_failed c.check_with-in-Tree.new.source)) c.args.job c.in-Tree.form
+    trees_job (λ j. CheckStops told j.language (g.S.Source.remaining c.args.source.now) (reading g.S.Source.remaining g.S.Source.has_ended g.S.Source.has_failed c.check_with-in-Tree.new.source)) c.args.job c.in-Tree.form
     (search rules) c.options.result (search rules) c.tree_reader.result.scanner.limit (search rules) Tagged refl (h _ (record { lawful = trees_lawful; read = c.tree_reader.ensures.read })))
     c.check_with-in-Tree.ensures.stops

@@ -1,5 +1,6 @@
 use Rattle.std.proofs.Common.{rules, IfErr, IfOk, IfSome}
 use Rattle.rdf_stream.specs.Converts.{Accepts, StopsFor}
+use Rattle.rdf_stream.specs.Devices.{reading}
 use Rattle.rdf_stream.specs.Languages.{conversion_of}
 use Rattle.rdf_stream.proofs.ConvertsLemmas.{lines_job, none_stops, trees_job}
 use Rattle.rdf_stream.proofs.DocumentLemmas.{lines_suit, trees_suit}
@@ -7,7 +8,7 @@ use Rattle.rdf_stream.proofs.PiecesLemmas.{if_err, if_ok, told_stops}
 use Rattle.rdf_stream.proofs.conversions.convert.Goals as goal
 
 pub returns-in_err-piece-clause-stops : goal.returns-in_err-piece-clause-stops
-returns-in_err-piece-clause-stops g c = told_stops _ _ _ c.from_residual.ensures.1 (none_stops c.args.job _ _ _ _ c.requires.source c.requires.drain)
+returns-in_err-piece-clause-stops g c = told_stops _ _ _ c.from_residual.ensures.1 (none_stops c.args.job (reading g.S.Source.remaining g.S.Source.has_ended g.S.Source.has_failed c.args.source.now) _ _ c.requires.more c.requires.source c.requires.drain)
 
 pub convert_with-requires-clause-begins : goal.convert_with-requires-clause-begins
 convert_with-requires-clause-begins g c = (_, record { starts = record { suits = lines_suit _ _ c.new-lines.ensures.style; read = c.line_reader-reader.ensures.read }; none_waits = search rules; live = search rules })
@@ -24,11 +25,11 @@ returns-in-Line-clause-accepted g c =
 
 pub returns-in-Line-clause-stops : goal.returns-in-Line-clause-stops
 returns-in-Line-clause-stops g c =
-    let h : IfErr c.convert_with.result (λ told. StopsFor told (conversion_of c.args.job) (g.S.Source.remaining c.args.source.now) (g.S.Source.remaining c.convert_with.new.source) (g.S.Source.has_failed c.convert_with.new.source)
+    let h : IfErr c.convert_with.result (λ told. StopsFor told (conversion_of c.args.job) (g.S.Source.remaining c.args.source.now) (reading g.S.Source.remaining g.S.Source.has_ended g.S.Source.has_failed c.convert_with.new.source)
     (g.D.Drain.contents c.new-lines.result.drain.now) (g.D.Drain.contents c.convert_with.new.lines.drain.now) (g.D.Drain.has_failed c.convert_with.new.lines.drain.now)) =
     if_err c.convert_with.result _ _
     (λ told h.
-    lines_job (λ j. StopsFor told j (g.S.Source.remaining c.args.source.now) (g.S.Source.remaining c.convert_with.new.source) (g.S.Source.has_failed c.convert_with.new.source)
+    lines_job (λ j. StopsFor told j (g.S.Source.remaining c.args.source.now) (reading g.S.Source.remaining g.S.Source.has_ended g.S.Source.has_failed c.convert_with.new.source)
     (g.D.Drain.contents c.new-lines.result.drain.now) (g.D.Drain.contents c.convert_with.new.lines.drain.now) (g.D.Drain.has_failed c.convert_with.new.lines.drain.now)) c.args.job c.in-Line.form (search rules)
     c.limits.result.iri (search rules) c.line_reader-reader.result.scanner.limit (search rules) c.new-lines.result.style c.new-lines.ensures.style (h _ (record { starts = record { suits = lines_suit _ _ c.new-lines.ensures.style; read = c.line_reader-reader.ensures.read }; none_waits = search rules; live = search rules })))
     c.convert_with.ensures.stops in
@@ -52,11 +53,11 @@ returns-in-Tree-clause-accepted g c =
 
 pub returns-in-Tree-clause-stops : goal.returns-in-Tree-clause-stops
 returns-in-Tree-clause-stops g c =
-    let h : IfErr c.convert_with-in-Tree.result (λ told. StopsFor told (conversion_of c.args.job) (g.S.Source.remaining c.args.source.now) (g.S.Source.remaining c.convert_with-in-Tree.new.source) (g.S.Source.has_failed c.convert_with-in-Tree.new.source)
+    let h : IfErr c.convert_with-in-Tree.result (λ told. StopsFor told (conversion_of c.args.job) (g.S.Source.remaining c.args.source.now) (reading g.S.Source.remaining g.S.Source.has_ended g.S.Source.has_failed c.convert_with-in-Tree.new.source)
     (g.D.Drain.contents c.new-lines-in-Tree.result.drain.now) (g.D.Drain.contents c.convert_with-in-Tree.new.lines.drain.now) (g.D.Drain.has_failed c.convert_with-in-Tree.new.lines.drain.now)) =
     if_err c.convert_with-in-Tree.result _ _
     (λ told h.
-    trees_job (λ j. StopsFor told j (g.S.Source.remaining c.args.source.now) (g.S.Source.remaining c.convert_with-in-Tree.new.source) (g.S.Source.has_failed c.convert_with-in-Tree.new.source)
+    trees_job (λ j. StopsFor told j (g.S.Source.remaining c.args.source.now) (reading g.S.Source.remaining g.S.Source.has_ended g.S.Source.has_failed c.convert_with-in-Tree.new.source)
     (g.D.Drain.contents c.new-lines-in-Tree.result.drain.now) (g.D.Drain.contents c.convert_with-in-Tree.new.lines.drain.now) (g.D.Drain.has_failed c.convert_with-in-Tree.new.lines.drain.now)) c.args.job c.in-Tree.form (search rules)
     c.options.result (search rules) c.tree_reader-reader.result.scanner.limit (search rules) c.new-lines-in-Tree.result.style c.new-lines-in-Tree.ensures.style (h _ (record { starts = record { suits = trees_suit _ _ c.new-lines-in-Tree.ensures.style; read = c.tree_reader-reader.ensures.read }; none_waits = search rules; live = search rules })))
     c.convert_with-in-Tree.ensures.stops in

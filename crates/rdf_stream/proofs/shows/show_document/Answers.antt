@@ -1,4 +1,4 @@
-use Rattle.std.proofs.Common.{rules, refl}
+use Rattle.std.proofs.Common.{◌≡◌, true, rules, refl}
 use Rattle.rdf_stream.specs.Faults.{IsRefusal}
 use Rattle.rdf_stream.specs.ShowParts.{Begins}
 use Rattle.rdf_stream.proofs.ShowsLemmas.{run_begins, run_refused, run_shown, run_stopped}
@@ -17,6 +17,9 @@ read_pieces-requires-clause-begun g c =
       live = c.requires.live;
     })
 
+pub returns-clause-ended : goal.returns-clause-ended
+returns-clause-ended g c = on_ok c.read_pieces.result _ (g.S.Source.has_ended c.read_pieces.new.source ≡ true) (λ s a. a.told) c.read_pieces.ensures.read
+
 pub returns-clause-stops : goal.returns-clause-stops
 returns-clause-stops g c =
     if_err c.read_pieces.result _ _
@@ -29,5 +32,5 @@ returns-clause-stops g c =
       none_shown = refl;
       none_waits = c.requires.none_waits;
       live = c.requires.live;
-    }) _ _ told _ a)
+    }) _ _ told a)
     c.read_pieces.ensures.stops
