@@ -18,9 +18,9 @@ import tempfile
 
 TOP = os.path.dirname(os.path.dirname(os.path.abspath(__file__)))
 PROGRAM = os.environ.get('RDFCONV', os.path.join(TOP, 'rdfconv'))
-PAGES = ['docs/REFUSALS.md', 'docs/GUIDE.md']
+PAGES = ['README.md', 'docs/REFUSALS.md', 'docs/GUIDE.md']
 # Programs that a line may use and a machine may lack.
-OTHERS = ['parallel', 'pv', 'rapper', 'iconv', 'zstd', 'man', 'groff']
+OTHERS = ['parallel', 'pv', 'rapper', 'rdfproc', 'iconv']
 
 
 def read(path):
@@ -125,7 +125,8 @@ def run_page(counts, page):
     with tempfile.TemporaryDirectory() as folder:
         shutil.copytree(os.path.join(TOP, 'examples'), os.path.join(folder, 'examples'))
         os.makedirs(os.path.join(folder, 'bin'))
-        os.symlink(PROGRAM, os.path.join(folder, 'bin', 'rdfconv'))
+        for name in ('bin/rdfconv', 'rdfconv'):
+            os.symlink(PROGRAM, os.path.join(folder, name))
         how = dict(os.environ, PATH='%s/bin:%s' % (folder, os.environ['PATH']), SHELL='/bin/bash', LC_ALL='C.UTF-8', HOME=folder)
         for command, expected in examples(page):
             lacking = [word for word in OTHERS if re.search(r'\b%s\b' % word, command) and not shutil.which(word)]

@@ -71,7 +71,7 @@ def convert_document(program, folder, name, scratch, out):
     path, written = os.path.join(folder, name), os.path.join(out, name + '.nq')
     os.makedirs(os.path.dirname(written), exist_ok=True)
     with (gzip.open if name.endswith('.gz') else open)(path, 'rb') as document:
-        return run(program, format_of(name), iter(lambda: document.read(COPIED), b''), scratch, written)
+        return run(program, format_of(name), iter(lambda: document.read(COPIED), b''), scratch, written) + (0,)
 
 
 def documents(client, program, folder, out):
@@ -80,11 +80,11 @@ def documents(client, program, folder, out):
     tasks = [(convert_document, program, folder, name, os.path.join(parts, '%08d' % n), out) for n, name in enumerate(names)]
     results = answers(client, tasks)
     shutil.rmtree(parts, ignore_errors=True)
-    for name, (_, message, _) in zip(names, results):
+    for name, (_, message, _, _) in zip(names, results):
         if message:
             print('%s: %s' % (name, message.rstrip('\n')), file=sys.stderr)
-    report('%d documents' % len(names), sum(quads for _, _, quads in results), sum(status != 0 for status, _, _ in results))
-    return next((status for status, _, _ in results if status), 0)
+    report('%d documents' % len(names), sum(result[2] for result in results), sum(result[0] != 0 for result in results))
+    return next((result[0] for result in results if result[0]), 0)
 
 
 # A dump of a line format
@@ -163,7 +163,7 @@ def dump(client, program, path, out, size):
 # The engine
 
 def answers(client, tasks):
-    """What the tasks answer, in their order. The engine runs a task again whose worker was lost. An answer is taken as
+    """What the tasks answer, in their order: status, message, quads, and how many LF a block had. The engine runs a task again whose worker was lost. An answer is taken as
     soon as it is there, so that no worker's end loses it."""
     from distributed import as_completed
     waiting = {client.submit(*task, pure=False, retries=RETRIES): n for n, task in enumerate(tasks)}
@@ -174,7 +174,7 @@ def answers(client, tasks):
         try:
             found[n] = future.result()
         except Exception as error:  # what no retry mended is told as the task's
-            found[n] = (3, '%s: %s\n' % (type(error).__name__, error), 0, 0)[:4 if tasks[n][0] is convert_block else 3]
+            found[n] = 3, '%s: %s\n' % (type(error).__name__, error), 0, 0
         future.release()
     return found
 
@@ -194,11 +194,9 @@ def main():
     asked = parser.parse_args()
     from distributed import Client
     with Client(asked.scheduler, timeout=60) as client:
-        client.upload_file(os.path.abspath(__file__))
-        import cluster  # by its name, as the workers know it
         if asked.what == 'documents':
-            return cluster.documents(client, asked.program, asked.source, asked.out)
-        return cluster.dump(client, asked.program, asked.source, asked.out, max(1, int(asked.megabytes * 1000000)))
+            return documents(client, asked.program, asked.source, asked.out)
+        return dump(client, asked.program, asked.source, asked.out, max(1, int(asked.megabytes * 1000000)))
 
 
 if __name__ == '__main__':
