@@ -5,6 +5,7 @@ in the same run.
     bench/rdfconv.py                                            # 25 and 200 MB of every document
     bench/rdfconv.py --megabytes 1 2 --runs 1                   # a quick run
     bench/rdfconv.py nt nq ttl trig --megabytes 10 100 400      # these documents alone
+    bench/rdfconv.py --json figures.json                        # and the figures as JSON, for bench/draw.py
 
 Prints MB/s of the input (the best of the runs) and the most memory held, then by how much time and memory grow from the
 first size to the last. Ends with a failure where a status is not what it should be, where not as many quads are counted
@@ -12,6 +13,7 @@ or lines written as the document has, and where a `.` behind its end is not refu
 """
 import argparse
 import collections
+import json
 import os
 import subprocess
 import sys
@@ -105,11 +107,25 @@ def print_growth(name, first, last):
     print('| %s | %.1f | %s |' % (name, last.size / first.size, ' | '.join(cells)))
 
 
+def as_json(figures):
+    """The figures of one run over one document: bytes, and for each column seconds and kilobytes."""
+    columns = {column: {'seconds': s, 'kilobytes': kb} for column, s, kb in zip(COLUMNS, figures.seconds, figures.held)}
+    return {'bytes': figures.size, 'columns': columns}
+
+
+def write_json(path, measured):
+    """Writes the figures of each document, smallest size first."""
+    with open(path, 'w') as f:
+        json.dump({name: [as_json(figures) for figures in sizes] for name, sizes in measured.items()}, f, indent=1)
+        f.write('\n')
+
+
 def main():
     parser = argparse.ArgumentParser(description=__doc__, formatter_class=argparse.RawDescriptionHelpFormatter)
     parser.add_argument('documents', nargs='*', metavar='DOCUMENT', help=', '.join(documents.DOCUMENTS))
     parser.add_argument('--megabytes', type=int, nargs='+', metavar='N', default=[25, 200])
     parser.add_argument('--runs', type=int, metavar='N', default=3)
+    parser.add_argument('--json', metavar='FILE', help='write the figures there too')
     asked = parser.parse_args()
     unknown = set(asked.documents) - set(documents.DOCUMENTS)
     if unknown:
@@ -128,6 +144,8 @@ def main():
     print('\n| Document | Bytes | Time and memory of `convert` | of `check` |\n|---|---|---|---|')
     for name, figures in measured.items():
         print_growth(name, figures[0], figures[-1])
+    if asked.json:
+        write_json(asked.json, measured)
 
 
 if __name__ == '__main__':

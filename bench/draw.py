@@ -1,0 +1,68 @@
+#!/usr/bin/python3
+"""Draws the figures that `bench/rdfconv.py --json FIGURES` wrote, as SVG. Debian: python3-matplotlib.
+
+    bench/draw.py FIGURES FOLDER
+
+FOLDER/speed.svg: MB/s of `convert` and `check` by kind of document, at the largest size, `cat` and `wc -l` left out.
+FOLDER/growth.svg: how time and memory of `convert` grow from the first size to the last.
+"""
+import json
+import os
+import sys
+
+import matplotlib
+
+matplotlib.use('svg')
+matplotlib.rcParams['svg.hashsalt'] = 'rdfconv'  # the same figures give the same bytes
+from matplotlib import pyplot
+
+COMMANDS = ['convert', 'check']
+SHADES = ['#1f4e79', '#9dc3e6']
+
+
+def save(figure, path):
+    figure.tight_layout()
+    figure.savefig(path, metadata={'Date': None})
+    pyplot.close(figure)
+
+
+def speed(figures, path):
+    """A pair of bars for each kind of document."""
+    kinds = list(figures)[::-1]
+    figure, axes = pyplot.subplots(figsize=(8, 0.5 * len(kinds) + 1.4))
+    for n, (command, shade) in enumerate(zip(COMMANDS, SHADES)):
+        rates = [figures[kind][-1]['bytes'] / figures[kind][-1]['columns'][command]['seconds'] / 1e6 for kind in kinds]
+        places = [at + 0.2 - 0.4 * n for at in range(len(kinds))]
+        axes.bar_label(axes.barh(places, rates, 0.38, color=shade, label=command), fmt='%.0f', padding=2)
+    axes.set_yticks(range(len(kinds)), ['%s, %.0f MB' % (kind, figures[kind][-1]['bytes'] / 1e6) for kind in kinds])
+    axes.set_xlabel('MB/s of the input, best of the runs')
+    axes.margins(x=0.1)
+    axes.legend()
+    save(figure, path)
+
+
+def growth(figures, path):
+    """Time beside size, and memory beside size, a line for each kind of document."""
+    figure, (time, memory) = pyplot.subplots(1, 2, figsize=(11, 5), sharex=True)
+    for kind, sizes in figures.items():
+        bytes_read = [one['bytes'] / 1e6 for one in sizes]
+        time.plot(bytes_read, [one['columns']['convert']['seconds'] for one in sizes], marker='o', label=kind)
+        memory.plot(bytes_read, [one['columns']['convert']['kilobytes'] / 1024 for one in sizes], marker='o', label=kind)
+    for axes, label in ((time, 'seconds'), (memory, 'MiB held at most')):
+        axes.set(xscale='log', yscale='log', xlabel='MB of the document', ylabel=label + ' of convert')
+    time.legend(fontsize='small')
+    save(figure, path)
+
+
+def main():
+    if len(sys.argv) != 3:
+        sys.exit(__doc__)
+    with open(sys.argv[1]) as f:
+        figures = json.load(f)
+    os.makedirs(sys.argv[2], exist_ok=True)
+    speed(figures, os.path.join(sys.argv[2], 'speed.svg'))
+    growth(figures, os.path.join(sys.argv[2], 'growth.svg'))
+
+
+if __name__ == '__main__':
+    main()

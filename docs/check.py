@@ -1,0 +1,157 @@
+#!/usr/bin/env python3
+"""Holds the pages to the program.
+
+    docs/check.py             the numbers and words of help, manual and README, and each line of the pages as it stands
+    docs/check.py REFUSALS    the lines of this page alone
+
+The options' ranges and defaults, the formats and the reasons are read from the sources and compared with what help (where
+the program is built), docs/rdfconv.1, README.md and docs/REFUSALS.md say. Each indented line of a page that begins with `$` is
+run in a scratch folder with a copy of examples/, and what comes is compared with the lines below it; lines whose programs are
+not installed are counted. Ends in one line of counts, with status 1 where something differs.
+"""
+import os
+import re
+import shutil
+import subprocess
+import sys
+import tempfile
+
+TOP = os.path.dirname(os.path.dirname(os.path.abspath(__file__)))
+PROGRAM = os.environ.get('RDFCONV', os.path.join(TOP, 'rdfconv'))
+PAGES = ['README.md', 'docs/REFUSALS.md', 'docs/GUIDE.md']
+# Programs that a line may use and a machine may lack.
+OTHERS = ['parallel', 'pv', 'rapper', 'rdfproc', 'iconv']
+
+
+def read(path):
+    with open(os.path.join(TOP, path), encoding='utf-8') as page:
+        return page.read()
+
+
+class Counts:
+    def __init__(self):
+        self.facts = self.lines = self.skipped = self.differ = 0
+
+    def expect(self, what, holds):
+        self.facts += 1
+        if not holds:
+            self.differ += 1
+            print('differs: ' + what)
+
+
+# Numbers and words
+
+def limits():
+    """Name, least, most and default of each option that has a number, as the code hands them to clap."""
+    found = re.findall(r'limit_option\(\s*alloc,\s*"(\w+)",\s*(\d+),\s*(\d+),\s*"(\d+)"', read('crates/rdf_tool/src/options.rt'))
+    return [(name, int(least), int(most), int(default)) for name, least, most, default in found]
+
+
+def reasons():
+    """The reasons of a refusal, as messages name them; want of memory and a failed sink are told in other ways."""
+    found = re.findall(r'Reason::(\w+) => "([^"]*)"', read('crates/rdf_stream/src/messages.rt'))
+    return [text for name, text in found if name not in ('Memory', 'Ended', 'Sink')]
+
+
+def formats():
+    return re.search(r'FORMATS: [^=]*= \[(.*)\]', read('crates/rdf_tool/src/names.rt'))[1].replace('"', '').split(', ')
+
+
+def plain(manual):
+    """The words of the manual, without its requests and fonts."""
+    text = re.sub(r'\\f.|\\&', '', manual).replace('\\-', '-').replace('\\(aq', "'").replace('\\ ', ' ')
+    return re.sub(r'\s+', ' ', re.sub(r'^\.\w+ ?|^\.\\".*$', '', text, flags=re.M).replace('"', ''))
+
+
+def compare(counts):
+    manual, readme, refusals = plain(read('docs/rdfconv.1')), read('README.md'), read('docs/REFUSALS.md')
+    source = read('crates/rdf_tool/src/options.rt')
+    counts.expect('four options with a number in crates/rdf_tool/src/options.rt', len(limits()) == 4)
+    for name, least, most, default in limits():
+        said = '%d to %d' % (least, most)
+        row = re.search(r'--%s N +.*' % name, source)[0]
+        counts.expect('help of --%s' % name, row.endswith('%s [default: %d]' % (said, default)))
+        counts.expect('help of --%s of a command' % name, source.count(', ' + said) >= 2)
+        counts.expect('manual of --%s' % name, re.search(r'--%s N [^[]*%s; default %d\b' % (name, said, default), manual))
+        counts.expect('README of --%s' % name, not re.search(r'`--%s`[^.|]*default (?!%d)\d' % (name, default), readme))
+    for name in formats():
+        counts.expect('manual of the format %s' % name, re.search(r'\b%s\b' % name, manual))
+    counts.expect('default format', 'default_value("trig")' in source and 'default trig' in manual)
+    counts.expect('twelve reasons in crates/rdf_stream/src/messages.rt', len(reasons()) == 12)
+    for reason in reasons():
+        counts.expect('README has the reason ' + reason, '`%s`' % reason in readme)
+        counts.expect('manual has the reason ' + reason, reason in manual)
+        counts.expect('docs/REFUSALS.md has a section on ' + reason, '\n### %s\n' % reason in refusals)
+    compare_help(counts, manual)
+
+
+def compare_help(counts, manual):
+    """What the program says itself."""
+    told = subprocess.run([PROGRAM, '--help'], stdout=subprocess.PIPE, stderr=subprocess.PIPE)
+    if told.returncode:
+        print('not compared: help, since the program does not run: ' + told.stderr.decode().strip().split('\n')[0])
+        return
+    for command in ('check', 'show', 'convert'):
+        text = subprocess.run([PROGRAM, command, '--help'], stdout=subprocess.PIPE, check=True).stdout.decode()
+        for option, value in re.findall(r'^ +--([\w-]+)(?: <(\w+)>)?', text, re.M):
+            counts.expect('manual has --%s of %s' % (option, command), ('--%s %s' % (option, value)).strip() in manual)
+        for name, least, most, default in limits():
+            row = re.search(r'--%s <N> .*' % name, text)[0]
+            counts.expect('%s --help of --%s' % (command, name), '%d to %d [default: %d]' % (least, most, default) in row)
+    for status, said in re.findall(r'^  (\d)  (.*)$', told.stdout.decode(), re.M):
+        counts.expect('manual has status %s' % status, re.search(r'\b%s %s' % (status, re.escape(said.split('`')[0].strip())), manual))
+
+
+# The lines of the pages
+
+def examples(page):
+    """The commands of a page with the lines that should come."""
+    found = []
+    for line in read(page).split('\n'):
+        begin = re.match(r'( {4,})\$ (.*)', line)
+        if begin:
+            indent = begin[1]
+            found.append([begin[2], []])
+        elif found and found[-1] is not None and line.startswith(indent + '> '):
+            found[-1][0] += '\n' + line[len(indent) + 2:]
+        elif found and found[-1] is not None and line.startswith(indent):
+            found[-1][1].append(line[len(indent):])
+        elif found and found[-1] is not None:
+            found.append(None)
+    return [(command, expected) for command, expected in filter(None, found)]
+
+
+def run_page(counts, page):
+    with tempfile.TemporaryDirectory() as folder:
+        shutil.copytree(os.path.join(TOP, 'examples'), os.path.join(folder, 'examples'))
+        os.makedirs(os.path.join(folder, 'bin'))
+        for name in ('bin/rdfconv', 'rdfconv'):
+            os.symlink(PROGRAM, os.path.join(folder, name))
+        how = dict(os.environ, PATH='%s/bin:%s' % (folder, os.environ['PATH']), SHELL='/bin/bash', LC_ALL='C.UTF-8', HOME=folder)
+        for command, expected in examples(page):
+            lacking = [word for word in OTHERS if re.search(r'\b%s\b' % word, command) and not shutil.which(word)]
+            if lacking:
+                counts.skipped += 1
+                continue
+            got = subprocess.run(['bash', '-c', command], cwd=folder, env=how, stdin=subprocess.DEVNULL, stdout=subprocess.PIPE,
+                                 stderr=subprocess.STDOUT).stdout.decode(errors='backslashreplace')
+            counts.lines += 1
+            if [line.rstrip() for line in got.split('\n')[:-1]] != [line.rstrip() for line in expected]:
+                counts.differ += 1
+                print('%s: $ %s\n  should give: %s\n  but gives:   %s' % (page, command, '\n               '.join(expected), got.replace('\n', '\n               ')))
+
+
+def main():
+    counts = Counts()
+    asked = sys.argv[1:]
+    if not asked:
+        compare(counts)
+    for page in PAGES:
+        if not asked or any(word in page for word in asked):
+            run_page(counts, page)
+    print('%d facts, %d lines run, %d left out, %d differ' % (counts.facts, counts.lines, counts.skipped, counts.differ))
+    return 1 if counts.differ else 0
+
+
+if __name__ == '__main__':
+    sys.exit(main())
