@@ -3,7 +3,8 @@ use Rattle.std.proofs.Common.{take, ◌≡◌, ℕ, ◌+◌, ◌-◌, ◌≤◌,
 use Rattle.std.proofs.lemmas.Bool.{cond-true, cond-false}
 use Rattle.std.proofs.lemmas.List.{take-append-drop, length-take-le, drop-drop}
 use Rattle.std.proofs.lemmas.List.Sums.{count_by-le-length}
-use Rattle.std.proofs.lemmas.Str.{IsCharBoundary-start, IsUtf8-drop, IsCharBoundary-from_drop, chars-append, utf8_valid_len_le}
+use Rattle.std.specs.Prelude.{encode_utf8_all}
+use Rattle.std.proofs.lemmas.Str.{encodes-chars, IsCharBoundary-start, IsUtf8-drop, IsCharBoundary-from_drop, chars-append, utf8_valid_len_le}
 use Rattle.std.specs.List.{count_by}
 use Rattle.std.specs.Str.{chars, IsUtf8, IsCharBoundary}
 use Rattle.std.specs.Str.Lossy.{utf8_valid_len, utf8_error_len}
@@ -144,3 +145,7 @@ module _ (text : List ℕ) (start n len : ℕ) (pending : List ℕ) (place taken
 pub place_behind : (text : List ℕ) (start : ℕ) (pending : List ℕ) (place taken : Place) → Held text start pending place taken → IsUtf8 text →
     beyond place (drop start text) ≡ past place (chars (drop start text))
 place_behind text start pending place taken h u = sym (past-chars place (drop start text) (IsUtf8-drop text start u h.boundary))
+
+-- how many bytes the rest of the text has, by its characters
+pub size_of_rest : (text : List ℕ) (start : ℕ) → IsCharBoundary text start → IsUtf8 text → length text - start ≡ length (encode_utf8_all (chars (drop start text)))
+size_of_rest text start b u = sym (ap length (encodes-chars (drop start text) (IsUtf8-drop text start u b)) ∙ length-drop start text)

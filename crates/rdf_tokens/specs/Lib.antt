@@ -19,6 +19,7 @@ pub mod Spellings
 pub mod Front
 pub mod Walk
 pub mod Over
+pub mod Plain
 pub mod Look
 pub mod Blank
 pub mod Machine

@@ -1,5 +1,5 @@
 -- What a scanner has read, and what its calls give.
-use Rattle.std.specs.Prelude.{◌≡◌, ◌≢◌, ℕ, ◌<◌, ◌≤◌, ◌+◌, Bool, true, false, cond, List, [], ◌∷◌, ◌++◌, ◌⊎◌, length, take, Option, Some, None, Result, Ok, Err}
+use Rattle.std.specs.Prelude.{◌≡◌, ◌≢◌, ℕ, ◌<◌, ◌≤◌, ◌+◌, Bool, true, false, cond, List, [], ◌∷◌, ◌++◌, ◌⊎◌, length, take, encode_utf8_all, Option, Some, None, Result, Ok, Err}
 use Rattle.std.specs.Str.{chars}
 use Rattle.rdf_terms.specs.declared.kind.Dialect.{Dialect}
 use Rattle.rdf_terms.specs.declared.kind.Kind.TheVariants.{End}
@@ -60,6 +60,10 @@ pub record IsOpen (v : Unread) : Type 0 where
 -- how many tokens can still be given, at most
 abbrev pub left : Unread → ℕ
 left v = length v.text + cond v.stopped 0 1
+
+-- how many bytes were taken of which no token was given, but those that can begin no character
+abbrev pub unread_bytes : Unread → ℕ
+unread_bytes v = length (encode_utf8_all v.text) + length v.pending
 
 -- n bytes of the piece were taken
 pub record TakesBytes (old : Unread) (piece : List ℕ) (n : ℕ) (new : Unread) : Type 0 where

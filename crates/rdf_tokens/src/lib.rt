@@ -8,10 +8,12 @@ mod good;
 pub mod laws;
 mod look;
 mod over;
+mod plain;
 mod scanner;
 mod states;
 mod token;
 
+pub use plain::{RunClass, plain_run};
 pub use rdf_terms::{Dialect, Kind};
 pub use scanner::Scanner;
 pub use token::{Fault, Token};

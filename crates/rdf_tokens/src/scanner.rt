@@ -6,7 +6,7 @@ ghost use Rattle.std.specs.String.{string_bytes};
 ghost use mathlib.Core.Option.{none};
 ghost use Rattle.std.specs.Borrow.{sem, follows_so};
 ghost use Rattle.rdf_tokens.specs.Tokens.{Token as Read, past, step};
-ghost use Rattle.rdf_tokens.specs.Scans.{HasScanned, IsOpen, Pushes, Gives, most_bytes, token_of, place_of};
+ghost use Rattle.rdf_tokens.specs.Scans.{HasScanned, IsOpen, Pushes, Gives, most_bytes, token_of, place_of, unread_bytes};
 ghost use Rattle.rdf_tokens.specs.Look.{behind, IsLook};
 ghost use Rattle.rdf_tokens.specs.contracts.scanner.Scanner.{the_row};
 ghost use Rattle.rdf_tokens.specs.Moves.{closed, grown, good_bytes, is_broken, rest_of_bytes, is_settled, moved, tail_now, fault_place, is_flat, IsGiven, Moves, Stands};
@@ -99,6 +99,14 @@ impl<A: Allocator + Copy> Scanner<A> {
             ended: false,
             stopped: false,
         }
+    }
+
+    /// How many bytes are held of which no token was given: of the text, and of a character that has not come whole. After a `next` that
+    /// answered `None` they are the bytes that leave the next token open. It takes no memory.
+    pub fn pending(&self) -> u64
+        ensures { result ≡ unread_bytes self.now }
+    {
+        (self.text.len() - self.start + self.pending.len()) as u64
     }
 
     /// Says that no more bytes come. After a stop it does nothing.
