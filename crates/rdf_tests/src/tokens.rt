@@ -1,7 +1,7 @@
 // Documents in pieces, and where they are refused.
 
 use rdf_terms::Reason;
-use rdf_tokens::{Dialect, Kind, Scanner};
+use rdf_tokens::{Dialect, Kind, RunClass, Scanner, plain_run};
 use std::alloc::Global;
 use std::test::Fail;
 
@@ -344,4 +344,31 @@ fn a_token_of_more_characters_than_the_limit(rt: HostRuntime) {
             "at {text}"
         );
     }
+}
+
+const CLASSES: [RunClass; 2] = [RunClass::InString, RunClass::InIri];
+
+#[test]
+fn the_first_byte_that_is_not_plain(rt: HostRuntime) {
+    let quoted = [b'a'; 64];
+    assert_eq!(rt; plain_run(&quoted, RunClass::InString), 64);
+    assert_eq!(rt; plain_run(b"\xC3\xA9'", RunClass::InString), 2);
+    assert_eq!(rt; plain_run(b"a b", RunClass::InIri), 1);
+    assert_eq!(rt; plain_run(b"", RunClass::InIri), 0);
+}
+
+#[test]
+fn a_stop_at_each_place(rt: HostRuntime) -> Result<(), Fail> {
+    for class in CLASSES {
+        for len in 0..=130 {
+            let plain = Vec::from_elem(rt.alloc(), b'a', len)?;
+            assert_eq!(rt; plain_run(plain.as_slice(), class), len);
+            for at in 0..len {
+                let mut bytes = Vec::from_elem(rt.alloc(), b'a', len)?;
+                bytes[at] = b'"';
+                assert_eq!(rt; plain_run(bytes.as_slice(), class), at, "{at} of {len}");
+            }
+        }
+    }
+    Ok(())
 }

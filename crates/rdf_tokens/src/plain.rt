@@ -24,36 +24,3 @@ pub fn plain_run(bytes: &[u8], class: RunClass) -> usize
         RunClass::InIri => run_end(Run::Iri, bytes, 0),
     }
 }
-
-#[cfg(test)]
-mod tests {
-    use super::*;
-    use std::test::Fail;
-
-    const CLASSES: [RunClass; 2] = [RunClass::InString, RunClass::InIri];
-
-    #[test]
-    fn the_first_byte_that_is_not_plain(rt: HostRuntime) {
-        let quoted = [b'a'; 64];
-        assert_eq!(rt; plain_run(&quoted, RunClass::InString), 64);
-        assert_eq!(rt; plain_run(b"\xC3\xA9'", RunClass::InString), 2);
-        assert_eq!(rt; plain_run(b"a b", RunClass::InIri), 1);
-        assert_eq!(rt; plain_run(b"", RunClass::InIri), 0);
-    }
-
-    #[test]
-    fn a_stop_at_each_place(rt: HostRuntime) -> Result<(), Fail> {
-        for class in CLASSES {
-            for len in 0..=130 {
-                let plain = Vec::from_elem(rt.alloc(), b'a', len)?;
-                assert_eq!(rt; plain_run(plain.as_slice(), class), len);
-                for at in 0..len {
-                    let mut bytes = Vec::from_elem(rt.alloc(), b'a', len)?;
-                    bytes[at] = b'"';
-                    assert_eq!(rt; plain_run(bytes.as_slice(), class), at, "{at} of {len}");
-                }
-            }
-        }
-        Ok(())
-    }
-}
