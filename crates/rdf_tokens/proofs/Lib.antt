@@ -13,6 +13,8 @@ pub mod NumberLemmas
 pub mod NameLemmas
 pub mod NameSorts
 pub mod IriSorts
+pub mod FamilySorts
+pub mod BareLemmas
 pub mod TextSorts
 pub mod FixedLemmas
 pub mod MachineLemmas

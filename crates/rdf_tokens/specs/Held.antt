@@ -3,8 +3,10 @@ use Rattle.std.specs.Prelude.{ℕ, ◌≤◌, ◌+◌, ◌-◌, List, Option, le
 use Rattle.std.specs.Str.{IsCharBoundary}
 use Rattle.rdf_terms.specs.declared.kind.Dialect.{Dialect}
 use Rattle.rdf_tokens.specs.declared.front.Walk.{Walk}
+use Rattle.rdf_tokens.specs.declared.front.Bare.{Bare}
 use Rattle.rdf_tokens.specs.Tokens.{Place}
 use Rattle.rdf_tokens.specs.Walk.{Walked}
+use Rattle.rdf_tokens.specs.Bare.{IsBareIn}
 use Rattle.rdf_tokens.specs.Moves.{BeginsChar}
 use Rattle.rdf_tokens.specs.Scans.{most_bytes}
 
@@ -21,7 +23,8 @@ pub record Held (text : List ℕ) (start : ℕ) (pending : List ℕ) (place take
   pub lines : IsPlace place
   pub last : IsPlace taken
 
--- and how far the states have come in the rest
-pub record Holds (d : Dialect) (text : List ℕ) (start : ℕ) (walk : Option Walk) (pending : List ℕ) (place taken : Place) : Type 0 where
+-- and how far the states have come in the rest, and where it has no names
+pub record Holds (d : Dialect) (text : List ℕ) (start : ℕ) (walk : Option Walk) (bare : Option Bare) (pending : List ℕ) (place taken : Place) : Type 0 where
   pub held : Held text start pending place taken
   pub walked : Walked d (drop start text) walk
+  pub no_names : IsBareIn d (drop start text) bare

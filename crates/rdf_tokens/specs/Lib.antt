@@ -18,6 +18,7 @@ pub mod Fixed
 pub mod Spellings
 pub mod Front
 pub mod Walk
+pub mod Bare
 pub mod Over
 pub mod Plain
 pub mod Look

@@ -1,11 +1,15 @@
 // The longest token at the front of a text.
 
-ghost use Rattle.std.specs.Prelude.{◌≡◌, length};
+ghost use Rattle.std.specs.Prelude.{◌≡◌, length, get_or};
 ghost use Rattle.std.specs.Str.{chars};
 ghost use Rattle.rdf_terms.specs.Shapes.{is_live};
 ghost use Rattle.rdf_tokens.specs.Tokens.{three_quotes, only_long, with_length, longest};
 ghost use Rattle.rdf_tokens.specs.Front.{Reached, in_bytes, longest_by, longer_front, state_of, kind_by_states, kind_here, open_state};
 ghost use Rattle.rdf_tokens.specs.Walk.{Walked, IsWalk, walk_kept};
+ghost use Rattle.rdf_tokens.specs.Bare.{is_bare_byte, IsBare, IsBareIn};
+ghost use Rattle.rdf_terms.specs.Classes.{is_letter};
+ghost use Rattle.rdf_terms.specs.Runs.{IsRun};
+ghost use Rattle.rdf_tokens.specs.declared.states.machine.State.TheVariants.{Name as name};
 
 use crate::bytes::char_at;
 use crate::states::fixed::{fixed_front, is_fixed_live};
@@ -37,15 +41,30 @@ pub(crate) struct Walk {
     kind: Option<Kind>,
 }
 
+/// The end of a text within which names were sought and none was found: the bytes behind the end, and the state behind the whole
+/// text, of each name that would begin there with a letter of ASCII.
+#[derive(Clone, Copy)]
+pub(crate) struct Bare {
+    left: usize,
+    state: Option<State>,
+}
+
 /// The longest token at the front of a text. The states go on from where they came in the text's first bytes, and where a
 /// longer token may come, it is kept how far they came.
-pub(crate) fn front_of(dialect: Dialect, text: &str, walk: &mut Option<Walk>) -> Front
-    requires { Walked dialect text.now walk.old }
+pub(crate) fn front_of(
+    dialect: Dialect,
+    text: &str,
+    walk: &mut Option<Walk>,
+    bare: &mut Option<Bare>,
+) -> Front
+    requires walked { Walked dialect text.now walk.old }
+    requires bare { IsBareIn dialect text.now bare.old }
     ensures best { result.best ≡ in_bytes (chars text.now) (longest dialect (chars text.now) (length (chars text.now))) }
     ensures live { result.live ≡ is_live dialect (chars text.now) }
     ensures walked { Walked dialect text.now walk.new }
+    ensures bare { IsBareIn dialect text.now bare.new }
 {
-    let shaped = shaped_front(dialect, text, walk);
+    let shaped = shaped_front(dialect, text, walk, bare);
     keep(walk, text.len(), &shaped);
     Front {
         best: longer(
@@ -82,14 +101,21 @@ fn keep(walk: &mut Option<Walk>, len: usize, shaped: &Shaped)
 }
 
 /// The longest token of a kind that has states.
-fn shaped_front(dialect: Dialect, text: &str, walk: &Option<Walk>) -> Shaped
-    requires { Walked dialect text.now walk.now }
+fn shaped_front(
+    dialect: Dialect,
+    text: &str,
+    walk: &Option<Walk>,
+    bare: &mut Option<Bare>,
+) -> Shaped
+    requires walked { Walked dialect text.now walk.now }
+    requires bare { IsBareIn dialect text.now bare.old }
     ensures best { with_length result.len result.kind None ≡ in_bytes (chars text.now) (longest_by (kind_by_states dialect (chars text.now)) (chars text.now) (length (chars text.now))) }
     ensures state { result.state ≡ open_state dialect (state_of dialect (chars text.now)) }
+    ensures bare { IsBareIn dialect text.now bare.new }
 {
     match walk {
         Some(walk) => resumed_front(dialect, text, walk),
-        None => first_front(dialect, text),
+        None => first_front(dialect, text, bare),
     }
 }
 
@@ -112,9 +138,11 @@ fn resumed_front(dialect: Dialect, text: &str, walk: &Walk) -> Shaped
     }
 }
 
-fn first_front(dialect: Dialect, text: &str) -> Shaped
+fn first_front(dialect: Dialect, text: &str, bare: &mut Option<Bare>) -> Shaped
+    requires { IsBareIn dialect text.now bare.old }
     ensures best { with_length result.len result.kind None ≡ in_bytes (chars text.now) (longest_by (kind_by_states dialect (chars text.now)) (chars text.now) (length (chars text.now))) }
     ensures state { result.state ≡ open_state dialect (state_of dialect (chars text.now)) }
+    ensures bare { IsBareIn dialect text.now bare.new }
 {
     if text.is_empty() {
         return Shaped {
@@ -130,13 +158,84 @@ fn first_front(dialect: Dialect, text: &str) -> Shaped
         Family::Text => front_from(dialect, text, next, Text::Start.step(dialect, c), 0, None),
         Family::Tag => front_from(dialect, text, next, Tag::Start.step(c), 0, None),
         Family::Number => front_from(dialect, text, next, Number::Start.step(dialect, c), 0, None),
-        Family::Name => front_from(dialect, text, next, Name::Start.step(dialect, c), 0, None),
+        Family::Name => name_front(dialect, text, Name::Start.step(dialect, c), next, bare),
         Family::None => Shaped {
             len: 0,
             kind: None,
             state: None,
         },
     }
+}
+
+/// The same where a name begins, by the state behind its first character. Where no name was found before, none is sought again.
+#[inline(always)]
+fn name_front(
+    dialect: Dialect,
+    text: &str,
+    begun: Name,
+    first: usize,
+    bare: &mut Option<Bare>,
+) -> Shaped
+    requires name { Reached dialect text.now first (name begun) (with_length first (kind_here dialect text.now (name begun)) None) }
+    requires bare { IsBareIn dialect text.now bare.old }
+    ensures best { with_length result.len result.kind None ≡ in_bytes (chars text.now) (longest_by (kind_by_states dialect (chars text.now)) (chars text.now) (length (chars text.now))) }
+    ensures state { result.state ≡ open_state dialect (state_of dialect (chars text.now)) }
+    ensures bare { IsBareIn dialect text.now bare.new }
+{
+    if let Some(known) = *bare {
+        if known.left < text.len() && begins_in_letter(text.as_bytes()) {
+            return Shaped {
+                len: 0,
+                kind: None,
+                state: known.state,
+            };
+        }
+    }
+    let shaped = front_from(dialect, text, first, begun, 0, None);
+    if shaped.kind.is_none() {
+        *bare = bare_of(dialect, text, shaped.state);
+    }
+    shaped
+}
+
+/// What is known of names where the text is the beginning of none, and its states lead to this one.
+#[cold]
+#[inline(never)]
+fn bare_of(dialect: Dialect, text: &str, state: Option<State>) -> Option<Bare>
+    requires { IsBare dialect (chars text.now) state }
+    ensures { IsBareIn dialect text.now result }
+{
+    let bytes = text.as_bytes();
+    match dialect {
+        Dialect::Turtle if begins_in_letter(bytes) => Some(Bare {
+            left: bytes.len() - bare_end(bytes),
+            state,
+        }),
+        _ => None,
+    }
+}
+
+fn begins_in_letter(text: &[u8]) -> bool
+    ensures { result ≡ is_letter (get_or text.now 0 0) }
+{
+    matches!(text, [b'A'..=b'Z' | b'a'..=b'z', ..])
+}
+
+/// How many of the first bytes a prefix has, dots too, in ASCII.
+fn bare_end(bytes: &[u8]) -> usize
+    ensures { IsRun is_bare_byte bytes.now 0 result }
+{
+    let mut at = 0;
+    while at < bytes.len() && is_bare_byte(bytes[at]) {
+        at += 1;
+    }
+    at
+}
+
+fn is_bare_byte(byte: u8) -> bool
+    ensures { result ≡ is_bare_byte byte }
+{
+    matches!(byte, b'A'..=b'Z' | b'a'..=b'z' | b'0'..=b'9' | b'_' | b'-' | b'.')
 }
 
 /// The same where a text's first bytes led to this state, and the longest token before their end is known.

@@ -4,9 +4,10 @@ ghost use Rattle.std.specs.Str.{chars};
 ghost use Rattle.std.specs.Prelude.{◌≡◌, ◌||◌};
 ghost use Rattle.rdf_tokens.specs.Tokens.{is_empty, step};
 ghost use Rattle.rdf_tokens.specs.Walk.{Walked};
+ghost use Rattle.rdf_tokens.specs.Bare.{IsBareIn};
 ghost use Rattle.rdf_tokens.specs.Look.{behind, IsLook, CutsAt, decided_by};
 
-use crate::front::{Walk, front_of};
+use crate::front::{Bare, Walk, front_of};
 use crate::over::is_over;
 use rdf_terms::{Dialect, Kind, Reason, is_fit};
 
@@ -42,15 +43,18 @@ pub(crate) fn look_at(
     limit: u64,
     tail: Tail,
     walk: &mut Option<Walk>,
+    bare: &mut Option<Bare>,
 ) -> Look
-    requires { Walked dialect text.now walk.old }
+    requires walked { Walked dialect text.now walk.old }
+    requires bare { IsBareIn dialect text.now bare.old }
     ensures look { IsLook result (step dialect limit (behind tail) (chars text.now)) (chars text.now) }
     ensures walked { Walked dialect text.now walk.new }
+    ensures bare { IsBareIn dialect text.now bare.new }
 {
     if is_over(dialect, text, limit) {
         return Look::Stop(Reason::TokenTooLong);
     }
-    let front = front_of(dialect, text, walk);
+    let front = front_of(dialect, text, walk, bare);
     let waits = is_open(text, front.live);
     match tail {
         Tail::GoesOn if waits => Look::Undecided,

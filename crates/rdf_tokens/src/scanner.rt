@@ -14,7 +14,7 @@ ghost use Rattle.rdf_tokens.specs.Good.{mark};
 ghost use Rattle.rdf_tokens.specs.Front.{bytes_of};
 
 use crate::blank::blank_run;
-use crate::front::Walk;
+use crate::front::{Bare, Walk};
 use crate::good::{good_front, line_feeds, mark_len};
 use crate::look::{Look, Tail, look_at};
 use crate::token::{Fault, Token};
@@ -35,6 +35,8 @@ pub struct Scanner<A: Allocator = Global> {
     start: usize,
     // How far the states have come in the token that the rest of the text begins with, where it is open.
     walk: Option<Walk>,
+    // Up to where the text is known to have no name.
+    bare: Option<Bare>,
     // The bytes after the text that begin a character.
     pending: Vec<u8, A>,
     broken: bool,
@@ -71,7 +73,7 @@ impl<A: Allocator> Model for Scanner<A> {
       stopped = s.stopped;
     } };
 
-    ghost invariant = { λ s. Holds s.dialect (string_bytes s.text) s.start s.walk s.pending.items (record { offset = s.offset; line = s.line }) (record { offset = s.taken; line = s.last_line }) };
+    ghost invariant = { λ s. Holds s.dialect (string_bytes s.text) s.start s.walk s.bare s.pending.items (record { offset = s.offset; line = s.line }) (record { offset = s.taken; line = s.last_line }) };
 }
 
 impl<A: Allocator + Copy> Scanner<A> {
@@ -88,6 +90,7 @@ impl<A: Allocator + Copy> Scanner<A> {
             text: String::new(alloc),
             start: 0,
             walk: None,
+            bare: None,
             pending: Vec::new(alloc),
             broken: false,
             begun: false,
@@ -166,7 +169,14 @@ impl<A: Allocator + Copy> Scanner<A> {
     {
         let tail = self.tail();
         let rest = &self.text.as_str()[self.start..];
-        look_at(self.dialect, rest, self.limit, tail, &mut self.walk)
+        look_at(
+            self.dialect,
+            rest,
+            self.limit,
+            tail,
+            &mut self.walk,
+            &mut self.bare,
+        )
     }
 
     fn tail(&self) -> Tail
@@ -253,6 +263,7 @@ impl<A: Allocator + Copy> Scanner<A> {
         if !self.broken {
             drop_front(&mut self.text, self.start)?;
             self.start = 0;
+            self.bare = None;
             self.broken = add_piece(&mut self.text, &mut self.pending, piece)?;
         }
         self.taken += piece.len() as u64;

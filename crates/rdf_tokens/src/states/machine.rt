@@ -1,6 +1,6 @@
 // The states of all families in one.
 
-ghost use Rattle.std.specs.Prelude.{◌≡◌};
+ghost use Rattle.std.specs.Prelude.{◌≡◌, ◌<◌};
 ghost use Rattle.rdf_tokens.specs.Sorts.{sort_by};
 ghost use Rattle.rdf_tokens.specs.Machine.{ascii, high, step, kind_at, goes_on};
 
@@ -40,18 +40,144 @@ pub(crate) enum State {
     Dead,
 }
 
+/// The families that ASCII begins.
+static FAMILIES: [Family; 128] = [
+    Family::None,
+    Family::None,
+    Family::None,
+    Family::None,
+    Family::None,
+    Family::None,
+    Family::None,
+    Family::None,
+    Family::None,
+    Family::None,
+    Family::None,
+    Family::None,
+    Family::None,
+    Family::None,
+    Family::None,
+    Family::None,
+    Family::None,
+    Family::None,
+    Family::None,
+    Family::None,
+    Family::None,
+    Family::None,
+    Family::None,
+    Family::None,
+    Family::None,
+    Family::None,
+    Family::None,
+    Family::None,
+    Family::None,
+    Family::None,
+    Family::None,
+    Family::None,
+    Family::None,
+    Family::None,
+    Family::Text,
+    Family::None,
+    Family::None,
+    Family::None,
+    Family::None,
+    Family::Text,
+    Family::None,
+    Family::None,
+    Family::None,
+    Family::Number,
+    Family::None,
+    Family::Number,
+    Family::Number,
+    Family::None,
+    Family::Number,
+    Family::Number,
+    Family::Number,
+    Family::Number,
+    Family::Number,
+    Family::Number,
+    Family::Number,
+    Family::Number,
+    Family::Number,
+    Family::Number,
+    Family::Name,
+    Family::None,
+    Family::Iri,
+    Family::None,
+    Family::None,
+    Family::None,
+    Family::Tag,
+    Family::Name,
+    Family::Name,
+    Family::Name,
+    Family::Name,
+    Family::Name,
+    Family::Name,
+    Family::Name,
+    Family::Name,
+    Family::Name,
+    Family::Name,
+    Family::Name,
+    Family::Name,
+    Family::Name,
+    Family::Name,
+    Family::Name,
+    Family::Name,
+    Family::Name,
+    Family::Name,
+    Family::Name,
+    Family::Name,
+    Family::Name,
+    Family::Name,
+    Family::Name,
+    Family::Name,
+    Family::Name,
+    Family::Name,
+    Family::None,
+    Family::None,
+    Family::None,
+    Family::None,
+    Family::Label,
+    Family::None,
+    Family::Name,
+    Family::Name,
+    Family::Name,
+    Family::Name,
+    Family::Name,
+    Family::Name,
+    Family::Name,
+    Family::Name,
+    Family::Name,
+    Family::Name,
+    Family::Name,
+    Family::Name,
+    Family::Name,
+    Family::Name,
+    Family::Name,
+    Family::Name,
+    Family::Name,
+    Family::Name,
+    Family::Name,
+    Family::Name,
+    Family::Name,
+    Family::Name,
+    Family::Name,
+    Family::Name,
+    Family::Name,
+    Family::Name,
+    Family::None,
+    Family::None,
+    Family::None,
+    Family::None,
+    Family::None,
+];
+
+#[inline(always)]
 fn family_of_ascii(byte: u8) -> Family
+    requires { byte < 128 }
     ensures { result ≡ ascii byte }
 {
-    match byte {
-        b'<' => Family::Iri,
-        b'_' => Family::Label,
-        b'"' | b'\'' => Family::Text,
-        b'@' => Family::Tag,
-        b'+' | b'-' | b'.' | b'0'..=b'9' => Family::Number,
-        b':' | b'A'..=b'Z' | b'a'..=b'z' => Family::Name,
-        _ => Family::None,
-    }
+    FAMILIES[byte as usize]
 }
 
 fn family_of_wide(wide: Wide) -> Family
@@ -64,6 +190,7 @@ fn family_of_wide(wide: Wide) -> Family
 }
 
 /// The family that a character begins.
+#[inline(always)]
 pub(crate) fn family_of(c: char) -> Family
     ensures { result ≡ sort_by ascii high c }
 {

@@ -52,8 +52,8 @@ front_from-requires-in-Number c =
     reached-first d c.args.text.now x.result.1 x.result.0 (Number c.step-in-Number.result) c.utf8.text x.ensures.is x.ensures.past x.ensures.fits
     (ap Number c.step-in-Number.ensures ∙ sym (ap (λ f. begin d f x.result.0) (sym c.family_of.ensures ∙ c.in-Number.is)))
 
-pub front_from-requires-in-Name : goal.front_from-requires-in-Name
-front_from-requires-in-Name c =
+pub name_front-requires-clause-name : goal.name_front-requires-clause-name
+name_front-requires-clause-name c =
     let x = c.char_at-c in
     let d = c.args.dialect in
     reached-first d c.args.text.now x.result.1 x.result.0 (Name c.step-in-Name.result) c.utf8.text x.ensures.is x.ensures.past x.ensures.fits

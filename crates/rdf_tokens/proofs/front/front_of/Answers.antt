@@ -27,7 +27,7 @@ pub returns-then-is_some-clause-walked : goal.returns-then-is_some-clause-walked
 returns-then-is_some-clause-walked c =
     let shaped = c.shaped_front-shaped in
     subst (Walked c.args.dialect c.args.text.now) (sym c.keep.ensures)
-    (walked-kept c.args.dialect c.args.text.now _ _ shaped.result.len shaped.result.kind shaped.result.state c.utf8.text c.requires refl shaped.ensures.best shaped.ensures.state)
+    (walked-kept c.args.dialect c.args.text.now _ _ shaped.result.len shaped.result.kind shaped.result.state c.utf8.text c.requires.walked refl shaped.ensures.best shaped.ensures.state)
 
 pub returns-else-is_some-clause-best : goal.returns-else-is_some-clause-best
 returns-else-is_some-clause-best c =

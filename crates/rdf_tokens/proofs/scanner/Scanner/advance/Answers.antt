@@ -9,6 +9,7 @@ use Rattle.rdf_tokens.specs.Front.{bytes_of}
 use Rattle.rdf_tokens.proofs.Inside.{unread_of}
 use Rattle.rdf_tokens.proofs.MoveLemmas.{moved-none}
 use Rattle.rdf_tokens.proofs.HeldLemmas.{held_advanced, place_advanced, text_advanced, advance_within}
+use Rattle.rdf_tokens.proofs.BareLemmas.{bare_advanced}
 use Rattle.rdf_tokens.proofs.scanner.Scanner.advance.Goals as goal
 
 pub returns-then-len-eq0 : goal.returns-then-len-eq0
@@ -40,7 +41,7 @@ invariant_of-self g c =
     let bytes = c.as_bytes.ensures.value in
     let feeds = c.line_feeds.ensures ∙ ap (λ b. count_by (λ x. x == 10) (take (s.start + c.args.len - s.start) (drop s.start b))) bytes in
     let held = held_advanced (string_bytes s.text) s.start n c.args.len s.pending.items _ _ c.self.invariant.held (IsUtf8-string_bytes s.text) e c.line_feeds.result feeds in
-    record { held = held; walked = tt }
+    record { held = held; walked = tt; no_names = bare_advanced s.dialect (string_bytes s.text) s.start c.args.len s.bare c.self.invariant.no_names }
 
 moved_same : (v : Unread) {p q : Place} {t u : List ℕ} → p ≡ q → t ≡ u → moved v p v.begun v.comment t ≡ moved v q v.begun v.comment u
 moved_same v e f = cc

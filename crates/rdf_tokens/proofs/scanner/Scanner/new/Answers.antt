@@ -15,7 +15,7 @@ invariant_of-result g c =
       lines = omega arith;
       last = omega arith;
     } in
-    record { held = held; walked = tt }
+    record { held = held; walked = tt; no_names = tt }
 
 pub returns-clause-read : goal.returns-clause-read
 returns-clause-read g c = read_new c.args.dialect c.args.limit _ _ c.new.ensures.bytes c.new-2.ensures.items

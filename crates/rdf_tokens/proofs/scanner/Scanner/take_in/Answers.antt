@@ -23,7 +23,7 @@ module _ {Z : Type 0} where
   HeldAt s p = Held (string_bytes s.text) s.start s.pending.items (record { offset = s.offset; line = s.line }) p
 
   abbrev HoldsAt : Inside Z → Place → Type 0
-  HoldsAt s p = Holds s.dialect (string_bytes s.text) s.start s.walk s.pending.items (record { offset = s.offset; line = s.line }) p
+  HoldsAt s p = Holds s.dialect (string_bytes s.text) s.start s.walk s.bare s.pending.items (record { offset = s.offset; line = s.line }) p
 
 abbrev with_fields : Unread → List ℕ → List ℕ → Bool → Place → Unread
 with_fields v text pending broken taken = record v { text = text; pending = pending; broken = broken; taken = taken }
@@ -46,10 +46,10 @@ invariant_of-self-2 g c =
           let held = subst (λ n. Held (string_bytes w.add_piece.new.text) 0 w.add_piece.new.pending.items (record { offset = s.offset; line = s.line }) (behind s piece n)) (sym c.line_feeds.ensures)
           (held_grown (string_bytes s.text) (string_bytes w.add_piece.new.text) s.start s.pending.items w.add_piece.new.pending.items piece _ _ c.self.invariant.held most (IsUtf8-string_bytes w.add_piece.new.text) new kept) in
           let walked = walked_grown s.dialect (string_bytes s.text) (string_bytes w.add_piece.new.text) s.start s.walk (s.pending.items ++ piece) (IsUtf8-string_bytes s.text) c.self.invariant.held.boundary new c.self.invariant.walked in
-          subst P (sym w.self-inside-is) (record { held = held; walked = walked })
+          subst P (sym w.self-inside-is) (record { held = held; walked = walked; no_names = tt })
       | else-not-self w ↦
           let held = subst (λ n. HeldAt s (behind s piece n)) (sym c.line_feeds.ensures) (held_counted (string_bytes s.text) s.start s.pending.items piece _ _ c.self.invariant.held most) in
-          subst P (sym w.self-inside-is) (record { held = held; walked = c.self.invariant.walked })
+          subst P (sym w.self-inside-is) (record { held = held; walked = c.self.invariant.walked; no_names = c.self.invariant.no_names })
     ]
 
 pub returns-clause-ok : goal.returns-clause-ok

@@ -1,0 +1,208 @@
+-- A text that begins no name begins none at a later letter of its first run either: the states behind both letters are the same.
+use Rattle.std.proofs.Common.{◌≡◌, ℕ, zero, suc, ◌+◌, ◌-◌, ◌<◌, ◌≤◌, Bool, true, false, List, [], ◌∷◌, ◌++◌, ◌&&◌, ◌||◌, ◌==◌, not, refl, sym, ap, ◌∙◌, subst, ⊎_elim, length, take, drop, get_or, arith, length-append, length-drop, Option, Some, None, IsUtf8}
+use Rattle.std.proofs.lemmas.Bool.{agree_below_at, and_parts, true≢false, cases_lt}
+use Rattle.std.proofs.lemmas.Bool.Decides.{nat_tests}
+use Rattle.std.proofs.lemmas.List.{get_or-drop, drop-drop, take-append-drop}
+use Rattle.std.proofs.lemmas.Str.{encode_ascii, length-encode}
+use Rattle.std.specs.Str.{chars}
+use Rattle.std.specs.Char.{len_utf8}
+use Rattle.rdf_terms.specs.declared.kind.Kind.{Kind}
+use Rattle.rdf_terms.specs.declared.kind.Dialect.{Dialect}
+use Rattle.rdf_terms.specs.declared.kind.Dialect.TheVariants.{Turtle}
+use Rattle.rdf_terms.specs.Classes.{is_letter}
+use Rattle.rdf_terms.specs.Runs.{IsRun}
+use Rattle.rdf_tokens.specs.declared.states.machine.State.{State}
+use Rattle.rdf_tokens.specs.declared.states.machine.State.TheVariants.{Start, Name}
+use Rattle.rdf_tokens.specs.declared.states.name.Name.TheVariants as name
+use Rattle.rdf_tokens.specs.declared.front.Bare.{Bare}
+use Rattle.rdf_tokens.specs.Tokens.{with_length, three_quotes, only_long}
+use Rattle.rdf_tokens.specs.Machines.{run}
+use Rattle.rdf_tokens.specs.Machine.{step, kind_at}
+use Rattle.rdf_tokens.specs.Front.{IsAt, bytes_of, in_bytes, longest_by, state_of, kind_by_states, open_state}
+use Rattle.rdf_tokens.specs.Bare.{is_bare_byte, IsBare, IsBareIn}
+use Rattle.rdf_tokens.proofs.ByteLemmas.{at-start, char-step, ascii_first, run-append, run-more}
+
+-- a state within a prefix
+abbrev in_prefix : State → Bool
+in_prefix (Name name.Prefix) = true
+in_prefix (Name name.PrefixDots) = true
+in_prefix s = false
+
+-- a state behind a letter of a prefix
+abbrev at_letter : State → Bool
+at_letter (Name name.Prefix) = true
+at_letter s = false
+
+letter_state : (s : State) → at_letter s ≡ true → s ≡ Name name.Prefix
+letter_state (Name name.Prefix) e = refl
+letter_state s e = absurd (true≢false (sym e))
+
+-- each byte of ASCII: a letter leads to that state from the start and from within a prefix
+abbrev letter_tests : ℕ → Bool
+letter_tests c = not (is_letter c) || (at_letter (step Turtle Start c) && (at_letter (step Turtle (Name name.Prefix) c) && at_letter (step Turtle (Name name.PrefixDots) c)))
+
+-- and a byte of a prefix leads from within one into it again
+abbrev bare_tests : ℕ → Bool
+bare_tests c = not (is_bare_byte c) || (in_prefix (step Turtle (Name name.Prefix) c) && in_prefix (step Turtle (Name name.PrefixDots) c))
+
+implied : (a b : Bool) → (not a || b) ≡ true → a ≡ true → b ≡ true
+implied true b e h = e
+implied false b e h = absurd (true≢false (sym h))
+
+low-letter : (c : ℕ) → is_letter c ≡ true → c < 128
+low-letter c e = grind (arith, nat_tests)
+
+low-bare : (c : ℕ) → is_bare_byte c ≡ true → c < 128
+low-bare c e = grind (arith, nat_tests)
+
+letter_steps : (c : ℕ) → is_letter c ≡ true →
+    (step Turtle Start c ≡ Name name.Prefix) × ((step Turtle (Name name.Prefix) c ≡ Name name.Prefix) × (step Turtle (Name name.PrefixDots) c ≡ Name name.Prefix))
+letter_steps c e =
+    let all = implied (is_letter c) _ (agree_below_at letter_tests (λ c. true) 128 c refl (low-letter c e)) e in
+    let p = and_parts _ _ all in
+    let q = and_parts _ _ p.1 in
+    (letter_state _ p.0, (letter_state _ q.0, letter_state _ q.1))
+
+-- a letter behind a prefix leads where it leads alone
+letter_within : (s : State) (c : ℕ) → in_prefix s ≡ true → is_letter c ≡ true → step Turtle s c ≡ step Turtle Start c
+letter_within (Name name.Prefix) c h e = let p = letter_steps c e in p.1.0 ∙ sym p.0
+letter_within (Name name.PrefixDots) c h e = let p = letter_steps c e in p.1.1 ∙ sym p.0
+letter_within s c h e = absurd (true≢false (sym h))
+
+bare_within : (s : State) (c : ℕ) → in_prefix s ≡ true → is_bare_byte c ≡ true → in_prefix (step Turtle s c) ≡ true
+bare_within s c h e = go s h (and_parts _ _ (implied (is_bare_byte c) _ (agree_below_at bare_tests (λ c. true) 128 c refl (low-bare c e)) e))
+  where
+    go : (s : State) → in_prefix s ≡ true → (in_prefix (step Turtle (Name name.Prefix) c) ≡ true) × (in_prefix (step Turtle (Name name.PrefixDots) c) ≡ true) →
+        in_prefix (step Turtle s c) ≡ true
+    go (Name name.Prefix) h p = p.0
+    go (Name name.PrefixDots) h p = p.1
+    go s h p = absurd (true≢false (sym h))
+
+-- where no front is found, none has a kind, and the other way round
+none_parts : (n : ℕ) (k : Option Kind) (o : Option (ℕ × Kind)) → with_length n k o ≡ None → (k ≡ None) × (o ≡ None)
+none_parts n None o e = (refl, e)
+none_parts n (Some k) o e = absurd (let h : Some (n, k) ≡ None = e in cc)
+
+none_each : (f : List ℕ → Option Kind) (w : List ℕ) (n m : ℕ) → longest_by f w n ≡ None → m < n → f (take (suc m) w) ≡ None
+none_each f w zero m e l = absurd (omega arith)
+none_each f w (suc n) m e l =
+    let p = none_parts (suc n) (f (take (suc n) w)) (longest_by f w n) e in
+    ⊎_elim (λ i. none_each f w n m p.1 i) (λ i. let e : m ≡ n = omega arith in ap (λ j. f (take (suc j) w)) e ∙ p.0) (cases_lt m n)
+
+none_all : (f : List ℕ → Option Kind) (w : List ℕ) (n : ℕ) → ((m : ℕ) → m < n → f (take (suc m) w) ≡ None) → longest_by f w n ≡ None
+none_all f w zero h = refl
+none_all f w (suc n) h =
+    ap (λ k. with_length (suc n) k (longest_by f w n)) (h n (omega arith)) ∙ none_all f w n (λ m l. h m (omega arith))
+
+no_long : (t : Bool) → only_long t None ≡ None
+no_long true = refl
+no_long false = refl
+
+-- three quotes do not begin with a letter
+no_quotes : (c : ℕ) (w : List ℕ) → is_letter c ≡ true → three_quotes Turtle (c ∷ w) ≡ false
+no_quotes c [] e = refl
+no_quotes c (a ∷ []) e = refl
+no_quotes c (a ∷ b ∷ w) e =
+    let p : (c == 34) ≡ false = grind (arith, nat_tests) in
+    let q : (c == 39) ≡ false = grind (arith, nat_tests) in
+    ap (λ t. ((t && a == 34) && b == 34) || ((c == 39 && a == 39) && b == 39)) p ∙ ap (λ t. (t && a == 39) && b == 39) q
+
+-- the state behind a letter and what follows it, from within a prefix and alone
+same_state : (u v : List ℕ) (c : ℕ) → in_prefix (state_of Turtle u) ≡ true → is_letter c ≡ true → state_of Turtle (u ++ c ∷ v) ≡ state_of Turtle (c ∷ v)
+same_state u v c h e = run-append (step Turtle) Start u (c ∷ v) ∙ ap (λ s. run (step Turtle) s v) (letter_within (state_of Turtle u) c h e)
+
+take_over : (u v : List ℕ) (n : ℕ) → take (length u + n) (u ++ v) ≡ u ++ take n v
+take_over [] v n = ap (λ m. take m v) (omega arith)
+take_over (c ∷ u) v n = let e : suc (length u) + n ≡ suc (length u + n) = omega arith in ap (λ m. take m (c ∷ (u ++ v))) e ∙ ap (λ x. c ∷ x) (take_over u v n)
+
+-- what is known behind a prefix holds from its next letter on
+bare_behind : (u v : List ℕ) (c : ℕ) (s : Option State) → three_quotes Turtle (u ++ c ∷ v) ≡ false → in_prefix (state_of Turtle u) ≡ true → is_letter c ≡ true →
+    IsBare Turtle (u ++ c ∷ v) s → IsBare Turtle (c ∷ v) s
+bare_behind u v c s t h e b = record {
+  none = none_all (kind_by_states Turtle (c ∷ v)) (c ∷ v) (length (c ∷ v)) each;
+  state = b.state ∙ ap (open_state Turtle) (same_state u v c h e);
+}
+  where
+    each : (m : ℕ) → m < length (c ∷ v) → kind_by_states Turtle (c ∷ v) (take (suc m) (c ∷ v)) ≡ None
+    each m l =
+        let w = u ++ c ∷ v in
+        let n : suc (length u + m) ≡ length u + suc m = omega arith in
+        let front : take (suc (length u + m)) w ≡ u ++ c ∷ take m v = ap (λ k. take k w) n ∙ take_over u (c ∷ v) (suc m) in
+        let same : state_of Turtle (take (suc (length u + m)) w) ≡ state_of Turtle (c ∷ take m v) = ap (state_of Turtle) front ∙ same_state u (take m v) c h e in
+        let none = none_each (kind_by_states Turtle w) w (length w) (length u + m) b.none (omega (arith, length-append u (c ∷ v))) in
+        let kind : kind_at (state_of Turtle (c ∷ take m v)) ≡ None =
+        ap kind_at (sym same) ∙ (ap (λ x. only_long x (kind_at (state_of Turtle (take (suc (length u + m)) w)))) (sym t) ∙ none) in
+        ap (only_long (three_quotes Turtle (c ∷ v))) kind ∙ no_long (three_quotes Turtle (c ∷ v))
+
+-- one byte of ASCII on
+one_on : (bs : List ℕ) (p : ℕ) → IsAt bs p p → p < length bs → get_or bs p 0 < 128 → (drop p (chars bs) ≡ get_or bs p 0 ∷ drop (p + 1) (chars bs)) × IsAt bs (suc p) (suc p)
+one_on bs p h l a =
+    let c = get_or bs p 0 in
+    let next : p + 1 ≡ p + len_utf8 c = omega (arith, ap length (encode_ascii c a), length-encode c) in
+    let x = char-step bs p p c (p + 1) h (ascii_first bs p l a) next (omega arith) in
+    let one : p + 1 ≡ suc p = omega arith in
+    (x.0, subst (λ n. IsAt bs n n) one x.1)
+
+-- the states stay within a prefix over its bytes
+prefixed : (bs : List ℕ) (end : ℕ) → IsUtf8 bs → IsRun is_bare_byte bs 0 end → is_letter (get_or bs 0 0) ≡ true → (p : ℕ) → p < end →
+    IsAt bs (suc p) (suc p) × (in_prefix (state_of Turtle (take (suc p) (chars bs))) ≡ true)
+prefixed bs end u r e zero l =
+    let c = get_or bs 0 0 in
+    let x = one_on bs 0 (at-start bs u) (omega (arith, r.within)) (low-letter c e) in
+    let state : state_of Turtle (take 1 (chars bs)) ≡ Name name.Prefix = sym (run-more (step Turtle) Start Start (chars bs) _ 0 c x.0 refl) ∙ (letter_steps c e).0 in
+    (x.1, ap in_prefix state)
+prefixed bs end u r e (suc p) l =
+    let h = prefixed bs end u r e p (omega arith) in
+    let c = get_or bs (suc p) 0 in
+    let w = chars bs in
+    let bare : is_bare_byte c ≡ true = r.pass (suc p) (omega arith) l in
+    let x = one_on bs (suc p) h.0 (omega (arith, r.within)) (low-bare c bare) in
+    let one : suc p + 1 ≡ suc (suc p) = omega arith in
+    let state : step Turtle (state_of Turtle (take (suc p) w)) c ≡ state_of Turtle (take (suc (suc p)) w) =
+    run-more (step Turtle) Start (state_of Turtle (take (suc p) w)) w _ (suc p) c x.0 refl ∙ ap (λ n. state_of Turtle (take n w)) one in
+    (x.1, ap in_prefix (sym state) ∙ bare_within (state_of Turtle (take (suc p) w)) c h.1 bare)
+
+-- what is known from a letter on is so up to the end of its run
+pub bare_in : (bs : List ℕ) (end left : ℕ) (s : Option State) → IsUtf8 bs → is_letter (get_or bs 0 0) ≡ true → IsRun is_bare_byte bs 0 end → IsBare Turtle (chars bs) s →
+    left ≡ length bs - end → IsBareIn Turtle bs (Some (record { left = left; state = s }))
+bare_in bs end left s u e r b k = at
+  where
+    at : (p : ℕ) → p + left < length bs → is_letter (get_or bs p 0) ≡ true → IsBare Turtle (chars (drop p bs)) s
+    at zero l f = b
+    at (suc p) l f =
+        let w = chars bs in
+        let within = r.within in
+        let few : p < end = omega (arith, k, within) in
+        let h = prefixed bs end u r e p few in
+        let c = get_or bs (suc p) 0 in
+        let x = one_on bs (suc p) h.0 (omega arith) (low-letter c f) in
+        let v = drop (suc p + 1) w in
+        let first = one_on bs 0 (at-start bs u) (omega arith) (low-letter (get_or bs 0 0) e) in
+        let whole : w ≡ take (suc p) w ++ c ∷ v = sym (take-append-drop (suc p) w) ∙ ap (λ y. take (suc p) w ++ y) x.0 in
+        let quotes : three_quotes Turtle (take (suc p) w ++ c ∷ v) ≡ false =
+        ap (three_quotes Turtle) (sym whole ∙ first.0) ∙ no_quotes (get_or bs 0 0) (drop 1 w) e in
+        subst (λ y. IsBare Turtle y s) (sym x.0 ∙ h.0.left) (bare_behind (take (suc p) w) v c s quotes h.1 f (subst (λ y. IsBare Turtle y s) whole b))
+
+no_bytes : (w : List ℕ) (o : Option (ℕ × Kind)) → None ≡ in_bytes w o → o ≡ None
+no_bytes w None e = refl
+no_bytes w (Some x) e = absurd (let h : None ≡ Some (bytes_of x.0 w, x.1) = e in cc)
+
+-- where a look finds no front, and the other way round
+pub bare_here : (d : Dialect) (w : List ℕ) (len : ℕ) (kind : Option Kind) (state : Option State) →
+    with_length len kind None ≡ in_bytes w (longest_by (kind_by_states d w) w (length w)) → kind ≡ None → state ≡ open_state d (state_of d w) → IsBare d w state
+bare_here d w len kind state f e g = record {
+  none = no_bytes w (longest_by (kind_by_states d w) w (length w)) (sym (ap (λ k. with_length len k None) e) ∙ f);
+  state = g;
+}
+
+pub best_of_bare : (d : Dialect) (w : List ℕ) (s : Option State) → IsBare d w s → None ≡ in_bytes w (longest_by (kind_by_states d w) w (length w))
+best_of_bare d w s b = sym (ap (in_bytes w) b.none)
+
+-- behind some bytes the same is known
+bare_drop : (d : Dialect) (bs : List ℕ) (n : ℕ) (b : Option Bare) → IsBareIn d bs b → IsBareIn d (drop n bs) b
+bare_drop d bs n None h = tt
+bare_drop d bs n (Some b) h = λ p l e.
+    subst (λ y. IsBare d (chars y) b.state) (sym (drop-drop p n bs)) (h (n + p) (omega (arith, l, length-drop n bs)) (ap is_letter (sym (get_or-drop n bs p 0)) ∙ e))
+
+pub bare_advanced : (d : Dialect) (text : List ℕ) (start len : ℕ) (b : Option Bare) → IsBareIn d (drop start text) b → IsBareIn d (drop (start + len) text) b
+bare_advanced d text start len b h = subst (λ y. IsBareIn d y b) (drop-drop len start text) (bare_drop d (drop start text) len b h)

@@ -1,0 +1,30 @@
+-- The table of families against their definition: a test of each byte.
+use Rattle.std.proofs.Common.{◌≡◌, ℕ, ◌<◌, true, List, [], ◌∷◌, ◌==◌, refl, sym, ap, ◌∙◌, get_or}
+use Rattle.std.proofs.lemmas.Bool.{agree_below_at, eqb-true}
+use Rattle.rdf_tokens.specs.declared.states.machine.Family.{Family}
+use Rattle.rdf_tokens.specs.declared.states.machine.Family.TheVariants as family
+use Rattle.rdf_tokens.specs.declared.states.machine.TheConstants.{FAMILIES}
+use Rattle.rdf_tokens.specs.Machine.{ascii}
+
+abbrev all : List Family
+all = family.Iri ∷ family.Label ∷ family.Text ∷ family.Tag ∷ family.Number ∷ family.Name ∷ family.None ∷ []
+
+abbrev place : Family → ℕ
+place family.Iri = 0
+place family.Label = 1
+place family.Text = 2
+place family.Tag = 3
+place family.Number = 4
+place family.Name = 5
+place family.None = 6
+
+at_place : (x : Family) → get_or all (place x) family.Iri ≡ x
+at_place family.Iri = refl
+at_place x = refl
+
+same_place : (x y : Family) → place x ≡ place y → x ≡ y
+same_place x y e = sym (at_place x) ∙ (ap (λ n. get_or all n family.Iri) e ∙ at_place y)
+
+pub table-ascii : (c : ℕ) → c < 128 → get_or FAMILIES c family.Iri ≡ ascii c
+table-ascii c l =
+    same_place _ _ (eqb-true _ _ (agree_below_at (λ c. place (get_or FAMILIES c family.Iri) == place (ascii c)) (λ c. true) 128 c refl l))
