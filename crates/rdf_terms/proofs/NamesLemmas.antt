@@ -290,13 +290,13 @@ ns-ends : (w : List ℕ) → Shape Turtle PnameNs w → (v : List ℕ) × (w ≡
 unfolding shape
 ns-ends w m = (m.0, m.4 ∙ ap (λ x. m.0 ++ x) (colon_alone m.1 m.3))
 
-bytes_colon : encode_utf8_all (58 ∷ []) ≡ 58 ∷ []
+pub bytes_colon : encode_utf8_all (58 ∷ []) ≡ 58 ∷ []
 bytes_colon = ap (λ x. x ++ []) (encode_ascii 58 (omega arith))
 
-utf8_colon : IsUtf8 (58 ∷ [])
+pub utf8_colon : IsUtf8 (58 ∷ [])
 utf8_colon = (58 ∷ [], (refl, bytes_colon))
 
-chars_colon : chars (58 ∷ []) ≡ 58 ∷ []
+pub chars_colon : chars (58 ∷ []) ≡ 58 ∷ []
 chars_colon = ap chars (sym bytes_colon) ∙ chars-encodes (58 ∷ []) refl
 
 -- by the bytes before the colon
