@@ -12,4 +12,8 @@ pub mod InPlace
 pub mod Slices
 pub mod ResolvedText
 pub mod ScopeLemmas
+pub mod BindingLemmas
+pub mod BindingSteps
+pub mod BindingFiles
+pub mod BindingLaws
 pub mod LawLemmas

@@ -6,6 +6,7 @@ pub mod Resolution
 pub mod Limits
 pub mod Faults
 pub mod Scope
+pub mod Bindings
 -- what need not be: functions that compute, what the code's side speaks of, and the laws, which say that both agree
 pub mod Cuts
 pub mod Parts
@@ -13,4 +14,6 @@ pub mod Dots
 pub mod Resolve
 pub mod Seen
 pub mod Rules
+pub mod BindingSteps
 pub mod Laws
+pub mod BindingLaws

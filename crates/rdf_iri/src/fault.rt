@@ -38,3 +38,27 @@ impl<T: Drop> From<AllocFailed<T>> for IriFault {
         IriFault::Memory
     }
 }
+
+/// Why a line of a file of bindings was refused.
+#[derive(Clone, Copy, Debug, PartialEq, Eq)]
+pub enum BindingReason {
+    /// The line is neither empty nor a binding, or it is not UTF-8.
+    BadBinding,
+    /// The prefix with its colon has more characters than a token may have.
+    TokenTooLong,
+    /// The IRI has more bytes than the limit.
+    IriTooLong,
+    /// The prefix is new, and as many are bound as may be.
+    TooManyBindings,
+    /// A growth of memory was refused.
+    Memory,
+}
+
+/// Why a file of bindings was not read, and at which line, counted from 1. After want of memory the line is any.
+#[derive(Clone, Copy, Debug, PartialEq, Eq)]
+pub struct BindingFault {
+    /// What is wrong with the line.
+    pub reason: BindingReason,
+    /// The line.
+    pub line: u64,
+}

@@ -1,5 +1,6 @@
-//! The laws of references. These functions do nothing: their contracts are the laws.
+//! The laws of references and of files of bindings. These functions do nothing: their contracts are the laws.
 
+ghost use Rattle.rdf_iri.specs.BindingLaws.{FailingFilesAreNone};
 ghost use Rattle.rdf_iri.specs.Laws.{ReferencesSplitOnce, DotsHaveOneResult, ReferencesHaveOneResult, PartsAreComputed, DotsAreComputed, ResultsAreComputed};
 
 /// A reference splits into its five parts in one way.
@@ -30,4 +31,9 @@ pub fn dots_are_computed()
 /// `resolved` computes the IRI that a reference resolves to, and there is none without a scheme and a base.
 pub fn results_are_computed()
     ensures { ResultsAreComputed }
+{}
+
+/// A file of which a line fails is no file of bindings within the limits: such a file is refused for want of memory alone.
+pub fn failing_files_are_none()
+    ensures { FailingFilesAreNone }
 {}

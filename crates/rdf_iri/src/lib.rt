@@ -1,6 +1,7 @@
 //! References of RFC 3986, the scope of a document (a base and prefixes), and the limits that every reader keeps.
 #![tactic(auto)]
 
+mod bindings;
 mod dots;
 mod fault;
 pub mod laws;
@@ -10,7 +11,8 @@ mod places;
 mod resolution;
 mod scope;
 
-pub use fault::IriFault;
+pub use bindings::{Bindings, read_bindings};
+pub use fault::{BindingFault, BindingReason, IriFault};
 pub use limits::Limits;
 pub use parts::{Parts, split};
 pub use rdf_terms::has_scheme;

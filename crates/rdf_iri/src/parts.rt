@@ -76,7 +76,7 @@ fn cut_authority(text: &str) -> (Option<&str>, &str)
 }
 
 /// What stands before the first mark, and what stands behind it.
-fn cut(text: &str, mark: char) -> (&str, Option<&str>)
+pub(crate) fn cut(text: &str, mark: char) -> (&str, Option<&str>)
     requires { mark < 128 }
     ensures front { result.0.now ≡ before mark text.now }
     ensures rest { text_of result.1 ≡ after mark text.now }

@@ -1,10 +1,12 @@
 // The scope of a document: a base and prefixes.
 
-ghost use Rattle.std.specs.Prelude.{◌≡◌, ◌++◌, ◌*◌, ◌≤◌, [], IfOk, IfErr, OnOk, OnErr, MatchBool, length};
+ghost use Rattle.std.specs.Prelude.{◌≡◌, ℕ, List, Some, ◌++◌, ◌*◌, ◌≤◌, [], IfOk, IfErr, OnOk, OnErr, MatchBool, length};
 ghost use Rattle.std.specs.Str.{chars};
+ghost use Rattle.rdf_terms.specs.Terms.{IsIri};
 ghost use Rattle.rdf_iri.specs.Texts.{IsIriText, byte_len};
-ghost use Rattle.rdf_iri.specs.Scope.{BaseFits, ResolvesHere, UnresolvedHere, IsBased, IsBound, NotBound, HasRoom, IsFull, ExpandsHere, NotExpanded, NotJoined};
+ghost use Rattle.rdf_iri.specs.Scope.{BaseFits, bound_to, ResolvesHere, UnresolvedHere, IsBased, IsBound, NotBound, HasRoom, IsFull, ExpandsHere, NotExpanded, NotJoined};
 
+use crate::bindings::Bindings;
 use crate::fault::IriFault;
 use crate::limits::Limits;
 use crate::resolution::resolve;
@@ -43,6 +45,40 @@ impl<A: Allocator + Copy> Scope<A> {
             base,
             limits,
             names: BTreeMap::new(alloc),
+        }
+    }
+
+    /// A scope with this base, or none, and the prefixes that are handed in. It takes no memory.
+    pub fn starting(
+        alloc: A,
+        base: Option<Iri<A>>,
+        limits: Limits,
+        bindings: Bindings<A>,
+    ) -> Scope<A>
+        requires base { BaseFits base limits }
+        requires limits { bindings.limits ≡ limits }
+        ensures { result ≡ record { base = base; bindings = bindings.bindings; limits = limits } }
+    {
+        let mut scope = Scope::new(alloc, base, limits);
+        scope.names = bindings.names;
+        scope
+    }
+
+    /// The limits.
+    pub(crate) fn limits(&self) -> Limits
+        ensures { result ≡ self.now.limits }
+    {
+        self.limits
+    }
+
+    /// The prefixes that are bound, and their IRIs.
+    pub(crate) fn into_bindings(self) -> Bindings<A>
+        requires { (prefix iri : List ℕ) → bound_to self.bindings prefix ≡ Some iri → IsIri iri }
+        ensures { result ≡ record { bindings = self.bindings; limits = self.limits } }
+    {
+        Bindings {
+            names: self.names,
+            limits: self.limits,
         }
     }
 

@@ -1,7 +1,8 @@
 -- The characters of a text, one by one.
-use Rattle.std.proofs.Common.{◌≡◌, ℕ, List, [], ◌∷◌, ◌++◌, length, encode_utf8, refl, ap, ◌∙◌, arith}
-use Rattle.std.specs.Str.{chars, IsUtf8}
-use Rattle.std.proofs.lemmas.Str.{IsUtf8-past_char, chars_past_char, chars-nil}
+use Rattle.std.proofs.Common.{◌≡◌, ℕ, List, [], ◌∷◌, ◌++◌, length, take, encode_utf8, refl, sym, ap, ◌∙◌, subst, arith}
+use Rattle.std.specs.Str.{chars, IsUtf8, encode_utf8_all}
+use Rattle.std.proofs.Math.Seq.{take-append_seam}
+use Rattle.std.proofs.lemmas.Str.{IsUtf8-past_char, IsUtf8-take, IsCharBoundary-at_seam, chars_past_char, chars-append, chars-nil, encodes-append, encodes-chars}
 
 -- a text that begins with a character
 pub record Next (bytes rest : List ℕ) (c : ℕ) : Type 0 where
@@ -17,3 +18,17 @@ empty_list (c ∷ w) e = absurd (omega arith)
 
 pub no_chars : (bytes : List ℕ) → length bytes ≡ 0 → chars bytes ≡ []
 no_chars bytes e = ap chars (empty_list bytes e) ∙ chars-nil
+
+-- a text and one ASCII character behind it
+pub record Before (bytes front : List ℕ) (c : ℕ) : Type 0 where
+  pub chars : chars bytes ≡ chars front ++ c ∷ []
+  pub utf8 : IsUtf8 front
+
+pub before_last : (bytes front : List ℕ) (c : ℕ) → IsUtf8 (c ∷ []) → chars (c ∷ []) ≡ c ∷ [] → IsUtf8 bytes → bytes ≡ front ++ c ∷ [] → Before bytes front c
+before_last bytes front c k d u e =
+    let cut : IsUtf8 (take (length front) bytes) = IsUtf8-take bytes (length front) u (IsCharBoundary-at_seam bytes front (c ∷ []) e k) in
+    let utf8 : IsUtf8 front = subst IsUtf8 (ap (take (length front)) e ∙ take-append_seam front (c ∷ [])) cut in
+    record { chars = ap chars e ∙ (chars-append front (c ∷ []) utf8 ∙ ap (λ x. chars front ++ x) d); utf8 = utf8 }
+
+pub last_char : (bytes v : List ℕ) (c : ℕ) → encode_utf8_all (c ∷ []) ≡ c ∷ [] → IsUtf8 bytes → chars bytes ≡ v ++ c ∷ [] → bytes ≡ encode_utf8_all v ++ c ∷ []
+last_char bytes v c k u e = sym (encodes-chars bytes u) ∙ (ap encode_utf8_all e ∙ (encodes-append v (c ∷ []) ∙ ap (λ x. encode_utf8_all v ++ x) k))

@@ -1,14 +1,20 @@
--- What is read character by character as a label or a tag matches its expression, and nothing else does.
-use Rattle.std.proofs.Common.{◌≡◌, ℕ, Bool, true, false, cond, List, [], ◌∷◌, ◌++◌, ◌&&◌, ◌==◌, ◌⊎◌, ◌↔◌, Option, Some, None, inl, inr, refl, sym, ap, ◌∙◌, subst, ⊎_elim}
+-- What is read character by character as a label, a prefix or a tag matches its expression, and nothing else does.
+use Rattle.std.proofs.Common.{◌≡◌, ◌≢◌, ℕ, Bool, true, false, cond, List, [], ◌∷◌, ◌++◌, ◌&&◌, ◌==◌, ◌⊎◌, ◌↔◌, length, Option, Some, None, inl, inr, refl, sym, ap, ◌∙◌, subst, ⊎_elim, arith}
 use Rattle.std.proofs.lemmas.Bool.{and_parts, and_from, or_cases, or_left, or_right, eqb-true, cases_Bool, cond-true, cond-false, false≢true}
 use Rattle.rdf_terms.specs.Classes.{Class, has, scalar}
-use Rattle.rdf_terms.specs.Classes.Class.{the, digit, letter, letter_or_digit, pn_u, pn_char}
-use Rattle.rdf_terms.specs.declared.kind.Dialect.TheVariants.{Lines}
+use Rattle.rdf_terms.specs.Classes.Class.{the, digit, letter, letter_or_digit, pn_base, pn_u, pn_char}
+use Rattle.rdf_terms.specs.declared.kind.Dialect.{Dialect}
+use Rattle.rdf_terms.specs.declared.kind.Dialect.TheVariants.{Lines, Turtle}
+use Rattle.rdf_terms.specs.declared.kind.Kind.TheVariants.{PnameNs}
 use Rattle.rdf_terms.specs.Regex.{Regex, Matches, after}
 use Rattle.rdf_terms.specs.Regex.Regex.{one, ◌·◌, ◌∣◌, many}
-use Rattle.rdf_terms.specs.Shapes.{optional, some, dot, label_name}
+use Rattle.rdf_terms.specs.Shapes.{optional, some, dot, pn_prefix, label_name, shape, Shape}
 use Rattle.rdf_terms.specs.Terms.{IsLabel, IsTag}
-use Rattle.rdf_terms.specs.Names.{begins_label, label_goes_on, Place, start, letters, hyphen, part, after_tag, if_some, tag_goes_on}
+use Rattle.rdf_terms.specs.Names.{begins_label, name_goes_on, Place, start, letters, hyphen, part, after_tag, if_some, tag_goes_on}
+use Rattle.std.specs.Str.{chars, IsUtf8, encode_utf8_all}
+use Rattle.std.proofs.lemmas.Str.{chars-encodes, encodes-chars, encode_ascii}
+use Rattle.std.proofs.lemmas.List.{append_cancel_right}
+use Rattle.rdf_terms.proofs.CharsLemmas.{before_last, last_char, no_chars}
 use Rattle.rdf_terms.proofs.RegexLemmas.{matches-nullable, after-matches, matches-after}
 
 -- a character of a class, before a text
@@ -136,9 +142,10 @@ no_letter_or_digit : has letter_or_digit 45 ≡ false
 unfolding has
 no_letter_or_digit = refl
 
-no_pn_char : has (pn_char Lines) 46 ≡ false
+no_pn_char : (d : Dialect) → has (pn_char d) 46 ≡ false
 unfolding has
-no_pn_char = refl
+no_pn_char Lines = refl
+no_pn_char Turtle = refl
 
 matches-tag : (p : Place) (w : List ℕ) → Matches (rest_of_tag p) w → tag_goes_on p w ≡ true
 matches-tag start [] m = absurd (false≢true (matches-nullable (rest_of_tag start) m))
@@ -167,84 +174,150 @@ matches-tag part (c ∷ w) m =
 pub tag_goes_on-IsTag : (b : Bool) (w : List ℕ) → b ≡ tag_goes_on start w → (b ≡ true) ↔ IsTag w
 tag_goes_on-IsTag b w e = (λ h. tag-matches start w (sym e ∙ h), λ m. e ∙ matches-tag start w m)
 
--- the rest of a label behind a character that is no end
-abbrev longer_label : Regex
-longer_label = many (one (pn_char Lines) ∣ dot) · one (pn_char Lines)
+-- the rest of a label or a prefix behind a character that is no end
+abbrev longer_name : Dialect → Regex
+longer_name d = many (one (pn_char d) ∣ dot) · one (pn_char d)
 
-abbrev rest_of_label : Bool → Regex
-rest_of_label true = optional longer_label
-rest_of_label false = longer_label
+abbrev rest_of_name : Dialect → Bool → Regex
+rest_of_name d true = optional (longer_name d)
+rest_of_name d false = longer_name d
 
-longer : (b : Bool) (w : List ℕ) → Matches longer_label w → Matches (rest_of_label b) w
-longer true w m = inr m
-longer false w m = m
+longer : (d : Dialect) (b : Bool) (w : List ℕ) → Matches (longer_name d) w → Matches (rest_of_name d b) w
+longer d true w m = inr m
+longer d false w m = m
 
-label-more : (c : ℕ) (w : List ℕ) → Matches (one (pn_char Lines) ∣ dot) (c ∷ []) → Matches longer_label w → Matches longer_label (c ∷ w)
-label-more c w h m = (c ∷ m.0, m.1, ((c ∷ []) ∷ m.2.0, (h, m.2.1), ap (λ x. c ∷ x) m.2.2), m.3, ap (λ x. c ∷ x) m.4)
+name-more : (d : Dialect) (c : ℕ) (w : List ℕ) → Matches (one (pn_char d) ∣ dot) (c ∷ []) → Matches (longer_name d) w → Matches (longer_name d) (c ∷ w)
+name-more d c w h m = (c ∷ m.0, m.1, ((c ∷ []) ∷ m.2.0, (h, m.2.1), ap (λ x. c ∷ x) m.2.2), m.3, ap (λ x. c ∷ x) m.4)
 
-label-last : (c : ℕ) (w : List ℕ) → has (pn_char Lines) c ≡ true → Matches (optional longer_label) w → Matches longer_label (c ∷ w)
-label-last c w h m =
+name-last : (d : Dialect) (c : ℕ) (w : List ℕ) → has (pn_char d) c ≡ true → Matches (optional (longer_name d)) w → Matches (longer_name d) (c ∷ w)
+name-last d c w h m =
     ⊎_elim
-    (λ none. ([], c ∷ [], ([], tt, refl), one-matches (pn_char Lines) c h, ap (λ x. c ∷ x) none))
-    (λ more. label-more c w (inl (one-matches (pn_char Lines) c h)) more)
+    (λ none. ([], c ∷ [], ([], tt, refl), one-matches (pn_char d) c h, ap (λ x. c ∷ x) none))
+    (λ more. name-more d c w (inl (one-matches (pn_char d) c h)) more)
     m
 
-label-matches : (b : Bool) (w : List ℕ) → label_goes_on b w ≡ true → Matches (rest_of_label b) w
-label-matches true [] h = inl refl
-label-matches false [] h = absurd (false≢true h)
-label-matches b (c ∷ w) h =
+name-matches : (d : Dialect) (b : Bool) (w : List ℕ) → name_goes_on d b w ≡ true → Matches (rest_of_name d b) w
+name-matches d true [] h = inl refl
+name-matches d false [] h = absurd (false≢true h)
+name-matches d b (c ∷ w) h =
     ⊎_elim
-    (λ e. longer b (c ∷ w) (label-last c w e (label-matches true w (sym (cond-true _ _ _ e) ∙ h))))
-    (λ e. let p = and_parts (has (the 46) c) (label_goes_on false w) (sym (cond-false _ _ _ e) ∙ h) in
-    longer b (c ∷ w) (label-more c w (inr (one-matches (the 46) c p.0)) (label-matches false w p.1)))
-    (cases_Bool (has (pn_char Lines) c))
+    (λ e. longer d b (c ∷ w) (name-last d c w e (name-matches d true w (sym (cond-true _ _ _ e) ∙ h))))
+    (λ e. let p = and_parts (has (the 46) c) (name_goes_on d false w) (sym (cond-false _ _ _ e) ∙ h) in
+    longer d b (c ∷ w) (name-more d c w (inr (one-matches (the 46) c p.0)) (name-matches d false w p.1)))
+    (cases_Bool (has (pn_char d) c))
 
--- a longer label goes on with a character that may end it, or with a dot
-label-step : (c : ℕ) (w : List ℕ) → Matches longer_label (c ∷ w) →
-    ((has (pn_char Lines) c ≡ true) × Matches (optional longer_label) w) ⊎ ((has (the 46) c ≡ true) × Matches longer_label w)
-label-step c w m =
+-- a longer name goes on with a character that may end it, or with a dot
+name-step : (d : Dialect) (c : ℕ) (w : List ℕ) → Matches (longer_name d) (c ∷ w) →
+    ((has (pn_char d) c ≡ true) × Matches (optional (longer_name d)) w) ⊎ ((has (the 46) c ≡ true) × Matches (longer_name d) w)
+name-step d c w m =
     ⊎_elim
     (λ a. ⊎_elim
-    (λ x. let f = first_of_class (pn_char Lines) c a.2.0 x in
+    (λ x. let f = first_of_class (pn_char d) c a.2.0 x in
     inl (f.is, inr (a.2.1, a.1, a.2.3, a.3, a.4 ∙ ap (λ u. u ++ a.1) (a.2.4 ∙ ap (λ p. p ++ a.2.1) f.alone))))
     (λ x. let f = first_of_class (the 46) c a.2.0 x in
     inr (f.is, (a.2.1, a.1, a.2.3, a.3, a.4 ∙ ap (λ u. u ++ a.1) (a.2.4 ∙ ap (λ p. p ++ a.2.1) f.alone))))
     a.2.2)
-    (λ a. let f = first_of_class (pn_char Lines) c w a in inl (f.is, inl f.alone))
-    (matches-after longer_label c w m)
+    (λ a. let f = first_of_class (pn_char d) c w a in inl (f.is, inl f.alone))
+    (matches-after (longer_name d) c w m)
 
-not_empty : (b : Bool) (c : ℕ) (w : List ℕ) → Matches (rest_of_label b) (c ∷ w) → Matches longer_label (c ∷ w)
-not_empty true c w m = ⊎_elim (λ e. absurd (cc)) (λ h. h) m
-not_empty false c w m = m
+not_empty : (d : Dialect) (b : Bool) (c : ℕ) (w : List ℕ) → Matches (rest_of_name d b) (c ∷ w) → Matches (longer_name d) (c ∷ w)
+not_empty d true c w m = ⊎_elim (λ e. absurd (cc)) (λ h. h) m
+not_empty d false c w m = m
 
-matches-label : (b : Bool) (w : List ℕ) → Matches (rest_of_label b) w → label_goes_on b w ≡ true
-matches-label true [] m = refl
-matches-label false [] m = absurd (false≢true (matches-nullable longer_label m))
-matches-label b (c ∷ w) m =
+matches-name : (d : Dialect) (b : Bool) (w : List ℕ) → Matches (rest_of_name d b) w → name_goes_on d b w ≡ true
+matches-name d true [] m = refl
+matches-name d false [] m = absurd (false≢true (matches-nullable (longer_name d) m))
+matches-name d b (c ∷ w) m =
     ⊎_elim
-    (λ a. cond-true _ _ _ a.0 ∙ matches-label true w a.1)
-    (λ a. cond-false _ _ _ (apart (pn_char Lines) 46 c a.0 no_pn_char) ∙ and_from _ _ a.0 (matches-label false w a.1))
-    (label-step c w (not_empty b c w m))
+    (λ a. cond-true _ _ _ a.0 ∙ matches-name d true w a.1)
+    (λ a. cond-false _ _ _ (apart (pn_char d) 46 c a.0 (no_pn_char d)) ∙ and_from _ _ a.0 (matches-name d false w a.1))
+    (name-step d c w (not_empty d b c w m))
 
-label-begin : (c : ℕ) (w : List ℕ) → begins_label c ≡ true → Matches (optional longer_label) w → IsLabel (c ∷ w)
+label-begin : (c : ℕ) (w : List ℕ) → begins_label c ≡ true → Matches (optional (longer_name Lines)) w → IsLabel (c ∷ w)
 label-begin c w h m =
     (c ∷ [], w, ⊎_elim (λ x. inl (one-matches (pn_u Lines) c x)) (λ x. inr (one-matches digit c x)) (or_cases _ _ h), m, refl)
 
-begin-label : (c : ℕ) (w : List ℕ) → IsLabel (c ∷ w) → (begins_label c ≡ true) × Matches (optional longer_label) w
+begin-label : (c : ℕ) (w : List ℕ) → IsLabel (c ∷ w) → (begins_label c ≡ true) × Matches (optional (longer_name Lines)) w
 begin-label c w m =
     let a = matches-after (label_name Lines) c w m in
     ⊎_elim
     (λ x. let f = first_of_class (pn_u Lines) c a.0 x in
-    (or_left _ _ f.is, subst (Matches (optional longer_label)) (sym (a.4 ∙ ap (λ p. p ++ a.1) f.alone)) a.3))
+    (or_left _ _ f.is, subst (Matches (optional (longer_name Lines))) (sym (a.4 ∙ ap (λ p. p ++ a.1) f.alone)) a.3))
     (λ x. let f = first_of_class digit c a.0 x in
-    (or_right _ _ f.is, subst (Matches (optional longer_label)) (sym (a.4 ∙ ap (λ p. p ++ a.1) f.alone)) a.3))
+    (or_right _ _ f.is, subst (Matches (optional (longer_name Lines))) (sym (a.4 ∙ ap (λ p. p ++ a.1) f.alone)) a.3))
     a.2
 
-pub label_goes_on-IsLabel : (b : Bool) (c : ℕ) (w : List ℕ) → b ≡ (begins_label c && label_goes_on true w) → (b ≡ true) ↔ IsLabel (c ∷ w)
-label_goes_on-IsLabel b c w e = (
-  λ h. let p = and_parts (begins_label c) (label_goes_on true w) (sym e ∙ h) in label-begin c w p.0 (label-matches true w p.1),
-  λ m. let p = begin-label c w m in e ∙ and_from _ _ p.0 (matches-label true w p.1),
+pub name_goes_on-IsLabel : (b : Bool) (c : ℕ) (w : List ℕ) → b ≡ (begins_label c && name_goes_on Lines true w) → (b ≡ true) ↔ IsLabel (c ∷ w)
+name_goes_on-IsLabel b c w e = (
+  λ h. let p = and_parts (begins_label c) (name_goes_on Lines true w) (sym e ∙ h) in label-begin c w p.0 (name-matches Lines true w p.1),
+  λ m. let p = begin-label c w m in e ∙ and_from _ _ p.0 (matches-name Lines true w p.1),
 )
+
+-- the colon
+colon : has (the 58) 58 ≡ true
+unfolding has
+colon = refl
+
+colon_alone : (w : List ℕ) → Matches (one (the 58)) w → w ≡ 58 ∷ []
+unfolding has
+colon_alone w m = m.2 ∙ ap (λ c. c ∷ []) (eqb-true m.0 58 (and_parts (scalar m.0) (m.0 == 58) m.1).1)
+
+-- a prefix begins with a character of its own class
+begin-prefix : (c : ℕ) (w : List ℕ) → Matches pn_prefix (c ∷ w) → (has pn_base c ≡ true) × Matches (optional (longer_name Turtle)) w
+begin-prefix c w m =
+    let a = matches-after pn_prefix c w m in
+    let f = first_of_class pn_base c a.0 a.2 in
+    (f.is, subst (Matches (optional (longer_name Turtle))) (sym (a.4 ∙ ap (λ p. p ++ a.1) f.alone)) a.3)
+
+pub name_goes_on-prefix : (b : Bool) (c : ℕ) (w : List ℕ) → b ≡ (has pn_base c && name_goes_on Turtle true w) → (b ≡ true) ↔ Matches pn_prefix (c ∷ w)
+name_goes_on-prefix b c w e = (
+  λ h. let p = and_parts (has pn_base c) (name_goes_on Turtle true w) (sym e ∙ h) in (c ∷ [], w, one-matches pn_base c p.0, name-matches Turtle true w p.1, refl),
+  λ m. let p = begin-prefix c w m in e ∙ and_from _ _ p.0 (matches-name Turtle true w p.1),
+)
+
+-- a text that ends in a colon is one or not as what stands before it is empty or a prefix
+prefix-ns : (v : List ℕ) → (v ≡ []) ⊎ Matches pn_prefix v → Shape Turtle PnameNs (v ++ 58 ∷ [])
+unfolding shape
+prefix-ns v h = (v, 58 ∷ [], h, one-matches (the 58) 58 colon, refl)
+
+ns-prefix : (v : List ℕ) → Shape Turtle PnameNs (v ++ 58 ∷ []) → (v ≡ []) ⊎ Matches pn_prefix v
+unfolding shape
+ns-prefix v m =
+    let s : v ≡ m.0 = append_cancel_right v m.0 (58 ∷ []) (m.4 ∙ ap (λ x. m.0 ++ x) (colon_alone m.1 m.3)) in
+    subst (λ x. (x ≡ []) ⊎ Matches pn_prefix x) (sym s) m.2
+
+ns-ends : (w : List ℕ) → Shape Turtle PnameNs w → (v : List ℕ) × (w ≡ v ++ 58 ∷ [])
+unfolding shape
+ns-ends w m = (m.0, m.4 ∙ ap (λ x. m.0 ++ x) (colon_alone m.1 m.3))
+
+pub bytes_colon : encode_utf8_all (58 ∷ []) ≡ 58 ∷ []
+bytes_colon = ap (λ x. x ++ []) (encode_ascii 58 (omega arith))
+
+pub utf8_colon : IsUtf8 (58 ∷ [])
+utf8_colon = (58 ∷ [], (refl, bytes_colon))
+
+pub chars_colon : chars (58 ∷ []) ≡ 58 ∷ []
+chars_colon = ap chars (sym bytes_colon) ∙ chars-encodes (58 ∷ []) refl
+
+-- by the bytes before the colon
+pub ns_of_prefix : (b : Bool) (bytes front : List ℕ) → IsUtf8 bytes → bytes ≡ front ++ 58 ∷ [] → (b ≡ true) ↔ Matches pn_prefix (chars front) → (length front ≡ 0 → ⊥) →
+    (b ≡ true) ↔ Shape Turtle PnameNs (chars bytes)
+ns_of_prefix b bytes front u e h n =
+    let k = before_last bytes front 58 utf8_colon chars_colon u e in (
+      λ t. subst (Shape Turtle PnameNs) (sym k.chars) (prefix-ns (chars front) (inr (h.0 t))),
+      λ m. ⊎_elim
+          (λ none. absurd (n (ap length (sym (encodes-chars front k.utf8) ∙ ap encode_utf8_all none))))
+          (λ p. h.1 p)
+          (ns-prefix (chars front) (subst (Shape Turtle PnameNs) k.chars m)),
+    )
+
+pub ns_of_nothing : (bytes front : List ℕ) → IsUtf8 bytes → bytes ≡ front ++ 58 ∷ [] → length front ≡ 0 → Shape Turtle PnameNs (chars bytes)
+ns_of_nothing bytes front u e n =
+    let k = before_last bytes front 58 utf8_colon chars_colon u e in
+    subst (Shape Turtle PnameNs) (sym k.chars) (prefix-ns (chars front) (inl (no_chars front n)))
+
+pub ns_without_colon : (bytes : List ℕ) → IsUtf8 bytes → ((front : List ℕ) → bytes ≢ front ++ 58 ∷ []) → Shape Turtle PnameNs (chars bytes) → ⊥
+ns_without_colon bytes u n m = let v = ns-ends (chars bytes) m in n (encode_utf8_all v.0) (last_char bytes v.0 58 bytes_colon u v.1)
 
 pub no_label : IsLabel [] → ⊥
 no_label m = false≢true (matches-nullable (label_name Lines) m)

@@ -1,7 +1,8 @@
--- Labels and tags, read character by character.
+-- Labels, prefixes and tags, read character by character.
 use Rattle.std.specs.Prelude.{ℕ, Bool, true, false, cond, List, [], ◌∷◌, ◌&&◌, ◌||◌, Option, Some, None}
 use Rattle.rdf_terms.specs.Classes.{has}
 use Rattle.rdf_terms.specs.Classes.Class.{the, digit, letter, letter_or_digit, pn_u, pn_char}
+use Rattle.rdf_terms.specs.declared.kind.Dialect.{Dialect}
 use Rattle.rdf_terms.specs.declared.kind.Dialect.TheVariants.{Lines}
 use Rattle.rdf_terms.specs.declared.tags.Place.{Place as CodePlace}
 use Rattle.rdf_terms.specs.declared.tags.Place.TheVariants.{Start, Letters, Hyphen, Part}
@@ -9,10 +10,10 @@ use Rattle.rdf_terms.specs.declared.tags.Place.TheVariants.{Start, Letters, Hyph
 abbrev pub begins_label : ℕ → Bool
 begins_label c = has (pn_u Lines) c || has digit c
 
--- the rest of a label, where the characters before it may or may not be its end
-abbrev pub label_goes_on : Bool → List ℕ → Bool
-label_goes_on ends [] = ends
-label_goes_on ends (c ∷ w) = cond (has (pn_char Lines) c) (label_goes_on true w) (has (the 46) c && label_goes_on false w)
+-- the rest of a label or a prefix, where the characters before it may or may not be its end
+abbrev pub name_goes_on : Dialect → Bool → List ℕ → Bool
+name_goes_on d ends [] = ends
+name_goes_on d ends (c ∷ w) = cond (has (pn_char d) c) (name_goes_on d true w) (has (the 46) c && name_goes_on d false w)
 
 -- where a character of a tag stands: at the start, behind letters of the first part, a hyphen, or what stands in a later part
 pub data Place : Type 0 where

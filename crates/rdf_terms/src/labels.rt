@@ -1,21 +1,19 @@
 // Labels that own their texts.
 
-ghost use Rattle.std.specs.Prelude.{◌≡◌, ◌↔◌, IfOk, OnOk, Err, IsUtf8, true};
+ghost use Rattle.std.specs.Prelude.{◌≡◌, ◌↔◌, IfOk, OnOk, Err, true};
 ghost use Rattle.std.specs.Str.{chars};
-ghost use Rattle.std.specs.Str.Iter.{chars_rest};
 ghost use Rattle.rdf_terms.specs.Classes.{has};
-ghost use Rattle.rdf_terms.specs.Classes.Class.{the};
-ghost use Rattle.rdf_terms.specs.Names.{begins_label, label_goes_on};
+ghost use Rattle.rdf_terms.specs.Names.{begins_label};
 ghost use Rattle.rdf_terms.specs.Terms.{IsLabel};
 ghost use Rattle.rdf_terms.specs.Views.{label_chars};
 
-use crate::classes::{is_pn_char, is_pn_u};
+use crate::classes::is_pn_u;
 use crate::fault::TermFault;
 use crate::kind::Dialect;
+use crate::names::name_goes_on;
 use crate::views::LabelView;
 use std::alloc::{AllocError, Allocator, Global};
 use std::marker::Model;
-use std::str::Chars;
 
 /// The part of a blank node label behind `_:`, of the line formats.
 #[derive(Drop)]
@@ -84,7 +82,7 @@ fn is_label(text: &str) -> bool
 {
     let mut rest = text.chars();
     match rest.next() {
-        Some(c) => begins_label(c) && label_goes_on(rest),
+        Some(c) => begins_label(c) && name_goes_on(rest, Dialect::Lines),
         None => false,
     }
 }
@@ -94,26 +92,4 @@ fn begins_label(c: char) -> bool
     ensures { result ≡ begins_label c }
 {
     is_pn_u(c, Dialect::Lines) || matches!(c, '0'..='9')
-}
-
-/// Whether the rest of a label has its characters, and the last of them is no dot.
-fn label_goes_on(rest: Chars<'_>) -> bool
-    requires { IsUtf8 (chars_rest rest) }
-    ensures { result ≡ label_goes_on true (chars (chars_rest rest.entry)) }
-{
-    let mut ends = true;
-    for c in rest {
-        ends = is_pn_char(c, Dialect::Lines);
-        if !ends && !is_dot(c) {
-            return false;
-        }
-    }
-    ends
-}
-
-#[tactic(auto, unfolding(crate::specs::Classes::has))]
-fn is_dot(c: char) -> bool
-    ensures { result ≡ has (the 46) c }
-{
-    c == '.'
 }

@@ -51,6 +51,18 @@ fn an_iri_is_absolute(rt: HostRuntime) {
 }
 
 #[test]
+fn a_prefix_has_its_colon_and_ends_in_no_dot(rt: HostRuntime) {
+    for text in [":", "x:", "é:", "a.b:", "a-:", "a\u{B7}1:"] {
+        assert!(rt; is_pname_ns(text), "{text}");
+    }
+    for text in [
+        "", "x", "x.:", ".x:", "x:y", "x::", "1x:", "_x:", "-x:", "x :",
+    ] {
+        assert!(rt; !is_pname_ns(text), "{text}");
+    }
+}
+
+#[test]
 fn a_label_ends_in_no_dot(rt: HostRuntime) {
     for text in ["a", "a:b", "19", "a.b", "a..b", "_-", ":", "é\u{B7}"] {
         let label = Label::new(rt.alloc(), text).expect(&rt, "a label");

@@ -1,17 +1,18 @@
 use Rattle.std.proofs.Common.{◌&&◌, true, sym, ap, ◌∙◌}
 use Rattle.std.specs.Str.{chars}
 use Rattle.std.specs.Str.Iter.{chars_rest}
-use Rattle.rdf_terms.specs.Names.{label_goes_on}
+use Rattle.rdf_terms.specs.declared.kind.Dialect.TheVariants.{Lines}
+use Rattle.rdf_terms.specs.Names.{name_goes_on}
 use Rattle.rdf_terms.proofs.CharsLemmas.{next_char}
-use Rattle.rdf_terms.proofs.NamesLemmas.{label_goes_on-IsLabel}
+use Rattle.rdf_terms.proofs.NamesLemmas.{name_goes_on-IsLabel}
 use Rattle.rdf_terms.proofs.labels.is_label.Goals as goal
 
-pub label_goes_on-requires : goal.label_goes_on-requires
-label_goes_on-requires c =
+pub name_goes_on-requires : goal.name_goes_on-requires
+name_goes_on-requires c =
     (next_char c.args.text.now _ _ c.utf8.text (sym c.chars-rest.ensures.rest ∙ c.in-Some.ensures.steps.0)).utf8
 
 pub returns-then-begins_label : goal.returns-then-begins_label
 returns-then-begins_label c =
     let n = next_char c.args.text.now _ _ c.utf8.text (sym c.chars-rest.ensures.rest ∙ c.in-Some.ensures.steps.0) in
-    let begun = ap (λ b. b && label_goes_on true (chars (chars_rest c.next.new.self))) (sym c.begins_label.ensures ∙ c.if-begins_label.true) in
-    rw n.chars (label_goes_on-IsLabel _ _ _ (c.label_goes_on.ensures ∙ sym begun))
+    let begun = ap (λ b. b && name_goes_on Lines true (chars (chars_rest c.next.new.self))) (sym c.begins_label.ensures ∙ c.if-begins_label.true) in
+    rw n.chars (name_goes_on-IsLabel _ _ _ (c.name_goes_on.ensures ∙ sym begun))

@@ -1,7 +1,7 @@
 use Rattle.std.proofs.Common.{refl}
 use Rattle.rdf_terms.proofs.CharsLemmas.{next_char, no_chars}
-use Rattle.rdf_terms.proofs.labels.label_goes_on.Goals as goal
-use Rattle.rdf_terms.proofs.labels.label_goes_on.Goals.{else-not-ends-via-then-not-ends+else-not-is_dot, else-not-ends-via-else-not-ends}
+use Rattle.rdf_terms.proofs.names.name_goes_on.Goals as goal
+use Rattle.rdf_terms.proofs.names.name_goes_on.Goals.{else-not-ends-via-then-not-ends+else-not-is_dot, else-not-ends-via-else-not-ends}
 
 pub returns-then-not-is_dot : goal.returns-then-not-is_dot
 returns-then-not-is_dot c =

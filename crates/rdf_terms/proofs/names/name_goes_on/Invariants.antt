@@ -1,11 +1,11 @@
 use Rattle.std.proofs.Common.{◌≡◌, true}
 use Rattle.std.specs.Str.{chars, IsUtf8}
 use Rattle.std.specs.Str.Iter.{chars_rest}
-use Rattle.rdf_terms.specs.Names.{label_goes_on}
-use Rattle.rdf_terms.proofs.labels.label_goes_on.Given as goal
+use Rattle.rdf_terms.specs.Names.{name_goes_on}
+use Rattle.rdf_terms.proofs.names.name_goes_on.Given as goal
 
 abbrev pub invariant-loop-c : goal.invariant-loop-c
 invariant-loop-c l = record {
   utf8 : IsUtf8 (chars_rest l.c-iterator);
-  same : label_goes_on true (chars (chars_rest l.fn.rest)) ≡ label_goes_on l.ends (chars (chars_rest l.c-iterator));
+  same : name_goes_on l.dialect true (chars (chars_rest l.fn.rest)) ≡ name_goes_on l.dialect l.ends (chars (chars_rest l.c-iterator));
 }

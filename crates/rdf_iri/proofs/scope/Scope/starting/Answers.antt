@@ -1,0 +1,10 @@
+use Rattle.std.proofs.Common.{ap, sym, ◌∙◌}
+use Rattle.rdf_iri.specs.Scope.{InForce}
+use Rattle.rdf_iri.specs.Bindings.{BindingMap}
+use Rattle.rdf_iri.proofs.BindingSteps.{starting_keeps}
+use Rattle.rdf_iri.proofs.scope.Scope.starting.Goals as goal
+
+pub invariant_of-scope : goal.invariant_of-scope
+invariant_of-scope g c =
+    let limits = ap (λ (s : InForce). s.limits) (c.scope.view_is ∙ c.new-scope.ensures) in
+    starting_keeps _ _ _ c.scope.invariant.base c.bindings.invariant (ap (λ (b : BindingMap). b.limits) c.bindings.view_is ∙ (c.requires.limits ∙ sym limits))
