@@ -3,7 +3,9 @@
 ghost use Rattle.std.specs.Prelude.{◌≡◌, ◌*◌, ◌≤◌, IfOk, length};
 ghost use Rattle.rdf_iri.specs.Texts.{byte_len};
 
-use rdf_iri::{IriFault, Limits, Scope, has_scheme, resolve, split};
+use rdf_iri::{
+    BindingFault, BindingReason, IriFault, Limits, Scope, has_scheme, read_bindings, resolve, split,
+};
 use rdf_terms::{Iri, TermFault, iri_text};
 use std::alloc::Global;
 
@@ -230,5 +232,139 @@ fn a_refused_call_changes_nothing(rt: HostRuntime) -> Result<(), IriFault> {
     assert_eq!(rt; resolve_here(&scope, "h")?.as_str(), "a:/b/h");
     assert_eq!(rt; expand(&scope, "", "h")?.as_str(), "a:/b/g/h");
     assert!(rt; matches!(expand(&scope, "", "hhhhh"), Err(IriFault::IriTooLong)));
+    Ok(())
+}
+
+/// The bindings of a file, or why there are none: limits on tokens, bindings and IRIs, and the file.
+const FILES: [(u64, u64, u64, &[u8], Option<(BindingReason, u64)>); 23] = [
+    (9, 9, 99, b"", None),
+    (9, 9, 99, b"\n\r\n", None),
+    (9, 9, 99, b"x: http://x/\r\n: http://e/", None),
+    (9, 9, 99, b"x: http://x/\nx: http://y/\n", None),
+    (9, 9, 99, b"\xEF\xBB\xBFx: http://x/", None),
+    (9, 9, 99, b"\xC3\xA9: http://\xC3\xA9/", None),
+    (9, 1, 99, b"x: http://x/\n\nx: http://y/", None),
+    (2, 1, 9, b"x: http://x/", None),
+    (9, 0, 99, b"\n", None),
+    (
+        9,
+        9,
+        99,
+        b"x http://x/",
+        Some((BindingReason::BadBinding, 1)),
+    ),
+    (
+        9,
+        9,
+        99,
+        b"x: <http://x/>",
+        Some((BindingReason::BadBinding, 1)),
+    ),
+    (
+        9,
+        9,
+        99,
+        b"x.: http://x/",
+        Some((BindingReason::BadBinding, 1)),
+    ),
+    (9, 9, 99, b"\nx: s", Some((BindingReason::BadBinding, 2))),
+    (
+        9,
+        9,
+        99,
+        b"x: http://x/\r\r\n",
+        Some((BindingReason::BadBinding, 1)),
+    ),
+    (
+        9,
+        9,
+        99,
+        b"x:  http://x/",
+        Some((BindingReason::BadBinding, 1)),
+    ),
+    (9, 9, 99, b" ", Some((BindingReason::BadBinding, 1))),
+    (
+        9,
+        9,
+        99,
+        b"\n\nx: http://\xFF/",
+        Some((BindingReason::BadBinding, 3)),
+    ),
+    (
+        9,
+        9,
+        99,
+        b"\xEF\xBB\xBF\xEF\xBB\xBF\n",
+        Some((BindingReason::BadBinding, 1)),
+    ),
+    (
+        9,
+        9,
+        8,
+        b"x: http://x/",
+        Some((BindingReason::IriTooLong, 1)),
+    ),
+    (
+        2,
+        9,
+        99,
+        b"ab: http://a/",
+        Some((BindingReason::TokenTooLong, 1)),
+    ),
+    (
+        9,
+        1,
+        99,
+        b"a: http://a/\nb: http://b/",
+        Some((BindingReason::TooManyBindings, 2)),
+    ),
+    (
+        9,
+        1,
+        8,
+        b"a: s:\nb: http://b/",
+        Some((BindingReason::IriTooLong, 2)),
+    ),
+    (
+        1,
+        1,
+        8,
+        b"\nab: http://a/\nx",
+        Some((BindingReason::TokenTooLong, 2)),
+    ),
+];
+
+#[test]
+fn files_of_bindings(rt: HostRuntime) {
+    for (token, bindings, iri, file, wanted) in FILES {
+        let Some(limits) = Limits::new(token, 0, bindings, iri) else {
+            assert!(rt; false, "limits");
+            return;
+        };
+        match (read_bindings(rt.alloc(), limits, file), wanted) {
+            (Ok(bindings), None) => assert_eq!(rt; bindings.limits(), limits),
+            (Err(fault), Some((reason, line))) => assert_eq!(rt;
+                fault,
+                BindingFault { reason, line }
+            ),
+            (Ok(_), Some(_)) => assert!(rt; false, "taken"),
+            (Err(_), None) => assert!(rt; false, "refused"),
+        }
+    }
+}
+
+#[test]
+fn a_scope_that_starts_with_bindings(rt: HostRuntime) -> Result<(), IriFault> {
+    let limits = Limits::default();
+    let file = b"x: http://x/\r\n: http://e/\r\nx: http://y/";
+    let Ok(bindings) = read_bindings(rt.alloc(), limits, file) else {
+        return Err(IriFault::Memory);
+    };
+    let none: Option<Iri> = None;
+    let mut scope = Scope::starting(rt.alloc(), none, limits, bindings);
+    assert_eq!(rt; expand(&scope, "x", "s")?.as_str(), "http://y/s");
+    assert_eq!(rt; expand(&scope, "", "p")?.as_str(), "http://e/p");
+    bind(&mut scope, "x", "http://z/")?;
+    assert_eq!(rt; expand(&scope, "x", "s")?.as_str(), "http://z/s");
     Ok(())
 }
