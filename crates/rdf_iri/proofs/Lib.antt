@@ -16,4 +16,5 @@ pub mod BindingLemmas
 pub mod BindingSteps
 pub mod BindingFiles
 pub mod BindingLaws
+pub mod BindingExamples
 pub mod LawLemmas
