@@ -15,7 +15,7 @@ import sys
 import tempfile
 
 TOP = os.path.dirname(os.path.dirname(os.path.abspath(__file__)))
-PROGRAM = os.path.join(TOP, 'crates', 'rdf_tool', 'out', 'rdf_tool')
+PROGRAM = os.environ.get("RDFCONV", os.path.join(TOP, "crates", "rdf_tool", "out", "rdf_tool"))
 
 MOST_GROWTH = 10
 LEAST_SECONDS = 0.01
