@@ -531,7 +531,7 @@ const PASSED: [(Form, u64, u64, &str, Reason, u64); 3] = [
     (
         Form::NQuads,
         1,
-        10,
+        9,
         "<a:s> <a:p> <http://a/o> .",
         Reason::IriTooLong,
         12,
@@ -539,7 +539,7 @@ const PASSED: [(Form, u64, u64, &str, Reason, u64); 3] = [
     (
         Form::TriG,
         1,
-        10,
+        9,
         "<a:s> <a:p> <http://a/o> .",
         Reason::IriTooLong,
         12,
