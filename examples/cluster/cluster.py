@@ -10,6 +10,7 @@ the whole document, and a last line of counts. Status 0 where all was accepted, 
 """
 import argparse
 import gzip
+import logging
 import os
 import re
 import shutil
@@ -193,6 +194,8 @@ def main():
     parser.add_argument('out', metavar='OUT')
     asked = parser.parse_args()
     from distributed import Client
+    for engine in ('distributed', 'asyncio'):  # a lost worker is no news here: its tasks run again
+        logging.getLogger(engine).setLevel(logging.CRITICAL)
     with Client(asked.scheduler, timeout=60) as client:
         if asked.what == 'documents':
             return documents(client, asked.program, asked.source, asked.out)

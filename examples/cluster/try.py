@@ -20,6 +20,7 @@ HERE = os.path.dirname(os.path.abspath(__file__))
 TOP = os.path.dirname(os.path.dirname(HERE))
 PROGRAM = os.environ.get('RDFCONV', os.path.join(TOP, 'rdfconv'))
 ADDRESS = '127.0.0.1'
+TOLD = r'rdfconv: |refused$'  # what the program and cluster.py say; the engine has lines of its own
 sys.path.insert(0, os.path.join(TOP, 'bench'))
 import documents
 
@@ -86,7 +87,7 @@ def on_cluster(cluster, *words, watched=None, wanted=0):
                 watched = None
             time.sleep(0.005)
         reader.join()
-        status, lines = p.wait(), said[0].splitlines(True)
+        status, lines = p.wait(), [line for line in said[0].splitlines(True) if re.search(TOLD, line)]
     if not lines or not re.match(r'\d+ documents?, .* refused$', lines[-1]):
         sys.exit('no report: ' + ''.join(lines))
     return status, lines
@@ -103,8 +104,8 @@ class Tries:
     def path(self, name):
         return os.path.join(self.folder, name)
 
-    def expect(self, name, holds):
-        print('%s: %s' % (name, 'as one run' if holds else 'DIFFERS FROM ONE RUN'), flush=True)
+    def expect(self, name, holds, said):
+        print('%s: %s' % (name, 'as one run' if holds else 'DIFFERS FROM ONE RUN: ' + said), flush=True)
         self.runs += 1
         self.differ += not holds
 
@@ -118,7 +119,8 @@ class Tries:
         counts = re.match(r'1 document, (\d+) blocks, (\d+) quads, (\d) refused$', lines[-1])
         self.blocks += int(counts[1])
         self.quads += int(counts[2])
-        self.expect(name, (got, ''.join(lines[:-1])) == (status, message) and same(self.path('one.nq'), out))
+        holds = (got, ''.join(lines[:-1])) == (status, message) and same(self.path('one.nq'), out)
+        self.expect(name, holds, 'status %d, %s' % (got, ''.join(lines)))
 
     def folder_of(self, cluster, folder, ends):
         """A folder of documents beside a run for each."""
@@ -140,7 +142,8 @@ class Tries:
         counts = re.match(r'(\d+) documents, (\d+) quads, (\d+) refused$', lines[-1])
         self.documents += int(counts[1])
         self.quads += int(counts[2])
-        self.expect('a folder of documents, a worker ended', holds and (got, lines[:-1]) == (worst, told))
+        holds = holds and (got, lines[:-1]) == (worst, told)
+        self.expect('a folder of documents, a worker ended', holds, 'status %d, %s' % (got, ''.join(lines)))
 
 
 def with_bad_line(path, bad):
