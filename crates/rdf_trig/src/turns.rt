@@ -11,7 +11,8 @@ ghost use Rattle.rdf_lines.specs.Lines.{Leaf};
 ghost use Rattle.rdf_trig.specs.Events.{Use, itself};
 ghost use Rattle.rdf_trig.specs.Machine as M;
 ghost use Rattle.rdf_trig.specs.Machine.{Reply, Go};
-ghost use Rattle.rdf_trig.specs.States.{leaf, IsTurtleToken, IsNamed, IsNamedIn, NameIn, name_at, use_at, use_in, scope_in, setting, graph_of, graph_at, outer_of, outer_graph, spelling_of, level_of, topic_of, place_of, up_of, around_of, mode_of, rest_of, behind_dot, object_of, begins_verb, Accepts, Gives, GivesOuter};
+ghost use Rattle.rdf_trig.specs.States.{leaf, IsTurtleToken, IsNamed, IsNamedIn, NameIn, name_at, use_at, use_in, scope_in, setting, graph_of, graph_at, outer_of, outer_graph};
+ghost use Rattle.rdf_trig.specs.States.{spelling_of, level_of, topic_of, place_of, up_of, around_of, mode_of, rest_of, behind_dot, object_of, begins_verb, Accepts, Gives, GivesOuter};
 
 use crate::fault::StepFault;
 use crate::form::DocForm;
