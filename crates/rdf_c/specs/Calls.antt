@@ -1,0 +1,117 @@
+-- What a call asks for, and what it answers.
+use Rattle.std.specs.Prelude.{◌≡◌, ◌≢◌, ◌⊎◌, ◌<◌, ◌++◌, ℕ, Bool, true, false, List, [], ◌∷◌, Some, length, take, drop, min}
+use Rattle.std.specs.Str.{IsUtf8, chars}
+use Rattle.rdf_iri.specs.Limits.{InRange}
+use Rattle.rdf_iri.specs.Scope.{BaseFits}
+use Rattle.rdf_terms.specs.Terms.{IsIri}
+use Rattle.rdf_terms.specs.declared.reason.Reason.{Reason}
+use Rattle.rdf_stream.specs.declared.fault.StreamFault.{StreamFault}
+use Rattle.rdf_stream.specs.Checks.{CheckStops, IsAccepted, IsRefusedFor}
+use Rattle.rdf_stream.specs.Converts.{Accepts, RefusesDocument, StopsFor}
+use Rattle.rdf_stream.specs.Devices.{Reading}
+use Rattle.rdf_stream.specs.Jobs.{JobRead}
+use Rattle.rdf_stream.specs.Languages.{conversion_of, language_of}
+use Rattle.rdf_c.specs.Numbers.{base_of, number_of_form, number_of_reason, sizes_of, summary_of}
+use Rattle.rdf_c.specs.declared.request.JobFault.{JobFault}
+use Rattle.rdf_c.specs.declared.request.JobFault.TheVariants.{NoJob, Memory}
+use Rattle.rdf_c.specs.declared.request.Request.{Request}
+use Rattle.rdf_c.specs.declared.outcome.Outcome.{Outcome}
+
+-- No text, or one that is an IRI.
+abbrev pub IsBaseText : List ℕ → Type 0
+IsBaseText [] = Unit
+IsBaseText (b ∷ bs) = IsUtf8 (b ∷ bs) × IsIri (chars (b ∷ bs))
+
+-- The request and the base are of this job, and there is such a job.
+pub record AsksFor (request : Request) (base_text : List ℕ) (job : JobRead) : Type 0 where
+  pub form : request.format ≡ number_of_form job.form
+  pub base : job.base ≡ base_of base_text
+  pub limits : job.limits ≡ sizes_of request
+  pub range : InRange job.limits
+  pub fits : BaseFits job.base job.limits
+  pub good : IsBaseText base_text
+
+-- The request and the base are of no job.
+abbrev pub AsksForNothing : Request → List ℕ → Type 0
+AsksForNothing request base_text = (job : JobRead) → AsksFor request base_text job → ⊥
+
+-- One of the five statuses.
+abbrev pub IsStatus : ℕ → Type 0
+IsStatus s = (s ≡ 0) ⊎ (s ≡ 1) ⊎ (s ≡ 2) ⊎ (s ≡ 4) ⊎ (s ≡ 5)
+
+-- The front of the lines stands in the output, and the rest of the output is as it was.
+pub record Gives (lines old new : List ℕ) (o : Outcome) : Type 0 where
+  pub needed : o.needed ≡ length lines
+  pub written : o.written ≡ min (length lines) (length old)
+  pub front : new ≡ take o.written lines ++ drop o.written old
+
+-- The input is a document of the job, and these are the lines of its quads.
+pub record GivesLines (job : JobRead) (input old new : List ℕ) (o : Outcome) : Type 0 where
+  pub lines : List ℕ
+  pub accepts : Accepts (conversion_of job) input (Some []) (Some lines) (summary_of o)
+  pub gives : Gives lines old new o
+
+-- The input is refused at the place, and these are the lines of the quads that are due before it.
+pub record GivesRefusal (job : JobRead) (input old new : List ℕ) (o : Outcome) : Type 0 where
+  pub lines : List ℕ
+  pub reason : Reason
+  pub number : o.reason ≡ number_of_reason reason
+  pub refuses : RefusesDocument reason (conversion_of job) input true (record { offset = o.offset; line = o.line }) (Some []) (Some lines)
+  pub gives : Gives lines old new o
+
+-- How the conversion of a job ends.
+pub record Converts (job : JobRead) (input old new : List ℕ) (o : Outcome) : Type 0 where
+  pub whole : o.status ≡ 0 → GivesLines job input old new o × (o.needed ≡ o.written)
+  pub front : o.status ≡ 5 → GivesLines job input old new o × (o.written < o.needed)
+  pub refused : o.status ≡ 1 → GivesRefusal job input old new o
+  pub found : o.status ≢ 2
+  pub status : IsStatus o.status
+
+-- How a call that converts ends.
+pub record HasConverted (request : Request) (base_text input old new : List ℕ) (o : Outcome) : Type 0 where
+  pub whole : o.status ≡ 0 → (job : JobRead) × AsksFor request base_text job × GivesLines job input old new o × (o.needed ≡ o.written)
+  pub front : o.status ≡ 5 → (job : JobRead) × AsksFor request base_text job × GivesLines job input old new o × (o.written < o.needed)
+  pub refused : o.status ≡ 1 → (job : JobRead) × AsksFor request base_text job × GivesRefusal job input old new o
+  pub no_job : o.status ≡ 2 → AsksForNothing request base_text
+  pub status : IsStatus o.status
+
+-- The input is refused at the place.
+pub record GivesPlace (job : JobRead) (input : List ℕ) (o : Outcome) : Type 0 where
+  pub reason : Reason
+  pub number : o.reason ≡ number_of_reason reason
+  pub refused : IsRefusedFor reason (language_of job) input true (record { offset = o.offset; line = o.line })
+
+-- How the check of a job ends.
+pub record Checks (job : JobRead) (input : List ℕ) (o : Outcome) : Type 0 where
+  pub whole : o.status ≡ 0 → IsAccepted (language_of job) input (summary_of o)
+  pub refused : o.status ≡ 1 → GivesPlace job input o
+  pub found : o.status ≢ 2
+  pub status : IsStatus o.status
+
+-- How a call that checks ends.
+pub record HasChecked (request : Request) (base_text input : List ℕ) (o : Outcome) : Type 0 where
+  pub whole : o.status ≡ 0 → (job : JobRead) × AsksFor request base_text job × IsAccepted (language_of job) input (summary_of o)
+  pub refused : o.status ≡ 1 → (job : JobRead) × AsksFor request base_text job × GivesPlace job input o
+  pub no_job : o.status ≡ 2 → AsksForNothing request base_text
+  pub status : IsStatus o.status
+
+-- ---- within a call
+
+-- Why a text gives no base.
+abbrev pub NamesNoBase : List ℕ → JobFault → Type 0
+NamesNoBase base_text NoJob = IsBaseText base_text → ⊥
+NamesNoBase base_text Memory = Unit
+
+-- Why there is no job.
+abbrev pub AsksForNone : Request → List ℕ → JobFault → Type 0
+AsksForNone request base_text NoJob = AsksForNothing request base_text
+AsksForNone request base_text Memory = Unit
+
+-- A conversion stopped, with these lines.
+abbrev pub Stopped : StreamFault → JobRead → List ℕ → List ℕ → Type 0
+Stopped fault job input lines =
+    (left : Reading) × (left.has_failed ≡ false) × (write_failed : Bool) × StopsFor fault (conversion_of job) (Some input) left (Some []) (Some lines) write_failed
+
+-- A check stopped.
+abbrev pub CheckStopped : StreamFault → JobRead → List ℕ → Type 0
+CheckStopped fault job input = (left : Reading) × (left.has_failed ≡ false) × CheckStops fault (language_of job) (Some input) left

@@ -1,0 +1,3 @@
+-- what has to be believed
+pub mod Numbers
+pub mod Calls

@@ -1,0 +1,64 @@
+//! The converter for C: a document in memory is read, and the lines of its quads are written to memory.
+#![tactic(auto)]
+
+mod memory;
+mod outcome;
+mod request;
+mod runs;
+
+ghost use Rattle.std.specs.Prelude.{◌≡◌, length};
+ghost use Rattle.rdf_c.specs.Calls.{HasChecked, HasConverted};
+ghost use Rattle.rdf_c.specs.Numbers.{status_of};
+
+pub use crate::outcome::Outcome;
+pub use crate::request::Request;
+use crate::request::{JobFault, job_of};
+use crate::runs::{check_bytes, convert_bytes};
+use std::alloc::Global;
+
+/// Reads the document, and writes the lines of its quads to the front of the output, as many bytes as there is room for; the
+/// outcome says how many bytes the lines have. A base of no bytes is none. Of a refused document the lines before the refusal are
+/// written. Bytes of the output after the lines stay as they are.
+#[unsafe(no_mangle)]
+pub extern "C" fn rdfconv_convert(
+    alloc: Global,
+    request: &Request,
+    base: &[u8],
+    input: &[u8],
+    output: &mut [u8],
+    outcome: &mut Outcome,
+)
+    ensures len { length output.new ≡ length output.old }
+    ensures outcome { HasConverted request.now base.now input.now output.old output.new outcome.new }
+{
+    *outcome = match job_of(alloc, request, base) {
+        Ok(job) => convert_bytes(alloc, job, input, output),
+        Err(fault) => Outcome::of_status(status_of(fault)),
+    };
+}
+
+/// Reads the document to its end, and counts what is in it.
+#[unsafe(no_mangle)]
+pub extern "C" fn rdfconv_check(
+    alloc: Global,
+    request: &Request,
+    base: &[u8],
+    input: &[u8],
+    outcome: &mut Outcome,
+)
+    ensures outcome { HasChecked request.now base.now input.now outcome.new }
+{
+    *outcome = match job_of(alloc, request, base) {
+        Ok(job) => check_bytes(alloc, job, input),
+        Err(fault) => Outcome::of_status(status_of(fault)),
+    };
+}
+
+fn status_of(fault: JobFault) -> u64
+    ensures { result ≡ status_of fault }
+{
+    match fault {
+        JobFault::NoJob => 2,
+        JobFault::Memory => 4,
+    }
+}

@@ -1,0 +1,83 @@
+// What a call asks for.
+
+ghost use Rattle.std.specs.Prelude.{◌≡◌, IfOk, IfErr, IfSome, IfNone, OnOk};
+ghost use Rattle.rdf_c.specs.Calls.{AsksFor, IsBaseText, NamesNoBase, AsksForNone};
+ghost use Rattle.rdf_c.specs.Numbers.{base_of, number_of_form, IsFormNumber};
+
+use rdf_stream::{Form, Iri, Job, Limits, TermFault};
+use std::alloc::Global;
+
+/// The format of the document, and the limits of the run.
+#[repr(C)]
+#[derive(Clone, Copy)]
+pub struct Request {
+    /// 0 N-Triples, 1 N-Quads, 2 Turtle, 3 TriG.
+    pub format: u64,
+    /// Characters of one token.
+    pub token: u64,
+    /// Brackets that are open at one place.
+    pub depth: u64,
+    /// Prefixes that are bound at one place.
+    pub bindings: u64,
+    /// Bytes of one IRI.
+    pub iri: u64,
+}
+
+/// Why there is no job.
+#[derive(Clone, Copy, Debug, PartialEq, Eq)]
+pub(crate) enum JobFault {
+    /// There is no such format or limit, or the base is no IRI or has more bytes than the limit.
+    NoJob,
+    /// A growth of memory was refused.
+    Memory,
+}
+
+/// The job that a call asks for.
+pub(crate) fn job_of(alloc: Global, request: &Request, base: &[u8]) -> Result<Job, JobFault>
+    ensures job { IfOk result (AsksFor request.now base.now) }
+    ensures none { IfErr result (AsksForNone request.now base.now) }
+{
+    let Some(form) = form_of(request.format) else {
+        return Err(JobFault::NoJob);
+    };
+    let Some(limits) = Limits::new(request.token, request.depth, request.bindings, request.iri)
+    else {
+        return Err(JobFault::NoJob);
+    };
+    let iri = iri_of(alloc, base)?;
+    match Job::new(form, iri, limits) {
+        Some(job) => Ok(job),
+        None => Err(JobFault::NoJob),
+    }
+}
+
+fn form_of(number: u64) -> Option<Form>
+    ensures some { IfSome result (λ form. number ≡ number_of_form form) }
+    ensures none { IfNone result (¬ IsFormNumber number) }
+{
+    match number {
+        0 => Some(Form::NTriples),
+        1 => Some(Form::NQuads),
+        2 => Some(Form::Turtle),
+        3 => Some(Form::TriG),
+        _ => None,
+    }
+}
+
+fn iri_of(alloc: Global, base: &[u8]) -> Result<Option<Iri>, JobFault>
+    ensures base { IfOk result (λ iri. iri ≡ base_of base.now) }
+    ensures good { OnOk result (IsBaseText base.now) }
+    ensures none { IfErr result (NamesNoBase base.now) }
+{
+    if base.is_empty() {
+        return Ok(None);
+    }
+    let Ok(text) = str::from_utf8(base) else {
+        return Err(JobFault::NoJob);
+    };
+    match Iri::new(alloc, text) {
+        Ok(iri) => Ok(Some(iri)),
+        Err(TermFault::BadTerm) => Err(JobFault::NoJob),
+        Err(TermFault::Memory) => Err(JobFault::Memory),
+    }
+}
