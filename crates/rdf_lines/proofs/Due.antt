@@ -64,17 +64,17 @@ before-none (next (L.one s) e d) n k l =
 one_line : (s : Statement) (n k : ℕ) (ms : List Marked) (rest : List Token) (qs : List Quad) →
     (k ≤ length (head_tokens s) → items_below (n + k) ms ≡ []) →
     ((j : ℕ) → k ≡ length (head_tokens s) + 1 + j → items_below (n + k) ms ≡ take (dots (take j rest)) qs) →
-    items_below (n + k) (record { quad = quad_of s; mark = n + length (head_tokens s) } ∷ ms) ≡ take (dots (take k (statement_tokens s ++ rest))) (quad_of s ∷ qs)
+    items_below (n + k) (record { item = quad_of s; mark = n + length (head_tokens s) } ∷ ms) ≡ take (dots (take k (statement_tokens s ++ rest))) (quad_of s ∷ qs)
 one_line s n k ms rest qs few more = ⊎_elim whole part (cases_lt (length (head_tokens s)) k)
   where
-    part : k ≤ length (head_tokens s) → items_below (n + k) (record { quad = quad_of s; mark = n + length (head_tokens s) } ∷ ms) ≡ take (dots (take k (statement_tokens s ++ rest))) (quad_of s ∷ qs)
+    part : k ≤ length (head_tokens s) → items_below (n + k) (record { item = quad_of s; mark = n + length (head_tokens s) } ∷ ms) ≡ take (dots (take k (statement_tokens s ++ rest))) (quad_of s ∷ qs)
     part l =
         let h = head_tokens s in
         let t : take k (statement_tokens s ++ rest) ≡ take k h = ap (take k) (append_assoc h (token Dot s.dot ∷ []) rest) ∙ take-append-le k h ((token Dot s.dot ∷ []) ++ rest) l in
         let z : dots (take k (statement_tokens s ++ rest)) ≡ 0 = ap dots t ∙ dots-take h k (dots-head s) in
         cond-false (nat_lt (n + length h) (n + k)) _ _ (le-ltb _ _ (omega arith)) ∙ (few l ∙ sym (ap (λ x. take x (quad_of s ∷ qs)) z))
 
-    whole : length (head_tokens s) < k → items_below (n + k) (record { quad = quad_of s; mark = n + length (head_tokens s) } ∷ ms) ≡ take (dots (take k (statement_tokens s ++ rest))) (quad_of s ∷ qs)
+    whole : length (head_tokens s) < k → items_below (n + k) (record { item = quad_of s; mark = n + length (head_tokens s) } ∷ ms) ≡ take (dots (take k (statement_tokens s ++ rest))) (quad_of s ∷ qs)
     whole l =
         let h = head_tokens s in
         let j = k - (length h + 1) in

@@ -22,7 +22,7 @@ pub put_all : (before qs after : List Quad) → Appends Puts before qs after →
 put_all before [] after e = e ∙ sym (append-nil before)
 put_all before (q ∷ qs) after h = put_all h.0 qs after h.2 ∙ (ap (λ x. x ++ qs) h.1 ∙ append_assoc before (q ∷ []) qs)
 
-module _ {G X : Type 0} (w : Words G X) (law : Lawful w) (leaves : List Quad → Quad → List Quad → Type 0) (old : Driven G)
+module _ {G X : Type 0} (w : Words G X Quad) (law : Lawful w) (leaves : List Quad → Quad → List Quad → Type 0) (old : Driven G)
     (running : old.done ≡ false) (x : X) (h : HasRead w old x [] []) (bytes : List ℕ) where
   -- the language that the reader reads
   abbrev lang : Language

@@ -51,11 +51,11 @@ front_below (q ∷ qs) m k r = ⊎_elim (below (front_below qs q.mark k r.1)) be
   where
     below : (rest : List Quad) × (unmarked qs ≡ items_below k qs ++ rest) → q.mark < k →
         (rest : List Quad) × (unmarked (q ∷ qs) ≡ items_below k (q ∷ qs) ++ rest)
-    below ih l = (ih.0, ap (λ x. q.quad ∷ x) ih.1 ∙ sym (ap (λ x. x ++ ih.0) (cond-true (nat_lt q.mark k) (q.quad ∷ items_below k qs) (items_below k qs) (lt-ltb _ _ l))))
+    below ih l = (ih.0, ap (λ x. q.item ∷ x) ih.1 ∙ sym (ap (λ x. x ++ ih.0) (cond-true (nat_lt q.mark k) (q.item ∷ items_below k qs) (items_below k qs) (lt-ltb _ _ l))))
 
     behind : k ≤ q.mark → (rest : List Quad) × (unmarked (q ∷ qs) ≡ items_below k (q ∷ qs) ++ rest)
     behind l =
-        let e : items_below k (q ∷ qs) ≡ [] = cond-false (nat_lt q.mark k) (q.quad ∷ items_below k qs) (items_below k qs) (le-ltb _ _ l) ∙ none_below qs q.mark k l r.1 in
+        let e : items_below k (q ∷ qs) ≡ [] = cond-false (nat_lt q.mark k) (q.item ∷ items_below k qs) (items_below k qs) (le-ltb _ _ l) ∙ none_below qs q.mark k l r.1 in
         (unmarked (q ∷ qs), sym (ap (λ x. x ++ unmarked (q ∷ qs)) e))
 
 pub due_front : (form : DocForm) (start : InForce) (ts more : List Token) (qs : List Quad) (all : List Marked) → Due (documents form start) ts qs →
