@@ -6,7 +6,7 @@ use Rattle.std.proofs.Math.Seq.{take-append-add, take-nil, take-append_seam}
 use Rattle.std.specs.Prelude.{nat_lt}
 use Rattle.rdf_terms.specs.declared.kind.Kind.TheVariants.{IriRef, Dot, LineEnd, End}
 use Rattle.rdf_tokens.specs.Tokens.{Token}
-use Rattle.rdf_tokens.specs.Grammars.{Marked, quads_below, Due}
+use Rattle.rdf_tokens.specs.Grammars.{Marked, items_below, Due}
 use Rattle.rdf_terms.specs.Terms.{Quad, has_scheme}
 use Rattle.rdf_lines.specs.declared.form.LineForm.{LineForm}
 use Rattle.rdf_lines.specs.Lines.{Name, Ref, Lab, Object, Named, Plain, WithType, WithTag, Statement, Line, Document, last, next, token, name_tokens, object_tokens, graph_tokens, head_tokens, statement_tokens, line_tokens, document_tokens, quad_of, line_quads, document_quads, documents}
@@ -52,7 +52,7 @@ dots-head s =
     omega (arith, dots-append (n ++ p ++ o) (graph_tokens s.graph), dots-append (n ++ p) o, dots-append n p, dots-name s.subject, dots-object s.object, dots-graph s.graph)
 
 -- no mark of a tree is below the number of tokens before it
-before-none : (d : Document) (n k : ℕ) → k ≤ n → quads_below k (document_quads n d) ≡ []
+before-none : (d : Document) (n k : ℕ) → k ≤ n → items_below k (document_quads n d) ≡ []
 before-none (last L.empty e) n k l = refl
 before-none (last (L.one s) e) n k l = cond-false (nat_lt (n + length (head_tokens s)) k) _ _ (le-ltb _ _ (omega arith))
 before-none (next L.empty e d) n k l = before-none d (n + length (line_tokens L.empty) + 1) k (omega arith)
@@ -62,19 +62,19 @@ before-none (next (L.one s) e d) n k l =
 
 -- The quad of a statement is due with the token behind its head, its dot, and the others by what follows.
 one_line : (s : Statement) (n k : ℕ) (ms : List Marked) (rest : List Token) (qs : List Quad) →
-    (k ≤ length (head_tokens s) → quads_below (n + k) ms ≡ []) →
-    ((j : ℕ) → k ≡ length (head_tokens s) + 1 + j → quads_below (n + k) ms ≡ take (dots (take j rest)) qs) →
-    quads_below (n + k) (record { quad = quad_of s; mark = n + length (head_tokens s) } ∷ ms) ≡ take (dots (take k (statement_tokens s ++ rest))) (quad_of s ∷ qs)
+    (k ≤ length (head_tokens s) → items_below (n + k) ms ≡ []) →
+    ((j : ℕ) → k ≡ length (head_tokens s) + 1 + j → items_below (n + k) ms ≡ take (dots (take j rest)) qs) →
+    items_below (n + k) (record { item = quad_of s; mark = n + length (head_tokens s) } ∷ ms) ≡ take (dots (take k (statement_tokens s ++ rest))) (quad_of s ∷ qs)
 one_line s n k ms rest qs few more = ⊎_elim whole part (cases_lt (length (head_tokens s)) k)
   where
-    part : k ≤ length (head_tokens s) → quads_below (n + k) (record { quad = quad_of s; mark = n + length (head_tokens s) } ∷ ms) ≡ take (dots (take k (statement_tokens s ++ rest))) (quad_of s ∷ qs)
+    part : k ≤ length (head_tokens s) → items_below (n + k) (record { item = quad_of s; mark = n + length (head_tokens s) } ∷ ms) ≡ take (dots (take k (statement_tokens s ++ rest))) (quad_of s ∷ qs)
     part l =
         let h = head_tokens s in
         let t : take k (statement_tokens s ++ rest) ≡ take k h = ap (take k) (append_assoc h (token Dot s.dot ∷ []) rest) ∙ take-append-le k h ((token Dot s.dot ∷ []) ++ rest) l in
         let z : dots (take k (statement_tokens s ++ rest)) ≡ 0 = ap dots t ∙ dots-take h k (dots-head s) in
         cond-false (nat_lt (n + length h) (n + k)) _ _ (le-ltb _ _ (omega arith)) ∙ (few l ∙ sym (ap (λ x. take x (quad_of s ∷ qs)) z))
 
-    whole : length (head_tokens s) < k → quads_below (n + k) (record { quad = quad_of s; mark = n + length (head_tokens s) } ∷ ms) ≡ take (dots (take k (statement_tokens s ++ rest))) (quad_of s ∷ qs)
+    whole : length (head_tokens s) < k → items_below (n + k) (record { item = quad_of s; mark = n + length (head_tokens s) } ∷ ms) ≡ take (dots (take k (statement_tokens s ++ rest))) (quad_of s ∷ qs)
     whole l =
         let h = head_tokens s in
         let j = k - (length h + 1) in
@@ -86,14 +86,14 @@ one_line s n k ms rest qs few more = ⊎_elim whole part (cases_lt (length (head
         cond-true (nat_lt (n + length h) (n + k)) _ _ (lt-ltb _ _ (omega arith))
         ∙ (ap (λ x. quad_of s ∷ x) (more j (omega arith)) ∙ sym (ap (λ x. take x (quad_of s ∷ qs)) z))
 
-before-dots : (d : Document) (n k : ℕ) → quads_below (n + k) (document_quads n d) ≡ take (dots (take k (document_tokens d))) (plain_quads d)
+before-dots : (d : Document) (n k : ℕ) → items_below (n + k) (document_quads n d) ≡ take (dots (take k (document_tokens d))) (plain_quads d)
 before-dots (last L.empty e) n k = sym (take-nil _)
 before-dots (last (L.one s) e) n k = one_line s n k [] (token End e ∷ []) [] (λ l. refl) (λ j x. sym (take-nil _))
 before-dots (next L.empty e d) n zero = before-none d (n + length (line_tokens L.empty) + 1) (n + 0) (omega arith)
 before-dots (next L.empty e d) n (suc k) =
     let a : n + suc k ≡ n + length (line_tokens L.empty) + 1 + k = omega arith in
     let b : dots (token LineEnd e ∷ take k (document_tokens d)) ≡ dots (take k (document_tokens d)) = zero-add _ in
-    ap (λ x. quads_below x (document_quads (n + length (line_tokens L.empty) + 1) d)) a
+    ap (λ x. items_below x (document_quads (n + length (line_tokens L.empty) + 1) d)) a
     ∙ (before-dots d (n + length (line_tokens L.empty) + 1) k ∙ sym (ap (λ x. take x (plain_quads d)) b))
 before-dots (next (L.one s) e d) n k =
     one_line s n k (document_quads (n + length (statement_tokens s) + 1) d) (token LineEnd e ∷ document_tokens d) (plain_quads d)
@@ -103,22 +103,22 @@ before-dots (next (L.one s) e d) n k =
     size : length (statement_tokens s) ≡ length (head_tokens s) + 1
     size = length-append (head_tokens s) (token Dot s.dot ∷ [])
 
-    more : ((j : ℕ) → quads_below (n + length (statement_tokens s) + 1 + j) (document_quads (n + length (statement_tokens s) + 1) d) ≡ take (dots (take j (document_tokens d))) (plain_quads d)) → (j : ℕ) → k ≡ length (head_tokens s) + 1 + j → quads_below (n + k) (document_quads (n + length (statement_tokens s) + 1) d) ≡ take (dots (take j (token LineEnd e ∷ document_tokens d))) (plain_quads d)
+    more : ((j : ℕ) → items_below (n + length (statement_tokens s) + 1 + j) (document_quads (n + length (statement_tokens s) + 1) d) ≡ take (dots (take j (document_tokens d))) (plain_quads d)) → (j : ℕ) → k ≡ length (head_tokens s) + 1 + j → items_below (n + k) (document_quads (n + length (statement_tokens s) + 1) d) ≡ take (dots (take j (token LineEnd e ∷ document_tokens d))) (plain_quads d)
     more h zero x = before-none d (n + length (statement_tokens s) + 1) (n + k) (omega (arith, size))
     more h (suc j) x =
         let m = n + length (statement_tokens s) + 1 in
         let a : n + k ≡ m + j = omega (arith, size) in
         let b : dots (token LineEnd e ∷ take j (document_tokens d)) ≡ dots (take j (document_tokens d)) = zero-add _ in
-        ap (λ x. quads_below x (document_quads m d)) a ∙ (h j ∙ sym (ap (λ x. take x (plain_quads d)) b))
+        ap (λ x. items_below x (document_quads m d)) a ∙ (h j ∙ sym (ap (λ x. take x (plain_quads d)) b))
 
 -- in each document that begins with the tokens
-pub due_in : (f : LineForm) (ts more : List Token) (m : Mode) (qs : List Quad) (all : List Marked) → run has_scheme f Begin ts ≡ ran m qs → documents f (ts ++ more) all → quads_below (length ts) all ≡ qs
+pub due_in : (f : LineForm) (ts more : List Token) (m : Mode) (qs : List Quad) (all : List Marked) → run has_scheme f Begin ts ≡ ran m qs → documents f (ts ++ more) all → items_below (length ts) all ≡ qs
 due_in f ts more m qs all e d =
     let t : take (length ts) (document_tokens d.0) ≡ ts = ap (take (length ts)) (sym d.1) ∙ take-append_seam ts more in
     let g = given_begin has_scheme f ts more m qs (plain_quads d.0) e (d.0, d.1, d.2, refl) in
     let z : dots (take (length ts) (document_tokens d.0)) ≡ length qs = ap dots t ∙ sym (given_dots has_scheme f ts Begin m qs e) in
-    ap (quads_below (length ts)) (sym d.3)
-    ∙ (ap (λ x. quads_below x (document_quads 0 d.0)) (sym (zero-add (length ts)))
+    ap (items_below (length ts)) (sym d.3)
+    ∙ (ap (λ x. items_below x (document_quads 0 d.0)) (sym (zero-add (length ts)))
     ∙ (before-dots d.0 0 (length ts)
     ∙ (ap (λ x. take x (plain_quads d.0)) z ∙ (ap (take (length qs)) g.1 ∙ take-append_seam qs g.0))))
 

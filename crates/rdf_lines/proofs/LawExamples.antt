@@ -176,8 +176,8 @@ line_tree =
     (spells 15 (codes "\n")) (last empty (record { text = []; at = record { offset = 16; line = 2 } }))
 
 -- Whatever tree its tokens have, the quad is the same, and its mark is that of the object.
-pub line_quad_settled : (qs : List Marked) → trees NTriples (document_tokens line_tree) qs → qs ≡ record { quad = line_quad; mark = 3 } ∷ []
+pub line_quad_settled : (qs : List Marked) → trees NTriples (document_tokens line_tree) qs → qs ≡ record { item = line_quad; mark = 3 } ∷ []
 unfolding has
 line_quad_settled qs d =
-    quads_settled NTriples (document_tokens line_tree) qs (record { quad = line_quad; mark = 3 } ∷ []) d
+    quads_settled NTriples (document_tokens line_tree) qs (record { item = line_quad; mark = 3 } ∷ []) d
     (line_tree, refl, (record { subject = refl; predicate = refl; object = refl; graph = tt; labels = refl }, tt), refl)

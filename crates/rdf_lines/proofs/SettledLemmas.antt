@@ -77,7 +77,7 @@ marks_at (next (L.one s) e d) n =
     ∙ sym (dots_statement s n (token LineEnd e ∷ document_tokens d))
 
 -- Lists with the same quads and the same marks are the same.
-one_same : {a b : Quad} {m n : ℕ} → a ≡ b → m ≡ n → (let x : Marked = record { quad = a; mark = m } in x) ≡ record { quad = b; mark = n }
+one_same : {a b : Quad} {m n : ℕ} → a ≡ b → m ≡ n → (let x : Marked = record { item = a; mark = m } in x) ≡ record { item = b; mark = n }
 one_same p q = cc
 
 all_same : (qs rs : List Marked) → unmarked qs ≡ unmarked rs → marks qs ≡ marks rs → qs ≡ rs
@@ -85,9 +85,9 @@ all_same [] [] a b = refl
 all_same [] (r ∷ rs) a b = absurd (let z : [] ≡ r.mark ∷ marks rs = b in cc)
 all_same (q ∷ qs) [] a b = absurd (let z : q.mark ∷ marks qs ≡ [] = b in cc)
 all_same (q ∷ qs) (r ∷ rs) a b =
-    let quads : q.quad ∷ unmarked qs ≡ r.quad ∷ unmarked rs = a in
+    let quads : q.item ∷ unmarked qs ≡ r.item ∷ unmarked rs = a in
     let places : q.mark ∷ marks qs ≡ r.mark ∷ marks rs = b in
-    let first : q.quad ≡ r.quad = cc in
+    let first : q.item ≡ r.item = cc in
     let more : unmarked qs ≡ unmarked rs = cc in
     let place : q.mark ≡ r.mark = cc in
     let others : marks qs ≡ marks rs = cc in

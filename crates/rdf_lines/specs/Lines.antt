@@ -114,7 +114,7 @@ quad_of s = record { subject = subject_of s.subject; predicate = iri_of s.predic
 -- the quads with their marks, where n tokens stand before the tree
 abbrev pub line_quads : ℕ → Line → List Marked
 line_quads n empty = []
-line_quads n (one s) = record { quad = quad_of s; mark = n + length (head_tokens s) } ∷ []
+line_quads n (one s) = record { item = quad_of s; mark = n + length (head_tokens s) } ∷ []
 
 -- those of a document
 abbrev pub document_quads : ℕ → Document → List Marked

@@ -5,7 +5,7 @@ use Rattle.std.specs.List.{AllByRecursion}
 use Rattle.rdf_terms.specs.Terms.{Blank, Iri, Literal, Quad, Resource, Subject, Term}
 use Rattle.rdf_lines.specs.declared.form.Style.TheVariants.{Kept, Tagged}
 use Rattle.rdf_tokens.specs.Tokens.{Token}
-use Rattle.rdf_tokens.specs.Grammars.{quads_below, Due}
+use Rattle.rdf_tokens.specs.Grammars.{items_below, Due}
 use Rattle.rdf_lines.specs.declared.form.LineForm.{LineForm}
 use Rattle.rdf_lines.specs.Lines.{Name, Ref, Lab, Object, Named, Plain, WithType, WithTag, Statement, empty, one, Document, last, next, subject_of, term_of, quad_of, document_quads, documents}
 use Rattle.rdf_lines.specs.Writing.{CanWrite, CanWriteSubject, CanWriteTerm, CanWriteGraph}
@@ -41,7 +41,7 @@ more_kept : (b : Bool) (q : Quad) (qs : List Quad) → CanWrite Kept q → AllBy
 more_kept true q qs h hs = (h, hs)
 more_kept false q qs h hs = hs
 
-marked_kept : (d : Document) (n k : ℕ) → AllByRecursion (CanWrite Kept) (quads_below k (document_quads n d))
+marked_kept : (d : Document) (n k : ℕ) → AllByRecursion (CanWrite Kept) (items_below k (document_quads n d))
 marked_kept (last empty e) n k = tt
 marked_kept (last (one s) e) n k = more_kept _ (quad_of s) [] (statement_kept s) tt
 marked_kept (next empty e d) n k = marked_kept d _ k
@@ -51,7 +51,7 @@ marked_kept (next (one s) e d) n k = more_kept _ (quad_of s) _ (statement_kept s
 pub due_kept : (f : LineForm) (ts : List Token) (qs : List Quad) → Due (documents f) ts qs → AllByRecursion (CanWrite Kept) qs
 due_kept f ts qs d =
     let (tree, same, good, marks) = d.2 in
-    subst (AllByRecursion (CanWrite Kept)) d.3 (subst (λ ms. AllByRecursion (CanWrite Kept) (quads_below (length ts) ms)) marks (marked_kept tree 0 (length ts)))
+    subst (AllByRecursion (CanWrite Kept)) d.3 (subst (λ ms. AllByRecursion (CanWrite Kept) (items_below (length ts) ms)) marks (marked_kept tree 0 (length ts)))
 
 subject_tagged : (s : Subject) → CanWriteSubject Tagged s
 subject_tagged (Iri i) = tt

@@ -1,14 +1,13 @@
 -- Puts one after the other.
 use Rattle.std.proofs.Common.{List, [], ◌∷◌, ◌++◌, inr, subst}
-use Rattle.rdf_terms.specs.Terms.{Quad}
 use Rattle.rdf_terms.specs.Sinks.{Appends, Attempts}
 
 -- puts, and then puts of which the last may have been refused
-pub appends_attempts : {S : Type 0} (takes leaves : S → Quad → S → Type 0) (qs rs : List Quad) (a b c : S) → Appends takes a qs b → Attempts takes leaves b rs c →
+pub appends_attempts : {S I : Type 0} (takes leaves : S → I → S → Type 0) (qs rs : List I) (a b c : S) → Appends takes a qs b → Attempts takes leaves b rs c →
     Attempts takes leaves a (qs ++ rs) c
 appends_attempts takes leaves [] rs a b c e t = subst (λ x. Attempts takes leaves x rs c) e t
 appends_attempts takes leaves (q ∷ qs) rs a b c h t = inr (h.0, h.1, appends_attempts takes leaves qs rs h.0 b c h.2 t)
 
-pub appends_both : {S : Type 0} (takes : S → Quad → S → Type 0) (qs rs : List Quad) (a b c : S) → Appends takes a qs b → Appends takes b rs c → Appends takes a (qs ++ rs) c
+pub appends_both : {S I : Type 0} (takes : S → I → S → Type 0) (qs rs : List I) (a b c : S) → Appends takes a qs b → Appends takes b rs c → Appends takes a (qs ++ rs) c
 appends_both takes [] rs a b c e t = subst (λ x. Appends takes x rs c) e t
 appends_both takes (q ∷ qs) rs a b c h t = (h.0, h.1, appends_both takes qs rs h.0 b c h.2 t)

@@ -4,7 +4,7 @@ use Rattle.std.proofs.lemmas.Bool.{cases_lt}
 use Rattle.std.proofs.lemmas.List.{append-nil}
 use Rattle.std.proofs.Math.Seq.{take-append-add, take-append_seam}
 use Rattle.rdf_tokens.specs.Tokens.{Token}
-use Rattle.rdf_tokens.specs.Grammars.{Marked, Viable, PassesNone, IsFront}
+use Rattle.rdf_tokens.specs.Grammars.{MarkedItem, Viable, PassesNone, IsFront}
 
 -- of two beginnings of a list the longer begins with the other
 longer_begins : (all us behind longer rest : List Token) → all ≡ us ++ behind → all ≡ longer ++ rest → length us ≤ length longer → (more : List Token) × (longer ≡ us ++ more)
@@ -15,7 +15,7 @@ longer_begins all us behind longer rest e l size =
       sym (take-append_seam longer rest) ∙ (ap (take (length longer)) (sym l ∙ e) ∙ (ap (λ k. take k (us ++ behind)) n ∙ take-append-add us behind j)),
     )
 
-module _ (documents : List Token → List Marked → Type 0) (passes : List Token → Token → Type 0) where
+module _ {I : Type 0} (documents : List Token → List (MarkedItem I) → Type 0) (passes : List Token → Token → Type 0) where
   pub viable_front : (ts us : List Token) → Viable documents (ts ++ us) → Viable documents ts
   viable_front ts us v = (us ++ v.0, v.1, subst (λ x. documents x v.1) (append_assoc ts us v.0) v.2)
 

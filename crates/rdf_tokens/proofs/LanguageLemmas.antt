@@ -3,20 +3,19 @@ use Rattle.std.proofs.Common.{◌≡◌, ◌≢◌, ℕ, Bool, true, false, List
 use Rattle.std.proofs.lemmas.List.{append-nil}
 use Rattle.rdf_terms.specs.declared.reason.Reason.{Reason}
 use Rattle.rdf_terms.specs.declared.reason.Reason.TheVariants.{BadUtf8, NoToken, BadEscape, TokenTooLong, DocumentTooLong, Memory, Ended, Sink}
-use Rattle.rdf_terms.specs.Terms.{Quad}
 use Rattle.rdf_tokens.specs.Tokens.{Place, Outcome, Token, Reading}
 use Rattle.rdf_tokens.specs.Tokens.Outcome.{undecided, complete, token_too_long, bad_utf8, no_token, bad_escape}
-use Rattle.rdf_tokens.specs.Grammars.{Viable, PassesNone, Language, reading_of, IsDocumentOf, IsWithin, InFront, GoesOn, IsWhole, StopsAt, RefusesAt, RefusedIn, Refused, BeginsDue, IsReadToItsEnd}
+use Rattle.rdf_tokens.specs.Grammars.{Viable, PassesNone, LanguageOf, reading_of, IsDocumentOf, IsWithin, InFront, GoesOn, IsWhole, StopsAt, RefusesAt, RefusedIn, Refused, BeginsDue, IsReadToItsEnd}
 use Rattle.rdf_tokens.proofs.LawLemmas.{lengthens}
 use Rattle.rdf_tokens.proofs.GrammarsLemmas.{only_ended}
 use Rattle.rdf_tokens.proofs.GrammarFronts.{viable_front, none_front, front_whole, front_before, not_whole}
 
 -- No document within the limits goes on with a token that is refused.
-abbrev pub EndsAtBlame : Language → Type 0
+abbrev pub EndsAtBlame : {I : Type 0} → LanguageOf I → Type 0
 EndsAtBlame l = (reason : Reason) (ts : List Token) (t : Token) → l.blames reason ts t → Viable l.documents (ts ++ t ∷ []) → PassesNone l.passes (ts ++ t ∷ []) → ⊥
 
 -- a beginning of what is read to its end goes on
-front_goes_on : (l : Language) (front rest : List ℕ) → IsWhole l (front ++ rest) → GoesOn l front
+front_goes_on : {I : Type 0} (l : LanguageOf I) (front rest : List ℕ) → IsWhole l (front ++ rest) → GoesOn l front
 front_goes_on l front rest w = record {
   ends = by (reading_of l front false).outcome refl;
   front = front_whole l.documents l.passes ts (viable_front l.documents l.passes ts more.0 (subst (Viable l.documents) more.1 w.front.viable))
@@ -38,20 +37,20 @@ front_goes_on l front rest w = record {
         let z : o ≡ complete = sym e ∙ (sym (ap (λ r. r.outcome) same) ∙ w.ends) in cc)
 
 -- What is whole is read to its end, however it is cut.
-pub read_to_its_end : (l : Language) (bytes : List ℕ) → IsWhole l bytes → IsReadToItsEnd l bytes
+pub read_to_its_end : {I : Type 0} (l : LanguageOf I) (bytes : List ℕ) → IsWhole l bytes → IsReadToItsEnd l bytes
 read_to_its_end l bytes w = record { whole = w; fronts = λ front rest e. front_goes_on l front rest (subst (IsWhole l) e w) }
 
 -- The tokens of a document of which none passes a limit are all in the front.
-pub document_whole : (l : Language) (bytes : List ℕ) (qs : List Quad) → IsDocumentOf l bytes qs → PassesNone l.passes (reading_of l bytes true).tokens → IsWhole l bytes
+pub document_whole : {I : Type 0} (l : LanguageOf I) (bytes : List ℕ) (qs : List I) → IsDocumentOf l bytes qs → PassesNone l.passes (reading_of l bytes true).tokens → IsWhole l bytes
 document_whole l bytes qs d k =
     let ts = (reading_of l bytes true).tokens in
     record { ends = d.0; front = front_whole l.documents l.passes ts ([], d.1, subst (λ us. l.documents us d.1) (sym (append-nil ts)) d.2) k }
 
 -- A document within the limits is read to its end.
-pub document_read : (l : Language) (bytes : List ℕ) (qs : List Quad) → IsDocumentOf l bytes qs → IsWithin l bytes → IsReadToItsEnd l bytes
+pub document_read : {I : Type 0} (l : LanguageOf I) (bytes : List ℕ) (qs : List I) → IsDocumentOf l bytes qs → IsWithin l bytes → IsReadToItsEnd l bytes
 document_read l bytes qs d w = read_to_its_end l bytes (document_whole l bytes qs d w.limits)
 
-module _ (l : Language) (ends : EndsAtBlame l) where
+module _ {I : Type 0} (l : LanguageOf I) (ends : EndsAtBlame l) where
   module _ (bytes more : List ℕ) (e : Bool) where
     -- where a reading has stopped it stays so
     stops_more : (why : Outcome) (at : Place) (ahead : List Token) → why ≢ undecided → StopsAt l (reading_of l bytes false) why at ahead → StopsAt l (reading_of l (bytes ++ more) e) why at ahead
@@ -85,7 +84,7 @@ module _ (l : Language) (ends : EndsAtBlame l) where
     refused_in_more reason at ahead y = refuses_more reason at ahead y
 
     -- What begins what is due in the bytes does so in more.
-    pub due_more : (qs : List Quad) → BeginsDue l.documents l.passes (reading_of l bytes false).tokens qs → BeginsDue l.documents l.passes (reading_of l (bytes ++ more) e).tokens qs
+    pub due_more : (qs : List I) → BeginsDue l.documents l.passes (reading_of l bytes false).tokens qs → BeginsDue l.documents l.passes (reading_of l (bytes ++ more) e).tokens qs
     due_more qs d =
         let m = (lengthens l.dialect l.limit bytes more e).0 in
         record {
@@ -116,6 +115,6 @@ module _ (l : Language) (ends : EndsAtBlame l) where
       by reason y = not_whole l.documents l.passes r.tokens ahead y.behind y.token y.tokens (ends reason ahead y.token y.because) a.front
 
   -- What is refused is no document within the limits.
-  pub refused_no_document : (bytes : List ℕ) (qs : List Quad) (reason : Reason) (at : Place) → Refused l bytes true reason at → IsDocumentOf l bytes qs → IsWithin l bytes → ⊥
+  pub refused_no_document : (bytes : List ℕ) (qs : List I) (reason : Reason) (at : Place) → Refused l bytes true reason at → IsDocumentOf l bytes qs → IsWithin l bytes → ⊥
   refused_no_document bytes qs reason at x d w =
       none_refused (reading_of l bytes true) complete reason at x.0 (inr refl) (document_whole l bytes qs d w.limits) x.1

@@ -3,6 +3,7 @@ use Rattle.std.specs.Prelude.{◌≡◌, ℕ}
 use Rattle.rdf_terms.specs.declared.kind.Dialect.TheVariants.{Turtle as turtle}
 use Rattle.rdf_terms.specs.declared.reason.Reason.{Reason}
 use Rattle.rdf_terms.specs.declared.reason.Reason.TheVariants as reason
+use Rattle.rdf_terms.specs.Terms.{Quad}
 use Rattle.rdf_driver.specs.Words.{Words}
 use Rattle.rdf_driver.specs.Readers.{Driven}
 use Rattle.rdf_trig.specs.declared.form.DocForm.{DocForm}
@@ -21,7 +22,7 @@ pub record TreeAt : Type 0 where
   pub state : State
 
 -- the documents from a scope on, and what the machine has accepted of one
-abbrev pub tree_words : Words TreeAt Chosen
+abbrev pub tree_words : Words TreeAt Chosen Quad
 tree_words = record {
   dialect = turtle;
   limit = λ g. g.limit;

@@ -187,7 +187,7 @@ tokens (Gave q ∷ es) = tokens es
 abbrev pub event_quads : ℕ → List Event → List Marked
 event_quads n [] = []
 event_quads n (Took t u ∷ es) = event_quads (n + 1) es
-event_quads n (Gave q ∷ es) = record { quad = q; mark = n } ∷ event_quads n es
+event_quads n (Gave q ∷ es) = record { item = q; mark = n } ∷ event_quads n es
 
 -- and that each name and reference stands for an IRI
 abbrev pub HasIri : Use → Type 0

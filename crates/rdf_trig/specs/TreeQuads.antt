@@ -22,7 +22,7 @@ head_length (literal_object l) = length (literal_tokens l)
 
 abbrev pub marked_at : ℕ → Option Quad → List Marked
 marked_at n None = []
-marked_at n (Some q) = record { quad = q; mark = n } ∷ []
+marked_at n (Some q) = record { item = q; mark = n } ∷ []
 
 -- In what follows n tokens stand before the tree.
 

@@ -13,7 +13,7 @@ use crate::form::DocForm;
 use crate::reader::Options;
 use crate::rules::Rules;
 use crate::state::State;
-use rdf_driver::Grammar;
+use rdf_driver::{Grammar, QuadGrammar, QuadItem};
 use rdf_iri::{Limits, Scope};
 use rdf_terms::{Dialect, Iri, QuadSink, Reason};
 use rdf_tokens::Token;
@@ -93,13 +93,21 @@ pub fn reason_of(fault: StepFault) -> Reason
 impl<A: Allocator + Copy> Grammar for TreeGrammar<A> {
     type Setting = Options<A>;
 
+    type Item = QuadItem;
+
     ghost words = { tree_words };
 
     fn dialect(&self) -> Dialect {
         Dialect::Turtle
     }
+}
 
-    fn accept<S: QuadSink>(&mut self, token: Token<'_>, sink: &mut S) -> Result<u64, Reason> {
+impl<A: Allocator + Copy> QuadGrammar for TreeGrammar<A> {
+    fn accept_quads<S: QuadSink>(
+        &mut self,
+        token: Token<'_>,
+        sink: &mut S,
+    ) -> Result<u64, Reason> {
         let Rules { form, limits } = self.rules;
         match self
             .state

@@ -22,7 +22,7 @@ pub put_all : (before qs after : List Quad) → Appends Puts before qs after →
 put_all before [] after e = e ∙ sym (append-nil before)
 put_all before (q ∷ qs) after h = put_all h.0 qs after h.2 ∙ (ap (λ x. x ++ qs) h.1 ∙ append_assoc before (q ∷ []) qs)
 
-module _ {G X : Type 0} (w : Words G X) (law : Lawful w) (leaves : List Quad → Quad → List Quad → Type 0) (old : Driven G)
+module _ {G X : Type 0} (w : Words G X Quad) (law : Lawful w) (leaves : List Quad → Quad → List Quad → Type 0) (old : Driven G)
     (running : old.done ≡ false) (x : X) (h : HasRead w old x [] []) (bytes : List ℕ) where
   -- the language that the reader reads
   abbrev lang : Language
@@ -32,7 +32,7 @@ module _ {G X : Type 0} (w : Words G X) (law : Lawful w) (leaves : List Quad →
   pub not_fed : (reason : Reason) (at : Place) (new : Driven G) (before after : List Quad) →
       FeedFails w Puts leaves (λ y. false) reason at old before bytes new after → NotRead lang bytes reason at
   not_fed Memory at new before after y = tt
-  not_fed DocumentTooLong at new before after y = y.1 x [] [] h
+  not_fed DocumentTooLong at new before after y = (y.full x [] [] h).too_long
   not_fed Ended at new before after y = absurd (let z : true ≡ false = sym y.0 ∙ running in cc)
   not_fed Sink at new before after y = absurd (let z : false ≡ true = y.1 in cc)
   not_fed reason at new before after y =

@@ -34,7 +34,7 @@ abbrev pub quad : term.Subject → List ℕ → Term → Option term.Subject →
 quad s p o g = record { subject = s; predicate = p; object = o; graph = g }
 
 abbrev pub at : ℕ → Quad → Marked
-at n q = record { quad = q; mark = n }
+at n q = record { item = q; mark = n }
 
 -- no base, no bindings, and the limits that a reader has if nothing else is said
 abbrev pub start : InForce

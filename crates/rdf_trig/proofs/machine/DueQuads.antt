@@ -2,7 +2,7 @@
 use Rattle.std.proofs.Common.{◌≡◌, ℕ, zero, suc, ◌+◌, ◌≤◌, true, List, [], ◌∷◌, ◌++◌, length, Option, Some, None, refl, sym, ap, ◌∙◌, arith}
 use Rattle.std.specs.Prelude.{nat_lt}
 use Rattle.std.proofs.lemmas.Bool.{cond-true, cond-false, lt-ltb, le-ltb}
-use Rattle.rdf_tokens.specs.Grammars.{quads_below}
+use Rattle.rdf_tokens.specs.Grammars.{items_below}
 use Rattle.rdf_terms.specs.Terms.{Quad}
 use Rattle.rdf_tokens.specs.Tokens.{Token}
 use Rattle.rdf_tokens.specs.Grammars.{Marked}
@@ -25,12 +25,12 @@ due (suc n) [] = []
 due (suc n) (Took t u ∷ es) = due n es
 due (suc n) (Gave q ∷ es) = q ∷ due (suc n) es
 
-before_none : (es : List Event) (k n : ℕ) → k ≤ n → quads_below k (event_quads n es) ≡ []
+before_none : (es : List Event) (k n : ℕ) → k ≤ n → items_below k (event_quads n es) ≡ []
 before_none [] k n l = refl
 before_none (Took t u ∷ es) k n l = before_none es k (n + 1) (omega arith)
 before_none (Gave q ∷ es) k n l = cond-false (nat_lt n k) _ _ (le-ltb _ _ l) ∙ before_none es k n l
 
-pub before_due : (es : List Event) (n k j : ℕ) → j ≡ k + n → quads_below j (event_quads k es) ≡ due n es
+pub before_due : (es : List Event) (n k j : ℕ) → j ≡ k + n → items_below j (event_quads k es) ≡ due n es
 before_due es zero k j e = before_none es j k (omega arith)
 before_due [] (suc n) k j e = refl
 before_due (Took t u ∷ es) (suc n) k j e = before_due es n (k + 1) j (omega arith)

@@ -1,7 +1,7 @@
 -- The machine accepts exactly the documents within the limits, and what it gives out is due, and at the end all of a document's quads.
 use Rattle.std.proofs.Common.{◌≡◌, ℕ, zero, suc, ◌+◌, ◌≤◌, ◌⊎◌, inl, inr, Bool, true, false, List, [], ◌∷◌, ◌++◌, length, Option, Some, None, refl, sym, ap, ◌∙◌, subst, ⊎_elim, append_assoc, length-append, arith}
 use Rattle.std.proofs.lemmas.List.{append-nil}
-use Rattle.rdf_tokens.specs.Grammars.{Viable, Due, PassesNone, IsFront, quads_below, unmarked}
+use Rattle.rdf_tokens.specs.Grammars.{Viable, Due, PassesNone, IsFront, items_below, unmarked}
 use Rattle.rdf_terms.specs.Terms.{Quad}
 use Rattle.rdf_tokens.specs.Tokens.{Token}
 use Rattle.rdf_tokens.specs.Grammars.{Marked}
@@ -27,10 +27,10 @@ use Rattle.rdf_trig.proofs.machine.RefusedTokens.{place, reached_start, passes_n
 -- what is due
 pub due_in : (form : DocForm) (start : InForce) (ts more : List Token) (s : State) (qs : List Quad) (all : List Marked) →
     accept_all form (at_start start) ts ≡ ran s qs → documents form start (ts ++ more) all →
-    quads_below (length ts) all ≡ qs
+    items_below (length ts) all ≡ qs
 due_in form start ts more s qs all e d =
     let told : tokens (document_events start d.tree) ≡ ts ++ more = document_told d.tree start ∙ sym d.tokens in
-    ap (quads_below (length ts)) (sym d.quads)
+    ap (items_below (length ts)) (sym d.quads)
     ∙ before_due (document_events start d.tree) (length ts) 0 (length ts) (omega arith)
     ∙ sym (lag form ts more start d.tree told)
     ∙ sym (ran_tokens form ts (at_start start) s qs e).given
@@ -47,7 +47,7 @@ due_of : (form : DocForm) (start : InForce) (ts : List Token) (qs : List Quad) �
 due_of form start ts qs (more, all, d, e) =
     let told : tokens (document_events start d.tree) ≡ ts ++ more = document_told d.tree start ∙ sym d.tokens in
     sym e
-    ∙ ap (quads_below (length ts)) (sym d.quads)
+    ∙ ap (items_below (length ts)) (sym d.quads)
     ∙ before_due (document_events start d.tree) (length ts) 0 (length ts) (omega arith)
     ∙ sym (lag form ts more start d.tree told)
 

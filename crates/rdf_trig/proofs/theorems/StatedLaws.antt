@@ -1,7 +1,7 @@
 -- The laws as they are stated.
 use Rattle.std.specs.Prelude.{nat_lt}
 use Rattle.std.proofs.lemmas.Bool.{cond-true, cond-false, cases_lt, lt-ltb, le-ltb}
-use Rattle.rdf_tokens.specs.Grammars.{Marked, unmarked, quads_below, Due}
+use Rattle.rdf_tokens.specs.Grammars.{Marked, unmarked, items_below, Due}
 use Rattle.rdf_trig.specs.Documents.{documents}
 use Rattle.std.proofs.Common.{sym, ℕ, ◌∷◌, ◌++◌, ◌<◌, ◌≤◌, [], ap, refl, ◌∙◌, ⊎_elim, arith, length, ◌≡◌, List, subst}
 use Rattle.rdf_terms.specs.Terms.{Quad}
@@ -41,21 +41,21 @@ stops form start ts t more s qs x e a = record {
 }
 
 -- where marks rise, those below a number stand in front
-none_below : (qs : List Marked) (m k : ℕ) → k ≤ m → Rises m qs → quads_below k qs ≡ []
+none_below : (qs : List Marked) (m k : ℕ) → k ≤ m → Rises m qs → items_below k qs ≡ []
 none_below [] m k l r = refl
 none_below (q ∷ qs) m k l r = cond-false (nat_lt q.mark k) _ _ (le-ltb _ _ (omega (arith, l, r.0))) ∙ none_below qs q.mark k (omega (arith, l, r.0)) r.1
 
-front_below : (qs : List Marked) (m k : ℕ) → Rises m qs → (rest : List Quad) × (unmarked qs ≡ quads_below k qs ++ rest)
+front_below : (qs : List Marked) (m k : ℕ) → Rises m qs → (rest : List Quad) × (unmarked qs ≡ items_below k qs ++ rest)
 front_below [] m k r = ([], refl)
 front_below (q ∷ qs) m k r = ⊎_elim (below (front_below qs q.mark k r.1)) behind (cases_lt q.mark k)
   where
-    below : (rest : List Quad) × (unmarked qs ≡ quads_below k qs ++ rest) → q.mark < k →
-        (rest : List Quad) × (unmarked (q ∷ qs) ≡ quads_below k (q ∷ qs) ++ rest)
-    below ih l = (ih.0, ap (λ x. q.quad ∷ x) ih.1 ∙ sym (ap (λ x. x ++ ih.0) (cond-true (nat_lt q.mark k) (q.quad ∷ quads_below k qs) (quads_below k qs) (lt-ltb _ _ l))))
+    below : (rest : List Quad) × (unmarked qs ≡ items_below k qs ++ rest) → q.mark < k →
+        (rest : List Quad) × (unmarked (q ∷ qs) ≡ items_below k (q ∷ qs) ++ rest)
+    below ih l = (ih.0, ap (λ x. q.item ∷ x) ih.1 ∙ sym (ap (λ x. x ++ ih.0) (cond-true (nat_lt q.mark k) (q.item ∷ items_below k qs) (items_below k qs) (lt-ltb _ _ l))))
 
-    behind : k ≤ q.mark → (rest : List Quad) × (unmarked (q ∷ qs) ≡ quads_below k (q ∷ qs) ++ rest)
+    behind : k ≤ q.mark → (rest : List Quad) × (unmarked (q ∷ qs) ≡ items_below k (q ∷ qs) ++ rest)
     behind l =
-        let e : quads_below k (q ∷ qs) ≡ [] = cond-false (nat_lt q.mark k) (q.quad ∷ quads_below k qs) (quads_below k qs) (le-ltb _ _ l) ∙ none_below qs q.mark k l r.1 in
+        let e : items_below k (q ∷ qs) ≡ [] = cond-false (nat_lt q.mark k) (q.item ∷ items_below k qs) (items_below k qs) (le-ltb _ _ l) ∙ none_below qs q.mark k l r.1 in
         (unmarked (q ∷ qs), sym (ap (λ x. x ++ unmarked (q ∷ qs)) e))
 
 pub due_front : (form : DocForm) (start : InForce) (ts more : List Token) (qs : List Quad) (all : List Marked) → Due (documents form start) ts qs →
@@ -64,5 +64,5 @@ pub due_front : (form : DocForm) (start : InForce) (ts more : List Token) (qs : 
 due_front form start ts more qs all w d =
     let r = subst (Rises 0) d.quads (never_fall form start d.tree) in
     let f = front_below all 0 (length ts) r in
-    let e : quads_below (length ts) all ≡ qs = same_due form start ts (quads_below (length ts) all) qs (more, all, d, refl) w in
+    let e : items_below (length ts) all ≡ qs = same_due form start ts (items_below (length ts) all) qs (more, all, d, refl) w in
     (f.0, f.1 ∙ ap (λ x. x ++ f.0) e)

@@ -5,7 +5,7 @@ use Rattle.rdf_trig.specs.Steps.{state_of}
 use Rattle.rdf_trig.specs.Accepting.{TreeAt, reason_of, tree_words}
 use Rattle.rdf_trig.proofs.code.AnswersOfSteps.{same_scope}
 use Rattle.rdf_trig.proofs.code.LawfulGrammar.{takes_token, misses_token}
-use Rattle.rdf_trig.proofs.grammar.TreeGrammarGrammar.accept.Goals as goal
+use Rattle.rdf_trig.proofs.grammar.TreeGrammarQuadGrammar.accept_quads.Goals as goal
 
 pub invariant_of-self-in-Err : goal.invariant_of-self-in-Err
 invariant_of-self-in-Err g c = (c.clear.ensures, c.restart.ensures c.self.inside.rules.form c.self.inside.rules.limits)
