@@ -1,5 +1,6 @@
 -- Documents, and each law at one.
 pub mod Documents
+pub mod OfBindings
 pub mod OfLaws
 pub mod OfReading
 pub mod OfWriting

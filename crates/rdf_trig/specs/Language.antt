@@ -2,9 +2,10 @@
 use Rattle.rdf_terms.specs.declared.kind.Dialect.TheVariants.{Turtle as turtle}
 use Rattle.rdf_terms.specs.declared.reason.Reason.{Reason}
 use Rattle.rdf_terms.specs.declared.reason.Reason.TheVariants as reason
-use Rattle.std.specs.Prelude.{List}
+use Rattle.std.specs.Prelude.{ℕ, List, [], Option, Some, None}
 use Rattle.rdf_tokens.specs.Tokens.{Token}
 use Rattle.rdf_tokens.specs.Grammars.{Language}
+use Rattle.rdf_iri.specs.Bindings.{BindingMap}
 use Rattle.rdf_iri.specs.Scope.{InForce}
 use Rattle.rdf_trig.specs.declared.form.DocForm.{DocForm}
 use Rattle.rdf_trig.specs.Documents.{documents, Passes}
@@ -14,6 +15,11 @@ use Rattle.rdf_trig.specs.Refusals.{RefusedFor, unexpected, too_deep, unbound, n
 pub record Chosen : Type 0 where
   pub form : DocForm
   pub start : InForce
+
+-- the bindings before the first token: those that are handed in, or none
+abbrev pub handed_in : Option BindingMap → List (List ℕ × List ℕ)
+handed_in None = []
+handed_in (Some b) = b.bindings
 
 -- why a token is refused after some tokens
 abbrev pub Blamed : DocForm → InForce → Reason → List Token → Token → Type 0

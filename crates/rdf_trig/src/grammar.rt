@@ -1,8 +1,7 @@
 // Turtle and TriG as a grammar that a reader drives.
 
-ghost use Rattle.std.specs.Prelude.{◌≡◌, []};
+ghost use Rattle.std.specs.Prelude.{◌≡◌};
 ghost use Rattle.rdf_iri.specs.Limits.{Sizes};
-ghost use Rattle.rdf_iri.specs.Scope.{BaseFits};
 ghost use Rattle.rdf_trig.specs.declared.form.DocForm.{DocForm};
 ghost use Rattle.rdf_trig.specs.Machine as M;
 ghost use Rattle.rdf_trig.specs.Steps.{Keeps};
@@ -15,7 +14,7 @@ use crate::rules::Rules;
 use crate::state::State;
 use rdf_driver::{Grammar, QuadGrammar, QuadItem};
 use rdf_iri::{Limits, Scope};
-use rdf_terms::{Dialect, Iri, QuadSink, Reason};
+use rdf_terms::{Dialect, QuadSink, Reason};
 use rdf_tokens::Token;
 use std::alloc::{Allocator, Global};
 use std::marker::Model;
@@ -46,15 +45,14 @@ impl<A: Allocator> Model for TreeGrammar<A> {
 }
 
 impl<A: Allocator + Copy> TreeGrammar<A> {
-    /// Before the first token, in a document with this base, or none. It takes no memory.
-    pub fn new(alloc: A, form: DocForm, base: Option<Iri<A>>, limits: Limits) -> TreeGrammar<A>
-        requires { BaseFits base limits }
-        ensures { result ≡ record { form = form; limit = limits.token; state = M.at_start (record { base = base; bindings = []; limits = limits }) } }
+    /// Before the first token of a document. It takes no memory.
+    pub fn new(alloc: A, options: Options<A>) -> TreeGrammar<A>
+        ensures { result ≡ record { form = options.form; limit = options.start.limits.token; state = M.at_start options.start } }
     {
         TreeGrammar {
             alloc,
-            rules: Rules { form, limits },
-            scope: Scope::new(alloc, base, limits),
+            rules: options.rules(),
+            scope: options.start(alloc),
             state: State::new(alloc),
         }
     }

@@ -12,30 +12,32 @@ ghost use Rattle.rdf_trig.specs.Accepting.{tree_words};
 
 use crate::form::DocForm;
 use crate::grammar::TreeGrammar;
+use crate::rules::Rules;
 use rdf_driver::{Fault, Reader, Summary};
-use rdf_iri::Limits;
+use rdf_iri::{Bindings, Limits, Scope};
 use rdf_terms::{Iri, QuadSink};
 use std::alloc::{Allocator, Global};
 use std::marker::Model;
 
-/// What a reader is to read, and from which base.
+/// What a reader is to read, and the base and prefixes that are in force before the first token.
 #[derive(Drop)]
 pub struct Options<A: Allocator = Global> {
     form: DocForm,
     base: Option<Iri<A>>,
     limits: Limits,
+    bindings: Option<Bindings<A>>,
 }
 
 impl<A: Allocator> Model for Options<A> {
-    ghost use Rattle.std.specs.Prelude.{[]};
+    ghost use Rattle.std.specs.Prelude.{◌≡◌, IfSome};
     ghost use Rattle.rdf_iri.specs.Scope.{BaseFits};
-    ghost use Rattle.rdf_trig.specs.Language.{Chosen};
+    ghost use Rattle.rdf_trig.specs.Language.{Chosen, handed_in};
 
     ghost Value = { Chosen };
 
-    ghost view = { λ o. record { form = o.form; start = record { base = o.base; bindings = []; limits = o.limits } } };
+    ghost view = { λ o. record { form = o.form; start = record { base = o.base; bindings = handed_in o.bindings; limits = o.limits } } };
 
-    ghost invariant = { λ o. BaseFits o.base o.limits };
+    ghost invariant = { λ o. BaseFits o.base o.limits × IfSome o.bindings (λ b. b.limits ≡ o.limits) };
 }
 
 // Whether a base is within the limit.
@@ -50,16 +52,69 @@ fn base_fits<A: Allocator>(base: &Option<Iri<A>>, limits: Limits) -> bool
 }
 
 impl<A: Allocator> Options<A> {
-    /// Documents of the form, with this base or none, within the limits. None where the base has more bytes than an IRI
-    /// may have; it is dropped then.
+    /// Documents of the form, with this base or none and no prefix bound, within the limits. None where the base has more
+    /// bytes than an IRI may have; it is dropped then.
     pub fn new(form: DocForm, base: Option<Iri<A>>, limits: Limits) -> Option<Options<A>>
         ensures { let start : InForce = record { base = base; bindings = []; limits = limits } in
             let chosen : Chosen = record { form = form; start = start } in SomeIff result (BaseFits base limits) chosen }
     {
         if base_fits(&base, limits) {
-            Some(Options { form, base, limits })
+            Some(Options {
+                form,
+                base,
+                limits,
+                bindings: None,
+            })
         } else {
             None
+        }
+    }
+
+    /// The same, with these prefixes bound before the first token, in place of those that were. It takes no memory.
+    pub fn with_bindings(self, bindings: Bindings<A>) -> Options<A>
+        requires { bindings.limits ≡ self.start.limits }
+        ensures { result ≡ record { form = self.form; start = record self.start { bindings = bindings.bindings } } }
+    {
+        let Options {
+            form,
+            base,
+            limits,
+            ..
+        } = self;
+        Options {
+            form,
+            base,
+            limits,
+            bindings: Some(bindings),
+        }
+    }
+
+    /// The form and the limits.
+    pub(crate) fn rules(&self) -> Rules
+        ensures form { result.form ≡ self.now.form }
+        ensures limits { result.limits ≡ self.now.start.limits }
+    {
+        Rules {
+            form: self.form,
+            limits: self.limits,
+        }
+    }
+}
+
+impl<A: Allocator + Copy> Options<A> {
+    /// What is in force before the first token.
+    pub(crate) fn start(self, alloc: A) -> Scope<A>
+        ensures { result ≡ self.start }
+    {
+        let Options {
+            base,
+            limits,
+            bindings,
+            ..
+        } = self;
+        match bindings {
+            Some(bindings) => Scope::starting(alloc, base, limits, bindings),
+            None => Scope::new(alloc, base, limits),
         }
     }
 }
@@ -92,12 +147,8 @@ pub fn tree_reader<A: Allocator + Copy>(alloc: A, options: Options<A>) -> Reader
     ensures form { result.grammar.form ≡ options.form }
     ensures token { result.scanner.limit ≡ options.start.limits.token }
 {
-    let Options { form, base, limits } = options;
-    Reader::new(
-        alloc,
-        TreeGrammar::new(alloc, form, base, limits),
-        limits.token(),
-    )
+    let limit = options.limits.token();
+    Reader::new(alloc, TreeGrammar::new(alloc, options), limit)
 }
 
 impl<A: Allocator + Copy> TrigReader<A> {

@@ -1,12 +1,18 @@
-use Rattle.std.proofs.Common.{◌∙◌, ap}
+use Rattle.std.proofs.Common.{◌∙◌, sym, ap, ap₂}
+use Rattle.rdf_iri.specs.Limits.{Sizes}
+use Rattle.rdf_iri.specs.Scope.{InForce}
+use Rattle.rdf_trig.specs.declared.form.DocForm.{DocForm}
 use Rattle.rdf_trig.specs.Machine.{State, at_start}
 use Rattle.rdf_trig.specs.Accepting.{TreeAt}
 use Rattle.rdf_trig.proofs.grammar.TreeGrammar.new.Goals as goal
 
+abbrev stands : DocForm → Sizes → State → TreeAt
+stands form limits state = record { form = form; limit = limits.token; state = state }
+
 pub invariant_of-result : goal.invariant_of-result
-invariant_of-result g c = (ap (λ s. s.limits) c.new.ensures, c.new-2.ensures.keeps c.args.form c.args.limits)
+invariant_of-result g c = (ap (λ (s : InForce). s.limits) c.start.ensures ∙ sym c.rules.ensures.limits, c.new.ensures.keeps c.rules.result.form c.rules.result.limits)
 
 pub returns : goal.returns
 returns g c =
-    let stands : State → TreeAt = λ s. record { form = c.args.form; limit = c.args.limits.token; state = s } in
-    ap stands (c.new-2.ensures.start c.args.form c.new.result ∙ ap at_start c.new.ensures)
+    ap (stands c.rules.result.form c.rules.result.limits) (c.new.ensures.start c.rules.result.form c.start.result ∙ ap at_start c.start.ensures)
+    ∙ ap₂ (λ form limits. stands form limits (at_start c.args.options.start)) c.rules.ensures.form c.rules.ensures.limits
