@@ -71,10 +71,10 @@ past-append : (u w : List ℕ) (p : Place) → past p (u ++ w) ≡ past (past p 
 past-append [] w p = refl
 past-append (c ∷ u) w p = past-append u w _
 
-spells_nothing : (limit : ℕ) → Spells limit [] (λ p. [])
+pub spells_nothing : (limit : ℕ) → Spells limit [] (λ p. [])
 spells_nothing limit = record { size = λ p. omega arith; reads = λ tail p v h. refl }
 
-spells_then : (limit : ℕ) (u w : List ℕ) (f g : Place → List Token) → Spells limit u f → Spells limit w g → Spells limit (u ++ w) (λ p. f p ++ g (past p u))
+pub spells_then : (limit : ℕ) (u w : List ℕ) (f g : Place → List Token) → Spells limit u f → Spells limit w g → Spells limit (u ++ w) (λ p. f p ++ g (past p u))
 spells_then limit u w f g a b = record { size = size; reads = reads }
   where
     size : (p : Place) → total (f p ++ g (past p u)) ≤ length (u ++ w)
