@@ -60,7 +60,7 @@ graph_taken : (n : ℕ) (x : Option Name) → graph_bound has_scheme x → Graph
 graph_taken n None s w = tt
 graph_taken n (Some x) s w = name_taken n x s w
 
-statement_taken : (n : ℕ) (f : LineForm) (s : Statement) → GoodStatement has_scheme f s → IrisWithin n (quad_of s) → GoodStatement (is_taken n) f s
+pub statement_taken : (n : ℕ) (f : LineForm) (s : Statement) → GoodStatement has_scheme f s → IrisWithin n (quad_of s) → GoodStatement (is_taken n) f s
 statement_taken n f s g w = record {
   subject = name_taken n s.subject g.subject w.subject;
   predicate = taken n (iri_of s.predicate) g.predicate w.predicate;

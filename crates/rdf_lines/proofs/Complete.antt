@@ -50,7 +50,7 @@ statement_split : (s : Statement) (ts : List Token) →
     statement_tokens s ++ ts ≡ name_tokens s.subject ++ (token IriRef s.predicate ∷ (object_tokens s.object ++ (graph_tokens s.graph ++ token Dot s.dot ∷ ts)))
 statement_split s ts = simp append_assoc
 
-run_statement : (test : List ℕ → Bool) (f : LineForm) (s : Statement) (ts : List Token) → GoodStatement test f s → run test f Begin (statement_tokens s ++ ts) ≡ with_quad (quad_of s) (run test f AfterDot ts)
+pub run_statement : (test : List ℕ → Bool) (f : LineForm) (s : Statement) (ts : List Token) → GoodStatement test f s → run test f Begin (statement_tokens s ++ ts) ≡ with_quad (quad_of s) (run test f AfterDot ts)
 run_statement test f s ts g =
     let rest = object_tokens s.object ++ (graph_tokens s.graph ++ token Dot s.dot ∷ ts) in
     ap (run test f Begin) (statement_split s ts)

@@ -26,3 +26,4 @@ pub mod WellFormed
 pub mod WrittenLimits
 mod SettledLemmas
 pub mod AcceptingLemmas
+pub mod CanonicalLines

@@ -1,14 +1,14 @@
 -- When a text is the next token, whatever comes behind it.
 use Rattle.std.proofs.Common.{◌≡◌, ℕ, zero, suc, ◌+◌, ◌-◌, ◌<◌, ◌≤◌, true, false, ◌||◌, ⊎_elim, is_some, List, [], ◌∷◌, ◌++◌, refl, sym, ap, ◌∙◌, subst, Option, Some, None, length, take, drop, arith, length-append, append_assoc}
 use Rattle.std.proofs.lemmas.Bool.{cond-true, cond-false, false≢true, le-ltb, and_left, and_right, cases_lt, cases_Bool}
-use Rattle.std.proofs.lemmas.List.{append-nil, take_at, drop_at}
+use Rattle.std.proofs.lemmas.List.{append-nil, take_all, take_at, drop_at}
 use Rattle.rdf_terms.specs.declared.kind.Dialect.TheVariants.{Lines}
 use Rattle.rdf_terms.specs.Regex.{Matches, after, possible}
 use Rattle.rdf_terms.specs.declared.kind.Kind.{Kind}
 use Rattle.rdf_terms.specs.Shapes.{kinds, shape, any_shape, first_kind, kind_of, is_live}
 use Rattle.rdf_terms.specs.Values.{is_fit}
-use Rattle.rdf_tokens.specs.Tokens.{Place, past, over, chosen, longest, with_length, step, tokens, blank, rest_of, place_of, with_token}
-use Rattle.rdf_tokens.specs.Tokens.Tail.{ended}
+use Rattle.rdf_tokens.specs.Tokens.{Place, Tail, past, over, chosen, decided, by_tail, longest, with_length, step, tokens, blank, rest_of, place_of, with_token}
+use Rattle.rdf_tokens.specs.Tokens.Tail.{goes_on, ended, broken}
 use Rattle.rdf_tokens.specs.Tokens.Step.{token}
 use Rattle.rdf_terms.proofs.RegexLemmas.{matches-after, matches-possible}
 use Rattle.rdf_terms.proofs.ShapesLemmas.{first_kind-matches, matches-first_kind, live-matches, matches-live}
@@ -54,6 +54,11 @@ cut_kind w v t m l = no_kind (w ++ take (suc m) v) (λ n. t m l [] (subst (Match
 cut_live : (w v : List ℕ) → Cut w v → (m : ℕ) → m < length v → is_live Lines (w ++ take (suc m) v) ≡ false
 cut_live w v t m l =
     ⊎_elim (λ e. absurd (let x = live-matches Lines (w ++ take (suc m) v) e in t m l (x.0 ∷ x.1) x.2)) (λ e. e) (cases_Bool (is_live Lines (w ++ take (suc m) v)))
+
+-- the whole text begins nothing longer, where that holds of the token alone, or something comes after it
+pub cut_dead : (w v : List ℕ) → Cut w v → (v ≡ [] → is_live Lines w ≡ false) → is_live Lines (w ++ v) ≡ false
+cut_dead w [] t e = ap (is_live Lines) (append-nil w) ∙ e refl
+cut_dead w (x ∷ v) t e = ap (λ u. is_live Lines (w ++ u)) (sym (take_all (suc (length v)) (x ∷ v) (omega arith))) ∙ cut_live w (x ∷ v) t (length v) (omega arith)
 
 -- The first character behind it cannot stand in the shape.
 pub cut_by_other : (c : ℕ) (k : Kind) → Begins c k → (w : List ℕ) (x : ℕ) (v : List ℕ) → uses (shape Lines k) x ≡ false → Cut (c ∷ w) (x ∷ v)
@@ -104,37 +109,43 @@ not_over limit c w v t l = ⊎_elim long (λ h. and_left _ _ (le-ltb _ _ h)) (ca
         let live : is_live Lines (take (limit + 1) (c ∷ w ++ v)) ≡ false = ap (is_live Lines) front ∙ cut_live (c ∷ w) v t m within in
         and_right _ _ (ap (λ b. b || is_live Lines (take (limit + 1) (c ∷ w ++ v))) kind ∙ live)
 
-next_step : (limit : ℕ) (c : ℕ) (w v : List ℕ) (k : Kind) → kind_of Lines (c ∷ w) ≡ Some k → is_fit k (c ∷ w) ≡ true → Cut (c ∷ w) v →
-    length (c ∷ w) ≤ limit → step Lines limit ended (c ∷ w ++ v) ≡ token (length (c ∷ w)) k
+-- what begins nothing longer is decided, whatever comes after it
+dead_decided : (t : Tail) (w : List ℕ) → by_tail Lines t w false ≡ decided Lines w
+dead_decided goes_on w = refl
+dead_decided ended w = refl
+dead_decided broken w = refl
+
+next_step : (tail : Tail) (limit : ℕ) (c : ℕ) (w v : List ℕ) (k : Kind) → kind_of Lines (c ∷ w) ≡ Some k → is_fit k (c ∷ w) ≡ true → Cut (c ∷ w) v →
+    is_live Lines (c ∷ w ++ v) ≡ false → length (c ∷ w) ≤ limit → step Lines limit tail (c ∷ w ++ v) ≡ token (length (c ∷ w)) k
 unfolding step
-next_step limit c w v k e f t l =
+next_step tail limit c w v k e f t dead l =
     let W = c ∷ w ++ v in
     let o : over Lines limit W ≡ false = not_over limit c w v t l in
     let s : length W ≡ length (c ∷ w) + length v = length-append (c ∷ w) v in
     let g : longest Lines W (length W) ≡ Some (length (c ∷ w), k) = ap (longest Lines W) s ∙ longest_high c w v k e t (length v) (omega arith) in
     let h : is_fit k (take (length (c ∷ w)) W) ≡ true = ap (is_fit k) (take_at (c ∷ w) v (length (c ∷ w)) refl) ∙ f in
-    cond-false _ _ _ o ∙ (ap (chosen W) g ∙ cond-true _ _ _ h)
+    cond-false _ _ _ o ∙ (ap (by_tail Lines tail W) dead ∙ (dead_decided tail W ∙ (ap (chosen W) g ∙ cond-true _ _ _ h)))
 
--- For all kinds: a text with a kind, fit and cut off by what follows, is the next token.
-pub next_token : (limit : ℕ) (p : Place) (c : ℕ) (w v : List ℕ) (k : Kind) → blank Lines false (c ∷ w ++ v) ≡ 0 →
-    kind_of Lines (c ∷ w) ≡ Some k → is_fit k (c ∷ w) ≡ true → Cut (c ∷ w) v → length (c ∷ w) ≤ limit →
-    tokens Lines limit ended false p (c ∷ w ++ v) ≡ with_token (record { kind = k; text = c ∷ w; at = p }) (tokens Lines limit ended false (past p (c ∷ w)) v)
-next_token limit p c w v k z e f t l =
+-- For all kinds: a text with a kind, fit, cut off by what follows and beginning nothing longer with it, is the next token, whatever comes after all.
+pub next_token : (tail : Tail) (limit : ℕ) (p : Place) (c : ℕ) (w v : List ℕ) (k : Kind) → blank Lines false (c ∷ w ++ v) ≡ 0 →
+    kind_of Lines (c ∷ w) ≡ Some k → is_fit k (c ∷ w) ≡ true → Cut (c ∷ w) v → is_live Lines (c ∷ w ++ v) ≡ false → length (c ∷ w) ≤ limit →
+    tokens Lines limit tail false p (c ∷ w ++ v) ≡ with_token (record { kind = k; text = c ∷ w; at = p }) (tokens Lines limit tail false (past p (c ∷ w)) v)
+next_token tail limit p c w v k z e f t dead l =
     let W = c ∷ w ++ v in
     let n = length (c ∷ w) in
     let r : rest_of Lines false W ≡ W = ap (λ x. drop x W) z in
     let q : place_of Lines false p W ≡ p = ap (λ x. past p (take x W)) z in
-    let s : step Lines limit ended (rest_of Lines false W) ≡ token n k = ap (step Lines limit ended) r ∙ next_step limit c w v k e f t l in
+    let s : step Lines limit tail (rest_of Lines false W) ≡ token n k = ap (step Lines limit tail) r ∙ next_step tail limit c w v k e f t dead l in
     let a : take n (rest_of Lines false W) ≡ c ∷ w = ap (take n) r ∙ take_at (c ∷ w) v n refl in
     let d : drop n (rest_of Lines false W) ≡ v = ap (drop n) r ∙ drop_at (c ∷ w) v n refl in
-    at_token Lines limit ended false p W n k s
-    ∙ (ap (λ x. with_token (record { kind = k; text = take n (rest_of Lines false W); at = x }) (tokens Lines limit ended false (past x (take n (rest_of Lines false W))) (drop n (rest_of Lines false W)))) q
-    ∙ (ap (λ x. with_token (record { kind = k; text = x; at = p }) (tokens Lines limit ended false (past p x) (drop n (rest_of Lines false W)))) a
-    ∙ ap (λ x. with_token (record { kind = k; text = c ∷ w; at = p }) (tokens Lines limit ended false (past p (c ∷ w)) x)) d))
+    at_token Lines limit tail false p W n k s
+    ∙ (ap (λ x. with_token (record { kind = k; text = take n (rest_of Lines false W); at = x }) (tokens Lines limit tail false (past x (take n (rest_of Lines false W))) (drop n (rest_of Lines false W)))) q
+    ∙ (ap (λ x. with_token (record { kind = k; text = x; at = p }) (tokens Lines limit tail false (past p x) (drop n (rest_of Lines false W)))) a
+    ∙ ap (λ x. with_token (record { kind = k; text = c ∷ w; at = p }) (tokens Lines limit tail false (past p (c ∷ w)) x)) d))
 
 -- a space is taken off
-pub skip_space : (limit : ℕ) (p : Place) (v : List ℕ) → tokens Lines limit ended false p (32 ∷ v) ≡ tokens Lines limit ended false (past p (32 ∷ [])) v
-skip_space limit p v = tokens-step Lines limit ended false p (32 ∷ v) ∙ sym (tokens-step Lines limit ended false (past p (32 ∷ [])) v)
+pub skip_space : (tail : Tail) (limit : ℕ) (p : Place) (v : List ℕ) → tokens Lines limit tail false p (32 ∷ v) ≡ tokens Lines limit tail false (past p (32 ∷ [])) v
+skip_space tail limit p v = tokens-step Lines limit tail false p (32 ∷ v) ∙ sym (tokens-step Lines limit tail false (past p (32 ∷ [])) v)
 
 -- No longer shape begins so at all.
 pub cut_by_dead : (w v : List ℕ) → is_live Lines w ≡ false → Cut w v

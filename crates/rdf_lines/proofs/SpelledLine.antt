@@ -1,18 +1,18 @@
 -- What is written reads back as the same quads.
-use Rattle.std.proofs.Common.{◌≡◌, ℕ, ◌+◌, ◌≤◌, Bool, true, false, List, [], ◌∷◌, ◌++◌, refl, sym, ap, ◌∙◌, subst, append_assoc, Option, Some, None, length, nat_lt, arith, length-append, zero-add}
+use Rattle.std.proofs.Common.{◌≡◌, ℕ, ◌+◌, ◌≤◌, Bool, true, false, List, [], ◌∷◌, ◌++◌, refl, sym, ap, ◌∙◌, subst, ⊎_elim, append_assoc, Option, Some, None, length, nat_lt, arith, length-append, zero-add}
 use Rattle.std.specs.Prelude.{flat_map, option_map, unwrap_or, bytes_eq}
 use Rattle.std.specs.List.{AllByRecursion}
-use Rattle.std.proofs.lemmas.Bool.{cond-false, le-ltb, and_left}
+use Rattle.std.proofs.lemmas.Bool.{cond-false, cases_Bool, le-ltb, and_left}
 use Rattle.std.proofs.lemmas.List.{append-nil}
 use Rattle.std.proofs.lemmas.Slice.Eq.{bytes_eq-Decides}
 use Rattle.rdf_terms.specs.Classes.{has, scalar}
 use Rattle.rdf_terms.specs.declared.kind.Dialect.TheVariants.{Lines}
 use Rattle.rdf_terms.specs.Regex.{Matches}
 use Rattle.rdf_terms.specs.declared.kind.Kind.{Kind}
-use Rattle.rdf_terms.specs.Shapes.{shape, kind_of, is_live}
+use Rattle.rdf_terms.specs.Shapes.{kinds, any_shape, shape, kind_of, is_live}
 use Rattle.rdf_terms.specs.declared.kind.Kind.TheVariants.{IriRef, LabelNode, ShortString, LangTag, Carets, Dot, LineEnd, End}
 use Rattle.rdf_terms.specs.Values.{is_fit, iri_value, string_value}
-use Rattle.rdf_tokens.specs.Tokens.{Place, past, Token, tokens, step, over, blank, with_tokens}
+use Rattle.rdf_tokens.specs.Tokens.{Place, Tail as Behind, past, Token, tokens, step, over, blank, with_tokens}
 use Rattle.rdf_tokens.specs.Tokens.Tail.{ended}
 use Rattle.rdf_tokens.specs.Tokens.Outcome.{complete}
 use Rattle.rdf_tokens.specs.Tokens.Step.{stop}
@@ -26,7 +26,8 @@ use Rattle.rdf_lines.specs.Writing.{CanWriteSubject, CanWriteTerm, CanWriteGraph
 use Rattle.rdf_lines.specs.Laws.{TermShort, GraphShort, TokensWithin}
 use Rattle.rdf_tokens.proofs.TokensLemmas.{at_stop}
 use Rattle.rdf_terms.proofs.UsedCharacters.{uses}
-use Rattle.rdf_lines.proofs.NextToken.{Cut, kind_at, cut_by_other, cut_by_shape, cut_by_dead, next_token, skip_space}
+use Rattle.rdf_terms.proofs.ShapesLemmas.{live-matches}
+use Rattle.rdf_lines.proofs.NextToken.{Cut, cut_dead, shape_at, kind_at, cut_by_other, cut_by_shape, cut_by_dead, next_token, skip_space}
 use Rattle.rdf_lines.proofs.WritingLemmas.{begins_iri, begins_label, begins_string, begins_tag, iri_shape, iri_fit, iri_meant, string_shape, string_ends, string_fit, string_meant, inside_one}
 
 -- no token of the list has more characters
@@ -41,7 +42,7 @@ total (t ∷ ts) = length t.text + total ts
 -- A text spells tokens, if these are read from it, whatever comes behind it, where none is too long; they depend on its place alone.
 pub record Spells (limit : ℕ) (w : List ℕ) (f : Place → List Token) : Type 0 where
   pub size : (p : Place) → total (f p) ≤ length w
-  pub reads : (p : Place) (v : List ℕ) → AllShort limit (f p) → tokens Lines limit ended false p (w ++ v) ≡ with_tokens (f p) (tokens Lines limit ended false (past p w) v)
+  pub reads : (tail : Behind) (p : Place) (v : List ℕ) → AllShort limit (f p) → tokens Lines limit tail false p (w ++ v) ≡ with_tokens (f p) (tokens Lines limit tail false (past p w) v)
 
 total-append : (ts us : List Token) → total (ts ++ us) ≡ total ts + total us
 total-append [] us = sym (zero-add (total us))
@@ -60,51 +61,54 @@ total_short : (limit : ℕ) (ts : List Token) → total ts ≤ limit → AllShor
 total_short limit [] l = tt
 total_short limit (t ∷ ts) l = (omega arith, total_short limit ts (omega arith))
 
-abbrev leaf : List ℕ → Place → Leaf
+abbrev pub leaf : List ℕ → Place → Leaf
 leaf w p = record { text = w; at = p }
 
-abbrev alone : Kind → List ℕ → Place → List Token
+abbrev pub alone : Kind → List ℕ → Place → List Token
 alone k w p = L.token k (leaf w p) ∷ []
 
 past-append : (u w : List ℕ) (p : Place) → past p (u ++ w) ≡ past (past p u) w
 past-append [] w p = refl
 past-append (c ∷ u) w p = past-append u w _
 
-spells_nothing : (limit : ℕ) → Spells limit [] (λ p. [])
-spells_nothing limit = record { size = λ p. omega arith; reads = λ p v h. refl }
+pub spells_nothing : (limit : ℕ) → Spells limit [] (λ p. [])
+spells_nothing limit = record { size = λ p. omega arith; reads = λ tail p v h. refl }
 
-spells_then : (limit : ℕ) (u w : List ℕ) (f g : Place → List Token) → Spells limit u f → Spells limit w g → Spells limit (u ++ w) (λ p. f p ++ g (past p u))
+pub spells_then : (limit : ℕ) (u w : List ℕ) (f g : Place → List Token) → Spells limit u f → Spells limit w g → Spells limit (u ++ w) (λ p. f p ++ g (past p u))
 spells_then limit u w f g a b = record { size = size; reads = reads }
   where
     size : (p : Place) → total (f p ++ g (past p u)) ≤ length (u ++ w)
     size p = omega (arith, total-append (f p) (g (past p u)), length-append u w, a.size p, b.size (past p u))
 
-    reads : (p : Place) (v : List ℕ) → AllShort limit (f p ++ g (past p u)) →
-        tokens Lines limit ended false p ((u ++ w) ++ v) ≡ with_tokens (f p ++ g (past p u)) (tokens Lines limit ended false (past p (u ++ w)) v)
-    reads p v h =
-        let r = tokens Lines limit ended false (past (past p u) w) v in
-        ap (tokens Lines limit ended false p) (append_assoc u w v)
-        ∙ (a.reads p (w ++ v) (short_front limit (f p) (g (past p u)) h)
-        ∙ (ap (with_tokens (f p)) (b.reads (past p u) v (short_rest limit (f p) (g (past p u)) h))
+    reads : (tail : Behind) (p : Place) (v : List ℕ) → AllShort limit (f p ++ g (past p u)) →
+        tokens Lines limit tail false p ((u ++ w) ++ v) ≡ with_tokens (f p ++ g (past p u)) (tokens Lines limit tail false (past p (u ++ w)) v)
+    reads tail p v h =
+        let r = tokens Lines limit tail false (past (past p u) w) v in
+        ap (tokens Lines limit tail false p) (append_assoc u w v)
+        ∙ (a.reads tail p (w ++ v) (short_front limit (f p) (g (past p u)) h)
+        ∙ (ap (with_tokens (f p)) (b.reads tail (past p u) v (short_rest limit (f p) (g (past p u)) h))
         ∙ (ap (λ (x : List Token). record { tokens = x; outcome = r.outcome; at = r.at }) (sym (append_assoc (f p) (g (past p u)) r.tokens))
-        ∙ ap (λ q. with_tokens (f p ++ g (past p u)) (tokens Lines limit ended false q v)) (sym (past-append u w p)))))
+        ∙ ap (λ q. with_tokens (f p ++ g (past p u)) (tokens Lines limit tail false q v)) (sym (past-append u w p)))))
 
 spells_alone : (limit c : ℕ) (w : List ℕ) (k : Kind) → ((v : List ℕ) → blank Lines false (c ∷ v) ≡ 0) → kind_of Lines (c ∷ w) ≡ Some k → is_fit k (c ∷ w) ≡ true →
-    ((v : List ℕ) → Cut (c ∷ w) v) → Spells limit (c ∷ w) (alone k (c ∷ w))
-spells_alone limit c w k z e f t = record { size = λ p. omega arith; reads = λ p v h. next_token limit p c w v k (z (w ++ v)) e f (t v) h.0 }
+    ((v : List ℕ) → Cut (c ∷ w) v) → is_live Lines (c ∷ w) ≡ false → Spells limit (c ∷ w) (alone k (c ∷ w))
+spells_alone limit c w k z e f t dead = record {
+  size = λ p. omega arith;
+  reads = λ tail p v h. next_token tail limit p c w v k (z (w ++ v)) e f (t v) (cut_dead (c ∷ w) v (t v) (λ x. dead)) h.0;
+}
 
 spells_before_space : (limit c : ℕ) (w : List ℕ) (k : Kind) → ((v : List ℕ) → blank Lines false (c ∷ v) ≡ 0) → kind_of Lines (c ∷ w) ≡ Some k → is_fit k (c ∷ w) ≡ true →
     ((v : List ℕ) → Cut (c ∷ w) (32 ∷ v)) → Spells limit (c ∷ w ++ space) (alone k (c ∷ w))
 spells_before_space limit c w k z e f t = record {
   size = λ p. let s = length-append (c ∷ w) space in omega arith;
-  reads = λ p v h.
-      ap (tokens Lines limit ended false p) (append_assoc (c ∷ w) space v)
-      ∙ (next_token limit p c w (32 ∷ v) k (z (w ++ 32 ∷ v)) e f (t v) h.0
-      ∙ ap (with_tokens (alone k (c ∷ w) p)) (skip_space limit (past p (c ∷ w)) v ∙ ap (λ q. tokens Lines limit ended false q v) (sym (past-append (c ∷ w) space p))));
+  reads = λ tail p v h.
+      ap (tokens Lines limit tail false p) (append_assoc (c ∷ w) space v)
+      ∙ (next_token tail limit p c w (32 ∷ v) k (z (w ++ 32 ∷ v)) e f (t v) (cut_dead (c ∷ w) (32 ∷ v) (t v) (λ x. absurd (let y : 32 ∷ v ≡ [] = x in cc))) h.0
+      ∙ ap (with_tokens (alone k (c ∷ w) p)) (skip_space tail limit (past p (c ∷ w)) v ∙ ap (λ q. tokens Lines limit tail false q v) (sym (past-append (c ∷ w) space p))));
 }
 
 spells_space : (limit : ℕ) → Spells limit space (λ p. [])
-spells_space limit = record { size = λ p. omega arith; reads = λ p v h. skip_space limit p v }
+spells_space limit = record { size = λ p. omega arith; reads = λ tail p v h. skip_space tail limit p v }
 
 -- the parts of a line
 iri_space : uses (shape Lines IriRef) 32 ≡ false
@@ -150,39 +154,46 @@ spells_tag limit t h =
     spells_before_space limit 64 t LangTag (λ v. refl) (kind_at 64 LangTag begins_tag t (tag_shape t h)) (tag_fit (64 ∷ t))
     (λ v. cut_by_other 64 LangTag begins_tag t 32 v tag_space)
 
+-- a written string begins nothing longer
+string_dead : (w : List ℕ) → all_have scalar w ≡ true → is_live Lines (string_text w) ≡ false
+string_dead w a = ⊎_elim (λ e. absurd (longer (live-matches Lines (string_text w) e))) (λ e. e) (cases_Bool (is_live Lines (string_text w)))
+  where
+    longer : (x : ℕ) × (u : List ℕ) × Matches (any_shape Lines kinds) (string_text w ++ x ∷ u) → ⊥
+    longer m = string_ends w a m.0 m.1 (shape_at 34 ShortString begins_string _ m.2)
+
 spells_string : (limit : ℕ) (w : List ℕ) → all_have scalar w ≡ true → Spells limit (string_text w) (alone ShortString (string_text w))
 spells_string limit w a =
     spells_alone limit 34 (flat_map escaped w ++ 34 ∷ []) ShortString (λ v. refl) (kind_at 34 ShortString begins_string _ (string_shape w a)) (string_fit w a)
-    (λ v. cut_by_shape 34 ShortString begins_string _ v (string_ends w a))
+    (λ v. cut_by_shape 34 ShortString begins_string _ v (string_ends w a)) (string_dead w a)
 
 spells_carets : (limit : ℕ) → Spells limit (94 ∷ 94 ∷ []) (alone Carets (94 ∷ 94 ∷ []))
 unfolding kind_of is_live shape has is_fit
-spells_carets limit = spells_alone limit 94 (94 ∷ []) Carets (λ v. refl) refl refl (λ v. cut_by_dead (94 ∷ 94 ∷ []) v refl)
+spells_carets limit = spells_alone limit 94 (94 ∷ []) Carets (λ v. refl) refl refl (λ v. cut_by_dead (94 ∷ 94 ∷ []) v refl) refl
 
 spells_dot : (limit : ℕ) → Spells limit (46 ∷ []) (alone Dot (46 ∷ []))
 unfolding kind_of is_live shape has is_fit
-spells_dot limit = spells_alone limit 46 [] Dot (λ v. refl) refl refl (λ v. cut_by_dead (46 ∷ []) v refl)
+spells_dot limit = spells_alone limit 46 [] Dot (λ v. refl) refl refl (λ v. cut_by_dead (46 ∷ []) v refl) refl
 
 spells_line_end : (limit : ℕ) → Spells limit (10 ∷ []) (alone LineEnd (10 ∷ []))
 unfolding kind_of is_live shape has is_fit
-spells_line_end limit = spells_alone limit 10 [] LineEnd (λ v. refl) refl refl (λ v. cut_by_dead (10 ∷ []) v refl)
+spells_line_end limit = spells_alone limit 10 [] LineEnd (λ v. refl) refl refl (λ v. cut_by_dead (10 ∷ []) v refl) refl
 
 -- the tree of a quad
-abbrev name_tree : Place → Subject → Name
+abbrev pub name_tree : Place → Subject → Name
 name_tree p (Iri i) = Ref (leaf (iri_text i) p)
 name_tree p (Blank n) = Lab (leaf (node_text n) p)
 
-abbrev typed_tree : Bool → Place → List ℕ → List ℕ → Object
+abbrev pub typed_tree : Bool → Place → List ℕ → List ℕ → Object
 typed_tree true p w i = Plain (leaf (string_text w) p)
 typed_tree false p w i =
     WithType (leaf (string_text w) p) (leaf (94 ∷ 94 ∷ []) (past p (string_text w))) (leaf (iri_text i) (past (past p (string_text w)) (94 ∷ 94 ∷ [])))
 
-abbrev object_tree : Place → Term → Object
+abbrev pub object_tree : Place → Term → Object
 object_tree p (Resource s) = Named (name_tree p s)
 object_tree p (Literal w (Lang t)) = WithTag (leaf (string_text w) p) (leaf (64 ∷ t) (past p (string_text w)))
 object_tree p (Literal w (Typed i)) = typed_tree (bytes_eq i xsd_string) p w i
 
-abbrev graph_tree : Place → Option Subject → Option Name
+abbrev pub graph_tree : Place → Option Subject → Option Name
 graph_tree p None = None
 graph_tree p (Some g) = Some (name_tree p g)
 
@@ -198,7 +209,7 @@ upto_object q = upto_predicate q ++ (term_text q.object ++ space)
 abbrev pub upto_graph : Quad → List ℕ
 upto_graph q = upto_object q ++ graph_text q.graph
 
-abbrev statement_tree : Place → Quad → Statement
+abbrev pub statement_tree : Place → Quad → Statement
 statement_tree p q = record {
   subject = name_tree p q.subject;
   predicate = leaf (iri_text q.predicate) (past p (upto_subject q));
@@ -294,17 +305,17 @@ reads_text limit (q ∷ qs) h p s =
     let ts = document_tokens (document_tree (past p w) qs) in
     let all : AllShort limit ((f ++ e) ++ ts) = subst (AllShort limit) (sym (append_assoc f e ts)) s in
     let m = reads_text limit qs h.1 (past p w) (short_rest limit (f ++ e) ts all) in
-    (spells_line limit q h.0.0 h.0.1).reads p rest (short_front limit (f ++ e) ts all)
+    (spells_line limit q h.0.0 h.0.1).reads ended p rest (short_front limit (f ++ e) ts all)
     ∙ (ap (with_tokens (f ++ e)) m
     ∙ (ap (λ (x : List Token). record { tokens = x; outcome = complete; at = past (past p w) rest }) (append_assoc f e (document_tokens (document_tree (past p w) qs)))
     ∙ ap (λ (x : Place). record { tokens = document_tokens (document_tree p (q ∷ qs)); outcome = complete; at = x }) (sym (past-append w rest p))))
 
 -- The tokens of the tree are short where those of the quads are.
-short_both : (limit : ℕ) (ts us : List Token) → AllShort limit ts → AllShort limit us → AllShort limit (ts ++ us)
+pub short_both : (limit : ℕ) (ts us : List Token) → AllShort limit ts → AllShort limit us → AllShort limit (ts ++ us)
 short_both limit [] us h k = k
 short_both limit (t ∷ ts) us h k = (h.0, short_both limit ts us h.1 k)
 
-name_short : (limit : ℕ) (p : Place) (s : Subject) → length (subject_text s) ≤ limit → AllShort limit (name_tokens (name_tree p s))
+pub name_short : (limit : ℕ) (p : Place) (s : Subject) → length (subject_text s) ≤ limit → AllShort limit (name_tokens (name_tree p s))
 name_short limit p (Iri i) h = (h, tt)
 name_short limit p (Blank n) h = (h, tt)
 
@@ -321,7 +332,7 @@ graph_short : (limit : ℕ) (p : Place) (g : Option Subject) → GraphShort limi
 graph_short limit p None h = tt
 graph_short limit p (Some g) h = name_short limit p g h
 
-statement_short : (limit : ℕ) (p : Place) (q : Quad) → 2 ≤ limit → TokensWithin limit q → AllShort limit (statement_tokens (statement_tree p q))
+pub statement_short : (limit : ℕ) (p : Place) (q : Quad) → 2 ≤ limit → TokensWithin limit q → AllShort limit (statement_tokens (statement_tree p q))
 statement_short limit p q e h =
     let s = statement_tree p q in
     let n = name_tokens s.subject in
@@ -383,7 +394,7 @@ same_quad q s v o g a b c d =
     ∙ (ap (λ (x : Term). let r : Quad = record { subject = q.subject; predicate = q.predicate; object = x; graph = g } in r) c
     ∙ ap (λ (x : Option Subject). let r : Quad = record { subject = q.subject; predicate = q.predicate; object = q.object; graph = x } in r) d))
 
-statement_meant : (p : Place) (q : Quad) → IsQuad q → CanWrite Kept q → (quad_of (statement_tree p q) ≡ q) × GoodStatement has_scheme NQuads (statement_tree p q)
+pub statement_meant : (p : Place) (q : Quad) → IsQuad q → CanWrite Kept q → (quad_of (statement_tree p q) ≡ q) × GoodStatement has_scheme NQuads (statement_tree p q)
 statement_meant p q h c =
     let s = name_meant p q.subject h.subject c.subject in
     let v = iri_leaf q.predicate h.predicate (past p (upto_subject q)) in

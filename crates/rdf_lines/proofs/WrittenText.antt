@@ -94,7 +94,7 @@ graph_scalars : (g : Option Subject) → IsGraph g → CanWriteGraph Kept g → 
 graph_scalars None h c = refl
 graph_scalars (Some g) h c = scalars_append (subject_text g) space (subject_scalars g h c) refl
 
-quad_scalars : (q : Quad) → IsQuad q → CanWrite Kept q → scalars (quad_text q) ≡ true
+pub quad_scalars : (q : Quad) → IsQuad q → CanWrite Kept q → scalars (quad_text q) ≡ true
 quad_scalars q h c =
     let a = scalars_append (subject_text q.subject) space (subject_scalars q.subject h.subject c.subject) refl in
     let b = scalars_append (iri_text q.predicate) space (iri_scalars q.predicate h.predicate) refl in

@@ -9,3 +9,4 @@ pub mod WrittenBytes
 pub mod States
 pub mod Spelled
 pub mod Accepting
+pub mod Canonical

@@ -4,6 +4,7 @@ ghost use Rattle.std.specs.Prelude.{◌≡◌, ℕ, List, ◌≤◌, length};
 ghost use Rattle.rdf_terms.specs.Terms.{IsNode, Node, Quad};
 ghost use Rattle.rdf_lines.specs.declared.form.Style.{Style};
 ghost use Rattle.rdf_lines.specs.Writing.{Writable, rename_node, text};
+ghost use Rattle.rdf_lines.specs.Canonical.{CanonicalLinesAreRead};
 ghost use Rattle.rdf_lines.specs.Laws.{ReadsBack, TokensSettleTheQuads, TokensSettleWhatIsDue, DueBeginsTheQuads, ReadQuadsAreDue, DocumentsAreRead, RefusedIsNoDocument, WrittenTextIsRead, DocumentIsWritable, WrittenDocumentIsRead};
 
 /// The bytes written for quads are a document of N-Quads, whose quads are these, renamed, one for one and in
@@ -63,4 +64,10 @@ pub fn document_is_writable()
 /// and its brackets, and its limit on IRIs, each at least 64.
 pub fn written_document_is_read()
     ensures { WrittenDocumentIsRead }
+{}
+
+/// Between two lines, lines that stand as they are written spell tokens that a reader accepts, give their quads, and lead back between
+/// two lines.
+pub fn canonical_lines_are_read()
+    ensures { CanonicalLinesAreRead }
 {}

@@ -36,6 +36,7 @@ pub mod MoveLemmas
 pub mod NextLemmas
 pub mod Inside
 pub mod LawLemmas
+pub mod PassingLemmas
 pub mod OutcomeLemmas
 pub mod LawExamples
 pub mod LimitLemmas

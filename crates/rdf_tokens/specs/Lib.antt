@@ -6,6 +6,7 @@ pub mod Grammars
 pub mod Unread
 pub mod Scans
 pub mod Moves
+pub mod Passing
 pub mod Sorts
 pub mod Machines
 pub mod Iri

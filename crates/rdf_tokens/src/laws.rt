@@ -1,6 +1,7 @@
 //! The laws of token lists. These functions do nothing: their contracts are the laws.
 
 ghost use Rattle.rdf_tokens.specs.Laws.{MoreBytesOnlyLengthen, GivenTokensAreABeginning, NextTokenIsGiven, TokensStandAtTheirPlaces, TokensHaveShapes, TokensKeepTheLimit, EndStandsLast, LongestIsFound, TokensAreLongest, OutcomesHaveReasons};
+ghost use Rattle.rdf_tokens.specs.Passing.{PassedTokensAreRead};
 
 /// More bytes, or the end, only lengthen the list of tokens, and change no outcome that is decided.
 pub fn more_bytes_only_lengthen()
@@ -52,4 +53,9 @@ pub fn tokens_are_longest()
 /// no further; no front of the text there has a shape; or nothing stands there, or the beginning of a token.
 pub fn outcomes_have_reasons()
     ensures { OutcomesHaveReasons }
+{}
+
+/// Bytes that spell some tokens, passed between two tokens, leave a scanner as reading them would.
+pub fn passed_tokens_are_read()
+    ensures { PassedTokensAreRead }
 {}

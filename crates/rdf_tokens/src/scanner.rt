@@ -1,15 +1,16 @@
 // The scanner.
 
-ghost use Rattle.std.specs.Prelude.{◌≡◌, ◌==◌, ℕ, List, [], ◌++◌, count_by, true, IsErrOf, OnOk, OnErr, IfOk, cond, min, ◌-◌, ◌+◌, ◌≤◌, ◌<◌, length, drop, take, ⊤};
+ghost use Rattle.std.specs.Prelude.{◌≡◌, ◌==◌, ℕ, List, [], ◌++◌, count_by, true, IsErrOf, OnOk, OnErr, IfOk, cond, min, ◌-◌, ◌+◌, ◌≤◌, ◌<◌, ◌&&◌, ◌||◌, nat_le, length, drop, take, ⊤};
 ghost use Rattle.std.specs.Str.{chars, IsCharBoundary};
 ghost use Rattle.std.specs.String.{string_bytes};
 ghost use mathlib.Core.Option.{none};
 ghost use Rattle.std.specs.Borrow.{sem, follows_so};
-ghost use Rattle.rdf_tokens.specs.Tokens.{Token as Read, past, step};
+ghost use Rattle.rdf_tokens.specs.Tokens.{Token as Read, past, step, is_empty};
 ghost use Rattle.rdf_tokens.specs.Scans.{HasScanned, IsOpen, Pushes, Gives, most_bytes, token_of, place_of, unread_bytes};
 ghost use Rattle.rdf_tokens.specs.Look.{behind, IsLook};
 ghost use Rattle.rdf_tokens.specs.contracts.scanner.Scanner.{the_row};
 ghost use Rattle.rdf_tokens.specs.Moves.{closed, grown, good_bytes, is_broken, rest_of_bytes, is_settled, moved, tail_now, fault_place, is_flat, IsGiven, Moves, Stands};
+ghost use Rattle.rdf_tokens.specs.Passing.{is_idle, passed};
 ghost use Rattle.rdf_tokens.specs.Good.{mark};
 ghost use Rattle.rdf_tokens.specs.Front.{bytes_of};
 
@@ -161,6 +162,47 @@ impl<A: Allocator + Copy> Scanner<A> {
             Look::Stop(reason) => Err(self.stop_here(reason)),
             Look::Token(len, kind) => Ok(Some(self.give(kind, len))),
         }
+    }
+
+    /// Whether so many bytes can be passed: the scanner stands between two tokens, and the document does not become too long.
+    pub fn can_pass(&self, len: usize) -> bool
+        ensures { result ≡ (is_idle self.now && nat_le (self.now.taken.offset + len) most_bytes) }
+    {
+        self.is_idle() && len as u64 <= MOST_BYTES - self.taken
+    }
+
+    /// Moves on over bytes between two tokens, as if they had come and been read. What they are is the caller's to know. It takes no
+    /// memory.
+    pub fn pass(&mut self, bytes: &[u8])
+        requires idle { is_idle self.old ≡ true }
+        requires room { self.old.taken.offset + length bytes.now ≤ most_bytes }
+        ensures { self.new ≡ passed self.old bytes.now }
+    {
+        let len = bytes.len() as u64;
+        let feeds = line_feeds(bytes) as u64;
+        self.offset += len;
+        self.line += feeds;
+        self.taken += len;
+        self.last_line += feeds;
+    }
+
+    // Whether all that came was given as tokens, and more may come.
+    fn is_idle(&self) -> bool
+        ensures { result ≡ is_idle self.now }
+    {
+        !self.is_held() && self.begun && self.has_no_text() && self.pending.is_empty()
+    }
+
+    fn is_held(&self) -> bool
+        ensures { result ≡ (self.now.stopped || self.now.ended || self.now.broken || self.now.comment) }
+    {
+        self.stopped || self.ended || self.broken || self.comment
+    }
+
+    fn has_no_text(&self) -> bool
+        ensures { result ≡ is_empty self.now.text }
+    {
+        self.rest().is_empty()
     }
 
     fn look(&mut self) -> Look

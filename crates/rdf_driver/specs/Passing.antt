@@ -1,0 +1,31 @@
+-- Bytes that a reader passes, since it is known how they are read.
+use Rattle.std.specs.Prelude.{◌≡◌, ◌≤◌, ◌+◌, ◌&&◌, ℕ, Bool, not, nat_le, List, ◌++◌, length}
+use Rattle.std.specs.Str.{chars, IsUtf8}
+use Rattle.rdf_terms.specs.Terms.{Quad}
+use Rattle.rdf_tokens.specs.Tokens.{Token}
+use Rattle.rdf_tokens.specs.Scans.{most_bytes}
+use Rattle.rdf_tokens.specs.Passing as Scan
+use Rattle.rdf_tokens.specs.Passing.{is_idle, Spells}
+use Rattle.rdf_driver.specs.Words.{Words}
+use Rattle.rdf_driver.specs.Readers.{Driven}
+
+-- The reader goes on, stands between two tokens, and so many bytes more are not too many.
+abbrev pub can_pass : {G : Type 0} → Driven G → ℕ → Bool
+can_pass r len = not r.done && (is_idle r.scanner && nat_le (r.scanner.taken.offset + len) most_bytes)
+
+-- the reader after bytes of so many quads and tokens, at which its grammar did not look
+abbrev pub passed : {G : Type 0} → Driven G → List ℕ → ℕ → ℕ → Driven G
+passed r bytes quads tokens = record {
+  scanner = Scan.passed r.scanner bytes;
+  grammar = r.grammar;
+  so_far = record { quads = r.so_far.quads + quads; tokens = r.so_far.tokens + tokens; bytes = r.so_far.bytes + length bytes };
+  done = r.done;
+}
+
+-- The bytes spell so many tokens, which give these quads and lead the grammar back to where it is.
+pub record LeadsBack {G X : Type 0} (w : Words G X) (r : Driven G) (bytes : List ℕ) (quads : List Quad) (tokens : ℕ) : Type 0 where
+  pub utf8 : IsUtf8 bytes
+  pub spelled : List Token
+  pub count : tokens ≡ length spelled
+  pub spells : Spells w.dialect r.scanner.limit r.scanner.place (chars bytes) spelled
+  pub reached : (x : X) (ts : List Token) (qs : List Quad) → w.reached r.grammar x ts qs → w.reached r.grammar x (ts ++ spelled) (qs ++ quads)
