@@ -1,11 +1,9 @@
 -- Bytes that a reader passes are read.
-use Rattle.std.proofs.Common.{◌≡◌, ◌&&◌, ℕ, ◌+◌, ◌*◌, ◌<◌, ◌≤◌, ◌^◌, Bool, true, false, not, nat_le, List, [], ◌++◌, length, refl, sym, ap, ◌∙◌, subst, arith, length-append}
+use Rattle.std.proofs.Common.{◌≡◌, ◌&&◌, ℕ, ◌+◌, ◌*◌, ◌≤◌, Bool, true, false, not, nat_le, List, ◌++◌, length, refl, sym, ap, ◌∙◌, subst, arith, length-append}
 use Rattle.std.proofs.Math.Bridge.{le_prop}
 use Rattle.std.proofs.Math.Logic.{∥∥₁_elim, ∥∥₁_prop}
 use Rattle.std.proofs.lemmas.Bool.{and_parts, leb-true}
 use Rattle.std.specs.Str.{chars}
-use Rattle.rdf_terms.specs.Terms.{Quad}
-use Rattle.rdf_tokens.specs.Tokens.{Token}
 use Rattle.rdf_tokens.specs.Good.{tokens_of}
 use Rattle.rdf_tokens.specs.Scans as Scan
 use Rattle.rdf_tokens.specs.Scans.{IsOpen, most_bytes}
@@ -22,9 +20,9 @@ use Rattle.rdf_driver.specs.Passing.{can_pass, passed, LeadsBack}
 summary_same : {a b c d e g : ℕ} → a ≡ b → c ≡ d → e ≡ g → (let x : Summary = record { quads = a; tokens = c; bytes = e } in x) ≡ record { quads = b; tokens = d; bytes = g }
 summary_same p q r = cc
 
-module _ {G X : Type 0} (w : Words G X) (r : Driven G) (idle : is_idle r.scanner ≡ true) (piece : List ℕ) (more : List Quad) (tokens : ℕ) (l : LeadsBack w r piece more tokens) where
+module _ {G X I : Type 0} (w : Words G X I) (r : Driven G) (idle : is_idle r.scanner ≡ true) (piece : List ℕ) (more : List I) (tokens : ℕ) (l : LeadsBack w r piece more tokens) where
   -- the reader has read the bytes that it passed
-  pub passed_has_read : (x : X) (bytes : List ℕ) (quads : List Quad) → HasRead w r x bytes quads → HasRead w (passed r piece (length more) tokens) x (bytes ++ piece) (quads ++ more)
+  pub passed_has_read : (x : X) (bytes : List ℕ) (quads : List I) → HasRead w r x bytes quads → HasRead w (passed r piece (length more) tokens) x (bytes ++ piece) (quads ++ more)
   passed_has_read x bytes quads h =
       let v = r.scanner in
       let now = bytes ++ piece in
@@ -59,8 +57,8 @@ module _ {G X : Type 0} (w : Words G X) (r : Driven G) (idle : is_idle r.scanner
   }
 
 -- the counts of a reader have room
-module _ {G X : Type 0} (w : Words G X) (law : Lawful w) (r : Driven G) (i : IsLive w r) where
-  few_quads : (x : X) (bytes : List ℕ) (quads : List Quad) → HasRead w r x bytes quads → r.so_far.quads ≤ 2 * most_bytes
+module _ {G X I : Type 0} (w : Words G X I) (law : Lawful w) (r : Driven G) (i : IsLive w r) where
+  few_quads : (x : X) (bytes : List ℕ) (quads : List I) → HasRead w r x bytes quads → r.so_far.quads ≤ 2 * most_bytes
   few_quads x bytes quads h =
       let ts = (tokens_of w.dialect r.scanner.limit bytes false).tokens in
       let few = law.few r.grammar x ts quads h.reached in
@@ -70,7 +68,7 @@ module _ {G X : Type 0} (w : Words G X) (law : Lawful w) (r : Driven G) (i : IsL
       let most = i.most in
       omega (arith, few, given, count, size, most)
 
-  few_tokens : (x : X) (bytes : List ℕ) (quads : List Quad) → HasRead w r x bytes quads → r.so_far.tokens ≤ most_bytes
+  few_tokens : (x : X) (bytes : List ℕ) (quads : List I) → HasRead w r x bytes quads → r.so_far.tokens ≤ most_bytes
   few_tokens x bytes quads h =
       let ts = (tokens_of w.dialect r.scanner.limit bytes false).tokens in
       let given = given_few r.scanner bytes ts h.scanned in
@@ -80,7 +78,7 @@ module _ {G X : Type 0} (w : Words G X) (law : Lawful w) (r : Driven G) (i : IsL
       let most = i.most in
       omega (arith, given, counted, count, size, most)
 
-  few_bytes : (x : X) (bytes : List ℕ) (quads : List Quad) → HasRead w r x bytes quads → r.so_far.bytes ≤ most_bytes
+  few_bytes : (x : X) (bytes : List ℕ) (quads : List I) → HasRead w r x bytes quads → r.so_far.bytes ≤ most_bytes
   few_bytes x bytes quads h =
       let count : r.so_far.bytes ≡ length bytes = ap (λ s. s.bytes) h.so_far in
       let size : r.scanner.taken.offset ≡ length bytes = ap (λ p. p.offset) h.scanned.taken in
@@ -108,13 +106,13 @@ can_pass-parts r len e =
     is_not false e = refl
 
 -- the reader may read more after so many quads and tokens
-module _ {G X : Type 0} (w : Words G X) (r : Driven G) (piece : List ℕ) (quads tokens : ℕ) (can : can_pass r (length piece) ≡ true) where
-  pub pass_live : IsLive w r → (more : List Quad) × (quads ≡ length more) × LeadsBack w r piece more tokens → IsLive w (passed r piece quads tokens)
+module _ {G X I : Type 0} (w : Words G X I) (r : Driven G) (piece : List ℕ) (quads tokens : ℕ) (can : can_pass r (length piece) ≡ true) where
+  pub pass_live : IsLive w r → (more : List I) × (quads ≡ length more) × LeadsBack w r piece more tokens → IsLive w (passed r piece quads tokens)
   pass_live i l =
       let p = can_pass-parts r (length piece) can in
       subst (λ n. IsLive w (passed r piece n tokens)) (sym l.1) (passed_live w r p.1 piece l.0 tokens l.2 p.2 i)
 
-  pub pass_reads : (more : List Quad) → quads ≡ length more → LeadsBack w r piece more tokens → (x : X) (before : List ℕ) (given : List Quad) → HasRead w r x before given →
+  pub pass_reads : (more : List I) → quads ≡ length more → LeadsBack w r piece more tokens → (x : X) (before : List ℕ) (given : List I) → HasRead w r x before given →
       HasRead w (passed r piece quads tokens) x (before ++ piece) (given ++ more)
   pass_reads more n l x before given h =
       let p = can_pass-parts r (length piece) can in

@@ -1,7 +1,6 @@
 -- Bytes that a reader passes, since it is known how they are read.
-use Rattle.std.specs.Prelude.{◌≡◌, ◌≤◌, ◌+◌, ◌&&◌, ℕ, Bool, not, nat_le, List, ◌++◌, length}
+use Rattle.std.specs.Prelude.{◌≡◌, ◌+◌, ◌&&◌, ℕ, Bool, not, nat_le, List, ◌++◌, length}
 use Rattle.std.specs.Str.{chars, IsUtf8}
-use Rattle.rdf_terms.specs.Terms.{Quad}
 use Rattle.rdf_tokens.specs.Tokens.{Token}
 use Rattle.rdf_tokens.specs.Scans.{most_bytes}
 use Rattle.rdf_tokens.specs.Passing as Scan
@@ -23,9 +22,9 @@ passed r bytes quads tokens = record {
 }
 
 -- The bytes spell so many tokens, which give these quads and lead the grammar back to where it is.
-pub record LeadsBack {G X : Type 0} (w : Words G X) (r : Driven G) (bytes : List ℕ) (quads : List Quad) (tokens : ℕ) : Type 0 where
+pub record LeadsBack {G X I : Type 0} (w : Words G X I) (r : Driven G) (bytes : List ℕ) (quads : List I) (tokens : ℕ) : Type 0 where
   pub utf8 : IsUtf8 bytes
   pub spelled : List Token
   pub count : tokens ≡ length spelled
   pub spells : Spells w.dialect r.scanner.limit r.scanner.place (chars bytes) spelled
-  pub reached : (x : X) (ts : List Token) (qs : List Quad) → w.reached r.grammar x ts qs → w.reached r.grammar x (ts ++ spelled) (qs ++ quads)
+  pub reached : (x : X) (ts : List Token) (qs : List I) → w.reached r.grammar x ts qs → w.reached r.grammar x (ts ++ spelled) (qs ++ quads)

@@ -1,8 +1,5 @@
-use Rattle.std.proofs.Common.{◌≡◌, ◌++◌, ◌+◌, ◌*◌, ◌≤◌, ℕ, List, true, false, length, sym, ap, ◌∙◌, subst, arith}
-use Rattle.rdf_terms.specs.Terms.{Quad}
-use Rattle.rdf_tokens.specs.Scans.{most_bytes}
+use Rattle.std.proofs.Common.{◌≡◌, ◌++◌, ◌+◌, List, true, false, length, sym, ap, ◌∙◌, subst, arith}
 use Rattle.rdf_tokens.specs.Unread.{Unread}
-use Rattle.rdf_tokens.specs.Passing as Scan
 use Rattle.rdf_driver.specs.Readers.{Driven, driven, HasRead, IsLive}
 use Rattle.rdf_driver.specs.Passing.{can_pass, passed, LeadsBack}
 use Rattle.rdf_driver.proofs.PromiseLemmas.{as_running}
@@ -18,7 +15,7 @@ invariant_of-self g c =
     let old = driven r.scanner r.grammar r.so_far in
     let same : old ≡ c.args.self.now = sym (as_running r.scanner r.grammar r.so_far r.done goes) ∙ c.self.view_is in
     let can : can_pass old (length piece) ≡ true = subst (λ (x : Driven g.row.G.Denot). can_pass x (length piece) ≡ true) (sym same) c.requires.idle in
-    let leads = subst (λ (x : Driven g.row.G.Denot). (more : List Quad) × (c.args.quads ≡ length more) × LeadsBack w x piece more c.args.tokens) (sym same) c.requires.leads in
+    let leads = subst (λ (x : Driven g.row.G.Denot). (more : List g.row.G-Item.Denot) × (c.args.quads ≡ length more) × LeadsBack w x piece more c.args.tokens) (sym same) c.requires.leads in
     let live = pass_live w old piece c.args.quads c.args.tokens can (c.self.invariant.1 goes) leads in
     (c.self.invariant.0, λ _. subst (λ (v : Unread). IsLive w (driven v r.grammar (passed old piece c.args.quads c.args.tokens).so_far)) (sym c.pass.ensures) live)
 
@@ -31,7 +28,7 @@ overflow_add-self g c =
     let old = driven r.scanner r.grammar r.so_far in
     let same : old ≡ c.args.self.now = sym (as_running r.scanner r.grammar r.so_far r.done goes) ∙ c.self.view_is in
     let can : can_pass old (length piece) ≡ true = subst (λ (x : Driven g.row.G.Denot). can_pass x (length piece) ≡ true) (sym same) c.requires.idle in
-    let leads = subst (λ (x : Driven g.row.G.Denot). (more : List Quad) × (c.args.quads ≡ length more) × LeadsBack w x piece more c.args.tokens) (sym same) c.requires.leads in
+    let leads = subst (λ (x : Driven g.row.G.Denot). (more : List g.row.G-Item.Denot) × (c.args.quads ≡ length more) × LeadsBack w x piece more c.args.tokens) (sym same) c.requires.leads in
     let live = pass_live w old piece c.args.quads c.args.tokens can (c.self.invariant.1 goes) leads in
     omega (arith, quads_room w c.self.invariant.0 (passed old piece c.args.quads c.args.tokens) live)
 
@@ -44,7 +41,7 @@ overflow_add-self-2 g c =
     let old = driven r.scanner r.grammar r.so_far in
     let same : old ≡ c.args.self.now = sym (as_running r.scanner r.grammar r.so_far r.done goes) ∙ c.self.view_is in
     let can : can_pass old (length piece) ≡ true = subst (λ (x : Driven g.row.G.Denot). can_pass x (length piece) ≡ true) (sym same) c.requires.idle in
-    let leads = subst (λ (x : Driven g.row.G.Denot). (more : List Quad) × (c.args.quads ≡ length more) × LeadsBack w x piece more c.args.tokens) (sym same) c.requires.leads in
+    let leads = subst (λ (x : Driven g.row.G.Denot). (more : List g.row.G-Item.Denot) × (c.args.quads ≡ length more) × LeadsBack w x piece more c.args.tokens) (sym same) c.requires.leads in
     let live = pass_live w old piece c.args.quads c.args.tokens can (c.self.invariant.1 goes) leads in
     omega (arith, tokens_room w c.self.invariant.0 (passed old piece c.args.quads c.args.tokens) live)
 
@@ -57,7 +54,7 @@ overflow_add-self-3 g c =
     let old = driven r.scanner r.grammar r.so_far in
     let same : old ≡ c.args.self.now = sym (as_running r.scanner r.grammar r.so_far r.done goes) ∙ c.self.view_is in
     let can : can_pass old (length piece) ≡ true = subst (λ (x : Driven g.row.G.Denot). can_pass x (length piece) ≡ true) (sym same) c.requires.idle in
-    let leads = subst (λ (x : Driven g.row.G.Denot). (more : List Quad) × (c.args.quads ≡ length more) × LeadsBack w x piece more c.args.tokens) (sym same) c.requires.leads in
+    let leads = subst (λ (x : Driven g.row.G.Denot). (more : List g.row.G-Item.Denot) × (c.args.quads ≡ length more) × LeadsBack w x piece more c.args.tokens) (sym same) c.requires.leads in
     let live = pass_live w old piece c.args.quads c.args.tokens can (c.self.invariant.1 goes) leads in
     omega (arith, bytes_room w c.self.invariant.0 (passed old piece c.args.quads c.args.tokens) live)
 
