@@ -5,21 +5,18 @@ use Rattle.std.specs.List.{AllByRecursion}
 use Rattle.std.specs.Str.{chars, IsUtf8}
 use Rattle.std.proofs.lemmas.Str.{chars-encodes}
 use Rattle.rdf_terms.specs.declared.kind.Kind.TheVariants.{IriRef, Dot, LineEnd}
-use Rattle.rdf_terms.specs.Terms.{Node, Label, Anon, Cell, Lang, Typed, Subject, Iri, Blank, Term, Resource, Literal, Quad, xsd_string, IsQuad, has_scheme}
+use Rattle.rdf_terms.specs.Terms.{Lang, Typed, Subject, Iri, Blank, Term, Resource, Literal, Quad, xsd_string, has_scheme}
 use Rattle.rdf_tokens.specs.Tokens.{Place, Token, past, tokens, with_tokens}
 use Rattle.rdf_terms.specs.declared.kind.Dialect.TheVariants.{Lines}
-use Rattle.rdf_driver.specs.Readers.{Driven}
-use Rattle.rdf_driver.specs.Passing.{LeadsBack}
 use Rattle.rdf_lines.specs.declared.form.LineForm.{LineForm}
 use Rattle.rdf_lines.specs.declared.form.LineForm.TheVariants.{NTriples, NQuads}
 use Rattle.rdf_lines.specs.declared.form.Style.TheVariants.{Kept}
 use Rattle.rdf_lines.specs.declared.rules.Rules.{Rules}
-use Rattle.rdf_lines.specs.Lines.{token, statement_tokens, name_tokens, object_tokens, graph_tokens, quad_of, graph_fits, GoodStatement}
-use Rattle.rdf_lines.specs.Laws.{IrisWithin, TokensWithin}
-use Rattle.rdf_lines.specs.Machine.{Begin, Run, ran, with_quad, run, is_taken}
-use Rattle.rdf_lines.specs.Accepting.{LineAt, line_words}
-use Rattle.rdf_lines.specs.Canonical.{type_count, term_count, graph_count, quad_count, count, LabelFits, IsTaken, IsCanonical, CanonicalLinesAreRead}
-use Rattle.rdf_lines.specs.Writing.{rename_subject, rename_term, rename, CanWrite, quad_text, line, text}
+use Rattle.rdf_lines.specs.Lines.{token, statement_tokens, name_tokens, object_tokens, graph_tokens, graph_fits, GoodStatement}
+use Rattle.rdf_lines.specs.Laws.{IrisWithin}
+use Rattle.rdf_lines.specs.Machine.{Begin, ran, with_quad, run, is_taken}
+use Rattle.rdf_lines.specs.Canonical.{type_count, term_count, graph_count, quad_count, count, LabelFits, IsTaken, CanonicalLinesAreRead}
+use Rattle.rdf_lines.specs.Writing.{rename_subject, rename_term, rename, quad_text, text}
 use Rattle.rdf_lines.proofs.AcceptedLemmas.{statement_taken}
 use Rattle.rdf_lines.proofs.Complete.{run_statement}
 use Rattle.rdf_lines.proofs.Runs.{with_quads, then, run_append}
