@@ -15,7 +15,7 @@ use Rattle.rdf_terms.specs.Terms as term
 use Rattle.rdf_tokens.specs.Tokens.{Place, Token, step, read, tokens}
 use Rattle.rdf_tokens.specs.Tokens.Outcome.{complete, token_too_long}
 use Rattle.rdf_tokens.specs.Good.{tokens_of}
-use Rattle.rdf_tokens.specs.Grammars.{Due, PassesNone, Language, reading_of, IsDocumentOf, IsWithin, GoesOn, Refused, IsReadToItsEnd, Marked, unmarked}
+use Rattle.rdf_tokens.specs.Grammars.{Due, PassesNone, Language, reading_of, IsDocumentOf, IsWithin, Refused, IsReadToItsEnd, Marked, unmarked}
 use Rattle.rdf_driver.specs.Readers.{HasRead}
 use Rattle.rdf_iri.specs.Scope.{InForce}
 use Rattle.rdf_iri.specs.Bindings.{bindings_of}
