@@ -38,7 +38,7 @@ use Rattle.rdf_trig.specs.declared.state.Object.{Object}
 use Rattle.rdf_trig.specs.declared.state.Object.TheVariants as object
 use Rattle.rdf_trig.specs.declared.state.Held.{Held}
 use Rattle.rdf_trig.specs.declared.state.Held.TheVariants as held
-use Rattle.rdf_trig.specs.declared.state.Turn.{Turn}
+use Rattle.rdf_trig.specs.declared.state.State.{State}
 use Rattle.rdf_trig.specs.Names.{reference_in, name_in, with_base, with_binding, is_full}
 use Rattle.rdf_trig.specs.Quads.{Setting, stated}
 use Rattle.rdf_trig.specs.Events.{Use, itself, stands, binds}
@@ -106,22 +106,27 @@ abbrev pub outer_graph : {A : Type 0} → Outer A → Option term.Subject
 outer_graph (outer.Inside g) = option_map owned_subject g
 outer_graph o = None
 
--- the mode of the machine, where the frames make what a bracket stands for
-abbrev pub mode_at : {A : Type 0} → DocForm → M.Level → M.Up → Mode A → M.Mode
-mode_at form v u (mode.Outer o) = outer_of o
-mode_at form v u (mode.AfterSubject s) = M.after_subject form v (Some (owned_subject s))
-mode_at form v u (mode.Want f) = M.Want (place_of v f u)
-mode_at form v u (mode.After f) = M.After (place_of v f u)
-mode_at form v u (mode.AfterText w f) = M.AfterText (chars (string_bytes w)) (place_of v f u)
-mode_at form v u (mode.WantType w f) = M.WantType (chars (string_bytes w)) (place_of v f u)
-mode_at form v u (mode.Bracket n) = M.Box n u
-mode_at form v u mode.Paren = M.Paren u
-mode_at form v u (mode.WantVerb s) = M.WantVerb (Some (topic_of s)) (M.Statement v)
-mode_at form v u (mode.Semicolon s a) = M.Semi (Some (topic_of s)) (around_of a v u)
-mode_at form v u (mode.AfterBrackets s) = M.AfterBox (Some (topic_of s)) v
+-- after a `;` the frame in hand is a predicate list
+abbrev pub semi_at : M.Place → M.Mode
+semi_at (M.Listed s p a) = M.Semi s a
+semi_at (M.InCells first cell u) = M.Over
 
-abbrev pub mode_of : {A : Type 0} → DocForm → Level A → List (Frame A) → Mode A → M.Mode
-mode_of form v fs m = mode_at form (level_of v) (up_of (level_of v) fs) m
+-- the mode of the machine, by the frame in hand, and where the frames below make what a bracket stands for
+abbrev pub mode_at : {A : Type 0} → DocForm → M.Level → Frame A → M.Up → Mode A → M.Mode
+mode_at form v f u (mode.Outer o) = outer_of o
+mode_at form v f u (mode.AfterSubject s) = M.after_subject form v (Some (owned_subject s))
+mode_at form v f u mode.Want = M.Want (place_of v f u)
+mode_at form v f u mode.After = M.After (place_of v f u)
+mode_at form v f u (mode.AfterText w) = M.AfterText (chars (string_bytes w)) (place_of v f u)
+mode_at form v f u (mode.WantType w) = M.WantType (chars (string_bytes w)) (place_of v f u)
+mode_at form v f u (mode.Bracket n) = M.Box n u
+mode_at form v f u mode.Paren = M.Paren u
+mode_at form v f u (mode.WantVerb s) = M.WantVerb (Some (topic_of s)) (M.Statement v)
+mode_at form v f u mode.Semicolon = semi_at (place_of v f u)
+mode_at form v f u (mode.AfterBrackets s) = M.AfterBox (Some (topic_of s)) v
+
+abbrev pub mode_of : {A : Type 0} → DocForm → Level A → Frame A → List (Frame A) → Mode A → M.Mode
+mode_of form v f fs m = mode_at form (level_of v) f (up_of (level_of v) fs) m
 
 -- the graph of the quads there
 abbrev pub graph_at : {A : Type 0} → Mode A → Option term.Subject → Option term.Subject
@@ -160,6 +165,19 @@ held_of g m (held.Nil cell) = cells_quad g cell nil
 abbrev pub behind_dot : M.Level → M.Mode
 behind_dot M.Top = M.Start
 behind_dot M.InBlock = M.Inside
+
+-- of a state: what a bracket stands for, the place in hand, the setting of a statement, the mode
+abbrev pub up_in : {A : Type 0} → State A → M.Up
+up_in r = up_of (level_of r.level) r.frames.items
+
+abbrev pub place_in : {A : Type 0} → State A → M.Place
+place_in r = place_of (level_of r.level) r.frame (up_in r)
+
+abbrev pub setting_in : {A : Type 0} → InForce → State A → Setting
+setting_in s r = setting s (graph_of r.level)
+
+abbrev pub mode_in : {A : Type 0} → DocForm → State A → M.Mode
+mode_in form r = mode_of form r.level r.frame r.frames.items r.mode
 
 -- what a token stands for outside of directives
 abbrev pub name_at : InForce → Kind → Leaf → Option (List ℕ)
@@ -216,19 +234,18 @@ NameIn s (M.WantPrefixIri w p) k l i = ⊤
 NameIn s (M.WantBaseIri w) k l i = ⊤
 NameIn s m k l i = name_at s k l ≡ i
 
--- a reply that accepts the token, by what the token did
-abbrev pub Accepts : {A : Type 0} → DocForm → InForce → Use → Turn A → Level A → List (Frame A) → Reply → Type 0
-Accepts form s u t v fs reply =
-    let g = graph_at t.mode (graph_of v) in
-    let m = mode_of form v fs t.mode in
-    reply ≡ Go u (rest_of g t.rest) (held_of g m t.held) (setting s g) m
+-- what the token does, by the state after it
+abbrev pub moved : {A : Type 0} → DocForm → InForce → Use → State A → Reply
+moved form s u r =
+    let g = graph_at r.mode (graph_of r.level) in
+    Go u (rest_of g r.rest) (held_of g (mode_in form r) r.held) (setting s g) (mode_in form r)
 
--- what a function returned is this reply, unless memory ran out
-abbrev pub Gives : {A : Type 0} → DocForm → InForce → Use → Result (Turn A) StepFault → Level A → List (Frame A) → Reply → Type 0
-Gives form s u (Ok t) v fs reply = Accepts form s u t v fs reply
-Gives form s u (Err fault.Unexpected) v fs reply = reply ≡ No
-Gives form s u (Err fault.Memory) v fs reply = ⊤
-Gives form s u (Err e) v fs reply = ⊥
+-- what a function that left this state answered is this reply, unless memory ran out
+abbrev pub Gives : {A T : Type 0} → DocForm → InForce → Use → Result T StepFault → State A → Reply → Type 0
+Gives form s u (Ok t) r reply = reply ≡ moved form s u r
+Gives form s u (Err fault.Unexpected) r reply = reply ≡ No
+Gives form s u (Err fault.Memory) r reply = ⊤
+Gives form s u (Err e) r reply = ⊥
 
 -- the same where the token leads out of statements, or goes on outside of one
 abbrev pub GivesOuter : {A : Type 0} → InForce → Use → Result (Outer A) StepFault → Reply → Type 0

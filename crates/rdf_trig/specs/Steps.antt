@@ -9,10 +9,6 @@ use Rattle.rdf_iri.specs.Scope.{InForce}
 use Rattle.rdf_trig.specs.declared.form.DocForm.{DocForm}
 use Rattle.rdf_trig.specs.declared.fault.StepFault.{StepFault}
 use Rattle.rdf_trig.specs.declared.fault.StepFault.TheVariants.{Unexpected, TooDeep, Unbound, NoBase, IriTooLong, TooManyBindings, Memory, Sink}
-use Rattle.rdf_trig.specs.declared.state.Level.{Level}
-use Rattle.rdf_trig.specs.declared.state.Frame.{Frame}
-use Rattle.rdf_trig.specs.declared.state.Mode.{Mode}
-use Rattle.rdf_trig.specs.declared.state.Held.{Held}
 use Rattle.rdf_trig.specs.declared.state.State.{State}
 use Rattle.rdf_trig.specs.Quads.{stated}
 use Rattle.rdf_trig.specs.Refusals as refusal
@@ -22,7 +18,7 @@ use Rattle.rdf_terms.specs.declared.kind.Kind.TheVariants.{OpenBracket, CloseBra
 use Rattle.rdf_lines.specs.Lines.{Leaf}
 use Rattle.rdf_trig.specs.Events.{Use}
 use Rattle.rdf_trig.specs.Machine.{Reply, No, Go, subject_at, verb_at, kept}
-use Rattle.rdf_trig.specs.States.{leaf, mode_of, graph_of, graph_at, setting, rest_of, held_of, is_go, PrefixFits}
+use Rattle.rdf_trig.specs.States.{leaf, mode_in, graph_of, graph_at, setting, rest_of, held_of, is_go, PrefixFits}
 use Rattle.rdf_trig.specs.Scopes.{SameScope}
 
 -- puts of some of the quads, from the first one on, lead from one sink to the other; the last of them may have been refused
@@ -41,20 +37,15 @@ up_quad g (M.Subject v) o = None
 up_quad g (M.At p) o = stated (Some g) (subject_at p) (verb_at p) (Some o)
 
 -- the quads that are held, and those with the one that waits to know the token
-abbrev pub held_quads : {A : Type 0} → DocForm → Mode A → Level A → List (Frame A) → Option (ℕ × ℕ) → Held A → List Quad
-held_quads form m v fs rest held = let g = graph_at m (graph_of v) in kept (rest_of g rest) (kept (held_of g (mode_of form v fs m) held) [])
+abbrev pub held_quads : {A : Type 0} → DocForm → State A → List Quad
+held_quads form r = let g = graph_at r.mode (graph_of r.level) in kept (rest_of g r.rest) (kept (held_of g (mode_in form r) r.held) [])
 
-abbrev pub given : {A : Type 0} → DocForm → InForce → Mode A → Level A → List (Frame A) → Option (ℕ × ℕ) → Held A → Given → List Quad
-given form s m v fs rest held t =
-    held_quads form m v fs rest held ++ kept (M.waiting (setting s (graph_at m (graph_of v))) (mode_of form v fs m) t.kind (leaf t)) []
+abbrev pub given : {A : Type 0} → DocForm → InForce → State A → Given → List Quad
+given form s r t = held_quads form r ++ kept (M.waiting (setting s (graph_at r.mode (graph_of r.level))) (mode_in form r) t.kind (leaf t)) []
 
 -- the state of the machine that a state of the reader is, in a scope
 abbrev pub state_of : {A : Type 0} → DocForm → InForce → State A → M.State
-state_of form s r = record {
-  setting = setting s (graph_at r.mode (graph_of r.level));
-  mode = mode_of form r.level r.frames.items r.mode;
-  held = held_quads form r.mode r.level r.frames.items r.rest r.held;
-}
+state_of form s r = record { setting = setting s (graph_at r.mode (graph_of r.level)); mode = mode_in form r; held = held_quads form r }
 
 -- the token is allowed by the grammar and by the limit of open brackets
 abbrev pub May : DocForm → M.State → Kind → Leaf → Type 0
@@ -73,13 +64,6 @@ DepthMay CloseBracket n = 1 ≤ n
 DepthMay CloseParen n = 1 ≤ n
 DepthMay k n = ⊤
 
--- what the token does, by the state after it
-abbrev pub moved : {A : Type 0} → DocForm → InForce → Use → State A → Reply
-moved form s u r =
-    let g = graph_at r.mode (graph_of r.level) in
-    let m = mode_of form r.level r.frames.items r.mode in
-    Go u (rest_of g r.rest) (held_of g m r.held) (setting s g) m
-
 abbrev pub Stays : StepFault → Reply → Type 0
 Stays Unexpected reply = reply ≡ No
 Stays Memory reply = ⊤
@@ -87,7 +71,7 @@ Stays r reply = ⊥
 
 -- what each step keeps: the brackets are counted, and a prefix is no longer than a token
 pub record Keeps {A : Type 0} (form : DocForm) (sizes : Sizes) (r : State A) : Type 0 where
-  pub depth : r.depth ≡ M.depth (mode_of form r.level r.frames.items r.mode)
+  pub depth : r.depth ≡ M.depth (mode_in form r)
   pub short : PrefixFits (4 * sizes.token) r.mode
 
 -- the machine accepts: its quads were put, and its state is the reader's, in a scope that agrees with the reader's

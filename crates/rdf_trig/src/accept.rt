@@ -6,9 +6,9 @@ ghost use Rattle.rdf_terms.specs.Terms.{Quad};
 ghost use Rattle.rdf_iri.specs.Scope.{InForce};
 ghost use Rattle.rdf_lines.specs.Lines.{Leaf};
 ghost use Rattle.rdf_trig.specs.Machine as M;
-ghost use Rattle.rdf_trig.specs.States.{leaf, IsTurtleToken, IsNamedIn, NameIn, use_in, scope_in, setting, graph_at, graph_of, mode_of, DepthMoves};
+ghost use Rattle.rdf_trig.specs.States.{leaf, IsTurtleToken, IsNamedIn, NameIn, use_in, scope_in, setting, graph_at, graph_of, mode_in, moved, DepthMoves};
 ghost use Rattle.rdf_trig.specs.Scopes.{SameScope};
-ghost use Rattle.rdf_trig.specs.Steps.{state_of, moved, May, Refused, Stays, DepthMay, Keeps, Accepts, Fails};
+ghost use Rattle.rdf_trig.specs.Steps.{state_of, May, Refused, Stays, DepthMay, Keeps, Accepts, Fails};
 
 use crate::allows::allows;
 use crate::fault::StepFault;
@@ -16,8 +16,7 @@ use crate::form::DocForm;
 use crate::give::give;
 use crate::names::look_up;
 use crate::rest::Rest;
-use crate::state::{Held, Level, Mode, Outer, State};
-use crate::turns::turn;
+use crate::state::{Frame, Held, Level, Mode, Outer, State};
 use rdf_iri::{Limits, Scope};
 use rdf_terms::{Iri, Kind, QuadSink};
 use rdf_tokens::Token;
@@ -58,6 +57,7 @@ impl<A: Allocator + Copy> State<A> {
     {
         State {
             mode: Mode::Outer(Outer::Start),
+            frame: Frame::none(),
             level: Level::Top,
             frames: Vec::new(alloc),
             rest: Rest::none(),
@@ -68,12 +68,12 @@ impl<A: Allocator + Copy> State<A> {
 
     // Whether the token may stand here by the grammar, and by the limit of open brackets.
     fn check(&self, form: DocForm, limits: Limits, kind: Kind) -> Result<(), StepFault>
-        requires { self.now.depth ≡ M.depth (mode_of form self.now.level self.now.frames.items self.now.mode) }
+        requires { self.now.depth ≡ M.depth (mode_in form self.now) }
         ensures ok { OnOk result ((s : InForce) (l : Leaf) → s.limits ≡ limits → May form (state_of form s self.now) kind l) }
         ensures room { OnOk result (DepthMay kind self.now.depth) }
         ensures err { IfErr result (λ r. (s : InForce) (l : Leaf) → s.limits ≡ limits → Refused r (M.accept form (state_of form s self.now) kind l)) }
     {
-        if !allows(form, &self.mode, &self.level, kind) {
+        if !allows(form, &self.mode, &self.frame, &self.level, kind) {
             return Err(StepFault::Unexpected);
         }
         if is_too_deep(limits, self.depth, kind) {
@@ -91,31 +91,20 @@ impl<A: Allocator + Copy> State<A> {
         name: Option<Iri<A>>,
     ) -> Result<(), StepFault>
         requires token { IsTurtleToken token.now }
-        requires named { IsNamedIn (mode_of form self.old.level self.old.frames.items self.old.mode) token.now.kind name }
+        requires named { IsNamedIn (mode_in form self.old) token.now.kind name }
         requires room { DepthMay token.now.kind self.old.depth }
-        ensures ok { OnOk result ((s : InForce) → let m = mode_of form self.old.level self.old.frames.items self.old.mode in
+        ensures ok { OnOk result ((s : InForce) → let m = mode_in form self.old in
             NameIn s m token.now.kind (leaf token.now) name →
             M.step form (setting s (graph_at self.old.mode (graph_of self.old.level))) m token.now.kind (leaf token.now) ≡ moved form
             (scope_in s m token.now.kind (leaf token.now)) (use_in s m token.now.kind (leaf token.now)) self.new) }
         ensures depth { OnOk result (DepthMoves token.now.kind self.old.depth self.new.depth) }
-        ensures err { IfErr result (λ r. (s : InForce) → let m = mode_of form self.old.level self.old.frames.items self.old.mode in
+        ensures err { IfErr result (λ r. (s : InForce) → let m = mode_in form self.old in
             NameIn s m token.now.kind (leaf token.now) name →
             Stays r (M.step form (setting s (graph_at self.old.mode (graph_of self.old.level))) m token.now.kind (leaf token.now))) }
     {
         let mode = mem::replace(&mut self.mode, Mode::Paren);
-        match turn(
-            alloc,
-            form,
-            mode,
-            &mut self.level,
-            &mut self.frames,
-            token,
-            name,
-        ) {
-            Ok(turn) => {
-                self.mode = turn.mode;
-                self.rest = turn.rest;
-                self.held = turn.held;
+        match self.turn(alloc, form, mode, token, name) {
+            Ok(()) => {
                 self.depth = depth_behind(self.depth, token.kind);
                 Ok(())
             }
@@ -151,15 +140,7 @@ impl<A: Allocator + Copy> State<A> {
     {
         self.check(form, limits, token.kind)?;
         let name = look_up(alloc, &self.mode, scope, token)?;
-        let given = give(
-            &self.mode,
-            &self.level,
-            &self.frames,
-            &self.rest,
-            &self.held,
-            token,
-            sink,
-        )?;
+        let given = give(self, token, sink)?;
         match self.move_on(alloc, form, token, name) {
             Ok(()) => Ok(given),
             Err(fault) => Err(fault),

@@ -6,7 +6,7 @@ ghost use Rattle.rdf_terms.specs.Terms.{Quad};
 ghost use Rattle.rdf_lines.specs.Lines.{Leaf};
 ghost use Rattle.rdf_trig.specs.Quads.{Setting};
 ghost use Rattle.rdf_trig.specs.Machine as M;
-ghost use Rattle.rdf_trig.specs.States.{begins_verb, is_go, level_of, around_of, place_of, outer_of, mode_of, up_of};
+ghost use Rattle.rdf_trig.specs.States.{begins_verb, is_go, level_of, around_of, place_of, outer_of, mode_of, up_of, semi_at};
 
 use crate::form::DocForm;
 use crate::state::{Around, Frame, Level, Mode, Outer};
@@ -14,20 +14,26 @@ use rdf_terms::Kind;
 use std::alloc::Allocator;
 
 /// Whether some document has a token of this kind next, as far as the kinds go.
-pub fn allows<A: Allocator>(form: DocForm, mode: &Mode<A>, level: &Level<A>, kind: Kind) -> bool
-    ensures { (c : Setting) (fs : List (Frame A)) (l : Leaf) → result ≡ is_go (M.step form c (mode_of form level.now fs mode.now) kind l) }
+pub fn allows<A: Allocator>(
+    form: DocForm,
+    mode: &Mode<A>,
+    frame: &Frame<A>,
+    level: &Level<A>,
+    kind: Kind,
+) -> bool
+    ensures { (c : Setting) (fs : List (Frame A)) (l : Leaf) → result ≡ is_go (M.step form c (mode_of form level.now frame.now fs mode.now) kind l) }
 {
     match mode {
         Mode::Outer(outer) => allows_outer(form, outer, kind),
         Mode::AfterSubject(_) => goes_on_after_subject(form, level, kind),
-        Mode::Want(_) => begins_object(kind),
-        Mode::After(frame) => goes_on_after(frame, level, kind),
-        Mode::AfterText(_, frame) => goes_on_after_text(frame, level, kind),
-        Mode::WantType(_, _) => is_name(kind),
+        Mode::Want => begins_object(kind),
+        Mode::After => goes_on_after(frame, level, kind),
+        Mode::AfterText(_) => goes_on_after_text(frame, level, kind),
+        Mode::WantType(_) => is_name(kind),
         Mode::Bracket(_) => matches!(kind, Kind::CloseBracket) || begins_verb(kind),
         Mode::Paren => goes_on_after_paren(kind),
         Mode::WantVerb(_) => begins_verb(kind),
-        Mode::Semicolon(_, around) => goes_on_after_semicolon(*around, level, kind),
+        Mode::Semicolon => goes_on_after_semicolon(frame, level, kind),
         Mode::AfterBrackets(_) => goes_on_after_brackets(level, kind),
     }
 }
@@ -170,7 +176,17 @@ fn begins_object(kind: Kind) -> bool
     )
 }
 
-fn goes_on_after_semicolon<A: Allocator>(around: Around, level: &Level<A>, kind: Kind) -> bool
+fn goes_on_after_semicolon<A: Allocator>(frame: &Frame<A>, level: &Level<A>, kind: Kind) -> bool
+    ensures { (form : DocForm) (c : Setting) (u : M.Up) (l : Leaf) → result ≡ is_go (M.step form c (semi_at (place_of (level_of level.now) frame.now u)) kind l) }
+{
+    match frame {
+        Frame::List { around, .. } => goes_on_after_verb(*around, level, kind),
+        Frame::Cells { .. } => false,
+    }
+}
+
+// After a `;` of a predicate list.
+fn goes_on_after_verb<A: Allocator>(around: Around, level: &Level<A>, kind: Kind) -> bool
     ensures { (c : Setting) (s : Option term.Subject) (u : M.Up) (l : Leaf) → result ≡ is_go (M.semi c s (around_of around (level_of level.now) u) kind l) }
 {
     match kind {

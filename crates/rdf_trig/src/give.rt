@@ -13,12 +13,12 @@ ghost use Rattle.rdf_trig.specs.Quads.{stated, plain_literal};
 ghost use Rattle.rdf_trig.specs.declared.form.DocForm.{DocForm};
 ghost use Rattle.rdf_trig.specs.Machine as M;
 ghost use Rattle.rdf_trig.specs.Machine.{subject_at, verb_at, kept};
-ghost use Rattle.rdf_trig.specs.States.{leaf, topic_of, verb_of, object_of, place_of, up_of, mode_at, level_of, mode_of, graph_of, graph_at, setting, cells_quad, rest_of, held_of};
+ghost use Rattle.rdf_trig.specs.States.{leaf, topic_of, verb_of, object_of, place_of, up_of, level_of, mode_in, graph_of, graph_at, setting, cells_quad, rest_of, held_of};
 ghost use Rattle.rdf_trig.specs.Steps.{GaveUp, given, up_quad};
 
 use crate::fault::StepFault;
 use crate::rest::Rest;
-use crate::state::{Frame, Held, Level, Mode, Object, Outer, Topic, Verb};
+use crate::state::{Frame, Held, Level, Mode, Object, Outer, State, Topic, Verb};
 use rdf_terms::{
     Iri, IriView, Kind, Known, LiteralRef, NodeRef, PutFault, QuadRef, QuadSink, Subject,
     SubjectRef, TailRef, TermRef, known,
@@ -28,26 +28,21 @@ use std::alloc::Allocator;
 
 /// Puts the quads that the token determines, and answers how many they are.
 pub fn give<A: Allocator, S: QuadSink>(
-    mode: &Mode<A>,
-    level: &Level<A>,
-    frames: &[Frame<A>],
-    rest: &Rest,
-    held: &Held<A>,
+    state: &State<A>,
     token: &Token<'_>,
     sink: &mut S,
 ) -> Result<u64, StepFault>
     requires live { S.has_failed sink.old ≡ false }
-    ensures ok { OnOk result ((form : DocForm) (s : InForce) →
-        Appends S.takes sink.old (given form s mode.now level.now frames.now rest.now held.now token.now) sink.new) }
-    ensures count { IfOk result (λ n. (form : DocForm) (s : InForce) → n ≡ length (given form s mode.now level.now frames.now rest.now held.now token.now)) }
+    ensures ok { OnOk result ((form : DocForm) (s : InForce) → Appends S.takes sink.old (given form s state.now token.now) sink.new) }
+    ensures count { IfOk result (λ n. (form : DocForm) (s : InForce) → n ≡ length (given form s state.now token.now)) }
     ensures live { OnOk result (S.has_failed sink.new ≡ false) }
     ensures err { IfErr result (λ r. (form : DocForm) (s : InForce) →
-        GaveUp S.takes S.leaves S.has_failed r (given form s mode.now level.now frames.now rest.now held.now token.now) sink.old sink.new) }
+        GaveUp S.takes S.leaves S.has_failed r (given form s state.now token.now) sink.old sink.new) }
 {
-    let graph = graph(mode, level);
-    let rest = put(rest_quad(rest, graph), sink)?;
-    let held = put(held_quad(held, mode, frames, graph), sink)?;
-    let waiting = put(waiting_quad(mode, frames, graph, token), sink)?;
+    let graph = graph(&state.mode, &state.level);
+    let rest = put(rest_quad(&state.rest, graph), sink)?;
+    let held = put(held_quad(state, graph), sink)?;
+    let waiting = put(waiting_quad(state, graph, token), sink)?;
     Ok(rest + held + waiting)
 }
 
@@ -87,19 +82,17 @@ fn rest_quad<'a>(rest: &Rest, graph: Option<SubjectRef<'a>>) -> Option<QuadRef<'
 // The quad whose head ended with the last token.
 #[inline(always)]
 fn held_quad<'a, A: Allocator>(
-    held: &'a Held<A>,
-    mode: &'a Mode<A>,
-    frames: &'a [Frame<A>],
+    state: &'a State<A>,
     graph: Option<SubjectRef<'a>>,
 ) -> Option<QuadRef<'a>>
-    ensures { (form : DocForm) (v : M.Level) → option_map quad_of result ≡ held_of (option_map (subject_by chars) graph.entry)
-        (mode_at form v (up_of v frames.now) mode.now) held.now }
+    ensures { (form : DocForm) → option_map quad_of result ≡ held_of (option_map (subject_by chars) graph.entry)
+        (mode_in form state.now) state.now.held }
 {
-    match held {
+    match &state.held {
         Held::Nothing => None,
-        Held::Object(kept) => match mode {
-            Mode::After(frame) => Some(quad_at(frame, object(kept), graph)),
-            Mode::Bracket(_) => quad_up(frames, object(kept), graph),
+        Held::Object(kept) => match state.mode {
+            Mode::After => Some(quad_at(&state.frame, object(kept), graph)),
+            Mode::Bracket(_) => quad_up(&state.frames, object(kept), graph),
             _ => None,
         },
         Held::Nil(cell) => Some(cells(*cell, nil(), graph)),
@@ -157,25 +150,25 @@ fn put<S: QuadSink>(quad: Option<QuadRef<'_>>, sink: &mut S) -> Result<u64, Step
 // The quad that waits to know the token.
 #[inline(always)]
 fn waiting_quad<'a, A: Allocator>(
-    mode: &'a Mode<A>,
-    frames: &'a [Frame<A>],
+    state: &'a State<A>,
     graph: Option<SubjectRef<'a>>,
     token: &Token<'_>,
 ) -> Option<QuadRef<'a>>
-    ensures { (form : DocForm) (s : InForce) (v : M.Level) → option_map quad_of result ≡ M.waiting
-        (setting s (option_map (subject_by chars) graph.entry)) (mode_at form v (up_of v frames.now) mode.now) token.now.kind (leaf token.now) }
+    ensures { (form : DocForm) (s : InForce) → option_map quad_of result ≡ M.waiting
+        (setting s (option_map (subject_by chars) graph.entry)) (mode_in form state.now)
+        token.now.kind (leaf token.now) }
 {
-    match mode {
-        Mode::AfterText(lexical, frame) => match token.kind {
+    match &state.mode {
+        Mode::AfterText(lexical) => match token.kind {
             Kind::LangTag | Kind::AtBase | Kind::AtPrefix | Kind::Carets => None,
-            _ => Some(quad_at(frame, plain(lexical), graph)),
+            _ => Some(quad_at(&state.frame, plain(lexical), graph)),
         },
         Mode::Paren => {
             let first = match token.kind {
                 Kind::CloseParen => nil(),
                 _ => cell_node(token.offset),
             };
-            quad_up(frames, resource(first), graph)
+            quad_up(&state.frames, resource(first), graph)
         }
         _ => None,
     }

@@ -15,7 +15,7 @@ ghost use Rattle.rdf_trig.specs.Scopes.{IsReference, IsPrefixed, MeansLocal, Nam
 
 use crate::fault::StepFault;
 use crate::spelled::parts;
-use crate::state::{Mode, Outer};
+use crate::state::{Frame, Mode, Outer};
 use rdf_iri::Scope;
 use rdf_terms::{Iri, Kind, ValueFault, iri_value, is_plain_local, local_value, without_ends};
 use rdf_tokens::Token;
@@ -68,6 +68,7 @@ fn local_text<A: Allocator>(alloc: A, local: &str) -> Result<String<A>, StepFaul
 
 // The IRI of a prefixed name.
 #[tactic(auto, using(crate::proofs::code::LookUps::name_names, crate::proofs::code::LookUps::name_not))]
+#[inline(always)]
 fn prefixed<A: Allocator + Copy>(
     alloc: A,
     scope: &Scope<A>,
@@ -87,6 +88,7 @@ fn prefixed<A: Allocator + Copy>(
 }
 
 // The IRI that a token stands for, if it is a reference or a name.
+#[inline(always)]
 fn name<A: Allocator + Copy>(
     alloc: A,
     scope: &Scope<A>,
@@ -138,6 +140,7 @@ fn bind<A: Allocator + Copy>(
 }
 
 /// Looks up what a token stands for. In a directive the scope changes, and no IRI comes back.
+#[inline(always)]
 pub fn look_up<A: Allocator + Copy>(
     alloc: A,
     mode: &Mode<A>,
@@ -146,10 +149,10 @@ pub fn look_up<A: Allocator + Copy>(
 ) -> Result<Option<Iri<A>>, StepFault>
     requires token { IsTurtleToken token.now }
     requires short { PrefixFits (4 * scope.old.limits.token) mode.now }
-    ensures ok { IfOk result (λ i. (form : DocForm) (v : M.Level) (u : M.Up) (s : InForce) → SameScope s scope.old →
-        LooksUp s (mode_at form v u mode.now) token.now.kind (leaf token.now) i scope.new) }
-    ensures err { IfErr result (λ r. (form : DocForm) (v : M.Level) (u : M.Up) (s : InForce) → SameScope s scope.old →
-        LooksUpNone s (mode_at form v u mode.now) token.now.kind (leaf token.now) r) }
+    ensures ok { IfOk result (λ i. (form : DocForm) (v : M.Level) (f : Frame A) (u : M.Up) (s : InForce) → SameScope s scope.old →
+        LooksUp s (mode_at form v f u mode.now) token.now.kind (leaf token.now) i scope.new) }
+    ensures err { IfErr result (λ r. (form : DocForm) (v : M.Level) (f : Frame A) (u : M.Up) (s : InForce) → SameScope s scope.old →
+        LooksUpNone s (mode_at form v f u mode.now) token.now.kind (leaf token.now) r) }
 {
     match mode {
         Mode::Outer(outer) => look_up_outer(alloc, outer, scope, token),

@@ -84,23 +84,24 @@ pub enum Outer<A: Allocator = Global> {
     WantBrace(Subject<A>),
 }
 
-/// Where the reader stands. The parts own their texts, since the pieces that they came in are gone.
+/// Where the reader stands. The parts own their texts, since the pieces that they came in are gone. What an object, its
+/// type or a `;` belongs to is the frame in hand, which a state has beside its mode.
 #[derive(Drop)]
 pub enum Mode<A: Allocator = Global> {
     Outer(Outer<A>),
     /// After a subject; outside of a block it may be a graph's label in TriG.
     AfterSubject(Subject<A>),
     /// An object is to come, or has come; a string has come, and after it `^^`.
-    Want(Frame<A>),
-    After(Frame<A>),
-    AfterText(String<A>, Frame<A>),
-    WantType(String<A>, Frame<A>),
+    Want,
+    After,
+    AfterText(String<A>),
+    WantType(String<A>),
     /// After `[` and after `(`.
     Bracket(u64),
     Paren,
     /// A verb has to come; after `;` one may; after a property list that is a subject.
     WantVerb(Topic<A>),
-    Semicolon(Topic<A>, Around),
+    Semicolon,
     AfterBrackets(Topic<A>),
 }
 
@@ -127,23 +128,16 @@ pub enum Held<A: Allocator = Global> {
     Nil(u64),
 }
 
-/// What a token did: where the reader stands after it, the quad whose head it ended, and the cells that it is owed
-/// between.
-#[derive(Drop)]
-pub struct Turn<A: Allocator = Global> {
-    pub mode: Mode<A>,
-    pub held: Held<A>,
-    pub rest: Rest,
-}
-
 /// What has been read, as far as it matters for what may come.
 #[derive(Drop)]
 pub struct State<A: Allocator = Global> {
     /// Where the reader stands.
     pub mode: Mode<A>,
+    /// The predicate list or collection in hand, in the modes that belong to one. It stays where it is from token to token.
+    pub frame: Frame<A>,
     /// Where the statement stands that is being read.
     pub level: Level<A>,
-    /// What is open round that place, the innermost last.
+    /// What is open round the frame in hand, or round a bracket that has just come, the innermost last.
     pub frames: Vec<Frame<A>, A>,
     /// The cell before the one that the last token opened, and that cell.
     pub rest: Rest,
@@ -151,4 +145,11 @@ pub struct State<A: Allocator = Global> {
     pub held: Held<A>,
     /// How many `[` and `(` are open.
     pub depth: u64,
+}
+
+impl<A: Allocator> Frame<A> {
+    /// What is in hand where the mode needs no frame.
+    pub fn none() -> Frame<A> {
+        Frame::Cells { first: 0, cell: 0 }
+    }
 }

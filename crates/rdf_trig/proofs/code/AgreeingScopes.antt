@@ -17,6 +17,7 @@ use Rattle.rdf_trig.specs.declared.form.DocForm.TheVariants.{Turtle, TriG}
 use Rattle.rdf_trig.specs.declared.fault.StepFault.{StepFault}
 use Rattle.rdf_trig.specs.declared.state.Outer.{Outer}
 use Rattle.rdf_trig.specs.declared.state.Outer.TheVariants as outer
+use Rattle.rdf_trig.specs.declared.state.Frame.{Frame}
 use Rattle.rdf_trig.specs.declared.state.Mode.{Mode}
 use Rattle.rdf_trig.specs.declared.state.Mode.TheVariants as mode
 use Rattle.rdf_trig.specs.declared.state.Spelling.{Spelling}
@@ -24,7 +25,7 @@ use Rattle.rdf_trig.specs.Names.{reference_in, name_in, prefix_of, local_of, bin
 use Rattle.rdf_trig.specs.Events.{Use, stands, binds}
 use Rattle.rdf_trig.specs.Machine as M
 use Rattle.rdf_trig.specs.Machine.{by_use}
-use Rattle.rdf_trig.specs.States.{name_at, use_at, mode_at, outer_of}
+use Rattle.rdf_trig.specs.States.{name_at, use_at, mode_at, outer_of, place_of, semi_at}
 use Rattle.rdf_trig.specs.Scopes.{IsAdmitted, IsDenied, Names, Unnamed, Based, Binding, NotBinding, SameScope, LooksUp, LooksUpNone}
 
 reference_same : (s t : InForce) (l : Leaf) → SameScope s t → reference_in s l ≡ reference_in t l
@@ -89,10 +90,15 @@ subject_ordinary TriG M.InBlock x = tt
 subject_ordinary Turtle M.Top x = tt
 subject_ordinary Turtle M.InBlock x = tt
 
-mode_ordinary : {A : Type 0} (form : DocForm) (v : M.Level) (u : M.Up) (m : Mode A) → ((o : Outer A) → m ≡ mode.Outer o → ⊥) → Ordinary (mode_at form v u m)
-mode_ordinary form v u (mode.Outer o) n = absurd (n o refl)
-mode_ordinary form v u (mode.AfterSubject s) n = subject_ordinary form v _
-mode_ordinary form v u m n = tt
+semi_ordinary : (p : M.Place) → Ordinary (semi_at p)
+semi_ordinary (M.Listed s p a) = tt
+semi_ordinary (M.InCells first cell u) = tt
+
+mode_ordinary : {A : Type 0} (form : DocForm) (v : M.Level) (f : Frame A) (u : M.Up) (m : Mode A) → ((o : Outer A) → m ≡ mode.Outer o → ⊥) → Ordinary (mode_at form v f u m)
+mode_ordinary form v f u (mode.Outer o) n = absurd (n o refl)
+mode_ordinary form v f u (mode.AfterSubject s) n = subject_ordinary form v _
+mode_ordinary form v f u mode.Semicolon n = semi_ordinary (place_of v f u)
+mode_ordinary form v f u m n = tt
 
 outer_ordinary : {A : Type 0} (o : Outer A) → ((w : Spelling) → o ≡ outer.WantPrefix w → ⊥) →
     ((w : Spelling) (p : _) → o ≡ outer.WantPrefixIri w p → ⊥) → ((w : Spelling) → o ≡ outer.WantBaseIri w → ⊥) → Ordinary (outer_of o)
@@ -103,16 +109,16 @@ outer_ordinary o a b c = tt
 
 pub mode_looks : {A : Type 0} (m : Mode A) (s t : InForce) (k : Kind) (l : Leaf) (r : Result (Option (List ℕ)) StepFault) →
     ((o : Outer A) → m ≡ mode.Outer o → ⊥) →
-    IfOk r (λ i. Names t k l i) → IfOk r (λ i. (form : DocForm) (v : M.Level) (u : M.Up) (s : InForce) → SameScope s t → LooksUp s (mode_at form v u m) k l i t)
-mode_looks m s t k l (Ok i) n h = λ form v u s e. looks_ordinary s t (mode_at form v u m) k l i (mode_ordinary form v u m n) e h
+    IfOk r (λ i. Names t k l i) → IfOk r (λ i. (form : DocForm) (v : M.Level) (f : Frame A) (u : M.Up) (s : InForce) → SameScope s t → LooksUp s (mode_at form v f u m) k l i t)
+mode_looks m s t k l (Ok i) n h = λ form v f u s e. looks_ordinary s t (mode_at form v f u m) k l i (mode_ordinary form v f u m n) e h
 mode_looks m s t k l (Err r) n h = tt
 
 pub mode_none : {A : Type 0} (m : Mode A) (s t : InForce) (k : Kind) (l : Leaf) (r : Result (Option (List ℕ)) StepFault) →
     ((o : Outer A) → m ≡ mode.Outer o → ⊥) →
-    IfErr r (λ f. Unnamed t k l f) → IfErr r (λ f. (form : DocForm) (v : M.Level) (u : M.Up) (s : InForce) → SameScope s t →
-    LooksUpNone s (mode_at form v u m) k l f)
+    IfErr r (λ f. Unnamed t k l f) → IfErr r (λ e. (form : DocForm) (v : M.Level) (f : Frame A) (u : M.Up) (s : InForce) → SameScope s t →
+    LooksUpNone s (mode_at form v f u m) k l e)
 mode_none m s t k l (Ok i) n h = tt
-mode_none m s t k l (Err r) n h = λ form v u s e. none_ordinary s t (mode_at form v u m) k l r (mode_ordinary form v u m n) e h
+mode_none m s t k l (Err r) n h = λ form v f u s e. none_ordinary s t (mode_at form v f u m) k l r (mode_ordinary form v f u m n) e h
 
 pub outer_looks : {A : Type 0} (o : Outer A) (t : InForce) (k : Kind) (l : Leaf) (r : Result (Option (List ℕ)) StepFault) →
     ((w : Spelling) → o ≡ outer.WantPrefix w → ⊥) → ((w : Spelling) (p : _) → o ≡ outer.WantPrefixIri w p → ⊥) →

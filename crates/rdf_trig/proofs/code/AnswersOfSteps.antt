@@ -30,9 +30,9 @@ use Rattle.rdf_trig.specs.Events.{Use}
 use Rattle.rdf_trig.specs.Refusals as refusal
 use Rattle.rdf_trig.specs.Machine as M
 use Rattle.rdf_trig.specs.Machine.{Reply, No, Go, kept, by_use, refuses, accepts}
-use Rattle.rdf_trig.specs.States.{mode_of, use_in, scope_in, is_go, DepthMoves, ShortPrefix, PrefixFits}
+use Rattle.rdf_trig.specs.States.{mode_of, use_in, scope_in, is_go, moved, DepthMoves, ShortPrefix, PrefixFits}
 use Rattle.rdf_trig.specs.Scopes.{IsAdmitted, SameScope, LooksUp, LooksUpNone}
-use Rattle.rdf_trig.specs.Steps.{Begins, GaveUp, state_of, moved, May, Stays, DepthMay, Keeps, Accepts, answered, Fails}
+use Rattle.rdf_trig.specs.Steps.{Begins, GaveUp, state_of, May, Stays, DepthMay, Keeps, Accepts, answered, Fails}
 use Rattle.rdf_trig.proofs.code.StepBounds.{step_use, step_depth, step_prefix}
 use Rattle.rdf_trig.proofs.code.PutsInRow.{begins_all}
 
@@ -151,10 +151,10 @@ depth_same CloseBracket old new was is e f g = omega (arith, e, f, g)
 depth_same CloseParen old new was is e f g = omega (arith, e, f, g)
 depth_same k old new was is e f g = f ∙ (e ∙ sym g)
 
-prefix_kept : {A : Type 0} (a b : ℕ) (form : DocForm) (v : Level A) (fs : List (Frame A)) (m : Mode A) → a ≤ b → ShortPrefix a (mode_of form v fs m) →
-    PrefixFits b m
-prefix_kept a b form v fs (mode.Outer (outer.WantPrefixIri w p)) h s = omega (arith, h, s)
-prefix_kept a b form v fs m h s = tt
+prefix_kept : {A : Type 0} (a b : ℕ) (form : DocForm) (v : Level A) (f : Frame A) (fs : List (Frame A)) (m : Mode A) → a ≤ b →
+    ShortPrefix a (mode_of form v f fs m) → PrefixFits b m
+prefix_kept a b form v f fs (mode.Outer (outer.WantPrefixIri w p)) h s = omega (arith, h, s)
+prefix_kept a b form v f fs m h s = tt
 
 pub keeps_moved : {A : Type 0} (form : DocForm) (s : InForce) (sizes : Sizes) (old r : State A) (k : Kind) (l : Leaf) (u : Use) (t : InForce) →
     Keeps form sizes old → byte_len l.text ≤ 4 * sizes.token →
@@ -163,7 +163,7 @@ keeps_moved form s sizes old r k l u t keeps short e d =
     let n = state_of form s old in
     record {
       depth = depth_same k old.depth r.depth (M.depth n.mode) _ keeps.depth d (step_depth form n.setting n.mode k l u _ _ _ _ e);
-      short = prefix_kept (byte_len l.text) (4 * sizes.token) form r.level r.frames.items r.mode short (step_prefix form n.setting n.mode k l u _ _ _ _ e);
+      short = prefix_kept (byte_len l.text) (4 * sizes.token) form r.level r.frame r.frames.items r.mode short (step_prefix form n.setting n.mode k l u _ _ _ _ e);
     }
 
 -- a character has at most four bytes

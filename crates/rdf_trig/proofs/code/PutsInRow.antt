@@ -10,13 +10,10 @@ use Rattle.rdf_iri.specs.Scope.{InForce}
 use Rattle.rdf_trig.specs.declared.form.DocForm.{DocForm}
 use Rattle.rdf_terms.specs.Terms as term
 use Rattle.rdf_tokens.specs.declared.token.Token.{Token as Given}
-use Rattle.rdf_trig.specs.declared.state.Level.{Level}
-use Rattle.rdf_trig.specs.declared.state.Frame.{Frame}
-use Rattle.rdf_trig.specs.declared.state.Mode.{Mode}
-use Rattle.rdf_trig.specs.declared.state.Held.{Held}
+use Rattle.rdf_trig.specs.declared.state.State.{State}
 use Rattle.rdf_trig.specs.Machine as M
 use Rattle.rdf_trig.specs.Machine.{kept}
-use Rattle.rdf_trig.specs.States.{leaf, mode_of, graph_of, graph_at, setting, rest_of, held_of}
+use Rattle.rdf_trig.specs.States.{leaf, mode_in, graph_of, graph_at, setting, rest_of, held_of}
 use Rattle.rdf_trig.specs.Steps.{Begins, GaveUp, given}
 
 pub appends_append : {S : Type 0} (takes : S → Quad → S → Type 0) (a b c : S) (qs rs : List Quad) → Appends takes a qs b → Appends takes b rs c →
@@ -68,15 +65,14 @@ pub given_apart : (q a r b w c : Option Quad) → q ≡ a → r ≡ b → w ≡ 
 given_apart q a r b w c e f g =
     sym (ap (λ x. kept x (kept b []) ++ kept c []) e) ∙ (sym (ap (λ x. kept q (kept x []) ++ kept c []) f) ∙ (sym (ap (λ x. kept q (kept r []) ++ kept x []) g) ∙ kept_apart q r w))
 
-pub given_in : {A : Type 0} (form : DocForm) (s : InForce) (m : Mode A) (v : Level A) (fs : List (Frame A)) (rest : Option (ℕ × ℕ)) (held : Held A) (t : Given)
-    (g : Option term.Subject) (q r w : Option Quad) →
-    g ≡ graph_at m (graph_of v) → q ≡ rest_of g rest → r ≡ held_of g (mode_of form v fs m) held → w ≡ M.waiting (setting s g) (mode_of form v fs m) t.kind (leaf t) →
-    given form s m v fs rest held t ≡ kept q [] ++ (kept r [] ++ kept w [])
-given_in form s m v fs rest held t g q r w e a b c =
+pub given_in : {A : Type 0} (form : DocForm) (s : InForce) (n : State A) (t : Given) (g : Option term.Subject) (q r w : Option Quad) →
+    g ≡ graph_at n.mode (graph_of n.level) → q ≡ rest_of g n.rest → r ≡ held_of g (mode_in form n) n.held → w ≡ M.waiting (setting s g) (mode_in form n) t.kind (leaf t) →
+    given form s n t ≡ kept q [] ++ (kept r [] ++ kept w [])
+given_in form s n t g q r w e a b c =
     given_apart q _ r _ w _
-    (a ∙ ap (λ x. rest_of x rest) e)
-    (b ∙ ap (λ x. held_of x (mode_of form v fs m) held) e)
-    (c ∙ ap (λ x. M.waiting (setting s x) (mode_of form v fs m) t.kind (leaf t)) e)
+    (a ∙ ap (λ x. rest_of x n.rest) e)
+    (b ∙ ap (λ x. held_of x (mode_in form n) n.held) e)
+    (c ∙ ap (λ x. M.waiting (setting s x) (mode_in form n) t.kind (leaf t)) e)
 
 pub told_stops : {T : Type 0} (r : Result T StepFault) (told : StepFault) (P : StepFault → Type 0) → IsErrAnd r (λ t. t ≡ told) → P told → IfErr r P
 told_stops (Ok x) told P e h = tt

@@ -2,7 +2,7 @@
 use Rattle.std.proofs.Common.{◌≡◌, ℕ, true, false, List, Option, None, refl}
 use Rattle.std.proofs.lemmas.Bool.{false≢true}
 use Rattle.rdf_terms.specs.declared.kind.Kind.{Kind}
-use Rattle.rdf_terms.specs.declared.kind.Kind.TheVariants.{IriRef, PnameNs, PnameLn, A, CloseBracket, CloseParen, CloseBrace, OpenBrace, Semicolon, LangTag, AtBase, AtPrefix, Base, Prefix, Graph, End, Carets}
+use Rattle.rdf_terms.specs.declared.kind.Kind.TheVariants.{IriRef, PnameNs, PnameLn, A, CloseBracket, CloseParen, CloseBrace, OpenBrace, Semicolon, Comma, LangTag, AtBase, AtPrefix, Base, Prefix, Graph, End, Carets}
 use Rattle.rdf_terms.specs.Terms as term
 use Rattle.rdf_lines.specs.Lines.{Leaf}
 use Rattle.rdf_trig.specs.declared.form.DocForm.{DocForm}
@@ -60,6 +60,12 @@ pub cells-else : (c : Setting) (f n : ℕ) (u : M.Up) (k : Kind) (l : Leaf) → 
     M.after c (M.InCells f n u) k l ≡ M.object_start c (M.InCells f l.at.offset u) (rest_quad c (term.Cell n) (term.Blank (cell_at l))) k l
 cells-else c f n u CloseParen l h = absurd (h refl)
 cells-else c f n u k l h = refl
+
+pub listed-else : (c : Setting) (s : Option term.Subject) (p : Option (List ℕ)) (a : M.Around) (k : Kind) (l : Leaf) → (k ≡ Comma → ⊥) → (k ≡ Semicolon → ⊥) →
+    M.after c (M.Listed s p a) k l ≡ M.list_end c s a k l
+listed-else c s p a Comma l h i = absurd (h refl)
+listed-else c s p a Semicolon l h i = absurd (i refl)
+listed-else c s p a k l h i = refl
 
 pub paren-else : (c : Setting) (u : M.Up) (k : Kind) (l : Leaf) → (k ≡ CloseParen → ⊥) →
     M.paren c u k l ≡ M.object_start c (M.InCells l.at.offset l.at.offset u) None k l

@@ -3,7 +3,6 @@ use Rattle.std.specs.Prelude.{option_map}
 use Rattle.rdf_terms.specs.Sinks.{Appends}
 use Rattle.rdf_terms.specs.Views.{quad_of}
 use Rattle.rdf_trig.specs.Machine.{kept}
-use Rattle.rdf_trig.specs.States.{level_of}
 use Rattle.rdf_trig.specs.Steps.{GaveUp}
 use Rattle.rdf_trig.proofs.code.PutsInRow.{appends_append, gave_more, gave_behind, given_in, told_stops}
 use Rattle.rdf_trig.proofs.give.give.Goals as goal
@@ -13,7 +12,7 @@ returns-in_err-rest-clause-err g c =
     let told = c.in_err-rest.field-0.0 in
     told_stops c.from_residual.result told _ c.from_residual.ensures.1
     (λ form s. subst (λ qs. GaveUp g.S.QuadSink.takes g.S.QuadSink.leaves g.S.QuadSink.has_failed told qs c.args.sink.now c.put.new.sink)
-    (sym (given_in form s c.args.mode.now c.args.level.now c.args.frames.now c.args.rest.now c.args.held.now c.args.token.now _
+    (sym (given_in form s c.args.state.now c.args.token.now _
     (option_map quad_of c.rest_quad.result) _ _ c.graph-graph.ensures c.rest_quad.ensures
     refl refl))
     (gave_more g.S.QuadSink.takes g.S.QuadSink.leaves g.S.QuadSink.has_failed told c.args.sink.now c.put.new.sink (kept (option_map quad_of c.rest_quad.result) []) _ c.in_err-rest.ensures.err))
@@ -23,9 +22,9 @@ returns-in_err-held-clause-err g c =
     let told = c.in_err-held.field-0.0 in
     told_stops c.from_residual-in_err-held.result told _ c.from_residual-in_err-held.ensures.1
     (λ form s. subst (λ qs. GaveUp g.S.QuadSink.takes g.S.QuadSink.leaves g.S.QuadSink.has_failed told qs c.args.sink.now c.put-2.new.sink)
-    (sym (given_in form s c.args.mode.now c.args.level.now c.args.frames.now c.args.rest.now c.args.held.now c.args.token.now _
+    (sym (given_in form s c.args.state.now c.args.token.now _
     (option_map quad_of c.rest_quad.result) (option_map quad_of c.held_quad.result) _ c.graph-graph.ensures c.rest_quad.ensures
-    (c.held_quad.ensures form (level_of c.args.level.now)) refl))
+    (c.held_quad.ensures form) refl))
     (gave_behind g.S.QuadSink.takes g.S.QuadSink.leaves g.S.QuadSink.has_failed told c.args.sink.now c.put.new.sink c.put-2.new.sink (kept (option_map quad_of c.rest_quad.result) []) _ c.in_ok-rest.ensures.ok
     (gave_more g.S.QuadSink.takes g.S.QuadSink.leaves g.S.QuadSink.has_failed told c.put.new.sink c.put-2.new.sink (kept (option_map quad_of c.held_quad.result) []) _ c.in_err-held.ensures.err)))
 
@@ -34,26 +33,26 @@ returns-in_err-waiting-clause-err g c =
     let told = c.in_err-waiting.field-0.0 in
     told_stops c.from_residual-in_err-waiting.result told _ c.from_residual-in_err-waiting.ensures.1
     (λ form s. subst (λ qs. GaveUp g.S.QuadSink.takes g.S.QuadSink.leaves g.S.QuadSink.has_failed told qs c.args.sink.now c.put-3.new.sink)
-    (sym (given_in form s c.args.mode.now c.args.level.now c.args.frames.now c.args.rest.now c.args.held.now c.args.token.now _
+    (sym (given_in form s c.args.state.now c.args.token.now _
     (option_map quad_of c.rest_quad.result) (option_map quad_of c.held_quad.result) (option_map quad_of c.waiting_quad.result) c.graph-graph.ensures c.rest_quad.ensures
-    (c.held_quad.ensures form (level_of c.args.level.now)) (c.waiting_quad.ensures form s (level_of c.args.level.now))))
+    (c.held_quad.ensures form) (c.waiting_quad.ensures form s)))
     (gave_behind g.S.QuadSink.takes g.S.QuadSink.leaves g.S.QuadSink.has_failed told c.args.sink.now c.put.new.sink c.put-3.new.sink (kept (option_map quad_of c.rest_quad.result) []) _ c.in_ok-rest.ensures.ok
     (gave_behind g.S.QuadSink.takes g.S.QuadSink.leaves g.S.QuadSink.has_failed told c.put.new.sink c.put-2.new.sink c.put-3.new.sink (kept (option_map quad_of c.held_quad.result) []) (kept (option_map quad_of c.waiting_quad.result) []) c.in_ok-held.ensures.ok c.in_err-waiting.ensures.err)))
 
 pub returns-clause-ok : goal.returns-clause-ok
 returns-clause-ok g c = λ form s.
     subst (λ qs. Appends g.S.QuadSink.takes c.args.sink.now qs c.put-3.new.sink)
-    (sym (given_in form s c.args.mode.now c.args.level.now c.args.frames.now c.args.rest.now c.args.held.now c.args.token.now _
+    (sym (given_in form s c.args.state.now c.args.token.now _
     (option_map quad_of c.rest_quad.result) (option_map quad_of c.held_quad.result) (option_map quad_of c.waiting_quad.result) c.graph-graph.ensures c.rest_quad.ensures
-    (c.held_quad.ensures form (level_of c.args.level.now)) (c.waiting_quad.ensures form s (level_of c.args.level.now))))
+    (c.held_quad.ensures form) (c.waiting_quad.ensures form s)))
     (appends_append g.S.QuadSink.takes c.args.sink.now c.put.new.sink c.put-3.new.sink (kept (option_map quad_of c.rest_quad.result) []) _ c.in_ok-rest.ensures.ok
     (appends_append g.S.QuadSink.takes c.put.new.sink c.put-2.new.sink c.put-3.new.sink (kept (option_map quad_of c.held_quad.result) []) (kept (option_map quad_of c.waiting_quad.result) []) c.in_ok-held.ensures.ok c.in_ok-waiting.ensures.ok))
 
 pub returns-clause-count : goal.returns-clause-count
 returns-clause-count g c = λ form s.
-    let size = ap length (given_in form s c.args.mode.now c.args.level.now c.args.frames.now c.args.rest.now c.args.held.now c.args.token.now _
+    let size = ap length (given_in form s c.args.state.now c.args.token.now _
     (option_map quad_of c.rest_quad.result) (option_map quad_of c.held_quad.result) (option_map quad_of c.waiting_quad.result) c.graph-graph.ensures c.rest_quad.ensures
-    (c.held_quad.ensures form (level_of c.args.level.now)) (c.waiting_quad.ensures form s (level_of c.args.level.now))) in
+    (c.held_quad.ensures form) (c.waiting_quad.ensures form s)) in
     let a = length-append (kept (option_map quad_of c.rest_quad.result) []) ((kept (option_map quad_of c.held_quad.result) []) ++ (kept (option_map quad_of c.waiting_quad.result) [])) in
     let b = length-append (kept (option_map quad_of c.held_quad.result) []) (kept (option_map quad_of c.waiting_quad.result) []) in
     let first = c.in_ok-rest.ensures.count in

@@ -18,7 +18,7 @@ returns-in_err-name-clause-err g c =
     let u = up_of v self.frames.items in
     told_stops c.from_residual-in_err-name.result c.in_err-name.field-0.0 _ c.from_residual-in_err-name.ensures.1
     (λ s e. fails_stops g.S.QuadSink.takes g.S.QuadSink.leaves g.S.QuadSink.has_failed form (state_of form s self) k l c.in_err-name.field-0.0 c.args.sink.now c.requires.live
-    (c.in_ok-check.ensures.ok s l (e.limits ∙ c.requires.limits)) (c.in_err-name.ensures.err form v u s e))
+    (c.in_ok-check.ensures.ok s l (e.limits ∙ c.requires.limits)) (c.in_err-name.ensures.err form v self.frame u s e))
 
 pub returns-in_err-given-clause-err : goal.returns-in_err-given-clause-err
 returns-in_err-given-clause-err g c =
@@ -30,9 +30,8 @@ returns-in_err-given-clause-err g c =
     let u = up_of v self.frames.items in
     told_stops c.from_residual-in_err-given.result c.in_err-given.field-0.0 _ c.from_residual-in_err-given.ensures.1
     (λ s e. fails_gave g.S.QuadSink.takes g.S.QuadSink.leaves g.S.QuadSink.has_failed form (state_of form s self) k l c.in_err-given.field-0.0 c.args.sink.now c.give.new.sink
-    (c.in_ok-check.ensures.ok s l (e.limits ∙ c.requires.limits)) (c.in_ok-name.ensures.ok form v u s e).admitted
-    (subst (λ fs. GaveUp g.S.QuadSink.takes g.S.QuadSink.leaves g.S.QuadSink.has_failed c.in_err-given.field-0.0 (given form s self.mode self.level fs self.rest self.held c.args.token.now) c.args.sink.now c.give.new.sink)
-    c.deref.ensures.value (c.in_err-given.ensures.err form s)))
+    (c.in_ok-check.ensures.ok s l (e.limits ∙ c.requires.limits)) (c.in_ok-name.ensures.ok form v self.frame u s e).admitted
+    (c.in_err-given.ensures.err form s))
 
 pub move_on-requires-clause-named : goal.move_on-requires-clause-named
 move_on-requires-clause-named g c =
@@ -42,7 +41,7 @@ move_on-requires-clause-named g c =
     let l = leaf c.args.token.now in
     let v = level_of self.level in
     let u = up_of v self.frames.items in
-    (c.in_ok-name.ensures.ok form v u c.args.scope.now (same_scope c.args.scope.now)).named
+    (c.in_ok-name.ensures.ok form v self.frame u c.args.scope.now (same_scope c.args.scope.now)).named
 
 pub returns-in-Ok-clause-ok : goal.returns-in-Ok-clause-ok
 returns-in-Ok-clause-ok g c = λ s e.
@@ -52,11 +51,10 @@ returns-in-Ok-clause-ok g c = λ s e.
     let l = leaf c.args.token.now in
     let v = level_of self.level in
     let u = up_of v self.frames.items in
-    let looks = c.in_ok-name.ensures.ok form v u s e in
+    let looks = c.in_ok-name.ensures.ok form v self.frame u s e in
     accepts_moved g.S.QuadSink.takes form s c.look_up.new.scope self c.move_on.new.self k l c.in_ok-name.name c.args.sink.now c.give.new.sink
     (c.in_ok-check.ensures.ok s l (e.limits ∙ c.requires.limits)) looks (c.in-Ok.ensures.ok s looks.name)
-    (subst (λ fs. Appends g.S.QuadSink.takes c.args.sink.now (given form s self.mode self.level fs self.rest self.held c.args.token.now) c.give.new.sink)
-    c.deref.ensures.value (c.in_ok-given.ensures.ok form s))
+    (c.in_ok-given.ensures.ok form s)
 
 pub returns-in-Ok-clause-count : goal.returns-in-Ok-clause-count
 returns-in-Ok-clause-count g c = λ s qs n a.
@@ -66,8 +64,7 @@ returns-in-Ok-clause-count g c = λ s qs n a.
     let l = leaf c.args.token.now in
     let m = state_of form s self in
     let x = accepted s.limits m k (M.waiting m.setting m.mode k l) (M.step form m.setting m.mode k l) qs n a in
-    subst (λ fs. c.in_ok-given.given ≡ length (given form s self.mode self.level fs self.rest self.held c.args.token.now))
-    c.deref.ensures.value (c.in_ok-given.ensures.count form s) ∙ ap length (sym x.given)
+    c.in_ok-given.ensures.count form s ∙ ap length (sym x.given)
 
 pub returns-in-Ok-clause-limits : goal.returns-in-Ok-clause-limits
 returns-in-Ok-clause-limits g c =
@@ -78,7 +75,7 @@ returns-in-Ok-clause-limits g c =
     let v = level_of self.level in
     let u = up_of v self.frames.items in
     let s = c.args.scope.now in
-    limits_kept s c.look_up.new.scope (state_of form s self).mode k l c.in_ok-name.name (c.in_ok-name.ensures.ok form v u s (same_scope s)) ∙ c.requires.limits
+    limits_kept s c.look_up.new.scope (state_of form s self).mode k l c.in_ok-name.name (c.in_ok-name.ensures.ok form v self.frame u s (same_scope s)) ∙ c.requires.limits
 
 pub returns-in-Ok-clause-keeps : goal.returns-in-Ok-clause-keeps
 returns-in-Ok-clause-keeps g c =
@@ -90,7 +87,7 @@ returns-in-Ok-clause-keeps g c =
     let u = up_of v self.frames.items in
     let s = c.args.scope.now in
     keeps_moved form s c.args.limits self c.move_on.new.self k l _ _ c.requires.keeps (bytes_at_most l.text c.args.limits.token c.requires.short)
-    (c.in-Ok.ensures.ok s (c.in_ok-name.ensures.ok form v u s (same_scope s)).name) c.in-Ok.ensures.depth
+    (c.in-Ok.ensures.ok s (c.in_ok-name.ensures.ok form v self.frame u s (same_scope s)).name) c.in-Ok.ensures.depth
 
 pub returns-in-Err-clause-err : goal.returns-in-Err-clause-err
 returns-in-Err-clause-err g c = λ s e.
@@ -100,9 +97,8 @@ returns-in-Err-clause-err g c = λ s e.
     let l = leaf c.args.token.now in
     let v = level_of self.level in
     let u = up_of v self.frames.items in
-    let looks = c.in_ok-name.ensures.ok form v u s e in
+    let looks = c.in_ok-name.ensures.ok form v self.frame u s e in
     fails_stays g.S.QuadSink.takes g.S.QuadSink.leaves g.S.QuadSink.has_failed form (state_of form s self) k l c.in-Err.fault c.args.sink.now c.give.new.sink
     (c.in_ok-check.ensures.ok s l (e.limits ∙ c.requires.limits)) looks.admitted
-    (subst (λ fs. Appends g.S.QuadSink.takes c.args.sink.now (given form s self.mode self.level fs self.rest self.held c.args.token.now) c.give.new.sink)
-    c.deref.ensures.value (c.in_ok-given.ensures.ok form s))
+    (c.in_ok-given.ensures.ok form s)
     (c.in-Err.ensures.err s looks.name) c.in_ok-given.ensures.live

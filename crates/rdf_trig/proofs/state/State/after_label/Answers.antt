@@ -1,0 +1,18 @@
+use Rattle.std.proofs.Common.{Some, None, subst}
+use Rattle.rdf_terms.specs.Owned.{owned_subject}
+use Rattle.rdf_trig.specs.States.{use_at, setting, graph_of, level_of, Gives}
+use Rattle.rdf_trig.specs.Machine as M
+use Rattle.rdf_trig.proofs.machine.Fallbacks.{label-else}
+use Rattle.rdf_trig.proofs.code.TurnsLemmas.{gives_at}
+use Rattle.rdf_trig.proofs.state.State.after_label.Goals as goal
+
+pub returns-in_default : goal.returns-in_default
+returns-in_default g c = record {
+  gives = λ form s l h.
+      let x = Some (owned_subject c.args.label) in
+      gives_at form s (use_at s c.args.kind l) c.verb_start.result c.verb_start.new.self _ _
+      (label-else (setting s None) x c.args.kind l c.in_default.not-OpenBrace)
+      (subst (λ v. Gives form s (use_at s c.args.kind l) c.verb_start.result c.verb_start.new.self (M.verb_start (setting s (graph_of v)) x (M.Statement (level_of v)) c.args.kind l))
+      c.requires.level (c.verb_start.ensures.gives form s l h));
+  depth = c.verb_start.ensures.depth;
+}

@@ -1,0 +1,15 @@
+use Rattle.std.proofs.Common.{Some}
+use Rattle.rdf_trig.specs.States.{use_at, setting_in, level_of, topic_of, verb_of, around_of, up_in}
+use Rattle.rdf_trig.proofs.machine.Fallbacks.{listed-else}
+use Rattle.rdf_trig.proofs.code.TurnsLemmas.{gives_at}
+use Rattle.rdf_trig.proofs.state.State.after_listed.Goals as goal
+
+pub returns-in_default : goal.returns-in_default
+returns-in_default g c = record {
+  gives = λ form s subject verb l e.
+      gives_at form s (use_at s c.args.kind l) c.list_end.result c.list_end.new.self _ _
+      (listed-else (setting_in s c.args.self.now) (Some (topic_of subject)) (Some (verb_of verb)) (around_of c.args.around (level_of c.args.self.now.level) (up_in c.args.self.now))
+      c.args.kind l c.in_default.not-Comma c.in_default.not-Semicolon)
+      (c.list_end.ensures.gives form s subject verb l e);
+  depth = c.list_end.ensures.depth;
+}
