@@ -1,4 +1,4 @@
-//! Tests of the crates below the program, over their public calls. They stand in a crate of their own, since a crate
+//! Tests of the crates below rdf_stream, over their public calls. They stand in a crate of their own, since a crate
 //! with tests is proved twice.
 #![tactic(auto)]
 
@@ -6,8 +6,6 @@
 mod iri;
 #[cfg(test)]
 mod lines;
-#[cfg(test)]
-mod stream;
 #[cfg(test)]
 mod terms;
 #[cfg(test)]
