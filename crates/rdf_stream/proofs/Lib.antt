@@ -7,3 +7,4 @@ pub mod ConvertsLemmas
 pub mod DocumentLemmas
 pub mod ChecksLemmas
 pub mod ShowsLemmas
+pub mod LoadsLemmas

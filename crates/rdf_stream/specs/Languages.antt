@@ -1,5 +1,5 @@
 -- What each format is to a run: its language, and how the quads of its documents are written.
-use Rattle.std.specs.Prelude.{ℕ, []}
+use Rattle.std.specs.Prelude.{ℕ}
 use Rattle.rdf_tokens.specs.Grammars.{Language}
 use Rattle.rdf_driver.specs.Words.{Words, in_words}
 use Rattle.rdf_lines.specs.declared.form.Style.{Style}
@@ -20,11 +20,11 @@ pub record Conversion : Type 1 where
 abbrev pub conversion : {G X : Type 0} → Words G X → X → ℕ → Style → Conversion
 conversion w x limit style = record { language = in_words w x limit; style = style }
 
--- no prefix is bound before the first token
+-- the base and the bindings of the job are in force before the first token
 abbrev pub tree_job : DocForm → JobRead → Chosen
-tree_job form job = record { form = form; start = record { base = job.base; bindings = []; limits = job.limits } }
+tree_job form job = record { form = form; start = record { base = job.base; bindings = job.bindings; limits = job.limits } }
 
--- The line formats have no relative references, and so no base. Their labels are kept, those of the others are renamed.
+-- The line formats have no relative references and no prefixes, and so no base and no bindings. Their labels are kept, those of the others are renamed.
 abbrev pub conversion_by : Kind → JobRead → Conversion
 conversion_by (Line form) job = record { language = in_lines form job.limits.token job.limits.iri; style = Kept }
 conversion_by (Tree form) job = record { language = language form (tree_job form job).start; style = Tagged }

@@ -8,6 +8,7 @@ pub mod Converts
 pub mod Faults
 pub mod Checks
 pub mod Shows
+pub mod Loads
 -- what need not be: functions that compute, machines and states, what the code's side speaks of, and the laws
 pub mod LineOut
 pub mod Pieces

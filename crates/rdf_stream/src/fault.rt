@@ -2,8 +2,10 @@
 
 ghost use Rattle.std.specs.Prelude.{◌≡◌};
 ghost use Rattle.rdf_stream.specs.Faults.{fault_by};
+ghost use Rattle.rdf_stream.specs.Loads.{load_fault};
 ghost use Rattle.rdf_stream.specs.declared.fault.StreamFault.TheVariants.{Memory};
 
+use rdf_iri::{BindingFault, BindingReason};
 use rdf_terms::Reason;
 use rdf_tokens::Fault;
 use std::alloc::AllocError;
@@ -43,6 +45,41 @@ impl From<Fault> for StreamFault {
             Reason::Memory => StreamFault::Memory,
             Reason::Sink => StreamFault::Write,
             _ => StreamFault::Refused(fault),
+        }
+    }
+}
+
+/// Why a file of bindings was not loaded.
+#[derive(Debug, Drop, Error)]
+pub enum LoadFault {
+    /// A line of the file is refused. A load never tells the reason `Memory` so.
+    #[error("refused at line {}", .0.line)]
+    Bad(BindingFault),
+    /// The source failed.
+    #[error("read failed")]
+    Read,
+    /// A growth of memory was refused.
+    #[error("out of memory")]
+    Memory,
+}
+
+impl From<AllocError> for LoadFault {
+    ghost use Rattle.rdf_stream.specs.declared.fault.LoadFault.{LoadFault};
+
+    ghost from_gives = { λ _ fault. fault ≡ LoadFault.Memory };
+
+    fn from(_: AllocError) -> LoadFault {
+        LoadFault::Memory
+    }
+}
+
+impl From<BindingFault> for LoadFault {
+    ghost from_gives = { λ fault told. told ≡ load_fault fault.reason fault };
+
+    fn from(fault: BindingFault) -> LoadFault {
+        match fault.reason {
+            BindingReason::Memory => LoadFault::Memory,
+            _ => LoadFault::Bad(fault),
         }
     }
 }

@@ -1,48 +1,73 @@
 // What a run is asked for.
 
-ghost use Rattle.std.specs.Prelude.{◌≡◌, ◌↔◌, None, Decides, IfSome};
+ghost use Rattle.std.specs.Prelude.{◌≡◌, ◌↔◌, None, [], Decides, IfSome};
 ghost use Rattle.rdf_iri.specs.Scope.{BaseFits};
 ghost use Rattle.rdf_iri.specs.Texts.{byte_len};
 ghost use Rattle.rdf_stream.specs.Jobs.{JobRead};
 ghost use Rattle.rdf_stream.specs.Languages.{tree_job};
 
 use crate::form::Form;
-use rdf_iri::Limits;
+use rdf_iri::{Bindings, Limits};
 use rdf_terms::Iri;
 use rdf_trig::{DocForm, Options};
 use std::alloc::{Allocator, Global};
 use std::marker::Model;
 
-/// The format of a document, the base that its references are resolved against first, and the limits. The line
-/// formats have no relative references, so they do not look at the base.
+/// The format of a document, the base that its references are resolved against first, the prefixes that are bound before
+/// it, and the limits. The line formats have no relative references and no prefixes, so they do not look at base and
+/// bindings.
 #[derive(Drop)]
 pub struct Job<A: Allocator = Global> {
     form: Form,
     base: Option<Iri<A>>,
+    bindings: Option<Bindings<A>>,
     limits: Limits,
 }
 
 impl<A: Allocator> Model for Job<A> {
+    ghost use Rattle.std.specs.Prelude.{◌≡◌, IfSome};
     ghost use Rattle.rdf_iri.specs.Scope.{BaseFits};
+    ghost use Rattle.rdf_trig.specs.Language.{handed_in};
     ghost use Rattle.rdf_stream.specs.Jobs.{JobRead};
 
     ghost Value = { JobRead };
 
-    ghost view = { λ j. record { form = j.form; base = j.base; limits = j.limits } };
+    ghost view = { λ j. record { form = j.form; base = j.base; bindings = handed_in j.bindings; limits = j.limits } };
 
-    ghost invariant = { λ j. BaseFits j.base j.limits };
+    ghost invariant = { λ j. BaseFits j.base j.limits × IfSome j.bindings (λ b. b.limits ≡ j.limits) };
 }
 
 impl<A: Allocator> Job<A> {
-    /// A job, or None where the base has more bytes than the limits allow for an IRI. It takes no memory.
+    /// A job without bindings, or None where the base has more bytes than the limits allow for an IRI. It takes no memory.
     pub fn new(form: Form, base: Option<Iri<A>>, limits: Limits) -> Option<Job<A>>
-        ensures made { IfSome result (λ job. job ≡ record { form = form; base = base; limits = limits }) }
+        ensures made { IfSome result (λ job. job ≡ record { form = form; base = base; bindings = []; limits = limits }) }
         ensures none { (result ≡ None) ↔ ¬ BaseFits base limits }
     {
         if !fits(&base, limits) {
             return None;
         }
-        Some(Job { form, base, limits })
+        Some(Job {
+            form,
+            base,
+            bindings: None,
+            limits,
+        })
+    }
+
+    /// The same, with these prefixes bound before the document, in place of those that were. It takes no memory.
+    pub fn with_bindings(self, bindings: Bindings<A>) -> Job<A>
+        requires { bindings.limits ≡ self.limits }
+        ensures { result ≡ record self { bindings = bindings.bindings } }
+    {
+        let Job {
+            form, base, limits, ..
+        } = self;
+        Job {
+            form,
+            base,
+            bindings: Some(bindings),
+            limits,
+        }
     }
 
     /// The document's format.
@@ -65,10 +90,16 @@ impl<A: Allocator + Copy> Job<A> {
     pub(crate) fn options(self, form: DocForm) -> Options<A>
         ensures { result ≡ tree_job form self }
     {
-        let Job { base, limits, .. } = self;
-        match Options::new(form, base, limits) {
-            Some(options) => options,
-            None => unreachable!(),
+        let Job {
+            base,
+            bindings,
+            limits,
+            ..
+        } = self;
+        match (Options::new(form, base, limits), bindings) {
+            (Some(options), Some(bindings)) => options.with_bindings(bindings),
+            (Some(options), None) => options,
+            (None, _) => unreachable!(),
         }
     }
 }

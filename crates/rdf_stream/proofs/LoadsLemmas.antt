@@ -1,0 +1,72 @@
+-- From the pieces of a source to a file of bindings.
+use Rattle.std.proofs.Common.{◌≡◌, ◌<◌, ℕ, true, false, List, [], ◌++◌, Option, IfErr, Result, Ok, Err, refl, sym, subst, ◌∙◌}
+use Rattle.std.proofs.lemmas.List.{append-nil}
+use Rattle.std.proofs.lemmas.Bool.{false≢true}
+use Rattle.std.proofs.KnownBytes.{Consumes-kept, Consumes-trans}
+use Rattle.std.specs.Result.{IsErrAnd}
+use Rattle.std.specs.Io.KnownBytes.{Consumes, IsAtEnd, Keeps}
+use Rattle.rdf_iri.specs.Limits.{Sizes}
+use Rattle.rdf_iri.specs.Bindings.{FailsAt, IsRefused}
+use Rattle.rdf_iri.specs.declared.fault.BindingReason.{BindingReason}
+use Rattle.rdf_iri.specs.declared.fault.BindingReason.TheVariants.{Memory as OutOfMemory, BadBinding, TokenTooLong, IriTooLong, TooManyBindings}
+use Rattle.rdf_iri.specs.declared.fault.BindingFault.{BindingFault}
+use Rattle.rdf_stream.specs.declared.fault.LoadFault.{LoadFault}
+use Rattle.rdf_stream.specs.declared.fault.LoadFault.TheVariants.{Read, Memory, Bad}
+use Rattle.rdf_stream.specs.Devices.{HasGiven, Reading}
+use Rattle.rdf_stream.specs.Loads.{HasGivenAll, LoadStops, ReadsNot, load_fault}
+
+-- Since a source was asked first it gave these bytes, and it may be asked for more.
+pub record IsGiving (known : Option (List ℕ)) (left : Reading) (bytes : List ℕ) (room : ℕ) : Type 0 where
+  pub consumed : Consumes known left.remaining bytes
+  pub more : left.has_ended ≡ false
+  pub live : left.has_failed ≡ false
+  pub has_room : 0 < room
+
+pub giving_given : (known : Option (List ℕ)) (left : Reading) (bytes : List ℕ) (room : ℕ) → IsGiving known left bytes room → HasGiven known left
+giving_given known left bytes room i = record { bytes = bytes; consumed = i.consumed; ended = λ e. absurd (false≢true (sym i.more ∙ e)); live = i.live }
+
+pub all_given : (known : Option (List ℕ)) (left : Reading) (bytes : List ℕ) → HasGivenAll known left bytes → HasGiven known left
+all_given known left bytes h = record { bytes = bytes; consumed = h.consumed; ended = λ e. h.at_end; live = h.live }
+
+-- a fault of reading is one of loading
+pub reads_not : (fault : LoadFault) (sizes : Sizes) (known : Option (List ℕ)) (left : Reading) → ReadsNot fault known left → LoadStops fault sizes known left
+reads_not (Bad f) sizes known left h = absurd h
+reads_not Read sizes known left h = h
+reads_not Memory sizes known left h = h
+
+-- so is a fault of the file
+pub refused : (f : BindingFault) (sizes : Sizes) (known : Option (List ℕ)) (left : Reading) (bytes : List ℕ) → HasGivenAll known left bytes → IsRefused f.reason sizes bytes f.line
+    → LoadStops (load_fault f.reason f) sizes known left
+refused f sizes known left bytes h r = by f.reason refl r
+  where
+    by : (reason : BindingReason) → f.reason ≡ reason → IsRefused reason sizes bytes f.line → LoadStops (load_fault reason f) sizes known left
+    by OutOfMemory e r = all_given known left bytes h
+    by BadBinding e r = (bytes, h, subst (λ x. FailsAt x sizes bytes f.line) (sym e) r)
+    by TokenTooLong e r = (bytes, h, subst (λ x. FailsAt x sizes bytes f.line) (sym e) r)
+    by IriTooLong e r = (bytes, h, subst (λ x. FailsAt x sizes bytes f.line) (sym e) r)
+    by TooManyBindings e r = (bytes, h, subst (λ x. FailsAt x sizes bytes f.line) (sym e) r)
+
+module _ (known : Option (List ℕ)) (left left' : Reading) (bytes : List ℕ) (room : ℕ) (i : IsGiving known left bytes room) where
+  -- the source failed
+  pub source_failed : Keeps left.remaining left'.remaining → left'.has_failed ≡ true → left'.has_ended ≡ false → ReadsNot Read known left'
+  source_failed k e o = ((e, o), bytes,  Consumes-kept known left.remaining left'.remaining bytes i.consumed k)
+
+  -- a piece more
+  pub gives_more : (piece : List ℕ) → Consumes left.remaining left'.remaining piece → left'.has_ended ≡ false → left'.has_failed ≡ false → (room' : ℕ) → 0 < room'
+      → IsGiving known left' (bytes ++ piece) room'
+  gives_more piece c more live room' some =
+      record { consumed = Consumes-trans known left.remaining left'.remaining bytes piece i.consumed c; more = more; live = live; has_room = some }
+
+  -- the end
+  pub gives_all : Consumes left.remaining left'.remaining [] → IsAtEnd left'.remaining → left'.has_ended ≡ true → left'.has_failed ≡ false → HasGivenAll known left' bytes
+  gives_all c at_end told live = record {
+    consumed = subst (Consumes known left'.remaining) (append-nil bytes) (Consumes-trans known left.remaining left'.remaining bytes [] i.consumed c);
+    at_end = at_end;
+    ended = told;
+    live = live;
+  }
+
+-- a `?` that reported a fault
+pub told_fault : {T : Type 0} (r : Result T LoadFault) (told : LoadFault) (P : LoadFault → Type 0) → IsErrAnd r (λ t. t ≡ told) → P told → IfErr r P
+told_fault (Ok x) told P e h = tt
+told_fault (Err t) told P e h = subst P (sym e) h
