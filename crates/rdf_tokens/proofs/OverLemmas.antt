@@ -58,6 +58,14 @@ ends-early d bs at n limit s h es l e = ⊎_elim
     no_more : length (chars bs) ≤ limit → shaped_over d limit (chars bs) ≡ false
     no_more m = ap (λ b. b && (is_some (kind_at (state_of d (take (limit + 1) (chars bs)))) || goes_on d (state_of d (take (limit + 1) (chars bs))))) (le-ltb _ _ m)
 
+-- whether the limit is passed, by the state after one character more than it
+pub by_state : (d : Dialect) (limit n : ℕ) (w : List ℕ) (s : State) → n ≡ limit + 1 → n ≤ length w → s ≡ state_of d (take n w) →
+    shaped_over d limit w ≡ (is_some (kind_at s) || goes_on d s)
+by_state d limit n w s e l h =
+    let there : state_of d (take (limit + 1) w) ≡ s = sym (h ∙ ap (λ i. state_of d (take i w)) e) in
+    ap (λ b. b && (is_some (kind_at (state_of d (take (limit + 1) w))) || goes_on d (state_of d (take (limit + 1) w)))) (lt-ltb limit (length w) (omega arith))
+    ∙ ap (λ x. is_some (kind_at x) || goes_on d x) there
+
 -- some of a spelling is left after a front of n characters
 same_tests : (i j : ℕ) → nat_lt (suc i) (suc j) ≡ nat_lt i j
 same_tests i j = grind (arith, nat_tests)

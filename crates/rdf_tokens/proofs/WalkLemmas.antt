@@ -1,5 +1,5 @@
 -- What is kept of an open token stays right where more text comes.
-use Rattle.std.proofs.Common.{◌≡◌, ℕ, zero, suc, ◌≤◌, Bool, true, false, cond, List, [], ◌∷◌, ◌++◌, refl, sym, ap, ◌∙◌, subst, ⊎_elim, length, length-append, take, drop, arith, Option, Some, None, IsUtf8}
+use Rattle.std.proofs.Common.{◌≡◌, ℕ, zero, suc, ◌+◌, ◌≤◌, Bool, true, false, cond, List, [], ◌∷◌, ◌++◌, refl, sym, ap, ◌∙◌, subst, ⊎_elim, length, length-append, length-drop, take, drop, arith, Option, Some, None, IsUtf8}
 use Rattle.std.specs.Prelude.{encode_utf8_all}
 use Rattle.std.proofs.lemmas.Bool.{cond-true, cond-false, cases_lt, lt-ltb, le-ltb}
 use Rattle.std.proofs.lemmas.List.{take_all, drop_all, take-append-le, drop-append-le}
@@ -14,10 +14,19 @@ use Rattle.rdf_tokens.specs.Tokens.{with_length, three_quotes, only_long}
 use Rattle.rdf_tokens.specs.Machine.{kind_at, goes_on}
 use Rattle.rdf_tokens.specs.Front.{IsAt, Reached, in_bytes, longest_by, state_of, kind_by_states, open_state}
 use Rattle.rdf_tokens.specs.Moves.{good_bytes}
-use Rattle.rdf_tokens.specs.Walk.{Walked, walk_kept}
+use Rattle.rdf_tokens.specs.Walk.{Walked, IsCounted, walk_kept}
 use Rattle.rdf_tokens.proofs.FrontLemmas.{AtMost, longest_by-at_most}
 use Rattle.rdf_tokens.proofs.GoodLemmas.{good_front}
 use Rattle.rdf_tokens.proofs.SpellingLemmas.{quotes-bytes}
+
+-- the characters over which the states have come are counted
+pub counted-walk : (d : Dialect) (bs : List ℕ) (old : Option Walk) → Walked d bs old → IsCounted bs old
+counted-walk d bs None h = tt
+counted-walk d bs (Some w) h = subst (IsAt bs w.at) (sym h.counted) h.reached.here
+
+-- all of the characters: those before a place, and those after it
+pub counted-whole : (bs : List ℕ) (at n : ℕ) → IsAt bs at n → n + length (chars (drop at bs)) ≡ length (chars bs)
+counted-whole bs at n h = let c = h.count in omega (arith, ap length h.left, length-drop n (chars bs))
 
 -- three quotes come first or not, whatever comes after three bytes
 quotes-more : (d : Dialect) (bs more : List ℕ) → 3 ≤ length bs → three_quotes d (bs ++ more) ≡ three_quotes d bs
@@ -80,8 +89,13 @@ reached-more d bs more at s b u v l r =
     }
 
 pub walked-more : (d : Dialect) (bs more : List ℕ) (old : Option Walk) → IsUtf8 bs → IsUtf8 more → Walked d bs old → Walked d (bs ++ more) old
+unfolding reached-more
 walked-more d bs more None u v h = tt
-walked-more d bs more (Some w) u v h = record { enough = h.enough; reached = reached-more d bs more w.at w.state (with_length w.len w.kind None) u v h.enough h.reached }
+walked-more d bs more (Some w) u v h = record {
+  enough = h.enough;
+  reached = reached-more d bs more w.at w.state (with_length w.len w.kind None) u v h.enough h.reached;
+  counted = h.counted;
+}
 
 -- where a piece comes after the rest of a text
 pub walked_grown : (d : Dialect) (text new : List ℕ) (start : ℕ) (old : Option Walk) (bytes : List ℕ) → IsUtf8 text → IsCharBoundary text start →
@@ -107,13 +121,14 @@ opened : (t : Bool) (s x : State) → Some s ≡ cond t (Some x) None → s ≡ 
 opened true s x e = cc
 opened false s x e = absurd (let h : Some s ≡ None = e in cc)
 
-pub walked-kept : (d : Dialect) (bs : List ℕ) (old : Option Walk) (n len : ℕ) (kind : Option Kind) (state : Option State) → IsUtf8 bs → Walked d bs old → n ≡ length bs →
+pub walked-kept : (d : Dialect) (bs : List ℕ) (old : Option Walk) (n count len : ℕ) (kind : Option Kind) (state : Option State) → IsUtf8 bs → Walked d bs old → n ≡ length bs →
+    count ≡ length (chars bs) →
     with_length len kind None ≡ in_bytes (chars bs) (longest_by (kind_by_states d (chars bs)) (chars bs) (length (chars bs))) →
-    state ≡ open_state d (state_of d (chars bs)) → Walked d bs (walk_kept old n len kind state)
-walked-kept d bs old n len kind None u h e f g = h
-walked-kept d bs old n len kind (Some s) u h e f g = ⊎_elim
+    state ≡ open_state d (state_of d (chars bs)) → Walked d bs (walk_kept old n count len kind state)
+walked-kept d bs old n count len kind None u h e m f g = h
+walked-kept d bs old n count len kind (Some s) u h e m f g = ⊎_elim
     (λ l. subst (Walked d bs) (sym (cond-true _ _ _ (lt-ltb n 3 l))) h)
-    (λ l. subst (Walked d bs) (sym (cond-false _ _ _ (le-ltb n 3 l))) (record { enough = l; reached = reached }))
+    (λ l. subst (Walked d bs) (sym (cond-false _ _ _ (le-ltb n 3 l))) (record { enough = l; reached = reached; counted = m }))
     (cases_lt n 3)
   where
     reached : Reached d bs n s (with_length len kind None)

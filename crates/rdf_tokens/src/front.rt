@@ -5,7 +5,7 @@ ghost use Rattle.std.specs.Str.{chars};
 ghost use Rattle.rdf_terms.specs.Shapes.{is_live};
 ghost use Rattle.rdf_tokens.specs.Tokens.{three_quotes, only_long, with_length, longest};
 ghost use Rattle.rdf_tokens.specs.Front.{Reached, in_bytes, longest_by, longer_front, state_of, kind_by_states, kind_here, open_state};
-ghost use Rattle.rdf_tokens.specs.Walk.{Walked, IsWalk, walk_kept};
+ghost use Rattle.rdf_tokens.specs.Walk.{Walked, IsWalk, IsCounted, walk_kept};
 ghost use Rattle.rdf_tokens.specs.Bare.{is_bare_byte, IsBare, IsBareIn};
 ghost use Rattle.rdf_terms.specs.Classes.{is_letter};
 ghost use Rattle.rdf_terms.specs.Runs.{IsRun};
@@ -32,11 +32,13 @@ pub(crate) struct Front {
     pub(crate) live: bool,
 }
 
-/// How far the states have come in a token that is open: the state after its bytes so far, and the longest token in them.
+/// How far the states have come in a token that is open: the state after its bytes so far, how many characters these are, and the
+/// longest token in them.
 #[derive(Clone, Copy)]
 pub(crate) struct Walk {
-    state: State,
-    at: usize,
+    pub(crate) state: State,
+    pub(crate) at: usize,
+    pub(crate) count: usize,
     len: usize,
     kind: Option<Kind>,
 }
@@ -65,7 +67,7 @@ pub(crate) fn front_of(
     ensures bare { IsBareIn dialect text.now bare.new }
 {
     let shaped = shaped_front(dialect, text, walk, bare);
-    keep(walk, text.len(), &shaped);
+    keep(walk, text, &shaped);
     Front {
         best: longer(
             fixed_front(dialect, text.as_bytes()),
@@ -85,19 +87,38 @@ struct Shaped {
 }
 
 /// Keeps how far the states came where they go on. After fewer than three bytes quotes may still turn into those of a long string.
-fn keep(walk: &mut Option<Walk>, len: usize, shaped: &Shaped)
-    ensures { walk.new ≡ walk_kept walk.old len shaped.now.len shaped.now.kind shaped.now.state }
+fn keep(walk: &mut Option<Walk>, text: &str, shaped: &Shaped)
+    requires { IsCounted text.now walk.old }
+    ensures { walk.new ≡ walk_kept walk.old (length text.now) (length (chars text.now)) shaped.now.len shaped.now.kind shaped.now.state }
 {
     if let Some(state) = shaped.state {
-        if len >= 3 {
+        if text.len() >= 3 {
             *walk = Some(Walk {
                 state,
-                at: len,
+                at: text.len(),
+                count: all_chars(text, walk),
                 len: shaped.len,
                 kind: shaped.kind,
             });
         }
     }
+}
+
+/// How many characters a text has. Those over which the states have come are not counted again.
+fn all_chars(text: &str, walk: &Option<Walk>) -> usize
+    requires { IsCounted text.now walk.now }
+    ensures { result ≡ length (chars text.now) }
+{
+    match walk {
+        Some(walk) => walk.count + char_count(&text[walk.at..]),
+        None => char_count(text),
+    }
+}
+
+fn char_count(text: &str) -> usize
+    ensures { result ≡ length (chars text.now) }
+{
+    text.chars().count()
 }
 
 /// The longest token of a kind that has states.

@@ -51,7 +51,7 @@ pub(crate) fn look_at(
     ensures walked { Walked dialect text.now walk.new }
     ensures bare { IsBareIn dialect text.now bare.new }
 {
-    if is_over(dialect, text, limit) {
+    if is_over(dialect, text, limit, walk) {
         return Look::Stop(Reason::TokenTooLong);
     }
     let front = front_of(dialect, text, walk, bare);

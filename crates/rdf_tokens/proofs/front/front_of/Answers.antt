@@ -6,7 +6,7 @@ use Rattle.rdf_tokens.specs.Front.{front_by, state_of}
 use Rattle.rdf_tokens.specs.Machine.{goes_on}
 use Rattle.rdf_tokens.specs.Walk.{Walked}
 use Rattle.rdf_tokens.proofs.StateLemmas.{front-bytes, live-bytes, open-live}
-use Rattle.rdf_tokens.proofs.WalkLemmas.{walked-kept}
+use Rattle.rdf_tokens.proofs.WalkLemmas.{counted-walk, walked-kept}
 use Rattle.rdf_tokens.proofs.front.front_of.Goals as goal
 
 pub returns-then-is_some-clause-best : goal.returns-then-is_some-clause-best
@@ -27,7 +27,7 @@ pub returns-then-is_some-clause-walked : goal.returns-then-is_some-clause-walked
 returns-then-is_some-clause-walked c =
     let shaped = c.shaped_front-shaped in
     subst (Walked c.args.dialect c.args.text.now) (sym c.keep.ensures)
-    (walked-kept c.args.dialect c.args.text.now _ _ shaped.result.len shaped.result.kind shaped.result.state c.utf8.text c.requires.walked refl shaped.ensures.best shaped.ensures.state)
+    (walked-kept c.args.dialect c.args.text.now _ _ _ shaped.result.len shaped.result.kind shaped.result.state c.utf8.text c.requires.walked refl refl shaped.ensures.best shaped.ensures.state)
 
 pub returns-else-is_some-clause-best : goal.returns-else-is_some-clause-best
 returns-else-is_some-clause-best c =
@@ -42,3 +42,6 @@ returns-else-is_some-clause-live c =
     sym (ap is_some c.shaped_front-shaped.ensures.state ∙ open-live d (state_of d (chars bs))) ∙ (sym c.is_some.ensures ∙ c.if-is_some.false) in
     let whole = sym (ap (λ t. t || live_by (rows_of d fixed) bs) goes) ∙ live-bytes d bs c.utf8.text in
     c.is_fixed_live.ensures ∙ (ap (live_by (rows_of d fixed)) c.as_bytes-else-is_some.ensures.value ∙ whole)
+
+pub keep-requires : goal.keep-requires
+keep-requires c = counted-walk c.args.dialect c.args.text.now _ c.requires.walked

@@ -1,10 +1,10 @@
-use Rattle.std.proofs.Common.{◌≡◌, ◌⊎◌, ◌≤◌, false, length, inl, inr, sym, ◌∙◌, arith}
+use Rattle.std.proofs.Common.{◌≡◌, ◌⊎◌, ◌≤◌, ◌||◌, false, is_some, length, inl, inr, sym, ap, ◌∙◌, arith}
 use Rattle.std.proofs.lemmas.Bool.{le-ltb}
 use Rattle.std.specs.Str.{chars}
-use Rattle.rdf_tokens.specs.Machine.{step, goes_on}
+use Rattle.rdf_tokens.specs.Machine.{step, kind_at, goes_on}
 use Rattle.rdf_tokens.specs.declared.states.machine.State.TheVariants.{Start}
 use Rattle.rdf_tokens.proofs.ByteLemmas.{char-step, run-more}
-use Rattle.rdf_tokens.proofs.OverLemmas.{few, ends-early}
+use Rattle.rdf_tokens.proofs.OverLemmas.{few, ends-early, by_state}
 use Rattle.rdf_tokens.proofs.over.is_shaped_over.Goals as goal
 use Rattle.rdf_tokens.proofs.over.is_shaped_over.Goals.{then-loop-count-test+then-at-text+else-is_live, then-loop-count-test+else-at-text, else-loop-count-test}
 
@@ -33,3 +33,13 @@ returns-else-count-limit c =
       | else-loop-count-test w ↦ absurd (let a = w.loop-count-test.false in omega arith)
     ] in
     le-ltb _ _ (omega arith) ∙ sym (ends-early c.args.dialect bs l.at l.count c.args.limit l.state l.invariant.here l.invariant.state (omega arith) ends)
+
+pub returns-else-is_some : goal.returns-else-is_some
+returns-else-is_some c =
+    let l = c.loop-count in
+    let d = c.args.dialect in
+    let over = c.if-count-limit.true in
+    let none : is_some (kind_at l.state) ≡ false = sym (c.is_some.ensures ∙ ap is_some c.kind.ensures) ∙ c.if-is_some.false in
+    let most = l.invariant.few in
+    c.is_live-else-is_some.ensures
+    ∙ sym (by_state d c.args.limit l.count (chars c.args.text.now) l.state (omega arith) l.invariant.here.count l.invariant.state ∙ ap (λ b. b || goes_on d l.state) none)
