@@ -5,14 +5,17 @@ more than 10 times as long.
     bench/hostile.py [KILOBYTES] [WORD..]     (250)
 
 For each shape and each of `convert`, `check` and `show`: the seconds of processor time at each size (the best of three runs), and
-how many times as long the last takes as the first. Times below a hundredth of a second are taken as one. With words, only the shapes
-whose names have one of them. `rt ci` or `rt run` in crates/rdf_tool builds the program.
+how many times as long the last takes as the first. Times below a hundredth of a second are taken as one. The shapes "byte by byte"
+have a tenth of the size, and are one token of just as many characters as the limit on tokens, given in pieces of one byte. With
+words, only the shapes whose names have one of them. `rt ci` or `rt run` in crates/rdf_tool builds the program.
 """
 import os
 import resource
+import socket
 import subprocess
 import sys
 import tempfile
+import threading
 
 TOP = os.path.dirname(os.path.dirname(os.path.abspath(__file__)))
 PROGRAM = os.environ.get("RDFCONV", os.path.join(TOP, "crates", "rdf_tool", "out", "rdf_tool"))
@@ -77,14 +80,22 @@ SHAPES = {
     'one string without its end': lambda size: HEAD + '"' + 'a' * size,
 }
 
+# The same of characters of several bytes: what begins the token, the character, and what ends it.
+BYTE_BY_BYTE = {
+    'a string of emoji byte by byte': ('"', '\U0001F600', '"'),
+    'a long string byte by byte': ('"""', '\u00E9', '"""'),
+    'an IRI byte by byte': ('<http://a/', '\u6F22', '>'),
+    'a label byte by byte': ('_:', '\u0434', ''),
+    'a name byte by byte': ('p:', '\u6F22', ''),
+}
 
-def seconds(action, path):
-    """The processor time of a run."""
+
+def seconds(words, stdin):
+    """The processor time of a run in the program itself."""
     before = resource.getrusage(resource.RUSAGE_CHILDREN)
-    with open(path, 'rb') as f:
-        subprocess.run([PROGRAM, action], stdin=f, stdout=subprocess.DEVNULL, stderr=subprocess.DEVNULL)
+    subprocess.run([PROGRAM] + words, stdin=stdin, stdout=subprocess.DEVNULL, stderr=subprocess.DEVNULL)
     after = resource.getrusage(resource.RUSAGE_CHILDREN)
-    return after.ru_utime + after.ru_stime - before.ru_utime - before.ru_stime
+    return after.ru_utime - before.ru_utime, after.ru_stime - before.ru_stime
 
 
 def times(action, shape, size, path):
@@ -93,7 +104,41 @@ def times(action, shape, size, path):
     for scale in SCALES:
         with open(path, 'w') as f:
             f.write(shape(size * scale))
-        found.append(min(seconds(action, path) for _ in range(3)))
+        best = []
+        for _ in range(3):
+            with open(path, 'rb') as f:
+                best.append(sum(seconds([action], f)))
+        found.append(min(best))
+    return found
+
+
+def send_bytes(end, text):
+    """Sends each byte in a message of its own: a read takes one message."""
+    try:
+        for byte in text:
+            end.send(bytes([byte]))
+    except OSError:
+        pass
+    end.close()
+
+
+def times_of_bytes(action, shape, size):
+    """The best of three runs at each scale, without the time in the system, of a token that comes byte by byte."""
+    begin, character, end = shape
+    found = []
+    for scale in SCALES:
+        token = begin + character * (size * scale // 10 // len(character.encode())) + end
+        text = ('PREFIX p: <http://a/> ' + HEAD + token + ' .\n').encode()
+        limits = ['--token', str(len(token)), '--iri', str(len(text))]
+        best = []
+        for _ in range(3):
+            ours, theirs = socket.socketpair(socket.AF_UNIX, socket.SOCK_SEQPACKET)
+            sender = threading.Thread(target=send_bytes, args=(ours, text))
+            sender.start()
+            best.append(seconds([action] + limits, theirs)[0])
+            theirs.close()
+            sender.join()
+        found.append(min(best))
     return found
 
 
@@ -103,11 +148,14 @@ def main():
     worst = 0
     with tempfile.TemporaryDirectory() as folder:
         path = os.path.join(folder, 'document')
-        for name, shape in SHAPES.items():
+        for name in list(SHAPES) + list(BYTE_BY_BYTE):
             if words and not any(word in name for word in words):
                 continue
             for action in ('convert', 'check', 'show'):
-                found = times(action, shape, size, path)
+                if name in SHAPES:
+                    found = times(action, SHAPES[name], size, path)
+                else:
+                    found = times_of_bytes(action, BYTE_BY_BYTE[name], size)
                 growth = max(found[-1], LEAST_SECONDS) / max(found[0], LEAST_SECONDS)
                 worst = max(worst, growth)
                 print('%-40s %-8s %s   times %.1f' % (name, action, ' '.join('%.3f' % t for t in found), growth))

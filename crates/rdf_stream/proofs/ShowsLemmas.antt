@@ -16,7 +16,7 @@ use Rattle.rdf_tokens.specs.Good.{tokens_of, end_of}
 use Rattle.rdf_tokens.specs.Unread.{Unread}
 use Rattle.rdf_tokens.specs.Moves as Moved
 use Rattle.rdf_tokens.specs.Scans as Scan
-use Rattle.rdf_tokens.specs.Scans.{HasScanned, GivesToken, IsOpen, TakesBytes, Waits, is_end, most_bytes, place_of}
+use Rattle.rdf_tokens.specs.Scans.{HasScanned, GivesToken, IsWaiting, TakesBytes, Waits, is_end, most_bytes, place_of}
 use Rattle.rdf_tokens.specs.Grammars.{counted}
 use Rattle.rdf_tokens.proofs.LawLemmas.{given_beginning, lengthens}
 use Rattle.rdf_tokens.proofs.GrammarsLemmas.{counted-append, counted_complete, end_complete, given_few, only_ended, tokens_of-nil}
@@ -283,7 +283,7 @@ module _ {D A : Type 0} (contents : D → Option (List ℕ)) (failed : D → Boo
     fewer more m e = g.less
 
 -- nothing was shown
-pub none_shown : {D A : Type 0} (contents : D → Option (List ℕ)) (failed : D → Bool) (job : JobRead) (lines : LineOut D A) (v : Unread) (s : Summary) → HasScanned v [] [] → IsOpen v →
+pub none_shown : {D A : Type 0} (contents : D → Option (List ℕ)) (failed : D → Bool) (job : JobRead) (lines : LineOut D A) (v : Unread) (s : Summary) → HasScanned v [] [] → IsWaiting v →
     v.dialect ≡ dialect_of job.form → v.limit ≡ job.limits.token → lines.buffer.now.items ≡ [] → failed lines.drain.now ≡ false → s.quads ≡ 0 → s.tokens ≡ 0 → s.bytes ≡ 0 →
     HasShownAll contents failed job [] lines lines v s
 none_shown contents failed job lines v s r o d l none live q n b =
@@ -429,7 +429,7 @@ module _ {D A : Type 0} (contents : D → Option (List ℕ)) (failed : D → Boo
           let now = bytes ++ take n piece in
           let go : w'.ended ≡ false = e ∙ p.after.more in
           let same : tokens_in job now w'.ended ≡ tokens_in job now false = ap (tokens_in job now) go in
-          let rest : ((tokens_in job now w'.ended).outcome ≡ undecided) × IsOpen w' =
+          let rest : ((tokens_in job now w'.ended).outcome ≡ undecided) × IsWaiting w' =
           ⊎_elim (λ z. z) (λ z. absurd (only_ended (dialect_of job.form) job.limits.token now (ap (λ r. r.outcome) (sym same) ∙ z))) y.rests in
           record { tokens = us; shown = x; more = rest.1; whole = ap (λ r. r.tokens) (sym same) ∙ y.whole; waits = ap (λ r. r.outcome) (sym same) ∙ rest.0 }
 

@@ -6,7 +6,7 @@ use Rattle.rdf_terms.specs.declared.sink.PutFault.TheVariants as put
 use Rattle.rdf_tokens.specs.Tokens.{Token}
 use Rattle.rdf_tokens.specs.Tokens.Outcome.{undecided, complete}
 use Rattle.rdf_tokens.specs.Unread.{Unread}
-use Rattle.rdf_tokens.specs.Scans.{HasScanned, IsOpen, most_bytes, place_of}
+use Rattle.rdf_tokens.specs.Scans.{HasScanned, IsWaiting, most_bytes, place_of}
 use Rattle.rdf_tokens.specs.Grammars.{counted}
 use Rattle.rdf_driver.specs.declared.summary.Summary.{Summary}
 use Rattle.rdf_stream.specs.Jobs.{JobRead}
@@ -46,13 +46,13 @@ pub record HasShown {D A : Type 0} (contents : D → Option (List ℕ)) (failed 
 -- the tokens are all that the bytes decide, or all that there are
 pub record AreAll (job : JobRead) (bytes : List ℕ) (tokens : List Token) (v : Unread) : Type 0 where
   pub whole : (tokens_in job bytes v.ended).tokens ≡ tokens
-  pub rests : (((tokens_in job bytes v.ended).outcome ≡ undecided) × IsOpen v) ⊎ ((tokens_in job bytes v.ended).outcome ≡ complete)
+  pub rests : (((tokens_in job bytes v.ended).outcome ≡ undecided) × IsWaiting v) ⊎ ((tokens_in job bytes v.ended).outcome ≡ complete)
 
 -- The lines of all tokens that the bytes decide were put, and more bytes may come.
 pub record HasShownAll {D A : Type 0} (contents : D → Option (List ℕ)) (failed : D → Bool) (job : JobRead) (bytes : List ℕ) (first lines : LineOut D A) (v : Unread) (s : Summary) : Type 0 where
   pub tokens : List Token
   pub shown : HasShown contents failed job bytes tokens first lines v s
-  pub more : IsOpen v
+  pub more : IsWaiting v
   pub whole : (tokens_in job bytes false).tokens ≡ tokens
   pub waits : (tokens_in job bytes false).outcome ≡ undecided
 
@@ -124,7 +124,7 @@ pub record Begins {D A : Type 0} (failed : D → Bool) (job : JobRead) (v : Unre
   pub dialect : v.dialect ≡ dialect_of job.form
   pub limit : v.limit ≡ job.limits.token
   pub read : HasScanned v [] []
-  pub more : IsOpen v
+  pub more : IsWaiting v
   pub none_shown : s ≡ record { quads = 0; tokens = 0; bytes = 0 }
   pub none_waits : lines.buffer.now.items ≡ []
   pub live : failed lines.drain.now ≡ false

@@ -346,6 +346,27 @@ fn a_token_of_more_characters_than_the_limit(rt: HostRuntime) {
     }
 }
 
+#[test]
+fn a_full_scanner_takes_what_fits(rt: HostRuntime) {
+    let mut scanner = Scanner::new(rt.alloc(), Dialect::Turtle, 2);
+    assert_eq!(rt; scanner.pending(), 0);
+    assert_eq!(rt; push(&mut scanner, b"1 2 3 4 5 6 7 8 9"), Told::Took(15));
+    assert_eq!(rt; push(&mut scanner, b" 9"), Told::Took(0));
+    assert_eq!(rt; next(&mut scanner), Told::Token(Kind::Integer, 0, 1, 1));
+    assert_eq!(rt; push(&mut scanner, b" 9"), Told::Took(1));
+    assert_eq!(rt; scanner.pending(), 15);
+
+    let mut scanner = Scanner::new(rt.alloc(), Dialect::Turtle, 2);
+    assert_eq!(rt;
+        push(&mut scanner, b"\"\xF0\x9F\x98\x80\xF0\x9F\x98"),
+        Told::Took(8)
+    );
+    assert_eq!(rt; next(&mut scanner), Told::Undecided);
+    assert_eq!(rt; scanner.pending(), 8);
+    assert_eq!(rt; push(&mut scanner, b"\x80 1 2 3 4"), Told::Took(7));
+    assert_eq!(rt; next(&mut scanner), Told::Fault(Reason::TokenTooLong, 0));
+}
+
 const CLASSES: [RunClass; 2] = [RunClass::InString, RunClass::InIri];
 
 #[test]

@@ -85,6 +85,15 @@ pub text_grown : (text new : List ℕ) (start : ℕ) (pending piece : List ℕ) 
 text_grown text new start pending piece place taken h u e =
     ap chars e ∙ chars-append (drop start text) (good_bytes (pending ++ piece)) (IsUtf8-drop text start u h.boundary)
 
+-- how many bytes are held then
+pub bounded_grown : (text new : List ℕ) (start : ℕ) (pending kept piece : List ℕ) (most : ℕ) → new ≡ drop start text ++ good_bytes (pending ++ piece) →
+    kept ≡ cond (is_broken (pending ++ piece)) [] (rest_of_bytes (pending ++ piece)) → length text - start + length pending + length piece ≤ most →
+    length new - 0 + length kept ≤ most
+bounded_grown text new start pending kept piece most e k l =
+    let n : length new ≡ length (drop start text) + length (good_bytes (pending ++ piece)) = ap length e ∙ length-append (drop start text) (good_bytes (pending ++ piece)) in
+    let g = kept_within (pending ++ piece) kept k in
+    omega (arith, n, length-drop start text, length-append pending piece)
+
 -- the reader moves on over some bytes
 module _ (text : List ℕ) (start n len : ℕ) (pending : List ℕ) (place taken : Place) (h : Held text start pending place taken) (u : IsUtf8 text)
     (e : len ≡ bytes_of n (chars (drop start text))) where
@@ -149,3 +158,7 @@ place_behind text start pending place taken h u = sym (past-chars place (drop st
 -- how many bytes the rest of the text has, by its characters
 pub size_of_rest : (text : List ℕ) (start : ℕ) → IsCharBoundary text start → IsUtf8 text → length text - start ≡ length (encode_utf8_all (chars (drop start text)))
 size_of_rest text start b u = sym (ap length (encodes-chars (drop start text) (IsUtf8-drop text start u b)) ∙ length-drop start text)
+
+pub unread_size : (text : List ℕ) (start : ℕ) (pending : List ℕ) → IsCharBoundary text start → IsUtf8 text →
+    length (encode_utf8_all (chars (drop start text))) + length pending ≡ length text - start + length pending
+unread_size text start pending b u = sym (ap (λ n. n + length pending) (size_of_rest text start b u))

@@ -34,6 +34,7 @@ pub mod CutLemmas
 pub mod HeldLemmas
 pub mod MoveLemmas
 pub mod NextLemmas
+mod RoomLemmas
 pub mod Inside
 pub mod LawLemmas
 pub mod PassingLemmas

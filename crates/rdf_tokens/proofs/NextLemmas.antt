@@ -1,5 +1,5 @@
 -- What the next token is, after white space and comments.
-use Rattle.std.proofs.Common.{◌≡◌, ◌≢◌, inl, inr, not, ℕ, ◌+◌, ◌<◌, Bool, true, false, cond, List, [], ◌∷◌, ◌++◌, ◌||◌, ◌&&◌, is_some, refl, sym, ap, ◌∙◌, subst, ⊎_elim, length, take, drop, arith, length-drop, Option, Some, None}
+use Rattle.std.proofs.Common.{◌≡◌, ◌≢◌, inl, inr, not, ℕ, ◌+◌, ◌<◌, ◌≤◌, Bool, true, false, cond, List, [], ◌∷◌, ◌++◌, ◌||◌, ◌&&◌, is_some, refl, sym, ap, ◌∙◌, subst, ⊎_elim, length, take, drop, arith, length-drop, Option, Some, None}
 use Rattle.std.proofs.lemmas.List.{append-nil}
 use Rattle.std.proofs.lemmas.Bool.{le-ltb, or_parts, cases_Bool, cond-true, cond-false}
 use Rattle.rdf_terms.specs.declared.kind.Dialect.{Dialect}
@@ -24,38 +24,52 @@ use Rattle.rdf_tokens.specs.Front.{bytes_of}
 use Rattle.rdf_tokens.proofs.StepLemmas.{step-token}
 use Rattle.rdf_tokens.proofs.TokensLemmas.{at_stop, step_token}
 use Rattle.rdf_tokens.proofs.ReadLemmas.{read_now, read_on}
+use Rattle.rdf_tokens.proofs.RoomLemmas.{open_few, few_unread}
 use Rattle.rdf_tokens.proofs.MoveLemmas.{moves_token, read_stop}
 
--- only where more may come is a step undecided
-undecided_open : (d : Dialect) (limit : ℕ) (t : Tail) (w : List ℕ) → step d limit t w ≡ stop undecided → t ≡ goes_on
+-- what is decided is no step that is undecided
+other : {P : Type 0} (o : Outcome) → o ≢ undecided → stop o ≡ stop undecided → P
+other o n e = absurd (n (let h : stop o ≡ stop undecided = e in cc))
+
+taken : {P : Type 0} (w : List ℕ) (o : Option (ℕ × Kind)) → chosen w o ≡ stop undecided → P
+taken w None e = other no_token (λ x. let h : no_token ≡ undecided = x in cc) e
+taken w (Some x) e =
+    ⊎_elim
+    (λ f. let h : token x.0 x.1 ≡ stop undecided = sym (cond-true _ _ _ f) ∙ e in cc)
+    (λ f. other bad_escape (λ x. let h : bad_escape ≡ undecided = x in cc) (sym (cond-false _ _ _ f) ∙ e))
+    (cases_Bool (is_fit x.1 (take x.0 w)))
+
+made : {P : Type 0} (d : Dialect) (w : List ℕ) → decided d w ≡ stop undecided → P
+made d [] e = other complete (λ x. let h : complete ≡ undecided = x in cc) e
+made d (c ∷ w) e = taken (c ∷ w) (longest d (c ∷ w) (length (c ∷ w))) e
+
+-- only where more may come is a step undecided, and then the text is the beginning of a token within the limit
+record IsLeftOpen (d : Dialect) (limit : ℕ) (t : Tail) (w : List ℕ) : Type 0 where
+  goes : t ≡ goes_on
+  within : over d limit w ≡ false
+  begins : (is_empty w || is_live d w) ≡ true
+
+left_open : (d : Dialect) (limit : ℕ) (t : Tail) (w : List ℕ) → step d limit t w ≡ stop undecided → IsLeftOpen d limit t w
 unfolding step
-undecided_open d limit t w e =
+left_open d limit t w e =
     ⊎_elim
     (λ o. other token_too_long (λ x. let h : token_too_long ≡ undecided = x in cc) (sym (cond-true _ _ _ o) ∙ e))
-    (λ o. tail t (is_empty w || is_live d w) (sym (cond-false _ _ _ o) ∙ e))
+    (λ o. let h = tail t (is_empty w || is_live d w) (sym (cond-false _ _ _ o) ∙ e) in record { goes = h.0; within = o; begins = h.1 })
     (cases_Bool (over d limit w))
   where
-    other : {P : Type 0} (o : Outcome) → o ≢ undecided → stop o ≡ stop undecided → P
-    other o n e = absurd (n (let h : stop o ≡ stop undecided = e in cc))
-
-    taken : {P : Type 0} (w : List ℕ) (o : Option (ℕ × Kind)) → chosen w o ≡ stop undecided → P
-    taken w None e = other no_token (λ x. let h : no_token ≡ undecided = x in cc) e
-    taken w (Some x) e =
-        ⊎_elim
-        (λ f. let h : token x.0 x.1 ≡ stop undecided = sym (cond-true _ _ _ f) ∙ e in cc)
-        (λ f. other bad_escape (λ x. let h : bad_escape ≡ undecided = x in cc) (sym (cond-false _ _ _ f) ∙ e))
-        (cases_Bool (is_fit x.1 (take x.0 w)))
-
-    made : {P : Type 0} (w : List ℕ) → decided d w ≡ stop undecided → P
-    made [] e = other complete (λ x. let h : complete ≡ undecided = x in cc) e
-    made (c ∷ w) e = taken (c ∷ w) (longest d (c ∷ w) (length (c ∷ w))) e
-
-    tail : (t : Tail) (b : Bool) → by_tail d t w b ≡ stop undecided → t ≡ goes_on
-    tail goes_on b e = refl
+    tail : (t : Tail) (b : Bool) → by_tail d t w b ≡ stop undecided → (t ≡ goes_on) × (b ≡ true)
+    tail goes_on true e = (refl, refl)
+    tail goes_on false e = made d w e
     tail broken true e = other bad_utf8 (λ x. let h : bad_utf8 ≡ undecided = x in cc) e
-    tail broken false e = made w e
-    tail ended true e = made w e
-    tail ended false e = made w e
+    tail broken false e = made d w e
+    tail ended true e = made d w e
+    tail ended false e = made d w e
+
+undecided_open : (d : Dialect) (limit : ℕ) (t : Tail) (w : List ℕ) → step d limit t w ≡ stop undecided → t ≡ goes_on
+undecided_open d limit t w e = (left_open d limit t w e).goes
+
+undecided_few : (d : Dialect) (limit : ℕ) (t : Tail) (w : List ℕ) → step d limit t w ≡ stop undecided → length w ≤ limit
+undecided_few d limit t w e = let h = left_open d limit t w e in open_few d limit w h.within h.begins
 
 open_now : (v : Unread) → tail_now v ≡ goes_on → v.ended ≡ false
 open_now v e = by_flags v.broken v.ended (is_empty v.pending) e
@@ -131,7 +145,7 @@ module _ (old mid : Unread) (m : Moves old [] mid) (p : old.stopped ≡ false) (
       record {
         same = record { dialect = same.dialect; limit = same.limit };
         before = record { running = p; more = sym x ∙ n };
-        after = record { running = running; more = n };
+        after = record { running = running; more = n; few = few_unread mid (undecided_few mid.dialect mid.limit (tail_now mid) mid.text e) begins };
         read = λ bytes ts r.
             let h = read_mid bytes ts r in
             let a = subst (λ v. tokens_of v.dialect v.limit bytes v.ended ≡ record { tokens = ts ++ []; outcome = undecided; at = mid.place }) m.same
@@ -208,7 +222,7 @@ dry v d s b =
     record {
       same = record { dialect = refl; limit = refl };
       before = open_now;
-      after = open_now;
+      after = record { running = s; more = q.1; few = few_unread v (let z : length v.text ≡ 0 = ap length (none v.text p.0) in omega arith) b };
       read = λ bytes ts r.
           let a = read_now v bytes ts s b r in
           let t : tail_now v ≡ goes_on = cond-false _ _ _ q.0 ∙ cond-false _ _ _ q.1 in

@@ -8,7 +8,7 @@ use Rattle.rdf_tokens.specs.Tokens.{Place}
 use Rattle.rdf_tokens.specs.Walk.{Walked}
 use Rattle.rdf_tokens.specs.Bare.{IsBareIn}
 use Rattle.rdf_tokens.specs.Moves.{BeginsChar}
-use Rattle.rdf_tokens.specs.Scans.{most_bytes}
+use Rattle.rdf_tokens.specs.Scans.{most_bytes, most_unread}
 
 -- a place has no more lines than bytes before it
 abbrev pub IsPlace : Place → Type 0
@@ -23,8 +23,9 @@ pub record Held (text : List ℕ) (start : ℕ) (pending : List ℕ) (place take
   pub lines : IsPlace place
   pub last : IsPlace taken
 
--- and how far the states have come in the rest, and where it has no names
-pub record Holds (d : Dialect) (text : List ℕ) (start : ℕ) (walk : Option Walk) (bare : Option Bare) (pending : List ℕ) (place taken : Place) : Type 0 where
+-- and how far the states have come in the rest, where it has no names, and that no more is held than the limit allows
+pub record Holds (d : Dialect) (limit : ℕ) (text : List ℕ) (start : ℕ) (walk : Option Walk) (bare : Option Bare) (pending : List ℕ) (place taken : Place) : Type 0 where
   pub held : Held text start pending place taken
   pub walked : Walked d (drop start text) walk
   pub no_names : IsBareIn d (drop start text) bare
+  pub bounded : length text - start + length pending ≤ most_unread limit

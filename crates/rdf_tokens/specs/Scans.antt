@@ -1,5 +1,5 @@
 -- What a scanner has read, and what its calls give.
-use Rattle.std.specs.Prelude.{◌≡◌, ◌≢◌, ℕ, ◌<◌, ◌≤◌, ◌+◌, Bool, true, false, cond, List, [], ◌∷◌, ◌++◌, ◌⊎◌, length, take, encode_utf8_all, Option, Some, None, Result, Ok, Err}
+use Rattle.std.specs.Prelude.{◌≡◌, ◌≢◌, ℕ, ◌<◌, ◌≤◌, ◌+◌, ◌-◌, ◌*◌, min, Bool, true, false, cond, List, [], ◌∷◌, ◌++◌, ◌⊎◌, length, take, encode_utf8_all, Option, Some, None, Result, Ok, Err}
 use Rattle.std.specs.Str.{chars}
 use Rattle.rdf_terms.specs.declared.kind.Dialect.{Dialect}
 use Rattle.rdf_terms.specs.declared.kind.Kind.TheVariants.{End}
@@ -57,21 +57,36 @@ pub record IsOpen (v : Unread) : Type 0 where
   pub running : v.stopped ≡ false
   pub more : v.ended ≡ false
 
--- how many tokens can still be given, at most
-abbrev pub left : Unread → ℕ
-left v = length v.text + cond v.stopped 0 1
-
 -- how many bytes were taken of which no token was given, but those that can begin no character
 abbrev pub unread_bytes : Unread → ℕ
 unread_bytes v = length (encode_utf8_all v.text) + length v.pending
 
--- n bytes of the piece were taken
+-- the most of them: a token of one character more than the limit, and a character that has not come whole
+abbrev pub most_unread : ℕ → ℕ
+most_unread limit = 4 * (limit + 1) + 3
+
+-- how many of so many bytes are taken
+abbrev pub fitting : Unread → ℕ → ℕ
+fitting v n = min n (min (most_bytes - v.taken.offset) (most_unread v.limit - unread_bytes v))
+
+-- Bytes may come, and all tokens that those so far decide were given. What is left is the beginning of a token within the limit, and of a character.
+pub record IsWaiting (v : Unread) : Type 0 where
+  pub running : v.stopped ≡ false
+  pub more : v.ended ≡ false
+  pub few : unread_bytes v ≤ 4 * v.limit + 3
+
+-- how many tokens can still be given, at most
+abbrev pub left : Unread → ℕ
+left v = length v.text + cond v.stopped 0 1
+
+-- n bytes of the piece were taken: as many as fit, and some where there is room
 pub record TakesBytes (old : Unread) (piece : List ℕ) (n : ℕ) (new : Unread) : Type 0 where
   pub same : SameScan old new
   pub before : IsOpen old
   pub after : IsOpen new
   pub within : n ≤ length piece
-  pub progress : 0 < length piece → 0 < n
+  pub count : n ≡ fitting old (length piece)
+  pub progress : unread_bytes old < most_unread old.limit → 0 < length piece → 0 < n
   pub most : new.taken.offset ≤ most_bytes
   pub read : (bytes : List ℕ) (ts : List Token) → HasScanned old bytes ts → HasScanned new (bytes ++ take n piece) ts
 
@@ -102,7 +117,7 @@ pub record GivesToken (old : Unread) (t : Token) (new : Unread) : Type 0 where
 pub record Waits (old new : Unread) : Type 0 where
   pub same : SameScan old new
   pub before : IsOpen old
-  pub after : IsOpen new
+  pub after : IsWaiting new
   pub read : (bytes : List ℕ) (ts : List Token) → HasScanned old bytes ts → HasScanned new bytes ts
       × ((tokens_of old.dialect old.limit bytes false).tokens ≡ ts) × ((tokens_of old.dialect old.limit bytes false).outcome ≡ undecided)
 

@@ -1,12 +1,12 @@
 // The scanner.
 
-ghost use Rattle.std.specs.Prelude.{◌≡◌, ◌==◌, ℕ, List, [], ◌++◌, count_by, true, IsErrOf, OnOk, OnErr, IfOk, cond, min, ◌-◌, ◌+◌, ◌≤◌, ◌<◌, ◌&&◌, ◌||◌, nat_le, length, drop, take, ⊤};
+ghost use Rattle.std.specs.Prelude.{◌≡◌, ◌==◌, ℕ, List, [], ◌++◌, count_by, true, IsErrOf, OnOk, OnErr, IfOk, cond, min, ◌-◌, ◌+◌, ◌≤◌, ◌<◌, ◌&&◌, ◌||◌, nat_le, length, drop, take, ⊤, ◌/◌};
 ghost use Rattle.std.specs.Str.{chars, IsCharBoundary};
 ghost use Rattle.std.specs.String.{string_bytes};
 ghost use mathlib.Core.Option.{none};
 ghost use Rattle.std.specs.Borrow.{sem, follows_so};
 ghost use Rattle.rdf_tokens.specs.Tokens.{Token as Read, past, step, is_empty};
-ghost use Rattle.rdf_tokens.specs.Scans.{HasScanned, IsOpen, Pushes, Gives, most_bytes, token_of, place_of, unread_bytes};
+ghost use Rattle.rdf_tokens.specs.Scans.{HasScanned, Pushes, Gives, most_bytes, token_of, place_of, unread_bytes, IsWaiting, most_unread, fitting};
 ghost use Rattle.rdf_tokens.specs.Look.{behind, IsLook};
 ghost use Rattle.rdf_tokens.specs.contracts.scanner.Scanner.{the_row};
 ghost use Rattle.rdf_tokens.specs.Moves.{closed, grown, good_bytes, is_broken, rest_of_bytes, is_settled, moved, tail_now, fault_place, is_flat, IsGiven, Moves, Stands};
@@ -74,7 +74,7 @@ impl<A: Allocator> Model for Scanner<A> {
       stopped = s.stopped;
     } };
 
-    ghost invariant = { λ s. Holds s.dialect (string_bytes s.text) s.start s.walk s.bare s.pending.items (record { offset = s.offset; line = s.line }) (record { offset = s.taken; line = s.last_line }) };
+    ghost invariant = { λ s. Holds s.dialect s.limit (string_bytes s.text) s.start s.walk s.bare s.pending.items (record { offset = s.offset; line = s.line }) (record { offset = s.taken; line = s.last_line }) };
 }
 
 impl<A: Allocator + Copy> Scanner<A> {
@@ -83,7 +83,7 @@ impl<A: Allocator + Copy> Scanner<A> {
         ensures read { HasScanned result [] [] }
         ensures dialect { result.dialect ≡ dialect }
         ensures limit { result.limit ≡ limit }
-        ensures running { IsOpen result }
+        ensures running { IsWaiting result }
     {
         Scanner {
             dialect,
@@ -105,10 +105,12 @@ impl<A: Allocator + Copy> Scanner<A> {
         }
     }
 
-    /// How many bytes are held of which no token was given: of the text, and of a character that has not come whole. After a `next` that
-    /// answered `None` they are the bytes that leave the next token open. It takes no memory.
+    /// How many bytes are held of which no token was given: of the text, and of a character that has not come whole. They are at most
+    /// four for each character of the limit and for one more, and three. After a `next` that answered `None` they are the bytes that
+    /// leave the next token open. It takes no memory.
     pub fn pending(&self) -> u64
-        ensures { result ≡ unread_bytes self.now }
+        ensures count { result ≡ unread_bytes self.now }
+        ensures bound { result ≤ most_unread self.now.limit }
     {
         (self.text.len() - self.start + self.pending.len()) as u64
     }
@@ -123,19 +125,19 @@ impl<A: Allocator + Copy> Scanner<A> {
         }
     }
 
-    /// Takes bytes of the piece, and answers how many: at least one of a piece that is not empty. After a
-    /// stop and after `end` it answers `Ended`. A document has at most 2^63 - 1 bytes: for a piece
-    /// after them it answers `DocumentTooLong`. After that, and after `Memory`, the scanner is stopped.
+    /// Takes the bytes of the piece that there is room for, and answers how many. After a `next` that answered `None` they are at least
+    /// one of a piece that is not empty. After a stop and after `end` it answers `Ended`. A document has at most 2^63 - 1 bytes: for a
+    /// piece after them it answers `DocumentTooLong`. After that, and after `Memory`, the scanner is stopped.
     pub fn push(&mut self, piece: &[u8]) -> Result<usize, Fault>
         ensures { Pushes self.old piece.now result self.new }
     {
         if self.stopped || self.ended {
             return Err(self.fault(Reason::Ended));
         }
-        let len = self.room(piece.len());
-        if len == 0 && !piece.is_empty() {
+        if self.taken == MOST_BYTES && !piece.is_empty() {
             return Err(self.stop(Reason::DocumentTooLong));
         }
+        let len = self.room(piece.len());
         match self.take_in(&piece[..len]) {
             Ok(()) => Ok(len),
             Err(_) => Err(self.stop(Reason::Memory)),
@@ -291,14 +293,17 @@ impl<A: Allocator + Copy> Scanner<A> {
 
     // How many of so many bytes can be taken.
     fn room(&self, len: usize) -> usize
-        ensures { result ≡ min len (most_bytes - self.now.taken.offset) }
+        ensures { result ≡ fitting self.now len }
     {
-        len.min((MOST_BYTES - self.taken) as usize)
+        let left = MOST_BYTES - self.taken;
+        let free = most_unread(self.limit) - self.pending();
+        len.min(left.min(free) as usize)
     }
 
     // Where a growth is refused, nothing changes.
     fn take_in(&mut self, piece: &[u8]) -> Result<(), AllocError>
-        requires { self.old.taken.offset + length piece.now ≤ most_bytes }
+        requires most { self.old.taken.offset + length piece.now ≤ most_bytes }
+        requires room { unread_bytes self.old + length piece.now ≤ most_unread self.old.limit }
         ensures ok { OnOk result (self.new ≡ grown self.old piece.now) }
         ensures err { OnErr result (self.new ≡ self.old) }
     {
@@ -384,6 +389,13 @@ impl<A: Allocator + Copy> Scanner<A> {
             line: self.last_line,
         }
     }
+}
+
+/// The most bytes of which no token was given. Above a quarter of what a document has at most, the limit makes no difference.
+fn most_unread(limit: u64) -> u64
+    ensures { result ≡ most_unread (min limit (most_bytes / 4)) }
+{
+    4 * (limit.min(MOST_BYTES / 4) + 1) + 3
 }
 
 // How many LF bytes the text of a token has: only two kinds have some.

@@ -16,6 +16,12 @@ show_tokens-requires-clause-showing g c =
     let (job, bytes, first, h) = c.requires.showing in
     (job, _, _, first, pushed _ _ job bytes first _ _ _ h c.args.piece.now c.in-Ok.taken _ c.in-Ok.ensures _ refl refl refl)
 
+pub returns-in-Ok-show_tokens-clause-forward : goal.returns-in-Ok-show_tokens-clause-forward
+returns-in-Ok-show_tokens-clause-forward g c =
+    let (job, bytes, first, h) = c.requires.showing in
+    let few = h.more.few in
+    c.in-Ok.ensures.progress (omega arith)
+
 pub returns-in-Ok-show_tokens-clause-shown : goal.returns-in-Ok-show_tokens-clause-shown
 returns-in-Ok-show_tokens-clause-shown g c = λ job bytes first h.
     let a = c.in-Ok-show_tokens.ensures.shown _ _ _ _ (pushed _ _ job bytes first _ _ _ h c.args.piece.now c.in-Ok.taken _ c.in-Ok.ensures _ refl refl refl) in

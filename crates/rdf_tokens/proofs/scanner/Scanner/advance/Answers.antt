@@ -1,4 +1,4 @@
-use Rattle.std.proofs.Common.{rules, ◌≡◌, ◌+◌, ◌≤◌, ℕ, List, ◌-◌, ◌==◌, count_by, drop, take, length, sym, ap, ◌∙◌, subst}
+use Rattle.std.proofs.Common.{rules, arith, ◌≡◌, ◌+◌, ◌≤◌, ℕ, List, ◌-◌, ◌==◌, count_by, drop, take, length, sym, ap, ◌∙◌, subst}
 use Rattle.std.proofs.lemmas.Str.{IsUtf8-string_bytes}
 use Rattle.std.specs.Str.{chars}
 use Rattle.std.specs.String.{string_bytes}
@@ -41,7 +41,8 @@ invariant_of-self g c =
     let bytes = c.as_bytes.ensures.value in
     let feeds = c.line_feeds.ensures ∙ ap (λ b. count_by (λ x. x == 10) (take (s.start + c.args.len - s.start) (drop s.start b))) bytes in
     let held = held_advanced (string_bytes s.text) s.start n c.args.len s.pending.items _ _ c.self.invariant.held (IsUtf8-string_bytes s.text) e c.line_feeds.result feeds in
-    record { held = held; walked = tt; no_names = bare_advanced s.dialect (string_bytes s.text) s.start c.args.len s.bare c.self.invariant.no_names }
+    let bounded = c.self.invariant.bounded in
+    record { held = held; walked = tt; no_names = bare_advanced s.dialect (string_bytes s.text) s.start c.args.len s.bare c.self.invariant.no_names; bounded = omega arith }
 
 moved_same : (v : Unread) {p q : Place} {t u : List ℕ} → p ≡ q → t ≡ u → moved v p v.begun v.comment t ≡ moved v q v.begun v.comment u
 moved_same v e f = cc

@@ -1,5 +1,7 @@
-use Rattle.std.proofs.Common.{length, sym, subst, ap, arith}
-use Rattle.std.specs.Str.{IsCharBoundary}
+use Rattle.std.proofs.Common.{refl, length, sym, subst, ap, arith}
+use Rattle.std.specs.Prelude.{encode_utf8_all}
+use Rattle.std.specs.Str.{IsCharBoundary, chars}
+use Rattle.std.proofs.lemmas.Str.{chars-nil}
 use Rattle.rdf_tokens.specs.Held.{Held}
 use Rattle.rdf_tokens.specs.Moves.{BeginsChar}
 use Rattle.rdf_tokens.proofs.ReadLemmas.{begins_nil, read_new}
@@ -15,7 +17,11 @@ invariant_of-result g c =
       lines = omega arith;
       last = omega arith;
     } in
-    record { held = held; walked = tt; no_names = tt }
+    record { held = held; walked = tt; no_names = tt; bounded = omega (arith, ap length c.new.ensures.bytes, ap length c.new-2.ensures.items) }
 
 pub returns-clause-read : goal.returns-clause-read
 returns-clause-read g c = read_new c.args.dialect c.args.limit _ _ c.new.ensures.bytes c.new-2.ensures.items
+
+pub returns-clause-running : goal.returns-clause-running
+returns-clause-running g c =
+    record { running = refl; more = refl; few = omega (arith, ap (λ b. length (encode_utf8_all (chars b))) c.new.ensures.bytes, ap (λ w. length (encode_utf8_all w)) chars-nil, ap length c.new-2.ensures.items) }

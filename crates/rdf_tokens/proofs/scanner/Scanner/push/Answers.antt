@@ -1,22 +1,43 @@
-use Rattle.std.proofs.Common.{◌≡◌, ◌<◌, ◌≤◌, ◌+◌, false, length, ap, sym, ◌∙◌, arith}
-use Rattle.std.proofs.lemmas.Bool.{eqb-true}
-use Rattle.rdf_tokens.specs.Scans.{most_bytes}
+use Rattle.std.proofs.Common.{◌≡◌, ◌<◌, ◌≤◌, ◌+◌, false, length, take, ap, sym, ◌∙◌, subst, ⊎_elim, arith}
+use Rattle.std.proofs.lemmas.Bool.{eqb-true, cases_lt}
+use Rattle.std.proofs.lemmas.List.{length-take-le}
+use Rattle.std.proofs.lemmas.Str.{IsUtf8-string_bytes}
+use Rattle.std.specs.String.{string_bytes}
+use Rattle.rdf_tokens.specs.Scans.{most_bytes, most_unread, unread_bytes}
+use Rattle.rdf_tokens.proofs.Inside.{unread_of}
+use Rattle.rdf_tokens.proofs.HeldLemmas.{unread_size}
 use Rattle.rdf_tokens.proofs.ReadLemmas.{takes_bytes}
-use Rattle.rdf_tokens.proofs.scanner.Scanner.push.Goals.{else-len-eq0-via-then-len-eq0+else-not-is_empty, else-len-eq0-via-else-len-eq0}
+use Rattle.rdf_tokens.proofs.RoomLemmas.{fitting-within, fitting-most, fitting-room, fitting-some}
+use Rattle.rdf_tokens.proofs.scanner.Scanner.push.Goals.{else-self-eq-MOST_BYTES-via-then-self-eq-MOST_BYTES+else-not-is_empty, else-self-eq-MOST_BYTES-via-else-self-eq-MOST_BYTES}
 use Rattle.rdf_tokens.proofs.scanner.Scanner.push.Goals as goal
+
+pub take_in-requires-clause-room : goal.take_in-requires-clause-room
+take_in-requires-clause-room g c =
+    let s = c.self.inside in
+    let old = c.args.self.now in
+    let piece = c.args.piece.now in
+    let size = unread_size (string_bytes s.text) s.start s.pending.items c.self.invariant.held.boundary (IsUtf8-string_bytes s.text) in
+    let bounded = c.self.invariant.bounded in
+    let here : unread_bytes (unread_of s) ≤ most_unread s.limit = omega (arith, size) in
+    let unread : unread_bytes old ≤ most_unread old.limit = subst (λ v. unread_bytes v ≤ most_unread v.limit) c.self.view_is here in
+    let fits = fitting-within old (length piece) in
+    let part : length (take c.room-len.result piece) ≡ c.room-len.result = length-take-le c.room-len.result piece (omega (arith, c.room-len.ensures)) in
+    omega (arith, part, c.room-len.ensures, fitting-room old (length piece) unread)
 
 pub returns-in-Ok : goal.returns-in-Ok
 returns-in-Ok g c =
     let old = c.args.self.now in
     let piece = c.args.piece.now in
+    let n = c.room-len.result in
     let stopped : old.stopped ≡ false = ap (λ v. v.stopped) (sym c.self.view_is) ∙ c.if-self.false in
     let ended : old.ended ≡ false = ap (λ v. v.ended) (sym c.self.view_is) ∙ c.if-self-2.false in
-    let progress : 0 < length piece → 0 < c.room-len.result = λ l. elim c.else-len-eq0.branch [
-      | else-len-eq0-via-then-len-eq0+else-not-is_empty w ↦ let e : length piece ≡ 0 = eqb-true (length piece) 0 (sym w.is_empty.ensures ∙ w.if-not-is_empty.false) in absurd (omega arith)
-      | else-len-eq0-via-else-len-eq0 w ↦ omega arith
-    ] in
-    let most : old.taken.offset + c.room-len.result ≤ most_bytes =
     let before : old.taken.offset ≡ c.self.inside.taken = ap (λ v. v.taken.offset) (sym c.self.view_is) in
-    let invariant = c.self.invariant.held.most in
-    omega (arith, c.room-len.ensures) in
-    takes_bytes old _ piece c.room-len.result stopped ended (omega (arith, c.room-len.ensures)) progress most c.in-Ok.ensures.ok
+    let most : old.taken.offset ≤ most_bytes = let m = c.self.invariant.held.most in omega (arith, before) in
+    let unfilled : 0 < length piece → old.taken.offset < most_bytes = λ l. elim c.else-self-eq-MOST_BYTES.branch [
+      | else-self-eq-MOST_BYTES-via-then-self-eq-MOST_BYTES+else-not-is_empty w ↦ let e : length piece ≡ 0 = eqb-true (length piece) 0 (sym w.is_empty.ensures ∙ w.if-not-is_empty.false) in absurd (omega arith)
+      | else-self-eq-MOST_BYTES-via-else-self-eq-MOST_BYTES w ↦ ⊎_elim (λ x. x) (λ x. absurd (w.if-self-eq-MOST_BYTES.false (omega (arith, before)))) (cases_lt old.taken.offset most_bytes)
+    ] in
+    let progress : unread_bytes old < most_unread old.limit → 0 < length piece → 0 < n = λ r l. subst (λ k. 0 < k) (sym c.room-len.ensures) (fitting-some old (length piece) l (unfilled l) r) in
+    let within : n ≤ length piece = let a = fitting-within old (length piece) in omega (arith, c.room-len.ensures) in
+    let far : old.taken.offset + n ≤ most_bytes = let a = fitting-most old (length piece) most in omega (arith, c.room-len.ensures) in
+    takes_bytes old _ piece n stopped ended within c.room-len.ensures progress far c.in-Ok.ensures.ok

@@ -1,4 +1,4 @@
-use Rattle.std.proofs.Common.{◌≡◌, ℕ, ◌+◌, ◌++◌, drop, length, sym, ap, ◌∙◌, subst, ◌≤◌, List, [], Bool, cond}
+use Rattle.std.proofs.Common.{◌≡◌, ℕ, ◌+◌, ◌-◌, ◌++◌, drop, length, sym, ap, ◌∙◌, subst, ◌≤◌, List, [], Bool, cond, arith}
 use Rattle.std.proofs.lemmas.Bool.{cond-true, cond-false}
 use Rattle.std.proofs.lemmas.Str.{IsUtf8-string_bytes}
 use Rattle.std.specs.String.{string_bytes}
@@ -6,10 +6,10 @@ use Rattle.rdf_tokens.specs.Tokens.{Place}
 use Rattle.rdf_tokens.specs.Unread.{Unread}
 use Rattle.rdf_tokens.specs.Moves.{good_bytes, rest_of_bytes, is_broken, grown, counted, lengthened}
 use Rattle.rdf_tokens.specs.Held.{Held, Holds}
-use Rattle.rdf_tokens.specs.Scans.{most_bytes}
+use Rattle.rdf_tokens.specs.Scans.{most_bytes, most_unread, unread_bytes}
 use Rattle.rdf_tokens.specs.declared.scanner.Scanner.TheInside.{Inside}
 use Rattle.rdf_tokens.proofs.Inside.{unread_at, unread_of}
-use Rattle.rdf_tokens.proofs.HeldLemmas.{held_counted, held_grown, text_grown}
+use Rattle.rdf_tokens.proofs.HeldLemmas.{held_counted, held_grown, bounded_grown, text_grown, size_of_rest}
 use Rattle.rdf_tokens.proofs.WalkLemmas.{walked_grown}
 use Rattle.rdf_tokens.proofs.scanner.Scanner.take_in.Goals.{then-not-self+in_ok-drop_front+in_ok-self-inside, else-not-self}
 use Rattle.rdf_tokens.proofs.scanner.Scanner.take_in.Goals as goal
@@ -23,7 +23,7 @@ module _ {Z : Type 0} where
   HeldAt s p = Held (string_bytes s.text) s.start s.pending.items (record { offset = s.offset; line = s.line }) p
 
   abbrev HoldsAt : Inside Z → Place → Type 0
-  HoldsAt s p = Holds s.dialect (string_bytes s.text) s.start s.walk s.bare s.pending.items (record { offset = s.offset; line = s.line }) p
+  HoldsAt s p = Holds s.dialect s.limit (string_bytes s.text) s.start s.walk s.bare s.pending.items (record { offset = s.offset; line = s.line }) p
 
 abbrev with_fields : Unread → List ℕ → List ℕ → Bool → Place → Unread
 with_fields v text pending broken taken = record v { text = text; pending = pending; broken = broken; taken = taken }
@@ -35,7 +35,10 @@ pub invariant_of-self-2 : goal.invariant_of-self-2
 invariant_of-self-2 g c =
     let s = c.self.inside in
     let piece = c.args.piece.now in
-    let most : s.taken + length piece ≤ most_bytes = subst (λ v. v.taken.offset + length piece ≤ most_bytes) (sym c.self.view_is) c.requires in
+    let most : s.taken + length piece ≤ most_bytes = subst (λ v. v.taken.offset + length piece ≤ most_bytes) (sym c.self.view_is) c.requires.most in
+    let room : length (string_bytes s.text) - s.start + length s.pending.items + length piece ≤ most_unread s.limit =
+    let r = subst (λ v. unread_bytes v + length piece ≤ most_unread v.limit) (sym c.self.view_is) c.requires.room in
+    omega (arith, size_of_rest (string_bytes s.text) s.start c.self.invariant.held.boundary (IsUtf8-string_bytes s.text)) in
     let P : Inside _ → Type 0 = λ i. HoldsAt i (behind i piece c.line_feeds.result) in
     elim c.if-not-self.branch [
       | then-not-self+in_ok-drop_front+in_ok-self-inside w ↦
@@ -46,10 +49,11 @@ invariant_of-self-2 g c =
           let held = subst (λ n. Held (string_bytes w.add_piece.new.text) 0 w.add_piece.new.pending.items (record { offset = s.offset; line = s.line }) (behind s piece n)) (sym c.line_feeds.ensures)
           (held_grown (string_bytes s.text) (string_bytes w.add_piece.new.text) s.start s.pending.items w.add_piece.new.pending.items piece _ _ c.self.invariant.held most (IsUtf8-string_bytes w.add_piece.new.text) new kept) in
           let walked = walked_grown s.dialect (string_bytes s.text) (string_bytes w.add_piece.new.text) s.start s.walk (s.pending.items ++ piece) (IsUtf8-string_bytes s.text) c.self.invariant.held.boundary new c.self.invariant.walked in
-          subst P (sym w.self-inside-is) (record { held = held; walked = walked; no_names = tt })
+          let bounded = bounded_grown (string_bytes s.text) (string_bytes w.add_piece.new.text) s.start s.pending.items w.add_piece.new.pending.items piece (most_unread s.limit) new kept room in
+          subst P (sym w.self-inside-is) (record { held = held; walked = walked; no_names = tt; bounded = bounded })
       | else-not-self w ↦
           let held = subst (λ n. HeldAt s (behind s piece n)) (sym c.line_feeds.ensures) (held_counted (string_bytes s.text) s.start s.pending.items piece _ _ c.self.invariant.held most) in
-          subst P (sym w.self-inside-is) (record { held = held; walked = c.self.invariant.walked; no_names = c.self.invariant.no_names })
+          subst P (sym w.self-inside-is) (record { held = held; walked = c.self.invariant.walked; no_names = c.self.invariant.no_names; bounded = c.self.invariant.bounded })
     ]
 
 pub returns-clause-ok : goal.returns-clause-ok
