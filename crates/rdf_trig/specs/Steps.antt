@@ -16,7 +16,6 @@ use Rattle.rdf_trig.specs.Machine as M
 use Rattle.rdf_terms.specs.declared.kind.Kind.{Kind}
 use Rattle.rdf_terms.specs.declared.kind.Kind.TheVariants.{OpenBracket, CloseBracket, OpenParen, CloseParen}
 use Rattle.rdf_lines.specs.Lines.{Leaf}
-use Rattle.rdf_trig.specs.Events.{Use}
 use Rattle.rdf_trig.specs.Machine.{Reply, No, Go, subject_at, verb_at, kept}
 use Rattle.rdf_trig.specs.States.{leaf, mode_in, graph_of, graph_at, setting, rest_of, held_of, is_go, PrefixFits}
 use Rattle.rdf_trig.specs.Scopes.{SameScope}

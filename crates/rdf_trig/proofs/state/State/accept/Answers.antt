@@ -1,9 +1,8 @@
-use Rattle.std.proofs.Common.{◌≡◌, ◌∙◌, sym, ap, subst, length}
+use Rattle.std.proofs.Common.{◌∙◌, sym, ap, length}
 use Rattle.rdf_trig.specs.Machine as M
 use Rattle.rdf_trig.proofs.machine.AcceptedTokens.{accepted}
-use Rattle.rdf_terms.specs.Sinks.{Appends}
 use Rattle.rdf_trig.specs.States.{leaf, level_of, up_of}
-use Rattle.rdf_trig.specs.Steps.{GaveUp, given, state_of}
+use Rattle.rdf_trig.specs.Steps.{state_of}
 use Rattle.rdf_trig.proofs.code.PutsInRow.{told_stops}
 use Rattle.rdf_trig.proofs.code.AnswersOfSteps.{fails_stops, fails_gave, fails_stays, accepts_moved, keeps_moved, limits_kept, same_scope, bytes_at_most}
 use Rattle.rdf_trig.proofs.state.State.accept.Goals as goal

@@ -1,4 +1,3 @@
-use Rattle.std.proofs.Common.{refl}
 use Rattle.rdf_trig.specs.States.{leaf, use_at, setting_in, graph_of, up_in}
 use Rattle.rdf_trig.specs.Machine as M
 use Rattle.rdf_trig.proofs.machine.Fallbacks.{cells-else}
