@@ -177,7 +177,8 @@ fn begins_object(kind: Kind) -> bool
 }
 
 fn goes_on_after_semicolon<A: Allocator>(frame: &Frame<A>, level: &Level<A>, kind: Kind) -> bool
-    ensures { (form : DocForm) (c : Setting) (u : M.Up) (l : Leaf) → result ≡ is_go (M.step form c (semi_at (place_of (level_of level.now) frame.now u)) kind l) }
+    ensures { (form : DocForm) (c : Setting) (u : M.Up) (l : Leaf) →
+        result ≡ is_go (M.step form c (semi_at (place_of (level_of level.now) frame.now u)) kind l) }
 {
     match frame {
         Frame::List { around, .. } => goes_on_after_verb(*around, level, kind),

@@ -827,6 +827,7 @@ fn box_closed<A: Allocator>(frame: &mut Frame<A>, frames: &mut Vec<Frame<A>, A>)
     };
     match closed {
         Frame::List { subject, .. } => Mode::AfterBrackets(subject),
+        // Only the end of a predicate list comes here.
         Frame::Cells { .. } => Mode::Paren,
     }
 }

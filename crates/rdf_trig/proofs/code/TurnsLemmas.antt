@@ -61,5 +61,6 @@ pub stands_at : {A : Type 0} (form : DocForm) (s : InForce) (u : Use) (old new :
     mode_of form old.level old.frame old.frames.items m ≡ x → Go u None None (setting s g) x ≡ moved form s u new
 stands_at form s u old new m g x is e f =
     subst (λ n. Go u None None (setting s g) x ≡ moved form s u n) (sym is)
-    (subst (λ y. Go u None None (setting s y) x ≡ Go u None None (setting s (graph_at m (graph_of old.level))) (mode_of form old.level old.frame old.frames.items m)) e
-    (ap (λ y. Go u None None (setting s (graph_at m (graph_of old.level))) y) (sym f)))
+    (let h = graph_at m (graph_of old.level) in
+    subst (λ y. Go u None None (setting s y) x ≡ Go u None None (setting s h) (mode_of form old.level old.frame old.frames.items m)) e
+    (ap (λ y. Go u None None (setting s h) y) (sym f)))

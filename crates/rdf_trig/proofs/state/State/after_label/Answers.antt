@@ -10,9 +10,11 @@ pub returns-in_default : goal.returns-in_default
 returns-in_default g c = record {
   gives = λ form s l h.
       let x = Some (owned_subject c.args.label) in
-      gives_at form s (use_at s c.args.kind l) c.verb_start.result c.verb_start.new.self _ _
-      (label-else (setting s None) x c.args.kind l c.in_default.not-OpenBrace)
-      (subst (λ v. Gives form s (use_at s c.args.kind l) c.verb_start.result c.verb_start.new.self (M.verb_start (setting s (graph_of v)) x (M.Statement (level_of v)) c.args.kind l))
+      let k = c.args.kind in
+      let self = c.verb_start.new.self in
+      gives_at form s (use_at s k l) c.verb_start.result self _ _
+      (label-else (setting s None) x k l c.in_default.not-OpenBrace)
+      (subst (λ v. Gives form s (use_at s k l) c.verb_start.result self (M.verb_start (setting s (graph_of v)) x (M.Statement (level_of v)) k l))
       c.requires.level (c.verb_start.ensures.gives form s l h));
   depth = c.verb_start.ensures.depth;
 }

@@ -7,8 +7,10 @@ use Rattle.rdf_trig.proofs.state.State.after_listed.Goals as goal
 pub returns-in_default : goal.returns-in_default
 returns-in_default g c = record {
   gives = λ form s subject verb l e.
+      let self = c.args.self.now in
+      let around = around_of c.args.around (level_of self.level) (up_in self) in
       gives_at form s (use_at s c.args.kind l) c.list_end.result c.list_end.new.self _ _
-      (listed-else (setting_in s c.args.self.now) (Some (topic_of subject)) (Some (verb_of verb)) (around_of c.args.around (level_of c.args.self.now.level) (up_in c.args.self.now))
+      (listed-else (setting_in s self) (Some (topic_of subject)) (Some (verb_of verb)) around
       c.args.kind l c.in_default.not-Comma c.in_default.not-Semicolon)
       (c.list_end.ensures.gives form s subject verb l e);
   depth = c.list_end.ensures.depth;

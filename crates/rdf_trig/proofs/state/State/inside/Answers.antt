@@ -10,9 +10,12 @@ use Rattle.rdf_trig.proofs.state.State.inside.Goals as goal
 pub returns-in_default : goal.returns-in_default
 returns-in_default g c = record {
   gives = λ form s h.
-      gives_at form s (use_at s c.args.token.now.kind (leaf c.args.token.now)) c.subject_start.result c.subject_start.new.self _ _
-      (inside-else form (setting s (option_map owned_subject c.args.graph)) c.args.token.now.kind (leaf c.args.token.now) c.in_default.not-CloseBrace)
-      (subst (λ v. Gives form s (use_at s c.args.token.now.kind (leaf c.args.token.now)) c.subject_start.result c.subject_start.new.self (M.subject_start form (setting s (graph_of v)) (level_of v) c.args.token.now.kind (leaf c.args.token.now)))
+      let k = c.args.token.now.kind in
+      let l = leaf c.args.token.now in
+      let self = c.subject_start.new.self in
+      gives_at form s (use_at s k l) c.subject_start.result self _ _
+      (inside-else form (setting s (option_map owned_subject c.args.graph)) k l c.in_default.not-CloseBrace)
+      (subst (λ v. Gives form s (use_at s k l) c.subject_start.result self (M.subject_start form (setting s (graph_of v)) (level_of v) k l))
       c.begin.ensures.level (c.subject_start.ensures.gives form s h));
   depth = c.subject_start.ensures.depth ∙ c.begin.ensures.depth;
 }

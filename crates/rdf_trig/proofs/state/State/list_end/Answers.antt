@@ -9,6 +9,9 @@ pub returns-in-Statement-clause-gives : goal.returns-in-Statement-clause-gives
 returns-in-Statement-clause-gives g c = rw c.in-Statement.is (λ form s subject verb l e. c.statement_end.ensures.gives form s (Some (topic_of subject)) l)
 
 pub returns-in-CloseBracket-clause-gives : goal.returns-in-CloseBracket-clause-gives
-returns-in-CloseBracket-clause-gives g c = rw (c.in-Brackets.is, c.in-CloseBracket.is) (λ form s subject verb l e.
-    stands_at form s itself (record c.args.self.now { frame = c.box_closed-mode.new.frame; frames = c.box_closed-mode.new.frames }) c.stand.new.self c.box_closed-mode.result _ _ c.stand.ensures (c.box_closed-mode.ensures.graph (graph_of c.args.self.now.level))
-    (c.box_closed-mode.ensures.mode form c.args.self.now.level subject verb Brackets e))
+returns-in-CloseBracket-clause-gives g c =
+    let self = c.args.self.now in
+    let closed = c.box_closed-mode in
+    rw (c.in-Brackets.is, c.in-CloseBracket.is) (λ form s subject verb l e.
+    stands_at form s itself (record self { frame = closed.new.frame; frames = closed.new.frames }) c.stand.new.self closed.result _ _ c.stand.ensures
+    (closed.ensures.graph (graph_of self.level)) (closed.ensures.mode form self.level subject verb Brackets e))

@@ -7,6 +7,9 @@ use Rattle.rdf_trig.proofs.state.State.start.Goals as goal
 pub returns-in-None-clause-gives : goal.returns-in-None-clause-gives
 returns-in-None-clause-gives g c s h =
     let form = c.args.form in
-    gives_at form s (use_at s c.args.token.now.kind (leaf c.args.token.now)) c.subject_start.result c.subject_start.new.self _ _ (c.in-None.ensures s (leaf c.args.token.now))
-    (subst (λ v. Gives form s (use_at s c.args.token.now.kind (leaf c.args.token.now)) c.subject_start.result c.subject_start.new.self (M.subject_start form (setting s (graph_of v)) (level_of v) c.args.token.now.kind (leaf c.args.token.now)))
+    let k = c.args.token.now.kind in
+    let l = leaf c.args.token.now in
+    let self = c.subject_start.new.self in
+    gives_at form s (use_at s k l) c.subject_start.result self _ _ (c.in-None.ensures s l)
+    (subst (λ v. Gives form s (use_at s k l) c.subject_start.result self (M.subject_start form (setting s (graph_of v)) (level_of v) k l))
     c.begin.ensures.level (c.subject_start.ensures.gives form s h))

@@ -8,13 +8,15 @@ pub returns-in-AfterSubject-clause-gives : goal.returns-in-AfterSubject-clause-g
 returns-in-AfterSubject-clause-gives g c =
     let v = level_of c.args.self.now.level in
     let x = Some (owned_subject c.in-AfterSubject.subject) in
-    rw c.in-AfterSubject.is (λ s h. gives_subject c.args.form v x s c.args.token.now.kind (leaf c.args.token.now) c.after_subject.result c.after_subject.new.self _
+    rw c.in-AfterSubject.is (λ s h. gives_subject c.args.form v x s c.args.token.now.kind (leaf c.args.token.now)
+    c.after_subject.result c.after_subject.new.self _
     (c.after_subject.ensures.gives s (leaf c.args.token.now) (name_subject c.args.form v x s c.args.token.now.kind (leaf c.args.token.now) c.args.name h)))
 
 pub returns-in-Want-clause-gives : goal.returns-in-Want-clause-gives
 returns-in-Want-clause-gives g c =
     let self = c.args.self.now in
-    rw c.in-Want.is (λ s h. gives_object c.args.form s c.object_start.result c.object_start.new.self (setting_in s self) (place_in self) (graph_of self.level) c.args.token.now.kind (leaf c.args.token.now) _ _ c.none.ensures
+    rw c.in-Want.is (λ s h. gives_object c.args.form s c.object_start.result c.object_start.new.self (setting_in s self) (place_in self) (graph_of self.level)
+    c.args.token.now.kind (leaf c.args.token.now) _ _ c.none.ensures
     (c.object_start.ensures.gives c.args.form s h))
 
 pub returns-in-After-clause-gives : goal.returns-in-After-clause-gives
