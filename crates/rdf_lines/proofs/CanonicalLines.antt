@@ -44,7 +44,7 @@ graph_kept : (g : Option Subject) → option_map (rename_subject Kept) g ≡ g
 graph_kept None = refl
 graph_kept (Some g) = ap (λ x. Some x) (subject_kept g)
 
-kept : (q : Quad) → rename Kept q ≡ q
+pub kept : (q : Quad) → rename Kept q ≡ q
 kept q = fields (rename_subject Kept q.subject) (rename_term Kept q.object) (option_map (rename_subject Kept) q.graph) (subject_kept q.subject) (term_kept q.object) (graph_kept q.graph)
   where
     fields : (s : Subject) (t : Term) (g : Option Subject) → s ≡ q.subject → t ≡ q.object → g ≡ q.graph →

@@ -27,7 +27,7 @@ use Rattle.rdf_lines.specs.declared.form.Style.TheVariants.{Kept, Tagged}
 use Rattle.rdf_lines.specs.Writing.{escaped, rename_node, rename_subject, rename_term, iri_text, node_text, subject_text, string_text, type_text, tail_text, term_text, space, graph_text, line}
 use Rattle.rdf_lines.specs.WrittenBytes.{node_bytes, subject_bytes, tail_bytes, term_bytes, graph_bytes, line_bytes}
 
-low : (c : ℕ) (w : List ℕ) → c < 128 → encodes (c ∷ w) ≡ c ∷ encodes w
+pub low : (c : ℕ) (w : List ℕ) → c < 128 → encodes (c ∷ w) ≡ c ∷ encodes w
 low c w l = ap (λ x. x ++ encodes w) (encode_ascii c l)
 
 text : (w : List ℕ) → IsUtf8 w → encodes (chars w) ≡ w
@@ -72,7 +72,7 @@ escaped_char c =
     plain : (c : ℕ) → 128 ≤ c → escaped c ≡ c ∷ []
     plain c l = grind (arith, nat_tests)
 
-escaped_text : (cs : List ℕ) → encodes (flat_map escaped cs) ≡ flat_map escaped (encodes cs)
+pub escaped_text : (cs : List ℕ) → encodes (flat_map escaped cs) ≡ flat_map escaped (encodes cs)
 escaped_text [] = refl
 escaped_text (c ∷ cs) =
     encodes-append (escaped c) (flat_map escaped cs)
@@ -125,11 +125,11 @@ subject : (s : Style) (t : SubjectRef) → encodes (subject_text (rename_subject
 subject s (subject_ref.Iri v) = iri v.text.now (IsUtf8-had _ v.utf8)
 subject s (subject_ref.Node n) = encoded_node s n
 
-xsd : encodes xsd_string ≡ xsd_string
+pub xsd : encodes xsd_string ≡ xsd_string
 unfolding encode
 xsd = refl
 
-same_type : (w : List ℕ) → IsUtf8 w → bytes_eq (chars w) xsd_string ≡ bytes_eq w xsd_string
+pub same_type : (w : List ℕ) → IsUtf8 w → bytes_eq (chars w) xsd_string ≡ bytes_eq w xsd_string
 same_type w u =
     let D = bytes_eq-Decides (chars w) xsd_string in
     let E = bytes_eq-Decides w xsd_string in

@@ -27,3 +27,5 @@ pub mod WrittenLimits
 mod SettledLemmas
 pub mod AcceptingLemmas
 pub mod CanonicalLines
+pub mod FrontsLemmas
+mod PassedLemmas

@@ -11,7 +11,7 @@ use Rattle.rdf_lines.specs.Writing.{escaped, is_escaped}
 plain : (c : ℕ) → is_escaped c ≡ false → escaped c ≡ c ∷ []
 plain c e = grind (arith, nat_tests)
 
-plain_front : (w : List ℕ) (n : ℕ) → ((k : ℕ) → k < n → is_escaped (get_or w k 0) ≡ false) → flat_map escaped (take n w) ≡ take n w
+pub plain_front : (w : List ℕ) (n : ℕ) → ((k : ℕ) → k < n → is_escaped (get_or w k 0) ≡ false) → flat_map escaped (take n w) ≡ take n w
 plain_front w zero h = refl
 plain_front [] (suc n) h = refl
 plain_front (c ∷ w) (suc n) h =
@@ -19,7 +19,7 @@ plain_front (c ∷ w) (suc n) h =
     ∙ ap (λ x. c ∷ x) (plain_front w n (λ k l. h (suc k) (omega arith)))
 
 -- the bytes that a run goes over stand as they are
-run_plain : (c : ℕ) → is_text_byte c ≡ true → is_escaped c ≡ false
+pub run_plain : (c : ℕ) → is_text_byte c ≡ true → is_escaped c ≡ false
 run_plain c e = grind (arith, nat_tests)
 
 run_front : (w : List ℕ) (n : ℕ) → IsRun is_text_byte w 0 n → flat_map escaped (take n w) ≡ take n w

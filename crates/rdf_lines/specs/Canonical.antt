@@ -1,12 +1,13 @@
 -- Lines as they are written with their labels kept. Of such lines it is known how they are read.
-use Rattle.std.specs.Prelude.{◌≡◌, ◌≤◌, ℕ, ◌+◌, Bool, true, false, List, [], ◌∷◌, bytes_eq, encode_utf8_all, Option, Some, None}
+use Rattle.std.specs.Prelude.{◌≡◌, ◌≤◌, ℕ, ◌+◌, Bool, true, false, List, [], ◌∷◌, ◌++◌, bytes_eq, encode_utf8_all, Option, Some, None}
 use Rattle.std.specs.List.{AllByRecursion}
 use Rattle.rdf_terms.specs.Terms.{Tail, Lang, Typed, Subject, Term, Resource, Literal, Quad, xsd_string, IsQuad}
-use Rattle.rdf_driver.specs.Readers.{Driven}
+use Rattle.rdf_driver.specs.Readers.{Driven, HasRead}
 use Rattle.rdf_driver.specs.Passing.{LeadsBack}
 use Rattle.rdf_lines.specs.declared.form.LineForm.{LineForm}
 use Rattle.rdf_lines.specs.declared.form.LineForm.TheVariants.{NTriples, NQuads}
 use Rattle.rdf_lines.specs.declared.form.Style.TheVariants.{Kept}
+use Rattle.rdf_lines.specs.declared.rules.Rules.{Rules}
 use Rattle.rdf_lines.specs.Machine.{Begin}
 use Rattle.rdf_lines.specs.Accepting.{LineAt, line_words}
 use Rattle.rdf_lines.specs.Laws.{IrisWithin, TokensWithin}
@@ -64,3 +65,12 @@ pub record IsCanonical (form : LineForm) (token iri : ℕ) (bytes : List ℕ) (q
 abbrev pub CanonicalLinesAreRead : Type 0
 CanonicalLinesAreRead = (r : Driven LineAt) (bytes : List ℕ) (qs : List Quad) → r.grammar.mode ≡ Begin → 2 ≤ r.scanner.limit →
     IsCanonical r.grammar.rules.form r.scanner.limit r.grammar.rules.iri bytes qs → LeadsBack line_words r bytes qs (count qs)
+
+-- A reader has passed some bytes: they are lines as they are written, and it has read them and their quads.
+pub record PassesLines (old : Driven LineAt) (bytes : List ℕ) (new : Driven LineAt) : Type 0 where
+  pub given : List Quad
+  pub canonical : IsCanonical old.grammar.rules.form old.scanner.limit old.grammar.rules.iri bytes given
+  pub grammar : new.grammar ≡ old.grammar
+  pub limit : new.scanner.limit ≡ old.scanner.limit
+  pub done : new.done ≡ old.done
+  pub read : (x : Rules) (before : List ℕ) (quads : List Quad) → HasRead line_words old x before quads → HasRead line_words new x (before ++ bytes) (quads ++ given)

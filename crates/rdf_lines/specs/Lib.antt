@@ -10,3 +10,4 @@ pub mod States
 pub mod Spelled
 pub mod Accepting
 pub mod Canonical
+pub mod Fronts

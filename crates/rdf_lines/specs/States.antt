@@ -35,6 +35,11 @@ mode_of (state.AfterGraph b o g) = AfterGraph (owned_subject b.subject) b.predic
 mode_of state.AfterDot = AfterDot
 mode_of state.Finished = Finished
 
+-- the mode between two lines
+abbrev pub is_begin : Mode → Bool
+is_begin Begin = true
+is_begin m = false
+
 -- a mode that is reached by giving a quad
 abbrev pub gave : Mode → Bool
 gave AfterDot = true

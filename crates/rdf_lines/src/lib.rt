@@ -2,6 +2,7 @@
 #![tactic(auto)]
 
 mod accept;
+mod canonical;
 mod form;
 mod grammar;
 pub mod laws;
@@ -11,6 +12,7 @@ mod spelled;
 mod state;
 mod writer;
 
+pub use canonical::pass_lines;
 pub use form::{LineForm, Style};
 pub use grammar::LineGrammar;
 pub use rdf_driver::{Fault, Summary};

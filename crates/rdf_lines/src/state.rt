@@ -5,7 +5,7 @@ ghost use Rattle.std.specs.Str.{chars};
 ghost use Rattle.std.specs.String.{string_bytes};
 ghost use Rattle.rdf_terms.specs.Terms.{Literal, Resource};
 ghost use Rattle.rdf_terms.specs.Views.{tail_by, subject_by, term_by};
-ghost use Rattle.rdf_lines.specs.States.{object_of, mode_of, gave};
+ghost use Rattle.rdf_lines.specs.States.{object_of, mode_of, gave, is_begin};
 
 use rdf_terms::{Iri, Known, LiteralRef, Subject, SubjectRef, Tag, TailRef, TermRef, known};
 use std::alloc::{Allocator, Global};
@@ -97,6 +97,13 @@ pub enum State<A: Allocator = Global> {
 }
 
 impl<A: Allocator> State<A> {
+    /// Whether nothing of the line has been read.
+    pub fn begins(&self) -> bool
+        ensures { result ≡ is_begin (mode_of self.now) }
+    {
+        matches!(self, State::Begin)
+    }
+
     /// Whether the last token was a dot, so that a quad was given.
     pub fn gave(&self) -> bool
         ensures { result ≡ gave (mode_of self.now) }

@@ -15,5 +15,5 @@ pub mod ViewLemmas
 pub mod LocalLemmas
 pub mod PiecesLemmas
 pub mod SinksLemmas
-mod IriBytes
-mod RunsLemmas
+pub mod IriBytes
+pub mod RunsLemmas

@@ -76,8 +76,8 @@ impl<'a> LabelView<'a> {
     }
 }
 
-/// BLANK_NODE_LABEL behind its `_:`, of the line formats (N-Triples 7)
-fn is_label(text: &str) -> bool
+/// Whether the text is a BLANK_NODE_LABEL without its `_:`, of the line formats (N-Triples 7).
+pub fn is_label(text: &str) -> bool
     ensures { (result ≡ true) ↔ IsLabel (chars text.now) }
 {
     let mut rest = text.chars();

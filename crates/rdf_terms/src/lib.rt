@@ -28,14 +28,14 @@ pub use constants::Known;
 pub use fault::TermFault;
 pub use iris::Iri;
 pub use kind::{Dialect, Kind};
-pub use labels::Label;
+pub use labels::{Label, is_label};
 pub use list::QuadList;
 pub use local::{is_plain_local, local_value};
 pub use names::is_pname_ns;
 pub use reason::Reason;
 pub use sink::{PutFault, QuadSink};
 pub use spelled::known;
-pub use tags::Tag;
+pub use tags::{Tag, is_tag};
 pub use terms::{Literal, Node, Quad, Subject, Tail, Term};
 pub use values::{ValueFault, iri_value, is_fit, string_value, without_ends, without_first};
 pub use views::{

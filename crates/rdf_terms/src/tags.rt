@@ -74,8 +74,8 @@ impl<'a> TagView<'a> {
     }
 }
 
-/// LANGTAG behind its `@` (Turtle 6.5)
-fn is_tag(text: &str) -> bool
+/// Whether the text is a LANGTAG without its `@` (Turtle 6.5).
+pub fn is_tag(text: &str) -> bool
     ensures { (result ≡ true) ↔ IsTag (chars text.now) }
 {
     let mut place = Place::Start;

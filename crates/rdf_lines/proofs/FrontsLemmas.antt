@@ -1,0 +1,359 @@
+-- What stands at the front of some bytes, put together from its parts.
+use Rattle.std.proofs.Common.{◌≡◌, ℕ, ◌+◌, ◌-◌, ◌<◌, ◌≤◌, Bool, true, false, List, [], ◌∷◌, ◌++◌, refl, sym, ap, ◌∙◌, subst, ⊎_elim, length, take, get_or, append_assoc, Option, Some, None, arith, length-append}
+use Rattle.std.specs.Prelude.{flat_map, IfSome, bytes_eq, encode_utf8_all, chars, IsUtf8}
+use Rattle.std.specs.List.{slice_range, AllByRecursion}
+use Rattle.std.proofs.Math.Seq.{take-append_seam}
+use Rattle.std.proofs.lemmas.List.{append-nil, length-take-le, get_or-take}
+use Rattle.std.proofs.lemmas.List.Concat.{flat_map-append}
+use Rattle.std.proofs.lemmas.Bool.{and_parts, and_from, cases_lt, eq-eqb}
+use Rattle.std.proofs.lemmas.Bool.Decides.{nat_tests}
+use Rattle.std.proofs.lemmas.Slice.Eq.{bytes_eq-Decides}
+use Rattle.std.proofs.lemmas.Str.{encodes-append, encodes-chars, length-le-encodes, scalars-chars}
+use Rattle.std.proofs.Math.Utf8 as Utf8
+use Rattle.std.proofs.Math.Utf8.{scalars}
+use Rattle.rdf_terms.specs.Classes.{has, scalar}
+use Rattle.rdf_terms.specs.Classes.Class.{iri_char}
+use Rattle.rdf_terms.specs.Terms.{Label, Tail, Lang, Typed, Subject, Iri, Blank, Term, Resource, Literal, Quad, xsd_string, all_have, has_scheme, IsIri, IsLabel, IsTag, IsSubject, IsTail, IsTerm, IsGraph, IsQuad}
+use Rattle.rdf_iri.specs.Texts.{byte_len}
+use Rattle.rdf_lines.specs.declared.form.LineForm.{LineForm}
+use Rattle.rdf_lines.specs.declared.form.LineForm.TheVariants.{NTriples, NQuads}
+use Rattle.rdf_lines.specs.declared.form.Style.TheVariants.{Kept}
+use Rattle.rdf_lines.specs.Canonical.{type_count, tail_count, term_count, graph_count, quad_count, count, LabelFits, IsTaken}
+use Rattle.rdf_lines.specs.Fronts.{Stands, IriStands, LabelStands, TagStands, StringStands, SubjectStands, PredicateStands, TailStands, ObjectStands, GraphStands, LineStands, LinesStand, AreLines, NoEscapes}
+use Rattle.rdf_lines.specs.Laws.{TermShort, TailShort, GraphShort, TokensWithin}
+use Rattle.rdf_lines.specs.Writing.{CanWriteTerm, is_escaped, escaped, iri_text, subject_text, string_text, type_text, tail_text, term_text, space, graph_text, quad_text, rename, text}
+use Rattle.rdf_terms.specs.Runs.{iri_byte, is_text_byte, IsRun}
+use Rattle.rdf_terms.proofs.IriBytes.{iri_bytes}
+use Rattle.rdf_terms.proofs.RunsLemmas.{run_decides}
+use Rattle.rdf_lines.proofs.CanonicalLines.{kept}
+use Rattle.rdf_lines.proofs.PlainRuns.{plain_front, run_plain}
+use Rattle.rdf_lines.proofs.EncodedLine.{low, escaped_text, xsd, same_type}
+
+-- what holds of an answer
+pub if_some : {A : Type 0} (o : Option A) (P Q : A → Type 0) → ((x : A) → P x → Q x) → IfSome o P → IfSome o Q
+if_some None P Q f h = h
+if_some (Some x) P Q f h = f x h
+
+pub front_slice : (bs : List ℕ) (end : ℕ) → slice_range bs 0 end ≡ take end bs
+front_slice bs end = ap (λ n. take n bs) (let e : end - 0 ≡ end = omega arith in e)
+
+-- the bytes of a run have its test
+pub run_taken : (p : ℕ → Bool) (bs : List ℕ) (end : ℕ) → IsRun p bs 0 end → all_have p (take end bs) ≡ true
+run_taken p bs end r =
+    let s = take end bs in
+    let n = length-take-le end bs r.within in
+    let all : IsRun p s 0 (length s) = record {
+      from = omega arith;
+      within = omega arith;
+      pass = λ k from to. ap p (get_or-take end bs k 0 (omega (arith, n))) ∙ r.pass k from (omega (arith, n));
+      stops = λ short. absurd (omega arith);
+    } in
+    sym (run_decides p s (length s) all) ∙ eq-eqb (length s) (length s) refl
+
+pub iri_taken : (bs : List ℕ) (end : ℕ) → IsRun iri_byte bs 0 end → IsUtf8 (take end bs) → all_have (has iri_char) (chars (take end bs)) ≡ true
+iri_taken bs end r u = sym (iri_bytes (take end bs) u) ∙ run_taken iri_byte bs end r
+
+-- no byte before a place is escaped in a string
+abbrev pub Unescaped : List ℕ → ℕ → Type 0
+Unescaped bs end = (k : ℕ) → k < end → is_escaped (get_or bs k 0) ≡ false
+
+pub unescaped_run : (bs : List ℕ) (at end : ℕ) → Unescaped bs at → IsRun is_text_byte bs at end → Unescaped bs end
+unescaped_run bs at end u r k l = ⊎_elim (λ (b : k < at). u k b) (λ (b : at ≤ k). run_plain (get_or bs k 0) (r.pass k b l)) (cases_lt k at)
+
+pub unescaped_quote : (bs : List ℕ) (at : ℕ) → Unescaped bs at → get_or bs at 0 ≡ 39 → Unescaped bs (at + 1)
+unescaped_quote bs at u e k l = ⊎_elim (λ (b : k < at). u k b) (λ (b : at ≤ k). let same : k ≡ at = omega arith in ap (λ x. is_escaped (get_or bs x 0)) same ∙ ap is_escaped e) (cases_lt k at)
+
+pub no_escapes : (bs : List ℕ) (end : ℕ) → Unescaped bs end → NoEscapes (take end bs)
+no_escapes bs end u = plain_front bs end u
+
+-- one text after another
+stands_then : (u w a b c : List ℕ) → Stands u a b → Stands w b c → Stands (u ++ w) a c
+stands_then u w a b c f g =
+    f ∙ (ap (λ x. encode_utf8_all u ++ x) g
+    ∙ (sym (append_assoc (encode_utf8_all u) (encode_utf8_all w) c) ∙ ap (λ x. x ++ c) (sym (encodes-append u w))))
+
+stands_byte : (c : ℕ) (a b : List ℕ) → c < 128 → a ≡ c ∷ b → Stands (c ∷ []) a b
+stands_byte c a b l e = e ∙ ap (λ x. x ++ b) (sym (low c [] l))
+
+-- a text by its bytes
+stands_text : (part a b : List ℕ) → IsUtf8 part → a ≡ part ++ b → Stands (chars part) a b
+stands_text part a b u e = e ∙ ap (λ x. x ++ b) (sym (encodes-chars part u))
+
+pub iri_stands : (limit : ℕ) (part a b : List ℕ) → IsUtf8 part → all_have (has iri_char) (chars part) ≡ true → has_scheme (chars part) ≡ true → length part ≤ limit → a ≡ part ++ 62 ∷ b → IriStands limit (chars part) a b
+iri_stands limit part a b u h s l e = record {
+  is = record { characters = h; scheme = s };
+  within = subst (λ x. length x ≤ limit) (sym (encodes-chars part u)) l;
+  stands = stands_then (chars part) (62 ∷ []) a (62 ∷ b) b (stands_text part a (62 ∷ b) u e) (stands_byte 62 (62 ∷ b) b (omega arith) refl);
+}
+
+pub label_stands : (part a b : List ℕ) → IsUtf8 part → IsLabel (chars part) → a ≡ part ++ b → LabelStands a b
+label_stands part a b u h e = record { label = chars part; is = h; stands = stands_text part a b u e }
+
+pub tag_stands : (part a b : List ℕ) → IsUtf8 part → IsTag (chars part) → a ≡ part ++ b → TagStands a b
+tag_stands part a b u h e = record { tag = chars part; is = h; stands = stands_text part a b u e }
+
+scalar_same : (c : ℕ) → Utf8.scalar c ≡ true → scalar c ≡ true
+scalar_same c e = grind (arith, nat_tests)
+
+all_scalar : (w : List ℕ) → scalars w ≡ true → all_have scalar w ≡ true
+all_scalar [] e = refl
+all_scalar (c ∷ w) e = let p = and_parts (Utf8.scalar c) (scalars w) e in and_from (scalar c) (all_have scalar w) (scalar_same c p.0) (all_scalar w p.1)
+
+pub string_stands : (part a b : List ℕ) → IsUtf8 part → NoEscapes part → a ≡ part ++ 34 ∷ b → StringStands a b
+string_stands part a b u n e =
+    let w = flat_map escaped (chars part) in
+    let same : encode_utf8_all w ≡ part = escaped_text (chars part) ∙ (ap (flat_map escaped) (encodes-chars part u) ∙ n) in
+    let front : Stands w a (34 ∷ b) = e ∙ ap (λ x. x ++ 34 ∷ b) (sym same) in
+    record {
+      string = chars part;
+      is = all_scalar (chars part) (scalars-chars part u);
+      stands = stands_then w (34 ∷ []) a (34 ∷ b) b front (stands_byte 34 (34 ∷ b) b (omega arith) refl);
+    }
+
+module _ (limit : ℕ) where
+  -- an IRI in its brackets
+  bracketed : (i a b c : List ℕ) → a ≡ 60 ∷ b → IriStands limit i b c → Stands (iri_text i) a c
+  bracketed i a b c e h = stands_then (60 ∷ []) (i ++ 62 ∷ []) a b c (stands_byte 60 a b (omega arith) e) h.stands
+
+  -- a part and a space
+  spaced : (w a b c : List ℕ) → Stands w a b → b ≡ 32 ∷ c → Stands (w ++ space) a c
+  spaced w a b c h e = stands_then w space a b c h (stands_byte 32 b c (omega arith) e)
+
+  pub iri_subject : (i a b c d : List ℕ) → a ≡ 60 ∷ b → IriStands limit i b c → c ≡ 32 ∷ d → SubjectStands limit a d
+  iri_subject i a b c d e h f = record { subject = Iri i; is = h.is; labels = tt; within = h.within; stands = spaced (iri_text i) a c d (bracketed i a b c e h) f }
+
+  pub label_subject : (a b c d r : List ℕ) → a ≡ 95 ∷ b → b ≡ 58 ∷ c → LabelStands c d → d ≡ 32 ∷ r → SubjectStands limit a r
+  label_subject a b c d r e f h g =
+      let mark : Stands (95 ∷ 58 ∷ []) a c = stands_then (95 ∷ []) (58 ∷ []) a b c (stands_byte 95 a b (omega arith) e) (stands_byte 58 b c (omega arith) f) in
+      record { subject = Blank (Label h.label); is = h.is; labels = tt; within = tt; stands = spaced (95 ∷ 58 ∷ h.label) a d r (stands_then (95 ∷ 58 ∷ []) h.label a c d mark h.stands) g }
+
+  pub predicate_stands : (i a b c d : List ℕ) → a ≡ 60 ∷ b → IriStands limit i b c → c ≡ 32 ∷ d → PredicateStands limit a d
+  predicate_stands i a b c d e h f = record { predicate = i; is = h.is; within = h.within; stands = spaced (iri_text i) a c d (bracketed i a b c e h) f }
+
+  -- an object
+  pub named_object : (a b : List ℕ) → SubjectStands limit a b → ObjectStands limit 1 a b
+  named_object a b h = record { object = Resource h.subject; is = h.is; labels = h.labels; within = h.within; count = refl; stands = h.stands }
+
+  pub literal_object : (n : ℕ) (a b c d : List ℕ) → a ≡ 34 ∷ b → StringStands b c → TailStands limit n c d → ObjectStands limit (n + 1) a d
+  literal_object n a b c d e s t =
+      let w : Stands (string_text s.string) a c = stands_then (34 ∷ []) (flat_map escaped s.string ++ 34 ∷ []) a b c (stands_byte 34 a b (omega arith) e) s.stands in
+      record {
+        object = Literal s.string t.tail;
+        is = (s.is, t.is);
+        labels = tt;
+        within = t.within;
+        count = let k = t.count in omega (arith, k);
+        stands = subst (λ x. Stands x a d) (sym (append_assoc (string_text s.string) (tail_text t.tail) space)) (stands_then (string_text s.string) (tail_text t.tail ++ space) a c d w t.stands);
+      }
+
+  xsd_iri : IsIri xsd_string
+  unfolding has
+  xsd_iri = record { characters = refl; scheme = refl }
+
+  pub plain_tail : (a b : List ℕ) → 39 ≤ limit → a ≡ 32 ∷ b → TailStands limit 0 a b
+  plain_tail a b l e = record {
+    tail = Typed xsd_string;
+    is = xsd_iri;
+    within = subst (λ x. length x ≤ limit) (sym xsd) l;
+    count = refl;
+    stands = stands_byte 32 a b (omega arith) e;
+  }
+
+  pub tagged_tail : (a b c d : List ℕ) → a ≡ 64 ∷ b → TagStands b c → c ≡ 32 ∷ d → TailStands limit 1 a d
+  tagged_tail a b c d e h f = record {
+    tail = Lang h.tag;
+    is = h.is;
+    within = tt;
+    count = refl;
+    stands = spaced (64 ∷ h.tag) a c d (stands_then (64 ∷ []) h.tag a b c (stands_byte 64 a b (omega arith) e) h.stands) f;
+  }
+
+  pub typed_tail : (i a b c d f g : List ℕ) → IsUtf8 i → bytes_eq i xsd_string ≡ false → a ≡ 94 ∷ b → b ≡ 94 ∷ c → c ≡ 60 ∷ d → IriStands limit (chars i) d f → f ≡ 32 ∷ g → TailStands limit 2 a g
+  typed_tail i a b c d f g u n e k l h m =
+      let other : bytes_eq (chars i) xsd_string ≡ false = same_type i u ∙ n in
+      let carets : Stands (94 ∷ 94 ∷ []) a c = stands_then (94 ∷ []) (94 ∷ []) a b c (stands_byte 94 a b (omega arith) e) (stands_byte 94 b c (omega arith) k) in
+      let all : Stands (type_text false (chars i) ++ space) a g = spaced (94 ∷ 94 ∷ iri_text (chars i)) a f g (stands_then (94 ∷ 94 ∷ []) (iri_text (chars i)) a c f carets (bracketed (chars i) c d f l h)) m in
+      record {
+        tail = Typed (chars i);
+        is = h.is;
+        within = h.within;
+        count = sym (ap type_count other);
+        stands = subst (λ t. Stands (type_text t (chars i) ++ space) a g) (sym other) all;
+      }
+
+  -- a graph label
+  pub no_graph : (form : LineForm) (a : List ℕ) → GraphStands form limit 0 a a
+  no_graph form a = record { graph = None; is = tt; labels = tt; within = tt; fits = none form; count = refl; stands = refl }
+    where
+      none : (f : LineForm) → LabelFits f None
+      none NTriples = refl
+      none NQuads = tt
+
+  pub one_graph : (a b : List ℕ) → SubjectStands limit a b → GraphStands NQuads limit 1 a b
+  one_graph a b h = record { graph = Some h.subject; is = h.is; labels = h.labels; within = h.within; fits = tt; count = refl; stands = h.stands }
+
+-- no token of a line is longer than the line, but for a datatype that is not written
+module _ (n : ℕ) (roomy : 64 ≤ n) where
+  typed_short : (b : Bool) (i : List ℕ) → (b ≡ true → i ≡ xsd_string) → length (type_text b i) ≤ n → length (iri_text i) ≤ n
+  typed_short true i e l = let k : length (iri_text xsd_string) ≡ 41 = refl in let same : length (iri_text i) ≡ length (iri_text xsd_string) = ap (λ x. length (iri_text x)) (e refl) in omega (arith, k, same)
+  typed_short false i e l = omega arith
+
+  tail_short : (t : Tail) → length (tail_text t) ≤ n → TailShort n t
+  tail_short (Lang t) l = l
+  tail_short (Typed i) l = typed_short (bytes_eq i xsd_string) i (bytes_eq-Decides i xsd_string).0 l
+
+  term_short : (t : Term) → length (term_text t) ≤ n → TermShort n t
+  term_short (Resource s) l = l
+  term_short (Literal w t) l =
+      let k = length-append (string_text w) (tail_text t) in (omega (arith, k), tail_short t (omega (arith, k)))
+
+  graph_short : (g : Option Subject) → length (graph_text g) ≤ n → GraphShort n g
+  graph_short None l = tt
+  graph_short (Some g) l = let k = length-append (subject_text g) space in omega (arith, k)
+
+  tokens_within : (q : Quad) → length (quad_text q) ≤ n → TokensWithin n q
+  tokens_within q l =
+      let a = subject_text q.subject in
+      let b = iri_text q.predicate in
+      let c = term_text q.object in
+      let g = graph_text q.graph in
+      let e = length-append ((((a ++ space) ++ (b ++ space)) ++ (c ++ space)) ++ g ++ (46 ∷ [])) (10 ∷ []) in
+      let f = length-append ((((a ++ space) ++ (b ++ space)) ++ (c ++ space)) ++ g) (46 ∷ []) in
+      let h = length-append (((a ++ space) ++ (b ++ space)) ++ (c ++ space)) g in
+      let i = length-append ((a ++ space) ++ (b ++ space)) (c ++ space) in
+      let j = length-append (a ++ space) (b ++ space) in
+      let k = length-append a space in
+      let m = length-append b space in
+      let o = length-append c space in
+      record {
+        subject = omega (arith, e, f, h, i, j, k, m, o);
+        predicate = omega (arith, e, f, h, i, j, k, m, o);
+        object = term_short q.object (omega (arith, e, f, h, i, j, k, m, o));
+        graph = graph_short q.graph (omega (arith, e, f, h, i, j, k, m, o));
+      }
+
+pub line_stands : (form : LineForm) (token limit m n : ℕ) (a b c d f g h : List ℕ) → SubjectStands limit a b → PredicateStands limit b c → ObjectStands limit m c d → GraphStands form limit n d f →
+    f ≡ 46 ∷ g → g ≡ 10 ∷ h → 64 ≤ token → length a - length h ≤ token → LineStands form token limit (m + n + 4) a h
+line_stands form token limit m n a b c d f g h s p o r e k roomy l = record {
+  quad = q;
+  is = record {
+    quad = record { subject = s.is; predicate = p.is; object = o.is; graph = r.is };
+    labels = record { subject = s.labels; object = o.labels; graph = r.labels };
+    tokens = tokens_within token roomy q short;
+    iris = record { subject = s.within; predicate = p.within; object = o.within; graph = r.within };
+    graph = r.fits;
+  };
+  count = let x = o.count in let y = r.count in omega (arith, x, y);
+  stands = all;
+}
+  where
+    q : Quad
+    q = record { subject = s.subject; predicate = p.predicate; object = o.object; graph = r.graph }
+
+    all : Stands (quad_text q) a h
+    all =
+        stands_then _ (10 ∷ []) a g h
+        (stands_then _ (46 ∷ []) a f g
+        (stands_then _ (graph_text r.graph) a d f
+        (stands_then _ (term_text o.object ++ space) a c d
+        (stands_then (subject_text s.subject ++ space) (iri_text p.predicate ++ space) a b c s.stands p.stands)
+        o.stands)
+        r.stands)
+        (stands_byte 46 f g (omega arith) e))
+        (stands_byte 10 g h (omega arith) k)
+
+    short : length (quad_text q) ≤ token
+    short = let few = length-le-encodes (quad_text q) in omega (arith, few, l, ap length all, length-append (encode_utf8_all (quad_text q)) h)
+
+-- lines, one after another
+pub lines_none : (form : LineForm) (token iri : ℕ) (a : List ℕ) → LinesStand form token iri 0 0 a a
+lines_none form token iri a = record { given = []; each = tt; quad_count = refl; token_count = refl; stands = refl }
+
+count-append : (qs rs : List Quad) → count (qs ++ rs) ≡ count qs + count rs
+count-append [] rs = omega arith
+count-append (q ∷ qs) rs = let h = count-append qs rs in omega (arith, h)
+
+module _ (form : LineForm) (token iri : ℕ) where
+  each-append : (qs rs : List Quad) → AllByRecursion (IsTaken form token iri) qs → AllByRecursion (IsTaken form token iri) rs → AllByRecursion (IsTaken form token iri) (qs ++ rs)
+  each-append [] rs h k = k
+  each-append (q ∷ qs) rs h k = (h.0, each-append qs rs h.1 k)
+
+  pub lines_more : (n m k : ℕ) (a b c : List ℕ) → LinesStand form token iri n m a b → LineStands form token iri k b c → LinesStand form token iri (n + 1) (m + k) a c
+  lines_more n m k a b c h l =
+      let one = l.quad ∷ [] in
+      let line : Stands (text Kept one) b c = subst (λ w. Stands w b c) (sym (append-nil (quad_text (rename Kept l.quad)) ∙ ap quad_text (kept l.quad))) l.stands in
+      record {
+        given = h.given ++ one;
+        each = each-append h.given one h.each (l.is, tt);
+        quad_count = let x = h.quad_count in omega (arith, x, length-append h.given one);
+        token_count = let x = h.token_count in let y = l.count in omega (arith, x, y, count-append h.given one);
+        stands = subst (λ w. Stands w a c) (sym (flat_map-append (λ q. quad_text (rename Kept q)) h.given one)) (stands_then (text Kept h.given) (text Kept one) a b c h.stands line);
+      }
+
+-- there are no more tokens than bytes, nor quads
+few_tokens : (t : Term) → term_count t ≤ 3
+few_tokens (Resource s) = omega arith
+few_tokens (Literal w (Lang t)) = omega arith
+few_tokens (Literal w (Typed i)) = by (bytes_eq i xsd_string)
+  where
+    by : (b : Bool) → 1 + type_count b ≤ 3
+    by true = omega arith
+    by false = omega arith
+
+label_long : (g : Option Subject) → graph_count g ≤ length (graph_text g)
+label_long None = omega arith
+label_long (Some g) = let k = length-append (subject_text g) space in omega (arith, k)
+
+quad_long : (q : Quad) → quad_count q ≤ length (quad_text q)
+quad_long q =
+    let a = subject_text q.subject in
+    let b = iri_text q.predicate in
+    let c = term_text q.object in
+    let g = graph_text q.graph in
+    let e = length-append ((((a ++ space) ++ (b ++ space)) ++ (c ++ space)) ++ g ++ (46 ∷ [])) (10 ∷ []) in
+    let f = length-append ((((a ++ space) ++ (b ++ space)) ++ (c ++ space)) ++ g) (46 ∷ []) in
+    let h = length-append (((a ++ space) ++ (b ++ space)) ++ (c ++ space)) g in
+    let i = length-append ((a ++ space) ++ (b ++ space)) (c ++ space) in
+    let j = length-append (a ++ space) (b ++ space) in
+    let k = length-append a space in
+    let m = length-append b space in
+    let o = length-append c space in
+    let p = length-append q.predicate (62 ∷ []) in
+    omega (arith, e, f, h, i, j, k, m, o, p, few_tokens q.object, label_long q.graph)
+
+text_long : (qs : List Quad) → (count qs ≤ length (text Kept qs)) × (length qs ≤ count qs)
+text_long [] = (omega arith, omega arith)
+text_long (q ∷ qs) =
+    let r = text_long qs in
+    let k = length-append (quad_text (rename Kept q)) (text Kept qs) in
+    let l : length (quad_text (rename Kept q)) ≡ length (quad_text q) = ap (λ x. length (quad_text x)) (kept q) in
+    (omega (arith, r.0, k, l, quad_long q), omega (arith, r.1))
+
+pub lines_few : (form : LineForm) (token iri n m : ℕ) (a b : List ℕ) → LinesStand form token iri n m a b → (m + length b ≤ length a) × (n ≤ m)
+lines_few form token iri n m a b h =
+    let l = text_long h.given in
+    let k = length-le-encodes (text Kept h.given) in
+    let s = ap length h.stands ∙ length-append (encode_utf8_all (text Kept h.given)) b in
+    let x = h.token_count in
+    let y = h.quad_count in
+    (omega (arith, l.0, k, s, x), omega (arith, l.1, x, y))
+
+pub line_goes_on : (form : LineForm) (token iri n : ℕ) (a b : List ℕ) → LineStands form token iri n a b → (n + length b ≤ length a) × (0 < n)
+line_goes_on form token iri n a b h =
+    let k = length-le-encodes (quad_text h.quad) in
+    let s = ap length h.stands ∙ length-append (encode_utf8_all (quad_text h.quad)) b in
+    let x = h.count in
+    (omega (arith, quad_long h.quad, k, s, x), omega (arith, x))
+
+-- the bytes before the rest
+pub lines_front : (form : LineForm) (token iri n m : ℕ) (a b : List ℕ) → LinesStand form token iri n m a b → AreLines form token iri n m (take (length a - length b) a)
+lines_front form token iri n m a b h =
+    let w = encode_utf8_all (text Kept h.given) in
+    let s = ap length h.stands ∙ length-append w b in
+    let size : length a - length b ≡ length w = omega (arith, s) in
+    record {
+      given = h.given;
+      canonical = record { is = ap (λ k. take k a) size ∙ (ap (take (length w)) h.stands ∙ take-append_seam w b); each = h.each };
+      quad_count = h.quad_count;
+      token_count = h.token_count;
+    }

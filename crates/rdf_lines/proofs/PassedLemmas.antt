@@ -1,0 +1,99 @@
+-- What passing lines does to a reader.
+use Rattle.std.proofs.Common.{◌≡◌, ◌&&◌, ℕ, ◌+◌, ◌<◌, ◌≤◌, Bool, true, false, not, nat_le, List, [], ◌++◌, length, take, refl, sym, ap, ◌∙◌, subst, arith}
+use Rattle.std.specs.Prelude.{IsUtf8, encode_utf8_all}
+use Rattle.std.proofs.lemmas.Bool.{and_from, le-leb}
+use Rattle.std.proofs.lemmas.List.{append-nil}
+use Rattle.std.proofs.lemmas.Str.{IsUtf8-past_char}
+use Rattle.std.proofs.Math.Utf8.{encode, encodes}
+use Rattle.std.proofs.Common.{◌∷◌, append_assoc}
+use Rattle.rdf_terms.specs.Terms.{Quad}
+use Rattle.rdf_tokens.specs.Scans.{most_bytes}
+use Rattle.rdf_tokens.specs.Passing.{is_idle}
+use Rattle.rdf_driver.specs.Readers.{Driven, HasRead}
+use Rattle.rdf_driver.specs.Passing.{can_pass, passed, LeadsBack}
+use Rattle.rdf_driver.proofs.PassingLemmas.{can_pass-parts}
+use Rattle.rdf_lines.specs.declared.rules.Rules.{Rules}
+use Rattle.rdf_lines.specs.declared.form.LineForm.{LineForm}
+use Rattle.rdf_lines.specs.declared.form.Style.TheVariants.{Kept}
+use Rattle.rdf_lines.specs.Machine.{Mode, Begin, AfterSubject, AfterPredicate, AfterString, AfterCarets, AfterObject, AfterGraph, AfterDot, Finished}
+use Rattle.rdf_lines.specs.States.{is_begin}
+use Rattle.rdf_lines.specs.Accepting.{LineAt, line_words}
+use Rattle.rdf_lines.specs.Writing.{text}
+use Rattle.rdf_lines.specs.Canonical.{count, IsCanonical, PassesLines}
+use Rattle.rdf_lines.specs.Fronts.{LinesStand, AreLines}
+use Rattle.rdf_lines.proofs.CanonicalLines.{lines_read}
+
+-- what comes after a text is UTF-8
+past_text : (w bytes rest : List ℕ) → IsUtf8 bytes → bytes ≡ encodes w ++ rest → IsUtf8 rest
+past_text [] bytes rest u e = subst IsUtf8 e u
+past_text (c ∷ w) bytes rest u e =
+    past_text w (encodes w ++ rest) rest (IsUtf8-past_char bytes (encodes w ++ rest) c u (e ∙ append_assoc (encode c) (encodes w) rest)) refl
+
+pub rest_utf8 : (form : LineForm) (token iri n m : ℕ) (a b : List ℕ) → IsUtf8 a → LinesStand form token iri n m a b → IsUtf8 b
+rest_utf8 form token iri n m a b u h = past_text (text Kept h.given) a b u h.stands
+
+pub begins : (m : Mode) → is_begin m ≡ true → m ≡ Begin
+begins Begin e = refl
+begins (AfterSubject s) e = absurd (let h : false ≡ true = e in cc)
+begins (AfterPredicate s p) e = absurd (let h : false ≡ true = e in cc)
+begins (AfterString s p w) e = absurd (let h : false ≡ true = e in cc)
+begins (AfterCarets s p w) e = absurd (let h : false ≡ true = e in cc)
+begins (AfterObject s p o) e = absurd (let h : false ≡ true = e in cc)
+begins (AfterGraph s p o g) e = absurd (let h : false ≡ true = e in cc)
+begins AfterDot e = absurd (let h : false ≡ true = e in cc)
+begins Finished e = absurd (let h : false ≡ true = e in cc)
+
+-- what a grammar knows of lines, its reader knows
+pub at_reader : (r : Driven LineAt) (g : LineAt) → g ≡ r.grammar → r.scanner.limit ≡ r.grammar.limit → (bytes : List ℕ) (quads tokens : ℕ) →
+    AreLines g.rules.form g.limit g.rules.iri quads tokens bytes → (g.mode ≡ Begin) × (2 ≤ g.limit) →
+    AreLines r.grammar.rules.form r.scanner.limit r.grammar.rules.iri quads tokens bytes × ((r.grammar.mode ≡ Begin) × (2 ≤ r.scanner.limit))
+at_reader r g e l bytes quads tokens lines b =
+    let lines_here = subst (λ (y : LineAt). AreLines y.rules.form y.limit y.rules.iri quads tokens bytes) e lines in
+    let begin : r.grammar.mode ≡ Begin = ap (λ (y : LineAt). y.mode) (sym e) ∙ b.0 in
+    let roomy : 2 ≤ r.grammar.limit = subst (λ (y : LineAt). 2 ≤ y.limit) e b.1 in
+    (subst (λ n. AreLines r.grammar.rules.form n r.grammar.rules.iri quads tokens bytes) (sym l) lines_here, (begin, subst (λ n. 2 ≤ n) (sym l) roomy))
+
+-- no lines
+pub none_are_lines : (form : LineForm) (token iri : ℕ) → AreLines form token iri 0 0 []
+none_are_lines form token iri = record { given = []; canonical = record { is = refl; each = tt }; quad_count = refl; token_count = refl }
+
+pub passes_none : (r : Driven LineAt) → PassesLines r [] r
+passes_none r = record {
+  given = [];
+  canonical = record { is = refl; each = tt };
+  grammar = refl;
+  limit = refl;
+  done = refl;
+  read = λ x before quads h. subst (λ u. HasRead line_words r x u (quads ++ [])) (sym (append-nil before)) (subst (HasRead line_words r x before) (sym (append-nil quads)) h);
+}
+
+-- fewer bytes can be passed too
+pub can_pass_less : (r : Driven LineAt) (n m : ℕ) → can_pass r n ≡ true → m ≤ n → can_pass r m ≡ true
+can_pass_less r n m e l =
+    let p = can_pass-parts r n e in
+    let room = p.2 in
+    and_from (not r.done) (is_idle r.scanner && nat_le (r.scanner.taken.offset + m) most_bytes) (ap not p.0)
+    (and_from (is_idle r.scanner) (nat_le (r.scanner.taken.offset + m) most_bytes) p.1 (le-leb (r.scanner.taken.offset + m) most_bytes (omega (arith, room))))
+
+pub can_pass_few : (r : Driven LineAt) (n : ℕ) → can_pass r n ≡ true → n ≤ most_bytes
+can_pass_few r n e = let p = can_pass-parts r n e in let room = p.2 in omega (arith, room)
+
+module _ (r : Driven LineAt) (begin : r.grammar.mode ≡ Begin) (roomy : 2 ≤ r.scanner.limit) (bytes : List ℕ) (quads tokens : ℕ)
+    (lines : AreLines r.grammar.rules.form r.scanner.limit r.grammar.rules.iri quads tokens bytes) where
+  back : LeadsBack line_words r bytes lines.given tokens
+  back = subst (LeadsBack line_words r bytes lines.given) (sym lines.token_count) (lines_read r bytes lines.given begin roomy lines.canonical)
+
+  pub leads : (more : List Quad) × (quads ≡ length more) × LeadsBack line_words r bytes more tokens
+  leads = (lines.given, lines.quad_count, back)
+
+  pub passes : (new : Driven LineAt) → new ≡ passed r bytes quads tokens →
+      ((more : List Quad) → quads ≡ length more → LeadsBack line_words r bytes more tokens → (x : Rules) (before : List ℕ) (given : List Quad) → HasRead line_words r x before given → HasRead line_words new x (before ++ bytes) (given ++ more)) →
+      PassesLines r bytes new
+  passes new e reads = record {
+    given = lines.given;
+    canonical = lines.canonical;
+    grammar = ap (λ (y : Driven LineAt). y.grammar) e;
+    limit = ap (λ (y : Driven LineAt). y.scanner.limit) e;
+    done = ap (λ (y : Driven LineAt). y.done) e;
+    read = reads lines.given lines.quad_count back;
+  }

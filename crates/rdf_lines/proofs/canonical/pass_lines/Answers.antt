@@ -1,0 +1,35 @@
+use Rattle.std.proofs.Common.{◌≡◌, true, length, take, sym, ap, ◌∙◌, subst, arith}
+use Rattle.rdf_driver.specs.Passing.{can_pass}
+use Rattle.rdf_driver.proofs.PassingLemmas.{can_pass-parts}
+use Rattle.rdf_lines.specs.Canonical.{PassesLines}
+use Rattle.rdf_lines.specs.Fronts.{AreLines}
+use Rattle.rdf_lines.proofs.PassedLemmas.{at_reader, leads, passes, passes_none}
+use Rattle.rdf_lines.proofs.canonical.pass_lines.Goals as goal
+
+pub returns-then-not-can_pass-clause-passes : goal.returns-then-not-can_pass-clause-passes
+returns-then-not-can_pass-clause-passes g c = passes_none c.args.reader.now
+
+pub pass-requires-clause-leads : goal.pass-requires-clause-leads
+pass-requires-clause-leads g c =
+    let r = c.args.reader.now in
+    let front = c.lines_in-front.result in
+    let text = c.args.text.now in
+    let can : can_pass r (length text) ≡ true = sym c.can_pass.ensures ∙ c.if-not-can_pass.false in
+    let limit = c.grammar.ensures.limit (can_pass-parts r (length text) can).0 in
+    let at = at_reader r c.grammar.result.now c.grammar.ensures.grammar limit (take front.bytes text) front.quads front.tokens c.lines_in-front.ensures.lines
+    (c.lines_in-front.ensures.begins (omega (arith, c.if-front-eq0.false))) in
+    let lines = subst (λ x. AreLines r.grammar.rules.form r.scanner.limit r.grammar.rules.iri front.quads front.tokens (take front.bytes x)) (sym c.as_bytes.ensures.value) at.0 in
+    leads r at.1.0 at.1.1 (take front.bytes c.as_bytes.result.now) front.quads front.tokens lines
+
+pub returns-clause-passes : goal.returns-clause-passes
+returns-clause-passes g c =
+    let r = c.args.reader.now in
+    let front = c.lines_in-front.result in
+    let text = c.args.text.now in
+    let can : can_pass r (length text) ≡ true = sym c.can_pass.ensures ∙ c.if-not-can_pass.false in
+    let limit = c.grammar.ensures.limit (can_pass-parts r (length text) can).0 in
+    let at = at_reader r c.grammar.result.now c.grammar.ensures.grammar limit (take front.bytes text) front.quads front.tokens c.lines_in-front.ensures.lines
+    (c.lines_in-front.ensures.begins (omega (arith, c.if-front-eq0.false))) in
+    let lines = subst (λ x. AreLines r.grammar.rules.form r.scanner.limit r.grammar.rules.iri front.quads front.tokens (take front.bytes x)) (sym c.as_bytes.ensures.value) at.0 in
+    let all = passes r at.1.0 at.1.1 (take front.bytes c.as_bytes.result.now) front.quads front.tokens lines c.pass.new.self c.pass.ensures.passed c.pass.ensures.read in
+    subst (λ x. PassesLines r (take front.bytes x) c.pass.new.self) c.as_bytes.ensures.value all

@@ -1,0 +1,270 @@
+// Lines that stand as they are written.
+
+ghost use Rattle.std.specs.Prelude.{◌≡◌, ◌<◌, ◌≤◌, ◌+◌, ◌∷◌, ◌++◌, length, take, get_or, IfSome};
+ghost use Rattle.std.specs.Str.{chars, IsUtf8};
+ghost use Rattle.rdf_tokens.specs.Scans.{most_bytes};
+ghost use Rattle.rdf_lines.specs.Canonical.{PassesLines};
+ghost use Rattle.rdf_lines.specs.Fronts.{IriStands, LabelStands, TagStands, StringStands, SubjectStands, PredicateStands, TailStands, ObjectStands, GraphStands, LineStands, AreLines, NoEscapes};
+
+use crate::form::LineForm;
+use crate::grammar::LineGrammar;
+use crate::rules::Rules;
+use rdf_driver::Reader;
+use rdf_terms::runs::{Run, run_end};
+use rdf_terms::{has_scheme, is_label, is_tag};
+use std::alloc::Allocator;
+
+/// With smaller limits on tokens and IRIs no line is looked at.
+pub const LEAST_LIMIT: u64 = 64;
+
+/// Lines at the front of a text that stand as they are written.
+#[derive(Clone, Copy)]
+pub struct Front {
+    pub bytes: usize,
+    pub quads: u64,
+    pub tokens: u64,
+}
+
+// A part of a line: how many tokens it has, and what comes after it.
+#[derive(Clone, Copy)]
+struct Part<'a> {
+    tokens: u64,
+    rest: &'a str,
+}
+
+// An IRI, and what comes after its closing bracket.
+#[derive(Clone, Copy)]
+struct IriPart<'a> {
+    iri: &'a str,
+    rest: &'a str,
+}
+
+/// Passes lines at the front of the text that stand as they are written, where the reader stands between two lines, and answers how many
+/// bytes they have. What is written for their quads with the labels kept are these bytes. It passes none where it can't tell: of lines
+/// with an escape, of labels and tags that are not of ASCII, and with limits below 64.
+pub fn pass_lines<A: Allocator + Copy>(reader: &mut Reader<LineGrammar<A>, A>, text: &str) -> usize
+    ensures within { result ≤ length text.now }
+    ensures passes { PassesLines reader.old (take result text.now) reader.new }
+{
+    if !reader.can_pass(text.len()) {
+        return 0;
+    }
+    let front = reader.grammar().lines_in(text);
+    if front.bytes == 0 {
+        return 0;
+    }
+    let lines = &text.as_bytes()[..front.bytes];
+    reader.pass(lines, front.quads, front.tokens);
+    front.bytes
+}
+
+/// As many lines at the front of the text as are known to stand as they are written.
+pub fn canonical_front(text: &str, rules: Rules, token: u64) -> Front
+    requires token { 64 ≤ token }
+    requires iri { 64 ≤ rules.iri }
+    requires few { length text.now ≤ most_bytes }
+    ensures lines { AreLines rules.form token rules.iri result.quads result.tokens (take result.bytes text.now) }
+    ensures within { result.bytes ≤ length text.now }
+{
+    let len = text.len();
+    let mut rest = text;
+    let mut quads = 0;
+    let mut tokens = 0;
+    'lines: loop {
+        match canonical_line(rest, rules, token) {
+            Some(line) => {
+                rest = line.rest;
+                quads += 1;
+                tokens += line.tokens;
+            }
+            None => {
+                return Front {
+                    bytes: len - rest.len(),
+                    quads,
+                    tokens,
+                };
+            }
+        }
+    }
+}
+
+// The line that the text begins with, if it is one that would be written so. It may answer none although there is one: where a string has
+// an escape, or a label characters that are not ASCII.
+fn canonical_line(text: &str, rules: Rules, token: u64) -> Option<Part<'_>>
+    requires token { 64 ≤ token }
+    requires iri { 64 ≤ rules.iri }
+    ensures { IfSome result (λ p. LineStands rules.form token rules.iri p.tokens text.now p.rest.now) }
+{
+    let rest = predicate(subject(text, rules.iri)?, rules.iri)?;
+    let object = object(rest, rules.iri)?;
+    let graph = graph(object.rest, rules)?;
+    let rest = after_byte(after_byte(graph.rest, b'.')?, b'\n')?;
+    if (text.len() - rest.len()) as u64 > token {
+        return None;
+    }
+    Some(Part {
+        tokens: object.tokens + graph.tokens + 4,
+        rest,
+    })
+}
+
+fn subject(text: &str, limit: u64) -> Option<&str>
+    ensures { IfSome result (λ rest. SubjectStands limit text.now rest.now) }
+{
+    match after_byte(text, b'<') {
+        Some(text) => after_byte(iri(text, limit)?.rest, b' '),
+        None => after_byte(label(after_byte(after_byte(text, b'_')?, b':')?)?, b' '),
+    }
+}
+
+fn predicate(text: &str, limit: u64) -> Option<&str>
+    ensures { IfSome result (λ rest. PredicateStands limit text.now rest.now) }
+{
+    after_byte(iri(after_byte(text, b'<')?, limit)?.rest, b' ')
+}
+
+fn object(text: &str, limit: u64) -> Option<Part<'_>>
+    requires { 64 ≤ limit }
+    ensures stands { IfSome result (λ p. ObjectStands limit p.tokens text.now p.rest.now) }
+    ensures few { IfSome result (λ p. p.tokens ≤ 3) }
+{
+    match after_byte(text, b'"') {
+        Some(text) => {
+            let tail = tail(string(text)?, limit)?;
+            Some(Part {
+                tokens: tail.tokens + 1,
+                rest: tail.rest,
+            })
+        }
+        None => Some(Part {
+            tokens: 1,
+            rest: subject(text, limit)?,
+        }),
+    }
+}
+
+// What follows a string: nothing, a tag, or a datatype that is written.
+fn tail(text: &str, limit: u64) -> Option<Part<'_>>
+    requires { 64 ≤ limit }
+    ensures stands { IfSome result (λ p. TailStands limit p.tokens text.now p.rest.now) }
+    ensures few { IfSome result (λ p. p.tokens ≤ 2) }
+{
+    if let Some(rest) = after_byte(text, b' ') {
+        return Some(Part { tokens: 0, rest });
+    }
+    if let Some(text) = after_byte(text, b'@') {
+        return Some(Part {
+            tokens: 1,
+            rest: after_byte(tag(text)?, b' ')?,
+        });
+    }
+    let text = after_byte(after_byte(after_byte(text, b'^')?, b'^')?, b'<')?;
+    let part = iri(text, limit)?;
+    if part.iri == "http://www.w3.org/2001/XMLSchema#string" {
+        return None;
+    }
+    Some(Part {
+        tokens: 2,
+        rest: after_byte(part.rest, b' ')?,
+    })
+}
+
+fn graph(text: &str, rules: Rules) -> Option<Part<'_>>
+    ensures stands { IfSome result (λ p. GraphStands rules.form rules.iri p.tokens text.now p.rest.now) }
+    ensures few { IfSome result (λ p. p.tokens ≤ 1) }
+{
+    match (rules.form, after_byte(text, b'.')) {
+        (_, Some(_)) => Some(Part {
+            tokens: 0,
+            rest: text,
+        }),
+        (LineForm::NTriples, None) => None,
+        (LineForm::NQuads, None) => Some(Part {
+            tokens: 1,
+            rest: subject(text, rules.iri)?,
+        }),
+    }
+}
+
+// An IRI, whose opening bracket came before.
+fn iri(text: &str, limit: u64) -> Option<IriPart<'_>>
+    ensures stands { IfSome result (λ p. IriStands limit (chars p.iri.now) text.now p.rest.now) }
+    ensures utf8 { IfSome result (λ p. IsUtf8 p.iri.now) }
+{
+    let end = run_end(Run::Iri, text.as_bytes(), 0);
+    let rest = after_byte_at(text, end, b'>')?;
+    let iri = &text[..end];
+    if iri.len() as u64 > limit || !has_scheme(iri) {
+        return None;
+    }
+    Some(IriPart { iri, rest })
+}
+
+// A label, whose `_:` came before.
+fn label(text: &str) -> Option<&str>
+    ensures { IfSome result (λ rest. LabelStands text.now rest.now) }
+{
+    let end = run_end(Run::Name, text.as_bytes(), 0);
+    after_byte_at(text, end, b' ')?;
+    if !is_label(&text[..end]) {
+        return None;
+    }
+    Some(&text[end..])
+}
+
+// A language tag, whose `@` came before.
+fn tag(text: &str) -> Option<&str>
+    ensures { IfSome result (λ rest. TagStands text.now rest.now) }
+{
+    let end = run_end(Run::Name, text.as_bytes(), 0);
+    after_byte_at(text, end, b' ')?;
+    if !is_tag(&text[..end]) {
+        return None;
+    }
+    Some(&text[end..])
+}
+
+// A string without escapes, whose opening quote came before.
+fn string(text: &str) -> Option<&str>
+    ensures { IfSome result (λ rest. StringStands text.now rest.now) }
+{
+    let end = string_end(text.as_bytes());
+    let rest = after_byte_at(text, end, b'"')?;
+    Some(rest)
+}
+
+// The first byte that is escaped in a string, or the end.
+fn string_end(bytes: &[u8]) -> usize
+    ensures within { result ≤ length bytes.now }
+    ensures plain { NoEscapes (take result bytes.now) }
+{
+    let mut end = run_end(Run::Text, bytes, 0);
+    while end < bytes.len() && bytes[end] == b'\'' {
+        end = run_end(Run::Text, bytes, end + 1);
+    }
+    end
+}
+
+// The text after an ASCII character that it begins with.
+fn after_byte(text: &str, byte: u8) -> Option<&str>
+    requires { byte < 128 }
+    ensures { IfSome result (λ rest. text.now ≡ byte ∷ rest.now) }
+{
+    after_byte_at(text, 0, byte)
+}
+
+// The text after an ASCII character at a place.
+fn after_byte_at(text: &str, at: usize, byte: u8) -> Option<&str>
+    requires ascii { byte < 128 }
+    requires within { at ≤ length text.now }
+    ensures is { IfSome result (λ rest. text.now ≡ take at text.now ++ byte ∷ rest.now) }
+    ensures inside { IfSome result (λ rest. at < length text.now) }
+    ensures byte { IfSome result (λ rest. get_or text.now at 0 ≡ byte) }
+{
+    let bytes = text.as_bytes();
+    if at < bytes.len() && bytes[at] == byte {
+        Some(&text[at + 1..])
+    } else {
+        None
+    }
+}
