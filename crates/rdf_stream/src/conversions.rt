@@ -79,7 +79,8 @@ fn convert_with<G: QuadGrammar + Drop, A: Allocator + Copy, S: Source, D: Drain>
     read_pieces(source, piece, &mut reader, lines)
 }
 
-impl<'a, G: QuadGrammar + Drop, D: Drain, A: Allocator + Copy> Run<LineOut<'a, D, A>> for Reader<G, A> {
+impl<'a, G: QuadGrammar + Drop, D: Drain, A: Allocator + Copy> Run<LineOut<'a, D, A>>
+    for Reader<G, A> {
     ghost taken = { λ first bytes now. IsConverting D.contents D.has_failed G.words first.0 first.1 bytes now.0 now.1 };
 
     ghost halts = { λ told first bytes is_end now. RunHalts D.contents D.has_failed G.words told first.0 first.1 bytes is_end now.1 };
