@@ -6,7 +6,7 @@ use Rattle.std.proofs.lemmas.Bool.{and_parts, leb-true}
 use Rattle.std.specs.Str.{chars}
 use Rattle.rdf_tokens.specs.Good.{tokens_of}
 use Rattle.rdf_tokens.specs.Scans as Scan
-use Rattle.rdf_tokens.specs.Scans.{IsOpen, most_bytes}
+use Rattle.rdf_tokens.specs.Scans.{IsWaiting, most_bytes}
 use Rattle.rdf_tokens.specs.Passing as Pass
 use Rattle.rdf_tokens.specs.Passing.{is_idle, Spells}
 use Rattle.rdf_tokens.proofs.GrammarsLemmas.{counted_undecided, given_few}

@@ -25,7 +25,7 @@ use Rattle.rdf_stream.proofs.PiecesLemmas.{all_given, too_long_more}
 abbrev pub TakesNone : NoQuads → Quad → NoQuads → Type 0
 TakesNone before q after = after ≡ before
 
-module _ {G X : Type 0} (w : Words G X) (first old : Driven G) (bytes : List ℕ) (i : IsChecking w first bytes old) where
+module _ {G X : Type 0} (w : Words G X Quad) (first old : Driven G) (bytes : List ℕ) (i : IsChecking w first bytes old) where
   -- what a setting brings to what was read
   at_limit : (P : ℕ → Type 0) → P old.scanner.limit → P first.scanner.limit
   at_limit P h = subst P i.limit h
@@ -51,7 +51,7 @@ module _ {G X : Type 0} (w : Words G X) (first old : Driven G) (bytes : List ℕ
         by x quads r reason.Ended h = absurd (false≢true (sym r.running ∙ h.0))
         by x quads r reason.Memory h = tt
         by x quads r reason.Sink h = absurd (false≢true h.1)
-        by x quads r reason.DocumentTooLong h = h.1 x bytes quads r
+        by x quads r reason.DocumentTooLong h = (h.full x bytes quads r).too_long
         by x quads r why h =
             let z = h.refused x bytes quads r in
             at_limit (λ m. IsRefusedFor why (in_words w x m) (bytes ++ piece) false (record { offset = n; line = k })) (z.0, z.1)
@@ -111,7 +111,7 @@ halts_stops stream.Read l ends known left given h = absurd h
 halts_stops stream.Write l ends known left given h = absurd h
 halts_stops stream.Memory l ends known left given h = given
 
-module _ {G X : Type 0} (w : Words G X) where
+module _ {G X : Type 0} (w : Words G X Quad) where
   -- a reader, and its sink
   abbrev pub R : Type 0
   R = Driven G × NoQuads

@@ -1,6 +1,6 @@
 -- A piece more, the end, or an error within one: what the drain has then.
-use Rattle.std.proofs.Common.{◌≡◌, ◌≤◌, ◌+◌, ℕ, Bool, true, false, List, [], ◌∷◌, ◌++◌, ◌⊎◌, length, Option, refl, sym, ap, subst, ◌∙◌, append_assoc, ⊎_elim, length-append, arith}
-use Rattle.std.proofs.lemmas.List.{append-nil}
+use Rattle.std.proofs.Common.{◌≡◌, ◌≤◌, ◌+◌, ℕ, Bool, true, false, List, [], ◌∷◌, ◌++◌, ◌⊎◌, length, take, drop, Option, refl, sym, ap, subst, ◌∙◌, append_assoc, ⊎_elim, length-append, arith}
+use Rattle.std.proofs.lemmas.List.{append-nil, take-append-drop}
 use Rattle.std.proofs.lemmas.Bool.{false≢true}
 use Rattle.std.proofs.KnownBytes.{Appends-nil}
 use Rattle.std.specs.Io.KnownBytes.{Appends}
@@ -11,6 +11,8 @@ use Rattle.rdf_terms.specs.Terms.{Quad}
 use Rattle.rdf_tokens.specs.Tokens.{Place, Token, Reading}
 use Rattle.rdf_tokens.specs.Good.{tokens_of}
 use Rattle.rdf_tokens.specs.Grammars.{BeginsDue, Due, Language, Marked, PassesNone, RefusedIn, reading_of}
+use Rattle.rdf_tokens.specs.Scans.{most_bytes}
+use Rattle.rdf_tokens.proofs.LanguageLemmas.{due_more}
 use Rattle.rdf_driver.specs.declared.summary.Summary.{Summary}
 use Rattle.rdf_driver.specs.Readers as R
 use Rattle.rdf_driver.specs.Readers.{Driven, FeedFails, Feeds, FinishFails, Finishes, HasRead, LeavesOff, piece_reading}
@@ -84,7 +86,7 @@ module _ (l : Language) where
   begins_refused r reason.Sink at ahead qs x d = absurd x
   begins_refused r why at ahead qs x d = begins_ahead r.tokens ahead (x.token ∷ x.behind) qs x.tokens x.front.kept d
 
-module _ {G X D A : Type 0} (contents : D → Option (List ℕ)) (failed : D → Bool) (w : Words G X) (x : X) (reader : Driven G) (bytes : List ℕ) (first lines : LineOut D A) (suits : Suits w x first.style)
+module _ {G X D A : Type 0} (contents : D → Option (List ℕ)) (failed : D → Bool) (w : Words G X Quad) (x : X) (reader : Driven G) (bytes : List ℕ) (first lines : LineOut D A) (suits : Suits w x first.style)
     (o : HandedOver contents failed w x reader bytes first lines) where
   abbrev l : Language
   l = in_words w x reader.scanner.limit
@@ -228,11 +230,24 @@ module _ {G X D A : Type 0} (contents : D → Option (List ℕ)) (failed : D →
     abbrev read_so_far : Reading
     read_so_far = reading_of l (bytes ++ piece) false
 
+    -- What is due in as many bytes as a document may have is due in more.
+    overruns : R.Overruns w (Takes contents failed) reader lines piece (record { offset = n; line = k }) mid → LeftOff read_so_far.tokens mid
+    overruns h =
+        let all = bytes ++ piece in
+        let f = h.full x bytes o.quads o.read in
+        record {
+          more = h.more;
+          tries = tried contents failed h.more lines mid (puts_tries contents failed h.more lines mid h.puts);
+          due = subst (λ b. Begun l (reading_of l b false).tokens (o.quads ++ h.more)) (take-append-drop most_bytes all)
+              (due_more l (suits.lawful.ends x) (take most_bytes all) (drop most_bytes all) false (o.quads ++ h.more)
+              (begins_all l (reading_of l (take most_bytes all) false).tokens (o.quads ++ h.more) f.goes_on.front.kept f.due));
+        }
+
     left_piece : (why : Reason) → FailsPiece why → LeftOff read_so_far.tokens mid
     left_piece reason.Ended h = absurd (false≢true (sym o.read.running ∙ h.0))
     left_piece reason.Memory h = leaves_off (piece_reading w reader.scanner.limit piece) mid h.0
     left_piece reason.Sink h = leaves_off (piece_reading w reader.scanner.limit piece) mid h.0
-    left_piece reason.DocumentTooLong h = leaves_off (piece_reading w reader.scanner.limit piece) mid h.0
+    left_piece reason.DocumentTooLong h = overruns h
     left_piece why h = (refuses why (record { offset = n; line = k }) (piece_reading w reader.scanner.limit piece) mid h).left
 
     fault_piece : (after : LineOut D A) (why : Reason) → FailsPiece why → TellsFault contents failed mid after →
@@ -240,7 +255,7 @@ module _ {G X D A : Type 0} (contents : D → Option (List ℕ)) (failed : D →
     fault_piece after reason.Ended h t = absurd (false≢true (sym o.read.running ∙ h.0))
     fault_piece after reason.Memory h t = (t.live_now, tells_some read_so_far.tokens mid after (left_piece reason.Memory h) t)
     fault_piece after reason.Sink h t = absurd (false≢true (sym t.live ∙ h.1))
-    fault_piece after reason.DocumentTooLong h t = (h.1 x bytes o.quads o.read, tells_some read_so_far.tokens mid after (left_piece reason.DocumentTooLong h) t)
+    fault_piece after reason.DocumentTooLong h t = ((h.full x bytes o.quads o.read).too_long, tells_some read_so_far.tokens mid after (left_piece reason.DocumentTooLong h) t)
     fault_piece after why h t =
         tells_due why (record { offset = n; line = k }) read_so_far mid after (refuses why (record { offset = n; line = k }) (piece_reading w reader.scanner.limit piece) mid h) t
 
@@ -362,7 +377,7 @@ module _ {G X D A : Type 0} (contents : D → Option (List ℕ)) (failed : D →
 
 -- ---- a run
 
-module _ {G X D A : Type 0} (contents : D → Option (List ℕ)) (failed : D → Bool) (w : Words G X) (reader : Driven G) (first : LineOut D A) (bytes : List ℕ) (old : Driven G) (lines : LineOut D A)
+module _ {G X D A : Type 0} (contents : D → Option (List ℕ)) (failed : D → Bool) (w : Words G X Quad) (reader : Driven G) (first : LineOut D A) (bytes : List ℕ) (old : Driven G) (lines : LineOut D A)
     (i : IsConverting contents failed w reader first bytes old lines) where
   -- the drain has not failed
   pub live_now : failed lines.drain.now ≡ false

@@ -67,7 +67,7 @@ halts_stops stream.Read job ends known left old new write_failed given h = absur
 halts_stops stream.Write job ends known left old new write_failed given h = (h.0, given, h.1)
 halts_stops stream.Memory job ends known left old new write_failed given h = (h.0, given, h.1)
 
-module _ {G X D : Type 0} (A : Type 0) (contents : D → Option (List ℕ)) (failed flushed : D → Bool) (w : Words G X) where
+module _ {G X D : Type 0} (A : Type 0) (contents : D → Option (List ℕ)) (failed flushed : D → Bool) (w : Words G X Quad) where
   -- a reader, and its lines
   abbrev pub R : Type 0
   R = Driven G × LineOut D A

@@ -39,12 +39,12 @@ CheckStops Memory language known left = HasGiven known left
 -- ---- within a run
 
 -- A reader of a lawful grammar has read nothing.
-pub record BeginsToRead {G X : Type 0} (w : Words G X) (x : X) (reader : Driven G) : Type 0 where
+pub record BeginsToRead {G X : Type 0} (w : Words G X Quad) (x : X) (reader : Driven G) : Type 0 where
   pub lawful : Lawful w
   pub read : HasRead w reader x [] []
 
 -- Since the run began these bytes were read.
-pub record IsChecking {G X : Type 0} (w : Words G X) (reader : Driven G) (bytes : List ℕ) (now : Driven G) : Type 0 where
+pub record IsChecking {G X : Type 0} (w : Words G X Quad) (reader : Driven G) (bytes : List ℕ) (now : Driven G) : Type 0 where
   pub begun : (x : X) × BeginsToRead w x reader
   pub limit : now.scanner.limit ≡ reader.scanner.limit
   pub read : (x : X) → BeginsToRead w x reader → (quads : List Quad) × HasRead w now x bytes quads
@@ -56,10 +56,10 @@ ChecksNoMore Memory language bytes is_end = Unit
 ChecksNoMore told language bytes is_end = ⊥
 
 -- Since the run began these bytes came, and are not read on.
-pub record CheckHalts {G X : Type 0} (w : Words G X) (told : StreamFault) (reader : Driven G) (bytes : List ℕ) (is_end : Bool) : Type 0 where
+pub record CheckHalts {G X : Type 0} (w : Words G X Quad) (told : StreamFault) (reader : Driven G) (bytes : List ℕ) (is_end : Bool) : Type 0 where
   pub begun : (x : X) × BeginsToRead w x reader
   pub halts : (x : X) → BeginsToRead w x reader → ChecksNoMore told (in_words w x reader.scanner.limit) bytes is_end
 
 -- Since the run began these bytes came, they are all that there are, and are a document.
-abbrev pub CheckEnds : {G X : Type 0} → Words G X → Summary → Driven G → List ℕ → Type 0
+abbrev pub CheckEnds : {G X : Type 0} → Words G X Quad → Summary → Driven G → List ℕ → Type 0
 CheckEnds {G} {X} w summary reader bytes = (x : X) → BeginsToRead w x reader → IsAccepted (in_words w x reader.scanner.limit) bytes summary

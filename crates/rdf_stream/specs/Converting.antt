@@ -21,24 +21,24 @@ use Rattle.rdf_stream.specs.Faults.{fault_by}
 use Rattle.rdf_stream.specs.LineOut.{Moves, SameOut}
 
 -- what a conversion asks of a grammar and of the style of its lines
-pub record Suits {G X : Type 0} (w : Words G X) (x : X) (style : Style) : Type 0 where
+pub record Suits {G X : Type 0} (w : Words G X Quad) (x : X) (style : Style) : Type 0 where
   pub lawful : Lawful w
   -- each quad that is due in a document can be written
   pub can_write : (ts : List Token) (quads : List Quad) → Due (w.documents x) ts quads → AllByRecursion (CanWrite style) quads
 
 -- A reader of a grammar that suits the style has read nothing.
-pub record Starts {G X : Type 0} (w : Words G X) (x : X) (reader : Driven G) (style : Style) : Type 0 where
+pub record Starts {G X : Type 0} (w : Words G X Quad) (x : X) (reader : Driven G) (style : Style) : Type 0 where
   pub suits : Suits w x style
   pub read : HasRead w reader x [] []
 
 -- The same, and no line waits.
-pub record Begins {G X D A : Type 0} (failed : D → Bool) (w : Words G X) (x : X) (reader : Driven G) (lines : LineOut D A) : Type 0 where
+pub record Begins {G X D A : Type 0} (failed : D → Bool) (w : Words G X Quad) (x : X) (reader : Driven G) (lines : LineOut D A) : Type 0 where
   pub starts : Starts w x reader lines.style
   pub none_waits : lines.buffer.now.items ≡ []
   pub live : failed lines.drain.now ≡ false
 
 -- The reader has read these bytes, the drain has taken the lines of all quads that are due in them, and none waits.
-pub record HandedOver {G X D A : Type 0} (contents : D → Option (List ℕ)) (failed : D → Bool) (w : Words G X) (x : X) (reader : Driven G) (bytes : List ℕ) (first lines : LineOut D A) : Type 0 where
+pub record HandedOver {G X D A : Type 0} (contents : D → Option (List ℕ)) (failed : D → Bool) (w : Words G X Quad) (x : X) (reader : Driven G) (bytes : List ℕ) (first lines : LineOut D A) : Type 0 where
   pub quads : List Quad
   pub read : HasRead w reader x bytes quads
   pub written : Appends (contents first.drain.now) (contents lines.drain.now) (lines_of first.style quads)
@@ -48,7 +48,7 @@ pub record HandedOver {G X D A : Type 0} (contents : D → Option (List ℕ)) (f
   pub live : failed lines.drain.now ≡ false
 
 -- Since the run began these bytes were read, and all lines that are due of them were handed over.
-pub record IsConverting {G X D A : Type 0} (contents : D → Option (List ℕ)) (failed : D → Bool) (w : Words G X) (reader : Driven G) (first : LineOut D A) (bytes : List ℕ) (now : Driven G) (lines : LineOut D A) : Type 0 where
+pub record IsConverting {G X D A : Type 0} (contents : D → Option (List ℕ)) (failed : D → Bool) (w : Words G X Quad) (reader : Driven G) (first : LineOut D A) (bytes : List ℕ) (now : Driven G) (lines : LineOut D A) : Type 0 where
   pub begun : (x : X) × Begins failed w x reader first
   pub limit : now.scanner.limit ≡ reader.scanner.limit
   pub handed : (x : X) → Begins failed w x reader first → HandedOver contents failed w x now bytes first lines
@@ -61,14 +61,14 @@ HaltsFor fault.Write job bytes is_end old new failed = (failed ≡ true) × Writ
 HaltsFor fault.Memory job bytes is_end old new failed = (failed ≡ false) × WritesSome job (reading_of job.language bytes is_end).tokens old new
 
 -- Since the run began these bytes came, and are not read on.
-pub record RunHalts {G X D A : Type 0} (contents : D → Option (List ℕ)) (failed : D → Bool) (w : Words G X) (told : StreamFault) (reader : Driven G) (first : LineOut D A) (bytes : List ℕ) (is_end : Bool) (lines : LineOut D A) : Type 0 where
+pub record RunHalts {G X D A : Type 0} (contents : D → Option (List ℕ)) (failed : D → Bool) (w : Words G X Quad) (told : StreamFault) (reader : Driven G) (first : LineOut D A) (bytes : List ℕ) (is_end : Bool) (lines : LineOut D A) : Type 0 where
   pub begun : (x : X) × Begins failed w x reader first
   pub same : SameOut first lines
   pub halts : (x : X) → Begins failed w x reader first →
       HaltsFor told (conversion w x reader.scanner.limit first.style) bytes is_end (contents first.drain.now) (contents lines.drain.now) (failed lines.drain.now)
 
 -- Since the run began these bytes came, they are all that there are, and were converted.
-pub record RunEnds {G X D A : Type 0} (contents : D → Option (List ℕ)) (failed flushed : D → Bool) (w : Words G X) (summary : Summary) (reader : Driven G) (first : LineOut D A) (bytes : List ℕ) (lines : LineOut D A) : Type 0 where
+pub record RunEnds {G X D A : Type 0} (contents : D → Option (List ℕ)) (failed flushed : D → Bool) (w : Words G X Quad) (summary : Summary) (reader : Driven G) (first : LineOut D A) (bytes : List ℕ) (lines : LineOut D A) : Type 0 where
   pub same : SameOut first lines
   pub sent : flushed lines.drain.now ≡ true
   pub accepts : (x : X) → Begins failed w x reader first →

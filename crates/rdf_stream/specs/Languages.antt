@@ -1,5 +1,6 @@
 -- What each format is to a run: its language, and how the quads of its documents are written.
 use Rattle.std.specs.Prelude.{ℕ}
+use Rattle.rdf_terms.specs.Terms.{Quad}
 use Rattle.rdf_tokens.specs.Grammars.{Language}
 use Rattle.rdf_driver.specs.Words.{Words, in_words}
 use Rattle.rdf_lines.specs.declared.form.Style.{Style}
@@ -17,7 +18,7 @@ pub record Conversion : Type 1 where
   pub language : Language
   pub style : Style
 
-abbrev pub conversion : {G X : Type 0} → Words G X → X → ℕ → Style → Conversion
+abbrev pub conversion : {G X : Type 0} → Words G X Quad → X → ℕ → Style → Conversion
 conversion w x limit style = record { language = in_words w x limit; style = style }
 
 -- the base and the bindings of the job are in force before the first token

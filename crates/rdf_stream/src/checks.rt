@@ -12,7 +12,7 @@ use crate::fault::StreamFault;
 use crate::form::Kind;
 use crate::job::Job;
 use crate::pieces::{Run, piece_buffer, read_pieces};
-use rdf_driver::{Grammar, Reader, Summary};
+use rdf_driver::{QuadGrammar, Reader, Summary};
 use rdf_lines::line_reader;
 use rdf_terms::{PutFault, QuadRef, QuadSink};
 use rdf_trig::tree_reader;
@@ -37,7 +37,7 @@ pub fn check<A: Allocator + Copy, S: Source>(
     }
 }
 
-fn check_with<G: Grammar + Drop, A: Allocator + Copy, S: Source>(
+fn check_with<G: QuadGrammar + Drop, A: Allocator + Copy, S: Source>(
     alloc: A,
     reader: Reader<G, A>,
     source: &mut S,
@@ -56,7 +56,7 @@ fn check_with<G: Grammar + Drop, A: Allocator + Copy, S: Source>(
     read_pieces(source, piece.as_mut_slice(), &mut reader, &mut NoQuads)
 }
 
-impl<G: Grammar + Drop, A: Allocator + Copy> Run<NoQuads> for Reader<G, A> {
+impl<G: QuadGrammar + Drop, A: Allocator + Copy> Run<NoQuads> for Reader<G, A> {
     ghost taken = { λ first bytes now. IsChecking G.words first.0 bytes now.0 };
 
     ghost halts = { λ told first bytes is_end now. CheckHalts G.words told first.0 bytes is_end };

@@ -14,7 +14,7 @@ use crate::form::Kind;
 use crate::job::Job;
 use crate::line_out::{LineOut, stop};
 use crate::pieces::{Run, piece_buffer, read_pieces};
-use rdf_driver::{Grammar, Reader, Summary};
+use rdf_driver::{QuadGrammar, Reader, Summary};
 use rdf_lines::{Style, line_reader};
 use rdf_trig::tree_reader;
 use std::alloc::Allocator;
@@ -55,7 +55,7 @@ pub fn convert<A: Allocator + Copy, S: Source, D: Drain>(
     }
 }
 
-fn convert_with<G: Grammar + Drop, A: Allocator + Copy, S: Source, D: Drain>(
+fn convert_with<G: QuadGrammar + Drop, A: Allocator + Copy, S: Source, D: Drain>(
     reader: Reader<G, A>,
     source: &mut S,
     piece: &mut [u8],
@@ -79,7 +79,8 @@ fn convert_with<G: Grammar + Drop, A: Allocator + Copy, S: Source, D: Drain>(
     read_pieces(source, piece, &mut reader, lines)
 }
 
-impl<'a, G: Grammar + Drop, D: Drain, A: Allocator + Copy> Run<LineOut<'a, D, A>> for Reader<G, A> {
+impl<'a, G: QuadGrammar + Drop, D: Drain, A: Allocator + Copy> Run<LineOut<'a, D, A>>
+    for Reader<G, A> {
     ghost taken = { λ first bytes now. IsConverting D.contents D.has_failed G.words first.0 first.1 bytes now.0 now.1 };
 
     ghost halts = { λ told first bytes is_end now. RunHalts D.contents D.has_failed G.words told first.0 first.1 bytes is_end now.1 };

@@ -101,11 +101,7 @@ impl<A: Allocator + Copy> Grammar for TreeGrammar<A> {
 }
 
 impl<A: Allocator + Copy> QuadGrammar for TreeGrammar<A> {
-    fn accept_quads<S: QuadSink>(
-        &mut self,
-        token: Token<'_>,
-        sink: &mut S,
-    ) -> Result<u64, Reason> {
+    fn accept_quads<S: QuadSink>(&mut self, token: Token<'_>, sink: &mut S) -> Result<u64, Reason> {
         let Rules { form, limits } = self.rules;
         match self
             .state
