@@ -39,7 +39,7 @@ module _ {G X I : Type 0} (w : Words G X I) (r : Driven G) (idle : is_idle r.sca
       record {
         running = h.running;
         dialect = h.dialect;
-        more = record { running = h.more.running; more = h.more.more };
+        more = record { running = h.more.running; more = h.more.more; few = h.more.few };
         scanned = subst (Scan.HasScanned (Pass.passed v piece) now) (sym all) scan;
         undecided = ap (λ y. (tokens_of y v.limit now false).outcome) (sym h.dialect) ∙ d.1;
         reached = subst (λ ts. w.reached r.grammar x ts (quads ++ more)) (sym all) (l.reached x us quads h.reached);
@@ -51,7 +51,7 @@ module _ {G X I : Type 0} (w : Words G X I) (r : Driven G) (idle : is_idle r.sca
   passed_live room i = record {
     dialect = i.dialect;
     limit = i.limit;
-    more = record { running = i.more.running; more = i.more.more };
+    more = record { running = i.more.running; more = i.more.more; few = i.more.few };
     most = room;
     read = ∥∥₁_elim i.read ∥∥₁_prop (λ y. ∣ (y.0, y.1 ++ piece, y.2 ++ more, passed_has_read y.0 y.1 y.2 y.3) ∣₁);
   }
