@@ -1,3 +1,4 @@
+-- To move over bytes without a token: the place, the count of lines and the scanner's fields stay right.
 use Rattle.std.proofs.Common.{rules, ◌≡◌, ◌+◌, ◌≤◌, ℕ, List, ◌-◌, ◌==◌, count_by, drop, take, length, sym, ap, ◌∙◌, subst}
 use Rattle.std.proofs.lemmas.Str.{IsUtf8-string_bytes}
 use Rattle.std.specs.Str.{chars}
