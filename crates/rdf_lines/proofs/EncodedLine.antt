@@ -30,6 +30,7 @@ use Rattle.rdf_lines.specs.WrittenBytes.{node_bytes, subject_bytes, tail_bytes, 
 low : (c : ℕ) (w : List ℕ) → c < 128 → encodes (c ∷ w) ≡ c ∷ encodes w
 low c w l = ap (λ x. x ++ encodes w) (encode_ascii c l)
 
+-- the characters of a str encode to it
 text : (w : List ℕ) → IsUtf8 w → encodes (chars w) ≡ w
 text w u = encodes-chars w u
 
@@ -92,6 +93,7 @@ string w u =
     ∙ (ap (λ x. x ++ encodes (34 ∷ [])) (escaped_text (chars w) ∙ ap (flat_map escaped) (text w u))
     ∙ ap (λ x. flat_map escaped w ++ x) (low 34 [] (omega arith))))
 
+-- a label with its `_:`, in bytes
 named : (w v : List ℕ) → encodes w ≡ v → encodes (95 ∷ 58 ∷ w) ≡ 95 ∷ 58 ∷ v
 named w v e = low 95 (58 ∷ w) (omega arith) ∙ ap (λ x. 95 ∷ x) (low 58 w (omega arith) ∙ ap (λ x. 58 ∷ x) e)
 
@@ -109,6 +111,7 @@ encoded_digits (suc k) n w e =
     (λ t. subst (λ x. encodes x ≡ x) (sym (cond-false (n / 10 == 0) d _ t)) (encoded_digits k (n / 10) d f))
     (cases_Bool (n / 10 == 0))
 
+-- decimal digits are their own bytes
 number : (n : ℕ) → encodes (decimal n) ≡ decimal n
 unfolding digits
 number n = encoded_digits 64 n [] refl
@@ -146,9 +149,11 @@ tail : (t : TailRef) → encodes (tail_text (tail_by chars t)) ≡ tail_bytes t
 tail (tail_ref.Lang v) = after 64 (chars v.text.now) v.text.now (omega arith) (text v.text.now (IsUtf8-had _ v.utf8))
 tail (tail_ref.Typed v) = ap (λ b. encodes (type_text b (chars v.text.now))) (same_type v.text.now (IsUtf8-had _ v.utf8)) ∙ type (bytes_eq v.text.now xsd_string) v.text.now (IsUtf8-had _ v.utf8)
 
+-- a text and its bytes
 record Coded (u a : List ℕ) : Type 0 where
   is : encodes u ≡ a
 
+-- two texts encode to their bytes in a row
 joined : {u v a b : List ℕ} → Coded u a → Coded v b → Coded (u ++ v) (a ++ b)
 joined {u} {v} {a} {b} e f = record { is = encodes-append u v ∙ (ap (λ x. x ++ encodes v) e.is ∙ ap (λ x. a ++ x) f.is) }
 

@@ -49,14 +49,17 @@ abbrev example : List Quad
 example = record { subject = Blank (Label label); predicate = iri; object = Resource (Blank (Anon 27)); graph = None }
     ∷ record { subject = Blank (Cell 27); predicate = iri; object = Literal (34 ∷ 10 ∷ 0xE9 ∷ []) (Lang tag); graph = Some (Iri iri) } ∷ []
 
+-- an absolute IRI
 iri_is : IsIri iri
 unfolding has
 iri_is = record { characters = refl; scheme = refl }
 
+-- a label
 label_is : IsLabel label
 unfolding has
 label_is = form-matches (label_name Lines) label refl
 
+-- a language tag
 tag_is : IsTag tag
 unfolding has
 tag_is = form-matches tag_name tag refl
@@ -65,6 +68,7 @@ pub written : text Tagged example ≡ codes "_:na27 <http://a/p> _:a27 .\n_:c27 
 unfolding digits
 written = refl
 
+-- the quads can be written so
 writable : Writable Tagged example
 writable = (
   (record { subject = label_is; predicate = iri_is; object = lit< tt; graph = tt }, record { subject = tt; object = tt; graph = tt }),
@@ -78,6 +82,7 @@ pub example_reads_back : ReadsBack Tagged example 80
 unfolding digits
 example_reads_back = bytes_read_back Tagged example 80 writable (lit≤ tt)
 
+-- a label that looks like an offset is kept apart from the node of that offset
 pub label_and_node_apart : rename_node Tagged (Label label) ≢ rename_node Tagged (Anon 27)
 label_and_node_apart e = let same : Label label ≡ Anon 27 = rename_injective Tagged (Label label) (Anon 27) label_is (lit< tt) e in cc
 
@@ -99,6 +104,7 @@ short_tokens = (
   (record { subject = lit≤ tt; predicate = lit≤ tt; object = (lit≤ tt, lit≤ tt); graph = lit≤ tt }, tt),
 )
 
+-- the lines are read to their end under that limit
 pub example_is_read : IsReadToItsEnd (in_lines NQuads 12 10) bytes
 example_is_read = text_read Tagged example 12 10 writable (lit≤ tt) short_tokens short
 
@@ -114,9 +120,11 @@ within = record {
   size = lit≤ tt;
 }
 
+-- no reason refuses them
 pub example_is_not_refused : (reason : Reason) (at : Place) → Refused (in_lines NQuads 12 10) bytes true reason at → ⊥
 example_is_not_refused reason at x = refused_none NQuads 12 10 bytes (map (rename Tagged) example) reason at x (short_reads_back 10) within
 
+-- before the first byte more may come
 pub example_goes_on : GoesOn (in_lines NQuads 12 10) []
 example_goes_on = (documents_read NQuads 12 10 bytes (map (rename Tagged) example) (short_reads_back 10) within).fronts [] bytes refl
 

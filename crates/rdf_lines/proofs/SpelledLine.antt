@@ -43,14 +43,17 @@ pub record Spells (limit : ℕ) (w : List ℕ) (f : Place → List Token) : Type
   pub size : (p : Place) → total (f p) ≤ length w
   pub reads : (p : Place) (v : List ℕ) → AllShort limit (f p) → tokens Lines limit ended false p (w ++ v) ≡ with_tokens (f p) (tokens Lines limit ended false (past p w) v)
 
+-- two lists of tokens have the characters of both
 total-append : (ts us : List Token) → total (ts ++ us) ≡ total ts + total us
 total-append [] us = sym (zero-add (total us))
 total-append (t ∷ ts) us = let h = total-append ts us in omega arith
 
+-- tokens that keep a limit do so in a front of the list
 short_front : (limit : ℕ) (ts us : List Token) → AllShort limit (ts ++ us) → AllShort limit ts
 short_front limit [] us h = tt
 short_front limit (t ∷ ts) us h = (h.0, short_front limit ts us h.1)
 
+-- tokens that keep a limit do so in the rest of the list
 short_rest : (limit : ℕ) (ts us : List Token) → AllShort limit (ts ++ us) → AllShort limit us
 short_rest limit [] us h = h
 short_rest limit (t ∷ ts) us h = short_rest limit ts us h.1
@@ -66,6 +69,7 @@ leaf w p = record { text = w; at = p }
 abbrev alone : Kind → List ℕ → Place → List Token
 alone k w p = L.token k (leaf w p) ∷ []
 
+-- the place after two texts is that after the second, counted from after the first
 past-append : (u w : List ℕ) (p : Place) → past p (u ++ w) ≡ past (past p u) w
 past-append [] w p = refl
 past-append (c ∷ u) w p = past-append u w _
@@ -89,10 +93,12 @@ spells_then limit u w f g a b = record { size = size; reads = reads }
         ∙ (ap (λ (x : List Token). record { tokens = x; outcome = r.outcome; at = r.at }) (sym (append_assoc (f p) (g (past p u)) r.tokens))
         ∙ ap (λ q. with_tokens (f p ++ g (past p u)) (tokens Lines limit ended false q v)) (sym (past-append u w p)))))
 
+-- a text is one token, if what follows cuts it
 spells_alone : (limit c : ℕ) (w : List ℕ) (k : Kind) → ((v : List ℕ) → blank Lines false (c ∷ v) ≡ 0) → kind_of Lines (c ∷ w) ≡ Some k → is_fit k (c ∷ w) ≡ true →
     ((v : List ℕ) → Cut (c ∷ w) v) → Spells limit (c ∷ w) (alone k (c ∷ w))
 spells_alone limit c w k z e f t = record { size = λ p. omega arith; reads = λ p v h. next_token limit p c w v k (z (w ++ v)) e f (t v) h.0 }
 
+-- a space cuts it
 spells_before_space : (limit c : ℕ) (w : List ℕ) (k : Kind) → ((v : List ℕ) → blank Lines false (c ∷ v) ≡ 0) → kind_of Lines (c ∷ w) ≡ Some k → is_fit k (c ∷ w) ≡ true →
     ((v : List ℕ) → Cut (c ∷ w) (32 ∷ v)) → Spells limit (c ∷ w ++ space) (alone k (c ∷ w))
 spells_before_space limit c w k z e f t = record {
@@ -103,6 +109,7 @@ spells_before_space limit c w k z e f t = record {
       ∙ ap (with_tokens (alone k (c ∷ w) p)) (skip_space limit (past p (c ∷ w)) v ∙ ap (λ q. tokens Lines limit ended false q v) (sym (past-append (c ∷ w) space p))));
 }
 
+-- a space is no token
 spells_space : (limit : ℕ) → Spells limit space (λ p. [])
 spells_space limit = record { size = λ p. omega arith; reads = λ p v h. skip_space limit p v }
 
@@ -111,10 +118,12 @@ iri_space : uses (shape Lines IriRef) 32 ≡ false
 unfolding shape has
 iri_space = refl
 
+-- a label has no space in it
 label_space : uses (shape Lines LabelNode) 32 ≡ false
 unfolding shape has
 label_space = refl
 
+-- a tag has no space in it
 tag_space : uses (shape Lines LangTag) 32 ≡ false
 unfolding shape has
 tag_space = refl

@@ -29,6 +29,7 @@ begins_iri = record { only = only; any = λ w m. matches-any Lines fixed IriRef 
     only IriRef e = refl
     only l e = absurd (false≢true e)
 
+-- a text that begins with "_" is a label or nothing
 pub begins_label : Begins 95 LabelNode
 unfolding shape has
 begins_label = record { only = only; any = λ w m. matches-any Lines (fixed ++ take 1 shaped) LabelNode (drop 2 shaped) w m }
@@ -37,6 +38,7 @@ begins_label = record { only = only; any = λ w m. matches-any Lines (fixed ++ t
     only LabelNode e = refl
     only l e = absurd (false≢true e)
 
+-- one that begins with a quotation mark, a string
 pub begins_string : Begins 34 ShortString
 unfolding shape has
 begins_string = record { only = only; any = λ w m. matches-any Lines (fixed ++ take 2 shaped) ShortString (drop 3 shaped) w m }
@@ -45,6 +47,7 @@ begins_string = record { only = only; any = λ w m. matches-any Lines (fixed ++ 
     only ShortString e = refl
     only l e = absurd (false≢true e)
 
+-- one that begins with "@", a tag
 pub begins_tag : Begins 64 LangTag
 unfolding shape has
 begins_tag = record { only = only; any = λ w m. matches-any Lines (fixed ++ take 4 shaped) LangTag (drop 5 shaped) w m }
@@ -57,6 +60,7 @@ begins_tag = record { only = only; any = λ w m. matches-any Lines (fixed ++ tak
 many_more : (r : Regex) (u w : List ℕ) → Matches r u → Matches (many r) w → Matches (many r) (u ++ w)
 many_more r u w m n = (u ∷ n.0, (m, n.1), ap (λ x. u ++ x) n.2)
 
+-- a text of pieces is a repetition of what each piece is
 pub many_of : (r : Regex) (test : ℕ → Bool) (f : ℕ → List ℕ) → ((c : ℕ) → test c ≡ true → Matches r (f c)) → (w : List ℕ) → all_have test w ≡ true → Matches (many r) (flat_map f w)
 many_of r test f g [] a = ([], tt, refl)
 many_of r test f g (c ∷ w) a =
@@ -91,13 +95,16 @@ iri_meant (c ∷ w) a =
 abbrev part : Regex
 part = one plain_double ∣ echar ∣ uchar
 
+-- what is left of a string after its first quote
 abbrev string_rest : Regex
 string_rest = many part · one (the 34)
 
+-- a character that is written as it is needs no escape
 plain_others : (c : ℕ) → has plain_double c ≡ true → (has (the 92) c ≡ false) × (has (the 34) c ≡ false) × ((c == 92) ≡ false)
 unfolding has
 plain_others c h = (grind (arith, nat_tests), grind (arith, nat_tests), grind (arith, nat_tests))
 
+-- every character but four may be written as it is
 all_others : (c : ℕ) → scalar c ≡ true → (c == 34) ≡ false → (c == 92) ≡ false → (c == 10) ≡ false → (c == 13) ≡ false → has plain_double c ≡ true
 unfolding has
 all_others c s a b d e = grind (arith, nat_tests)
@@ -115,6 +122,7 @@ escape_cases P quote back feed return plain c s =
         (λ e. subst (P c) (sym (cond-false (c == x) u v e)) (k e))
         (cases_Bool (c == x))
 
+-- an ECHAR is a piece of a string
 two_part : (x : ℕ) → has escape_letter x ≡ true → Matches part (92 ∷ x ∷ [])
 unfolding has
 two_part x h = inr (inl (92 ∷ [], x ∷ [], (92, refl, refl), (x, h, refl), refl))
@@ -129,22 +137,27 @@ plain_after c h =
     let o = plain_others c h in
     rw (h, o.0, o.1) refl
 
+-- after an ECHAR the rest of the string is left
 two_after : (x : ℕ) → clean (after_all string_rest (92 ∷ x ∷ [])) ≡ string_rest → (v : List ℕ) → Matches string_rest (92 ∷ x ∷ v) → Matches string_rest v
 two_after x e v m =
     subst (λ r. Matches r v) e (matches-clean (after_all string_rest (92 ∷ x ∷ [])) v (matches-after_all (92 ∷ x ∷ []) v string_rest m))
 
+-- after an escaped quotation mark the rest of the string is left
 quote_after : clean (after_all string_rest (92 ∷ 34 ∷ [])) ≡ string_rest
 unfolding has
 quote_after = refl
 
+-- after an escaped backslash the rest of the string is left
 back_after : clean (after_all string_rest (92 ∷ 92 ∷ [])) ≡ string_rest
 unfolding has
 back_after = refl
 
+-- after an escaped line feed the rest of the string is left
 feed_after : clean (after_all string_rest (92 ∷ 110 ∷ [])) ≡ string_rest
 unfolding has
 feed_after = refl
 
+-- after an escaped carriage return the rest of the string is left
 return_after : clean (after_all string_rest (92 ∷ 114 ∷ [])) ≡ string_rest
 unfolding has
 return_after = refl
@@ -162,6 +175,7 @@ escapes_after (c ∷ w) a v m =
     let p = and_parts (scalar c) (all_have scalar w) a in
     escapes_after w p.1 v (escape_after c p.0 (flat_map escaped w ++ v) (subst (Matches string_rest) (append_assoc (escaped c) (flat_map escaped w) v) m))
 
+-- after the last quote nothing is left
 end_after : clean (after string_rest 34) ≡ empty
 unfolding has
 end_after = refl
@@ -172,6 +186,7 @@ string_shape w a =
     let m = many_of part scalar escaped escape_part w a in
     inl (34 ∷ [], flat_map escaped w ++ 34 ∷ [], (34, refl, refl), (flat_map escaped w, 34 ∷ [], m, (34, refl, refl), refl), refl)
 
+-- after its first quote the rest of it is left
 shape_rest : clean (after (shape Lines ShortString) 34) ≡ string_rest
 unfolding shape has
 shape_rest = refl

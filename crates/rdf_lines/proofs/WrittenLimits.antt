@@ -48,6 +48,7 @@ value_short s (c ∷ w) v e = by_move (move of_string s c) (λ t u f. value_shor
         omega arith
     by_move fails h v e = absurd (let h : None ≡ Some v = e in cc)
 
+-- a token without its delimiters is shorter by them
 inside_short : (n : ℕ) (w : List ℕ) → length (inside n w) ≤ length w - n
 inside_short n w = let a = length-take (length w - 2 * n) (drop n w) in let b = length-drop n w in omega (arith, a, b)
 
@@ -76,6 +77,7 @@ written_string w = let a = all_escaped w in let s = length-append (flat_map esca
 pub written_iri : (i : List ℕ) → length (iri_text i) ≤ 2 + byte_len i
 written_iri i = let a = length-le-encodes i in let s = length-append i (62 ∷ []) in omega arith
 
+-- the size of the IRI of xsd:string, which a limit has to allow
 xsd_bytes : byte_len xsd_string ≡ 39
 unfolding encode
 xsd_bytes = refl
@@ -156,6 +158,7 @@ module _ (limit n token_then iri_then : ℕ) (a : 2 * limit ≤ token_then) (b :
     good ts (All-tail (λ t. length t.text ≤ limit) t ts s) (λ ahead behind u r p. k (t ∷ ahead) behind u (ap (λ x. t ∷ x) r) p),
   )
 
+-- the law that what was written is read to its end
 pub document_read_back : WrittenDocumentIsRead
 document_read_back form limit n bytes qs document whole token_then iri_then a b c d e =
     let ts = (tokens_of Lines limit bytes true).tokens in

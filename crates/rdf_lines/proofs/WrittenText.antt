@@ -36,9 +36,11 @@ uses_scalar (r · s) c e = ⊎_elim (λ x. uses_scalar r c x) (λ x. uses_scalar
 uses_scalar (r ∣ s) c e = ⊎_elim (λ x. uses_scalar r c x) (λ x. uses_scalar s c x) (or_cases (uses r c) (uses s c) e)
 uses_scalar (many r) c e = uses_scalar r c e
 
+-- what std calls a character is one here
 same_scalar : (c : ℕ) → scalar c ≡ true → utf8_scalar c ≡ true
 same_scalar c h = grind (arith, nat_tests)
 
+-- characters of a class are characters
 scalars_from : (test : ℕ → Bool) → ((c : ℕ) → test c ≡ true → scalar c ≡ true) → (w : List ℕ) → AllByRecursion (λ c. test c ≡ true) w → scalars w ≡ true
 scalars_from test f [] a = refl
 scalars_from test f (c ∷ w) a = and_from _ _ (same_scalar c (f c a.0)) (scalars_from test f w a.1)
@@ -50,10 +52,12 @@ scalars_have test f (c ∷ w) a = let p = and_parts (test c) (all_have test w) a
 matched_scalars : (r : Regex) (w : List ℕ) → Matches r w → scalars w ≡ true
 matched_scalars r w m = scalars_from (uses r) (uses_scalar r) w (all_used r w m)
 
+-- two texts of characters have only characters together
 scalars_append : (u v : List ℕ) → scalars u ≡ true → scalars v ≡ true → scalars (u ++ v) ≡ true
 scalars_append [] v a b = b
 scalars_append (c ∷ u) v a b = let p = and_parts (utf8_scalar c) (scalars u) a in and_from _ _ p.0 (scalars_append u v p.1 b)
 
+-- a member of a class is a character
 has_scalar : (k : Class) (c : ℕ) → has k c ≡ true → scalar c ≡ true
 unfolding has
 has_scalar k c h = (and_parts (scalar c) _ h).0
