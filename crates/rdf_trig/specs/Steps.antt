@@ -60,6 +60,7 @@ state_of form s r = record {
 abbrev pub May : DocForm → M.State → Kind → Leaf → Type 0
 May form n k l = (is_go (M.step form n.setting n.mode k l) ≡ true) × ((M.deepens k && nat_le n.setting.scope.limits.depth (M.depth n.mode)) ≡ false)
 
+-- the machine refuses for the same reason, where the grammar or the limit of open brackets is the reason
 abbrev pub Refused : StepFault → M.Answer → Type 0
 Refused Unexpected a = a ≡ M.refuses refusal.unexpected
 Refused TooDeep a = a ≡ M.refuses refusal.too_deep

@@ -1,3 +1,4 @@
+-- Each way through a step: a look-up or a put that failed, a refusal, and a token that was accepted.
 use Rattle.std.proofs.Common.{◌≡◌, ◌∙◌, sym, ap, subst, length}
 use Rattle.rdf_trig.specs.Machine as M
 use Rattle.rdf_trig.proofs.machine.AcceptedTokens.{accepted}
