@@ -13,15 +13,18 @@ use Rattle.rdf_c.specs.declared.request.JobFault.TheVariants.{NoJob, Memory}
 use Rattle.rdf_c.specs.declared.request.Request.{Request}
 use Rattle.rdf_c.specs.declared.outcome.Outcome.{Outcome}
 
+-- the number by which a call names the format of its document
 abbrev pub number_of_form : Form → ℕ
 number_of_form NTriples = 0
 number_of_form NQuads = 1
 number_of_form Turtle = 2
 number_of_form TriG = 3
 
+-- some format has the number; a request with any other is of no job
 abbrev pub IsFormNumber : ℕ → Type 0
 IsFormNumber number = (form : Form) × (number ≡ number_of_form form)
 
+-- the number that a call reports for a refused document; 0 means that no document was refused
 abbrev pub number_of_reason : Reason → ℕ
 number_of_reason R.BadUtf8 = 1
 number_of_reason R.NoToken = 2
@@ -57,6 +60,7 @@ sizes_of r = record { token = r.token; depth = r.depth; bindings = r.bindings; i
 abbrev pub summary_of : Outcome → Summary
 summary_of o = record { quads = o.quads; tokens = o.tokens; bytes = o.bytes }
 
+-- a call that ended without a word on the document: the request was of no job, or memory was refused
 abbrev pub outcome_of_status : ℕ → Outcome
 outcome_of_status s = record { status = s; reason = 0; offset = 0; line = 0; quads = 0; tokens = 0; bytes = 0; needed = 0; written = 0 }
 

@@ -21,6 +21,7 @@ letter_alone (Some e) said =
     let b : IsBinding (120 ∷ []) e.0 e.1 = subst (λ w. IsBinding w e.0 e.1) t said.2 in
     no_binding_without_space (120 ∷ []) e.0 e.1 b.utf8 refl b
 
+-- the example has no byte order mark
 no_mark : BeginsWith byte_order_mark (codes "\nx") → ⊥
 no_mark b = let k : suc (suc 0) ≡ suc (suc (suc (length b.0))) = ap length b.1 in omega (arith, k)
 

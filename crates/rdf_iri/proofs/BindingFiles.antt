@@ -26,6 +26,7 @@ abbrev pub Left : List (List ℕ) → Option (List ℕ) → List ℕ → Type 0
 Left lines (Some w) start = then lines w ≡ start
 Left lines None start = (front : List (List ℕ)) × (last : List ℕ) × (lines ≡ front ++ last ∷ []) × (then front last ≡ start)
 
+-- how many bytes are left to read; it falls with each line, so the loop ends
 abbrev pub left : Option (List ℕ) → ℕ
 left None = 0
 left (Some w) = suc (length w)
@@ -62,16 +63,19 @@ nothing_read sizes bytes start rest s m r e = record {
   counted = refl;
 }
 
+-- what holds of two lists holds of both together
 all_behind : {X : Type 0} (P : X → Type 0) (v w : List X) → AllByRecursion P v → AllByRecursion P w → AllByRecursion P (v ++ w)
 all_behind P [] w a b = b
 all_behind P (x ∷ v) w a b = (a.0, all_behind P v w a.1 b)
 
+-- lines that say some entries, and one line more
 say_behind : (lines : List (List ℕ)) (entries : List Entry) (line : List ℕ) (entry : Entry) → AllSay lines entries → Says line entry → AllSay (lines ++ line ∷ []) (entries ++ entry ∷ [])
 say_behind [] [] line entry a b = (b, tt)
 say_behind [] (e ∷ es) line entry a b = absurd a
 say_behind (l ∷ ls) [] line entry a b = absurd a
 say_behind (l ∷ ls) (e ∷ es) line entry a b = (a.0, say_behind ls es line entry a.1 b)
 
+-- lines before a line, with that line taken over to them
 then_behind : (lines : List (List ℕ)) (line w : List ℕ) → then (lines ++ line ∷ []) w ≡ then lines (line ++ 10 ∷ w)
 then_behind [] line w = refl
 then_behind (l ∷ lines) line w = ap (λ x. l ++ 10 ∷ x) (then_behind lines line w)
@@ -115,10 +119,12 @@ fits_behind sizes entries (Some x) s t l f m k e =
         let n = ap (λ (o : Option (List ℕ)). more o) (sym (m.bound x.0) ∙ h) in
         omega (arith, a.count, n, f.1)
 
+-- an entry changes neither the base nor the limits
 enters_base : (s t : InForce) (entry : Entry) → Enters s entry t → (t.base ≡ s.base) × (t.limits ≡ s.limits)
 enters_base s t None e = (ap (λ (x : InForce). x.base) e, ap (λ (x : InForce). x.limits) e)
 enters_base s t (Some x) e = (e.1.base, e.1.limits)
 
+-- what is kept of a file holds after a line that was taken
 pub one_line_more : (sizes : Sizes) (bytes w text : List ℕ) (rest more : Option (List ℕ)) (line next : ℕ) (s t : InForce) → ReadSoFar sizes bytes rest line s → rest ≡ Some w → more ≡ after 10 w →
     CrDropped (before 10 w) text → TakesLine s text t → next ≡ line + 1 → ReadSoFar sizes bytes more next t
 one_line_more sizes bytes w text rest more line next s t r e m c k n =
@@ -178,6 +184,7 @@ said_iri (l ∷ ls) (Some x ∷ es) a prefix iri e =
     (cases_Bool (equal prefix x.0)))
     (cases_Bool (is_some (bound_to (bindings_of es) x.0)))
 
+-- what the prefixes are bound to are absolute IRIs
 pub read_iris : (sizes : Sizes) (bytes : List ℕ) (rest : Option (List ℕ)) (line : ℕ) (s : InForce) → ReadSoFar sizes bytes rest line s → (prefix iri : List ℕ) → bound_to s.bindings prefix ≡ Some iri → IsIri iri
 read_iris sizes bytes rest line s r prefix iri e = said_iri r.front r.entries r.says prefix iri (sym (r.same.bound prefix) ∙ e)
 
@@ -188,6 +195,7 @@ pub record Pieces (w : List ℕ) : Type 0 where
   pub whole : with_feeds line more ≡ w
   pub lacks : AllByRecursion (Lacks 10) (line ∷ more)
 
+-- each text has a first line, and what follows its LF, if it has one
 pub pieces : (w : List ℕ) → Pieces w
 pieces [] = record { line = []; more = []; whole = refl; lacks = (tt, tt) }
 pieces (c ∷ w) =
@@ -237,6 +245,7 @@ ends_in [] (y ∷ w) c e = absurd (let k = ap length e in omega (arith, k, lengt
 ends_in (x ∷ v) [] c e = absurd (let k = ap length e in omega (arith, k, length-append v (c ∷ [])))
 ends_in (x ∷ v) (y ∷ w) c e = let h : x ≡ y = cc in let t : v ++ c ∷ [] ≡ w ++ c ∷ [] = cc in ap (λ z. z ∷ v) h ∙ ap (λ z. y ∷ z) (ends_in v w c t)
 
+-- a line has one text without its CR
 pub one_text : (line v w : List ℕ) → CrDropped line v → CrDropped line w → v ≡ w
 one_text line v w a b =
     ⊎_elim
@@ -244,6 +253,7 @@ one_text line v w a b =
     (λ x. ⊎_elim (λ y. absurd (x.0 (w, y))) (λ y. x.1 ∙ sym y.1) b)
     a
 
+-- a line that was not taken is where the file fails
 at : (reason : BindingReason) (sizes : Sizes) (bytes w text : List ℕ) (rest : Option (List ℕ)) (line next : ℕ) (s : InForce) → ReadSoFar sizes bytes rest line s → rest ≡ Some w →
     CrDropped (before 10 w) text → StopsAt reason s text → next ≡ line + 1 → (reason ≡ Memory → ⊥) → FailsAt reason sizes bytes next
 at reason sizes bytes w text rest line next s r e c k n m =
@@ -260,6 +270,7 @@ at reason sizes bytes w text rest line next s r e c k n m =
       why = fails reason sizes s r.entries (before 10 w) text r.limits r.same c (λ other d. one_text (before 10 w) other text d c) m k;
     }
 
+-- the error that is reported for a line that was not taken is the error of the file
 pub line_fails : (reason : BindingReason) (sizes : Sizes) (bytes w text : List ℕ) (rest : Option (List ℕ)) (line next : ℕ) (s : InForce) → ReadSoFar sizes bytes rest line s → rest ≡ Some w →
     CrDropped (before 10 w) text → StopsAt reason s text → next ≡ line + 1 → IsRefused reason sizes bytes next
 line_fails Memory sizes bytes w text rest line next s r e c k n = tt
@@ -277,8 +288,10 @@ left_less c (d ∷ w) =
     (λ f. let e = ap left (cond-false (d == c) (Some w) (after c w) f) in let r = left_less c w in omega (arith, e, r))
     (cases_Bool (d == c))
 
+-- a byte order mark is part of the file
 pub mark_shortens : (bytes start : List ℕ) → MarkDropped bytes start → length start ≤ length bytes
 mark_shortens bytes start m = ⊎_elim (λ e. let k : length bytes ≡ suc (suc (suc (length start))) = ap length e in omega (arith, k)) (λ h. let k = ap length h.1 in omega (arith, k)) m
 
+-- a line shortens what is left
 pub left_more : (more : Option (List ℕ)) (w : List ℕ) → more ≡ after 10 w → left more ≤ length w
 left_more more w e = let k = ap left e in let l = left_less 10 w in omega (arith, k, l)

@@ -30,6 +30,7 @@ spaceless : uses (shape Turtle PnameNs) 32 ≡ false
 unfolding shape has
 spaceless = refl
 
+-- a prefix with its colon has no space, so the first space ends it
 pub name_lacks : (w : List ℕ) → Shape Turtle PnameNs w → Lacks 32 w
 name_lacks w m = Lacks-from_splits 32 w (λ u v e. not_used (shape Turtle PnameNs) u v 32 spaceless (subst (Matches (shape Turtle PnameNs)) e m))
 
@@ -43,6 +44,7 @@ scalars-before c (x ∷ w) h =
     (λ f. ap scalars (cond-false (x == c) [] (x ∷ before c w) f) ∙ and_from (scalar x) (scalars (before c w)) p.0 (scalars-before c w p.1))
     (cases_Bool (x == c))
 
+-- what follows a character in a text of characters consists of characters
 scalars-after : (c : ℕ) (w v : List ℕ) → scalars w ≡ true → after c w ≡ Some v → scalars v ≡ true
 scalars-after c [] v h e = absurd (cc)
 scalars-after c (x ∷ w) v h e =
@@ -58,6 +60,7 @@ pub record AtSpace (bytes name iri : List ℕ) : Type 0 where
   pub utf8 : IsUtf8 name
   pub back : Some (chars iri) ≡ after 32 (chars bytes)
 
+-- a line is cut at its first space alike in bytes and in characters
 pub at_space : (bytes name iri : List ℕ) → IsUtf8 bytes → name ≡ before 32 bytes → Some iri ≡ after 32 bytes → AtSpace bytes name iri
 at_space bytes name iri u e f =
     let s = scalars-chars bytes u in
@@ -76,6 +79,7 @@ at_space bytes name iri u e f =
         let same : iri ≡ encode_utf8_all w = cc in
         ap Some (ap chars same ∙ chars-encodes w (scalars-after 32 (chars bytes) w s a))
 
+-- a line without a space among its bytes has none among its characters
 no_space : (bytes : List ℕ) → IsUtf8 bytes → None ≡ after 32 bytes → after 32 (chars bytes) ≡ None
 no_space bytes u e = by (after 32 (chars bytes)) (e ∙ (ap (after 32) (sym (encodes-chars bytes u)) ∙ after-bytes 32 (chars bytes) (omega arith)))
   where
@@ -88,6 +92,7 @@ pub record Cuts (text prefix iri : List ℕ) : Type 0 where
   pub front : before 32 (chars text) ≡ prefix ++ 58 ∷ []
   pub back : after 32 (chars text) ≡ Some iri
 
+-- a line that is a binding is cut at its space into its name and its IRI
 pub binding_cuts : (text prefix iri : List ℕ) → IsBinding text prefix iri → Cuts text prefix iri
 binding_cuts text prefix iri b =
     let r = cut_suffix 32 (prefix ++ 58 ∷ []) (Some iri) (name_lacks _ b.shape) in
@@ -110,16 +115,19 @@ is_binding bytes name prefix iri u e f g m i =
 pub no_binding_without_space : (bytes prefix iri : List ℕ) → IsUtf8 bytes → None ≡ after 32 bytes → IsBinding bytes prefix iri → ⊥
 no_binding_without_space bytes prefix iri u e b = absurd (let k = no_space bytes u e in let l = (binding_cuts bytes prefix iri b).back in cc)
 
+-- without a colon before the space a line is no binding
 pub no_binding_without_colon : (bytes name i prefix iri : List ℕ) → IsUtf8 bytes → name ≡ before 32 bytes → Some i ≡ after 32 bytes → ((front : List ℕ) → name ≢ front ++ 58 ∷ []) →
     IsBinding bytes prefix iri → ⊥
 no_binding_without_colon bytes name i prefix iri u e f n b =
     let a = at_space bytes name i u e f in
     n (encode_utf8_all prefix) (last_char name prefix 58 bytes_colon a.utf8 (a.front ∙ (binding_cuts bytes prefix iri b).front))
 
+-- the name of a binding is a PNAME_NS
 pub binding_name : (bytes name i prefix iri : List ℕ) → IsUtf8 bytes → name ≡ before 32 bytes → Some i ≡ after 32 bytes → IsBinding bytes prefix iri → Shape Turtle PnameNs (chars name)
 binding_name bytes name i prefix iri u e f b =
     let a = at_space bytes name i u e f in subst (Shape Turtle PnameNs) (sym (a.front ∙ (binding_cuts bytes prefix iri b).front)) b.shape
 
+-- what follows the space of a binding is an absolute IRI
 pub binding_iri : (bytes name i prefix iri : List ℕ) → IsUtf8 bytes → name ≡ before 32 bytes → Some i ≡ after 32 bytes → IsBinding bytes prefix iri → IsIri (chars i)
 binding_iri bytes name i prefix iri u e f b =
     let a = at_space bytes name i u e f in
@@ -154,6 +162,7 @@ after-from c (x ∷ w) d v e =
     (λ f. cond-false (x == c) (Some w) (after c w) f ∙ after-from c w d v (sym (cond-false (x == c) (x ∷ w) (from c w) f) ∙ e))
     (cases_Bool (x == c))
 
+-- a text in which nothing is found has nothing after it
 pub after-end : (c : ℕ) (w v : List ℕ) → v ≡ from c w → length v ≡ 0 → after c w ≡ None
 after-end c [] v e n = refl
 after-end c (x ∷ w) v e n =
@@ -166,6 +175,7 @@ after-end c (x ∷ w) v e n =
 pub cr_dropped : (line front : List ℕ) (c : ℕ) → line ≡ front ++ c ∷ [] → c ≡ 13 → CrDropped line front
 cr_dropped line front c e f = inl (e ∙ ap (λ x. front ++ x ∷ []) f)
 
+-- a line whose last character is no CR keeps all of its text
 pub cr_kept : (line front : List ℕ) (c : ℕ) → line ≡ front ++ c ∷ [] → (c ≡ 13 → ⊥) → CrDropped line line
 cr_kept line front c e n = inr ((λ h. n (last_same front h.0 c 13 (sym e ∙ h.1))), refl)
   where
@@ -175,5 +185,6 @@ cr_kept line front c e n = inr ((λ h. n (last_same front h.0 c 13 (sym e ∙ h.
     last_same (x ∷ v) [] a b e = absurd (let k = ap length e in omega (arith, k, length-append v (a ∷ [])))
     last_same (x ∷ v) (y ∷ w) a b e = last_same v w a b (ap (drop 1) e)
 
+-- an empty line has no CR to drop
 pub cr_empty : (line : List ℕ) → length line ≡ 0 → CrDropped line line
 cr_empty line n = inr ((λ h. let k = ap length h.1 in omega (arith, k, n, length-append h.0 (13 ∷ []))), refl)

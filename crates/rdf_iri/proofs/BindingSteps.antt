@@ -12,28 +12,35 @@ use Rattle.rdf_iri.specs.Scope.{InForce, bound_to, Binds, HasRoom, IsFull, IsBou
 use Rattle.rdf_iri.specs.Bindings.{Entry, bindings_of, BindingMap, KeepsSizes}
 use Rattle.rdf_iri.proofs.TextsLemmas.{equal-true, equal-from}
 
+-- an IRI with a scheme resolves to itself, whatever the base
 kept : (base : Option (List ℕ)) (r iri : List ℕ) → has_scheme r ≡ true → Resolves base r iri → iri ≡ r
 kept base r iri h x = ⊎_elim (λ a. a.1) (λ b. absurd (false≢true (sym b.0 ∙ h))) x
 
+-- an absolute IRI that was bound: within its limit, where there was room, and nothing else changed
 pub record Bound (s : InForce) (p r : List ℕ) (t : InForce) : Type 0 where
   pub room : HasRoom s p
   pub binds : Binds s p r t
   pub short : byte_len r ≤ s.limits.iri
 
+-- the scope binds an absolute IRI as it stands in the line
 pub bound_line : (s t : InForce) (p r : List ℕ) → has_scheme r ≡ true → IsBound s p r t → Bound s p r t
 bound_line s t p r h b =
     let e = kept s.base r b.0 h b.1.0 in
     record { room = b.2; binds = subst (λ i. Binds s p i t) e b.3; short = subst (λ i. byte_len i ≤ s.limits.iri) e b.1.1 }
 
+-- an IRI too long in the scope is one that is too long in the line
 pub long_line : (s : InForce) (p r : List ℕ) → has_scheme r ≡ true → NotBound s p r fault.IriTooLong → s.limits.iri < byte_len r
 long_line s p r h b = subst (λ i. s.limits.iri < byte_len i) (kept s.base r b.0 h b.1) b.2
 
+-- a binding that was refused for its number is a prefix more than there is room for
 pub full_line : (s : InForce) (p r : List ℕ) → has_scheme r ≡ true → NotBound s p r fault.TooManyBindings → (byte_len r ≤ s.limits.iri) × IsFull s p
 full_line s p r h b = (subst (λ i. byte_len i ≤ s.limits.iri) (kept s.base r b.0 h b.1.0) b.1.1, b.2)
 
+-- no base is ever needed in a file of bindings
 pub based_line : (s : InForce) (p r : List ℕ) → has_scheme r ≡ true → NotBound s p r fault.NoBase → ⊥
 based_line s p r h b = false≢true (sym b.0 ∙ h)
 
+-- no line of a file of bindings is refused for an unbound prefix, since none is looked up
 pub unbound_line : (s : InForce) (p r : List ℕ) → NotBound s p r fault.Unbound → ⊥
 unbound_line s p r b = b
 
@@ -41,6 +48,7 @@ unbound_line s p r b = b
 pub long_name : (p : List ℕ) (n t k : ℕ) → n ≡ length p → t ≡ k → t ≤ n → k < length (p ++ 58 ∷ [])
 long_name p n t k e f l = omega (arith, length-append p (58 ∷ []), e, f, l)
 
+-- the code counts the prefix without its colon: fewer characters than the limit are within it
 pub short_name : (p : List ℕ) (n t k : ℕ) → n ≡ length p → t ≡ k → n < t → length (p ++ 58 ∷ []) ≤ k
 short_name p n t k e f l = omega (arith, length-append p (58 ∷ []), e, f, l)
 
@@ -54,6 +62,7 @@ pub record Adds (es : List (List ℕ × List ℕ)) (p i : List ℕ) (fs : List (
   pub bound : (q : List ℕ) → bound_to fs q ≡ cond (equal p q) (Some i) (bound_to es q)
   pub count : length fs ≡ length es + cond (is_some (bound_to es p)) 0 1
 
+-- texts compare alike either way round
 swapped : (v w : List ℕ) → equal v w ≡ equal w v
 swapped v w =
     ⊎_elim
@@ -61,6 +70,7 @@ swapped v w =
     (λ f. ⊎_elim (λ u. absurd (false≢true (sym f ∙ equal-from v w (sym (equal-true w v u))))) (λ g. f ∙ sym g) (cases_Bool (equal w v)))
     (cases_Bool (equal v w))
 
+-- a binding that is added to later ones: it counts only where its prefix is not bound by them
 abbrev kept_in : List ℕ × List ℕ → List (List ℕ × List ℕ) → List (List ℕ × List ℕ)
 kept_in e es = cond (is_some (bound_to es e.0)) es (e ∷ es)
 
@@ -92,6 +102,7 @@ kept_bound e es q =
     itself None = refl
     itself (Some i) = refl
 
+-- the number of bindings after that
 kept_count : (e : List ℕ × List ℕ) (es : List (List ℕ × List ℕ)) → length (kept_in e es) ≡ length es + cond (is_some (bound_to es e.0)) 0 1
 kept_count e es = by (is_some (bound_to es e.0))
   where
@@ -151,6 +162,7 @@ adds (Some e ∷ es) p i =
         itself None = refl
         itself (Some i) = refl
 
+-- an empty line adds no binding
 pub adds_nothing : (es : List Entry) → bindings_of (es ++ None ∷ []) ≡ bindings_of es
 adds_nothing [] = refl
 adds_nothing (None ∷ es) = adds_nothing es

@@ -19,6 +19,7 @@ use Rattle.rdf_iri.proofs.TextsLemmas.{cut_suffix, from-starts, begins-true}
 use Rattle.rdf_iri.proofs.DotsLemmas.{parent-at, no_slash, has_slash-at}
 use Rattle.rdf_iri.specs.Resolve.{directory}
 
+-- a place with no c before it and c at it, or the end, is where the text is cut
 pub cut_there : (c : ℕ) (w : List ℕ) (i : ℕ) → Lacks c (take i w) → StartsAt c (drop i w) → (take i w ≡ before c w) × (drop i w ≡ from c w)
 cut_there c w i l s =
     let e = take-append-drop i w in
@@ -29,18 +30,22 @@ cut_there c w i l s =
 pub starts_there : (c : ℕ) (w : List ℕ) (i : ℕ) → i < length w → get_or w i 0 ≡ c → StartsAt c (drop i w)
 starts_there c w i l e = inr (drop (suc i) w, drop-cons w i 0 l ∙ ap (λ x. x ∷ drop (suc i) w) e)
 
+-- the end of a text may stand for a c that is not found
 pub ends_there : (c : ℕ) (w : List ℕ) (i : ℕ) → length w ≤ i → StartsAt c (drop i w)
 ends_there c w i l = inl (drop_of_length-le w l)
 
+-- no c up to the next place, if this one is none
 pub Lacks-more : (c : ℕ) (w : List ℕ) (i : ℕ) → Lacks c (take i w) → i < length w → (get_or w i 0 ≡ c → ⊥) → Lacks c (take (i + 1) w)
 Lacks-more c w i l h n = subst (Lacks c) (sym (take_more w i 0 h)) (Lacks-append c (take i w) (get_or w i 0 ∷ []) l (n, tt))
 
+-- the place of the last "/" is where the parent ends
 pub parent_there : (w : List ℕ) (i : ℕ) → i < length w → get_or w i 0 ≡ 47 → Lacks 47 (drop (i + 1) w) → take i w ≡ parent w
 parent_there w i l e n =
     let n' : Lacks 47 (drop (suc i) w) = subst (λ k. Lacks 47 (drop k w)) (add-one i) n in
     let d : w ≡ take i w ++ 47 ∷ drop (suc i) w = sym (take-append-drop i w) ∙ ap (λ x. take i w ++ x) (drop-cons w i 0 l ∙ ap (λ x. x ∷ drop (suc i) w) e) in
     sym (ap parent d ∙ parent-at (take i w) (drop (suc i) w) n')
 
+-- no "/" from one place further back, if this one is none
 pub Lacks-less : (w : List ℕ) (i : ℕ) → i < length w → (get_or w i 0 ≡ 47 → ⊥) → Lacks 47 (drop (i + 1) w) → Lacks 47 (drop i w)
 Lacks-less w i l n m = subst (Lacks 47) (sym (drop-cons w i 0 l)) (n, subst (λ k. Lacks 47 (drop k w)) (add-one i) m)
 
@@ -55,6 +60,7 @@ pub Lacks-from_places : (c : ℕ) (w : List ℕ) → ((i : ℕ) → i < length w
 Lacks-from_places c [] h = tt
 Lacks-from_places c (d ∷ w) h = (h 0 (omega arith), Lacks-from_places c w (λ i l. h (suc i) (omega arith)))
 
+-- where there is no c, all of the text stands before it
 pub cut_none : (c : ℕ) (w : List ℕ) → Lacks c w → (before c w ≡ w) × (after c w ≡ None)
 cut_none c w l =
     let r = cut_suffix c w None l in
@@ -74,6 +80,7 @@ boundary_there w n l e =
     (λ (h : length w ≤ n). (l, λ (k : n < length w). absurd (omega arith)))
     (cases_lt n (length w))
 
+-- a reference may be cut after "//", since both are ASCII
 pub boundary_behind_slashes : (w : List ℕ) → IsUtf8 w → begins (47 ∷ 47 ∷ []) w ≡ true → IsCharBoundary w 2
 boundary_behind_slashes w u h =
     let e = begins-true (47 ∷ 47 ∷ []) w h in
@@ -89,6 +96,7 @@ scheme_there w front rest f r h =
     ap (λ x. fragment_parts (Some x) rest) f ∙ (ap (λ x. fragment_parts (Some (before 58 w)) (unwrap_or x [])) r
     ∙ sym (cond-true (has_scheme w) (fragment_parts (Some (before 58 w)) (unwrap_or (after 58 w) [])) (fragment_parts None w) h))
 
+-- without a scheme the parts are those of all of the text
 pub no_scheme_there : (w : List ℕ) → has_scheme w ≡ false → fragment_parts None w ≡ parts_of w
 unfolding parts_of
 no_scheme_there w h = sym (cond-false (has_scheme w) (fragment_parts (Some (before 58 w)) (unwrap_or (after 58 w) [])) (fragment_parts None w) h)
@@ -102,5 +110,6 @@ directory_there w i l e n =
     let p : parent w ≡ take i w = ap parent d ∙ parent-at (take i w) (drop (suc i) w) n' in
     take_more w i 0 l ∙ (ap (λ x. take i w ++ x ∷ []) e ∙ (ap (λ x. x ++ 47 ∷ []) (sym p) ∙ sym (cond-true (has_slash w) (parent w ++ 47 ∷ []) [] h)))
 
+-- a text without "/" has no directory
 pub directory_none : (w : List ℕ) → Lacks 47 w → directory w ≡ []
 directory_none w l = cond-false (has_slash w) (parent w ++ 47 ∷ []) [] (no_slash w l)

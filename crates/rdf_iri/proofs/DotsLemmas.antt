@@ -12,18 +12,22 @@ pub no_slash : (w : List ℕ) → Lacks 47 w → has_slash w ≡ false
 no_slash [] l = refl
 no_slash (c ∷ w) l = or_from (c == 47) (has_slash w) (ne_eqb c 47 l.0) (no_slash w l.1)
 
+-- where the test finds no "/", there is none
 pub no_slash-lacks : (w : List ℕ) → has_slash w ≡ false → Lacks 47 w
 no_slash-lacks [] h = tt
 no_slash-lacks (c ∷ w) h = let p = or_parts (c == 47) (has_slash w) h in (eqb-false c 47 p.0, no_slash-lacks w p.1)
 
+-- a text with a "/" in it tests as such
 pub has_slash-at : (v w : List ℕ) → has_slash (v ++ 47 ∷ w) ≡ true
 has_slash-at [] w = refl
 has_slash-at (c ∷ v) w = or_right (c == 47) (has_slash (v ++ 47 ∷ w)) (has_slash-at v w)
 
+-- the parent of a text ends before its last "/"
 pub parent-at : (v w : List ℕ) → Lacks 47 w → parent (v ++ 47 ∷ w) ≡ v
 parent-at [] w l = cond-false (has_slash w) (47 ∷ parent w) [] (no_slash w l)
 parent-at (c ∷ v) w l = cond-true (has_slash (v ++ 47 ∷ w)) (c ∷ parent (v ++ 47 ∷ w)) [] (has_slash-at v w) ∙ ap (λ x. c ∷ x) (parent-at v w l)
 
+-- without "/" the parent is empty
 pub parent-none : (w : List ℕ) → Lacks 47 w → parent w ≡ []
 parent-none [] l = refl
 parent-none (c ∷ w) l = cond-false (has_slash w) (c ∷ parent w) [] (no_slash w l.1)
@@ -40,6 +44,7 @@ last_slash (c ∷ w) h =
     (w, no_slash-lacks w f, ap (λ x. x ∷ w) e ∙ ap (λ x. x ++ 47 ∷ w) (sym (cond-false (has_slash w) (c ∷ parent w) [] f))))
     (cases_Bool (has_slash w))
 
+-- to take the parent is to remove the last segment
 pub parent_removes : (out : List ℕ) → LastSegmentRemoved out (parent out)
 parent_removes out =
     ⊎_elim
@@ -47,6 +52,7 @@ parent_removes out =
     (λ f. let l = no_slash-lacks out f in inr (l, parent-none out l))
     (cases_Bool (has_slash out))
 
+-- what is left when the last segment is removed is the parent, and nothing else
 pub removed_is_parent : (out shorter : List ℕ) → LastSegmentRemoved out shorter → shorter ≡ parent out
 removed_is_parent out shorter m =
     ⊎_elim
@@ -54,6 +60,7 @@ removed_is_parent out shorter m =
     (λ (h : Lacks 47 out × (shorter ≡ [])). h.1 ∙ sym (parent-none out h.0))
     m
 
+-- states are equal where input and output are
 same_walk : (s : Walk) (input output : List ℕ) → s.input ≡ input → s.output ≡ output → s ≡ walk input output
 same_walk s input output e f = ap (λ x. walk x s.output) e ∙ ap (λ x. walk input x) f
 
@@ -76,6 +83,7 @@ A-only s t r =
     ))
     r.0
 
+-- where rule A computes as fitting, its state is one by the rule
 A-fits : (s : Walk) → fits_A s.input ≡ true → RuleA s (by_A s)
 A-fits s h =
     ⊎_elim
@@ -104,6 +112,7 @@ slashed-only front last s t n d r =
     ))
     r
 
+-- the front that rules B and C replace, where it computes as there
 slashed-fits : (front last : List ℕ) (s t : Walk) → drop (length front) last ≡ [] →
     (begins front s.input || equal s.input last) ≡ true → t.input ≡ 47 ∷ drop (length front) s.input → Slashed front last s t
 slashed-fits front last s t n h e =
@@ -114,22 +123,27 @@ slashed-fits front last s t n h e =
     inr (i, e ∙ ap (λ x. 47 ∷ x) (ap (drop (length front)) i ∙ n)))
     (or_cases (begins front s.input) (equal s.input last) h)
 
+-- rule B gives only what is computed
 B-only : (s t : Walk) → RuleB s t → (fits_B s.input ≡ true) × (t ≡ by_B s)
 B-only s t r =
     let p = slashed-only (codes "/./") (codes "/.") s t refl (λ _. refl) r.0 in
     (p.0, same_walk t _ s.output p.1 r.1)
 
+-- rule B gives what is computed where it computes as fitting
 B-fits : (s : Walk) → fits_B s.input ≡ true → RuleB s (by_B s)
 B-fits s h = (slashed-fits (codes "/./") (codes "/.") s (by_B s) refl h refl, refl)
 
+-- rule C gives only what is computed
 C-only : (s t : Walk) → RuleC s t → (fits_C s.input ≡ true) × (t ≡ by_C s)
 C-only s t r =
     let p = slashed-only (codes "/../") (codes "/..") s t refl (λ _. refl) r.0 in
     (p.0, same_walk t _ (parent s.output) p.1 (removed_is_parent s.output t.output r.1))
 
+-- rule C gives what is computed where it computes as fitting
 C-fits : (s : Walk) → fits_C s.input ≡ true → RuleC s (by_C s)
 C-fits s h = (slashed-fits (codes "/../") (codes "/..") s (by_C s) refl h refl, parent_removes s.output)
 
+-- rule D gives only what is computed
 D-only : (s t : Walk) → RuleD s t → (fits_D s.input ≡ true) × (t ≡ by_D s)
 D-only s t r = (
   ⊎_elim
@@ -139,6 +153,7 @@ D-only s t r = (
   same_walk t [] s.output r.1 r.2,
 )
 
+-- rule D gives what is computed where it computes as fitting
 D-fits : (s : Walk) → fits_D s.input ≡ true → RuleD s (by_D s)
 D-fits s h = (
   ⊎_elim
@@ -149,6 +164,7 @@ D-fits s h = (
   refl,
 )
 
+-- rule E gives only what is computed
 E-only : (s t : Walk) → RuleE s t → t ≡ by_E s
 E-only s t r =
     let p = cut_at 47 r.1 t.input r.3 r.4 in
@@ -156,6 +172,7 @@ E-only s t r =
     let o : first_segment s.input ≡ r.0 ∷ r.1 = ap first_segment r.2 ∙ ap (λ x. r.0 ∷ x) p.0 in
     same_walk t _ _ i (r.5 ∙ ap (λ x. s.output ++ x) (sym o))
 
+-- rule E gives what is computed, where some input is left
 E-fits : (s : Walk) (c : ℕ) (w : List ℕ) → s.input ≡ c ∷ w → RuleE s (by_E s)
 E-fits s c w e =
     let i : behind_segment s.input ≡ from 47 w = ap behind_segment e in
@@ -178,6 +195,7 @@ first-only R Rs s t x y b only fits rest r =
     rest h.1 ∙ sym (cond-false b x y (false_from_ne_true b (λ e. h.0 (x, fits e)))))
     r
 
+-- the first rule that fits, or one of those after it
 first-fits : (R : Walk → Walk → Type 0) (Rs : List (Walk → Walk → Type 0)) (s x y : Walk) (b : Bool) →
     ((t : Walk) → R s t → b ≡ true) → (b ≡ true → R s x) → FirstOf Rs s y → FirstOf (R ∷ Rs) s (cond b x y)
 first-fits R Rs s x y b only fits rest =
@@ -186,27 +204,35 @@ first-fits R Rs s x y b only fits rest =
     (λ e. subst (FirstOf (R ∷ Rs) s) (sym (cond-false b x y e)) (inr ((λ (h : (t : Walk) × R s t). false≢true (sym e ∙ only h.0 h.1)), rest)))
     (cases_Bool b)
 
+-- rules in the order in which they are tried
 abbrev pub Rules : Type 1
 Rules = List (Walk → Walk → Type 0)
 
+-- rules D and E
 abbrev pub from_D : Rules
 from_D = RuleD ∷ RuleE ∷ []
 
+-- rules C to E
 abbrev pub from_C : Rules
 from_C = RuleC ∷ from_D
 
+-- rules B to E
 abbrev pub from_B : Rules
 from_B = RuleB ∷ from_C
 
+-- a step by rules D and E
 abbrev pub step_D : Walk → Walk
 step_D s = cond (fits_D s.input) (by_D s) (by_E s)
 
+-- a step by rules C to E
 abbrev pub step_C : Walk → Walk
 step_C s = cond (fits_C s.input) (by_C s) (step_D s)
 
+-- a step by rules B to E
 abbrev pub step_B : Walk → Walk
 step_B s = cond (fits_B s.input) (by_B s) (step_C s)
 
+-- a step by the rules is the step that is computed
 pub step-only : (s t : Walk) → Step s t → t ≡ step s
 unfolding step
 step-only s t r =
@@ -217,6 +243,7 @@ step-only s t r =
     (⊎_elim (λ (h : RuleE s t). E-only s t h) (λ (h : ((t : Walk) × RuleE s t → ⊥) × ⊥). absurd h.1)))))
     r
 
+-- the step that is computed is one by the rules, where input is left
 pub step-fits : (s : Walk) (c : ℕ) (w : List ℕ) → s.input ≡ c ∷ w → Step s (step s)
 unfolding step
 step-fits s c w e =
@@ -251,6 +278,7 @@ two_bytes front last w c v f l e h =
     (λ q. let i = ap length (equal-true w last q) in let j = ap length e in omega arith)
     (or_cases (begins front w) (equal w last) h)
 
+-- each step shortens the input, so the removal ends
 pub step-shorter : (s : Walk) (c : ℕ) (w : List ℕ) → s.input ≡ c ∷ w → length (step s).input ≤ length w
 unfolding step
 step-shorter s c w e =
@@ -275,6 +303,7 @@ step-empty s e =
     let k : step s ≡ step (walk [] s.output) = ap (λ x. step (walk x s.output)) e in
     (ap (λ (x : Walk). x.input) k, ap (λ (x : Walk). x.output) k ∙ append-nil s.output)
 
+-- once the input is empty, steps change nothing
 steps-empty : (n : ℕ) (s : Walk) → s.input ≡ [] → (steps n s).output ≡ s.output
 steps-empty zero s e = refl
 steps-empty (suc n) s e = let k = step-empty s e in steps-empty n (step s) k.0 ∙ k.1
@@ -289,6 +318,7 @@ enough_at (suc n) (suc m) s (c ∷ w) e a b =
     let j = ap length e in
     enough_at n m (step s) (step s).input refl (omega arith) (omega arith)
 
+-- more steps than input make no difference
 enough : (n m : ℕ) (s : Walk) → length s.input ≤ n → length s.input ≤ m → (steps n s).output ≡ (steps m s).output
 enough n m s a b = enough_at n m s s.input refl a b
 
@@ -297,12 +327,14 @@ pub finish-empty : (s : Walk) → s.input ≡ [] → finish s ≡ s.output
 unfolding finish
 finish-empty s e = steps-empty (length s.input) s e
 
+-- the result after a step is the result before it
 pub finish-step : (s : Walk) (c : ℕ) (w : List ℕ) → s.input ≡ c ∷ w → finish (step s) ≡ finish s
 unfolding finish
 finish-step s c w e =
     let l = step-shorter s c w e in
     enough (length (step s).input) (length w) (step s) (omega arith) l ∙ sym (ap (λ n. (steps n s).output) (ap length e))
 
+-- the result after a step is the result before it, also where nothing is left
 pub finish-after : (s : Walk) (w : List ℕ) → s.input ≡ w → finish (step s) ≡ finish s
 finish-after s [] e = let k = step-empty s e in finish-empty (step s) k.0 ∙ (k.1 ∙ sym (finish-empty s e))
 finish-after s (c ∷ w) e = finish-step s c w e
@@ -312,6 +344,7 @@ ends-only : (n : ℕ) (s : Walk) (result : List ℕ) → Ends n s result → res
 ends-only zero s result h = sym h.1 ∙ sym (finish-empty s h.0)
 ends-only (suc n) s result h = ends-only n h.0 result h.2 ∙ (ap finish (step-only s h.0 h.1) ∙ finish-after s s.input refl)
 
+-- the rules come to the result that is computed
 ends-computed : (n : ℕ) (s : Walk) (w : List ℕ) → s.input ≡ w → length w ≤ n → (k : ℕ) × Ends k s (finish s)
 ends-computed n s [] e l = (0, (e, sym (finish-empty s e)))
 ends-computed zero s (c ∷ w) e l = absurd (omega arith)
@@ -320,10 +353,12 @@ ends-computed (suc n) s (c ∷ w) e l =
     let r = ends-computed n (step s) (step s).input refl (omega arith) in
     (suc r.0, (step s, step-fits s c w e, subst (Ends r.0 (step s)) (finish-step s c w e) r.1))
 
+-- a path without its dots can only be what `remove_dots` gives, so the relation has one result
 pub only_removed : (path result : List ℕ) → DotsRemoved path result → result ≡ remove_dots path
 unfolding remove_dots
 only_removed path result h = ends-only h.0 (walk path []) result h.1
 
+-- `remove_dots` gives a path without its dots, as the relation says
 pub dots_removed : (path : List ℕ) → DotsRemoved path (remove_dots path)
 unfolding remove_dots
 dots_removed path = ends-computed (length path) (walk path []) path refl (omega arith)

@@ -12,14 +12,17 @@ use Rattle.rdf_iri.proofs.DotsLemmas.{dots_removed, parent_removes}
 use Rattle.rdf_iri.proofs.TextsLemmas.{has_scheme-colon}
 use Rattle.rdf_iri.proofs.PartsLemmas.{parts_split}
 
+-- a test that holds for two texts holds for both together
 pub all_have-append : (test : ℕ → Bool) (u v : List ℕ) → all_have test u ≡ true → all_have test v ≡ true → all_have test (u ++ v) ≡ true
 all_have-append test [] v p q = q
 all_have-append test (c ∷ u) v p q = let h = and_parts (test c) (all_have test u) p in and_from (test c) _ h.0 (all_have-append test u v h.1 q)
 
+-- a test that holds for two texts together holds for the first
 all_have-left : (test : ℕ → Bool) (u v : List ℕ) → all_have test (u ++ v) ≡ true → all_have test u ≡ true
 all_have-left test [] v p = refl
 all_have-left test (c ∷ u) v p = let h = and_parts (test c) (all_have test (u ++ v)) p in and_from (test c) _ h.0 (all_have-left test u v h.1)
 
+-- a test that holds for two texts together holds for the second
 all_have-right : (test : ℕ → Bool) (u v : List ℕ) → all_have test (u ++ v) ≡ true → all_have test v ≡ true
 all_have-right test [] v p = p
 all_have-right test (c ∷ u) v p = all_have-right test u v (and_parts (test c) (all_have test (u ++ v)) p).1
@@ -220,15 +223,18 @@ path-scheme : (b r : Parts) (w : List ℕ) → (path_target b r w).scheme ≡ b.
 path-scheme b r [] = refl
 path-scheme b r (c ∷ w) = refl
 
+-- the target of a reference without scheme has that of the base
 target-scheme : (b r : Parts) (o : Option (List ℕ)) → (authority_target b r o).scheme ≡ b.scheme
 target-scheme b r (Some a) = refl
 target-scheme b r None = path-scheme b r r.path
 
+-- a text that begins with a scheme has it whatever follows
 scheme-kept : (o : Option (List ℕ)) (text rest later : List ℕ) → MatchOption o (has_scheme text ≡ false) (λ s. (has_scheme text ≡ true) × Lacks 58 s) →
     with_scheme o rest ≡ text → has_scheme text ≡ true → has_scheme (with_scheme o later) ≡ true
 scheme-kept None text rest later m e h = let k : true ≡ false = sym h ∙ m in cc
 scheme-kept (Some s) text rest later m e h = has_scheme-colon s later rest ∙ (ap has_scheme e ∙ h)
 
+-- what is resolved against an absolute IRI is absolute
 pub target-has_scheme : (text reference : List ℕ) → has_scheme text ≡ true → has_scheme (recompose (target (parts_of text) (parts_of reference))) ≡ true
 target-has_scheme text reference h =
     let b = parts_of text in

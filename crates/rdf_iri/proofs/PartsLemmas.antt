@@ -8,10 +8,12 @@ use Rattle.rdf_iri.specs.Parts.{Parts, Splits, IsAuthority, with_scheme, with_au
 use Rattle.rdf_iri.proofs.TextsLemmas.{cut_suffix, cut_whole, cut_at, before-lacks, before-keeps, from-keeps, from-starts, before-from, StartsAt, Lacks-append, begins-true, begins-from, has_scheme-after}
 use Rattle.rdf_terms.specs.Terms.{has_scheme}
 
+-- an answer that is there is there
 found : (o : Option (List ℕ)) → is_some o ≡ true → o ≡ Some (unwrap_or o [])
 found None h = absurd (false≢true h)
 found (Some w) h = refl
 
+-- a text with a scheme is the scheme, ":" and the rest
 pub has_scheme-splits : (w : List ℕ) → has_scheme w ≡ true → w ≡ before 58 w ++ 58 ∷ unwrap_or (after 58 w) []
 has_scheme-splits w h = sym (cut_whole 58 w) ∙ ap (λ x. before 58 w ++ suffix 58 x) (found (after 58 w) (has_scheme-after w h))
 
@@ -30,19 +32,23 @@ same_hierarchy s q f (Some a) path h =
     ap (λ x. record { scheme = s; authority = Some x; path = from 47 (a ++ path); query = q; fragment = f }) r.0
     ∙ ap (λ x. record { scheme = s; authority = Some a; path = x; query = q; fragment = f }) r.1
 
+-- authority and path have no delimiter of a later part
 hierarchy-lacks : (c : ℕ) (a : Option (List ℕ)) (path : List ℕ) → 47 ≢ c → Lacks c path → MatchOption a ⊤ (Lacks c) → Lacks c (with_authority a path)
 hierarchy-lacks c None path n l m = l
 hierarchy-lacks c (Some a) path n l m = (n, (n, Lacks-append c a path m l))
 
+-- a query or fragment has no delimiter of a later part
 suffix-lacks : (c d : ℕ) (q : Option (List ℕ)) → d ≢ c → MatchOption q ⊤ (Lacks c) → Lacks c (suffix d q)
 suffix-lacks c d None n m = tt
 suffix-lacks c d (Some q) n m = (n, m)
 
+-- an authority has neither "?" nor "#"
 authority-lacks : (a : Option (List ℕ)) (P : Type 0) (Q : List ℕ → Type 0) → MatchOption a P (λ a. IsAuthority a × Q a) →
     MatchOption a ⊤ (Lacks 63) × MatchOption a ⊤ (Lacks 35)
 authority-lacks None P Q m = (tt, tt)
 authority-lacks (Some a) P Q m = (m.0.1, m.0.2)
 
+-- parts that are put together are cut into the same parts
 with_fragment : (text : List ℕ) (p : Parts) → Splits text p →
     fragment_parts p.scheme ((with_authority p.authority p.path ++ suffix 63 p.query) ++ suffix 35 p.fragment) ≡ p
 with_fragment text p s =
@@ -60,6 +66,7 @@ with_fragment text p s =
     ∙ (ap (λ x. hierarchy_parts p.scheme p.query p.fragment x) q.0
     ∙ same_hierarchy p.scheme p.query p.fragment p.authority p.path s.authority)))
 
+-- the scheme that splits a text is the one that is found
 only_scheme : (text rest : List ℕ) (s : Option (List ℕ)) → MatchOption s (has_scheme text ≡ false) (λ s. (has_scheme text ≡ true) × Lacks 58 s) →
     with_scheme s rest ≡ text → parts_of text ≡ fragment_parts s rest
 unfolding parts_of
@@ -84,6 +91,7 @@ record Kept (rest : List ℕ) (p : Parts) : Type 0 where
   pub path : Lacks 63 p.path × Lacks 35 p.path
   pub query : MatchOption p.query ⊤ (λ q. Lacks 35 q)
 
+-- authority and path that are cut split the text
 hierarchy_kept : (s q f : Option (List ℕ)) (w : List ℕ) → Lacks 63 w → Lacks 35 w → MatchOption q ⊤ (Lacks 35) →
     Kept ((w ++ suffix 63 q) ++ suffix 35 f) (hierarchy_parts s q f w)
 hierarchy_kept s q f w lq lf mq =
@@ -122,6 +130,7 @@ hierarchy_kept s q f w lq lf mq =
     subst (Kept ((w ++ suffix 63 q) ++ suffix 35 f)) same k)
     (cases_Bool (begins (47 ∷ 47 ∷ []) w))
 
+-- what a text lacks is lacking after a cut
 after-keeps : (k c : ℕ) (w : List ℕ) → Lacks k w → MatchOption (after c w) ⊤ (Lacks k)
 after-keeps k c [] l = tt
 after-keeps k c (d ∷ w) l =
@@ -130,6 +139,7 @@ after-keeps k c (d ∷ w) l =
     (λ h. subst (λ o. MatchOption o ⊤ (Lacks k)) (sym (cond-false (d == c) (Some w) (after c w) h)) (after-keeps k c w l.1))
     (cases_Bool (d == c))
 
+-- query and fragment that are cut split the text
 fragment_kept : (s : Option (List ℕ)) (rest : List ℕ) → Kept rest (fragment_parts s rest)
 fragment_kept s rest =
     let w = before 35 rest in
@@ -138,12 +148,14 @@ fragment_kept s rest =
     let k = hierarchy_kept s (after 63 w) (after 35 rest) h (before-lacks 63 w) (before-keeps 35 63 w l) (after-keeps 35 63 w l) in
     subst (λ x. Kept x (fragment_parts s rest)) (ap (λ x. x ++ suffix 35 (after 35 rest)) (cut_whole 63 w) ∙ cut_whole 35 rest) k
 
+-- the parts that are cut after the scheme split the text, with the scheme
 splits_from : (text rest : List ℕ) (s : Option (List ℕ)) → MatchOption s (has_scheme text ≡ false) (λ s. (has_scheme text ≡ true) × Lacks 58 s) →
     with_scheme s rest ≡ text → Splits text (fragment_parts s rest)
 splits_from text rest s m e =
     let k = fragment_kept s rest in
     record { whole = ap (with_scheme s) k.whole ∙ e; scheme = m; authority = k.authority; path = k.path; query = k.query }
 
+-- the parts that are computed split the text
 pub parts_split : (text : List ℕ) → Splits text (parts_of text)
 unfolding parts_of
 parts_split text =

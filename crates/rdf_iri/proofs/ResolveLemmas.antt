@@ -19,24 +19,29 @@ same_parts t s a p q f e1 e2 e3 e4 e5 =
     ∙ (ap (λ x. record { scheme = s; authority = a; path = p; query = x; fragment = t.fragment }) e4
     ∙ ap (λ x. record { scheme = s; authority = a; path = p; query = q; fragment = x }) e5)))
 
+-- by its path a reference has one target
 path-only : (b r t : Parts) (w : List ℕ) → t.scheme ≡ b.scheme → t.fragment ≡ r.fragment → t.authority ≡ b.authority → ByPath b w r.query t → t ≡ path_target b r w
 path-only b r t [] s f a m = same_parts t _ _ _ _ _ s a m.0 m.1 f
 path-only b r t (c ∷ w) s f a m = same_parts t _ _ _ _ _ s a (only_removed _ _ m.0) m.1 f
 
+-- by its authority it has one
 authority-only : (b r t : Parts) (o : Option (List ℕ)) → t.scheme ≡ b.scheme → t.fragment ≡ r.fragment →
     MatchOption o ((t.authority ≡ b.authority) × ByPath b r.path r.query t) (λ a. (t.authority ≡ Some a) × DotsRemoved r.path t.path × (t.query ≡ r.query)) →
     t ≡ authority_target b r o
 authority-only b r t None s f m = path-only b r t r.path s f m.0 m.1
 authority-only b r t (Some a) s f m = same_parts t _ _ _ _ _ s m.0 (only_removed _ _ m.1) m.2 f
 
+-- the target of the relation is the one that is computed
 pub transforms-only : (b r t : Parts) → Transforms b r t → t ≡ target b r
 transforms-only b r t m = authority-only b r t r.authority m.scheme m.fragment m.middle
 
+-- the target that is computed by the path is one of the relation
 path-holds : (b r : Parts) (w : List ℕ) → (((path_target b r w).authority ≡ b.authority) × ByPath b w r.query (path_target b r w))
     × (((path_target b r w).scheme ≡ b.scheme) × ((path_target b r w).fragment ≡ r.fragment))
 path-holds b r [] = ((refl, (refl, refl)), (refl, refl))
 path-holds b r (c ∷ w) = ((refl, (dots_removed (joined b (c ∷ w)), refl)), (refl, refl))
 
+-- the target that is computed by the authority is one of the relation
 authority-holds : (b r : Parts) (o : Option (List ℕ)) →
     MatchOption o (((authority_target b r o).authority ≡ b.authority) × ByPath b r.path r.query (authority_target b r o))
     (λ a. ((authority_target b r o).authority ≡ Some a) × DotsRemoved r.path (authority_target b r o).path × ((authority_target b r o).query ≡ r.query))
@@ -44,9 +49,11 @@ authority-holds : (b r : Parts) (o : Option (List ℕ)) →
 authority-holds b r None = path-holds b r r.path
 authority-holds b r (Some a) = ((refl, dots_removed r.path, refl), (refl, refl))
 
+-- the target that is computed is one of the relation
 pub transforms-target : (b r : Parts) → Transforms b r (target b r)
 transforms-target b r = let h = authority-holds b r r.authority in record { scheme = h.1.0; middle = h.0; fragment = h.1.1 }
 
+-- a result against a base is the one that is computed
 based-only : (base : Option (List ℕ)) (reference result : List ℕ) →
     MatchOption base ⊥ (λ text. (b r t : Parts) × Splits text b × Splits reference r × Transforms b r t × (result ≡ recompose t)) →
     based base reference ≡ Some result
@@ -68,9 +75,11 @@ resolves-only base reference result m =
     cond-false (has_scheme reference) (Some reference) (based base reference) h.0 ∙ based-only base reference result h.1)
     m
 
+-- what a computed result means: it is one of the relation, or there is none
 abbrev pub ResolvesTo : Option (List ℕ) → List ℕ → Option (List ℕ) → Type 0
 ResolvesTo base reference o = MatchOption o ((has_scheme reference ≡ false) × (base ≡ None)) (λ result. Resolves base reference result)
 
+-- the result against a base is one of the relation
 pub based-holds : (base : Option (List ℕ)) (reference : List ℕ) → (has_scheme reference ≡ false) → ResolvesTo base reference (based base reference)
 based-holds None reference n = (n, refl)
 based-holds (Some text) reference n =

@@ -34,18 +34,22 @@ same_text v w u t = same_test _ _
     (λ h. (bytes_eq-Decides v w).1 (sym (encodes-chars v u) ∙ (ap encode_utf8_all (equal-true (chars v) (chars w) h) ∙ encodes-chars w t)))
     (λ h. equal-from (chars v) (chars w) (ap chars ((bytes_eq-Decides v w).0 h)))
 
+-- a key of the map is this text
 abbrev pub text_test : {Z : Type 0} → List ℕ → String Z → Bool
 text_test q = is_at (λ k. slice_cmp nat_cmp q (string_bytes k))
 
+-- to look a prefix up by its characters is to look for the key by its bytes
 bound_to-lookup : {Z : Type 0} (es : List (String Z × List ℕ)) (q : List ℕ) → IsUtf8 q → bound_to (entries_of es) (chars q) ≡ lookup (text_test {Z = Z} q) es
 bound_to-lookup [] q u = refl
 bound_to-lookup {Z} (e ∷ es) q u =
     ap (λ b. cond b (Some e.1) (bound_to (entries_of es) (chars q))) (same_text q (string_bytes e.0) u (IsUtf8-string_bytes e.0) ∙ sym (is_eq-slice_cmp q (string_bytes e.0)))
     ∙ ap (λ x. cond (text_test {Z = Z} q e.0) (Some e.1) x) (bound_to-lookup es q u)
 
+-- the map answers for a prefix what the scope says
 pub bound_to-text : {Z : Type 0} (m : BTreeMap (String Z) (List ℕ)) (q : List ℕ) → IsUtf8 q → bound_to (entries_of m.entries) (chars q) ≡ get_by_text m q
 bound_to-text m q u = bound_to-lookup m.entries q u
 
+-- a map has as many prefixes as keys
 pub length-entries_of : {Z : Type 0} (es : List (String Z × List ℕ)) → length (entries_of es) ≡ length es
 length-entries_of [] = refl
 length-entries_of (e ∷ es) = ap suc (length-entries_of es)
@@ -58,13 +62,16 @@ differs v w n u =
     (λ f. f)
     (cases_Bool (equal v (chars w)))
 
+-- what is no text is not bound
 no_text : {Z : Type 0} (es : List (String Z × List ℕ)) (q : List ℕ) → scalars q ≡ false → bound_to (entries_of es) q ≡ None
 no_text [] q n = refl
 no_text (e ∷ es) q n = cond-false (equal q (chars (string_bytes e.0))) _ _ (differs q (string_bytes e.0) n (IsUtf8-string_bytes e.0)) ∙ no_text es q n
 
+-- texts compare alike either way round
 swapped : (v w : List ℕ) → equal v w ≡ equal w v
 swapped v w = same_test _ _ (λ h. equal-from w v (sym (equal-true v w h))) (λ h. equal-from v w (sym (equal-true w v h)))
 
+-- after an update a prefix has its new IRI, and every other what it had
 at_text : {Z : Type 0} (m n : BTreeMap (String Z) (List ℕ)) (key : String Z) (prefix iri : List ℕ) → string_bytes key ≡ prefix → IsUtf8 prefix →
     Updates string_cmp m n key (Some iri) → (q : List ℕ) → IsUtf8 q →
     bound_to (entries_of n.entries) (chars q) ≡ cond (equal (chars prefix) (chars q)) (Some iri) (bound_to (entries_of m.entries) (chars q))
@@ -74,6 +81,7 @@ at_text m n key prefix iri e t u q v =
     ∙ (ap (λ b. cond b (Some iri) (get_by_text m q)) (sym (same_text prefix q t v))
     ∙ ap (λ x. cond (equal (chars prefix) (chars q)) (Some iri) x) (sym (bound_to-text m q v)))))
 
+-- after an update the prefix has its new IRI, and every other, text or not, what it had
 pub bound_to-updated : {Z : Type 0} (m n : BTreeMap (String Z) (List ℕ)) (key : String Z) (prefix iri : List ℕ) → string_bytes key ≡ prefix → IsUtf8 prefix →
     Updates string_cmp m n key (Some iri) → (q : List ℕ) →
     bound_to (entries_of n.entries) q ≡ cond (equal (chars prefix) q) (Some iri) (bound_to (entries_of m.entries) q)
@@ -88,6 +96,7 @@ bound_to-updated m n key prefix iri e t u q =
     ∙ sym (cond-false (equal (chars prefix) q) (Some iri) (bound_to (entries_of m.entries) q) (swapped (chars prefix) q ∙ differs q prefix h t) ∙ no_text m.entries q h))
     (cases_Bool (scalars q))
 
+-- an insertion into the map binds the prefix, as the contract of `bind` says
 pub Binds-inserted : {Z : Type 0} (base : Option (List ℕ)) (limits : Sizes) (m n : BTreeMap (String Z) (List ℕ)) (key : String Z) (prefix iri : List ℕ) (old : Option (List ℕ)) →
     string_bytes key ≡ prefix → IsUtf8 prefix → Updates string_cmp m n key (Some iri) → old ≡ get_by_text m (string_bytes key) →
     length n.entries ≡ length m.entries + cond (is_some old) 0 1 →
@@ -103,14 +112,17 @@ Binds-inserted base limits m n key prefix iri old k t u o l =
           ∙ ap (λ (i : ℕ). i + cond (is_some (bound_to (entries_of m.entries) (chars prefix))) 0 1) (sym (length-entries_of m.entries))));
     }
 
+-- an IRI that is borrowed, as a copy
 pub copied_text : (o : Option (Bor (List ℕ))) → text_of o ≡ option_copied o
 copied_text None = refl
 copied_text (Some b) = refl
 
+-- what is not there is none
 pub none_from : (o : Option (List ℕ)) → is_some o ≡ false → o ≡ None
 none_from None h = refl
 none_from (Some w) h = absurd (false≢true (sym h))
 
+-- what is there is not none
 pub some_not : (o : Option (List ℕ)) → is_some o ≡ true → o ≡ None → ⊥
 some_not o h e = false≢true (ap is_some (sym e) ∙ h)
 
@@ -118,9 +130,11 @@ some_not o h e = false≢true (ap is_some (sym e) ∙ h)
 pub IsIri-append : (front local : List ℕ) → IsIri front → IsIriText local → IsIri (front ++ local)
 IsIri-append front local i t = record { characters = all_have-append _ front local i.characters t; scheme = has_scheme-append front local i.scheme }
 
+-- two texts have the bytes of both
 pub byte_len-append : (v w : List ℕ) → byte_len (v ++ w) ≡ byte_len v + byte_len w
 byte_len-append v w = ap length (encodes-append v w) ∙ length-append (encode_utf8_all v) (encode_utf8_all w)
 
+-- the size of an expanded name is known before it is put together
 pub byte_len-joined : (f l front : List ℕ) → IsUtf8 f → IsUtf8 l → chars f ≡ front → byte_len (front ++ chars l) ≡ length f + length l
 byte_len-joined f l front u v e =
     ap (λ x. byte_len (x ++ chars l)) (sym e)
@@ -131,6 +145,7 @@ count_kept : (o : Option (List ℕ)) (old new most : ℕ) → new ≡ old + cond
 count_kept None old new most e r l = let h = r refl in omega (arith, e, h)
 count_kept (Some w) old new most e r l = omega (arith, e, l)
 
+-- a scope keeps its limits when a prefix is bound
 pub KeepsLimits-bound : (s t : InForce) (prefix iri : List ℕ) → KeepsLimits s → Binds s prefix iri t → HasRoom s prefix →
     byte_len prefix ≤ 4 * s.limits.token → byte_len iri ≤ s.limits.iri → KeepsLimits t
 KeepsLimits-bound s t prefix iri k b r p l =
@@ -157,11 +172,13 @@ chars-joined t0 t1 t2 f l front e0 e1 e2 u e =
     let whole : t2 ≡ f ++ l = e2 ∙ ap (λ x. x ++ l) (e1 ∙ ap (λ x. x ++ f) e0) in
     ap chars whole ∙ (chars-append f l u ∙ ap (λ x. x ++ chars l) e)
 
+-- an IRI that was put together is that of the name
 pub expands_joined : (s : InForce) (prefix local front : List ℕ) (r : Result (List ℕ) IriFault) → bound_to s.bindings prefix ≡ Some front →
     IfOk r (λ iri. iri ≡ front ++ local) → IfOk r (λ iri. byte_len iri ≤ s.limits.iri) → IfOk r (ExpandsHere s prefix local)
 expands_joined s prefix local front (Ok iri) e h l = ((front, e, h), l)
 expands_joined s prefix local front (Err fault) e h l = tt
 
+-- why the texts were not joined is why the name was not expanded
 not_expanded : (s : InForce) (prefix local front : List ℕ) → bound_to s.bindings prefix ≡ Some front → (fault : IriFault) →
     NotJoined front local s.limits.iri fault → NotExpanded s prefix local fault
 not_expanded s prefix local front e NoBase h = absurd h
@@ -170,6 +187,7 @@ not_expanded s prefix local front e Memory h = (front ++ local, ((front, e, refl
 not_expanded s prefix local front e Unbound h = absurd h
 not_expanded s prefix local front e TooManyBindings h = absurd h
 
+-- an error that the join returned is one that the expansion may return
 pub expands_not : (s : InForce) (prefix local front : List ℕ) (r : Result (List ℕ) IriFault) → bound_to s.bindings prefix ≡ Some front →
     IfErr r (NotJoined front local s.limits.iri) → IfErr r (NotExpanded s prefix local)
 expands_not s prefix local front (Ok iri) e h = tt

@@ -15,22 +15,28 @@ use Rattle.rdf_iri.proofs.PartsLemmas.{parts_split}
 use Rattle.rdf_iri.proofs.IriKept.{Delimits, GoodParts, parts-good}
 use Rattle.rdf_iri.proofs.Encoded.{has_scheme-bytes, part_bytes, parts_bytes, parts_of-bytes}
 
+-- a scheme is looked for in bytes as in characters
 pub has_scheme-chars : (w : List ℕ) → IsUtf8 w → has_scheme w ≡ has_scheme (chars w)
 has_scheme-chars w u = ap has_scheme (sym (encodes-chars w u)) ∙ has_scheme-bytes (chars w)
 
+-- a text with a scheme has a ":"
 pub no_rest : (w : List ℕ) → None ≡ after 58 w → has_scheme w ≡ true → ⊥
 no_rest w e h = false≢true (ap is_some e ∙ has_scheme-after w h)
 
+-- two ways to say that all are characters
 pub scalars-all : (w : List ℕ) → scalars w ≡ all_have scalar w
 scalars-all [] = refl
 scalars-all (c ∷ w) = ap (λ b. scalar c && b) (scalars-all w)
 
+-- the delimiters of a reference are characters
 pub scalar_marks : Delimits scalar
 scalar_marks = record { slash = refl; colon = refl; question = refl; hash = refl }
 
+-- a text that is encoded has its characters
 text-chars : (w : List ℕ) → all_have scalar w ≡ true → chars (encode_utf8_all w) ≡ w
 text-chars w g = chars-encodes w (scalars-all w ∙ g)
 
+-- a part that may be missing and is encoded has its characters
 part-chars : (o : Option (List ℕ)) → MatchOption o ⊤ (λ w. all_have scalar w ≡ true) → part_chars (part_bytes o) ≡ o
 part-chars None g = refl
 part-chars (Some w) g = ap (λ x. Some x) (text-chars w g)
@@ -44,6 +50,7 @@ same_parts p g =
     ∙ (ap (λ x. record { scheme = p.scheme; authority = p.authority; path = p.path; query = x; fragment = part_chars (part_bytes p.fragment) }) (part-chars p.query g.query)
     ∙ ap (λ x. record { scheme = p.scheme; authority = p.authority; path = p.path; query = p.query; fragment = x }) (part-chars p.fragment g.fragment))))
 
+-- the parts cut from bytes are, as characters, the parts of the text
 pub parts-chars : (w : List ℕ) → IsUtf8 w → parts_chars (parts_of w) ≡ parts_of (chars w)
 parts-chars w u =
     let g = parts-good scalar scalar_marks (chars w) (parts_of (chars w)) (parts_split (chars w)).whole (sym (scalars-all (chars w)) ∙ scalars-chars w u) in

@@ -20,6 +20,7 @@ cut_suffix c (d ∷ w) o l =
       cond-false (d == c) (Some (w ++ suffix c o)) (after c (w ++ suffix c o)) e ∙ r.1,
     )
 
+-- what stands before c, with c and what follows it, is all of the text
 pub cut_whole : (c : ℕ) (w : List ℕ) → before c w ++ suffix c (after c w) ≡ w
 cut_whole c [] = refl
 cut_whole c (d ∷ w) =
@@ -32,6 +33,7 @@ cut_whole c (d ∷ w) =
     ∙ (ap (λ x. (d ∷ before c w) ++ suffix c x) (cond-false (d == c) (Some w) (after c w) h) ∙ ap (λ x. d ∷ x) (cut_whole c w)))
     (cases_Bool (d == c))
 
+-- before the first c there is none
 pub before-lacks : (c : ℕ) (w : List ℕ) → Lacks c (before c w)
 before-lacks c [] = tt
 before-lacks c (d ∷ w) =
@@ -40,6 +42,7 @@ before-lacks c (d ∷ w) =
     (λ h. subst (Lacks c) (sym (cond-false (d == c) [] (d ∷ before c w) h)) (eqb-false d c h, before-lacks c w))
     (cases_Bool (d == c))
 
+-- what a text lacks is lacking before a cut
 pub before-keeps : (k c : ℕ) (w : List ℕ) → Lacks k w → Lacks k (before c w)
 before-keeps k c [] l = tt
 before-keeps k c (d ∷ w) l =
@@ -48,6 +51,7 @@ before-keeps k c (d ∷ w) l =
     (λ h. subst (Lacks k) (sym (cond-false (d == c) [] (d ∷ before c w) h)) (l.0, before-keeps k c w l.1))
     (cases_Bool (d == c))
 
+-- what a text lacks is lacking from a cut on
 pub from-keeps : (k c : ℕ) (w : List ℕ) → Lacks k w → Lacks k (from c w)
 from-keeps k c [] l = tt
 from-keeps k c (d ∷ w) l =
@@ -60,6 +64,7 @@ from-keeps k c (d ∷ w) l =
 abbrev pub StartsAt : ℕ → List ℕ → Type 0
 StartsAt c w = (w ≡ []) ⊎ BeginsWith (c ∷ []) w
 
+-- what is cut at c begins with it, or is empty
 pub from-starts : (c : ℕ) (w : List ℕ) → StartsAt c (from c w)
 from-starts c [] = inl refl
 from-starts c (d ∷ w) =
@@ -68,6 +73,7 @@ from-starts c (d ∷ w) =
     (λ h. subst (StartsAt c) (sym (cond-false (d == c) (d ∷ w) (from c w) h)) (from-starts c w))
     (cases_Bool (d == c))
 
+-- both parts of a cut are all of the text
 pub before-from : (c : ℕ) (w : List ℕ) → before c w ++ from c w ≡ w
 before-from c [] = refl
 before-from c (d ∷ w) =
@@ -95,14 +101,17 @@ cut_at c (d ∷ w) v l s =
       cond-false (d == c) (d ∷ (w ++ v)) (from c (w ++ v)) e ∙ r.1,
     )
 
+-- two texts without c have none together
 pub Lacks-append : (c : ℕ) (u v : List ℕ) → Lacks c u → Lacks c v → Lacks c (u ++ v)
 Lacks-append c [] v l m = m
 Lacks-append c (d ∷ u) v l m = (l.0, Lacks-append c u v l.1 m)
 
+-- a text without c has none in its first part
 pub Lacks-left : (c : ℕ) (u v : List ℕ) → Lacks c (u ++ v) → Lacks c u
 Lacks-left c [] v l = tt
 Lacks-left c (d ∷ u) v l = (l.0, Lacks-left c u v l.1)
 
+-- a text without c has none in its second part
 pub Lacks-right : (c : ℕ) (u v : List ℕ) → Lacks c (u ++ v) → Lacks c v
 Lacks-right c [] v l = l
 Lacks-right c (d ∷ u) v l = Lacks-right c u v l.1
@@ -115,6 +124,7 @@ begins-true (c ∷ front) (d ∷ w) h =
     let p = and_parts (c == d) (begins front w) h in
     ap (λ x. x ∷ w) (sym (eqb-true c d p.0)) ∙ ap (λ x. c ∷ x) (begins-true front w p.1)
 
+-- a text with a front begins with it, by the test
 pub begins-from : (front w rest : List ℕ) → w ≡ front ++ rest → begins front w ≡ true
 begins-from [] w rest h = refl
 begins-from (c ∷ front) [] rest h = let k : [] ≡ c ∷ (front ++ rest) = h in cc
@@ -134,10 +144,12 @@ equal-true (c ∷ v) (d ∷ w) h =
     let t : v ≡ w = equal-true v w p.1 in
     cc
 
+-- a text equals itself
 pub equal-self : (v : List ℕ) → equal v v ≡ true
 equal-self [] = refl
 equal-self (c ∷ v) = and_from (c == c) (equal v v) (eq-eqb c c refl) (equal-self v)
 
+-- equal texts test as equal
 pub equal-from : (v w : List ℕ) → v ≡ w → equal v w ≡ true
 equal-from v w e = subst (λ x. equal v x ≡ true) e (equal-self v)
 
@@ -146,10 +158,12 @@ pub scheme_goes_on-colon : (s u v : List ℕ) → scheme_goes_on (s ++ 58 ∷ u)
 scheme_goes_on-colon [] u v = refl
 scheme_goes_on-colon (c ∷ s) u v = ap (λ b. c == 58 || ((is_letter c || is_digit c || c == 43 || c == 45 || c == 46) && b)) (scheme_goes_on-colon s u v)
 
+-- whether a text has a scheme is settled before its ":"
 pub has_scheme-colon : (s u v : List ℕ) → has_scheme (s ++ 58 ∷ u) ≡ has_scheme (s ++ 58 ∷ v)
 has_scheme-colon [] u v = refl
 has_scheme-colon (c ∷ s) u v = ap (λ b. is_letter c && b) (scheme_goes_on-colon s u v)
 
+-- a test that holds of less holds of more
 later_true : (p q b d : Bool) → (b ≡ true → d ≡ true) → (p || (q && b)) ≡ true → (p || (q && d)) ≡ true
 later_true p q b d f h =
     ⊎_elim
@@ -157,10 +171,12 @@ later_true p q b d f h =
     (λ t. let r = and_parts q b t in or_right p (q && d) (and_from q d r.0 (f r.1)))
     (or_cases p (q && b) h)
 
+-- the rest of a scheme is there, whatever follows the text
 scheme_goes_on-append : (w v : List ℕ) → scheme_goes_on w ≡ true → scheme_goes_on (w ++ v) ≡ true
 scheme_goes_on-append [] v h = absurd (false≢true h)
 scheme_goes_on-append (c ∷ w) v h = later_true (c == 58) _ _ _ (scheme_goes_on-append w v) h
 
+-- a text with a scheme has it, whatever follows the text
 pub has_scheme-append : (w v : List ℕ) → has_scheme w ≡ true → has_scheme (w ++ v) ≡ true
 has_scheme-append [] v h = absurd (false≢true h)
 has_scheme-append (c ∷ w) v h = let p = and_parts (is_letter c) (scheme_goes_on w) h in and_from (is_letter c) _ p.0 (scheme_goes_on-append w v p.1)
@@ -175,6 +191,7 @@ scheme_goes_on-after (c ∷ w) h =
     ∙ scheme_goes_on-after w (⊎_elim (λ t. absurd (false≢true (sym f ∙ t))) (λ t. (and_parts _ (scheme_goes_on w) t).1) (or_cases (c == 58) _ h)))
     (cases_Bool (c == 58))
 
+-- a scheme has its ":"
 pub has_scheme-after : (w : List ℕ) → has_scheme w ≡ true → is_some (after 58 w) ≡ true
 has_scheme-after [] h = absurd (false≢true h)
 has_scheme-after (c ∷ w) h =

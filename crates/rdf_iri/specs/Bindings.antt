@@ -50,10 +50,12 @@ pub record IsBinding (text prefix iri : List ℕ) : Type 0 where
   pub shape : Shape Turtle PnameNs (prefix ++ codes ":")
   pub absolute : IsIri iri
 
+-- an empty line says nothing; any other has to be a prefix with its colon, a space and an absolute IRI
 abbrev pub TextSays : List ℕ → Entry → Type 0
 TextSays text None = text ≡ []
 TextSays text (Some e) = IsBinding text e.0 e.1
 
+-- what a line says that may end in CR, which is no part of what it says
 abbrev pub Says : List ℕ → Entry → Type 0
 Says line entry = (text : List ℕ) × CrDropped line text × TextSays text entry
 

@@ -12,6 +12,7 @@ abbrev pub before : ℕ → List ℕ → List ℕ
 before c [] = []
 before c (d ∷ w) = cond (d == c) [] (d ∷ before c w)
 
+-- what stands after the first c, or none where there is no c
 abbrev pub after : ℕ → List ℕ → Option (List ℕ)
 after c [] = None
 after c (d ∷ w) = cond (d == c) (Some w) (after c w)

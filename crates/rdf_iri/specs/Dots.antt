@@ -10,10 +10,12 @@ abbrev pub first_segment : List ℕ → List ℕ
 first_segment [] = []
 first_segment (c ∷ w) = c ∷ before 47 w
 
+-- the path from the '/' that ends its first segment, or nothing where the segment is the last
 abbrev pub behind_segment : List ℕ → List ℕ
 behind_segment [] = []
 behind_segment (c ∷ w) = from 47 w
 
+-- a state of the removal: the path still to read, and the result so far
 abbrev pub walk : List ℕ → List ℕ → Walk
 walk input output = record { input = input; output = output }
 
@@ -21,27 +23,35 @@ walk input output = record { input = input; output = output }
 abbrev pub fits_A : List ℕ → Bool
 fits_A w = begins (codes "../") w || begins (codes "./") w
 
+-- the input after rule A: without its front "../" or "./"
 abbrev pub by_A : Walk → Walk
 by_A s = walk (cond (begins (codes "../") s.input) (drop 3 s.input) (drop 2 s.input)) s.output
 
+-- rule B fits: the input begins with "/./" or is "/."
 abbrev pub fits_B : List ℕ → Bool
 fits_B w = begins (codes "/./") w || equal w (codes "/.")
 
+-- the input after rule B: "/./", or a last "/.", has become "/"
 abbrev pub by_B : Walk → Walk
 by_B s = walk (47 ∷ drop 3 s.input) s.output
 
+-- rule C fits: the input begins with "/../" or is "/.."
 abbrev pub fits_C : List ℕ → Bool
 fits_C w = begins (codes "/../") w || equal w (codes "/..")
 
+-- the state after rule C: "/../", or a last "/..", has become "/", and the output has lost its last segment
 abbrev pub by_C : Walk → Walk
 by_C s = walk (47 ∷ drop 4 s.input) (parent s.output)
 
+-- rule D fits: the input is "." or ".."
 abbrev pub fits_D : List ℕ → Bool
 fits_D w = equal w (codes ".") || equal w (codes "..")
 
+-- the state after rule D: nothing is left to read
 abbrev pub by_D : Walk → Walk
 by_D s = walk [] s.output
 
+-- the state after rule E, which always fits: the first segment has moved to the output
 abbrev pub by_E : Walk → Walk
 by_E s = walk (behind_segment s.input) (s.output ++ first_segment s.input)
 
@@ -49,6 +59,7 @@ by_E s = walk (behind_segment s.input) (s.output ++ first_segment s.input)
 unfoldable pub step : Walk → Walk
 step s = cond (fits_A s.input) (by_A s) (cond (fits_B s.input) (by_B s) (cond (fits_C s.input) (by_C s) (cond (fits_D s.input) (by_D s) (by_E s))))
 
+-- the state after so many steps
 abbrev pub steps : ℕ → Walk → Walk
 steps zero s = s
 steps (suc n) s = steps n (step s)
@@ -57,6 +68,7 @@ steps (suc n) s = steps n (step s)
 unfoldable pub finish : Walk → List ℕ
 finish s = (steps (length s.input) s).output
 
+-- the path without its dot segments (RFC 3986, 5.2.4)
 unfoldable pub remove_dots : List ℕ → List ℕ
 remove_dots path = finish (walk path [])
 
@@ -64,11 +76,14 @@ remove_dots path = finish (walk path [])
 abbrev pub skip : ℕ → Walk → Walk
 skip n s = walk (drop n s.input) s.output
 
+-- rule B, with n bytes dropped and the next one, a '/' or a final '.', replaced by '/'
 abbrev pub slash : ℕ → Walk → Walk
 slash n s = walk (47 ∷ drop (suc n) s.input) s.output
 
+-- rule C, by the same count of bytes, and the last segment of the output is removed
 abbrev pub up : ℕ → Walk → Walk
 up n s = walk (47 ∷ drop (suc n) s.input) (parent s.output)
 
+-- rule E, with the n bytes of the first segment moved to the output
 abbrev pub keep : ℕ → Walk → Walk
 keep n s = walk (drop n s.input) (s.output ++ take n s.input)

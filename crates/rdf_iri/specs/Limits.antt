@@ -1,6 +1,7 @@
 -- The sizes that a reader keeps to.
 use Rattle.std.specs.Prelude.{ℕ, ◌≤◌, ◌^◌}
 
+-- the limits that a user may set; a document that passes one of them is refused
 pub record Sizes : Type 0 where
   -- the characters of one token
   pub token : ℕ

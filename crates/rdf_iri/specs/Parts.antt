@@ -10,6 +10,7 @@ abbrev pub scheme_text : Option (List ℕ) → List ℕ
 scheme_text None = []
 scheme_text (Some s) = s ++ 58 ∷ []
 
+-- an authority with the "//" before it, or nothing where there is none
 abbrev pub authority_text : Option (List ℕ) → List ℕ
 authority_text None = []
 authority_text (Some a) = 47 ∷ 47 ∷ a
@@ -24,11 +25,14 @@ hierarchy_parts scheme query fragment w = record {
   fragment = fragment;
 }
 
+-- the parts of what is left without a scheme and a fragment: the query stands after the first '?'
 abbrev pub query_parts : Option (List ℕ) → Option (List ℕ) → List ℕ → Parts
 query_parts scheme fragment w = hierarchy_parts scheme (after 63 w) fragment (before 63 w)
 
+-- the parts of what is left without a scheme: the fragment stands after the first '#'
 abbrev pub fragment_parts : Option (List ℕ) → List ℕ → Parts
 fragment_parts scheme w = query_parts scheme (after 35 w) (before 35 w)
 
+-- the five parts of a reference, the scheme before the first ':' if the text begins with one
 unfoldable pub parts_of : List ℕ → Parts
 parts_of w = cond (has_scheme w) (fragment_parts (Some (before 58 w)) (unwrap_or (after 58 w) [])) (fragment_parts None w)

@@ -4,6 +4,7 @@ use Rattle.std.specs.Prelude.{◌≡◌, ℕ, true, false, List, [], ◌∷◌, 
 use Rattle.rdf_iri.specs.Texts.{Lacks, BeginsWith}
 use Rattle.rdf_terms.specs.Terms.{has_scheme}
 
+-- a reference without its delimiters; a path may be empty, any other part may be missing, and an empty part is not a missing one
 pub record Parts : Type 0 where
   pub scheme : Option (List ℕ)
   pub authority : Option (List ℕ)

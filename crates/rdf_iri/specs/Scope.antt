@@ -9,6 +9,7 @@ use Rattle.rdf_iri.specs.Texts.{equal, byte_len}
 use Rattle.rdf_iri.specs.Resolution.{Resolves}
 use Rattle.rdf_iri.specs.Faults.{Unresolved}
 
+-- what decides which IRI a name or a reference stands for (Turtle 6.3); a prefix is kept without its colon, an IRI resolved
 pub record InForce : Type 0 where
   pub base : Option (List ℕ)
   pub bindings : List (List ℕ × List ℕ)
@@ -74,6 +75,7 @@ NotBound s prefix reference fault = UnresolvedHere s reference fault
 abbrev pub Expands : InForce → List ℕ → List ℕ → List ℕ → Type 0
 Expands s prefix local iri = (front : List ℕ) × (bound_to s.bindings prefix ≡ Some front) × (iri ≡ front ++ local)
 
+-- the IRI of a prefixed name, within the limit on the bytes of an IRI
 abbrev pub ExpandsHere : InForce → List ℕ → List ℕ → List ℕ → Type 0
 ExpandsHere s prefix local iri = Expands s prefix local iri × (byte_len iri ≤ s.limits.iri)
 

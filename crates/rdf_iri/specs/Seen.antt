@@ -14,9 +14,11 @@ text_of (Some s) = Some s.now
 abbrev pub slices : Slices → Parts
 slices p = record { scheme = text_of p.scheme; authority = text_of p.authority; path = p.path.now; query = text_of p.query; fragment = text_of p.fragment }
 
+-- the characters of a part that may be missing, given as its bytes
 abbrev pub part_chars : Option (List ℕ) → Option (List ℕ)
 part_chars o = option_map chars o
 
+-- the five parts as characters, given as bytes; a part is cut at ASCII, so each is UTF-8 where the reference is
 abbrev pub parts_chars : Parts → Parts
 parts_chars p = record { scheme = part_chars p.scheme; authority = part_chars p.authority; path = chars p.path; query = part_chars p.query; fragment = part_chars p.fragment }
 

@@ -50,16 +50,19 @@ name_taken : (n : ℕ) (x : Name) → name_bound has_scheme x → SubjectWithin 
 name_taken n (Ref l) s w = taken n (iri_of l) s w
 name_taken n (Lab l) s w = tt
 
+-- an object whose IRIs are within the limit is taken
 object_taken : (n : ℕ) (x : Object) → object_bound has_scheme x → TermWithin n (term_of x) → object_bound (is_taken n) x
 object_taken n (Named x) s w = name_taken n x s w
 object_taken n (Plain l) s w = tt
 object_taken n (WithType l c i) s w = taken n (iri_of i) s w
 object_taken n (WithTag l t) s w = tt
 
+-- a graph label whose IRI is within the limit is taken
 graph_taken : (n : ℕ) (x : Option Name) → graph_bound has_scheme x → GraphWithin n (option_map subject_of x) → graph_bound (is_taken n) x
 graph_taken n None s w = tt
 graph_taken n (Some x) s w = name_taken n x s w
 
+-- a statement whose IRIs are within the limit is taken
 pub statement_taken : (n : ℕ) (f : LineForm) (s : Statement) → GoodStatement has_scheme f s → IrisWithin n (quad_of s) → GoodStatement (is_taken n) f s
 statement_taken n f s g w = record {
   subject = name_taken n s.subject g.subject w.subject;
@@ -69,6 +72,7 @@ statement_taken n f s g w = record {
   labels = g.labels;
 }
 
+-- a document whose IRIs are within the limit is taken
 tree_taken : (n : ℕ) (f : LineForm) (d : Tree) → GoodDocument has_scheme f d → AllByRecursion (IrisWithin n) (plain_quads d) → GoodDocument (is_taken n) f d
 tree_taken n f (last L.empty e) g w = tt
 tree_taken n f (last (L.one s) e) g w = statement_taken n f s g w.0
@@ -80,14 +84,17 @@ subject_renamed : (n : ℕ) (s : Style) (x : Subject) → SubjectWithin n x → 
 subject_renamed n s (Iri i) w = w
 subject_renamed n s (Blank b) w = tt
 
+-- renaming the nodes of an object changes no IRI
 term_renamed : (n : ℕ) (s : Style) (x : Term) → TermWithin n x → TermWithin n (rename_term s x)
 term_renamed n s (Resource x) w = subject_renamed n s x w
 term_renamed n s (Literal l t) w = w
 
+-- renaming the nodes of a graph label changes no IRI
 graph_renamed : (n : ℕ) (s : Style) (x : Option Subject) → GraphWithin n x → GraphWithin n (option_map (rename_subject s) x)
 graph_renamed n s None w = tt
 graph_renamed n s (Some x) w = subject_renamed n s x w
 
+-- so the lines of quads have no longer IRIs than the quads
 all_renamed : (n : ℕ) (s : Style) (qs : List Quad) → AllByRecursion (IrisWithin n) qs → AllByRecursion (IrisWithin n) (map (rename s) qs)
 all_renamed n s [] w = tt
 all_renamed n s (q ∷ qs) w = (

@@ -18,6 +18,7 @@ use Rattle.rdf_lines.specs.Machine.{Mode, Begin, AfterSubject, AfterPredicate, A
 absolute_goes : (test : List ℕ → Bool) (i : List ℕ) (m : Mode) (more : Mode → Run) → test i ≡ true → go_on (absolute test i m) more ≡ more m
 absolute_goes test i m more h = ap (λ x. go_on x more) (cond-true (test i) (goes m) (refuses (iri_refused i)) h)
 
+-- the machine takes a subject
 run_subject : (test : List ℕ → Bool) (f : LineForm) (n : Name) (ts : List Token) → name_bound test n → run test f Begin (name_tokens n ++ ts) ≡ run test f (AfterSubject (subject_of n)) ts
 run_subject test f (Ref l) ts b = absolute_goes test (iri_of l) _ (λ m. run test f m ts) b
 run_subject test f (Lab l) ts b = refl
@@ -37,6 +38,7 @@ run_plain test f s p w None d ts = refl
 run_plain test f s p w (Some (Ref l)) d ts = refl
 run_plain test f s p w (Some (Lab l)) d ts = refl
 
+-- it takes an object, of one token or with its tag or type
 run_object : (test : List ℕ → Bool) (f : LineForm) (s : Subject) (p : List ℕ) (o : Object) (g : Option Name) (d : Leaf) (ts : List Token) → object_bound test o →
     run test f (AfterPredicate s p) (object_tokens o ++ (graph_tokens g ++ token Dot d ∷ ts)) ≡ run test f (AfterObject s p (term_of o)) (graph_tokens g ++ token Dot d ∷ ts)
 run_object test f s p (Named (Ref l)) g d ts b = absolute_goes test (iri_of l) _ (λ m. run test f m (graph_tokens g ++ token Dot d ∷ ts)) b
@@ -50,6 +52,7 @@ statement_split : (s : Statement) (ts : List Token) →
     statement_tokens s ++ ts ≡ name_tokens s.subject ++ (token IriRef s.predicate ∷ (object_tokens s.object ++ (graph_tokens s.graph ++ token Dot s.dot ∷ ts)))
 statement_split s ts = simp append_assoc
 
+-- the machine takes a statement, and gives out its quad at the dot
 pub run_statement : (test : List ℕ → Bool) (f : LineForm) (s : Statement) (ts : List Token) → GoodStatement test f s → run test f Begin (statement_tokens s ++ ts) ≡ with_quad (quad_of s) (run test f AfterDot ts)
 run_statement test f s ts g =
     let rest = object_tokens s.object ++ (graph_tokens s.graph ++ token Dot s.dot ∷ ts) in
@@ -59,6 +62,7 @@ run_statement test f s ts g =
     ∙ (run_object test f (subject_of s.subject) (iri_of s.predicate) s.object s.graph s.dot ts g.object
     ∙ run_end test f (subject_of s.subject) (iri_of s.predicate) (term_of s.object) s.graph s.dot ts g.graph g.labels)))
 
+-- the machine takes each document, and gives out its quads
 pub complete : (test : List ℕ → Bool) (f : LineForm) (d : Document) → GoodDocument test f d → run test f Begin (document_tokens d) ≡ ran Finished (plain_quads d)
 complete test f (last L.empty e) g = refl
 complete test f (last (L.one s) e) g = run_statement test f s (token End e ∷ []) g

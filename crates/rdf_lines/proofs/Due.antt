@@ -17,10 +17,12 @@ use Rattle.rdf_lines.proofs.Lag.{is_dot, dots, given_dots}
 use Rattle.rdf_lines.proofs.Runs.{given_begin}
 use Rattle.rdf_lines.proofs.Viable.{viable_ran, ran_viable}
 
+-- two lists of tokens have the dots of both
 dots-append : (ts us : List Token) → dots (ts ++ us) ≡ dots ts + dots us
 dots-append [] us = sym (zero-add (dots us))
 dots-append (t ∷ ts) us = let h = dots-append ts us in omega arith
 
+-- a front of tokens without dots has none
 dots-take : (ts : List Token) (k : ℕ) → dots ts ≡ 0 → dots (take k ts) ≡ 0
 dots-take [] k e = ap dots (take-nil k)
 dots-take (t ∷ ts) zero e = refl
@@ -33,16 +35,19 @@ dots-name : (n : Name) → dots (name_tokens n) ≡ 0
 dots-name (Ref l) = refl
 dots-name (Lab l) = refl
 
+-- an object has no dot
 dots-object : (o : Object) → dots (object_tokens o) ≡ 0
 dots-object (Named n) = dots-name n
 dots-object (Plain w) = refl
 dots-object (WithType w c i) = refl
 dots-object (WithTag w t) = refl
 
+-- a graph label has no dot
 dots-graph : (g : Option Name) → dots (graph_tokens g) ≡ 0
 dots-graph None = refl
 dots-graph (Some n) = dots-name n
 
+-- so the head of a statement has none, and its quad is due at the dot alone
 dots-head : (s : Statement) → dots (head_tokens s) ≡ 0
 dots-head s =
     let n = name_tokens s.subject in
@@ -86,6 +91,7 @@ one_line s n k ms rest qs few more = ⊎_elim whole part (cases_lt (length (head
         cond-true (nat_lt (n + length h) (n + k)) _ _ (lt-ltb _ _ (omega arith))
         ∙ (ap (λ x. quad_of s ∷ x) (more j (omega arith)) ∙ sym (ap (λ x. take x (quad_of s ∷ qs)) z))
 
+-- the quads below a number are as many as there are dots among so many tokens
 before-dots : (d : Document) (n k : ℕ) → items_below (n + k) (document_quads n d) ≡ take (dots (take k (document_tokens d))) (plain_quads d)
 before-dots (last L.empty e) n k = sym (take-nil _)
 before-dots (last (L.one s) e) n k = one_line s n k [] (token End e ∷ []) [] (λ l. refl) (λ j x. sym (take-nil _))
@@ -122,6 +128,7 @@ due_in f ts more m qs all e d =
     ∙ (before-dots d.0 0 (length ts)
     ∙ (ap (λ x. take x (plain_quads d.0)) z ∙ (ap (take (length qs)) g.1 ∙ take-append_seam qs g.0))))
 
+-- what was given out is due in some document
 pub due_ran : (f : LineForm) (ts : List Token) (m : Mode) (qs : List Quad) → run has_scheme f Begin ts ≡ ran m qs → Due (documents f) ts qs
 due_ran f ts m qs e =
     let v = viable_ran has_scheme f refl ts m qs e in

@@ -11,28 +11,34 @@ use Rattle.rdf_lines.specs.Lines.{Leaf, leaf_of, iri_of}
 use Rattle.rdf_lines.specs.Machine.{Mode, Begin, AfterSubject, AfterPredicate, AfterString, AfterCarets, AfterObject, AfterGraph, AfterDot, Answer, goes, gives, refuses, iri_refused, absolute, object_then, accept, ran, refused, go_on, run}
 use Rattle.rdf_lines.proofs.Sound.{quad_first}
 
+-- a dot counts one
 abbrev pub is_dot : Kind → ℕ
 is_dot Dot = 1
 is_dot k = 0
 
+-- how many statements have ended
 abbrev pub dots : List Token → ℕ
 dots [] = 0
 dots (t ∷ ts) = is_dot t.kind + dots ts
 
+-- an answer gives as many quads as that
 abbrev Counts : Answer → ℕ → Type 0
 Counts (goes m) d = d ≡ 0
 Counts (gives q m) d = d ≡ 1
 Counts (refuses r) d = Unit
 
+-- a token with an IRI gives none
 absolute_counts : (test : List ℕ → Bool) (i : List ℕ) (m : Mode) → Counts (absolute test i m) 0
 absolute_counts test i m = cond_both (test i) (goes m) (refuses (iri_refused i)) (λ x. Counts x 0) (λ e. refl) (λ e. tt)
 
+-- after an object only the dot gives one
 object_counts : (test : List ℕ → Bool) (f : LineForm) (s : Subject) (p : List ℕ) (o : Term) (k : Kind) (l : Leaf) → Counts (object_then test f s p o k l) (is_dot k)
 object_counts test f s p o Dot l = refl
 object_counts test NQuads s p o IriRef l = absolute_counts test (iri_of l) _
 object_counts test NQuads s p o LabelNode l = refl
 object_counts test f s p o k l = tt
 
+-- so no answer gives a quad but at a dot
 counts : (test : List ℕ → Bool) (f : LineForm) (m : Mode) (k : Kind) (l : Leaf) → Counts (accept test f m k l) (is_dot k)
 counts test f Begin IriRef l = absolute_counts test (iri_of l) _
 counts test f (AfterSubject s) IriRef l = absolute_counts test (iri_of l) _

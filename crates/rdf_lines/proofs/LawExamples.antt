@@ -49,22 +49,27 @@ abbrev example : List Quad
 example = record { subject = Blank (Label label); predicate = iri; object = Resource (Blank (Anon 27)); graph = None }
     ∷ record { subject = Blank (Cell 27); predicate = iri; object = Literal (34 ∷ 10 ∷ 0xE9 ∷ []) (Lang tag); graph = Some (Iri iri) } ∷ []
 
+-- an absolute IRI
 iri_is : IsIri iri
 unfolding has
 iri_is = record { characters = refl; scheme = refl }
 
+-- a label
 label_is : IsLabel label
 unfolding has
 label_is = form-matches (label_name Lines) label refl
 
+-- a language tag
 tag_is : IsTag tag
 unfolding has
 tag_is = form-matches tag_name tag refl
 
+-- what is written for the quads, with their nodes named by their offsets
 pub written : text Tagged example ≡ codes "_:na27 <http://a/p> _:a27 .\n_:c27 <http://a/p> \"\\\"\\né\"@en-GB <http://a/p> .\n"
 unfolding digits
 written = refl
 
+-- the quads can be written so
 writable : Writable Tagged example
 writable = (
   (record { subject = label_is; predicate = iri_is; object = lit< tt; graph = tt }, record { subject = tt; object = tt; graph = tt }),
@@ -74,10 +79,12 @@ writable = (
   ),
 )
 
+-- what was written reads back as the quads
 pub example_reads_back : ReadsBack Tagged example 80
 unfolding digits
 example_reads_back = bytes_read_back Tagged example 80 writable (lit≤ tt)
 
+-- a label that looks like an offset is kept apart from the node of that offset
 pub label_and_node_apart : rename_node Tagged (Label label) ≢ rename_node Tagged (Anon 27)
 label_and_node_apart e = let same : Label label ≡ Anon 27 = rename_injective Tagged (Label label) (Anon 27) label_is (lit< tt) e in cc
 
@@ -92,6 +99,7 @@ short = (
 abbrev bytes : List ℕ
 bytes = encode_utf8_all (text Tagged example)
 
+-- no part of the lines is longer than 12 characters
 short_tokens : AllByRecursion (TokensWithin 12) (map (rename Tagged) example)
 unfolding digits
 short_tokens = (
@@ -99,9 +107,11 @@ short_tokens = (
   (record { subject = lit≤ tt; predicate = lit≤ tt; object = (lit≤ tt, lit≤ tt); graph = lit≤ tt }, tt),
 )
 
+-- the lines are read to their end under that limit
 pub example_is_read : IsReadToItsEnd (in_lines NQuads 12 10) bytes
 example_is_read = text_read Tagged example 12 10 writable (lit≤ tt) short_tokens short
 
+-- under a limit of 12 characters what was written reads back as the quads
 short_reads_back : ReadsBack Tagged example 12
 short_reads_back = tokens_read_back Tagged example 12 writable (lit≤ tt) short_tokens
 
@@ -114,9 +124,11 @@ within = record {
   size = lit≤ tt;
 }
 
+-- no reason refuses them
 pub example_is_not_refused : (reason : Reason) (at : Place) → Refused (in_lines NQuads 12 10) bytes true reason at → ⊥
 example_is_not_refused reason at x = refused_none NQuads 12 10 bytes (map (rename Tagged) example) reason at x (short_reads_back 10) within
 
+-- before the first byte more may come
 pub example_goes_on : GoesOn (in_lines NQuads 12 10) []
 example_goes_on = (documents_read NQuads 12 10 bytes (map (rename Tagged) example) (short_reads_back 10) within).fronts [] bytes refl
 
@@ -124,6 +136,7 @@ example_goes_on = (documents_read NQuads 12 10 bytes (map (rename Tagged) exampl
 pub example_is_writable : Writable Kept (map (rename Tagged) example)
 example_is_writable = document_writable NQuads 12 10 bytes (map (rename Tagged) example) (short_reads_back 10)
 
+-- the lines of renamed quads are read to their end
 pub example_lines_are_read : IsReadToItsEnd (in_lines NQuads 64 64) (encode_utf8_all (text Kept (map (rename Tagged) example)))
 example_lines_are_read =
     document_read_back NQuads 12 10 bytes (map (rename Tagged) example) (short_reads_back 10) example_is_read.whole 64 64 (lit≤ tt) (lit≤ tt) (lit≤ tt) (lit≤ tt) (lit≤ tt)

@@ -8,21 +8,25 @@ use Rattle.rdf_lines.specs.Lines.{Line, Document, last, next, line_tokens, line_
 use Rattle.rdf_lines.proofs.PlainQuads.{plain_line, plain_quads, IsPlain}
 use Rattle.rdf_lines.specs.Lines as L
 
+-- a line has the same quads with marks and without
 unmarked_line : (n : ℕ) (l : Line) → unmarked (line_quads n l) ≡ plain_line l
 unmarked_line n L.empty = refl
 unmarked_line n (L.one s) = refl
 
+-- a document has the same quads with marks and without
 pub unmarked_quads : (n : ℕ) (d : Document) → unmarked (document_quads n d) ≡ plain_quads d
 unmarked_quads n (last l e) = unmarked_line n l
 unmarked_quads n (next L.empty e d) = unmarked_quads (n + length (line_tokens L.empty) + 1) d
 unmarked_quads n (next (L.one s) e d) = ap (λ x. quad_of s ∷ x) (unmarked_quads (n + length (line_tokens (L.one s)) + 1) d)
 
+-- a document with marks is one without them
 pub marked_document : (test : List ℕ → Bool) (f : LineForm) (ts : List Token) (qs : List Marked) → IsDocument test f ts qs → IsPlain test f ts (unmarked qs)
 marked_document test f ts qs d = (d.0, d.1, d.2, sym_ap d.3)
   where
     sym_ap : document_quads 0 d.0 ≡ qs → plain_quads d.0 ≡ unmarked qs
     sym_ap e = sym (unmarked_quads 0 d.0) ∙ ap unmarked e
 
+-- a document without marks has marks
 pub document_marked : (test : List ℕ → Bool) (f : LineForm) (ts : List Token) (qs : List Quad) → IsPlain test f ts qs → (ms : List Marked) × IsDocument test f ts ms × (unmarked ms ≡ qs)
 document_marked test f ts qs d = (document_quads 0 d.0, (d.0, d.1, d.2, refl), unmarked_quads 0 d.0 ∙ d.3)
 

@@ -20,6 +20,7 @@ pub record Begins (c : ℕ) (k : Kind) : Type 0 where
   pub only : (l : Kind) → possible (after (shape Lines l) c) ≡ true → l ≡ k
   pub any : (w : List ℕ) → Matches (shape Lines k) w → Matches (any_shape Lines kinds) w
 
+-- a text that begins so has no shape but that of the kind
 pub shape_at : (c : ℕ) (k : Kind) → Begins c k → (w : List ℕ) → Matches (any_shape Lines kinds) (c ∷ w) → Matches (shape Lines k) (c ∷ w)
 shape_at c k b w m =
     let f = matches-first_kind Lines kinds (c ∷ w) m in
@@ -27,6 +28,7 @@ shape_at c k b w m =
     let e = b.only f.0 (matches-possible _ w (matches-after (shape Lines f.0) c w n)) in
     subst (λ l. Matches (shape Lines l) (c ∷ w)) e n
 
+-- a text that begins as the kind does and has its shape is found as one
 pub kind_at : (c : ℕ) (k : Kind) → Begins c k → (w : List ℕ) → Matches (shape Lines k) (c ∷ w) → kind_of Lines (c ∷ w) ≡ Some k
 unfolding kind_of
 kind_at c k b w m =
@@ -39,6 +41,7 @@ kind_at c k b w m =
 abbrev pub Cut : List ℕ → List ℕ → Type 0
 Cut w v = (m : ℕ) → m < length v → (u : List ℕ) → Matches (any_shape Lines kinds) ((w ++ take (suc m) v) ++ u) → ⊥
 
+-- a text without a shape has no kind
 no_kind : (w : List ℕ) → (Matches (any_shape Lines kinds) w → ⊥) → kind_of Lines w ≡ None
 unfolding kind_of
 no_kind w n = at (first_kind Lines kinds w) refl
@@ -51,6 +54,7 @@ no_kind w n = at (first_kind Lines kinds w) refl
 cut_kind : (w v : List ℕ) → Cut w v → (m : ℕ) → m < length v → kind_of Lines (w ++ take (suc m) v) ≡ None
 cut_kind w v t m l = no_kind (w ++ take (suc m) v) (λ n. t m l [] (subst (Matches (any_shape Lines kinds)) (sym (append-nil (w ++ take (suc m) v))) n))
 
+-- a text that is cut does not go on
 cut_live : (w v : List ℕ) → Cut w v → (m : ℕ) → m < length v → is_live Lines (w ++ take (suc m) v) ≡ false
 cut_live w v t m l =
     ⊎_elim (λ e. absurd (let x = live-matches Lines (w ++ take (suc m) v) e in t m l (x.0 ∷ x.1) x.2)) (λ e. e) (cases_Bool (is_live Lines (w ++ take (suc m) v)))
@@ -73,6 +77,7 @@ cut_by_shape c k b w (x ∷ v) e m l u n =
     let s : (c ∷ w ++ x ∷ take m v) ++ u ≡ c ∷ w ++ x ∷ (take m v ++ u) = append_assoc (c ∷ w) (x ∷ take m v) u in
     e x (take m v ++ u) (shape_at c k b (w ++ x ∷ (take m v ++ u)) (subst (Matches (any_shape Lines kinds)) s n))
 
+-- a front that is longer than the first text is that text and a front of the second
 take-append : (w v : List ℕ) (n : ℕ) → take (length w + n) (w ++ v) ≡ w ++ take n v
 take-append [] v n = ap (λ x. take x v) (let e : length (let x : List ℕ = [] in x) + n ≡ n = omega arith in e)
 take-append (c ∷ w) v n =
@@ -115,6 +120,7 @@ dead_decided goes_on w = refl
 dead_decided ended w = refl
 dead_decided broken w = refl
 
+-- a text that is cut by what follows is the next token
 next_step : (tail : Tail) (limit : ℕ) (c : ℕ) (w v : List ℕ) (k : Kind) → kind_of Lines (c ∷ w) ≡ Some k → is_fit k (c ∷ w) ≡ true → Cut (c ∷ w) v →
     is_live Lines (c ∷ w ++ v) ≡ false → length (c ∷ w) ≤ limit → step Lines limit tail (c ∷ w ++ v) ≡ token (length (c ∷ w)) k
 unfolding step

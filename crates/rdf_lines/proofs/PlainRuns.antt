@@ -8,9 +8,11 @@ use Rattle.std.proofs.lemmas.List.Concat.{flat_map-append}
 use Rattle.rdf_terms.specs.Runs.{IsRun, is_text_byte}
 use Rattle.rdf_lines.specs.Writing.{escaped, is_escaped}
 
+-- a character that is not escaped is written as it is
 plain : (c : ℕ) → is_escaped c ≡ false → escaped c ≡ c ∷ []
 plain c e = grind (arith, nat_tests)
 
+-- a front of characters that are not escaped is written as it is
 pub plain_front : (w : List ℕ) (n : ℕ) → ((k : ℕ) → k < n → is_escaped (get_or w k 0) ≡ false) → flat_map escaped (take n w) ≡ take n w
 plain_front w zero h = refl
 plain_front [] (suc n) h = refl
@@ -22,9 +24,11 @@ plain_front (c ∷ w) (suc n) h =
 pub run_plain : (c : ℕ) → is_text_byte c ≡ true → is_escaped c ≡ false
 run_plain c e = grind (arith, nat_tests)
 
+-- a run of text bytes is written as it is
 run_front : (w : List ℕ) (n : ℕ) → IsRun is_text_byte w 0 n → flat_map escaped (take n w) ≡ take n w
 run_front w n r = plain_front w n (λ k l. run_plain (get_or w k 0) (r.pass k (omega arith) l))
 
+-- a text that is one run is written as it is, so it may be copied at once
 pub plain_text : (w : List ℕ) (n : ℕ) → IsRun is_text_byte w 0 n → n ≡ length w → flat_map escaped (take n w) ≡ w
 plain_text w n r e = run_front w n r ∙ take_all n w (omega (arith, e))
 

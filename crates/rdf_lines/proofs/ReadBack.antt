@@ -18,10 +18,12 @@ use Rattle.rdf_lines.proofs.SpelledLine.{Written, AllShort, document_tree, docum
 use Rattle.rdf_lines.proofs.Renamed.{renamed}
 use Rattle.rdf_lines.proofs.LinesLemmas.{document_marked}
 
+-- quads that can be written can be written with their nodes renamed
 pub all_written : (s : Style) (qs : List Quad) → Writable s qs → Written (map (rename s) qs)
 all_written s [] h = tt
 all_written s (q ∷ qs) h = (renamed s q h.0.0 h.0.1, all_written s qs h.1)
 
+-- the text of quads is that of the renamed ones, line by line
 text_renamed : (s : Style) (qs : List Quad) → text s qs ≡ flat_map quad_text (map (rename s) qs)
 text_renamed s [] = refl
 text_renamed s (q ∷ qs) = ap (λ x. line s q ++ x) (text_renamed s qs)

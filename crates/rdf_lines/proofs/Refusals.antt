@@ -24,6 +24,7 @@ NoTest IriRef x = x ≡ refuses Unexpected
 NoTest k (refuses r) = r ≡ Unexpected
 NoTest k x = Unit
 
+-- a token that the grammar has not there is refused without a test of its IRI
 unexpected_no_test : (k : Kind) → NoTest k (refuses Unexpected)
 unexpected_no_test IriRef = refl
 unexpected_no_test k = refl
@@ -34,12 +35,14 @@ Tested k l a =
     ((x : Answer) × NoTest k x × ((test : List ℕ → Bool) → a test ≡ x))
     ⊎ ((k ≡ IriRef) × (m : Mode) × ((test : List ℕ → Bool) → a test ≡ absolute test (iri_of l) m))
 
+-- after an object the answer depends on the test of a graph label alone
 tested_object : (f : LineForm) (s : Subject) (p : List ℕ) (o : Term) (k : Kind) (l : Leaf) → Tested k l (λ test. object_then test f s p o k l)
 tested_object f s p o Dot l = inl (gives (quad s p o None) AfterDot, tt, λ test. refl)
 tested_object NQuads s p o IriRef l = inr (refl, AfterGraph s p o (Iri (iri_of l)), λ test. refl)
 tested_object NQuads s p o LabelNode l = inl (goes (AfterGraph s p o (blank l)), tt, λ test. refl)
 tested_object f s p o k l = inl (refuses Unexpected, unexpected_no_test k, λ test. refl)
 
+-- in every mode the answer depends on the test of the token as an IRI alone
 pub tested : (f : LineForm) (m : Mode) (k : Kind) (l : Leaf) → Tested k l (λ test. accept test f m k l)
 tested f Begin IriRef l = inr (refl, AfterSubject (Iri (iri_of l)), λ test. refl)
 tested f Begin LabelNode l = inl (goes (AfterSubject (blank l)), tt, λ test. refl)
@@ -63,6 +66,7 @@ tested f m k l = inl (refuses Unexpected, unexpected_no_test k, λ test. refl)
 pub absolute_goes : (test : List ℕ → Bool) (i : List ℕ) (m : Mode) → test i ≡ true → absolute test i m ≡ goes m
 absolute_goes test i m t = cond-true (test i) (goes m) (refuses (iri_refused i)) t
 
+-- an IRI that fails the test is refused as relative or as too long
 pub absolute_refuses : (test : List ℕ → Bool) (i : List ℕ) (m : Mode) → test i ≡ false → absolute test i m ≡ refuses (iri_refused i)
 absolute_refuses test i m t = cond-false (test i) (goes m) (refuses (iri_refused i)) t
 
@@ -74,6 +78,7 @@ never_unexpected i e =
     (λ h. let z : RelativeIri ≡ Unexpected = sym (cond-false (has_scheme i) IriTooLong RelativeIri h) ∙ e in cc)
     (cases_Bool (has_scheme i))
 
+-- equal refusals have equal reasons
 reason_same : {r s : Reason} → refuses r ≡ refuses s → r ≡ s
 reason_same e = cc
 
@@ -86,6 +91,7 @@ unexpected_same k l a test other (inr (h, m, same)) e =
     (λ t. absurd (never_unexpected (iri_of l) (reason_same (sym (absolute_refuses test (iri_of l) m t) ∙ (sym (same test) ∙ e)))))
     (cases_Bool (test (iri_of l)))
 
+-- what is refused without a test is a syntax error
 no_test_unexpected : (k : Kind) (r : Reason) → NoTest k (refuses r) → r ≡ Unexpected
 no_test_unexpected IriRef r h = reason_same h
 no_test_unexpected k r h = h
@@ -98,6 +104,7 @@ pub record Fell (l : Leaf) (k : Kind) (a : (List ℕ → Bool) → Answer) (test
   pub mode : Mode
   pub other : (other : List ℕ → Bool) → a other ≡ absolute other (iri_of l) mode
 
+-- a refusal for another reason is that of an IRI that fails the test
 fell : (k : Kind) (l : Leaf) (a : (List ℕ → Bool) → Answer) (test : List ℕ → Bool) (r : Reason) → Tested k l a → r ≢ Unexpected → a test ≡ refuses r → Fell l k a test r
 fell k l a test r (inl (x, h, same)) n e = absurd (n (no_test_unexpected k r (subst (NoTest k) (sym (same test) ∙ e) h)))
 fell k l a test r (inr (h, m, same)) n e =
@@ -138,9 +145,11 @@ taken_scheme n i t = by (has_scheme i) t
     by true e = refl
     by false e = e
 
+-- tokens that are taken with the limit are taken without it
 pub in_documents : (n : ℕ) (f : LineForm) (ts : List Token) (m : Mode) (qs : List Quad) → run (is_taken n) f Begin ts ≡ ran m qs → run has_scheme f Begin ts ≡ ran m qs
 in_documents n f ts m qs e = wider_run (is_taken n) has_scheme (taken_scheme n) f ts Begin m qs e
 
+-- an absolute IRI that is not taken is over the limit
 longer : (n : ℕ) (i : List ℕ) → has_scheme i ≡ true → is_taken n i ≡ false → n < byte_len i
 longer n i s t =
     ⊎_elim
@@ -148,6 +157,7 @@ longer n i s t =
     (λ h. absurd (let z : true ≡ false = sym (ap (λ b. has_scheme i && not b) (le-ltb n (byte_len i) h) ∙ ap (λ b. b && true) s) ∙ t in cc))
     (cases_lt n (byte_len i))
 
+-- an IRI over the limit is not taken
 not_taken : (n : ℕ) (i : List ℕ) → n < byte_len i → is_taken n i ≡ true → ⊥
 not_taken n i l t = by (has_scheme i) (ap (λ b. has_scheme i && not b) (sym (lt-ltb n (byte_len i) l)) ∙ t)
   where
@@ -155,6 +165,7 @@ not_taken n i l t = by (has_scheme i) (ap (λ b. has_scheme i && not b) (sym (lt
     by true e = cc
     by false e = cc
 
+-- tokens that are taken are those of some tree
 in_trees : (n : ℕ) (f : LineForm) (ts : List Token) (m : Mode) (qs : List Quad) → run (is_taken n) f Begin ts ≡ ran m qs → run any_iri f Begin ts ≡ ran m qs
 in_trees n f ts m qs e = wider_run (is_taken n) any_iri (λ i t. refl) f ts Begin m qs e
 
@@ -231,6 +242,7 @@ one_taken k l a test more n rs qs (inr (h, m, same)) i e =
     (λ t. absurd (let z : refused (iri_refused (iri_of l)) ≡ ran n qs = sym (ap (λ y. with_quads rs (go_on y more)) (same test ∙ absolute_refuses test (iri_of l) m t)) ∙ e in cc))
     (cases_Bool (test (iri_of l)))
 
+-- each IRI of tokens that are taken passes the test
 all_taken : (test : List ℕ → Bool) (f : LineForm) (ts : List Token) (m k : Mode) (qs : List Quad) → run test f m ts ≡ ran k qs → (ahead behind : List Token) (t : Token) →
     ts ≡ ahead ++ t ∷ behind → t.kind ≡ IriRef → test (iri_of (leaf_of t)) ≡ true
 all_taken test f ts m k qs e ahead behind t s i =

@@ -17,12 +17,15 @@ use Rattle.rdf_lines.specs.declared.form.Style.{Style}
 use Rattle.rdf_lines.specs.declared.form.Style.TheVariants.{Kept, Tagged}
 use Rattle.rdf_lines.specs.Writing.{rename_node, rename_subject, rename_term, rename, CanWriteNode, CanWriteSubject, CanWriteTerm, CanWriteGraph, CanWrite}
 
+-- what may stand inside a label
 abbrev middle : Regex
 middle = one (pn_char Lines) ∣ dot
 
+-- what may follow the first character of a label
 abbrev rest : Regex
 rest = optional (many middle · one (pn_char Lines))
 
+-- a first character of a label may also stand in it
 first_char : (c : ℕ) → has (pn_u Lines) c ≡ true → has (pn_char Lines) c ≡ true
 unfolding has
 first_char c h = wide (scalar c) (is_u Lines c) _ _ _ _ _ h
@@ -32,6 +35,7 @@ first_char c h = wide (scalar c) (is_u Lines c) _ _ _ _ _ h
     wide true false a b d e f h = absurd (false≢true h)
     wide false u a b d e f h = absurd (false≢true h)
 
+-- so may a digit
 digit_char : (c : ℕ) → has digit c ≡ true → has (pn_char Lines) c ≡ true
 unfolding has
 digit_char c h = wide (scalar c) (is_u Lines c) (c == 45) (is_digit c) _ _ _ h
@@ -43,9 +47,11 @@ digit_char c h = wide (scalar c) (is_u Lines c) (c == 45) (is_digit c) _ _ _ h
     wide true u a false d e f h = absurd (false≢true h)
     wide false u a b d e f h = absurd (false≢true h)
 
+-- one more at the front of a repetition
 many_before : (r : Regex) (u w : List ℕ) → Matches r u → Matches (many r) w → Matches (many r) (u ++ w)
 many_before r u w m n = (u ∷ n.0, (m, n.1), ap (λ x. u ++ x) n.2)
 
+-- one more at its end
 many_behind : (r : Regex) (w u : List ℕ) → Matches (many r) w → Matches r u → Matches (many r) (w ++ u)
 many_behind r w u n m = subst (λ x. Matches (many r) (x ++ u)) (sym n.2) (at n.0 n.1)
   where
@@ -53,6 +59,7 @@ many_behind r w u n m = subst (λ x. Matches (many r) (x ++ u)) (sym n.2) (at n.
     at [] a = (u ∷ [], (m, tt), sym (append-nil u))
     at (p ∷ ps) a = subst (Matches (many r)) (sym (append_assoc p (concat ps) u)) (many_before r p (concat ps ++ u) a.0 (at ps a.1))
 
+-- one more character in front of the rest of a label
 rest_before : (u w : List ℕ) → Matches (one (pn_char Lines)) u → Matches rest w → Matches (many middle · one (pn_char Lines)) (u ++ w)
 rest_before u w m n =
     ⊎_elim
@@ -60,11 +67,13 @@ rest_before u w m n =
     (λ t. (u ++ t.0, t.1, many_before middle u t.0 (inl m) t.2, t.3, ap (λ x. u ++ x) t.4 ∙ sym (append_assoc u t.0 t.1)))
     n
 
+-- a label with a letter in front is a label
 label_front : (c : ℕ) (x : List ℕ) → has (pn_u Lines) c ≡ true → IsLabel x → IsLabel (c ∷ x)
 label_front c x h m =
     let first : Matches (one (pn_char Lines)) m.0 = ⊎_elim (λ a. (a.0, first_char a.0 a.1, a.2)) (λ a. (a.0, digit_char a.0 a.1, a.2)) m.2 in
     (c ∷ [], x, inl (c, h, refl), inr (subst (Matches (many middle · one (pn_char Lines))) (sym m.4) (rest_before m.0 m.1 first m.3)), refl)
 
+-- a label with a character at its end is a label, if it is no dot
 label_more : (x : List ℕ) (c : ℕ) → has (pn_char Lines) c ≡ true → IsLabel x → IsLabel (x ++ c ∷ [])
 label_more x c h m =
     let end : Matches rest (m.1 ++ c ∷ []) = ⊎_elim
@@ -73,22 +82,27 @@ label_more x c h m =
     m.3 in
     (m.0, m.1 ++ c ∷ [], m.2, end, ap (λ y. y ++ c ∷ []) m.4 ∙ append_assoc m.0 m.1 (c ∷ []))
 
+-- a digit that is written is a digit of the grammar
 written_digit : (d : ℕ) → d < 10 → has digit (48 + d) ≡ true
 unfolding has
 written_digit d l = grind (arith, nat_tests)
 
+-- a digit that is written may stand in a label
 digit_at : (d : ℕ) → d < 10 → has (pn_char Lines) (48 + d) ≡ true
 digit_at d l = digit_char (48 + d) (written_digit d l)
 
+-- a letter alone is a label
 letter_label : (c : ℕ) → has (pn_u Lines) c ≡ true → IsLabel (c ∷ [])
 letter_label c h = (c ∷ [], [], inl (c, h, refl), inl refl, refl)
 
+-- a letter and a number are a label, so nodes without a label can be named by their offsets
 label_number : (c : ℕ) → has (pn_u Lines) c ≡ true → (n : ℕ) → n < 2 ^ 64 → IsLabel (c ∷ decimal n)
 label_number c h =
     decimal_by_steps (λ n ds. IsLabel (c ∷ ds))
     (λ n l. label_more (c ∷ []) (48 + n) (digit_at n l) (letter_label c h))
     (λ n ds l m. label_more (c ∷ ds) (48 + n % 10) (digit_at (n % 10) (omega arith)) m)
 
+-- a node that a style names has a label and can be written
 renamed_node : (s : Style) (n : Node) → IsNode n → CanWriteNode s n → IsNode (rename_node s n) × CanWriteNode Kept (rename_node s n)
 unfolding has
 renamed_node Kept n h c = (h, c)
@@ -96,19 +110,23 @@ renamed_node Tagged (Label x) h c = (label_front 110 x refl h, tt)
 renamed_node Tagged (Anon n) h c = (label_number 97 refl n h, tt)
 renamed_node Tagged (Cell n) h c = (label_number 99 refl n h, tt)
 
+-- a subject whose node a style names has a label and can be written
 renamed_subject : (s : Style) (t : Subject) → IsSubject t → CanWriteSubject s t → IsSubject (rename_subject s t) × CanWriteSubject Kept (rename_subject s t)
 renamed_subject s (Iri i) h c = (h, tt)
 renamed_subject s (Blank n) h c = renamed_node s n h c
 
+-- an object whose node a style names has a label and can be written
 renamed_term : (s : Style) (t : Term) → IsTerm t → CanWriteTerm s t → IsTerm (rename_term s t) × CanWriteTerm Kept (rename_term s t)
 renamed_term s (Resource t) h c = renamed_subject s t h c
 renamed_term s (Literal w t) h c = (h, tt)
 
+-- a graph label whose node a style names has a label and can be written
 renamed_graph : (s : Style) (g : Option Subject) → IsGraph g → CanWriteGraph s g →
     IsGraph (option_map (rename_subject s) g) × CanWriteGraph Kept (option_map (rename_subject s) g)
 renamed_graph s None h c = (tt, tt)
 renamed_graph s (Some g) h c = renamed_subject s g h c
 
+-- a renamed quad is well formed, and can be written as it is
 pub renamed : (s : Style) (q : Quad) → IsQuad q → CanWrite s q → IsQuad (rename s q) × CanWrite Kept (rename s q)
 renamed s q h c =
     let a = renamed_subject s q.subject h.subject c.subject in
@@ -116,6 +134,7 @@ renamed s q h c =
     let d = renamed_graph s q.graph h.graph c.graph in
     (record { subject = a.0; predicate = h.predicate; object = b.0; graph = d.0 }, record { subject = a.1; object = b.1; graph = d.1 })
 
+-- equal labels begin alike, which keeps the three sorts of names apart
 same_head : {c d : ℕ} {u v : List ℕ} → Label (c ∷ u) ≡ Label (d ∷ v) → c ≡ d
 same_head e = cc
 

@@ -44,16 +44,19 @@ no_dot_name : (x : Name) → NoDot (name_tokens x)
 no_dot_name (Ref l) n ts = refl
 no_dot_name (Lab l) n ts = refl
 
+-- an object has no dot
 no_dot_object : (o : Object) → NoDot (object_tokens o)
 no_dot_object (Named x) n ts = no_dot_name x n ts
 no_dot_object (Plain w) n ts = refl
 no_dot_object (WithType w c i) n ts = ap (λ k. dots_at k ts) (omega arith)
 no_dot_object (WithTag w t) n ts = ap (λ k. dots_at k ts) (omega arith)
 
+-- a graph label has no dot
 no_dot_graph : (g : Option Name) → NoDot (graph_tokens g)
 no_dot_graph None n ts = ap (λ k. dots_at k ts) (omega arith)
 no_dot_graph (Some x) n ts = no_dot_name x n ts
 
+-- so the only dot of a statement is its last token
 no_dot_head : (s : Statement) → NoDot (head_tokens s)
 no_dot_head s =
     let n = name_tokens s.subject in
@@ -80,6 +83,7 @@ marks_at (next (L.one s) e d) n =
 one_same : {a b : Quad} {m n : ℕ} → a ≡ b → m ≡ n → (let x : Marked = record { item = a; mark = m } in x) ≡ record { item = b; mark = n }
 one_same p q = cc
 
+-- marked quads are equal where the quads and the marks are
 all_same : (qs rs : List Marked) → unmarked qs ≡ unmarked rs → marks qs ≡ marks rs → qs ≡ rs
 all_same [] [] a b = refl
 all_same [] (r ∷ rs) a b = absurd (let z : [] ≡ r.mark ∷ marks rs = b in cc)

@@ -26,6 +26,7 @@ data Part : Type 0 where
   dot : Statement → Part
   finished : Line → Leaf → Part
 
+-- the mode of the machine in a part of a statement
 abbrev mode : Part → Mode
 mode begin = Begin
 mode (subject n) = AfterSubject (subject_of n)
@@ -37,6 +38,7 @@ mode (graph n p o g) = AfterGraph (subject_of n) (iri_of p) (term_of o) (subject
 mode (dot s) = AfterDot
 mode (finished l e) = Finished
 
+-- the tokens of the part
 abbrev read : Part → List Token
 read begin = []
 read (subject n) = name_tokens n
@@ -48,11 +50,13 @@ read (graph n p o g) = name_tokens n ++ (token IriRef p ∷ (object_tokens o ++ 
 read (dot s) = statement_tokens s
 read (finished l e) = line_tokens l ++ token End e ∷ []
 
+-- the quad that it has given out, after its dot
 abbrev given : Part → List Quad
 given (dot s) = quad_of s ∷ []
 given (finished l e) = plain_line l
 given r = []
 
+-- the IRIs of the part pass the test
 abbrev Bound : (List ℕ → Bool) → LineForm → Part → Type 0
 Bound test f begin = Unit
 Bound test f (subject n) = name_bound test n
@@ -64,9 +68,11 @@ Bound test f (graph n p o g) = name_bound test n × (test (iri_of p) ≡ true) �
 Bound test f (dot s) = GoodStatement test f s
 Bound test f (finished l e) = GoodLine test f l
 
+-- a run from this part to the end reads the rest of a document that begins with it
 abbrev Sound : (List ℕ → Bool) → LineForm → List Token → Part → Type 0
 Sound test f ts r = (qs : List Quad) → Bound test f r → run test f (mode r) ts ≡ ran Finished qs → IsPlain test f (read r ++ ts) (given r ++ qs)
 
+-- a run goes on after an IRI only if it passes the test
 accepted_absolute : (test : List ℕ → Bool) (i : List ℕ) (m n : Mode) (qs : List Quad) (more : Mode → Run) → go_on (absolute test i m) more ≡ ran n qs → (test i ≡ true) × (more m ≡ ran n qs)
 accepted_absolute test i m n qs more e =
     ⊎_elim
@@ -74,6 +80,7 @@ accepted_absolute test i m n qs more e =
     (λ h. absurd (let z : refused (iri_refused i) ≡ ran n qs = sym (ap (λ x. go_on x more) (cond-false (test i) (goes m) (refuses (iri_refused i)) h)) ∙ e in cc))
     (cases_Bool (test i))
 
+-- a quad that is given out first is the first of all
 pub quad_first : (q : Quad) (r : Run) (m : Mode) (qs : List Quad) → with_quad q r ≡ ran m qs → (rest : List Quad) × (r ≡ ran m rest) × (qs ≡ q ∷ rest)
 quad_first q (ran n rest) m qs e = (rest, (let z : n ≡ m = cc in ap (λ x. ran x rest) z), cc)
 quad_first q (refused r) m qs e = absurd (let z : refused r ≡ ran m qs = e in cc)
@@ -85,6 +92,7 @@ step test f ts ih r s k l qs b e g h m =
     let d = ih s qs b m in
     subst (λ x. IsPlain test f (read r ++ token k l ∷ ts) x) (ap (λ x. x ++ qs) (g ∙ sym h)) (subst (λ x. IsPlain test f x (given s ++ qs)) e d)
 
+-- a dot ends the statement, and the rest of the document follows
 closed : (test : List ℕ → Bool) (f : LineForm) (ts : List Token) → ((r : Part) → Sound test f ts r) → (r : Part) (s : Statement) (l : Leaf) (qs : List Quad) → GoodStatement test f s →
     statement_tokens s ++ ts ≡ read r ++ token Dot l ∷ ts → given r ≡ [] → with_quad (quad_of s) (run test f AfterDot ts) ≡ ran Finished qs →
     IsPlain test f (read r ++ token Dot l ∷ ts) (given r ++ qs)
@@ -93,16 +101,20 @@ closed test f ts ih r s l qs b e h m =
     let d = ih (dot s) q.0 b q.1 in
     subst (λ x. IsPlain test f (read r ++ token Dot l ∷ ts) x) (sym q.2 ∙ ap (λ x. x ++ qs) (sym h)) (subst (λ x. IsPlain test f x (quad_of s ∷ q.0)) e d)
 
+-- the statement of a part without a graph label
 abbrev plain_end : Name → Leaf → Object → Leaf → Statement
 plain_end n p o l = record { subject = n; predicate = p; object = o; graph = None; dot = l }
 
+-- the statement of a part with one
 abbrev graph_end : Name → Leaf → Object → Name → Leaf → Statement
 graph_end n p o g l = record { subject = n; predicate = p; object = o; graph = Some g; dot = l }
 
+-- a statement without a graph label is one of both forms
 no_label : (f : LineForm) → graph_fits f None
 no_label NTriples = refl
 no_label NQuads = tt
 
+-- the step of one token in each part
 one : (test : List ℕ → Bool) (f : LineForm) (ts : List Token) → ((r : Part) → Sound test f ts r) → (r : Part) (k : Kind) (l : Leaf) (qs : List Quad) → Bound test f r →
     go_on (accept test f (mode r) k l) (λ n. run test f n ts) ≡ ran Finished qs → IsPlain test f (read r ++ token k l ∷ ts) (given r ++ qs)
 one test f ts ih begin IriRef l qs b e = let a = accepted_absolute test (iri_of l) _ Finished qs (λ n. run test f n ts) e in step test f ts ih begin (subject (Ref l)) IriRef l qs a.0 refl refl refl a.1
@@ -146,6 +158,7 @@ one test f ts ih (dot s) End l qs b e =
     subst (λ x. IsPlain test f x (quad_of s ∷ qs)) (append_assoc (statement_tokens s) (token End l ∷ []) ts) (ih (finished (L.one s) l) qs b e)
 one test f ts ih r k l qs b e = absurd (let z : refused Unexpected ≡ ran Finished qs = e in cc)
 
+-- so every run to the end reads the rest of a document
 sound_all : (test : List ℕ → Bool) (f : LineForm) (ts : List Token) (r : Part) → Sound test f ts r
 sound_all test f [] (finished l e) qs b m =
     let z : [] ≡ qs = cc in
@@ -160,5 +173,6 @@ sound_all test f [] (graph n p o g) qs b m = absurd (let z : ran (AfterGraph (su
 sound_all test f [] (dot s) qs b m = absurd (let z : ran AfterDot [] ≡ ran Finished qs = m in cc)
 sound_all test f (t ∷ ts) r qs b m = one test f ts (λ s. sound_all test f ts s) r t.kind (leaf_of t) qs b m
 
+-- the tokens that the machine takes to their end are a document
 pub sound : (test : List ℕ → Bool) (f : LineForm) (ts : List Token) (qs : List Quad) → run test f Begin ts ≡ ran Finished qs → IsPlain test f ts qs
 sound test f ts qs e = sound_all test f ts begin qs tt e

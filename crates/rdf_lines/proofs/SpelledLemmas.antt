@@ -24,6 +24,7 @@ label_in w m =
     let u : m.0 ≡ front.2.0 ∷ second.2.0 ∷ [] = front.4 ∙ (ap (λ x. x ++ front.1) front.2.2 ∙ ap (λ x. front.2.0 ∷ x) (second.4 ∙ rest)) in
     subst IsLabel (sym (ap (drop 2) (m.4 ∙ ap (λ x. x ++ m.1) u))) m.3
 
+-- a LANGTAG without its "@" is a tag
 pub tag_in : (w : List ℕ) → Shape Lines LangTag w → IsTag (drop 1 w)
 unfolding shape
 tag_in w m =
@@ -35,6 +36,7 @@ pub fit_iri : (w : List ℕ) → is_fit IriRef w ≡ true → iri_value (inside 
 unfolding is_fit
 fit_iri w f n = let h : is_some (iri_value (inside 1 w)) ≡ true = f in let z : false ≡ true = sym (ap is_some n) ∙ h in cc
 
+-- a fit token of a string has a value
 pub fit_string : (w : List ℕ) → is_fit ShortString w ≡ true → string_value (inside 1 w) ≡ None → ⊥
 unfolding is_fit
 fit_string w f n = let h : is_some (string_value (inside 1 w)) ≡ true = f in let z : false ≡ true = sym (ap is_some n) ∙ h in cc
@@ -45,13 +47,16 @@ Fits (leads s) = Unit
 Fits (means c) = has iri_char c ≡ true
 Fits fails = Unit
 
+-- a character of an IRI that is allowed is one that IRIREF has
 allowed_fits : (c : ℕ) → Fits (allowed of_iri c)
 allowed_fits c = ⊎_elim (λ h. subst Fits (sym (cond-true _ _ _ h)) h) (λ h. subst Fits (sym (cond-false _ _ _ h)) tt) (cases_Bool (has iri_char c))
 
+-- a character that digits stand for in an IRI is one that IRIREF has
 digit_fits : (k n : ℕ) → Fits (digit_move of_iri k n)
 digit_fits zero n = ⊎_elim (λ h. subst Fits (sym (cond-true _ _ _ h)) (allowed_fits n)) (λ h. subst Fits (sym (cond-false _ _ _ h)) tt) (cases_Bool (scalar n))
 digit_fits (suc k) n = tt
 
+-- each character that the walk over an IRIREF gives is one that IRIREF has
 move_fits : (s : Spot) (c : ℕ) → Fits (move of_iri s c)
 move_fits outside c = cond_both (c == 92) (leads slash) (allowed of_iri c) Fits (λ h. tt) (λ h. allowed_fits c)
 move_fits slash c =
@@ -61,6 +66,7 @@ move_fits (digits zero n) c = tt
 move_fits (digits (suc k) n) c =
     cond_both (has hex_digit c) (digit_move of_iri k (16 * n + hex_value c)) fails Fits (λ h. digit_fits k (16 * n + hex_value c)) (λ h. tt)
 
+-- so an IRIREF means characters of IRIREF alone
 iri_characters : (s : Spot) (w v : List ℕ) → value of_iri s w ≡ Some v → all_have (has iri_char) v ≡ true
 iri_characters outside [] v e = let h : [] ≡ v = cc in subst (λ x. all_have (has iri_char) x ≡ true) h refl
 iri_characters slash [] v e = absurd (let h : None ≡ Some v = e in cc)
@@ -79,6 +85,7 @@ iri_characters s (c ∷ w) v e = by_move (move of_iri s c) (move_fits s c) (λ t
         subst (λ x. all_have (has iri_char) x ≡ true) (sym z.2) (ap (λ b. b && all_have (has iri_char) z.0) f ∙ h outside z.0 z.1)
     by_move fails f h v e = absurd (let h : None ≡ Some v = e in cc)
 
+-- an IRIREF whose value has a scheme means an absolute IRI
 pub is_iri : (w v : List ℕ) → iri_value w ≡ Some v → has_scheme v ≡ true → IsIri v
 is_iri w v e s = record { characters = iri_characters outside w v e; scheme = s }
 

@@ -13,6 +13,7 @@ pub does_goes : {S X E Z : Type 0} (takes : S → Quad → S → Type 0) (a : Z 
 does_goes takes a f sink mode (Ok x) e = subst (λ a. Does takes a sink (mode x) sink) (sym (e f)) (refl, refl)
 does_goes takes a f sink mode (Err x) e = tt
 
+-- a token that is refused leaves the sink as it is
 pub fails_declines : {S X Z : Type 0} (leaves : S → Quad → S → Type 0) (failed : S → Bool) (a : Z → Answer) (f : Z) (sink : S) (r : Result X Reason) →
     IfErr r (λ r. (f : Z) → Declines r (a f)) → IfErr r (λ r. Fails leaves failed r (a f) sink sink)
 fails_declines leaves failed a f sink (Ok x) e = tt
@@ -31,6 +32,7 @@ pub does_same : {S X E Z : Type 0} (takes : S → Quad → S → Type 0) (a : Z 
 does_same takes a f old new mode (Ok x) e = e f
 does_same takes a f old new mode (Err x) e = tt
 
+-- a failure of a step, whatever the test
 pub fails_same : {S X Z : Type 0} (leaves : S → Quad → S → Type 0) (failed : S → Bool) (a : Z → Answer) (f : Z) (old new : S) (r : Result X Reason) →
     IfErr r (λ r. (f : Z) → Fails leaves failed r (a f) old new) → IfErr r (λ r. Fails leaves failed r (a f) old new)
 fails_same leaves failed a f old new (Ok x) e = tt

@@ -15,12 +15,15 @@ use Rattle.rdf_lines.specs.Machine.{Mode, Begin, AfterSubject, AfterPredicate, A
 use Rattle.rdf_lines.proofs.Sound.{sound}
 use Rattle.rdf_lines.proofs.Runs.{run_document, run_append, run_one, with_quads, then, then_ran}
 
+-- a token of the completion
 abbrev leaf : List ℕ → Leaf
 leaf w = record { text = w; at = first_place }
 
+-- an absolute IRI
 abbrev iri : Token
 iri = token IriRef (leaf (codes "<a:>"))
 
+-- what ends a statement and the document
 abbrev ends : List Token
 ends = token Dot (leaf (codes ".")) ∷ token End (leaf []) ∷ []
 
@@ -36,9 +39,11 @@ completion (AfterGraph s p o g) = ends
 completion AfterDot = token End (leaf []) ∷ []
 completion Finished = []
 
+-- the text of that IRI
 abbrev word : List ℕ
 word = codes "a:"
 
+-- each mode has a completion that is accepted
 completes : (test : List ℕ → Bool) (f : LineForm) → test word ≡ true → (m : Mode) → (qs : List Quad) × (run test f m (completion m) ≡ ran Finished qs)
 unfolding has
 completes test f h Begin = ([], refl)
@@ -51,6 +56,7 @@ completes test f h (AfterGraph s p o g) = (quad s p o (Some g) ∷ [], refl)
 completes test f h AfterDot = ([], refl)
 completes test f h Finished = ([], refl)
 
+-- tokens that are accepted begin a document
 pub viable_ran : (test : List ℕ → Bool) (f : LineForm) → test word ≡ true → (ts : List Token) (m : Mode) (qs : List Quad) → run test f Begin ts ≡ ran m qs → Viable (IsDocument test f) ts
 viable_ran test f h ts m qs e =
     let c = completes test f h m in
@@ -59,6 +65,7 @@ viable_ran test f h ts m qs e =
     let d = sound test f (ts ++ completion m) (qs ++ c.0) all in
     (completion m, document_quads 0 d.0, (d.0, d.1, d.2, refl))
 
+-- tokens that begin a document are accepted
 pub ran_viable : (test : List ℕ → Bool) (f : LineForm) (ts : List Token) → Viable (IsDocument test f) ts → (m : Mode) × (qs : List Quad) × (run test f Begin ts ≡ ran m qs)
 ran_viable test f ts v =
     let d = v.2 in

@@ -46,6 +46,7 @@ all_from : (test : ℕ → Bool) (w : List ℕ) → AllByRecursion (λ c. test c
 all_from test [] a = refl
 all_from test (c ∷ w) a = and_from _ _ a.0 (all_from test w a.1)
 
+-- a text of an expression consists of characters
 pub matched_scalar : (r : Regex) (w : List ℕ) → Matches r w → all_have scalar w ≡ true
 matched_scalar r w m = all_from scalar w (each_scalar w (all_used r w m))
   where
@@ -59,6 +60,7 @@ drop_have test zero w h = h
 drop_have test (suc n) [] h = refl
 drop_have test (suc n) (c ∷ w) h = drop_have test n w (and_parts (test c) (all_have test w) h).1
 
+-- what holds of all characters holds of a front of them
 take_have : (test : ℕ → Bool) (n : ℕ) (w : List ℕ) → all_have test w ≡ true → all_have test (take n w) ≡ true
 take_have test zero w h = refl
 take_have test (suc n) [] h = refl
@@ -70,6 +72,7 @@ Fits (leads s) = Unit
 Fits (means c) = scalar c ≡ true
 Fits fails = Unit
 
+-- an ECHAR stands for a character
 letter_fits : (c : ℕ) → Fits (letter_move c)
 letter_fits c =
     cond_both (c == 116) _ _ Fits (λ h. refl) (λ h. cond_both (c == 98) _ _ Fits (λ h. refl)
@@ -77,16 +80,19 @@ letter_fits c =
     (λ h. cond_both (c == 102) _ _ Fits (λ h. refl) (λ h. cond_both (c == 34) _ _ Fits (λ h. refl)
     (λ h. cond_both (c == 39) _ _ Fits (λ h. refl) (λ h. cond_both (c == 92) _ _ Fits (λ h. refl) (λ h. tt))))))))
 
+-- the digits of a UCHAR stand for a character
 digit_fits : (k n : ℕ) → Fits (digit_move of_string k n)
 digit_fits zero n = cond_both (scalar n) _ _ Fits (λ h. h) (λ h. tt)
 digit_fits (suc k) n = tt
 
+-- each piece of a string stands for a character
 move_fits : (s : Spot) (c : ℕ) → scalar c ≡ true → Fits (move of_string s c)
 move_fits outside c k = cond_both (c == 92) _ _ Fits (λ h. tt) (λ h. k)
 move_fits slash c k = cond_both (c == 117) _ _ Fits (λ h. tt) (λ h. cond_both (c == 85) _ _ Fits (λ g. tt) (λ g. letter_fits c))
 move_fits (digits zero n) c k = tt
 move_fits (digits (suc i) n) c k = cond_both (has hex_digit c) _ _ Fits (λ h. digit_fits i (16 * n + hex_value c)) (λ h. tt)
 
+-- the value, if there is one, consists of characters
 abbrev AreScalars : Option (List ℕ) → Type 0
 AreScalars None = Unit
 AreScalars (Some w) = all_have scalar w ≡ true
@@ -140,24 +146,29 @@ AllTokens ts = AllByRecursion (IsToken Lines) ts
 shaped : (k : Kind) (l : Leaf) → (k ≡ End → ⊥) → IsToken Lines (token k l) → Shape Lines k l.text
 shaped k l n g = ⊎_elim (λ e. absurd (n e.0)) (λ h. h.0) g
 
+-- so a string means a text
 string_formed : (l : Leaf) → IsToken Lines (token ShortString l) → all_have scalar (string_of l) ≡ true
 string_formed l g = string_scalars (shape Lines ShortString) 1 l.text (shaped ShortString l (λ e. let z : ShortString ≡ End = e in cc) g)
 
+-- a subject means one that is well formed
 name_formed : (x : Name) → name_bound has_scheme x → AllTokens (name_tokens x) → IsSubject (subject_of x) × CanWriteSubject Kept (subject_of x)
 name_formed (Ref l) b g = (absolute_iri l.text b, tt)
 name_formed (Lab l) b g = (label_in l.text (shaped LabelNode l (λ e. let z : LabelNode ≡ End = e in cc) g.0), tt)
 
+-- an object means one that is well formed
 object_formed : (x : Object) → object_bound has_scheme x → AllTokens (object_tokens x) → IsTerm (term_of x) × CanWriteTerm Kept (term_of x)
 object_formed (Named x) b g = name_formed x b g
 object_formed (Plain l) b g = ((string_formed l g.0, xsd_string_is), tt)
 object_formed (WithType l k i) b g = ((string_formed l g.0, absolute_iri i.text b), tt)
 object_formed (WithTag l t) b g = ((string_formed l g.0, tag_in t.text (shaped LangTag t (λ e. let z : LangTag ≡ End = e in cc) g.1.0)), tt)
 
+-- a graph label means one that is well formed
 graph_formed : (x : Option Name) → graph_bound has_scheme x → AllTokens (graph_tokens x) →
     IsGraph (option_map subject_of x) × CanWriteGraph Kept (option_map subject_of x)
 graph_formed None b g = (tt, tt)
 graph_formed (Some x) b g = name_formed x b g
 
+-- so the quad of a statement is well formed
 statement_formed : (f : LineForm) (s : Statement) → GoodStatement has_scheme f s → AllTokens (statement_tokens s) →
     IsQuad (quad_of s) × CanWrite Kept (quad_of s)
 statement_formed f s b g =
@@ -176,6 +187,7 @@ statement_formed f s b g =
       record { subject = x.1; object = z.1; graph = w.1 },
     )
 
+-- all quads of a document are well formed
 tree_formed : (f : LineForm) (t : Tree) → GoodDocument has_scheme f t → AllTokens (document_tokens t) → Writable Kept (plain_quads t)
 tree_formed f (last L.empty l) b g = tt
 tree_formed f (last (L.one s) l) b g = (statement_formed f s b (split (IsToken Lines) (statement_tokens s) (token End l ∷ []) g).0, tt)
@@ -184,6 +196,7 @@ tree_formed f (next (L.one s) l t) b g =
     let p = split (IsToken Lines) (statement_tokens s) (token LineEnd l ∷ document_tokens t) g in
     (statement_formed f s b.0 p.0, tree_formed f t b.1 p.1.1)
 
+-- the law that they can be written
 pub document_writable : DocumentIsWritable
 document_writable form limit iri bytes qs document =
     let (tree, tokens, bound, same) = without_marks form (tokens_of Lines limit bytes true).tokens qs (document.1, document.2, document.3) in

@@ -4,6 +4,7 @@ use Rattle.std.proofs.lemmas.List.{take-take}
 use Rattle.std.proofs.Math.Seq.{take-append_seam}
 use Rattle.rdf_lines.specs.WrittenBytes.{BeginsWith}
 
+-- bytes that grew still begin with what they began with
 pub begins_with_front : (a b w c : List ℕ) → b ≡ a ++ w → BeginsWith b c → BeginsWith a c
 begins_with_front a b w c e h =
     let l : length b ≡ length a + length w = ap length e ∙ length-append a w in
@@ -15,6 +16,7 @@ pub on_ok : {T E : Type 0} {P Q : Type 0} (r : Result T E) → (P → Q) → OnO
 on_ok (Ok x) f h = f h
 on_ok (Err e) f h = tt
 
+-- what follows from an error, of the error
 pub on_err : {T E : Type 0} {P Q : Type 0} (r : Result T E) → (P → Q) → OnErr r P → OnErr r Q
 on_err (Ok x) f h = tt
 on_err (Err e) f h = f h

@@ -48,6 +48,7 @@ value_short s (c ∷ w) v e = by_move (move of_string s c) (λ t u f. value_shor
         omega arith
     by_move fails h v e = absurd (let h : None ≡ Some v = e in cc)
 
+-- a token without its delimiters is shorter by them
 inside_short : (n : ℕ) (w : List ℕ) → length (inside n w) ≤ length w - n
 inside_short n w = let a = length-take (length w - 2 * n) (drop n w) in let b = length-drop n w in omega (arith, a, b)
 
@@ -59,12 +60,14 @@ string_short n w = by (string_value (inside n w)) refl
     by None e = omega arith
     by (Some v) e = let a = value_short outside (inside n w) v e in let b = inside_short n w in omega arith
 
+-- a character is written with two at most
 escaped_short : (c : ℕ) → length (escaped c) ≤ 2
 escaped_short c =
     cond_both (c == 34) _ _ (λ x. length x ≤ 2) (λ h. omega arith)
     (λ h. cond_both (c == 92) _ _ (λ x. length x ≤ 2) (λ h. omega arith)
     (λ h. cond_both (c == 10) _ _ (λ x. length x ≤ 2) (λ h. omega arith) (λ h. cond_both (c == 13) _ _ (λ x. length x ≤ 2) (λ h. omega arith) (λ h. omega arith))))
 
+-- a text is written with twice as many characters at most
 all_escaped : (w : List ℕ) → length (flat_map escaped w) ≤ 2 * length w
 all_escaped [] = omega arith
 all_escaped (c ∷ w) = let a = escaped_short c in let b = all_escaped w in let s = length-append (escaped c) (flat_map escaped w) in omega arith
@@ -73,9 +76,11 @@ all_escaped (c ∷ w) = let a = escaped_short c in let b = all_escaped w in let 
 pub written_string : (w : List ℕ) → length (string_text w) ≤ 2 + 2 * length w
 written_string w = let a = all_escaped w in let s = length-append (flat_map escaped w) (34 ∷ []) in omega arith
 
+-- an IRI is written with two brackets more
 pub written_iri : (i : List ℕ) → length (iri_text i) ≤ 2 + byte_len i
 written_iri i = let a = length-le-encodes i in let s = length-append i (62 ∷ []) in omega arith
 
+-- the size of the IRI of xsd:string, which a limit has to allow
 xsd_bytes : byte_len xsd_string ≡ 39
 unfolding encode
 xsd_bytes = refl
@@ -156,6 +161,7 @@ module _ (limit n token_then iri_then : ℕ) (a : 2 * limit ≤ token_then) (b :
     good ts (All-tail (λ t. length t.text ≤ limit) t ts s) (λ ahead behind u r p. k (t ∷ ahead) behind u (ap (λ x. t ∷ x) r) p),
   )
 
+-- the law that what was written is read to its end
 pub document_read_back : WrittenDocumentIsRead
 document_read_back form limit n bytes qs document whole token_then iri_then a b c d e =
     let ts = (tokens_of Lines limit bytes true).tokens in

@@ -36,37 +36,46 @@ uses_scalar (r · s) c e = ⊎_elim (λ x. uses_scalar r c x) (λ x. uses_scalar
 uses_scalar (r ∣ s) c e = ⊎_elim (λ x. uses_scalar r c x) (λ x. uses_scalar s c x) (or_cases (uses r c) (uses s c) e)
 uses_scalar (many r) c e = uses_scalar r c e
 
+-- what std calls a character is one here
 same_scalar : (c : ℕ) → scalar c ≡ true → utf8_scalar c ≡ true
 same_scalar c h = grind (arith, nat_tests)
 
+-- characters of a class are characters
 scalars_from : (test : ℕ → Bool) → ((c : ℕ) → test c ≡ true → scalar c ≡ true) → (w : List ℕ) → AllByRecursion (λ c. test c ≡ true) w → scalars w ≡ true
 scalars_from test f [] a = refl
 scalars_from test f (c ∷ w) a = and_from _ _ (same_scalar c (f c a.0)) (scalars_from test f w a.1)
 
+-- what passes a test of characters consists of characters
 scalars_have : (test : ℕ → Bool) → ((c : ℕ) → test c ≡ true → scalar c ≡ true) → (w : List ℕ) → all_have test w ≡ true → scalars w ≡ true
 scalars_have test f [] a = refl
 scalars_have test f (c ∷ w) a = let p = and_parts (test c) (all_have test w) a in and_from _ _ (same_scalar c (f c p.0)) (scalars_have test f w p.1)
 
+-- a text of an expression consists of characters
 matched_scalars : (r : Regex) (w : List ℕ) → Matches r w → scalars w ≡ true
 matched_scalars r w m = scalars_from (uses r) (uses_scalar r) w (all_used r w m)
 
+-- two texts of characters have only characters together
 scalars_append : (u v : List ℕ) → scalars u ≡ true → scalars v ≡ true → scalars (u ++ v) ≡ true
 scalars_append [] v a b = b
 scalars_append (c ∷ u) v a b = let p = and_parts (utf8_scalar c) (scalars u) a in and_from _ _ p.0 (scalars_append u v p.1 b)
 
+-- a member of a class is a character
 has_scalar : (k : Class) (c : ℕ) → has k c ≡ true → scalar c ≡ true
 unfolding has
 has_scalar k c h = (and_parts (scalar c) _ h).0
 
+-- an IRI is written in characters
 iri_scalars : (i : List ℕ) → IsIri i → scalars (iri_text i) ≡ true
 iri_scalars i h = scalars_append i (62 ∷ []) (scalars_have (has iri_char) (has_scalar iri_char) i h.characters) refl
 
+-- a subject is written in characters
 subject_scalars : (s : Subject) → IsSubject s → CanWriteSubject Kept s → scalars (subject_text s) ≡ true
 subject_scalars (Iri i) h c = iri_scalars i h
 subject_scalars (Blank (Label x)) h c = matched_scalars (label_name Lines) x h
 subject_scalars (Blank (Anon n)) h c = absurd c
 subject_scalars (Blank (Cell n)) h c = absurd c
 
+-- a character is escaped in characters
 escaped_scalars : (c : ℕ) → scalar c ≡ true → scalars (escaped c) ≡ true
 escaped_scalars c h =
     test 34 _ _ refl (test 92 _ _ refl (test 10 _ _ refl (test 13 _ _ refl (and_from _ true (same_scalar c h) refl))))
@@ -74,26 +83,32 @@ escaped_scalars c h =
     test : (x : ℕ) (u v : List ℕ) → scalars u ≡ true → scalars v ≡ true → scalars (cond (c == x) u v) ≡ true
     test x u v a b = ⊎_elim (λ e. ap scalars (cond-true (c == x) u v e) ∙ a) (λ e. ap scalars (cond-false (c == x) u v e) ∙ b) (cases_Bool (c == x))
 
+-- a text is escaped in characters
 all_escaped : (w : List ℕ) → all_have scalar w ≡ true → scalars (flat_map escaped w) ≡ true
 all_escaped [] a = refl
 all_escaped (c ∷ w) a = let p = and_parts (scalar c) (all_have scalar w) a in scalars_append (escaped c) (flat_map escaped w) (escaped_scalars c p.0) (all_escaped w p.1)
 
+-- a string is written in characters
 string_scalars : (w : List ℕ) → all_have scalar w ≡ true → scalars (string_text w) ≡ true
 string_scalars w a = scalars_append (flat_map escaped w) (34 ∷ []) (all_escaped w a) refl
 
+-- a datatype is written in characters
 type_scalars : (b : Bool) (i : List ℕ) → IsIri i → scalars (type_text b i) ≡ true
 type_scalars true i h = refl
 type_scalars false i h = iri_scalars i h
 
+-- an object is written in characters
 term_scalars : (t : Term) → IsTerm t → CanWriteTerm Kept t → scalars (term_text t) ≡ true
 term_scalars (Resource s) h c = subject_scalars s h c
 term_scalars (Literal w (Lang t)) h c = scalars_append (string_text w) (64 ∷ t) (string_scalars w h.0) (matched_scalars tag_name t h.1)
 term_scalars (Literal w (Typed i)) h c = scalars_append (string_text w) (type_text (bytes_eq i xsd_string) i) (string_scalars w h.0) (type_scalars (bytes_eq i xsd_string) i h.1)
 
+-- a graph label is written in characters
 graph_scalars : (g : Option Subject) → IsGraph g → CanWriteGraph Kept g → scalars (graph_text g) ≡ true
 graph_scalars None h c = refl
 graph_scalars (Some g) h c = scalars_append (subject_text g) space (subject_scalars g h c) refl
 
+-- a line consists of characters
 pub quad_scalars : (q : Quad) → IsQuad q → CanWrite Kept q → scalars (quad_text q) ≡ true
 quad_scalars q h c =
     let a = scalars_append (subject_text q.subject) space (subject_scalars q.subject h.subject c.subject) refl in
@@ -103,6 +118,7 @@ quad_scalars q h c =
     scalars_append (upto_graph q ++ 46 ∷ []) (10 ∷ []) (scalars_append (upto_graph q) (46 ∷ []) (scalars_append (upto_object q) (graph_text q.graph)
     (scalars_append (upto_predicate q) (term_text q.object ++ space) (scalars_append (upto_subject q) (iri_text q.predicate ++ space) a b) d) e) refl) refl
 
+-- what is written consists of characters, so it can be encoded in UTF-8
 pub text_scalars : (qs : List Quad) → Written qs → scalars (flat_map quad_text qs) ≡ true
 text_scalars [] h = refl
 text_scalars (q ∷ qs) h = scalars_append (quad_text q) (flat_map quad_text qs) (quad_scalars q h.0.0 h.0.1) (text_scalars qs h.1)

@@ -22,6 +22,7 @@ use Rattle.rdf_stream.specs.Faults.{IsOfDocument, IsRefusal, fault_by}
 use Rattle.rdf_stream.specs.Pieces.{ReadStops, ReadsAll, SourceFails}
 use Rattle.rdf_stream.proofs.PiecesLemmas.{all_given, too_long_more}
 
+-- a sink that only counts stays as it is
 abbrev pub TakesNone : NoQuads → Quad → NoQuads → Type 0
 TakesNone before q after = after ≡ before
 
@@ -96,6 +97,7 @@ refused_of_document l reason.Sink bytes e at h = h.1
 refused_of_document l reason.Ended bytes e at h = h.1
 refused_of_document l why bytes e at h = tt
 
+-- a refusal that a check reports is one of the document
 halts_of_document : (told : StreamFault) (l : Language) (bytes : List ℕ) (e : Bool) → ChecksNoMore told l bytes e → IsRefusal told
 halts_of_document (stream.Refused f) l bytes e h = refused_of_document l f.reason bytes e (place_of f) h
 halts_of_document stream.Read l bytes e h = tt

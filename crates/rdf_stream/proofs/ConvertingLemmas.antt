@@ -31,6 +31,7 @@ use Rattle.rdf_stream.specs.Faults.{fault_by}
 use Rattle.rdf_stream.specs.LineOut.{Leaves, Moves, SameOut, Takes, Writes}
 use Rattle.rdf_stream.proofs.LineOutLemmas.{Taken, Tried, bytes_of, bytes_of-append, front_moves, moves_all, moves_front, moves_more, moves_on, puts_live, puts_tries, same_out, taken, tried}
 
+-- quads that can be written can be written together
 both_writable : (s : Style) (qs rs : List Quad) → Writable s qs → Writable s rs → Writable s (qs ++ rs)
 both_writable s [] rs p q = q
 both_writable s (x ∷ qs) rs p q = (p.0, both_writable s qs rs p.1 q)
@@ -40,6 +41,7 @@ first_ones : (P : Quad → Type 0) (qs rs : List Quad) → AllByRecursion P (qs 
 first_ones P [] rs h = tt
 first_ones P (q ∷ qs) rs h = (h.0, first_ones P qs rs h.1)
 
+-- what holds of all quads holds of the last ones
 last_ones : (P : Quad → Type 0) (qs rs : List Quad) → AllByRecursion P (qs ++ rs) → AllByRecursion P rs
 last_ones P [] rs h = h
 last_ones P (q ∷ qs) rs h = last_ones P qs rs h.1

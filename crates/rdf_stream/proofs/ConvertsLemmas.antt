@@ -52,6 +52,7 @@ refuses_document job reason.Sink bytes e at old new h = h.1
 refuses_document job reason.Ended bytes e at old new h = h.1
 refuses_document job why bytes e at old new h = tt
 
+-- a refusal that a conversion reports is one of the document
 halts_document : (told : StreamFault) (job : Conversion) (bytes : List ℕ) (e : Bool) (old new : Option (List ℕ)) (failed : Bool) → HaltsFor told job bytes e old new failed → IsRefusal told
 halts_document (stream.Refused f) job bytes e old new failed h = refuses_document job f.reason bytes e (place_of f) old new h
 halts_document stream.Read job bytes e old new failed h = tt

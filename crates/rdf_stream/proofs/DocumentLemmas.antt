@@ -19,20 +19,24 @@ use Rattle.rdf_trig.specs.Accepting.{tree_words}
 use Rattle.rdf_trig.proofs.code.LawfulGrammar.{lawful as trees_lawful}
 use Rattle.rdf_stream.specs.Converting.{Suits}
 
+-- each node of a line document has a label, so it can be written as it is
 name_kept : (n : Name) → CanWriteSubject Kept (subject_of n)
 name_kept (Ref l) = tt
 name_kept (Lab l) = tt
 
+-- each object of a line document can be written as it is
 object_kept : (o : Object) → CanWriteTerm Kept (term_of o)
 object_kept (Named n) = name_kept n
 object_kept (Plain s) = tt
 object_kept (WithType s c i) = tt
 object_kept (WithTag s t) = tt
 
+-- each graph label of a line document can be written as it is
 graph_kept : (g : Option Name) → CanWriteGraph Kept (option_map subject_of g)
 graph_kept None = tt
 graph_kept (Some n) = name_kept n
 
+-- each quad of a line document can be written as it is
 statement_kept : (s : Statement) → CanWrite Kept (quad_of s)
 statement_kept s = record { subject = name_kept s.subject; object = object_kept s.object; graph = graph_kept s.graph }
 
@@ -41,6 +45,7 @@ more_kept : (b : Bool) (q : Quad) (qs : List Quad) → CanWrite Kept q → AllBy
 more_kept true q qs h hs = (h, hs)
 more_kept false q qs h hs = hs
 
+-- the quads that are due of a line document can be written with their labels kept
 marked_kept : (d : Document) (n k : ℕ) → AllByRecursion (CanWrite Kept) (items_below k (document_quads n d))
 marked_kept (last empty e) n k = tt
 marked_kept (last (one s) e) n k = more_kept _ (quad_of s) [] (statement_kept s) tt
@@ -53,14 +58,17 @@ due_kept f ts qs d =
     let (tree, same, good, marks) = d.2 in
     subst (AllByRecursion (CanWrite Kept)) d.3 (subst (λ ms. AllByRecursion (CanWrite Kept) (items_below (length ts) ms)) marks (marked_kept tree 0 (length ts)))
 
+-- with a letter before it each node can be written
 subject_tagged : (s : Subject) → CanWriteSubject Tagged s
 subject_tagged (Iri i) = tt
 subject_tagged (Blank n) = tt
 
+-- with a letter before its label each object can be written
 term_tagged : (t : Term) → CanWriteTerm Tagged t
 term_tagged (Resource s) = subject_tagged s
 term_tagged (Literal w t) = tt
 
+-- with a letter before its label each graph label can be written
 graph_tagged : (g : Option Subject) → CanWriteGraph Tagged g
 graph_tagged None = tt
 graph_tagged (Some s) = subject_tagged s

@@ -21,6 +21,7 @@ use Rattle.rdf_stream.proofs.WellFormedLemmas.{quad_had}
 pub waits : (known : Option (List ℕ)) (bytes rest : List ℕ) → rest ≡ bytes → Moves known known bytes rest
 waits known bytes rest e = record { front = []; whole = sym e; taken = Appends-nil known }
 
+-- bytes that only wait were not taken
 pub waits_same : (known : Option (List ℕ)) (bytes rest : List ℕ) → rest ≡ bytes → Moves known known (bytes ++ []) rest
 waits_same known bytes rest e = waits known (bytes ++ []) rest (e ∙ sym (append-nil bytes))
 
@@ -36,9 +37,11 @@ moves_on a b c bytes more rest last m n = record {
 pub moves_more : (a b : Option (List ℕ)) (bytes more rest : List ℕ) → Moves a b bytes rest → Moves a b (bytes ++ more) (rest ++ more)
 moves_more a b bytes more rest m = record { front = m.front; whole = ap (λ l. l ++ more) m.whole ∙ append_assoc m.front rest more; taken = m.taken }
 
+-- a drain that took a front of the bytes has grown by a beginning of them
 pub moves_front : (a b : Option (List ℕ)) (bytes rest : List ℕ) → Moves a b bytes rest → AppendsFront a b bytes
 moves_front a b bytes rest m = (m.front, rest, m.whole, m.taken)
 
+-- a drain that has grown by a beginning of the bytes took a front of them
 pub front_moves : (a b : Option (List ℕ)) (bytes : List ℕ) → AppendsFront a b bytes → (rest : List ℕ) × Moves a b bytes rest
 front_moves a b bytes f = (f.1, record { front = f.0; whole = f.2; taken = f.3 })
 
@@ -50,9 +53,11 @@ moves_all a b c bytes rest m t = subst (Appends a c) (sym m.whole) (Appends-tran
 abbrev pub bytes_of : Style → List Quad → List ℕ
 bytes_of s qs = encode_utf8_all (text s qs)
 
+-- the lines of two lists are those of the first and then the second
 pub bytes_of-append : (s : Style) (qs rs : List Quad) → bytes_of s (qs ++ rs) ≡ bytes_of s qs ++ bytes_of s rs
 bytes_of-append s qs rs = ap encode_utf8_all (flat_map-append (line s) qs rs) ∙ encodes-append (text s qs) (text s rs)
 
+-- the style and the place of the bytes stay the same over two steps
 pub same_out : {D A : Type 0} (a b c : LineOut D A) → SameOut a b → SameOut b c → SameOut a c
 same_out a b c p q = record { style = q.style ∙ p.style; buffer = q.buffer ∙ p.buffer; drain = q.drain ∙ p.drain }
 

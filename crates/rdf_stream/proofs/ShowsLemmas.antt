@@ -36,6 +36,7 @@ use Rattle.rdf_stream.specs.ShowParts.{AreAll, Begins, Halts, HaltsFor, HasShown
 use Rattle.rdf_stream.proofs.PiecesLemmas.{all_given}
 use Rattle.rdf_stream.proofs.LineOutLemmas.{front_moves, moves_all, moves_front, moves_more, moves_on, same_out}
 
+-- the lines of two lists of tokens are those of the first and then the second
 pub lines-append : (ts us : List Token) → token_lines (ts ++ us) ≡ token_lines ts ++ token_lines us
 lines-append [] us = refl
 lines-append (t ∷ ts) us = ap (λ l. shown t ++ l) (lines-append ts us) ∙ sym (append_assoc (shown t) (token_lines ts) (token_lines us))
@@ -48,6 +49,7 @@ front_more a b bytes more f = (f.0, f.1 ++ more, ap (λ l. l ++ more) f.2 ∙ ap
 fronts : (a b : Option (List ℕ)) (r : Reading) (ts us : List Token) → r.tokens ≡ ts ++ us → AppendsFront a b (token_lines ts) → ShowsFront r a b
 fronts a b r ts us e f = subst (AppendsFront a b) (sym (lines-append ts us) ∙ ap token_lines (sym e)) (front_more a b (token_lines ts) (token_lines us) f)
 
+-- the lines of the first tokens are some of those that may be shown
 some_lines : (a b : Option (List ℕ)) (r : Reading) (ts us : List Token) → r.tokens ≡ ts ++ us → Appends a b (token_lines ts) → ShowsSome r a b
 some_lines a b r ts us e w = record { first = ts; others = us; tokens = e; written = w }
 
@@ -90,6 +92,7 @@ module _ (job : JobRead) (bytes more : List ℕ) (e : Bool) (old new : Option (L
   halts_more stream.Write failed h = (h.0, front_longer h.1)
   halts_more stream.Memory failed h = (h.0, some_longer h.1)
 
+-- what stops showing before more bytes come is the same after them
 pub all_halt : {D A : Type 0} (contents : D → Option (List ℕ)) (failed : D → Bool) (told : StreamFault) (job : JobRead) (bytes more : List ℕ) (e : Bool) (first lines : LineOut D A) →
     Halts contents failed told job bytes false first lines → Halts contents failed told job (bytes ++ more) e first lines
 all_halt contents failed told job bytes more e first lines h = record {
@@ -495,12 +498,14 @@ module _ {D A : Type 0} (contents : D → Option (List ℕ)) (failed : D → Boo
 
 -- ---- a whole run
 
+-- a refusal of tokens is one of the document
 refusal_of_document : (why : Reason) (job : JobRead) (bytes : List ℕ) (e : Bool) (at : Place) (old new : Option (List ℕ)) → ShowRefuses why job bytes e at old new → IsOfDocument why
 refusal_of_document reason.Memory job bytes e at old new h = h
 refusal_of_document reason.Sink job bytes e at old new h = h
 refusal_of_document reason.Ended job bytes e at old new h = h
 refusal_of_document why job bytes e at old new h = tt
 
+-- a refusal that showing reports is one of the document
 halts_of_document : (told : StreamFault) (job : JobRead) (bytes : List ℕ) (e : Bool) (old new : Option (List ℕ)) (failed : Bool) → HaltsFor told job bytes e old new failed → IsRefusal told
 halts_of_document (stream.Refused f) job bytes e old new failed h = refusal_of_document f.reason job bytes e (place_of f) old new h
 halts_of_document stream.Read job bytes e old new failed h = tt
@@ -576,6 +581,7 @@ module _ {D : Type 0} (A : Type 0) (contents : D → Option (List ℕ)) (failed 
 
 -- ---- parts that follow each other
 
+-- a part of a piece was taken, and the rest is left
 pub front_taken : (piece front rest now : List ℕ) (n : ℕ) → piece ≡ front ++ rest → now ≡ drop n rest → piece ≡ (front ++ take n rest) ++ now
 front_taken piece front rest now n e d =
     e ∙ (ap (λ l. front ++ l) (sym (take-append-drop n rest) ∙ ap (λ l. take n rest ++ l) (sym d)) ∙ sym (append_assoc front (take n rest) now))
@@ -600,6 +606,7 @@ module _ {D A : Type 0} (contents : D → Option (List ℕ)) (failed : D → Boo
 
 -- ---- a line that was not put
 
+-- each token but the end has its line
 pub shown_line : (t : Token) → is_end t.kind ≡ false → shown t ≡ token_line t
 shown_line t e = cond-false _ _ _ e
 

@@ -5,6 +5,7 @@ use Rattle.rdf_tokens.specs.declared.token.Fault.{Fault}
 use Rattle.rdf_stream.specs.declared.fault.StreamFault.{StreamFault}
 use Rattle.rdf_stream.specs.declared.fault.StreamFault.TheVariants.{Refused, Write, Memory}
 
+-- want of memory and a failing sink are faults of the run; for any other reason the document is refused
 abbrev pub fault_by : Reason → Fault → StreamFault
 fault_by OutOfMemory f = Memory
 fault_by Sink f = Write

@@ -18,6 +18,7 @@ pub record Conversion : Type 1 where
   pub language : Language
   pub style : Style
 
+-- the conversion of what a grammar reads from this start on, with this limit on its tokens
 abbrev pub conversion : {G X : Type 0} → Words G X Quad → X → ℕ → Style → Conversion
 conversion w x limit style = record { language = in_words w x limit; style = style }
 
@@ -30,8 +31,10 @@ abbrev pub conversion_by : Kind → JobRead → Conversion
 conversion_by (Line form) job = record { language = in_lines form job.limits.token job.limits.iri; style = Kept }
 conversion_by (Tree form) job = record { language = language form (tree_job form job).start; style = Tagged }
 
+-- what a job asks of `convert`, by its format, its base and its limits
 abbrev pub conversion_of : JobRead → Conversion
 conversion_of job = conversion_by (kind_of job.form) job
 
+-- what a job reads: the documents of its format, from its base on and within its limits
 abbrev pub language_of : JobRead → Language
 language_of job = (conversion_of job).language

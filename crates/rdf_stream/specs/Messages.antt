@@ -6,6 +6,7 @@ use Rattle.rdf_tokens.specs.declared.token.Fault.{Fault}
 use Rattle.rdf_stream.specs.declared.fault.StreamFault.{StreamFault}
 use Rattle.rdf_stream.specs.declared.fault.StreamFault.TheVariants.{Refused, Read, Write, Memory}
 
+-- the words for each reason in a message
 abbrev pub reason_text : Reason → List ℕ
 reason_text reason.BadUtf8 = codes "bad UTF-8"
 reason_text reason.NoToken = codes "no token"
@@ -27,6 +28,7 @@ reason_text reason.TooManyBindings = codes "too many bindings"
 abbrev pub place_text : Fault → List ℕ
 place_text f = reason_text f.reason ++ codes " at byte " ++ decimal f.offset ++ codes ", line " ++ decimal f.line
 
+-- a refusal is reported with its place, and any other fault by its words alone
 abbrev pub fault_text : StreamFault → List ℕ
 fault_text (Refused f) = place_text f
 fault_text Read = codes "read failed"

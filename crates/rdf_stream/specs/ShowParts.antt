@@ -63,6 +63,7 @@ HaltsFor fault.Read job bytes is_end old new failed = ⊥
 HaltsFor fault.Write job bytes is_end old new failed = (failed ≡ true) × ShowsFront (tokens_in job bytes is_end) old new
 HaltsFor fault.Memory job bytes is_end old new failed = (failed ≡ false) × ShowsSome (tokens_in job bytes is_end) old new
 
+-- Since showing began these bytes came, and they are not read on.
 pub record Halts {D A : Type 0} (contents : D → Option (List ℕ)) (failed : D → Bool) (told : StreamFault) (job : JobRead) (bytes : List ℕ) (is_end : Bool) (first lines : LineOut D A) : Type 0 where
   pub same : SameOut first lines
   pub halts : HaltsFor told job bytes is_end (contents first.drain.now) (contents lines.drain.now) (failed lines.drain.now)
@@ -72,6 +73,7 @@ abbrev pub IsShowing : {D A : Type 0} → (D → Option (List ℕ)) → (D → B
 IsShowing {D} {A} contents failed lines v s =
     (job : JobRead) × (bytes : List ℕ) × (tokens : List Token) × (first : LineOut D A) × HasShown contents failed job bytes tokens first lines v s
 
+-- the same where all tokens that the bytes decide were shown
 abbrev pub IsShowingAll : {D A : Type 0} → (D → Option (List ℕ)) → (D → Bool) → LineOut D A → Unread → Summary → Type 0
 IsShowingAll {D} {A} contents failed lines v s =
     (job : JobRead) × (bytes : List ℕ) × (first : LineOut D A) × HasShownAll contents failed job bytes first lines v s

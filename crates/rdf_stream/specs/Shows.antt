@@ -20,6 +20,7 @@ use Rattle.rdf_stream.specs.declared.fault.StreamFault.TheVariants.{Refused, Rea
 use Rattle.rdf_stream.specs.Devices.{AppendsFront, HasBroken, HasGiven, Reading as Reader}
 use Rattle.rdf_stream.specs.Jobs.{JobRead}
 
+-- the tokens of a format: those of N-Triples and N-Quads, or those of Turtle and TriG
 abbrev pub dialect_of : Form → Dialect
 dialect_of NTriples = Lines
 dialect_of NQuads = Lines
@@ -71,6 +72,7 @@ token_line t = decimal t.at.offset ++ codes " " ++ decimal (length t.text) ++ co
 abbrev pub shown : Token → List ℕ
 shown t = cond (is_end t.kind) [] (token_line t)
 
+-- what `show` writes of some tokens: a line for each, and none for the end of the input
 abbrev pub token_lines : List Token → List ℕ
 token_lines [] = []
 token_lines (t ∷ ts) = shown t ++ token_lines ts

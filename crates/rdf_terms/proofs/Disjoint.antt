@@ -18,9 +18,11 @@ starts ok (r · s) = starts ok r && (not (nullable r) || starts ok s)
 starts ok (r ∣ s) = starts ok r && starts ok s
 starts ok (many r) = starts ok r
 
+-- a text with a character is not empty
 no_first : (c : ℕ) (w : List ℕ) → c ∷ w ≡ [] → ⊥
 no_first c w e = cc
 
+-- an implication between truth values, from its test
 not_or : (a b : Bool) → a ≡ true → (not a || b) ≡ true → b ≡ true
 not_or true b e h = h
 not_or false b e h = absurd (false≢true e)
@@ -60,6 +62,7 @@ abbrev pub meets : List ℕ → List ℕ → Bool
 meets xs [] = false
 meets xs (c ∷ w) = one_of xs c || meets xs w
 
+-- two texts meet a set of characters where one of them does
 meets-append : (xs u v : List ℕ) → meets xs (u ++ v) ≡ (meets xs u || meets xs v)
 meets-append xs [] v = refl
 meets-append xs (c ∷ u) v = ap (λ b. one_of xs c || b) (meets-append xs u v) ∙ assoc (one_of xs c) (meets xs u) (meets xs v)
@@ -73,6 +76,7 @@ abbrev pub class_out : List ℕ → Class → Bool
 class_out [] k = true
 class_out (x ∷ xs) k = not (has k x) && class_out xs k
 
+-- a class that tests as outside of a set has none of its characters
 pub out-sound : (xs : List ℕ) (k : Class) (c : ℕ) → class_out xs k ≡ true → has k c ≡ true → one_of xs c ≡ false
 out-sound [] k c e h = refl
 out-sound (x ∷ xs) k c e h =
@@ -89,6 +93,7 @@ class_in xs (the x) = one_of xs x
 class_in xs digit = agree_below (λ n. one_of xs (48 + n)) (λ n. true) 10
 class_in xs k = false
 
+-- a class that tests as inside of a set has its characters alone
 pub in-sound : (xs : List ℕ) (k : Class) (c : ℕ) → class_in xs k ≡ true → has k c ≡ true → one_of xs c ≡ true
 unfolding has
 in-sound xs (the x) c e h = ap (one_of xs) (eqb-true c x (and_parts (scalar c) (c == x) h).1) ∙ e
@@ -100,6 +105,7 @@ in-sound xs digit c e h =
     ap (one_of xs) same ∙ agree_below_at (λ n. one_of xs (48 + n)) (λ n. true) 10 (c - 48) e (omega arith)
 in-sound xs k c e h = absurd (false≢true e)
 
+-- a repetition meets a set of characters only where a part does
 none-met-parts : (xs : List ℕ) (P : List ℕ → Type 0) → ((u : List ℕ) → P u → meets xs u ≡ false) → (ps : List (List ℕ)) → AllByRecursion P ps → meets xs (concat ps) ≡ false
 none-met-parts xs P h [] a = refl
 none-met-parts xs P h (p ∷ ps) a = meets-append xs p (concat ps) ∙ (ap (λ b. b || meets xs (concat ps)) (h p a.0) ∙ none-met-parts xs P h ps a.1)
@@ -126,6 +132,7 @@ needs xs (r · s) = needs xs r || needs xs s
 needs xs (r ∣ s) = needs xs r && needs xs s
 needs xs (many r) = false
 
+-- an expression that needs a character of a set has it in each text
 pub some-met : (xs : List ℕ) (r : Regex) (w : List ℕ) → needs xs r ≡ true → Matches r w → meets xs w ≡ true
 some-met xs nothing w e m = absurd m
 some-met xs empty w e m = absurd (false≢true e)
@@ -142,6 +149,7 @@ some-met xs (many r) w e m = absurd (false≢true e)
 abbrev pub parted : List ℕ → Regex → Regex → Bool
 parted xs r s = (needs xs r && within (class_out xs) s) || (within (class_out xs) r && needs xs s)
 
+-- expressions have no text in common, if one needs a character that the other cannot have
 pub parted-apart : (xs : List ℕ) (r s : Regex) (w : List ℕ) → parted xs r s ≡ true → Matches r w → Matches s w → ⊥
 parted-apart xs r s w e m n =
     ⊎_elim
@@ -154,6 +162,7 @@ abbrev pub parted_by : List (List ℕ) → Regex → Regex → Bool
 parted_by [] r s = false
 parted_by (xs ∷ more) r s = parted xs r s || parted_by more r s
 
+-- expressions that one of several sets of characters sets apart have no text in common
 pub parted_by-apart : (marks : List (List ℕ)) (r s : Regex) (w : List ℕ) → parted_by marks r s ≡ true → Matches r w → Matches s w → ⊥
 parted_by-apart [] r s w e m n = false≢true e
 parted_by-apart (xs ∷ more) r s w e m n =

@@ -21,15 +21,18 @@ digit_steps n left h =
     let f : (n + 1) * 16 ≡ 16 * n + 16 = omega arith in
     subst (λ k. k ≤ 2 ^ 32) (e ∙ ap (λ k. k * 16 ^ left) f) h
 
+-- a hex digit more leaves room for the digits to come, so the code's number does not overflow
 pub digit_room : (n left v : ℕ) → (n + 1) * 16 ^ suc left ≤ 2 ^ 32 → v < 16 → (16 * n + v + 1) * 16 ^ left ≤ 2 ^ 32
 digit_room n left v h l =
     let le : 16 * n + v + 1 ≤ 16 * n + 16 = omega arith in
     omega (arith, mul-le-mul_right (16 ^ left) le, digit_steps n left h)
 
+-- the sum with one hex digit more does not overflow
 pub digit_fits : (n left : ℕ) → (n + 1) * 16 ^ suc left ≤ 2 ^ 32 → 16 * n + 16 ≤ 2 ^ 32
 digit_fits n left h =
     omega (arith, le-mul_of_pos_right (16 * n + 16) (one-le-pow left 16 (omega arith)), digit_steps n left h)
 
+-- the value of a text by the move of its first character
 value-cons : (i : Inside) (s : Spot) (c : ℕ) (w : List ℕ) → value i s (c ∷ w) ≡ go (move i s c) (λ t. value i t w)
 value-cons i outside c w = refl
 value-cons i slash c w = refl
@@ -41,6 +44,7 @@ pub value-next : (i : Inside) (s : Spot) (bytes rest : List ℕ) (c : ℕ) (m : 
 value-next i s bytes rest c m u e h =
     ap (value i s) (next_char bytes rest c u e).chars ∙ value-cons i s c (chars rest) ∙ ap (λ x. go x (λ t. value i t (chars rest))) (sym h)
 
+-- a value that is mapped is there where it was
 pub is_some-map : (f : List ℕ → List ℕ) (o : Option (List ℕ)) → is_some (option_map f o) ≡ is_some o
 is_some-map f None = refl
 is_some-map f (Some w) = refl
@@ -55,6 +59,7 @@ not_outside i (Digits left n) bytes h e = ap (value i (digits (suc left) n)) e
 abbrev pub behind : List ℕ → Option (List ℕ) → Option (List ℕ)
 behind out o = option_map (λ w. chars out ++ w) o
 
+-- before the first character nothing has been given out
 pub behind-nil : (out : List ℕ) (o : Option (List ℕ)) → out ≡ [] → behind out o ≡ o
 behind-nil out None e = refl
 behind-nil out (Some w) e = ap (λ x. Some (x ++ w)) (ap chars e ∙ chars-nil)
@@ -63,10 +68,12 @@ behind-nil out (Some w) e = ap (λ x. Some (x ++ w)) (ap chars e ∙ chars-nil)
 std_scalar : (c : ℕ) → scalar c ≡ true → lib_scalar c ≡ true
 std_scalar c h = grind (arith, nat_tests)
 
+-- a character that is encoded is one character
 chars-encode : (c : ℕ) → scalar c ≡ true → chars (encode_utf8 c) ≡ c ∷ []
 chars-encode c h =
     ap chars (sym (append-nil (encode_utf8 c))) ∙ chars-encodes (c ∷ []) (and_from _ _ (std_scalar c h) refl)
 
+-- a character that was pushed is the next of the value
 pub behind-push : (out grown : List ℕ) (c : ℕ) (o : Option (List ℕ)) → IsUtf8 out → scalar c ≡ true → grown ≡ out ++ encode_utf8 c →
     behind out (option_map (λ w. c ∷ w) o) ≡ behind grown o
 behind-push out grown c None u h e = refl
@@ -92,6 +99,7 @@ pub built_none : (i : Inside) (text rest out : List ℕ) → rest ≡ text → o
     value i outside (chars text) ≡ behind out (value i outside (chars rest))
 built_none i text rest out e f = ap (λ x. value i outside (chars x)) (sym e) ∙ sym (behind-nil out _ f)
 
+-- after the last character the text that was built is the value
 pub built_all : (i : Inside) (s : CodeSpot) (out bytes : List ℕ) → s ≡ Outside → chars bytes ≡ [] →
     behind out (value i (spot_of s) (chars bytes)) ≡ Some (chars out)
 built_all i s out bytes e f =

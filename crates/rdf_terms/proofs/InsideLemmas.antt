@@ -28,6 +28,7 @@ inside-take m b w h =
     ∙ take-take (b - 2 * m) (b - m) (drop m w) few)
     (cases_lt b m)
 
+-- to take off ends twice is to take off more of them, as the three quotes of a string
 pub inside-inside : (m n : ℕ) (w : List ℕ) → inside m (inside n w) ≡ inside (n + m) w
 inside-inside m n w =
     let l = length-drop n w in
@@ -48,14 +49,17 @@ front_off text rest (Some c) u h =
     let n = next_char (chars_rest text) (chars_rest rest) c u h in
     (n.utf8, sym (ap (drop 1) n.chars))
 
+-- what follows whole characters of a text is UTF-8
 encoded_rest : (cs ys : List ℕ) → IsUtf8 (encode_utf8_all cs ++ ys) → IsUtf8 ys
 encoded_rest [] ys u = u
 encoded_rest (c ∷ cs) ys u =
     encoded_rest cs ys (IsUtf8-past_char _ (encode_utf8_all cs ++ ys) c u (append_assoc (encode_utf8 c) (encode_utf8_all cs) ys))
 
+-- what follows a front that is UTF-8 is UTF-8
 utf8_rest : (xs ys : List ℕ) → IsUtf8 xs → IsUtf8 (xs ++ ys) → IsUtf8 ys
 utf8_rest xs ys x u = encoded_rest x.0 ys (subst (λ w. IsUtf8 (w ++ ys)) (sym x.1.1) u)
 
+-- a text without its last character
 last_off : (text rest : List ℕ) (c : ℕ) → IsUtf8 text → IsUtf8 rest → text ≡ rest ++ encode_utf8 c →
     chars rest ≡ take (length (chars text) - 1) (chars text)
 last_off text rest c u v h =
@@ -64,6 +68,7 @@ last_off text rest c u v h =
     let e : length (chars rest ++ c ∷ []) - 1 ≡ length (chars rest) = omega (arith, length-append (chars rest) (c ∷ [])) in
     sym (ap (λ w. take (length w - 1) w) whole ∙ ap (λ k. take k (chars rest ++ c ∷ [])) e ∙ take-append_seam (chars rest) (c ∷ []))
 
+-- a text without its last character, as an iterator over characters gives it
 pub back_off : (text rest : Chars) (r : Option ℕ) → IsUtf8 (chars_rest text) → IsUtf8 (chars_rest rest) →
     MatchOption r ((length (chars_rest text) ≡ 0) × (rest ≡ text)) (λ c. chars_rest text ≡ chars_rest rest ++ encode_utf8 c) →
     chars (chars_rest rest) ≡ take (length (chars (chars_rest text)) - 1) (chars (chars_rest text))

@@ -12,12 +12,15 @@ use Rattle.rdf_terms.specs.Runs.{iri_byte}
 use Rattle.rdf_terms.specs.Classes.Class.{iri_char}
 use Rattle.rdf_terms.specs.Terms.{all_have}
 
+-- IRIREF excludes no character from U+0080 on
 high_char : (c : ℕ) → 128 ≤ c → member iri_char c ≡ true
 high_char c l = grind (arith, nat_tests)
 
+-- so no byte of such a character is excluded
 high_byte : (b : ℕ) → 128 ≤ b → iri_byte b ≡ true
 high_byte b l = grind (arith, nat_tests)
 
+-- no byte of a text of bytes from 128 on is excluded in an IRI
 all_high : (xs : List ℕ) → ((k : ℕ) → k < length xs → 128 ≤ get_or xs k 0) → all_have iri_byte xs ≡ true
 all_high [] h = refl
 all_high (b ∷ xs) h = and_from (iri_byte b) (all_have iri_byte xs) (high_byte b (h 0 (omega arith))) (all_high xs (λ k l. h (suc k) (omega arith)))
@@ -30,6 +33,7 @@ high_bytes c l k m =
     (λ h. h)
     (cases_lt (get_or (encode_utf8 c) k 0) 128)
 
+-- a character may stand in an IRI where all of its bytes may
 one_char : (c : ℕ) → scalar c ≡ true → all_have iri_byte (encode_utf8 c) ≡ has iri_char c
 unfolding has
 one_char c s = ⊎_elim low high (cases_lt c 128)
@@ -46,6 +50,7 @@ one_char c s = ⊎_elim low high (cases_lt c 128)
     high : 128 ≤ c → all_have iri_byte (encode_utf8 c) ≡ (scalar c && member iri_char c)
     high l = all_high (encode_utf8 c) (high_bytes c l) ∙ sym (and_from (scalar c) (member iri_char c) s (high_char c l))
 
+-- a test of two texts is one of each
 have-append : (test : ℕ → Bool) (u v : List ℕ) → all_have test (u ++ v) ≡ (all_have test u && all_have test v)
 have-append test [] v = refl
 have-append test (c ∷ u) v = ap (λ t. test c && t) (have-append test u v) ∙ assoc (test c) (all_have test u) (all_have test v)
@@ -54,9 +59,11 @@ have-append test (c ∷ u) v = ap (λ t. test c && t) (have-append test u v) ∙
     assoc true b c = refl
     assoc false b c = refl
 
+-- what std calls a character is one here
 scalar_same : (c : ℕ) → scalars (c ∷ []) ≡ true → scalar c ≡ true
 scalar_same c e = grind (arith, nat_tests)
 
+-- so a text may be tested by its bytes
 all_chars : (w : List ℕ) → scalars w ≡ true → all_have iri_byte (encode_utf8_all w) ≡ all_have (has iri_char) w
 all_chars [] s = refl
 all_chars (c ∷ w) s =
@@ -64,5 +71,6 @@ all_chars (c ∷ w) s =
     have-append iri_byte (encode_utf8 c) (encode_utf8_all w)
     ∙ (ap (λ t. t && all_have iri_byte (encode_utf8_all w)) (one_char c (scalar_same c (ap (λ b. b && true) p.0))) ∙ ap (λ t. has iri_char c && t) (all_chars w p.1))
 
+-- whether a str has IRI characters alone may be tested byte by byte
 pub iri_bytes : (bs : List ℕ) → IsUtf8 bs → all_have iri_byte bs ≡ all_have (has iri_char) (chars bs)
 iri_bytes bs u = ap (all_have iri_byte) (sym (encodes-chars bs u)) ∙ all_chars (chars bs) (scalars-chars bs u)

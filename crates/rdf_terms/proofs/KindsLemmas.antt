@@ -48,6 +48,7 @@ number PnameNs = 27
 number PnameLn = 28
 number End = 29
 
+-- the numbers are right
 at_number : (k : Kind) → get_or kinds (number k) End ≡ k
 at_number AtPrefix = refl
 at_number AtBase = refl
@@ -80,6 +81,7 @@ at_number PnameNs = refl
 at_number PnameLn = refl
 at_number End = refl
 
+-- no two kinds have the same number
 same_number : (j k : Kind) → number j ≡ number k → j ≡ k
 same_number j k e = sym (at_number j) ∙ (ap (λ n. get_or kinds n End) e ∙ at_number k)
 
@@ -108,6 +110,7 @@ group OpenBrace = 14
 group CloseBrace = 15
 group k = 0
 
+-- the characters that tokens of a group begin with, for each group that is known by them
 abbrev fronts : List (List ℕ)
 fronts = codes "<" ∷ codes "_" ∷ codes "\"'" ∷ codes "@" ∷ codes "^" ∷ codes "+-.0123456789" ∷ (13 ∷ 10 ∷ []) ∷ codes ";" ∷ codes "," ∷ codes "[" ∷ codes "]"
     ∷ codes "(" ∷ codes ")" ∷ codes "{" ∷ codes "}" ∷ []
@@ -128,6 +131,7 @@ hard j k = false
 abbrev marks : List (List ℕ)
 marks = codes ":" ∷ codes "u" ∷ codes "l" ∷ codes "pP" ∷ codes "bB" ∷ codes "gG" ∷ codes "eE" ∷ codes "." ∷ codes "0123456789" ∷ []
 
+-- a test of each kind of a list
 abbrev every : (Kind → Bool) → List Kind → Bool
 every test [] = true
 every test (k ∷ ks) = test k && every test ks
@@ -137,6 +141,7 @@ abbrev front_fits : Dialect → List ℕ → Kind → Bool → Bool
 front_fits d xs k true = starts (class_in xs) (shape d k) && not (nullable (shape d k))
 front_fits d xs k false = starts (class_out xs) (shape d k)
 
+-- each kind begins with the characters of its group, as a test
 abbrev fronts_fit : Dialect → ℕ → List (List ℕ) → Bool
 fronts_fit d g [] = true
 fronts_fit d g (xs ∷ more) = every (λ k. front_fits d xs k (group k == g)) kinds && fronts_fit d (g + 1) more
@@ -146,19 +151,23 @@ abbrev set_apart : Dialect → Kind → Kind → Bool → Bool
 set_apart d j k true = true
 set_apart d j k false = parted_by marks (shape d j) (shape d k)
 
+-- two kinds of one group are set apart by what they need and cannot have, as a test
 abbrev pair_fits : Dialect → Kind → Kind → Bool
 pair_fits d j k = set_apart d j k ((number j == number k) || (not (group j == group k) || hard j k))
 
+-- the groups pass their test
 fronts_all : (d : Dialect) → fronts_fit d 1 fronts ≡ true
 unfolding shape has
 fronts_all Lines = refl
 fronts_all Turtle = refl
 
+-- all pairs of kinds of one group pass their test
 pairs_all : (d : Dialect) → every (λ j. every (pair_fits d j) kinds) kinds ≡ true
 unfolding shape has
 pairs_all Lines = refl
 pairs_all Turtle = refl
 
+-- there are no more groups than the test goes through
 groups_all : every (λ k. nat_lt (group k) 16) kinds ≡ true
 groups_all = refl
 
@@ -168,13 +177,16 @@ every-at test [] n e l = absurd (omega arith)
 every-at test (k ∷ ks) zero e l = (and_parts (test k) (every test ks) e).0
 every-at test (k ∷ ks) (suc n) e l = every-at test ks n (and_parts (test k) (every test ks) e).1 (omega arith)
 
+-- each kind but the end has a number below that of the end
 small : (k : Kind) → k ≢ End → number k < 29
 small End n = absurd (n refl)
 small k n = omega arith
 
+-- what holds of all kinds by a test holds of each
 of_kind : (test : Kind → Bool) → every test kinds ≡ true → (k : Kind) → k ≢ End → test k ≡ true
 of_kind test e k n = subst (λ j. test j ≡ true) (at_number k) (every-at test kinds (number k) e (small k n))
 
+-- so two kinds are set apart, or hard to set apart
 of_pair : (d : Dialect) (j k : Kind) → j ≢ End → k ≢ End → pair_fits d j k ≡ true
 of_pair d j k m n = of_kind (pair_fits d j) (of_kind (λ j. every (pair_fits d j) kinds) (pairs_all d) j m) k n
 
@@ -200,9 +212,11 @@ fronts-apart d j k w m n u x y g (xs ∷ more) e l h =
     le_ne : (a b : ℕ) → a ≤ b → a ≢ b → a < b
     le_ne a b l n = ⊎_elim (λ h. h) (λ h. absurd (n (omega arith))) (cases_lt a b)
 
+-- the group of a kind is one that is tested
 group_small : (k : Kind) → k ≢ End → group k < 16
 group_small k n = ltb-true (group k) 16 (of_kind (λ k. nat_lt (group k) 16) groups_all k n)
 
+-- kinds of different groups have no text in common
 groups-apart : (d : Dialect) (j k : Kind) (w : List ℕ) → j ≢ End → k ≢ End → group j ≢ group k → Matches (shape d j) w → Matches (shape d k) w → ⊥
 groups-apart d j k w m n u x y =
     let a = group_small j m in
@@ -229,6 +243,7 @@ strings-apart q short long (c ∷ w) z i e f m n =
     ends [] m n = false≢true (sym e ∙ matches-nullable (after_all long (q ∷ q ∷ [])) n)
     ends (c ∷ w) m n = false≢true (sym f ∙ matches-longer (after_all short (q ∷ q ∷ [])) c w m)
 
+-- no text is a string with one quote and one with three
 strings : (d : Dialect) (w : List ℕ) → Matches (shape d ShortString) w → Matches (shape d LongString) w → ⊥
 unfolding shape has
 strings Lines w m n = n
@@ -267,10 +282,12 @@ after_first x (c ∷ u) (d ∷ v) a b m n e = after_first x u v a b (rest c u m)
         by true m = absurd (false≢true (sym m))
         by false m = m
 
+-- the class of ":" has ":" alone
 colon_is : (c : ℕ) → has (the 58) c ≡ true → c ≡ 58
 unfolding has
 colon_is c h = eqb-true c 58 (and_parts (scalar c) (c == 58) h).1
 
+-- a prefix has no ":"
 no_colon : within (class_out (58 ∷ [])) (optional pn_prefix) ≡ true
 unfolding has
 no_colon = refl
@@ -292,6 +309,7 @@ matches_of : (d : Dialect) (k : Kind) (w : List ℕ) → Shape d k w → Matches
 matches_of d LangTag w m = m.0
 matches_of d k w m = m
 
+-- so the pairs that no test sets apart have no text in common either
 hard-apart : (d : Dialect) (j k : Kind) (w : List ℕ) → hard j k ≡ true → Shape d j w → Shape d k w → ⊥
 hard-apart d ShortString LongString w e m n = strings d w m n
 hard-apart d LongString ShortString w e m n = strings d w n m
@@ -303,6 +321,7 @@ hard-apart d PnameNs PnameLn w e m n = names d w m n
 hard-apart d PnameLn PnameNs w e m n = names d w n m
 hard-apart d j k w e m n = false≢true e
 
+-- no text has the shape of the end
 no_end : (d : Dialect) (w : List ℕ) (k : Kind) → Shape d k w → k ≢ End
 unfolding shape
 no_end d w End m e = m
@@ -337,10 +356,12 @@ keyword_first d w m e = go _ (nullable (after_all (shape d AtPrefix) w)) (nullab
     go o false true h e = let x : Some AtBase ≡ Some LangTag = e in cc
     go o false false h e = ⊎_elim (λ x. let y : false ≡ true = x in cc) (λ x. let y : false ≡ true = x in cc) h
 
+-- what matches the expression of a kind has its shape, unless it is a keyword read as a tag
 to_shape : (d : Dialect) (w : List ℕ) (k : Kind) → Matches (shape d k) w → (k ≡ LangTag → Matches (shape d AtPrefix ∣ shape d AtBase) w → ⊥) → Shape d k w
 to_shape d w LangTag m h = (m, h refl)
 to_shape d w k m h = m
 
+-- the kind that is computed is one whose shape the text has
 pub kind-shape : (d : Dialect) (w : List ℕ) (k : Kind) → kind_of d w ≡ Some k → Shape d k w
 unfolding kind_of
 kind-shape d w k e = to_shape d w k (first_kind-matches d kinds w k e).0 (λ x n. keyword_first d w n (e ∙ ap Some x))
@@ -351,10 +372,12 @@ any-at d [] n w l m = absurd (omega arith)
 any-at d (k ∷ ks) zero w l m = inl m
 any-at d (k ∷ ks) (suc n) w l m = inr (any-at d ks n w (omega arith) m)
 
+-- a shape of one kind is one of all
 pub shape-any : (d : Dialect) (k : Kind) (w : List ℕ) → Shape d k w → Matches (any_shape d kinds) w
 shape-any d k w m =
     any-at d kinds (number k) w (small k (no_end d w k m)) (subst (λ j. Matches (shape d j) w) (sym (at_number k)) (matches_of d k w m))
 
+-- a text with a shape has its kind by the computation
 pub shape-kind : (d : Dialect) (w : List ℕ) (k : Kind) → Shape d k w → kind_of d w ≡ Some k
 unfolding kind_of
 shape-kind d w k m =
@@ -369,5 +392,6 @@ live-shape d w e =
     let f = matches-first_kind d kinds (w ++ l.0 ∷ l.1) l.2 in
     (f.0, l.0, l.1, kind-shape d (w ++ l.0 ∷ l.1) f.0 f.1)
 
+-- a beginning of a longer shape computes as one
 pub shape-live : (d : Dialect) (w : List ℕ) → Live d w → is_live d w ≡ true
 shape-live d w l = matches-live d w l.1 l.2 (shape-any d l.0 (w ++ l.1 ∷ l.2) l.3)

@@ -15,9 +15,11 @@ dot_is_dot : Shape Turtle Dot (46 ∷ [])
 unfolding kind_of shape has
 dot_is_dot = kind-shape Turtle (46 ∷ []) Dot refl
 
+-- so the kind that is computed is the dot
 dot_is_found : kind_of Turtle (46 ∷ []) ≡ Some Dot
 dot_is_found = shape-kind Turtle (46 ∷ []) Dot dot_is_dot
 
+-- the dot has not the shape of a number too
 dot_is_no_decimal : Shape Turtle Decimal (46 ∷ []) → ⊥
 dot_is_no_decimal m = let e : Dot ≡ Decimal = one_kind Turtle Dot Decimal (46 ∷ []) dot_is_dot m in cc
 
@@ -26,6 +28,7 @@ one_is_live : Live Turtle (49 ∷ [])
 unfolding is_live shape has
 one_is_live = live-shape Turtle (49 ∷ []) refl
 
+-- so the test finds it live
 one_is_tested : is_live Turtle (49 ∷ []) ≡ true
 one_is_tested = shape-live Turtle (49 ∷ []) one_is_live
 
@@ -34,6 +37,7 @@ tab_and_c : Means (IsPiece of_string) (codes "a\\tb\\u0063") (97 ∷ 9 ∷ 98 �
 unfolding has
 tab_and_c = (string_means (codes "a\\tb\\u0063") (97 ∷ 9 ∷ 98 ∷ 99 ∷ [])).0 refl
 
+-- so the token of this string is fit
 string_is_fit : is_fit ShortString (codes "\"a\\tb\\u0063\"") ≡ true
 string_is_fit = (fit_means ShortString (codes "\"a\\tb\\u0063\"")).1 (97 ∷ 9 ∷ 98 ∷ 99 ∷ [], tab_and_c)
 

@@ -19,13 +19,16 @@ iri_char-backslash : has iri_char 92 ≡ false
 unfolding has
 iri_char-backslash = refl
 
+-- a backslash cannot be escaped in a local part
 local_escape-backslash : has local_escape 92 ≡ false
 unfolding has
 local_escape-backslash = refl
 
+-- a character that passes a test which a backslash fails is none
 not_backslash : (c : ℕ) (test : ℕ → Bool) → test 92 ≡ false → test c ≡ true → (c == 92) ≡ false
 not_backslash c test n h = ne_eqb c 92 (λ e. false≢true (sym n ∙ (ap test (sym e) ∙ h)))
 
+-- a test that holds of all characters of a list holds of each
 one_of-all : (test : ℕ → Bool) (xs : List ℕ) (c : ℕ) → all_have test xs ≡ true → one_of xs c ≡ true → test c ≡ true
 one_of-all test [] c a h = absurd (false≢true h)
 one_of-all test (x ∷ xs) c a h =
@@ -35,6 +38,7 @@ one_of-all test (x ∷ xs) c a h =
     (λ t. one_of-all test xs c p.1 t)
     (or_cases (c == x) (one_of xs c) h)
 
+-- each character that PN_LOCAL_ESC escapes may stand in an IRI
 pub local_escape-iri_char : (c : ℕ) → has local_escape c ≡ true → has iri_char c ≡ true
 unfolding has
 local_escape-iri_char c h = one_of-all (has iri_char) (95 ∷ 126 ∷ 46 ∷ 45 ∷ 33 ∷ 36 ∷ 38 ∷ 39 ∷ 40 ∷ 41 ∷ 42 ∷ 43 ∷ 44 ∷ 59 ∷ 61 ∷ 47 ∷ 63 ∷ 35 ∷ 64 ∷ 37 ∷ []) c refl (and_parts (is_scalar c) _ h).1
@@ -46,6 +50,7 @@ local_value_plain (c ∷ w) h =
     let p = and_parts (has iri_char c) (all_have (has iri_char) w) h in
     rw (not_backslash c (has iri_char) iri_char-backslash p.0, p.0, local_value_plain w p.1) refl
 
+-- a value that is mapped is there where it was
 is_some-map : (f : List ℕ → List ℕ) (o : Option (List ℕ)) → is_some (option_map f o) ≡ is_some o
 is_some-map f None = refl
 is_some-map f (Some w) = refl
@@ -64,6 +69,7 @@ local-next false c w = by (c == 92) (has iri_char c)
     by false true = is_some-map _ (local_from false w)
     by false false = refl
 
+-- a local part may end anywhere but after a backslash
 pub local-end : (b : Bool) → is_some (local_from b []) ≡ not b
 local-end true = refl
 local-end false = refl
@@ -73,15 +79,18 @@ pub mapped : (c : ℕ) (o : Option (List ℕ)) (v : List ℕ) → option_map (λ
 mapped c None v h = absurd (false≢true (ap is_some h))
 mapped c (Some u) v h = (u, refl, ap (λ x. unwrap_or x []) (sym h))
 
+-- a local part means its text without backslashes, which consists of IRI characters
 abbrev Means : List ℕ → List ℕ → Type 0
 Means w v = (v ≡ without_backslashes w) × (all_have (has iri_char) v ≡ true)
 
+-- a local part with one plain character more means one character more
 means-cons : (c : ℕ) (w v u : List ℕ) → v ≡ c ∷ u → (c == 92) ≡ false → has iri_char c ≡ true → Means w u → Means (c ∷ w) v
 means-cons c w v u e n t m = (
   e ∙ (ap (λ x. c ∷ x) m.0 ∙ sym (cond-false (c == 92) (without_backslashes w) (c ∷ without_backslashes w) n)),
   ap (all_have (has iri_char)) e ∙ and_from (has iri_char c) _ t m.1,
 )
 
+-- the value of a local part is its text without backslashes
 pub local-means : (b : Bool) (w v : List ℕ) → local_from b w ≡ Some v → Means w v
 local-means true [] v h = absurd (false≢true (ap is_some h))
 local-means false [] v h = let e : v ≡ [] = ap (λ x. unwrap_or x []) (sym h) in (e, ap (all_have (has iri_char)) e)
@@ -119,6 +128,7 @@ first_scalar : (bytes rest : List ℕ) (c : ℕ) → IsUtf8 bytes → bytes ≡ 
 first_scalar bytes rest c u e =
     and_from (scalar c) true (and_parts (scalar c) (scalars (chars rest)) (ap scalars (sym (next_char bytes rest c u e).chars) ∙ scalars-chars bytes u)).0 refl
 
+-- what the loop keeps holds after a character that is copied
 pub unescaped_push : (whole out grown bytes rest : List ℕ) (c : ℕ) → whole ≡ chars out ++ without_backslashes (chars bytes) → IsUtf8 out → IsUtf8 bytes →
     bytes ≡ encode_utf8 c ++ rest → (c ≡ 92 → ⊥) → grown ≡ out ++ encode_utf8 c → whole ≡ chars grown ++ without_backslashes (chars rest)
 unescaped_push whole out grown bytes rest c h u v e n g =
@@ -128,6 +138,7 @@ unescaped_push whole out grown bytes rest c h u v e n g =
     ap without_backslashes (next_char bytes rest c v e).chars ∙ cond-false (c == 92) (without_backslashes (chars rest)) _ (ne_eqb c 92 n) in
     h ∙ (ap (λ x. chars out ++ x) w ∙ (sym (append_assoc (chars out) (c ∷ []) (without_backslashes (chars rest))) ∙ ap (λ x. x ++ without_backslashes (chars rest)) (sym k)))
 
+-- what the loop keeps holds after a backslash that is left out
 pub unescaped_skip : (whole out bytes rest : List ℕ) (c : ℕ) → whole ≡ chars out ++ without_backslashes (chars bytes) → IsUtf8 bytes →
     bytes ≡ encode_utf8 c ++ rest → c ≡ 92 → whole ≡ chars out ++ without_backslashes (chars rest)
 unescaped_skip whole out bytes rest c h v e n =
@@ -141,12 +152,15 @@ value_is w h = by (local_value w) refl h
     by None e h = absurd (false≢true h)
     by (Some v) e h = let m = local-means false w v e in (e ∙ ap (λ x. Some x) m.0, sym (ap (all_have (has iri_char)) m.0) ∙ m.1)
 
+-- what is not there is none
 pub none_is : (o : Option (List ℕ)) → is_some o ≡ false → o ≡ None
 none_is None h = refl
 none_is (Some w) h = absurd (false≢true (sym h))
 
+-- what is there is not none
 pub some_is_not : (o : Option (List ℕ)) → is_some o ≡ true → o ≡ None → ⊥
 some_is_not o h e = false≢true (ap is_some (sym e) ∙ h)
 
+-- after the last character the text that was built is the value
 pub unescaped_all : (out rest : List ℕ) → chars rest ≡ [] → chars out ++ without_backslashes (chars rest) ≡ chars out
 unescaped_all out rest e = ap (λ x. chars out ++ without_backslashes x) e ∙ append-nil (chars out)

@@ -22,6 +22,7 @@ pub record First (k : Class) (c : ℕ) (p : List ℕ) : Type 0 where
   pub is : has k c ≡ true
   pub alone : p ≡ []
 
+-- what is left of a class after a character is nothing, and the character is in the class
 first_of_class : (k : Class) (c : ℕ) (p : List ℕ) → Matches (after (one k) c) p → First k c p
 first_of_class k c p m =
     let a = after-matches (one k) c p m in
@@ -29,6 +30,7 @@ first_of_class k c p m =
     let none : p ≡ [] = cc (a.2) in
     record { is = subst (λ x. has k x ≡ true) (sym same) a.1; alone = none }
 
+-- a character of a class matches it
 one-matches : (k : Class) (c : ℕ) → has k c ≡ true → Matches (one k) (c ∷ [])
 one-matches k c h = (c, h, refl)
 
@@ -39,9 +41,11 @@ some-step k m c w h =
     let f = first_of_class k c a.2.0 a.2.2 in
     (f.is, (a.2.1, a.1, a.2.3, a.3, a.4 ∙ ap (λ u. u ++ a.1) (a.2.4 ∙ ap (λ p. p ++ a.2.1) f.alone)))
 
+-- one character of a class and any more are some of it
 step-some : (k : Class) (m : Regex) (c : ℕ) (w : List ℕ) → has k c ≡ true → Matches (many (one k) · m) w → Matches (some (one k) · m) (c ∷ w)
 step-some k m c w h p = (c ∷ p.0, p.1, (c ∷ [], p.0, one-matches k c h, p.2, refl), p.3, ap (λ x. c ∷ x) p.4)
 
+-- a repetition of a class, by its first character
 many-step : (k : Class) (m : Regex) (c : ℕ) (w : List ℕ) → Matches (many (one k) · m) (c ∷ w) →
     ((has k c ≡ true) × Matches (many (one k) · m) w) ⊎ Matches m (c ∷ w)
 many-step k m c w h =
@@ -51,10 +55,12 @@ many-step k m c w h =
     (λ a. inr (after-matches m c w a))
     (matches-after (many (one k) · m) c w h)
 
+-- one character more is a repetition of the class
 step-many : (k : Class) (m : Regex) (c : ℕ) (w : List ℕ) → has k c ≡ true → Matches (many (one k) · m) w → Matches (many (one k) · m) (c ∷ w)
 step-many k m c w h p =
     (c ∷ p.0, p.1, ((c ∷ []) ∷ p.2.0, (one-matches k c h, p.2.1), ap (λ x. c ∷ x) p.2.2), p.3, ap (λ x. c ∷ x) p.4)
 
+-- a repetition of a class may be empty
 none-many : (k : Class) (m : Regex) (w : List ℕ) → Matches m w → Matches (many (one k) · m) w
 none-many k m w h = ([], w, ([], tt, refl), h, refl)
 
@@ -62,12 +68,14 @@ none-many k m w h = ([], w, ([], tt, refl), h, refl)
 abbrev parts : Regex
 parts = many (one (the 45) · some (one letter_or_digit))
 
+-- a later part of a tag begins with a hyphen
 parts-step : (c : ℕ) (w : List ℕ) → Matches parts (c ∷ w) → (has (the 45) c ≡ true) × Matches (some (one letter_or_digit) · parts) w
 parts-step c w h =
     let a = matches-after parts c w h in
     let f = first_of_class (the 45) c a.2.0 a.2.2 in
     (f.is, (a.2.1, a.1, a.2.3, a.3, a.4 ∙ ap (λ u. u ++ a.1) (a.2.4 ∙ ap (λ p. p ++ a.2.1) f.alone)))
 
+-- a hyphen with a letter or digit after it begins a later part of a tag
 step-parts : (c : ℕ) (w : List ℕ) → has (the 45) c ≡ true → Matches (some (one letter_or_digit) · parts) w → Matches parts (c ∷ w)
 step-parts c w h p =
     ((c ∷ p.0) ∷ p.3.0, ((c ∷ [], p.0, one-matches (the 45) c h, p.2, refl), p.3.1), ap (λ x. c ∷ x) (p.4 ∙ ap (λ x. p.0 ++ x) p.3.2))
@@ -79,6 +87,7 @@ rest_of_tag letters = many (one letter) · parts
 rest_of_tag hyphen = some (one letter_or_digit) · parts
 rest_of_tag part = many (one letter_or_digit) · parts
 
+-- after a part a tag may end
 nothing_left : (k : Class) → Matches (many (one k) · parts) []
 nothing_left k = ([], [], ([], tt, refl), ([], tt, refl), refl)
 
@@ -88,15 +97,18 @@ chosen : (b : Bool) (p : Place) (o : Option Place) (test : Place → Bool) → i
 chosen true p o test h = inl (refl, h)
 chosen false p o test h = inr h
 
+-- a choice whose test holds takes its first place
 choose_first : (b : Bool) (p : Place) (o : Option Place) (test : Place → Bool) → b ≡ true → test p ≡ true → if_some (cond b (Some p) o) test ≡ true
 choose_first true p o test e h = h
 choose_first false p o test e h = absurd (false≢true e)
 
+-- one whose test fails takes the second
 choose_second : (b d : Bool) (p q : Place) (test : Place → Bool) → b ≡ false → d ≡ true → test q ≡ true →
     if_some (cond b (Some p) (cond d (Some q) None)) test ≡ true
 choose_second true d p q test e f h = absurd (false≢true (sym e))
 choose_second false d p q test e f h = choose_first d q None test f h
 
+-- what is read as a tag matches LANGTAG
 tag-matches : (p : Place) (w : List ℕ) → tag_goes_on p w ≡ true → Matches (rest_of_tag p) w
 tag-matches start [] h = absurd (false≢true h)
 tag-matches letters [] h = nothing_left letter
@@ -134,19 +146,23 @@ apart : (k : Class) (x c : ℕ) → has (the x) c ≡ true → has k x ≡ false
 unfolding has
 apart k x c h f = let p = and_parts (scalar c) (c == x) h in subst (λ y. has k y ≡ false) (sym (eqb-true c x p.1)) f
 
+-- a hyphen is no letter
 no_letter : has letter 45 ≡ false
 unfolding has
 no_letter = refl
 
+-- a hyphen is no letter and no digit
 no_letter_or_digit : has letter_or_digit 45 ≡ false
 unfolding has
 no_letter_or_digit = refl
 
+-- a dot is not in PN_CHARS
 no_pn_char : (d : Dialect) → has (pn_char d) 46 ≡ false
 unfolding has
 no_pn_char Lines = refl
 no_pn_char Turtle = refl
 
+-- what matches LANGTAG is read as a tag
 matches-tag : (p : Place) (w : List ℕ) → Matches (rest_of_tag p) w → tag_goes_on p w ≡ true
 matches-tag start [] m = absurd (false≢true (matches-nullable (rest_of_tag start) m))
 matches-tag letters [] m = refl
@@ -171,6 +187,7 @@ matches-tag part (c ∷ w) m =
     choose_second (has letter_or_digit c) (has (the 45) c) part hyphen (λ q. tag_goes_on q w) (apart letter_or_digit 45 c a.0 no_letter_or_digit) a.0 (matches-tag hyphen w a.1))
     (many-step letter_or_digit parts c w m)
 
+-- the code tells exactly the language tags
 pub tag_goes_on-IsTag : (b : Bool) (w : List ℕ) → b ≡ tag_goes_on start w → (b ≡ true) ↔ IsTag w
 tag_goes_on-IsTag b w e = (λ h. tag-matches start w (sym e ∙ h), λ m. e ∙ matches-tag start w m)
 
@@ -178,17 +195,21 @@ tag_goes_on-IsTag b w e = (λ h. tag-matches start w (sym e ∙ h), λ m. e ∙ 
 abbrev longer_name : Dialect → Regex
 longer_name d = many (one (pn_char d) ∣ dot) · one (pn_char d)
 
+-- what may follow a name so far, which may be its end or not
 abbrev rest_of_name : Dialect → Bool → Regex
 rest_of_name d true = optional (longer_name d)
 rest_of_name d false = longer_name d
 
+-- what makes a name longer may follow it
 longer : (d : Dialect) (b : Bool) (w : List ℕ) → Matches (longer_name d) w → Matches (rest_of_name d b) w
 longer d true w m = inr m
 longer d false w m = m
 
+-- a character or dot more, before what makes it longer
 name-more : (d : Dialect) (c : ℕ) (w : List ℕ) → Matches (one (pn_char d) ∣ dot) (c ∷ []) → Matches (longer_name d) w → Matches (longer_name d) (c ∷ w)
 name-more d c w h m = (c ∷ m.0, m.1, ((c ∷ []) ∷ m.2.0, (h, m.2.1), ap (λ x. c ∷ x) m.2.2), m.3, ap (λ x. c ∷ x) m.4)
 
+-- a character at which the name may end
 name-last : (d : Dialect) (c : ℕ) (w : List ℕ) → has (pn_char d) c ≡ true → Matches (optional (longer_name d)) w → Matches (longer_name d) (c ∷ w)
 name-last d c w h m =
     ⊎_elim
@@ -196,6 +217,7 @@ name-last d c w h m =
     (λ more. name-more d c w (inl (one-matches (pn_char d) c h)) more)
     m
 
+-- what is read as the rest of a name matches it
 name-matches : (d : Dialect) (b : Bool) (w : List ℕ) → name_goes_on d b w ≡ true → Matches (rest_of_name d b) w
 name-matches d true [] h = inl refl
 name-matches d false [] h = absurd (false≢true h)
@@ -220,10 +242,12 @@ name-step d c w m =
     (λ a. let f = first_of_class (pn_char d) c w a in inl (f.is, inl f.alone))
     (matches-after (longer_name d) c w m)
 
+-- a rest that is not empty makes the name longer
 not_empty : (d : Dialect) (b : Bool) (c : ℕ) (w : List ℕ) → Matches (rest_of_name d b) (c ∷ w) → Matches (longer_name d) (c ∷ w)
 not_empty d true c w m = ⊎_elim (λ e. absurd (cc)) (λ h. h) m
 not_empty d false c w m = m
 
+-- what matches the rest of a name is read as it
 matches-name : (d : Dialect) (b : Bool) (w : List ℕ) → Matches (rest_of_name d b) w → name_goes_on d b w ≡ true
 matches-name d true [] m = refl
 matches-name d false [] m = absurd (false≢true (matches-nullable (longer_name d) m))
@@ -233,10 +257,12 @@ matches-name d b (c ∷ w) m =
     (λ a. cond-false _ _ _ (apart (pn_char d) 46 c a.0 (no_pn_char d)) ∙ and_from _ _ a.0 (matches-name d false w a.1))
     (name-step d c w (not_empty d b c w m))
 
+-- a first character and the rest of a name are a label
 label-begin : (c : ℕ) (w : List ℕ) → begins_label c ≡ true → Matches (optional (longer_name Lines)) w → IsLabel (c ∷ w)
 label-begin c w h m =
     (c ∷ [], w, ⊎_elim (λ x. inl (one-matches (pn_u Lines) c x)) (λ x. inr (one-matches digit c x)) (or_cases _ _ h), m, refl)
 
+-- a label is a first character and the rest of a name
 begin-label : (c : ℕ) (w : List ℕ) → IsLabel (c ∷ w) → (begins_label c ≡ true) × Matches (optional (longer_name Lines)) w
 begin-label c w m =
     let a = matches-after (label_name Lines) c w m in
@@ -247,6 +273,7 @@ begin-label c w m =
     (or_right _ _ f.is, subst (Matches (optional (longer_name Lines))) (sym (a.4 ∙ ap (λ p. p ++ a.1) f.alone)) a.3))
     a.2
 
+-- the code tells exactly the labels
 pub name_goes_on-IsLabel : (b : Bool) (c : ℕ) (w : List ℕ) → b ≡ (begins_label c && name_goes_on Lines true w) → (b ≡ true) ↔ IsLabel (c ∷ w)
 name_goes_on-IsLabel b c w e = (
   λ h. let p = and_parts (begins_label c) (name_goes_on Lines true w) (sym e ∙ h) in label-begin c w p.0 (name-matches Lines true w p.1),
@@ -258,6 +285,7 @@ colon : has (the 58) 58 ≡ true
 unfolding has
 colon = refl
 
+-- the expression of ":" has ":" alone
 colon_alone : (w : List ℕ) → Matches (one (the 58)) w → w ≡ 58 ∷ []
 unfolding has
 colon_alone w m = m.2 ∙ ap (λ c. c ∷ []) (eqb-true m.0 58 (and_parts (scalar m.0) (m.0 == 58) m.1).1)
@@ -269,6 +297,7 @@ begin-prefix c w m =
     let f = first_of_class pn_base c a.0 a.2 in
     (f.is, subst (Matches (optional (longer_name Turtle))) (sym (a.4 ∙ ap (λ p. p ++ a.1) f.alone)) a.3)
 
+-- the code tells exactly the prefixes that are not empty
 pub name_goes_on-prefix : (b : Bool) (c : ℕ) (w : List ℕ) → b ≡ (has pn_base c && name_goes_on Turtle true w) → (b ≡ true) ↔ Matches pn_prefix (c ∷ w)
 name_goes_on-prefix b c w e = (
   λ h. let p = and_parts (has pn_base c) (name_goes_on Turtle true w) (sym e ∙ h) in (c ∷ [], w, one-matches pn_base c p.0, name-matches Turtle true w p.1, refl),
@@ -280,22 +309,27 @@ prefix-ns : (v : List ℕ) → (v ≡ []) ⊎ Matches pn_prefix v → Shape Turt
 unfolding shape
 prefix-ns v h = (v, 58 ∷ [], h, one-matches (the 58) 58 colon, refl)
 
+-- before the colon of a PNAME_NS there is a prefix or nothing
 ns-prefix : (v : List ℕ) → Shape Turtle PnameNs (v ++ 58 ∷ []) → (v ≡ []) ⊎ Matches pn_prefix v
 unfolding shape
 ns-prefix v m =
     let s : v ≡ m.0 = append_cancel_right v m.0 (58 ∷ []) (m.4 ∙ ap (λ x. m.0 ++ x) (colon_alone m.1 m.3)) in
     subst (λ x. (x ≡ []) ⊎ Matches pn_prefix x) (sym s) m.2
 
+-- a PNAME_NS ends in its colon
 ns-ends : (w : List ℕ) → Shape Turtle PnameNs w → (v : List ℕ) × (w ≡ v ++ 58 ∷ [])
 unfolding shape
 ns-ends w m = (m.0, m.4 ∙ ap (λ x. m.0 ++ x) (colon_alone m.1 m.3))
 
+-- ":" is its own byte
 pub bytes_colon : encode_utf8_all (58 ∷ []) ≡ 58 ∷ []
 bytes_colon = ap (λ x. x ++ []) (encode_ascii 58 (omega arith))
 
+-- the byte of ":" is UTF-8
 pub utf8_colon : IsUtf8 (58 ∷ [])
 utf8_colon = (58 ∷ [], (refl, bytes_colon))
 
+-- the byte of ":" is one character
 pub chars_colon : chars (58 ∷ []) ≡ 58 ∷ []
 chars_colon = ap chars (sym bytes_colon) ∙ chars-encodes (58 ∷ []) refl
 
@@ -311,17 +345,21 @@ ns_of_prefix b bytes front u e h n =
           (ns-prefix (chars front) (subst (Shape Turtle PnameNs) k.chars m)),
     )
 
+-- ":" alone is a PNAME_NS, that of the empty prefix
 pub ns_of_nothing : (bytes front : List ℕ) → IsUtf8 bytes → bytes ≡ front ++ 58 ∷ [] → length front ≡ 0 → Shape Turtle PnameNs (chars bytes)
 ns_of_nothing bytes front u e n =
     let k = before_last bytes front 58 utf8_colon chars_colon u e in
     subst (Shape Turtle PnameNs) (sym k.chars) (prefix-ns (chars front) (inl (no_chars front n)))
 
+-- a text that does not end in ":" is none
 pub ns_without_colon : (bytes : List ℕ) → IsUtf8 bytes → ((front : List ℕ) → bytes ≢ front ++ 58 ∷ []) → Shape Turtle PnameNs (chars bytes) → ⊥
 ns_without_colon bytes u n m = let v = ns-ends (chars bytes) m in n (encode_utf8_all v.0) (last_char bytes v.0 58 bytes_colon u v.1)
 
+-- no text is no label
 pub no_label : IsLabel [] → ⊥
 no_label m = false≢true (matches-nullable (label_name Lines) m)
 
+-- a tag, by its first character
 goes_cons : (p : Place) (c : ℕ) (w : List ℕ) → tag_goes_on p (c ∷ w) ≡ if_some (after_tag p c) (λ q. tag_goes_on q w)
 goes_cons start c w = refl
 goes_cons letters c w = refl

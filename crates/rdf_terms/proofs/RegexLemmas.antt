@@ -13,10 +13,12 @@ use Rattle.rdf_terms.specs.Regex.Regex.{nothing, empty, one, ◌·◌, ◌∣◌
 no_cons : (c : ℕ) (w : List ℕ) → [] ≡ c ∷ w → ⊥
 no_cons c w e = cc
 
+-- two texts without characters together have none each
 empty_parts : (u v : List ℕ) → [] ≡ u ++ v → (u ≡ []) × (v ≡ [])
 empty_parts [] v e = (refl, sym e)
 empty_parts (c ∷ u) v e = absurd (no_cons c (u ++ v) e)
 
+-- what tests as nullable matches the empty text
 pub nullable-matches : (r : Regex) → nullable r ≡ true → Matches r []
 nullable-matches nothing e = absurd (false≢true e)
 nullable-matches empty e = refl
@@ -28,6 +30,7 @@ nullable-matches (r ∣ s) e =
     ⊎_elim (λ x. inl (nullable-matches r x)) (λ x. inr (nullable-matches s x)) (or_cases (nullable r) (nullable s) e)
 nullable-matches (many r) e = ([], tt, refl)
 
+-- what matches the empty text tests as nullable
 pub matches-nullable : (r : Regex) → Matches r [] → nullable r ≡ true
 matches-nullable nothing m = absurd m
 matches-nullable empty m = refl
@@ -48,6 +51,7 @@ split_first c w (d ∷ u) v e =
     let t : w ≡ u ++ v = cc in
     inr (u, ap (λ x. x ∷ u) h, t)
 
+-- what matches what is left after a character matches with it
 pub after-matches : (r : Regex) (c : ℕ) (w : List ℕ) → Matches (after r c) w → Matches r (c ∷ w)
 after-matches nothing c w m = absurd m
 after-matches empty c w m = absurd m
@@ -79,6 +83,7 @@ first_part P c w (u ∷ parts) a e =
     (λ h. (h.0, parts, subst P h.1 a.0, a.1, h.2))
     (split_first c w u (concat parts) e)
 
+-- after its first character a text matches what is left of the expression, so the derivative is right
 pub matches-after : (r : Regex) (c : ℕ) (w : List ℕ) → Matches r (c ∷ w) → Matches (after r c) w
 matches-after nothing c w m = absurd m
 matches-after empty c w m = absurd (no_cons c w (sym m))
@@ -108,6 +113,7 @@ pub after_all-matches : (w v : List ℕ) (r : Regex) → Matches (after_all r w)
 after_all-matches [] v r m = m
 after_all-matches (c ∷ w) v r m = after-matches r c (w ++ v) (after_all-matches w v (after r c) m)
 
+-- after a first part of any length a text matches what is left of the expression
 pub matches-after_all : (w v : List ℕ) (r : Regex) → Matches r (w ++ v) → Matches (after_all r w) v
 matches-after_all [] v r m = m
 matches-after_all (c ∷ w) v r m = matches-after_all w v (after r c) (matches-after r c (w ++ v) m)
@@ -136,6 +142,7 @@ has-sample (pn_u Turtle) c h = refl
 has-sample (pn_char Lines) c h = refl
 has-sample (pn_char Turtle) c h = refl
 
+-- what tests as possible matches some text
 pub possible-matches : (r : Regex) → possible r ≡ true → (w : List ℕ) × Matches r w
 possible-matches nothing e = absurd (false≢true e)
 possible-matches empty e = ([], refl)
@@ -152,6 +159,7 @@ possible-matches (r ∣ s) e =
     (or_cases (possible r) (possible s) e)
 possible-matches (many r) e = ([], ([], tt, refl))
 
+-- what matches some text tests as possible
 pub matches-possible : (r : Regex) (w : List ℕ) → Matches r w → possible r ≡ true
 matches-possible nothing w m = absurd m
 matches-possible empty w m = refl
@@ -164,10 +172,12 @@ matches-possible (many r) w m = refl
 abbrev pub Longer : Regex → Type 0
 Longer r = (c : ℕ) × (w : List ℕ) × Matches r (c ∷ w)
 
+-- a sequence has longer texts where its second part has
 longer_right : (r s : Regex) (u : List ℕ) → Matches r u → Longer s → Longer (r · s)
 longer_right r s [] m l = (l.0, l.1, ([], l.0 ∷ l.1, m, l.2, refl))
 longer_right r s (d ∷ u) m l = (d, u ++ (l.0 ∷ l.1), (d ∷ u, l.0 ∷ l.1, m, l.2, refl))
 
+-- what tests as longer matches a text with a character
 pub longer-matches : (r : Regex) → longer r ≡ true → Longer r
 longer-matches nothing e = absurd (false≢true e)
 longer-matches empty e = absurd (false≢true e)
@@ -190,6 +200,7 @@ longer-matches (many r) e =
     let u = longer-matches r e in
     (u.0, u.1, ((u.0 ∷ u.1) ∷ [], (u.2, tt), sym (append-nil (u.0 ∷ u.1))))
 
+-- what matches a text with a character tests as longer, so the test of beginnings is right
 pub matches-longer : (r : Regex) (c : ℕ) (w : List ℕ) → Matches r (c ∷ w) → longer r ≡ true
 matches-longer nothing c w m = absurd m
 matches-longer empty c w m = absurd (no_cons c w (sym m))

@@ -32,19 +32,24 @@ run_in p bs at n r room counted =
       stops = λ short. not-true _ (run_in_chunk_stops q bs at n r 0 room counted short);
     }
 
+-- two runs in a row are one
 pub pass-more : (p : ℕ → Bool) (bs : List ℕ) (at mid end : ℕ) → PassBetween p bs at mid → PassBetween p bs mid end → PassBetween p bs at end
 pass-more p bs at mid end a b k from to = ⊎_elim (λ l. a k from l) (λ l. b k l to) (cases_lt k mid)
 
+-- no bytes pass
 pub pass-none : (p : ℕ → Bool) (bs : List ℕ) (at : ℕ) → PassBetween p bs at at
 pass-none p bs at k from to = absurd (omega arith)
 
+-- one byte passes
 pub pass-one : (p : ℕ → Bool) (bs : List ℕ) (at : ℕ) → p (get_or bs at 0) ≡ true → PassBetween p bs at (at + 1)
 pass-one p bs at e k from to = let here : k ≡ at = omega arith in ap (λ n. p (get_or bs n 0)) here ∙ e
 
+-- if all bytes pass between the ends, the text passes
 all_pass : (p : ℕ → Bool) (bs : List ℕ) → PassBetween p bs 0 (length bs) → all_have p bs ≡ true
 all_pass p [] h = refl
 all_pass p (b ∷ bs) h = and_from (p b) (all_have p bs) (h 0 (omega arith) (omega arith)) (all_pass p bs (λ k from to. h (suc k) (omega arith) (omega arith)))
 
+-- one byte that does not pass is enough for the text not to
 pub one_fails : (p : ℕ → Bool) (bs : List ℕ) (k : ℕ) → k < length bs → p (get_or bs k 0) ≡ false → all_have p bs ≡ false
 one_fails p [] k l e = absurd (omega arith)
 one_fails p (b ∷ bs) zero l e = ap (λ t. t && all_have p bs) e

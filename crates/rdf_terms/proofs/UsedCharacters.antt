@@ -15,25 +15,31 @@ uses (r · s) c = uses r c || uses s c
 uses (r ∣ s) c = uses r c || uses s c
 uses (many r) c = uses r c
 
+-- each character of the text may stand in some text of the expression
 abbrev AllUsed : Regex → List ℕ → Type 0
 AllUsed r w = AllByRecursion (λ c. uses r c ≡ true) w
 
+-- what follows from a property of characters holds of all of them
 all_map : (P Q : ℕ → Type 0) → ((c : ℕ) → P c → Q c) → (w : List ℕ) → AllByRecursion P w → AllByRecursion Q w
 all_map P Q f [] a = tt
 all_map P Q f (c ∷ w) a = (f c a.0, all_map P Q f w a.1)
 
+-- what holds of two texts holds of both together
 all_append : (P : ℕ → Type 0) (u v : List ℕ) → AllByRecursion P u → AllByRecursion P v → AllByRecursion P (u ++ v)
 all_append P [] v a b = b
 all_append P (c ∷ u) v a b = (a.0, all_append P u v a.1 b)
 
+-- what holds of any number of texts holds of all together
 all_concat : (P : List ℕ → Type 0) (Q : ℕ → Type 0) → ((w : List ℕ) → P w → AllByRecursion Q w) → (ws : List (List ℕ)) → AllByRecursion P ws → AllByRecursion Q (concat ws)
 all_concat P Q f [] a = tt
 all_concat P Q f (w ∷ ws) a = all_append Q w (concat ws) (f w a.0) (all_concat P Q f ws a.1)
 
+-- what holds of all characters holds of each
 all_at : (P : ℕ → Type 0) (u v : List ℕ) (c : ℕ) → AllByRecursion P (u ++ c ∷ v) → P c
 all_at P [] v c a = a.0
 all_at P (d ∷ u) v c a = all_at P u v c a.1
 
+-- a text of an expression has no other characters than those it uses
 pub all_used : (r : Regex) (w : List ℕ) → Matches r w → AllUsed r w
 all_used nothing w m = absurd m
 all_used empty w m = subst (AllUsed empty) (sym m) tt
@@ -68,14 +74,17 @@ abbrev pub is_nothing : Regex → Bool
 is_nothing nothing = true
 is_nothing r = false
 
+-- a choice, without a side that has no texts
 abbrev pub alt : Regex → Regex → Regex
 alt r s = cond (is_nothing r) s (cond (is_nothing s) r (r ∣ s))
 
+-- an expression without its empty parts, which a text of it still matches
 abbrev pub clean : Regex → Regex
 clean (r · s) = seq (clean r) (clean s)
 clean (r ∣ s) = alt (clean r) (clean s)
 clean r = r
 
+-- a sequence matches without its empty parts
 seq-matches : (r s : Regex) (w : List ℕ) → Matches (r · s) w → Matches (seq r s) w
 seq-matches nothing s w m = m.2
 seq-matches empty s w m = subst (Matches s) (sym (m.4 ∙ ap (λ u. u ++ m.1) m.2)) m.3
@@ -84,6 +93,7 @@ seq-matches (q · r) s w m = m
 seq-matches (q ∣ r) s w m = m
 seq-matches (many r) s w m = m
 
+-- what tests as nothing has no texts
 no_texts : (r : Regex) (w : List ℕ) → is_nothing r ≡ true → Matches r w → ⊥
 no_texts nothing w e m = m
 no_texts empty w e m = false≢true e
@@ -92,6 +102,7 @@ no_texts (q · r) w e m = false≢true e
 no_texts (q ∣ r) w e m = false≢true e
 no_texts (many r) w e m = false≢true e
 
+-- a choice matches without a side that has no texts
 alt-matches : (r s : Regex) (w : List ℕ) → Matches (r ∣ s) w → Matches (alt r s) w
 alt-matches r s w m =
     cond_both (is_nothing r) s (cond (is_nothing s) r (r ∣ s)) (λ x. Matches x w)
@@ -100,6 +111,7 @@ alt-matches r s w m =
     (λ f. ⊎_elim (λ x. x) (λ x. absurd (no_texts s w f x)) m)
     (λ f. m))
 
+-- a text of an expression matches it without its empty parts
 pub matches-clean : (r : Regex) (w : List ℕ) → Matches r w → Matches (clean r) w
 matches-clean nothing w m = m
 matches-clean empty w m = m

@@ -14,6 +14,7 @@ use Rattle.rdf_terms.specs.Terms.{all_have}
 use Rattle.rdf_terms.specs.Values.{of_iri, Spot, outside, slash, digits, Move, leads, means, fails, allowed, digit_move, hex_value, move, go, value, string_value, iri_value, is_fit}
 use Rattle.rdf_terms.specs.Escapes.{is_plain}
 
+-- a string without backslash means itself, so the code may copy it
 pub string_value_plain : (w : List ℕ) → all_have is_plain w ≡ true → string_value w ≡ Some w
 string_value_plain [] h = refl
 string_value_plain (c ∷ w) h =
@@ -25,12 +26,14 @@ backslash_excluded : (c : ℕ) → has iri_char c ≡ true → (c ≡ 92 → ⊥
 unfolding has
 backslash_excluded c h e = false≢true (subst (λ x. has iri_char x ≡ true) e h)
 
+-- an IRIREF of IRI characters means itself, so the code may copy it
 pub iri_value_plain : (w : List ℕ) → all_have (has iri_char) w ≡ true → iri_value w ≡ Some w
 iri_value_plain [] h = refl
 iri_value_plain (c ∷ w) h =
     let p = and_parts (has iri_char c) (all_have (has iri_char) w) h in
     rw (ne_eqb c 92 (backslash_excluded c p.0), p.0, iri_value_plain w p.1) refl
 
+-- what is known is there
 pub is_some-of : {X : Type 0} (o : Option X) (x : X) → o ≡ Some x → is_some o ≡ true
 is_some-of o x e = ap is_some e
 
@@ -42,17 +45,21 @@ is_fit_other ShortString w i s l = absurd (s refl)
 is_fit_other LongString w i s l = absurd (l refl)
 is_fit_other _ w i s l = refl
 
+-- where no backslash is found, every character is plain
 none_plain : (w : List ℕ) → NonePass (λ d. d == 92) w → all_have is_plain w ≡ true
 none_plain [] h = refl
 none_plain (c ∷ w) h = rw (h.0, none_plain w h.1) refl
 
+-- where std finds no backslash in a str, every character is plain
 chars_plain : (bytes : List ℕ) → IsUtf8 bytes → NoCharPasses (λ d. d == 92) bytes → all_have is_plain (chars bytes) ≡ true
 chars_plain bytes u h = subst (λ w. all_have is_plain w ≡ true) (chars_from_encodes h.0 bytes u h.1) (none_plain h.0 h.2)
 
+-- where every character is plain, no backslash is found
 plain_none : (w : List ℕ) → all_have is_plain w ≡ true → NonePass (λ d. d == 92) w
 plain_none [] h = tt
 plain_none (c ∷ w) h = let p = and_parts (is_plain c) (all_have is_plain w) h in (not-true (c == 92) p.0, plain_none w p.1)
 
+-- a test and its opposite
 decided : (b t : Bool) → (b ≡ false → t ≡ true) → (b ≡ true → t ≡ true → ⊥) → b ≡ not t
 decided true true f g = absurd (g refl refl)
 decided true false f g = refl
@@ -74,13 +81,16 @@ IsIriMove (leads s) = Unit
 IsIriMove (means c) = has iri_char c ≡ true
 IsIriMove fails = Unit
 
+-- a character that is allowed in an IRI is one of IRIREF
 IsIriMove-allowed : (c : ℕ) → IsIriMove (allowed of_iri c)
 IsIriMove-allowed c = cond_both (has iri_char c) (means c) fails IsIriMove (λ h. h) (λ _. tt)
 
+-- a character that digits stand for in an IRI is one of IRIREF
 IsIriMove-digit : (k n : ℕ) → IsIriMove (digit_move of_iri k n)
 IsIriMove-digit zero n = cond_both (scalar n) (allowed of_iri n) fails IsIriMove (λ _. IsIriMove-allowed n) (λ _. tt)
 IsIriMove-digit (suc k) n = tt
 
+-- each character that the walk over an IRIREF gives is one of IRIREF
 IsIriMove-move : (s : Spot) (c : ℕ) → IsIriMove (move of_iri s c)
 IsIriMove-move outside c = cond_both (c == 92) (leads slash) (allowed of_iri c) IsIriMove (λ _. tt) (λ _. IsIriMove-allowed c)
 IsIriMove-move slash c =
@@ -90,19 +100,23 @@ IsIriMove-move (digits zero n) c = tt
 IsIriMove-move (digits (suc k) n) c =
     cond_both (has hex_digit c) _ fails IsIriMove (λ _. IsIriMove-digit k (16 * n + hex_value c)) (λ _. tt)
 
+-- the value, if there is one, consists of characters of IRIREF
 abbrev AllIri : Option (List ℕ) → Type 0
 AllIri None = Unit
 AllIri (Some w) = all_have (has iri_char) w ≡ true
 
+-- a value of IRI characters has only such with one more in front
 AllIri-cons : (c : ℕ) (o : Option (List ℕ)) → has iri_char c ≡ true → AllIri o → AllIri (option_map (λ w. c ∷ w) o)
 AllIri-cons c None k h = tt
 AllIri-cons c (Some w) k h = and_from (has iri_char c) (all_have (has iri_char) w) k h
 
+-- after a move that gives IRI characters the value has only such
 AllIri-go : (m : Move) (rest : Spot → Option (List ℕ)) → IsIriMove m → ((t : Spot) → AllIri (rest t)) → AllIri (go m rest)
 AllIri-go (leads s) rest k h = h s
 AllIri-go (means c) rest k h = AllIri-cons c (rest outside) k (h outside)
 AllIri-go fails rest k h = tt
 
+-- the value of each IRIREF has only IRI characters
 AllIri-value : (s : Spot) (w : List ℕ) → AllIri (value of_iri s w)
 AllIri-value outside [] = refl
 AllIri-value slash [] = tt

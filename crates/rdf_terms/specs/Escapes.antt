@@ -9,6 +9,7 @@ use Rattle.rdf_terms.specs.declared.values.Move.{Move as CodeMove}
 use Rattle.rdf_terms.specs.declared.values.Move.TheVariants.{Leads, Means, Fails}
 use Rattle.rdf_terms.specs.Values.{Inside, of_string, of_iri, Spot, outside, slash, digits, Move, leads, means, fails}
 
+-- the kind of text with escapes for which the code has this name
 abbrev pub inside_of : CodeInside → Inside
 inside_of OfString = of_string
 inside_of OfIri = of_iri
@@ -19,6 +20,7 @@ spot_of Outside = outside
 spot_of Slash = slash
 spot_of (Digits left n) = digits (suc left) n
 
+-- what one character does in the code's walk, in the words of the model
 abbrev pub move_of : CodeMove → Move
 move_of (Leads s) = leads (spot_of s)
 move_of (Means c) = means c

@@ -5,6 +5,7 @@ use Rattle.rdf_terms.specs.Classes.{Class, has}
 
 infixr 24 ◌·◌
 infixr 22 ◌∣◌
+-- the operators of the grammars' notation: no text, the empty text, one character of a class, sequence, choice and repetition
 pub data Regex : Type 0 where
   nothing : Regex
   empty : Regex

@@ -11,6 +11,7 @@ local_stands escaped c = cond escaped (has local_escape c) (c == 92 || has iri_c
 abbrev pub local_opens : Bool → ℕ → Bool
 local_opens escaped c = not escaped && c == 92
 
+-- what a local part means if each backslash in it begins a PN_LOCAL_ESC: the text with these left out
 abbrev pub without_backslashes : List ℕ → List ℕ
 without_backslashes [] = []
 without_backslashes (c ∷ w) = cond (c == 92) (without_backslashes w) (c ∷ without_backslashes w)

@@ -13,19 +13,23 @@ use Rattle.rdf_terms.specs.declared.terms.Term.TheVariants as term
 use Rattle.rdf_terms.specs.declared.terms.Quad.{Quad as OwnedQuad}
 use Rattle.rdf_terms.specs.Terms.{Node, Label, Anon, Cell, Tail, Lang, Typed, Subject, Iri, Blank, Term, Resource, Literal, Quad}
 
+-- the blank node that an owned one means
 abbrev pub owned_node : {A : Type 0} → OwnedNode A → Node
 owned_node (node.Label l) = Label l
 owned_node (node.Anon n) = Anon n
 owned_node (node.Cell n) = Cell n
 
+-- the language tag or the datatype of an owned literal
 abbrev pub owned_tail : {A : Type 0} → OwnedTail A → Tail
 owned_tail (tail.Lang t) = Lang t
 owned_tail (tail.Typed i) = Typed i
 
+-- the subject or graph label that an owned one means
 abbrev pub owned_subject : {A : Type 0} → OwnedSubject A → Subject
 owned_subject (subject.Iri i) = Iri i
 owned_subject (subject.Node n) = Blank (owned_node n)
 
+-- the object that an owned one means, its lexical form read as UTF-8
 abbrev pub owned_term : {A : Type 0} → OwnedTerm A → Term
 owned_term (term.Iri i) = Resource (Iri i)
 owned_term (term.Node n) = Resource (Blank (owned_node n))

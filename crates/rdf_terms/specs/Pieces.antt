@@ -16,6 +16,7 @@ pub data Inside : Type 0 where
 abbrev pub inside : ℕ → List ℕ → List ℕ
 inside n w = take (length w - 2 * n) (drop n w)
 
+-- the character that begins each escape: ECHAR, UCHAR and PN_LOCAL_ESC
 abbrev pub backslash : ℕ
 backslash = code "\\"
 

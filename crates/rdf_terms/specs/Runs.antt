@@ -13,6 +13,7 @@ iri_byte b = nat_le 128 b || member iri_char b
 abbrev pub is_text_byte : ℕ → Bool
 is_text_byte b = not (one_of (34 ∷ 39 ∷ 92 ∷ 10 ∷ 13 ∷ []) b)
 
+-- an ASCII letter, a digit, '_' or '-', each of them allowed in a name after its first character
 abbrev pub is_name_byte : ℕ → Bool
 is_name_byte b = is_letter b || is_digit b || b == 95 || b == 45
 

@@ -13,6 +13,7 @@ abbrev pub fixed : List Kind
 fixed = AtPrefix ∷ AtBase ∷ Carets ∷ Dot ∷ LineEnd ∷ True ∷ False ∷ A ∷ Prefix ∷ Base ∷ Graph ∷ Semicolon ∷ Comma
     ∷ OpenBracket ∷ CloseBracket ∷ OpenParen ∷ CloseParen ∷ OpenBrace ∷ CloseBrace ∷ []
 
+-- the kinds whose tokens differ in their text: IRIs, labels, strings, tags, numbers and prefixed names
 abbrev pub shaped : List Kind
 shaped = IriRef ∷ LabelNode ∷ ShortString ∷ LongString ∷ LangTag ∷ Integer ∷ Decimal ∷ Double ∷ PnameNs ∷ PnameLn ∷ []
 
@@ -20,6 +21,7 @@ shaped = IriRef ∷ LabelNode ∷ ShortString ∷ LongString ∷ LangTag ∷ Int
 abbrev pub kinds : List Kind
 kinds = fixed ++ shaped
 
+-- the texts that have the form of some kind of the list
 abbrev pub any_shape : Dialect → List Kind → Regex
 any_shape d [] = nothing
 any_shape d (k ∷ ks) = shape d k ∣ any_shape d ks
@@ -33,9 +35,11 @@ abbrev pub first_kind : Dialect → List Kind → List ℕ → Option Kind
 first_kind d [] w = None
 first_kind d (k ∷ ks) w = cond (nullable (after_all (shape d k) w)) (Some k) (first_kind d ks w)
 
+-- the kind of a whole text as a token of the dialect, or none; a keyword such as `@prefix` is not read as a language tag
 unfoldable pub kind_of : Dialect → List ℕ → Option Kind
 kind_of d w = first_kind d kinds w
 
+-- the first of two kinds that is there
 abbrev pub or_else : Option Kind → Option Kind → Option Kind
 or_else (Some k) o = Some k
 or_else None o = o

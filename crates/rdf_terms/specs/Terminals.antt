@@ -44,6 +44,7 @@ echar = one (the (code "\\")) · one escape_letter
 abbrev pub double_quote : Regex
 double_quote = one (the (code "\""))
 
+-- the apostrophe, which ends the strings that it begins (Turtle and TriG alone)
 abbrev pub single_quote : Regex
 single_quote = one (the (code "'"))
 
@@ -98,6 +99,7 @@ abbrev pub only_turtle : Dialect → Regex → Regex
 only_turtle Lines r = nothing
 only_turtle Turtle r = r
 
+-- the same for N-Triples and N-Quads
 abbrev pub only_lines : Dialect → Regex → Regex
 only_lines Lines r = r
 only_lines Turtle r = nothing

@@ -33,21 +33,25 @@ abbrev pub echar_move : Inside → ℕ → Move
 echar_move of_string c = letter_move c
 echar_move of_iri c = fails
 
+-- after a hex digit of a UCHAR: more digits are to come, or the number is that of the character meant, if it may stand there
 abbrev pub digit_move : Inside → ℕ → ℕ → Move
 digit_move i zero n = cond (scalar n) (allowed i n) fails
 digit_move i (suc k) n = leads (digits (suc k) n)
 
+-- what the next character does at this place inside a string or an IRI; a UCHAR has 4 digits after 'u' and 8 after 'U' (Turtle 6.4)
 abbrev pub move : Inside → Spot → ℕ → Move
 move i outside c = cond (c == 92) (leads slash) (allowed i c)
 move i slash c = cond (c == 117) (leads (digits 4 0)) (cond (c == 85) (leads (digits 8 0)) (echar_move i c))
 move i (digits zero n) c = fails
 move i (digits (suc k) n) c = cond (has hex_digit c) (digit_move i k (16 * n + hex_value c)) fails
 
+-- the value of a text whose first character makes this move, given the value of the rest from each place
 abbrev pub go : Move → (Spot → Option (List ℕ)) → Option (List ℕ)
 go (leads s) rest = rest s
 go (means c) rest = option_map (λ w. c ∷ w) (rest outside)
 go fails rest = None
 
+-- the characters that the rest of a string or an IRI means from this place on, or none where an escape is bad or cut
 abbrev pub value : Inside → Spot → List ℕ → Option (List ℕ)
 value i outside [] = Some []
 value i slash [] = None
@@ -58,6 +62,7 @@ value i s (c ∷ w) = go (move i s c) (λ t. value i t w)
 abbrev pub string_value : List ℕ → Option (List ℕ)
 string_value w = value of_string outside w
 
+-- the same for the inside of an IRIREF, where only UCHAR escapes, and each character meant is one that IRIREF allows
 abbrev pub iri_value : List ℕ → Option (List ℕ)
 iri_value w = value of_iri outside w
 
@@ -68,9 +73,11 @@ local_from false [] = Some []
 local_from true (c ∷ w) = cond (has local_escape c) (option_map (λ v. c ∷ v) (local_from false w)) None
 local_from false (c ∷ w) = cond (c == 92) (local_from true w) (cond (has iri_char c) (option_map (λ v. c ∷ v) (local_from false w)) None)
 
+-- the characters that a local part means, or none where a backslash begins no PN_LOCAL_ESC or a character may not stand in an IRI
 abbrev pub local_value : List ℕ → Option (List ℕ)
 local_value w = local_from false w
 
+-- a token's text has no bad escape; only IRIs and strings are tested, their delimiters left out
 unfoldable pub is_fit : Kind → List ℕ → Bool
 is_fit IriRef w = is_some (iri_value (inside 1 w))
 is_fit ShortString w = is_some (string_value (inside 1 w))

@@ -33,6 +33,7 @@ abbrev at_letter : State → Bool
 at_letter (Name name.Prefix) = true
 at_letter s = false
 
+-- after an ASCII letter alone the states stand in a prefix
 letter_state : (s : State) → at_letter s ≡ true → s ≡ Name name.Prefix
 letter_state (Name name.Prefix) e = refl
 letter_state s e = absurd (true≢false (sym e))
@@ -45,16 +46,20 @@ letter_tests c = not (is_letter c) || (at_letter (step Turtle Start c) && (at_le
 abbrev bare_tests : ℕ → Bool
 bare_tests c = not (is_bare_byte c) || (in_prefix (step Turtle (Name name.Prefix) c) && in_prefix (step Turtle (Name name.PrefixDots) c))
 
+-- an implication between truth values, from its test
 implied : (a b : Bool) → (not a || b) ≡ true → a ≡ true → b ≡ true
 implied true b e h = e
 implied false b e h = absurd (true≢false (sym h))
 
+-- letters that the code looks for are ASCII
 low-letter : (c : ℕ) → is_letter c ≡ true → c < 128
 low-letter c e = grind (arith, nat_tests)
 
+-- the bytes of a run without names are ASCII
 low-bare : (c : ℕ) → is_bare_byte c ≡ true → c < 128
 low-bare c e = grind (arith, nat_tests)
 
+-- a letter leads into a prefix from the start, within a prefix and after its dots
 letter_steps : (c : ℕ) → is_letter c ≡ true →
     (step Turtle Start c ≡ Name name.Prefix) × ((step Turtle (Name name.Prefix) c ≡ Name name.Prefix) × (step Turtle (Name name.PrefixDots) c ≡ Name name.Prefix))
 letter_steps c e =
@@ -69,6 +74,7 @@ letter_within (Name name.Prefix) c h e = let p = letter_steps c e in p.1.0 ∙ s
 letter_within (Name name.PrefixDots) c h e = let p = letter_steps c e in p.1.1 ∙ sym p.0
 letter_within s c h e = absurd (true≢false (sym h))
 
+-- a byte of the run leads on within a prefix
 bare_within : (s : State) (c : ℕ) → in_prefix s ≡ true → is_bare_byte c ≡ true → in_prefix (step Turtle s c) ≡ true
 bare_within s c h e = go s h (and_parts _ _ (implied (is_bare_byte c) _ (agree_below_at bare_tests (λ c. true) 128 c refl (low-bare c e)) e))
   where
@@ -83,17 +89,20 @@ none_parts : (n : ℕ) (k : Option Kind) (o : Option (ℕ × Kind)) → with_len
 none_parts n None o e = (refl, e)
 none_parts n (Some k) o e = absurd (let h : Some (n, k) ≡ None = e in cc)
 
+-- where no front has a kind, each single one has none
 none_each : (f : List ℕ → Option Kind) (w : List ℕ) (n m : ℕ) → longest_by f w n ≡ None → m < n → f (take (suc m) w) ≡ None
 none_each f w zero m e l = absurd (omega arith)
 none_each f w (suc n) m e l =
     let p = none_parts (suc n) (f (take (suc n) w)) (longest_by f w n) e in
     ⊎_elim (λ i. none_each f w n m p.1 i) (λ i. let e : m ≡ n = omega arith in ap (λ j. f (take (suc j) w)) e ∙ p.0) (cases_lt m n)
 
+-- where no single front has a kind, there is no longest one
 none_all : (f : List ℕ → Option Kind) (w : List ℕ) (n : ℕ) → ((m : ℕ) → m < n → f (take (suc m) w) ≡ None) → longest_by f w n ≡ None
 none_all f w zero h = refl
 none_all f w (suc n) h =
     ap (λ k. with_length (suc n) k (longest_by f w n)) (h n (omega arith)) ∙ none_all f w n (λ m l. h m (omega arith))
 
+-- a front without a kind has none after three quotes either
 no_long : (t : Bool) → only_long t None ≡ None
 no_long true = refl
 no_long false = refl
@@ -111,6 +120,7 @@ no_quotes c (a ∷ b ∷ w) e =
 same_state : (u v : List ℕ) (c : ℕ) → in_prefix (state_of Turtle u) ≡ true → is_letter c ≡ true → state_of Turtle (u ++ c ∷ v) ≡ state_of Turtle (c ∷ v)
 same_state u v c h e = run-append (step Turtle) Start u (c ∷ v) ∙ ap (λ s. run (step Turtle) s v) (letter_within (state_of Turtle u) c h e)
 
+-- a front that is longer than the first text is that text and a front of the second
 take_over : (u v : List ℕ) (n : ℕ) → take (length u + n) (u ++ v) ≡ u ++ take n v
 take_over [] v n = ap (λ m. take m v) (omega arith)
 take_over (c ∷ u) v n = let e : suc (length u) + n ≡ suc (length u + n) = omega arith in ap (λ m. take m (c ∷ (u ++ v))) e ∙ ap (λ x. c ∷ x) (take_over u v n)
@@ -183,6 +193,7 @@ bare_in bs end left s u e r b k = at
         ap (three_quotes Turtle) (sym whole ∙ first.0) ∙ no_quotes (get_or bs 0 0) (drop 1 w) e in
         subst (λ y. IsBare Turtle y s) (sym x.0 ∙ h.0.left) (bare_behind (take (suc p) w) v c s quotes h.1 f (subst (λ y. IsBare Turtle y s) whole b))
 
+-- no front in bytes is no front
 no_bytes : (w : List ℕ) (o : Option (ℕ × Kind)) → None ≡ in_bytes w o → o ≡ None
 no_bytes w None e = refl
 no_bytes w (Some x) e = absurd (let h : None ≡ Some (bytes_of x.0 w, x.1) = e in cc)
@@ -195,6 +206,7 @@ bare_here d w len kind state f e g = record {
   state = g;
 }
 
+-- a text that is known to be bare has no front by the states, so it need not be looked through again
 pub best_of_bare : (d : Dialect) (w : List ℕ) (s : Option State) → IsBare d w s → None ≡ in_bytes w (longest_by (kind_by_states d w) w (length w))
 best_of_bare d w s b = sym (ap (in_bytes w) b.none)
 
@@ -204,5 +216,6 @@ bare_drop d bs n None h = tt
 bare_drop d bs n (Some b) h = λ p l e.
     subst (λ y. IsBare d (chars y) b.state) (sym (drop-drop p n bs)) (h (n + p) (omega (arith, l, length-drop n bs)) (ap is_letter (sym (get_or-drop n bs p 0)) ∙ e))
 
+-- what is known of a text is known of what is left of it when a token was given
 pub bare_advanced : (d : Dialect) (text : List ℕ) (start len : ℕ) (b : Option Bare) → IsBareIn d (drop start text) b → IsBareIn d (drop (start + len) text) b
 bare_advanced d text start len b h = subst (λ y. IsBareIn d y b) (drop-drop len start text) (bare_drop d (drop start text) len b h)

@@ -18,10 +18,12 @@ abbrev pub blank_by : Dialect → Option Bool → List ℕ → ℕ
 blank_by d None w = 0
 blank_by d (Some b) w = suc (blank d b w)
 
+-- whether a comment is open after a text, by what its first character did
 abbrev pub comment_by : Dialect → Option Bool → List ℕ → Bool
 comment_by d None w = false
 comment_by d (Some b) w = comment_after d b w
 
+-- white space and comments, taken off by the step of one character
 pub blank-step : (d : Dialect) (b : Bool) (c : ℕ) (w : List ℕ) → blank d b (c ∷ w) ≡ blank_by d (comment_step d b c) w
 blank-step d false c w = go (is_space d c) (c == 35)
   where
@@ -36,6 +38,7 @@ blank-step d true c w = go (is_line_end c) (is_space d c)
     go true false = refl
     go false t = refl
 
+-- whether a comment is open, by the step of one character
 pub comment-step : (d : Dialect) (b : Bool) (c : ℕ) (w : List ℕ) → comment_after d b (c ∷ w) ≡ comment_by d (comment_step d b c) w
 comment-step d false c w = go (is_space d c) (c == 35)
   where
@@ -62,14 +65,17 @@ blank-append d b (c ∷ u) v e =
     go None e h = absurd (omega arith)
     go (Some b') e h = let k = h b' (omega arith) in omega arith
 
+-- the place after two texts is that after the second, counted from after the first
 pub past-append : (p : Place) (u v : List ℕ) → past p (u ++ v) ≡ past (past p u) v
 past-append p [] v = refl
 past-append p (c ∷ u) v = past-append (past p (c ∷ [])) u v
 
+-- a front that is longer than the first text is that text and a front of the second
 take-over : (u v : List ℕ) (n : ℕ) → take (length u + n) (u ++ v) ≡ u ++ take n v
 take-over [] v n = ap (λ m. take m v) (omega arith)
 take-over (c ∷ u) v n = let e : suc (length u) + n ≡ suc (length u + n) = omega arith in ap (λ m. take m (c ∷ (u ++ v))) e ∙ ap (λ x. c ∷ x) (take-over u v n)
 
+-- what is left after such a front is what is left of the second text
 drop-over : (u v : List ℕ) (n : ℕ) → drop (length u + n) (u ++ v) ≡ drop n v
 drop-over [] v n = ap (λ m. drop m v) (omega arith)
 drop-over (c ∷ u) v n = let e : suc (length u) + n ≡ suc (length u + n) = omega arith in ap (λ m. drop m (c ∷ (u ++ v))) e ∙ drop-over u v n
@@ -92,6 +98,7 @@ tokens-blank d limit t b p u v e =
 ends-no-comment : (c : ℕ) → is_line_end c ≡ true → (c == 35) ≡ false
 ends-no-comment c e = grind (arith, nat_tests)
 
+-- a character at which white space or a comment ends is no white space and begins no comment
 stays_none : (d : Dialect) (b : Bool) (c : ℕ) → comment_step d b c ≡ None → comment_step d false c ≡ None
 stays_none d false c e = e
 stays_none d true c e = go (is_line_end c) (is_space d c) (λ h. ends-no-comment c h) e
@@ -101,6 +108,7 @@ stays_none d true c e = go (is_line_end c) (is_space d c) (λ h. ends-no-comment
     go true false h e = ap (λ x. cond x (Some true) None) (h refl)
     go false t h e = absurd (let x : Some true ≡ None = e in cc)
 
+-- once white space and comments are taken off, none is left at the front, whatever comes
 pub rest-blank : (d : Dialect) (b : Bool) (u v : List ℕ) → is_empty (rest_of d b u) ≡ false → blank d false (rest_of d b u ++ v) ≡ 0
 rest-blank d b [] v e = absurd (true≢false e)
 rest-blank d b (c ∷ u) v e =
@@ -133,29 +141,35 @@ high_step Turtle true x l = grind (arith, nat_tests)
 high_step Lines false x l = grind (arith, nat_tests)
 high_step Turtle false x l = grind (arith, nat_tests)
 
+-- all bytes are from 128 on: none is white space, a line end or a `#`
 abbrev pub IsHigh : List ℕ → Type 0
 IsHigh v = (k : ℕ) → k < length v → 128 ≤ get_or v k 0
 
+-- all bytes of a character from U+0080 on are
 pub high-encode : (c : ℕ) → 128 ≤ c → IsHigh (encode_utf8 c)
 high-encode c l k h = ⊎_elim
     (λ m. let e : c ≡ get_or (encode_utf8 c) k 0 = inside_one c [] (encode_utf8 c) k (sym (append-nil (encode_utf8 c))) h m in absurd (omega arith))
     (λ m. m)
     (cases_lt (get_or (encode_utf8 c) k 0) 128)
 
+-- all bytes after the first are from 128 on, where all are
 high_tail : (x : ℕ) (v : List ℕ) → IsHigh (x ∷ v) → IsHigh v
 high_tail x v h k l = h (suc k) (omega arith)
 
+-- in a comment such bytes are taken off
 blank-high : (d : Dialect) (v r : List ℕ) → IsHigh v → blank d true (v ++ r) ≡ length v + blank d true r
 blank-high d [] r h = omega arith
 blank-high d (x ∷ v) r h =
     let i = blank-high d v r (high_tail x v h) in
     blank-step d true x (v ++ r) ∙ (ap (λ o. blank_by d o (v ++ r)) (high_step d true x (h 0 (omega arith))) ∙ (omega arith))
 
+-- in a comment bytes from 128 on leave it open
 comment-high : (d : Dialect) (v r : List ℕ) → IsHigh v → comment_after d true (v ++ r) ≡ comment_after d true r
 comment-high d [] r h = refl
 comment-high d (x ∷ v) r h =
     comment-step d true x (v ++ r) ∙ (ap (λ o. comment_by d o (v ++ r)) (high_step d true x (h 0 (omega arith))) ∙ comment-high d v r (high_tail x v h))
 
+-- outside of a comment they are no white space
 high-none : (d : Dialect) (v r : List ℕ) → IsHigh v → 0 < length v → (blank d false (v ++ r) ≡ 0) × (comment_after d false (v ++ r) ≡ false)
 high-none d [] r h l = absurd (omega arith)
 high-none d (x ∷ v) r h l =
@@ -188,6 +202,7 @@ blank-encodes d b (c ∷ w) = ⊎_elim
         (high-none d (encode_utf8 c) (encode_utf8_all w) (high-encode c l) (omega (arith, length-encode c, len_utf8_bounds c))).0
         ∙ sym (ap (λ n. bytes_of n (c ∷ w)) (blank-step d false c w ∙ ap (λ o. blank_by d o w) (high_step d false c l)))
 
+-- whether a comment is open is the same for a text and for its bytes
 comment-encodes : (d : Dialect) (b : Bool) (w : List ℕ) → comment_after d b (encode_utf8_all w) ≡ comment_after d b w
 comment-encodes d b [] = refl
 comment-encodes d b (c ∷ w) = ⊎_elim
@@ -209,8 +224,10 @@ comment-encodes d b (c ∷ w) = ⊎_elim
         (high-none d (encode_utf8 c) (encode_utf8_all w) (high-encode c l) (omega (arith, length-encode c, len_utf8_bounds c))).1
         ∙ sym (comment-step d false c w ∙ ap (λ o. comment_by d o w) (high_step d false c l))
 
+-- the code may count white space in bytes: they are those of the characters
 pub blank-bytes : (d : Dialect) (b : Bool) (bs : List ℕ) → IsUtf8 bs → blank d b bs ≡ bytes_of (blank d b (chars bs)) (chars bs)
 blank-bytes d b bs u = ap (blank d b) (sym (encodes-chars bs u)) ∙ blank-encodes d b (chars bs)
 
+-- the code may look for an open comment in bytes
 pub comment-bytes : (d : Dialect) (b : Bool) (bs : List ℕ) → IsUtf8 bs → comment_after d b bs ≡ comment_after d b (chars bs)
 comment-bytes d b bs u = ap (comment_after d b) (sym (encodes-chars bs u)) ∙ comment-encodes d b (chars bs)

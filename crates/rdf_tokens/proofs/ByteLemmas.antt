@@ -12,6 +12,7 @@ use Rattle.rdf_terms.specs.Classes.{scalar}
 use Rattle.rdf_tokens.specs.Machines.{run, IsChars}
 use Rattle.rdf_tokens.specs.Front.{IsAt, bytes_of}
 
+-- the first character begins at the first byte
 pub at-start : (bs : List ℕ) → IsUtf8 bs → IsAt bs 0 0
 at-start bs u = record { inside = omega arith; count = omega arith; utf8 = u; left = refl; bytes = refl }
 
@@ -22,6 +23,7 @@ uncons w t n c e =
     let m : get_or w n c ∷ drop (n + 1) w ≡ c ∷ t = sym (drop_more w n c l) ∙ e in
     (l, ap (λ x. get_or x 0 c) m, ap (drop 1) m)
 
+-- the next character begins after the bytes of this one
 pub past_char : (bs : List ℕ) (at n c : ℕ) → IsAt bs at n → drop at bs ≡ encode_utf8 c ++ drop (at + len_utf8 c) bs → at + len_utf8 c ≤ length bs →
     (drop n (chars bs) ≡ c ∷ drop (n + 1) (chars bs)) × IsAt bs (at + len_utf8 c) (n + 1)
 past_char bs at n c h e f =
@@ -50,6 +52,7 @@ char-step bs at n c next h e en l =
     let p = past_char bs at n c h (subst (λ m. drop at bs ≡ encode_utf8 c ++ drop m bs) en e) (subst (λ m. m ≤ length bs) en l) in
     (p.0, subst (λ m. IsAt bs m (n + 1)) (sym en) p.1)
 
+-- after the last byte all characters have come
 pub at-end : (bs : List ℕ) (at n : ℕ) → IsAt bs at n → length bs ≤ at → n ≡ length (chars bs)
 at-end bs at n h l =
     let none : drop at bs ≡ [] = nil_from_length (drop at bs) (omega (arith, length-drop at bs)) in
@@ -59,6 +62,7 @@ at-end bs at n h l =
 pub ascii_first : (bs : List ℕ) (at : ℕ) → at < length bs → slice_index bs at < 128 → drop at bs ≡ encode_utf8 (slice_index bs at) ++ drop (at + 1) bs
 ascii_first bs at l a = drop_more bs at 0 l ∙ ap (λ x. x ++ drop (at + 1) bs) (sym (encode_ascii (slice_index bs at) a))
 
+-- the state after two texts is that after the second, from where the first led
 pub run-append : {S : Type 0} (step : S → ℕ → S) (s : S) (u v : List ℕ) → run step s (u ++ v) ≡ run step (run step s u) v
 run-append step s [] v = refl
 run-append step s (c ∷ u) v = run-append step (step s c) u v
@@ -71,18 +75,22 @@ run-more step start s w t n c e h =
     let grown : take (n + 1) w ≡ take n w ++ c ∷ [] = take_more w n c p.0 ∙ ap (λ x. take n w ++ x ∷ []) p.1 in
     ap (λ x. step x c) h ∙ sym (ap (run step start) grown ∙ run-append step start (take n w) (c ∷ []))
 
+-- what std calls a character is a scalar value here
 scalar_same : (c : ℕ) → scalars (c ∷ []) ≡ true → scalar c ≡ true
 scalar_same c e = grind (arith, nat_tests)
 
+-- what std calls a text of characters is one here
 scalar_chars : (w : List ℕ) → scalars w ≡ true → IsChars w
 scalar_chars [] e = tt
 scalar_chars (c ∷ w) e =
     let p = and_parts _ _ e in
     (scalar_same c (ap (λ b. b && true) p.0), scalar_chars w p.1)
 
+-- the characters of a str are scalar values
 pub is-chars : (bs : List ℕ) → IsUtf8 bs → IsChars (chars bs)
 is-chars bs u = scalar_chars (chars bs) (scalars-chars bs u)
 
+-- a front of a text of scalar values has no others
 pub chars_take : (n : ℕ) (w : List ℕ) → IsChars w → IsChars (take n w)
 chars_take zero w h = tt
 chars_take (suc n) [] h = tt
@@ -97,16 +105,19 @@ pub record Cut (bs : List ℕ) (m n : ℕ) : Type 0 where
   pub front : chars (take m bs) ≡ take n (chars bs)
   pub rest : chars (drop m bs) ≡ drop n (chars bs)
 
+-- a front of a text of characters consists of characters
 scalars-take : (n : ℕ) (w : List ℕ) → scalars w ≡ true → scalars (take n w) ≡ true
 scalars-take zero w e = refl
 scalars-take (suc n) [] e = refl
 scalars-take (suc n) (c ∷ w) e = let p = and_parts _ _ e in and_from _ _ p.0 (scalars-take n w p.1)
 
+-- what is left of a text of characters consists of characters
 scalars-drop : (n : ℕ) (w : List ℕ) → scalars w ≡ true → scalars (drop n w) ≡ true
 scalars-drop zero w e = e
 scalars-drop (suc n) [] e = refl
 scalars-drop (suc n) (c ∷ w) e = scalars-drop n w (and_parts _ _ e).1
 
+-- a text that is cut after n characters is cut between them in bytes too, so both parts are UTF-8
 pub cut : (bs : List ℕ) (m n : ℕ) → IsUtf8 bs → m ≡ bytes_of n (chars bs) → Cut bs m n
 cut bs m n u e =
     let w = chars bs in

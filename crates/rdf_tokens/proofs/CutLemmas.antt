@@ -19,17 +19,20 @@ pub record Cut (bs : List ℕ) (n len : ℕ) : Type 0 where
   pub front_utf8 : IsUtf8 (take len bs)
   pub rest_utf8 : IsUtf8 (drop len bs)
 
+-- a front of a text of characters consists of characters
 scalars-take : (n : ℕ) (w : List ℕ) → scalars w ≡ true → scalars (take n w) ≡ true
 scalars-take zero w s = refl
 scalars-take (suc n) [] s = refl
 scalars-take (suc n) (c ∷ w) s =
     let p = and_parts (scalar c) (scalars w) s in ap (λ b. b && scalars (take n w)) p.0 ∙ scalars-take n w p.1
 
+-- what is left of a text of characters consists of characters
 scalars-drop : (n : ℕ) (w : List ℕ) → scalars w ≡ true → scalars (drop n w) ≡ true
 scalars-drop zero w s = s
 scalars-drop (suc n) [] s = s
 scalars-drop (suc n) (c ∷ w) s = scalars-drop n w (and_parts (scalar c) (scalars w) s).1
 
+-- a text that is cut after n characters can be sliced at the byte where they end
 pub cut : (bs : List ℕ) (n len : ℕ) → IsUtf8 bs → len ≡ bytes_of n (chars bs) → Cut bs n len
 cut bs n len u e =
     let w = chars bs in

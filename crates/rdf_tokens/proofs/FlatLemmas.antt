@@ -16,6 +16,7 @@ use Rattle.rdf_tokens.specs.Tokens.Step.{token}
 use Rattle.rdf_tokens.proofs.PlaceLemmas.{feeds-append}
 use Rattle.rdf_tokens.proofs.StepLemmas.{step-token}
 
+-- the shape of a flat kind has no line feed
 no_feed : (d : Dialect) (k : Kind) → is_flat k ≡ true → uses (shape d k) 10 ≡ false
 unfolding shape has
 no_feed d IriRef e = refl
@@ -32,10 +33,12 @@ no_feed d End e = refl
 no_feed Lines k e = refl
 no_feed Turtle k e = refl
 
+-- what has the shape of a kind matches its expression
 matched : (d : Dialect) (k : Kind) (w : List ℕ) → Shape d k w → Matches (shape d k) w
 matched d LangTag w h = h.0
 matched d k w h = h
 
+-- a text without a character has none of it to count
 none_counted : (r : ℕ → Bool) → r 10 ≡ false → (w : List ℕ) → AllByRecursion (λ c. r c ≡ true) w → count_by (λ c. c == 10) w ≡ 0
 none_counted r e [] a = refl
 none_counted r e (c ∷ w) a = ⊎_elim
@@ -47,6 +50,7 @@ none_counted r e (c ∷ w) a = ⊎_elim
     omega (arith, all, one, rest))
     (cases_Bool (c == 10))
 
+-- a token of a flat kind has no line feed, so the code need not count lines in it
 pub flat_text : (d : Dialect) (limit : ℕ) (t : Tail) (w : List ℕ) (n : ℕ) (k : Kind) → step d limit t w ≡ token n k → is_flat k ≡ true →
     count_by (λ c. c == 10) (take n w) ≡ 0
 flat_text d limit t w n k e f =

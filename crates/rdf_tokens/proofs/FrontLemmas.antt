@@ -26,10 +26,12 @@ abbrev pub AtMost : ℕ → Option (ℕ × Kind) → Type 0
 AtMost n None = Unit {0}
 AtMost n (Some x) = (0 < x.0) × (x.0 ≤ n)
 
+-- what is at most n is at most n + 1
 at_most-suc : (n : ℕ) (o : Option (ℕ × Kind)) → AtMost n o → AtMost (suc n) o
 at_most-suc n None h = tt
 at_most-suc n (Some x) h = (h.0, omega arith)
 
+-- the longest front of n characters has at most n
 pub longest_by-at_most : (f : List ℕ → Option Kind) (w : List ℕ) (n : ℕ) → AtMost n (longest_by f w n)
 longest_by-at_most f w zero = tt
 longest_by-at_most f w (suc n) = go (f (take (suc n) w)) (longest_by-at_most f w n)
@@ -48,6 +50,7 @@ longer-step n (Some k) None a None h i = refl
 longer-step n (Some k) None a (Some y) h i = sym (ap (λ t. cond t (Some y) (Some (suc n, k))) (le-ltb (suc n) y.0 (omega arith)))
 longer-step n (Some k) (Some l) a b h i = sym (ap (λ t. cond t (Some (suc n, l)) (Some (suc n, k))) (le-ltb (suc n) (suc n) (omega arith)))
 
+-- the longest front by either of two tests is the longer of theirs, so spellings and states may be looked for apart
 pub longest_by-or : (f g : List ℕ → Option Kind) (w : List ℕ) (n : ℕ) → longest_by (λ u. or_else (f u) (g u)) w n ≡ longer_front (longest_by f w n) (longest_by g w n)
 longest_by-or f g w zero = refl
 longest_by-or f g w (suc n) =
@@ -65,6 +68,7 @@ bytes_of-lt (c ∷ w) (suc n) (suc m) l k =
     let h = bytes_of-lt w n m (omega arith) (omega arith) in
     omega (arith, length-append (encode_utf8 c) (encode_utf8_all (take m w)), length-append (encode_utf8 c) (encode_utf8_all (take n w)))
 
+-- fronts compare by characters as they do by bytes
 bytes_of-test : (w : List ℕ) (n m : ℕ) → n ≤ length w → m ≤ length w → nat_lt n m ≡ nat_lt (bytes_of n w) (bytes_of m w)
 bytes_of-test w n m l k = ⊎_elim
     (λ h. lt-ltb n m h ∙ sym (lt-ltb _ _ (bytes_of-lt w n m h k)))
@@ -90,6 +94,7 @@ pub longer-none : (a : Option (ℕ × Kind)) → longer_front a None ≡ a
 longer-none None = refl
 longer-none (Some x) = refl
 
+-- the longest of three fronts, in whatever order they are compared
 pub longer-assoc : (a b c : Option (ℕ × Kind)) → longer_front (longer_front a b) c ≡ longer_front a (longer_front b c)
 longer-assoc None b c = refl
 longer-assoc (Some x) None c = refl

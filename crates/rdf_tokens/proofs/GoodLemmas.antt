@@ -23,6 +23,7 @@ at_least bs (suc n) m l u =
     (cases_lt m (suc n)))
     (cases_Bool (is_utf8 (take (suc n) bs)))
 
+-- the longest valid front of n bytes is UTF-8
 front_utf8 : (bs : List ℕ) (n : ℕ) → IsUtf8 (take (valid_len_up_to bs n) bs)
 front_utf8 bs zero = ([], (refl, refl))
 front_utf8 bs (suc n) =
@@ -31,10 +32,12 @@ front_utf8 bs (suc n) =
     (λ h. subst (λ x. IsUtf8 (take x bs)) (sym (cond-false (is_utf8 (take (suc n) bs)) (suc n) (valid_len_up_to bs n) h)) (front_utf8 bs n))
     (cases_Bool (is_utf8 (take (suc n) bs)))
 
+-- the good text is UTF-8
 pub good_front : (bs : List ℕ) → IsUtf8 (take (utf8_valid_len bs) bs)
 unfolding utf8_valid_len
 good_front bs = front_utf8 bs (length bs)
 
+-- more bytes never make the valid front shorter
 pub valid_more : (bs more : List ℕ) → utf8_valid_len bs ≤ utf8_valid_len (bs ++ more)
 unfolding utf8_valid_len
 valid_more bs more =
@@ -59,38 +62,47 @@ two_one : (c : ℕ) → 128 ≤ c → c < 2048 → utf8_error_len ((192 + c / 64
 unfolding utf8_error_len
 two_one c l h = grind (arith, nat_tests)
 
+-- the first byte of three begins a character
 three_one : (c : ℕ) → 2048 ≤ c → c < 65536 → utf8_error_len ((224 + c / 4096) ∷ []) ≡ None
 unfolding utf8_error_len
 three_one c l h = grind (arith, nat_tests)
 
+-- the first two bytes of three begin a character
 three_two : (c : ℕ) → 2048 ≤ c → c < 65536 → (c < 55296) ⊎ (57344 ≤ c) → utf8_error_len ((224 + c / 4096) ∷ (128 + (c / 64) % 64) ∷ []) ≡ None
 unfolding utf8_error_len
 three_two c l h s = grind (arith, nat_tests)
 
+-- the first byte of four begins a character
 four_one : (c : ℕ) → 65536 ≤ c → c < 1114112 → utf8_error_len ((240 + c / 262144) ∷ []) ≡ None
 unfolding utf8_error_len
 four_one c l h = grind (arith, nat_tests)
 
+-- the first two bytes of four begin a character
 four_two : (c : ℕ) → 65536 ≤ c → c < 1114112 → utf8_error_len ((240 + c / 262144) ∷ (128 + (c / 4096) % 64) ∷ []) ≡ None
 unfolding utf8_error_len
 four_two c l h = grind (arith, nat_tests)
 
+-- the first three bytes of four begin a character
 four_three : (c : ℕ) → 65536 ≤ c → c < 1114112 → utf8_error_len ((240 + c / 262144) ∷ (128 + (c / 4096) % 64) ∷ (128 + (c / 64) % 64) ∷ []) ≡ None
 unfolding utf8_error_len
 four_three c l h = grind (arith, nat_tests)
 
+-- a character of two bytes, bit by bit
 pub encode_two : (c : ℕ) → 128 ≤ c → c < 2048 → encode c ≡ (192 + c / 64) ∷ (128 + c % 64) ∷ []
 unfolding encode
 encode_two c l h = rw (le-ltb c 128 l, lt-ltb c 2048 h) refl
 
+-- one of three bytes
 pub encode_three : (c : ℕ) → 2048 ≤ c → c < 65536 → encode c ≡ (224 + c / 4096) ∷ (128 + (c / 64) % 64) ∷ (128 + c % 64) ∷ []
 unfolding encode
 encode_three c l h = rw (le-ltb c 128 (omega arith), le-ltb c 2048 l, lt-ltb c 65536 h) refl
 
+-- one of four bytes
 pub encode_four : (c : ℕ) → 65536 ≤ c → encode c ≡ (240 + c / 262144) ∷ (128 + (c / 4096) % 64) ∷ (128 + (c / 64) % 64) ∷ (128 + c % 64) ∷ []
 unfolding encode
 encode_four c l = rw (le-ltb c 128 (omega arith), le-ltb c 2048 (omega arith), le-ltb c 65536 l) refl
 
+-- one of one byte
 pub encode_one : (c : ℕ) → c < 128 → encode c ≡ c ∷ []
 unfolding encode
 encode_one c l = rw (lt-ltb c 128 l) refl
@@ -133,6 +145,7 @@ starts_none c k s p q =
     by_four e n m o (suc (suc (suc zero))) p q = ap (λ x. utf8_error_len (take 3 x)) e ∙ o
     by_four e n m o (suc (suc (suc (suc k)))) p q = absurd (omega arith)
 
+-- no bytes are no error: more may come
 pub utf8_error_len-nil : utf8_error_len [] ≡ None
 unfolding utf8_error_len
 utf8_error_len-nil = refl

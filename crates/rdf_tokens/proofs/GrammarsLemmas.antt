@@ -23,10 +23,12 @@ use Rattle.rdf_tokens.proofs.GoodLemmas.{good_front}
 use Rattle.rdf_tokens.proofs.TokensLemmas.{step_token}
 use Rattle.rdf_tokens.proofs.LawLemmas.{by_steps, tokens_of-tokens, end_last, nothing_yet}
 
+-- tokens of two lists are counted in each
 pub counted-append : (ts us : List Token) → counted (ts ++ us) ≡ counted ts + counted us
 counted-append [] us = omega arith
 counted-append (t ∷ ts) us = let h = counted-append ts us in omega arith
 
+-- a text has at most as many tokens as characters, since none but the end is empty
 tokens_count : (d : Dialect) (limit : ℕ) (t : Tail) (b : Bool) (p : Place) (w : List ℕ) → counted (tokens d limit t b p w).tokens ≤ length w
 tokens_count d limit t b p w = by_steps d limit t (λ p w r. counted r.tokens ≤ length w) (λ b p w o e. at_end o (place_of d b p w) (length w)) takes b p w
   where
@@ -44,6 +46,7 @@ tokens_count d limit t b p w = by_steps d limit t (λ p w r. counted r.tokens �
         let one : cond (is_end k) 0 1 ≤ 1 = cond_both (is_end k) 0 1 (λ n. n ≤ 1) (λ e. omega arith) (λ e. omega arith) in
         omega (arith, one)
 
+-- there are at most as many characters as bytes
 length-good : (bytes : List ℕ) → length (good bytes) ≤ length bytes
 length-good bytes =
     let n = utf8_valid_len bytes in
@@ -53,6 +56,7 @@ length-good bytes =
     let d = utf8_valid_len_le bytes in
     omega arith
 
+-- so there are at most as many tokens as bytes, and their count does not overflow
 tokens_of_count : (d : Dialect) (limit : ℕ) (bytes : List ℕ) (e : Bool) → counted (tokens_of d limit bytes e).tokens ≤ length bytes
 unfolding tokens_of
 tokens_of_count d limit bytes e =
@@ -129,11 +133,13 @@ step_complete d limit t w e =
     tail goes_on w false h e = absurd (made w h e)
     tail broken w false h e = absurd (made w h e)
 
+-- before the end of the input is told, it has not ended
 tail_of-open : (bytes : List ℕ) → tail_of bytes false ≢ ended
 tail_of-open bytes =
     cond_both (utf8_valid_len bytes == length bytes) goes_on (cond (is_some (utf8_error_len (drop (utf8_valid_len bytes) bytes))) broken goes_on) (λ t. t ≢ ended) (λ h e. cc)
     (λ h. cond_both (is_some (utf8_error_len (drop (utf8_valid_len bytes) bytes))) broken goes_on (λ t. t ≢ ended) (λ h e. cc) (λ h e. cc))
 
+-- no reading is complete before the end is told
 pub only_ended : (d : Dialect) (limit : ℕ) (bytes : List ℕ) → (tokens_of d limit bytes false).outcome ≢ complete
 only_ended d limit bytes e =
     tail_of-open bytes
@@ -153,10 +159,12 @@ counted_all (t ∷ ts) a =
     no_end End n = absurd (n refl)
     no_end k n = refl
 
+-- where more is to come, no token is the end and all are counted
 pub counted_undecided : (d : Dialect) (limit : ℕ) (bytes : List ℕ) (e : Bool) → (tokens_of d limit bytes e).outcome ≡ undecided →
     counted (tokens_of d limit bytes e).tokens ≡ length (tokens_of d limit bytes e).tokens
 counted_undecided d limit bytes e u = counted_all _ ((end_last d limit bytes e).part (λ x. let z : undecided ≡ complete = sym u ∙ x in cc))
 
+-- where all was read, the end is the one token that is not counted
 pub counted_complete : (d : Dialect) (limit : ℕ) (bytes : List ℕ) (e : Bool) → (tokens_of d limit bytes e).outcome ≡ complete →
     counted (tokens_of d limit bytes e).tokens + 1 ≡ length (tokens_of d limit bytes e).tokens
 counted_complete d limit bytes e x =

@@ -33,6 +33,7 @@ begins_rest bytes b =
     none None e = refl
     none (Some n) e = let h : true ≡ false = e in cc
 
+-- the bytes that a scanner keeps begin a character that has not come whole
 pub begins_kept : (bytes pending : List ℕ) → pending ≡ cond (is_broken bytes) [] (rest_of_bytes bytes) → BeginsChar pending
 begins_kept bytes pending e = at (is_broken bytes) refl
   where
@@ -54,6 +55,7 @@ kept_within bytes pending e = at (is_broken bytes) refl
         let k : length pending ≡ length (rest_of_bytes bytes) = ap length (e ∙ cond-false _ _ _ x) in
         omega (arith, n, length-drop (utf8_valid_len bytes) bytes)
 
+-- a piece after bad bytes is only counted
 pub held_counted : (text : List ℕ) (start : ℕ) (pending piece : List ℕ) (place taken : Place) → Held text start pending place taken →
     taken.offset + length piece ≤ most_bytes → Held text start pending place (beyond taken piece)
 held_counted text start pending piece place taken h m =
@@ -62,6 +64,7 @@ held_counted text start pending piece place taken h m =
     let a = h.last in
     record { boundary = h.boundary; begins = h.begins; within = omega arith; most = m; lines = h.lines; last = omega arith }
 
+-- what always holds of the fields holds after a piece was appended
 pub held_grown : (text new : List ℕ) (start : ℕ) (pending kept piece : List ℕ) (place taken : Place) → Held text start pending place taken →
     taken.offset + length piece ≤ most_bytes → IsUtf8 new → new ≡ drop start text ++ good_bytes (pending ++ piece) →
     kept ≡ cond (is_broken (pending ++ piece)) [] (rest_of_bytes (pending ++ piece)) → Held new 0 kept place (beyond taken piece)
@@ -80,6 +83,7 @@ held_grown text new start pending kept piece place taken h m u e k =
       last = omega arith;
     }
 
+-- the characters of the text after a piece are those that were left and the good ones of the piece
 pub text_grown : (text new : List ℕ) (start : ℕ) (pending piece : List ℕ) (place taken : Place) → Held text start pending place taken → IsUtf8 text →
     new ≡ drop start text ++ good_bytes (pending ++ piece) → chars new ≡ chars (drop start text) ++ good (pending ++ piece)
 text_grown text new start pending piece place taken h u e =

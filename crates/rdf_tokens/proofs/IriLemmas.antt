@@ -27,6 +27,7 @@ rep HexDigit = 48
 rep Plain = 103
 rep Excluded = 32
 
+-- the classes of characters of which IRIREF is made
 abbrev classes : List Class
 classes = the 60 ∷ the 62 ∷ the 92 ∷ the 117 ∷ the 85 ∷ hex_digit ∷ iri_char ∷ []
 
@@ -42,6 +43,7 @@ rest Dead = nothing
 unfoldable meaning : Iri → List Regex
 meaning s = rest s ∷ []
 
+-- where a character of a sort leads is what is left to match after it, so the table of moves is right
 moves : (s : Iri) (x : Sort) → Moves rep move meaning s x
 unfolding meaning has
 moves Start OpenAngle = inl refl
@@ -61,6 +63,7 @@ moves Whole x = inl refl
 moves Dead OpenAngle = inl refl
 moves Dead x = inl refl
 
+-- the expressions have no other classes than these
 covered : (s : Iri) → covers_all classes (meaning s) ≡ true
 unfolding meaning
 covered (Hex zero) = refl
@@ -68,13 +71,16 @@ covered (Hex (suc n)) = covered (Hex n)
 covered Start = refl
 covered s = refl
 
+-- characters of one sort are in the same classes, by a test of each ASCII character and each width
 sorts : sorts_agree ascii high rep classes ≡ true
 unfolding has
 sorts = refl
 
+-- all of this together, as the general lemmas on families take it
 abbrev family : Family Iri Sort
 family = record { ascii = ascii; high = high; rep = rep; move = move; meaning = meaning; classes = classes; sorts = sorts; covered = covered; moves = moves }
 
+-- a state has a kind exactly where nothing is left to match of the expression of that kind
 kind_of_state : (s : Iri) → kind_in (IriRef ∷ []) (meaning s) ≡ cond (accepts s) (Some IriRef) None
 unfolding meaning
 kind_of_state (Hex zero) = refl
@@ -82,6 +88,7 @@ kind_of_state (Hex (suc n)) = refl
 kind_of_state Start = refl
 kind_of_state s = refl
 
+-- a state goes on exactly where something longer can match
 live_state : (s : Iri) → longer_in (meaning s) ≡ goes_on s
 unfolding meaning has
 live_state (Hex zero) = refl
@@ -89,6 +96,7 @@ live_state (Hex (suc n)) = rw (possible-hexes n) refl
 live_state Start = refl
 live_state s = refl
 
+-- at the start all of the shape is left
 starts : (d : Dialect) → meaning Start ≡ map (shape d) (IriRef ∷ [])
 unfolding meaning shape
 starts d = refl
@@ -97,5 +105,6 @@ starts d = refl
 pub iri-kind : (d : Dialect) (w : List ℕ) → IsChars w → first_kind d (IriRef ∷ []) w ≡ cond (accepts (run step Start w)) (Some IriRef) None
 iri-kind d w b = kind-run family d (IriRef ∷ []) Start (starts d) w b ∙ kind_of_state (run step Start w)
 
+-- the states go on after a text exactly where it begins a longer one of IRIREF
 pub iri-live : (d : Dialect) (w : List ℕ) → IsChars w → longer (after_all (any_shape d (IriRef ∷ [])) w) ≡ goes_on (run step Start w)
 iri-live d w b = live-run family d (IriRef ∷ []) Start (starts d) w b ∙ live_state (run step Start w)

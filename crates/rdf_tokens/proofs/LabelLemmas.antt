@@ -17,6 +17,7 @@ use Rattle.rdf_tokens.specs.Label.{ascii, high, move, step, accepts, goes_on}
 use Rattle.rdf_tokens.proofs.SortLemmas.{sorts_agree}
 use Rattle.rdf_tokens.proofs.FamilyLemmas.{Family, Moves, covers_all, kind_in, longer_in, kind-run, live-run}
 
+-- a character of each sort, which stands for all of it
 abbrev rep : Sort → ℕ
 rep sort.Underscore = 95
 rep sort.Colon = 58
@@ -26,9 +27,11 @@ rep sort.Letter = 97
 rep sort.Mark = 45
 rep sort.Other = 32
 
+-- the classes of characters of which BLANK_NODE_LABEL is made
 abbrev classes : Dialect → List Class
 classes d = the 95 ∷ the 58 ∷ the 46 ∷ digit ∷ pn_u d ∷ pn_char d ∷ []
 
+-- (PN_CHARS | '.')* PN_CHARS, what may follow the first character of a name
 abbrev more : Dialect → Regex
 more d = many (one (pn_char d) ∣ dot) · one (pn_char d)
 
@@ -41,6 +44,7 @@ meaning d Name = (empty ∣ more d) ∷ []
 meaning d Dots = more d ∷ []
 meaning d Dead = nothing ∷ []
 
+-- where a character of a sort leads is what is left to match after it, so the table of moves is right
 moves : (d : Dialect) (s : Label) (x : Sort) → Moves rep (move d) (meaning d) s x
 unfolding meaning has shape
 moves Lines Start sort.Dot = inl refl
@@ -65,6 +69,7 @@ moves Turtle Dots sort.Dot = inl refl
 moves Turtle Dots x = inl refl
 moves d Dead x = inl refl
 
+-- the expressions have no other classes than these
 covered : (d : Dialect) (s : Label) → covers_all (classes d) (meaning d s) ≡ true
 unfolding meaning shape
 covered Lines Start = refl
@@ -72,19 +77,23 @@ covered Lines s = refl
 covered Turtle Start = refl
 covered Turtle s = refl
 
+-- characters of one sort are in the same classes, by a test of each ASCII character and each width
 sorts : (d : Dialect) → sorts_agree ascii high rep (classes d) ≡ true
 unfolding has
 sorts Lines = refl
 sorts Turtle = refl
 
+-- all of this together, as the general lemmas on families take it
 abbrev family : Dialect → Family Label Sort
 family d = record { ascii = ascii; high = high; rep = rep; move = move d; meaning = meaning d; classes = classes d; sorts = sorts d; covered = covered d; moves = moves d }
 
+-- a state has a kind exactly where nothing is left to match of the expression of that kind
 kind_of_state : (d : Dialect) (s : Label) → kind_in (LabelNode ∷ []) (meaning d s) ≡ cond (accepts s) (Some LabelNode) None
 unfolding meaning shape
 kind_of_state d Start = refl
 kind_of_state d s = refl
 
+-- a state goes on exactly where something longer can match
 live_state : (d : Dialect) (s : Label) → longer_in (meaning d s) ≡ goes_on s
 unfolding meaning shape has
 live_state Lines Start = refl
@@ -92,6 +101,7 @@ live_state Lines s = refl
 live_state Turtle Start = refl
 live_state Turtle s = refl
 
+-- at the start all of the shape is left
 starts : (d : Dialect) → meaning d Start ≡ map (shape d) (LabelNode ∷ [])
 unfolding meaning
 starts d = refl
@@ -100,5 +110,6 @@ starts d = refl
 pub label-kind : (d : Dialect) (w : List ℕ) → IsChars w → first_kind d (LabelNode ∷ []) w ≡ cond (accepts (run (step d) Start w)) (Some LabelNode) None
 label-kind d w b = kind-run (family d) d (LabelNode ∷ []) Start (starts d) w b ∙ kind_of_state d (run (step d) Start w)
 
+-- the states go on after a text exactly where it begins a longer one of BLANK_NODE_LABEL
 pub label-live : (d : Dialect) (w : List ℕ) → IsChars w → longer (after_all (any_shape d (LabelNode ∷ [])) w) ≡ goes_on (run (step d) Start w)
 label-live d w b = live-run (family d) d (LabelNode ∷ []) Start (starts d) w b ∙ live_state d (run (step d) Start w)

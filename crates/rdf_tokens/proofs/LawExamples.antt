@@ -22,12 +22,15 @@ use Rattle.rdf_tokens.proofs.LawLemmas.{lengthens, given_beginning, next_given, 
 use Rattle.rdf_tokens.proofs.LimitLemmas.{no_longer}
 use Rattle.rdf_tokens.proofs.OutcomeLemmas.{longest_found, reasons, longest_tokens}
 
+-- the integer at the first byte
 one : Token
 one = record { kind = Integer; text = 49 ∷ []; at = record { offset = 0; line = 1 } }
 
+-- the dot after it
 dot : Token
 dot = record { kind = Dot; text = 46 ∷ []; at = record { offset = 2; line = 1 } }
 
+-- the end of the input
 end : Token
 end = record { kind = End; text = []; at = record { offset = 3; line = 1 } }
 
@@ -56,6 +59,7 @@ given_one = record (unread Turtle 8 (32 ∷ 46 ∷ []) []) {
   ended = true;
 }
 
+-- a scanner that has given the integer
 has_given_one : HasScanned given_one (49 ∷ 32 ∷ 46 ∷ []) (one ∷ [])
 unfolding given_one tokens_of tokens read step kind_of is_live shape has chars utf8_valid_len utf8_error_len is_utf8 encode one is_fit
 has_given_one = record { taken = refl; reads = refl }
@@ -76,6 +80,7 @@ given_end = record (unread Turtle 8 [] []) {
   stopped = true;
 }
 
+-- a scanner that has given all three
 has_given_end : HasScanned given_end (49 ∷ 32 ∷ 46 ∷ []) (one ∷ dot ∷ end ∷ [])
 unfolding given_end
 has_given_end = record {
@@ -83,6 +88,7 @@ has_given_end = record {
   reads = (ap (λ r. r.tokens) read_whole, λ h. let e : complete ≡ undecided = sym (ap (λ r. r.outcome) read_whole) ∙ h in cc);
 }
 
+-- after the end it reports that it has ended
 no_more : IsNext (tokens_of Turtle 8 (49 ∷ 32 ∷ 46 ∷ []) true) (one ∷ dot ∷ end ∷ []) (Err (record { reason = Ended; offset = 3; line = 1 }))
 unfolding given_end
 no_more = next_given given_end given_end (49 ∷ 32 ∷ 46 ∷ []) (one ∷ dot ∷ end ∷ []) (Err (record { reason = Ended; offset = 3; line = 1 })) has_given_end (refl, refl)
@@ -93,6 +99,7 @@ dot_stands =
     let all = subst (λ r. All (StandsIn (49 ∷ 32 ∷ 46 ∷ [])) r.tokens) read_whole (places Turtle 8 (49 ∷ 32 ∷ 46 ∷ []) true).0 in
     All-head (StandsIn (49 ∷ 32 ∷ 46 ∷ [])) dot (end ∷ []) (All-tail (StandsIn (49 ∷ 32 ∷ 46 ∷ [])) one (dot ∷ end ∷ []) all)
 
+-- the dot is a token of Turtle
 dot_is_token : IsToken Turtle dot
 dot_is_token =
     let all = subst (λ r. All (IsToken Turtle) r.tokens) read_whole (have_shapes Turtle 8 (49 ∷ 32 ∷ 46 ∷ []) true) in
@@ -132,6 +139,7 @@ read_none : tokens_of Turtle 8 (33 ∷ []) true ≡ record { tokens = []; outcom
 unfolding tokens_of tokens read step kind_of is_live shape has chars utf8_valid_len utf8_error_len is_utf8 encode is_fit
 read_none = refl
 
+-- "!" begins no token
 no_front : HasNoFront Turtle (text_at (33 ∷ []) (record { offset = 0; line = 1 }))
 no_front = (subst (λ r. EndsFor Turtle 8 (33 ∷ []) true r.outcome r.at) read_none (reasons Turtle 8 (33 ∷ []) true)).1
 
@@ -140,5 +148,6 @@ read_bad : tokens_of Turtle 8 (49 ∷ 32 ∷ 255 ∷ []) false ≡ record { toke
 unfolding tokens_of tokens read step kind_of is_live shape has chars utf8_valid_len utf8_error_len is_utf8 encode one is_fit
 read_bad = refl
 
+-- the place of bad UTF-8 is where the good text ends
 bad_place : 2 ≡ utf8_valid_len (49 ∷ 32 ∷ 255 ∷ [])
 bad_place = (subst (λ r. EndsFor Turtle 8 (49 ∷ 32 ∷ 255 ∷ []) false r.outcome r.at) read_bad (reasons Turtle 8 (49 ∷ 32 ∷ 255 ∷ []) false)).0

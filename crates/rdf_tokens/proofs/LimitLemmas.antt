@@ -19,6 +19,7 @@ use Rattle.rdf_tokens.proofs.TokensLemmas.{longer_take, step_token}
 use Rattle.rdf_tokens.proofs.StepLemmas.{step-kind}
 use Rattle.rdf_tokens.proofs.LawLemmas.{by_steps, tokens_of-tokens, given_beginning}
 
+-- a token is given only where no token passes the limit
 step-over : (d : Dialect) (limit : ℕ) (t : Tail) (w : List ℕ) (n : ℕ) (k : Kind) → step d limit t w ≡ token n k → over d limit w ≡ false
 unfolding step
 step-over d limit t w n k e = go (over d limit w) refl e
@@ -27,10 +28,12 @@ step-over d limit t w n k e = go (over d limit w) refl e
     go true h e = absurd (let z : stop token_too_long ≡ token n k = e in cc)
     go false h e = h
 
+-- a test is passed where its second half is
 or_right : (a b : Bool) → b ≡ true → (a || b) ≡ true
 or_right true b e = refl
 or_right false b e = e
 
+-- a token that a step gives has at most as many characters as the limit allows
 pub step_within : (d : Dialect) (limit : ℕ) (t : Tail) (w : List ℕ) (n : ℕ) (k : Kind) → step d limit t w ≡ token n k → n ≤ limit
 step_within d limit t w n k e = ⊎_elim (λ h. absurd (too_long h)) (λ h. h) (cases_lt limit n)
   where

@@ -28,6 +28,7 @@ empty-encodes (c ∷ w) = go (encode_utf8 c ++ encode_utf8_all w) (omega (arith,
     go [] l = absurd (omega arith)
     go (x ∷ v) l = refl
 
+-- a text is empty exactly where it has no bytes
 pub empty-bytes : (bs : List ℕ) → IsUtf8 bs → is_empty bs ≡ is_empty (chars bs)
 empty-bytes bs u = ap is_empty (sym (encodes-chars bs u)) ∙ empty-encodes (chars bs)
 
@@ -36,10 +37,12 @@ pub step-over : (d : Dialect) (limit : ℕ) (t : Tail) (w : List ℕ) → over d
 unfolding step
 step-over d limit t w o = cond-true _ _ _ o
 
+-- where no token is too long, the step is decided by what comes next
 pub step-open : (d : Dialect) (limit : ℕ) (t : Tail) (w : List ℕ) (b : Bool) → over d limit w ≡ false → b ≡ (is_empty w || is_live d w) → step d limit t w ≡ by_tail d t w b
 unfolding step
 step-open d limit t w b o e = cond-false _ _ _ o ∙ ap (by_tail d t w) (sym e)
 
+-- where nothing more can change it, the step is decided by the longest front
 pub step-done : (d : Dialect) (limit : ℕ) (t : Tail) (w : List ℕ) (b : Bool) → over d limit w ≡ false → b ≡ (is_empty w || is_live d w) → (t ≡ ended) ⊎ (b ≡ false) →
     step d limit t w ≡ decided d w
 step-done d limit t w b o e h =
@@ -66,6 +69,7 @@ chosen-look bs w (Some x) h =
     go true l = (x.0, refl, l, refl)
     go false l = refl
 
+-- a decision in bytes tells the step, if each front in bytes is one in characters
 decided-front : (d : Dialect) (bs w : List ℕ) → is_empty bs ≡ is_empty w →
     ((n : ℕ) (k : Kind) → longest d w (length w) ≡ Some (n, k) → (n ≤ length w) × (chars (take (bytes_of n w) bs) ≡ take n w)) →
     IsLook (decided_by bs (in_bytes w (longest d w (length w)))) (decided d w) w
@@ -74,6 +78,7 @@ decided-front d [] (c ∷ w) e h = absurd (true≢false e)
 decided-front d (x ∷ bs) [] e h = absurd (false≢true e)
 decided-front d (x ∷ bs) (c ∷ w) e h = chosen-look (x ∷ bs) (c ∷ w) (longest d (c ∷ w) (length (c ∷ w))) h
 
+-- the decision of the code on a str is the step on its characters
 pub decided-look : (d : Dialect) (bs : List ℕ) (best : Option (ℕ × Kind)) → IsUtf8 bs → best ≡ in_bytes (chars bs) (longest d (chars bs) (length (chars bs))) →
     IsLook (decided_by bs best) (decided d (chars bs)) (chars bs)
 decided-look d bs best u e =
@@ -81,6 +86,7 @@ decided-look d bs best u e =
     subst (λ b. IsLook (decided_by bs b) (decided d w) w) (sym e)
     (decided-front d bs w (empty-bytes bs u) (λ n k l. ((longest_fits d w (length w) n k l).1, (cut bs (bytes_of n w) n u refl).front)))
 
+-- the front that was found ends between two characters, so the text can be cut there
 pub cuts-front : (d : Dialect) (bs : List ℕ) (best : Option (ℕ × Kind)) → IsUtf8 bs → best ≡ in_bytes (chars bs) (longest d (chars bs) (length (chars bs))) → CutsAt bs best
 cuts-front d bs best u e = subst (CutsAt bs) (sym e) (go (longest d (chars bs) (length (chars bs))))
   where

@@ -58,6 +58,7 @@ both_sorts a h b k test low widths c =
     go true e x y = rw e (x refl)
     go false e x y = rw e (y refl)
 
+-- a part of a state that moves by itself can be run by itself
 project : {S T : Type 0} → (p : S → T) (f : S → ℕ → S) (g : T → ℕ → T) → ((s : S) (c : ℕ) → p (f s c) ≡ g (p s) c) → (s : S) (w : List ℕ) → p (run f s w) ≡ run g (p s) w
 project p f g h s [] = refl
 project p f g h s (c ∷ w) = project p f g h (f s c) w ∙ ap (λ t. run g t w) (h s c)
@@ -68,22 +69,27 @@ iri_part Start = iri_state.Start
 iri_part (Iri s) = s
 iri_part s = iri_state.Dead
 
+-- the family is that of an IRIREF
 abbrev is_iri : Family → Bool
 is_iri family.Iri = true
 is_iri f = false
 
+-- the state can no longer become an IRIREF
 abbrev no_iri : iri_type.Iri → Bool
 no_iri iri_state.Dead = true
 no_iri s = false
 
+-- such a state is the dead one
 no_iri-dead : (s : iri_type.Iri) → no_iri s ≡ true → s ≡ iri_state.Dead
 no_iri-dead iri_state.Dead e = refl
 no_iri-dead s e = absurd (false≢true e)
 
+-- a first character that is not of the family can begin no token of it
 only_iri : (d : Dialect) (c : ℕ) → (is_iri (sort_by ascii high c) || no_iri (iri.step iri_state.Start c)) ≡ true
 only_iri Lines c = both_sorts ascii high iri.ascii iri.high (λ f x. is_iri f || no_iri (iri.move iri_state.Start x)) refl (λ v. elim v as (λ v. (is_iri (high v) || no_iri (iri.move iri_state.Start (iri.high v))) ≡ true) [ wide.Letter ↦ refl | wide.Mark ↦ refl | wide.Other ↦ refl ]) c
 only_iri Turtle c = both_sorts ascii high iri.ascii iri.high (λ f x. is_iri f || no_iri (iri.move iri_state.Start x)) refl (λ v. elim v as (λ v. (is_iri (high v) || no_iri (iri.move iri_state.Start (iri.high v))) ≡ true) [ wide.Letter ↦ refl | wide.Mark ↦ refl | wide.Other ↦ refl ]) c
 
+-- the part of an IRIREF moves as its family does, whichever token has begun
 iri_step : (d : Dialect) (s : State) (c : ℕ) → iri_part (step d s c) ≡ iri.step (iri_part s) c
 iri_step d Start c = go (sort_by ascii high c) (only_iri d c)
   where
@@ -92,6 +98,7 @@ iri_step d Start c = go (sort_by ascii high c) (only_iri d c)
     go f e = sym (no_iri-dead _ e)
 iri_step d s c = refl
 
+-- after any text the part of IRIREF is the state of its family
 iri_run : (d : Dialect) (w : List ℕ) → iri_part (run (step d) Start w) ≡ run (iri.step) iri_state.Start w
 iri_run d w = project iri_part (step d) (iri.step) (iri_step d) Start w
 
@@ -101,22 +108,27 @@ label_part Start = label_state.Start
 label_part (Label s) = s
 label_part s = label_state.Dead
 
+-- the family is that of a label
 abbrev is_label : Family → Bool
 is_label family.Label = true
 is_label f = false
 
+-- the state can no longer become a label
 abbrev no_label : label_type.Label → Bool
 no_label label_state.Dead = true
 no_label s = false
 
+-- such a state is the dead one
 no_label-dead : (s : label_type.Label) → no_label s ≡ true → s ≡ label_state.Dead
 no_label-dead label_state.Dead e = refl
 no_label-dead s e = absurd (false≢true e)
 
+-- a first character that is not of the family can begin no token of it
 only_label : (d : Dialect) (c : ℕ) → (is_label (sort_by ascii high c) || no_label (label.step d label_state.Start c)) ≡ true
 only_label Lines c = both_sorts ascii high label.ascii label.high (λ f x. is_label f || no_label (label.move Lines label_state.Start x)) refl (λ v. elim v as (λ v. (is_label (high v) || no_label (label.move Lines label_state.Start (label.high v))) ≡ true) [ wide.Letter ↦ refl | wide.Mark ↦ refl | wide.Other ↦ refl ]) c
 only_label Turtle c = both_sorts ascii high label.ascii label.high (λ f x. is_label f || no_label (label.move Turtle label_state.Start x)) refl (λ v. elim v as (λ v. (is_label (high v) || no_label (label.move Turtle label_state.Start (label.high v))) ≡ true) [ wide.Letter ↦ refl | wide.Mark ↦ refl | wide.Other ↦ refl ]) c
 
+-- the part of a label moves as its family does, whichever token has begun
 label_step : (d : Dialect) (s : State) (c : ℕ) → label_part (step d s c) ≡ label.step d (label_part s) c
 label_step d Start c = go (sort_by ascii high c) (only_label d c)
   where
@@ -125,6 +137,7 @@ label_step d Start c = go (sort_by ascii high c) (only_label d c)
     go f e = sym (no_label-dead _ e)
 label_step d s c = refl
 
+-- after any text the part of labels is the state of its family
 label_run : (d : Dialect) (w : List ℕ) → label_part (run (step d) Start w) ≡ run (label.step d) label_state.Start w
 label_run d w = project label_part (step d) (label.step d) (label_step d) Start w
 
@@ -134,22 +147,27 @@ text_part Start = text_state.Start
 text_part (Text s) = s
 text_part s = text_state.Dead
 
+-- the family is that of a string
 abbrev is_text : Family → Bool
 is_text family.Text = true
 is_text f = false
 
+-- the state can no longer become a string
 abbrev no_text : text_type.Text → Bool
 no_text text_state.Dead = true
 no_text s = false
 
+-- such a state is the dead one
 no_text-dead : (s : text_type.Text) → no_text s ≡ true → s ≡ text_state.Dead
 no_text-dead text_state.Dead e = refl
 no_text-dead s e = absurd (false≢true e)
 
+-- a first character that is not of the family can begin no token of it
 only_text : (d : Dialect) (c : ℕ) → (is_text (sort_by ascii high c) || no_text (text.step d text_state.Start c)) ≡ true
 only_text Lines c = both_sorts ascii high text.ascii text.high (λ f x. is_text f || no_text (text.move Lines text_state.Start x)) refl (λ v. elim v as (λ v. (is_text (high v) || no_text (text.move Lines text_state.Start (text.high v))) ≡ true) [ wide.Letter ↦ refl | wide.Mark ↦ refl | wide.Other ↦ refl ]) c
 only_text Turtle c = both_sorts ascii high text.ascii text.high (λ f x. is_text f || no_text (text.move Turtle text_state.Start x)) refl (λ v. elim v as (λ v. (is_text (high v) || no_text (text.move Turtle text_state.Start (text.high v))) ≡ true) [ wide.Letter ↦ refl | wide.Mark ↦ refl | wide.Other ↦ refl ]) c
 
+-- the part of a string moves as its family does, whichever token has begun
 text_step : (d : Dialect) (s : State) (c : ℕ) → text_part (step d s c) ≡ text.step d (text_part s) c
 text_step d Start c = go (sort_by ascii high c) (only_text d c)
   where
@@ -158,6 +176,7 @@ text_step d Start c = go (sort_by ascii high c) (only_text d c)
     go f e = sym (no_text-dead _ e)
 text_step d s c = refl
 
+-- after any text the part of strings is the state of its family
 text_run : (d : Dialect) (w : List ℕ) → text_part (run (step d) Start w) ≡ run (text.step d) text_state.Start w
 text_run d w = project text_part (step d) (text.step d) (text_step d) Start w
 
@@ -167,22 +186,27 @@ tag_part Start = tag_state.Start
 tag_part (Tag s) = s
 tag_part s = tag_state.Dead
 
+-- the family is that of a language tag
 abbrev is_tag : Family → Bool
 is_tag family.Tag = true
 is_tag f = false
 
+-- the state can no longer become a language tag
 abbrev no_tag : tag_type.Tag → Bool
 no_tag tag_state.Dead = true
 no_tag s = false
 
+-- such a state is the dead one
 no_tag-dead : (s : tag_type.Tag) → no_tag s ≡ true → s ≡ tag_state.Dead
 no_tag-dead tag_state.Dead e = refl
 no_tag-dead s e = absurd (false≢true e)
 
+-- a first character that is not of the family can begin no token of it
 only_tag : (d : Dialect) (c : ℕ) → (is_tag (sort_by ascii high c) || no_tag (tag.step tag_state.Start c)) ≡ true
 only_tag Lines c = both_sorts ascii high tag.ascii tag.high (λ f x. is_tag f || no_tag (tag.move tag_state.Start x)) refl (λ v. elim v as (λ v. (is_tag (high v) || no_tag (tag.move tag_state.Start (tag.high v))) ≡ true) [ wide.Letter ↦ refl | wide.Mark ↦ refl | wide.Other ↦ refl ]) c
 only_tag Turtle c = both_sorts ascii high tag.ascii tag.high (λ f x. is_tag f || no_tag (tag.move tag_state.Start x)) refl (λ v. elim v as (λ v. (is_tag (high v) || no_tag (tag.move tag_state.Start (tag.high v))) ≡ true) [ wide.Letter ↦ refl | wide.Mark ↦ refl | wide.Other ↦ refl ]) c
 
+-- the part of a language tag moves as its family does, whichever token has begun
 tag_step : (d : Dialect) (s : State) (c : ℕ) → tag_part (step d s c) ≡ tag.step (tag_part s) c
 tag_step d Start c = go (sort_by ascii high c) (only_tag d c)
   where
@@ -191,6 +215,7 @@ tag_step d Start c = go (sort_by ascii high c) (only_tag d c)
     go f e = sym (no_tag-dead _ e)
 tag_step d s c = refl
 
+-- after any text the part of tags is the state of its family
 tag_run : (d : Dialect) (w : List ℕ) → tag_part (run (step d) Start w) ≡ run (tag.step) tag_state.Start w
 tag_run d w = project tag_part (step d) (tag.step) (tag_step d) Start w
 
@@ -200,22 +225,27 @@ number_part Start = number_state.Start
 number_part (Number s) = s
 number_part s = number_state.Dead
 
+-- the family is that of a number
 abbrev is_number : Family → Bool
 is_number family.Number = true
 is_number f = false
 
+-- the state can no longer become a number
 abbrev no_number : number_type.Number → Bool
 no_number number_state.Dead = true
 no_number s = false
 
+-- such a state is the dead one
 no_number-dead : (s : number_type.Number) → no_number s ≡ true → s ≡ number_state.Dead
 no_number-dead number_state.Dead e = refl
 no_number-dead s e = absurd (false≢true e)
 
+-- a first character that is not of the family can begin no token of it
 only_number : (d : Dialect) (c : ℕ) → (is_number (sort_by ascii high c) || no_number (number.step d number_state.Start c)) ≡ true
 only_number Lines c = both_sorts ascii high number.ascii number.high (λ f x. is_number f || no_number (number.move Lines number_state.Start x)) refl (λ v. elim v as (λ v. (is_number (high v) || no_number (number.move Lines number_state.Start (number.high v))) ≡ true) [ wide.Letter ↦ refl | wide.Mark ↦ refl | wide.Other ↦ refl ]) c
 only_number Turtle c = both_sorts ascii high number.ascii number.high (λ f x. is_number f || no_number (number.move Turtle number_state.Start x)) refl (λ v. elim v as (λ v. (is_number (high v) || no_number (number.move Turtle number_state.Start (number.high v))) ≡ true) [ wide.Letter ↦ refl | wide.Mark ↦ refl | wide.Other ↦ refl ]) c
 
+-- the part of a number moves as its family does, whichever token has begun
 number_step : (d : Dialect) (s : State) (c : ℕ) → number_part (step d s c) ≡ number.step d (number_part s) c
 number_step d Start c = go (sort_by ascii high c) (only_number d c)
   where
@@ -224,6 +254,7 @@ number_step d Start c = go (sort_by ascii high c) (only_number d c)
     go f e = sym (no_number-dead _ e)
 number_step d s c = refl
 
+-- after any text the part of numbers is the state of its family
 number_run : (d : Dialect) (w : List ℕ) → number_part (run (step d) Start w) ≡ run (number.step d) number_state.Start w
 number_run d w = project number_part (step d) (number.step d) (number_step d) Start w
 
@@ -233,22 +264,27 @@ name_part Start = name_state.Start
 name_part (Name s) = s
 name_part s = name_state.Dead
 
+-- the family is that of a prefixed name
 abbrev is_name : Family → Bool
 is_name family.Name = true
 is_name f = false
 
+-- the state can no longer become a prefixed name
 abbrev no_name : name_type.Name → Bool
 no_name name_state.Dead = true
 no_name s = false
 
+-- such a state is the dead one
 no_name-dead : (s : name_type.Name) → no_name s ≡ true → s ≡ name_state.Dead
 no_name-dead name_state.Dead e = refl
 no_name-dead s e = absurd (false≢true e)
 
+-- a first character that is not of the family can begin no token of it
 only_name : (d : Dialect) (c : ℕ) → (is_name (sort_by ascii high c) || no_name (name.step d name_state.Start c)) ≡ true
 only_name Lines c = both_sorts ascii high name.ascii name.high (λ f x. is_name f || no_name (name.move Lines name_state.Start x)) refl (λ v. elim v as (λ v. (is_name (high v) || no_name (name.move Lines name_state.Start (name.high v))) ≡ true) [ wide.Letter ↦ refl | wide.Mark ↦ refl | wide.Other ↦ refl ]) c
 only_name Turtle c = both_sorts ascii high name.ascii name.high (λ f x. is_name f || no_name (name.move Turtle name_state.Start x)) refl (λ v. elim v as (λ v. (is_name (high v) || no_name (name.move Turtle name_state.Start (name.high v))) ≡ true) [ wide.Letter ↦ refl | wide.Mark ↦ refl | wide.Other ↦ refl ]) c
 
+-- the part of a prefixed name moves as its family does, whichever token has begun
 name_step : (d : Dialect) (s : State) (c : ℕ) → name_part (step d s c) ≡ name.step d (name_part s) c
 name_step d Start c = go (sort_by ascii high c) (only_name d c)
   where
@@ -257,9 +293,11 @@ name_step d Start c = go (sort_by ascii high c) (only_name d c)
     go f e = sym (no_name-dead _ e)
 name_step d s c = refl
 
+-- after any text the part of prefixed names is the state of its family
 name_run : (d : Dialect) (w : List ℕ) → name_part (run (step d) Start w) ≡ run (name.step d) name_state.Start w
 name_run d w = project name_part (step d) (name.step d) (name_step d) Start w
 
+-- the first kind of two lists is that of the first, or else that of the second
 first_kind-append : (d : Dialect) (a b : List Kind) (w : List ℕ) → first_kind d (a ++ b) w ≡ or_else (first_kind d a w) (first_kind d b w)
 first_kind-append d [] b w = refl
 first_kind-append d (k ∷ a) b w = ap (cond (nullable (after_all (shape d k) w)) (Some k)) (first_kind-append d a b w) ∙ go (nullable (after_all (shape d k) w))
@@ -268,6 +306,7 @@ first_kind-append d (k ∷ a) b w = ap (cond (nullable (after_all (shape d k) w)
     go true = refl
     go false = refl
 
+-- a longer shape of two lists is one of either
 live-append : (d : Dialect) (a b : List Kind) (w : List ℕ) → longer (after_all (any_shape d (a ++ b)) w) ≡ (longer (after_all (any_shape d a) w) || longer (after_all (any_shape d b) w))
 live-append d [] b w = sym (ap (λ r. longer r || longer (after_all (any_shape d b) w)) (after_nothing w))
 live-append d (k ∷ a) b w =
@@ -279,10 +318,12 @@ live-append d (k ∷ a) b w =
     go true = refl
     go false = refl
 
+-- or none changes nothing
 or_none : (o : Option Kind) → or_else o None ≡ o
 or_none None = refl
 or_none (Some k) = refl
 
+-- or false changes nothing
 or_false : (b : Bool) → (b || false) ≡ b
 or_false true = refl
 or_false false = refl
@@ -291,9 +332,11 @@ or_false false = refl
 abbrev kind_by_parts : State → Option Kind
 kind_by_parts s = (or_else (cond (iri.accepts (iri_part s)) (Some IriRef) None) (or_else (cond (label.accepts (label_part s)) (Some LabelNode) None) (or_else (text.kind_at (text_part s)) (or_else (cond (tag.accepts (tag_part s)) (Some LangTag) None) (or_else (number.kind_at (number_part s)) (name.kind_at (name_part s)))))))
 
+-- whether one of the six parts goes on
 abbrev live_by_parts : Dialect → State → Bool
 live_by_parts d s = (iri.goes_on (iri_part s) || (label.goes_on (label_part s) || (text.goes_on d (text_part s) || (tag.goes_on (tag_part s) || (number.goes_on d (number_part s) || (name.goes_on d (name_part s)))))))
 
+-- the kind of a state is that of the part that has one
 parts-kind : (s : State) → kind_by_parts s ≡ kind_at s
 parts-kind Start = refl
 parts-kind Dead = refl
@@ -304,6 +347,7 @@ parts-kind (Tag s) = or_none _
 parts-kind (Number s) = or_none _
 parts-kind (Name s) = refl
 
+-- a state goes on where one of its parts does
 parts-live : (d : Dialect) (s : State) → live_by_parts d s ≡ goes_on d s
 parts-live d Start = refl
 parts-live d Dead = refl
@@ -314,39 +358,51 @@ parts-live d (Tag s) = or_false _
 parts-live d (Number s) = or_false _
 parts-live d (Name s) = refl
 
+-- the kind that the family finds, by the part of the common state
 iri_kind : (d : Dialect) (w : List ℕ) → IsChars w → first_kind d (IriRef ∷ []) w ≡ (let s : State = run (step d) Start w in cond (iri.accepts (iri_part s)) (Some IriRef) None)
 iri_kind d w h = iri-kind d w h ∙ ap (λ x. cond (iri.accepts x) (Some IriRef) None) (sym (iri_run d w))
 
+-- whether a longer one begins so, by the part of the common state
 iri_live : (d : Dialect) (w : List ℕ) → IsChars w → longer (after_all (any_shape d (IriRef ∷ [])) w) ≡ (let s : State = run (step d) Start w in iri.goes_on (iri_part s))
 iri_live d w h = iri-live d w h ∙ ap (λ x. iri.goes_on x) (sym (iri_run d w))
 
+-- the kind that the family finds, by the part of the common state
 label_kind : (d : Dialect) (w : List ℕ) → IsChars w → first_kind d (LabelNode ∷ []) w ≡ (let s : State = run (step d) Start w in cond (label.accepts (label_part s)) (Some LabelNode) None)
 label_kind d w h = label-kind d w h ∙ ap (λ x. cond (label.accepts x) (Some LabelNode) None) (sym (label_run d w))
 
+-- whether a longer one begins so, by the part of the common state
 label_live : (d : Dialect) (w : List ℕ) → IsChars w → longer (after_all (any_shape d (LabelNode ∷ [])) w) ≡ (let s : State = run (step d) Start w in label.goes_on (label_part s))
 label_live d w h = label-live d w h ∙ ap (λ x. label.goes_on x) (sym (label_run d w))
 
+-- the kind that the family finds, by the part of the common state
 text_kind : (d : Dialect) (w : List ℕ) → IsChars w → first_kind d (strings) w ≡ (let s : State = run (step d) Start w in text.kind_at (text_part s))
 text_kind d w h = text-kind d w h ∙ ap (λ x. text.kind_at x) (sym (text_run d w))
 
+-- whether a longer one begins so, by the part of the common state
 text_live : (d : Dialect) (w : List ℕ) → IsChars w → longer (after_all (any_shape d (strings)) w) ≡ (let s : State = run (step d) Start w in text.goes_on d (text_part s))
 text_live d w h = text-live d w h ∙ ap (λ x. text.goes_on d x) (sym (text_run d w))
 
+-- the kind that the family finds, by the part of the common state
 tag_kind : (d : Dialect) (w : List ℕ) → IsChars w → first_kind d (LangTag ∷ []) w ≡ (let s : State = run (step d) Start w in cond (tag.accepts (tag_part s)) (Some LangTag) None)
 tag_kind d w h = tag-kind d w h ∙ ap (λ x. cond (tag.accepts x) (Some LangTag) None) (sym (tag_run d w))
 
+-- whether a longer one begins so, by the part of the common state
 tag_live : (d : Dialect) (w : List ℕ) → IsChars w → longer (after_all (any_shape d (LangTag ∷ [])) w) ≡ (let s : State = run (step d) Start w in tag.goes_on (tag_part s))
 tag_live d w h = tag-live d w h ∙ ap (λ x. tag.goes_on x) (sym (tag_run d w))
 
+-- the kind that the family finds, by the part of the common state
 number_kind : (d : Dialect) (w : List ℕ) → IsChars w → first_kind d (numbers) w ≡ (let s : State = run (step d) Start w in number.kind_at (number_part s))
 number_kind d w h = number-kind d w h ∙ ap (λ x. number.kind_at x) (sym (number_run d w))
 
+-- whether a longer one begins so, by the part of the common state
 number_live : (d : Dialect) (w : List ℕ) → IsChars w → longer (after_all (any_shape d (numbers)) w) ≡ (let s : State = run (step d) Start w in number.goes_on d (number_part s))
 number_live d w h = number-live d w h ∙ ap (λ x. number.goes_on d x) (sym (number_run d w))
 
+-- the kind that the family finds, by the part of the common state
 name_kind : (d : Dialect) (w : List ℕ) → IsChars w → first_kind d (names) w ≡ (let s : State = run (step d) Start w in name.kind_at (name_part s))
 name_kind d w h = name-kind d w h ∙ ap (λ x. name.kind_at x) (sym (name_run d w))
 
+-- whether a longer one begins so, by the part of the common state
 name_live : (d : Dialect) (w : List ℕ) → IsChars w → longer (after_all (any_shape d (names)) w) ≡ (let s : State = run (step d) Start w in name.goes_on d (name_part s))
 name_live d w h = name-live d w h ∙ ap (λ x. name.goes_on d x) (sym (name_run d w))
 
@@ -366,6 +422,7 @@ shaped-kind d w h =
     (name_kind d w h)))))))))))))))
     ∙ parts-kind (run (step d) Start w)
 
+-- the states tell whether a longer token begins so, for all kinds that have no fixed spelling
 pub shaped-live : (d : Dialect) (w : List ℕ) → IsChars w → longer (after_all (any_shape d shaped) w) ≡ goes_on d (run (step d) Start w)
 shaped-live d w h =
     live-append d (IriRef ∷ []) (LabelNode ∷ [] ++ (strings ++ (LangTag ∷ [] ++ (numbers ++ (names))))) w ∙ (ap (λ o. o || longer (after_all (any_shape d (LabelNode ∷ [] ++ (strings ++ (LangTag ∷ [] ++ (numbers ++ (names)))))) w)) (iri_live d w h)
@@ -388,12 +445,14 @@ whole-kind d w h =
     first_kind-append d fixed shaped w
     ∙ (ap (λ o. or_else o (first_kind d shaped w)) (fixed-kind d w h) ∙ ap (or_else (kind_by_table d w)) (shaped-kind d w h))
 
+-- or in the other order
 or_swap : (a b : Bool) → (a || b) ≡ (b || a)
 or_swap true true = refl
 or_swap true false = refl
 or_swap false true = refl
 or_swap false false = refl
 
+-- a text begins a longer token exactly where the states go on or a longer spelling begins so
 pub whole-live : (d : Dialect) (w : List ℕ) → IsChars w → is_live d w ≡ (goes_on d (run (step d) Start w) || live_by_table d w)
 unfolding is_live
 whole-live d w h =

@@ -33,6 +33,7 @@ moves_both a b c ts us m n = joined b.place b.begun b.comment b.text (subst (Mov
           (sym (append_assoc ts us (tokens_at a.dialect a.limit t c.begun c.comment c.place (c.text ++ x)).tokens)));
     }
 
+-- a scanner that does nothing has read nothing
 pub moves_none : (v : Unread) → Moves v [] v
 moves_none v = record { same = refl; less = omega arith; on = λ t x m. refl }
 
@@ -45,6 +46,7 @@ mark_more : (w x : List ℕ) → is_empty w ≡ false → mark (w ++ x) ≡ mark
 mark_more [] x e = absurd (let h : true ≡ false = e in cc)
 mark_more (c ∷ w) x e = refl
 
+-- a byte order mark is part of the text
 pub mark_within : (w : List ℕ) → mark w ≤ length w
 mark_within [] = omega arith
 mark_within (c ∷ w) = by_test (c == 0xFEFF)
@@ -53,6 +55,7 @@ mark_within (c ∷ w) = by_test (c == 0xFEFF)
     by_test true = omega arith
     by_test false = omega arith
 
+-- a byte order mark is dropped without a token, as the definition drops it
 pub moves_mark : (v : Unread) → v.begun ≡ false → is_settled v ≡ true → Moves v [] (moved v (past v.place (take (mark v.text) v.text)) true v.comment (drop (mark v.text) v.text))
 moves_mark v f s = record { same = refl; less = omega (arith, length-drop (mark v.text) v.text); on = λ t x m. ap (λ b. tokens_at v.dialect v.limit t b v.comment v.place (v.text ++ x)) f ∙ read t x m }
   where
@@ -89,6 +92,7 @@ blank_within d b (c ∷ w) = subst (λ n. n ≤ length (c ∷ w)) (sym (blank-st
     go None h = omega arith
     go (Some b) h = let l = h b in omega arith
 
+-- where something is left after white space and comments, no comment is open
 comment-rest : (d : Dialect) (b : Bool) (w : List ℕ) → is_empty (rest_of d b w) ≡ false → comment_after d b w ≡ false
 comment-rest d b [] e = let h : true ≡ false = e in cc
 comment-rest d b (c ∷ w) e = comment-step d b c w ∙ go (comment_step d b c) (subst (λ n. is_empty (drop n (c ∷ w)) ≡ false) (blank-step d b c w) e) (λ b h. comment-rest d b w h)
@@ -101,6 +105,7 @@ comment-rest d b (c ∷ w) e = comment-step d b c w ∙ go (comment_step d b c) 
 abbrev pub bared : Unread → Unread
 bared v = moved v (past v.place (take (blank v.dialect v.comment v.text) v.text)) true (comment_after v.dialect v.comment v.text) (rest_of v.dialect v.comment v.text)
 
+-- a text that tests as empty is empty
 empty_is : (w : List ℕ) → is_empty w ≡ true → w ≡ []
 empty_is [] e = refl
 empty_is (c ∷ w) e = let h : false ≡ true = e in cc
@@ -209,6 +214,7 @@ none_taken : (u : List ℕ) → length (encode_utf8_all u) ≡ 0 → u ≡ []
 none_taken [] e = refl
 none_taken (c ∷ u) e = absurd (omega (arith, e, length-append (encode_utf8 c) (encode_utf8_all u), length-encode c, len_utf8_bounds c))
 
+-- to move over no characters is to stay
 pub moved-none : (v : Unread) (n : ℕ) → bytes_of n v.text ≡ 0 → v ≡ moved v (past v.place (take n v.text)) v.begun v.comment (drop n v.text)
 moved-none v n e =
     let none : take n v.text ≡ [] = none_taken (take n v.text) e in

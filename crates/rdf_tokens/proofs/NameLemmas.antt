@@ -18,6 +18,7 @@ use Rattle.rdf_tokens.specs.Name.{ascii, high, move, step, kind_at, goes_on}
 use Rattle.rdf_tokens.proofs.SortLemmas.{sorts_agree}
 use Rattle.rdf_tokens.proofs.FamilyLemmas.{Family, Moves, factored, same, hexes, possible-hexes, covers_all, kind_in, longer_in, kind-run, live-run}
 
+-- a character of each sort, which stands for all of it
 abbrev rep : Sort → ℕ
 rep sort.Colon = 58
 rep sort.Dot = 46
@@ -32,18 +33,23 @@ rep sort.Backslash = 92
 rep sort.Escapable = 33
 rep sort.Other = 32
 
+-- the classes of characters of which PNAME_NS and PNAME_LN are made
 abbrev classes : List Class
 classes = the 58 ∷ the 46 ∷ the 37 ∷ the 92 ∷ digit ∷ hex_digit ∷ local_escape ∷ pn_base ∷ pn_u Turtle ∷ pn_char Turtle ∷ []
 
+-- the kinds of prefixed names
 abbrev pub names : List Kind
 names = PnameNs ∷ PnameLn ∷ []
 
+-- (PN_CHARS | '.')* PN_CHARS, the rest of a prefix
 abbrev prefix_more : Regex
 prefix_more = many (one (pn_char Turtle) ∣ dot) · one (pn_char Turtle)
 
+-- (PN_CHARS | '.' | ':' | PLX)*, the inside of a local part
 abbrev inner : Regex
 inner = many (one (pn_char Turtle) ∣ dot ∣ one (the 58) ∣ plx)
 
+-- PN_CHARS | ':' | PLX, what a local part may end in
 abbrev last : Regex
 last = one (pn_char Turtle) ∣ one (the 58) ∣ plx
 
@@ -59,6 +65,7 @@ meaning d Escape = nothing ∷ (one local_escape · (empty ∣ inner · last)) �
 meaning d (Hex n) = nothing ∷ (hexes n · (empty ∣ inner · last)) ∷ []
 meaning d Dead = nothing ∷ nothing ∷ []
 
+-- where a character of a sort leads is what is left to match after it, so the table of moves is right
 moves : (d : Dialect) (s : Name) (x : Sort) → Moves rep (move d) (meaning d) s x
 unfolding meaning shape has
 moves Lines Start sort.Dot = inl refl
@@ -87,6 +94,7 @@ moves d (Hex (suc (suc n))) sort.Dot = inl refl
 moves d (Hex (suc (suc n))) x = inl refl
 moves d Dead x = inl refl
 
+-- the expressions have no other classes than these
 covered : (d : Dialect) (s : Name) → covers_all classes (meaning d s) ≡ true
 unfolding meaning shape
 covered Lines Start = refl
@@ -95,13 +103,16 @@ covered d (Hex zero) = refl
 covered d (Hex (suc n)) = covered d (Hex n)
 covered d s = refl
 
+-- characters of one sort are in the same classes, by a test of each ASCII character and each width
 sorts : sorts_agree ascii high rep classes ≡ true
 unfolding has
 sorts = refl
 
+-- all of this together, as the general lemmas on families take it
 abbrev family : Dialect → Family Name Sort
 family d = record { ascii = ascii; high = high; rep = rep; move = move d; meaning = meaning d; classes = classes; sorts = sorts; covered = covered d; moves = moves d }
 
+-- a state has a kind exactly where nothing is left to match of the expression of that kind
 kind_of_state : (d : Dialect) (s : Name) → kind_in names (meaning d s) ≡ kind_at s
 unfolding meaning shape
 kind_of_state Lines Start = refl
@@ -110,6 +121,7 @@ kind_of_state d (Hex zero) = refl
 kind_of_state d (Hex (suc n)) = refl
 kind_of_state d s = refl
 
+-- a state goes on exactly where something longer can match
 live_state : (d : Dialect) (s : Name) → longer_in (meaning d s) ≡ goes_on d s
 unfolding meaning shape has
 live_state Lines Start = refl
@@ -118,6 +130,7 @@ live_state d (Hex zero) = refl
 live_state d (Hex (suc n)) = rw (possible-hexes n) refl
 live_state d s = refl
 
+-- at the start all of the shape is left
 starts : (d : Dialect) → meaning d Start ≡ map (shape d) names
 unfolding meaning
 starts d = refl
@@ -126,5 +139,6 @@ starts d = refl
 pub name-kind : (d : Dialect) (w : List ℕ) → IsChars w → first_kind d names w ≡ kind_at (run (step d) Start w)
 name-kind d w b = kind-run (family d) d names Start (starts d) w b ∙ kind_of_state d (run (step d) Start w)
 
+-- the states go on after a text exactly where it begins a longer one of PNAME_NS and PNAME_LN
 pub name-live : (d : Dialect) (w : List ℕ) → IsChars w → longer (after_all (any_shape d names) w) ≡ goes_on d (run (step d) Start w)
 name-live d w b = live-run (family d) d names Start (starts d) w b ∙ live_state d (run (step d) Start w)

@@ -71,6 +71,7 @@ undecided_open d limit t w e = (left_open d limit t w e).goes
 undecided_few : (d : Dialect) (limit : ℕ) (t : Tail) (w : List ℕ) → step d limit t w ≡ stop undecided → length w ≤ limit
 undecided_few d limit t w e = let h = left_open d limit t w e in open_few d limit w h.within h.begins
 
+-- where more may come, the end was not told
 open_now : (v : Unread) → tail_now v ≡ goes_on → v.ended ≡ false
 open_now v e = by_flags v.broken v.ended (is_empty v.pending) e
   where
@@ -80,6 +81,7 @@ open_now v e = by_flags v.broken v.ended (is_empty v.pending) e
     by_flags false true false h = let g : broken ≡ goes_on = h in cc
     by_flags false false p h = refl
 
+-- what is not the kind of the end does not test as it
 not_end : (k : Kind) → k ≢ End → is_end k ≡ false
 not_end End n = absurd (n refl)
 not_end k n = refl

@@ -18,6 +18,7 @@ use Rattle.rdf_tokens.specs.Number.{ascii, high, move, step, kind_at, goes_on}
 use Rattle.rdf_tokens.proofs.SortLemmas.{sorts_agree}
 use Rattle.rdf_tokens.proofs.FamilyLemmas.{Family, Moves, covers_all, kind_in, longer_in, kind-run, live-run}
 
+-- a character of each sort, which stands for all of it
 abbrev rep : Sort → ℕ
 rep sort.Plus = 43
 rep sort.Minus = 45
@@ -27,12 +28,15 @@ rep sort.SmallE = 101
 rep sort.BigE = 69
 rep sort.Other = 32
 
+-- the classes of characters of which INTEGER, DECIMAL and DOUBLE are made
 abbrev classes : List Class
 classes = the 43 ∷ the 45 ∷ the 46 ∷ digit ∷ the 101 ∷ the 69 ∷ []
 
+-- the kinds of numbers
 abbrev pub numbers : List Kind
 numbers = Integer ∷ Decimal ∷ Double ∷ []
 
+-- [0-9]*
 abbrev d* : Regex
 d* = many (one digit)
 
@@ -49,6 +53,7 @@ meaning d ExponentSign = nothing ∷ nothing ∷ digits ∷ []
 meaning d ExponentDigits = nothing ∷ nothing ∷ d* ∷ []
 meaning d Dead = nothing ∷ nothing ∷ nothing ∷ []
 
+-- where a character of a sort leads is what is left to match after it, so the table of moves is right
 moves : (d : Dialect) (s : Number) (x : Sort) → Moves rep (move d) (meaning d) s x
 unfolding meaning shape has
 moves Lines Start sort.Dot = inl refl
@@ -73,31 +78,37 @@ moves d ExponentDigits sort.Dot = inl refl
 moves d ExponentDigits x = inl refl
 moves d Dead x = inl refl
 
+-- the expressions have no other classes than these
 covered : (d : Dialect) (s : Number) → covers_all classes (meaning d s) ≡ true
 unfolding meaning shape
 covered Lines Start = refl
 covered Turtle Start = refl
 covered d s = refl
 
+-- characters of one sort are in the same classes, by a test of each ASCII character and each width
 sorts : sorts_agree ascii high rep classes ≡ true
 unfolding has
 sorts = refl
 
+-- all of this together, as the general lemmas on families take it
 abbrev family : Dialect → Family Number Sort
 family d = record { ascii = ascii; high = high; rep = rep; move = move d; meaning = meaning d; classes = classes; sorts = sorts; covered = covered d; moves = moves d }
 
+-- a state has a kind exactly where nothing is left to match of the expression of that kind
 kind_of_state : (d : Dialect) (s : Number) → kind_in numbers (meaning d s) ≡ kind_at s
 unfolding meaning shape
 kind_of_state Lines Start = refl
 kind_of_state Turtle Start = refl
 kind_of_state d s = refl
 
+-- a state goes on exactly where something longer can match
 live_state : (d : Dialect) (s : Number) → longer_in (meaning d s) ≡ goes_on d s
 unfolding meaning shape has
 live_state Lines Start = refl
 live_state Turtle Start = refl
 live_state d s = refl
 
+-- at the start all of the shape is left
 starts : (d : Dialect) → meaning d Start ≡ map (shape d) numbers
 unfolding meaning
 starts d = refl
@@ -106,5 +117,6 @@ starts d = refl
 pub number-kind : (d : Dialect) (w : List ℕ) → IsChars w → first_kind d numbers w ≡ kind_at (run (step d) Start w)
 number-kind d w b = kind-run (family d) d numbers Start (starts d) w b ∙ kind_of_state d (run (step d) Start w)
 
+-- the states go on after a text exactly where it begins a longer one of INTEGER, DECIMAL and DOUBLE
 pub number-live : (d : Dialect) (w : List ℕ) → IsChars w → longer (after_all (any_shape d numbers) w) ≡ goes_on d (run (step d) Start w)
 number-live d w b = live-run (family d) d numbers Start (starts d) w b ∙ live_state d (run (step d) Start w)

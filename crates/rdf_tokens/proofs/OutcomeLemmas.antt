@@ -29,19 +29,23 @@ use Rattle.rdf_tokens.proofs.LawLemmas.{by_steps, tokens_of-tokens}
 abbrev candidate : Dialect → List ℕ → ℕ → Option Kind
 candidate d w n = only_long (three_quotes d w) (kind_of d (take n w))
 
+-- after three quotes what counts is a long string
 only_long-is : (t : Bool) (o : Option Kind) (k : Kind) → only_long t o ≡ Some k → t ≡ true → k ≡ LongString
 only_long-is false o k e t = absurd (false≢true t)
 only_long-is true None k e t = absurd (let h : None ≡ Some k = e in cc)
 only_long-is true (Some LongString) k e t = let h : Some LongString ≡ Some k = e in cc
 only_long-is true (Some l) k e t = absurd (let h : None ≡ Some k = e in cc)
 
+-- after three quotes a long string counts
 only_long-from : (t : Bool) (k : Kind) → (t ≡ true → k ≡ LongString) → only_long t (Some k) ≡ Some k
 only_long-from false k h = refl
 only_long-from true k h = ap (λ k. only_long true (Some k)) (h refl) ∙ ap Some (sym (h refl))
 
+-- a front that may be a token is a candidate of the computation
 front-candidate : (d : Dialect) (w : List ℕ) (n : ℕ) (k : Kind) → IsFront d w n k → candidate d w n ≡ Some k
 front-candidate d w n k f = ap (only_long (three_quotes d w)) (shape-kind d (take n w) k f.shape) ∙ only_long-from (three_quotes d w) k f.long
 
+-- each candidate of the computation may be a token
 candidate-front : (d : Dialect) (w : List ℕ) (n : ℕ) (k : Kind) → 0 < n → n ≤ length w → candidate d w n ≡ Some k → IsFront d w n k
 candidate-front d w n k s l e = record {
   some = s;
@@ -55,9 +59,11 @@ abbrev Best : Dialect → List ℕ → ℕ → Option (ℕ × Kind) → Type 0
 Best d w m None = (n : ℕ) (l : Kind) → 0 < n → n ≤ m → candidate d w n ≡ Some l → ⊥
 Best d w m (Some x) = (0 < x.0) × (x.0 ≤ m) × (candidate d w x.0 ≡ Some x.1) × ((n : ℕ) (l : Kind) → n ≤ m → candidate d w n ≡ Some l → n ≤ x.0)
 
+-- none is not some
 none_is_some : {A : Type 0} (x : A) → None ≡ Some x → ⊥
 none_is_some x e = cc
 
+-- the computation goes through the candidates from the longest on
 best : (d : Dialect) (w : List ℕ) (m : ℕ) → Best d w m (longest d w m)
 best d w zero = λ n l a b e. absurd (omega arith)
 best d w (suc m) = by (candidate d w (suc m)) refl (longest d w m) (best d w m)
@@ -77,12 +83,15 @@ best d w (suc m) = by (candidate d w (suc m)) refl (longest d w m) (best d w m)
           ⊎_elim (λ b. h.3 n l b c) (λ (b : n ≡ suc m). absurd (none_is_some l (sym e ∙ (ap (candidate d w) (sym b) ∙ c)))) (last n a),
     )
 
+-- equal fronts have equal parts
 same_pair : (x y : ℕ × Kind) → Some x ≡ Some y → x ≡ y
 same_pair x y e = cc
 
+-- equal answers have equal kinds
 some_same : (k l : Kind) → Some k ≡ Some l → k ≡ l
 some_same k l e = cc
 
+-- what is computed is the longest front
 best-longest : (d : Dialect) (w : List ℕ) (n : ℕ) (k : Kind) → longest d w (length w) ≡ Some (n, k) → IsLongest d w n k
 best-longest d w n k e =
     let b = subst (Best d w (length w)) e (best d w (length w)) in
@@ -91,9 +100,11 @@ best-longest d w n k e =
       longest = λ m l f. b.3 m l f.within (front-candidate d w m l f);
     }
 
+-- where nothing is computed, no front may be a token
 none-front : (d : Dialect) (w : List ℕ) → longest d w (length w) ≡ None → HasNoFront d w
 none-front d w e n k f = subst (Best d w (length w)) e (best d w (length w)) n k f.some f.within (front-candidate d w n k f)
 
+-- the longest front is what is computed
 longest-best : (d : Dialect) (w : List ℕ) (n : ℕ) (k : Kind) → IsLongest d w n k → longest d w (length w) ≡ Some (n, k)
 longest-best d w n k h = by (longest d w (length w)) refl
   where
@@ -108,6 +119,7 @@ longest-best d w n k h = by (longest d w (length w)) refl
         let t : x.1 ≡ k = some_same x.1 k (sym (front-candidate d w x.0 x.1 b.front) ∙ (ap (candidate d w) s ∙ here)) in
         e ∙ (ap (λ m. Some (m, x.1)) s ∙ ap (λ l. Some (n, l)) t)
 
+-- where no front may be a token, nothing is computed
 front-none : (d : Dialect) (w : List ℕ) → HasNoFront d w → longest d w (length w) ≡ None
 front-none d w h = by (longest d w (length w)) refl
   where
@@ -115,6 +127,7 @@ front-none d w h = by (longest d w (length w)) refl
     by None e = e
     by (Some x) e = absurd (h x.0 x.1 (best-longest d w x.0 x.1 e).front)
 
+-- the law of the longest front
 pub longest_found : LongestIsFound
 longest_found d w = (
   λ n k. (λ e. best-longest d w n k e, λ h. longest-best d w n k h),
@@ -128,11 +141,13 @@ record At (g : List ℕ) (p : Place) (w : List ℕ) : Type 0 where
   whole : g ≡ front ++ encodes w
   place : p ≡ end_of front
 
+-- what is left of a text of characters consists of characters
 scalars-drop : (n : ℕ) (w : List ℕ) → scalars w ≡ true → scalars (drop n w) ≡ true
 scalars-drop zero w e = e
 scalars-drop (suc n) [] e = e
 scalars-drop (suc n) (c ∷ w) e = scalars-drop n w (and_parts (scalar c) (scalars w) e).1
 
+-- a place in a text, after some more characters
 at-more : (g : List ℕ) (p : Place) (w : List ℕ) (n : ℕ) → At g p w → At g (past p (take n w)) (drop n w)
 at-more g p w n h =
     let a = encodes (take n w) in
@@ -145,6 +160,7 @@ at-more g p w n h =
       place = ap (λ p. past p (take n w)) h.place ∙ (past-encodes (end_of h.front) (take n w) ∙ end_of-append h.front a);
     }
 
+-- the bytes from a place on are the characters from there on
 at-text : (g : List ℕ) (p : Place) (w : List ℕ) → At g p w → chars (drop p.offset g) ≡ w
 at-text g p w h =
     let o : length h.front ≡ p.offset = sym (ap (λ p. p.offset) h.place) in
@@ -157,6 +173,7 @@ at-end g p h =
     let l = ap length h.whole in
     omega (arith, length-append h.front [])
 
+-- the place after the rest of a text is the end of its bytes
 at-past : (g : List ℕ) (p : Place) (w : List ℕ) → At g p w → (past p w).offset ≡ length g
 at-past g p w h =
     let m = at-more g p w (length w) h in
@@ -172,12 +189,15 @@ Why d limit t w bad_utf8 = t ≡ broken
 Why d limit t w no_token = (w ≢ []) × (longest d w (length w) ≡ None)
 Why d limit t w bad_escape = (x : ℕ × Kind) × (longest d w (length w) ≡ Some x) × (is_fit x.1 (take x.0 w) ≡ false)
 
+-- a text with a character is not empty
 cons_nil : (c : ℕ) (w : List ℕ) → c ∷ w ≢ []
 cons_nil c w e = cc
 
+-- equal steps that stop do so with the same outcome
 same_stop : (o p : Outcome) → stop o ≡ stop p → o ≡ p
 same_stop o p e = cc
 
+-- each step that stops has its reason in the text there
 why : (d : Dialect) (limit : ℕ) (t : Tail) (w : List ℕ) (o : Outcome) → step d limit t w ≡ stop o → Why d limit t w o
 unfolding step
 why d limit t w o e = go (over d limit w) refl e
@@ -220,6 +240,7 @@ why d limit t w o e = go (over d limit w) refl e
     go true h e = take_why token_too_long e h
     go false h e = by t refl (is_empty w || is_live d w) refl e
 
+-- a token that computes as too long is so by the definition
 over-is : (d : Dialect) (limit : ℕ) (w : List ℕ) → over d limit w ≡ true → IsOver d limit w
 over-is d limit w h =
     let u = take (limit + 1) w in
@@ -239,6 +260,7 @@ TailIs bytes e goes_on = e ≡ false
 TailIs bytes e ended = (e ≡ true) × (utf8_valid_len bytes ≡ length bytes)
 TailIs bytes e broken = utf8_valid_len bytes < length bytes
 
+-- what comes after the good text is what the bytes after it say
 tail_is : (bytes : List ℕ) (e : Bool) → TailIs bytes e (tail_of bytes e)
 tail_is bytes e = by (utf8_valid_len bytes == length bytes) refl e (is_some (utf8_error_len (drop (utf8_valid_len bytes) bytes)))
   where
@@ -316,8 +338,10 @@ module _ (d : Dialect) (limit : ℕ) (bytes : List ℕ) (e : Bool) where
           (subst (λ u. IsLongest d u n k × (take n u ≡ take n v)) (here q v m) (longest, refl)) in
           (x.0, All-cons (IsLongestIn d bytes) (record { kind = k; text = take n v; at = q }) r.tokens (inr one) x.1)
 
+-- the law of outcomes
 pub reasons : OutcomesHaveReasons
 reasons d limit bytes e = (all_reasons d limit bytes e).0
 
+-- the law of the longest tokens
 pub longest_tokens : TokensAreLongest
 longest_tokens d limit bytes e = (all_reasons d limit bytes e).1

@@ -28,9 +28,11 @@ few bs at n h =
     let c = h.count in
     omega (arith, h.bytes, length-le-encodes t, length-take-le n (chars bs) c)
 
+-- a text has no more characters than bytes
 pub fewer : (bs : List ℕ) → IsUtf8 bs → length (chars bs) ≤ length bs
 fewer bs u = omega (arith, length-le-encodes (chars bs), ap length (encodes-chars bs u))
 
+-- a test and one that fails are false
 and_false : (b : Bool) → (b && false) ≡ false
 and_false true = refl
 and_false false = refl
@@ -41,6 +43,7 @@ none_over d limit w k g =
     ap (λ o. nat_lt limit (length w) && (is_some o || goes_on d (state_of d (take (limit + 1) w)))) k
     ∙ (ap (λ b. nat_lt limit (length w) && b) g ∙ and_false (nat_lt limit (length w)))
 
+-- a token of the states that has ended within the limit is not too long
 pub ends-early : (d : Dialect) (bs : List ℕ) (at n limit : ℕ) (s : State) → IsAt bs at n → s ≡ state_of d (take n (chars bs)) → n ≤ limit →
     (length bs ≤ at) ⊎ (goes_on d s ≡ false) → shaped_over d limit (chars bs) ≡ false
 ends-early d bs at n limit s h es l e = ⊎_elim
@@ -70,6 +73,7 @@ by_state d limit n w s e l h =
 same_tests : (i j : ℕ) → nat_lt (suc i) (suc j) ≡ nat_lt i j
 same_tests i j = grind (arith, nat_tests)
 
+-- a front begins a spelling, or is it, exactly where the characters agree
 left-some : (b : Bool) (s w : List ℕ) (n : ℕ) → n ≤ length w → is_some (left b s (take n w)) ≡ cond (nat_lt (length s) n) false (begins b (take n s) w)
 left-some b s w zero l = sym (ap (λ t. cond t false true) (le-ltb (length s) zero (omega arith)))
 left-some b s [] (suc n) l = absurd (omega arith)
@@ -86,11 +90,13 @@ left-some b (c ∷ s) (x ∷ w) (suc n) l =
     go true e = e
     go false e = nothing (nat_lt (length s) n)
 
+-- something or nothing is left of a spelling where it agrees
 done_or_begun : (o : Option (List ℕ)) → (is_done o || is_begun o) ≡ is_some o
 done_or_begun None = refl
 done_or_begun (Some []) = refl
 done_or_begun (Some (c ∷ s)) = refl
 
+-- a spelling is too long exactly where the text begins it or is it, one character past the limit
 row-over : (r : Row) (limit : ℕ) (w : List ℕ) → limit < length w →
     (is_done (left r.any_case r.text (take (limit + 1) w)) || is_begun (left r.any_case r.text (take (limit + 1) w))) ≡ row_over r limit w
 row-over r limit w l =
@@ -103,6 +109,7 @@ row-over r limit w l =
         (λ h. ap (λ t. cond t false b) (lt-ltb n (limit + 1) (omega arith)) ∙ sym (ap (λ t. t && b) (le-ltb limit n h)))
         (cases_lt limit n)
 
+-- some spelling is too long exactly where the text begins one or is one, one character past the limit
 rows-over : (rs : List Row) (limit : ℕ) (w : List ℕ) → limit < length w → (is_some (kind_by rs (take (limit + 1) w)) || live_by rs (take (limit + 1) w)) ≡ fixed_over rs limit w
 rows-over [] limit w l = refl
 rows-over (r ∷ rs) limit w l =
@@ -125,6 +132,7 @@ row-short r limit w l = ⊎_elim
     (λ h. ap (λ b. b && begins r.any_case (take (limit + 1) r.text) w) (le-ltb limit (length r.text) h))
     (cases_lt limit (length r.text))
 
+-- a text within the limit has no spelling that is too long
 rows-short : (rs : List Row) (limit : ℕ) (w : List ℕ) → length w ≤ limit → fixed_over rs limit w ≡ false
 rows-short [] limit w l = refl
 rows-short (r ∷ rs) limit w l = ap (λ b. b || fixed_over rs limit w) (row-short r limit w l) ∙ rows-short rs limit w l
@@ -164,6 +172,7 @@ low_take b zero s e = refl
 low_take b (suc n) [] e = refl
 low_take b (suc n) (a ∷ s) e = let p = and_parts _ _ e in and_from _ _ p.0 (low_take b n s p.1)
 
+-- spellings are ASCII, so they may be compared with the bytes
 over-encodes : (rs : List Row) (limit : ℕ) (w : List ℕ) → all_low rs ≡ true → fixed_over rs limit (encode_utf8_all w) ≡ fixed_over rs limit w
 over-encodes [] limit w e = refl
 over-encodes (r ∷ rs) limit w e =
@@ -172,12 +181,14 @@ over-encodes (r ∷ rs) limit w e =
     (begins_bytes r.any_case (take (limit + 1) r.text) w (low_take r.any_case (limit + 1) r.text (and_parts _ _ p.0).1))
     ∙ ap (λ b. row_over r limit w || b) (over-encodes rs limit w p.1)
 
+-- the test of the limit may be made on the bytes of a text
 pub over-bytes : (d : Dialect) (limit : ℕ) (bs : List ℕ) → IsUtf8 bs → over d limit (chars bs) ≡ (shaped_over d limit (chars bs) || fixed_over (rows_of d fixed) limit bs)
 over-bytes d limit bs u =
     over-split d limit (chars bs) (is-chars bs u)
     ∙ ap (λ b. shaped_over d limit (chars bs) || b)
     (sym (over-encodes (rows_of d fixed) limit (chars bs) (rows_low d)) ∙ ap (fixed_over (rows_of d fixed) limit) (encodes-chars bs u))
 
+-- no token of a text is too long if the text is within the limit
 pub over-short : (d : Dialect) (limit : ℕ) (bs : List ℕ) → IsUtf8 bs → length bs ≤ limit → over d limit (chars bs) ≡ false
 over-short d limit bs u l =
     ap (λ b. b && (is_some (kind_of d (take (limit + 1) (chars bs))) || is_live d (take (limit + 1) (chars bs)))) (le-ltb limit (length (chars bs)) (omega (arith, fewer bs u)))

@@ -13,18 +13,23 @@ use Rattle.rdf_tokens.specs.Good.{end_of}
 use Rattle.rdf_tokens.specs.Moves.{beyond}
 use Rattle.rdf_tokens.proofs.GoodLemmas.{encode_one, encode_two, encode_three, encode_four}
 
+-- how many line feeds there are
 abbrev feeds : List ℕ → ℕ
 feeds bytes = count_by (λ b. b == 10) bytes
 
+-- places are equal where offset and line are
 place_same : {m n k l : ℕ} → m ≡ n → k ≡ l → (let p : Place = record { offset = m; line = k } in p) ≡ record { offset = n; line = l }
 place_same a b = cc
 
+-- line feeds of two texts are counted in each
 pub feeds-append : (u v : List ℕ) → count_by (λ b. b == 10) (u ++ v) ≡ count_by (λ b. b == 10) u + count_by (λ b. b == 10) v
 feeds-append u v = sum_by-append (λ b. cond (b == 10) 1 0) u v
 
+-- a place moves over two texts as over both together
 pub beyond-append : (p : Place) (u v : List ℕ) → beyond (beyond p u) v ≡ beyond p (u ++ v)
 beyond-append p u v = place_same (omega (arith, length-append u v)) (omega (arith, feeds-append u v))
 
+-- the place after all bytes moves on by the bytes that are added
 pub end_of-append : (u v : List ℕ) → beyond (end_of u) v ≡ end_of (u ++ v)
 end_of-append u v = place_same (omega (arith, length-append u v)) (omega (arith, feeds-append u v))
 
@@ -57,6 +62,7 @@ feeds-encode c =
     four : (a b c d : ℕ) → 128 ≤ a → 128 ≤ b → 128 ≤ c → 128 ≤ d → feeds (a ∷ b ∷ c ∷ d ∷ []) ≡ 0
     four a b c d p q r s = grind (arith, nat_tests)
 
+-- a line feed is one byte, so lines may be counted in bytes
 feeds-encodes : (cs : List ℕ) → count_by (λ b. b == 10) (encodes cs) ≡ count_by (λ c. c == 10) cs
 feeds-encodes [] = refl
 feeds-encodes (c ∷ cs) =
@@ -72,6 +78,7 @@ feeds-encodes (c ∷ cs) =
 pub feeds-chars : (bytes : List ℕ) → IsUtf8 bytes → count_by (λ b. b == 10) bytes ≡ count_by (λ c. c == 10) (chars bytes)
 feeds-chars bytes u = ap feeds (sym u.1.1) ∙ (feeds-encodes u.0 ∙ ap feeds (sym (ap chars (sym u.1.1) ∙ chars-encodes u.0 u.1.0)))
 
+-- a place moves over characters as over their bytes
 pub past-encodes : (p : Place) (cs : List ℕ) → past p cs ≡ beyond p (encodes cs)
 past-encodes p [] = place_same (omega arith) (omega arith)
 past-encodes p (c ∷ cs) =

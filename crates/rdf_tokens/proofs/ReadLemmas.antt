@@ -21,6 +21,7 @@ use Rattle.rdf_tokens.proofs.PastGood.{good_past, tail_past, good_broken, still_
 pending_good : (p : List ℕ) → BeginsChar p → good (p ++ []) ≡ []
 pending_good p b = ap good (append-nil p) ∙ (ap (λ n. chars (take n p)) b.none_whole ∙ chars-nil)
 
+-- bytes that begin a character leave the text open, and are bad where no more come
 tail_of-begins : (p : List ℕ) (e : Bool) → BeginsChar p → tail_of p e ≡ cond e (cond (is_empty p) ended broken) goes_on
 tail_of-begins p e b =
     ap (λ n. cond (n == length p) (cond e ended goes_on) (cond (e || is_some (utf8_error_len (drop n p))) broken goes_on)) b.none_whole
@@ -33,6 +34,7 @@ tail_of-begins p e b =
     by_bytes (c ∷ w) true = let n : (0 == length (c ∷ w)) ≡ false = grind (arith, nat_tests) in ap (λ b. cond b ended broken) n
     by_bytes (c ∷ w) false = let n : (0 == length (c ∷ w)) ≡ false = grind (arith, nat_tests) in ap (λ b. cond b goes_on goes_on) n
 
+-- bytes that begin a character, with nothing appended, leave the text open until the end is told
 pub tail_of-pending : (p : List ℕ) (e : Bool) → BeginsChar p → tail_of (p ++ []) e ≡ cond e (cond (is_empty p) ended broken) goes_on
 tail_of-pending p e b = ap (λ x. tail_of x e) (append-nil p) ∙ tail_of-begins p e b
 
@@ -63,6 +65,7 @@ read_now v bytes ts s b r =
     by_end false h r =
         ap (λ x. tokens_of v.dialect v.limit x false) (sym (append-nil bytes)) ∙ (r [] false ∙ ap (with_tokens ts) (reading_known v false b h))
 
+-- tokens before a reading, in two lists or in one
 with_both : (ts us : List Token) (r : Reading) → with_tokens ts (with_tokens us r) ≡ with_tokens (ts ++ us) r
 with_both ts us r = ap (λ x. record { tokens = x; outcome = r.outcome; at = r.at }) (sym (append_assoc ts us r.tokens))
 
@@ -202,6 +205,7 @@ read_last v bytes ts s r = record { taken = r.taken; reads = by_stop v.stopped v
     by_stop false true x r = r ∙ ap (with_tokens ts) (same v.broken)
     by_stop false false x r = ap (λ b. tokens_of v.dialect v.limit b true) (sym (append-nil bytes)) ∙ (r [] true ∙ ap (with_tokens ts) (same v.broken))
 
+-- no bytes begin no character, and more may come
 pub begins_nil : BeginsChar []
 unfolding utf8_valid_len utf8_error_len
 begins_nil = record { none_whole = refl; may_come = refl }
@@ -222,10 +226,12 @@ unread d limit text pending = record {
   stopped = false;
 }
 
+-- a scanner that has taken no bytes has given no tokens
 read_nothing : (d : Dialect) (limit : ℕ) → HasScanned (unread d limit [] []) [] []
 unfolding tokens_of
 read_nothing d limit = record { taken = refl; reads = λ more e. refl }
 
+-- a new scanner has given no tokens of no bytes, however its empty buffers are written
 pub read_new : (d : Dialect) (limit : ℕ) (bytes pending : List ℕ) → bytes ≡ [] → pending ≡ [] → HasScanned (unread d limit (chars bytes) pending) [] []
 read_new d limit bytes pending a b =
     subst (λ x. HasScanned (unread d limit x pending) [] []) (sym (ap chars a ∙ chars-nil))

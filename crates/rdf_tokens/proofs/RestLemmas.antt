@@ -16,6 +16,7 @@ use Rattle.rdf_tokens.specs.Tokens.{with_length, three_quotes, only_long}
 use Rattle.rdf_tokens.proofs.BlankLemmas.{high-encode}
 use Rattle.rdf_tokens.proofs.StateLemmas.{reached-step}
 
+-- a run of no bytes leaves a state as it is
 pub rests-none : (s : State) (bs : List ℕ) (at : ℕ) → at ≤ length bs → Rests s bs at at
 rests-none s bs at l = record {
   from = omega arith;
@@ -24,6 +25,7 @@ rests-none s bs at l = record {
   whole = λ k from to high inside. absurd (omega arith);
 }
 
+-- an ASCII character is its own byte
 low_byte : (c : ℕ) → c < 128 → get_or (encode_utf8 c) 0 0 ≡ c
 low_byte c l = ap (λ w. get_or w 0 0) (encode_ascii c l)
 
@@ -57,6 +59,7 @@ first_char bs at u l = go u.0 u.1.1
           omega (arith, ap length e, length-append (encode_utf8 c) (encode_utf8_all w), length-encode c, length-drop at bs),
         )
 
+-- a front that was found last replaces one that was found before it
 with_length-again : (m n : ℕ) (k : Option Kind) (b : Option (ℕ × Kind)) → with_length m k b ≡ with_length m k (with_length n k b)
 with_length-again m n None b = refl
 with_length-again m n (Some x) b = refl

@@ -24,34 +24,42 @@ holds (pn_char d) Letter = true
 holds (pn_char d) Mark = true
 holds k v = false
 
+-- the class differs from character to character only below 128
 abbrev pub is_low : Class → Bool
 is_low (the x) = nat_lt x 128
 is_low k = true
 
+-- a character from U+0080 on is none of ASCII
 false_at : (x c : ℕ) → x < 128 → 128 ≤ c → (c == x) ≡ false
 false_at x c h l = grind (arith, nat_tests)
 
+-- a character from U+0080 on is no digit
 no_digit : (c : ℕ) → 128 ≤ c → within 48 57 c ≡ false
 no_digit c l = grind (arith, nat_tests)
 
+-- what is in PN_CHARS_BASE alone is known by the width of a character
 letter_only : (k : Class) (b m : Bool) → holds k Letter ≡ true → holds k Mark ≡ false → holds k Other ≡ false → b ≡ holds k (cond b Letter (cond m Mark Other))
 letter_only k true m x y z = sym x
 letter_only k false true x y z = sym y
 letter_only k false false x y z = sym z
 
+-- or false changes nothing
 or_false : (b : Bool) → (b || false) ≡ b
 or_false true = refl
 or_false false = refl
 
+-- or, in another grouping
 or_assoc : (a b c d : Bool) → (((a || b) || c) || d) ≡ (a || ((b || c) || d))
 or_assoc true b c d = refl
 or_assoc false b c d = refl
 
+-- what is in PN_CHARS is known by the width of a character
 letter_or_mark : (k : Class) (b m : Bool) → holds k Letter ≡ true → holds k Mark ≡ true → holds k Other ≡ false → (b || m) ≡ holds k (cond b Letter (cond m Mark Other))
 letter_or_mark k true m x y z = sym x
 letter_or_mark k false true x y z = sym y
 letter_or_mark k false false x y z = sym z
 
+-- a test of a character need not ask whether it is one
 scalar_and : (c : ℕ) (b : Bool) → scalar c ≡ true → (scalar c && b) ≡ b
 scalar_and c b s = ap (λ x. x && b) s
 
@@ -64,12 +72,15 @@ chars_at c u l e =
     ∙ (ap (λ x. ((x || c == 0xB7) || within 0x300 0x36F c) || within 0x203F 0x2040 c) (or_false (u || false) ∙ (or_false u ∙ e))
     ∙ or_assoc (is_base c) (c == 0xB7) (within 0x300 0x36F c) (within 0x203F 0x2040 c)))
 
+-- from U+0080 on PN_CHARS_U is PN_CHARS_BASE
 u_turtle : (c : ℕ) → 128 ≤ c → (is_base c || c == 95) ≡ is_base c
 u_turtle c l = ap (λ x. is_base c || x) (false_at 95 c (omega arith) l) ∙ or_false (is_base c)
 
+-- in the line formats too, since ":" is ASCII
 u_lines : (c : ℕ) → 128 ≤ c → ((is_base c || c == 95) || c == 58) ≡ is_base c
 u_lines c l = ap (λ x. (is_base c || c == 95) || x) (false_at 58 c (omega arith) l) ∙ (or_false (is_base c || c == 95) ∙ u_turtle c l)
 
+-- from U+0080 on a class is a matter of the width alone
 pub has-wide : (k : Class) (c : ℕ) → is_low k ≡ true → 128 ≤ c → scalar c ≡ true → has k c ≡ holds k (wide_of c)
 unfolding has wide_of
 has-wide (the x) c l h s = scalar_and c (c == x) s ∙ false_at x c (ltb-true x 128 l) h
@@ -97,6 +108,7 @@ abbrev pub low_agrees : (ℕ → ℕ) → List Class → Bool
 low_agrees canon [] = true
 low_agrees canon (k ∷ ks) = agree_below (has k) (λ c. has k (canon c)) 128 && low_agrees canon ks
 
+-- a representative of a width is in the classes that the width is in
 abbrev pub high_agrees : (Wide → ℕ) → Wide → List Class → Bool
 high_agrees rep v [] = true
 high_agrees rep v (k ∷ ks) = is_low k && beq (holds k v) (has k (rep v)) && high_agrees rep v ks
@@ -105,23 +117,27 @@ high_agrees rep v (k ∷ ks) = is_low k && beq (holds k v) (has k (rep v)) && hi
 abbrev pub Alike : (ℕ → ℕ) → Class → Type 0
 Alike canon k = (c : ℕ) → scalar c ≡ true → has k c ≡ has k (canon c)
 
+-- the test: each ASCII character, and each width, is in the same classes as what represents its sort
 abbrev pub sorts_agree : {X : Type 0} → (ℕ → X) → (Wide → X) → (X → ℕ) → List Class → Bool
 sorts_agree ascii high rep ks =
     low_agrees (λ c. rep (sort_by ascii high c)) ks
     && high_agrees (λ v. rep (high v)) Letter ks && high_agrees (λ v. rep (high v)) Mark ks && high_agrees (λ v. rep (high v)) Other ks
 
+-- truth values that test as equal are
 beq-eq : (a b : Bool) → beq a b ≡ true → a ≡ b
 beq-eq true true e = refl
 beq-eq false false e = refl
 beq-eq true false e = absurd (false≢true e)
 beq-eq false true e = absurd (false≢true e)
 
+-- a character from U+0080 on is in a class where the representative of its sort is
 at_width : {X : Type 0} → (ascii : ℕ → X) (high : Wide → X) (rep : X → ℕ) (k : Class) → ((v : Wide) → (is_low k && beq (holds k v) (has k (rep (high v)))) ≡ true) →
     (c : ℕ) → 128 ≤ c → scalar c ≡ true → has k c ≡ has k (rep (sort_by ascii high c))
 at_width ascii high rep k h c l s =
     let p = and_parts _ _ (h (wide_of c)) in
     has-wide k c p.0 l s ∙ (beq-eq _ _ p.1 ∙ ap (λ x. has k (rep x)) (sym (cond-false (nat_lt c 128) (ascii c) (high (wide_of c)) (le-ltb c 128 l))))
 
+-- no class of the list tells a character from the representative of its sort
 pub all_alike : {X : Type 0} → (ascii : ℕ → X) (high : Wide → X) (rep : X → ℕ) (ks : List Class) → sorts_agree ascii high rep ks ≡ true →
     AllByRecursion (Alike (λ c. rep (sort_by ascii high c))) ks
 all_alike ascii high rep ks e =

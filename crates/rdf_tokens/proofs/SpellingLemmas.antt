@@ -21,16 +21,20 @@ use Rattle.rdf_tokens.proofs.FrontLemmas.{AtMost, longest_by-or, longest_by-same
 both_suc : (i j : ℕ) → (i == j) ≡ (suc i == suc j)
 both_suc i j = grind (arith, nat_tests)
 
+-- a test and one that fails are false
 and_false : (t : Bool) → (t && false) ≡ false
 and_false true = refl
 and_false false = refl
 
+-- a length is not 0 and positive
 no_length : (n : ℕ) → (suc n == 0) ≡ false
 no_length n = grind (arith, nat_tests)
 
+-- no length is positive and 0
 length_no : (n : ℕ) → (0 == suc n) ≡ false
 length_no n = grind (arith, nat_tests)
 
+-- a front is a spelling exactly where it has its length and agrees with it
 done-take : (b : Bool) (s w : List ℕ) (n : ℕ) → n ≤ length w → is_done (left b s (take n w)) ≡ (n == length s && begins b s w)
 done-take b [] w zero l = refl
 done-take b [] [] (suc n) l = absurd (omega arith)
@@ -47,6 +51,7 @@ done-take b (c ∷ s) (x ∷ w) (suc n) l = go (fits b c x) (done-take b s w n (
 abbrev row_kind : Row → List ℕ → Option Kind
 row_kind r u = cond (is_done (left r.any_case r.text u)) (Some r.kind) None
 
+-- one character more finds a spelling, or keeps what was found
 row_step : (n m : ℕ) (k : Kind) (b : Bool) → with_length (suc n) (cond (suc n == m && b) (Some k) None) (cond (nat_lt n m) None (cond b (Some (m, k)) None))
     ≡ cond (nat_lt (suc n) m) None (cond b (Some (m, k)) None)
 row_step n m k b =
@@ -66,6 +71,7 @@ row_step n m k b =
     ends true e = ap (λ i. Some (i, k)) e
     ends false e = refl
 
+-- the longest front by one spelling is the spelling, if it stands there
 one_row : (r : Row) (w : List ℕ) (n : ℕ) → 0 < length r.text → n ≤ length w →
     longest_by (row_kind r) w n ≡ cond (nat_lt n (length r.text)) None (row_front r w)
 one_row r w zero p l = sym (ap (λ t. cond t None (row_front r w)) (lt-ltb zero (length r.text) p))
@@ -80,6 +86,7 @@ short b [] w l = absurd (omega arith)
 short b (c ∷ s) [] l = refl
 short b (c ∷ s) (x ∷ w) l = ap (λ t. fits b c x && t) (short b s w (omega arith)) ∙ and_false (fits b c x)
 
+-- the longest front of all of a text by one spelling is the spelling, if it stands there
 longest-row : (r : Row) (w : List ℕ) → 0 < length r.text → longest_by (row_kind r) w (length w) ≡ row_front r w
 longest-row r w p = one_row r w (length w) p (omega arith) ∙ ⊎_elim
     (λ h. ap (λ t. cond t None (row_front r w)) (lt-ltb _ _ h) ∙ sym (ap (λ t. cond t (Some (length r.text, r.kind)) None) (short r.any_case r.text w h)))
@@ -91,14 +98,17 @@ abbrev pub is_low : Bool → List ℕ → Bool
 is_low b [] = true
 is_low b (a ∷ s) = nat_lt (a + cond b 32 0) 128 && is_low b s
 
+-- all spellings are ASCII, in either case
 abbrev pub all_low : List Row → Bool
 all_low [] = true
 all_low (r ∷ rs) = (nat_lt 0 (length r.text) && is_low r.any_case r.text) && all_low rs
 
+-- all spellings of the table are ASCII
 pub rows_low : (d : Dialect) → all_low (rows_of d fixed) ≡ true
 rows_low Lines = refl
 rows_low Turtle = refl
 
+-- the longest front by the table is its longest spelling that stands there
 longest-rows : (rs : List Row) (w : List ℕ) → all_low rs ≡ true → longest_by (kind_by rs) w (length w) ≡ front_by rs w
 longest-rows [] w e = none (length w)
   where
@@ -122,6 +132,7 @@ misfit : (b : Bool) (a y : ℕ) → nat_lt (a + cond b 32 0) 128 ≡ true → 12
 misfit true a y e l = grind (arith, nat_tests)
 misfit false a y e l = grind (arith, nat_tests)
 
+-- a character from U+0080 on begins with a byte from 128 on
 high_byte : (c : ℕ) (rest : List ℕ) → 128 ≤ c → (x : ℕ) × (t : List ℕ) × (128 ≤ x) × (encode_utf8 c ++ rest ≡ x ∷ t)
 high_byte c rest l = first (encode_utf8 c ++ rest) refl
   where
@@ -132,6 +143,7 @@ high_byte c rest l = first (encode_utf8 c ++ rest) refl
         (λ m. (x, t, m, e))
         (cases_lt x 128)
 
+-- a spelling stands at the front of a text where it stands at the front of its bytes
 pub begins_bytes : (b : Bool) (s w : List ℕ) → is_low b s ≡ true → begins b s (encode_utf8_all w) ≡ begins b s w
 begins_bytes b [] w e = refl
 begins_bytes b (a ∷ s) [] e = refl
@@ -148,6 +160,7 @@ low_fit : (b : Bool) (a c : ℕ) → nat_lt (a + cond b 32 0) 128 ≡ true → f
 low_fit true a c e f = grind (arith, nat_tests)
 low_fit false a c e f = grind (arith, nat_tests)
 
+-- a spelling that stands at the front has as many bytes as characters
 begins_size : (b : Bool) (s w : List ℕ) → is_low b s ≡ true → begins b s w ≡ true → bytes_of (length s) w ≡ length s
 begins_size b [] w e f = refl
 begins_size b (a ∷ s) [] e f = absurd (false≢true f)
@@ -156,6 +169,7 @@ begins_size b (a ∷ s) (c ∷ w) e f =
     let q = and_parts _ _ f in
     ap (λ x. length (x ++ encode_utf8_all (take (length s) w))) (encode_ascii c (low_fit b a c p.0 q.0)) ∙ ap suc (begins_size b s w p.1 q.1)
 
+-- so one spelling is found in the bytes as in the characters
 row-bytes : (r : Row) (w : List ℕ) → is_low r.any_case r.text ≡ true → row_front r (encode_utf8_all w) ≡ in_bytes w (row_front r w)
 row-bytes r w e =
     ap (λ t. cond t (Some (length r.text, r.kind)) None) (begins_bytes r.any_case r.text w e) ∙ go (begins r.any_case r.text w) (begins_size r.any_case r.text w e)
@@ -164,6 +178,7 @@ row-bytes r w e =
     go true h = ap (λ n. Some (n, r.kind)) (sym (h refl))
     go false h = refl
 
+-- the longest spelling of a table is found in the bytes as in the characters
 rows-bytes : (rs : List Row) (w : List ℕ) → all_low rs ≡ true → front_by rs (encode_utf8_all w) ≡ in_bytes w (front_by rs w)
 rows-bytes [] w e = refl
 rows-bytes (r ∷ rs) w e =
@@ -187,6 +202,7 @@ left_high : (b : Bool) (s t : List ℕ) (x : ℕ) → is_low b s ≡ true → 12
 left_high b [] t x e l = refl
 left_high b (a ∷ s) t x e l = ap (λ f. cond f (left b s t) None) (misfit b a x (and_parts _ _ e).0 l)
 
+-- what is left of a spelling after some bytes is what is left after their characters
 left_bytes : (b : Bool) (s w : List ℕ) → is_low b s ≡ true → left b s (encode_utf8_all w) ≡ left b s w
 left_bytes b s [] e = refl
 left_bytes b s (c ∷ w) e = ⊎_elim
@@ -198,6 +214,7 @@ left_bytes b s (c ∷ w) e = ⊎_elim
     low [] e h = refl
     low (a ∷ s) e h = ap (λ o. cond (fits b a c) o None) (h s (and_parts _ _ e).1)
 
+-- so a longer spelling is looked for in the bytes as in the characters
 live_bytes : (rs : List Row) (w : List ℕ) → all_low rs ≡ true → live_by rs (encode_utf8_all w) ≡ live_by rs w
 live_bytes [] w e = refl
 live_bytes (r ∷ rs) w e =
@@ -205,6 +222,7 @@ live_bytes (r ∷ rs) w e =
     ap (λ o. is_begun o || live_by rs (encode_utf8_all w)) (left_bytes r.any_case r.text w (and_parts _ _ p.0).1)
     ∙ ap (λ t. is_begun (left r.any_case r.text w) || t) (live_bytes rs w p.1)
 
+-- a longer spelling of the table may be looked for in the bytes of a str
 pub table-live : (d : Dialect) (bs : List ℕ) → IsUtf8 bs → live_by (rows_of d fixed) bs ≡ live_by_table d (chars bs)
 unfolding live_by_table
 table-live d bs u = ap (live_by (rows_of d fixed)) (sym (encodes-chars bs u)) ∙ live_bytes (rows_of d fixed) (chars bs) (rows_low d)
@@ -220,6 +238,7 @@ left_whole b (c ∷ s) (x ∷ w) l = go (fits b c x) (left_whole b s w (omega ar
     go true e = e
     go false e = refl
 
+-- a spelling that is longer than the text goes on, if it agrees
 pub left_begun : (b : Bool) (s w : List ℕ) (n : ℕ) → length w ≤ n → n < length s → is_begun (left b (drop n s) (drop n w)) ≡ true
 left_begun b s w n l m = ap (λ x. is_begun (left b (drop n s) x)) (drop_all n w l) ∙ ap is_begun (ap Some (drop_more s n 0 m))
 
@@ -254,6 +273,7 @@ quotes-begin Turtle (a ∷ b ∷ c ∷ w) = both (a == 34) (b == 34) (c == 34) (
     both : (s t u x y z : Bool) → (((s && t) && u) || ((x && y) && z)) ≡ ((s && (t && (u && true))) || (x && (y && (z && true))))
     both s t u x y z = ap (λ b. b || ((x && y) && z)) (regroup s t u) ∙ ap (λ b. (s && (t && (u && true))) || b) (regroup x y z)
 
+-- three quotes come first in the bytes where they do in the characters
 pub quotes-bytes : (d : Dialect) (bs : List ℕ) → IsUtf8 bs → three_quotes d bs ≡ three_quotes d (chars bs)
 quotes-bytes d bs u =
     ap (three_quotes d) (sym (encodes-chars bs u)) ∙ (quotes-begin d (encode_utf8_all (chars bs))
@@ -274,6 +294,7 @@ no_quote d c w e = ⊎_elim (λ h. double d c (eqb-true c 34 h)) (λ h. single d
     single Lines c e = ap (λ c. kind_by (rows_of Lines fixed) (c ∷ w)) e
     single Turtle c e = ap (λ c. kind_by (rows_of Turtle fixed) (c ∷ w)) e
 
+-- three quotes begin with a quote
 first_quote : (d : Dialect) (c : ℕ) (w : List ℕ) → three_quotes d (c ∷ w) ≡ true → (c == 34 || c == 39) ≡ true
 first_quote Lines c w e = absurd (false≢true e)
 first_quote Turtle c [] e = absurd (false≢true e)
@@ -318,6 +339,7 @@ front_by-first (r ∷ rs) x w = go (begins r.any_case (take 1 r.text) (x ∷ [])
     go false e h =
         h ∙ sym (ap (λ t. longer_front (cond t (Some (length r.text, r.kind)) None) (front_by rs (x ∷ w))) (other_first r.any_case r.text x w e))
 
+-- only spellings that begin with the first byte need be compared
 pub front_by-at : (rs : List Row) (x : ℕ) (w : List ℕ) → Some x ≡ slice_get w 0 → front_by (at_first x rs) w ≡ front_by rs w
 front_by-at rs x [] e = absurd cc
 front_by-at rs x (y ∷ w) e = let h : x ≡ y = cc in subst (λ y. front_by (at_first x rs) (y ∷ w) ≡ front_by rs (y ∷ w)) h (front_by-first rs x w)

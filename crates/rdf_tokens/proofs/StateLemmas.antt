@@ -33,6 +33,7 @@ use Rattle.rdf_tokens.proofs.MachineLemmas.{whole-kind, whole-live}
 abbrev pub Stuck : Dialect → State → Type 0
 Stuck d s = (goes_on d s ≡ false) × (kind_at s ≡ None)
 
+-- a state that does not go on is stuck after one character more
 stuck_one : (d : Dialect) (s : State) (c : ℕ) → goes_on d s ≡ false → Stuck d (step d s c)
 stuck_one d Start c e = absurd (true≢false e)
 stuck_one d Dead c e = (refl, refl)
@@ -62,6 +63,7 @@ stuck_one Turtle (Name name_state.Start) c e = absurd (true≢false e)
 stuck_one d (Name name_state.Dead) c e = (refl, refl)
 stuck_one d (Name s) c e = absurd (true≢false e)
 
+-- a state that does not go on is stuck after any more characters
 stuck_run : (d : Dialect) (s : State) (c : ℕ) (v : List ℕ) → goes_on d s ≡ false → Stuck d (run (step d) s (c ∷ v))
 stuck_run d s c [] e = stuck_one d s c e
 stuck_run d s c (x ∷ v) e = stuck_run d (step d s c) x v (stuck_one d s c e).0
@@ -74,10 +76,12 @@ longer_state d w n k l e =
     ap (state_of d) (take-add n (suc k) w ∙ ap (λ x. take n w ++ x) more) ∙ run-append (step d) Start (take n w) (get_or w n 0 ∷ take k (drop (n + 1) w)) in
     subst (Stuck d) (sym parts) (stuck_run d (state_of d (take n w)) (get_or w n 0) (take k (drop (n + 1) w)) e)
 
+-- a front without a kind has none after three quotes either
 no_long : (t : Bool) → only_long t None ≡ None
 no_long true = refl
 no_long false = refl
 
+-- where the states do not go on, the longest front has been found
 longest-done : (d : Dialect) (w : List ℕ) (n k : ℕ) → n + k ≤ length w → goes_on d (state_of d (take n w)) ≡ false →
     longest_by (kind_by_states d w) w (k + n) ≡ longest_by (kind_by_states d w) w n
 longest-done d w n zero l e = ap (longest_by (kind_by_states d w) w) (omega arith)
@@ -90,13 +94,16 @@ longest-done d w n (suc k) l e =
     ap (longest_by (kind_by_states d w) w) sum
     ∙ (ap (λ x. with_length (suc (k + n)) x (longest_by (kind_by_states d w) w (k + n))) none ∙ longest-done d w n k (omega arith) e)
 
+-- the loop begins before the first byte, in the first state, with no front
 pub reached-start : (d : Dialect) (bs : List ℕ) → IsUtf8 bs → Reached d bs 0 Start None
 reached-start d bs u = record { n = 0; here = at-start bs u; state = refl; front = refl }
 
+-- a front that is found is found in bytes
 with_bytes : (w : List ℕ) (n m : ℕ) (k : Option Kind) (o : Option (ℕ × Kind)) → m ≡ bytes_of n w → with_length m k (in_bytes w o) ≡ in_bytes w (with_length n k o)
 with_bytes w n m None o e = refl
 with_bytes w n m (Some k) o e = ap (λ m. Some (m, k)) e
 
+-- one character more: the state after it, and the longest front so far
 front-more : (d : Dialect) (w : List ℕ) (n m : ℕ) (s : State) (k : Option Kind) (b b' : Option (ℕ × Kind)) →
     s ≡ state_of d (take (n + 1) w) → m ≡ bytes_of (n + 1) w → k ≡ only_long (three_quotes d w) (kind_at s) →
     b ≡ in_bytes w (longest_by (kind_by_states d w) w n) → b' ≡ with_length m k b → b' ≡ in_bytes w (longest_by (kind_by_states d w) w (n + 1))
@@ -109,6 +116,7 @@ front-more d w n m s k b b' es em ek eb eb' =
     longest_one : (f : List ℕ → Option Kind) (w : List ℕ) (n : ℕ) → with_length (n + 1) (f (take (n + 1) w)) (longest_by f w n) ≡ longest_by f w (n + 1)
     longest_one f w n = rw add-one refl
 
+-- what the loop keeps holds after one character more
 pub reached-step : (d : Dialect) (bs : List ℕ) (at next c : ℕ) (s s' : State) (k : Option Kind) (b b' : Option (ℕ × Kind)) → Reached d bs at s b →
     drop at bs ≡ encode_utf8 c ++ drop next bs → next ≡ at + len_utf8 c → next ≤ length bs →
     s' ≡ step d s c → k ≡ only_long (three_quotes d (chars bs)) (kind_at s') → b' ≡ with_length next k b → Reached d bs next s' b'
@@ -216,6 +224,7 @@ front-bytes d bs f b o u ef eb eo =
     eo ∙ (ap (λ x. longer_front x b) (ef ∙ table-front d bs u)
     ∙ (ap (longer_front (in_bytes (chars bs) (longest_by (kind_by_table d) (chars bs) (length (chars bs))))) eb ∙ sym (front-best d (chars bs) (is-chars bs u))))
 
+-- the states and the table together tell whether the text begins a longer token
 pub live-bytes : (d : Dialect) (bs : List ℕ) → IsUtf8 bs → (goes_on d (state_of d (chars bs)) || live_by (rows_of d fixed) bs) ≡ is_live d (chars bs)
 live-bytes d bs u =
     ap (λ t. goes_on d (state_of d (chars bs)) || t) (table-live d bs u) ∙ sym (whole-live d (chars bs) (is-chars bs u))

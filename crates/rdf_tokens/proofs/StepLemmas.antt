@@ -15,12 +15,14 @@ use Rattle.rdf_tokens.specs.Tokens.Step.{token, stop}
 same_front : (x y : ℕ × Kind) → Some x ≡ Some y → x ≡ y
 same_front x y e = cc
 
+-- what counts after three quotes has its kind
 pub only_long-kind : (t : Bool) (o : Option Kind) (k : Kind) → only_long t o ≡ Some k → o ≡ Some k
 only_long-kind false o k e = e
 only_long-kind true None k e = e
 only_long-kind true (Some LongString) k e = e
 only_long-kind true (Some l) k e = absurd (let h : None ≡ Some k = e in cc)
 
+-- the longest front has the kind that is found
 pub longest-kind : (d : Dialect) (w : List ℕ) (m n : ℕ) (k : Kind) → longest d w m ≡ Some (n, k) → kind_of d (take n w) ≡ Some k
 longest-kind d w zero n k e = absurd (let h : None ≡ Some (n, k) = e in cc)
 longest-kind d w (suc m) n k e =
@@ -57,6 +59,7 @@ decided-token d (c ∷ w) n k e = taken (longest d (c ∷ w) (length (c ∷ w)))
     taken None l e = absurd (let h : stop no_token ≡ token n k = e in cc)
     taken (Some x) l e = let p = made x (is_fit x.1 (take x.0 (c ∷ w))) refl e in (l ∙ p.0, p.1)
 
+-- a token of a step is that of the decision
 pub step-decided : (d : Dialect) (limit : ℕ) (t : Tail) (w : List ℕ) (n : ℕ) (k : Kind) → step d limit t w ≡ token n k → decided d w ≡ token n k
 unfolding step
 step-decided d limit t w n k e = go (over d limit w) t (is_empty w || is_live d w) e
@@ -81,5 +84,6 @@ step-token d limit t w n k e =
     let q = kind-shape d (take n w) k (longest-kind d w (length w) n k p.0) in
     (q, p.1, λ x. no_end d (take n w) (subst (λ k. Shape d k (take n w)) x q))
 
+-- its text has its kind
 pub step-kind : (d : Dialect) (limit : ℕ) (t : Tail) (w : List ℕ) (n : ℕ) (k : Kind) → step d limit t w ≡ token n k → kind_of d (take n w) ≡ Some k
 step-kind d limit t w n k e = longest-kind d w (length w) n k (decided-token d w n k (step-decided d limit t w n k e)).0

@@ -16,6 +16,7 @@ use Rattle.rdf_tokens.specs.Tag.{ascii, high, move, step, accepts, goes_on}
 use Rattle.rdf_tokens.proofs.SortLemmas.{sorts_agree}
 use Rattle.rdf_tokens.proofs.FamilyLemmas.{Family, Moves, covers_all, kind_in, longer_in, kind-run, live-run}
 
+-- a character of each sort, which stands for all of it
 abbrev rep : Sort → ℕ
 rep sort.At = 64
 rep sort.Hyphen = 45
@@ -23,9 +24,11 @@ rep sort.Digit = 48
 rep sort.Letter = 97
 rep sort.Other = 32
 
+-- the classes of characters of which LANGTAG is made
 abbrev classes : List Class
 classes = the 64 ∷ the 45 ∷ letter ∷ letter_or_digit ∷ []
 
+-- ('-' [a-zA-Z0-9]+)*, the later parts of a tag
 abbrev parts : Regex
 parts = many (one (the 45) · some (one letter_or_digit))
 
@@ -38,6 +41,7 @@ meaning Hyphen = (some (one letter_or_digit) · parts) ∷ []
 meaning Part = (many (one letter_or_digit) · parts) ∷ []
 meaning Dead = nothing ∷ []
 
+-- where a character of a sort leads is what is left to match after it, so the table of moves is right
 moves : (s : Tag) (x : Sort) → Moves rep move meaning s x
 unfolding meaning has
 moves Start sort.At = inl refl
@@ -52,28 +56,34 @@ moves Part sort.At = inl refl
 moves Part x = inl refl
 moves Dead x = inl refl
 
+-- the expressions have no other classes than these
 covered : (s : Tag) → covers_all classes (meaning s) ≡ true
 unfolding meaning
 covered Start = refl
 covered s = refl
 
+-- characters of one sort are in the same classes, by a test of each ASCII character and each width
 sorts : sorts_agree ascii high rep classes ≡ true
 unfolding has
 sorts = refl
 
+-- all of this together, as the general lemmas on families take it
 abbrev family : Family Tag Sort
 family = record { ascii = ascii; high = high; rep = rep; move = move; meaning = meaning; classes = classes; sorts = sorts; covered = covered; moves = moves }
 
+-- a state has a kind exactly where nothing is left to match of the expression of that kind
 kind_of_state : (s : Tag) → kind_in (LangTag ∷ []) (meaning s) ≡ cond (accepts s) (Some LangTag) None
 unfolding meaning
 kind_of_state Start = refl
 kind_of_state s = refl
 
+-- a state goes on exactly where something longer can match
 live_state : (s : Tag) → longer_in (meaning s) ≡ goes_on s
 unfolding meaning has
 live_state Start = refl
 live_state s = refl
 
+-- at the start all of the shape is left
 starts : (d : Dialect) → meaning Start ≡ map (shape d) (LangTag ∷ [])
 unfolding meaning shape
 starts d = refl
@@ -82,5 +92,6 @@ starts d = refl
 pub tag-kind : (d : Dialect) (w : List ℕ) → IsChars w → first_kind d (LangTag ∷ []) w ≡ cond (accepts (run step Start w)) (Some LangTag) None
 tag-kind d w b = kind-run family d (LangTag ∷ []) Start (starts d) w b ∙ kind_of_state (run step Start w)
 
+-- the states go on after a text exactly where it begins a longer one of LANGTAG
 pub tag-live : (d : Dialect) (w : List ℕ) → IsChars w → longer (after_all (any_shape d (LangTag ∷ [])) w) ≡ goes_on (run step Start w)
 tag-live d w b = live-run family d (LangTag ∷ []) Start (starts d) w b ∙ live_state (run step Start w)

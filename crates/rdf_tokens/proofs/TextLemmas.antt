@@ -20,6 +20,7 @@ use Rattle.rdf_tokens.specs.Text.{ascii, high, move, step, kind_at, goes_on}
 use Rattle.rdf_tokens.proofs.SortLemmas.{sorts_agree}
 use Rattle.rdf_tokens.proofs.FamilyLemmas.{Family, Moves, hexes, possible-hexes, covers_all, kind_in, longer_in, kind-run, live-run}
 
+-- a character of each sort, which stands for all of it
 abbrev rep : Sort → ℕ
 rep sort.DoubleQuote = 34
 rep sort.SingleQuote = 39
@@ -32,20 +33,25 @@ rep sort.HexLetter = 98
 rep sort.HexDigit = 48
 rep sort.Plain = 120
 
+-- the classes of characters of which the strings are made
 abbrev classes : List Class
 classes = the 34 ∷ the 39 ∷ the 92 ∷ the 117 ∷ the 85 ∷ hex_digit ∷ escape_letter ∷ plain_double ∷ plain_single ∷ long_double ∷ long_single ∷ []
 
+-- the kinds of strings
 abbrev pub strings : List Kind
 strings = ShortString ∷ LongString ∷ []
 
+-- the quote, as an expression
 abbrev quote : Quote → Regex
 quote Double = double_quote
 quote Single = single_quote
 
+-- what may stand as it is in a string with one quote at each end
 abbrev plain : Quote → Class
 plain Double = plain_double
 plain Single = plain_single
 
+-- what may stand as it is in a string with three
 abbrev long : Quote → Class
 long Double = long_double
 long Single = long_single
@@ -54,15 +60,19 @@ long Single = long_single
 abbrev part : Class → Regex
 part k = one k ∣ echar ∣ uchar
 
+-- ECHAR or UCHAR without its backslash
 abbrev escape : Regex
 escape = one escape_letter ∣ (one (the 117) · empty) · hexes 3 ∣ (one (the 85) · empty) · hexes 7
 
+-- the rest of a string with one quote at each end, without the quote
 abbrev short_rest : Quote → Regex
 short_rest q = many (part (plain q))
 
+-- the rest of a string with three, without the quotes
 abbrev long_rest : Quote → Regex
 long_rest q = many (optional (quote q ∣ quote q · quote q) · part (long q))
 
+-- the three quotes that end a string
 abbrev end : Quote → Regex
 end q = quote q · quote q · quote q
 
@@ -83,6 +93,7 @@ meaning d (LongHex q n) = nothing ∷ ((hexes n · long_rest q) · end q) ∷ []
 meaning d LongWhole = nothing ∷ empty ∷ []
 meaning d Dead = nothing ∷ nothing ∷ []
 
+-- where a character of a sort leads is what is left to match after it, so the table of moves is right
 moves : (d : Dialect) (s : Text) (x : Sort) → Moves rep (move d) (meaning d) s x
 unfolding meaning shape has
 moves Lines Start sort.Plain = inl refl
@@ -157,6 +168,7 @@ moves d ShortWhole x = inl refl
 moves d LongWhole x = inl refl
 moves d Dead x = inl refl
 
+-- the expressions have no other classes than these
 covered : (d : Dialect) (s : Text) → covers_all classes (meaning d s) ≡ true
 unfolding meaning shape
 covered Lines Start = refl
@@ -191,13 +203,16 @@ covered d (LongHex Single zero) = refl
 covered d (LongHex Single (suc n)) = covered d (LongHex Single n)
 covered d s = refl
 
+-- characters of one sort are in the same classes, by a test of each ASCII character and each width
 sorts : sorts_agree ascii high rep classes ≡ true
 unfolding has
 sorts = refl
 
+-- all of this together, as the general lemmas on families take it
 abbrev family : Dialect → Family Text Sort
 family d = record { ascii = ascii; high = high; rep = rep; move = move d; meaning = meaning d; classes = classes; sorts = sorts; covered = covered d; moves = moves d }
 
+-- a state has a kind exactly where nothing is left to match of the expression of that kind
 kind_of_state : (d : Dialect) (s : Text) → kind_in strings (meaning d s) ≡ kind_at s
 unfolding meaning shape
 kind_of_state Lines Start = refl
@@ -232,6 +247,7 @@ kind_of_state d (LongHex Single zero) = refl
 kind_of_state d (LongHex Single (suc n)) = refl
 kind_of_state d s = refl
 
+-- a state goes on exactly where something longer can match
 live_state : (d : Dialect) (s : Text) → longer_in (meaning d s) ≡ goes_on d s
 unfolding meaning shape has
 live_state Lines Start = refl
@@ -266,6 +282,7 @@ live_state d (LongHex Single zero) = refl
 live_state d (LongHex Single (suc n)) = rw (possible-hexes n) refl
 live_state d s = refl
 
+-- at the start all of the shape is left
 starts : (d : Dialect) → meaning d Start ≡ map (shape d) strings
 unfolding meaning
 starts d = refl
@@ -274,5 +291,6 @@ starts d = refl
 pub text-kind : (d : Dialect) (w : List ℕ) → IsChars w → first_kind d strings w ≡ kind_at (run (step d) Start w)
 text-kind d w b = kind-run (family d) d strings Start (starts d) w b ∙ kind_of_state d (run (step d) Start w)
 
+-- the states go on after a text exactly where it begins a longer one of the strings
 pub text-live : (d : Dialect) (w : List ℕ) → IsChars w → longer (after_all (any_shape d strings) w) ≡ goes_on d (run (step d) Start w)
 text-live d w b = live-run (family d) d strings Start (starts d) w b ∙ live_state d (run (step d) Start w)

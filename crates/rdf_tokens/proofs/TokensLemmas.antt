@@ -23,6 +23,7 @@ no_kind d u c v f =
     ] in
     at (kind_of d (u ++ c ∷ v)) refl
 
+-- a text that begins no token begins none with more text either
 pub not_live : (d : Dialect) (u v : List ℕ) → is_live d u ≡ false → is_live d (u ++ v) ≡ false
 not_live d u v f = false_from_ne_true _ (λ t. false≢true (sym f ∙ live-front d u v t))
 
@@ -36,6 +37,7 @@ longer_take (x ∷ u) v (suc n) a b =
     let r = longer_take u v n (omega arith) (omega arith) in
     (r.0, r.1, ap (λ y. x ∷ y) r.2)
 
+-- whether a token is too long does not change with more text, once it is decided
 over-more : (d : Dialect) (limit : ℕ) (u v : List ℕ) → is_live d u ≡ false ⊎ (over d limit u ≡ true) → over d limit (u ++ v) ≡ over d limit u
 over-more d limit u v h =
     let near : limit < length u → over d limit (u ++ v) ≡ over d limit u = λ l.
@@ -66,11 +68,13 @@ over-more d limit u v h =
 abbrev all_quote : ℕ → ℕ → ℕ → ℕ → Bool
 all_quote q a b c = a == q && b == q && c == q
 
+-- a character that cannot go on is no quote, so three quotes do not come first
 quote_live : (q a : ℕ) → is_live Turtle (q ∷ []) ≡ true → is_live Turtle (a ∷ []) ≡ false → (b c : ℕ) → all_quote q a b c ≡ false
 quote_live q a l f b c = false_from_ne_true _ (λ t.
     let e : a ≡ q = eqb-true a q (and_parts (a == q) (b == q) (and_parts (a == q && b == q) (c == q) t).0).0 in
     false≢true (sym f ∙ subst (λ x. is_live Turtle (x ∷ []) ≡ true) (sym e) l))
 
+-- two characters that cannot go on are no two quotes
 quotes_live : (q a b : ℕ) → is_live Turtle (q ∷ q ∷ []) ≡ true → is_live Turtle (a ∷ b ∷ []) ≡ false → (c : ℕ) → all_quote q a b c ≡ false
 quotes_live q a b l f c = false_from_ne_true _ (λ t.
     let p = and_parts (a == q) (b == q) (and_parts (a == q && b == q) (c == q) t).0 in
@@ -78,25 +82,31 @@ quotes_live q a b l f c = false_from_ne_true _ (λ t.
     let g : b ≡ q = eqb-true b q p.1 in
     false≢true (sym f ∙ subst (λ x. is_live Turtle (x ∷ b ∷ []) ≡ true) (sym e) (subst (λ y. is_live Turtle (q ∷ y ∷ []) ≡ true) (sym g) l)))
 
+-- a quotation mark begins a string
 double_live : is_live Turtle (34 ∷ []) ≡ true
 unfolding is_live shape has
 double_live = refl
 
+-- an apostrophe begins a string
 single_live : is_live Turtle (39 ∷ []) ≡ true
 unfolding is_live shape has
 single_live = refl
 
+-- two quotation marks begin a string in three
 doubles_live : is_live Turtle (34 ∷ 34 ∷ []) ≡ true
 unfolding is_live shape has
 doubles_live = refl
 
+-- two apostrophes begin a string in three
 singles_live : is_live Turtle (39 ∷ 39 ∷ []) ≡ true
 unfolding is_live shape has
 singles_live = refl
 
+-- of two tests that fail none holds
 neither : (x y : Bool) → x ≡ false → y ≡ false → (x || y) ≡ false
 neither x y e f = or_from x y e f
 
+-- whether three quotes come first does not change with more text
 pub quotes-more : (d : Dialect) (u v : List ℕ) → is_empty u ≡ false → is_live d u ≡ false → three_quotes d (u ++ v) ≡ three_quotes d u
 quotes-more Lines u v n f = refl
 quotes-more Turtle [] v n f = absurd (false≢true (sym n))
@@ -107,6 +117,7 @@ quotes-more Turtle (a ∷ b ∷ []) [] n f = refl
 quotes-more Turtle (a ∷ b ∷ []) (c ∷ v) n f = neither _ _ (quotes_live 34 a b doubles_live f c) (quotes_live 39 a b singles_live f c)
 quotes-more Turtle (a ∷ b ∷ c ∷ u) v n f = refl
 
+-- fronts within the first text are the same with more text
 pub longest_low : (d : Dialect) (u v : List ℕ) → three_quotes d (u ++ v) ≡ three_quotes d u → (n : ℕ) → n ≤ length u → longest d (u ++ v) n ≡ longest d u n
 longest_low d u v q zero l = refl
 longest_low d u v q (suc n) l =
@@ -116,10 +127,12 @@ longest_low d u v q (suc n) l =
     ∙ (ap (λ x. with_length (suc n) (only_long x (kind_of d (take (suc n) u))) (longest d (u ++ v) n)) q
     ∙ ap (λ x. with_length (suc n) (only_long (three_quotes d u) (kind_of d (take (suc n) u))) x) h)
 
+-- a front without a kind does not change the longest
 pub none_longer : (n : ℕ) (b : Bool) (k : Option Kind) (o : Option (ℕ × Kind)) → k ≡ None → with_length n (only_long b k) o ≡ o
 none_longer n true k o e = ap (λ k. with_length n (only_long true k) o) e
 none_longer n false k o e = ap (λ k. with_length n (only_long false k) o) e
 
+-- fronts that reach past a text that cannot go on have no kind
 longest_high : (d : Dialect) (u v : List ℕ) → is_live d u ≡ false → three_quotes d (u ++ v) ≡ three_quotes d u →
     (n : ℕ) → length u ≤ n → n ≤ length (u ++ v) → longest d (u ++ v) n ≡ longest d u (length u)
 longest_high d u v f q zero l m =
@@ -136,9 +149,11 @@ longest_high d u v f q (suc n) l m =
     longest_low d u v q (suc n) (omega arith) ∙ ap (longest d u) e)
     (cases_lt (length u) (suc n))
 
+-- the longest front does not change with more text, once the text cannot go on
 pub longest-more : (d : Dialect) (u v : List ℕ) → is_empty u ≡ false → is_live d u ≡ false → longest d (u ++ v) (length (u ++ v)) ≡ longest d u (length u)
 longest-more d u v n f = longest_high d u v f (quotes-more d u v n f) (length (u ++ v)) (omega (arith, length-append u v)) (omega arith)
 
+-- equal fronts have equal parts
 same_pair : (x y : ℕ × Kind) → Some x ≡ Some y → x ≡ y
 same_pair x y e = cc
 
@@ -163,18 +178,21 @@ not_empty_drop n [] e = absurd (nothing_left n e)
 not_empty_drop zero (c ∷ w) e = omega arith
 not_empty_drop (suc n) (c ∷ w) e = let h = not_empty_drop n w e in omega arith
 
+-- white space that is taken off before more text, at one character
 blank_step : (c : ℕ) (w : List ℕ) (s t : Bool) (a b x y : ℕ) → (is_empty (drop a w) ≡ false → x ≡ a) → (is_empty (drop b w) ≡ false → y ≡ b) →
     is_empty (drop (cond s (suc a) (cond t (suc b) 0)) (c ∷ w)) ≡ false → cond s (suc x) (cond t (suc y) 0) ≡ cond s (suc a) (cond t (suc b) 0)
 blank_step c w true t a b x y f g e = ap suc (f e)
 blank_step c w false true a b x y f g e = ap suc (g e)
 blank_step c w false false a b x y f g e = refl
 
+-- what is taken off within a comment before more text, at one character
 comment_step : (c : ℕ) (w : List ℕ) (l s : Bool) (a b x y : ℕ) → (is_empty (drop a w) ≡ false → x ≡ a) → (is_empty (drop b w) ≡ false → y ≡ b) →
     is_empty (drop (cond l (cond s (suc a) 0) (suc b)) (c ∷ w)) ≡ false → cond l (cond s (suc x) 0) (suc y) ≡ cond l (cond s (suc a) 0) (suc b)
 comment_step c w false s a b x y f g e = ap suc (g e)
 comment_step c w true true a b x y f g e = ap suc (f e)
 comment_step c w true false a b x y f g e = refl
 
+-- what is taken off does not change with more text, if something is left after it
 blank-more : (d : Dialect) (b : Bool) (w v : List ℕ) → is_empty (drop (blank d b w) w) ≡ false → blank d b (w ++ v) ≡ blank d b w
 blank-more d b [] v e = absurd (false≢true (sym e))
 blank-more d false (c ∷ w) v e =
@@ -196,17 +214,20 @@ step_decided d limit t w o e l =
     tail ended = refl
     tail broken = refl
 
+-- what a front decides does not change with more text
 chosen-more : (d : Dialect) (u v : List ℕ) (o : Option (ℕ × Kind)) → longest d u (length u) ≡ o → chosen (u ++ v) o ≡ chosen u o
 chosen-more d u v None e = refl
 chosen-more d u v (Some x) e =
     let r = longest_fits d u (length u) x.0 x.1 e in
     ap (λ t. cond (is_fit x.1 t) (token x.0 x.1) (stop bad_escape)) (take-append-le x.0 u v r.1)
 
+-- so the decision does not change
 decided-more : (d : Dialect) (u v : List ℕ) → is_empty u ≡ false → is_live d u ≡ false → decided d (u ++ v) ≡ decided d u
 decided-more d [] v e l = absurd (false≢true (sym e))
 decided-more d (c ∷ u) v e l =
     ap (chosen (c ∷ u ++ v)) (longest-more d (c ∷ u) v e l) ∙ chosen-more d (c ∷ u) v _ refl
 
+-- a step that is decided before more comes is the same after it
 pub step-more : (d : Dialect) (limit : ℕ) (t : Tail) (u v : List ℕ) → step d limit goes_on u ≢ stop undecided →
     (step d limit t (u ++ v) ≡ step d limit goes_on u) × (is_empty u ≡ false)
 unfolding step
@@ -279,12 +300,14 @@ go_on-same (stop o) p w f g h = refl
 go_on-same (token n k) p w f g h =
     ap (with_token (record { kind = k; text = take n w; at = p })) (h n k refl (past p (take n w)))
 
+-- each token shortens the text, so reading ends
 pub shorter : (d : Dialect) (limit : ℕ) (t : Tail) (b : Bool) (w : List ℕ) (n : ℕ) (k : Kind) → step d limit t (rest_of d b w) ≡ token n k →
     length (drop n (rest_of d b w)) < length w
 shorter d limit t b w n k e =
     let r = step_token d limit t (rest_of d b w) n k e in
     omega (arith, length-drop n (rest_of d b w), length-drop (blank d b w) w)
 
+-- the number of steps that are allowed makes no difference, if there are enough
 fuel_same : (f g : ℕ) (d : Dialect) (limit : ℕ) (t : Tail) (b : Bool) (p : Place) (w : List ℕ) → length w < f → length w < g →
     read f d limit t b p w ≡ read g d limit t b p w
 unfolding read
@@ -313,11 +336,13 @@ pub record LeftOver (d : Dialect) (limit : ℕ) (b : Bool) (p : Place) (w : List
   pub text : List ℕ
   pub on : (t : Tail) (v : List ℕ) → tokens d limit t b p (w ++ v) ≡ with_tokens (tokens d limit goes_on b p w).tokens (tokens d limit t comment at (text ++ v))
 
+-- however the text goes on, its tokens begin with those that it has decided
 abbrev Extends : Dialect → ℕ → Bool → Place → List ℕ → Type 0
 Extends d limit b p w =
     ((tokens d limit goes_on b p w).outcome ≡ undecided → LeftOver d limit b p w)
     × ((tokens d limit goes_on b p w).outcome ≢ undecided → (t : Tail) (v : List ℕ) → tokens d limit t b p (w ++ v) ≡ tokens d limit goes_on b p w)
 
+-- what is left after white space, and its place, with more text
 pub rest_more : (d : Dialect) (b : Bool) (p : Place) (w v : List ℕ) → is_empty (rest_of d b w) ≡ false →
     (rest_of d b (w ++ v) ≡ rest_of d b w ++ v) × (place_of d b p (w ++ v) ≡ place_of d b p w)
 rest_more d b p w v e =
@@ -359,6 +384,7 @@ pub at_stop : (d : Dialect) (limit : ℕ) (t : Tail) (b : Bool) (p : Place) (w :
 at_stop d limit t b p w o e =
     tokens-step d limit t b p w ∙ ap (λ s. go_on s (place_of d b p w) (rest_of d b w) (λ q v. tokens d limit t false q v)) e
 
+-- a text whose first step gives a token: the token, and then what is read after it
 pub at_token : (d : Dialect) (limit : ℕ) (t : Tail) (b : Bool) (p : Place) (w : List ℕ) (n : ℕ) (k : Kind) → step d limit t (rest_of d b w) ≡ token n k →
     tokens d limit t b p w ≡ with_token (record { kind = k; text = take n (rest_of d b w); at = place_of d b p w })
     (tokens d limit t false (past (place_of d b p w) (take n (rest_of d b w))) (drop n (rest_of d b w)))
@@ -389,6 +415,7 @@ more_stop d limit b p w o e n t v =
     place no_token n q u w = refl
     place bad_escape n q u w = refl
 
+-- a token that is decided before more text comes is the first with more text too
 pub more_token : (d : Dialect) (limit : ℕ) (b : Bool) (p : Place) (w : List ℕ) (n : ℕ) (k : Kind) → step d limit goes_on (rest_of d b w) ≡ token n k →
     (t : Tail) (v : List ℕ) → tokens d limit t b p (w ++ v) ≡ with_token (record { kind = k; text = take n (rest_of d b w); at = place_of d b p w })
     (tokens d limit t false (past (place_of d b p w) (take n (rest_of d b w))) (drop n (rest_of d b w) ++ v))
@@ -404,6 +431,7 @@ more_token d limit b p w n k e t v =
     ∙ (ap (λ x. with_token (record { kind = k; text = x; at = place_of d b p w }) (tokens d limit t false (past (place_of d b p w) x) (drop n (rest_of d b (w ++ v))))) a
     ∙ ap (λ x. with_token (record { kind = k; text = take n (rest_of d b w); at = place_of d b p w }) (tokens d limit t false (past (place_of d b p w) (take n (rest_of d b w))) x)) c))
 
+-- with more text each list of tokens only gets longer
 extends : (f : ℕ) (d : Dialect) (limit : ℕ) (b : Bool) (p : Place) (w : List ℕ) → length w < f → Extends d limit b p w
 extends zero d limit b p w l = absurd (omega arith)
 extends (suc f) d limit b p w l = at (λ q v m. extends f d limit false q v m) (step d limit goes_on (rest_of d b w)) refl
@@ -455,6 +483,7 @@ extends (suc f) d limit b p w l = at (λ q v m. extends f d limit false q v m) (
     at h (stop no_token) e = stop_case no_token e (λ x. let h : no_token ≡ undecided = x in cc)
     at h (stop bad_escape) e = stop_case bad_escape e (λ x. let h : bad_escape ≡ undecided = x in cc)
 
+-- where a text is undecided, its tokens and the text that is left are known
 pub left_over : (d : Dialect) (limit : ℕ) (b : Bool) (p : Place) (w : List ℕ) → (tokens d limit goes_on b p w).outcome ≡ undecided → LeftOver d limit b p w
 left_over d limit b p w = (extends (suc (length w)) d limit b p w (omega arith)).0
 

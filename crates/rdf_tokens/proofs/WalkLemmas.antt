@@ -61,14 +61,17 @@ front-same d w x (suc n) e l =
     (ap (λ b. only_long b (kind_at (state_of d (take (suc n) (w ++ x))))) e ∙ ap (λ u. only_long (three_quotes d w) (kind_at (state_of d u))) t)
     ∙ ap (with_length (suc n) (kind_by_states d w (take (suc n) w))) (front-same d w x n e (omega arith))
 
+-- a front has the same length in bytes with more text
 bytes-same : (w x : List ℕ) (o : Option (ℕ × Kind)) → AtMost (length w) o → in_bytes (w ++ x) o ≡ in_bytes w o
 bytes-same w x None h = refl
 bytes-same w x (Some y) h = ap (λ u. Some (length (encode_utf8_all u), y.1)) (take-append-le y.0 w x h.1)
 
+-- what is at most n is at most a larger number
 at_most-le : (n m : ℕ) (o : Option (ℕ × Kind)) → n ≤ m → AtMost n o → AtMost m o
 at_most-le n m None l h = tt
 at_most-le n m (Some x) l h = (h.0, omega arith)
 
+-- what the states have reached is right with more text, once three bytes are read
 pub reached-more : (d : Dialect) (bs more : List ℕ) (at : ℕ) (s : State) (b : Option (ℕ × Kind)) → IsUtf8 bs → IsUtf8 more → 3 ≤ at → Reached d bs at s b →
     Reached d (bs ++ more) at s b
 reached-more d bs more at s b u v l r =
@@ -88,6 +91,7 @@ reached-more d bs more at s b u v l r =
           ∙ (ap (in_bytes (w ++ x)) (front-same d w x r.n three count) ∙ bytes-same w x best (at_most-le r.n (length w) best count (longest_by-at_most (kind_by_states d w) w r.n))));
     }
 
+-- what is kept of an open token is right with more text, so it need not be read again
 pub walked-more : (d : Dialect) (bs more : List ℕ) (old : Option Walk) → IsUtf8 bs → IsUtf8 more → Walked d bs old → Walked d (bs ++ more) old
 unfolding reached-more
 walked-more d bs more None u v h = tt
@@ -121,6 +125,7 @@ opened : (t : Bool) (s x : State) → Some s ≡ cond t (Some x) None → s ≡ 
 opened true s x e = cc
 opened false s x e = absurd (let h : Some s ≡ None = e in cc)
 
+-- what is kept after a text is right of it
 pub walked-kept : (d : Dialect) (bs : List ℕ) (old : Option Walk) (n count len : ℕ) (kind : Option Kind) (state : Option State) → IsUtf8 bs → Walked d bs old → n ≡ length bs →
     count ≡ length (chars bs) →
     with_length len kind None ≡ in_bytes (chars bs) (longest_by (kind_by_states d (chars bs)) (chars bs) (length (chars bs))) →

@@ -12,9 +12,11 @@ pub record Row : Type 0 where
   pub any_case : Bool
   pub text : List ℕ
 
+-- the one spelling of a kind, case-sensitive
 abbrev pub exactly : Kind → List ℕ → List Row
 exactly k s = record { kind = k; any_case = false; text = s } ∷ []
 
+-- the one spelling of a kind, given in capitals and read in any case, as SPARQL's keywords are
 abbrev pub in_any_case : Kind → List ℕ → List Row
 in_any_case k s = record { kind = k; any_case = true; text = s } ∷ []
 
@@ -41,6 +43,7 @@ spellings Turtle OpenBrace = exactly OpenBrace (codes "{")
 spellings Turtle CloseBrace = exactly CloseBrace (codes "}")
 spellings d k = []
 
+-- all spellings of some kinds
 abbrev pub rows_of : Dialect → List Kind → List Row
 rows_of d [] = []
 rows_of d (k ∷ ks) = spellings d k ++ rows_of d ks
@@ -56,10 +59,12 @@ left b s [] = Some s
 left b [] (x ∷ w) = None
 left b (c ∷ s) (x ∷ w) = cond (fits b c x) (left b s w) None
 
+-- nothing of a spelling is left, so the text is all of it
 abbrev pub is_done : Option (List ℕ) → Bool
 is_done (Some []) = true
 is_done o = false
 
+-- something of a spelling is left, so the text is a proper beginning of it
 abbrev pub is_begun : Option (List ℕ) → Bool
 is_begun (Some (c ∷ s)) = true
 is_begun o = false
@@ -69,12 +74,15 @@ abbrev pub kind_by : List Row → List ℕ → Option Kind
 kind_by [] w = None
 kind_by (r ∷ rs) w = cond (is_done (left r.any_case r.text w)) (Some r.kind) (kind_by rs w)
 
+-- some spelling begins with the text and is longer
 abbrev pub live_by : List Row → List ℕ → Bool
 live_by [] w = false
 live_by (r ∷ rs) w = is_begun (left r.any_case r.text w) || live_by rs w
 
+-- the kind that has this text as its spelling, if one has
 unfoldable pub kind_by_table : Dialect → List ℕ → Option Kind
 kind_by_table d w = kind_by (rows_of d fixed) w
 
+-- the text begins a longer spelling of the dialect
 unfoldable pub live_by_table : Dialect → List ℕ → Bool
 live_by_table d w = live_by (rows_of d fixed) w

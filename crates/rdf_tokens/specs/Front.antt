@@ -40,6 +40,7 @@ begins b (c ∷ s) (x ∷ w) = fits b c x && begins b s w
 abbrev pub row_front : Row → List ℕ → Option (ℕ × Kind)
 row_front r w = cond (begins r.any_case r.text w) (Some (length r.text, r.kind)) None
 
+-- the longest of the spellings that stand at the front, with its kind
 abbrev pub front_by : List Row → List ℕ → Option (ℕ × Kind)
 front_by [] w = None
 front_by (r ∷ rs) w = longer_front (row_front r w) (front_by rs w)

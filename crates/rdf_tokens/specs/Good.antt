@@ -23,9 +23,11 @@ abbrev pub has_byte_order_mark : List ℕ → Bool
 has_byte_order_mark [] = false
 has_byte_order_mark (c ∷ w) = c == 0xFEFF
 
+-- how many characters a leading byte order mark has: 1, or 0 where there is none
 abbrev pub mark : List ℕ → ℕ
 mark w = cond (has_byte_order_mark w) 1 0
 
+-- the place of a document's first byte: offsets are counted from 0, lines from 1
 abbrev pub first_place : Place
 first_place = record { offset = 0; line = 1 }
 

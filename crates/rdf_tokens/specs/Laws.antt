@@ -77,6 +77,7 @@ TokensStandAtTheirPlaces = (d : Dialect) (limit : ℕ) (bytes : List ℕ) (e : B
 abbrev pub TokensHaveShapes : Type 0
 TokensHaveShapes = (d : Dialect) (limit : ℕ) (bytes : List ℕ) (e : Bool) → All (IsToken d) (tokens_of d limit bytes e).tokens
 
+-- the token has text: it is not the end of the input
 abbrev pub NoEnd : Token → Type 0
 NoEnd t = t.kind ≢ End
 
@@ -85,6 +86,7 @@ pub record EndsWell (r : Reading) : Type 0 where
   pub whole : r.outcome ≡ complete → (ts : List Token) × (r.tokens ≡ ts ++ record { kind = End; text = []; at = r.at } ∷ []) × All NoEnd ts
   pub part : r.outcome ≢ complete → All NoEnd r.tokens
 
+-- The end of the input is the last token where all was read, and no token elsewhere.
 abbrev pub EndStandsLast : Type 0
 EndStandsLast = (d : Dialect) (limit : ℕ) (bytes : List ℕ) (e : Bool) → EndsWell (tokens_of d limit bytes e)
 

@@ -36,6 +36,7 @@ abbrev pub chosen_by : List ℕ → Option (ℕ × Kind) → Look
 chosen_by bs None = Stop NoToken
 chosen_by bs (Some x) = cond (is_fit x.1 (chars (take x.0 bs))) (Token x.0 x.1) (Stop BadEscape)
 
+-- the step where no more can come to the front: the input ends where there are no bytes, and otherwise the longest front decides
 abbrev pub decided_by : List ℕ → Option (ℕ × Kind) → Look
 decided_by [] best = Complete
 decided_by (b ∷ bs) best = chosen_by (b ∷ bs) best

@@ -24,14 +24,17 @@ use Rattle.rdf_tokens.specs.Tag as tag
 use Rattle.rdf_tokens.specs.Number as number
 use Rattle.rdf_tokens.specs.Name as name
 
+-- the family of tokens that an ASCII character can begin: IRIREF, label, string, language tag, number or prefixed name
 abbrev pub ascii : ℕ → Family
 ascii c = cond (c == 60) family.Iri (cond (c == 95) family.Label (cond (c == 34 || c == 39) family.Text (cond (c == 64) family.Tag
     (cond (c == 43 || c == 45 || c == 46 || is_digit c) family.Number (cond (c == 58 || is_letter c) family.Name family.None)))))
 
+-- from U+0080 on only PN_CHARS_BASE can begin a token, and that is a prefixed name
 abbrev pub high : Wide → Family
 high wide.Letter = family.Name
 high v = family.None
 
+-- the state of the family after its first character
 abbrev pub begin : Dialect → Family → ℕ → State
 begin d family.Iri c = Iri (iri.step iri_state.Start c)
 begin d family.Label c = Label (label.step d label_state.Start c)
@@ -41,6 +44,7 @@ begin d family.Number c = Number (number.step d number_state.Start c)
 begin d family.Name c = Name (name.step d name_state.Start c)
 begin d family.None c = Dead
 
+-- where one more character leads in a token: its family is settled by the first
 abbrev pub step : Dialect → State → ℕ → State
 step d Start c = begin d (sort_by ascii high c) c
 step d (Iri s) c = Iri (iri.step s c)
@@ -51,6 +55,7 @@ step d (Number s) c = Number (number.step d s c)
 step d (Name s) c = Name (name.step d s c)
 step d Dead c = Dead
 
+-- the kind of the token that has come, or none where it is not complete
 abbrev pub kind_at : State → Option Kind
 kind_at Start = None
 kind_at (Iri s) = cond (iri.accepts s) (Some IriRef) None
@@ -61,6 +66,7 @@ kind_at (Number s) = number.kind_at s
 kind_at (Name s) = name.kind_at s
 kind_at Dead = None
 
+-- some longer token of the family begins so
 abbrev pub goes_on : Dialect → State → Bool
 goes_on d Start = true
 goes_on d (Iri s) = iri.goes_on s

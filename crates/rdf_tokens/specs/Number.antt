@@ -12,13 +12,16 @@ use Rattle.rdf_tokens.specs.declared.states.number.Sort.TheVariants as sort
 use Rattle.rdf_tokens.specs.declared.states.number.Number.{Number}
 use Rattle.rdf_tokens.specs.declared.states.number.Number.TheVariants.{Start, Sign, Dot, Digits, DigitsDot, Fraction, Exponent, ExponentSign, ExponentDigits, Dead}
 
+-- what INTEGER, DECIMAL and DOUBLE can tell of an ASCII character: signs, the dot, digits, and 'e' or 'E'
 abbrev pub ascii : ℕ → Sort
 ascii c = cond (c == 43) sort.Plus (cond (c == 45) sort.Minus (cond (c == 46) sort.Dot (cond (is_digit c) sort.Digit
     (cond (c == 101) sort.SmallE (cond (c == 69) sort.BigE sort.Other)))))
 
+-- no number has a character from U+0080 on
 abbrev pub high : Wide → Sort
 high v = sort.Other
 
+-- a number begins with a sign, a dot or a digit, in Turtle and TriG alone
 abbrev pub begin : Dialect → Sort → Number
 begin Turtle sort.Plus = Sign
 begin Turtle sort.Minus = Sign
@@ -26,6 +29,7 @@ begin Turtle sort.Dot = Dot
 begin Turtle sort.Digit = Digits
 begin d x = Dead
 
+-- the states of INTEGER, DECIMAL and DOUBLE: `1.` waits for more digits or an exponent, since no number ends in a dot
 abbrev pub move : Dialect → Number → Sort → Number
 move d Start x = begin d x
 move d Sign sort.Digit = Digits
@@ -48,15 +52,18 @@ move d ExponentSign sort.Digit = ExponentDigits
 move d ExponentDigits sort.Digit = ExponentDigits
 move d s x = Dead
 
+-- where a character leads in a number
 abbrev pub step : Dialect → Number → ℕ → Number
 step d s c = move d s (sort_by ascii high c)
 
+-- what has come is a whole INTEGER, DECIMAL or DOUBLE, or none of them as yet
 abbrev pub kind_at : Number → Option Kind
 kind_at Digits = Some Integer
 kind_at Fraction = Some Decimal
 kind_at ExponentDigits = Some Double
 kind_at s = None
 
+-- some longer text is a number and begins so
 abbrev pub goes_on : Dialect → Number → Bool
 goes_on d Start = is_turtle d
 goes_on d Dead = false

@@ -23,6 +23,7 @@ pub record HasCome (d : Dialect) (bs : List ℕ) (b : Begun) : Type 0 where
 abbrev pub row_over : Row → ℕ → List ℕ → Bool
 row_over r limit w = nat_lt limit (length r.text) && begins r.any_case (take (limit + 1) r.text) w
 
+-- a spelling of the table is longer than the limit, and the text has its first limit + 1 characters at its front
 abbrev pub fixed_over : List Row → ℕ → List ℕ → Bool
 fixed_over [] limit w = false
 fixed_over (r ∷ rs) limit w = row_over r limit w || fixed_over rs limit w

@@ -22,6 +22,7 @@ reading_by true v more is_end = tokens_at v.dialect v.limit broken v.begun v.com
 reading_by false v more is_end =
     tokens_at v.dialect v.limit (tail_of (v.pending ++ more) is_end) v.begun v.comment v.place (v.text ++ good (v.pending ++ more))
 
+-- what is still to be read of a scanner's input, where these bytes come and are the last or not
 abbrev pub reading_of : Unread → List ℕ → Bool → Reading
 reading_of v more is_end = reading_by v.broken v more is_end
 
@@ -40,6 +41,7 @@ pub record HasScanned (v : Unread) (bytes : List ℕ) (ts : List Token) : Type 0
 abbrev pub token_of : Given → Token
 token_of t = record { kind = t.kind; text = chars t.text.now; at = record { offset = t.offset; line = t.line } }
 
+-- the byte offset and the line that an error reports
 abbrev pub place_of : Fault → Place
 place_of f = record { offset = f.offset; line = f.line }
 

@@ -3,6 +3,7 @@ use Rattle.std.specs.Prelude.{ℕ, Bool, List}
 use Rattle.rdf_terms.specs.declared.kind.Dialect.{Dialect}
 use Rattle.rdf_tokens.specs.Tokens.{Place}
 
+-- the state of a scanner without its buffers: what has come and is not read, where it stands, and what may still come
 pub record Unread : Type 0 where
   pub dialect : Dialect
   pub limit : ℕ

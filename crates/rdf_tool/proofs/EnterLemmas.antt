@@ -98,10 +98,12 @@ module _ (names : Bor (List (Bor Text))) (known : texts names.now ≡ format_nam
 
 -- ---- a parse by the code
 
+-- the command line is of the simple form for which clap says when a parse finds no fault
 pub is_free : (f : ValueParser) → is_simple_and_free (rdfconv f) ≡ true
 unfolding clap_on_literals
 is_free f = refl
 
+-- the command line is of the form for which clap says what a parse gives
 is_ready : (f : ValueParser) → is_simple (rdfconv f) ≡ true
 unfolding clap_on_literals
 is_ready f = refl

@@ -13,11 +13,13 @@ use Rattle.rdf_tool.specs.declared.task.WordsFault.{WordsFault}
 use Rattle.rdf_tool.specs.declared.task.WordsFault.TheVariants.{Usage, BadBase, Memory}
 use Rattle.rdf_tool.specs.Words.{Entered, GivesNone, NoBaseOf, NoTaskBy, fault_by, number_of}
 
+-- what is there is not none
 some≢none : {X : Type 0} (x : X) → None ≡ Some x → ⊥
 some≢none x e = true≢false (ap is_some (sym e))
 
 -- ---- texts
 
+-- the text of an option, if it was given
 abbrev text_of : Option (Bor Text) → Option Text
 text_of = option_map (λ s. s.now)
 
@@ -37,6 +39,7 @@ module _ (f : Found) (id text : Text) (o : Option (Bor Text)) (got : text_of o �
 
 -- ---- the subcommand
 
+-- two parts of one thing
 abbrev both_of : {X A B : Type 0} → (X → A) → (X → B) → X → A × B
 both_of f g b = (f b, g b)
 
@@ -48,11 +51,13 @@ pair_is f g n w r None y is e h = absurd (some≢none (n y) (sym e ∙ ap (optio
 pair_is f g n w r (Some x) y is e h =
     ap₂ (λ a b. Some (a, b)) (ap (λ z. unwrap_or z (f x)) (sym e ∙ ap (option_map n) is)) (ap (λ z. unwrap_or z (g x)) (sym h ∙ ap (option_map w) is))
 
+-- equal answers have equal parts
 pub same_some : {X : Type 0} (x y : X) → Some x ≡ Some y → x ≡ y
 same_some x y e = ap (λ o. unwrap_or o x) e
 
 -- ---- errors
 
+-- the kind of error that is want of memory
 is_memory : ErrorKind → Bool
 is_memory OutOfMemory = true
 is_memory _ = false
@@ -69,6 +74,7 @@ refuses a words e h = go (kind_of e) refl
     go OutOfMemory is = tt
     go k is = let other : kind_of e ≢ OutOfMemory = λ m. true≢false (sym (ap is_memory m) ∙ ap is_memory is) in (other, among other)
 
+-- words that clap takes, but that are no task, are refused for this reason
 pub refused_by : (a : App) (words : List Text) (p : Entered) (fault : WordsFault) → fault_of a words ≡ [] → subcommand_of a words ≡ Some p → NoTaskBy p fault → GivesNone a words fault
 refused_by a words p (Usage e) none is h = absurd h
 refused_by a words p BadBase none is h = record { entered = p; taken = none; matches = is; holds = h }

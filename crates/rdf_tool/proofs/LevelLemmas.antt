@@ -17,10 +17,12 @@ use Rattle.rdf_tool.proofs.WalkLemmas.{StopsNamed, settled-passes, walk-named, w
 
 -- ---- rows that stay
 
+-- one of two tests is enough
 either_true : (a b : Bool) → b ≡ true → (a || b) ≡ true
 either_true true b e = refl
 either_true false b e = e
 
+-- values that are added for one argument keep the rows of all others
 with_values-keeps : (id key : Text) (how : Reading) (s : ValueSource) (values : List Text) (rows : List Row) → has_row id rows ≡ true → has_row id (with_values key how s values rows) ≡ true
 with_values-keeps id key how s values [] has = absurd (true≢false (sym has))
 with_values-keeps id key how s values (r ∷ rs) has = go (bytes_eq r.id key) (with_values-keeps id key how s values rs)
@@ -34,6 +36,7 @@ with_values-keeps id key how s values (r ∷ rs) has = go (bytes_eq r.id key) (w
     go true rest = has
     go false rest = other (bytes_eq r.id id) has rest
 
+-- values that are added for an argument give it a row
 with_values-adds : (key : Text) (how : Reading) (s : ValueSource) (values : List Text) (rows : List Row) → has_row key (with_values key how s values rows) ≡ true
 with_values-adds key how s values [] = rw ((bytes_eq-Decides key key).1 refl) refl
 with_values-adds key how s values (r ∷ rs) = go (bytes_eq r.id key) refl (with_values-adds key how s values rs)
@@ -45,6 +48,7 @@ with_values-adds key how s values (r ∷ rs) = go (bytes_eq r.id key) refl (with
 
 -- ---- defaults
 
+-- a default keeps the rows that are there
 default-keeps : (id : Text) (a : Rule) (rows : List Row) → has_row id rows ≡ true → has_row id (with_default rows a) ≡ true
 default-keeps id a rows has = go (has_row a.id rows) a.defaults
   where
@@ -53,6 +57,7 @@ default-keeps id a rows has = go (has_row a.id rows) a.defaults
     go false [] = has
     go false (v ∷ vs) = with_values-keeps id a.id (reading_by a) DefaultValue (v ∷ vs) rows has
 
+-- a default gives its argument a row
 default-adds : (a : Rule) (rows : List Row) → 0 < length a.defaults → has_row a.id (with_default rows a) ≡ true
 default-adds a rows some = go (has_row a.id rows) refl a.defaults some
   where
@@ -61,6 +66,7 @@ default-adds a rows some = go (has_row a.id rows) refl a.defaults some
     go false e [] some = absurd (omega arith)
     go false e (v ∷ vs) some = with_values-adds a.id (reading_by a) DefaultValue (v ∷ vs) rows
 
+-- a text with a byte is not empty
 not_empty : (v : Text) (vs : List Text) → is_empty (v ∷ vs) ≡ false
 not_empty v vs = go (is_empty (v ∷ vs)) refl
   where
@@ -68,6 +74,7 @@ not_empty v vs = go (is_empty (v ∷ vs)) refl
     go true e = let none : length (v ∷ vs) ≡ 0 = eqb-true _ _ e in absurd (omega arith)
     go false e = e
 
+-- a default that has no fault passes its test
 default-passes : (c : List Rule) (a : Rule) (rows : List Row) → arg_by_id c a.id ≡ Some a → default_fault rows a ≡ [] → RowsPass c rows → RowsPass c (with_default rows a)
 default-passes c a rows known e h = go (has_row a.id rows) a.defaults e
   where
@@ -81,14 +88,17 @@ default-passes c a rows known e h = go (has_row a.id rows) a.defaults e
         let some : 0 < length (v ∷ vs) = omega arith in
         with_values-passes c a known (reading_by a) DefaultValue (v ∷ vs) rows (some, values_passed a (v ∷ vs) (values_pass v vs e)) h
 
+-- all defaults keep the rows that are there
 defaults-keep : (id : Text) (rules : List Rule) (rows : List Row) → has_row id rows ≡ true → has_row id (fold with_default rows rules) ≡ true
 defaults-keep id [] rows has = has
 defaults-keep id (a ∷ rest) rows has = defaults-keep id rest (with_default rows a) (default-keeps id a rows has)
 
+-- the defaults give each of their arguments a row
 defaults-add : (rules : List Rule) (rows : List Row) → Each (λ a. 0 < length a.defaults → has_row a.id (fold with_default rows rules) ≡ true) rules
 defaults-add [] rows = tt
 defaults-add (a ∷ rest) rows = (λ some. defaults-keep a.id rest (with_default rows a) (default-adds a rows some), defaults-add rest (with_default rows a))
 
+-- all of them pass, where no fault is found
 defaults-pass : (c rules : List Rule) (rows : List Row) → Each (IsRead c) rules → defaults_fault rows rules ≡ [] → RowsPass c rows → RowsPass c (fold with_default rows rules)
 unfolding defaults_fault
 defaults-pass c [] rows read e h = h
@@ -98,6 +108,7 @@ defaults-pass c (a ∷ rest) rows read e h =
 
 -- ---- what is required
 
+-- an argument that was given has a row
 given-has : (id : Text) (rows : List Row) → is_given id rows ≡ true → has_row id rows ≡ true
 given-has id [] e = absurd (true≢false (sym e))
 given-has id (r ∷ rs) e = go (bytes_eq r.id id) e (given-has id rs)
@@ -107,6 +118,7 @@ given-has id (r ∷ rs) e = go (bytes_eq r.id id) e (given-has id rs)
     go true e rest = refl
     go false e rest = rest e
 
+-- an argument that is required has a row, where no fault is found
 required-has : (rules : List Rule) (rows : List Row) → list_any (λ a. a.required && not (is_given a.id rows)) rules ≡ false → Each (λ a. a.required ≡ true → has_row a.id rows ≡ true) rules
 required-has [] rows e = tt
 required-has (a ∷ rest) rows e = (λ needed. given-has a.id rows (go a.required (is_given a.id rows) (or_false _ _ e).0 needed), required-has rest rows (or_false _ _ e).1)
@@ -120,6 +132,7 @@ required-has (a ∷ rest) rows e = (λ needed. given-has a.id rows (go a.require
     go true false e needed = absurd (true≢false e)
     go false false e needed = absurd (true≢false (sym needed))
 
+-- no fault means that nothing is missing
 no_check : (help subcommand argument : Bool) → check_kinds help subcommand argument ≡ [] → (subcommand ≡ false) × (argument ≡ false)
 no_check true subcommand argument e = absurd (some_kind _ _ e)
 no_check false true argument e = absurd (some_kind _ _ e)
@@ -128,11 +141,13 @@ no_check false false false e = (refl, refl)
 
 -- ---- a level
 
+-- what holds of the rows of a level without a fault
 pub record LevelHolds (c : List Rule) (rows : List Row) : Type 0 where
   pub pass : RowsPass c rows
   pub defaults : Each (λ a. 0 < length a.defaults → has_row a.id rows ≡ true) c
   pub required : Each (λ a. a.required ≡ true → has_row a.id rows ≡ true) c
 
+-- after each parse without a fault the rows pass, and what is required is there
 pub level-holds : (s : Shape) (words : List Text) → Each (IsRead s.rules) s.rules → s.subcommand_negates_reqs ≡ false → level_fault s [] nothing_held words false [] ≡ []
     → LevelHolds s.rules (rows_after s.rules [] words)
 level-holds s words read always e =
@@ -150,6 +165,7 @@ level-holds s words read always e =
 
 -- ---- the subcommand
 
+-- the subcommand `help` that clap adds
 abbrev pub IsHelp : Shape → Type 0
 IsHelp s = (s.name ≡ codes "help") × (s.aliases ≡ [])
 
@@ -157,6 +173,7 @@ IsHelp s = (s.name ≡ codes "help") × (s.aliases ≡ [])
 abbrev pub EntersAt : (Shape → Type 0) → Option (Text × List Row) → Type 0
 EntersAt Q o = (s : Shape) × (words : List Text) × Q s × (o ≡ Some (s.name, rows_after s.rules [] words)) × LevelHolds s.rules (rows_after s.rules [] words)
 
+-- what is found passes the test
 found_passes : {X : Type 0} (test : X → Bool) (xs : List X) → IfSome (find test xs) (λ y. test y ≡ true)
 found_passes test [] = tt
 found_passes {X = X} test (y ∷ ys) = go (test y) refl (found_passes test ys)
@@ -165,9 +182,11 @@ found_passes {X = X} test (y ∷ ys) = go (test y) refl (found_passes test ys)
     go true e rest = e
     go false e rest = rest
 
+-- what is known to have been found passes the test
 found_by : {X : Type 0} (test : X → Bool) (xs : List X) (x : X) → find test xs ≡ Some x → test x ≡ true
 found_by test xs x is = subst (λ o. IfSome o (λ y. test y ≡ true)) is (found_passes test xs)
 
+-- texts that differ do so either way round
 not_reversed : (x y : Text) → bytes_eq x y ≡ false → bytes_eq y x ≡ false
 not_reversed x y e = go (bytes_eq y x) refl
   where

@@ -21,10 +21,12 @@ use Rattle.clap.proofs.WalkLemmas.{both}
 
 -- ---- each element of a list
 
+-- a property of each element of a list
 abbrev pub Each : {X : Type 0} → (X → Type 0) → List X → Type 0
 Each P [] = Unit {0}
 Each P (x ∷ xs) = P x × Each P xs
 
+-- what holds of each element of a list holds of one that is found in it
 pub found_holds : {X : Type 0} (P : X → Type 0) (test : X → Bool) (xs : List X) → Each P xs → IfSome (find test xs) P
 found_holds P test [] h = tt
 found_holds P test (x ∷ xs) h = go (test x) (found_holds P test xs h.1)
@@ -35,18 +37,22 @@ found_holds P test (x ∷ xs) h = go (test x) (found_holds P test xs h.1)
 
 -- ---- kinds of faults
 
+-- some fault was found
 has_kind : Kinds → Bool
 has_kind [] = false
 has_kind (k ∷ ks) = true
 
+-- a list with a fault is not empty
 pub some_kind : (k : ErrorKind) (ks : Kinds) → k ∷ ks ≡ [] → ⊥
 unfolding has_kind
 some_kind k ks e = true≢false (ap has_kind e)
 
+-- two lists without a fault have none each
 pub no_kind : (a b : Kinds) → or_else a b ≡ [] → (a ≡ []) × (b ≡ [])
 no_kind [] b e = (refl, e)
 no_kind (k ∷ ks) b e = absurd (some_kind k ks e)
 
+-- values without a fault are accepted
 values_ok : (i : Bool) (p : ValueParser) (vs : List Text) → values_kinds i p vs ≡ [] → list_all (accepts i p) vs ≡ true
 values_ok i p [] e = refl
 values_ok i p (v ∷ vs) e =
@@ -57,6 +63,7 @@ values_ok i p (v ∷ vs) e =
     accepted true none = refl
     accepted false none = absurd (some_kind (refused_kind p) [] none)
 
+-- the values of an argument that has no fault pass its test
 pub values_passed : (a : Rule) (vs : List Text) → values_fault a vs ≡ [] → values_pass a vs ≡ true
 values_passed a vs e = values_ok a.ignore_case (parser_of_value a.parser) vs e
 
@@ -66,15 +73,19 @@ values_passed a vs e = values_ok a.ignore_case (parser_of_value a.parser) vs e
 abbrev pub Passed : Rule → List Text → Type 0
 Passed a values = (0 < length values) × (values_pass a values ≡ true)
 
+-- the values of a row pass the test of its argument
 abbrev pub RowPasses : List Rule → Row → Type 0
 RowPasses c r = (a : Rule) → arg_by_id c r.id ≡ Some a → Passed a r.values
 
+-- the values of all rows pass the tests of their arguments
 abbrev pub RowsPass : List Rule → List Row → Type 0
 RowsPass c rows = Each (RowPasses c) rows
 
+-- texts that compare as equal are
 pub same_text : (a b : Text) → bytes_eq a b ≡ true → a ≡ b
 same_text a b = (bytes_eq-Decides a b).0
 
+-- what holds of two lists holds of both together
 each_append : {X : Type 0} (P : X → Type 0) (xs ys : List X) → Each P xs → Each P ys → Each P (xs ++ ys)
 each_append P [] ys p q = q
 each_append P (x ∷ xs) ys p q = (p.0, each_append P xs ys p.1 q)
@@ -89,9 +100,11 @@ at_row-passes P id change missing (r ∷ rs) none h changed = go (bytes_eq r.id 
     go true e rest = each_append P (change r) rs (changed r (same_text r.id id e) h.0) h.1
     go false e rest = (h.0, rest)
 
+-- rows that are left when one is removed pass
 without-passes : (c : List Rule) (id : Text) (rows : List Row) → RowsPass c rows → RowsPass c (without id rows)
 without-passes c id rows h = at_row-passes (RowPasses c) id (λ _. []) [] rows tt h (λ r e p. tt)
 
+-- values that are added to values that pass do so too, if they pass
 passed_also : (a : Rule) (xs ys : List Text) → Passed a xs → Passed a ys → Passed a (xs ++ ys)
 passed_also a xs ys p q =
     let size : length (xs ++ ys) ≡ length xs + length ys = length-append xs ys in
@@ -116,9 +129,11 @@ module _ (c : List Rule) (a : Rule) (known : arg_by_id c a.id ≡ Some a) where
 abbrev pub TakesOne : Rule → Type 0
 TakesOne a = (action_of a ≡ Set) × ((unwrap_or_range a.range).start_inclusive ≡ 1) × (most_values a ≡ 1)
 
+-- the argument is found by its name, and takes one value or asks for help
 abbrev pub IsRead : List Rule → Rule → Type 0
 IsRead c a = (arg_by_id c a.id ≡ Some a) × (TakesOne a ⊎ (action_of a ≡ Help))
 
+-- an argument that takes one value was given one
 only_one : (n : ℕ) → range_kinds 1 1 n ≡ [] → n ≡ 1
 only_one n e = go (n == 0) (1 == n) (eqb-true 1 n) e
   where
@@ -127,6 +142,7 @@ only_one n e = go (n == 0) (1 == n) (eqb-true 1 n) e
     go false true is e = sym (is refl)
     go false false is e = absurd (some_kind _ _ e)
 
+-- one value is the first and only one of its list
 one_value : (values : List Text) → length values ≡ 1 → (v : Text) × (values ≡ v ∷ [])
 one_value [] e = absurd (omega arith)
 one_value (v ∷ []) e = (v, refl)

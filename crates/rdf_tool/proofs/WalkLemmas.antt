@@ -164,6 +164,7 @@ module _ (s : Shape) (names : Names) (read : Each (IsRead s.rules) s.rules) wher
 abbrev pub StopsNamed : Option (Text × List Text) → Type 0
 StopsNamed stopped = IfSome stopped (λ p. bytes_eq p.0 (codes "help") ≡ false)
 
+-- the word names a subcommand
 abbrev names_subcommand : Step → Bool
 names_subcommand (subcommand name) = true
 names_subcommand _ = false

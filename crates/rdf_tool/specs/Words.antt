@@ -27,18 +27,22 @@ use Rattle.rdf_tool.specs.declared.task.WordsFault.TheVariants.{Usage, BadBase, 
 
 -- ---- names
 
+-- the value of --format that names a format
 abbrev pub form_name : Form → Text
 form_name NTriples = codes "nt"
 form_name NQuads = codes "nq"
 form_name Turtle = codes "ttl"
 form_name TriG = codes "trig"
 
+-- the formats that can be read
 abbrev pub forms : List Form
 forms = NTriples ∷ NQuads ∷ Turtle ∷ TriG ∷ []
 
+-- the values that --format takes, in the order in which help lists them
 abbrev pub format_names : List Text
 format_names = map form_name forms
 
+-- the subcommand that asks for an action
 abbrev pub action_name : Action → Text
 action_name Check = codes "check"
 action_name Show = codes "show"
@@ -59,6 +63,7 @@ option_rule id parser = record (new_rule id) {
 abbrev pub format_rule : ValueParser → Rule
 format_rule names = record (option_rule (codes "format") names) { defaults = codes "trig" ∷ [] }
 
+-- the base IRI of relative references; there is none unless it is given
 abbrev pub base_rule : Rule
 base_rule = record (new_rule (codes "base")) { long = Some (codes "base"); action = Some Set; value_names = 1 }
 
@@ -66,18 +71,23 @@ base_rule = record (new_rule (codes "base")) { long = Some (codes "base"); actio
 abbrev pub limit_rule : Text → ℕ → ℕ → Text → Rule
 limit_rule id least most default = record (option_rule id (Unsigned least most)) { defaults = default ∷ [] }
 
+-- the most characters of a token: up to 2^28, and 2^24 unless given
 abbrev pub token_rule : Rule
 token_rule = limit_rule (codes "token") 1 268435456 (codes "16777216")
 
+-- the most brackets and parentheses open at one time: up to 2^20, and 1024 unless given
 abbrev pub depth_rule : Rule
 depth_rule = limit_rule (codes "depth") 0 1048576 (codes "1024")
 
+-- the most prefixes bound at one time: up to 2^24, and 2^16 unless given
 abbrev pub bindings_rule : Rule
 bindings_rule = limit_rule (codes "bindings") 0 16777216 (codes "65536")
 
+-- the most bytes of an IRI: up to 2^28, and 2^20 unless given
 abbrev pub iri_rule : Rule
 iri_rule = limit_rule (codes "iri") 1 268435456 (codes "1048576")
 
+-- the file to read, given without an option; standard input is read where there is none
 abbrev pub file_rule : Rule
 file_rule = record (new_rule (codes "file")) { action = Some Set; value_names = 1 }
 
@@ -181,6 +191,7 @@ pub record Gives (a : App) (words : List Text) (P : Entered → Type 0) : Type 0
   pub matches : subcommand_of a words ≡ Some entered
   pub holds : P entered
 
+-- the command line takes the words, and they ask for this task
 abbrev pub GivesTask : App → List Text → Task → Type 0
 GivesTask a words t = Gives a words (λ p. IsTaskBy p t)
 

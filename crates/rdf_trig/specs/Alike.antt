@@ -7,6 +7,7 @@ use Rattle.rdf_trig.specs.declared.form.DocForm.{DocForm}
 use Rattle.rdf_trig.specs.Names.{SameNames}
 use Rattle.rdf_trig.specs.Machine.{State, at_start, ran, accept_all}
 
+-- the states differ in nothing but the order in which the bindings of their scopes are kept
 pub record SameState (s t : State) : Type 0 where
   pub scope : SameNames s.setting.scope t.setting.scope
   pub graph : s.setting.graph ≡ t.setting.graph

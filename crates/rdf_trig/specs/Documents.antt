@@ -19,6 +19,7 @@ pub record IsDocument (form : DocForm) (start : InForce) (ts : List Token) (qs :
   pub bound : Bound (document_events start tree)
   pub quads : event_quads 0 (document_events start tree) ≡ qs
 
+-- the documents of a form as a grammar's relation: tokens, and the quads that they mean, with their marks
 abbrev pub documents : DocForm → InForce → List Token → List Marked → Type 0
 documents form start ts qs = IsDocument form start ts qs
 
@@ -28,6 +29,7 @@ pub record IsTree (form : DocForm) (start : InForce) (ts : List Token) (qs : Lis
   pub tokens : ts ≡ document_tokens tree
   pub quads : event_quads 0 (document_events start tree) ≡ qs
 
+-- the relation of tokens to quads by the productions alone, by which unbound prefixes and missing bases are told from syntax errors
 abbrev pub trees : DocForm → InForce → List Token → List Marked → Type 0
 trees form start ts qs = IsTree form start ts qs
 
@@ -37,19 +39,23 @@ opens OpenBracket = 1
 opens OpenParen = 1
 opens k = 0
 
+-- '[' and '(' that a token closes
 abbrev pub closes : Kind → ℕ
 closes CloseBracket = 1
 closes CloseParen = 1
 closes k = 0
 
+-- how many brackets and parentheses some tokens open
 abbrev pub opened : List Token → ℕ
 opened [] = 0
 opened (t ∷ ts) = opens t.kind + opened ts
 
+-- how many of them they close
 abbrev pub closed : List Token → ℕ
 closed [] = 0
 closed (t ∷ ts) = closes t.kind + closed ts
 
+-- how many are open after some tokens that begin a document, where none is closed that was not opened
 abbrev pub open_in : List Token → ℕ
 open_in ts = opened ts - closed ts
 
@@ -87,5 +93,6 @@ IsDeep start ahead t = (opens t.kind ≡ 1) × (start.limits.depth < open_in (ah
 abbrev pub PassesBy : InForce → List Token → Token → Use → Type 0
 PassesBy start ahead t u = IsDeep start ahead t ⊎ (IsLong start.limits u ⊎ IsOneMore u)
 
+-- after these tokens, which begin a document, the token passes a limit
 abbrev pub Passes : DocForm → InForce → List Token → Token → Type 0
 Passes form start ahead t = (u : Use) × StandsFor form start ahead t u × PassesBy start ahead t u

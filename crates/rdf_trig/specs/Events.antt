@@ -22,37 +22,46 @@ pub data Use : Type 0 where
   stands : Option (List ℕ) → Use
   binds : Bool → Option (List ℕ) → Use
 
+-- a token is read, with what it stands for in the scope at its place; or a quad's head has ended, so that the quad is given out
 pub data Event : Type 0 where
   Took : Token → Use → Event
   Gave : Quad → Event
 
 -- What follows stands in the last argument of each definition below.
+-- a token that stands for nothing but itself, and then the rest
 abbrev pub take : Kind → Leaf → List Event → List Event
 take k l rest = Took (token k l) itself ∷ rest
 
+-- an IRIREF or prefixed name, with the IRI that it stands for, and then the rest
 abbrev pub name : Kind → Leaf → Option (List ℕ) → List Event → List Event
 name k l i rest = Took (token k l) (stands i) ∷ rest
 
+-- a quad, if its terms all stand for something, and then the rest
 abbrev pub give : Option Quad → List Event → List Event
 give None rest = rest
 give (Some q) rest = Gave q ∷ rest
 
+-- a prefixed name with its IRI in the scope
 abbrev pub prefixed_events : InForce → PrefixedName → List Event → List Event
 prefixed_events s (pname_ln l) rest = name PnameLn l (name_in s l) rest
 prefixed_events s (pname_ns l) rest = name PnameNs l (name_in s l) rest
 
+-- an IRIREF or a prefixed name with its IRI in the scope
 abbrev pub iri_events : InForce → Iri → List Event → List Event
 iri_events s (iri_ref l) rest = name IriRef l (reference_in s l) rest
 iri_events s (prefixed n) rest = prefixed_events s n rest
 
+-- a verb with its IRI; `a` stands for no name that has to be looked up
 abbrev pub verb_events : InForce → Verb → List Event → List Event
 verb_events s (predicate i) rest = iri_events s i rest
 verb_events s (type_word l) rest = take A l rest
 
+-- a string as it is written; what it means is part of the quad
 abbrev pub string_events : String → List Event → List Event
 string_events (short l) rest = take ShortString l rest
 string_events (long l) rest = take LongString l rest
 
+-- the language tag of a string
 abbrev pub tag_events : Tag → List Event → List Event
 tag_events (lang_tag l) rest = take LangTag l rest
 tag_events (base_tag l) rest = take AtBase l rest
@@ -63,6 +72,7 @@ abbrev pub blank_object_events : BlankNode → Option Quad → Option Quad → L
 blank_object_events (label l) early q rest = take LabelNode l (give early (give q rest))
 blank_object_events (anon l r) early q rest = take OpenBracket l (give early (give q (take CloseBracket r rest)))
 
+-- a literal; its quad comes after its last token, with tag or type, but an early one after its string
 abbrev pub literal_events : InForce → Literal → Option Quad → Option Quad → List Event → List Event
 literal_events s (rdf (plain w)) early q rest = string_events w (give early (give q rest))
 literal_events s (rdf (tagged w t)) early q rest = string_events w (give early (tag_events t (give q rest)))
@@ -77,6 +87,7 @@ literal_events s (boolean (false_word l)) early q rest = take False l (give earl
 abbrev pub object_quad : Setting → Option term.Subject → Option (List ℕ) → Object → Option Quad
 object_quad c s p o = stated c.graph s p (object_of c.scope o)
 
+-- An object gives its own quad before those inside it; its quad's head ends at a bracket, or with its last token.
 abbrev mutual
   pub object_events : Setting → Object → Option term.Subject → Option (List ℕ) → Option Quad → List Event → List Event
   object_events c (iri_object i) s p early rest = iri_events c.scope i (give early (give (object_quad c s p (iri_object i)) rest))
@@ -119,15 +130,18 @@ abbrev mutual
   commas_events c no_commas s p rest = rest
   commas_events c (comma l o os) s p rest = take Comma l (object_events c o s p None (commas_events c os s p rest))
 
+-- a subject: one that is a collection gives the quads of its cells
 abbrev pub subject_events : Setting → Subject → List Event → List Event
 subject_events c (iri_subject i) rest = iri_events c.scope i rest
 subject_events c (blank_subject b) rest = blank_object_events b None None rest
 subject_events c (collection_subject os) rest = collection_events c os None None rest
 
+-- a predicate list that may be left out after a property list
 abbrev pub maybe_events : Setting → Option term.Subject → Option PredicateObjectList → List Event → List Event
 maybe_events c s None rest = rest
 maybe_events c s (Some ps) rest = predicates_events c ps s rest
 
+-- a subject and its predicates; where it has brackets, the quads inside them come first
 abbrev pub triples_events : Setting → Triples → List Event → List Event
 triples_events c (subject_triples s ps) rest = subject_events c s (predicates_events c ps (subject_of c.scope s) rest)
 triples_events c (list_triples p ps) rest = list_events c p None None (maybe_events c (Some (list_of p)) ps rest)
@@ -136,28 +150,34 @@ triples_events c (list_triples p ps) rest = list_events c p None None (maybe_eve
 abbrev pub binding : InForce → Leaf → Leaf → List Event → List Event
 binding s p i rest = Took (token IriRef i) (binds (is_full s (prefix_of p)) (reference_in s i)) ∷ rest
 
+-- a directive, of which the IRIREF alone stands for something
 abbrev pub directive_events : InForce → Directive → List Event → List Event
 directive_events s (prefix_id w p i d) rest = take AtPrefix w (take PnameNs p (binding s p i (take Dot d rest)))
 directive_events s (base w i d) rest = take AtBase w (name IriRef i (reference_in s i) (take Dot d rest))
 directive_events s (sparql_prefix w p i) rest = take Prefix w (take PnameNs p (binding s p i rest))
 directive_events s (sparql_base w i) rest = take Base w (name IriRef i (reference_in s i) rest)
 
+-- the label of a graph, or the subject in its place, which gives no quad itself
 abbrev pub label_events : InForce → LabelOrSubject → List Event → List Event
 label_events s (iri_label i) rest = iri_events s i rest
 label_events s (blank_label b) rest = blank_object_events b None None rest
 
+-- the triples of a block with the dots between them
 abbrev pub block_events : Setting → TriplesBlock → List Event → List Event
 block_events c (last t) rest = triples_events c t rest
 block_events c (last_dot t d) rest = triples_events c t (take Dot d rest)
 block_events c (dot t d b) rest = triples_events c t (take Dot d (block_events c b rest))
 
+-- those of a block that may be empty
 abbrev pub maybe_block_events : Setting → Option TriplesBlock → List Event → List Event
 maybe_block_events c None rest = rest
 maybe_block_events c (Some b) rest = block_events c b rest
 
+-- a block with its braces
 abbrev pub wrapped_events : Setting → WrappedGraph → List Event → List Event
 wrapped_events c (wrapped l b r) rest = take OpenBrace l (maybe_block_events c b (take CloseBrace r rest))
 
+-- a block of TriG: triples between '{' and '}' after a label are in its graph, and all others in the default graph
 abbrev pub trig_events : InForce → Block → List Event → List Event
 trig_events s (triples_or_graph (named_graph g w)) rest = label_events s g (wrapped_events (in_graph s (label_of s g)) w rest)
 trig_events s (triples_or_graph (label_triples g ps d)) rest = label_events s g (predicates_events (in_default s) ps (label_of s g) (take Dot d rest))
@@ -168,10 +188,12 @@ trig_events s (triples2 (collection_triples2 os ps d)) rest =
     collection_events (in_default s) os None None (predicates_events (in_default s) ps (Some (collection_of os)) (take Dot d rest))
 trig_events s (graph_word l g w) rest = take Graph l (label_events s g (wrapped_events (in_graph s (label_of s g)) w rest))
 
+-- a statement of Turtle, which is in the default graph, or a block of TriG
 abbrev pub body_events : (form : DocForm) → InForce → Body form → List Event → List Event
 body_events Turtle s b rest = triples_events (in_default s) b.triples (take Dot b.dot rest)
 body_events TriG s b rest = trig_events s b rest
 
+-- all events of a document that is read from this scope on; a directive changes the scope of what comes after it
 abbrev pub document_events : {form : DocForm} → InForce → Document form → List Event
 document_events s (end l) = take End l []
 document_events s (with_directive d rest) = directive_events s d (document_events (scope_after s d) rest)
@@ -195,6 +217,7 @@ HasIri itself = Unit {0}
 HasIri (stands i) = i ≢ None
 HasIri (binds full i) = i ≢ None
 
+-- each name and reference among the events stands for an IRI: no prefix is unbound, and no base is missing
 abbrev pub Bound : List Event → Type 0
 Bound [] = Unit {0}
 Bound (Took t u ∷ es) = HasIri u × Bound es

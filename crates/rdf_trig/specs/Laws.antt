@@ -37,6 +37,7 @@ abbrev pub Rises : ℕ → List Marked → Type 0
 Rises n [] = Unit {0}
 Rises n (q ∷ qs) = (n ≤ q.mark) × Rises q.mark qs
 
+-- The quads of a tree come in the order in which they are due.
 abbrev pub MarksNeverFall : Type 0
 MarksNeverFall = (form : DocForm) (start : InForce) (d : Document form) → Rises 0 (event_quads 0 (document_events start d))
 
@@ -73,6 +74,7 @@ pub record ViableWhereBound (form : DocForm) (start : InForce) (ts : List Token)
   pub every : Viable (documents form start) ts → (tree : Document form) (more : List Token) → ts ++ more ≡ document_tokens tree →
       BoundFront (length ts) (document_events start tree)
 
+-- So whether a name stands for something is settled by what comes before it, and nothing that comes later changes it.
 abbrev pub ViableIsShapedAndBound : Type 0
 ViableIsShapedAndBound = (form : DocForm) (start : InForce) (ts : List Token) → ViableWhereBound form start ts
 
@@ -88,6 +90,7 @@ closing_text Dot = Some (codes ".")
 closing_text End = Some []
 closing_text k = None
 
+-- the token is one of these, as it is written there
 abbrev pub IsClosing : Token → Type 0
 IsClosing t = closing_text t.kind ≡ Some t.text
 
@@ -95,6 +98,7 @@ IsClosing t = closing_text t.kind ≡ Some t.text
 abbrev pub CompletedBy : (List Token → List Marked → Type 0) → List Token → Type 0
 CompletedBy documents ts = (more : List Token) × (qs : List Marked) × All IsClosing more × documents (ts ++ more) qs
 
+-- So a reader that has accepted some tokens is never in a dead end.
 abbrev pub BeginningsAreCompleted : Type 0
 BeginningsAreCompleted = (form : DocForm) (start : InForce) (ts : List Token) →
     (Viable (documents form start) ts → CompletedBy (documents form start) ts) × (Shaped (trees form start) ts → CompletedBy (trees form start) ts)
@@ -106,6 +110,7 @@ pub record NamelessWhere (s : InForce) (l : Leaf) : Type 0 where
   pub reference : reference_in s l ≡ None → (has_scheme (iri_of l) ≡ false) × (s.base ≡ None)
   pub no_reference : (has_scheme (iri_of l) ≡ false) × (s.base ≡ None) → reference_in s l ≡ None
 
+-- So no name or reference is refused for its own text, but for what the scope at its place lacks.
 abbrev pub NamelessIsUnbound : Type 0
 NamelessIsUnbound = (s : InForce) (l : Leaf) → NamelessWhere s l
 
@@ -130,6 +135,7 @@ pub record Reads (form : DocForm) (start : InForce) (ts : List Token) (qs : List
   pub front : IsFront (documents form start) (Passes form start) ts ts
   pub due : Due (documents form start) ts qs
 
+-- So the machine accepts no token too many, and gives out no quad before it is due.
 abbrev pub AcceptedBeginsADocument : Type 0
 AcceptedBeginsADocument = (form : DocForm) (start : InForce) (ts : List Token) (s : State) (qs : List Quad) →
     accept_all form (at_start start) ts ≡ ran s qs → Reads form start ts qs
@@ -139,6 +145,7 @@ pub record IsRefusedAfter (form : DocForm) (start : InForce) (ts : List Token) (
   pub reason : RefusedFor form start ts t x
   pub front : IsFront (documents form start) (Passes form start) (ts ++ t ∷ more) ts
 
+-- So it refuses no token too early, and none for a reason that does not hold.
 abbrev pub RefusedForItsReason : Type 0
 RefusedForItsReason = (form : DocForm) (start : InForce) (ts : List Token) (t : Token) (more : List Token) (s : State) (qs : List Quad)
     (x : Refusal) → accept_all form (at_start start) ts ≡ ran s qs →

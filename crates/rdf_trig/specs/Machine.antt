@@ -85,17 +85,21 @@ pub data Reply : Type 0 where
 abbrev pub goes : Setting → Mode → Reply
 goes c m = Go itself None None c m
 
+-- the cell of a collection as a subject, by the byte offset of its item's first token
 abbrev pub cell : ℕ → Option term.Subject
 cell n = node (Cell n)
 
+-- the subject of the triple that an object at this place belongs to
 abbrev pub subject_at : Place → Option term.Subject
 subject_at (Listed s p a) = s
 subject_at (InCells f n u) = cell n
 
+-- its predicate: rdf:first in a collection
 abbrev pub verb_at : Place → Option (List ℕ)
 verb_at (Listed s p a) = p
 verb_at (InCells f n u) = Some (known_chars RdfFirst)
 
+-- the quad of an object at this place
 abbrev pub quad_at : Setting → Place → Option Term → Option Quad
 quad_at c p o = stated c.graph (subject_at p) (verb_at p) o
 
@@ -104,13 +108,16 @@ abbrev pub quad_up : Setting → Up → term.Subject → Option Quad
 quad_up c (Subject v) s = None
 quad_up c (At p) s = quad_at c p (resource (Some s))
 
+-- the empty collection, which has no cells
 abbrev pub nil : term.Subject
 nil = term.Iri (known_chars RdfNil)
 
 -- Objects.
+-- an iri has come as the object at a place
 abbrev pub iri_object_at : Setting → Place → Option Quad → Option (List ℕ) → Reply
 iri_object_at c p early i = Go (stands i) early (quad_at c p (resource (named i))) c (After p)
 
+-- an object of one token that stands for no IRI: a label, a number or a boolean
 abbrev pub literal_at : Setting → Place → Option Quad → Option Term → Reply
 literal_at c p early o = Go itself early (quad_at c p o) c (After p)
 
@@ -131,9 +138,11 @@ object_start c p early OpenBracket l = Go itself early (quad_at c p (resource (n
 object_start c p early OpenParen l = Go itself early None c (Paren (At p))
 object_start c p early k l = No
 
+-- a string with its datatype IRI has come
 abbrev pub type_at : Setting → List ℕ → Place → Option (List ℕ) → Reply
 type_at c w p i = Go (stands i) None (quad_at c p (typed_literal w i)) c (After p)
 
+-- after '^^' an iri has to come
 abbrev pub want_type : Setting → List ℕ → Place → Kind → Leaf → Reply
 want_type c w p IriRef l = type_at c w p (reference_in c.scope l)
 want_type c w p PnameLn l = type_at c w p (name_in c.scope l)
@@ -141,9 +150,11 @@ want_type c w p PnameNs l = type_at c w p (name_in c.scope l)
 want_type c w p k l = No
 
 -- Verbs.
+-- a verb has come, and its first object has to come next
 abbrev pub verb_is : Setting → Option term.Subject → Around → Option (List ℕ) → Reply
 verb_is c s a i = Go (stands i) None None c (Want (Listed s i a))
 
+-- the first token of a verb, which is its only one: an iri or `a`
 abbrev pub verb_start : Setting → Option term.Subject → Around → Kind → Leaf → Reply
 verb_start c s a IriRef l = verb_is c s a (reference_in c.scope l)
 verb_start c s a PnameLn l = verb_is c s a (name_in c.scope l)
@@ -157,14 +168,17 @@ after_subject form InBlock s = WantVerb s (Statement InBlock)
 after_subject Turtle Top s = WantVerb s (Statement Top)
 after_subject TriG Top s = AfterLabel s
 
+-- after `[]`: a subject may go on as one, and in TriG as the label of a graph; an object has come
 abbrev pub node_closed : DocForm → Up → Option term.Subject → Mode
 node_closed form (Subject v) s = after_subject form v s
 node_closed form (At p) s = After p
 
+-- after the ']' of a property list: as a subject it may end the statement, as an object it has come
 abbrev pub box_closed : Up → Option term.Subject → Mode
 box_closed (Subject v) s = AfterBox s v
 box_closed (At p) s = After p
 
+-- after the ')' of a collection: as a subject it needs a verb, as an object it has come
 abbrev pub list_closed : Up → Option term.Subject → Mode
 list_closed (Subject v) s = WantVerb s (Statement v)
 list_closed (At p) s = After p
@@ -177,6 +191,7 @@ list_end c s (Statement InBlock) CloseBrace l = goes (in_default c.scope) Start
 list_end c s (Boxed u) CloseBracket l = goes c (box_closed u s)
 list_end c s a k l = No
 
+-- after ';' there may be another ';', a verb, or the end of the predicate list
 abbrev pub semi : Setting → Option term.Subject → Around → Kind → Leaf → Reply
 semi c s a Semicolon l = goes c (Semi s a)
 semi c s a IriRef l = verb_start c s a IriRef l
@@ -185,6 +200,7 @@ semi c s a PnameNs l = verb_start c s a PnameNs l
 semi c s a A l = verb_start c s a A l
 semi c s a k l = list_end c s a k l
 
+-- after an object: ',' or ';' or the end of its list; in a collection the next item or ')', with the rdf:rest of the cell before
 abbrev pub after : Setting → Place → Kind → Leaf → Reply
 after c (Listed s p a) Comma l = goes c (Want (Listed s p a))
 after c (Listed s p a) Semicolon l = goes c (Semi s a)
@@ -192,9 +208,11 @@ after c (Listed s p a) k l = list_end c s a k l
 after c (InCells f n u) CloseParen l = Go itself None (rest_quad c (Cell n) nil) c (list_closed u (cell f))
 after c (InCells f n u) k l = object_start c (InCells f l.at.offset u) (rest_quad c (Cell n) (Blank (cell_at l))) k l
 
+-- a string with its language tag has come
 abbrev pub tag_at : Setting → List ℕ → Place → Leaf → Reply
 tag_at c w p l = Go itself None (quad_at c p (tagged_literal w (tag_of l))) c (After p)
 
+-- after a string: its tag, '^^', or what may follow an object
 abbrev pub after_text : Setting → List ℕ → Place → Kind → Leaf → Reply
 after_text c w p LangTag l = tag_at c w p l
 after_text c w p AtBase l = tag_at c w p l
@@ -203,14 +221,17 @@ after_text c w p Carets l = goes c (WantType w p)
 after_text c w p k l = after c p k l
 
 -- Brackets.
+-- after '[': ']' at once, for a node without a label, or the first verb of a property list
 abbrev pub box : DocForm → Setting → ℕ → Up → Kind → Leaf → Reply
 box form c n u CloseBracket l = goes c (node_closed form u (node (term.Anon n)))
 box form c n u k l = verb_start c (node (term.Anon n)) (Boxed u) k l
 
+-- after '(': ')' at once for rdf:nil, or the first item, whose cell is what the collection means
 abbrev pub paren : Setting → Up → Kind → Leaf → Reply
 paren c u CloseParen l = goes c (list_closed u (Some nil))
 paren c u k l = object_start c (InCells l.at.offset l.at.offset u) None k l
 
+-- after a property list that is a subject: a verb, or the end of the statement
 abbrev pub after_box : Setting → Option term.Subject → Level → Kind → Leaf → Reply
 after_box c s v IriRef l = verb_start c s (Statement v) IriRef l
 after_box c s v PnameLn l = verb_start c s (Statement v) PnameLn l
@@ -219,9 +240,11 @@ after_box c s v A l = verb_start c s (Statement v) A l
 after_box c s v k l = list_end c s (Statement v) k l
 
 -- Subjects, labels and blocks.
+-- an iri has come as a subject, or as a label that looks like one
 abbrev pub subject_is : DocForm → Setting → Level → Option (List ℕ) → Reply
 subject_is form c v i = Go (stands i) None None c (after_subject form v (named i))
 
+-- the first token of a subject
 abbrev pub subject_start : DocForm → Setting → Level → Kind → Leaf → Reply
 subject_start form c v IriRef l = subject_is form c v (reference_in c.scope l)
 subject_start form c v PnameLn l = subject_is form c v (name_in c.scope l)
@@ -231,6 +254,7 @@ subject_start form c v OpenBracket l = goes c (Box l.at.offset (Subject v))
 subject_start form c v OpenParen l = goes c (Paren (Subject v))
 subject_start form c v k l = No
 
+-- between statements: a directive, a block, a subject or the end of the input
 abbrev pub start : DocForm → Setting → Kind → Leaf → Reply
 start form c End l = goes c Over
 start form c AtPrefix l = goes c (WantPrefix Dotted)
@@ -241,21 +265,26 @@ start TriG c Graph l = goes c GraphWord
 start TriG c OpenBrace l = goes (in_default c.scope) Inside
 start form c k l = subject_start form (in_default c.scope) Top k l
 
+-- in a block, before a subject: '}' or triples
 abbrev pub inside : DocForm → Setting → Kind → Leaf → Reply
 inside form c CloseBrace l = goes (in_default c.scope) Start
 inside form c k l = subject_start form c InBlock k l
 
+-- after the label of GRAPH only '{' may come
 abbrev pub want_brace : Setting → Option term.Subject → Kind → Leaf → Reply
 want_brace c g OpenBrace l = goes (in_graph c.scope g) Inside
 want_brace c g k l = No
 
+-- after an iri or blank node outside of blocks in TriG: '{' makes it a graph's label, and a verb makes it a subject
 abbrev pub after_label : Setting → Option term.Subject → Kind → Leaf → Reply
 after_label c g OpenBrace l = goes (in_graph c.scope g) Inside
 after_label c g k l = verb_start c g (Statement Top) k l
 
+-- the IRI of a label after GRAPH has come
 abbrev pub graph_is : Setting → Option (List ℕ) → Reply
 graph_is c i = Go (stands i) None None c (WantBrace (named i))
 
+-- after GRAPH a label has to come: an iri or a blank node
 abbrev pub graph_word : Setting → Kind → Leaf → Reply
 graph_word c IriRef l = graph_is c (reference_in c.scope l)
 graph_word c PnameLn l = graph_is c (name_in c.scope l)
@@ -264,32 +293,39 @@ graph_word c LabelNode l = goes c (WantBrace (node (labelled l)))
 graph_word c OpenBracket l = goes c (GraphBox l.at.offset)
 graph_word c k l = No
 
+-- after GRAPH and '[' only ']' may come, since a label is no property list
 abbrev pub graph_box : Setting → ℕ → Kind → Leaf → Reply
 graph_box c n CloseBracket l = goes c (WantBrace (node (term.Anon n)))
 graph_box c n k l = No
 
 -- Directives.
+-- a directive that begins with '@' needs its dot, and one in SPARQL's spelling ends with its IRIREF
 abbrev pub directive_end : Spelling → Mode
 directive_end Dotted = WantDot
 directive_end Sparql = Start
 
+-- after @prefix or PREFIX a PNAME_NS has to come
 abbrev pub want_prefix : Setting → Spelling → Kind → Leaf → Reply
 want_prefix c w PnameNs l = goes c (WantPrefixIri w (prefix_of l))
 want_prefix c w k l = No
 
+-- then its IRIREF, which binds the prefix in the scope that is in force there
 abbrev pub want_prefix_iri : Setting → Spelling → List ℕ → Kind → Leaf → Reply
 want_prefix_iri c w p IriRef l =
     Go (binds (is_full c.scope p) (reference_in c.scope l)) None None (in_default (with_binding c.scope p (reference_in c.scope l))) (directive_end w)
 want_prefix_iri c w p k l = No
 
+-- after @base or BASE an IRIREF has to come, and it is the base from there on
 abbrev pub want_base_iri : Setting → Spelling → Kind → Leaf → Reply
 want_base_iri c w IriRef l = Go (stands (reference_in c.scope l)) None None (in_default (with_base c.scope (reference_in c.scope l))) (directive_end w)
 want_base_iri c w k l = No
 
+-- a directive that begins with '@' has to end in '.'
 abbrev pub want_dot : Setting → Kind → Leaf → Reply
 want_dot c Dot l = goes c Start
 want_dot c k l = No
 
+-- what a token does in each mode
 abbrev pub step : DocForm → Setting → Mode → Kind → Leaf → Reply
 step form c Start k l = start form c k l
 step form c Over k l = No
@@ -324,22 +360,27 @@ waiting c (Paren u) k l = quad_up c u (Blank (cell_at l))
 waiting c m k l = None
 
 -- The run over all tokens of a document, as its events; none where it refuses a token or stops short.
+-- the events of a run with a quad before them, if there is one
 abbrev pub fronted : Option Quad → Option (List Event) → Option (List Event)
 fronted q None = None
 fronted q (Some es) = Some (give q es)
 
+-- the events of one token: itself, the quads whose heads end with it, and then those of the rest
 abbrev pub put : Token → Use → Option Quad → Option Quad → Option (List Event) → Option (List Event)
 put t u early now None = None
 put t u early now (Some es) = Some (Took t u ∷ give early (give now es))
 
+-- nothing comes after the end of the input, and no document stops before it
 abbrev pub stop : Mode → Option (List Event)
 stop Over = Some []
 stop m = None
 
+-- the events of an accepted token and of all after it
 abbrev pub go_on : Token → Reply → (Setting → Mode → Option (List Event)) → Option (List Event)
 go_on t No next = None
 go_on t (Go u early now c m) next = put t u early now (next c m)
 
+-- the events of the tokens read from this mode on, none where a token is refused or the end is missing
 abbrev pub run : DocForm → Setting → Mode → List Token → Option (List Event)
 run form c m [] = stop m
 run form c m (t ∷ ts) = fronted (waiting c m t.kind (leaf_of t)) (go_on t (step form c m t.kind (leaf_of t)) (λ c' m'. run form c' m' ts))
@@ -358,6 +399,7 @@ abbrev mutual
   depth_up (Subject v) = 0
   depth_up (At p) = depth_at p
 
+-- the '[' and '(' that are open in a mode, as the limit counts them
 abbrev pub depth : Mode → ℕ
 depth (GraphBox n) = 1
 depth (Want p) = depth_at p
@@ -386,6 +428,7 @@ abbrev pub unnamed : Kind → Refusal
 unnamed IriRef = no_base
 unnamed k = unbound
 
+-- an IRI has more bytes than the limit
 abbrev pub too_long : Sizes → List ℕ → Bool
 too_long sizes i = nat_lt sizes.iri (byte_len i)
 
@@ -397,14 +440,17 @@ by_use sizes k (stands (Some i)) a = cond (too_long sizes i) (refuses iri_too_lo
 by_use sizes k (binds full None) a = refuses no_base
 by_use sizes k (binds full (Some i)) a = cond (too_long sizes i) (refuses iri_too_long) (cond full (refuses too_many_bindings) a)
 
+-- the token opens a bracket or parenthesis
 abbrev pub deepens : Kind → Bool
 deepens OpenBracket = true
 deepens OpenParen = true
 deepens k = false
 
+-- a bracket is refused first of all if as many are open as may be
 abbrev pub by_depth : Sizes → ℕ → Kind → Answer → Answer
 by_depth sizes n k a = cond (deepens k && nat_le sizes.depth n) (refuses too_deep) a
 
+-- a list of quads with one before it, if there is one
 abbrev pub kept : Option Quad → List Quad → List Quad
 kept None qs = qs
 kept (Some q) qs = q ∷ qs
@@ -415,9 +461,11 @@ answer sizes s k w No = refuses unexpected
 answer sizes s k w (Go u early now c m) =
     by_depth sizes (depth s.mode) k (by_use sizes k u (accepts (s.held ++ kept w []) (record { setting = c; mode = m; held = kept early (kept now []) })))
 
+-- the machine's answer to a token, with the limits and with what has been held back
 abbrev pub accept : DocForm → State → Kind → Leaf → Answer
 accept form s k l = answer s.setting.scope.limits s k (waiting s.setting s.mode k l) (step form s.setting s.mode k l)
 
+-- before the first token, in the scope that was handed in
 abbrev pub at_start : InForce → State
 at_start scope = record { setting = in_default scope; mode = Start; held = [] }
 
@@ -426,14 +474,17 @@ pub data Run : Type 0 where
   ran : State → List Quad → Run
   refused : Refusal → Run
 
+-- the quads of one token come before those of the tokens after it
 abbrev pub with_quads : List Quad → Run → Run
 with_quads qs (ran s rs) = ran s (qs ++ rs)
 with_quads qs (refused r) = refused r
 
+-- a run goes on after an accepted token, and ends with the first refusal
 abbrev pub go : Answer → (State → Run) → Run
 go (refuses r) more = refused r
 go (accepts qs s) more = with_quads qs (more s)
 
+-- the machine's run over some tokens
 abbrev pub accept_all : DocForm → State → List Token → Run
 accept_all form s [] = ran s []
 accept_all form s (t ∷ ts) = go (accept form s t.kind (leaf_of t)) (λ n. accept_all form n ts)

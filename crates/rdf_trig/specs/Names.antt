@@ -15,6 +15,7 @@ reference_in s l = resolved s.base (iri_of l)
 abbrev pub prefix_of : Leaf → List ℕ
 prefix_of l = before 58 l.text
 
+-- the local part of a name with its escapes replaced (PN_LOCAL_ESC), a %-escape kept as it is written (Turtle 6.4); empty for a PNAME_NS
 abbrev pub local_of : Leaf → List ℕ
 local_of l = unwrap_or (local_value (unwrap_or (after 58 l.text) [])) []
 
@@ -22,10 +23,12 @@ local_of l = unwrap_or (local_value (unwrap_or (after 58 l.text) [])) []
 unfoldable pub name_in : InForce → Leaf → Option (List ℕ)
 name_in s l = option_map (λ front. front ++ local_of l) (bound_to s.bindings (prefix_of l))
 
+-- the IRI of a PrefixedName, in the form with a local part or the one without
 abbrev pub prefixed_in : InForce → PrefixedName → Option (List ℕ)
 prefixed_in s (pname_ln l) = name_in s l
 prefixed_in s (pname_ns l) = name_in s l
 
+-- the absolute IRI that the production iri stands for in a scope, or none
 abbrev pub iri_in : InForce → Iri → Option (List ℕ)
 iri_in s (iri_ref l) = reference_in s l
 iri_in s (prefixed n) = prefixed_in s n
@@ -40,10 +43,12 @@ abbrev pub with_base : InForce → Option (List ℕ) → InForce
 with_base s None = s
 with_base s (Some iri) = record { base = Some iri; bindings = s.bindings; limits = s.limits }
 
+-- the scope after the IRIREF of @prefix or PREFIX, which replaces an older binding of the prefix (Turtle 2.4)
 abbrev pub with_binding : InForce → List ℕ → Option (List ℕ) → InForce
 with_binding s prefix None = s
 with_binding s prefix (Some iri) = record { base = s.base; bindings = bind s.bindings prefix iri; limits = s.limits }
 
+-- the scope after a directive, which is in force for what comes after it, up to the next change (Turtle 2.4, 6.3)
 abbrev pub scope_after : InForce → Directive → InForce
 scope_after s (prefix_id w p i d) = with_binding s (prefix_of p) (reference_in s i)
 scope_after s (base w i d) = with_base s (reference_in s i)

@@ -20,11 +20,13 @@ abbrev pub iri_size : Option (List ℕ) → ℕ
 iri_size None = 0
 iri_size (Some i) = byte_len i
 
+-- the bytes of a node's label; a node without one has no text to hold
 abbrev pub node_size : Node → ℕ
 node_size (Label x) = byte_len x
 node_size (Anon n) = 0
 node_size (Cell n) = 0
 
+-- the bytes of the IRI or label of a subject
 abbrev pub term_size : Option term.Subject → ℕ
 term_size None = 0
 term_size (Some (term.Iri i)) = byte_len i
@@ -36,6 +38,7 @@ subject_size s (collection_subject c) = 0
 subject_size s (iri_subject i) = iri_size (iri_in s i)
 subject_size s (blank_subject b) = term_size (subject_of s (blank_subject b))
 
+-- the bytes of a verb's IRI; `a` has none that would have to be held
 abbrev pub verb_size : InForce → Verb → ℕ
 verb_size s (predicate i) = iri_size (iri_in s i)
 verb_size s (type_word l) = 0
@@ -44,9 +47,11 @@ verb_size s (type_word l) = 0
 abbrev pub is_open : ℕ → ℕ → List Token → Bool
 is_open k n ts = nat_lt n k && nat_le k (n + length ts)
 
+-- the bytes of a verb while a further object of it may come
 abbrev pub verb_held : InForce → ℕ → ℕ → Verb → ObjectList → ℕ
 verb_held s k n v os = cond (nat_lt n k && nat_le k (n + 1 + length (objects_tokens os))) (verb_size s v) 0
 
+-- The bytes that are held inside an object: of each predicate list that is open when k tokens are read, its subject and its verb.
 abbrev mutual
   pub object_held : InForce → ℕ → ℕ → Object → ℕ
   object_held s k n (iri_object i) = 0
@@ -83,27 +88,33 @@ abbrev mutual
   commas_held s k n no_commas = 0
   commas_held s k n (comma l o os) = object_held s k (n + 1) o + commas_held s k (n + 1 + length (object_tokens o)) os
 
+-- the bytes that are held inside a subject, which only a collection has
 abbrev pub subject_held : InForce → ℕ → ℕ → Subject → ℕ
 subject_held s k n (collection_subject c) = collection_held s k n c
 subject_held s k n t = 0
 
+-- those of a predicate list that may be left out after a property list, whose node is no text
 abbrev pub maybe_held : InForce → ℕ → ℕ → Option PredicateObjectList → ℕ
 maybe_held s k n None = 0
 maybe_held s k n (Some ps) = predicates_held s k n 0 ps
 
+-- those of a subject with its predicate list
 abbrev pub triples_held : InForce → ℕ → ℕ → Triples → ℕ
 triples_held s k n (subject_triples t ps) = subject_held s k n t + predicates_held s k (n + length (subject_tokens t)) (subject_size s t) ps
 triples_held s k n (list_triples p ps) = list_held s k n p + maybe_held s k (n + length (list_tokens p)) ps
 
+-- those of a block's triples
 abbrev pub block_held : InForce → ℕ → ℕ → TriplesBlock → ℕ
 block_held s k n (last t) = triples_held s k n t
 block_held s k n (last_dot t d) = triples_held s k n t
 block_held s k n (dot t d b) = triples_held s k n t + block_held s k (n + length (triples_tokens t) + 1) b
 
+-- those of what stands between '{' and '}'; the label of a block's graph is not counted
 abbrev pub wrapped_held : InForce → ℕ → ℕ → WrappedGraph → ℕ
 wrapped_held s k n (wrapped l None r) = 0
 wrapped_held s k n (wrapped l (Some b) r) = block_held s k (n + 1) b
 
+-- those of a block of TriG
 abbrev pub trig_held : InForce → ℕ → ℕ → Block → ℕ
 trig_held s k n (triples_or_graph (named_graph g w)) = wrapped_held s k (n + length (label_tokens g)) w
 trig_held s k n (triples_or_graph (label_triples g ps d)) = predicates_held s k (n + length (label_tokens g)) (term_size (label_of s g)) ps
@@ -112,10 +123,12 @@ trig_held s k n (triples2 (list_triples2 p ps d)) = list_held s k n p + maybe_he
 trig_held s k n (triples2 (collection_triples2 c ps d)) = collection_held s k n c + predicates_held s k (n + length (collection_tokens c)) 0 ps
 trig_held s k n (graph_word l g w) = wrapped_held s k (n + 1 + length (label_tokens g)) w
 
+-- those of a statement or a block
 abbrev pub body_held : (form : DocForm) → InForce → ℕ → ℕ → Body form → ℕ
 body_held Turtle s k n b = triples_held s k n b.triples
 body_held TriG s k n b = trig_held s k n b
 
+-- the bytes that have to be held in this document when k of its tokens are read, in the scopes that its directives give
 abbrev pub document_held : {form : DocForm} → InForce → ℕ → ℕ → Document form → ℕ
 document_held s k n (end l) = 0
 document_held s k n (with_directive d rest) = document_held (scope_after s d) k (n + length (directive_tokens d)) rest

@@ -17,9 +17,11 @@ pub record Setting : Type 0 where
   pub scope : InForce
   pub graph : Option (Option term.Subject)
 
+-- where the triples belong to the default graph
 abbrev pub in_default : InForce → Setting
 in_default s = record { scope = s; graph = Some None }
 
+-- where the triples belong to a named graph, whose label may stand for nothing
 abbrev pub in_graph : InForce → Option term.Subject → Setting
 in_graph s g = record { scope = s; graph = option_map Some g }
 
@@ -29,12 +31,15 @@ stated (Some g) (Some s) (Some p) (Some o) = Some (record { subject = s; predica
 stated g s p o = None
 
 -- Terms.
+-- an IRI as a subject, if there is one
 abbrev pub named : Option (List ℕ) → Option term.Subject
 named i = option_map term.Iri i
 
+-- a blank node as a subject, which no scope can leave without a meaning
 abbrev pub node : Node → Option term.Subject
 node n = Some (Blank n)
 
+-- an IRI or a blank node as an object
 abbrev pub resource : Option term.Subject → Option Term
 resource s = option_map Resource s
 
@@ -42,13 +47,16 @@ resource s = option_map Resource s
 abbrev pub anon_at : Leaf → Node
 anon_at l = Anon l.at.offset
 
+-- the node of a BLANK_NODE_LABEL: its label is the text after `_:`, and means the same node in all of a document (Turtle 2.6)
 abbrev pub labelled : Leaf → Node
 labelled l = Label (drop 2 l.text)
 
+-- the node of a label, or the fresh one of `[]` (Turtle 7.1)
 abbrev pub blank_of : BlankNode → Node
 blank_of (label l) = labelled l
 blank_of (anon l r) = anon_at l
 
+-- the predicate's IRI: `a` is rdf:type (Turtle 2.4)
 abbrev pub verb_of : InForce → Verb → Option (List ℕ)
 verb_of s (predicate i) = iri_in s i
 verb_of s (type_word l) = Some (known_chars RdfType)
@@ -57,30 +65,38 @@ verb_of s (type_word l) = Some (known_chars RdfType)
 abbrev pub short_value : Leaf → List ℕ
 short_value l = unwrap_or (string_value (inside 1 l.text)) []
 
+-- the same where the string has three quotes at each end
 abbrev pub long_value : Leaf → List ℕ
 long_value l = unwrap_or (string_value (inside 3 l.text)) []
 
+-- the lexical form of an RDFLiteral
 abbrev pub lexical : String → List ℕ
 lexical (short l) = short_value l
 lexical (long l) = long_value l
 
+-- a language tag without its '@'
 abbrev pub tag_of : Leaf → List ℕ
 tag_of l = drop 1 l.text
 
+-- the tag of a string; `@base` and `@prefix` after a string are tags as well
 abbrev pub language : Tag → List ℕ
 language (lang_tag l) = tag_of l
 language (base_tag l) = tag_of l
 language (prefix_tag l) = tag_of l
 
+-- a string without tag and type, whose datatype is xsd:string (Turtle 2.5.1)
 abbrev pub plain_literal : List ℕ → Option Term
 plain_literal w = Some (term.Literal w (Typed (known_chars XsdString)))
 
+-- a string with its language tag
 abbrev pub tagged_literal : List ℕ → List ℕ → Option Term
 tagged_literal w t = Some (term.Literal w (Lang t))
 
+-- a literal with a datatype IRI, or none if the IRI stands for nothing
 abbrev pub typed_literal : List ℕ → Option (List ℕ) → Option Term
 typed_literal w i = option_map (λ t. term.Literal w (Typed t)) i
 
+-- a number or boolean keeps the form in which it is written, with the datatype that its form has (Turtle 2.5.2, 2.5.3)
 abbrev pub literal_of : InForce → Literal → Option Term
 literal_of s (rdf (plain w)) = plain_literal (lexical w)
 literal_of s (rdf (tagged w t)) = tagged_literal (lexical w) (language t)
@@ -97,10 +113,12 @@ iri_leaf (iri_ref l) = l
 iri_leaf (prefixed (pname_ln l)) = l
 iri_leaf (prefixed (pname_ns l)) = l
 
+-- the token of a string, which is its only one
 abbrev pub string_leaf : String → Leaf
 string_leaf (short l) = l
 string_leaf (long l) = l
 
+-- the first token of a literal
 abbrev pub literal_leaf : Literal → Leaf
 literal_leaf (rdf (plain w)) = string_leaf w
 literal_leaf (rdf (tagged w t)) = string_leaf w
@@ -111,6 +129,7 @@ literal_leaf (numeric (double l)) = l
 literal_leaf (boolean (true_word l)) = l
 literal_leaf (boolean (false_word l)) = l
 
+-- the first token of an object: the bracket of one that has brackets
 abbrev pub object_leaf : Object → Leaf
 object_leaf (iri_object i) = iri_leaf i
 object_leaf (blank_object (label l)) = l
@@ -123,6 +142,7 @@ object_leaf (literal_object l) = literal_leaf l
 abbrev pub cell_at : Leaf → Node
 cell_at l = Cell l.at.offset
 
+-- the cell in which an item of a collection stands
 abbrev pub cell_of : Object → Node
 cell_of o = cell_at (object_leaf o)
 
@@ -131,12 +151,15 @@ abbrev pub items_of : Items → term.Subject
 items_of no_items = term.Iri (known_chars RdfNil)
 items_of (item o os) = Blank (cell_of o)
 
+-- what a collection means as a subject or an object (Turtle 2.8)
 abbrev pub collection_of : Collection → term.Subject
 collection_of (collection l os r) = items_of os
 
+-- what a blankNodePropertyList means as a subject or an object: its node
 abbrev pub list_of : BlankNodePropertyList → term.Subject
 list_of (property_list l ps r) = Blank (anon_at l)
 
+-- the term that an object means in a scope, or none
 abbrev pub object_of : InForce → Object → Option Term
 object_of s (iri_object i) = resource (named (iri_in s i))
 object_of s (blank_object b) = resource (node (blank_of b))
@@ -148,11 +171,13 @@ object_of s (literal_object l) = literal_of s l
 abbrev pub rest_quad : Setting → Node → term.Subject → Option Quad
 rest_quad c cell rest = stated c.graph (node cell) (Some (known_chars RdfRest)) (resource (Some rest))
 
+-- the IRI or blank node that a subject means in a scope, or none
 abbrev pub subject_of : InForce → Subject → Option term.Subject
 subject_of s (iri_subject i) = named (iri_in s i)
 subject_of s (blank_subject b) = node (blank_of b)
 subject_of s (collection_subject c) = Some (collection_of c)
 
+-- what the label of a graph, or a subject in its place, means in a scope (TriG 4.5, labelOrSubject), or none
 abbrev pub label_of : InForce → LabelOrSubject → Option term.Subject
 label_of s (iri_label i) = named (iri_in s i)
 label_of s (blank_label b) = node (blank_of b)

@@ -8,6 +8,7 @@ use Rattle.rdf_trig.specs.declared.form.DocForm.{DocForm}
 use Rattle.rdf_trig.specs.Events.{Use, stands, binds}
 use Rattle.rdf_trig.specs.Documents.{documents, trees, InTree, StandsFor, IsDeep, IsLong, IsOneMore}
 
+-- the six reasons that a grammar has to refuse a token: a syntax error, a name or reference without an IRI, or a limit
 pub data Refusal : Type 0 where
   unexpected : Refusal
   too_deep : Refusal

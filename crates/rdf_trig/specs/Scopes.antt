@@ -17,10 +17,12 @@ use Rattle.rdf_trig.specs.Machine as M
 use Rattle.rdf_trig.specs.Machine.{by_use, refuses}
 use Rattle.rdf_trig.specs.States.{name_at, use_at, IsNamed, NameIn, IsNamedIn, use_in, scope_in}
 
+-- a token of the kind is an IRIREF, to be resolved against the base
 abbrev pub IsReference : Kind → Type 0
 IsReference IriRef = ⊤
 IsReference k = ⊥
 
+-- a token of the kind is a prefixed name, with a local part or without one
 abbrev pub IsPrefixed : Kind → Type 0
 IsPrefixed PnameNs = ⊤
 IsPrefixed PnameLn = ⊤
@@ -42,6 +44,7 @@ step_fault iri.TooManyBindings = fault.TooManyBindings
 abbrev pub IsAdmitted : Sizes → Kind → Use → Type 0
 IsAdmitted sizes k u = (a : M.Answer) → by_use sizes k u a ≡ a
 
+-- what the token stands for is refused for this reason, whatever the grammar says; for want of memory anything may be
 abbrev pub IsDenied : Sizes → Kind → Use → StepFault → Type 0
 IsDenied sizes k u fault.Unbound = (a : M.Answer) → by_use sizes k u a ≡ refuses refusal.unbound
 IsDenied sizes k u fault.NoBase = (a : M.Answer) → by_use sizes k u a ≡ refuses refusal.no_base
@@ -56,6 +59,7 @@ pub record Names (s : InForce) (k : Kind) (l : Leaf) (i : Option (List ℕ)) : T
   pub named : IsNamed k i
   pub admitted : IsAdmitted s.limits k (use_at s k l)
 
+-- the token stands for no IRI that is allowed, for this reason
 abbrev pub Unnamed : InForce → Kind → Leaf → StepFault → Type 0
 Unnamed s k l r = IsDenied s.limits k (use_at s k l) r
 
@@ -71,6 +75,7 @@ pub record Binding (s : InForce) (prefix : List ℕ) (l : Leaf) (t : InForce) : 
   pub admitted : IsAdmitted s.limits IriRef (binds (is_full s prefix) (reference_in s l))
   pub binds : Binds s prefix iri t
 
+-- the binding of the prefix to the reference's IRI is refused for this reason
 abbrev pub NotBinding : InForce → List ℕ → Leaf → StepFault → Type 0
 NotBinding s prefix l r = IsDenied s.limits IriRef (binds (is_full s prefix) (reference_in s l)) r
 
@@ -85,5 +90,6 @@ pub record LooksUp (s : InForce) (m : M.Mode) (k : Kind) (l : Leaf) (i : Option 
   pub named : IsNamedIn m k i
   pub scope : SameScope (scope_in s m k l) t
 
+-- what the token stands for in this mode is refused for this reason
 abbrev pub LooksUpNone : InForce → M.Mode → Kind → Leaf → StepFault → Type 0
 LooksUpNone s m k l r = IsDenied s.limits k (use_in s m k l) r

@@ -8,6 +8,7 @@ use Rattle.rdf_terms.specs.declared.kind.Kind.TheVariants.{LangTag, AtBase, AtPr
 abbrev pub short_in : List ℕ → List ℕ
 short_in w = unwrap_or (string_value (inside 1 w)) []
 
+-- the same for a string in three quotes at each end
 abbrev pub long_in : List ℕ → List ℕ
 long_in w = unwrap_or (string_value (inside 3 w)) []
 

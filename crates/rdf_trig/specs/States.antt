@@ -53,10 +53,12 @@ leaf t = leaf_of (token_of t)
 abbrev pub IsTurtleToken : Given → Type 0
 IsTurtleToken t = IsToken dialect.Turtle (token_of t)
 
+-- the predicate's IRI: for `a` it is rdf:type
 abbrev pub verb_of : {A : Type 0} → Verb A → List ℕ
 verb_of (verb.Named i) = i
 verb_of verb.Type = known_chars RdfType
 
+-- the subject of a predicate list: for `()` it is rdf:nil
 abbrev pub topic_of : {A : Type 0} → Topic A → term.Subject
 topic_of (topic.Term s) = owned_subject s
 topic_of topic.Nil = nil
@@ -66,14 +68,17 @@ abbrev pub level_of : {A : Type 0} → Level A → M.Level
 level_of level.Top = M.Top
 level_of (level.Block g) = M.InBlock
 
+-- the graph in which a statement's triples stand; none is the default graph
 abbrev pub graph_of : {A : Type 0} → Level A → Option term.Subject
 graph_of level.Top = None
 graph_of (level.Block g) = option_map owned_subject g
 
+-- what a predicate list stands in: for a list in brackets, what the frames below make of the bracket
 abbrev pub around_of : Around → M.Level → M.Up → M.Around
 around_of around.Statement v u = M.Statement v
 around_of around.Brackets v u = M.Boxed u
 
+-- the object's place of a frame: after the subject and the verb of a list, or in a collection, with the frames below round it
 abbrev pub place_of : {A : Type 0} → M.Level → Frame A → M.Up → M.Place
 place_of v (frame.List s p a) u = M.Listed (Some (topic_of s)) (Some (verb_of p)) (around_of a v u)
 place_of v (frame.Cells first cell) u = M.InCells first cell u
@@ -83,13 +88,16 @@ abbrev pub up_from : {A : Type 0} → M.Level → M.Up → List (Frame A) → M.
 up_from v u [] = u
 up_from v u (f ∷ fs) = up_from v (M.At (place_of v f u)) fs
 
+-- what a bracket inside all of these frames stands for
 abbrev pub up_of : {A : Type 0} → M.Level → List (Frame A) → M.Up
 up_of v fs = up_from v (M.Subject v) fs
 
+-- how a directive is spelled, in the machine's words
 abbrev pub spelling_of : Spelling → M.Spelling
 spelling_of spelling.Dotted = M.Dotted
 spelling_of spelling.Sparql = M.Sparql
 
+-- where the reader stands between statements, in a directive or before a block, in the machine's words
 abbrev pub outer_of : {A : Type 0} → Outer A → M.Mode
 outer_of outer.Start = M.Start
 outer_of (outer.Inside g) = M.Inside
@@ -102,6 +110,7 @@ outer_of outer.GraphWord = M.GraphWord
 outer_of (outer.GraphBracket n) = M.GraphBox n
 outer_of (outer.WantBrace g) = M.WantBrace (Some (owned_subject g))
 
+-- the graph of the block whose statements come next; none outside of a block, and in one of the default graph
 abbrev pub outer_graph : {A : Type 0} → Outer A → Option term.Subject
 outer_graph (outer.Inside g) = option_map owned_subject g
 outer_graph o = None
@@ -125,6 +134,7 @@ mode_at form v f u (mode.WantVerb s) = M.WantVerb (Some (topic_of s)) (M.Stateme
 mode_at form v f u mode.Semicolon = semi_at (place_of v f u)
 mode_at form v f u (mode.AfterBrackets s) = M.AfterBox (Some (topic_of s)) v
 
+-- the mode of the machine that a mode of the reader is, by its level and its open frames
 abbrev pub mode_of : {A : Type 0} → DocForm → Level A → Frame A → List (Frame A) → Mode A → M.Mode
 mode_of form v f fs m = mode_at form (level_of v) f (up_of (level_of v) fs) m
 
@@ -133,9 +143,11 @@ abbrev pub graph_at : {A : Type 0} → Mode A → Option term.Subject → Option
 graph_at (mode.Outer o) g = outer_graph o
 graph_at m g = g
 
+-- a scope, and a graph whose label stands for an IRI or a blank node, or the default graph
 abbrev pub setting : InForce → Option term.Subject → Setting
 setting s g = record { scope = s; graph = Some g }
 
+-- the term of an object that is held: an IRI or node, a string with its type or tag, a number or boolean with the datatype of its form
 abbrev pub object_of : {A : Type 0} → Object A → Term
 object_of (object.Named s) = Resource (owned_subject s)
 object_of (object.WithType w i) = Literal (chars (string_bytes w)) (Typed i)
@@ -148,6 +160,7 @@ object_quad g (M.After p) o = stated (Some g) (subject_at p) (verb_at p) (Some o
 object_quad g (M.Box n (M.At p)) o = stated (Some g) (subject_at p) (verb_at p) (Some o)
 object_quad g m o = None
 
+-- the rdf:rest quad of a cell, to the next cell or to rdf:nil
 abbrev pub cells_quad : Option term.Subject → ℕ → term.Subject → Option Quad
 cells_quad g cell next = Some (record { subject = Blank (Cell cell); predicate = known_chars RdfRest; object = Resource next; graph = g })
 
@@ -156,6 +169,7 @@ abbrev pub rest_of : Option term.Subject → Option (ℕ × ℕ) → Option Quad
 rest_of g None = None
 rest_of g (Some p) = cells_quad g p.0 (Blank (Cell p.1))
 
+-- the quad whose head ended with the last token: of an object at its place, or the last rdf:rest of a collection
 abbrev pub held_of : {A : Type 0} → Option term.Subject → M.Mode → Held A → Option Quad
 held_of g m held.Nothing = None
 held_of g m (held.Object o) = object_quad g m (object_of o)
@@ -186,6 +200,7 @@ name_at s PnameNs l = name_in s l
 name_at s PnameLn l = name_in s l
 name_at s k l = None
 
+-- what a token stands for, as the grammar's events say it: an IRI, or itself alone
 abbrev pub use_at : InForce → Kind → Leaf → Use
 use_at s IriRef l = stands (reference_in s l)
 use_at s PnameNs l = stands (name_in s l)
@@ -216,6 +231,7 @@ use_in s (M.WantBaseIri w) IriRef l = stands (reference_in s l)
 use_in s (M.WantBaseIri w) k l = itself
 use_in s m k l = use_at s k l
 
+-- the scope after a token: the IRIREF of a directive changes it, and no other token does
 abbrev pub scope_in : InForce → M.Mode → Kind → Leaf → InForce
 scope_in s (M.WantPrefixIri w p) IriRef l = with_binding s p (reference_in s l)
 scope_in s (M.WantBaseIri w) IriRef l = with_base s (reference_in s l)
@@ -228,6 +244,7 @@ IsNamedIn (M.WantPrefixIri w p) k i = ⊤
 IsNamedIn (M.WantBaseIri w) k i = ⊤
 IsNamedIn m k i = IsNamed k i
 
+-- outside of directives the IRI that comes with a token is that which it stands for
 abbrev pub NameIn : InForce → M.Mode → Kind → Leaf → Option (List ℕ) → Type 0
 NameIn s (M.WantPrefix w) k l i = ⊤
 NameIn s (M.WantPrefixIri w p) k l i = ⊤
@@ -272,6 +289,7 @@ abbrev pub ShortPrefix : ℕ → M.Mode → Type 0
 ShortPrefix n (M.WantPrefixIri w p) = byte_len p ≤ n
 ShortPrefix n m = ⊤
 
+-- the same of a mode of the reader's code, which holds the prefix as a string
 abbrev pub PrefixFits : {A : Type 0} → ℕ → Mode A → Type 0
 PrefixFits n (mode.Outer (outer.WantPrefixIri w p)) = byte_len (chars (string_bytes p)) ≤ n
 PrefixFits n m = ⊤

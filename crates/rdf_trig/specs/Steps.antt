@@ -39,6 +39,7 @@ up_quad g (M.At p) o = stated (Some g) (subject_at p) (verb_at p) (Some o)
 abbrev pub held_quads : {A : Type 0} → DocForm → State A → List Quad
 held_quads form r = let g = graph_at r.mode (graph_of r.level) in kept (rest_of g r.rest) (kept (held_of g (mode_in form r) r.held) [])
 
+-- the quads that go to the sink when the token is accepted: those held, and one whose object the token decides
 abbrev pub given : {A : Type 0} → DocForm → InForce → State A → Given → List Quad
 given form s r t = held_quads form r ++ kept (M.waiting (setting s (graph_at r.mode (graph_of r.level))) (mode_in form r) t.kind (leaf t)) []
 
@@ -50,6 +51,7 @@ state_of form s r = record { setting = setting s (graph_at r.mode (graph_of r.le
 abbrev pub May : DocForm → M.State → Kind → Leaf → Type 0
 May form n k l = (is_go (M.step form n.setting n.mode k l) ≡ true) × ((M.deepens k && nat_le n.setting.scope.limits.depth (M.depth n.mode)) ≡ false)
 
+-- the machine refuses for the same reason, where the grammar or the limit of open brackets is the reason
 abbrev pub Refused : StepFault → M.Answer → Type 0
 Refused Unexpected a = a ≡ M.refuses refusal.unexpected
 Refused TooDeep a = a ≡ M.refuses refusal.too_deep
@@ -63,6 +65,7 @@ DepthMay CloseBracket n = 1 ≤ n
 DepthMay CloseParen n = 1 ≤ n
 DepthMay k n = ⊤
 
+-- with this error the machine has no reply for the token either, unless memory was short
 abbrev pub Stays : StepFault → Reply → Type 0
 Stays Unexpected reply = reply ≡ No
 Stays Memory reply = ⊤

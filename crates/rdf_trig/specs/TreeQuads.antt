@@ -20,6 +20,7 @@ head_length (collection_object c) = 1
 head_length (list_object p) = 1
 head_length (literal_object l) = length (literal_tokens l)
 
+-- a quad, if there is one, whose head ends with the token of this number
 abbrev pub marked_at : ℕ → Option Quad → List Marked
 marked_at n None = []
 marked_at n (Some q) = record { item = q; mark = n } ∷ []
@@ -30,9 +31,11 @@ marked_at n (Some q) = record { item = q; mark = n } ∷ []
 abbrev pub own_quad : Setting → ℕ → Option term.Subject → Option (List ℕ) → Object → List Marked
 own_quad c n s p o = marked_at (n + head_length o) (stated c.graph s p (object_of c.scope o))
 
+-- the rdf:first of an item's cell
 abbrev pub first_quad : Setting → ℕ → Object → List Marked
 first_quad c n o = own_quad c n (node (cell_of o)) (Some (known_chars RdfFirst)) o
 
+-- The quads of each production inside an object, each with the number of the last token of its head.
 abbrev mutual
   -- the quads inside an object: those of a collection or property list, and none of others
   pub inner_quads : Setting → ℕ → Object → List Marked
@@ -81,6 +84,7 @@ subject_quads c n (iri_subject i) = []
 subject_quads c n (blank_subject b) = []
 subject_quads c n (collection_subject os) = collection_quads c n os
 
+-- the quads of a predicate list that may be left out after a property list
 abbrev pub maybe_quads : Setting → ℕ → Option term.Subject → Option PredicateObjectList → List Marked
 maybe_quads c n s None = []
 maybe_quads c n s (Some ps) = predicates_quads c n s ps
@@ -90,15 +94,18 @@ abbrev pub triples_quads : Setting → ℕ → Triples → List Marked
 triples_quads c n (subject_triples s ps) = subject_quads c n s ++ predicates_quads c (n + length (subject_tokens s)) (subject_of c.scope s) ps
 triples_quads c n (list_triples p ps) = list_quads c n p ++ maybe_quads c (n + length (list_tokens p)) (Some (list_of p)) ps
 
+-- the quads of a block's triples, one after the other
 abbrev pub block_quads : Setting → ℕ → TriplesBlock → List Marked
 block_quads c n (last t) = triples_quads c n t
 block_quads c n (last_dot t d) = triples_quads c n t
 block_quads c n (dot t d b) = triples_quads c n t ++ block_quads c (n + length (triples_tokens t) + 1) b
 
+-- those of a block that may be empty
 abbrev pub maybe_block : Setting → ℕ → Option TriplesBlock → List Marked
 maybe_block c n None = []
 maybe_block c n (Some b) = block_quads c n b
 
+-- the quads between '{' and '}', one token further on
 abbrev pub wrapped_quads : Setting → ℕ → WrappedGraph → List Marked
 wrapped_quads c n (wrapped l b r) = maybe_block c (n + 1) b
 
@@ -113,6 +120,7 @@ trig_quads s n (triples2 (collection_triples2 os ps d)) =
     collection_quads (in_default s) n os ++ predicates_quads (in_default s) (n + length (collection_tokens os)) (Some (collection_of os)) ps
 trig_quads s n (graph_word l g w) = wrapped_quads (in_graph s (label_of s g)) (n + 1 + length (label_tokens g)) w
 
+-- the quads of a statement of Turtle, which are in the default graph, or of a block of TriG
 abbrev pub body_quads : (form : DocForm) → InForce → ℕ → Body form → List Marked
 body_quads Turtle s n b = triples_quads (in_default s) n b.triples
 body_quads TriG s n b = trig_quads s n b

@@ -28,14 +28,17 @@ use Rattle.rdf_trig.specs.Machine.{by_use}
 use Rattle.rdf_trig.specs.States.{name_at, use_at, mode_at, outer_of, place_of, semi_at}
 use Rattle.rdf_trig.specs.Scopes.{IsAdmitted, IsDenied, Names, Unnamed, Based, Binding, NotBinding, SameScope, LooksUp, LooksUpNone}
 
+-- a reference depends on the base alone, on which such scopes agree
 reference_same : (s t : InForce) (l : Leaf) → SameScope s t → reference_in s l ≡ reference_in t l
 unfolding reference_in
 reference_same s t l e = ap (λ b. resolved b (iri_of l)) e.base
 
+-- a prefixed name stands for the same IRI in both, so the machine's scope may be used for the reader's
 name_same : (s t : InForce) (l : Leaf) → SameScope s t → name_in s l ≡ name_in t l
 unfolding name_in
 name_same s t l e = ap (option_map (λ x. x ++ local_of l)) (e.bound (prefix_of l))
 
+-- whether a prefix would be one too many depends on the look-up and the count alone
 full_same : (s t : InForce) (p : List ℕ) → SameScope s t → is_full s p ≡ is_full t p
 unfolding is_full
 full_same s t p e =
@@ -43,6 +46,7 @@ full_same s t p e =
     ∙ (ap (λ x. not (is_some (bound_to t.bindings p)) && nat_le x.bindings (length s.bindings)) e.limits
     ∙ ap (λ n. not (is_some (bound_to t.bindings p)) && nat_le t.limits.bindings n) e.count)
 
+-- what any token names is the same in both scopes
 name_at-same : (s t : InForce) (k : Kind) (l : Leaf) → SameScope s t → name_at s k l ≡ name_at t k l
 name_at-same s t IriRef l e = reference_same s t l e
 name_at-same s t PnameNs l e = name_same s t l e
@@ -55,9 +59,11 @@ use_at-same s t PnameNs l e = ap stands (name_same s t l e)
 use_at-same s t PnameLn l e = ap stands (name_same s t l e)
 use_at-same s t k l e = refl
 
+-- what is allowed under equal limits is allowed: it carries a fact on the reader's scope over to the machine's
 passes_at : (a b : Sizes) (k : Kind) (u v : Use) → a ≡ b → u ≡ v → IsAdmitted b k v → IsAdmitted a k u
 passes_at a b k u v e f p = subst (λ x. IsAdmitted x k u) (sym e) (subst (IsAdmitted b k) (sym f) p)
 
+-- what is refused under equal limits is refused: it carries a refusal of the reader's scope over to the machine's
 stops_at : (a b : Sizes) (k : Kind) (u v : Use) (r : StepFault) → a ≡ b → u ≡ v → IsDenied b k v r → IsDenied a k u r
 stops_at a b k u v r e f p = subst (λ x. IsDenied x k u r) (sym e) (subst (λ x. IsDenied b k x r) (sym f) p)
 
@@ -68,22 +74,26 @@ Ordinary (M.WantPrefixIri w p) = ⊥
 Ordinary (M.WantBaseIri w) = ⊥
 Ordinary m = Unit {0}
 
+-- what the reader looked up in its own scope holds in the machine's
 looks_same : (s t : InForce) (k : Kind) (l : Leaf) (i : Option (List ℕ)) → SameScope s t → Names t k l i →
     (name_at s k l ≡ i) × IsAdmitted s.limits k (use_at s k l)
 looks_same s t k l i e n = (name_at-same s t k l e ∙ n.name, passes_at s.limits t.limits k (use_at s k l) (use_at t k l) e.limits (use_at-same s t k l e) n.admitted)
 
+-- outside of directives a look-up in the reader's scope is what the machine expects, and no scope changes
 looks_ordinary : (s t : InForce) (m : M.Mode) (k : Kind) (l : Leaf) (i : Option (List ℕ)) → Ordinary m → SameScope s t → Names t k l i → LooksUp s m k l i t
 looks_ordinary s t (M.WantPrefix w) k l i o e n = absurd o
 looks_ordinary s t (M.WantPrefixIri w p) k l i o e n = absurd o
 looks_ordinary s t (M.WantBaseIri w) k l i o e n = absurd o
 looks_ordinary s t m k l i o e n = let h = looks_same s t k l i e n in record { admitted = h.1; name = h.0; named = n.named; scope = e }
 
+-- outside of directives a look-up that failed is one that the machine refuses for the same reason
 none_ordinary : (s t : InForce) (m : M.Mode) (k : Kind) (l : Leaf) (r : StepFault) → Ordinary m → SameScope s t → Unnamed t k l r → LooksUpNone s m k l r
 none_ordinary s t (M.WantPrefix w) k l r o e n = absurd o
 none_ordinary s t (M.WantPrefixIri w p) k l r o e n = absurd o
 none_ordinary s t (M.WantBaseIri w) k l r o e n = absurd o
 none_ordinary s t m k l r o e n = stops_at s.limits t.limits k (use_at s k l) (use_at t k l) r e.limits (use_at-same s t k l e) n
 
+-- what comes after a subject is no directive
 subject_ordinary : (form : DocForm) (v : M.Level) (x : Option term.Subject) → Ordinary (M.after_subject form v x)
 subject_ordinary TriG M.Top x = tt
 subject_ordinary TriG M.InBlock x = tt
@@ -94,12 +104,14 @@ semi_ordinary : (p : M.Place) → Ordinary (semi_at p)
 semi_ordinary (M.Listed s p a) = tt
 semi_ordinary (M.InCells first cell u) = tt
 
+-- no mode of a statement is in a directive, so that one lemma serves all of them
 mode_ordinary : {A : Type 0} (form : DocForm) (v : M.Level) (f : Frame A) (u : M.Up) (m : Mode A) → ((o : Outer A) → m ≡ mode.Outer o → ⊥) → Ordinary (mode_at form v f u m)
 mode_ordinary form v f u (mode.Outer o) n = absurd (n o refl)
 mode_ordinary form v f u (mode.AfterSubject s) n = subject_ordinary form v _
 mode_ordinary form v f u mode.Semicolon n = semi_ordinary (place_of v f u)
 mode_ordinary form v f u m n = tt
 
+-- outside of statements only the three modes that wait for a directive's parts are not ordinary
 outer_ordinary : {A : Type 0} (o : Outer A) → ((w : Spelling) → o ≡ outer.WantPrefix w → ⊥) →
     ((w : Spelling) (p : _) → o ≡ outer.WantPrefixIri w p → ⊥) → ((w : Spelling) → o ≡ outer.WantBaseIri w → ⊥) → Ordinary (outer_of o)
 outer_ordinary (outer.WantPrefix w) a b c = absurd (a w refl)
@@ -107,12 +119,14 @@ outer_ordinary (outer.WantPrefixIri w p) a b c = absurd (b w p refl)
 outer_ordinary (outer.WantBaseIri w) a b c = absurd (c w refl)
 outer_ordinary o a b c = tt
 
+-- in a statement, whatever frames are open, a look-up that succeeds is the machine's
 pub mode_looks : {A : Type 0} (m : Mode A) (s t : InForce) (k : Kind) (l : Leaf) (r : Result (Option (List ℕ)) StepFault) →
     ((o : Outer A) → m ≡ mode.Outer o → ⊥) →
     IfOk r (λ i. Names t k l i) → IfOk r (λ i. (form : DocForm) (v : M.Level) (f : Frame A) (u : M.Up) (s : InForce) → SameScope s t → LooksUp s (mode_at form v f u m) k l i t)
 mode_looks m s t k l (Ok i) n h = λ form v f u s e. looks_ordinary s t (mode_at form v f u m) k l i (mode_ordinary form v f u m n) e h
 mode_looks m s t k l (Err r) n h = tt
 
+-- in a statement, whatever frames are open, a look-up that fails is the machine's
 pub mode_none : {A : Type 0} (m : Mode A) (s t : InForce) (k : Kind) (l : Leaf) (r : Result (Option (List ℕ)) StepFault) →
     ((o : Outer A) → m ≡ mode.Outer o → ⊥) →
     IfErr r (λ f. Unnamed t k l f) → IfErr r (λ e. (form : DocForm) (v : M.Level) (f : Frame A) (u : M.Up) (s : InForce) → SameScope s t →
@@ -120,6 +134,7 @@ pub mode_none : {A : Type 0} (m : Mode A) (s t : InForce) (k : Kind) (l : Leaf) 
 mode_none m s t k l (Ok i) n h = tt
 mode_none m s t k l (Err r) n h = λ form v f u s e. none_ordinary s t (mode_at form v f u m) k l r (mode_ordinary form v f u m n) e h
 
+-- outside of statements and of directives a look-up that succeeds is the machine's
 pub outer_looks : {A : Type 0} (o : Outer A) (t : InForce) (k : Kind) (l : Leaf) (r : Result (Option (List ℕ)) StepFault) →
     ((w : Spelling) → o ≡ outer.WantPrefix w → ⊥) → ((w : Spelling) (p : _) → o ≡ outer.WantPrefixIri w p → ⊥) →
     ((w : Spelling) → o ≡ outer.WantBaseIri w → ⊥) →
@@ -127,6 +142,7 @@ pub outer_looks : {A : Type 0} (o : Outer A) (t : InForce) (k : Kind) (l : Leaf)
 outer_looks o t k l (Ok i) a b c h = λ s e. looks_ordinary s t (outer_of o) k l i (outer_ordinary o a b c) e h
 outer_looks o t k l (Err r) a b c h = tt
 
+-- outside of statements and of directives a look-up that fails is the machine's
 pub outer_none : {A : Type 0} (o : Outer A) (t : InForce) (k : Kind) (l : Leaf) (r : Result (Option (List ℕ)) StepFault) →
     ((w : Spelling) → o ≡ outer.WantPrefix w → ⊥) → ((w : Spelling) (p : _) → o ≡ outer.WantPrefixIri w p → ⊥) →
     ((w : Spelling) → o ≡ outer.WantBaseIri w → ⊥) →
@@ -138,20 +154,24 @@ outer_none o t k l (Err r) a b c h = λ s e. none_ordinary s t (outer_of o) k l 
 pub prefix_looks : (s t : InForce) (w : M.Spelling) (k : Kind) (l : Leaf) (i : Option (List ℕ)) → SameScope s t → LooksUp s (M.WantPrefix w) k l i t
 prefix_looks s t w k l i e = record { admitted = λ a. refl; name = tt; named = tt; scope = e }
 
+-- where a directive waits for its IRIREF, any other token has nothing to look up
 pub other_binding : (s t : InForce) (w : M.Spelling) (p : List ℕ) (k : Kind) (l : Leaf) (i : Option (List ℕ)) → (k ≡ IriRef → ⊥) → SameScope s t →
     LooksUp s (M.WantPrefixIri w p) k l i t
 other_binding s t w p IriRef l i n e = absurd (n refl)
 other_binding s t w p k l i n e = record { admitted = λ a. refl; name = tt; named = tt; scope = e }
 
+-- where a base directive waits for its IRIREF, any other token has nothing to look up
 pub other_base : (s t : InForce) (w : M.Spelling) (k : Kind) (l : Leaf) (i : Option (List ℕ)) → (k ≡ IriRef → ⊥) → SameScope s t →
     LooksUp s (M.WantBaseIri w) k l i t
 other_base s t w IriRef l i n e = absurd (n refl)
 other_base s t w k l i n e = record { admitted = λ a. refl; name = tt; named = tt; scope = e }
 
+-- scopes that agree do so after both have taken a base
 based_same : (s t : InForce) (o : Option (List ℕ)) → SameScope s t → SameScope (with_base s o) (with_base t o)
 based_same s t None e = e
 based_same s t (Some i) e = record { base = refl; limits = e.limits; bound = e.bound; count = e.count }
 
+-- a base that the reader has taken is the one that the machine takes
 pub base_looks : (s t n : InForce) (w : M.Spelling) (l : Leaf) (i : Option (List ℕ)) → SameScope s t → Based t l n → LooksUp s (M.WantBaseIri w) IriRef l i n
 base_looks s t n w l i e b =
     let r = reference_same s t l e in
@@ -162,6 +182,7 @@ base_looks s t n w l i e b =
       scope = subst (λ x. SameScope (with_base s x) n) (sym r) (subst (SameScope (with_base s (reference_in t l))) (sym b.scope) (based_same s t (reference_in t l) e));
     }
 
+-- a base that the reader cannot take is refused by the machine for the same reason
 pub base_none : (s t : InForce) (w : M.Spelling) (l : Leaf) (r : StepFault) → SameScope s t → Unnamed t IriRef l r → LooksUpNone s (M.WantBaseIri w) IriRef l r
 base_none s t w l r e n = stops_at s.limits t.limits IriRef _ _ r e.limits (ap stands (reference_same s t l e)) n
 
@@ -169,6 +190,7 @@ base_none s t w l r e n = stops_at s.limits t.limits IriRef _ _ r e.limits (ap s
 equal-swapped : (v w : List ℕ) → equal v w ≡ equal w v
 equal-swapped v w = same_test _ _ (λ h. equal-from w v (sym (equal-true v w h))) (λ h. equal-from v w (sym (equal-true w v h)))
 
+-- after a binding the prefix has its new IRI, and every other prefix what it had
 bound_to-bind : (es : List (List ℕ × List ℕ)) (p i q : List ℕ) → bound_to (bind es p i) q ≡ cond (equal p q) (Some i) (bound_to es q)
 bound_to-bind [] p i q = ap (λ b. cond b (Some i) None) (equal-swapped q p)
 bound_to-bind (e ∷ es) p i q =
@@ -195,6 +217,7 @@ bound_to-bind (e ∷ es) p i q =
     (cases_Bool (equal p q))))
     (cases_Bool (equal p e.0))
 
+-- a binding makes the list one longer where the prefix is new, and keeps its length where it is not
 length-bind : (es : List (List ℕ × List ℕ)) (p i : List ℕ) → length (bind es p i) ≡ length es + cond (is_some (bound_to es p)) 0 1
 length-bind [] p i = refl
 length-bind (e ∷ es) p i =
@@ -210,6 +233,7 @@ length-bind (e ∷ es) p i =
     omega (arith, a, b, c))
     (cases_Bool (equal p e.0))
 
+-- scopes that agree do so after a binding, though the code may keep the prefixes in another order
 bound_same : (s t n : InForce) (p i : List ℕ) → SameScope s t → Binds t p i n → SameScope (with_binding s p (Some i)) n
 bound_same s t n p i e b = record {
   base = e.base ∙ sym b.base;
@@ -220,9 +244,11 @@ bound_same s t n p i e b = record {
       ∙ (ap (λ o. length t.bindings + cond (is_some o) 0 1) (e.bound p) ∙ sym b.count));
 }
 
+-- what a directive's IRIREF stands for is the same in both scopes
 binds-same : (s t : InForce) (p : List ℕ) (l : Leaf) → SameScope s t → binds (is_full s p) (reference_in s l) ≡ binds (is_full t p) (reference_in t l)
 binds-same s t p l e = ap (λ x. binds x (reference_in s l)) (full_same s t p e) ∙ ap (binds (is_full t p)) (reference_same s t l e)
 
+-- a binding that the reader has made is the one that the machine makes
 pub binding_looks : (s t n : InForce) (w : M.Spelling) (p : List ℕ) (l : Leaf) (i : Option (List ℕ)) → SameScope s t → Binding t p l n →
     LooksUp s (M.WantPrefixIri w p) IriRef l i n
 binding_looks s t n w p l i e b = record {
@@ -232,6 +258,7 @@ binding_looks s t n w p l i e b = record {
   scope = subst (λ x. SameScope (with_binding s p x) n) (sym (reference_same s t l e ∙ b.reference)) (bound_same s t n p b.iri e b.binds);
 }
 
+-- a binding that the reader cannot make is refused by the machine for the same reason
 pub binding_none : (s t : InForce) (w : M.Spelling) (p : List ℕ) (l : Leaf) (r : StepFault) → SameScope s t → NotBinding t p l r →
     LooksUpNone s (M.WantPrefixIri w p) IriRef l r
 binding_none s t w p l r e n = stops_at s.limits t.limits IriRef _ _ r e.limits (binds-same s t p l e) n
@@ -241,6 +268,7 @@ pub picked_ok : {X E W : Type 0} (P : W → X → Type 0) (r : Result X E) (w : 
 picked_ok P (Ok x) w h = h w
 picked_ok P (Err e) w h = tt
 
+-- what holds of an error for all scopes holds for one of them
 pub picked_err : {X E W : Type 0} (P : W → E → Type 0) (r : Result X E) (w : W) → IfErr r (λ e. (w : W) → P w e) → IfErr r (λ e. P w e)
 picked_err P (Ok x) w h = tt
 picked_err P (Err e) w h = h w

@@ -40,19 +40,23 @@ use Rattle.rdf_trig.proofs.code.PutsInRow.{begins_all}
 abbrev Goes : Reply → Type 0
 Goes reply = (u : Use) × (early now : Option Quad) × (c : Setting) × (m : M.Mode) × (reply ≡ Go u early now c m)
 
+-- a reply that is not No has the parts of one that accepts
 goes : (reply : Reply) → is_go reply ≡ true → Goes reply
 goes No h = absurd (false≢true h)
 goes (Go u early now c m) h = (u, early, now, c, m, refl)
 
+-- where the grammar has no reply, the answer is the syntax error, whatever the limits say
 stays_no : (sizes : Sizes) (n : M.State) (k : Kind) (w : Option Quad) (reply : Reply) → is_go reply ≡ false →
     M.answer sizes n k w reply ≡ refuses refusal.unexpected
 stays_no sizes n k w No h = refl
 stays_no sizes n k w (Go u early now c m) h = absurd (false≢true (sym h))
 
+-- a token for which the grammar has no reply is refused as unexpected
 pub not_allowed : (form : DocForm) (n : M.State) (k : Kind) (l : Leaf) → is_go (M.step form n.setting n.mode k l) ≡ false →
     M.accept form n k l ≡ refuses refusal.unexpected
 not_allowed form n k l h = stays_no n.setting.scope.limits n k (M.waiting n.setting n.mode k l) (M.step form n.setting n.mode k l) h
 
+-- the depth can be counted after a token that the grammar allows: no overflow at '[' or '(', and none is closed that is not open
 pub may_count : (form : DocForm) (c : Setting) (m : M.Mode) (k : Kind) (l : Leaf) (d : ℕ) → is_go (M.step form c m k l) ≡ true → d ≡ M.depth m →
     (M.deepens k ≡ true → d + 1 < 2 ^ 64) → DepthMay k d
 may_count form c m OpenBracket l d g e h = h refl
@@ -71,9 +75,11 @@ may_count form c m k l d g e h = tt
 abbrev quads_out : M.State → Kind → Leaf → List Quad
 quads_out n k l = n.held ++ kept (M.waiting n.setting n.mode k l) []
 
+-- the machine's state after a reply, with the quads that it holds back
 abbrev behind : Option Quad → Option Quad → Setting → M.Mode → M.State
 behind early now c m = record { setting = c; mode = m; held = kept early (kept now []) }
 
+-- the answer to an allowed token is decided by what the token stands for alone
 answer_is : (form : DocForm) (n : M.State) (k : Kind) (l : Leaf) (u : Use) (early now : Option Quad) (c : Setting) (m : M.Mode) → May form n k l →
     M.step form n.setting n.mode k l ≡ Go u early now c m → M.accept form n k l ≡ by_use n.setting.scope.limits k u
     (accepts (quads_out n k l) (behind early now c m))
@@ -99,6 +105,7 @@ stops_answer form n k l e may s =
     let same = step_use form n.setting n.mode k l r.0 r.1 r.2 r.3 r.4 r.5 in
     answer_is form n k l r.0 r.1 r.2 r.3 r.4 may r.5 ∙ (ap (λ u. by_use n.setting.scope.limits k u (accepts (quads_out n k l) o)) same ∙ s (accepts (quads_out n k l) o))
 
+-- a look-up that failed leaves the sink as it was, and the machine refuses for that reason
 pub fails_stops : {S : Type 0} (takes leaves : S → Quad → S → Type 0) (failed : S → Bool) (form : DocForm) (n : M.State) (k : Kind) (l : Leaf)
     (r : StepFault) (sink : S) → failed sink ≡ false →
     May form n k l → LooksUpNone n.setting.scope n.mode k l r → Fails takes leaves failed r (M.accept form n k l) sink sink
@@ -109,6 +116,7 @@ fails_stops takes leaves failed form n k l fault.TooManyBindings sink live may s
 fails_stops takes leaves failed form n k l fault.Memory sink live may s = (([], answered (M.accept form n k l), refl, refl), live)
 fails_stops takes leaves failed form n k l r sink live may s = absurd s
 
+-- a put that failed is a failure of the step, with some of the quads that were due put
 pub fails_gave : {S : Type 0} (takes leaves : S → Quad → S → Type 0) (failed : S → Bool) (form : DocForm) (n : M.State) (k : Kind) (l : Leaf)
     (r : StepFault) (sink new : S) →
     May form n k l → IsAdmitted n.setting.scope.limits k (use_in n.setting.scope n.mode k l) → GaveUp takes leaves failed r (quads_out n k l) sink new →
@@ -119,6 +127,7 @@ fails_gave takes leaves failed form n k l fault.Sink sink new may p h =
     let a = passed form n k l may p in (subst (λ x. Begins takes leaves (answered x) sink new) (sym a.1) h.0, h.1)
 fails_gave takes leaves failed form n k l r sink new may p h = absurd h
 
+-- an error after all quads were put is one that the contract of the step allows
 pub fails_stays : {S : Type 0} (takes leaves : S → Quad → S → Type 0) (failed : S → Bool) (form : DocForm) (n : M.State) (k : Kind) (l : Leaf)
     (r : StepFault) (sink new : S) →
     May form n k l → IsAdmitted n.setting.scope.limits k (use_in n.setting.scope n.mode k l) → Appends takes sink (quads_out n k l) new →
@@ -151,11 +160,13 @@ depth_same CloseBracket old new was is e f g = omega (arith, e, f, g)
 depth_same CloseParen old new was is e f g = omega (arith, e, f, g)
 depth_same k old new was is e f g = f ∙ (e ∙ sym g)
 
+-- a prefix that is no longer than its token keeps within the limit of tokens
 prefix_kept : {A : Type 0} (a b : ℕ) (form : DocForm) (v : Level A) (f : Frame A) (fs : List (Frame A)) (m : Mode A) → a ≤ b →
     ShortPrefix a (mode_of form v f fs m) → PrefixFits b m
 prefix_kept a b form v f fs (mode.Outer (outer.WantPrefixIri w p)) h s = omega (arith, h, s)
 prefix_kept a b form v f fs m h s = tt
 
+-- the reader's count of brackets and the length of its prefix stay right after a step
 pub keeps_moved : {A : Type 0} (form : DocForm) (s : InForce) (sizes : Sizes) (old r : State A) (k : Kind) (l : Leaf) (u : Use) (t : InForce) →
     Keeps form sizes old → byte_len l.text ≤ 4 * sizes.token →
     M.step form (state_of form s old).setting (state_of form s old).mode k l ≡ moved form t u r → DepthMoves k old.depth r.depth → Keeps form sizes r
@@ -194,17 +205,21 @@ bound_limits : (s : InForce) (p : List ℕ) (o : Option (List ℕ)) → (with_bi
 bound_limits s p None = refl
 bound_limits s p (Some i) = refl
 
+-- a base changes no limit
 based_limits : (s : InForce) (o : Option (List ℕ)) → (with_base s o).limits ≡ s.limits
 based_limits s None = refl
 based_limits s (Some i) = refl
 
+-- no token changes the limits
 scope_in-limits : (s : InForce) (m : M.Mode) (k : Kind) (l : Leaf) → (scope_in s m k l).limits ≡ s.limits
 scope_in-limits s (M.WantPrefixIri w p) IriRef l = bound_limits s p (reference_in s l)
 scope_in-limits s (M.WantBaseIri w) IriRef l = based_limits s (reference_in s l)
 scope_in-limits s m k l = refl
 
+-- the limits are the same after a look-up, which the reader's invariant needs
 pub limits_kept : (s t : InForce) (m : M.Mode) (k : Kind) (l : Leaf) (i : Option (List ℕ)) → LooksUp s m k l i t → t.limits ≡ s.limits
 limits_kept s t m k l i h = sym h.scope.limits ∙ scope_in-limits s m k l
 
+-- a scope agrees with itself
 pub same_scope : (s : InForce) → SameScope s s
 same_scope s = record { base = refl; limits = refl; bound = λ q. refl; count = refl }

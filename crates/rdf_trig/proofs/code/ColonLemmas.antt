@@ -9,15 +9,19 @@ use lib.Utf8.{scalar, scalars}
 use Rattle.rdf_iri.specs.Texts.{before, after}
 use Rattle.rdf_iri.proofs.Encoded.{before-bytes, after-bytes}
 
+-- ':' as a byte, by which the code looks for the end of a prefix
 abbrev is_colon : ℕ → Bool
 is_colon b = b == 58
 
+-- a ':' at the front is at place 0
 at_colon : (x : ℕ) (w : List ℕ) → (x == 58) ≡ true → position_or_len is_colon (x ∷ w) ≡ 0
 at_colon x w t = ap (λ b. cond (not b) (1 + position_or_len is_colon w) 0) t
 
+-- a front that is no ':' puts the place one further
 past_colon : (x : ℕ) (w : List ℕ) → (x == 58) ≡ false → position_or_len is_colon (x ∷ w) ≡ suc (position_or_len is_colon w)
 past_colon x w t = let e : position_or_len is_colon (x ∷ w) ≡ 1 + position_or_len is_colon w = ap (λ b. cond (not b) (1 + position_or_len is_colon w) 0) t in omega (arith, e)
 
+-- what the code takes as the prefix is what the definition takes
 before_is : (w : List ℕ) → before_first is_colon w ≡ before 58 w
 before_is [] = refl
 before_is (x ∷ w) =
@@ -26,6 +30,7 @@ before_is (x ∷ w) =
     (λ f. ap (λ n. take n (x ∷ w)) (past_colon x w f) ∙ (ap (λ v. x ∷ v) (before_is w) ∙ sym (cond-false (x == 58) [] (x ∷ before 58 w) f)))
     (cases_Bool (x == 58))
 
+-- what the code takes as the local part is what the definition takes, where there is a ':'
 after_is : (w : List ℕ) → position_or_len is_colon w < length w → after 58 w ≡ Some (after_first is_colon w)
 after_is [] h = absurd (omega (arith, h))
 after_is (x ∷ w) h =
@@ -37,6 +42,7 @@ after_is (x ∷ w) h =
     cond-false (x == 58) (Some w) (after 58 w) f ∙ (after_is w less ∙ ap Some (sym (ap (λ m. drop m (x ∷ w)) n))))
     (cases_Bool (x == 58))
 
+-- without ':' all of the text stands before it, and there is no local part
 after_none : (w : List ℕ) → position_or_len is_colon w ≡ length w → (before_first is_colon w ≡ w) × (after 58 w ≡ None)
 after_none [] h = (refl, refl)
 after_none (x ∷ w) h =
@@ -48,6 +54,7 @@ after_none (x ∷ w) h =
     (ap (λ n. take n (x ∷ w)) (past_colon x w f) ∙ ap (λ v. x ∷ v) r.0, cond-false (x == 58) (Some w) (after 58 w) f ∙ r.1))
     (cases_Bool (x == 58))
 
+-- the prefix of a text of characters consists of characters, so it may be encoded
 scalars-before : (c : ℕ) (w : List ℕ) → scalars w ≡ true → scalars (before c w) ≡ true
 scalars-before c [] h = refl
 scalars-before c (x ∷ w) h =
@@ -57,6 +64,7 @@ scalars-before c (x ∷ w) h =
     (λ f. ap scalars (cond-false (x == c) [] (x ∷ before c w) f) ∙ and_from (scalar x) (scalars (before c w)) p.0 (scalars-before c w p.1))
     (cases_Bool (x == c))
 
+-- the local part of a text of characters consists of characters, so it may be encoded
 scalars-after : (c : ℕ) (w v : List ℕ) → scalars w ≡ true → after c w ≡ Some v → scalars v ≡ true
 scalars-after c [] v h e = absurd (cc)
 scalars-after c (x ∷ w) v h e =
@@ -72,6 +80,7 @@ front_chars bs front u e =
     let cut : before 58 bs ≡ encode_utf8_all (before 58 (chars bs)) = ap (before 58) (sym (encodes-chars bs u)) ∙ (before-bytes 58 (chars bs) (omega arith)).0 in
     ap chars (e ∙ (before_is bs ∙ cut)) ∙ chars-encodes (before 58 (chars bs)) (scalars-before 58 (chars bs) (scalars-chars bs u))
 
+-- a cut at ':' is the same in bytes and in characters, since ':' is ASCII
 after_chars : (bs : List ℕ) → IsUtf8 bs → after 58 bs ≡ option_map encode_utf8_all (after 58 (chars bs))
 after_chars bs u = ap (after 58) (sym (encodes-chars bs u)) ∙ after-bytes 58 (chars bs) (omega arith)
 

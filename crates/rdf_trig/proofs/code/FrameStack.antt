@@ -5,10 +5,12 @@ use Rattle.rdf_trig.specs.declared.state.Frame.{Frame}
 use Rattle.rdf_trig.specs.Machine as M
 use Rattle.rdf_trig.specs.States.{place_of, up_from, up_of}
 
+-- the last frame of the stack is the innermost place
 up_from-append : {A : Type 0} (v : M.Level) (u : M.Up) (fs : List (Frame A)) (f : Frame A) → up_from v u (fs ++ f ∷ []) ≡ M.At (place_of v f (up_from v u fs))
 up_from-append v u [] f = refl
 up_from-append v u (g ∷ fs) f = up_from-append v (M.At (place_of v g u)) fs f
 
+-- with one frame more a bracket stands for the object at that frame's place
 pub up_of-append : {A : Type 0} (v : M.Level) (fs : List (Frame A)) (f : Frame A) → up_of v (fs ++ f ∷ []) ≡ M.At (place_of v f (up_of v fs))
 up_of-append v fs f = up_from-append v (M.Subject v) fs f
 
@@ -16,6 +18,7 @@ up_of-append v fs f = up_from-append v (M.Subject v) fs f
 pub stack_steps : {A : Type 0} (v : M.Level) (gs fs : List (Frame A)) (f : Frame A) → gs ≡ fs ++ f ∷ [] → up_of v gs ≡ M.At (place_of v f (up_of v fs))
 stack_steps v gs fs f e = ap (up_of v) e ∙ up_of-append v fs f
 
+-- a stack that is not empty ends in a place of its last frame, which the code takes off
 pub up_last : {A : Type 0} (v : M.Level) (fs : List (Frame A)) (u : M.Up) (f : Frame A) → slice_get fs (length fs - 1) ≡ Some f →
     (w : M.Up) × (up_from v u fs ≡ M.At (place_of v f w))
 up_last v [] u f e = absurd (cc)

@@ -25,6 +25,7 @@ use Rattle.rdf_trig.specs.Scopes.{IsReference, IsPrefixed, step_fault, IsAdmitte
 stands_passes : (sizes : Sizes) (k : Kind) (o : Option (List ℕ)) (i : List ℕ) → o ≡ Some i → byte_len i ≤ sizes.iri → IsAdmitted sizes k (stands o)
 stands_passes sizes k o i e h a = subst (λ x. by_use sizes k (stands x) a ≡ a) (sym e) (cond-false (too_long sizes i) _ _ (le-ltb sizes.iri (byte_len i) h))
 
+-- an IRI that is too long is refused as such, whatever the grammar says
 stands_long : (sizes : Sizes) (k : Kind) (o : Option (List ℕ)) (i : List ℕ) → o ≡ Some i → sizes.iri < byte_len i → (a : M.Answer) →
     by_use sizes k (stands o) a ≡ refuses refusal.iri_too_long
 stands_long sizes k o i e h a = subst (λ x. by_use sizes k (stands x) a ≡ refuses refusal.iri_too_long) (sym e) (cond-true (too_long sizes i) _ _ (lt-ltb sizes.iri (byte_len i) h))
@@ -34,15 +35,18 @@ reference_is : (s : InForce) (l : Leaf) (i : List ℕ) → Resolves s.base (iri_
 unfolding reference_in
 reference_is s l i r = resolves-only s.base (iri_of l) i r
 
+-- a reference without scheme has no IRI where there is no base
 reference_none : (s : InForce) (l : Leaf) → (has_scheme (iri_of l) ≡ false) × (s.base ≡ None) → reference_in s l ≡ None
 unfolding reference_in resolved
 reference_none s l h = cond-false (has_scheme (iri_of l)) _ _ h.0 ∙ ap (λ b. based b (iri_of l)) h.1
 
+-- a reference that the scope resolved within the limit is what the token stands for
 pub reference_names : (s : InForce) (l : Leaf) (w i : List ℕ) → w ≡ iri_of l → ResolvesHere s w i → Names s IriRef l (Some i)
 reference_names s l w i e r =
     let is = reference_is s l i (subst (λ x. Resolves s.base x i) e r.0) in
     record { name = is; named = tt; admitted = stands_passes s.limits IriRef (reference_in s l) i is r.1 }
 
+-- why the scope did not resolve a reference is why the machine refuses its token
 pub reference_stops : (s : InForce) (l : Leaf) (w : List ℕ) (f : IriFault) → w ≡ iri_of l → UnresolvedHere s w f →
     IsDenied s.limits IriRef (stands (reference_in s l)) (step_fault f)
 reference_stops s l w iri.NoBase e h =
@@ -60,10 +64,12 @@ unfolding name_in
 name_is s l p v i front e f b g =
     ap (option_map (λ x. x ++ local_of l)) (ap (bound_to s.bindings) (sym e) ∙ b) ∙ ap Some (ap (λ x. front ++ x) (sym f) ∙ sym g)
 
+-- a name whose prefix is not bound has no IRI
 name_none : (s : InForce) (l : Leaf) (p : List ℕ) → p ≡ prefix_of l → bound_to s.bindings p ≡ None → name_in s l ≡ None
 unfolding name_in
 name_none s l p e b = ap (option_map (λ x. x ++ local_of l)) (ap (bound_to s.bindings) (sym e) ∙ b)
 
+-- a name that the scope expanded within the limit is what the token stands for
 pub name_names : (s : InForce) (k : Kind) (l : Leaf) (p v i : List ℕ) → IsPrefixed k → p ≡ prefix_of l → v ≡ local_of l → ExpandsHere s p v i →
     Names s k l (Some i)
 name_names s PnameNs l p v i k e f r =
@@ -72,6 +78,7 @@ name_names s PnameLn l p v i k e f r =
     let is = name_is s l p v i r.0.0 e f r.0.1 r.0.2 in record { name = is; named = tt; admitted = stands_passes s.limits PnameLn (name_in s l) i is r.1 }
 name_names s k l p v i h e f r = absurd h
 
+-- why the scope did not expand a name is why the machine refuses its token
 name_stops_at : (s : InForce) (k : Kind) (l : Leaf) (p v : List ℕ) (f : IriFault) → M.unnamed k ≡ refusal.unbound → p ≡ prefix_of l → v ≡ local_of l →
     NotExpanded s p v f →
     IsDenied s.limits k (stands (name_in s l)) (step_fault f)
@@ -81,6 +88,7 @@ name_stops_at s k l p v iri.Memory u e f h = tt
 name_stops_at s k l p v iri.NoBase u e f h = absurd h
 name_stops_at s k l p v iri.TooManyBindings u e f h = absurd h
 
+-- why the scope did not expand a prefixed name is why the machine refuses it
 pub name_stops : (s : InForce) (k : Kind) (l : Leaf) (p v : List ℕ) (f : IriFault) → IsPrefixed k → p ≡ prefix_of l → v ≡ local_of l → NotExpanded s p v f →
     Unnamed s k l (step_fault f)
 name_stops s PnameNs l p v f k e g h = name_stops_at s PnameNs l p v f refl e g h
@@ -102,10 +110,12 @@ room_full s p h = by (bound_to s.bindings p) refl
     by None e = lt-leb s.limits.bindings (length s.bindings) (h e)
     by (Some i) e = refl
 
+-- where the scope has no room for a new prefix, the definition says that it is full
 full_full : (s : InForce) (p : List ℕ) → (bound_to s.bindings p ≡ None) × (s.limits.bindings ≤ length s.bindings) → is_full s p ≡ true
 unfolding is_full
 full_full s p h = ap (λ o. not (is_some o) && nat_le s.limits.bindings (length s.bindings)) h.0 ∙ le-leb s.limits.bindings (length s.bindings) h.1
 
+-- a binding that the scope made is that of the directive
 pub binding_is : (s t : InForce) (p : List ℕ) (l : Leaf) (w : List ℕ) → w ≡ iri_of l → IsBound s p w t → Binding s p l t
 binding_is s t p l w e h =
     let n = reference_names s l w h.0 e h.1 in
@@ -117,6 +127,7 @@ binding_is s t p l w e h =
       binds = h.3;
     }
 
+-- a binding whose reference has no IRI is refused for that reason
 unresolved_stops : (s : InForce) (p : List ℕ) (l : Leaf) (w : List ℕ) (f : IriFault) → w ≡ iri_of l → UnresolvedHere s w f → NotBinding s p l (step_fault f)
 unresolved_stops s p l w iri.NoBase e h =
     λ a. let none = reference_none s l (subst (λ x. (has_scheme x ≡ false) × (s.base ≡ None)) e h) in ap (λ x. by_use s.limits IriRef (binds (is_full s p) x) a) none
@@ -127,6 +138,7 @@ unresolved_stops s p l w iri.Memory e h = tt
 unresolved_stops s p l w iri.Unbound e h = absurd h
 unresolved_stops s p l w iri.TooManyBindings e h = absurd h
 
+-- why the scope made no binding is why the machine refuses the IRIREF
 pub binding_stops : (s : InForce) (p : List ℕ) (l : Leaf) (w : List ℕ) (f : IriFault) → w ≡ iri_of l → NotBound s p w f → NotBinding s p l (step_fault f)
 binding_stops s p l w iri.TooManyBindings e h =
     let n = reference_names s l w h.0 e h.1 in
@@ -142,15 +154,18 @@ pub reference_at : (s : InForce) (k : Kind) (l : Leaf) (w i : List ℕ) → IsRe
 reference_at s IriRef l w i h e r = reference_names s l w i e r
 reference_at s k l w i h e r = absurd h
 
+-- a reference that stands for nothing is refused, by the name that the reader has for the reason
 pub reference_not : (s : InForce) (k : Kind) (l : Leaf) (w : List ℕ) (f : IriFault) (r : StepFault) → IsReference k → w ≡ iri_of l →
     r ≡ step_fault f → UnresolvedHere s w f → Unnamed s k l r
 reference_not s IriRef l w f r h e g u = subst (IsDenied s.limits IriRef (stands (reference_in s l))) (sym g) (reference_stops s l w f e u)
 reference_not s k l w f r h e g u = absurd h
 
+-- a prefixed name that stands for nothing is refused, by the name that the reader has for the reason
 pub name_not : (s : InForce) (k : Kind) (l : Leaf) (p v : List ℕ) (f : IriFault) (r : StepFault) → IsPrefixed k → p ≡ prefix_of l → v ≡ local_of l →
     r ≡ step_fault f → NotExpanded s p v f → Unnamed s k l r
 name_not s k l p v f r h e g i u = subst (Unnamed s k l) (sym i) (name_stops s k l p v f h e g u)
 
+-- a binding that is not made is refused, by the name that the reader has for the reason
 pub binding_not : (s : InForce) (p : List ℕ) (l : Leaf) (w : List ℕ) (f : IriFault) (r : StepFault) → w ≡ iri_of l → r ≡ step_fault f →
     NotBound s p w f → NotBinding s p l r
 binding_not s p l w f r e g u = subst (NotBinding s p l) (sym g) (binding_stops s p l w f e u)

@@ -24,6 +24,7 @@ pub fit_short : (w : List ℕ) → is_fit ShortString w ≡ true → string_valu
 unfolding is_fit
 fit_short w f n = let h : is_some (string_value (inside 1 w)) ≡ true = f in let z : false ≡ true = sym (ap is_some n) ∙ h in cc
 
+-- a fit token of a string with three quotes has a value
 pub fit_long : (w : List ℕ) → is_fit LongString w ≡ true → string_value (inside 3 w) ≡ None → ⊥
 unfolding is_fit
 fit_long w f n = let h : is_some (string_value (inside 3 w)) ≡ true = f in let z : false ≡ true = sym (ap is_some n) ∙ h in cc
@@ -35,6 +36,7 @@ u_bools true false true k h = refl
 u_bools true false false k h = absurd (false≢true h)
 u_bools false b u k h = absurd (false≢true h)
 
+-- PN_CHARS of Turtle is in that of the line formats, as truth values
 char_bools : (s b u k v w x y z : Bool) → (s && ((b || u) || v || w || x || y || z)) ≡ true → (s && ((b || u || k) || v || w || x || y || z)) ≡ true
 char_bools true true u k v w x y z h = refl
 char_bools true false true k v w x y z h = refl
@@ -42,11 +44,13 @@ char_bools true false false true v w x y z h = refl
 char_bools true false false false v w x y z h = h
 char_bools false b u k v w x y z h = absurd (false≢true h)
 
+-- the class that N-Triples has in place of one of Turtle: only the names of labels differ, by ':'
 abbrev wide_class : Class → Class
 wide_class (pn_u d) = pn_u Lines
 wide_class (pn_char d) = pn_char Lines
 wide_class k = k
 
+-- a member of a class of Turtle is in that of N-Triples
 wider : (k : Class) (c : ℕ) → has k c ≡ true → has (wide_class k) c ≡ true
 unfolding has
 wider (pn_u Turtle) c h = u_bools (scalar c) (is_base c) (c == 95) (c == 58) h
@@ -55,6 +59,7 @@ wider (pn_char Turtle) c h = char_bools (scalar c) (is_base c) (c == 95) (c == 5
 wider (pn_char Lines) c h = h
 wider k c h = h
 
+-- an expression with the classes of N-Triples
 abbrev wide : Regex → Regex
 wide nothing = nothing
 wide empty = empty
@@ -63,10 +68,12 @@ wide (r · s) = wide r · wide s
 wide (r ∣ s) = wide r ∣ wide s
 wide (many r) = many (wide r)
 
+-- what holds of each part of a repetition carries over
 all_wide : (P Q : List ℕ → Type 0) → ((w : List ℕ) → P w → Q w) → (ws : List (List ℕ)) → AllByRecursion P ws → AllByRecursion Q ws
 all_wide P Q f [] a = tt
 all_wide P Q f (w ∷ ws) a = (f w a.0, all_wide P Q f ws a.1)
 
+-- a text of an expression is one of the wider expression
 matches-wide : (r : Regex) (w : List ℕ) → Matches r w → Matches (wide r) w
 matches-wide nothing w m = m
 matches-wide empty w m = m
@@ -75,6 +82,7 @@ matches-wide (r · s) w m = (m.0, m.1, matches-wide r m.0 m.2, matches-wide s m.
 matches-wide (r ∣ s) w m = ⊎_elim (λ x. inl (matches-wide r w x)) (λ x. inr (matches-wide s w x)) m
 matches-wide (many r) w m = (m.0, all_wide (Matches r) (Matches (wide r)) (matches-wide r) m.0 m.1, m.2)
 
+-- a label of Turtle is one of N-Triples, and can be written as such
 pub label_in : (w : List ℕ) → Shape Turtle LabelNode w → IsLabel (drop 2 w)
 unfolding shape
 label_in w m =
@@ -91,37 +99,45 @@ tag_in w m =
     let h = m.0 in
     subst IsTag (sym (ap (drop 1) (h.4 ∙ ap (λ x. x ++ h.1) h.2.2))) h.3
 
+-- the class of one character has that character alone
 the_one : (x c : ℕ) → has (the x) c ≡ true → c ≡ x
 unfolding has
 the_one x c h = eqb-true c x (and_parts (scalar c) (c == x) h).1
 
+-- the expression of a word has that word alone
 spelled_word : (cs w : List ℕ) → Matches (word cs) w → w ≡ cs
 spelled_word [] w m = m
 spelled_word (x ∷ cs) w m =
     m.4 ∙ (ap (λ u. u ++ m.1) m.2.2 ∙ (ap (λ (c : ℕ). c ∷ m.1) (the_one x m.2.0 m.2.1) ∙ ap (λ u. x ∷ u) (spelled_word cs m.1 m.3)))
 
+-- `base` has the form of a language tag
 base_tag : IsTag (codes "base")
 unfolding has
 base_tag = form-matches tag_name (codes "base") refl
 
+-- `prefix` has the form of a language tag
 prefix_tag : IsTag (codes "prefix")
 unfolding has
 prefix_tag = form-matches tag_name (codes "prefix") refl
 
+-- `@base` after a string is a well-formed tag
 base_in : (w : List ℕ) → Shape Turtle AtBase w → IsTag (drop 1 w)
 unfolding shape
 base_in w m = subst (λ x. IsTag (drop 1 x)) (sym (spelled_word (codes "@base") w m)) base_tag
 
+-- `@prefix` after a string is a well-formed tag
 prefix_in : (w : List ℕ) → Shape Turtle AtPrefix w → IsTag (drop 1 w)
 unfolding shape
 prefix_in w m = subst (λ x. IsTag (drop 1 x)) (sym (spelled_word (codes "@prefix") w m)) prefix_tag
 
+-- what may stand as a tag after a string is a well-formed one
 pub spelled_tag : (k : Kind) (w : List ℕ) → SpellsTag k → Shape Turtle k w → IsTag (drop 1 w)
 spelled_tag LangTag w t m = tag_in w m
 spelled_tag AtBase w t m = base_in w m
 spelled_tag AtPrefix w t m = prefix_in w m
 spelled_tag k w t m = absurd t
 
+-- what the scanner gave as a tag after a string is a well-formed tag
 pub token_tag : (t : Given) → SpellsTag t.kind → IsTurtleToken t → IsTag (drop 1 (leaf t).text)
 token_tag t s k = ⊎_elim (λ e. absurd (subst SpellsTag e.0 s)) (λ h. spelled_tag t.kind (leaf t).text s h.0) k
 

@@ -38,6 +38,7 @@ gives_subject TriG M.InBlock x s k l r n y g = g
 gives_subject Turtle M.Top x s k l r n y g = g
 gives_subject Turtle M.InBlock x s k l r n y g = g
 
+-- after a subject a token's IRI is looked up as anywhere in a statement
 pub name_subject : (form : DocForm) (t : M.Level) (x : Option term.Subject) (s : InForce) (k : Kind) (l : Leaf) (i : Option (List ℕ)) →
     NameIn s (M.after_subject form t x) k l i → name_at s k l ≡ i
 name_subject TriG M.Top x s k l i h = h

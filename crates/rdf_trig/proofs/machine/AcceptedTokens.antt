@@ -16,6 +16,7 @@ use Rattle.rdf_trig.proofs.machine.ClosingTokens.{has_iri}
 use Rattle.rdf_trig.proofs.machine.ViableTokens.{stand, reach, on_reply, if_true}
 use Rattle.rdf_trig.proofs.machine.DueQuads.{emits, on_emits}
 
+-- a test with a known outcome, one side of which cannot be it, took the other
 second : {T : Type 0} (b : Bool) (x y z : T) → cond b x y ≡ z → (x ≡ z → ⊥) → (b ≡ false) × (y ≡ z)
 second true x y z e n = absurd (n e)
 second false x y z e n = (refl, e)
@@ -28,6 +29,7 @@ Fits sizes (stands (Some i)) = too_long sizes i ≡ false
 Fits sizes (binds full None) = ⊥
 Fits sizes (binds full (Some i)) = (too_long sizes i ≡ false) × (full ≡ false)
 
+-- what passes no limit has an IRI
 pub fits_iri : (sizes : Sizes) (u : Use) → Fits sizes u → has_iri u ≡ true
 fits_iri sizes itself f = refl
 fits_iri sizes (stands None) f = absurd f
@@ -39,6 +41,7 @@ fits_iri sizes (binds full (Some i)) f = refl
 abbrev pub moved : Option Quad → Option Quad → Setting → Mode → State
 moved early now c m = record { setting = c; mode = m; held = kept early (kept now []) }
 
+-- a token was accepted: no limit was passed, and these quads are given out
 pub record Accepted (sizes : Sizes) (s : State) (k : Kind) (w : Option Quad) (r : Reply) (qs : List Quad) (n : State) : Type 0 where
   pub sense : Use
   pub early : Option Quad
@@ -51,6 +54,7 @@ pub record Accepted (sizes : Sizes) (s : State) (k : Kind) (w : Option Quad) (r 
   pub given : qs ≡ s.held ++ kept w []
   pub state : n ≡ moved early now setting mode
 
+-- an accepted token stands for something that is allowed
 fitted : (sizes : Sizes) (k : Kind) (u : Use) (a : Answer) (qs : List Quad) (n : State) → by_use sizes k u a ≡ accepts qs n → Fits sizes u × (a ≡ accepts qs n)
 fitted sizes k itself a qs n e = (tt, e)
 fitted sizes k (stands None) a qs n e = absurd (let z : refuses (unnamed k) ≡ accepts qs n = e in cc)
@@ -61,6 +65,7 @@ fitted sizes k (binds full (Some i)) a qs n e =
     let y = second full (refuses too_many_bindings) a (accepts qs n) x.1 (λ z. cc) in
     ((x.0, y.0), y.1)
 
+-- an answer that accepts has all these parts
 pub accepted : (sizes : Sizes) (s : State) (k : Kind) (w : Option Quad) (r : Reply) (qs : List Quad) (n : State) → answer sizes s k w r ≡ accepts qs n →
     Accepted sizes s k w r qs n
 accepted sizes s k w No qs n e = absurd (let z : refuses unexpected ≡ accepts qs n = e in cc)
@@ -71,6 +76,7 @@ accepted sizes s k w (Go u early now c m) qs n e =
     let same : accepts (s.held ++ kept w []) (moved early now c m) ≡ accepts qs n = f.1 in
     record { sense = u; early = early; now = now; setting = c; mode = m; reply = refl; shallow = d.0; fits = f.0; given = cc; state = cc }
 
+-- a run that succeeds does so after its first token
 pub first_ran : (qs : List Quad) (r : Run) (n : State) (all : List Quad) → with_quads qs r ≡ ran n all →
     (rest : List Quad) × (r ≡ ran n rest) × (all ≡ qs ++ rest)
 first_ran qs (ran m rest) n all e = (rest, (let z : m ≡ n = cc in ap (λ x. ran x rest) z), cc)
@@ -81,12 +87,14 @@ pub record Ran (form : DocForm) (s : State) (ts : List Token) (n : State) (qs : 
   pub reached : reach true form s.setting s.mode ts ≡ Some (stand n.setting n.mode)
   pub given : qs ≡ emits form s.setting s.mode s.held ts
 
+-- what is given out for one token and those after it, as the model of the run has it
 emits_one : (form : DocForm) (w : Option Quad) (early now : Option Quad) (c : Setting) (m : Mode) (u : Use) (held rest : List Quad) (ts : List Token) →
     rest ≡ emits form c m (kept early (kept now [])) ts → (held ++ kept w []) ++ rest ≡ held ++ on_emits w (Go u early now c m)
     (λ c' m' h. emits form c' m' h ts)
 emits_one form None early now c m u held rest ts e = append_assoc held [] rest ∙ ap (λ x. held ++ x) e
 emits_one form (Some q) early now c m u held rest ts e = append_assoc held (q ∷ []) rest ∙ ap (λ x. held ++ (q ∷ x)) e
 
+-- a run of the machine is a walk through its grammar that gives out what the grammar does
 pub ran_tokens : (form : DocForm) (ts : List Token) (s n : State) (qs : List Quad) → accept_all form s ts ≡ ran n qs → Ran form s ts n qs
 ran_tokens form [] s n qs e =
     let z : ran s [] ≡ ran n qs = e in

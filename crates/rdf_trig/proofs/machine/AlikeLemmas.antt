@@ -20,12 +20,15 @@ use Rattle.rdf_trig.specs.Alike.{SameState}
 use Rattle.rdf_trig.proofs.trees.NamesLemmas.{binds_prefix}
 use Rattle.rdf_trig.proofs.trees.ScopeCalls.{same_itself, same_reference, same_name, same_full, same_based, same_binding}
 
+-- a state agrees with itself
 pub state_self : (s : State) → SameState s s
 state_self s = record { scope = same_itself s.setting.scope; graph = refl; mode = refl; held = refl }
 
+-- scopes that agree with a third agree
 scope_trans : (a b c : InForce) → SameNames a b → SameNames b c → SameNames a c
 scope_trans a b c f g = record { base = f.base ∙ g.base; limits = f.limits ∙ g.limits; bound = λ q. f.bound q ∙ g.bound q; count = f.count ∙ g.count }
 
+-- states that agree with a third agree
 pub state_trans : (a b c : State) → SameState a b → SameState b c → SameState a c
 state_trans a b c f g = record {
   scope = scope_trans a.setting.scope b.setting.scope c.setting.scope f.scope g.scope;
@@ -34,9 +37,11 @@ state_trans a b c f g = record {
   held = f.held ∙ g.held;
 }
 
+-- the same graph, and scopes that agree
 abbrev SameSetting : Setting → Setting → Type 0
 SameSetting c d = SameNames c.scope d.scope × (c.graph ≡ d.graph)
 
+-- replies that differ in the order of their bindings alone
 abbrev SameReply : Reply → Reply → Type 0
 SameReply No No = Unit {0}
 SameReply (Go u e n c m) (Go v f o d k) = (u ≡ v) × (e ≡ f) × (n ≡ o) × SameSetting c d × (m ≡ k)
@@ -266,6 +271,7 @@ SameAnswer (refuses x) (refuses y) = x ≡ y
 SameAnswer (accepts qs n) (accepts rs m) = (qs ≡ rs) × SameState n m
 SameAnswer a b = ⊥
 
+-- a limit that is tested in both refuses in both
 cond_same : (b : Bool) (x : Refusal) (a c : Answer) → SameAnswer a c → SameAnswer (cond b (refuses x) a) (cond b (refuses x) c)
 cond_same true x a c h = refl
 cond_same false x a c h = h
@@ -277,6 +283,7 @@ use_same sizes k (stands (Some i)) a c h = cond_same (too_long sizes i) iri_too_
 use_same sizes k (binds full None) a c h = refl
 use_same sizes k (binds full (Some i)) a c h = cond_same (too_long sizes i) iri_too_long _ _ (cond_same full too_many_bindings a c h)
 
+-- replies that agree are answered alike
 reply_same : (sizes : Sizes) (s : State) (k : Kind) (w : Option Quad) (x y : Reply) → SameReply x y → SameAnswer (answer sizes s k w x) (answer sizes s k w y)
 reply_same sizes s k w No No h = refl
 reply_same sizes s k w (Go u e n c m) (Go v f o d j) h =
@@ -290,16 +297,20 @@ reply_same sizes s k w (Go u e n c m) No h = absurd h
 abbrev with_scope : InForce → State → Setting
 with_scope t s = record { scope = t; graph = s.setting.graph }
 
+-- a state with another scope
 abbrev in_scope : InForce → State → State
 in_scope t s = record { setting = with_scope t s; mode = s.mode; held = s.held }
 
+-- states are equal where their parts are
 state_by : {a b : InForce} {g h : Option (Option term.Subject)} {m n : Mode} {x y : List Quad} → a ≡ b → g ≡ h → m ≡ n → x ≡ y →
     (let z : State = record { setting = record { scope = a; graph = g }; mode = m; held = x } in z) ≡ record { setting = record { scope = b; graph = h }; mode = n; held = y }
 state_by a b c d = cc
 
+-- states that agree differ by their scopes alone
 scoped : (s t : State) → SameState s t → in_scope t.setting.scope s ≡ t
 scoped s t h = state_by refl h.graph h.mode h.held
 
+-- states that agree answer each token alike, so the reader may keep its bindings in any order
 pub accept_same : (form : DocForm) (s t : State) (k : Kind) (l : Leaf) → SameState s t → SameAnswer (accept form s k l) (accept form t k l)
 accept_same form s t k l h =
     let c = with_scope t.setting.scope s in
@@ -313,6 +324,7 @@ pub accepts_same : (a : Answer) (qs : List Quad) (m : State) → SameAnswer a (a
 accepts_same (accepts rs n) qs m h = (n, ap (λ x. accepts x n) h.0, h.1)
 accepts_same (refuses x) qs m h = absurd h
 
+-- a refusal is the same in both
 pub refuses_same : (a : Answer) (x : Refusal) → SameAnswer a (refuses x) → a ≡ refuses x
 refuses_same (refuses y) x h = ap refuses h
 refuses_same (accepts rs n) x h = absurd h

@@ -27,15 +27,18 @@ has_iri (stands (Some i)) = true
 has_iri (binds full None) = false
 has_iri (binds full (Some i)) = true
 
+-- what a token stands for is admitted: where the test is strict, it has to have an IRI
 abbrev pub admits : Bool → Use → Bool
 admits true u = has_iri u
 admits false u = true
 
+-- what each token of some events stands for is admitted
 abbrev pub AllAdmitted : Bool → List Event → Type 0
 AllAdmitted strict [] = Unit {0}
 AllAdmitted strict (Took t u ∷ es) = (admits strict u ≡ true) × AllAdmitted strict es
 AllAdmitted strict (Gave q ∷ es) = AllAdmitted strict es
 
+-- a token of this text; the completion's tokens need no place
 abbrev leaf : List ℕ → Leaf
 leaf w = record { text = w; at = first_place }
 
@@ -43,34 +46,44 @@ leaf w = record { text = w; at = first_place }
 abbrev pub colon : Leaf
 colon = leaf (codes ":")
 
+-- an IRIREF with a scheme, which needs no base
 abbrev pub any_iri : Leaf
 any_iri = leaf (codes "<a:>")
 
+-- the IRI of completions, as a token
 abbrev pub iri : Token
 iri = token IriRef any_iri
 
+-- the end of a statement or a directive
 abbrev pub dot : Token
 dot = token Dot (leaf (codes "."))
 
+-- the beginning of a block
 abbrev pub brace : Token
 brace = token OpenBrace (leaf (codes "{"))
 
+-- the end of a block
 abbrev pub close_brace : Token
 close_brace = token CloseBrace (leaf (codes "}"))
 
+-- the end of a property list
 abbrev pub close_bracket : Token
 close_bracket = token CloseBracket (leaf (codes "]"))
 
+-- the end of a collection
 abbrev pub close_paren : Token
 close_paren = token CloseParen (leaf (codes ")"))
 
+-- the end of the input
 abbrev pub the_end : Token
 the_end = token End (leaf [])
 
+-- what ends a statement and the document, where a block is left first
 abbrev pub close_level : Level → List Token
 close_level Top = dot ∷ the_end ∷ []
 close_level InBlock = close_brace ∷ the_end ∷ []
 
+-- what completes a statement whose subject has been read
 abbrev pub close_verb : Level → List Token
 close_verb v = iri ∷ iri ∷ close_level v
 
@@ -91,10 +104,12 @@ abbrev mutual
   close_around (Statement v) = close_level v
   close_around (Boxed u) = close_bracket ∷ close_box u
 
+-- what completes a directive whose IRIREF has been read
 abbrev pub close_directive : Spelling → List Token
 close_directive Dotted = dot ∷ the_end ∷ []
 close_directive Sparql = the_end ∷ []
 
+-- what completes a block whose label has been read
 abbrev pub close_block : List Token
 close_block = brace ∷ close_brace ∷ the_end ∷ []
 
@@ -126,14 +141,17 @@ any_iri_stands : (s : InForce) → reference_in s any_iri ≡ Some (codes "a:")
 unfolding reference_in resolved has
 any_iri_stands s = refl
 
+-- its IRI is admitted in every scope
 pub any_iri_passes : (strict : Bool) (s : InForce) → admits strict (stands (reference_in s any_iri)) ≡ true
 any_iri_passes true s = ap (λ i. has_iri (stands i)) (any_iri_stands s)
 any_iri_passes false s = refl
 
+-- a binding of a prefix to it is admitted, also where it would be one too many
 binding_passes : (strict full : Bool) (s : InForce) → admits strict (binds full (reference_in s any_iri)) ≡ true
 binding_passes true full s = ap (λ i. has_iri (binds full i)) (any_iri_stands s)
 binding_passes false full s = refl
 
+-- a token that stands for nothing but itself is admitted
 pub itself_passes : (strict : Bool) → admits strict itself ≡ true
 itself_passes true = refl
 itself_passes false = refl

@@ -396,6 +396,7 @@ graph_good (iri_label i) c rest g = iri_good TriG i c GraphWord c.scope None Non
 graph_good (blank_label (label l)) c rest g = alone TriG LabelNode l refl refl g
 graph_good (blank_label (anon l r)) c rest g = alone TriG OpenBracket l refl refl (alone TriG CloseBracket r refl refl g)
 
+-- the machine reads a statement or a block as its events say
 body_good : (form : DocForm) (b : Body form) (c : Setting) (rest : List Event) → Good form (in_default c.scope) Start rest →
     Good form c Start (body_events form c.scope b rest)
 body_good Turtle b c rest g = triples_good Turtle b.triples c Start (in_default c.scope) Top Dot b.dot (in_default c.scope) Start rest (start_takes Turtle c) (top_ends Turtle (in_default c.scope) b.dot) g
@@ -415,6 +416,7 @@ body_good TriG (triples2 (collection_triples2 x ps d)) c rest g =
 body_good TriG (tree.graph_word l x w) c rest g =
     alone TriG Graph l refl refl (graph_good x c _ (wrapped_good TriG w c (WantBrace (label_of c.scope x)) (in_graph c.scope (label_of c.scope x)) rest (λ r. (refl, refl)) g))
 
+-- the machine reads a document as its events say, which the law of accepted documents rests on
 pub document_good : {form : DocForm} (d : Document form) (c : Setting) → Good form c Start (document_events c.scope d)
 document_good {form} (end l) c = alone form End l refl refl record { runs = refl }
 document_good {form} (with_directive (prefix_id w p i d) rest) c =

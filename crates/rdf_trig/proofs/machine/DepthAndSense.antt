@@ -37,31 +37,38 @@ abbrev pub Facts : ℕ → InForce → Kind → Leaf → Reply → Type 0
 Facts n s k l No = Unit {0}
 Facts n s k l (Go u early now c m) = (depth m + closes k ≡ n + opens k) × IsUse s k l u × (c.scope.limits ≡ s.limits) × Quiet m early now
 
+-- a base changes no limit
 with_base_limits : (s : InForce) (i : Option (List ℕ)) → (with_base s i).limits ≡ s.limits
 with_base_limits s None = refl
 with_base_limits s (Some i) = refl
 
+-- a binding changes no limit
 with_binding_limits : (s : InForce) (p : List ℕ) (i : Option (List ℕ)) → (with_binding s p i).limits ≡ s.limits
 with_binding_limits s p None = refl
 with_binding_limits s p (Some i) = refl
 
+-- after a property list nothing is held that would be lost at the end of the input
 box_quiet : (u : Up) (s : Option term.Subject) → Quiet (box_closed u s) None None
 box_quiet (Subject v) s = tt
 box_quiet (At p) s = tt
 
+-- after a collection nothing is held that would be lost at the end of the input
 list_quiet : (u : Up) (s : Option term.Subject) (early now : Option Quad) → Quiet (list_closed u s) early now
 list_quiet (Subject v) s early now = tt
 list_quiet (At p) s early now = tt
 
+-- after a subject nothing is held that would be lost at the end of the input
 subject_quiet : (form : DocForm) (v : Level) (s : Option term.Subject) → Quiet (after_subject form v s) None None
 subject_quiet form InBlock s = tt
 subject_quiet Turtle Top s = tt
 subject_quiet TriG Top s = tt
 
+-- after `[]` nothing is held that would be lost at the end of the input
 node_quiet : (form : DocForm) (u : Up) (s : Option term.Subject) → Quiet (node_closed form u s) None None
 node_quiet form (Subject v) s = subject_quiet form v s
 node_quiet form (At p) s = tt
 
+-- each reply at the first token of an object keeps to this
 object_facts : (c : Setting) (p : Place) (early : Option Quad) (k : Kind) (l : Leaf) → Facts (depth_at p) c.scope k l (object_start c p early k l)
 object_facts c p early IriRef l = (refl, inl refl, refl, tt)
 object_facts c p early PnameLn l = (refl, refl, refl, tt)
@@ -78,6 +85,7 @@ object_facts c p early OpenBracket l = (omega arith, refl, refl, tt)
 object_facts c p early OpenParen l = (omega arith, refl, refl, refl)
 object_facts c p early k l = tt
 
+-- each reply at a verb keeps to this
 verb_facts : (c : Setting) (s : Option term.Subject) (a : Around) (k : Kind) (l : Leaf) → Facts (depth_around a) c.scope k l (verb_start c s a k l)
 verb_facts c s a IriRef l = (refl, inl refl, refl, tt)
 verb_facts c s a PnameLn l = (refl, refl, refl, tt)
@@ -85,23 +93,28 @@ verb_facts c s a PnameNs l = (refl, inl refl, refl, tt)
 verb_facts c s a A l = (refl, refl, refl, tt)
 verb_facts c s a k l = tt
 
+-- the ']' of a property list leads back to the depth outside
 box_depth : (u : Up) (s : Option term.Subject) → depth (box_closed u s) ≡ depth_up u
 box_depth (Subject v) s = refl
 box_depth (At p) s = refl
 
+-- the ')' of a collection leads back to the depth outside
 list_depth : (u : Up) (s : Option term.Subject) → depth (list_closed u s) ≡ depth_up u
 list_depth (Subject v) s = refl
 list_depth (At p) s = refl
 
+-- after a subject no bracket is open
 subject_depth : (form : DocForm) (v : Level) (s : Option term.Subject) → depth (after_subject form v s) ≡ 0
 subject_depth form InBlock s = refl
 subject_depth Turtle Top s = refl
 subject_depth TriG Top s = refl
 
+-- after `[]` the depth is that outside
 node_depth : (form : DocForm) (u : Up) (s : Option term.Subject) → depth (node_closed form u s) ≡ depth_up u
 node_depth form (Subject v) s = subject_depth form v s
 node_depth form (At p) s = refl
 
+-- each reply at the end of a predicate list keeps to this
 end_facts : (c : Setting) (s : Option term.Subject) (a : Around) (k : Kind) (l : Leaf) → Facts (depth_around a) c.scope k l (list_end c s a k l)
 end_facts c s (Statement Top) Dot l = (refl, refl, refl, tt)
 end_facts c s (Statement InBlock) Dot l = (refl, refl, refl, tt)
@@ -111,6 +124,7 @@ end_facts c s (Statement Top) k l = tt
 end_facts c s (Statement InBlock) k l = tt
 end_facts c s (Boxed u) k l = tt
 
+-- each reply after ';' keeps to this
 semi_facts : (c : Setting) (s : Option term.Subject) (a : Around) (k : Kind) (l : Leaf) → Facts (depth_around a) c.scope k l (semi c s a k l)
 semi_facts c s a Semicolon l = (refl, refl, refl, tt)
 semi_facts c s a IriRef l = verb_facts c s a IriRef l
@@ -119,6 +133,7 @@ semi_facts c s a PnameNs l = verb_facts c s a PnameNs l
 semi_facts c s a A l = verb_facts c s a A l
 semi_facts c s a k l = end_facts c s a k l
 
+-- each reply after an object keeps to this
 after_facts : (c : Setting) (p : Place) (k : Kind) (l : Leaf) → Facts (depth_at p) c.scope k l (after c p k l)
 after_facts c (Listed s p a) Comma l = (refl, refl, refl, tt)
 after_facts c (Listed s p a) Semicolon l = (refl, refl, refl, tt)
@@ -126,6 +141,7 @@ after_facts c (Listed s p a) k l = end_facts c s a k l
 after_facts c (InCells f n u) CloseParen l = (omega (arith, list_depth u (cell f)), refl, refl, list_quiet u (cell f) None (rest_quad c (Cell n) nil))
 after_facts c (InCells f n u) k l = object_facts c (InCells f l.at.offset u) (rest_quad c (Cell n) (Blank (cell_at l))) k l
 
+-- each reply after a string keeps to this
 text_facts : (c : Setting) (w : List ℕ) (p : Place) (k : Kind) (l : Leaf) → Facts (depth_at p) c.scope k l (after_text c w p k l)
 text_facts c w p LangTag l = (refl, refl, refl, tt)
 text_facts c w p AtBase l = (refl, refl, refl, tt)
@@ -133,20 +149,24 @@ text_facts c w p AtPrefix l = (refl, refl, refl, tt)
 text_facts c w p Carets l = (refl, refl, refl, tt)
 text_facts c w p k l = after_facts c p k l
 
+-- each reply at the datatype of a string keeps to this
 type_facts : (c : Setting) (w : List ℕ) (p : Place) (k : Kind) (l : Leaf) → Facts (depth_at p) c.scope k l (want_type c w p k l)
 type_facts c w p IriRef l = (refl, inl refl, refl, tt)
 type_facts c w p PnameLn l = (refl, refl, refl, tt)
 type_facts c w p PnameNs l = (refl, inl refl, refl, tt)
 type_facts c w p k l = tt
 
+-- each reply after '[' keeps to this
 box_facts : (form : DocForm) (c : Setting) (n : ℕ) (u : Up) (k : Kind) (l : Leaf) → Facts (depth_up u + 1) c.scope k l (box form c n u k l)
 box_facts form c n u CloseBracket l = (omega (arith, node_depth form u (node (Anon n))), refl, refl, node_quiet form u (node (Anon n)))
 box_facts form c n u k l = verb_facts c (node (Anon n)) (Boxed u) k l
 
+-- each reply after '(' keeps to this
 paren_facts : (c : Setting) (u : Up) (k : Kind) (l : Leaf) → Facts (depth_up u + 1) c.scope k l (paren c u k l)
 paren_facts c u CloseParen l = (omega (arith, list_depth u (Some nil)), refl, refl, list_quiet u (Some nil) None None)
 paren_facts c u k l = object_facts c (InCells l.at.offset l.at.offset u) None k l
 
+-- each reply after a property list that is a subject keeps to this
 after_box_facts : (c : Setting) (s : Option term.Subject) (v : Level) (k : Kind) (l : Leaf) → Facts 0 c.scope k l (after_box c s v k l)
 after_box_facts c s v IriRef l = verb_facts c s (Statement v) IriRef l
 after_box_facts c s v PnameLn l = verb_facts c s (Statement v) PnameLn l
@@ -154,6 +174,7 @@ after_box_facts c s v PnameNs l = verb_facts c s (Statement v) PnameNs l
 after_box_facts c s v A l = verb_facts c s (Statement v) A l
 after_box_facts c s v k l = end_facts c s (Statement v) k l
 
+-- each reply at the first token of a subject keeps to this
 subject_facts : (form : DocForm) (c : Setting) (v : Level) (k : Kind) (l : Leaf) → Facts 0 c.scope k l (subject_start form c v k l)
 subject_facts form c v IriRef l = (omega (arith, subject_depth form v (named (reference_in c.scope l))), inl refl, refl, subject_quiet form v (named (reference_in c.scope l)))
 subject_facts form c v PnameLn l = (omega (arith, subject_depth form v (named (name_in c.scope l))), refl, refl, subject_quiet form v (named (name_in c.scope l)))
@@ -163,6 +184,7 @@ subject_facts form c v OpenBracket l = (refl, refl, refl, tt)
 subject_facts form c v OpenParen l = (refl, refl, refl, refl)
 subject_facts form c v k l = tt
 
+-- each reply between statements keeps to this
 start_facts : (form : DocForm) (c : Setting) (k : Kind) (l : Leaf) → Facts 0 c.scope k l (start form c k l)
 start_facts form c End l = (refl, refl, refl, (refl, refl))
 start_facts form c AtPrefix l = (refl, refl, refl, tt)
@@ -173,18 +195,22 @@ start_facts TriG c Graph l = (refl, refl, refl, tt)
 start_facts TriG c OpenBrace l = (refl, refl, refl, tt)
 start_facts form c k l = subject_facts form (in_default c.scope) Top k l
 
+-- each reply in a block keeps to this
 inside_facts : (form : DocForm) (c : Setting) (k : Kind) (l : Leaf) → Facts 0 c.scope k l (inside form c k l)
 inside_facts form c CloseBrace l = (refl, refl, refl, tt)
 inside_facts form c k l = subject_facts form c InBlock k l
 
+-- each reply before the '{' of a block with GRAPH keeps to this
 brace_facts : (c : Setting) (g : Option term.Subject) (k : Kind) (l : Leaf) → Facts 0 c.scope k l (want_brace c g k l)
 brace_facts c g OpenBrace l = (refl, refl, refl, tt)
 brace_facts c g k l = tt
 
+-- each reply after a label or subject keeps to this
 label_facts : (c : Setting) (g : Option term.Subject) (k : Kind) (l : Leaf) → Facts 0 c.scope k l (after_label c g k l)
 label_facts c g OpenBrace l = (refl, refl, refl, tt)
 label_facts c g k l = verb_facts c g (Statement Top) k l
 
+-- each reply after GRAPH keeps to this
 graph_facts : (c : Setting) (k : Kind) (l : Leaf) → Facts 0 c.scope k l (graph_word c k l)
 graph_facts c IriRef l = (refl, inl refl, refl, tt)
 graph_facts c PnameLn l = (refl, refl, refl, tt)
@@ -193,28 +219,34 @@ graph_facts c LabelNode l = (refl, refl, refl, tt)
 graph_facts c OpenBracket l = (refl, refl, refl, tt)
 graph_facts c k l = tt
 
+-- each reply after the '[' of a label keeps to this
 graph_box_facts : (c : Setting) (n : ℕ) (k : Kind) (l : Leaf) → Facts 1 c.scope k l (graph_box c n k l)
 graph_box_facts c n CloseBracket l = (refl, refl, refl, tt)
 graph_box_facts c n k l = tt
 
+-- each reply at the prefix of a directive keeps to this
 prefix_facts : (c : Setting) (w : Spelling) (k : Kind) (l : Leaf) → Facts 0 c.scope k l (want_prefix c w k l)
 prefix_facts c w PnameNs l = (refl, inr refl, refl, tt)
 prefix_facts c w k l = tt
 
+-- each reply at the IRIREF that binds a prefix keeps to this
 prefix_iri_facts : (c : Setting) (w : Spelling) (p : List ℕ) (k : Kind) (l : Leaf) → Facts 0 c.scope k l (want_prefix_iri c w p k l)
 prefix_iri_facts c Dotted p IriRef l = (refl, inr (p, refl), with_binding_limits c.scope p (reference_in c.scope l), tt)
 prefix_iri_facts c Sparql p IriRef l = (refl, inr (p, refl), with_binding_limits c.scope p (reference_in c.scope l), tt)
 prefix_iri_facts c w p k l = tt
 
+-- each reply at the IRIREF of a base keeps to this
 base_iri_facts : (c : Setting) (w : Spelling) (k : Kind) (l : Leaf) → Facts 0 c.scope k l (want_base_iri c w k l)
 base_iri_facts c Dotted IriRef l = (refl, inl refl, with_base_limits c.scope (reference_in c.scope l), tt)
 base_iri_facts c Sparql IriRef l = (refl, inl refl, with_base_limits c.scope (reference_in c.scope l), tt)
 base_iri_facts c w k l = tt
 
+-- each reply at the dot of a directive keeps to this
 dot_facts : (c : Setting) (k : Kind) (l : Leaf) → Facts 0 c.scope k l (want_dot c k l)
 dot_facts c Dot l = (refl, refl, refl, tt)
 dot_facts c k l = tt
 
+-- each step of the machine keeps to this
 pub step_facts : (form : DocForm) (c : Setting) (m : Mode) (k : Kind) (l : Leaf) → Facts (depth m) c.scope k l (step form c m k l)
 step_facts form c Start k l = start_facts form c k l
 step_facts form c Over k l = tt
@@ -269,14 +301,17 @@ reached_limits strict form (t ∷ ts) c m s e = by (step form c m t.kind (leaf_o
     by No f ih e = absurd (let z : None ≡ Some s = e in cc)
     by (Go u early now c' m') f ih e = ih c' m' (when (admits strict u) (reach strict form c' m' ts) e) ∙ f.2
 
+-- the depth of a state is the number of brackets open in the tokens before it, as the limit counts them
 pub depth_open : (strict : Bool) (form : DocForm) (ts : List Token) (start : InForce) (s : Stand) → reach strict form (in_default start) Start ts ≡ Some s →
     depth s.mode ≡ open_in ts
 depth_open strict form ts start s e = let h = reached_depth strict form ts (in_default start) Start s e in omega (arith, h)
 
+-- what two lists of tokens open, both open
 pub opened-append : (ts us : List Token) → opened (ts ++ us) ≡ opened ts + opened us
 opened-append [] us = omega arith
 opened-append (t ∷ ts) us = let h = opened-append ts us in omega (arith, h)
 
+-- what two lists of tokens close, both close
 pub closed-append : (ts us : List Token) → closed (ts ++ us) ≡ closed ts + closed us
 closed-append [] us = omega arith
 closed-append (t ∷ ts) us = let h = closed-append ts us in omega (arith, h)

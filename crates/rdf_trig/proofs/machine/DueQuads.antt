@@ -25,21 +25,25 @@ due (suc n) [] = []
 due (suc n) (Took t u ∷ es) = due n es
 due (suc n) (Gave q ∷ es) = q ∷ due (suc n) es
 
+-- no quad is due before the first token of its events
 before_none : (es : List Event) (k n : ℕ) → k ≤ n → items_below k (event_quads n es) ≡ []
 before_none [] k n l = refl
 before_none (Took t u ∷ es) k n l = before_none es k (n + 1) (omega arith)
 before_none (Gave q ∷ es) k n l = cond-false (nat_lt n k) _ _ (le-ltb _ _ l) ∙ before_none es k n l
 
+-- the quads that are due after some tokens, counted from where the events begin
 pub before_due : (es : List Event) (n k j : ℕ) → j ≡ k + n → items_below j (event_quads k es) ≡ due n es
 before_due es zero k j e = before_none es j k (omega arith)
 before_due [] (suc n) k j e = refl
 before_due (Took t u ∷ es) (suc n) k j e = before_due es n (k + 1) j (omega arith)
 before_due (Gave q ∷ es) (suc n) k j e = cond-true (nat_lt k j) _ _ (lt-ltb _ _ (omega arith)) ∙ ap (λ x. q ∷ x) (before_due es (suc n) k j e)
 
+-- marks that rise from a higher number rise from a lower one
 rises_from : (qs : List Marked) (m n : ℕ) → m ≤ n → Rises n qs → Rises m qs
 rises_from [] m n l r = tt
 rises_from (q ∷ qs) m n l r = (omega (arith, l, r.0), r.1)
 
+-- the marks of events rise, as the law of marks says
 pub marked_rises : (es : List Event) (n : ℕ) → Rises n (event_quads n es)
 marked_rises [] n = tt
 marked_rises (Took t u ∷ es) n = rises_from (event_quads (n + 1) es) n (n + 1) (omega arith) (marked_rises es (n + 1))
@@ -50,14 +54,17 @@ abbrev pub on_emits : Option Quad → Reply → (Setting → Mode → List Quad 
 on_emits w No next = kept w []
 on_emits w (Go u early now c m) next = kept w (next c m (kept early (kept now [])))
 
+-- what the machine gives out for some tokens, where some quads are held already
 abbrev pub emits : DocForm → Setting → Mode → List Quad → List Token → List Quad
 emits form c m held [] = []
 emits form c m held (t ∷ ts) = held ++ on_emits (waiting c m t.kind (leaf_of t)) (step form c m t.kind (leaf_of t)) (λ c' m' held'. emits form c' m' held' ts)
 
+-- a quad that is given out is due with the next token
 due_give : (q : Option Quad) (n : ℕ) (es : List Event) → due (suc n) (give q es) ≡ kept q (due (suc n) es)
 due_give None n es = refl
 due_give (Some q) n es = refl
 
+-- two quads that are held come before the others
 kept_all : (a b : Option Quad) (qs : List Quad) → kept a (kept b []) ++ qs ≡ kept a (kept b qs)
 kept_all None None qs = refl
 kept_all None (Some b) qs = refl

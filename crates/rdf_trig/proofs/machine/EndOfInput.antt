@@ -30,10 +30,12 @@ end_over c s (Statement Top) l = tt
 end_over c s (Statement InBlock) l = tt
 end_over c s (Boxed u) l = tt
 
+-- after an object the end of the input is no token, or the last one
 after_over : (c : Setting) (p : P) (l : Leaf) → IsOver (after c p End l)
 after_over c (Listed s v a) l = end_over c s a l
 after_over c (InCells f n u) l = tt
 
+-- in every mode the end of the input is refused, or leads to the end
 step_over : (form : DocForm) (c : Setting) (m : Mode) (l : Leaf) → IsOver (step form c m End l)
 step_over form c Start l = refl
 step_over form c (After p) l = after_over c p l

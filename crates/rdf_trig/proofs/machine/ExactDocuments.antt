@@ -35,6 +35,7 @@ due_in form start ts more s qs all e d =
     ∙ sym (lag form ts more start d.tree told)
     ∙ sym (ran_tokens form ts (at_start start) s qs e).given
 
+-- what was given out is due in some document that begins so
 pub due_ran : (form : DocForm) (start : InForce) (ts : List Token) (s : State) (qs : List Quad) → accept_all form (at_start start) ts ≡ ran s qs →
     Due (documents form start) ts qs
 due_ran form start ts s qs e =
@@ -51,6 +52,7 @@ due_of form start ts qs (more, all, d, e) =
     ∙ before_due (document_events start d.tree) (length ts) 0 (length ts) (omega arith)
     ∙ sym (lag form ts more start d.tree told)
 
+-- what is due is settled by the tokens: no document that begins so gives anything else
 pub same_due : (form : DocForm) (start : InForce) (ts : List Token) (qs rs : List Quad) → Due (documents form start) ts qs → Due (documents form start) ts rs →
     qs ≡ rs
 same_due form start ts qs rs a b = due_of form start ts qs a ∙ sym (due_of form start ts rs b)
@@ -64,6 +66,7 @@ tree_events form start d e h =
     let z : Some (document_events start d) ≡ Some (document_events start e) = sym a ∙ b in
     cc
 
+-- the tokens settle the quads and their marks
 pub same_quads : (form : DocForm) (start : InForce) (ts : List Token) (qs rs : List Marked) → trees form start ts qs → trees form start ts rs → qs ≡ rs
 same_quads form start ts qs rs a b =
     sym a.quads ∙ ap (event_quads 0) (tree_events form start a.tree b.tree (sym a.tokens ∙ b.tokens)) ∙ b.quads
@@ -74,11 +77,13 @@ quads [] = []
 quads (Took t u ∷ es) = quads es
 quads (Gave q ∷ es) = q ∷ quads es
 
+-- the quads of events are those of their marked list
 quads_marked : (es : List Event) (n : ℕ) → unmarked (event_quads n es) ≡ quads es
 quads_marked [] n = refl
 quads_marked (Took t u ∷ es) n = quads_marked es (n + 1)
 quads_marked (Gave q ∷ es) n = ap (λ x. q ∷ x) (quads_marked es n)
 
+-- a quad that is given out is one of the quads
 quads_give : (q : Option Quad) (n : ℕ) (es : List Event) → due (suc n) es ≡ quads es → due (suc n) (give q es) ≡ quads (give q es)
 quads_give None n es e = e
 quads_give (Some q) n es e = ap (λ x. q ∷ x) e
@@ -89,6 +94,7 @@ over_due : (n : Mode) (early now : Option Quad) (fs : List Event) → stop n ≡
 over_due Over early now fs h q = let z : [] ≡ fs = cc in sym (ap (λ x. quads (give x (give now fs))) q.0 ∙ ap (λ x. quads (give x fs)) q.1 ∙ ap quads (sym z))
 over_due n early now fs h q = absurd (let z : None ≡ Some fs = h in cc)
 
+-- at the last token of a document all of its quads are due
 last_due : (form : DocForm) (t : Token) (n : ℕ) (s : InForce) (w : Option Quad) (r : Reply) (es : List Event) → Facts n s t.kind (leaf_of t) r →
     fronted w (go_on t r (λ c' m'. run form c' m' [])) ≡ Some es →
     due (suc zero) es ≡ quads es
@@ -97,6 +103,7 @@ last_due form t n s w (Go u early now c' m') es f e =
     let x = unput w t u early now (run form c' m' []) es e in
     ap (due (suc zero)) x.2 ∙ quads_give w zero (Took t u ∷ give early (give now x.0)) (over_due m' early now x.0 x.1 f.3) ∙ ap quads (sym x.2)
 
+-- with a token before them all quads of a document are due at its end too
 more_due : (form : DocForm) (t : Token) (ts : List Token) (k : ℕ) (w : Option Quad) (r : Reply) (es : List Event) →
     fronted w (go_on t r (λ c' m'. run form c' m' ts)) ≡ Some es →
     ((c' : Setting) (m' : Mode) (fs : List Event) → run form c' m' ts ≡ Some fs → due (suc k) fs ≡ quads fs) → due (suc (suc k)) es ≡ quads es
@@ -106,6 +113,7 @@ more_due form t ts k w (Go u early now c' m') es e ih =
     let i = quads_give early k (give now x.0) (quads_give now k x.0 (ih c' m' x.0 x.1)) in
     ap (due (suc (suc k))) x.2 ∙ quads_give w (suc k) (Took t u ∷ give early (give now x.0)) i ∙ ap quads (sym x.2)
 
+-- so all quads of a document are due at its end
 all_due : (form : DocForm) (ts : List Token) (t : Token) (c : Setting) (m : Mode) (es : List Event) → run form c m (t ∷ ts) ≡ Some es →
     due (suc (length ts)) es ≡ quads es
 all_due form [] t c m es e = last_due form t (depth m) c.scope (waiting c m t.kind (leaf_of t)) (step form c m t.kind (leaf_of t)) es (step_facts form c m t.kind (leaf_of t)) e
@@ -149,9 +157,11 @@ pub record Stuck (form : DocForm) (s : State) (ts : List Token) : Type 0 where
   pub before : accept_all form s ahead ≡ ran state given
   pub refuses_it : accept form state token.kind (leaf_of token) ≡ refuses reason
 
+-- the machine accepts the tokens
 abbrev pub Goes : DocForm → State → List Token → Type 0
 Goes form s ts = (n : State) × (qs : List Quad) × (accept_all form s ts ≡ ran n qs)
 
+-- a run is accepted as a whole, or refuses a first token
 pub outcome : (form : DocForm) (ts : List Token) (s : State) → Goes form s ts ⊎ Stuck form s ts
 outcome form [] s = inl (s, [], refl)
 outcome form (t ∷ ts) s = by (λ n. outcome form ts n) (accept form s t.kind (leaf_of t)) refl
@@ -174,6 +184,7 @@ outcome form (t ∷ ts) s = by (λ n. outcome form ts n) (accept form s t.kind (
         }))
         (ih n)
 
+-- the front of a beginning of a document is one
 viable_front : (form : DocForm) (start : InForce) (ts us : List Token) → Viable (documents form start) (ts ++ us) → Viable (documents form start) ts
 viable_front form start ts us (more, qs, d) = (us ++ more, qs, subst (λ x. documents form start x qs) (append_assoc ts us more) d)
 
@@ -187,6 +198,7 @@ not_both form start ts t too_deep r v p = p (r.0, r.1, inl r.2)
 not_both form start ts t iri_too_long r v p = p (r.0, r.1, inr (inl r.2))
 not_both form start ts t too_many_bindings r v p = p (r.0, r.1, inr (inr r.2))
 
+-- the machine refuses no token of a document that passes no limit
 stuck_not : (form : DocForm) (start : InForce) (ts : List Token) → Viable (documents form start) ts → PassesNone (Passes form start) ts →
     Stuck form (at_start start) ts → ⊥
 stuck_not form start ts v p k =

@@ -10,20 +10,24 @@ use Rattle.rdf_trig.specs.Quads.{Setting, in_default, node, cell_at, rest_quad}
 use Rattle.rdf_trig.specs.Machine as M
 use Rattle.rdf_trig.specs.States.{begins_verb}
 
+-- after '[' what does not close it is a verb
 pub box-else : (form : DocForm) (c : Setting) (n : ℕ) (u : M.Up) (k : Kind) (l : Leaf) → (k ≡ CloseBracket → ⊥) →
     M.box form c n u k l ≡ M.verb_start c (node (term.Anon n)) (M.Boxed u) k l
 box-else form c n u CloseBracket l h = absurd (h refl)
 box-else form c n u k l h = refl
 
+-- after a label what opens no block is a verb
 pub label-else : (c : Setting) (g : Option term.Subject) (k : Kind) (l : Leaf) → (k ≡ OpenBrace → ⊥) →
     M.after_label c g k l ≡ M.verb_start c g (M.Statement M.Top) k l
 label-else c g OpenBrace l h = absurd (h refl)
 label-else c g k l h = refl
 
+-- in a block what does not close it begins a subject
 pub inside-else : (form : DocForm) (c : Setting) (k : Kind) (l : Leaf) → (k ≡ CloseBrace → ⊥) → M.inside form c k l ≡ M.subject_start form c M.InBlock k l
 inside-else form c CloseBrace l h = absurd (h refl)
 inside-else form c k l h = refl
 
+-- after ';' a verb may come
 pub semi-verb : (c : Setting) (s : Option term.Subject) (a : M.Around) (k : Kind) (l : Leaf) → begins_verb k ≡ true → M.semi c s a k l ≡ M.verb_start c s a k l
 semi-verb c s a IriRef l h = refl
 semi-verb c s a PnameNs l h = refl
@@ -31,6 +35,7 @@ semi-verb c s a PnameLn l h = refl
 semi-verb c s a A l h = refl
 semi-verb c s a k l h = absurd (false≢true h)
 
+-- after ';' what is no verb and no further ';' ends the predicate list
 pub semi-else : (c : Setting) (s : Option term.Subject) (a : M.Around) (k : Kind) (l : Leaf) → begins_verb k ≡ false → (k ≡ Semicolon → ⊥) →
     M.semi c s a k l ≡ M.list_end c s a k l
 semi-else c s a IriRef l h n = absurd (cc)
@@ -40,6 +45,7 @@ semi-else c s a A l h n = absurd (cc)
 semi-else c s a Semicolon l h n = absurd (n refl)
 semi-else c s a k l h n = refl
 
+-- after a property list that is a subject a verb may come
 pub after_box-verb : (c : Setting) (s : Option term.Subject) (v : M.Level) (k : Kind) (l : Leaf) → begins_verb k ≡ true →
     M.after_box c s v k l ≡ M.verb_start c s (M.Statement v) k l
 after_box-verb c s v IriRef l h = refl
@@ -48,6 +54,7 @@ after_box-verb c s v PnameLn l h = refl
 after_box-verb c s v A l h = refl
 after_box-verb c s v k l h = absurd (false≢true h)
 
+-- after a property list that is a subject what is no verb ends the statement
 pub after_box-else : (c : Setting) (s : Option term.Subject) (v : M.Level) (k : Kind) (l : Leaf) → begins_verb k ≡ false →
     M.after_box c s v k l ≡ M.list_end c s (M.Statement v) k l
 after_box-else c s v IriRef l h = absurd (cc)
@@ -56,6 +63,7 @@ after_box-else c s v PnameLn l h = absurd (cc)
 after_box-else c s v A l h = absurd (cc)
 after_box-else c s v k l h = refl
 
+-- in a collection what does not close it begins the next item
 pub cells-else : (c : Setting) (f n : ℕ) (u : M.Up) (k : Kind) (l : Leaf) → (k ≡ CloseParen → ⊥) →
     M.after c (M.InCells f n u) k l ≡ M.object_start c (M.InCells f l.at.offset u) (rest_quad c (term.Cell n) (term.Blank (cell_at l))) k l
 cells-else c f n u CloseParen l h = absurd (h refl)
@@ -67,11 +75,13 @@ listed-else c s p a Comma l h i = absurd (h refl)
 listed-else c s p a Semicolon l h i = absurd (i refl)
 listed-else c s p a k l h i = refl
 
+-- after '(' what does not close it begins the first item
 pub paren-else : (c : Setting) (u : M.Up) (k : Kind) (l : Leaf) → (k ≡ CloseParen → ⊥) →
     M.paren c u k l ≡ M.object_start c (M.InCells l.at.offset l.at.offset u) None k l
 paren-else c u CloseParen l h = absurd (h refl)
 paren-else c u k l h = refl
 
+-- after a string what is no tag and no '^^' is what may follow an object
 pub text-else : (c : Setting) (w : List ℕ) (p : M.Place) (k : Kind) (l : Leaf) → (k ≡ LangTag → ⊥) → (k ≡ AtBase → ⊥) → (k ≡ AtPrefix → ⊥) → (k ≡ Carets → ⊥) →
     M.after_text c w p k l ≡ M.after c p k l
 text-else c w p LangTag l h i j n = absurd (h refl)
@@ -80,6 +90,7 @@ text-else c w p AtPrefix l h i j n = absurd (j refl)
 text-else c w p Carets l h i j n = absurd (n refl)
 text-else c w p k l h i j n = refl
 
+-- between statements what begins no directive and no block begins a subject
 pub start-else : (form : DocForm) (c : Setting) (k : Kind) (l : Leaf) → (k ≡ End → ⊥) → (k ≡ AtPrefix → ⊥) → (k ≡ Prefix → ⊥) → (k ≡ AtBase → ⊥) →
     (k ≡ Base → ⊥)
     → (k ≡ Graph → ⊥) → (k ≡ OpenBrace → ⊥) → M.start form c k l ≡ M.subject_start form (in_default c.scope) M.Top k l

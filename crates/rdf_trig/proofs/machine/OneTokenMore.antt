@@ -52,5 +52,6 @@ runs_refused form start ts t rs old x r a =
     let h = subst (SameAnswer (accept form r.machine t.kind (leaf_of t))) a (accept_same form r.machine old t.kind (leaf_of t) r.same) in
     refuses_same (accept form r.machine t.kind (leaf_of t)) x h
 
+-- a reader has put at most two quads for each token, so its count of quads does not overflow
 pub runs_few : (form : DocForm) (start : InForce) (ts : List Token) (qs : List Quad) (s : State) → RunsTo form start ts qs s → length qs ≤ 2 * counted ts
 runs_few form start ts qs s r = ran_few form start ts r.machine qs r.accepted

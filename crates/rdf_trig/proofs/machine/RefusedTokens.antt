@@ -32,11 +32,13 @@ deep_kind OpenBracket e = (refl, refl)
 deep_kind OpenParen e = (refl, refl)
 deep_kind k e = absurd (let z : 0 ≡ 1 = e in omega arith)
 
+-- what the machine counts as a bracket is what the definition counts
 deepens_kind : (k : Kind) → deepens k ≡ true → (opens k ≡ 1) × (closes k ≡ 0)
 deepens_kind OpenBracket e = (refl, refl)
 deepens_kind OpenParen e = (refl, refl)
 deepens_kind k e = absurd (let z : false ≡ true = e in cc)
 
+-- with a bracket more, one more is open than before it
 depth_with : (form : DocForm) (ts : List Token) (t : Token) (start : InForce) (s : Stand) → reach true form (in_default start) Start ts ≡ Some s →
     opens t.kind ≡ 1 → closes t.kind ≡ 0 →
     open_in (ts ++ t ∷ []) ≡ depth s.mode + 1
@@ -44,6 +46,7 @@ depth_with form ts t start s e o k =
     let h : opened ts + 0 ≡ closed ts + depth s.mode = reached_depth true form ts (in_default start) Start s e in
     omega (arith, h, o, k, opened-append ts (t ∷ []), closed-append ts (t ∷ []))
 
+-- what fits the limits is no IRI that is too long
 long_one : (sizes : Sizes) (u : Use) → Fits sizes u → IsLong sizes u → ⊥
 long_one sizes itself f l = l
 long_one sizes (stands None) f l = l
@@ -51,6 +54,7 @@ long_one sizes (stands (Some i)) f l = let z : true ≡ false = sym (lt-ltb size
 long_one sizes (binds full None) f l = l
 long_one sizes (binds full (Some i)) f l = let z : true ≡ false = sym (lt-ltb sizes.iri (byte_len i) l) ∙ f.0 in cc
 
+-- what fits the limits is no binding too many
 one_more : (sizes : Sizes) (u : Use) → Fits sizes u → IsOneMore u → ⊥
 one_more sizes itself f l = l
 one_more sizes (stands i) f l = l
@@ -61,10 +65,12 @@ one_more sizes (binds full (Some i)) f l = let z : true ≡ false = sym l ∙ f.
 abbrev pub place : State → Stand
 place s = stand s.setting s.mode
 
+-- a run that is accepted also goes through by the grammar alone, where the meaning of viable tokens is stated
 pub reached_start : (form : DocForm) (start : InForce) (ts : List Token) (s : State) (qs : List Quad) → accept_all form (at_start start) ts ≡ ran s qs →
     reach true form (in_default start) Start ts ≡ Some (place s)
 reached_start form start ts s qs e = (ran_tokens form ts (at_start start) s qs e).reached
 
+-- the limits on the way are those of the start
 same_limits : (form : DocForm) (start : InForce) (ts : List Token) (s : Stand) → reach true form (in_default start) Start ts ≡ Some s →
     s.setting.scope.limits ≡ start.limits
 same_limits form start ts s e = reached_limits true form ts (in_default start) Start s e
@@ -98,6 +104,7 @@ pub record Halfway (form : DocForm) (s : State) (ahead : List Token) (t : Token)
   pub before : accept_all form s ahead ≡ ran state given
   pub accepts_it : accept form state t.kind (leaf_of t) ≡ accepts quads next
 
+-- an accepted run has a state before each of its tokens
 pub halfway : (form : DocForm) (ahead : List Token) (t : Token) (more : List Token) (s n : State) (qs : List Quad) →
     accept_all form s (ahead ++ t ∷ more) ≡ ran n qs → Halfway form s ahead t
 halfway form [] t more s n qs e = by (accept form s t.kind (leaf_of t)) refl e
@@ -133,6 +140,7 @@ passes_none form start ts n qs e ahead behind t split p =
 abbrev Went : Reply → Use → Type 0
 Went r u = (early : Option Quad) × (now : Option Quad) × (c : Setting) × (m : Mode) × (r ≡ Go u early now c m)
 
+-- what the machine saw when it refused a token for a reason
 abbrev Why : Sizes → State → Kind → Reply → Refusal → Type 0
 Why sizes s k r unexpected = r ≡ No
 Why sizes s k r unbound = (k ≢ IriRef) × Went r (stands None)
@@ -145,10 +153,12 @@ Why sizes s k r too_many_bindings = (u : Use) × (has_iri u ≡ true) × Went r 
 because : (sizes : Sizes) (s : State) (k : Kind) (r : Reply) (x y : Refusal) → Answer.refuses x ≡ Answer.refuses y → Why sizes s k r x → Why sizes s k r y
 because sizes s k r x y e w = let z : x ≡ y = cc in subst (Why sizes s k r) z w
 
+-- a token without an IRI is refused for a missing base or an unbound prefix, by its kind
 unnamed_why : (sizes : Sizes) (s : State) (k : Kind) (r : Reply) (x : Refusal) → Went r (stands None) → refuses (unnamed k) ≡ refuses x → Why sizes s k r x
 unnamed_why sizes s IriRef r x w e = because sizes s IriRef r no_base x e (inl (refl, w))
 unnamed_why sizes s k r x w e = because sizes s k r unbound x e ((λ z. cc), w)
 
+-- a test with a known outcome took one of its sides
 either : {T : Type 0} (b : Bool) (x y z : T) → cond b x y ≡ z → ((b ≡ true) × (x ≡ z)) ⊎ ((b ≡ false) × (y ≡ z))
 either true x y z e = inl (refl, e)
 either false x y z e = inr (refl, e)
@@ -173,6 +183,7 @@ use_why sizes s k r (binds full (Some i)) gs n x w e =
     (either full (refuses too_many_bindings) (accepts gs n) (refuses x) h.1))
     (either (too_long sizes i) (refuses iri_too_long) (cond full (refuses too_many_bindings) (accepts gs n)) (refuses x) e)
 
+-- each refusal comes with what the machine saw, so that its reason can be shown to hold
 why : (sizes : Sizes) (s : State) (k : Kind) (w : Option Quad) (r : Reply) (x : Refusal) → answer sizes s k w r ≡ refuses x → Why sizes s k r x
 why sizes s k w No x e = because sizes s k No unexpected x e refl
 why sizes s k w (Go u early now c m) x e =
@@ -190,6 +201,7 @@ name_kind s PnameLn l n u = inl refl
 name_kind s PnameNs l n u = inr refl
 name_kind s k l n u = absurd (let z : stands None ≡ itself = u in cc)
 
+-- only an IRIREF binds a prefix
 binding_kind : (s : InForce) (k : Kind) (l : Leaf) (full : Bool) (i : Option (List ℕ)) → IsUse s k l (binds full i) → k ≡ IriRef
 binding_kind s IriRef l full i u = refl
 binding_kind s PnameLn l full i u = absurd (let z : binds full i ≡ stands (name_in s l) = u in cc)

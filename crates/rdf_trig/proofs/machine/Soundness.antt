@@ -29,9 +29,11 @@ abbrev RestLevel : DocForm → Level → Type 0
 RestLevel form Top = Leaf × Document form
 RestLevel form InBlock = (Leaf × Option TriplesBlock × Leaf × Document form) ⊎ (Leaf × Document form)
 
+-- what a label outside of blocks is followed by: predicates, or the block of its graph
 abbrev RestLabel : DocForm → Type 0
 RestLabel form = (PredicateObjectList × RestLevel form Top) ⊎ (WrappedGraph × Document form)
 
+-- what a subject is followed by; outside of blocks in TriG it may have been a label
 abbrev RestSubject : DocForm → Level → Type 0
 RestSubject form InBlock = PredicateObjectList × RestLevel form InBlock
 RestSubject Turtle Top = PredicateObjectList × RestLevel Turtle Top
@@ -53,15 +55,18 @@ abbrev mutual
   RestAround form (Statement v) = RestLevel form v
   RestAround form (Boxed u) = Leaf × RestUp form u was_box
 
+-- the events of what follows a predicate list of a statement
 abbrev level_events : (form : DocForm) → Setting → (v : Level) → RestLevel form v → List Event
 level_events form c Top r = take Dot r.0 (document_events c.scope r.1)
 level_events form c InBlock (inl r) = take Dot r.0 (maybe_block_events c r.1 (take CloseBrace r.2 (document_events c.scope r.3)))
 level_events form c InBlock (inr r) = take CloseBrace r.0 (document_events c.scope r.1)
 
+-- the events of what follows a label
 abbrev behind_label : (form : DocForm) → Setting → Option term.Subject → RestLabel form → List Event
 behind_label form c s (inl r) = predicates_events c r.0 s (level_events form c Top r.1)
 behind_label form c s (inr r) = wrapped_events (in_graph c.scope s) r.0 (document_events c.scope r.1)
 
+-- the events of what follows a subject
 abbrev behind_subject : (form : DocForm) → Setting → (v : Level) → Option term.Subject → RestSubject form v → List Event
 behind_subject form c InBlock s r = predicates_events c r.0 s (level_events form c InBlock r.1)
 behind_subject Turtle c Top s r = predicates_events c r.0 s (level_events Turtle c Top r.1)
@@ -88,19 +93,23 @@ data TextEnd : Type 0 where
   tag_end : Tag → TextEnd
   type_end : Leaf → Iri → TextEnd
 
+-- the events of what follows a string: a tag, a type, or none
 abbrev end_events : Setting → List ℕ → Place → TextEnd → List Event → List Event
 end_events c w p no_end rest = give (quad_at c p (plain_literal w)) rest
 end_events c w p (tag_end t) rest = tag_events t (give (quad_at c p (tagged_literal w (language t))) rest)
 end_events c w p (type_end l i) rest = take Carets l (iri_events c.scope i (give (quad_at c p (typed_literal w (iri_in c.scope i))) rest))
 
+-- what follows the IRIREF of a directive: its dot, if it has one, and the rest of the document
 abbrev RestDirective : DocForm → Spelling → Type 0
 RestDirective form Dotted = Leaf × Document form
 RestDirective form Sparql = Document form
 
+-- the events of what follows the IRIREF of a directive
 abbrev spelled_events : (form : DocForm) → InForce → (w : Spelling) → RestDirective form w → List Event
 spelled_events form s Dotted r = take Dot r.0 (document_events s r.1)
 spelled_events form s Sparql r = document_events s r
 
+-- the part of a document's tree that is still to come in a mode
 abbrev Rest : DocForm → Mode → Type 0
 Rest form Start = Document form
 Rest form Over = Unit {0}
@@ -123,21 +132,26 @@ Rest form (WantVerb s a) = PredicateObjectList × RestAround form a
 Rest form (Semi s a) = (PredicateObjectList ⊎ More) × RestAround form a
 Rest form (AfterBox s v) = Option PredicateObjectList × RestLevel form v
 
+-- the events of a block and of what follows it
 abbrev brace_events : (form : DocForm) → Setting → Option term.Subject → WrappedGraph × Document form → List Event
 brace_events form c g r = wrapped_events (in_graph c.scope g) r.0 (document_events c.scope r.1)
 
+-- the events of what follows a '['
 abbrev box_events : (form : DocForm) → Setting → ℕ → (u : Up) → (Leaf × RestUp form u was_node) ⊎ (PredicateObjectList × RestAround form (Boxed u)) → List Event
 box_events form c n u (inl r) = take CloseBracket r.0 (up_events form c u was_node (node (Anon n)) r.1)
 box_events form c n u (inr r) = predicates_events c r.0 (node (Anon n)) (around_events form c (Boxed u) (node (Anon n)) r.1)
 
+-- the events of what follows a ';'
 abbrev semi_events : Setting → Option term.Subject → PredicateObjectList ⊎ More → List Event → List Event
 semi_events c s (inl ps) rest = predicates_events c ps s rest
 semi_events c s (inr ms) rest = more_events c ms s rest
 
+-- the events of what follows the prefix of a directive
 abbrev binding_events : (form : DocForm) → InForce → List ℕ → (w : Spelling) → Leaf × RestDirective form w → List Event
 binding_events form s p w r =
     Took (token IriRef r.0) (binds (is_full s p) (reference_in s r.0)) ∷ spelled_events form (with_binding s p (reference_in s r.0)) w r.1
 
+-- the events of what is still to come in a mode
 abbrev all_events : (form : DocForm) → Setting → (m : Mode) → Rest form m → List Event
 all_events form c Start r = document_events c.scope r
 all_events form c Over r = []
@@ -160,9 +174,11 @@ all_events form c (WantVerb s a) r = predicates_events c r.0 s (around_events fo
 all_events form c (Semi s a) r = semi_events c s r.0 (around_events form c a s r.1)
 all_events form c (AfterBox s v) r = maybe_events c s r.0 (level_events form c v r.1)
 
+-- some rest of a tree has these events, so that the tokens to come are those of a tree
 abbrev Found : DocForm → Setting → Mode → List Event → Type 0
 Found form c m es = (r : Rest form m) × (es ≡ all_events form c m r)
 
+-- the events of an accepted token, taken apart: what was waiting, the token, its quads, and those after it
 pub unput : (w : Option Quad) (t : Token) (u : Use) (early now : Option Quad) (o : Option (List Event)) (es : List Event) →
     fronted w (put t u early now o) ≡ Some es →
     (fs : List Event) × (o ≡ Some fs) × (es ≡ give w (Took t u ∷ give early (give now fs)))
@@ -177,40 +193,47 @@ iri_body Turtle i s es (ps, (d, rest)) e = (with_body record { triples = subject
 iri_body TriG i s es (inl (ps, (d, rest))) e = (with_body (triples_or_graph (label_triples (iri_label i) ps d)) rest, e)
 iri_body TriG i s es (inr (w, rest)) e = (with_body (triples_or_graph (named_graph (iri_label i) w)) rest, e)
 
+-- a blank node and what follows it are a body of the document
 blank_body : (form : DocForm) (b : BlankNode) (s : InForce) (es : List Event) (r : RestSubject form Top) →
     es ≡ blank_object_events b None None (behind_subject form (in_default s) Top (node (blank_of b)) r) → (d : Document form) × (es ≡ document_events s d)
 blank_body Turtle b s es (ps, (d, rest)) e = (with_body record { triples = subject_triples (blank_subject b) ps; dot = d } rest, e)
 blank_body TriG b s es (inl (ps, (d, rest))) e = (with_body (triples_or_graph (label_triples (blank_label b) ps d)) rest, e)
 blank_body TriG b s es (inr (w, rest)) e = (with_body (triples_or_graph (named_graph (blank_label b) w)) rest, e)
 
+-- a property list and what follows it are a body of the document
 list_body : (form : DocForm) (p : BlankNodePropertyList) (s : InForce) (es : List Event) (ps : Option PredicateObjectList) (r : Leaf × Document form) →
     es ≡ list_events (in_default s) p None None (maybe_events (in_default s) (Some (list_of p)) ps (level_events form (in_default s) Top r)) →
     (d : Document form) × (es ≡ document_events s d)
 list_body Turtle p s es ps (d, rest) e = (with_body record { triples = list_triples p ps; dot = d } rest, e)
 list_body TriG p s es ps (d, rest) e = (with_body (triples2 (list_triples2 p ps d)) rest, e)
 
+-- a collection and what follows it are a body of the document
 collection_body : (form : DocForm) (x : Collection) (s : InForce) (es : List Event) (ps : PredicateObjectList) (r : Leaf × Document form) →
     es ≡ collection_events (in_default s) x None None (predicates_events (in_default s) ps (Some (collection_of x)) (level_events form (in_default s) Top r)) →
     (d : Document form) × (es ≡ document_events s d)
 collection_body Turtle x s es ps (d, rest) e = (with_body record { triples = subject_triples (collection_subject x) ps; dot = d } rest, e)
 collection_body TriG x s es ps (d, rest) e = (with_body (triples2 (collection_triples2 x ps d)) rest, e)
 
+-- what is to come after a subject, read as a rest of its production
 as_subject : (form : DocForm) (v : Level) (s : Option term.Subject) (c : Setting) (r : Rest form (after_subject form v s)) →
     (x : RestSubject form v) × (all_events form c (after_subject form v s) r ≡ behind_subject form c v s x)
 as_subject form InBlock s c r = (r, refl)
 as_subject Turtle Top s c r = (r, refl)
 as_subject TriG Top s c r = (r, refl)
 
+-- what is to come after a property list, read as a rest of its production
 as_box : (form : DocForm) (u : Up) (s : Option term.Subject) (c : Setting) (r : Rest form (box_closed u s)) →
     (x : RestUp form u was_box) × (all_events form c (box_closed u s) r ≡ up_events form c u was_box s x)
 as_box form (Subject v) s c r = (r, refl)
 as_box form (At p) s c r = (r, refl)
 
+-- what is to come after `[]`, read as a rest of its production
 as_node : (form : DocForm) (u : Up) (s : Option term.Subject) (c : Setting) (r : Rest form (node_closed form u s)) →
     (x : RestUp form u was_node) × (all_events form c (node_closed form u s) r ≡ up_events form c u was_node s x)
 as_node form (Subject v) s c r = as_subject form v s c r
 as_node form (At p) s c r = (r, refl)
 
+-- what is to come after a collection, read as a rest of its production
 as_list : (form : DocForm) (u : Up) (s : Option term.Subject) (c : Setting) (r : Rest form (list_closed u s)) →
     (x : RestUp form u was_list) × (all_events form c (list_closed u s) r ≡ up_events form c u was_list s x)
 as_list form (Subject v) s c r = (r, refl)
@@ -221,6 +244,7 @@ more_of : Leaf → PredicateObjectList ⊎ More → More
 more_of l (inl (predicate_objects v os m)) = semicolon_objects l v os m
 more_of l (inr m) = semicolon l m
 
+-- a ';' and what follows it are a rest of a predicate list
 more_of-events : (c : Setting) (s : Option term.Subject) (l : Leaf) (x : PredicateObjectList ⊎ More) (rest : List Event) →
     take Semicolon l (semi_events c s x rest) ≡ more_events c (more_of l x) s rest
 unfolding more_of
@@ -512,18 +536,21 @@ module _ (form : DocForm) (next : Setting → Mode → Option (List Event))
   want_dot_found c Dot l es e = let b = behind_it Dot l None itself None None c Start es e in ((l, b.0), b.1)
   want_dot_found c k l es e = absurd (let z : None ≡ Some es = e in cc)
 
+-- at GRAPH a rest is found, if one is found after it
 graph_start_found : (next : Setting → Mode → Option (List Event))
     (ih : (c : Setting) (m : Mode) (es : List Event) → next c m ≡ Some es → Found TriG c m es) (c : Setting) (l : Leaf) (es : List Event) →
     fronted None (go_on (token Graph l) (start TriG c Graph l) next) ≡ Some es → Found TriG c Start es
 graph_start_found next ih c l es e =
     let b = behind_it TriG next ih Graph l None itself None None c GraphWord es e in (with_body (tree.graph_word l b.0.0 b.0.1) b.0.2, b.1)
 
+-- at the '{' of a block without a label a rest is found, if one is found after it
 brace_start_found : (next : Setting → Mode → Option (List Event))
     (ih : (c : Setting) (m : Mode) (es : List Event) → next c m ≡ Some es → Found TriG c m es) (c : Setting) (l : Leaf) (es : List Event) →
     fronted None (go_on (token OpenBrace l) (start TriG c OpenBrace l) next) ≡ Some es → Found TriG c Start es
 brace_start_found next ih c l es e =
     let b = behind_it TriG next ih OpenBrace l None itself None None (in_default c.scope) Inside es e in (with_body (default_graph (wrapped l b.0.0 b.0.1)) b.0.2, b.1)
 
+-- between statements a rest is found, if one is found after the token
 start_found : (form : DocForm) (next : Setting → Mode → Option (List Event))
     (ih : (c : Setting) (m : Mode) (es : List Event) → next c m ≡ Some es → Found form c m es) (c : Setting) (k : Kind) (l : Leaf) (es : List Event) →
     fronted None (go_on (token k l) (start form c k l) next) ≡ Some es → Found form c Start es
@@ -537,6 +564,7 @@ start_found TriG next ih c Graph l es e = graph_start_found next ih c l es e
 start_found TriG next ih c OpenBrace l es e = brace_start_found next ih c l es e
 start_found form next ih c k l es e = subject_found form next ih c k l es e
 
+-- in every mode a rest is found, if one is found after the token
 step_found : (form : DocForm) (next : Setting → Mode → Option (List Event))
     (ih : (c : Setting) (m : Mode) (es : List Event) → next c m ≡ Some es → Found form c m es) (c : Setting) (m : Mode) (k : Kind) (l : Leaf)
     (es : List Event) →
@@ -562,10 +590,12 @@ step_found form next ih c (WantVerb s a) k l es e = verb_found form next ih c s 
 step_found form next ih c (Semi s a) k l es e = semi_found form next ih c s a k l es e
 step_found form next ih c (AfterBox s v) k l es e = after_box_found form next ih c s v k l es e
 
+-- at the end nothing is to come
 stop_found : (form : DocForm) (c : Setting) (m : Mode) (es : List Event) → stop m ≡ Some es → Found form c m es
 stop_found form c Over es e = (tt, cc)
 stop_found form c m es e = absurd (let z : None ≡ Some es = e in cc)
 
+-- so the tokens of each run to the end are the rest of some tree
 found : (form : DocForm) (ts : List Token) (c : Setting) (m : Mode) (es : List Event) → run form c m ts ≡ Some es → Found form c m es
 found form [] c m es e = stop_found form c m es e
 found form (t ∷ ts) c m es e = step_found form (λ c' m'. run form c' m' ts) (found form ts) c m t.kind (leaf_of t) es e
@@ -575,6 +605,7 @@ tokens_give : (q : Option Quad) (es : List Event) → tokens (give q es) ≡ tok
 tokens_give None es = refl
 tokens_give (Some q) es = refl
 
+-- the events of an accepted token have it first
 reply_tokens : (t : Token) (w : Option Quad) (r : Reply) (next : Setting → Mode → Option (List Event)) (ts : List Token) →
     ((c : Setting) (m : Mode) (es : List Event) → next c m ≡ Some es → tokens es ≡ ts) →
     (es : List Event) → fronted w (go_on t r next) ≡ Some es → tokens es ≡ t ∷ ts
@@ -583,10 +614,12 @@ reply_tokens t w (Go u early now c m) next ts ih es e =
     let x = unput w t u early now (next c m) es e in
     ap tokens x.2 ∙ tokens_give w _ ∙ ap (λ l. t ∷ l) (tokens_give early (give now x.0) ∙ tokens_give now x.0 ∙ ih c m x.0 x.1)
 
+-- no token comes after the end
 stop_tokens : (m : Mode) (es : List Event) → stop m ≡ Some es → tokens es ≡ []
 stop_tokens Over es e = let z : [] ≡ es = cc in ap tokens (sym z)
 stop_tokens m es e = absurd (let z : None ≡ Some es = e in cc)
 
+-- the events of a run have the tokens that were read
 pub same_tokens : (form : DocForm) (ts : List Token) (c : Setting) (m : Mode) (es : List Event) → run form c m ts ≡ Some es → tokens es ≡ ts
 same_tokens form [] c m es e = stop_tokens m es e
 same_tokens form (t ∷ ts) c m es e = reply_tokens t (waiting c m t.kind (leaf_of t)) (step form c m t.kind (leaf_of t)) (λ c' m'. run form c' m' ts) ts (same_tokens form ts) es e

@@ -22,19 +22,23 @@ owes (AfterText w p) = 1
 owes (Paren u) = 1
 owes m = 0
 
+-- how many quads there are, none or one
 abbrev size : Option Quad → ℕ
 size None = 0
 size (Some q) = 1
 
+-- at most one
 size_le : (q : Option Quad) → size q ≤ 1
 size_le None = omega arith
 size_le (Some q) = omega arith
 
+-- a mode owes one quad at most, that of a string or parenthesis whose next token decides it
 owes_le : (m : Mode) → owes m ≤ 1
 owes_le (AfterText w p) = omega arith
 owes_le (Paren u) = omega arith
 owes_le m = omega arith
 
+-- a list of quads with one before it
 kept_length : (q : Option Quad) (qs : List Quad) → length (kept q qs) ≡ size q + length qs
 kept_length None qs = omega arith
 kept_length (Some q) qs = omega arith
@@ -48,15 +52,19 @@ abbrev Few : Kind → Reply → Type 0
 Few k No = Unit {0}
 Few k (Go u early now c m) = IsFew (is_end k) m early now
 
+-- to give no quad is few enough
 quiet : (m : Mode) → IsFew false m None None
 quiet m = record { most = let h = owes_le m in omega (arith, h) }
 
+-- two quads are few enough where the mode after them owes none, as within a collection
 both : (m : Mode) (early now : Option Quad) → owes m ≡ 0 → IsFew false m early now
 both m early now e = record { most = let a = size_le early in let b = size_le now in omega (arith, a, b, e) }
 
+-- one quad that was waiting is few enough
 first : (m : Mode) (early : Option Quad) → IsFew false m early None
 first m early = record { most = let a = size_le early in let b = owes_le m in omega (arith, a, b) }
 
+-- one quad whose head ends with the token is few enough
 one : (m : Mode) (now : Option Quad) → IsFew false m None now
 one m now = record { most = let a = owes_le m in let b = size_le now in omega (arith, a, b) }
 
@@ -194,6 +202,7 @@ dot_few : (c : Setting) (k : Kind) (l : Leaf) → Few k (want_dot c k l)
 dot_few c Dot l = quiet _
 dot_few c k l = tt
 
+-- so no step of the machine gives more than two quads, counted with the one that it owes
 step_few : (form : DocForm) (c : Setting) (m : Mode) (k : Kind) (l : Leaf) → Few k (step form c m k l)
 step_few form c Start k l = start_few form c k l
 step_few form c Over k l = tt
@@ -216,6 +225,7 @@ step_few form c (WantVerb s a) k l = verb_few c s a k l
 step_few form c (Semi s a) k l = semi_few c s a k l
 step_few form c (AfterBox s v) k l = after_box_few c s v k l
 
+-- a quad that waits was owed
 waiting_few : (c : Setting) (m : Mode) (k : Kind) (l : Leaf) → size (waiting c m k l) ≤ owes m
 waiting_few c (AfterText w p) k l = size_le (waiting c (AfterText w p) k l)
 waiting_few c (Paren u) k l = size_le (waiting c (Paren u) k l)
@@ -242,6 +252,7 @@ accept_few form s n t qs e =
     by true = refl
     by false = refl
 
+-- a run gives at most two quads for each token but the end, so counts of quads do not overflow
 run_few : (form : DocForm) (ts : List Token) (s n : State) (qs : List Quad) → accept_all form s ts ≡ ran n qs →
     length qs + length n.held + owes n.mode ≤ length s.held + owes s.mode + 2 * counted ts
 run_few form [] s n qs e =

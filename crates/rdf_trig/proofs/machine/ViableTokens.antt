@@ -21,17 +21,21 @@ pub record Stand : Type 0 where
   pub setting : Setting
   pub mode : Mode
 
+-- a setting and a mode
 abbrev pub stand : Setting → Mode → Stand
 stand c m = record { setting = c; mode = m }
 
+-- what is reached if the test holds
 abbrev pub if_true : Bool → Option Stand → Option Stand
 if_true true o = o
 if_true false o = None
 
+-- what was reached passed the test
 was_true : (b : Bool) (o : Option Stand) (s : Stand) → if_true b o ≡ Some s → (b ≡ true) × (o ≡ Some s)
 was_true true o s e = (refl, e)
 was_true false o s e = absurd (let z : None ≡ Some s = e in cc)
 
+-- where a reply leads, if what its token stands for is admitted
 abbrev pub on_reply : Bool → Reply → (Setting → Mode → Option Stand) → Option Stand
 on_reply strict No next = None
 on_reply strict (Go u early now c m) next = if_true (admits strict u) (next c m)
@@ -116,41 +120,51 @@ use_bound (stands (Some i)) h = λ z. cc
 use_bound (binds full None) h = absurd (let z : false ≡ true = h in cc)
 use_bound (binds full (Some i)) h = λ z. cc
 
+-- events that are admitted by the strict test are bound
 pub passing_bound : (es : List Event) → AllAdmitted true es → Bound es
 passing_bound [] b = tt
 passing_bound (Took t u ∷ es) b = (use_bound u b.0, passing_bound es b.1)
 passing_bound (Gave q ∷ es) b = passing_bound es b
 
+-- without the strict test all events are admitted
 pub any_passing : (es : List Event) → AllAdmitted false es
 any_passing [] = tt
 any_passing (Took t u ∷ es) = (refl, any_passing es)
 any_passing (Gave q ∷ es) = any_passing es
 
+-- tokens that begin a run of names that are bound begin a document
 pub begins_viable : (form : DocForm) (start : InForce) (ts : List Token) → Begins true form start ts → Viable (documents form start) ts
 begins_viable form start ts (d, us, e, b) =
     (us, event_quads 0 (document_events start d), record { tree = d; tokens = sym e ∙ document_told d start; bound = passing_bound (document_events start d) b; quads = refl })
 
+-- tokens that begin a document begin a run of names that are bound
 pub viable_begins : (form : DocForm) (start : InForce) (ts : List Token) → Viable (documents form start) ts → Begins true form start ts
 viable_begins form start ts v = let d = v.2 in (d.tree, v.0, document_told d.tree start ∙ sym d.tokens, bound_passing (document_events start d.tree) d.bound)
 
+-- tokens that begin a run begin a tree
 pub begins_shaped : (form : DocForm) (start : InForce) (ts : List Token) → Begins false form start ts → Shaped (trees form start) ts
 begins_shaped form start ts (d, us, e, b) = (us, event_quads 0 (document_events start d), record { tree = d; tokens = sym e ∙ document_told d start; quads = refl })
 
+-- tokens that begin a tree begin a run, names aside
 pub shaped_begins : (form : DocForm) (start : InForce) (ts : List Token) → Shaped (trees form start) ts → Begins false form start ts
 shaped_begins form start ts v = let d = v.2 in (d.tree, v.0, document_told d.tree start ∙ sym d.tokens, any_passing (document_events start d.tree))
 
+-- tokens that the machine takes begin a document
 pub reached_viable : (form : DocForm) (start : InForce) (ts : List Token) (s : Stand) → reach true form (in_default start) Start ts ≡ Some s →
     Viable (documents form start) ts
 reached_viable form start ts s e = begins_viable form start ts (reached_begins true form ts start s e)
 
+-- tokens that begin a document are taken, so the machine refuses none too early
 pub viable_reached : (form : DocForm) (start : InForce) (ts : List Token) → Viable (documents form start) ts →
     (s : Stand) × (reach true form (in_default start) Start ts ≡ Some s)
 viable_reached form start ts v = begins_reached true form ts start (viable_begins form start ts v)
 
+-- tokens that it takes, names aside, begin a tree
 pub reached_shaped : (form : DocForm) (start : InForce) (ts : List Token) (s : Stand) → reach false form (in_default start) Start ts ≡ Some s →
     Shaped (trees form start) ts
 reached_shaped form start ts s e = begins_shaped form start ts (reached_begins false form ts start s e)
 
+-- tokens that begin a tree are taken, names aside
 pub shaped_reached : (form : DocForm) (start : InForce) (ts : List Token) → Shaped (trees form start) ts →
     (s : Stand) × (reach false form (in_default start) Start ts ≡ Some s)
 shaped_reached form start ts v = begins_reached false form ts start (shaped_begins form start ts v)
@@ -159,15 +173,18 @@ shaped_reached form start ts v = begins_reached false form ts start (shaped_begi
 abbrev pub step_on : Bool → DocForm → Stand → Token → Option Stand
 step_on strict form s t = on_reply strict (step form s.setting s.mode t.kind (leaf_of t)) (λ c' m'. Some (stand c' m'))
 
+-- where one token more leads, if the tokens before it were taken
 abbrev pub and_on : Bool → DocForm → Option Stand → Token → Option Stand
 and_on strict form None t = None
 and_on strict form (Some s) t = step_on strict form s t
 
+-- the test of a first token and a further token at the end do not touch each other
 snoc_true : (strict : Bool) (form : DocForm) (b : Bool) (o o' : Option Stand) (t : Token) → o ≡ and_on strict form o' t →
     if_true b o ≡ and_on strict form (if_true b o') t
 snoc_true strict form true o o' t e = e
 snoc_true strict form false o o' t e = refl
 
+-- a walk over one token more is the walk before it and a step
 pub reach-snoc : (strict : Bool) (form : DocForm) (ts : List Token) (t : Token) (c : Setting) (m : Mode) →
     reach strict form c m (ts ++ t ∷ []) ≡ and_on strict form (reach strict form c m ts) t
 reach-snoc strict form [] t c m = refl
@@ -178,6 +195,7 @@ reach-snoc strict form (u ∷ ts) t c m = by (step form c m u.kind (leaf_of u)) 
     by No ih = refl
     by (Go v early now c' m') ih = snoc_true strict form (admits strict v) _ _ t (ih c' m')
 
+-- what passes the strict test is reached without it too
 lax_true : (fine : Bool) (o : Option Stand) (s : Stand) → if_true fine o ≡ Some s → o ≡ Some s
 lax_true true o s e = e
 lax_true false o s e = absurd (let z : None ≡ Some s = e in cc)
@@ -193,6 +211,7 @@ lax form (t ∷ ts) c m s e = by (step form c m t.kind (leaf_of t)) (λ c' m' h.
     by No ih e = absurd (let z : None ≡ Some s = e in cc)
     by (Go u early now c' m') ih e = ih c' m' (lax_true (has_iri u) _ s e)
 
+-- a token without a step begins nothing
 not_begins : (strict : Bool) (form : DocForm) (ts : List Token) (t : Token) (start : InForce) (s : Stand) →
     reach strict form (in_default start) Start ts ≡ Some s → step_on strict form s t ≡ None →
     Begins strict form start (ts ++ t ∷ []) → ⊥
@@ -203,11 +222,13 @@ not_begins strict form ts t start s e n v =
     let z : None ≡ Some r.0 = sym n ∙ sym b ∙ sym a ∙ r.1 in
     cc
 
+-- a token that the strict step refuses begins no document
 pub not_viable : (form : DocForm) (ts : List Token) (t : Token) (start : InForce) (s : Stand) → reach true form (in_default start) Start ts ≡ Some s →
     step_on true form s t ≡ None →
     Viable (documents form start) (ts ++ t ∷ []) → ⊥
 not_viable form ts t start s e n v = not_begins true form ts t start s e n (viable_begins form start (ts ++ t ∷ []) v)
 
+-- a token that the grammar refuses begins no tree
 pub not_shaped : (form : DocForm) (ts : List Token) (t : Token) (start : InForce) (s : Stand) → reach false form (in_default start) Start ts ≡ Some s →
     step_on false form s t ≡ None →
     Shaped (trees form start) (ts ++ t ∷ []) → ⊥

@@ -21,17 +21,21 @@ use Rattle.rdf_trig.proofs.machine.DueQuads.{marked_rises}
 use Rattle.rdf_trig.proofs.machine.RefusedTokens.{reached_start, refused_for}
 use Rattle.rdf_trig.proofs.machine.ExactDocuments.{same_due, due_ran, front_all, front_to}
 
+-- the law of events, by its two halves
 pub tree_told : (form : DocForm) (start : InForce) (d : Document form) →
     (tokens (document_events start d) ≡ document_tokens d) × (event_quads 0 (document_events start d) ≡ document_quads start 0 d)
 tree_told form start d = (document_told d start, document_marks d start 0)
 
+-- the law of marks
 pub never_fall : (form : DocForm) (start : InForce) (d : Document form) → Rises 0 (event_quads 0 (document_events start d))
 never_fall form start d = marked_rises (document_events start d) 0
 
+-- the law of accepted tokens
 pub begins : (form : DocForm) (start : InForce) (ts : List Token) (s : State) (qs : List Quad) → accept_all form (at_start start) ts ≡ ran s qs →
     Reads form start ts qs
 begins form start ts s qs e = record { front = front_all form start ts s qs e; due = due_ran form start ts s qs e }
 
+-- the law of refused tokens
 pub stops : (form : DocForm) (start : InForce) (ts : List Token) (t : Token) (more : List Token) (s : State) (qs : List Quad) (x : Refusal) →
     accept_all form (at_start start) ts ≡ ran s qs →
     accept form s t.kind (leaf_of t) ≡ refuses x → IsRefusedAfter form start ts t more x
@@ -45,6 +49,7 @@ none_below : (qs : List Marked) (m k : ℕ) → k ≤ m → Rises m qs → items
 none_below [] m k l r = refl
 none_below (q ∷ qs) m k l r = cond-false (nat_lt q.mark k) _ _ (le-ltb _ _ (omega (arith, l, r.0))) ∙ none_below qs q.mark k (omega (arith, l, r.0)) r.1
 
+-- quads with rising marks: those below a number come first
 front_below : (qs : List Marked) (m k : ℕ) → Rises m qs → (rest : List Quad) × (unmarked qs ≡ items_below k qs ++ rest)
 front_below [] m k r = ([], refl)
 front_below (q ∷ qs) m k r = ⊎_elim (below (front_below qs q.mark k r.1)) behind (cases_lt q.mark k)
@@ -58,6 +63,7 @@ front_below (q ∷ qs) m k r = ⊎_elim (below (front_below qs q.mark k r.1)) be
         let e : items_below k (q ∷ qs) ≡ [] = cond-false (nat_lt q.mark k) (q.item ∷ items_below k qs) (items_below k qs) (le-ltb _ _ l) ∙ none_below qs q.mark k l r.1 in
         (unmarked (q ∷ qs), sym (ap (λ x. x ++ unmarked (q ∷ qs)) e))
 
+-- the law of due quads that begin a document's
 pub due_front : (form : DocForm) (start : InForce) (ts more : List Token) (qs : List Quad) (all : List Marked) → Due (documents form start) ts qs →
     documents form start (ts ++ more) all →
     (rest : List Quad) × (unmarked all ≡ qs ++ rest)

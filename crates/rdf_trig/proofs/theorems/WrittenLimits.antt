@@ -153,6 +153,7 @@ ample most iri = record {
   least_iri = omega arith;
 }
 
+-- the law that each document's quads can be written
 pub document_writable : DocumentIsWritable
 document_writable form start bytes qs h l d =
     let es = document_events start d.2.tree in
@@ -178,6 +179,7 @@ module _ (r : Room) (form : DocForm) (start : InForce) (same : r.iri ≡ start.l
         kept_within (front ++ Took t u ∷ []) es (e ∙ sym (append_assoc front (Took t u ∷ []) es)),
       )
 
+-- the law that what was written is read to its end
 pub document_read_back : WrittenDocumentIsRead
 document_read_back form start bytes qs h l d w token_then iri_then a b c e f =
     let r : Room = record {

@@ -65,11 +65,13 @@ based_iri : (base : Option (List ℕ)) (l : Leaf) → IfSome base IsIri → IfSo
 based_iri None l h = tt
 based_iri (Some b) l h = IsIri-target b (iri_of l) h (reference_text l)
 
+-- a reference with a scheme, or one that has been resolved, is an absolute IRI
 absolute_or_based : (base : Option (List ℕ)) (l : Leaf) (b : Bool) → has_scheme (iri_of l) ≡ b → IfSome base IsIri →
     IfSome (cond b (Some (iri_of l)) (based base (iri_of l))) IsIri
 absolute_or_based base l true e h = record { characters = reference_text l; scheme = e }
 absolute_or_based base l false e h = based_iri base l h
 
+-- an IRIREF stands for an absolute IRI, or for nothing
 pub reference_iri : (s : InForce) (l : Leaf) → HasIris s → IfSome (reference_in s l) IsIri
 unfolding reference_in resolved
 reference_iri s l h = absolute_or_based s.base l (has_scheme (iri_of l)) refl h.base
@@ -79,6 +81,7 @@ joined_iri : (o : Option (List ℕ)) (l : Leaf) → ((i : List ℕ) → o ≡ So
 joined_iri None l f = tt
 joined_iri (Some i) l f = IsIri-append i (local_of l) (f i refl) (local_text l)
 
+-- a prefixed name stands for an absolute IRI, or for nothing, in a scope whose bindings are IRIs
 pub name_iri : (s : InForce) (l : Leaf) → HasIris s → IfSome (name_in s l) IsIri
 unfolding name_in
 name_iri s l h = joined_iri (bound_to s.bindings (prefix_of l)) l (h.bindings (prefix_of l))
@@ -88,6 +91,7 @@ pub base_iris : (s : InForce) (i : Option (List ℕ)) → HasIris s → IfSome i
 base_iris s None h f = h
 base_iris s (Some i) h f = record { base = f; bindings = h.bindings }
 
+-- a binding keeps the scope's IRIs absolute, which carries this over a document
 pub binding_iris : (s : InForce) (p : List ℕ) (i : Option (List ℕ)) → HasIris s → IfSome i IsIri → HasIris (with_binding s p i)
 binding_iris s p None h f = h
 binding_iris s p (Some i) h f = record { base = h.base; bindings = λ q v e. by q v (equal p q) refl (sym ((binds_prefix s p i).bound q) ∙ e) }
@@ -130,6 +134,7 @@ itself_escaped r u c h =
     never : (x : ℕ) → uses r x ≡ false → (c == x) ≡ true → ⊥
     never x n e = false≢true (sym n ∙ subst (λ y. uses r y ≡ true) (eqb-true c x e) h)
 
+-- a text of characters that need no escape is as long when it is written
 unescaped_length : (r : Regex) → Unescaped r → (w : List ℕ) → AllByRecursion (λ c. uses r c ≡ true) w → length (flat_map escaped w) ≡ length w
 unescaped_length r u [] a = refl
 unescaped_length r u (c ∷ w) a =
@@ -150,10 +155,12 @@ integer_unescaped : Unescaped (shape turtle Integer)
 unfolding shape has
 integer_unescaped = record { quote = refl; backslash = refl; feed = refl; return = refl }
 
+-- a DECIMAL needs no escape
 decimal_unescaped : Unescaped (shape turtle Decimal)
 unfolding shape has
 decimal_unescaped = record { quote = refl; backslash = refl; feed = refl; return = refl }
 
+-- a DOUBLE needs no escape
 double_unescaped : Unescaped (shape turtle Double)
 unfolding shape has
 double_unescaped = record { quote = refl; backslash = refl; feed = refl; return = refl }

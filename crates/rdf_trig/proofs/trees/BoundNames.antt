@@ -18,14 +18,17 @@ use Rattle.rdf_trig.proofs.machine.ClosingTokens.{has_iri}
 use Rattle.rdf_trig.proofs.machine.ViableTokens.{Stand, stand, reach, on_reply, if_true, run_tree, reach-snoc, step_on, and_on, use_bound, reached_viable, viable_reached, begins_reached, any_passing}
 use Rattle.rdf_trig.proofs.trees.Senses.{same_sense, tokens_behind}
 
+-- a quad among the events makes no difference to bound names
 bound_give : (q : Option Quad) (n : ℕ) (es : List Event) → BoundFront n es → BoundFront n (give q es)
 bound_give None n es b = b
 bound_give (Some q) n es b = b
 
+-- a quad that is taken out of the events makes no difference to bound names
 bound_back : (q : Option Quad) (n : ℕ) (es : List Event) → BoundFront n (give q es) → BoundFront n es
 bound_back None n es b = b
 bound_back (Some q) n es b = b
 
+-- among no tokens all names are bound
 bound_none : (es : List Event) → BoundFront zero es
 bound_none [] = tt
 bound_none (Took t u ∷ es) = tt
@@ -38,10 +41,12 @@ use_iri (stands (Some i)) h = refl
 use_iri (binds full None) h = absurd (h refl)
 use_iri (binds full (Some i)) h = refl
 
+-- what was reached passed the test
 both : (b : Bool) (o : Option Stand) (s : Stand) → if_true b o ≡ Some s → (b ≡ true) × (o ≡ Some s)
 both true o s e = (refl, e)
 both false o s e = absurd (let z : None ≡ Some s = e in cc)
 
+-- the names of tokens that the machine takes strictly are bound in each tree of theirs
 reached_bound : (form : DocForm) (ts us : List Token) (c : Setting) (m : Mode) (es : List Event) (s : Stand) → run form c m (ts ++ us) ≡ Some es →
     reach true form c m ts ≡ Some s → BoundFront (length ts) es
 reached_bound form [] us c m es s r e = bound_none es
@@ -59,6 +64,7 @@ reached_bound form (t ∷ ts) us c m es s r e = by (step form c m t.kind (leaf_o
         let i = bound_give early (length ts) (give now x.0) (bound_give now (length ts) x.0 (ih c' m' x.0 x.1 p.1)) in
         subst (BoundFront (suc (length ts))) (sym x.2) (bound_give w (suc (length ts)) (Took t u ∷ give early (give now x.0)) (use_bound u p.0, i))
 
+-- tokens with bound names are taken strictly
 bound_reached : (form : DocForm) (ts us : List Token) (c : Setting) (m : Mode) (es : List Event) → run form c m (ts ++ us) ≡ Some es →
     BoundFront (length ts) es → (s : Stand) × (reach true form c m ts ≡ Some s)
 bound_reached form [] us c m es r b = (stand c m, refl)
@@ -75,6 +81,7 @@ bound_reached form (t ∷ ts) us c m es r b = by (step form c m t.kind (leaf_of 
         let i = ih c' m' x.0 x.1 (bound_back now (length ts) x.0 (bound_back early (length ts) (give now x.0) f.1)) in
         (i.0, ap (λ y. if_true y (reach true form c' m' ts)) (use_iri u f.0) ∙ i.1)
 
+-- the law of viable tokens, for all tokens at once
 pub viable_bound : (form : DocForm) (start : InForce) (ts : List Token) → ViableWhereBound form start ts
 viable_bound form start ts = record {
   bound = λ v. let d = v.2 in record { tree = d.tree; more = v.0; tokens = d.tokens; bound = every v d.tree v.0 d.tokens };

@@ -17,21 +17,26 @@ use Rattle.rdf_trig.proofs.trees.TokensOfEvents.{document_told}
 use Rattle.rdf_trig.proofs.machine.ClosingTokens.{AllAdmitted, the_end, close_level, close_verb, close_place, close_list, close_box, close_around, close_directive, close_block, close, closes}
 use Rattle.rdf_trig.proofs.machine.ViableTokens.{Stand, reach, front, passing_bound, viable_reached, shaped_reached}
 
+-- each token is one of those of which completions are made
 abbrev Closing : List Token → Type 0
 Closing [] = Unit {0}
 Closing (t ∷ ts) = IsClosing t × Closing ts
 
+-- tokens that are all of that kind are so as a property of the list
 all_closing : (ts : List Token) → Closing ts → All IsClosing ts
 all_closing [] c = All-nil IsClosing
 all_closing (t ∷ ts) c = All-cons IsClosing t ts c.0 (all_closing ts c.1)
 
+-- the end of the input is one of them
 ended : Closing (the_end ∷ [])
 ended = (refl, tt)
 
+-- the tokens that leave a block and end the document are of that kind
 level_closing : (v : Level) → Closing (close_level v)
 level_closing Top = (refl, ended)
 level_closing InBlock = (refl, ended)
 
+-- a verb with its object and what ends the statement are of that kind
 verb_closing : (v : Level) → Closing (close_verb v)
 verb_closing v = (refl, (refl, level_closing v))
 
@@ -49,17 +54,21 @@ mutual
   box_closing (Subject v) = level_closing v
   box_closing (At p) = place_closing p
 
+-- the brackets that are closed are of that kind
 around_closing : (a : Around) → Closing (close_around a)
 around_closing (Statement v) = level_closing v
 around_closing (Boxed u) = (refl, box_closing u)
 
+-- the tokens that complete a directive are of that kind
 directive_closing : (w : Spelling) → Closing (close_directive w)
 directive_closing Dotted = (refl, ended)
 directive_closing Sparql = ended
 
+-- the tokens of an empty block are of that kind
 block_closing : Closing close_block
 block_closing = (refl, (refl, ended))
 
+-- so the completion of every mode consists of them
 closing : (m : Mode) → Closing (close m)
 closing Start = ended
 closing Over = tt
@@ -88,6 +97,7 @@ record Whole (strict : Bool) (form : DocForm) (start : InForce) (ts : List Token
   told : tokens (document_events start tree) ≡ ts
   passing : AllAdmitted strict (document_events start tree)
 
+-- with the completion of the mode that was reached, the tokens are a document or a tree
 whole : (strict : Bool) (form : DocForm) (start : InForce) (ts : List Token) (s : Stand) → reach strict form (in_default start) Start ts ≡ Some s →
     Whole strict form start (ts ++ close s.mode)
 whole strict form start ts s e =
@@ -95,6 +105,7 @@ whole strict form start ts s e =
     let f = read_found form (ts ++ close s.mode) (in_default start) a.events a.runs in
     record { tree = f.0; told = f.2; passing = rw f.1 at a.bound }
 
+-- the law of completed beginnings, for documents and for trees
 pub completed : (form : DocForm) (start : InForce) (ts : List Token) →
     (Viable (documents form start) ts → CompletedBy (documents form start) ts) × (Shaped (trees form start) ts → CompletedBy (trees form start) ts)
 completed form start ts = (by_document, by_tree)

@@ -17,10 +17,12 @@ use Rattle.rdf_trig.specs.Quads.{Setting, in_default, in_graph, node, anon_at, v
 use Rattle.rdf_trig.specs.TreeQuads.{marked_at, own_quad, first_quad, inner_quads, collection_quads, items_quads, list_quads, predicates_quads, more_quads, objects_quads, commas_quads, subject_quads, maybe_quads, triples_quads, block_quads, maybe_block, wrapped_quads, body_quads, document_quads}
 use Rattle.rdf_trig.specs.Events.{Event, take, give, iri_events, verb_events, string_events, tag_events, blank_object_events, literal_events, object_quad, object_events, collection_events, items_events, rest_events, list_events, predicates_events, more_events, objects_events, commas_events, subject_events, maybe_events, triples_events, directive_events, label_events, block_events, maybe_block_events, wrapped_events, body_events, document_events, event_quads}
 
+-- a quad among the events has the number of the tokens before it
 marked_give : (q : Option Quad) (n : ℕ) (es : List Event) → event_quads n (give q es) ≡ marked_at n q ++ event_quads n es
 marked_give None n es = refl
 marked_give (Some q) n es = refl
 
+-- a quad that waited and one that has just come have the number of the tokens before them
 marked_both : (early q : Option Quad) (n : ℕ) (es : List Event) →
     event_quads n (give early (give q es)) ≡ marked_at n early ++ (marked_at n q ++ event_quads n es)
 marked_both early q n es = marked_give early n (give q es) ∙ ap (λ x. marked_at n early ++ x) (marked_give q n es)
@@ -29,37 +31,45 @@ marked_both early q n es = marked_give early n (give q es) ∙ ap (λ x. marked_
 moved : (qs : List Marked) (n j : ℕ) (es : List Event) → n ≡ j → qs ++ event_quads n es ≡ qs ++ event_quads j es
 moved qs n j es e = ap (λ k. qs ++ event_quads k es) e
 
+-- an iri is one token and gives no quad itself
 iri_marks : (i : Iri) (s : InForce) (n : ℕ) (rest : List Event) → event_quads n (iri_events s i rest) ≡ event_quads (n + 1) rest
 iri_marks (iri_ref l) s n rest = refl
 iri_marks (prefixed (pname_ln l)) s n rest = refl
 iri_marks (prefixed (pname_ns l)) s n rest = refl
 
+-- an iri is one token
 iri_one : (i : Iri) → length (iri_tokens i) ≡ 1
 iri_one (iri_ref l) = refl
 iri_one (prefixed (pname_ln l)) = refl
 iri_one (prefixed (pname_ns l)) = refl
 
+-- a verb is one token and gives no quad itself
 verb_marks : (v : Verb) (s : InForce) (n : ℕ) (rest : List Event) → event_quads n (verb_events s v rest) ≡ event_quads (n + 1) rest
 verb_marks (predicate i) s n rest = iri_marks i s n rest
 verb_marks (type_word l) s n rest = refl
 
+-- a verb is one token
 verb_one : (v : Verb) → length (verb_tokens v) ≡ 1
 verb_one (predicate i) = iri_one i
 verb_one (type_word l) = refl
 
+-- a string is one token and gives no quad itself
 string_marks : (w : String) (n : ℕ) (rest : List Event) → event_quads n (string_events w rest) ≡ event_quads (n + 1) rest
 string_marks (short l) n rest = refl
 string_marks (long l) n rest = refl
 
+-- a string is one token
 string_one : (w : String) → length (string_tokens w) ≡ 1
 string_one (short l) = refl
 string_one (long l) = refl
 
+-- a tag is one token and gives no quad itself
 tag_marks : (t : Tag) (n : ℕ) (rest : List Event) → event_quads n (tag_events t rest) ≡ event_quads (n + 1) rest
 tag_marks (lang_tag l) n rest = refl
 tag_marks (base_tag l) n rest = refl
 tag_marks (prefix_tag l) n rest = refl
 
+-- a tag is one token
 tag_one : (t : Tag) → length (tag_tokens t) ≡ 1
 tag_one (lang_tag l) = refl
 tag_one (base_tag l) = refl
@@ -69,10 +79,12 @@ tag_one (prefix_tag l) = refl
 abbrev Behind : ℕ → ℕ → Option Quad → Option Quad → List Event → List Event → Type 0
 Behind n j early q es rest = event_quads n es ≡ marked_at (n + 1) early ++ (marked_at j q ++ event_quads j rest)
 
+-- an object of one token has its quad right after it
 one_token : (n j : ℕ) (early q : Option Quad) (rest : List Event) → j ≡ n + 1 →
     event_quads (n + 1) (give early (give q rest)) ≡ marked_at (n + 1) early ++ (marked_at j q ++ event_quads j rest)
 one_token n j early q rest e = marked_both early q (n + 1) rest ∙ ap (λ k. marked_at (n + 1) early ++ (marked_at k q ++ event_quads k rest)) (sym e)
 
+-- the quad of a literal has the number of its last token, and one that waited that of its first
 literal_marks : (x : Literal) (s : InForce) (n j : ℕ) (early q : Option Quad) (rest : List Event) → j ≡ n + length (literal_tokens x) →
     Behind n j early q (literal_events s x early q rest) rest
 literal_marks (rdf (plain w)) s n j early q rest e = string_marks w n (give early (give q rest)) ∙ one_token n j early q rest (e ∙ ap (λ k. n + k) (string_one w))
@@ -92,6 +104,7 @@ literal_marks (numeric (double l)) s n j early q rest e = one_token n j early q 
 literal_marks (boolean (true_word l)) s n j early q rest e = one_token n j early q rest e
 literal_marks (boolean (false_word l)) s n j early q rest e = one_token n j early q rest e
 
+-- the quad of a blank node has the number of its first token, also where it is ANON
 blank_marks : (b : BlankNode) (n j : ℕ) (early q : Option Quad) (rest : List Event) → j ≡ n + length (blank_tokens b) →
     event_quads n (blank_object_events b early q rest) ≡ marked_at (n + 1) early ++ (marked_at (n + 1) q ++ event_quads j rest)
 blank_marks (label l) n j early q rest e = marked_both early q (n + 1) rest ∙ ap (λ k. marked_at (n + 1) early ++ (marked_at (n + 1) q ++ event_quads k rest)) (sym e)
@@ -193,18 +206,21 @@ mutual
       ∙ ap (λ x. own_quad c (n + 1) s p o ++ (inner_quads c (n + 1) o ++ x)) (commas_marks os c i j s p rest (omega (arith, e, length-append (object_tokens o) (commas_tokens os))))
       ∙ simp append_assoc
 
+-- the quads of a predicate list that may be left out
 maybe_marks : (ps : Option PredicateObjectList) (c : Setting) (n j : ℕ) (s : Option term.Subject) (rest : List Event) →
     j ≡ n + length (maybe_tokens predicates_tokens ps) →
     event_quads n (maybe_events c s ps rest) ≡ maybe_quads c n s ps ++ event_quads j rest
 maybe_marks None c n j s rest e = moved [] n j rest (omega (arith, e))
 maybe_marks (Some ps) c n j s rest e = predicates_marks ps c n j s rest e
 
+-- the quads inside a subject
 subject_marks : (x : Subject) (c : Setting) (n j : ℕ) (rest : List Event) → j ≡ n + length (subject_tokens x) →
     event_quads n (subject_events c x rest) ≡ subject_quads c n x ++ event_quads j rest
 subject_marks (iri_subject i) c n j rest e = iri_marks i c.scope n rest ∙ moved [] (n + 1) j rest (omega (arith, e, iri_one i))
 subject_marks (blank_subject b) c n j rest e = blank_marks b n j None None rest e
 subject_marks (collection_subject x) c n j rest e = collection_marks x c n j None None rest e
 
+-- the quads of a subject and its predicates
 triples_marks : (t : Triples) (c : Setting) (n j : ℕ) (rest : List Event) → j ≡ n + length (triples_tokens t) →
     event_quads n (triples_events c t rest) ≡ triples_quads c n t ++ event_quads j rest
 triples_marks (subject_triples x ps) c n j rest e =
@@ -220,6 +236,7 @@ triples_marks (list_triples x ps) c n j rest e =
     ∙ ap (λ y. list_quads c n x ++ y) (maybe_marks ps c i j s rest (omega (arith, e, length-append (list_tokens x) (maybe_tokens predicates_tokens ps))))
     ∙ sym (append_assoc (list_quads c n x) (maybe_quads c i s ps) (event_quads j rest))
 
+-- a label gives no quad
 label_marks : (x : LabelOrSubject) (s : InForce) (n j : ℕ) (rest : List Event) → j ≡ n + length (label_tokens x) →
     event_quads n (label_events s x rest) ≡ event_quads j rest
 label_marks (iri_label i) s n j rest e = iri_marks i s n rest ∙ moved [] (n + 1) j rest (omega (arith, e, iri_one i))
@@ -229,6 +246,7 @@ label_marks (blank_label b) s n j rest e = blank_marks b n j None None rest e
 dotted : (qs : List Marked) (n j i : ℕ) (k : Kind) (l : Leaf) (rest : List Event) → i ≡ j + 1 → qs ++ event_quads j (take k l rest) ≡ qs ++ event_quads i rest
 dotted qs n j i k l rest e = moved qs (j + 1) i rest (sym e)
 
+-- the quads of a block's triples
 block_marks : (b : TriplesBlock) (c : Setting) (n j : ℕ) (rest : List Event) → j ≡ n + length (block_tokens b) →
     event_quads n (block_events c b rest) ≡ block_quads c n b ++ event_quads j rest
 block_marks (last t) c n j rest e = triples_marks t c n j rest e
@@ -241,11 +259,13 @@ block_marks (dot t d b) c n j rest e =
     ∙ ap (λ y. triples_quads c n t ++ y) (block_marks b c (i + 1) j rest (omega (arith, e, length-append (triples_tokens t ++ token Dot d ∷ []) (block_tokens b), length-append (triples_tokens t) (token Dot d ∷ []))))
     ∙ sym (append_assoc (triples_quads c n t) (block_quads c (i + 1) b) (event_quads j rest))
 
+-- the quads of a block that may be empty
 maybe_block_marks : (b : Option TriplesBlock) (c : Setting) (n j : ℕ) (rest : List Event) → j ≡ n + length (maybe_tokens block_tokens b) →
     event_quads n (maybe_block_events c b rest) ≡ maybe_block c n b ++ event_quads j rest
 maybe_block_marks None c n j rest e = moved [] n j rest (omega (arith, e))
 maybe_block_marks (Some b) c n j rest e = block_marks b c n j rest e
 
+-- the quads between '{' and '}'
 wrapped_marks : (w : WrappedGraph) (c : Setting) (n j : ℕ) (rest : List Event) → j ≡ n + length (wrapped_tokens w) →
     event_quads n (wrapped_events c w rest) ≡ wrapped_quads c n w ++ event_quads j rest
 wrapped_marks (wrapped l b r) c n j rest e =
@@ -253,6 +273,7 @@ wrapped_marks (wrapped l b r) c n j rest e =
     maybe_block_marks b c (n + 1) i (take CloseBrace r rest) refl
     ∙ dotted (maybe_block c (n + 1) b) n i j CloseBrace r rest (omega (arith, e, length-append (maybe_tokens block_tokens b) (token CloseBrace r ∷ [])))
 
+-- the quads of a statement or a block
 body_marks : (form : DocForm) (b : Body form) (s : InForce) (n j : ℕ) (rest : List Event) → j ≡ n + length (body_tokens form b) →
     event_quads n (body_events form s b rest) ≡ body_quads form s n b ++ event_quads j rest
 body_marks Turtle b s n j rest e =
@@ -294,6 +315,7 @@ body_marks TriG (graph_word l x w) s n j rest e =
     let c = in_graph s (label_of s x) in
     label_marks x s (n + 1) i (wrapped_events c w rest) refl ∙ wrapped_marks w c i j rest (omega (arith, e, length-append (label_tokens x) (wrapped_tokens w)))
 
+-- a directive gives no quad
 directive_marks : (d : Directive) (s : InForce) (n j : ℕ) (rest : List Event) → j ≡ n + length (directive_tokens d) →
     event_quads n (directive_events s d rest) ≡ event_quads j rest
 directive_marks (prefix_id w p i d) s n j rest e = moved [] (n + 1 + 1 + 1 + 1) j rest (omega (arith, e))
@@ -301,6 +323,7 @@ directive_marks (base w i d) s n j rest e = moved [] (n + 1 + 1 + 1) j rest (ome
 directive_marks (sparql_prefix w p i) s n j rest e = moved [] (n + 1 + 1 + 1) j rest (omega (arith, e))
 directive_marks (sparql_base w i) s n j rest e = moved [] (n + 1 + 1) j rest (omega (arith, e))
 
+-- the marks by the events of a document are those by its tree, as the law of events says
 pub document_marks : {form : DocForm} (d : Document form) (s : InForce) (n : ℕ) → event_quads n (document_events s d) ≡ document_quads s n d
 document_marks (end l) s n = refl
 document_marks (with_directive d rest) s n =

@@ -11,10 +11,12 @@ use Rattle.rdf_trig.specs.Names.{reference_in, name_in, prefix_of, local_of, bin
 use Rattle.rdf_trig.specs.Laws.{NamelessWhere}
 use Rattle.rdf_iri.proofs.TextsLemmas.{equal-true, equal-from}
 
+-- nothing comes of nothing alone
 map_none : {T U : Type 0} (f : T → U) (o : Option T) → option_map f o ≡ None → o ≡ None
 map_none f None e = refl
 map_none f (Some x) e = absurd (let z : Some (f x) ≡ None = e in cc)
 
+-- a reference is left without a result only where there is no base
 based_none : (base : Option (List ℕ)) (r : List ℕ) → based base r ≡ None → base ≡ None
 based_none None r e = refl
 based_none (Some b) r e = absurd (some_none e)
@@ -22,10 +24,12 @@ based_none (Some b) r e = absurd (some_none e)
     some_none : {x : List ℕ} → Some x ≡ None → ⊥
     some_none z = cc
 
+-- so an IRIREF stands for nothing only where it has no scheme and there is no base
 unresolved : (base : Option (List ℕ)) (r : List ℕ) (b : Bool) → cond b (Some r) (based base r) ≡ None → (b ≡ false) × (base ≡ None)
 unresolved base r true e = absurd (let z : Some r ≡ None = e in cc)
 unresolved base r false e = (refl, based_none base r e)
 
+-- the law of names that stand for nothing
 pub nameless_where : (s : InForce) (l : Leaf) → NamelessWhere s l
 unfolding reference_in name_in resolved
 nameless_where s l = record {
@@ -42,6 +46,7 @@ equal-sym v w = ⊎_elim (λ e. e ∙ sym (equal-from w v (sym (equal-true v w e
     other : equal v w ≡ false → equal w v ≡ false
     other e = ⊎_elim (λ h. absurd (let z : true ≡ false = sym (equal-from v w (sym (equal-true w v h))) ∙ e in cc)) (λ h. h) (cases_Bool (equal w v))
 
+-- two tests that exclude each other may be made in either order
 swap : {T : Type 0} (a b : Bool) (x y z : T) → (a ≡ true → b ≡ true → ⊥) → cond a x (cond b y z) ≡ cond b y (cond a x z)
 swap true true x y z h = absurd (h refl refl)
 swap true false x y z h = refl
@@ -53,6 +58,7 @@ once true b x y z h = refl
 once false true x y z h = absurd (let e : false ≡ true = h refl in cc)
 once false false x y z h = refl
 
+-- after a binding the prefix has its new IRI, and every other prefix what it had
 bind_bound : (es : List (List ℕ × List ℕ)) (p i q : List ℕ) → bound_to (bind es p i) q ≡ cond (equal p q) (Some i) (bound_to es q)
 bind_bound [] p i q = ap (λ b. cond b (Some i) None) (equal-sym q p)
 bind_bound (e ∷ es) p i q = by (equal p e.0) refl (bind_bound es p i q)
@@ -66,6 +72,7 @@ bind_bound (e ∷ es) p i q = by (equal p e.0) refl (bind_bound es p i q)
         ap (cond (equal q e.0) (Some e.1)) ih
         ∙ swap (equal q e.0) (equal p q) (Some e.1) (Some i) (bound_to es q) (λ a b. let z : true ≡ false = sym (equal-from p e.0 (equal-true p q b ∙ equal-true q e.0 a)) ∙ h in cc)
 
+-- a binding of a new prefix makes the list one longer
 bind_length : (es : List (List ℕ × List ℕ)) (p i : List ℕ) → length (bind es p i) ≡ length es + cond (is_some (bound_to es p)) 0 1
 bind_length [] p i = refl
 bind_length (e ∷ es) p i = by (equal p e.0) (bind_length es p i)
@@ -75,5 +82,6 @@ bind_length (e ∷ es) p i = by (equal p e.0) (bind_length es p i)
     by true ih = omega arith
     by false ih = omega (arith, ih)
 
+-- the law of directives that bind a prefix
 pub binds_prefix : (s : InForce) (p i : List ℕ) → Binds s p i (with_binding s p (Some i))
 binds_prefix s p i = record { base = refl; limits = refl; bound = λ q. bind_bound s.bindings p i q; count = bind_length s.bindings p i }

@@ -21,15 +21,18 @@ sense_at n (Gave q ∷ es) = sense_at n es
 sense_at zero (Took t u ∷ es) = Some u
 sense_at (suc n) (Took t u ∷ es) = sense_at n es
 
+-- a quad among the events does not count as a token
 sense_give : (q : Option Quad) (n : ℕ) (es : List Event) → sense_at n (give q es) ≡ sense_at n es
 sense_give None n es = refl
 sense_give (Some q) n es = refl
 
+-- a token in the middle stands for what its event says
 sense_behind : (front : List Event) (t : Token) (u : Use) (rest : List Event) → sense_at (length (tokens front)) (front ++ Took t u ∷ rest) ≡ Some u
 sense_behind [] t u rest = refl
 sense_behind (Took x v ∷ front) t u rest = sense_behind front t u rest
 sense_behind (Gave q ∷ front) t u rest = sense_behind front t u rest
 
+-- the tokens of events with one in the middle
 pub tokens_behind : (front : List Event) (t : Token) (u : Use) (rest : List Event) → tokens (front ++ Took t u ∷ rest) ≡ tokens front ++ t ∷ tokens rest
 tokens_behind [] t u rest = refl
 tokens_behind (Took x v ∷ front) t u rest = ap (λ y. x ∷ y) (tokens_behind front t u rest)
@@ -43,12 +46,15 @@ record Split (es : List Event) (ts : List Token) (t : Token) : Type 0 where
   events : es ≡ front ++ Took t sense ∷ rest
   read : tokens front ≡ ts
 
+-- events can be split at a token, if those after a first quad can
 gave_first : (q : Quad) {es : List Event} {ts : List Token} {t : Token} → Split es ts t → Split (Gave q ∷ es) ts t
 gave_first q s = record { front = Gave q ∷ s.front; sense = s.sense; rest = s.rest; events = ap (λ x. Gave q ∷ x) s.events; read = s.read }
 
+-- events can be split at a token, if those after a first token can
 took_first : (x : Token) (v : Use) {es : List Event} {ts : List Token} {t : Token} → Split es ts t → Split (Took x v ∷ es) (x ∷ ts) t
 took_first x v s = record { front = Took x v ∷ s.front; sense = s.sense; rest = s.rest; events = ap (λ y. Took x v ∷ y) s.events; read = ap (λ y. x ∷ y) s.read }
 
+-- events can be split at each of their tokens
 split : (es : List Event) (ts : List Token) (t : Token) (us : List Token) → tokens es ≡ ts ++ t ∷ us → Split es ts t
 split [] [] t us e = absurd (let z : [] ≡ t ∷ us = e in cc)
 split [] (x ∷ ts) t us e = absurd (let z : [] ≡ x ∷ (ts ++ t ∷ us) = e in cc)
@@ -59,10 +65,12 @@ split (Took x v ∷ es) (y ∷ ts) t us e =
     let w : tokens es ≡ ts ++ t ∷ us = cc in
     subst (λ a. Split (Took x v ∷ es) (a ∷ ts) t) z (took_first x v (split es ts t us w))
 
+-- the sense of the first token of a run
 first_sense : (w : Option Quad) (t : Token) (u : Use) (early now : Option Quad) (fs es : List Event) → es ≡ give w (Took t u ∷ give early (give now fs)) →
     sense_at zero es ≡ Some u
 first_sense w t u early now fs es e = ap (sense_at zero) e ∙ sense_give w zero (Took t u ∷ give early (give now fs))
 
+-- the sense of a later token is that among the tokens after the first
 later_sense : (w : Option Quad) (t : Token) (u : Use) (early now : Option Quad) (n : ℕ) (fs es : List Event) →
     es ≡ give w (Took t u ∷ give early (give now fs)) → sense_at (suc n) es ≡ sense_at n fs
 later_sense w t u early now n fs es e =
@@ -95,6 +103,7 @@ sense_run strict form (y ∷ ts) t us c m es s u early now c1 m1 r e n =
         let x = unput (waiting c m y.kind (leaf_of y)) y v e1 n1 (run form c' m' (ts ++ t ∷ us)) es r in
         later_sense (waiting c m y.kind (leaf_of y)) y v e1 n1 (length ts) x.0 es x.2 ∙ ih c' m' x.0 x.1 (when (admits strict v) (reach strict form c' m' ts) e)
 
+-- in every tree that begins so, a token stands for what the machine found
 pub same_sense : (strict : Bool) (form : DocForm) (start : InForce) (ts : List Token) (t : Token) (s : Stand) (u v : Use) (early now : Option Quad)
     (c : Setting) (m : Mode) →
     reach strict form (in_default start) Start ts ≡ Some s → step form s.setting s.mode t.kind (leaf_of t) ≡ Go u early now c m →
@@ -118,6 +127,7 @@ placed strict form start ts t s u early now c m e n (d, us, told, b) =
     let z = same_sense strict form start ts t s u x.sense early now c m e n p in
     (record { tree = d; front = x.front; rest = x.rest; events = x.events ∙ ap (λ y. x.front ++ Took t y ∷ x.rest) z; read = x.read }, refl)
 
+-- there is such a tree, whether names are bound or not
 pub in_tree : (form : DocForm) (start : InForce) (ts : List Token) (t : Token) (s : Stand) (u : Use) (early now : Option Quad) (c : Setting) (m : Mode) →
     reach true form (in_default start) Start ts ≡ Some s →
     step form s.setting s.mode t.kind (leaf_of t) ≡ Go u early now c m → InTree form start ts t u
@@ -126,6 +136,7 @@ in_tree form start ts t s u early now c m e n =
     let g = reach-snoc false form ts t (in_default start) Start ∙ ap (λ o. and_on false form o t) f ∙ ap (λ r. on_reply false r (λ c' m'. Some (stand c' m'))) n in
     (placed false form start ts t s u early now c m f n (reached_begins false form (ts ++ t ∷ []) start (stand c m) g)).0
 
+-- where its name is bound there is such a document
 pub stands_for : (form : DocForm) (start : InForce) (ts : List Token) (t : Token) (s : Stand) (u : Use) (early now : Option Quad) (c : Setting) (m : Mode) →
     reach true form (in_default start) Start ts ≡ Some s →
     step form s.setting s.mode t.kind (leaf_of t) ≡ Go u early now c m → has_iri u ≡ true → StandsFor form start ts t u

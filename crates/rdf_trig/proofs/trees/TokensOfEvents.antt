@@ -23,31 +23,38 @@ tokens_give (Some q) es = refl
 three : (a b c d : List Token) → a ++ (b ++ (c ++ d)) ≡ (a ++ b ++ c) ++ d
 three a b c d = sym (append_assoc a b (c ++ d)) ∙ sym (append_assoc (a ++ b) c d)
 
+-- quads among the events are no tokens
 give_both : (early q : Option Quad) (es : List Event) → tokens (give early (give q es)) ≡ tokens es
 give_both early q es = tokens_give early (give q es) ∙ tokens_give q es
 
+-- the events of an iri have its token, and then those of the rest
 iri_told : (i : Iri) (s : InForce) (rest : List Event) → tokens (iri_events s i rest) ≡ iri_tokens i ++ tokens rest
 iri_told (iri_ref l) s rest = refl
 iri_told (prefixed (pname_ln l)) s rest = refl
 iri_told (prefixed (pname_ns l)) s rest = refl
 
+-- the events of a verb have its token, and then those of the rest
 verb_told : (v : Verb) (s : InForce) (rest : List Event) → tokens (verb_events s v rest) ≡ verb_tokens v ++ tokens rest
 verb_told (predicate i) s rest = iri_told i s rest
 verb_told (type_word l) s rest = refl
 
+-- the events of a string have its token, and then those of the rest
 string_told : (w : String) (rest : List Event) → tokens (string_events w rest) ≡ string_tokens w ++ tokens rest
 string_told (short l) rest = refl
 string_told (long l) rest = refl
 
+-- the events of a language tag have its token, and then those of the rest
 tag_told : (t : Tag) (rest : List Event) → tokens (tag_events t rest) ≡ tag_tokens t ++ tokens rest
 tag_told (lang_tag l) rest = refl
 tag_told (base_tag l) rest = refl
 tag_told (prefix_tag l) rest = refl
 
+-- the events of a blank node have its tokens, whichever quads stand among them
 blank_told : (b : BlankNode) (early q : Option Quad) (rest : List Event) → tokens (blank_object_events b early q rest) ≡ blank_tokens b ++ tokens rest
 blank_told (label l) early q rest = ap (λ x. token LabelNode l ∷ x) (give_both early q rest)
 blank_told (anon l r) early q rest = ap (λ x. token OpenBracket l ∷ x) (give_both early q (take CloseBracket r rest))
 
+-- the events of a literal have its tokens, whichever quads stand among them
 literal_told : (x : Literal) (s : InForce) (early q : Option Quad) (rest : List Event) →
     tokens (literal_events s x early q rest) ≡ literal_tokens x ++ tokens rest
 literal_told (rdf (plain w)) s early q rest = string_told w (give early (give q rest)) ∙ ap (λ x. string_tokens w ++ x) (give_both early q rest)
@@ -168,6 +175,7 @@ wrapped_told : (w : WrappedGraph) (c : Setting) (rest : List Event) → tokens (
 wrapped_told (wrapped l b r) c rest =
     ap (λ x. token OpenBrace l ∷ x) (maybe_block_told b c (take CloseBrace r rest) ∙ sym (append_assoc (maybe_tokens block_tokens b) (token CloseBrace r ∷ []) (tokens rest)))
 
+-- the events of a statement or a block have the tokens that it derives
 body_told : (form : DocForm) (b : Body form) (s : InForce) (rest : List Event) → tokens (body_events form s b rest) ≡ body_tokens form b ++ tokens rest
 body_told Turtle b s rest = triples_told b.triples (in_default s) (take Dot b.dot rest) ∙ sym (append_assoc (triples_tokens b.triples) (token Dot b.dot ∷ []) (tokens rest))
 body_told TriG (triples_or_graph (named_graph x w)) s rest =
@@ -192,6 +200,7 @@ directive_told (base w i d) s rest = refl
 directive_told (sparql_prefix w p i) s rest = refl
 directive_told (sparql_base w i) s rest = refl
 
+-- the events of a document have its tokens, as the law of events says
 pub document_told : {form : DocForm} (d : Document form) (s : InForce) → tokens (document_events s d) ≡ document_tokens d
 document_told (end l) s = refl
 document_told (with_directive d rest) s = directive_told d s (document_events (scope_after s d) rest) ∙ ap (λ x. directive_tokens d ++ x) (document_told rest (scope_after s d))

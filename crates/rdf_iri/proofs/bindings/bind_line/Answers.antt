@@ -1,3 +1,4 @@
+-- A line within the limits is bound, and each error of the scope is one of the line.
 use Rattle.std.proofs.Common.{Some, ap, subst, ◌∙◌, arith}
 use Rattle.std.specs.Str.{chars}
 use Rattle.rdf_iri.specs.Limits.{Sizes}

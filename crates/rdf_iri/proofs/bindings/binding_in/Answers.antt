@@ -1,3 +1,4 @@
+-- A line is a binding exactly where it has a prefix with its colon, a space and an absolute IRI.
 use Rattle.std.proofs.Common.{◌∙◌, ap, sym}
 use Rattle.std.proofs.lemmas.Bool.{false≢true}
 use Rattle.rdf_iri.specs.Seen.{text_of}

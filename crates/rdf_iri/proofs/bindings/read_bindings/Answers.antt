@@ -1,3 +1,4 @@
+-- The loop over the lines of a file: those read say what the scope binds, and the first that fails is reported with its number.
 use Rattle.std.proofs.Common.{ap, refl, subst, arith}
 use Rattle.rdf_iri.specs.Seen.{text_of}
 use Rattle.rdf_iri.specs.Bindings.{CrDropped}

@@ -1,3 +1,4 @@
+-- A last CR is dropped, and a line without one is its own text.
 use Rattle.rdf_iri.proofs.BindingLemmas.{cr_dropped, cr_kept, cr_empty}
 use Rattle.rdf_iri.proofs.bindings.without_cr.Goals as goal
 

@@ -1,3 +1,4 @@
+-- Each branch is the first rule that fits, by the bytes that it takes.
 use Rattle.std.proofs.Common.{◌≡◌, ◌∙◌, sym, ap, suc, ◌+◌, arith, length, drop, take}
 use Rattle.std.proofs.lemmas.Bool.{or_from}
 use Rattle.std.proofs.lemmas.Slice.{between_to_end}

@@ -1,3 +1,4 @@
+-- Where the byte is found the text is cut there, and otherwise all of it stands before the cut.
 use Rattle.std.proofs.Common.{◌∙◌, ap, sym, Some}
 use Rattle.std.proofs.lemmas.Str.Pattern.{split_parts}
 use Rattle.rdf_iri.specs.Texts.{before, after}

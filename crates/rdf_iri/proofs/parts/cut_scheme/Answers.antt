@@ -1,3 +1,4 @@
+-- A reference with a scheme is cut at its first ':', and one without is left as it is.
 use Rattle.std.proofs.Common.{◌∙◌, ap, sym}
 use Rattle.rdf_iri.specs.Seen.{text_of}
 use Rattle.rdf_iri.proofs.Slices.{has_scheme-chars, no_rest}

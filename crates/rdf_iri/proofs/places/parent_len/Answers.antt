@@ -1,3 +1,4 @@
+-- The loop that looks for the last '/': none stands after its place.
 use Rattle.std.proofs.Common.{◌≡◌, ℕ, ◌+◌, ◌-◌, sym, drop, subst, arith}
 use Rattle.rdf_iri.specs.Texts.{Lacks}
 use Rattle.rdf_iri.proofs.DotsLemmas.{parent-none}

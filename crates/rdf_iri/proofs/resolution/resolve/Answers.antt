@@ -1,3 +1,4 @@
+-- A reference with a scheme is copied, any other resolved over bytes; each is refused where it passes the limit.
 use Rattle.std.proofs.Common.{◌≡◌, ◌∙◌, ap, sym, subst, refl, inl, Some, length, arith, false}
 use Rattle.std.specs.Str.{chars}
 use Rattle.std.specs.String.{string_bytes}

@@ -1,3 +1,4 @@
+-- Two texts that were appended are the joined one, and its size was tested before.
 use Rattle.std.proofs.Common.{◌∙◌, ap, sym, subst, arith}
 use Rattle.std.proofs.lemmas.Result.{err_from_is_err_and}
 use Rattle.rdf_terms.specs.Terms.{IsIri}

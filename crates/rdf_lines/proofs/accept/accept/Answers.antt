@@ -1,3 +1,4 @@
+-- In each state within a line the code accepts what the machine accepts, and refuses what it refuses.
 use Rattle.rdf_terms.specs.Owned.{owned_subject}
 use Rattle.std.specs.Str.{chars}
 use Rattle.std.specs.String.{string_bytes}

@@ -1,3 +1,4 @@
+-- A check of either kind of format, from what its run has done to what the caller is told.
 use Rattle.std.proofs.Common.{rules, refl, IfSome}
 use Rattle.rdf_lines.specs.declared.form.Style.TheVariants.{Kept, Tagged}
 use Rattle.rdf_lines.proofs.AcceptingLemmas.{lawful as lines_lawful}

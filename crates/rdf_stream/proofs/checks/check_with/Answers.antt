@@ -1,3 +1,4 @@
+-- A check over the pieces of a source: it begins with nothing read, and each outcome is that of the pieces.
 use Rattle.std.proofs.Common.{◌≡◌, true, refl}
 use Rattle.rdf_stream.specs.Devices.{reading}
 use Rattle.rdf_stream.specs.Faults.{IsRefusal}

@@ -1,3 +1,4 @@
+-- A conversion of either kind of format, from what its run has done to what the caller is told.
 use Rattle.std.proofs.Common.{rules, IfErr, IfOk, IfSome}
 use Rattle.rdf_stream.specs.Converts.{Accepts, StopsFor}
 use Rattle.rdf_stream.specs.Devices.{reading}

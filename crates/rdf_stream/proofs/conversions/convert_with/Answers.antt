@@ -1,3 +1,4 @@
+-- A run over the pieces of a source: it begins with nothing read, and each outcome is that of the pieces.
 use Rattle.std.proofs.Common.{◌≡◌, true, IfSome, refl}
 use Rattle.rdf_stream.specs.Converting.{Begins}
 use Rattle.rdf_stream.specs.Converts.{Accepts, StopsFor}

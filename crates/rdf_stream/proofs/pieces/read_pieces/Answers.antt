@@ -1,3 +1,4 @@
+-- The loop over the pieces of a source: the bytes so far were taken, and it ends where the source does or an error stops it.
 use Rattle.std.proofs.Common.{rules, arith, length-take}
 use Rattle.std.proofs.KnownBytes.{Consumes-nil}
 use Rattle.rdf_stream.proofs.PiecesLemmas.{end_read, end_stops, no_more, on_piece, piece_stops, read_stops}

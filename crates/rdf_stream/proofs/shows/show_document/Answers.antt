@@ -1,3 +1,4 @@
+-- Showing begins with nothing shown, and each outcome is that of the pieces.
 use Rattle.std.proofs.Common.{◌≡◌, true, rules, refl}
 use Rattle.rdf_stream.specs.Faults.{IsRefusal}
 use Rattle.rdf_stream.specs.ShowParts.{Begins}

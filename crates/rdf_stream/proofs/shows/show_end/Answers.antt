@@ -1,3 +1,4 @@
+-- The end: the last tokens are shown and what waits is sent, or an error stops it.
 use Rattle.std.proofs.Common.{◌∙◌, ap, subst}
 use Rattle.rdf_stream.specs.ShowParts.{Halts}
 use Rattle.rdf_stream.proofs.ShowsLemmas.{closes, end_accepted, end_broke, ended_now}

@@ -1,3 +1,4 @@
+-- The part of a piece that the scanner takes: all tokens that it decides are shown, or an error stops it.
 use Rattle.std.proofs.Common.{arith, refl}
 use Rattle.rdf_stream.proofs.ShowsLemmas.{byte_room, part_halts, part_shown, push_halts, pushed}
 use Rattle.rdf_stream.proofs.shows.show_part.Goals as goal

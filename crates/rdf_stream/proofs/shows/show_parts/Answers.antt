@@ -1,3 +1,4 @@
+-- The loop over the parts of a piece: what was taken of it has been shown.
 use Rattle.std.proofs.Common.{[], ◌++◌, take, refl}
 use Rattle.rdf_stream.proofs.ShowsLemmas.{front_taken, joined_halts, joined_shown, none_more}
 use Rattle.rdf_stream.proofs.shows.show_parts.Goals as goal

@@ -1,3 +1,4 @@
+-- One token: its line was put, or an error of the scanner or the sink stops showing.
 use Rattle.std.proofs.Common.{refl, true, false, sym, ◌∙◌, arith}
 use Rattle.rdf_tokens.specs.Scans.{token_of}
 use Rattle.rdf_stream.proofs.ShowsLemmas.{one_halts, room_here, scan_halts, shown_one}

@@ -1,3 +1,4 @@
+-- The loop over the tokens that a part of a piece decides: their lines were put, and an error stops it.
 use Rattle.std.proofs.Common.{◌∙◌, subst}
 use Rattle.rdf_stream.specs.ShowParts.{Halts}
 use Rattle.rdf_stream.proofs.shows.show_tokens.Goals as goal

@@ -1,3 +1,4 @@
+-- The loop counts one for each character, and no more than bytes.
 use Rattle.std.proofs.Common.{arith, ap, length, rules}
 use Rattle.std.specs.Str.{chars}
 use Rattle.std.proofs.lemmas.Str.{encodes-chars, length-le-encodes}

@@ -1,3 +1,4 @@
+-- The loop over a scheme: it ends at ':' or at a character that no scheme has.
 use Rattle.std.proofs.Common.{eq-eqb, refl}
 use Rattle.std.proofs.lemmas.Bool.{ne_eqb}
 use Rattle.rdf_terms.proofs.CharsLemmas.{next_char, no_chars}

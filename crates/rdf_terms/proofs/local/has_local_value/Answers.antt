@@ -1,3 +1,4 @@
+-- The loop over a local part: the text has a meaning exactly where what is left has one.
 use Rattle.std.proofs.Common.{◌&&◌, Bool, is_some, sym, ap, ◌∙◌}
 use Rattle.std.specs.Str.{chars}
 use Rattle.std.specs.Str.Iter.{chars_rest}

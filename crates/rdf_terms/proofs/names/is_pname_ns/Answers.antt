@@ -1,3 +1,4 @@
+-- A PNAME_NS is a prefix or nothing, and a last ':'.
 use Rattle.std.proofs.Common.{◌∙◌, sym, arith, length}
 use Rattle.std.proofs.lemmas.Bool.{false≢true, eqb-true, eqb-false}
 use Rattle.std.proofs.lemmas.Str.Pattern.{strip_suffix_char}

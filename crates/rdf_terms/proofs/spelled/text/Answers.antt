@@ -1,3 +1,4 @@
+-- Each constant is spelled as the definition spells it.
 use Rattle.std.proofs.Common.{refl}
 use Rattle.std.specs.Str.{chars}
 use Rattle.rdf_terms.specs.Known.{known_chars}

@@ -1,3 +1,4 @@
+-- The loop over a language tag: the text is one exactly where what is left completes it.
 use Rattle.std.proofs.Common.{sym, ap, ◌∙◌}
 use Rattle.rdf_terms.specs.Names.{tag_goes_on, place_of}
 use Rattle.rdf_terms.proofs.CharsLemmas.{next_char, no_chars}

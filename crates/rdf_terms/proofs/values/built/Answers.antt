@@ -1,3 +1,4 @@
+-- The loop over the inside of a token: what was built, and the value of what is left, are the value of the text.
 use Rattle.std.proofs.Common.{sym, ap, subst, ◌∙◌}
 use Rattle.std.specs.String.{string_bytes}
 use Rattle.std.specs.Str.{IsUtf8}

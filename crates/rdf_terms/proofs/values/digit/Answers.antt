@@ -1,3 +1,4 @@
+-- The number of a UCHAR stays within 32 bits while its digits are read.
 use Rattle.std.proofs.Common.{arith}
 use Rattle.rdf_terms.proofs.EscapesLemmas.{digit_room, digit_fits}
 use Rattle.rdf_terms.proofs.values.digit.Goals as goal

@@ -1,3 +1,4 @@
+-- The loop over the inside of a token: the text has a value exactly where what is left has one.
 use Rattle.std.proofs.Common.{is_some, refl, sym, ap, ◌∙◌}
 use Rattle.rdf_terms.specs.Values.{leads, means, fails}
 use Rattle.rdf_terms.specs.Escapes.{inside_of, spot_of}

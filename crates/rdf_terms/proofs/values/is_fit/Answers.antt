@@ -1,3 +1,4 @@
+-- Only IRIs and strings are tested, without their delimiters.
 use Rattle.std.proofs.Common.{sym, ap, ◌∙◌}
 use Rattle.std.specs.Str.{chars}
 use Rattle.rdf_terms.specs.Values.{is_fit, inside}

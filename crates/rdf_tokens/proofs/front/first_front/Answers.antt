@@ -1,3 +1,4 @@
+-- A token from its first character on, in each family of states, or none where no family begins so.
 use Rattle.std.proofs.Common.{◌≡◌, length, refl, sym, ap, ◌∙◌, inl, inr, arith, None}
 use Rattle.std.proofs.lemmas.Bool.{eqb-true}
 use Rattle.rdf_tokens.specs.declared.states.machine.State.TheVariants.{Start, Iri, Label, Text, Tag, Number, Name, Dead}

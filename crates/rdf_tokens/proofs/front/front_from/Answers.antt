@@ -1,3 +1,4 @@
+-- The loop over the characters of a token: it stands at a place that the states have reached, with the longest front so far.
 use Rattle.std.proofs.Common.{◌≡◌, inl, inr, refl, sym, ap, ◌∙◌, subst, arith, Some, None}
 use Rattle.std.specs.Str.{chars}
 use Rattle.rdf_tokens.specs.Tokens.{three_quotes, only_long, with_length}

@@ -1,3 +1,4 @@
+-- The longer of the fronts by the states and by the spellings, and what is kept of an open token.
 use Rattle.std.proofs.Common.{◌≡◌, ◌||◌, true, false, ap, sym, ◌∙◌, subst, is_some, refl}
 use Rattle.std.specs.Str.{chars}
 use Rattle.rdf_terms.specs.Shapes.{fixed}

@@ -1,3 +1,4 @@
+-- A token that is continued where its states had come to, in each family of states.
 use Rattle.std.proofs.Common.{arith, subst, None}
 use Rattle.rdf_tokens.specs.declared.states.machine.State.TheVariants.{Iri, Label, Text, Tag, Number, Name}
 use Rattle.rdf_tokens.specs.Tokens.{with_length}

@@ -1,3 +1,4 @@
+-- A byte order mark is the first character, of three bytes, or there is none.
 use Rattle.std.proofs.Common.{◌≡◌, ℕ, [], length, sym, ap, ◌∙◌, arith, true, ◌==◌}
 use Rattle.std.proofs.lemmas.Bool.{eqb-true, cond-true, cond-false, false_from_ne_true}
 use Rattle.std.proofs.lemmas.Bool.Decides.{nat_tests}

@@ -1,3 +1,4 @@
+-- Each answer of a look is the step of the definition, by what comes after the text.
 use Rattle.std.proofs.Common.{◌≡◌, ◌⊎◌, ◌||◌, true, false, inl, inr, sym, ap, ◌∙◌, subst}
 use Rattle.std.specs.Str.{chars}
 use Rattle.rdf_terms.specs.Shapes.{is_live}

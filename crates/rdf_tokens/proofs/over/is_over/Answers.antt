@@ -1,3 +1,4 @@
+-- A short text is never over the limit, and a long one is where its states or a spelling go past it.
 use Rattle.std.proofs.Common.{◌||◌, sym, ap, ◌∙◌, arith}
 use Rattle.rdf_terms.specs.Shapes.{fixed}
 use Rattle.rdf_tokens.specs.Fixed.{rows_of}

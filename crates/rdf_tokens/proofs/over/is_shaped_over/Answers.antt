@@ -1,3 +1,4 @@
+-- The loop that counts characters up to the limit: where it stops, the states or the count decide the definition's test.
 use Rattle.std.proofs.Common.{◌≡◌, ◌⊎◌, ◌≤◌, ◌||◌, false, is_some, length, inl, inr, sym, ap, ◌∙◌, arith}
 use Rattle.std.proofs.lemmas.Bool.{le-ltb}
 use Rattle.std.specs.Str.{chars}

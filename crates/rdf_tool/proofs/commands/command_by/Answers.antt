@@ -1,3 +1,4 @@
+-- The words give the task, or are refused, as clap's definition of this command line says.
 use Rattle.std.proofs.Common.{◌∙◌, ap, subst, map, List}
 use Rattle.std.proofs.lemmas.Result.{IfErr-weaker, IfOk-weaker}
 use Rattle.clap.specs.Words.{App, Text, fault_of, found_of, is_simple_and_free, rows_of}

@@ -1,3 +1,4 @@
+-- A limit is there and in its range, since the parse found no fault.
 use Rattle.std.proofs.Common.{◌∙◌, ap, sym, subst, Some, option_map}
 use Rattle.std.proofs.lemmas.Result.{OkIff-at_ok, OkIff-decides}
 use Rattle.clap.specs.Words.{IsUnsignedIn, found_of}

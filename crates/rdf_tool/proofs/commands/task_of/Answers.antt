@@ -1,3 +1,4 @@
+-- The matches of a parse without a fault have all that a task needs, but a base may be bad.
 use Rattle.std.proofs.Common.{◌∙◌, ap, sym, subst, codes, chars, option_map, IfSome, Some}
 use Rattle.clap.proofs.WalkLemmas.{first_value-rows}
 use Rattle.clap.proofs.TakesLemmas.{passed_up}

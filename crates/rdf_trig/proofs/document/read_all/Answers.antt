@@ -1,3 +1,4 @@
+-- A document at once: what one feed and the end report is what the definition of whole documents says.
 use Rattle.std.proofs.Common.{◌≡◌, List}
 use Rattle.rdf_terms.specs.Terms.{Quad}
 use Rattle.rdf_tokens.specs.Scans.{place_of}

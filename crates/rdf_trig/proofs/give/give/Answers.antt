@@ -1,3 +1,4 @@
+-- The three quads that a token may give out are put in their order; after a failed put some of them were.
 use Rattle.std.proofs.Common.{◌++◌, [], sym, ap, subst, refl, length, length-append, arith}
 use Rattle.std.specs.Prelude.{option_map}
 use Rattle.rdf_terms.specs.Sinks.{Appends}

@@ -1,3 +1,4 @@
+-- Outside of statements a look-up is that of the machine: in the two modes that wait for an IRIREF it changes the scope.
 use Rattle.std.proofs.Common.{ℕ, List, Option}
 use Rattle.std.specs.Str.{chars}
 use Rattle.std.specs.String.{string_bytes}

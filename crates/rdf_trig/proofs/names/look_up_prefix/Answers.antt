@@ -1,3 +1,4 @@
+-- The binding that the scope makes, or its error, is that of the machine.
 use Rattle.std.proofs.Common.{subst, ◌≤◌, ◌*◌, None}
 use Rattle.std.specs.Str.{chars}
 use Rattle.std.specs.String.{string_bytes}

@@ -1,3 +1,4 @@
+-- The local part of a name means a text, so an expanded name is the one of the definition.
 use Rattle.std.proofs.Common.{[], ap, sym, ◌∙◌, subst}
 use Rattle.std.specs.Prelude.{unwrap_or}
 use Rattle.std.specs.Str.{chars}

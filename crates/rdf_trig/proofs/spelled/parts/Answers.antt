@@ -1,3 +1,4 @@
+-- The code cuts a name at its first ':' where the definition does.
 use Rattle.std.proofs.Common.{arith, sym, ap, []}
 use Rattle.std.specs.Prelude.{unwrap_or}
 use Rattle.std.specs.Str.{chars}

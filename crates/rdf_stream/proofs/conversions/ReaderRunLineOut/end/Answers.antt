@@ -1,3 +1,4 @@
+-- The end: what waits is sent, and an error there or of the drain stops the run.
 use Rattle.std.proofs.Common.{rules}
 use Rattle.rdf_stream.proofs.LineOutLemmas.{puts_live}
 use Rattle.rdf_stream.proofs.ConvertingLemmas.{end_run_broke, end_run_halts, live_now, run_ends, stays_on}

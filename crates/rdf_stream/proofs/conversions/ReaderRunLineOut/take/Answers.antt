@@ -1,3 +1,4 @@
+-- A piece: its lines are handed over, and an error within it or of the drain stops the run.
 use Rattle.std.proofs.Common.{rules}
 use Rattle.rdf_stream.proofs.ConvertingLemmas.{run_broke, run_counts, run_few, run_halts, run_same, run_takes, stays_on}
 use Rattle.rdf_stream.proofs.conversions.ReaderRunLineOut.take.Goals as goal

@@ -1,3 +1,4 @@
+-- Each answer of `next`: more bytes decide, the end, an error or a token, as the definition's step says.
 use Rattle.std.proofs.Common.{◌≡◌, [], false, refl, sym, ap, ◌∙◌, subst}
 use Rattle.rdf_tokens.specs.Moves.{BeginsChar, Moves, Stands}
 use Rattle.rdf_tokens.proofs.FlatLemmas.{flat_text}

@@ -1,3 +1,4 @@
+-- What a step of the reader did is what the machine does, so the driver may use the grammar.
 use Rattle.std.proofs.Common.{subst}
 use Rattle.rdf_tokens.specs.Scans.{token_of}
 use Rattle.rdf_driver.specs.Words.{Takes, Misses}
