@@ -1,9 +1,5 @@
-<<<<<<< HEAD
-use Rattle.std.proofs.Common.{rules, arith, ◌≡◌, ◌+◌, ◌≤◌, ℕ, List, ◌-◌, ◌==◌, count_by, drop, take, length, sym, ap, ◌∙◌, subst}
-=======
 -- To move over bytes without a token: the place, the count of lines and the scanner's fields stay right.
-use Rattle.std.proofs.Common.{rules, ◌≡◌, ◌+◌, ◌≤◌, ℕ, List, ◌-◌, ◌==◌, count_by, drop, take, length, sym, ap, ◌∙◌, subst}
->>>>>>> comments/main
+use Rattle.std.proofs.Common.{rules, arith, ◌≡◌, ◌+◌, ◌≤◌, ℕ, List, ◌-◌, ◌==◌, count_by, drop, take, length, sym, ap, ◌∙◌, subst}
 use Rattle.std.proofs.lemmas.Str.{IsUtf8-string_bytes}
 use Rattle.std.specs.Str.{chars}
 use Rattle.std.specs.String.{string_bytes}

@@ -1,9 +1,5 @@
-<<<<<<< HEAD
-use Rattle.std.proofs.Common.{rules, arith, refl, false, ◌≡◌, ◌+◌, ◌≤◌, ℕ, List, ◌-◌, ◌==◌, count_by, drop, take, length, sym, ap, ◌∙◌, subst}
-=======
 -- To give a token and move over it: its bytes are in the text, end between characters, and the place moves with its line feeds.
-use Rattle.std.proofs.Common.{rules, refl, false, ◌≡◌, ◌+◌, ◌≤◌, ℕ, List, ◌-◌, ◌==◌, count_by, drop, take, length, sym, ap, ◌∙◌, subst}
->>>>>>> comments/main
+use Rattle.std.proofs.Common.{rules, arith, refl, false, ◌≡◌, ◌+◌, ◌≤◌, ℕ, List, ◌-◌, ◌==◌, count_by, drop, take, length, sym, ap, ◌∙◌, subst}
 use Rattle.std.proofs.lemmas.Str.{IsUtf8-string_bytes}
 use Rattle.std.specs.Str.{chars, IsCharBoundary}
 use Rattle.std.specs.String.{string_bytes}

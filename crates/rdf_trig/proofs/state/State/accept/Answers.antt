@@ -1,9 +1,5 @@
-<<<<<<< HEAD
-use Rattle.std.proofs.Common.{◌∙◌, sym, ap, length}
-=======
 -- Each way through a step: a look-up or a put that failed, a refusal, and a token that was accepted.
-use Rattle.std.proofs.Common.{◌≡◌, ◌∙◌, sym, ap, subst, length}
->>>>>>> comments/main
+use Rattle.std.proofs.Common.{◌∙◌, sym, ap, length}
 use Rattle.rdf_trig.specs.Machine as M
 use Rattle.rdf_trig.proofs.machine.AcceptedTokens.{accepted}
 use Rattle.rdf_trig.specs.States.{leaf, level_of, up_of}
