@@ -1,5 +1,5 @@
 -- How a run over a document ends, by the job that it was read with.
-use Rattle.std.proofs.Common.{◌≡◌, ℕ, Bool, true, List, Option, IfSome, refl, sym, subst, inl, ◌∙◌, arith}
+use Rattle.std.proofs.Common.{◌≡◌, ℕ, true, List, Option, IfSome, refl, sym, subst, inl, ◌∙◌, arith}
 use Rattle.rdf_stream.specs.Devices.{Reading, Written}
 use Rattle.rdf_stream.specs.Jobs.{JobRead}
 use Rattle.rdf_stream.specs.declared.fault.StreamFault.{StreamFault}
@@ -24,9 +24,17 @@ module _ (t : Task) (prefixes : Option (Option (List ℕ))) (bindings : List (Li
   pub run_stopped : (fault : StreamFault) (status : ℕ) → status ≡ status_of fault → StopsAction t.action fault job known source out_old out.contents out.has_failed
       → TellsOf fault err_old err.contents err.has_failed → RunEnds t prefixes known status out_old out err_old err
   run_stopped fault status same stops told =
-      inl (bindings, source, starts, ((λ e. absurd (some_status fault (sym same ∙ e))), (λ n. record {
-        fault = fault;
-        status_is = same;
-        stops = subst (λ j. StopsAction t.action fault j known source out_old out.contents out.has_failed) is stops;
-        told = told;
-      })))
+      inl (
+        bindings,
+        source,
+        starts,
+        (
+          (λ e. absurd (some_status fault (sym same ∙ e))),
+          (λ n. record {
+            fault = fault;
+            status_is = same;
+            stops = subst (λ j. StopsAction t.action fault j known source out_old out.contents out.has_failed) is stops;
+            told = told;
+          }),
+        ),
+      )
