@@ -26,6 +26,7 @@ IsBaseText (b ∷ bs) = IsUtf8 (b ∷ bs) × IsIri (chars (b ∷ bs))
 pub record AsksFor (request : Request) (base_text : List ℕ) (job : JobRead) : Type 0 where
   pub form : request.format ≡ number_of_form job.form
   pub base : job.base ≡ base_of base_text
+  pub bindings : job.bindings ≡ []
   pub limits : job.limits ≡ sizes_of request
   pub range : InRange job.limits
   pub fits : BaseFits job.base job.limits

@@ -14,7 +14,7 @@ use Rattle.clap.proofs.WalkLemmas.{list_any-map}
 use Rattle.rdf_stream.specs.declared.form.Form.{Form}
 use Rattle.rdf_tool.specs.declared.task.Action.{Action}
 use Rattle.rdf_tool.specs.declared.task.Action.TheVariants.{Check, Show, Convert}
-use Rattle.rdf_tool.specs.Words.{Entered, HasLimits, IsEntered, action_app, action_name, form_name, format_names, forms, rdfconv}
+use Rattle.rdf_tool.specs.Words.{Entered, HasLimits, IsEntered, action_app, action_name, form_name, format_names, forms, prefixes_rule, rdfconv}
 use Rattle.rdf_tool.proofs.RowLemmas.{Each, IsRead, same_text, value-of}
 use Rattle.rdf_tool.proofs.GivenLemmas.{pair_is, same_some}
 use Rattle.rdf_tool.proofs.LevelLemmas.{IsHelp, LevelHolds, enters}
@@ -30,26 +30,38 @@ named_form (f ∷ rest) text e = go (bytes_eq (form_name f) text) refl e (named_
     go false is e later = later e
 
 module _ (names : Bor (List (Bor Text))) (known : texts names.now ≡ format_names) where
-  -- the options of a built subcommand
-  abbrev options : List Rule
-  options = filled_from 1 ((action_app (Names names) []).top.rules ++ help_rule ∷ [])
+  -- the options that an action has beside those of all
+  abbrev own_rules : Action → List Rule
+  own_rules Check = prefixes_rule ∷ []
+  own_rules Show = []
+  own_rules Convert = prefixes_rule ∷ []
 
-  are_read : Each (IsRead options) options
+  -- the options of a built subcommand
+  abbrev options : Action → List Rule
+  options a = filled_from 1 ((action_app (Names names) []).top.rules ++ own_rules a ++ help_rule ∷ [])
+
+  are_read : (a : Action) → Each (IsRead (options a)) (options a)
   unfolding clap_on_literals
-  are_read =
+  are_read Check =
+      let set = inl (refl, refl, refl) in
+      ((refl, set), ((refl, set), ((refl, set), ((refl, set), ((refl, set), ((refl, set), ((refl, set), ((refl, set), ((refl, inr refl), tt)))))))))
+  are_read Show =
       let set = inl (refl, refl, refl) in
       ((refl, set), ((refl, set), ((refl, set), ((refl, set), ((refl, set), ((refl, set), ((refl, set), ((refl, inr refl), tt))))))))
+  are_read Convert =
+      let set = inl (refl, refl, refl) in
+      ((refl, set), ((refl, set), ((refl, set), ((refl, set), ((refl, set), ((refl, set), ((refl, set), ((refl, set), ((refl, inr refl), tt)))))))))
 
   -- a built subcommand of the program
   abbrev IsAction : Shape → Type 0
-  IsAction s = ((a : Action) × (action_name a ≡ s.name)) × (s.rules ≡ options) × (s.subcommand_negates_reqs ≡ false)
+  IsAction s = (a : Action) × (action_name a ≡ s.name) × (s.rules ≡ options a) × (s.subcommand_negates_reqs ≡ false)
 
   is_ready_leaf : (s : Shape) → IsAction s → Each (IsRead s.rules) s.rules × (s.subcommand_negates_reqs ≡ false)
-  is_ready_leaf s is = (subst (λ rules. Each (IsRead rules) rules) (sym is.1) are_read, is.2)
+  is_ready_leaf s is = (subst (λ rules. Each (IsRead rules) rules) (sym is.2) (are_read is.0), is.3)
 
   subcommands : Each (λ s. IsAction s ⊎ IsHelp s) (built (rdfconv (Names names))).subs
   unfolding clap_on_literals
-  subcommands = (inl ((Check, refl), refl, refl), (inl ((Show, refl), refl, refl), (inl ((Convert, refl), refl, refl), (inr (refl, refl), tt))))
+  subcommands = (inl (Check, refl, refl, refl), (inl (Show, refl, refl, refl), (inl (Convert, refl, refl, refl), (inr (refl, refl), tt))))
 
   needs_subcommand : (built (rdfconv (Names names))).top.subcommand_required ≡ true
   unfolding clap_on_literals
@@ -59,14 +71,14 @@ module _ (names : Bor (List (Bor Text))) (known : texts names.now ≡ format_nam
   unfolding clap_on_literals
   offers_help = refl
 
-  module _ (rows : List Row) (holds : LevelHolds options rows) where
+  module _ (a : Action) (rows : List Row) (holds : LevelHolds (options a) rows) where
     limits-of : HasLimits rows
     unfolding clap_on_literals
     limits-of =
-        let token = value-of options _ rows are_read.1.1.0.0 holds.pass (holds.defaults.1.1.0 (omega arith)) in
-        let depth = value-of options _ rows are_read.1.1.1.0.0 holds.pass (holds.defaults.1.1.1.0 (omega arith)) in
-        let bindings = value-of options _ rows are_read.1.1.1.1.0.0 holds.pass (holds.defaults.1.1.1.1.0 (omega arith)) in
-        let iri = value-of options _ rows are_read.1.1.1.1.1.0.0 holds.pass (holds.defaults.1.1.1.1.1.0 (omega arith)) in
+        let token = value-of (options a) _ rows (are_read a).1.1.0.0 holds.pass (holds.defaults.1.1.0 (omega arith)) in
+        let depth = value-of (options a) _ rows (are_read a).1.1.1.0.0 holds.pass (holds.defaults.1.1.1.0 (omega arith)) in
+        let bindings = value-of (options a) _ rows (are_read a).1.1.1.1.0.0 holds.pass (holds.defaults.1.1.1.1.0 (omega arith)) in
+        let iri = value-of (options a) _ rows (are_read a).1.1.1.1.1.0.0 holds.pass (holds.defaults.1.1.1.1.1.0 (omega arith)) in
         record {
           token = (token.0, token.1, accepts-Accepts false (Unsigned 1 268435456) token.0 token.2);
           depth = (depth.0, depth.1, accepts-Accepts false (Unsigned 0 1048576) depth.0 depth.2);
@@ -77,7 +89,7 @@ module _ (names : Bor (List (Bor Text))) (known : texts names.now ≡ format_nam
     form-of : (f : Form) × (first_of (codes "format") rows ≡ Some (form_name f))
     unfolding clap_on_literals
     form-of =
-        let format = value-of options _ rows are_read.0.0 holds.pass (holds.defaults.0 (omega arith)) in
+        let format = value-of (options a) _ rows (are_read a).0.0 holds.pass (holds.defaults.0 (omega arith)) in
         let among : list_any (λ name. bytes_eq name format.0) (texts names.now) ≡ true = sym (list_any-map (λ name. bytes_eq name format.0) (λ (s : Bor Text). s.now) names.now) ∙ format.2 in
         let form = named_form forms format.0 (subst (λ xs. list_any (λ name. bytes_eq name format.0) xs ≡ true) known among) in
         (form.0, format.1 ∙ ap (λ t. Some t) (sym form.1))
@@ -87,8 +99,8 @@ module _ (names : Bor (List (Bor Text))) (known : texts names.now ≡ format_nam
   entered words none =
       let at = enters (built (rdfconv (Names names))) IsAction is_ready_leaf subcommands (argument_words (rdfconv (Names names)) words) needs_subcommand offers_help none in
       let rows = rows_after at.0.rules [] at.1 in
-      let holds : LevelHolds options rows = subst (λ rules. LevelHolds rules rows) at.2.1 at.4 in
-      ((at.0.name, rows), at.3, record { action = at.2.0; form = form-of rows holds; limits = limits-of rows holds })
+      let holds : LevelHolds (options at.2.0) rows = subst (λ rules. LevelHolds rules rows) at.2.2 at.4 in
+      ((at.0.name, rows), at.3, record { action = (at.2.0, at.2.1); form = form-of at.2.0 rows holds; limits = limits-of at.2.0 rows holds })
 
   -- the same, of what a parse was seen to enter
   pub entered-at : (words : List Text) (p : Entered) → fault_of (rdfconv (Names names)) words ≡ [] → subcommand_of (rdfconv (Names names)) words ≡ Some p → IsEntered p

@@ -1,10 +1,10 @@
 -- What the whole program does, over what it is started with: words, standard input and files, as the program's host says.
-use Rattle.std.specs.Prelude.{◌≡◌, ◌⊎◌, ℕ, List, codes, Option, Some, option_map}
+use Rattle.std.specs.Prelude.{◌≡◌, ◌⊎◌, ℕ, List, codes, Option, Some, None, option_map, ⊤}
 use Rattle.std.specs.String.{string_bytes}
 use Rattle.clap.specs.Words.{Text}
 use Rattle.clap.specs.declared.builder.value_parser.ValueParser.{ValueParser}
 use Rattle.clap.specs.declared.error.kind.ErrorKind.TheVariants.{InvalidValue}
-use Rattle.rdf_stream.specs.Devices.{Reading, Written}
+use Rattle.rdf_stream.specs.Devices.{Written}
 use Rattle.rdf_tool.specs.declared.task.Task.{Task}
 use Rattle.rdf_tool.specs.declared.task.WordsFault.{WordsFault}
 use Rattle.rdf_tool.specs.declared.task.WordsFault.TheVariants.{Memory}
@@ -28,27 +28,40 @@ IsNotGiven has_words has_bad_word fault = GiveNone has_words fault ⊎ ((has_bad
 abbrev pub file_of : Task → Option Text
 file_of t = option_map string_bytes t.file
 
--- The file of the task did not open, which the status and the text on the error output say, and nothing was written.
+-- the name of the file of bindings, where the task has one
+abbrev pub prefixes_of : Task → Option Text
+prefixes_of t = option_map string_bytes t.prefixes
+
+-- the file of bindings of this name has these bytes, where there is a name and the bytes are known
+abbrev pub HasPrefixes : (Option Text → Option (List ℕ) → Type 0) → Option Text → Option (Option (List ℕ)) → Type 0
+HasPrefixes has_document None None = ⊤
+HasPrefixes has_document None (Some known) = ⊥
+HasPrefixes has_document (Some path) None = ⊥
+HasPrefixes has_document (Some path) (Some known) = has_document (Some path) known
+
+-- A file of the task did not open, which the status and the text on the error output say, and nothing was written.
 pub record IsNotOpen (is_shut : Text → Type 0) (t : Task) (status : ℕ) (out_old : Option (List ℕ)) (out : Written)
     (err_old : Option (List ℕ)) (err : Written) : Type 0 where
   pub path : Text
-  pub named : file_of t ≡ Some path
+  pub named : (prefixes_of t ≡ Some path) ⊎ (file_of t ≡ Some path)
   pub shut : is_shut path
   pub status_is : status ≡ 3
   pub unwritten : out.contents ≡ out_old
   pub told : Tells (codes "rdfconv: cannot open file\n") err_old err.contents err.has_failed
 
--- The document that the task names was read, its file or else standard input, and the run of the task over it ended so; or the file did not open.
-abbrev pub TaskEnds : (Option Text → Option (List ℕ) → Type 0) → (Text → Type 0) → Task → ℕ → Reading
+-- What the task names was read, the file of bindings where there is one, and the document, its file or else standard input; and the run of the
+-- task ended so. Or a file did not open.
+abbrev pub TaskEnds : (Option Text → Option (List ℕ) → Type 0) → (Text → Type 0) → Task → ℕ
     → Option (List ℕ) → Written → Option (List ℕ) → Written → Type 0
-TaskEnds has_document is_shut t status source out_old out err_old err =
-    ((known : Option (List ℕ)) × has_document (file_of t) known × RunEnds t status known source out_old out err_old err)
+TaskEnds has_document is_shut t status out_old out err_old err =
+    ((prefixes : Option (Option (List ℕ))) × (known : Option (List ℕ)) × HasPrefixes has_document (prefixes_of t) prefixes
+    × has_document (file_of t) known × RunEnds t prefixes known status out_old out err_old err)
     ⊎ IsNotOpen is_shut t status out_old out err_old err
 
 -- The words give a task, which ended so; or they give none, which the status and the text on an output say.
-abbrev pub ProgramEnds : (List Text → Type 0) → Type 0 → (Option Text → Option (List ℕ) → Type 0) → (Text → Type 0) → ℕ → Reading
+abbrev pub ProgramEnds : (List Text → Type 0) → Type 0 → (Option Text → Option (List ℕ) → Type 0) → (Text → Type 0) → ℕ
     → Option (List ℕ) → Written → Option (List ℕ) → Written → Type 0
-ProgramEnds has_words has_bad_word has_document is_shut status source out_old out err_old err =
-    ((task : Task) × IsGiven has_words task × TaskEnds has_document is_shut task status source out_old out err_old err)
+ProgramEnds has_words has_bad_word has_document is_shut status out_old out err_old err =
+    ((task : Task) × IsGiven has_words task × TaskEnds has_document is_shut task status out_old out err_old err)
     ⊎ ((fault : WordsFault) × IsNotGiven has_words has_bad_word fault
     × RefusesWords fault status err_old err.contents err.has_failed × GoesTo fault out_old out.contents err_old err.contents)

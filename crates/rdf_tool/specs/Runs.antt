@@ -1,11 +1,19 @@
 -- What a run of the program does.
+<<<<<<< HEAD
 use Rattle.std.specs.Prelude.{◌≡◌, ◌≢◌, ◌⊎◌, ℕ, Bool, true, List, [], ◌++◌, codes, decimal, Option, IfSome}
+=======
+use Rattle.std.specs.Prelude.{◌≡◌, ◌≢◌, ◌⊎◌, ℕ, Bool, true, false, List, [], ◌++◌, codes, decimal, Option, Some, None, IfSome}
+>>>>>>> bindings/main
 use Rattle.std.specs.Io.KnownBytes.{Appends}
 use Rattle.rdf_driver.specs.declared.summary.Summary.{Summary}
 use Rattle.rdf_stream.specs.Checks.{CheckStops, IsAccepted}
 use Rattle.rdf_stream.specs.Converts.{IsConverted, StopsFor}
 use Rattle.rdf_stream.specs.Devices.{AppendsFront, Reading, Written}
+use Rattle.rdf_iri.specs.Limits.{Sizes}
+use Rattle.rdf_iri.specs.Bindings.{BindingMap}
 use Rattle.rdf_stream.specs.Jobs.{JobRead}
+use Rattle.rdf_stream.specs.Loads.{LoadStops, Loads}
+use Rattle.rdf_stream.specs.declared.fault.LoadFault.{LoadFault}
 use Rattle.rdf_stream.specs.Languages.{conversion_of, language_of}
 use Rattle.rdf_stream.specs.Shows.{ShowStops, Shows}
 use Rattle.rdf_stream.specs.declared.fault.StreamFault.{StreamFault}
@@ -13,11 +21,24 @@ use Rattle.rdf_stream.specs.declared.fault.StreamFault.TheVariants.{Write, Memor
 use Rattle.rdf_tool.specs.declared.task.Action.{Action}
 use Rattle.rdf_tool.specs.declared.task.Action.TheVariants.{Check, Show, Convert}
 use Rattle.rdf_tool.specs.declared.task.Task.{Task}
-use Rattle.rdf_tool.specs.Statuses.{TellsOf, status_of}
+use Rattle.rdf_tool.specs.declared.runs.Files.{Files}
+use Rattle.rdf_tool.specs.Statuses.{TellsLoad, TellsOf, load_status, status_of}
 
+<<<<<<< HEAD
 -- the job that a task asks for
 abbrev pub job_of : Task → JobRead
 job_of t = record { form = t.form; base = t.base; bindings = []; limits = t.limits }
+=======
+-- the job that a task asks for, with these bindings
+abbrev pub job_of : Task → List (List ℕ × List ℕ) → JobRead
+job_of t bindings = record { form = t.form; base = t.base; bindings = bindings; limits = t.limits }
+
+-- no call was made of these sources
+pub record AreFresh {I : Type 0} (has_ended has_failed : I → Bool) (files : Files I) : Type 0 where
+  pub prefixes : IfSome files.prefixes (λ s. (has_ended s ≡ false) × (has_failed s ≡ false))
+  pub more : has_ended files.document ≡ false
+  pub live : has_failed files.document ≡ false
+>>>>>>> bindings/main
 
 -- the line that tells what is in an accepted document
 abbrev pub accepted_text : Summary → List ℕ
@@ -52,18 +73,44 @@ StopsAction Show fault job known left old new write_failed = ShowStops fault job
 StopsAction Convert fault job known left old new write_failed = StopsFor fault (conversion_of job) known left old new write_failed
 
 -- The document was accepted, and what the task asks for was written and flushed.
-abbrev pub IsDone : Task → Option (List ℕ) → Option (List ℕ) → Written → Type 0
-IsDone t known out_old out = IfSome known (λ bytes. Does t.action (job_of t) bytes out_old out.contents) × (out.is_flushed ≡ true)
+abbrev pub IsDone : Task → List (List ℕ × List ℕ) → Option (List ℕ) → Option (List ℕ) → Written → Type 0
+IsDone t bindings known out_old out = IfSome known (λ bytes. Does t.action (job_of t bindings) bytes out_old out.contents) × (out.is_flushed ≡ true)
 
 -- The run stopped for a fault, which its status and the text on the error output say.
-pub record RunStops (t : Task) (status : ℕ) (known : Option (List ℕ)) (source : Reading) (out_old : Option (List ℕ)) (out : Written)
+pub record RunStops (t : Task) (bindings : List (List ℕ × List ℕ)) (status : ℕ) (known : Option (List ℕ)) (source : Reading) (out_old : Option (List ℕ)) (out : Written)
     (err_old : Option (List ℕ)) (err : Written) : Type 0 where
   pub fault : StreamFault
   pub status_is : status ≡ status_of fault
-  pub stops : StopsAction t.action fault (job_of t) known source out_old out.contents out.has_failed
+  pub stops : StopsAction t.action fault (job_of t bindings) known source out_old out.contents out.has_failed
   pub told : TellsOf fault err_old err.contents err.has_failed
 
--- A run over a source of these bytes left the source and the two outputs like this: it is done at 0, and else it stopped.
-abbrev pub RunEnds : Task → ℕ → Option (List ℕ) → Reading → Option (List ℕ) → Written → Option (List ℕ) → Written → Type 0
-RunEnds t status known source out_old out err_old err =
-    (status ≡ 0 → IsDone t known out_old out) × (status ≢ 0 → RunStops t status known source out_old out err_old err)
+-- A run with these bindings, over a source of these bytes, left the source and the two outputs like this: it is done at 0, and else it stopped.
+abbrev pub DocumentEnds : Task → List (List ℕ × List ℕ) → ℕ → Option (List ℕ) → Reading → Option (List ℕ) → Written → Option (List ℕ) → Written → Type 0
+DocumentEnds t bindings status known source out_old out err_old err =
+    (status ≡ 0 → IsDone t bindings known out_old out) × (status ≢ 0 → RunStops t bindings status known source out_old out err_old err)
+
+-- The bindings that a document starts with: none, or those of a file of these bytes.
+abbrev pub StartsWith : Sizes → Option (Option (List ℕ)) → List (List ℕ × List ℕ) → Type 0
+StartsWith sizes None bindings = bindings ≡ []
+StartsWith sizes (Some known) bindings = (b : BindingMap) × (left : Reading) × Loads sizes known left b × (bindings ≡ b.bindings)
+
+-- Why there are no bindings to start with: the file of these bytes was not loaded.
+abbrev pub StartsNot : LoadFault → Sizes → Option (Option (List ℕ)) → Type 0
+StartsNot fault sizes None = ⊥
+StartsNot fault sizes (Some known) = (left : Reading) × LoadStops fault sizes known left
+
+-- The file of bindings was not loaded, which the status and the text on the error output say, and nothing was written.
+pub record PrefixesStop (t : Task) (prefixes : Option (Option (List ℕ))) (status : ℕ) (out_old : Option (List ℕ)) (out : Written)
+    (err_old : Option (List ℕ)) (err : Written) : Type 0 where
+  pub fault : LoadFault
+  pub stops : StartsNot fault t.limits prefixes
+  pub status_is : status ≡ load_status fault
+  pub unwritten : out.contents ≡ out_old
+  pub told : TellsLoad fault err_old err.contents err.has_failed
+
+-- The document was read with the bindings to start with, and the run ended so; or there are none to start with.
+abbrev pub RunEnds : Task → Option (Option (List ℕ)) → Option (List ℕ) → ℕ → Option (List ℕ) → Written → Option (List ℕ) → Written → Type 0
+RunEnds t prefixes known status out_old out err_old err =
+    ((bindings : List (List ℕ × List ℕ)) × (source : Reading) × StartsWith t.limits prefixes bindings
+    × DocumentEnds t bindings status known source out_old out err_old err)
+    ⊎ PrefixesStop t prefixes status out_old out err_old err

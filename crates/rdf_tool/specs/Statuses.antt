@@ -1,11 +1,14 @@
 -- The status that the program exits with, and the texts that it tells.
-use Rattle.std.specs.Prelude.{◌≡◌, ◌≢◌, ◌⊎◌, ℕ, Bool, false, List, Option, codes}
+use Rattle.std.specs.Prelude.{◌≡◌, ◌≢◌, ◌⊎◌, ℕ, Bool, false, List, ◌++◌, Option, codes, decimal}
 use Rattle.std.specs.Io.KnownBytes.{Appends}
 use Rattle.clap.specs.Words.{kind_of}
 use Rattle.clap.specs.declared.error.kind.ErrorKind.{ErrorKind}
 use Rattle.clap.specs.declared.error.kind.ErrorKind.TheVariants.{DisplayHelp, DisplayVersion}
 use Rattle.rdf_stream.specs.Devices.{AppendsFront}
 use Rattle.rdf_stream.specs.Messages.{report_text}
+use Rattle.rdf_stream.specs.declared.fault.LoadFault.{LoadFault}
+use Rattle.rdf_stream.specs.declared.fault.LoadFault.TheVariants as load
+use Rattle.rdf_stream.specs.declared.fault.LoadFault.TheVariants.{Bad}
 use Rattle.rdf_stream.specs.declared.fault.StreamFault.{StreamFault}
 use Rattle.rdf_stream.specs.declared.fault.StreamFault.TheVariants.{Refused, Read, Write, Memory}
 use Rattle.rdf_tool.specs.declared.task.WordsFault.{WordsFault}
@@ -22,10 +25,26 @@ status_of Memory = 4
 abbrev pub Tells : List ℕ → Option (List ℕ) → Option (List ℕ) → Bool → Type 0
 Tells text old new failed = AppendsFront old new text × (failed ≡ false → Appends old new text)
 
+-- the line that tells of a line of a file of bindings
+abbrev pub prefixes_text : ℕ → List ℕ
+prefixes_text line = codes "rdfconv: bad prefixes at line " ++ decimal line ++ codes "\n"
+
 -- What is told of a fault. The text of a refusal takes memory, and nothing of it is told where that is refused.
 abbrev pub TellsOf : StreamFault → Option (List ℕ) → Option (List ℕ) → Bool → Type 0
 TellsOf (Refused f) old new failed = Tells (report_text (Refused f)) old new failed ⊎ (new ≡ old)
 TellsOf fault old new failed = Tells (report_text fault) old new failed
+
+-- a line of a file of bindings that is refused is a mistake of the words
+abbrev pub load_status : LoadFault → ℕ
+load_status (Bad f) = 2
+load_status load.Read = 3
+load_status load.Memory = 4
+
+-- What is told of a file of bindings that was not loaded. The text of a line takes memory, and nothing of it is told where that is refused.
+abbrev pub TellsLoad : LoadFault → Option (List ℕ) → Option (List ℕ) → Bool → Type 0
+TellsLoad (Bad f) old new failed = Tells (prefixes_text f.line) old new failed ⊎ (new ≡ old)
+TellsLoad load.Read old new failed = Tells (report_text Read) old new failed
+TellsLoad load.Memory old new failed = Tells (report_text Memory) old new failed
 
 -- 0 where help was asked for, and else 2
 abbrev pub IsUsageStatus : ErrorKind → ℕ → Type 0

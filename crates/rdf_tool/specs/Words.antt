@@ -91,19 +91,27 @@ iri_rule = limit_rule (codes "iri") 1 268435456 (codes "1048576")
 abbrev pub file_rule : Rule
 file_rule = record (new_rule (codes "file")) { action = Some Set; value_names = 1 }
 
--- a subcommand, where the parser takes the names of the formats
+-- the file of bindings
+abbrev pub prefixes_rule : Rule
+prefixes_rule = record (new_rule (codes "prefixes")) { long = Some (codes "prefixes"); action = Some Set; value_names = 1 }
+
+-- a subcommand with the options that all have, where the parser takes the names of the formats
 abbrev pub action_app : ValueParser → Text → App
 action_app names action =
     with_rule (with_rule (with_rule (with_rule (with_rule (with_rule (with_rule (new_app action)
     (format_rule names)) base_rule) token_rule) depth_rule) bindings_rule) iri_rule) file_rule
 
+-- a subcommand that looks at prefixes
+abbrev pub with_prefixes : App → App
+with_prefixes a = with_rule a prefixes_rule
+
 -- the program's command line
 abbrev pub rdfconv : ValueParser → App
 rdfconv names = with_subcommand (with_subcommand (with_subcommand
     (on_top (λ s. record s { subcommand_required = true }) (new_app (codes "rdfconv")))
-    (action_app names (codes "check")).top)
+    (with_prefixes (action_app names (codes "check"))).top)
     (action_app names (codes "show")).top)
-    (action_app names (codes "convert")).top
+    (with_prefixes (action_app names (codes "convert"))).top
 
 -- the command has no global argument, and a parse reads this of it
 abbrev pub ReadsAs : Command → App → Type 0
@@ -161,6 +169,7 @@ pub record IsTaskBy (p : Entered) (t : Task) : Type 0 where
   pub base : t.base ≡ option_map chars (first_of (codes "base") p.1)
   pub good_base : IfSome (first_of (codes "base") p.1) (IsBase t.limits.iri)
   pub limits : HasSizes p.1 t.limits
+  pub prefixes : option_map string_bytes t.prefixes ≡ first_of (codes "prefixes") p.1
   pub file : option_map string_bytes t.file ≡ first_of (codes "file") p.1
 
 -- the base among the matches is no IRI, or too long

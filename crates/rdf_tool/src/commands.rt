@@ -63,12 +63,14 @@ fn task_of(alloc: Global, name: &str, found: &ArgMatches<'_>) -> Result<Task, Wo
     let form = form_of(found.get_str("format").unwrap());
     let limits = limits_of(found);
     let base = base_of(alloc, found.get_str("base"), limits.iri())?;
+    let prefixes = owned(alloc, found.get_str("prefixes"))?;
     let file = owned(alloc, found.get_str("file"))?;
     Ok(Task {
         action,
         form,
         base,
         limits,
+        prefixes,
         file,
     })
 }

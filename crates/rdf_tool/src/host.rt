@@ -1,10 +1,10 @@
 // What the program is started with, and the process that starts it.
 
-ghost use Rattle.std.specs.Prelude.{◌≡◌, false, IfErr, IfOk, List, map, None, OnErr, OnOk, Option, option_map, Some, string_bytes, ℕ, ⊤};
+ghost use Rattle.std.specs.Prelude.{◌≡◌, false, IfErr, IfOk, List, map, None, OnErr, Option, option_map, Some, string_bytes, ℕ, ⊤};
 ghost use Rattle.clap.specs.Words.{Text};
 ghost use Rattle.rdf_tool.specs.declared.host.NoWords.{NoWords};
 
-use rdf_stream::{Failed, In, Source};
+use rdf_stream::{In, Source};
 use std::alloc::{AllocError, Global};
 use std::fs::File;
 use std::io::{ErrorKind, Read, Stdin};
@@ -31,9 +31,11 @@ impl From<AllocError> for NoWords {
 #[derive(Clone, Copy, Debug, PartialEq, Eq)]
 pub struct NotOpen;
 
-/// The words of a command line, and the documents that they may name. It is the source of the document that was
-/// opened last.
-pub trait Host: Source {
+/// The words of a command line, and the documents that they may name.
+pub trait Host {
+    /// What a document is read from.
+    type Input: Source + Drop;
+
     /// These are the words, the program's name first.
     ghost has_words: { Self → List Text → Type 0 };
     /// A word is no UTF-8.
@@ -49,11 +51,11 @@ pub trait Host: Source {
         ensures bad { IfErr result (λ why. why ≡ NoWords.NotUtf8 → has_bad_word self.now) };
 
     /// Opens the file of this name, or standard input where there is none.
-    fn open(&mut self, file: Option<&str>) -> Result<(), NotOpen>
-        ensures opened { OnOk result (has_document self.old (option_map (λ s. s.now) file.entry) (Self.remaining self.new)) }
-        ensures more { OnOk result (Self.has_ended self.new ≡ false) }
-        ensures live { OnOk result (Self.has_failed self.new ≡ false) }
-        ensures shut { OnErr result ((path : Text) × (option_map (λ s. s.now) file.entry ≡ Some path) × is_shut self.old path) };
+    fn open(&self, file: Option<&str>) -> Result<Self::Input, NotOpen>
+        ensures opened { IfOk result (λ input. has_document self.now (option_map (λ s. s.now) file.entry) (Self.Input.remaining input)) }
+        ensures more { IfOk result (λ input. Self.Input.has_ended input ≡ false) }
+        ensures live { IfOk result (λ input. Self.Input.has_failed input ≡ false) }
+        ensures shut { OnErr result ((path : Text) × (option_map (λ s. s.now) file.entry ≡ Some path) × is_shut self.now path) };
 }
 
 /// The process: its command line, its standard input, and the files that it may open. What these are no contract
@@ -61,12 +63,14 @@ pub trait Host: Source {
 #[derive(Drop)]
 pub struct Process<'a> {
     rt: &'a HostRuntime,
-    source: In<Opened>,
 }
 
+/// Standard input, or a file.
 #[derive(Drop)]
-enum Opened {
+pub enum Opened {
+    /// Standard input.
     Input(Stdin),
+    /// A file that was opened.
     File(File),
 }
 
@@ -80,39 +84,15 @@ impl Read for Opened {
 }
 
 impl<'a> Process<'a> {
-    /// The process, which reads standard input until it opens a file.
-    pub fn new(rt: &'a HostRuntime) -> Process<'a>
-        ensures more { result.source.has_ended ≡ false }
-        ensures live { result.source.has_failed ≡ false }
-    {
-        Process {
-            rt,
-            source: In::new(Opened::Input(rt.stdin())),
-        }
-    }
-}
-
-impl<'a> Source for Process<'a> {
-    ghost remaining = { λ p. p.source.remaining };
-
-    ghost has_ended = { λ p. p.source.has_ended };
-
-    ghost has_failed = { λ p. p.source.has_failed };
-
-    fn fill(&mut self, buf: &mut [u8]) -> Result<usize, Failed> {
-        self.source.fill(buf)
-    }
-
-    fn ended(&self) -> bool {
-        self.source.ended()
-    }
-
-    fn failed(&self) -> bool {
-        self.source.failed()
+    /// The process.
+    pub fn new(rt: &'a HostRuntime) -> Process<'a> {
+        Process { rt }
     }
 }
 
 impl<'a> Host for Process<'a> {
+    type Input = In<Opened>;
+
     ghost has_words = { λ _ _. ⊤ };
 
     ghost has_bad_word = { λ _. ⊤ };
@@ -129,7 +109,7 @@ impl<'a> Host for Process<'a> {
         }
     }
 
-    fn open(&mut self, file: Option<&str>) -> Result<(), NotOpen> {
+    fn open(&self, file: Option<&str>) -> Result<In<Opened>, NotOpen> {
         let opened = match file {
             None => Opened::Input(self.rt.stdin()),
             Some(path) => match File::open(self.rt, path) {
@@ -137,7 +117,6 @@ impl<'a> Host for Process<'a> {
                 Err(_) => return Err(NotOpen),
             },
         };
-        self.source = In::new(opened);
-        Ok(())
+        Ok(In::new(opened))
     }
 }

@@ -17,8 +17,8 @@ use rdf_stream::Out;
 use std::process::ExitCode;
 
 fn main(rt: HostRuntime) -> ExitCode {
-    let mut process = Process::new(&rt);
+    let process = Process::new(&rt);
     let mut out = Out::new(rt.stdout());
     let mut err = Out::new(rt.stderr());
-    ExitCode::from(start(rt.alloc(), &mut process, &mut out, &mut err))
+    ExitCode::from(start(rt.alloc(), &process, &mut out, &mut err))
 }

@@ -3,7 +3,7 @@
 ghost use Rattle.std.specs.Prelude.{◌≡◌, IfOk, codes, false};
 ghost use Rattle.clap.specs.Words.{app_of, rule_of};
 ghost use Rattle.clap.specs.declared.builder.value_parser.ValueParser.TheVariants.{Names};
-ghost use Rattle.rdf_tool.specs.Words.{ReadsAs, action_app, base_rule, file_rule, format_rule, limit_rule, rdfconv};
+ghost use Rattle.rdf_tool.specs.Words.{ReadsAs, action_app, base_rule, file_rule, format_rule, limit_rule, prefixes_rule, rdfconv, with_prefixes};
 
 use clap::builder::ValueParser;
 use clap::{Arg, ArgAction, Command};
@@ -27,13 +27,16 @@ Options of a command, which reads FILE or standard input:
   --depth N        brackets and parentheses open at one time, 0 to 1048576 [default: 1024]
   --bindings N     prefixes bound at one time, 0 to 16777216 [default: 65536]
   --iri N          bytes of one IRI, 1 to 268435456 [default: 1048576]
+  --prefixes FILE2 (check, convert) prefixes that are bound before the document: a line for
+                   each, as `ex: http://example.org/`; line formats have none
 Past one of the limits N a document is refused.
 
 Exit status:
   0  accepted, or help was asked for
   1  refused, with `rdfconv: REASON at byte N, line M` on standard error
-  2  the words are no command, or the base is no IRI or too long
-  3  the file does not open, or a read or write failed
+  2  the words are no command, the base is no IRI or too long, or a line of FILE2 is refused,
+     with `rdfconv: bad prefixes at line N`
+  3  a file does not open, or a read or write failed
   4  out of memory";
 
 /// What stands below the help of a subcommand.
@@ -43,17 +46,18 @@ The format is not guessed from the file's name. Past one of the limits N a docum
 Exit status:
   0  accepted, or help was asked for
   1  refused, with `rdfconv: REASON at byte N, line M` on standard error
-  2  the words are no command, or the base is no IRI or too long
-  3  the file does not open, or a read or write failed
+  2  the words are no command, the base is no IRI or too long, or a line of FILE2 is refused,
+     with `rdfconv: bad prefixes at line N`
+  3  a file does not open, or a read or write failed
   4  out of memory";
 
 /// The whole command line, where a format has one of these names.
 pub fn program<'a>(alloc: Global, formats: &'a [&'a str]) -> Result<Command<'a>, AllocError>
     ensures { IfOk result (λ c. app_of c ≡ rdfconv (Names formats.entry)) }
 {
-    let check = action_command(alloc, "check", CHECK, formats)?;
+    let check = prefixed_command(alloc, "check", CHECK, formats)?;
     let show = action_command(alloc, "show", SHOW, formats)?;
-    let convert = action_command(alloc, "convert", CONVERT, formats)?;
+    let convert = prefixed_command(alloc, "convert", CONVERT, formats)?;
     Command::new(alloc, "rdfconv")
         .about("Read N-Triples, N-Quads, Turtle or TriG, and write N-Quads")
         .after_help(PROGRAM_NOTES)
@@ -61,6 +65,20 @@ pub fn program<'a>(alloc: Global, formats: &'a [&'a str]) -> Result<Command<'a>,
         .subcommand(check)?
         .subcommand(show)?
         .subcommand(convert)
+}
+
+// A subcommand that looks at prefixes.
+fn prefixed_command<'a>(
+    alloc: Global,
+    name: &'a str,
+    about: &'a str,
+    formats: &'a [&'a str],
+) -> Result<Command<'a>, AllocError>
+    ensures { IfOk result (λ c. ReadsAs c (with_prefixes (action_app (Names formats.entry) name.now))) }
+{
+    let command = action_command(alloc, name, about, formats)?;
+    let prefixes = prefixes_option(alloc);
+    command.arg(prefixes)
 }
 
 fn action_command<'a>(
@@ -162,6 +180,17 @@ fn limit_option<'a>(
         .help(help)
         .value_parser(ValueParser::unsigned(least, most))
         .default_value(default)
+}
+
+fn prefixes_option<'a>(alloc: Global) -> Arg<'a>
+    ensures rule { rule_of result ≡ prefixes_rule }
+    ensures local { result.global ≡ false }
+{
+    Arg::new(alloc, "prefixes")
+        .long("prefixes")
+        .action(ArgAction::Set)
+        .value_name("FILE2")
+        .help("File of prefixes bound before the document, a line each: `ex: http://example.org/`")
 }
 
 fn file_argument<'a>(alloc: Global) -> Arg<'a>

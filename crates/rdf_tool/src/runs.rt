@@ -1,49 +1,124 @@
 // A run, its status, and what it tells.
 
-ghost use Rattle.std.specs.Prelude.{◌≡◌, ◌++◌, false, true, codes, decimal, IfErr, IfOk, IfSome, OnErr, OnOk, is_err};
+ghost use Rattle.std.specs.Prelude.{◌≡◌, ◌++◌, ℕ, List, false, true, codes, decimal, IfErr, IfOk, IfSome, OnErr, OnOk, is_err, option_map};
 ghost use Rattle.std.specs.Io.KnownBytes.{Appends};
 ghost use Rattle.rdf_iri.specs.Scope.{BaseFits};
-ghost use Rattle.rdf_stream.specs.Devices.{AppendsFront, reading};
+ghost use Rattle.rdf_stream.specs.Devices.{AppendsFront, Reading, reading};
+ghost use Rattle.rdf_stream.specs.Loads.{LoadStops, Loads};
 ghost use Rattle.rdf_stream.specs.Messages.{report_text};
 ghost use Rattle.rdf_stream.specs.declared.fault.StreamFault.{StreamFault};
-ghost use Rattle.rdf_tool.specs.Runs.{Does, IsChecked, RunEnds, StopsAction, StopsCheck, accepted_text};
-ghost use Rattle.rdf_tool.specs.Statuses.{GoesTo, RefusesWords, Tells, TellsOf, status_of};
+ghost use Rattle.rdf_tool.specs.Runs.{AreFresh, Does, IsChecked, RunEnds, StartsNot, StartsWith, StopsAction, StopsCheck, accepted_text, job_of};
+ghost use Rattle.rdf_tool.specs.Statuses.{GoesTo, RefusesWords, Tells, TellsLoad, TellsOf, load_status, prefixes_text, status_of};
 
 use crate::task::{Action, Task, WordsFault};
 use clap::Error;
 use itoa::Buffer;
 use rdf_stream::{
-    Drain, Failed, Job, Source, StreamFault, Summary, check, convert, put_all, report, show,
+    Bindings, Drain, Failed, Job, Limits, LoadFault, Source, StreamFault, Summary, check, convert,
+    load_bindings, put_all, report, show,
 };
 use std::alloc::{AllocError, Global};
 
-/// Runs a task over its document, and answers the status.
-pub fn run<S: Source, O: Drain, E: Drain>(
+/// What a task reads: the file of the prefixes that are bound before the document, if it names one, and the document.
+#[derive(Drop)]
+pub struct Files<I> {
+    /// The file of bindings.
+    pub prefixes: Option<I>,
+    /// The document.
+    pub document: I,
+}
+
+/// Runs a task over its files, and answers the status. The file of bindings is read first.
+pub fn run<I: Source + Drop, O: Drain, E: Drain>(
     alloc: Global,
     task: Task,
-    source: &mut S,
+    files: Files<I>,
     out: &mut O,
     err: &mut E,
 ) -> u8
     requires base { BaseFits task.base task.limits }
-    requires more { S.has_ended source.old ≡ false }
-    requires source { S.has_failed source.old ≡ false }
+    requires fresh { AreFresh I.has_ended I.has_failed files }
     requires out { O.has_failed out.old ≡ false }
     requires err { E.has_failed err.old ≡ false }
-    ensures { RunEnds task result (S.remaining source.old)
-        (reading S.remaining S.has_ended S.has_failed source.new)
+    ensures { RunEnds task (option_map I.remaining files.prefixes) (I.remaining files.document) result
         (O.contents out.old) (record { contents = O.contents out.new; has_failed = O.has_failed out.new; is_flushed = O.is_flushed out.new })
         (E.contents err.old) (record { contents = E.contents err.new; has_failed = E.has_failed err.new; is_flushed = E.is_flushed err.new }) }
 {
+    let Files { prefixes, document } = files;
     let action = task.action;
-    let job = Job::new(task.form, task.base, task.limits).unwrap();
-    match act(alloc, action, job, source, out) {
+    let mut document = document;
+    let job = match job_of(alloc, task, prefixes) {
+        Ok(job) => job,
+        Err(fault) => return refuse_prefixes(alloc, &fault, err),
+    };
+    match act(alloc, action, job, &mut document, out) {
         Ok(()) => 0,
         Err(fault) => {
             tell_fault(alloc, &fault, err);
             status(&fault)
         }
     }
+}
+
+// What a task asks for, with the bindings of its file.
+fn job_of<I: Source + Drop>(
+    alloc: Global,
+    task: Task,
+    prefixes: Option<I>,
+) -> Result<Job, LoadFault>
+    requires base { BaseFits task.base task.limits }
+    requires fresh { IfSome prefixes (λ s. (I.has_ended s ≡ false) × (I.has_failed s ≡ false)) }
+    ensures job { IfOk result (λ job. (bindings : List (List ℕ × List ℕ)) × StartsWith task.limits (option_map I.remaining prefixes) bindings × (job ≡ job_of task bindings)) }
+    ensures stops { IfErr result (λ fault. StartsNot fault task.limits (option_map I.remaining prefixes)) }
+{
+    let job = Job::new(task.form, task.base, task.limits).unwrap();
+    match prefixes {
+        Some(source) => {
+            let bindings = load(alloc, task.limits, source)?;
+            Ok(job.with_bindings(bindings))
+        }
+        None => Ok(job),
+    }
+}
+
+fn load<I: Source + Drop>(alloc: Global, limits: Limits, source: I) -> Result<Bindings, LoadFault>
+    requires more { I.has_ended source ≡ false }
+    requires source { I.has_failed source ≡ false }
+    ensures loaded { IfOk result (λ b. (left : Reading) × Loads limits (I.remaining source) left b) }
+    ensures stops { IfErr result (λ fault. (left : Reading) × LoadStops fault limits (I.remaining source) left) }
+{
+    let mut source = source;
+    load_bindings(alloc, limits, &mut source)
+}
+
+/// The text and the status of a file of bindings that was not loaded.
+fn refuse_prefixes<E: Drain>(alloc: Global, fault: &LoadFault, err: &mut E) -> u8
+    requires { E.has_failed err.old ≡ false }
+    ensures status { result ≡ load_status fault.now }
+    ensures told { TellsLoad fault.now (E.contents err.old) (E.contents err.new) (E.has_failed err.new) }
+{
+    match fault {
+        LoadFault::Bad(fault) => {
+            if let Ok(line) = prefixes_line(alloc, fault.line) {
+                tell_bytes(line.as_slice(), err);
+            }
+            2
+        }
+        LoadFault::Read => {
+            tell("rdfconv: read failed\n", err);
+            3
+        }
+        LoadFault::Memory => tell_memory(err),
+    }
+}
+
+fn prefixes_line(alloc: Global, line: u64) -> Result<Vec<u8>, AllocError>
+    ensures { IfOk result (λ text. text.items ≡ prefixes_text line) }
+{
+    let mut text = Vec::from_slice(alloc, b"rdfconv: bad prefixes at line ")?;
+    text.extend_from_slice(Buffer::new().format(line).as_bytes())?;
+    text.extend_from_slice(b"\n")?;
+    Ok(text)
 }
 
 /// The text and the status of a file that did not open.

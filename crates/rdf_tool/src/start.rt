@@ -1,28 +1,23 @@
 // The whole program, over what it is started with.
 
-ghost use Rattle.std.specs.Prelude.{◌≡◌, false, IfErr, IfOk, List, map, string_bytes};
+ghost use Rattle.std.specs.Prelude.{◌≡◌, ◌⊎◌, false, IfErr, IfOk, IfSome, List, map, OnErr, option_map, Some, string_bytes};
+ghost use Rattle.clap.specs.Words.{Text};
 ghost use Rattle.rdf_iri.specs.Scope.{BaseFits};
-ghost use Rattle.rdf_stream.specs.Devices.{reading};
-ghost use Rattle.rdf_tool.specs.Programs.{IsGiven, IsNotGiven, ProgramEnds, TaskEnds};
+ghost use Rattle.rdf_tool.specs.Programs.{HasPrefixes, IsGiven, IsNotGiven, ProgramEnds, TaskEnds, file_of, prefixes_of};
+ghost use Rattle.rdf_tool.specs.Runs.{AreFresh};
 
 use crate::commands::{command_of, not_utf8};
 use crate::host::{Host, NoWords, NotOpen};
-use crate::runs::{refuse_file, refuse_words, run};
+use crate::runs::{Files, refuse_file, refuse_words, run};
 use crate::task::{Task, WordsFault};
 use rdf_stream::Drain;
 use std::alloc::{AllocError, Global};
 
 /// Does what the words ask for, and answers the status.
-pub fn start<H: Host, O: Drain, E: Drain>(
-    alloc: Global,
-    host: &mut H,
-    out: &mut O,
-    err: &mut E,
-) -> u8
+pub fn start<H: Host, O: Drain, E: Drain>(alloc: Global, host: &H, out: &mut O, err: &mut E) -> u8
     requires out { O.has_failed out.old ≡ false }
     requires err { E.has_failed err.old ≡ false }
-    ensures { ProgramEnds (H.has_words host.old) (H.has_bad_word host.old) (H.has_document host.old) (H.is_shut host.old) result
-        (reading H.remaining H.has_ended H.has_failed host.new)
+    ensures { ProgramEnds (H.has_words host.now) (H.has_bad_word host.now) (H.has_document host.now) (H.is_shut host.now) result
         (O.contents out.old) (record { contents = O.contents out.new; has_failed = O.has_failed out.new; is_flushed = O.is_flushed out.new })
         (E.contents err.old) (record { contents = E.contents err.new; has_failed = E.has_failed err.new; is_flushed = E.is_flushed err.new }) }
 {
@@ -56,20 +51,42 @@ fn texts_of(alloc: Global, words: &[String]) -> Result<Vec<&str>, AllocError>
 fn run_task<H: Host, O: Drain, E: Drain>(
     alloc: Global,
     task: Task,
-    host: &mut H,
+    host: &H,
     out: &mut O,
     err: &mut E,
 ) -> u8
     requires base { BaseFits task.base task.limits }
     requires out { O.has_failed out.old ≡ false }
     requires err { E.has_failed err.old ≡ false }
-    ensures { TaskEnds (H.has_document host.old) (H.is_shut host.old) task result
-        (reading H.remaining H.has_ended H.has_failed host.new)
+    ensures { TaskEnds (H.has_document host.now) (H.is_shut host.now) task result
         (O.contents out.old) (record { contents = O.contents out.new; has_failed = O.has_failed out.new; is_flushed = O.is_flushed out.new })
         (E.contents err.old) (record { contents = E.contents err.new; has_failed = E.has_failed err.new; is_flushed = E.is_flushed err.new }) }
 {
-    match host.open(task.file.as_deref()) {
-        Ok(()) => run(alloc, task, host, out, err),
+    match open_files(host, &task) {
+        Ok(files) => run(alloc, task, files, out, err),
         Err(NotOpen) => refuse_file(err),
+    }
+}
+
+// Opens the files of a task, that of the bindings first.
+fn open_files<H: Host>(host: &H, task: &Task) -> Result<Files<H::Input>, NotOpen>
+    ensures prefixes { IfOk result (λ files. HasPrefixes (H.has_document host.now) (prefixes_of task.now) (option_map H.Input.remaining files.prefixes)) }
+    ensures document { IfOk result (λ files. H.has_document host.now (file_of task.now) (H.Input.remaining files.document)) }
+    ensures fresh { IfOk result (AreFresh H.Input.has_ended H.Input.has_failed) }
+    ensures shut { OnErr result ((path : Text) × ((prefixes_of task.now ≡ Some path) ⊎ (file_of task.now ≡ Some path)) × H.is_shut host.now path) }
+{
+    let prefixes = open_prefixes(host, task)?;
+    let document = host.open(task.file.as_deref())?;
+    Ok(Files { prefixes, document })
+}
+
+fn open_prefixes<H: Host>(host: &H, task: &Task) -> Result<Option<H::Input>, NotOpen>
+    ensures opened { IfOk result (λ prefixes. HasPrefixes (H.has_document host.now) (prefixes_of task.now) (option_map H.Input.remaining prefixes)) }
+    ensures fresh { IfOk result (λ prefixes. IfSome prefixes (λ s. (H.Input.has_ended s ≡ false) × (H.Input.has_failed s ≡ false))) }
+    ensures shut { OnErr result ((path : Text) × (prefixes_of task.now ≡ Some path) × H.is_shut host.now path) }
+{
+    match task.prefixes.as_deref() {
+        Some(path) => Ok(Some(host.open(Some(path))?)),
+        None => Ok(None),
     }
 }

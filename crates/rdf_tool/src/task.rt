@@ -32,6 +32,8 @@ pub struct Task {
     pub base: Option<Iri>,
     /// How large the parts of the document may be.
     pub limits: Limits,
+    /// The file of the prefixes that are bound before the document, or None where none are.
+    pub prefixes: Option<String>,
     /// The file that is read, or None for standard input.
     pub file: Option<String>,
 }

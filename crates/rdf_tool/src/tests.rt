@@ -1,13 +1,14 @@
 // Runs over memory, and words.
 
 ghost use Rattle.rdf_iri.specs.Scope.{BaseFits};
+ghost use Rattle.rdf_tool.specs.Runs.{AreFresh};
 
 mod hosts;
 mod texts;
 
 use crate::commands::command_of;
-use crate::host::{Host, NoWords, NotOpen, Process};
-use crate::runs::{refuse_words, run};
+use crate::host::{Host, NoWords, Process};
+use crate::runs::{Files, refuse_words, run};
 use crate::start::start;
 use crate::task::{Action, Task};
 use hosts::InMemory;
@@ -15,7 +16,7 @@ use rdf_stream::{Form, In, Limits, Out, Source};
 use std::alloc::Global;
 use std::process::Abort;
 use std::test::Fail;
-use texts::{COMMAND_HELP, COMMANDS, HELP, NOT_UTF8, USAGE};
+use texts::{COMMAND_NOTES, COMMANDS, HELP, NOT_UTF8, USAGE};
 
 fn task(action: Action, form: Form, limits: Limits) -> Task
     ensures { BaseFits result.base result.limits }
@@ -25,7 +26,17 @@ fn task(action: Action, form: Form, limits: Limits) -> Task
         form,
         base: None,
         limits,
+        prefixes: None,
         file: None,
+    }
+}
+
+fn files(text: &str) -> Files<In<&[u8]>>
+    ensures { AreFresh (λ s. s.has_ended) (λ s. s.has_failed) result }
+{
+    Files {
+        prefixes: None,
+        document: In::new(text.as_bytes()),
     }
 }
 
@@ -102,11 +113,10 @@ fn a_run_writes_the_lines_or_tells_why_not(rt: HostRuntime) {
         let task = task(action, form, Limits::default());
         let mut written = Vec::new(rt.alloc());
         let mut told = Vec::new(rt.alloc());
-        let mut source = In::new(text.as_bytes());
         let mut out = Out::new(&mut written);
         let mut err = Out::new(&mut told);
         assert_eq!(rt;
-            run(rt.alloc(), task, &mut source, &mut out, &mut err),
+            run(rt.alloc(), task, files(text), &mut out, &mut err),
             status,
             "{text}"
         );
@@ -128,13 +138,10 @@ fn a_run_keeps_to_the_limits_of_its_task(rt: HostRuntime) {
         let limits = Limits::new(token, 0, 0, iri).expect(&rt, "limits");
         let task = task(Action::Convert, Form::NTriples, limits);
         let mut told = Vec::new(rt.alloc());
-        let mut source = In::new(b"<a:> <b:> <c:> .".as_slice());
         let mut out = Out::new(Vec::new(rt.alloc()));
         let mut err = Out::new(&mut told);
-        assert_eq!(rt;
-            run(rt.alloc(), task, &mut source, &mut out, &mut err),
-            status
-        );
+        let files = files("<a:> <b:> <c:> .");
+        assert_eq!(rt; run(rt.alloc(), task, files, &mut out, &mut err), status);
         drop(err);
         assert_eq!(rt; told.as_slice(), message.as_bytes());
     }
@@ -152,6 +159,7 @@ fn words_give_a_task_with_defaults(rt: HostRuntime) {
                 Limits::new(16777216, 1024, 65536, 1048576)
             );
             assert!(rt; task.base.is_none());
+            assert!(rt; task.prefixes.is_none());
             assert!(rt; task.file.is_none());
         }
         Err(_) => assert!(rt; false, "no task"),
@@ -174,6 +182,8 @@ fn words_give_each_field_of_a_task(rt: HostRuntime) {
         "data.nt",
         "--bindings",
         "2",
+        "--prefixes",
+        "ex.txt",
     ];
     match command_of(rt.alloc(), &words) {
         Ok(task) => {
@@ -183,6 +193,7 @@ fn words_give_each_field_of_a_task(rt: HostRuntime) {
                 Some(base) => assert_eq!(rt; base.as_str(), "http://a/b/c"),
                 None => assert!(rt; false, "no base"),
             }
+            assert_eq!(rt; task.prefixes.as_deref(), Some("ex.txt"));
             match &task.file {
                 Some(file) => assert_eq!(rt; file.as_str(), "data.nt"),
                 None => assert!(rt; false, "no file"),
@@ -246,8 +257,8 @@ fn help_is_written_to_the_output(rt: HostRuntime) -> Result<(), Fail> {
     for words in rows {
         is_refused(&rt, rt.alloc(), words, 0, HELP, "")?;
     }
-    for (name, first) in COMMANDS {
-        let text = format!(in rt.alloc(); "{first}{COMMAND_HELP}")?;
+    for (name, first, options) in COMMANDS {
+        let text = format!(in rt.alloc(); "{first}{options}{COMMAND_NOTES}")?;
         let rows: [&[&str]; 3] = [
             &["rdfconv", name, "--help"],
             &["rdfconv", name, "-h"],
@@ -308,7 +319,7 @@ fn a_long_command_line_is_taken(rt: HostRuntime) -> Result<(), Fail> {
 
 #[test]
 fn the_program_does_what_its_words_say(rt: HostRuntime) {
-    let rows: [(Result<&[&str], NoWords>, u8, &str, &str); 8] = [
+    let rows: [(Result<&[&str], NoWords>, u8, &str, &str); 14] = [
         (
             Ok(&["rdfconv", "convert", "--format", "nt", "data.nt"]),
             0,
@@ -334,22 +345,62 @@ fn the_program_does_what_its_words_say(rt: HostRuntime) {
             "",
             "rdfconv: cannot open file\n",
         ),
+        (
+            Ok(&["rdfconv", "convert", "--prefixes", "ex.txt", "data.ttl"]),
+            0,
+            "<http://e/s> <http://e/p> <http://e/o> .\n",
+            "",
+        ),
+        (
+            Ok(&["rdfconv", "check", "--prefixes=data.nt", "data.ttl"]),
+            2,
+            "",
+            "rdfconv: bad prefixes at line 1\n",
+        ),
+        (
+            Ok(&["rdfconv", "convert", "--format=nt", "--prefixes=bad.txt"]),
+            2,
+            "",
+            "rdfconv: bad prefixes at line 2\n",
+        ),
+        (
+            Ok(&["rdfconv", "convert", "--format=nt", "--prefixes=ex.txt"]),
+            0,
+            "<a:> <b:> _:input .\n",
+            "",
+        ),
+        (
+            Ok(&["rdfconv", "check", "--prefixes=no.txt"]),
+            3,
+            "",
+            "rdfconv: cannot open file\n",
+        ),
+        (
+            Ok(&["rdfconv", "check", "--prefixes=bad.txt", "no.nt"]),
+            3,
+            "",
+            "rdfconv: cannot open file\n",
+        ),
         (Ok(&["rdfconv", "--help"]), 0, HELP, ""),
         (Err(NoWords::NotUtf8), 2, "", NOT_UTF8),
         (Err(NoWords::Memory), 4, "", "rdfconv: out of memory\n"),
     ];
     for (words, status, text, message) in rows {
-        let mut host = InMemory {
+        let host = InMemory {
             words,
             input: "<a:> <b:> _:input .",
-            file: ("data.nt", "<a:> <b:> \"file\" ."),
-            source: In::new(b"".as_slice()),
+            files: &[
+                ("data.nt", "<a:> <b:> \"file\" ."),
+                ("data.ttl", "ex:s ex:p ex:o ."),
+                ("ex.txt", "ex: http://e/\n"),
+                ("bad.txt", "ex: http://e/\nex: e\n"),
+            ],
         };
         let mut written = Vec::new(rt.alloc());
         let mut told = Vec::new(rt.alloc());
         let mut out = Out::new(&mut written);
         let mut err = Out::new(&mut told);
-        assert_eq!(rt; start(rt.alloc(), &mut host, &mut out, &mut err), status);
+        assert_eq!(rt; start(rt.alloc(), &host, &mut out, &mut err), status);
         drop(out);
         drop(err);
         assert_eq!(rt; str::from_utf8(written.as_slice()), Ok(text));
@@ -360,7 +411,7 @@ fn the_program_does_what_its_words_say(rt: HostRuntime) {
 /// The system's file of the words of a process has a zero byte after each, and may have a loader's words first.
 #[test]
 fn the_process_has_all_its_words(rt: HostRuntime) -> Result<(), Fail> {
-    let mut process = Process::new(&rt);
+    let process = Process::new(&rt);
     let mut expected = String::new(rt.alloc());
     for word in process
         .words(rt.alloc())
@@ -369,10 +420,12 @@ fn the_process_has_all_its_words(rt: HostRuntime) -> Result<(), Fail> {
         expected.push_str(word.as_str())?;
         expected.push('\0')?;
     }
-    assert_eq!(&rt; process.open(Some("no such file")), Err(NotOpen));
-    assert_eq!(&rt; process.open(Some("/proc/self/cmdline")), Ok(()));
+    assert!(&rt; process.open(Some("no such file")).is_err());
+    let mut source = process
+        .open(Some("/proc/self/cmdline"))
+        .map_err(|_| Fail::new("no file"))?;
     let mut buf = [0u8; 4096];
-    let count = process.fill(&mut buf).map_err(|_| Fail::new("no bytes"))?;
+    let count = source.fill(&mut buf).map_err(|_| Fail::new("no bytes"))?;
     let words = buf.get(..count).ok_or("no words")?;
     assert!(&rt; !expected.is_empty() && words.ends_with(expected.as_bytes()));
     Ok(())

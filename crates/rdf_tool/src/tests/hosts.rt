@@ -3,39 +3,20 @@
 ghost use Rattle.std.specs.Prelude.{⊤};
 
 use crate::host::{Host, NoWords, NotOpen};
-use rdf_stream::{Failed, In, Source};
+use rdf_stream::In;
 use std::alloc::Global;
 
-/// Words, or why there are none, standard input, and one file with its name.
+/// Words, or why there are none, standard input, and files with their names.
 #[derive(Drop)]
 pub(crate) struct InMemory<'a> {
     pub(crate) words: Result<&'a [&'a str], NoWords>,
     pub(crate) input: &'a str,
-    pub(crate) file: (&'a str, &'a str),
-    pub(crate) source: In<&'a [u8]>,
-}
-
-impl<'a> Source for InMemory<'a> {
-    ghost remaining = { λ h. h.source.remaining };
-
-    ghost has_ended = { λ h. h.source.has_ended };
-
-    ghost has_failed = { λ h. h.source.has_failed };
-
-    fn fill(&mut self, buf: &mut [u8]) -> Result<usize, Failed> {
-        self.source.fill(buf)
-    }
-
-    fn ended(&self) -> bool {
-        self.source.ended()
-    }
-
-    fn failed(&self) -> bool {
-        self.source.failed()
-    }
+    pub(crate) files: &'a [(&'a str, &'a str)],
 }
 
 impl<'a> Host for InMemory<'a> {
+    type Input = In<&'a [u8]>;
+
     ghost has_words = { λ _ _. ⊤ };
 
     ghost has_bad_word = { λ _. ⊤ };
@@ -54,13 +35,15 @@ impl<'a> Host for InMemory<'a> {
         Ok(words)
     }
 
-    fn open(&mut self, file: Option<&str>) -> Result<(), NotOpen> {
-        let text = match file {
-            None => self.input,
-            Some(path) if path == self.file.0 => self.file.1,
-            Some(_) => return Err(NotOpen),
+    fn open(&self, file: Option<&str>) -> Result<In<&'a [u8]>, NotOpen> {
+        let Some(path) = file else {
+            return Ok(In::new(self.input.as_bytes()));
         };
-        self.source = In::new(text.as_bytes());
-        Ok(())
+        for (name, text) in self.files {
+            if *name == path {
+                return Ok(In::new(text.as_bytes()));
+            }
+        }
+        Err(NotOpen)
     }
 }

@@ -24,34 +24,56 @@ Options of a command, which reads FILE or standard input:
   --depth N        brackets and parentheses open at one time, 0 to 1048576 [default: 1024]
   --bindings N     prefixes bound at one time, 0 to 16777216 [default: 65536]
   --iri N          bytes of one IRI, 1 to 268435456 [default: 1048576]
+  --prefixes FILE2 (check, convert) prefixes that are bound before the document: a line for
+                   each, as `ex: http://example.org/`; line formats have none
 Past one of the limits N a document is refused.
 
 Exit status:
   0  accepted, or help was asked for
   1  refused, with `rdfconv: REASON at byte N, line M` on standard error
-  2  the words are no command, or the base is no IRI or too long
-  3  the file does not open, or a read or write failed
+  2  the words are no command, the base is no IRI or too long, or a line of FILE2 is refused,
+     with `rdfconv: bad prefixes at line N`
+  3  a file does not open, or a read or write failed
   4  out of memory
 ";
 
-/// The subcommands, and the first lines of their help.
-pub(crate) const COMMANDS: [(&str, &str); 3] = [
+/// The subcommands, and their help up to what ends it.
+pub(crate) const COMMANDS: [(&str, &str, &str); 3] = [
     (
         "check",
         "Read a document to its end, and count its quads and bytes\n\nUsage: rdfconv check [OPTIONS] [FILE]\n",
+        PREFIXED_HELP,
     ),
     (
         "show",
         "Write a line for each token: its offset, its characters and its kind\n\nUsage: rdfconv show [OPTIONS] [FILE]\n",
+        SHOW_HELP,
     ),
     (
         "convert",
         "Write the quads of a document as lines of N-Quads\n\nUsage: rdfconv convert [OPTIONS] [FILE]\n",
+        PREFIXED_HELP,
     ),
 ];
 
-/// What follows these lines in the help of each subcommand.
-pub(crate) const COMMAND_HELP: &str = "
+/// What follows these lines in the help of `check` and `convert`.
+pub(crate) const PREFIXED_HELP: &str = "
+Arguments:
+  [FILE]  Document to read, in place of standard input
+
+Options:
+      --format <FORMAT>   Format of the document: nt N-Triples, nq N-Quads, ttl Turtle, trig TriG [default: trig] [possible values: nt, nq, ttl, trig]
+      --base <IRI>        Absolute IRI that relative references start from, at most --iri bytes; line formats have none
+      --token <N>         Characters of one token, 1 to 268435456 [default: 16777216]
+      --depth <N>         Brackets and parentheses open at one time, 0 to 1048576 [default: 1024]
+      --bindings <N>      Prefixes bound at one time, 0 to 16777216 [default: 65536]
+      --iri <N>           Bytes of one IRI, 1 to 268435456 [default: 1048576]
+      --prefixes <FILE2>  File of prefixes bound before the document, a line each: `ex: http://example.org/`
+  -h, --help              Print help
+";
+
+/// What follows these lines in the help of `show`.
+pub(crate) const SHOW_HELP: &str = "
 Arguments:
   [FILE]  Document to read, in place of standard input
 
@@ -63,14 +85,18 @@ Options:
       --bindings <N>     Prefixes bound at one time, 0 to 16777216 [default: 65536]
       --iri <N>          Bytes of one IRI, 1 to 268435456 [default: 1048576]
   -h, --help             Print help
+";
 
+/// What ends the help of each subcommand.
+pub(crate) const COMMAND_NOTES: &str = "
 The format is not guessed from the file's name. Past one of the limits N a document is refused.
 
 Exit status:
   0  accepted, or help was asked for
   1  refused, with `rdfconv: REASON at byte N, line M` on standard error
-  2  the words are no command, or the base is no IRI or too long
-  3  the file does not open, or a read or write failed
+  2  the words are no command, the base is no IRI or too long, or a line of FILE2 is refused,
+     with `rdfconv: bad prefixes at line N`
+  3  a file does not open, or a read or write failed
   4  out of memory
 ";
 
@@ -93,7 +119,7 @@ For more information, try '--help'.
 ";
 
 /// Words that are no command, and all that is reported of them.
-pub(crate) const USAGE: [(&[&str], &str); 14] = [
+pub(crate) const USAGE: [(&[&str], &str); 15] = [
     (&[], NO_COMMAND),
     (&["rdfconv"], NO_COMMAND),
     (
@@ -119,6 +145,10 @@ pub(crate) const USAGE: [(&[&str], &str); 14] = [
     (
         &["rdfconv", "check", "--colour", "x"],
         "error: unexpected argument '--colour' found\n\n  tip: to pass '--colour' as a value, use '-- --colour'\n\nUsage: rdfconv check [OPTIONS] [FILE]\n\nFor more information, try '--help'.\n",
+    ),
+    (
+        &["rdfconv", "show", "--prefixes", "ex.txt"],
+        "error: unexpected argument '--prefixes' found\n\n  tip: to pass '--prefixes' as a value, use '-- --prefixes'\n\nUsage: rdfconv show [OPTIONS] [FILE]\n\nFor more information, try '--help'.\n",
     ),
     (
         &["rdfconv", "convert", "--token=0"],

@@ -25,7 +25,8 @@ pub returns-clause-task : goal.returns-clause-task
 returns-clause-task c =
     let found = found_of c.args.found.now in
     let base = c.get_str-2.ensures ∙ first_value-rows found (codes "base") in
-    let file = c.get_str-3.ensures ∙ first_value-rows found (codes "file") in
+    let prefixes = c.get_str-3.ensures ∙ first_value-rows found (codes "prefixes") in
+    let file = c.get_str-4.ensures ∙ first_value-rows found (codes "file") in
     let form = text_is found (codes "format") _ c.get_str.result c.get_str.ensures c.requires.form.1 c.unwrap.result c.unwrap.ensures in
     record {
       action = c.action_of-action.ensures;
@@ -33,5 +34,6 @@ returns-clause-task c =
       base = c.in_ok-base.ensures.base ∙ ap (option_map chars) base;
       good_base = subst (λ text. IfSome text (IsBase c.limits_of-limits.result.iri)) base (rw c.iri.ensures at c.in_ok-base.ensures.good);
       limits = c.limits_of-limits.ensures;
+      prefixes = c.in_ok-prefixes.ensures ∙ prefixes;
       file = c.in_ok-file.ensures ∙ file;
     }
