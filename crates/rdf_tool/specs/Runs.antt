@@ -1,9 +1,5 @@
 -- What a run of the program does.
-<<<<<<< HEAD
-use Rattle.std.specs.Prelude.{◌≡◌, ◌≢◌, ◌⊎◌, ℕ, Bool, true, List, [], ◌++◌, codes, decimal, Option, IfSome}
-=======
 use Rattle.std.specs.Prelude.{◌≡◌, ◌≢◌, ◌⊎◌, ℕ, Bool, true, false, List, [], ◌++◌, codes, decimal, Option, Some, None, IfSome}
->>>>>>> bindings/main
 use Rattle.std.specs.Io.KnownBytes.{Appends}
 use Rattle.rdf_driver.specs.declared.summary.Summary.{Summary}
 use Rattle.rdf_stream.specs.Checks.{CheckStops, IsAccepted}
@@ -24,11 +20,6 @@ use Rattle.rdf_tool.specs.declared.task.Task.{Task}
 use Rattle.rdf_tool.specs.declared.runs.Files.{Files}
 use Rattle.rdf_tool.specs.Statuses.{TellsLoad, TellsOf, load_status, status_of}
 
-<<<<<<< HEAD
--- the job that a task asks for
-abbrev pub job_of : Task → JobRead
-job_of t = record { form = t.form; base = t.base; bindings = []; limits = t.limits }
-=======
 -- the job that a task asks for, with these bindings
 abbrev pub job_of : Task → List (List ℕ × List ℕ) → JobRead
 job_of t bindings = record { form = t.form; base = t.base; bindings = bindings; limits = t.limits }
@@ -38,7 +29,6 @@ pub record AreFresh {I : Type 0} (has_ended has_failed : I → Bool) (files : Fi
   pub prefixes : IfSome files.prefixes (λ s. (has_ended s ≡ false) × (has_failed s ≡ false))
   pub more : has_ended files.document ≡ false
   pub live : has_failed files.document ≡ false
->>>>>>> bindings/main
 
 -- the line that tells what is in an accepted document
 abbrev pub accepted_text : Summary → List ℕ
