@@ -5,7 +5,8 @@
     docs/check.py REFUSALS    the lines of this page alone
 
 The options' ranges and defaults, the formats and the reasons are read from the sources and compared with what help (where
-the program is built), docs/rdfconv.1, README.md and docs/REFUSALS.md say. Each indented line of a page that begins with `$` is
+the program is built), docs/rdfconv.1, README.md and docs/REFUSALS.md say. The counts of docs/DEFINITIONS.md
+are compared with the files. Each indented line of a page that begins with `$` is
 run in a scratch folder with a copy of examples/, and what comes is compared with the lines below it; lines whose programs are
 not installed are counted. Ends in one line of counts, with status 1 where something differs.
 """
@@ -63,6 +64,29 @@ def plain(manual):
     return re.sub(r'\s+', ' ', re.sub(r'^\.\w+ ?|^\.\\".*$', '', text, flags=re.M).replace('"', ''))
 
 
+def believed(crate):
+    """How many lines of code each file has that has to be believed: those of the first group of the crate's specs/Lib.antt."""
+    found, groups = {}, 0
+    for line in read('crates/%s/specs/Lib.antt' % crate).split('\n'):
+        groups += line.startswith('--')
+        name = re.match(r'pub mod (\w+)', line)
+        if name and groups < 2:
+            code = read('crates/%s/specs/%s.antt' % (crate, name[1])).split('\n')
+            found[name[1]] = sum(1 for it in code if it.strip() and not it.strip().startswith(('--', 'use ')))
+    return found
+
+
+def compare_counts(counts):
+    """The table of what has to be believed."""
+    page, total = read('docs/DEFINITIONS.md'), 0
+    for crate, lines, files in re.findall(r'^\| (rdf_\w+) \| (\d+) \| ([^|]*) \|$', page, re.M):
+        found = believed(crate)
+        total += sum(found.values())
+        counts.expect('docs/DEFINITIONS.md counts the lines of ' + crate, int(lines) == sum(found.values()))
+        counts.expect('docs/DEFINITIONS.md lists the files of ' + crate, files == ', '.join('%s %d' % it for it in found.items()))
+    counts.expect('docs/DEFINITIONS.md adds them up', 'That is {:,} lines in all.'.format(total) in page)
+
+
 def compare(counts):
     manual, readme, refusals = plain(read('docs/rdfconv.1')), read('README.md'), read('docs/REFUSALS.md')
     source = read('crates/rdf_tool/src/options.rt')
@@ -82,6 +106,7 @@ def compare(counts):
         counts.expect('README has the reason ' + reason, '`%s`' % reason in readme)
         counts.expect('manual has the reason ' + reason, reason in manual)
         counts.expect('docs/REFUSALS.md has a section on ' + reason, '\n### %s\n' % reason in refusals)
+    compare_counts(counts)
     compare_help(counts, manual)
 
 
