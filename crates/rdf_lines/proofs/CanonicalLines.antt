@@ -162,10 +162,10 @@ lines_read r bytes qs begin e h =
       reached = λ x us given a. (
         a.0,
         subst (λ y. run (is_taken y.iri) y.form Begin (us ++ ts) ≡ ran r.grammar.mode (given ++ qs)) a.0
-        (run_append (is_taken rules.iri) rules.form us ts Begin
-        ∙ (ap (λ z. then z (λ m. run (is_taken rules.iri) rules.form m ts)) (subst (λ (y : Rules). run (is_taken y.iri) y.form Begin us ≡ ran r.grammar.mode given) (sym a.0) a.1)
-        ∙ (ap (λ m. with_quads given (run (is_taken rules.iri) rules.form m ts)) begin
-        ∙ (ap (with_quads given) (lines_ran rules.form limit rules.iri qs p h.each)
-        ∙ ap (λ m. ran m (given ++ qs)) (sym begin))))),
+            (run_append (is_taken rules.iri) rules.form us ts Begin
+            ∙ (ap (λ z. then z (λ m. run (is_taken rules.iri) rules.form m ts)) (subst (λ (y : Rules). run (is_taken y.iri) y.form Begin us ≡ ran r.grammar.mode given) (sym a.0) a.1)
+            ∙ (ap (λ m. with_quads given (run (is_taken rules.iri) rules.form m ts)) begin
+            ∙ (ap (with_quads given) (lines_ran rules.form limit rules.iri qs p h.each)
+            ∙ ap (λ m. ran m (given ++ qs)) (sym begin))))),
       );
     }

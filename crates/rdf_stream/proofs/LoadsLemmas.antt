@@ -49,7 +49,7 @@ refused f sizes known left bytes h r = by f.reason refl r
 module _ (known : Option (List ℕ)) (left left' : Reading) (bytes : List ℕ) (room : ℕ) (i : IsGiving known left bytes room) where
   -- the source failed
   pub source_failed : Keeps left.remaining left'.remaining → left'.has_failed ≡ true → left'.has_ended ≡ false → ReadsNot Read known left'
-  source_failed k e o = ((e, o), bytes,  Consumes-kept known left.remaining left'.remaining bytes i.consumed k)
+  source_failed k e o = ((e, o), bytes, Consumes-kept known left.remaining left'.remaining bytes i.consumed k)
 
   -- a piece more
   pub gives_more : (piece : List ℕ) → Consumes left.remaining left'.remaining piece → left'.has_ended ≡ false → left'.has_failed ≡ false → (room' : ℕ) → 0 < room'

@@ -60,7 +60,10 @@ impl<A: Allocator> Job<A> {
         ensures { result ≡ record self { bindings = bindings.bindings } }
     {
         let Job {
-            form, base, limits, ..
+            form,
+            base,
+            limits,
+            ..
         } = self;
         Job {
             form,
