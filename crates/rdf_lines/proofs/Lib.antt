@@ -1,4 +1,6 @@
 pub mod NextToken
+pub mod UcharLemmas
+pub mod AsciiLemmas
 pub mod WritingLemmas
 pub mod SpelledLine
 pub mod Renamed
@@ -14,7 +16,7 @@ mod Refusals
 mod Lag
 mod Due
 pub mod EncodedLine
-pub mod PlainRuns
+pub mod EscapedRuns
 pub mod WrittenBytesLemmas
 pub mod LawExamples
 mod SpelledLemmas

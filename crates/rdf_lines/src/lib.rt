@@ -11,7 +11,7 @@ mod spelled;
 mod state;
 mod writer;
 
-pub use form::{LineForm, Style};
+pub use form::{Escapes, LineForm, Style};
 pub use grammar::LineGrammar;
 pub use rdf_driver::{Fault, Summary};
 pub use reader::{LineReader, line_reader};

@@ -1,10 +1,11 @@
 -- A piece more, the end, or an error within one: what the drain has then.
-use Rattle.std.proofs.Common.{◌≡◌, ◌≤◌, ◌+◌, ℕ, Bool, true, false, List, [], ◌∷◌, ◌++◌, ◌⊎◌, length, Option, refl, sym, ap, subst, ◌∙◌, append_assoc, ⊎_elim, length-append, arith}
+use Rattle.std.proofs.Common.{◌≡◌, ◌≤◌, ◌+◌, ◌<◌, ℕ, Bool, true, false, List, [], ◌∷◌, ◌++◌, ◌⊎◌, length, Option, refl, sym, ap, subst, ◌∙◌, append_assoc, ⊎_elim, length-append, arith}
 use Rattle.std.proofs.lemmas.List.{append-nil}
 use Rattle.std.proofs.lemmas.Bool.{false≢true}
 use Rattle.std.proofs.KnownBytes.{Appends-nil}
 use Rattle.std.specs.Io.KnownBytes.{Appends}
 use Rattle.std.specs.List.{AllByRecursion}
+use Rattle.std.specs.Prelude.{encode_utf8_all}
 use Rattle.rdf_terms.specs.declared.reason.Reason.{Reason}
 use Rattle.rdf_terms.specs.declared.reason.Reason.TheVariants as reason
 use Rattle.rdf_terms.specs.Terms.{Quad}
@@ -15,8 +16,10 @@ use Rattle.rdf_driver.specs.declared.summary.Summary.{Summary}
 use Rattle.rdf_driver.specs.Readers as R
 use Rattle.rdf_driver.specs.Readers.{Driven, FeedFails, Feeds, FinishFails, Finishes, HasRead, LeavesOff, piece_reading}
 use Rattle.rdf_driver.specs.Words.{Words, in_words}
-use Rattle.rdf_lines.specs.declared.form.Style.{Style}
-use Rattle.rdf_lines.specs.Writing.{CanWrite, Writable}
+use Rattle.rdf_stream.specs.declared.form.LineStyle.{LineStyle}
+use Rattle.rdf_lines.specs.Writing as writing
+use Rattle.rdf_stream.specs.LineStyles.{CanWrite, Writable}
+use Rattle.rdf_lines.proofs.AsciiLemmas.{ascii_written}
 use Rattle.rdf_lines.proofs.ReadBack.{bytes_read_back}
 use Rattle.rdf_stream.specs.Languages.{Conversion, conversion}
 use Rattle.rdf_stream.specs.declared.fault.StreamFault.{StreamFault}
@@ -29,7 +32,7 @@ use Rattle.rdf_stream.specs.Faults.{fault_by}
 use Rattle.rdf_stream.specs.LineOut.{Leaves, Moves, SameOut, Takes, Writes}
 use Rattle.rdf_stream.proofs.LineOutLemmas.{Taken, Tried, bytes_of, bytes_of-append, front_moves, moves_all, moves_front, moves_more, moves_on, puts_live, puts_tries, same_out, taken, tried}
 
-both_writable : (s : Style) (qs rs : List Quad) → Writable s qs → Writable s rs → Writable s (qs ++ rs)
+both_writable : (s : LineStyle) (qs rs : List Quad) → Writable s qs → Writable s rs → Writable s (qs ++ rs)
 both_writable s [] rs p q = q
 both_writable s (x ∷ qs) rs p q = (p.0, both_writable s qs rs p.1 q)
 
@@ -334,6 +337,9 @@ module _ {G X D A : Type 0} (contents : D → Option (List ℕ)) (failed : D →
     all_put : Taken contents failed lines f.more mid
     all_put = taken contents failed f.more lines mid f.puts (styled_all (reading_of l bytes true).tokens f.more sums.due)
 
+    all_writable : Writable first.style (o.quads ++ f.more)
+    all_writable = both_writable first.style o.quads f.more o.writable (subst (λ y. Writable y f.more) o.same.style all_put.writable)
+
     -- the document was read and written
     pub end_read : (after : LineOut D A) → SameOut mid after → Appends (contents mid.drain.now) (contents after.drain.now) mid.buffer.now.items →
         SameOut first after × Accepts job bytes (contents first.drain.now) (contents after.drain.now) summary
@@ -344,8 +350,10 @@ module _ {G X D A : Type 0} (contents : D → Option (List ℕ)) (failed : D →
         document = sums.document;
         within = sums.whole;
         written = written_all mid after f.more all_put.writes t;
-        reads_back = λ limit h.
-            bytes_read_back first.style (o.quads ++ f.more) limit (both_writable first.style o.quads f.more o.writable (subst (λ y. Writable y f.more) o.same.style all_put.writable)) h;
+        reads_back = λ limit h. bytes_read_back first.style.names first.style.escapes (o.quads ++ f.more) limit all_writable h;
+        ascii = λ e l.
+            subst (λ x. AllByRecursion (λ b. b < 128) (encode_utf8_all (writing.text first.style.names x (o.quads ++ f.more)))) (sym e)
+            (ascii_written first.style.names (o.quads ++ f.more) all_writable l);
         counts = record { quads = sums.given; tokens = sums.accepted; bytes = sums.taken };
       },
     )
@@ -430,6 +438,9 @@ module _ {G X D A : Type 0} (contents : D → Option (List ℕ)) (failed : D →
         halted told (bytes ++ piece) false after (λ x y o. piece_halts contents failed w x old bytes first lines y o piece n k new mid why after told h s t)
 
   module _ (summary : Summary) (mid : LineOut D A) (f : Finishes w (Takes contents failed) old lines summary mid) where
+    all_writable : Writable first.style (o.quads ++ f.more)
+    all_writable = both_writable first.style o.quads f.more o.writable (subst (λ y. Writable y f.more) o.same.style all_put.writable)
+
     -- the document was read and written
     pub run_ends : (flushed : D → Bool) (after : LineOut D A) → SameOut mid after → Appends (contents mid.drain.now) (contents after.drain.now) mid.buffer.now.items → flushed after.drain.now ≡ true →
         RunEnds contents failed flushed w summary reader first bytes after

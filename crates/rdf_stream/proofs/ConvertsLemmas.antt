@@ -13,7 +13,7 @@ use Rattle.rdf_driver.specs.declared.summary.Summary.{Summary}
 use Rattle.rdf_driver.specs.Readers.{Driven}
 use Rattle.rdf_driver.specs.Words.{Words, in_words}
 use Rattle.rdf_driver.proofs.PromiseLemmas.{read_goes_on}
-use Rattle.rdf_lines.specs.declared.form.Style.{Style}
+use Rattle.rdf_stream.specs.declared.form.LineStyle.{LineStyle}
 use Rattle.rdf_stream.specs.declared.fault.StreamFault.{StreamFault}
 use Rattle.rdf_stream.specs.declared.fault.StreamFault.TheVariants as stream
 use Rattle.rdf_stream.specs.declared.line_out.LineOut.{LineOut}
@@ -97,7 +97,7 @@ module _ {G X D : Type 0} (A : Type 0) (contents : D → Option (List ℕ)) (fai
     };
   }
 
-  module _ (x : X) (limit : ℕ) (style : Style) (first now : R) (same_limit : first.0.scanner.limit ≡ limit) (same_style : first.1.style ≡ style) (b : Begins failed w x first.0 first.1)
+  module _ (x : X) (limit : ℕ) (style : LineStyle) (first now : R) (same_limit : first.0.scanner.limit ≡ limit) (same_style : first.1.style ≡ style) (b : Begins failed w x first.0 first.1)
       (known : Option (List ℕ)) (left : Reading) where
     abbrev job : Conversion
     job = conversion w x limit style
@@ -109,7 +109,7 @@ module _ {G X D : Type 0} (A : Type 0) (contents : D → Option (List ℕ)) (fai
     new = contents now.1.drain.now
 
     -- by the limit and the style that were asked for
-    asked : (P : ℕ → Style → Type 0) → P first.0.scanner.limit first.1.style → P limit style
+    asked : (P : ℕ → LineStyle → Type 0) → P first.0.scanner.limit first.1.style → P limit style
     asked P h = subst (λ s. P limit s) same_style (subst (λ n. P n first.1.style) same_limit h)
 
     pub converted : (s : Summary) → ReadsAll Ended known left s first now → IfSome known (λ bytes. Accepts job bytes old new s)
@@ -151,7 +151,7 @@ module _ {G X D : Type 0} (A : Type 0) (contents : D → Option (List ℕ)) (fai
 -- ---- by the job
 
 -- what holds of a line format with these limits holds of the job that asks for them
-pub lines_job : (P : Conversion → Type 0) (job : JobRead) (form : LineForm) → kind_of job.form ≡ Line form → (iri : ℕ) → iri ≡ job.limits.iri → (n : ℕ) → n ≡ job.limits.token → (s : Style) → s ≡ Kept →
+pub lines_job : (P : Conversion → Type 0) (job : JobRead) (form : LineForm) → kind_of job.form ≡ Line form → (iri : ℕ) → iri ≡ job.limits.iri → (n : ℕ) → n ≡ job.limits.token → (s : LineStyle) → s ≡ record { names = Kept; escapes = job.escapes } →
     P (conversion line_words (record { form = form; iri = iri }) n s) → P (conversion_of job)
 lines_job P job form k iri i n l s e h =
     subst (λ y. P (conversion_by y job)) (sym k)
@@ -159,7 +159,7 @@ lines_job P job form k iri i n l s e h =
     (subst (λ m. P (conversion line_words (record { form = form; iri = job.limits.iri }) m s)) l (subst (λ m. P (conversion line_words (record { form = form; iri = m }) n s)) i h)))
 
 -- the same of Turtle and TriG
-pub trees_job : (P : Conversion → Type 0) (job : JobRead) (form : DocForm) → kind_of job.form ≡ Tree form → (x : Chosen) → x ≡ tree_job form job → (n : ℕ) → n ≡ x.start.limits.token → (s : Style) → s ≡ Tagged →
+pub trees_job : (P : Conversion → Type 0) (job : JobRead) (form : DocForm) → kind_of job.form ≡ Tree form → (x : Chosen) → x ≡ tree_job form job → (n : ℕ) → n ≡ x.start.limits.token → (s : LineStyle) → s ≡ record { names = Tagged; escapes = job.escapes } →
     P (conversion tree_words x n s) → P (conversion_of job)
 trees_job P job form k x i n l s e h =
     subst (λ y. P (conversion_by y job)) (sym k)

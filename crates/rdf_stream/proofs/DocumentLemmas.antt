@@ -10,7 +10,7 @@ use Rattle.rdf_lines.specs.declared.form.LineForm.{LineForm}
 use Rattle.rdf_lines.specs.Lines.{Name, Ref, Lab, Object, Named, Plain, WithType, WithTag, Statement, empty, one, Document, last, next, subject_of, term_of, quad_of, document_quads, documents}
 use Rattle.rdf_lines.specs.Writing.{CanWrite, CanWriteSubject, CanWriteTerm, CanWriteGraph}
 use Rattle.std.proofs.Common.{option_map, ◌≡◌, sym}
-use Rattle.rdf_lines.specs.declared.form.Style.{Style}
+use Rattle.rdf_stream.specs.declared.form.LineStyle.{LineStyle}
 use Rattle.rdf_lines.specs.declared.rules.Rules.{Rules}
 use Rattle.rdf_lines.specs.Accepting.{line_words}
 use Rattle.rdf_lines.proofs.AcceptingLemmas.{lawful as lines_lawful}
@@ -71,9 +71,9 @@ all_tagged [] = tt
 all_tagged (q ∷ qs) = (record { subject = subject_tagged q.subject; object = term_tagged q.object; graph = graph_tagged q.graph }, all_tagged qs)
 
 -- The line formats suit lines with labels kept.
-pub lines_suit : (x : Rules) (style : Style) → style ≡ Kept → Suits line_words x style
-lines_suit x style e = subst (Suits line_words x) (sym e) (record { lawful = lines_lawful; can_write = λ ts quads d. due_kept x.form ts quads d })
+pub lines_suit : (x : Rules) (style : LineStyle) → style.names ≡ Kept → Suits line_words x style
+lines_suit x style e = record { lawful = lines_lawful; can_write = λ ts quads d. subst (λ n. AllByRecursion (CanWrite n) quads) (sym e) (due_kept x.form ts quads d) }
 
 -- Turtle and TriG suit lines with labels renamed.
-pub trees_suit : (x : Chosen) (style : Style) → style ≡ Tagged → Suits tree_words x style
-trees_suit x style e = subst (Suits tree_words x) (sym e) (record { lawful = trees_lawful; can_write = λ ts quads d. all_tagged quads })
+pub trees_suit : (x : Chosen) (style : LineStyle) → style.names ≡ Tagged → Suits tree_words x style
+trees_suit x style e = record { lawful = trees_lawful; can_write = λ ts quads d. subst (λ n. AllByRecursion (CanWrite n) quads) (sym e) (all_tagged quads) }

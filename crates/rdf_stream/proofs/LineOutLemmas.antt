@@ -10,8 +10,8 @@ use Rattle.std.specs.List.{AllByRecursion}
 use Rattle.rdf_terms.specs.Sinks as sink
 use Rattle.rdf_terms.specs.Sinks.{Attempts}
 use Rattle.rdf_terms.specs.Terms.{Quad}
-use Rattle.rdf_lines.specs.declared.form.Style.{Style}
-use Rattle.rdf_lines.specs.Writing.{line, text, CanWrite, Writable}
+use Rattle.rdf_stream.specs.declared.form.LineStyle.{LineStyle}
+use Rattle.rdf_stream.specs.LineStyles.{line, text, CanWrite, Writable}
 use Rattle.rdf_stream.specs.Devices.{AppendsFront}
 use Rattle.rdf_stream.specs.LineOut.{Leaves, Moves, SameOut, Takes, Writes, line_bytes}
 use Rattle.rdf_stream.specs.declared.line_out.LineOut.{LineOut}
@@ -47,10 +47,10 @@ pub moves_all : (a b c : Option (List ℕ)) (bytes rest : List ℕ) → Moves a 
 moves_all a b c bytes rest m t = subst (Appends a c) (sym m.whole) (Appends-trans a b c m.front rest m.taken t)
 
 -- the bytes of the quads' lines
-abbrev pub bytes_of : Style → List Quad → List ℕ
+abbrev pub bytes_of : LineStyle → List Quad → List ℕ
 bytes_of s qs = encode_utf8_all (text s qs)
 
-pub bytes_of-append : (s : Style) (qs rs : List Quad) → bytes_of s (qs ++ rs) ≡ bytes_of s qs ++ bytes_of s rs
+pub bytes_of-append : (s : LineStyle) (qs rs : List Quad) → bytes_of s (qs ++ rs) ≡ bytes_of s qs ++ bytes_of s rs
 bytes_of-append s qs rs = ap encode_utf8_all (flat_map-append (line s) qs rs) ∙ encodes-append (text s qs) (text s rs)
 
 pub same_out : {D A : Type 0} (a b c : LineOut D A) → SameOut a b → SameOut b c → SameOut a c

@@ -10,8 +10,8 @@ use Rattle.rdf_tokens.specs.declared.token.Fault.{Fault}
 use Rattle.rdf_driver.specs.declared.summary.Summary.{Summary}
 use Rattle.rdf_driver.specs.Readers.{Driven, HasRead}
 use Rattle.rdf_driver.specs.Words.{Lawful, Words}
-use Rattle.rdf_lines.specs.declared.form.Style.{Style}
-use Rattle.rdf_lines.specs.Writing.{CanWrite, Writable}
+use Rattle.rdf_stream.specs.declared.form.LineStyle.{LineStyle}
+use Rattle.rdf_stream.specs.LineStyles.{CanWrite, Writable}
 use Rattle.rdf_stream.specs.Languages.{Conversion, conversion}
 use Rattle.rdf_stream.specs.declared.fault.StreamFault.{StreamFault}
 use Rattle.rdf_stream.specs.declared.fault.StreamFault.TheVariants as fault
@@ -21,13 +21,13 @@ use Rattle.rdf_stream.specs.Faults.{fault_by}
 use Rattle.rdf_stream.specs.LineOut.{Moves, SameOut}
 
 -- what a conversion asks of a grammar and of the style of its lines
-pub record Suits {G X : Type 0} (w : Words G X) (x : X) (style : Style) : Type 0 where
+pub record Suits {G X : Type 0} (w : Words G X) (x : X) (style : LineStyle) : Type 0 where
   pub lawful : Lawful w
   -- each quad that is due in a document can be written
   pub can_write : (ts : List Token) (quads : List Quad) → Due (w.documents x) ts quads → AllByRecursion (CanWrite style) quads
 
 -- A reader of a grammar that suits the style has read nothing.
-pub record Starts {G X : Type 0} (w : Words G X) (x : X) (reader : Driven G) (style : Style) : Type 0 where
+pub record Starts {G X : Type 0} (w : Words G X) (x : X) (reader : Driven G) (style : LineStyle) : Type 0 where
   pub suits : Suits w x style
   pub read : HasRead w reader x [] []
 

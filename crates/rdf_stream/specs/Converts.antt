@@ -1,6 +1,7 @@
 -- What a conversion writes, and why it stops.
-use Rattle.std.specs.Prelude.{◌≡◌, ℕ, ◌+◌, ◌≤◌, Bool, true, false, List, length, Option, IfSome, encode_utf8_all}
+use Rattle.std.specs.Prelude.{◌≡◌, ℕ, ◌+◌, ◌<◌, ◌≤◌, Bool, true, false, List, length, Option, IfSome, encode_utf8_all}
 use Rattle.std.specs.Io.KnownBytes.{Appends, Consumes}
+use Rattle.std.specs.List.{AllByRecursion}
 use Rattle.rdf_terms.specs.declared.reason.Reason.{Reason}
 use Rattle.rdf_terms.specs.declared.reason.Reason.TheVariants.{DocumentTooLong}
 use Rattle.rdf_terms.specs.Terms.{Quad}
@@ -8,16 +9,17 @@ use Rattle.rdf_tokens.specs.Tokens.{Place, Token}
 use Rattle.rdf_tokens.specs.Scans.{place_of}
 use Rattle.rdf_tokens.specs.Grammars.{BeginsDue, Due, GoesOn, IsDocumentOf, IsTooLong, IsWhole, Language, RefusedIn, reading_of}
 use Rattle.rdf_driver.specs.declared.summary.Summary.{Summary}
-use Rattle.rdf_lines.specs.declared.form.Style.{Style}
-use Rattle.rdf_lines.specs.Laws.{ReadsBack}
-use Rattle.rdf_lines.specs.Writing.{text}
+use Rattle.rdf_lines.specs.declared.form.Escapes.TheVariants.{Ascii}
+use Rattle.rdf_stream.specs.declared.form.LineStyle.{LineStyle}
+use Rattle.rdf_lines.specs.Writing.{HasAsciiLabels}
+use Rattle.rdf_stream.specs.LineStyles.{text, ReadsBack}
 use Rattle.rdf_stream.specs.declared.fault.StreamFault.{StreamFault}
 use Rattle.rdf_stream.specs.declared.fault.StreamFault.TheVariants.{Refused, Read, Write, Memory}
 use Rattle.rdf_stream.specs.Devices.{AppendsFront, HasBroken, HasGiven, Reading}
 use Rattle.rdf_stream.specs.Languages.{Conversion}
 
 -- the bytes of the quads' lines
-abbrev pub lines_of : Style → List Quad → List ℕ
+abbrev pub lines_of : LineStyle → List Quad → List ℕ
 lines_of style qs = encode_utf8_all (text style qs)
 
 -- the numbers of quads, of tokens without the end, and of bytes
@@ -26,13 +28,14 @@ pub record Counts (language : Language) (input : List ℕ) (qs : List Quad) (s :
   pub tokens : s.tokens + 1 ≡ length (reading_of language input true).tokens
   pub bytes : s.bytes ≡ length input
 
--- The bytes are a document within the limits, the lines of its quads were written, and what was written reads back as these quads.
+-- The bytes are a document within the limits, the lines of its quads were written, and what was written reads back as these quads. In ASCII each byte of it is below 128, where each label is so.
 pub record Accepts (job : Conversion) (bytes : List ℕ) (old new : Option (List ℕ)) (s : Summary) : Type 0 where
   pub quads : List Quad
   pub document : IsDocumentOf job.language bytes quads
   pub within : IsWhole job.language bytes
   pub written : Appends old new (lines_of job.style quads)
   pub reads_back : (limit : ℕ) → length (text job.style quads) ≤ limit → ReadsBack job.style quads limit
+  pub ascii : job.style.escapes ≡ Ascii → AllByRecursion HasAsciiLabels quads → AllByRecursion (λ b. b < 128) (lines_of job.style quads)
   pub counts : Counts job.language bytes quads s
 
 -- the same, whatever was counted

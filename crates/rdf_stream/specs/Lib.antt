@@ -3,6 +3,7 @@ pub mod Devices
 pub mod Messages
 pub mod Jobs
 pub mod Kinds
+pub mod LineStyles
 pub mod Languages
 pub mod Converts
 pub mod Faults

@@ -2,8 +2,8 @@
 use Rattle.std.specs.Prelude.{◌≡◌, ◌<◌, ℕ, Bool, false, List, [], ◌++◌, length, Option, encode_utf8_all}
 use Rattle.std.specs.Io.KnownBytes.{Appends}
 use Rattle.rdf_terms.specs.Terms.{Quad, IsQuad}
-use Rattle.rdf_lines.specs.declared.form.Style.{Style}
-use Rattle.rdf_lines.specs.Writing.{line}
+use Rattle.rdf_stream.specs.declared.form.LineStyle.{LineStyle}
+use Rattle.rdf_stream.specs.LineStyles.{line}
 use Rattle.rdf_stream.specs.declared.line_out.LineOut.{LineOut}
 
 -- fewer bytes wait when a line has been put
@@ -27,7 +27,7 @@ abbrev pub Writes : {D A : Type 0} → (D → Option (List ℕ)) → LineOut D A
 Writes contents before bytes after = Moves (contents before.drain.now) (contents after.drain.now) (before.buffer.now.items ++ bytes) after.buffer.now.items
 
 -- the bytes of the quad's line
-abbrev pub line_bytes : Style → Quad → List ℕ
+abbrev pub line_bytes : LineStyle → Quad → List ℕ
 line_bytes style q = encode_utf8_all (line style q)
 
 -- What a put of a quad does: its line is written behind the others. The quad's type says that it is well formed.

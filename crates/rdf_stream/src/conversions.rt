@@ -10,7 +10,7 @@ ghost use Rattle.rdf_stream.specs.LineOut.{SameOut};
 
 use crate::devices::{Drain, Failed, Source};
 use crate::fault::StreamFault;
-use crate::form::Kind;
+use crate::form::{Kind, LineStyle};
 use crate::job::Job;
 use crate::line_out::{LineOut, stop};
 use crate::pieces::{Run, piece_buffer, read_pieces};
@@ -41,15 +41,18 @@ pub fn convert<A: Allocator + Copy, S: Source, D: Drain>(
 {
     let mut piece = piece_buffer(alloc)?;
     let mut buffer = Vec::new(alloc);
+    let escapes = job.escapes();
     match job.form().kind() {
         Kind::Line(form) => {
             let reader = line_reader(alloc, form, job.limits());
-            let mut lines = LineOut::new(Style::Kept, &mut buffer, drain);
+            let names = Style::Kept;
+            let mut lines = LineOut::new(LineStyle { names, escapes }, &mut buffer, drain);
             convert_with(reader, source, piece.as_mut_slice(), &mut lines)
         }
         Kind::Tree(form) => {
             let reader = tree_reader(alloc, job.options(form));
-            let mut lines = LineOut::new(Style::Tagged, &mut buffer, drain);
+            let names = Style::Tagged;
+            let mut lines = LineOut::new(LineStyle { names, escapes }, &mut buffer, drain);
             convert_with(reader, source, piece.as_mut_slice(), &mut lines)
         }
     }

@@ -2,7 +2,7 @@
 
 ghost use Rattle.rdf_stream.specs.Kinds.{IsKind};
 
-use rdf_lines::LineForm;
+use rdf_lines::{Escapes, LineForm, Style};
 use rdf_trig::DocForm;
 
 /// The format of a document.
@@ -35,6 +35,23 @@ impl Form {
             Form::NQuads => Kind::Line(LineForm::NQuads),
             Form::Turtle => Kind::Tree(DocForm::Turtle),
             Form::TriG => Kind::Tree(DocForm::TriG),
+        }
+    }
+}
+
+/// How lines are written: the names of nodes, and the characters above U+007F.
+#[derive(Clone, Copy)]
+pub(crate) struct LineStyle {
+    pub(crate) names: Style,
+    pub(crate) escapes: Escapes,
+}
+
+impl LineStyle {
+    /// That of lines that name no node: any would do.
+    pub(crate) fn plain() -> LineStyle {
+        LineStyle {
+            names: Style::Kept,
+            escapes: Escapes::Plain,
         }
     }
 }

@@ -8,18 +8,20 @@ ghost use Rattle.rdf_stream.specs.Languages.{tree_job};
 
 use crate::form::Form;
 use rdf_iri::Limits;
+use rdf_lines::Escapes;
 use rdf_terms::Iri;
 use rdf_trig::{DocForm, Options};
 use std::alloc::{Allocator, Global};
 use std::marker::Model;
 
-/// The format of a document, the base that its references are resolved against first, and the limits. The line
-/// formats have no relative references, so they do not look at the base.
+/// The format of a document, the base that its references are resolved against first, the limits, and the form of the
+/// lines. The line formats have no relative references, so they do not look at the base.
 #[derive(Drop)]
 pub struct Job<A: Allocator = Global> {
     form: Form,
     base: Option<Iri<A>>,
     limits: Limits,
+    escapes: Escapes,
 }
 
 impl<A: Allocator> Model for Job<A> {
@@ -28,21 +30,35 @@ impl<A: Allocator> Model for Job<A> {
 
     ghost Value = { JobRead };
 
-    ghost view = { λ j. record { form = j.form; base = j.base; limits = j.limits } };
+    ghost view = { λ j. record { form = j.form; base = j.base; limits = j.limits; escapes = j.escapes } };
 
     ghost invariant = { λ j. BaseFits j.base j.limits };
 }
 
 impl<A: Allocator> Job<A> {
-    /// A job, or None where the base has more bytes than the limits allow for an IRI. It takes no memory.
+    /// A job, or None where the base has more bytes than the limits allow for an IRI. Its lines are plain. It takes no
+    /// memory.
     pub fn new(form: Form, base: Option<Iri<A>>, limits: Limits) -> Option<Job<A>>
-        ensures made { IfSome result (λ job. job ≡ record { form = form; base = base; limits = limits }) }
+        ensures made { IfSome result (λ job. job ≡ record { form = form; base = base; limits = limits; escapes = Escapes.Plain }) }
         ensures none { (result ≡ None) ↔ ¬ BaseFits base limits }
     {
         if !fits(&base, limits) {
             return None;
         }
-        Some(Job { form, base, limits })
+        let escapes = Escapes::Plain;
+        Some(Job {
+            form,
+            base,
+            limits,
+            escapes,
+        })
+    }
+
+    /// The same job, whose lines are written in this form. It takes no memory.
+    pub fn with_escapes(self, escapes: Escapes) -> Job<A>
+        ensures { result ≡ record { form = self.form; base = self.base; limits = self.limits; escapes = escapes } }
+    {
+        Job { escapes, ..self }
     }
 
     /// The document's format.
@@ -50,6 +66,13 @@ impl<A: Allocator> Job<A> {
         ensures { result ≡ self.now.form }
     {
         self.form
+    }
+
+    /// The form of the lines.
+    pub(crate) fn escapes(&self) -> Escapes
+        ensures { result ≡ self.now.escapes }
+    {
+        self.escapes
     }
 
     /// The limits.

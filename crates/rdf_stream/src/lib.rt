@@ -25,5 +25,6 @@ pub use messages::report;
 pub use put::put_all;
 pub use rdf_driver::{Fault, Summary};
 pub use rdf_iri::Limits;
+pub use rdf_lines::Escapes;
 pub use rdf_terms::{Iri, TermFault};
 pub use shows::show;

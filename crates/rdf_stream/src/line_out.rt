@@ -11,10 +11,11 @@ ghost use Rattle.rdf_stream.specs.Shows.{token_line};
 
 use crate::devices::{Drain, Failed};
 use crate::fault::StreamFault;
+use crate::form::LineStyle;
 use crate::put::put_all;
 use crate::token_line::put_token_line;
 use crate::views::see_quad;
-use rdf_lines::{LabelFault, Style, write_line};
+use rdf_lines::{LabelFault, write_line};
 use rdf_terms::{PutFault, QuadRef, QuadSink};
 use rdf_tokens::{Fault, Token};
 use std::alloc::{Allocator, Global};
@@ -26,7 +27,7 @@ const WAITING_LEN: usize = 65536;
 /// that the style can't write is refused, as one for which there is no memory.
 #[derive(Drop)]
 pub(crate) struct LineOut<'a, D: Drain, A: Allocator = Global> {
-    style: Style,
+    style: LineStyle,
     buffer: &'a mut Vec<u8, A>,
     drain: &'a mut D,
 }
@@ -34,7 +35,7 @@ pub(crate) struct LineOut<'a, D: Drain, A: Allocator = Global> {
 impl<'a, D: Drain, A: Allocator + Copy> LineOut<'a, D, A> {
     /// No line waits.
     pub(crate) fn new(
-        style: Style,
+        style: LineStyle,
         buffer: &'a mut Vec<u8, A>,
         drain: &'a mut D,
     ) -> LineOut<'a, D, A>
@@ -109,7 +110,7 @@ impl<'a, D: Drain, A: Allocator + Copy> QuadSink for LineOut<'a, D, A> {
 
     fn put(&mut self, quad: QuadRef<'_>) -> Result<(), PutFault> {
         see_quad(quad);
-        match write_line(quad, self.style, self.buffer) {
+        match write_line(quad, self.style.names, self.style.escapes, self.buffer) {
             Ok(()) => {}
             // No reader gives a quad that its style can't write. If one did, it would end the run.
             Err(LabelFault::NotLabelled) => return Err(PutFault::Memory),

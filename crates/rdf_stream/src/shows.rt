@@ -10,12 +10,11 @@ ghost use Rattle.rdf_stream.specs.ShowParts.{Ends, HaltsBehind, HaltsHere, IsSho
 
 use crate::devices::{Drain, Failed, Source};
 use crate::fault::StreamFault;
-use crate::form::Form;
+use crate::form::{Form, LineStyle};
 use crate::job::Job;
 use crate::line_out::{LineOut, stop};
 use crate::pieces::{Run, piece_buffer, read_pieces};
 use rdf_driver::Summary;
-use rdf_lines::Style;
 use rdf_terms::{Dialect, Kind, PutFault};
 use rdf_tokens::{Scanner, Token};
 use std::alloc::Allocator;
@@ -42,7 +41,7 @@ pub fn show<A: Allocator + Copy, S: Source, D: Drain>(
 {
     let mut piece = piece_buffer(alloc)?;
     let mut buffer = Vec::new(alloc);
-    let mut lines = LineOut::new(Style::Kept, &mut buffer, drain);
+    let mut lines = LineOut::new(LineStyle::plain(), &mut buffer, drain);
     show_document(alloc, &job, source, piece.as_mut_slice(), &mut lines)
 }
 
