@@ -9,6 +9,7 @@ use Rattle.rdf_stream.specs.declared.fault.StreamFault.{StreamFault}
 use Rattle.rdf_stream.specs.Checks.{CheckStops, IsAccepted, IsRefusedFor}
 use Rattle.rdf_stream.specs.Converts.{Accepts, RefusesDocument, StopsFor}
 use Rattle.rdf_stream.specs.Devices.{Reading}
+use Rattle.rdf_lines.specs.declared.form.Escapes.TheVariants.{Plain}
 use Rattle.rdf_stream.specs.Jobs.{JobRead}
 use Rattle.rdf_stream.specs.Languages.{conversion_of, language_of}
 use Rattle.rdf_c.specs.Numbers.{base_of, number_of_form, number_of_reason, sizes_of, summary_of}
@@ -29,6 +30,7 @@ pub record AsksFor (request : Request) (base_text : List ℕ) (job : JobRead) : 
   pub limits : job.limits ≡ sizes_of request
   pub range : InRange job.limits
   pub fits : BaseFits job.base job.limits
+  pub plain : job.escapes ≡ Plain
   pub good : IsBaseText base_text
 
 -- The request and the base are of no job.

@@ -87,8 +87,13 @@ unfolding has
 uchar_shape c =
     uchar_cases (Matches shapes.uchar) c
     (λ l. inl (92 ∷ 117 ∷ [], four c, (92 ∷ [], 117 ∷ [], (92, refl, refl), (117 ∷ [], [], (117, refl, refl), refl, refl), refl), row_shape 0x1000 (0x100 ∷ 0x10 ∷ 1 ∷ []) c, refl))
-    (λ l. inr (92 ∷ 85 ∷ [], eight c, (92 ∷ [], 85 ∷ [], (92, refl, refl), (85 ∷ [], [], (85, refl, refl), refl, refl), refl),
-    row_shape 0x10000000 (0x1000000 ∷ 0x100000 ∷ 0x10000 ∷ 0x1000 ∷ 0x100 ∷ 0x10 ∷ 1 ∷ []) c, refl))
+    (λ l. inr (
+      92 ∷ 85 ∷ [],
+      eight c,
+      (92 ∷ [], 85 ∷ [], (92, refl, refl), (85 ∷ [], [], (85, refl, refl), refl, refl), refl),
+      row_shape 0x10000000 (0x1000000 ∷ 0x100000 ∷ 0x10000 ∷ 0x1000 ∷ 0x100 ∷ 0x10 ∷ 1 ∷ []) c,
+      refl,
+    ))
 
 -- the number that the digits write
 abbrev AreSixteens : List ℕ → Type 0
@@ -113,15 +118,13 @@ digits_number (p ∷ ps) c a =
 
 four_number : (c : ℕ) → c ≤ 0xFFFF → c ≡ hex_number (four c)
 four_number c l =
-    let places = 0x1000 ∷ 0x100 ∷ 0x10 ∷ 1 ∷ [] in
     let whole : c ≡ number_at (0x1000 ∷ 0x100 ∷ 0x10 ∷ 1 ∷ []) c = omega arith in
-    whole ∙ sym (digits_number places c (refl, (refl, (refl, (refl, tt)))))
+    whole ∙ sym (digits_number (0x1000 ∷ 0x100 ∷ 0x10 ∷ 1 ∷ []) c (refl, (refl, (refl, (refl, tt)))))
 
 eight_number : (c : ℕ) → c < 0x100000000 → c ≡ hex_number (eight c)
 eight_number c l =
-    let places = 0x10000000 ∷ 0x1000000 ∷ 0x100000 ∷ 0x10000 ∷ 0x1000 ∷ 0x100 ∷ 0x10 ∷ 1 ∷ [] in
     let whole : c ≡ number_at (0x10000000 ∷ 0x1000000 ∷ 0x100000 ∷ 0x10000 ∷ 0x1000 ∷ 0x100 ∷ 0x10 ∷ 1 ∷ []) c = omega arith in
-    whole ∙ sym (digits_number places c (refl, (refl, (refl, (refl, (refl, (refl, (refl, (refl, tt)))))))))
+    whole ∙ sym (digits_number (0x10000000 ∷ 0x1000000 ∷ 0x100000 ∷ 0x10000 ∷ 0x1000 ∷ 0x100 ∷ 0x10 ∷ 1 ∷ []) c (refl, (refl, (refl, (refl, (refl, (refl, (refl, (refl, tt)))))))))
 
 scalar_bound : (c : ℕ) → scalar c ≡ true → c < 0x100000000
 scalar_bound c h = grind (arith, nat_tests)

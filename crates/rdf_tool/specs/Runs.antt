@@ -2,6 +2,7 @@
 use Rattle.std.specs.Prelude.{◌≡◌, ◌≢◌, ◌⊎◌, ℕ, Bool, true, List, ◌++◌, codes, decimal, Option, IfSome}
 use Rattle.std.specs.Io.KnownBytes.{Appends}
 use Rattle.rdf_driver.specs.declared.summary.Summary.{Summary}
+use Rattle.rdf_lines.specs.declared.form.Escapes.TheVariants.{Plain}
 use Rattle.rdf_stream.specs.Checks.{CheckStops, IsAccepted}
 use Rattle.rdf_stream.specs.Converts.{IsConverted, StopsFor}
 use Rattle.rdf_stream.specs.Devices.{AppendsFront, Reading, Written}
@@ -17,7 +18,7 @@ use Rattle.rdf_tool.specs.Statuses.{TellsOf, status_of}
 
 -- the job that a task asks for
 abbrev pub job_of : Task → JobRead
-job_of t = record { form = t.form; base = t.base; limits = t.limits }
+job_of t = record { form = t.form; base = t.base; limits = t.limits; escapes = Plain }
 
 -- the line that tells what is in an accepted document
 abbrev pub accepted_text : Summary → List ℕ

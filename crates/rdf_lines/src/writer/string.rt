@@ -11,7 +11,6 @@ use rdf_terms::IriView;
 use rdf_terms::runs::{Run, run_end};
 use std::alloc::{AllocError, Allocator};
 
-#[tactic(auto, using(crate::proofs::EncodedLine::between))]
 pub fn put_string<A: Allocator + Copy>(
     text: &str,
     escapes: Escapes,

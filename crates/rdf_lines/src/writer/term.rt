@@ -12,7 +12,6 @@ use itoa::Buffer;
 use rdf_terms::{IriView, NodeRef, SubjectRef, TailRef, TermRef};
 use std::alloc::{AllocError, Allocator};
 
-#[tactic(auto, using(crate::proofs::EncodedLine::literal_bytes))]
 pub fn put_term<A: Allocator + Copy>(
     term: TermRef<'_>,
     style: Style,
@@ -47,7 +46,6 @@ pub fn put_name<A: Allocator + Copy>(
     }
 }
 
-#[tactic(auto, using(crate::proofs::EncodedLine::between))]
 pub fn put_iri<A: Allocator + Copy>(
     iri: IriView<'_>,
     escapes: Escapes,
@@ -118,6 +116,7 @@ fn is_plain(datatype: &str) -> bool
     datatype == "http://www.w3.org/2001/XMLSchema#string"
 }
 
+#[tactic(auto, using(crate::proofs::EncodedLine::encoded_type))]
 fn put_type<A: Allocator + Copy>(
     plain: bool,
     datatype: IriView<'_>,

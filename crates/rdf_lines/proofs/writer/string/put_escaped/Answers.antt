@@ -1,11 +1,11 @@
-use Rattle.std.proofs.Common.{◌≡◌, ◌++◌, length, sym, ap, ◌∙◌, arith}
+use Rattle.std.proofs.Common.{◌≡◌, ◌++◌, length, sym, ap, ◌∙◌}
+use Rattle.std.proofs.lemmas.Bool.{eqb-true}
 use Rattle.std.proofs.lemmas.List.{append-nil}
-use Rattle.rdf_lines.specs.WrittenBytes.{escaped_bytes}
 use Rattle.rdf_lines.proofs.EscapedRuns.{none_written}
 use Rattle.rdf_lines.proofs.writer.string.put_escaped.Goals as goal
 
 pub returns-clause-written : goal.returns-clause-written
 returns-clause-written g c =
     let out = c.loop-rest.out.items in
-    let none = none_written c.args.escapes c.loop-rest.rest.now ? in
+    let none = none_written c.args.escapes c.loop-rest.rest.now (eqb-true (length c.loop-rest.rest.now) 0 (sym c.loop-rest-test.ensures)) in
     sym (append-nil out) ∙ (ap (λ x. out ++ x) (sym none) ∙ c.loop-rest.invariant.1)
