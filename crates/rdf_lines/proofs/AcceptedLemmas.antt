@@ -109,11 +109,11 @@ all_renamed n s (q ∷ qs) w = (
 
 -- The law: what is written for quads is read to its end, where no token of the lines and no IRI of the quads passes a limit.
 pub text_read : WrittenTextIsRead
-text_read s qs limit n h e l w =
-    let bytes = encode_utf8_all (text s qs) in
-    let b = tokens_tree s qs limit h e l in
+text_read s e qs limit n h t l w =
+    let bytes = encode_utf8_all (text s e qs) in
+    let b = tokens_tree s e qs limit h t l in
     let (tree, tokens, good, same) = b.1 in
     let ts = (tokens_of Lines limit bytes true).tokens in
     let narrow = tree_taken n NQuads tree good (subst (AllByRecursion (IrisWithin n)) (sym same) (all_renamed n s qs w)) in
     let none = ran_none n NQuads ts Begin Finished (map (rename s) qs) (run_document (is_taken n) NQuads ts (map (rename s) qs) (tree, tokens, narrow, same)) in
-    read_to_its_end (in_lines NQuads limit n) bytes (document_whole (in_lines NQuads limit n) bytes (map (rename s) qs) (tokens_read_back s qs limit h e l n) none)
+    read_to_its_end (in_lines NQuads limit n) bytes (document_whole (in_lines NQuads limit n) bytes (map (rename s) qs) (tokens_read_back s e qs limit h t l n) none)

@@ -10,6 +10,7 @@ use Rattle.rdf_tokens.specs.Tokens.{Place, Token, past, tokens, with_tokens}
 use Rattle.rdf_terms.specs.declared.kind.Dialect.TheVariants.{Lines}
 use Rattle.rdf_lines.specs.declared.form.LineForm.{LineForm}
 use Rattle.rdf_lines.specs.declared.form.LineForm.TheVariants.{NTriples, NQuads}
+use Rattle.rdf_lines.specs.declared.form.Escapes.TheVariants.{Plain}
 use Rattle.rdf_lines.specs.declared.form.Style.TheVariants.{Kept}
 use Rattle.rdf_lines.specs.declared.rules.Rules.{Rules}
 use Rattle.rdf_lines.specs.Lines.{token, statement_tokens, name_tokens, object_tokens, graph_tokens, graph_fits, GoodStatement}
@@ -25,11 +26,11 @@ use Rattle.rdf_lines.proofs.WrittenText.{text_scalars}
 
 -- the tokens of a quad's line that begins at a place
 abbrev quad_tokens : Quad → Place → List Token
-quad_tokens q p = statement_tokens (statement_tree p q) ++ alone LineEnd (10 ∷ []) (past p (upto_graph q ++ 46 ∷ []))
+quad_tokens q p = statement_tokens (statement_tree Plain p q) ++ alone LineEnd (10 ∷ []) (past p (upto_graph Plain q ++ 46 ∷ []))
 
 abbrev lines_tokens : List Quad → Place → List Token
 lines_tokens [] p = []
-lines_tokens (q ∷ qs) p = quad_tokens q p ++ lines_tokens qs (past p (quad_text q))
+lines_tokens (q ∷ qs) p = quad_tokens q p ++ lines_tokens qs (past p (quad_text Plain q))
 
 -- what is written with the labels kept
 subject_kept : (s : Subject) → rename_subject Kept s ≡ s
@@ -54,38 +55,38 @@ kept q = fields (rename_subject Kept q.subject) (rename_term Kept q.object) (opt
         ∙ (ap (λ (y : Term). let x : Quad = record { subject = q.subject; predicate = q.predicate; object = y; graph = g } in x) b
         ∙ ap (λ (y : Option Subject). let x : Quad = record { subject = q.subject; predicate = q.predicate; object = q.object; graph = y } in x) c)
 
-pub text_kept : (qs : List Quad) → text Kept qs ≡ flat_map quad_text qs
+pub text_kept : (qs : List Quad) → text Kept Plain qs ≡ flat_map (quad_text Plain) qs
 text_kept [] = refl
-text_kept (q ∷ qs) = ap (λ x. quad_text x ++ text Kept qs) (kept q) ∙ ap (λ x. quad_text q ++ x) (text_kept qs)
+text_kept (q ∷ qs) = ap (λ x. quad_text Plain x ++ text Kept Plain qs) (kept q) ∙ ap (λ x. quad_text Plain q ++ x) (text_kept qs)
 
 -- how many tokens there are
-subject_counted : (p : Place) (s : Subject) → length (name_tokens (name_tree p s)) ≡ 1
+subject_counted : (p : Place) (s : Subject) → length (name_tokens (name_tree Plain p s)) ≡ 1
 subject_counted p (Iri i) = refl
 subject_counted p (Blank n) = refl
 
-typed_counted : (p : Place) (b : Bool) (w i : List ℕ) → length (object_tokens (typed_tree b p w i)) ≡ 1 + type_count b
+typed_counted : (p : Place) (b : Bool) (w i : List ℕ) → length (object_tokens (typed_tree Plain b p w i)) ≡ 1 + type_count b
 typed_counted p true w i = refl
 typed_counted p false w i = refl
 
-term_counted : (p : Place) (t : Term) → length (object_tokens (object_tree p t)) ≡ term_count t
+term_counted : (p : Place) (t : Term) → length (object_tokens (object_tree Plain p t)) ≡ term_count t
 term_counted p (Resource s) = subject_counted p s
 term_counted p (Literal w (Lang t)) = refl
 term_counted p (Literal w (Typed i)) = typed_counted p (bytes_eq i xsd_string) w i
 
-graph_counted : (p : Place) (g : Option Subject) → length (graph_tokens (graph_tree p g)) ≡ graph_count g
+graph_counted : (p : Place) (g : Option Subject) → length (graph_tokens (graph_tree Plain p g)) ≡ graph_count g
 graph_counted p None = refl
 graph_counted p (Some g) = subject_counted p g
 
 quad_counted : (q : Quad) (p : Place) → length (quad_tokens q p) ≡ quad_count q
 quad_counted q p =
-    let s = statement_tree p q in
+    let s = statement_tree Plain p q in
     let head = name_tokens s.subject in
     let object = object_tokens s.object in
     let graph = graph_tokens s.graph in
     let a = subject_counted p q.subject in
-    let b = term_counted (past p (upto_predicate q)) q.object in
-    let c = graph_counted (past p (upto_object q)) q.graph in
-    counted head object graph (token IriRef s.predicate) (token Dot s.dot) (token LineEnd (leaf (10 ∷ []) (past p (upto_graph q ++ 46 ∷ [])))) a b c
+    let b = term_counted (past p (upto_predicate Plain q)) q.object in
+    let c = graph_counted (past p (upto_object Plain q)) q.graph in
+    counted head object graph (token IriRef s.predicate) (token Dot s.dot) (token LineEnd (leaf (10 ∷ []) (past p (upto_graph Plain q ++ 46 ∷ [])))) a b c
   where
     counted : (head object graph : List Token) (d e f : Token) → length head ≡ 1 → length object ≡ term_count q.object → length graph ≡ graph_count q.graph →
         length (((head ++ (d ∷ []) ++ object ++ graph) ++ (e ∷ [])) ++ f ∷ []) ≡ quad_count q
@@ -100,8 +101,8 @@ quad_counted q p =
 lines_counted : (qs : List Quad) (p : Place) → count qs ≡ length (lines_tokens qs p)
 lines_counted [] p = refl
 lines_counted (q ∷ qs) p =
-    let rest = lines_tokens qs (past p (quad_text q)) in
-    omega (arith, quad_counted q p, lines_counted qs (past p (quad_text q)), length-append (quad_tokens q p) rest)
+    let rest = lines_tokens qs (past p (quad_text Plain q)) in
+    omega (arith, quad_counted q p, lines_counted qs (past p (quad_text Plain q)), length-append (quad_tokens q p) rest)
 
 module _ (form : LineForm) (limit iri : ℕ) where
   written : (qs : List Quad) → AllByRecursion (IsTaken form limit iri) qs → Written qs
@@ -109,45 +110,45 @@ module _ (form : LineForm) (limit iri : ℕ) where
   written (q ∷ qs) h = ((h.0.quad, h.0.labels), written qs h.1)
 
   -- they are spelled
-  spells_lines : (qs : List Quad) → Written qs → Spells limit (flat_map quad_text qs) (lines_tokens qs)
+  spells_lines : (qs : List Quad) → Written qs → Spells limit (flat_map (quad_text Plain) qs) (lines_tokens qs)
   spells_lines [] h = spells_nothing limit
-  spells_lines (q ∷ qs) h = spells_then limit (quad_text q) (flat_map quad_text qs) (quad_tokens q) (lines_tokens qs) (spells_line limit q h.0.0 h.0.1) (spells_lines qs h.1)
+  spells_lines (q ∷ qs) h = spells_then limit (quad_text Plain q) (flat_map (quad_text Plain) qs) (quad_tokens q) (lines_tokens qs) (spells_line Plain limit q h.0.0 h.0.1) (spells_lines qs h.1)
 
   lines_short : 2 ≤ limit → (qs : List Quad) → AllByRecursion (IsTaken form limit iri) qs → (p : Place) → AllShort limit (lines_tokens qs p)
   lines_short e [] h p = tt
   lines_short e (q ∷ qs) h p =
-      short_both limit (quad_tokens q p) (lines_tokens qs (past p (quad_text q)))
-      (short_both limit (statement_tokens (statement_tree p q)) (alone LineEnd (10 ∷ []) (past p (upto_graph q ++ 46 ∷ []))) (statement_short limit p q e h.0.tokens) (omega arith, tt))
-      (lines_short e qs h.1 (past p (quad_text q)))
+      short_both limit (quad_tokens q p) (lines_tokens qs (past p (quad_text Plain q)))
+      (short_both limit (statement_tokens (statement_tree Plain p q)) (alone LineEnd (10 ∷ []) (past p (upto_graph Plain q ++ 46 ∷ []))) (statement_short Plain limit p q e h.0.tokens) (omega arith, tt))
+      (lines_short e qs h.1 (past p (quad_text Plain q)))
 
   -- and the machine accepts them
-  fits : (f : LineForm) (p : Place) (g : Option Subject) → LabelFits f g → graph_fits f (graph_tree p g)
-  fits NTriples p g h = ap (graph_tree p) h
+  fits : (f : LineForm) (p : Place) (g : Option Subject) → LabelFits f g → graph_fits f (graph_tree Plain p g)
+  fits NTriples p g h = ap (graph_tree Plain p) h
   fits NQuads p g h = tt
 
   quad_ran : (q : Quad) (p : Place) → IsTaken form limit iri q → run (is_taken iri) form Begin (quad_tokens q p) ≡ ran Begin (q ∷ [])
   quad_ran q p h =
-      let m = statement_meant p q h.quad h.labels in
-      let good : GoodStatement has_scheme form (statement_tree p q) = record { subject = m.1.subject; predicate = m.1.predicate; object = m.1.object; graph = m.1.graph; labels = fits form (past p (upto_object q)) q.graph h.graph } in
-      run_statement (is_taken iri) form (statement_tree p q) (alone LineEnd (10 ∷ []) (past p (upto_graph q ++ 46 ∷ [])))
-      (statement_taken iri form (statement_tree p q) good (subst (IrisWithin iri) (sym m.0) h.iris))
+      let m = statement_meant Plain p q h.quad h.labels in
+      let good : GoodStatement has_scheme form (statement_tree Plain p q) = record { subject = m.1.subject; predicate = m.1.predicate; object = m.1.object; graph = m.1.graph; labels = fits form (past p (upto_object Plain q)) q.graph h.graph } in
+      run_statement (is_taken iri) form (statement_tree Plain p q) (alone LineEnd (10 ∷ []) (past p (upto_graph Plain q ++ 46 ∷ [])))
+      (statement_taken iri form (statement_tree Plain p q) good (subst (IrisWithin iri) (sym m.0) h.iris))
       ∙ ap (λ x. with_quad x (ran Begin [])) m.0
 
   lines_ran : (qs : List Quad) (p : Place) → AllByRecursion (IsTaken form limit iri) qs → run (is_taken iri) form Begin (lines_tokens qs p) ≡ ran Begin qs
   lines_ran [] p h = refl
   lines_ran (q ∷ qs) p h =
-      let rest = lines_tokens qs (past p (quad_text q)) in
+      let rest = lines_tokens qs (past p (quad_text Plain q)) in
       run_append (is_taken iri) form (quad_tokens q p) rest Begin
       ∙ (ap (λ r. then r (λ m. run (is_taken iri) form m rest)) (quad_ran q p h.0)
-      ∙ ap (with_quads (q ∷ [])) (lines_ran qs (past p (quad_text q)) h.1))
+      ∙ ap (with_quads (q ∷ [])) (lines_ran qs (past p (quad_text Plain q)) h.1))
 
 pub lines_read : CanonicalLinesAreRead
 lines_read r bytes qs begin e h =
     let rules = r.grammar.rules in
     let limit = r.scanner.limit in
-    let w = flat_map quad_text qs in
+    let w = flat_map (quad_text Plain) qs in
     let wr = written rules.form limit rules.iri qs h.each in
-    let s = text_scalars qs wr in
+    let s = text_scalars Plain qs wr in
     let is : bytes ≡ encode_utf8_all w = h.is ∙ ap encode_utf8_all (text_kept qs) in
     let characters : chars bytes ≡ w = ap chars is ∙ chars-encodes w s in
     let p = r.scanner.place in

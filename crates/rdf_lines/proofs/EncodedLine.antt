@@ -1,31 +1,31 @@
--- The line of encoded texts is the encoded line of the texts.
-use Rattle.std.proofs.Common.{◌≡◌, ℕ, zero, suc, ◌<◌, ◌≤◌, ◌/◌, ◌%◌, Bool, true, false, cond, List, [], ◌∷◌, ◌++◌, ◌==◌, refl, sym, ap, ◌∙◌, subst, ⊎_elim, Option, Some, None, arith}
+-- The bytes of a line are those of its parts, one after the other.
+use Rattle.std.proofs.Common.{◌≡◌, ℕ, zero, suc, ◌<◌, ◌≤◌, ◌/◌, ◌%◌, Bool, true, false, cond, List, [], ◌∷◌, ◌++◌, ◌==◌, nat_le, refl, sym, ap, ◌∙◌, subst, ⊎_elim, Option, Some, None, arith}
 use Rattle.std.specs.Prelude.{flat_map, option_map, encode_utf8_all, decimal, bytes_eq, chars, IsUtf8}
 use Rattle.std.specs.Fmt.{digits, digits_onto, digit_glyph}
 use Rattle.std.specs.List.{AllByRecursion}
 use Rattle.std.proofs.Math.Utf8.{encode, encodes}
-use Rattle.std.proofs.lemmas.Bool.{cases_Bool, cases_lt, cond-true, cond-false, false_from_ne_true, false≢true}
+use Rattle.std.proofs.lemmas.Bool.{cases_Bool, cases_lt, cond-true, cond-false, cond_both, false_from_ne_true, false≢true}
 use Rattle.std.proofs.lemmas.Bool.Decides.{nat_tests}
 use Rattle.std.proofs.lemmas.List.{append-nil}
-use Rattle.std.proofs.lemmas.List.Concat.{flat_map-append}
 use Rattle.std.proofs.lemmas.Slice.Eq.{bytes_eq-Decides}
 use Rattle.std.proofs.lemmas.Str.{IsUtf8-had, encodes-append, encodes-chars, encode_ascii, encodes_same}
 use Rattle.rdf_terms.specs.declared.views.NodeRef.{NodeRef}
 use Rattle.rdf_terms.specs.declared.views.NodeRef.TheVariants as node_ref
 use Rattle.rdf_terms.specs.declared.views.TailRef.{TailRef}
-use Rattle.rdf_terms.specs.declared.views.TailRef.TheVariants as tail_ref
 use Rattle.rdf_terms.specs.declared.views.SubjectRef.{SubjectRef}
-use Rattle.rdf_terms.specs.declared.views.SubjectRef.TheVariants as subject_ref
-use Rattle.rdf_terms.specs.declared.views.TermRef.{TermRef}
-use Rattle.rdf_terms.specs.declared.views.TermRef.TheVariants as term_ref
 use Rattle.rdf_terms.specs.declared.views.QuadRef.{QuadRef}
+use Rattle.rdf_terms.specs.declared.views.TagView.{TagView}
 use Rattle.rdf_terms.specs.Terms.{xsd_string}
-use Rattle.rdf_terms.specs.Views.{node_by, tail_by, subject_by, term_by, quad_by}
-use Rattle.rdf_tokens.proofs.GoodLemmas.{encode_one, encode_two, encode_three, encode_four}
+use Rattle.rdf_terms.specs.Views.{node_by, tail_by, subject_by, term_by, quad_of, iri_chars}
+use Rattle.rdf_tokens.proofs.GoodLemmas.{encode_two, encode_three, encode_four}
+use Rattle.rdf_lines.specs.declared.form.Escapes.{Escapes}
+use Rattle.rdf_lines.specs.declared.form.Escapes.TheVariants.{Plain, Ascii}
 use Rattle.rdf_lines.specs.declared.form.Style.{Style}
 use Rattle.rdf_lines.specs.declared.form.Style.TheVariants.{Kept, Tagged}
-use Rattle.rdf_lines.specs.Writing.{escaped, rename_node, rename_subject, rename_term, iri_text, node_text, subject_text, string_text, type_text, tail_text, term_text, space, graph_text, line}
-use Rattle.rdf_lines.specs.WrittenBytes.{node_bytes, subject_bytes, tail_bytes, term_bytes, graph_bytes, line_bytes}
+use Rattle.rdf_lines.specs.Writing.{uchar, written, escaped, rename_node, rename_subject, rename_term, iri_text, node_text, subject_text, string_text, type_text, tail_text, term_text, space, graph_text, line}
+use Rattle.rdf_lines.specs.WrittenBytes.{iri_bytes, node_bytes, subject_bytes, term_bytes, graph_bytes, line_bytes, string_bytes_of, escaped_bytes, tail_bytes}
+use Rattle.rdf_lines.proofs.AsciiLemmas.{low_encodes}
+use Rattle.rdf_lines.proofs.UcharLemmas.{uchar_low}
 
 -- an ASCII character is its own byte
 pub low : (c : ℕ) (w : List ℕ) → c < 128 → encodes (c ∷ w) ≡ c ∷ encodes w
@@ -35,16 +35,8 @@ low c w l = ap (λ x. x ++ encodes w) (encode_ascii c l)
 text : (w : List ℕ) → IsUtf8 w → encodes (chars w) ≡ w
 text w u = encodes-chars w u
 
--- an escape is of ASCII, and no byte of another character is escaped
-high : (bs : List ℕ) → AllByRecursion (λ b. 128 ≤ b) bs → flat_map escaped bs ≡ bs
-high [] a = refl
-high (b ∷ bs) a = ap (λ x. x ++ flat_map escaped bs) (plain b a.0) ∙ ap (λ x. b ∷ x) (high bs a.1)
-  where
-    plain : (b : ℕ) → 128 ≤ b → escaped b ≡ b ∷ []
-    plain b l = grind (arith, nat_tests)
-
 -- the bytes of a character from U+0080 on are from 128 on, so none of them is escaped
-high_bytes : (c : ℕ) → 128 ≤ c → AllByRecursion (λ b. 128 ≤ b) (encode c)
+pub high_bytes : (c : ℕ) → 128 ≤ c → AllByRecursion (λ b. 128 ≤ b) (encode c)
 high_bytes c l =
     ⊎_elim
     (λ h. subst (AllByRecursion (λ b. 128 ≤ b)) (sym (encode_two c l h)) (omega arith, (omega arith, tt)))
@@ -54,58 +46,16 @@ high_bytes c l =
     (cases_lt c 65536))
     (cases_lt c 2048)
 
--- an escape is ASCII
-escaped_low : (c : ℕ) → c < 128 → encodes (escaped c) ≡ escaped c
-unfolding encode
-escaped_low c l = test 34 _ _ refl (test 92 _ _ refl (test 10 _ _ refl (test 13 _ _ refl (low c [] l))))
-  where
-    test : (x : ℕ) (u v : List ℕ) → encodes u ≡ u → encodes v ≡ v → encodes (cond (c == x) u v) ≡ cond (c == x) u v
-    test x u v a b =
-        ⊎_elim
-        (λ e. subst (λ y. encodes y ≡ y) (sym (cond-true (c == x) u v e)) a)
-        (λ e. subst (λ y. encodes y ≡ y) (sym (cond-false (c == x) u v e)) b)
-        (cases_Bool (c == x))
-
--- a character is escaped alike before and after it is encoded
-escaped_char : (c : ℕ) → encodes (escaped c) ≡ flat_map escaped (encode c)
-escaped_char c =
-    ⊎_elim
-    (λ l. escaped_low c l ∙ (sym (append-nil (escaped c)) ∙ ap (flat_map escaped) (sym (encode_one c l))))
-    (λ l. ap encodes (plain c l) ∙ (append-nil (encode c) ∙ sym (high (encode c) (high_bytes c l))))
-    (cases_lt c 128)
-  where
-    plain : (c : ℕ) → 128 ≤ c → escaped c ≡ c ∷ []
-    plain c l = grind (arith, nat_tests)
-
--- a text is escaped alike before and after it is encoded, so the writer may escape bytes
-pub escaped_text : (cs : List ℕ) → encodes (flat_map escaped cs) ≡ flat_map escaped (encodes cs)
-escaped_text [] = refl
-escaped_text (c ∷ cs) =
-    encodes-append (escaped c) (flat_map escaped cs)
-    ∙ (ap (λ x. x ++ encodes (flat_map escaped cs)) (escaped_char c)
-    ∙ (ap (λ x. flat_map escaped (encode c) ++ x) (escaped_text cs)
-    ∙ sym (flat_map-append escaped (encode c) (encodes cs))))
-
--- an IRI in its brackets, in bytes
-iri : (w : List ℕ) → IsUtf8 w → encodes (iri_text (chars w)) ≡ iri_text w
-iri w u =
-    low 60 (chars w ++ 62 ∷ []) (omega arith)
-    ∙ ap (λ x. 60 ∷ x) (encodes-append (chars w) (62 ∷ []) ∙ (ap (λ x. x ++ encodes (62 ∷ [])) (text w u) ∙ ap (λ x. w ++ x) (low 62 [] (omega arith))))
-
--- a string in its quotes, in bytes
-string : (w : List ℕ) → IsUtf8 w → encodes (string_text (chars w)) ≡ string_text w
-string w u =
-    low 34 (flat_map escaped (chars w) ++ 34 ∷ []) (omega arith)
-    ∙ ap (λ x. 34 ∷ x) (encodes-append (flat_map escaped (chars w)) (34 ∷ [])
-    ∙ (ap (λ x. x ++ encodes (34 ∷ [])) (escaped_text (chars w) ∙ ap (flat_map escaped) (text w u))
-    ∙ ap (λ x. flat_map escaped w ++ x) (low 34 [] (omega arith))))
+-- in delimiters
+pub between : (a b : ℕ) (w : List ℕ) → a < 128 → b < 128 → encode_utf8_all (a ∷ w ++ b ∷ []) ≡ a ∷ encode_utf8_all w ++ b ∷ []
+between a b w l m = low a (w ++ b ∷ []) l ∙ ap (λ x. a ∷ x) (encodes-append w (b ∷ []) ∙ ap (λ x. encodes w ++ x) (low b [] m))
 
 -- a label with its `_:`, in bytes
 named : (w v : List ℕ) → encodes w ≡ v → encodes (95 ∷ 58 ∷ w) ≡ 95 ∷ 58 ∷ v
 named w v e = low 95 (58 ∷ w) (omega arith) ∙ ap (λ x. 95 ∷ x) (low 58 w (omega arith) ∙ ap (λ x. 58 ∷ x) e)
 
 -- a text after an ASCII character, in bytes
-after : (c : ℕ) (w v : List ℕ) → c < 128 → encodes w ≡ v → encodes (c ∷ w) ≡ c ∷ v
+pub after : (c : ℕ) (w v : List ℕ) → c < 128 → encode_utf8_all w ≡ v → encode_utf8_all (c ∷ w) ≡ c ∷ v
 after c w v l e = low c w l ∙ ap (λ x. c ∷ x) e
 
 -- digits are of ASCII
@@ -124,8 +74,12 @@ number : (n : ℕ) → encodes (decimal n) ≡ decimal n
 unfolding digits
 number n = encoded_digits 64 n [] refl
 
+-- the text of a node, where labels are their own bytes
+abbrev pub bytes : List ℕ → List ℕ
+bytes w = w
+
 -- a blank node as the style names it, in bytes
-pub encoded_node : (s : Style) (n : NodeRef) → encode_utf8_all (node_text (rename_node s (node_by chars n))) ≡ node_bytes s n
+pub encoded_node : (s : Style) (n : NodeRef) → node_bytes s n ≡ node_text (rename_node s (node_by bytes n))
 encoded_node Kept (node_ref.Label v) = named (chars v.text.now) v.text.now (text v.text.now (IsUtf8-had _ v.utf8))
 encoded_node Kept (node_ref.Anon n) = refl
 encoded_node Kept (node_ref.Cell n) = refl
@@ -133,12 +87,11 @@ encoded_node Tagged (node_ref.Label v) = named (110 ∷ chars v.text.now) (110 �
 encoded_node Tagged (node_ref.Anon n) = named (97 ∷ decimal n) (97 ∷ decimal n) (after 97 (decimal n) (decimal n) (omega arith) (number n))
 encoded_node Tagged (node_ref.Cell n) = named (99 ∷ decimal n) (99 ∷ decimal n) (after 99 (decimal n) (decimal n) (omega arith) (number n))
 
--- a subject, in bytes
-subject : (s : Style) (t : SubjectRef) → encodes (subject_text (rename_subject s (subject_by chars t))) ≡ subject_bytes s t
-subject s (subject_ref.Iri v) = iri v.text.now (IsUtf8-had _ v.utf8)
-subject s (subject_ref.Node n) = encoded_node s n
+-- a tag
+pub encoded_tag : (v : TagView) → encode_utf8_all (64 ∷ chars v.text.now) ≡ 64 ∷ v.text.now
+encoded_tag v = after 64 (chars v.text.now) v.text.now (omega arith) (text v.text.now (IsUtf8-had _ v.utf8))
 
--- the IRI of xsd:string is ASCII
+-- a type
 pub xsd : encodes xsd_string ≡ xsd_string
 unfolding encode
 xsd = refl
@@ -153,15 +106,8 @@ same_type w u =
     (λ f. f ∙ sym (false_from_ne_true _ (λ t. false≢true (sym f ∙ D.1 (encodes_same (chars w) xsd_string (text w u ∙ (E.0 t ∙ sym xsd)))))))
     (cases_Bool (bytes_eq (chars w) xsd_string))
 
--- a datatype that is written, or left out, in bytes
-type : (b : Bool) (w : List ℕ) → IsUtf8 w → encodes (type_text b (chars w)) ≡ type_text b w
-type true w u = refl
-type false w u = after 94 (94 ∷ iri_text (chars w)) (94 ∷ iri_text w) (omega arith) (after 94 (iri_text (chars w)) (iri_text w) (omega arith) (iri w u))
-
--- a tag or a datatype, in bytes
-tail : (t : TailRef) → encodes (tail_text (tail_by chars t)) ≡ tail_bytes t
-tail (tail_ref.Lang v) = after 64 (chars v.text.now) v.text.now (omega arith) (text v.text.now (IsUtf8-had _ v.utf8))
-tail (tail_ref.Typed v) = ap (λ b. encodes (type_text b (chars v.text.now))) (same_type v.text.now (IsUtf8-had _ v.utf8)) ∙ type (bytes_eq v.text.now xsd_string) v.text.now (IsUtf8-had _ v.utf8)
+pub encoded_type : (e : Escapes) (i : List ℕ) → encode_utf8_all (94 ∷ 94 ∷ iri_text e i) ≡ 94 ∷ 94 ∷ encode_utf8_all (iri_text e i)
+encoded_type e i = after 94 (94 ∷ iri_text e i) _ (omega arith) (after 94 (iri_text e i) _ (omega arith) refl)
 
 -- a text and its bytes
 record Coded (u a : List ℕ) : Type 0 where
@@ -171,41 +117,29 @@ record Coded (u a : List ℕ) : Type 0 where
 joined : {u v a b : List ℕ} → Coded u a → Coded v b → Coded (u ++ v) (a ++ b)
 joined {u} {v} {a} {b} e f = record { is = encodes-append u v ∙ (ap (λ x. x ++ encodes v) e.is ∙ ap (λ x. a ++ x) f.is) }
 
--- a literal, in bytes
-literal : (w : List ℕ) (t : TailRef) → IsUtf8 w → Coded (string_text (chars w) ++ tail_text (tail_by chars t)) (string_text w ++ tail_bytes t)
-literal w t u =
-    let a : Coded (string_text (chars w)) (string_text w) = record { is = string w u } in
-    let b : Coded (tail_text (tail_by chars t)) (tail_bytes t) = record { is = tail t } in
-    joined a b
-
--- an object, in bytes
-term : (s : Style) (t : TermRef) → encodes (term_text (rename_term s (term_by chars t))) ≡ term_bytes s t
-term s (term_ref.Iri v) = iri v.text.now (IsUtf8-had _ v.utf8)
-term s (term_ref.Node n) = encoded_node s n
-term s (term_ref.Literal l) = (literal l.lexical.now l.tail (IsUtf8-had _ l.utf8)).is
-
 -- the space between terms is its own byte
 blank : Coded space space
 blank = record { is = low 32 [] (omega arith) }
 
--- a graph label with its space, in bytes
-labelled : (s : Style) (g : SubjectRef) → Coded (subject_text (rename_subject s (subject_by chars g)) ++ space) (subject_bytes s g ++ space)
-labelled s g =
-    let a : Coded (subject_text (rename_subject s (subject_by chars g))) (subject_bytes s g) = record { is = subject s g } in
-    joined a blank
+itself : (u : List ℕ) → Coded u (encodes u)
+itself u = record { is = refl }
 
--- a graph label or none, in bytes
-graph : (s : Style) (g : Option SubjectRef) → encodes (graph_text (option_map (rename_subject s) (option_map (subject_by chars) g))) ≡ graph_bytes s g
-graph s None = refl
-graph s (Some g) = (labelled s g).is
+-- a graph label, and its space
+pub encoded_graph : (s : Style) (e : Escapes) (g : SubjectRef) → graph_bytes s e (Some g) ≡ subject_bytes s e g ++ space
+encoded_graph s e g = (joined (itself (subject_text e (rename_subject s (subject_by chars g)))) blank).is
 
 -- the line that is written from bytes is the UTF-8 of the line by the definition
-pub encoded_line : (s : Style) (q : QuadRef) → encode_utf8_all (line s (quad_by chars q)) ≡ line_bytes s q
-encoded_line s q =
-    let a = labelled s q.subject in
-    let b : Coded (iri_text (chars q.predicate.text.now)) (iri_text q.predicate.text.now) = record { is = iri q.predicate.text.now (IsUtf8-had _ q.predicate.utf8) } in
-    let c : Coded (term_text (rename_term s (term_by chars q.object))) (term_bytes s q.object) = record { is = term s q.object } in
-    let d : Coded (graph_text (option_map (rename_subject s) (option_map (subject_by chars) q.graph))) (graph_bytes s q.graph) = record { is = graph s q.graph } in
-    let e : Coded (46 ∷ []) (46 ∷ []) = record { is = low 46 [] (omega arith) } in
-    let f : Coded (10 ∷ []) (10 ∷ []) = record { is = low 10 [] (omega arith) } in
-    (joined (joined (joined (joined (joined a (joined b blank)) (joined c blank)) d) e) f).is
+pub encoded_line : (s : Style) (e : Escapes) (q : QuadRef) →
+    line_bytes s e q ≡ (subject_bytes s e q.subject ++ space) ++ (iri_bytes e q.predicate ++ space) ++ (term_bytes s e q.object ++ space) ++ graph_bytes s e q.graph ++ (46 ∷ []) ++ (10 ∷ [])
+encoded_line s e q =
+    let a = joined (itself (subject_text e (rename_subject s (subject_by chars q.subject)))) blank in
+    let b = joined (itself (iri_text e (iri_chars q.predicate))) blank in
+    let c = joined (itself (term_text e (rename_term s (term_by chars q.object)))) blank in
+    let d = itself (graph_text e (option_map (rename_subject s) (option_map (subject_by chars) q.graph))) in
+    let f : Coded (46 ∷ []) (46 ∷ []) = record { is = low 46 [] (omega arith) } in
+    let g : Coded (10 ∷ []) (10 ∷ []) = record { is = low 10 [] (omega arith) } in
+    (joined (joined (joined (joined (joined a b) c) d) f) g).is
+
+-- a string, and what follows it
+pub literal_bytes : (e : Escapes) (w : List ℕ) (t : TailRef) → encode_utf8_all (string_text e (chars w) ++ tail_text e (tail_by chars t)) ≡ string_bytes_of e w ++ tail_bytes e t
+literal_bytes e w t = encodes-append (string_text e (chars w)) (tail_text e (tail_by chars t))

@@ -17,17 +17,19 @@ use Rattle.rdf_terms.specs.Terms.{Label, Tail, Lang, Typed, Subject, Iri, Blank,
 use Rattle.rdf_iri.specs.Texts.{byte_len}
 use Rattle.rdf_lines.specs.declared.form.LineForm.{LineForm}
 use Rattle.rdf_lines.specs.declared.form.LineForm.TheVariants.{NTriples, NQuads}
+use Rattle.rdf_lines.specs.declared.form.Escapes.TheVariants.{Plain}
 use Rattle.rdf_lines.specs.declared.form.Style.TheVariants.{Kept}
 use Rattle.rdf_lines.specs.Canonical.{type_count, tail_count, term_count, graph_count, quad_count, count, LabelFits, IsTaken}
 use Rattle.rdf_lines.specs.Fronts.{Stands, IriStands, LabelStands, TagStands, StringStands, SubjectStands, PredicateStands, TailStands, ObjectStands, GraphStands, LineStands, LinesStand, AreLines, NoEscapes}
 use Rattle.rdf_lines.specs.Laws.{TermShort, TailShort, GraphShort, TokensWithin}
-use Rattle.rdf_lines.specs.Writing.{CanWriteTerm, is_escaped, escaped, iri_text, subject_text, string_text, type_text, tail_text, term_text, space, graph_text, quad_text, rename, text}
+use Rattle.rdf_lines.specs.Writing.{CanWriteTerm, written, escaped, iri_text, subject_text, string_text, type_text, tail_text, term_text, space, graph_text, quad_text, rename, text}
 use Rattle.rdf_terms.specs.Runs.{iri_byte, is_text_byte, IsRun}
 use Rattle.rdf_terms.proofs.IriBytes.{iri_bytes}
 use Rattle.rdf_terms.proofs.RunsLemmas.{run_decides}
 use Rattle.rdf_lines.proofs.CanonicalLines.{kept}
-use Rattle.rdf_lines.proofs.PlainRuns.{plain_front, run_plain}
-use Rattle.rdf_lines.proofs.EncodedLine.{low, escaped_text, xsd, same_type}
+use Rattle.rdf_lines.proofs.EscapedRuns.{each}
+use Rattle.rdf_lines.proofs.PlainRuns.{is_escaped, plain_front, run_plain, escaped_text}
+use Rattle.rdf_lines.proofs.EncodedLine.{low, xsd, same_type}
 
 -- what holds of an answer
 pub if_some : {A : Type 0} (o : Option A) (P Q : A → Type 0) → ((x : A) → P x → Q x) → IfSome o P → IfSome o Q
@@ -83,7 +85,7 @@ pub iri_stands : (limit : ℕ) (part a b : List ℕ) → IsUtf8 part → all_hav
 iri_stands limit part a b u h s l e = record {
   is = record { characters = h; scheme = s };
   within = subst (λ x. length x ≤ limit) (sym (encodes-chars part u)) l;
-  stands = stands_then (chars part) (62 ∷ []) a (62 ∷ b) b (stands_text part a (62 ∷ b) u e) (stands_byte 62 (62 ∷ b) b (omega arith) refl);
+  stands = subst (λ w. Stands (w ++ 62 ∷ []) a b) (sym (each (chars part))) (stands_then (chars part) (62 ∷ []) a (62 ∷ b) b (stands_text part a (62 ∷ b) u e) (stands_byte 62 (62 ∷ b) b (omega arith) refl));
 }
 
 pub label_stands : (part a b : List ℕ) → IsUtf8 part → IsLabel (chars part) → a ≡ part ++ b → LabelStands a b
@@ -101,8 +103,8 @@ all_scalar (c ∷ w) e = let p = and_parts (Utf8.scalar c) (scalars w) e in and_
 
 pub string_stands : (part a b : List ℕ) → IsUtf8 part → NoEscapes part → a ≡ part ++ 34 ∷ b → StringStands a b
 string_stands part a b u n e =
-    let w = flat_map escaped (chars part) in
-    let same : encode_utf8_all w ≡ part = escaped_text (chars part) ∙ (ap (flat_map escaped) (encodes-chars part u) ∙ n) in
+    let w = flat_map (escaped Plain) (chars part) in
+    let same : encode_utf8_all w ≡ part = escaped_text (chars part) ∙ (ap (flat_map (escaped Plain)) (encodes-chars part u) ∙ n) in
     let front : Stands w a (34 ∷ b) = e ∙ ap (λ x. x ++ 34 ∷ b) (sym same) in
     record {
       string = chars part;
@@ -112,15 +114,15 @@ string_stands part a b u n e =
 
 module _ (limit : ℕ) where
   -- an IRI in its brackets
-  bracketed : (i a b c : List ℕ) → a ≡ 60 ∷ b → IriStands limit i b c → Stands (iri_text i) a c
-  bracketed i a b c e h = stands_then (60 ∷ []) (i ++ 62 ∷ []) a b c (stands_byte 60 a b (omega arith) e) h.stands
+  bracketed : (i a b c : List ℕ) → a ≡ 60 ∷ b → IriStands limit i b c → Stands (iri_text Plain i) a c
+  bracketed i a b c e h = stands_then (60 ∷ []) (flat_map (written Plain) i ++ 62 ∷ []) a b c (stands_byte 60 a b (omega arith) e) h.stands
 
   -- a part and a space
   spaced : (w a b c : List ℕ) → Stands w a b → b ≡ 32 ∷ c → Stands (w ++ space) a c
   spaced w a b c h e = stands_then w space a b c h (stands_byte 32 b c (omega arith) e)
 
   pub iri_subject : (i a b c d : List ℕ) → a ≡ 60 ∷ b → IriStands limit i b c → c ≡ 32 ∷ d → SubjectStands limit a d
-  iri_subject i a b c d e h f = record { subject = Iri i; is = h.is; labels = tt; within = h.within; stands = spaced (iri_text i) a c d (bracketed i a b c e h) f }
+  iri_subject i a b c d e h f = record { subject = Iri i; is = h.is; labels = tt; within = h.within; stands = spaced (iri_text Plain i) a c d (bracketed i a b c e h) f }
 
   pub label_subject : (a b c d r : List ℕ) → a ≡ 95 ∷ b → b ≡ 58 ∷ c → LabelStands c d → d ≡ 32 ∷ r → SubjectStands limit a r
   label_subject a b c d r e f h g =
@@ -128,7 +130,7 @@ module _ (limit : ℕ) where
       record { subject = Blank (Label h.label); is = h.is; labels = tt; within = tt; stands = spaced (95 ∷ 58 ∷ h.label) a d r (stands_then (95 ∷ 58 ∷ []) h.label a c d mark h.stands) g }
 
   pub predicate_stands : (i a b c d : List ℕ) → a ≡ 60 ∷ b → IriStands limit i b c → c ≡ 32 ∷ d → PredicateStands limit a d
-  predicate_stands i a b c d e h f = record { predicate = i; is = h.is; within = h.within; stands = spaced (iri_text i) a c d (bracketed i a b c e h) f }
+  predicate_stands i a b c d e h f = record { predicate = i; is = h.is; within = h.within; stands = spaced (iri_text Plain i) a c d (bracketed i a b c e h) f }
 
   -- an object
   pub named_object : (a b : List ℕ) → SubjectStands limit a b → ObjectStands limit 1 a b
@@ -136,14 +138,14 @@ module _ (limit : ℕ) where
 
   pub literal_object : (n : ℕ) (a b c d : List ℕ) → a ≡ 34 ∷ b → StringStands b c → TailStands limit n c d → ObjectStands limit (n + 1) a d
   literal_object n a b c d e s t =
-      let w : Stands (string_text s.string) a c = stands_then (34 ∷ []) (flat_map escaped s.string ++ 34 ∷ []) a b c (stands_byte 34 a b (omega arith) e) s.stands in
+      let w : Stands (string_text Plain s.string) a c = stands_then (34 ∷ []) (flat_map (escaped Plain) s.string ++ 34 ∷ []) a b c (stands_byte 34 a b (omega arith) e) s.stands in
       record {
         object = Literal s.string t.tail;
         is = (s.is, t.is);
         labels = tt;
         within = t.within;
         count = let k = t.count in omega (arith, k);
-        stands = subst (λ x. Stands x a d) (sym (append_assoc (string_text s.string) (tail_text t.tail) space)) (stands_then (string_text s.string) (tail_text t.tail ++ space) a c d w t.stands);
+        stands = subst (λ x. Stands x a d) (sym (append_assoc (string_text Plain s.string) (tail_text Plain t.tail) space)) (stands_then (string_text Plain s.string) (tail_text Plain t.tail ++ space) a c d w t.stands);
       }
 
   xsd_iri : IsIri xsd_string
@@ -172,13 +174,13 @@ module _ (limit : ℕ) where
   typed_tail i a b c d f g u n e k l h m =
       let other : bytes_eq (chars i) xsd_string ≡ false = same_type i u ∙ n in
       let carets : Stands (94 ∷ 94 ∷ []) a c = stands_then (94 ∷ []) (94 ∷ []) a b c (stands_byte 94 a b (omega arith) e) (stands_byte 94 b c (omega arith) k) in
-      let all : Stands (type_text false (chars i) ++ space) a g = spaced (94 ∷ 94 ∷ iri_text (chars i)) a f g (stands_then (94 ∷ 94 ∷ []) (iri_text (chars i)) a c f carets (bracketed (chars i) c d f l h)) m in
+      let all : Stands (type_text Plain false (chars i) ++ space) a g = spaced (94 ∷ 94 ∷ iri_text Plain (chars i)) a f g (stands_then (94 ∷ 94 ∷ []) (iri_text Plain (chars i)) a c f carets (bracketed (chars i) c d f l h)) m in
       record {
         tail = Typed (chars i);
         is = h.is;
         within = h.within;
         count = sym (ap type_count other);
-        stands = subst (λ t. Stands (type_text t (chars i) ++ space) a g) (sym other) all;
+        stands = subst (λ t. Stands (type_text Plain t (chars i) ++ space) a g) (sym other) all;
       }
 
   -- a graph label
@@ -194,29 +196,29 @@ module _ (limit : ℕ) where
 
 -- no token of a line is longer than the line, but for a datatype that is not written
 module _ (n : ℕ) (roomy : 64 ≤ n) where
-  typed_short : (b : Bool) (i : List ℕ) → (b ≡ true → i ≡ xsd_string) → length (type_text b i) ≤ n → length (iri_text i) ≤ n
-  typed_short true i e l = let k : length (iri_text xsd_string) ≡ 41 = refl in let same : length (iri_text i) ≡ length (iri_text xsd_string) = ap (λ x. length (iri_text x)) (e refl) in omega (arith, k, same)
+  typed_short : (b : Bool) (i : List ℕ) → (b ≡ true → i ≡ xsd_string) → length (type_text Plain b i) ≤ n → length (iri_text Plain i) ≤ n
+  typed_short true i e l = let k : length (iri_text Plain xsd_string) ≡ 41 = refl in let same : length (iri_text Plain i) ≡ length (iri_text Plain xsd_string) = ap (λ x. length (iri_text Plain x)) (e refl) in omega (arith, k, same)
   typed_short false i e l = omega arith
 
-  tail_short : (t : Tail) → length (tail_text t) ≤ n → TailShort n t
+  tail_short : (t : Tail) → length (tail_text Plain t) ≤ n → TailShort Plain n t
   tail_short (Lang t) l = l
   tail_short (Typed i) l = typed_short (bytes_eq i xsd_string) i (bytes_eq-Decides i xsd_string).0 l
 
-  term_short : (t : Term) → length (term_text t) ≤ n → TermShort n t
+  term_short : (t : Term) → length (term_text Plain t) ≤ n → TermShort Plain n t
   term_short (Resource s) l = l
   term_short (Literal w t) l =
-      let k = length-append (string_text w) (tail_text t) in (omega (arith, k), tail_short t (omega (arith, k)))
+      let k = length-append (string_text Plain w) (tail_text Plain t) in (omega (arith, k), tail_short t (omega (arith, k)))
 
-  graph_short : (g : Option Subject) → length (graph_text g) ≤ n → GraphShort n g
+  graph_short : (g : Option Subject) → length (graph_text Plain g) ≤ n → GraphShort Plain n g
   graph_short None l = tt
-  graph_short (Some g) l = let k = length-append (subject_text g) space in omega (arith, k)
+  graph_short (Some g) l = let k = length-append (subject_text Plain g) space in omega (arith, k)
 
-  tokens_within : (q : Quad) → length (quad_text q) ≤ n → TokensWithin n q
+  tokens_within : (q : Quad) → length (quad_text Plain q) ≤ n → TokensWithin Plain n q
   tokens_within q l =
-      let a = subject_text q.subject in
-      let b = iri_text q.predicate in
-      let c = term_text q.object in
-      let g = graph_text q.graph in
+      let a = subject_text Plain q.subject in
+      let b = iri_text Plain q.predicate in
+      let c = term_text Plain q.object in
+      let g = graph_text Plain q.graph in
       let e = length-append ((((a ++ space) ++ (b ++ space)) ++ (c ++ space)) ++ g ++ (46 ∷ [])) (10 ∷ []) in
       let f = length-append ((((a ++ space) ++ (b ++ space)) ++ (c ++ space)) ++ g) (46 ∷ []) in
       let h = length-append (((a ++ space) ++ (b ++ space)) ++ (c ++ space)) g in
@@ -250,20 +252,20 @@ line_stands form token limit m n a b c d f g h s p o r e k roomy l = record {
     q : Quad
     q = record { subject = s.subject; predicate = p.predicate; object = o.object; graph = r.graph }
 
-    all : Stands (quad_text q) a h
+    all : Stands (quad_text Plain q) a h
     all =
         stands_then _ (10 ∷ []) a g h
         (stands_then _ (46 ∷ []) a f g
-        (stands_then _ (graph_text r.graph) a d f
-        (stands_then _ (term_text o.object ++ space) a c d
-        (stands_then (subject_text s.subject ++ space) (iri_text p.predicate ++ space) a b c s.stands p.stands)
+        (stands_then _ (graph_text Plain r.graph) a d f
+        (stands_then _ (term_text Plain o.object ++ space) a c d
+        (stands_then (subject_text Plain s.subject ++ space) (iri_text Plain p.predicate ++ space) a b c s.stands p.stands)
         o.stands)
         r.stands)
         (stands_byte 46 f g (omega arith) e))
         (stands_byte 10 g h (omega arith) k)
 
-    short : length (quad_text q) ≤ token
-    short = let few = length-le-encodes (quad_text q) in omega (arith, few, l, ap length all, length-append (encode_utf8_all (quad_text q)) h)
+    short : length (quad_text Plain q) ≤ token
+    short = let few = length-le-encodes (quad_text Plain q) in omega (arith, few, l, ap length all, length-append (encode_utf8_all (quad_text Plain q)) h)
 
 -- lines, one after another
 pub lines_none : (form : LineForm) (token iri : ℕ) (a : List ℕ) → LinesStand form token iri 0 0 a a
@@ -281,13 +283,13 @@ module _ (form : LineForm) (token iri : ℕ) where
   pub lines_more : (n m k : ℕ) (a b c : List ℕ) → LinesStand form token iri n m a b → LineStands form token iri k b c → LinesStand form token iri (n + 1) (m + k) a c
   lines_more n m k a b c h l =
       let one = l.quad ∷ [] in
-      let line : Stands (text Kept one) b c = subst (λ w. Stands w b c) (sym (append-nil (quad_text (rename Kept l.quad)) ∙ ap quad_text (kept l.quad))) l.stands in
+      let line : Stands (text Kept Plain one) b c = subst (λ w. Stands w b c) (sym (append-nil (quad_text Plain (rename Kept l.quad)) ∙ ap (quad_text Plain) (kept l.quad))) l.stands in
       record {
         given = h.given ++ one;
         each = each-append h.given one h.each (l.is, tt);
         quad_count = let x = h.quad_count in omega (arith, x, length-append h.given one);
         token_count = let x = h.token_count in let y = l.count in omega (arith, x, y, count-append h.given one);
-        stands = subst (λ w. Stands w a c) (sym (flat_map-append (λ q. quad_text (rename Kept q)) h.given one)) (stands_then (text Kept h.given) (text Kept one) a b c h.stands line);
+        stands = subst (λ w. Stands w a c) (sym (flat_map-append (λ q. quad_text Plain (rename Kept q)) h.given one)) (stands_then (text Kept Plain h.given) (text Kept Plain one) a b c h.stands line);
       }
 
 -- there are no more tokens than bytes, nor quads
@@ -300,16 +302,16 @@ few_tokens (Literal w (Typed i)) = by (bytes_eq i xsd_string)
     by true = omega arith
     by false = omega arith
 
-label_long : (g : Option Subject) → graph_count g ≤ length (graph_text g)
+label_long : (g : Option Subject) → graph_count g ≤ length (graph_text Plain g)
 label_long None = omega arith
-label_long (Some g) = let k = length-append (subject_text g) space in omega (arith, k)
+label_long (Some g) = let k = length-append (subject_text Plain g) space in omega (arith, k)
 
-quad_long : (q : Quad) → quad_count q ≤ length (quad_text q)
+quad_long : (q : Quad) → quad_count q ≤ length (quad_text Plain q)
 quad_long q =
-    let a = subject_text q.subject in
-    let b = iri_text q.predicate in
-    let c = term_text q.object in
-    let g = graph_text q.graph in
+    let a = subject_text Plain q.subject in
+    let b = iri_text Plain q.predicate in
+    let c = term_text Plain q.object in
+    let g = graph_text Plain q.graph in
     let e = length-append ((((a ++ space) ++ (b ++ space)) ++ (c ++ space)) ++ g ++ (46 ∷ [])) (10 ∷ []) in
     let f = length-append ((((a ++ space) ++ (b ++ space)) ++ (c ++ space)) ++ g) (46 ∷ []) in
     let h = length-append (((a ++ space) ++ (b ++ space)) ++ (c ++ space)) g in
@@ -318,37 +320,37 @@ quad_long q =
     let k = length-append a space in
     let m = length-append b space in
     let o = length-append c space in
-    let p = length-append q.predicate (62 ∷ []) in
+    let p = length-append (flat_map (written Plain) q.predicate) (62 ∷ []) in
     omega (arith, e, f, h, i, j, k, m, o, p, few_tokens q.object, label_long q.graph)
 
-text_long : (qs : List Quad) → (count qs ≤ length (text Kept qs)) × (length qs ≤ count qs)
+text_long : (qs : List Quad) → (count qs ≤ length (text Kept Plain qs)) × (length qs ≤ count qs)
 text_long [] = (omega arith, omega arith)
 text_long (q ∷ qs) =
     let r = text_long qs in
-    let k = length-append (quad_text (rename Kept q)) (text Kept qs) in
-    let l : length (quad_text (rename Kept q)) ≡ length (quad_text q) = ap (λ x. length (quad_text x)) (kept q) in
+    let k = length-append (quad_text Plain (rename Kept q)) (text Kept Plain qs) in
+    let l : length (quad_text Plain (rename Kept q)) ≡ length (quad_text Plain q) = ap (λ x. length (quad_text Plain x)) (kept q) in
     (omega (arith, r.0, k, l, quad_long q), omega (arith, r.1))
 
 pub lines_few : (form : LineForm) (token iri n m : ℕ) (a b : List ℕ) → LinesStand form token iri n m a b → (m + length b ≤ length a) × (n ≤ m)
 lines_few form token iri n m a b h =
     let l = text_long h.given in
-    let k = length-le-encodes (text Kept h.given) in
-    let s = ap length h.stands ∙ length-append (encode_utf8_all (text Kept h.given)) b in
+    let k = length-le-encodes (text Kept Plain h.given) in
+    let s = ap length h.stands ∙ length-append (encode_utf8_all (text Kept Plain h.given)) b in
     let x = h.token_count in
     let y = h.quad_count in
     (omega (arith, l.0, k, s, x), omega (arith, l.1, x, y))
 
 pub line_goes_on : (form : LineForm) (token iri n : ℕ) (a b : List ℕ) → LineStands form token iri n a b → (n + length b ≤ length a) × (0 < n)
 line_goes_on form token iri n a b h =
-    let k = length-le-encodes (quad_text h.quad) in
-    let s = ap length h.stands ∙ length-append (encode_utf8_all (quad_text h.quad)) b in
+    let k = length-le-encodes (quad_text Plain h.quad) in
+    let s = ap length h.stands ∙ length-append (encode_utf8_all (quad_text Plain h.quad)) b in
     let x = h.count in
     (omega (arith, quad_long h.quad, k, s, x), omega (arith, x))
 
 -- the bytes before the rest
 pub lines_front : (form : LineForm) (token iri n m : ℕ) (a b : List ℕ) → LinesStand form token iri n m a b → AreLines form token iri n m (take (length a - length b) a)
 lines_front form token iri n m a b h =
-    let w = encode_utf8_all (text Kept h.given) in
+    let w = encode_utf8_all (text Kept Plain h.given) in
     let s = ap length h.stands ∙ length-append w b in
     let size : length a - length b ≡ length w = omega (arith, s) in
     record {

@@ -1,5 +1,5 @@
 -- The laws at two quads that have each kind of node, a string with characters that are escaped, and a graph label; and at a document of one line.
-use Rattle.std.proofs.Common.{◌≡◌, ◌≢◌, ℕ, true, false, List, [], ◌∷◌, ◌++◌, refl, sym, ◌∙◌, subst, Some, None, lit<, lit≤}
+use Rattle.std.proofs.Common.{◌≡◌, ◌≢◌, ℕ, ◌<◌, true, false, List, [], ◌∷◌, ◌++◌, refl, sym, ◌∙◌, subst, Some, None, lit<, lit≤}
 use Rattle.std.specs.Prelude.{codes, map, encode_utf8_all}
 use Rattle.std.specs.List.{AllByRecursion}
 use Rattle.std.proofs.Math.Utf8.{encode}
@@ -21,6 +21,7 @@ use Rattle.rdf_tokens.specs.Grammars.{Marked, unmarked, Due, IsWithin, GoesOn, R
 use Rattle.rdf_driver.specs.Readers.{Driven, HasRead}
 use Rattle.rdf_lines.specs.declared.form.LineForm.TheVariants.{NTriples, NQuads}
 use Rattle.rdf_terms.proofs.ShapesLemmas.{form-matches}
+use Rattle.rdf_lines.specs.declared.form.Escapes.TheVariants.{Plain, Ascii}
 use Rattle.rdf_lines.specs.declared.form.Style.TheVariants.{Kept, Tagged}
 use Rattle.rdf_lines.specs.Lines.{Leaf, Ref, Named, Document, last, next, empty, one, document_tokens, documents, trees}
 use Rattle.rdf_lines.specs.Machine.{Begin, ran, run}
@@ -31,6 +32,7 @@ use Rattle.rdf_lines.specs.Laws.{ReadsBack, IrisWithin, TokensWithin}
 use Rattle.rdf_lines.proofs.AcceptedLemmas.{quads_due, documents_read, refused_none, text_read}
 use Rattle.rdf_lines.proofs.Due.{due_ran}
 use Rattle.rdf_lines.proofs.SettledLemmas.{quads_settled, due_settled, due_begins}
+use Rattle.rdf_lines.proofs.AsciiLemmas.{ascii_written}
 use Rattle.rdf_lines.proofs.ReadBack.{bytes_read_back, tokens_read_back}
 use Rattle.rdf_lines.proofs.WellFormed.{document_writable}
 use Rattle.rdf_lines.proofs.WrittenLimits.{document_read_back}
@@ -65,7 +67,7 @@ unfolding has
 tag_is = form-matches tag_name tag refl
 
 -- what is written for the quads, with their nodes named by their offsets
-pub written : text Tagged example ≡ codes "_:na27 <http://a/p> _:a27 .\n_:c27 <http://a/p> \"\\\"\\né\"@en-GB <http://a/p> .\n"
+pub written : text Tagged Plain example ≡ codes "_:na27 <http://a/p> _:a27 .\n_:c27 <http://a/p> \"\\\"\\né\"@en-GB <http://a/p> .\n"
 unfolding digits
 written = refl
 
@@ -80,9 +82,29 @@ writable = (
 )
 
 -- what was written reads back as the quads
-pub example_reads_back : ReadsBack Tagged example 80
+pub example_reads_back : ReadsBack Tagged Plain example 80
 unfolding digits
-example_reads_back = bytes_read_back Tagged example 80 writable (lit≤ tt)
+example_reads_back = bytes_read_back Tagged Plain example 80 writable (lit≤ tt)
+
+-- in ASCII U+00E9 and U+1F600 are written as escapes, in strings and in IRIs, and each byte is below 128
+abbrev faces : List Quad
+faces = record { subject = Blank (Label label); predicate = codes "http://a/é"; object = Literal (0x1F600 ∷ []) (Lang tag); graph = None } ∷ []
+
+pub ascii_written_so : text Tagged Ascii faces ≡ codes "_:na27 <http://a/\\u00E9> \"\\U0001F600\"@en-GB .\n"
+ascii_written_so = refl
+
+faces_writable : Writable Tagged faces
+unfolding has
+faces_writable = ((record { subject = label_is; predicate = record { characters = refl; scheme = refl }; object = (refl, tag_is); graph = tt }, record { subject = tt; object = tt; graph = tt }), tt)
+
+low_label : AllByRecursion (λ c. c < 128) label
+low_label = (lit< tt, (lit< tt, (lit< tt, tt)))
+
+pub ascii_is_low : AllByRecursion (λ b. b < 128) (encode_utf8_all (text Tagged Ascii faces))
+ascii_is_low = ascii_written Tagged faces faces_writable (record { subject = low_label; object = tt; graph = tt }, tt)
+
+pub ascii_reads_back : ReadsBack Tagged Ascii faces 60
+ascii_reads_back = bytes_read_back Tagged Ascii faces 60 faces_writable (lit≤ tt)
 
 -- a label that looks like an offset is kept apart from the node of that offset
 pub label_and_node_apart : rename_node Tagged (Label label) ≢ rename_node Tagged (Anon 27)
@@ -97,10 +119,10 @@ short = (
 )
 
 abbrev bytes : List ℕ
-bytes = encode_utf8_all (text Tagged example)
+bytes = encode_utf8_all (text Tagged Plain example)
 
 -- no part of the lines is longer than 12 characters
-short_tokens : AllByRecursion (TokensWithin 12) (map (rename Tagged) example)
+short_tokens : AllByRecursion (TokensWithin Plain 12) (map (rename Tagged) example)
 unfolding digits
 short_tokens = (
   record { subject = lit≤ tt; predicate = lit≤ tt; object = lit≤ tt; graph = tt },
@@ -109,11 +131,11 @@ short_tokens = (
 
 -- the lines are read to their end under that limit
 pub example_is_read : IsReadToItsEnd (in_lines NQuads 12 10) bytes
-example_is_read = text_read Tagged example 12 10 writable (lit≤ tt) short_tokens short
+example_is_read = text_read Tagged Plain example 12 10 writable (lit≤ tt) short_tokens short
 
 -- under a limit of 12 characters what was written reads back as the quads
-short_reads_back : ReadsBack Tagged example 12
-short_reads_back = tokens_read_back Tagged example 12 writable (lit≤ tt) short_tokens
+short_reads_back : ReadsBack Tagged Plain example 12
+short_reads_back = tokens_read_back Tagged Plain example 12 writable (lit≤ tt) short_tokens
 
 -- they are refused nowhere, and are a document that is read
 within : IsWithin (in_lines NQuads 12 10) bytes
@@ -137,9 +159,9 @@ pub example_is_writable : Writable Kept (map (rename Tagged) example)
 example_is_writable = document_writable NQuads 12 10 bytes (map (rename Tagged) example) (short_reads_back 10)
 
 -- the lines of renamed quads are read to their end
-pub example_lines_are_read : IsReadToItsEnd (in_lines NQuads 64 64) (encode_utf8_all (text Kept (map (rename Tagged) example)))
+pub example_lines_are_read : IsReadToItsEnd (in_lines NQuads 64 64) (encode_utf8_all (text Kept Plain (map (rename Tagged) example)))
 example_lines_are_read =
-    document_read_back NQuads 12 10 bytes (map (rename Tagged) example) (short_reads_back 10) example_is_read.whole 64 64 (lit≤ tt) (lit≤ tt) (lit≤ tt) (lit≤ tt) (lit≤ tt)
+    document_read_back Plain NQuads 12 10 bytes (map (rename Tagged) example) (short_reads_back 10) example_is_read.whole 64 64 (lit≤ tt) (lit≤ tt) (lit≤ tt) (lit≤ tt) (lit≤ tt)
 
 -- a line of N-Triples
 abbrev one_line : List ℕ

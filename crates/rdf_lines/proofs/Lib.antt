@@ -1,4 +1,6 @@
 pub mod NextToken
+pub mod UcharLemmas
+pub mod AsciiLemmas
 pub mod WritingLemmas
 pub mod SpelledLine
 pub mod Renamed
@@ -14,6 +16,7 @@ mod Refusals
 mod Lag
 mod Due
 pub mod EncodedLine
+pub mod EscapedRuns
 pub mod PlainRuns
 pub mod WrittenBytesLemmas
 pub mod LawExamples

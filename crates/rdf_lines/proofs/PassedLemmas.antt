@@ -14,6 +14,7 @@ use Rattle.rdf_driver.specs.Passing.{can_pass, passed, LeadsBack}
 use Rattle.rdf_driver.proofs.PassingLemmas.{can_pass-parts}
 use Rattle.rdf_lines.specs.declared.rules.Rules.{Rules}
 use Rattle.rdf_lines.specs.declared.form.LineForm.{LineForm}
+use Rattle.rdf_lines.specs.declared.form.Escapes.TheVariants.{Plain}
 use Rattle.rdf_lines.specs.declared.form.Style.TheVariants.{Kept}
 use Rattle.rdf_lines.specs.Machine.{Mode, Begin, AfterSubject, AfterPredicate, AfterString, AfterCarets, AfterObject, AfterGraph, AfterDot, Finished}
 use Rattle.rdf_lines.specs.States.{is_begin}
@@ -30,7 +31,7 @@ past_text (c ∷ w) bytes rest u e =
     past_text w (encodes w ++ rest) rest (IsUtf8-past_char bytes (encodes w ++ rest) c u (e ∙ append_assoc (encode c) (encodes w) rest)) refl
 
 pub rest_utf8 : (form : LineForm) (token iri n m : ℕ) (a b : List ℕ) → IsUtf8 a → LinesStand form token iri n m a b → IsUtf8 b
-rest_utf8 form token iri n m a b u h = past_text (text Kept h.given) a b u h.stands
+rest_utf8 form token iri n m a b u h = past_text (text Kept Plain h.given) a b u h.stands
 
 pub begins : (m : Mode) → is_begin m ≡ true → m ≡ Begin
 begins Begin e = refl

@@ -1,48 +1,73 @@
--- A run without escaped characters is written as it stands.
-use Rattle.std.proofs.Common.{◌≡◌, ℕ, zero, suc, ◌+◌, ◌-◌, ◌<◌, true, false, List, [], ◌∷◌, ◌++◌, refl, sym, ap, ◌∙◌, length, take, drop, get_or, add-one, length-drop, arith}
+-- Texts with no escapes in the plain form, by their bytes.
+use Rattle.std.proofs.Common.{◌≡◌, ◌||◌, ℕ, zero, suc, ◌<◌, ◌≤◌, Bool, true, false, cond, List, [], ◌∷◌, ◌++◌, ◌==◌, refl, sym, ap, ◌∙◌, subst, ⊎_elim, take, get_or, arith}
 use Rattle.std.specs.Prelude.{flat_map}
+use Rattle.std.specs.List.{AllByRecursion}
+use Rattle.std.proofs.Math.Utf8.{encode, encodes}
+use Rattle.std.proofs.lemmas.Bool.{cases_Bool, cases_lt, cond-true, cond-false}
 use Rattle.std.proofs.lemmas.Bool.Decides.{nat_tests}
-use Rattle.std.proofs.Math.Seq.{take-suc, take-add}
-use Rattle.std.proofs.lemmas.List.{append-nil, take_all}
+use Rattle.std.proofs.lemmas.List.{append-nil}
 use Rattle.std.proofs.lemmas.List.Concat.{flat_map-append}
-use Rattle.rdf_terms.specs.Runs.{IsRun, is_text_byte}
-use Rattle.rdf_lines.specs.Writing.{escaped, is_escaped}
+use Rattle.std.proofs.lemmas.Str.{encodes-append}
+use Rattle.rdf_terms.specs.Runs.{is_text_byte}
+use Rattle.rdf_tokens.proofs.GoodLemmas.{encode_one}
+use Rattle.rdf_lines.specs.declared.form.Escapes.TheVariants.{Plain}
+use Rattle.rdf_lines.specs.Writing.{escaped}
+use Rattle.rdf_lines.proofs.EncodedLine.{low, high_bytes}
+
+-- in a string " \ LF CR are escaped
+abbrev pub is_escaped : ℕ → Bool
+is_escaped c = c == 34 || c == 92 || c == 10 || c == 13
 
 -- a character that is not escaped is written as it is
-plain : (c : ℕ) → is_escaped c ≡ false → escaped c ≡ c ∷ []
+plain : (c : ℕ) → is_escaped c ≡ false → escaped Plain c ≡ c ∷ []
 plain c e = grind (arith, nat_tests)
 
 -- a front of characters that are not escaped is written as it is
-pub plain_front : (w : List ℕ) (n : ℕ) → ((k : ℕ) → k < n → is_escaped (get_or w k 0) ≡ false) → flat_map escaped (take n w) ≡ take n w
+pub plain_front : (w : List ℕ) (n : ℕ) → ((k : ℕ) → k < n → is_escaped (get_or w k 0) ≡ false) → flat_map (escaped Plain) (take n w) ≡ take n w
 plain_front w zero h = refl
 plain_front [] (suc n) h = refl
 plain_front (c ∷ w) (suc n) h =
-    ap (λ x. x ++ flat_map escaped (take n w)) (plain c (h 0 (omega arith)))
+    ap (λ x. x ++ flat_map (escaped Plain) (take n w)) (plain c (h 0 (omega arith)))
     ∙ ap (λ x. c ∷ x) (plain_front w n (λ k l. h (suc k) (omega arith)))
 
 -- the bytes that a run goes over stand as they are
 pub run_plain : (c : ℕ) → is_text_byte c ≡ true → is_escaped c ≡ false
 run_plain c e = grind (arith, nat_tests)
 
--- a run of text bytes is written as it is
-run_front : (w : List ℕ) (n : ℕ) → IsRun is_text_byte w 0 n → flat_map escaped (take n w) ≡ take n w
-run_front w n r = plain_front w n (λ k l. run_plain (get_or w k 0) (r.pass k (omega arith) l))
+-- no character from U+0080 on is escaped
+plain_high : (c : ℕ) → 128 ≤ c → escaped Plain c ≡ c ∷ []
+plain_high c l = grind (arith, nat_tests)
 
--- a text that is one run is written as it is, so it may be copied at once
-pub plain_text : (w : List ℕ) (n : ℕ) → IsRun is_text_byte w 0 n → n ≡ length w → flat_map escaped (take n w) ≡ w
-plain_text w n r e = run_front w n r ∙ take_all n w (omega (arith, e))
+-- no byte of such a character is escaped
+high : (bs : List ℕ) → AllByRecursion (λ b. 128 ≤ b) bs → flat_map (escaped Plain) bs ≡ bs
+high [] a = refl
+high (b ∷ bs) a = ap (λ x. x ++ flat_map (escaped Plain) bs) (plain_high b a.0) ∙ ap (λ x. b ∷ x) (high bs a.1)
 
--- a run and the byte behind it
-pub run_written : (w : List ℕ) (n : ℕ) → IsRun is_text_byte w 0 n → n < length w → flat_map escaped (take (n + 1) w) ≡ take n w ++ escaped (get_or w n 0)
-run_written w n r l =
-    ap (flat_map escaped) (ap (λ x. take x w) (add-one n) ∙ take-suc w n 0 l)
-    ∙ (flat_map-append escaped (take n w) (get_or w n 0 ∷ [])
-    ∙ (ap (λ x. x ++ flat_map escaped (get_or w n 0 ∷ [])) (run_front w n r) ∙ ap (λ x. take n w ++ x) (append-nil (escaped (get_or w n 0)))))
+-- an escape is ASCII
+escaped_low : (c : ℕ) → c < 128 → encodes (escaped Plain c) ≡ escaped Plain c
+unfolding encode
+escaped_low c l = test 34 _ _ refl (test 92 _ _ refl (test 10 _ _ refl (test 13 _ _ refl (low c [] l))))
+  where
+    test : (x : ℕ) (u v : List ℕ) → encodes u ≡ u → encodes v ≡ v → encodes (cond (c == x) u v) ≡ cond (c == x) u v
+    test x u v a b =
+        ⊎_elim
+        (λ e. subst (λ y. encodes y ≡ y) (sym (cond-true (c == x) u v e)) a)
+        (λ e. subst (λ y. encodes y ≡ y) (sym (cond-false (c == x) u v e)) b)
+        (cases_Bool (c == x))
 
--- what is done of a text, and a front of what is left
-pub escaped_more : (w : List ℕ) (m n : ℕ) →
-    flat_map escaped (take (m + n) w) ≡ flat_map escaped (take m w) ++ flat_map escaped (take n (take (length w - m) (drop m w)))
-escaped_more w m n =
-    let left : take (length w - m) (drop m w) ≡ drop m w = take_all (length w - m) (drop m w) (omega (arith, length-drop m w)) in
-    ap (flat_map escaped) (take-add m n w)
-    ∙ (flat_map-append escaped (take m w) (take n (drop m w)) ∙ ap (λ x. flat_map escaped (take m w) ++ flat_map escaped (take n x)) (sym left))
+-- a character is escaped alike before and after it is encoded
+escaped_char : (c : ℕ) → encodes (escaped Plain c) ≡ flat_map (escaped Plain) (encode c)
+escaped_char c =
+    ⊎_elim
+    (λ l. escaped_low c l ∙ (sym (append-nil (escaped Plain c)) ∙ ap (flat_map (escaped Plain)) (sym (encode_one c l))))
+    (λ l. ap encodes (plain_high c l) ∙ (append-nil (encode c) ∙ sym (high (encode c) (high_bytes c l))))
+    (cases_lt c 128)
+
+-- a text is escaped alike before and after it is encoded
+pub escaped_text : (cs : List ℕ) → encodes (flat_map (escaped Plain) cs) ≡ flat_map (escaped Plain) (encodes cs)
+escaped_text [] = refl
+escaped_text (c ∷ cs) =
+    encodes-append (escaped Plain c) (flat_map (escaped Plain) cs)
+    ∙ (ap (λ x. x ++ encodes (flat_map (escaped Plain) cs)) (escaped_char c)
+    ∙ (ap (λ x. flat_map (escaped Plain) (encode c) ++ x) (escaped_text cs)
+    ∙ sym (flat_map-append (escaped Plain) (encode c) (encodes cs))))

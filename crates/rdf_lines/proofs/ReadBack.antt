@@ -9,6 +9,7 @@ use Rattle.rdf_tokens.specs.Tokens.Outcome.{complete}
 use Rattle.rdf_lines.specs.Lines.{document_tokens}
 use Rattle.rdf_lines.proofs.PlainQuads.{IsPlain}
 use Rattle.rdf_lines.specs.declared.form.LineForm.TheVariants.{NQuads}
+use Rattle.rdf_lines.specs.declared.form.Escapes.{Escapes}
 use Rattle.rdf_lines.specs.declared.form.Style.{Style}
 use Rattle.rdf_lines.specs.Writing.{rename, quad_text, line, text, Writable}
 use Rattle.rdf_lines.specs.Laws.{ReadsBack, TokensWithin}
@@ -24,41 +25,41 @@ all_written s [] h = tt
 all_written s (q ∷ qs) h = (renamed s q h.0.0 h.0.1, all_written s qs h.1)
 
 -- the text of quads is that of the renamed ones, line by line
-text_renamed : (s : Style) (qs : List Quad) → text s qs ≡ flat_map quad_text (map (rename s) qs)
-text_renamed s [] = refl
-text_renamed s (q ∷ qs) = ap (λ x. line s q ++ x) (text_renamed s qs)
+text_renamed : (s : Style) (e : Escapes) (qs : List Quad) → text s e qs ≡ flat_map (quad_text e) (map (rename s) qs)
+text_renamed s e [] = refl
+text_renamed s e (q ∷ qs) = ap (λ x. line s e q ++ x) (text_renamed s e qs)
 
 -- The tokens of the written bytes are complete, and those of a tree of N-Quads whose quads are the renamed ones.
-abbrev pub HasTree : Style → List Quad → ℕ → Type 0
-HasTree s qs limit =
-    ((tokens_of Lines limit (encode_utf8_all (text s qs)) true).outcome ≡ complete)
-    × IsPlain has_scheme NQuads (tokens_of Lines limit (encode_utf8_all (text s qs)) true).tokens (map (rename s) qs)
+abbrev pub HasTree : Style → Escapes → List Quad → ℕ → Type 0
+HasTree s e qs limit =
+    ((tokens_of Lines limit (encode_utf8_all (text s e qs)) true).outcome ≡ complete)
+    × IsPlain has_scheme NQuads (tokens_of Lines limit (encode_utf8_all (text s e qs)) true).tokens (map (rename s) qs)
 
 -- So it is where no token is longer than the limit.
-short_read_back : (s : Style) (qs : List Quad) (limit : ℕ) → Writable s qs → AllShort limit (document_tokens (document_tree first_place (map (rename s) qs))) → HasTree s qs limit
-short_read_back s qs limit h l =
+short_read_back : (s : Style) (e : Escapes) (qs : List Quad) (limit : ℕ) → Writable s qs → AllShort limit (document_tokens (document_tree e first_place (map (rename s) qs))) → HasTree s e qs limit
+short_read_back s e qs limit h l =
     let w = all_written s qs h in
     let rs = map (rename s) qs in
-    let e : encode_utf8_all (text s qs) ≡ encode_utf8_all (flat_map quad_text rs) = ap encode_utf8_all (text_renamed s qs) in
-    let r = reads_back limit rs w first_place l in
-    let b = encoded_tokens Lines limit (flat_map quad_text rs) (text_scalars rs w) (no_mark rs w) in
+    let same : encode_utf8_all (text s e qs) ≡ encode_utf8_all (flat_map (quad_text e) rs) = ap encode_utf8_all (text_renamed s e qs) in
+    let r = reads_back e limit rs w first_place l in
+    let b = encoded_tokens Lines limit (flat_map (quad_text e) rs) (text_scalars e rs w) (no_mark e rs w) in
     let whole = subst (λ (r : Reading). (r.outcome ≡ complete) × IsPlain has_scheme NQuads r.tokens rs) (sym b) r in
-    subst (λ x. ((tokens_of Lines limit x true).outcome ≡ complete) × IsPlain has_scheme NQuads (tokens_of Lines limit x true).tokens rs) (sym e) whole
+    subst (λ x. ((tokens_of Lines limit x true).outcome ≡ complete) × IsPlain has_scheme NQuads (tokens_of Lines limit x true).tokens rs) (sym same) whole
 
 -- Any limit serves that no token of the quads passes.
-pub tokens_tree : (s : Style) (qs : List Quad) (limit : ℕ) → Writable s qs → 2 ≤ limit → AllByRecursion (TokensWithin limit) (map (rename s) qs) → HasTree s qs limit
-tokens_tree s qs limit h e l = short_read_back s qs limit h (document_short limit (map (rename s) qs) e l first_place)
+pub tokens_tree : (s : Style) (e : Escapes) (qs : List Quad) (limit : ℕ) → Writable s qs → 2 ≤ limit → AllByRecursion (TokensWithin e limit) (map (rename s) qs) → HasTree s e qs limit
+tokens_tree s e qs limit h t l = short_read_back s e qs limit h (document_short e limit (map (rename s) qs) t l first_place)
 
 -- A tree with its marks makes a document.
-marked_back : (s : Style) (qs : List Quad) (limit : ℕ) → HasTree s qs limit → ReadsBack s qs limit
-marked_back s qs limit t iri =
-    let m = document_marked has_scheme NQuads (tokens_of Lines limit (encode_utf8_all (text s qs)) true).tokens (map (rename s) qs) t.1 in (t.0, m.0, m.1, m.2)
+marked_back : (s : Style) (e : Escapes) (qs : List Quad) (limit : ℕ) → HasTree s e qs limit → ReadsBack s e qs limit
+marked_back s e qs limit t iri =
+    let m = document_marked has_scheme NQuads (tokens_of Lines limit (encode_utf8_all (text s e qs)) true).tokens (map (rename s) qs) t.1 in (t.0, m.0, m.1, m.2)
 
 -- The law: what is written reads back, with any limit that is not below the text's length.
-pub bytes_read_back : (s : Style) (qs : List Quad) (limit : ℕ) → Writable s qs → length (text s qs) ≤ limit → ReadsBack s qs limit
-bytes_read_back s qs limit h l =
-    marked_back s qs limit (short_read_back s qs limit h (text_short limit (map (rename s) qs) (all_written s qs h) (subst (λ x. length x ≤ limit) (text_renamed s qs) l) first_place))
+pub bytes_read_back : (s : Style) (e : Escapes) (qs : List Quad) (limit : ℕ) → Writable s qs → length (text s e qs) ≤ limit → ReadsBack s e qs limit
+bytes_read_back s e qs limit h l =
+    marked_back s e qs limit (short_read_back s e qs limit h (text_short e limit (map (rename s) qs) (all_written s qs h) (subst (λ x. length x ≤ limit) (text_renamed s e qs) l) first_place))
 
 -- And with any that no token of the quads passes.
-pub tokens_read_back : (s : Style) (qs : List Quad) (limit : ℕ) → Writable s qs → 2 ≤ limit → AllByRecursion (TokensWithin limit) (map (rename s) qs) → ReadsBack s qs limit
-tokens_read_back s qs limit h e l = marked_back s qs limit (tokens_tree s qs limit h e l)
+pub tokens_read_back : (s : Style) (e : Escapes) (qs : List Quad) (limit : ℕ) → Writable s qs → 2 ≤ limit → AllByRecursion (TokensWithin e limit) (map (rename s) qs) → ReadsBack s e qs limit
+tokens_read_back s e qs limit h t l = marked_back s e qs limit (tokens_tree s e qs limit h t l)

@@ -21,8 +21,9 @@ use Rattle.rdf_lines.specs.Lines as L
 use Rattle.rdf_lines.specs.Lines.{Leaf, Name, Ref, Lab, Object, Named, Plain, WithType, WithTag, Statement, Line, Document, last, next, name_tokens, object_tokens, graph_tokens, statement_tokens, line_tokens, document_tokens, iri_of, string_of, subject_of, term_of, quad_of, name_bound, object_bound, graph_bound, GoodStatement, GoodDocument}
 use Rattle.rdf_lines.proofs.PlainQuads.{plain_quads, IsPlain}
 use Rattle.rdf_lines.specs.declared.form.LineForm.TheVariants.{NQuads}
+use Rattle.rdf_lines.specs.declared.form.Escapes.{Escapes}
 use Rattle.rdf_lines.specs.declared.form.Style.TheVariants.{Kept}
-use Rattle.rdf_lines.specs.Writing.{CanWriteSubject, CanWriteTerm, CanWriteGraph, CanWrite, escaped, iri_text, node_text, subject_text, string_text, type_text, term_text, space, graph_text, quad_text}
+use Rattle.rdf_lines.specs.Writing.{CanWriteSubject, CanWriteTerm, CanWriteGraph, CanWrite, written, escaped, iri_text, node_text, subject_text, string_text, type_text, term_text, space, graph_text, quad_text}
 use Rattle.rdf_lines.specs.Laws.{TermShort, GraphShort, TokensWithin}
 use Rattle.rdf_tokens.proofs.TokensLemmas.{at_stop}
 use Rattle.rdf_terms.proofs.UsedCharacters.{uses}
@@ -136,344 +137,297 @@ tag_space : uses (shape Lines LangTag) 32 ≡ false
 unfolding shape has
 tag_space = refl
 
--- an IRI that is written is an IRIREF
-spells_iri : (limit : ℕ) (i : List ℕ) → IsIri i → Spells limit (iri_text i ++ space) (alone IriRef (iri_text i))
-spells_iri limit i h =
-    spells_before_space limit 60 (i ++ 62 ∷ []) IriRef (λ v. refl) (kind_at 60 IriRef begins_iri (i ++ 62 ∷ []) (iri_shape i h.characters)) (iri_fit i h.characters)
-    (λ v. cut_by_other 60 IriRef begins_iri (i ++ 62 ∷ []) 32 v iri_space)
-
--- a label that is written has its shape
-label_shape : (x : List ℕ) → IsLabel x → Matches (shape Lines LabelNode) (95 ∷ 58 ∷ x)
-unfolding shape has
-label_shape x h = (95 ∷ 58 ∷ [], x, (95 ∷ [], 58 ∷ [], (95, refl, refl), (58 ∷ [], [], (58, refl, refl), refl, refl), refl), h, refl)
-
--- a label that is written has no escape
-label_fit : (w : List ℕ) → is_fit LabelNode w ≡ true
-unfolding is_fit
-label_fit w = refl
-
--- a label that is written is a BLANK_NODE_LABEL
-spells_label : (limit : ℕ) (x : List ℕ) → IsLabel x → Spells limit (95 ∷ 58 ∷ x ++ space) (alone LabelNode (95 ∷ 58 ∷ x))
-spells_label limit x h =
-    spells_before_space limit 95 (58 ∷ x) LabelNode (λ v. refl) (kind_at 95 LabelNode begins_label (58 ∷ x) (label_shape x h)) (label_fit (95 ∷ 58 ∷ x))
-    (λ v. cut_by_other 95 LabelNode begins_label (58 ∷ x) 32 v label_space)
-
--- a tag that is written has its shape
-tag_shape : (t : List ℕ) → IsTag t → Matches (shape Lines LangTag) (64 ∷ t)
-unfolding shape has
-tag_shape t h = (64 ∷ [], t, (64, refl, refl), h, refl)
-
--- a tag that is written has no escape
-tag_fit : (w : List ℕ) → is_fit LangTag w ≡ true
-unfolding is_fit
-tag_fit w = refl
-
--- a tag that is written is a LANGTAG
-spells_tag : (limit : ℕ) (t : List ℕ) → IsTag t → Spells limit (64 ∷ t ++ space) (alone LangTag (64 ∷ t))
-spells_tag limit t h =
-    spells_before_space limit 64 t LangTag (λ v. refl) (kind_at 64 LangTag begins_tag t (tag_shape t h)) (tag_fit (64 ∷ t))
-    (λ v. cut_by_other 64 LangTag begins_tag t 32 v tag_space)
-
--- a written string begins nothing longer
-string_dead : (w : List ℕ) → all_have scalar w ≡ true → is_live Lines (string_text w) ≡ false
-string_dead w a = ⊎_elim (λ e. absurd (longer (live-matches Lines (string_text w) e))) (λ e. e) (cases_Bool (is_live Lines (string_text w)))
-  where
-    longer : (x : ℕ) × (u : List ℕ) × Matches (any_shape Lines kinds) (string_text w ++ x ∷ u) → ⊥
-    longer m = string_ends w a m.0 m.1 (shape_at 34 ShortString begins_string _ m.2)
-
--- a string that is written is a STRING_LITERAL_QUOTE
-spells_string : (limit : ℕ) (w : List ℕ) → all_have scalar w ≡ true → Spells limit (string_text w) (alone ShortString (string_text w))
-spells_string limit w a =
-    spells_alone limit 34 (flat_map escaped w ++ 34 ∷ []) ShortString (λ v. refl) (kind_at 34 ShortString begins_string _ (string_shape w a)) (string_fit w a)
-    (λ v. cut_by_shape 34 ShortString begins_string _ v (string_ends w a)) (string_dead w a)
-
--- "^^" is a token
-spells_carets : (limit : ℕ) → Spells limit (94 ∷ 94 ∷ []) (alone Carets (94 ∷ 94 ∷ []))
-unfolding kind_of is_live shape has is_fit
-spells_carets limit = spells_alone limit 94 (94 ∷ []) Carets (λ v. refl) refl refl (λ v. cut_by_dead (94 ∷ 94 ∷ []) v refl) refl
-
--- the dot is a token
-spells_dot : (limit : ℕ) → Spells limit (46 ∷ []) (alone Dot (46 ∷ []))
-unfolding kind_of is_live shape has is_fit
-spells_dot limit = spells_alone limit 46 [] Dot (λ v. refl) refl refl (λ v. cut_by_dead (46 ∷ []) v refl) refl
-
--- the line feed is a token
-spells_line_end : (limit : ℕ) → Spells limit (10 ∷ []) (alone LineEnd (10 ∷ []))
-unfolding kind_of is_live shape has is_fit
-spells_line_end limit = spells_alone limit 10 [] LineEnd (λ v. refl) refl refl (λ v. cut_by_dead (10 ∷ []) v refl) refl
-
--- the tree of a quad
-abbrev pub name_tree : Place → Subject → Name
-name_tree p (Iri i) = Ref (leaf (iri_text i) p)
-name_tree p (Blank n) = Lab (leaf (node_text n) p)
-
--- the tree of a literal with a datatype, which is left out if it is xsd:string
-abbrev pub typed_tree : Bool → Place → List ℕ → List ℕ → Object
-typed_tree true p w i = Plain (leaf (string_text w) p)
-typed_tree false p w i =
-    WithType (leaf (string_text w) p) (leaf (94 ∷ 94 ∷ []) (past p (string_text w))) (leaf (iri_text i) (past (past p (string_text w)) (94 ∷ 94 ∷ [])))
-
--- the tree of an object that is written
-abbrev pub object_tree : Place → Term → Object
-object_tree p (Resource s) = Named (name_tree p s)
-object_tree p (Literal w (Lang t)) = WithTag (leaf (string_text w) p) (leaf (64 ∷ t) (past p (string_text w)))
-object_tree p (Literal w (Typed i)) = typed_tree (bytes_eq i xsd_string) p w i
-
--- the tree of a graph label that is written
-abbrev pub graph_tree : Place → Option Subject → Option Name
-graph_tree p None = None
-graph_tree p (Some g) = Some (name_tree p g)
-
--- a line up to its subject
-abbrev pub upto_subject : Quad → List ℕ
-upto_subject q = subject_text q.subject ++ space
-
--- a line up to its predicate
-abbrev pub upto_predicate : Quad → List ℕ
-upto_predicate q = upto_subject q ++ (iri_text q.predicate ++ space)
-
--- a line up to its object
-abbrev pub upto_object : Quad → List ℕ
-upto_object q = upto_predicate q ++ (term_text q.object ++ space)
-
--- a line up to its graph label
-abbrev pub upto_graph : Quad → List ℕ
-upto_graph q = upto_object q ++ graph_text q.graph
-
--- the tree of a line
-abbrev pub statement_tree : Place → Quad → Statement
-statement_tree p q = record {
-  subject = name_tree p q.subject;
-  predicate = leaf (iri_text q.predicate) (past p (upto_subject q));
-  object = object_tree (past p (upto_predicate q)) q.object;
-  graph = graph_tree (past p (upto_object q)) q.graph;
-  dot = leaf (46 ∷ []) (past p (upto_graph q));
-}
-
--- the tree of all lines
-abbrev pub document_tree : Place → List Quad → Document
-document_tree p [] = last L.empty (leaf [] p)
-document_tree p (q ∷ qs) = next (L.one (statement_tree p q)) (leaf (10 ∷ []) (past p (upto_graph q ++ 46 ∷ []))) (document_tree (past p (quad_text q)) qs)
-
--- a subject that is written has the tokens of its tree
-spells_name : (limit : ℕ) (s : Subject) → IsSubject s → CanWriteSubject Kept s → Spells limit (subject_text s ++ space) (λ p. name_tokens (name_tree p s))
-spells_name limit (Iri i) h c = spells_iri limit i h
-spells_name limit (Blank (Label x)) h c = spells_label limit x h
-spells_name limit (Blank (Anon n)) h c = absurd c
-spells_name limit (Blank (Cell n)) h c = absurd c
-
--- a literal with a datatype that is written has the tokens of its tree
-spells_typed : (limit : ℕ) (b : Bool) (w i : List ℕ) → all_have scalar w ≡ true → IsIri i → Spells limit (string_text w ++ type_text b i ++ space) (λ p. object_tokens (typed_tree b p w i))
-spells_typed limit true w i a h =
-    subst (λ x. Spells limit x (λ p. object_tokens (typed_tree true p w i))) (ap (λ x. x ++ space) (sym (append-nil (string_text w))))
-    (spells_then limit (string_text w) space (alone ShortString (string_text w)) (λ p. []) (spells_string limit w a) (spells_space limit))
-spells_typed limit false w i a h =
-    subst (λ x. Spells limit x (λ p. object_tokens (typed_tree false p w i))) (sym (append_assoc (string_text w) (94 ∷ 94 ∷ iri_text i) space))
-    (spells_then limit (string_text w) (94 ∷ 94 ∷ iri_text i ++ space) (alone ShortString (string_text w)) (λ p. alone Carets (94 ∷ 94 ∷ []) p ++ alone IriRef (iri_text i) (past p (94 ∷ 94 ∷ [])))
-    (spells_string limit w a)
-    (spells_then limit (94 ∷ 94 ∷ []) (iri_text i ++ space) (alone Carets (94 ∷ 94 ∷ [])) (alone IriRef (iri_text i)) (spells_carets limit) (spells_iri limit i h)))
-
--- an object that is written has the tokens of its tree
-spells_object : (limit : ℕ) (t : Term) → IsTerm t → CanWriteTerm Kept t → Spells limit (term_text t ++ space) (λ p. object_tokens (object_tree p t))
-spells_object limit (Resource s) h c = spells_name limit s h c
-spells_object limit (Literal w (Lang t)) h c =
-    subst (λ x. Spells limit x (λ p. object_tokens (object_tree p (Literal w (Lang t))))) (sym (append_assoc (string_text w) (64 ∷ t) space))
-    (spells_then limit (string_text w) (64 ∷ t ++ space) (alone ShortString (string_text w)) (alone LangTag (64 ∷ t)) (spells_string limit w h.0) (spells_tag limit t h.1))
-spells_object limit (Literal w (Typed i)) h c = spells_typed limit (bytes_eq i xsd_string) w i h.0 h.1
-
--- a graph label that is written has the tokens of its tree
-spells_graph : (limit : ℕ) (g : Option Subject) → IsGraph g → CanWriteGraph Kept g → Spells limit (graph_text g) (λ p. graph_tokens (graph_tree p g))
-spells_graph limit None h c = spells_nothing limit
-spells_graph limit (Some g) h c = spells_name limit g h c
-
--- a line's text spells a statement and its end
-pub spells_line : (limit : ℕ) (q : Quad) → IsQuad q → CanWrite Kept q →
-    Spells limit (quad_text q) (λ p. statement_tokens (statement_tree p q) ++ alone LineEnd (10 ∷ []) (past p (upto_graph q ++ 46 ∷ [])))
-spells_line limit q h c =
-    spells_then limit (upto_graph q ++ 46 ∷ []) (10 ∷ []) (λ p. statement_tokens (statement_tree p q)) (alone LineEnd (10 ∷ []))
-    (spells_then limit (upto_graph q) (46 ∷ [])
-    (λ p. name_tokens (name_tree p q.subject) ++ alone IriRef (iri_text q.predicate) (past p (upto_subject q)) ++ object_tokens (object_tree (past p (upto_predicate q)) q.object) ++ graph_tokens (graph_tree (past p (upto_object q)) q.graph))
-    (alone Dot (46 ∷ []))
-    (spells_then limit (upto_object q) (graph_text q.graph)
-    (λ p. name_tokens (name_tree p q.subject) ++ alone IriRef (iri_text q.predicate) (past p (upto_subject q)) ++ object_tokens (object_tree (past p (upto_predicate q)) q.object))
-    (λ p. graph_tokens (graph_tree p q.graph))
-    (spells_then limit (upto_predicate q) (term_text q.object ++ space)
-    (λ p. name_tokens (name_tree p q.subject) ++ alone IriRef (iri_text q.predicate) (past p (upto_subject q)))
-    (λ p. object_tokens (object_tree p q.object))
-    (spells_then limit (upto_subject q) (iri_text q.predicate ++ space) (λ p. name_tokens (name_tree p q.subject)) (alone IriRef (iri_text q.predicate))
-    (spells_name limit q.subject h.subject c.subject)
-    (spells_iri limit q.predicate h.predicate))
-    (spells_object limit q.object h.object c.object))
-    (spells_graph limit q.graph h.graph c.graph))
-    (spells_dot limit))
-    (spells_line_end limit)
-
--- the quads are well formed, and each of their nodes has a label
 abbrev pub Written : List Quad → Type 0
 Written qs = AllByRecursion (λ q. IsQuad q × CanWrite Kept q) qs
 
--- at the end of the text nothing is left
-reads_end : (limit : ℕ) (p : Place) → tokens Lines limit ended false p [] ≡ record { tokens = alone End [] p; outcome = complete; at = p }
-unfolding step
-reads_end limit p = at_stop Lines limit ended false p [] complete (ends limit)
-  where
-    ends : (limit : ℕ) → step Lines limit ended [] ≡ stop complete
-    ends limit = cond-false (over Lines limit []) _ _ (and_left (nat_lt limit 0) _ (le-ltb limit 0 (omega arith)))
-
--- the tokens of the text have no more characters than it
-text_size : (limit : ℕ) (qs : List Quad) → Written qs → (p : Place) → total (document_tokens (document_tree p qs)) ≤ length (flat_map quad_text qs)
-text_size limit [] h p = omega arith
-text_size limit (q ∷ qs) h p =
-    let w = quad_text q in
-    let f = statement_tokens (statement_tree p q) in
-    let e = alone LineEnd (10 ∷ []) (past p (upto_graph q ++ 46 ∷ [])) in
-    let line = (spells_line limit q h.0.0 h.0.1).size p in
-    let more = text_size limit qs h.1 (past p w) in
-    let ts = document_tokens (document_tree (past p w) qs) in
-    let parts : total (f ++ (e ++ ts)) ≡ total (f ++ e) + total ts = ap total (sym (append_assoc f e ts)) ∙ total-append (f ++ e) ts in
-    omega (arith, line, more, parts, length-append w (flat_map quad_text qs))
-
--- the tokens of what was written are those of its tree
-reads_text : (limit : ℕ) (qs : List Quad) → Written qs → (p : Place) → AllShort limit (document_tokens (document_tree p qs)) →
-    tokens Lines limit ended false p (flat_map quad_text qs) ≡ record { tokens = document_tokens (document_tree p qs); outcome = complete; at = past p (flat_map quad_text qs) }
-reads_text limit [] h p s = reads_end limit p
-reads_text limit (q ∷ qs) h p s =
-    let w = quad_text q in
-    let rest = flat_map quad_text qs in
-    let f = statement_tokens (statement_tree p q) in
-    let e = alone LineEnd (10 ∷ []) (past p (upto_graph q ++ 46 ∷ [])) in
-    let ts = document_tokens (document_tree (past p w) qs) in
-    let all : AllShort limit ((f ++ e) ++ ts) = subst (AllShort limit) (sym (append_assoc f e ts)) s in
-    let m = reads_text limit qs h.1 (past p w) (short_rest limit (f ++ e) ts all) in
-    (spells_line limit q h.0.0 h.0.1).reads ended p rest (short_front limit (f ++ e) ts all)
-    ∙ (ap (with_tokens (f ++ e)) m
-    ∙ (ap (λ (x : List Token). record { tokens = x; outcome = complete; at = past (past p w) rest }) (append_assoc f e (document_tokens (document_tree (past p w) qs)))
-    ∙ ap (λ (x : Place). record { tokens = document_tokens (document_tree p (q ∷ qs)); outcome = complete; at = x }) (sym (past-append w rest p))))
-
--- The tokens of the tree are short where those of the quads are.
+-- the tokens of two texts are short where those of each are
 pub short_both : (limit : ℕ) (ts us : List Token) → AllShort limit ts → AllShort limit us → AllShort limit (ts ++ us)
 short_both limit [] us h k = k
 short_both limit (t ∷ ts) us h k = (h.0, short_both limit ts us h.1 k)
 
--- no token of a subject is longer than what was written of it
-pub name_short : (limit : ℕ) (p : Place) (s : Subject) → length (subject_text s) ≤ limit → AllShort limit (name_tokens (name_tree p s))
-name_short limit p (Iri i) h = (h, tt)
-name_short limit p (Blank n) h = (h, tt)
+module _ (form : Escapes) where
+  spells_iri : (limit : ℕ) (i : List ℕ) → IsIri i → Spells limit (iri_text form i ++ space) (alone IriRef (iri_text form i))
+  spells_iri limit i h =
+      spells_before_space limit 60 (flat_map (written form) i ++ 62 ∷ []) IriRef (λ v. refl) (kind_at 60 IriRef begins_iri (flat_map (written form) i ++ 62 ∷ []) (iri_shape form i h.characters)) (iri_fit form i h.characters)
+      (λ v. cut_by_other 60 IriRef begins_iri (flat_map (written form) i ++ 62 ∷ []) 32 v iri_space)
 
--- no token of a literal with a datatype is longer than what was written of it
-typed_short : (limit : ℕ) (p : Place) (b : Bool) (w i : List ℕ) → 2 ≤ limit → length (string_text w) ≤ limit → length (iri_text i) ≤ limit → AllShort limit (object_tokens (typed_tree b p w i))
-typed_short limit p true w i t h k = (h, tt)
-typed_short limit p false w i t h k = (h, (t, (k, tt)))
+  label_shape : (x : List ℕ) → IsLabel x → Matches (shape Lines LabelNode) (95 ∷ 58 ∷ x)
+  unfolding shape has
+  label_shape x h = (95 ∷ 58 ∷ [], x, (95 ∷ [], 58 ∷ [], (95, refl, refl), (58 ∷ [], [], (58, refl, refl), refl, refl), refl), h, refl)
 
--- no token of an object is longer than what was written of it
-object_short : (limit : ℕ) (p : Place) (t : Term) → 2 ≤ limit → TermShort limit t → AllShort limit (object_tokens (object_tree p t))
-object_short limit p (Resource s) e h = name_short limit p s h
-object_short limit p (Literal w (Lang t)) e h = (h.0, (h.1, tt))
-object_short limit p (Literal w (Typed i)) e h = typed_short limit p (bytes_eq i xsd_string) w i e h.0 h.1
+  label_fit : (w : List ℕ) → is_fit LabelNode w ≡ true
+  unfolding is_fit
+  label_fit w = refl
 
--- no token of a graph label is longer than what was written of it
-graph_short : (limit : ℕ) (p : Place) (g : Option Subject) → GraphShort limit g → AllShort limit (graph_tokens (graph_tree p g))
-graph_short limit p None h = tt
-graph_short limit p (Some g) h = name_short limit p g h
+  spells_label : (limit : ℕ) (x : List ℕ) → IsLabel x → Spells limit (95 ∷ 58 ∷ x ++ space) (alone LabelNode (95 ∷ 58 ∷ x))
+  spells_label limit x h =
+      spells_before_space limit 95 (58 ∷ x) LabelNode (λ v. refl) (kind_at 95 LabelNode begins_label (58 ∷ x) (label_shape x h)) (label_fit (95 ∷ 58 ∷ x))
+      (λ v. cut_by_other 95 LabelNode begins_label (58 ∷ x) 32 v label_space)
 
--- no token of a line is longer than the parts of its quad as they are written
-pub statement_short : (limit : ℕ) (p : Place) (q : Quad) → 2 ≤ limit → TokensWithin limit q → AllShort limit (statement_tokens (statement_tree p q))
-statement_short limit p q e h =
-    let s = statement_tree p q in
-    let n = name_tokens s.subject in
-    let i = L.token IriRef s.predicate ∷ [] in
-    let o = object_tokens s.object in
-    short_both limit (n ++ i ++ o ++ graph_tokens s.graph) (L.token Dot s.dot ∷ [])
-    (short_both limit (n ++ i ++ o) (graph_tokens s.graph)
-    (short_both limit (n ++ i) o
-    (short_both limit n i (name_short limit p q.subject h.subject) (h.predicate, tt))
-    (object_short limit (past p (upto_predicate q)) q.object e h.object))
-    (graph_short limit (past p (upto_object q)) q.graph h.graph))
-    (omega arith, tt)
+  tag_shape : (t : List ℕ) → IsTag t → Matches (shape Lines LangTag) (64 ∷ t)
+  unfolding shape has
+  tag_shape t h = (64 ∷ [], t, (64, refl, refl), h, refl)
 
--- a limit that holds for the parts of the quads holds for the tokens of their lines
-pub document_short : (limit : ℕ) (qs : List Quad) → 2 ≤ limit → AllByRecursion (TokensWithin limit) qs → (p : Place) → AllShort limit (document_tokens (document_tree p qs))
-document_short limit [] e h p = (omega arith, tt)
-document_short limit (q ∷ qs) e h p =
-    short_both limit (statement_tokens (statement_tree p q)) (L.token LineEnd (leaf (10 ∷ []) (past p (upto_graph q ++ 46 ∷ []))) ∷ document_tokens (document_tree (past p (quad_text q)) qs))
-    (statement_short limit p q e h.0)
-    (omega arith, document_short limit qs e h.1 (past p (quad_text q)))
+  tag_fit : (w : List ℕ) → is_fit LangTag w ≡ true
+  unfolding is_fit
+  tag_fit w = refl
 
--- the tree's quads are those that were written
-iri_leaf : (i : List ℕ) → IsIri i → (p : Place) → iri_of (leaf (iri_text i) p) ≡ i
-iri_leaf i h p = ap (λ x. unwrap_or (iri_value x) []) (inside_one 60 62 i) ∙ ap (λ x. unwrap_or x []) (iri_meant i h.characters)
+  spells_tag : (limit : ℕ) (t : List ℕ) → IsTag t → Spells limit (64 ∷ t ++ space) (alone LangTag (64 ∷ t))
+  spells_tag limit t h =
+      spells_before_space limit 64 t LangTag (λ v. refl) (kind_at 64 LangTag begins_tag t (tag_shape t h)) (tag_fit (64 ∷ t))
+      (λ v. cut_by_other 64 LangTag begins_tag t 32 v tag_space)
 
--- a string that is written means what was written
-string_leaf : (w : List ℕ) → all_have scalar w ≡ true → (p : Place) → string_of (leaf (string_text w) p) ≡ w
-string_leaf w a p = ap (λ x. unwrap_or (string_value x) []) (inside_one 34 34 (flat_map escaped w)) ∙ ap (λ x. unwrap_or x []) (string_meant w a)
+  -- a written string begins nothing longer
+  string_dead : (w : List ℕ) → all_have scalar w ≡ true → is_live Lines (string_text form w) ≡ false
+  string_dead w a = ⊎_elim (λ e. absurd (longer (live-matches Lines (string_text form w) e))) (λ e. e) (cases_Bool (is_live Lines (string_text form w)))
+    where
+      longer : (x : ℕ) × (u : List ℕ) × Matches (any_shape Lines kinds) (string_text form w ++ x ∷ u) → ⊥
+      longer m = string_ends form w a m.0 m.1 (shape_at 34 ShortString begins_string _ m.2)
 
--- an IRI that is written is absolute
-iri_bound : (i : List ℕ) → IsIri i → (p : Place) → has_scheme (iri_of (leaf (iri_text i) p)) ≡ true
-iri_bound i h p = ap has_scheme (iri_leaf i h p) ∙ h.scheme
+  spells_string : (limit : ℕ) (w : List ℕ) → all_have scalar w ≡ true → Spells limit (string_text form w) (alone ShortString (string_text form w))
+  spells_string limit w a =
+      spells_alone limit 34 (flat_map (escaped form) w ++ 34 ∷ []) ShortString (λ v. refl) (kind_at 34 ShortString begins_string _ (string_shape form w a)) (string_fit form w a)
+      (λ v. cut_by_shape 34 ShortString begins_string _ v (string_ends form w a)) (string_dead w a)
 
--- the tree of a subject means the subject
-name_meant : (p : Place) (s : Subject) → IsSubject s → CanWriteSubject Kept s → (subject_of (name_tree p s) ≡ s) × name_bound has_scheme (name_tree p s)
-name_meant p (Iri i) h c = (ap Iri (iri_leaf i h p), iri_bound i h p)
-name_meant p (Blank (Label x)) h c = (refl, tt)
-name_meant p (Blank (Anon n)) h c = absurd c
-name_meant p (Blank (Cell n)) h c = absurd c
+  spells_carets : (limit : ℕ) → Spells limit (94 ∷ 94 ∷ []) (alone Carets (94 ∷ 94 ∷ []))
+  unfolding kind_of is_live shape has is_fit
+  spells_carets limit = spells_alone limit 94 (94 ∷ []) Carets (λ v. refl) refl refl (λ v. cut_by_dead (94 ∷ 94 ∷ []) v refl) refl
 
--- the tree of a literal with a datatype means the literal
-typed_meant : (p : Place) (b : Bool) (w i : List ℕ) → (b ≡ true → i ≡ xsd_string) → all_have scalar w ≡ true → IsIri i →
-    (term_of (typed_tree b p w i) ≡ Literal w (Typed i)) × object_bound has_scheme (typed_tree b p w i)
-typed_meant p true w i e a h = (ap (λ x. Literal x (Typed xsd_string)) (string_leaf w a p) ∙ ap (λ x. Literal w (Typed x)) (sym (e refl)), tt)
-typed_meant p false w i e a h = (
-  ap (λ x. Literal x (Typed (iri_of (leaf (iri_text i) (past (past p (string_text w)) (94 ∷ 94 ∷ [])))))) (string_leaf w a p) ∙ ap (λ x. Literal w (Typed x)) (iri_leaf i h (past (past p (string_text w)) (94 ∷ 94 ∷ []))),
-  iri_bound i h (past (past p (string_text w)) (94 ∷ 94 ∷ [])),
-)
+  spells_dot : (limit : ℕ) → Spells limit (46 ∷ []) (alone Dot (46 ∷ []))
+  unfolding kind_of is_live shape has is_fit
+  spells_dot limit = spells_alone limit 46 [] Dot (λ v. refl) refl refl (λ v. cut_by_dead (46 ∷ []) v refl) refl
 
--- the tree of an object means the object
-object_meant : (p : Place) (t : Term) → IsTerm t → CanWriteTerm Kept t → (term_of (object_tree p t) ≡ t) × object_bound has_scheme (object_tree p t)
-object_meant p (Resource s) h c = let m = name_meant p s h c in (ap Resource m.0, m.1)
-object_meant p (Literal w (Lang t)) h c = (ap (λ x. Literal x (Lang t)) (string_leaf w h.0 p), tt)
-object_meant p (Literal w (Typed i)) h c = typed_meant p (bytes_eq i xsd_string) w i (bytes_eq-Decides i xsd_string).0 h.0 h.1
+  spells_line_end : (limit : ℕ) → Spells limit (10 ∷ []) (alone LineEnd (10 ∷ []))
+  unfolding kind_of is_live shape has is_fit
+  spells_line_end limit = spells_alone limit 10 [] LineEnd (λ v. refl) refl refl (λ v. cut_by_dead (10 ∷ []) v refl) refl
 
--- the tree of a graph label means the label
-graph_meant : (p : Place) (g : Option Subject) → IsGraph g → CanWriteGraph Kept g → (option_map subject_of (graph_tree p g) ≡ g) × graph_bound has_scheme (graph_tree p g)
-graph_meant p None h c = (refl, tt)
-graph_meant p (Some g) h c = let m = name_meant p g h c in (ap (λ x. Some x) m.0, m.1)
+  abbrev pub name_tree : Place → Subject → Name
+  name_tree p (Iri i) = Ref (leaf (iri_text form i) p)
+  name_tree p (Blank n) = Lab (leaf (node_text n) p)
 
--- quads are equal where their terms are
-same_quad : (q : Quad) (s : Subject) (v : List ℕ) (o : Term) (g : Option Subject) → s ≡ q.subject → v ≡ q.predicate → o ≡ q.object → g ≡ q.graph →
-    (let r : Quad = record { subject = s; predicate = v; object = o; graph = g } in r) ≡ q
-same_quad q s v o g a b c d =
-    ap (λ (x : Subject). let r : Quad = record { subject = x; predicate = v; object = o; graph = g } in r) a
-    ∙ (ap (λ (x : List ℕ). let r : Quad = record { subject = q.subject; predicate = x; object = o; graph = g } in r) b
-    ∙ (ap (λ (x : Term). let r : Quad = record { subject = q.subject; predicate = q.predicate; object = x; graph = g } in r) c
-    ∙ ap (λ (x : Option Subject). let r : Quad = record { subject = q.subject; predicate = q.predicate; object = q.object; graph = x } in r) d))
+  abbrev pub typed_tree : Bool → Place → List ℕ → List ℕ → Object
+  typed_tree true p w i = Plain (leaf (string_text form w) p)
+  typed_tree false p w i =
+      WithType (leaf (string_text form w) p) (leaf (94 ∷ 94 ∷ []) (past p (string_text form w))) (leaf (iri_text form i) (past (past p (string_text form w)) (94 ∷ 94 ∷ [])))
 
--- the tree of a line means its quad
-pub statement_meant : (p : Place) (q : Quad) → IsQuad q → CanWrite Kept q → (quad_of (statement_tree p q) ≡ q) × GoodStatement has_scheme NQuads (statement_tree p q)
-statement_meant p q h c =
-    let s = name_meant p q.subject h.subject c.subject in
-    let v = iri_leaf q.predicate h.predicate (past p (upto_subject q)) in
-    let o = object_meant (past p (upto_predicate q)) q.object h.object c.object in
-    let g = graph_meant (past p (upto_object q)) q.graph h.graph c.graph in (
-      same_quad q _ _ _ _ s.0 v o.0 g.0,
-      record { subject = s.1; predicate = iri_bound q.predicate h.predicate (past p (upto_subject q)); object = o.1; graph = g.1; labels = tt },
-    )
+  abbrev pub object_tree : Place → Term → Object
+  object_tree p (Resource s) = Named (name_tree p s)
+  object_tree p (Literal w (Lang t)) = WithTag (leaf (string_text form w) p) (leaf (64 ∷ t) (past p (string_text form w)))
+  object_tree p (Literal w (Typed i)) = typed_tree (bytes_eq i xsd_string) p w i
 
--- the tree of what was written is a document with the same quads
-document_meant : (p : Place) (qs : List Quad) → Written qs → (plain_quads (document_tree p qs) ≡ qs) × GoodDocument has_scheme NQuads (document_tree p qs)
-document_meant p [] h = (refl, tt)
-document_meant p (q ∷ qs) h =
-    let s = statement_meant p q h.0.0 h.0.1 in
-    let d = document_meant (past p (quad_text q)) qs h.1 in
-    (ap (λ x. x ∷ plain_quads (document_tree (past p (quad_text q)) qs)) s.0 ∙ ap (λ x. q ∷ x) d.0, (s.1, d.1))
+  abbrev pub graph_tree : Place → Option Subject → Option Name
+  graph_tree p None = None
+  graph_tree p (Some g) = Some (name_tree p g)
 
--- the law for quads whose nodes have labels
-pub reads_back : (limit : ℕ) (qs : List Quad) → Written qs → (p : Place) → AllShort limit (document_tokens (document_tree p qs)) →
-    ((tokens Lines limit ended false p (flat_map quad_text qs)).outcome ≡ complete) × IsPlain has_scheme NQuads (tokens Lines limit ended false p (flat_map quad_text qs)).tokens qs
-reads_back limit qs h p s =
-    let r = reads_text limit qs h p s in
-    let m = document_meant p qs h in
-    (ap (λ x. x.outcome) r, (document_tree p qs, ap (λ x. x.tokens) r, m.1, m.0))
+  abbrev pub upto_subject : Quad → List ℕ
+  upto_subject q = subject_text form q.subject ++ space
 
--- no token has more characters than the text
-pub text_short : (limit : ℕ) (qs : List Quad) → Written qs → length (flat_map quad_text qs) ≤ limit → (p : Place) → AllShort limit (document_tokens (document_tree p qs))
-text_short limit qs h l p = total_short limit (document_tokens (document_tree p qs)) (let s = text_size limit qs h p in omega arith)
+  abbrev pub upto_predicate : Quad → List ℕ
+  upto_predicate q = upto_subject q ++ (iri_text form q.predicate ++ space)
+
+  abbrev pub upto_object : Quad → List ℕ
+  upto_object q = upto_predicate q ++ (term_text form q.object ++ space)
+
+  abbrev pub upto_graph : Quad → List ℕ
+  upto_graph q = upto_object q ++ graph_text form q.graph
+
+  abbrev pub statement_tree : Place → Quad → Statement
+  statement_tree p q = record {
+    subject = name_tree p q.subject;
+    predicate = leaf (iri_text form q.predicate) (past p (upto_subject q));
+    object = object_tree (past p (upto_predicate q)) q.object;
+    graph = graph_tree (past p (upto_object q)) q.graph;
+    dot = leaf (46 ∷ []) (past p (upto_graph q));
+  }
+
+  abbrev pub document_tree : Place → List Quad → Document
+  document_tree p [] = last L.empty (leaf [] p)
+  document_tree p (q ∷ qs) = next (L.one (statement_tree p q)) (leaf (10 ∷ []) (past p (upto_graph q ++ 46 ∷ []))) (document_tree (past p (quad_text form q)) qs)
+
+  spells_name : (limit : ℕ) (s : Subject) → IsSubject s → CanWriteSubject Kept s → Spells limit (subject_text form s ++ space) (λ p. name_tokens (name_tree p s))
+  spells_name limit (Iri i) h c = spells_iri limit i h
+  spells_name limit (Blank (Label x)) h c = spells_label limit x h
+  spells_name limit (Blank (Anon n)) h c = absurd c
+  spells_name limit (Blank (Cell n)) h c = absurd c
+
+  spells_typed : (limit : ℕ) (b : Bool) (w i : List ℕ) → all_have scalar w ≡ true → IsIri i → Spells limit (string_text form w ++ type_text form b i ++ space) (λ p. object_tokens (typed_tree b p w i))
+  spells_typed limit true w i a h =
+      subst (λ x. Spells limit x (λ p. object_tokens (typed_tree true p w i))) (ap (λ x. x ++ space) (sym (append-nil (string_text form w))))
+      (spells_then limit (string_text form w) space (alone ShortString (string_text form w)) (λ p. []) (spells_string limit w a) (spells_space limit))
+  spells_typed limit false w i a h =
+      subst (λ x. Spells limit x (λ p. object_tokens (typed_tree false p w i))) (sym (append_assoc (string_text form w) (94 ∷ 94 ∷ iri_text form i) space))
+      (spells_then limit (string_text form w) (94 ∷ 94 ∷ iri_text form i ++ space) (alone ShortString (string_text form w)) (λ p. alone Carets (94 ∷ 94 ∷ []) p ++ alone IriRef (iri_text form i) (past p (94 ∷ 94 ∷ [])))
+      (spells_string limit w a)
+      (spells_then limit (94 ∷ 94 ∷ []) (iri_text form i ++ space) (alone Carets (94 ∷ 94 ∷ [])) (alone IriRef (iri_text form i)) (spells_carets limit) (spells_iri limit i h)))
+
+  spells_object : (limit : ℕ) (t : Term) → IsTerm t → CanWriteTerm Kept t → Spells limit (term_text form t ++ space) (λ p. object_tokens (object_tree p t))
+  spells_object limit (Resource s) h c = spells_name limit s h c
+  spells_object limit (Literal w (Lang t)) h c =
+      subst (λ x. Spells limit x (λ p. object_tokens (object_tree p (Literal w (Lang t))))) (sym (append_assoc (string_text form w) (64 ∷ t) space))
+      (spells_then limit (string_text form w) (64 ∷ t ++ space) (alone ShortString (string_text form w)) (alone LangTag (64 ∷ t)) (spells_string limit w h.0) (spells_tag limit t h.1))
+  spells_object limit (Literal w (Typed i)) h c = spells_typed limit (bytes_eq i xsd_string) w i h.0 h.1
+
+  spells_graph : (limit : ℕ) (g : Option Subject) → IsGraph g → CanWriteGraph Kept g → Spells limit (graph_text form g) (λ p. graph_tokens (graph_tree p g))
+  spells_graph limit None h c = spells_nothing limit
+  spells_graph limit (Some g) h c = spells_name limit g h c
+
+  pub spells_line : (limit : ℕ) (q : Quad) → IsQuad q → CanWrite Kept q →
+      Spells limit (quad_text form q) (λ p. statement_tokens (statement_tree p q) ++ alone LineEnd (10 ∷ []) (past p (upto_graph q ++ 46 ∷ [])))
+  spells_line limit q h c =
+      spells_then limit (upto_graph q ++ 46 ∷ []) (10 ∷ []) (λ p. statement_tokens (statement_tree p q)) (alone LineEnd (10 ∷ []))
+      (spells_then limit (upto_graph q) (46 ∷ [])
+      (λ p. name_tokens (name_tree p q.subject) ++ alone IriRef (iri_text form q.predicate) (past p (upto_subject q)) ++ object_tokens (object_tree (past p (upto_predicate q)) q.object) ++ graph_tokens (graph_tree (past p (upto_object q)) q.graph))
+      (alone Dot (46 ∷ []))
+      (spells_then limit (upto_object q) (graph_text form q.graph)
+      (λ p. name_tokens (name_tree p q.subject) ++ alone IriRef (iri_text form q.predicate) (past p (upto_subject q)) ++ object_tokens (object_tree (past p (upto_predicate q)) q.object))
+      (λ p. graph_tokens (graph_tree p q.graph))
+      (spells_then limit (upto_predicate q) (term_text form q.object ++ space)
+      (λ p. name_tokens (name_tree p q.subject) ++ alone IriRef (iri_text form q.predicate) (past p (upto_subject q)))
+      (λ p. object_tokens (object_tree p q.object))
+      (spells_then limit (upto_subject q) (iri_text form q.predicate ++ space) (λ p. name_tokens (name_tree p q.subject)) (alone IriRef (iri_text form q.predicate))
+      (spells_name limit q.subject h.subject c.subject)
+      (spells_iri limit q.predicate h.predicate))
+      (spells_object limit q.object h.object c.object))
+      (spells_graph limit q.graph h.graph c.graph))
+      (spells_dot limit))
+      (spells_line_end limit)
+
+  reads_end : (limit : ℕ) (p : Place) → tokens Lines limit ended false p [] ≡ record { tokens = alone End [] p; outcome = complete; at = p }
+  unfolding step
+  reads_end limit p = at_stop Lines limit ended false p [] complete (ends limit)
+    where
+      ends : (limit : ℕ) → step Lines limit ended [] ≡ stop complete
+      ends limit = cond-false (over Lines limit []) _ _ (and_left (nat_lt limit 0) _ (le-ltb limit 0 (omega arith)))
+
+  text_size : (limit : ℕ) (qs : List Quad) → Written qs → (p : Place) → total (document_tokens (document_tree p qs)) ≤ length (flat_map (quad_text form) qs)
+  text_size limit [] h p = omega arith
+  text_size limit (q ∷ qs) h p =
+      let w = quad_text form q in
+      let f = statement_tokens (statement_tree p q) in
+      let e = alone LineEnd (10 ∷ []) (past p (upto_graph q ++ 46 ∷ [])) in
+      let line = (spells_line limit q h.0.0 h.0.1).size p in
+      let more = text_size limit qs h.1 (past p w) in
+      let ts = document_tokens (document_tree (past p w) qs) in
+      let parts : total (f ++ (e ++ ts)) ≡ total (f ++ e) + total ts = ap total (sym (append_assoc f e ts)) ∙ total-append (f ++ e) ts in
+      omega (arith, line, more, parts, length-append w (flat_map (quad_text form) qs))
+
+  reads_text : (limit : ℕ) (qs : List Quad) → Written qs → (p : Place) → AllShort limit (document_tokens (document_tree p qs)) →
+      tokens Lines limit ended false p (flat_map (quad_text form) qs) ≡ record { tokens = document_tokens (document_tree p qs); outcome = complete; at = past p (flat_map (quad_text form) qs) }
+  reads_text limit [] h p s = reads_end limit p
+  reads_text limit (q ∷ qs) h p s =
+      let w = quad_text form q in
+      let rest = flat_map (quad_text form) qs in
+      let f = statement_tokens (statement_tree p q) in
+      let e = alone LineEnd (10 ∷ []) (past p (upto_graph q ++ 46 ∷ [])) in
+      let ts = document_tokens (document_tree (past p w) qs) in
+      let all : AllShort limit ((f ++ e) ++ ts) = subst (AllShort limit) (sym (append_assoc f e ts)) s in
+      let m = reads_text limit qs h.1 (past p w) (short_rest limit (f ++ e) ts all) in
+      (spells_line limit q h.0.0 h.0.1).reads ended p rest (short_front limit (f ++ e) ts all)
+      ∙ (ap (with_tokens (f ++ e)) m
+      ∙ (ap (λ (x : List Token). record { tokens = x; outcome = complete; at = past (past p w) rest }) (append_assoc f e (document_tokens (document_tree (past p w) qs)))
+      ∙ ap (λ (x : Place). record { tokens = document_tokens (document_tree p (q ∷ qs)); outcome = complete; at = x }) (sym (past-append w rest p))))
+
+  pub name_short : (limit : ℕ) (p : Place) (s : Subject) → length (subject_text form s) ≤ limit → AllShort limit (name_tokens (name_tree p s))
+  name_short limit p (Iri i) h = (h, tt)
+  name_short limit p (Blank n) h = (h, tt)
+
+  typed_short : (limit : ℕ) (p : Place) (b : Bool) (w i : List ℕ) → 2 ≤ limit → length (string_text form w) ≤ limit → length (iri_text form i) ≤ limit → AllShort limit (object_tokens (typed_tree b p w i))
+  typed_short limit p true w i t h k = (h, tt)
+  typed_short limit p false w i t h k = (h, (t, (k, tt)))
+
+  object_short : (limit : ℕ) (p : Place) (t : Term) → 2 ≤ limit → TermShort form limit t → AllShort limit (object_tokens (object_tree p t))
+  object_short limit p (Resource s) e h = name_short limit p s h
+  object_short limit p (Literal w (Lang t)) e h = (h.0, (h.1, tt))
+  object_short limit p (Literal w (Typed i)) e h = typed_short limit p (bytes_eq i xsd_string) w i e h.0 h.1
+
+  graph_short : (limit : ℕ) (p : Place) (g : Option Subject) → GraphShort form limit g → AllShort limit (graph_tokens (graph_tree p g))
+  graph_short limit p None h = tt
+  graph_short limit p (Some g) h = name_short limit p g h
+
+  pub statement_short : (limit : ℕ) (p : Place) (q : Quad) → 2 ≤ limit → TokensWithin form limit q → AllShort limit (statement_tokens (statement_tree p q))
+  statement_short limit p q e h =
+      let s = statement_tree p q in
+      let n = name_tokens s.subject in
+      let i = L.token IriRef s.predicate ∷ [] in
+      let o = object_tokens s.object in
+      short_both limit (n ++ i ++ o ++ graph_tokens s.graph) (L.token Dot s.dot ∷ [])
+      (short_both limit (n ++ i ++ o) (graph_tokens s.graph)
+      (short_both limit (n ++ i) o
+      (short_both limit n i (name_short limit p q.subject h.subject) (h.predicate, tt))
+      (object_short limit (past p (upto_predicate q)) q.object e h.object))
+      (graph_short limit (past p (upto_object q)) q.graph h.graph))
+      (omega arith, tt)
+
+  pub document_short : (limit : ℕ) (qs : List Quad) → 2 ≤ limit → AllByRecursion (TokensWithin form limit) qs → (p : Place) → AllShort limit (document_tokens (document_tree p qs))
+  document_short limit [] e h p = (omega arith, tt)
+  document_short limit (q ∷ qs) e h p =
+      short_both limit (statement_tokens (statement_tree p q)) (L.token LineEnd (leaf (10 ∷ []) (past p (upto_graph q ++ 46 ∷ []))) ∷ document_tokens (document_tree (past p (quad_text form q)) qs))
+      (statement_short limit p q e h.0)
+      (omega arith, document_short limit qs e h.1 (past p (quad_text form q)))
+
+  iri_leaf : (i : List ℕ) → IsIri i → (p : Place) → iri_of (leaf (iri_text form i) p) ≡ i
+  iri_leaf i h p = ap (λ x. unwrap_or (iri_value x) []) (inside_one 60 62 (flat_map (written form) i)) ∙ ap (λ x. unwrap_or x []) (iri_meant form i h.characters)
+
+  string_leaf : (w : List ℕ) → all_have scalar w ≡ true → (p : Place) → string_of (leaf (string_text form w) p) ≡ w
+  string_leaf w a p = ap (λ x. unwrap_or (string_value x) []) (inside_one 34 34 (flat_map (escaped form) w)) ∙ ap (λ x. unwrap_or x []) (string_meant form w a)
+
+  iri_bound : (i : List ℕ) → IsIri i → (p : Place) → has_scheme (iri_of (leaf (iri_text form i) p)) ≡ true
+  iri_bound i h p = ap has_scheme (iri_leaf i h p) ∙ h.scheme
+
+  name_meant : (p : Place) (s : Subject) → IsSubject s → CanWriteSubject Kept s → (subject_of (name_tree p s) ≡ s) × name_bound has_scheme (name_tree p s)
+  name_meant p (Iri i) h c = (ap Iri (iri_leaf i h p), iri_bound i h p)
+  name_meant p (Blank (Label x)) h c = (refl, tt)
+  name_meant p (Blank (Anon n)) h c = absurd c
+  name_meant p (Blank (Cell n)) h c = absurd c
+
+  typed_meant : (p : Place) (b : Bool) (w i : List ℕ) → (b ≡ true → i ≡ xsd_string) → all_have scalar w ≡ true → IsIri i →
+      (term_of (typed_tree b p w i) ≡ Literal w (Typed i)) × object_bound has_scheme (typed_tree b p w i)
+  typed_meant p true w i e a h = (ap (λ x. Literal x (Typed xsd_string)) (string_leaf w a p) ∙ ap (λ x. Literal w (Typed x)) (sym (e refl)), tt)
+  typed_meant p false w i e a h = (
+    ap (λ x. Literal x (Typed (iri_of (leaf (iri_text form i) (past (past p (string_text form w)) (94 ∷ 94 ∷ [])))))) (string_leaf w a p) ∙ ap (λ x. Literal w (Typed x)) (iri_leaf i h (past (past p (string_text form w)) (94 ∷ 94 ∷ []))),
+    iri_bound i h (past (past p (string_text form w)) (94 ∷ 94 ∷ [])),
+  )
+
+  object_meant : (p : Place) (t : Term) → IsTerm t → CanWriteTerm Kept t → (term_of (object_tree p t) ≡ t) × object_bound has_scheme (object_tree p t)
+  object_meant p (Resource s) h c = let m = name_meant p s h c in (ap Resource m.0, m.1)
+  object_meant p (Literal w (Lang t)) h c = (ap (λ x. Literal x (Lang t)) (string_leaf w h.0 p), tt)
+  object_meant p (Literal w (Typed i)) h c = typed_meant p (bytes_eq i xsd_string) w i (bytes_eq-Decides i xsd_string).0 h.0 h.1
+
+  graph_meant : (p : Place) (g : Option Subject) → IsGraph g → CanWriteGraph Kept g → (option_map subject_of (graph_tree p g) ≡ g) × graph_bound has_scheme (graph_tree p g)
+  graph_meant p None h c = (refl, tt)
+  graph_meant p (Some g) h c = let m = name_meant p g h c in (ap (λ x. Some x) m.0, m.1)
+
+  same_quad : (q : Quad) (s : Subject) (v : List ℕ) (o : Term) (g : Option Subject) → s ≡ q.subject → v ≡ q.predicate → o ≡ q.object → g ≡ q.graph →
+      (let r : Quad = record { subject = s; predicate = v; object = o; graph = g } in r) ≡ q
+  same_quad q s v o g a b c d =
+      ap (λ (x : Subject). let r : Quad = record { subject = x; predicate = v; object = o; graph = g } in r) a
+      ∙ (ap (λ (x : List ℕ). let r : Quad = record { subject = q.subject; predicate = x; object = o; graph = g } in r) b
+      ∙ (ap (λ (x : Term). let r : Quad = record { subject = q.subject; predicate = q.predicate; object = x; graph = g } in r) c
+      ∙ ap (λ (x : Option Subject). let r : Quad = record { subject = q.subject; predicate = q.predicate; object = q.object; graph = x } in r) d))
+
+  pub statement_meant : (p : Place) (q : Quad) → IsQuad q → CanWrite Kept q → (quad_of (statement_tree p q) ≡ q) × GoodStatement has_scheme NQuads (statement_tree p q)
+  statement_meant p q h c =
+      let s = name_meant p q.subject h.subject c.subject in
+      let v = iri_leaf q.predicate h.predicate (past p (upto_subject q)) in
+      let o = object_meant (past p (upto_predicate q)) q.object h.object c.object in
+      let g = graph_meant (past p (upto_object q)) q.graph h.graph c.graph in (
+        same_quad q _ _ _ _ s.0 v o.0 g.0,
+        record { subject = s.1; predicate = iri_bound q.predicate h.predicate (past p (upto_subject q)); object = o.1; graph = g.1; labels = tt },
+      )
+
+  document_meant : (p : Place) (qs : List Quad) → Written qs → (plain_quads (document_tree p qs) ≡ qs) × GoodDocument has_scheme NQuads (document_tree p qs)
+  document_meant p [] h = (refl, tt)
+  document_meant p (q ∷ qs) h =
+      let s = statement_meant p q h.0.0 h.0.1 in
+      let d = document_meant (past p (quad_text form q)) qs h.1 in
+      (ap (λ x. x ∷ plain_quads (document_tree (past p (quad_text form q)) qs)) s.0 ∙ ap (λ x. q ∷ x) d.0, (s.1, d.1))
+
+  pub reads_back : (limit : ℕ) (qs : List Quad) → Written qs → (p : Place) → AllShort limit (document_tokens (document_tree p qs)) →
+      ((tokens Lines limit ended false p (flat_map (quad_text form) qs)).outcome ≡ complete) × IsPlain has_scheme NQuads (tokens Lines limit ended false p (flat_map (quad_text form) qs)).tokens qs
+  reads_back limit qs h p s =
+      let r = reads_text limit qs h p s in
+      let m = document_meant p qs h in
+      (ap (λ x. x.outcome) r, (document_tree p qs, ap (λ x. x.tokens) r, m.1, m.0))
+
+  pub text_short : (limit : ℕ) (qs : List Quad) → Written qs → length (flat_map (quad_text form) qs) ≤ limit → (p : Place) → AllShort limit (document_tokens (document_tree p qs))
+  text_short limit qs h l p = total_short limit (document_tokens (document_tree p qs)) (let s = text_size limit qs h p in omega arith)

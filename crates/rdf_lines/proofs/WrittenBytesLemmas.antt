@@ -1,5 +1,5 @@
 -- Parts that are appended in turn, and what stands in front of them.
-use Rattle.std.proofs.Common.{◌≡◌, ℕ, ◌+◌, List, ◌++◌, append_assoc, Result, Ok, Err, OnOk, OnErr, take, length, sym, ap, ◌∙◌, arith, length-append}
+use Rattle.std.proofs.Common.{◌≡◌, ℕ, ◌+◌, List, ◌++◌, append_assoc, Result, Ok, Err, OnOk, OnErr, IfOk, take, length, sym, ap, ◌∙◌, arith, length-append}
 use Rattle.std.proofs.lemmas.List.{take-take}
 use Rattle.std.proofs.Math.Seq.{take-append_seam}
 use Rattle.rdf_lines.specs.WrittenBytes.{BeginsWith}
@@ -25,3 +25,7 @@ on_err (Err e) f h = f h
 pub parts_appended : (out a b c first second third : List ℕ) → first ≡ out ++ a → second ≡ first ++ b → third ≡ second ++ c → third ≡ out ++ (a ++ b ++ c)
 parts_appended out a b c first second third e f g =
     g ∙ (ap (λ x. x ++ c) (f ∙ (ap (λ x. x ++ b) e ∙ append_assoc out a b)) ∙ append_assoc out (a ++ b) c)
+
+pub if_ok : {T E : Type 0} {P Q : T → Type 0} (r : Result T E) → ((x : T) → P x → Q x) → IfOk r P → IfOk r Q
+if_ok (Ok x) f h = f x h
+if_ok (Err e) f h = tt

@@ -1,12 +1,15 @@
 -- The lines of a document's quads keep limits that are a little higher than the document's.
-use Rattle.std.proofs.Common.{◌≡◌, ℕ, ◌+◌, ◌-◌, ◌*◌, ◌≤◌, true, List, [], ◌∷◌, ◌++◌, length, drop, refl, ap, subst, ⊎_elim, Option, Some, None, option_map, unwrap_or, arith, length-append}
+use Rattle.std.proofs.Common.{◌≡◌, ℕ, ◌+◌, ◌-◌, ◌*◌, ◌<◌, ◌≤◌, true, List, [], ◌∷◌, ◌++◌, length, drop, refl, ap, subst, ⊎_elim, Option, Some, None, option_map, unwrap_or, arith, length-append}
 use Rattle.std.specs.Prelude.{map, flat_map, ◌==◌}
 use Rattle.std.specs.List.{All, AllByRecursion}
 use Rattle.std.proofs.lemmas.List.{length-take, length-drop}
 use Rattle.std.proofs.lemmas.List.Elements.{All-head, All-tail}
 use Rattle.std.proofs.lemmas.Bool.{cases_lt, cond_both}
-use Rattle.std.proofs.lemmas.Str.{length-le-encodes}
-use Rattle.std.proofs.Math.Utf8.{encode}
+use Rattle.std.proofs.lemmas.Bool.Decides.{nat_tests}
+use Rattle.std.proofs.lemmas.Str.{length-encode, len_utf8_bounds}
+use Rattle.std.proofs.Math.Utf8.{encode, encodes}
+use Rattle.std.proofs.Math.Nat.{mul-suc, mul-add}
+use Rattle.std.specs.Char.{len_utf8}
 use Rattle.rdf_terms.specs.declared.kind.Dialect.TheVariants.{Lines}
 use Rattle.rdf_terms.specs.declared.kind.Kind.TheVariants.{IriRef, LabelNode, ShortString, LangTag, Dot, LineEnd, End}
 use Rattle.rdf_terms.specs.Values.{Spot, outside, slash, digits, Move, leads, means, fails, of_string, move, go, value, string_value, inside}
@@ -16,14 +19,17 @@ use Rattle.rdf_tokens.specs.Tokens.{Token}
 use Rattle.rdf_tokens.specs.Good.{tokens_of}
 use Rattle.rdf_tokens.specs.Grammars.{PassesNone}
 use Rattle.rdf_tokens.proofs.LimitLemmas.{no_longer}
+use Rattle.rdf_lines.specs.declared.form.Escapes.{Escapes}
+use Rattle.rdf_lines.specs.declared.form.Escapes.TheVariants as escapes
 use Rattle.rdf_lines.specs.declared.form.Style.TheVariants.{Kept}
 use Rattle.rdf_lines.specs.Lines.{Leaf, leaf_of, Name, Ref, Lab, Object, Named, Plain, WithType, WithTag, Statement, Line, Document as Tree, last, next, token, name_tokens, object_tokens, graph_tokens, head_tokens, statement_tokens, line_tokens, document_tokens, iri_of, string_of, subject_of, term_of, quad_of}
 use Rattle.rdf_lines.proofs.PlainQuads.{plain_quads}
 use Rattle.rdf_lines.specs.Lines as L
 use Rattle.rdf_lines.specs.Documents.{Passes}
-use Rattle.rdf_lines.specs.Writing.{escaped, iri_text, subject_text, string_text, rename_subject, rename_term, rename}
-use Rattle.rdf_lines.specs.Laws.{WrittenDocumentIsRead, SubjectWithin, TermWithin, GraphWithin, IrisWithin, TermShort, GraphShort, TokensWithin}
+use Rattle.rdf_lines.specs.Writing.{uchar, written, escaped, iri_text, subject_text, string_text, rename_subject, rename_term, rename}
+use Rattle.rdf_lines.specs.Laws.{string_width, iri_width, WrittenDocumentIsRead, SubjectWithin, TermWithin, GraphWithin, IrisWithin, TermShort, GraphShort, TokensWithin}
 use Rattle.rdf_lines.proofs.LinesLemmas.{without_marks}
+use Rattle.rdf_lines.proofs.UcharLemmas.{written_cases, uchar_cases}
 use Rattle.rdf_lines.proofs.AcceptedLemmas.{text_read}
 use Rattle.rdf_lines.proofs.WellFormed.{split, document_writable}
 
@@ -60,66 +66,132 @@ string_short n w = by (string_value (inside n w)) refl
     by None e = omega arith
     by (Some v) e = let a = value_short outside (inside n w) v e in let b = inside_short n w in omega arith
 
+length-uchar : (c : ℕ) → length (uchar c) ≤ 10
+length-uchar c = uchar_cases (λ w. length w ≤ 10) c (λ l. omega arith) (λ l. omega arith)
+
+written_short : (e : Escapes) (c : ℕ) → length (written e c) ≤ string_width e
+written_short escapes.Plain c = omega arith
+written_short escapes.Ascii c = written_cases escapes.Ascii (λ w. length w ≤ 10) c (omega arith) (λ l. length-uchar c)
+
+wide : (e : Escapes) → 2 ≤ string_width e
+wide escapes.Plain = omega arith
+wide escapes.Ascii = omega arith
+
 -- a character is written with two at most
-escaped_short : (c : ℕ) → length (escaped c) ≤ 2
-escaped_short c =
-    cond_both (c == 34) _ _ (λ x. length x ≤ 2) (λ h. omega arith)
-    (λ h. cond_both (c == 92) _ _ (λ x. length x ≤ 2) (λ h. omega arith)
-    (λ h. cond_both (c == 10) _ _ (λ x. length x ≤ 2) (λ h. omega arith) (λ h. cond_both (c == 13) _ _ (λ x. length x ≤ 2) (λ h. omega arith) (λ h. omega arith))))
+escaped_short : (e : Escapes) (c : ℕ) → length (escaped e c) ≤ string_width e
+escaped_short e c =
+    let two = wide e in
+    cond_both (c == 34) _ _ (λ x. length x ≤ string_width e) (λ h. omega (arith, two))
+    (λ h. cond_both (c == 92) _ _ (λ x. length x ≤ string_width e) (λ h. omega (arith, two))
+    (λ h. cond_both (c == 10) _ _ (λ x. length x ≤ string_width e) (λ h. omega (arith, two))
+    (λ h. cond_both (c == 13) _ _ (λ x. length x ≤ string_width e) (λ h. omega (arith, two)) (λ h. written_short e c))))
 
--- a text is written with twice as many characters at most
-all_escaped : (w : List ℕ) → length (flat_map escaped w) ≤ 2 * length w
-all_escaped [] = omega arith
-all_escaped (c ∷ w) = let a = escaped_short c in let b = all_escaped w in let s = length-append (escaped c) (flat_map escaped w) in omega arith
+-- a text whose characters have so many each
+all_short : (f : ℕ → List ℕ) (n : ℕ) → ((c : ℕ) → length (f c) ≤ n) → (w : List ℕ) → length (flat_map f w) ≤ n * length w
+all_short f n h [] = omega arith
+all_short f n h (c ∷ w) =
+    let a = h c in
+    let b = all_short f n h w in
+    let s = length-append (f c) (flat_map f w) in
+    let m : n * length (c ∷ w) ≡ n * length w + n = mul-suc n (length w) in
+    omega arith
 
--- a string as it is written has its quotes, and two characters for each at most; an IRI its brackets, and a character for each
-pub written_string : (w : List ℕ) → length (string_text w) ≤ 2 + 2 * length w
-written_string w = let a = all_escaped w in let s = length-append (flat_map escaped w) (34 ∷ []) in omega arith
+-- a string as it is written has its quotes, and so many characters for each at most; an IRI its brackets, and so many for each byte
+pub written_string : (e : Escapes) (w : List ℕ) → length (string_text e w) ≤ 2 + string_width e * length w
+written_string e w = let a = all_short (escaped e) (string_width e) (escaped_short e) w in let s = length-append (flat_map (escaped e) w) (34 ∷ []) in omega arith
+
+uchar_bytes : (c : ℕ) → 127 < c → length (uchar c) ≤ 3 * length (encode c)
+uchar_bytes c l =
+    let n = length-encode c in
+    uchar_cases (λ w. length w ≤ 3 * length (encode c)) c
+    (λ h. let two = more_than_one c l in omega (arith, n, two))
+    (λ h. let four = four_bytes c h in omega (arith, n, four))
+  where
+    more_than_one : (c : ℕ) → 127 < c → 2 ≤ len_utf8 c
+    more_than_one c l = grind (arith, nat_tests)
+
+    four_bytes : (c : ℕ) → 0xFFFF < c → len_utf8 c ≡ 4
+    four_bytes c l = grind (arith, nat_tests)
+
+char_bytes : (e : Escapes) (c : ℕ) → length (written e c) ≤ iri_width e * length (encode c)
+char_bytes e c = let n = length-encode c in let one = (len_utf8_bounds c).0 in by e one n
+  where
+    by : (e : Escapes) → 1 ≤ len_utf8 c → length (encode c) ≡ len_utf8 c → length (written e c) ≤ iri_width e * length (encode c)
+    by escapes.Plain o n = omega arith
+    by escapes.Ascii o n = written_cases escapes.Ascii (λ w. length w ≤ 3 * length (encode c)) c (omega (arith, o, n)) (λ l. uchar_bytes c l)
+
+iri_bytes : (e : Escapes) (i : List ℕ) → length (flat_map (written e) i) ≤ iri_width e * byte_len i
+iri_bytes e [] = omega arith
+iri_bytes e (c ∷ i) =
+    let a = char_bytes e c in
+    let b = iri_bytes e i in
+    let s = length-append (written e c) (flat_map (written e) i) in
+    let t = length-append (encode c) (encodes i) in
+    let m : iri_width e * (length (encode c) + byte_len i) ≡ iri_width e * length (encode c) + iri_width e * byte_len i = mul-add (iri_width e) (length (encode c)) (byte_len i) in
+    let k : iri_width e * byte_len (c ∷ i) ≡ iri_width e * (length (encode c) + byte_len i) = ap (λ x. iri_width e * x) t in
+    omega arith
 
 -- an IRI is written with two brackets more
-pub written_iri : (i : List ℕ) → length (iri_text i) ≤ 2 + byte_len i
-written_iri i = let a = length-le-encodes i in let s = length-append i (62 ∷ []) in omega arith
+pub written_iri : (e : Escapes) (i : List ℕ) → length (iri_text e i) ≤ 2 + iri_width e * byte_len i
+written_iri e i = let a = iri_bytes e i in let s = length-append (flat_map (written e) i) (62 ∷ []) in omega arith
 
 -- the size of the IRI of xsd:string, which a limit has to allow
 xsd_bytes : byte_len xsd_string ≡ 39
 unfolding encode
 xsd_bytes = refl
 
-module _ (limit n token_then iri_then : ℕ) (a : 2 * limit ≤ token_then) (b : n + 2 ≤ token_then) (c : 64 ≤ token_then) (d : n ≤ iri_then) (e : 64 ≤ iri_then) where
+xsd_text : (e : Escapes) → length (iri_text e xsd_string) ≡ 41
+xsd_text escapes.Plain = refl
+xsd_text escapes.Ascii = refl
+
+-- room for a string of so many characters, for an IRI of so many bytes, and for a token that is no longer
+pub string_room : (e : Escapes) (v n limit t : ℕ) → v ≤ n - 1 → n ≤ limit → string_width e * limit ≤ t → 64 ≤ t → 2 + string_width e * v ≤ t
+string_room escapes.Plain v n limit t a b c d = omega arith
+string_room escapes.Ascii v n limit t a b c d = omega arith
+
+pub iri_room : (e : Escapes) (v n t : ℕ) → v ≤ n → iri_width e * n + 2 ≤ t → 2 + iri_width e * v ≤ t
+iri_room escapes.Plain v n t a b = omega arith
+iri_room escapes.Ascii v n t a b = omega arith
+
+pub token_room : (e : Escapes) (limit t : ℕ) → string_width e * limit ≤ t → 2 * limit ≤ t
+token_room escapes.Plain limit t a = omega arith
+token_room escapes.Ascii limit t a = omega arith
+
+module _ (form : Escapes) (limit n token_then iri_then : ℕ) (a : string_width form * limit ≤ token_then) (b : iri_width form * n + 2 ≤ token_then) (c : 64 ≤ token_then) (d : n ≤ iri_then) (e : 64 ≤ iri_then) where
   -- what is known of a token
   abbrev Good : Token → Type 0
   Good t = (length t.text ≤ limit) × (t.kind ≡ IriRef → byte_len (iri_of (leaf_of t)) ≤ n)
 
-  iri_fits : (l : Leaf) → Good (token IriRef l) → (byte_len (iri_of l) ≤ iri_then) × (length (iri_text (iri_of l)) ≤ token_then)
-  iri_fits l g = let z = g.1 refl in let w = written_iri (iri_of l) in (omega arith, omega arith)
+  iri_fits : (l : Leaf) → Good (token IriRef l) → (byte_len (iri_of l) ≤ iri_then) × (length (iri_text form (iri_of l)) ≤ token_then)
+  iri_fits l g = let z = g.1 refl in let w = written_iri form (iri_of l) in let r = iri_room form _ _ _ z b in (omega arith, omega arith)
 
   label_fits : (l : Leaf) → Good (token LabelNode l) → length (95 ∷ 58 ∷ drop 2 l.text) ≤ token_then
-  label_fits l g = let s = length-drop 2 l.text in let z = g.0 in omega (arith, s)
+  label_fits l g = let s = length-drop 2 l.text in let z = g.0 in let r = token_room form limit token_then a in omega (arith, s)
 
-  string_fits : (l : Leaf) → Good (token ShortString l) → length (string_text (string_of l)) ≤ token_then
-  string_fits l g = let s = string_short 1 l.text in let w = written_string (string_of l) in let z = g.0 in omega arith
+  string_fits : (l : Leaf) → Good (token ShortString l) → length (string_text form (string_of l)) ≤ token_then
+  string_fits l g = let w = written_string form (string_of l) in let r = string_room form _ _ _ _ (string_short 1 l.text) g.0 a c in omega arith
 
   tag_fits : (l : Leaf) → Good (token LangTag l) → length (64 ∷ drop 1 l.text) ≤ token_then
-  tag_fits l g = let s = length-drop 1 l.text in let z = g.0 in omega (arith, s)
+  tag_fits l g = let s = length-drop 1 l.text in let z = g.0 in let r = token_room form limit token_then a in omega (arith, s)
 
   name_fits : (x : Name) → AllByRecursion Good (name_tokens x) →
-      SubjectWithin iri_then (subject_of x) × (length (subject_text (rename_subject Kept (subject_of x))) ≤ token_then)
+      SubjectWithin iri_then (subject_of x) × (length (subject_text form (rename_subject Kept (subject_of x))) ≤ token_then)
   name_fits (Ref l) g = iri_fits l g.0
   name_fits (Lab l) g = (tt, label_fits l g.0)
 
-  object_fits : (x : Object) → AllByRecursion Good (object_tokens x) → TermWithin iri_then (term_of x) × TermShort token_then (rename_term Kept (term_of x))
+  object_fits : (x : Object) → AllByRecursion Good (object_tokens x) → TermWithin iri_then (term_of x) × TermShort form token_then (rename_term Kept (term_of x))
   object_fits (Named x) g = name_fits x g
-  object_fits (Plain l) g = (let z = xsd_bytes in omega arith, (string_fits l g.0, let z = xsd_bytes in let w = written_iri xsd_string in omega arith))
+  object_fits (Plain l) g = (let z = xsd_bytes in omega arith, (string_fits l g.0, let w = xsd_text form in omega arith))
   object_fits (WithType l k i) g = let z = iri_fits i g.1.1.0 in (z.0, (string_fits l g.0, z.1))
   object_fits (WithTag l t) g = (tt, (string_fits l g.0, tag_fits t g.1.0))
 
   graph_fits_in : (x : Option Name) → AllByRecursion Good (graph_tokens x) →
-      GraphWithin iri_then (option_map subject_of x) × GraphShort token_then (option_map (rename_subject Kept) (option_map subject_of x))
+      GraphWithin iri_then (option_map subject_of x) × GraphShort form token_then (option_map (rename_subject Kept) (option_map subject_of x))
   graph_fits_in None g = (tt, tt)
   graph_fits_in (Some x) g = name_fits x g
 
   abbrev Fits : Quad → Type 0
-  Fits q = IrisWithin iri_then q × TokensWithin token_then (rename Kept q)
+  Fits q = IrisWithin iri_then q × TokensWithin form token_then (rename Kept q)
 
   statement_fits : (s : Statement) → AllByRecursion Good (statement_tokens s) → Fits (quad_of s)
   statement_fits s g =
@@ -149,7 +221,7 @@ module _ (limit n token_then iri_then : ℕ) (a : 2 * limit ≤ token_then) (b :
   iris [] h = tt
   iris (q ∷ qs) h = (h.0.0, iris qs h.1)
 
-  shorts : (qs : List Quad) → AllByRecursion Fits qs → AllByRecursion (TokensWithin token_then) (map (rename Kept) qs)
+  shorts : (qs : List Quad) → AllByRecursion Fits qs → AllByRecursion (TokensWithin form token_then) (map (rename Kept) qs)
   shorts [] h = tt
   shorts (q ∷ qs) h = (h.0.1, shorts qs h.1)
 
@@ -163,11 +235,11 @@ module _ (limit n token_then iri_then : ℕ) (a : 2 * limit ≤ token_then) (b :
 
 -- the law that what was written is read to its end
 pub document_read_back : WrittenDocumentIsRead
-document_read_back form limit n bytes qs document whole token_then iri_then a b c d e =
+document_read_back x form limit n bytes qs document whole token_then iri_then a b c d e =
     let ts = (tokens_of Lines limit bytes true).tokens in
     let (tree, tokens, bound, same) = without_marks form ts qs (document.1, document.2, document.3) in
-    let g = good limit n token_then iri_then a b c d e ts (no_longer Lines limit bytes true) whole.front.kept in
-    let here = subst (AllByRecursion (Good limit n token_then iri_then a b c d e)) tokens g in
-    let fits = subst (AllByRecursion (Fits limit n token_then iri_then a b c d e)) same (tree_fits limit n token_then iri_then a b c d e tree here) in
-    let short = shorts limit n token_then iri_then a b c d e qs fits in
-    text_read Kept qs token_then iri_then (document_writable form limit n bytes qs document) (omega arith) short (iris limit n token_then iri_then a b c d e qs fits)
+    let g = good x limit n token_then iri_then a b c d e ts (no_longer Lines limit bytes true) whole.front.kept in
+    let here = subst (AllByRecursion (Good x limit n token_then iri_then a b c d e)) tokens g in
+    let fits = subst (AllByRecursion (Fits x limit n token_then iri_then a b c d e)) same (tree_fits x limit n token_then iri_then a b c d e tree here) in
+    let short = shorts x limit n token_then iri_then a b c d e qs fits in
+    text_read Kept x qs token_then iri_then (document_writable form limit n bytes qs document) (let h : 2 ≤ token_then = omega arith in h) short (iris x limit n token_then iri_then a b c d e qs fits)

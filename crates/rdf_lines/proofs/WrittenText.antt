@@ -1,5 +1,5 @@
 -- The written bytes are good text.
-use Rattle.std.proofs.Common.{◌≡◌, ℕ, Bool, true, false, cond, List, [], ◌∷◌, ◌++◌, ◌==◌, refl, ap, ◌∙◌, ⊎_elim, length, take, drop, Option, Some, None, arith}
+use Rattle.std.proofs.Common.{◌≡◌, ℕ, ◌<◌, Bool, true, false, cond, List, [], ◌∷◌, ◌++◌, ◌==◌, refl, ap, ◌∙◌, ⊎_elim, length, take, drop, Option, Some, None, arith}
 use Rattle.std.specs.Prelude.{flat_map, encode_utf8_all, bytes_eq}
 use Rattle.std.specs.List.{AllByRecursion}
 use Rattle.std.specs.Str.{chars}
@@ -21,9 +21,12 @@ use Rattle.rdf_tokens.specs.Good.{good, tail_of, mark, has_byte_order_mark, toke
 use Rattle.rdf_tokens.specs.Tokens.{past, tokens}
 use Rattle.rdf_tokens.specs.Tokens.Tail.{ended}
 use Rattle.rdf_terms.specs.Terms.{Label, Anon, Cell, Lang, Typed, Subject, Iri, Blank, Term, Resource, Literal, Quad, xsd_string, all_have, IsIri, IsSubject, IsTerm, IsGraph, IsQuad}
+use Rattle.rdf_lines.specs.declared.form.Escapes.{Escapes}
 use Rattle.rdf_lines.specs.declared.form.Style.TheVariants.{Kept}
-use Rattle.rdf_lines.specs.Writing.{escaped, CanWrite, CanWriteSubject, CanWriteTerm, CanWriteGraph, iri_text, subject_text, string_text, type_text, term_text, space, graph_text, quad_text}
+use Rattle.rdf_lines.specs.Writing.{uchar, written, escaped, CanWrite, CanWriteSubject, CanWriteTerm, CanWriteGraph, iri_text, subject_text, string_text, type_text, term_text, space, graph_text, quad_text}
 use Rattle.rdf_terms.proofs.UsedCharacters.{uses, all_used}
+use Rattle.rdf_lines.proofs.AsciiLemmas.{low_scalars}
+use Rattle.rdf_lines.proofs.UcharLemmas.{written_cases, uchar_low}
 use Rattle.rdf_lines.proofs.SpelledLine.{Written, upto_subject, upto_predicate, upto_object, upto_graph}
 
 -- each character of a matched text is a scalar value
@@ -45,11 +48,6 @@ scalars_from : (test : ℕ → Bool) → ((c : ℕ) → test c ≡ true → scal
 scalars_from test f [] a = refl
 scalars_from test f (c ∷ w) a = and_from _ _ (same_scalar c (f c a.0)) (scalars_from test f w a.1)
 
--- what passes a test of characters consists of characters
-scalars_have : (test : ℕ → Bool) → ((c : ℕ) → test c ≡ true → scalar c ≡ true) → (w : List ℕ) → all_have test w ≡ true → scalars w ≡ true
-scalars_have test f [] a = refl
-scalars_have test f (c ∷ w) a = let p = and_parts (test c) (all_have test w) a in and_from _ _ (same_scalar c (f c p.0)) (scalars_have test f w p.1)
-
 -- a text of an expression consists of characters
 matched_scalars : (r : Regex) (w : List ℕ) → Matches r w → scalars w ≡ true
 matched_scalars r w m = scalars_from (uses r) (uses_scalar r) w (all_used r w m)
@@ -64,71 +62,70 @@ has_scalar : (k : Class) (c : ℕ) → has k c ≡ true → scalar c ≡ true
 unfolding has
 has_scalar k c h = (and_parts (scalar c) _ h).0
 
+written_scalars : (e : Escapes) (c : ℕ) → scalar c ≡ true → scalars (written e c) ≡ true
+written_scalars e c h = written_cases e (λ w. scalars w ≡ true) c (and_from _ true (same_scalar c h) refl) (λ l. low_scalars (uchar c) (uchar_low c))
+
+all_written : (f : ℕ → List ℕ) (test : ℕ → Bool) → ((c : ℕ) → test c ≡ true → scalars (f c) ≡ true) → (w : List ℕ) → all_have test w ≡ true → scalars (flat_map f w) ≡ true
+all_written f test g [] a = refl
+all_written f test g (c ∷ w) a = let p = and_parts (test c) (all_have test w) a in scalars_append (f c) (flat_map f w) (g c p.0) (all_written f test g w p.1)
+
 -- an IRI is written in characters
-iri_scalars : (i : List ℕ) → IsIri i → scalars (iri_text i) ≡ true
-iri_scalars i h = scalars_append i (62 ∷ []) (scalars_have (has iri_char) (has_scalar iri_char) i h.characters) refl
+iri_scalars : (e : Escapes) (i : List ℕ) → IsIri i → scalars (iri_text e i) ≡ true
+iri_scalars e i h =
+    scalars_append (flat_map (written e) i) (62 ∷ [])
+    (all_written (written e) (has iri_char) (λ c k. written_scalars e c (has_scalar iri_char c k)) i h.characters) refl
 
 -- a subject is written in characters
-subject_scalars : (s : Subject) → IsSubject s → CanWriteSubject Kept s → scalars (subject_text s) ≡ true
-subject_scalars (Iri i) h c = iri_scalars i h
-subject_scalars (Blank (Label x)) h c = matched_scalars (label_name Lines) x h
-subject_scalars (Blank (Anon n)) h c = absurd c
-subject_scalars (Blank (Cell n)) h c = absurd c
+subject_scalars : (e : Escapes) (s : Subject) → IsSubject s → CanWriteSubject Kept s → scalars (subject_text e s) ≡ true
+subject_scalars e (Iri i) h c = iri_scalars e i h
+subject_scalars e (Blank (Label x)) h c = matched_scalars (label_name Lines) x h
+subject_scalars e (Blank (Anon n)) h c = absurd c
+subject_scalars e (Blank (Cell n)) h c = absurd c
 
 -- a character is escaped in characters
-escaped_scalars : (c : ℕ) → scalar c ≡ true → scalars (escaped c) ≡ true
-escaped_scalars c h =
-    test 34 _ _ refl (test 92 _ _ refl (test 10 _ _ refl (test 13 _ _ refl (and_from _ true (same_scalar c h) refl))))
+escaped_scalars : (e : Escapes) (c : ℕ) → scalar c ≡ true → scalars (escaped e c) ≡ true
+escaped_scalars e c h =
+    test 34 _ _ refl (test 92 _ _ refl (test 10 _ _ refl (test 13 _ _ refl (written_scalars e c h))))
   where
     test : (x : ℕ) (u v : List ℕ) → scalars u ≡ true → scalars v ≡ true → scalars (cond (c == x) u v) ≡ true
-    test x u v a b = ⊎_elim (λ e. ap scalars (cond-true (c == x) u v e) ∙ a) (λ e. ap scalars (cond-false (c == x) u v e) ∙ b) (cases_Bool (c == x))
+    test x u v a b = ⊎_elim (λ t. ap scalars (cond-true (c == x) u v t) ∙ a) (λ t. ap scalars (cond-false (c == x) u v t) ∙ b) (cases_Bool (c == x))
 
--- a text is escaped in characters
-all_escaped : (w : List ℕ) → all_have scalar w ≡ true → scalars (flat_map escaped w) ≡ true
-all_escaped [] a = refl
-all_escaped (c ∷ w) a = let p = and_parts (scalar c) (all_have scalar w) a in scalars_append (escaped c) (flat_map escaped w) (escaped_scalars c p.0) (all_escaped w p.1)
+string_scalars : (e : Escapes) (w : List ℕ) → all_have scalar w ≡ true → scalars (string_text e w) ≡ true
+string_scalars e w a = scalars_append (flat_map (escaped e) w) (34 ∷ []) (all_written (escaped e) scalar (escaped_scalars e) w a) refl
 
--- a string is written in characters
-string_scalars : (w : List ℕ) → all_have scalar w ≡ true → scalars (string_text w) ≡ true
-string_scalars w a = scalars_append (flat_map escaped w) (34 ∷ []) (all_escaped w a) refl
+type_scalars : (e : Escapes) (b : Bool) (i : List ℕ) → IsIri i → scalars (type_text e b i) ≡ true
+type_scalars e true i h = refl
+type_scalars e false i h = iri_scalars e i h
 
--- a datatype is written in characters
-type_scalars : (b : Bool) (i : List ℕ) → IsIri i → scalars (type_text b i) ≡ true
-type_scalars true i h = refl
-type_scalars false i h = iri_scalars i h
+term_scalars : (e : Escapes) (t : Term) → IsTerm t → CanWriteTerm Kept t → scalars (term_text e t) ≡ true
+term_scalars e (Resource s) h c = subject_scalars e s h c
+term_scalars e (Literal w (Lang t)) h c = scalars_append (string_text e w) (64 ∷ t) (string_scalars e w h.0) (matched_scalars tag_name t h.1)
+term_scalars e (Literal w (Typed i)) h c =
+    scalars_append (string_text e w) (type_text e (bytes_eq i xsd_string) i) (string_scalars e w h.0) (type_scalars e (bytes_eq i xsd_string) i h.1)
 
--- an object is written in characters
-term_scalars : (t : Term) → IsTerm t → CanWriteTerm Kept t → scalars (term_text t) ≡ true
-term_scalars (Resource s) h c = subject_scalars s h c
-term_scalars (Literal w (Lang t)) h c = scalars_append (string_text w) (64 ∷ t) (string_scalars w h.0) (matched_scalars tag_name t h.1)
-term_scalars (Literal w (Typed i)) h c = scalars_append (string_text w) (type_text (bytes_eq i xsd_string) i) (string_scalars w h.0) (type_scalars (bytes_eq i xsd_string) i h.1)
+graph_scalars : (e : Escapes) (g : Option Subject) → IsGraph g → CanWriteGraph Kept g → scalars (graph_text e g) ≡ true
+graph_scalars e None h c = refl
+graph_scalars e (Some g) h c = scalars_append (subject_text e g) space (subject_scalars e g h c) refl
 
--- a graph label is written in characters
-graph_scalars : (g : Option Subject) → IsGraph g → CanWriteGraph Kept g → scalars (graph_text g) ≡ true
-graph_scalars None h c = refl
-graph_scalars (Some g) h c = scalars_append (subject_text g) space (subject_scalars g h c) refl
+pub quad_scalars : (e : Escapes) (q : Quad) → IsQuad q → CanWrite Kept q → scalars (quad_text e q) ≡ true
+quad_scalars e q h c =
+    let a = scalars_append (subject_text e q.subject) space (subject_scalars e q.subject h.subject c.subject) refl in
+    let b = scalars_append (iri_text e q.predicate) space (iri_scalars e q.predicate h.predicate) refl in
+    let d = scalars_append (term_text e q.object) space (term_scalars e q.object h.object c.object) refl in
+    let f = graph_scalars e q.graph h.graph c.graph in
+    scalars_append (upto_graph e q ++ 46 ∷ []) (10 ∷ []) (scalars_append (upto_graph e q) (46 ∷ []) (scalars_append (upto_object e q) (graph_text e q.graph)
+    (scalars_append (upto_predicate e q) (term_text e q.object ++ space) (scalars_append (upto_subject e q) (iri_text e q.predicate ++ space) a b) d) f) refl) refl
 
--- a line consists of characters
-pub quad_scalars : (q : Quad) → IsQuad q → CanWrite Kept q → scalars (quad_text q) ≡ true
-quad_scalars q h c =
-    let a = scalars_append (subject_text q.subject) space (subject_scalars q.subject h.subject c.subject) refl in
-    let b = scalars_append (iri_text q.predicate) space (iri_scalars q.predicate h.predicate) refl in
-    let d = scalars_append (term_text q.object) space (term_scalars q.object h.object c.object) refl in
-    let e = graph_scalars q.graph h.graph c.graph in
-    scalars_append (upto_graph q ++ 46 ∷ []) (10 ∷ []) (scalars_append (upto_graph q) (46 ∷ []) (scalars_append (upto_object q) (graph_text q.graph)
-    (scalars_append (upto_predicate q) (term_text q.object ++ space) (scalars_append (upto_subject q) (iri_text q.predicate ++ space) a b) d) e) refl) refl
+pub text_scalars : (e : Escapes) (qs : List Quad) → Written qs → scalars (flat_map (quad_text e) qs) ≡ true
+text_scalars e [] h = refl
+text_scalars e (q ∷ qs) h = scalars_append (quad_text e q) (flat_map (quad_text e) qs) (quad_scalars e q h.0.0 h.0.1) (text_scalars e qs h.1)
 
--- what is written consists of characters, so it can be encoded in UTF-8
-pub text_scalars : (qs : List Quad) → Written qs → scalars (flat_map quad_text qs) ≡ true
-text_scalars [] h = refl
-text_scalars (q ∷ qs) h = scalars_append (quad_text q) (flat_map quad_text qs) (quad_scalars q h.0.0 h.0.1) (text_scalars qs h.1)
-
--- no text that is written begins with U+FEFF
-pub no_mark : (qs : List Quad) → Written qs → has_byte_order_mark (flat_map quad_text qs) ≡ false
-no_mark [] h = refl
-no_mark (q ∷ qs) h = at q.subject space (iri_text q.predicate ++ space) (term_text q.object ++ space) (graph_text q.graph) (46 ∷ []) (10 ∷ []) (flat_map quad_text qs) h.0.0.subject h.0.1.subject
+pub no_mark : (e : Escapes) (qs : List Quad) → Written qs → has_byte_order_mark (flat_map (quad_text e) qs) ≡ false
+no_mark x [] h = refl
+no_mark x (q ∷ qs) h =
+    at q.subject space (iri_text x q.predicate ++ space) (term_text x q.object ++ space) (graph_text x q.graph) (46 ∷ []) (10 ∷ []) (flat_map (quad_text x) qs) h.0.0.subject h.0.1.subject
   where
-    at : (s : Subject) (a b d e f g r : List ℕ) → IsSubject s → CanWriteSubject Kept s → has_byte_order_mark (subject_text s ++ a ++ b ++ d ++ e ++ f ++ g ++ r) ≡ false
+    at : (s : Subject) (a b d e f g r : List ℕ) → IsSubject s → CanWriteSubject Kept s → has_byte_order_mark (subject_text x s ++ a ++ b ++ d ++ e ++ f ++ g ++ r) ≡ false
     at (Iri i) a b d e f g r h c = refl
     at (Blank (Label x)) a b d e f g r h c = refl
     at (Blank (Anon n)) a b d e f g r h c = absurd c

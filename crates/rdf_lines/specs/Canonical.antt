@@ -6,6 +6,7 @@ use Rattle.rdf_driver.specs.Readers.{Driven, HasRead}
 use Rattle.rdf_driver.specs.Passing.{LeadsBack}
 use Rattle.rdf_lines.specs.declared.form.LineForm.{LineForm}
 use Rattle.rdf_lines.specs.declared.form.LineForm.TheVariants.{NTriples, NQuads}
+use Rattle.rdf_lines.specs.declared.form.Escapes.TheVariants.{Plain}
 use Rattle.rdf_lines.specs.declared.form.Style.TheVariants.{Kept}
 use Rattle.rdf_lines.specs.declared.rules.Rules.{Rules}
 use Rattle.rdf_lines.specs.Machine.{Begin}
@@ -51,13 +52,13 @@ LabelFits NQuads g = Unit
 pub record IsTaken (form : LineForm) (token iri : ℕ) (q : Quad) : Type 0 where
   pub quad : IsQuad q
   pub labels : CanWrite Kept q
-  pub tokens : TokensWithin token q
+  pub tokens : TokensWithin Plain token q
   pub iris : IrisWithin iri q
   pub graph : LabelFits form q.graph
 
 -- The bytes are the lines of such quads.
 pub record IsCanonical (form : LineForm) (token iri : ℕ) (bytes : List ℕ) (qs : List Quad) : Type 0 where
-  pub is : bytes ≡ encode_utf8_all (text Kept qs)
+  pub is : bytes ≡ encode_utf8_all (text Kept Plain qs)
   pub each : AllByRecursion (IsTaken form token iri) qs
 
 -- Between two lines, canonical lines spell as many tokens as are counted for their quads, give these quads, and lead back between two lines; `^^` has two

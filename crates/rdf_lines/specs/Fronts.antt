@@ -5,10 +5,11 @@ use Rattle.rdf_terms.specs.Classes.{scalar}
 use Rattle.rdf_terms.specs.Terms.{Tail, Subject, Term, Quad, all_have, IsIri, IsLabel, IsTag, IsSubject, IsTail, IsTerm, IsGraph}
 use Rattle.rdf_iri.specs.Texts.{byte_len}
 use Rattle.rdf_lines.specs.declared.form.LineForm.{LineForm}
+use Rattle.rdf_lines.specs.declared.form.Escapes.TheVariants.{Plain}
 use Rattle.rdf_lines.specs.declared.form.Style.TheVariants.{Kept}
 use Rattle.rdf_lines.specs.Canonical.{tail_count, term_count, graph_count, quad_count, count, LabelFits, IsTaken, IsCanonical}
 use Rattle.rdf_lines.specs.Laws.{SubjectWithin, TailWithin, TermWithin, GraphWithin}
-use Rattle.rdf_lines.specs.Writing.{CanWriteSubject, CanWriteTerm, CanWriteGraph, escaped, subject_text, tail_text, term_text, space, graph_text, quad_text, text}
+use Rattle.rdf_lines.specs.Writing.{CanWriteSubject, CanWriteTerm, CanWriteGraph, written, escaped, iri_text, subject_text, tail_text, term_text, space, graph_text, quad_text, text}
 
 -- The text stands there, before the rest.
 abbrev pub Stands : List ℕ → List ℕ → List ℕ → Type 0
@@ -18,7 +19,7 @@ Stands w bytes rest = bytes ≡ encode_utf8_all w ++ rest
 pub record IriStands (iri : ℕ) (i bytes rest : List ℕ) : Type 0 where
   pub is : IsIri i
   pub within : byte_len i ≤ iri
-  pub stands : Stands (i ++ 62 ∷ []) bytes rest
+  pub stands : Stands (flat_map (written Plain) i ++ 62 ∷ []) bytes rest
 
 -- a label
 pub record LabelStands (bytes rest : List ℕ) : Type 0 where
@@ -36,7 +37,7 @@ pub record TagStands (bytes rest : List ℕ) : Type 0 where
 pub record StringStands (bytes rest : List ℕ) : Type 0 where
   pub string : List ℕ
   pub is : all_have scalar string ≡ true
-  pub stands : Stands (flat_map escaped string ++ 34 ∷ []) bytes rest
+  pub stands : Stands (flat_map (escaped Plain) string ++ 34 ∷ []) bytes rest
 
 -- a subject and a space
 pub record SubjectStands (iri : ℕ) (bytes rest : List ℕ) : Type 0 where
@@ -44,14 +45,14 @@ pub record SubjectStands (iri : ℕ) (bytes rest : List ℕ) : Type 0 where
   pub is : IsSubject subject
   pub labels : CanWriteSubject Kept subject
   pub within : SubjectWithin iri subject
-  pub stands : Stands (subject_text subject ++ space) bytes rest
+  pub stands : Stands (subject_text Plain subject ++ space) bytes rest
 
 -- a predicate and a space
 pub record PredicateStands (iri : ℕ) (bytes rest : List ℕ) : Type 0 where
   pub predicate : List ℕ
   pub is : IsIri predicate
   pub within : byte_len predicate ≤ iri
-  pub stands : Stands ((60 ∷ predicate ++ 62 ∷ []) ++ space) bytes rest
+  pub stands : Stands (iri_text Plain predicate ++ space) bytes rest
 
 -- what follows a string, of so many tokens, and a space
 pub record TailStands (iri n : ℕ) (bytes rest : List ℕ) : Type 0 where
@@ -59,7 +60,7 @@ pub record TailStands (iri n : ℕ) (bytes rest : List ℕ) : Type 0 where
   pub is : IsTail tail
   pub within : TailWithin iri tail
   pub count : n ≡ tail_count tail
-  pub stands : Stands (tail_text tail ++ space) bytes rest
+  pub stands : Stands (tail_text Plain tail ++ space) bytes rest
 
 -- an object of so many tokens, and a space
 pub record ObjectStands (iri n : ℕ) (bytes rest : List ℕ) : Type 0 where
@@ -68,7 +69,7 @@ pub record ObjectStands (iri n : ℕ) (bytes rest : List ℕ) : Type 0 where
   pub labels : CanWriteTerm Kept object
   pub within : TermWithin iri object
   pub count : n ≡ term_count object
-  pub stands : Stands (term_text object ++ space) bytes rest
+  pub stands : Stands (term_text Plain object ++ space) bytes rest
 
 -- a graph label of the form and a space, or none
 pub record GraphStands (form : LineForm) (iri n : ℕ) (bytes rest : List ℕ) : Type 0 where
@@ -78,14 +79,14 @@ pub record GraphStands (form : LineForm) (iri n : ℕ) (bytes rest : List ℕ) :
   pub within : GraphWithin iri graph
   pub fits : LabelFits form graph
   pub count : n ≡ graph_count graph
-  pub stands : Stands (graph_text graph) bytes rest
+  pub stands : Stands (graph_text Plain graph) bytes rest
 
 -- a line of so many tokens, that a document of the form may have within the limits
 pub record LineStands (form : LineForm) (token iri n : ℕ) (bytes rest : List ℕ) : Type 0 where
   pub quad : Quad
   pub is : IsTaken form token iri quad
   pub count : n ≡ quad_count quad
-  pub stands : Stands (quad_text quad) bytes rest
+  pub stands : Stands (quad_text Plain quad) bytes rest
 
 -- lines of so many quads and tokens, that a document of the form may have within the limits
 pub record LinesStand (form : LineForm) (token iri quads tokens : ℕ) (bytes rest : List ℕ) : Type 0 where
@@ -93,7 +94,7 @@ pub record LinesStand (form : LineForm) (token iri quads tokens : ℕ) (bytes re
   pub each : AllByRecursion (IsTaken form token iri) given
   pub quad_count : quads ≡ length given
   pub token_count : tokens ≡ count given
-  pub stands : Stands (text Kept given) bytes rest
+  pub stands : Stands (text Kept Plain given) bytes rest
 
 -- The bytes are such lines.
 pub record AreLines (form : LineForm) (token iri quads tokens : ℕ) (bytes : List ℕ) : Type 0 where
@@ -104,4 +105,4 @@ pub record AreLines (form : LineForm) (token iri quads tokens : ℕ) (bytes : Li
 
 -- no character of the text is escaped
 abbrev pub NoEscapes : List ℕ → Type 0
-NoEscapes w = flat_map escaped w ≡ w
+NoEscapes w = flat_map (escaped Plain) w ≡ w

@@ -1,5 +1,5 @@
 -- The laws of line reading and of the written lines.
-use Rattle.std.specs.Prelude.{◌≡◌, ◌≤◌, ◌+◌, ◌*◌, ℕ, true, false, List, ◌∷◌, ◌++◌, map, length, Option, Some, None, encode_utf8_all}
+use Rattle.std.specs.Prelude.{◌≡◌, ◌<◌, ◌≤◌, ◌+◌, ◌*◌, ℕ, true, false, List, ◌∷◌, ◌++◌, map, length, Option, Some, None, encode_utf8_all}
 use Rattle.std.specs.List.{AllByRecursion}
 use Rattle.rdf_terms.specs.declared.reason.Reason.{Reason}
 use Rattle.rdf_terms.specs.Terms.{Tail, Lang, Typed, Subject, Iri, Blank, Term, Resource, Literal, Quad}
@@ -13,13 +13,15 @@ use Rattle.rdf_lines.specs.declared.rules.Rules.{Rules}
 use Rattle.rdf_lines.specs.Lines.{documents, trees}
 use Rattle.rdf_lines.specs.Documents.{in_lines}
 use Rattle.rdf_lines.specs.Accepting.{LineAt, line_words}
+use Rattle.rdf_lines.specs.declared.form.Escapes.{Escapes}
+use Rattle.rdf_lines.specs.declared.form.Escapes.TheVariants.{Plain, Ascii}
 use Rattle.rdf_lines.specs.declared.form.Style.{Style}
 use Rattle.rdf_lines.specs.declared.form.Style.TheVariants.{Kept}
-use Rattle.rdf_lines.specs.Writing.{rename, iri_text, subject_text, string_text, text, Writable}
+use Rattle.rdf_lines.specs.Writing.{rename, iri_text, subject_text, string_text, text, Writable, HasAsciiLabels}
 
 -- The written bytes are a document of N-Quads whose quads are the renamed ones, whatever the limit on IRIs.
-abbrev pub ReadsBack : Style → List Quad → ℕ → Type 0
-ReadsBack s qs limit = (iri : ℕ) → IsDocumentOf (in_lines NQuads limit iri) (encode_utf8_all (text s qs)) (map (rename s) qs)
+abbrev pub ReadsBack : Style → Escapes → List Quad → ℕ → Type 0
+ReadsBack s e qs limit = (iri : ℕ) → IsDocumentOf (in_lines NQuads limit iri) (encode_utf8_all (text s e qs)) (map (rename s) qs)
 
 -- Every tree of the same tokens has the same quads, with the same marks.
 abbrev pub TokensSettleTheQuads : Type 0
@@ -77,38 +79,52 @@ pub record IrisWithin (n : ℕ) (q : Quad) : Type 0 where
   pub graph : GraphWithin n q.graph
 
 -- a datatype or a language tag is written with no more characters
-abbrev pub TailShort : ℕ → Tail → Type 0
-TailShort n (Lang t) = length (64 ∷ t) ≤ n
-TailShort n (Typed i) = length (iri_text i) ≤ n
+abbrev pub TailShort : Escapes → ℕ → Tail → Type 0
+TailShort e n (Lang t) = length (64 ∷ t) ≤ n
+TailShort e n (Typed i) = length (iri_text e i) ≤ n
 
 -- no token of an object is written with more
-abbrev pub TermShort : ℕ → Term → Type 0
-TermShort n (Resource s) = length (subject_text s) ≤ n
-TermShort n (Literal w t) = (length (string_text w) ≤ n) × TailShort n t
+abbrev pub TermShort : Escapes → ℕ → Term → Type 0
+TermShort e n (Resource s) = length (subject_text e s) ≤ n
+TermShort e n (Literal w t) = (length (string_text e w) ≤ n) × TailShort e n t
 
 -- nor that of a graph label
-abbrev pub GraphShort : ℕ → Option Subject → Type 0
-GraphShort n None = Unit
-GraphShort n (Some g) = length (subject_text g) ≤ n
+abbrev pub GraphShort : Escapes → ℕ → Option Subject → Type 0
+GraphShort e n None = Unit
+GraphShort e n (Some g) = length (subject_text e g) ≤ n
 
 -- no token of the quad, as it is written, has more characters
-pub record TokensWithin (n : ℕ) (q : Quad) : Type 0 where
-  pub subject : length (subject_text q.subject) ≤ n
-  pub predicate : length (iri_text q.predicate) ≤ n
-  pub object : TermShort n q.object
-  pub graph : GraphShort n q.graph
+pub record TokensWithin (e : Escapes) (n : ℕ) (q : Quad) : Type 0 where
+  pub subject : length (subject_text e q.subject) ≤ n
+  pub predicate : length (iri_text e q.predicate) ≤ n
+  pub object : TermShort e n q.object
+  pub graph : GraphShort e n q.graph
 
 -- What is written for quads is read to its end as N-Quads, where no token of the lines and no IRI of the quads passes a limit; `^^` has two characters.
 abbrev pub WrittenTextIsRead : Type 0
-WrittenTextIsRead = (s : Style) (qs : List Quad) (limit iri : ℕ) → Writable s qs → 2 ≤ limit → AllByRecursion (TokensWithin limit) (map (rename s) qs) →
-    AllByRecursion (IrisWithin iri) qs → IsReadToItsEnd (in_lines NQuads limit iri) (encode_utf8_all (text s qs))
+WrittenTextIsRead = (s : Style) (e : Escapes) (qs : List Quad) (limit iri : ℕ) → Writable s qs → 2 ≤ limit → AllByRecursion (TokensWithin e limit) (map (rename s) qs) →
+    AllByRecursion (IrisWithin iri) qs → IsReadToItsEnd (in_lines NQuads limit iri) (encode_utf8_all (text s e qs))
 
 -- The quads of a document are well formed, and each of their nodes has a label.
 abbrev pub DocumentIsWritable : Type 0
 DocumentIsWritable = (form : LineForm) (token iri : ℕ) (bytes : List ℕ) (qs : List Quad) → IsDocumentOf (in_lines form token iri) bytes qs → Writable Kept qs
 
--- What is written, with the labels kept, for a document within some limits is read to its end with limits that are a little higher.
+-- how many characters a character of a string has at most, as it is written: `\n`, or `\U` and eight digits
+abbrev pub string_width : Escapes → ℕ
+string_width Plain = 2
+string_width Ascii = 10
+
+-- how many characters an IRI has at most, as it is written, for each of its bytes: `\u` and four digits for two bytes
+abbrev pub iri_width : Escapes → ℕ
+iri_width Plain = 1
+iri_width Ascii = 3
+
+-- What is written, with the labels kept, for a document within some limits is read to its end with limits that are higher by what the escapes take.
 abbrev pub WrittenDocumentIsRead : Type 0
-WrittenDocumentIsRead = (form : LineForm) (token iri : ℕ) (bytes : List ℕ) (qs : List Quad) → IsDocumentOf (in_lines form token iri) bytes qs → IsWhole (in_lines form token iri) bytes →
-    (token_then iri_then : ℕ) → 2 * token ≤ token_then → iri + 2 ≤ token_then → 64 ≤ token_then → iri ≤ iri_then → 64 ≤ iri_then →
-    IsReadToItsEnd (in_lines NQuads token_then iri_then) (encode_utf8_all (text Kept qs))
+WrittenDocumentIsRead = (e : Escapes) (form : LineForm) (token iri : ℕ) (bytes : List ℕ) (qs : List Quad) → IsDocumentOf (in_lines form token iri) bytes qs → IsWhole (in_lines form token iri) bytes →
+    (token_then iri_then : ℕ) → string_width e * token ≤ token_then → iri_width e * iri + 2 ≤ token_then → 64 ≤ token_then → iri ≤ iri_then → 64 ≤ iri_then →
+    IsReadToItsEnd (in_lines NQuads token_then iri_then) (encode_utf8_all (text Kept e qs))
+
+-- In ASCII each byte that is written is below 128, where each label has such characters alone.
+abbrev pub AsciiIsWritten : Type 0
+AsciiIsWritten = (s : Style) (qs : List Quad) → Writable s qs → AllByRecursion HasAsciiLabels qs → AllByRecursion (λ b. b < 128) (encode_utf8_all (text s Ascii qs))

@@ -1,7 +1,9 @@
 -- The text that is written for a quad, and how labels are renamed in it.
-use Rattle.std.specs.Prelude.{ℕ, Bool, true, false, cond, List, [], ◌∷◌, ◌++◌, ◌==◌, ◌||◌, flat_map, decimal, bytes_eq, Option, Some, None, option_map}
+use Rattle.std.specs.Prelude.{ℕ, ◌+◌, ◌/◌, ◌%◌, ◌<◌, Bool, true, false, cond, nat_le, nat_lt, List, [], ◌∷◌, ◌++◌, ◌==◌, ◌||◌, map, flat_map, decimal, bytes_eq, Option, Some, None, option_map}
 use Rattle.rdf_terms.specs.Terms.{Node, Label, Anon, Cell, Tail, Lang, Typed, Subject, Iri, Blank, Term, Resource, Literal, Quad, xsd_string, IsQuad}
 use Rattle.std.specs.List.{AllByRecursion}
+use Rattle.rdf_lines.specs.declared.form.Escapes.{Escapes}
+use Rattle.rdf_lines.specs.declared.form.Escapes.TheVariants.{Plain, Ascii}
 use Rattle.rdf_lines.specs.declared.form.Style.{Style}
 use Rattle.rdf_lines.specs.declared.form.Style.TheVariants.{Kept, Tagged}
 
@@ -54,69 +56,110 @@ pub record CanWrite (s : Style) (q : Quad) : Type 0 where
   pub object : CanWriteTerm s q.object
   pub graph : CanWriteGraph s q.graph
 
--- in a string " \ LF CR are escaped
-abbrev pub is_escaped : ℕ → Bool
-is_escaped c = c == 34 || c == 92 || c == 10 || c == 13
+-- a hex digit in upper case
+abbrev pub hex_glyph : ℕ → ℕ
+hex_glyph d = cond (nat_lt d 10) (48 + d) (55 + d)
 
--- a character as it stands in a written string
-abbrev pub escaped : ℕ → List ℕ
-escaped c = cond (c == 34) (92 ∷ 34 ∷ []) (cond (c == 92) (92 ∷ 92 ∷ []) (cond (c == 10) (92 ∷ 110 ∷ []) (cond (c == 13) (92 ∷ 114 ∷ []) (c ∷ []))))
+-- the hex digits of a number at some places, each a power of 16
+abbrev pub hex_digits : List ℕ → ℕ → List ℕ
+hex_digits places n = map (λ place. hex_glyph (n / place % 16)) places
+
+-- UCHAR: \u and four digits up to U+FFFF, \U and eight above
+abbrev pub uchar : ℕ → List ℕ
+uchar c = cond (nat_le c 0xFFFF) (92 ∷ 117 ∷ hex_digits (0x1000 ∷ 0x100 ∷ 0x10 ∷ 1 ∷ []) c)
+    (92 ∷ 85 ∷ hex_digits (0x10000000 ∷ 0x1000000 ∷ 0x100000 ∷ 0x10000 ∷ 0x1000 ∷ 0x100 ∷ 0x10 ∷ 1 ∷ []) c)
+
+-- a character as it stands in a written IRI: the two forms differ here alone
+abbrev pub written : Escapes → ℕ → List ℕ
+written Plain c = c ∷ []
+written Ascii c = cond (nat_le c 0x7F) (c ∷ []) (uchar c)
+
+-- a character as it stands in a written string: " \ LF CR are escaped
+abbrev pub escaped : Escapes → ℕ → List ℕ
+escaped e c = cond (c == 34) (92 ∷ 34 ∷ []) (cond (c == 92) (92 ∷ 92 ∷ []) (cond (c == 10) (92 ∷ 110 ∷ []) (cond (c == 13) (92 ∷ 114 ∷ []) (written e c))))
 
 -- an IRI in its brackets
-abbrev pub iri_text : List ℕ → List ℕ
-iri_text i = 60 ∷ i ++ 62 ∷ []
+abbrev pub iri_text : Escapes → List ℕ → List ℕ
+iri_text e i = 60 ∷ flat_map (written e) i ++ 62 ∷ []
 
--- a node without a label has no text of its own: it is written renamed
+-- a node without a label has no text of its own: it is written renamed; a label has no escapes
 abbrev pub node_text : Node → List ℕ
 node_text (Label x) = 95 ∷ 58 ∷ x
 node_text (Anon n) = []
 node_text (Cell n) = []
 
 -- an IRI or a node as it is written
-abbrev pub subject_text : Subject → List ℕ
-subject_text (Iri i) = iri_text i
-subject_text (Blank n) = node_text n
+abbrev pub subject_text : Escapes → Subject → List ℕ
+subject_text e (Iri i) = iri_text e i
+subject_text e (Blank n) = node_text n
 
 -- a string in its quotes
-abbrev pub string_text : List ℕ → List ℕ
-string_text w = 34 ∷ flat_map escaped w ++ 34 ∷ []
+abbrev pub string_text : Escapes → List ℕ → List ℕ
+string_text e w = 34 ∷ flat_map (escaped e) w ++ 34 ∷ []
 
 -- the type of a plain string is not written
-abbrev pub type_text : Bool → List ℕ → List ℕ
-type_text true i = []
-type_text false i = 94 ∷ 94 ∷ iri_text i
+abbrev pub type_text : Escapes → Bool → List ℕ → List ℕ
+type_text e true i = []
+type_text e false i = 94 ∷ 94 ∷ iri_text e i
 
 -- what follows a string: its tag, or its type
-abbrev pub tail_text : Tail → List ℕ
-tail_text (Lang t) = 64 ∷ t
-tail_text (Typed i) = type_text (bytes_eq i xsd_string) i
+abbrev pub tail_text : Escapes → Tail → List ℕ
+tail_text e (Lang t) = 64 ∷ t
+tail_text e (Typed i) = type_text e (bytes_eq i xsd_string) i
 
 -- an object as it is written
-abbrev pub term_text : Term → List ℕ
-term_text (Resource s) = subject_text s
-term_text (Literal w t) = string_text w ++ tail_text t
+abbrev pub term_text : Escapes → Term → List ℕ
+term_text e (Resource s) = subject_text e s
+term_text e (Literal w t) = string_text e w ++ tail_text e t
 
 -- one space
 abbrev pub space : List ℕ
 space = 32 ∷ []
 
 -- a graph label with its space, or nothing
-abbrev pub graph_text : Option Subject → List ℕ
-graph_text None = []
-graph_text (Some g) = subject_text g ++ space
+abbrev pub graph_text : Escapes → Option Subject → List ℕ
+graph_text e None = []
+graph_text e (Some g) = subject_text e g ++ space
 
 -- each part and a space, then a dot and LF
-abbrev pub quad_text : Quad → List ℕ
-quad_text q = (subject_text q.subject ++ space) ++ (iri_text q.predicate ++ space) ++ (term_text q.object ++ space) ++ graph_text q.graph ++ (46 ∷ []) ++ (10 ∷ [])
+abbrev pub quad_text : Escapes → Quad → List ℕ
+quad_text e q = (subject_text e q.subject ++ space) ++ (iri_text e q.predicate ++ space) ++ (term_text e q.object ++ space) ++ graph_text e q.graph ++ (46 ∷ []) ++ (10 ∷ [])
 
--- the line of a quad in a style
-abbrev pub line : Style → Quad → List ℕ
-line s q = quad_text (rename s q)
+-- the line of a quad in a style and a form
+abbrev pub line : Style → Escapes → Quad → List ℕ
+line s e q = quad_text e (rename s q)
 
 -- the lines of some quads
-abbrev pub text : Style → List Quad → List ℕ
-text s qs = flat_map (line s) qs
+abbrev pub text : Style → Escapes → List Quad → List ℕ
+text s e qs = flat_map (line s e) qs
 
 -- well formed quads that the style can write
 abbrev pub Writable : Style → List Quad → Type 0
 Writable s qs = AllByRecursion (λ q. IsQuad q × CanWrite s q) qs
+
+-- the label of a node, if it has one, has characters below 128 alone
+abbrev pub HasAsciiLabel : Node → Type 0
+HasAsciiLabel (Label x) = AllByRecursion (λ c. c < 128) x
+HasAsciiLabel (Anon n) = Unit
+HasAsciiLabel (Cell n) = Unit
+
+-- the same of an IRI or a node
+abbrev pub SubjectHasAsciiLabel : Subject → Type 0
+SubjectHasAsciiLabel (Iri i) = Unit
+SubjectHasAsciiLabel (Blank n) = HasAsciiLabel n
+
+-- the same of an object
+abbrev pub TermHasAsciiLabel : Term → Type 0
+TermHasAsciiLabel (Resource s) = SubjectHasAsciiLabel s
+TermHasAsciiLabel (Literal w t) = Unit
+
+-- the same of a graph label
+abbrev pub GraphHasAsciiLabel : Option Subject → Type 0
+GraphHasAsciiLabel None = Unit
+GraphHasAsciiLabel (Some g) = SubjectHasAsciiLabel g
+
+-- each label of the quad has characters below 128 alone
+pub record HasAsciiLabels (q : Quad) : Type 0 where
+  pub subject : SubjectHasAsciiLabel q.subject
+  pub object : TermHasAsciiLabel q.object
+  pub graph : GraphHasAsciiLabel q.graph

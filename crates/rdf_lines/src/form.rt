@@ -1,4 +1,4 @@
-// The formats, and the names of nodes in what is written.
+// The formats, and the forms of what is written.
 
 /// A line format.
 #[derive(Clone, Copy, PartialEq, Eq, Debug)]
@@ -16,4 +16,13 @@ pub enum Style {
     Kept,
     /// A letter before each name tells labels, unnamed nodes and cells apart.
     Tagged,
+}
+
+/// How characters above U+007F stand in what is written.
+#[derive(Clone, Copy, PartialEq, Eq, Debug)]
+pub enum Escapes {
+    /// As they are.
+    Plain,
+    /// In strings and IRIs as UCHAR: `\u` and four hex digits up to U+FFFF, `\U` and eight above. Labels have no escapes.
+    Ascii,
 }

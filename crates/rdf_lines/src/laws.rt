@@ -2,15 +2,16 @@
 
 ghost use Rattle.std.specs.Prelude.{◌≡◌, ℕ, List, ◌≤◌, length};
 ghost use Rattle.rdf_terms.specs.Terms.{IsNode, Node, Quad};
+ghost use Rattle.rdf_lines.specs.declared.form.Escapes.{Escapes};
 ghost use Rattle.rdf_lines.specs.declared.form.Style.{Style};
 ghost use Rattle.rdf_lines.specs.Writing.{Writable, rename_node, text};
 ghost use Rattle.rdf_lines.specs.Canonical.{CanonicalLinesAreRead};
-ghost use Rattle.rdf_lines.specs.Laws.{ReadsBack, TokensSettleTheQuads, TokensSettleWhatIsDue, DueBeginsTheQuads, ReadQuadsAreDue, DocumentsAreRead, RefusedIsNoDocument, WrittenTextIsRead, DocumentIsWritable, WrittenDocumentIsRead};
+ghost use Rattle.rdf_lines.specs.Laws.{ReadsBack, TokensSettleTheQuads, TokensSettleWhatIsDue, DueBeginsTheQuads, ReadQuadsAreDue, DocumentsAreRead, RefusedIsNoDocument, WrittenTextIsRead, DocumentIsWritable, WrittenDocumentIsRead, AsciiIsWritten};
 
 /// The bytes written for quads are a document of N-Quads, whose quads are these, renamed, one for one and in
 /// order. Any limit on a token's characters that is not below the text's length serves.
 pub fn written_text_reads_back()
-    ensures { (s : Style) (qs : List Quad) (limit : ℕ) → Writable s qs → length (text s qs) ≤ limit → ReadsBack s qs limit }
+    ensures { (s : Style) (e : Escapes) (qs : List Quad) (limit : ℕ) → Writable s qs → length (text s e qs) ≤ limit → ReadsBack s e qs limit }
 {}
 
 /// No two nodes are written under one name.
@@ -61,7 +62,8 @@ pub fn document_is_writable()
 {}
 
 /// What is written for a document of a line format is read to its end: with twice its limit on tokens, room for an IRI
-/// and its brackets, and its limit on IRIs, each at least 64.
+/// and its brackets, and its limit on IRIs, each at least 64. In ASCII with ten times its limit on tokens, and room for
+/// three times an IRI.
 pub fn written_document_is_read()
     ensures { WrittenDocumentIsRead }
 {}
@@ -70,4 +72,9 @@ pub fn written_document_is_read()
 /// two lines.
 pub fn canonical_lines_are_read()
     ensures { CanonicalLinesAreRead }
+{}
+
+/// In ASCII each byte that is written is below 128, where each label has such characters alone.
+pub fn ascii_is_written()
+    ensures { AsciiIsWritten }
 {}

@@ -13,7 +13,7 @@ mod state;
 mod writer;
 
 pub use canonical::pass_lines;
-pub use form::{LineForm, Style};
+pub use form::{Escapes, LineForm, Style};
 pub use grammar::LineGrammar;
 pub use rdf_driver::{Fault, Summary};
 pub use reader::{LineReader, line_reader};

@@ -1,5 +1,6 @@
 // The line that is written for a quad, and the text of a blank node (N-Quads 4).
 
+mod escape;
 mod line;
 mod string;
 mod term;
@@ -10,7 +11,7 @@ ghost use Rattle.std.specs.Result.{IsErrOf};
 ghost use Rattle.rdf_terms.specs.Views.{node_of, quad_of};
 ghost use Rattle.rdf_lines.specs.Writing.{CanWrite, CanWriteNode, line, node_text, rename_node};
 
-use crate::form::Style;
+use crate::form::{Escapes, Style};
 use itoa::Buffer;
 use line::put_line;
 use rdf_terms::{NodeRef, QuadRef};
@@ -28,13 +29,15 @@ pub enum LabelFault {
 }
 
 /// Appends the line of a quad in N-Quads, with its LF: each part and a space, then a dot. In strings `"`, `\`,
-/// LF and CR are escaped, and xsd:string is not written.
+/// LF and CR are escaped, and xsd:string is not written. In ASCII the characters above U+007F of strings and IRIs are
+/// escaped too, and those of labels stay.
 pub fn write_line<A: Allocator + Copy>(
     quad: QuadRef<'_>,
     style: Style,
+    escapes: Escapes,
     out: &mut Vec<u8, A>,
 ) -> Result<(), LabelFault>
-    ensures written { OnOk result (out.new.items ≡ out.old.items ++ encode_utf8_all (line style (quad_of quad.entry))) }
+    ensures written { OnOk result (out.new.items ≡ out.old.items ++ encode_utf8_all (line style escapes (quad_of quad.entry))) }
     ensures unchanged { OnErr result (out.new.items ≡ out.old.items) }
     ensures not_labelled { IsErrOf result LabelFault.NotLabelled ↔ ¬ CanWrite style (quad_of quad.entry) }
 {
@@ -42,7 +45,7 @@ pub fn write_line<A: Allocator + Copy>(
         return Err(LabelFault::NotLabelled);
     }
     let start = out.len();
-    match put_line(quad, style, out) {
+    match put_line(quad, style, escapes, out) {
         Ok(()) => Ok(()),
         Err(_) => {
             out.truncate(start);

@@ -17,6 +17,7 @@ use Rattle.rdf_driver.specs.declared.summary.Summary.{Summary}
 use Rattle.rdf_driver.specs.Readers as R
 use Rattle.rdf_driver.specs.Readers.{Driven, FeedFails, Feeds, FinishFails, Finishes, HasRead, LeavesOff, piece_reading}
 use Rattle.rdf_driver.specs.Words.{Words, in_words}
+use Rattle.rdf_lines.specs.declared.form.Escapes.TheVariants.{Plain}
 use Rattle.rdf_lines.specs.declared.form.Style.{Style}
 use Rattle.rdf_lines.specs.Writing.{CanWrite, Writable}
 use Rattle.rdf_lines.proofs.ReadBack.{bytes_read_back}
@@ -362,7 +363,7 @@ module _ {G X D A : Type 0} (contents : D → Option (List ℕ)) (failed : D →
         within = sums.whole;
         written = written_all mid after f.more all_put.writes t;
         reads_back = λ limit h.
-            bytes_read_back first.style (o.quads ++ f.more) limit (both_writable first.style o.quads f.more o.writable (subst (λ y. Writable y f.more) o.same.style all_put.writable)) h;
+            bytes_read_back first.style Plain (o.quads ++ f.more) limit (both_writable first.style o.quads f.more o.writable (subst (λ y. Writable y f.more) o.same.style all_put.writable)) h;
         counts = record { quads = sums.given; tokens = sums.accepted; bytes = sums.taken };
       },
     )

@@ -10,6 +10,7 @@ use Rattle.std.specs.List.{AllByRecursion}
 use Rattle.rdf_terms.specs.Sinks as sink
 use Rattle.rdf_terms.specs.Sinks.{Attempts}
 use Rattle.rdf_terms.specs.Terms.{Quad}
+use Rattle.rdf_lines.specs.declared.form.Escapes.TheVariants.{Plain}
 use Rattle.rdf_lines.specs.declared.form.Style.{Style}
 use Rattle.rdf_lines.specs.Writing.{line, text, CanWrite, Writable}
 use Rattle.rdf_stream.specs.Devices.{AppendsFront}
@@ -51,11 +52,11 @@ moves_all a b c bytes rest m t = subst (Appends a c) (sym m.whole) (Appends-tran
 
 -- the bytes of the quads' lines
 abbrev pub bytes_of : Style → List Quad → List ℕ
-bytes_of s qs = encode_utf8_all (text s qs)
+bytes_of s qs = encode_utf8_all (text s Plain qs)
 
 -- the lines of two lists are those of the first and then the second
 pub bytes_of-append : (s : Style) (qs rs : List Quad) → bytes_of s (qs ++ rs) ≡ bytes_of s qs ++ bytes_of s rs
-bytes_of-append s qs rs = ap encode_utf8_all (flat_map-append (line s) qs rs) ∙ encodes-append (text s qs) (text s rs)
+bytes_of-append s qs rs = ap encode_utf8_all (flat_map-append (line s Plain) qs rs) ∙ encodes-append (text s Plain qs) (text s Plain rs)
 
 -- the style and the place of the bytes stay the same over two steps
 pub same_out : {D A : Type 0} (a b c : LineOut D A) → SameOut a b → SameOut b c → SameOut a c
@@ -95,7 +96,7 @@ module _ {D A : Type 0} (contents : D → Option (List ℕ)) (failed : D → Boo
       record {
         same = same_out a next b t.same r.same;
         writable = ((quad_had q t.formed, w.0), subst (λ s. Writable s qs) t.same.style r.writable);
-        writes = subst (λ l. Writes contents a l b) (sym (encodes-append (line a.style q) (text a.style qs)))
+        writes = subst (λ l. Writes contents a l b) (sym (encodes-append (line a.style Plain q) (text a.style Plain qs)))
             (writes_on a next b (line_bytes a.style q) (bytes_of a.style qs) t.writes more);
         live = λ l. r.live t.live;
       }
@@ -122,7 +123,7 @@ module _ {D A : Type 0} (contents : D → Option (List ℕ)) (failed : D → Boo
         same = p.1.same;
         rest = p.1.rest;
         moves = subst (λ l. Moves (contents a.drain.now) (contents b.drain.now) (a.buffer.now.items ++ l) p.1.rest)
-            (ap encode_utf8_all (sym (append-nil (line a.style q))) ∙ ap (λ rs. bytes_of a.style (q ∷ rs)) (sym p.0)) p.1.moves;
+            (ap encode_utf8_all (sym (append-nil (line a.style Plain q))) ∙ ap (λ rs. bytes_of a.style (q ∷ rs)) (sym p.0)) p.1.moves;
         whole = λ l. ([], q ∷ qs, refl, p.1.live l);
       }
 
@@ -131,7 +132,7 @@ module _ {D A : Type 0} (contents : D → Option (List ℕ)) (failed : D → Boo
           let (next, t, tries) = p in
           let r = behind next tries in
           let first = t.writes in
-          let join = encodes-append (line a.style q) (text a.style qs) in
+          let join = encodes-append (line a.style Plain q) (text a.style Plain qs) in
           record {
             same = same_out a next b t.same r.same;
             rest = r.rest;
@@ -144,7 +145,7 @@ module _ {D A : Type 0} (contents : D → Option (List ℕ)) (failed : D → Boo
                   q ∷ done,
                   later,
                   ap (λ rs. q ∷ rs) split,
-                  subst (λ l. Writes contents a l b) (sym (encodes-append (line a.style q) (text a.style done)))
+                  subst (λ l. Writes contents a l b) (sym (encodes-append (line a.style Plain q) (text a.style Plain done)))
                       (writes_on a next b (line_bytes a.style q) (bytes_of a.style done) first (subst (λ s. Writes contents next (bytes_of s done) b) t.same.style writes)),
                 );
           }

@@ -8,6 +8,7 @@ use Rattle.rdf_tokens.specs.Tokens.{Place, Token}
 use Rattle.rdf_tokens.specs.Scans.{place_of}
 use Rattle.rdf_tokens.specs.Grammars.{BeginsDue, Due, GoesOn, IsDocumentOf, IsTooLong, IsWhole, Language, RefusedIn, reading_of}
 use Rattle.rdf_driver.specs.declared.summary.Summary.{Summary}
+use Rattle.rdf_lines.specs.declared.form.Escapes.TheVariants.{Plain}
 use Rattle.rdf_lines.specs.declared.form.Style.{Style}
 use Rattle.rdf_lines.specs.Laws.{ReadsBack}
 use Rattle.rdf_lines.specs.Writing.{text}
@@ -18,7 +19,7 @@ use Rattle.rdf_stream.specs.Languages.{Conversion}
 
 -- the bytes of the quads' lines
 abbrev pub lines_of : Style → List Quad → List ℕ
-lines_of style qs = encode_utf8_all (text style qs)
+lines_of style qs = encode_utf8_all (text style Plain qs)
 
 -- the numbers of quads, of tokens without the end, and of bytes
 pub record Counts (language : Language) (input : List ℕ) (qs : List Quad) (s : Summary) : Type 0 where
@@ -32,7 +33,7 @@ pub record Accepts (job : Conversion) (bytes : List ℕ) (old new : Option (List
   pub document : IsDocumentOf job.language bytes quads
   pub within : IsWhole job.language bytes
   pub written : Appends old new (lines_of job.style quads)
-  pub reads_back : (limit : ℕ) → length (text job.style quads) ≤ limit → ReadsBack job.style quads limit
+  pub reads_back : (limit : ℕ) → length (text job.style Plain quads) ≤ limit → ReadsBack job.style Plain quads limit
   pub counts : Counts job.language bytes quads s
 
 -- the same, whatever was counted

@@ -2,6 +2,7 @@
 use Rattle.std.specs.Prelude.{◌≡◌, ◌<◌, ℕ, Bool, false, List, [], ◌++◌, length, Option, encode_utf8_all}
 use Rattle.std.specs.Io.KnownBytes.{Appends}
 use Rattle.rdf_terms.specs.Terms.{Quad, IsQuad}
+use Rattle.rdf_lines.specs.declared.form.Escapes.TheVariants.{Plain}
 use Rattle.rdf_lines.specs.declared.form.Style.{Style}
 use Rattle.rdf_lines.specs.Writing.{line}
 use Rattle.rdf_stream.specs.declared.line_out.LineOut.{LineOut}
@@ -28,7 +29,7 @@ Writes contents before bytes after = Moves (contents before.drain.now) (contents
 
 -- the bytes of the quad's line
 abbrev pub line_bytes : Style → Quad → List ℕ
-line_bytes style q = encode_utf8_all (line style q)
+line_bytes style q = encode_utf8_all (line style Plain q)
 
 -- What a put of a quad does: its line is written behind the others. The quad's type says that it is well formed.
 pub record Takes {D A : Type 0} (contents : D → Option (List ℕ)) (failed : D → Bool) (before : LineOut D A) (q : Quad) (after : LineOut D A) : Type 0 where

@@ -14,7 +14,7 @@ use crate::fault::StreamFault;
 use crate::put::put_all;
 use crate::token_line::put_token_line;
 use crate::views::see_quad;
-use rdf_lines::{LabelFault, Style, write_line};
+use rdf_lines::{Escapes, LabelFault, Style, write_line};
 use rdf_terms::{PutFault, QuadRef, QuadSink};
 use rdf_tokens::{Fault, Token};
 use std::alloc::{Allocator, Global};
@@ -109,7 +109,7 @@ impl<'a, D: Drain, A: Allocator + Copy> QuadSink for LineOut<'a, D, A> {
 
     fn put(&mut self, quad: QuadRef<'_>) -> Result<(), PutFault> {
         see_quad(quad);
-        match write_line(quad, self.style, self.buffer) {
+        match write_line(quad, self.style, Escapes::Plain, self.buffer) {
             Ok(()) => {}
             // No reader gives a quad that its style can't write. If one did, it would end the run.
             Err(LabelFault::NotLabelled) => return Err(PutFault::Memory),

@@ -1,9 +1,9 @@
 -- Runs of bytes that a text has as they are.
-use Rattle.std.specs.Prelude.{◌≡◌, ℕ, ◌+◌, ◌<◌, ◌≤◌, Bool, true, false, not, ◌||◌, ◌==◌, nat_le, List, [], ◌∷◌, length, get_or}
+use Rattle.std.specs.Prelude.{◌≡◌, ℕ, ◌+◌, ◌<◌, ◌≤◌, Bool, true, false, not, ◌&&◌, ◌||◌, ◌==◌, nat_le, List, [], ◌∷◌, length, get_or}
 use Rattle.rdf_terms.specs.Classes.{member, is_digit, is_letter, one_of}
 use Rattle.rdf_terms.specs.Classes.Class.{iri_char}
 use Rattle.rdf_terms.specs.declared.runs.Run.{Run}
-use Rattle.rdf_terms.specs.declared.runs.Run.TheVariants.{Iri, Text, Name}
+use Rattle.rdf_terms.specs.declared.runs.Run.TheVariants.{Iri, Text, AsciiText, Name}
 
 -- a byte of the UTF-8 of the characters of an IRIREF: what it excludes is ASCII
 abbrev pub iri_byte : ℕ → Bool
@@ -13,6 +13,10 @@ iri_byte b = nat_le 128 b || member iri_char b
 abbrev pub is_text_byte : ℕ → Bool
 is_text_byte b = not (one_of (34 ∷ 39 ∷ 92 ∷ 10 ∷ 13 ∷ []) b)
 
+-- the same, in ASCII
+abbrev pub is_ascii_text_byte : ℕ → Bool
+is_ascii_text_byte b = is_text_byte b && not (nat_le 128 b)
+
 -- an ASCII letter, a digit, '_' or '-', each of them allowed in a name after its first character
 abbrev pub is_name_byte : ℕ → Bool
 is_name_byte b = is_letter b || is_digit b || b == 95 || b == 45
@@ -21,6 +25,7 @@ is_name_byte b = is_letter b || is_digit b || b == 95 || b == 45
 abbrev pub goes_over : Run → ℕ → Bool
 goes_over Iri b = iri_byte b
 goes_over Text b = is_text_byte b
+goes_over AsciiText b = is_ascii_text_byte b
 goes_over Name b = is_name_byte b
 
 -- the bytes between two places pass

@@ -2,7 +2,7 @@
 
 ghost use Rattle.std.specs.Prelude.{◌≡◌, ◌+◌, ◌≤◌, length, map, not};
 ghost use Rattle.std.specs.Simd.Lanes.{mask_l};
-ghost use Rattle.rdf_terms.specs.Runs.{iri_byte, goes_over, is_name_byte, is_text_byte, IsRun, IsRunIn};
+ghost use Rattle.rdf_terms.specs.Runs.{iri_byte, goes_over, is_ascii_text_byte, is_name_byte, is_text_byte, IsRun, IsRunIn};
 ghost use Rattle.rdf_terms.specs.Terms.{all_have};
 
 use crate::classes::is_iri_byte;
@@ -18,6 +18,8 @@ pub enum Run {
     Iri,
     /// What a string has as it is, in whichever quotes it stands.
     Text,
+    /// What a string has as it is, in ASCII.
+    AsciiText,
     /// Letters, digits, `_` and `-`, in ASCII.
     Name,
 }
@@ -58,9 +60,17 @@ fn is_passed(run: Run, byte: u8) -> bool
 {
     match run {
         Run::Iri => is_iri_byte(byte),
-        Run::Text => !matches!(byte, b'"' | b'\'' | b'\\' | b'\n' | b'\r'),
+        Run::Text => is_text_byte(byte),
+        Run::AsciiText => is_text_byte(byte) && byte < 128,
         Run::Name => matches!(byte, b'A'..=b'Z' | b'a'..=b'z' | b'0'..=b'9' | b'_' | b'-'),
     }
+}
+
+#[inline(always)]
+fn is_text_byte(byte: u8) -> bool
+    ensures { result ≡ is_text_byte byte }
+{
+    !matches!(byte, b'"' | b'\'' | b'\\' | b'\n' | b'\r')
 }
 
 /// How many of the sixteen bytes come before the first that the run does not go over.
@@ -85,6 +95,7 @@ fn stops(run: Run, v: u8x16) -> u64
     match run {
         Run::Iri => iri_stops(v),
         Run::Text => text_stops(v),
+        Run::AsciiText => ascii_text_stops(v),
         Run::Name => name_stops(v),
     }
 }
@@ -108,6 +119,16 @@ fn text_stops(v: u8x16) -> u64
     let quotes = v.simd_eq(u8x16::splat(b'"')) | v.simd_eq(u8x16::splat(b'\''));
     let breaks = v.simd_eq(u8x16::splat(b'\n')) | v.simd_eq(u8x16::splat(b'\r'));
     ((quotes | breaks) | v.simd_eq(u8x16::splat(b'\\'))).to_bitmask()
+}
+
+#[inline(always)]
+fn ascii_text_stops(v: u8x16) -> u64
+    ensures { result ≡ mask_l (map (λ b. not (is_ascii_text_byte b)) v) }
+{
+    let quotes = v.simd_eq(u8x16::splat(b'"')) | v.simd_eq(u8x16::splat(b'\''));
+    let breaks = v.simd_eq(u8x16::splat(b'\n')) | v.simd_eq(u8x16::splat(b'\r'));
+    let others = v.simd_eq(u8x16::splat(b'\\')) | v.simd_ge(u8x16::splat(128));
+    ((quotes | breaks) | others).to_bitmask()
 }
 
 #[inline(always)]

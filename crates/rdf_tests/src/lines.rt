@@ -1,11 +1,12 @@
 // Documents in pieces of all lengths, a sink that fails, and what is told afterwards.
 
 ghost use Rattle.std.specs.Prelude.{◌≡◌, ◌≤◌, ◌++◌, false, encode_utf8_all, length};
+ghost use Rattle.rdf_lines.specs.declared.form.Escapes.TheVariants.{Plain};
 ghost use Rattle.rdf_lines.specs.declared.form.Style.TheVariants.{Kept};
 ghost use Rattle.rdf_lines.specs.Writing.{line};
 
 use rdf_iri::Limits;
-use rdf_lines::{Fault, LineForm, LineReader, Style, Summary, write_line};
+use rdf_lines::{Escapes, Fault, LineForm, LineReader, Style, Summary, write_line};
 use rdf_terms::{PutFault, QuadRef, QuadSink, Reason};
 use std::alloc::Global;
 
@@ -18,7 +19,7 @@ struct RecordingSink {
 }
 
 impl QuadSink for RecordingSink {
-    ghost takes = { λ before quad after. after.lines.items ≡ before.lines.items ++ encode_utf8_all (line Kept quad) };
+    ghost takes = { λ before quad after. after.lines.items ≡ before.lines.items ++ encode_utf8_all (line Kept Plain quad) };
 
     ghost leaves = { λ before quad after. after.lines.items ≡ before.lines.items };
 
@@ -30,7 +31,7 @@ impl QuadSink for RecordingSink {
             return Err(PutFault::Device);
         }
         self.puts -= 1;
-        match write_line(quad, Style::Kept, &mut self.lines) {
+        match write_line(quad, Style::Kept, Escapes::Plain, &mut self.lines) {
             Ok(()) => Ok(()),
             Err(_) => Err(PutFault::Memory),
         }

@@ -1,6 +1,6 @@
 // Lines and the names of nodes as they are written.
 
-use rdf_lines::{LabelFault, Style, label_text, write_line};
+use rdf_lines::{Escapes, LabelFault, Style, label_text, write_line};
 use rdf_terms::{
     Iri, IriView, Label, LabelView, LiteralRef, NodeRef, QuadRef, SubjectRef, Tag, TailRef, TermRef,
 };
@@ -40,7 +40,7 @@ fn literal_line<'a>(
         graph: None,
     };
     let mut out = Vec::new(alloc);
-    write_line(quad, Style::Kept, &mut out)?;
+    write_line(quad, Style::Kept, Escapes::Plain, &mut out)?;
     Ok(out)
 }
 
@@ -52,6 +52,28 @@ fn a_literal_has_its_tag_or_type(rt: HostRuntime) -> Result<(), Fail> {
     assert!(rt; tagged.as_slice() == "<a:b> <a:b> \"A\"@base .\n".as_bytes());
     let typed = literal_line(rt.alloc(), iri.view(), "1", TailRef::Typed(iri.view()))?;
     assert!(rt; typed.as_slice() == "<a:b> <a:b> \"1\"^^<a:b> .\n".as_bytes());
+    Ok(())
+}
+
+#[test]
+fn a_line_in_ascii_has_escapes_but_in_labels(rt: HostRuntime) -> Result<(), Fail> {
+    let iri = Iri::new(rt.alloc(), "http://a/\u{E9}")?;
+    let label = Label::new(rt.alloc(), "\u{E9}")?;
+    let lexical = "\u{1F600}\u{FFFF}\u{10000}\n\u{7F}";
+    let quad = QuadRef {
+        subject: SubjectRef::Node(NodeRef::Label(label.view())),
+        predicate: iri.view(),
+        object: TermRef::Literal(LiteralRef {
+            lexical,
+            tail: TailRef::Typed(iri.view()),
+        }),
+        graph: Some(SubjectRef::Iri(iri.view())),
+    };
+    let mut out = Vec::new(rt.alloc());
+    write_line(quad, Style::Kept, Escapes::Ascii, &mut out)?;
+    let string = "\"\\U0001F600\\uFFFF\\U00010000\\n\u{7F}\"^^<http://a/\\u00E9>";
+    let line = format!(in rt.alloc(); "_:\u{E9} <http://a/\\u00E9> {string} <http://a/\\u00E9> .\n")?;
+    assert!(rt; out.as_slice() == line.as_bytes());
     Ok(())
 }
 
@@ -89,7 +111,7 @@ fn write_nodes<'a>(
         object: TermRef::Node(NodeRef::Anon(19)),
         graph: Some(SubjectRef::Node(NodeRef::Cell(7))),
     };
-    write_line(quad, style, out)
+    write_line(quad, style, Escapes::Plain, out)
 }
 
 #[test]

@@ -13,7 +13,9 @@ use Rattle.rdf_tokens.specs.Scans.{most_bytes}
 use Rattle.rdf_iri.specs.Scope.{InForce, bound_to, Binds}
 use Rattle.rdf_lines.specs.Lines.{Leaf, leaf_of, iri_of}
 use Rattle.rdf_lines.specs.declared.form.LineForm.TheVariants.{NQuads}
+use Rattle.rdf_lines.specs.declared.form.Escapes.{Escapes}
 use Rattle.rdf_lines.specs.declared.form.Style.TheVariants.{Tagged}
+use Rattle.rdf_lines.specs.Laws.{string_width, iri_width}
 use Rattle.rdf_lines.specs.Writing.{text, Writable}
 use Rattle.rdf_lines.specs.Documents.{in_lines}
 use Rattle.rdf_trig.specs.declared.form.DocForm.{DocForm}
@@ -179,9 +181,9 @@ abbrev pub DocumentIsWritable : Type 0
 DocumentIsWritable = (form : DocForm) (start : InForce) (bytes : List ℕ) (qs : List Quad) → HasIris start → length bytes ≤ most_bytes →
     IsDocumentOf (language form start) bytes qs → Writable Tagged qs
 
--- What is written for a document within its limits is read to its end as N-Quads with limits that are a little higher.
+-- What is written for a document within its limits is read to its end as N-Quads with limits that are higher by what the escapes take.
 abbrev pub WrittenDocumentIsRead : Type 0
-WrittenDocumentIsRead = (form : DocForm) (start : InForce) (bytes : List ℕ) (qs : List Quad) → HasIris start → length bytes ≤ most_bytes →
+WrittenDocumentIsRead = (e : Escapes) (form : DocForm) (start : InForce) (bytes : List ℕ) (qs : List Quad) → HasIris start → length bytes ≤ most_bytes →
     IsDocumentOf (language form start) bytes qs → IsWhole (language form start) bytes → (token_then iri_then : ℕ) →
-    2 * start.limits.token ≤ token_then → start.limits.iri + 2 ≤ token_then → 64 ≤ token_then →
-    start.limits.iri ≤ iri_then → 64 ≤ iri_then → IsReadToItsEnd (in_lines NQuads token_then iri_then) (encode_utf8_all (text Tagged qs))
+    string_width e * start.limits.token ≤ token_then → iri_width e * start.limits.iri + 2 ≤ token_then → 64 ≤ token_then →
+    start.limits.iri ≤ iri_then → 64 ≤ iri_then → IsReadToItsEnd (in_lines NQuads token_then iri_then) (encode_utf8_all (text Tagged e qs))

@@ -1,59 +1,143 @@
-// Strings as they are written: runs as they stand, and escapes between them (N-Quads 4).
+// Texts as they are written: runs as they stand, and escapes between them (N-Quads 4).
 
-ghost use Rattle.std.specs.Prelude.{◌≡◌, ◌++◌, ◌<◌, ◌≤◌, ℕ, flat_map, length, take, IfOk, OnErr, OnOk};
-ghost use Rattle.rdf_lines.specs.Writing.{escaped, string_text};
-ghost use Rattle.rdf_lines.specs.WrittenBytes.{BeginsWith};
+ghost use Rattle.std.specs.Prelude.{◌≡◌, ◌++◌, ◌<◌, ◌≤◌, length, chars, encode_utf8, encode_utf8_all, flat_map, IfOk, OnErr, OnOk};
+ghost use Rattle.rdf_terms.specs.Views.{iri_chars};
+ghost use Rattle.rdf_lines.specs.Writing.{escaped, written};
+ghost use Rattle.rdf_lines.specs.WrittenBytes.{BeginsWith, escaped_bytes, run_of, string_bytes_of};
 
+use crate::form::Escapes;
+use crate::writer::escape::put_uchar;
+use rdf_terms::IriView;
 use rdf_terms::runs::{Run, run_end};
 use std::alloc::{AllocError, Allocator};
 
-pub fn put_string<A: Allocator + Copy>(text: &str, out: &mut Vec<u8, A>) -> Result<(), AllocError>
-    ensures written { OnOk result (out.new.items ≡ out.old.items ++ string_text text.now) }
+pub fn put_string<A: Allocator + Copy>(
+    text: &str,
+    escapes: Escapes,
+    out: &mut Vec<u8, A>,
+) -> Result<(), AllocError>
+    ensures written { OnOk result (out.new.items ≡ out.old.items ++ string_bytes_of escapes text.now) }
     ensures grown { OnErr result (BeginsWith out.old.items out.new.items) }
 {
-    out.extend_from_slice(b"\"")?;
-    put_escaped(text.as_bytes(), out)?;
-    out.extend_from_slice(b"\"")
+    out.push(b'"')?;
+    put_escaped(text, escapes, out)?;
+    out.push(b'"')?;
+    Ok(())
+}
+
+/// What stands between the brackets of an IRI. No character of an IRI is escaped by a letter.
+#[tactic(auto, using(crate::proofs::EscapedRuns::plain_iri, crate::proofs::EscapedRuns::escaped_iri))]
+pub fn put_characters<A: Allocator + Copy>(
+    iri: IriView<'_>,
+    escapes: Escapes,
+    out: &mut Vec<u8, A>,
+) -> Result<(), AllocError>
+    ensures written { OnOk result (out.new.items ≡ out.old.items ++ encode_utf8_all (flat_map (written escapes) (iri_chars iri.entry))) }
+    ensures grown { OnErr result (BeginsWith out.old.items out.new.items) }
+{
+    match escapes {
+        Escapes::Plain => out.extend_from_slice(iri.as_str().as_bytes()),
+        Escapes::Ascii => put_escaped(iri.as_str(), escapes, out),
+    }
 }
 
 #[tactic(auto, using(crate::proofs::WrittenBytesLemmas::begins_with_front))]
-fn put_escaped<A: Allocator + Copy>(text: &[u8], out: &mut Vec<u8, A>) -> Result<(), AllocError>
-    ensures written { OnOk result (out.new.items ≡ out.old.items ++ flat_map escaped text.now) }
+fn put_escaped<A: Allocator + Copy>(
+    text: &str,
+    escapes: Escapes,
+    out: &mut Vec<u8, A>,
+) -> Result<(), AllocError>
+    ensures written { OnOk result (out.new.items ≡ out.old.items ++ escaped_bytes escapes text.now) }
     ensures grown { OnErr result (BeginsWith out.old.items out.new.items) }
 {
-    let mut done = 0;
-    while done < text.len() {
-        done += put_run(&text[done..], out)?;
+    let mut rest = text;
+    while !rest.is_empty() {
+        rest = put_run(rest, escapes, out)?;
     }
     Ok(())
 }
 
-// A run in front, whose bytes stand as they are, and the byte behind it: how many bytes that were.
-fn put_run<A: Allocator + Copy>(text: &[u8], out: &mut Vec<u8, A>) -> Result<usize, AllocError>
-    ensures written { IfOk result (λ n. out.new.items ≡ out.old.items ++ flat_map escaped (take n text.now)) }
-    ensures within { IfOk result (λ n. n ≤ length text.now) }
-    ensures progress { IfOk result (λ n. 0 < length text.now → 0 < n) }
-    ensures grown { OnErr result (BeginsWith out.old.items out.new.items) }
+// A run in front, whose characters stand as they are, and the character behind it: the text behind these.
+fn put_run<'a, A: Allocator + Copy>(
+    text: &'a str,
+    escapes: Escapes,
+    out: &mut Vec<u8, A>,
+) -> Result<&'a str, AllocError>
+    ensures written { IfOk result (λ rest. out.new.items ++ escaped_bytes escapes rest.now ≡ out.old.items ++ escaped_bytes escapes text.now) }
+    ensures progress { IfOk result (λ rest. 0 < length text.now → length rest.now < length text.now) }
+    ensures grown { BeginsWith out.old.items out.new.items }
 {
-    let at = run_end(Run::Text, text, 0);
-    if at == text.len() {
-        out.extend_from_slice(text)?;
-        return Ok(at);
-    }
-    out.extend_from_slice(&text[..at])?;
-    put_byte(text[at], out)?;
-    Ok(at + 1)
+    let at = run_end(run_of(escapes), text.as_bytes(), 0);
+    let (run, rest) = text.split_at(at);
+    out.extend_from_slice(run.as_bytes())?;
+    put_first(rest, escapes, out)
 }
 
-fn put_byte<A: Allocator + Copy>(byte: u8, out: &mut Vec<u8, A>) -> Result<(), AllocError>
-    ensures written { OnOk result (out.new.items ≡ out.old.items ++ escaped byte) }
+// The first character, if there is one: the text behind it.
+fn put_first<'a, A: Allocator + Copy>(
+    text: &'a str,
+    escapes: Escapes,
+    out: &mut Vec<u8, A>,
+) -> Result<&'a str, AllocError>
+    ensures written { IfOk result (λ rest. out.new.items ++ escaped_bytes escapes rest.now ≡ out.old.items ++ escaped_bytes escapes text.now) }
+    ensures progress { IfOk result (λ rest. 0 < length text.now → length rest.now < length text.now) }
+    ensures within { IfOk result (λ rest. length rest.now ≤ length text.now) }
+    ensures grown { BeginsWith out.old.items out.new.items }
+{
+    let mut chars = text.chars();
+    match chars.next() {
+        None => Ok(text),
+        Some(c) => {
+            put_char(c, escapes, out)?;
+            Ok(chars.as_str())
+        }
+    }
+}
+
+fn run_of(escapes: Escapes) -> Run
+    ensures { result ≡ run_of escapes }
+{
+    match escapes {
+        Escapes::Plain => Run::Text,
+        Escapes::Ascii => Run::AsciiText,
+    }
+}
+
+fn put_char<A: Allocator + Copy>(
+    c: char,
+    escapes: Escapes,
+    out: &mut Vec<u8, A>,
+) -> Result<(), AllocError>
+    ensures written { OnOk result (out.new.items ≡ out.old.items ++ encode_utf8_all (escaped escapes c)) }
     ensures unchanged { OnErr result (out.new.items ≡ out.old.items) }
 {
-    match byte {
-        b'"' => out.extend_from_slice(b"\\\""),
-        b'\\' => out.extend_from_slice(b"\\\\"),
-        b'\n' => out.extend_from_slice(b"\\n"),
-        b'\r' => out.extend_from_slice(b"\\r"),
-        _ => out.extend_from_slice(&[byte]),
+    match c {
+        '"' => out.extend_from_slice(b"\\\""),
+        '\\' => out.extend_from_slice(b"\\\\"),
+        '\n' => out.extend_from_slice(b"\\n"),
+        '\r' => out.extend_from_slice(b"\\r"),
+        _ => put_written(c, escapes, out),
     }
+}
+
+fn put_written<A: Allocator + Copy>(
+    c: char,
+    escapes: Escapes,
+    out: &mut Vec<u8, A>,
+) -> Result<(), AllocError>
+    ensures written { OnOk result (out.new.items ≡ out.old.items ++ encode_utf8_all (written escapes c)) }
+    ensures unchanged { OnErr result (out.new.items ≡ out.old.items) }
+{
+    match escapes {
+        Escapes::Ascii if c > '\u{7F}' => put_uchar(c, out),
+        _ => put_raw(c, out),
+    }
+}
+
+fn put_raw<A: Allocator + Copy>(c: char, out: &mut Vec<u8, A>) -> Result<(), AllocError>
+    ensures written { OnOk result (out.new.items ≡ out.old.items ++ encode_utf8 c) }
+    ensures unchanged { OnErr result (out.new.items ≡ out.old.items) }
+{
+    let mut bytes = [0; 4];
+    out.extend_from_slice(c.encode_utf8(&mut bytes).as_bytes())
 }

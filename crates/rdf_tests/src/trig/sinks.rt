@@ -1,10 +1,11 @@
 // What keeps the quads of a test.
 
 ghost use Rattle.std.specs.Prelude.{◌≡◌, ◌++◌, false, encode_utf8_all};
+ghost use Rattle.rdf_lines.specs.declared.form.Escapes.TheVariants.{Plain};
 ghost use Rattle.rdf_lines.specs.declared.form.Style.TheVariants.{Tagged};
 ghost use Rattle.rdf_lines.specs.Writing.{line};
 
-use rdf_lines::{LabelFault, Style, write_line};
+use rdf_lines::{Escapes, LabelFault, Style, write_line};
 use rdf_terms::{PutFault, QuadList, QuadRef, QuadSink};
 use std::alloc::Global;
 
@@ -18,7 +19,7 @@ pub struct RecordingSink {
 }
 
 impl QuadSink for RecordingSink {
-    ghost takes = { λ before quad after. after.lines.items ≡ before.lines.items ++ encode_utf8_all (line Tagged quad) };
+    ghost takes = { λ before quad after. after.lines.items ≡ before.lines.items ++ encode_utf8_all (line Tagged Plain quad) };
 
     ghost leaves = { λ before quad after. after.lines.items ≡ before.lines.items };
 
@@ -30,7 +31,7 @@ impl QuadSink for RecordingSink {
             return Err(PutFault::Device);
         }
         self.quads += 1;
-        match write_line(quad, Style::Tagged, &mut self.lines) {
+        match write_line(quad, Style::Tagged, Escapes::Plain, &mut self.lines) {
             Ok(()) => Ok(()),
             Err(_) => Err(PutFault::Memory),
         }
@@ -58,7 +59,7 @@ pub fn lines_of(alloc: Global, list: &QuadList) -> Result<Vec<u8>, LabelFault> {
     let mut out = Vec::new(alloc);
     for i in 0..list.len() {
         if let Some(quad) = list.get(i) {
-            write_line(quad, Style::Tagged, &mut out)?;
+            write_line(quad, Style::Tagged, Escapes::Plain, &mut out)?;
         }
     }
     Ok(out)

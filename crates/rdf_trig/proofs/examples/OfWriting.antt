@@ -17,6 +17,7 @@ use Rattle.rdf_iri.specs.Scope.{InForce}
 use Rattle.rdf_iri.specs.Resolve.{resolved}
 use Rattle.rdf_lines.specs.Lines.{token}
 use Rattle.rdf_lines.specs.declared.form.LineForm.TheVariants.{NQuads}
+use Rattle.rdf_lines.specs.declared.form.Escapes.TheVariants.{Plain}
 use Rattle.rdf_lines.specs.declared.form.Style.TheVariants.{Tagged}
 use Rattle.rdf_lines.specs.Writing.{text, Writable}
 use Rattle.rdf_lines.specs.Documents.{in_lines}
@@ -79,12 +80,12 @@ small_iris = record { base = tt; bindings = λ prefix iri e. absurd (let z : Non
 pub nameless_is_writable : Writable Tagged nameless_quads
 nameless_is_writable = document_writable Turtle small nameless nameless_quads small_iris (lit≤ tt) nameless_is
 
-pub nameless_text : text Tagged nameless_quads ≡ codes "<a:> <a:> _:a10 .\n"
+pub nameless_text : text Tagged Plain nameless_quads ≡ codes "<a:> <a:> _:a10 .\n"
 unfolding digits
 nameless_text = refl
 
 -- and what is written is read to its end with limits of 64
-pub nameless_is_read : IsReadToItsEnd (in_lines NQuads 64 64) (encode_utf8_all (text Tagged nameless_quads))
+pub nameless_is_read : IsReadToItsEnd (in_lines NQuads 64 64) (encode_utf8_all (text Tagged Plain nameless_quads))
 nameless_is_read =
-    document_read_back Turtle small nameless nameless_quads small_iris (lit≤ tt) nameless_is nameless_whole 64 64
+    document_read_back Plain Turtle small nameless nameless_quads small_iris (lit≤ tt) nameless_is nameless_whole 64 64
     (lit≤ tt) (lit≤ tt) (lit≤ tt) (lit≤ tt) (lit≤ tt)

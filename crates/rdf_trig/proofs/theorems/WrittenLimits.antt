@@ -14,6 +14,7 @@ use Rattle.rdf_tokens.proofs.LawLemmas.{have_shapes, places}
 use Rattle.rdf_tokens.proofs.LimitLemmas.{no_longer}
 use Rattle.rdf_iri.specs.Texts.{byte_len}
 use Rattle.rdf_iri.specs.Scope.{InForce}
+use Rattle.rdf_lines.specs.declared.form.Escapes.TheVariants.{Plain}
 use Rattle.rdf_lines.specs.declared.form.Style.TheVariants.{Tagged}
 use Rattle.rdf_lines.specs.Writing.{CanWriteSubject, CanWriteTerm, CanWriteGraph, Writable, subject_text, rename_subject, rename_term, rename}
 use Rattle.rdf_lines.specs.Laws.{SubjectWithin, TailWithin, TermWithin, GraphWithin, IrisWithin, TailShort, TermShort, GraphShort, TokensWithin}
@@ -58,20 +59,20 @@ module _ (r : Room) where
         writable qs f.1,
       )
 
-  subject_within : (s : term.Subject) → FitSubject r s → SubjectWithin r.iri_then s × (length (subject_text (rename_subject Tagged s)) ≤ r.most_then)
+  subject_within : (s : term.Subject) → FitSubject r s → SubjectWithin r.iri_then s × (length (subject_text r.form (rename_subject Tagged s)) ≤ r.most_then)
   subject_within (term.Iri i) f = (f.1, f.2)
   subject_within (Blank n) f = (tt, f.1)
 
-  tail_within : (t : Tail) → FitTail r t → TailWithin r.iri_then t × TailShort r.most_then t
+  tail_within : (t : Tail) → FitTail r t → TailWithin r.iri_then t × TailShort r.form r.most_then t
   tail_within (Lang t) f = (tt, f.1)
   tail_within (Typed i) f = (f.1, f.2)
 
-  term_within : (o : Term) → FitTerm r o → TermWithin r.iri_then o × TermShort r.most_then (rename_term Tagged o)
+  term_within : (o : Term) → FitTerm r o → TermWithin r.iri_then o × TermShort r.form r.most_then (rename_term Tagged o)
   term_within (Resource s) f = subject_within s f
   term_within (Literal w t) f = let x = tail_within t f.1 in (x.0, (f.0.1, x.1))
 
   graph_within : (g : Option term.Subject) → IfSome g (FitSubject r) →
-      GraphWithin r.iri_then g × GraphShort r.most_then (option_map (rename_subject Tagged) g)
+      GraphWithin r.iri_then g × GraphShort r.form r.most_then (option_map (rename_subject Tagged) g)
   graph_within None f = (tt, tt)
   graph_within (Some g) f = subject_within g f
 
@@ -87,7 +88,7 @@ module _ (r : Room) where
     iris qs f.1,
   )
 
-  shorts : (qs : List Quad) → AllFit r qs → AllByRecursion (TokensWithin r.most_then) (map (rename Tagged) qs)
+  shorts : (qs : List Quad) → AllFit r qs → AllByRecursion (TokensWithin r.form r.most_then) (map (rename Tagged) qs)
   shorts [] f = tt
   shorts (q ∷ qs) f = (
     record {
@@ -142,6 +143,7 @@ bytes_within r (Gave q ∷ es) l = bytes_within r es l
 -- limits that suffice for IRIs of so many bytes
 abbrev ample : ℕ → ℕ → Room
 ample most iri = record {
+  form = Plain;
   most = most;
   iri = iri;
   most_then = 2 * most + iri + 64;
@@ -181,8 +183,9 @@ module _ (r : Room) (form : DocForm) (start : InForce) (same : r.iri ≡ start.l
 
 -- the law that what was written is read to its end
 pub document_read_back : WrittenDocumentIsRead
-document_read_back form start bytes qs h l d w token_then iri_then a b c e f =
+document_read_back x form start bytes qs h l d w token_then iri_then a b c e f =
     let r : Room = record {
+      form = x;
       most = start.limits.token;
       iri = start.limits.iri;
       most_then = token_then;
@@ -197,4 +200,5 @@ document_read_back form start bytes qs h l d w token_then iri_then a b c e f =
     let kept = subst (PassesNone (Passes form start)) d.2.tokens w.front.kept in
     let within = kept_within r form start refl tree d.2.bound kept [] (document_events start tree) refl in
     let fits = document_fits r form start bytes qs refl h l d within in
-    text_read Tagged qs token_then iri_then (writable r qs fits) (omega arith) (shorts r qs fits) (iris r qs fits)
+    let two : 2 ≤ token_then = omega arith in
+    text_read Tagged x qs token_then iri_then (writable r qs fits) two (shorts r qs fits) (iris r qs fits)

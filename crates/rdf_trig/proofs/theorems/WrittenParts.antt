@@ -1,10 +1,11 @@
 -- What the machine gives out is well formed, and as it is written none of its tokens is much longer than one that was read.
-use Rattle.std.proofs.Common.{◌≡◌, ◌≢◌, ℕ, ◌+◌, ◌*◌, ◌^◌, ◌<◌, ◌≤◌, Bool, true, false, cond, List, [], ◌∷◌, ◌++◌, ◌==◌, length, Option, Some, None, option_map, unwrap_or, refl, sym, ap, ◌∙◌, subst, ⊎_elim, arith, lit<, lit≤, length-append, length-drop}
+use Rattle.std.proofs.Common.{◌≡◌, ◌≢◌, ℕ, ◌+◌, ◌*◌, ◌^◌, ◌<◌, ◌≤◌, Bool, true, false, cond, List, [], ◌∷◌, ◌++◌, ◌==◌, nat_le, length, Option, Some, None, option_map, unwrap_or, refl, sym, ap, ◌∙◌, subst, ⊎_elim, arith, lit<, lit≤, length-append, length-drop}
 use Rattle.std.specs.Prelude.{codes, flat_map, decimal, IfSome}
 use Rattle.std.specs.List.{AllByRecursion}
 use Rattle.std.proofs.Math.Utf8.{encode}
 use Rattle.std.proofs.lemmas.Fmt.{length-decimal-le}
 use Rattle.std.proofs.lemmas.Bool.{cond-true, cond-false, cond_both, eqb-true, false≢true}
+use Rattle.std.proofs.lemmas.Bool.Decides.{nat_tests}
 use Rattle.rdf_terms.specs.Classes.{has, scalar}
 use Rattle.rdf_terms.specs.Classes.Class.{iri_char}
 use Rattle.rdf_terms.specs.Regex.{Regex, Matches}
@@ -30,10 +31,13 @@ use Rattle.rdf_iri.specs.Scope.{InForce, bound_to}
 use Rattle.rdf_iri.proofs.ResolvedText.{IsIri-target}
 use Rattle.rdf_iri.proofs.ScopeLemmas.{IsIri-append}
 use Rattle.rdf_lines.specs.Lines.{Leaf, leaf_of, token, iri_of}
+use Rattle.rdf_lines.specs.declared.form.Escapes.{Escapes}
+use Rattle.rdf_lines.specs.declared.form.Escapes.TheVariants.{Plain, Ascii}
 use Rattle.rdf_lines.specs.declared.form.Style.TheVariants.{Tagged}
-use Rattle.rdf_lines.specs.Writing.{escaped, rename_node, node_text, iri_text, string_text}
+use Rattle.rdf_lines.specs.Laws.{string_width, iri_width}
+use Rattle.rdf_lines.specs.Writing.{uchar, written, escaped, rename_node, node_text, iri_text, string_text}
 use Rattle.rdf_lines.proofs.WellFormed.{matched_scalar, string_scalars}
-use Rattle.rdf_lines.proofs.WrittenLimits.{string_short, written_string, written_iri}
+use Rattle.rdf_lines.proofs.WrittenLimits.{string_short, written_string, written_iri, string_room, iri_room, token_room}
 use Rattle.rdf_trig.specs.Names.{reference_in, name_in, prefix_of, local_of, with_base, with_binding}
 use Rattle.rdf_trig.specs.Quads.{stated, named, resource, labelled, short_value, long_value, tag_of, typed_literal}
 use Rattle.rdf_trig.specs.Events.{Use, itself, stands, binds}
@@ -42,7 +46,6 @@ use Rattle.rdf_trig.specs.Spelled.{SpellsTag}
 use Rattle.rdf_trig.proofs.trees.NamesLemmas.{binds_prefix}
 use Rattle.rdf_trig.proofs.code.SpelledLemmas.{label_in, spelled_tag}
 
--- What references and names stand for are IRIs, where the base and the bindings are.
 
 -- each character of a reference is one that an IRI has
 reference_text : (l : Leaf) → all_have (has iri_char) (iri_of l) ≡ true
@@ -113,20 +116,55 @@ known_bytes XsdDecimal = lit≤ tt
 known_bytes XsdDouble = lit≤ tt
 known_bytes XsdBoolean = lit≤ tt
 
+-- as they are written, since their characters are ASCII
+plain_known : (k : Known) → length (iri_text Plain (known_chars k)) ≤ 64
+unfolding known_chars
+plain_known RdfType = lit≤ tt
+plain_known RdfFirst = lit≤ tt
+plain_known RdfRest = lit≤ tt
+plain_known RdfNil = lit≤ tt
+plain_known XsdString = lit≤ tt
+plain_known XsdInteger = lit≤ tt
+plain_known XsdDecimal = lit≤ tt
+plain_known XsdDouble = lit≤ tt
+plain_known XsdBoolean = lit≤ tt
+
+ascii_known : (k : Known) → length (iri_text Ascii (known_chars k)) ≤ 64
+unfolding known_chars
+ascii_known RdfType = lit≤ tt
+ascii_known RdfFirst = lit≤ tt
+ascii_known RdfRest = lit≤ tt
+ascii_known RdfNil = lit≤ tt
+ascii_known XsdString = lit≤ tt
+ascii_known XsdInteger = lit≤ tt
+ascii_known XsdDecimal = lit≤ tt
+ascii_known XsdDouble = lit≤ tt
+ascii_known XsdBoolean = lit≤ tt
+
+written_known : (e : Escapes) (k : Known) → length (iri_text e (known_chars k)) ≤ 64
+written_known Plain k = plain_known k
+written_known Ascii k = ascii_known k
+
 -- A text that is written as it is, since it has no character that is escaped.
 record Unescaped (r : Regex) : Type 0 where
+  low : (c : ℕ) → uses r c ≡ true → nat_le c 127 ≡ true
   quote : uses r 34 ≡ false
   backslash : uses r 92 ≡ false
   feed : uses r 10 ≡ false
   return : uses r 13 ≡ false
 
 -- a character that is not escaped is written as it is
-itself_escaped : (r : Regex) → Unescaped r → (c : ℕ) → uses r c ≡ true → length (escaped c) ≡ 1
-itself_escaped r u c h =
+itself_written : (e : Escapes) (c : ℕ) → nat_le c 127 ≡ true → length (written e c) ≡ 1
+itself_written Plain c h = refl
+itself_written Ascii c h = ap length (cond-true (nat_le c 127) (c ∷ []) (uchar c) h)
+
+-- a character that is not escaped is written as it is
+itself_escaped : (e : Escapes) (r : Regex) → Unescaped r → (c : ℕ) → uses r c ≡ true → length (escaped e c) ≡ 1
+itself_escaped e r u c h =
     cond_both (c == 34) _ _ One (λ e. absurd (never 34 u.quote e))
     (λ _. cond_both (c == 92) _ _ One (λ e. absurd (never 92 u.backslash e))
     (λ _. cond_both (c == 10) _ _ One (λ e. absurd (never 10 u.feed e))
-    (λ _. cond_both (c == 13) _ _ One (λ e. absurd (never 13 u.return e)) (λ _. refl))))
+    (λ _. cond_both (c == 13) _ _ One (λ e. absurd (never 13 u.return e)) (λ _. itself_written e c (u.low c h)))))
   where
     One : List ℕ → Type 0
     One x = length x ≡ 1
@@ -135,44 +173,66 @@ itself_escaped r u c h =
     never x n e = false≢true (sym n ∙ subst (λ y. uses r y ≡ true) (eqb-true c x e) h)
 
 -- a text of characters that need no escape is as long when it is written
-unescaped_length : (r : Regex) → Unescaped r → (w : List ℕ) → AllByRecursion (λ c. uses r c ≡ true) w → length (flat_map escaped w) ≡ length w
-unescaped_length r u [] a = refl
-unescaped_length r u (c ∷ w) a =
-    let x = itself_escaped r u c a.0 in
-    let y = unescaped_length r u w a.1 in
-    let s = length-append (escaped c) (flat_map escaped w) in
+unescaped_length : (e : Escapes) (r : Regex) → Unescaped r → (w : List ℕ) → AllByRecursion (λ c. uses r c ≡ true) w → length (flat_map (escaped e) w) ≡ length w
+unescaped_length e r u [] a = refl
+unescaped_length e r u (c ∷ w) a =
+    let x = itself_escaped e r u c a.0 in
+    let y = unescaped_length e r u w a.1 in
+    let s = length-append (escaped e c) (flat_map (escaped e) w) in
     omega (arith, x, y, s)
 
 -- so it has two characters more, the quotes
-unescaped_text : (r : Regex) → Unescaped r → (w : List ℕ) → Matches r w → length (string_text w) ≡ length w + 2
-unescaped_text r u w m =
-    let x = unescaped_length r u w (all_used r w m) in
-    let s = length-append (flat_map escaped w) (34 ∷ []) in
+unescaped_text : (e : Escapes) (r : Regex) → Unescaped r → (w : List ℕ) → Matches r w → length (string_text e w) ≡ length w + 2
+unescaped_text e r u w m =
+    let x = unescaped_length e r u w (all_used r w m) in
+    let s = length-append (flat_map (escaped e) w) (34 ∷ []) in
     omega (arith, x, s)
+
+-- no number has a character that is escaped
+integer_low : (c : ℕ) → uses (shape turtle Integer) c ≡ true → nat_le c 127 ≡ true
+unfolding shape has
+integer_low c h = grind (arith, nat_tests)
+
+decimal_low : (c : ℕ) → uses (shape turtle Decimal) c ≡ true → nat_le c 127 ≡ true
+unfolding shape has
+decimal_low c h = grind (arith, nat_tests)
+
+double_low : (c : ℕ) → uses (shape turtle Double) c ≡ true → nat_le c 127 ≡ true
+unfolding shape has
+double_low c h = grind (arith, nat_tests)
 
 -- no number has a character that is escaped
 integer_unescaped : Unescaped (shape turtle Integer)
 unfolding shape has
-integer_unescaped = record { quote = refl; backslash = refl; feed = refl; return = refl }
+integer_unescaped = record { low = integer_low; quote = refl; backslash = refl; feed = refl; return = refl }
 
 -- a DECIMAL needs no escape
 decimal_unescaped : Unescaped (shape turtle Decimal)
 unfolding shape has
-decimal_unescaped = record { quote = refl; backslash = refl; feed = refl; return = refl }
+decimal_unescaped = record { low = decimal_low; quote = refl; backslash = refl; feed = refl; return = refl }
 
 -- a DOUBLE needs no escape
 double_unescaped : Unescaped (shape turtle Double)
 unfolding shape has
-double_unescaped = record { quote = refl; backslash = refl; feed = refl; return = refl }
+double_unescaped = record { low = double_low; quote = refl; backslash = refl; feed = refl; return = refl }
 
--- Limits of what is read, and limits, a little higher, of what is written for it.
+true_text : (e : Escapes) → length (string_text e (codes "true")) ≤ 64
+true_text Plain = lit≤ tt
+true_text Ascii = lit≤ tt
+
+false_text : (e : Escapes) → length (string_text e (codes "false")) ≤ 64
+false_text Plain = lit≤ tt
+false_text Ascii = lit≤ tt
+
+-- Limits of what is read, and limits, higher by what the escapes take, of what is written for it.
 pub record Room : Type 0 where
+  pub form : Escapes
   pub most : ℕ
   pub iri : ℕ
   pub most_then : ℕ
   pub iri_then : ℕ
-  pub twice : 2 * most ≤ most_then
-  pub brackets : iri + 2 ≤ most_then
+  pub twice : string_width form * most ≤ most_then
+  pub brackets : iri_width form * iri + 2 ≤ most_then
   pub least : 64 ≤ most_then
   pub higher : iri ≤ iri_then
   pub least_iri : 64 ≤ iri_then
@@ -180,7 +240,7 @@ pub record Room : Type 0 where
 module _ (r : Room) where
   -- the parts of a quad that are well formed, and written within the limits
   abbrev pub FitIri : List ℕ → Type 0
-  FitIri i = IsIri i × (byte_len i ≤ r.iri_then) × (length (iri_text i) ≤ r.most_then)
+  FitIri i = IsIri i × (byte_len i ≤ r.iri_then) × (length (iri_text r.form i) ≤ r.most_then)
 
   abbrev pub FitNode : Node → Type 0
   FitNode n = IsNode n × (length (node_text (rename_node Tagged n)) ≤ r.most_then)
@@ -190,7 +250,7 @@ module _ (r : Room) where
   FitSubject (Blank n) = FitNode n
 
   abbrev pub FitWord : List ℕ → Type 0
-  FitWord w = (all_have scalar w ≡ true) × (length (string_text w) ≤ r.most_then)
+  FitWord w = (all_have scalar w ≡ true) × (length (string_text r.form w) ≤ r.most_then)
 
   abbrev pub FitTail : term.Tail → Type 0
   FitTail (Lang t) = IsTag t × (length (64 ∷ t) ≤ r.most_then)
@@ -221,12 +281,12 @@ module _ (r : Room) where
   pub known_fits : (k : Known) → FitIri (known_chars k)
   known_fits k =
       let n = known_bytes k in
-      let w = written_iri (known_chars k) in
+      let w = written_known r.form k in
       (IsIri-known_chars k, omega (arith, r.least_iri), omega (arith, r.least))
 
   pub named_fits : (i : Option (List ℕ)) → IfSome i IsIri → Within (stands i) → IfSome i FitIri
   named_fits None f w = tt
-  named_fits (Some i) f w = let x = written_iri i in (f, omega (arith, r.higher), omega (arith, r.brackets))
+  named_fits (Some i) f w = let x = written_iri r.form i in let y = iri_room r.form (byte_len i) r.iri r.most_then w r.brackets in (f, omega (arith, r.higher), omega arith)
 
   pub subject_named : (i : Option (List ℕ)) → IfSome i FitIri → IfSome (named i) FitSubject
   subject_named None f = tt
@@ -254,10 +314,10 @@ module _ (r : Room) where
   offset_digits n h = let far : 2 ^ 64 ≤ 10 ^ 20 = lit≤ tt in length-decimal-le 20 n (lit< tt) (omega arith) h
 
   pub anon_fits : (n : ℕ) → n < 2 ^ 64 → FitNode (Anon n)
-  anon_fits n h = let x = offset_digits n h in (h, omega (arith, r.twice, r.least))
+  anon_fits n h = let x = offset_digits n h in (h, omega (arith, r.least))
 
   pub cell_fits : (n : ℕ) → n < 2 ^ 64 → FitNode (Cell n)
-  cell_fits n h = let x = offset_digits n h in (h, omega (arith, r.twice, r.least))
+  cell_fits n h = let x = offset_digits n h in (h, omega (arith, r.least))
 
   -- What tokens spell fits. A token that is not the end has the shape of its kind.
   shaped : (k : Kind) (l : Leaf) → k ≢ End → Good k l → Shape turtle k l.text
@@ -267,27 +327,30 @@ module _ (r : Room) where
   label_fits l g =
       let s = length-drop 2 l.text in
       let z = g.0 in
-      (label_in l.text (shaped LabelNode l (λ x. let z : LabelNode ≡ End = x in cc) g), omega (arith, s, r.twice, r.least))
+      let t = token_room r.form r.most r.most_then r.twice in
+      (label_in l.text (shaped LabelNode l (λ x. let z : LabelNode ≡ End = x in cc) g), omega (arith, s, t, r.least))
 
   pub short_fits : (l : Leaf) → Good ShortString l → FitWord (short_value l)
   short_fits l g =
       let m = shaped ShortString l (λ x. let z : ShortString ≡ End = x in cc) g in
-      let s = string_short 1 l.text in
-      let w = written_string (short_value l) in
-      let z = g.0 in
-      (string_scalars (shape turtle ShortString) 1 l.text m, omega (arith, r.twice, r.least))
+      let w = written_string r.form (short_value l) in
+      let z = string_room r.form (length (short_value l)) (length l.text) r.most r.most_then (string_short 1 l.text) g.0 r.twice r.least in
+      (string_scalars (shape turtle ShortString) 1 l.text m, omega (arith, w, z))
 
   pub long_fits : (l : Leaf) → Good LongString l → FitWord (long_value l)
   long_fits l g =
       let m = shaped LongString l (λ x. let z : LongString ≡ End = x in cc) g in
       let s = string_short 3 l.text in
-      let w = written_string (long_value l) in
-      let z = g.0 in
-      (string_scalars (shape turtle LongString) 3 l.text m, omega (arith, r.twice, r.least))
+      let w = written_string r.form (long_value l) in
+      let z = string_room r.form (length (long_value l)) (length l.text) r.most r.most_then (omega arith) g.0 r.twice r.least in
+      (string_scalars (shape turtle LongString) 3 l.text m, omega (arith, w, z))
 
   -- a number is written with its quotes alone
   number_fits : (x : Regex) → Unescaped x → (w : List ℕ) → Matches x w → length w ≤ r.most → FitWord w
-  number_fits x u w m l = let s = unescaped_text x u w m in (matched_scalar x w m, omega (arith, s, r.twice, r.least))
+  number_fits x u w m l =
+      let s = unescaped_text r.form x u w m in
+      let t = token_room r.form r.most r.most_then r.twice in
+      (matched_scalar x w m, omega (arith, s, t, r.least))
 
   pub integer_fits : (l : Leaf) → Good Integer l → FitWord l.text
   integer_fits l g = number_fits (shape turtle Integer) integer_unescaped l.text (shaped Integer l (λ x. let z : Integer ≡ End = x in cc) g) g.0
@@ -299,13 +362,14 @@ module _ (r : Room) where
   double_fits l g = number_fits (shape turtle Double) double_unescaped l.text (shaped Double l (λ x. let z : Double ≡ End = x in cc) g) g.0
 
   pub true_fits : FitWord (codes "true")
-  true_fits = let s : length (string_text (codes "true")) ≤ 64 = lit≤ tt in (refl, omega (arith, r.twice, r.least))
+  true_fits = (refl, let s = true_text r.form in omega (arith, s, r.least))
 
   pub false_fits : FitWord (codes "false")
-  false_fits = let s : length (string_text (codes "false")) ≤ 64 = lit≤ tt in (refl, omega (arith, r.twice, r.least))
+  false_fits = (refl, let s = false_text r.form in omega (arith, s, r.least))
 
   pub tag_fits : (k : Kind) (l : Leaf) → SpellsTag k → k ≢ End → Good k l → FitTail (Lang (tag_of l))
   tag_fits k l t n g =
       let s = length-drop 1 l.text in
       let z = g.0 in
-      (spelled_tag k l.text t (shaped k l n g), omega (arith, s, r.twice, r.least))
+      let m = token_room r.form r.most r.most_then r.twice in
+      (spelled_tag k l.text t (shaped k l n g), omega (arith, s, m, r.least))

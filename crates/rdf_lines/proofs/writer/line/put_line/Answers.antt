@@ -1,6 +1,7 @@
-use Rattle.std.proofs.Common.{◌≡◌, ◌++◌, [], ◌∷◌, append_assoc, ap, ◌∙◌}
-use Rattle.rdf_lines.specs.Writing.{iri_text, space}
-use Rattle.rdf_lines.specs.WrittenBytes.{subject_bytes, term_bytes, graph_bytes}
+use Rattle.std.proofs.Common.{◌≡◌, ◌++◌, [], ◌∷◌, append_assoc, ap, sym, ◌∙◌}
+use Rattle.rdf_lines.specs.Writing.{space}
+use Rattle.rdf_lines.specs.WrittenBytes.{subject_bytes, iri_bytes, term_bytes, graph_bytes}
+use Rattle.rdf_lines.proofs.EncodedLine.{encoded_line}
 use Rattle.rdf_lines.proofs.WrittenBytesLemmas.{begins_with_front, on_ok, on_err, parts_appended}
 use Rattle.rdf_lines.proofs.writer.line.put_line.Goals as goal
 
@@ -8,13 +9,17 @@ pub returns-clause-written : goal.returns-clause-written
 returns-clause-written g c =
     let out = c.args.out.now.items in
     let quad = c.args.quad in
-    let subject = subject_bytes c.args.style quad.subject ++ space in
-    let predicate = iri_text quad.predicate.text.now ++ space in
-    let object = term_bytes c.args.style quad.object ++ space in
-    let graph = graph_bytes c.args.style quad.graph in
+    let escapes = c.args.escapes in
+    let subject = subject_bytes c.args.style escapes quad.subject ++ space in
+    let predicate = iri_bytes escapes quad.predicate ++ space in
+    let object = term_bytes c.args.style escapes quad.object ++ space in
+    let graph = graph_bytes c.args.style escapes quad.graph in
     let parts : c.put_object.new.out.items ≡ out ++ (subject ++ predicate ++ object) =
     parts_appended _ _ _ _ _ _ _ c.in_ok-put_subject.ensures.written c.in_ok-put_predicate.ensures.written c.in_ok-put_object.ensures.written in
-    on_ok c.put_end.result (λ h. h ∙ (ap (λ x. x ++ (graph ++ 46 ∷ [] ++ 10 ∷ [])) parts ∙ simp append_assoc)) c.put_end.ensures.written
+    let whole : (out ++ (subject ++ predicate ++ object)) ++ (graph ++ 46 ∷ [] ++ 10 ∷ []) ≡ out ++ (subject ++ predicate ++ object ++ graph ++ 46 ∷ [] ++ 10 ∷ []) = simp append_assoc in
+    on_ok c.put_end.result
+    (λ h. h ∙ (ap (λ x. x ++ (graph ++ 46 ∷ [] ++ 10 ∷ [])) parts ∙ (whole ∙ ap (λ x. out ++ x) (sym (encoded_line c.args.style escapes quad)))))
+    c.put_end.ensures.written
 
 pub returns-clause-grown : goal.returns-clause-grown
 returns-clause-grown g c =

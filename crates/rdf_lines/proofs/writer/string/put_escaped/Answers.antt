@@ -1,19 +1,11 @@
-use Rattle.std.proofs.Common.{◌++◌, append_assoc, ap, sym, ◌∙◌, ◌-◌, length, take, drop, length-take, length-drop, arith}
-use Rattle.std.specs.Prelude.{flat_map}
-use Rattle.rdf_lines.specs.Writing.{escaped}
-use Rattle.rdf_lines.proofs.PlainRuns.{escaped_more}
+use Rattle.std.proofs.Common.{◌≡◌, ◌++◌, length, sym, ap, ◌∙◌}
+use Rattle.std.proofs.lemmas.Bool.{eqb-true}
+use Rattle.std.proofs.lemmas.List.{append-nil}
+use Rattle.rdf_lines.proofs.EscapedRuns.{none_written}
 use Rattle.rdf_lines.proofs.writer.string.put_escaped.Goals as goal
 
-pub loop-done-preserved : goal.loop-done-preserved
-loop-done-preserved g c =
-    let text = c.args.text.now in
-    let done = c.loop-done.done in
-    let more = c.in_ok-done.field-0 in
-    let out = c.args.out.now.items in
-    let rest = take (length text - done) (drop done text) in
-    let run = flat_map escaped (take more rest) in (
-      omega (arith, c.in_ok-done.ensures.within, length-take (length text - done) (drop done text), length-drop done text),
-      c.in_ok-done.ensures.written
-          ∙ (ap (λ x. x ++ run) c.loop-done.invariant.1
-          ∙ (append_assoc out (flat_map escaped (take done text)) run ∙ ap (λ x. out ++ x) (sym (escaped_more text done more)))),
-    )
+pub returns-clause-written : goal.returns-clause-written
+returns-clause-written g c =
+    let out = c.loop-rest.out.items in
+    let none = none_written c.args.escapes c.loop-rest.rest.now (eqb-true (length c.loop-rest.rest.now) 0 (sym c.loop-rest-test.ensures)) in
+    sym (append-nil out) ∙ (ap (λ x. out ++ x) (sym none) ∙ c.loop-rest.invariant.1)

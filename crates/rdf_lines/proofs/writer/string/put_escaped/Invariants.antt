@@ -1,11 +1,14 @@
-use Rattle.std.proofs.Common.{◌≡◌, ◌++◌, ◌≤◌, ◌-◌, take, length}
-use Rattle.std.specs.Prelude.{flat_map}
-use Rattle.rdf_lines.specs.Writing.{escaped}
+use Rattle.std.proofs.Common.{◌≡◌, ◌++◌, length}
+use denote.Text.{Utf8}
+use denote.Shadow.{shadow}
+use Rattle.rdf_lines.specs.WrittenBytes.{BeginsWith, escaped_bytes}
 use Rattle.rdf_lines.proofs.writer.string.put_escaped.Given as goal
 
-abbrev pub invariant-loop-done : goal.invariant-loop-done
-invariant-loop-done g l =
-    (l.done ≤ length l.text) × (l.out.items ≡ l.initial.out.items ++ flat_map escaped (take l.done l.text))
+abbrev pub invariant-loop-rest : goal.invariant-loop-rest
+invariant-loop-rest g l =
+    shadow (Utf8 l.rest)
+    × (l.out.items ++ escaped_bytes l.escapes l.rest ≡ l.initial.out.items ++ escaped_bytes l.escapes l.text)
+    × BeginsWith l.initial.out.items l.out.items
 
-abbrev pub decreases-loop-done : goal.decreases-loop-done
-decreases-loop-done g l = length l.text - l.done
+abbrev pub decreases-loop-rest : goal.decreases-loop-rest
+decreases-loop-rest g l = length l.rest

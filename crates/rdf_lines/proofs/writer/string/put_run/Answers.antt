@@ -1,22 +1,27 @@
-use Rattle.std.proofs.Common.{◌≡◌, ◌<◌, ◌++◌, append_assoc, length, ap, sym, ◌∙◌, take, get_or, arith}
-use Rattle.rdf_lines.specs.Writing.{escaped}
-use Rattle.rdf_lines.proofs.PlainRuns.{plain_text, run_written}
+use Rattle.std.proofs.Common.{◌≡◌, ◌++◌, append_assoc, take, drop, subst, sym, ap, ◌∙◌}
+use Rattle.rdf_terms.specs.Runs.{IsRun, goes_over}
+use Rattle.rdf_lines.specs.WrittenBytes.{escaped_bytes, run_of}
+use Rattle.rdf_lines.proofs.EscapedRuns.{run_cut, run_written}
+use Rattle.rdf_lines.proofs.WrittenBytesLemmas.{if_ok}
 use Rattle.rdf_lines.proofs.writer.string.put_run.Goals as goal
 
-pub returns-then-at-text-clause-written : goal.returns-then-at-text-clause-written
-returns-then-at-text-clause-written g c =
-    let text = c.args.text.now in
-    let end = c.run_end-at.result in
-    let whole : end ≡ length text = omega (arith, c.if-at-text.true) in
-    c.in_ok-extend_from_slice.ensures.items ∙ ap (λ x. c.args.out.now.items ++ x) (sym (plain_text text end c.run_end-at.ensures whole))
+pub split_at-requires : goal.split_at-requires
+split_at-requires g c =
+    let at = c.run_end-at.result in
+    let runs = subst (λ x. IsRun (goes_over x) c.as_bytes.result.now 0 at) c.run_of.ensures c.run_end-at.ensures in
+    run_cut c.args.escapes c.args.text.now at c.utf8.text (subst (λ w. IsRun (goes_over (run_of c.args.escapes)) w 0 at) c.as_bytes.ensures.value runs)
 
 pub returns-clause-written : goal.returns-clause-written
 returns-clause-written g c =
+    let e = c.args.escapes in
+    let out = c.args.out.now.items in
     let text = c.args.text.now in
     let at = c.run_end-at.result in
-    let out = c.args.out.now.items in
-    let behind = escaped (get_or text at 0) in
-    let inside : at < length text = omega (arith, c.if-at-text.false, c.run_end-at.ensures.within) in
-    c.in_ok-put_byte.ensures.written
-    ∙ (ap (λ x. x ++ behind) c.in_ok-extend_from_slice-2.ensures.items
-    ∙ (append_assoc out (take at text) behind ∙ ap (λ x. out ++ x) (sym (run_written text at c.run_end-at.ensures inside))))
+    let runs = subst (λ x. IsRun (goes_over x) c.as_bytes.result.now 0 at) c.run_of.ensures c.run_end-at.ensures in
+    let there = subst (λ w. IsRun (goes_over (run_of e)) w 0 at) c.as_bytes.ensures.value runs in
+    let front : c.extend_from_slice.new.self.items ≡ out ++ take at text =
+    c.in_ok-extend_from_slice.ensures.items ∙ ap (λ x. out ++ x) (c.as_bytes-2.ensures.value ∙ c.split_at.ensures.front) in
+    let parts = append_assoc out (take at text) (escaped_bytes e (drop at text)) ∙ ap (λ x. out ++ x) (sym (run_written e text at c.utf8.text there)) in
+    if_ok c.put_first.result
+    (λ rest h. h ∙ (ap (λ x. x ++ escaped_bytes e c.split_at.result.1.now) front ∙ (ap (λ x. (out ++ take at text) ++ escaped_bytes e x) c.split_at.ensures.back ∙ parts)))
+    c.put_first.ensures.written

@@ -1,0 +1,139 @@
+-- In ASCII each byte that is written is below 128, where the labels have such characters alone.
+use Rattle.std.proofs.Common.{◌≡◌, ℕ, ◌+◌, ◌<◌, ◌/◌, ◌%◌, zero, suc, Bool, true, false, cond, List, [], ◌∷◌, ◌++◌, ◌==◌, nat_le, refl, sym, ap, ◌∙◌, subst, ⊎_elim, Option, Some, None, option_map, arith}
+use Rattle.std.specs.Prelude.{flat_map, encode_utf8_all, decimal, bytes_eq}
+use Rattle.std.specs.Fmt.{digits, digits_onto, digit_glyph}
+use Rattle.std.specs.List.{AllByRecursion}
+use Rattle.std.proofs.lemmas.Bool.{cond_both, and_from}
+use Rattle.std.proofs.lemmas.Bool.Decides.{nat_tests}
+use Rattle.std.proofs.lemmas.Str.{encode_ascii}
+use Rattle.std.proofs.Math.Utf8.{encodes, scalar, scalars}
+use Rattle.rdf_terms.specs.Classes.{has}
+use Rattle.rdf_terms.specs.Regex.{Regex, Matches}
+use Rattle.rdf_terms.specs.Shapes.{tag_name}
+use Rattle.rdf_terms.specs.Terms.{Node, Label, Anon, Cell, Tail, Lang, Typed, Subject, Iri, Blank, Term, Resource, Literal, Quad, xsd_string, IsTag, IsTail, IsTerm, IsQuad}
+use Rattle.rdf_terms.proofs.UsedCharacters.{uses, all_used}
+use Rattle.rdf_lines.specs.declared.form.Escapes.TheVariants.{Ascii}
+use Rattle.rdf_lines.specs.declared.form.Style.{Style}
+use Rattle.rdf_lines.specs.declared.form.Style.TheVariants.{Kept, Tagged}
+use Rattle.rdf_lines.specs.Writing.{uchar, written, escaped, iri_text, node_text, subject_text, string_text, type_text, tail_text, term_text, space, graph_text, quad_text, line, text, rename_node, rename_subject, rename_term, rename, Writable, HasAsciiLabel, SubjectHasAsciiLabel, TermHasAsciiLabel, GraphHasAsciiLabel, HasAsciiLabels}
+use Rattle.rdf_lines.specs.Laws.{AsciiIsWritten}
+use Rattle.rdf_lines.proofs.UcharLemmas.{uchar_low}
+
+abbrev AllLow : List ℕ → Type 0
+AllLow w = AllByRecursion (λ c. c < 128) w
+
+-- such a text is its own bytes
+pub low_encodes : (w : List ℕ) → AllByRecursion (λ c. c < 128) w → encode_utf8_all w ≡ w
+low_encodes [] a = refl
+low_encodes (c ∷ w) a = ap (λ x. x ++ encodes w) (encode_ascii c a.0) ∙ ap (λ x. c ∷ x) (low_encodes w a.1)
+
+pub low_scalars : (w : List ℕ) → AllByRecursion (λ c. c < 128) w → scalars w ≡ true
+low_scalars [] a = refl
+low_scalars (c ∷ w) a = and_from _ _ (low_scalar c a.0) (low_scalars w a.1)
+  where
+    low_scalar : (c : ℕ) → c < 128 → scalar c ≡ true
+    low_scalar c l = grind (arith, nat_tests)
+
+joined : (u v : List ℕ) → AllLow u → AllLow v → AllLow (u ++ v)
+joined [] v a b = b
+joined (c ∷ u) v a b = (a.0, joined u v a.1 b)
+
+each : (f : ℕ → List ℕ) → ((c : ℕ) → AllLow (f c)) → (w : List ℕ) → AllLow (flat_map f w)
+each f h [] = tt
+each f h (c ∷ w) = joined (f c) (flat_map f w) (h c) (each f h w)
+
+below : (c : ℕ) → nat_le c 127 ≡ true → c < 128
+below c e = grind (arith, nat_tests)
+
+written_low : (c : ℕ) → AllLow (written Ascii c)
+written_low c = cond_both (nat_le c 127) (c ∷ []) (uchar c) AllLow (λ h. (below c h, tt)) (λ h. uchar_low c)
+
+escaped_low : (c : ℕ) → AllLow (escaped Ascii c)
+escaped_low c =
+    cond_both (c == 34) _ _ AllLow (λ h. (omega arith, (omega arith, tt)))
+    (λ h. cond_both (c == 92) _ _ AllLow (λ h. (omega arith, (omega arith, tt)))
+    (λ h. cond_both (c == 10) _ _ AllLow (λ h. (omega arith, (omega arith, tt)))
+    (λ h. cond_both (c == 13) _ _ AllLow (λ h. (omega arith, (omega arith, tt))) (λ h. written_low c))))
+
+iri_low : (i : List ℕ) → AllLow (iri_text Ascii i)
+iri_low i = (omega arith, joined (flat_map (written Ascii) i) (62 ∷ []) (each (written Ascii) written_low i) (omega arith, tt))
+
+string_low : (w : List ℕ) → AllLow (string_text Ascii w)
+string_low w = (omega arith, joined (flat_map (escaped Ascii) w) (34 ∷ []) (each (escaped Ascii) escaped_low w) (omega arith, tt))
+
+digits_low : (k n : ℕ) (w : List ℕ) → AllLow w → AllLow (digits_onto k 10 false n w)
+digits_low zero n w a = a
+digits_low (suc k) n w a =
+    let d = digit_glyph false (n % 10) ∷ w in
+    let b : AllLow d = (glyph_low (n % 10) (omega arith), a) in
+    cond_both (n / 10 == 0) d _ AllLow (λ h. b) (λ h. digits_low k (n / 10) d b)
+  where
+    glyph_low : (d : ℕ) → d < 10 → digit_glyph false d < 128
+    glyph_low d l = grind (arith, nat_tests)
+
+number_low : (n : ℕ) → AllLow (decimal n)
+unfolding digits
+number_low n = digits_low 64 n [] tt
+
+node_low : (s : Style) (n : Node) → HasAsciiLabel n → AllLow (node_text (rename_node s n))
+node_low Kept (Label x) h = (omega arith, (omega arith, h))
+node_low Kept (Anon n) h = tt
+node_low Kept (Cell n) h = tt
+node_low Tagged (Label x) h = (omega arith, (omega arith, (omega arith, h)))
+node_low Tagged (Anon n) h = (omega arith, (omega arith, (omega arith, number_low n)))
+node_low Tagged (Cell n) h = (omega arith, (omega arith, (omega arith, number_low n)))
+
+subject_low : (s : Style) (t : Subject) → SubjectHasAsciiLabel t → AllLow (subject_text Ascii (rename_subject s t))
+subject_low s (Iri i) h = iri_low i
+subject_low s (Blank n) h = node_low s n h
+
+-- a tag has letters, digits and '-'
+tag_char : (c : ℕ) → uses tag_name c ≡ true → c < 128
+unfolding has
+tag_char c h = grind (arith, nat_tests)
+
+tag_low : (t : List ℕ) → IsTag t → AllLow t
+tag_low t m = each_low t (all_used tag_name t m)
+  where
+    each_low : (w : List ℕ) → AllByRecursion (λ c. uses tag_name c ≡ true) w → AllLow w
+    each_low [] a = tt
+    each_low (c ∷ w) a = (tag_char c a.0, each_low w a.1)
+
+type_low : (b : Bool) (i : List ℕ) → AllLow (type_text Ascii b i)
+type_low true i = tt
+type_low false i = (omega arith, (omega arith, iri_low i))
+
+tail_low : (t : Tail) → IsTail t → AllLow (tail_text Ascii t)
+tail_low (Lang t) h = (omega arith, tag_low t h)
+tail_low (Typed i) h = type_low (bytes_eq i xsd_string) i
+
+term_low : (s : Style) (t : Term) → IsTerm t → TermHasAsciiLabel t → AllLow (term_text Ascii (rename_term s t))
+term_low s (Resource r) f h = subject_low s r h
+term_low s (Literal w t) f h = joined (string_text Ascii w) (tail_text Ascii t) (string_low w) (tail_low t f.1)
+
+space_low : AllLow space
+space_low = (omega arith, tt)
+
+graph_low : (s : Style) (g : Option Subject) → GraphHasAsciiLabel g → AllLow (graph_text Ascii (option_map (rename_subject s) g))
+graph_low s None h = tt
+graph_low s (Some g) h = joined (subject_text Ascii (rename_subject s g)) space (subject_low s g h) space_low
+
+line_low : (s : Style) (q : Quad) → IsQuad q → HasAsciiLabels q → AllLow (line s Ascii q)
+line_low s q f h =
+    let u = subject_text Ascii (rename_subject s q.subject) ++ space in
+    let v = iri_text Ascii q.predicate ++ space in
+    let w = term_text Ascii (rename_term s q.object) ++ space in
+    let g = graph_text Ascii (option_map (rename_subject s) q.graph) in
+    let a = joined (subject_text Ascii (rename_subject s q.subject)) space (subject_low s q.subject h.subject) space_low in
+    let b = joined (iri_text Ascii q.predicate) space (iri_low q.predicate) space_low in
+    let c = joined (term_text Ascii (rename_term s q.object)) space (term_low s q.object f.object h.object) space_low in
+    joined (u ++ v ++ w ++ g ++ 46 ∷ []) (10 ∷ []) (joined (u ++ v ++ w ++ g) (46 ∷ []) (joined (u ++ v ++ w) g (joined (u ++ v) w (joined u v a b) c) (graph_low s q.graph h.graph)) (omega arith, tt)) (omega arith, tt)
+
+text_low : (s : Style) (qs : List Quad) → Writable s qs → AllByRecursion HasAsciiLabels qs → AllLow (text s Ascii qs)
+text_low s [] w h = tt
+text_low s (q ∷ qs) w h = joined (line s Ascii q) (text s Ascii qs) (line_low s q w.0.0 h.0) (text_low s qs w.1 h.1)
+
+pub ascii_written : AsciiIsWritten
+ascii_written s qs w h =
+    let a = text_low s qs w h in
+    subst AllLow (sym (low_encodes (text s Ascii qs) a)) a

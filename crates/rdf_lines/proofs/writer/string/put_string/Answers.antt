@@ -1,0 +1,14 @@
+use Rattle.std.proofs.Common.{◌++◌, [], ◌∷◌, ap, sym, ◌∙◌, arith}
+use Rattle.std.specs.Prelude.{chars, flat_map}
+use Rattle.rdf_lines.specs.Writing.{escaped}
+use Rattle.rdf_lines.specs.WrittenBytes.{escaped_bytes}
+use Rattle.rdf_lines.proofs.EncodedLine.{between}
+use Rattle.rdf_lines.proofs.WrittenBytesLemmas.{parts_appended}
+use Rattle.rdf_lines.proofs.writer.string.put_string.Goals as goal
+
+pub returns-clause-written : goal.returns-clause-written
+returns-clause-written g c =
+    let out = c.args.out.now.items in
+    let e = c.args.escapes in
+    parts_appended out (34 ∷ []) (escaped_bytes e c.args.text.now) (34 ∷ []) _ _ _ c.in_ok-push.ensures.items c.in_ok-put_escaped.ensures.written c.in_ok-push-2.ensures.items
+    ∙ ap (λ x. out ++ x) (sym (between 34 34 (flat_map (escaped e) (chars c.args.text.now)) (omega arith) (omega arith)))
