@@ -146,6 +146,7 @@ enum Move {
 }
 
 impl Spot {
+    #[inline(always)]
     fn after(self, inside: Inside, c: char) -> Move
         requires { HasRoom self }
         ensures is { move_of result ≡ move (inside_of inside) (spot_of self) c }
@@ -159,6 +160,7 @@ impl Spot {
     }
 }
 
+#[inline(always)]
 fn plain(inside: Inside, c: char) -> Move
     ensures is { move_of result ≡ move (inside_of inside) outside c }
     ensures sound { IsSound result }
@@ -169,6 +171,7 @@ fn plain(inside: Inside, c: char) -> Move
     }
 }
 
+#[inline(always)]
 fn allowed(inside: Inside, c: char) -> Move
     ensures is { move_of result ≡ allowed (inside_of inside) c }
     ensures sound { IsSound result }
