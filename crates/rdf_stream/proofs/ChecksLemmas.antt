@@ -1,5 +1,5 @@
 -- A whole check, from what its run has done.
-use Rattle.std.proofs.Common.{◌≡◌, ℕ, Bool, true, false, List, [], ◌++◌, Option, IfSome, refl, sym, subst, ⊎_elim, ◌∙◌}
+use Rattle.std.proofs.Common.{◌≡◌, ℕ, ◌+◌, Bool, true, false, List, [], ◌++◌, length, Option, IfSome, refl, sym, ap, subst, ⊎_elim, ◌∙◌, length-append}
 use Rattle.std.proofs.lemmas.Bool.{false≢true}
 use Rattle.std.proofs.KnownBytes.{Consumes-whole}
 use Rattle.rdf_terms.specs.declared.reason.Reason.{Reason}
@@ -19,6 +19,8 @@ use Rattle.rdf_stream.specs.declared.fault.StreamFault.TheVariants as stream
 use Rattle.rdf_stream.specs.Checks.{BeginsToRead, CheckEnds, CheckHalts, CheckStops, ChecksNoMore, IsChecking, IsRefusedFor, IsAccepted}
 use Rattle.rdf_stream.specs.Devices.{HasGiven, Reading}
 use Rattle.rdf_stream.specs.Faults.{IsOfDocument, IsRefusal, fault_by}
+use Rattle.rdf_lines.specs.declared.form.Style.{Style}
+use Rattle.rdf_stream.specs.Passes.{PassesText}
 use Rattle.rdf_stream.specs.Pieces.{ReadStops, ReadsAll, SourceFails}
 use Rattle.rdf_stream.proofs.PiecesLemmas.{all_given, too_long_more}
 
@@ -85,10 +87,17 @@ module _ {G X : Type 0} (w : Words G X Quad) (first old : Driven G) (bytes : Lis
       by x quads r why h =
           let z = h.refused x bytes quads r in at_limit (λ m. IsRefusedFor why (in_words w x m) bytes true (record { offset = n; line = k })) (z.0, z.1)
 
--- what is refused stays refused, with all the bytes
-refused_more : (l : Language) → EndsAtBlame l → (why : Reason) (bytes more : List ℕ) (at : Place) → IsRefusedFor why l bytes false at → IsRefusedFor why l (bytes ++ more) true at
-refused_more l ends reason.DocumentTooLong bytes more at h = too_long_more bytes more at h
-refused_more l ends why bytes more at h = (h.0, refused_in_more l ends bytes more true why at h.0 h.1)
+-- what is refused stays refused, with more bytes or with all of them
+refused_more : (l : Language) → EndsAtBlame l → (why : Reason) (bytes more : List ℕ) (e : Bool) (at : Place) → IsRefusedFor why l bytes false at → IsRefusedFor why l (bytes ++ more) e at
+refused_more l ends reason.DocumentTooLong bytes more e at h = too_long_more bytes more at h
+refused_more l ends why bytes more e at h = (h.0, refused_in_more l ends bytes more e why at h.0 h.1)
+
+-- what is not read on is not read on with more bytes
+checks_no_more : (told : StreamFault) (l : Language) → EndsAtBlame l → (bytes more : List ℕ) → ChecksNoMore told l bytes false → ChecksNoMore told l (bytes ++ more) false
+checks_no_more (stream.Refused f) l ends bytes more h = refused_more l ends f.reason bytes more false (place_of f) h
+checks_no_more stream.Read l ends bytes more h = h
+checks_no_more stream.Write l ends bytes more h = h
+checks_no_more stream.Memory l ends bytes more h = tt
 
 -- a refusal is of the document
 refused_of_document : (l : Language) (why : Reason) (bytes : List ℕ) (e : Bool) (at : Place) → IsRefusedFor why l bytes e at → IsOfDocument why
@@ -108,10 +117,33 @@ halts_of_document stream.Memory l bytes e h = tt
 halts_stops : (told : StreamFault) (l : Language) → EndsAtBlame l → (known : Option (List ℕ)) (left : Reading) (given : HasGiven known left) →
     ChecksNoMore told l given.bytes left.has_ended → CheckStops told l known left
 halts_stops (stream.Refused f) l ends known left given h =
-    (all_given known left (λ bytes e. IsRefusedFor f.reason l bytes e (place_of f)) (λ bytes more x. refused_more l ends f.reason bytes more (place_of f) x) given h, given, h)
+    (all_given known left (λ bytes e. IsRefusedFor f.reason l bytes e (place_of f)) (λ bytes more x. refused_more l ends f.reason bytes more true (place_of f) x) given h, given, h)
 halts_stops stream.Read l ends known left given h = absurd h
 halts_stops stream.Write l ends known left given h = absurd h
 halts_stops stream.Memory l ends known left given h = given
+
+-- the bytes that are not read on, and more
+pub halts_more : {G X : Type 0} (w : Words G X Quad) (told : StreamFault) (first : Driven G) (bytes more : List ℕ) → CheckHalts w told first bytes false → CheckHalts w told first (bytes ++ more) false
+halts_more w told first bytes more h = record {
+  begun = h.begun;
+  halts = λ x b. checks_no_more told (in_words w x first.scanner.limit) (b.lawful.ends x) bytes more (h.halts x b);
+}
+
+-- the bytes that were passed
+pub text_passed : {G X : Type 0} (w : Words G X Quad) (style : Style) (first old new : Driven G) (bytes text : List ℕ) → IsChecking w first bytes old → PassesText w style old text new → IsChecking w first (bytes ++ text) new
+text_passed w style first old new bytes text i p = record {
+  begun = i.begun;
+  limit = p.limit ∙ i.limit;
+  read = λ x b. let (quads, h) = i.read x b in (quads ++ p.given, p.read x bytes quads h);
+}
+
+-- the bytes are counted
+pub counted : {G X : Type 0} (w : Words G X Quad) (first old new : Driven G) (bytes piece : List ℕ) → IsChecking w first bytes old → IsChecking w first (bytes ++ piece) new → new.so_far.bytes ≡ old.so_far.bytes + length piece
+counted w first old new bytes piece i j =
+    let (x, b) = i.begun in
+    let before : old.so_far.bytes ≡ length bytes = ap (λ (s : Summary). s.bytes) (i.read x b).1.so_far in
+    let after : new.so_far.bytes ≡ length (bytes ++ piece) = ap (λ (s : Summary). s.bytes) (j.read x b).1.so_far in
+    after ∙ (length-append bytes piece ∙ ap (λ n. n + length piece) (sym before))
 
 module _ {G X : Type 0} (w : Words G X Quad) where
   -- a reader, and its sink

@@ -2,6 +2,8 @@ pub mod ViewsLemmas
 pub mod WellFormedLemmas
 pub mod LineOutLemmas
 pub mod PiecesLemmas
+pub mod PartsLemmas
+pub mod PassesLemmas
 pub mod ConvertingLemmas
 pub mod ConvertsLemmas
 pub mod DocumentLemmas

@@ -12,5 +12,7 @@ pub mod Loads
 -- what need not be: functions that compute, machines and states, what the code's side speaks of, and the laws
 pub mod LineOut
 pub mod Pieces
+pub mod Parts
+pub mod Passes
 pub mod Converting
 pub mod ShowParts

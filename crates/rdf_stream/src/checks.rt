@@ -11,8 +11,10 @@ use crate::devices::Source;
 use crate::fault::StreamFault;
 use crate::form::Kind;
 use crate::job::Job;
+use crate::parts::{Parts, take_parts};
+use crate::passes::Passes;
 use crate::pieces::{Run, piece_buffer, read_pieces};
-use rdf_driver::{QuadGrammar, Reader, Summary};
+use rdf_driver::{Reader, Summary};
 use rdf_lines::line_reader;
 use rdf_terms::{PutFault, QuadRef, QuadSink};
 use rdf_trig::tree_reader;
@@ -37,7 +39,7 @@ pub fn check<A: Allocator + Copy, S: Source>(
     }
 }
 
-fn check_with<G: QuadGrammar + Drop, A: Allocator + Copy, S: Source>(
+fn check_with<A: Allocator + Copy, G: Passes<A>, S: Source>(
     alloc: A,
     reader: Reader<G, A>,
     source: &mut S,
@@ -56,7 +58,7 @@ fn check_with<G: QuadGrammar + Drop, A: Allocator + Copy, S: Source>(
     read_pieces(source, piece.as_mut_slice(), &mut reader, &mut NoQuads)
 }
 
-impl<G: QuadGrammar + Drop, A: Allocator + Copy> Run<NoQuads> for Reader<G, A> {
+impl<A: Allocator + Copy, G: Passes<A>> Run<NoQuads> for Reader<G, A> {
     ghost taken = { λ first bytes now. IsChecking G.words first.0 bytes now.0 };
 
     ghost halts = { λ told first bytes is_end now. CheckHalts G.words told first.0 bytes is_end };
@@ -68,15 +70,35 @@ impl<G: QuadGrammar + Drop, A: Allocator + Copy> Run<NoQuads> for Reader<G, A> {
     ghost count = { λ now. now.so_far.bytes };
 
     fn take(&mut self, piece: &[u8], sink: &mut NoQuads) -> Result<(), StreamFault> {
-        match self.feed(piece, sink) {
-            Ok(()) => Ok(()),
-            Err(fault) => Err(StreamFault::from(fault)),
-        }
+        take_parts(self, piece, sink)
     }
 
     fn end(&mut self, sink: &mut NoQuads) -> Result<Summary, StreamFault> {
         match self.finish(sink) {
             Ok(summary) => Ok(summary),
+            Err(fault) => Err(StreamFault::from(fault)),
+        }
+    }
+}
+
+impl<A: Allocator + Copy, G: Passes<A>> Parts<NoQuads> for Reader<G, A> {
+    ghost taken = { λ first bytes now. IsChecking G.words first.0 bytes now.0 };
+
+    ghost halts = { λ told first bytes is_end now. CheckHalts G.words told first.0 bytes is_end };
+
+    ghost count = { λ now. now.so_far.bytes };
+
+    fn part_len(&self, bytes: &[u8]) -> usize {
+        G::part_len(bytes)
+    }
+
+    fn pass_front(&mut self, text: &str, _: &mut NoQuads) -> Result<usize, StreamFault> {
+        Ok(G::pass(self, text))
+    }
+
+    fn read_part(&mut self, part: &[u8], sink: &mut NoQuads) -> Result<(), StreamFault> {
+        match self.feed(part, sink) {
+            Ok(()) => Ok(()),
             Err(fault) => Err(StreamFault::from(fault)),
         }
     }

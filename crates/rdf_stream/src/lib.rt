@@ -10,6 +10,8 @@ mod job;
 mod line_out;
 mod loads;
 mod messages;
+mod parts;
+mod passes;
 mod pieces;
 mod put;
 mod shows;

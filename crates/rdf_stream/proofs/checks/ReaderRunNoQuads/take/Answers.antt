@@ -1,9 +1,10 @@
-use Rattle.std.proofs.Common.{sym, subst, ◌++◌, false}
-use Rattle.rdf_stream.specs.Checks.{CheckHalts}
-use Rattle.rdf_stream.proofs.ChecksLemmas.{piece_halts}
+use Rattle.std.proofs.Common.{◌≡◌, ◌+◌, length}
+use Rattle.rdf_stream.proofs.ChecksLemmas.{counted}
+use Rattle.rdf_stream.proofs.PiecesLemmas.{on_ok}
 use Rattle.rdf_stream.proofs.checks.ReaderRunNoQuads.take.Goals as goal
 
-pub returns-in-Err-clause-halts : goal.returns-in-Err-clause-halts
-returns-in-Err-clause-halts g c = λ first bytes i.
-    subst (λ told. CheckHalts g.G.Grammar.words told first.0 (bytes ++ c.args.piece.now) false) (sym c.from.ensures)
-    (piece_halts g.G.Grammar.words first.0 c.args.self.now bytes i c.args.piece.now _ _ _ c.in-Err.fault.reason c.in-Err.fault.offset c.in-Err.fault.line c.in-Err.ensures.err)
+pub returns-clause-count : goal.returns-clause-count
+returns-clause-count g c =
+    let (first, bytes, i) = c.requires.begun in
+    on_ok c.take_parts.result _ (c.take_parts.new.run.so_far.bytes ≡ c.args.self.now.so_far.bytes + length c.args.piece.now)
+    (λ _ t. counted g.G.Grammar.words first.0 c.args.self.now c.take_parts.new.run bytes c.args.piece.now i (t first bytes i)) c.take_parts.ensures.takes

@@ -1,0 +1,71 @@
+-- From the parts of a piece to all of it.
+use Rattle.std.proofs.Common.{◌≡◌, ◌+◌, ◌≤◌, ◌<◌, ℕ, Bool, false, List, [], ◌++◌, length, take, drop, sym, ap, subst, ◌∙◌, append_assoc, ⊎_elim, length-take, arith}
+use Rattle.std.proofs.lemmas.Bool.{cases_lt}
+use Rattle.std.proofs.lemmas.List.{append-nil, drop-append-le, length-drop, length-take-le, take-append-drop, take-append-le}
+use Rattle.std.proofs.Math.Seq.{take-add}
+use Rattle.rdf_tokens.specs.Scans.{most_bytes}
+use Rattle.rdf_stream.specs.declared.fault.StreamFault.{StreamFault}
+use Rattle.rdf_stream.specs.Parts.{HaltsWithin}
+use Rattle.rdf_stream.specs.Pieces.{HaltsOn, HasBegun, TakesMore}
+
+-- a front of what stands from a place on in a front of the bytes stands there in the bytes
+pub front_at : (rest text front : List ℕ) (v at n : ℕ) → text ≡ take v rest → front ≡ take (length front) (drop at text) → n ≤ length front → take n front ≡ take n (drop at rest)
+front_at rest text front v at n t f h = ⊎_elim outside inside (cases_lt (length text) at)
+  where
+    outside : length text < at → take n front ≡ take n (drop at rest)
+    outside o =
+        let zero_len : n ≡ 0 = omega (arith, ap length f, length-take (length front) (drop at text), length-drop at text, o, h) in
+        ap (λ m. take m front) zero_len ∙ sym (ap (λ m. take m (drop at rest)) zero_len)
+
+    inside : at ≤ length text → take n front ≡ take n (drop at rest)
+    inside i =
+        let whole : rest ≡ text ++ drop v rest = sym (take-append-drop v rest) ∙ ap (λ l. l ++ drop v rest) (sym t) in
+        let behind : drop at rest ≡ drop at text ++ drop v rest = ap (drop at) whole ∙ drop-append-le at text (drop v rest) i in
+        let split : drop at text ≡ front ++ drop (length front) (drop at text) = sym (take-append-drop (length front) (drop at text)) ∙ ap (λ l. l ++ drop (length front) (drop at text)) (sym f) in
+        let all : drop at rest ≡ front ++ (drop (length front) (drop at text) ++ drop v rest) =
+        behind ∙ (ap (λ l. l ++ drop v rest) split ∙ append_assoc front (drop (length front) (drop at text)) (drop v rest)) in
+        sym (ap (take n) all ∙ take-append-le n front (drop (length front) (drop at text) ++ drop v rest) h)
+
+-- such a front ends within the bytes
+pub front_within : (rest text front : List ℕ) (v at n : ℕ) → text ≡ take v rest → front ≡ take (length front) (drop at text) → n ≤ length front → at ≤ length rest → at + n ≤ length rest
+front_within rest text front v at n t f h w =
+    omega (arith, ap length (front_at rest text front v at n t f h), length-take-le n front h, length-take n (drop at rest), length-drop at rest, w)
+
+module _ {R : Type 0} (taken : R → List ℕ → R → Type 0) where
+  -- nothing more was taken
+  pub takes_none : (a : R) → TakesMore taken a [] a
+  takes_none a first bytes t = subst (λ b. taken first b a) (sym (append-nil bytes)) t
+
+  -- a part more was taken, and then another
+  pub takes_both : (a b c : R) (part more : List ℕ) → TakesMore taken a part b → TakesMore taken b more c → TakesMore taken a (part ++ more) c
+  takes_both a b c part more p q first bytes t = subst (λ l. taken first l c) (append_assoc bytes part more) (q first (bytes ++ part) (p first bytes t))
+
+  -- what takes more has begun
+  pub begun_on : (a b : R) (part : List ℕ) → HasBegun taken a → TakesMore taken a part b → HasBegun taken b
+  begun_on a b part h p = (h.0, h.1 ++ part, p h.0 h.1 h.2)
+
+  -- the bytes before the place were taken, and they are not too many
+  pub record HasTaken (a b : R) (rest : List ℕ) (at count : ℕ) : Type 0 where
+    pub within : at ≤ length rest
+    pub takes : TakesMore taken a (take at rest) b
+    pub begun : HasBegun taken b
+    pub few : count ≤ most_bytes
+
+  -- as far as a place, and a part from there on
+  pub takes_to : (a b c : R) (rest part : List ℕ) (at n : ℕ) → TakesMore taken a (take at rest) b → TakesMore taken b part c → part ≡ take n (drop at rest) → TakesMore taken a (take (at + n) rest) c
+  takes_to a b c rest part at n p q e = subst (λ l. TakesMore taken a l c) (ap (λ l. take at rest ++ l) e ∙ sym (take-add at n rest)) (takes_both a b c (take at rest) part p q)
+
+  module _ (halts : StreamFault → R → List ℕ → Bool → R → Type 0) (f : StreamFault) where
+    -- a part more was taken, and then the bytes are not read on
+    pub halts_later : (a b c : R) (part more : List ℕ) → TakesMore taken a part b → HaltsOn taken halts f b (λ bytes. bytes ++ more) false c → HaltsOn taken halts f a (λ bytes. bytes ++ (part ++ more)) false c
+    halts_later a b c part more p h first bytes t = subst (λ l. halts f first l false c) (append_assoc bytes part more) (h first (bytes ++ part) (p first bytes t))
+
+    -- the same of a part of all the bytes
+    pub halts_in : (a c : R) (part all : List ℕ) (n : ℕ) → part ≡ take n all → HaltsWithin taken halts f a part c → HaltsOn taken halts f a (λ bytes. bytes ++ all) false c
+    halts_in a c part all n e h = subst (λ l. HaltsOn taken halts f a (λ bytes. bytes ++ l) false c) (ap (λ l. l ++ drop n all) e ∙ take-append-drop n all) (h (drop n all))
+
+    -- as far as a place, and then a part from there on with which the bytes are not read on
+    pub halts_from : (a b c : R) (rest part : List ℕ) (at n : ℕ) → TakesMore taken a (take at rest) b → part ≡ take n (drop at rest) → HaltsWithin taken halts f b part c →
+        HaltsOn taken halts f a (λ bytes. bytes ++ rest) false c
+    halts_from a b c rest part at n p e h =
+        subst (λ l. HaltsOn taken halts f a (λ bytes. bytes ++ l) false c) (take-append-drop at rest) (halts_later a b c (take at rest) (drop at rest) p (halts_in b c part (drop at rest) n e h))

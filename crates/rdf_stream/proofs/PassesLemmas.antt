@@ -1,0 +1,39 @@
+-- What passing text does to a reader, by its grammar.
+use Rattle.std.proofs.Common.{ℕ, List, [], ◌∷◌, ◌++◌, refl, sym, subst}
+use Rattle.std.proofs.lemmas.List.{append-nil}
+use Rattle.rdf_terms.specs.Terms.{Quad}
+use Rattle.rdf_driver.specs.Readers.{Driven, HasRead}
+use Rattle.rdf_driver.specs.Words.{Words}
+use Rattle.rdf_lines.specs.declared.form.Style.{Style}
+use Rattle.rdf_lines.specs.declared.form.Style.TheVariants.{Kept}
+use Rattle.rdf_lines.specs.declared.form.LineForm.{LineForm}
+use Rattle.rdf_lines.specs.Accepting.{LineAt, line_words}
+use Rattle.rdf_lines.specs.Canonical.{IsTaken, PassesLines}
+use Rattle.rdf_lines.specs.Writing.{Writable}
+use Rattle.std.specs.List.{AllByRecursion}
+use Rattle.rdf_stream.specs.Passes.{PassesText}
+
+-- no text was passed
+pub passes_none : {G X : Type 0} (w : Words G X Quad) (style : Style) (r : Driven G) → PassesText w style r [] r
+passes_none w style r = record {
+  given = [];
+  is = refl;
+  writable = tt;
+  limit = refl;
+  read = λ x before quads h. subst (λ b. HasRead w r x b (quads ++ [])) (sym (append-nil before)) (subst (HasRead w r x before) (sym (append-nil quads)) h);
+}
+
+-- quads of lines can be written
+taken_writable : (form : LineForm) (token iri : ℕ) (qs : List Quad) → AllByRecursion (IsTaken form token iri) qs → Writable Kept qs
+taken_writable form token iri [] h = tt
+taken_writable form token iri (q ∷ qs) h = ((h.0.quad, h.0.labels), taken_writable form token iri qs h.1)
+
+-- lines are text
+pub lines_passed : (old : Driven LineAt) (bytes : List ℕ) (new : Driven LineAt) → PassesLines old bytes new → PassesText line_words Kept old bytes new
+lines_passed old bytes new h = record {
+  given = h.given;
+  is = h.canonical.is;
+  writable = taken_writable old.grammar.rules.form old.scanner.limit old.grammar.rules.iri h.given h.canonical.each;
+  limit = h.limit;
+  read = h.read;
+}

@@ -1,0 +1,113 @@
+// Reading a piece part by part.
+
+ghost use Rattle.std.specs.Prelude.{◌≡◌, ◌≤◌, ◌<◌, ◌++◌, ℕ, List, Bool, false, length, take, drop, IsUtf8, OnOk, IfOk, IfErr};
+ghost use Rattle.std.specs.Str.Lossy.{utf8_valid_len};
+ghost use Rattle.rdf_tokens.specs.Scans.{most_bytes};
+ghost use Rattle.rdf_stream.specs.declared.fault.StreamFault.{StreamFault};
+ghost use Rattle.rdf_stream.specs.Parts.{HaltsWithin};
+ghost use Rattle.rdf_stream.specs.Pieces.{HaltsOn, HasBegun, TakesMore};
+
+use crate::fault::StreamFault;
+use simdutf8::compat::from_utf8;
+
+/// Takes the parts of pieces: passes what it can, and reads the others.
+pub(crate) trait Parts<L> {
+    /// From the first state on, these bytes were taken.
+    ghost taken: { Self × L → List ℕ → Self × L → Type 0 };
+    /// From the first state on, these bytes are not read on, with their end or before more come.
+    ghost halts: { StreamFault → Self × L → List ℕ → Bool → Self × L → Type 0 };
+    /// The number of bytes that were taken.
+    ghost count: { Self → ℕ };
+
+    /// How many bytes are read before it is tried again to pass some.
+    fn part_len(&self, bytes: &[u8]) -> usize
+        ensures within { result ≤ length bytes.now }
+        ensures some { 0 < length bytes.now → 0 < result };
+
+    /// Passes a front of the text, which may be empty, and answers how many bytes it has.
+    fn pass_front(&mut self, text: &str, out: &mut L) -> Result<usize, StreamFault>
+        requires begun { HasBegun taken (self.old, out.old) }
+        ensures within { IfOk result (λ n. n ≤ length text.now) }
+        ensures takes { IfOk result (λ n. TakesMore taken (self.old, out.old) (take n text.now) (self.new, out.new)) }
+        ensures halts { IfErr result (λ f. HaltsWithin taken halts f (self.old, out.old) text.now (self.new, out.new)) };
+
+    /// Reads a part.
+    fn read_part(&mut self, part: &[u8], out: &mut L) -> Result<(), StreamFault>
+        requires begun { HasBegun taken (self.old, out.old) }
+        ensures takes { OnOk result (TakesMore taken (self.old, out.old) part.now (self.new, out.new)) }
+        ensures few { OnOk result (count self.new ≤ most_bytes) }
+        ensures halts { IfErr result (λ f. HaltsWithin taken halts f (self.old, out.old) part.now (self.new, out.new)) };
+}
+
+/// Takes a piece. What it begins with may be the rest of a part or of a character, and is read.
+pub(crate) fn take_parts<L, R: Parts<L>>(
+    run: &mut R,
+    piece: &[u8],
+    out: &mut L,
+) -> Result<(), StreamFault>
+    requires begun { HasBegun R.taken (run.old, out.old) }
+    ensures takes { OnOk result (TakesMore R.taken (run.old, out.old) piece.now (run.new, out.new)) }
+    ensures few { OnOk result (R.count run.new ≤ most_bytes) }
+    ensures halts { IfErr result (λ f. HaltsOn R.taken R.halts f (run.old, out.old) (λ bytes. bytes ++ piece.now) false (run.new, out.new)) }
+{
+    let len = run.part_len(piece);
+    match run.read_part(&piece[..len], out) {
+        Ok(()) => take_rest(run, &piece[len..], out),
+        Err(fault) => Err(fault),
+    }
+}
+
+// Takes what comes after the first part of a piece.
+fn take_rest<L, R: Parts<L>>(run: &mut R, rest: &[u8], out: &mut L) -> Result<(), StreamFault>
+    requires begun { HasBegun R.taken (run.old, out.old) }
+    requires few { R.count run.old ≤ most_bytes }
+    ensures takes { OnOk result (TakesMore R.taken (run.old, out.old) rest.now (run.new, out.new)) }
+    ensures few { OnOk result (R.count run.new ≤ most_bytes) }
+    ensures halts { IfErr result (λ f. HaltsOn R.taken R.halts f (run.old, out.old) (λ bytes. bytes ++ rest.now) false (run.new, out.new)) }
+{
+    let text = utf8_front(rest);
+    let mut at = 0;
+    while at < rest.len() {
+        let front = text_from(text, at);
+        let from = match run.pass_front(front, out) {
+            Ok(passed) => at + passed,
+            Err(fault) => return Err(fault),
+        };
+        let to = from + run.part_len(&rest[from..]);
+        match run.read_part(&rest[from..to], out) {
+            Ok(()) => at = to,
+            Err(fault) => return Err(fault),
+        }
+    }
+    Ok(())
+}
+
+// The text from a place on, if a character begins there, or else none of it.
+fn text_from(text: &str, at: usize) -> &str
+    ensures { result.now ≡ take (length result.now) (drop at text.now) }
+{
+    match text.split_at_checked(at) {
+        Some((_, rest)) => rest,
+        None => "",
+    }
+}
+
+// The longest front of the bytes that is UTF-8.
+fn utf8_front(bytes: &[u8]) -> &str
+    ensures { result.now ≡ take (utf8_valid_len bytes.now) bytes.now }
+{
+    match from_utf8(bytes) {
+        Ok(text) => text,
+        Err(e) => whole_text(&bytes[..e.valid_up_to()]),
+    }
+}
+
+fn whole_text(bytes: &[u8]) -> &str
+    requires { IsUtf8 bytes.now }
+    ensures { result.now ≡ bytes.now }
+{
+    match from_utf8(bytes) {
+        Ok(text) => text,
+        Err(_) => unreachable!(),
+    }
+}

@@ -1,0 +1,57 @@
+// Grammars whose text can stand as what is written for it.
+
+ghost use Rattle.std.specs.Prelude.{◌≤◌, ◌<◌, length, take};
+ghost use Rattle.rdf_lines.specs.declared.form.Style.{Style};
+ghost use Rattle.rdf_lines.specs.declared.form.Style.TheVariants.{Kept, Tagged};
+ghost use Rattle.rdf_stream.specs.Passes.{PassesText};
+
+use memchr::memchr;
+use rdf_driver::{QuadGrammar, Reader};
+use rdf_lines::{LineGrammar, pass_lines};
+use rdf_trig::TreeGrammar;
+use std::alloc::Allocator;
+
+/// A grammar of which text may be passed that stands as what is written for it.
+pub(crate) trait Passes<A: Allocator + Copy>: QuadGrammar + Drop {
+    /// How the lines are written that such text has.
+    ghost style: { Style };
+
+    /// How many bytes are read before it is tried again to pass some.
+    fn part_len(bytes: &[u8]) -> usize
+        ensures within { result ≤ length bytes.now }
+        ensures some { 0 < length bytes.now → 0 < result };
+
+    /// Passes a front of the text, which may be empty, and answers how many bytes it has.
+    fn pass(reader: &mut Reader<Self, A>, text: &str) -> usize
+        ensures within { result ≤ length text.now }
+        ensures passes { PassesText Self.words style reader.old (take result text.now) reader.new };
+}
+
+impl<A: Allocator + Copy> Passes<A> for LineGrammar<A> {
+    ghost style = { Kept };
+
+    // A line.
+    fn part_len(bytes: &[u8]) -> usize {
+        match memchr(b'\n', bytes) {
+            Some(at) => at + 1,
+            None => bytes.len(),
+        }
+    }
+
+    fn pass(reader: &mut Reader<LineGrammar<A>, A>, text: &str) -> usize {
+        pass_lines(reader, text)
+    }
+}
+
+impl<A: Allocator + Copy> Passes<A> for TreeGrammar<A> {
+    ghost style = { Tagged };
+
+    // All of them, since none are passed.
+    fn part_len(bytes: &[u8]) -> usize {
+        bytes.len()
+    }
+
+    fn pass(_: &mut Reader<TreeGrammar<A>, A>, _: &str) -> usize {
+        0
+    }
+}
