@@ -12,6 +12,7 @@ pub mod InPlace
 pub mod Slices
 pub mod ResolvedText
 pub mod ScopeLemmas
+pub mod HeldLemmas
 pub mod BindingLemmas
 pub mod BindingSteps
 pub mod BindingFiles

@@ -2,6 +2,7 @@
 use Rattle.std.specs.Prelude.{◌≡◌, ℕ, ◌+◌, ◌*◌, ◌<◌, ◌≤◌, cond, List, [], ◌∷◌, ◌++◌, length, Option, Some, None, MatchOption, is_some, String, ⊤}
 use Rattle.std.specs.String.{string_bytes}
 use Rattle.std.specs.Str.{chars}
+use Rattle.std.specs.List.{sum_by}
 use Rattle.rdf_iri.specs.declared.fault.IriFault.{IriFault}
 use Rattle.rdf_iri.specs.declared.fault.IriFault.TheVariants.{NoBase, IriTooLong, Memory, Unbound, TooManyBindings}
 use Rattle.rdf_iri.specs.Limits.{Sizes}
@@ -34,6 +35,23 @@ pub record KeepsLimits (s : InForce) : Type 0 where
   pub base : BaseFits s.base s.limits
   pub count : length s.bindings ≤ s.limits.bindings
   pub bindings : (prefix iri : List ℕ) → bound_to s.bindings prefix ≡ Some iri → (byte_len prefix ≤ 4 * s.limits.token) × (byte_len iri ≤ s.limits.iri)
+
+-- the bytes of the base, if there is one
+abbrev pub base_bytes : Option (List ℕ) → ℕ
+base_bytes None = 0
+base_bytes (Some b) = byte_len b
+
+-- the bytes of a prefix, without its colon, and of its IRI
+abbrev pub binding_bytes : List ℕ × List ℕ → ℕ
+binding_bytes e = byte_len e.0 + byte_len e.1
+
+-- the bytes of the texts in force: the base, and each prefix with its IRI
+abbrev pub bytes_held : InForce → ℕ
+bytes_held s = base_bytes s.base + sum_by binding_bytes s.bindings
+
+-- the most that these texts have within the limits
+abbrev pub most_bytes_held : Sizes → ℕ
+most_bytes_held l = l.iri + l.bindings * (4 * l.token + l.iri)
 
 -- the IRI that a reference stands for
 abbrev pub ResolvesHere : InForce → List ℕ → List ℕ → Type 0

@@ -49,6 +49,13 @@ impl Limits {
         }
     }
 
+    /// They are in range, as all limits are.
+    pub(crate) fn are_in_range(self)
+        ensures { InRange self }
+    {
+        let _ = &self.token;
+    }
+
     /// The characters of one token.
     pub fn token(self) -> u64
         ensures { result ≡ self.token }

@@ -4,7 +4,8 @@ ghost use Rattle.std.specs.Prelude.{◌≡◌, ℕ, List, Some, ◌++◌, ◌*�
 ghost use Rattle.std.specs.Str.{chars};
 ghost use Rattle.rdf_terms.specs.Terms.{IsIri};
 ghost use Rattle.rdf_iri.specs.Texts.{IsIriText, byte_len};
-ghost use Rattle.rdf_iri.specs.Scope.{BaseFits, bound_to, ResolvesHere, UnresolvedHere, IsBased, IsBound, NotBound, HasRoom, IsFull, ExpandsHere, NotExpanded, NotJoined};
+ghost use Rattle.rdf_iri.specs.Seen.{text_of};
+ghost use Rattle.rdf_iri.specs.Scope.{BaseFits, bound_to, ResolvesHere, UnresolvedHere, IsBased, IsBound, NotBound, HasRoom, IsFull, ExpandsHere, NotExpanded, NotJoined, base_bytes, bytes_held, most_bytes_held};
 
 use crate::bindings::Bindings;
 use crate::fault::IriFault;
@@ -138,6 +139,37 @@ impl<A: Allocator + Copy> Scope<A> {
         };
         joined(self.alloc, front, local, self.limits.iri())
     }
+
+    /// The bytes of the texts in force: the base, and each prefix, without its colon, with its IRI. What the texts have
+    /// as spare capacity and the size of the map's nodes are not counted. It takes no memory.
+    pub fn held(&self) -> u64
+        ensures sum { result ≡ bytes_held self.now }
+        ensures most { result ≤ most_bytes_held self.now.limits }
+    {
+        self.limits.are_in_range();
+        let mut held = base_len(self.base.as_ref());
+        for (prefix, iri) in self.names.iter() {
+            held += prefix.len() as u64 + iri_len(iri);
+        }
+        held
+    }
+}
+
+/// The bytes of the base, if there is one.
+fn base_len<A: Allocator>(base: Option<&Iri<A>>) -> u64
+    ensures { result ≡ base_bytes (text_of base.entry) }
+{
+    match base {
+        Some(base) => iri_len(base),
+        None => 0,
+    }
+}
+
+/// The bytes of an IRI.
+fn iri_len<A: Allocator>(iri: &Iri<A>) -> u64
+    ensures { result ≡ byte_len iri.now }
+{
+    iri.as_str().len() as u64
 }
 
 /// An IRI with more characters behind it.

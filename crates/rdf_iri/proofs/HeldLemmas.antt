@@ -1,0 +1,75 @@
+-- The bytes that a scope holds, counted over its map.
+use Rattle.std.proofs.Common.{◌≡◌, ◌≤◌, ◌<◌, ◌+◌, ◌*◌, ◌^◌, ℕ, List, [], ◌∷◌, length, Option, Some, None, refl, ◌∙◌, subst, arith}
+use Rattle.std.specs.Prelude.{String}
+use Rattle.std.specs.String.{string_bytes}
+use Rattle.std.specs.Str.{chars}
+use Rattle.std.specs.List.{All, sum_by}
+use Rattle.std.specs.BTreeMap.{BTreeMap, get_by_text}
+use Rattle.std.proofs.lemmas.Str.{IsUtf8-string_bytes}
+use Rattle.std.proofs.lemmas.Nat.{mul-le}
+use Rattle.std.proofs.lemmas.List.Elements.{All-weaker}
+use Rattle.std.proofs.lemmas.List.Sums.{sum_by-cons, sum_by-le}
+use Rattle.rdf_iri.specs.Texts.{byte_len}
+use Rattle.rdf_iri.specs.Limits.{Sizes, InRange}
+use Rattle.rdf_iri.specs.Scope.{entries_of, KeepsLimits, BaseFits, base_bytes, binding_bytes, most_bytes_held}
+use Rattle.rdf_iri.proofs.ResolvedText.{byte_len-chars}
+use Rattle.rdf_iri.proofs.ScopeLemmas.{bound_to-text, length-entries_of}
+
+-- the bytes of an entry of the map
+abbrev pub entry_bytes : {Z : Type 0} → String Z × List ℕ → ℕ
+entry_bytes e = length (string_bytes e.0) + byte_len e.1
+
+-- the first entry counts beside the others
+pub sum-cons : {Z : Type 0} (key : String Z) (iri : List ℕ) (es : List (String Z × List ℕ)) →
+    sum_by (entry_bytes {Z = Z}) ((key, iri) ∷ es) ≡ length (string_bytes key) + byte_len iri + sum_by (entry_bytes {Z = Z}) es
+sum-cons {Z} key iri es = sum_by-cons (entry_bytes {Z = Z}) (key, iri) es
+
+-- the scope's bindings have the bytes of the map's entries
+pub sum-entries_of : {Z : Type 0} (es : List (String Z × List ℕ)) → sum_by binding_bytes (entries_of es) ≡ sum_by (entry_bytes {Z = Z}) es
+sum-entries_of [] = refl
+sum-entries_of {Z} (e ∷ es) =
+    let first = sum_by-cons binding_bytes (chars (string_bytes e.0), e.1) (entries_of es) in
+    let same = sum_by-cons (entry_bytes {Z = Z}) e es in
+    let size = byte_len-chars (string_bytes e.0) (IsUtf8-string_bytes e.0) in
+    let rest = sum-entries_of es in
+    omega (arith, first, same, size, rest)
+
+-- an entry that the map finds keeps the limits
+entry_within : {Z : Type 0} (m : BTreeMap (String Z) (List ℕ)) (base : Option (List ℕ)) (limits : Sizes) →
+    KeepsLimits (record { base = base; bindings = entries_of m.entries; limits = limits }) →
+    (e : String Z × List ℕ) → get_by_text m (string_bytes e.0) ≡ Some e.1 → entry_bytes {Z = Z} e ≤ 4 * limits.token + limits.iri
+entry_within m base limits k e h =
+    let kept = k.bindings (chars (string_bytes e.0)) e.1 (bound_to-text m (string_bytes e.0) (IsUtf8-string_bytes e.0) ∙ h) in
+    let size = byte_len-chars (string_bytes e.0) (IsUtf8-string_bytes e.0) in
+    omega (arith, kept.0, kept.1, size)
+
+-- so all of them together do
+pub sum_within : {Z : Type 0} (m : BTreeMap (String Z) (List ℕ)) (base : Option (List ℕ)) (limits : Sizes) →
+    KeepsLimits (record { base = base; bindings = entries_of m.entries; limits = limits }) →
+    All (λ (e : String Z × List ℕ). get_by_text m (string_bytes e.0) ≡ Some e.1) m.entries →
+    sum_by (entry_bytes {Z = Z}) m.entries ≤ limits.bindings * (4 * limits.token + limits.iri)
+sum_within {Z} m base limits k found =
+    let most = 4 * limits.token + limits.iri in
+    let each = All-weaker _ (λ (e : String Z × List ℕ). entry_bytes {Z = Z} e ≤ most) (entry_within m base limits k) m.entries found in
+    let all = sum_by-le (entry_bytes {Z = Z}) most m.entries each in
+    let count : length m.entries ≤ limits.bindings = subst (λ n. n ≤ limits.bindings) (length-entries_of m.entries) k.count in
+    le-trans all (mul-le (length m.entries) most limits.bindings most count (omega arith))
+  where
+    le-trans : {a b c : ℕ} → a ≤ b → b ≤ c → a ≤ c
+    le-trans {a} {b} {c} p q = omega (arith, p, q)
+
+-- the base keeps its limit
+pub base_within : (base : Option (List ℕ)) (limits : Sizes) → BaseFits base limits → base_bytes base ≤ limits.iri
+base_within None limits fits = omega arith
+base_within (Some b) limits fits = fits
+
+-- what the limits allow fits a number of 64 bits
+pub most_fits : (limits : Sizes) → InRange limits → most_bytes_held limits < 2 ^ 64
+most_fits limits r =
+    let one : 4 * limits.token + limits.iri ≤ 1342177280 = let a = r.token in let b = r.iri in omega (arith, a, b) in
+    let all : limits.bindings * (4 * limits.token + limits.iri) ≤ 16777216 * 1342177280 = mul-le limits.bindings (4 * limits.token + limits.iri) 16777216 1342177280 r.bindings one in
+    let iri = r.iri in
+    bounded limits.iri (limits.bindings * (4 * limits.token + limits.iri)) iri all
+  where
+    bounded : (i n : ℕ) → i ≤ 2 ^ 28 → n ≤ 16777216 * 1342177280 → i + n < 2 ^ 64
+    bounded i n h k = omega (arith, h, k)
