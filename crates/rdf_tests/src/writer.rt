@@ -72,7 +72,9 @@ fn a_line_in_ascii_has_escapes_but_in_labels(rt: HostRuntime) -> Result<(), Fail
     let mut out = Vec::new(rt.alloc());
     write_line(quad, Style::Kept, Escapes::Ascii, &mut out)?;
     let string = "\"\\U0001F600\\uFFFF\\U00010000\\n\u{7F}\"^^<http://a/\\u00E9>";
-    let line = format!(in rt.alloc(); "_:\u{E9} <http://a/\\u00E9> {string} <http://a/\\u00E9> .\n")?;
+    let line = format!(in rt.alloc();
+        "_:\u{E9} <http://a/\\u00E9> {string} <http://a/\\u00E9> .\n"
+    )?;
     assert!(rt; out.as_slice() == line.as_bytes());
     Ok(())
 }

@@ -46,7 +46,6 @@ use Rattle.rdf_trig.specs.Spelled.{SpellsTag}
 use Rattle.rdf_trig.proofs.trees.NamesLemmas.{binds_prefix}
 use Rattle.rdf_trig.proofs.code.SpelledLemmas.{label_in, spelled_tag}
 
-
 -- each character of a reference is one that an IRI has
 reference_text : (l : Leaf) → all_have (has iri_char) (iri_of l) ≡ true
 reference_text l = by (iri_value (inside 1 l.text)) refl
