@@ -30,9 +30,10 @@ pub(crate) trait Passes<A: Allocator + Copy>: QuadGrammar + Drop {
 impl<A: Allocator + Copy> Passes<A> for LineGrammar<A> {
     ghost style = { Kept };
 
-    // A line.
+    // A line, or all of them where it ends in CR and LF: so do the others then, and such lines are not passed.
     fn part_len(bytes: &[u8]) -> usize {
         match memchr(b'\n', bytes) {
+            Some(at) if at > 0 && bytes[at - 1] == b'\r' => bytes.len(),
             Some(at) => at + 1,
             None => bytes.len(),
         }
