@@ -106,6 +106,11 @@ def compare(counts):
         counts.expect('README has the reason ' + reason, '`%s`' % reason in readme)
         counts.expect('manual has the reason ' + reason, reason in manual)
         counts.expect('docs/REFUSALS.md has a section on ' + reason, '\n### %s\n' % reason in refusals)
+    header = read('examples/library/rdfconv.h')
+    for name, least, most, default in limits():
+        counts.expect('rdfconv.h of ' + name, re.search(r'uint64_t %s; .*%d to %d ' % (name, least, most), header))
+    defaults = ', '.join(str(dict((it[0], it[3]) for it in limits())[name]) for name in ('token', 'depth', 'bindings', 'iri'))
+    counts.expect('rdfconv.h has the defaults', '{ (format), %s }' % defaults in header)
     compare_counts(counts)
     compare_help(counts, manual)
 
