@@ -1,14 +1,11 @@
 // What a token does to the state of the reader.
 
-ghost use Rattle.std.specs.Prelude.{◌≡◌, false, OnOk, IfOk, IfErr, option_map};
-ghost use Rattle.std.specs.Str.{chars};
-ghost use Rattle.std.specs.String.{string_bytes};
-ghost use Rattle.rdf_terms.specs.Owned.{owned_subject};
-ghost use Rattle.rdf_terms.specs.Views.{subject_by};
+ghost use Rattle.std.specs.Prelude.{◌≡◌, false, OnOk, IfOk, IfErr};
 ghost use Rattle.rdf_lines.specs.declared.rules.Rules.{Rules};
+ghost use Rattle.rdf_lines.specs.declared.state.State.TheVariants as state;
 ghost use Rattle.rdf_lines.specs.Machine as M;
-ghost use Rattle.rdf_lines.specs.Machine.{goes, gives, quad, is_taken};
-ghost use Rattle.rdf_lines.specs.States.{mode_of, object_of, leaf, IsLineToken, Declines, Does, Fails};
+ghost use Rattle.rdf_lines.specs.Machine.{goes, gives};
+ghost use Rattle.rdf_lines.specs.States.{mode_of, answer, quad_with, IsLineToken, Declines, Does, Fails, LeadsTo, IsDeclined};
 
 use crate::form::LineForm;
 use crate::rules::Rules;
@@ -35,9 +32,9 @@ pub fn accept<A: Allocator, S: QuadSink>(
 ) -> Result<State<A>, Reason>
     requires token { IsLineToken token }
     requires live { S.has_failed sink.old ≡ false }
-    ensures ok { IfOk result (λ s. Does S.takes (M.accept (is_taken rules.iri) rules.form (mode_of state) token.entry.kind (leaf token.entry)) sink.old (mode_of s) sink.new) }
+    ensures ok { IfOk result (λ s. Does S.takes (answer rules (mode_of state) token.entry) sink.old (mode_of s) sink.new) }
     ensures live { OnOk result (S.has_failed sink.new ≡ false) }
-    ensures err { IfErr result (λ r. Fails S.leaves S.has_failed r (M.accept (is_taken rules.iri) rules.form (mode_of state) token.entry.kind (leaf token.entry)) sink.old sink.new) }
+    ensures err { IfErr result (λ r. Fails S.leaves S.has_failed r (answer rules (mode_of state) token.entry) sink.old sink.new) }
 {
     match state {
         State::Begin => at_begin(alloc, rules.iri, token),
@@ -64,8 +61,8 @@ pub fn accept<A: Allocator, S: QuadSink>(
 
 fn at_begin<A: Allocator>(alloc: A, limit: u64, token: Token<'_>) -> Result<State<A>, Reason>
     requires { IsLineToken token }
-    ensures ok { IfOk result (λ s. (f : LineForm) → M.accept (is_taken limit) f M.Begin token.entry.kind (leaf token.entry) ≡ goes (mode_of s)) }
-    ensures err { IfErr result (λ r. (f : LineForm) → Declines r (M.accept (is_taken limit) f M.Begin token.entry.kind (leaf token.entry))) }
+    ensures ok { IfOk result (λ s. LeadsTo limit M.Begin token.entry (mode_of s)) }
+    ensures err { IfErr result (IsDeclined limit M.Begin token.entry) }
 {
     match token.kind {
         Kind::IriRef => Ok(State::AfterSubject {
@@ -87,8 +84,8 @@ fn after_subject<A: Allocator>(
     token: Token<'_>,
 ) -> Result<State<A>, Reason>
     requires { IsLineToken token }
-    ensures ok { IfOk result (λ s. (f : LineForm) → M.accept (is_taken limit) f (M.AfterSubject (owned_subject subject)) token.entry.kind (leaf token.entry) ≡ goes (mode_of s)) }
-    ensures err { IfErr result (λ r. (f : LineForm) → Declines r (M.accept (is_taken limit) f (M.AfterSubject (owned_subject subject)) token.entry.kind (leaf token.entry))) }
+    ensures ok { IfOk result (λ s. LeadsTo limit (mode_of (state.AfterSubject subject)) token.entry (mode_of s)) }
+    ensures err { IfErr result (IsDeclined limit (mode_of (state.AfterSubject subject)) token.entry) }
 {
     match token.kind {
         Kind::IriRef => {
@@ -108,8 +105,8 @@ fn after_predicate<A: Allocator>(
     token: Token<'_>,
 ) -> Result<State<A>, Reason>
     requires { IsLineToken token }
-    ensures ok { IfOk result (λ s. (f : LineForm) → M.accept (is_taken limit) f (M.AfterPredicate (owned_subject beginning.subject) beginning.predicate) token.entry.kind (leaf token.entry) ≡ goes (mode_of s)) }
-    ensures err { IfErr result (λ r. (f : LineForm) → Declines r (M.accept (is_taken limit) f (M.AfterPredicate (owned_subject beginning.subject) beginning.predicate) token.entry.kind (leaf token.entry))) }
+    ensures ok { IfOk result (λ s. LeadsTo limit (mode_of (state.AfterPredicate beginning)) token.entry (mode_of s)) }
+    ensures err { IfErr result (IsDeclined limit (mode_of (state.AfterPredicate beginning)) token.entry) }
 {
     match token.kind {
         Kind::IriRef => Ok(State::AfterObject {
@@ -137,9 +134,9 @@ fn after_string<A: Allocator, S: QuadSink>(
 ) -> Result<State<A>, Reason>
     requires token { IsLineToken token }
     requires live { S.has_failed sink.old ≡ false }
-    ensures ok { IfOk result (λ s. Does S.takes (M.accept (is_taken setup.rules.iri) setup.rules.form (M.AfterString (owned_subject beginning.subject) beginning.predicate (chars (string_bytes lexical))) token.entry.kind (leaf token.entry)) sink.old (mode_of s) sink.new) }
+    ensures ok { IfOk result (λ s. Does S.takes (answer setup.rules (mode_of (state.AfterString beginning lexical)) token.entry) sink.old (mode_of s) sink.new) }
     ensures live { OnOk result (S.has_failed sink.new ≡ false) }
-    ensures err { IfErr result (λ r. Fails S.leaves S.has_failed r (M.accept (is_taken setup.rules.iri) setup.rules.form (M.AfterString (owned_subject beginning.subject) beginning.predicate (chars (string_bytes lexical))) token.entry.kind (leaf token.entry)) sink.old sink.new) }
+    ensures err { IfErr result (λ r. Fails S.leaves S.has_failed r (answer setup.rules (mode_of (state.AfterString beginning lexical)) token.entry) sink.old sink.new) }
 {
     match token.kind {
         Kind::LangTag => Ok(State::AfterObject {
@@ -159,8 +156,8 @@ fn after_carets<A: Allocator>(
     token: Token<'_>,
 ) -> Result<State<A>, Reason>
     requires { IsLineToken token }
-    ensures ok { IfOk result (λ s. (f : LineForm) → M.accept (is_taken limit) f (M.AfterCarets (owned_subject beginning.subject) beginning.predicate (chars (string_bytes lexical))) token.entry.kind (leaf token.entry) ≡ goes (mode_of s)) }
-    ensures err { IfErr result (λ r. (f : LineForm) → Declines r (M.accept (is_taken limit) f (M.AfterCarets (owned_subject beginning.subject) beginning.predicate (chars (string_bytes lexical))) token.entry.kind (leaf token.entry))) }
+    ensures ok { IfOk result (λ s. LeadsTo limit (mode_of (state.AfterCarets beginning lexical)) token.entry (mode_of s)) }
+    ensures err { IfErr result (IsDeclined limit (mode_of (state.AfterCarets beginning lexical)) token.entry) }
 {
     match token.kind {
         Kind::IriRef => Ok(State::AfterObject {
@@ -181,9 +178,9 @@ fn after_object<A: Allocator, S: QuadSink>(
 ) -> Result<State<A>, Reason>
     requires token { IsLineToken token }
     requires live { S.has_failed sink.old ≡ false }
-    ensures ok { IfOk result (λ s. Does S.takes (M.object_then (is_taken setup.rules.iri) setup.rules.form (owned_subject beginning.subject) beginning.predicate (object_of object) token.entry.kind (leaf token.entry)) sink.old (mode_of s) sink.new) }
+    ensures ok { IfOk result (λ s. Does S.takes (answer setup.rules (mode_of (state.AfterObject beginning object)) token.entry) sink.old (mode_of s) sink.new) }
     ensures live { OnOk result (S.has_failed sink.new ≡ false) }
-    ensures err { IfErr result (λ r. Fails S.leaves S.has_failed r (M.object_then (is_taken setup.rules.iri) setup.rules.form (owned_subject beginning.subject) beginning.predicate (object_of object) token.entry.kind (leaf token.entry)) sink.old sink.new) }
+    ensures err { IfErr result (λ r. Fails S.leaves S.has_failed r (answer setup.rules (mode_of (state.AfterObject beginning object)) token.entry) sink.old sink.new) }
 {
     match (setup.rules.form, token.kind) {
         (_, Kind::Dot) => give(&beginning, &object, None, sink),
@@ -209,9 +206,9 @@ fn after_graph<A: Allocator, S: QuadSink>(
     sink: &mut S,
 ) -> Result<State<A>, Reason>
     requires { S.has_failed sink.old ≡ false }
-    ensures ok { IfOk result (λ s. (g : Rules) → Does S.takes (M.accept (is_taken g.iri) g.form (M.AfterGraph (owned_subject beginning.subject) beginning.predicate (object_of object) (owned_subject graph)) token.entry.kind (leaf token.entry)) sink.old (mode_of s) sink.new) }
+    ensures ok { IfOk result (λ s. (g : Rules) → Does S.takes (answer g (mode_of (state.AfterGraph beginning object graph)) token.entry) sink.old (mode_of s) sink.new) }
     ensures live { OnOk result (S.has_failed sink.new ≡ false) }
-    ensures err { IfErr result (λ r. (g : Rules) → Fails S.leaves S.has_failed r (M.accept (is_taken g.iri) g.form (M.AfterGraph (owned_subject beginning.subject) beginning.predicate (object_of object) (owned_subject graph)) token.entry.kind (leaf token.entry)) sink.old sink.new) }
+    ensures err { IfErr result (λ r. (g : Rules) → Fails S.leaves S.has_failed r (answer g (mode_of (state.AfterGraph beginning object graph)) token.entry) sink.old sink.new) }
 {
     match token.kind {
         Kind::Dot => give(&beginning, &object, Some(graph.view()), sink),
@@ -220,8 +217,8 @@ fn after_graph<A: Allocator, S: QuadSink>(
 }
 
 fn after_dot<A: Allocator>(token: Token<'_>) -> Result<State<A>, Reason>
-    ensures ok { IfOk result (λ s. (g : Rules) → M.accept (is_taken g.iri) g.form M.AfterDot token.entry.kind (leaf token.entry) ≡ goes (mode_of s)) }
-    ensures err { IfErr result (λ r. (g : Rules) → Declines r (M.accept (is_taken g.iri) g.form M.AfterDot token.entry.kind (leaf token.entry))) }
+    ensures ok { IfOk result (λ s. (g : Rules) → answer g M.AfterDot token.entry ≡ goes (mode_of s)) }
+    ensures err { IfErr result (λ r. (g : Rules) → Declines r (answer g M.AfterDot token.entry)) }
 {
     match token.kind {
         Kind::LineEnd => Ok(State::Begin),
@@ -238,9 +235,9 @@ fn give<A: Allocator, S: QuadSink>(
     sink: &mut S,
 ) -> Result<State<A>, Reason>
     requires { S.has_failed sink.old ≡ false }
-    ensures ok { IfOk result (λ s. Does S.takes (gives (quad (owned_subject beginning.now.subject) beginning.now.predicate (object_of object.now) (option_map (subject_by chars) graph.entry)) M.AfterDot) sink.old (mode_of s) sink.new) }
+    ensures ok { IfOk result (λ s. Does S.takes (gives (quad_with beginning.now object.now graph.entry) M.AfterDot) sink.old (mode_of s) sink.new) }
     ensures live { OnOk result (S.has_failed sink.new ≡ false) }
-    ensures err { IfErr result (λ r. Fails S.leaves S.has_failed r (gives (quad (owned_subject beginning.now.subject) beginning.now.predicate (object_of object.now) (option_map (subject_by chars) graph.entry)) M.AfterDot) sink.old sink.new) }
+    ensures err { IfErr result (λ r. Fails S.leaves S.has_failed r (gives (quad_with beginning.now object.now graph.entry) M.AfterDot) sink.old sink.new) }
 {
     let quad = QuadRef {
         subject: beginning.subject.view(),
