@@ -53,6 +53,109 @@ def nquads(out):
     lines(out, ' <http://example.org/halls/%d>')
 
 
+def plain(out):
+    """Lines of three IRIs."""
+    n = 0
+    while not out.is_full():
+        n += 1
+        out.put('<http://example.org/library/book-%d> <http://example.org/terms/shelf> <http://example.org/library/shelf-%d> .\n'
+                % (n, n % 97), 1)
+
+
+def escaped(out):
+    """Lines whose strings and IRIs have no character above U+007F but by its number."""
+    title = ''.join('\\u%04X' % ord(c) for c in TITLES[2])
+    n = 0
+    while not out.is_full():
+        n += 1
+        out.put('<http://example.org/\\u00E9dition/%d> <http://example.org/terms/title> "%s %d\\n"@ru .\n' % (n, title, n), 1)
+
+
+def carriage_returns(out):
+    """Lines that end in CR and LF."""
+    n = 0
+    while not out.is_full():
+        n += 1
+        out.put('<http://example.org/library/book-%d> <http://example.org/terms/title> "%s" .\r\n' % (n, TITLES[0]), 1)
+
+
+def short_lines(out):
+    n = 0
+    while not out.is_full():
+        n += 1
+        out.put('<a:%d> <a:p> <a:o> .\n' % n, 1)
+
+
+def long_lines(out):
+    """Literals of 100 kB."""
+    text = ''.join(TITLES).replace('"', '\\"') * 1600
+    n = 0
+    while not out.is_full():
+        n += 1
+        out.put('<http://example.org/library/book-%d> <http://example.org/terms/text> "%s" .\n' % (n, text), 1)
+
+
+def names(out):
+    """Short names alone."""
+    out.put(PREFIXES)
+    n = 0
+    while not out.is_full():
+        n += 1
+        out.put('lib:b%d t:p lib:s%d ; t:q lib:r%d , lib:x .\n' % (n, n % 97, n % 89), 3)
+
+
+def objects(out):
+    """Lists of a thousand objects."""
+    out.put(PREFIXES)
+    n = 0
+    while not out.is_full():
+        n += 1
+        out.put('lib:b%d t:p lib:x%s .\n' % (n, ''.join(' , lib:y%d' % m for m in range(999))), 1000)
+
+
+def collection(out):
+    """One collection."""
+    out.put(PREFIXES + 'lib:whole t:parts (')
+    n = 0
+    while not out.is_full():
+        n += 1
+        out.put(' %d' % n, 2)
+    out.put(' ) .\n', 1)
+
+
+def labels(out):
+    out.put(PREFIXES)
+    n = 0
+    while not out.is_full():
+        n += 1
+        out.put('_:b%d t:p _:s%d ; t:q _:r%d .\n' % (n, n % 97, n % 89), 2)
+
+
+def small_tokens(out):
+    """Tokens of one byte or two."""
+    out.put('@prefix : <http://example.org/> .\n')
+    while not out.is_full():
+        out.put(':s a : ; : 1 , 2 , 3 ; : [ a : ] .\n', 6)
+
+
+def blanks(out):
+    """Statements far apart."""
+    out.put(PREFIXES)
+    n = 0
+    while not out.is_full():
+        n += 1
+        out.put('lib:b%d%st:p%slib:s .%s' % (n, ' ' * 60, '\n' * 60, '\t' * 60), 1)
+
+
+def references(out):
+    """References with dot segments."""
+    out.put('@base <http://example.org/a/b/c/d> .\n')
+    n = 0
+    while not out.is_full():
+        n += 1
+        out.put('<../e/./%d> <../../p?q=%d#f> <./g/../h%d> .\n' % (n, n, n), 1)
+
+
 def put_book(out, n):
     out.put('lib:book-%d a t:Book ; t:shelf lib:shelf-%d , lib:shelf-%d ;\n'
             '    t:pages %d ; t:weight %d.5 ; t:author [ t:name "A%d"@en ] ; t:parts ( lib:p%d lib:q%d ) .\n'
@@ -138,6 +241,18 @@ DOCUMENTS = {
     'nested': Document('Brackets, 1,000 deep', 'ttl', [], nested),
     'deep': Document('One nest of brackets', 'ttl', ['--depth', str(MOST_DEPTH)], deep),
     'literal': Document('One literal', 'nt', ['--token', str(MOST_TOKEN)], literal),
+    'plain': Document('Lines of IRIs', 'nt', [], plain),
+    'escaped': Document('Lines of escapes', 'nt', [], escaped),
+    'crlf': Document('Lines with CR and LF', 'nt', [], carriage_returns),
+    'short': Document('Short lines', 'nt', [], short_lines),
+    'long': Document('Literals of 100 kB', 'nt', [], long_lines),
+    'names': Document('Names alone', 'ttl', [], names),
+    'objects': Document('Long object lists', 'ttl', [], objects),
+    'collection': Document('One collection', 'ttl', [], collection),
+    'labels': Document('Labels', 'ttl', [], labels),
+    'small': Document('Tokens of one byte', 'ttl', [], small_tokens),
+    'blanks': Document('White space', 'ttl', [], blanks),
+    'references': Document('Dot segments', 'ttl', [], references),
 }
 
 

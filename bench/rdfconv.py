@@ -2,7 +2,7 @@
 """Runs `rdfconv convert` and `rdfconv check` over documents of several sizes, beside `cat` and `wc -l` on the same file
 in the same run.
 
-    bench/rdfconv.py                                            # 25 and 200 MB of every document
+    bench/rdfconv.py                                            # 25 and 200 MB of nine documents
     bench/rdfconv.py --megabytes 1 2 --runs 1                   # a quick run
     bench/rdfconv.py nt nq ttl trig --megabytes 10 100 400      # these documents alone
     bench/rdfconv.py --json figures.json                        # and the figures as JSON, for bench/draw.py
@@ -26,6 +26,9 @@ import memory
 TOP = os.path.dirname(os.path.dirname(os.path.abspath(__file__)))
 PROGRAM = os.path.join(TOP, 'crates', 'rdf_tool', 'out', 'rdf_tool')
 COLUMNS = ['convert', 'check', 'cat', 'wc -l']
+
+# The documents that are measured where none is named.
+NINE = ['nt', 'nq', 'ttl', 'trig', 'prefixes', 'comments', 'nested', 'deep', 'literal']
 
 # Bytes of a document, and for each column the seconds of the best run and the kilobytes held at most.
 Figures = collections.namedtuple('Figures', ['size', 'seconds', 'held'])
@@ -135,7 +138,7 @@ def main():
     print('|---|---|---|---|---|---|---|')
     with tempfile.TemporaryDirectory() as folder:
         path = os.path.join(folder, 'document')
-        for kind in asked.documents or documents.DOCUMENTS:
+        for kind in asked.documents or NINE:
             name = documents.DOCUMENTS[kind].name
             measured[name] = []
             for megabytes in asked.megabytes:
