@@ -1,8 +1,10 @@
 -- What a call asks for, and what it answers.
 use Rattle.std.specs.Prelude.{◌≡◌, ◌≢◌, ◌⊎◌, ◌<◌, ◌++◌, ℕ, Bool, true, false, List, [], ◌∷◌, Some, length, take, drop, min}
 use Rattle.std.specs.Str.{IsUtf8, chars}
-use Rattle.rdf_iri.specs.Limits.{InRange}
+use Rattle.rdf_iri.specs.Bindings.{FailsAt, IsReadFrom}
+use Rattle.rdf_iri.specs.Limits.{InRange, Sizes}
 use Rattle.rdf_iri.specs.Scope.{BaseFits}
+use Rattle.rdf_iri.specs.declared.fault.BindingReason.{BindingReason}
 use Rattle.rdf_terms.specs.Terms.{IsIri}
 use Rattle.rdf_terms.specs.declared.reason.Reason.{Reason}
 use Rattle.rdf_stream.specs.declared.fault.StreamFault.{StreamFault}
@@ -11,9 +13,9 @@ use Rattle.rdf_stream.specs.Converts.{Accepts, RefusesDocument, StopsFor}
 use Rattle.rdf_stream.specs.Devices.{Reading}
 use Rattle.rdf_stream.specs.Jobs.{JobRead}
 use Rattle.rdf_stream.specs.Languages.{conversion_of, language_of}
-use Rattle.rdf_c.specs.Numbers.{base_of, number_of_form, number_of_reason, sizes_of, summary_of}
+use Rattle.rdf_c.specs.Numbers.{base_of, number_of_binding_reason, number_of_form, number_of_reason, sizes_of, summary_of}
 use Rattle.rdf_c.specs.declared.request.JobFault.{JobFault}
-use Rattle.rdf_c.specs.declared.request.JobFault.TheVariants.{NoJob, Memory}
+use Rattle.rdf_c.specs.declared.request.JobFault.TheVariants.{NoJob, Prefixes, Memory}
 use Rattle.rdf_c.specs.declared.request.Request.{Request}
 use Rattle.rdf_c.specs.declared.outcome.Outcome.{Outcome}
 
@@ -22,23 +24,29 @@ abbrev pub IsBaseText : List ℕ → Type 0
 IsBaseText [] = Unit
 IsBaseText (b ∷ bs) = IsUtf8 (b ∷ bs) × IsIri (chars (b ∷ bs))
 
--- The request and the base are of this job, and there is such a job.
-pub record AsksFor (request : Request) (base_text : List ℕ) (job : JobRead) : Type 0 where
+-- The request, the base and the prefixes are of this job, and there is such a job.
+pub record AsksFor (request : Request) (base_text prefixes : List ℕ) (job : JobRead) : Type 0 where
   pub form : request.format ≡ number_of_form job.form
   pub base : job.base ≡ base_of base_text
-  pub bindings : job.bindings ≡ []
+  pub bindings : IsReadFrom job.limits prefixes (record { bindings = job.bindings; limits = job.limits })
   pub limits : job.limits ≡ sizes_of request
   pub range : InRange job.limits
   pub fits : BaseFits job.base job.limits
   pub good : IsBaseText base_text
 
--- The request and the base are of no job.
+-- The request and the base are of no job, whatever the prefixes.
 abbrev pub AsksForNothing : Request → List ℕ → Type 0
-AsksForNothing request base_text = (job : JobRead) → AsksFor request base_text job → ⊥
+AsksForNothing request base_text = (prefixes : List ℕ) (job : JobRead) → AsksFor request base_text prefixes job → ⊥
 
--- One of the five statuses.
+-- One of the six statuses.
 abbrev pub IsStatus : ℕ → Type 0
-IsStatus s = (s ≡ 0) ⊎ (s ≡ 1) ⊎ (s ≡ 2) ⊎ (s ≡ 4) ⊎ (s ≡ 5)
+IsStatus s = (s ≡ 0) ⊎ (s ≡ 1) ⊎ (s ≡ 2) ⊎ (s ≡ 4) ⊎ (s ≡ 5) ⊎ (s ≡ 6)
+
+-- The first line of the prefixes that fails is this one, and this is why.
+pub record GivesLine (request : Request) (prefixes : List ℕ) (o : Outcome) : Type 0 where
+  pub reason : BindingReason
+  pub number : o.reason ≡ number_of_binding_reason reason
+  pub fails : FailsAt reason (sizes_of request) prefixes o.line
 
 -- The front of the lines stands in the output, and the rest of the output is as it was.
 pub record Gives (lines old new : List ℕ) (o : Outcome) : Type 0 where
@@ -66,14 +74,16 @@ pub record Converts (job : JobRead) (input old new : List ℕ) (o : Outcome) : T
   pub front : o.status ≡ 5 → GivesLines job input old new o × (o.written < o.needed)
   pub refused : o.status ≡ 1 → GivesRefusal job input old new o
   pub found : o.status ≢ 2
+  pub loaded : o.status ≢ 6
   pub status : IsStatus o.status
 
 -- How a call that converts ends.
-pub record HasConverted (request : Request) (base_text input old new : List ℕ) (o : Outcome) : Type 0 where
-  pub whole : o.status ≡ 0 → (job : JobRead) × AsksFor request base_text job × GivesLines job input old new o × (o.needed ≡ o.written)
-  pub front : o.status ≡ 5 → (job : JobRead) × AsksFor request base_text job × GivesLines job input old new o × (o.written < o.needed)
-  pub refused : o.status ≡ 1 → (job : JobRead) × AsksFor request base_text job × GivesRefusal job input old new o
+pub record HasConverted (request : Request) (base_text prefixes input old new : List ℕ) (o : Outcome) : Type 0 where
+  pub whole : o.status ≡ 0 → (job : JobRead) × AsksFor request base_text prefixes job × GivesLines job input old new o × (o.needed ≡ o.written)
+  pub front : o.status ≡ 5 → (job : JobRead) × AsksFor request base_text prefixes job × GivesLines job input old new o × (o.written < o.needed)
+  pub refused : o.status ≡ 1 → (job : JobRead) × AsksFor request base_text prefixes job × GivesRefusal job input old new o
   pub no_job : o.status ≡ 2 → AsksForNothing request base_text
+  pub bad_prefixes : o.status ≡ 6 → GivesLine request prefixes o
   pub status : IsStatus o.status
 
 -- The input is refused at the place.
@@ -87,13 +97,15 @@ pub record Checks (job : JobRead) (input : List ℕ) (o : Outcome) : Type 0 wher
   pub whole : o.status ≡ 0 → IsAccepted (language_of job) input (summary_of o)
   pub refused : o.status ≡ 1 → GivesPlace job input o
   pub found : o.status ≢ 2
+  pub loaded : o.status ≢ 6
   pub status : IsStatus o.status
 
 -- How a call that checks ends.
-pub record HasChecked (request : Request) (base_text input : List ℕ) (o : Outcome) : Type 0 where
-  pub whole : o.status ≡ 0 → (job : JobRead) × AsksFor request base_text job × IsAccepted (language_of job) input (summary_of o)
-  pub refused : o.status ≡ 1 → (job : JobRead) × AsksFor request base_text job × GivesPlace job input o
+pub record HasChecked (request : Request) (base_text prefixes input : List ℕ) (o : Outcome) : Type 0 where
+  pub whole : o.status ≡ 0 → (job : JobRead) × AsksFor request base_text prefixes job × IsAccepted (language_of job) input (summary_of o)
+  pub refused : o.status ≡ 1 → (job : JobRead) × AsksFor request base_text prefixes job × GivesPlace job input o
   pub no_job : o.status ≡ 2 → AsksForNothing request base_text
+  pub bad_prefixes : o.status ≡ 6 → GivesLine request prefixes o
   pub status : IsStatus o.status
 
 -- ---- within a call
@@ -101,12 +113,19 @@ pub record HasChecked (request : Request) (base_text input : List ℕ) (o : Outc
 -- Why a text gives no base.
 abbrev pub NamesNoBase : List ℕ → JobFault → Type 0
 NamesNoBase base_text NoJob = IsBaseText base_text → ⊥
+NamesNoBase base_text (Prefixes f) = ⊥
 NamesNoBase base_text Memory = Unit
 
+-- Why the prefixes are not read.
+abbrev pub FailsToBind : Sizes → List ℕ → JobFault → Type 0
+FailsToBind sizes prefixes NoJob = ⊥
+FailsToBind sizes prefixes (Prefixes f) = FailsAt f.reason sizes prefixes f.line
+FailsToBind sizes prefixes Memory = Unit
+
 -- Why there is no job.
-abbrev pub AsksForNone : Request → List ℕ → JobFault → Type 0
-AsksForNone request base_text NoJob = AsksForNothing request base_text
-AsksForNone request base_text Memory = Unit
+abbrev pub AsksForNone : Request → List ℕ → List ℕ → JobFault → Type 0
+AsksForNone request base_text prefixes NoJob = AsksForNothing request base_text
+AsksForNone request base_text prefixes fault = FailsToBind (sizes_of request) prefixes fault
 
 -- A conversion stopped, with these lines.
 abbrev pub Stopped : StreamFault → JobRead → List ℕ → List ℕ → Type 0

@@ -2,14 +2,15 @@
 use Rattle.std.specs.Prelude.{◌≡◌, ℕ, cond, ltb, List, [], ◌∷◌, Option, None, Some}
 use Rattle.std.specs.Str.{chars}
 use Rattle.rdf_iri.specs.Limits.{Sizes}
+use Rattle.rdf_iri.specs.declared.fault.BindingFault.{BindingFault}
+use Rattle.rdf_iri.specs.declared.fault.BindingReason.{BindingReason}
+use Rattle.rdf_iri.specs.declared.fault.BindingReason.TheVariants as B
 use Rattle.rdf_terms.specs.declared.reason.Reason.{Reason}
 use Rattle.rdf_terms.specs.declared.reason.Reason.TheVariants as R
 use Rattle.rdf_tokens.specs.declared.token.Fault.{Fault}
 use Rattle.rdf_driver.specs.declared.summary.Summary.{Summary}
 use Rattle.rdf_stream.specs.declared.form.Form.{Form}
 use Rattle.rdf_stream.specs.declared.form.Form.TheVariants.{NTriples, NQuads, Turtle, TriG}
-use Rattle.rdf_c.specs.declared.request.JobFault.{JobFault}
-use Rattle.rdf_c.specs.declared.request.JobFault.TheVariants.{NoJob, Memory}
 use Rattle.rdf_c.specs.declared.request.Request.{Request}
 use Rattle.rdf_c.specs.declared.outcome.Outcome.{Outcome}
 
@@ -42,10 +43,13 @@ number_of_reason R.NoBase = 13
 number_of_reason R.TooDeep = 14
 number_of_reason R.TooManyBindings = 15
 
--- a request of no job, and want of memory
-abbrev pub status_of : JobFault → ℕ
-status_of NoJob = 2
-status_of Memory = 4
+-- the number that a call reports for a line of the prefixes that is refused
+abbrev pub number_of_binding_reason : BindingReason → ℕ
+number_of_binding_reason B.BadBinding = 16
+number_of_binding_reason B.TokenTooLong = 4
+number_of_binding_reason B.IriTooLong = 10
+number_of_binding_reason B.TooManyBindings = 15
+number_of_binding_reason B.Memory = 6
 
 -- a base of no bytes is none
 abbrev pub base_of : List ℕ → Option (List ℕ)
@@ -63,6 +67,10 @@ summary_of o = record { quads = o.quads; tokens = o.tokens; bytes = o.bytes }
 -- a call that ended without a word on the document: the request was of no job, or memory was refused
 abbrev pub outcome_of_status : ℕ → Outcome
 outcome_of_status s = record { status = s; reason = 0; offset = 0; line = 0; quads = 0; tokens = 0; bytes = 0; needed = 0; written = 0 }
+
+-- a line of the prefixes is refused
+abbrev pub outcome_of_prefixes : BindingFault → Outcome
+outcome_of_prefixes f = record { status = 6; reason = number_of_binding_reason f.reason; offset = 0; line = f.line; quads = 0; tokens = 0; bytes = 0; needed = 0; written = 0 }
 
 -- accepted, with so many bytes of lines and so many of them written
 abbrev pub accepted_with : Summary → ℕ → ℕ → Outcome

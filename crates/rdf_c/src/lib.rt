@@ -8,7 +8,6 @@ mod runs;
 
 ghost use Rattle.std.specs.Prelude.{◌≡◌, length};
 ghost use Rattle.rdf_c.specs.Calls.{HasChecked, HasConverted};
-ghost use Rattle.rdf_c.specs.Numbers.{status_of};
 
 pub use crate::outcome::Outcome;
 pub use crate::request::Request;
@@ -17,23 +16,27 @@ use crate::runs::{check_bytes, convert_bytes};
 use std::alloc::Global;
 
 /// Reads the document, and writes the lines of its quads to the front of the output, as many bytes as there is room for; the
-/// outcome says how many bytes the lines have. A base of no bytes is none. Of a refused document the lines before the refusal are
+/// outcome says how many bytes the lines have. A base of no bytes is none. The prefixes are
+/// lines of a prefix and its IRI each, as the program's `--prefixes` reads them. Of a refused document the lines before the refusal are
 /// written. Bytes of the output after the lines stay as they are.
 #[unsafe(no_mangle)]
 pub extern "C" fn rdfconv_convert(
     alloc: Global,
     request: &Request,
     base: &[u8],
+    prefixes: &[u8],
     input: &[u8],
     output: &mut [u8],
     outcome: &mut Outcome,
 )
     ensures len { length output.new ≡ length output.old }
-    ensures outcome { HasConverted request.now base.now input.now output.old output.new outcome.new }
+    ensures outcome { HasConverted request.now base.now prefixes.now input.now output.old output.new outcome.new }
 {
-    *outcome = match job_of(alloc, request, base) {
+    *outcome = match job_of(alloc, request, base, prefixes) {
         Ok(job) => convert_bytes(alloc, job, input, output),
-        Err(fault) => Outcome::of_status(status_of(fault)),
+        Err(JobFault::NoJob) => Outcome::of_status(2),
+        Err(JobFault::Prefixes(fault)) => Outcome::of_prefixes(fault),
+        Err(JobFault::Memory) => Outcome::of_status(4),
     };
 }
 
@@ -43,22 +46,16 @@ pub extern "C" fn rdfconv_check(
     alloc: Global,
     request: &Request,
     base: &[u8],
+    prefixes: &[u8],
     input: &[u8],
     outcome: &mut Outcome,
 )
-    ensures outcome { HasChecked request.now base.now input.now outcome.new }
+    ensures outcome { HasChecked request.now base.now prefixes.now input.now outcome.new }
 {
-    *outcome = match job_of(alloc, request, base) {
+    *outcome = match job_of(alloc, request, base, prefixes) {
         Ok(job) => check_bytes(alloc, job, input),
-        Err(fault) => Outcome::of_status(status_of(fault)),
+        Err(JobFault::NoJob) => Outcome::of_status(2),
+        Err(JobFault::Prefixes(fault)) => Outcome::of_prefixes(fault),
+        Err(JobFault::Memory) => Outcome::of_status(4),
     };
-}
-
-fn status_of(fault: JobFault) -> u64
-    ensures { result ≡ status_of fault }
-{
-    match fault {
-        JobFault::NoJob => 2,
-        JobFault::Memory => 4,
-    }
 }

@@ -1,23 +1,23 @@
 // What a call answers.
 
 ghost use Rattle.std.specs.Prelude.{◌≡◌};
-ghost use Rattle.rdf_c.specs.Numbers.{number_of_reason, outcome_of_status};
+ghost use Rattle.rdf_c.specs.Numbers.{number_of_binding_reason, number_of_reason, outcome_of_prefixes, outcome_of_status};
 
-use rdf_stream::Fault;
+use rdf_stream::{BindingFault, BindingReason};
 use rdf_terms::Reason;
 
 /// How a call ended: status 0 where the document is accepted, 1 where it is refused, 2 where the request is of no job, 4 where
-/// memory was refused, and 5 where the document is accepted and its lines are longer than the output. What does not belong to the
-/// status is 0.
+/// memory was refused, 5 where the document is accepted and its lines are longer than the output, and 6 where a line of the prefixes is
+/// refused. What does not belong to the status is 0.
 #[repr(C)]
 #[derive(Clone, Copy)]
 pub struct Outcome {
     pub status: u64,
-    /// Why the document is refused.
+    /// Why the document, or the line of the prefixes, is refused.
     pub reason: u64,
     /// The byte where it is refused, from 0.
     pub offset: u64,
-    /// The line of that byte, from 1.
+    /// The line of that byte, or that of the prefixes, from 1.
     pub line: u64,
     /// The quads of an accepted document.
     pub quads: u64,
@@ -47,6 +47,30 @@ impl Outcome {
             needed: 0,
             written: 0,
         }
+    }
+
+    /// A line of the prefixes is refused.
+    pub(crate) fn of_prefixes(fault: BindingFault) -> Outcome
+        ensures { result ≡ outcome_of_prefixes fault }
+    {
+        Outcome {
+            reason: number_of_binding(fault.reason),
+            line: fault.line,
+            ..Outcome::of_status(6)
+        }
+    }
+}
+
+/// The number of a reason for which a line of the prefixes is refused.
+fn number_of_binding(reason: BindingReason) -> u64
+    ensures { result ≡ number_of_binding_reason reason }
+{
+    match reason {
+        BindingReason::BadBinding => 16,
+        BindingReason::TokenTooLong => 4,
+        BindingReason::IriTooLong => 10,
+        BindingReason::TooManyBindings => 15,
+        BindingReason::Memory => 6,
     }
 }
 

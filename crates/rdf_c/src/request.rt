@@ -1,10 +1,12 @@
 // What a call asks for.
 
 ghost use Rattle.std.specs.Prelude.{◌≡◌, IfOk, IfErr, IfSome, IfNone, OnOk};
-ghost use Rattle.rdf_c.specs.Calls.{AsksFor, IsBaseText, NamesNoBase, AsksForNone};
+ghost use Rattle.rdf_iri.specs.Bindings.{IsReadFrom};
+ghost use Rattle.rdf_c.specs.Calls.{AsksFor, IsBaseText, NamesNoBase, AsksForNone, FailsToBind};
 ghost use Rattle.rdf_c.specs.Numbers.{base_of, number_of_form, IsFormNumber};
 
-use rdf_stream::{Form, Iri, Job, Limits, TermFault};
+use rdf_iri::read_bindings;
+use rdf_stream::{BindingFault, BindingReason, Bindings, Form, Iri, Job, Limits, TermFault};
 use std::alloc::Global;
 
 /// The format of the document, and the limits of the run.
@@ -28,14 +30,21 @@ pub struct Request {
 pub(crate) enum JobFault {
     /// There is no such format or limit, or the base is no IRI or has more bytes than the limit.
     NoJob,
+    /// A line of the prefixes is refused.
+    Prefixes(BindingFault),
     /// A growth of memory was refused.
     Memory,
 }
 
-/// The job that a call asks for.
-pub(crate) fn job_of(alloc: Global, request: &Request, base: &[u8]) -> Result<Job, JobFault>
-    ensures job { IfOk result (AsksFor request.now base.now) }
-    ensures none { IfErr result (AsksForNone request.now base.now) }
+/// The job that a call asks for. The prefixes are a file of bindings, and of no bytes where none are handed in.
+pub(crate) fn job_of(
+    alloc: Global,
+    request: &Request,
+    base: &[u8],
+    prefixes: &[u8],
+) -> Result<Job, JobFault>
+    ensures job { IfOk result (AsksFor request.now base.now prefixes.now) }
+    ensures none { IfErr result (AsksForNone request.now base.now prefixes.now) }
 {
     let Some(form) = form_of(request.format) else {
         return Err(JobFault::NoJob);
@@ -45,9 +54,23 @@ pub(crate) fn job_of(alloc: Global, request: &Request, base: &[u8]) -> Result<Jo
         return Err(JobFault::NoJob);
     };
     let iri = iri_of(alloc, base)?;
-    match Job::new(form, iri, limits) {
-        Some(job) => Ok(job),
-        None => Err(JobFault::NoJob),
+    let Some(job) = Job::new(form, iri, limits) else {
+        return Err(JobFault::NoJob);
+    };
+    let bindings = bindings_of(alloc, limits, prefixes)?;
+    Ok(job.with_bindings(bindings))
+}
+
+fn bindings_of(alloc: Global, limits: Limits, prefixes: &[u8]) -> Result<Bindings, JobFault>
+    ensures read { IfOk result (IsReadFrom limits prefixes.now) }
+    ensures refused { IfErr result (FailsToBind limits prefixes.now) }
+{
+    match read_bindings(alloc, limits, prefixes) {
+        Ok(bindings) => Ok(bindings),
+        Err(fault) => match fault.reason {
+            BindingReason::Memory => Err(JobFault::Memory),
+            _ => Err(JobFault::Prefixes(fault)),
+        },
     }
 }
 
