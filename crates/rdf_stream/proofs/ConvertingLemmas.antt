@@ -1,8 +1,8 @@
 -- A piece more, the end, or an error within one: what the drain has then.
-use Rattle.std.proofs.Common.{◌≡◌, ◌≤◌, ◌+◌, ℕ, Bool, true, false, List, [], ◌∷◌, ◌++◌, ◌⊎◌, length, take, drop, Option, refl, sym, ap, subst, ◌∙◌, append_assoc, ⊎_elim, length-append, arith}
+use Rattle.std.proofs.Common.{◌≡◌, ◌≤◌, ◌<◌, ◌+◌, ℕ, Bool, true, false, List, [], ◌∷◌, ◌++◌, ◌⊎◌, length, take, drop, Option, refl, sym, ap, subst, ◌∙◌, append_assoc, ⊎_elim, length-append, arith}
 use Rattle.std.proofs.lemmas.List.{append-nil, take-append-drop}
 use Rattle.std.proofs.lemmas.Bool.{false≢true}
-use Rattle.std.proofs.KnownBytes.{Appends-nil}
+use Rattle.std.specs.Prelude.{encode_utf8_all}
 use Rattle.std.specs.Io.KnownBytes.{Appends}
 use Rattle.std.specs.List.{AllByRecursion}
 use Rattle.rdf_terms.specs.declared.reason.Reason.{Reason}
@@ -10,32 +10,37 @@ use Rattle.rdf_terms.specs.declared.reason.Reason.TheVariants as reason
 use Rattle.rdf_terms.specs.Terms.{Quad}
 use Rattle.rdf_tokens.specs.Tokens.{Place, Token, Reading}
 use Rattle.rdf_tokens.specs.Good.{tokens_of}
-use Rattle.rdf_tokens.specs.Grammars.{BeginsDue, Due, Language, Marked, PassesNone, RefusedIn, reading_of}
+use Rattle.rdf_tokens.specs.Grammars.{BeginsDue, Due, Language, PassesNone, RefusedIn, reading_of}
 use Rattle.rdf_tokens.specs.Scans.{most_bytes}
 use Rattle.rdf_tokens.proofs.LanguageLemmas.{due_more}
 use Rattle.rdf_driver.specs.declared.summary.Summary.{Summary}
 use Rattle.rdf_driver.specs.Readers as R
 use Rattle.rdf_driver.specs.Readers.{Driven, FeedFails, Feeds, FinishFails, Finishes, HasRead, LeavesOff, piece_reading}
 use Rattle.rdf_driver.specs.Words.{Words, in_words}
-use Rattle.rdf_lines.specs.declared.form.Escapes.TheVariants.{Plain}
 use Rattle.rdf_lines.specs.declared.form.Style.{Style}
-use Rattle.rdf_lines.specs.Writing.{CanWrite, Writable}
+use Rattle.rdf_lines.specs.Writing.{CanWrite, Writable, text}
+use Rattle.rdf_lines.proofs.AsciiLemmas.{ascii_written}
 use Rattle.rdf_lines.proofs.ReadBack.{bytes_read_back}
+use Rattle.rdf_stream.specs.declared.form.WrittenForm.{WrittenForm}
 use Rattle.rdf_stream.specs.Languages.{Conversion, conversion}
 use Rattle.rdf_stream.specs.declared.fault.StreamFault.{StreamFault}
 use Rattle.rdf_stream.specs.declared.fault.StreamFault.TheVariants as stream
 use Rattle.rdf_stream.specs.declared.line_out.LineOut.{LineOut}
-use Rattle.rdf_stream.specs.Converting.{Begins, HandedOver, HaltsFor, IsConverting, RunEnds, RunHalts, Suits, Tells, TellsFault, TellsWrite}
-use Rattle.rdf_stream.specs.Converts.{Accepts, WritesDue, WritesFront, WritesSome, lines_of}
+use Rattle.rdf_stream.specs.Converting.{HandedOver, HaltsFor, IsConverting, RunEnds, RunHalts, Suits, Tells, TellsFault, TellsWrite}
+use Rattle.rdf_stream.specs.Converts.{Accepts, IsAscii, WritesDue, WritesFront, WritesSome, lines_of}
 use Rattle.rdf_stream.specs.Devices.{AppendsFront}
 use Rattle.rdf_stream.specs.Faults.{fault_by}
 use Rattle.rdf_stream.specs.LineOut.{Leaves, Moves, SameOut, Takes, Writes}
-use Rattle.rdf_stream.proofs.LineOutLemmas.{Taken, Tried, bytes_of, bytes_of-append, front_moves, moves_all, moves_front, moves_more, moves_on, puts_live, puts_tries, same_out, taken, tried}
+use Rattle.rdf_stream.proofs.LineOutLemmas.{Taken, Tried, bytes_of, bytes_of-append, front_moves, moves_all, moves_front, moves_more, moves_on, puts_tries, same_out, taken, tried}
 
 -- quads that can be written can be written together
 both_writable : (s : Style) (qs rs : List Quad) → Writable s qs → Writable s rs → Writable s (qs ++ rs)
 both_writable s [] rs p q = q
 both_writable s (x ∷ qs) rs p q = (p.0, both_writable s qs rs p.1 q)
+
+-- what is written in ASCII is so
+written_ascii : (f : WrittenForm) (qs : List Quad) → Writable f.style qs → IsAscii f qs
+written_ascii f qs w is labels = subst (λ e. AllByRecursion (λ b. b < 128) (encode_utf8_all (text f.style e qs))) (sym is) (ascii_written f.style qs w labels)
 
 -- what holds of all quads of two lists holds of those of the first, and of the second
 first_ones : (P : Quad → Type 0) (qs rs : List Quad) → AllByRecursion P (qs ++ rs) → AllByRecursion P qs
@@ -89,26 +94,26 @@ module _ (l : Language) where
   begins_refused r reason.Sink at ahead qs x d = absurd x
   begins_refused r why at ahead qs x d = begins_ahead r.tokens ahead (x.token ∷ x.behind) qs x.tokens x.front.kept d
 
-module _ {G X D A : Type 0} (contents : D → Option (List ℕ)) (failed : D → Bool) (w : Words G X Quad) (x : X) (reader : Driven G) (bytes : List ℕ) (first lines : LineOut D A) (suits : Suits w x first.style)
+module _ {G X D A : Type 0} (contents : D → Option (List ℕ)) (failed : D → Bool) (w : Words G X Quad) (x : X) (reader : Driven G) (bytes : List ℕ) (first lines : LineOut D A) (suits : Suits w x first.form.style)
     (o : HandedOver contents failed w x reader bytes first lines) where
   abbrev l : Language
   l = in_words w x reader.scanner.limit
 
   abbrev job : Conversion
-  job = conversion w x reader.scanner.limit first.style
+  job = conversion w x reader.scanner.limit first.form
 
   -- what the drain took after the bytes that it had
   abbrev Behind : LineOut D A → List Quad → List ℕ → Type 0
-  Behind after qs rest = Moves (contents lines.drain.now) (contents after.drain.now) (lines.buffer.now.items ++ bytes_of lines.style qs) rest
+  Behind after qs rest = Moves (contents lines.drain.now) (contents after.drain.now) (lines.buffer.now.items ++ bytes_of lines.form qs) rest
 
   -- from the beginning of the run
-  from_first : (after : LineOut D A) (qs : List Quad) (rest : List ℕ) → Behind after qs rest → Moves (contents first.drain.now) (contents after.drain.now) (lines_of first.style (o.quads ++ qs)) rest
+  from_first : (after : LineOut D A) (qs : List Quad) (rest : List ℕ) → Behind after qs rest → Moves (contents first.drain.now) (contents after.drain.now) (lines_of first.form (o.quads ++ qs)) rest
   from_first after qs rest m =
-      let clean = subst (λ s. Moves (contents lines.drain.now) (contents after.drain.now) (bytes_of s qs) rest) o.same.style
-      (subst (λ b. Moves (contents lines.drain.now) (contents after.drain.now) (b ++ bytes_of lines.style qs) rest) o.none_waits m) in
-      subst (λ b. Moves (contents first.drain.now) (contents after.drain.now) b rest) (sym (bytes_of-append first.style o.quads qs))
-      (moves_on (contents first.drain.now) (contents lines.drain.now) (contents after.drain.now) (lines_of first.style o.quads) (bytes_of first.style qs) [] rest
-      (record { front = lines_of first.style o.quads; whole = sym (append-nil (lines_of first.style o.quads)); taken = o.written }) clean)
+      let clean = subst (λ f. Moves (contents lines.drain.now) (contents after.drain.now) (bytes_of f qs) rest) o.same.form
+      (subst (λ b. Moves (contents lines.drain.now) (contents after.drain.now) (b ++ bytes_of lines.form qs) rest) o.none_waits m) in
+      subst (λ b. Moves (contents first.drain.now) (contents after.drain.now) b rest) (sym (bytes_of-append first.form o.quads qs))
+      (moves_on (contents first.drain.now) (contents lines.drain.now) (contents after.drain.now) (lines_of first.form o.quads) (bytes_of first.form qs) [] rest
+      (record { front = lines_of first.form o.quads; whole = sym (append-nil (lines_of first.form o.quads)); taken = o.written }) clean)
 
   -- a beginning of the lines was written
   written_front : (after : LineOut D A) (ts : List Token) (qs : List Quad) (rest : List ℕ) → Behind after qs rest → Begun l ts (o.quads ++ qs) →
@@ -116,36 +121,36 @@ module _ {G X D A : Type 0} (contents : D → Option (List ℕ)) (failed : D →
   written_front after ts qs rest m d = record {
     quads = o.quads ++ qs;
     due = d;
-    written = moves_front (contents first.drain.now) (contents after.drain.now) (lines_of first.style (o.quads ++ qs)) rest (from_first after qs rest m);
+    written = moves_front (contents first.drain.now) (contents after.drain.now) (lines_of first.form (o.quads ++ qs)) rest (from_first after qs rest m);
   }
 
   -- all that waited was taken then
-  written_all : (mid after : LineOut D A) (qs : List Quad) → Writes contents lines (bytes_of lines.style qs) mid → Appends (contents mid.drain.now) (contents after.drain.now) mid.buffer.now.items →
-      Appends (contents first.drain.now) (contents after.drain.now) (lines_of first.style (o.quads ++ qs))
+  written_all : (mid after : LineOut D A) (qs : List Quad) → Writes contents lines (bytes_of lines.form qs) mid → Appends (contents mid.drain.now) (contents after.drain.now) mid.buffer.now.items →
+      Appends (contents first.drain.now) (contents after.drain.now) (lines_of first.form (o.quads ++ qs))
   written_all mid after qs m t =
-      moves_all (contents first.drain.now) (contents mid.drain.now) (contents after.drain.now) (lines_of first.style (o.quads ++ qs)) mid.buffer.now.items (from_first mid qs mid.buffer.now.items m) t
+      moves_all (contents first.drain.now) (contents mid.drain.now) (contents after.drain.now) (lines_of first.form (o.quads ++ qs)) mid.buffer.now.items (from_first mid qs mid.buffer.now.items m) t
 
   -- the drain took a beginning of what waited
-  then_front : (mid after : LineOut D A) (qs : List Quad) (rest : List ℕ) → Writes contents lines (bytes_of lines.style qs) mid → Moves (contents mid.drain.now) (contents after.drain.now) mid.buffer.now.items rest →
+  then_front : (mid after : LineOut D A) (qs : List Quad) (rest : List ℕ) → Writes contents lines (bytes_of lines.form qs) mid → Moves (contents mid.drain.now) (contents after.drain.now) mid.buffer.now.items rest →
       Behind after qs rest
   then_front mid after qs rest m n =
-      subst (λ b. Moves (contents lines.drain.now) (contents after.drain.now) b rest) (append-nil (lines.buffer.now.items ++ bytes_of lines.style qs))
-      (moves_on (contents lines.drain.now) (contents mid.drain.now) (contents after.drain.now) (lines.buffer.now.items ++ bytes_of lines.style qs) [] mid.buffer.now.items rest m
+      subst (λ b. Moves (contents lines.drain.now) (contents after.drain.now) b rest) (append-nil (lines.buffer.now.items ++ bytes_of lines.form qs))
+      (moves_on (contents lines.drain.now) (contents mid.drain.now) (contents after.drain.now) (lines.buffer.now.items ++ bytes_of lines.form qs) [] mid.buffer.now.items rest m
       (subst (λ b. Moves (contents mid.drain.now) (contents after.drain.now) b rest) (sym (append-nil mid.buffer.now.items)) n))
 
-  more_front : (after : LineOut D A) (done later : List Quad) (rest : List ℕ) → Behind after done rest → Behind after (done ++ later) (rest ++ bytes_of lines.style later)
+  more_front : (after : LineOut D A) (done later : List Quad) (rest : List ℕ) → Behind after done rest → Behind after (done ++ later) (rest ++ bytes_of lines.form later)
   more_front after done later rest m =
-      subst (λ b. Moves (contents lines.drain.now) (contents after.drain.now) b (rest ++ bytes_of lines.style later))
-      (append_assoc lines.buffer.now.items (bytes_of lines.style done) (bytes_of lines.style later) ∙ ap (λ b. lines.buffer.now.items ++ b) (sym (bytes_of-append lines.style done later)))
-      (moves_more (contents lines.drain.now) (contents after.drain.now) (lines.buffer.now.items ++ bytes_of lines.style done) (bytes_of lines.style later) rest m)
+      subst (λ b. Moves (contents lines.drain.now) (contents after.drain.now) b (rest ++ bytes_of lines.form later))
+      (append_assoc lines.buffer.now.items (bytes_of lines.form done) (bytes_of lines.form later) ∙ ap (λ b. lines.buffer.now.items ++ b) (sym (bytes_of-append lines.form done later)))
+      (moves_more (contents lines.drain.now) (contents after.drain.now) (lines.buffer.now.items ++ bytes_of lines.form done) (bytes_of lines.form later) rest m)
 
   -- quads that are due can be written
-  styled : (ts : List Token) (qs rest : List Quad) → Due (w.documents x) ts ((o.quads ++ qs) ++ rest) → AllByRecursion (CanWrite lines.style) qs
+  styled : (ts : List Token) (qs rest : List Quad) → Due (w.documents x) ts ((o.quads ++ qs) ++ rest) → AllByRecursion (CanWrite lines.form.style) qs
   styled ts qs rest d =
-      subst (λ s. AllByRecursion (CanWrite s) qs) (sym o.same.style)
-      (last_ones (CanWrite first.style) o.quads qs (first_ones (CanWrite first.style) (o.quads ++ qs) rest (suits.can_write ts ((o.quads ++ qs) ++ rest) d)))
+      subst (λ (f : WrittenForm). AllByRecursion (CanWrite f.style) qs) (sym o.same.form)
+      (last_ones (CanWrite first.form.style) o.quads qs (first_ones (CanWrite first.form.style) (o.quads ++ qs) rest (suits.can_write ts ((o.quads ++ qs) ++ rest) d)))
 
-  styled_all : (ts : List Token) (qs : List Quad) → Due (w.documents x) ts (o.quads ++ qs) → AllByRecursion (CanWrite lines.style) qs
+  styled_all : (ts : List Token) (qs : List Quad) → Due (w.documents x) ts (o.quads ++ qs) → AllByRecursion (CanWrite lines.form.style) qs
   styled_all ts qs d = styled ts qs [] (subst (Due (w.documents x) ts) (sym (append-nil (o.quads ++ qs))) d)
 
   -- ---- an error of the reader: some quads were tried, and they are due
@@ -166,12 +171,12 @@ module _ {G X D A : Type 0} (contents : D → Option (List ℕ)) (failed : D →
       by : (b : Bool) → failed mid.drain.now ≡ b → WritesFront job ts (contents first.drain.now) (contents after.drain.now)
       by true e =
           written_front after ts h.more h.tries.rest
-          (subst (λ k. Moves (contents lines.drain.now) k (lines.buffer.now.items ++ bytes_of lines.style h.more) h.tries.rest) (sym (t.before_it e)) h.tries.moves) h.due
+          (subst (λ k. Moves (contents lines.drain.now) k (lines.buffer.now.items ++ bytes_of lines.form h.more) h.tries.rest) (sym (t.before_it e)) h.tries.moves) h.due
       by false e =
           let (done, later, split, writes) = h.tries.whole e in
           let (rest, moves) = t.while_taking e in
           let m = more_front after done later rest (then_front mid after done rest writes moves) in
-          written_front after ts h.more (rest ++ bytes_of lines.style later) (subst (λ qs. Behind after qs (rest ++ bytes_of lines.style later)) (sym split) m) h.due
+          written_front after ts h.more (rest ++ bytes_of lines.form later) (subst (λ qs. Behind after qs (rest ++ bytes_of lines.form later)) (sym split) m) h.due
 
   -- the drain has all whole lines
   tells_some : (ts : List Token) (mid after : LineOut D A) → LeftOff ts mid → TellsFault contents failed mid after → WritesSome job ts (contents first.drain.now) (contents after.drain.now)
@@ -326,7 +331,7 @@ module _ {G X D A : Type 0} (contents : D → Option (List ℕ)) (failed : D →
       quads = o.quads ++ f.more;
       read = read';
       written = written_all mid after f.more put'.writes t;
-      writable = both_writable first.style o.quads f.more o.writable (subst (λ y. Writable y f.more) o.same.style put'.writable);
+      writable = both_writable first.form.style o.quads f.more o.writable (subst (λ (y : WrittenForm). Writable y.style f.more) o.same.form put'.writable);
       none_waits = none;
       same = same_out first mid after (same_out first lines mid o.same put'.same) s;
       live = live;
@@ -352,6 +357,9 @@ module _ {G X D A : Type 0} (contents : D → Option (List ℕ)) (failed : D →
     all_put : Taken contents failed lines f.more mid
     all_put = taken contents failed f.more lines mid f.puts (styled_all (reading_of l bytes true).tokens f.more sums.due)
 
+    all_writable : Writable first.form.style (o.quads ++ f.more)
+    all_writable = both_writable first.form.style o.quads f.more o.writable (subst (λ (y : WrittenForm). Writable y.style f.more) o.same.form all_put.writable)
+
     -- the document was read and written
     pub end_read : (after : LineOut D A) → SameOut mid after → Appends (contents mid.drain.now) (contents after.drain.now) mid.buffer.now.items →
         SameOut first after × Accepts job bytes (contents first.drain.now) (contents after.drain.now) summary
@@ -362,8 +370,8 @@ module _ {G X D A : Type 0} (contents : D → Option (List ℕ)) (failed : D →
         document = sums.document;
         within = sums.whole;
         written = written_all mid after f.more all_put.writes t;
-        reads_back = λ limit h.
-            bytes_read_back first.style Plain (o.quads ++ f.more) limit (both_writable first.style o.quads f.more o.writable (subst (λ y. Writable y f.more) o.same.style all_put.writable)) h;
+        reads_back = λ limit h. bytes_read_back first.form.style first.form.escapes (o.quads ++ f.more) limit all_writable h;
+        ascii = written_ascii first.form (o.quads ++ f.more) all_writable;
         counts = record { quads = sums.given; tokens = sums.accepted; bytes = sums.taken };
       },
     )
@@ -388,19 +396,19 @@ module _ {G X D A : Type 0} (contents : D → Option (List ℕ)) (failed : D →
 
   -- what halts by the limit of the reader halts by that of the run
   halted : (told : StreamFault) (b : List ℕ) (e : Bool) (after : LineOut D A) →
-      ((x : X) (s : Suits w x first.style) (o : HandedOver contents failed w x old bytes first lines) → Halts contents failed w x old bytes first lines s o told b e after) → RunHalts contents failed w told reader first b e after
+      ((x : X) (s : Suits w x first.form.style) (o : HandedOver contents failed w x old bytes first lines) → Halts contents failed w x old bytes first lines s o told b e after) → RunHalts contents failed w told reader first b e after
   halted told b e after h = record {
     begun = i.begun;
     same = (h i.begun.0 i.begun.1.starts.suits (i.handed i.begun.0 i.begun.1)).same;
     halts = λ x y.
-        subst (λ n. HaltsFor told (conversion w x n first.style) b e (contents first.drain.now) (contents after.drain.now) (failed after.drain.now)) i.limit (h x y.starts.suits (i.handed x y)).halts;
+        subst (λ n. HaltsFor told (conversion w x n first.form) b e (contents first.drain.now) (contents after.drain.now) (failed after.drain.now)) i.limit (h x y.starts.suits (i.handed x y)).halts;
   }
 
   -- what stays from the beginning of a run stays from any state that had it
   pub stays_on : (after : LineOut D A) → SameOut first after → (before : LineOut D A) → SameOut before lines → SameOut before after
   stays_on after h before s =
       let o = (i.handed i.begun.0 i.begun.1).same in
-      record { style = h.style ∙ (sym o.style ∙ s.style); buffer = h.buffer ∙ (sym o.buffer ∙ s.buffer); drain = h.drain ∙ (sym o.drain ∙ s.drain) }
+      record { form = h.form ∙ (sym o.form ∙ s.form); buffer = h.buffer ∙ (sym o.buffer ∙ s.buffer); drain = h.drain ∙ (sym o.drain ∙ s.drain) }
 
   module _ (piece : List ℕ) where
     module _ (new : Driven G) (mid : LineOut D A) (f : Feeds w (Takes contents failed) old lines piece new mid) where
@@ -455,7 +463,7 @@ module _ {G X D A : Type 0} (contents : D → Option (List ℕ)) (failed : D →
       same = (end_read contents failed w i.begun.0 old bytes first lines i.begun.1.starts.suits (i.handed i.begun.0 i.begun.1) summary mid f after s t).0;
       sent = sent;
       accepts = λ x y.
-          subst (λ n. Accepts (conversion w x n first.style) bytes (contents first.drain.now) (contents after.drain.now) summary) i.limit
+          subst (λ n. Accepts (conversion w x n first.form) bytes (contents first.drain.now) (contents after.drain.now) summary) i.limit
           (end_read contents failed w x old bytes first lines y.starts.suits (i.handed x y) summary mid f after s t).1;
     }
 
