@@ -13,7 +13,7 @@ use Rattle.rdf_stream.specs.Converts.{Accepts, RefusesDocument, StopsFor}
 use Rattle.rdf_stream.specs.Devices.{Reading}
 use Rattle.rdf_stream.specs.Jobs.{JobRead}
 use Rattle.rdf_stream.specs.Languages.{conversion_of, language_of}
-use Rattle.rdf_c.specs.Numbers.{base_of, number_of_binding_reason, number_of_form, number_of_reason, sizes_of, summary_of}
+use Rattle.rdf_c.specs.Numbers.{base_of, number_of_binding_reason, number_of_escapes, number_of_form, number_of_reason, sizes_of, summary_of}
 use Rattle.rdf_c.specs.declared.request.JobFault.{JobFault}
 use Rattle.rdf_c.specs.declared.request.JobFault.TheVariants.{NoJob, Prefixes, Memory}
 use Rattle.rdf_c.specs.declared.request.Request.{Request}
@@ -29,6 +29,7 @@ pub record AsksFor (request : Request) (base_text prefixes : List ℕ) (job : Jo
   pub form : request.format ≡ number_of_form job.form
   pub base : job.base ≡ base_of base_text
   pub bindings : IsReadFrom job.limits prefixes (record { bindings = job.bindings; limits = job.limits })
+  pub escapes : request.ascii ≡ number_of_escapes job.escapes
   pub limits : job.limits ≡ sizes_of request
   pub range : InRange job.limits
   pub fits : BaseFits job.base job.limits

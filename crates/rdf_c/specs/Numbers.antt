@@ -9,6 +9,8 @@ use Rattle.rdf_terms.specs.declared.reason.Reason.{Reason}
 use Rattle.rdf_terms.specs.declared.reason.Reason.TheVariants as R
 use Rattle.rdf_tokens.specs.declared.token.Fault.{Fault}
 use Rattle.rdf_driver.specs.declared.summary.Summary.{Summary}
+use Rattle.rdf_lines.specs.declared.form.Escapes.{Escapes}
+use Rattle.rdf_lines.specs.declared.form.Escapes.TheVariants.{Plain, Ascii}
 use Rattle.rdf_stream.specs.declared.form.Form.{Form}
 use Rattle.rdf_stream.specs.declared.form.Form.TheVariants.{NTriples, NQuads, Turtle, TriG}
 use Rattle.rdf_c.specs.declared.request.Request.{Request}
@@ -24,6 +26,15 @@ number_of_form TriG = 3
 -- some format has the number; a request with any other is of no job
 abbrev pub IsFormNumber : ℕ → Type 0
 IsFormNumber number = (form : Form) × (number ≡ number_of_form form)
+
+-- the number by which a call asks for characters as they are, or for ASCII
+abbrev pub number_of_escapes : Escapes → ℕ
+number_of_escapes Plain = 0
+number_of_escapes Ascii = 1
+
+-- some form has the number; a request with any other is of no job
+abbrev pub IsEscapesNumber : ℕ → Type 0
+IsEscapesNumber number = (escapes : Escapes) × (number ≡ number_of_escapes escapes)
 
 -- the number that a call reports for a refused document; 0 means that no document was refused
 abbrev pub number_of_reason : Reason → ℕ

@@ -3,13 +3,15 @@
 ghost use Rattle.std.specs.Prelude.{◌≡◌, IfOk, IfErr, IfSome, IfNone, OnOk};
 ghost use Rattle.rdf_iri.specs.Bindings.{IsReadFrom};
 ghost use Rattle.rdf_c.specs.Calls.{AsksFor, IsBaseText, NamesNoBase, AsksForNone, FailsToBind};
-ghost use Rattle.rdf_c.specs.Numbers.{base_of, number_of_form, IsFormNumber};
+ghost use Rattle.rdf_c.specs.Numbers.{base_of, number_of_escapes, number_of_form, IsEscapesNumber, IsFormNumber};
 
 use rdf_iri::read_bindings;
-use rdf_stream::{BindingFault, BindingReason, Bindings, Form, Iri, Job, Limits, TermFault};
+use rdf_stream::{
+    BindingFault, BindingReason, Bindings, Escapes, Form, Iri, Job, Limits, TermFault,
+};
 use std::alloc::Global;
 
-/// The format of the document, and the limits of the run.
+/// The format of the document, the limits of the run, and the form of the lines.
 #[repr(C)]
 #[derive(Clone, Copy)]
 pub struct Request {
@@ -23,12 +25,14 @@ pub struct Request {
     pub bindings: u64,
     /// Bytes of one IRI.
     pub iri: u64,
+    /// How the lines are written: 0 with characters as they are, 1 in ASCII.
+    pub ascii: u64,
 }
 
 /// Why there is no job.
 #[derive(Clone, Copy, Debug, PartialEq, Eq)]
 pub(crate) enum JobFault {
-    /// There is no such format or limit, or the base is no IRI or has more bytes than the limit.
+    /// There is no such format, limit or form, or the base is no IRI or has more bytes than the limit.
     NoJob,
     /// A line of the prefixes is refused.
     Prefixes(BindingFault),
@@ -53,12 +57,15 @@ pub(crate) fn job_of(
     else {
         return Err(JobFault::NoJob);
     };
+    let Some(escapes) = escapes_of(request.ascii) else {
+        return Err(JobFault::NoJob);
+    };
     let iri = iri_of(alloc, base)?;
     let Some(job) = Job::new(form, iri, limits) else {
         return Err(JobFault::NoJob);
     };
     let bindings = bindings_of(alloc, limits, prefixes)?;
-    Ok(job.with_bindings(bindings))
+    Ok(job.with_bindings(bindings).with_escapes(escapes))
 }
 
 fn bindings_of(alloc: Global, limits: Limits, prefixes: &[u8]) -> Result<Bindings, JobFault>
@@ -83,6 +90,17 @@ fn form_of(number: u64) -> Option<Form>
         1 => Some(Form::NQuads),
         2 => Some(Form::Turtle),
         3 => Some(Form::TriG),
+        _ => None,
+    }
+}
+
+fn escapes_of(number: u64) -> Option<Escapes>
+    ensures some { IfSome result (λ escapes. number ≡ number_of_escapes escapes) }
+    ensures none { IfNone result (¬ IsEscapesNumber number) }
+{
+    match number {
+        0 => Some(Escapes::Plain),
+        1 => Some(Escapes::Ascii),
         _ => None,
     }
 }
