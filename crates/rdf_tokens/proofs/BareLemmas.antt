@@ -47,12 +47,12 @@ abbrev bare_tests : ℕ → Bool
 bare_tests c = not (is_bare_byte c) || (in_prefix (step Turtle (Name name.Prefix) c) && in_prefix (step Turtle (Name name.PrefixDots) c))
 
 -- an implication between truth values, from its test
-implied : (a b : Bool) → (not a || b) ≡ true → a ≡ true → b ≡ true
+pub implied : (a b : Bool) → (not a || b) ≡ true → a ≡ true → b ≡ true
 implied true b e h = e
 implied false b e h = absurd (true≢false (sym h))
 
 -- letters that the code looks for are ASCII
-low-letter : (c : ℕ) → is_letter c ≡ true → c < 128
+pub low-letter : (c : ℕ) → is_letter c ≡ true → c < 128
 low-letter c e = grind (arith, nat_tests)
 
 -- the bytes of a run without names are ASCII
@@ -60,7 +60,7 @@ low-bare : (c : ℕ) → is_bare_byte c ≡ true → c < 128
 low-bare c e = grind (arith, nat_tests)
 
 -- a letter leads into a prefix from the start, within a prefix and after its dots
-letter_steps : (c : ℕ) → is_letter c ≡ true →
+pub letter_steps : (c : ℕ) → is_letter c ≡ true →
     (step Turtle Start c ≡ Name name.Prefix) × ((step Turtle (Name name.Prefix) c ≡ Name name.Prefix) × (step Turtle (Name name.PrefixDots) c ≡ Name name.Prefix))
 letter_steps c e =
     let all = implied (is_letter c) _ (agree_below_at letter_tests (λ c. true) 128 c refl (low-letter c e)) e in
@@ -103,12 +103,12 @@ none_all f w (suc n) h =
     ap (λ k. with_length (suc n) k (longest_by f w n)) (h n (omega arith)) ∙ none_all f w n (λ m l. h m (omega arith))
 
 -- a front without a kind has none after three quotes either
-no_long : (t : Bool) → only_long t None ≡ None
+pub no_long : (t : Bool) → only_long t None ≡ None
 no_long true = refl
 no_long false = refl
 
 -- three quotes do not begin with a letter
-no_quotes : (c : ℕ) (w : List ℕ) → is_letter c ≡ true → three_quotes Turtle (c ∷ w) ≡ false
+pub no_quotes : (c : ℕ) (w : List ℕ) → is_letter c ≡ true → three_quotes Turtle (c ∷ w) ≡ false
 no_quotes c [] e = refl
 no_quotes c (a ∷ []) e = refl
 no_quotes c (a ∷ b ∷ w) e =
@@ -145,7 +145,7 @@ bare_behind u v c s t h e b = record {
         ap (only_long (three_quotes Turtle (c ∷ v))) kind ∙ no_long (three_quotes Turtle (c ∷ v))
 
 -- one byte of ASCII on
-one_on : (bs : List ℕ) (p : ℕ) → IsAt bs p p → p < length bs → get_or bs p 0 < 128 → (drop p (chars bs) ≡ get_or bs p 0 ∷ drop (p + 1) (chars bs)) × IsAt bs (suc p) (suc p)
+pub one_on : (bs : List ℕ) (p : ℕ) → IsAt bs p p → p < length bs → get_or bs p 0 < 128 → (drop p (chars bs) ≡ get_or bs p 0 ∷ drop (p + 1) (chars bs)) × IsAt bs (suc p) (suc p)
 one_on bs p h l a =
     let c = get_or bs p 0 in
     let next : p + 1 ≡ p + len_utf8 c = omega (arith, ap length (encode_ascii c a), length-encode c) in

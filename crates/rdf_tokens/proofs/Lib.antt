@@ -44,3 +44,4 @@ pub mod LimitLemmas
 mod RestLemmas
 mod RestStates
 mod FlatLemmas
+mod QuickLemmas

@@ -1,5 +1,5 @@
 -- What a look tells is the step.
-use Rattle.std.proofs.Common.{◌≡◌, ℕ, ◌≤◌, Bool, true, false, cond, List, [], ◌∷◌, ◌++◌, ◌||◌, ◌⊎◌, refl, sym, ap, ◌∙◌, subst, ⊎_elim, length, length-append, take, arith, Option, Some, None, IsUtf8, encode_utf8}
+use Rattle.std.proofs.Common.{◌≡◌, ℕ, ◌≤◌, Bool, true, false, cond, List, [], ◌∷◌, ◌++◌, ◌||◌, ◌⊎◌, inr, refl, sym, ap, ◌∙◌, subst, ⊎_elim, length, length-append, take, arith, Option, Some, None, IsUtf8, encode_utf8}
 use Rattle.std.specs.Prelude.{encode_utf8_all}
 use Rattle.std.specs.Str.{chars}
 use Rattle.std.proofs.lemmas.Bool.{cond-true, cond-false, true≢false, false≢true}
@@ -15,6 +15,7 @@ use Rattle.rdf_tokens.specs.Tokens.Tail.{goes_on, ended, broken}
 use Rattle.rdf_tokens.specs.Tokens.Outcome.{token_too_long, bad_escape}
 use Rattle.rdf_tokens.specs.Tokens.Step.{token, stop}
 use Rattle.rdf_tokens.specs.Front.{bytes_of, in_bytes}
+use Rattle.rdf_tokens.specs.Quick.{IsToken}
 use Rattle.rdf_tokens.specs.Look.{IsLook, CutsAt, chosen_by, decided_by}
 use Rattle.rdf_tokens.proofs.ByteLemmas.{cut}
 use Rattle.rdf_tokens.proofs.TokensLemmas.{longest_fits}
@@ -93,3 +94,22 @@ cuts-front d bs best u e = subst (CutsAt bs) (sym e) (go (longest d (chars bs) (
     go : (o : Option (ℕ × Kind)) → CutsAt bs (in_bytes (chars bs) o)
     go None = tt
     go (Some x) = (cut bs (bytes_of x.0 (chars bs)) x.0 u refl).boundary
+
+-- a text that begins with a token is not empty
+not-empty : (d : Dialect) (w : List ℕ) (n : ℕ) (k : Kind) → in_bytes w (longest d w (length w)) ≡ Some (n, k) → is_empty w ≡ false
+not-empty d [] n k e = absurd (let h : None ≡ Some (n, k) = e in cc)
+not-empty d (c ∷ w) n k e = refl
+
+-- a token that nothing makes longer is the step, whatever comes behind the text
+pub token-look : (d : Dialect) (limit : ℕ) (t : Tail) (bs : List ℕ) (n : ℕ) (k : Kind) → IsUtf8 bs → over d limit (chars bs) ≡ false → IsToken d bs n k →
+    IsLook (Given n k) (step d limit t (chars bs)) (chars bs)
+token-look d limit t bs n k u o q =
+    let w = chars bs in
+    let e = not-empty d w n k q.best in
+    let told : IsLook (Given n k) (decided d w) w =
+    subst (λ l. IsLook l (decided d w) w) (go bs (empty-bytes bs u ∙ e)) (decided-look d bs (Some (n, k)) u (sym q.best)) in
+    subst (λ s. IsLook (Given n k) s w) (sym (step-done d limit t w false o (sym (ap (λ x. x || is_live d w) e ∙ q.closed)) (inr refl))) told
+  where
+    go : (v : List ℕ) → is_empty v ≡ false → decided_by v (Some (n, k)) ≡ Given n k
+    go [] e = absurd (true≢false e)
+    go (x ∷ v) e = ap (λ t. cond t (Given n k) (Stop BadEscape)) (q.fit (chars (take n (x ∷ v))))

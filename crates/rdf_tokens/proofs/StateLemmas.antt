@@ -160,7 +160,7 @@ reached-again d bs at s b l r = record { n = r.n; here = r.here; state = r.state
         ∙ sym (ap (λ i. in_bytes w (longest_by (kind_by_states d w) w i)) e))
 
 -- what is known where the states do not go on
-reached-dead : (d : Dialect) (bs : List ℕ) (at : ℕ) (s : State) (b : Option (ℕ × Kind)) → Reached d bs at s b → goes_on d s ≡ false →
+pub reached-dead : (d : Dialect) (bs : List ℕ) (at : ℕ) (s : State) (b : Option (ℕ × Kind)) → Reached d bs at s b → goes_on d s ≡ false →
     (b ≡ in_bytes (chars bs) (longest_by (kind_by_states d (chars bs)) (chars bs) (length (chars bs)))) × (false ≡ goes_on d (state_of d (chars bs)))
 reached-dead d bs at s b r e =
     let w = chars bs in

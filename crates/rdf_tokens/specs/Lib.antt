@@ -20,6 +20,7 @@ pub mod Spellings
 pub mod Front
 pub mod Walk
 pub mod Bare
+pub mod Quick
 pub mod Over
 pub mod Plain
 pub mod Look

@@ -47,7 +47,7 @@ pub(crate) struct Walk {
 /// text, of each name that would begin there with a letter of ASCII.
 #[derive(Clone, Copy)]
 pub(crate) struct Bare {
-    left: usize,
+    pub(crate) left: usize,
     state: Option<State>,
 }
 
@@ -236,7 +236,7 @@ fn bare_of(dialect: Dialect, text: &str, state: Option<State>) -> Option<Bare>
     }
 }
 
-fn begins_in_letter(text: &[u8]) -> bool
+pub(crate) fn begins_in_letter(text: &[u8]) -> bool
     ensures { result ≡ is_letter (get_or text.now 0 0) }
 {
     matches!(text, [b'A'..=b'Z' | b'a'..=b'z', ..])

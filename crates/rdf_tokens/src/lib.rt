@@ -9,6 +9,7 @@ pub mod laws;
 mod look;
 mod over;
 mod plain;
+mod quick;
 mod scanner;
 mod states;
 mod token;

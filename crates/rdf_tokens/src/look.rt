@@ -9,6 +9,7 @@ ghost use Rattle.rdf_tokens.specs.Look.{behind, IsLook, CutsAt, decided_by};
 
 use crate::front::{Bare, Walk, front_of};
 use crate::over::is_over;
+use crate::quick::quick_front;
 use rdf_terms::{Dialect, Kind, Reason, is_fit};
 
 /// What comes after a text.
@@ -53,6 +54,12 @@ pub(crate) fn look_at(
 {
     if is_over(dialect, text, limit, walk) {
         return Look::Stop(Reason::TokenTooLong);
+    }
+    if walk.is_none() {
+        let quick = quick_front(dialect, text, bare);
+        if let Some(kind) = quick.kind {
+            return Look::Token(quick.len, kind);
+        }
     }
     let front = front_of(dialect, text, walk, bare);
     let waits = is_open(text, front.live);

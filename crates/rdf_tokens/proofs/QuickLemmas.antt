@@ -1,0 +1,338 @@
+-- Tokens that the first bytes of a text settle: the states end behind them, and no spelling is longer or begins so.
+use Rattle.std.proofs.Common.{◌≡◌, ℕ, zero, suc, ◌+◌, ◌<◌, ◌≤◌, Bool, true, false, cond, nat_lt, List, [], ◌∷◌, ◌++◌, ◌&&◌, ◌||◌, ◌==◌, not, refl, sym, ap, ◌∙◌, subst, length, get_or, arith, Option, Some, None, IsUtf8, lt-ltb}
+use Rattle.std.proofs.lemmas.Bool.{agree_below_at, and_parts, false≢true, eqb-true, ltb-true}
+use Rattle.std.proofs.lemmas.Bool.Decides.{nat_tests}
+use Rattle.std.proofs.lemmas.Str.{encode_ascii, length-encode}
+use Rattle.std.specs.Str.{chars}
+use Rattle.rdf_terms.specs.declared.kind.Kind.{Kind}
+use Rattle.rdf_terms.specs.declared.kind.Kind.TheVariants.{Dot, LineEnd, Semicolon, Comma, OpenBracket, CloseBracket, OpenParen, CloseParen, OpenBrace, CloseBrace, PnameNs, PnameLn}
+use Rattle.rdf_terms.specs.declared.kind.Dialect.{Dialect}
+use Rattle.rdf_terms.specs.declared.kind.Dialect.TheVariants.{Lines, Turtle}
+use Rattle.rdf_terms.specs.Classes.{is_letter}
+use Rattle.rdf_terms.specs.Shapes.{fixed}
+use Rattle.rdf_terms.specs.Runs.{IsRun, is_name_byte}
+use Rattle.rdf_terms.specs.Values.{is_fit}
+use Rattle.rdf_tokens.specs.declared.front.Bare.{Bare}
+use Rattle.rdf_tokens.specs.declared.states.machine.State.{State}
+use Rattle.rdf_tokens.specs.declared.states.machine.State.TheVariants.{Start, Name}
+use Rattle.rdf_tokens.specs.declared.states.name.Name.TheVariants as name
+use Rattle.rdf_tokens.specs.Tokens.{with_length, three_quotes, only_long}
+use Rattle.rdf_tokens.specs.Fixed.{Row, fits, left, is_begun, live_by, rows_of}
+use Rattle.rdf_tokens.specs.Front.{Reached, longer_front, begins, row_front, front_by, state_of}
+use Rattle.rdf_tokens.specs.Machine.{step, kind_at, goes_on}
+use Rattle.rdf_tokens.specs.Quick.{IsToken, IsQuick, single, is_sought, is_colon, ends_name, is_name_end}
+use Rattle.rdf_tokens.proofs.ByteLemmas.{at-start, ascii_first}
+use Rattle.rdf_tokens.proofs.BareLemmas.{implied, low-letter, letter_steps, no_long, no_quotes, one_on}
+use Rattle.rdf_tokens.proofs.RestLemmas.{reached-run}
+use Rattle.rdf_tokens.proofs.RestStates.{rests_prefix, rests_local}
+use Rattle.rdf_tokens.proofs.StateLemmas.{front-bytes, live-bytes, reached-first, reached-step, reached-dead}
+
+-- where the states have ended and no spelling goes on, the longest front so far is the token
+settled : (d : Dialect) (bs : List ℕ) (at : ℕ) (s : State) (b f : Option (ℕ × Kind)) (n : ℕ) (k : Kind) → IsUtf8 bs → Reached d bs at s b → goes_on d s ≡ false →
+    f ≡ front_by (rows_of d fixed) bs → live_by (rows_of d fixed) bs ≡ false → longer_front f b ≡ Some (n, k) → ((w : List ℕ) → is_fit k w ≡ true) → IsToken d bs n k
+settled d bs at s b f n k u r g ef l e t =
+    let p = reached-dead d bs at s b r g in
+    record {
+      best = sym (front-bytes d bs f b (longer_front f b) u ef p.0 refl) ∙ e;
+      closed = sym (live-bytes d bs u) ∙ (ap (λ t. goes_on d (state_of d (chars bs)) || t) l ∙ ap (λ t. t || false) (sym p.1));
+      fit = t;
+    }
+
+-- A byte of ASCII behind which the states end without a kind, and which is a spelling and the beginning of no other.
+record IsSingle (d : Dialect) (c : ℕ) (k : Kind) : Type 0 where
+  low : c < 128
+  out : goes_on d (step d Start c) ≡ false
+  none : kind_at (step d Start c) ≡ None
+  front : (t : List ℕ) → front_by (rows_of d fixed) (c ∷ t) ≡ Some (1, k)
+  closed : (t : List ℕ) → live_by (rows_of d fixed) (c ∷ t) ≡ false
+  fit : (w : List ℕ) → is_fit k w ≡ true
+
+-- a test fails on every list if it fails on the empty one and on the others
+on_both : (f : List ℕ → Bool) → f [] ≡ false → ((x : ℕ) (t : List ℕ) → f (x ∷ t) ≡ false) → (t : List ℕ) → f t ≡ false
+on_both f a b [] = a
+on_both f a b (x ∷ t) = b x t
+
+-- a kind that a table of characters gives is that of its first row, or of the others
+by_row : (P : ℕ → Kind → Type 0) (c n : ℕ) (k j : Kind) (o : Option Kind) → P n k → (o ≡ Some j → P c j) → cond (c == n) (Some k) o ≡ Some j → P c j
+by_row P c n k j o p h e = go (c == n) refl e
+  where
+    same : Some k ≡ Some j → k ≡ j
+    same e = cc
+
+    go : (t : Bool) → (c == n) ≡ t → cond t (Some k) o ≡ Some j → P c j
+    go true x y = subst (λ i. P i j) (sym (eqb-true c n x)) (subst (P n) (same y) p)
+    go false x y = h y
+
+-- no row is left
+no_row : (P : Type 0) (j : Kind) → None ≡ Some j → P
+no_row P j e = absurd (let h : None ≡ Some j = e in cc)
+
+-- the single bytes of the line formats
+single-lines : (c : ℕ) (k : Kind) → single Lines c ≡ Some k → IsSingle Lines c k
+unfolding is_fit
+single-lines c k e =
+    by_row (IsSingle Lines) c 46 Dot k _
+    (record { low = omega arith; out = refl; none = refl; front = λ t. refl; closed = on_both (λ t. live_by (rows_of Lines fixed) (46 ∷ t)) refl (λ x t. refl); fit = λ w. refl }) (λ e.
+    by_row (IsSingle Lines) c 13 LineEnd k _
+    (record { low = omega arith; out = refl; none = refl; front = λ t. refl; closed = on_both (λ t. live_by (rows_of Lines fixed) (13 ∷ t)) refl (λ x t. refl); fit = λ w. refl }) (λ e.
+    by_row (IsSingle Lines) c 10 LineEnd k _
+    (record { low = omega arith; out = refl; none = refl; front = λ t. refl; closed = on_both (λ t. live_by (rows_of Lines fixed) (10 ∷ t)) refl (λ x t. refl); fit = λ w. refl })
+    (no_row _ k) e) e) e
+
+-- the single bytes of Turtle and TriG
+single-turtle : (c : ℕ) (k : Kind) → single Turtle c ≡ Some k → IsSingle Turtle c k
+unfolding is_fit
+single-turtle c k e =
+    by_row (IsSingle Turtle) c 59 Semicolon k _
+    (record { low = omega arith; out = refl; none = refl; front = λ t. refl; closed = on_both (λ t. live_by (rows_of Turtle fixed) (59 ∷ t)) refl (λ x t. refl); fit = λ w. refl }) (λ e.
+    by_row (IsSingle Turtle) c 44 Comma k _
+    (record { low = omega arith; out = refl; none = refl; front = λ t. refl; closed = on_both (λ t. live_by (rows_of Turtle fixed) (44 ∷ t)) refl (λ x t. refl); fit = λ w. refl }) (λ e.
+    by_row (IsSingle Turtle) c 91 OpenBracket k _
+    (record { low = omega arith; out = refl; none = refl; front = λ t. refl; closed = on_both (λ t. live_by (rows_of Turtle fixed) (91 ∷ t)) refl (λ x t. refl); fit = λ w. refl }) (λ e.
+    by_row (IsSingle Turtle) c 93 CloseBracket k _
+    (record { low = omega arith; out = refl; none = refl; front = λ t. refl; closed = on_both (λ t. live_by (rows_of Turtle fixed) (93 ∷ t)) refl (λ x t. refl); fit = λ w. refl }) (λ e.
+    by_row (IsSingle Turtle) c 40 OpenParen k _
+    (record { low = omega arith; out = refl; none = refl; front = λ t. refl; closed = on_both (λ t. live_by (rows_of Turtle fixed) (40 ∷ t)) refl (λ x t. refl); fit = λ w. refl }) (λ e.
+    by_row (IsSingle Turtle) c 41 CloseParen k _
+    (record { low = omega arith; out = refl; none = refl; front = λ t. refl; closed = on_both (λ t. live_by (rows_of Turtle fixed) (41 ∷ t)) refl (λ x t. refl); fit = λ w. refl }) (λ e.
+    by_row (IsSingle Turtle) c 123 OpenBrace k _
+    (record { low = omega arith; out = refl; none = refl; front = λ t. refl; closed = on_both (λ t. live_by (rows_of Turtle fixed) (123 ∷ t)) refl (λ x t. refl); fit = λ w. refl }) (λ e.
+    by_row (IsSingle Turtle) c 125 CloseBrace k _
+    (record { low = omega arith; out = refl; none = refl; front = λ t. refl; closed = on_both (λ t. live_by (rows_of Turtle fixed) (125 ∷ t)) refl (λ x t. refl); fit = λ w. refl })
+    (no_row _ k) e) e) e) e) e) e) e) e
+
+-- those of both
+single-is : (d : Dialect) (c : ℕ) (k : Kind) → single d c ≡ Some k → IsSingle d c k
+single-is Lines c k e = single-lines c k e
+single-is Turtle c k e = single-turtle c k e
+
+-- the states behind the first byte, where they have no kind
+first-none : (d : Dialect) (bs : List ℕ) (s : State) → IsUtf8 bs → 0 < length bs → get_or bs 0 0 < 128 → s ≡ step d Start (get_or bs 0 0) → kind_at s ≡ None → Reached d bs 1 s None
+first-none d bs s u l a es k =
+    let c = get_or bs 0 0 in
+    let t = three_quotes d (chars bs) in
+    let none : with_length 1 (only_long t (kind_at s)) None ≡ None = ap (λ k. with_length 1 (only_long t k) None) k ∙ ap (λ k. with_length 1 k None) (no_long t) in
+    subst (Reached d bs 1 s) none (reached-first d bs 1 c s u (ascii_first bs 0 l a) (omega (arith, ap length (encode_ascii c a), length-encode c)) (omega arith) es)
+
+-- a byte that is a token by itself is the token
+pub quick_single : (d : Dialect) (bs : List ℕ) (k : Kind) → IsUtf8 bs → 0 < length bs → single d (get_or bs 0 0) ≡ Some k → IsToken d bs 1 k
+quick_single d [] k u l e = absurd (omega arith)
+quick_single d (c ∷ t) k u l e =
+    let p = single-is d c k e in
+    settled d (c ∷ t) 1 (step d Start c) None (Some (1, k)) 1 k u (first-none d (c ∷ t) (step d Start c) u l p.low refl p.none) p.out (sym (p.front t)) (p.closed t) refl p.fit
+
+-- no character of a spelling is ':'
+abbrev no_colon : Bool → List ℕ → Bool
+no_colon b [] = true
+no_colon b (c ∷ s) = not (fits b c 58) && no_colon b s
+
+-- the same of several spellings
+abbrev no_colons : List Row → Bool
+no_colons [] = true
+no_colons (r ∷ rs) = no_colon r.any_case r.text && no_colons rs
+
+-- what is not true is false
+not_true : (t : Bool) → not t ≡ true → t ≡ false
+not_true true e = absurd (false≢true e)
+not_true false e = refl
+
+-- a spelling at the front of a text ends before a ':'
+begins-short : (b : Bool) (s w : List ℕ) (p : ℕ) → no_colon b s ≡ true → get_or w p 0 ≡ 58 → begins b s w ≡ true → length s ≤ p
+begins-short b [] w p n g e = omega arith
+begins-short b (c ∷ s) [] p n g e = absurd (false≢true e)
+begins-short b (c ∷ s) (x ∷ w) zero n g e =
+    let f : fits b c 58 ≡ true = ap (fits b c) (sym g) ∙ (and_parts _ _ e).0 in
+    absurd (false≢true (sym (not_true _ (and_parts _ _ n).0) ∙ f))
+begins-short b (c ∷ s) (x ∷ w) (suc p) n g e = let h = begins-short b s w p (and_parts (not (fits b c 58)) (no_colon b s) n).1 g (and_parts (fits b c x) (begins b s w) e).1 in omega arith
+
+-- a text with a ':' begins no spelling
+left-none : (b : Bool) (s w : List ℕ) (p : ℕ) → no_colon b s ≡ true → p < length w → get_or w p 0 ≡ 58 → is_begun (left b s w) ≡ false
+left-none b s [] p n l g = absurd (omega arith)
+left-none b [] (x ∷ w) p n l g = refl
+left-none b (c ∷ s) (x ∷ w) zero n l g =
+    let f : fits b c x ≡ false = ap (fits b c) g ∙ not_true _ (and_parts _ _ n).0 in ap (λ t. is_begun (cond t (left b s w) None)) f
+left-none b (c ∷ s) (x ∷ w) (suc p) n l g = go (fits b c x) (left-none b s w p (and_parts _ _ n).1 (omega arith) g)
+  where
+    go : (t : Bool) → is_begun (left b s w) ≡ false → is_begun (cond t (left b s w) None) ≡ false
+    go true h = h
+    go false h = refl
+
+-- a front has at most p characters
+abbrev AtMost : ℕ → Option (ℕ × Kind) → Type 0
+AtMost p None = Unit {0}
+AtMost p (Some x) = x.0 ≤ p
+
+-- the longer of two such fronts is one
+longer-at_most : (p : ℕ) (a b : Option (ℕ × Kind)) → AtMost p a → AtMost p b → AtMost p (longer_front a b)
+longer-at_most p None b h i = i
+longer-at_most p (Some x) None h i = h
+longer-at_most p (Some x) (Some y) h i = go (nat_lt x.0 y.0)
+  where
+    go : (t : Bool) → AtMost p (cond t (Some y) (Some x))
+    go true = i
+    go false = h
+
+-- the longest spelling at the front ends before a ':'
+rows-short : (rs : List Row) (w : List ℕ) (p : ℕ) → no_colons rs ≡ true → get_or w p 0 ≡ 58 → AtMost p (front_by rs w)
+rows-short [] w p n g = tt
+rows-short (r ∷ rs) w p n g =
+    let a = and_parts _ _ n in
+    longer-at_most p (row_front r w) (front_by rs w) (go (begins r.any_case r.text w) (begins-short r.any_case r.text w p a.0 g)) (rows-short rs w p a.1 g)
+  where
+    go : (t : Bool) → (t ≡ true → length r.text ≤ p) → AtMost p (cond t (Some (length r.text, r.kind)) None)
+    go true h = h refl
+    go false h = tt
+
+-- a text with a ':' begins none of several spellings
+rows-none : (rs : List Row) (w : List ℕ) (p : ℕ) → no_colons rs ≡ true → p < length w → get_or w p 0 ≡ 58 → live_by rs w ≡ false
+rows-none [] w p n l g = refl
+rows-none (r ∷ rs) w p n l g =
+    let a = and_parts _ _ n in ap (λ t. t || live_by rs w) (left-none r.any_case r.text w p a.0 l g) ∙ rows-none rs w p a.1 l g
+
+-- a longer front is the longer one
+longer-second : (f : Option (ℕ × Kind)) (p n : ℕ) (k : Kind) → AtMost p f → p < n → longer_front f (Some (n, k)) ≡ Some (n, k)
+longer-second None p n k h l = refl
+longer-second (Some x) p n k h l = let i : x.0 ≤ p = h in ap (λ t. cond t (Some (n, k)) (Some x)) (lt-ltb x.0 n (omega arith))
+
+-- a state behind a character of a local part
+abbrev at_local : State → Bool
+at_local (Name name.Local) = true
+at_local s = false
+
+-- such a state
+local-state : (s : State) → at_local s ≡ true → s ≡ Name name.Local
+local-state (Name name.Local) e = refl
+local-state s e = absurd (false≢true e)
+
+-- the state behind what is no name
+abbrev at_dead : State → Bool
+at_dead (Name name.Dead) = true
+at_dead s = false
+
+-- that state
+dead-state : (s : State) → at_dead s ≡ true → s ≡ Name name.Dead
+dead-state (Name name.Dead) e = refl
+dead-state s e = absurd (false≢true e)
+
+-- each byte of ASCII: one of a name but '-' begins a local part
+abbrev local_tests : ℕ → Bool
+local_tests c = not (is_name_byte c) || (c == 45 || at_local (step Turtle (Name name.Colon) c))
+
+-- and one that ends a name leads to no state, from behind the colon and within a local part
+abbrev end_tests : ℕ → Bool
+end_tests c = not (ends_name c) || (is_name_byte c || (at_dead (step Turtle (Name name.Colon) c) && at_dead (step Turtle (Name name.Local) c)))
+
+-- the bytes of a run of names are ASCII
+low-name : (c : ℕ) → is_name_byte c ≡ true → c < 128
+low-name c e = grind (arith, nat_tests)
+
+-- one of two holds that does not fail
+other : (a b : Bool) → (a || b) ≡ true → a ≡ false → b ≡ true
+other true b e h = absurd (false≢true (sym h))
+other false b e h = e
+
+-- a local part begins behind the colon
+local-first : (c : ℕ) → is_name_byte c ≡ true → (c == 45) ≡ false → step Turtle (Name name.Colon) c ≡ Name name.Local
+local-first c e h =
+    local-state _ (other (c == 45) _ (implied (is_name_byte c) _ (agree_below_at local_tests (λ c. true) 128 c refl (low-name c e)) e) h)
+
+-- another byte than '-'
+no_hyphen : (c : ℕ) → (c ≡ 45 → ⊥) → (c == 45) ≡ false
+no_hyphen c n = go (c == 45) refl
+  where
+    go : (t : Bool) → (c == 45) ≡ t → (c == 45) ≡ false
+    go true x = absurd (n (eqb-true c 45 x))
+    go false x = x
+
+-- a byte that ends a name
+end-steps : (c : ℕ) → ends_name c ≡ true → is_name_byte c ≡ false → (step Turtle (Name name.Colon) c ≡ Name name.Dead) × (step Turtle (Name name.Local) c ≡ Name name.Dead)
+end-steps c e h =
+    let low : c < 128 = ltb-true c 128 (and_parts _ _ e).0 in
+    let p = and_parts _ _ (other (is_name_byte c) _ (implied (ends_name c) _ (agree_below_at end_tests (λ c. true) 128 c refl low) e) h) in
+    (dead-state _ p.0, dead-state _ p.1)
+
+-- no escape of a name is bad
+name-fit : (w : List ℕ) → (is_fit PnameNs w ≡ true) × (is_fit PnameLn w ≡ true)
+unfolding is_fit
+name-fit w = (refl, refl)
+
+-- A run of name bytes that begins with a letter, a colon, and a run of name bytes behind it that ends before the text does.
+module _ (bs : List ℕ) (colon end : ℕ) (u : IsUtf8 bs) (l : 0 < length bs) (e : is_letter (get_or bs 0 0) ≡ true) (r : IsRun is_name_byte bs 1 colon)
+    (m : is_colon bs colon ≡ true) (q : IsRun is_name_byte bs (colon + 1) end) (z : is_name_end bs end ≡ true) where
+  -- such a text does not begin with three quotes
+  quotes : three_quotes Turtle (chars bs) ≡ false
+  quotes =
+      let c = get_or bs 0 0 in
+      ap (three_quotes Turtle) (one_on bs 0 (at-start bs u) l (low-letter c e)).0 ∙ no_quotes c _ e
+
+  -- one byte of ASCII on
+  byte_on : (at : ℕ) (s t : State) (k : Option Kind) (b : Option (ℕ × Kind)) → at < length bs → get_or bs at 0 < 128 → Reached Turtle bs at s b →
+      t ≡ step Turtle s (get_or bs at 0) → k ≡ kind_at t → Reached Turtle bs (at + 1) t (with_length (at + 1) k b)
+  byte_on at s t k b i a h es ek =
+      let c = get_or bs at 0 in
+      reached-step Turtle bs at (at + 1) c s t k b (with_length (at + 1) k b) h (ascii_first bs at i a) (omega (arith, ap length (encode_ascii c a), length-encode c)) (omega arith) es
+      (ek ∙ sym (ap (λ x. only_long x (kind_at t)) quotes)) refl
+
+  inside : colon < length bs
+  inside = ltb-true colon (length bs) (and_parts _ _ m).0
+
+  is_58 : get_or bs colon 0 ≡ 58
+  is_58 = eqb-true (get_or bs colon 0) 58 (and_parts _ _ m).1
+
+  -- the states behind the colon
+  behind : Reached Turtle bs (colon + 1) (Name name.Colon) (Some (colon + 1, PnameNs))
+  behind =
+      let c = get_or bs 0 0 in
+      let none = sym (no_long (three_quotes Turtle (chars bs))) in
+      let first = first-none Turtle bs (Name name.Prefix) u l (low-letter c e) (sym (letter_steps c e).0) refl in
+      let prefix = reached-run Turtle bs 1 colon (Name name.Prefix) None None none (rests_prefix bs 1 colon r) first in
+      let i = inside in
+      byte_on colon (Name name.Prefix) (Name name.Colon) (Some PnameNs) None i (omega (arith, is_58)) prefix (ap (step Turtle (Name name.Prefix)) (sym is_58)) refl
+
+  -- and behind the byte that ends the name
+  over : (s : State) (k : Kind) → Reached Turtle bs end s (Some (end, k)) → step Turtle s (get_or bs end 0) ≡ Name name.Dead → ((w : List ℕ) → is_fit k w ≡ true) → IsToken Turtle bs end k
+  over s k h x t =
+      let c = get_or bs end 0 in
+      let p = and_parts _ _ z in
+      let i = inside in
+      let from = q.from in
+      let f = front_by (rows_of Turtle fixed) bs in
+      let low : c < 128 = ltb-true c 128 (and_parts _ _ p.1).0 in
+      settled Turtle bs (end + 1) (Name name.Dead) (Some (end, k)) f end k u (byte_on end s (Name name.Dead) None (Some (end, k)) (ltb-true end (length bs) p.0) low h (sym x) refl) refl refl
+      (rows-none (rows_of Turtle fixed) bs colon refl i is_58)
+      (longer-second f colon end k (rows-short (rows_of Turtle fixed) bs colon refl is_58) (omega arith)) t
+
+  ended : (step Turtle (Name name.Colon) (get_or bs end 0) ≡ Name name.Dead) × (step Turtle (Name name.Local) (get_or bs end 0) ≡ Name name.Dead)
+  ended = let p = and_parts _ _ z in end-steps (get_or bs end 0) p.1 (q.stops (ltb-true end (length bs) p.0))
+
+  -- nothing stands behind the colon, and the token is a namespace
+  pub quick_namespace : end ≡ colon + 1 → IsToken Turtle bs end PnameNs
+  quick_namespace x = over (Name name.Colon) PnameNs (subst (λ n. Reached Turtle bs n (Name name.Colon) (Some (n, PnameNs))) (sym x) behind) ended.0 (λ w. (name-fit w).0)
+
+  -- a local part stands there
+  pub quick_local : (end ≡ colon + 1 → ⊥) → (get_or bs (colon + 1) 0 ≡ 45 → ⊥) → IsToken Turtle bs end PnameLn
+  quick_local n h =
+      let from = q.from in
+      let within = q.within in
+      let more : colon + 1 < end = omega (arith, n) in
+      let c = get_or bs (colon + 1) 0 in
+      let named : is_name_byte c ≡ true = q.pass (colon + 1) (omega arith) more in
+      let first = byte_on (colon + 1) (Name name.Colon) (Name name.Local) (Some PnameLn) (Some (colon + 1, PnameNs)) (omega arith) (low-name c named) behind (sym (local-first c named (no_hyphen c h))) refl in
+      let rest : IsRun is_name_byte bs (colon + 1 + 1) end = record { from = omega arith; within = within; pass = λ k a b. q.pass k (omega arith) b; stops = q.stops } in
+      let kind : Some PnameLn ≡ only_long (three_quotes Turtle (chars bs)) (Some PnameLn) = sym (ap (λ x. only_long x (Some PnameLn)) quotes) in
+      let all = reached-run Turtle bs (colon + 1 + 1) end (Name name.Local) (Some PnameLn) (Some (colon + 1, PnameNs)) kind (rests_local bs (colon + 1 + 1) end rest) first in
+      over (Name name.Local) PnameLn all ended.1 (λ w. (name-fit w).1)
+
+-- what is told of the first byte is a token
+pub quick_kind : (d : Dialect) (bs : List ℕ) (o : Option Kind) → IsUtf8 bs → 0 < length bs → o ≡ single d (get_or bs 0 0) → IsQuick d bs 1 o
+quick_kind d bs None u l e = tt
+quick_kind d bs (Some k) u l e = quick_single d bs k u l (sym e)
+
+-- a length that is not 0
+pub some-bytes : (n : ℕ) → (n == 0) ≡ false → 0 < n
+some-bytes n e = grind (arith, nat_tests)
+
+-- where a name is sought
+pub sought : (d : Dialect) (bs : List ℕ) (b : Option Bare) → is_sought d bs b ≡ true → (d ≡ Turtle) × (is_letter (get_or bs 0 0) ≡ true)
+sought Lines bs b e = absurd (false≢true (and_parts _ _ e).1)
+sought Turtle bs b e = (refl, (and_parts _ _ e).1)

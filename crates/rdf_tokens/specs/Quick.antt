@@ -1,0 +1,51 @@
+-- Tokens that the first bytes of a text settle.
+use Rattle.std.specs.Prelude.{◌≡◌, ℕ, Bool, true, false, cond, not, ◌&&◌, ◌||◌, ◌==◌, nat_lt, List, [], ◌∷◌, length, take, get_or, Option, None, Some}
+use Rattle.std.specs.Str.{chars}
+use Rattle.rdf_terms.specs.declared.kind.Dialect.{Dialect}
+use Rattle.rdf_terms.specs.declared.kind.Dialect.TheVariants.{Lines, Turtle}
+use Rattle.rdf_terms.specs.declared.kind.Kind.{Kind}
+use Rattle.rdf_terms.specs.declared.kind.Kind.TheVariants.{Dot, LineEnd, Semicolon, Comma, OpenBracket, CloseBracket, OpenParen, CloseParen, OpenBrace, CloseBrace}
+use Rattle.rdf_terms.specs.Classes.{is_letter, is_turtle, one_of}
+use Rattle.rdf_terms.specs.Shapes.{is_live}
+use Rattle.rdf_terms.specs.Values.{is_fit}
+use Rattle.rdf_tokens.specs.declared.front.Bare.{Bare}
+use Rattle.rdf_tokens.specs.Tokens.{longest}
+use Rattle.rdf_tokens.specs.Front.{in_bytes}
+
+-- The text begins with this token of so many bytes, and with no longer one, whatever may come after it. Its escapes are fit.
+pub record IsToken (d : Dialect) (bs : List ℕ) (n : ℕ) (k : Kind) : Type 0 where
+  pub best : in_bytes (chars bs) (longest d (chars bs) (length (chars bs))) ≡ Some (n, k)
+  pub closed : is_live d (chars bs) ≡ false
+  pub fit : (w : List ℕ) → is_fit k w ≡ true
+
+-- It is so where a kind is told.
+abbrev pub IsQuick : Dialect → List ℕ → ℕ → Option Kind → Type 0
+IsQuick d bs n None = Unit {0}
+IsQuick d bs n (Some k) = IsToken d bs n k
+
+-- the kind of a byte that is a token whatever comes after it
+abbrev pub single : Dialect → ℕ → Option Kind
+single Lines c = cond (c == 46) (Some Dot) (cond (c == 13) (Some LineEnd) (cond (c == 10) (Some LineEnd) None))
+single Turtle c = cond (c == 59) (Some Semicolon) (cond (c == 44) (Some Comma) (cond (c == 91) (Some OpenBracket) (cond (c == 93) (Some CloseBracket)
+    (cond (c == 40) (Some OpenParen) (cond (c == 41) (Some CloseParen) (cond (c == 123) (Some OpenBrace) (cond (c == 125) (Some CloseBrace) None)))))))
+
+-- the text is longer than what is left behind the run without names
+abbrev pub stands_bare : ℕ → Option Bare → Bool
+stands_bare n None = false
+stands_bare n (Some b) = nat_lt b.left n
+
+-- a letter of Turtle, at which names were not sought before
+abbrev pub is_sought : Dialect → List ℕ → Option Bare → Bool
+is_sought d bs b = not (stands_bare (length bs) b) && (is_turtle d && is_letter (get_or bs 0 0))
+
+-- ':' stands at a place
+abbrev pub is_colon : List ℕ → ℕ → Bool
+is_colon bs at = nat_lt at (length bs) && get_or bs at 0 == 58
+
+-- a byte of ASCII that is none of ':', '.', '%' and a backslash: no name goes on with it but with a letter, a digit, '_' or '-'
+abbrev pub ends_name : ℕ → Bool
+ends_name b = nat_lt b 128 && not (one_of (58 ∷ 46 ∷ 37 ∷ 92 ∷ []) b)
+
+-- such a byte stands at a place
+abbrev pub is_name_end : List ℕ → ℕ → Bool
+is_name_end bs at = nat_lt at (length bs) && ends_name (get_or bs at 0)
