@@ -1,5 +1,5 @@
 -- In ASCII each byte that is written is below 128, where the labels have such characters alone.
-use Rattle.std.proofs.Common.{◌≡◌, ℕ, ◌+◌, ◌<◌, ◌/◌, ◌%◌, zero, suc, Bool, true, false, cond, List, [], ◌∷◌, ◌++◌, ◌==◌, nat_le, refl, sym, ap, ◌∙◌, subst, ⊎_elim, Option, Some, None, option_map, arith}
+use Rattle.std.proofs.Common.{◌≡◌, ℕ, ◌<◌, ◌/◌, ◌%◌, zero, suc, Bool, true, false, List, [], ◌∷◌, ◌++◌, ◌==◌, nat_le, refl, sym, ap, ◌∙◌, subst, Option, Some, None, option_map, arith}
 use Rattle.std.specs.Prelude.{flat_map, encode_utf8_all, decimal, bytes_eq}
 use Rattle.std.specs.Fmt.{digits, digits_onto, digit_glyph}
 use Rattle.std.specs.List.{AllByRecursion}
@@ -8,14 +8,13 @@ use Rattle.std.proofs.lemmas.Bool.Decides.{nat_tests}
 use Rattle.std.proofs.lemmas.Str.{encode_ascii}
 use Rattle.std.proofs.Math.Utf8.{encodes, scalar, scalars}
 use Rattle.rdf_terms.specs.Classes.{has}
-use Rattle.rdf_terms.specs.Regex.{Regex, Matches}
 use Rattle.rdf_terms.specs.Shapes.{tag_name}
 use Rattle.rdf_terms.specs.Terms.{Node, Label, Anon, Cell, Tail, Lang, Typed, Subject, Iri, Blank, Term, Resource, Literal, Quad, xsd_string, IsTag, IsTail, IsTerm, IsQuad}
 use Rattle.rdf_terms.proofs.UsedCharacters.{uses, all_used}
 use Rattle.rdf_lines.specs.declared.form.Escapes.TheVariants.{Ascii}
 use Rattle.rdf_lines.specs.declared.form.Style.{Style}
 use Rattle.rdf_lines.specs.declared.form.Style.TheVariants.{Kept, Tagged}
-use Rattle.rdf_lines.specs.Writing.{uchar, written, escaped, iri_text, node_text, subject_text, string_text, type_text, tail_text, term_text, space, graph_text, quad_text, line, text, rename_node, rename_subject, rename_term, rename, Writable, HasAsciiLabel, SubjectHasAsciiLabel, TermHasAsciiLabel, GraphHasAsciiLabel, HasAsciiLabels}
+use Rattle.rdf_lines.specs.Writing.{uchar, written, escaped, iri_text, node_text, subject_text, string_text, type_text, tail_text, term_text, space, graph_text, line, text, rename_node, rename_subject, rename_term, Writable, HasAsciiLabel, SubjectHasAsciiLabel, TermHasAsciiLabel, GraphHasAsciiLabel, HasAsciiLabels}
 use Rattle.rdf_lines.specs.Laws.{AsciiIsWritten}
 use Rattle.rdf_lines.proofs.UcharLemmas.{uchar_low}
 
@@ -34,7 +33,7 @@ low_scalars (c ∷ w) a = and_from _ _ (low_scalar c a.0) (low_scalars w a.1)
     low_scalar : (c : ℕ) → c < 128 → scalar c ≡ true
     low_scalar c l = grind (arith, nat_tests)
 
-joined : (u v : List ℕ) → AllLow u → AllLow v → AllLow (u ++ v)
+pub joined : (u v : List ℕ) → AllLow u → AllLow v → AllLow (u ++ v)
 joined [] v a b = b
 joined (c ∷ u) v a b = (a.0, joined u v a.1 b)
 
@@ -71,7 +70,7 @@ digits_low (suc k) n w a =
     glyph_low : (d : ℕ) → d < 10 → digit_glyph false d < 128
     glyph_low d l = grind (arith, nat_tests)
 
-number_low : (n : ℕ) → AllLow (decimal n)
+pub number_low : (n : ℕ) → AllLow (decimal n)
 unfolding digits
 number_low n = digits_low 64 n [] tt
 

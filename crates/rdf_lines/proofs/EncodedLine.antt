@@ -1,12 +1,11 @@
 -- The bytes of a line are those of its parts, one after the other.
-use Rattle.std.proofs.Common.{◌≡◌, ℕ, zero, suc, ◌<◌, ◌≤◌, ◌/◌, ◌%◌, Bool, true, false, cond, List, [], ◌∷◌, ◌++◌, ◌==◌, nat_le, refl, sym, ap, ◌∙◌, subst, ⊎_elim, Option, Some, None, arith}
-use Rattle.std.specs.Prelude.{flat_map, option_map, encode_utf8_all, decimal, bytes_eq, chars, IsUtf8}
+use Rattle.std.proofs.Common.{◌≡◌, ℕ, zero, suc, ◌<◌, ◌≤◌, ◌/◌, ◌%◌, false, List, [], ◌∷◌, ◌++◌, ◌==◌, refl, sym, ap, ◌∙◌, subst, ⊎_elim, Some, arith}
+use Rattle.std.specs.Prelude.{option_map, encode_utf8_all, decimal, bytes_eq, chars, IsUtf8}
 use Rattle.std.specs.Fmt.{digits, digits_onto, digit_glyph}
 use Rattle.std.specs.List.{AllByRecursion}
 use Rattle.std.proofs.Math.Utf8.{encode, encodes}
-use Rattle.std.proofs.lemmas.Bool.{cases_Bool, cases_lt, cond-true, cond-false, cond_both, false_from_ne_true, false≢true}
+use Rattle.std.proofs.lemmas.Bool.{cases_Bool, cases_lt, cond-true, cond-false, false_from_ne_true, false≢true}
 use Rattle.std.proofs.lemmas.Bool.Decides.{nat_tests}
-use Rattle.std.proofs.lemmas.List.{append-nil}
 use Rattle.std.proofs.lemmas.Slice.Eq.{bytes_eq-Decides}
 use Rattle.std.proofs.lemmas.Str.{IsUtf8-had, encodes-append, encodes-chars, encode_ascii, encodes_same}
 use Rattle.rdf_terms.specs.declared.views.NodeRef.{NodeRef}
@@ -15,17 +14,17 @@ use Rattle.rdf_terms.specs.declared.views.TailRef.{TailRef}
 use Rattle.rdf_terms.specs.declared.views.SubjectRef.{SubjectRef}
 use Rattle.rdf_terms.specs.declared.views.QuadRef.{QuadRef}
 use Rattle.rdf_terms.specs.declared.views.TagView.{TagView}
-use Rattle.rdf_terms.specs.Terms.{xsd_string}
-use Rattle.rdf_terms.specs.Views.{node_by, tail_by, subject_by, term_by, quad_of, iri_chars}
+use Rattle.rdf_terms.specs.Terms.{Node, Label, Anon, Cell, xsd_string}
+use Rattle.rdf_terms.specs.Views.{node_of, tail_by, subject_by, term_by, iri_chars}
 use Rattle.rdf_tokens.proofs.GoodLemmas.{encode_two, encode_three, encode_four}
 use Rattle.rdf_lines.specs.declared.form.Escapes.{Escapes}
-use Rattle.rdf_lines.specs.declared.form.Escapes.TheVariants.{Plain, Ascii}
 use Rattle.rdf_lines.specs.declared.form.Style.{Style}
 use Rattle.rdf_lines.specs.declared.form.Style.TheVariants.{Kept, Tagged}
-use Rattle.rdf_lines.specs.Writing.{uchar, written, escaped, rename_node, rename_subject, rename_term, iri_text, node_text, subject_text, string_text, type_text, tail_text, term_text, space, graph_text, line}
-use Rattle.rdf_lines.specs.WrittenBytes.{iri_bytes, node_bytes, subject_bytes, term_bytes, graph_bytes, line_bytes, string_bytes_of, escaped_bytes, tail_bytes}
-use Rattle.rdf_lines.proofs.AsciiLemmas.{low_encodes}
-use Rattle.rdf_lines.proofs.UcharLemmas.{uchar_low}
+use Rattle.rdf_lines.specs.declared.prefix.NodePrefixView.{NodePrefixView}
+use Rattle.rdf_lines.specs.Forms.{prefix_chars}
+use Rattle.rdf_lines.specs.NodePrefixes.{Form, prefix_node, name_subject, name_term, name_graph}
+use Rattle.rdf_lines.specs.Writing.{CanWriteNode, rename_node, iri_text, node_text, subject_text, string_text, tail_text, term_text, space, graph_text}
+use Rattle.rdf_lines.specs.WrittenBytes.{IsNamed, iri_bytes, node_bytes, subject_bytes, term_bytes, graph_bytes, line_bytes, string_bytes_of, tail_bytes}
 
 -- an ASCII character is its own byte
 pub low : (c : ℕ) (w : List ℕ) → c < 128 → encodes (c ∷ w) ≡ c ∷ encodes w
@@ -51,8 +50,8 @@ pub between : (a b : ℕ) (w : List ℕ) → a < 128 → b < 128 → encode_utf8
 between a b w l m = low a (w ++ b ∷ []) l ∙ ap (λ x. a ∷ x) (encodes-append w (b ∷ []) ∙ ap (λ x. encodes w ++ x) (low b [] m))
 
 -- a label with its `_:`, in bytes
-named : (w v : List ℕ) → encodes w ≡ v → encodes (95 ∷ 58 ∷ w) ≡ 95 ∷ 58 ∷ v
-named w v e = low 95 (58 ∷ w) (omega arith) ∙ ap (λ x. 95 ∷ x) (low 58 w (omega arith) ∙ ap (λ x. 58 ∷ x) e)
+in_front : (w v : List ℕ) → encodes w ≡ v → encodes (95 ∷ 58 ∷ w) ≡ 95 ∷ 58 ∷ v
+in_front w v e = low 95 (58 ∷ w) (omega arith) ∙ ap (λ x. 95 ∷ x) (low 58 w (omega arith) ∙ ap (λ x. 58 ∷ x) e)
 
 -- a text after an ASCII character, in bytes
 pub after : (c : ℕ) (w v : List ℕ) → c < 128 → encode_utf8_all w ≡ v → encode_utf8_all (c ∷ w) ≡ c ∷ v
@@ -74,18 +73,41 @@ number : (n : ℕ) → encodes (decimal n) ≡ decimal n
 unfolding digits
 number n = encoded_digits 64 n [] refl
 
--- the text of a node, where labels are their own bytes
-abbrev pub bytes : List ℕ → List ℕ
-bytes w = w
+-- the label that the style gives a node, its bytes known
+pub encoded_label : (s : Style) (n : NodeRef) (w : List ℕ) → IsNamed s n w → (x : List ℕ) × (rename_node s (node_of n) ≡ Label x) × (encodes x ≡ w)
+encoded_label Kept (node_ref.Label v) w e = let z : v.text.now ≡ w = cc in (chars v.text.now, refl, text v.text.now (IsUtf8-had _ v.utf8) ∙ z)
+encoded_label Kept (node_ref.Anon n) w e = absurd (let z : Anon n ≡ Label w = e in cc)
+encoded_label Kept (node_ref.Cell n) w e = absurd (let z : Cell n ≡ Label w = e in cc)
+encoded_label Tagged (node_ref.Label v) w e =
+    let z : 110 ∷ v.text.now ≡ w = cc in
+    (110 ∷ chars v.text.now, refl, after 110 (chars v.text.now) v.text.now (omega arith) (text v.text.now (IsUtf8-had _ v.utf8)) ∙ z)
+encoded_label Tagged (node_ref.Anon n) w e = let z : 97 ∷ decimal n ≡ w = cc in (97 ∷ decimal n, refl, after 97 (decimal n) (decimal n) (omega arith) (number n) ∙ z)
+encoded_label Tagged (node_ref.Cell n) w e = let z : 99 ∷ decimal n ≡ w = cc in (99 ∷ decimal n, refl, after 99 (decimal n) (decimal n) (omega arith) (number n) ∙ z)
 
--- a blank node as the style names it, in bytes
-pub encoded_node : (s : Style) (n : NodeRef) → node_bytes s n ≡ node_text (rename_node s (node_by bytes n))
-encoded_node Kept (node_ref.Label v) = named (chars v.text.now) v.text.now (text v.text.now (IsUtf8-had _ v.utf8))
-encoded_node Kept (node_ref.Anon n) = refl
-encoded_node Kept (node_ref.Cell n) = refl
-encoded_node Tagged (node_ref.Label v) = named (110 ∷ chars v.text.now) (110 ∷ v.text.now) (after 110 (chars v.text.now) v.text.now (omega arith) (text v.text.now (IsUtf8-had _ v.utf8)))
-encoded_node Tagged (node_ref.Anon n) = named (97 ∷ decimal n) (97 ∷ decimal n) (after 97 (decimal n) (decimal n) (omega arith) (number n))
-encoded_node Tagged (node_ref.Cell n) = named (99 ∷ decimal n) (99 ∷ decimal n) (after 99 (decimal n) (decimal n) (omega arith) (number n))
+-- the name of a node, in bytes
+pub encoded_name : (s : Style) (n : NodeRef) (w : List ℕ) → IsNamed s n w → encodes (node_text (rename_node s (node_of n))) ≡ 95 ∷ 58 ∷ w
+encoded_name s n w e = let (x, is, b) = encoded_label s n w e in ap (λ m. encodes (node_text m)) is ∙ in_front x w b
+
+-- the same with a word in front
+pub encoded_node : (f : Form) (n : NodeRef) (p w : List ℕ) → encodes f.prefix ≡ p → IsNamed f.style n w → node_bytes f n ≡ 95 ∷ 58 ∷ (p ++ w)
+encoded_node f n p w h e =
+    let (x, is, b) = encoded_label f.style n w e in
+    ap (λ m. encodes (node_text (prefix_node f.prefix m))) is
+    ∙ in_front (f.prefix ++ x) (p ++ w) (encodes-append f.prefix x ∙ (ap (λ y. y ++ encodes x) h ∙ ap (λ y. p ++ y) b))
+
+-- a word is its own bytes
+pub encoded_prefix : (v : NodePrefixView) → encodes (prefix_chars v) ≡ v.word.now
+encoded_prefix v = text v.word.now (IsUtf8-had _ v.utf8)
+
+-- a node that the style can't write has no text
+pub encoded_none : (f : Form) (n : NodeRef) → (CanWriteNode f.style (node_of n) → ⊥) → node_bytes f n ≡ []
+encoded_none f n h = ap encodes (by f.style (node_of n) h)
+  where
+    by : (s : Style) (m : Node) → (CanWriteNode s m → ⊥) → node_text (prefix_node f.prefix (rename_node s m)) ≡ []
+    by Kept (Label x) h = absurd (h tt)
+    by Kept (Anon n) h = refl
+    by Kept (Cell n) h = refl
+    by Tagged m h = absurd (h tt)
 
 -- a tag
 pub encoded_tag : (v : TagView) → encode_utf8_all (64 ∷ chars v.text.now) ≡ 64 ∷ v.text.now
@@ -125,20 +147,20 @@ itself : (u : List ℕ) → Coded u (encodes u)
 itself u = record { is = refl }
 
 -- a graph label, and its space
-pub encoded_graph : (s : Style) (e : Escapes) (g : SubjectRef) → graph_bytes s e (Some g) ≡ subject_bytes s e g ++ space
-encoded_graph s e g = (joined (itself (subject_text e (rename_subject s (subject_by chars g)))) blank).is
+pub encoded_graph : (f : Form) (g : SubjectRef) → graph_bytes f (Some g) ≡ subject_bytes f g ++ space
+encoded_graph f g = (joined (itself (subject_text f.escapes (name_subject f (subject_by chars g)))) blank).is
 
 -- the line that is written from bytes is the UTF-8 of the line by the definition
-pub encoded_line : (s : Style) (e : Escapes) (q : QuadRef) →
-    line_bytes s e q ≡ (subject_bytes s e q.subject ++ space) ++ (iri_bytes e q.predicate ++ space) ++ (term_bytes s e q.object ++ space) ++ graph_bytes s e q.graph ++ (46 ∷ []) ++ (10 ∷ [])
-encoded_line s e q =
-    let a = joined (itself (subject_text e (rename_subject s (subject_by chars q.subject)))) blank in
-    let b = joined (itself (iri_text e (iri_chars q.predicate))) blank in
-    let c = joined (itself (term_text e (rename_term s (term_by chars q.object)))) blank in
-    let d = itself (graph_text e (option_map (rename_subject s) (option_map (subject_by chars) q.graph))) in
-    let f : Coded (46 ∷ []) (46 ∷ []) = record { is = low 46 [] (omega arith) } in
-    let g : Coded (10 ∷ []) (10 ∷ []) = record { is = low 10 [] (omega arith) } in
-    (joined (joined (joined (joined (joined a b) c) d) f) g).is
+pub encoded_line : (f : Form) (q : QuadRef) →
+    line_bytes f q ≡ (subject_bytes f q.subject ++ space) ++ (iri_bytes f.escapes q.predicate ++ space) ++ (term_bytes f q.object ++ space) ++ graph_bytes f q.graph ++ (46 ∷ []) ++ (10 ∷ [])
+encoded_line f q =
+    let a = joined (itself (subject_text f.escapes (name_subject f (subject_by chars q.subject)))) blank in
+    let b = joined (itself (iri_text f.escapes (iri_chars q.predicate))) blank in
+    let c = joined (itself (term_text f.escapes (name_term f (term_by chars q.object)))) blank in
+    let d = itself (graph_text f.escapes (name_graph f (option_map (subject_by chars) q.graph))) in
+    let dot : Coded (46 ∷ []) (46 ∷ []) = record { is = low 46 [] (omega arith) } in
+    let feed : Coded (10 ∷ []) (10 ∷ []) = record { is = low 10 [] (omega arith) } in
+    (joined (joined (joined (joined (joined a b) c) d) dot) feed).is
 
 -- a string, and what follows it
 pub literal_bytes : (e : Escapes) (w : List ℕ) (t : TailRef) → encode_utf8_all (string_text e (chars w) ++ tail_text e (tail_by chars t)) ≡ string_bytes_of e w ++ tail_bytes e t

@@ -1,5 +1,5 @@
 -- The laws at two quads that have each kind of node, a string with characters that are escaped, and a graph label; and at a document of one line.
-use Rattle.std.proofs.Common.{◌≡◌, ◌≢◌, ℕ, ◌<◌, true, false, List, [], ◌∷◌, ◌++◌, refl, sym, ◌∙◌, subst, Some, None, lit<, lit≤}
+use Rattle.std.proofs.Common.{◌≡◌, ◌≢◌, ℕ, ◌<◌, true, false, List, [], ◌∷◌, ◌++◌, refl, sym, ◌∙◌, subst, Some, None, arith, lit<, lit≤}
 use Rattle.std.specs.Prelude.{codes, map, encode_utf8_all}
 use Rattle.std.specs.List.{AllByRecursion}
 use Rattle.std.proofs.Math.Utf8.{encode}
@@ -17,7 +17,7 @@ use Rattle.rdf_terms.specs.Terms.{Label, Anon, Cell, Lang, Iri, Blank, Resource,
 use Rattle.rdf_tokens.specs.Tokens.{Place, Token, step, read, tokens}
 use Rattle.rdf_tokens.specs.Tokens.Outcome.{complete, token_too_long}
 use Rattle.rdf_tokens.specs.Good.{tokens_of}
-use Rattle.rdf_tokens.specs.Grammars.{Marked, unmarked, Due, IsWithin, GoesOn, Refused, IsReadToItsEnd}
+use Rattle.rdf_tokens.specs.Grammars.{Marked, unmarked, Due, IsDocumentOf, IsWithin, GoesOn, Refused, IsReadToItsEnd}
 use Rattle.rdf_driver.specs.Readers.{Driven, HasRead}
 use Rattle.rdf_lines.specs.declared.form.LineForm.TheVariants.{NTriples, NQuads}
 use Rattle.rdf_terms.proofs.ShapesLemmas.{form-matches}
@@ -28,14 +28,17 @@ use Rattle.rdf_lines.specs.Machine.{Begin, ran, run}
 use Rattle.rdf_lines.specs.Documents.{in_lines}
 use Rattle.rdf_lines.specs.Accepting.{LineAt, line_words}
 use Rattle.rdf_lines.specs.Writing.{Writable, rename, rename_node, text}
-use Rattle.rdf_lines.specs.Laws.{ReadsBack, IrisWithin, TokensWithin}
+use Rattle.rdf_lines.specs.NodePrefixes.{Form, unprefixed, name_node, named, text_in}
+use Rattle.rdf_lines.specs.Laws.{ReadsBack, ReadsBackIn, IrisWithin, TokensWithin}
 use Rattle.rdf_lines.proofs.AcceptedLemmas.{quads_due, documents_read, refused_none, text_read}
 use Rattle.rdf_lines.proofs.Due.{due_ran}
 use Rattle.rdf_lines.proofs.SettledLemmas.{quads_settled, due_settled, due_begins}
 use Rattle.rdf_lines.proofs.AsciiLemmas.{ascii_written}
 use Rattle.rdf_lines.proofs.ReadBack.{bytes_read_back, tokens_read_back}
 use Rattle.rdf_lines.proofs.WellFormed.{document_writable}
-use Rattle.rdf_lines.proofs.WrittenLimits.{document_read_back}
+use Rattle.rdf_lines.proofs.WrittenLimits.{document_read_back, form_document_read}
+use Rattle.rdf_lines.proofs.FormReadBack.{form_reads_back, form_text_read, joined_read_back, form_ascii}
+use Rattle.rdf_lines.proofs.NodePrefixLemmas.{text_unprefixed, names_apart, forms_apart}
 use Rattle.rdf_lines.proofs.Renamed.{rename_injective}
 
 abbrev iri : List ℕ
@@ -106,6 +109,50 @@ ascii_is_low = ascii_written Tagged faces faces_writable (record { subject = low
 pub ascii_reads_back : ReadsBack Tagged Ascii faces 60
 ascii_reads_back = bytes_read_back Tagged Ascii faces 60 faces_writable (lit≤ tt)
 
+-- with a word in front of the names
+abbrev word : List ℕ
+word = codes "a7"
+
+abbrev other : List ℕ
+other = codes "b7"
+
+abbrev with_word : Form
+with_word = record { style = Tagged; escapes = Plain; prefix = word }
+
+abbrev with_other : Form
+with_other = record { style = Tagged; escapes = Plain; prefix = other }
+
+pub prefixed_written : text_in with_word example ≡ codes "_:a7na27 <http://a/p> _:a7a27 .\n_:a7c27 <http://a/p> \"\\\"\\né\"@en-GB <http://a/p> .\n"
+unfolding digits
+prefixed_written = refl
+
+pub prefixed_reads_back : ReadsBackIn with_word example 86
+unfolding digits
+prefixed_reads_back = form_reads_back with_word example 86 refl writable (lit≤ tt)
+
+-- two such texts in a row, whose nodes stay apart
+pub joined_reads_back : IsDocumentOf (in_lines NQuads 180 10) (encode_utf8_all (text_in with_word example) ++ encode_utf8_all (text_in with_other example))
+    (map (named with_word) example ++ map (named with_other) example)
+unfolding digits
+joined_reads_back = joined_read_back with_word with_other example example 180 10 refl refl refl writable writable (lit≤ tt)
+
+pub one_label_in_two_documents_apart : name_node with_word (Label label) ≢ name_node with_other (Label label)
+one_label_in_two_documents_apart = forms_apart with_word with_other (Label label) (Label label) refl (λ e. let z : 97 ≡ 98 = heads e in omega arith) tt tt
+  where
+    heads : {c d : ℕ} {u v : List ℕ} → c ∷ u ≡ d ∷ v → c ≡ d
+    heads e = cc
+
+pub label_and_node_apart_with_a_word : name_node with_word (Label label) ≢ name_node with_word (Anon 27)
+label_and_node_apart_with_a_word e = let same : Label label ≡ Anon 27 = names_apart with_word (Label label) (Anon 27) label_is (lit< tt) e in cc
+
+-- in ASCII with a word
+pub prefixed_is_low : AllByRecursion (λ b. b < 128) (encode_utf8_all (text_in (record { style = Tagged; escapes = Ascii; prefix = word }) faces))
+prefixed_is_low = form_ascii Tagged word faces refl faces_writable (record { subject = low_label; object = tt; graph = tt }, tt)
+
+-- the empty word changes nothing
+pub example_without_a_word : text_in (unprefixed Tagged Plain) example ≡ text Tagged Plain example
+example_without_a_word = text_unprefixed Tagged Plain example
+
 -- a label that looks like an offset is kept apart from the node of that offset
 pub label_and_node_apart : rename_node Tagged (Label label) ≢ rename_node Tagged (Anon 27)
 label_and_node_apart e = let same : Label label ≡ Anon 27 = rename_injective Tagged (Label label) (Anon 27) label_is (lit< tt) e in cc
@@ -132,6 +179,10 @@ short_tokens = (
 -- the lines are read to their end under that limit
 pub example_is_read : IsReadToItsEnd (in_lines NQuads 12 10) bytes
 example_is_read = text_read Tagged Plain example 12 10 writable (lit≤ tt) short_tokens short
+
+-- with a word of two characters, under one that is higher by two
+pub prefixed_is_read : IsReadToItsEnd (in_lines NQuads 14 10) (encode_utf8_all (text_in with_word example))
+prefixed_is_read = form_text_read with_word example 12 10 refl writable (lit≤ tt) short_tokens short
 
 -- under a limit of 12 characters what was written reads back as the quads
 short_reads_back : ReadsBack Tagged Plain example 12
@@ -162,6 +213,11 @@ example_is_writable = document_writable NQuads 12 10 bytes (map (rename Tagged) 
 pub example_lines_are_read : IsReadToItsEnd (in_lines NQuads 64 64) (encode_utf8_all (text Kept Plain (map (rename Tagged) example)))
 example_lines_are_read =
     document_read_back Plain NQuads 12 10 bytes (map (rename Tagged) example) (short_reads_back 10) example_is_read.whole 64 64 (lit≤ tt) (lit≤ tt) (lit≤ tt) (lit≤ tt) (lit≤ tt)
+
+-- and with a word, where a token may have two characters more
+pub prefixed_lines_are_read : IsReadToItsEnd (in_lines NQuads 66 64) (encode_utf8_all (text_in (record { style = Kept; escapes = Plain; prefix = word }) (map (rename Tagged) example)))
+prefixed_lines_are_read =
+    form_document_read Plain word NQuads 12 10 bytes (map (rename Tagged) example) refl (short_reads_back 10) example_is_read.whole 64 64 (lit≤ tt) (lit≤ tt) (lit≤ tt) (lit≤ tt) (lit≤ tt)
 
 -- a line of N-Triples
 abbrev one_line : List ℕ

@@ -4,6 +4,7 @@ pub mod AsciiLemmas
 pub mod WritingLemmas
 pub mod SpelledLine
 pub mod Renamed
+pub mod NodePrefixLemmas
 pub mod WrittenText
 pub mod ReadBack
 mod Complete
@@ -25,6 +26,7 @@ mod StatesLemmas
 mod GivenLemmas
 mod EndLemmas
 pub mod AcceptedLemmas
+pub mod FormReadBack
 pub mod WellFormed
 pub mod WrittenLimits
 mod SettledLemmas

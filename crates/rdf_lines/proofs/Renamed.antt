@@ -1,5 +1,5 @@
 -- Renamed nodes have labels.
-use Rattle.std.proofs.Common.{◌≡◌, ℕ, ◌+◌, ◌<◌, ◌^◌, ◌%◌, Bool, true, false, List, [], ◌∷◌, ◌++◌, inl, inr, refl, sym, ap, ◌∙◌, subst, ⊎_elim, append_assoc, arith}
+use Rattle.std.proofs.Common.{◌≡◌, ◌⊎◌, ℕ, ◌+◌, ◌<◌, ◌^◌, ◌%◌, Bool, true, false, List, [], ◌∷◌, ◌++◌, inl, inr, refl, sym, ap, ◌∙◌, subst, ⊎_elim, append_assoc, arith}
 use Rattle.std.specs.Prelude.{decimal, Option, Some, None, option_map, ◌&&◌, ◌||◌, ◌==◌}
 use Rattle.std.specs.List.{concat, AllByRecursion}
 use Rattle.std.proofs.lemmas.Bool.{false≢true}
@@ -67,11 +67,11 @@ rest_before u w m n =
     (λ t. (u ++ t.0, t.1, many_before middle u t.0 (inl m) t.2, t.3, ap (λ x. u ++ x) t.4 ∙ sym (append_assoc u t.0 t.1)))
     n
 
--- a label with a letter in front is a label
-label_front : (c : ℕ) (x : List ℕ) → has (pn_u Lines) c ≡ true → IsLabel x → IsLabel (c ∷ x)
+-- a label with a letter or a digit in front is a label
+pub label_front : (c : ℕ) (x : List ℕ) → (has (pn_u Lines) c ≡ true) ⊎ (has digit c ≡ true) → IsLabel x → IsLabel (c ∷ x)
 label_front c x h m =
     let first : Matches (one (pn_char Lines)) m.0 = ⊎_elim (λ a. (a.0, first_char a.0 a.1, a.2)) (λ a. (a.0, digit_char a.0 a.1, a.2)) m.2 in
-    (c ∷ [], x, inl (c, h, refl), inr (subst (Matches (many middle · one (pn_char Lines))) (sym m.4) (rest_before m.0 m.1 first m.3)), refl)
+    (c ∷ [], x, ⊎_elim (λ u. inl (c, u, refl)) (λ d. inr (c, d, refl)) h, inr (subst (Matches (many middle · one (pn_char Lines))) (sym m.4) (rest_before m.0 m.1 first m.3)), refl)
 
 -- a label with a character at its end is a label, if it is no dot
 label_more : (x : List ℕ) (c : ℕ) → has (pn_char Lines) c ≡ true → IsLabel x → IsLabel (x ++ c ∷ [])
@@ -106,7 +106,7 @@ label_number c h =
 renamed_node : (s : Style) (n : Node) → IsNode n → CanWriteNode s n → IsNode (rename_node s n) × CanWriteNode Kept (rename_node s n)
 unfolding has
 renamed_node Kept n h c = (h, c)
-renamed_node Tagged (Label x) h c = (label_front 110 x refl h, tt)
+renamed_node Tagged (Label x) h c = (label_front 110 x (inl refl) h, tt)
 renamed_node Tagged (Anon n) h c = (label_number 97 refl n h, tt)
 renamed_node Tagged (Cell n) h c = (label_number 99 refl n h, tt)
 

@@ -1,6 +1,6 @@
 -- Parts that are appended in turn, and what stands in front of them.
-use Rattle.std.proofs.Common.{◌≡◌, ℕ, ◌+◌, List, ◌++◌, append_assoc, Result, Ok, Err, OnOk, OnErr, IfOk, take, length, sym, ap, ◌∙◌, arith, length-append}
-use Rattle.std.proofs.lemmas.List.{take-take}
+use Rattle.std.proofs.Common.{◌≡◌, ℕ, ◌+◌, List, [], ◌∷◌, ◌++◌, append_assoc, Result, Ok, Err, OnOk, OnErr, IfOk, is_ok, if◌then◌else◌, take, length, sym, ap, ◌∙◌, arith, length-append}
+use Rattle.std.proofs.lemmas.List.{append-nil, take-take}
 use Rattle.std.proofs.Math.Seq.{take-append_seam}
 use Rattle.rdf_lines.specs.WrittenBytes.{BeginsWith}
 
@@ -15,6 +15,16 @@ begins_with_front a b w c e h =
 pub on_ok : {T E : Type 0} {P Q : Type 0} (r : Result T E) → (P → Q) → OnOk r P → OnOk r Q
 on_ok (Ok x) f h = f h
 on_ok (Err e) f h = tt
+
+-- what holds where the answer is Ok
+pub where_ok : {T E : Type 0} (r : Result T E) (new a b : List ℕ) → new ≡ (if is_ok r then a else b) → OnOk r (new ≡ a)
+where_ok (Ok x) new a b h = h
+where_ok (Err e) new a b h = tt
+
+-- a text without characters appends nothing
+pub none_appended : (out w : List ℕ) → length w ≡ 0 → out ≡ out ++ w
+none_appended out [] e = sym (append-nil out)
+none_appended out (c ∷ w) e = absurd (omega arith)
 
 -- what follows from an error, of the error
 pub on_err : {T E : Type 0} {P Q : Type 0} (r : Result T E) → (P → Q) → OnErr r P → OnErr r Q

@@ -17,20 +17,23 @@ use Rattle.rdf_terms.specs.Terms.{Quad, xsd_string}
 use Rattle.rdf_iri.specs.Texts.{byte_len}
 use Rattle.rdf_tokens.specs.Tokens.{Token}
 use Rattle.rdf_tokens.specs.Good.{tokens_of}
-use Rattle.rdf_tokens.specs.Grammars.{PassesNone}
+use Rattle.rdf_tokens.specs.Grammars.{PassesNone, IsDocumentOf, IsWhole}
 use Rattle.rdf_tokens.proofs.LimitLemmas.{no_longer}
+use Rattle.rdf_lines.specs.declared.form.LineForm.{LineForm}
 use Rattle.rdf_lines.specs.declared.form.Escapes.{Escapes}
 use Rattle.rdf_lines.specs.declared.form.Escapes.TheVariants as escapes
 use Rattle.rdf_lines.specs.declared.form.Style.TheVariants.{Kept}
 use Rattle.rdf_lines.specs.Lines.{Leaf, leaf_of, Name, Ref, Lab, Object, Named, Plain, WithType, WithTag, Statement, Line, Document as Tree, last, next, token, name_tokens, object_tokens, graph_tokens, head_tokens, statement_tokens, line_tokens, document_tokens, iri_of, string_of, subject_of, term_of, quad_of}
 use Rattle.rdf_lines.proofs.PlainQuads.{plain_quads}
 use Rattle.rdf_lines.specs.Lines as L
-use Rattle.rdf_lines.specs.Documents.{Passes}
+use Rattle.rdf_lines.specs.Documents.{Passes, in_lines}
+use Rattle.rdf_lines.specs.NodePrefixes.{Form}
 use Rattle.rdf_lines.specs.Writing.{uchar, written, escaped, iri_text, subject_text, string_text, rename_subject, rename_term, rename}
-use Rattle.rdf_lines.specs.Laws.{string_width, iri_width, WrittenDocumentIsRead, SubjectWithin, TermWithin, GraphWithin, IrisWithin, TermShort, GraphShort, TokensWithin}
+use Rattle.rdf_lines.specs.Laws.{string_width, iri_width, WrittenDocumentIsRead, PrefixedDocumentIsRead, SubjectWithin, TermWithin, GraphWithin, IrisWithin, TermShort, GraphShort, TokensWithin}
 use Rattle.rdf_lines.proofs.LinesLemmas.{without_marks}
 use Rattle.rdf_lines.proofs.UcharLemmas.{written_cases, uchar_cases}
 use Rattle.rdf_lines.proofs.AcceptedLemmas.{text_read}
+use Rattle.rdf_lines.proofs.FormReadBack.{form_text_read}
 use Rattle.rdf_lines.proofs.WellFormed.{split, document_writable}
 
 -- a value has no more characters than the text that spells it
@@ -233,13 +236,28 @@ module _ (form : Escapes) (limit n token_then iri_then : ℕ) (a : string_width 
     good ts (All-tail (λ t. length t.text ≤ limit) t ts s) (λ ahead behind u r p. k (t ∷ ahead) behind u (ap (λ x. t ∷ x) r) p),
   )
 
--- the law that what was written is read to its end
-pub document_read_back : WrittenDocumentIsRead
-document_read_back x form limit n bytes qs document whole token_then iri_then a b c d e =
+-- so the quads of a document fit
+document_fits : (x : Escapes) (form : LineForm) (limit n : ℕ) (bytes : List ℕ) (qs : List Quad) → IsDocumentOf (in_lines form limit n) bytes qs → IsWhole (in_lines form limit n) bytes →
+    (token_then iri_then : ℕ) (a : string_width x * limit ≤ token_then) (b : iri_width x * n + 2 ≤ token_then) (c : 64 ≤ token_then) (d : n ≤ iri_then) (e : 64 ≤ iri_then) →
+    AllByRecursion (Fits x limit n token_then iri_then a b c d e) qs
+document_fits x form limit n bytes qs document whole token_then iri_then a b c d e =
     let ts = (tokens_of Lines limit bytes true).tokens in
     let (tree, tokens, bound, same) = without_marks form ts qs (document.1, document.2, document.3) in
     let g = good x limit n token_then iri_then a b c d e ts (no_longer Lines limit bytes true) whole.front.kept in
     let here = subst (AllByRecursion (Good x limit n token_then iri_then a b c d e)) tokens g in
-    let fits = subst (AllByRecursion (Fits x limit n token_then iri_then a b c d e)) same (tree_fits x limit n token_then iri_then a b c d e tree here) in
+    subst (AllByRecursion (Fits x limit n token_then iri_then a b c d e)) same (tree_fits x limit n token_then iri_then a b c d e tree here)
+
+-- the law that what was written is read to its end
+pub document_read_back : WrittenDocumentIsRead
+document_read_back x form limit n bytes qs document whole token_then iri_then a b c d e =
+    let fits = document_fits x form limit n bytes qs document whole token_then iri_then a b c d e in
     let short = shorts x limit n token_then iri_then a b c d e qs fits in
     text_read Kept x qs token_then iri_then (document_writable form limit n bytes qs document) (let h : 2 ≤ token_then = omega arith in h) short (iris x limit n token_then iri_then a b c d e qs fits)
+
+-- and with a word in front of the names
+pub form_document_read : PrefixedDocumentIsRead
+form_document_read x p form limit n bytes qs word document whole token_then iri_then a b c d e =
+    let fits = document_fits x form limit n bytes qs document whole token_then iri_then a b c d e in
+    let f : Form = record { style = Kept; escapes = x; prefix = p } in
+    let short = shorts x limit n token_then iri_then a b c d e qs fits in
+    form_text_read f qs token_then iri_then word (document_writable form limit n bytes qs document) (let h : 2 ≤ token_then = omega arith in h) short (iris x limit n token_then iri_then a b c d e qs fits)

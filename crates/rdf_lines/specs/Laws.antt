@@ -1,8 +1,8 @@
 -- The laws of line reading and of the written lines.
-use Rattle.std.specs.Prelude.{◌≡◌, ◌<◌, ◌≤◌, ◌+◌, ◌*◌, ℕ, true, false, List, ◌∷◌, ◌++◌, map, length, Option, Some, None, encode_utf8_all}
+use Rattle.std.specs.Prelude.{◌≡◌, ◌≢◌, ◌<◌, ◌≤◌, ◌+◌, ◌*◌, ℕ, true, false, List, ◌∷◌, ◌++◌, map, length, Option, Some, None, encode_utf8_all}
 use Rattle.std.specs.List.{AllByRecursion}
 use Rattle.rdf_terms.specs.declared.reason.Reason.{Reason}
-use Rattle.rdf_terms.specs.Terms.{Tail, Lang, Typed, Subject, Iri, Blank, Term, Resource, Literal, Quad}
+use Rattle.rdf_terms.specs.Terms.{Node, IsNode, Tail, Lang, Typed, Subject, Iri, Blank, Term, Resource, Literal, Quad}
 use Rattle.rdf_tokens.specs.Tokens.{Place, Token}
 use Rattle.rdf_tokens.specs.Grammars.{Marked, unmarked, Due, reading_of, IsDocumentOf, IsWithin, GoesOn, IsWhole, Refused, IsReadToItsEnd}
 use Rattle.rdf_driver.specs.Readers.{Driven, HasRead}
@@ -17,7 +17,8 @@ use Rattle.rdf_lines.specs.declared.form.Escapes.{Escapes}
 use Rattle.rdf_lines.specs.declared.form.Escapes.TheVariants.{Plain, Ascii}
 use Rattle.rdf_lines.specs.declared.form.Style.{Style}
 use Rattle.rdf_lines.specs.declared.form.Style.TheVariants.{Kept}
-use Rattle.rdf_lines.specs.Writing.{rename, iri_text, subject_text, string_text, text, Writable, HasAsciiLabels}
+use Rattle.rdf_lines.specs.NodePrefixes.{IsNodePrefix, Form, unprefixed, name_node, named, text_in}
+use Rattle.rdf_lines.specs.Writing.{CanWriteNode, rename, iri_text, subject_text, string_text, text, Writable, HasAsciiLabels}
 
 -- The written bytes are a document of N-Quads whose quads are the renamed ones, whatever the limit on IRIs.
 abbrev pub ReadsBack : Style → Escapes → List Quad → ℕ → Type 0
@@ -128,3 +129,48 @@ WrittenDocumentIsRead = (e : Escapes) (form : LineForm) (token iri : ℕ) (bytes
 -- In ASCII each byte that is written is below 128, where each label has such characters alone.
 abbrev pub AsciiIsWritten : Type 0
 AsciiIsWritten = (s : Style) (qs : List Quad) → Writable s qs → AllByRecursion HasAsciiLabels qs → AllByRecursion (λ b. b < 128) (encode_utf8_all (text s Ascii qs))
+
+-- The written bytes are a document of N-Quads whose quads are these, their nodes named by the form, whatever the limit on IRIs.
+abbrev pub ReadsBackIn : Form → List Quad → ℕ → Type 0
+ReadsBackIn f qs limit = (iri : ℕ) → IsDocumentOf (in_lines NQuads limit iri) (encode_utf8_all (text_in f qs)) (map (named f) qs)
+
+-- What is written in a form reads back.
+abbrev pub PrefixedTextReadsBack : Type 0
+PrefixedTextReadsBack = (f : Form) (qs : List Quad) (limit : ℕ) → IsNodePrefix f.prefix → Writable f.style qs → length (text_in f qs) ≤ limit → ReadsBackIn f qs limit
+
+-- A word takes its length of a limit on tokens, and nothing else.
+abbrev pub PrefixedTextIsRead : Type 0
+PrefixedTextIsRead = (f : Form) (qs : List Quad) (limit iri : ℕ) → IsNodePrefix f.prefix → Writable f.style qs → 2 ≤ limit →
+    AllByRecursion (TokensWithin f.escapes limit) (map (rename f.style) qs) → AllByRecursion (IrisWithin iri) qs →
+    IsReadToItsEnd (in_lines NQuads (length f.prefix + limit) iri) (encode_utf8_all (text_in f qs))
+
+-- So what is written for a document of a line format is read with the limits that suffice without a word, and the word's length more for tokens.
+abbrev pub PrefixedDocumentIsRead : Type 0
+PrefixedDocumentIsRead = (e : Escapes) (p : List ℕ) (form : LineForm) (token iri : ℕ) (bytes : List ℕ) (qs : List Quad) → IsNodePrefix p →
+    IsDocumentOf (in_lines form token iri) bytes qs → IsWhole (in_lines form token iri) bytes →
+    (token_then iri_then : ℕ) → string_width e * token ≤ token_then → iri_width e * iri + 2 ≤ token_then → 64 ≤ token_then → iri ≤ iri_then → 64 ≤ iri_then →
+    IsReadToItsEnd (in_lines NQuads (length p + token_then) iri_then) (encode_utf8_all (text_in (record { style = Kept; escapes = e; prefix = p }) qs))
+
+-- In ASCII each byte is below 128 with a word too.
+abbrev pub PrefixedAsciiIsWritten : Type 0
+PrefixedAsciiIsWritten = (s : Style) (p : List ℕ) (qs : List Quad) → IsNodePrefix p → Writable s qs → AllByRecursion HasAsciiLabels qs →
+    AllByRecursion (λ b. b < 128) (encode_utf8_all (text_in (record { style = s; escapes = Ascii; prefix = p }) qs))
+
+-- In one form no two nodes have one name.
+abbrev pub PrefixedNamesStayApart : Type 0
+PrefixedNamesStayApart = (f : Form) (m n : Node) → IsNode m → IsNode n → name_node f m ≡ name_node f n → m ≡ n
+
+-- With two different words of one length no two nodes have one name, whatever the styles.
+abbrev pub PrefixesKeepApart : Type 0
+PrefixesKeepApart = (f g : Form) (m n : Node) → length f.prefix ≡ length g.prefix → f.prefix ≢ g.prefix → CanWriteNode f.style m → CanWriteNode g.style n →
+    name_node f m ≢ name_node g n
+
+-- The empty word changes no line.
+abbrev pub NoPrefixIsNoChange : Type 0
+NoPrefixIsNoChange = (s : Style) (e : Escapes) (qs : List Quad) → text_in (unprefixed s e) qs ≡ text s e qs
+
+-- What is written in two forms, one after the other, is a document that has the quads of both; with two words no node of the one is a node of the other.
+abbrev pub JoinedTextsReadBack : Type 0
+JoinedTextsReadBack = (f g : Form) (qs rs : List Quad) (limit iri : ℕ) → f.escapes ≡ g.escapes → IsNodePrefix f.prefix → IsNodePrefix g.prefix →
+    Writable f.style qs → Writable g.style rs → length (text_in f qs ++ text_in g rs) ≤ limit →
+    IsDocumentOf (in_lines NQuads limit iri) (encode_utf8_all (text_in f qs) ++ encode_utf8_all (text_in g rs)) (map (named f) qs ++ map (named g) rs)

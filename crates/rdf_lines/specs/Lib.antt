@@ -1,6 +1,8 @@
 -- what has to be believed
 pub mod Lines
 pub mod Writing
+pub mod NodePrefixes
+pub mod Forms
 pub mod Documents
 -- what need not be: functions that compute, machines and states, what the code's side speaks of, and the laws
 pub mod Machine

@@ -9,11 +9,13 @@ use Rattle.rdf_terms.specs.declared.views.TermRef.{TermRef}
 use Rattle.rdf_terms.specs.declared.views.QuadRef.{QuadRef}
 use Rattle.rdf_terms.specs.declared.runs.Run.{Run}
 use Rattle.rdf_terms.specs.declared.runs.Run.TheVariants.{Text, AsciiText}
-use Rattle.rdf_terms.specs.Views.{iri_chars, node_of, tail_by, subject_by, term_by, quad_of}
+use Rattle.rdf_terms.specs.Terms.{Label}
+use Rattle.rdf_terms.specs.Views.{iri_chars, node_by, node_of, tail_by, subject_by, term_by, quad_of}
 use Rattle.rdf_lines.specs.declared.form.Escapes.{Escapes}
 use Rattle.rdf_lines.specs.declared.form.Escapes.TheVariants.{Plain, Ascii}
 use Rattle.rdf_lines.specs.declared.form.Style.{Style}
-use Rattle.rdf_lines.specs.Writing.{escaped, rename_node, rename_subject, rename_term, node_text, iri_text, subject_text, string_text, type_text, tail_text, term_text, graph_text, line}
+use Rattle.rdf_lines.specs.NodePrefixes.{Form, name_node, name_subject, name_term, name_graph, line_in}
+use Rattle.rdf_lines.specs.Writing.{escaped, rename_node, node_text, iri_text, subject_text, string_text, tail_text, term_text, graph_text}
 
 -- what stands in a string as it is
 abbrev pub run_of : Escapes → Run
@@ -33,28 +35,32 @@ abbrev pub iri_bytes : Escapes → IriView → List ℕ
 iri_bytes e i = encode_utf8_all (iri_text e (iri_chars i))
 
 -- those of a node
-abbrev pub node_bytes : Style → NodeRef → List ℕ
-node_bytes s n = encode_utf8_all (node_text (rename_node s (node_of n)))
+abbrev pub node_bytes : Form → NodeRef → List ℕ
+node_bytes f n = encode_utf8_all (node_text (name_node f (node_of n)))
 
 -- those of an IRI or a node
-abbrev pub subject_bytes : Style → Escapes → SubjectRef → List ℕ
-subject_bytes s e t = encode_utf8_all (subject_text e (rename_subject s (subject_by chars t)))
+abbrev pub subject_bytes : Form → SubjectRef → List ℕ
+subject_bytes f t = encode_utf8_all (subject_text f.escapes (name_subject f (subject_by chars t)))
 
 -- those of what follows a string
 abbrev pub tail_bytes : Escapes → TailRef → List ℕ
 tail_bytes e t = encode_utf8_all (tail_text e (tail_by chars t))
 
 -- those of an object
-abbrev pub term_bytes : Style → Escapes → TermRef → List ℕ
-term_bytes s e t = encode_utf8_all (term_text e (rename_term s (term_by chars t)))
+abbrev pub term_bytes : Form → TermRef → List ℕ
+term_bytes f t = encode_utf8_all (term_text f.escapes (name_term f (term_by chars t)))
 
 -- those of a graph label with its space
-abbrev pub graph_bytes : Style → Escapes → Option SubjectRef → List ℕ
-graph_bytes s e g = encode_utf8_all (graph_text e (option_map (rename_subject s) (option_map (subject_by chars) g)))
+abbrev pub graph_bytes : Form → Option SubjectRef → List ℕ
+graph_bytes f g = encode_utf8_all (graph_text f.escapes (name_graph f (option_map (subject_by chars) g)))
 
 -- those of the line of a quad
-abbrev pub line_bytes : Style → Escapes → QuadRef → List ℕ
-line_bytes s e q = encode_utf8_all (line s e (quad_of q))
+abbrev pub line_bytes : Form → QuadRef → List ℕ
+line_bytes f q = encode_utf8_all (line_in f (quad_of q))
+
+-- The style names the node by a label of these bytes.
+abbrev pub IsNamed : Style → NodeRef → List ℕ → Type 0
+IsNamed s n w = rename_node s (node_by (λ v. v) n) ≡ Label w
 
 -- what stood there still stands, in front
 abbrev pub BeginsWith : List ℕ → List ℕ → Type 0

@@ -1,5 +1,11 @@
 // The formats, and the forms of what is written.
 
+ghost use Rattle.std.specs.Prelude.{◌≡◌};
+ghost use Rattle.rdf_lines.specs.Forms.{form_of};
+ghost use Rattle.rdf_lines.specs.NodePrefixes.{unprefixed};
+
+use crate::prefix::NodePrefixView;
+
 /// A line format.
 #[derive(Clone, Copy, PartialEq, Eq, Debug)]
 pub enum LineForm {
@@ -25,4 +31,28 @@ pub enum Escapes {
     Plain,
     /// In strings and IRIs as UCHAR: `\u` and four hex digits up to U+FFFF, `\U` and eight above. Labels have no escapes.
     Ascii,
+}
+
+/// All that is asked for of what is written.
+#[derive(Clone, Copy)]
+pub struct WrittenForm<'a> {
+    /// How nodes are named.
+    pub style: Style,
+    /// How characters above U+007F stand.
+    pub escapes: Escapes,
+    /// The word in front of each node's name, behind its `_:`.
+    pub prefix: NodePrefixView<'a>,
+}
+
+impl WrittenForm<'static> {
+    /// The form with no word in front of the names.
+    pub fn new(style: Style, escapes: Escapes) -> WrittenForm<'static>
+        ensures { form_of result ≡ unprefixed style escapes }
+    {
+        WrittenForm {
+            style,
+            escapes,
+            prefix: NodePrefixView::none(),
+        }
+    }
 }

@@ -7,6 +7,7 @@ ghost use Rattle.rdf_lines.specs.declared.form.Style.{Style};
 ghost use Rattle.rdf_lines.specs.Writing.{Writable, rename_node, text};
 ghost use Rattle.rdf_lines.specs.Canonical.{CanonicalLinesAreRead};
 ghost use Rattle.rdf_lines.specs.Laws.{ReadsBack, TokensSettleTheQuads, TokensSettleWhatIsDue, DueBeginsTheQuads, ReadQuadsAreDue, DocumentsAreRead, RefusedIsNoDocument, WrittenTextIsRead, DocumentIsWritable, WrittenDocumentIsRead, AsciiIsWritten};
+ghost use Rattle.rdf_lines.specs.Laws.{PrefixedTextReadsBack, PrefixedTextIsRead, PrefixedDocumentIsRead, PrefixedAsciiIsWritten, PrefixedNamesStayApart, PrefixesKeepApart, JoinedTextsReadBack, NoPrefixIsNoChange};
 
 /// The bytes written for quads are a document of N-Quads, whose quads are these, renamed, one for one and in
 /// order. Any limit on a token's characters that is not below the text's length serves.
@@ -77,4 +78,46 @@ pub fn canonical_lines_are_read()
 /// In ASCII each byte that is written is below 128, where each label has such characters alone.
 pub fn ascii_is_written()
     ensures { AsciiIsWritten }
+{}
+
+/// With a word in front of the names too, what is written for quads is a document of N-Quads, whose quads are these with their
+/// nodes named so. Any limit on a token's characters that is not below the text's length serves.
+pub fn prefixed_text_reads_back()
+    ensures { PrefixedTextReadsBack }
+{}
+
+/// It is read to its end with the limits that suffice without a word, and the word's length more for tokens.
+pub fn prefixed_text_is_read()
+    ensures { PrefixedTextIsRead }
+{}
+
+/// What is written with a word for a document of a line format is read to its end with the limits of `written_document_is_read`,
+/// and the word's length more for tokens.
+pub fn prefixed_document_is_read()
+    ensures { PrefixedDocumentIsRead }
+{}
+
+/// In ASCII each byte that is written is below 128 with a word too, where each label has such characters alone.
+pub fn prefixed_ascii_is_written()
+    ensures { PrefixedAsciiIsWritten }
+{}
+
+/// No two nodes are written under one name with one word.
+pub fn prefixed_names_stay_apart()
+    ensures { PrefixedNamesStayApart }
+{}
+
+/// With two different words of one length no node of the one is written under the name of a node of the other.
+pub fn prefixes_keep_apart()
+    ensures { PrefixesKeepApart }
+{}
+
+/// Texts that were written with words, one behind the other, are a document of N-Quads that has the quads of both.
+pub fn joined_texts_read_back()
+    ensures { JoinedTextsReadBack }
+{}
+
+/// The empty word changes no line.
+pub fn no_prefix_is_no_change()
+    ensures { NoPrefixIsNoChange }
 {}

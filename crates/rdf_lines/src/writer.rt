@@ -6,18 +6,20 @@ mod string;
 mod term;
 mod writable;
 
-ghost use Rattle.std.specs.Prelude.{◌≡◌, ◌↔◌, ◌++◌, chars, encode_utf8_all, string_bytes, IfOk, OnErr, OnOk};
+ghost use Rattle.std.specs.Prelude.{◌≡◌, ◌↔◌, ◌∷◌, ◌++◌, chars, encode_utf8_all, string_bytes, IfOk, OnErr, OnOk};
 ghost use Rattle.std.specs.Result.{IsErrOf};
 ghost use Rattle.rdf_terms.specs.Views.{node_of, quad_of};
+ghost use Rattle.rdf_lines.specs.Forms.{form_of};
+ghost use Rattle.rdf_lines.specs.NodePrefixes.{line_in};
 ghost use Rattle.rdf_lines.specs.Writing.{CanWrite, CanWriteNode, line, node_text, rename_node};
 
-use crate::form::{Escapes, Style};
+use crate::form::{Escapes, Style, WrittenForm};
 use itoa::Buffer;
 use line::put_line;
 use rdf_terms::{NodeRef, QuadRef};
 use std::alloc::{AllocError, Allocator};
-use term::mark_and_name;
-use writable::{can_write, can_write_node};
+use term::letter_and_name;
+use writable::can_write;
 
 /// Why a quad or a node was not written.
 #[derive(Clone, Copy, PartialEq, Eq, Debug)]
@@ -41,11 +43,25 @@ pub fn write_line<A: Allocator + Copy>(
     ensures unchanged { OnErr result (out.new.items ≡ out.old.items) }
     ensures not_labelled { IsErrOf result LabelFault.NotLabelled ↔ ¬ CanWrite style (quad_of quad.entry) }
 {
-    if !can_write(quad, style) {
+    let form = WrittenForm::new(style, escapes);
+    write_line_in(quad, form, out)
+}
+
+/// The same, with a word in front of each node's name, behind its `_:`. Without characters it is what `write_line` appends.
+pub fn write_line_in<A: Allocator + Copy>(
+    quad: QuadRef<'_>,
+    form: WrittenForm<'_>,
+    out: &mut Vec<u8, A>,
+) -> Result<(), LabelFault>
+    ensures written { OnOk result (out.new.items ≡ out.old.items ++ encode_utf8_all (line_in (form_of form.entry) (quad_of quad.entry))) }
+    ensures unchanged { OnErr result (out.new.items ≡ out.old.items) }
+    ensures not_labelled { IsErrOf result LabelFault.NotLabelled ↔ ¬ CanWrite form.entry.style (quad_of quad.entry) }
+{
+    if !can_write(quad, form.style) {
         return Err(LabelFault::NotLabelled);
     }
     let start = out.len();
-    match put_line(quad, style, escapes, out) {
+    match put_line(quad, form, out) {
         Ok(()) => Ok(()),
         Err(_) => {
             out.truncate(start);
@@ -63,22 +79,22 @@ pub fn label_text<A: Allocator + Copy>(
     ensures text { IfOk result (λ text. chars (string_bytes text) ≡ node_text (rename_node style (node_of node.entry))) }
     ensures not_labelled { IsErrOf result LabelFault.NotLabelled ↔ ¬ CanWriteNode style (node_of node.entry) }
 {
-    if !can_write_node(node, style) {
-        return Err(LabelFault::NotLabelled);
-    }
     let mut digits = Buffer::new();
-    let (mark, name) = mark_and_name(node, style, &mut digits);
-    match joined(alloc, mark, name) {
-        Ok(text) => Ok(text),
-        Err(_) => Err(LabelFault::Memory),
+    match letter_and_name(node, style, &mut digits) {
+        None => Err(LabelFault::NotLabelled),
+        Some((letter, name)) => match joined(alloc, letter, name) {
+            Ok(text) => Ok(text),
+            Err(_) => Err(LabelFault::Memory),
+        },
     }
 }
 
-// Two texts, one after the other.
-fn joined<A: Allocator + Copy>(alloc: A, first: &str, second: &str) -> Result<String<A>, AllocError>
-    ensures { IfOk result (λ text. string_bytes text ≡ first.now ++ second.now) }
+// `_:` and a label in two parts.
+fn joined<A: Allocator + Copy>(alloc: A, letter: &str, name: &str) -> Result<String<A>, AllocError>
+    ensures { IfOk result (λ text. string_bytes text ≡ 95 ∷ 58 ∷ (letter.now ++ name.now)) }
 {
-    let mut text = String::from_str(alloc, first)?;
-    text.push_str(second)?;
+    let mut text = String::from_str(alloc, "_:")?;
+    text.push_str(letter)?;
+    text.push_str(name)?;
     Ok(text)
 }

@@ -1,39 +1,38 @@
 // The parts of a written line, each with the space behind it (N-Quads 4).
 
 ghost use Rattle.std.specs.Prelude.{◌≡◌, [], ◌∷◌, ◌++◌, OnErr, OnOk};
+ghost use Rattle.rdf_lines.specs.Forms.{form_of};
 ghost use Rattle.rdf_lines.specs.Writing.{space};
 ghost use Rattle.rdf_lines.specs.WrittenBytes.{BeginsWith, graph_bytes, iri_bytes, line_bytes, subject_bytes, term_bytes};
 
-use crate::form::{Escapes, Style};
+use crate::form::{Escapes, WrittenForm};
 use crate::writer::term::{put_iri, put_name, put_term};
 use rdf_terms::{IriView, QuadRef, SubjectRef, TermRef};
 use std::alloc::{AllocError, Allocator};
 
 pub fn put_line<A: Allocator + Copy>(
     quad: QuadRef<'_>,
-    style: Style,
-    escapes: Escapes,
+    form: WrittenForm<'_>,
     out: &mut Vec<u8, A>,
 ) -> Result<(), AllocError>
-    ensures written { OnOk result (out.new.items ≡ out.old.items ++ line_bytes style escapes quad.entry) }
+    ensures written { OnOk result (out.new.items ≡ out.old.items ++ line_bytes (form_of form.entry) quad.entry) }
     ensures grown { OnErr result (BeginsWith out.old.items out.new.items) }
 {
-    put_subject(quad.subject, style, escapes, out)?;
-    put_predicate(quad.predicate, escapes, out)?;
-    put_object(quad.object, style, escapes, out)?;
-    put_end(quad.graph, style, escapes, out)
+    put_subject(quad.subject, form, out)?;
+    put_predicate(quad.predicate, form.escapes, out)?;
+    put_object(quad.object, form, out)?;
+    put_end(quad.graph, form, out)
 }
 
 fn put_subject<A: Allocator + Copy>(
     subject: SubjectRef<'_>,
-    style: Style,
-    escapes: Escapes,
+    form: WrittenForm<'_>,
     out: &mut Vec<u8, A>,
 ) -> Result<(), AllocError>
-    ensures written { OnOk result (out.new.items ≡ out.old.items ++ (subject_bytes style escapes subject.entry ++ space)) }
+    ensures written { OnOk result (out.new.items ≡ out.old.items ++ (subject_bytes (form_of form.entry) subject.entry ++ space)) }
     ensures grown { OnErr result (BeginsWith out.old.items out.new.items) }
 {
-    put_name(subject, style, escapes, out)?;
+    put_name(subject, form, out)?;
     out.push(b' ')?;
     Ok(())
 }
@@ -53,43 +52,39 @@ fn put_predicate<A: Allocator + Copy>(
 
 fn put_object<A: Allocator + Copy>(
     object: TermRef<'_>,
-    style: Style,
-    escapes: Escapes,
+    form: WrittenForm<'_>,
     out: &mut Vec<u8, A>,
 ) -> Result<(), AllocError>
-    ensures written { OnOk result (out.new.items ≡ out.old.items ++ (term_bytes style escapes object.entry ++ space)) }
+    ensures written { OnOk result (out.new.items ≡ out.old.items ++ (term_bytes (form_of form.entry) object.entry ++ space)) }
     ensures grown { OnErr result (BeginsWith out.old.items out.new.items) }
 {
-    put_term(object, style, escapes, out)?;
+    put_term(object, form, out)?;
     out.push(b' ')?;
     Ok(())
 }
 
 fn put_end<A: Allocator + Copy>(
     graph: Option<SubjectRef<'_>>,
-    style: Style,
-    escapes: Escapes,
+    form: WrittenForm<'_>,
     out: &mut Vec<u8, A>,
 ) -> Result<(), AllocError>
-    ensures written { OnOk result (out.new.items ≡ out.old.items ++ (graph_bytes style escapes graph.entry ++ (46 ∷ []) ++ (10 ∷ []))) }
+    ensures written { OnOk result (out.new.items ≡ out.old.items ++ (graph_bytes (form_of form.entry) graph.entry ++ (46 ∷ []) ++ (10 ∷ []))) }
     ensures grown { OnErr result (BeginsWith out.old.items out.new.items) }
 {
-    put_graph(graph, style, escapes, out)?;
+    put_graph(graph, form, out)?;
     out.extend_from_slice(b".\n")
 }
 
-#[tactic(auto, using(crate::proofs::EncodedLine::encoded_graph))]
 fn put_graph<A: Allocator + Copy>(
     graph: Option<SubjectRef<'_>>,
-    style: Style,
-    escapes: Escapes,
+    form: WrittenForm<'_>,
     out: &mut Vec<u8, A>,
 ) -> Result<(), AllocError>
-    ensures written { OnOk result (out.new.items ≡ out.old.items ++ graph_bytes style escapes graph.entry) }
+    ensures written { OnOk result (out.new.items ≡ out.old.items ++ graph_bytes (form_of form.entry) graph.entry) }
     ensures grown { OnErr result (BeginsWith out.old.items out.new.items) }
 {
     match graph {
         None => Ok(()),
-        Some(subject) => put_subject(subject, style, escapes, out),
+        Some(subject) => put_subject(subject, form, out),
     }
 }

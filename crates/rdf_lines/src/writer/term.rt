@@ -1,12 +1,13 @@
 // Terms as they are written (N-Quads 4).
 
-ghost use Rattle.std.specs.Prelude.{◌≡◌, ◌++◌, bytes_eq, encode_utf8_all, OnErr, OnOk};
+ghost use Rattle.std.specs.Prelude.{◌≡◌, ◌↔◌, ◌∷◌, ◌++◌, bytes_eq, encode_utf8_all, IfSome, None, OnErr, OnOk};
 ghost use Rattle.rdf_terms.specs.Terms.{xsd_string};
-ghost use Rattle.rdf_terms.specs.Views.{iri_chars};
-ghost use Rattle.rdf_lines.specs.Writing.{type_text};
-ghost use Rattle.rdf_lines.specs.WrittenBytes.{BeginsWith, iri_bytes, node_bytes, subject_bytes, tail_bytes, term_bytes};
+ghost use Rattle.rdf_terms.specs.Views.{iri_chars, node_of};
+ghost use Rattle.rdf_lines.specs.Forms.{form_of};
+ghost use Rattle.rdf_lines.specs.Writing.{CanWriteNode, type_text};
+ghost use Rattle.rdf_lines.specs.WrittenBytes.{BeginsWith, IsNamed, iri_bytes, node_bytes, subject_bytes, tail_bytes, term_bytes};
 
-use crate::form::{Escapes, Style};
+use crate::form::{Escapes, Style, WrittenForm};
 use crate::writer::string::{put_characters, put_string};
 use itoa::Buffer;
 use rdf_terms::{IriView, NodeRef, SubjectRef, TailRef, TermRef};
@@ -14,35 +15,33 @@ use std::alloc::{AllocError, Allocator};
 
 pub fn put_term<A: Allocator + Copy>(
     term: TermRef<'_>,
-    style: Style,
-    escapes: Escapes,
+    form: WrittenForm<'_>,
     out: &mut Vec<u8, A>,
 ) -> Result<(), AllocError>
-    ensures written { OnOk result (out.new.items ≡ out.old.items ++ term_bytes style escapes term.entry) }
+    ensures written { OnOk result (out.new.items ≡ out.old.items ++ term_bytes (form_of form.entry) term.entry) }
     ensures grown { OnErr result (BeginsWith out.old.items out.new.items) }
 {
     match term {
-        TermRef::Iri(iri) => put_iri(iri, escapes, out),
-        TermRef::Node(node) => put_node(node, style, out),
+        TermRef::Iri(iri) => put_iri(iri, form.escapes, out),
+        TermRef::Node(node) => put_node(node, form, out),
         TermRef::Literal(literal) => {
-            put_string(literal.lexical, escapes, out)?;
-            put_tail(literal.tail, escapes, out)
+            put_string(literal.lexical, form.escapes, out)?;
+            put_tail(literal.tail, form.escapes, out)
         }
     }
 }
 
 pub fn put_name<A: Allocator + Copy>(
     name: SubjectRef<'_>,
-    style: Style,
-    escapes: Escapes,
+    form: WrittenForm<'_>,
     out: &mut Vec<u8, A>,
 ) -> Result<(), AllocError>
-    ensures written { OnOk result (out.new.items ≡ out.old.items ++ subject_bytes style escapes name.entry) }
+    ensures written { OnOk result (out.new.items ≡ out.old.items ++ subject_bytes (form_of form.entry) name.entry) }
     ensures grown { OnErr result (BeginsWith out.old.items out.new.items) }
 {
     match name {
-        SubjectRef::Iri(iri) => put_iri(iri, escapes, out),
-        SubjectRef::Node(node) => put_node(node, style, out),
+        SubjectRef::Iri(iri) => put_iri(iri, form.escapes, out),
+        SubjectRef::Node(node) => put_node(node, form, out),
     }
 }
 
@@ -60,38 +59,69 @@ pub fn put_iri<A: Allocator + Copy>(
     Ok(())
 }
 
+#[tactic(auto, using(crate::proofs::EncodedLine::encoded_none))]
 fn put_node<A: Allocator + Copy>(
     node: NodeRef<'_>,
-    style: Style,
+    form: WrittenForm<'_>,
     out: &mut Vec<u8, A>,
 ) -> Result<(), AllocError>
-    ensures written { OnOk result (out.new.items ≡ out.old.items ++ node_bytes style node.entry) }
+    ensures written { OnOk result (out.new.items ≡ out.old.items ++ node_bytes (form_of form.entry) node.entry) }
     ensures grown { OnErr result (BeginsWith out.old.items out.new.items) }
 {
     let mut digits = Buffer::new();
-    let (mark, name) = mark_and_name(node, style, &mut digits);
-    put_two(mark, name, out)
+    match letter_and_name(node, form.style, &mut digits) {
+        None => Ok(()),
+        Some((letter, name)) => {
+            put_front(form.prefix.as_str(), letter, out)?;
+            out.extend_from_slice(name.as_bytes())
+        }
+    }
 }
 
-// A node's text in two parts, both empty where the style can't write it.
-#[tactic(auto, using(crate::proofs::EncodedLine::encoded_node))]
-pub fn mark_and_name<'a>(
+// What stands in front of a name: `_:`, the word, and the letter.
+fn put_front<A: Allocator + Copy>(
+    word: &str,
+    letter: &str,
+    out: &mut Vec<u8, A>,
+) -> Result<(), AllocError>
+    ensures written { OnOk result (out.new.items ≡ out.old.items ++ (95 ∷ 58 ∷ (word.now ++ letter.now))) }
+    ensures grown { OnErr result (BeginsWith out.old.items out.new.items) }
+{
+    out.extend_from_slice(b"_:")?;
+    put_part(word, out)?;
+    put_part(letter, out)
+}
+
+// What is mostly empty costs a test then.
+fn put_part<A: Allocator + Copy>(text: &str, out: &mut Vec<u8, A>) -> Result<(), AllocError>
+    ensures written { OnOk result (out.new.items ≡ out.old.items ++ text.now) }
+    ensures unchanged { OnErr result (out.new.items ≡ out.old.items) }
+{
+    if text.is_empty() {
+        return Ok(());
+    }
+    out.extend_from_slice(text.as_bytes())
+}
+
+// The label of a node in two parts, a letter or nothing and the name, or None where the style can't write it.
+pub fn letter_and_name<'a>(
     node: NodeRef<'a>,
     style: Style,
     digits: &'a mut Buffer,
-) -> (&'static str, &'a str)
-    ensures { result.0.now ++ result.1.now ≡ node_bytes style node.entry }
+) -> Option<(&'static str, &'a str)>
+    ensures named { IfSome result (λ parts. IsNamed style node.entry (parts.0.now ++ parts.1.now)) }
+    ensures none { (result ≡ None) ↔ ¬ CanWriteNode style (node_of node.entry) }
 {
     match style {
         Style::Kept => match node {
-            NodeRef::Label(label) => ("_:", label.as_str()),
-            NodeRef::Anon(_) => ("", ""),
-            NodeRef::Cell(_) => ("", ""),
+            NodeRef::Label(label) => Some(("", label.as_str())),
+            NodeRef::Anon(_) => None,
+            NodeRef::Cell(_) => None,
         },
         Style::Tagged => match node {
-            NodeRef::Label(label) => ("_:n", label.as_str()),
-            NodeRef::Anon(offset) => ("_:a", digits.format(offset)),
-            NodeRef::Cell(offset) => ("_:c", digits.format(offset)),
+            NodeRef::Label(label) => Some(("n", label.as_str())),
+            NodeRef::Anon(offset) => Some(("a", digits.format(offset))),
+            NodeRef::Cell(offset) => Some(("c", digits.format(offset))),
         },
     }
 }

@@ -43,7 +43,7 @@ fn can_write_graph(graph: Option<SubjectRef<'_>>, style: Style) -> bool
     }
 }
 
-pub fn can_write_node(node: NodeRef<'_>, style: Style) -> bool
+fn can_write_node(node: NodeRef<'_>, style: Style) -> bool
     ensures { Decides result (CanWriteNode style (node_of node.entry)) }
 {
     match style {

@@ -1,4 +1,5 @@
 use Rattle.std.proofs.Common.{◌≡◌, ◌++◌, [], ◌∷◌, append_assoc, ap, sym, ◌∙◌}
+use Rattle.rdf_lines.specs.Forms.{form_of}
 use Rattle.rdf_lines.specs.Writing.{space}
 use Rattle.rdf_lines.specs.WrittenBytes.{subject_bytes, iri_bytes, term_bytes, graph_bytes}
 use Rattle.rdf_lines.proofs.EncodedLine.{encoded_line}
@@ -9,16 +10,16 @@ pub returns-clause-written : goal.returns-clause-written
 returns-clause-written g c =
     let out = c.args.out.now.items in
     let quad = c.args.quad in
-    let escapes = c.args.escapes in
-    let subject = subject_bytes c.args.style escapes quad.subject ++ space in
-    let predicate = iri_bytes escapes quad.predicate ++ space in
-    let object = term_bytes c.args.style escapes quad.object ++ space in
-    let graph = graph_bytes c.args.style escapes quad.graph in
+    let form = form_of c.args.form in
+    let subject = subject_bytes form quad.subject ++ space in
+    let predicate = iri_bytes form.escapes quad.predicate ++ space in
+    let object = term_bytes form quad.object ++ space in
+    let graph = graph_bytes form quad.graph in
     let parts : c.put_object.new.out.items ≡ out ++ (subject ++ predicate ++ object) =
     parts_appended _ _ _ _ _ _ _ c.in_ok-put_subject.ensures.written c.in_ok-put_predicate.ensures.written c.in_ok-put_object.ensures.written in
     let whole : (out ++ (subject ++ predicate ++ object)) ++ (graph ++ 46 ∷ [] ++ 10 ∷ []) ≡ out ++ (subject ++ predicate ++ object ++ graph ++ 46 ∷ [] ++ 10 ∷ []) = simp append_assoc in
     on_ok c.put_end.result
-    (λ h. h ∙ (ap (λ x. x ++ (graph ++ 46 ∷ [] ++ 10 ∷ [])) parts ∙ (whole ∙ ap (λ x. out ++ x) (sym (encoded_line c.args.style escapes quad)))))
+    (λ h. h ∙ (ap (λ x. x ++ (graph ++ 46 ∷ [] ++ 10 ∷ [])) parts ∙ (whole ∙ ap (λ x. out ++ x) (sym (encoded_line form quad)))))
     c.put_end.ensures.written
 
 pub returns-clause-grown : goal.returns-clause-grown

@@ -1,0 +1,159 @@
+-- Names with a word in front: they stay well formed and apart, and without a word they are as they were.
+use Rattle.std.proofs.Common.{◌≡◌, ℕ, ◌<◌, ◌⊎◌, true, List, [], ◌∷◌, ◌++◌, length, take, refl, sym, ap, ◌∙◌, Option, Some, None, ⊎_elim, inl, inr, arith}
+use Rattle.std.specs.Prelude.{decimal}
+use Rattle.std.specs.List.{AllByRecursion}
+use Rattle.std.specs.Str.{chars}
+use Rattle.std.proofs.Math.Seq.{take-append_seam}
+use Rattle.std.proofs.lemmas.Bool.{and_parts, or_cases}
+use Rattle.std.proofs.lemmas.Bool.Decides.{nat_tests}
+use Rattle.std.proofs.lemmas.List.{append_cancel_left}
+use Rattle.std.proofs.lemmas.Str.{chars-nil}
+use Rattle.rdf_terms.specs.declared.kind.Dialect.TheVariants.{Lines}
+use Rattle.rdf_terms.specs.Classes.{has, is_letter, is_digit}
+use Rattle.rdf_terms.specs.Classes.Class.{digit, pn_u}
+use Rattle.rdf_terms.specs.Terms.{Node, Label, Anon, Cell, Subject, Iri, Blank, Term, Resource, Literal, Quad, all_have, IsLabel, IsNode, IsSubject, IsTerm, IsGraph, IsQuad}
+use Rattle.rdf_lines.specs.declared.form.Escapes.{Escapes}
+use Rattle.rdf_lines.specs.declared.form.Style.{Style}
+use Rattle.rdf_lines.specs.declared.form.Style.TheVariants.{Kept, Tagged}
+use Rattle.rdf_lines.specs.Writing.{rename_node, rename, quad_text, line, CanWriteNode, CanWriteSubject, CanWriteTerm, CanWriteGraph, CanWrite, HasAsciiLabel}
+use Rattle.rdf_lines.specs.NodePrefixes.{is_word_char, IsNodePrefix, prefix_node, prefix_subject, prefix_term, prefix_graph, put_prefix, Form, unprefixed, name_node, line_in, text_in}
+use Rattle.rdf_lines.specs.Laws.{PrefixedNamesStayApart, PrefixesKeepApart, NoPrefixIsNoChange}
+use Rattle.rdf_lines.proofs.AsciiLemmas.{joined, number_low}
+use Rattle.rdf_lines.proofs.Renamed.{label_front, rename_injective}
+
+-- The empty word changes nothing.
+node_same : (n : Node) → prefix_node [] n ≡ n
+node_same (Label x) = refl
+node_same (Anon n) = refl
+node_same (Cell n) = refl
+
+subject_same : (s : Subject) → prefix_subject [] s ≡ s
+subject_same (Iri i) = refl
+subject_same (Blank n) = ap Blank (node_same n)
+
+term_same : (t : Term) → prefix_term [] t ≡ t
+term_same (Resource s) = ap Resource (subject_same s)
+term_same (Literal w t) = refl
+
+graph_same : (g : Option Subject) → prefix_graph [] g ≡ g
+graph_same None = refl
+graph_same (Some g) = ap Some (subject_same g)
+
+-- so the quad stays as it is
+pub put_nothing : (q : Quad) → put_prefix [] q ≡ q
+put_nothing q =
+    ap (λ s. record { subject = s; predicate = q.predicate; object = prefix_term [] q.object; graph = prefix_graph [] q.graph }) (subject_same q.subject)
+    ∙ (ap (λ t. record { subject = q.subject; predicate = q.predicate; object = t; graph = prefix_graph [] q.graph }) (term_same q.object)
+    ∙ ap (λ (g : Option Subject). record { subject = q.subject; predicate = q.predicate; object = q.object; graph = g }) (graph_same q.graph))
+
+-- and the line is that of the style and the escapes
+pub line_unprefixed : (s : Style) (e : Escapes) (q : Quad) → line_in (unprefixed s e) q ≡ line s e q
+line_unprefixed s e q = ap (quad_text e) (put_nothing (rename s q))
+
+-- line by line
+pub text_unprefixed : NoPrefixIsNoChange
+text_unprefixed s e [] = refl
+text_unprefixed s e (q ∷ qs) = ap (λ x. x ++ text_in (unprefixed s e) qs) (line_unprefixed s e q) ∙ ap (λ x. line s e q ++ x) (text_unprefixed s e qs)
+
+-- there is no character in the empty text, so it is a word
+pub no_chars : chars [] ≡ []
+no_chars = chars-nil
+
+pub no_word : IsNodePrefix (chars [])
+no_word = ap (all_have is_word_char) chars-nil
+
+-- A word and a label are a label.
+word_begins : (c : ℕ) → is_word_char c ≡ true → (has (pn_u Lines) c ≡ true) ⊎ (has digit c ≡ true)
+unfolding has
+word_begins c h = ⊎_elim (λ l. inl (grind (arith, nat_tests))) (λ d. inr (grind (arith, nat_tests))) (or_cases (is_letter c) (is_digit c) h)
+
+prefixed_label : (p : List ℕ) → IsNodePrefix p → (x : List ℕ) → IsLabel x → IsLabel (p ++ x)
+prefixed_label [] h x l = l
+prefixed_label (c ∷ p) h x l =
+    let a = and_parts (is_word_char c) (all_have is_word_char p) h in
+    label_front c (p ++ x) (word_begins c a.0) (prefixed_label p a.1 x l)
+
+prefixed_node : (p : List ℕ) → IsNodePrefix p → (n : Node) → IsNode n → CanWriteNode Kept n → IsNode (prefix_node p n) × CanWriteNode Kept (prefix_node p n)
+prefixed_node p h (Label x) i c = (prefixed_label p h x i, tt)
+prefixed_node p h (Anon n) i c = absurd c
+prefixed_node p h (Cell n) i c = absurd c
+
+prefixed_subject : (p : List ℕ) → IsNodePrefix p → (s : Subject) → IsSubject s → CanWriteSubject Kept s → IsSubject (prefix_subject p s) × CanWriteSubject Kept (prefix_subject p s)
+prefixed_subject p h (Iri i) f c = (f, tt)
+prefixed_subject p h (Blank n) f c = prefixed_node p h n f c
+
+prefixed_term : (p : List ℕ) → IsNodePrefix p → (t : Term) → IsTerm t → CanWriteTerm Kept t → IsTerm (prefix_term p t) × CanWriteTerm Kept (prefix_term p t)
+prefixed_term p h (Resource s) f c = prefixed_subject p h s f c
+prefixed_term p h (Literal w t) f c = (f, tt)
+
+prefixed_graph : (p : List ℕ) → IsNodePrefix p → (g : Option Subject) → IsGraph g → CanWriteGraph Kept g → IsGraph (prefix_graph p g) × CanWriteGraph Kept (prefix_graph p g)
+prefixed_graph p h None f c = (tt, tt)
+prefixed_graph p h (Some g) f c = prefixed_subject p h g f c
+
+-- a quad whose nodes have labels stays well formed, and they have labels still
+pub prefixed : (p : List ℕ) → IsNodePrefix p → (q : Quad) → IsQuad q → CanWrite Kept q → IsQuad (put_prefix p q) × CanWrite Kept (put_prefix p q)
+prefixed p h q f c =
+    let a = prefixed_subject p h q.subject f.subject c.subject in
+    let b = prefixed_term p h q.object f.object c.object in
+    let d = prefixed_graph p h q.graph f.graph c.graph in
+    (record { subject = a.0; predicate = f.predicate; object = b.0; graph = d.0 }, record { subject = a.1; object = b.1; graph = d.1 })
+
+-- A word in front keeps names apart.
+prefix_injective : (p : List ℕ) (m n : Node) → prefix_node p m ≡ prefix_node p n → m ≡ n
+prefix_injective p (Label x) (Label y) e = let z : p ++ x ≡ p ++ y = cc in ap Label (append_cancel_left p x y z)
+prefix_injective p (Label x) (Anon n) e = absurd (let z : Label (p ++ x) ≡ Anon n = e in cc)
+prefix_injective p (Label x) (Cell n) e = absurd (let z : Label (p ++ x) ≡ Cell n = e in cc)
+prefix_injective p (Anon n) (Label x) e = absurd (let z : Anon n ≡ Label (p ++ x) = e in cc)
+prefix_injective p (Cell n) (Label x) e = absurd (let z : Cell n ≡ Label (p ++ x) = e in cc)
+prefix_injective p (Anon m) (Anon n) e = e
+prefix_injective p (Anon m) (Cell n) e = e
+prefix_injective p (Cell m) (Anon n) e = e
+prefix_injective p (Cell m) (Cell n) e = e
+
+-- so in one form no two nodes have one name
+pub names_apart : PrefixedNamesStayApart
+names_apart f m n g h e = rename_injective f.style m n g h (prefix_injective f.prefix (rename_node f.style m) (rename_node f.style n) e)
+
+-- Labels with two words of one length in front are equal only where the words are.
+words_equal : (p r x y : List ℕ) → length p ≡ length r → p ++ x ≡ r ++ y → p ≡ r
+words_equal p r x y l e = sym (take-append_seam p x) ∙ (ap (λ n. take n (p ++ x)) l ∙ (ap (take (length r)) e ∙ take-append_seam r y))
+
+-- a node that can be written has a label, and the word in front of it
+labelled : (s : Style) (n : Node) → CanWriteNode s n → (x : List ℕ) × (rename_node s n ≡ Label x)
+labelled Kept (Label x) c = (x, refl)
+labelled Kept (Anon n) c = absurd c
+labelled Kept (Cell n) c = absurd c
+labelled Tagged (Label x) c = (110 ∷ x, refl)
+labelled Tagged (Anon n) c = (97 ∷ decimal n, refl)
+labelled Tagged (Cell n) c = (99 ∷ decimal n, refl)
+
+-- so the names of two forms are apart
+pub forms_apart : PrefixesKeepApart
+forms_apart f g m n l d a b e =
+    let (x, i) = labelled f.style m a in
+    let (y, j) = labelled g.style n b in
+    let same : Label (f.prefix ++ x) ≡ Label (g.prefix ++ y) = sym (ap (prefix_node f.prefix) i) ∙ (e ∙ ap (prefix_node g.prefix) j) in
+    let text : f.prefix ++ x ≡ g.prefix ++ y = cc in
+    d (words_equal f.prefix g.prefix x y l text)
+
+-- Words are of ASCII, so the names stay so.
+word_low : (p : List ℕ) → IsNodePrefix p → AllByRecursion (λ c. c < 128) p
+word_low [] h = tt
+word_low (c ∷ p) h = let a = and_parts (is_word_char c) (all_have is_word_char p) h in (char_low c a.0, word_low p a.1)
+  where
+    char_low : (c : ℕ) → is_word_char c ≡ true → c < 128
+    char_low c h = grind (arith, nat_tests)
+
+pub named_low : (f : Form) → IsNodePrefix f.prefix → (n : Node) → HasAsciiLabel n → HasAsciiLabel (name_node f n)
+named_low f p n h = prefixed_low (rename_node f.style n) (renamed_low f.style n h)
+  where
+    renamed_low : (s : Style) (n : Node) → HasAsciiLabel n → HasAsciiLabel (rename_node s n)
+    renamed_low Kept n h = h
+    renamed_low Tagged (Label x) h = (omega arith, h)
+    renamed_low Tagged (Anon n) h = (omega arith, number_low n)
+    renamed_low Tagged (Cell n) h = (omega arith, number_low n)
+
+    prefixed_low : (n : Node) → HasAsciiLabel n → HasAsciiLabel (prefix_node f.prefix n)
+    prefixed_low (Label x) h = joined f.prefix x (word_low f.prefix p) h
+    prefixed_low (Anon n) h = tt
+    prefixed_low (Cell n) h = tt
