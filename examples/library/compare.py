@@ -23,58 +23,73 @@ MADE = {
 }
 
 
-def by_program(program, format, base, name):
-    run = subprocess.run([program, 'convert', '--format', format, *(['--base', base] if base else []), name], capture_output=True)
+# The prefixes that are handed in: none, some, and a file whose second line is refused.
+PREFIXES = {'-': b'', 'bound.txt': b'x: http://example.org/x/\n', 'bad.txt': b'x: http://example.org/x/\nx <a:b>\n'}
+
+
+def by_program(program, action, case, name, prefixes):
+    format, base, named, ascii = case
+    words = [program, action, '--format', format, *(['--base', base] if base else []), *(['--prefixes', prefixes] if named != '-' else []),
+             *(['--ascii'] if ascii and action == 'convert' else []), name]
+    run = subprocess.run(words, capture_output=True)
     return run.stdout, run.stderr, run.returncode
 
 
-def by_c(format, base, name):
-    run = subprocess.run([f'{HERE}/convert', str(rdfconv.FORMATS[format]), name, *([base] if base else [])], capture_output=True)
+def by_c(case, name, prefixes):
+    format, base, named, ascii = case
+    words = [f'{HERE}/convert', str(rdfconv.FORMATS[format]), name, base, prefixes if named != '-' else '-', str(int(ascii))]
+    run = subprocess.run(words, capture_output=True)
     return run.stdout, run.stderr, run.returncode
 
 
-def by_python(format, base, name):
-    with open(name, 'rb') as file:
-        document = file.read()
+def by_python(case, document):
+    format, base, named, ascii = case
     try:
-        lines = rdfconv.convert(document, format, base.encode())
+        lines = rdfconv.convert(document, format, base.encode(), PREFIXES[named], ascii=ascii)
     except rdfconv.Refused as refused:
         return refused.lines, f'rdfconv: {refused}\n'.encode(), 1
+    except rdfconv.BadPrefixes as bad:
+        return b'', f'rdfconv: {bad}\n'.encode(), 2
     return lines, b'', 0
 
 
-def checks(program, format, base, name):
-    with open(name, 'rb') as file:
-        document = file.read()
-    run = subprocess.run([program, 'check', '--format', format, *(['--base', base] if base else []), name], capture_output=True)
+def check_by_python(case, document):
+    format, base, named, ascii = case
     try:
-        quads, _, size = rdfconv.check(document, format, base.encode())
-        return run.stdout == f'accepted, {quads} quads, {size} bytes\n'.encode()
+        quads, _, size = rdfconv.check(document, format, base.encode(), PREFIXES[named], ascii=ascii)
     except rdfconv.Refused as refused:
-        return run.stderr == f'rdfconv: {refused}\n'.encode()
+        return b'', f'rdfconv: {refused}\n'.encode(), 1
+    except rdfconv.BadPrefixes as bad:
+        return b'', f'rdfconv: {bad}\n'.encode(), 2
+    return f'accepted, {quads} quads, {size} bytes\n'.encode(), b'', 0
 
 
 def main(program, files):
-    wrong = 0
+    wrong = runs = 0
     with tempfile.TemporaryDirectory() as room:
-        for name, document in MADE.items():
+        for name, text in {**MADE, **PREFIXES}.items():
             with open(f'{room}/{name}', 'wb') as file:
-                file.write(document)
-            files.append(f'{room}/{name}')
-        for name in files:
-            format, base = name.rsplit('.', 1)[1], BASE if 'based' in name else ''
-            wanted = by_program(program, format, base, name)
-            same = wanted == by_c(format, base, name) == by_python(format, base, name) and checks(program, format, base, name)
-            wrong += not same
-            print('same  ' if same else 'DIFFER', os.path.basename(name), len(wanted[0]), wanted[1].decode().strip())
-    for bad in dict(token=0), dict(base=b'no iri'), dict(base=b'a:\xff'), dict(iri=3, base=b'a:bcd'):
+                file.write(text)
+        for name in files + [f'{room}/{name}' for name in MADE]:
+            with open(name, 'rb') as file:
+                document = file.read()
+            for named in PREFIXES:
+                for ascii in False, True:
+                    case = name.rsplit('.', 1)[1], BASE if 'based' in name else '', named, ascii
+                    wanted = by_program(program, 'convert', case, name, f'{room}/{named}')
+                    same = wanted == by_c(case, name, f'{room}/{named}') == by_python(case, document)
+                    same &= by_program(program, 'check', case, name, f'{room}/{named}') == check_by_python(case, document)
+                    wrong += not same
+                    runs += 1
+                    print('same  ' if same else 'DIFFER', os.path.basename(name), named, ascii, len(wanted[0]), wanted[1].decode().strip())
+    for bad in dict(token=0), dict(base=b'no iri'), dict(base=b'a:\xff'), dict(iri=3, base=b'a:bcd'), dict(ascii=2):
         try:
             rdfconv.convert(b'', 'ttl', **bad)
             print('DIFFER', bad)
             wrong += 1
         except ValueError as error:
             print('same  ', bad, error)
-    print(f'{len(files)} documents and 4 requests of no job: {wrong} differ')
+    print(f'{runs} runs over {len(files) + len(MADE)} documents and 5 requests of no job: {wrong} differ')
     return wrong != 0
 
 

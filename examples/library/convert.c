@@ -1,5 +1,6 @@
-/* convert FORMAT FILE [BASE]: writes the lines of the file's quads to standard output, or says on standard error why it is refused.
-   The formats are 0 N-Triples, 1 N-Quads, 2 Turtle and 3 TriG. The status is that of the program rdfconv. */
+/* convert FORMAT FILE [BASE [PREFIXES [ASCII]]]: writes the lines of the file's quads to standard output, or says on standard error why
+   it is refused. The formats are 0 N-Triples, 1 N-Quads, 2 Turtle and 3 TriG; a BASE of no characters is none; PREFIXES is a file, - for
+   none; ASCII is 0 or 1. The status is that of the program rdfconv. */
 #include "rdfconv.h"
 #include <stdio.h>
 #include <stdlib.h>
@@ -31,10 +32,15 @@ int main(int argc, char **argv) {
     size_t base_len = strlen((const char *)base), len = 0, room;
     uint8_t *input = read_file(argv[2], &len), *output;
     if (!input) return 3;
+    const char *named = argc > 4 ? argv[4] : "-";
+    size_t prefixes_len = 0;
+    uint8_t none = 0, *prefixes = strcmp(named, "-") ? read_file(named, &prefixes_len) : &none;
+    if (!prefixes) return 3;
+    request.ascii = argc > 5 ? strtoull(argv[5], NULL, 10) : 0;
     room = 2 * len + 4096;
     rdfconv_outcome outcome;
     for (output = malloc(room); output; output = realloc(output, room)) {
-        rdfconv_convert(&request, base, base_len, input, len, output, room, &outcome);
+        rdfconv_convert(&request, base, base_len, prefixes, prefixes_len, input, len, output, room, &outcome);
         if (outcome.needed <= room) break;
         room = outcome.needed; /* the lines have more bytes: once more, with room for all */
     }
@@ -43,7 +49,10 @@ int main(int argc, char **argv) {
     if (outcome.status == RDFCONV_REFUSED)
         fprintf(stderr, "rdfconv: %s at byte %llu, line %llu\n", reasons[outcome.reason], (unsigned long long)outcome.offset,
                 (unsigned long long)outcome.line);
+    if (outcome.status == RDFCONV_PREFIXES)
+        fprintf(stderr, "rdfconv: bad prefixes at line %llu\n", (unsigned long long)outcome.line);
     free(output);
     free(input);
-    return short_write ? 3 : (int)outcome.status;
+    if (prefixes != &none) free(prefixes);
+    return short_write ? 3 : outcome.status == RDFCONV_PREFIXES ? 2 : (int)outcome.status;
 }
