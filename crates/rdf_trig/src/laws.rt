@@ -1,7 +1,7 @@
 //! The laws of Turtle and TriG. These functions do nothing: their contracts are the laws.
 
 ghost use Rattle.rdf_trig.specs.Laws.{EventsTellTheTree, MarksNeverFall, TokensSettleTheQuads, TokensSettleWhatIsDue, DueBeginsTheQuads, TokensSettleTheirSenses, ViableIsShapedAndBound, BeginningsAreCompleted, NamelessIsUnbound, DirectivesBind};
-ghost use Rattle.rdf_trig.specs.Laws.{DocumentsAreAccepted, AcceptedIsADocument, AcceptedBeginsADocument, RefusedForItsReason, ReadQuadsAreDue, DocumentsAreRead, RefusedIsNoDocument, DocumentIsWritable, WrittenDocumentIsRead};
+ghost use Rattle.rdf_trig.specs.Laws.{DocumentsAreAccepted, AcceptedIsADocument, AcceptedBeginsADocument, RefusedForItsReason, ReadQuadsAreDue, DocumentsAreRead, RefusedIsNoDocument, DocumentIsWritable, WrittenDocumentIsRead, PrefixedDocumentIsRead};
 
 /// The events of a tree, from left to right, have the tokens that it derives, and its quads with their marks.
 pub fn events_tell_the_tree()
@@ -97,4 +97,9 @@ pub fn document_is_writable()
 /// for an IRI and its brackets, and its limit on IRIs, each at least 64.
 pub fn written_document_is_read()
     ensures { WrittenDocumentIsRead }
+{}
+
+/// With a word in front of the names of nodes it is read so too, with the word's length more for tokens.
+pub fn prefixed_document_is_read()
+    ensures { PrefixedDocumentIsRead }
 {}

@@ -92,7 +92,7 @@ fn put_front<A: Allocator + Copy>(
     put_part(letter, out)
 }
 
-// What is mostly empty costs a test then.
+// Appends a text that is mostly empty, which costs a test alone.
 fn put_part<A: Allocator + Copy>(text: &str, out: &mut Vec<u8, A>) -> Result<(), AllocError>
     ensures written { OnOk result (out.new.items ≡ out.old.items ++ text.now) }
     ensures unchanged { OnErr result (out.new.items ≡ out.old.items) }

@@ -8,24 +8,26 @@ use Rattle.rdf_terms.specs.Terms.{Node, Label, Anon, Cell, Tail, Lang, Typed, Bl
 use Rattle.rdf_terms.specs.Terms as term
 use Rattle.rdf_tokens.specs.Tokens.{Token}
 use Rattle.rdf_tokens.specs.Scans.{IsToken, most_bytes}
-use Rattle.rdf_tokens.specs.Grammars.{unmarked, PassesNone, reading_of, IsDocumentOf}
+use Rattle.rdf_tokens.specs.Grammars.{unmarked, PassesNone, reading_of, IsDocumentOf, IsWhole}
 use Rattle.rdf_tokens.specs.Laws.{StandsIn}
 use Rattle.rdf_tokens.proofs.LawLemmas.{have_shapes, places}
 use Rattle.rdf_tokens.proofs.LimitLemmas.{no_longer}
 use Rattle.rdf_iri.specs.Texts.{byte_len}
 use Rattle.rdf_iri.specs.Scope.{InForce}
+use Rattle.rdf_lines.specs.declared.form.Escapes.{Escapes}
 use Rattle.rdf_lines.specs.declared.form.Escapes.TheVariants.{Plain}
 use Rattle.rdf_lines.specs.declared.form.Style.TheVariants.{Tagged}
 use Rattle.rdf_lines.specs.Writing.{CanWriteSubject, CanWriteTerm, CanWriteGraph, Writable, subject_text, rename_subject, rename_term, rename}
-use Rattle.rdf_lines.specs.Laws.{SubjectWithin, TailWithin, TermWithin, GraphWithin, IrisWithin, TailShort, TermShort, GraphShort, TokensWithin}
+use Rattle.rdf_lines.specs.Laws.{string_width, iri_width, SubjectWithin, TailWithin, TermWithin, GraphWithin, IrisWithin, TailShort, TermShort, GraphShort, TokensWithin}
 use Rattle.rdf_lines.proofs.AcceptedLemmas.{text_read}
+use Rattle.rdf_lines.proofs.FormReadBack.{form_text_read}
 use Rattle.rdf_lines.proofs.WellFormed.{each}
 use Rattle.rdf_trig.specs.declared.form.DocForm.{DocForm}
 use Rattle.rdf_trig.specs.Trees.{Document, document_tokens}
 use Rattle.rdf_trig.specs.Events.{Use, itself, stands, binds, Event, Took, Gave, tokens, Bound, document_events}
 use Rattle.rdf_trig.specs.Documents.{IsLong, Passes, InTree}
 use Rattle.rdf_trig.specs.Language.{language}
-use Rattle.rdf_trig.specs.Laws.{HasIris, DocumentIsWritable, WrittenDocumentIsRead}
+use Rattle.rdf_trig.specs.Laws.{HasIris, DocumentIsWritable, WrittenDocumentIsRead, PrefixedDocumentIsRead}
 use Rattle.rdf_trig.proofs.trees.TokensOfEvents.{document_told}
 use Rattle.rdf_trig.proofs.trees.Senses.{tokens_behind}
 use Rattle.rdf_trig.proofs.theorems.WrittenParts.{Room, FitSubject, FitTail, FitTerm, GoodToken, Within}
@@ -181,9 +183,18 @@ module _ (r : Room) (form : DocForm) (start : InForce) (same : r.iri ≡ start.l
         kept_within (front ++ Took t u ∷ []) es (e ∙ sym (append_assoc front (Took t u ∷ []) es)),
       )
 
--- the law that what was written is read to its end
-pub document_read_back : WrittenDocumentIsRead
-document_read_back x form start bytes qs h l d w token_then iri_then a b c e f =
+-- the quads of a document, and the limits that suffice
+record Fitting (x : Escapes) (qs : List Quad) (token_then iri_then : ℕ) : Type 0 where
+  writable : Writable Tagged qs
+  least : 2 ≤ token_then
+  shorts : AllByRecursion (TokensWithin x token_then) (map (rename Tagged) qs)
+  iris : AllByRecursion (IrisWithin iri_then) qs
+
+fitting : (x : Escapes) (form : DocForm) (start : InForce) (bytes : List ℕ) (qs : List Quad) → HasIris start → length bytes ≤ most_bytes →
+    IsDocumentOf (language form start) bytes qs → IsWhole (language form start) bytes → (token_then iri_then : ℕ) →
+    string_width x * start.limits.token ≤ token_then → iri_width x * start.limits.iri + 2 ≤ token_then → 64 ≤ token_then →
+    start.limits.iri ≤ iri_then → 64 ≤ iri_then → Fitting x qs token_then iri_then
+fitting x form start bytes qs h l d w token_then iri_then a b c e f =
     let r : Room = record {
       form = x;
       most = start.limits.token;
@@ -200,5 +211,16 @@ document_read_back x form start bytes qs h l d w token_then iri_then a b c e f =
     let kept = subst (PassesNone (Passes form start)) d.2.tokens w.front.kept in
     let within = kept_within r form start refl tree d.2.bound kept [] (document_events start tree) refl in
     let fits = document_fits r form start bytes qs refl h l d within in
-    let two : 2 ≤ token_then = omega arith in
-    text_read Tagged x qs token_then iri_then (writable r qs fits) two (shorts r qs fits) (iris r qs fits)
+    record { writable = writable r qs fits; least = omega arith; shorts = shorts r qs fits; iris = iris r qs fits }
+
+-- the law that what was written is read to its end
+pub document_read_back : WrittenDocumentIsRead
+document_read_back x form start bytes qs h l d w token_then iri_then a b c e f =
+    let fits = fitting x form start bytes qs h l d w token_then iri_then a b c e f in
+    text_read Tagged x qs token_then iri_then fits.writable fits.least fits.shorts fits.iris
+
+-- and with a word in front of the names
+pub form_document_read : PrefixedDocumentIsRead
+form_document_read x p form start bytes qs word h l d w token_then iri_then a b c e f =
+    let fits = fitting x form start bytes qs h l d w token_then iri_then a b c e f in
+    form_text_read (record { style = Tagged; escapes = x; prefix = p }) qs token_then iri_then word fits.writable fits.least fits.shorts fits.iris
