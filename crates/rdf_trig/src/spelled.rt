@@ -75,12 +75,13 @@ pub fn prefix<A: Allocator>(alloc: A, text: &str) -> Result<String<A>, StepFault
 }
 
 /// What stands before the first colon of a name, and after it.
+#[inline(always)]
 pub fn parts(name: &str) -> (&str, &str)
     ensures prefix { chars result.0.now ≡ before 58 (chars name.now) }
     ensures local { chars result.1.now ≡ unwrap_or (after 58 (chars name.now)) [] }
 {
-    match name.split_once(':') {
-        Some(parts) => parts,
+    match name.as_bytes().iter().position(|byte| *byte == b':') {
+        Some(len) => (&name[..len], &name[len + 1..]),
         None => (name, ""),
     }
 }

@@ -10,7 +10,7 @@ use Rattle.rdf_iri.specs.Texts.{before, after}
 use Rattle.rdf_iri.proofs.Encoded.{before-bytes, after-bytes}
 
 -- ':' as a byte, by which the code looks for the end of a prefix
-abbrev is_colon : ℕ → Bool
+abbrev pub is_colon : ℕ → Bool
 is_colon b = b == 58
 
 -- a ':' at the front is at place 0

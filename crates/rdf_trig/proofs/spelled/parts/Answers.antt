@@ -1,19 +1,36 @@
 -- The code cuts a name at its first ':' where the definition does.
-use Rattle.std.proofs.Common.{arith, sym, ap, []}
+use Rattle.std.proofs.Common.{◌≡◌, ◌<◌, ◌+◌, ◌-◌, length, take, drop, get_or, sym, ap, ◌∙◌, arith, rules, []}
 use Rattle.std.specs.Prelude.{unwrap_or}
 use Rattle.std.specs.Str.{chars}
-use Rattle.rdf_trig.proofs.code.ColonLemmas.{front_chars, back_chars, no_colon}
+use Rattle.std.specs.List.{position_or_len}
+use Rattle.std.proofs.lemmas.List.Sums.{position_or_len_is}
+use Rattle.std.proofs.lemmas.Str.{IsCharBoundary-after_ascii}
+use Rattle.rdf_trig.proofs.code.ColonLemmas.{is_colon, front_chars, back_chars, no_colon}
 use Rattle.rdf_trig.proofs.spelled.parts.Goals as goal
 
+pub range_from-requires : goal.range_from-requires
+range_from-requires c =
+    let b : get_or c.args.name.now c.in-Some.len 0 ≡ 58 = search rules in
+    λ _. IsCharBoundary-after_ascii c.args.name.now c.in-Some.len c.utf8.name (search rules) (omega (arith, b))
+
 pub returns-in-Some-clause-prefix : goal.returns-in-Some-clause-prefix
-returns-in-Some-clause-prefix c = front_chars c.args.name.now _ c.utf8.name (c.in-Some.ensures.byte (omega arith) (λ w o h. h)).0
+returns-in-Some-clause-prefix c =
+    let name = c.args.name.now in
+    let found : position_or_len is_colon name ≡ c.in-Some.len = position_or_len_is is_colon name c.in-Some.len 0 (search rules) (search rules) (search rules) in
+    let e : c.in-Some.len - 0 ≡ position_or_len is_colon name = omega (arith, found) in
+    front_chars name _ c.utf8.name (c.range.ensures.value ∙ ap (λ n. take n name) e)
 
 pub returns-in-Some-clause-local : goal.returns-in-Some-clause-local
-returns-in-Some-clause-local c = let r = c.in-Some.ensures.byte (omega arith) (λ w o h. h) in back_chars c.args.name.now _ c.utf8.name r.2 r.1
+returns-in-Some-clause-local c =
+    let name = c.args.name.now in
+    let found : position_or_len is_colon name ≡ c.in-Some.len = position_or_len_is is_colon name c.in-Some.len 0 (search rules) (search rules) (search rules) in
+    let l : c.in-Some.len < length name = search rules in
+    back_chars name _ c.utf8.name (omega (arith, found, l)) (c.range_from.ensures.value ∙ ap (λ n. drop (n + 1) name) (sym found))
 
 pub returns-in-None-clause-prefix : goal.returns-in-None-clause-prefix
-returns-in-None-clause-prefix c = (no_colon c.args.name.now c.utf8.name (c.in-None.ensures.byte (omega arith) (λ w o h. h))).0
+returns-in-None-clause-prefix c = (no_colon c.args.name.now c.utf8.name (position_or_len_is is_colon c.args.name.now (length c.args.name.now) 0 (omega arith) (search rules) (search rules))).0
 
 pub returns-in-None-clause-local : goal.returns-in-None-clause-local
 unfolding chars
-returns-in-None-clause-local c = sym (ap (λ o. unwrap_or o []) (no_colon c.args.name.now c.utf8.name (c.in-None.ensures.byte (omega arith) (λ w o h. h))).1)
+returns-in-None-clause-local c =
+    sym (ap (λ o. unwrap_or o []) (no_colon c.args.name.now c.utf8.name (position_or_len_is is_colon c.args.name.now (length c.args.name.now) 0 (omega arith) (search rules) (search rules))).1)
