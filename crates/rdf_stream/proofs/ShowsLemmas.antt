@@ -1,5 +1,5 @@
 -- What showing has written after a piece, at the end, or where an error stops it, and a whole run.
-use Rattle.std.proofs.Common.{◌≡◌, ◌≢◌, ◌<◌, ◌≤◌, ◌+◌, ℕ, Bool, true, false, List, [], ◌++◌, ◌⊎◌, length, take, drop, Option, IfSome, refl, sym, ap, subst, ◌∙◌, append_assoc, ⊎_elim, arith, length-append}
+use Rattle.std.proofs.Common.{◌≡◌, ◌≢◌, ◌≤◌, ◌+◌, ℕ, Bool, true, false, List, [], ◌++◌, ◌⊎◌, length, take, drop, Option, IfSome, refl, sym, ap, subst, ◌∙◌, append_assoc, ⊎_elim, arith, length-append}
 use Rattle.std.proofs.lemmas.List.{append-nil, take-append-le, take-append-drop}
 use Rattle.std.proofs.lemmas.Bool.{false≢true}
 use Rattle.std.proofs.KnownBytes.{Appends-nil, Consumes-whole}
@@ -8,9 +8,9 @@ use Rattle.rdf_terms.specs.declared.kind.Dialect.{Dialect}
 use Rattle.rdf_terms.specs.declared.reason.Reason.{Reason}
 use Rattle.rdf_terms.specs.declared.reason.Reason.TheVariants as reason
 use Rattle.rdf_tokens.specs.Tokens.{Place, Outcome, Token, Reading}
-use Rattle.rdf_tokens.specs.Tokens.Outcome.{undecided, complete, token_too_long, bad_utf8, no_token, bad_escape}
+use Rattle.rdf_tokens.specs.Tokens.Outcome.{undecided, token_too_long, bad_utf8, no_token, bad_escape}
 use Rattle.rdf_tokens.specs.Good.{tokens_of, end_of}
-use Rattle.rdf_tokens.specs.Grammars.{BeginsDue, LanguageOf, RefusedIn}
+use Rattle.rdf_tokens.specs.Grammars.{LanguageOf, RefusedIn}
 use Rattle.rdf_tokens.specs.Scans.{most_bytes, place_of}
 use Rattle.rdf_tokens.proofs.LawLemmas.{lengthens}
 use Rattle.rdf_tokens.proofs.GrammarsLemmas.{tokens_of-nil}
@@ -32,7 +32,7 @@ use Rattle.rdf_stream.specs.Showing.{Begins, HaltsFor, HandedOver, IsShowing, Le
 use Rattle.rdf_stream.specs.TokenWords.{token_words, without_end}
 use Rattle.rdf_stream.proofs.LineOutLemmas.{front_moves, moves_all, moves_front, moves_more, moves_on, same_out}
 use Rattle.rdf_stream.proofs.PiecesLemmas.{all_given}
-use Rattle.rdf_stream.proofs.TokenOutLemmas.{Put, TriedTokens, all-append, all_lines, first_shown, lines-append, lines_without, put, tries_tokens, tried_tokens}
+use Rattle.rdf_stream.proofs.TokenOutLemmas.{Put, TriedTokens, all-append, all_lines, first_shown, lines_without, put, tries_tokens, tried_tokens}
 use Rattle.rdf_stream.proofs.TokenWordsLemmas.{due_tokens, without-append}
 
 -- ---- what was shown of a reading

@@ -1,5 +1,5 @@
 -- The tokens of a dialect as a grammar: its laws, and what accepting a token does.
-use Rattle.std.proofs.Common.{◌≡◌, ◌<◌, ◌≤◌, ◌+◌, ◌*◌, ℕ, Bool, true, false, cond, List, [], ◌∷◌, ◌++◌, length, ltb, refl, sym, ap, subst, ◌∙◌, append_assoc, inl, arith, Result, Err, ◌↔◌}
+use Rattle.std.proofs.Common.{◌≡◌, ◌<◌, ◌≤◌, ◌+◌, ◌*◌, ℕ, Bool, true, false, cond, List, [], ◌∷◌, ◌++◌, length, ltb, refl, sym, ap, subst, ◌∙◌, inl, arith, Result, Err, ◌↔◌}
 use Rattle.std.proofs.lemmas.List.{append-nil}
 use Rattle.std.proofs.lemmas.Bool.{cond-false, cond-true, cond_both, le-ltb, lt-ltb}
 use Rattle.rdf_terms.specs.declared.kind.Dialect.{Dialect}
@@ -7,7 +7,7 @@ use Rattle.rdf_terms.specs.declared.sink.PutFault.{PutFault}
 use Rattle.rdf_terms.specs.declared.sink.PutFault.TheVariants as put
 use Rattle.rdf_tokens.specs.Tokens.{Token}
 use Rattle.rdf_tokens.specs.Scans.{is_end}
-use Rattle.rdf_tokens.specs.Grammars.{BeginsDue, Due, MarkedItem, counted, items_below, unmarked}
+use Rattle.rdf_tokens.specs.Grammars.{Due, MarkedItem, counted, items_below, unmarked}
 use Rattle.rdf_driver.specs.Words.{GivesUp, Lawful, Takes}
 use Rattle.rdf_stream.specs.TokenWords.{marked_from, token_words, without_end}
 

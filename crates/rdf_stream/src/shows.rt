@@ -43,8 +43,22 @@ pub fn show<A: Allocator + Copy, S: Source, D: Drain>(
     let mut buffer = Vec::new(alloc);
     let mut lines = LineOut::new(Style::Kept, &mut buffer, drain);
     match dialect(job.form()) {
-        Dialect::Lines => show_in(alloc, InLines, &job, source, piece.as_mut_slice(), &mut lines),
-        Dialect::Turtle => show_in(alloc, InTurtle, &job, source, piece.as_mut_slice(), &mut lines),
+        Dialect::Lines => show_in(
+            alloc,
+            InLines,
+            &job,
+            source,
+            piece.as_mut_slice(),
+            &mut lines,
+        ),
+        Dialect::Turtle => show_in(
+            alloc,
+            InTurtle,
+            &job,
+            source,
+            piece.as_mut_slice(),
+            &mut lines,
+        ),
     }
 }
 
