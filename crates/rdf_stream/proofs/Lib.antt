@@ -8,5 +8,7 @@ pub mod ConvertingLemmas
 pub mod ConvertsLemmas
 pub mod DocumentLemmas
 pub mod ChecksLemmas
+pub mod TokenWordsLemmas
+pub mod TokenOutLemmas
 pub mod ShowsLemmas
 pub mod LoadsLemmas

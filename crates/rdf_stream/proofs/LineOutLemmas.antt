@@ -77,7 +77,7 @@ module _ {D A : Type 0} (contents : D → Option (List ℕ)) (failed : D → Boo
     pub live : failed a.drain.now ≡ false → failed b.drain.now ≡ false
 
   -- some bytes were written, and then others
-  writes_on : (a b c : LineOut D A) (bs cs : List ℕ) → Writes contents a bs b → Writes contents b cs c → Writes contents a (bs ++ cs) c
+  pub writes_on : (a b c : LineOut D A) (bs cs : List ℕ) → Writes contents a bs b → Writes contents b cs c → Writes contents a (bs ++ cs) c
   writes_on a b c bs cs p q =
       subst (λ l. Moves (contents a.drain.now) (contents c.drain.now) l c.buffer.now.items) (append_assoc a.buffer.now.items bs cs)
       (moves_on (contents a.drain.now) (contents b.drain.now) (contents c.drain.now) (a.buffer.now.items ++ bs) cs b.buffer.now.items c.buffer.now.items p q)

@@ -1,500 +1,513 @@
--- What showing a token, a part of a piece and the end has written, from what was shown before.
-use Rattle.std.proofs.Common.{◌≡◌, ◌≢◌, ◌<◌, ◌≤◌, ◌+◌, ◌-◌, ◌^◌, ℕ, Bool, true, false, not, cond, List, [], ◌∷◌, ◌++◌, ◌⊎◌, length, take, drop, Option, Result, Ok, Err, IfOk, IfErr, IfSome, refl, sym, ap, subst, ◌∙◌, append_assoc, ⊎_elim, inl, inr, arith, length-append}
-use Rattle.std.proofs.lemmas.List.{append-nil, take-append-le, take-append-drop, length-take-le}
-use Rattle.std.proofs.lemmas.Bool.{cond-false, false≢true, cond_both}
-use Rattle.std.proofs.Math.Seq.{take-append_seam}
-use Rattle.std.proofs.KnownBytes.{Appends-nil, Consumes-kept, Consumes-nil, Consumes-trans, Consumes-whole}
-use Rattle.std.specs.Io.KnownBytes.{Appends, Consumes, IsAtEnd, Keeps}
-use Rattle.std.specs.Result.{IsErrAnd}
-use Rattle.rdf_terms.specs.declared.kind.Kind.TheVariants.{End}
-use Rattle.rdf_terms.specs.declared.kind.Kind.{Kind}
+-- What showing has written after a piece, at the end, or where an error stops it, and a whole run.
+use Rattle.std.proofs.Common.{◌≡◌, ◌≢◌, ◌≤◌, ◌+◌, ℕ, Bool, true, false, List, [], ◌++◌, ◌⊎◌, length, take, drop, Option, IfSome, refl, sym, ap, subst, ◌∙◌, append_assoc, ⊎_elim, arith, length-append}
+use Rattle.std.proofs.lemmas.List.{append-nil, take-append-le, take-append-drop}
+use Rattle.std.proofs.lemmas.Bool.{false≢true}
+use Rattle.std.proofs.KnownBytes.{Appends-nil, Consumes-whole}
+use Rattle.std.specs.Io.KnownBytes.{Appends}
+use Rattle.rdf_terms.specs.declared.kind.Dialect.{Dialect}
 use Rattle.rdf_terms.specs.declared.reason.Reason.{Reason}
 use Rattle.rdf_terms.specs.declared.reason.Reason.TheVariants as reason
 use Rattle.rdf_tokens.specs.Tokens.{Place, Outcome, Token, Reading}
-use Rattle.rdf_tokens.specs.Tokens.Outcome.{undecided, complete, token_too_long, bad_utf8, no_token, bad_escape}
+use Rattle.rdf_tokens.specs.Tokens.Outcome.{undecided, token_too_long, bad_utf8, no_token, bad_escape}
 use Rattle.rdf_tokens.specs.Good.{tokens_of, end_of}
-use Rattle.rdf_tokens.specs.Unread.{Unread}
-use Rattle.rdf_tokens.specs.Moves as Moved
-use Rattle.rdf_tokens.specs.Scans as Scan
-use Rattle.rdf_tokens.specs.Scans.{HasScanned, GivesToken, IsWaiting, TakesBytes, Waits, is_end, most_bytes, place_of}
-use Rattle.rdf_tokens.specs.Grammars.{counted}
-use Rattle.rdf_tokens.proofs.LawLemmas.{given_beginning, lengthens}
-use Rattle.rdf_tokens.proofs.GrammarsLemmas.{counted-append, counted_complete, end_complete, given_few, only_ended, tokens_of-nil}
+use Rattle.rdf_tokens.specs.Grammars.{LanguageOf, RefusedIn}
+use Rattle.rdf_tokens.specs.Scans.{most_bytes, place_of}
+use Rattle.rdf_tokens.proofs.LawLemmas.{lengthens}
+use Rattle.rdf_tokens.proofs.GrammarsLemmas.{tokens_of-nil}
 use Rattle.rdf_driver.specs.declared.summary.Summary.{Summary}
+use Rattle.rdf_driver.specs.Readers as R
+use Rattle.rdf_driver.specs.Readers.{Driven, FeedFails, Feeds, FinishFails, Finishes, HasRead, LeavesOff, piece_reading}
+use Rattle.rdf_driver.specs.Words.{Words, in_words}
 use Rattle.rdf_stream.specs.Jobs.{JobRead}
 use Rattle.rdf_stream.specs.declared.fault.StreamFault.{StreamFault}
 use Rattle.rdf_stream.specs.declared.fault.StreamFault.TheVariants as stream
 use Rattle.rdf_stream.specs.declared.line_out.LineOut.{LineOut}
-use Rattle.rdf_stream.specs.declared.shows.Showing.{Showing}
 use Rattle.rdf_stream.specs.Devices.{AppendsFront, HasGiven, Reading as Reader}
 use Rattle.rdf_stream.specs.Faults.{IsOfDocument, IsRefusal, fault_by}
 use Rattle.rdf_stream.specs.LineOut.{Moves, SameOut, Writes}
 use Rattle.rdf_stream.specs.Converting.{Tells, TellsFault, TellsWrite}
 use Rattle.rdf_stream.specs.Pieces.{ReadStops, ReadsAll, SourceFails}
-use Rattle.rdf_stream.specs.Shows.{ShowStops, Shows, ShowsFront, ShowsSome, ShowRefuses, StopsAt, dialect_of, shown, token_line, token_lines, tokens_in}
-use Rattle.rdf_stream.specs.ShowParts.{AreAll, Begins, Halts, HaltsFor, HasShown, HasShownAll, IsShowingRun, NowShown, PutHalts, ShowEnds, ShowHalts}
-use Rattle.rdf_stream.proofs.PiecesLemmas.{all_given}
+use Rattle.rdf_stream.specs.Shows.{ShowStops, Shows, ShowsFront, ShowsSome, ShowRefuses, StopsAt, dialect_of, token_lines, tokens_in}
+use Rattle.rdf_stream.specs.Showing.{Begins, HaltsFor, HandedOver, IsShowing, LeavesToken, ShowEnds, ShowHalts, TakesToken}
+use Rattle.rdf_stream.specs.TokenWords.{token_words, without_end}
 use Rattle.rdf_stream.proofs.LineOutLemmas.{front_moves, moves_all, moves_front, moves_more, moves_on, same_out}
+use Rattle.rdf_stream.proofs.PiecesLemmas.{all_given}
+use Rattle.rdf_stream.proofs.TokenOutLemmas.{Put, TriedTokens, all-append, all_lines, first_shown, lines_without, put, tries_tokens, tried_tokens}
+use Rattle.rdf_stream.proofs.TokenWordsLemmas.{due_tokens, without-append}
 
--- the lines of two lists of tokens are those of the first and then the second
-pub lines-append : (ts us : List Token) → token_lines (ts ++ us) ≡ token_lines ts ++ token_lines us
-lines-append [] us = refl
-lines-append (t ∷ ts) us = ap (λ l. shown t ++ l) (lines-append ts us) ∙ sym (append_assoc (shown t) (token_lines ts) (token_lines us))
+-- ---- what was shown of a reading
 
--- a beginning of some lines is one of more lines
-front_more : (a b : Option (List ℕ)) (bytes more : List ℕ) → AppendsFront a b bytes → AppendsFront a b (bytes ++ more)
-front_more a b bytes more f = (f.0, f.1 ++ more, ap (λ l. l ++ more) f.2 ∙ append_assoc f.0 f.1 more, f.3)
+-- the first of its tokens but the end are these
+abbrev Begun : Reading → List Token → Type 0
+Begun r firsts = (rest : List Token) × (without_end r.tokens ≡ firsts ++ rest)
 
--- lines of the first tokens of a reading
-fronts : (a b : Option (List ℕ)) (r : Reading) (ts us : List Token) → r.tokens ≡ ts ++ us → AppendsFront a b (token_lines ts) → ShowsFront r a b
-fronts a b r ts us e f = subst (AppendsFront a b) (sym (lines-append ts us) ∙ ap token_lines (sym e)) (front_more a b (token_lines ts) (token_lines us) f)
+begun_less : (r : Reading) (ts us : List Token) → Begun r (ts ++ us) → Begun r ts
+begun_less r ts us b = (us ++ b.0, b.1 ∙ append_assoc ts us b.0)
 
--- the lines of the first tokens are some of those that may be shown
-some_lines : (a b : Option (List ℕ)) (r : Reading) (ts us : List Token) → r.tokens ≡ ts ++ us → Appends a b (token_lines ts) → ShowsSome r a b
-some_lines a b r ts us e w = record { first = ts; others = us; tokens = e; written = w }
+begun_all : (r : Reading) (ts : List Token) → ts ≡ without_end r.tokens → Begun r ts
+begun_all r ts e = ([], sym e ∙ sym (append-nil ts))
+
+begun_ahead : (r : Reading) (ahead behind ts rest : List Token) → r.tokens ≡ ahead ++ behind → ts ++ rest ≡ without_end ahead → Begun r ts
+begun_ahead r ahead behind ts rest e d =
+    (rest ++ without_end behind, ap without_end e ∙ (without-append ahead behind ∙ (ap (λ l. l ++ without_end behind) (sym d) ∙ append_assoc ts rest (without_end behind))))
+
+-- a beginning of their lines is one of the lines of the reading
+shows_front : (a b : Option (List ℕ)) (r : Reading) (ts : List Token) → Begun r ts → AppendsFront a b (all_lines ts) → ShowsFront r a b
+shows_front a b r ts g f =
+    subst (AppendsFront a b) (sym (all-append ts g.0) ∙ (ap all_lines (sym g.1) ∙ lines_without r.tokens))
+    (f.0, f.1 ++ all_lines g.0, ap (λ l. l ++ all_lines g.0) f.2 ∙ append_assoc f.0 f.1 (all_lines g.0), f.3)
+
+-- their lines are those of the first tokens
+shows_some : (a b : Option (List ℕ)) (r : Reading) (ts : List Token) → Begun r ts → Appends a b (all_lines ts) → ShowsSome r a b
+shows_some a b r ts g w =
+    let h = first_shown r.tokens ts g.0 g.1 in
+    record { first = h.ahead; others = h.behind; tokens = h.tokens; written = subst (Appends a b) (sym h.lines) w }
 
 -- ---- more bytes
 
-module _ (job : JobRead) (bytes more : List ℕ) (e : Bool) (old new : Option (List ℕ)) where
+module _ (job : JobRead) (bytes more : List ℕ) (e : Bool) where
   longer : (rest : List Token) × ((tokens_in job (bytes ++ more) e).tokens ≡ (tokens_in job bytes false).tokens ++ rest)
   longer = (lengthens (dialect_of job.form) job.limits.token bytes more e).0
 
-  stops_at_more : (o : Outcome) (at : Place) → o ≢ undecided → StopsAt (tokens_in job bytes false) o at old new → StopsAt (tokens_in job (bytes ++ more) e) o at old new
-  stops_at_more o at d s = subst (λ r. StopsAt r o at old new) (sym ((lengthens (dialect_of job.form) job.limits.token bytes more e).1 (λ x. d (sym s.outcome ∙ x)))) s
+  module _ (old new : Option (List ℕ)) where
+    stops_at_more : (o : Outcome) (at : Place) → o ≢ undecided → StopsAt (tokens_in job bytes false) o at old new → StopsAt (tokens_in job (bytes ++ more) e) o at old new
+    stops_at_more o at d s = subst (λ r. StopsAt r o at old new) (sym ((lengthens (dialect_of job.form) job.limits.token bytes more e).1 (λ x. d (sym s.outcome ∙ x)))) s
 
-  -- what stops the tokens stops them with more bytes
-  pub stops_more : (why : Reason) (at : Place) → ShowRefuses why job bytes false at old new → ShowRefuses why job (bytes ++ more) e at old new
-  stops_more reason.BadUtf8 at s = stops_at_more bad_utf8 at (λ x. cc) s
-  stops_more reason.NoToken at s = stops_at_more no_token at (λ x. cc) s
-  stops_more reason.BadEscape at s = stops_at_more bad_escape at (λ x. cc) s
-  stops_more reason.TokenTooLong at s = stops_at_more token_too_long at (λ x. cc) s
-  stops_more reason.DocumentTooLong at s =
-      let same : take most_bytes (bytes ++ more) ≡ take most_bytes bytes = take-append-le most_bytes bytes more (omega (arith, s.0.0)) in (
-        (omega (arith, s.0.0, length-append bytes more), s.0.1 ∙ ap end_of (sym same)),
-        subst (λ b. Appends old new (token_lines (tokens_in job b false).tokens)) (sym same) s.1,
-      )
-  stops_more why at s = absurd s
-
-  front_longer : ShowsFront (tokens_in job bytes false) old new → ShowsFront (tokens_in job (bytes ++ more) e) old new
-  front_longer f = fronts old new (tokens_in job (bytes ++ more) e) (tokens_in job bytes false).tokens longer.0 longer.1 f
-
-  some_longer : ShowsSome (tokens_in job bytes false) old new → ShowsSome (tokens_in job (bytes ++ more) e) old new
-  some_longer s = record {
-    first = s.first;
-    others = s.others ++ longer.0;
-    tokens = longer.1 ∙ (ap (λ ts. ts ++ longer.0) s.tokens ∙ append_assoc s.first s.others longer.0);
-    written = s.written;
-  }
-
-  halts_more : (told : StreamFault) (failed : Bool) → HaltsFor told job bytes false old new failed → HaltsFor told job (bytes ++ more) e old new failed
-  halts_more (stream.Refused f) failed h = stops_more f.reason (place_of f) h
-  halts_more stream.Read failed h = h
-  halts_more stream.Write failed h = (h.0, front_longer h.1)
-  halts_more stream.Memory failed h = (h.0, some_longer h.1)
-
--- what stops showing before more bytes come is the same after them
-pub all_halt : {D A : Type 0} (contents : D → Option (List ℕ)) (failed : D → Bool) (told : StreamFault) (job : JobRead) (bytes more : List ℕ) (e : Bool) (first lines : LineOut D A) →
-    Halts contents failed told job bytes false first lines → Halts contents failed told job (bytes ++ more) e first lines
-all_halt contents failed told job bytes more e first lines h = record {
-  same = h.same;
-  halts = halts_more job bytes more e (contents first.drain.now) (contents lines.drain.now) told (failed lines.drain.now) h.halts;
-}
-
--- ---- behind some tokens
-
-module _ {D A : Type 0} (contents : D → Option (List ℕ)) (failed : D → Bool) (job : JobRead) (bytes : List ℕ) (ts : List Token) (first lines : LineOut D A) (v : Unread) (s : Summary)
-    (h : HasShown contents failed job bytes ts first lines v s) where
-  abbrev now : Reading
-  now = tokens_in job bytes v.ended
-
-  reading : tokens_of v.dialect v.limit bytes v.ended ≡ now
-  reading = ap (λ d. tokens_of d v.limit bytes v.ended) h.dialect ∙ ap (λ n. tokens_of (dialect_of job.form) n bytes v.ended) h.limit
-
-  begins : (rest : List Token) × (now.tokens ≡ ts ++ rest)
-  begins = let b = given_beginning v bytes ts h.read in (b.0, ap (λ r. r.tokens) (sym reading) ∙ b.1)
-
-  -- the count of tokens has room for one more
-  pub room_here : (n : ℕ) (more : Bool) → n ≡ cond more 1 0 → s.tokens + n ≤ most_bytes + 1
-  room_here n more e =
-      let g = given_few v bytes ts h.read in
-      let a = h.given in
-      let f = h.few in
-      let one : cond more 1 0 ≤ 1 = cond_both more 1 0 (λ k. k ≤ 1) (λ x. omega arith) (λ x. omega arith) in
-      omega (arith, g, a, f, e, one)
-
-  -- the drain failed while it took what waited
-  pub broke_here : (after : LineOut D A) (rest : List ℕ) → SameOut lines after → failed after.drain.now ≡ true →
-      Moves (contents lines.drain.now) (contents after.drain.now) lines.buffer.now.items rest → Halts contents failed stream.Write job bytes v.ended first after
-  broke_here after rest same broke m = record {
-    same = same_out first lines after h.same same;
-    halts = (
-      broke,
-      fronts (contents first.drain.now) (contents after.drain.now) now ts begins.0 begins.1
-          (moves_front (contents first.drain.now) (contents after.drain.now) (token_lines ts) rest
-          (subst (λ l. Moves (contents first.drain.now) (contents after.drain.now) l rest) (append-nil (token_lines ts))
-          (moves_on (contents first.drain.now) (contents lines.drain.now) (contents after.drain.now) (token_lines ts) [] lines.buffer.now.items rest h.moves
-          (subst (λ l. Moves (contents lines.drain.now) (contents after.drain.now) l rest) (sym (append-nil lines.buffer.now.items)) m)))),
-    );
-  }
-
-  -- all that waited was taken
-  all_taken : (after : LineOut D A) → Appends (contents lines.drain.now) (contents after.drain.now) lines.buffer.now.items → Appends (contents first.drain.now) (contents after.drain.now) (token_lines ts)
-  all_taken after t = moves_all (contents first.drain.now) (contents lines.drain.now) (contents after.drain.now) (token_lines ts) lines.buffer.now.items h.moves t
-
-  stops_here : (o : Outcome) (at : Place) (w : Unread) (after : LineOut D A) → Scan.Stops v o at w → Appends (contents lines.drain.now) (contents after.drain.now) lines.buffer.now.items →
-      StopsAt now o at (contents first.drain.now) (contents after.drain.now)
-  stops_here o at w after x t =
-      let e = sym reading ∙ (x.read bytes ts h.read).1 in
-      record { outcome = ap (λ r. r.outcome) e; place = ap (λ r. r.at) e; written = subst (λ us. Appends (contents first.drain.now) (contents after.drain.now) (token_lines us)) (sym (ap (λ r. r.tokens) e)) (all_taken after t) }
-
-  refused_here : (why : Reason) (x l : ℕ) (w : Unread) (after : LineOut D A) → v.stopped ≡ false → Scan.StopsFor why v (record { offset = x; line = l }) w →
-      Appends (contents lines.drain.now) (contents after.drain.now) lines.buffer.now.items →
-      HaltsFor (fault_by why (record { reason = why; offset = x; line = l })) job bytes v.ended (contents first.drain.now) (contents after.drain.now) (failed after.drain.now)
-  refused_here reason.Ended x l w after run p t = absurd (false≢true (sym run ∙ p.0))
-  refused_here reason.BadUtf8 x l w after run p t = stops_here bad_utf8 (record { offset = x; line = l }) w after p t
-  refused_here reason.NoToken x l w after run p t = stops_here no_token (record { offset = x; line = l }) w after p t
-  refused_here reason.BadEscape x l w after run p t = stops_here bad_escape (record { offset = x; line = l }) w after p t
-  refused_here reason.TokenTooLong x l w after run p t = stops_here token_too_long (record { offset = x; line = l }) w after p t
-  refused_here why x l w after run p t = absurd p
-
-  -- what is told, once all that waited was handed over
-  tell_by : (fault told : StreamFault) (b : List ℕ) (e : Bool) (after : LineOut D A) → SameOut lines after → tokens_in job b e ≡ now →
-      (TellsFault contents failed lines after → HaltsFor fault job b e (contents first.drain.now) (contents after.drain.now) (failed after.drain.now)) →
-      ((told ≡ stream.Write) × TellsWrite contents failed lines after) ⊎ ((told ≡ fault) × TellsFault contents failed lines after) → Halts contents failed told job b e first after
-  tell_by fault told b e after same r why t =
-      ⊎_elim
-      (λ p.
-      let m = p.1.while_taking h.live in
-      let x = broke_here after m.0 same p.1.failed_now m.1 in
-      record {
-        same = x.same;
-        halts = subst (λ y. HaltsFor y job b e (contents first.drain.now) (contents after.drain.now) (failed after.drain.now)) (sym p.0)
-            (p.1.failed_now, subst (λ y. ShowsFront y (contents first.drain.now) (contents after.drain.now)) (sym r) x.halts.1);
-      })
-      (λ p. record {
-        same = same_out first lines after h.same same;
-        halts = subst (λ y. HaltsFor y job b e (contents first.drain.now) (contents after.drain.now) (failed after.drain.now)) (sym p.0) (why p.1);
-      })
-      t
-
-  -- the scanner told why there is no next token
-  pub scan_halts : (why : Reason) (x l : ℕ) (w : Unread) (told : StreamFault) (after : LineOut D A) → v.stopped ≡ false → Scan.StopsFor why v (record { offset = x; line = l }) w → SameOut lines after →
-      Tells contents failed (record { reason = why; offset = x; line = l }) told lines after → Halts contents failed told job bytes v.ended first after
-  scan_halts why x l w told after run p same t =
-      tell_by (fault_by why (record { reason = why; offset = x; line = l })) told bytes v.ended after same refl (λ y. refused_here why x l w after run p y.taken) t
-
-  -- the bytes decide no more
-  pub waits_here : (w : Unread) → Waits v w → HasShown contents failed job bytes ts first lines w s × AreAll job bytes ts w
-  waits_here w x =
-      let r = x.read bytes ts h.read in
-      let open_same : w.ended ≡ false = x.after.more in
-      let same : tokens_in job bytes w.ended ≡ tokens_of v.dialect v.limit bytes false =
-      ap (tokens_in job bytes) (open_same ∙ sym x.before.more) ∙ (sym reading ∙ ap (tokens_of v.dialect v.limit bytes) x.before.more) in (
-        record {
-          dialect = x.same.dialect ∙ h.dialect;
-          limit = x.same.limit ∙ h.limit;
-          read = r.0;
-          few = h.few;
-          no_quads = h.no_quads;
-          given = h.given;
-          taken = h.taken;
-          moves = h.moves;
-          same = h.same;
-          live = h.live;
-        },
-        record { whole = ap (λ y. y.tokens) same ∙ r.1; rests = inl (ap (λ y. y.outcome) same ∙ r.2, x.after) },
-      )
-
-  module _ (t : Token) (w : Unread) (g : GivesToken v t w) where
-    -- the token is the next of the bytes
-    next : (rest : List Token) × (now.tokens ≡ (ts ++ t ∷ []) ++ rest)
-    next =
-        let b = given_beginning w bytes (ts ++ t ∷ []) (g.read bytes ts h.read) in
-        let same : tokens_of w.dialect w.limit bytes w.ended ≡ now =
-        ap (λ d. tokens_of d w.limit bytes w.ended) g.same.dialect ∙ (ap (λ n. tokens_of v.dialect n bytes w.ended) g.same.limit ∙ (ap (tokens_of v.dialect v.limit bytes) g.ended ∙ reading)) in
-        (b.0, ap (λ r. r.tokens) (sym same) ∙ b.1)
-
-    one_line : token_lines (ts ++ t ∷ []) ≡ token_lines ts ++ shown t
-    one_line = lines-append ts (t ∷ []) ∙ ap (λ l. token_lines ts ++ l) (append-nil (shown t))
-
-    -- its line was put
-    pub one_shown : (after : LineOut D A) (s' : Summary) → SameOut lines after → failed after.drain.now ≡ false → Writes contents lines (shown t) after →
-        s'.quads ≡ s.quads → s'.tokens ≡ s.tokens + cond (is_end t.kind) 0 1 → s'.bytes ≡ s.bytes → HasShown contents failed job bytes (ts ++ t ∷ []) first after w s'
-    one_shown after s' same live m q n b = record {
-      dialect = g.same.dialect ∙ h.dialect;
-      limit = g.same.limit ∙ h.limit;
-      read = g.read bytes ts h.read;
-      few = h.few;
-      no_quads = q ∙ h.no_quads;
-      given = let a = counted-append ts (t ∷ []) in omega (arith, a, n, h.given);
-      taken = b ∙ h.taken;
-      moves = subst (λ l. Moves (contents first.drain.now) (contents after.drain.now) l after.buffer.now.items) (sym one_line)
-          (moves_on (contents first.drain.now) (contents lines.drain.now) (contents after.drain.now) (token_lines ts) (shown t) lines.buffer.now.items after.buffer.now.items h.moves m);
-      same = same_out first lines after h.same same;
-      live = live;
-    }
-
-    -- it is the end
-    pub end_shown : is_end t.kind ≡ true → AreAll job bytes (ts ++ t ∷ []) w
-    end_shown e =
-        let stopped : w.stopped ≡ true = g.stops ∙ ap (λ x. cond x true false) e in
-        let reads = subst (λ x. Scan.Reads x w.ended w bytes (ts ++ t ∷ [])) stopped (g.read bytes ts h.read).reads in
-        let same : tokens_of w.dialect w.limit bytes w.ended ≡ tokens_in job bytes w.ended =
-        ap (λ d. tokens_of d w.limit bytes w.ended) (g.same.dialect ∙ h.dialect) ∙ ap (λ n. tokens_of (dialect_of job.form) n bytes w.ended) (g.same.limit ∙ h.limit) in
-        let whole = ap (λ r. r.tokens) (sym same) ∙ reads.0 in
-        record { whole = whole; rests = inr (end_complete (dialect_of job.form) job.limits.token bytes w.ended ts [] t whole (is_the_end t.kind e)) }
-      where
-        is_the_end : (k : Kind) → is_end k ≡ true → k ≡ End
-        is_the_end End x = refl
-        is_the_end k x = absurd (false≢true x)
-
-    -- its line was not put
-    pub one_halts : (told : StreamFault) (after : LineOut D A) → SameOut lines after → PutHalts contents failed told lines (shown t) after → Halts contents failed told job bytes v.ended first after
-    one_halts stream.Write after same p = record {
-      same = same_out first lines after h.same same;
-      halts = (
-        p.0,
-        fronts (contents first.drain.now) (contents after.drain.now) now (ts ++ t ∷ []) next.0 next.1
-            (subst (AppendsFront (contents first.drain.now) (contents after.drain.now)) (sym one_line)
-            (moves_front (contents first.drain.now) (contents after.drain.now) (token_lines ts ++ shown t) p.1
-            (moves_on (contents first.drain.now) (contents lines.drain.now) (contents after.drain.now) (token_lines ts) (shown t) lines.buffer.now.items p.1 h.moves p.2))),
-      );
-    }
-    one_halts stream.Memory after same p = record {
-      same = same_out first lines after h.same same;
-      halts = (p.0, some_lines (contents first.drain.now) (contents after.drain.now) now ts begins.0 begins.1 (all_taken after p.1));
-    }
-    one_halts told after same p = absurd p
-
-    -- one token more was shown
-    pub shown_one : (more : Bool) (after : LineOut D A) (s' : Summary) → more ≡ not (is_end t.kind) → SameOut lines after → failed after.drain.now ≡ false → Writes contents lines (shown t) after →
-        s'.quads ≡ s.quads → s'.tokens ≡ s.tokens + cond more 1 0 → s'.bytes ≡ s.bytes → NowShown contents failed more job bytes ts first after w s'
-    shown_one more after s' m same live writes q n b = by (is_end t.kind) refl
-      where
-        by : (x : Bool) → is_end t.kind ≡ x → NowShown contents failed more job bytes ts first after w s'
-        by true e =
-            let no : more ≡ false = m ∙ ap not e in
-            let count : s'.tokens ≡ s.tokens + cond (is_end t.kind) 0 1 = n ∙ (ap (λ k. s.tokens + cond k 1 0) no ∙ sym (ap (λ k. s.tokens + cond k 0 1) e)) in
-            subst (λ y. NowShown contents failed y job bytes ts first after w s') (sym no) (ts ++ t ∷ [], one_shown after s' same live writes q count b, end_shown e)
-        by false e =
-            let yes : more ≡ true = m ∙ ap not e in
-            let count : s'.tokens ≡ s.tokens + cond (is_end t.kind) 0 1 = n ∙ (ap (λ k. s.tokens + cond k 1 0) yes ∙ sym (ap (λ k. s.tokens + cond k 0 1) e)) in
-            subst (λ y. NowShown contents failed y job bytes ts first after w s') (sym yes) (t, one_shown after s' same live writes q count b, g.stops ∙ ap (λ x. cond x true false) e)
-
-    -- another token may come, so there are fewer
-    pub fewer : (more : Bool) → more ≡ not (is_end t.kind) → more ≡ true → Scan.left w < Scan.left v
-    fewer more m e = g.less
-
--- nothing was shown
-pub none_shown : {D A : Type 0} (contents : D → Option (List ℕ)) (failed : D → Bool) (job : JobRead) (lines : LineOut D A) (v : Unread) (s : Summary) → HasScanned v [] [] → IsWaiting v →
-    v.dialect ≡ dialect_of job.form → v.limit ≡ job.limits.token → lines.buffer.now.items ≡ [] → failed lines.drain.now ≡ false → s.quads ≡ 0 → s.tokens ≡ 0 → s.bytes ≡ 0 →
-    HasShownAll contents failed job [] lines lines v s
-none_shown contents failed job lines v s r o d l none live q n b =
-    let e = tokens_of-nil (dialect_of job.form) job.limits.token in
-    record {
-      tokens = [];
-      shown = record {
-        dialect = d;
-        limit = l;
-        read = r;
-        few = omega arith;
-        no_quads = q;
-        given = n;
-        taken = b;
-        moves = record { front = []; whole = sym none; taken = Appends-nil (contents lines.drain.now) };
-        same = record { form = refl; buffer = refl; drain = refl };
-        live = live;
-      };
-      more = o;
-      whole = ap (λ x. x.tokens) e;
-      waits = ap (λ x. x.outcome) e;
-    }
-
--- ---- behind all tokens that some bytes decide
-
-module _ {D A : Type 0} (contents : D → Option (List ℕ)) (failed : D → Bool) (job : JobRead) (bytes : List ℕ) (first lines : LineOut D A) (v : Unread) (s : Summary)
-    (h : HasShownAll contents failed job bytes first lines v s) where
-  here_false : tokens_in job bytes v.ended ≡ tokens_in job bytes false
-  here_false = ap (tokens_in job bytes) h.more.more
-
-  -- all lines were handed over
-  pub all_written : lines.buffer.now.items ≡ [] → Appends (contents first.drain.now) (contents lines.drain.now) (token_lines (tokens_in job bytes false).tokens)
-  all_written none =
-      subst (λ us. Appends (contents first.drain.now) (contents lines.drain.now) (token_lines us)) (sym h.whole)
-      (moves_all (contents first.drain.now) (contents lines.drain.now) (contents lines.drain.now) (token_lines h.tokens) lines.buffer.now.items h.shown.moves
-      (subst (λ l. Appends (contents lines.drain.now) (contents lines.drain.now) l) (sym none) (Appends-nil (contents lines.drain.now))))
-
-  -- the lines that wait were handed over
-  pub handed : (after : LineOut D A) → SameOut lines after → Appends (contents lines.drain.now) (contents after.drain.now) lines.buffer.now.items → after.buffer.now.items ≡ [] →
-      failed after.drain.now ≡ false → HasShownAll contents failed job bytes first after v s
-  handed after same t none live = record {
-    tokens = h.tokens;
-    shown = record {
-      dialect = h.shown.dialect;
-      limit = h.shown.limit;
-      read = h.shown.read;
-      few = h.shown.few;
-      no_quads = h.shown.no_quads;
-      given = h.shown.given;
-      taken = h.shown.taken;
-      moves = record {
-        front = token_lines h.tokens;
-        whole = sym (append-nil (token_lines h.tokens)) ∙ ap (λ l. token_lines h.tokens ++ l) (sym none);
-        taken = moves_all (contents first.drain.now) (contents lines.drain.now) (contents after.drain.now) (token_lines h.tokens) lines.buffer.now.items h.shown.moves t;
-      };
-      same = same_out first lines after h.shown.same same;
-      live = live;
-    };
-    more = h.more;
-    whole = h.whole;
-    waits = h.waits;
-  }
-
-  -- the drain failed
-  pub handing_broke : (after : LineOut D A) → SameOut lines after → AppendsFront (contents lines.drain.now) (contents after.drain.now) lines.buffer.now.items → failed after.drain.now ≡ true →
-      Halts contents failed stream.Write job bytes false first after
-  handing_broke after same t broke =
-      let m = front_moves (contents lines.drain.now) (contents after.drain.now) lines.buffer.now.items t in
-      subst (λ e. Halts contents failed stream.Write job bytes e first after) h.more.more (broke_here contents failed job bytes h.tokens first lines v s h.shown after m.0 same broke m.1)
-
-  module _ (piece : List ℕ) where
-    -- the scanner did not take the piece
-    push_refused : (why : Reason) (x l : ℕ) (w : Unread) (after : LineOut D A) → Scan.RefusesFor why v piece (record { offset = x; line = l }) w →
-        failed after.drain.now ≡ false → Appends (contents lines.drain.now) (contents after.drain.now) lines.buffer.now.items →
-        HaltsFor (fault_by why (record { reason = why; offset = x; line = l })) job (bytes ++ piece) false (contents first.drain.now) (contents after.drain.now) (failed after.drain.now)
-    push_refused reason.Ended x l w after p live t = absurd (⊎_elim (λ e. false≢true (sym h.more.running ∙ e)) (λ e. false≢true (sym h.more.more ∙ e)) p.0)
-    push_refused reason.Memory x l w after p live t = (
-      live,
-      some_longer job bytes piece false (contents first.drain.now) (contents after.drain.now)
-          (some_lines (contents first.drain.now) (contents after.drain.now) (tokens_in job bytes false) h.tokens [] (h.whole ∙ sym (append-nil h.tokens))
-          (moves_all (contents first.drain.now) (contents lines.drain.now) (contents after.drain.now) (token_lines h.tokens) lines.buffer.now.items h.shown.moves t)),
-    )
-    push_refused reason.DocumentTooLong x l w after p live t =
-        let a : v.taken.offset ≡ length bytes = ap (λ q. q.offset) h.shown.read.taken in
-        let size = length-append bytes piece in
-        let some = p.1 in
-        let full = p.2 in
-        let front : take most_bytes (bytes ++ piece) ≡ bytes = ap (λ k. take k (bytes ++ piece)) (sym full ∙ a) ∙ take-append_seam bytes piece in (
-          (omega (arith, some, full, a, size), p.3 ∙ (h.shown.read.taken ∙ ap end_of (sym front))),
-          subst (λ b. Appends (contents first.drain.now) (contents after.drain.now) (token_lines (tokens_in job b false).tokens)) (sym front)
-              (subst (λ us. Appends (contents first.drain.now) (contents after.drain.now) (token_lines us)) (sym h.whole)
-              (moves_all (contents first.drain.now) (contents lines.drain.now) (contents after.drain.now) (token_lines h.tokens) lines.buffer.now.items h.shown.moves t)),
+    -- what stops the tokens stops them with more bytes
+    stops_more : (why : Reason) (at : Place) → ShowRefuses why job bytes false at old new → ShowRefuses why job (bytes ++ more) e at old new
+    stops_more reason.BadUtf8 at s = stops_at_more bad_utf8 at (λ x. cc) s
+    stops_more reason.NoToken at s = stops_at_more no_token at (λ x. cc) s
+    stops_more reason.BadEscape at s = stops_at_more bad_escape at (λ x. cc) s
+    stops_more reason.TokenTooLong at s = stops_at_more token_too_long at (λ x. cc) s
+    stops_more reason.DocumentTooLong at s =
+        let same : take most_bytes (bytes ++ more) ≡ take most_bytes bytes = take-append-le most_bytes bytes more (omega (arith, s.0.0)) in (
+          (omega (arith, s.0.0, length-append bytes more), s.0.1 ∙ ap end_of (sym same)),
+          subst (λ b. Appends old new (token_lines (tokens_in job b false).tokens)) (sym same) s.1,
         )
-    push_refused why x l w after p live t = absurd p
+    stops_more why at s = absurd s
 
-    pub push_halts : (why : Reason) (x l : ℕ) (w : Unread) (told : StreamFault) (after : LineOut D A) → Scan.RefusesFor why v piece (record { offset = x; line = l }) w → SameOut lines after →
-        Tells contents failed (record { reason = why; offset = x; line = l }) told lines after → Halts contents failed told job (bytes ++ piece) false first after
-    push_halts why x l w told after p same t =
-        ⊎_elim
-        (λ y.
-        let m = y.1.while_taking h.shown.live in
-        let b = broke_here contents failed job bytes h.tokens first lines v s h.shown after m.0 same y.1.failed_now m.1 in
-        let z = all_halt contents failed stream.Write job bytes piece false first after (subst (λ e. Halts contents failed stream.Write job bytes e first after) h.more.more b) in
-        subst (λ k. Halts contents failed k job (bytes ++ piece) false first after) (sym y.0) z)
-        (λ y. record {
-          same = same_out first lines after h.shown.same same;
-          halts = subst (λ k. HaltsFor k job (bytes ++ piece) false (contents first.drain.now) (contents after.drain.now) (failed after.drain.now)) (sym y.0) (push_refused why x l w after p y.1.live_now y.1.taken);
-        })
-        t
+-- ---- after some bytes
 
-    module _ (n : ℕ) (w : Unread) (p : TakesBytes v piece n w) where
-      size : length (bytes ++ take n piece) ≡ length bytes + n
-      size = let a = length-append bytes (take n piece) in let b = length-take-le n piece p.within in omega (arith, a, b)
+module _ {D A : Type 0} (contents : D → Option (List ℕ)) (failed : D → Bool) (d : Dialect) (job : JobRead) (reader : Driven ℕ) (bytes : List ℕ) (first lines : LineOut D A)
+    (o : HandedOver contents failed d job reader bytes first lines) where
+  abbrev w : Words ℕ Unit Token
+  w = token_words d
 
-      read_now : HasScanned w (bytes ++ take n piece) h.tokens
-      read_now = p.read bytes h.tokens h.shown.read
+  abbrev l : LanguageOf Token
+  l = in_words w tt reader.scanner.limit
 
-      few_now : length (bytes ++ take n piece) ≤ most_bytes
-      few_now = let a : w.taken.offset ≡ length (bytes ++ take n piece) = ap (λ q. q.offset) read_now.taken in let m = p.most in omega (arith, a, m)
+  -- the tokens whose lines were written
+  abbrev before : List Token
+  before = without_end (tokens_in job bytes false).tokens
 
-      pub byte_room : s.bytes + n ≤ most_bytes
-      byte_room = let a = few_now in let b = size in let c = h.shown.taken in omega (arith, a, b, c)
+  -- the reader's tokens are the job's
+  same_reading : (b : List ℕ) (e : Bool) → tokens_of d reader.scanner.limit b e ≡ tokens_in job b e
+  same_reading b e = ap (λ x. tokens_of x reader.scanner.limit b e) o.dialect ∙ ap (λ n. tokens_of (dialect_of job.form) n b e) o.limit
 
-      -- the bytes were taken
-      pub pushed : (s' : Summary) → s'.quads ≡ s.quads → s'.tokens ≡ s.tokens → s'.bytes ≡ s.bytes + n → HasShown contents failed job (bytes ++ take n piece) h.tokens first lines w s'
-      pushed s' q k b = record {
-        dialect = p.same.dialect ∙ h.shown.dialect;
-        limit = p.same.limit ∙ h.shown.limit;
-        read = read_now;
-        few = few_now;
-        no_quads = q ∙ h.shown.no_quads;
-        given = k ∙ h.shown.given;
-        taken = let a = size in let c = h.shown.taken in omega (arith, a, b, c);
-        moves = h.shown.moves;
-        same = h.shown.same;
-        live = h.shown.live;
+  -- what the drain took after the bytes that it had
+  abbrev Behind : LineOut D A → List Token → List ℕ → Type 0
+  Behind after ts rest = Moves (contents lines.drain.now) (contents after.drain.now) (lines.buffer.now.items ++ all_lines ts) rest
+
+  -- from the beginning of the run
+  from_first : (after : LineOut D A) (ts : List Token) (rest : List ℕ) → Behind after ts rest → Moves (contents first.drain.now) (contents after.drain.now) (all_lines (before ++ ts)) rest
+  from_first after ts rest m =
+      subst (λ b. Moves (contents first.drain.now) (contents after.drain.now) b rest) (sym (all-append before ts))
+      (moves_on (contents first.drain.now) (contents lines.drain.now) (contents after.drain.now) (all_lines before) (all_lines ts) [] rest
+      (record {
+        front = all_lines before;
+        whole = sym (append-nil (all_lines before));
+        taken = subst (Appends (contents first.drain.now) (contents lines.drain.now)) (sym (lines_without (tokens_in job bytes false).tokens)) o.written;
+      })
+      (subst (λ b. Moves (contents lines.drain.now) (contents after.drain.now) (b ++ all_lines ts) rest) o.none_waits m))
+
+  -- a beginning of the lines was written
+  written_front : (after : LineOut D A) (r : Reading) (ts : List Token) (rest : List ℕ) → Behind after ts rest → Begun r (before ++ ts) → ShowsFront r (contents first.drain.now) (contents after.drain.now)
+  written_front after r ts rest m b =
+      shows_front (contents first.drain.now) (contents after.drain.now) r (before ++ ts) b
+      (moves_front (contents first.drain.now) (contents after.drain.now) (all_lines (before ++ ts)) rest (from_first after ts rest m))
+
+  -- all that waited was taken then
+  written_all : (mid after : LineOut D A) (ts : List Token) → Writes contents lines (all_lines ts) mid → Appends (contents mid.drain.now) (contents after.drain.now) mid.buffer.now.items →
+      Appends (contents first.drain.now) (contents after.drain.now) (all_lines (before ++ ts))
+  written_all mid after ts m t =
+      moves_all (contents first.drain.now) (contents mid.drain.now) (contents after.drain.now) (all_lines (before ++ ts)) mid.buffer.now.items (from_first mid ts mid.buffer.now.items m) t
+
+  -- the lines of all tokens of some bytes
+  written_tokens : (after : LineOut D A) (ts us : List Token) → Appends (contents first.drain.now) (contents after.drain.now) (all_lines (before ++ ts)) → before ++ ts ≡ without_end us →
+      Appends (contents first.drain.now) (contents after.drain.now) (token_lines us)
+  written_tokens after ts us a e = subst (Appends (contents first.drain.now) (contents after.drain.now)) (ap all_lines e ∙ lines_without us) a
+
+  -- the drain took a beginning of what waited
+  then_front : (mid after : LineOut D A) (ts : List Token) (rest : List ℕ) → Writes contents lines (all_lines ts) mid → Moves (contents mid.drain.now) (contents after.drain.now) mid.buffer.now.items rest →
+      Behind after ts rest
+  then_front mid after ts rest m n =
+      subst (λ b. Moves (contents lines.drain.now) (contents after.drain.now) b rest) (append-nil (lines.buffer.now.items ++ all_lines ts))
+      (moves_on (contents lines.drain.now) (contents mid.drain.now) (contents after.drain.now) (lines.buffer.now.items ++ all_lines ts) [] mid.buffer.now.items rest m
+      (subst (λ b. Moves (contents mid.drain.now) (contents after.drain.now) b rest) (sym (append-nil mid.buffer.now.items)) n))
+
+  more_front : (after : LineOut D A) (done later : List Token) (rest : List ℕ) → Behind after done rest → Behind after (done ++ later) (rest ++ all_lines later)
+  more_front after done later rest m =
+      subst (λ b. Moves (contents lines.drain.now) (contents after.drain.now) b (rest ++ all_lines later))
+      (append_assoc lines.buffer.now.items (all_lines done) (all_lines later) ∙ ap (λ b. lines.buffer.now.items ++ b) (sym (all-append done later)))
+      (moves_more (contents lines.drain.now) (contents after.drain.now) (lines.buffer.now.items ++ all_lines done) (all_lines later) rest m)
+
+  -- ---- an error of the reader: some tokens were tried
+
+  record LeftOff (r : Reading) (mid : LineOut D A) : Type 0 where
+    pub more : List Token
+    pub tries : TriedTokens contents failed lines more mid
+    pub begun : Begun r (before ++ more)
+
+  leaves_off : (b : List ℕ) (e : Bool) (readings : List ℕ → Reading) (mid : LineOut D A) → readings bytes ≡ tokens_of d reader.scanner.limit b e →
+      LeavesOff w (TakesToken contents failed) (LeavesToken contents failed) reader lines readings mid → LeftOff (tokens_in job b e) mid
+  leaves_off b e readings mid same h =
+      let x = h.due tt bytes before o.read in
+      record {
+        more = h.more;
+        tries = tried_tokens contents failed h.more lines mid h.puts;
+        begun = begun_ahead (tokens_in job b e) x.ahead x.behind (before ++ h.more) x.rest (ap (λ r. r.tokens) (sym (same ∙ same_reading b e)) ∙ x.tokens) (due_tokens d x.ahead ((before ++ h.more) ++ x.rest) x.due);
       }
 
-      -- the tokens that they decide were shown
-      pub part_shown : (us : List Token) (after : LineOut D A) (w' : Unread) (s' : Summary) → HasShown contents failed job (bytes ++ take n piece) us first after w' s' →
-          AreAll job (bytes ++ take n piece) us w' → w'.ended ≡ w.ended → HasShownAll contents failed job (bytes ++ take n piece) first after w' s'
-      part_shown us after w' s' x y e =
-          let now = bytes ++ take n piece in
-          let go : w'.ended ≡ false = e ∙ p.after.more in
-          let same : tokens_in job now w'.ended ≡ tokens_in job now false = ap (tokens_in job now) go in
-          let rest : ((tokens_in job now w'.ended).outcome ≡ undecided) × IsWaiting w' =
-          ⊎_elim (λ z. z) (λ z. absurd (only_ended (dialect_of job.form) job.limits.token now (ap (λ r. r.outcome) (sym same) ∙ z))) y.rests in
-          record { tokens = us; shown = x; more = rest.1; whole = ap (λ r. r.tokens) (sym same) ∙ y.whole; waits = ap (λ r. r.outcome) (sym same) ∙ rest.0 }
+  -- the drain failed, before or when it was handed what waited
+  tells_write : (r : Reading) (mid after : LineOut D A) → LeftOff r mid → TellsWrite contents failed mid after → ShowsFront r (contents first.drain.now) (contents after.drain.now)
+  tells_write r mid after h t = by (failed mid.drain.now) refl
+    where
+      by : (b : Bool) → failed mid.drain.now ≡ b → ShowsFront r (contents first.drain.now) (contents after.drain.now)
+      by true e =
+          written_front after r h.more h.tries.rest
+          (subst (λ k. Moves (contents lines.drain.now) k (lines.buffer.now.items ++ all_lines h.more) h.tries.rest) (sym (t.before_it e)) h.tries.moves) h.begun
+      by false e =
+          let (done, later, split, writes) = h.tries.whole e in
+          let (rest, moves) = t.while_taking e in
+          let m = more_front after done later rest (then_front mid after done rest writes moves) in
+          written_front after r h.more (rest ++ all_lines later) (subst (λ ts. Behind after ts (rest ++ all_lines later)) (sym split) m) h.begun
 
-      -- they were not
-      pub part_halts : (told : StreamFault) (after : LineOut D A) → Halts contents failed told job (bytes ++ take n piece) w.ended first after → Halts contents failed told job (bytes ++ piece) false first after
-      part_halts told after x =
-          subst (λ b. Halts contents failed told job b false first after) (append_assoc bytes (take n piece) (drop n piece) ∙ ap (λ b. bytes ++ b) (take-append-drop n piece))
-          (all_halt contents failed told job (bytes ++ take n piece) (drop n piece) false first after (subst (λ e. Halts contents failed told job (bytes ++ take n piece) e first after) p.after.more x))
+  -- the drain has all whole lines
+  tells_some : (r : Reading) (mid after : LineOut D A) → LeftOff r mid → TellsFault contents failed mid after → ShowsSome r (contents first.drain.now) (contents after.drain.now)
+  tells_some r mid after h t =
+      let (done, later, split, writes) = h.tries.whole t.live in
+      shows_some (contents first.drain.now) (contents after.drain.now) r (before ++ done)
+      (begun_less r (before ++ done) later (subst (Begun r) (ap (λ ts. before ++ ts) split ∙ sym (append_assoc before done later)) h.begun)) (written_all mid after done writes t.taken)
 
-  module _ (w : Unread) (closed : w ≡ record v { ended = true }) (read : HasScanned w bytes h.tokens) where
-    -- no more bytes come
-    pub ended_now : HasShown contents failed job bytes h.tokens first lines w s
-    ended_now = record {
-      dialect = ap (λ x. x.dialect) closed ∙ h.shown.dialect;
-      limit = ap (λ x. x.limit) closed ∙ h.shown.limit;
-      read = read;
-      few = h.shown.few;
-      no_quads = h.shown.no_quads;
-      given = h.shown.given;
-      taken = h.shown.taken;
-      moves = h.shown.moves;
-      same = h.shown.same;
-      live = h.shown.live;
+  -- ---- a reading that is refused
+
+  stops_here : (r : Reading) (why : Outcome) (at : Place) (ahead : List Token) (old new : Option (List ℕ)) → r.outcome ≡ why → r.at ≡ at → r.tokens ≡ ahead → Appends old new (token_lines ahead) → StopsAt r why at old new
+  stops_here r why at ahead old new x y z a = record { outcome = x; place = y; written = subst (λ ts. Appends old new (token_lines ts)) (sym z) a }
+
+  refused_shown : (why : Reason) (at : Place) (b : List ℕ) (e : Bool) (ahead : List Token) (old new : Option (List ℕ)) → RefusedIn l (tokens_in job b e) why at ahead → Appends old new (token_lines ahead) →
+      ShowRefuses why job b e at old new
+  refused_shown reason.BadUtf8 at b e ahead old new x a = stops_here (tokens_in job b e) bad_utf8 at ahead old new x.outcome x.place x.tokens a
+  refused_shown reason.NoToken at b e ahead old new x a = stops_here (tokens_in job b e) no_token at ahead old new x.outcome x.place x.tokens a
+  refused_shown reason.BadEscape at b e ahead old new x a = stops_here (tokens_in job b e) bad_escape at ahead old new x.outcome x.place x.tokens a
+  refused_shown reason.TokenTooLong at b e ahead old new x a = stops_here (tokens_in job b e) token_too_long at ahead old new x.outcome x.place x.tokens a
+  refused_shown reason.DocumentTooLong at b e ahead old new x a = absurd x
+  refused_shown reason.Memory at b e ahead old new x a = absurd x
+  refused_shown reason.Ended at b e ahead old new x a = absurd x
+  refused_shown reason.Sink at b e ahead old new x a = absurd x
+  refused_shown why at b e ahead old new x a = absurd x.because
+
+  refused_begun : (why : Reason) (at : Place) (r : Reading) (ahead ts : List Token) → RefusedIn l r why at ahead → ts ≡ without_end ahead → Begun r ts
+  refused_begun reason.BadUtf8 at r ahead ts x t = begun_all r ts (t ∙ ap without_end (sym x.tokens))
+  refused_begun reason.NoToken at r ahead ts x t = begun_all r ts (t ∙ ap without_end (sym x.tokens))
+  refused_begun reason.BadEscape at r ahead ts x t = begun_all r ts (t ∙ ap without_end (sym x.tokens))
+  refused_begun reason.TokenTooLong at r ahead ts x t = begun_all r ts (t ∙ ap without_end (sym x.tokens))
+  refused_begun reason.DocumentTooLong at r ahead ts x t = absurd x
+  refused_begun reason.Memory at r ahead ts x t = absurd x
+  refused_begun reason.Ended at r ahead ts x t = absurd x
+  refused_begun reason.Sink at r ahead ts x t = absurd x
+  refused_begun why at r ahead ts x t = absurd x.because
+
+  record RefusedAt (why : Reason) (at : Place) (b : List ℕ) (e : Bool) (mid : LineOut D A) : Type 0 where
+    pub more : List Token
+    pub put : Put contents failed lines more mid
+    pub ahead : List Token
+    pub refused : RefusedIn l (tokens_in job b e) why at ahead
+    pub all : before ++ more ≡ without_end ahead
+    pub left : LeftOff (tokens_in job b e) mid
+
+  refuses : (why : Reason) (at : Place) (b : List ℕ) (e : Bool) (readings : List ℕ → Reading) (mid : LineOut D A) → readings bytes ≡ tokens_of d reader.scanner.limit b e →
+      R.Refuses w (TakesToken contents failed) reader lines readings why at mid → RefusedAt why at b e mid
+  refuses why at b e readings mid same h =
+      let (ahead, refused, due) = h.refused tt bytes before o.read in
+      let x : RefusedIn l (tokens_in job b e) why at ahead = subst (λ r. RefusedIn l r why at ahead) (same ∙ same_reading b e) refused in
+      let all = due_tokens d ahead (before ++ h.more) due in
+      record {
+        more = h.more;
+        put = put contents failed h.more lines mid h.puts;
+        ahead = ahead;
+        refused = x;
+        all = all;
+        left = record {
+          more = h.more;
+          tries = tried_tokens contents failed h.more lines mid (tries_tokens contents failed h.more lines mid h.puts);
+          begun = refused_begun why at (tokens_in job b e) ahead (before ++ h.more) x all;
+        };
+      }
+
+  tells_refused : (why : Reason) (at : Place) (b : List ℕ) (e : Bool) (mid after : LineOut D A) → RefusedAt why at b e mid → TellsFault contents failed mid after →
+      ShowRefuses why job b e at (contents first.drain.now) (contents after.drain.now)
+  tells_refused why at b e mid after h t =
+      refused_shown why at b e h.ahead (contents first.drain.now) (contents after.drain.now) h.refused
+      (written_tokens after h.more h.ahead (written_all mid after h.more h.put.writes t.taken) h.all)
+
+  -- ---- what is reported of an error
+
+  record Halted (told : StreamFault) (b : List ℕ) (e : Bool) (after : LineOut D A) : Type 0 where
+    pub same : SameOut first after
+    pub halts : HaltsFor told job b e (contents first.drain.now) (contents after.drain.now) (failed after.drain.now)
+
+  halts_by : (b : List ℕ) (e : Bool) (fault told : StreamFault) (mid after : LineOut D A) → LeftOff (tokens_in job b e) mid → SameOut mid after →
+      (TellsFault contents failed mid after → HaltsFor fault job b e (contents first.drain.now) (contents after.drain.now) (failed after.drain.now)) →
+      ((told ≡ stream.Write) × TellsWrite contents failed mid after) ⊎ ((told ≡ fault) × TellsFault contents failed mid after) → Halted told b e after
+  halts_by b e fault told mid after h s why t = record {
+    same = same_out first mid after (same_out first lines mid o.same h.tries.same) s;
+    halts = ⊎_elim
+        (λ p. subst (λ y. HaltsFor y job b e (contents first.drain.now) (contents after.drain.now) (failed after.drain.now)) (sym p.0) (p.1.failed_now, tells_write (tokens_in job b e) mid after h p.1))
+        (λ p. subst (λ y. HaltsFor y job b e (contents first.drain.now) (contents after.drain.now) (failed after.drain.now)) (sym p.0) (why p.1))
+        t;
+  }
+
+  module _ (piece : List ℕ) (n k : ℕ) (reader' : Driven ℕ) (mid : LineOut D A) where
+    abbrev here : Place
+    here = record { offset = n; line = k }
+
+    abbrev all_bytes : List ℕ
+    all_bytes = bytes ++ piece
+
+    abbrev FailsPiece : Reason → Type 0
+    FailsPiece why = FeedFails w (TakesToken contents failed) (LeavesToken contents failed) (λ s. failed s.drain.now) why here reader lines piece reader' mid
+
+    -- the tokens of as many bytes as a document may have begin those of more
+    overruns : R.Overruns w (TakesToken contents failed) reader lines piece here mid → LeftOff (tokens_in job all_bytes false) mid
+    overruns h =
+        let f = h.full tt bytes before o.read in
+        let front = take most_bytes all_bytes in
+        let b : Begun (tokens_in job (front ++ drop most_bytes all_bytes) false) (before ++ h.more) =
+        begun_ahead (tokens_in job (front ++ drop most_bytes all_bytes) false) (tokens_in job front false).tokens (longer job front (drop most_bytes all_bytes) false).0 (before ++ h.more) []
+        (longer job front (drop most_bytes all_bytes) false).1 (append-nil (before ++ h.more) ∙ full_tokens h) in
+        record {
+          more = h.more;
+          tries = tried_tokens contents failed h.more lines mid (tries_tokens contents failed h.more lines mid h.puts);
+          begun = subst (λ b. Begun (tokens_in job b false) (before ++ h.more)) (take-append-drop most_bytes all_bytes) b;
+        }
+      where
+        full_tokens : (h : R.Overruns w (TakesToken contents failed) reader lines piece here mid) → before ++ h.more ≡ without_end (tokens_in job (take most_bytes all_bytes) false).tokens
+        full_tokens h = due_tokens d _ (before ++ h.more) (h.full tt bytes before o.read).due ∙ ap (λ r. without_end r.tokens) (same_reading (take most_bytes all_bytes) false)
+
+    overruns_shown : (after : LineOut D A) → R.Overruns w (TakesToken contents failed) reader lines piece here mid → TellsFault contents failed mid after →
+        ShowRefuses reason.DocumentTooLong job all_bytes false here (contents first.drain.now) (contents after.drain.now)
+    overruns_shown after h t =
+        let f = h.full tt bytes before o.read in
+        let p = put contents failed h.more lines mid h.puts in (
+          f.too_long,
+          written_tokens after h.more (tokens_in job (take most_bytes all_bytes) false).tokens (written_all mid after h.more p.writes t.taken)
+              (due_tokens d _ (before ++ h.more) f.due ∙ ap (λ r. without_end r.tokens) (same_reading (take most_bytes all_bytes) false)),
+        )
+
+    left_piece : (why : Reason) → FailsPiece why → LeftOff (tokens_in job all_bytes false) mid
+    left_piece reason.Ended h = absurd (false≢true (sym o.read.running ∙ h.0))
+    left_piece reason.Memory h = leaves_off all_bytes false (piece_reading w reader.scanner.limit piece) mid refl h.0
+    left_piece reason.Sink h = leaves_off all_bytes false (piece_reading w reader.scanner.limit piece) mid refl h.0
+    left_piece reason.DocumentTooLong h = overruns h
+    left_piece why h = (refuses why here all_bytes false (piece_reading w reader.scanner.limit piece) mid refl h).left
+
+    fault_piece : (after : LineOut D A) (why : Reason) → FailsPiece why → TellsFault contents failed mid after →
+        HaltsFor (fault_by why (record { reason = why; offset = n; line = k })) job all_bytes false (contents first.drain.now) (contents after.drain.now) (failed after.drain.now)
+    fault_piece after reason.Ended h t = absurd (false≢true (sym o.read.running ∙ h.0))
+    fault_piece after reason.Memory h t = (t.live_now, tells_some (tokens_in job all_bytes false) mid after (left_piece reason.Memory h) t)
+    fault_piece after reason.Sink h t = absurd (false≢true (sym t.live ∙ h.1))
+    fault_piece after reason.DocumentTooLong h t = overruns_shown after h t
+    fault_piece after why h t = tells_refused why here all_bytes false mid after (refuses why here all_bytes false (piece_reading w reader.scanner.limit piece) mid refl h) t
+
+    -- an error in a piece
+    piece_halts : (why : Reason) (after : LineOut D A) (told : StreamFault) → FailsPiece why → SameOut mid after → Tells contents failed (record { reason = why; offset = n; line = k }) told mid after →
+        Halted told all_bytes false after
+    piece_halts why after told h s t =
+        halts_by all_bytes false (fault_by why (record { reason = why; offset = n; line = k })) told mid after (left_piece why h) s (fault_piece after why h) t
+
+  module _ (n k : ℕ) (reader' : Driven ℕ) (mid : LineOut D A) where
+    abbrev end_at : Place
+    end_at = record { offset = n; line = k }
+
+    abbrev FailsEnd : Reason → Type 0
+    FailsEnd why = FinishFails w (TakesToken contents failed) (LeavesToken contents failed) (λ s. failed s.drain.now) why end_at reader lines reader' mid
+
+    abbrev end_reading : List ℕ → Reading
+    end_reading b = tokens_of d reader.scanner.limit b true
+
+    left_end : (why : Reason) → FailsEnd why → LeftOff (tokens_in job bytes true) mid
+    left_end reason.Ended h = absurd (false≢true (sym o.read.running ∙ h.0))
+    left_end reason.Memory h = leaves_off bytes true end_reading mid refl h.0
+    left_end reason.Sink h = leaves_off bytes true end_reading mid refl h.0
+    left_end why h = (refuses why end_at bytes true end_reading mid refl h).left
+
+    fault_end : (after : LineOut D A) (why : Reason) → FailsEnd why → TellsFault contents failed mid after →
+        HaltsFor (fault_by why (record { reason = why; offset = n; line = k })) job bytes true (contents first.drain.now) (contents after.drain.now) (failed after.drain.now)
+    fault_end after reason.Ended h t = absurd (false≢true (sym o.read.running ∙ h.0))
+    fault_end after reason.Memory h t = (t.live_now, tells_some (tokens_in job bytes true) mid after (left_end reason.Memory h) t)
+    fault_end after reason.Sink h t = absurd (false≢true (sym t.live ∙ h.1))
+    fault_end after why h t = tells_refused why end_at bytes true mid after (refuses why end_at bytes true end_reading mid refl h) t
+
+    -- an error at the end
+    end_halts : (why : Reason) (after : LineOut D A) (told : StreamFault) → FailsEnd why → SameOut mid after → Tells contents failed (record { reason = why; offset = n; line = k }) told mid after →
+        Halted told bytes true after
+    end_halts why after told h s t = halts_by bytes true (fault_by why (record { reason = why; offset = n; line = k })) told mid after (left_end why h) s (fault_end after why h) t
+
+  -- ---- all that comes was read
+
+  module _ (piece : List ℕ) (reader' : Driven ℕ) (mid : LineOut D A) (f : Feeds w (TakesToken contents failed) reader lines piece reader' mid) where
+    abbrev now_all : Reading
+    now_all = tokens_in job (bytes ++ piece) false
+
+    read' : HasRead w reader' tt (bytes ++ piece) (before ++ f.more)
+    read' = f.read tt bytes before o.read
+
+    put' : Put contents failed lines f.more mid
+    put' = put contents failed f.more lines mid f.puts
+
+    -- the tokens so far, by the limit that stays
+    all' : before ++ f.more ≡ without_end now_all.tokens
+    all' = read'.reached ∙ ap (λ n. without_end (tokens_of d n (bytes ++ piece) false).tokens) f.limit ∙ ap (λ r. without_end r.tokens) (same_reading (bytes ++ piece) false)
+
+    -- all lines were handed over
+    piece_read : (after : LineOut D A) → SameOut mid after → Appends (contents mid.drain.now) (contents after.drain.now) mid.buffer.now.items → after.buffer.now.items ≡ [] →
+        failed after.drain.now ≡ false → HandedOver contents failed d job reader' (bytes ++ piece) first after
+    piece_read after s t none live = record {
+      dialect = o.dialect;
+      limit = f.limit ∙ o.limit;
+      read = subst (HasRead w reader' tt (bytes ++ piece)) all' read';
+      written = written_tokens after f.more now_all.tokens (written_all mid after f.more put'.writes t) all';
+      none_waits = none;
+      same = same_out first mid after (same_out first lines mid o.same put'.same) s;
+      live = live;
     }
 
-    module _ (us : List Token) (mid : LineOut D A) (w' : Unread) (s' : Summary) (x : HasShown contents failed job bytes us first mid w' s') (y : AreAll job bytes us w') (e : w'.ended ≡ w.ended) where
-      is_end_now : w'.ended ≡ true
-      is_end_now = e ∙ ap (λ z. z.ended) closed
-
-      same_end : tokens_in job bytes w'.ended ≡ tokens_in job bytes true
-      same_end = ap (tokens_in job bytes) is_end_now
-
-      all_complete : (tokens_in job bytes true).outcome ≡ complete
-      all_complete = ⊎_elim (λ z. absurd (false≢true (sym z.1.more ∙ is_end_now))) (λ z. ap (λ r. r.outcome) (sym same_end) ∙ z) y.rests
-
-      whole_end : (tokens_in job bytes true).tokens ≡ us
-      whole_end = ap (λ r. r.tokens) (sym same_end) ∙ y.whole
-
-      -- all was shown
-      pub end_accepted : (after : LineOut D A) → SameOut mid after → Appends (contents mid.drain.now) (contents after.drain.now) mid.buffer.now.items →
-          SameOut first after × Shows job bytes (contents first.drain.now) (contents after.drain.now) s'
-      end_accepted after same t = (
-        same_out first mid after x.same same,
+    -- the drain failed
+    piece_broke : (after : LineOut D A) → SameOut mid after → AppendsFront (contents mid.drain.now) (contents after.drain.now) mid.buffer.now.items → failed after.drain.now ≡ true →
+        Halted stream.Write (bytes ++ piece) false after
+    piece_broke after s t broke =
+        let (rest, m) = front_moves (contents mid.drain.now) (contents after.drain.now) mid.buffer.now.items t in
         record {
-          whole = all_complete;
-          written = subst (λ ts. Appends (contents first.drain.now) (contents after.drain.now) (token_lines ts)) (sym whole_end)
-              (moves_all (contents first.drain.now) (contents mid.drain.now) (contents after.drain.now) (token_lines us) mid.buffer.now.items x.moves t);
-          no_quads = x.no_quads;
-          tokens =
-              let c = counted_complete (dialect_of job.form) job.limits.token bytes true all_complete in
-              let k : counted (tokens_in job bytes true).tokens ≡ counted us = ap counted whole_end in
-              let n = x.given in omega (arith, c, k, n);
-          taken = x.taken;
-        },
-      )
+          same = same_out first mid after (same_out first lines mid o.same put'.same) s;
+          halts = (broke, written_front after now_all f.more rest (then_front mid after f.more rest put'.writes m) (begun_all now_all (before ++ f.more) all'));
+        }
+
+  module _ (summary : Summary) (mid : LineOut D A) (f : Finishes w (TakesToken contents failed) reader lines summary mid) where
+    abbrev sums : R.Sums w tt reader.scanner.limit bytes (before ++ f.more) summary
+    sums = f.read tt bytes before o.read
+
+    all_put : Put contents failed lines f.more mid
+    all_put = put contents failed f.more lines mid f.puts
+
+    all_end : before ++ f.more ≡ without_end (tokens_in job bytes true).tokens
+    all_end = due_tokens d _ (before ++ f.more) sums.due ∙ ap (λ r. without_end r.tokens) (same_reading bytes true)
+
+    -- the document was read, and its tokens shown
+    end_read : (after : LineOut D A) → SameOut mid after → Appends (contents mid.drain.now) (contents after.drain.now) mid.buffer.now.items →
+        SameOut first after × Shows job bytes (contents first.drain.now) (contents after.drain.now) (record summary { quads = 0 })
+    end_read after s t = (
+      same_out first mid after (same_out first lines mid o.same all_put.same) s,
+      record {
+        whole = ap (λ r. r.outcome) (sym (same_reading bytes true)) ∙ sums.document.0;
+        written = written_tokens after f.more (tokens_in job bytes true).tokens (written_all mid after f.more all_put.writes t) all_end;
+        no_quads = refl;
+        tokens = sums.accepted ∙ ap (λ r. length r.tokens) (same_reading bytes true);
+        taken = sums.taken;
+      },
+    )
+
+    -- the drain failed
+    end_broke : (after : LineOut D A) → SameOut mid after → AppendsFront (contents mid.drain.now) (contents after.drain.now) mid.buffer.now.items → failed after.drain.now ≡ true →
+        Halted stream.Write bytes true after
+    end_broke after s t broke =
+        let (rest, m) = front_moves (contents mid.drain.now) (contents after.drain.now) mid.buffer.now.items t in
+        record {
+          same = same_out first mid after (same_out first lines mid o.same all_put.same) s;
+          halts = (broke, written_front after (tokens_in job bytes true) f.more rest (then_front mid after f.more rest all_put.writes m) (begun_all (tokens_in job bytes true) (before ++ f.more) all_end));
+        }
+
+-- ---- a run
+
+module _ {D A : Type 0} (contents : D → Option (List ℕ)) (failed : D → Bool) (d : Dialect) (reader : Driven ℕ) (first : LineOut D A) (bytes : List ℕ) (old : Driven ℕ) (lines : LineOut D A)
+    (i : IsShowing contents failed d reader first bytes old lines) where
+  -- what was handed over of the job that the run began with
+  abbrev begun_with : HandedOver contents failed d i.begun.0 old bytes first lines
+  begun_with = i.handed i.begun.0 i.begun.1
+
+  pub live_now : failed lines.drain.now ≡ false
+  live_now = begun_with.live
+
+  halted : (told : StreamFault) (b : List ℕ) (e : Bool) (after : LineOut D A) →
+      ((job : JobRead) (o : HandedOver contents failed d job old bytes first lines) → Halted contents failed d job old bytes first lines o told b e after) → ShowHalts contents failed d told reader first b e after
+  halted told b e after h = record { begun = i.begun; same = (h i.begun.0 begun_with).same; halts = λ job y. (h job (i.handed job y)).halts }
+
+  -- what stays from the beginning of a run stays from any state that had it
+  pub stays_on : (after : LineOut D A) → SameOut first after → (other : LineOut D A) → SameOut other lines → SameOut other after
+  stays_on after h other s =
+      let o = begun_with.same in
+      record { form = h.form ∙ (sym o.form ∙ s.form); buffer = h.buffer ∙ (sym o.buffer ∙ s.buffer); drain = h.drain ∙ (sym o.drain ∙ s.drain) }
+
+  module _ (piece : List ℕ) where
+    module _ (new : Driven ℕ) (mid : LineOut D A) (f : Feeds (token_words d) (TakesToken contents failed) old lines piece new mid) where
+      -- a piece more
+      pub run_takes : (after : LineOut D A) → SameOut mid after → Appends (contents mid.drain.now) (contents after.drain.now) mid.buffer.now.items → after.buffer.now.items ≡ [] →
+          failed after.drain.now ≡ false → IsShowing contents failed d reader first (bytes ++ piece) new after
+      run_takes after s t none live = record {
+        begun = i.begun;
+        handed = λ job y. piece_read contents failed d job old bytes first lines (i.handed job y) piece new mid f after s t none live;
+      }
+
+      pub run_same : (after : LineOut D A) → SameOut mid after → SameOut first after
+      run_same after s = same_out first mid after (same_out first lines mid begun_with.same (put contents failed f.more lines mid f.puts).same) s
+
+      -- the bytes are counted
+      pub run_counts : new.so_far.bytes ≡ old.so_far.bytes + length piece
+      run_counts =
+          let o = begun_with.read in
+          let a : old.so_far.bytes ≡ length bytes = ap (λ (s : Summary). s.bytes) o.so_far in
+          let b : new.so_far.bytes ≡ length (bytes ++ piece) = ap (λ (s : Summary). s.bytes) (f.read tt bytes _ o).so_far in
+          b ∙ (length-append bytes piece ∙ ap (λ n. n + length piece) (sym a))
+
+      -- there are not too many
+      pub run_few : (most : ℕ) → new.scanner.taken.offset ≤ most → new.so_far.bytes ≤ most
+      run_few most few =
+          let r = f.read tt bytes _ begun_with.read in
+          let b : new.so_far.bytes ≡ length (bytes ++ piece) = ap (λ (s : Summary). s.bytes) r.so_far in
+          let small : new.scanner.taken.offset ≡ length (bytes ++ piece) = ap (λ (p : Place). p.offset) r.scanned.taken in
+          omega (arith, b, small, few)
 
       -- the drain failed
-      pub end_broke : (after : LineOut D A) → SameOut mid after → AppendsFront (contents mid.drain.now) (contents after.drain.now) mid.buffer.now.items → failed after.drain.now ≡ true →
-          Halts contents failed stream.Write job bytes true first after
-      end_broke after same t broke =
-          let m = front_moves (contents mid.drain.now) (contents after.drain.now) mid.buffer.now.items t in
-          subst (λ b. Halts contents failed stream.Write job bytes b first after) is_end_now (broke_here contents failed job bytes us first mid w' s' x after m.0 same broke m.1)
+      pub run_broke : (after : LineOut D A) → SameOut mid after → AppendsFront (contents mid.drain.now) (contents after.drain.now) mid.buffer.now.items → failed after.drain.now ≡ true →
+          ShowHalts contents failed d stream.Write reader first (bytes ++ piece) false after
+      run_broke after s t broke = halted stream.Write (bytes ++ piece) false after (λ job o. piece_broke contents failed d job old bytes first lines o piece new mid f after s t broke)
+
+    -- an error in a piece
+    pub run_halts : (n k : ℕ) (new : Driven ℕ) (mid after : LineOut D A) (why : Reason) (told : StreamFault) →
+        FeedFails (token_words d) (TakesToken contents failed) (LeavesToken contents failed) (λ s. failed s.drain.now) why (record { offset = n; line = k }) old lines piece new mid → SameOut mid after →
+        Tells contents failed (record { reason = why; offset = n; line = k }) told mid after → ShowHalts contents failed d told reader first (bytes ++ piece) false after
+    run_halts n k new mid after why told h s t =
+        halted told (bytes ++ piece) false after (λ job o. piece_halts contents failed d job old bytes first lines o piece n k new mid why after told h s t)
+
+  module _ (summary : Summary) (mid : LineOut D A) (f : Finishes (token_words d) (TakesToken contents failed) old lines summary mid) where
+    -- the document was read, and its tokens shown
+    pub run_ends : (flushed : D → Bool) (after : LineOut D A) → SameOut mid after → Appends (contents mid.drain.now) (contents after.drain.now) mid.buffer.now.items → flushed after.drain.now ≡ true →
+        ShowEnds contents failed flushed d (record summary { quads = 0 }) reader first bytes after
+    run_ends flushed after s t sent = record {
+      same = (end_read contents failed d i.begun.0 old bytes first lines begun_with summary mid f after s t).0;
+      sent = sent;
+      shows = λ job y. (end_read contents failed d job old bytes first lines (i.handed job y) summary mid f after s t).1;
+    }
+
+    -- the drain failed
+    pub end_run_broke : (after : LineOut D A) → SameOut mid after → AppendsFront (contents mid.drain.now) (contents after.drain.now) mid.buffer.now.items → failed after.drain.now ≡ true →
+        ShowHalts contents failed d stream.Write reader first bytes true after
+    end_run_broke after s t broke = halted stream.Write bytes true after (λ job o. end_broke contents failed d job old bytes first lines o summary mid f after s t broke)
+
+  -- an error at the end
+  pub end_run_halts : (n k : ℕ) (new : Driven ℕ) (mid after : LineOut D A) (why : Reason) (told : StreamFault) →
+      FinishFails (token_words d) (TakesToken contents failed) (LeavesToken contents failed) (λ s. failed s.drain.now) why (record { offset = n; line = k }) old lines new mid → SameOut mid after →
+      Tells contents failed (record { reason = why; offset = n; line = k }) told mid after → ShowHalts contents failed d told reader first bytes true after
+  end_run_halts n k new mid after why told h s t = halted told bytes true after (λ job o. end_halts contents failed d job old bytes first lines o n k new mid why after told h s t)
 
 -- ---- a whole run
 
@@ -521,31 +534,38 @@ halts_stops stream.Read job known left old new write_failed given h = absurd h
 halts_stops stream.Write job known left old new write_failed given h = (h.0, given, h.1)
 halts_stops stream.Memory job known left old new write_failed given h = (h.0, given, h.1)
 
-module _ {D : Type 0} (A : Type 0) (contents : D → Option (List ℕ)) (failed flushed : D → Bool) where
-  -- what is shown, and its lines
-  abbrev pub R : Type 0
-  R = Showing A × LineOut D A
+module _ {D : Type 0} (A : Type 0) (contents : D → Option (List ℕ)) (failed flushed : D → Bool) (d : Dialect) where
+  -- a reader, and its lines
+  abbrev pub State : Type 0
+  State = Driven ℕ × LineOut D A
 
-  abbrev pub Taken : R → List ℕ → R → Type 0
-  Taken first bytes now = IsShowingRun contents failed first.0.scanner first.0.so_far first.1 bytes now.0.scanner now.0.so_far now.1
+  abbrev pub Taken : State → List ℕ → State → Type 0
+  Taken first bytes now = IsShowing contents failed d first.0 first.1 bytes now.0 now.1
 
-  abbrev pub Halted : StreamFault → R → List ℕ → Bool → R → Type 0
-  Halted told first bytes e now = ShowHalts contents failed told first.0.scanner first.0.so_far first.1 bytes e now.1
+  abbrev pub Stopped : StreamFault → State → List ℕ → Bool → State → Type 0
+  Stopped told first bytes e now = ShowHalts contents failed d told first.0 first.1 bytes e now.1
 
-  abbrev pub Ended : Summary → R → List ℕ → R → Type 0
-  Ended s first bytes now = ShowEnds contents failed flushed s first.0.scanner first.0.so_far first.1 bytes now.1
+  abbrev pub Ended : Summary → State → List ℕ → State → Type 0
+  Ended s first bytes now = ShowEnds contents failed flushed d s first.0 first.1 bytes now.1
 
   -- nothing was read
-  pub run_begins : (job : JobRead) (first : R) → Begins failed job first.0.scanner first.0.so_far first.1 → Taken first [] first
+  pub run_begins : (job : JobRead) (first : State) → Begins failed d job first.0 first.1 → Taken first [] first
   run_begins job first b = record {
     begun = (job, b);
-    none_waits = b.none_waits;
-    shown = λ y b.
-        none_shown contents failed y first.1 first.0.scanner first.0.so_far b.read b.more b.dialect b.limit b.none_waits b.live (ap (λ (s : Summary). s.quads) b.none_shown) (ap (λ (s : Summary). s.tokens) b.none_shown)
-        (ap (λ (s : Summary). s.bytes) b.none_shown);
+    handed = λ y b.
+        let none = tokens_of-nil (dialect_of y.form) y.limits.token in
+        record {
+          dialect = b.dialect;
+          limit = b.limit;
+          read = subst (λ ts. HasRead (token_words d) first.0 tt [] (without_end ts)) (sym (ap (λ r. r.tokens) none)) b.read;
+          written = subst (λ ts. Appends (contents first.1.drain.now) (contents first.1.drain.now) (token_lines ts)) (sym (ap (λ r. r.tokens) none)) (Appends-nil (contents first.1.drain.now));
+          none_waits = b.none_waits;
+          same = record { form = refl; buffer = refl; drain = refl };
+          live = b.live;
+        };
   }
 
-  module _ (job : JobRead) (first now : R) (b : Begins failed job first.0.scanner first.0.so_far first.1) (known : Option (List ℕ)) (left : Reader) where
+  module _ (job : JobRead) (first now : State) (b : Begins failed d job first.0 first.1) (known : Option (List ℕ)) (left : Reader) where
     abbrev old : Option (List ℕ)
     old = contents first.1.drain.now
 
@@ -553,76 +573,26 @@ module _ {D : Type 0} (A : Type 0) (contents : D → Option (List ℕ)) (failed 
     new = contents now.1.drain.now
 
     pub run_shown : (s : Summary) → ReadsAll Ended known left s first now → IfSome known (λ bytes. Shows job bytes old new s)
-    run_shown s h = Consumes-whole known left.remaining h.bytes (λ bytes. Shows job bytes old new s) h.consumed h.at_end (h.is_end.shows job b).1
+    run_shown s h = Consumes-whole known left.remaining h.bytes (λ bytes. Shows job bytes old new s) h.consumed h.at_end (h.is_end.shows job b)
 
     -- the source failed
     broke : SourceFails Taken known left first now → ShowStops stream.Read job known left old new (failed now.1.drain.now)
     broke h =
-        let o = h.is_taken.shown job b in (
+        let o = h.is_taken.handed job b in (
           h.broken,
           record {
             bytes = h.bytes;
             consumed = h.consumed;
-            waits = o.waits;
-            written = all_written contents failed job h.bytes first.1 now.1 now.0.scanner now.0.so_far o h.is_taken.none_waits;
+            waits = ap (λ r. r.outcome) (sym (same_reading contents failed d job now.0 h.bytes first.1 now.1 o h.bytes false)) ∙ o.read.undecided;
+            written = o.written;
           },
         )
 
-    pub run_stopped : (told : StreamFault) → ReadStops Taken Halted told known left first now →
-        ShowStops told job known left old new (failed now.1.drain.now)
+    pub run_stopped : (told : StreamFault) → ReadStops Taken Stopped told known left first now → ShowStops told job known left old new (failed now.1.drain.now)
     run_stopped told h =
         ⊎_elim (λ p. subst (λ t. ShowStops t job known left old new (failed now.1.drain.now)) (sym p.0) (broke p.1))
-        (λ p. halts_stops told job known left old new (failed now.1.drain.now) p.0 (p.1.halts job b).halts) h
+        (λ p. halts_stops told job known left old new (failed now.1.drain.now) p.0 (p.1.halts job b)) h
 
-    pub run_refused : (told : StreamFault) → ReadStops Taken Halted told known left first now → IsRefusal told
+    pub run_refused : (told : StreamFault) → ReadStops Taken Stopped told known left first now → IsRefusal told
     run_refused told h =
-        ⊎_elim (λ p. subst IsRefusal (sym p.0) tt)
-        (λ p. halts_of_document told job p.0.bytes left.has_ended old new (failed now.1.drain.now) (p.1.halts job b).halts) h
-
--- ---- parts that follow each other
-
--- a part of a piece was taken, and the rest is left
-pub front_taken : (piece front rest now : List ℕ) (n : ℕ) → piece ≡ front ++ rest → now ≡ drop n rest → piece ≡ (front ++ take n rest) ++ now
-front_taken piece front rest now n e d =
-    e ∙ (ap (λ l. front ++ l) (sym (take-append-drop n rest) ∙ ap (λ l. take n rest ++ l) (sym d)) ∙ sym (append_assoc front (take n rest) now))
-
-module _ {D A : Type 0} (contents : D → Option (List ℕ)) (failed : D → Bool) where
-  pub none_more : (job : JobRead) (bytes : List ℕ) (first lines : LineOut D A) (v : Unread) (s : Summary) → HasShownAll contents failed job bytes first lines v s →
-      HasShownAll contents failed job (bytes ++ []) first lines v s
-  none_more job bytes first lines v s h = subst (λ b. HasShownAll contents failed job b first lines v s) (sym (append-nil bytes)) h
-
-  pub joined_shown : (job : JobRead) (bytes front part : List ℕ) (first lines : LineOut D A) (v : Unread) (s : Summary) → HasShownAll contents failed job ((bytes ++ front) ++ part) first lines v s →
-      HasShownAll contents failed job (bytes ++ (front ++ part)) first lines v s
-  joined_shown job bytes front part first lines v s h = subst (λ b. HasShownAll contents failed job b first lines v s) (append_assoc bytes front part) h
-
-  pub joined_halts : (told : StreamFault) (job : JobRead) (bytes front rest piece : List ℕ) (first lines : LineOut D A) → piece ≡ front ++ rest → Halts contents failed told job ((bytes ++ front) ++ rest) false first lines →
-      Halts contents failed told job (bytes ++ piece) false first lines
-  joined_halts told job bytes front rest piece first lines e h =
-      subst (λ b. Halts contents failed told job b false first lines) (append_assoc bytes front rest ∙ ap (λ l. bytes ++ l) (sym e)) h
-
-  pub closes : (job : JobRead) (bytes : List ℕ) (first lines : LineOut D A) (v : Unread) (s : Summary) → HasShownAll contents failed job bytes first lines v s → (w : Unread) →
-      w ≡ Moved.closed v → w ≡ record v { ended = true }
-  closes job bytes first lines v s h w e = e ∙ cond-false _ _ _ h.more.running
-
--- ---- a line that was not put
-
--- each token but the end has its line
-pub shown_line : (t : Token) → is_end t.kind ≡ false → shown t ≡ token_line t
-shown_line t e = cond-false _ _ _ e
-
-module _ {D A : Type 0} (contents : D → Option (List ℕ)) (failed : D → Bool) (before mid after : LineOut D A) (bytes : List ℕ) (m : Writes contents before [] mid) where
-  -- nothing of it waits, and what waits was handed over, or not
-  pub put_left : (told : StreamFault) → PutHalts contents failed told mid [] after → PutHalts contents failed told before bytes after
-  put_left stream.Write p = (
-    p.0,
-    p.1 ++ bytes,
-    moves_more (contents before.drain.now) (contents after.drain.now) before.buffer.now.items bytes p.1
-        (subst (λ l. Moves (contents before.drain.now) (contents after.drain.now) l p.1) (append-nil (before.buffer.now.items ++ []) ∙ append-nil before.buffer.now.items)
-        (moves_on (contents before.drain.now) (contents mid.drain.now) (contents after.drain.now) (before.buffer.now.items ++ []) [] mid.buffer.now.items p.1 m p.2)),
-  )
-  put_left stream.Memory p = (
-    p.0,
-    subst (Appends (contents before.drain.now) (contents after.drain.now)) (append-nil before.buffer.now.items)
-        (moves_all (contents before.drain.now) (contents mid.drain.now) (contents after.drain.now) (before.buffer.now.items ++ []) mid.buffer.now.items m p.1),
-  )
-  put_left told p = absurd p
+        ⊎_elim (λ p. subst IsRefusal (sym p.0) tt) (λ p. halts_of_document told job p.0.bytes left.has_ended old new (failed now.1.drain.now) (p.1.halts job b)) h

@@ -16,4 +16,5 @@ pub mod Pieces
 pub mod Parts
 pub mod Passes
 pub mod Converting
-pub mod ShowParts
+pub mod TokenWords
+pub mod Showing

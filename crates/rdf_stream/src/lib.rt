@@ -15,6 +15,7 @@ mod passes;
 mod pieces;
 mod put;
 mod shows;
+mod token_grammar;
 mod token_line;
 mod views;
 

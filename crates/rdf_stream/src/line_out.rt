@@ -1,13 +1,12 @@
 // The sink that hands lines on to a drain.
 
-ghost use Rattle.std.specs.Prelude.{◌≡◌, [], ◌<◌, length, true, false, Bool, List, ℕ, Option, is_err, OnOk, OnErr, IfErr};
+ghost use Rattle.std.specs.Prelude.{◌≡◌, ◌↔◌, [], ◌<◌, length, true, false, Bool, List, ℕ, Option, is_err, OnOk, OnErr};
 ghost use Rattle.std.specs.Io.KnownBytes.{Appends};
 ghost use Rattle.rdf_stream.specs.Converting.{Tells};
 ghost use Rattle.rdf_stream.specs.Devices.{AppendsFront};
 ghost use Rattle.rdf_tokens.specs.Scans.{token_of};
 ghost use Rattle.rdf_stream.specs.LineOut.{Leaves, SameOut, Takes, Writes};
-ghost use Rattle.rdf_stream.specs.ShowParts.{LeavesToken};
-ghost use Rattle.rdf_stream.specs.Shows.{token_line};
+ghost use Rattle.rdf_stream.specs.Showing.{LeavesToken, TakesToken};
 
 use crate::devices::{Drain, Failed};
 use crate::fault::StreamFault;
@@ -82,10 +81,9 @@ impl<'a, D: Drain, A: Allocator + Copy> LineOut<'a, D, A> {
     /// Puts the line of a token.
     pub(crate) fn put_token(&mut self, token: Token<'_>) -> Result<(), PutFault>
         requires live { D.has_failed self.old.drain.now ≡ false }
-        ensures same { SameOut self.old self.new }
-        ensures writes { OnOk result (Writes D.contents self.old (token_line (token_of token.entry)) self.new) }
-        ensures live { OnOk result (D.has_failed self.new.drain.now ≡ false) }
-        ensures err { IfErr result (λ f. LeavesToken D.contents D.has_failed f self.old (token_line (token_of token.entry)) self.new) }
+        ensures taken { OnOk result (TakesToken D.contents D.has_failed self.old (token_of token.entry) self.new) }
+        ensures left { OnErr result (LeavesToken D.contents D.has_failed self.old (token_of token.entry) self.new) }
+        ensures device { (D.has_failed self.new.drain.now ≡ true) ↔ (result ≡ Err PutFault.Device) }
     {
         match put_token_line(token, self.buffer) {
             Ok(()) => {}
