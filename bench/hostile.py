@@ -7,7 +7,8 @@ more than 10 times as long.
 For each shape and each of `convert`, `check` and `show`: the seconds of processor time at each size (the best of three runs), and
 how many times as long the last takes as the first. Times below a hundredth of a second are taken as one. The shapes "byte by byte"
 have a tenth of the size, and are one token of just as many characters as the limit on tokens, given in pieces of one byte. Those
-"in runs of the limit" have a size of their own. With words, only the shapes whose names have one of them. `rt ci` or `rt run` in crates/rdf_tool builds the program.
+"in runs of the limit" have a size of their own. With words, only the shapes whose names have one of them. `rt ci` or `rt run` in
+crates/rdf_tool builds the program.
 """
 import os
 import resource
