@@ -6,8 +6,9 @@ more than 10 times as long.
 
 For each shape and each of `convert`, `check` and `show`: the seconds of processor time at each size (the best of three runs), and
 how many times as long the last takes as the first. Times below a hundredth of a second are taken as one. The shapes "byte by byte"
-have a tenth of the size, and are one token of just as many characters as the limit on tokens, given in pieces of one byte. With
-words, only the shapes whose names have one of them. `rt ci` or `rt run` in crates/rdf_tool builds the program.
+have a tenth of the size, and are one token of just as many characters as the limit on tokens, given in pieces of one byte. Those
+"in runs of the limit" have a size of their own. With words, only the shapes whose names have one of them. `rt ci` or `rt run` in
+crates/rdf_tool builds the program.
 """
 import os
 import resource
@@ -80,6 +81,13 @@ SHAPES = {
     'one string without its end': lambda size: HEAD + '"' + 'a' * size,
 }
 
+# The same in sixteen runs, each of as many characters as the limit on tokens, which is less than a piece: what comes again and
+# again, and how often a run has it at the greatest scale.
+IN_RUNS = {
+    'keywords in runs of the limit': ('true', 15000),
+    'keywords and numbers in runs of the limit': ('true1false2.5', 4600),
+}
+
 # The same of characters of several bytes: what begins the token, the character, and what ends it.
 BYTE_BY_BYTE = {
     'a string of emoji byte by byte': ('"', '\U0001F600', '"'),
@@ -108,6 +116,22 @@ def times(action, shape, size, path):
         for _ in range(3):
             with open(path, 'rb') as f:
                 best.append(sum(seconds([action], f)))
+        found.append(min(best))
+    return found
+
+
+def times_of_runs(action, shape, path):
+    """The best of three runs at each scale, of runs that grow with it."""
+    word, most = shape
+    found = []
+    for scale in SCALES:
+        run = word * (most * scale // SCALES[-1])
+        with open(path, 'w') as f:
+            f.write(HEAD + '(' + (run + ' ') * 16 + ') .\n')
+        best = []
+        for _ in range(3):
+            with open(path, 'rb') as f:
+                best.append(sum(seconds([action, '--token', str(len(run))], f)))
         found.append(min(best))
     return found
 
@@ -148,12 +172,14 @@ def main():
     worst = 0
     with tempfile.TemporaryDirectory() as folder:
         path = os.path.join(folder, 'document')
-        for name in list(SHAPES) + list(BYTE_BY_BYTE):
+        for name in list(SHAPES) + list(IN_RUNS) + list(BYTE_BY_BYTE):
             if words and not any(word in name for word in words):
                 continue
             for action in ('convert', 'check', 'show'):
                 if name in SHAPES:
                     found = times(action, SHAPES[name], size, path)
+                elif name in IN_RUNS:
+                    found = times_of_runs(action, IN_RUNS[name], path)
                 else:
                     found = times_of_bytes(action, BYTE_BY_BYTE[name], size)
                 growth = max(found[-1], LEAST_SECONDS) / max(found[0], LEAST_SECONDS)

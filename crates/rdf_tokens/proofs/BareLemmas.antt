@@ -1,8 +1,8 @@
 -- A text that begins no name begins none at a later letter of its first run either: the states behind both letters are the same.
-use Rattle.std.proofs.Common.{◌≡◌, ℕ, zero, suc, ◌+◌, ◌-◌, ◌<◌, Bool, true, false, List, [], ◌∷◌, ◌++◌, ◌&&◌, ◌||◌, ◌==◌, not, refl, sym, ap, ◌∙◌, subst, ⊎_elim, length, take, drop, get_or, arith, length-append, length-drop, Option, Some, None, IsUtf8}
+use Rattle.std.proofs.Common.{◌≡◌, ℕ, zero, suc, ◌+◌, ◌-◌, ◌<◌, Bool, true, false, List, [], ◌∷◌, ◌++◌, ◌&&◌, ◌||◌, ◌==◌, ◌≤◌, inl, inr, not, refl, sym, ap, ◌∙◌, subst, ⊎_elim, length, take, drop, get_or, arith, length-append, length-drop, Option, Some, None, IsUtf8}
 use Rattle.std.proofs.lemmas.Bool.{agree_below_at, and_parts, true≢false, cases_lt}
 use Rattle.std.proofs.lemmas.Bool.Decides.{nat_tests}
-use Rattle.std.proofs.lemmas.List.{get_or-drop, drop-drop, take-append-drop}
+use Rattle.std.proofs.lemmas.List.{get_or-drop, drop-drop, take-append-drop, length-take-le}
 use Rattle.std.proofs.lemmas.Str.{encode_ascii, length-encode}
 use Rattle.std.specs.Str.{chars}
 use Rattle.std.specs.Char.{len_utf8}
@@ -17,10 +17,11 @@ use Rattle.rdf_tokens.specs.declared.states.name.Name.TheVariants as name
 use Rattle.rdf_tokens.specs.declared.front.Bare.{Bare}
 use Rattle.rdf_tokens.specs.Tokens.{with_length, three_quotes, only_long}
 use Rattle.rdf_tokens.specs.Machines.{run}
-use Rattle.rdf_tokens.specs.Machine.{step, kind_at}
+use Rattle.rdf_tokens.specs.Machine.{step, kind_at, goes_on}
 use Rattle.rdf_tokens.specs.Front.{IsAt, bytes_of, in_bytes, longest_by, state_of, kind_by_states, open_state}
-use Rattle.rdf_tokens.specs.Bare.{is_bare_byte, IsBare, IsBareIn}
+use Rattle.rdf_tokens.specs.Bare.{is_bare_byte, IsBare, IsBareIn, Ends}
 use Rattle.rdf_tokens.proofs.ByteLemmas.{at-start, char-step, ascii_first, run-append, run-more}
+use Rattle.rdf_tokens.proofs.StateLemmas.{longer_state}
 
 -- a state within a prefix
 abbrev in_prefix : State → Bool
@@ -144,6 +145,33 @@ bare_behind u v c s t h e b = record {
         ap kind_at (sym same) ∙ (ap (λ x. only_long x (kind_at (state_of Turtle (take (suc (length u + m)) w)))) (sym t) ∙ none) in
         ap (only_long (three_quotes Turtle (c ∷ v))) kind ∙ no_long (three_quotes Turtle (c ∷ v))
 
+-- the states go on within a prefix
+prefix_live : (s : State) → in_prefix s ≡ true → goes_on Turtle s ≡ true
+prefix_live (Name name.Prefix) h = refl
+prefix_live (Name name.PrefixDots) h = refl
+prefix_live s h = absurd (true≢false (sym h))
+
+-- where the states have ended they have behind more characters
+pub ends_more : (d : Dialect) (w : List ℕ) (m n : ℕ) → m ≤ n → Ends d w m → Ends d w n
+ends_more d w m n l e = ⊎_elim
+    (λ (a : length w ≤ m). inl (omega arith))
+    (λ f. ⊎_elim (λ (i : n < length w). inr (go (n - m) f i (omega arith))) (λ i. inl i) (cases_lt n (length w)))
+    e
+  where
+    go : (k : ℕ) → goes_on d (state_of d (take m w)) ≡ false → n < length w → m + k ≡ n → goes_on d (state_of d (take n w)) ≡ false
+    go zero f i x = subst (λ j. goes_on d (state_of d (take j w)) ≡ false) (let y : m ≡ n = omega arith in y) f
+    go (suc k) f i x = subst (λ j. goes_on d (state_of d (take j w)) ≡ false) x (longer_state d w m k (omega arith) f).0
+
+-- the states end at the same place from a later letter on
+ends_behind : (u v : List ℕ) (c n : ℕ) → in_prefix (state_of Turtle u) ≡ true → is_letter c ≡ true → Ends Turtle (u ++ c ∷ v) (length u + n) → Ends Turtle (c ∷ v) n
+ends_behind u v c n h e x = ⊎_elim (λ (a : length (u ++ c ∷ v) ≤ length u + n). inl (omega (arith, length-append u (c ∷ v)))) (λ f. inr (go n f)) x
+  where
+    go : (n : ℕ) → goes_on Turtle (state_of Turtle (take (length u + n) (u ++ c ∷ v))) ≡ false → goes_on Turtle (state_of Turtle (take n (c ∷ v))) ≡ false
+    go zero f =
+        let same : state_of Turtle (take (length u + 0) (u ++ c ∷ v)) ≡ state_of Turtle u = ap (state_of Turtle) (take_over u (c ∷ v) 0) ∙ run-append (step Turtle) Start u [] in
+        absurd (true≢false (sym (prefix_live (state_of Turtle u) h) ∙ (sym (ap (goes_on Turtle) same) ∙ f)))
+    go (suc n) f = ap (goes_on Turtle) (sym (ap (state_of Turtle) (take_over u (c ∷ v) (suc n)) ∙ same_state u (take n v) c h e)) ∙ f
+
 -- one byte of ASCII on
 pub one_on : (bs : List ℕ) (p : ℕ) → IsAt bs p p → p < length bs → get_or bs p 0 < 128 → (drop p (chars bs) ≡ get_or bs p 0 ∷ drop (p + 1) (chars bs)) × IsAt bs (suc p) (suc p)
 one_on bs p h l a =
@@ -173,25 +201,29 @@ prefixed bs end u r e (suc p) l =
     (x.1, ap in_prefix (sym state) ∙ bare_within (state_of Turtle (take (suc p) w)) c h.1 bare)
 
 -- what is known from a letter on is so up to the end of its run
-pub bare_in : (bs : List ℕ) (end left : ℕ) (s : Option State) → IsUtf8 bs → is_letter (get_or bs 0 0) ≡ true → IsRun is_bare_byte bs 0 end → IsBare Turtle (chars bs) s →
-    left ≡ length bs - end → IsBareIn Turtle bs (Some (record { left = left; state = s }))
-bare_in bs end left s u e r b k = at
+pub bare_in : (bs : List ℕ) (end left states out : ℕ) (s : Option State) → IsUtf8 bs → is_letter (get_or bs 0 0) ≡ true → IsRun is_bare_byte bs 0 end → IsBare Turtle (chars bs) s →
+    Ends Turtle (chars bs) states → left ≡ length bs - end → out + states ≡ length bs → IsBareIn Turtle bs (Some (record { left = left; state = s; out = out }))
+bare_in bs end left states out s u e r b x k o = at
   where
-    at : (p : ℕ) → p + left < length bs → is_letter (get_or bs p 0) ≡ true → IsBare Turtle (chars (drop p bs)) s
-    at zero l f = b
+    at : (p : ℕ) → p + left < length bs → is_letter (get_or bs p 0) ≡ true → IsBare Turtle (chars (drop p bs)) s × ((n : ℕ) → length bs ≤ n + (p + out) → Ends Turtle (chars (drop p bs)) n)
+    at zero l f = (b, λ n m. ends_more Turtle (chars bs) states n (omega arith) x)
     at (suc p) l f =
         let w = chars bs in
         let within = r.within in
         let few : p < end = omega (arith, k, within) in
         let h = prefixed bs end u r e p few in
         let c = get_or bs (suc p) 0 in
-        let x = one_on bs (suc p) h.0 (omega arith) (low-letter c f) in
+        let on = one_on bs (suc p) h.0 (omega arith) (low-letter c f) in
         let v = drop (suc p + 1) w in
         let first = one_on bs 0 (at-start bs u) (omega arith) (low-letter (get_or bs 0 0) e) in
-        let whole : w ≡ take (suc p) w ++ c ∷ v = sym (take-append-drop (suc p) w) ∙ ap (λ y. take (suc p) w ++ y) x.0 in
+        let whole : w ≡ take (suc p) w ++ c ∷ v = sym (take-append-drop (suc p) w) ∙ ap (λ y. take (suc p) w ++ y) on.0 in
         let quotes : three_quotes Turtle (take (suc p) w ++ c ∷ v) ≡ false =
         ap (three_quotes Turtle) (sym whole ∙ first.0) ∙ no_quotes (get_or bs 0 0) (drop 1 w) e in
-        subst (λ y. IsBare Turtle y s) (sym x.0 ∙ h.0.left) (bare_behind (take (suc p) w) v c s quotes h.1 f (subst (λ y. IsBare Turtle y s) whole b))
+        let size = length-take-le (suc p) w h.0.count in (
+          subst (λ y. IsBare Turtle y s) (sym on.0 ∙ h.0.left) (bare_behind (take (suc p) w) v c s quotes h.1 f (subst (λ y. IsBare Turtle y s) whole b)),
+          λ n m. subst (λ y. Ends Turtle y n) (sym on.0 ∙ h.0.left)
+              (ends_behind (take (suc p) w) v c n h.1 f (subst (λ y. Ends Turtle y (length (take (suc p) w) + n)) whole (ends_more Turtle w states (length (take (suc p) w) + n) (omega (arith, size)) x))),
+        )
 
 -- no front in bytes is no front
 no_bytes : (w : List ℕ) (o : Option (ℕ × Kind)) → None ≡ in_bytes w o → o ≡ None
@@ -214,7 +246,10 @@ best_of_bare d w s b = sym (ap (in_bytes w) b.none)
 bare_drop : (d : Dialect) (bs : List ℕ) (n : ℕ) (b : Option Bare) → IsBareIn d bs b → IsBareIn d (drop n bs) b
 bare_drop d bs n None h = tt
 bare_drop d bs n (Some b) h = λ p l e.
-    subst (λ y. IsBare d (chars y) b.state) (sym (drop-drop p n bs)) (h (n + p) (omega (arith, l, length-drop n bs)) (ap is_letter (sym (get_or-drop n bs p 0)) ∙ e))
+    let x = h (n + p) (omega (arith, l, length-drop n bs)) (ap is_letter (sym (get_or-drop n bs p 0)) ∙ e) in (
+      subst (λ y. IsBare d (chars y) b.state) (sym (drop-drop p n bs)) x.0,
+      λ m k. subst (λ y. Ends d (chars y) m) (sym (drop-drop p n bs)) (x.1 m (omega (arith, l, k, length-drop n bs))),
+    )
 
 -- what is known of a text is known of what is left of it when a token was given
 pub bare_advanced : (d : Dialect) (text : List ℕ) (start len : ℕ) (b : Option Bare) → IsBareIn d (drop start text) b → IsBareIn d (drop (start + len) text) b

@@ -1,6 +1,6 @@
 -- A token is longer than the limit by the states or by a spelling.
-use Rattle.std.proofs.Common.{◌≡◌, ℕ, zero, suc, ◌+◌, ◌-◌, ◌<◌, ◌≤◌, Bool, true, false, cond, nat_lt, List, [], ◌∷◌, ◌&&◌, ◌||◌, ◌⊎◌, refl, sym, ap, ◌∙◌, ⊎_elim, length, take, arith, Option, Some, None, is_some, IsUtf8}
-use Rattle.std.proofs.lemmas.Bool.{and_parts, and_from, cases_lt, lt-ltb, le-ltb}
+use Rattle.std.proofs.Common.{◌≡◌, ℕ, zero, suc, ◌+◌, ◌-◌, ◌<◌, ◌≤◌, Bool, true, false, cond, nat_lt, List, [], ◌∷◌, ◌&&◌, ◌||◌, ◌⊎◌, inl, inr, refl, sym, ap, ◌∙◌, ⊎_elim, length, take, get_or, nat_le, arith, Option, Some, None, is_some, IsUtf8}
+use Rattle.std.proofs.lemmas.Bool.{and_parts, and_from, cases_lt, lt-ltb, le-ltb, ltb-true, false≢true}
 use Rattle.std.proofs.lemmas.Bool.Decides.{nat_tests}
 use Rattle.std.proofs.lemmas.List.{length-take-le}
 use Rattle.std.proofs.lemmas.Str.{encodes-chars, length-le-encodes}
@@ -8,6 +8,7 @@ use Rattle.std.specs.Prelude.{encode_utf8_all}
 use Rattle.std.specs.Str.{chars}
 use Rattle.rdf_terms.specs.declared.kind.Kind.{Kind}
 use Rattle.rdf_terms.specs.declared.kind.Dialect.{Dialect}
+use Rattle.rdf_terms.specs.Classes.{is_letter}
 use Rattle.rdf_terms.specs.Shapes.{fixed, kind_of, is_live, or_else}
 use Rattle.rdf_tokens.specs.declared.states.machine.State.{State}
 use Rattle.rdf_tokens.specs.Tokens.{over}
@@ -15,7 +16,10 @@ use Rattle.rdf_tokens.specs.Machines.{IsChars}
 use Rattle.rdf_tokens.specs.Machine.{kind_at, goes_on}
 use Rattle.rdf_tokens.specs.Fixed.{Row, fits, left, is_done, is_begun, kind_by, live_by, rows_of, kind_by_table, live_by_table}
 use Rattle.rdf_tokens.specs.Front.{IsAt, begins, state_of}
-use Rattle.rdf_tokens.specs.Over.{shaped_over, row_over, fixed_over}
+use Rattle.rdf_tokens.specs.declared.front.Bare.{Bare}
+use Rattle.rdf_tokens.specs.declared.over.Begun.{Begun}
+use Rattle.rdf_tokens.specs.Bare.{IsBareIn, Ends, ends_within}
+use Rattle.rdf_tokens.specs.Over.{shaped_over, row_over, fixed_over, HasCome}
 use Rattle.rdf_tokens.proofs.ByteLemmas.{at-end, chars_take, is-chars}
 use Rattle.rdf_tokens.proofs.MachineLemmas.{whole-kind, whole-live}
 use Rattle.rdf_tokens.proofs.SpellingLemmas.{short, is_low, all_low, rows_low, begins_bytes}
@@ -42,6 +46,44 @@ none_over : (d : Dialect) (limit : ℕ) (w : List ℕ) → kind_at (state_of d (
 none_over d limit w k g =
     ap (λ o. nat_lt limit (length w) && (is_some o || goes_on d (state_of d (take (limit + 1) w)))) k
     ∙ (ap (λ b. nat_lt limit (length w) && b) g ∙ and_false (nat_lt limit (length w)))
+
+-- where the states end within the limit, or the text does, nothing is over it
+pub ends-within : (d : Dialect) (limit : ℕ) (w : List ℕ) → Ends d w limit → shaped_over d limit w ≡ false
+ends-within d limit w e = ⊎_elim
+    no_more
+    (λ f. ⊎_elim
+    (λ m.
+    let one : limit + suc 0 ≡ limit + 1 = omega arith in
+    let k = longer_state d w limit 0 (omega arith) f in
+    none_over d limit w (ap (λ i. kind_at (state_of d (take i w))) (sym one) ∙ k.1) (ap (λ i. goes_on d (state_of d (take i w))) (sym one) ∙ k.0))
+    no_more
+    (cases_lt limit (length w)))
+    e
+  where
+    no_more : length w ≤ limit → shaped_over d limit w ≡ false
+    no_more m = ap (λ b. b && (is_some (kind_at (state_of d (take (limit + 1) w))) || goes_on d (state_of d (take (limit + 1) w)))) (le-ltb _ _ m)
+
+-- what is kept of a run without names tells that
+pub bare-within : (d : Dialect) (limit : ℕ) (bs : List ℕ) (b : Option Bare) → IsBareIn d bs b → ends_within limit bs b ≡ true → shaped_over d limit (chars bs) ≡ false
+bare-within d limit bs None h e = absurd (false≢true e)
+bare-within d limit bs (Some b) h e =
+    let p = and_parts (nat_lt b.left (length bs)) (nat_le (length bs - limit) b.out && is_letter (get_or bs 0 0)) e in
+    let q = and_parts (nat_le (length bs - limit) b.out) (is_letter (get_or bs 0 0)) p.1 in
+    let few : length bs - limit ≤ b.out = le-true (length bs - limit) b.out q.0 in
+    let left : b.left < length bs = ltb-true b.left (length bs) p.0 in
+    ends-within d limit (chars bs) ((h 0 (omega arith) q.1).1 limit (omega arith))
+  where
+    le-true : (m n : ℕ) → nat_le m n ≡ true → m ≤ n
+    le-true m n e = grind (arith, nat_tests)
+
+-- where the states stop, they have ended, or the text has
+pub come-end : (d : Dialect) (bs : List ℕ) (b : Begun) → HasCome d bs b → (length bs < b.count) ⊎ ((length bs ≤ b.at) ⊎ (goes_on d b.state ≡ false)) → Ends d (chars bs) b.count
+come-end d bs b h e =
+    let i = h.here.inside in
+    ⊎_elim
+    (λ (l : length bs < b.count). absurd (omega (arith, few bs b.at b.count h.here, i)))
+    (λ x. ⊎_elim (λ l. inl (let y = at-end bs b.at b.count h.here l in omega arith)) (λ f. inr (ap (goes_on d) (sym h.state) ∙ f)) x)
+    e
 
 -- a token of the states that has ended within the limit is not too long
 pub ends-early : (d : Dialect) (bs : List ℕ) (at n limit : ℕ) (s : State) → IsAt bs at n → s ≡ state_of d (take n (chars bs)) → n ≤ limit →

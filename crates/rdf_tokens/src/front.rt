@@ -12,6 +12,7 @@ ghost use Rattle.rdf_terms.specs.Runs.{IsRun};
 ghost use Rattle.rdf_tokens.specs.declared.states.machine.State.TheVariants.{Name as name};
 
 use crate::bytes::char_at;
+use crate::over::states_end;
 use crate::states::fixed::{fixed_front, is_fixed_live};
 use crate::states::iri::Iri;
 use crate::states::label::Label;
@@ -43,12 +44,14 @@ pub(crate) struct Walk {
     kind: Option<Kind>,
 }
 
-/// The end of a text within which names were sought and none was found: the bytes behind the end, and the state behind the whole
-/// text, of each name that would begin there with a letter of ASCII.
+/// The end of a text within which names were sought and none was found: the bytes behind the end, the state behind the whole
+/// text, of each name that would begin there with a letter of ASCII, and how many bytes the text has more than the states go
+/// over characters.
 #[derive(Clone, Copy)]
 pub(crate) struct Bare {
     pub(crate) left: usize,
     state: Option<State>,
+    pub(crate) out: usize,
 }
 
 /// The longest token at the front of a text. The states go on from where they came in the text's first bytes, and where a
@@ -231,6 +234,7 @@ fn bare_of(dialect: Dialect, text: &str, state: Option<State>) -> Option<Bare>
         Dialect::Turtle if begins_in_letter(bytes) => Some(Bare {
             left: bytes.len() - bare_end(bytes),
             state,
+            out: bytes.len() - states_end(dialect, text),
         }),
         _ => None,
     }

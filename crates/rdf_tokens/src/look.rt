@@ -52,7 +52,7 @@ pub(crate) fn look_at(
     ensures walked { Walked dialect text.now walk.new }
     ensures bare { IsBareIn dialect text.now bare.new }
 {
-    if is_over(dialect, text, limit, walk) {
+    if is_over(dialect, text, limit, walk, bare) {
         return Look::Stop(Reason::TokenTooLong);
     }
     if walk.is_none() {

@@ -1,36 +1,101 @@
 // Tokens of more characters than the limit.
 
-ghost use Rattle.std.specs.Prelude.{◌≡◌, ◌≤◌, ℕ, List, IsUtf8};
+ghost use Rattle.std.specs.Prelude.{◌≡◌, ◌≤◌, ◌<◌, ◌+◌, ◌⊎◌, ℕ, false, List, IsUtf8, length};
 ghost use Rattle.std.specs.Str.{chars};
 ghost use Rattle.rdf_tokens.specs.Tokens.{over};
 ghost use Rattle.rdf_tokens.specs.Over.{shaped_over, HasCome};
 ghost use Rattle.rdf_tokens.specs.Walk.{Walked};
+ghost use Rattle.rdf_tokens.specs.Bare.{IsBareIn, Ends, ends_within};
+ghost use Rattle.rdf_tokens.specs.Machine.{goes_on};
 
 use crate::bytes::char_at;
-use crate::front::Walk;
+use crate::front::{Bare, Walk, begins_in_letter};
 use crate::states::fixed::is_fixed_over;
 use crate::states::machine::State;
 use rdf_terms::Dialect;
 
 /// Whether a text has more characters than the limit, and its first `limit + 1` are a token or the beginning of one. The characters
 /// over which the states have come are not looked at again.
-pub(crate) fn is_over(dialect: Dialect, text: &str, limit: u64, walk: &Option<Walk>) -> bool
-    requires { Walked dialect text.now walk.now }
+pub(crate) fn is_over(
+    dialect: Dialect,
+    text: &str,
+    limit: u64,
+    walk: &Option<Walk>,
+    bare: &Option<Bare>,
+) -> bool
+    requires walked { Walked dialect text.now walk.now }
+    requires bare { IsBareIn dialect text.now bare.now }
     ensures { result ≡ over dialect limit (chars text.now) }
 {
     if text.len() as u64 <= limit {
         return false;
     }
     let most = limit as usize;
-    is_shaped_over(dialect, text, most, resumed(walk, most))
-        || is_fixed_over(dialect, text.as_bytes(), most)
+    is_shaped_over(dialect, text, most, walk, bare) || is_fixed_over(dialect, text.as_bytes(), most)
 }
 
-/// The same by the states, which go on from where they came.
-fn is_shaped_over(dialect: Dialect, text: &str, limit: usize, begun: Begun) -> bool
+/// The same by the states, which go on from where they came. Where it is known that they end within the limit, they are not asked.
+fn is_shaped_over(
+    dialect: Dialect,
+    text: &str,
+    limit: usize,
+    walk: &Option<Walk>,
+    bare: &Option<Bare>,
+) -> bool
+    requires long { limit < length text.now }
+    requires walked { Walked dialect text.now walk.now }
+    requires bare { IsBareIn dialect text.now bare.now }
+    ensures { result ≡ shaped_over dialect limit (chars text.now) }
+{
+    if ends_within(text.as_bytes(), limit, bare) {
+        return false;
+    }
+    is_over_from(dialect, text, limit, resumed(walk, limit))
+}
+
+/// Whether no name begins with the letter at the front, and the states are known to end within so many characters.
+fn ends_within(bytes: &[u8], limit: usize, bare: &Option<Bare>) -> bool
+    requires { limit < length bytes.now }
+    ensures { result ≡ ends_within limit bytes.now bare.now }
+{
+    match bare {
+        Some(known) => {
+            known.left < bytes.len() && bytes.len() - limit <= known.out && begins_in_letter(bytes)
+        }
+        None => false,
+    }
+}
+
+/// Whether the states go further than the limit, from where they came.
+fn is_over_from(dialect: Dialect, text: &str, limit: usize, begun: Begun) -> bool
     requires came { HasCome dialect text.now begun }
     requires few { begun.count ≤ limit }
     ensures { result ≡ shaped_over dialect limit (chars text.now) }
+{
+    let end = walk_on(dialect, text, limit, begun);
+    end.count > limit && (end.state.kind().is_some() || end.state.is_live(dialect))
+}
+
+/// How many characters the states go over before they end, or the text does.
+pub(crate) fn states_end(dialect: Dialect, text: &str) -> usize
+    ensures end { Ends dialect (chars text.now) result }
+    ensures few { result ≤ length text.now }
+{
+    let begun = Begun {
+        state: State::Start,
+        at: 0,
+        count: 0,
+    };
+    walk_on(dialect, text, text.len(), begun).count
+}
+
+/// The states go on up to the limit and one character more, as long as they are live and the text lasts.
+fn walk_on(dialect: Dialect, text: &str, limit: usize, begun: Begun) -> Begun
+    requires came { HasCome dialect text.now begun }
+    requires few { begun.count ≤ limit }
+    ensures came { HasCome dialect text.now result }
+    ensures few { result.count ≤ limit + 1 }
+    ensures stop { (limit < result.count) ⊎ ((length text.now ≤ result.at) ⊎ (goes_on dialect result.state ≡ false)) }
 {
     let mut state = begun.state;
     let mut at = begun.at;
@@ -41,7 +106,7 @@ fn is_shaped_over(dialect: Dialect, text: &str, limit: usize, begun: Begun) -> b
         at = next;
         count += 1;
     }
-    count > limit && (state.kind().is_some() || state.is_live(dialect))
+    Begun { state, at, count }
 }
 
 /// A state, and how many bytes and characters led to it.

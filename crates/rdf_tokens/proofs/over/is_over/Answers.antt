@@ -20,6 +20,3 @@ returns-else-is_shaped_over c =
     c.is_fixed_over.ensures ∙ (ap (fixed_over (rows_of c.args.dialect fixed) c.args.limit) c.as_bytes.ensures.value
     ∙ sym (over-bytes c.args.dialect c.args.limit c.args.text.now c.utf8.text
     ∙ ap (λ b. b || fixed_over (rows_of c.args.dialect fixed) c.args.limit c.args.text.now) (sym c.is_shaped_over.ensures ∙ c.if-is_shaped_over.false)))
-
-pub is_shaped_over-requires-clause-came : goal.is_shaped_over-requires-clause-came
-is_shaped_over-requires-clause-came c = c.resumed.ensures.came c.args.dialect c.args.text.now c.utf8.text c.requires

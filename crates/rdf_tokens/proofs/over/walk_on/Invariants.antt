@@ -1,7 +1,7 @@
 use Rattle.std.proofs.Common.{◌≡◌, ◌-◌, ◌+◌, ◌≤◌, length, take}
 use Rattle.std.specs.Str.{chars}
 use Rattle.rdf_tokens.specs.Front.{IsAt, state_of}
-use Rattle.rdf_tokens.proofs.over.is_shaped_over.Given as goal
+use Rattle.rdf_tokens.proofs.over.walk_on.Given as goal
 
 abbrev pub invariant-loop-count : goal.invariant-loop-count
 invariant-loop-count l = record { here : IsAt l.text l.at l.count; state : l.state ≡ state_of l.dialect (take l.count (chars l.text)); few : l.count ≤ l.limit + 1 }
