@@ -21,7 +21,6 @@ use rdf_iri::{Limits, Scope};
 use rdf_terms::{Iri, Kind, QuadSink};
 use rdf_tokens::Token;
 use std::alloc::Allocator;
-use std::mem;
 
 fn deepens(kind: Kind) -> bool
     ensures { result ≡ M.deepens kind }
@@ -102,8 +101,7 @@ impl<A: Allocator + Copy> State<A> {
             NameIn s m token.now.kind (leaf token.now) name →
             Stays r (M.step form (setting s (graph_at self.old.mode (graph_of self.old.level))) m token.now.kind (leaf token.now))) }
     {
-        let mode = mem::replace(&mut self.mode, Mode::Paren);
-        match self.turn(alloc, form, mode, token, name) {
+        match self.go_on(alloc, form, token, name) {
             Ok(()) => {
                 self.depth = depth_behind(self.depth, token.kind);
                 Ok(())
