@@ -66,6 +66,7 @@ impl<A: Allocator + Copy> State<A> {
     }
 
     // Whether the token may stand here by the grammar, and by the limit of open brackets.
+    #[inline(always)]
     fn check(&self, form: DocForm, limits: Limits, kind: Kind) -> Result<(), StepFault>
         requires { self.now.depth ≡ M.depth (mode_in form self.now) }
         ensures ok { OnOk result ((s : InForce) (l : Leaf) → s.limits ≡ limits → May form (state_of form s self.now) kind l) }
@@ -82,6 +83,7 @@ impl<A: Allocator + Copy> State<A> {
     }
 
     // Moves, once the quads were put.
+    #[inline(always)]
     fn move_on(
         &mut self,
         alloc: A,

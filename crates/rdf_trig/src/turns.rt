@@ -315,6 +315,7 @@ impl<A: Allocator + Copy> State<A> {
     }
 
     // The token after an object.
+    #[inline(always)]
     fn after(&mut self, alloc: A, token: &Token<'_>, name: Option<Iri<A>>) -> Result<(), StepFault>
         requires token { IsTurtleToken token.now }
         requires named { IsNamed token.now.kind name }
@@ -512,6 +513,7 @@ impl<A: Allocator + Copy> State<A> {
     }
 
     // The token after ';'.
+    #[inline(always)]
     fn semicolon(&mut self, kind: Kind, name: Option<Iri<A>>) -> Result<(), StepFault>
         requires named { IsNamed kind name }
         ensures gives { (form : DocForm) (s : InForce) (l : Leaf) → name_at s kind l ≡ name →

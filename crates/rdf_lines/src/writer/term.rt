@@ -31,6 +31,7 @@ pub fn put_term<A: Allocator + Copy>(
     }
 }
 
+#[inline(always)]
 pub fn put_name<A: Allocator + Copy>(
     name: SubjectRef<'_>,
     style: Style,
@@ -46,6 +47,7 @@ pub fn put_name<A: Allocator + Copy>(
     }
 }
 
+#[inline(always)]
 pub fn put_iri<A: Allocator + Copy>(
     iri: IriView<'_>,
     escapes: Escapes,
@@ -60,6 +62,7 @@ pub fn put_iri<A: Allocator + Copy>(
     Ok(())
 }
 
+#[inline(always)]
 fn put_node<A: Allocator + Copy>(
     node: NodeRef<'_>,
     style: Style,
@@ -133,6 +136,7 @@ fn put_type<A: Allocator + Copy>(
     put_iri(datatype, escapes, out)
 }
 
+#[inline(always)]
 fn put_two<A: Allocator + Copy>(
     first: &str,
     second: &str,
