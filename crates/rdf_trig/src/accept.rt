@@ -21,7 +21,6 @@ use rdf_iri::{Limits, Scope};
 use rdf_terms::{Iri, Kind, QuadSink};
 use rdf_tokens::Token;
 use std::alloc::Allocator;
-use std::mem;
 
 fn deepens(kind: Kind) -> bool
     ensures { result ≡ M.deepens kind }
@@ -67,6 +66,7 @@ impl<A: Allocator + Copy> State<A> {
     }
 
     // Whether the token may stand here by the grammar, and by the limit of open brackets.
+    #[inline(always)]
     fn check(&self, form: DocForm, limits: Limits, kind: Kind) -> Result<(), StepFault>
         requires { self.now.depth ≡ M.depth (mode_in form self.now) }
         ensures ok { OnOk result ((s : InForce) (l : Leaf) → s.limits ≡ limits → May form (state_of form s self.now) kind l) }
@@ -83,6 +83,7 @@ impl<A: Allocator + Copy> State<A> {
     }
 
     // Moves, once the quads were put.
+    #[inline(always)]
     fn move_on(
         &mut self,
         alloc: A,
@@ -102,8 +103,7 @@ impl<A: Allocator + Copy> State<A> {
             NameIn s m token.now.kind (leaf token.now) name →
             Stays r (M.step form (setting s (graph_at self.old.mode (graph_of self.old.level))) m token.now.kind (leaf token.now))) }
     {
-        let mode = mem::replace(&mut self.mode, Mode::Paren);
-        match self.turn(alloc, form, mode, token, name) {
+        match self.go_on(alloc, form, token, name) {
             Ok(()) => {
                 self.depth = depth_behind(self.depth, token.kind);
                 Ok(())

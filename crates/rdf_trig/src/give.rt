@@ -1,6 +1,6 @@
 // The quads that a token determines are put: those that were held for it, and the one that waited to know it.
 
-ghost use Rattle.std.specs.Prelude.{◌≡◌, ◌+◌, ◌≤◌, length, ◌++◌, false, [], Option, Some, None, OnOk, IfOk, IfErr, option_map};
+ghost use Rattle.std.specs.Prelude.{◌≡◌, ◌+◌, ◌≤◌, length, ◌++◌, true, false, [], Option, Some, None, OnOk, IfOk, IfErr, option_map};
 ghost use Rattle.std.specs.Str.{chars};
 ghost use Rattle.std.specs.String.{string_bytes};
 ghost use Rattle.rdf_terms.specs.Terms as term;
@@ -13,7 +13,10 @@ ghost use Rattle.rdf_trig.specs.Quads.{stated, plain_literal};
 ghost use Rattle.rdf_trig.specs.declared.form.DocForm.{DocForm};
 ghost use Rattle.rdf_trig.specs.Machine as M;
 ghost use Rattle.rdf_trig.specs.Machine.{subject_at, verb_at, kept};
-ghost use Rattle.rdf_trig.specs.States.{leaf, topic_of, verb_of, object_of, place_of, up_of, level_of, mode_in, graph_of, graph_at, setting, cells_quad, rest_of, held_of};
+ghost use Rattle.rdf_tokens.specs.declared.token.Token.{Token as Given};
+ghost use Rattle.rdf_lines.specs.Lines.{Leaf};
+ghost use Rattle.rdf_trig.specs.Quads.{Setting};
+ghost use Rattle.rdf_trig.specs.States.{leaf, mode_at, topic_of, verb_of, object_of, place_of, up_of, level_of, mode_in, graph_of, graph_at, setting, cells_quad, rest_of, held_of};
 ghost use Rattle.rdf_trig.specs.Steps.{GaveUp, given, up_quad};
 
 use crate::fault::StepFault;
@@ -28,6 +31,47 @@ use std::alloc::Allocator;
 
 /// Puts the quads that the token determines, and answers how many they are.
 pub fn give<A: Allocator, S: QuadSink>(
+    state: &State<A>,
+    token: &Token<'_>,
+    sink: &mut S,
+) -> Result<u64, StepFault>
+    requires live { S.has_failed sink.old ≡ false }
+    ensures ok { OnOk result ((form : DocForm) (s : InForce) → Appends S.takes sink.old (given form s state.now token.now) sink.new) }
+    ensures count { IfOk result (λ n. (form : DocForm) (s : InForce) → n ≡ length (given form s state.now token.now)) }
+    ensures live { OnOk result (S.has_failed sink.new ≡ false) }
+    ensures err { IfErr result (λ r. (form : DocForm) (s : InForce) →
+        GaveUp S.takes S.leaves S.has_failed r (given form s state.now token.now) sink.old sink.new) }
+{
+    if is_idle(state) {
+        return Ok(0);
+    }
+    give_all(state, token, sink)
+}
+
+// Whether no quad is held, and none waits to know the token.
+#[inline(always)]
+#[tactic(auto, using(crate::proofs::code::PutsInRow::given_none))]
+fn is_idle<A: Allocator>(state: &State<A>) -> bool
+    ensures { result ≡ true → (form : DocForm) (s : InForce) (t : Given) → given form s state.now t ≡ [] }
+{
+    match state.held {
+        Held::Nothing => !state.rest.is_owed() && !waits(&state.mode),
+        _ => false,
+    }
+}
+
+// Whether a quad waits to know the token.
+#[inline(always)]
+fn waits<A: Allocator>(mode: &Mode<A>) -> bool
+    ensures { result ≡ false → (form : DocForm) (c : Setting) (v : M.Level) (f : Frame A) (u : M.Up) (k : Kind) (l : Leaf) →
+        M.waiting c (mode_at form v f u mode.now) k l ≡ None }
+{
+    matches!(mode, Mode::AfterText(_) | Mode::Paren)
+}
+
+// Puts what is held and what waits.
+#[inline(always)]
+fn give_all<A: Allocator, S: QuadSink>(
     state: &State<A>,
     token: &Token<'_>,
     sink: &mut S,

@@ -1,6 +1,6 @@
 // The cells that an rdf:rest is owed between.
 
-ghost use Rattle.std.specs.Prelude.{◌≡◌, Some, None};
+ghost use Rattle.std.specs.Prelude.{◌≡◌, Some, None, is_some};
 
 use std::marker::Model;
 
@@ -42,6 +42,14 @@ impl Rest {
             cell,
             next,
         }
+    }
+
+    /// Whether a cell was opened.
+    #[inline(always)]
+    pub fn is_owed(&self) -> bool
+        ensures { result ≡ is_some self.now }
+    {
+        self.is_owed
     }
 
     /// The two cells.

@@ -27,8 +27,36 @@ use std::alloc::Allocator;
 use std::mem;
 
 impl<A: Allocator + Copy> State<A> {
-    /// What a token does in a mode that the caller takes out of the state, once it is known what it stands for.
-    pub fn turn(
+    /// What a token does, once it is known what it stands for. A mode without parts is not moved.
+    #[inline(always)]
+    pub fn go_on(
+        &mut self,
+        alloc: A,
+        form: DocForm,
+        token: &Token<'_>,
+        name: Option<Iri<A>>,
+    ) -> Result<(), StepFault>
+        requires token { IsTurtleToken token.now }
+        requires named { IsNamedIn (mode_in form self.old) token.now.kind name }
+        ensures gives { (s : InForce) → let m = mode_in form self.old in
+            NameIn s m token.now.kind (leaf token.now) name →
+            Gives form (scope_in s m token.now.kind (leaf token.now)) (use_in s m token.now.kind (leaf token.now)) result self.new
+            (M.step form (setting s (graph_at self.old.mode (graph_of self.old.level))) m token.now.kind (leaf token.now)) }
+        ensures depth { self.new.depth ≡ self.old.depth }
+    {
+        match self.mode {
+            Mode::Want => self.object_start(alloc, Rest::none(), token, name),
+            Mode::After => self.after(alloc, token, name),
+            Mode::Semicolon => self.semicolon(token.kind, name),
+            _ => {
+                let mode = mem::replace(&mut self.mode, Mode::Paren);
+                self.turn(alloc, form, mode, token, name)
+            }
+        }
+    }
+
+    // The same in a mode that was taken out of the state.
+    fn turn(
         &mut self,
         alloc: A,
         form: DocForm,
@@ -287,6 +315,7 @@ impl<A: Allocator + Copy> State<A> {
     }
 
     // The token after an object.
+    #[inline(always)]
     fn after(&mut self, alloc: A, token: &Token<'_>, name: Option<Iri<A>>) -> Result<(), StepFault>
         requires token { IsTurtleToken token.now }
         requires named { IsNamed token.now.kind name }
@@ -484,6 +513,7 @@ impl<A: Allocator + Copy> State<A> {
     }
 
     // The token after ';'.
+    #[inline(always)]
     fn semicolon(&mut self, kind: Kind, name: Option<Iri<A>>) -> Result<(), StepFault>
         requires named { IsNamed kind name }
         ensures gives { (form : DocForm) (s : InForce) (l : Leaf) → name_at s kind l ≡ name →

@@ -24,6 +24,7 @@ pub fn put_line<A: Allocator + Copy>(
     put_end(quad.graph, form, out)
 }
 
+#[inline(always)]
 fn put_subject<A: Allocator + Copy>(
     subject: SubjectRef<'_>,
     form: WrittenForm<'_>,

@@ -31,6 +31,7 @@ pub fn put_term<A: Allocator + Copy>(
     }
 }
 
+#[inline(always)]
 pub fn put_name<A: Allocator + Copy>(
     name: SubjectRef<'_>,
     form: WrittenForm<'_>,
@@ -45,6 +46,7 @@ pub fn put_name<A: Allocator + Copy>(
     }
 }
 
+#[inline(always)]
 pub fn put_iri<A: Allocator + Copy>(
     iri: IriView<'_>,
     escapes: Escapes,
@@ -60,6 +62,7 @@ pub fn put_iri<A: Allocator + Copy>(
 }
 
 #[tactic(auto, using(crate::proofs::EncodedLine::encoded_none))]
+#[inline(always)]
 fn put_node<A: Allocator + Copy>(
     node: NodeRef<'_>,
     form: WrittenForm<'_>,
@@ -163,6 +166,7 @@ fn put_type<A: Allocator + Copy>(
     put_iri(datatype, escapes, out)
 }
 
+#[inline(always)]
 fn put_two<A: Allocator + Copy>(
     first: &str,
     second: &str,

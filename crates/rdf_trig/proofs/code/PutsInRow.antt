@@ -11,6 +11,7 @@ use Rattle.rdf_trig.specs.declared.form.DocForm.{DocForm}
 use Rattle.rdf_terms.specs.Terms as term
 use Rattle.rdf_tokens.specs.declared.token.Token.{Token as Given}
 use Rattle.rdf_trig.specs.declared.state.State.{State}
+use Rattle.rdf_trig.specs.declared.state.Held.TheVariants as held
 use Rattle.rdf_trig.specs.Machine as M
 use Rattle.rdf_trig.specs.Machine.{kept}
 use Rattle.rdf_trig.specs.States.{leaf, mode_in, graph_of, graph_at, setting, rest_of, held_of}
@@ -82,6 +83,13 @@ given_in form s n t g q r w e a b c =
     (a ∙ ap (λ x. rest_of x n.rest) e)
     (b ∙ ap (λ x. held_of x (mode_in form n) n.held) e)
     (c ∙ ap (λ x. M.waiting (setting s x) (mode_in form n) t.kind (leaf t)) e)
+
+-- where nothing is held and nothing waits no quad is given out
+pub given_none : {A : Type 0} (form : DocForm) (s : InForce) (n : State A) (t : Given) → n.rest ≡ None → n.held ≡ held.Nothing →
+    M.waiting (setting s (graph_at n.mode (graph_of n.level))) (mode_in form n) t.kind (leaf t) ≡ None → given form s n t ≡ []
+given_none form s n t e f h =
+    let g = graph_at n.mode (graph_of n.level) in
+    given_in form s n t g None None None refl (sym (ap (λ r. rest_of g r) e)) (sym (ap (λ r. held_of g (mode_in form n) r) f)) (sym h)
 
 -- an error with a known reason has what holds of the reason
 pub told_stops : {T : Type 0} (r : Result T StepFault) (told : StepFault) (P : StepFault → Type 0) → IsErrAnd r (λ t. t ≡ told) → P told → IfErr r P

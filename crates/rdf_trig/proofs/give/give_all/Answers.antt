@@ -6,7 +6,7 @@ use Rattle.rdf_terms.specs.Views.{quad_of}
 use Rattle.rdf_trig.specs.Machine.{kept}
 use Rattle.rdf_trig.specs.Steps.{GaveUp}
 use Rattle.rdf_trig.proofs.code.PutsInRow.{appends_append, gave_more, gave_behind, given_in, told_stops}
-use Rattle.rdf_trig.proofs.give.give.Goals as goal
+use Rattle.rdf_trig.proofs.give.give_all.Goals as goal
 
 pub returns-in_err-rest-clause-err : goal.returns-in_err-rest-clause-err
 returns-in_err-rest-clause-err g c =
