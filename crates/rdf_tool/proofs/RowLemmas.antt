@@ -10,7 +10,7 @@ use Rattle.clap.specs.Faults.{action_fault, use_fault, values_fault}
 use Rattle.clap.specs.Takes.{value_passes, values_pass}
 use Rattle.clap.specs.Values.{refused_kind}
 use Rattle.clap.specs.ValueTests.{accepts}
-use Rattle.clap.specs.declared.builder.action.ArgAction.TheVariants.{Set, Help}
+use Rattle.clap.specs.declared.builder.action.ArgAction.TheVariants.{Set, SetTrue, Help}
 use Rattle.clap.specs.declared.builder.value_parser.ValueParser.{ValueParser}
 use Rattle.clap.specs.declared.parser.matches.ValueSource.{ValueSource}
 use Rattle.clap.specs.declared.parser.matches.ValueSource.TheVariants.{CommandLine}
@@ -125,13 +125,17 @@ module _ (c : List Rule) (a : Rule) (known : arg_by_id c a.id ≡ Some a) where
       at_row-passes (RowPasses c) a.id (more_values s values) _ rows (values_pass-at a.id values values refl refl p, tt) h
       (λ r is old. (values_pass-at r.id (r.values ++ values) (r.values ++ values) is refl (passed_also a r.values values (old a (ap (arg_by_id c) is ∙ known)) p), tt))
 
--- the argument is found by its id, and takes one value or asks for help
+-- a use of the argument has one value
 abbrev pub TakesOne : Rule → Type 0
 TakesOne a = (action_of a ≡ Set) × ((unwrap_or_range a.range).start_inclusive ≡ 1) × (most_values a ≡ 1)
 
--- the argument is found by its name, and takes one value or asks for help
+-- the argument is a flag, and a use of it without a value stands for one
+abbrev pub IsFlag : Rule → Type 0
+IsFlag a = (action_of a ≡ SetTrue) × (0 < length a.missing)
+
+-- the argument is found by its name, and takes one value, is a flag or asks for help
 abbrev pub IsRead : List Rule → Rule → Type 0
-IsRead c a = (arg_by_id c a.id ≡ Some a) × (TakesOne a ⊎ (action_of a ≡ Help))
+IsRead c a = (arg_by_id c a.id ≡ Some a) × (TakesOne a ⊎ (IsFlag a ⊎ (action_of a ≡ Help)))
 
 -- an argument that takes one value was given one
 only_one : (n : ℕ) → range_kinds 1 1 n ≡ [] → n ≡ 1
@@ -148,6 +152,11 @@ one_value [] e = absurd (omega arith)
 one_value (v ∷ []) e = (v, refl)
 one_value (v ∷ w ∷ rest) e = absurd (omega arith)
 
+-- a use of a flag has values
+flag_value : (a : Rule) (values : List Text) → 0 < length a.missing → 0 < length (values_or_missing a values)
+flag_value a [] some = some
+flag_value a (v ∷ vs) some = omega arith
+
 module _ (c : List Rule) (again : Bool) where
   -- a use without a fault keeps that the rows pass
   pub used-passes : (a : Rule) (values : List Text) (rows : List Row) → IsRead c a → use_fault again a values rows ≡ [] → RowsPass c rows → RowsPass c (used a values rows)
@@ -156,8 +165,13 @@ module _ (c : List Rule) (again : Bool) where
       parts : (range_kinds (unwrap_or_range a.range).start_inclusive (most_values a) (length values) ≡ []) × (action_fault (action_of a) again a (values_or_missing a values) rows ≡ [])
       parts = no_kind _ _ e
 
-      go : TakesOne a ⊎ (action_of a ≡ Help) → RowsPass c (used a values rows)
-      go (inr help) = absurd (some_kind _ _ (ap (λ x. action_fault x again a (values_or_missing a values) rows) (sym help) ∙ parts.1))
+      go : TakesOne a ⊎ (IsFlag a ⊎ (action_of a ≡ Help)) → RowsPass c (used a values rows)
+      go (inr (inr help)) = absurd (some_kind _ _ (ap (λ x. action_fault x again a (values_or_missing a values) rows) (sym help) ∙ parts.1))
+      go (inr (inl flag)) =
+          let set : action_fault SetTrue again a (values_or_missing a values) rows ≡ [] = ap (λ x. action_fault x again a (values_or_missing a values) rows) (sym flag.0) ∙ parts.1 in
+          let pass : Passed a (values_or_missing a values) = (flag_value a values flag.1, values_passed a (values_or_missing a values) (no_kind _ _ set).1) in
+          subst (λ x. RowsPass c (used_as x a.id (reading_by a) (values_or_missing a values) rows)) (sym flag.0)
+          (with_values-passes c a read.0 (reading_by a) CommandLine (values_or_missing a values) (without a.id rows) pass (without-passes c a.id rows h))
       go (inl one) =
           let range : range_kinds 1 1 (length values) ≡ [] = rw (one.1, one.2) at parts.0 in
           let single = one_value values (only_one (length values) range) in

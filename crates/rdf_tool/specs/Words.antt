@@ -1,5 +1,5 @@
 -- The program's command line, and the task that its words ask for.
-use Rattle.std.specs.Prelude.{◌≡◌, ◌≢◌, ◌∷◌, ◌≤◌, ◌^◌, ℕ, true, false, List, [], Option, Some, codes, length, map, option_map, IfSome}
+use Rattle.std.specs.Prelude.{◌≡◌, ◌≢◌, ◌∷◌, ◌≤◌, ◌^◌, ℕ, true, false, List, [], Option, Some, None, bytes_eq, codes, cond, length, map, option_map, IfSome}
 use Rattle.std.specs.Borrow.{Bor}
 use Rattle.std.specs.Str.{chars}
 use Rattle.std.specs.Str.Parse.{digits_value, without_leading_plus}
@@ -9,7 +9,7 @@ use Rattle.clap.specs.Walk.{texts}
 use Rattle.clap.specs.Simple.{app_of, on_top}
 use Rattle.clap.specs.declared.builder.command.Command.{Command}
 use Rattle.clap.specs.declared.builder.command.Command.TheViews.{out-Command}
-use Rattle.clap.specs.declared.builder.action.ArgAction.TheVariants.{Set}
+use Rattle.clap.specs.declared.builder.action.ArgAction.TheVariants.{Set, SetTrue}
 use Rattle.clap.specs.declared.builder.value_parser.ValueParser.{ValueParser}
 use Rattle.clap.specs.declared.builder.value_parser.ValueParser.TheVariants.{Names, Unsigned}
 use Rattle.clap.specs.declared.error.Error.{Error}
@@ -17,6 +17,8 @@ use Rattle.clap.specs.declared.error.kind.ErrorKind.{ErrorKind}
 use Rattle.clap.specs.declared.error.kind.ErrorKind.TheVariants.{OutOfMemory}
 use Rattle.rdf_terms.specs.Terms.{IsIri}
 use Rattle.rdf_iri.specs.Limits.{Sizes}
+use Rattle.rdf_lines.specs.declared.form.Escapes.{Escapes}
+use Rattle.rdf_lines.specs.declared.form.Escapes.TheVariants.{Plain, Ascii}
 use Rattle.rdf_stream.specs.declared.form.Form.{Form}
 use Rattle.rdf_stream.specs.declared.form.Form.TheVariants.{NTriples, NQuads, Turtle, TriG}
 use Rattle.rdf_tool.specs.declared.task.Action.{Action}
@@ -105,13 +107,21 @@ action_app names action =
 abbrev pub with_prefixes : App → App
 with_prefixes a = with_rule a prefixes_rule
 
+-- the flag that asks for lines in ASCII
+abbrev pub ascii_rule : Rule
+ascii_rule = record (new_rule (codes "ascii")) { long = Some (codes "ascii"); action = Some SetTrue }
+
+-- a subcommand that writes lines in ASCII too
+abbrev pub with_ascii : App → App
+with_ascii a = with_rule a ascii_rule
+
 -- the program's command line
 abbrev pub rdfconv : ValueParser → App
 rdfconv names = with_subcommand (with_subcommand (with_subcommand
     (on_top (λ s. record s { subcommand_required = true }) (new_app (codes "rdfconv")))
     (with_prefixes (action_app names (codes "check"))).top)
     (action_app names (codes "show")).top)
-    (with_prefixes (action_app names (codes "convert"))).top
+    (with_ascii (with_prefixes (action_app names (codes "convert")))).top
 
 -- the command has no global argument, and a parse reads this of it
 abbrev pub ReadsAs : Command → App → Type 0
@@ -162,6 +172,11 @@ pub record HasSizes (rows : List Row) (sizes : Sizes) : Type 0 where
   pub bindings : number_of (codes "bindings") rows ≡ Some sizes.bindings
   pub iri : number_of (codes "iri") rows ≡ Some sizes.iri
 
+-- the lines are in ASCII where the flag's text is `true`
+abbrev pub escapes_by : Option Text → Escapes
+escapes_by None = Plain
+escapes_by (Some text) = cond (bytes_eq text (codes "true")) Ascii Plain
+
 -- each field of the task is what the subcommand's name and matches give
 pub record IsTaskBy (p : Entered) (t : Task) : Type 0 where
   pub action : action_name t.action ≡ p.0
@@ -169,6 +184,7 @@ pub record IsTaskBy (p : Entered) (t : Task) : Type 0 where
   pub base : t.base ≡ option_map chars (first_of (codes "base") p.1)
   pub good_base : IfSome (first_of (codes "base") p.1) (IsBase t.limits.iri)
   pub limits : HasSizes p.1 t.limits
+  pub escapes : t.escapes ≡ escapes_by (first_of (codes "ascii") p.1)
   pub prefixes : option_map string_bytes t.prefixes ≡ first_of (codes "prefixes") p.1
   pub file : option_map string_bytes t.file ≡ first_of (codes "file") p.1
 

@@ -1,19 +1,20 @@
 // The task that the words of the command line ask for.
 
-ghost use Rattle.std.specs.Prelude.{◌≡◌, ◌⊎◌, ◌<◌, ◌≤◌, ◌^◌, IfErr, IfOk, IfSome, OnOk, Some, Option, chars, codes, map, option_map, string_bytes, ℕ, List};
+ghost use Rattle.std.specs.Prelude.{◌≡◌, ◌⊎◌, ◌<◌, ◌≤◌, ◌^◌, IfErr, IfOk, IfSome, OnOk, Some, Option, chars, codes, cond, map, option_map, string_bytes, ℕ, List};
 ghost use Rattle.clap.specs.Words.{App, Text, first_of, found_of, rows_of, subcommand_rows_of};
 ghost use Rattle.clap.specs.declared.builder.value_parser.ValueParser.{ValueParser};
 ghost use Rattle.clap.specs.declared.builder.value_parser.ValueParser.TheVariants.{Names};
 ghost use Rattle.rdf_iri.specs.Scope.{BaseFits};
+ghost use Rattle.rdf_lines.specs.declared.form.Escapes.TheVariants.{Ascii, Plain};
 ghost use Rattle.rdf_iri.specs.Texts.{byte_len};
-ghost use Rattle.rdf_tool.specs.Words.{Entered, GivesNone, GivesTask, HasLimits, HasNumber, HasSizes, IsBase, IsEntered, IsTaskBy, IsUsageOf, NoBaseOf, NoTaskBy, TakesFormats, format_names, number_of, rdfconv};
+ghost use Rattle.rdf_tool.specs.Words.{Entered, GivesNone, GivesTask, HasLimits, HasNumber, HasSizes, IsBase, IsEntered, IsTaskBy, IsUsageOf, NoBaseOf, NoTaskBy, TakesFormats, escapes_by, format_names, number_of, rdfconv};
 
 use crate::names::{FORMATS, action_of, form_of};
 use crate::options::program;
 use crate::task::{Task, WordsFault};
 use clap::ArgMatches;
 use clap::error::ErrorKind;
-use rdf_stream::{Iri, Limits, TermFault};
+use rdf_stream::{Escapes, Iri, Limits, TermFault};
 use std::alloc::{AllocError, Global};
 
 /// The task that the words ask for. The first word is the program's name.
@@ -63,6 +64,7 @@ fn task_of(alloc: Global, name: &str, found: &ArgMatches<'_>) -> Result<Task, Wo
     let form = form_of(found.get_str("format").unwrap());
     let limits = limits_of(found);
     let base = base_of(alloc, found.get_str("base"), limits.iri())?;
+    let escapes = escapes_by(found.get_str("ascii"));
     let prefixes = owned(alloc, found.get_str("prefixes"))?;
     let file = owned(alloc, found.get_str("file"))?;
     Ok(Task {
@@ -70,9 +72,30 @@ fn task_of(alloc: Global, name: &str, found: &ArgMatches<'_>) -> Result<Task, Wo
         form,
         base,
         limits,
+        escapes,
         prefixes,
         file,
     })
+}
+
+// A flag has the text `true` where it was given, and `false` where it was not. A command without it has no text.
+fn escapes_by(text: Option<&str>) -> Escapes
+    ensures { result ≡ escapes_by (option_map (λ s. s.now) text.entry) }
+{
+    match text {
+        Some(text) => escapes_in(text == "true"),
+        None => Escapes::Plain,
+    }
+}
+
+fn escapes_in(ascii: bool) -> Escapes
+    ensures { result ≡ cond ascii Ascii Plain }
+{
+    if ascii {
+        Escapes::Ascii
+    } else {
+        Escapes::Plain
+    }
 }
 
 fn limits_of(found: &ArgMatches<'_>) -> Limits

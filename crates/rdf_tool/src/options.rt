@@ -3,7 +3,7 @@
 ghost use Rattle.std.specs.Prelude.{◌≡◌, IfOk, codes, false};
 ghost use Rattle.clap.specs.Words.{app_of, rule_of};
 ghost use Rattle.clap.specs.declared.builder.value_parser.ValueParser.TheVariants.{Names};
-ghost use Rattle.rdf_tool.specs.Words.{ReadsAs, action_app, base_rule, file_rule, format_rule, limit_rule, prefixes_rule, rdfconv, with_prefixes};
+ghost use Rattle.rdf_tool.specs.Words.{ReadsAs, action_app, ascii_rule, base_rule, file_rule, format_rule, limit_rule, prefixes_rule, rdfconv, with_ascii, with_prefixes};
 
 use clap::builder::ValueParser;
 use clap::{Arg, ArgAction, Command};
@@ -29,6 +29,8 @@ Options of a command, which reads FILE or standard input:
   --iri N          bytes of one IRI, 1 to 268435456 [default: 1048576]
   --prefixes FILE2 (check, convert) prefixes that are bound before the document: a line for
                    each, as `ex: http://example.org/`; line formats have none
+  --ascii          (convert) characters above U+007F of strings and IRIs as \\uXXXX or
+                   \\UXXXXXXXX; labels of blank nodes have no escapes, and stay as they are
 Past one of the limits N a document is refused.
 
 Exit status:
@@ -57,7 +59,7 @@ pub fn program<'a>(alloc: Global, formats: &'a [&'a str]) -> Result<Command<'a>,
 {
     let check = prefixed_command(alloc, "check", CHECK, formats)?;
     let show = action_command(alloc, "show", SHOW, formats)?;
-    let convert = prefixed_command(alloc, "convert", CONVERT, formats)?;
+    let convert = convert_command(alloc, formats)?;
     Command::new(alloc, "rdfconv")
         .about("Read N-Triples, N-Quads, Turtle or TriG, and write N-Quads")
         .after_help(PROGRAM_NOTES)
@@ -65,6 +67,15 @@ pub fn program<'a>(alloc: Global, formats: &'a [&'a str]) -> Result<Command<'a>,
         .subcommand(check)?
         .subcommand(show)?
         .subcommand(convert)
+}
+
+// The subcommand that writes quads.
+fn convert_command<'a>(alloc: Global, formats: &'a [&'a str]) -> Result<Command<'a>, AllocError>
+    ensures { IfOk result (λ c. ReadsAs c (with_ascii (with_prefixes (action_app (Names formats.entry) (codes "convert"))))) }
+{
+    let command = prefixed_command(alloc, "convert", CONVERT, formats)?;
+    let ascii = ascii_option(alloc);
+    command.arg(ascii)
 }
 
 // A subcommand that looks at prefixes.
@@ -191,6 +202,18 @@ fn prefixes_option<'a>(alloc: Global) -> Arg<'a>
         .action(ArgAction::Set)
         .value_name("FILE2")
         .help("File of prefixes bound before the document, a line each: `ex: http://example.org/`")
+}
+
+fn ascii_option<'a>(alloc: Global) -> Arg<'a>
+    ensures rule { rule_of result ≡ ascii_rule }
+    ensures local { result.global ≡ false }
+{
+    Arg::new(alloc, "ascii")
+        .long("ascii")
+        .action(ArgAction::SetTrue)
+        .help(
+            "Characters above U+007F of strings and IRIs as \\uXXXX or \\UXXXXXXXX; labels of blank nodes stay",
+        )
 }
 
 fn file_argument<'a>(alloc: Global) -> Arg<'a>

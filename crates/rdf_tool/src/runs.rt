@@ -72,6 +72,7 @@ fn job_of<I: Source + Drop>(
     ensures stops { IfErr result (λ fault. StartsNot fault task.limits (option_map I.remaining prefixes)) }
 {
     let job = Job::new(task.form, task.base, task.limits).unwrap();
+    let job = job.with_escapes(task.escapes);
     match prefixes {
         Some(source) => {
             let bindings = load(alloc, task.limits, source)?;

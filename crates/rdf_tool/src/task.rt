@@ -7,7 +7,7 @@ ghost use Rattle.rdf_tool.specs.declared.task.WordsFault.TheVariants.{Memory};
 
 use clap::Error;
 use clap::error::ErrorKind;
-use rdf_stream::{Form, Iri, Limits};
+use rdf_stream::{Escapes, Form, Iri, Limits};
 use std::alloc::AllocError;
 
 /// What is done with a document.
@@ -32,6 +32,8 @@ pub struct Task {
     pub base: Option<Iri>,
     /// How large the parts of the document may be.
     pub limits: Limits,
+    /// How characters above U+007F stand in the lines of quads.
+    pub escapes: Escapes,
     /// The file of the prefixes that are bound before the document, or None where none are.
     pub prefixes: Option<String>,
     /// The file that is read, or None for standard input.

@@ -12,7 +12,7 @@ use crate::runs::{Files, refuse_words, run};
 use crate::start::start;
 use crate::task::{Action, Task};
 use hosts::InMemory;
-use rdf_stream::{Form, In, Limits, Out, Source};
+use rdf_stream::{Escapes, Form, In, Limits, Out, Source};
 use std::alloc::Global;
 use std::process::Abort;
 use std::test::Fail;
@@ -26,6 +26,7 @@ fn task(action: Action, form: Form, limits: Limits) -> Task
         form,
         base: None,
         limits,
+        escapes: Escapes::Plain,
         prefixes: None,
         file: None,
     }
@@ -159,6 +160,7 @@ fn words_give_a_task_with_defaults(rt: HostRuntime) {
                 Limits::new(16777216, 1024, 65536, 1048576)
             );
             assert!(rt; task.base.is_none());
+            assert_eq!(rt; task.escapes, Escapes::Plain);
             assert!(rt; task.prefixes.is_none());
             assert!(rt; task.file.is_none());
         }
@@ -180,6 +182,7 @@ fn words_give_each_field_of_a_task(rt: HostRuntime) {
         "--depth",
         "0",
         "data.nt",
+        "--ascii",
         "--bindings",
         "2",
         "--prefixes",
@@ -193,6 +196,7 @@ fn words_give_each_field_of_a_task(rt: HostRuntime) {
                 Some(base) => assert_eq!(rt; base.as_str(), "http://a/b/c"),
                 None => assert!(rt; false, "no base"),
             }
+            assert_eq!(rt; task.escapes, Escapes::Ascii);
             assert_eq!(rt; task.prefixes.as_deref(), Some("ex.txt"));
             match &task.file {
                 Some(file) => assert_eq!(rt; file.as_str(), "data.nt"),
@@ -319,7 +323,7 @@ fn a_long_command_line_is_taken(rt: HostRuntime) -> Result<(), Fail> {
 
 #[test]
 fn the_program_does_what_its_words_say(rt: HostRuntime) {
-    let rows: [(Result<&[&str], NoWords>, u8, &str, &str); 14] = [
+    let rows: [(Result<&[&str], NoWords>, u8, &str, &str); 15] = [
         (
             Ok(&["rdfconv", "convert", "--format", "nt", "data.nt"]),
             0,
@@ -381,6 +385,12 @@ fn the_program_does_what_its_words_say(rt: HostRuntime) {
             "",
             "rdfconv: cannot open file\n",
         ),
+        (
+            Ok(&["rdfconv", "convert", "--ascii", "accents.ttl"]),
+            0,
+            "<a:\\u00E9> <b:> \"\\U0001F600\" .\n<a:\\u00E9> <b:> _:né .\n",
+            "",
+        ),
         (Ok(&["rdfconv", "--help"]), 0, HELP, ""),
         (Err(NoWords::NotUtf8), 2, "", NOT_UTF8),
         (Err(NoWords::Memory), 4, "", "rdfconv: out of memory\n"),
@@ -392,6 +402,7 @@ fn the_program_does_what_its_words_say(rt: HostRuntime) {
             files: &[
                 ("data.nt", "<a:> <b:> \"file\" ."),
                 ("data.ttl", "ex:s ex:p ex:o ."),
+                ("accents.ttl", "<a:é> <b:> \"😀\" , _:é ."),
                 ("ex.txt", "ex: http://e/\n"),
                 ("bad.txt", "ex: http://e/\nex: e\n"),
             ],

@@ -26,6 +26,8 @@ Options of a command, which reads FILE or standard input:
   --iri N          bytes of one IRI, 1 to 268435456 [default: 1048576]
   --prefixes FILE2 (check, convert) prefixes that are bound before the document: a line for
                    each, as `ex: http://example.org/`; line formats have none
+  --ascii          (convert) characters above U+007F of strings and IRIs as \\uXXXX or
+                   \\UXXXXXXXX; labels of blank nodes have no escapes, and stay as they are
 Past one of the limits N a document is refused.
 
 Exit status:
@@ -42,7 +44,7 @@ pub(crate) const COMMANDS: [(&str, &str, &str); 3] = [
     (
         "check",
         "Read a document to its end, and count its quads and bytes\n\nUsage: rdfconv check [OPTIONS] [FILE]\n",
-        PREFIXED_HELP,
+        CHECK_HELP,
     ),
     (
         "show",
@@ -52,12 +54,12 @@ pub(crate) const COMMANDS: [(&str, &str, &str); 3] = [
     (
         "convert",
         "Write the quads of a document as lines of N-Quads\n\nUsage: rdfconv convert [OPTIONS] [FILE]\n",
-        PREFIXED_HELP,
+        CONVERT_HELP,
     ),
 ];
 
-/// What follows these lines in the help of `check` and `convert`.
-pub(crate) const PREFIXED_HELP: &str = "
+/// What follows these lines in the help of `check`.
+pub(crate) const CHECK_HELP: &str = "
 Arguments:
   [FILE]  Document to read, in place of standard input
 
@@ -69,6 +71,23 @@ Options:
       --bindings <N>      Prefixes bound at one time, 0 to 16777216 [default: 65536]
       --iri <N>           Bytes of one IRI, 1 to 268435456 [default: 1048576]
       --prefixes <FILE2>  File of prefixes bound before the document, a line each: `ex: http://example.org/`
+  -h, --help              Print help
+";
+
+/// What follows these lines in the help of `convert`.
+pub(crate) const CONVERT_HELP: &str = "
+Arguments:
+  [FILE]  Document to read, in place of standard input
+
+Options:
+      --format <FORMAT>   Format of the document: nt N-Triples, nq N-Quads, ttl Turtle, trig TriG [default: trig] [possible values: nt, nq, ttl, trig]
+      --base <IRI>        Absolute IRI that relative references start from, at most --iri bytes; line formats have none
+      --token <N>         Characters of one token, 1 to 268435456 [default: 16777216]
+      --depth <N>         Brackets and parentheses open at one time, 0 to 1048576 [default: 1024]
+      --bindings <N>      Prefixes bound at one time, 0 to 16777216 [default: 65536]
+      --iri <N>           Bytes of one IRI, 1 to 268435456 [default: 1048576]
+      --prefixes <FILE2>  File of prefixes bound before the document, a line each: `ex: http://example.org/`
+      --ascii             Characters above U+007F of strings and IRIs as \\uXXXX or \\UXXXXXXXX; labels of blank nodes stay
   -h, --help              Print help
 ";
 
@@ -119,7 +138,7 @@ For more information, try '--help'.
 ";
 
 /// Words that are no command, and all that is reported of them.
-pub(crate) const USAGE: [(&[&str], &str); 15] = [
+pub(crate) const USAGE: [(&[&str], &str); 19] = [
     (&[], NO_COMMAND),
     (&["rdfconv"], NO_COMMAND),
     (
@@ -149,6 +168,22 @@ pub(crate) const USAGE: [(&[&str], &str); 15] = [
     (
         &["rdfconv", "show", "--prefixes", "ex.txt"],
         "error: unexpected argument '--prefixes' found\n\n  tip: to pass '--prefixes' as a value, use '-- --prefixes'\n\nUsage: rdfconv show [OPTIONS] [FILE]\n\nFor more information, try '--help'.\n",
+    ),
+    (
+        &["rdfconv", "check", "--ascii"],
+        "error: unexpected argument '--ascii' found\n\n  tip: to pass '--ascii' as a value, use '-- --ascii'\n\nUsage: rdfconv check [OPTIONS] [FILE]\n\nFor more information, try '--help'.\n",
+    ),
+    (
+        &["rdfconv", "show", "--ascii"],
+        "error: unexpected argument '--ascii' found\n\n  tip: to pass '--ascii' as a value, use '-- --ascii'\n\nUsage: rdfconv show [OPTIONS] [FILE]\n\nFor more information, try '--help'.\n",
+    ),
+    (
+        &["rdfconv", "convert", "--ascii", "--ascii"],
+        "error: the argument '--ascii' cannot be used multiple times\n\nUsage: rdfconv convert [OPTIONS] [FILE]\n\nFor more information, try '--help'.\n",
+    ),
+    (
+        &["rdfconv", "convert", "--ascii=true"],
+        "error: unexpected value 'true' for '--ascii' found; no more were expected\n\nUsage: rdfconv convert --ascii [FILE]\n\nFor more information, try '--help'.\n",
     ),
     (
         &["rdfconv", "convert", "--token=0"],

@@ -3,7 +3,7 @@ use Rattle.std.proofs.Common.{◌∙◌, ap, sym, subst, codes, chars, option_ma
 use Rattle.clap.proofs.WalkLemmas.{first_value-rows}
 use Rattle.clap.proofs.TakesLemmas.{passed_up}
 use Rattle.clap.specs.Words.{found_of, rows_of}
-use Rattle.rdf_tool.specs.Words.{IsBase}
+use Rattle.rdf_tool.specs.Words.{IsBase, escapes_by}
 use Rattle.rdf_tool.proofs.GivenLemmas.{no_task, text_given, text_is}
 use Rattle.rdf_tool.proofs.commands.task_of.Goals as goal
 
@@ -25,8 +25,9 @@ pub returns-clause-task : goal.returns-clause-task
 returns-clause-task c =
     let found = found_of c.args.found.now in
     let base = c.get_str-2.ensures ∙ first_value-rows found (codes "base") in
-    let prefixes = c.get_str-3.ensures ∙ first_value-rows found (codes "prefixes") in
-    let file = c.get_str-4.ensures ∙ first_value-rows found (codes "file") in
+    let ascii = c.get_str-3.ensures ∙ first_value-rows found (codes "ascii") in
+    let prefixes = c.get_str-4.ensures ∙ first_value-rows found (codes "prefixes") in
+    let file = c.get_str-5.ensures ∙ first_value-rows found (codes "file") in
     let form = text_is found (codes "format") _ c.get_str.result c.get_str.ensures c.requires.form.1 c.unwrap.result c.unwrap.ensures in
     record {
       action = c.action_of-action.ensures;
@@ -34,6 +35,7 @@ returns-clause-task c =
       base = c.in_ok-base.ensures.base ∙ ap (option_map chars) base;
       good_base = subst (λ text. IfSome text (IsBase c.limits_of-limits.result.iri)) base (rw c.iri.ensures at c.in_ok-base.ensures.good);
       limits = c.limits_of-limits.ensures;
+      escapes = c.escapes_by-escapes.ensures ∙ ap escapes_by ascii;
       prefixes = c.in_ok-prefixes.ensures ∙ prefixes;
       file = c.in_ok-file.ensures ∙ file;
     }
