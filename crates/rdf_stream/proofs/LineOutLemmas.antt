@@ -14,7 +14,9 @@ use Rattle.rdf_lines.specs.declared.form.Escapes.TheVariants.{Plain}
 use Rattle.rdf_lines.specs.declared.form.Style.{Style}
 use Rattle.rdf_lines.specs.Writing.{line, text, CanWrite, Writable}
 use Rattle.rdf_stream.specs.Devices.{AppendsFront}
-use Rattle.rdf_stream.specs.LineOut.{Leaves, Moves, SameOut, Takes, Writes, line_bytes}
+use Rattle.rdf_stream.specs.LineOut.{Leaves, Moves, PutHalts, SameOut, Takes, Writes, line_bytes}
+use Rattle.rdf_stream.specs.declared.fault.StreamFault.{StreamFault}
+use Rattle.rdf_stream.specs.declared.fault.StreamFault.TheVariants as stream
 use Rattle.rdf_stream.specs.declared.line_out.LineOut.{LineOut}
 use Rattle.rdf_stream.proofs.WellFormedLemmas.{quad_had}
 
@@ -158,3 +160,22 @@ module _ {D A : Type 0} (contents : D → Option (List ℕ)) (failed : D → Boo
   pub puts_live : (qs : List Quad) (a b : LineOut D A) → Puts a qs b → failed a.drain.now ≡ false → failed b.drain.now ≡ false
   puts_live [] a b h l = subst (λ (x : LineOut D A). failed x.drain.now ≡ false) (sym h) l
   puts_live (q ∷ qs) a b h l = puts_live qs h.0 b h.2 h.1.live
+
+-- ---- bytes that were not put
+
+module _ {D A : Type 0} (contents : D → Option (List ℕ)) (failed : D → Bool) (before mid after : LineOut D A) (bytes : List ℕ) (m : Writes contents before [] mid) where
+  -- nothing of it waits, and what waits was handed over, or not
+  pub put_left : (told : StreamFault) → PutHalts contents failed told mid [] after → PutHalts contents failed told before bytes after
+  put_left stream.Write p = (
+    p.0,
+    p.1 ++ bytes,
+    moves_more (contents before.drain.now) (contents after.drain.now) before.buffer.now.items bytes p.1
+        (subst (λ l. Moves (contents before.drain.now) (contents after.drain.now) l p.1) (append-nil (before.buffer.now.items ++ []) ∙ append-nil before.buffer.now.items)
+        (moves_on (contents before.drain.now) (contents mid.drain.now) (contents after.drain.now) (before.buffer.now.items ++ []) [] mid.buffer.now.items p.1 m p.2)),
+  )
+  put_left stream.Memory p = (
+    p.0,
+    subst (Appends (contents before.drain.now) (contents after.drain.now)) (append-nil before.buffer.now.items)
+        (moves_all (contents before.drain.now) (contents mid.drain.now) (contents after.drain.now) (before.buffer.now.items ++ []) mid.buffer.now.items m p.1),
+  )
+  put_left told p = absurd p

@@ -1,11 +1,10 @@
 -- What showing a token, a part of a piece and the end has written, from what was shown before.
-use Rattle.std.proofs.Common.{◌≡◌, ◌≢◌, ◌<◌, ◌≤◌, ◌+◌, ◌-◌, ◌^◌, ℕ, Bool, true, false, not, cond, List, [], ◌∷◌, ◌++◌, ◌⊎◌, length, take, drop, Option, Result, Ok, Err, IfOk, IfErr, IfSome, refl, sym, ap, subst, ◌∙◌, append_assoc, ⊎_elim, inl, inr, arith, length-append}
+use Rattle.std.proofs.Common.{◌≡◌, ◌≢◌, ◌<◌, ◌≤◌, ◌+◌, ℕ, Bool, true, false, not, cond, List, [], ◌∷◌, ◌++◌, ◌⊎◌, length, take, drop, Option, IfSome, refl, sym, ap, subst, ◌∙◌, append_assoc, ⊎_elim, inl, inr, arith, length-append}
 use Rattle.std.proofs.lemmas.List.{append-nil, take-append-le, take-append-drop, length-take-le}
 use Rattle.std.proofs.lemmas.Bool.{cond-false, false≢true, cond_both}
 use Rattle.std.proofs.Math.Seq.{take-append_seam}
-use Rattle.std.proofs.KnownBytes.{Appends-nil, Consumes-kept, Consumes-nil, Consumes-trans, Consumes-whole}
-use Rattle.std.specs.Io.KnownBytes.{Appends, Consumes, IsAtEnd, Keeps}
-use Rattle.std.specs.Result.{IsErrAnd}
+use Rattle.std.proofs.KnownBytes.{Appends-nil, Consumes-whole}
+use Rattle.std.specs.Io.KnownBytes.{Appends}
 use Rattle.rdf_terms.specs.declared.kind.Kind.TheVariants.{End}
 use Rattle.rdf_terms.specs.declared.kind.Kind.{Kind}
 use Rattle.rdf_terms.specs.declared.reason.Reason.{Reason}
@@ -28,13 +27,13 @@ use Rattle.rdf_stream.specs.declared.line_out.LineOut.{LineOut}
 use Rattle.rdf_stream.specs.declared.shows.Showing.{Showing}
 use Rattle.rdf_stream.specs.Devices.{AppendsFront, HasGiven, Reading as Reader}
 use Rattle.rdf_stream.specs.Faults.{IsOfDocument, IsRefusal, fault_by}
-use Rattle.rdf_stream.specs.LineOut.{Moves, SameOut, Writes}
+use Rattle.rdf_stream.specs.LineOut.{Moves, PutHalts, SameOut, Writes}
 use Rattle.rdf_stream.specs.Converting.{Tells, TellsFault, TellsWrite}
 use Rattle.rdf_stream.specs.Pieces.{ReadStops, ReadsAll, SourceFails}
 use Rattle.rdf_stream.specs.Shows.{ShowStops, Shows, ShowsFront, ShowsSome, ShowRefuses, StopsAt, dialect_of, shown, token_line, token_lines, tokens_in}
-use Rattle.rdf_stream.specs.ShowParts.{AreAll, Begins, Halts, HaltsFor, HasShown, HasShownAll, IsShowingRun, NowShown, PutHalts, ShowEnds, ShowHalts}
+use Rattle.rdf_stream.specs.ShowParts.{AreAll, Begins, Halts, HaltsFor, HasShown, HasShownAll, IsShowingRun, NowShown, ShowEnds, ShowHalts}
 use Rattle.rdf_stream.proofs.PiecesLemmas.{all_given}
-use Rattle.rdf_stream.proofs.LineOutLemmas.{front_moves, moves_all, moves_front, moves_more, moves_on, same_out}
+use Rattle.rdf_stream.proofs.LineOutLemmas.{front_moves, moves_all, moves_front, moves_on, same_out}
 
 -- the lines of two lists of tokens are those of the first and then the second
 pub lines-append : (ts us : List Token) → token_lines (ts ++ us) ≡ token_lines ts ++ token_lines us
@@ -609,20 +608,3 @@ module _ {D A : Type 0} (contents : D → Option (List ℕ)) (failed : D → Boo
 -- each token but the end has its line
 pub shown_line : (t : Token) → is_end t.kind ≡ false → shown t ≡ token_line t
 shown_line t e = cond-false _ _ _ e
-
-module _ {D A : Type 0} (contents : D → Option (List ℕ)) (failed : D → Bool) (before mid after : LineOut D A) (bytes : List ℕ) (m : Writes contents before [] mid) where
-  -- nothing of it waits, and what waits was handed over, or not
-  pub put_left : (told : StreamFault) → PutHalts contents failed told mid [] after → PutHalts contents failed told before bytes after
-  put_left stream.Write p = (
-    p.0,
-    p.1 ++ bytes,
-    moves_more (contents before.drain.now) (contents after.drain.now) before.buffer.now.items bytes p.1
-        (subst (λ l. Moves (contents before.drain.now) (contents after.drain.now) l p.1) (append-nil (before.buffer.now.items ++ []) ∙ append-nil before.buffer.now.items)
-        (moves_on (contents before.drain.now) (contents mid.drain.now) (contents after.drain.now) (before.buffer.now.items ++ []) [] mid.buffer.now.items p.1 m p.2)),
-  )
-  put_left stream.Memory p = (
-    p.0,
-    subst (Appends (contents before.drain.now) (contents after.drain.now)) (append-nil before.buffer.now.items)
-        (moves_all (contents before.drain.now) (contents mid.drain.now) (contents after.drain.now) (before.buffer.now.items ++ []) mid.buffer.now.items m p.1),
-  )
-  put_left told p = absurd p

@@ -1,6 +1,5 @@
 -- What showing tokens has done behind each token and behind each part of a piece, and why it stops within one.
 use Rattle.std.specs.Prelude.{◌≡◌, ◌⊎◌, ◌≤◌, ℕ, Bool, true, false, List, [], ◌∷◌, ◌++◌, length, Option}
-use Rattle.std.specs.Io.KnownBytes.{Appends}
 use Rattle.rdf_terms.specs.declared.sink.PutFault.{PutFault}
 use Rattle.rdf_terms.specs.declared.sink.PutFault.TheVariants as put
 use Rattle.rdf_tokens.specs.Tokens.{Token}
@@ -21,14 +20,6 @@ abbrev pub LeavesToken : {D A : Type 0} → (D → Option (List ℕ)) → (D →
 LeavesToken contents failed put.Memory before bytes after = Writes contents before [] after × (failed after.drain.now ≡ false)
 LeavesToken contents failed put.Device before bytes after =
     (failed after.drain.now ≡ true) × (rest : List ℕ) × Moves (contents before.drain.now) (contents after.drain.now) (before.buffer.now.items ++ bytes) rest
-
--- What is told of it, once all that waited was handed over.
-abbrev pub PutHalts : {D A : Type 0} → (D → Option (List ℕ)) → (D → Bool) → StreamFault → LineOut D A → List ℕ → LineOut D A → Type 0
-PutHalts contents failed fault.Write before bytes after =
-    (failed after.drain.now ≡ true) × (rest : List ℕ) × Moves (contents before.drain.now) (contents after.drain.now) (before.buffer.now.items ++ bytes) rest
-PutHalts contents failed fault.Memory before bytes after =
-    (failed after.drain.now ≡ false) × Appends (contents before.drain.now) (contents after.drain.now) before.buffer.now.items
-PutHalts contents failed told before bytes after = ⊥
 
 -- The scanner has given these tokens of the bytes, and their lines were put.
 pub record HasShown {D A : Type 0} (contents : D → Option (List ℕ)) (failed : D → Bool) (job : JobRead) (bytes : List ℕ) (tokens : List Token) (first lines : LineOut D A) (v : Unread) (s : Summary) : Type 0 where

@@ -5,7 +5,7 @@ ghost use Rattle.std.specs.Io.KnownBytes.{Appends};
 ghost use Rattle.rdf_stream.specs.Converting.{Tells};
 ghost use Rattle.rdf_stream.specs.Devices.{AppendsFront};
 ghost use Rattle.rdf_tokens.specs.Scans.{token_of};
-ghost use Rattle.rdf_stream.specs.LineOut.{Leaves, SameOut, Takes, Writes};
+ghost use Rattle.rdf_stream.specs.LineOut.{Leaves, PutHalts, SameOut, Takes, Writes, most_waiting};
 ghost use Rattle.rdf_stream.specs.ShowParts.{LeavesToken};
 ghost use Rattle.rdf_stream.specs.Shows.{token_line};
 
@@ -78,6 +78,28 @@ impl<'a, D: Drain, A: Allocator + Copy> LineOut<'a, D, A> {
         self.drain.flush()
     }
 
+    /// Puts lines as they stand.
+    pub(crate) fn append(&mut self, lines: &[u8]) -> Result<(), StreamFault>
+        requires live { D.has_failed self.old.drain.now ≡ false }
+        ensures same { SameOut self.old self.new }
+        ensures writes { OnOk result (Writes D.contents self.old lines.now self.new) }
+        ensures few { OnOk result (length self.old.buffer.now.items < most_waiting → length self.new.buffer.now.items < most_waiting) }
+        ensures live { OnOk result (D.has_failed self.new.drain.now ≡ false) }
+        ensures halts { IfErr result (λ told. PutHalts D.contents D.has_failed told self.old lines.now self.new) }
+    {
+        match self.buffer.extend_from_slice(lines) {
+            Ok(()) => {}
+            Err(_) => return Err(handed_over(self)),
+        }
+        if WAITING_LEN <= self.buffer.len() {
+            return match self.hand_over() {
+                Ok(()) => Ok(()),
+                Err(Failed) => Err(StreamFault::Write),
+            };
+        }
+        Ok(())
+    }
+
     /// Puts the line of a token.
     pub(crate) fn put_token(&mut self, token: Token<'_>) -> Result<(), PutFault>
         requires live { D.has_failed self.old.drain.now ≡ false }
@@ -126,6 +148,20 @@ impl<'a, D: Drain, A: Allocator + Copy> QuadSink for LineOut<'a, D, A> {
 
     fn failed(&self) -> bool {
         self.drain.failed()
+    }
+}
+
+/// Hands over what waits where no memory was left, and says what is told of it.
+pub(crate) fn handed_over<A: Allocator + Copy, D: Drain>(
+    lines: &mut LineOut<'_, D, A>,
+) -> StreamFault
+    requires live { D.has_failed lines.old.drain.now ≡ false }
+    ensures same { SameOut lines.old lines.new }
+    ensures halts { PutHalts D.contents D.has_failed result lines.old [] lines.new }
+{
+    match lines.hand_over() {
+        Ok(()) => StreamFault::Memory,
+        Err(Failed) => StreamFault::Write,
     }
 }
 

@@ -4,15 +4,15 @@ ghost use Rattle.std.specs.Prelude.{◌≡◌, ◌<◌, ◌≤◌, ◌++◌, [],
 ghost use Rattle.rdf_tokens.specs.Scans.{is_end, left, token_of};
 ghost use Rattle.rdf_stream.specs.Devices.{reading};
 ghost use Rattle.rdf_stream.specs.Faults.{IsRefusal};
-ghost use Rattle.rdf_stream.specs.LineOut.{SameOut, Writes};
+ghost use Rattle.rdf_stream.specs.LineOut.{PutHalts, SameOut, Writes};
 ghost use Rattle.rdf_stream.specs.Shows.{ShowStops, Shows, dialect_of, shown};
-ghost use Rattle.rdf_stream.specs.ShowParts.{Ends, HaltsBehind, HaltsHere, IsShowing, IsShowingAll, IsShowingRun, PutHalts, ShowEnds, ShowHalts, ShowsMore, ShowsOne, ShowsRest};
+ghost use Rattle.rdf_stream.specs.ShowParts.{Ends, HaltsBehind, HaltsHere, IsShowing, IsShowingAll, IsShowingRun, ShowEnds, ShowHalts, ShowsMore, ShowsOne, ShowsRest};
 
 use crate::devices::{Drain, Failed, Source};
 use crate::fault::StreamFault;
 use crate::form::Form;
 use crate::job::Job;
-use crate::line_out::{LineOut, stop};
+use crate::line_out::{LineOut, handed_over, stop};
 use crate::pieces::{Run, piece_buffer, read_pieces};
 use rdf_driver::Summary;
 use rdf_lines::Style;
@@ -268,18 +268,6 @@ fn show_given<A: Allocator + Copy, D: Drain>(
         Ok(()) => Ok(true),
         Err(PutFault::Memory) => Err(handed_over(lines)),
         Err(PutFault::Device) => Err(StreamFault::Write),
-    }
-}
-
-// Hands over what waits where no memory was left, and says what is told of it.
-fn handed_over<A: Allocator + Copy, D: Drain>(lines: &mut LineOut<'_, D, A>) -> StreamFault
-    requires live { D.has_failed lines.old.drain.now ≡ false }
-    ensures same { SameOut lines.old lines.new }
-    ensures halts { PutHalts D.contents D.has_failed result lines.old [] lines.new }
-{
-    match lines.hand_over() {
-        Ok(()) => StreamFault::Memory,
-        Err(Failed) => StreamFault::Write,
     }
 }
 

@@ -2,7 +2,8 @@ use Rattle.std.proofs.Common.{sym, ◌∙◌, ◌++◌, subst}
 use Rattle.rdf_tokens.specs.Scans.{token_of}
 use Rattle.rdf_stream.specs.LineOut.{Moves}
 use Rattle.rdf_stream.specs.Shows.{shown}
-use Rattle.rdf_stream.proofs.ShowsLemmas.{put_left, shown_line}
+use Rattle.rdf_stream.proofs.LineOutLemmas.{put_left}
+use Rattle.rdf_stream.proofs.ShowsLemmas.{shown_line}
 use Rattle.rdf_stream.proofs.shows.show_given.Goals as goal
 
 pub returns-in-Err-Memory-clause-halts : goal.returns-in-Err-Memory-clause-halts
