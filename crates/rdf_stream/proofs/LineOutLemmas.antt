@@ -161,6 +161,22 @@ module _ {D A : Type 0} (contents : D → Option (List ℕ)) (failed : D → Boo
   puts_live [] a b h l = subst (λ (x : LineOut D A). failed x.drain.now ≡ false) (sym h) l
   puts_live (q ∷ qs) a b h l = puts_live qs h.0 b h.2 h.1.live
 
+-- ---- bytes that go to the drain behind what waited
+
+-- all of them were taken
+pub all_behind : (a b c : Option (List ℕ)) (waiting bytes rest : List ℕ) → Appends a b waiting → Appends b c bytes → rest ≡ [] → Moves a c (waiting ++ bytes) rest
+all_behind a b c waiting bytes rest p q e = record { front = waiting ++ bytes; whole = sym (ap (λ l. (waiting ++ bytes) ++ l) e ∙ append-nil (waiting ++ bytes)); taken = Appends-trans a b c waiting bytes p q }
+
+-- a beginning of what waited was taken
+pub front_before : (a b : Option (List ℕ)) (waiting bytes : List ℕ) → AppendsFront a b waiting → (rest : List ℕ) × Moves a b (waiting ++ bytes) rest
+front_before a b waiting bytes p = let (rest, m) = front_moves a b waiting p in (rest ++ bytes, moves_more a b waiting bytes rest m)
+
+-- all that waited was taken, and a beginning of them
+pub front_behind : (a b c : Option (List ℕ)) (waiting bytes : List ℕ) → Appends a b waiting → AppendsFront b c bytes → (rest : List ℕ) × Moves a c (waiting ++ bytes) rest
+front_behind a b c waiting bytes p q =
+    let (rest, m) = front_moves b c bytes q in
+    (rest, moves_on a b c waiting bytes [] rest (record { front = waiting; whole = sym (append-nil waiting); taken = p }) m)
+
 -- ---- bytes that were not put
 
 module _ {D A : Type 0} (contents : D → Option (List ℕ)) (failed : D → Bool) (before mid after : LineOut D A) (bytes : List ℕ) (m : Writes contents before [] mid) where

@@ -22,6 +22,9 @@ use std::alloc::{Allocator, Global};
 /// The number of bytes that wait for the drain at most, once a line has been put.
 const WAITING_LEN: usize = 65536;
 
+/// Fewer bytes than these are copied behind what waits, and more go to the drain as they stand.
+const COPIED_LEN: usize = 4096;
+
 /// The lines of the quads that were put: the drain has their front, and the buffer what waits for it. A put of a quad
 /// that the style can't write is refused, as one for which there is no memory.
 #[derive(Drop)]
@@ -80,6 +83,28 @@ impl<'a, D: Drain, A: Allocator + Copy> LineOut<'a, D, A> {
 
     /// Puts lines as they stand.
     pub(crate) fn append(&mut self, lines: &[u8]) -> Result<(), StreamFault>
+        requires live { D.has_failed self.old.drain.now ≡ false }
+        ensures same { SameOut self.old self.new }
+        ensures writes { OnOk result (Writes D.contents self.old lines.now self.new) }
+        ensures few { OnOk result (length self.old.buffer.now.items < most_waiting → length self.new.buffer.now.items < most_waiting) }
+        ensures live { OnOk result (D.has_failed self.new.drain.now ≡ false) }
+        ensures halts { IfErr result (λ told. PutHalts D.contents D.has_failed told self.old lines.now self.new) }
+    {
+        if lines.len() < COPIED_LEN {
+            return self.copy(lines);
+        }
+        match self.hand_over() {
+            Ok(()) => {}
+            Err(Failed) => return Err(StreamFault::Write),
+        }
+        match put_all(self.drain, lines) {
+            Ok(()) => Ok(()),
+            Err(Failed) => Err(StreamFault::Write),
+        }
+    }
+
+    // Copies lines behind those that wait, and hands them over where they are many then.
+    fn copy(&mut self, lines: &[u8]) -> Result<(), StreamFault>
         requires live { D.has_failed self.old.drain.now ≡ false }
         ensures same { SameOut self.old self.new }
         ensures writes { OnOk result (Writes D.contents self.old lines.now self.new) }

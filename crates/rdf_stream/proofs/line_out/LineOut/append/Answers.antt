@@ -1,7 +1,12 @@
-use Rattle.rdf_stream.proofs.LineOutLemmas.{put_left, waits_same}
+use Rattle.std.proofs.Common.{rules}
+use Rattle.rdf_stream.proofs.LineOutLemmas.{all_behind, front_before, front_behind}
 use Rattle.rdf_stream.proofs.line_out.LineOut.append.Goals as goal
 
 pub returns-in-Err-clause-halts : goal.returns-in-Err-clause-halts
-returns-in-Err-clause-halts g c =
-    put_left g.D.Drain.contents g.D.Drain.has_failed c.args.self.now _ c.handed_over.new.lines c.args.lines.now
-    (waits_same _ _ _ c.in-Err.ensures.items) c.handed_over.result c.handed_over.ensures.halts
+returns-in-Err-clause-halts g c = let r = front_before _ _ _ c.args.lines.now c.in-Err.ensures.err in (search rules, r.0, r.1)
+
+pub returns-in-Ok-put_all-clause-writes : goal.returns-in-Ok-put_all-clause-writes
+returns-in-Ok-put_all-clause-writes g c = all_behind _ _ _ _ _ _ c.in-Ok.ensures.ok c.in-Ok-put_all.ensures.ok c.in-Ok.ensures.empty
+
+pub returns-in-Err-put_all-clause-halts : goal.returns-in-Err-put_all-clause-halts
+returns-in-Err-put_all-clause-halts g c = let r = front_behind _ _ _ _ c.args.lines.now c.in-Ok.ensures.ok c.in-Err-put_all.ensures.err in (search rules, r.0, r.1)
