@@ -1,7 +1,8 @@
 -- A piece more, the end, or an error within one: what the drain has then.
-use Rattle.std.proofs.Common.{◌≡◌, ◌≤◌, ℕ, Bool, true, false, List, [], ◌∷◌, ◌++◌, ◌⊎◌, length, take, drop, Option, refl, sym, ap, subst, ◌∙◌, append_assoc, ⊎_elim, arith}
+use Rattle.std.proofs.Common.{◌≡◌, ◌≤◌, ◌<◌, ◌+◌, ℕ, Bool, true, false, List, [], ◌∷◌, ◌++◌, ◌⊎◌, length, take, drop, Option, refl, sym, ap, subst, ◌∙◌, append_assoc, ⊎_elim, length-append, arith}
 use Rattle.std.proofs.lemmas.List.{append-nil, take-append-drop}
 use Rattle.std.proofs.lemmas.Bool.{false≢true}
+use Rattle.std.specs.Prelude.{encode_utf8_all}
 use Rattle.std.specs.Io.KnownBytes.{Appends}
 use Rattle.std.specs.List.{AllByRecursion}
 use Rattle.rdf_terms.specs.declared.reason.Reason.{Reason}
@@ -16,26 +17,34 @@ use Rattle.rdf_driver.specs.declared.summary.Summary.{Summary}
 use Rattle.rdf_driver.specs.Readers as R
 use Rattle.rdf_driver.specs.Readers.{Driven, FeedFails, Feeds, FinishFails, Finishes, HasRead, LeavesOff, piece_reading}
 use Rattle.rdf_driver.specs.Words.{Words, in_words}
-use Rattle.rdf_lines.specs.declared.form.Escapes.TheVariants.{Plain}
+use Rattle.rdf_lines.specs.declared.form.Escapes.{Escapes}
+use Rattle.rdf_lines.specs.declared.form.Escapes.TheVariants.{Plain, Ascii}
 use Rattle.rdf_lines.specs.declared.form.Style.{Style}
-use Rattle.rdf_lines.specs.Writing.{CanWrite, Writable}
+use Rattle.rdf_lines.specs.Writing.{CanWrite, Writable, text}
+use Rattle.rdf_lines.proofs.AsciiLemmas.{ascii_written}
 use Rattle.rdf_lines.proofs.ReadBack.{bytes_read_back}
+use Rattle.rdf_stream.specs.declared.form.WrittenForm.{WrittenForm}
 use Rattle.rdf_stream.specs.Languages.{Conversion, conversion}
 use Rattle.rdf_stream.specs.declared.fault.StreamFault.{StreamFault}
 use Rattle.rdf_stream.specs.declared.fault.StreamFault.TheVariants as stream
 use Rattle.rdf_stream.specs.declared.line_out.LineOut.{LineOut}
 use Rattle.rdf_stream.specs.Converting.{HandedOver, HaltsFor, HasPut, IsConverting, IsPutting, RunEnds, RunHalts, Suits, Tells, TellsFault, TellsWrite}
-use Rattle.rdf_stream.specs.Converts.{Accepts, WritesDue, WritesFront, WritesSome, lines_of}
+use Rattle.rdf_stream.specs.Converts.{Accepts, IsAscii, WritesDue, WritesFront, WritesSome, lines_of}
 use Rattle.rdf_stream.specs.Devices.{AppendsFront}
 use Rattle.rdf_stream.specs.Faults.{fault_by}
 use Rattle.rdf_stream.specs.LineOut.{Leaves, Moves, PutHalts, SameOut, Takes, Writes}
 use Rattle.rdf_stream.specs.Passes.{PassesText}
+use Rattle.rdf_stream.specs.WrittenForms.{is_plain, plain}
 use Rattle.rdf_stream.proofs.LineOutLemmas.{Taken, Tried, bytes_of, bytes_of-append, front_moves, moves_all, moves_front, moves_more, moves_on, puts_tries, same_out, taken, tried}
 
 -- quads that can be written can be written together
 both_writable : (s : Style) (qs rs : List Quad) → Writable s qs → Writable s rs → Writable s (qs ++ rs)
 both_writable s [] rs p q = q
 both_writable s (x ∷ qs) rs p q = (p.0, both_writable s qs rs p.1 q)
+
+-- what is written in ASCII is so
+written_ascii : (f : WrittenForm) (qs : List Quad) → Writable f.style qs → IsAscii f qs
+written_ascii f qs w is labels = subst (λ e. AllByRecursion (λ b. b < 128) (encode_utf8_all (text f.style e qs))) (sym is) (ascii_written f.style qs w labels)
 
 -- what holds of all quads of two lists holds of those of the first, and of the second
 first_ones : (P : Quad → Type 0) (qs rs : List Quad) → AllByRecursion P (qs ++ rs) → AllByRecursion P qs
@@ -89,24 +98,24 @@ module _ (l : Language) where
   begins_refused r reason.Sink at ahead qs x d = absurd x
   begins_refused r why at ahead qs x d = begins_ahead r.tokens ahead (x.token ∷ x.behind) qs x.tokens x.front.kept d
 
-module _ {G X D A : Type 0} (contents : D → Option (List ℕ)) (failed : D → Bool) (w : Words G X Quad) (x : X) (reader : Driven G) (bytes : List ℕ) (first lines : LineOut D A) (suits : Suits w x first.style)
+module _ {G X D A : Type 0} (contents : D → Option (List ℕ)) (failed : D → Bool) (w : Words G X Quad) (x : X) (reader : Driven G) (bytes : List ℕ) (first lines : LineOut D A) (suits : Suits w x first.form.style)
     (o : HasPut contents failed w x reader bytes first lines) where
   abbrev l : Language
   l = in_words w x reader.scanner.limit
 
   abbrev job : Conversion
-  job = conversion w x reader.scanner.limit first.style
+  job = conversion w x reader.scanner.limit first.form
 
   -- what the drain took after the bytes that it had
   abbrev Behind : LineOut D A → List Quad → List ℕ → Type 0
-  Behind after qs rest = Moves (contents lines.drain.now) (contents after.drain.now) (lines.buffer.now.items ++ bytes_of lines.style qs) rest
+  Behind after qs rest = Moves (contents lines.drain.now) (contents after.drain.now) (lines.buffer.now.items ++ bytes_of lines.form qs) rest
 
   -- from the beginning of the run
-  from_first : (after : LineOut D A) (qs : List Quad) (rest : List ℕ) → Behind after qs rest → Moves (contents first.drain.now) (contents after.drain.now) (lines_of first.style (o.quads ++ qs)) rest
+  from_first : (after : LineOut D A) (qs : List Quad) (rest : List ℕ) → Behind after qs rest → Moves (contents first.drain.now) (contents after.drain.now) (lines_of first.form (o.quads ++ qs)) rest
   from_first after qs rest m =
-      let styled = subst (λ s. Moves (contents lines.drain.now) (contents after.drain.now) (lines.buffer.now.items ++ bytes_of s qs) rest) o.same.style m in
-      subst (λ b. Moves (contents first.drain.now) (contents after.drain.now) b rest) (sym (bytes_of-append first.style o.quads qs))
-      (moves_on (contents first.drain.now) (contents lines.drain.now) (contents after.drain.now) (lines_of first.style o.quads) (bytes_of first.style qs) lines.buffer.now.items rest o.moves styled)
+      let styled = subst (λ s. Moves (contents lines.drain.now) (contents after.drain.now) (lines.buffer.now.items ++ bytes_of s qs) rest) o.same.form m in
+      subst (λ b. Moves (contents first.drain.now) (contents after.drain.now) b rest) (sym (bytes_of-append first.form o.quads qs))
+      (moves_on (contents first.drain.now) (contents lines.drain.now) (contents after.drain.now) (lines_of first.form o.quads) (bytes_of first.form qs) lines.buffer.now.items rest o.moves styled)
 
   -- a beginning of the lines was written
   written_front : (after : LineOut D A) (ts : List Token) (qs : List Quad) (rest : List ℕ) → Behind after qs rest → Begun l ts (o.quads ++ qs) →
@@ -114,36 +123,36 @@ module _ {G X D A : Type 0} (contents : D → Option (List ℕ)) (failed : D →
   written_front after ts qs rest m d = record {
     quads = o.quads ++ qs;
     due = d;
-    written = moves_front (contents first.drain.now) (contents after.drain.now) (lines_of first.style (o.quads ++ qs)) rest (from_first after qs rest m);
+    written = moves_front (contents first.drain.now) (contents after.drain.now) (lines_of first.form (o.quads ++ qs)) rest (from_first after qs rest m);
   }
 
   -- all that waited was taken then
-  written_all : (mid after : LineOut D A) (qs : List Quad) → Writes contents lines (bytes_of lines.style qs) mid → Appends (contents mid.drain.now) (contents after.drain.now) mid.buffer.now.items →
-      Appends (contents first.drain.now) (contents after.drain.now) (lines_of first.style (o.quads ++ qs))
+  written_all : (mid after : LineOut D A) (qs : List Quad) → Writes contents lines (bytes_of lines.form qs) mid → Appends (contents mid.drain.now) (contents after.drain.now) mid.buffer.now.items →
+      Appends (contents first.drain.now) (contents after.drain.now) (lines_of first.form (o.quads ++ qs))
   written_all mid after qs m t =
-      moves_all (contents first.drain.now) (contents mid.drain.now) (contents after.drain.now) (lines_of first.style (o.quads ++ qs)) mid.buffer.now.items (from_first mid qs mid.buffer.now.items m) t
+      moves_all (contents first.drain.now) (contents mid.drain.now) (contents after.drain.now) (lines_of first.form (o.quads ++ qs)) mid.buffer.now.items (from_first mid qs mid.buffer.now.items m) t
 
   -- the drain took a beginning of what waited
-  then_front : (mid after : LineOut D A) (qs : List Quad) (rest : List ℕ) → Writes contents lines (bytes_of lines.style qs) mid → Moves (contents mid.drain.now) (contents after.drain.now) mid.buffer.now.items rest →
+  then_front : (mid after : LineOut D A) (qs : List Quad) (rest : List ℕ) → Writes contents lines (bytes_of lines.form qs) mid → Moves (contents mid.drain.now) (contents after.drain.now) mid.buffer.now.items rest →
       Behind after qs rest
   then_front mid after qs rest m n =
-      subst (λ b. Moves (contents lines.drain.now) (contents after.drain.now) b rest) (append-nil (lines.buffer.now.items ++ bytes_of lines.style qs))
-      (moves_on (contents lines.drain.now) (contents mid.drain.now) (contents after.drain.now) (lines.buffer.now.items ++ bytes_of lines.style qs) [] mid.buffer.now.items rest m
+      subst (λ b. Moves (contents lines.drain.now) (contents after.drain.now) b rest) (append-nil (lines.buffer.now.items ++ bytes_of lines.form qs))
+      (moves_on (contents lines.drain.now) (contents mid.drain.now) (contents after.drain.now) (lines.buffer.now.items ++ bytes_of lines.form qs) [] mid.buffer.now.items rest m
       (subst (λ b. Moves (contents mid.drain.now) (contents after.drain.now) b rest) (sym (append-nil mid.buffer.now.items)) n))
 
-  more_front : (after : LineOut D A) (done later : List Quad) (rest : List ℕ) → Behind after done rest → Behind after (done ++ later) (rest ++ bytes_of lines.style later)
+  more_front : (after : LineOut D A) (done later : List Quad) (rest : List ℕ) → Behind after done rest → Behind after (done ++ later) (rest ++ bytes_of lines.form later)
   more_front after done later rest m =
-      subst (λ b. Moves (contents lines.drain.now) (contents after.drain.now) b (rest ++ bytes_of lines.style later))
-      (append_assoc lines.buffer.now.items (bytes_of lines.style done) (bytes_of lines.style later) ∙ ap (λ b. lines.buffer.now.items ++ b) (sym (bytes_of-append lines.style done later)))
-      (moves_more (contents lines.drain.now) (contents after.drain.now) (lines.buffer.now.items ++ bytes_of lines.style done) (bytes_of lines.style later) rest m)
+      subst (λ b. Moves (contents lines.drain.now) (contents after.drain.now) b (rest ++ bytes_of lines.form later))
+      (append_assoc lines.buffer.now.items (bytes_of lines.form done) (bytes_of lines.form later) ∙ ap (λ b. lines.buffer.now.items ++ b) (sym (bytes_of-append lines.form done later)))
+      (moves_more (contents lines.drain.now) (contents after.drain.now) (lines.buffer.now.items ++ bytes_of lines.form done) (bytes_of lines.form later) rest m)
 
   -- quads that are due can be written
-  styled : (ts : List Token) (qs rest : List Quad) → Due (w.documents x) ts ((o.quads ++ qs) ++ rest) → AllByRecursion (CanWrite lines.style) qs
+  styled : (ts : List Token) (qs rest : List Quad) → Due (w.documents x) ts ((o.quads ++ qs) ++ rest) → AllByRecursion (CanWrite lines.form.style) qs
   styled ts qs rest d =
-      subst (λ s. AllByRecursion (CanWrite s) qs) (sym o.same.style)
-      (last_ones (CanWrite first.style) o.quads qs (first_ones (CanWrite first.style) (o.quads ++ qs) rest (suits.can_write ts ((o.quads ++ qs) ++ rest) d)))
+      subst (λ (f : WrittenForm). AllByRecursion (CanWrite f.style) qs) (sym o.same.form)
+      (last_ones (CanWrite first.form.style) o.quads qs (first_ones (CanWrite first.form.style) (o.quads ++ qs) rest (suits.can_write ts ((o.quads ++ qs) ++ rest) d)))
 
-  styled_all : (ts : List Token) (qs : List Quad) → Due (w.documents x) ts (o.quads ++ qs) → AllByRecursion (CanWrite lines.style) qs
+  styled_all : (ts : List Token) (qs : List Quad) → Due (w.documents x) ts (o.quads ++ qs) → AllByRecursion (CanWrite lines.form.style) qs
   styled_all ts qs d = styled ts qs [] (subst (Due (w.documents x) ts) (sym (append-nil (o.quads ++ qs))) d)
 
   -- ---- an error of the reader: some quads were tried, and they are due
@@ -164,12 +173,12 @@ module _ {G X D A : Type 0} (contents : D → Option (List ℕ)) (failed : D →
       by : (b : Bool) → failed mid.drain.now ≡ b → WritesFront job ts (contents first.drain.now) (contents after.drain.now)
       by true e =
           written_front after ts h.more h.tries.rest
-          (subst (λ k. Moves (contents lines.drain.now) k (lines.buffer.now.items ++ bytes_of lines.style h.more) h.tries.rest) (sym (t.before_it e)) h.tries.moves) h.due
+          (subst (λ k. Moves (contents lines.drain.now) k (lines.buffer.now.items ++ bytes_of lines.form h.more) h.tries.rest) (sym (t.before_it e)) h.tries.moves) h.due
       by false e =
           let (done, later, split, writes) = h.tries.whole e in
           let (rest, moves) = t.while_taking e in
           let m = more_front after done later rest (then_front mid after done rest writes moves) in
-          written_front after ts h.more (rest ++ bytes_of lines.style later) (subst (λ qs. Behind after qs (rest ++ bytes_of lines.style later)) (sym split) m) h.due
+          written_front after ts h.more (rest ++ bytes_of lines.form later) (subst (λ qs. Behind after qs (rest ++ bytes_of lines.form later)) (sym split) m) h.due
 
   -- the drain has all whole lines
   tells_some : (ts : List Token) (mid after : LineOut D A) → LeftOff ts mid → TellsFault contents failed mid after → WritesSome job ts (contents first.drain.now) (contents after.drain.now)
@@ -312,13 +321,13 @@ module _ {G X D A : Type 0} (contents : D → Option (List ℕ)) (failed : D →
         (suits.lawful.kept reader'.grammar x (reading_of now' (bytes ++ part) false).tokens (o.quads ++ more) read'.reached) due')
 
     -- the lines of more quads were put
-    more_put : (mid : LineOut D A) → SameOut lines mid → Writable first.style more → Writes contents lines (bytes_of lines.style more) mid → failed mid.drain.now ≡ false →
+    more_put : (mid : LineOut D A) → SameOut lines mid → Writable first.form.style more → Writes contents lines (bytes_of lines.form more) mid → failed mid.drain.now ≡ false →
         HasPut contents failed w x reader' (bytes ++ part) first mid
     more_put mid s able m live = record {
       quads = o.quads ++ more;
       read = read';
       moves = from_first mid more mid.buffer.now.items m;
-      writable = both_writable first.style o.quads more o.writable able;
+      writable = both_writable first.form.style o.quads more o.writable able;
       same = same_out first lines mid o.same s;
       live = live;
     }
@@ -328,15 +337,21 @@ module _ {G X D A : Type 0} (contents : D → Option (List ℕ)) (failed : D →
   part_read part reader' mid f =
       let read' = f.read x bytes o.quads o.read in
       let put = taken contents failed f.more lines mid f.puts (styled_all (reading_of (now' part reader' f.limit f.more read') (bytes ++ part) false).tokens f.more (due' part reader' f.limit f.more read')) in
-      more_put part reader' f.limit f.more read' mid put.same (subst (λ y. Writable y f.more) o.same.style put.writable) put.writes (put.live o.live)
+      more_put part reader' f.limit f.more read' mid put.same (subst (λ (y : WrittenForm). Writable y.style f.more) o.same.form put.writable) put.writes (put.live o.live)
 
-  -- Some text was passed: it is the lines of quads in the style.
-  module _ (style : Style) (same_style : first.style ≡ style) (text : List ℕ) (reader' : Driven G) (p : PassesText w style reader text reader') where
+  -- Some text was passed: it is the plain lines of quads in the style.
+  module _ (style : Style) (same_style : first.form.style ≡ style) (are_plain : lines.form.escapes ≡ Plain) (text : List ℕ) (reader' : Driven G) (p : PassesText w style reader text reader') where
     passed' : HasRead w reader' x (bytes ++ text) (o.quads ++ p.given)
     passed' = p.read x bytes o.quads o.read
 
-    their_lines : text ≡ bytes_of lines.style p.given
-    their_lines = p.is ∙ ap (λ y. bytes_of y p.given) (sym same_style ∙ sym o.same.style)
+    -- the form of the lines is that of the text
+    same_form : plain style ≡ lines.form
+    same_form =
+        subst (λ s. plain s ≡ lines.form) (ap (λ (f : WrittenForm). f.style) o.same.form ∙ same_style)
+        (subst (λ e. record { style = lines.form.style; escapes = e } ≡ lines.form) are_plain refl)
+
+    their_lines : text ≡ bytes_of lines.form p.given
+    their_lines = p.is ∙ ap (λ f. lines_of f p.given) same_form
 
     -- it was put as it stands
     pub text_put : (after : LineOut D A) → SameOut lines after → Writes contents lines text after → failed after.drain.now ≡ false → HasPut contents failed w x reader' (bytes ++ text) first after
@@ -364,7 +379,7 @@ module _ {G X D A : Type 0} (contents : D → Option (List ℕ)) (failed : D →
           record {
             quads = o.quads;
             due = begins_less l ts o.quads p.given (begun' text reader' p.limit p.given passed');
-            written = moves_all (contents first.drain.now) (contents lines.drain.now) (contents after.drain.now) (lines_of first.style o.quads) lines.buffer.now.items o.moves h.1;
+            written = moves_all (contents first.drain.now) (contents lines.drain.now) (contents after.drain.now) (lines_of first.form o.quads) lines.buffer.now.items o.moves h.1;
           },
         )
         by told h = absurd h
@@ -377,7 +392,7 @@ module _ {G X D A : Type 0} (contents : D → Option (List ℕ)) (failed : D →
   handed after s t none live = record {
     quads = o.quads;
     read = o.read;
-    written = moves_all (contents first.drain.now) (contents lines.drain.now) (contents after.drain.now) (lines_of first.style o.quads) lines.buffer.now.items o.moves t;
+    written = moves_all (contents first.drain.now) (contents lines.drain.now) (contents after.drain.now) (lines_of first.form o.quads) lines.buffer.now.items o.moves t;
     writable = o.writable;
     none_waits = none;
     same = same_out first lines after o.same s;
@@ -389,7 +404,7 @@ module _ {G X D A : Type 0} (contents : D → Option (List ℕ)) (failed : D →
       Halts stream.Write bytes false after
   handing_broke after s t broke =
       let (rest, m) = front_moves (contents lines.drain.now) (contents after.drain.now) lines.buffer.now.items t in
-      let all = moves_on (contents first.drain.now) (contents lines.drain.now) (contents after.drain.now) (lines_of first.style o.quads) [] lines.buffer.now.items rest o.moves
+      let all = moves_on (contents first.drain.now) (contents lines.drain.now) (contents after.drain.now) (lines_of first.form o.quads) [] lines.buffer.now.items rest o.moves
       (subst (λ b. Moves (contents lines.drain.now) (contents after.drain.now) b rest) (sym (append-nil lines.buffer.now.items)) m) in
       let now = (reading_of l bytes false).tokens in
       record {
@@ -399,8 +414,8 @@ module _ {G X D A : Type 0} (contents : D → Option (List ℕ)) (failed : D →
           record {
             quads = o.quads;
             due = begins_all l now o.quads (suits.lawful.kept reader.grammar x now o.quads o.read.reached) (suits.lawful.due reader.grammar x now o.quads o.read.reached);
-            written = moves_front (contents first.drain.now) (contents after.drain.now) (lines_of first.style o.quads) rest
-                (subst (λ b. Moves (contents first.drain.now) (contents after.drain.now) b rest) (append-nil (lines_of first.style o.quads)) all);
+            written = moves_front (contents first.drain.now) (contents after.drain.now) (lines_of first.form o.quads) rest
+                (subst (λ b. Moves (contents first.drain.now) (contents after.drain.now) b rest) (append-nil (lines_of first.form o.quads)) all);
           },
         );
       }
@@ -415,6 +430,9 @@ module _ {G X D A : Type 0} (contents : D → Option (List ℕ)) (failed : D →
     all_put : Taken contents failed lines f.more mid
     all_put = taken contents failed f.more lines mid f.puts (styled_all (reading_of l bytes true).tokens f.more sums.due)
 
+    all_writable : Writable first.form.style (o.quads ++ f.more)
+    all_writable = both_writable first.form.style o.quads f.more o.writable (subst (λ (y : WrittenForm). Writable y.style f.more) o.same.form all_put.writable)
+
     -- the document was read and written
     pub end_read : (after : LineOut D A) → SameOut mid after → Appends (contents mid.drain.now) (contents after.drain.now) mid.buffer.now.items →
         SameOut first after × Accepts job bytes (contents first.drain.now) (contents after.drain.now) summary
@@ -425,8 +443,8 @@ module _ {G X D A : Type 0} (contents : D → Option (List ℕ)) (failed : D →
         document = sums.document;
         within = sums.whole;
         written = written_all mid after f.more all_put.writes t;
-        reads_back = λ limit h.
-            bytes_read_back first.style Plain (o.quads ++ f.more) limit (both_writable first.style o.quads f.more o.writable (subst (λ y. Writable y f.more) o.same.style all_put.writable)) h;
+        reads_back = λ limit h. bytes_read_back first.form.style first.form.escapes (o.quads ++ f.more) limit all_writable h;
+        ascii = written_ascii first.form (o.quads ++ f.more) all_writable;
         counts = record { quads = sums.given; tokens = sums.accepted; bytes = sums.taken };
       },
     )
@@ -441,6 +459,11 @@ module _ {G X D A : Type 0} (contents : D → Option (List ℕ)) (failed : D →
           halts = (broke, written_front after (reading_of l bytes true).tokens f.more rest (then_front mid after f.more rest all_put.writes m) all_begun);
         }
 
+-- the test answers that lines are plain
+pub plain_where : (e : Escapes) → is_plain e ≡ true → e ≡ Plain
+plain_where Plain t = refl
+plain_where Ascii t = absurd (false≢true t)
+
 -- what was handed over was put
 put_of : {G X D A : Type 0} (contents : D → Option (List ℕ)) (failed : D → Bool) (w : Words G X Quad) (x : X) (reader : Driven G) (bytes : List ℕ) (first lines : LineOut D A) →
     HandedOver contents failed w x reader bytes first lines → HasPut contents failed w x reader bytes first lines
@@ -448,8 +471,8 @@ put_of contents failed w x reader bytes first lines o = record {
   quads = o.quads;
   read = o.read;
   moves = record {
-    front = lines_of first.style o.quads;
-    whole = sym (ap (λ b. lines_of first.style o.quads ++ b) o.none_waits ∙ append-nil (lines_of first.style o.quads));
+    front = lines_of first.form o.quads;
+    whole = sym (ap (λ b. lines_of first.form o.quads ++ b) o.none_waits ∙ append-nil (lines_of first.form o.quads));
     taken = o.written;
   };
   writable = o.writable;
@@ -494,19 +517,19 @@ module _ {G X D A : Type 0} (contents : D → Option (List ℕ)) (failed : D →
 
   -- what halts by the limit of the reader halts by that of the run
   halted : (told : StreamFault) (b : List ℕ) (e : Bool) (after : LineOut D A) →
-      ((x : X) (s : Suits w x first.style) (o : HasPut contents failed w x old bytes first lines) → Halts contents failed w x old bytes first lines s o told b e after) → RunHalts contents failed w told reader first b e after
+      ((x : X) (s : Suits w x first.form.style) (o : HasPut contents failed w x old bytes first lines) → Halts contents failed w x old bytes first lines s o told b e after) → RunHalts contents failed w told reader first b e after
   halted told b e after h = record {
     begun = i.begun;
     same = (h i.begun.0 i.begun.1.starts.suits put_now).same;
     halts = λ x y.
-        subst (λ n. HaltsFor told (conversion w x n first.style) b e (contents first.drain.now) (contents after.drain.now) (failed after.drain.now)) i.limit (h x y.starts.suits (i.put x y)).halts;
+        subst (λ n. HaltsFor told (conversion w x n first.form) b e (contents first.drain.now) (contents after.drain.now) (failed after.drain.now)) i.limit (h x y.starts.suits (i.put x y)).halts;
   }
 
   -- what stays from the beginning of a run stays from any state that had it
   pub stays_on : (after : LineOut D A) → SameOut first after → (before : LineOut D A) → SameOut before lines → SameOut before after
   stays_on after h before s =
       let o = same_now in
-      record { style = h.style ∙ (sym o.style ∙ s.style); buffer = h.buffer ∙ (sym o.buffer ∙ s.buffer); drain = h.drain ∙ (sym o.drain ∙ s.drain) }
+      record { form = h.form ∙ (sym o.form ∙ s.form); buffer = h.buffer ∙ (sym o.buffer ∙ s.buffer); drain = h.drain ∙ (sym o.drain ∙ s.drain) }
 
   -- what waited was handed over
   pub run_handed : (after : LineOut D A) → SameOut lines after → Appends (contents lines.drain.now) (contents after.drain.now) lines.buffer.now.items → after.buffer.now.items ≡ [] →
@@ -540,19 +563,19 @@ module _ {G X D A : Type 0} (contents : D → Option (List ℕ)) (failed : D →
     run_halts n k new mid after why told h s t =
         halted told (bytes ++ part) false after (λ x y o. piece_halts contents failed w x old bytes first lines y o part n k new mid why after told h s t)
 
-    module _ (new : Driven G) (p : PassesText w style old part new) where
+    module _ (are_plain : lines.form.escapes ≡ Plain) (new : Driven G) (p : PassesText w style old part new) where
       -- some text was passed, and put as it stands
       pub run_passes : (after : LineOut D A) → SameOut lines after → Writes contents lines part after → failed after.drain.now ≡ false → IsPutting contents failed w style reader first (bytes ++ part) new after
       run_passes after s m live = record {
         begun = i.begun;
         styled = i.styled;
         limit = p.limit ∙ i.limit;
-        put = λ x y. text_put contents failed w x old bytes first lines y.starts.suits (i.put x y) style i.styled part new p after s m live;
+        put = λ x y. text_put contents failed w x old bytes first lines y.starts.suits (i.put x y) style i.styled are_plain part new p after s m live;
       }
 
       -- it was not put
       pub pass_halts : (told : StreamFault) (after : LineOut D A) → SameOut lines after → PutHalts contents failed told lines part after → RunHalts contents failed w told reader first (bytes ++ part) false after
-      pass_halts told after s h = halted told (bytes ++ part) false after (λ x y o. text_halts contents failed w x old bytes first lines y o style i.styled part new p told after s h)
+      pass_halts told after s h = halted told (bytes ++ part) false after (λ x y o. text_halts contents failed w x old bytes first lines y o style i.styled are_plain part new p told after s h)
 
   module _ (summary : Summary) (mid : LineOut D A) (f : Finishes w (Takes contents failed) old lines summary mid) where
     -- the document was read and written
@@ -562,7 +585,7 @@ module _ {G X D A : Type 0} (contents : D → Option (List ℕ)) (failed : D →
       same = (end_read contents failed w i.begun.0 old bytes first lines i.begun.1.starts.suits put_now summary mid f after s t).0;
       sent = sent;
       accepts = λ x y.
-          subst (λ n. Accepts (conversion w x n first.style) bytes (contents first.drain.now) (contents after.drain.now) summary) i.limit
+          subst (λ n. Accepts (conversion w x n first.form) bytes (contents first.drain.now) (contents after.drain.now) summary) i.limit
           (end_read contents failed w x old bytes first lines y.starts.suits (i.put x y) summary mid f after s t).1;
     }
 

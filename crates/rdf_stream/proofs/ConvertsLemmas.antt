@@ -12,7 +12,6 @@ use Rattle.rdf_driver.specs.declared.summary.Summary.{Summary}
 use Rattle.rdf_driver.specs.Readers.{Driven}
 use Rattle.rdf_driver.specs.Words.{Words, in_words}
 use Rattle.rdf_driver.proofs.PromiseLemmas.{read_goes_on}
-use Rattle.rdf_lines.specs.declared.form.Style.{Style}
 use Rattle.rdf_stream.specs.declared.fault.StreamFault.{StreamFault}
 use Rattle.rdf_stream.specs.declared.fault.StreamFault.TheVariants as stream
 use Rattle.rdf_stream.specs.declared.line_out.LineOut.{LineOut}
@@ -21,6 +20,7 @@ use Rattle.rdf_stream.specs.Converts.{Accepts, RefusesDocument, StopsFor, Writes
 use Rattle.rdf_stream.specs.Devices.{HasGiven, Reading}
 use Rattle.rdf_stream.specs.Faults.{IsOfDocument, IsRefusal}
 use Rattle.rdf_lines.specs.declared.form.LineForm.{LineForm}
+use Rattle.rdf_lines.specs.declared.form.Style.{Style}
 use Rattle.rdf_lines.specs.declared.form.Style.TheVariants.{Kept, Tagged}
 use Rattle.rdf_lines.specs.Accepting.{line_words}
 use Rattle.rdf_trig.specs.declared.form.DocForm.{DocForm}
@@ -28,8 +28,9 @@ use Rattle.rdf_trig.specs.Accepting.{tree_words}
 use Rattle.rdf_trig.specs.Language.{Chosen}
 use Rattle.rdf_stream.specs.declared.form.Kind.TheVariants.{Line, Tree}
 use Rattle.rdf_stream.specs.Jobs.{JobRead}
+use Rattle.rdf_stream.specs.declared.form.WrittenForm.{WrittenForm}
 use Rattle.rdf_stream.specs.Kinds.{kind_of}
-use Rattle.rdf_stream.specs.Languages.{Conversion, conversion, conversion_by, conversion_of, language_of, tree_job}
+use Rattle.rdf_stream.specs.Languages.{Conversion, conversion, conversion_by, conversion_of, language_of, tree_job, written_form}
 use Rattle.rdf_stream.specs.declared.form.Kind.{Kind}
 use Rattle.rdf_lines.specs.Machine.{Begin}
 use Rattle.rdf_lines.proofs.AcceptingLemmas.{lawful as lines_lawful}
@@ -63,7 +64,7 @@ halts_more contents failed w told reader first bytes more lines h = record {
   begun = h.begun;
   same = h.same;
   halts = λ x b.
-      halts_for_more told (conversion w x reader.scanner.limit first.style) (b.starts.suits.lawful.ends x) bytes more (contents first.drain.now) (contents lines.drain.now) (failed lines.drain.now) (h.halts x b);
+      halts_for_more told (conversion w x reader.scanner.limit first.form) (b.starts.suits.lawful.ends x) bytes more (contents first.drain.now) (contents lines.drain.now) (failed lines.drain.now) (h.halts x b);
 }
 
 -- a refusal is of the document
@@ -104,7 +105,7 @@ module _ {G X D : Type 0} (A : Type 0) (contents : D → Option (List ℕ)) (fai
   Ended s first bytes now = RunEnds contents failed flushed w s first.0 first.1 bytes now.1
 
   -- nothing was read or written
-  pub begins : (x : X) (first : R) → Begins failed w x first.0 first.1 → first.1.style ≡ style → Taken first [] first
+  pub begins : (x : X) (first : R) → Begins failed w x first.0 first.1 → first.1.form.style ≡ style → Taken first [] first
   begins x first b styled = record {
     begun = (x, b);
     styled = styled;
@@ -115,15 +116,15 @@ module _ {G X D : Type 0} (A : Type 0) (contents : D → Option (List ℕ)) (fai
       written = Appends-nil (contents first.1.drain.now);
       writable = tt;
       none_waits = b.none_waits;
-      same = record { style = refl; buffer = refl; drain = refl };
+      same = record { form = refl; buffer = refl; drain = refl };
       live = b.live;
     };
   }
 
-  module _ (x : X) (limit : ℕ) (asked_style : Style) (first now : R) (same_limit : first.0.scanner.limit ≡ limit) (same_style : first.1.style ≡ asked_style) (b : Begins failed w x first.0 first.1)
+  module _ (x : X) (limit : ℕ) (form : WrittenForm) (first now : R) (same_limit : first.0.scanner.limit ≡ limit) (same_form : first.1.form ≡ form) (b : Begins failed w x first.0 first.1)
       (known : Option (List ℕ)) (left : Reading) where
     abbrev job : Conversion
-    job = conversion w x limit asked_style
+    job = conversion w x limit form
 
     abbrev old : Option (List ℕ)
     old = contents first.1.drain.now
@@ -131,9 +132,9 @@ module _ {G X D : Type 0} (A : Type 0) (contents : D → Option (List ℕ)) (fai
     abbrev new : Option (List ℕ)
     new = contents now.1.drain.now
 
-    -- by the limit and the style that were asked for
-    asked : (P : ℕ → Style → Type 0) → P first.0.scanner.limit first.1.style → P limit asked_style
-    asked P h = subst (λ s. P limit s) same_style (subst (λ n. P n first.1.style) same_limit h)
+    -- by the limit and the form that were asked for
+    asked : (P : ℕ → WrittenForm → Type 0) → P first.0.scanner.limit first.1.form → P limit form
+    asked P h = subst (λ f. P limit f) same_form (subst (λ n. P n first.1.form) same_limit h)
 
     pub converted : (s : Summary) → ReadsAll Ended known left s first now → IfSome known (λ bytes. Accepts job bytes old new s)
     converted s h =
@@ -145,8 +146,8 @@ module _ {G X D : Type 0} (A : Type 0) (contents : D → Option (List ℕ)) (fai
         let o = h.is_taken.handed x b in
         let n = now.0.scanner.limit in
         let law = b.starts.suits.lawful in
-        let writes : WritesDue (conversion w x first.0.scanner.limit first.1.style) (reading_of (in_words w x first.0.scanner.limit) h.bytes false).tokens old new =
-        subst (λ k. WritesDue (conversion w x k first.1.style) (reading_of (in_words w x k) h.bytes false).tokens old new) h.is_taken.limit
+        let writes : WritesDue (conversion w x first.0.scanner.limit first.1.form) (reading_of (in_words w x first.0.scanner.limit) h.bytes false).tokens old new =
+        subst (λ k. WritesDue (conversion w x k first.1.form) (reading_of (in_words w x k) h.bytes false).tokens old new) h.is_taken.limit
         (record { quads = o.quads; due = law.due now.0.grammar x (reading_of (in_words w x n) h.bytes false).tokens o.quads o.read.reached; written = o.written }) in (
           h.broken,
           record {
@@ -169,25 +170,25 @@ module _ {G X D : Type 0} (A : Type 0) (contents : D → Option (List ℕ)) (fai
     pub refused_document : (told : StreamFault) → ReadStops Taken Halted told known left first now → IsRefusal told
     refused_document told h =
         ⊎_elim (λ p. subst IsRefusal (sym p.0) tt)
-        (λ p. halts_document told (conversion w x first.0.scanner.limit first.1.style) p.0.bytes left.has_ended old new (failed now.1.drain.now) (p.1.halts x b)) h
+        (λ p. halts_document told (conversion w x first.0.scanner.limit first.1.form) p.0.bytes left.has_ended old new (failed now.1.drain.now) (p.1.halts x b)) h
 
 -- ---- by the job
 
 -- what holds of a line format with these limits holds of the job that asks for them
-pub lines_job : (P : Conversion → Type 0) (job : JobRead) (form : LineForm) → kind_of job.form ≡ Line form → (iri : ℕ) → iri ≡ job.limits.iri → (n : ℕ) → n ≡ job.limits.token → (s : Style) → s ≡ Kept →
-    P (conversion line_words (record { form = form; iri = iri }) n s) → P (conversion_of job)
-lines_job P job form k iri i n l s e h =
+pub lines_job : (P : Conversion → Type 0) (job : JobRead) (form : LineForm) → kind_of job.form ≡ Line form → (iri : ℕ) → iri ≡ job.limits.iri → (n : ℕ) → n ≡ job.limits.token → (f : WrittenForm) → f ≡ written_form Kept job →
+    P (conversion line_words (record { form = form; iri = iri }) n f) → P (conversion_of job)
+lines_job P job form k iri i n l f e h =
     subst (λ y. P (conversion_by y job)) (sym k)
     (subst (λ y. P (conversion line_words (record { form = form; iri = job.limits.iri }) job.limits.token y)) e
-    (subst (λ m. P (conversion line_words (record { form = form; iri = job.limits.iri }) m s)) l (subst (λ m. P (conversion line_words (record { form = form; iri = m }) n s)) i h)))
+    (subst (λ m. P (conversion line_words (record { form = form; iri = job.limits.iri }) m f)) l (subst (λ m. P (conversion line_words (record { form = form; iri = m }) n f)) i h)))
 
 -- the same of Turtle and TriG
-pub trees_job : (P : Conversion → Type 0) (job : JobRead) (form : DocForm) → kind_of job.form ≡ Tree form → (x : Chosen) → x ≡ tree_job form job → (n : ℕ) → n ≡ x.start.limits.token → (s : Style) → s ≡ Tagged →
-    P (conversion tree_words x n s) → P (conversion_of job)
-trees_job P job form k x i n l s e h =
+pub trees_job : (P : Conversion → Type 0) (job : JobRead) (form : DocForm) → kind_of job.form ≡ Tree form → (x : Chosen) → x ≡ tree_job form job → (n : ℕ) → n ≡ x.start.limits.token → (f : WrittenForm) → f ≡ written_form Tagged job →
+    P (conversion tree_words x n f) → P (conversion_of job)
+trees_job P job form k x i n l f e h =
     subst (λ y. P (conversion_by y job)) (sym k)
     (subst (λ y. P (conversion tree_words (tree_job form job) job.limits.token y)) e
-    (subst (λ y. P (conversion tree_words y y.start.limits.token s)) i (subst (λ m. P (conversion tree_words x m s)) l h)))
+    (subst (λ y. P (conversion tree_words y y.start.limits.token f)) i (subst (λ m. P (conversion tree_words x m f)) l h)))
 
 -- before any token nothing is due
 none_due : (k : Kind) (job : JobRead) → Due (conversion_by k job).language.documents [] []

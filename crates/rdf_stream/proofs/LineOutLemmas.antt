@@ -10,9 +10,9 @@ use Rattle.std.specs.List.{AllByRecursion}
 use Rattle.rdf_terms.specs.Sinks as sink
 use Rattle.rdf_terms.specs.Sinks.{Attempts}
 use Rattle.rdf_terms.specs.Terms.{Quad}
-use Rattle.rdf_lines.specs.declared.form.Escapes.TheVariants.{Plain}
-use Rattle.rdf_lines.specs.declared.form.Style.{Style}
-use Rattle.rdf_lines.specs.Writing.{line, text, CanWrite, Writable}
+use Rattle.rdf_lines.specs.Writing.{CanWrite, Writable}
+use Rattle.rdf_stream.specs.declared.form.WrittenForm.{WrittenForm}
+use Rattle.rdf_stream.specs.WrittenForms.{line_in, text_in}
 use Rattle.rdf_stream.specs.Devices.{AppendsFront}
 use Rattle.rdf_stream.specs.LineOut.{Leaves, Moves, PutHalts, SameOut, Takes, Writes, line_bytes}
 use Rattle.rdf_stream.specs.declared.fault.StreamFault.{StreamFault}
@@ -53,16 +53,16 @@ pub moves_all : (a b c : Option (List ℕ)) (bytes rest : List ℕ) → Moves a 
 moves_all a b c bytes rest m t = subst (Appends a c) (sym m.whole) (Appends-trans a b c m.front rest m.taken t)
 
 -- the bytes of the quads' lines
-abbrev pub bytes_of : Style → List Quad → List ℕ
-bytes_of s qs = encode_utf8_all (text s Plain qs)
+abbrev pub bytes_of : WrittenForm → List Quad → List ℕ
+bytes_of f qs = encode_utf8_all (text_in f qs)
 
 -- the lines of two lists are those of the first and then the second
-pub bytes_of-append : (s : Style) (qs rs : List Quad) → bytes_of s (qs ++ rs) ≡ bytes_of s qs ++ bytes_of s rs
-bytes_of-append s qs rs = ap encode_utf8_all (flat_map-append (line s Plain) qs rs) ∙ encodes-append (text s Plain qs) (text s Plain rs)
+pub bytes_of-append : (f : WrittenForm) (qs rs : List Quad) → bytes_of f (qs ++ rs) ≡ bytes_of f qs ++ bytes_of f rs
+bytes_of-append f qs rs = ap encode_utf8_all (flat_map-append (line_in f) qs rs) ∙ encodes-append (text_in f qs) (text_in f rs)
 
--- the style and the place of the bytes stay the same over two steps
+-- the form and the place of the bytes stay the same over two steps
 pub same_out : {D A : Type 0} (a b c : LineOut D A) → SameOut a b → SameOut b c → SameOut a c
-same_out a b c p q = record { style = q.style ∙ p.style; buffer = q.buffer ∙ p.buffer; drain = q.drain ∙ p.drain }
+same_out a b c p q = record { form = q.form ∙ p.form; buffer = q.buffer ∙ p.buffer; drain = q.drain ∙ p.drain }
 
 module _ {D A : Type 0} (contents : D → Option (List ℕ)) (failed : D → Bool) where
   abbrev Puts : LineOut D A → List Quad → LineOut D A → Type 0
@@ -74,8 +74,8 @@ module _ {D A : Type 0} (contents : D → Option (List ℕ)) (failed : D → Boo
   -- puts of quads that the style can write
   pub record Taken (a : LineOut D A) (qs : List Quad) (b : LineOut D A) : Type 0 where
     pub same : SameOut a b
-    pub writable : Writable a.style qs
-    pub writes : Writes contents a (bytes_of a.style qs) b
+    pub writable : Writable a.form.style qs
+    pub writes : Writes contents a (bytes_of a.form qs) b
     pub live : failed a.drain.now ≡ false → failed b.drain.now ≡ false
 
   -- some bytes were written, and then others
@@ -84,22 +84,22 @@ module _ {D A : Type 0} (contents : D → Option (List ℕ)) (failed : D → Boo
       subst (λ l. Moves (contents a.drain.now) (contents c.drain.now) l c.buffer.now.items) (append_assoc a.buffer.now.items bs cs)
       (moves_on (contents a.drain.now) (contents b.drain.now) (contents c.drain.now) (a.buffer.now.items ++ bs) cs b.buffer.now.items c.buffer.now.items p q)
 
-  pub taken : (qs : List Quad) (a b : LineOut D A) → Puts a qs b → AllByRecursion (CanWrite a.style) qs → Taken a qs b
+  pub taken : (qs : List Quad) (a b : LineOut D A) → Puts a qs b → AllByRecursion (CanWrite a.form.style) qs → Taken a qs b
   taken [] a b h w = subst (Taken a []) (sym h) (record {
-    same = record { style = refl; buffer = refl; drain = refl };
+    same = record { form = refl; buffer = refl; drain = refl };
     writable = tt;
     writes = waits_same (contents a.drain.now) a.buffer.now.items a.buffer.now.items refl;
     live = λ l. l;
   })
   taken (q ∷ qs) a b h w =
       let (next, t, rest) = h in
-      let r = taken qs next b rest (subst (λ s. AllByRecursion (CanWrite s) qs) (sym t.same.style) w.1) in
-      let more = subst (λ s. Writes contents next (bytes_of s qs) b) t.same.style r.writes in
+      let r = taken qs next b rest (subst (λ (f : WrittenForm). AllByRecursion (CanWrite f.style) qs) (sym t.same.form) w.1) in
+      let more = subst (λ f. Writes contents next (bytes_of f qs) b) t.same.form r.writes in
       record {
         same = same_out a next b t.same r.same;
-        writable = ((quad_had q t.formed, w.0), subst (λ s. Writable s qs) t.same.style r.writable);
-        writes = subst (λ l. Writes contents a l b) (sym (encodes-append (line a.style Plain q) (text a.style Plain qs)))
-            (writes_on a next b (line_bytes a.style q) (bytes_of a.style qs) t.writes more);
+        writable = ((quad_had q t.formed, w.0), subst (λ (f : WrittenForm). Writable f.style qs) t.same.form r.writable);
+        writes = subst (λ l. Writes contents a l b) (sym (encodes-append (line_in a.form q) (text_in a.form qs)))
+            (writes_on a next b (line_bytes a.form q) (bytes_of a.form qs) t.writes more);
         live = λ l. r.live t.live;
       }
 
@@ -107,13 +107,13 @@ module _ {D A : Type 0} (contents : D → Option (List ℕ)) (failed : D → Boo
   pub record Tried (a : LineOut D A) (qs : List Quad) (b : LineOut D A) : Type 0 where
     pub same : SameOut a b
     pub rest : List ℕ
-    pub moves : Moves (contents a.drain.now) (contents b.drain.now) (a.buffer.now.items ++ bytes_of a.style qs) rest
+    pub moves : Moves (contents a.drain.now) (contents b.drain.now) (a.buffer.now.items ++ bytes_of a.form qs) rest
     -- where the drain has not failed, the lines of some of the quads were written
-    pub whole : failed b.drain.now ≡ false → (done later : List Quad) × (qs ≡ done ++ later) × Writes contents a (bytes_of a.style done) b
+    pub whole : failed b.drain.now ≡ false → (done later : List Quad) × (qs ≡ done ++ later) × Writes contents a (bytes_of a.form done) b
 
   pub tried : (qs : List Quad) (a b : LineOut D A) → Tries a qs b → Tried a qs b
   tried [] a b h = subst (Tried a []) (sym h) (record {
-    same = record { style = refl; buffer = refl; drain = refl };
+    same = record { form = refl; buffer = refl; drain = refl };
     rest = a.buffer.now.items;
     moves = waits_same (contents a.drain.now) a.buffer.now.items a.buffer.now.items refl;
     whole = λ l. ([], [], refl, waits_same (contents a.drain.now) a.buffer.now.items a.buffer.now.items refl);
@@ -125,7 +125,7 @@ module _ {D A : Type 0} (contents : D → Option (List ℕ)) (failed : D → Boo
         same = p.1.same;
         rest = p.1.rest;
         moves = subst (λ l. Moves (contents a.drain.now) (contents b.drain.now) (a.buffer.now.items ++ l) p.1.rest)
-            (ap encode_utf8_all (sym (append-nil (line a.style Plain q))) ∙ ap (λ rs. bytes_of a.style (q ∷ rs)) (sym p.0)) p.1.moves;
+            (ap encode_utf8_all (sym (append-nil (line_in a.form q))) ∙ ap (λ rs. bytes_of a.form (q ∷ rs)) (sym p.0)) p.1.moves;
         whole = λ l. ([], q ∷ qs, refl, p.1.live l);
       }
 
@@ -134,21 +134,21 @@ module _ {D A : Type 0} (contents : D → Option (List ℕ)) (failed : D → Boo
           let (next, t, tries) = p in
           let r = behind next tries in
           let first = t.writes in
-          let join = encodes-append (line a.style Plain q) (text a.style Plain qs) in
+          let join = encodes-append (line_in a.form q) (text_in a.form qs) in
           record {
             same = same_out a next b t.same r.same;
             rest = r.rest;
             moves = subst (λ l. Moves (contents a.drain.now) (contents b.drain.now) l r.rest)
-                (append_assoc a.buffer.now.items (line_bytes a.style q) (bytes_of a.style qs) ∙ ap (λ l. a.buffer.now.items ++ l) (sym join))
-                (moves_on (contents a.drain.now) (contents next.drain.now) (contents b.drain.now) (a.buffer.now.items ++ line_bytes a.style q) (bytes_of a.style qs) next.buffer.now.items r.rest first
-                (subst (λ s. Moves (contents next.drain.now) (contents b.drain.now) (next.buffer.now.items ++ bytes_of s qs) r.rest) t.same.style r.moves));
+                (append_assoc a.buffer.now.items (line_bytes a.form q) (bytes_of a.form qs) ∙ ap (λ l. a.buffer.now.items ++ l) (sym join))
+                (moves_on (contents a.drain.now) (contents next.drain.now) (contents b.drain.now) (a.buffer.now.items ++ line_bytes a.form q) (bytes_of a.form qs) next.buffer.now.items r.rest first
+                (subst (λ f. Moves (contents next.drain.now) (contents b.drain.now) (next.buffer.now.items ++ bytes_of f qs) r.rest) t.same.form r.moves));
             whole = λ l.
                 let (done, later, split, writes) = r.whole l in (
                   q ∷ done,
                   later,
                   ap (λ rs. q ∷ rs) split,
-                  subst (λ l. Writes contents a l b) (sym (encodes-append (line a.style Plain q) (text a.style Plain done)))
-                      (writes_on a next b (line_bytes a.style q) (bytes_of a.style done) first (subst (λ s. Writes contents next (bytes_of s done) b) t.same.style writes)),
+                  subst (λ l. Writes contents a l b) (sym (encodes-append (line_in a.form q) (text_in a.form done)))
+                      (writes_on a next b (line_bytes a.form q) (bytes_of a.form done) first (subst (λ s. Writes contents next (bytes_of s done) b) t.same.form writes)),
                 );
           }
 

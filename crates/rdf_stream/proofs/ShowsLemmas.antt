@@ -301,7 +301,7 @@ none_shown contents failed job lines v s r o d l none live q n b =
         given = n;
         taken = b;
         moves = record { front = []; whole = sym none; taken = Appends-nil (contents lines.drain.now) };
-        same = record { style = refl; buffer = refl; drain = refl };
+        same = record { form = refl; buffer = refl; drain = refl };
         live = live;
       };
       more = o;

@@ -33,7 +33,7 @@ pub record Starts {G X : Type 0} (w : Words G X Quad) (x : X) (reader : Driven G
 
 -- The same, and no line waits.
 pub record Begins {G X D A : Type 0} (failed : D → Bool) (w : Words G X Quad) (x : X) (reader : Driven G) (lines : LineOut D A) : Type 0 where
-  pub starts : Starts w x reader lines.style
+  pub starts : Starts w x reader lines.form.style
   pub none_waits : lines.buffer.now.items ≡ []
   pub live : failed lines.drain.now ≡ false
 
@@ -41,8 +41,8 @@ pub record Begins {G X D A : Type 0} (failed : D → Bool) (w : Words G X Quad) 
 pub record HandedOver {G X D A : Type 0} (contents : D → Option (List ℕ)) (failed : D → Bool) (w : Words G X Quad) (x : X) (reader : Driven G) (bytes : List ℕ) (first lines : LineOut D A) : Type 0 where
   pub quads : List Quad
   pub read : HasRead w reader x bytes quads
-  pub written : Appends (contents first.drain.now) (contents lines.drain.now) (lines_of first.style quads)
-  pub writable : Writable first.style quads
+  pub written : Appends (contents first.drain.now) (contents lines.drain.now) (lines_of first.form quads)
+  pub writable : Writable first.form.style quads
   pub none_waits : lines.buffer.now.items ≡ []
   pub same : SameOut first lines
   pub live : failed lines.drain.now ≡ false
@@ -51,22 +51,22 @@ pub record HandedOver {G X D A : Type 0} (contents : D → Option (List ℕ)) (f
 pub record HasPut {G X D A : Type 0} (contents : D → Option (List ℕ)) (failed : D → Bool) (w : Words G X Quad) (x : X) (reader : Driven G) (bytes : List ℕ) (first lines : LineOut D A) : Type 0 where
   pub quads : List Quad
   pub read : HasRead w reader x bytes quads
-  pub moves : Moves (contents first.drain.now) (contents lines.drain.now) (lines_of first.style quads) lines.buffer.now.items
-  pub writable : Writable first.style quads
+  pub moves : Moves (contents first.drain.now) (contents lines.drain.now) (lines_of first.form quads) lines.buffer.now.items
+  pub writable : Writable first.form.style quads
   pub same : SameOut first lines
   pub live : failed lines.drain.now ≡ false
 
 -- Since the run began, with lines in this style, these bytes were read, and all lines that are due of them were put.
 pub record IsPutting {G X D A : Type 0} (contents : D → Option (List ℕ)) (failed : D → Bool) (w : Words G X Quad) (style : Style) (reader : Driven G) (first : LineOut D A) (bytes : List ℕ) (now : Driven G) (lines : LineOut D A) : Type 0 where
   pub begun : (x : X) × Begins failed w x reader first
-  pub styled : first.style ≡ style
+  pub styled : first.form.style ≡ style
   pub limit : now.scanner.limit ≡ reader.scanner.limit
   pub put : (x : X) → Begins failed w x reader first → HasPut contents failed w x now bytes first lines
 
 -- The same, and they were all handed over.
 pub record IsConverting {G X D A : Type 0} (contents : D → Option (List ℕ)) (failed : D → Bool) (w : Words G X Quad) (style : Style) (reader : Driven G) (first : LineOut D A) (bytes : List ℕ) (now : Driven G) (lines : LineOut D A) : Type 0 where
   pub begun : (x : X) × Begins failed w x reader first
-  pub styled : first.style ≡ style
+  pub styled : first.form.style ≡ style
   pub limit : now.scanner.limit ≡ reader.scanner.limit
   pub handed : (x : X) → Begins failed w x reader first → HandedOver contents failed w x now bytes first lines
 
@@ -82,14 +82,14 @@ pub record RunHalts {G X D A : Type 0} (contents : D → Option (List ℕ)) (fai
   pub begun : (x : X) × Begins failed w x reader first
   pub same : SameOut first lines
   pub halts : (x : X) → Begins failed w x reader first →
-      HaltsFor told (conversion w x reader.scanner.limit first.style) bytes is_end (contents first.drain.now) (contents lines.drain.now) (failed lines.drain.now)
+      HaltsFor told (conversion w x reader.scanner.limit first.form) bytes is_end (contents first.drain.now) (contents lines.drain.now) (failed lines.drain.now)
 
 -- Since the run began these bytes came, they are all that there are, and were converted.
 pub record RunEnds {G X D A : Type 0} (contents : D → Option (List ℕ)) (failed flushed : D → Bool) (w : Words G X Quad) (summary : Summary) (reader : Driven G) (first : LineOut D A) (bytes : List ℕ) (lines : LineOut D A) : Type 0 where
   pub same : SameOut first lines
   pub sent : flushed lines.drain.now ≡ true
   pub accepts : (x : X) → Begins failed w x reader first →
-      Accepts (conversion w x reader.scanner.limit first.style) bytes (contents first.drain.now) (contents lines.drain.now) summary
+      Accepts (conversion w x reader.scanner.limit first.form) bytes (contents first.drain.now) (contents lines.drain.now) summary
 
 -- The drain has failed: before, and is as it was, or while it took what waited.
 pub record TellsWrite {D A : Type 0} (contents : D → Option (List ℕ)) (failed : D → Bool) (before after : LineOut D A) : Type 0 where

@@ -1,6 +1,7 @@
 -- What a conversion writes, and why it stops.
-use Rattle.std.specs.Prelude.{◌≡◌, ℕ, ◌+◌, ◌≤◌, Bool, true, false, List, length, Option, IfSome, encode_utf8_all}
+use Rattle.std.specs.Prelude.{◌≡◌, ℕ, ◌+◌, ◌≤◌, ◌<◌, Bool, true, false, List, length, Option, IfSome, encode_utf8_all}
 use Rattle.std.specs.Io.KnownBytes.{Appends, Consumes}
+use Rattle.std.specs.List.{AllByRecursion}
 use Rattle.rdf_terms.specs.declared.reason.Reason.{Reason}
 use Rattle.rdf_terms.specs.declared.reason.Reason.TheVariants.{DocumentTooLong}
 use Rattle.rdf_terms.specs.Terms.{Quad}
@@ -8,18 +9,22 @@ use Rattle.rdf_tokens.specs.Tokens.{Place, Token}
 use Rattle.rdf_tokens.specs.Scans.{place_of}
 use Rattle.rdf_tokens.specs.Grammars.{BeginsDue, Due, GoesOn, IsDocumentOf, IsTooLong, IsWhole, Language, RefusedIn, reading_of}
 use Rattle.rdf_driver.specs.declared.summary.Summary.{Summary}
-use Rattle.rdf_lines.specs.declared.form.Escapes.TheVariants.{Plain}
-use Rattle.rdf_lines.specs.declared.form.Style.{Style}
-use Rattle.rdf_lines.specs.Laws.{ReadsBack}
-use Rattle.rdf_lines.specs.Writing.{text}
+use Rattle.rdf_lines.specs.declared.form.Escapes.TheVariants.{Ascii}
+use Rattle.rdf_lines.specs.Writing.{HasAsciiLabels}
 use Rattle.rdf_stream.specs.declared.fault.StreamFault.{StreamFault}
 use Rattle.rdf_stream.specs.declared.fault.StreamFault.TheVariants.{Refused, Read, Write, Memory}
 use Rattle.rdf_stream.specs.Devices.{AppendsFront, HasBroken, HasGiven, Reading}
 use Rattle.rdf_stream.specs.Languages.{Conversion}
+use Rattle.rdf_stream.specs.declared.form.WrittenForm.{WrittenForm}
+use Rattle.rdf_stream.specs.WrittenForms.{ReadsBackIn, text_in}
 
 -- the bytes of the quads' lines
-abbrev pub lines_of : Style → List Quad → List ℕ
-lines_of style qs = encode_utf8_all (text style Plain qs)
+abbrev pub lines_of : WrittenForm → List Quad → List ℕ
+lines_of f qs = encode_utf8_all (text_in f qs)
+
+-- In ASCII each byte of the lines is below 128, where each label has such characters alone.
+abbrev pub IsAscii : WrittenForm → List Quad → Type 0
+IsAscii f qs = f.escapes ≡ Ascii → AllByRecursion HasAsciiLabels qs → AllByRecursion (λ b. b < 128) (lines_of f qs)
 
 -- the numbers of quads, of tokens without the end, and of bytes
 pub record Counts (language : Language) (input : List ℕ) (qs : List Quad) (s : Summary) : Type 0 where
@@ -32,8 +37,9 @@ pub record Accepts (job : Conversion) (bytes : List ℕ) (old new : Option (List
   pub quads : List Quad
   pub document : IsDocumentOf job.language bytes quads
   pub within : IsWhole job.language bytes
-  pub written : Appends old new (lines_of job.style quads)
-  pub reads_back : (limit : ℕ) → length (text job.style Plain quads) ≤ limit → ReadsBack job.style Plain quads limit
+  pub written : Appends old new (lines_of job.form quads)
+  pub reads_back : (limit : ℕ) → length (text_in job.form quads) ≤ limit → ReadsBackIn job.form quads limit
+  pub ascii : IsAscii job.form quads
   pub counts : Counts job.language bytes quads s
 
 -- the same, whatever was counted
@@ -44,19 +50,19 @@ IsConverted job bytes old new = (s : Summary) × Accepts job bytes old new s
 pub record WritesDue (job : Conversion) (ahead : List Token) (old new : Option (List ℕ)) : Type 0 where
   pub quads : List Quad
   pub due : Due job.language.documents ahead quads
-  pub written : Appends old new (lines_of job.style quads)
+  pub written : Appends old new (lines_of job.form quads)
 
 -- whole lines were written, of the first of the quads that are due in the front of these tokens
 pub record WritesSome (job : Conversion) (tokens : List Token) (old new : Option (List ℕ)) : Type 0 where
   pub quads : List Quad
   pub due : BeginsDue job.language.documents job.language.passes tokens quads
-  pub written : Appends old new (lines_of job.style quads)
+  pub written : Appends old new (lines_of job.form quads)
 
 -- a beginning of the lines of the quads that are due in the front of these tokens was written
 pub record WritesFront (job : Conversion) (tokens : List Token) (old new : Option (List ℕ)) : Type 0 where
   pub quads : List Quad
   pub due : BeginsDue job.language.documents job.language.passes tokens quads
-  pub written : AppendsFront old new (lines_of job.style quads)
+  pub written : AppendsFront old new (lines_of job.form quads)
 
 -- The bytes are refused at the place, so they are no document within the limits, and the lines of the quads that are due before it were written; or there are too many bytes.
 abbrev pub RefusesDocument : Reason → Conversion → List ℕ → Bool → Place → Option (List ℕ) → Option (List ℕ) → Type 0

@@ -12,15 +12,20 @@ use Rattle.rdf_stream.specs.declared.form.Kind.{Kind}
 use Rattle.rdf_stream.specs.declared.form.Kind.TheVariants.{Line, Tree}
 use Rattle.rdf_stream.specs.Kinds.{kind_of}
 use Rattle.rdf_stream.specs.Jobs.{JobRead}
+use Rattle.rdf_stream.specs.declared.form.WrittenForm.{WrittenForm}
 
 -- what is read, and how its quads are written
 pub record Conversion : Type 1 where
   pub language : Language
-  pub style : Style
+  pub form : WrittenForm
 
 -- the conversion of what a grammar reads from this start on, with this limit on its tokens
-abbrev pub conversion : {G X : Type 0} → Words G X Quad → X → ℕ → Style → Conversion
-conversion w x limit style = record { language = in_words w x limit; style = style }
+abbrev pub conversion : {G X : Type 0} → Words G X Quad → X → ℕ → WrittenForm → Conversion
+conversion w x limit form = record { language = in_words w x limit; form = form }
+
+-- what a job asks of the lines, with blank nodes named in a style
+abbrev pub written_form : Style → JobRead → WrittenForm
+written_form style job = record { style = style; escapes = job.escapes }
 
 -- the base and the bindings of the job are in force before the first token
 abbrev pub tree_job : DocForm → JobRead → Chosen
@@ -28,10 +33,10 @@ tree_job form job = record { form = form; start = record { base = job.base; bind
 
 -- The line formats have no relative references and no prefixes, and so no base and no bindings. Their labels are kept, those of the others are renamed.
 abbrev pub conversion_by : Kind → JobRead → Conversion
-conversion_by (Line form) job = record { language = in_lines form job.limits.token job.limits.iri; style = Kept }
-conversion_by (Tree form) job = record { language = language form (tree_job form job).start; style = Tagged }
+conversion_by (Line form) job = record { language = in_lines form job.limits.token job.limits.iri; form = written_form Kept job }
+conversion_by (Tree form) job = record { language = language form (tree_job form job).start; form = written_form Tagged job }
 
--- what a job asks of `convert`, by its format, its base and its limits
+-- what a job asks of `convert`
 abbrev pub conversion_of : JobRead → Conversion
 conversion_of job = conversion_by (kind_of job.form) job
 

@@ -4,6 +4,7 @@ pub mod Messages
 pub mod Jobs
 pub mod Kinds
 pub mod Languages
+pub mod WrittenForms
 pub mod Converts
 pub mod Faults
 pub mod Checks

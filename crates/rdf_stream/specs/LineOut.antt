@@ -2,9 +2,8 @@
 use Rattle.std.specs.Prelude.{◌≡◌, ◌<◌, ℕ, Bool, true, false, List, [], ◌++◌, length, Option, encode_utf8_all}
 use Rattle.std.specs.Io.KnownBytes.{Appends}
 use Rattle.rdf_terms.specs.Terms.{Quad, IsQuad}
-use Rattle.rdf_lines.specs.declared.form.Escapes.TheVariants.{Plain}
-use Rattle.rdf_lines.specs.declared.form.Style.{Style}
-use Rattle.rdf_lines.specs.Writing.{line}
+use Rattle.rdf_stream.specs.declared.form.WrittenForm.{WrittenForm}
+use Rattle.rdf_stream.specs.WrittenForms.{line_in}
 use Rattle.rdf_stream.specs.declared.fault.StreamFault.{StreamFault}
 use Rattle.rdf_stream.specs.declared.fault.StreamFault.TheVariants as fault
 use Rattle.rdf_stream.specs.declared.line_out.LineOut.{LineOut}
@@ -19,9 +18,9 @@ pub record Moves (before after : Option (List ℕ)) (bytes rest : List ℕ) : Ty
   pub whole : bytes ≡ front ++ rest
   pub taken : Appends before after front
 
--- the style stays, and where the bytes go
+-- the form stays, and where the bytes go
 pub record SameOut {D A : Type 0} (before after : LineOut D A) : Type 0 where
-  pub style : after.style ≡ before.style
+  pub form : after.form ≡ before.form
   pub buffer : after.buffer.ghost_name ≡ before.buffer.ghost_name
   pub drain : after.drain.ghost_name ≡ before.drain.ghost_name
 
@@ -30,14 +29,14 @@ abbrev pub Writes : {D A : Type 0} → (D → Option (List ℕ)) → LineOut D A
 Writes contents before bytes after = Moves (contents before.drain.now) (contents after.drain.now) (before.buffer.now.items ++ bytes) after.buffer.now.items
 
 -- the bytes of the quad's line
-abbrev pub line_bytes : Style → Quad → List ℕ
-line_bytes style q = encode_utf8_all (line style Plain q)
+abbrev pub line_bytes : WrittenForm → Quad → List ℕ
+line_bytes f q = encode_utf8_all (line_in f q)
 
 -- What a put of a quad does: its line is written behind the others. The quad's type says that it is well formed.
 pub record Takes {D A : Type 0} (contents : D → Option (List ℕ)) (failed : D → Bool) (before : LineOut D A) (q : Quad) (after : LineOut D A) : Type 0 where
   pub same : SameOut before after
   pub formed : ∥ IsQuad q ∥₁
-  pub writes : Writes contents before (line_bytes before.style q) after
+  pub writes : Writes contents before (line_bytes before.form q) after
   pub few : length before.buffer.now.items < most_waiting → length after.buffer.now.items < most_waiting
   pub live : failed after.drain.now ≡ false
 
@@ -45,7 +44,7 @@ pub record Takes {D A : Type 0} (contents : D → Option (List ℕ)) (failed : D
 pub record Leaves {D A : Type 0} (contents : D → Option (List ℕ)) (failed : D → Bool) (before : LineOut D A) (q : Quad) (after : LineOut D A) : Type 0 where
   pub same : SameOut before after
   pub rest : List ℕ
-  pub moves : Moves (contents before.drain.now) (contents after.drain.now) (before.buffer.now.items ++ line_bytes before.style q) rest
+  pub moves : Moves (contents before.drain.now) (contents after.drain.now) (before.buffer.now.items ++ line_bytes before.form q) rest
   pub live : failed after.drain.now ≡ false → Writes contents before [] after
 
 -- What is told of bytes that were not put, once all that waited was handed over: nothing of them was written, or where the drain failed, a beginning of

@@ -21,7 +21,8 @@ use rdf_lines::{Style, line_reader};
 use rdf_trig::tree_reader;
 use std::alloc::Allocator;
 
-/// Reads a document of the job's format from the source, writes the lines of its quads to the drain, and flushes it.
+/// Reads a document of the job's format from the source, writes the lines of its quads to the drain with the job's
+/// escapes, and flushes it.
 ///
 /// Before it asks the source for more, all lines that are due of the bytes so far have been handed to the drain, and so
 /// they have before a refusal or a failed read is reported.
@@ -45,13 +46,15 @@ pub fn convert<A: Allocator + Copy, S: Source, D: Drain>(
     let mut buffer = Vec::new(alloc);
     match job.form().kind() {
         Kind::Line(form) => {
+            let written = job.written_form(Style::Kept);
             let reader = line_reader(alloc, form, job.limits());
-            let mut lines = LineOut::new(Style::Kept, &mut buffer, drain);
+            let mut lines = LineOut::new(written, &mut buffer, drain);
             convert_with(reader, source, piece.as_mut_slice(), &mut lines)
         }
         Kind::Tree(form) => {
+            let written = job.written_form(Style::Tagged);
             let reader = tree_reader(alloc, job.options(form));
-            let mut lines = LineOut::new(Style::Tagged, &mut buffer, drain);
+            let mut lines = LineOut::new(written, &mut buffer, drain);
             convert_with(reader, source, piece.as_mut_slice(), &mut lines)
         }
     }
@@ -64,17 +67,17 @@ fn convert_with<A: Allocator + Copy, G: Passes<A>, S: Source, D: Drain>(
     lines: &mut LineOut<'_, D, A>,
 ) -> Result<Summary, StreamFault>
     requires begins { (x : G.Setting) × Begins D.has_failed G.words x reader lines.old }
-    requires styled { lines.old.style ≡ G.style }
+    requires styled { lines.old.form.style ≡ G.style }
     requires more { S.has_ended source.old ≡ false }
     requires source { S.has_failed source.old ≡ false }
     requires room { 0 < length piece.old }
     ensures accepted { IfOk result (λ summary. (x : G.Setting) → Begins D.has_failed G.words x reader lines.old → IfSome (S.remaining source.old) (λ bytes.
-        Accepts (conversion G.words x reader.scanner.limit lines.old.style) bytes (D.contents lines.old.drain.now) (D.contents lines.new.drain.now) summary)) }
+        Accepts (conversion G.words x reader.scanner.limit lines.old.form) bytes (D.contents lines.old.drain.now) (D.contents lines.new.drain.now) summary)) }
     ensures ended { OnOk result (S.has_ended source.new ≡ true) }
     ensures flushed { OnOk result (D.is_flushed lines.new.drain.now ≡ true) }
     ensures same { SameOut lines.old lines.new }
     ensures stops { IfErr result (λ told. (x : G.Setting) → Begins D.has_failed G.words x reader lines.old →
-        StopsFor told (conversion G.words x reader.scanner.limit lines.old.style) (S.remaining source.old) (reading S.remaining S.has_ended S.has_failed source.new)
+        StopsFor told (conversion G.words x reader.scanner.limit lines.old.form) (S.remaining source.old) (reading S.remaining S.has_ended S.has_failed source.new)
         (D.contents lines.old.drain.now) (D.contents lines.new.drain.now) (D.has_failed lines.new.drain.now)) }
     ensures refused { IfErr result IsRefusal }
 {
@@ -127,12 +130,15 @@ impl<'a, A: Allocator + Copy, G: Passes<A>, D: Drain> Parts<LineOut<'a, D, A>> f
         G::part_len(bytes, least)
     }
 
-    // Passes lines, and puts them as they stand.
+    // Passes lines, and puts them as they stand, where they are written so.
     fn pass_front(
         &mut self,
         text: &str,
         lines: &mut LineOut<'a, D, A>,
     ) -> Result<usize, StreamFault> {
+        if !lines.is_plain() {
+            return Ok(0);
+        }
         let passed = G::pass(self, text);
         match lines.append(&text.as_bytes()[..passed]) {
             Ok(()) => Ok(passed),

@@ -4,23 +4,25 @@ ghost use Rattle.std.specs.Prelude.{◌≡◌, ◌↔◌, None, [], Decides, IfS
 ghost use Rattle.rdf_iri.specs.Scope.{BaseFits};
 ghost use Rattle.rdf_iri.specs.Texts.{byte_len};
 ghost use Rattle.rdf_stream.specs.Jobs.{JobRead};
-ghost use Rattle.rdf_stream.specs.Languages.{tree_job};
+ghost use Rattle.rdf_stream.specs.Languages.{tree_job, written_form};
 
-use crate::form::Form;
+use crate::form::{Form, WrittenForm};
 use rdf_iri::{Bindings, Limits};
+use rdf_lines::{Escapes, Style};
 use rdf_terms::Iri;
 use rdf_trig::{DocForm, Options};
 use std::alloc::{Allocator, Global};
 use std::marker::Model;
 
 /// The format of a document, the base that its references are resolved against first, the prefixes that are bound before
-/// it, and the limits. The line formats have no relative references and no prefixes, so they do not look at base and
-/// bindings.
+/// it, the escapes of what is written for it, and the limits. The line formats have no relative references and no
+/// prefixes, so they do not look at base and bindings.
 #[derive(Drop)]
 pub struct Job<A: Allocator = Global> {
     form: Form,
     base: Option<Iri<A>>,
     bindings: Option<Bindings<A>>,
+    escapes: Escapes,
     limits: Limits,
 }
 
@@ -32,15 +34,15 @@ impl<A: Allocator> Model for Job<A> {
 
     ghost Value = { JobRead };
 
-    ghost view = { λ j. record { form = j.form; base = j.base; bindings = handed_in j.bindings; limits = j.limits } };
+    ghost view = { λ j. record { form = j.form; base = j.base; bindings = handed_in j.bindings; escapes = j.escapes; limits = j.limits } };
 
     ghost invariant = { λ j. BaseFits j.base j.limits × IfSome j.bindings (λ b. b.limits ≡ j.limits) };
 }
 
 impl<A: Allocator> Job<A> {
-    /// A job without bindings, or None where the base has more bytes than the limits allow for an IRI. It takes no memory.
+    /// A job without bindings and in plain lines, or None where the base has more bytes than the limits allow for an IRI. It takes no memory.
     pub fn new(form: Form, base: Option<Iri<A>>, limits: Limits) -> Option<Job<A>>
-        ensures made { IfSome result (λ job. job ≡ record { form = form; base = base; bindings = []; limits = limits }) }
+        ensures made { IfSome result (λ job. job ≡ record { form = form; base = base; bindings = []; escapes = Escapes.Plain; limits = limits }) }
         ensures none { (result ≡ None) ↔ ¬ BaseFits base limits }
     {
         if !fits(&base, limits) {
@@ -50,6 +52,7 @@ impl<A: Allocator> Job<A> {
             form,
             base,
             bindings: None,
+            escapes: Escapes::Plain,
             limits,
         })
     }
@@ -62,6 +65,7 @@ impl<A: Allocator> Job<A> {
         let Job {
             form,
             base,
+            escapes,
             limits,
             ..
         } = self;
@@ -69,8 +73,18 @@ impl<A: Allocator> Job<A> {
             form,
             base,
             bindings: Some(bindings),
+            escapes,
             limits,
         }
+    }
+
+    /// The same, with the characters above U+007F written so, in place of how they were. It takes no memory.
+    pub fn with_escapes(self, escapes: Escapes) -> Job<A>
+        ensures { result ≡ record self { escapes = escapes } }
+    {
+        let mut job = self;
+        job.escapes = escapes;
+        job
     }
 
     /// The document's format.
@@ -78,6 +92,16 @@ impl<A: Allocator> Job<A> {
         ensures { result ≡ self.now.form }
     {
         self.form
+    }
+
+    /// What is asked of the lines, with blank nodes named in a style.
+    pub(crate) fn written_form(&self, style: Style) -> WrittenForm
+        ensures { result ≡ written_form style self.now }
+    {
+        WrittenForm {
+            style,
+            escapes: self.escapes,
+        }
     }
 
     /// The limits.

@@ -8,13 +8,15 @@ ghost use Rattle.rdf_tokens.specs.Scans.{token_of};
 ghost use Rattle.rdf_stream.specs.LineOut.{Leaves, PutHalts, SameOut, Takes, Writes, most_waiting};
 ghost use Rattle.rdf_stream.specs.ShowParts.{LeavesToken};
 ghost use Rattle.rdf_stream.specs.Shows.{token_line};
+ghost use Rattle.rdf_stream.specs.WrittenForms.{is_plain};
 
 use crate::devices::{Drain, Failed};
 use crate::fault::StreamFault;
+use crate::form::WrittenForm;
 use crate::put::put_all;
 use crate::token_line::put_token_line;
 use crate::views::see_quad;
-use rdf_lines::{Escapes, LabelFault, Style, write_line};
+use rdf_lines::{Escapes, LabelFault, write_line};
 use rdf_terms::{PutFault, QuadRef, QuadSink};
 use rdf_tokens::{Fault, Token};
 use std::alloc::{Allocator, Global};
@@ -29,7 +31,7 @@ const COPIED_LEN: usize = 4096;
 /// that the style can't write is refused, as one for which there is no memory.
 #[derive(Drop)]
 pub(crate) struct LineOut<'a, D: Drain, A: Allocator = Global> {
-    style: Style,
+    form: WrittenForm,
     buffer: &'a mut Vec<u8, A>,
     drain: &'a mut D,
 }
@@ -37,21 +39,28 @@ pub(crate) struct LineOut<'a, D: Drain, A: Allocator = Global> {
 impl<'a, D: Drain, A: Allocator + Copy> LineOut<'a, D, A> {
     /// No line waits.
     pub(crate) fn new(
-        style: Style,
+        form: WrittenForm,
         buffer: &'a mut Vec<u8, A>,
         drain: &'a mut D,
     ) -> LineOut<'a, D, A>
-        ensures style { result.style ≡ style }
+        ensures form { result.form ≡ form }
         ensures buffer { result.buffer.now ≡ buffer.old }
         ensures same_buffer { result.buffer.ghost_name ≡ buffer.entry.ghost_name }
         ensures drain { result.drain.now ≡ drain.old }
         ensures same_drain { result.drain.ghost_name ≡ drain.entry.ghost_name }
     {
         LineOut {
-            style,
+            form,
             buffer,
             drain,
         }
+    }
+
+    /// Whether characters above U+007F are written as they are.
+    pub(crate) fn is_plain(&self) -> bool
+        ensures { result ≡ is_plain self.now.form.escapes }
+    {
+        matches!(self.form.escapes, Escapes::Plain)
     }
 
     /// Hands over all that waits.
@@ -156,7 +165,7 @@ impl<'a, D: Drain, A: Allocator + Copy> QuadSink for LineOut<'a, D, A> {
 
     fn put(&mut self, quad: QuadRef<'_>) -> Result<(), PutFault> {
         see_quad(quad);
-        match write_line(quad, self.style, Escapes::Plain, self.buffer) {
+        match write_line(quad, self.form.style, self.form.escapes, self.buffer) {
             Ok(()) => {}
             // No reader gives a quad that its style can't write. If one did, it would end the run.
             Err(LabelFault::NotLabelled) => return Err(PutFault::Memory),

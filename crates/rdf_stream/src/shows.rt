@@ -42,7 +42,7 @@ pub fn show<A: Allocator + Copy, S: Source, D: Drain>(
 {
     let mut piece = piece_buffer(alloc)?;
     let mut buffer = Vec::new(alloc);
-    let mut lines = LineOut::new(Style::Kept, &mut buffer, drain);
+    let mut lines = LineOut::new(job.written_form(Style::Kept), &mut buffer, drain);
     show_document(alloc, &job, source, piece.as_mut_slice(), &mut lines)
 }
 

@@ -1,6 +1,5 @@
 -- A check of either kind of format, from what its run has done to what the caller is told.
 use Rattle.std.proofs.Common.{rules, refl, IfSome}
-use Rattle.rdf_lines.specs.declared.form.Style.TheVariants.{Kept, Tagged}
 use Rattle.rdf_lines.proofs.AcceptingLemmas.{lawful as lines_lawful}
 use Rattle.rdf_trig.proofs.code.LawfulGrammar.{lawful as trees_lawful}
 use Rattle.rdf_stream.specs.Checks.{CheckStops, IsAccepted}
@@ -14,7 +13,7 @@ returns-in-Line-clause-stops g c =
     if_err c.check_with.result _ _
     (λ told h.
     lines_job (λ j. CheckStops told j.language (g.S.Source.remaining c.args.source.now) (reading g.S.Source.remaining g.S.Source.has_ended g.S.Source.has_failed c.check_with.new.source)) c.args.job c.in-Line.form (search rules)
-    c.limits.result.iri (search rules) c.line_reader.result.scanner.limit (search rules) Kept refl (h _ (record { lawful = lines_lawful; read = c.line_reader.ensures.read })))
+    c.limits.result.iri (search rules) c.line_reader.result.scanner.limit (search rules) _ refl (h _ (record { lawful = lines_lawful; read = c.line_reader.ensures.read })))
     c.check_with.ensures.stops
 
 pub returns-in-Tree-clause-accepted : goal.returns-in-Tree-clause-accepted
@@ -22,7 +21,7 @@ returns-in-Tree-clause-accepted g c =
     if_ok c.check_with-in-Tree.result _ _
     (λ s h.
     trees_job (λ j. IfSome (g.S.Source.remaining c.args.source.now) (λ bytes. IsAccepted j.language bytes s)) c.args.job c.in-Tree.form (search rules)
-    c.options.result (search rules) c.tree_reader.result.scanner.limit (search rules) Tagged refl (h _ (record { lawful = trees_lawful; read = c.tree_reader.ensures.read })))
+    c.options.result (search rules) c.tree_reader.result.scanner.limit (search rules) _ refl (h _ (record { lawful = trees_lawful; read = c.tree_reader.ensures.read })))
     c.check_with-in-Tree.ensures.accepted
 
 pub returns-in-Tree-clause-stops : goal.returns-in-Tree-clause-stops
@@ -30,5 +29,5 @@ returns-in-Tree-clause-stops g c =
     if_err c.check_with-in-Tree.result _ _
     (λ told h.
     trees_job (λ j. CheckStops told j.language (g.S.Source.remaining c.args.source.now) (reading g.S.Source.remaining g.S.Source.has_ended g.S.Source.has_failed c.check_with-in-Tree.new.source)) c.args.job c.in-Tree.form
-    (search rules) c.options.result (search rules) c.tree_reader.result.scanner.limit (search rules) Tagged refl (h _ (record { lawful = trees_lawful; read = c.tree_reader.ensures.read })))
+    (search rules) c.options.result (search rules) c.tree_reader.result.scanner.limit (search rules) _ refl (h _ (record { lawful = trees_lawful; read = c.tree_reader.ensures.read })))
     c.check_with-in-Tree.ensures.stops

@@ -12,7 +12,7 @@ pub returns-in_err-piece-clause-stops : goal.returns-in_err-piece-clause-stops
 returns-in_err-piece-clause-stops g c = told_stops _ _ _ c.from_residual.ensures.1 (none_stops c.args.job (reading g.S.Source.remaining g.S.Source.has_ended g.S.Source.has_failed c.args.source.now) _ _ c.requires.more c.requires.source c.requires.drain)
 
 pub convert_with-requires-clause-begins : goal.convert_with-requires-clause-begins
-convert_with-requires-clause-begins g c = (_, record { starts = record { suits = lines_suit _ _ c.new-lines.ensures.style; read = c.line_reader-reader.ensures.read }; none_waits = search rules; live = search rules })
+convert_with-requires-clause-begins g c = (_, record { starts = record { suits = lines_suit _ _ (search rules); read = c.line_reader-reader.ensures.read }; none_waits = search rules; live = search rules })
 
 pub returns-in-Line-clause-accepted : goal.returns-in-Line-clause-accepted
 returns-in-Line-clause-accepted g c =
@@ -20,7 +20,7 @@ returns-in-Line-clause-accepted g c =
     if_ok c.convert_with.result _ _
     (λ s h.
     lines_job (λ j. IfSome (g.S.Source.remaining c.args.source.now) (λ bytes. Accepts j bytes (g.D.Drain.contents c.new-lines.result.drain.now) (g.D.Drain.contents c.convert_with.new.lines.drain.now) s)) c.args.job c.in-Line.form (search rules)
-    c.limits.result.iri (search rules) c.line_reader-reader.result.scanner.limit (search rules) c.new-lines.result.style c.new-lines.ensures.style (h _ (record { starts = record { suits = lines_suit _ _ c.new-lines.ensures.style; read = c.line_reader-reader.ensures.read }; none_waits = search rules; live = search rules })))
+    c.limits.result.iri (search rules) c.line_reader-reader.result.scanner.limit (search rules) c.new-lines.result.form (search rules) (h _ (record { starts = record { suits = lines_suit _ _ (search rules); read = c.line_reader-reader.ensures.read }; none_waits = search rules; live = search rules })))
     c.convert_with.ensures.accepted in
     search rules
 
@@ -32,12 +32,12 @@ returns-in-Line-clause-stops g c =
     (λ told h.
     lines_job (λ j. StopsFor told j (g.S.Source.remaining c.args.source.now) (reading g.S.Source.remaining g.S.Source.has_ended g.S.Source.has_failed c.convert_with.new.source)
     (g.D.Drain.contents c.new-lines.result.drain.now) (g.D.Drain.contents c.convert_with.new.lines.drain.now) (g.D.Drain.has_failed c.convert_with.new.lines.drain.now)) c.args.job c.in-Line.form (search rules)
-    c.limits.result.iri (search rules) c.line_reader-reader.result.scanner.limit (search rules) c.new-lines.result.style c.new-lines.ensures.style (h _ (record { starts = record { suits = lines_suit _ _ c.new-lines.ensures.style; read = c.line_reader-reader.ensures.read }; none_waits = search rules; live = search rules })))
+    c.limits.result.iri (search rules) c.line_reader-reader.result.scanner.limit (search rules) c.new-lines.result.form (search rules) (h _ (record { starts = record { suits = lines_suit _ _ (search rules); read = c.line_reader-reader.ensures.read }; none_waits = search rules; live = search rules })))
     c.convert_with.ensures.stops in
     search rules
 
 pub convert_with-requires-in-Tree-clause-begins : goal.convert_with-requires-in-Tree-clause-begins
-convert_with-requires-in-Tree-clause-begins g c = (_, record { starts = record { suits = trees_suit _ _ c.new-lines-in-Tree.ensures.style; read = c.tree_reader-reader.ensures.read }; none_waits = search rules; live = search rules })
+convert_with-requires-in-Tree-clause-begins g c = (_, record { starts = record { suits = trees_suit _ _ (search rules); read = c.tree_reader-reader.ensures.read }; none_waits = search rules; live = search rules })
 
 pub returns-in-Tree-clause-accepted : goal.returns-in-Tree-clause-accepted
 returns-in-Tree-clause-accepted g c =
@@ -45,7 +45,7 @@ returns-in-Tree-clause-accepted g c =
     if_ok c.convert_with-in-Tree.result _ _
     (λ s h.
     trees_job (λ j. IfSome (g.S.Source.remaining c.args.source.now) (λ bytes. Accepts j bytes (g.D.Drain.contents c.new-lines-in-Tree.result.drain.now) (g.D.Drain.contents c.convert_with-in-Tree.new.lines.drain.now) s)) c.args.job c.in-Tree.form (search rules)
-    c.options.result (search rules) c.tree_reader-reader.result.scanner.limit (search rules) c.new-lines-in-Tree.result.style c.new-lines-in-Tree.ensures.style (h _ (record { starts = record { suits = trees_suit _ _ c.new-lines-in-Tree.ensures.style; read = c.tree_reader-reader.ensures.read }; none_waits = search rules; live = search rules })))
+    c.options.result (search rules) c.tree_reader-reader.result.scanner.limit (search rules) c.new-lines-in-Tree.result.form (search rules) (h _ (record { starts = record { suits = trees_suit _ _ (search rules); read = c.tree_reader-reader.ensures.read }; none_waits = search rules; live = search rules })))
     c.convert_with-in-Tree.ensures.accepted in
     let same = c.convert_with-in-Tree.ensures.same in
     let to_lines = c.new-lines-in-Tree.ensures.same_drain in
@@ -60,7 +60,7 @@ returns-in-Tree-clause-stops g c =
     (λ told h.
     trees_job (λ j. StopsFor told j (g.S.Source.remaining c.args.source.now) (reading g.S.Source.remaining g.S.Source.has_ended g.S.Source.has_failed c.convert_with-in-Tree.new.source)
     (g.D.Drain.contents c.new-lines-in-Tree.result.drain.now) (g.D.Drain.contents c.convert_with-in-Tree.new.lines.drain.now) (g.D.Drain.has_failed c.convert_with-in-Tree.new.lines.drain.now)) c.args.job c.in-Tree.form (search rules)
-    c.options.result (search rules) c.tree_reader-reader.result.scanner.limit (search rules) c.new-lines-in-Tree.result.style c.new-lines-in-Tree.ensures.style (h _ (record { starts = record { suits = trees_suit _ _ c.new-lines-in-Tree.ensures.style; read = c.tree_reader-reader.ensures.read }; none_waits = search rules; live = search rules })))
+    c.options.result (search rules) c.tree_reader-reader.result.scanner.limit (search rules) c.new-lines-in-Tree.result.form (search rules) (h _ (record { starts = record { suits = trees_suit _ _ (search rules); read = c.tree_reader-reader.ensures.read }; none_waits = search rules; live = search rules })))
     c.convert_with-in-Tree.ensures.stops in
     let same = c.convert_with-in-Tree.ensures.same in
     let to_lines = c.new-lines-in-Tree.ensures.same_drain in

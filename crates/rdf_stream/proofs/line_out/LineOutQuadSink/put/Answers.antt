@@ -4,7 +4,7 @@ use Rattle.rdf_stream.proofs.line_out.LineOutQuadSink.put.Goals as goal
 
 pub returns-in-Err-NotLabelled-clause-left : goal.returns-in-Err-NotLabelled-clause-left
 returns-in-Err-NotLabelled-clause-left g c = record {
-  same = record { style = refl; buffer = refl; drain = refl };
+  same = record { form = refl; buffer = refl; drain = refl };
   rest = _;
   moves = waits _ _ _ refl;
   live = λ h. waits_same _ _ _ c.in-Err-NotLabelled.ensures.unchanged;
@@ -12,7 +12,7 @@ returns-in-Err-NotLabelled-clause-left g c = record {
 
 pub returns-in-Err-Memory-clause-left : goal.returns-in-Err-Memory-clause-left
 returns-in-Err-Memory-clause-left g c = record {
-  same = record { style = refl; buffer = refl; drain = refl };
+  same = record { form = refl; buffer = refl; drain = refl };
   rest = _;
   moves = waits _ _ _ refl;
   live = λ h. waits_same _ _ _ c.in-Err-Memory.ensures.unchanged;
