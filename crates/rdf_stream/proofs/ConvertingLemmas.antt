@@ -17,6 +17,8 @@ use Rattle.rdf_driver.specs.declared.summary.Summary.{Summary}
 use Rattle.rdf_driver.specs.Readers as R
 use Rattle.rdf_driver.specs.Readers.{Driven, FeedFails, Feeds, FinishFails, Finishes, HasRead, LeavesOff, piece_reading}
 use Rattle.rdf_driver.specs.Words.{Words, in_words}
+use Rattle.rdf_lines.specs.declared.form.Escapes.{Escapes}
+use Rattle.rdf_lines.specs.declared.form.Escapes.TheVariants.{Plain, Ascii}
 use Rattle.rdf_lines.specs.declared.form.Style.{Style}
 use Rattle.rdf_lines.specs.Writing.{CanWrite, Writable, text}
 use Rattle.rdf_lines.proofs.AsciiLemmas.{ascii_written}
@@ -26,11 +28,13 @@ use Rattle.rdf_stream.specs.Languages.{Conversion, conversion}
 use Rattle.rdf_stream.specs.declared.fault.StreamFault.{StreamFault}
 use Rattle.rdf_stream.specs.declared.fault.StreamFault.TheVariants as stream
 use Rattle.rdf_stream.specs.declared.line_out.LineOut.{LineOut}
-use Rattle.rdf_stream.specs.Converting.{HandedOver, HaltsFor, IsConverting, RunEnds, RunHalts, Suits, Tells, TellsFault, TellsWrite}
+use Rattle.rdf_stream.specs.Converting.{HandedOver, HaltsFor, HasPut, IsConverting, IsPutting, RunEnds, RunHalts, Suits, Tells, TellsFault, TellsWrite}
 use Rattle.rdf_stream.specs.Converts.{Accepts, IsAscii, WritesDue, WritesFront, WritesSome, lines_of}
 use Rattle.rdf_stream.specs.Devices.{AppendsFront}
 use Rattle.rdf_stream.specs.Faults.{fault_by}
-use Rattle.rdf_stream.specs.LineOut.{Leaves, Moves, SameOut, Takes, Writes}
+use Rattle.rdf_stream.specs.LineOut.{Leaves, Moves, PutHalts, SameOut, Takes, Writes}
+use Rattle.rdf_stream.specs.Passes.{PassesText}
+use Rattle.rdf_stream.specs.WrittenForms.{is_plain, plain}
 use Rattle.rdf_stream.proofs.LineOutLemmas.{Taken, Tried, bytes_of, bytes_of-append, front_moves, moves_all, moves_front, moves_more, moves_on, puts_tries, same_out, taken, tried}
 
 -- quads that can be written can be written together
@@ -95,7 +99,7 @@ module _ (l : Language) where
   begins_refused r why at ahead qs x d = begins_ahead r.tokens ahead (x.token ∷ x.behind) qs x.tokens x.front.kept d
 
 module _ {G X D A : Type 0} (contents : D → Option (List ℕ)) (failed : D → Bool) (w : Words G X Quad) (x : X) (reader : Driven G) (bytes : List ℕ) (first lines : LineOut D A) (suits : Suits w x first.form.style)
-    (o : HandedOver contents failed w x reader bytes first lines) where
+    (o : HasPut contents failed w x reader bytes first lines) where
   abbrev l : Language
   l = in_words w x reader.scanner.limit
 
@@ -109,11 +113,9 @@ module _ {G X D A : Type 0} (contents : D → Option (List ℕ)) (failed : D →
   -- from the beginning of the run
   from_first : (after : LineOut D A) (qs : List Quad) (rest : List ℕ) → Behind after qs rest → Moves (contents first.drain.now) (contents after.drain.now) (lines_of first.form (o.quads ++ qs)) rest
   from_first after qs rest m =
-      let clean = subst (λ f. Moves (contents lines.drain.now) (contents after.drain.now) (bytes_of f qs) rest) o.same.form
-      (subst (λ b. Moves (contents lines.drain.now) (contents after.drain.now) (b ++ bytes_of lines.form qs) rest) o.none_waits m) in
+      let styled = subst (λ s. Moves (contents lines.drain.now) (contents after.drain.now) (lines.buffer.now.items ++ bytes_of s qs) rest) o.same.form m in
       subst (λ b. Moves (contents first.drain.now) (contents after.drain.now) b rest) (sym (bytes_of-append first.form o.quads qs))
-      (moves_on (contents first.drain.now) (contents lines.drain.now) (contents after.drain.now) (lines_of first.form o.quads) (bytes_of first.form qs) [] rest
-      (record { front = lines_of first.form o.quads; whole = sym (append-nil (lines_of first.form o.quads)); taken = o.written }) clean)
+      (moves_on (contents first.drain.now) (contents lines.drain.now) (contents after.drain.now) (lines_of first.form o.quads) (bytes_of first.form qs) lines.buffer.now.items rest o.moves styled)
 
   -- a beginning of the lines was written
   written_front : (after : LineOut D A) (ts : List Token) (qs : List Quad) (rest : List ℕ) → Behind after qs rest → Begun l ts (o.quads ++ qs) →
@@ -302,50 +304,121 @@ module _ {G X D A : Type 0} (contents : D → Option (List ℕ)) (failed : D →
         Halts told bytes true after
     end_halts why after told h s t = halts_by bytes true (fault_by why (record { reason = why; offset = n; line = k })) told mid after (left_end why h) s (fault_end after why h) t
 
-  -- ---- all that comes was read
+  -- ---- more was read
 
-  module _ (piece : List ℕ) (reader' : Driven G) (mid : LineOut D A) (f : Feeds w (Takes contents failed) reader lines piece reader' mid) where
-    read' : HasRead w reader' x (bytes ++ piece) (o.quads ++ f.more)
-    read' = f.read x bytes o.quads o.read
-
+  module _ (part : List ℕ) (reader' : Driven G) (same_limit : reader'.scanner.limit ≡ reader.scanner.limit) (more : List Quad) (read' : HasRead w reader' x (bytes ++ part) (o.quads ++ more)) where
     -- the tokens so far, by the limit that stays
     abbrev now' : Language
     now' = in_words w x reader'.scanner.limit
 
-    due' : Due (w.documents x) (reading_of now' (bytes ++ piece) false).tokens (o.quads ++ f.more)
-    due' = suits.lawful.due reader'.grammar x (reading_of now' (bytes ++ piece) false).tokens (o.quads ++ f.more) read'.reached
+    due' : Due (w.documents x) (reading_of now' (bytes ++ part) false).tokens (o.quads ++ more)
+    due' = suits.lawful.due reader'.grammar x (reading_of now' (bytes ++ part) false).tokens (o.quads ++ more) read'.reached
 
-    begun' : Begun l (reading_of l (bytes ++ piece) false).tokens (o.quads ++ f.more)
+    begun' : Begun l (reading_of l (bytes ++ part) false).tokens (o.quads ++ more)
     begun' =
-        subst (λ n. Begun (in_words w x n) (reading_of (in_words w x n) (bytes ++ piece) false).tokens (o.quads ++ f.more)) f.limit
-        (begins_all now' (reading_of now' (bytes ++ piece) false).tokens (o.quads ++ f.more)
-        (suits.lawful.kept reader'.grammar x (reading_of now' (bytes ++ piece) false).tokens (o.quads ++ f.more) read'.reached) due')
+        subst (λ n. Begun (in_words w x n) (reading_of (in_words w x n) (bytes ++ part) false).tokens (o.quads ++ more)) same_limit
+        (begins_all now' (reading_of now' (bytes ++ part) false).tokens (o.quads ++ more)
+        (suits.lawful.kept reader'.grammar x (reading_of now' (bytes ++ part) false).tokens (o.quads ++ more) read'.reached) due')
 
-    put' : Taken contents failed lines f.more mid
-    put' = taken contents failed f.more lines mid f.puts (styled_all (reading_of now' (bytes ++ piece) false).tokens f.more due')
-
-    -- all lines were handed over
-    pub piece_read : (after : LineOut D A) → SameOut mid after → Appends (contents mid.drain.now) (contents after.drain.now) mid.buffer.now.items → after.buffer.now.items ≡ [] →
-        failed after.drain.now ≡ false → HandedOver contents failed w x reader' (bytes ++ piece) first after
-    piece_read after s t none live = record {
-      quads = o.quads ++ f.more;
+    -- the lines of more quads were put
+    more_put : (mid : LineOut D A) → SameOut lines mid → Writable first.form.style more → Writes contents lines (bytes_of lines.form more) mid → failed mid.drain.now ≡ false →
+        HasPut contents failed w x reader' (bytes ++ part) first mid
+    more_put mid s able m live = record {
+      quads = o.quads ++ more;
       read = read';
-      written = written_all mid after f.more put'.writes t;
-      writable = both_writable first.form.style o.quads f.more o.writable (subst (λ (y : WrittenForm). Writable y.style f.more) o.same.form put'.writable);
-      none_waits = none;
-      same = same_out first mid after (same_out first lines mid o.same put'.same) s;
+      moves = from_first mid more mid.buffer.now.items m;
+      writable = both_writable first.form.style o.quads more o.writable able;
+      same = same_out first lines mid o.same s;
       live = live;
     }
 
-    -- the drain failed
-    pub piece_broke : (after : LineOut D A) → SameOut mid after → AppendsFront (contents mid.drain.now) (contents after.drain.now) mid.buffer.now.items → failed after.drain.now ≡ true →
-        Halts stream.Write (bytes ++ piece) false after
-    piece_broke after s t broke =
-        let (rest, m) = front_moves (contents mid.drain.now) (contents after.drain.now) mid.buffer.now.items t in
-        record {
-          same = same_out first mid after (same_out first lines mid o.same put'.same) s;
-          halts = (broke, written_front after (reading_of l (bytes ++ piece) false).tokens f.more rest (then_front mid after f.more rest put'.writes m) begun');
-        }
+  -- a part was read, and its lines were put
+  pub part_read : (part : List ℕ) (reader' : Driven G) (mid : LineOut D A) → Feeds w (Takes contents failed) reader lines part reader' mid → HasPut contents failed w x reader' (bytes ++ part) first mid
+  part_read part reader' mid f =
+      let read' = f.read x bytes o.quads o.read in
+      let put = taken contents failed f.more lines mid f.puts (styled_all (reading_of (now' part reader' f.limit f.more read') (bytes ++ part) false).tokens f.more (due' part reader' f.limit f.more read')) in
+      more_put part reader' f.limit f.more read' mid put.same (subst (λ (y : WrittenForm). Writable y.style f.more) o.same.form put.writable) put.writes (put.live o.live)
+
+  -- Some text was passed: it is the plain lines of quads in the style.
+  module _ (style : Style) (same_style : first.form.style ≡ style) (are_plain : lines.form.escapes ≡ Plain) (text : List ℕ) (reader' : Driven G) (p : PassesText w style reader text reader') where
+    passed' : HasRead w reader' x (bytes ++ text) (o.quads ++ p.given)
+    passed' = p.read x bytes o.quads o.read
+
+    -- the form of the lines is that of the text
+    same_form : plain style ≡ lines.form
+    same_form =
+        subst (λ s. plain s ≡ lines.form) (ap (λ (f : WrittenForm). f.style) o.same.form ∙ same_style)
+        (subst (λ e. record { style = lines.form.style; escapes = e } ≡ lines.form) are_plain refl)
+
+    their_lines : text ≡ bytes_of lines.form p.given
+    their_lines = p.is ∙ ap (λ f. lines_of f p.given) same_form
+
+    -- it was put as it stands
+    pub text_put : (after : LineOut D A) → SameOut lines after → Writes contents lines text after → failed after.drain.now ≡ false → HasPut contents failed w x reader' (bytes ++ text) first after
+    text_put after s m live =
+        more_put text reader' p.limit p.given passed' after s (subst (λ y. Writable y p.given) (sym same_style) p.writable)
+        (subst (λ b. Writes contents lines b after) their_lines m) live
+
+    -- it was not put
+    pub text_halts : (told : StreamFault) (after : LineOut D A) → SameOut lines after → PutHalts contents failed told lines text after → Halts told (bytes ++ text) false after
+    text_halts told after s h = record { same = same_out first lines after o.same s; halts = by told h }
+      where
+        ts : List Token
+        ts = (reading_of l (bytes ++ text) false).tokens
+
+        by : (told : StreamFault) → PutHalts contents failed told lines text after →
+            HaltsFor told job (bytes ++ text) false (contents first.drain.now) (contents after.drain.now) (failed after.drain.now)
+        by stream.Write h = (
+          h.0,
+          written_front after ts p.given h.1
+              (subst (λ b. Moves (contents lines.drain.now) (contents after.drain.now) (lines.buffer.now.items ++ b) h.1) their_lines h.2)
+              (begun' text reader' p.limit p.given passed'),
+        )
+        by stream.Memory h = (
+          h.0,
+          record {
+            quads = o.quads;
+            due = begins_less l ts o.quads p.given (begun' text reader' p.limit p.given passed');
+            written = moves_all (contents first.drain.now) (contents lines.drain.now) (contents after.drain.now) (lines_of first.form o.quads) lines.buffer.now.items o.moves h.1;
+          },
+        )
+        by told h = absurd h
+
+  -- ---- what waits is handed over
+
+  -- all of it
+  pub handed : (after : LineOut D A) → SameOut lines after → Appends (contents lines.drain.now) (contents after.drain.now) lines.buffer.now.items → after.buffer.now.items ≡ [] →
+      failed after.drain.now ≡ false → HandedOver contents failed w x reader bytes first after
+  handed after s t none live = record {
+    quads = o.quads;
+    read = o.read;
+    written = moves_all (contents first.drain.now) (contents lines.drain.now) (contents after.drain.now) (lines_of first.form o.quads) lines.buffer.now.items o.moves t;
+    writable = o.writable;
+    none_waits = none;
+    same = same_out first lines after o.same s;
+    live = live;
+  }
+
+  -- the drain failed
+  pub handing_broke : (after : LineOut D A) → SameOut lines after → AppendsFront (contents lines.drain.now) (contents after.drain.now) lines.buffer.now.items → failed after.drain.now ≡ true →
+      Halts stream.Write bytes false after
+  handing_broke after s t broke =
+      let (rest, m) = front_moves (contents lines.drain.now) (contents after.drain.now) lines.buffer.now.items t in
+      let all = moves_on (contents first.drain.now) (contents lines.drain.now) (contents after.drain.now) (lines_of first.form o.quads) [] lines.buffer.now.items rest o.moves
+      (subst (λ b. Moves (contents lines.drain.now) (contents after.drain.now) b rest) (sym (append-nil lines.buffer.now.items)) m) in
+      let now = (reading_of l bytes false).tokens in
+      record {
+        same = same_out first lines after o.same s;
+        halts = (
+          broke,
+          record {
+            quads = o.quads;
+            due = begins_all l now o.quads (suits.lawful.kept reader.grammar x now o.quads o.read.reached) (suits.lawful.due reader.grammar x now o.quads o.read.reached);
+            written = moves_front (contents first.drain.now) (contents after.drain.now) (lines_of first.form o.quads) rest
+                (subst (λ b. Moves (contents first.drain.now) (contents after.drain.now) b rest) (append-nil (lines_of first.form o.quads)) all);
+          },
+        );
+      }
 
   module _ (summary : Summary) (mid : LineOut D A) (f : Finishes w (Takes contents failed) reader lines summary mid) where
     abbrev sums : R.Sums w x reader.scanner.limit bytes (o.quads ++ f.more) summary
@@ -386,85 +459,134 @@ module _ {G X D A : Type 0} (contents : D → Option (List ℕ)) (failed : D →
           halts = (broke, written_front after (reading_of l bytes true).tokens f.more rest (then_front mid after f.more rest all_put.writes m) all_begun);
         }
 
+-- the test answers that lines are plain
+pub plain_where : (e : Escapes) → is_plain e ≡ true → e ≡ Plain
+plain_where Plain t = refl
+plain_where Ascii t = absurd (false≢true t)
+
+-- what was handed over was put
+put_of : {G X D A : Type 0} (contents : D → Option (List ℕ)) (failed : D → Bool) (w : Words G X Quad) (x : X) (reader : Driven G) (bytes : List ℕ) (first lines : LineOut D A) →
+    HandedOver contents failed w x reader bytes first lines → HasPut contents failed w x reader bytes first lines
+put_of contents failed w x reader bytes first lines o = record {
+  quads = o.quads;
+  read = o.read;
+  moves = record {
+    front = lines_of first.form o.quads;
+    whole = sym (ap (λ b. lines_of first.form o.quads ++ b) o.none_waits ∙ append-nil (lines_of first.form o.quads));
+    taken = o.written;
+  };
+  writable = o.writable;
+  same = o.same;
+  live = o.live;
+}
+
 -- ---- a run
 
-module _ {G X D A : Type 0} (contents : D → Option (List ℕ)) (failed : D → Bool) (w : Words G X Quad) (reader : Driven G) (first : LineOut D A) (bytes : List ℕ) (old : Driven G) (lines : LineOut D A)
-    (i : IsConverting contents failed w reader first bytes old lines) where
+-- a run whose lines were handed over has put them
+pub putting : {G X D A : Type 0} (contents : D → Option (List ℕ)) (failed : D → Bool) (w : Words G X Quad) (style : Style) (reader : Driven G) (first : LineOut D A) (bytes : List ℕ) (old : Driven G) (lines : LineOut D A) →
+    IsConverting contents failed w style reader first bytes old lines → IsPutting contents failed w style reader first bytes old lines
+putting contents failed w style reader first bytes old lines i = record {
+  begun = i.begun;
+  styled = i.styled;
+  limit = i.limit;
+  put = λ x b. put_of contents failed w x old bytes first lines (i.handed x b);
+}
+
+module _ {G X D A : Type 0} (contents : D → Option (List ℕ)) (failed : D → Bool) (w : Words G X Quad) (style : Style) (reader : Driven G) (first : LineOut D A) (bytes : List ℕ) (old : Driven G) (lines : LineOut D A)
+    (i : IsPutting contents failed w style reader first bytes old lines) where
+  -- what was put by any setting
+  put_now : HasPut contents failed w i.begun.0 old bytes first lines
+  put_now = i.put i.begun.0 i.begun.1
+
   -- the drain has not failed
   pub live_now : failed lines.drain.now ≡ false
-  live_now = (i.handed i.begun.0 i.begun.1).live
+  live_now = put_now.live
+
+  -- the lines go where they went
+  pub same_now : SameOut first lines
+  same_now = put_now.same
+
+  -- the bytes are counted
+  pub count_now : old.so_far.bytes ≡ length bytes
+  count_now = ap (λ (s : Summary). s.bytes) put_now.read.so_far
+
+  -- there are not too many
+  pub few_now : (most : ℕ) → old.scanner.taken.offset ≤ most → old.so_far.bytes ≤ most
+  few_now most few =
+      let small : old.scanner.taken.offset ≡ length bytes = ap (λ (p : Place). p.offset) put_now.read.scanned.taken in omega (arith, count_now, small, few)
 
   -- what halts by the limit of the reader halts by that of the run
   halted : (told : StreamFault) (b : List ℕ) (e : Bool) (after : LineOut D A) →
-      ((x : X) (s : Suits w x first.form.style) (o : HandedOver contents failed w x old bytes first lines) → Halts contents failed w x old bytes first lines s o told b e after) → RunHalts contents failed w told reader first b e after
+      ((x : X) (s : Suits w x first.form.style) (o : HasPut contents failed w x old bytes first lines) → Halts contents failed w x old bytes first lines s o told b e after) → RunHalts contents failed w told reader first b e after
   halted told b e after h = record {
     begun = i.begun;
-    same = (h i.begun.0 i.begun.1.starts.suits (i.handed i.begun.0 i.begun.1)).same;
+    same = (h i.begun.0 i.begun.1.starts.suits put_now).same;
     halts = λ x y.
-        subst (λ n. HaltsFor told (conversion w x n first.form) b e (contents first.drain.now) (contents after.drain.now) (failed after.drain.now)) i.limit (h x y.starts.suits (i.handed x y)).halts;
+        subst (λ n. HaltsFor told (conversion w x n first.form) b e (contents first.drain.now) (contents after.drain.now) (failed after.drain.now)) i.limit (h x y.starts.suits (i.put x y)).halts;
   }
 
   -- what stays from the beginning of a run stays from any state that had it
   pub stays_on : (after : LineOut D A) → SameOut first after → (before : LineOut D A) → SameOut before lines → SameOut before after
   stays_on after h before s =
-      let o = (i.handed i.begun.0 i.begun.1).same in
+      let o = same_now in
       record { form = h.form ∙ (sym o.form ∙ s.form); buffer = h.buffer ∙ (sym o.buffer ∙ s.buffer); drain = h.drain ∙ (sym o.drain ∙ s.drain) }
 
-  module _ (piece : List ℕ) where
-    module _ (new : Driven G) (mid : LineOut D A) (f : Feeds w (Takes contents failed) old lines piece new mid) where
-      -- a piece more
-      pub run_takes : (after : LineOut D A) → SameOut mid after → Appends (contents mid.drain.now) (contents after.drain.now) mid.buffer.now.items → after.buffer.now.items ≡ [] →
-          failed after.drain.now ≡ false → IsConverting contents failed w reader first (bytes ++ piece) new after
-      run_takes after s t none live = record {
+  -- what waited was handed over
+  pub run_handed : (after : LineOut D A) → SameOut lines after → Appends (contents lines.drain.now) (contents after.drain.now) lines.buffer.now.items → after.buffer.now.items ≡ [] →
+      failed after.drain.now ≡ false → IsConverting contents failed w style reader first bytes old after
+  run_handed after s t none live = record {
+    begun = i.begun;
+    styled = i.styled;
+    limit = i.limit;
+    handed = λ x y. handed contents failed w x old bytes first lines y.starts.suits (i.put x y) after s t none live;
+  }
+
+  -- the drain failed
+  pub run_broke : (after : LineOut D A) → SameOut lines after → AppendsFront (contents lines.drain.now) (contents after.drain.now) lines.buffer.now.items → failed after.drain.now ≡ true →
+      RunHalts contents failed w stream.Write reader first bytes false after
+  run_broke after s t broke = halted stream.Write bytes false after (λ x y o. handing_broke contents failed w x old bytes first lines y o after s t broke)
+
+  module _ (part : List ℕ) where
+    -- a part more
+    pub run_reads : (new : Driven G) (mid : LineOut D A) → Feeds w (Takes contents failed) old lines part new mid → IsPutting contents failed w style reader first (bytes ++ part) new mid
+    run_reads new mid f = record {
+      begun = i.begun;
+      styled = i.styled;
+      limit = f.limit ∙ i.limit;
+      put = λ x y. part_read contents failed w x old bytes first lines y.starts.suits (i.put x y) part new mid f;
+    }
+
+    -- an error in a part
+    pub run_halts : (n k : ℕ) (new : Driven G) (mid after : LineOut D A) (why : Reason) (told : StreamFault) →
+        FeedFails w (Takes contents failed) (Leaves contents failed) (λ s. failed s.drain.now) why (record { offset = n; line = k }) old lines part new mid → SameOut mid after →
+        Tells contents failed (record { reason = why; offset = n; line = k }) told mid after → RunHalts contents failed w told reader first (bytes ++ part) false after
+    run_halts n k new mid after why told h s t =
+        halted told (bytes ++ part) false after (λ x y o. piece_halts contents failed w x old bytes first lines y o part n k new mid why after told h s t)
+
+    module _ (are_plain : lines.form.escapes ≡ Plain) (new : Driven G) (p : PassesText w style old part new) where
+      -- some text was passed, and put as it stands
+      pub run_passes : (after : LineOut D A) → SameOut lines after → Writes contents lines part after → failed after.drain.now ≡ false → IsPutting contents failed w style reader first (bytes ++ part) new after
+      run_passes after s m live = record {
         begun = i.begun;
-        limit = f.limit ∙ i.limit;
-        handed = λ x y. piece_read contents failed w x old bytes first lines y.starts.suits (i.handed x y) piece new mid f after s t none live;
+        styled = i.styled;
+        limit = p.limit ∙ i.limit;
+        put = λ x y. text_put contents failed w x old bytes first lines y.starts.suits (i.put x y) style i.styled are_plain part new p after s m live;
       }
 
-      pub run_same : (after : LineOut D A) → SameOut mid after → SameOut first after
-      run_same after s =
-          let o = i.handed i.begun.0 i.begun.1 in
-          same_out first mid after (same_out first lines mid o.same (put' contents failed w i.begun.0 old bytes first lines i.begun.1.starts.suits o piece new mid f).same) s
-
-      -- the bytes are counted
-      pub run_counts : new.so_far.bytes ≡ old.so_far.bytes + length piece
-      run_counts =
-          let o = i.handed i.begun.0 i.begun.1 in
-          let a : old.so_far.bytes ≡ length bytes = ap (λ (s : Summary). s.bytes) o.read.so_far in
-          let b : new.so_far.bytes ≡ length (bytes ++ piece) = ap (λ (s : Summary). s.bytes) (f.read i.begun.0 bytes o.quads o.read).so_far in
-          b ∙ (length-append bytes piece ∙ ap (λ n. n + length piece) (sym a))
-
-      -- there are not too many
-      pub run_few : (most : ℕ) → new.scanner.taken.offset ≤ most → new.so_far.bytes ≤ most
-      run_few most few =
-          let o = i.handed i.begun.0 i.begun.1 in
-          let r = f.read i.begun.0 bytes o.quads o.read in
-          let b : new.so_far.bytes ≡ length (bytes ++ piece) = ap (λ (s : Summary). s.bytes) r.so_far in
-          let small : new.scanner.taken.offset ≡ length (bytes ++ piece) = ap (λ (p : Place). p.offset) r.scanned.taken in
-          omega (arith, b, small, few)
-
-      -- the drain failed
-      pub run_broke : (after : LineOut D A) → SameOut mid after → AppendsFront (contents mid.drain.now) (contents after.drain.now) mid.buffer.now.items → failed after.drain.now ≡ true →
-          RunHalts contents failed w stream.Write reader first (bytes ++ piece) false after
-      run_broke after s t broke = halted stream.Write (bytes ++ piece) false after (λ x y o. piece_broke contents failed w x old bytes first lines y o piece new mid f after s t broke)
-
-    -- an error in a piece
-    pub run_halts : (n k : ℕ) (new : Driven G) (mid after : LineOut D A) (why : Reason) (told : StreamFault) →
-        FeedFails w (Takes contents failed) (Leaves contents failed) (λ s. failed s.drain.now) why (record { offset = n; line = k }) old lines piece new mid → SameOut mid after →
-        Tells contents failed (record { reason = why; offset = n; line = k }) told mid after → RunHalts contents failed w told reader first (bytes ++ piece) false after
-    run_halts n k new mid after why told h s t =
-        halted told (bytes ++ piece) false after (λ x y o. piece_halts contents failed w x old bytes first lines y o piece n k new mid why after told h s t)
+      -- it was not put
+      pub pass_halts : (told : StreamFault) (after : LineOut D A) → SameOut lines after → PutHalts contents failed told lines part after → RunHalts contents failed w told reader first (bytes ++ part) false after
+      pass_halts told after s h = halted told (bytes ++ part) false after (λ x y o. text_halts contents failed w x old bytes first lines y o style i.styled are_plain part new p told after s h)
 
   module _ (summary : Summary) (mid : LineOut D A) (f : Finishes w (Takes contents failed) old lines summary mid) where
     -- the document was read and written
     pub run_ends : (flushed : D → Bool) (after : LineOut D A) → SameOut mid after → Appends (contents mid.drain.now) (contents after.drain.now) mid.buffer.now.items → flushed after.drain.now ≡ true →
         RunEnds contents failed flushed w summary reader first bytes after
     run_ends flushed after s t sent = record {
-      same = (end_read contents failed w i.begun.0 old bytes first lines i.begun.1.starts.suits (i.handed i.begun.0 i.begun.1) summary mid f after s t).0;
+      same = (end_read contents failed w i.begun.0 old bytes first lines i.begun.1.starts.suits put_now summary mid f after s t).0;
       sent = sent;
       accepts = λ x y.
           subst (λ n. Accepts (conversion w x n first.form) bytes (contents first.drain.now) (contents after.drain.now) summary) i.limit
-          (end_read contents failed w x old bytes first lines y.starts.suits (i.handed x y) summary mid f after s t).1;
+          (end_read contents failed w x old bytes first lines y.starts.suits (i.put x y) summary mid f after s t).1;
     }
 
     -- the drain failed

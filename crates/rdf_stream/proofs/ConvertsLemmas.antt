@@ -16,10 +16,11 @@ use Rattle.rdf_stream.specs.declared.fault.StreamFault.{StreamFault}
 use Rattle.rdf_stream.specs.declared.fault.StreamFault.TheVariants as stream
 use Rattle.rdf_stream.specs.declared.line_out.LineOut.{LineOut}
 use Rattle.rdf_stream.specs.Converting.{Begins, HaltsFor, IsConverting, RunEnds, RunHalts}
-use Rattle.rdf_stream.specs.Converts.{Accepts, RefusesDocument, StopsFor, WritesDue}
+use Rattle.rdf_stream.specs.Converts.{Accepts, RefusesDocument, StopsFor, WritesDue, WritesSome}
 use Rattle.rdf_stream.specs.Devices.{HasGiven, Reading}
 use Rattle.rdf_stream.specs.Faults.{IsOfDocument, IsRefusal}
 use Rattle.rdf_lines.specs.declared.form.LineForm.{LineForm}
+use Rattle.rdf_lines.specs.declared.form.Style.{Style}
 use Rattle.rdf_lines.specs.declared.form.Style.TheVariants.{Kept, Tagged}
 use Rattle.rdf_lines.specs.Accepting.{line_words}
 use Rattle.rdf_trig.specs.declared.form.DocForm.{DocForm}
@@ -38,11 +39,33 @@ use Rattle.rdf_trig.proofs.machine.ExactDocuments.{due_ran}
 use Rattle.rdf_stream.specs.Pieces.{ReadStops, ReadsAll, SourceFails}
 use Rattle.rdf_stream.proofs.PiecesLemmas.{all_given, none_given, too_long_more}
 
--- what is refused stays refused, with all the bytes
-refuses_more : (job : Conversion) → EndsAtBlame job.language → (why : Reason) (bytes more : List ℕ) (at : Place) (old new : Option (List ℕ)) → RefusesDocument why job bytes false at old new → RefusesDocument why job (bytes ++ more) true at old new
-refuses_more job ends reason.DocumentTooLong bytes more at old new h =
-    let some = h.1 in (too_long_more bytes more at h.0, record { quads = some.quads; due = due_more job.language ends bytes more true some.quads some.due; written = some.written })
-refuses_more job ends why bytes more at old new h = (h.0, refused_in_more job.language ends bytes more true why at h.0 h.1, h.2)
+-- what was written of what is due is due with more bytes
+some_more : (job : Conversion) → EndsAtBlame job.language → (bytes more : List ℕ) (e : Bool) (old new : Option (List ℕ)) → WritesSome job (reading_of job.language bytes false).tokens old new → WritesSome job (reading_of job.language (bytes ++ more) e).tokens old new
+some_more job ends bytes more e old new h = record { quads = h.quads; due = due_more job.language ends bytes more e h.quads h.due; written = h.written }
+
+-- what is refused stays refused, with more bytes or with all of them
+refuses_more : (job : Conversion) → EndsAtBlame job.language → (why : Reason) (bytes more : List ℕ) (e : Bool) (at : Place) (old new : Option (List ℕ)) → RefusesDocument why job bytes false at old new → RefusesDocument why job (bytes ++ more) e at old new
+refuses_more job ends reason.DocumentTooLong bytes more e at old new h = (too_long_more bytes more at h.0, some_more job ends bytes more e old new h.1)
+refuses_more job ends why bytes more e at old new h = (h.0, refused_in_more job.language ends bytes more e why at h.0 h.1, h.2)
+
+-- what is not read on is not read on with more bytes
+halts_for_more : (told : StreamFault) (job : Conversion) → EndsAtBlame job.language → (bytes more : List ℕ) (old new : Option (List ℕ)) (failed : Bool) →
+    HaltsFor told job bytes false old new failed → HaltsFor told job (bytes ++ more) false old new failed
+halts_for_more (stream.Refused f) job ends bytes more old new failed h = refuses_more job ends f.reason bytes more false (place_of f) old new h
+halts_for_more stream.Read job ends bytes more old new failed h = h
+halts_for_more stream.Write job ends bytes more old new failed h =
+    (h.0, record { quads = h.1.quads; due = due_more job.language ends bytes more false h.1.quads h.1.due; written = h.1.written })
+halts_for_more stream.Memory job ends bytes more old new failed h = (h.0, some_more job ends bytes more false old new h.1)
+
+-- bytes that are not read on in a run, and more
+pub halts_more : {G X D A : Type 0} (contents : D → Option (List ℕ)) (failed : D → Bool) (w : Words G X Quad) (told : StreamFault) (reader : Driven G) (first : LineOut D A) (bytes more : List ℕ) (lines : LineOut D A) →
+    RunHalts contents failed w told reader first bytes false lines → RunHalts contents failed w told reader first (bytes ++ more) false lines
+halts_more contents failed w told reader first bytes more lines h = record {
+  begun = h.begun;
+  same = h.same;
+  halts = λ x b.
+      halts_for_more told (conversion w x reader.scanner.limit first.form) (b.starts.suits.lawful.ends x) bytes more (contents first.drain.now) (contents lines.drain.now) (failed lines.drain.now) (h.halts x b);
+}
 
 -- a refusal is of the document
 refuses_document : (job : Conversion) (why : Reason) (bytes : List ℕ) (e : Bool) (at : Place) (old new : Option (List ℕ)) → RefusesDocument why job bytes e at old new → IsOfDocument why
@@ -62,18 +85,18 @@ halts_document stream.Memory job bytes e old new failed h = tt
 halts_stops : (told : StreamFault) (job : Conversion) → EndsAtBlame job.language → (known : Option (List ℕ)) (left : Reading) (old new : Option (List ℕ)) (write_failed : Bool) (given : HasGiven known left) →
     HaltsFor told job given.bytes left.has_ended old new write_failed → StopsFor told job known left old new write_failed
 halts_stops (stream.Refused f) job ends known left old new write_failed given h =
-    (all_given known left (λ bytes e. RefusesDocument f.reason job bytes e (place_of f) old new) (λ bytes more x. refuses_more job ends f.reason bytes more (place_of f) old new x) given h, given, h)
+    (all_given known left (λ bytes e. RefusesDocument f.reason job bytes e (place_of f) old new) (λ bytes more x. refuses_more job ends f.reason bytes more true (place_of f) old new x) given h, given, h)
 halts_stops stream.Read job ends known left old new write_failed given h = absurd h
 halts_stops stream.Write job ends known left old new write_failed given h = (h.0, given, h.1)
 halts_stops stream.Memory job ends known left old new write_failed given h = (h.0, given, h.1)
 
-module _ {G X D : Type 0} (A : Type 0) (contents : D → Option (List ℕ)) (failed flushed : D → Bool) (w : Words G X Quad) where
+module _ {G X D : Type 0} (A : Type 0) (contents : D → Option (List ℕ)) (failed flushed : D → Bool) (w : Words G X Quad) (style : Style) where
   -- a reader, and its lines
   abbrev pub R : Type 0
   R = Driven G × LineOut D A
 
   abbrev pub Taken : R → List ℕ → R → Type 0
-  Taken first bytes now = IsConverting contents failed w first.0 first.1 bytes now.0 now.1
+  Taken first bytes now = IsConverting contents failed w style first.0 first.1 bytes now.0 now.1
 
   abbrev pub Halted : StreamFault → R → List ℕ → Bool → R → Type 0
   Halted told first bytes e now = RunHalts contents failed w told first.0 first.1 bytes e now.1
@@ -82,9 +105,10 @@ module _ {G X D : Type 0} (A : Type 0) (contents : D → Option (List ℕ)) (fai
   Ended s first bytes now = RunEnds contents failed flushed w s first.0 first.1 bytes now.1
 
   -- nothing was read or written
-  pub begins : (x : X) (first : R) → Begins failed w x first.0 first.1 → Taken first [] first
-  begins x first b = record {
+  pub begins : (x : X) (first : R) → Begins failed w x first.0 first.1 → first.1.form.style ≡ style → Taken first [] first
+  begins x first b styled = record {
     begun = (x, b);
+    styled = styled;
     limit = refl;
     handed = λ y b. record {
       quads = [];

@@ -14,7 +14,9 @@ use Rattle.rdf_lines.specs.Writing.{CanWrite, Writable}
 use Rattle.rdf_stream.specs.declared.form.WrittenForm.{WrittenForm}
 use Rattle.rdf_stream.specs.WrittenForms.{line_in, text_in}
 use Rattle.rdf_stream.specs.Devices.{AppendsFront}
-use Rattle.rdf_stream.specs.LineOut.{Leaves, Moves, SameOut, Takes, Writes, line_bytes}
+use Rattle.rdf_stream.specs.LineOut.{Leaves, Moves, PutHalts, SameOut, Takes, Writes, line_bytes}
+use Rattle.rdf_stream.specs.declared.fault.StreamFault.{StreamFault}
+use Rattle.rdf_stream.specs.declared.fault.StreamFault.TheVariants as stream
 use Rattle.rdf_stream.specs.declared.line_out.LineOut.{LineOut}
 use Rattle.rdf_stream.proofs.WellFormedLemmas.{quad_had}
 
@@ -158,3 +160,38 @@ module _ {D A : Type 0} (contents : D → Option (List ℕ)) (failed : D → Boo
   pub puts_live : (qs : List Quad) (a b : LineOut D A) → Puts a qs b → failed a.drain.now ≡ false → failed b.drain.now ≡ false
   puts_live [] a b h l = subst (λ (x : LineOut D A). failed x.drain.now ≡ false) (sym h) l
   puts_live (q ∷ qs) a b h l = puts_live qs h.0 b h.2 h.1.live
+
+-- ---- bytes that go to the drain behind what waited
+
+-- all of them were taken
+pub all_behind : (a b c : Option (List ℕ)) (waiting bytes rest : List ℕ) → Appends a b waiting → Appends b c bytes → rest ≡ [] → Moves a c (waiting ++ bytes) rest
+all_behind a b c waiting bytes rest p q e = record { front = waiting ++ bytes; whole = sym (ap (λ l. (waiting ++ bytes) ++ l) e ∙ append-nil (waiting ++ bytes)); taken = Appends-trans a b c waiting bytes p q }
+
+-- a beginning of what waited was taken
+pub front_before : (a b : Option (List ℕ)) (waiting bytes : List ℕ) → AppendsFront a b waiting → (rest : List ℕ) × Moves a b (waiting ++ bytes) rest
+front_before a b waiting bytes p = let (rest, m) = front_moves a b waiting p in (rest ++ bytes, moves_more a b waiting bytes rest m)
+
+-- all that waited was taken, and a beginning of them
+pub front_behind : (a b c : Option (List ℕ)) (waiting bytes : List ℕ) → Appends a b waiting → AppendsFront b c bytes → (rest : List ℕ) × Moves a c (waiting ++ bytes) rest
+front_behind a b c waiting bytes p q =
+    let (rest, m) = front_moves b c bytes q in
+    (rest, moves_on a b c waiting bytes [] rest (record { front = waiting; whole = sym (append-nil waiting); taken = p }) m)
+
+-- ---- bytes that were not put
+
+module _ {D A : Type 0} (contents : D → Option (List ℕ)) (failed : D → Bool) (before mid after : LineOut D A) (bytes : List ℕ) (m : Writes contents before [] mid) where
+  -- nothing of it waits, and what waits was handed over, or not
+  pub put_left : (told : StreamFault) → PutHalts contents failed told mid [] after → PutHalts contents failed told before bytes after
+  put_left stream.Write p = (
+    p.0,
+    p.1 ++ bytes,
+    moves_more (contents before.drain.now) (contents after.drain.now) before.buffer.now.items bytes p.1
+        (subst (λ l. Moves (contents before.drain.now) (contents after.drain.now) l p.1) (append-nil (before.buffer.now.items ++ []) ∙ append-nil before.buffer.now.items)
+        (moves_on (contents before.drain.now) (contents mid.drain.now) (contents after.drain.now) (before.buffer.now.items ++ []) [] mid.buffer.now.items p.1 m p.2)),
+  )
+  put_left stream.Memory p = (
+    p.0,
+    subst (Appends (contents before.drain.now) (contents after.drain.now)) (append-nil before.buffer.now.items)
+        (moves_all (contents before.drain.now) (contents mid.drain.now) (contents after.drain.now) (before.buffer.now.items ++ []) mid.buffer.now.items m p.1),
+  )
+  put_left told p = absurd p

@@ -47,9 +47,26 @@ pub record HandedOver {G X D A : Type 0} (contents : D → Option (List ℕ)) (f
   pub same : SameOut first lines
   pub live : failed lines.drain.now ≡ false
 
--- Since the run began these bytes were read, and all lines that are due of them were handed over.
-pub record IsConverting {G X D A : Type 0} (contents : D → Option (List ℕ)) (failed : D → Bool) (w : Words G X Quad) (reader : Driven G) (first : LineOut D A) (bytes : List ℕ) (now : Driven G) (lines : LineOut D A) : Type 0 where
+-- The reader has read these bytes, and the lines of all quads that are due in them were put: the drain has taken a front of them, and the others wait.
+pub record HasPut {G X D A : Type 0} (contents : D → Option (List ℕ)) (failed : D → Bool) (w : Words G X Quad) (x : X) (reader : Driven G) (bytes : List ℕ) (first lines : LineOut D A) : Type 0 where
+  pub quads : List Quad
+  pub read : HasRead w reader x bytes quads
+  pub moves : Moves (contents first.drain.now) (contents lines.drain.now) (lines_of first.form quads) lines.buffer.now.items
+  pub writable : Writable first.form.style quads
+  pub same : SameOut first lines
+  pub live : failed lines.drain.now ≡ false
+
+-- Since the run began, with lines in this style, these bytes were read, and all lines that are due of them were put.
+pub record IsPutting {G X D A : Type 0} (contents : D → Option (List ℕ)) (failed : D → Bool) (w : Words G X Quad) (style : Style) (reader : Driven G) (first : LineOut D A) (bytes : List ℕ) (now : Driven G) (lines : LineOut D A) : Type 0 where
   pub begun : (x : X) × Begins failed w x reader first
+  pub styled : first.form.style ≡ style
+  pub limit : now.scanner.limit ≡ reader.scanner.limit
+  pub put : (x : X) → Begins failed w x reader first → HasPut contents failed w x now bytes first lines
+
+-- The same, and they were all handed over.
+pub record IsConverting {G X D A : Type 0} (contents : D → Option (List ℕ)) (failed : D → Bool) (w : Words G X Quad) (style : Style) (reader : Driven G) (first : LineOut D A) (bytes : List ℕ) (now : Driven G) (lines : LineOut D A) : Type 0 where
+  pub begun : (x : X) × Begins failed w x reader first
+  pub styled : first.form.style ≡ style
   pub limit : now.scanner.limit ≡ reader.scanner.limit
   pub handed : (x : X) → Begins failed w x reader first → HandedOver contents failed w x now bytes first lines
 

@@ -1,9 +1,11 @@
 -- What a sink of lines does to the bytes of its drain and to those that wait for it.
-use Rattle.std.specs.Prelude.{◌≡◌, ◌<◌, ℕ, Bool, false, List, [], ◌++◌, length, Option, encode_utf8_all}
+use Rattle.std.specs.Prelude.{◌≡◌, ◌<◌, ℕ, Bool, true, false, List, [], ◌++◌, length, Option, encode_utf8_all}
 use Rattle.std.specs.Io.KnownBytes.{Appends}
 use Rattle.rdf_terms.specs.Terms.{Quad, IsQuad}
 use Rattle.rdf_stream.specs.declared.form.WrittenForm.{WrittenForm}
 use Rattle.rdf_stream.specs.WrittenForms.{line_in}
+use Rattle.rdf_stream.specs.declared.fault.StreamFault.{StreamFault}
+use Rattle.rdf_stream.specs.declared.fault.StreamFault.TheVariants as fault
 use Rattle.rdf_stream.specs.declared.line_out.LineOut.{LineOut}
 
 -- fewer bytes wait when a line has been put
@@ -44,3 +46,12 @@ pub record Leaves {D A : Type 0} (contents : D → Option (List ℕ)) (failed : 
   pub rest : List ℕ
   pub moves : Moves (contents before.drain.now) (contents after.drain.now) (before.buffer.now.items ++ line_bytes before.form q) rest
   pub live : failed after.drain.now ≡ false → Writes contents before [] after
+
+-- What is told of bytes that were not put, once all that waited was handed over: nothing of them was written, or where the drain failed, a beginning of
+-- what waited and of them.
+abbrev pub PutHalts : {D A : Type 0} → (D → Option (List ℕ)) → (D → Bool) → StreamFault → LineOut D A → List ℕ → LineOut D A → Type 0
+PutHalts contents failed fault.Write before bytes after =
+    (failed after.drain.now ≡ true) × (rest : List ℕ) × Moves (contents before.drain.now) (contents after.drain.now) (before.buffer.now.items ++ bytes) rest
+PutHalts contents failed fault.Memory before bytes after =
+    (failed after.drain.now ≡ false) × Appends (contents before.drain.now) (contents after.drain.now) before.buffer.now.items
+PutHalts contents failed told before bytes after = ⊥

@@ -1,11 +1,17 @@
 -- What is written for quads, by the form of what is written.
-use Rattle.std.specs.Prelude.{List, ℕ}
+use Rattle.std.specs.Prelude.{Bool, true, false, List, ℕ}
 use Rattle.rdf_terms.specs.Terms.{Quad}
-use Rattle.rdf_lines.specs.declared.form.Escapes.TheVariants.{Plain}
+use Rattle.rdf_lines.specs.declared.form.Escapes.{Escapes}
+use Rattle.rdf_lines.specs.declared.form.Escapes.TheVariants.{Plain, Ascii}
 use Rattle.rdf_lines.specs.declared.form.Style.{Style}
 use Rattle.rdf_lines.specs.Laws.{ReadsBack}
 use Rattle.rdf_lines.specs.Writing.{line, text}
 use Rattle.rdf_stream.specs.declared.form.WrittenForm.{WrittenForm}
+
+-- whether each character above U+007F stands as it is
+abbrev pub is_plain : Escapes → Bool
+is_plain Plain = true
+is_plain Ascii = false
 
 -- each character above U+007F stands as it is
 abbrev pub plain : Style → WrittenForm

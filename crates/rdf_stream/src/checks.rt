@@ -88,8 +88,8 @@ impl<A: Allocator + Copy, G: Passes<A>> Parts<NoQuads> for Reader<G, A> {
 
     ghost count = { λ now. now.so_far.bytes };
 
-    fn part_len(&self, bytes: &[u8]) -> usize {
-        G::part_len(bytes)
+    fn part_len(&self, bytes: &[u8], least: usize) -> usize {
+        G::part_len(bytes, least)
     }
 
     fn pass_front(&mut self, text: &str, _: &mut NoQuads) -> Result<usize, StreamFault> {

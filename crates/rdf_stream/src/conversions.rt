@@ -1,7 +1,7 @@
 // From a document to the lines of its quads.
 
 ghost use Rattle.std.specs.Prelude.{◌≡◌, ◌<◌, ◌++◌, true, false, length, OnOk, IfOk, IfErr, IfSome};
-ghost use Rattle.rdf_stream.specs.Converting.{Begins, IsConverting, RunEnds, RunHalts};
+ghost use Rattle.rdf_stream.specs.Converting.{Begins, IsConverting, IsPutting, RunEnds, RunHalts};
 ghost use Rattle.rdf_stream.specs.Converts.{Accepts, StopsFor};
 ghost use Rattle.rdf_stream.specs.Devices.{reading};
 ghost use Rattle.rdf_stream.specs.Faults.{IsRefusal};
@@ -13,8 +13,10 @@ use crate::fault::StreamFault;
 use crate::form::Kind;
 use crate::job::Job;
 use crate::line_out::{LineOut, stop};
+use crate::parts::{Parts, take_parts};
+use crate::passes::Passes;
 use crate::pieces::{Run, piece_buffer, read_pieces};
-use rdf_driver::{QuadGrammar, Reader, Summary};
+use rdf_driver::{Reader, Summary};
 use rdf_lines::{Style, line_reader};
 use rdf_trig::tree_reader;
 use std::alloc::Allocator;
@@ -58,13 +60,14 @@ pub fn convert<A: Allocator + Copy, S: Source, D: Drain>(
     }
 }
 
-fn convert_with<G: QuadGrammar + Drop, A: Allocator + Copy, S: Source, D: Drain>(
+fn convert_with<A: Allocator + Copy, G: Passes<A>, S: Source, D: Drain>(
     reader: Reader<G, A>,
     source: &mut S,
     piece: &mut [u8],
     lines: &mut LineOut<'_, D, A>,
 ) -> Result<Summary, StreamFault>
     requires begins { (x : G.Setting) × Begins D.has_failed G.words x reader lines.old }
+    requires styled { lines.old.form.style ≡ G.style }
     requires more { S.has_ended source.old ≡ false }
     requires source { S.has_failed source.old ≡ false }
     requires room { 0 < length piece.old }
@@ -82,9 +85,8 @@ fn convert_with<G: QuadGrammar + Drop, A: Allocator + Copy, S: Source, D: Drain>
     read_pieces(source, piece, &mut reader, lines)
 }
 
-impl<'a, G: QuadGrammar + Drop, D: Drain, A: Allocator + Copy> Run<LineOut<'a, D, A>>
-    for Reader<G, A> {
-    ghost taken = { λ first bytes now. IsConverting D.contents D.has_failed G.words first.0 first.1 bytes now.0 now.1 };
+impl<'a, A: Allocator + Copy, G: Passes<A>, D: Drain> Run<LineOut<'a, D, A>> for Reader<G, A> {
+    ghost taken = { λ first bytes now. IsConverting D.contents D.has_failed G.words G.style first.0 first.1 bytes now.0 now.1 };
 
     ghost halts = { λ told first bytes is_end now. RunHalts D.contents D.has_failed G.words told first.0 first.1 bytes is_end now.1 };
 
@@ -96,12 +98,12 @@ impl<'a, G: QuadGrammar + Drop, D: Drain, A: Allocator + Copy> Run<LineOut<'a, D
 
     // Reads a piece, and hands all lines over that are due then.
     fn take(&mut self, piece: &[u8], lines: &mut LineOut<'a, D, A>) -> Result<(), StreamFault> {
-        match self.feed(piece, lines) {
+        match take_parts(self, piece, lines) {
             Ok(()) => match lines.hand_over() {
                 Ok(()) => Ok(()),
                 Err(Failed) => Err(StreamFault::Write),
             },
-            Err(fault) => Err(stop(fault, lines)),
+            Err(fault) => Err(fault),
         }
     }
 
@@ -112,6 +114,41 @@ impl<'a, G: QuadGrammar + Drop, D: Drain, A: Allocator + Copy> Run<LineOut<'a, D
                 Ok(()) => Ok(summary),
                 Err(Failed) => Err(StreamFault::Write),
             },
+            Err(fault) => Err(stop(fault, lines)),
+        }
+    }
+}
+
+impl<'a, A: Allocator + Copy, G: Passes<A>, D: Drain> Parts<LineOut<'a, D, A>> for Reader<G, A> {
+    ghost taken = { λ first bytes now. IsPutting D.contents D.has_failed G.words G.style first.0 first.1 bytes now.0 now.1 };
+
+    ghost halts = { λ told first bytes is_end now. RunHalts D.contents D.has_failed G.words told first.0 first.1 bytes is_end now.1 };
+
+    ghost count = { λ now. now.so_far.bytes };
+
+    fn part_len(&self, bytes: &[u8], least: usize) -> usize {
+        G::part_len(bytes, least)
+    }
+
+    // Passes lines, and puts them as they stand, where they are written so.
+    fn pass_front(
+        &mut self,
+        text: &str,
+        lines: &mut LineOut<'a, D, A>,
+    ) -> Result<usize, StreamFault> {
+        if !lines.is_plain() {
+            return Ok(0);
+        }
+        let passed = G::pass(self, text);
+        match lines.append(&text.as_bytes()[..passed]) {
+            Ok(()) => Ok(passed),
+            Err(fault) => Err(fault),
+        }
+    }
+
+    fn read_part(&mut self, part: &[u8], lines: &mut LineOut<'a, D, A>) -> Result<(), StreamFault> {
+        match self.feed(part, lines) {
+            Ok(()) => Ok(()),
             Err(fault) => Err(stop(fault, lines)),
         }
     }

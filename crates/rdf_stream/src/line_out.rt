@@ -5,8 +5,9 @@ ghost use Rattle.std.specs.Io.KnownBytes.{Appends};
 ghost use Rattle.rdf_stream.specs.Converting.{Tells};
 ghost use Rattle.rdf_stream.specs.Devices.{AppendsFront};
 ghost use Rattle.rdf_tokens.specs.Scans.{token_of};
-ghost use Rattle.rdf_stream.specs.LineOut.{Leaves, SameOut, Takes, Writes};
+ghost use Rattle.rdf_stream.specs.LineOut.{Leaves, PutHalts, SameOut, Takes, Writes, most_waiting};
 ghost use Rattle.rdf_stream.specs.Showing.{LeavesToken, TakesToken};
+ghost use Rattle.rdf_stream.specs.WrittenForms.{is_plain};
 
 use crate::devices::{Drain, Failed};
 use crate::fault::StreamFault;
@@ -14,13 +15,16 @@ use crate::form::WrittenForm;
 use crate::put::put_all;
 use crate::token_line::put_token_line;
 use crate::views::see_quad;
-use rdf_lines::{LabelFault, write_line};
+use rdf_lines::{Escapes, LabelFault, write_line};
 use rdf_terms::{PutFault, QuadRef, QuadSink};
 use rdf_tokens::{Fault, Token};
 use std::alloc::{Allocator, Global};
 
 /// The number of bytes that wait for the drain at most, once a line has been put.
 const WAITING_LEN: usize = 65536;
+
+/// Fewer bytes than these are copied behind what waits, and more go to the drain as they stand.
+const COPIED_LEN: usize = 4096;
 
 /// The lines of the quads that were put: the drain has their front, and the buffer what waits for it. A put of a quad
 /// that the style can't write is refused, as one for which there is no memory.
@@ -51,6 +55,13 @@ impl<'a, D: Drain, A: Allocator + Copy> LineOut<'a, D, A> {
         }
     }
 
+    /// Whether characters above U+007F are written as they are.
+    pub(crate) fn is_plain(&self) -> bool
+        ensures { result ≡ is_plain self.now.form.escapes }
+    {
+        matches!(self.form.escapes, Escapes::Plain)
+    }
+
     /// Hands over all that waits.
     pub(crate) fn hand_over(&mut self) -> Result<(), Failed>
         requires live { D.has_failed self.old.drain.now ≡ false }
@@ -76,6 +87,50 @@ impl<'a, D: Drain, A: Allocator + Copy> LineOut<'a, D, A> {
     {
         self.hand_over()?;
         self.drain.flush()
+    }
+
+    /// Puts lines as they stand.
+    pub(crate) fn append(&mut self, lines: &[u8]) -> Result<(), StreamFault>
+        requires live { D.has_failed self.old.drain.now ≡ false }
+        ensures same { SameOut self.old self.new }
+        ensures writes { OnOk result (Writes D.contents self.old lines.now self.new) }
+        ensures few { OnOk result (length self.old.buffer.now.items < most_waiting → length self.new.buffer.now.items < most_waiting) }
+        ensures live { OnOk result (D.has_failed self.new.drain.now ≡ false) }
+        ensures halts { IfErr result (λ told. PutHalts D.contents D.has_failed told self.old lines.now self.new) }
+    {
+        if lines.len() < COPIED_LEN {
+            return self.copy(lines);
+        }
+        match self.hand_over() {
+            Ok(()) => {}
+            Err(Failed) => return Err(StreamFault::Write),
+        }
+        match put_all(self.drain, lines) {
+            Ok(()) => Ok(()),
+            Err(Failed) => Err(StreamFault::Write),
+        }
+    }
+
+    // Copies lines behind those that wait, and hands them over where they are many then.
+    fn copy(&mut self, lines: &[u8]) -> Result<(), StreamFault>
+        requires live { D.has_failed self.old.drain.now ≡ false }
+        ensures same { SameOut self.old self.new }
+        ensures writes { OnOk result (Writes D.contents self.old lines.now self.new) }
+        ensures few { OnOk result (length self.old.buffer.now.items < most_waiting → length self.new.buffer.now.items < most_waiting) }
+        ensures live { OnOk result (D.has_failed self.new.drain.now ≡ false) }
+        ensures halts { IfErr result (λ told. PutHalts D.contents D.has_failed told self.old lines.now self.new) }
+    {
+        match self.buffer.extend_from_slice(lines) {
+            Ok(()) => {}
+            Err(_) => return Err(handed_over(self)),
+        }
+        if WAITING_LEN <= self.buffer.len() {
+            return match self.hand_over() {
+                Ok(()) => Ok(()),
+                Err(Failed) => Err(StreamFault::Write),
+            };
+        }
+        Ok(())
     }
 
     /// Puts the line of a token.
@@ -125,6 +180,20 @@ impl<'a, D: Drain, A: Allocator + Copy> QuadSink for LineOut<'a, D, A> {
 
     fn failed(&self) -> bool {
         self.drain.failed()
+    }
+}
+
+/// Hands over what waits where no memory was left, and says what is told of it.
+pub(crate) fn handed_over<A: Allocator + Copy, D: Drain>(
+    lines: &mut LineOut<'_, D, A>,
+) -> StreamFault
+    requires live { D.has_failed lines.old.drain.now ≡ false }
+    ensures same { SameOut lines.old lines.new }
+    ensures halts { PutHalts D.contents D.has_failed result lines.old [] lines.new }
+{
+    match lines.hand_over() {
+        Ok(()) => StreamFault::Memory,
+        Err(Failed) => StreamFault::Write,
     }
 }
 

@@ -10,6 +10,12 @@ ghost use Rattle.rdf_stream.specs.Pieces.{HaltsOn, HasBegun, TakesMore};
 use crate::fault::StreamFault;
 use simdutf8::compat::from_utf8;
 
+/// At least so many bytes are read after a try that passed none, and more after each further one in a row.
+const FIRST_LEAST: usize = 8;
+
+/// From so many bytes on they are no more.
+const LAST_LEAST: usize = 4096;
+
 /// Takes the parts of pieces: passes what it can, and reads the others.
 pub(crate) trait Parts<L> {
     /// From the first state on, these bytes were taken.
@@ -19,8 +25,8 @@ pub(crate) trait Parts<L> {
     /// The number of bytes that were taken.
     ghost count: { Self → ℕ };
 
-    /// How many bytes are read before it is tried again to pass some.
-    fn part_len(&self, bytes: &[u8]) -> usize
+    /// How many bytes are read before it is tried again to pass some. They are to be at least so many, where there are.
+    fn part_len(&self, bytes: &[u8], least: usize) -> usize
         ensures within { result ≤ length bytes.now }
         ensures some { 0 < length bytes.now → 0 < result };
 
@@ -50,7 +56,7 @@ pub(crate) fn take_parts<L, R: Parts<L>>(
     ensures few { OnOk result (R.count run.new ≤ most_bytes) }
     ensures halts { IfErr result (λ f. HaltsOn R.taken R.halts f (run.old, out.old) (λ bytes. bytes ++ piece.now) false (run.new, out.new)) }
 {
-    let len = run.part_len(piece);
+    let len = run.part_len(piece, 0);
     match run.read_part(&piece[..len], out) {
         Ok(()) => take_rest(run, &piece[len..], out),
         Err(fault) => Err(fault),
@@ -67,19 +73,32 @@ fn take_rest<L, R: Parts<L>>(run: &mut R, rest: &[u8], out: &mut L) -> Result<()
 {
     let text = utf8_front(rest);
     let mut at = 0;
+    let mut least = 0;
     while at < rest.len() {
         let front = text_from(text, at);
         let from = match run.pass_front(front, out) {
             Ok(passed) => at + passed,
             Err(fault) => return Err(fault),
         };
-        let to = from + run.part_len(&rest[from..]);
+        least = next_least(least, from - at);
+        let to = from + run.part_len(&rest[from..], least);
         match run.read_part(&rest[from..to], out) {
             Ok(()) => at = to,
             Err(fault) => return Err(fault),
         }
     }
     Ok(())
+}
+
+// How many bytes are read at least before the next try to pass some, by how many it was before the last one and what that passed.
+fn next_least(least: usize, passed: usize) -> usize {
+    if passed > 0 {
+        0
+    } else if least < LAST_LEAST {
+        2 * least + FIRST_LEAST
+    } else {
+        least
+    }
 }
 
 // The text from a place on, if a character begins there, or else none of it.

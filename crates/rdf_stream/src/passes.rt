@@ -16,8 +16,8 @@ pub(crate) trait Passes<A: Allocator + Copy>: QuadGrammar + Drop {
     /// How the lines are written that such text has.
     ghost style: { Style };
 
-    /// How many bytes are read before it is tried again to pass some.
-    fn part_len(bytes: &[u8]) -> usize
+    /// How many bytes are read before it is tried again to pass some. They are to be at least so many, where there are.
+    fn part_len(bytes: &[u8], least: usize) -> usize
         ensures within { result ≤ length bytes.now }
         ensures some { 0 < length bytes.now → 0 < result };
 
@@ -30,11 +30,14 @@ pub(crate) trait Passes<A: Allocator + Copy>: QuadGrammar + Drop {
 impl<A: Allocator + Copy> Passes<A> for LineGrammar<A> {
     ghost style = { Kept };
 
-    // A line, or all of them where it ends in CR and LF: so do the others then, and such lines are not passed.
-    fn part_len(bytes: &[u8]) -> usize {
-        match memchr(b'\n', bytes) {
-            Some(at) if at > 0 && bytes[at - 1] == b'\r' => bytes.len(),
-            Some(at) => at + 1,
+    // Whole lines, or all of them where one ends in CR and LF: so do the others then, and such lines are not passed.
+    fn part_len(bytes: &[u8], least: usize) -> usize {
+        if bytes.len() <= least {
+            return bytes.len();
+        }
+        match memchr(b'\n', &bytes[least..]) {
+            Some(at) if at > 0 && bytes[least + at - 1] == b'\r' => bytes.len(),
+            Some(at) => least + at + 1,
             None => bytes.len(),
         }
     }
@@ -48,7 +51,7 @@ impl<A: Allocator + Copy> Passes<A> for TreeGrammar<A> {
     ghost style = { Tagged };
 
     // All of them, since none are passed.
-    fn part_len(bytes: &[u8]) -> usize {
+    fn part_len(bytes: &[u8], _: usize) -> usize {
         bytes.len()
     }
 

@@ -1,16 +1,13 @@
 -- A run over the pieces of a source: it begins with nothing read, and each outcome is that of the pieces.
-use Rattle.std.proofs.Common.{◌≡◌, true, IfSome, refl}
-use Rattle.rdf_stream.specs.Converting.{Begins}
-use Rattle.rdf_stream.specs.Converts.{Accepts, StopsFor}
+use Rattle.std.proofs.Common.{◌≡◌, true, refl}
 use Rattle.rdf_stream.specs.Faults.{IsRefusal}
-use Rattle.rdf_stream.specs.Languages.{conversion}
 use Rattle.rdf_stream.proofs.ConvertsLemmas.{begins, converted, refused_document, stopped}
 use Rattle.rdf_stream.proofs.PiecesLemmas.{if_err, if_ok, on_ok}
 use Rattle.rdf_stream.proofs.conversions.convert_with.Goals as goal
 
 pub read_pieces-requires-clause-begun : goal.read_pieces-requires-clause-begun
 read_pieces-requires-clause-begun g c =
-    begins _ g.D.Drain.contents g.D.Drain.has_failed g.D.Drain.is_flushed g.G.Grammar.words c.requires.begins.0 (c.args.reader, c.args.lines.now) c.requires.begins.1
+    begins _ g.D.Drain.contents g.D.Drain.has_failed g.D.Drain.is_flushed g.G.Grammar.words g.G.Passes.style c.requires.begins.0 (c.args.reader, c.args.lines.now) c.requires.begins.1 c.requires.styled
 
 pub returns-clause-flushed : goal.returns-clause-flushed
 returns-clause-flushed g c = on_ok c.read_pieces.result _ (g.D.Drain.is_flushed c.read_pieces.new.out.drain.now ≡ true) (λ s a. a.is_end.sent) c.read_pieces.ensures.read
@@ -19,7 +16,7 @@ pub returns-clause-accepted : goal.returns-clause-accepted
 returns-clause-accepted g c =
     if_ok c.read_pieces.result _ _
     (λ s a x b.
-    converted _ g.D.Drain.contents g.D.Drain.has_failed g.D.Drain.is_flushed g.G.Grammar.words x _ _ (c.args.reader, c.args.lines.now) (c.read_pieces.new.run, c.read_pieces.new.out) refl refl b _ _ s a)
+    converted _ g.D.Drain.contents g.D.Drain.has_failed g.D.Drain.is_flushed g.G.Grammar.words g.G.Passes.style x _ _ (c.args.reader, c.args.lines.now) (c.read_pieces.new.run, c.read_pieces.new.out) refl refl b _ _ s a)
     c.read_pieces.ensures.read
 
 pub returns-clause-ended : goal.returns-clause-ended
@@ -29,12 +26,12 @@ pub returns-clause-stops : goal.returns-clause-stops
 returns-clause-stops g c =
     if_err c.read_pieces.result _ _
     (λ told a x b.
-    stopped _ g.D.Drain.contents g.D.Drain.has_failed g.D.Drain.is_flushed g.G.Grammar.words x _ _ (c.args.reader, c.args.lines.now) (c.read_pieces.new.run, c.read_pieces.new.out) refl refl b _ _ told a)
+    stopped _ g.D.Drain.contents g.D.Drain.has_failed g.D.Drain.is_flushed g.G.Grammar.words g.G.Passes.style x _ _ (c.args.reader, c.args.lines.now) (c.read_pieces.new.run, c.read_pieces.new.out) refl refl b _ _ told a)
     c.read_pieces.ensures.stops
 
 pub returns-clause-refused : goal.returns-clause-refused
 returns-clause-refused g c =
     if_err c.read_pieces.result _ IsRefusal
     (λ told a.
-    refused_document _ g.D.Drain.contents g.D.Drain.has_failed g.D.Drain.is_flushed g.G.Grammar.words c.requires.begins.0 _ _ (c.args.reader, c.args.lines.now) (c.read_pieces.new.run, c.read_pieces.new.out) refl refl c.requires.begins.1 _ _ told a)
+    refused_document _ g.D.Drain.contents g.D.Drain.has_failed g.D.Drain.is_flushed g.G.Grammar.words g.G.Passes.style c.requires.begins.0 _ _ (c.args.reader, c.args.lines.now) (c.read_pieces.new.run, c.read_pieces.new.out) refl refl c.requires.begins.1 _ _ told a)
     c.read_pieces.ensures.stops

@@ -1,43 +1,63 @@
 -- A piece: its lines are handed over, and an error within it or of the drain stops the run.
-use Rattle.std.proofs.Common.{rules}
-use Rattle.rdf_stream.proofs.ConvertingLemmas.{run_broke, run_counts, run_few, run_halts, run_same, run_takes, stays_on}
+use Rattle.std.proofs.Common.{rules, ap, ◌+◌, ◌∙◌, length, length-append, sym}
+use Rattle.rdf_stream.proofs.ConvertingLemmas.{count_now, live_now, putting, run_broke, run_handed, same_now, stays_on}
+use Rattle.rdf_stream.proofs.LineOutLemmas.{same_out}
 use Rattle.rdf_stream.proofs.conversions.ReaderRunLineOut.take.Goals as goal
+
+pub take_parts-requires : goal.take_parts-requires
+take_parts-requires g c =
+    let (first, bytes, i) = c.requires.begun in
+    record { begun = (first, bytes, putting g.D.Drain.contents g.D.Drain.has_failed g.G.Grammar.words g.G.Passes.style first.0 first.1 bytes c.args.self.now c.args.lines.now i) }
+
+pub hand_over-requires : goal.hand_over-requires
+hand_over-requires g c =
+    let (first, bytes, i) = c.requires.begun in
+    let put = putting g.D.Drain.contents g.D.Drain.has_failed g.G.Grammar.words g.G.Passes.style first.0 first.1 bytes c.args.self.now c.args.lines.now i in
+    record { live = live_now g.D.Drain.contents g.D.Drain.has_failed g.G.Grammar.words g.G.Passes.style first.0 first.1 _ _ _ (c.in-Ok.ensures.takes first bytes put) }
 
 pub returns-in-Ok-hand_over-clause-takes : goal.returns-in-Ok-hand_over-clause-takes
 returns-in-Ok-hand_over-clause-takes g c = λ first bytes i.
-    run_takes g.D.Drain.contents g.D.Drain.has_failed g.G.Grammar.words first.0 first.1 bytes c.args.self.now c.args.lines.now i _ _ _ c.in-Ok.ensures.ok _
+    let put = putting g.D.Drain.contents g.D.Drain.has_failed g.G.Grammar.words g.G.Passes.style first.0 first.1 bytes c.args.self.now c.args.lines.now i in
+    run_handed g.D.Drain.contents g.D.Drain.has_failed g.G.Grammar.words g.G.Passes.style first.0 first.1 _ _ _ (c.in-Ok.ensures.takes first bytes put) _
     (search rules) (search rules) (search rules) (search rules)
 
 pub returns-in-Ok-hand_over-clause-count : goal.returns-in-Ok-hand_over-clause-count
 returns-in-Ok-hand_over-clause-count g c =
-    let (first, bytes, i) = c.requires.begun in run_counts g.D.Drain.contents g.D.Drain.has_failed g.G.Grammar.words first.0 first.1 bytes c.args.self.now c.args.lines.now i _ _ _ c.in-Ok.ensures.ok
-
-pub returns-in-Ok-hand_over-clause-few : goal.returns-in-Ok-hand_over-clause-few
-returns-in-Ok-hand_over-clause-few g c =
-    let (first, bytes, i) = c.requires.begun in run_few g.D.Drain.contents g.D.Drain.has_failed g.G.Grammar.words first.0 first.1 bytes c.args.self.now c.args.lines.now i _ _ _ c.in-Ok.ensures.ok _ c.in-Ok.ensures.few
+    let (first, bytes, i) = c.requires.begun in
+    let put = putting g.D.Drain.contents g.D.Drain.has_failed g.G.Grammar.words g.G.Passes.style first.0 first.1 bytes c.args.self.now c.args.lines.now i in
+    let before = count_now g.D.Drain.contents g.D.Drain.has_failed g.G.Grammar.words g.G.Passes.style first.0 first.1 bytes c.args.self.now c.args.lines.now put in
+    count_now g.D.Drain.contents g.D.Drain.has_failed g.G.Grammar.words g.G.Passes.style first.0 first.1 _ _ _ (c.in-Ok.ensures.takes first bytes put)
+    ∙ (length-append bytes c.args.piece.now ∙ ap (λ n. n + length c.args.piece.now) (sym before))
 
 pub returns-in-Ok-hand_over-clause-stays : goal.returns-in-Ok-hand_over-clause-stays
 returns-in-Ok-hand_over-clause-stays g c = λ before s.
     let (first, bytes, i) = c.requires.begun in
-    stays_on g.D.Drain.contents g.D.Drain.has_failed g.G.Grammar.words first.0 first.1 bytes c.args.self.now c.args.lines.now i _
-    (run_same g.D.Drain.contents g.D.Drain.has_failed g.G.Grammar.words first.0 first.1 bytes c.args.self.now c.args.lines.now i _ _ _ c.in-Ok.ensures.ok _ (search rules)) before.1 s
+    let put = putting g.D.Drain.contents g.D.Drain.has_failed g.G.Grammar.words g.G.Passes.style first.0 first.1 bytes c.args.self.now c.args.lines.now i in
+    let mid = same_now g.D.Drain.contents g.D.Drain.has_failed g.G.Grammar.words g.G.Passes.style first.0 first.1 _ _ _ (c.in-Ok.ensures.takes first bytes put) in
+    stays_on g.D.Drain.contents g.D.Drain.has_failed g.G.Grammar.words g.G.Passes.style first.0 first.1 bytes c.args.self.now c.args.lines.now put _
+    (same_out first.1 _ _ mid (search rules)) before.1 s
 
 pub returns-in-Err-hand_over-clause-stays : goal.returns-in-Err-hand_over-clause-stays
 returns-in-Err-hand_over-clause-stays g c = λ before s.
     let (first, bytes, i) = c.requires.begun in
-    stays_on g.D.Drain.contents g.D.Drain.has_failed g.G.Grammar.words first.0 first.1 bytes c.args.self.now c.args.lines.now i _
-    (run_same g.D.Drain.contents g.D.Drain.has_failed g.G.Grammar.words first.0 first.1 bytes c.args.self.now c.args.lines.now i _ _ _ c.in-Ok.ensures.ok _ (search rules)) before.1 s
+    let put = putting g.D.Drain.contents g.D.Drain.has_failed g.G.Grammar.words g.G.Passes.style first.0 first.1 bytes c.args.self.now c.args.lines.now i in
+    let mid = same_now g.D.Drain.contents g.D.Drain.has_failed g.G.Grammar.words g.G.Passes.style first.0 first.1 _ _ _ (c.in-Ok.ensures.takes first bytes put) in
+    stays_on g.D.Drain.contents g.D.Drain.has_failed g.G.Grammar.words g.G.Passes.style first.0 first.1 bytes c.args.self.now c.args.lines.now put _
+    (same_out first.1 _ _ mid (search rules)) before.1 s
 
 pub returns-in-Err-hand_over-clause-halts : goal.returns-in-Err-hand_over-clause-halts
 returns-in-Err-hand_over-clause-halts g c = λ first bytes i.
-    run_broke g.D.Drain.contents g.D.Drain.has_failed g.G.Grammar.words first.0 first.1 bytes c.args.self.now c.args.lines.now i _ _ _ c.in-Ok.ensures.ok _ (search rules) (search rules) (search rules)
+    let put = putting g.D.Drain.contents g.D.Drain.has_failed g.G.Grammar.words g.G.Passes.style first.0 first.1 bytes c.args.self.now c.args.lines.now i in
+    run_broke g.D.Drain.contents g.D.Drain.has_failed g.G.Grammar.words g.G.Passes.style first.0 first.1 _ _ _ (c.in-Ok.ensures.takes first bytes put) _
+    (search rules) (search rules) (search rules)
 
 pub returns-in-Err-clause-stays : goal.returns-in-Err-clause-stays
 returns-in-Err-clause-stays g c = λ before s.
     let (first, bytes, i) = c.requires.begun in
-    stays_on g.D.Drain.contents g.D.Drain.has_failed g.G.Grammar.words first.0 first.1 bytes c.args.self.now c.args.lines.now i _
-    (run_halts g.D.Drain.contents g.D.Drain.has_failed g.G.Grammar.words first.0 first.1 bytes c.args.self.now c.args.lines.now i _ _ _ _ _ _ _ _ c.in-Err.ensures.err c.stop.ensures.same c.stop.ensures.tells).same before.1 s
+    let put = putting g.D.Drain.contents g.D.Drain.has_failed g.G.Grammar.words g.G.Passes.style first.0 first.1 bytes c.args.self.now c.args.lines.now i in
+    stays_on g.D.Drain.contents g.D.Drain.has_failed g.G.Grammar.words g.G.Passes.style first.0 first.1 bytes c.args.self.now c.args.lines.now put _
+    (c.in-Err.ensures.halts first bytes put).same before.1 s
 
 pub returns-in-Err-clause-halts : goal.returns-in-Err-clause-halts
 returns-in-Err-clause-halts g c = λ first bytes i.
-    run_halts g.D.Drain.contents g.D.Drain.has_failed g.G.Grammar.words first.0 first.1 bytes c.args.self.now c.args.lines.now i _ _ _ _ _ _ _ _ c.in-Err.ensures.err c.stop.ensures.same c.stop.ensures.tells
+    c.in-Err.ensures.halts first bytes (putting g.D.Drain.contents g.D.Drain.has_failed g.G.Grammar.words g.G.Passes.style first.0 first.1 bytes c.args.self.now c.args.lines.now i)

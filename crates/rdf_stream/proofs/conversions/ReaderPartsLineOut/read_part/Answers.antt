@@ -1,0 +1,28 @@
+-- A part: its lines are put, and an error within it stops the run, whatever comes after it.
+use Rattle.std.proofs.Common.{◌++◌, false, append_assoc, subst}
+use Rattle.rdf_stream.specs.Converting.{RunHalts}
+use Rattle.rdf_stream.proofs.ConvertingLemmas.{few_now, live_now, run_halts, run_reads}
+use Rattle.rdf_stream.proofs.ConvertsLemmas.{halts_more}
+use Rattle.rdf_stream.proofs.conversions.ReaderPartsLineOut.read_part.Goals as goal
+
+pub feed-requires : goal.feed-requires
+feed-requires g c =
+    let (first, bytes, i) = c.requires.begun in
+    λ running. live_now g.D.Drain.contents g.D.Drain.has_failed g.G.Grammar.words g.G.Passes.style first.0 first.1 bytes c.args.self.now c.args.lines.now i
+
+pub returns-in-Ok-clause-takes : goal.returns-in-Ok-clause-takes
+returns-in-Ok-clause-takes g c = λ first bytes i.
+    run_reads g.D.Drain.contents g.D.Drain.has_failed g.G.Grammar.words g.G.Passes.style first.0 first.1 bytes c.args.self.now c.args.lines.now i c.args.part.now _ _ c.in-Ok.ensures.ok
+
+pub returns-in-Ok-clause-few : goal.returns-in-Ok-clause-few
+returns-in-Ok-clause-few g c =
+    let (first, bytes, i) = c.requires.begun in
+    let put = run_reads g.D.Drain.contents g.D.Drain.has_failed g.G.Grammar.words g.G.Passes.style first.0 first.1 bytes c.args.self.now c.args.lines.now i c.args.part.now _ _ c.in-Ok.ensures.ok in
+    few_now g.D.Drain.contents g.D.Drain.has_failed g.G.Grammar.words g.G.Passes.style first.0 first.1 _ _ _ put _ c.in-Ok.ensures.few
+
+pub returns-in-Err-clause-halts : goal.returns-in-Err-clause-halts
+returns-in-Err-clause-halts g c = λ more first bytes i.
+    let part = c.args.part.now in
+    let halts = run_halts g.D.Drain.contents g.D.Drain.has_failed g.G.Grammar.words g.G.Passes.style first.0 first.1 bytes c.args.self.now c.args.lines.now i part _ _ _ _ _ _ _ c.in-Err.ensures.err c.stop.ensures.same c.stop.ensures.tells in
+    subst (λ b. RunHalts g.D.Drain.contents g.D.Drain.has_failed g.G.Grammar.words c.stop.result first.0 first.1 b false c.stop.new.lines) (append_assoc bytes part more)
+    (halts_more g.D.Drain.contents g.D.Drain.has_failed g.G.Grammar.words c.stop.result first.0 first.1 (bytes ++ part) more c.stop.new.lines halts)
