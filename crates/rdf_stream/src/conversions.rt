@@ -16,7 +16,7 @@ use crate::line_out::{LineOut, stop};
 use crate::parts::{Parts, take_parts};
 use crate::passes::Passes;
 use crate::pieces::{Run, piece_buffer, read_pieces};
-use rdf_driver::{Reader, Summary};
+use rdf_driver::{QuadGrammar, Reader, Summary};
 use rdf_lines::{Style, line_reader};
 use rdf_trig::tree_reader;
 use std::alloc::Allocator;
@@ -85,7 +85,8 @@ fn convert_with<A: Allocator + Copy, G: Passes<A>, S: Source, D: Drain>(
     read_pieces(source, piece, &mut reader, lines)
 }
 
-impl<'a, A: Allocator + Copy, G: Passes<A>, D: Drain> Run<LineOut<'a, D, A>> for Reader<G, A> {
+impl<'a, A: Allocator + Copy, G: QuadGrammar + Passes<A>, D: Drain> Run<LineOut<'a, D, A>>
+    for Reader<G, A> {
     ghost taken = { λ first bytes now. IsConverting D.contents D.has_failed G.words G.style first.0 first.1 bytes now.0 now.1 };
 
     ghost halts = { λ told first bytes is_end now. RunHalts D.contents D.has_failed G.words told first.0 first.1 bytes is_end now.1 };
