@@ -81,7 +81,7 @@ SHAPES = {
     'one string without its end': lambda size: HEAD + '"' + 'a' * size,
 }
 
-# The same in sixteen runs, each of as many characters as the limit on tokens, which is less than a piece: what comes again and
+# The same in sixty-four runs, each of as many characters as the limit on tokens, which is less than a piece: what comes again and
 # again, and how often a run has it at the greatest scale.
 IN_RUNS = {
     'keywords in runs of the limit': ('true', 15000),
@@ -127,7 +127,7 @@ def times_of_runs(action, shape, path):
     for scale in SCALES:
         run = word * (most * scale // SCALES[-1])
         with open(path, 'w') as f:
-            f.write(HEAD + '(' + (run + ' ') * 16 + ') .\n')
+            f.write(HEAD + '(' + (run + ' ') * 64 + ') .\n')
         best = []
         for _ in range(3):
             with open(path, 'rb') as f:
