@@ -22,6 +22,10 @@ pub record IsAccepted (language : Language) (bytes : List ℕ) (s : Summary) : T
   pub within : IsWhole language bytes
   pub counts : Counts language bytes quads s
 
+-- all bytes of a source are such a document, where they are known
+abbrev pub IsAllAccepted : Language → Option (List ℕ) → Summary → Type 0
+IsAllAccepted language known s = IfSome known (λ bytes. IsAccepted language bytes s)
+
 -- The bytes, with their end or before more come, are refused at the place, so they are no document within the limits; or there are too many.
 abbrev pub IsRefusedFor : Reason → Language → List ℕ → Bool → Place → Type 0
 IsRefusedFor DocumentTooLong language bytes is_end at = IsTooLong bytes at

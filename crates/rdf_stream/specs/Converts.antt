@@ -46,6 +46,10 @@ pub record Accepts (job : Conversion) (bytes : List ℕ) (old new : Option (List
 abbrev pub IsConverted : Conversion → List ℕ → Option (List ℕ) → Option (List ℕ) → Type 0
 IsConverted job bytes old new = (s : Summary) × Accepts job bytes old new s
 
+-- all bytes of a source were converted and counted so, where they are known
+abbrev pub AcceptsAll : Conversion → Option (List ℕ) → Option (List ℕ) → Option (List ℕ) → Summary → Type 0
+AcceptsAll job known old new s = IfSome known (λ bytes. Accepts job bytes old new s)
+
 -- the lines of the quads that are due after these tokens were written
 pub record WritesDue (job : Conversion) (ahead : List Token) (old new : Option (List ℕ)) : Type 0 where
   pub quads : List Quad
@@ -64,13 +68,15 @@ pub record WritesFront (job : Conversion) (tokens : List Token) (old new : Optio
   pub due : BeginsDue job.language.documents job.language.passes tokens quads
   pub written : AppendsFront old new (lines_of job.form quads)
 
--- The bytes are refused at the place, so they are no document within the limits, and the lines of the quads that are due before it were written; or there are too many bytes.
+-- The bytes are refused at the place, so they are no document within the limits, and the lines of the quads that are due before it were
+-- written; or there are too many bytes.
 abbrev pub RefusesDocument : Reason → Conversion → List ℕ → Bool → Place → Option (List ℕ) → Option (List ℕ) → Type 0
 RefusesDocument DocumentTooLong job bytes is_end at old new = IsTooLong bytes at × WritesSome job (reading_of job.language bytes is_end).tokens old new
 RefusesDocument reason job bytes is_end at old new =
     (ahead : List Token) × RefusedIn job.language (reading_of job.language bytes is_end) reason at ahead × WritesDue job ahead old new
 
--- The source has given these bytes, whose tokens are all in the front and leave the next one open, and the lines of all quads that are due in them were written.
+-- The source has given these bytes, whose tokens are all in the front and leave the next one open, and the lines of all quads that are
+-- due in them were written.
 pub record BreaksOff (job : Conversion) (known left old new : Option (List ℕ)) : Type 0 where
   pub bytes : List ℕ
   pub consumed : Consumes known left bytes

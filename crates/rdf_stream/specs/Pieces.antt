@@ -15,7 +15,8 @@ abbrev pub TakesMore : {R : Type 0} → (R → List ℕ → R → Type 0) → R 
 TakesMore {R} taken old piece new = (first : R) (bytes : List ℕ) → taken first bytes old → taken first (bytes ++ piece) new
 
 -- All bytes so far, as a function of those before, are not read on, whatever was taken before.
-abbrev pub HaltsOn : {R : Type 0} → (R → List ℕ → R → Type 0) → (StreamFault → R → List ℕ → Bool → R → Type 0) → StreamFault → R → (List ℕ → List ℕ) → Bool → R → Type 0
+abbrev pub HaltsOn : {R : Type 0} → (R → List ℕ → R → Type 0) → (StreamFault → R → List ℕ → Bool → R → Type 0)
+    → StreamFault → R → (List ℕ → List ℕ) → Bool → R → Type 0
 HaltsOn {R} taken halts f old so_far is_end new = (first : R) (bytes : List ℕ) → taken first bytes old → halts f first (so_far bytes) is_end new
 
 -- The bytes are all that there are, and were read, whatever was taken before.
@@ -23,7 +24,8 @@ abbrev pub ReadsEnd : {R : Type 0} → (R → List ℕ → R → Type 0) → (Su
 ReadsEnd {R} taken ends summary old new = (first : R) (bytes : List ℕ) → taken first bytes old → ends summary first bytes new
 
 -- All bytes of the source were read.
-pub record ReadsAll {R : Type 0} (ends : Summary → R → List ℕ → R → Type 0) (known : Option (List ℕ)) (left : Reading) (summary : Summary) (first now : R) : Type 0 where
+pub record ReadsAll {R : Type 0} (ends : Summary → R → List ℕ → R → Type 0)
+    (known : Option (List ℕ)) (left : Reading) (summary : Summary) (first now : R) : Type 0 where
   pub bytes : List ℕ
   pub consumed : Consumes known left.remaining bytes
   pub told : left.has_ended ≡ true
@@ -38,6 +40,7 @@ pub record SourceFails {R : Type 0} (taken : R → List ℕ → R → Type 0) (k
   pub is_taken : taken first bytes now
 
 -- Why a source was not read to its end: it failed, or what takes the pieces did not read on.
-abbrev pub ReadStops : {R : Type 0} → (R → List ℕ → R → Type 0) → (StreamFault → R → List ℕ → Bool → R → Type 0) → StreamFault → Option (List ℕ) → Reading → R → R → Type 0
+abbrev pub ReadStops : {R : Type 0} → (R → List ℕ → R → Type 0) → (StreamFault → R → List ℕ → Bool → R → Type 0)
+    → StreamFault → Option (List ℕ) → Reading → R → R → Type 0
 ReadStops taken halts f known left first now =
     ((f ≡ Read) × SourceFails taken known left first now) ⊎ ((given : HasGiven known left) × halts f first given.bytes left.has_ended now)

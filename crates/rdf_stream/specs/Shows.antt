@@ -85,6 +85,10 @@ pub record Shows (job : JobRead) (bytes : List ℕ) (old new : Option (List ℕ)
   pub tokens : s.tokens + 1 ≡ length (tokens_in job bytes true).tokens
   pub taken : s.bytes ≡ length bytes
 
+-- all bytes of a source were shown and counted so, where they are known
+abbrev pub ShowsAll : JobRead → Option (List ℕ) → Option (List ℕ) → Option (List ℕ) → Summary → Type 0
+ShowsAll job known old new s = IfSome known (λ bytes. Shows job bytes old new s)
+
 -- No token stands at the place, and the lines of all before it were written.
 pub record StopsAt (reading : Reading) (o : Outcome) (at : Place) (old new : Option (List ℕ)) : Type 0 where
   pub outcome : reading.outcome ≡ o
@@ -97,7 +101,8 @@ ShowRefuses BadUtf8 job bytes is_end at old new = StopsAt (tokens_in job bytes i
 ShowRefuses NoToken job bytes is_end at old new = StopsAt (tokens_in job bytes is_end) no_token at old new
 ShowRefuses BadEscape job bytes is_end at old new = StopsAt (tokens_in job bytes is_end) bad_escape at old new
 ShowRefuses TokenTooLong job bytes is_end at old new = StopsAt (tokens_in job bytes is_end) token_too_long at old new
-ShowRefuses DocumentTooLong job bytes is_end at old new = IsTooLong bytes at × Appends old new (token_lines (tokens_in job (take most_bytes bytes) false).tokens)
+ShowRefuses DocumentTooLong job bytes is_end at old new =
+    IsTooLong bytes at × Appends old new (token_lines (tokens_in job (take most_bytes bytes) false).tokens)
 ShowRefuses reason job bytes is_end at old new = ⊥
 
 -- The source has given these bytes, which do not decide what stands behind them, and the lines of the tokens that they decide were written.

@@ -1,8 +1,8 @@
 // Reading a document to its end.
 
-ghost use Rattle.std.specs.Prelude.{◌≡◌, true, false, OnOk, IfOk, IfErr, IfSome};
+ghost use Rattle.std.specs.Prelude.{◌≡◌, true, false, OnOk, IfOk, IfErr};
 ghost use Rattle.rdf_driver.specs.Words.{in_words};
-ghost use Rattle.rdf_stream.specs.Checks.{BeginsToRead, CheckEnds, CheckHalts, CheckStops, IsChecking, IsAccepted};
+ghost use Rattle.rdf_stream.specs.Checks.{BeginsToRead, CheckEnds, CheckHalts, CheckStops, IsAllAccepted, IsChecking};
 ghost use Rattle.rdf_stream.specs.Devices.{reading};
 ghost use Rattle.rdf_stream.specs.Faults.{IsRefusal};
 ghost use Rattle.rdf_stream.specs.Languages.{language_of};
@@ -28,9 +28,10 @@ pub fn check<A: Allocator + Copy, S: Source>(
 ) -> Result<Summary, StreamFault>
     requires more { S.has_ended source.old ≡ false }
     requires source { S.has_failed source.old ≡ false }
-    ensures accepted { IfOk result (λ summary. IfSome (S.remaining source.old) (λ bytes. IsAccepted (language_of job) bytes summary)) }
+    ensures accepted { IfOk result (IsAllAccepted (language_of job) (S.remaining source.old)) }
     ensures ended { OnOk result (S.has_ended source.new ≡ true) }
-    ensures stops { IfErr result (λ fault. CheckStops fault (language_of job) (S.remaining source.old) (reading S.remaining S.has_ended S.has_failed source.new)) }
+    ensures stops { IfErr result (λ fault.
+        CheckStops fault (language_of job) (S.remaining source.old) (reading S.remaining S.has_ended S.has_failed source.new)) }
     ensures refused { IfErr result IsRefusal }
 {
     match job.form().kind() {
@@ -47,7 +48,8 @@ fn check_with<A: Allocator + Copy, G: Passes<A>, S: Source>(
     requires begun { (x : G.Setting) × BeginsToRead G.words x reader }
     requires more { S.has_ended source.old ≡ false }
     requires source { S.has_failed source.old ≡ false }
-    ensures accepted { IfOk result (λ summary. (x : G.Setting) → BeginsToRead G.words x reader → IfSome (S.remaining source.old) (λ bytes. IsAccepted (in_words G.words x reader.scanner.limit) bytes summary)) }
+    ensures accepted { IfOk result (λ summary. (x : G.Setting) → BeginsToRead G.words x reader →
+        IsAllAccepted (in_words G.words x reader.scanner.limit) (S.remaining source.old) summary) }
     ensures ended { OnOk result (S.has_ended source.new ≡ true) }
     ensures stops { IfErr result (λ told. (x : G.Setting) → BeginsToRead G.words x reader →
         CheckStops told (in_words G.words x reader.scanner.limit) (S.remaining source.old) (reading S.remaining S.has_ended S.has_failed source.new)) }

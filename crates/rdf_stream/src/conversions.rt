@@ -2,7 +2,7 @@
 
 ghost use Rattle.std.specs.Prelude.{◌≡◌, ◌<◌, ◌++◌, true, false, length, OnOk, IfOk, IfErr, IfSome};
 ghost use Rattle.rdf_stream.specs.Converting.{Begins, IsConverting, IsPutting, RunEnds, RunHalts};
-ghost use Rattle.rdf_stream.specs.Converts.{Accepts, StopsFor};
+ghost use Rattle.rdf_stream.specs.Converts.{Accepts, AcceptsAll, StopsFor};
 ghost use Rattle.rdf_stream.specs.Devices.{reading};
 ghost use Rattle.rdf_stream.specs.Faults.{IsRefusal};
 ghost use Rattle.rdf_stream.specs.Languages.{conversion, conversion_of};
@@ -35,11 +35,12 @@ pub fn convert<A: Allocator + Copy, S: Source, D: Drain>(
     requires more { S.has_ended source.old ≡ false }
     requires source { S.has_failed source.old ≡ false }
     requires drain { D.has_failed drain.old ≡ false }
-    ensures accepted { IfOk result (λ summary. IfSome (S.remaining source.old) (λ bytes. Accepts (conversion_of job) bytes (D.contents drain.old) (D.contents drain.new) summary)) }
+    ensures accepted { IfOk result (AcceptsAll (conversion_of job) (S.remaining source.old) (D.contents drain.old) (D.contents drain.new)) }
     ensures ended { OnOk result (S.has_ended source.new ≡ true) }
     ensures flushed { OnOk result (D.is_flushed drain.new ≡ true) }
     ensures stops { IfErr result (λ fault.
-        StopsFor fault (conversion_of job) (S.remaining source.old) (reading S.remaining S.has_ended S.has_failed source.new) (D.contents drain.old) (D.contents drain.new) (D.has_failed drain.new)) }
+        StopsFor fault (conversion_of job) (S.remaining source.old) (reading S.remaining S.has_ended S.has_failed source.new)
+        (D.contents drain.old) (D.contents drain.new) (D.has_failed drain.new)) }
     ensures refused { IfErr result IsRefusal }
 {
     let mut piece = piece_buffer(alloc)?;

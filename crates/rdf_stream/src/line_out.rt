@@ -134,6 +134,7 @@ impl<'a, D: Drain, A: Allocator + Copy> LineOut<'a, D, A> {
     }
 
     /// Puts the line of a token.
+    #[inline(always)]
     pub(crate) fn put_token(&mut self, token: Token<'_>) -> Result<(), PutFault>
         requires live { D.has_failed self.old.drain.now ≡ false }
         ensures taken { OnOk result (TakesToken D.contents D.has_failed self.old (token_of token.entry) self.new) }

@@ -58,7 +58,8 @@ pub(crate) fn read_pieces<S: Source, L, R: Run<L>>(
     requires begun { R.taken (run.old, out.old) [] (run.old, out.old) }
     requires stays { R.stays (run.old, out.old) (run.old, out.old) }
     ensures stays { R.stays (run.old, out.old) (run.new, out.new) }
-    ensures read { IfOk result (λ summary. ReadsAll R.ends (S.remaining source.old) (reading S.remaining S.has_ended S.has_failed source.new) summary (run.old, out.old) (run.new, out.new)) }
+    ensures read { IfOk result (λ summary.
+        ReadsAll R.ends (S.remaining source.old) (reading S.remaining S.has_ended S.has_failed source.new) summary (run.old, out.old) (run.new, out.new)) }
     ensures stops { IfErr result (λ f.
         ReadStops R.taken R.halts f (S.remaining source.old) (reading S.remaining S.has_ended S.has_failed source.new) (run.old, out.old) (run.new, out.new)) }
 {

@@ -1,11 +1,11 @@
 // From a document to the lines of its tokens.
 
-ghost use Rattle.std.specs.Prelude.{◌≡◌, ◌<◌, [], true, false, length, OnOk, IfOk, IfErr, IfSome};
+ghost use Rattle.std.specs.Prelude.{◌≡◌, ◌<◌, [], true, false, length, OnOk, IfOk, IfErr};
 ghost use Rattle.rdf_stream.specs.Devices.{reading};
 ghost use Rattle.rdf_stream.specs.Faults.{IsRefusal};
 ghost use Rattle.rdf_stream.specs.LineOut.{SameOut};
 ghost use Rattle.rdf_stream.specs.Showing.{IsShowing, ShowEnds, ShowHalts};
-ghost use Rattle.rdf_stream.specs.Shows.{ShowStops, Shows, dialect_of};
+ghost use Rattle.rdf_stream.specs.Shows.{ShowStops, ShowsAll, dialect_of};
 
 use crate::devices::{Drain, Failed, Source};
 use crate::fault::StreamFault;
@@ -32,11 +32,11 @@ pub fn show<A: Allocator + Copy, S: Source, D: Drain>(
     requires more { S.has_ended source.old ≡ false }
     requires source { S.has_failed source.old ≡ false }
     requires drain { D.has_failed drain.old ≡ false }
-    ensures accepted { IfOk result (λ summary. IfSome (S.remaining source.old) (λ bytes. Shows job bytes (D.contents drain.old) (D.contents drain.new) summary)) }
+    ensures accepted { IfOk result (ShowsAll job (S.remaining source.old) (D.contents drain.old) (D.contents drain.new)) }
     ensures ended { OnOk result (S.has_ended source.new ≡ true) }
     ensures flushed { OnOk result (D.is_flushed drain.new ≡ true) }
-    ensures stops { IfErr result (λ fault.
-        ShowStops fault job (S.remaining source.old) (reading S.remaining S.has_ended S.has_failed source.new) (D.contents drain.old) (D.contents drain.new) (D.has_failed drain.new)) }
+    ensures stops { IfErr result (λ fault. ShowStops fault job (S.remaining source.old) (reading S.remaining S.has_ended S.has_failed source.new)
+        (D.contents drain.old) (D.contents drain.new) (D.has_failed drain.new)) }
     ensures refused { IfErr result IsRefusal }
 {
     let mut piece = piece_buffer(alloc)?;
@@ -76,8 +76,7 @@ fn show_in<T: Spoken + Drop, A: Allocator + Copy, S: Source, D: Drain>(
     requires room { 0 < length piece.old }
     requires none_waits { lines.old.buffer.now.items ≡ [] }
     requires live { D.has_failed lines.old.drain.now ≡ false }
-    ensures accepted { IfOk result (λ summary. IfSome (S.remaining source.old) (λ bytes.
-        Shows job.now bytes (D.contents lines.old.drain.now) (D.contents lines.new.drain.now) summary)) }
+    ensures accepted { IfOk result (ShowsAll job.now (S.remaining source.old) (D.contents lines.old.drain.now) (D.contents lines.new.drain.now)) }
     ensures ended { OnOk result (S.has_ended source.new ≡ true) }
     ensures flushed { OnOk result (D.is_flushed lines.new.drain.now ≡ true) }
     ensures same { SameOut lines.old lines.new }

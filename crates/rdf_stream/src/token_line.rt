@@ -50,6 +50,15 @@ fn put_number<A: Allocator + Copy>(number: u64, out: &mut Vec<u8, A>) -> Result<
 fn char_count(text: &str) -> u64
     ensures { result ≡ length (chars text.now) }
 {
+    if text.is_ascii() {
+        return text.len() as u64;
+    }
+    counted_chars(text)
+}
+
+fn counted_chars(text: &str) -> u64
+    ensures { result ≡ length (chars text.now) }
+{
     let mut count = 0u64;
     for _ in text.chars() {
         count += 1;
