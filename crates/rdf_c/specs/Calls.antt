@@ -3,6 +3,7 @@ use Rattle.std.specs.Prelude.{◌≡◌, ◌≢◌, ◌⊎◌, ◌<◌, ◌++◌
 use Rattle.std.specs.Str.{IsUtf8, chars}
 use Rattle.rdf_iri.specs.Limits.{InRange}
 use Rattle.rdf_iri.specs.Scope.{BaseFits}
+use Rattle.rdf_lines.specs.declared.form.Escapes.TheVariants.{Plain}
 use Rattle.rdf_terms.specs.Terms.{IsIri}
 use Rattle.rdf_terms.specs.declared.reason.Reason.{Reason}
 use Rattle.rdf_stream.specs.declared.fault.StreamFault.{StreamFault}
@@ -22,11 +23,12 @@ abbrev pub IsBaseText : List ℕ → Type 0
 IsBaseText [] = Unit
 IsBaseText (b ∷ bs) = IsUtf8 (b ∷ bs) × IsIri (chars (b ∷ bs))
 
--- The request and the base are of this job, and there is such a job.
+-- The request and the base are of this job, whose lines are plain, and there is such a job.
 pub record AsksFor (request : Request) (base_text : List ℕ) (job : JobRead) : Type 0 where
   pub form : request.format ≡ number_of_form job.form
   pub base : job.base ≡ base_of base_text
   pub bindings : job.bindings ≡ []
+  pub escapes : job.escapes ≡ Plain
   pub limits : job.limits ≡ sizes_of request
   pub range : InRange job.limits
   pub fits : BaseFits job.base job.limits
