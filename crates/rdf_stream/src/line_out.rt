@@ -1,6 +1,6 @@
 // The sink that hands lines on to a drain.
 
-ghost use Rattle.std.specs.Prelude.{◌≡◌, ◌↔◌, [], ◌<◌, length, true, false, Bool, List, ℕ, Option, is_err, OnOk, OnErr};
+ghost use Rattle.std.specs.Prelude.{◌≡◌, ◌↔◌, [], ◌<◌, length, true, false, Bool, List, ℕ, Option, is_err, OnOk, OnErr, IfErr};
 ghost use Rattle.std.specs.Io.KnownBytes.{Appends};
 ghost use Rattle.rdf_stream.specs.Converting.{Tells};
 ghost use Rattle.rdf_stream.specs.Devices.{AppendsFront};
