@@ -4,6 +4,7 @@ ghost use Rattle.std.specs.Prelude.{◌≡◌, false};
 
 mod devices;
 mod large;
+mod memory;
 mod rows;
 mod runs;
 mod streams;
@@ -20,7 +21,7 @@ use rows::{
     SHOWN_OF_LINES, TRIG, TURTLE, TURTLE_AND_TRIG,
 };
 use runs::{Asked, Base, is_converted, is_read, is_refused_at, is_shown, job};
-use std::alloc::{AllocError, Global};
+use std::alloc::{AllocError, Allocator, Global};
 use std::process::Abort;
 use std::test::Fail;
 
@@ -284,6 +285,9 @@ fn a_report_names_the_reason_and_the_place(rt: HostRuntime) -> Result<(), AllocE
     Ok(())
 }
 
+/// A statement, as it is written.
+const ONE: &str = "<http://a/s> <http://a/p> <http://a/s> .\n";
+
 /// Two statements, a comment and an empty line, their lines, and those of their tokens.
 const TWO: &str = "<http://a/s> <http://a/p> \"x\" . # c\r\n\n_:x <a:> <b:>.";
 
@@ -302,10 +306,11 @@ _:c14 <http://www.w3.org/1999/02/22-rdf-syntax-ns#rest> <http://www.w3.org/1999/
 
 const LIST_TOKENS: &str = "0 5 iri\n6 5 iri\n12 1 lparen\n14 1 integer\n16 1 rparen\n18 1 dot\n";
 
-/// What writes lines.
+/// What is done with a document. A check writes nothing.
 #[derive(Clone, Copy, PartialEq, Eq, Debug)]
 enum Task {
     Convert,
+    Check,
     Show,
 }
 
@@ -317,10 +322,10 @@ const TASKS: [(Task, Form, &str, &str); 4] = [
     (Task::Show, Form::Turtle, LIST, LIST_TOKENS),
 ];
 
-fn run(
-    alloc: Global,
+fn run<A: Allocator + Copy>(
+    alloc: A,
     task: Task,
-    form: Form,
+    asked: &Asked,
     source: &mut Parts<'_>,
     drain: &mut SlowDrain,
 ) -> Result<Summary, StreamFault>
@@ -328,11 +333,12 @@ fn run(
     requires source { source.old.failed ≡ false }
     requires drain { drain.old.failed ≡ false }
 {
-    let Some(job) = Job::new(form, None, Limits::default()) else {
-        return Err(StreamFault::Memory);
+    let Some(job) = Job::new(asked.form, None, asked.limits) else {
+        return Err(StreamFault::Write);
     };
     match task {
         Task::Convert => convert(alloc, job, source, drain),
+        Task::Check => check(alloc, job, source),
         Task::Show => show(alloc, job, source, drain),
     }
 }
@@ -342,7 +348,7 @@ fn devices_of_one_byte_a_call_change_nothing(rt: HostRuntime) {
     for (task, form, text, lines) in TASKS {
         let mut source = failing_source(text, text.len() as u64 + 1);
         let mut drain = failing_drain(rt.alloc(), lines.len() as u64 + 1);
-        let result = run(rt.alloc(), task, form, &mut source, &mut drain);
+        let result = run(rt.alloc(), task, &Asked::of(form), &mut source, &mut drain);
         assert!(rt; result.is_ok(), "{task:?} of {text}");
         assert_eq!(rt; drain.bytes.as_slice(), lines.as_bytes());
         assert!(rt; drain.flushed);
@@ -355,7 +361,7 @@ fn a_drain_that_fails_has_a_beginning_of_the_lines(rt: HostRuntime) {
         for calls in 0..lines.len().saturating_add(1) {
             let mut source = cut_at(text.as_bytes(), 0);
             let mut drain = failing_drain(rt.alloc(), calls as u64);
-            let result = run(rt.alloc(), task, form, &mut source, &mut drain);
+            let result = run(rt.alloc(), task, &Asked::of(form), &mut source, &mut drain);
             assert!(rt;
                 matches!(result, Err(StreamFault::Write)),
                 "{task:?} of {text} after {calls} calls"
@@ -367,7 +373,9 @@ fn a_drain_that_fails_has_a_beginning_of_the_lines(rt: HostRuntime) {
 }
 
 /// How many bytes of the lines are written where the source fails behind so many bytes.
-const BREAKS: [(Task, Form, &str, &str, &[(u64, usize)]); 4] = [
+const BREAKS: [(Task, Form, &str, &str, &[(u64, usize)]); 6] = [
+    (Task::Convert, Form::NQuads, ONE, ONE, &[(39, 0), (40, 41)]),
+    (Task::Convert, Form::TriG, ONE, ONE, &[(40, 0), (41, 41)]),
     (
         Task::Convert,
         Form::NTriples,
@@ -421,7 +429,7 @@ fn a_source_that_fails_is_not_at_its_end(rt: HostRuntime) {
         for (calls, written) in places {
             let mut source = failing_source(text, *calls);
             let mut drain = ample_drain(rt.alloc());
-            let result = run(rt.alloc(), task, form, &mut source, &mut drain);
+            let result = run(rt.alloc(), task, &Asked::of(form), &mut source, &mut drain);
             assert!(rt;
                 matches!(result, Err(StreamFault::Read)),
                 "{task:?} of {text} after {calls} calls"
@@ -597,7 +605,13 @@ fn the_lines_of_a_piece_are_one_call(rt: HostRuntime) -> Result<(), AllocError> 
     for form in [Form::NQuads, Form::TriG] {
         let mut source = cut_at(text.as_bytes(), usize::MAX);
         let mut drain = wide_drain(rt.alloc(), 2);
-        let result = run(rt.alloc(), Task::Convert, form, &mut source, &mut drain);
+        let result = run(
+            rt.alloc(),
+            Task::Convert,
+            &Asked::of(form),
+            &mut source,
+            &mut drain,
+        );
         assert!(rt; result.is_ok());
         assert_eq!(rt; drain.bytes.as_slice(), text.as_bytes());
         assert!(rt; drain.flushed);

@@ -7,6 +7,8 @@ mod iri;
 #[cfg(test)]
 mod lines;
 #[cfg(test)]
+mod memory;
+#[cfg(test)]
 mod terms;
 #[cfg(test)]
 mod tokens;

@@ -27,7 +27,7 @@ fn is_done_in_few_calls(
 ) -> Result<(), Fail> {
     let mut source = wide_source(document.as_bytes(), calls_for(document.len()));
     let mut drain = wide_drain(alloc, calls_for(text.len()));
-    let summary = run(alloc, task, form, &mut source, &mut drain)?;
+    let summary = run(alloc, task, &Asked::of(form), &mut source, &mut drain)?;
     assert_eq!(rt; drain.bytes.as_slice(), text.as_bytes());
     let mut source = wide_source(document.as_bytes(), calls_for(document.len()));
     let checked = check(alloc, job(alloc, &Asked::of(form))?, &mut source)?;

@@ -54,10 +54,10 @@ impl Asked {
 
 /// What a run wrote, with the line of its fault behind it, and its summary, if there was no fault.
 #[derive(Drop)]
-struct Run {
-    text: Vec<u8>,
-    summary: Option<Summary>,
-    flushed: bool,
+pub(crate) struct Run {
+    pub(crate) text: Vec<u8>,
+    pub(crate) summary: Option<Summary>,
+    pub(crate) flushed: bool,
 }
 
 pub(crate) fn job(alloc: Global, asked: &Asked) -> Result<Job, Fail> {
@@ -71,7 +71,8 @@ pub(crate) fn job(alloc: Global, asked: &Asked) -> Result<Job, Fail> {
     }
 }
 
-fn ended(
+/// What came of a run over this drain.
+pub(crate) fn ended(
     alloc: Global,
     outcome: Result<Summary, StreamFault>,
     drain: SlowDrain,

@@ -1,0 +1,325 @@
+// The calls that can report want of memory: they do where a growth was refused, and nowhere else.
+
+ghost use Rattle.std.specs.Prelude.{◌≡◌, ◌*◌, ◌≤◌, length};
+
+use rdf_driver::{Fault, Summary};
+use rdf_iri::{BindingFault, BindingReason, IriFault, Limits, Scope, read_bindings, resolve};
+use rdf_lines::{Escapes, LabelFault, LineForm, LineReader, Style, label_text, write_line};
+use rdf_terms::{
+    Iri, Known, Label, LiteralRef, NodeRef, PutFault, QuadList, QuadRef, QuadSink, Reason,
+    SubjectRef, Tag, TailRef, TermFault, TermRef, ValueFault, iri_text, iri_value, known,
+    local_value, string_value,
+};
+use rdf_tokens::{Dialect, Scanner};
+use rdf_trig::{DocForm, Options, TrigReader, read_document};
+use refusing_alloc::Refusing;
+use std::alloc::{AllocError, Allocator, Global};
+use std::process::Abort;
+
+/// Why calls stopped.
+#[derive(Clone, Copy, PartialEq, Eq, Debug)]
+enum Stop {
+    Memory,
+    /// Another error, or something that was to stay is not as it was.
+    Wrong,
+}
+
+impl From<AllocError> for Stop {
+    fn from(_: AllocError) -> Stop {
+        Stop::Memory
+    }
+}
+
+impl From<TermFault> for Stop {
+    fn from(fault: TermFault) -> Stop {
+        Stop::of(fault == TermFault::Memory)
+    }
+}
+
+impl From<ValueFault> for Stop {
+    fn from(fault: ValueFault) -> Stop {
+        Stop::of(fault == ValueFault::Memory)
+    }
+}
+
+impl From<IriFault> for Stop {
+    fn from(fault: IriFault) -> Stop {
+        Stop::of(fault == IriFault::Memory)
+    }
+}
+
+impl From<BindingFault> for Stop {
+    fn from(fault: BindingFault) -> Stop {
+        Stop::of(fault.reason == BindingReason::Memory)
+    }
+}
+
+impl From<LabelFault> for Stop {
+    fn from(fault: LabelFault) -> Stop {
+        Stop::of(fault == LabelFault::Memory)
+    }
+}
+
+impl From<PutFault> for Stop {
+    fn from(fault: PutFault) -> Stop {
+        Stop::of(fault == PutFault::Memory)
+    }
+}
+
+impl From<Fault> for Stop {
+    fn from(fault: Fault) -> Stop {
+        Stop::of(fault.reason == Reason::Memory)
+    }
+}
+
+impl Stop {
+    fn of(is_memory: bool) -> Stop {
+        if is_memory { Stop::Memory } else { Stop::Wrong }
+    }
+}
+
+/// Terms, values of escapes, and IRIs of references.
+fn make_terms<A: Allocator + Copy>(alloc: A) -> Result<(), Stop> {
+    let base = Iri::new(alloc, "http://h/b/c")?;
+    Label::new(alloc, "x.y")?;
+    Tag::new(alloc, "en-GB")?;
+    string_value(alloc, "a value")?;
+    string_value(
+        alloc,
+        "\\t\\b\\n\\r\\f\\\"\\'\\\\\\u00e9\\U0001F600 and so on",
+    )?;
+    iri_value(alloc, "http://a/s")?;
+    iri_value(alloc, "http://a/\\u0073\\U00000074")?;
+    local_value(alloc, "b%20c")?;
+    local_value(alloc, "b%20\\~c")?;
+    for reference in ["g:h", "../g/./h?y#s", "", "?y"] {
+        if !iri_text(reference) {
+            return Err(Stop::Wrong);
+        }
+        resolve(alloc, Some(&base), reference, 100)?;
+    }
+    Ok(())
+}
+
+fn quad<'a>(node: NodeRef<'a>, object: TermRef<'a>) -> QuadRef<'a> {
+    QuadRef {
+        subject: SubjectRef::Node(node),
+        predicate: known(Known::RdfFirst),
+        object,
+        graph: Some(SubjectRef::Iri(known(Known::RdfRest))),
+    }
+}
+
+/// A quad copied, kept and written. Where its line is not appended, those before it stay.
+fn write_quad<A: Allocator + Copy>(
+    alloc: A,
+    quad: QuadRef<'_>,
+    list: &mut QuadList<A>,
+    out: &mut Vec<u8, A>,
+) -> Result<(), Stop> {
+    let copy = quad.try_copy(alloc)?;
+    list.put(copy.view())?;
+    for escapes in [Escapes::Plain, Escapes::Ascii] {
+        let len = out.len();
+        if let Err(fault) = write_line(quad, Style::Tagged, escapes, out) {
+            return Err(if out.len() == len {
+                Stop::from(fault)
+            } else {
+                Stop::Wrong
+            });
+        }
+    }
+    Ok(())
+}
+
+/// Quads of each kind of term, and the names of their nodes.
+fn write_quads<A: Allocator + Copy>(alloc: A) -> Result<(), Stop> {
+    let label = Label::new(alloc, "x")?;
+    let tag = Tag::new(alloc, "en-GB")?;
+    let mut list = QuadList::new(alloc);
+    let mut out = Vec::new(alloc);
+    let node = NodeRef::Label(label.view());
+    let nil = quad(node, TermRef::Iri(known(Known::RdfNil)));
+    write_quad(alloc, nil, &mut list, &mut out)?;
+    let tail = TailRef::Lang(tag.view());
+    let text = LiteralRef::new("\u{E9}\"\\\n\r\u{1F600}", tail);
+    let tagged = quad(NodeRef::Anon(27), TermRef::Literal(text));
+    write_quad(alloc, tagged, &mut list, &mut out)?;
+    let number = LiteralRef::new("1", TailRef::Typed(known(Known::XsdInteger)));
+    let typed = quad(NodeRef::Cell(7), TermRef::Literal(number));
+    write_quad(alloc, typed, &mut list, &mut out)?;
+    label_text(alloc, node, Style::Tagged)?;
+    label_text(alloc, NodeRef::Anon(27), Style::Tagged)?;
+    label_text(alloc, NodeRef::Cell(7), Style::Tagged)?;
+    Ok(())
+}
+
+/// Takes the IRI of a reference as the base. Where memory is refused, the scope holds what it held.
+fn set_base<A: Allocator + Copy>(scope: &mut Scope<A>, reference: &str) -> Result<(), Stop>
+    ensures { scope.new.limits ≡ scope.old.limits }
+{
+    if !iri_text(reference) {
+        return Err(Stop::Wrong);
+    }
+    let held = scope.held();
+    match scope.set_base(reference) {
+        Ok(()) => Ok(()),
+        Err(fault) => Err(if scope.held() == held {
+            Stop::from(fault)
+        } else {
+            Stop::Wrong
+        }),
+    }
+}
+
+/// Binds a prefix. Where memory is refused, the scope holds what it held.
+fn bind<A: Allocator + Copy>(
+    scope: &mut Scope<A>,
+    prefix: &str,
+    reference: &str,
+) -> Result<(), Stop>
+    requires { length prefix.now ≤ 4 * scope.old.limits.token }
+    ensures { scope.new.limits ≡ scope.old.limits }
+{
+    if !iri_text(reference) {
+        return Err(Stop::Wrong);
+    }
+    let held = scope.held();
+    match scope.bind(prefix, reference) {
+        Ok(()) => Ok(()),
+        Err(fault) => Err(if scope.held() == held {
+            Stop::from(fault)
+        } else {
+            Stop::Wrong
+        }),
+    }
+}
+
+/// Bases, bindings, and the IRIs of references and names.
+fn use_a_scope<A: Allocator + Copy>(alloc: A) -> Result<(), Stop> {
+    let Some(limits) = Limits::new(9, 9, 9, 99) else {
+        return Err(Stop::Wrong);
+    };
+    let mut scope = Scope::new(alloc, None, limits);
+    set_base(&mut scope, "http://h/b/c")?;
+    bind(&mut scope, "x", "../d/")?;
+    bind(&mut scope, "", "e?q#f")?;
+    set_base(&mut scope, "../g/")?;
+    bind(&mut scope, "x", "#h")?;
+    for reference in ["s", "http://a/s"] {
+        if !iri_text(reference) {
+            return Err(Stop::Wrong);
+        }
+        scope.resolve_here(reference)?;
+        scope.expand("x", reference)?;
+    }
+    read_bindings(alloc, limits, b"x: http://x/\r\n: http://e/\nx: http://y/")?;
+    Ok(())
+}
+
+/// Want of memory, if it was reported and each call behind it reports that reading has ended.
+fn ended(fault: Fault, next: Result<Summary, Fault>) -> Stop {
+    match next {
+        Err(ended) if ended.reason == Reason::Ended => Stop::from(fault),
+        _ => Stop::Wrong,
+    }
+}
+
+/// Documents, read in pieces and at once.
+fn read_documents<A: Allocator + Copy>(alloc: A) -> Result<(), Stop> {
+    let mut scanner = Scanner::new(alloc, Dialect::Turtle, 99);
+    scanner.push(b"\"a text that is longer than a few bytes")?;
+    scanner.push(b" and goes on in the next piece, and no quote ends it")?;
+    for form in [LineForm::NTriples, LineForm::NQuads] {
+        let mut reader = LineReader::new(alloc, form, Limits::default());
+        let mut list = QuadList::new(alloc);
+        for piece in LINES {
+            if let Err(fault) = reader.feed(piece.as_bytes(), &mut list) {
+                return Err(ended(fault, reader.finish(&mut list)));
+            }
+        }
+        if let Err(fault) = reader.finish(&mut list) {
+            return Err(ended(fault, reader.finish(&mut list)));
+        }
+    }
+    for form in [DocForm::Turtle, DocForm::TriG] {
+        let mut reader = TrigReader::new(alloc, options(form)?);
+        let mut list = QuadList::new(alloc);
+        for piece in STATEMENTS {
+            if let Err(fault) = reader.feed(piece.as_bytes(), &mut list) {
+                return Err(ended(fault, reader.finish(&mut list)));
+            }
+        }
+        if let Err(fault) = reader.finish(&mut list) {
+            return Err(ended(fault, reader.finish(&mut list)));
+        }
+        read_document(
+            alloc,
+            options(form)?,
+            b"@prefix : <http://e/> . [ :p ( :o 'x'@en [] ) ] .",
+        )?;
+    }
+    Ok(())
+}
+
+fn options<A: Allocator>(form: DocForm) -> Result<Options<A>, Stop> {
+    match Options::new(form, None, Limits::default()) {
+        Some(options) => Ok(options),
+        None => Err(Stop::Wrong),
+    }
+}
+
+/// A document of N-Triples in pieces.
+const LINES: [&str; 3] = [
+    "<http://a/\\u0073> <a:p> \"\\t\\u00e9 a",
+    " text\"@en-GB .\n_:x <a:p> _:y .\n<a:s> ",
+    "<a:p> \"x\"^^<a:t> . # c\n<a:s> <a:p> <a:o> .",
+];
+
+/// A document of Turtle in pieces. Its last dot is decided by its end, and a quad is given out there.
+const STATEMENTS: [&str; 3] = [
+    "@base <http://h/b/c> . @prefix : <#> . :s a :b%20\\~c, <s\\u0061>, _:l ; :p 'a\\t",
+    "'@en, \"b\"^^:t, 1 . [ :p [ :q ( 1 [ ] ( \"a\" ) () ) ] ] . @prefix : <x> . ( [ :p :o ] ) ",
+    ":p :o .",
+];
+
+/// More growths than any of these calls asks for.
+const MOST: u64 = 2000;
+
+/// Calls that follow one another.
+#[derive(Clone, Copy, PartialEq, Eq, Debug)]
+enum Task {
+    Terms,
+    Quads,
+    Scope,
+    Documents,
+}
+
+fn run<A: Allocator + Copy>(alloc: A, task: Task) -> Result<(), Stop> {
+    match task {
+        Task::Terms => make_terms(alloc),
+        Task::Quads => write_quads(alloc),
+        Task::Scope => use_a_scope(alloc),
+        Task::Documents => read_documents(alloc),
+    }
+}
+
+/// Whether the task ends well where no growth is refused, after it was stopped by want of memory wherever one was.
+fn ends_where_memory_does(rt: &impl Abort, alloc: Global, task: Task) -> bool {
+    for calls in 0..MOST {
+        let memory = Refusing::after(alloc, calls);
+        let result = run(&memory, task);
+        if !memory.has_refused() {
+            return result == Ok(());
+        }
+        assert_eq!(rt; result, Err(Stop::Memory), "{task:?} after {calls} calls");
+    }
+    false
+}
+
+#[test]
+fn memory_is_reported_exactly_where_it_is_refused(rt: HostRuntime) {
+    for task in [Task::Terms, Task::Quads, Task::Scope, Task::Documents] {
+        assert!(rt; ends_where_memory_does(&rt, rt.alloc(), task), "{task:?}");
+    }
+}
