@@ -110,7 +110,7 @@ def compare(counts):
     for name, least, most, default in limits():
         counts.expect('rdfconv.h of ' + name, re.search(r'uint64_t %s; .*%d to %d ' % (name, least, most), header))
     defaults = ', '.join(str(dict((it[0], it[3]) for it in limits())[name]) for name in ('token', 'depth', 'bindings', 'iri'))
-    counts.expect('rdfconv.h has the defaults', '{ (format), %s }' % defaults in header)
+    counts.expect('rdfconv.h has the defaults', '{ (format), %s, 0 }' % defaults in header)
     compare_counts(counts)
     compare_help(counts, manual)
 
