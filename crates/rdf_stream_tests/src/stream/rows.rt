@@ -219,8 +219,31 @@ rdfconv: unexpected token at byte 43, line 1
 ];
 
 /// Documents that are the same in N-Triples and N-Quads.
-pub(crate) const N_TRIPLES_AND_N_QUADS: [(&[u8], &str); 18] = [
+pub(crate) const N_TRIPLES_AND_N_QUADS: [(&[u8], &str); 22] = [
     (b"", ""),
+    // Lines that stand as they are written, and others: a cut within one makes it one of the others.
+    (
+        b"<a:s> <a:p> <a:o> .\n<a:s>\t<a:p>  \"\\u00e9\" . # c\r\n_:b <a:p> \"x\"@en .\n\n<a:s> <a:p> \"y\"^^<a:t> .\n_:b <a:p> \"\xC3\xA9\" .\n<a:s> <a:p> \"q\\\"r\\n\" .\n",
+        "<a:s> <a:p> <a:o> .
+<a:s> <a:p> \"é\" .
+_:b <a:p> \"x\"@en .
+<a:s> <a:p> \"y\"^^<a:t> .
+_:b <a:p> \"é\" .
+<a:s> <a:p> \"q\\\"r\\n\" .
+",
+    ),
+    (
+        b"<a:s> <a:p> <a:o> .\n<a:s> <a:p> <o> .\n",
+        "<a:s> <a:p> <a:o> .\nrdfconv: relative IRI at byte 32, line 2\n",
+    ),
+    (
+        b"<a:s> <a:p> <a:o> .\n<a:s> <a:p> \"x\"^^<http://www.w3.org/2001/XMLSchema#string> .\n<a:s> <a:p> \"z\" .\n",
+        "<a:s> <a:p> <a:o> .\n<a:s> <a:p> \"x\" .\n<a:s> <a:p> \"z\" .\n",
+    ),
+    (
+        b"<a:s> <a:p> <a:o> .\n<a:s> <a:p> <a:o>",
+        "<a:s> <a:p> <a:o> .\nrdfconv: unexpected token at byte 37, line 2\n",
+    ),
     (
         b"<http://a/s> <http://a/p> \"x\" .",
         "<http://a/s> <http://a/p> \"x\" .\n",
