@@ -1,10 +1,12 @@
 #!/usr/bin/python3
-"""Draws the figures that `bench/rdfconv.py --json FIGURES` wrote, as SVG. Debian: python3-matplotlib.
+"""Draws the figures that `bench/rdfconv.py --json FIGURES` or `bench/readers.py --json FIGURES` wrote, as SVG. Debian:
+python3-matplotlib.
 
     bench/draw.py FIGURES FOLDER
 
-FOLDER/speed.svg: MB/s of `convert` and `check` by kind of document, at the largest size, `cat` and `wc -l` left out.
-FOLDER/growth.svg: how time and memory of `convert` grow from the first size to the last.
+Of the first, FOLDER/speed.svg: MB/s of `convert` and `check` by kind of document, at the largest size, `cat` and `wc -l` left out, and
+FOLDER/growth.svg: how time and memory of `convert` grow from the first size to the last. Of the second, FOLDER/readers.svg: instructions
+for a byte, or MB/s, of `convert` and of other readers by kind of document.
 """
 import json
 import os
@@ -54,12 +56,35 @@ def growth(figures, path):
     save(figure, path)
 
 
+def readers(figures, path):
+    """A bar for each reader and kind of document."""
+    is_count = 'instructions' in next(iter(figures.values()))
+    names = ['convert', 'serdi', 'rapper']
+    kinds = list(figures)[::-1]
+    figure, axes = pyplot.subplots(figsize=(8, 0.5 * len(kinds) + 1.4))
+    for n, (name, shade) in enumerate(zip(names, SHADES + ['#c9c9c9'])):
+        found = [figures[kind]['instructions' if is_count else 'seconds'].get(name, 0) for kind in kinds]
+        sizes = [figures[kind]['bytes'] / 1e6 for kind in kinds]
+        values = [it / size if is_count else size / it if it else 0 for it, size in zip(found, sizes)]
+        places = [at + 0.27 - 0.27 * n for at in range(len(kinds))]
+        axes.bar_label(axes.barh(places, values, 0.26, color=shade, label=name), fmt='%.0f', padding=2, fontsize='small')
+    axes.set_yticks(range(len(kinds)), kinds)
+    axes.set_xlabel('instructions for a byte of the document, fewer are better' if is_count else 'MB/s of the input')
+    axes.set_xscale('log')
+    axes.margins(x=0.1)
+    axes.legend()
+    save(figure, path)
+
+
 def main():
     if len(sys.argv) != 3:
         sys.exit(__doc__)
     with open(sys.argv[1]) as f:
         figures = json.load(f)
     os.makedirs(sys.argv[2], exist_ok=True)
+    if all('columns' not in one for one in figures.values()):
+        readers(figures, os.path.join(sys.argv[2], 'readers.svg'))
+        return
     speed(figures, os.path.join(sys.argv[2], 'speed.svg'))
     growth(figures, os.path.join(sys.argv[2], 'growth.svg'))
 
