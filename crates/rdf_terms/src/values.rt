@@ -108,15 +108,15 @@ pub(crate) fn copied<A: Allocator>(alloc: A, text: &str) -> Result<String<A>, Va
     }
 }
 
-/// The test comes first, so that a bad escape is told also where memory is short.
+/// A bad escape is told also where memory is short: then alone the text is looked at twice.
 fn value<A: Allocator>(alloc: A, inside: Inside, text: &str) -> Result<String<A>, ValueFault>
     ensures ok { IfOk result (λ s. value (inside_of inside) outside (chars text.now) ≡ Some (chars (string_bytes s))) }
     ensures bad { (result ≡ Err ValueFault.BadEscape) ↔ (value (inside_of inside) outside (chars text.now) ≡ None) }
 {
-    if !has_value(inside, text) {
-        return Err(ValueFault::BadEscape);
+    match built(alloc, inside, text) {
+        Err(ValueFault::Memory) if !has_value(inside, text) => Err(ValueFault::BadEscape),
+        result => result,
     }
-    built(alloc, inside, text)
 }
 
 /// The two kinds of text that have escapes.
