@@ -15,8 +15,8 @@ use crate::task::{Action, Task, WordsFault};
 use clap::Error;
 use itoa::Buffer;
 use rdf_stream::{
-    Bindings, Drain, Failed, Job, Limits, LoadFault, NodePrefix, Source, StreamFault, Summary, check, convert,
-    load_bindings, put_all, report, show,
+    Bindings, Drain, Failed, Job, Limits, LoadFault, NodePrefix, Source, StreamFault, Summary,
+    check, convert, load_bindings, put_all, report, show,
 };
 use std::alloc::{AllocError, Global};
 
