@@ -30,6 +30,7 @@ pub record AsksFor (request : Request) (base_text prefixes : List ℕ) (job : Jo
   pub base : job.base ≡ base_of base_text
   pub bindings : IsReadFrom job.limits prefixes (record { bindings = job.bindings; limits = job.limits })
   pub escapes : request.ascii ≡ number_of_escapes job.escapes
+  pub no_word : job.node_prefix ≡ []
   pub limits : job.limits ≡ sizes_of request
   pub range : InRange job.limits
   pub fits : BaseFits job.base job.limits

@@ -3,6 +3,8 @@ use Rattle.std.proofs.Common.{◌≡◌, ℕ, ◌<◌, ◌⊎◌, true, List, []
 use Rattle.std.specs.Prelude.{decimal}
 use Rattle.std.specs.List.{AllByRecursion}
 use Rattle.std.specs.Str.{chars}
+use mathlib.Core.Bool.{Bool-set}
+use Rattle.std.proofs.Math.Logic.{∥∥₁_elim}
 use Rattle.std.proofs.Math.Seq.{take-append_seam}
 use Rattle.std.proofs.lemmas.Bool.{and_parts, or_cases}
 use Rattle.std.proofs.lemmas.Bool.Decides.{nat_tests}
@@ -157,3 +159,7 @@ named_low f p n h = prefixed_low (rename_node f.style n) (renamed_low f.style n 
     prefixed_low (Label x) h = joined f.prefix x (word_low f.prefix p) h
     prefixed_low (Anon n) h = tt
     prefixed_low (Cell n) h = tt
+
+-- that a text is a word may be used where it is only known to hold
+pub IsNodePrefix-had : (w : List ℕ) → ∥ IsNodePrefix w ∥₁ → IsNodePrefix w
+IsNodePrefix-had w h = ∥∥₁_elim h (Bool-set _ _) (λ i. i)

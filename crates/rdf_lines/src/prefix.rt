@@ -52,7 +52,8 @@ impl<A: Allocator> NodePrefix<A> {
 
     /// The word, borrowed.
     pub fn view(&self) -> NodePrefixView<'_>
-        ensures { chars result.word.now ≡ self.now }
+        ensures word { chars result.word.now ≡ self.now }
+        ensures is_word { IsNodePrefix self.now }
     {
         NodePrefixView {
             word: self.word.as_str(),

@@ -1,8 +1,10 @@
 -- A piece more, the end, or an error within one: what the drain has then.
 use Rattle.std.proofs.Common.{◌≡◌, ◌≤◌, ◌<◌, ◌+◌, ℕ, Bool, true, false, List, [], ◌∷◌, ◌++◌, ◌⊎◌, length, take, drop, Option, refl, sym, ap, subst, ◌∙◌, append_assoc, ⊎_elim, length-append, arith}
 use Rattle.std.proofs.lemmas.List.{append-nil, take-append-drop}
-use Rattle.std.proofs.lemmas.Bool.{false≢true}
+use Rattle.std.proofs.lemmas.Bool.{false≢true, and_parts, eqb-true}
 use Rattle.std.specs.Prelude.{encode_utf8_all}
+use Rattle.std.specs.Str.{chars}
+use Rattle.std.proofs.lemmas.Str.{chars-nil}
 use Rattle.std.specs.Io.KnownBytes.{Appends}
 use Rattle.std.specs.List.{AllByRecursion}
 use Rattle.rdf_terms.specs.declared.reason.Reason.{Reason}
@@ -20,10 +22,12 @@ use Rattle.rdf_driver.specs.Words.{Words, in_words}
 use Rattle.rdf_lines.specs.declared.form.Escapes.{Escapes}
 use Rattle.rdf_lines.specs.declared.form.Escapes.TheVariants.{Plain, Ascii}
 use Rattle.rdf_lines.specs.declared.form.Style.{Style}
-use Rattle.rdf_lines.specs.Writing.{CanWrite, Writable, text}
-use Rattle.rdf_lines.proofs.AsciiLemmas.{ascii_written}
-use Rattle.rdf_lines.proofs.ReadBack.{bytes_read_back}
-use Rattle.rdf_stream.specs.declared.form.WrittenForm.{WrittenForm}
+use Rattle.rdf_lines.specs.Writing.{CanWrite, Writable}
+use Rattle.rdf_lines.specs.declared.form.WrittenForm.{WrittenForm}
+use Rattle.rdf_lines.specs.Forms.{form_of}
+use Rattle.rdf_lines.specs.NodePrefixes.{Form, IsNodePrefix, text_in}
+use Rattle.rdf_lines.proofs.NodePrefixLemmas.{IsNodePrefix-had}
+use Rattle.rdf_lines.proofs.FormReadBack.{form_ascii, form_reads_back}
 use Rattle.rdf_stream.specs.Languages.{Conversion, conversion}
 use Rattle.rdf_stream.specs.declared.fault.StreamFault.{StreamFault}
 use Rattle.rdf_stream.specs.declared.fault.StreamFault.TheVariants as stream
@@ -34,7 +38,7 @@ use Rattle.rdf_stream.specs.Devices.{AppendsFront}
 use Rattle.rdf_stream.specs.Faults.{fault_by}
 use Rattle.rdf_stream.specs.LineOut.{Leaves, Moves, PutHalts, SameOut, Takes, Writes}
 use Rattle.rdf_stream.specs.Passes.{PassesText}
-use Rattle.rdf_stream.specs.WrittenForms.{is_plain, plain}
+use Rattle.rdf_stream.specs.WrittenForms.{is_plain, is_raw, plain}
 use Rattle.rdf_stream.proofs.LineOutLemmas.{Taken, Tried, bytes_of, bytes_of-append, front_moves, moves_all, moves_front, moves_more, moves_on, puts_tries, same_out, taken, tried}
 
 -- quads that can be written can be written together
@@ -43,8 +47,9 @@ both_writable s [] rs p q = q
 both_writable s (x ∷ qs) rs p q = (p.0, both_writable s qs rs p.1 q)
 
 -- what is written in ASCII is so
-written_ascii : (f : WrittenForm) (qs : List Quad) → Writable f.style qs → IsAscii f qs
-written_ascii f qs w is labels = subst (λ e. AllByRecursion (λ b. b < 128) (encode_utf8_all (text f.style e qs))) (sym is) (ascii_written f.style qs w labels)
+written_ascii : (f : Form) (qs : List Quad) → IsNodePrefix f.prefix → Writable f.style qs → IsAscii f qs
+written_ascii f qs p w is labels =
+    subst (λ (e : Escapes). AllByRecursion (λ b. b < 128) (encode_utf8_all (text_in (record { style = f.style; escapes = e; prefix = f.prefix }) qs))) (sym is) (form_ascii f.style f.prefix qs p w labels)
 
 -- what holds of all quads of two lists holds of those of the first, and of the second
 first_ones : (P : Quad → Type 0) (qs rs : List Quad) → AllByRecursion P (qs ++ rs) → AllByRecursion P qs
@@ -104,18 +109,18 @@ module _ {G X D A : Type 0} (contents : D → Option (List ℕ)) (failed : D →
   l = in_words w x reader.scanner.limit
 
   abbrev job : Conversion
-  job = conversion w x reader.scanner.limit first.form
+  job = conversion w x reader.scanner.limit (form_of first.form)
 
   -- what the drain took after the bytes that it had
   abbrev Behind : LineOut D A → List Quad → List ℕ → Type 0
   Behind after qs rest = Moves (contents lines.drain.now) (contents after.drain.now) (lines.buffer.now.items ++ bytes_of lines.form qs) rest
 
   -- from the beginning of the run
-  from_first : (after : LineOut D A) (qs : List Quad) (rest : List ℕ) → Behind after qs rest → Moves (contents first.drain.now) (contents after.drain.now) (lines_of first.form (o.quads ++ qs)) rest
+  from_first : (after : LineOut D A) (qs : List Quad) (rest : List ℕ) → Behind after qs rest → Moves (contents first.drain.now) (contents after.drain.now) (lines_of (form_of first.form) (o.quads ++ qs)) rest
   from_first after qs rest m =
       let styled = subst (λ s. Moves (contents lines.drain.now) (contents after.drain.now) (lines.buffer.now.items ++ bytes_of s qs) rest) o.same.form m in
       subst (λ b. Moves (contents first.drain.now) (contents after.drain.now) b rest) (sym (bytes_of-append first.form o.quads qs))
-      (moves_on (contents first.drain.now) (contents lines.drain.now) (contents after.drain.now) (lines_of first.form o.quads) (bytes_of first.form qs) lines.buffer.now.items rest o.moves styled)
+      (moves_on (contents first.drain.now) (contents lines.drain.now) (contents after.drain.now) (lines_of (form_of first.form) o.quads) (bytes_of first.form qs) lines.buffer.now.items rest o.moves styled)
 
   -- a beginning of the lines was written
   written_front : (after : LineOut D A) (ts : List Token) (qs : List Quad) (rest : List ℕ) → Behind after qs rest → Begun l ts (o.quads ++ qs) →
@@ -123,14 +128,14 @@ module _ {G X D A : Type 0} (contents : D → Option (List ℕ)) (failed : D →
   written_front after ts qs rest m d = record {
     quads = o.quads ++ qs;
     due = d;
-    written = moves_front (contents first.drain.now) (contents after.drain.now) (lines_of first.form (o.quads ++ qs)) rest (from_first after qs rest m);
+    written = moves_front (contents first.drain.now) (contents after.drain.now) (lines_of (form_of first.form) (o.quads ++ qs)) rest (from_first after qs rest m);
   }
 
   -- all that waited was taken then
   written_all : (mid after : LineOut D A) (qs : List Quad) → Writes contents lines (bytes_of lines.form qs) mid → Appends (contents mid.drain.now) (contents after.drain.now) mid.buffer.now.items →
-      Appends (contents first.drain.now) (contents after.drain.now) (lines_of first.form (o.quads ++ qs))
+      Appends (contents first.drain.now) (contents after.drain.now) (lines_of (form_of first.form) (o.quads ++ qs))
   written_all mid after qs m t =
-      moves_all (contents first.drain.now) (contents mid.drain.now) (contents after.drain.now) (lines_of first.form (o.quads ++ qs)) mid.buffer.now.items (from_first mid qs mid.buffer.now.items m) t
+      moves_all (contents first.drain.now) (contents mid.drain.now) (contents after.drain.now) (lines_of (form_of first.form) (o.quads ++ qs)) mid.buffer.now.items (from_first mid qs mid.buffer.now.items m) t
 
   -- the drain took a beginning of what waited
   then_front : (mid after : LineOut D A) (qs : List Quad) (rest : List ℕ) → Writes contents lines (bytes_of lines.form qs) mid → Moves (contents mid.drain.now) (contents after.drain.now) mid.buffer.now.items rest →
@@ -340,15 +345,13 @@ module _ {G X D A : Type 0} (contents : D → Option (List ℕ)) (failed : D →
       more_put part reader' f.limit f.more read' mid put.same (subst (λ (y : WrittenForm). Writable y.style f.more) o.same.form put.writable) put.writes (put.live o.live)
 
   -- Some text was passed: it is the plain lines of quads in the style.
-  module _ (style : Style) (same_style : first.form.style ≡ style) (are_plain : lines.form.escapes ≡ Plain) (text : List ℕ) (reader' : Driven G) (p : PassesText w style reader text reader') where
+  module _ (style : Style) (same_style : first.form.style ≡ style) (are_plain : form_of lines.form ≡ plain lines.form.style) (text : List ℕ) (reader' : Driven G) (p : PassesText w style reader text reader') where
     passed' : HasRead w reader' x (bytes ++ text) (o.quads ++ p.given)
     passed' = p.read x bytes o.quads o.read
 
     -- the form of the lines is that of the text
-    same_form : plain style ≡ lines.form
-    same_form =
-        subst (λ s. plain s ≡ lines.form) (ap (λ (f : WrittenForm). f.style) o.same.form ∙ same_style)
-        (subst (λ e. record { style = lines.form.style; escapes = e } ≡ lines.form) are_plain refl)
+    same_form : plain style ≡ form_of lines.form
+    same_form = subst (λ s. plain s ≡ form_of lines.form) (ap (λ (f : WrittenForm). f.style) o.same.form ∙ same_style) (sym are_plain)
 
     their_lines : text ≡ bytes_of lines.form p.given
     their_lines = p.is ∙ ap (λ f. lines_of f p.given) same_form
@@ -379,7 +382,7 @@ module _ {G X D A : Type 0} (contents : D → Option (List ℕ)) (failed : D →
           record {
             quads = o.quads;
             due = begins_less l ts o.quads p.given (begun' text reader' p.limit p.given passed');
-            written = moves_all (contents first.drain.now) (contents lines.drain.now) (contents after.drain.now) (lines_of first.form o.quads) lines.buffer.now.items o.moves h.1;
+            written = moves_all (contents first.drain.now) (contents lines.drain.now) (contents after.drain.now) (lines_of (form_of first.form) o.quads) lines.buffer.now.items o.moves h.1;
           },
         )
         by told h = absurd h
@@ -392,7 +395,7 @@ module _ {G X D A : Type 0} (contents : D → Option (List ℕ)) (failed : D →
   handed after s t none live = record {
     quads = o.quads;
     read = o.read;
-    written = moves_all (contents first.drain.now) (contents lines.drain.now) (contents after.drain.now) (lines_of first.form o.quads) lines.buffer.now.items o.moves t;
+    written = moves_all (contents first.drain.now) (contents lines.drain.now) (contents after.drain.now) (lines_of (form_of first.form) o.quads) lines.buffer.now.items o.moves t;
     writable = o.writable;
     none_waits = none;
     same = same_out first lines after o.same s;
@@ -404,7 +407,7 @@ module _ {G X D A : Type 0} (contents : D → Option (List ℕ)) (failed : D →
       Halts stream.Write bytes false after
   handing_broke after s t broke =
       let (rest, m) = front_moves (contents lines.drain.now) (contents after.drain.now) lines.buffer.now.items t in
-      let all = moves_on (contents first.drain.now) (contents lines.drain.now) (contents after.drain.now) (lines_of first.form o.quads) [] lines.buffer.now.items rest o.moves
+      let all = moves_on (contents first.drain.now) (contents lines.drain.now) (contents after.drain.now) (lines_of (form_of first.form) o.quads) [] lines.buffer.now.items rest o.moves
       (subst (λ b. Moves (contents lines.drain.now) (contents after.drain.now) b rest) (sym (append-nil lines.buffer.now.items)) m) in
       let now = (reading_of l bytes false).tokens in
       record {
@@ -414,8 +417,8 @@ module _ {G X D A : Type 0} (contents : D → Option (List ℕ)) (failed : D →
           record {
             quads = o.quads;
             due = begins_all l now o.quads (suits.lawful.kept reader.grammar x now o.quads o.read.reached) (suits.lawful.due reader.grammar x now o.quads o.read.reached);
-            written = moves_front (contents first.drain.now) (contents after.drain.now) (lines_of first.form o.quads) rest
-                (subst (λ b. Moves (contents first.drain.now) (contents after.drain.now) b rest) (append-nil (lines_of first.form o.quads)) all);
+            written = moves_front (contents first.drain.now) (contents after.drain.now) (lines_of (form_of first.form) o.quads) rest
+                (subst (λ b. Moves (contents first.drain.now) (contents after.drain.now) b rest) (append-nil (lines_of (form_of first.form) o.quads)) all);
           },
         );
       }
@@ -433,6 +436,10 @@ module _ {G X D A : Type 0} (contents : D → Option (List ℕ)) (failed : D →
     all_writable : Writable first.form.style (o.quads ++ f.more)
     all_writable = both_writable first.form.style o.quads f.more o.writable (subst (λ (y : WrittenForm). Writable y.style f.more) o.same.form all_put.writable)
 
+    -- the word of the form is one
+    is_word : IsNodePrefix (form_of first.form).prefix
+    is_word = IsNodePrefix-had (form_of first.form).prefix first.form.prefix.is_prefix
+
     -- the document was read and written
     pub end_read : (after : LineOut D A) → SameOut mid after → Appends (contents mid.drain.now) (contents after.drain.now) mid.buffer.now.items →
         SameOut first after × Accepts job bytes (contents first.drain.now) (contents after.drain.now) summary
@@ -443,8 +450,8 @@ module _ {G X D A : Type 0} (contents : D → Option (List ℕ)) (failed : D →
         document = sums.document;
         within = sums.whole;
         written = written_all mid after f.more all_put.writes t;
-        reads_back = λ limit h. bytes_read_back first.form.style first.form.escapes (o.quads ++ f.more) limit all_writable h;
-        ascii = written_ascii first.form (o.quads ++ f.more) all_writable;
+        reads_back = λ limit h. form_reads_back (form_of first.form) (o.quads ++ f.more) limit is_word all_writable h;
+        ascii = written_ascii (form_of first.form) (o.quads ++ f.more) is_word all_writable;
         counts = record { quads = sums.given; tokens = sums.accepted; bytes = sums.taken };
       },
     )
@@ -459,10 +466,26 @@ module _ {G X D A : Type 0} (contents : D → Option (List ℕ)) (failed : D →
           halts = (broke, written_front after (reading_of l bytes true).tokens f.more rest (then_front mid after f.more rest all_put.writes m) all_begun);
         }
 
--- the test answers that lines are plain
-pub plain_where : (e : Escapes) → is_plain e ≡ true → e ≡ Plain
-plain_where Plain t = refl
-plain_where Ascii t = absurd (false≢true t)
+-- the test answers that characters stand as they are
+raw_where : (e : Escapes) → is_raw e ≡ true → e ≡ Plain
+raw_where Plain t = refl
+raw_where Ascii t = absurd (false≢true t)
+
+-- a text without bytes has no characters
+no_bytes : (bs : List ℕ) → length bs ≡ 0 → chars bs ≡ []
+no_bytes [] h = chars-nil
+no_bytes (b ∷ bs) h = absurd (omega (arith, h))
+
+-- a form with these parts is the plain one
+plain_form : (f : Form) → f.escapes ≡ Plain → f.prefix ≡ [] → f ≡ plain f.style
+plain_form f e p =
+    ap (λ (x : Escapes). record { style = f.style; escapes = x; prefix = f.prefix }) e ∙ ap (λ (x : List ℕ). record { style = f.style; escapes = Plain; prefix = x }) p
+
+-- the test answers that the form is plain
+pub plain_where : (w : WrittenForm) → is_plain w ≡ true → form_of w ≡ plain w.style
+plain_where w t =
+    let (raw, none) = and_parts (is_raw w.escapes) _ t in
+    plain_form (form_of w) (raw_where w.escapes raw) (no_bytes w.prefix.word.now (eqb-true (length w.prefix.word.now) 0 none))
 
 -- what was handed over was put
 put_of : {G X D A : Type 0} (contents : D → Option (List ℕ)) (failed : D → Bool) (w : Words G X Quad) (x : X) (reader : Driven G) (bytes : List ℕ) (first lines : LineOut D A) →
@@ -471,8 +494,8 @@ put_of contents failed w x reader bytes first lines o = record {
   quads = o.quads;
   read = o.read;
   moves = record {
-    front = lines_of first.form o.quads;
-    whole = sym (ap (λ b. lines_of first.form o.quads ++ b) o.none_waits ∙ append-nil (lines_of first.form o.quads));
+    front = lines_of (form_of first.form) o.quads;
+    whole = sym (ap (λ b. lines_of (form_of first.form) o.quads ++ b) o.none_waits ∙ append-nil (lines_of (form_of first.form) o.quads));
     taken = o.written;
   };
   writable = o.writable;
@@ -522,7 +545,7 @@ module _ {G X D A : Type 0} (contents : D → Option (List ℕ)) (failed : D →
     begun = i.begun;
     same = (h i.begun.0 i.begun.1.starts.suits put_now).same;
     halts = λ x y.
-        subst (λ n. HaltsFor told (conversion w x n first.form) b e (contents first.drain.now) (contents after.drain.now) (failed after.drain.now)) i.limit (h x y.starts.suits (i.put x y)).halts;
+        subst (λ n. HaltsFor told (conversion w x n (form_of first.form)) b e (contents first.drain.now) (contents after.drain.now) (failed after.drain.now)) i.limit (h x y.starts.suits (i.put x y)).halts;
   }
 
   -- what stays from the beginning of a run stays from any state that had it
@@ -563,7 +586,7 @@ module _ {G X D A : Type 0} (contents : D → Option (List ℕ)) (failed : D →
     run_halts n k new mid after why told h s t =
         halted told (bytes ++ part) false after (λ x y o. piece_halts contents failed w x old bytes first lines y o part n k new mid why after told h s t)
 
-    module _ (are_plain : lines.form.escapes ≡ Plain) (new : Driven G) (p : PassesText w style old part new) where
+    module _ (are_plain : form_of lines.form ≡ plain lines.form.style) (new : Driven G) (p : PassesText w style old part new) where
       -- some text was passed, and put as it stands
       pub run_passes : (after : LineOut D A) → SameOut lines after → Writes contents lines part after → failed after.drain.now ≡ false → IsPutting contents failed w style reader first (bytes ++ part) new after
       run_passes after s m live = record {
@@ -585,7 +608,7 @@ module _ {G X D A : Type 0} (contents : D → Option (List ℕ)) (failed : D →
       same = (end_read contents failed w i.begun.0 old bytes first lines i.begun.1.starts.suits put_now summary mid f after s t).0;
       sent = sent;
       accepts = λ x y.
-          subst (λ n. Accepts (conversion w x n first.form) bytes (contents first.drain.now) (contents after.drain.now) summary) i.limit
+          subst (λ n. Accepts (conversion w x n (form_of first.form)) bytes (contents first.drain.now) (contents after.drain.now) summary) i.limit
           (end_read contents failed w x old bytes first lines y.starts.suits (i.put x y) summary mid f after s t).1;
     }
 

@@ -28,7 +28,8 @@ use Rattle.rdf_trig.specs.Accepting.{tree_words}
 use Rattle.rdf_trig.specs.Language.{Chosen}
 use Rattle.rdf_stream.specs.declared.form.Kind.TheVariants.{Line, Tree}
 use Rattle.rdf_stream.specs.Jobs.{JobRead}
-use Rattle.rdf_stream.specs.declared.form.WrittenForm.{WrittenForm}
+use Rattle.rdf_lines.specs.Forms.{form_of}
+use Rattle.rdf_lines.specs.NodePrefixes.{Form}
 use Rattle.rdf_stream.specs.Kinds.{kind_of}
 use Rattle.rdf_stream.specs.Languages.{Conversion, conversion, conversion_by, conversion_of, language_of, tree_job, written_form}
 use Rattle.rdf_stream.specs.declared.form.Kind.{Kind}
@@ -64,7 +65,7 @@ halts_more contents failed w told reader first bytes more lines h = record {
   begun = h.begun;
   same = h.same;
   halts = λ x b.
-      halts_for_more told (conversion w x reader.scanner.limit first.form) (b.starts.suits.lawful.ends x) bytes more (contents first.drain.now) (contents lines.drain.now) (failed lines.drain.now) (h.halts x b);
+      halts_for_more told (conversion w x reader.scanner.limit (form_of first.form)) (b.starts.suits.lawful.ends x) bytes more (contents first.drain.now) (contents lines.drain.now) (failed lines.drain.now) (h.halts x b);
 }
 
 -- a refusal is of the document
@@ -121,7 +122,7 @@ module _ {G X D : Type 0} (A : Type 0) (contents : D → Option (List ℕ)) (fai
     };
   }
 
-  module _ (x : X) (limit : ℕ) (form : WrittenForm) (first now : R) (same_limit : first.0.scanner.limit ≡ limit) (same_form : first.1.form ≡ form) (b : Begins failed w x first.0 first.1)
+  module _ (x : X) (limit : ℕ) (form : Form) (first now : R) (same_limit : first.0.scanner.limit ≡ limit) (same_form : form_of first.1.form ≡ form) (b : Begins failed w x first.0 first.1)
       (known : Option (List ℕ)) (left : Reading) where
     abbrev job : Conversion
     job = conversion w x limit form
@@ -133,8 +134,8 @@ module _ {G X D : Type 0} (A : Type 0) (contents : D → Option (List ℕ)) (fai
     new = contents now.1.drain.now
 
     -- by the limit and the form that were asked for
-    asked : (P : ℕ → WrittenForm → Type 0) → P first.0.scanner.limit first.1.form → P limit form
-    asked P h = subst (λ f. P limit f) same_form (subst (λ n. P n first.1.form) same_limit h)
+    asked : (P : ℕ → Form → Type 0) → P first.0.scanner.limit (form_of first.1.form) → P limit form
+    asked P h = subst (λ f. P limit f) same_form (subst (λ n. P n (form_of first.1.form)) same_limit h)
 
     pub converted : (s : Summary) → ReadsAll Ended known left s first now → IfSome known (λ bytes. Accepts job bytes old new s)
     converted s h =
@@ -146,8 +147,8 @@ module _ {G X D : Type 0} (A : Type 0) (contents : D → Option (List ℕ)) (fai
         let o = h.is_taken.handed x b in
         let n = now.0.scanner.limit in
         let law = b.starts.suits.lawful in
-        let writes : WritesDue (conversion w x first.0.scanner.limit first.1.form) (reading_of (in_words w x first.0.scanner.limit) h.bytes false).tokens old new =
-        subst (λ k. WritesDue (conversion w x k first.1.form) (reading_of (in_words w x k) h.bytes false).tokens old new) h.is_taken.limit
+        let writes : WritesDue (conversion w x first.0.scanner.limit (form_of first.1.form)) (reading_of (in_words w x first.0.scanner.limit) h.bytes false).tokens old new =
+        subst (λ k. WritesDue (conversion w x k (form_of first.1.form)) (reading_of (in_words w x k) h.bytes false).tokens old new) h.is_taken.limit
         (record { quads = o.quads; due = law.due now.0.grammar x (reading_of (in_words w x n) h.bytes false).tokens o.quads o.read.reached; written = o.written }) in (
           h.broken,
           record {
@@ -170,12 +171,12 @@ module _ {G X D : Type 0} (A : Type 0) (contents : D → Option (List ℕ)) (fai
     pub refused_document : (told : StreamFault) → ReadStops Taken Halted told known left first now → IsRefusal told
     refused_document told h =
         ⊎_elim (λ p. subst IsRefusal (sym p.0) tt)
-        (λ p. halts_document told (conversion w x first.0.scanner.limit first.1.form) p.0.bytes left.has_ended old new (failed now.1.drain.now) (p.1.halts x b)) h
+        (λ p. halts_document told (conversion w x first.0.scanner.limit (form_of first.1.form)) p.0.bytes left.has_ended old new (failed now.1.drain.now) (p.1.halts x b)) h
 
 -- ---- by the job
 
 -- what holds of a line format with these limits holds of the job that asks for them
-pub lines_job : (P : Conversion → Type 0) (job : JobRead) (form : LineForm) → kind_of job.form ≡ Line form → (iri : ℕ) → iri ≡ job.limits.iri → (n : ℕ) → n ≡ job.limits.token → (f : WrittenForm) → f ≡ written_form Kept job →
+pub lines_job : (P : Conversion → Type 0) (job : JobRead) (form : LineForm) → kind_of job.form ≡ Line form → (iri : ℕ) → iri ≡ job.limits.iri → (n : ℕ) → n ≡ job.limits.token → (f : Form) → f ≡ written_form Kept job →
     P (conversion line_words (record { form = form; iri = iri }) n f) → P (conversion_of job)
 lines_job P job form k iri i n l f e h =
     subst (λ y. P (conversion_by y job)) (sym k)
@@ -183,7 +184,7 @@ lines_job P job form k iri i n l f e h =
     (subst (λ m. P (conversion line_words (record { form = form; iri = job.limits.iri }) m f)) l (subst (λ m. P (conversion line_words (record { form = form; iri = m }) n f)) i h)))
 
 -- the same of Turtle and TriG
-pub trees_job : (P : Conversion → Type 0) (job : JobRead) (form : DocForm) → kind_of job.form ≡ Tree form → (x : Chosen) → x ≡ tree_job form job → (n : ℕ) → n ≡ x.start.limits.token → (f : WrittenForm) → f ≡ written_form Tagged job →
+pub trees_job : (P : Conversion → Type 0) (job : JobRead) (form : DocForm) → kind_of job.form ≡ Tree form → (x : Chosen) → x ≡ tree_job form job → (n : ℕ) → n ≡ x.start.limits.token → (f : Form) → f ≡ written_form Tagged job →
     P (conversion tree_words x n f) → P (conversion_of job)
 trees_job P job form k x i n l f e h =
     subst (λ y. P (conversion_by y job)) (sym k)

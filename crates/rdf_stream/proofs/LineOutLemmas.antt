@@ -11,8 +11,9 @@ use Rattle.rdf_terms.specs.Sinks as sink
 use Rattle.rdf_terms.specs.Sinks.{Attempts}
 use Rattle.rdf_terms.specs.Terms.{Quad}
 use Rattle.rdf_lines.specs.Writing.{CanWrite, Writable}
-use Rattle.rdf_stream.specs.declared.form.WrittenForm.{WrittenForm}
-use Rattle.rdf_stream.specs.WrittenForms.{line_in, text_in}
+use Rattle.rdf_lines.specs.declared.form.WrittenForm.{WrittenForm}
+use Rattle.rdf_lines.specs.Forms.{form_of}
+use Rattle.rdf_lines.specs.NodePrefixes.{line_in, text_in}
 use Rattle.rdf_stream.specs.Devices.{AppendsFront}
 use Rattle.rdf_stream.specs.LineOut.{Leaves, Moves, PutHalts, SameOut, Takes, Writes, line_bytes}
 use Rattle.rdf_stream.specs.declared.fault.StreamFault.{StreamFault}
@@ -54,11 +55,11 @@ moves_all a b c bytes rest m t = subst (Appends a c) (sym m.whole) (Appends-tran
 
 -- the bytes of the quads' lines
 abbrev pub bytes_of : WrittenForm → List Quad → List ℕ
-bytes_of f qs = encode_utf8_all (text_in f qs)
+bytes_of f qs = encode_utf8_all (text_in (form_of f) qs)
 
 -- the lines of two lists are those of the first and then the second
 pub bytes_of-append : (f : WrittenForm) (qs rs : List Quad) → bytes_of f (qs ++ rs) ≡ bytes_of f qs ++ bytes_of f rs
-bytes_of-append f qs rs = ap encode_utf8_all (flat_map-append (line_in f) qs rs) ∙ encodes-append (text_in f qs) (text_in f rs)
+bytes_of-append f qs rs = ap encode_utf8_all (flat_map-append (line_in (form_of f)) qs rs) ∙ encodes-append (text_in (form_of f) qs) (text_in (form_of f) rs)
 
 -- the form and the place of the bytes stay the same over two steps
 pub same_out : {D A : Type 0} (a b c : LineOut D A) → SameOut a b → SameOut b c → SameOut a c
@@ -98,7 +99,7 @@ module _ {D A : Type 0} (contents : D → Option (List ℕ)) (failed : D → Boo
       record {
         same = same_out a next b t.same r.same;
         writable = ((quad_had q t.formed, w.0), subst (λ (f : WrittenForm). Writable f.style qs) t.same.form r.writable);
-        writes = subst (λ l. Writes contents a l b) (sym (encodes-append (line_in a.form q) (text_in a.form qs)))
+        writes = subst (λ l. Writes contents a l b) (sym (encodes-append (line_in (form_of a.form) q) (text_in (form_of a.form) qs)))
             (writes_on a next b (line_bytes a.form q) (bytes_of a.form qs) t.writes more);
         live = λ l. r.live t.live;
       }
@@ -125,7 +126,7 @@ module _ {D A : Type 0} (contents : D → Option (List ℕ)) (failed : D → Boo
         same = p.1.same;
         rest = p.1.rest;
         moves = subst (λ l. Moves (contents a.drain.now) (contents b.drain.now) (a.buffer.now.items ++ l) p.1.rest)
-            (ap encode_utf8_all (sym (append-nil (line_in a.form q))) ∙ ap (λ rs. bytes_of a.form (q ∷ rs)) (sym p.0)) p.1.moves;
+            (ap encode_utf8_all (sym (append-nil (line_in (form_of a.form) q))) ∙ ap (λ rs. bytes_of a.form (q ∷ rs)) (sym p.0)) p.1.moves;
         whole = λ l. ([], q ∷ qs, refl, p.1.live l);
       }
 
@@ -134,7 +135,7 @@ module _ {D A : Type 0} (contents : D → Option (List ℕ)) (failed : D → Boo
           let (next, t, tries) = p in
           let r = behind next tries in
           let first = t.writes in
-          let join = encodes-append (line_in a.form q) (text_in a.form qs) in
+          let join = encodes-append (line_in (form_of a.form) q) (text_in (form_of a.form) qs) in
           record {
             same = same_out a next b t.same r.same;
             rest = r.rest;
@@ -147,7 +148,7 @@ module _ {D A : Type 0} (contents : D → Option (List ℕ)) (failed : D → Boo
                   q ∷ done,
                   later,
                   ap (λ rs. q ∷ rs) split,
-                  subst (λ l. Writes contents a l b) (sym (encodes-append (line_in a.form q) (text_in a.form done)))
+                  subst (λ l. Writes contents a l b) (sym (encodes-append (line_in (form_of a.form) q) (text_in (form_of a.form) done)))
                       (writes_on a next b (line_bytes a.form q) (bytes_of a.form done) first (subst (λ s. Writes contents next (bytes_of s done) b) t.same.form writes)),
                 );
           }

@@ -1,5 +1,6 @@
 -- What passing text does to a reader, by its grammar.
-use Rattle.std.proofs.Common.{ℕ, List, [], ◌∷◌, ◌++◌, refl, sym, subst}
+use Rattle.std.proofs.Common.{ℕ, List, [], ◌∷◌, ◌++◌, refl, sym, ap, ◌∙◌, subst}
+use Rattle.std.specs.Prelude.{encode_utf8_all}
 use Rattle.std.proofs.lemmas.List.{append-nil}
 use Rattle.rdf_terms.specs.Terms.{Quad}
 use Rattle.rdf_driver.specs.Readers.{Driven, HasRead}
@@ -7,9 +8,11 @@ use Rattle.rdf_driver.specs.Words.{Words}
 use Rattle.rdf_lines.specs.declared.form.Style.{Style}
 use Rattle.rdf_lines.specs.declared.form.Style.TheVariants.{Kept}
 use Rattle.rdf_lines.specs.declared.form.LineForm.{LineForm}
+use Rattle.rdf_lines.specs.declared.form.Escapes.TheVariants.{Plain}
 use Rattle.rdf_lines.specs.Accepting.{LineAt, line_words}
 use Rattle.rdf_lines.specs.Canonical.{IsTaken, PassesLines}
 use Rattle.rdf_lines.specs.Writing.{Writable}
+use Rattle.rdf_lines.proofs.NodePrefixLemmas.{text_unprefixed}
 use Rattle.std.specs.List.{AllByRecursion}
 use Rattle.rdf_stream.specs.Passes.{PassesText}
 
@@ -32,7 +35,7 @@ taken_writable form token iri (q ∷ qs) h = ((h.0.quad, h.0.labels), taken_writ
 pub lines_passed : (old : Driven LineAt) (bytes : List ℕ) (new : Driven LineAt) → PassesLines old bytes new → PassesText line_words Kept old bytes new
 lines_passed old bytes new h = record {
   given = h.given;
-  is = h.canonical.is;
+  is = h.canonical.is ∙ ap encode_utf8_all (sym (text_unprefixed Kept Plain h.given));
   writable = taken_writable old.grammar.rules.form old.scanner.limit old.grammar.rules.iri h.given h.canonical.each;
   limit = h.limit;
   read = h.read;

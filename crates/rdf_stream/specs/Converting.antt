@@ -11,6 +11,7 @@ use Rattle.rdf_driver.specs.declared.summary.Summary.{Summary}
 use Rattle.rdf_driver.specs.Readers.{Driven, HasRead}
 use Rattle.rdf_driver.specs.Words.{Lawful, Words}
 use Rattle.rdf_lines.specs.declared.form.Style.{Style}
+use Rattle.rdf_lines.specs.Forms.{form_of}
 use Rattle.rdf_lines.specs.Writing.{CanWrite, Writable}
 use Rattle.rdf_stream.specs.Languages.{Conversion, conversion}
 use Rattle.rdf_stream.specs.declared.fault.StreamFault.{StreamFault}
@@ -41,7 +42,7 @@ pub record Begins {G X D A : Type 0} (failed : D → Bool) (w : Words G X Quad) 
 pub record HandedOver {G X D A : Type 0} (contents : D → Option (List ℕ)) (failed : D → Bool) (w : Words G X Quad) (x : X) (reader : Driven G) (bytes : List ℕ) (first lines : LineOut D A) : Type 0 where
   pub quads : List Quad
   pub read : HasRead w reader x bytes quads
-  pub written : Appends (contents first.drain.now) (contents lines.drain.now) (lines_of first.form quads)
+  pub written : Appends (contents first.drain.now) (contents lines.drain.now) (lines_of (form_of first.form) quads)
   pub writable : Writable first.form.style quads
   pub none_waits : lines.buffer.now.items ≡ []
   pub same : SameOut first lines
@@ -51,7 +52,7 @@ pub record HandedOver {G X D A : Type 0} (contents : D → Option (List ℕ)) (f
 pub record HasPut {G X D A : Type 0} (contents : D → Option (List ℕ)) (failed : D → Bool) (w : Words G X Quad) (x : X) (reader : Driven G) (bytes : List ℕ) (first lines : LineOut D A) : Type 0 where
   pub quads : List Quad
   pub read : HasRead w reader x bytes quads
-  pub moves : Moves (contents first.drain.now) (contents lines.drain.now) (lines_of first.form quads) lines.buffer.now.items
+  pub moves : Moves (contents first.drain.now) (contents lines.drain.now) (lines_of (form_of first.form) quads) lines.buffer.now.items
   pub writable : Writable first.form.style quads
   pub same : SameOut first lines
   pub live : failed lines.drain.now ≡ false
@@ -82,14 +83,14 @@ pub record RunHalts {G X D A : Type 0} (contents : D → Option (List ℕ)) (fai
   pub begun : (x : X) × Begins failed w x reader first
   pub same : SameOut first lines
   pub halts : (x : X) → Begins failed w x reader first →
-      HaltsFor told (conversion w x reader.scanner.limit first.form) bytes is_end (contents first.drain.now) (contents lines.drain.now) (failed lines.drain.now)
+      HaltsFor told (conversion w x reader.scanner.limit (form_of first.form)) bytes is_end (contents first.drain.now) (contents lines.drain.now) (failed lines.drain.now)
 
 -- Since the run began these bytes came, they are all that there are, and were converted.
 pub record RunEnds {G X D A : Type 0} (contents : D → Option (List ℕ)) (failed flushed : D → Bool) (w : Words G X Quad) (summary : Summary) (reader : Driven G) (first : LineOut D A) (bytes : List ℕ) (lines : LineOut D A) : Type 0 where
   pub same : SameOut first lines
   pub sent : flushed lines.drain.now ≡ true
   pub accepts : (x : X) → Begins failed w x reader first →
-      Accepts (conversion w x reader.scanner.limit first.form) bytes (contents first.drain.now) (contents lines.drain.now) summary
+      Accepts (conversion w x reader.scanner.limit (form_of first.form)) bytes (contents first.drain.now) (contents lines.drain.now) summary
 
 -- The drain has failed: before, and is as it was, or while it took what waited.
 pub record TellsWrite {D A : Type 0} (contents : D → Option (List ℕ)) (failed : D → Bool) (before after : LineOut D A) : Type 0 where

@@ -11,19 +11,19 @@ use Rattle.rdf_tokens.specs.Grammars.{BeginsDue, Due, GoesOn, IsDocumentOf, IsTo
 use Rattle.rdf_driver.specs.declared.summary.Summary.{Summary}
 use Rattle.rdf_lines.specs.declared.form.Escapes.TheVariants.{Ascii}
 use Rattle.rdf_lines.specs.Writing.{HasAsciiLabels}
+use Rattle.rdf_lines.specs.NodePrefixes.{Form, text_in}
+use Rattle.rdf_lines.specs.Laws.{ReadsBackIn}
 use Rattle.rdf_stream.specs.declared.fault.StreamFault.{StreamFault}
 use Rattle.rdf_stream.specs.declared.fault.StreamFault.TheVariants.{Refused, Read, Write, Memory}
 use Rattle.rdf_stream.specs.Devices.{AppendsFront, HasBroken, HasGiven, Reading}
 use Rattle.rdf_stream.specs.Languages.{Conversion}
-use Rattle.rdf_stream.specs.declared.form.WrittenForm.{WrittenForm}
-use Rattle.rdf_stream.specs.WrittenForms.{ReadsBackIn, text_in}
 
 -- the bytes of the quads' lines
-abbrev pub lines_of : WrittenForm → List Quad → List ℕ
+abbrev pub lines_of : Form → List Quad → List ℕ
 lines_of f qs = encode_utf8_all (text_in f qs)
 
 -- In ASCII each byte of the lines is below 128, where each label has such characters alone.
-abbrev pub IsAscii : WrittenForm → List Quad → Type 0
+abbrev pub IsAscii : Form → List Quad → Type 0
 IsAscii f qs = f.escapes ≡ Ascii → AllByRecursion HasAsciiLabels qs → AllByRecursion (λ b. b < 128) (lines_of f qs)
 
 -- the numbers of quads, of tokens without the end, and of bytes

@@ -6,26 +6,26 @@ use Rattle.rdf_driver.specs.Words.{Words, in_words}
 use Rattle.rdf_lines.specs.declared.form.Style.{Style}
 use Rattle.rdf_lines.specs.declared.form.Style.TheVariants.{Kept, Tagged}
 use Rattle.rdf_lines.specs.Documents.{in_lines}
+use Rattle.rdf_lines.specs.NodePrefixes.{Form}
 use Rattle.rdf_trig.specs.declared.form.DocForm.{DocForm}
 use Rattle.rdf_trig.specs.Language.{Chosen, language}
 use Rattle.rdf_stream.specs.declared.form.Kind.{Kind}
 use Rattle.rdf_stream.specs.declared.form.Kind.TheVariants.{Line, Tree}
 use Rattle.rdf_stream.specs.Kinds.{kind_of}
 use Rattle.rdf_stream.specs.Jobs.{JobRead}
-use Rattle.rdf_stream.specs.declared.form.WrittenForm.{WrittenForm}
 
 -- what is read, and how its quads are written
 pub record Conversion : Type 1 where
   pub language : Language
-  pub form : WrittenForm
+  pub form : Form
 
 -- the conversion of what a grammar reads from this start on, with this limit on its tokens
-abbrev pub conversion : {G X : Type 0} → Words G X Quad → X → ℕ → WrittenForm → Conversion
+abbrev pub conversion : {G X : Type 0} → Words G X Quad → X → ℕ → Form → Conversion
 conversion w x limit form = record { language = in_words w x limit; form = form }
 
 -- what a job asks of the lines, with blank nodes named in a style
-abbrev pub written_form : Style → JobRead → WrittenForm
-written_form style job = record { style = style; escapes = job.escapes }
+abbrev pub written_form : Style → JobRead → Form
+written_form style job = record { style = style; escapes = job.escapes; prefix = job.node_prefix }
 
 -- the base and the bindings of the job are in force before the first token
 abbrev pub tree_job : DocForm → JobRead → Chosen

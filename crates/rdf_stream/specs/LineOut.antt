@@ -2,8 +2,9 @@
 use Rattle.std.specs.Prelude.{◌≡◌, ◌<◌, ℕ, Bool, true, false, List, [], ◌++◌, length, Option, encode_utf8_all}
 use Rattle.std.specs.Io.KnownBytes.{Appends}
 use Rattle.rdf_terms.specs.Terms.{Quad, IsQuad}
-use Rattle.rdf_stream.specs.declared.form.WrittenForm.{WrittenForm}
-use Rattle.rdf_stream.specs.WrittenForms.{line_in}
+use Rattle.rdf_lines.specs.declared.form.WrittenForm.{WrittenForm}
+use Rattle.rdf_lines.specs.Forms.{form_of}
+use Rattle.rdf_lines.specs.NodePrefixes.{line_in}
 use Rattle.rdf_stream.specs.declared.fault.StreamFault.{StreamFault}
 use Rattle.rdf_stream.specs.declared.fault.StreamFault.TheVariants as fault
 use Rattle.rdf_stream.specs.declared.line_out.LineOut.{LineOut}
@@ -30,7 +31,7 @@ Writes contents before bytes after = Moves (contents before.drain.now) (contents
 
 -- the bytes of the quad's line
 abbrev pub line_bytes : WrittenForm → Quad → List ℕ
-line_bytes f q = encode_utf8_all (line_in f q)
+line_bytes f q = encode_utf8_all (line_in (form_of f) q)
 
 -- What a put of a quad does: its line is written behind the others. The quad's type says that it is well formed.
 pub record Takes {D A : Type 0} (contents : D → Option (List ℕ)) (failed : D → Bool) (before : LineOut D A) (q : Quad) (after : LineOut D A) : Type 0 where

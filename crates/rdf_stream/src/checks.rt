@@ -34,6 +34,7 @@ pub fn check<A: Allocator + Copy, S: Source>(
         CheckStops fault (language_of job) (S.remaining source.old) (reading S.remaining S.has_ended S.has_failed source.new)) }
     ensures refused { IfErr result IsRefusal }
 {
+    let mut job = job;
     match job.form().kind() {
         Kind::Line(form) => check_with(alloc, line_reader(alloc, form, job.limits()), source),
         Kind::Tree(form) => check_with(alloc, tree_reader(alloc, job.options(form)), source),

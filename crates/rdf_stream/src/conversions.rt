@@ -1,6 +1,7 @@
 // From a document to the lines of its quads.
 
 ghost use Rattle.std.specs.Prelude.{◌≡◌, ◌<◌, ◌++◌, true, false, length, OnOk, IfOk, IfErr, IfSome};
+ghost use Rattle.rdf_lines.specs.Forms.{form_of};
 ghost use Rattle.rdf_stream.specs.Converting.{Begins, IsConverting, IsPutting, RunEnds, RunHalts};
 ghost use Rattle.rdf_stream.specs.Converts.{Accepts, AcceptsAll, StopsFor};
 ghost use Rattle.rdf_stream.specs.Devices.{reading};
@@ -22,7 +23,7 @@ use rdf_trig::tree_reader;
 use std::alloc::Allocator;
 
 /// Reads a document of the job's format from the source, writes the lines of its quads to the drain with the job's
-/// escapes, and flushes it.
+/// escapes and its word in front of the names of nodes, and flushes it.
 ///
 /// Before it asks the source for more, all lines that are due of the bytes so far have been handed to the drain, and so
 /// they have before a refusal or a failed read is reported.
@@ -45,6 +46,7 @@ pub fn convert<A: Allocator + Copy, S: Source, D: Drain>(
 {
     let mut piece = piece_buffer(alloc)?;
     let mut buffer = Vec::new(alloc);
+    let mut job = job;
     match job.form().kind() {
         Kind::Line(form) => {
             let written = job.written_form(Style::Kept);
@@ -53,8 +55,8 @@ pub fn convert<A: Allocator + Copy, S: Source, D: Drain>(
             convert_with(reader, source, piece.as_mut_slice(), &mut lines)
         }
         Kind::Tree(form) => {
-            let written = job.written_form(Style::Tagged);
             let reader = tree_reader(alloc, job.options(form));
+            let written = job.written_form(Style::Tagged);
             let mut lines = LineOut::new(written, &mut buffer, drain);
             convert_with(reader, source, piece.as_mut_slice(), &mut lines)
         }
@@ -73,12 +75,12 @@ fn convert_with<A: Allocator + Copy, G: Passes<A>, S: Source, D: Drain>(
     requires source { S.has_failed source.old ≡ false }
     requires room { 0 < length piece.old }
     ensures accepted { IfOk result (λ summary. (x : G.Setting) → Begins D.has_failed G.words x reader lines.old → IfSome (S.remaining source.old) (λ bytes.
-        Accepts (conversion G.words x reader.scanner.limit lines.old.form) bytes (D.contents lines.old.drain.now) (D.contents lines.new.drain.now) summary)) }
+        Accepts (conversion G.words x reader.scanner.limit (form_of lines.old.form)) bytes (D.contents lines.old.drain.now) (D.contents lines.new.drain.now) summary)) }
     ensures ended { OnOk result (S.has_ended source.new ≡ true) }
     ensures flushed { OnOk result (D.is_flushed lines.new.drain.now ≡ true) }
     ensures same { SameOut lines.old lines.new }
     ensures stops { IfErr result (λ told. (x : G.Setting) → Begins D.has_failed G.words x reader lines.old →
-        StopsFor told (conversion G.words x reader.scanner.limit lines.old.form) (S.remaining source.old) (reading S.remaining S.has_ended S.has_failed source.new)
+        StopsFor told (conversion G.words x reader.scanner.limit (form_of lines.old.form)) (S.remaining source.old) (reading S.remaining S.has_ended S.has_failed source.new)
         (D.contents lines.old.drain.now) (D.contents lines.new.drain.now) (D.has_failed lines.new.drain.now)) }
     ensures refused { IfErr result IsRefusal }
 {

@@ -2,7 +2,7 @@
 
 ghost use Rattle.rdf_stream.specs.Kinds.{IsKind};
 
-use rdf_lines::{Escapes, LineForm, Style};
+use rdf_lines::LineForm;
 use rdf_trig::DocForm;
 
 /// The format of a document.
@@ -16,13 +16,6 @@ pub enum Form {
     Turtle,
     /// TriG.
     TriG,
-}
-
-/// The form of what is written: how blank nodes are named, and how characters above U+007F stand.
-#[derive(Clone, Copy)]
-pub(crate) struct WrittenForm {
-    pub(crate) style: Style,
-    pub(crate) escapes: Escapes,
 }
 
 /// A line format, or one of statements with names and brackets.

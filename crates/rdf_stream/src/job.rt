@@ -3,26 +3,28 @@
 ghost use Rattle.std.specs.Prelude.{◌≡◌, ◌↔◌, None, [], Decides, IfSome};
 ghost use Rattle.rdf_iri.specs.Scope.{BaseFits};
 ghost use Rattle.rdf_iri.specs.Texts.{byte_len};
+ghost use Rattle.rdf_lines.specs.Forms.{form_of};
 ghost use Rattle.rdf_stream.specs.Jobs.{JobRead};
 ghost use Rattle.rdf_stream.specs.Languages.{tree_job, written_form};
 
-use crate::form::{Form, WrittenForm};
+use crate::form::Form;
 use rdf_iri::{Bindings, Limits};
-use rdf_lines::{Escapes, Style};
+use rdf_lines::{Escapes, NodePrefix, NodePrefixView, Style, WrittenForm};
 use rdf_terms::Iri;
 use rdf_trig::{DocForm, Options};
 use std::alloc::{Allocator, Global};
 use std::marker::Model;
 
 /// The format of a document, the base that its references are resolved against first, the prefixes that are bound before
-/// it, the escapes of what is written for it, and the limits. The line formats have no relative references and no
-/// prefixes, so they do not look at base and bindings.
+/// it, the escapes of what is written for it, the word in front of the names of nodes there, and the limits. The line
+/// formats have no relative references and no prefixes, so they do not look at base and bindings.
 #[derive(Drop)]
 pub struct Job<A: Allocator = Global> {
     form: Form,
     base: Option<Iri<A>>,
     bindings: Option<Bindings<A>>,
     escapes: Escapes,
+    node_prefix: Option<NodePrefix<A>>,
     limits: Limits,
 }
 
@@ -30,19 +32,20 @@ impl<A: Allocator> Model for Job<A> {
     ghost use Rattle.std.specs.Prelude.{◌≡◌, IfSome};
     ghost use Rattle.rdf_iri.specs.Scope.{BaseFits};
     ghost use Rattle.rdf_trig.specs.Language.{handed_in};
-    ghost use Rattle.rdf_stream.specs.Jobs.{JobRead};
+    ghost use Rattle.rdf_stream.specs.Jobs.{JobRead, word_of};
 
     ghost Value = { JobRead };
 
-    ghost view = { λ j. record { form = j.form; base = j.base; bindings = handed_in j.bindings; escapes = j.escapes; limits = j.limits } };
+    ghost view = { λ j. record { form = j.form; base = j.base; bindings = handed_in j.bindings; escapes = j.escapes; node_prefix = word_of j.node_prefix; limits = j.limits } };
 
     ghost invariant = { λ j. BaseFits j.base j.limits × IfSome j.bindings (λ b. b.limits ≡ j.limits) };
 }
 
 impl<A: Allocator> Job<A> {
-    /// A job without bindings and in plain lines, or None where the base has more bytes than the limits allow for an IRI. It takes no memory.
+    /// A job without bindings, in plain lines and without a word in front of the names of nodes, or None where the base has more
+    /// bytes than the limits allow for an IRI. It takes no memory.
     pub fn new(form: Form, base: Option<Iri<A>>, limits: Limits) -> Option<Job<A>>
-        ensures made { IfSome result (λ job. job ≡ record { form = form; base = base; bindings = []; escapes = Escapes.Plain; limits = limits }) }
+        ensures made { IfSome result (λ job. job ≡ record { form = form; base = base; bindings = []; escapes = Escapes.Plain; node_prefix = []; limits = limits }) }
         ensures none { (result ≡ None) ↔ ¬ BaseFits base limits }
     {
         if !fits(&base, limits) {
@@ -53,6 +56,7 @@ impl<A: Allocator> Job<A> {
             base,
             bindings: None,
             escapes: Escapes::Plain,
+            node_prefix: None,
             limits,
         })
     }
@@ -66,6 +70,7 @@ impl<A: Allocator> Job<A> {
             form,
             base,
             escapes,
+            node_prefix,
             limits,
             ..
         } = self;
@@ -74,6 +79,7 @@ impl<A: Allocator> Job<A> {
             base,
             bindings: Some(bindings),
             escapes,
+            node_prefix,
             limits,
         }
     }
@@ -87,6 +93,28 @@ impl<A: Allocator> Job<A> {
         job
     }
 
+    /// The same, with this word in front of the names of nodes that are written, in place of the one that was. It takes no memory.
+    pub fn with_node_prefix(self, prefix: NodePrefix<A>) -> Job<A>
+        ensures { result ≡ record self { node_prefix = prefix } }
+    {
+        let Job {
+            form,
+            base,
+            bindings,
+            escapes,
+            limits,
+            ..
+        } = self;
+        Job {
+            form,
+            base,
+            bindings,
+            escapes,
+            node_prefix: Some(prefix),
+            limits,
+        }
+    }
+
     /// The document's format.
     pub(crate) fn form(&self) -> Form
         ensures { result ≡ self.now.form }
@@ -95,12 +123,17 @@ impl<A: Allocator> Job<A> {
     }
 
     /// What is asked of the lines, with blank nodes named in a style.
-    pub(crate) fn written_form(&self, style: Style) -> WrittenForm
-        ensures { result ≡ written_form style self.now }
+    pub(crate) fn written_form(&self, style: Style) -> WrittenForm<'_>
+        ensures { form_of result ≡ written_form style self.now }
     {
+        let prefix = match &self.node_prefix {
+            Some(prefix) => prefix.view(),
+            None => NodePrefixView::none(),
+        };
         WrittenForm {
             style,
             escapes: self.escapes,
+            prefix,
         }
     }
 
@@ -113,17 +146,14 @@ impl<A: Allocator> Job<A> {
 }
 
 impl<A: Allocator + Copy> Job<A> {
-    /// What a reader of Turtle or TriG is asked for.
-    pub(crate) fn options(self, form: DocForm) -> Options<A>
-        ensures { result ≡ tree_job form self }
+    /// What a reader of Turtle or TriG is asked for. It has the base and the bindings then, and the job has them no more.
+    pub(crate) fn options(&mut self, form: DocForm) -> Options<A>
+        ensures options { result ≡ tree_job form self.old }
+        ensures left { self.new ≡ record self.old { base = None; bindings = [] } }
     {
-        let Job {
-            base,
-            bindings,
-            limits,
-            ..
-        } = self;
-        match (Options::new(form, base, limits), bindings) {
+        let base = self.base.take();
+        let bindings = self.bindings.take();
+        match (Options::new(form, base, self.limits), bindings) {
             (Some(options), Some(bindings)) => options.with_bindings(bindings),
             (Some(options), None) => options,
             (None, _) => unreachable!(),

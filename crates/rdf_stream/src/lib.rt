@@ -30,6 +30,6 @@ pub use messages::report;
 pub use put::put_all;
 pub use rdf_driver::{Fault, Summary};
 pub use rdf_iri::{BindingFault, BindingReason, Bindings, Limits};
-pub use rdf_lines::Escapes;
+pub use rdf_lines::{Escapes, NodePrefix};
 pub use rdf_terms::{Iri, TermFault};
 pub use shows::show;

@@ -11,11 +11,10 @@ ghost use Rattle.rdf_stream.specs.WrittenForms.{is_plain};
 
 use crate::devices::{Drain, Failed};
 use crate::fault::StreamFault;
-use crate::form::WrittenForm;
 use crate::put::put_all;
 use crate::token_line::put_token_line;
 use crate::views::see_quad;
-use rdf_lines::{Escapes, LabelFault, write_line};
+use rdf_lines::{Escapes, LabelFault, WrittenForm, write_line_in};
 use rdf_terms::{PutFault, QuadRef, QuadSink};
 use rdf_tokens::{Fault, Token};
 use std::alloc::{Allocator, Global};
@@ -30,7 +29,7 @@ const COPIED_LEN: usize = 4096;
 /// that the style can't write is refused, as one for which there is no memory.
 #[derive(Drop)]
 pub(crate) struct LineOut<'a, D: Drain, A: Allocator = Global> {
-    form: WrittenForm,
+    form: WrittenForm<'a>,
     buffer: &'a mut Vec<u8, A>,
     drain: &'a mut D,
 }
@@ -38,11 +37,11 @@ pub(crate) struct LineOut<'a, D: Drain, A: Allocator = Global> {
 impl<'a, D: Drain, A: Allocator + Copy> LineOut<'a, D, A> {
     /// No line waits.
     pub(crate) fn new(
-        form: WrittenForm,
+        form: WrittenForm<'a>,
         buffer: &'a mut Vec<u8, A>,
         drain: &'a mut D,
     ) -> LineOut<'a, D, A>
-        ensures form { result.form ≡ form }
+        ensures form { result.form ≡ form.entry }
         ensures buffer { result.buffer.now ≡ buffer.old }
         ensures same_buffer { result.buffer.ghost_name ≡ buffer.entry.ghost_name }
         ensures drain { result.drain.now ≡ drain.old }
@@ -55,11 +54,11 @@ impl<'a, D: Drain, A: Allocator + Copy> LineOut<'a, D, A> {
         }
     }
 
-    /// Whether characters above U+007F are written as they are.
+    /// Whether characters above U+007F are written as they are, and names without a word in front.
     pub(crate) fn is_plain(&self) -> bool
-        ensures { result ≡ is_plain self.now.form.escapes }
+        ensures { result ≡ is_plain self.now.form }
     {
-        matches!(self.form.escapes, Escapes::Plain)
+        matches!(self.form.escapes, Escapes::Plain) && self.form.prefix.as_str().is_empty()
     }
 
     /// Hands over all that waits.
@@ -164,7 +163,7 @@ impl<'a, D: Drain, A: Allocator + Copy> QuadSink for LineOut<'a, D, A> {
 
     fn put(&mut self, quad: QuadRef<'_>) -> Result<(), PutFault> {
         see_quad(quad);
-        match write_line(quad, self.form.style, self.form.escapes, self.buffer) {
+        match write_line_in(quad, self.form, self.buffer) {
             Ok(()) => {}
             // No reader gives a quad that its style can't write. If one did, it would end the run.
             Err(LabelFault::NotLabelled) => return Err(PutFault::Memory),

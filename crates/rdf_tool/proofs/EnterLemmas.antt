@@ -14,7 +14,7 @@ use Rattle.clap.proofs.WalkLemmas.{list_any-map}
 use Rattle.rdf_stream.specs.declared.form.Form.{Form}
 use Rattle.rdf_tool.specs.declared.task.Action.{Action}
 use Rattle.rdf_tool.specs.declared.task.Action.TheVariants.{Check, Show, Convert}
-use Rattle.rdf_tool.specs.Words.{Entered, HasLimits, IsEntered, action_app, action_name, ascii_rule, form_name, format_names, forms, prefixes_rule, rdfconv}
+use Rattle.rdf_tool.specs.Words.{Entered, HasLimits, IsEntered, action_app, action_name, ascii_rule, form_name, format_names, forms, node_prefix_rule, prefixes_rule, rdfconv}
 use Rattle.rdf_tool.proofs.RowLemmas.{Each, IsRead, same_text, value-of}
 use Rattle.rdf_tool.proofs.GivenLemmas.{pair_is, same_some}
 use Rattle.rdf_tool.proofs.LevelLemmas.{IsHelp, LevelHolds, enters}
@@ -34,7 +34,7 @@ module _ (names : Bor (List (Bor Text))) (known : texts names.now ≡ format_nam
   abbrev own_rules : Action → List Rule
   own_rules Check = prefixes_rule ∷ []
   own_rules Show = []
-  own_rules Convert = prefixes_rule ∷ ascii_rule ∷ []
+  own_rules Convert = prefixes_rule ∷ ascii_rule ∷ node_prefix_rule ∷ []
 
   -- the options of a built subcommand
   abbrev options : Action → List Rule
@@ -50,7 +50,7 @@ module _ (names : Bor (List (Bor Text))) (known : texts names.now ≡ format_nam
       ((refl, set), ((refl, set), ((refl, set), ((refl, set), ((refl, set), ((refl, set), ((refl, set), ((refl, inr (inr refl)), tt))))))))
   are_read Convert =
       let set = inl (refl, refl, refl) in
-      ((refl, set), ((refl, set), ((refl, set), ((refl, set), ((refl, set), ((refl, set), ((refl, set), ((refl, set), ((refl, inr (inl (refl, omega arith))), ((refl, inr (inr refl)), tt))))))))))
+      ((refl, set), ((refl, set), ((refl, set), ((refl, set), ((refl, set), ((refl, set), ((refl, set), ((refl, set), ((refl, inr (inl (refl, omega arith))), ((refl, set), ((refl, inr (inr refl)), tt)))))))))))
 
   -- a built subcommand of the program
   abbrev IsAction : Shape → Type 0

@@ -10,8 +10,8 @@ use Rattle.clap.specs.declared.error.kind.ErrorKind.TheVariants.{OutOfMemory}
 use Rattle.clap.specs.declared.parser.matches.Found.{Found}
 use Rattle.clap.proofs.WalkLemmas.{first_value-rows}
 use Rattle.rdf_tool.specs.declared.task.WordsFault.{WordsFault}
-use Rattle.rdf_tool.specs.declared.task.WordsFault.TheVariants.{Usage, BadBase, Memory}
-use Rattle.rdf_tool.specs.Words.{Entered, GivesNone, NoBaseOf, NoTaskBy, fault_by, number_of}
+use Rattle.rdf_tool.specs.declared.task.WordsFault.TheVariants.{Usage, BadBase, BadNodePrefix, Memory}
+use Rattle.rdf_tool.specs.Words.{Entered, GivesNone, NoBaseOf, NoTaskBy, NoWordOf, fault_by, number_of}
 
 -- what is there is not none
 some≢none : {X : Type 0} (x : X) → None ≡ Some x → ⊥
@@ -78,10 +78,19 @@ refuses a words e h = go (kind_of e) refl
 pub refused_by : (a : App) (words : List Text) (p : Entered) (fault : WordsFault) → fault_of a words ≡ [] → subcommand_of a words ≡ Some p → NoTaskBy p fault → GivesNone a words fault
 refused_by a words p (Usage e) none is h = absurd h
 refused_by a words p BadBase none is h = record { entered = p; taken = none; matches = is; holds = h }
+refused_by a words p BadNodePrefix none is h = record { entered = p; taken = none; matches = is; holds = h }
 refused_by a words p Memory none is h = tt
 
 -- a base that is none is the base of the matches
 pub no_task : (p : Entered) (most : ℕ) (base : Option Text) (fault : WordsFault) → base ≡ first_of (codes "base") p.1 → number_of (codes "iri") p.1 ≡ Some most → NoBaseOf most base fault → NoTaskBy p fault
 no_task p most base (Usage e) is limit h = absurd h
 no_task p most base BadBase is limit h = (h.0, most, sym is ∙ h.1, limit, h.2)
+no_task p most base BadNodePrefix is limit h = absurd h
 no_task p most base Memory is limit h = tt
+
+-- a text that is no word is that of the matches
+pub no_word : (p : Entered) (word : Option Text) (fault : WordsFault) → word ≡ first_of (codes "node-prefix") p.1 → NoWordOf word fault → NoTaskBy p fault
+no_word p word (Usage e) is h = absurd h
+no_word p word BadBase is h = absurd h
+no_word p word BadNodePrefix is h = (h.0, sym is ∙ h.1, h.2)
+no_word p word Memory is h = tt

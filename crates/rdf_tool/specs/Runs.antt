@@ -7,7 +7,7 @@ use Rattle.rdf_stream.specs.Converts.{IsConverted, StopsFor}
 use Rattle.rdf_stream.specs.Devices.{AppendsFront, Reading, Written}
 use Rattle.rdf_iri.specs.Limits.{Sizes}
 use Rattle.rdf_iri.specs.Bindings.{BindingMap}
-use Rattle.rdf_stream.specs.Jobs.{JobRead}
+use Rattle.rdf_stream.specs.Jobs.{JobRead, word_of}
 use Rattle.rdf_stream.specs.Loads.{LoadStops, Loads}
 use Rattle.rdf_stream.specs.declared.fault.LoadFault.{LoadFault}
 use Rattle.rdf_stream.specs.Languages.{conversion_of, language_of}
@@ -22,7 +22,7 @@ use Rattle.rdf_tool.specs.Statuses.{TellsLoad, TellsOf, load_status, status_of}
 
 -- the job that a task asks for, with these bindings
 abbrev pub job_of : Task → List (List ℕ × List ℕ) → JobRead
-job_of t bindings = record { form = t.form; base = t.base; bindings = bindings; escapes = t.escapes; limits = t.limits }
+job_of t bindings = record { form = t.form; base = t.base; bindings = bindings; escapes = t.escapes; node_prefix = word_of t.node_prefix; limits = t.limits }
 
 -- no call was made of these sources
 pub record AreFresh {I : Type 0} (has_ended has_failed : I → Bool) (files : Files I) : Type 0 where

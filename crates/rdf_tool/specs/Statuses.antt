@@ -54,6 +54,7 @@ IsUsageStatus kind status = (kind ≡ DisplayHelp → status ≡ 0) × (kind ≢
 abbrev pub RefusesWords : WordsFault → ℕ → Option (List ℕ) → Option (List ℕ) → Bool → Type 0
 RefusesWords (words.Usage e) status old new failed = IsUsageStatus (kind_of e) status
 RefusesWords words.BadBase status old new failed = (status ≡ 2) × Tells (codes "rdfconv: bad base\n") old new failed
+RefusesWords words.BadNodePrefix status old new failed = (status ≡ 2) × Tells (codes "rdfconv: bad node prefix\n") old new failed
 RefusesWords words.Memory status old new failed = (status ≡ 4) × Tells (report_text Memory) old new failed
 
 -- help changes the output alone, and all else the error output alone

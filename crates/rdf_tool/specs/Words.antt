@@ -17,6 +17,7 @@ use Rattle.clap.specs.declared.error.kind.ErrorKind.{ErrorKind}
 use Rattle.clap.specs.declared.error.kind.ErrorKind.TheVariants.{OutOfMemory}
 use Rattle.rdf_terms.specs.Terms.{IsIri}
 use Rattle.rdf_iri.specs.Limits.{Sizes}
+use Rattle.rdf_lines.specs.NodePrefixes.{IsNodePrefix}
 use Rattle.rdf_lines.specs.declared.form.Escapes.{Escapes}
 use Rattle.rdf_lines.specs.declared.form.Escapes.TheVariants.{Plain, Ascii}
 use Rattle.rdf_stream.specs.declared.form.Form.{Form}
@@ -25,7 +26,7 @@ use Rattle.rdf_tool.specs.declared.task.Action.{Action}
 use Rattle.rdf_tool.specs.declared.task.Action.TheVariants.{Check, Show, Convert}
 use Rattle.rdf_tool.specs.declared.task.Task.{Task}
 use Rattle.rdf_tool.specs.declared.task.WordsFault.{WordsFault}
-use Rattle.rdf_tool.specs.declared.task.WordsFault.TheVariants.{Usage, BadBase, Memory}
+use Rattle.rdf_tool.specs.declared.task.WordsFault.TheVariants.{Usage, BadBase, BadNodePrefix, Memory}
 
 -- ---- names
 
@@ -115,13 +116,21 @@ ascii_rule = record (new_rule (codes "ascii")) { long = Some (codes "ascii"); ac
 abbrev pub with_ascii : App → App
 with_ascii a = with_rule a ascii_rule
 
+-- the word in front of the names of nodes; there is none unless it is given
+abbrev pub node_prefix_rule : Rule
+node_prefix_rule = record (new_rule (codes "node-prefix")) { long = Some (codes "node-prefix"); action = Some Set; value_names = 1 }
+
+-- a subcommand that writes names of nodes
+abbrev pub with_node_prefix : App → App
+with_node_prefix a = with_rule a node_prefix_rule
+
 -- the program's command line
 abbrev pub rdfconv : ValueParser → App
 rdfconv names = with_subcommand (with_subcommand (with_subcommand
     (on_top (λ s. record s { subcommand_required = true }) (new_app (codes "rdfconv")))
     (with_prefixes (action_app names (codes "check"))).top)
     (action_app names (codes "show")).top)
-    (with_ascii (with_prefixes (action_app names (codes "convert")))).top
+    (with_node_prefix (with_ascii (with_prefixes (action_app names (codes "convert"))))).top
 
 -- the command has no global argument, and a parse reads this of it
 abbrev pub ReadsAs : Command → App → Type 0
@@ -165,6 +174,11 @@ pub record IsBase (most : ℕ) (text : Text) : Type 0 where
   pub iri : IsIri (chars text)
   pub within : length text ≤ most
 
+-- the text is a word that may stand in front of the names of nodes, and not the empty one
+pub record IsWord (text : Text) : Type 0 where
+  pub word : IsNodePrefix (chars text)
+  pub some : text ≢ []
+
 -- the limits are the numbers of their options
 pub record HasSizes (rows : List Row) (sizes : Sizes) : Type 0 where
   pub token : number_of (codes "token") rows ≡ Some sizes.token
@@ -185,6 +199,8 @@ pub record IsTaskBy (p : Entered) (t : Task) : Type 0 where
   pub good_base : IfSome (first_of (codes "base") p.1) (IsBase t.limits.iri)
   pub limits : HasSizes p.1 t.limits
   pub escapes : t.escapes ≡ escapes_by (first_of (codes "ascii") p.1)
+  pub node_prefix : t.node_prefix ≡ option_map chars (first_of (codes "node-prefix") p.1)
+  pub good_node_prefix : IfSome (first_of (codes "node-prefix") p.1) IsWord
   pub prefixes : option_map string_bytes t.prefixes ≡ first_of (codes "prefixes") p.1
   pub file : option_map string_bytes t.file ≡ first_of (codes "file") p.1
 
@@ -193,16 +209,29 @@ abbrev pub HasBadBase : Entered → Type 0
 HasBadBase p = (text : Text) × (most : ℕ) × (first_of (codes "base") p.1 ≡ Some text)
     × (number_of (codes "iri") p.1 ≡ Some most) × (IsBase most text → ⊥)
 
+-- the text of --node-prefix among the matches is no such word
+abbrev pub HasBadNodePrefix : Entered → Type 0
+HasBadNodePrefix p = (text : Text) × (first_of (codes "node-prefix") p.1 ≡ Some text) × (IsWord text → ⊥)
+
 -- why a text gives no base
 abbrev pub NoBaseOf : ℕ → Option Text → WordsFault → Type 0
 NoBaseOf most base (Usage e) = ⊥
 NoBaseOf most base BadBase = (text : Text) × (base ≡ Some text) × (IsBase most text → ⊥)
+NoBaseOf most base BadNodePrefix = ⊥
 NoBaseOf most base Memory = Unit
+
+-- why a text gives no word
+abbrev pub NoWordOf : Option Text → WordsFault → Type 0
+NoWordOf word (Usage e) = ⊥
+NoWordOf word BadBase = ⊥
+NoWordOf word BadNodePrefix = (text : Text) × (word ≡ Some text) × (IsWord text → ⊥)
+NoWordOf word Memory = Unit
 
 -- why matches give no task
 abbrev pub NoTaskBy : Entered → WordsFault → Type 0
 NoTaskBy p (Usage e) = ⊥
 NoTaskBy p BadBase = HasBadBase p
+NoTaskBy p BadNodePrefix = HasBadNodePrefix p
 NoTaskBy p Memory = Unit
 
 -- the parser takes these names of formats and no others
@@ -220,10 +249,11 @@ pub record Gives (a : App) (words : List Text) (P : Entered → Type 0) : Type 0
 abbrev pub GivesTask : App → List Text → Task → Type 0
 GivesTask a words t = Gives a words (λ p. IsTaskBy p t)
 
--- Why the words give no task: clap's definition refuses them, or asks for help, with a kind that it names; or the base is bad.
+-- Why the words give no task: clap's definition refuses them, or asks for help, with a kind that it names; or the base or the word for names is bad.
 abbrev pub GivesNone : App → List Text → WordsFault → Type 0
 GivesNone a words (Usage e) = (kind_of e ≢ OutOfMemory) × IsAmong (kind_of e) (fault_of a words)
 GivesNone a words BadBase = Gives a words HasBadBase
+GivesNone a words BadNodePrefix = Gives a words HasBadNodePrefix
 GivesNone a words Memory = Unit
 
 -- the fault of an error of clap, by its kind
@@ -235,4 +265,5 @@ fault_by kind e = Usage e
 abbrev pub IsUsageOf : ErrorKind → WordsFault → Type 0
 IsUsageOf kind (Usage e) = kind_of e ≡ kind
 IsUsageOf kind BadBase = ⊥
+IsUsageOf kind BadNodePrefix = ⊥
 IsUsageOf kind Memory = Unit

@@ -7,14 +7,14 @@ ghost use Rattle.clap.specs.declared.builder.value_parser.ValueParser.TheVariant
 ghost use Rattle.rdf_iri.specs.Scope.{BaseFits};
 ghost use Rattle.rdf_lines.specs.declared.form.Escapes.TheVariants.{Ascii, Plain};
 ghost use Rattle.rdf_iri.specs.Texts.{byte_len};
-ghost use Rattle.rdf_tool.specs.Words.{Entered, GivesNone, GivesTask, HasLimits, HasNumber, HasSizes, IsBase, IsEntered, IsTaskBy, IsUsageOf, NoBaseOf, NoTaskBy, TakesFormats, escapes_by, format_names, number_of, rdfconv};
+ghost use Rattle.rdf_tool.specs.Words.{Entered, GivesNone, GivesTask, HasLimits, HasNumber, HasSizes, IsBase, IsEntered, IsTaskBy, IsUsageOf, IsWord, NoBaseOf, NoTaskBy, NoWordOf, TakesFormats, escapes_by, format_names, number_of, rdfconv};
 
 use crate::names::{FORMATS, action_of, form_of};
 use crate::options::program;
 use crate::task::{Task, WordsFault};
 use clap::ArgMatches;
 use clap::error::ErrorKind;
-use rdf_stream::{Escapes, Iri, Limits, TermFault};
+use rdf_stream::{Escapes, Iri, Limits, NodePrefix, TermFault};
 use std::alloc::{AllocError, Global};
 
 /// The task that the words ask for. The first word is the program's name.
@@ -65,6 +65,7 @@ fn task_of(alloc: Global, name: &str, found: &ArgMatches<'_>) -> Result<Task, Wo
     let limits = limits_of(found);
     let base = base_of(alloc, found.get_str("base"), limits.iri())?;
     let escapes = escapes_by(found.get_str("ascii"));
+    let node_prefix = node_prefix_of(alloc, found.get_str("node-prefix"))?;
     let prefixes = owned(alloc, found.get_str("prefixes"))?;
     let file = owned(alloc, found.get_str("file"))?;
     Ok(Task {
@@ -73,6 +74,7 @@ fn task_of(alloc: Global, name: &str, found: &ArgMatches<'_>) -> Result<Task, Wo
         base,
         limits,
         escapes,
+        node_prefix,
         prefixes,
         file,
     })
@@ -141,6 +143,32 @@ fn base_within(alloc: Global, text: &str, most: u64) -> Result<Iri, WordsFault>
         Ok(base) => Ok(base),
         Err(TermFault::BadTerm) => Err(WordsFault::BadBase),
         Err(TermFault::Memory) => Err(WordsFault::Memory),
+    }
+}
+
+fn node_prefix_of(alloc: Global, text: Option<&str>) -> Result<Option<NodePrefix>, WordsFault>
+    ensures word { IfOk result (λ word. word ≡ option_map chars (option_map (λ s. s.now) text.entry)) }
+    ensures good { OnOk result (IfSome (option_map (λ s. s.now) text.entry) IsWord) }
+    ensures bad { IfErr result (NoWordOf (option_map (λ s. s.now) text.entry)) }
+{
+    match text {
+        Some(text) => Ok(Some(node_prefix_in(alloc, text)?)),
+        None => Ok(None),
+    }
+}
+
+fn node_prefix_in(alloc: Global, text: &str) -> Result<NodePrefix, WordsFault>
+    ensures word { IfOk result (λ word. word ≡ chars text.now) }
+    ensures good { OnOk result (IsWord text.now) }
+    ensures bad { IfErr result (NoWordOf (Some text.now)) }
+{
+    if text.is_empty() {
+        return Err(WordsFault::BadNodePrefix);
+    }
+    let word = String::from_str(alloc, text)?;
+    match NodePrefix::new(word) {
+        Some(prefix) => Ok(prefix),
+        None => Err(WordsFault::BadNodePrefix),
     }
 }
 

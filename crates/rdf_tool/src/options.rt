@@ -3,7 +3,7 @@
 ghost use Rattle.std.specs.Prelude.{◌≡◌, IfOk, codes, false};
 ghost use Rattle.clap.specs.Words.{app_of, rule_of};
 ghost use Rattle.clap.specs.declared.builder.value_parser.ValueParser.TheVariants.{Names};
-ghost use Rattle.rdf_tool.specs.Words.{ReadsAs, action_app, ascii_rule, base_rule, file_rule, format_rule, limit_rule, prefixes_rule, rdfconv, with_ascii, with_prefixes};
+ghost use Rattle.rdf_tool.specs.Words.{ReadsAs, action_app, ascii_rule, base_rule, file_rule, format_rule, limit_rule, node_prefix_rule, prefixes_rule, rdfconv, with_ascii, with_node_prefix, with_prefixes};
 
 use clap::builder::ValueParser;
 use clap::{Arg, ArgAction, Command};
@@ -31,13 +31,16 @@ Options of a command, which reads FILE or standard input:
                    each, as `ex: http://example.org/`; line formats have none
   --ascii          (convert) characters above U+007F of strings and IRIs as \\uXXXX or
                    \\UXXXXXXXX; labels of blank nodes have no escapes, and stay as they are
+  --node-prefix WORD
+                   (convert) WORD, of ASCII letters and digits, in front of the label of each
+                   blank node, so that outputs with different words of one length can be joined
 Past one of the limits N a document is refused.
 
 Exit status:
   0  accepted, or help was asked for
   1  refused, with `rdfconv: REASON at byte N, line M` on standard error
-  2  the words are no command, the base is no IRI or too long, or a line of FILE2 is refused,
-     with `rdfconv: bad prefixes at line N`
+  2  the words are no command, the base is no IRI or too long, WORD is empty or has another
+     character, or a line of FILE2 is refused, with `rdfconv: bad prefixes at line N`
   3  a file does not open, or a read or write failed
   4  out of memory";
 
@@ -48,8 +51,8 @@ The format is not guessed from the file's name. Past one of the limits N a docum
 Exit status:
   0  accepted, or help was asked for
   1  refused, with `rdfconv: REASON at byte N, line M` on standard error
-  2  the words are no command, the base is no IRI or too long, or a line of FILE2 is refused,
-     with `rdfconv: bad prefixes at line N`
+  2  the words are no command, the base is no IRI or too long, WORD is empty or has another
+     character, or a line of FILE2 is refused, with `rdfconv: bad prefixes at line N`
   3  a file does not open, or a read or write failed
   4  out of memory";
 
@@ -71,11 +74,12 @@ pub fn program<'a>(alloc: Global, formats: &'a [&'a str]) -> Result<Command<'a>,
 
 // The subcommand that writes quads.
 fn convert_command<'a>(alloc: Global, formats: &'a [&'a str]) -> Result<Command<'a>, AllocError>
-    ensures { IfOk result (λ c. ReadsAs c (with_ascii (with_prefixes (action_app (Names formats.entry) (codes "convert"))))) }
+    ensures { IfOk result (λ c. ReadsAs c (with_node_prefix (with_ascii (with_prefixes (action_app (Names formats.entry) (codes "convert")))))) }
 {
     let command = prefixed_command(alloc, "convert", CONVERT, formats)?;
     let ascii = ascii_option(alloc);
-    command.arg(ascii)
+    let node_prefix = node_prefix_option(alloc);
+    command.arg(ascii)?.arg(node_prefix)
 }
 
 // A subcommand that looks at prefixes.
@@ -214,6 +218,17 @@ fn ascii_option<'a>(alloc: Global) -> Arg<'a>
         .help(
             "Characters above U+007F of strings and IRIs as \\uXXXX or \\UXXXXXXXX; labels of blank nodes stay",
         )
+}
+
+fn node_prefix_option<'a>(alloc: Global) -> Arg<'a>
+    ensures rule { rule_of result ≡ node_prefix_rule }
+    ensures local { result.global ≡ false }
+{
+    Arg::new(alloc, "node-prefix")
+        .long("node-prefix")
+        .action(ArgAction::Set)
+        .value_name("WORD")
+        .help("Word of ASCII letters and digits in front of the label of each blank node")
 }
 
 fn file_argument<'a>(alloc: Global) -> Arg<'a>

@@ -1,9 +1,10 @@
 // A run, its status, and what it tells.
 
-ghost use Rattle.std.specs.Prelude.{◌≡◌, ◌++◌, ℕ, List, false, true, codes, decimal, IfErr, IfOk, IfSome, OnErr, OnOk, is_err, option_map};
+ghost use Rattle.std.specs.Prelude.{◌≡◌, ◌++◌, ℕ, List, [], false, true, codes, decimal, IfErr, IfOk, IfSome, OnErr, OnOk, is_err, option_map};
 ghost use Rattle.std.specs.Io.KnownBytes.{Appends};
 ghost use Rattle.rdf_iri.specs.Scope.{BaseFits};
 ghost use Rattle.rdf_stream.specs.Devices.{AppendsFront, Reading, reading};
+ghost use Rattle.rdf_stream.specs.Jobs.{word_of};
 ghost use Rattle.rdf_stream.specs.Loads.{LoadStops, Loads};
 ghost use Rattle.rdf_stream.specs.Messages.{report_text};
 ghost use Rattle.rdf_stream.specs.declared.fault.StreamFault.{StreamFault};
@@ -14,8 +15,8 @@ use crate::task::{Action, Task, WordsFault};
 use clap::Error;
 use itoa::Buffer;
 use rdf_stream::{
-    Bindings, Drain, Failed, Job, Limits, LoadFault, Source, StreamFault, Summary, check, convert,
-    load_bindings, put_all, report, show,
+    Bindings, Drain, Failed, Job, Limits, LoadFault, NodePrefix, Source, StreamFault, Summary,
+    check, convert, load_bindings, put_all, report, show,
 };
 use std::alloc::{AllocError, Global};
 
@@ -73,12 +74,24 @@ fn job_of<I: Source + Drop>(
 {
     let job = Job::new(task.form, task.base, task.limits).unwrap();
     let job = job.with_escapes(task.escapes);
+    let job = named(job, task.node_prefix);
     match prefixes {
         Some(source) => {
             let bindings = load(alloc, task.limits, source)?;
             Ok(job.with_bindings(bindings))
         }
         None => Ok(job),
+    }
+}
+
+// The job with the task's word in front of the names of nodes, where it has one.
+fn named(job: Job, prefix: Option<NodePrefix>) -> Job
+    requires { job.node_prefix ≡ [] }
+    ensures { result ≡ record job { node_prefix = word_of prefix } }
+{
+    match prefix {
+        Some(prefix) => job.with_node_prefix(prefix),
+        None => job,
     }
 }
 
@@ -289,6 +302,10 @@ pub fn refuse_words<O: Drain, E: Drain>(
         }
         WordsFault::BadBase => {
             tell("rdfconv: bad base\n", err);
+            2
+        }
+        WordsFault::BadNodePrefix => {
+            tell("rdfconv: bad node prefix\n", err);
             2
         }
         WordsFault::Memory => tell_memory(err),

@@ -7,7 +7,7 @@ ghost use Rattle.rdf_tool.specs.declared.task.WordsFault.TheVariants.{Memory};
 
 use clap::Error;
 use clap::error::ErrorKind;
-use rdf_stream::{Escapes, Form, Iri, Limits};
+use rdf_stream::{Escapes, Form, Iri, Limits, NodePrefix};
 use std::alloc::AllocError;
 
 /// What is done with a document.
@@ -34,6 +34,8 @@ pub struct Task {
     pub limits: Limits,
     /// How characters above U+007F stand in the lines of quads.
     pub escapes: Escapes,
+    /// The word in front of the names of nodes in the lines of quads, or None where there is none.
+    pub node_prefix: Option<NodePrefix>,
     /// The file of the prefixes that are bound before the document, or None where none are.
     pub prefixes: Option<String>,
     /// The file that is read, or None for standard input.
@@ -47,6 +49,8 @@ pub enum WordsFault {
     Usage(Error),
     /// The base is no IRI, or has more bytes than an IRI may have.
     BadBase,
+    /// The word for the names of nodes is empty, or has another character than ASCII letters and digits.
+    BadNodePrefix,
     /// A growth of memory was refused.
     Memory,
 }

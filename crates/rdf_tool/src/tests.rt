@@ -187,6 +187,8 @@ fn words_give_each_field_of_a_task(rt: HostRuntime) {
         "2",
         "--prefixes",
         "ex.txt",
+        "--node-prefix",
+        "Ab1",
     ];
     match command_of(rt.alloc(), &words) {
         Ok(task) => {
@@ -197,6 +199,10 @@ fn words_give_each_field_of_a_task(rt: HostRuntime) {
                 None => assert!(rt; false, "no base"),
             }
             assert_eq!(rt; task.escapes, Escapes::Ascii);
+            match &task.node_prefix {
+                Some(word) => assert_eq!(rt; word.view().as_str(), "Ab1"),
+                None => assert!(rt; false, "no word"),
+            }
             assert_eq!(rt; task.prefixes.as_deref(), Some("ex.txt"));
             match &task.file {
                 Some(file) => assert_eq!(rt; file.as_str(), "data.nt"),
@@ -248,6 +254,14 @@ fn words_that_are_no_task_are_reported(rt: HostRuntime) -> Result<(), Fail> {
     }
     let fits = ["rdfconv", "convert", "--iri=10", "--base=http://a/b"];
     assert!(&rt; command_of(rt.alloc(), &fits).is_ok());
+    let words: [&[&str]; 3] = [
+        &["rdfconv", "convert", "--node-prefix", "a-b"],
+        &["rdfconv", "convert", "--node-prefix", "é"],
+        &["rdfconv", "convert", "--node-prefix="],
+    ];
+    for words in words {
+        is_refused(&rt, rt.alloc(), words, 2, "", "rdfconv: bad node prefix\n")?;
+    }
     Ok(())
 }
 
@@ -323,7 +337,7 @@ fn a_long_command_line_is_taken(rt: HostRuntime) -> Result<(), Fail> {
 
 #[test]
 fn the_program_does_what_its_words_say(rt: HostRuntime) {
-    let rows: [(Result<&[&str], NoWords>, u8, &str, &str); 15] = [
+    let rows: [(Result<&[&str], NoWords>, u8, &str, &str); 16] = [
         (
             Ok(&["rdfconv", "convert", "--format", "nt", "data.nt"]),
             0,
@@ -389,6 +403,12 @@ fn the_program_does_what_its_words_say(rt: HostRuntime) {
             Ok(&["rdfconv", "convert", "--ascii", "accents.ttl"]),
             0,
             "<a:\\u00E9> <b:> \"\\U0001F600\" .\n<a:\\u00E9> <b:> _:né .\n",
+            "",
+        ),
+        (
+            Ok(&["rdfconv", "convert", "--node-prefix=x1", "accents.ttl"]),
+            0,
+            "<a:é> <b:> \"😀\" .\n<a:é> <b:> _:x1né .\n",
             "",
         ),
         (Ok(&["rdfconv", "--help"]), 0, HELP, ""),

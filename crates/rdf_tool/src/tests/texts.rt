@@ -28,13 +28,16 @@ Options of a command, which reads FILE or standard input:
                    each, as `ex: http://example.org/`; line formats have none
   --ascii          (convert) characters above U+007F of strings and IRIs as \\uXXXX or
                    \\UXXXXXXXX; labels of blank nodes have no escapes, and stay as they are
+  --node-prefix WORD
+                   (convert) WORD, of ASCII letters and digits, in front of the label of each
+                   blank node, so that outputs with different words of one length can be joined
 Past one of the limits N a document is refused.
 
 Exit status:
   0  accepted, or help was asked for
   1  refused, with `rdfconv: REASON at byte N, line M` on standard error
-  2  the words are no command, the base is no IRI or too long, or a line of FILE2 is refused,
-     with `rdfconv: bad prefixes at line N`
+  2  the words are no command, the base is no IRI or too long, WORD is empty or has another
+     character, or a line of FILE2 is refused, with `rdfconv: bad prefixes at line N`
   3  a file does not open, or a read or write failed
   4  out of memory
 ";
@@ -80,15 +83,16 @@ Arguments:
   [FILE]  Document to read, in place of standard input
 
 Options:
-      --format <FORMAT>   Format of the document: nt N-Triples, nq N-Quads, ttl Turtle, trig TriG [default: trig] [possible values: nt, nq, ttl, trig]
-      --base <IRI>        Absolute IRI that relative references start from, at most --iri bytes; line formats have none
-      --token <N>         Characters of one token, 1 to 268435456 [default: 16777216]
-      --depth <N>         Brackets and parentheses open at one time, 0 to 1048576 [default: 1024]
-      --bindings <N>      Prefixes bound at one time, 0 to 16777216 [default: 65536]
-      --iri <N>           Bytes of one IRI, 1 to 268435456 [default: 1048576]
-      --prefixes <FILE2>  File of prefixes bound before the document, a line each: `ex: http://example.org/`
-      --ascii             Characters above U+007F of strings and IRIs as \\uXXXX or \\UXXXXXXXX; labels of blank nodes stay
-  -h, --help              Print help
+      --format <FORMAT>     Format of the document: nt N-Triples, nq N-Quads, ttl Turtle, trig TriG [default: trig] [possible values: nt, nq, ttl, trig]
+      --base <IRI>          Absolute IRI that relative references start from, at most --iri bytes; line formats have none
+      --token <N>           Characters of one token, 1 to 268435456 [default: 16777216]
+      --depth <N>           Brackets and parentheses open at one time, 0 to 1048576 [default: 1024]
+      --bindings <N>        Prefixes bound at one time, 0 to 16777216 [default: 65536]
+      --iri <N>             Bytes of one IRI, 1 to 268435456 [default: 1048576]
+      --prefixes <FILE2>    File of prefixes bound before the document, a line each: `ex: http://example.org/`
+      --ascii               Characters above U+007F of strings and IRIs as \\uXXXX or \\UXXXXXXXX; labels of blank nodes stay
+      --node-prefix <WORD>  Word of ASCII letters and digits in front of the label of each blank node
+  -h, --help                Print help
 ";
 
 /// What follows these lines in the help of `show`.
@@ -113,8 +117,8 @@ The format is not guessed from the file's name. Past one of the limits N a docum
 Exit status:
   0  accepted, or help was asked for
   1  refused, with `rdfconv: REASON at byte N, line M` on standard error
-  2  the words are no command, the base is no IRI or too long, or a line of FILE2 is refused,
-     with `rdfconv: bad prefixes at line N`
+  2  the words are no command, the base is no IRI or too long, WORD is empty or has another
+     character, or a line of FILE2 is refused, with `rdfconv: bad prefixes at line N`
   3  a file does not open, or a read or write failed
   4  out of memory
 ";
@@ -138,7 +142,7 @@ For more information, try '--help'.
 ";
 
 /// Words that are no command, and all that is reported of them.
-pub(crate) const USAGE: [(&[&str], &str); 19] = [
+pub(crate) const USAGE: [(&[&str], &str); 23] = [
     (&[], NO_COMMAND),
     (&["rdfconv"], NO_COMMAND),
     (
@@ -184,6 +188,22 @@ pub(crate) const USAGE: [(&[&str], &str); 19] = [
     (
         &["rdfconv", "convert", "--ascii=true"],
         "error: unexpected value 'true' for '--ascii' found; no more were expected\n\nUsage: rdfconv convert --ascii [FILE]\n\nFor more information, try '--help'.\n",
+    ),
+    (
+        &["rdfconv", "check", "--node-prefix", "a"],
+        "error: unexpected argument '--node-prefix' found\n\n  tip: to pass '--node-prefix' as a value, use '-- --node-prefix'\n\nUsage: rdfconv check [OPTIONS] [FILE]\n\nFor more information, try '--help'.\n",
+    ),
+    (
+        &["rdfconv", "show", "--node-prefix=a"],
+        "error: unexpected argument '--node-prefix' found\n\n  tip: to pass '--node-prefix' as a value, use '-- --node-prefix'\n\nUsage: rdfconv show [OPTIONS] [FILE]\n\nFor more information, try '--help'.\n",
+    ),
+    (
+        &["rdfconv", "convert", "--node-prefix"],
+        "error: a value is required for '--node-prefix <WORD>' but none was supplied\n\nFor more information, try '--help'.\n",
+    ),
+    (
+        &["rdfconv", "convert", "--node-prefix=a", "--node-prefix=b"],
+        "error: the argument '--node-prefix <WORD>' cannot be used multiple times\n\nUsage: rdfconv convert [OPTIONS] [FILE]\n\nFor more information, try '--help'.\n",
     ),
     (
         &["rdfconv", "convert", "--token=0"],

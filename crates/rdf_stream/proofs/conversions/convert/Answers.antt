@@ -1,6 +1,7 @@
 -- A conversion of either kind of format, from what its run has done to what the caller is told.
-use Rattle.std.proofs.Common.{rules, IfErr, IfOk, IfSome}
-use Rattle.rdf_stream.specs.Converts.{Accepts, StopsFor}
+use Rattle.std.proofs.Common.{rules, subst, IfErr, IfOk, IfSome}
+use Rattle.rdf_lines.specs.Forms.{form_of}
+use Rattle.rdf_stream.specs.Converts.{Accepts, AcceptsAll, StopsFor}
 use Rattle.rdf_stream.specs.Devices.{reading}
 use Rattle.rdf_stream.specs.Languages.{conversion_of}
 use Rattle.rdf_stream.proofs.ConvertsLemmas.{lines_job, none_stops, trees_job}
@@ -20,7 +21,7 @@ returns-in-Line-clause-accepted g c =
     if_ok c.convert_with.result _ _
     (λ s h.
     lines_job (λ j. IfSome (g.S.Source.remaining c.args.source.now) (λ bytes. Accepts j bytes (g.D.Drain.contents c.new-lines.result.drain.now) (g.D.Drain.contents c.convert_with.new.lines.drain.now) s)) c.args.job c.in-Line.form (search rules)
-    c.limits.result.iri (search rules) c.line_reader-reader.result.scanner.limit (search rules) c.new-lines.result.form (search rules) (h _ (record { starts = record { suits = lines_suit _ _ (search rules); read = c.line_reader-reader.ensures.read }; none_waits = search rules; live = search rules })))
+    c.limits.result.iri (search rules) c.line_reader-reader.result.scanner.limit (search rules) (form_of c.new-lines.result.form) (search rules) (h _ (record { starts = record { suits = lines_suit _ _ (search rules); read = c.line_reader-reader.ensures.read }; none_waits = search rules; live = search rules })))
     c.convert_with.ensures.accepted in
     search rules
 
@@ -32,37 +33,34 @@ returns-in-Line-clause-stops g c =
     (λ told h.
     lines_job (λ j. StopsFor told j (g.S.Source.remaining c.args.source.now) (reading g.S.Source.remaining g.S.Source.has_ended g.S.Source.has_failed c.convert_with.new.source)
     (g.D.Drain.contents c.new-lines.result.drain.now) (g.D.Drain.contents c.convert_with.new.lines.drain.now) (g.D.Drain.has_failed c.convert_with.new.lines.drain.now)) c.args.job c.in-Line.form (search rules)
-    c.limits.result.iri (search rules) c.line_reader-reader.result.scanner.limit (search rules) c.new-lines.result.form (search rules) (h _ (record { starts = record { suits = lines_suit _ _ (search rules); read = c.line_reader-reader.ensures.read }; none_waits = search rules; live = search rules })))
+    c.limits.result.iri (search rules) c.line_reader-reader.result.scanner.limit (search rules) (form_of c.new-lines.result.form) (search rules) (h _ (record { starts = record { suits = lines_suit _ _ (search rules); read = c.line_reader-reader.ensures.read }; none_waits = search rules; live = search rules })))
     c.convert_with.ensures.stops in
     search rules
 
 pub convert_with-requires-in-Tree-clause-begins : goal.convert_with-requires-in-Tree-clause-begins
 convert_with-requires-in-Tree-clause-begins g c = (_, record { starts = record { suits = trees_suit _ _ (search rules); read = c.tree_reader-reader.ensures.read }; none_waits = search rules; live = search rules })
 
-pub returns-in-Tree-clause-accepted : goal.returns-in-Tree-clause-accepted
-returns-in-Tree-clause-accepted g c =
+pub returns-clause-accepted : goal.returns-clause-accepted
+returns-clause-accepted g c =
     let h : IfOk c.convert_with-in-Tree.result (λ s. IfSome (g.S.Source.remaining c.args.source.now) (λ bytes. Accepts (conversion_of c.args.job) bytes (g.D.Drain.contents c.new-lines-in-Tree.result.drain.now) (g.D.Drain.contents c.convert_with-in-Tree.new.lines.drain.now) s)) =
     if_ok c.convert_with-in-Tree.result _ _
     (λ s h.
     trees_job (λ j. IfSome (g.S.Source.remaining c.args.source.now) (λ bytes. Accepts j bytes (g.D.Drain.contents c.new-lines-in-Tree.result.drain.now) (g.D.Drain.contents c.convert_with-in-Tree.new.lines.drain.now) s)) c.args.job c.in-Tree.form (search rules)
-    c.options.result (search rules) c.tree_reader-reader.result.scanner.limit (search rules) c.new-lines-in-Tree.result.form (search rules) (h _ (record { starts = record { suits = trees_suit _ _ (search rules); read = c.tree_reader-reader.ensures.read }; none_waits = search rules; live = search rules })))
+    c.options.result (search rules) c.tree_reader-reader.result.scanner.limit (search rules) (form_of c.new-lines-in-Tree.result.form) (search rules) (h _ (record { starts = record { suits = trees_suit _ _ (search rules); read = c.tree_reader-reader.ensures.read }; none_waits = search rules; live = search rules })))
     c.convert_with-in-Tree.ensures.accepted in
-    let same = c.convert_with-in-Tree.ensures.same in
-    let to_lines = c.new-lines-in-Tree.ensures.same_drain in
-    let first = c.new-lines-in-Tree.ensures.drain in
-    search (rules, same.drain, to_lines, first, h)
+    let from_first = subst (λ d. IfOk c.convert_with-in-Tree.result (AcceptsAll (conversion_of c.args.job) (g.S.Source.remaining c.args.source.now) (g.D.Drain.contents d) (g.D.Drain.contents c.convert_with-in-Tree.new.lines.drain.now))) c.new-lines-in-Tree.ensures.drain h in
+    subst (λ d. IfOk c.convert_with-in-Tree.result (AcceptsAll (conversion_of c.args.job) (g.S.Source.remaining c.args.source.now) (g.D.Drain.contents c.args.drain.now) (g.D.Drain.contents d))) (search rules) from_first
 
-pub returns-in-Tree-clause-stops : goal.returns-in-Tree-clause-stops
-returns-in-Tree-clause-stops g c =
+pub returns-clause-stops : goal.returns-clause-stops
+returns-clause-stops g c =
     let h : IfErr c.convert_with-in-Tree.result (λ told. StopsFor told (conversion_of c.args.job) (g.S.Source.remaining c.args.source.now) (reading g.S.Source.remaining g.S.Source.has_ended g.S.Source.has_failed c.convert_with-in-Tree.new.source)
     (g.D.Drain.contents c.new-lines-in-Tree.result.drain.now) (g.D.Drain.contents c.convert_with-in-Tree.new.lines.drain.now) (g.D.Drain.has_failed c.convert_with-in-Tree.new.lines.drain.now)) =
     if_err c.convert_with-in-Tree.result _ _
     (λ told h.
     trees_job (λ j. StopsFor told j (g.S.Source.remaining c.args.source.now) (reading g.S.Source.remaining g.S.Source.has_ended g.S.Source.has_failed c.convert_with-in-Tree.new.source)
     (g.D.Drain.contents c.new-lines-in-Tree.result.drain.now) (g.D.Drain.contents c.convert_with-in-Tree.new.lines.drain.now) (g.D.Drain.has_failed c.convert_with-in-Tree.new.lines.drain.now)) c.args.job c.in-Tree.form (search rules)
-    c.options.result (search rules) c.tree_reader-reader.result.scanner.limit (search rules) c.new-lines-in-Tree.result.form (search rules) (h _ (record { starts = record { suits = trees_suit _ _ (search rules); read = c.tree_reader-reader.ensures.read }; none_waits = search rules; live = search rules })))
+    c.options.result (search rules) c.tree_reader-reader.result.scanner.limit (search rules) (form_of c.new-lines-in-Tree.result.form) (search rules) (h _ (record { starts = record { suits = trees_suit _ _ (search rules); read = c.tree_reader-reader.ensures.read }; none_waits = search rules; live = search rules })))
     c.convert_with-in-Tree.ensures.stops in
-    let same = c.convert_with-in-Tree.ensures.same in
-    let to_lines = c.new-lines-in-Tree.ensures.same_drain in
-    let first = c.new-lines-in-Tree.ensures.drain in
-    search (rules, same.drain, to_lines, first, h)
+    let from_first = subst (λ d. IfErr c.convert_with-in-Tree.result (λ told. StopsFor told (conversion_of c.args.job) (g.S.Source.remaining c.args.source.now) (reading g.S.Source.remaining g.S.Source.has_ended g.S.Source.has_failed c.convert_with-in-Tree.new.source) (g.D.Drain.contents d) (g.D.Drain.contents c.convert_with-in-Tree.new.lines.drain.now) (g.D.Drain.has_failed c.convert_with-in-Tree.new.lines.drain.now))) c.new-lines-in-Tree.ensures.drain h in
+    subst (λ d. IfErr c.convert_with-in-Tree.result (λ told. StopsFor told (conversion_of c.args.job) (g.S.Source.remaining c.args.source.now) (reading g.S.Source.remaining g.S.Source.has_ended g.S.Source.has_failed c.convert_with-in-Tree.new.source) (g.D.Drain.contents c.args.drain.now) (g.D.Drain.contents d) (g.D.Drain.has_failed d)))
+    (search rules) from_first

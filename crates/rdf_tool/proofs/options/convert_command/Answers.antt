@@ -4,5 +4,6 @@ use Rattle.rdf_tool.proofs.options.convert_command.Goals as goal
 
 pub returns : goal.returns
 returns c =
-    IfOk-weaker c.arg.result _ _ (λ made added. with_argument _ made _ _ _ added c.in_ok-command.ensures c.ascii_option-ascii.ensures.rule c.ascii_option-ascii.ensures.local)
-    c.arg.ensures
+    let first = with_argument _ _ _ _ _ c.in_ok-arg.ensures c.in_ok-command.ensures c.ascii_option-ascii.ensures.rule c.ascii_option-ascii.ensures.local in
+    IfOk-weaker c.arg-2.result _ _ (λ made added. with_argument _ made _ _ _ added first c.node_prefix_option-node_prefix.ensures.rule c.node_prefix_option-node_prefix.ensures.local)
+    c.arg-2.ensures

@@ -15,7 +15,7 @@ append-requires g c =
 pub returns-in-Ok-clause-takes : goal.returns-in-Ok-clause-takes
 returns-in-Ok-clause-takes g c = λ first bytes i.
     let is : c.as_bytes.result.now ≡ c.args.text.now = search rules in
-    run_passes g.D.Drain.contents g.D.Drain.has_failed g.G.Grammar.words g.G.Passes.style first.0 first.1 bytes c.args.self.now c.args.lines.now i (take c.pass-passed.result c.args.text.now) (plain_where _ (search rules)) _ c.pass-passed.ensures.passes _
+    run_passes g.D.Drain.contents g.D.Drain.has_failed g.G.Grammar.words g.G.Passes.style first.0 first.1 bytes c.args.self.now c.args.lines.now i (take c.pass-passed.result c.args.text.now) (plain_where c.args.lines.now.form (search rules)) _ c.pass-passed.ensures.passes _
     c.in-Ok.ensures.same (subst (λ t. Writes g.D.Drain.contents c.args.lines.now (take c.pass-passed.result t) c.append.new.self) is c.in-Ok.ensures.writes) c.in-Ok.ensures.live
 
 pub returns-in-Err-clause-halts : goal.returns-in-Err-clause-halts
@@ -25,7 +25,7 @@ returns-in-Err-clause-halts g c = λ more first bytes i.
     let told = subst (λ t. PutHalts g.D.Drain.contents g.D.Drain.has_failed c.in-Err.fault c.args.lines.now (take c.pass-passed.result t) c.append.new.self) is c.in-Err.ensures.halts in
     let part = take c.pass-passed.result text in
     let rest = drop c.pass-passed.result text in
-    let halts = pass_halts g.D.Drain.contents g.D.Drain.has_failed g.G.Grammar.words g.G.Passes.style first.0 first.1 bytes c.args.self.now c.args.lines.now i part (plain_where _ (search rules)) _ c.pass-passed.ensures.passes _ _ c.in-Err.ensures.same told in
+    let halts = pass_halts g.D.Drain.contents g.D.Drain.has_failed g.G.Grammar.words g.G.Passes.style first.0 first.1 bytes c.args.self.now c.args.lines.now i part (plain_where c.args.lines.now.form (search rules)) _ c.pass-passed.ensures.passes _ _ c.in-Err.ensures.same told in
     let whole : (bytes ++ part) ++ (rest ++ more) ≡ bytes ++ (text ++ more) = append_assoc bytes part (rest ++ more)
     ∙ (ap (λ l. bytes ++ l) (sym (append_assoc part rest more)) ∙ ap (λ l. bytes ++ (l ++ more)) (take-append-drop c.pass-passed.result text)) in
     subst (λ b. RunHalts g.D.Drain.contents g.D.Drain.has_failed g.G.Grammar.words c.in-Err.fault first.0 first.1 b false c.append.new.self) whole

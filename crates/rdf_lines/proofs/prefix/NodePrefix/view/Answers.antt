@@ -1,0 +1,7 @@
+use Rattle.std.proofs.Common.{subst}
+use Rattle.rdf_lines.specs.NodePrefixes.{IsNodePrefix}
+use Rattle.rdf_lines.proofs.NodePrefixLemmas.{IsNodePrefix-had}
+use Rattle.rdf_lines.proofs.prefix.NodePrefix.view.Goals as goal
+
+pub returns-clause-is_word : goal.returns-clause-is_word
+returns-clause-is_word g c = IsNodePrefix-had c.args.self.now (subst (λ w. ∥ IsNodePrefix w ∥₁) c.self.view_is c.self.invariant)
