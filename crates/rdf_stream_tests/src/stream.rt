@@ -596,15 +596,18 @@ fn a_check_tells_that_the_source_failed(rt: HostRuntime) -> Result<(), Fail> {
     Ok(())
 }
 
+/// The calls that a run makes of the drain for a piece, and the flush: lines that are passed go to it as they stand, after what waits.
+const CALLS: [(Form, u64); 2] = [(Form::NQuads, 3), (Form::TriG, 2)];
+
 #[test]
-fn the_lines_of_a_piece_are_one_call(rt: HostRuntime) -> Result<(), AllocError> {
+fn the_lines_of_a_piece_are_few_calls(rt: HostRuntime) -> Result<(), AllocError> {
     let mut text = String::new(rt.alloc());
     for _ in 0..1000 {
         text.push_str("<a:> <b:> <c:> .\n")?;
     }
-    for form in [Form::NQuads, Form::TriG] {
+    for (form, calls) in CALLS {
         let mut source = cut_at(text.as_bytes(), usize::MAX);
-        let mut drain = wide_drain(rt.alloc(), 2);
+        let mut drain = wide_drain(rt.alloc(), calls);
         let result = run(
             rt.alloc(),
             Task::Convert,

@@ -27,6 +27,7 @@ fn task(action: Action, form: Form, limits: Limits) -> Task
         base: None,
         limits,
         escapes: Escapes::Plain,
+        node_prefix: None,
         prefixes: None,
         file: None,
     }
