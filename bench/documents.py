@@ -53,107 +53,82 @@ def nquads(out):
     lines(out, ' <http://example.org/halls/%d>')
 
 
-def plain(out):
-    """Lines of three IRIs."""
+def put_numbered(out, quads, text):
+    """Puts the text of 1, 2, 3 and so on, each of so many quads."""
     n = 0
     while not out.is_full():
         n += 1
-        out.put('<http://example.org/library/book-%d> <http://example.org/terms/shelf> <http://example.org/library/shelf-%d> .\n'
-                % (n, n % 97), 1)
+        out.put(text(n), quads)
+
+
+def plain(out):
+    """Lines of three IRIs."""
+    put_numbered(out, 1, lambda n: '<http://example.org/library/book-%d> <http://example.org/terms/shelf> <http://example.org/library/shelf-%d> .\n'
+                 % (n, n % 97))
 
 
 def escaped(out):
     """Lines whose strings and IRIs have no character above U+007F but by its number."""
     title = ''.join('\\u%04X' % ord(c) for c in TITLES[2])
-    n = 0
-    while not out.is_full():
-        n += 1
-        out.put('<http://example.org/\\u00E9dition/%d> <http://example.org/terms/title> "%s %d\\n"@ru .\n' % (n, title, n), 1)
+    put_numbered(out, 1, lambda n: '<http://example.org/\\u00E9dition/%d> <http://example.org/terms/title> "%s %d\\n"@ru .\n' % (n, title, n))
 
 
 def carriage_returns(out):
     """Lines that end in CR and LF."""
-    n = 0
-    while not out.is_full():
-        n += 1
-        out.put('<http://example.org/library/book-%d> <http://example.org/terms/title> "%s" .\r\n' % (n, TITLES[0]), 1)
+    put_numbered(out, 1, lambda n: '<http://example.org/library/book-%d> <http://example.org/terms/title> "%s" .\r\n' % (n, TITLES[0]))
 
 
 def short_lines(out):
-    n = 0
-    while not out.is_full():
-        n += 1
-        out.put('<a:%d> <a:p> <a:o> .\n' % n, 1)
+    put_numbered(out, 1, lambda n: '<a:%d> <a:p> <a:o> .\n' % n)
 
 
 def long_lines(out):
     """Literals of 100 kB."""
     text = ''.join(TITLES).replace('"', '\\"') * 1600
-    n = 0
-    while not out.is_full():
-        n += 1
-        out.put('<http://example.org/library/book-%d> <http://example.org/terms/text> "%s" .\n' % (n, text), 1)
+    put_numbered(out, 1, lambda n: '<http://example.org/library/book-%d> <http://example.org/terms/text> "%s" .\n' % (n, text))
 
 
 def names(out):
     """Short names alone."""
     out.put(PREFIXES)
-    n = 0
-    while not out.is_full():
-        n += 1
-        out.put('lib:b%d t:p lib:s%d ; t:q lib:r%d , lib:x .\n' % (n, n % 97, n % 89), 3)
+    put_numbered(out, 3, lambda n: 'lib:b%d t:p lib:s%d ; t:q lib:r%d , lib:x .\n' % (n, n % 97, n % 89))
 
 
 def objects(out):
     """Lists of a thousand objects."""
     out.put(PREFIXES)
-    n = 0
-    while not out.is_full():
-        n += 1
-        out.put('lib:b%d t:p lib:x%s .\n' % (n, ''.join(' , lib:y%d' % m for m in range(999))), 1000)
+    others = ''.join(' , lib:y%d' % m for m in range(999))
+    put_numbered(out, 1000, lambda n: 'lib:b%d t:p lib:x%s .\n' % (n, others))
 
 
 def collection(out):
     """One collection."""
     out.put(PREFIXES + 'lib:whole t:parts (')
-    n = 0
-    while not out.is_full():
-        n += 1
-        out.put(' %d' % n, 2)
+    put_numbered(out, 2, lambda n: ' %d' % n)
     out.put(' ) .\n', 1)
 
 
 def labels(out):
     out.put(PREFIXES)
-    n = 0
-    while not out.is_full():
-        n += 1
-        out.put('_:b%d t:p _:s%d ; t:q _:r%d .\n' % (n, n % 97, n % 89), 2)
+    put_numbered(out, 2, lambda n: '_:b%d t:p _:s%d ; t:q _:r%d .\n' % (n, n % 97, n % 89))
 
 
 def small_tokens(out):
     """Tokens of one byte or two."""
     out.put('@prefix : <http://example.org/> .\n')
-    while not out.is_full():
-        out.put(':s a : ; : 1 , 2 , 3 ; : [ a : ] .\n', 6)
+    put_numbered(out, 6, lambda n: ':s a : ; : 1 , 2 , 3 ; : [ a : ] .\n')
 
 
 def blanks(out):
     """Statements far apart."""
     out.put(PREFIXES)
-    n = 0
-    while not out.is_full():
-        n += 1
-        out.put('lib:b%d%st:p%slib:s .%s' % (n, ' ' * 60, '\n' * 60, '\t' * 60), 1)
+    put_numbered(out, 1, lambda n: 'lib:b%d%st:p%slib:s .%s' % (n, ' ' * 60, '\n' * 60, '\t' * 60))
 
 
 def references(out):
     """References with dot segments."""
     out.put('@base <http://example.org/a/b/c/d> .\n')
-    n = 0
-    while not out.is_full():
-        n += 1
-        out.put('<../e/./%d> <../../p?q=%d#f> <./g/../h%d> .\n' % (n, n, n), 1)
+    put_numbered(out, 1, lambda n: '<../e/./%d> <../../p?q=%d#f> <./g/../h%d> .\n' % (n, n, n))
 
 
 def put_book(out, n):
