@@ -1,6 +1,7 @@
 pub mod NextToken
 pub mod UcharLemmas
 pub mod AsciiLemmas
+pub mod FormsAgree
 pub mod WritingLemmas
 pub mod SpelledLine
 pub mod Renamed

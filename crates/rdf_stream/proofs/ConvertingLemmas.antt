@@ -1,5 +1,5 @@
 -- A piece more, the end, or an error within one: what the drain has then.
-use Rattle.std.proofs.Common.{◌≡◌, ◌≤◌, ◌<◌, ◌+◌, ℕ, Bool, true, false, List, [], ◌∷◌, ◌++◌, ◌⊎◌, length, take, drop, Option, refl, sym, ap, subst, ◌∙◌, append_assoc, ⊎_elim, length-append, arith}
+use Rattle.std.proofs.Common.{◌≡◌, ◌≤◌, ◌<◌, ◌+◌, ℕ, Bool, true, false, List, [], ◌∷◌, ◌++◌, ◌⊎◌, ◌||◌, length, take, drop, Option, refl, sym, ap, subst, ◌∙◌, append_assoc, ⊎_elim, length-append, arith}
 use Rattle.std.proofs.lemmas.List.{append-nil, take-append-drop}
 use Rattle.std.proofs.lemmas.Bool.{false≢true, and_parts, eqb-true}
 use Rattle.std.specs.Prelude.{encode_utf8_all}
@@ -25,9 +25,10 @@ use Rattle.rdf_lines.specs.declared.form.Style.{Style}
 use Rattle.rdf_lines.specs.Writing.{CanWrite, Writable}
 use Rattle.rdf_lines.specs.declared.form.WrittenForm.{WrittenForm}
 use Rattle.rdf_lines.specs.Forms.{form_of}
-use Rattle.rdf_lines.specs.NodePrefixes.{Form, IsNodePrefix, text_in}
+use Rattle.rdf_lines.specs.NodePrefixes.{Form, IsNodePrefix, text_in, unprefixed}
 use Rattle.rdf_lines.proofs.NodePrefixLemmas.{IsNodePrefix-had}
 use Rattle.rdf_lines.proofs.FormReadBack.{form_ascii, form_reads_back}
+use Rattle.rdf_lines.proofs.FormsAgree.{forms_agree}
 use Rattle.rdf_stream.specs.Languages.{Conversion, conversion}
 use Rattle.rdf_stream.specs.declared.fault.StreamFault.{StreamFault}
 use Rattle.rdf_stream.specs.declared.fault.StreamFault.TheVariants as stream
@@ -37,8 +38,9 @@ use Rattle.rdf_stream.specs.Converts.{Accepts, IsAscii, WritesDue, WritesFront, 
 use Rattle.rdf_stream.specs.Devices.{AppendsFront}
 use Rattle.rdf_stream.specs.Faults.{fault_by}
 use Rattle.rdf_stream.specs.LineOut.{Leaves, Moves, PutHalts, SameOut, Takes, Writes}
+use Rattle.rdf_stream.specs.Parts.{IsAsciiText}
 use Rattle.rdf_stream.specs.Passes.{PassesText}
-use Rattle.rdf_stream.specs.WrittenForms.{is_plain, is_raw, plain}
+use Rattle.rdf_stream.specs.WrittenForms.{is_raw, keeps_lines, plain}
 use Rattle.rdf_stream.proofs.LineOutLemmas.{Taken, Tried, bytes_of, bytes_of-append, front_moves, moves_all, moves_front, moves_more, moves_on, puts_tries, same_out, taken, tried}
 
 -- quads that can be written can be written together
@@ -102,6 +104,10 @@ module _ (l : Language) where
   begins_refused r reason.Ended at ahead qs x d = absurd x
   begins_refused r reason.Sink at ahead qs x d = absurd x
   begins_refused r why at ahead qs x d = begins_ahead r.tokens ahead (x.token ∷ x.behind) qs x.tokens x.front.kept d
+
+-- where some text is the plain lines of quads, it is their lines in the form
+abbrev KeepsText : WrittenForm → List ℕ → Type 0
+KeepsText w text = (qs : List Quad) → text ≡ lines_of (plain w.style) qs → text ≡ lines_of (form_of w) qs
 
 module _ {G X D A : Type 0} (contents : D → Option (List ℕ)) (failed : D → Bool) (w : Words G X Quad) (x : X) (reader : Driven G) (bytes : List ℕ) (first lines : LineOut D A) (suits : Suits w x first.form.style)
     (o : HasPut contents failed w x reader bytes first lines) where
@@ -345,16 +351,12 @@ module _ {G X D A : Type 0} (contents : D → Option (List ℕ)) (failed : D →
       more_put part reader' f.limit f.more read' mid put.same (subst (λ (y : WrittenForm). Writable y.style f.more) o.same.form put.writable) put.writes (put.live o.live)
 
   -- Some text was passed: it is the plain lines of quads in the style.
-  module _ (style : Style) (same_style : first.form.style ≡ style) (are_plain : form_of lines.form ≡ plain lines.form.style) (text : List ℕ) (reader' : Driven G) (p : PassesText w style reader text reader') where
+  module _ (style : Style) (same_style : first.form.style ≡ style) (text : List ℕ) (kept : KeepsText lines.form text) (reader' : Driven G) (p : PassesText w style reader text reader') where
     passed' : HasRead w reader' x (bytes ++ text) (o.quads ++ p.given)
     passed' = p.read x bytes o.quads o.read
 
-    -- the form of the lines is that of the text
-    same_form : plain style ≡ form_of lines.form
-    same_form = subst (λ s. plain s ≡ form_of lines.form) (ap (λ (f : WrittenForm). f.style) o.same.form ∙ same_style) (sym are_plain)
-
     their_lines : text ≡ bytes_of lines.form p.given
-    their_lines = p.is ∙ ap (λ f. lines_of f p.given) same_form
+    their_lines = kept p.given (subst (λ s. text ≡ lines_of (plain s) p.given) (sym (ap (λ (f : WrittenForm). f.style) o.same.form ∙ same_style)) p.is)
 
     -- it was put as it stands
     pub text_put : (after : LineOut D A) → SameOut lines after → Writes contents lines text after → failed after.drain.now ≡ false → HasPut contents failed w x reader' (bytes ++ text) first after
@@ -466,26 +468,25 @@ module _ {G X D A : Type 0} (contents : D → Option (List ℕ)) (failed : D →
           halts = (broke, written_front after (reading_of l bytes true).tokens f.more rest (then_front mid after f.more rest all_put.writes m) all_begun);
         }
 
--- the test answers that characters stand as they are
-raw_where : (e : Escapes) → is_raw e ≡ true → e ≡ Plain
-raw_where Plain t = refl
-raw_where Ascii t = absurd (false≢true t)
-
 -- a text without bytes has no characters
 no_bytes : (bs : List ℕ) → length bs ≡ 0 → chars bs ≡ []
 no_bytes [] h = chars-nil
 no_bytes (b ∷ bs) h = absurd (omega (arith, h))
 
--- a form with these parts is the plain one
-plain_form : (f : Form) → f.escapes ≡ Plain → f.prefix ≡ [] → f ≡ plain f.style
-plain_form f e p =
-    ap (λ (x : Escapes). record { style = f.style; escapes = x; prefix = f.prefix }) e ∙ ap (λ (x : List ℕ). record { style = f.style; escapes = Plain; prefix = x }) p
+-- plain lines stand in a form that writes characters above U+007F as they are, or where there are none
+kept_by : (e : Escapes) (is_ascii : Bool) (s : Style) (text : List ℕ) → (is_ascii || is_raw e) ≡ true → (is_ascii ≡ true → IsAsciiText text) →
+    (qs : List Quad) → text ≡ lines_of (plain s) qs → text ≡ lines_of (unprefixed s e) qs
+kept_by Plain b s text t low qs is = is
+kept_by Ascii false s text t low qs is = absurd (false≢true t)
+kept_by Ascii true s text t low qs is = is ∙ ap encode_utf8_all (sym (forms_agree s [] qs (subst IsAsciiText is (low refl))))
 
--- the test answers that the form is plain
-pub plain_where : (w : WrittenForm) → is_plain w ≡ true → form_of w ≡ plain w.style
-plain_where w t =
-    let (raw, none) = and_parts (is_raw w.escapes) _ t in
-    plain_form (form_of w) (raw_where w.escapes raw) (no_bytes w.prefix.word.now (eqb-true (length w.prefix.word.now) 0 none))
+-- the test answers that they stand so
+pub kept_where : (w : WrittenForm) (is_ascii : Bool) (text : List ℕ) → keeps_lines w is_ascii ≡ true → (is_ascii ≡ true → IsAsciiText text) → KeepsText w text
+kept_where w is_ascii text t low qs is =
+    let (raw, none) = and_parts (is_ascii || is_raw w.escapes) _ t in
+    let no_word = no_bytes w.prefix.word.now (eqb-true (length w.prefix.word.now) 0 none) in
+    kept_by w.escapes is_ascii w.style text raw low qs is
+    ∙ ap (λ (x : List ℕ). lines_of (record { style = w.style; escapes = w.escapes; prefix = x }) qs) (sym no_word)
 
 -- what was handed over was put
 put_of : {G X D A : Type 0} (contents : D → Option (List ℕ)) (failed : D → Bool) (w : Words G X Quad) (x : X) (reader : Driven G) (bytes : List ℕ) (first lines : LineOut D A) →
@@ -586,19 +587,19 @@ module _ {G X D A : Type 0} (contents : D → Option (List ℕ)) (failed : D →
     run_halts n k new mid after why told h s t =
         halted told (bytes ++ part) false after (λ x y o. piece_halts contents failed w x old bytes first lines y o part n k new mid why after told h s t)
 
-    module _ (are_plain : form_of lines.form ≡ plain lines.form.style) (new : Driven G) (p : PassesText w style old part new) where
+    module _ (kept : KeepsText lines.form part) (new : Driven G) (p : PassesText w style old part new) where
       -- some text was passed, and put as it stands
       pub run_passes : (after : LineOut D A) → SameOut lines after → Writes contents lines part after → failed after.drain.now ≡ false → IsPutting contents failed w style reader first (bytes ++ part) new after
       run_passes after s m live = record {
         begun = i.begun;
         styled = i.styled;
         limit = p.limit ∙ i.limit;
-        put = λ x y. text_put contents failed w x old bytes first lines y.starts.suits (i.put x y) style i.styled are_plain part new p after s m live;
+        put = λ x y. text_put contents failed w x old bytes first lines y.starts.suits (i.put x y) style i.styled part kept new p after s m live;
       }
 
       -- it was not put
       pub pass_halts : (told : StreamFault) (after : LineOut D A) → SameOut lines after → PutHalts contents failed told lines part after → RunHalts contents failed w told reader first (bytes ++ part) false after
-      pass_halts told after s h = halted told (bytes ++ part) false after (λ x y o. text_halts contents failed w x old bytes first lines y o style i.styled are_plain part new p told after s h)
+      pass_halts told after s h = halted told (bytes ++ part) false after (λ x y o. text_halts contents failed w x old bytes first lines y o style i.styled part kept new p told after s h)
 
   module _ (summary : Summary) (mid : LineOut D A) (f : Finishes w (Takes contents failed) old lines summary mid) where
     -- the document was read and written
