@@ -1,17 +1,23 @@
--- The walk over a token's inside, step by step.
-use Rattle.std.proofs.Common.{◌≡◌, ℕ, suc, ◌+◌, ◌*◌, ◌^◌, ◌<◌, ◌≤◌, true, List, [], ◌∷◌, ◌++◌, Option, Some, None, is_some, option_map, encode_utf8, refl, sym, ap, ◌∙◌, subst, append_assoc, arith}
-use Rattle.std.specs.Str.{chars, IsUtf8}
-use Rattle.std.proofs.lemmas.Str.{chars-append, chars-encodes, chars-nil}
-use Rattle.std.proofs.lemmas.List.{append-nil}
-use Rattle.std.proofs.lemmas.Bool.{and_from}
+-- The way from escape to escape in a token's inside: steps over its bytes, and the runs between them.
+use Rattle.std.proofs.Common.{◌≡◌, ℕ, zero, suc, ◌+◌, ◌-◌, ◌*◌, ◌^◌, ◌<◌, ◌≤◌, Bool, true, false, ◌&&◌, List, [], ◌∷◌, ◌++◌, ◌==◌, Option, Some, None, is_some, option_map, encode_utf8, refl, sym, ap, ◌∙◌, subst, ⊎_elim, append_assoc, length, length-drop, get_or, drop, take, arith}
+use Rattle.std.specs.Prelude.{encode_utf8_all, slice_range, nat_le}
+use Rattle.std.specs.Option.{IfSome}
+use Rattle.std.specs.Str.{chars, IsUtf8, IsCharBoundary}
+use Rattle.std.proofs.lemmas.Str.{chars-append, chars-encodes, chars-nil, chars_from_encodes, encodes-chars, encode_ascii, byte_from_char, IsUtf8-between, IsUtf8-drop, IsCharBoundary-end, IsCharBoundary-before_ascii, IsCharBoundary-from_drop}
+use Rattle.std.proofs.lemmas.List.{append-nil, drop_more, drop_all, get_or-drop}
+use Rattle.std.proofs.lemmas.List.Folds.{drop_split}
+use Rattle.std.proofs.lemmas.Bool.{and_from, and_parts, cases_Bool, cases_lt, cond-true, cond-false, eqb-true, ne_eqb, not-true, not-false, not_from_false, or_parts, false≢true}
 use Rattle.std.proofs.lemmas.Bool.Decides.{nat_tests}
 use lib.Utf8.{scalar as lib_scalar}
-use Rattle.rdf_terms.specs.Classes.{scalar}
-use Rattle.rdf_terms.specs.Values.{Inside, Spot, outside, slash, digits, Move, leads, means, fails, go, move, value}
-use Rattle.rdf_terms.specs.declared.values.Spot.{Spot as CodeSpot}
-use Rattle.rdf_terms.specs.declared.values.Spot.TheVariants.{Outside, Slash, Digits}
-use Rattle.rdf_terms.specs.Escapes.{spot_of}
-use Rattle.rdf_terms.proofs.CharsLemmas.{next_char}
+use Rattle.rdf_terms.specs.Classes.{has, member, scalar}
+use Rattle.rdf_terms.specs.Classes.Class.{hex_digit, iri_char}
+use Rattle.rdf_terms.specs.Terms.{all_have}
+use Rattle.rdf_terms.specs.Runs.{IsRun, PassBetween, goes_over, is_unescaped, iri_byte}
+use Rattle.rdf_terms.specs.Values.{Inside, of_string, of_iri, Spot, outside, slash, digits, Move, leads, means, fails, allowed, letter_move, echar_move, digit_move, hex_value, go, move, value}
+use Rattle.rdf_terms.specs.Escapes.{run_of, stands, completes, value_after, IsRead, Reads}
+use Rattle.rdf_terms.proofs.CharsLemmas.{Next, next_char}
+use Rattle.rdf_terms.proofs.IriBytes.{iri_bytes, have-append}
+use Rattle.rdf_terms.proofs.ValuesLemmas.{backslash_excluded}
 use Rattle.std.proofs.Math.Nat.{pow-succ', one-le-pow, mul-le-mul_right, le-mul_of_pos_right, mul_assoc}
 
 -- sixteen numbers fit where one digit more is to come
@@ -22,15 +28,24 @@ digit_steps n left h =
     subst (λ k. k ≤ 2 ^ 32) (e ∙ ap (λ k. k * 16 ^ left) f) h
 
 -- a hex digit more leaves room for the digits to come, so the code's number does not overflow
-pub digit_room : (n left v : ℕ) → (n + 1) * 16 ^ suc left ≤ 2 ^ 32 → v < 16 → (16 * n + v + 1) * 16 ^ left ≤ 2 ^ 32
+digit_room : (n left v : ℕ) → (n + 1) * 16 ^ suc left ≤ 2 ^ 32 → v < 16 → (16 * n + v + 1) * 16 ^ left ≤ 2 ^ 32
 digit_room n left v h l =
     let le : 16 * n + v + 1 ≤ 16 * n + 16 = omega arith in
     omega (arith, mul-le-mul_right (16 ^ left) le, digit_steps n left h)
 
 -- the sum with one hex digit more does not overflow
-pub digit_fits : (n left : ℕ) → (n + 1) * 16 ^ suc left ≤ 2 ^ 32 → 16 * n + 16 ≤ 2 ^ 32
+digit_fits : (n left : ℕ) → (n + 1) * 16 ^ suc left ≤ 2 ^ 32 → 16 * n + 16 ≤ 2 ^ 32
 digit_fits n left h =
     omega (arith, le-mul_of_pos_right (16 * n + 16) (one-le-pow left 16 (omega arith)), digit_steps n left h)
+
+-- the same where so many digits are left
+pub left_room : (n left v : ℕ) → 0 < left → (n + 1) * 16 ^ left ≤ 2 ^ 32 → v < 16 → (16 * n + v + 1) * 16 ^ (left - 1) ≤ 2 ^ 32
+left_room n zero v p h l = absurd (omega arith)
+left_room n (suc k) v p h l = let e : k ≡ suc k - 1 = omega arith in subst (λ j. (16 * n + v + 1) * 16 ^ j ≤ 2 ^ 32) e (digit_room n k v h l)
+
+pub left_fits : (n left : ℕ) → 0 < left → (n + 1) * 16 ^ left ≤ 2 ^ 32 → 16 * n + 16 ≤ 2 ^ 32
+left_fits n zero p h = absurd (omega arith)
+left_fits n (suc k) p h = digit_fits n k h
 
 -- the value of a text by the move of its first character
 value-cons : (i : Inside) (s : Spot) (c : ℕ) (w : List ℕ) → value i s (c ∷ w) ≡ go (move i s c) (λ t. value i t w)
@@ -38,22 +53,167 @@ value-cons i outside c w = refl
 value-cons i slash c w = refl
 value-cons i (digits k n) c w = refl
 
--- one character on
-pub value-next : (i : Inside) (s : Spot) (bytes rest : List ℕ) (c : ℕ) (m : Move) → IsUtf8 bytes → bytes ≡ encode_utf8 c ++ rest →
-    m ≡ move i s c → value i s (chars bytes) ≡ go m (λ t. value i t (chars rest))
-value-next i s bytes rest c m u e h =
-    ap (value i s) (next_char bytes rest c u e).chars ∙ value-cons i s c (chars rest) ∙ ap (λ x. go x (λ t. value i t (chars rest))) (sym h)
+-- a byte of ASCII is the character at its place
+low_first : (bs : List ℕ) (at : ℕ) → at < length bs → IsUtf8 (drop at bs) → get_or bs at 0 < 128 → Next (drop at bs) (drop (at + 1) bs) (get_or bs at 0)
+low_first bs at l u a =
+    next_char (drop at bs) (drop (at + 1) bs) (get_or bs at 0) u
+    (drop_more bs at 0 l ∙ ap (λ x. x ++ drop (at + 1) bs) (sym (encode_ascii (get_or bs at 0) a)))
+
+-- another byte begins a character that is not of ASCII
+high_first : (bs : List ℕ) (at : ℕ) → at < length bs → IsUtf8 (drop at bs) → 128 ≤ get_or bs at 0 →
+    (c : ℕ) × (w : List ℕ) × (chars (drop at bs) ≡ c ∷ w) × (128 ≤ c)
+high_first bs at l u h = by u.0 (chars_from_encodes u.0 (drop at bs) u u.1.1) u.1.1
+  where
+    first : get_or (drop at bs) 0 0 ≡ get_or bs at 0
+    first = get_or-drop at bs 0 0 ∙ (let z : at + 0 ≡ at = omega arith in ap (λ k. get_or bs k 0) z)
+
+    by : (cs : List ℕ) → cs ≡ chars (drop at bs) → encode_utf8_all cs ≡ drop at bs → (c : ℕ) × (w : List ℕ) × (chars (drop at bs) ≡ c ∷ w) × (128 ≤ c)
+    by [] e f = absurd (omega (arith, ap length f, length-drop at bs))
+    by (c ∷ w) e f = (
+      c,
+      w,
+      sym e,
+      ⊎_elim
+          (λ (k : c < 128). absurd (omega (arith, byte_from_char (drop at bs) (encode_utf8_all w) c (sym f) k, first)))
+          (λ k. k)
+          (cases_lt c 128),
+    )
+
+-- one byte of ASCII on
+pub step_low : (i : Inside) (s : Spot) (m : Move) (bs : List ℕ) (at : ℕ) → at < length bs → IsUtf8 (drop at bs) → get_or bs at 0 < 128 →
+    move i s (get_or bs at 0) ≡ m → value_after i (leads s) bs at ≡ value_after i m bs (at + 1)
+step_low i s m bs at l u a e =
+    let rest = chars (drop (at + 1) bs) in
+    ap (value i s) (low_first bs at l u a).chars ∙ (value-cons i s (get_or bs at 0) rest ∙ ap (λ x. go x (λ t. value i t rest)) e)
+
+-- what stands there is UTF-8 again
+pub utf8_low : (bs : List ℕ) (at : ℕ) → at < length bs → IsUtf8 (drop at bs) → get_or bs at 0 < 128 → IsUtf8 (drop (at + 1) bs)
+utf8_low bs at l u a = (low_first bs at l u a).utf8
+
+-- the same by the byte's number
+pub step_byte : (i : Inside) (s : Spot) (b : ℕ) (bs : List ℕ) (at : ℕ) → at < length bs → IsUtf8 (drop at bs) → get_or bs at 0 ≡ b → b < 128 →
+    value_after i (leads s) bs at ≡ value_after i (move i s b) bs (at + 1)
+step_byte i s b bs at l u e a = step_low i s (move i s b) bs at l u (omega (arith, e)) (ap (move i s) e)
+
+pub utf8_byte : (b : ℕ) (bs : List ℕ) (at : ℕ) → at < length bs → IsUtf8 (drop at bs) → get_or bs at 0 ≡ b → b < 128 → IsUtf8 (drop (at + 1) bs)
+utf8_byte b bs at l u e a = utf8_low bs at l u (omega (arith, e))
+
+-- a place that is not the end is before it
+pub not_end : (at n : ℕ) → at ≤ n → (at ≡ n → ⊥) → at < n
+not_end at n l f = ⊎_elim (λ (k : at < n). k) (λ k. absurd (f (omega arith))) (cases_lt at n)
+
+-- where no character from U+0080 on may stand
+step_high : (i : Inside) (s : Spot) (bs : List ℕ) (at : ℕ) → at < length bs → IsUtf8 (drop at bs) → 128 ≤ get_or bs at 0 →
+    ((c : ℕ) → 128 ≤ c → move i s c ≡ fails) → value_after i (leads s) bs at ≡ None
+step_high i s bs at l u h f =
+    let n = high_first bs at l u h in
+    ap (value i s) n.2 ∙ (value-cons i s n.0 n.1 ∙ ap (λ x. go x (λ t. value i t n.1)) (f n.0 n.3))
+
+-- where a text may not end
+pub step_end : (i : Inside) (s : Spot) (bs : List ℕ) (at : ℕ) → length bs ≤ at → value i s [] ≡ None → value_after i (leads s) bs at ≡ None
+step_end i s bs at l e = ap (λ w. value i s (chars w)) (drop_all at bs l) ∙ (ap (value i s) chars-nil ∙ e)
+
+-- the rest of an escape that is read from a byte on was read from one before it
+pub reads_from : (i : Inside) (m n : Move) (bs : List ℕ) (at to : ℕ) (r : Option (ℕ × ℕ)) → at ≤ to → value_after i m bs at ≡ value_after i n bs to →
+    Reads i n bs to r → Reads i m bs at r
+reads_from i m n bs at to None l e h = e ∙ h
+reads_from i m n bs at to (Some x) l e h = record {
+  from = omega (arith, h.from);
+  within = h.within;
+  utf8 = h.utf8;
+  character = h.character;
+  value = e ∙ h.value;
+}
+
+-- a character that is not of ASCII is none that is
+none_of : (c k : ℕ) → 128 ≤ c → k < 128 → (c == k) ≡ false
+none_of c k h l = ne_eqb c k (λ e. omega (arith, e))
+
+-- so no escape has it behind its backslash
+letter_high : (c : ℕ) → 128 ≤ c → letter_move c ≡ fails
+letter_high c h =
+    let n : (k : ℕ) → k < 128 → (c == k) ≡ false = λ k l. none_of c k h l in
+    rw (n 116 (omega arith), n 98 (omega arith), n 110 (omega arith), n 114 (omega arith), n 102 (omega arith), n 34 (omega arith), n 39 (omega arith), n 92 (omega arith)) refl
+
+echar_high : (i : Inside) (c : ℕ) → 128 ≤ c → echar_move i c ≡ fails
+echar_high of_string c h = letter_high c h
+echar_high of_iri c h = refl
+
+-- a letter that begins no UCHAR
+slash_letter : (i : Inside) (c : ℕ) → (c == 117) ≡ false → (c == 85) ≡ false → move i slash c ≡ echar_move i c
+slash_letter i c u v =
+    cond-false (c == 117) (leads (digits 4 0)) _ u ∙ cond-false (c == 85) (leads (digits 8 0)) (echar_move i c) v
+
+slash_high : (i : Inside) (c : ℕ) → 128 ≤ c → move i slash c ≡ fails
+slash_high i c h = slash_letter i c (none_of c 117 h (omega arith)) (none_of c 85 h (omega arith)) ∙ echar_high i c h
+
+-- behind a backslash stands the letter of an ECHAR, or the escape is bad
+pub reads_letter : (i : Inside) (bs : List ℕ) (at : ℕ) (o : Option ℕ) → at < length bs → IsUtf8 (drop at bs) → (get_or bs at 0 == 117) ≡ false →
+    (get_or bs at 0 == 85) ≡ false → completes o ≡ echar_move i (get_or bs at 0) → IfSome o (λ c. scalar c ≡ true) →
+    Reads i (leads slash) bs at (option_map (λ c. (c, at + 1)) o)
+reads_letter i bs at None l u x y e s =
+    ⊎_elim
+    (λ (a : get_or bs at 0 < 128). step_low i slash fails bs at l u a (slash_letter i (get_or bs at 0) x y ∙ sym e))
+    (λ h. step_high i slash bs at l u h (slash_high i))
+    (cases_lt (get_or bs at 0) 128)
+reads_letter i bs at (Some c) l u x y e s =
+    ⊎_elim
+    (λ (a : get_or bs at 0 < 128). record {
+      from = omega arith;
+      within = omega arith;
+      utf8 = utf8_low bs at l u a;
+      character = s;
+      value = step_low i slash (means c) bs at l u a (slash_letter i (get_or bs at 0) x y ∙ sym e);
+    })
+    (λ h. absurd (no_means c (e ∙ echar_high i (get_or bs at 0) h)))
+    (cases_lt (get_or bs at 0) 128)
+  where
+    no_means : (c : ℕ) → means c ≡ fails → ⊥
+    no_means c e = cc
+
+-- a hex digit is ASCII
+hex_none : (c : ℕ) → 128 ≤ c → has hex_digit c ≡ false
+unfolding has
+hex_none c h = grind (arith, nat_tests)
+
+hex_low : (c : ℕ) → has hex_digit c ≡ true → c < 128
+hex_low c h = ⊎_elim (λ (l : c < 128). l) (λ l. absurd (false≢true (sym (hex_none c l) ∙ h))) (cases_lt c 128)
+
+-- one hex digit on
+pub step_digit : (i : Inside) (left n : ℕ) (bs : List ℕ) (at : ℕ) → 0 < left → IsUtf8 (drop at bs) → at < length bs → has hex_digit (get_or bs at 0) ≡ true →
+    value_after i (digit_move i left n) bs at ≡ value_after i (digit_move i (left - 1) (16 * n + hex_value (get_or bs at 0))) bs (at + 1)
+step_digit i zero n bs at p u l h = absurd (omega arith)
+step_digit i (suc k) n bs at p u l h =
+    let b = get_or bs at 0 in
+    let e : suc k - 1 ≡ k = omega arith in
+    step_low i (digits (suc k) n) (digit_move i k (16 * n + hex_value b)) bs at l u (hex_low b h) (cond-true (has hex_digit b) (digit_move i k (16 * n + hex_value b)) fails h)
+    ∙ ap (λ j. value_after i (digit_move i j (16 * n + hex_value b)) bs (at + 1)) (sym e)
+
+-- and what follows it is UTF-8
+pub utf8_digit : (bs : List ℕ) (at : ℕ) → at < length bs → IsUtf8 (drop at bs) → has hex_digit (get_or bs at 0) ≡ true → IsUtf8 (drop (at + 1) bs)
+utf8_digit bs at l u h = utf8_low bs at l u (hex_low (get_or bs at 0) h)
+
+-- where a digit is to come and none does
+pub no_digit : (i : Inside) (left n : ℕ) (bs : List ℕ) (at : ℕ) → 0 < left → IsUtf8 (drop at bs) → ((at < length bs) × (has hex_digit (get_or bs at 0) ≡ true) → ⊥) →
+    value_after i (digit_move i left n) bs at ≡ None
+no_digit i zero n bs at p u f = absurd (omega arith)
+no_digit i (suc k) n bs at p u f =
+    ⊎_elim
+    (λ (l : at < length bs). ⊎_elim (λ h. absurd (f (l, h))) (λ h. other l h) (cases_Bool (has hex_digit (get_or bs at 0))))
+    (λ l. step_end i (digits (suc k) n) bs at l refl)
+    (cases_lt at (length bs))
+  where
+    other : at < length bs → has hex_digit (get_or bs at 0) ≡ false → value_after i (leads (digits (suc k) n)) bs at ≡ None
+    other l h =
+        ⊎_elim
+        (λ (a : get_or bs at 0 < 128). step_low i (digits (suc k) n) fails bs at l u a (cond-false (has hex_digit (get_or bs at 0)) (digit_move i k (16 * n + hex_value (get_or bs at 0))) fails h))
+        (λ a. step_high i (digits (suc k) n) bs at l u a (λ c x. cond-false (has hex_digit c) (digit_move i k (16 * n + hex_value c)) fails (hex_none c x)))
+        (cases_lt (get_or bs at 0) 128)
 
 -- a value that is mapped is there where it was
 pub is_some-map : (f : List ℕ → List ℕ) (o : Option (List ℕ)) → is_some (option_map f o) ≡ is_some o
 is_some-map f None = refl
 is_some-map f (Some w) = refl
-
--- a text ends outside an escape
-pub not_outside : (i : Inside) (s : CodeSpot) (bytes : List ℕ) → (s ≡ Outside → ⊥) → chars bytes ≡ [] → value i (spot_of s) (chars bytes) ≡ None
-not_outside i Outside bytes h e = absurd (h refl)
-not_outside i Slash bytes h e = ap (value i slash) e
-not_outside i (Digits left n) bytes h e = ap (value i (digits (suc left) n)) e
 
 -- what was built before what is left
 abbrev pub behind : List ℕ → Option (List ℕ) → Option (List ℕ)
@@ -81,26 +241,141 @@ behind-push out grown c (Some w) u h e =
     let one : chars (encode_utf8 c) ≡ c ∷ [] = chars-encode c h in
     ap Some (sym (ap (λ x. chars x ++ w) e ∙ ap (λ x. x ++ w) (chars-append out (encode_utf8 c) u ∙ ap (λ x. chars out ++ x) one) ∙ append_assoc (chars out) (c ∷ []) w))
 
--- a turn of the loop that builds
-module _ (i : Inside) (s : Spot) (whole : Option (List ℕ)) (out bytes rest : List ℕ) (c : ℕ) (same : whole ≡ behind out (value i s (chars bytes))) (utf8 : IsUtf8 bytes) (first : bytes ≡ encode_utf8 c ++ rest) where
-  pub built_leads : (t : Spot) → leads t ≡ move i s c → whole ≡ behind out (value i t (chars rest))
-  built_leads t h = same ∙ ap (behind out) (value-next i s bytes rest c (leads t) utf8 first h)
+-- Runs between escapes.
+-- a character that stands as it is means itself
+stands_means : (i : Inside) (c : ℕ) → stands i c ≡ true → move i outside c ≡ means c
+stands_means of_string c h = cond-false (c == 92) (leads slash) (means c) (not-true (c == 92) h)
+stands_means of_iri c h =
+    cond-false (c == 92) (leads slash) (allowed of_iri c) (ne_eqb c 92 (backslash_excluded c h)) ∙ cond-true (has iri_char c) (means c) fails h
 
-  pub built_means : (d : ℕ) (grown : List ℕ) → means d ≡ move i s c → IsUtf8 out → scalar d ≡ true → grown ≡ out ++ encode_utf8 d →
-      whole ≡ behind grown (value i outside (chars rest))
-  built_means d grown h u k e =
-      same ∙ ap (behind out) (value-next i s bytes rest c (means d) utf8 first h) ∙ behind-push out grown d (value i outside (chars rest)) u k e
+-- texts in front of a value, one by one
+map-nil : (o : Option (List ℕ)) → option_map (λ w. [] ++ w) o ≡ o
+map-nil None = refl
+map-nil (Some w) = refl
 
-  pub built_fails : fails ≡ move i s c → whole ≡ None
-  built_fails h = same ∙ ap (behind out) (value-next i s bytes rest c fails utf8 first h)
+map-append : (u v : List ℕ) (o : Option (List ℕ)) → option_map (λ w. u ++ w) (option_map (λ w. v ++ w) o) ≡ option_map (λ w. (u ++ v) ++ w) o
+map-append u v None = refl
+map-append u v (Some w) = ap Some (sym (append_assoc u v w))
 
--- the first turn and the last
-pub built_none : (i : Inside) (text rest out : List ℕ) → rest ≡ text → out ≡ [] →
-    value i outside (chars text) ≡ behind out (value i outside (chars rest))
-built_none i text rest out e f = ap (λ x. value i outside (chars x)) (sym e) ∙ sym (behind-nil out _ f)
+-- so a text of such characters does, in front of another
+value_stands : (i : Inside) (u w : List ℕ) → all_have (stands i) u ≡ true → value i outside (u ++ w) ≡ option_map (λ v. u ++ v) (value i outside w)
+value_stands i [] w h = sym (map-nil (value i outside w))
+value_stands i (c ∷ u) w h =
+    let p = and_parts (stands i c) (all_have (stands i) u) h in
+    ap (λ m. go m (λ t. value i t (u ++ w))) (stands_means i c p.0)
+    ∙ (ap (option_map (λ v. c ∷ v)) (value_stands i u w p.1) ∙ map-append (c ∷ []) u (value i outside w))
 
--- after the last character the text that was built is the value
-pub built_all : (i : Inside) (s : CodeSpot) (out bytes : List ℕ) → s ≡ Outside → chars bytes ≡ [] →
-    behind out (value i (spot_of s) (chars bytes)) ≡ Some (chars out)
-built_all i s out bytes e f =
-    ap (λ x. behind out (value i (spot_of x) (chars bytes))) e ∙ ap (λ x. behind out (value i outside x)) f ∙ ap Some (append-nil (chars out))
+-- the bytes of a run, as a text
+slice_passes : (p : ℕ → Bool) (bs : List ℕ) (at n : ℕ) → at + n ≤ length bs → PassBetween p bs at (at + n) → all_have p (take n (drop at bs)) ≡ true
+slice_passes p bs at zero l h = refl
+slice_passes p bs at (suc n) l h =
+    ap (λ x. all_have p (take (suc n) x)) (drop_more bs at 0 (omega arith))
+    ∙ and_from (p (get_or bs at 0)) _ (h at (omega arith) (omega arith)) (slice_passes p bs (at + 1) n (omega arith) (λ k from to. h k (omega arith) (omega arith)))
+
+run_passes : (p : ℕ → Bool) (bs : List ℕ) (at end : ℕ) → IsRun p bs at end → all_have p (slice_range bs at end) ≡ true
+run_passes p bs at end r =
+    slice_passes p bs at (end - at) (omega (arith, r.from, r.within)) (λ k from to. r.pass k from (omega (arith, r.from)))
+
+-- a text has a backslash where its bytes have one
+unescaped_one : (c : ℕ) → all_have is_unescaped (encode_utf8 c) ≡ true → is_unescaped c ≡ true
+unescaped_one c h =
+    ⊎_elim
+    (λ e. absurd (false≢true (sym (ap (all_have is_unescaped) (encode_ascii 92 (omega arith))) ∙ subst (λ x. all_have is_unescaped (encode_utf8 x) ≡ true) (eqb-true c 92 e) h)))
+    (λ e. not_from_false (c == 92) e)
+    (cases_Bool (c == 92))
+
+unescaped_chars : (w : List ℕ) → all_have is_unescaped (encode_utf8_all w) ≡ true → all_have is_unescaped w ≡ true
+unescaped_chars [] h = refl
+unescaped_chars (c ∷ w) h =
+    let p = and_parts (all_have is_unescaped (encode_utf8 c)) _ (sym (have-append is_unescaped (encode_utf8 c) (encode_utf8_all w)) ∙ h) in
+    and_from (is_unescaped c) _ (unescaped_one c p.0) (unescaped_chars w p.1)
+
+run_stands : (i : Inside) (bs : List ℕ) → IsUtf8 bs → all_have (goes_over (run_of i)) bs ≡ true → all_have (stands i) (chars bs) ≡ true
+run_stands of_string bs u h = unescaped_chars (chars bs) (ap (all_have is_unescaped) (encodes-chars bs u) ∙ h)
+run_stands of_iri bs u h = sym (iri_bytes bs u) ∙ h
+
+-- a byte that is excluded from IRIs is a character that is
+excluded : (b : ℕ) → iri_byte b ≡ false → has iri_char b ≡ false
+unfolding has
+excluded b h = let p = or_parts (nat_le 128 b) (member iri_char b) h in ap (λ t. scalar b && t) p.1 ∙ and_no (scalar b)
+  where
+    and_no : (t : Bool) → (t && false) ≡ false
+    and_no true = refl
+    and_no false = refl
+
+-- what ends a run is ASCII
+pub stop_low : (i : Inside) (b : ℕ) → goes_over (run_of i) b ≡ false → b < 128
+stop_low of_string b h = let e = eqb-true b 92 (not-false (b == 92) h) in omega (arith, e)
+stop_low of_iri b h = low b h
+  where
+    low : (b : ℕ) → iri_byte b ≡ false → b < 128
+    low b h = grind (arith, nat_tests)
+
+-- where it is no backslash it may not stand there
+pub stop_fails : (i : Inside) (bs : List ℕ) (at : ℕ) → at < length bs → IsUtf8 (drop at bs) → goes_over (run_of i) (get_or bs at 0) ≡ false →
+    (get_or bs at 0 ≡ 92 → ⊥) → value_after i (leads outside) bs at ≡ None
+stop_fails of_string bs at l u h n = absurd (n (eqb-true (get_or bs at 0) 92 (not-false (get_or bs at 0 == 92) h)))
+stop_fails of_iri bs at l u h n =
+    let b = get_or bs at 0 in
+    step_low of_iri outside fails bs at l u (stop_low of_iri b h)
+    (cond-false (b == 92) (leads slash) (allowed of_iri b) (ne_eqb b 92 n) ∙ cond-false (has iri_char b) (means b) fails (excluded b h))
+
+-- the text may be cut there
+pub run_cut : (i : Inside) (bs : List ℕ) (at end : ℕ) → IsRun (goes_over (run_of i)) bs at end → IsCharBoundary bs end
+run_cut i bs at end r =
+    ⊎_elim
+    (λ l. IsCharBoundary-before_ascii bs end l (stop_low i (get_or bs end 0) (r.stops l)))
+    (λ l. let whole : length bs ≡ end = omega (arith, r.within) in subst (IsCharBoundary bs) whole (IsCharBoundary-end bs))
+    (cases_lt end (length bs))
+
+-- a run, and what follows it
+pub record RunRead (i : Inside) (bs : List ℕ) (at end : ℕ) : Type 0 where
+  pub utf8 : IsUtf8 (drop end bs)
+  pub front : IsUtf8 (slice_range bs at end)
+  pub value : value i outside (chars (drop at bs)) ≡ behind (slice_range bs at end) (value i outside (chars (drop end bs)))
+
+pub run_read : (i : Inside) (bs : List ℕ) (at end : ℕ) → IsUtf8 bs → IsUtf8 (drop at bs) → IsRun (goes_over (run_of i)) bs at end → RunRead i bs at end
+run_read i bs at end u v r =
+    let cut = run_cut i bs at end r in
+    let start = IsCharBoundary-from_drop bs at (omega (arith, r.from, r.within)) v in
+    let run = slice_range bs at end in
+    let front = IsUtf8-between bs at end u r.from start cut in
+    record {
+      utf8 = IsUtf8-drop bs end u cut;
+      front = front;
+      value = ap (λ x. value i outside (chars x)) (drop_split bs at end r.from)
+          ∙ (ap (value i outside) (chars-append run (drop end bs) front)
+          ∙ value_stands i (chars run) (chars (drop end bs)) (run_stands i run front (run_passes (goes_over (run_of i)) bs at end r)));
+    }
+
+-- whether there is a value, behind a run
+pub run_is_some : (i : Inside) (bs : List ℕ) (at end : ℕ) → RunRead i bs at end →
+    is_some (value i outside (chars (drop at bs))) ≡ is_some (value i outside (chars (drop end bs)))
+run_is_some i bs at end r = ap is_some r.value ∙ is_some-map (λ w. chars (slice_range bs at end) ++ w) (value i outside (chars (drop end bs)))
+
+-- and behind an escape that was read
+pub read_is_some : (i : Inside) (bs : List ℕ) (at c end : ℕ) → IsRead i (leads outside) bs at c end →
+    is_some (value i outside (chars (drop at bs))) ≡ is_some (value i outside (chars (drop end bs)))
+read_is_some i bs at c end r = ap is_some r.value ∙ is_some-map (λ w. c ∷ w) (value i outside (chars (drop end bs)))
+
+-- at the end of a text nothing more is meant
+pub value_end : (i : Inside) (bs : List ℕ) (at : ℕ) → length bs ≤ at → value i outside (chars (drop at bs)) ≡ Some []
+value_end i bs at l = ap (λ w. value i outside (chars w)) (drop_all at bs l) ∙ ap (value i outside) chars-nil
+
+-- a run that was put behind what was built
+pub behind-run : (i : Inside) (out grown bs : List ℕ) (at end : ℕ) → IsUtf8 out → grown ≡ out ++ slice_range bs at end → RunRead i bs at end →
+    behind out (value i outside (chars (drop at bs))) ≡ behind grown (value i outside (chars (drop end bs)))
+behind-run i out grown bs at end u e r =
+    let run = slice_range bs at end in
+    let rest = value i outside (chars (drop end bs)) in
+    ap (behind out) r.value
+    ∙ (map-append (chars out) (chars run) rest
+    ∙ ap (λ x. option_map (λ w. x ++ w) rest) (sym (ap chars e ∙ chars-append out run u)))
+
+-- the first run
+pub behind-first : (i : Inside) (text out : List ℕ) → out ≡ [] → value i outside (chars text) ≡ behind out (value i outside (chars (drop 0 text)))
+behind-first i text out e = sym (behind-nil out (value i outside (chars text)) e)
+
+-- at the end of the text what was built is its value
+pub behind-end : (i : Inside) (out bs : List ℕ) (at : ℕ) → length bs ≤ at → behind out (value i outside (chars (drop at bs))) ≡ Some (chars out)
+behind-end i out bs at l = ap (behind out) (value_end i bs at l) ∙ ap Some (append-nil (chars out))

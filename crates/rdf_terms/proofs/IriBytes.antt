@@ -51,7 +51,7 @@ one_char c s = ⊎_elim low high (cases_lt c 128)
     high l = all_high (encode_utf8 c) (high_bytes c l) ∙ sym (and_from (scalar c) (member iri_char c) s (high_char c l))
 
 -- a test of two texts is one of each
-have-append : (test : ℕ → Bool) (u v : List ℕ) → all_have test (u ++ v) ≡ (all_have test u && all_have test v)
+pub have-append : (test : ℕ → Bool) (u v : List ℕ) → all_have test (u ++ v) ≡ (all_have test u && all_have test v)
 have-append test [] v = refl
 have-append test (c ∷ u) v = ap (λ t. test c && t) (have-append test u v) ∙ assoc (test c) (all_have test u) (all_have test v)
   where

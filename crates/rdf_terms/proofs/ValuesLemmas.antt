@@ -1,37 +1,17 @@
 -- The value of a text in which every character stands for itself, and of a token's inside.
-use Rattle.std.proofs.Common.{◌≡◌, ℕ, zero, suc, ◌+◌, ◌*◌, Bool, true, false, lit<, List, [], ◌∷◌, ◌==◌, not, Option, Some, None, is_some, option_map, refl, ap, subst}
-use Rattle.std.proofs.lemmas.Bool.{and_parts, and_from, cond_both, MatchBool-at_false, not-true, ne_eqb, false≢true}
-use Rattle.std.specs.Str.{chars, IsUtf8, NonePass, NoCharPasses}
-use Rattle.std.proofs.lemmas.Str.{chars_from_encodes, encodes-chars}
-use Rattle.std.specs.Bool.{MatchBool}
-use Rattle.std.specs.Str.Pattern.{FindsChar, HasMatch}
-use Rattle.std.proofs.lemmas.Str.Pattern.{contains_char, NoCharPasses-char}
+use Rattle.std.proofs.Common.{◌≡◌, ℕ, zero, suc, ◌+◌, ◌*◌, true, List, [], ◌∷◌, ◌==◌, Option, Some, None, is_some, option_map, refl, ap, subst}
+use Rattle.std.proofs.lemmas.Bool.{and_from, cond_both, false≢true}
 use Rattle.rdf_terms.specs.declared.kind.Kind.{Kind}
 use Rattle.rdf_terms.specs.declared.kind.Kind.TheVariants.{IriRef, ShortString, LongString}
 use Rattle.rdf_terms.specs.Classes.{has, scalar}
 use Rattle.rdf_terms.specs.Classes.Class.{iri_char, hex_digit}
 use Rattle.rdf_terms.specs.Terms.{all_have}
-use Rattle.rdf_terms.specs.Values.{of_iri, Spot, outside, slash, digits, Move, leads, means, fails, allowed, digit_move, hex_value, move, go, value, string_value, iri_value, is_fit}
-use Rattle.rdf_terms.specs.Escapes.{is_plain}
-
--- a string without backslash means itself, so the code may copy it
-pub string_value_plain : (w : List ℕ) → all_have is_plain w ≡ true → string_value w ≡ Some w
-string_value_plain [] h = refl
-string_value_plain (c ∷ w) h =
-    let p = and_parts (is_plain c) (all_have is_plain w) h in
-    rw (not-true (c == 92) p.0, string_value_plain w p.1) refl
+use Rattle.rdf_terms.specs.Values.{of_iri, Spot, outside, slash, digits, Move, leads, means, fails, allowed, digit_move, hex_value, move, go, value, iri_value, is_fit}
 
 -- no character of an IRI is a backslash
-backslash_excluded : (c : ℕ) → has iri_char c ≡ true → (c ≡ 92 → ⊥)
+pub backslash_excluded : (c : ℕ) → has iri_char c ≡ true → (c ≡ 92 → ⊥)
 unfolding has
 backslash_excluded c h e = false≢true (subst (λ x. has iri_char x ≡ true) e h)
-
--- an IRIREF of IRI characters means itself, so the code may copy it
-pub iri_value_plain : (w : List ℕ) → all_have (has iri_char) w ≡ true → iri_value w ≡ Some w
-iri_value_plain [] h = refl
-iri_value_plain (c ∷ w) h =
-    let p = and_parts (has iri_char c) (all_have (has iri_char) w) h in
-    rw (ne_eqb c 92 (backslash_excluded c p.0), p.0, iri_value_plain w p.1) refl
 
 -- what is known is there
 pub is_some-of : {X : Type 0} (o : Option X) (x : X) → o ≡ Some x → is_some o ≡ true
@@ -44,36 +24,6 @@ is_fit_other IriRef w i s l = absurd (i refl)
 is_fit_other ShortString w i s l = absurd (s refl)
 is_fit_other LongString w i s l = absurd (l refl)
 is_fit_other _ w i s l = refl
-
--- where no backslash is found, every character is plain
-none_plain : (w : List ℕ) → NonePass (λ d. d == 92) w → all_have is_plain w ≡ true
-none_plain [] h = refl
-none_plain (c ∷ w) h = rw (h.0, none_plain w h.1) refl
-
--- where std finds no backslash in a str, every character is plain
-chars_plain : (bytes : List ℕ) → IsUtf8 bytes → NoCharPasses (λ d. d == 92) bytes → all_have is_plain (chars bytes) ≡ true
-chars_plain bytes u h = subst (λ w. all_have is_plain w ≡ true) (chars_from_encodes h.0 bytes u h.1) (none_plain h.0 h.2)
-
--- where every character is plain, no backslash is found
-plain_none : (w : List ℕ) → all_have is_plain w ≡ true → NonePass (λ d. d == 92) w
-plain_none [] h = tt
-plain_none (c ∷ w) h = let p = and_parts (is_plain c) (all_have is_plain w) h in (not-true (c == 92) p.0, plain_none w p.1)
-
--- a test and its opposite
-decided : (b t : Bool) → (b ≡ false → t ≡ true) → (b ≡ true → t ≡ true → ⊥) → b ≡ not t
-decided true true f g = absurd (g refl refl)
-decided true false f g = refl
-decided false true f g = refl
-decided false false f g = f refl
-
--- what `contains` says of a backslash
-pub contains_backslash : (bytes : List ℕ) (r : Bool) → IsUtf8 bytes → MatchBool r (HasMatch (FindsChar 92) bytes) (FindsChar 92 bytes None) →
-    r ≡ not (all_have is_plain (chars bytes))
-contains_backslash bytes r u h =
-    decided r (all_have is_plain (chars bytes))
-    (λ e. chars_plain bytes u (MatchBool-at_false _ _ e h))
-    (λ e f. let at = (contains_char 92 bytes r h (lit< tt)).0 e in
-    NoCharPasses-char 92 bytes at.0 (chars bytes, encodes-chars bytes u, plain_none (chars bytes) f) (lit< tt) at.1 at.2)
 
 -- what a move in an IRI completes is one of its characters
 abbrev IsIriMove : Move → Type 0

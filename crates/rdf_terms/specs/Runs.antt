@@ -3,7 +3,7 @@ use Rattle.std.specs.Prelude.{◌≡◌, ℕ, ◌+◌, ◌<◌, ◌≤◌, Bool,
 use Rattle.rdf_terms.specs.Classes.{member, is_digit, is_letter, one_of}
 use Rattle.rdf_terms.specs.Classes.Class.{iri_char}
 use Rattle.rdf_terms.specs.declared.runs.Run.{Run}
-use Rattle.rdf_terms.specs.declared.runs.Run.TheVariants.{Iri, Text, AsciiText, Ascii, Name}
+use Rattle.rdf_terms.specs.declared.runs.Run.TheVariants.{Iri, Text, AsciiText, Ascii, Name, Unescaped}
 
 -- a byte of the UTF-8 of the characters of an IRIREF: what it excludes is ASCII
 abbrev pub iri_byte : ℕ → Bool
@@ -25,6 +25,10 @@ is_ascii_text_byte b = is_text_byte b && is_ascii_byte b
 abbrev pub is_name_byte : ℕ → Bool
 is_name_byte b = is_letter b || is_digit b || b == 95 || b == 45
 
+-- no backslash, be it a byte or a character
+abbrev pub is_unescaped : ℕ → Bool
+is_unescaped b = not (b == 92)
+
 -- the bytes that a run goes over
 abbrev pub goes_over : Run → ℕ → Bool
 goes_over Iri b = iri_byte b
@@ -32,6 +36,7 @@ goes_over Text b = is_text_byte b
 goes_over AsciiText b = is_ascii_text_byte b
 goes_over Ascii b = is_ascii_byte b
 goes_over Name b = is_name_byte b
+goes_over Unescaped b = is_unescaped b
 
 -- the bytes between two places pass
 abbrev pub PassBetween : (ℕ → Bool) → List ℕ → ℕ → ℕ → Type 0

@@ -2,7 +2,7 @@
 
 ghost use Rattle.std.specs.Prelude.{◌≡◌, ◌+◌, ◌≤◌, length, map, not};
 ghost use Rattle.std.specs.Simd.Lanes.{mask_l};
-ghost use Rattle.rdf_terms.specs.Runs.{iri_byte, goes_over, is_ascii_byte, is_ascii_text_byte, is_name_byte, is_text_byte, IsRun, IsRunIn};
+ghost use Rattle.rdf_terms.specs.Runs.{iri_byte, goes_over, is_ascii_byte, is_ascii_text_byte, is_name_byte, is_text_byte, is_unescaped, IsRun, IsRunIn};
 ghost use Rattle.rdf_terms.specs.Terms.{all_have};
 
 use crate::classes::is_iri_byte;
@@ -24,6 +24,8 @@ pub enum Run {
     Ascii,
     /// Letters, digits, `_` and `-`, in ASCII.
     Name,
+    /// What stands between the escapes of a string: all but the backslash.
+    Unescaped,
 }
 
 /// The place of the first byte from a place on that the run does not go over, or the length.
@@ -66,6 +68,7 @@ fn is_passed(run: Run, byte: u8) -> bool
         Run::AsciiText => is_text_byte(byte) && byte < 128,
         Run::Ascii => byte < 128,
         Run::Name => matches!(byte, b'A'..=b'Z' | b'a'..=b'z' | b'0'..=b'9' | b'_' | b'-'),
+        Run::Unescaped => byte != b'\\',
     }
 }
 
@@ -101,6 +104,7 @@ fn stops(run: Run, v: u8x16) -> u64
         Run::AsciiText => ascii_text_stops(v),
         Run::Ascii => ascii_stops(v),
         Run::Name => name_stops(v),
+        Run::Unescaped => backslashes(v),
     }
 }
 
@@ -152,6 +156,13 @@ fn name_stops(v: u8x16) -> u64
     let no_digit = from_0.simd_ge(u8x16::splat(10));
     let no_line = v.simd_ne(u8x16::splat(b'_')) & v.simd_ne(u8x16::splat(b'-'));
     ((no_letter & no_digit) & no_line).to_bitmask()
+}
+
+#[inline(always)]
+fn backslashes(v: u8x16) -> u64
+    ensures { result ≡ mask_l (map (λ b. not (is_unescaped b)) v) }
+{
+    v.simd_eq(u8x16::splat(b'\\')).to_bitmask()
 }
 
 /// Whether the run goes over all of the bytes. The last load overlaps the one before it.

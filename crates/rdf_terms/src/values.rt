@@ -1,17 +1,19 @@
 // The characters that a token's inside means.
 
-ghost use Rattle.std.specs.Prelude.{◌≡◌, ◌↔◌, ◌+◌, ◌*◌, ◌^◌, ◌≤◌, suc, not, true, IfOk, OnErr, Err, Some, None, is_some, drop};
-ghost use Rattle.std.specs.Str.{chars};
+ghost use Rattle.std.specs.Prelude.{◌≡◌, ◌↔◌, ◌^◌, ◌≤◌, ◌<◌, ◌++◌, true, false, cond, IfOk, OnErr, IfSome, SomeIff, Err, Some, None, is_some, option_map, drop, length, get_or, slice_range};
+ghost use Rattle.std.specs.Str.{chars, IsUtf8};
 ghost use Rattle.std.specs.String.{string_bytes};
-ghost use Rattle.rdf_terms.specs.Classes.{has};
-ghost use Rattle.rdf_terms.specs.Classes.Class.{iri_char};
+ghost use Rattle.rdf_terms.specs.Classes.{has, scalar};
+ghost use Rattle.rdf_terms.specs.Classes.Class.{iri_char, hex_digit};
+ghost use Rattle.rdf_terms.specs.Runs.{IsRun, goes_over};
 ghost use Rattle.rdf_terms.specs.Terms.{all_have};
-ghost use Rattle.rdf_terms.specs.Values.{value, inside, is_fit, outside, slash, digits, string_value, iri_value, allowed, echar_move, letter_move, digit_move, move};
-ghost use Rattle.rdf_terms.specs.Escapes.{is_plain, inside_of, spot_of, move_of, HasRoom, IsSound};
+ghost use Rattle.rdf_terms.specs.Values.{value, inside, is_fit, outside, slash, string_value, iri_value, leads, means, fails, allowed, echar_move, letter_move, digit_move, hex_value};
+ghost use Rattle.rdf_terms.specs.Escapes.{inside_of, run_of, completes, Reads};
 
 use crate::Kind;
-use crate::classes::{hex_value, iri_text, is_iri_char};
-use std::alloc::Allocator;
+use crate::classes::{hex_value, is_iri_char};
+use crate::runs::{Run, run_end};
+use std::alloc::{AllocError, Allocator};
 
 /// Why a text has no value.
 #[derive(Clone, Copy, PartialEq, Eq, Debug)]
@@ -23,27 +25,20 @@ pub enum ValueFault {
 }
 
 /// The characters that the inside of a string token means: each ECHAR and UCHAR stands for one (Turtle 6.4).
-#[tactic(auto, using(crate::proofs::ValuesLemmas::string_value_plain))]
 pub fn string_value<A: Allocator>(alloc: A, inside: &str) -> Result<String<A>, ValueFault>
     ensures ok { IfOk result (λ s. string_value (chars inside.now) ≡ Some (chars (string_bytes s))) }
     ensures bad { (result ≡ Err ValueFault.BadEscape) ↔ (string_value (chars inside.now) ≡ None) }
 {
-    if !has_backslash(inside) {
-        return copied(alloc, inside);
-    }
     value(alloc, Inside::OfString, inside)
 }
 
 /// The characters that the inside of an IRIREF means: each UCHAR stands for one, and each is one of IRIREF (Turtle 6.4).
-#[tactic(auto, using(crate::proofs::ValuesLemmas::iri_value_plain, crate::proofs::ValuesLemmas::iri_value_characters))]
+#[tactic(auto, using(crate::proofs::ValuesLemmas::iri_value_characters))]
 pub fn iri_value<A: Allocator>(alloc: A, inside: &str) -> Result<String<A>, ValueFault>
     ensures ok { IfOk result (λ s. iri_value (chars inside.now) ≡ Some (chars (string_bytes s))) }
     ensures characters { IfOk result (λ s. all_have (has iri_char) (chars (string_bytes s)) ≡ true) }
     ensures bad { (result ≡ Err ValueFault.BadEscape) ↔ (iri_value (chars inside.now) ≡ None) }
 {
-    if iri_text(inside) {
-        return copied(alloc, inside);
-    }
     value(alloc, Inside::OfIri, inside)
 }
 
@@ -59,18 +54,16 @@ pub fn is_fit(kind: Kind, text: &str) -> bool
     }
 }
 
-#[tactic(auto, using(crate::proofs::ValuesLemmas::string_value_plain))]
 fn is_string_inside(inside: &str) -> bool
     ensures { result ≡ is_some (string_value (chars inside.now)) }
 {
-    !has_backslash(inside) || has_value(Inside::OfString, inside)
+    has_value(Inside::OfString, inside)
 }
 
-#[tactic(auto, using(crate::proofs::ValuesLemmas::iri_value_plain))]
 fn is_iri_inside(inside: &str) -> bool
     ensures { result ≡ is_some (iri_value (chars inside.now)) }
 {
-    iri_text(inside) || has_value(Inside::OfIri, inside)
+    has_value(Inside::OfIri, inside)
 }
 
 /// The text without its first and its last character, as a token without its delimiters.
@@ -92,12 +85,6 @@ pub fn without_first(text: &str) -> &str
     chars.as_str()
 }
 
-fn has_backslash(text: &str) -> bool
-    ensures { result ≡ not (all_have is_plain (chars text.now)) }
-{
-    text.contains('\\')
-}
-
 pub(crate) fn copied<A: Allocator>(alloc: A, text: &str) -> Result<String<A>, ValueFault>
     ensures ok { IfOk result (λ s. string_bytes s ≡ text.now) }
     ensures memory { OnErr result (result ≡ Err ValueFault.Memory) }
@@ -108,14 +95,29 @@ pub(crate) fn copied<A: Allocator>(alloc: A, text: &str) -> Result<String<A>, Va
     }
 }
 
-/// A bad escape is told also where memory is short: then alone the text is looked at twice.
+/// What the inside means.
+#[inline(always)]
 fn value<A: Allocator>(alloc: A, inside: Inside, text: &str) -> Result<String<A>, ValueFault>
     ensures ok { IfOk result (λ s. value (inside_of inside) outside (chars text.now) ≡ Some (chars (string_bytes s))) }
     ensures bad { (result ≡ Err ValueFault.BadEscape) ↔ (value (inside_of inside) outside (chars text.now) ≡ None) }
 {
     match built(alloc, inside, text) {
-        Err(ValueFault::Memory) if !has_value(inside, text) => Err(ValueFault::BadEscape),
-        result => result,
+        Ok(Some(value)) => Ok(value),
+        Ok(None) => Err(ValueFault::BadEscape),
+        Err(_) => Err(shortage(inside, text)),
+    }
+}
+
+/// A bad escape is told also where memory is short: then alone the text is looked at twice.
+#[cold]
+#[inline(never)]
+fn shortage(inside: Inside, text: &str) -> ValueFault
+    ensures { (result ≡ ValueFault.BadEscape) ↔ (value (inside_of inside) outside (chars text.now) ≡ None) }
+{
+    if has_value(inside, text) {
+        ValueFault::Memory
+    } else {
+        ValueFault::BadEscape
     }
 }
 
@@ -126,161 +128,199 @@ enum Inside {
     OfIri,
 }
 
-/// Where a character stands.
-#[derive(Clone, Copy)]
-enum Spot {
-    Outside,
-    /// Behind the backslash of an escape.
-    Slash,
-    /// At a hex digit of a UCHAR: how many follow it, and the number so far.
-    Digits(u8, u32),
-}
-
-/// What a character does where it stands.
-#[derive(Clone, Copy)]
-enum Move {
-    Leads(Spot),
-    /// It completes this character.
-    Means(char),
-    Fails,
-}
-
-impl Spot {
-    #[inline(always)]
-    fn after(self, inside: Inside, c: char) -> Move
-        requires { HasRoom self }
-        ensures is { move_of result ≡ move (inside_of inside) (spot_of self) c }
-        ensures sound { IsSound result }
-    {
-        match self {
-            Spot::Outside => plain(inside, c),
-            Spot::Slash => escape(inside, c),
-            Spot::Digits(left, number) => digit(inside, left, number, c),
-        }
-    }
-}
-
+/// What stands between the escapes as it is.
 #[inline(always)]
-fn plain(inside: Inside, c: char) -> Move
-    ensures is { move_of result ≡ move (inside_of inside) outside c }
-    ensures sound { IsSound result }
-{
-    match c {
-        '\\' => Move::Leads(Spot::Slash),
-        _ => allowed(inside, c),
-    }
-}
-
-#[inline(always)]
-fn allowed(inside: Inside, c: char) -> Move
-    ensures is { move_of result ≡ allowed (inside_of inside) c }
-    ensures sound { IsSound result }
+fn run_of(inside: Inside) -> Run
+    ensures { result ≡ run_of (inside_of inside) }
 {
     match inside {
-        Inside::OfString => Move::Means(c),
-        Inside::OfIri if is_iri_char(c) => Move::Means(c),
-        Inside::OfIri => Move::Fails,
-    }
-}
-
-fn escape(inside: Inside, c: char) -> Move
-    ensures is { move_of result ≡ move (inside_of inside) slash c }
-    ensures sound { IsSound result }
-{
-    match c {
-        'u' => Move::Leads(Spot::Digits(3, 0)),
-        'U' => Move::Leads(Spot::Digits(7, 0)),
-        _ => echar(inside, c),
-    }
-}
-
-/// ECHAR stands in strings alone.
-fn echar(inside: Inside, c: char) -> Move
-    ensures is { move_of result ≡ echar_move (inside_of inside) c }
-    ensures sound { IsSound result }
-{
-    match inside {
-        Inside::OfString => letter(c),
-        Inside::OfIri => Move::Fails,
-    }
-}
-
-fn letter(c: char) -> Move
-    ensures is { move_of result ≡ letter_move c }
-    ensures sound { IsSound result }
-{
-    match c {
-        't' => Move::Means('\t'),
-        'b' => Move::Means('\u{8}'),
-        'n' => Move::Means('\n'),
-        'r' => Move::Means('\r'),
-        'f' => Move::Means('\u{C}'),
-        '"' | '\'' | '\\' => Move::Means(c),
-        _ => Move::Fails,
-    }
-}
-
-fn digit(inside: Inside, left: u8, number: u32, c: char) -> Move
-    requires { (number + 1) * 16 ^ suc left ≤ 2 ^ 32 }
-    ensures is { move_of result ≡ move (inside_of inside) (digits (suc left) number) c }
-    ensures sound { IsSound result }
-{
-    match hex_value(c) {
-        Some(value) => with_digit(inside, left, 16 * number + u32::from(value)),
-        None => Move::Fails,
-    }
-}
-
-fn with_digit(inside: Inside, left: u8, number: u32) -> Move
-    requires { (number + 1) * 16 ^ left ≤ 2 ^ 32 }
-    ensures is { move_of result ≡ digit_move (inside_of inside) left number }
-    ensures sound { IsSound result }
-{
-    if left > 0 {
-        return Move::Leads(Spot::Digits(left - 1, number));
-    }
-    match char::from_u32(number) {
-        Some(c) => allowed(inside, c),
-        None => Move::Fails,
+        Inside::OfString => Run::Unescaped,
+        Inside::OfIri => Run::Iri,
     }
 }
 
 /// Whether the inside means a text, and no escape of it is bad.
+#[inline(always)]
 fn has_value(inside: Inside, text: &str) -> bool
     ensures { result ≡ is_some (value (inside_of inside) outside (chars text.now)) }
 {
-    let mut spot = Spot::Outside;
-    for c in text.chars() {
-        match spot.after(inside, c) {
-            Move::Leads(next) => spot = next,
-            Move::Means(_) => spot = Spot::Outside,
-            Move::Fails => return false,
+    let bytes = text.as_bytes();
+    let mut at = run_end(run_of(inside), bytes, 0);
+    while at < bytes.len() {
+        match escape(inside, bytes, at) {
+            Some((_, next)) => at = run_end(run_of(inside), bytes, next),
+            None => return false,
         }
     }
-    matches!(spot, Spot::Outside)
+    true
 }
 
-/// The characters that the inside means.
-fn built<A: Allocator>(alloc: A, inside: Inside, text: &str) -> Result<String<A>, ValueFault>
-    ensures ok { IfOk result (λ s. value (inside_of inside) outside (chars text.now) ≡ Some (chars (string_bytes s))) }
-    ensures bad { result ≡ Err ValueFault.BadEscape → value (inside_of inside) outside (chars text.now) ≡ None }
+/// The characters that the inside means, unless an escape of it is bad.
+#[inline(always)]
+fn built<A: Allocator>(
+    alloc: A,
+    inside: Inside,
+    text: &str,
+) -> Result<Option<String<A>>, AllocError>
+    ensures { IfOk result (λ s. value (inside_of inside) outside (chars text.now) ≡ option_map (λ t. chars (string_bytes t)) s) }
 {
-    let mut out = String::new(alloc);
-    let mut spot = Spot::Outside;
-    for c in text.chars() {
-        match spot.after(inside, c) {
-            Move::Leads(next) => spot = next,
-            Move::Means(meant) => {
-                spot = Spot::Outside;
-                if out.push(meant).is_err() {
-                    return Err(ValueFault::Memory);
-                }
+    let mut out = String::with_capacity(alloc, text.len())?;
+    let mut at = put_run(&mut out, inside, text, 0)?;
+    while at < text.len() {
+        match escape(inside, text.as_bytes(), at) {
+            Some((meant, next)) => {
+                out.push(meant)?;
+                at = put_run(&mut out, inside, text, next)?;
             }
-            Move::Fails => return Err(ValueFault::BadEscape),
+            None => return Ok(None),
         }
     }
-    match spot {
-        Spot::Outside => Ok(out),
-        _ => Err(ValueFault::BadEscape),
+    Ok(Some(out))
+}
+
+/// What stands at a place as it is, up to the next escape: the place of that.
+#[inline(always)]
+fn put_run<A: Allocator>(
+    out: &mut String<A>,
+    inside: Inside,
+    text: &str,
+    from: usize,
+) -> Result<usize, AllocError>
+    requires within { from ≤ length text.now }
+    requires utf8 { IsUtf8 (drop from text.now) }
+    ensures run { IfOk result (λ end. IsRun (goes_over (run_of (inside_of inside))) text.now from end) }
+    ensures put { IfOk result (λ end. string_bytes out.new ≡ string_bytes out.old ++ slice_range text.now from end) }
+{
+    let end = run_end(run_of(inside), text.as_bytes(), from);
+    out.push_str(&text[from..end])?;
+    Ok(end)
+}
+
+/// What the escape at a place means, and where it ends. No other character that ends a run may stand there.
+#[inline(always)]
+fn escape(inside: Inside, text: &[u8], at: usize) -> Option<(char, usize)>
+    requires within { at < length text.now }
+    requires utf8 { IsUtf8 (drop at text.now) }
+    requires stopped { goes_over (run_of (inside_of inside)) (get_or text.now at 0) ≡ false }
+    ensures read { Reads (inside_of inside) (leads outside) text.now at result }
+    ensures on { IfSome result (λ x. at < x.1) }
+{
+    if text[at] != b'\\' {
+        return None;
+    }
+    escape_behind(inside, text, at + 1)
+}
+
+/// The same behind its backslash.
+#[inline(always)]
+fn escape_behind(inside: Inside, text: &[u8], at: usize) -> Option<(char, usize)>
+    requires within { at ≤ length text.now }
+    requires utf8 { IsUtf8 (drop at text.now) }
+    ensures { Reads (inside_of inside) (leads slash) text.now at result }
+{
+    if at == text.len() {
+        return None;
+    }
+    match text[at] {
+        b'u' => number(inside, text, at + 1, 4),
+        b'U' => number(inside, text, at + 1, 8),
+        byte => match letter(inside, byte) {
+            Some(c) => Some((c, at + 1)),
+            None => None,
+        },
+    }
+}
+
+/// ECHAR stands in strings alone.
+#[inline(always)]
+fn letter(inside: Inside, byte: u8) -> Option<char>
+    ensures is { completes result ≡ echar_move (inside_of inside) byte }
+    ensures character { IfSome result (λ c. scalar c ≡ true) }
+{
+    match inside {
+        Inside::OfString => string_letter(byte),
+        Inside::OfIri => None,
+    }
+}
+
+#[inline(always)]
+fn string_letter(byte: u8) -> Option<char>
+    ensures is { completes result ≡ letter_move byte }
+    ensures character { IfSome result (λ c. scalar c ≡ true) }
+{
+    match byte {
+        b't' => Some('\t'),
+        b'b' => Some('\u{8}'),
+        b'n' => Some('\n'),
+        b'r' => Some('\r'),
+        b'f' => Some('\u{C}'),
+        b'"' => Some('"'),
+        b'\'' => Some('\''),
+        b'\\' => Some('\\'),
+        _ => None,
+    }
+}
+
+/// The character whose number so many hex digits write, and where they end.
+#[inline(always)]
+fn number(inside: Inside, text: &[u8], from: usize, count: usize) -> Option<(char, usize)>
+    requires within { from ≤ length text.now }
+    requires utf8 { IsUtf8 (drop from text.now) }
+    requires room { 16 ^ count ≤ 2 ^ 32 }
+    ensures { Reads (inside_of inside) (digit_move (inside_of inside) count 0) text.now from result }
+{
+    let mut at = from;
+    let mut left = count;
+    let mut number = 0;
+    while left > 0 {
+        let Some(value) = digit_at(text, at) else {
+            return None;
+        };
+        number = 16 * number + value;
+        at += 1;
+        left -= 1;
+    }
+    match numbered(inside, number) {
+        Some(c) => Some((c, at)),
+        None => None,
+    }
+}
+
+/// The value of the hex digit at a place, where there is one.
+#[inline(always)]
+fn digit_at(text: &[u8], at: usize) -> Option<u32>
+    requires { at ≤ length text.now }
+    ensures value { SomeIff result ((at < length text.now) × (has hex_digit (get_or text.now at 0) ≡ true)) (hex_value (get_or text.now at 0)) }
+    ensures small { IfSome result (λ v. v < 16) }
+{
+    if at == text.len() {
+        return None;
+    }
+    match hex_value(text[at] as char) {
+        Some(value) => Some(u32::from(value)),
+        None => None,
+    }
+}
+
+/// The character of a number, where there is one that may be meant.
+#[inline(always)]
+fn numbered(inside: Inside, number: u32) -> Option<char>
+    ensures is { completes result ≡ digit_move (inside_of inside) 0 number }
+    ensures character { IfSome result (λ c. scalar c ≡ true) }
+{
+    match char::from_u32(number) {
+        Some(c) if may_mean(inside, c) => Some(c),
+        _ => None,
+    }
+}
+
+/// Whether a character may be meant: an IRI has IRI characters alone.
+#[inline(always)]
+fn may_mean(inside: Inside, c: char) -> bool
+    ensures { cond result (means c) fails ≡ allowed (inside_of inside) c }
+{
+    match inside {
+        Inside::OfString => true,
+        Inside::OfIri => is_iri_char(c),
     }
 }

@@ -1,50 +1,49 @@
--- The loop over the inside of a token: what was built, and the value of what is left, are the value of the text.
-use Rattle.std.proofs.Common.{sym, ap, subst, ◌∙◌}
+-- The way from escape to escape: what was built, and the value of what is left, are the value of the text.
+use Rattle.std.proofs.Common.{ap, subst, ◌∙◌, arith}
 use Rattle.std.specs.String.{string_bytes}
-use Rattle.std.specs.Str.{IsUtf8}
-use Rattle.std.specs.Str.Iter.{chars_rest}
 use Rattle.std.proofs.lemmas.Str.{IsUtf8-string_bytes}
-use Rattle.std.proofs.lemmas.Bool.{cond-true}
-use Rattle.rdf_terms.specs.Escapes.{inside_of, spot_of}
-use Rattle.rdf_terms.proofs.CharsLemmas.{next_char, no_chars}
-use Rattle.rdf_terms.proofs.EscapesLemmas.{not_outside, behind, built_none, built_leads, built_means, built_fails, built_all}
+use Rattle.rdf_terms.specs.Values.{leads, outside}
+use Rattle.rdf_terms.specs.Escapes.{inside_of, IsRead}
+use Rattle.rdf_terms.proofs.EscapesLemmas.{behind, behind-push, behind-run, behind-first, behind-end, run_read}
 use Rattle.rdf_terms.proofs.values.built.Goals as goal
 
-pub loop-c-init : goal.loop-c-init
-loop-c-init g c =
-    let rest = ap chars_rest c.into_iter-c-iterator.ensures.into_iter_gives ∙ c.chars-c-items.ensures.rest in
+pub loop-at-init : goal.loop-at-init
+loop-at-init g c =
+    let i = inside_of c.args.inside in
+    let text = c.args.text.now in
+    let run = c.in_ok-at.ensures.run in
+    let r = run_read i text 0 c.in_ok-at.at c.utf8.text c.utf8.text run in
     record {
-      utf8 = subst IsUtf8 (sym rest) c.utf8.text;
-      room = tt;
-      same = built_none (inside_of c.args.inside) _ _ _ rest c.new-out.ensures.bytes;
+      within = run.within;
+      utf8 = r.utf8;
+      stopped = run.stops;
+      same = behind-first i text (string_bytes c.in_ok-out.out) c.in_ok-out.ensures.bytes
+          ∙ behind-run i (string_bytes c.in_ok-out.out) _ text 0 c.in_ok-at.at (IsUtf8-string_bytes c.in_ok-out.out) c.in_ok-at.ensures.put r;
     }
 
-pub loop-c-preserved-in-Leads : goal.loop-c-preserved-in-Leads
-loop-c-preserved-in-Leads g c = record {
-  utf8 = (next_char _ _ _ c.loop-c.invariant.utf8 c.in-Some.ensures.steps.0).utf8;
-  room = c.in-Leads.ensures.sound;
-  same = built_leads (inside_of c.args.inside) (spot_of c.loop-c.spot) _ _ _ _ c.in-Some.c c.loop-c.invariant.same c.loop-c.invariant.utf8 c.in-Some.ensures.steps.0 _ c.in-Leads.ensures.is;
-}
+pub loop-at-preserved : goal.loop-at-preserved
+loop-at-preserved g c =
+    let i = inside_of c.args.inside in
+    let text = c.args.text.now in
+    let l = c.loop-at in
+    let out = string_bytes l.out in
+    let grown = string_bytes c.push.new.self in
+    let next = c.in-Some.next in
+    let end = c.in_ok-at-in-Some.at in
+    let read = subst (λ w. IsRead i (leads outside) w l.at c.in-Some.meant next) c.as_bytes.ensures.value c.in-Some.ensures.read in
+    let run = c.in_ok-at-in-Some.ensures.run in
+    let r = run_read i text next end c.utf8.text read.utf8 run in
+    record {
+      within = run.within;
+      utf8 = r.utf8;
+      stopped = run.stops;
+      same = l.invariant.same
+          ∙ (ap (behind out) read.value
+          ∙ (behind-push out grown c.in-Some.meant _ (IsUtf8-string_bytes l.out) read.character c.in_ok-push-in-Some.ensures.bytes
+          ∙ behind-run i grown _ text next end (IsUtf8-string_bytes c.push.new.self) c.in_ok-at-in-Some.ensures.put r));
+    }
 
-pub loop-c-preserved : goal.loop-c-preserved
-loop-c-preserved g c = record {
-  utf8 = (next_char _ _ _ c.loop-c.invariant.utf8 c.in-Some.ensures.steps.0).utf8;
-  room = tt;
-  same = built_means (inside_of c.args.inside) (spot_of c.loop-c.spot) _ _ _ _ c.in-Some.c c.loop-c.invariant.same c.loop-c.invariant.utf8 c.in-Some.ensures.steps.0 _ _ c.in-Means.ensures.is (IsUtf8-string_bytes c.loop-c.out) c.in-Means.ensures.sound (c.push.ensures.bytes ∙ cond-true _ _ _ c.if-is_err.ensures.negation);
-}
-
-pub returns-in-Fails-clause-bad : goal.returns-in-Fails-clause-bad
-returns-in-Fails-clause-bad g c e =
-    built_fails (inside_of c.args.inside) (spot_of c.loop-c.spot) _ _ _ _ c.in-Some.c c.loop-c.invariant.same c.loop-c.invariant.utf8 c.in-Some.ensures.steps.0 c.in-Fails.ensures.is
-
-pub returns-in-Outside-clause-ok : goal.returns-in-Outside-clause-ok
-returns-in-Outside-clause-ok g c =
-    c.loop-c.invariant.same
-    ∙ built_all (inside_of c.args.inside) c.loop-c.spot (string_bytes c.loop-c.out) _ c.in-Outside.is (no_chars _ c.in-None.ensures.steps.0.0)
-
-pub returns-in_default : goal.returns-in_default
-returns-in_default g c = record {
-  ok = tt;
-  bad = λ e. c.loop-c.invariant.same
-      ∙ ap (behind (string_bytes c.loop-c.out)) (not_outside (inside_of c.args.inside) c.loop-c.spot _ c.in_default.not-Outside (no_chars _ c.in-None.ensures.steps.0.0));
-}
+pub returns : goal.returns
+returns g c =
+    let l = c.loop-at in
+    l.invariant.same ∙ behind-end (inside_of c.args.inside) (string_bytes l.out) c.args.text.now l.at (omega (arith, c.loop-at-test.false))

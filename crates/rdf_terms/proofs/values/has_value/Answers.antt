@@ -1,42 +1,41 @@
--- The loop over the inside of a token: the text has a value exactly where what is left has one.
-use Rattle.std.proofs.Common.{is_some, refl, sym, ap, ◌∙◌}
-use Rattle.rdf_terms.specs.Values.{leads, means, fails}
-use Rattle.rdf_terms.specs.Escapes.{inside_of, spot_of}
-use Rattle.rdf_terms.proofs.CharsLemmas.{next_char, no_chars}
-use Rattle.rdf_terms.proofs.EscapesLemmas.{value-next, is_some-map, not_outside}
+-- The way from escape to escape: the text has a value exactly where what is left has one.
+use Rattle.std.proofs.Common.{is_some, sym, ap, ◌∙◌, subst, arith}
+use Rattle.std.specs.Str.{chars}
+use Rattle.rdf_terms.specs.Runs.{IsRun, goes_over}
+use Rattle.rdf_terms.specs.Values.{value, outside}
+use Rattle.rdf_terms.specs.Escapes.{inside_of}
+use Rattle.rdf_terms.proofs.EscapesLemmas.{run_read, run_is_some, read_is_some, value_end}
 use Rattle.rdf_terms.proofs.values.has_value.Goals as goal
 
-pub loop-c-preserved-in-Leads : goal.loop-c-preserved-in-Leads
-loop-c-preserved-in-Leads c =
-    let step = c.in-Some.ensures.steps.0 in
+pub loop-at-init : goal.loop-at-init
+loop-at-init c =
+    let i = inside_of c.args.inside in
+    let bs = c.as_bytes-bytes.result.now in
+    let run = subst (λ x. IsRun (goes_over x) bs 0 c.run_end-at.result) c.run_of.ensures c.run_end-at.ensures in
+    let r = run_read i bs 0 c.run_end-at.result c.as_bytes-bytes.ensures.utf8 c.as_bytes-bytes.ensures.utf8 run in
     record {
-      utf8 = (next_char _ _ _ c.loop-c.invariant.utf8 step).utf8;
-      room = c.in-Leads.ensures.sound;
-      same = c.loop-c.invariant.same
-          ∙ ap is_some (value-next (inside_of c.args.inside) (spot_of c.loop-c.spot) _ _ c.in-Some.c (leads (spot_of c.in-Leads.next)) c.loop-c.invariant.utf8 step c.in-Leads.ensures.is);
+      within = run.within;
+      utf8 = r.utf8;
+      stopped = run.stops;
+      same = ap (λ w. is_some (value i outside (chars w))) (sym c.as_bytes-bytes.ensures.value) ∙ run_is_some i bs 0 c.run_end-at.result r;
     }
 
-pub loop-c-preserved : goal.loop-c-preserved
-loop-c-preserved c =
-    let step = c.in-Some.ensures.steps.0 in
+pub loop-at-preserved : goal.loop-at-preserved
+loop-at-preserved c =
+    let i = inside_of c.args.inside in
+    let bs = c.as_bytes-bytes.result.now in
+    let end = c.run_end-at-in-Some.result in
+    let run = subst (λ x. IsRun (goes_over x) bs c.in-Some.next end) c.run_of-in-Some.ensures c.run_end-at-in-Some.ensures in
+    let read = c.in-Some.ensures.read in
+    let r = run_read i bs c.in-Some.next end c.as_bytes-bytes.ensures.utf8 read.utf8 run in
     record {
-      utf8 = (next_char _ _ _ c.loop-c.invariant.utf8 step).utf8;
-      room = tt;
-      same = c.loop-c.invariant.same
-          ∙ ap is_some (value-next (inside_of c.args.inside) (spot_of c.loop-c.spot) _ _ c.in-Some.c (means c.in-Means.field-0) c.loop-c.invariant.utf8 step c.in-Means.ensures.is)
-          ∙ is_some-map _ _;
+      within = run.within;
+      utf8 = r.utf8;
+      stopped = run.stops;
+      same = c.loop-at.invariant.same ∙ (read_is_some i bs c.loop-at.at _ c.in-Some.next read ∙ run_is_some i bs c.in-Some.next end r);
     }
 
-pub returns-in-Fails : goal.returns-in-Fails
-returns-in-Fails c =
-    sym (c.loop-c.invariant.same
-    ∙ ap is_some (value-next (inside_of c.args.inside) (spot_of c.loop-c.spot) _ _ c.in-Some.c fails c.loop-c.invariant.utf8 c.in-Some.ensures.steps.0 c.in-Fails.ensures.is))
-
-pub returns-in-Outside : goal.returns-in-Outside
-returns-in-Outside c =
-    sym (c.loop-c.invariant.same ∙ rw (c.in-Outside.is, no_chars _ c.in-None.ensures.steps.0.0) refl)
-
-pub returns-in_default : goal.returns-in_default
-returns-in_default c =
-    sym (c.loop-c.invariant.same
-    ∙ ap is_some (not_outside (inside_of c.args.inside) c.loop-c.spot _ c.in_default.not-Outside (no_chars _ c.in-None.ensures.steps.0.0)))
+pub returns : goal.returns
+returns c =
+    let l = c.loop-at in
+    sym (l.invariant.same ∙ ap is_some (value_end (inside_of c.args.inside) c.as_bytes-bytes.result.now l.at (omega (arith, c.loop-at-test.false))))

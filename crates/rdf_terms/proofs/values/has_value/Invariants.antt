@@ -1,13 +1,17 @@
-use Rattle.std.proofs.Common.{◌≡◌, is_some}
+use Rattle.std.proofs.Common.{◌≡◌, ◌-◌, ◌<◌, ◌≤◌, false, is_some, length, drop, get_or}
 use Rattle.std.specs.Str.{chars, IsUtf8}
-use Rattle.std.specs.Str.Iter.{chars_rest}
+use Rattle.rdf_terms.specs.Runs.{goes_over}
 use Rattle.rdf_terms.specs.Values.{value, outside}
-use Rattle.rdf_terms.specs.Escapes.{inside_of, spot_of, HasRoom}
+use Rattle.rdf_terms.specs.Escapes.{inside_of, run_of}
 use Rattle.rdf_terms.proofs.values.has_value.Given as goal
 
-abbrev pub invariant-loop-c : goal.invariant-loop-c
-invariant-loop-c l = record {
-  utf8 : IsUtf8 (chars_rest l.c-iterator);
-  room : HasRoom l.spot;
-  same : is_some (value (inside_of l.inside) outside (chars l.text)) ≡ is_some (value (inside_of l.inside) (spot_of l.spot) (chars (chars_rest l.c-iterator)));
+abbrev pub invariant-loop-at : goal.invariant-loop-at
+invariant-loop-at l = record {
+  within : l.at ≤ length l.bytes;
+  utf8 : IsUtf8 (drop l.at l.bytes);
+  stopped : l.at < length l.bytes → goes_over (run_of (inside_of l.inside)) (get_or l.bytes l.at 0) ≡ false;
+  same : is_some (value (inside_of l.inside) outside (chars l.text)) ≡ is_some (value (inside_of l.inside) outside (chars (drop l.at l.bytes)));
 }
+
+abbrev pub decreases-loop-at : goal.decreases-loop-at
+decreases-loop-at l = length l.bytes - l.at

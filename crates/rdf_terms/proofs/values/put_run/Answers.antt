@@ -1,0 +1,17 @@
+-- The text may be cut where a run begins and where it ends.
+use Rattle.std.proofs.Common.{subst}
+use Rattle.std.proofs.lemmas.Str.{IsCharBoundary-from_drop}
+use Rattle.rdf_terms.specs.Runs.{IsRun, goes_over}
+use Rattle.rdf_terms.specs.Escapes.{inside_of, run_of}
+use Rattle.rdf_terms.proofs.EscapesLemmas.{run_cut}
+use Rattle.rdf_terms.proofs.values.put_run.Goals as goal
+
+pub range-requires-clause-start_boundary : goal.range-requires-clause-start_boundary
+range-requires-clause-start_boundary g c p = IsCharBoundary-from_drop c.args.text.now c.args.from c.requires.within c.requires.utf8
+
+pub range-requires-clause-end_boundary : goal.range-requires-clause-end_boundary
+range-requires-clause-end_boundary g c =
+    let end = c.run_end-end.result in
+    let run = subst (λ x. IsRun (goes_over x) c.as_bytes.result.now c.args.from end) c.run_of.ensures c.run_end-end.ensures in
+    run_cut (inside_of c.args.inside) c.args.text.now c.args.from end
+    (subst (λ w. IsRun (goes_over (run_of (inside_of c.args.inside))) w c.args.from end) c.as_bytes.ensures.value run)
