@@ -49,7 +49,7 @@ both_writable s [] rs p q = q
 both_writable s (x ∷ qs) rs p q = (p.0, both_writable s qs rs p.1 q)
 
 -- what is written in ASCII is so
-written_ascii : (f : Form) (qs : List Quad) → IsNodePrefix f.prefix → Writable f.style qs → IsAscii f qs
+pub written_ascii : (f : Form) (qs : List Quad) → IsNodePrefix f.prefix → Writable f.style qs → IsAscii f qs
 written_ascii f qs p w is labels =
     subst (λ (e : Escapes). AllByRecursion (λ b. b < 128) (encode_utf8_all (text_in (record { style = f.style; escapes = e; prefix = f.prefix }) qs))) (sym is) (form_ascii f.style f.prefix qs p w labels)
 
@@ -57,6 +57,11 @@ written_ascii f qs p w is labels =
 first_ones : (P : Quad → Type 0) (qs rs : List Quad) → AllByRecursion P (qs ++ rs) → AllByRecursion P qs
 first_ones P [] rs h = tt
 first_ones P (q ∷ qs) rs h = (h.0, first_ones P qs rs h.1)
+
+-- the first of some quads that can be written can
+first_able : (s : Style) (qs rs : List Quad) → Writable s (qs ++ rs) → Writable s qs
+first_able s [] rs h = tt
+first_able s (q ∷ qs) rs h = (h.0, first_able s qs rs h.1)
 
 -- what holds of all quads holds of the last ones
 last_ones : (P : Quad → Type 0) (qs rs : List Quad) → AllByRecursion P (qs ++ rs) → AllByRecursion P rs
@@ -117,6 +122,22 @@ module _ {G X D A : Type 0} (contents : D → Option (List ℕ)) (failed : D →
   abbrev job : Conversion
   job = conversion w x reader.scanner.limit (form_of first.form)
 
+  -- the word of the form is one
+  is_word : IsNodePrefix (form_of first.form).prefix
+  is_word = IsNodePrefix-had (form_of first.form).prefix first.form.prefix.is_prefix
+
+  -- with more quads that can be written, what was put can
+  all_able : (qs : List Quad) → Writable lines.form.style qs → Writable first.form.style (o.quads ++ qs)
+  all_able qs able = both_writable first.form.style o.quads qs o.writable (subst (λ (y : WrittenForm). Writable y.style qs) o.same.form able)
+
+  -- their lines are ASCII where they are to be
+  all_ascii : (qs : List Quad) → Writable lines.form.style qs → IsAscii (form_of first.form) (o.quads ++ qs)
+  all_ascii qs able = written_ascii (form_of first.form) (o.quads ++ qs) is_word (all_able qs able)
+
+  -- so are those that were put
+  these_ascii : IsAscii (form_of first.form) o.quads
+  these_ascii = written_ascii (form_of first.form) o.quads is_word o.writable
+
   -- what the drain took after the bytes that it had
   abbrev Behind : LineOut D A → List Quad → List ℕ → Type 0
   Behind after qs rest = Moves (contents lines.drain.now) (contents after.drain.now) (lines.buffer.now.items ++ bytes_of lines.form qs) rest
@@ -129,12 +150,13 @@ module _ {G X D A : Type 0} (contents : D → Option (List ℕ)) (failed : D →
       (moves_on (contents first.drain.now) (contents lines.drain.now) (contents after.drain.now) (lines_of (form_of first.form) o.quads) (bytes_of first.form qs) lines.buffer.now.items rest o.moves styled)
 
   -- a beginning of the lines was written
-  written_front : (after : LineOut D A) (ts : List Token) (qs : List Quad) (rest : List ℕ) → Behind after qs rest → Begun l ts (o.quads ++ qs) →
+  written_front : (after : LineOut D A) (ts : List Token) (qs : List Quad) (rest : List ℕ) → Writable lines.form.style qs → Behind after qs rest → Begun l ts (o.quads ++ qs) →
       WritesFront job ts (contents first.drain.now) (contents after.drain.now)
-  written_front after ts qs rest m d = record {
+  written_front after ts qs rest able m d = record {
     quads = o.quads ++ qs;
     due = d;
     written = moves_front (contents first.drain.now) (contents after.drain.now) (lines_of (form_of first.form) (o.quads ++ qs)) rest (from_first after qs rest m);
+    ascii = all_ascii qs able;
   }
 
   -- all that waited was taken then
@@ -173,6 +195,10 @@ module _ {G X D A : Type 0} (contents : D → Option (List ℕ)) (failed : D →
     pub tries : Tried contents failed lines more mid
     pub due : Begun l ts (o.quads ++ more)
 
+  -- they can all be written
+  left_able : (ts : List Token) (mid : LineOut D A) (h : LeftOff ts mid) → Writable lines.form.style h.more
+  left_able ts mid h = h.tries.writable (styled h.due.ahead h.more h.due.rest h.due.due)
+
   leaves_off : (readings : List ℕ → Reading) (mid : LineOut D A) → LeavesOff w (Takes contents failed) (Leaves contents failed) reader lines readings mid → LeftOff (readings bytes).tokens mid
   leaves_off readings mid h =
       let d = h.due x bytes o.quads o.read in record { more = h.more; tries = tried contents failed h.more lines mid h.puts; due = d }
@@ -183,13 +209,13 @@ module _ {G X D A : Type 0} (contents : D → Option (List ℕ)) (failed : D →
     where
       by : (b : Bool) → failed mid.drain.now ≡ b → WritesFront job ts (contents first.drain.now) (contents after.drain.now)
       by true e =
-          written_front after ts h.more h.tries.rest
+          written_front after ts h.more h.tries.rest (left_able ts mid h)
           (subst (λ k. Moves (contents lines.drain.now) k (lines.buffer.now.items ++ bytes_of lines.form h.more) h.tries.rest) (sym (t.before_it e)) h.tries.moves) h.due
       by false e =
           let (done, later, split, writes) = h.tries.whole e in
           let (rest, moves) = t.while_taking e in
           let m = more_front after done later rest (then_front mid after done rest writes moves) in
-          written_front after ts h.more (rest ++ bytes_of lines.form later) (subst (λ qs. Behind after qs (rest ++ bytes_of lines.form later)) (sym split) m) h.due
+          written_front after ts h.more (rest ++ bytes_of lines.form later) (left_able ts mid h) (subst (λ qs. Behind after qs (rest ++ bytes_of lines.form later)) (sym split) m) h.due
 
   -- the drain has all whole lines
   tells_some : (ts : List Token) (mid after : LineOut D A) → LeftOff ts mid → TellsFault contents failed mid after → WritesSome job ts (contents first.drain.now) (contents after.drain.now)
@@ -199,6 +225,7 @@ module _ {G X D A : Type 0} (contents : D → Option (List ℕ)) (failed : D →
         quads = o.quads ++ done;
         due = begins_less l ts (o.quads ++ done) later (subst (Begun l ts) (ap (λ qs. o.quads ++ qs) split ∙ sym (append_assoc o.quads done later)) h.due);
         written = written_all mid after done writes t.taken;
+        ascii = all_ascii done (first_able lines.form.style done later (subst (Writable lines.form.style) split (left_able ts mid h)));
       }
 
   -- what was refused
@@ -225,7 +252,12 @@ module _ {G X D A : Type 0} (contents : D → Option (List ℕ)) (failed : D →
   tells_due : (why : Reason) (at : Place) (reading : Reading) (mid after : LineOut D A) → RefusedAt why at reading mid → TellsFault contents failed mid after →
       (ahead : List Token) × RefusedIn l reading why at ahead × WritesDue job ahead (contents first.drain.now) (contents after.drain.now)
   tells_due why at reading mid after r t =
-      (r.refused.0, r.refused.1, record { quads = o.quads ++ r.more; due = r.refused.2; written = written_all mid after r.more r.taken.writes t.taken })
+      let writes : WritesDue job r.refused.0 (contents first.drain.now) (contents after.drain.now) = record {
+        quads = o.quads ++ r.more;
+        due = r.refused.2;
+        written = written_all mid after r.more r.taken.writes t.taken;
+        ascii = all_ascii r.more r.taken.writable;
+      } in (r.refused.0, r.refused.1, writes)
 
   -- ---- what is reported of an error
 
@@ -371,11 +403,14 @@ module _ {G X D A : Type 0} (contents : D → Option (List ℕ)) (failed : D →
         ts : List Token
         ts = (reading_of l (bytes ++ text) false).tokens
 
+        able : Writable lines.form.style p.given
+        able = subst (λ y. Writable y p.given) (sym (ap (λ (f : WrittenForm). f.style) o.same.form ∙ same_style)) p.writable
+
         by : (told : StreamFault) → PutHalts contents failed told lines text after →
             HaltsFor told job (bytes ++ text) false (contents first.drain.now) (contents after.drain.now) (failed after.drain.now)
         by stream.Write h = (
           h.0,
-          written_front after ts p.given h.1
+          written_front after ts p.given h.1 able
               (subst (λ b. Moves (contents lines.drain.now) (contents after.drain.now) (lines.buffer.now.items ++ b) h.1) their_lines h.2)
               (begun' text reader' p.limit p.given passed'),
         )
@@ -385,6 +420,7 @@ module _ {G X D A : Type 0} (contents : D → Option (List ℕ)) (failed : D →
             quads = o.quads;
             due = begins_less l ts o.quads p.given (begun' text reader' p.limit p.given passed');
             written = moves_all (contents first.drain.now) (contents lines.drain.now) (contents after.drain.now) (lines_of (form_of first.form) o.quads) lines.buffer.now.items o.moves h.1;
+            ascii = these_ascii;
           },
         )
         by told h = absurd h
@@ -421,6 +457,7 @@ module _ {G X D A : Type 0} (contents : D → Option (List ℕ)) (failed : D →
             due = begins_all l now o.quads (suits.lawful.kept reader.grammar x now o.quads o.read.reached) (suits.lawful.due reader.grammar x now o.quads o.read.reached);
             written = moves_front (contents first.drain.now) (contents after.drain.now) (lines_of (form_of first.form) o.quads) rest
                 (subst (λ b. Moves (contents first.drain.now) (contents after.drain.now) b rest) (append-nil (lines_of (form_of first.form) o.quads)) all);
+            ascii = these_ascii;
           },
         );
       }
@@ -436,11 +473,7 @@ module _ {G X D A : Type 0} (contents : D → Option (List ℕ)) (failed : D →
     all_put = taken contents failed f.more lines mid f.puts (styled_all (reading_of l bytes true).tokens f.more sums.due)
 
     all_writable : Writable first.form.style (o.quads ++ f.more)
-    all_writable = both_writable first.form.style o.quads f.more o.writable (subst (λ (y : WrittenForm). Writable y.style f.more) o.same.form all_put.writable)
-
-    -- the word of the form is one
-    is_word : IsNodePrefix (form_of first.form).prefix
-    is_word = IsNodePrefix-had (form_of first.form).prefix first.form.prefix.is_prefix
+    all_writable = all_able f.more all_put.writable
 
     -- the document was read and written
     pub end_read : (after : LineOut D A) → SameOut mid after → Appends (contents mid.drain.now) (contents after.drain.now) mid.buffer.now.items →
@@ -453,7 +486,7 @@ module _ {G X D A : Type 0} (contents : D → Option (List ℕ)) (failed : D →
         within = sums.whole;
         written = written_all mid after f.more all_put.writes t;
         reads_back = λ limit h. form_reads_back (form_of first.form) (o.quads ++ f.more) limit is_word all_writable h;
-        ascii = written_ascii (form_of first.form) (o.quads ++ f.more) is_word all_writable;
+        ascii = all_ascii f.more all_put.writable;
         counts = record { quads = sums.given; tokens = sums.accepted; bytes = sums.taken };
       },
     )
@@ -465,7 +498,7 @@ module _ {G X D A : Type 0} (contents : D → Option (List ℕ)) (failed : D →
         let (rest, m) = front_moves (contents mid.drain.now) (contents after.drain.now) mid.buffer.now.items t in
         record {
           same = same_out first mid after (same_out first lines mid o.same all_put.same) s;
-          halts = (broke, written_front after (reading_of l bytes true).tokens f.more rest (then_front mid after f.more rest all_put.writes m) all_begun);
+          halts = (broke, written_front after (reading_of l bytes true).tokens f.more rest all_put.writable (then_front mid after f.more rest all_put.writes m) all_begun);
         }
 
 -- a text without bytes has no characters
