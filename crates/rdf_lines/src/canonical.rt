@@ -41,8 +41,7 @@ struct IriPart<'a> {
 }
 
 /// Passes lines at the front of the text that stand as they are written, where the reader stands between two lines, and answers how many
-/// bytes they have. What is written for their quads with the labels kept are these bytes. It passes none where it can't tell: of lines
-/// with a label of other characters than ASCII letters, digits, `_` and `-`, and with limits below 64.
+/// bytes they have. What is written for their quads with the labels kept are these bytes. With limits below 64 it passes none.
 pub fn pass_lines<A: Allocator + Copy>(reader: &mut Reader<LineGrammar<A>, A>, text: &str) -> usize
     ensures within { result ≤ length text.now }
     ensures passes { PassesLines reader.old (take result text.now) reader.new }
@@ -89,8 +88,7 @@ pub fn canonical_front(text: &str, rules: Rules, token: u64) -> Front
     }
 }
 
-// The line that the text begins with, if it is one that would be written so. It may answer none although there is one: where a label
-// has other characters than ASCII letters, digits, `_` and `-`.
+// The line that the text begins with, if it is one that would be written so.
 fn canonical_line(text: &str, rules: Rules, token: u64) -> Option<Part<'_>>
     requires token { 64 ≤ token }
     requires iri { 64 ≤ rules.iri }
@@ -201,11 +199,11 @@ fn iri(text: &str, limit: u64) -> Option<IriPart<'_>>
     Some(IriPart { iri, rest })
 }
 
-// A label, whose `_:` came before.
+// A label, whose `_:` came before. Each of its characters may stand in an IRI, and a space may not.
 fn label(text: &str) -> Option<&str>
     ensures { IfSome result (λ rest. LabelStands text.now rest.now) }
 {
-    let end = run_end(Run::Name, text.as_bytes(), 0);
+    let end = run_end(Run::Iri, text.as_bytes(), 0);
     after_byte_at(text, end, b' ')?;
     if !is_label(&text[..end]) {
         return None;
