@@ -43,5 +43,6 @@ pub mod LawExamples
 pub mod LimitLemmas
 mod RestLemmas
 mod RestStates
+mod RestEscapes
 mod FlatLemmas
 mod QuickLemmas

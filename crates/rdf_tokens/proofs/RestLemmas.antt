@@ -10,20 +10,11 @@ use Rattle.rdf_terms.specs.Runs.{IsRun}
 use Rattle.rdf_terms.specs.declared.kind.Dialect.{Dialect}
 use Rattle.rdf_terms.specs.declared.kind.Kind.{Kind}
 use Rattle.rdf_tokens.specs.declared.states.machine.State.{State}
-use Rattle.rdf_tokens.specs.Front.{Reached, Rests}
+use Rattle.rdf_tokens.specs.Front.{Reached, Rests, Stays, kind_here}
 use Rattle.rdf_tokens.specs.Machine.{step, kind_at}
 use Rattle.rdf_tokens.specs.Tokens.{with_length, three_quotes, only_long}
 use Rattle.rdf_tokens.proofs.BlankLemmas.{high-encode}
 use Rattle.rdf_tokens.proofs.StateLemmas.{reached-step}
-
--- a run of no bytes leaves a state as it is
-pub rests-none : (s : State) (bs : List ℕ) (at : ℕ) → at ≤ length bs → Rests s bs at at
-rests-none s bs at l = record {
-  from = omega arith;
-  within = l;
-  stays = λ d k c from to e. absurd (omega arith);
-  whole = λ k from to high inside. absurd (omega arith);
-}
 
 -- an ASCII character is its own byte
 low_byte : (c : ℕ) → c < 128 → get_or (encode_utf8 c) 0 0 ≡ c
@@ -34,8 +25,8 @@ module _ (s : State) (p : ℕ → Bool) (bs : List ℕ) (at end : ℕ) (r : IsRu
     (low : (d : Dialect) (c : ℕ) → c < 128 → p c ≡ true → step d s c ≡ s)
     (high : (d : Dialect) (c b : ℕ) → 128 ≤ c → 128 ≤ b → p b ≡ true → step d s c ≡ s)
     (ends : (b x : ℕ) → 128 ≤ b → p b ≡ true → p x ≡ false → x < 128) where
-  pub rests_run : Rests s bs at end
-  rests_run = record {
+  stays_run : Stays s bs at end
+  stays_run = record {
     from = r.from;
     within = r.within;
     stays = λ d k c from to e. ⊎_elim
@@ -66,7 +57,7 @@ with_length-again m n (Some x) b = refl
 
 -- The states over such a run.
 module _ (d : Dialect) (bs : List ℕ) (at end : ℕ) (s : State) (k : Option Kind) (b : Option (ℕ × Kind))
-    (ek : k ≡ only_long (three_quotes d (chars bs)) (kind_at s)) (h : Rests s bs at end) where
+    (ek : k ≡ only_long (three_quotes d (chars bs)) (kind_at s)) (h : Stays s bs at end) where
   abbrev Here : ℕ → Type 0
   Here x = Reached d bs x s (with_length x k b)
 
@@ -109,5 +100,32 @@ module _ (d : Dialect) (bs : List ℕ) (at end : ℕ) (s : State) (k : Option Ki
       (λ l. subst Here (let e : x ≡ end = omega arith in e) r)
       (cases_lt x end)
 
-  pub reached-run : Here at → Here end
-  reached-run r = let f = h.from in on (end - at) at (omega arith) f (omega arith) r
+  stays-reached : Here at → Here end
+  stays-reached r = let f = h.from in on (end - at) at (omega arith) f (omega arith) r
+
+-- a run that leaves the state as it is leads back to it
+stays-rests : (s : State) (bs : List ℕ) (at end : ℕ) → Stays s bs at end → Rests s bs at end
+stays-rests s bs at end h = record {
+  from = h.from;
+  within = h.within;
+  on = λ d b r. stays-reached d bs at end s (kind_here d bs s) b refl h r;
+}
+
+-- so does one whose bytes pass a test
+pub rests_run : (s : State) (p : ℕ → Bool) (bs : List ℕ) (at end : ℕ) → IsRun p bs at end → ((d : Dialect) (c : ℕ) → c < 128 → p c ≡ true → step d s c ≡ s) →
+    ((d : Dialect) (c b : ℕ) → 128 ≤ c → 128 ≤ b → p b ≡ true → step d s c ≡ s) → ((b x : ℕ) → 128 ≤ b → p b ≡ true → p x ≡ false → x < 128) → Rests s bs at end
+rests_run s p bs at end r low high ends = stays-rests s bs at end (stays_run s p bs at end r low high ends)
+
+-- the states come over such bytes
+pub reached-run : (d : Dialect) (bs : List ℕ) (at end : ℕ) (s : State) (k : Option Kind) (b : Option (ℕ × Kind)) → k ≡ kind_here d bs s → Rests s bs at end →
+    Reached d bs at s (with_length at k b) → Reached d bs end s (with_length end k b)
+reached-run d bs at end s k b e h r =
+    subst (λ k. Reached d bs end s (with_length end k b)) (sym e) (h.on d b (subst (λ k. Reached d bs at s (with_length at k b)) e r))
+
+-- two of them in a row
+pub rests-more : (s : State) (bs : List ℕ) (at mid end : ℕ) → Rests s bs at mid → Rests s bs mid end → Rests s bs at end
+rests-more s bs at mid end a b = record {
+  from = omega (arith, a.from, b.from);
+  within = b.within;
+  on = λ d o r. b.on d o (a.on d o r);
+}

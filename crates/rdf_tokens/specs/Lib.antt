@@ -18,6 +18,7 @@ pub mod Name
 pub mod Fixed
 pub mod Spellings
 pub mod Front
+pub mod Escapes
 pub mod Walk
 pub mod Bare
 pub mod Quick

@@ -3,6 +3,7 @@
 
 mod blank;
 mod bytes;
+mod escapes;
 mod front;
 mod good;
 pub mod laws;

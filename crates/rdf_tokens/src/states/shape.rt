@@ -6,6 +6,7 @@ ghost use Rattle.rdf_tokens.specs.Machine.{step, kind_at, goes_on};
 ghost use Rattle.rdf_tokens.specs.declared.states.machine.State.{State};
 ghost use Rattle.rdf_tokens.specs.declared.states.machine.State.TheVariants as state;
 
+use crate::escapes::{iri_end, string_end};
 use crate::states::iri::Iri;
 use crate::states::label::Label;
 use crate::states::machine::State;
@@ -37,7 +38,7 @@ pub(crate) trait Shape: Copy {
     fn goes_on(self, dialect: Dialect) -> bool
         ensures { result ≡ goes_on dialect (whole self) };
 
-    /// The place after the bytes from a place on that leave the state as it is, as far as they are looked for.
+    /// The place after the bytes from a place on that lead back to the state, as far as they are looked for.
     fn rest_end(self, text: &str, from: usize) -> usize
         requires { from ≤ length text.now }
         ensures { Rests (whole self) text.now from result };
@@ -73,7 +74,7 @@ impl Shape for Iri {
     #[inline(always)]
     fn rest_end(self, text: &str, from: usize) -> usize {
         match self {
-            Iri::Inside => run_end(Run::Iri, text.as_bytes(), from),
+            Iri::Inside => iri_end(text.as_bytes(), from),
             _ => from,
         }
     }
@@ -141,7 +142,7 @@ impl Shape for Text {
     #[inline(always)]
     fn rest_end(self, text: &str, from: usize) -> usize {
         match self {
-            Text::Short(_) | Text::Long(_) => run_end(Run::Text, text.as_bytes(), from),
+            Text::Short(_) | Text::Long(_) => string_end(text.as_bytes(), from),
             _ => from,
         }
     }

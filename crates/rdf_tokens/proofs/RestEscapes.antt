@@ -1,0 +1,264 @@
+-- A whole escape leads from the state within a string or an IRI back to it.
+use Rattle.std.proofs.Common.{◌≡◌, ℕ, zero, suc, ◌+◌, ◌<◌, ◌≤◌, Bool, true, false, not, ◌||◌, ◌⊎◌, List, ◌++◌, get_or, refl, sym, ap, ◌∙◌, subst, arith, ⊎_elim, length, drop, Option, None}
+use Rattle.std.specs.Str.{chars}
+use Rattle.std.proofs.lemmas.Bool.{agree_below, agree_below_at, cases_lt, false≢true}
+use Rattle.std.proofs.lemmas.Bool.Decides.{nat_tests}
+use Rattle.std.proofs.lemmas.List.{drop_more}
+use Rattle.std.proofs.lemmas.Str.{encode_ascii, len_utf8_ascii}
+use Rattle.rdf_terms.specs.declared.kind.Dialect.{Dialect}
+use Rattle.rdf_terms.specs.declared.kind.Kind.{Kind}
+use Rattle.rdf_terms.specs.Runs.{IsRun, PassBetween, is_text_byte}
+use Rattle.rdf_tokens.specs.declared.states.machine.State.{State}
+use Rattle.rdf_tokens.specs.declared.states.machine.State.TheVariants as state
+use Rattle.rdf_tokens.specs.declared.states.iri.Iri.TheVariants as iri_state
+use Rattle.rdf_tokens.specs.declared.states.iri.Sort.{Sort as IriSort}
+use Rattle.rdf_tokens.specs.declared.states.iri.Sort.TheVariants as iri_sort
+use Rattle.rdf_tokens.specs.declared.states.text.Quote.{Quote}
+use Rattle.rdf_tokens.specs.declared.states.text.Quote.TheVariants.{Double, Single}
+use Rattle.rdf_tokens.specs.declared.states.text.Text.{Text}
+use Rattle.rdf_tokens.specs.declared.states.text.Text.TheVariants as text_state
+use Rattle.rdf_tokens.specs.declared.states.text.Sort.{Sort as TextSort}
+use Rattle.rdf_tokens.specs.declared.states.text.Sort.TheVariants as text_sort
+use Rattle.rdf_tokens.specs.Front.{Reached, Rests, kind_here}
+use Rattle.rdf_tokens.specs.Machine.{step, kind_at}
+use Rattle.rdf_tokens.specs.Sorts.{sort_by}
+use Rattle.rdf_tokens.specs.Tokens.{with_length, only_long, three_quotes}
+use Rattle.rdf_tokens.specs.Iri as iri
+use Rattle.rdf_tokens.specs.Text as text
+use Rattle.rdf_tokens.specs.Escapes.{is_hex, is_letter, IsHexes, IsEchar, IsUchar, RestsInString, RestsInIri}
+use Rattle.rdf_tokens.proofs.BareLemmas.{no_long}
+use Rattle.rdf_tokens.proofs.RestLemmas.{rests-more}
+use Rattle.rdf_tokens.proofs.RestStates.{rests_short, rests_long}
+use Rattle.rdf_tokens.proofs.StateLemmas.{reached-step}
+
+-- over one byte of ASCII to a state without a token
+byte_on : (d : Dialect) (bs : List ℕ) (at : ℕ) (s t : State) (b : Option (ℕ × Kind)) → at < length bs → get_or bs at 0 < 128 → step d s (get_or bs at 0) ≡ t →
+    kind_at t ≡ None → Reached d bs at s b → Reached d bs (at + 1) t b
+byte_on d bs at s t b l a e n r =
+    let c = get_or bs at 0 in
+    reached-step d bs at (at + 1) c s t None b b r
+    (drop_more bs at 0 l ∙ ap (λ w. w ++ drop (at + 1) bs) (sym (encode_ascii c a)))
+    (ap (λ k. at + k) (sym (len_utf8_ascii c a)))
+    (omega arith)
+    (sym e)
+    (sym (ap (only_long (three_quotes d (chars bs))) n ∙ no_long (three_quotes d (chars bs))))
+    refl
+
+-- how the states within a string or an IRI take a UCHAR: by the state behind its backslash, and those that wait for one hex digit and so many more
+record Numbers (s e : State) (h : ℕ → State) : Type 0 where
+  slash : (d : Dialect) → step d s 92 ≡ e
+  small : (d : Dialect) → step d e 117 ≡ h 3
+  big : (d : Dialect) → step d e 85 ≡ h 7
+  more : (d : Dialect) (n c : ℕ) → is_hex c ≡ true → step d (h (suc n)) c ≡ h n
+  last : (d : Dialect) (c : ℕ) → is_hex c ≡ true → step d (h 0) c ≡ s
+  none : kind_at s ≡ None
+  none_behind : kind_at e ≡ None
+  none_yet : (n : ℕ) → kind_at (h n) ≡ None
+
+-- what is escaped is ASCII
+hex_below : (c : ℕ) → is_hex c ≡ true → c < 128
+hex_below c h = ⊎_elim (λ (l : c < 128). l) (λ l. absurd (let n : is_hex c ≡ false = grind (arith, nat_tests) in false≢true (sym n ∙ h))) (cases_lt c 128)
+
+letter_below : (c : ℕ) → is_letter c ≡ true → c < 128
+letter_below c h = ⊎_elim (λ (l : c < 128). l) (λ l. absurd (let n : is_letter c ≡ false = grind (arith, nat_tests) in false≢true (sym n ∙ h))) (cases_lt c 128)
+
+-- over hex digits, to the last one
+hexes_on : (s e : State) (h : ℕ → State) → Numbers s e h → (d : Dialect) (bs : List ℕ) (b : Option (ℕ × Kind)) (n at : ℕ) → at + suc n ≤ length bs →
+    PassBetween is_hex bs at (at + suc n) → Reached d bs at (h n) b → Reached d bs (at + suc n) s b
+hexes_on s e h f d bs b zero at l p r =
+    let x = p at (omega arith) (omega arith) in
+    byte_on d bs at (h 0) s b (omega arith) (hex_below (get_or bs at 0) x) (f.last d (get_or bs at 0) x) f.none r
+hexes_on s e h f d bs b (suc n) at l p r =
+    let x = p at (omega arith) (omega arith) in
+    let next = byte_on d bs at (h (suc n)) (h n) b (omega arith) (hex_below (get_or bs at 0) x) (f.more d n (get_or bs at 0) x) (f.none_yet n) r in
+    let sum : at + 1 + suc n ≡ at + suc (suc n) = omega arith in
+    subst (λ k. Reached d bs k s b) sum (hexes_on s e h f d bs b n (at + 1) (omega arith) (λ k from to. p k (omega arith) (omega arith)) next)
+
+-- over a UCHAR
+module _ (s e : State) (h : ℕ → State) (f : Numbers s e h) (bs : List ℕ) (at end : ℕ) (d : Dialect) (b : Option (ℕ × Kind)) where
+  digits_on : (c n : ℕ) → c < 128 → get_or bs at 0 ≡ 92 → get_or bs (at + 1) 0 ≡ c → step d e c ≡ h n → IsHexes bs (at + 2) (suc n) end → Reached d bs at s b → Reached d bs end s b
+  digits_on c n a x y t g r =
+      let w = g.within in
+      let z = g.ends in
+      let behind = byte_on d bs at s e b (omega arith) (omega (arith, x)) (ap (step d s) x ∙ f.slash d) f.none_behind r in
+      let begun = byte_on d bs (at + 1) e (h n) b (omega arith) (omega (arith, y)) (ap (step d e) y ∙ t) (f.none_yet n) behind in
+      let two : at + 1 + 1 ≡ at + 2 = omega arith in
+      subst (λ k. Reached d bs k s b) (sym z)
+      (hexes_on s e h f d bs b n (at + 2) (omega arith) (subst (PassBetween is_hex bs (at + 2)) z g.hexes) (subst (λ k. Reached d bs k (h n) b) two begun))
+
+  uchar_on : IsUchar bs at end → Reached d bs at s b → Reached d bs end s b
+  uchar_on u r = ⊎_elim
+      (λ g. digits_on 117 3 (omega arith) u.slash g.0 (f.small d) g.1 r)
+      (λ g. digits_on 85 7 (omega arith) u.slash g.0 (f.big d) g.1 r)
+      u.digits
+
+-- no token ends within it, so none is told
+none_told : (d : Dialect) (bs : List ℕ) (s : State) (at : ℕ) (b : Option (ℕ × Kind)) → kind_at s ≡ None → with_length at (kind_here d bs s) b ≡ b
+none_told d bs s at b n = ap (λ k. with_length at k b) (ap (only_long (three_quotes d (chars bs))) n ∙ no_long (three_quotes d (chars bs)))
+
+-- bytes that lead back to a state without a token
+rests_by : (s : State) (bs : List ℕ) (at end : ℕ) → kind_at s ≡ None → at ≤ end → end ≤ length bs →
+    ((d : Dialect) (b : Option (ℕ × Kind)) → Reached d bs at s b → Reached d bs end s b) → Rests s bs at end
+rests_by s bs at end n from within f = record {
+  from = from;
+  within = within;
+  on = λ d b r. subst (Reached d bs end s) (sym (none_told d bs s end b n)) (f d b (subst (Reached d bs at s) (none_told d bs s at b n) r));
+}
+
+-- where a UCHAR ends
+uchar_from : (bs : List ℕ) (at end : ℕ) → IsUchar bs at end → (at < end) × (end ≤ length bs)
+uchar_from bs at end u = ⊎_elim
+    (λ g. (omega (arith, g.1.ends), g.1.within))
+    (λ g. (omega (arith, g.1.ends), g.1.within))
+    u.digits
+
+rests_uchar : (s e : State) (h : ℕ → State) → Numbers s e h → (bs : List ℕ) (at end : ℕ) → IsUchar bs at end → Rests s bs at end
+rests_uchar s e h f bs at end u =
+    let l = uchar_from bs at end u in
+    rests_by s bs at end f.none (let x = l.0 in omega arith) l.1 (λ d b r. uchar_on s e h f bs at end d b u r)
+
+-- over an ECHAR
+rests_echar : (s e : State) (h : ℕ → State) → Numbers s e h → ((d : Dialect) (c : ℕ) → is_letter c ≡ true → step d e c ≡ s) →
+    (bs : List ℕ) (at end : ℕ) → IsEchar bs at end → Rests s bs at end
+rests_echar s e h f letter bs at end u =
+    rests_by s bs at end f.none (omega (arith, u.ends)) u.within on
+  where
+    on : (d : Dialect) (b : Option (ℕ × Kind)) → Reached d bs at s b → Reached d bs end s b
+    on d b r =
+        let w = u.within in
+        let z = u.ends in
+        let x = u.slash in
+        let behind = byte_on d bs at s e b (omega arith) (omega arith) (ap (step d s) x ∙ f.slash d) f.none_behind r in
+        let done = byte_on d bs (at + 1) e s b (omega arith) (letter_below (get_or bs (at + 1) 0) u.letter) (letter d (get_or bs (at + 1) 0) u.letter) f.none behind in
+        let two : at + 1 + 1 ≡ end = omega arith in
+        subst (λ k. Reached d bs k s b) two done
+
+-- The states of strings. A hex digit and a letter of ECHAR are sorts of their own.
+abbrev is_hex_sort : TextSort → Bool
+is_hex_sort text_sort.HexLetter = true
+is_hex_sort text_sort.HexDigit = true
+is_hex_sort x = false
+
+abbrev is_letter_sort : TextSort → Bool
+is_letter_sort text_sort.DoubleQuote = true
+is_letter_sort text_sort.SingleQuote = true
+is_letter_sort text_sort.Backslash = true
+is_letter_sort text_sort.Letter = true
+is_letter_sort text_sort.HexLetter = true
+is_letter_sort x = false
+
+-- what a test of each byte of ASCII tells of one that passes another
+implied : (p q : ℕ → Bool) → agree_below (λ c. not (p c) || q c) (λ _. true) 128 ≡ true → (c : ℕ) → c < 128 → p c ≡ true → q c ≡ true
+implied p q all c l h = sym (ap (λ t. not t || q c) h) ∙ agree_below_at (λ c. not (p c) || q c) (λ _. true) 128 c all l
+
+text_hex : (c : ℕ) → is_hex c ≡ true → is_hex_sort (sort_by text.ascii text.high c) ≡ true
+text_hex c h = implied is_hex (λ c. is_hex_sort (sort_by text.ascii text.high c)) refl c (hex_below c h) h
+
+text_letter : (c : ℕ) → is_letter c ≡ true → is_letter_sort (sort_by text.ascii text.high c) ≡ true
+text_letter c h = implied is_letter (λ c. is_letter_sort (sort_by text.ascii text.high c)) refl c (letter_below c h) h
+
+if_hex-hex : (s : Text) (x : TextSort) → is_hex_sort x ≡ true → text.if_hex s x ≡ s
+if_hex-hex s text_sort.HexLetter h = refl
+if_hex-hex s text_sort.HexDigit h = refl
+if_hex-hex s x h = absurd (false≢true h)
+
+escaped-letter : (hex : ℕ → Text) (s : Text) (x : TextSort) → is_letter_sort x ≡ true → text.escaped hex s x ≡ s
+escaped-letter hex s text_sort.DoubleQuote h = refl
+escaped-letter hex s text_sort.SingleQuote h = refl
+escaped-letter hex s text_sort.Backslash h = refl
+escaped-letter hex s text_sort.Letter h = refl
+escaped-letter hex s text_sort.HexLetter h = refl
+escaped-letter hex s x h = absurd (false≢true h)
+
+short_numbers : (q : Quote) → Numbers (state.Text (text_state.Short q)) (state.Text (text_state.ShortEscape q)) (λ n. state.Text (text_state.ShortHex q n))
+short_numbers q = record {
+  slash = λ d. slash q d;
+  small = λ d. refl;
+  big = λ d. refl;
+  more = λ d n c h. ap state.Text (if_hex-hex (text_state.ShortHex q n) (sort_by text.ascii text.high c) (text_hex c h));
+  last = λ d c h. ap state.Text (if_hex-hex (text_state.Short q) (sort_by text.ascii text.high c) (text_hex c h));
+  none = refl;
+  none_behind = refl;
+  none_yet = λ n. refl;
+}
+  where
+    slash : (q : Quote) (d : Dialect) → step d (state.Text (text_state.Short q)) 92 ≡ state.Text (text_state.ShortEscape q)
+    slash Double d = refl
+    slash Single d = refl
+
+long_numbers : (q : Quote) → Numbers (state.Text (text_state.Long q)) (state.Text (text_state.LongEscape q)) (λ n. state.Text (text_state.LongHex q n))
+long_numbers q = record {
+  slash = λ d. slash q d;
+  small = λ d. refl;
+  big = λ d. refl;
+  more = λ d n c h. ap state.Text (if_hex-hex (text_state.LongHex q n) (sort_by text.ascii text.high c) (text_hex c h));
+  last = λ d c h. ap state.Text (if_hex-hex (text_state.Long q) (sort_by text.ascii text.high c) (text_hex c h));
+  none = refl;
+  none_behind = refl;
+  none_yet = λ n. refl;
+}
+  where
+    slash : (q : Quote) (d : Dialect) → step d (state.Text (text_state.Long q)) 92 ≡ state.Text (text_state.LongEscape q)
+    slash Double d = refl
+    slash Single d = refl
+
+-- an escape of a string
+pub rests_escape : (bs : List ℕ) (at end : ℕ) → IsEchar bs at end ⊎ IsUchar bs at end → RestsInString bs at end
+rests_escape bs at end u = record {
+  short = λ q. ⊎_elim
+      (λ x. rests_echar (state.Text (text_state.Short q)) (state.Text (text_state.ShortEscape q)) (λ n. state.Text (text_state.ShortHex q n)) (short_numbers q) (λ d c h. ap state.Text (escaped-letter (λ n. text_state.ShortHex q n) (text_state.Short q) (sort_by text.ascii text.high c) (text_letter c h))) bs at end x)
+      (λ x. rests_uchar (state.Text (text_state.Short q)) (state.Text (text_state.ShortEscape q)) (λ n. state.Text (text_state.ShortHex q n)) (short_numbers q) bs at end x)
+      u;
+  long = λ q. ⊎_elim
+      (λ x. rests_echar (state.Text (text_state.Long q)) (state.Text (text_state.LongEscape q)) (λ n. state.Text (text_state.LongHex q n)) (long_numbers q) (λ d c h. ap state.Text (escaped-letter (λ n. text_state.LongHex q n) (text_state.Long q) (sort_by text.ascii text.high c) (text_letter c h))) bs at end x)
+      (λ x. rests_uchar (state.Text (text_state.Long q)) (state.Text (text_state.LongEscape q)) (λ n. state.Text (text_state.LongHex q n)) (long_numbers q) bs at end x)
+      u;
+}
+
+-- where an escape of a string ends
+pub escape_from : (bs : List ℕ) (at end : ℕ) → IsEchar bs at end ⊎ IsUchar bs at end → (at < end) × (end ≤ length bs)
+escape_from bs at end u = ⊎_elim (λ x. (omega (arith, x.ends), x.within)) (λ x. uchar_from bs at end x) u
+
+-- a run in a string
+pub rests_string : (bs : List ℕ) (at end : ℕ) → IsRun is_text_byte bs at end → RestsInString bs at end
+rests_string bs at end r = record { short = λ q. rests_short q bs at end r; long = λ q. rests_long q bs at end r }
+
+-- one more piece of a string
+pub string-more : (bs : List ℕ) (at mid end : ℕ) → RestsInString bs at mid → RestsInString bs mid end → RestsInString bs at end
+string-more bs at mid end a b = record {
+  short = λ q. rests-more _ bs at mid end (a.short q) (b.short q);
+  long = λ q. rests-more _ bs at mid end (a.long q) (b.long q);
+}
+
+-- The states of IRIs.
+abbrev is_hex_in_iri : IriSort → Bool
+is_hex_in_iri iri_sort.HexDigit = true
+is_hex_in_iri x = false
+
+iri_hex : (c : ℕ) → is_hex c ≡ true → is_hex_in_iri (sort_by iri.ascii iri.high c) ≡ true
+iri_hex c h = implied is_hex (λ c. is_hex_in_iri (sort_by iri.ascii iri.high c)) refl c (hex_below c h) h
+
+iri_last : (x : IriSort) → is_hex_in_iri x ≡ true → iri.move (iri_state.Hex 0) x ≡ iri_state.Inside
+iri_last iri_sort.HexDigit h = refl
+iri_last x h = absurd (false≢true h)
+
+iri_more : (n : ℕ) (x : IriSort) → is_hex_in_iri x ≡ true → iri.move (iri_state.Hex (suc n)) x ≡ iri_state.Hex n
+iri_more n iri_sort.HexDigit h = refl
+iri_more n x h = absurd (false≢true h)
+
+iri_numbers : Numbers (state.Iri iri_state.Inside) (state.Iri iri_state.Escape) (λ n. state.Iri (iri_state.Hex n))
+iri_numbers = record {
+  slash = λ d. refl;
+  small = λ d. refl;
+  big = λ d. refl;
+  more = λ d n c h. ap state.Iri (iri_more n (sort_by iri.ascii iri.high c) (iri_hex c h));
+  last = λ d c h. ap state.Iri (iri_last (sort_by iri.ascii iri.high c) (iri_hex c h));
+  none = refl;
+  none_behind = refl;
+  none_yet = λ n. refl;
+}
+
+-- an escape of an IRI
+pub rests_uchar_in_iri : (bs : List ℕ) (at end : ℕ) → IsUchar bs at end → RestsInIri bs at end
+rests_uchar_in_iri bs at end u =
+    rests_uchar (state.Iri iri_state.Inside) (state.Iri iri_state.Escape) (λ n. state.Iri (iri_state.Hex n)) iri_numbers bs at end u

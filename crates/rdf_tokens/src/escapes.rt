@@ -1,0 +1,101 @@
+// The insides of strings and IRIs: plain bytes by runs, and whole escapes between them.
+
+ghost use Rattle.std.specs.Prelude.{◌≡◌, ◌≤◌, ◌+◌, ◌⊎◌, ◌&&◌, ◌==◌, nat_le, length, get_or, IfSome};
+ghost use Rattle.rdf_tokens.specs.Escapes.{is_hex, is_letter, IsEchar, IsHexes, IsUchar, RestsInIri, RestsInString};
+
+use rdf_terms::runs::{Run, run_end};
+
+/// The place behind the plain bytes and the whole escapes of a string from a place on.
+pub(crate) fn string_end(bytes: &[u8], from: usize) -> usize
+    requires { from ≤ length bytes.now }
+    ensures { RestsInString bytes.now from result }
+{
+    let mut at = run_end(Run::Text, bytes, from);
+    while let Some(next) = escape_end(bytes, at) {
+        at = run_end(Run::Text, bytes, next);
+    }
+    at
+}
+
+/// The same in an IRI, where UCHAR alone stands.
+pub(crate) fn iri_end(bytes: &[u8], from: usize) -> usize
+    requires { from ≤ length bytes.now }
+    ensures { RestsInIri bytes.now from result }
+{
+    let mut at = run_end(Run::Iri, bytes, from);
+    while let Some(next) = uchar_end(bytes, at) {
+        at = run_end(Run::Iri, bytes, next);
+    }
+    at
+}
+
+/// Where the escape at a place ends, if all of it is there.
+#[inline(always)]
+fn escape_end(bytes: &[u8], at: usize) -> Option<usize>
+    requires { at ≤ length bytes.now }
+    ensures { IfSome result (λ end. IsEchar bytes.now at end ⊎ IsUchar bytes.now at end) }
+{
+    if is_echar(bytes, at) {
+        return Some(at + 2);
+    }
+    uchar_end(bytes, at)
+}
+
+#[inline(always)]
+fn is_echar(bytes: &[u8], at: usize) -> bool
+    requires { at ≤ length bytes.now }
+    ensures { result ≡ (nat_le (at + 2) (length bytes.now) && get_or bytes.now at 0 == 92 && is_letter (get_or bytes.now (at + 1) 0)) }
+{
+    bytes.len() - at >= 2 && bytes[at] == b'\\' && is_letter(bytes[at + 1])
+}
+
+fn is_letter(byte: u8) -> bool
+    ensures { result ≡ is_letter byte }
+{
+    matches!(
+        byte,
+        b't' | b'b' | b'n' | b'r' | b'f' | b'"' | b'\'' | b'\\'
+    )
+}
+
+/// Where the UCHAR at a place ends, if all of it is there.
+#[inline(always)]
+fn uchar_end(bytes: &[u8], at: usize) -> Option<usize>
+    requires { at ≤ length bytes.now }
+    ensures { IfSome result (λ end. IsUchar bytes.now at end) }
+{
+    if bytes.len() - at < 2 || bytes[at] != b'\\' {
+        return None;
+    }
+    match bytes[at + 1] {
+        b'u' => hex_end(bytes, at + 2, 4),
+        b'U' => hex_end(bytes, at + 2, 8),
+        _ => None,
+    }
+}
+
+/// Where so many hex digits end, if they are there.
+#[inline(always)]
+fn hex_end(bytes: &[u8], from: usize, count: usize) -> Option<usize>
+    requires { from ≤ length bytes.now }
+    ensures { IfSome result (λ end. IsHexes bytes.now from count end) }
+{
+    if bytes.len() - from < count {
+        return None;
+    }
+    let end = from + count;
+    let mut at = from;
+    while at < end {
+        if !is_hex(bytes[at]) {
+            return None;
+        }
+        at += 1;
+    }
+    Some(end)
+}
+
+fn is_hex(byte: u8) -> bool
+    ensures { result ≡ is_hex byte }
+{
+    matches!(byte, b'0'..=b'9' | b'A'..=b'F' | b'a'..=b'f')
+}
