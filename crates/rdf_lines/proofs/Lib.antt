@@ -23,6 +23,7 @@ pub mod WrittenBytesLemmas
 pub mod LawExamples
 mod SpelledLemmas
 mod StatesLemmas
+mod HeldLemmas
 mod GivenLemmas
 mod EndLemmas
 pub mod AcceptedLemmas

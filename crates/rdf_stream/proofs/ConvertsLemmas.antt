@@ -193,7 +193,7 @@ trees_job P job form k x i n l f e h =
 
 -- before any token nothing is due
 none_due : (k : Kind) (job : JobRead) → Due (conversion_by k job).language.documents [] []
-none_due (Line form) job = lines_lawful.due (record { rules = record { form = form; iri = 0 }; limit = 0; mode = Begin }) (record { form = form; iri = 0 }) [] [] (refl, refl)
+none_due (Line form) job = lines_lawful.due (record { rules = record { form = form; iri = 0 }; limit = 0; mode = Begin; held = 0 }) (record { form = form; iri = 0 }) [] [] (refl, refl)
 none_due (Tree form) job = due_ran form (tree_job form job).start [] (at_start (tree_job form job).start) [] refl
 
 -- there was no memory to begin with
