@@ -5,6 +5,7 @@ pub mod StepBounds
 pub mod PutsInRow
 pub mod TurnsLemmas
 pub mod FrameStack
+pub mod HoldingLemmas
 pub mod SpelledLemmas
 pub mod LocalShapes
 pub mod ColonLemmas

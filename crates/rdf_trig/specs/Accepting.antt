@@ -6,12 +6,14 @@ use Rattle.rdf_terms.specs.declared.reason.Reason.TheVariants as reason
 use Rattle.rdf_terms.specs.Terms.{Quad}
 use Rattle.rdf_driver.specs.Words.{Words}
 use Rattle.rdf_driver.specs.Readers.{Driven}
+use Rattle.rdf_driver.specs.Readers as R
 use Rattle.rdf_trig.specs.declared.form.DocForm.{DocForm}
 use Rattle.rdf_trig.specs.declared.fault.StepFault.{StepFault}
 use Rattle.rdf_trig.specs.declared.fault.StepFault.TheVariants as fault
 use Rattle.rdf_trig.specs.Documents.{documents, Passes}
 use Rattle.rdf_trig.specs.Machine.{State}
 use Rattle.rdf_trig.specs.Alike.{RunsTo}
+use Rattle.rdf_trig.specs.Owed.{most_kept}
 use Rattle.rdf_trig.specs.Language.{Chosen, Blamed}
 
 -- what accepts the tokens of Turtle or TriG: the form, the most characters of a token, and what has been read
@@ -20,13 +22,15 @@ pub record TreeAt : Type 0 where
   pub limit : ℕ
   -- its scope may hold the bindings in another order than the machine's
   pub state : State
+  -- the bytes of the texts that are held
+  pub held : ℕ
 
 -- the documents from a scope on, and what the machine has accepted of one
 abbrev pub tree_words : Words TreeAt Chosen Quad
 tree_words = record {
   dialect = turtle;
   limit = λ g. g.limit;
-  most = λ g. 0;
+  most = λ g. most_kept g.state.setting.scope.limits;
   documents = λ x. documents x.form x.start;
   passes = λ x. Passes x.form x.start;
   blames = λ x. Blamed x.form x.start;
@@ -36,6 +40,10 @@ tree_words = record {
 -- a reader of Turtle or TriG as its callers see it
 abbrev pub TrigRead : Type 0
 TrigRead = Driven TreeAt
+
+-- the most bytes that a reader may hold within its limits
+abbrev pub most_of : TrigRead → ℕ
+most_of r = R.most_held tree_words r
 
 -- the error of a step, as a reader reports it
 abbrev pub reason_of : StepFault → Reason

@@ -15,6 +15,7 @@ pub mod Laws
 pub mod Alike
 pub mod States
 pub mod Spelled
+pub mod Holding
 pub mod Steps
 pub mod Scopes
 pub mod Coded

@@ -142,6 +142,10 @@ pub record Owed (form : DocForm) (start : InForce) (ts : List Token) (size : ℕ
   pub bound : Bound (document_events start tree)
   pub held : document_held start (length ts) 0 tree ≡ size
 
--- the most bytes that may be held: a piece of a token, the texts of the open frames and of what is read, the base, and the prefixes with their IRIs
+-- the most bytes of the texts of the open frames and of what is read, of the base, and of the prefixes with their IRIs
+abbrev pub most_kept : Sizes → ℕ
+most_kept l = max l.iri (4 * l.token) * (2 * (l.depth + 1) + 3) + l.iri + l.bindings * (4 * l.token + l.iri)
+
+-- the most bytes that may be held: a piece of a token, and these texts
 abbrev pub most_held : Sizes → ℕ
-most_held l = 4 * (l.token + 1) + 3 + max l.iri (4 * l.token) * (2 * (l.depth + 1) + 3) + l.iri + l.bindings * (4 * l.token + l.iri)
+most_held l = 4 * (l.token + 1) + 3 + most_kept l

@@ -1,5 +1,5 @@
 -- What a step of the reader does to its sink.
-use Rattle.std.specs.Prelude.{◌≡◌, ℕ, ◌+◌, ◌*◌, ◌^◌, ◌<◌, ◌≤◌, ◌&&◌, nat_le, Bool, true, false, List, [], ◌++◌, Option, Some, None, ⊤}
+use Rattle.std.specs.Prelude.{◌≡◌, ℕ, ◌+◌, ◌*◌, ◌^◌, ◌<◌, ◌≤◌, ◌&&◌, nat_le, Bool, true, false, List, [], ◌++◌, length, Option, Some, None, ⊤}
 use Rattle.rdf_terms.specs.Terms.{Term, Quad}
 use Rattle.rdf_terms.specs.Terms as term
 use Rattle.rdf_terms.specs.Sinks.{Appends, Attempts}
@@ -19,6 +19,7 @@ use Rattle.rdf_lines.specs.Lines.{Leaf}
 use Rattle.rdf_trig.specs.Machine.{Reply, No, Go, subject_at, verb_at, kept}
 use Rattle.rdf_trig.specs.States.{leaf, mode_in, graph_of, graph_at, setting, rest_of, held_of, is_go, PrefixFits}
 use Rattle.rdf_trig.specs.Scopes.{SameScope}
+use Rattle.rdf_trig.specs.Holding.{most_text, Fits}
 
 -- puts of some of the quads, from the first one on, lead from one sink to the other; the last of them may have been refused
 abbrev pub Begins : {S : Type 0} → (S → Quad → S → Type 0) → (S → Quad → S → Type 0) → List Quad → S → S → Type 0
@@ -71,10 +72,14 @@ Stays Unexpected reply = reply ≡ No
 Stays Memory reply = ⊤
 Stays r reply = ⊥
 
--- what each step keeps: the brackets are counted, and a prefix is no longer than a token
+-- what each step keeps: the brackets are counted and no more than the limit, a prefix is no longer than a token, each text fits, and no more frames are
+-- open than brackets
 pub record Keeps {A : Type 0} (form : DocForm) (sizes : Sizes) (r : State A) : Type 0 where
   pub depth : r.depth ≡ M.depth (mode_in form r)
   pub short : PrefixFits (4 * sizes.token) r.mode
+  pub deep : r.depth ≤ sizes.depth
+  pub fits : Fits (most_text sizes) r
+  pub stack : length r.frames.items ≤ r.depth
 
 -- the machine accepts: its quads were put, and its state is the reader's, in a scope that agrees with the reader's
 abbrev pub Accepts : {A S : Type 0} → (S → Quad → S → Type 0) → DocForm → M.Answer → S → State A → InForce → S → Type 0

@@ -1,6 +1,6 @@
 // A token is accepted: the checks, then the quads that are due, then the move.
 
-ghost use Rattle.std.specs.Prelude.{◌≡◌, ◌≤◌, ◌<◌, ◌+◌, ◌^◌, ◌&&◌, List, length, nat_le, true, false, OnOk, IfOk, IfErr};
+ghost use Rattle.std.specs.Prelude.{◌≡◌, ℕ, ◌≤◌, ◌<◌, ◌+◌, ◌^◌, ◌&&◌, List, length, nat_le, true, false, OnOk, IfOk, IfErr};
 ghost use Rattle.rdf_iri.specs.Limits.{Sizes};
 ghost use Rattle.rdf_terms.specs.Terms.{Quad};
 ghost use Rattle.rdf_iri.specs.Scope.{InForce};
@@ -8,6 +8,7 @@ ghost use Rattle.rdf_lines.specs.Lines.{Leaf};
 ghost use Rattle.rdf_trig.specs.Machine as M;
 ghost use Rattle.rdf_trig.specs.States.{leaf, IsTurtleToken, IsNamedIn, NameIn, use_in, scope_in, setting, graph_at, graph_of, mode_in, moved, DepthMoves};
 ghost use Rattle.rdf_trig.specs.Scopes.{SameScope};
+ghost use Rattle.rdf_trig.specs.Holding.{state_bytes, TextFits, NameFits, Fits, frames_most};
 ghost use Rattle.rdf_trig.specs.Steps.{state_of, May, Refused, Stays, DepthMay, Keeps, Accepts, Fails};
 
 use crate::allows::allows;
@@ -32,6 +33,7 @@ fn deepens(kind: Kind) -> bool
 fn is_too_deep(limits: Limits, depth: u64, kind: Kind) -> bool
     ensures is { result ≡ (M.deepens kind && nat_le limits.depth depth) }
     ensures room { result ≡ false → M.deepens kind ≡ true → depth + 1 < 2 ^ 64 }
+    ensures deep { result ≡ false → M.deepens kind ≡ true → depth + 1 ≤ limits.depth }
 {
     deepens(kind) && limits.depth() <= depth
 }
@@ -53,6 +55,7 @@ impl<A: Allocator + Copy> State<A> {
     pub fn new(alloc: A) -> State<A>
         ensures start { (form : DocForm) (s : InForce) → state_of form s result ≡ M.at_start s }
         ensures keeps { (form : DocForm) (sizes : Sizes) → Keeps form sizes result }
+        ensures held { state_bytes result ≡ 0 }
     {
         State {
             mode: Mode::Outer(Outer::Start),
@@ -71,6 +74,7 @@ impl<A: Allocator + Copy> State<A> {
         requires { self.now.depth ≡ M.depth (mode_in form self.now) }
         ensures ok { OnOk result ((s : InForce) (l : Leaf) → s.limits ≡ limits → May form (state_of form s self.now) kind l) }
         ensures room { OnOk result (DepthMay kind self.now.depth) }
+        ensures deep { OnOk result (M.deepens kind ≡ true → self.now.depth + 1 ≤ limits.depth) }
         ensures err { IfErr result (λ r. (s : InForce) (l : Leaf) → s.limits ≡ limits → Refused r (M.accept form (state_of form s self.now) kind l)) }
     {
         if !allows(form, &self.mode, &self.frame, &self.level, kind) {
@@ -99,6 +103,8 @@ impl<A: Allocator + Copy> State<A> {
             M.step form (setting s (graph_at self.old.mode (graph_of self.old.level))) m token.now.kind (leaf token.now) ≡ moved form
             (scope_in s m token.now.kind (leaf token.now)) (use_in s m token.now.kind (leaf token.now)) self.new) }
         ensures depth { OnOk result (DepthMoves token.now.kind self.old.depth self.new.depth) }
+        ensures stack { OnOk result (length self.new.frames.items ≤ frames_most token.now.kind (length self.old.frames.items)) }
+        ensures fits { (n : ℕ) → TextFits n token.now → NameFits n name → Fits n self.old → OnOk result (Fits n self.new) }
         ensures err { IfErr result (λ r. (s : InForce) → let m = mode_in form self.old in
             NameIn s m token.now.kind (leaf token.now) name →
             Stays r (M.step form (setting s (graph_at self.old.mode (graph_of self.old.level))) m token.now.kind (leaf token.now))) }

@@ -2,6 +2,7 @@
 
 ghost use Rattle.std.specs.Prelude.{◌≡◌};
 ghost use Rattle.rdf_iri.specs.Limits.{Sizes};
+ghost use Rattle.rdf_iri.specs.Scope.{bytes_held};
 ghost use Rattle.rdf_trig.specs.declared.form.DocForm.{DocForm};
 ghost use Rattle.rdf_trig.specs.Machine as M;
 ghost use Rattle.rdf_trig.specs.Steps.{Keeps};
@@ -12,7 +13,7 @@ use crate::form::DocForm;
 use crate::reader::Options;
 use crate::rules::Rules;
 use crate::state::State;
-use rdf_driver::{Grammar, QuadGrammar, QuadItem};
+use rdf_driver::{Grammar, Holds, QuadGrammar, QuadItem};
 use rdf_iri::{Limits, Scope};
 use rdf_terms::{Dialect, QuadSink, Reason};
 use rdf_tokens::Token;
@@ -32,6 +33,9 @@ impl<A: Allocator> Model for TreeGrammar<A> {
     ghost use Rattle.std.specs.Prelude.{◌≡◌};
     ghost use Rattle.rdf_trig.specs.Accepting.{TreeAt};
     ghost use Rattle.rdf_trig.specs.Steps.{state_of, Keeps};
+    ghost use Rattle.std.specs.Prelude.{◌+◌};
+    ghost use Rattle.rdf_iri.specs.Scope.{bytes_held};
+    ghost use Rattle.rdf_trig.specs.Holding.{state_bytes};
     ghost use Rattle.rdf_trig.specs.Coded.{up_code, around_code, place_code};
     ghost use Rattle.std.specs.Coded.{codes};
 
@@ -39,7 +43,7 @@ impl<A: Allocator> Model for TreeGrammar<A> {
 
     ghost coded = { Prim.hlevel (codes, up_code, around_code, place_code) };
 
-    ghost view = { λ g. record { form = g.rules.form; limit = g.rules.limits.token; state = state_of g.rules.form g.scope g.state } };
+    ghost view = { λ g. record { form = g.rules.form; limit = g.rules.limits.token; state = state_of g.rules.form g.scope g.state; held = state_bytes g.state + bytes_held g.scope } };
 
     ghost invariant = { λ g. (g.scope.limits ≡ g.rules.limits) × Keeps g.rules.form g.rules.limits g.state };
 }
@@ -47,7 +51,7 @@ impl<A: Allocator> Model for TreeGrammar<A> {
 impl<A: Allocator + Copy> TreeGrammar<A> {
     /// Before the first token of a document. It takes no memory.
     pub fn new(alloc: A, options: Options<A>) -> TreeGrammar<A>
-        ensures { result ≡ record { form = options.form; limit = options.start.limits.token; state = M.at_start options.start } }
+        ensures { result ≡ record { form = options.form; limit = options.start.limits.token; state = M.at_start options.start; held = bytes_held options.start } }
     {
         TreeGrammar {
             alloc,
@@ -115,5 +119,14 @@ impl<A: Allocator + Copy> QuadGrammar for TreeGrammar<A> {
                 Err(reason_of(fault))
             }
         }
+    }
+}
+
+impl<A: Allocator + Copy> Holds for TreeGrammar<A> {
+    ghost bytes = { λ g. g.held };
+
+    fn held(&self) -> u64 {
+        self.rules.limits.are_in_range();
+        self.state.held() + self.scope.held()
     }
 }

@@ -8,6 +8,7 @@ mod fault;
 mod form;
 mod give;
 mod grammar;
+mod holding;
 pub mod laws;
 mod names;
 mod reader;

@@ -11,6 +11,7 @@ ghost use Rattle.rdf_trig.specs.declared.form.DocForm.{DocForm};
 ghost use Rattle.rdf_trig.specs.Machine as M;
 ghost use Rattle.rdf_trig.specs.Names.{local_of, name_in, reference_in};
 ghost use Rattle.rdf_trig.specs.States.{leaf, IsTurtleToken, PrefixFits, mode_at, outer_of};
+ghost use Rattle.rdf_trig.specs.Holding.{NameFits};
 ghost use Rattle.rdf_trig.specs.Scopes.{IsReference, IsPrefixed, MeansLocal, Names, Unnamed, Binding, NotBinding, Based, SameScope, LooksUp, LooksUpNone};
 
 use crate::fault::StepFault;
@@ -46,6 +47,7 @@ fn reference<A: Allocator + Copy>(
     requires token { IsTurtleToken token.now }
     requires kind { IsReference token.now.kind }
     ensures ok { IfOk result (λ i. Names scope.now token.now.kind (leaf token.now) (Some i)) }
+    ensures fits { IfOk result (λ i. byte_len i ≤ scope.now.limits.iri) }
     ensures err { IfErr result (λ r. Unnamed scope.now token.now.kind (leaf token.now) r) }
 {
     let reference = reference_text(alloc, token)?;
@@ -77,6 +79,7 @@ fn prefixed<A: Allocator + Copy>(
     requires token { IsTurtleToken token.now }
     requires kind { IsPrefixed token.now.kind }
     ensures ok { IfOk result (λ i. Names scope.now token.now.kind (leaf token.now) (Some i)) }
+    ensures fits { IfOk result (λ i. byte_len i ≤ scope.now.limits.iri) }
     ensures err { IfErr result (λ r. Unnamed scope.now token.now.kind (leaf token.now) r) }
 {
     let (prefix, local) = parts(token.text);
@@ -96,6 +99,7 @@ fn name<A: Allocator + Copy>(
 ) -> Result<Option<Iri<A>>, StepFault>
     requires token { IsTurtleToken token.now }
     ensures ok { IfOk result (λ i. Names scope.now token.now.kind (leaf token.now) i) }
+    ensures fits { IfOk result (NameFits scope.now.limits.iri) }
     ensures err { IfErr result (λ r. Unnamed scope.now token.now.kind (leaf token.now) r) }
 {
     match token.kind {
@@ -151,6 +155,7 @@ pub fn look_up<A: Allocator + Copy>(
     requires short { PrefixFits (4 * scope.old.limits.token) mode.now }
     ensures ok { IfOk result (λ i. (form : DocForm) (v : M.Level) (f : Frame A) (u : M.Up) (s : InForce) → SameScope s scope.old →
         LooksUp s (mode_at form v f u mode.now) token.now.kind (leaf token.now) i scope.new) }
+    ensures fits { IfOk result (NameFits scope.old.limits.iri) }
     ensures err { IfErr result (λ r. (form : DocForm) (v : M.Level) (f : Frame A) (u : M.Up) (s : InForce) → SameScope s scope.old →
         LooksUpNone s (mode_at form v f u mode.now) token.now.kind (leaf token.now) r) }
 {
@@ -169,6 +174,7 @@ fn look_up_outer<A: Allocator + Copy>(
     requires token { IsTurtleToken token.now }
     requires short { PrefixFits (4 * scope.old.limits.token) (Mode.Outer outer.now) }
     ensures ok { IfOk result (λ i. (s : InForce) → SameScope s scope.old → LooksUp s (outer_of outer.now) token.now.kind (leaf token.now) i scope.new) }
+    ensures fits { IfOk result (NameFits scope.old.limits.iri) }
     ensures err { IfErr result (λ r. (s : InForce) → SameScope s scope.old → LooksUpNone s (outer_of outer.now) token.now.kind (leaf token.now) r) }
 {
     match outer {
@@ -189,6 +195,7 @@ fn look_up_prefix<A: Allocator + Copy>(
     requires short { byte_len (chars (string_bytes prefix.now)) ≤ 4 * scope.old.limits.token }
     ensures ok { IfOk result (λ i. (w : M.Spelling) (s : InForce) → SameScope s scope.old →
         LooksUp s (M.WantPrefixIri w (chars (string_bytes prefix.now))) token.now.kind (leaf token.now) i scope.new) }
+    ensures fits { IfOk result (NameFits scope.old.limits.iri) }
     ensures err { IfErr result (λ r. (w : M.Spelling) (s : InForce) → SameScope s scope.old →
         LooksUpNone s (M.WantPrefixIri w (chars (string_bytes prefix.now))) token.now.kind (leaf token.now) r) }
 {
@@ -209,6 +216,7 @@ fn look_up_base<A: Allocator + Copy>(
     requires token { IsTurtleToken token.now }
     ensures ok { IfOk result (λ i. (w : M.Spelling) (s : InForce) → SameScope s scope.old →
         LooksUp s (M.WantBaseIri w) token.now.kind (leaf token.now) i scope.new) }
+    ensures fits { IfOk result (NameFits scope.old.limits.iri) }
     ensures err { IfErr result (λ r. (w : M.Spelling) (s : InForce) → SameScope s scope.old →
         LooksUpNone s (M.WantBaseIri w) token.now.kind (leaf token.now) r) }
 {

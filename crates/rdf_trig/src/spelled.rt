@@ -1,15 +1,16 @@
 // The terms that tokens spell.
 
-ghost use Rattle.std.specs.Prelude.{◌≡◌, [], true, IfOk, IfErr, drop, unwrap_or};
+ghost use Rattle.std.specs.Prelude.{◌≡◌, ◌≤◌, ◌*◌, [], true, IfOk, IfErr, length, drop, unwrap_or};
 ghost use Rattle.std.specs.Str.{chars};
 ghost use Rattle.std.specs.String.{string_bytes};
 ghost use Rattle.rdf_terms.specs.Shapes.{Shape};
 ghost use Rattle.rdf_terms.specs.Values as V;
 ghost use Rattle.rdf_terms.specs.Terms.{Blank, Label};
 ghost use Rattle.rdf_terms.specs.Owned.{owned_subject};
-ghost use Rattle.rdf_iri.specs.Texts.{before, after};
+ghost use Rattle.rdf_iri.specs.Texts.{before, after, byte_len};
 ghost use Rattle.rdf_trig.specs.Spelled.{short_in, long_in, SpellsTag};
 ghost use Rattle.rdf_trig.specs.States.{leaf, IsTurtleToken};
+ghost use Rattle.rdf_trig.specs.Holding.{subject_bytes};
 
 use crate::fault::StepFault;
 use rdf_terms::{
@@ -23,6 +24,7 @@ use std::alloc::Allocator;
 pub fn short_string<A: Allocator>(alloc: A, text: &str) -> Result<String<A>, StepFault>
     requires { V.is_fit Kind.ShortString (chars text.now) ≡ true }
     ensures ok { IfOk result (λ s. chars (string_bytes s) ≡ short_in (chars text.now)) }
+    ensures fits { IfOk result (λ s. length (string_bytes s) ≤ 4 * length (chars text.now)) }
     ensures err { IfErr result (λ r. r ≡ StepFault.Memory) }
 {
     match string_value(alloc, without_ends(text)) {
@@ -36,6 +38,7 @@ pub fn short_string<A: Allocator>(alloc: A, text: &str) -> Result<String<A>, Ste
 pub fn long_string<A: Allocator>(alloc: A, text: &str) -> Result<String<A>, StepFault>
     requires { V.is_fit Kind.LongString (chars text.now) ≡ true }
     ensures ok { IfOk result (λ s. chars (string_bytes s) ≡ long_in (chars text.now)) }
+    ensures fits { IfOk result (λ s. length (string_bytes s) ≤ 4 * length (chars text.now)) }
     ensures err { IfErr result (λ r. r ≡ StepFault.Memory) }
 {
     match string_value(alloc, without_ends(without_ends(without_ends(text)))) {
@@ -49,6 +52,7 @@ pub fn long_string<A: Allocator>(alloc: A, text: &str) -> Result<String<A>, Step
 pub fn label<A: Allocator>(alloc: A, text: &str) -> Result<Subject<A>, StepFault>
     requires { Shape Dialect.Turtle Kind.LabelNode (chars text.now) }
     ensures ok { IfOk result (λ s. owned_subject s ≡ Blank (Label (drop 2 (chars text.now)))) }
+    ensures fits { IfOk result (λ s. subject_bytes s ≤ 4 * length (chars text.now)) }
     ensures err { IfErr result (λ r. r ≡ StepFault.Memory) }
 {
     let label = LabelView::new(without_first(without_first(text)));
@@ -60,6 +64,7 @@ pub fn tag<A: Allocator>(alloc: A, token: &Token<'_>) -> Result<Tag<A>, StepFaul
     requires token { IsTurtleToken token.now }
     requires tag { SpellsTag token.now.kind }
     ensures ok { IfOk result (λ t. t ≡ drop 1 (leaf token.now).text) }
+    ensures fits { IfOk result (λ t. byte_len t ≤ 4 * length (leaf token.now).text) }
     ensures err { IfErr result (λ r. r ≡ StepFault.Memory) }
 {
     Ok(TagView::new(without_first(token.text)).try_copy(alloc)?)
@@ -68,6 +73,7 @@ pub fn tag<A: Allocator>(alloc: A, token: &Token<'_>) -> Result<Tag<A>, StepFaul
 /// The prefix of a name, which stands before its first colon.
 pub fn prefix<A: Allocator>(alloc: A, text: &str) -> Result<String<A>, StepFault>
     ensures ok { IfOk result (λ s. chars (string_bytes s) ≡ before 58 (chars text.now)) }
+    ensures fits { IfOk result (λ s. length (string_bytes s) ≤ 4 * length (chars text.now)) }
     ensures err { IfErr result (λ r. r ≡ StepFault.Memory) }
 {
     let (prefix, _) = parts(text);

@@ -1,5 +1,7 @@
 // Where the reader stands: what has been read, as far as it matters for what may come.
 
+ghost use Rattle.std.specs.Prelude.{◌≡◌};
+
 use crate::rest::Rest;
 use rdf_terms::{Iri, Known, Subject, Tag};
 use std::alloc::{Allocator, Global};
@@ -149,7 +151,9 @@ pub struct State<A: Allocator = Global> {
 
 impl<A: Allocator> Frame<A> {
     /// What is in hand where the mode needs no frame.
-    pub fn none() -> Frame<A> {
+    pub fn none() -> Frame<A>
+        ensures { result ≡ Frame.Cells 0 0 }
+    {
         Frame::Cells { first: 0, cell: 0 }
     }
 }

@@ -1,6 +1,7 @@
 // What a token does to the mode and the frames, once it is known what it stands for.
 
-ghost use Rattle.std.specs.Prelude.{◌≡◌, ℕ, List, [], Option, Some, None, OnOk, IfOk, IfErr, MatchOption, option_map, codes};
+ghost use Rattle.std.specs.Prelude.{◌≡◌, ℕ, ◌+◌, ◌-◌, ◌*◌, ◌≤◌, List, [], length, Option, Some, None, OnOk, IfOk, IfErr, IfSome, MatchOption, option_map, codes};
+ghost use Rattle.std.specs.List.{AllByRecursion};
 ghost use Rattle.std.specs.Str.{chars};
 ghost use Rattle.std.specs.String.{string_bytes};
 ghost use Rattle.rdf_terms.specs.Owned.{owned_subject};
@@ -13,6 +14,7 @@ ghost use Rattle.rdf_trig.specs.Machine as M;
 ghost use Rattle.rdf_trig.specs.Machine.{Reply, No, Go};
 ghost use Rattle.rdf_trig.specs.States.{leaf, IsTurtleToken, IsNamed, IsNamedIn, NameIn, name_at, use_at, use_in, scope_in, setting, graph_of, graph_at, outer_of, outer_graph};
 ghost use Rattle.rdf_trig.specs.States.{spelling_of, level_of, topic_of, verb_of, place_of, up_of, around_of, mode_of, rest_of, behind_dot, object_of, begins_verb, semi_at};
+ghost use Rattle.rdf_trig.specs.Holding.{verb_bytes, subject_bytes, topic_bytes, graph_bytes, level_bytes, outer_bytes, mode_bytes, object_bytes, TextFits, NameFits, FrameFits, OpenFits, Fits, Closes, frames_most};
 ghost use Rattle.rdf_trig.specs.States.{up_in, place_in, setting_in, mode_in, Gives, GivesOuter};
 
 use crate::allows::begins_verb;
@@ -43,6 +45,8 @@ impl<A: Allocator + Copy> State<A> {
             Gives form (scope_in s m token.now.kind (leaf token.now)) (use_in s m token.now.kind (leaf token.now)) result self.new
             (M.step form (setting s (graph_at self.old.mode (graph_of self.old.level))) m token.now.kind (leaf token.now)) }
         ensures depth { self.new.depth ≡ self.old.depth }
+        ensures stack { OnOk result (length self.new.frames.items ≤ frames_most token.now.kind (length self.old.frames.items)) }
+        ensures fits { (n : ℕ) → TextFits n token.now → NameFits n name → Fits n self.old → OnOk result (Fits n self.new) }
     {
         match self.mode {
             Mode::Want => self.object_start(alloc, Rest::none(), token, name),
@@ -71,6 +75,8 @@ impl<A: Allocator + Copy> State<A> {
             Gives form (scope_in s m token.now.kind (leaf token.now)) (use_in s m token.now.kind (leaf token.now)) result self.new
             (M.step form (setting s (graph_at mode (graph_of self.old.level))) m token.now.kind (leaf token.now)) }
         ensures depth { self.new.depth ≡ self.old.depth }
+        ensures stack { OnOk result (length self.new.frames.items ≤ frames_most token.now.kind (length self.old.frames.items)) }
+        ensures fits { (n : ℕ) → TextFits n token.now → NameFits n name → OpenFits n self.old → mode_bytes mode ≤ n → OnOk result (Fits n self.new) }
     {
         match mode {
             Mode::Outer(outer) => self.outer_turn(alloc, form, outer, token, name),
@@ -105,6 +111,8 @@ impl<A: Allocator + Copy> State<A> {
             (use_in s (outer_of outer) token.now.kind (leaf token.now)) result self.new
             (M.step form (setting s (outer_graph outer)) (outer_of outer) token.now.kind (leaf token.now)) }
         ensures depth { self.new.depth ≡ self.old.depth }
+        ensures stack { OnOk result (length self.new.frames.items ≤ frames_most token.now.kind (length self.old.frames.items)) }
+        ensures fits { (n : ℕ) → TextFits n token.now → NameFits n name → OpenFits n self.old → outer_bytes outer ≤ n → OnOk result (Fits n self.new) }
     {
         match outer {
             Outer::Start => self.start(alloc, form, token, name),
@@ -135,12 +143,11 @@ impl<A: Allocator + Copy> State<A> {
             Gives form s (use_at s token.now.kind (leaf token.now)) result self.new
             (M.start form (setting s None) token.now.kind (leaf token.now)) }
         ensures depth { self.new.depth ≡ self.old.depth }
+        ensures stack { OnOk result (length self.new.frames.items ≤ frames_most token.now.kind (length self.old.frames.items)) }
+        ensures fits { (n : ℕ) → TextFits n token.now → NameFits n name → OpenFits n self.old → OnOk result (Fits n self.new) }
     {
         match outer_start(form, token.kind) {
-            Some(outer) => {
-                self.stand(Mode::Outer(outer));
-                Ok(())
-            }
+            Some(outer) => self.led(Ok(outer)),
             None => {
                 self.begin(Level::Top);
                 self.subject_start(alloc, token, name)
@@ -163,6 +170,8 @@ impl<A: Allocator + Copy> State<A> {
             Gives form s (use_at s token.now.kind (leaf token.now)) result self.new
             (M.inside form (setting s (option_map owned_subject graph)) token.now.kind (leaf token.now)) }
         ensures depth { self.new.depth ≡ self.old.depth }
+        ensures stack { OnOk result (length self.new.frames.items ≤ frames_most token.now.kind (length self.old.frames.items)) }
+        ensures fits { (n : ℕ) → TextFits n token.now → NameFits n name → OpenFits n self.old → graph_bytes graph ≤ n → OnOk result (Fits n self.new) }
     {
         match token.kind {
             Kind::CloseBrace => {
@@ -181,6 +190,7 @@ impl<A: Allocator + Copy> State<A> {
         ensures level { self.new.level ≡ level }
         ensures frames { self.new.frames.items ≡ [] }
         ensures depth { self.new.depth ≡ self.old.depth }
+        ensures frame { self.new.frame ≡ self.old.frame }
     {
         self.level = level;
         self.frames.clear();
@@ -200,6 +210,8 @@ impl<A: Allocator + Copy> State<A> {
             Gives form s (use_at s token.now.kind (leaf token.now)) result self.new
             (M.subject_start form (setting_in s self.old) (level_of self.old.level) token.now.kind (leaf token.now)) }
         ensures depth { self.new.depth ≡ self.old.depth }
+        ensures stack { OnOk result (length self.new.frames.items ≤ frames_most token.now.kind (length self.old.frames.items)) }
+        ensures fits { (n : ℕ) → TextFits n token.now → NameFits n name → OpenFits n self.old → OnOk result (Fits n self.new) }
     {
         match (token.kind, name) {
             (Kind::IriRef | Kind::PnameNs | Kind::PnameLn, Some(iri)) => {
@@ -223,13 +235,16 @@ impl<A: Allocator + Copy> State<A> {
         }
     }
 
-    // Where a token leads outside of statements.
+    // Where a token leads outside of statements. No frame is open there.
     fn led(&mut self, outer: Result<Outer<A>, StepFault>) -> Result<(), StepFault>
         ensures gives { (form : DocForm) (s : InForce) (u : Use) (reply : Reply) → GivesOuter s u outer reply → Gives form s u result self.new reply }
         ensures depth { self.new.depth ≡ self.old.depth }
+        ensures stack { OnOk result (self.new.frames.items ≡ []) }
+        ensures fits { (n : ℕ) → IfOk outer (λ o. outer_bytes o ≤ n) → OpenFits n self.old → OnOk result (Fits n self.new) }
     {
         match outer {
             Ok(outer) => {
+                self.frames.clear();
                 self.stand(Mode::Outer(outer));
                 Ok(())
             }
@@ -250,6 +265,8 @@ impl<A: Allocator + Copy> State<A> {
             Gives form s (use_at s kind l) result self.new (M.step form (setting_in s self.old)
             (M.after_subject form (level_of self.old.level) (Some (owned_subject subject))) kind l) }
         ensures depth { self.new.depth ≡ self.old.depth }
+        ensures stack { OnOk result (length self.new.frames.items ≤ frames_most kind (length self.old.frames.items)) }
+        ensures fits { (n : ℕ) → NameFits n name → OpenFits n self.old → subject_bytes subject ≤ n → OnOk result (Fits n self.new) }
     {
         match self.level {
             Level::Block(_) => self.verb_start(Topic::Term(subject), Around::Statement, kind, name),
@@ -274,6 +291,8 @@ impl<A: Allocator + Copy> State<A> {
         ensures gives { (form : DocForm) (s : InForce) (l : Leaf) → name_at s kind l ≡ name →
             Gives form s (use_at s kind l) result self.new (M.after_label (setting s None) (Some (owned_subject label)) kind l) }
         ensures depth { self.new.depth ≡ self.old.depth }
+        ensures stack { OnOk result (length self.new.frames.items ≤ frames_most kind (length self.old.frames.items)) }
+        ensures fits { (n : ℕ) → NameFits n name → OpenFits n self.old → subject_bytes label ≤ n → OnOk result (Fits n self.new) }
     {
         match kind {
             Kind::OpenBrace => {
@@ -299,6 +318,8 @@ impl<A: Allocator + Copy> State<A> {
             Gives form s (use_at s token.now.kind (leaf token.now)) result self.new
             (M.after_text (setting_in s self.old) (chars (string_bytes lexical)) (place_in self.old) token.now.kind (leaf token.now)) }
         ensures depth { self.new.depth ≡ self.old.depth }
+        ensures stack { OnOk result (length self.new.frames.items ≤ frames_most token.now.kind (length self.old.frames.items)) }
+        ensures fits { (n : ℕ) → TextFits n token.now → NameFits n name → OpenFits n self.old → length (string_bytes lexical) ≤ n → OnOk result (Fits n self.new) }
     {
         match token.kind {
             Kind::LangTag | Kind::AtBase | Kind::AtPrefix => {
@@ -323,6 +344,8 @@ impl<A: Allocator + Copy> State<A> {
             Gives form s (use_at s token.now.kind (leaf token.now)) result self.new
             (M.after (setting_in s self.old) (place_in self.old) token.now.kind (leaf token.now)) }
         ensures depth { self.new.depth ≡ self.old.depth }
+        ensures stack { OnOk result (length self.new.frames.items ≤ frames_most token.now.kind (length self.old.frames.items)) }
+        ensures fits { (n : ℕ) → TextFits n token.now → NameFits n name → OpenFits n self.old → OnOk result (Fits n self.new) }
     {
         match self.frame {
             Frame::List { around, .. } => self.after_listed(around, token.kind),
@@ -335,6 +358,8 @@ impl<A: Allocator + Copy> State<A> {
             Gives form s (use_at s kind l) result self.new (M.after (setting_in s self.old)
             (M.Listed (Some (topic_of subject)) (Some (verb_of verb)) (around_of around (level_of self.old.level) (up_in self.old))) kind l) }
         ensures depth { self.new.depth ≡ self.old.depth }
+        ensures stack { OnOk result (length self.new.frames.items ≤ frames_most kind (length self.old.frames.items)) }
+        ensures fits { (n : ℕ) → OpenFits n self.old → OnOk result (Fits n self.new) }
     {
         match kind {
             Kind::Comma => {
@@ -364,6 +389,8 @@ impl<A: Allocator + Copy> State<A> {
             Gives form s (use_at s token.now.kind (leaf token.now)) result self.new
             (M.after (setting_in s self.old) (M.InCells first cell (up_in self.old)) token.now.kind (leaf token.now)) }
         ensures depth { self.new.depth ≡ self.old.depth }
+        ensures stack { OnOk result (length self.new.frames.items ≤ frames_most token.now.kind (length self.old.frames.items)) }
+        ensures fits { (n : ℕ) → TextFits n token.now → NameFits n name → OpenFits n self.old → OnOk result (Fits n self.new) }
     {
         match token.kind {
             Kind::CloseParen => {
@@ -393,6 +420,8 @@ impl<A: Allocator + Copy> State<A> {
             Gives form s (use_at s kind l) result self.new
             (M.want_type (setting_in s self.old) (chars (string_bytes lexical)) (place_in self.old) kind l) }
         ensures depth { self.new.depth ≡ self.old.depth }
+        ensures stack { OnOk result (length self.new.frames.items ≤ frames_most kind (length self.old.frames.items)) }
+        ensures fits { (n : ℕ) → NameFits n name → OpenFits n self.old → length (string_bytes lexical) ≤ n → OnOk result (Fits n self.new) }
     {
         match (kind, name) {
             (Kind::IriRef | Kind::PnameNs | Kind::PnameLn, Some(iri)) => {
@@ -410,6 +439,8 @@ impl<A: Allocator + Copy> State<A> {
         ensures gives { (form : DocForm) (s : InForce) (l : Leaf) → name_at s kind l ≡ name →
             Gives form s (use_at s kind l) result self.new (M.box form (setting_in s self.old) node (up_in self.old) kind l) }
         ensures depth { self.new.depth ≡ self.old.depth }
+        ensures stack { OnOk result (length self.new.frames.items ≤ frames_most kind (length self.old.frames.items)) }
+        ensures fits { (n : ℕ) → NameFits n name → OpenFits n self.old → OnOk result (Fits n self.new) }
     {
         let subject = Subject::Node(Node::Anon(node));
         match kind {
@@ -431,6 +462,8 @@ impl<A: Allocator + Copy> State<A> {
             Gives form s (use_at s token.now.kind (leaf token.now)) result self.new
             (M.paren (setting_in s self.old) (up_in self.old) token.now.kind (leaf token.now)) }
         ensures depth { self.new.depth ≡ self.old.depth }
+        ensures stack { OnOk result (length self.new.frames.items ≤ frames_most token.now.kind (length self.old.frames.items)) }
+        ensures fits { (n : ℕ) → TextFits n token.now → NameFits n name → OpenFits n self.old → OnOk result (Fits n self.new) }
     {
         match token.kind {
             Kind::CloseParen => {
@@ -461,6 +494,8 @@ impl<A: Allocator + Copy> State<A> {
             Gives form s (use_at s token.now.kind (leaf token.now)) result self.new (M.object_start (setting_in s self.old) (place_in self.old)
             (rest_of (graph_of self.old.level) rest) token.now.kind (leaf token.now)) }
         ensures depth { self.new.depth ≡ self.old.depth }
+        ensures stack { OnOk result (length self.new.frames.items ≤ frames_most token.now.kind (length self.old.frames.items)) }
+        ensures fits { (n : ℕ) → TextFits n token.now → NameFits n name → OpenFits n self.old → OnOk result (Fits n self.new) }
     {
         let object = match (token.kind, name) {
             (Kind::IriRef | Kind::PnameNs | Kind::PnameLn, Some(iri)) => {
@@ -500,11 +535,13 @@ impl<A: Allocator + Copy> State<A> {
     }
 
     // A bracket opens in the frame in hand.
-    #[tactic(auto, using(crate::proofs::code::FrameStack::stack_steps))]
+    #[tactic(auto, using(crate::proofs::code::FrameStack::stack_steps, crate::proofs::code::HoldingLemmas::frames_pushed))]
     fn open(&mut self) -> Result<(), StepFault>
         ensures up { OnOk result ((v : M.Level) → up_of v self.new.frames.items ≡ M.At (place_of v self.old.frame (up_of v self.old.frames.items))) }
         ensures level { self.new.level ≡ self.old.level }
         ensures depth { self.new.depth ≡ self.old.depth }
+        ensures stack { OnOk result (length self.new.frames.items ≡ length self.old.frames.items + 1) }
+        ensures fits { (n : ℕ) → OpenFits n self.old → OnOk result (OpenFits n self.new) }
         ensures err { IfErr result (λ r. r ≡ StepFault.Memory) }
     {
         let frame = mem::replace(&mut self.frame, Frame::none());
@@ -519,6 +556,8 @@ impl<A: Allocator + Copy> State<A> {
         ensures gives { (form : DocForm) (s : InForce) (l : Leaf) → name_at s kind l ≡ name →
             Gives form s (use_at s kind l) result self.new (M.step form (setting_in s self.old) (semi_at (place_in self.old)) kind l) }
         ensures depth { self.new.depth ≡ self.old.depth }
+        ensures stack { OnOk result (length self.new.frames.items ≤ frames_most kind (length self.old.frames.items)) }
+        ensures fits { (n : ℕ) → NameFits n name → OpenFits n self.old → OnOk result (Fits n self.new) }
     {
         match self.frame {
             Frame::List { around, .. } => self.after_semicolon(around, kind, name),
@@ -539,6 +578,8 @@ impl<A: Allocator + Copy> State<A> {
             Gives form s (use_at s kind l) result self.new (M.semi (setting_in s self.old) (Some (topic_of subject))
             (around_of around (level_of self.old.level) (up_in self.old)) kind l) }
         ensures depth { self.new.depth ≡ self.old.depth }
+        ensures stack { OnOk result (length self.new.frames.items ≤ frames_most kind (length self.old.frames.items)) }
+        ensures fits { (n : ℕ) → NameFits n name → OpenFits n self.old → OnOk result (Fits n self.new) }
     {
         if begins_verb(kind) {
             return self.next_verb(kind, name);
@@ -560,6 +601,8 @@ impl<A: Allocator + Copy> State<A> {
             Gives form s (use_at s kind l) result self.new (M.verb_start (setting_in s self.old) (Some (topic_of subject))
             (around_of around (level_of self.old.level) (up_in self.old)) kind l) }
         ensures depth { self.new.depth ≡ self.old.depth }
+        ensures stack { OnOk result (length self.new.frames.items ≤ frames_most kind (length self.old.frames.items)) }
+        ensures fits { (n : ℕ) → NameFits n name → OpenFits n self.old → OnOk result (Fits n self.new) }
     {
         let Some(next) = verb(kind, name) else {
             return Err(StepFault::Unexpected);
@@ -584,6 +627,8 @@ impl<A: Allocator + Copy> State<A> {
             Gives form s (use_at s kind l) result self.new
             (M.after_box (setting_in s self.old) (Some (topic_of subject)) (level_of self.old.level) kind l) }
         ensures depth { self.new.depth ≡ self.old.depth }
+        ensures stack { OnOk result (length self.new.frames.items ≤ frames_most kind (length self.old.frames.items)) }
+        ensures fits { (n : ℕ) → NameFits n name → OpenFits n self.old → topic_bytes subject ≤ n → OnOk result (Fits n self.new) }
     {
         if begins_verb(kind) {
             self.verb_start(subject, Around::Statement, kind, name)
@@ -605,6 +650,8 @@ impl<A: Allocator + Copy> State<A> {
             Gives form s (use_at s kind l) result self.new (M.verb_start (setting_in s self.old) (Some (topic_of subject))
             (around_of around (level_of self.old.level) (up_in self.old)) kind l) }
         ensures depth { self.new.depth ≡ self.old.depth }
+        ensures stack { OnOk result (length self.new.frames.items ≤ frames_most kind (length self.old.frames.items)) }
+        ensures fits { (n : ℕ) → NameFits n name → OpenFits n self.old → topic_bytes subject ≤ n → OnOk result (Fits n self.new) }
     {
         let Some(verb) = verb(kind, name) else {
             return Err(StepFault::Unexpected);
@@ -624,6 +671,8 @@ impl<A: Allocator + Copy> State<A> {
             Gives form s (use_at s kind l) result self.new (M.list_end (setting_in s self.old) (Some (topic_of subject))
             (around_of around (level_of self.old.level) (up_in self.old)) kind l) }
         ensures depth { self.new.depth ≡ self.old.depth }
+        ensures stack { OnOk result (length self.new.frames.items ≤ frames_most kind (length self.old.frames.items)) }
+        ensures fits { (n : ℕ) → OpenFits n self.old → OnOk result (Fits n self.new) }
     {
         match around {
             Around::Statement => self.statement_end(kind),
@@ -642,6 +691,8 @@ impl<A: Allocator + Copy> State<A> {
         ensures gives { (form : DocForm) (s : InForce) (x : Option term.Subject) (l : Leaf) →
             Gives form s (use_at s kind l) result self.new (M.list_end (setting_in s self.old) x (M.Statement (level_of self.old.level)) kind l) }
         ensures depth { self.new.depth ≡ self.old.depth }
+        ensures stack { OnOk result (length self.new.frames.items ≤ frames_most kind (length self.old.frames.items)) }
+        ensures fits { (n : ℕ) → OpenFits n self.old → OnOk result (Fits n self.new) }
     {
         match kind {
             Kind::Dot => {
@@ -694,9 +745,10 @@ impl<A: Allocator + Copy> State<A> {
 
 // What begins there besides a statement.
 fn outer_start<A: Allocator>(form: DocForm, kind: Kind) -> Option<Outer<A>>
-    ensures { MatchOption result ((s : InForce) (l : Leaf) → M.start form (setting s None) kind l ≡ M.subject_start form
+    ensures outer { MatchOption result ((s : InForce) (l : Leaf) → M.start form (setting s None) kind l ≡ M.subject_start form
         (setting s None) M.Top kind l) (λ o. (s : InForce) (l : Leaf) →
         M.start form (setting s None) kind l ≡ Go (use_at s kind l) None None (setting s (outer_graph o)) (outer_of o)) }
+    ensures fits { IfSome result (λ o. outer_bytes o ≡ 0) }
 {
     match (kind, form) {
         (Kind::End, _) => Some(Outer::Over),
@@ -717,7 +769,8 @@ fn want_prefix<A: Allocator>(
     token: &Token<'_>,
 ) -> Result<Outer<A>, StepFault>
     requires token { IsTurtleToken token.now }
-    ensures { (s : InForce) → GivesOuter s itself result (M.want_prefix (setting s None) (spelling_of spelling) token.now.kind (leaf token.now)) }
+    ensures gives { (s : InForce) → GivesOuter s itself result (M.want_prefix (setting s None) (spelling_of spelling) token.now.kind (leaf token.now)) }
+    ensures fits { (n : ℕ) → TextFits n token.now → IfOk result (λ o. outer_bytes o ≤ n) }
 {
     match token.kind {
         Kind::PnameNs => Ok(Outer::WantPrefixIri(spelling, prefix(alloc, token.text)?)),
@@ -726,8 +779,9 @@ fn want_prefix<A: Allocator>(
 }
 
 fn want_prefix_iri<A: Allocator>(spelling: Spelling, kind: Kind) -> Result<Outer<A>, StepFault>
-    ensures { (s : InForce) (p : List ℕ) (l : Leaf) → let m = M.WantPrefixIri (spelling_of spelling) p in
+    ensures gives { (s : InForce) (p : List ℕ) (l : Leaf) → let m = M.WantPrefixIri (spelling_of spelling) p in
         GivesOuter (scope_in s m kind l) (use_in s m kind l) result (M.want_prefix_iri (setting s None) (spelling_of spelling) p kind l) }
+    ensures fits { IfOk result (λ o. outer_bytes o ≡ 0) }
 {
     match kind {
         Kind::IriRef => Ok(directive_end(spelling)),
@@ -736,8 +790,9 @@ fn want_prefix_iri<A: Allocator>(spelling: Spelling, kind: Kind) -> Result<Outer
 }
 
 fn want_base_iri<A: Allocator>(spelling: Spelling, kind: Kind) -> Result<Outer<A>, StepFault>
-    ensures { (s : InForce) (l : Leaf) → let m = M.WantBaseIri (spelling_of spelling) in
+    ensures gives { (s : InForce) (l : Leaf) → let m = M.WantBaseIri (spelling_of spelling) in
         GivesOuter (scope_in s m kind l) (use_in s m kind l) result (M.want_base_iri (setting s None) (spelling_of spelling) kind l) }
+    ensures fits { IfOk result (λ o. outer_bytes o ≡ 0) }
 {
     match kind {
         Kind::IriRef => Ok(directive_end(spelling)),
@@ -748,6 +803,7 @@ fn want_base_iri<A: Allocator>(spelling: Spelling, kind: Kind) -> Result<Outer<A
 fn directive_end<A: Allocator>(spelling: Spelling) -> Outer<A>
     ensures mode { outer_of result ≡ M.directive_end (spelling_of spelling) }
     ensures graph { outer_graph result ≡ None }
+    ensures fits { outer_bytes result ≡ 0 }
 {
     match spelling {
         Spelling::Dotted => Outer::WantDot,
@@ -756,7 +812,8 @@ fn directive_end<A: Allocator>(spelling: Spelling) -> Outer<A>
 }
 
 fn want_dot<A: Allocator>(kind: Kind) -> Result<Outer<A>, StepFault>
-    ensures { (s : InForce) (l : Leaf) → GivesOuter s (use_at s kind l) result (M.want_dot (setting s None) kind l) }
+    ensures gives { (s : InForce) (l : Leaf) → GivesOuter s (use_at s kind l) result (M.want_dot (setting s None) kind l) }
+    ensures fits { IfOk result (λ o. outer_bytes o ≡ 0) }
 {
     match kind {
         Kind::Dot => Ok(Outer::Start),
@@ -772,8 +829,9 @@ fn graph_word<A: Allocator>(
 ) -> Result<Outer<A>, StepFault>
     requires token { IsTurtleToken token.now }
     requires named { IsNamed token.now.kind name }
-    ensures { (s : InForce) → name_at s token.now.kind (leaf token.now) ≡ name →
+    ensures gives { (s : InForce) → name_at s token.now.kind (leaf token.now) ≡ name →
         GivesOuter s (use_at s token.now.kind (leaf token.now)) result (M.graph_word (setting s None) token.now.kind (leaf token.now)) }
+    ensures fits { (n : ℕ) → TextFits n token.now → NameFits n name → IfOk result (λ o. outer_bytes o ≤ n) }
 {
     match (token.kind, name) {
         (Kind::IriRef | Kind::PnameNs | Kind::PnameLn, Some(iri)) => {
@@ -786,7 +844,8 @@ fn graph_word<A: Allocator>(
 }
 
 fn graph_bracket<A: Allocator>(node: u64, kind: Kind) -> Result<Outer<A>, StepFault>
-    ensures { (s : InForce) (l : Leaf) → GivesOuter s (use_at s kind l) result (M.graph_box (setting s None) node kind l) }
+    ensures gives { (s : InForce) (l : Leaf) → GivesOuter s (use_at s kind l) result (M.graph_box (setting s None) node kind l) }
+    ensures fits { IfOk result (λ o. outer_bytes o ≡ 0) }
 {
     match kind {
         Kind::CloseBracket => Ok(Outer::WantBrace(Subject::Node(Node::Anon(node)))),
@@ -795,7 +854,8 @@ fn graph_bracket<A: Allocator>(node: u64, kind: Kind) -> Result<Outer<A>, StepFa
 }
 
 fn want_brace<A: Allocator>(graph: Subject<A>, kind: Kind) -> Result<Outer<A>, StepFault>
-    ensures { (s : InForce) (l : Leaf) → GivesOuter s (use_at s kind l) result (M.want_brace (setting s None) (Some (owned_subject graph)) kind l) }
+    ensures gives { (s : InForce) (l : Leaf) → GivesOuter s (use_at s kind l) result (M.want_brace (setting s None) (Some (owned_subject graph)) kind l) }
+    ensures fits { IfOk result (λ o. outer_bytes o ≡ subject_bytes graph) }
 {
     match kind {
         Kind::OpenBrace => Ok(Outer::Inside(Some(graph))),
@@ -813,6 +873,8 @@ fn node_closed<A: Allocator>(
     ensures mode { (form : DocForm) (v : Level A) → mode_of form v frame.new frames.new.items result ≡ M.node_closed form (up_of (level_of v) frames.old.items)
         (Some (owned_subject subject)) }
     ensures graph { (g : Option term.Subject) → graph_at result g ≡ g }
+    ensures stack { length frames.new.items ≤ length frames.old.items - 1 }
+    ensures fits { (n : ℕ) → subject_bytes subject ≤ n → FrameFits n frame.old → AllByRecursion (FrameFits n) frames.old.items → Closes n result frame.new frames.new.items }
 {
     match frames.pop() {
         None => Mode::AfterSubject(subject),
@@ -832,6 +894,8 @@ fn list_closed<A: Allocator>(
     ensures mode { (form : DocForm) (v : Level A) → mode_of form v frame.new frames.new.items result ≡ M.list_closed (up_of (level_of v) frames.old.items)
         (Some (topic_of subject)) }
     ensures graph { (g : Option term.Subject) → graph_at result g ≡ g }
+    ensures stack { length frames.new.items ≤ length frames.old.items - 1 }
+    ensures fits { (n : ℕ) → topic_bytes subject ≤ n → FrameFits n frame.old → AllByRecursion (FrameFits n) frames.old.items → Closes n result frame.new frames.new.items }
 {
     match frames.pop() {
         None => Mode::WantVerb(subject),
@@ -842,11 +906,13 @@ fn list_closed<A: Allocator>(
     }
 }
 
-#[tactic(auto, using(crate::proofs::code::FrameStack::stack_steps))]
+#[tactic(auto, using(crate::proofs::code::FrameStack::stack_steps, crate::proofs::code::HoldingLemmas::frames_popped))]
 fn box_closed<A: Allocator>(frame: &mut Frame<A>, frames: &mut Vec<Frame<A>, A>) -> Mode<A>
     ensures mode { (form : DocForm) (v : Level A) (subject : Topic A) (verb : Verb A) (around : Around) → frame.old ≡ Frame.List subject verb around →
         mode_of form v frame.new frames.new.items result ≡ M.box_closed (up_of (level_of v) frames.old.items) (Some (topic_of subject)) }
     ensures graph { (g : Option term.Subject) → graph_at result g ≡ g }
+    ensures stack { length frames.new.items ≤ length frames.old.items - 1 }
+    ensures fits { (n : ℕ) → FrameFits n frame.old → AllByRecursion (FrameFits n) frames.old.items → Closes n result frame.new frames.new.items }
 {
     let closed = match frames.pop() {
         None => mem::replace(frame, Frame::none()),
@@ -866,6 +932,8 @@ fn box_closed<A: Allocator>(frame: &mut Frame<A>, frames: &mut Vec<Frame<A>, A>)
 fn statement_ended<A: Allocator>(level: &mut Level<A>) -> Outer<A>
     ensures graph { outer_graph result ≡ graph_of level.old }
     ensures mode { outer_of result ≡ behind_dot (level_of level.old) }
+    ensures level { level.new ≡ Level.Top }
+    ensures bytes { outer_bytes result ≡ level_bytes level.old }
 {
     match mem::replace(level, Level::Top) {
         Level::Top => Outer::Start,
@@ -876,9 +944,11 @@ fn statement_ended<A: Allocator>(level: &mut Level<A>) -> Outer<A>
 // The verb that a token is.
 fn verb<A: Allocator>(kind: Kind, name: Option<Iri<A>>) -> Option<Verb<A>>
     requires { IsNamed kind name }
-    ensures { (s : InForce) (g : Option term.Subject) (x : Option term.Subject) (a : M.Around) (l : Leaf) → name_at s kind l ≡ name →
+    ensures verb { (s : InForce) (g : Option term.Subject) (x : Option term.Subject) (a : M.Around) (l : Leaf) → name_at s kind l ≡ name →
         MatchOption result (M.verb_start (setting s g) x a kind l ≡ No)
         (λ v. M.verb_start (setting s g) x a kind l ≡ Go (use_at s kind l) None None (setting s g) (M.Want (M.Listed x (Some (verb_of v)) a))) }
+    ensures fits { IfSome result (λ v. (n : ℕ) → NameFits n name → verb_bytes v ≤ n) }
+    ensures stack { IfSome result (λ v. (m : ℕ) → frames_most kind m ≡ m) }
 {
     match (kind, name) {
         (Kind::IriRef | Kind::PnameNs | Kind::PnameLn, Some(iri)) => Some(Verb::Named(iri)),
@@ -894,6 +964,7 @@ fn known_literal<A: Allocator>(
     datatype: Known,
 ) -> Result<Object<A>, StepFault>
     ensures ok { IfOk result (λ o. object_of o ≡ term.Literal (chars lexical.now) (term.Typed (known_chars datatype))) }
+    ensures fits { IfOk result (λ o. object_bytes o ≤ 4 * length (chars lexical.now)) }
     ensures err { IfErr result (λ r. r ≡ StepFault.Memory) }
 {
     Ok(Object::OfKnown(String::from_str(alloc, lexical)?, datatype))

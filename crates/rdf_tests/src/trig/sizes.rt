@@ -1,12 +1,13 @@
-// Brackets and prefixes in their tens of thousands, piece by piece.
+// Brackets and prefixes in their tens of thousands, piece by piece, and how much is held.
 
 ghost use Rattle.std.specs.Prelude.{◌≤◌, false};
 
 use rdf_driver::{Fault, Summary};
 use rdf_iri::Limits;
-use rdf_terms::{PutFault, QuadRef, QuadSink, Reason};
+use rdf_terms::{Iri, PutFault, QuadRef, QuadSink, Reason};
 use rdf_trig::{DocForm, Options, TrigReader};
-use std::alloc::Global;
+use refusing_alloc::Refusing;
+use std::alloc::{Allocator, Global};
 use std::test::Fail;
 
 /// Counts the quads that are put.
@@ -129,4 +130,70 @@ fn a_prefix_more_than_the_limit_is_refused(rt: HostRuntime) -> Result<(), Fail> 
         Err(fault) => assert_eq!(rt; fault.reason, Reason::TooManyBindings),
     }
     Ok(())
+}
+
+/// How many bytes are held after a piece.
+fn held_after(alloc: Global, limits: Limits, base: Option<&str>, piece: &str) -> Option<u64> {
+    let base = match base {
+        Some(text) => Some(Iri::new(alloc, text).ok()?),
+        None => None,
+    };
+    let options = Options::new(DocForm::TriG, base, limits)?;
+    let mut reader = TrigReader::new(alloc, options);
+    reader
+        .feed(piece.as_bytes(), &mut CountingSink { quads: 0 })
+        .ok()?;
+    Some(reader.held())
+}
+
+#[test]
+fn what_is_open_is_held(rt: HostRuntime) {
+    let small = Limits::new(16, 2, 1, 64).expect(&rt, "limits");
+    let least = Limits::new(1, 0, 0, 1).expect(&rt, "limits");
+    let open = "<http://a/s> <http://a/p> [ <http://a/p> ( ";
+    for (limits, base, piece, held) in [
+        (small, Some("http://a.org/b"), "PREFIX x: <http://x/> ", 24),
+        (least, None, "", 0),
+        (Limits::default(), None, open, 30),
+    ] {
+        let found = held_after(rt.alloc(), limits, base, piece);
+        assert_eq!(rt; found, Some(held), "{piece}");
+    }
+}
+
+/// Reads so many lines, a line a call, and says whether all were read.
+fn read_lines<A: Allocator + Copy>(alloc: A, lines: u32) -> bool {
+    let Some(options) = Options::new(DocForm::TriG, None, Limits::default()) else {
+        return false;
+    };
+    let mut reader = TrigReader::new(alloc, options);
+    let mut sink = CountingSink { quads: 0 };
+    let line = b"<http://a/s> <http://a/p> <http://a/s> .\n";
+    for _ in 0..lines {
+        if reader.feed(line, &mut sink).is_err() {
+            return false;
+        }
+    }
+    reader.finish(&mut sink).is_ok()
+}
+
+/// How many growths so many lines take, found by refusing each of them in turn.
+fn growths(alloc: Global, lines: u32) -> Option<u64> {
+    for calls in 0..5000 {
+        let memory = Refusing::after(alloc, calls);
+        let read = read_lines(&memory, lines);
+        if !memory.has_refused() {
+            return if read { Some(calls) } else { None };
+        }
+    }
+    None
+}
+
+#[test]
+fn each_line_takes_as_many_growths_as_the_one_before(rt: HostRuntime) {
+    let few = growths(rt.alloc(), 64).expect(&rt, "few lines");
+    let more = growths(rt.alloc(), 128).expect(&rt, "more lines");
+    let most = growths(rt.alloc(), 256).expect(&rt, "most lines");
+    assert!(rt; few < more && more < most);
+    assert_eq!(rt; most - more, 2 * (more - few));
 }

@@ -32,6 +32,7 @@ use Rattle.rdf_trig.specs.Machine as M
 use Rattle.rdf_trig.specs.Machine.{Reply, No, Go, kept, by_use, refuses, accepts}
 use Rattle.rdf_trig.specs.States.{mode_of, use_in, scope_in, is_go, moved, DepthMoves, ShortPrefix, PrefixFits}
 use Rattle.rdf_trig.specs.Scopes.{IsAdmitted, SameScope, LooksUp, LooksUpNone}
+use Rattle.rdf_trig.specs.Holding.{most_text, frames_most, Fits}
 use Rattle.rdf_trig.specs.Steps.{Begins, GaveUp, state_of, May, Stays, DepthMay, Keeps, Accepts, answered, Fails}
 use Rattle.rdf_trig.proofs.code.StepBounds.{step_use, step_depth, step_prefix}
 use Rattle.rdf_trig.proofs.code.PutsInRow.{begins_all}
@@ -166,15 +167,36 @@ prefix_kept : {A : Type 0} (a b : ℕ) (form : DocForm) (v : Level A) (f : Frame
 prefix_kept a b form v f fs (mode.Outer (outer.WantPrefixIri w p)) h s = omega (arith, h, s)
 prefix_kept a b form v f fs m h s = tt
 
--- the reader's count of brackets and the length of its prefix stay right after a step
+-- as many brackets as may be are open after a token that opens one only where there was room
+depth_within : (k : Kind) (old new most : ℕ) → old ≤ most → (M.deepens k ≡ true → old + 1 ≤ most) → DepthMoves k old new → new ≤ most
+depth_within OpenBracket old new most h room d = let r = room refl in omega (arith, r, d)
+depth_within OpenParen old new most h room d = let r = room refl in omega (arith, r, d)
+depth_within CloseBracket old new most h room d = omega (arith, h, d)
+depth_within CloseParen old new most h room d = omega (arith, h, d)
+depth_within k old new most h room d = omega (arith, h, d)
+
+-- no more frames are open than brackets after a token either
+stack_within : (k : Kind) (old new depth next : ℕ) → old ≤ depth → new ≤ frames_most k old → DepthMoves k depth next → new ≤ next
+stack_within OpenBracket old new depth next h m d = omega (arith, h, m, d)
+stack_within OpenParen old new depth next h m d = omega (arith, h, m, d)
+stack_within CloseBracket old new depth next h m d = omega (arith, h, m, d)
+stack_within CloseParen old new depth next h m d = omega (arith, h, m, d)
+stack_within k old new depth next h m d = omega (arith, h, m, d)
+
+-- the reader's count of brackets, the length of its prefix, its texts and its frames stay right after a step
 pub keeps_moved : {A : Type 0} (form : DocForm) (s : InForce) (sizes : Sizes) (old r : State A) (k : Kind) (l : Leaf) (u : Use) (t : InForce) →
     Keeps form sizes old → byte_len l.text ≤ 4 * sizes.token →
-    M.step form (state_of form s old).setting (state_of form s old).mode k l ≡ moved form t u r → DepthMoves k old.depth r.depth → Keeps form sizes r
-keeps_moved form s sizes old r k l u t keeps short e d =
+    M.step form (state_of form s old).setting (state_of form s old).mode k l ≡ moved form t u r → DepthMoves k old.depth r.depth →
+    (M.deepens k ≡ true → old.depth + 1 ≤ sizes.depth) → length r.frames.items ≤ frames_most k (length old.frames.items) → Fits (most_text sizes) r →
+    Keeps form sizes r
+keeps_moved form s sizes old r k l u t keeps short e d room stack fits =
     let n = state_of form s old in
     record {
       depth = depth_same k old.depth r.depth (M.depth n.mode) _ keeps.depth d (step_depth form n.setting n.mode k l u _ _ _ _ e);
       short = prefix_kept (byte_len l.text) (4 * sizes.token) form r.level r.frame r.frames.items r.mode short (step_prefix form n.setting n.mode k l u _ _ _ _ e);
+      deep = depth_within k old.depth r.depth sizes.depth keeps.deep room d;
+      fits = fits;
+      stack = stack_within k (length old.frames.items) (length r.frames.items) old.depth r.depth keeps.stack stack d;
     }
 
 -- a character has at most four bytes

@@ -8,7 +8,7 @@ use Rattle.rdf_terms.specs.Terms.{Quad}
 use Rattle.rdf_terms.specs.Sinks.{Attempts}
 use Rattle.rdf_tokens.specs.Tokens.{Token}
 use Rattle.rdf_tokens.specs.Grammars.{Marked, unmarked, Viable, Due, PassesNone}
-use Rattle.rdf_iri.specs.Scope.{InForce}
+use Rattle.rdf_iri.specs.Scope.{InForce, bytes_held}
 use Rattle.rdf_lines.specs.Lines.{leaf_of}
 use Rattle.rdf_driver.specs.Words.{Lawful, Takes, GivesUp, Blames, Misses}
 use Rattle.rdf_trig.specs.declared.form.DocForm.{DocForm}
@@ -62,7 +62,7 @@ lawful = record {
         by why b = b
 
 -- Before the first token nothing was accepted.
-pub begins_here : (g : TreeAt) (x : Chosen) → g ≡ record { form = x.form; limit = x.start.limits.token; state = at_start x.start } →
+pub begins_here : (g : TreeAt) (x : Chosen) → g ≡ record { form = x.form; limit = x.start.limits.token; state = at_start x.start; held = bytes_held x.start } →
     tree_words.reached g x [] []
 begins_here g x e = subst (λ y. tree_words.reached y x [] []) (sym e) (refl, refl, record { machine = at_start x.start; accepted = refl; same = state_self (at_start x.start) })
 
@@ -76,13 +76,13 @@ module _ {S : Type 0} (takes : S → Quad → S → Type 0) (g : TreeAt) (t : To
   by_form x a e h = sym (ap (λ y. answer y g t) e) ∙ h
 
   -- The machine accepts: the quads that it gives out were put, and it stands where the reader does.
-  pub takes_token : {A : Type 0} (r : Code A) (scope : InForce) (n : ℕ) (old new : S) → Accepts takes g.form (answer g.form g t) old r scope new →
+  pub takes_token : {A : Type 0} (r : Code A) (scope : InForce) (n bytes : ℕ) (old new : S) → Accepts takes g.form (answer g.form g t) old r scope new →
       ((qs : List Quad) (m : State) → answer g.form g t ≡ accepts qs m → n ≡ length qs) →
-      Takes tree_words takes g t n old (record { form = g.form; limit = g.limit; state = state_of g.form scope r }) new
-  takes_token r scope n old new h count = by (answer g.form g t) refl h
+      Takes tree_words takes g t n old (record { form = g.form; limit = g.limit; state = state_of g.form scope r; held = bytes }) new
+  takes_token r scope n bytes old new h count = by (answer g.form g t) refl h
     where
       by : (a : Answer) → answer g.form g t ≡ a → Accepts takes g.form a old r scope new →
-          Takes tree_words takes g t n old (record { form = g.form; limit = g.limit; state = state_of g.form scope r }) new
+          Takes tree_words takes g t n old (record { form = g.form; limit = g.limit; state = state_of g.form scope r; held = bytes }) new
       by (refuses y) e h = absurd h
       by (accepts quads m) e h =
           let now = state_of g.form scope r in

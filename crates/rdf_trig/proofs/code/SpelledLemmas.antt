@@ -1,5 +1,5 @@
 -- What the shape of a token says of what it spells.
-use Rattle.std.proofs.Common.{◌≡◌, ℕ, Bool, true, false, List, [], ◌∷◌, ◌++◌, ◌||◌, ◌&&◌, ◌==◌, drop, None, is_some, refl, sym, ap, ◌∙◌, subst, inl, inr, ⊎_elim}
+use Rattle.std.proofs.Common.{◌≡◌, ℕ, Bool, true, false, List, [], ◌∷◌, ◌++◌, ◌||◌, ◌&&◌, ◌==◌, length, drop, None, is_some, refl, sym, ap, ◌∙◌, subst, inl, inr, ⊎_elim}
 use Rattle.std.specs.Prelude.{codes}
 use Rattle.std.specs.List.{AllByRecursion}
 use Rattle.std.proofs.lemmas.Bool.{false≢true, eqb-true, and_parts}
@@ -9,7 +9,7 @@ use Rattle.rdf_terms.specs.Regex.{Regex, Matches}
 use Rattle.rdf_terms.specs.Regex.Regex.{nothing, empty, one, ◌·◌, ◌∣◌, many}
 use Rattle.rdf_terms.specs.declared.kind.Kind.{Kind}
 use Rattle.rdf_terms.specs.declared.kind.Dialect.TheVariants.{Lines, Turtle}
-use Rattle.rdf_terms.specs.declared.kind.Kind.TheVariants.{IriRef, LabelNode, LangTag, AtPrefix, AtBase, ShortString, LongString}
+use Rattle.rdf_terms.specs.declared.kind.Kind.TheVariants.{IriRef, LabelNode, LangTag, AtPrefix, AtBase, ShortString, LongString, True, False, End}
 use Rattle.rdf_terms.specs.Shapes.{shape, Shape, label_name, tag_name, word}
 use Rattle.rdf_terms.specs.Terms.{IsLabel, IsTag}
 use Rattle.rdf_terms.specs.Values.{string_value, iri_value, inside, is_fit}
@@ -155,3 +155,21 @@ fit_reference t r k n =
     reference_kind : (k : Kind) → IsReference k → k ≡ IriRef
     reference_kind IriRef r = refl
     reference_kind k r = absurd r
+
+-- a token `true` has four characters
+pub true_length : (t : Given) → t.kind ≡ True → IsTurtleToken t → length (leaf t).text ≡ 4
+unfolding shape
+true_length t e k =
+    ⊎_elim
+    (λ x. absurd (let z : End ≡ True = sym x.0 ∙ e in cc))
+    (λ h. let m : Shape Turtle True (leaf t).text = subst (λ k. Shape Turtle k (leaf t).text) e h.0 in ap length (spelled_word (codes "true") (leaf t).text m))
+    k
+
+-- and one `false` five
+pub false_length : (t : Given) → t.kind ≡ False → IsTurtleToken t → length (leaf t).text ≡ 5
+unfolding shape
+false_length t e k =
+    ⊎_elim
+    (λ x. absurd (let z : End ≡ False = sym x.0 ∙ e in cc))
+    (λ h. let m : Shape Turtle False (leaf t).text = subst (λ k. Shape Turtle k (leaf t).text) e h.0 in ap length (spelled_word (codes "false") (leaf t).text m))
+    k

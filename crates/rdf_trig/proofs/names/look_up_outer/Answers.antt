@@ -16,6 +16,7 @@ returns-in_default g c =
     let n = c.in_default in
     record {
       ok = outer_looks c.args.outer.now t c.args.token.now.kind (leaf c.args.token.now) c.name.result n.not-WantPrefix n.not-WantPrefixIri n.not-WantBaseIri c.name.ensures.ok;
+      fits = c.name.ensures.fits;
       err = outer_none c.args.outer.now t c.args.token.now.kind (leaf c.args.token.now) c.name.result n.not-WantPrefix n.not-WantPrefixIri n.not-WantBaseIri c.name.ensures.err;
     }
 

@@ -4,6 +4,7 @@ use Rattle.std.specs.Str.{chars}
 use Rattle.rdf_terms.specs.Values as V
 use Rattle.rdf_terms.proofs.InsideLemmas.{inside-inside}
 use Rattle.rdf_trig.proofs.code.SpelledLemmas.{fit_long}
+use Rattle.rdf_trig.proofs.code.HoldingLemmas.{spelled_fits, long_shorter}
 use Rattle.rdf_trig.proofs.spelled.long_string.Goals as goal
 
 pub unreachable-requires : goal.unreachable-requires
@@ -20,3 +21,6 @@ returns-in-Ok-clause-ok g c =
     c.without_ends-3.ensures ∙ (ap (V.inside 1) (c.without_ends-2.ensures ∙ (ap (V.inside 1) c.without_ends.ensures ∙ inside-inside 1 1 (chars c.args.text.now))) ∙ inside-inside 1 2 (chars c.args.text.now))
     in
     sym (ap (λ o. unwrap_or o []) (sym (ap V.string_value at) ∙ c.in-Ok.ensures.ok))
+
+pub returns-in-Ok-clause-fits : goal.returns-in-Ok-clause-fits
+returns-in-Ok-clause-fits g c = let w = chars c.args.text.now in spelled_fits c.in-Ok.value _ w (returns-in-Ok-clause-ok g c) (long_shorter w)

@@ -1,8 +1,11 @@
 -- What a step of the reader did is what the machine does, so the driver may use the grammar.
-use Rattle.std.proofs.Common.{subst}
+use Rattle.std.proofs.Common.{◌+◌, subst, sym, ap, refl, ◌∙◌}
+use Rattle.rdf_iri.specs.Scope.{bytes_held}
 use Rattle.rdf_tokens.specs.Scans.{token_of}
-use Rattle.rdf_driver.specs.Words.{Takes, Misses}
+use Rattle.rdf_driver.specs.Words.{Takes, Misses, KeepsLimits}
 use Rattle.rdf_trig.specs.Steps.{state_of}
+use Rattle.rdf_trig.specs.Owed.{most_kept}
+use Rattle.rdf_trig.specs.Holding.{state_bytes}
 use Rattle.rdf_trig.specs.Accepting.{TreeAt, reason_of, tree_words}
 use Rattle.rdf_trig.proofs.code.AnswersOfSteps.{same_scope}
 use Rattle.rdf_trig.proofs.code.LawfulGrammar.{takes_token, misses_token}
@@ -15,18 +18,27 @@ pub returns-in-Ok-clause-ok : goal.returns-in-Ok-clause-ok
 returns-in-Ok-clause-ok g c =
     let r = c.self.inside in
     let t = token_of c.args.token in
-    let old : TreeAt = record { form = r.rules.form; limit = r.rules.limits.token; state = state_of r.rules.form r.scope r.state } in
-    let new : TreeAt = record { form = r.rules.form; limit = r.rules.limits.token; state = state_of r.rules.form c.accept.new.scope c.accept.new.self } in
+    let old : TreeAt = record { form = r.rules.form; limit = r.rules.limits.token; state = state_of r.rules.form r.scope r.state; held = state_bytes r.state + bytes_held r.scope } in
+    let bytes = state_bytes c.accept.new.self + bytes_held c.accept.new.scope in
+    let new : TreeAt = record { form = r.rules.form; limit = r.rules.limits.token; state = state_of r.rules.form c.accept.new.scope c.accept.new.self; held = bytes } in
     subst (λ y. Takes tree_words g.S.QuadSink.takes y t c.in-Ok.given c.args.sink.now new c.accept.new.sink) c.self.view_is
-    (takes_token g.S.QuadSink.takes old t c.accept.new.self c.accept.new.scope c.in-Ok.given c.args.sink.now c.accept.new.sink
+    (takes_token g.S.QuadSink.takes old t c.accept.new.self c.accept.new.scope c.in-Ok.given bytes c.args.sink.now c.accept.new.sink
     (c.in-Ok.ensures.ok r.scope (same_scope r.scope)) (c.in-Ok.ensures.count r.scope))
 
 pub returns-in-Err-clause-err : goal.returns-in-Err-clause-err
 returns-in-Err-clause-err g c =
     let r = c.self.inside in
     let t = token_of c.args.token in
-    let old : TreeAt = record { form = r.rules.form; limit = r.rules.limits.token; state = state_of r.rules.form r.scope r.state } in
+    let old : TreeAt = record { form = r.rules.form; limit = r.rules.limits.token; state = state_of r.rules.form r.scope r.state; held = state_bytes r.state + bytes_held r.scope } in
     rw c.reason_of.ensures
     (subst (λ y. Misses tree_words g.S.QuadSink.takes g.S.QuadSink.leaves g.S.QuadSink.has_failed (reason_of c.in-Err.fault) y t c.args.sink.now c.accept.new.sink) c.self.view_is
     (misses_token g.S.QuadSink.takes old t g.S.QuadSink.leaves g.S.QuadSink.has_failed c.args.sink.now c.accept.new.sink c.in-Err.fault
     (c.in-Err.ensures.err r.scope (same_scope r.scope))))
+
+pub returns-in-Ok-clause-limits : goal.returns-in-Ok-clause-limits
+returns-in-Ok-clause-limits g c =
+    subst (λ y. KeepsLimits tree_words y _) c.self.view_is (record { token = refl; most = ap most_kept (c.in-Ok.ensures.limits ∙ sym c.self.invariant.0) })
+
+pub returns-in-Err-clause-limits : goal.returns-in-Err-clause-limits
+returns-in-Err-clause-limits g c =
+    subst (λ y. KeepsLimits tree_words y _) c.self.view_is (record { token = refl; most = ap most_kept (c.clear.ensures ∙ sym c.self.invariant.0) })

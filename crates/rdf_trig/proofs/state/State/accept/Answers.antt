@@ -4,6 +4,8 @@ use Rattle.rdf_trig.specs.Machine as M
 use Rattle.rdf_trig.proofs.machine.AcceptedTokens.{accepted}
 use Rattle.rdf_trig.specs.States.{leaf, level_of, up_of}
 use Rattle.rdf_trig.specs.Steps.{state_of}
+use Rattle.rdf_trig.specs.Holding.{most_text}
+use Rattle.rdf_trig.proofs.code.HoldingLemmas.{token_within, name_within}
 use Rattle.rdf_trig.proofs.code.PutsInRow.{told_stops}
 use Rattle.rdf_trig.proofs.code.AnswersOfSteps.{fails_stops, fails_gave, fails_stays, accepts_moved, keeps_moved, limits_kept, same_scope, bytes_at_most}
 use Rattle.rdf_trig.proofs.state.State.accept.Goals as goal
@@ -88,6 +90,9 @@ returns-in-Ok-clause-keeps g c =
     let s = c.args.scope.now in
     keeps_moved form s c.args.limits self c.move_on.new.self k l _ _ c.requires.keeps (bytes_at_most l.text c.args.limits.token c.requires.short)
     (c.in-Ok.ensures.ok s (c.in_ok-name.ensures.ok form v self.frame u s (same_scope s)).name) c.in-Ok.ensures.depth
+    c.in_ok-check.ensures.deep c.in-Ok.ensures.stack
+    (c.in-Ok.ensures.fits (most_text c.args.limits) (token_within c.args.limits c.args.token.now c.requires.short)
+    (name_within s.limits c.args.limits c.in_ok-name.name c.requires.limits c.in_ok-name.ensures.fits) c.requires.keeps.fits)
 
 pub returns-in-Err-clause-err : goal.returns-in-Err-clause-err
 returns-in-Err-clause-err g c = λ s e.

@@ -17,4 +17,6 @@ returns-in_default g c = record {
       (subst (λ v. Gives form s (use_at s k l) c.verb_start.result self (M.verb_start (setting s (graph_of v)) x (M.Statement (level_of v)) k l))
       c.requires.level (c.verb_start.ensures.gives form s l h));
   depth = c.verb_start.ensures.depth;
+  stack = c.verb_start.ensures.stack;
+  fits = λ n h o t. c.verb_start.ensures.fits n h o t;
 }

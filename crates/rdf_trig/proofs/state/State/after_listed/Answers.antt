@@ -14,4 +14,6 @@ returns-in_default g c = record {
       c.args.kind l c.in_default.not-Comma c.in_default.not-Semicolon)
       (c.list_end.ensures.gives form s subject verb l e);
   depth = c.list_end.ensures.depth;
+  stack = c.list_end.ensures.stack;
+  fits = λ n o. c.list_end.ensures.fits n o;
 }

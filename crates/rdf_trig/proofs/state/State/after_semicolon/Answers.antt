@@ -21,4 +21,6 @@ returns g c = record {
       (sym c.begins_verb.ensures ∙ c.if-begins_verb.false) c.in_default.not-Semicolon)
       (c.list_end.ensures.gives form s subject verb l e);
   depth = c.list_end.ensures.depth;
+  stack = c.list_end.ensures.stack;
+  fits = λ n h o. c.list_end.ensures.fits n o;
 }

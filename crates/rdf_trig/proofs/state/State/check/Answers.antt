@@ -17,3 +17,6 @@ returns-clause-room g c =
     let n = state_of c.args.form s c.args.self.now in
     may_count c.args.form n.setting n.mode c.args.kind l c.args.self.now.depth
     (sym (c.allows.ensures n.setting c.args.self.now.frames.items l) ∙ c.if-not-allows.false) c.requires (c.is_too_deep.ensures.room c.if-is_too_deep.false)
+
+pub returns-clause-deep : goal.returns-clause-deep
+returns-clause-deep g c = c.is_too_deep.ensures.deep c.if-is_too_deep.false

@@ -1,4 +1,4 @@
-use Rattle.std.proofs.Common.{subst, ◌∙◌}
+use Rattle.std.proofs.Common.{subst}
 use Rattle.std.specs.Prelude.{option_map}
 use Rattle.rdf_terms.specs.Owned.{owned_subject}
 use Rattle.rdf_trig.specs.States.{leaf, use_at, setting, graph_of, level_of, Gives}
@@ -7,15 +7,12 @@ use Rattle.rdf_trig.proofs.machine.Fallbacks.{inside-else}
 use Rattle.rdf_trig.proofs.code.TurnsLemmas.{gives_at}
 use Rattle.rdf_trig.proofs.state.State.inside.Goals as goal
 
-pub returns-in_default : goal.returns-in_default
-returns-in_default g c = record {
-  gives = λ form s h.
-      let k = c.args.token.now.kind in
-      let l = leaf c.args.token.now in
-      let self = c.subject_start.new.self in
-      gives_at form s (use_at s k l) c.subject_start.result self _ _
-      (inside-else form (setting s (option_map owned_subject c.args.graph)) k l c.in_default.not-CloseBrace)
-      (subst (λ v. Gives form s (use_at s k l) c.subject_start.result self (M.subject_start form (setting s (graph_of v)) (level_of v) k l))
-      c.begin.ensures.level (c.subject_start.ensures.gives form s h));
-  depth = c.subject_start.ensures.depth ∙ c.begin.ensures.depth;
-}
+pub returns-in_default-clause-gives : goal.returns-in_default-clause-gives
+returns-in_default-clause-gives g c = λ form s h.
+    let k = c.args.token.now.kind in
+    let l = leaf c.args.token.now in
+    let self = c.subject_start.new.self in
+    gives_at form s (use_at s k l) c.subject_start.result self _ _
+    (inside-else form (setting s (option_map owned_subject c.args.graph)) k l c.in_default.not-CloseBrace)
+    (subst (λ v. Gives form s (use_at s k l) c.subject_start.result self (M.subject_start form (setting s (graph_of v)) (level_of v) k l))
+    c.begin.ensures.level (c.subject_start.ensures.gives form s h))

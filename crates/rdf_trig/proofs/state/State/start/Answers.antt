@@ -10,6 +10,6 @@ returns-in-None-clause-gives g c s h =
     let k = c.args.token.now.kind in
     let l = leaf c.args.token.now in
     let self = c.subject_start.new.self in
-    gives_at form s (use_at s k l) c.subject_start.result self _ _ (c.in-None.ensures s l)
+    gives_at form s (use_at s k l) c.subject_start.result self _ _ (c.in-None.ensures.outer s l)
     (subst (λ v. Gives form s (use_at s k l) c.subject_start.result self (M.subject_start form (setting s (graph_of v)) (level_of v) k l))
     c.begin.ensures.level (c.subject_start.ensures.gives form s h))

@@ -1,0 +1,182 @@
+-- The texts that a token brings are no longer than the token, and the stack of frames keeps what holds of each.
+use Rattle.std.proofs.Common.{◌≡◌, ℕ, Option, Some, None, ◌^◌, max, ◌*◌, ◌≤◌, List, [], ◌∷◌, ◌++◌, length, drop, subst, sym, ap, arith, length-append}
+use Rattle.std.specs.List.{All, AllByRecursion, sum_by}
+use Rattle.std.proofs.lemmas.Nat.{mul-le}
+use Rattle.std.proofs.lemmas.List.Elements.{All-weaker, All-from_recursion}
+use Rattle.std.proofs.lemmas.List.Sums.{sum_by-le}
+use Rattle.std.specs.Str.{chars}
+use Rattle.std.specs.String.{string_bytes}
+use Rattle.std.specs.Prelude.{String}
+use Rattle.std.proofs.lemmas.List.{length-drop}
+use Rattle.std.proofs.lemmas.Str.{IsUtf8-string_bytes}
+use Rattle.rdf_iri.specs.Texts.{byte_len, before, from}
+use Rattle.rdf_iri.proofs.TextsLemmas.{before-from}
+use Rattle.rdf_iri.proofs.ResolvedText.{byte_len-chars}
+use Rattle.rdf_lines.proofs.WrittenLimits.{string_short}
+use Rattle.rdf_trig.specs.declared.form.DocForm.{DocForm}
+use Rattle.rdf_trig.specs.declared.state.Frame.{Frame}
+use Rattle.rdf_trig.specs.declared.state.Frame.TheVariants as frame
+use Rattle.rdf_trig.specs.declared.state.Mode.{Mode}
+use Rattle.rdf_trig.specs.declared.state.Mode.TheVariants as mode
+use Rattle.rdf_trig.specs.declared.state.Object.{Object}
+use Rattle.rdf_trig.specs.declared.state.Held.TheVariants as held
+use Rattle.rdf_trig.specs.declared.state.State.{State}
+use Rattle.rdf_tokens.specs.declared.token.Token.{Token as Given}
+use Rattle.rdf_tokens.specs.Good.{most_bytes}
+use Rattle.rdf_iri.specs.Limits.{Sizes, InRange}
+use Rattle.rdf_iri.specs.Scope.{most_bytes_held}
+use Rattle.rdf_tokens.specs.Scans.{most_unread}
+use Rattle.rdf_driver.specs.Readers.{SameLimits}
+use Rattle.rdf_trig.specs.Accepting.{TrigRead, tree_words, most_of}
+use Rattle.rdf_trig.specs.States.{leaf}
+use Rattle.rdf_trig.specs.Steps.{Keeps}
+use Rattle.rdf_trig.specs.Owed.{most_kept}
+use Rattle.rdf_trig.specs.Spelled.{short_in, long_in}
+use Rattle.rdf_trig.specs.Holding.{frame_bytes, mode_bytes, object_bytes, state_bytes, most_text, TextFits, NameFits, FrameFits, OpenFits, Fits}
+use Rattle.rdf_trig.proofs.code.AnswersOfSteps.{bytes_at_most}
+
+-- the greater of two numbers is no less than either
+pub max_least : (a b : ℕ) → (a ≤ max a b) × (b ≤ max a b)
+max_least a b = (omega arith, omega arith)
+
+-- nor more than what neither passes
+max_within : (a b n : ℕ) → a ≤ n → b ≤ n → max a b ≤ n
+max_within a b n h k = omega (arith, h, k)
+
+-- a text of no more characters than another has at most four bytes for each of the other's
+pub shorter_fits : (v w : List ℕ) → length v ≤ length w → byte_len v ≤ 4 * length w
+shorter_fits v w h = bytes_at_most v (length w) h
+
+-- the same of a text without its first characters
+pub dropped_fits : (k : ℕ) (w : List ℕ) → byte_len (drop k w) ≤ 4 * length w
+dropped_fits k w = shorter_fits (drop k w) w (let l = length-drop k w in omega (arith, l))
+
+-- the same of a string that owns its text
+pub string_fits : {A : Type 0} (s : String A) (w : List ℕ) → length (chars (string_bytes s)) ≤ length w → length (string_bytes s) ≤ 4 * length w
+string_fits s w h = subst (λ n. n ≤ 4 * length w) (byte_len-chars (string_bytes s) (IsUtf8-string_bytes s)) (shorter_fits (chars (string_bytes s)) w h)
+
+-- so too where its characters are known by an equation
+pub spelled_fits : {A : Type 0} (s : String A) (v w : List ℕ) → chars (string_bytes s) ≡ v → length v ≤ length w → length (string_bytes s) ≤ 4 * length w
+spelled_fits s v w e h = string_fits s w (subst (λ u. length u ≤ length w) (sym e) h)
+
+-- a string in quotes has no more characters than its token
+pub short_shorter : (w : List ℕ) → length (short_in w) ≤ length w
+short_shorter w = let h = string_short 1 w in omega (arith, h)
+
+-- nor has one in three quotes
+pub long_shorter : (w : List ℕ) → length (long_in w) ≤ length w
+long_shorter w = let h = string_short 3 w in omega (arith, h)
+
+-- what stands before a character is no longer than all
+pub before_shorter : (c : ℕ) (w : List ℕ) → length (before c w) ≤ length w
+before_shorter c w =
+    let all : length (before c w ++ from c w) ≡ length w = ap length (before-from c w) in
+    let cut = length-append (before c w) (from c w) in
+    omega (arith, all, cut)
+
+-- a state that holds no object fits where its mode does
+pub stood_fits : {A : Type 0} (n : ℕ) (old new : State A) (m : Mode A) (x : Option (ℕ × ℕ)) →
+    new ≡ record old { rest = x; held = held.Nothing; mode = m } → OpenFits n old → mode_bytes m ≤ n → Fits n new
+stood_fits n old new m x e o h =
+    subst (Fits n) (sym e) (record { around = record { level = o.level; frame = o.frame; frames = o.frames }; mode = h; hand = omega (arith, h) })
+
+-- one that holds an object fits where the object has at most two texts
+pub holds_fits : {A : Type 0} (n : ℕ) (old new : State A) (b : Object A) (x : Option (ℕ × ℕ)) →
+    new ≡ record old { rest = x; held = held.Object b; mode = mode.After } → OpenFits n old → object_bytes b ≤ 2 * n → Fits n new
+holds_fits n old new b x e o h =
+    subst (Fits n) (sym e) (record { around = record { level = o.level; frame = o.frame; frames = o.frames }; mode = omega arith; hand = omega (arith, h) })
+
+-- one that holds an object without a text fits after a bracket too
+pub opened_fits : {A : Type 0} (n k : ℕ) (old new : State A) (b : Object A) (x : Option (ℕ × ℕ)) →
+    new ≡ record old { rest = x; held = held.Object b; mode = mode.After } → OpenFits n old → object_bytes b ≡ 0 →
+    Fits n (record new { mode = mode.Bracket k })
+opened_fits n k old new b x e o h =
+    subst (λ r. Fits n (record r { mode = mode.Bracket k })) (sym e)
+    (record { around = record { level = o.level; frame = o.frame; frames = o.frames }; mode = omega arith; hand = omega (arith, h) })
+
+-- what fits of each frame fits of one frame more
+pub frames_pushed : {A : Type 0} (n : ℕ) (gs fs : List (Frame A)) (f : Frame A) → gs ≡ fs ++ f ∷ [] →
+    AllByRecursion (FrameFits n) fs → FrameFits n f → AllByRecursion (FrameFits n) gs
+frames_pushed {A} n gs fs f e a h = subst (AllByRecursion (FrameFits n)) (sym e) (by fs a)
+  where
+    by : (fs : List (Frame A)) → AllByRecursion (FrameFits n) fs → AllByRecursion (FrameFits n) (fs ++ f ∷ [])
+    by [] a = (h, tt)
+    by (g ∷ fs) a = (a.0, by fs a.1)
+
+-- what fits of each frame fits of the last one, and of those below it
+pub frames_popped : {A : Type 0} (n : ℕ) (gs fs : List (Frame A)) (f : Frame A) → gs ≡ fs ++ f ∷ [] →
+    AllByRecursion (FrameFits n) gs → FrameFits n f × AllByRecursion (FrameFits n) fs
+frames_popped {A} n gs fs f e a = by fs (subst (AllByRecursion (FrameFits n)) e a)
+  where
+    by : (fs : List (Frame A)) → AllByRecursion (FrameFits n) (fs ++ f ∷ []) → FrameFits n f × AllByRecursion (FrameFits n) fs
+    by [] a = (a.0, tt)
+    by (g ∷ fs) a = let r = by fs a.1 in (r.0, (a.0, r.1))
+
+-- a token within the limit brings a text that fits
+pub token_within : (sizes : Sizes) (t : Given) → length (leaf t).text ≤ sizes.token → TextFits (most_text sizes) t
+token_within sizes t h = let m = max_least sizes.iri (4 * sizes.token) in omega (arith, h, m.1)
+
+-- so does a name, whose IRI is within its limit
+pub name_within : (here sizes : Sizes) (i : Option (List ℕ)) → here ≡ sizes → NameFits here.iri i → NameFits (most_text sizes) i
+name_within here sizes None e h = tt
+name_within here sizes (Some i) e h =
+    let m = max_least sizes.iri (4 * sizes.token) in
+    let k : byte_len i ≤ sizes.iri = subst (λ (z : Sizes). byte_len i ≤ z.iri) e h in
+    omega (arith, k, m.0)
+
+-- a state that fits does so whatever it counts
+pub counted_fits : {A : Type 0} (n k : ℕ) (r : State A) → Fits n r → Fits n (record r { depth = k })
+counted_fits n k r f = record { around = record { level = f.around.level; frame = f.around.frame; frames = f.around.frames }; mode = f.mode; hand = f.hand }
+
+-- a frame holds two texts at most
+frame_within : {A : Type 0} (n : ℕ) (f : Frame A) → FrameFits n f → frame_bytes f ≤ 2 * n
+frame_within n (frame.List s p a) h = let x = h.0 in let y = h.1 in omega (arith, x, y)
+frame_within n (frame.Cells first cell) h = omega arith
+
+-- so all of them hold twice as many as they are
+frames_within : {A : Type 0} (n : ℕ) (fs : List (Frame A)) → AllByRecursion (FrameFits n) fs → sum_by frame_bytes fs ≤ length fs * (2 * n)
+frames_within {A} n fs a = sum_by-le (frame_bytes {A = A}) (2 * n) fs (All-weaker _ (λ (f : Frame A). frame_bytes f ≤ 2 * n) (frame_within n) fs (All-from_recursion fs a))
+
+-- the texts of a state that keeps to the limits
+pub state_within : {A : Type 0} (form : DocForm) (sizes : Sizes) (r : State A) → Keeps form sizes r →
+    state_bytes r ≤ most_text sizes * (2 * (sizes.depth + 1) + 3)
+state_within form sizes r keeps =
+    let n = most_text sizes in
+    let fits = keeps.fits in
+    let below = frames_within n r.frames.items fits.around.frames in
+    let deep : length r.frames.items ≤ sizes.depth = let d = keeps.deep in let s = keeps.stack in omega (arith, d, s) in
+    let all = mul-le (length r.frames.items) (2 * n) sizes.depth (2 * n) deep (omega arith) in
+    let one = frame_within n r.frame fits.around.frame in
+    let level = fits.around.level in
+    let hand = fits.hand in
+    let product : n * (2 * (sizes.depth + 1) + 3) ≡ sizes.depth * (2 * n) + 5 * n = factors n sizes.depth in
+    omega (arith, below, all, one, level, hand, product)
+  where
+    factors : (n d : ℕ) → n * (2 * (d + 1) + 3) ≡ d * (2 * n) + 5 * n
+    factors n d = ring
+
+-- all texts that a grammar may hold within the limits fit a number of 63 bits
+pub kept_fits : (l : Sizes) → InRange l → most_kept l ≤ most_bytes
+kept_fits l r =
+    let text : most_text l ≤ 1073741824 = max_within l.iri (4 * l.token) 1073741824 (let h = r.iri in omega (arith, h)) (let h = r.token in omega (arith, h)) in
+    let wide : 2 * (l.depth + 1) + 3 ≤ 2097157 = let h = r.depth in omega (arith, h) in
+    let frames = mul-le (most_text l) (2 * (l.depth + 1) + 3) 1073741824 2097157 text wide in
+    let entry : 4 * l.token + l.iri ≤ 1342177280 = let a = r.token in let b = r.iri in omega (arith, a, b) in
+    let names = mul-le l.bindings (4 * l.token + l.iri) 16777216 1342177280 r.bindings entry in
+    let iri = r.iri in
+    bounded (most_text l * (2 * (l.depth + 1) + 3)) l.iri (l.bindings * (4 * l.token + l.iri)) frames iri names
+  where
+    bounded : (a i b : ℕ) → a ≤ 1073741824 * 2097157 → i ≤ 2 ^ 28 → b ≤ 16777216 * 1342177280 → a + i + b ≤ most_bytes
+    bounded a i b h k m = omega (arith, h, k, m)
+
+-- so all texts of a state and its scope
+pub kept_within : {A : Type 0} (form : DocForm) (sizes : Sizes) (r : State A) → Keeps form sizes r → (b : ℕ) → b ≤ most_bytes_held sizes →
+    state_bytes r + b ≤ most_kept sizes
+kept_within form sizes r keeps b h = added (state_bytes r) b _ sizes.iri _ (state_within form sizes r keeps) h
+  where
+    added : (a b x i y : ℕ) → a ≤ x → b ≤ i + y → a + b ≤ x + i + y
+    added a b x i y h k = omega (arith, h, k)
+
+-- a reader whose limits stay may hold as much as before
+pub same_most : (old new : TrigRead) → SameLimits tree_words old new → most_of new ≡ most_of old
+same_most old new s = ap₂ (λ a b. most_unread a + b) s.scanner s.grammar.most
