@@ -6,7 +6,6 @@ use Rattle.rdf_terms.specs.declared.reason.Reason.TheVariants as reason
 use Rattle.rdf_terms.specs.Terms.{Quad}
 use Rattle.rdf_driver.specs.Words.{Words}
 use Rattle.rdf_driver.specs.Readers.{Driven}
-use Rattle.rdf_driver.specs.Readers as R
 use Rattle.rdf_trig.specs.declared.form.DocForm.{DocForm}
 use Rattle.rdf_trig.specs.declared.fault.StepFault.{StepFault}
 use Rattle.rdf_trig.specs.declared.fault.StepFault.TheVariants as fault
@@ -40,10 +39,6 @@ tree_words = record {
 -- a reader of Turtle or TriG as its callers see it
 abbrev pub TrigRead : Type 0
 TrigRead = Driven TreeAt
-
--- the most bytes that a reader may hold within its limits
-abbrev pub most_of : TrigRead → ℕ
-most_of r = R.most_held tree_words r
 
 -- the error of a step, as a reader reports it
 abbrev pub reason_of : StepFault → Reason

@@ -5,10 +5,11 @@ ghost use Rattle.rdf_terms.specs.Terms.{Quad};
 ghost use Rattle.rdf_tokens.specs.Scans.{most_bytes, place_of, unread_bytes};
 ghost use Rattle.rdf_tokens.specs.Grammars.{GoesOn, IsWhole};
 ghost use Rattle.rdf_driver.specs.Words.{in_words};
-ghost use Rattle.rdf_driver.specs.Readers.{HasRead, Feeds, FeedFails, Finishes, FinishFails, Exactly, IsPlaced};
+ghost use Rattle.rdf_driver.specs.Readers as R;
+ghost use Rattle.rdf_driver.specs.Readers.{HasRead, SameLimits, Feeds, FeedFails, Finishes, FinishFails, Exactly, IsPlaced};
 ghost use Rattle.rdf_iri.specs.Scope.{InForce, BaseFits};
 ghost use Rattle.rdf_trig.specs.Language.{Chosen};
-ghost use Rattle.rdf_trig.specs.Accepting.{tree_words, most_of};
+ghost use Rattle.rdf_trig.specs.Accepting.{tree_words};
 ghost use Rattle.rdf_trig.specs.Owed.{most_held};
 
 use crate::form::DocForm;
@@ -147,7 +148,7 @@ pub fn tree_reader<A: Allocator + Copy>(alloc: A, options: Options<A>) -> Reader
     ensures read { HasRead tree_words result options [] [] }
     ensures form { result.grammar.form ≡ options.form }
     ensures token { result.scanner.limit ≡ options.start.limits.token }
-    ensures most { most_of result ≡ most_held options.start.limits }
+    ensures most { R.most_held tree_words result ≡ most_held options.start.limits }
 {
     let limit = options.limits.token();
     Reader::new(alloc, TreeGrammar::new(alloc, options), limit)
@@ -159,7 +160,7 @@ impl<A: Allocator + Copy> TrigReader<A> {
         ensures read { HasRead tree_words result options [] [] }
         ensures form { result.grammar.form ≡ options.form }
         ensures token { result.scanner.limit ≡ options.start.limits.token }
-        ensures most { most_of result ≡ most_held options.start.limits }
+        ensures most { R.most_held tree_words result ≡ most_held options.start.limits }
     {
         TrigReader {
             reader: tree_reader(alloc, options),
@@ -179,7 +180,7 @@ impl<A: Allocator + Copy> TrigReader<A> {
         ensures place { IfErr result (λ f. (x : Chosen) (bytes : List ℕ) (quads : List Quad) → HasRead tree_words self.old x bytes quads →
             IsPlaced f.reason (bytes ++ piece.now) (place_of f)) }
         ensures done { self.new.done ≡ not (is_ok result) }
-        ensures most { most_of self.new ≡ most_of self.old }
+        ensures limits { SameLimits tree_words self.old self.new }
     {
         self.reader.feed(piece, sink)
     }
@@ -194,15 +195,16 @@ impl<A: Allocator + Copy> TrigReader<A> {
         ensures place { IfErr result (λ f. (x : Chosen) (bytes : List ℕ) (quads : List Quad) → HasRead tree_words self.old x bytes quads →
             IsPlaced f.reason bytes (place_of f)) }
         ensures done { self.new.done ≡ true }
-        ensures most { most_of self.new ≡ most_of self.old }
+        ensures limits { SameLimits tree_words self.old self.new }
     {
         self.reader.finish(sink)
     }
     /// How many bytes of text are held: those of which no token was given, those of the open frames and of the quad in hand, the base,
-    /// and the prefixes with their IRIs. Spare capacity is not counted. It takes no memory.
+    /// and the prefixes with their IRIs. After each call, also one that failed, they are at most what the limits allow (`most` of `new`,
+    /// `limits` of `feed` and `finish`). Spare capacity is not counted. It takes no memory.
     pub fn held(&self) -> u64
         ensures sum { result ≡ unread_bytes self.now.scanner + self.now.grammar.held }
-        ensures most { result ≤ most_of self.now }
+        ensures most { result ≤ R.most_held tree_words self.now }
     {
         self.reader.held()
     }

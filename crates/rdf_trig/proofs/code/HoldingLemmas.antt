@@ -1,7 +1,8 @@
 -- The texts that a token brings are no longer than the token, and the stack of frames keeps what holds of each.
-use Rattle.std.proofs.Common.{◌≡◌, ℕ, Option, Some, None, ◌^◌, max, ◌*◌, ◌≤◌, List, [], ◌∷◌, ◌++◌, length, drop, subst, sym, ap, arith, length-append}
+use Rattle.std.proofs.Common.{◌≡◌, ℕ, Option, Some, None, ◌+◌, ◌^◌, ◌*◌, ◌≤◌, List, [], ◌∷◌, ◌++◌, length, drop, subst, sym, ap, ap₂, ◌∙◌, arith, length-append}
 use Rattle.std.specs.List.{All, AllByRecursion, sum_by}
 use Rattle.std.proofs.lemmas.Nat.{mul-le}
+use native.Mathlib.Nat.{le-max_left, le-max_right, max-le, mul-add, mul_comm, mul_assoc}
 use Rattle.std.proofs.lemmas.List.Elements.{All-weaker, All-from_recursion}
 use Rattle.std.proofs.lemmas.List.Sums.{sum_by-le}
 use Rattle.std.specs.Str.{chars}
@@ -25,23 +26,12 @@ use Rattle.rdf_tokens.specs.declared.token.Token.{Token as Given}
 use Rattle.rdf_tokens.specs.Good.{most_bytes}
 use Rattle.rdf_iri.specs.Limits.{Sizes, InRange}
 use Rattle.rdf_iri.specs.Scope.{most_bytes_held}
-use Rattle.rdf_tokens.specs.Scans.{most_unread}
-use Rattle.rdf_driver.specs.Readers.{SameLimits}
-use Rattle.rdf_trig.specs.Accepting.{TrigRead, tree_words, most_of}
 use Rattle.rdf_trig.specs.States.{leaf}
 use Rattle.rdf_trig.specs.Steps.{Keeps}
 use Rattle.rdf_trig.specs.Owed.{most_kept}
 use Rattle.rdf_trig.specs.Spelled.{short_in, long_in}
 use Rattle.rdf_trig.specs.Holding.{frame_bytes, mode_bytes, object_bytes, state_bytes, most_text, TextFits, NameFits, FrameFits, OpenFits, Fits}
 use Rattle.rdf_trig.proofs.code.AnswersOfSteps.{bytes_at_most}
-
--- the greater of two numbers is no less than either
-pub max_least : (a b : ℕ) → (a ≤ max a b) × (b ≤ max a b)
-max_least a b = (omega arith, omega arith)
-
--- nor more than what neither passes
-max_within : (a b n : ℕ) → a ≤ n → b ≤ n → max a b ≤ n
-max_within a b n h k = omega (arith, h, k)
 
 -- a text of no more characters than another has at most four bytes for each of the other's
 pub shorter_fits : (v w : List ℕ) → length v ≤ length w → byte_len v ≤ 4 * length w
@@ -114,15 +104,15 @@ frames_popped {A} n gs fs f e a = by fs (subst (AllByRecursion (FrameFits n)) e 
 
 -- a token within the limit brings a text that fits
 pub token_within : (sizes : Sizes) (t : Given) → length (leaf t).text ≤ sizes.token → TextFits (most_text sizes) t
-token_within sizes t h = let m = max_least sizes.iri (4 * sizes.token) in omega (arith, h, m.1)
+token_within sizes t h = let m = le-max_right sizes.iri (4 * sizes.token) in omega (arith, h, m)
 
 -- so does a name, whose IRI is within its limit
 pub name_within : (here sizes : Sizes) (i : Option (List ℕ)) → here ≡ sizes → NameFits here.iri i → NameFits (most_text sizes) i
 name_within here sizes None e h = tt
 name_within here sizes (Some i) e h =
-    let m = max_least sizes.iri (4 * sizes.token) in
+    let m = le-max_left sizes.iri (4 * sizes.token) in
     let k : byte_len i ≤ sizes.iri = subst (λ (z : Sizes). byte_len i ≤ z.iri) e h in
-    omega (arith, k, m.0)
+    omega (arith, k, m)
 
 -- a state that fits does so whatever it counts
 pub counted_fits : {A : Type 0} (n k : ℕ) (r : State A) → Fits n r → Fits n (record r { depth = k })
@@ -153,12 +143,14 @@ state_within form sizes r keeps =
     omega (arith, below, all, one, level, hand, product)
   where
     factors : (n d : ℕ) → n * (2 * (d + 1) + 3) ≡ d * (2 * n) + 5 * n
-    factors n d = ring
+    factors n d =
+        let x : 2 * (d + 1) + 3 ≡ d * 2 + 5 = omega arith in
+        ap (λ y. n * y) x ∙ (mul-add n (d * 2) 5 ∙ ap₂ (λ a b. a + b) (mul_comm n (d * 2) ∙ mul_assoc d 2 n) (mul_comm n 5))
 
 -- all texts that a grammar may hold within the limits fit a number of 63 bits
 pub kept_fits : (l : Sizes) → InRange l → most_kept l ≤ most_bytes
 kept_fits l r =
-    let text : most_text l ≤ 1073741824 = max_within l.iri (4 * l.token) 1073741824 (let h = r.iri in omega (arith, h)) (let h = r.token in omega (arith, h)) in
+    let text : most_text l ≤ 1073741824 = max-le (let h = r.iri in omega (arith, h)) (let h = r.token in omega (arith, h)) in
     let wide : 2 * (l.depth + 1) + 3 ≤ 2097157 = let h = r.depth in omega (arith, h) in
     let frames = mul-le (most_text l) (2 * (l.depth + 1) + 3) 1073741824 2097157 text wide in
     let entry : 4 * l.token + l.iri ≤ 1342177280 = let a = r.token in let b = r.iri in omega (arith, a, b) in
@@ -176,7 +168,3 @@ kept_within form sizes r keeps b h = added (state_bytes r) b _ sizes.iri _ (stat
   where
     added : (a b x i y : ℕ) → a ≤ x → b ≤ i + y → a + b ≤ x + i + y
     added a b x i y h k = omega (arith, h, k)
-
--- a reader whose limits stay may hold as much as before
-pub same_most : (old new : TrigRead) → SameLimits tree_words old new → most_of new ≡ most_of old
-same_most old new s = ap₂ (λ a b. most_unread a + b) s.scanner s.grammar.most

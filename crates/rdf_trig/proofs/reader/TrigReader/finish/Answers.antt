@@ -1,13 +1,12 @@
-use Rattle.std.proofs.Common.{◌≡◌, ℕ, List, subst}
+use Rattle.std.proofs.Common.{ℕ, List, subst}
 use Rattle.std.specs.Prelude.{IfErr}
 use Rattle.rdf_terms.specs.Terms.{Quad}
 use Rattle.rdf_tokens.specs.Scans.{place_of}
 use Rattle.rdf_tokens.specs.Grammars.{IsWhole}
 use Rattle.rdf_driver.specs.Words.{in_words}
-use Rattle.rdf_driver.specs.Readers.{HasRead, Exactly, IsPlaced}
+use Rattle.rdf_driver.specs.Readers.{HasRead, SameLimits, Exactly, IsPlaced}
 use Rattle.rdf_trig.specs.Language.{Chosen}
-use Rattle.rdf_trig.specs.Accepting.{TrigRead, tree_words, most_of}
-use Rattle.rdf_trig.proofs.code.HoldingLemmas.{same_most}
+use Rattle.rdf_trig.specs.Accepting.{TrigRead, tree_words}
 use Rattle.rdf_trig.proofs.reader.TrigReader.finish.Goals as goal
 
 pub returns-clause-exact : goal.returns-clause-exact
@@ -22,5 +21,5 @@ returns-clause-place g c =
     (λ (r : TrigRead). IfErr c.finish.result (λ f. (x : Chosen) (bytes : List ℕ) (quads : List Quad) → HasRead tree_words r x bytes quads → IsPlaced f.reason bytes (place_of f)))
     c.self.view_is c.finish.ensures.place
 
-pub returns-clause-most : goal.returns-clause-most
-returns-clause-most g c = subst (λ (r : TrigRead). most_of c.finish.new.self ≡ most_of r) c.self.view_is (same_most _ _ c.finish.ensures.limits)
+pub returns-clause-limits : goal.returns-clause-limits
+returns-clause-limits g c = subst (λ (r : TrigRead). SameLimits tree_words r c.finish.new.self) c.self.view_is c.finish.ensures.limits

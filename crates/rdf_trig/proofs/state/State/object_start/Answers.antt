@@ -18,25 +18,25 @@ pub returns-clause-fits : goal.returns-clause-fits
 returns-clause-fits g c = λ n t h o.
     holds_fits n c.args.self.now c.hold-2.new.self c.match-token.object _ c.hold-2.ensures o
     (elim c.match-token.branch [
-      in-IriRef-Some w ↦ subst (λ b. object_bytes b ≤ 2 * n) (sym w.object-is) (let z = subst (NameFits n) w.in-IriRef-Some.is-1 h in omega (arith, z))
+      | in-IriRef-Some w ↦ subst (λ b. object_bytes b ≤ 2 * n) (sym w.object-is) (let z = subst (NameFits n) w.in-IriRef-Some.is-1 h in omega (arith, z))
       | in-LabelNode-default+in_ok-label-in-LabelNode-default w ↦
-      subst (λ b. object_bytes b ≤ 2 * n) (sym w.object-is) (let z = w.in_ok-label-in-LabelNode-default.ensures.fits in omega (arith, t, z))
+          subst (λ b. object_bytes b ≤ 2 * n) (sym w.object-is) (let z = w.in_ok-label-in-LabelNode-default.ensures.fits in omega (arith, t, z))
       | in-Integer-default+in_ok-object-in-Integer-default w ↦
-      subst (λ b. object_bytes b ≤ 2 * n) (sym w.object-is) (let z = w.in_ok-object-in-Integer-default.ensures.fits in omega (arith, t, z))
+          subst (λ b. object_bytes b ≤ 2 * n) (sym w.object-is) (let z = w.in_ok-object-in-Integer-default.ensures.fits in omega (arith, t, z))
       | in-Decimal-default+in_ok-object-in-Decimal-default w ↦
-      subst (λ b. object_bytes b ≤ 2 * n) (sym w.object-is) (let z = w.in_ok-object-in-Decimal-default.ensures.fits in omega (arith, t, z))
+          subst (λ b. object_bytes b ≤ 2 * n) (sym w.object-is) (let z = w.in_ok-object-in-Decimal-default.ensures.fits in omega (arith, t, z))
       | in-Double-default+in_ok-object-in-Double-default w ↦
-      subst (λ b. object_bytes b ≤ 2 * n) (sym w.object-is) (let z = w.in_ok-object-in-Double-default.ensures.fits in omega (arith, t, z))
+          subst (λ b. object_bytes b ≤ 2 * n) (sym w.object-is) (let z = w.in_ok-object-in-Double-default.ensures.fits in omega (arith, t, z))
       | in-True-default+in_ok-object-in-True-default w ↦
-      subst (λ b. object_bytes b ≤ 2 * n) (sym w.object-is)
-      (let z = w.in_ok-object-in-True-default.ensures.fits in
-      let size = ap length w.true_word.ensures in
-      let all = true_length c.args.token.now w.in-True-default.is-0 c.requires.token in
-      omega (arith, t, z, size, all))
+          subst (λ b. object_bytes b ≤ 2 * n) (sym w.object-is)
+          (let z = w.in_ok-object-in-True-default.ensures.fits in
+          let size = ap length w.true_word.ensures in
+          let all = true_length c.args.token.now w.in-True-default.is-0 c.requires.token in
+          omega (arith, t, z, size, all))
       | in-False-default+in_ok-object-in-False-default w ↦
-      subst (λ b. object_bytes b ≤ 2 * n) (sym w.object-is)
-      (let z = w.in_ok-object-in-False-default.ensures.fits in
-      let size = ap length w.false_word.ensures in
-      let all = false_length c.args.token.now w.in-False-default.is-0 c.requires.token in
-      omega (arith, t, z, size, all))
+          subst (λ b. object_bytes b ≤ 2 * n) (sym w.object-is)
+          (let z = w.in_ok-object-in-False-default.ensures.fits in
+          let size = ap length w.false_word.ensures in
+          let all = false_length c.args.token.now w.in-False-default.is-0 c.requires.token in
+          omega (arith, t, z, size, all))
     ])
