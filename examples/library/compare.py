@@ -27,25 +27,29 @@ MADE = {
 PREFIXES = {'-': b'', 'bound.txt': b'x: http://example.org/x/\n', 'bad.txt': b'x: http://example.org/x/\nx <a:b>\n'}
 
 
+# How the lines are written: whether in ASCII, and the word in front of the names of nodes.
+FORMS = (False, ''), (True, ''), (False, 'a1')
+
+
 def by_program(program, action, case, name, prefixes):
-    format, base, named, ascii = case
+    format, base, named, (ascii, word) = case
     words = [program, action, '--format', format, *(['--base', base] if base else []), *(['--prefixes', prefixes] if named != '-' else []),
-             *(['--ascii'] if ascii and action == 'convert' else []), name]
+             *(['--ascii'] if ascii and action == 'convert' else []), *(['--node-prefix', word] if word and action == 'convert' else []), name]
     run = subprocess.run(words, capture_output=True)
     return run.stdout, run.stderr, run.returncode
 
 
 def by_c(case, name, prefixes):
-    format, base, named, ascii = case
-    words = [f'{HERE}/convert', str(rdfconv.FORMATS[format]), name, base, prefixes if named != '-' else '-', str(int(ascii))]
+    format, base, named, (ascii, word) = case
+    words = [f'{HERE}/convert', str(rdfconv.FORMATS[format]), name, base, prefixes if named != '-' else '-', str(int(ascii)), word]
     run = subprocess.run(words, capture_output=True)
     return run.stdout, run.stderr, run.returncode
 
 
 def by_python(case, document):
-    format, base, named, ascii = case
+    format, base, named, (ascii, word) = case
     try:
-        lines = rdfconv.convert(document, format, base.encode(), PREFIXES[named], ascii=ascii)
+        lines = rdfconv.convert(document, format, base.encode(), PREFIXES[named], word.encode(), ascii=ascii)
     except rdfconv.Refused as refused:
         return refused.lines, f'rdfconv: {refused}\n'.encode(), 1
     except rdfconv.BadPrefixes as bad:
@@ -54,7 +58,7 @@ def by_python(case, document):
 
 
 def check_by_python(case, document):
-    format, base, named, ascii = case
+    format, base, named, (ascii, _) = case
     try:
         quads, _, size = rdfconv.check(document, format, base.encode(), PREFIXES[named], ascii=ascii)
     except rdfconv.Refused as refused:
@@ -74,22 +78,22 @@ def main(program, files):
             with open(name, 'rb') as file:
                 document = file.read()
             for named in PREFIXES:
-                for ascii in False, True:
-                    case = name.rsplit('.', 1)[1], BASE if 'based' in name else '', named, ascii
+                for form in FORMS:
+                    case = name.rsplit('.', 1)[1], BASE if 'based' in name else '', named, form
                     wanted = by_program(program, 'convert', case, name, f'{room}/{named}')
                     same = wanted == by_c(case, name, f'{room}/{named}') == by_python(case, document)
                     same &= by_program(program, 'check', case, name, f'{room}/{named}') == check_by_python(case, document)
                     wrong += not same
                     runs += 1
-                    print('same  ' if same else 'DIFFER', os.path.basename(name), named, ascii, len(wanted[0]), wanted[1].decode().strip())
-    for bad in dict(token=0), dict(base=b'no iri'), dict(base=b'a:\xff'), dict(iri=3, base=b'a:bcd'), dict(ascii=2):
+                    print('same  ' if same else 'DIFFER', os.path.basename(name), named, form, len(wanted[0]), wanted[1].decode().strip())
+    for bad in dict(token=0), dict(base=b'no iri'), dict(base=b'a:\xff'), dict(iri=3, base=b'a:bcd'), dict(ascii=2), dict(word=b'a_b'):
         try:
             rdfconv.convert(b'', 'ttl', **bad)
             print('DIFFER', bad)
             wrong += 1
         except ValueError as error:
             print('same  ', bad, error)
-    print(f'{runs} runs over {len(files) + len(MADE)} documents and 5 requests of no job: {wrong} differ')
+    print(f'{runs} runs over {len(files) + len(MADE)} documents and 6 requests of no job: {wrong} differ')
     return wrong != 0
 
 

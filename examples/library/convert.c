@@ -1,6 +1,6 @@
-/* convert FORMAT FILE [BASE [PREFIXES [ASCII]]]: writes the lines of the file's quads to standard output, or says on standard error why
-   it is refused. The formats are 0 N-Triples, 1 N-Quads, 2 Turtle and 3 TriG; a BASE of no characters is none; PREFIXES is a file, - for
-   none; ASCII is 0 or 1. The status is that of the program rdfconv. */
+/* convert FORMAT FILE [BASE [PREFIXES [ASCII [WORD]]]]: writes the lines of the file's quads to standard output, or says on standard error
+   why it is refused. The formats are 0 N-Triples, 1 N-Quads, 2 Turtle and 3 TriG; a BASE of no characters is none; PREFIXES is a file, - for
+   none; ASCII is 0 or 1; WORD stands in front of the names of nodes. The status is that of the program rdfconv. */
 #include "rdfconv.h"
 #include <stdio.h>
 #include <stdlib.h>
@@ -37,10 +37,12 @@ int main(int argc, char **argv) {
     uint8_t none = 0, *prefixes = strcmp(named, "-") ? read_file(named, &prefixes_len) : &none;
     if (!prefixes) return 3;
     request.ascii = argc > 5 ? strtoull(argv[5], NULL, 10) : 0;
+    const uint8_t *word = (const uint8_t *)(argc > 6 ? argv[6] : "");
+    size_t word_len = strlen((const char *)word);
     room = 2 * len + 4096;
     rdfconv_outcome outcome;
     for (output = malloc(room); output; output = realloc(output, room)) {
-        rdfconv_convert(&request, base, base_len, prefixes, prefixes_len, input, len, output, room, &outcome);
+        rdfconv_convert(&request, base, base_len, prefixes, prefixes_len, word, word_len, input, len, output, room, &outcome);
         if (outcome.needed <= room) break;
         room = outcome.needed; /* the lines have more bytes: once more, with room for all */
     }

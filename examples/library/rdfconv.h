@@ -9,7 +9,7 @@ enum { RDFCONV_NTRIPLES, RDFCONV_NQUADS, RDFCONV_TURTLE, RDFCONV_TRIG };
 enum {
     RDFCONV_ACCEPTED = 0,
     RDFCONV_REFUSED = 1,
-    RDFCONV_NO_JOB = 2, /* no such format, limit or form, or the base is no IRI */
+    RDFCONV_NO_JOB = 2, /* no such format, limit or form, the base is no IRI, or the word is no word */
     RDFCONV_MEMORY = 4,
     RDFCONV_ROOM = 5,   /* accepted, but the lines have more bytes (`needed`) than the output */
     RDFCONV_PREFIXES = 6 /* a line of the prefixes is refused */
@@ -44,10 +44,12 @@ typedef struct {
     "too many bindings", "bad binding" }
 
 /* A slice is a pointer, which is never NULL, and a length in bytes. A base of length 0 is none. The prefixes are lines
-   of a prefix with its colon, a space and an IRI, as the program's --prefixes reads them; of length 0 they are none. The output and the
-   outcome overlap nothing else. */
+   of a prefix with its colon, a space and an IRI, as the program's --prefixes reads them; of length 0 they are none. The word, of ASCII
+   letters and digits, stands in front of the name of each node that is written, as that of the program's --node-prefix; of length 0 it
+   changes no name. The output and the outcome overlap nothing else. */
 void rdfconv_convert(const rdfconv_request *request, const uint8_t *base, size_t base_len, const uint8_t *prefixes,
-                     size_t prefixes_len, const uint8_t *input, size_t input_len, uint8_t *output, size_t output_len, rdfconv_outcome *outcome);
+                     size_t prefixes_len, const uint8_t *word, size_t word_len, const uint8_t *input, size_t input_len, uint8_t *output,
+                     size_t output_len, rdfconv_outcome *outcome);
 
 void rdfconv_check(const rdfconv_request *request, const uint8_t *base, size_t base_len, const uint8_t *prefixes,
                    size_t prefixes_len, const uint8_t *input, size_t input_len, rdfconv_outcome *outcome);

@@ -34,7 +34,7 @@ class BadPrefixes(Exception):
 
 library = ctypes.CDLL(os.path.join(os.path.dirname(os.path.abspath(__file__)), 'librdfconv.so'))
 SLICE = [ctypes.c_char_p, ctypes.c_size_t]
-library.rdfconv_convert.argtypes = [ctypes.POINTER(Request), *SLICE, *SLICE, *SLICE, ctypes.c_void_p, ctypes.c_size_t,
+library.rdfconv_convert.argtypes = [ctypes.POINTER(Request), *SLICE, *SLICE, *SLICE, *SLICE, ctypes.c_void_p, ctypes.c_size_t,
                                      ctypes.POINTER(Outcome)]
 library.rdfconv_convert.restype = None
 library.rdfconv_check.argtypes = [ctypes.POINTER(Request), *SLICE, *SLICE, *SLICE, ctypes.POINTER(Outcome)]
@@ -49,19 +49,21 @@ def ended(outcome, lines):
     if outcome.status == 1:
         raise Refused(outcome, lines)
     if outcome.status == 2:
-        raise ValueError('no such base or limits')
+        raise ValueError('no such base, word or limits')
     if outcome.status == 4:
         raise MemoryError
     if outcome.status == 6:
         raise BadPrefixes(outcome)
 
 
-def convert(document, format='trig', base=b'', prefixes=b'', **asks):
-    """The lines of the document's quads, as bytes. The prefixes are lines of a prefix with its colon, a space and an IRI."""
+def convert(document, format='trig', base=b'', prefixes=b'', word=b'', **asks):
+    """The lines of the document's quads, as bytes. The prefixes are lines of a prefix with its colon, a space and an IRI; the word, of
+    ASCII letters and digits, stands in front of the nodes' names."""
     asked, outcome, room = request(format, **asks), Outcome(), 2 * len(document) + 4096
     while True:
         output = ctypes.create_string_buffer(room)
-        library.rdfconv_convert(asked, base, len(base), prefixes, len(prefixes), document, len(document), output, room, outcome)
+        library.rdfconv_convert(asked, base, len(base), prefixes, len(prefixes), word, len(word), document, len(document), output, room,
+                                outcome)
         if outcome.needed <= room:
             break
         room = outcome.needed

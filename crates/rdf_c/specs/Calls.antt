@@ -5,6 +5,7 @@ use Rattle.rdf_iri.specs.Bindings.{FailsAt, IsReadFrom}
 use Rattle.rdf_iri.specs.Limits.{InRange, Sizes}
 use Rattle.rdf_iri.specs.Scope.{BaseFits}
 use Rattle.rdf_iri.specs.declared.fault.BindingReason.{BindingReason}
+use Rattle.rdf_lines.specs.NodePrefixes.{IsNodePrefix}
 use Rattle.rdf_terms.specs.Terms.{IsIri}
 use Rattle.rdf_terms.specs.declared.reason.Reason.{Reason}
 use Rattle.rdf_stream.specs.declared.fault.StreamFault.{StreamFault}
@@ -24,21 +25,26 @@ abbrev pub IsBaseText : List ℕ → Type 0
 IsBaseText [] = Unit
 IsBaseText (b ∷ bs) = IsUtf8 (b ∷ bs) × IsIri (chars (b ∷ bs))
 
--- The request, the base and the prefixes are of this job, and there is such a job.
-pub record AsksFor (request : Request) (base_text prefixes : List ℕ) (job : JobRead) : Type 0 where
+-- No text, or one of ASCII letters and digits.
+abbrev pub IsWordText : List ℕ → Type 0
+IsWordText word_text = IsUtf8 word_text × IsNodePrefix (chars word_text)
+
+-- The request, the base, the prefixes and the word are of this job, and there is such a job.
+pub record AsksFor (request : Request) (base_text prefixes word_text : List ℕ) (job : JobRead) : Type 0 where
   pub form : request.format ≡ number_of_form job.form
   pub base : job.base ≡ base_of base_text
   pub bindings : IsReadFrom job.limits prefixes (record { bindings = job.bindings; limits = job.limits })
   pub escapes : request.ascii ≡ number_of_escapes job.escapes
-  pub no_word : job.node_prefix ≡ []
+  pub word : job.node_prefix ≡ chars word_text
   pub limits : job.limits ≡ sizes_of request
   pub range : InRange job.limits
   pub fits : BaseFits job.base job.limits
   pub good : IsBaseText base_text
+  pub good_word : IsWordText word_text
 
--- The request and the base are of no job, whatever the prefixes.
-abbrev pub AsksForNothing : Request → List ℕ → Type 0
-AsksForNothing request base_text = (prefixes : List ℕ) (job : JobRead) → AsksFor request base_text prefixes job → ⊥
+-- The request, the base and the word are of no job, whatever the prefixes.
+abbrev pub AsksForNothing : Request → List ℕ → List ℕ → Type 0
+AsksForNothing request base_text word_text = (prefixes : List ℕ) (job : JobRead) → AsksFor request base_text prefixes word_text job → ⊥
 
 -- One of the six statuses.
 abbrev pub IsStatus : ℕ → Type 0
@@ -80,11 +86,11 @@ pub record Converts (job : JobRead) (input old new : List ℕ) (o : Outcome) : T
   pub status : IsStatus o.status
 
 -- How a call that converts ends.
-pub record HasConverted (request : Request) (base_text prefixes input old new : List ℕ) (o : Outcome) : Type 0 where
-  pub whole : o.status ≡ 0 → (job : JobRead) × AsksFor request base_text prefixes job × GivesLines job input old new o × (o.needed ≡ o.written)
-  pub front : o.status ≡ 5 → (job : JobRead) × AsksFor request base_text prefixes job × GivesLines job input old new o × (o.written < o.needed)
-  pub refused : o.status ≡ 1 → (job : JobRead) × AsksFor request base_text prefixes job × GivesRefusal job input old new o
-  pub no_job : o.status ≡ 2 → AsksForNothing request base_text
+pub record HasConverted (request : Request) (base_text prefixes word_text input old new : List ℕ) (o : Outcome) : Type 0 where
+  pub whole : o.status ≡ 0 → (job : JobRead) × AsksFor request base_text prefixes word_text job × GivesLines job input old new o × (o.needed ≡ o.written)
+  pub front : o.status ≡ 5 → (job : JobRead) × AsksFor request base_text prefixes word_text job × GivesLines job input old new o × (o.written < o.needed)
+  pub refused : o.status ≡ 1 → (job : JobRead) × AsksFor request base_text prefixes word_text job × GivesRefusal job input old new o
+  pub no_job : o.status ≡ 2 → AsksForNothing request base_text word_text
   pub bad_prefixes : o.status ≡ 6 → GivesLine request prefixes o
   pub status : IsStatus o.status
 
@@ -104,9 +110,9 @@ pub record Checks (job : JobRead) (input : List ℕ) (o : Outcome) : Type 0 wher
 
 -- How a call that checks ends.
 pub record HasChecked (request : Request) (base_text prefixes input : List ℕ) (o : Outcome) : Type 0 where
-  pub whole : o.status ≡ 0 → (job : JobRead) × AsksFor request base_text prefixes job × IsAccepted (language_of job) input (summary_of o)
-  pub refused : o.status ≡ 1 → (job : JobRead) × AsksFor request base_text prefixes job × GivesPlace job input o
-  pub no_job : o.status ≡ 2 → AsksForNothing request base_text
+  pub whole : o.status ≡ 0 → (job : JobRead) × AsksFor request base_text prefixes [] job × IsAccepted (language_of job) input (summary_of o)
+  pub refused : o.status ≡ 1 → (job : JobRead) × AsksFor request base_text prefixes [] job × GivesPlace job input o
+  pub no_job : o.status ≡ 2 → AsksForNothing request base_text []
   pub bad_prefixes : o.status ≡ 6 → GivesLine request prefixes o
   pub status : IsStatus o.status
 
@@ -118,6 +124,12 @@ NamesNoBase base_text NoJob = IsBaseText base_text → ⊥
 NamesNoBase base_text (Prefixes f) = ⊥
 NamesNoBase base_text Memory = Unit
 
+-- Why a text gives no word.
+abbrev pub NamesNoWord : List ℕ → JobFault → Type 0
+NamesNoWord word_text NoJob = IsWordText word_text → ⊥
+NamesNoWord word_text (Prefixes f) = ⊥
+NamesNoWord word_text Memory = Unit
+
 -- Why the prefixes are not read.
 abbrev pub FailsToBind : Sizes → List ℕ → JobFault → Type 0
 FailsToBind sizes prefixes NoJob = ⊥
@@ -125,9 +137,9 @@ FailsToBind sizes prefixes (Prefixes f) = FailsAt f.reason sizes prefixes f.line
 FailsToBind sizes prefixes Memory = Unit
 
 -- Why there is no job.
-abbrev pub AsksForNone : Request → List ℕ → List ℕ → JobFault → Type 0
-AsksForNone request base_text prefixes NoJob = AsksForNothing request base_text
-AsksForNone request base_text prefixes fault = FailsToBind (sizes_of request) prefixes fault
+abbrev pub AsksForNone : Request → List ℕ → List ℕ → List ℕ → JobFault → Type 0
+AsksForNone request base_text prefixes word_text NoJob = AsksForNothing request base_text word_text
+AsksForNone request base_text prefixes word_text fault = FailsToBind (sizes_of request) prefixes fault
 
 -- A conversion stopped, with these lines.
 abbrev pub Stopped : StreamFault → JobRead → List ℕ → List ℕ → Type 0

@@ -17,7 +17,8 @@ use std::alloc::Global;
 
 /// Reads the document, and writes the lines of its quads to the front of the output, as many bytes as there is room for; the
 /// outcome says how many bytes the lines have. A base of no bytes is none. The prefixes are
-/// lines of a prefix and its IRI each, as the program's `--prefixes` reads them. Of a refused document the lines before the refusal are
+/// lines of a prefix and its IRI each, as the program's `--prefixes` reads them. The word, of ASCII letters and digits, stands in front of
+/// the name of each node that is written; of no bytes it changes no name. Of a refused document the lines before the refusal are
 /// written. Bytes of the output after the lines stay as they are.
 #[unsafe(no_mangle)]
 pub extern "C" fn rdfconv_convert(
@@ -25,14 +26,15 @@ pub extern "C" fn rdfconv_convert(
     request: &Request,
     base: &[u8],
     prefixes: &[u8],
+    word: &[u8],
     input: &[u8],
     output: &mut [u8],
     outcome: &mut Outcome,
 )
     ensures len { length output.new ≡ length output.old }
-    ensures outcome { HasConverted request.now base.now prefixes.now input.now output.old output.new outcome.new }
+    ensures outcome { HasConverted request.now base.now prefixes.now word.now input.now output.old output.new outcome.new }
 {
-    *outcome = match job_of(alloc, request, base, prefixes) {
+    *outcome = match job_of(alloc, request, base, prefixes, word) {
         Ok(job) => convert_bytes(alloc, job, input, output),
         Err(JobFault::NoJob) => Outcome::of_status(2),
         Err(JobFault::Prefixes(fault)) => Outcome::of_prefixes(fault),
@@ -52,7 +54,7 @@ pub extern "C" fn rdfconv_check(
 )
     ensures outcome { HasChecked request.now base.now prefixes.now input.now outcome.new }
 {
-    *outcome = match job_of(alloc, request, base, prefixes) {
+    *outcome = match job_of(alloc, request, base, prefixes, &[]) {
         Ok(job) => check_bytes(alloc, job, input),
         Err(JobFault::NoJob) => Outcome::of_status(2),
         Err(JobFault::Prefixes(fault)) => Outcome::of_prefixes(fault),

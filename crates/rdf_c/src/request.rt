@@ -2,12 +2,13 @@
 
 ghost use Rattle.std.specs.Prelude.{◌≡◌, IfOk, IfErr, IfSome, IfNone, OnOk};
 ghost use Rattle.rdf_iri.specs.Bindings.{IsReadFrom};
-ghost use Rattle.rdf_c.specs.Calls.{AsksFor, IsBaseText, NamesNoBase, AsksForNone, FailsToBind};
+ghost use Rattle.std.specs.Str.{chars};
+ghost use Rattle.rdf_c.specs.Calls.{AsksFor, IsBaseText, IsWordText, NamesNoBase, NamesNoWord, AsksForNone, FailsToBind};
 ghost use Rattle.rdf_c.specs.Numbers.{base_of, number_of_escapes, number_of_form, IsEscapesNumber, IsFormNumber};
 
 use rdf_iri::read_bindings;
 use rdf_stream::{
-    BindingFault, BindingReason, Bindings, Escapes, Form, Iri, Job, Limits, TermFault,
+    BindingFault, BindingReason, Bindings, Escapes, Form, Iri, Job, Limits, NodePrefix, TermFault,
 };
 use std::alloc::Global;
 
@@ -32,7 +33,7 @@ pub struct Request {
 /// Why there is no job.
 #[derive(Clone, Copy, Debug, PartialEq, Eq)]
 pub(crate) enum JobFault {
-    /// There is no such format, limit or form, or the base is no IRI or has more bytes than the limit.
+    /// There is no such format, limit or form, the base is no IRI or has more bytes than the limit, or the word is no word.
     NoJob,
     /// A line of the prefixes is refused.
     Prefixes(BindingFault),
@@ -40,15 +41,17 @@ pub(crate) enum JobFault {
     Memory,
 }
 
-/// The job that a call asks for. The prefixes are a file of bindings, and of no bytes where none are handed in.
+/// The job that a call asks for. The prefixes are a file of bindings, and of no bytes where none are handed in; so is the word in front
+/// of the names of nodes.
 pub(crate) fn job_of(
     alloc: Global,
     request: &Request,
     base: &[u8],
     prefixes: &[u8],
+    word: &[u8],
 ) -> Result<Job, JobFault>
-    ensures job { IfOk result (AsksFor request.now base.now prefixes.now) }
-    ensures none { IfErr result (AsksForNone request.now base.now prefixes.now) }
+    ensures job { IfOk result (AsksFor request.now base.now prefixes.now word.now) }
+    ensures none { IfErr result (AsksForNone request.now base.now prefixes.now word.now) }
 {
     let Some(form) = form_of(request.format) else {
         return Err(JobFault::NoJob);
@@ -64,8 +67,10 @@ pub(crate) fn job_of(
     let Some(job) = Job::new(form, iri, limits) else {
         return Err(JobFault::NoJob);
     };
+    let word = word_of(alloc, word)?;
+    let job = job.with_escapes(escapes).with_node_prefix(word);
     let bindings = bindings_of(alloc, limits, prefixes)?;
-    Ok(job.with_bindings(bindings).with_escapes(escapes))
+    Ok(job.with_bindings(bindings))
 }
 
 fn bindings_of(alloc: Global, limits: Limits, prefixes: &[u8]) -> Result<Bindings, JobFault>
@@ -102,6 +107,23 @@ fn escapes_of(number: u64) -> Option<Escapes>
         0 => Some(Escapes::Plain),
         1 => Some(Escapes::Ascii),
         _ => None,
+    }
+}
+
+fn word_of(alloc: Global, word: &[u8]) -> Result<NodePrefix, JobFault>
+    ensures word { IfOk result (λ p. p ≡ chars word.now) }
+    ensures good { OnOk result (IsWordText word.now) }
+    ensures none { IfErr result (NamesNoWord word.now) }
+{
+    let Ok(text) = str::from_utf8(word) else {
+        return Err(JobFault::NoJob);
+    };
+    let Ok(text) = String::from_str(alloc, text) else {
+        return Err(JobFault::Memory);
+    };
+    match NodePrefix::new(text) {
+        Some(prefix) => Ok(prefix),
+        None => Err(JobFault::NoJob),
     }
 }
 

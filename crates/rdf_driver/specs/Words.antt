@@ -13,6 +13,8 @@ pub record Words (G X I : Type 0) : Type 1 where
   pub dialect : Dialect
   -- the most characters of a token
   pub limit : G → ℕ
+  -- the most bytes that the texts have that it may hold
+  pub most : G → ℕ
   pub documents : X → List Token → List (MarkedItem I) → Type 0
   -- the token passes a limit after these tokens
   pub passes : X → List Token → Token → Type 0
@@ -31,6 +33,11 @@ pub record Lawful {G X I : Type 0} (w : Words G X I) : Type 0 where
       (all : List (MarkedItem I)) × w.documents x (ts ++ t ∷ []) all × (unmarked all ≡ qs)
   -- no document within the limits goes on with a token that is refused
   pub ends : (x : X) (reason : Reason) (ts : List Token) (t : Token) → w.blames x reason ts t → Viable (w.documents x) (ts ++ t ∷ []) → PassesNone (w.passes x) (ts ++ t ∷ []) → ⊥
+
+-- The limits stay: on the characters of a token, and on the bytes that are held.
+pub record KeepsLimits {G X I : Type 0} (w : Words G X I) (old new : G) : Type 0 where
+  pub token : w.limit new ≡ w.limit old
+  pub most : w.most new ≡ w.most old
 
 -- a token was accepted, and n quads were put
 pub record Takes {G X I S : Type 0} (w : Words G X I) (takes : S → I → S → Type 0) (old : G) (t : Token) (n : ℕ) (before : S) (new : G) (after : S) : Type 0 where

@@ -50,7 +50,7 @@ impl Limits {
     }
 
     /// They are in range, as all limits are.
-    pub(crate) fn are_in_range(self)
+    pub fn are_in_range(self)
         ensures { InRange self }
     {
         let _ = &self.token;

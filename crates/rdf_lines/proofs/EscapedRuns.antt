@@ -14,7 +14,7 @@ use Rattle.std.proofs.lemmas.Str.{IsUtf8-had, IsUtf8-take, IsCharBoundary-end, I
 use Rattle.rdf_terms.specs.declared.views.IriView.{IriView}
 use Rattle.rdf_terms.specs.Classes.{has}
 use Rattle.rdf_terms.specs.Classes.Class.{iri_char}
-use Rattle.rdf_terms.specs.Runs.{IsRun, goes_over, is_text_byte, is_ascii_text_byte}
+use Rattle.rdf_terms.specs.Runs.{IsRun, goes_over, is_text_byte, is_ascii_byte, is_ascii_text_byte}
 use Rattle.rdf_terms.specs.Terms.{all_have}
 use Rattle.rdf_terms.specs.Views.{iri_chars}
 use Rattle.rdf_tokens.proofs.GoodLemmas.{encode_one}
@@ -41,12 +41,19 @@ low_stands : (e : Escapes) (c : ℕ) → c < 128 → passes e c ≡ true → esc
 low_stands Plain c l h = grind (arith, nat_tests)
 low_stands Ascii c l h = grind (arith, nat_tests)
 
-no_high : (w : List ℕ) → 0 < length w → AllByRecursion (λ b. 128 ≤ b) w → all_have is_ascii_text_byte w ≡ true → ⊥
-no_high [] l a h = omega arith
-no_high (b ∷ w) l a h = none b a.0 (and_parts (is_ascii_text_byte b) (all_have is_ascii_text_byte w) h).0
+-- a test that bytes from 128 on fail fails on those of a character from U+0080 on
+no_high : (p : ℕ → Bool) → ((b : ℕ) → 128 ≤ b → p b ≡ true → ⊥) → (c : ℕ) → 128 ≤ c → all_have p (encode c) ≡ true → ⊥
+no_high p none c l h = fails (encode c) (let n = length-encode c in let one = (len_utf8_bounds c).0 in omega arith) (high_bytes c l) h
   where
-    none : (b : ℕ) → 128 ≤ b → is_ascii_text_byte b ≡ true → ⊥
-    none b l h = grind (arith, nat_tests)
+    fails : (w : List ℕ) → 0 < length w → AllByRecursion (λ b. 128 ≤ b) w → all_have p w ≡ true → ⊥
+    fails [] l a h = omega arith
+    fails (b ∷ w) l a h = none b a.0 (and_parts (p b) (all_have p w) h).0
+
+no_ascii_text : (b : ℕ) → 128 ≤ b → is_ascii_text_byte b ≡ true → ⊥
+no_ascii_text b l h = grind (arith, nat_tests)
+
+no_ascii : (b : ℕ) → 128 ≤ b → is_ascii_byte b ≡ true → ⊥
+no_ascii b l h = grind (arith, nat_tests)
 
 -- another one
 high_stands : (e : Escapes) (c : ℕ) → 128 ≤ c → all_have (passes e) (encode c) ≡ true → escaped e c ≡ c ∷ []
@@ -54,7 +61,7 @@ high_stands Plain c l h = stands c l
   where
     stands : (c : ℕ) → 128 ≤ c → escaped Plain c ≡ c ∷ []
     stands c l = grind (arith, nat_tests)
-high_stands Ascii c l h = absurd (no_high (encode c) (let n = length-encode c in let one = (len_utf8_bounds c).0 in omega arith) (high_bytes c l) h)
+high_stands Ascii c l h = absurd (no_high is_ascii_text_byte no_ascii_text c l h)
 
 stands : (e : Escapes) (c : ℕ) → all_have (passes e) (encode c) ≡ true → escaped e c ≡ c ∷ []
 stands e c h =
@@ -63,11 +70,21 @@ stands e c h =
     (λ l. high_stands e c l h)
     (cases_lt c 128)
 
+-- characters that each stand as they are, by their bytes, stand so together
+each_stands : (p : ℕ → Bool) (f : ℕ → List ℕ) → ((c : ℕ) → all_have p (encode c) ≡ true → f c ≡ c ∷ []) → (cs : List ℕ) → all_have p (encodes cs) ≡ true → flat_map f cs ≡ cs
+each_stands p f one [] h = refl
+each_stands p f one (c ∷ cs) h =
+    let (a, b) = have_parts p (encode c) (encodes cs) h in
+    ap (λ x. x ++ flat_map f cs) (one c a) ∙ ap (λ x. c ∷ x) (each_stands p f one cs b)
+
 all_stand : (e : Escapes) (cs : List ℕ) → all_have (passes e) (encodes cs) ≡ true → flat_map (escaped e) cs ≡ cs
-all_stand e [] h = refl
-all_stand e (c ∷ cs) h =
-    let p = have_parts (passes e) (encode c) (encodes cs) h in
-    ap (λ x. x ++ flat_map (escaped e) cs) (stands e c p.0) ∙ ap (λ x. c ∷ x) (all_stand e cs p.1)
+all_stand e cs h = each_stands (passes e) (escaped e) (stands e) cs h
+
+-- a text that a run goes over is written as it is
+pub text_stands : (e : Escapes) (w : List ℕ) → IsUtf8 w → all_have (goes_over (run_of e)) w ≡ true → escaped_bytes e w ≡ w
+text_stands e w u h =
+    let whole = encodes-chars w u in
+    ap encodes (all_stand e (chars w) (subst (λ x. all_have (passes e) x ≡ true) (sym whole) h)) ∙ whole
 
 front_passes : (p : ℕ → Bool) (w : List ℕ) (n : ℕ) → ((k : ℕ) → k < n → p (get_or w k 0) ≡ true) → n ≤ length w → all_have p (take n w) ≡ true
 front_passes p w zero h l = refl
@@ -127,6 +144,19 @@ each (c ∷ w) = ap (λ x. c ∷ x) (each w)
 
 pub plain_iri : (i : IriView) → encode_utf8_all (flat_map (written Plain) (iri_chars i)) ≡ i.text.now
 plain_iri i = ap encodes (each (iri_chars i)) ∙ encodes-chars i.text.now (IsUtf8-had _ i.utf8)
+
+-- a character of an IRI that is ASCII
+ascii_stands : (c : ℕ) → all_have is_ascii_byte (encode c) ≡ true → written Ascii c ≡ c ∷ []
+ascii_stands c h = ⊎_elim (λ (l : c < 128). low c l) (λ l. absurd (no_high is_ascii_byte no_ascii c l h)) (cases_lt c 128)
+  where
+    low : (c : ℕ) → c < 128 → written Ascii c ≡ c ∷ []
+    low c l = grind (arith, nat_tests)
+
+-- in ASCII an IRI of ASCII stands as it is
+pub ascii_iri : (i : IriView) → all_have is_ascii_byte i.text.now ≡ true → encode_utf8_all (flat_map (written Ascii) (iri_chars i)) ≡ i.text.now
+ascii_iri i h =
+    let whole = encodes-chars i.text.now (IsUtf8-had _ i.utf8) in
+    ap encodes (each_stands is_ascii_byte (written Ascii) ascii_stands (iri_chars i) (subst (λ x. all_have is_ascii_byte x ≡ true) (sym whole) h)) ∙ whole
 
 iri_char_stands : (e : Escapes) (c : ℕ) → has iri_char c ≡ true → escaped e c ≡ written e c
 unfolding has

@@ -1,34 +1,33 @@
 -- What stands at the front of some bytes, put together from its parts.
-use Rattle.std.proofs.Common.{◌≡◌, ℕ, ◌+◌, ◌-◌, ◌<◌, ◌≤◌, Bool, true, false, List, [], ◌∷◌, ◌++◌, refl, sym, ap, ◌∙◌, subst, ⊎_elim, length, take, get_or, append_assoc, Option, Some, None, arith, length-append}
+use Rattle.std.proofs.Common.{◌≡◌, ℕ, ◌+◌, ◌-◌, ◌<◌, ◌≤◌, ◌⊎◌, Bool, true, false, List, [], ◌∷◌, ◌++◌, refl, sym, ap, ◌∙◌, subst, ⊎_elim, length, take, get_or, append_assoc, Option, Some, None, arith, length-append}
 use Rattle.std.specs.Prelude.{flat_map, IfSome, bytes_eq, encode_utf8_all, chars, IsUtf8}
 use Rattle.std.specs.List.{slice_range, AllByRecursion}
 use Rattle.std.proofs.Math.Seq.{take-append_seam}
 use Rattle.std.proofs.lemmas.List.{append-nil, length-take-le, get_or-take}
 use Rattle.std.proofs.lemmas.List.Concat.{flat_map-append}
-use Rattle.std.proofs.lemmas.Bool.{and_parts, and_from, cases_lt, eq-eqb}
+use Rattle.std.proofs.lemmas.Bool.{and_parts, and_from, eq-eqb}
 use Rattle.std.proofs.lemmas.Bool.Decides.{nat_tests}
 use Rattle.std.proofs.lemmas.Slice.Eq.{bytes_eq-Decides}
-use Rattle.std.proofs.lemmas.Str.{encodes-append, encodes-chars, length-le-encodes, scalars-chars}
+use Rattle.std.proofs.lemmas.Str.{IsUtf8-take, encodes-append, encodes-chars, length-le-encodes, scalars-chars}
 use Rattle.std.proofs.Math.Utf8 as Utf8
 use Rattle.std.proofs.Math.Utf8.{scalars}
 use Rattle.rdf_terms.specs.Classes.{has, scalar}
 use Rattle.rdf_terms.specs.Classes.Class.{iri_char}
-use Rattle.rdf_terms.specs.Terms.{Label, Tail, Lang, Typed, Subject, Iri, Blank, Term, Resource, Literal, Quad, xsd_string, all_have, has_scheme, IsIri, IsLabel, IsTag, IsSubject, IsTail, IsTerm, IsGraph, IsQuad}
-use Rattle.rdf_iri.specs.Texts.{byte_len}
+use Rattle.rdf_terms.specs.Terms.{Label, Tail, Lang, Typed, Subject, Iri, Blank, Term, Resource, Literal, Quad, xsd_string, all_have, has_scheme, IsIri, IsLabel, IsTag}
 use Rattle.rdf_lines.specs.declared.form.LineForm.{LineForm}
 use Rattle.rdf_lines.specs.declared.form.LineForm.TheVariants.{NTriples, NQuads}
 use Rattle.rdf_lines.specs.declared.form.Escapes.TheVariants.{Plain}
 use Rattle.rdf_lines.specs.declared.form.Style.TheVariants.{Kept}
-use Rattle.rdf_lines.specs.Canonical.{type_count, tail_count, term_count, graph_count, quad_count, count, LabelFits, IsTaken}
-use Rattle.rdf_lines.specs.Fronts.{Stands, IriStands, LabelStands, TagStands, StringStands, SubjectStands, PredicateStands, TailStands, ObjectStands, GraphStands, LineStands, LinesStand, AreLines, NoEscapes}
+use Rattle.rdf_lines.specs.Canonical.{type_count, term_count, graph_count, quad_count, count, LabelFits, IsTaken}
+use Rattle.rdf_lines.specs.Fronts.{Stands, IriStands, LabelStands, TagStands, StringStands, SubjectStands, PredicateStands, TailStands, ObjectStands, GraphStands, LineStands, LinesStand, AreLines, CharactersStand, EscapeStands}
 use Rattle.rdf_lines.specs.Laws.{TermShort, TailShort, GraphShort, TokensWithin}
-use Rattle.rdf_lines.specs.Writing.{CanWriteTerm, written, escaped, iri_text, subject_text, string_text, type_text, tail_text, term_text, space, graph_text, quad_text, rename, text}
+use Rattle.rdf_lines.specs.Writing.{written, escaped, iri_text, subject_text, string_text, type_text, tail_text, term_text, space, graph_text, quad_text, rename, text}
 use Rattle.rdf_terms.specs.Runs.{iri_byte, is_text_byte, IsRun}
 use Rattle.rdf_terms.proofs.IriBytes.{iri_bytes}
 use Rattle.rdf_terms.proofs.RunsLemmas.{run_decides}
 use Rattle.rdf_lines.proofs.CanonicalLines.{kept}
-use Rattle.rdf_lines.proofs.EscapedRuns.{each}
-use Rattle.rdf_lines.proofs.PlainRuns.{is_escaped, plain_front, run_plain, escaped_text}
+use Rattle.rdf_lines.proofs.EscapedRuns.{each, run_cut}
+use Rattle.rdf_lines.proofs.PlainRuns.{plain_front, run_plain, escaped_text}
 use Rattle.rdf_lines.proofs.EncodedLine.{low, xsd, same_type}
 
 -- what holds of an answer
@@ -54,19 +53,6 @@ run_taken p bs end r =
 
 pub iri_taken : (bs : List ℕ) (end : ℕ) → IsRun iri_byte bs 0 end → IsUtf8 (take end bs) → all_have (has iri_char) (chars (take end bs)) ≡ true
 iri_taken bs end r u = sym (iri_bytes (take end bs) u) ∙ run_taken iri_byte bs end r
-
--- no byte before a place is escaped in a string
-abbrev pub Unescaped : List ℕ → ℕ → Type 0
-Unescaped bs end = (k : ℕ) → k < end → is_escaped (get_or bs k 0) ≡ false
-
-pub unescaped_run : (bs : List ℕ) (at end : ℕ) → Unescaped bs at → IsRun is_text_byte bs at end → Unescaped bs end
-unescaped_run bs at end u r k l = ⊎_elim (λ (b : k < at). u k b) (λ (b : at ≤ k). run_plain (get_or bs k 0) (r.pass k b l)) (cases_lt k at)
-
-pub unescaped_quote : (bs : List ℕ) (at : ℕ) → Unescaped bs at → get_or bs at 0 ≡ 39 → Unescaped bs (at + 1)
-unescaped_quote bs at u e k l = ⊎_elim (λ (b : k < at). u k b) (λ (b : at ≤ k). let same : k ≡ at = omega arith in ap (λ x. is_escaped (get_or bs x 0)) same ∙ ap is_escaped e) (cases_lt k at)
-
-pub no_escapes : (bs : List ℕ) (end : ℕ) → Unescaped bs end → NoEscapes (take end bs)
-no_escapes bs end u = plain_front bs end u
 
 -- one text after another
 stands_then : (u w a b c : List ℕ) → Stands u a b → Stands w b c → Stands (u ++ w) a c
@@ -101,16 +87,56 @@ all_scalar : (w : List ℕ) → scalars w ≡ true → all_have scalar w ≡ tru
 all_scalar [] e = refl
 all_scalar (c ∷ w) e = let p = and_parts (Utf8.scalar c) (scalars w) e in and_from (scalar c) (all_have scalar w) (scalar_same c p.0) (all_scalar w p.1)
 
-pub string_stands : (part a b : List ℕ) → IsUtf8 part → NoEscapes part → a ≡ part ++ 34 ∷ b → StringStands a b
-string_stands part a b u n e =
-    let w = flat_map (escaped Plain) (chars part) in
-    let same : encode_utf8_all w ≡ part = escaped_text (chars part) ∙ (ap (flat_map (escaped Plain)) (encodes-chars part u) ∙ n) in
-    let front : Stands w a (34 ∷ b) = e ∙ ap (λ x. x ++ 34 ∷ b) (sym same) in
-    record {
-      string = chars part;
-      is = all_scalar (chars part) (scalars-chars part u);
-      stands = stands_then w (34 ∷ []) a (34 ∷ b) b front (stands_byte 34 (34 ∷ b) b (omega arith) refl);
-    }
+-- characters of a string, one text after another
+have_both : (p : ℕ → Bool) (u v : List ℕ) → all_have p u ≡ true → all_have p v ≡ true → all_have p (u ++ v) ≡ true
+have_both p [] v a b = b
+have_both p (c ∷ u) v a b = let h = and_parts (p c) (all_have p u) a in and_from (p c) (all_have p (u ++ v)) h.0 (have_both p u v h.1 b)
+
+pub no_characters : (a : List ℕ) → CharactersStand a a
+no_characters a = record { characters = []; are = refl; stands = refl }
+
+pub characters_then : (a b c : List ℕ) → CharactersStand a b → CharactersStand b c → CharactersStand a c
+characters_then a b c f g = record {
+  characters = f.characters ++ g.characters;
+  are = have_both scalar f.characters g.characters f.are g.are;
+  stands =
+      subst (λ w. Stands w a c) (sym (flat_map-append (escaped Plain) f.characters g.characters))
+      (stands_then (flat_map (escaped Plain) f.characters) (flat_map (escaped Plain) g.characters) a b c f.stands g.stands);
+}
+
+-- a run, and characters behind it
+pub run_then : (a : List ℕ) (end : ℕ) (b c : List ℕ) → IsUtf8 a → IsRun is_text_byte a 0 end → a ≡ take end a ++ b → CharactersStand b c → CharactersStand a c
+run_then a end b c u r e f =
+    let run = take end a in
+    let good : IsUtf8 run = IsUtf8-take a end u (run_cut Plain a end u r) in
+    let plain : flat_map (escaped Plain) run ≡ run = plain_front a end (λ k l. run_plain (get_or a k 0) (r.pass k (omega arith) l)) in
+    let same : encode_utf8_all (flat_map (escaped Plain) (chars run)) ≡ run = escaped_text (chars run) ∙ (ap (flat_map (escaped Plain)) (encodes-chars run good) ∙ plain) in
+    characters_then a b c (record { characters = chars run; are = all_scalar (chars run) (scalars-chars run good); stands = e ∙ ap (λ x. x ++ b) (sym same) }) f
+
+-- a single quote
+pub quote_stands : (a b : List ℕ) → a ≡ 39 ∷ b → CharactersStand a b
+quote_stands a b e = record { characters = 39 ∷ []; are = refl; stands = stands_byte 39 a b (omega arith) e }
+
+-- an escape
+pub escape_stands : (a b c : List ℕ) → a ≡ 92 ∷ b → EscapeStands b c → CharactersStand a c
+escape_stands a b c e h = record {
+  characters = h.character ∷ [];
+  are = and_from (scalar h.character) true h.is refl;
+  stands = subst (λ w. Stands w a c) (sym (append-nil (escaped Plain h.character))) (e ∙ h.stands);
+}
+
+-- the four escapes, by what stands behind the backslash
+letter_means : (letter c : ℕ) (a b : List ℕ) → escaped Plain c ≡ 92 ∷ letter ∷ [] → scalar c ≡ true → letter < 128 → a ≡ letter ∷ b → EscapeStands a b
+letter_means letter c a b w s l e = record {
+  character = c;
+  is = s;
+  stands = subst (λ x. Stands x (92 ∷ a) b) (sym w) (stands_then (92 ∷ []) (letter ∷ []) (92 ∷ a) a b (stands_byte 92 (92 ∷ a) a (omega arith) refl) (stands_byte letter a b l e));
+}
+
+pub letter_stands : (letter : ℕ) (a b : List ℕ) → (letter ≡ 34) ⊎ ((letter ≡ 92) ⊎ ((letter ≡ 110) ⊎ (letter ≡ 114))) → a ≡ letter ∷ b → EscapeStands a b
+letter_stands letter a b h e =
+    let means = λ (n c : ℕ) (w : escaped Plain c ≡ 92 ∷ n ∷ []) (s : scalar c ≡ true) (l : n < 128) (i : letter ≡ n). letter_means n c a b w s l (e ∙ ap (λ x. x ∷ b) i) in
+    ⊎_elim (means 34 34 refl refl (omega arith)) (⊎_elim (means 92 92 refl refl (omega arith)) (⊎_elim (means 110 10 refl refl (omega arith)) (means 114 13 refl refl (omega arith)))) h
 
 module _ (limit : ℕ) where
   -- an IRI in its brackets
@@ -138,14 +164,15 @@ module _ (limit : ℕ) where
 
   pub literal_object : (n : ℕ) (a b c d : List ℕ) → a ≡ 34 ∷ b → StringStands b c → TailStands limit n c d → ObjectStands limit (n + 1) a d
   literal_object n a b c d e s t =
-      let w : Stands (string_text Plain s.string) a c = stands_then (34 ∷ []) (flat_map (escaped Plain) s.string ++ 34 ∷ []) a b c (stands_byte 34 a b (omega arith) e) s.stands in
+      let inner : Stands (flat_map (escaped Plain) s.characters ++ 34 ∷ []) b c = stands_then (flat_map (escaped Plain) s.characters) (34 ∷ []) b (34 ∷ c) c s.stands (stands_byte 34 (34 ∷ c) c (omega arith) refl) in
+      let w : Stands (string_text Plain s.characters) a c = stands_then (34 ∷ []) (flat_map (escaped Plain) s.characters ++ 34 ∷ []) a b c (stands_byte 34 a b (omega arith) e) inner in
       record {
-        object = Literal s.string t.tail;
-        is = (s.is, t.is);
+        object = Literal s.characters t.tail;
+        is = (s.are, t.is);
         labels = tt;
         within = t.within;
         count = let k = t.count in omega (arith, k);
-        stands = subst (λ x. Stands x a d) (sym (append_assoc (string_text Plain s.string) (tail_text Plain t.tail) space)) (stands_then (string_text Plain s.string) (tail_text Plain t.tail ++ space) a c d w t.stands);
+        stands = subst (λ x. Stands x a d) (sym (append_assoc (string_text Plain s.characters) (tail_text Plain t.tail) space)) (stands_then (string_text Plain s.characters) (tail_text Plain t.tail ++ space) a c d w t.stands);
       }
 
   xsd_iri : IsIri xsd_string

@@ -1,6 +1,7 @@
 pub mod NextToken
 pub mod UcharLemmas
 pub mod AsciiLemmas
+pub mod FormsAgree
 pub mod WritingLemmas
 pub mod SpelledLine
 pub mod Renamed
@@ -23,6 +24,7 @@ pub mod WrittenBytesLemmas
 pub mod LawExamples
 mod SpelledLemmas
 mod StatesLemmas
+mod HeldLemmas
 mod GivenLemmas
 mod EndLemmas
 pub mod AcceptedLemmas

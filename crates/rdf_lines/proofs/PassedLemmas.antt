@@ -1,6 +1,6 @@
 -- What passing lines does to a reader.
-use Rattle.std.proofs.Common.{◌≡◌, ◌&&◌, ℕ, ◌+◌, ◌<◌, ◌≤◌, Bool, true, false, not, nat_le, List, [], ◌++◌, length, take, refl, sym, ap, ◌∙◌, subst, arith}
-use Rattle.std.specs.Prelude.{IsUtf8, encode_utf8_all}
+use Rattle.std.proofs.Common.{◌≡◌, ◌&&◌, ℕ, ◌+◌, ◌≤◌, true, false, not, nat_le, List, [], ◌++◌, length, refl, sym, ap, ◌∙◌, subst, arith}
+use Rattle.std.specs.Prelude.{IsUtf8}
 use Rattle.std.proofs.lemmas.Bool.{and_from, le-leb}
 use Rattle.std.proofs.lemmas.List.{append-nil}
 use Rattle.std.proofs.lemmas.Str.{IsUtf8-past_char}
@@ -20,12 +20,12 @@ use Rattle.rdf_lines.specs.Machine.{Mode, Begin, AfterSubject, AfterPredicate, A
 use Rattle.rdf_lines.specs.States.{is_begin}
 use Rattle.rdf_lines.specs.Accepting.{LineAt, line_words}
 use Rattle.rdf_lines.specs.Writing.{text}
-use Rattle.rdf_lines.specs.Canonical.{count, IsCanonical, PassesLines}
+use Rattle.rdf_lines.specs.Canonical.{PassesLines}
 use Rattle.rdf_lines.specs.Fronts.{LinesStand, AreLines}
 use Rattle.rdf_lines.proofs.CanonicalLines.{lines_read}
 
 -- what comes after a text is UTF-8
-past_text : (w bytes rest : List ℕ) → IsUtf8 bytes → bytes ≡ encodes w ++ rest → IsUtf8 rest
+pub past_text : (w bytes rest : List ℕ) → IsUtf8 bytes → bytes ≡ encodes w ++ rest → IsUtf8 rest
 past_text [] bytes rest u e = subst IsUtf8 e u
 past_text (c ∷ w) bytes rest u e =
     past_text w (encodes w ++ rest) rest (IsUtf8-past_char bytes (encodes w ++ rest) c u (e ∙ append_assoc (encode c) (encodes w) rest)) refl

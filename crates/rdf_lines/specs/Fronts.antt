@@ -1,5 +1,5 @@
 -- What stands at the front of some bytes, as it is written in a line.
-use Rattle.std.specs.Prelude.{◌≡◌, ◌≤◌, ℕ, Bool, true, List, [], ◌∷◌, ◌++◌, flat_map, encode_utf8_all, length, Option}
+use Rattle.std.specs.Prelude.{◌≡◌, ◌≤◌, ℕ, true, List, [], ◌∷◌, ◌++◌, flat_map, encode_utf8_all, length, Option}
 use Rattle.std.specs.List.{AllByRecursion}
 use Rattle.rdf_terms.specs.Classes.{scalar}
 use Rattle.rdf_terms.specs.Terms.{Tail, Subject, Term, Quad, all_have, IsIri, IsLabel, IsTag, IsSubject, IsTail, IsTerm, IsGraph}
@@ -33,11 +33,21 @@ pub record TagStands (bytes rest : List ℕ) : Type 0 where
   pub is : IsTag tag
   pub stands : Stands tag bytes rest
 
--- the characters of a string, and the quote that closes it
-pub record StringStands (bytes rest : List ℕ) : Type 0 where
-  pub string : List ℕ
-  pub is : all_have scalar string ≡ true
-  pub stands : Stands (flat_map (escaped Plain) string ++ 34 ∷ []) bytes rest
+-- characters of a string
+pub record CharactersStand (bytes rest : List ℕ) : Type 0 where
+  pub characters : List ℕ
+  pub are : all_have scalar characters ≡ true
+  pub stands : Stands (flat_map (escaped Plain) characters) bytes rest
+
+-- a string behind its quote, and the quote that closes it
+abbrev pub StringStands : List ℕ → List ℕ → Type 0
+StringStands bytes rest = CharactersStand bytes (34 ∷ rest)
+
+-- an escape behind its backslash
+pub record EscapeStands (bytes rest : List ℕ) : Type 0 where
+  pub character : ℕ
+  pub is : scalar character ≡ true
+  pub stands : Stands (escaped Plain character) (92 ∷ bytes) rest
 
 -- a subject and a space
 pub record SubjectStands (iri : ℕ) (bytes rest : List ℕ) : Type 0 where
@@ -102,7 +112,3 @@ pub record AreLines (form : LineForm) (token iri quads tokens : ℕ) (bytes : Li
   pub canonical : IsCanonical form token iri bytes given
   pub quad_count : quads ≡ length given
   pub token_count : tokens ≡ count given
-
--- no character of the text is escaped
-abbrev pub NoEscapes : List ℕ → Type 0
-NoEscapes w = flat_map (escaped Plain) w ≡ w

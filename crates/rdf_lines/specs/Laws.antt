@@ -156,6 +156,12 @@ abbrev pub PrefixedAsciiIsWritten : Type 0
 PrefixedAsciiIsWritten = (s : Style) (p : List ℕ) (qs : List Quad) → IsNodePrefix p → Writable s qs → AllByRecursion HasAsciiLabels qs →
     AllByRecursion (λ b. b < 128) (encode_utf8_all (text_in (record { style = s; escapes = Ascii; prefix = p }) qs))
 
+-- The two forms agree where what the plain one writes has bytes below 128 alone.
+abbrev pub FormsAgreeOnAscii : Type 0
+FormsAgreeOnAscii = (s : Style) (p : List ℕ) (qs : List Quad) →
+    AllByRecursion (λ b. b < 128) (encode_utf8_all (text_in (record { style = s; escapes = Plain; prefix = p }) qs)) →
+    text_in (record { style = s; escapes = Ascii; prefix = p }) qs ≡ text_in (record { style = s; escapes = Plain; prefix = p }) qs
+
 -- In one form no two nodes have one name.
 abbrev pub PrefixedNamesStayApart : Type 0
 PrefixedNamesStayApart = (f : Form) (m n : Node) → IsNode m → IsNode n → name_node f m ≡ name_node f n → m ≡ n

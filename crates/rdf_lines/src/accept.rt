@@ -1,11 +1,11 @@
 // What a token does to the state of the reader.
 
-ghost use Rattle.std.specs.Prelude.{◌≡◌, false, OnOk, IfOk, IfErr};
+ghost use Rattle.std.specs.Prelude.{◌≡◌, ℕ, false, OnOk, IfOk, IfErr};
 ghost use Rattle.rdf_lines.specs.declared.rules.Rules.{Rules};
 ghost use Rattle.rdf_lines.specs.declared.state.State.TheVariants as state;
 ghost use Rattle.rdf_lines.specs.Machine as M;
 ghost use Rattle.rdf_lines.specs.Machine.{goes, gives};
-ghost use Rattle.rdf_lines.specs.States.{mode_of, answer, quad_with, IsLineToken, Declines, Does, Fails, LeadsTo, IsDeclined};
+ghost use Rattle.rdf_lines.specs.States.{mode_of, answer, quad_with, IsLineToken, Declines, Does, Fails, LeadsTo, IsDeclined, HoldsAtMost, StaysWithin};
 
 use crate::form::LineForm;
 use crate::rules::Rules;
@@ -34,6 +34,7 @@ pub fn accept<A: Allocator, S: QuadSink>(
     requires live { S.has_failed sink.old ≡ false }
     ensures ok { IfOk result (λ s. Does S.takes (answer rules (mode_of state) token.entry) sink.old (mode_of s) sink.new) }
     ensures live { OnOk result (S.has_failed sink.new ≡ false) }
+    ensures held { IfOk result (StaysWithin rules.iri state token.entry) }
     ensures err { IfErr result (λ r. Fails S.leaves S.has_failed r (answer rules (mode_of state) token.entry) sink.old sink.new) }
 {
     match state {
@@ -62,6 +63,7 @@ pub fn accept<A: Allocator, S: QuadSink>(
 fn at_begin<A: Allocator>(alloc: A, limit: u64, token: Token<'_>) -> Result<State<A>, Reason>
     requires { IsLineToken token }
     ensures ok { IfOk result (λ s. LeadsTo limit M.Begin token.entry (mode_of s)) }
+    ensures held { IfOk result (StaysWithin limit state.Begin token.entry) }
     ensures err { IfErr result (IsDeclined limit M.Begin token.entry) }
 {
     match token.kind {
@@ -85,6 +87,7 @@ fn after_subject<A: Allocator>(
 ) -> Result<State<A>, Reason>
     requires { IsLineToken token }
     ensures ok { IfOk result (λ s. LeadsTo limit (mode_of (state.AfterSubject subject)) token.entry (mode_of s)) }
+    ensures held { IfOk result (StaysWithin limit (state.AfterSubject subject) token.entry) }
     ensures err { IfErr result (IsDeclined limit (mode_of (state.AfterSubject subject)) token.entry) }
 {
     match token.kind {
@@ -106,6 +109,7 @@ fn after_predicate<A: Allocator>(
 ) -> Result<State<A>, Reason>
     requires { IsLineToken token }
     ensures ok { IfOk result (λ s. LeadsTo limit (mode_of (state.AfterPredicate beginning)) token.entry (mode_of s)) }
+    ensures held { IfOk result (StaysWithin limit (state.AfterPredicate beginning) token.entry) }
     ensures err { IfErr result (IsDeclined limit (mode_of (state.AfterPredicate beginning)) token.entry) }
 {
     match token.kind {
@@ -136,6 +140,7 @@ fn after_string<A: Allocator, S: QuadSink>(
     requires live { S.has_failed sink.old ≡ false }
     ensures ok { IfOk result (λ s. Does S.takes (answer setup.rules (mode_of (state.AfterString beginning lexical)) token.entry) sink.old (mode_of s) sink.new) }
     ensures live { OnOk result (S.has_failed sink.new ≡ false) }
+    ensures held { IfOk result (StaysWithin setup.rules.iri (state.AfterString beginning lexical) token.entry) }
     ensures err { IfErr result (λ r. Fails S.leaves S.has_failed r (answer setup.rules (mode_of (state.AfterString beginning lexical)) token.entry) sink.old sink.new) }
 {
     match token.kind {
@@ -157,6 +162,7 @@ fn after_carets<A: Allocator>(
 ) -> Result<State<A>, Reason>
     requires { IsLineToken token }
     ensures ok { IfOk result (λ s. LeadsTo limit (mode_of (state.AfterCarets beginning lexical)) token.entry (mode_of s)) }
+    ensures held { IfOk result (StaysWithin limit (state.AfterCarets beginning lexical) token.entry) }
     ensures err { IfErr result (IsDeclined limit (mode_of (state.AfterCarets beginning lexical)) token.entry) }
 {
     match token.kind {
@@ -180,6 +186,7 @@ fn after_object<A: Allocator, S: QuadSink>(
     requires live { S.has_failed sink.old ≡ false }
     ensures ok { IfOk result (λ s. Does S.takes (answer setup.rules (mode_of (state.AfterObject beginning object)) token.entry) sink.old (mode_of s) sink.new) }
     ensures live { OnOk result (S.has_failed sink.new ≡ false) }
+    ensures held { IfOk result (StaysWithin setup.rules.iri (state.AfterObject beginning object) token.entry) }
     ensures err { IfErr result (λ r. Fails S.leaves S.has_failed r (answer setup.rules (mode_of (state.AfterObject beginning object)) token.entry) sink.old sink.new) }
 {
     match (setup.rules.form, token.kind) {
@@ -208,6 +215,7 @@ fn after_graph<A: Allocator, S: QuadSink>(
     requires { S.has_failed sink.old ≡ false }
     ensures ok { IfOk result (λ s. (g : Rules) → Does S.takes (answer g (mode_of (state.AfterGraph beginning object graph)) token.entry) sink.old (mode_of s) sink.new) }
     ensures live { OnOk result (S.has_failed sink.new ≡ false) }
+    ensures held { IfOk result (λ s. (n : ℕ) → HoldsAtMost n s) }
     ensures err { IfErr result (λ r. (g : Rules) → Fails S.leaves S.has_failed r (answer g (mode_of (state.AfterGraph beginning object graph)) token.entry) sink.old sink.new) }
 {
     match token.kind {
@@ -218,6 +226,7 @@ fn after_graph<A: Allocator, S: QuadSink>(
 
 fn after_dot<A: Allocator>(token: Token<'_>) -> Result<State<A>, Reason>
     ensures ok { IfOk result (λ s. (g : Rules) → answer g M.AfterDot token.entry ≡ goes (mode_of s)) }
+    ensures held { IfOk result (λ s. (n : ℕ) → HoldsAtMost n s) }
     ensures err { IfErr result (λ r. (g : Rules) → Declines r (answer g M.AfterDot token.entry)) }
 {
     match token.kind {
@@ -237,6 +246,7 @@ fn give<A: Allocator, S: QuadSink>(
     requires { S.has_failed sink.old ≡ false }
     ensures ok { IfOk result (λ s. Does S.takes (gives (quad_with beginning.now object.now graph.entry) M.AfterDot) sink.old (mode_of s) sink.new) }
     ensures live { OnOk result (S.has_failed sink.new ≡ false) }
+    ensures held { IfOk result (λ s. (n : ℕ) → HoldsAtMost n s) }
     ensures err { IfErr result (λ r. Fails S.leaves S.has_failed r (gives (quad_with beginning.now object.now graph.entry) M.AfterDot) sink.old sink.new) }
 {
     let quad = QuadRef {

@@ -2,9 +2,10 @@
 
 ghost use Rattle.std.specs.Prelude.{◌≡◌, ◌<◌, ◌≤◌, ◌+◌, ◌∷◌, ◌++◌, length, take, get_or, IfSome};
 ghost use Rattle.std.specs.Str.{chars, IsUtf8};
+ghost use Rattle.rdf_terms.specs.Runs.{is_text_byte, IsRun};
 ghost use Rattle.rdf_tokens.specs.Scans.{most_bytes};
 ghost use Rattle.rdf_lines.specs.Canonical.{PassesLines};
-ghost use Rattle.rdf_lines.specs.Fronts.{IriStands, LabelStands, TagStands, StringStands, SubjectStands, PredicateStands, TailStands, ObjectStands, GraphStands, LineStands, AreLines, NoEscapes};
+ghost use Rattle.rdf_lines.specs.Fronts.{IriStands, LabelStands, TagStands, StringStands, SubjectStands, PredicateStands, TailStands, ObjectStands, GraphStands, LineStands, AreLines, CharactersStand, EscapeStands};
 
 use crate::form::LineForm;
 use crate::grammar::LineGrammar;
@@ -40,8 +41,7 @@ struct IriPart<'a> {
 }
 
 /// Passes lines at the front of the text that stand as they are written, where the reader stands between two lines, and answers how many
-/// bytes they have. What is written for their quads with the labels kept are these bytes. It passes none where it can't tell: of lines
-/// with an escape, of labels and tags that are not of ASCII, and with limits below 64.
+/// bytes they have. What is written for their quads with the labels kept are these bytes. With limits below 64 it passes none.
 pub fn pass_lines<A: Allocator + Copy>(reader: &mut Reader<LineGrammar<A>, A>, text: &str) -> usize
     ensures within { result ≤ length text.now }
     ensures passes { PassesLines reader.old (take result text.now) reader.new }
@@ -88,8 +88,7 @@ pub fn canonical_front(text: &str, rules: Rules, token: u64) -> Front
     }
 }
 
-// The line that the text begins with, if it is one that would be written so. It may answer none although there is one: where a string has
-// an escape, or a label characters that are not ASCII.
+// The line that the text begins with, if it is one that would be written so.
 fn canonical_line(text: &str, rules: Rules, token: u64) -> Option<Part<'_>>
     requires token { 64 ≤ token }
     requires iri { 64 ≤ rules.iri }
@@ -200,11 +199,11 @@ fn iri(text: &str, limit: u64) -> Option<IriPart<'_>>
     Some(IriPart { iri, rest })
 }
 
-// A label, whose `_:` came before.
+// A label, whose `_:` came before. Each of its characters may stand in an IRI, and a space may not.
 fn label(text: &str) -> Option<&str>
     ensures { IfSome result (λ rest. LabelStands text.now rest.now) }
 {
-    let end = run_end(Run::Name, text.as_bytes(), 0);
+    let end = run_end(Run::Iri, text.as_bytes(), 0);
     after_byte_at(text, end, b' ')?;
     if !is_label(&text[..end]) {
         return None;
@@ -224,25 +223,42 @@ fn tag(text: &str) -> Option<&str>
     Some(&text[end..])
 }
 
-// A string without escapes, whose opening quote came before.
+// A string, whose opening quote came before.
 fn string(text: &str) -> Option<&str>
     ensures { IfSome result (λ rest. StringStands text.now rest.now) }
 {
-    let end = string_end(text.as_bytes());
-    let rest = after_byte_at(text, end, b'"')?;
-    Some(rest)
+    let mut rest = text;
+    'runs: loop {
+        let end = run_end(Run::Text, rest.as_bytes(), 0);
+        if let Some(behind) = after_byte_at(rest, end, b'"') {
+            return Some(behind);
+        }
+        rest = after_run(rest, end)?;
+    }
 }
 
-// The first byte that is escaped in a string, or the end.
-fn string_end(bytes: &[u8]) -> usize
-    ensures within { result ≤ length bytes.now }
-    ensures plain { NoEscapes (take result bytes.now) }
+// The text after a run of a string's characters, and after the single quote or the escape that ends it.
+fn after_run(text: &str, end: usize) -> Option<&str>
+    requires run { IsRun is_text_byte text.now 0 end }
+    ensures stands { IfSome result (λ rest. CharactersStand text.now rest.now) }
+    ensures shorter { IfSome result (λ rest. length rest.now < length text.now) }
 {
-    let mut end = run_end(Run::Text, bytes, 0);
-    while end < bytes.len() && bytes[end] == b'\'' {
-        end = run_end(Run::Text, bytes, end + 1);
+    match after_byte_at(text, end, b'\\') {
+        Some(letter) => after_letter(letter),
+        None => after_byte_at(text, end, b'\''),
     }
-    end
+}
+
+// The text after the letter of an escape that is written, whose backslash came before.
+fn after_letter(text: &str) -> Option<&str>
+    ensures stands { IfSome result (λ rest. EscapeStands text.now rest.now) }
+    ensures shorter { IfSome result (λ rest. length rest.now < length text.now) }
+{
+    let letter = *text.as_bytes().first()?;
+    if !matches!(letter, b'"' | b'\\' | b'n' | b'r') {
+        return None;
+    }
+    after_byte(text, letter)
 }
 
 // The text after an ASCII character that it begins with.

@@ -7,7 +7,7 @@ ghost use Rattle.rdf_lines.specs.declared.form.Style.{Style};
 ghost use Rattle.rdf_lines.specs.Writing.{Writable, rename_node, text};
 ghost use Rattle.rdf_lines.specs.Canonical.{CanonicalLinesAreRead};
 ghost use Rattle.rdf_lines.specs.Laws.{ReadsBack, TokensSettleTheQuads, TokensSettleWhatIsDue, DueBeginsTheQuads, ReadQuadsAreDue, DocumentsAreRead, RefusedIsNoDocument, WrittenTextIsRead, DocumentIsWritable, WrittenDocumentIsRead, AsciiIsWritten};
-ghost use Rattle.rdf_lines.specs.Laws.{PrefixedTextReadsBack, PrefixedTextIsRead, PrefixedDocumentIsRead, PrefixedAsciiIsWritten, PrefixedNamesStayApart, PrefixesKeepApart, JoinedTextsReadBack, NoPrefixIsNoChange};
+ghost use Rattle.rdf_lines.specs.Laws.{PrefixedTextReadsBack, PrefixedTextIsRead, PrefixedDocumentIsRead, PrefixedAsciiIsWritten, FormsAgreeOnAscii, PrefixedNamesStayApart, PrefixesKeepApart, JoinedTextsReadBack, NoPrefixIsNoChange};
 
 /// The bytes written for quads are a document of N-Quads, whose quads are these, renamed, one for one and in
 /// order. Any limit on a token's characters that is not below the text's length serves.
@@ -100,6 +100,11 @@ pub fn prefixed_document_is_read()
 /// In ASCII each byte that is written is below 128 with a word too, where each label has such characters alone.
 pub fn prefixed_ascii_is_written()
     ensures { PrefixedAsciiIsWritten }
+{}
+
+/// The plain form and the one in ASCII have the same text where the plain one is ASCII: then no character is escaped.
+pub fn forms_agree_on_ascii()
+    ensures { FormsAgreeOnAscii }
 {}
 
 /// No two nodes are written under one name with one word.

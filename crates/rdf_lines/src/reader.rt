@@ -1,12 +1,13 @@
 // The reader of the line formats.
 
-ghost use Rattle.std.specs.Prelude.{◌≡◌, ◌≤◌, ◌++◌, ℕ, List, [], false, true, not, is_ok, OnOk, IfOk, IfErr};
-ghost use Rattle.rdf_tokens.specs.Scans.{most_bytes, place_of};
+ghost use Rattle.std.specs.Prelude.{◌≡◌, ◌≤◌, ◌+◌, ◌++◌, ℕ, List, [], false, true, not, is_ok, OnOk, IfOk, IfErr};
+ghost use Rattle.rdf_tokens.specs.Scans.{most_bytes, unread_bytes, place_of};
 ghost use Rattle.rdf_tokens.specs.Grammars.{GoesOn, IsWhole};
 ghost use Rattle.rdf_terms.specs.Terms.{Quad};
-ghost use Rattle.rdf_driver.specs.Readers.{HasRead, Feeds, FeedFails, Finishes, FinishFails, Exactly, IsPlaced};
+ghost use Rattle.rdf_driver.specs.Readers.{HasRead, SameLimits, Feeds, FeedFails, Finishes, FinishFails, Exactly, IsPlaced};
+ghost use Rattle.rdf_driver.specs.Readers as R;
 ghost use Rattle.rdf_lines.specs.declared.rules.Rules.{Rules};
-ghost use Rattle.rdf_lines.specs.Documents.{in_lines};
+ghost use Rattle.rdf_lines.specs.Documents.{in_lines, most_held};
 ghost use Rattle.rdf_lines.specs.Accepting.{line_words};
 
 use crate::form::LineForm;
@@ -45,13 +46,9 @@ pub fn line_reader<A: Allocator + Copy>(
     ensures form { result.grammar.rules.form ≡ form }
     ensures token { result.scanner.limit ≡ limits.token }
     ensures iri { result.grammar.rules.iri ≡ limits.iri }
+    ensures most { R.most_held line_words result ≡ most_held limits }
 {
-    let limit = limits.token();
-    Reader::new(
-        alloc,
-        LineGrammar::new(alloc, form, limits.iri(), limit),
-        limit,
-    )
+    Reader::new(alloc, LineGrammar::new(alloc, form, limits), limits.token())
 }
 
 impl<A: Allocator + Copy> LineReader<A> {
@@ -61,6 +58,7 @@ impl<A: Allocator + Copy> LineReader<A> {
         ensures form { result.grammar.rules.form ≡ form }
         ensures token { result.scanner.limit ≡ limits.token }
         ensures iri { result.grammar.rules.iri ≡ limits.iri }
+        ensures most { R.most_held line_words result ≡ most_held limits }
     {
         LineReader {
             reader: line_reader(alloc, form, limits),
@@ -77,6 +75,7 @@ impl<A: Allocator + Copy> LineReader<A> {
         ensures exact { (x : Rules) (bytes : List ℕ) (quads : List Quad) → HasRead line_words self.old x bytes quads → Exactly result (GoesOn (in_lines x.form self.old.scanner.limit x.iri) (bytes ++ piece.now)) }
         ensures place { IfErr result (λ f. (x : Rules) (bytes : List ℕ) (quads : List Quad) → HasRead line_words self.old x bytes quads → IsPlaced f.reason (bytes ++ piece.now) (place_of f)) }
         ensures done { self.new.done ≡ not (is_ok result) }
+        ensures limits { SameLimits line_words self.old self.new }
     {
         self.reader.feed(piece, sink)
     }
@@ -89,7 +88,18 @@ impl<A: Allocator + Copy> LineReader<A> {
         ensures exact { (x : Rules) (bytes : List ℕ) (quads : List Quad) → HasRead line_words self.old x bytes quads → Exactly result (IsWhole (in_lines x.form self.old.scanner.limit x.iri) bytes) }
         ensures place { IfErr result (λ f. (x : Rules) (bytes : List ℕ) (quads : List Quad) → HasRead line_words self.old x bytes quads → IsPlaced f.reason bytes (place_of f)) }
         ensures done { self.new.done ≡ true }
+        ensures limits { SameLimits line_words self.old self.new }
     {
         self.reader.finish(sink)
+    }
+
+    /// The bytes of the texts that are held: of the next token, as far as it has come, and of the line that is being read. After each
+    /// call, also one that failed, they are at most what the limits allow (`most` of `new`, `limits` of `feed` and `finish`). Spare
+    /// capacity is not counted. It takes no memory.
+    pub fn held(&self) -> u64
+        ensures sum { result ≡ unread_bytes self.now.scanner + self.now.grammar.held }
+        ensures most { result ≤ R.most_held line_words self.now }
+    {
+        self.reader.held()
     }
 }

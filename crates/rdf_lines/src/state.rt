@@ -1,13 +1,15 @@
 // What has been read of a line.
 
-ghost use Rattle.std.specs.Prelude.{◌≡◌};
+ghost use Rattle.std.specs.Prelude.{◌≡◌, ◌≤◌};
 ghost use Rattle.std.specs.Str.{chars};
 ghost use Rattle.std.specs.String.{string_bytes};
 ghost use Rattle.rdf_terms.specs.Terms.{Literal, Resource};
 ghost use Rattle.rdf_terms.specs.Views.{tail_by, subject_by, term_by};
-ghost use Rattle.rdf_lines.specs.States.{object_of, mode_of, gave, is_begin};
+ghost use Rattle.rdf_terms.specs.Owned.{owned_node, owned_subject};
+ghost use Rattle.rdf_tokens.specs.Scans.{most_bytes};
+ghost use Rattle.rdf_lines.specs.States.{object_of, mode_of, gave, is_begin, node_bytes, subject_bytes, beginning_bytes, object_bytes, state_bytes};
 
-use rdf_terms::{Iri, Known, LiteralRef, Subject, SubjectRef, Tag, TailRef, TermRef, known};
+use rdf_terms::{Iri, Known, LiteralRef, Node, Subject, SubjectRef, Tag, TailRef, TermRef, known};
 use std::alloc::{Allocator, Global};
 
 /// An object that has come whole.
@@ -41,6 +43,41 @@ impl<A: Allocator> Object<A> {
             Object::WithTag(lexical, tag) => literal(lexical.as_str(), TailRef::Lang(tag.view())),
         }
     }
+
+    // The bytes of its texts.
+    fn held(&self) -> u64
+        requires { object_bytes self.now ≤ most_bytes }
+        ensures { result ≡ object_bytes self.now }
+    {
+        match self {
+            Object::Named(subject) => subject_len(subject),
+            Object::Plain(lexical) => lexical.len() as u64,
+            Object::WithType(lexical, datatype) => {
+                lexical.len() as u64 + datatype.as_str().len() as u64
+            }
+            Object::WithTag(lexical, tag) => lexical.len() as u64 + tag.as_str().len() as u64,
+        }
+    }
+}
+
+// The bytes of an IRI or a label.
+fn subject_len<A: Allocator>(subject: &Subject<A>) -> u64
+    ensures { result ≡ subject_bytes (owned_subject subject.now) }
+{
+    match subject {
+        Subject::Iri(iri) => iri.as_str().len() as u64,
+        Subject::Node(node) => node_len(node),
+    }
+}
+
+// The bytes of a label. A node without one has no text.
+fn node_len<A: Allocator>(node: &Node<A>) -> u64
+    ensures { result ≡ node_bytes (owned_node node.now) }
+{
+    match node {
+        Node::Label(label) => label.as_str().len() as u64,
+        _ => 0,
+    }
 }
 
 fn resource(subject: SubjectRef<'_>) -> TermRef<'_>
@@ -63,6 +100,16 @@ fn literal<'a>(lexical: &'a str, tail: TailRef<'a>) -> TermRef<'a>
 pub struct Beginning<A: Allocator = Global> {
     pub subject: Subject<A>,
     pub predicate: Iri<A>,
+}
+
+impl<A: Allocator> Beginning<A> {
+    // The bytes of its texts.
+    fn held(&self) -> u64
+        requires { beginning_bytes self.now ≤ most_bytes }
+        ensures { result ≡ beginning_bytes self.now }
+    {
+        subject_len(&self.subject) + self.predicate.as_str().len() as u64
+    }
 }
 
 /// What has been read of a line. The parts own their texts, since the pieces that they came in are gone.
@@ -102,6 +149,26 @@ impl<A: Allocator> State<A> {
         ensures { result ≡ is_begin (mode_of self.now) }
     {
         matches!(self, State::Begin)
+    }
+
+    /// The bytes of the texts that are held.
+    pub fn held(&self) -> u64
+        requires { state_bytes self.now ≤ most_bytes }
+        ensures { result ≡ state_bytes self.now }
+    {
+        match self {
+            State::Begin | State::AfterDot | State::Finished => 0,
+            State::AfterSubject { subject } => subject_len(subject),
+            State::AfterPredicate { beginning } => beginning.held(),
+            State::AfterString { beginning, lexical } => beginning.held() + lexical.len() as u64,
+            State::AfterCarets { beginning, lexical } => beginning.held() + lexical.len() as u64,
+            State::AfterObject { beginning, object } => beginning.held() + object.held(),
+            State::AfterGraph {
+                beginning,
+                object,
+                graph,
+            } => beginning.held() + object.held() + subject_len(graph),
+        }
     }
 
     /// Whether the last token was a dot, so that a quad was given.

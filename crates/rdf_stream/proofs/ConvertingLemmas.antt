@@ -1,5 +1,5 @@
 -- A piece more, the end, or an error within one: what the drain has then.
-use Rattle.std.proofs.Common.{◌≡◌, ◌≤◌, ◌<◌, ◌+◌, ℕ, Bool, true, false, List, [], ◌∷◌, ◌++◌, ◌⊎◌, length, take, drop, Option, refl, sym, ap, subst, ◌∙◌, append_assoc, ⊎_elim, length-append, arith}
+use Rattle.std.proofs.Common.{◌≡◌, ◌≤◌, ◌<◌, ◌+◌, ℕ, Bool, true, false, List, [], ◌∷◌, ◌++◌, ◌⊎◌, ◌||◌, length, take, drop, Option, refl, sym, ap, subst, ◌∙◌, append_assoc, ⊎_elim, length-append, arith}
 use Rattle.std.proofs.lemmas.List.{append-nil, take-append-drop}
 use Rattle.std.proofs.lemmas.Bool.{false≢true, and_parts, eqb-true}
 use Rattle.std.specs.Prelude.{encode_utf8_all}
@@ -25,9 +25,10 @@ use Rattle.rdf_lines.specs.declared.form.Style.{Style}
 use Rattle.rdf_lines.specs.Writing.{CanWrite, Writable}
 use Rattle.rdf_lines.specs.declared.form.WrittenForm.{WrittenForm}
 use Rattle.rdf_lines.specs.Forms.{form_of}
-use Rattle.rdf_lines.specs.NodePrefixes.{Form, IsNodePrefix, text_in}
+use Rattle.rdf_lines.specs.NodePrefixes.{Form, IsNodePrefix, text_in, unprefixed}
 use Rattle.rdf_lines.proofs.NodePrefixLemmas.{IsNodePrefix-had}
 use Rattle.rdf_lines.proofs.FormReadBack.{form_ascii, form_reads_back}
+use Rattle.rdf_lines.proofs.FormsAgree.{forms_agree}
 use Rattle.rdf_stream.specs.Languages.{Conversion, conversion}
 use Rattle.rdf_stream.specs.declared.fault.StreamFault.{StreamFault}
 use Rattle.rdf_stream.specs.declared.fault.StreamFault.TheVariants as stream
@@ -37,8 +38,9 @@ use Rattle.rdf_stream.specs.Converts.{Accepts, IsAscii, WritesDue, WritesFront, 
 use Rattle.rdf_stream.specs.Devices.{AppendsFront}
 use Rattle.rdf_stream.specs.Faults.{fault_by}
 use Rattle.rdf_stream.specs.LineOut.{Leaves, Moves, PutHalts, SameOut, Takes, Writes}
+use Rattle.rdf_stream.specs.Parts.{IsAsciiText}
 use Rattle.rdf_stream.specs.Passes.{PassesText}
-use Rattle.rdf_stream.specs.WrittenForms.{is_plain, is_raw, plain}
+use Rattle.rdf_stream.specs.WrittenForms.{is_raw, keeps_lines, plain}
 use Rattle.rdf_stream.proofs.LineOutLemmas.{Taken, Tried, bytes_of, bytes_of-append, front_moves, moves_all, moves_front, moves_more, moves_on, puts_tries, same_out, taken, tried}
 
 -- quads that can be written can be written together
@@ -47,7 +49,7 @@ both_writable s [] rs p q = q
 both_writable s (x ∷ qs) rs p q = (p.0, both_writable s qs rs p.1 q)
 
 -- what is written in ASCII is so
-written_ascii : (f : Form) (qs : List Quad) → IsNodePrefix f.prefix → Writable f.style qs → IsAscii f qs
+pub written_ascii : (f : Form) (qs : List Quad) → IsNodePrefix f.prefix → Writable f.style qs → IsAscii f qs
 written_ascii f qs p w is labels =
     subst (λ (e : Escapes). AllByRecursion (λ b. b < 128) (encode_utf8_all (text_in (record { style = f.style; escapes = e; prefix = f.prefix }) qs))) (sym is) (form_ascii f.style f.prefix qs p w labels)
 
@@ -55,6 +57,11 @@ written_ascii f qs p w is labels =
 first_ones : (P : Quad → Type 0) (qs rs : List Quad) → AllByRecursion P (qs ++ rs) → AllByRecursion P qs
 first_ones P [] rs h = tt
 first_ones P (q ∷ qs) rs h = (h.0, first_ones P qs rs h.1)
+
+-- the first of some quads that can be written can
+first_able : (s : Style) (qs rs : List Quad) → Writable s (qs ++ rs) → Writable s qs
+first_able s [] rs h = tt
+first_able s (q ∷ qs) rs h = (h.0, first_able s qs rs h.1)
 
 -- what holds of all quads holds of the last ones
 last_ones : (P : Quad → Type 0) (qs rs : List Quad) → AllByRecursion P (qs ++ rs) → AllByRecursion P rs
@@ -103,6 +110,10 @@ module _ (l : Language) where
   begins_refused r reason.Sink at ahead qs x d = absurd x
   begins_refused r why at ahead qs x d = begins_ahead r.tokens ahead (x.token ∷ x.behind) qs x.tokens x.front.kept d
 
+-- where some text is the plain lines of quads, it is their lines in the form
+abbrev KeepsText : WrittenForm → List ℕ → Type 0
+KeepsText w text = (qs : List Quad) → text ≡ lines_of (plain w.style) qs → text ≡ lines_of (form_of w) qs
+
 module _ {G X D A : Type 0} (contents : D → Option (List ℕ)) (failed : D → Bool) (w : Words G X Quad) (x : X) (reader : Driven G) (bytes : List ℕ) (first lines : LineOut D A) (suits : Suits w x first.form.style)
     (o : HasPut contents failed w x reader bytes first lines) where
   abbrev l : Language
@@ -110,6 +121,22 @@ module _ {G X D A : Type 0} (contents : D → Option (List ℕ)) (failed : D →
 
   abbrev job : Conversion
   job = conversion w x reader.scanner.limit (form_of first.form)
+
+  -- the word of the form is one
+  is_word : IsNodePrefix (form_of first.form).prefix
+  is_word = IsNodePrefix-had (form_of first.form).prefix first.form.prefix.is_prefix
+
+  -- with more quads that can be written, what was put can
+  all_able : (qs : List Quad) → Writable lines.form.style qs → Writable first.form.style (o.quads ++ qs)
+  all_able qs able = both_writable first.form.style o.quads qs o.writable (subst (λ (y : WrittenForm). Writable y.style qs) o.same.form able)
+
+  -- their lines are ASCII where they are to be
+  all_ascii : (qs : List Quad) → Writable lines.form.style qs → IsAscii (form_of first.form) (o.quads ++ qs)
+  all_ascii qs able = written_ascii (form_of first.form) (o.quads ++ qs) is_word (all_able qs able)
+
+  -- so are those that were put
+  these_ascii : IsAscii (form_of first.form) o.quads
+  these_ascii = written_ascii (form_of first.form) o.quads is_word o.writable
 
   -- what the drain took after the bytes that it had
   abbrev Behind : LineOut D A → List Quad → List ℕ → Type 0
@@ -123,12 +150,13 @@ module _ {G X D A : Type 0} (contents : D → Option (List ℕ)) (failed : D →
       (moves_on (contents first.drain.now) (contents lines.drain.now) (contents after.drain.now) (lines_of (form_of first.form) o.quads) (bytes_of first.form qs) lines.buffer.now.items rest o.moves styled)
 
   -- a beginning of the lines was written
-  written_front : (after : LineOut D A) (ts : List Token) (qs : List Quad) (rest : List ℕ) → Behind after qs rest → Begun l ts (o.quads ++ qs) →
+  written_front : (after : LineOut D A) (ts : List Token) (qs : List Quad) (rest : List ℕ) → Writable lines.form.style qs → Behind after qs rest → Begun l ts (o.quads ++ qs) →
       WritesFront job ts (contents first.drain.now) (contents after.drain.now)
-  written_front after ts qs rest m d = record {
+  written_front after ts qs rest able m d = record {
     quads = o.quads ++ qs;
     due = d;
     written = moves_front (contents first.drain.now) (contents after.drain.now) (lines_of (form_of first.form) (o.quads ++ qs)) rest (from_first after qs rest m);
+    ascii = all_ascii qs able;
   }
 
   -- all that waited was taken then
@@ -167,6 +195,10 @@ module _ {G X D A : Type 0} (contents : D → Option (List ℕ)) (failed : D →
     pub tries : Tried contents failed lines more mid
     pub due : Begun l ts (o.quads ++ more)
 
+  -- they can all be written
+  left_able : (ts : List Token) (mid : LineOut D A) (h : LeftOff ts mid) → Writable lines.form.style h.more
+  left_able ts mid h = h.tries.writable (styled h.due.ahead h.more h.due.rest h.due.due)
+
   leaves_off : (readings : List ℕ → Reading) (mid : LineOut D A) → LeavesOff w (Takes contents failed) (Leaves contents failed) reader lines readings mid → LeftOff (readings bytes).tokens mid
   leaves_off readings mid h =
       let d = h.due x bytes o.quads o.read in record { more = h.more; tries = tried contents failed h.more lines mid h.puts; due = d }
@@ -177,13 +209,13 @@ module _ {G X D A : Type 0} (contents : D → Option (List ℕ)) (failed : D →
     where
       by : (b : Bool) → failed mid.drain.now ≡ b → WritesFront job ts (contents first.drain.now) (contents after.drain.now)
       by true e =
-          written_front after ts h.more h.tries.rest
+          written_front after ts h.more h.tries.rest (left_able ts mid h)
           (subst (λ k. Moves (contents lines.drain.now) k (lines.buffer.now.items ++ bytes_of lines.form h.more) h.tries.rest) (sym (t.before_it e)) h.tries.moves) h.due
       by false e =
           let (done, later, split, writes) = h.tries.whole e in
           let (rest, moves) = t.while_taking e in
           let m = more_front after done later rest (then_front mid after done rest writes moves) in
-          written_front after ts h.more (rest ++ bytes_of lines.form later) (subst (λ qs. Behind after qs (rest ++ bytes_of lines.form later)) (sym split) m) h.due
+          written_front after ts h.more (rest ++ bytes_of lines.form later) (left_able ts mid h) (subst (λ qs. Behind after qs (rest ++ bytes_of lines.form later)) (sym split) m) h.due
 
   -- the drain has all whole lines
   tells_some : (ts : List Token) (mid after : LineOut D A) → LeftOff ts mid → TellsFault contents failed mid after → WritesSome job ts (contents first.drain.now) (contents after.drain.now)
@@ -193,6 +225,7 @@ module _ {G X D A : Type 0} (contents : D → Option (List ℕ)) (failed : D →
         quads = o.quads ++ done;
         due = begins_less l ts (o.quads ++ done) later (subst (Begun l ts) (ap (λ qs. o.quads ++ qs) split ∙ sym (append_assoc o.quads done later)) h.due);
         written = written_all mid after done writes t.taken;
+        ascii = all_ascii done (first_able lines.form.style done later (subst (Writable lines.form.style) split (left_able ts mid h)));
       }
 
   -- what was refused
@@ -219,7 +252,12 @@ module _ {G X D A : Type 0} (contents : D → Option (List ℕ)) (failed : D →
   tells_due : (why : Reason) (at : Place) (reading : Reading) (mid after : LineOut D A) → RefusedAt why at reading mid → TellsFault contents failed mid after →
       (ahead : List Token) × RefusedIn l reading why at ahead × WritesDue job ahead (contents first.drain.now) (contents after.drain.now)
   tells_due why at reading mid after r t =
-      (r.refused.0, r.refused.1, record { quads = o.quads ++ r.more; due = r.refused.2; written = written_all mid after r.more r.taken.writes t.taken })
+      let writes : WritesDue job r.refused.0 (contents first.drain.now) (contents after.drain.now) = record {
+        quads = o.quads ++ r.more;
+        due = r.refused.2;
+        written = written_all mid after r.more r.taken.writes t.taken;
+        ascii = all_ascii r.more r.taken.writable;
+      } in (r.refused.0, r.refused.1, writes)
 
   -- ---- what is reported of an error
 
@@ -345,16 +383,12 @@ module _ {G X D A : Type 0} (contents : D → Option (List ℕ)) (failed : D →
       more_put part reader' f.limit f.more read' mid put.same (subst (λ (y : WrittenForm). Writable y.style f.more) o.same.form put.writable) put.writes (put.live o.live)
 
   -- Some text was passed: it is the plain lines of quads in the style.
-  module _ (style : Style) (same_style : first.form.style ≡ style) (are_plain : form_of lines.form ≡ plain lines.form.style) (text : List ℕ) (reader' : Driven G) (p : PassesText w style reader text reader') where
+  module _ (style : Style) (same_style : first.form.style ≡ style) (text : List ℕ) (kept : KeepsText lines.form text) (reader' : Driven G) (p : PassesText w style reader text reader') where
     passed' : HasRead w reader' x (bytes ++ text) (o.quads ++ p.given)
     passed' = p.read x bytes o.quads o.read
 
-    -- the form of the lines is that of the text
-    same_form : plain style ≡ form_of lines.form
-    same_form = subst (λ s. plain s ≡ form_of lines.form) (ap (λ (f : WrittenForm). f.style) o.same.form ∙ same_style) (sym are_plain)
-
     their_lines : text ≡ bytes_of lines.form p.given
-    their_lines = p.is ∙ ap (λ f. lines_of f p.given) same_form
+    their_lines = kept p.given (subst (λ s. text ≡ lines_of (plain s) p.given) (sym (ap (λ (f : WrittenForm). f.style) o.same.form ∙ same_style)) p.is)
 
     -- it was put as it stands
     pub text_put : (after : LineOut D A) → SameOut lines after → Writes contents lines text after → failed after.drain.now ≡ false → HasPut contents failed w x reader' (bytes ++ text) first after
@@ -369,11 +403,14 @@ module _ {G X D A : Type 0} (contents : D → Option (List ℕ)) (failed : D →
         ts : List Token
         ts = (reading_of l (bytes ++ text) false).tokens
 
+        able : Writable lines.form.style p.given
+        able = subst (λ y. Writable y p.given) (sym (ap (λ (f : WrittenForm). f.style) o.same.form ∙ same_style)) p.writable
+
         by : (told : StreamFault) → PutHalts contents failed told lines text after →
             HaltsFor told job (bytes ++ text) false (contents first.drain.now) (contents after.drain.now) (failed after.drain.now)
         by stream.Write h = (
           h.0,
-          written_front after ts p.given h.1
+          written_front after ts p.given h.1 able
               (subst (λ b. Moves (contents lines.drain.now) (contents after.drain.now) (lines.buffer.now.items ++ b) h.1) their_lines h.2)
               (begun' text reader' p.limit p.given passed'),
         )
@@ -383,6 +420,7 @@ module _ {G X D A : Type 0} (contents : D → Option (List ℕ)) (failed : D →
             quads = o.quads;
             due = begins_less l ts o.quads p.given (begun' text reader' p.limit p.given passed');
             written = moves_all (contents first.drain.now) (contents lines.drain.now) (contents after.drain.now) (lines_of (form_of first.form) o.quads) lines.buffer.now.items o.moves h.1;
+            ascii = these_ascii;
           },
         )
         by told h = absurd h
@@ -419,6 +457,7 @@ module _ {G X D A : Type 0} (contents : D → Option (List ℕ)) (failed : D →
             due = begins_all l now o.quads (suits.lawful.kept reader.grammar x now o.quads o.read.reached) (suits.lawful.due reader.grammar x now o.quads o.read.reached);
             written = moves_front (contents first.drain.now) (contents after.drain.now) (lines_of (form_of first.form) o.quads) rest
                 (subst (λ b. Moves (contents first.drain.now) (contents after.drain.now) b rest) (append-nil (lines_of (form_of first.form) o.quads)) all);
+            ascii = these_ascii;
           },
         );
       }
@@ -434,11 +473,7 @@ module _ {G X D A : Type 0} (contents : D → Option (List ℕ)) (failed : D →
     all_put = taken contents failed f.more lines mid f.puts (styled_all (reading_of l bytes true).tokens f.more sums.due)
 
     all_writable : Writable first.form.style (o.quads ++ f.more)
-    all_writable = both_writable first.form.style o.quads f.more o.writable (subst (λ (y : WrittenForm). Writable y.style f.more) o.same.form all_put.writable)
-
-    -- the word of the form is one
-    is_word : IsNodePrefix (form_of first.form).prefix
-    is_word = IsNodePrefix-had (form_of first.form).prefix first.form.prefix.is_prefix
+    all_writable = all_able f.more all_put.writable
 
     -- the document was read and written
     pub end_read : (after : LineOut D A) → SameOut mid after → Appends (contents mid.drain.now) (contents after.drain.now) mid.buffer.now.items →
@@ -451,7 +486,7 @@ module _ {G X D A : Type 0} (contents : D → Option (List ℕ)) (failed : D →
         within = sums.whole;
         written = written_all mid after f.more all_put.writes t;
         reads_back = λ limit h. form_reads_back (form_of first.form) (o.quads ++ f.more) limit is_word all_writable h;
-        ascii = written_ascii (form_of first.form) (o.quads ++ f.more) is_word all_writable;
+        ascii = all_ascii f.more all_put.writable;
         counts = record { quads = sums.given; tokens = sums.accepted; bytes = sums.taken };
       },
     )
@@ -463,29 +498,28 @@ module _ {G X D A : Type 0} (contents : D → Option (List ℕ)) (failed : D →
         let (rest, m) = front_moves (contents mid.drain.now) (contents after.drain.now) mid.buffer.now.items t in
         record {
           same = same_out first mid after (same_out first lines mid o.same all_put.same) s;
-          halts = (broke, written_front after (reading_of l bytes true).tokens f.more rest (then_front mid after f.more rest all_put.writes m) all_begun);
+          halts = (broke, written_front after (reading_of l bytes true).tokens f.more rest all_put.writable (then_front mid after f.more rest all_put.writes m) all_begun);
         }
-
--- the test answers that characters stand as they are
-raw_where : (e : Escapes) → is_raw e ≡ true → e ≡ Plain
-raw_where Plain t = refl
-raw_where Ascii t = absurd (false≢true t)
 
 -- a text without bytes has no characters
 no_bytes : (bs : List ℕ) → length bs ≡ 0 → chars bs ≡ []
 no_bytes [] h = chars-nil
 no_bytes (b ∷ bs) h = absurd (omega (arith, h))
 
--- a form with these parts is the plain one
-plain_form : (f : Form) → f.escapes ≡ Plain → f.prefix ≡ [] → f ≡ plain f.style
-plain_form f e p =
-    ap (λ (x : Escapes). record { style = f.style; escapes = x; prefix = f.prefix }) e ∙ ap (λ (x : List ℕ). record { style = f.style; escapes = Plain; prefix = x }) p
+-- plain lines stand in a form that writes characters above U+007F as they are, or where there are none
+kept_by : (e : Escapes) (is_ascii : Bool) (s : Style) (text : List ℕ) → (is_ascii || is_raw e) ≡ true → (is_ascii ≡ true → IsAsciiText text) →
+    (qs : List Quad) → text ≡ lines_of (plain s) qs → text ≡ lines_of (unprefixed s e) qs
+kept_by Plain b s text t low qs is = is
+kept_by Ascii false s text t low qs is = absurd (false≢true t)
+kept_by Ascii true s text t low qs is = is ∙ ap encode_utf8_all (sym (forms_agree s [] qs (subst IsAsciiText is (low refl))))
 
--- the test answers that the form is plain
-pub plain_where : (w : WrittenForm) → is_plain w ≡ true → form_of w ≡ plain w.style
-plain_where w t =
-    let (raw, none) = and_parts (is_raw w.escapes) _ t in
-    plain_form (form_of w) (raw_where w.escapes raw) (no_bytes w.prefix.word.now (eqb-true (length w.prefix.word.now) 0 none))
+-- the test answers that they stand so
+pub kept_where : (w : WrittenForm) (is_ascii : Bool) (text : List ℕ) → keeps_lines w is_ascii ≡ true → (is_ascii ≡ true → IsAsciiText text) → KeepsText w text
+kept_where w is_ascii text t low qs is =
+    let (raw, none) = and_parts (is_ascii || is_raw w.escapes) _ t in
+    let no_word = no_bytes w.prefix.word.now (eqb-true (length w.prefix.word.now) 0 none) in
+    kept_by w.escapes is_ascii w.style text raw low qs is
+    ∙ ap (λ (x : List ℕ). lines_of (record { style = w.style; escapes = w.escapes; prefix = x }) qs) (sym no_word)
 
 -- what was handed over was put
 put_of : {G X D A : Type 0} (contents : D → Option (List ℕ)) (failed : D → Bool) (w : Words G X Quad) (x : X) (reader : Driven G) (bytes : List ℕ) (first lines : LineOut D A) →
@@ -586,19 +620,19 @@ module _ {G X D A : Type 0} (contents : D → Option (List ℕ)) (failed : D →
     run_halts n k new mid after why told h s t =
         halted told (bytes ++ part) false after (λ x y o. piece_halts contents failed w x old bytes first lines y o part n k new mid why after told h s t)
 
-    module _ (are_plain : form_of lines.form ≡ plain lines.form.style) (new : Driven G) (p : PassesText w style old part new) where
+    module _ (kept : KeepsText lines.form part) (new : Driven G) (p : PassesText w style old part new) where
       -- some text was passed, and put as it stands
       pub run_passes : (after : LineOut D A) → SameOut lines after → Writes contents lines part after → failed after.drain.now ≡ false → IsPutting contents failed w style reader first (bytes ++ part) new after
       run_passes after s m live = record {
         begun = i.begun;
         styled = i.styled;
         limit = p.limit ∙ i.limit;
-        put = λ x y. text_put contents failed w x old bytes first lines y.starts.suits (i.put x y) style i.styled are_plain part new p after s m live;
+        put = λ x y. text_put contents failed w x old bytes first lines y.starts.suits (i.put x y) style i.styled part kept new p after s m live;
       }
 
       -- it was not put
       pub pass_halts : (told : StreamFault) (after : LineOut D A) → SameOut lines after → PutHalts contents failed told lines part after → RunHalts contents failed w told reader first (bytes ++ part) false after
-      pass_halts told after s h = halted told (bytes ++ part) false after (λ x y o. text_halts contents failed w x old bytes first lines y o style i.styled are_plain part new p told after s h)
+      pass_halts told after s h = halted told (bytes ++ part) false after (λ x y o. text_halts contents failed w x old bytes first lines y o style i.styled part kept new p told after s h)
 
   module _ (summary : Summary) (mid : LineOut D A) (f : Finishes w (Takes contents failed) old lines summary mid) where
     -- the document was read and written

@@ -38,11 +38,13 @@ use Rattle.rdf_lines.proofs.AcceptingLemmas.{lawful as lines_lawful}
 use Rattle.rdf_trig.specs.Machine.{at_start}
 use Rattle.rdf_trig.proofs.machine.ExactDocuments.{due_ran}
 use Rattle.rdf_stream.specs.Pieces.{ReadStops, ReadsAll, SourceFails}
+use Rattle.rdf_lines.proofs.NodePrefixLemmas.{IsNodePrefix-had}
+use Rattle.rdf_stream.proofs.ConvertingLemmas.{written_ascii}
 use Rattle.rdf_stream.proofs.PiecesLemmas.{all_given, none_given, too_long_more}
 
 -- what was written of what is due is due with more bytes
 some_more : (job : Conversion) → EndsAtBlame job.language → (bytes more : List ℕ) (e : Bool) (old new : Option (List ℕ)) → WritesSome job (reading_of job.language bytes false).tokens old new → WritesSome job (reading_of job.language (bytes ++ more) e).tokens old new
-some_more job ends bytes more e old new h = record { quads = h.quads; due = due_more job.language ends bytes more e h.quads h.due; written = h.written }
+some_more job ends bytes more e old new h = record { quads = h.quads; due = due_more job.language ends bytes more e h.quads h.due; written = h.written; ascii = h.ascii }
 
 -- what is refused stays refused, with more bytes or with all of them
 refuses_more : (job : Conversion) → EndsAtBlame job.language → (why : Reason) (bytes more : List ℕ) (e : Bool) (at : Place) (old new : Option (List ℕ)) → RefusesDocument why job bytes false at old new → RefusesDocument why job (bytes ++ more) e at old new
@@ -55,7 +57,7 @@ halts_for_more : (told : StreamFault) (job : Conversion) → EndsAtBlame job.lan
 halts_for_more (stream.Refused f) job ends bytes more old new failed h = refuses_more job ends f.reason bytes more false (place_of f) old new h
 halts_for_more stream.Read job ends bytes more old new failed h = h
 halts_for_more stream.Write job ends bytes more old new failed h =
-    (h.0, record { quads = h.1.quads; due = due_more job.language ends bytes more false h.1.quads h.1.due; written = h.1.written })
+    (h.0, record { quads = h.1.quads; due = due_more job.language ends bytes more false h.1.quads h.1.due; written = h.1.written; ascii = h.1.ascii })
 halts_for_more stream.Memory job ends bytes more old new failed h = (h.0, some_more job ends bytes more false old new h.1)
 
 -- bytes that are not read on in a run, and more
@@ -149,7 +151,12 @@ module _ {G X D : Type 0} (A : Type 0) (contents : D → Option (List ℕ)) (fai
         let law = b.starts.suits.lawful in
         let writes : WritesDue (conversion w x first.0.scanner.limit (form_of first.1.form)) (reading_of (in_words w x first.0.scanner.limit) h.bytes false).tokens old new =
         subst (λ k. WritesDue (conversion w x k (form_of first.1.form)) (reading_of (in_words w x k) h.bytes false).tokens old new) h.is_taken.limit
-        (record { quads = o.quads; due = law.due now.0.grammar x (reading_of (in_words w x n) h.bytes false).tokens o.quads o.read.reached; written = o.written }) in (
+        (record {
+          quads = o.quads;
+          due = law.due now.0.grammar x (reading_of (in_words w x n) h.bytes false).tokens o.quads o.read.reached;
+          written = o.written;
+          ascii = written_ascii (form_of first.1.form) o.quads (IsNodePrefix-had (form_of first.1.form).prefix first.1.form.prefix.is_prefix) o.writable;
+        }) in (
           h.broken,
           record {
             bytes = h.bytes;
@@ -193,7 +200,7 @@ trees_job P job form k x i n l f e h =
 
 -- before any token nothing is due
 none_due : (k : Kind) (job : JobRead) → Due (conversion_by k job).language.documents [] []
-none_due (Line form) job = lines_lawful.due (record { rules = record { form = form; iri = 0 }; limit = 0; mode = Begin }) (record { form = form; iri = 0 }) [] [] (refl, refl)
+none_due (Line form) job = lines_lawful.due (record { rules = record { form = form; iri = 0 }; limit = 0; mode = Begin; held = 0 }) (record { form = form; iri = 0 }) [] [] (refl, refl)
 none_due (Tree form) job = due_ran form (tree_job form job).start [] (at_start (tree_job form job).start) [] refl
 
 -- there was no memory to begin with
@@ -213,6 +220,7 @@ none_stops job left old write_failed o r f = (
       due = none_due (kind_of job.form) job;
     };
     written = Appends-nil old;
+    ascii = λ is labels. tt;
   },
 )
   where

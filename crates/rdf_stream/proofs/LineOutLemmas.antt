@@ -109,6 +109,7 @@ module _ {D A : Type 0} (contents : D → Option (List ℕ)) (failed : D → Boo
     pub same : SameOut a b
     pub rest : List ℕ
     pub moves : Moves (contents a.drain.now) (contents b.drain.now) (a.buffer.now.items ++ bytes_of a.form qs) rest
+    pub writable : AllByRecursion (CanWrite a.form.style) qs → Writable a.form.style qs
     -- where the drain has not failed, the lines of some of the quads were written
     pub whole : failed b.drain.now ≡ false → (done later : List Quad) × (qs ≡ done ++ later) × Writes contents a (bytes_of a.form done) b
 
@@ -117,6 +118,7 @@ module _ {D A : Type 0} (contents : D → Option (List ℕ)) (failed : D → Boo
     same = record { form = refl; buffer = refl; drain = refl };
     rest = a.buffer.now.items;
     moves = waits_same (contents a.drain.now) a.buffer.now.items a.buffer.now.items refl;
+    writable = λ w. tt;
     whole = λ l. ([], [], refl, waits_same (contents a.drain.now) a.buffer.now.items a.buffer.now.items refl);
   })
   tried (q ∷ qs) a b h = ⊎_elim last (more (λ n x. tried qs n b x)) h
@@ -127,6 +129,7 @@ module _ {D A : Type 0} (contents : D → Option (List ℕ)) (failed : D → Boo
         rest = p.1.rest;
         moves = subst (λ l. Moves (contents a.drain.now) (contents b.drain.now) (a.buffer.now.items ++ l) p.1.rest)
             (ap encode_utf8_all (sym (append-nil (line_in (form_of a.form) q))) ∙ ap (λ rs. bytes_of a.form (q ∷ rs)) (sym p.0)) p.1.moves;
+        writable = λ w. ((quad_had q p.1.formed, w.0), subst (Writable a.form.style) (sym p.0) tt);
         whole = λ l. ([], q ∷ qs, refl, p.1.live l);
       }
 
@@ -143,6 +146,10 @@ module _ {D A : Type 0} (contents : D → Option (List ℕ)) (failed : D → Boo
                 (append_assoc a.buffer.now.items (line_bytes a.form q) (bytes_of a.form qs) ∙ ap (λ l. a.buffer.now.items ++ l) (sym join))
                 (moves_on (contents a.drain.now) (contents next.drain.now) (contents b.drain.now) (a.buffer.now.items ++ line_bytes a.form q) (bytes_of a.form qs) next.buffer.now.items r.rest first
                 (subst (λ f. Moves (contents next.drain.now) (contents b.drain.now) (next.buffer.now.items ++ bytes_of f qs) r.rest) t.same.form r.moves));
+            writable = λ w. (
+              (quad_had q t.formed, w.0),
+              subst (λ (f : WrittenForm). Writable f.style qs) t.same.form (r.writable (subst (λ (f : WrittenForm). AllByRecursion (CanWrite f.style) qs) (sym t.same.form) w.1)),
+            );
             whole = λ l.
                 let (done, later, split, writes) = r.whole l in (
                   q ∷ done,

@@ -1,12 +1,45 @@
 -- From the parts of a piece to all of it.
-use Rattle.std.proofs.Common.{◌≡◌, ◌+◌, ◌≤◌, ◌<◌, ℕ, Bool, false, List, [], ◌++◌, length, take, drop, sym, ap, subst, ◌∙◌, append_assoc, ⊎_elim, length-take, arith}
+use Rattle.std.proofs.Common.{◌≡◌, ◌+◌, ◌≤◌, ◌<◌, ℕ, zero, suc, Bool, true, false, List, [], ◌∷◌, ◌++◌, length, take, drop, get_or, sym, ap, subst, ◌∙◌, append_assoc, ⊎_elim, length-take, arith}
+use Rattle.std.specs.Str.{IsUtf8, IsCharBoundary}
 use Rattle.std.proofs.lemmas.Bool.{cases_lt}
-use Rattle.std.proofs.lemmas.List.{append-nil, drop-append-le, length-drop, length-take-le, take-append-drop, take-append-le}
-use Rattle.std.proofs.Math.Seq.{take-add}
+use Rattle.std.proofs.lemmas.Bool.Decides.{nat_tests}
+use Rattle.std.proofs.lemmas.Str.{IsCharBoundary-from_take}
+use Rattle.std.proofs.lemmas.List.{append-nil, drop-append-le, drop-drop, length-drop, length-take-le, take-append-drop, take-append-le}
+use Rattle.std.proofs.Math.Seq.{take-add, take-length}
+use Rattle.rdf_terms.specs.Runs.{IsRun, is_ascii_byte}
 use Rattle.rdf_tokens.specs.Scans.{most_bytes}
+use Rattle.rdf_lines.proofs.AsciiLemmas.{low_encodes, low_scalars}
 use Rattle.rdf_stream.specs.declared.fault.StreamFault.{StreamFault}
-use Rattle.rdf_stream.specs.Parts.{HaltsWithin}
+use Rattle.rdf_stream.specs.Parts.{HaltsWithin, IsAsciiText, MayPass}
 use Rattle.rdf_stream.specs.Pieces.{HaltsOn, HasBegun, TakesMore}
+
+-- a front of an ASCII text is ASCII
+pub low_take : (n : ℕ) (w : List ℕ) → IsAsciiText w → IsAsciiText (take n w)
+low_take zero w a = tt
+low_take (suc n) [] a = tt
+low_take (suc n) (b ∷ w) a = (a.0, low_take n w a.1)
+
+-- so is what stands from a place on
+low_drop : (n : ℕ) (w : List ℕ) → IsAsciiText w → IsAsciiText (drop n w)
+low_drop zero w a = a
+low_drop (suc n) [] a = tt
+low_drop (suc n) (b ∷ w) a = low_drop n w a.1
+
+-- the text may be cut where a run of ASCII ends
+module _ (w : List ℕ) (n : ℕ) (r : IsRun is_ascii_byte w 0 n) where
+  pub low_run : IsAsciiText (take n w)
+  low_run = each w n (λ k l. r.pass k (omega arith) l) r.within
+    where
+      low : (b : ℕ) → is_ascii_byte b ≡ true → b < 128
+      low b h = grind (arith, nat_tests)
+
+      each : (w : List ℕ) (n : ℕ) → ((k : ℕ) → k < n → is_ascii_byte (get_or w k 0) ≡ true) → n ≤ length w → IsAsciiText (take n w)
+      each w zero h l = tt
+      each [] (suc n) h l = tt
+      each (b ∷ w) (suc n) h l = (low b (h 0 (omega arith)), each w n (λ k m. h (suc k) (omega arith)) (omega arith))
+
+  pub ascii_cut : IsUtf8 w → IsCharBoundary w n
+  ascii_cut u = IsCharBoundary-from_take w n u r.within (take n w, (low_scalars (take n w) low_run, low_encodes (take n w) low_run))
 
 -- a front of what stands from a place on in a front of the bytes stands there in the bytes
 pub front_at : (rest text front : List ℕ) (v at n : ℕ) → text ≡ take v rest → front ≡ take (length front) (drop at text) → n ≤ length front → take n front ≡ take n (drop at rest)
@@ -25,6 +58,14 @@ front_at rest text front v at n t f h = ⊎_elim outside inside (cases_lt (lengt
         let all : drop at rest ≡ front ++ (drop (length front) (drop at text) ++ drop v rest) =
         behind ∙ (ap (λ l. l ++ drop v rest) split ∙ append_assoc front (drop (length front) (drop at text)) (drop v rest)) in
         sym (ap (take n) all ∙ take-append-le n front (drop (length front) (drop at text) ++ drop v rest) h)
+
+-- what stands from a place on in such a text may be passed there
+pub pass_later : (text front later : List ℕ) (at n to : ℕ) (b : Bool) → to ≡ at + n → MayPass text at b front → later ≡ take (length later) (drop n front) → MayPass text to b later
+pass_later text front later at n to b t m e = record {
+  stands = sym (take-length later) ∙ (front_at (drop at text) front later (length front) n (length later) m.stands e (omega arith)
+      ∙ ap (take (length later)) (drop-drop n at text ∙ ap (λ k. drop k text) (sym t)));
+  ascii = λ h. subst IsAsciiText (sym e) (low_take (length later) (drop n front) (low_drop n front (m.ascii h)));
+}
 
 -- such a front ends within the bytes
 pub front_within : (rest text front : List ℕ) (v at n : ℕ) → text ≡ take v rest → front ≡ take (length front) (drop at text) → n ≤ length front → at ≤ length rest → at + n ≤ length rest

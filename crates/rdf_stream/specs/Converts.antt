@@ -50,23 +50,26 @@ IsConverted job bytes old new = (s : Summary) × Accepts job bytes old new s
 abbrev pub AcceptsAll : Conversion → Option (List ℕ) → Option (List ℕ) → Option (List ℕ) → Summary → Type 0
 AcceptsAll job known old new s = IfSome known (λ bytes. Accepts job bytes old new s)
 
--- the lines of the quads that are due after these tokens were written
+-- The lines of the quads that are due after these tokens were written.
 pub record WritesDue (job : Conversion) (ahead : List Token) (old new : Option (List ℕ)) : Type 0 where
   pub quads : List Quad
   pub due : Due job.language.documents ahead quads
   pub written : Appends old new (lines_of job.form quads)
+  pub ascii : IsAscii job.form quads
 
 -- whole lines were written, of the first of the quads that are due in the front of these tokens
 pub record WritesSome (job : Conversion) (tokens : List Token) (old new : Option (List ℕ)) : Type 0 where
   pub quads : List Quad
   pub due : BeginsDue job.language.documents job.language.passes tokens quads
   pub written : Appends old new (lines_of job.form quads)
+  pub ascii : IsAscii job.form quads
 
 -- a beginning of the lines of the quads that are due in the front of these tokens was written
 pub record WritesFront (job : Conversion) (tokens : List Token) (old new : Option (List ℕ)) : Type 0 where
   pub quads : List Quad
   pub due : BeginsDue job.language.documents job.language.passes tokens quads
   pub written : AppendsFront old new (lines_of job.form quads)
+  pub ascii : IsAscii job.form quads
 
 -- The bytes are refused at the place, so they are no document within the limits, and the lines of the quads that are due before it were
 -- written; or there are too many bytes.

@@ -44,6 +44,7 @@ pub record Takes {D A : Type 0} (contents : D → Option (List ℕ)) (failed : D
 -- what a refused put leaves: the drain took a beginning of the lines, and where it has not failed nothing of the quad's line
 pub record Leaves {D A : Type 0} (contents : D → Option (List ℕ)) (failed : D → Bool) (before : LineOut D A) (q : Quad) (after : LineOut D A) : Type 0 where
   pub same : SameOut before after
+  pub formed : ∥ IsQuad q ∥₁
   pub rest : List ℕ
   pub moves : Moves (contents before.drain.now) (contents after.drain.now) (before.buffer.now.items ++ line_bytes before.form q) rest
   pub live : failed after.drain.now ≡ false → Writes contents before [] after

@@ -16,11 +16,12 @@ abbrev pub marked_from : ℕ → List Token → List (MarkedItem Token)
 marked_from n [] = []
 marked_from n (t ∷ ts) = cond (is_end t.kind) (marked_from (n + 1) ts) (record { item = t; mark = n } ∷ marked_from (n + 1) ts)
 
--- what accepts the tokens is known by its limit alone; no token is refused, and none passes a limit but the scanner's
+-- what accepts the tokens is known by its limit alone; it holds no text, no token is refused, and none passes a limit but the scanner's
 abbrev pub token_words : Dialect → Words ℕ Unit Token
 token_words d = record {
   dialect = d;
   limit = λ g. g;
+  most = λ g. 0;
   documents = λ x ts all. all ≡ marked_from 0 ts;
   passes = λ x ts t. ⊥;
   blames = λ x reason ts t. ⊥;

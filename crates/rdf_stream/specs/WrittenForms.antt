@@ -1,5 +1,5 @@
 -- The form of lines that stand as they are read.
-use Rattle.std.specs.Prelude.{Bool, true, false, ◌&&◌, ◌==◌, length}
+use Rattle.std.specs.Prelude.{Bool, true, false, ◌&&◌, ◌||◌, ◌==◌, length}
 use Rattle.rdf_lines.specs.declared.form.Escapes.{Escapes}
 use Rattle.rdf_lines.specs.declared.form.Escapes.TheVariants.{Plain, Ascii}
 use Rattle.rdf_lines.specs.declared.form.Style.{Style}
@@ -15,6 +15,6 @@ abbrev pub is_raw : Escapes → Bool
 is_raw Plain = true
 is_raw Ascii = false
 
--- whether the form is the plain one of its style
-abbrev pub is_plain : WrittenForm → Bool
-is_plain w = is_raw w.escapes && (length w.prefix.word.now == 0)
+-- whether plain lines stand in the form as they are: characters above U+007F do, or there are none, and no word is in front of the names
+abbrev pub keeps_lines : WrittenForm → Bool → Bool
+keeps_lines w are_ascii = (are_ascii || is_raw w.escapes) && (length w.prefix.word.now == 0)

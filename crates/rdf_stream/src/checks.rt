@@ -95,7 +95,11 @@ impl<A: Allocator + Copy, G: Passes<A>> Parts<NoQuads> for Reader<G, A> {
         G::part_len(bytes, least)
     }
 
-    fn pass_front(&mut self, text: &str, _: &mut NoQuads) -> Result<usize, StreamFault> {
+    fn passes_ascii(&self, _: &NoQuads) -> bool {
+        false
+    }
+
+    fn pass_front(&mut self, text: &str, _: bool, _: &mut NoQuads) -> Result<usize, StreamFault> {
         Ok(G::pass(self, text))
     }
 

@@ -134,13 +134,18 @@ impl<'a, A: Allocator + Copy, G: Passes<A>, D: Drain> Parts<LineOut<'a, D, A>> f
         G::part_len(bytes, least)
     }
 
+    fn passes_ascii(&self, lines: &LineOut<'a, D, A>) -> bool {
+        lines.is_ascii()
+    }
+
     // Passes lines, and puts them as they stand, where they are written so.
     fn pass_front(
         &mut self,
         text: &str,
+        is_ascii: bool,
         lines: &mut LineOut<'a, D, A>,
     ) -> Result<usize, StreamFault> {
-        if !lines.is_plain() {
+        if !lines.keeps_lines(is_ascii) {
             return Ok(0);
         }
         let passed = G::pass(self, text);

@@ -7,7 +7,7 @@ ghost use Rattle.rdf_stream.specs.Devices.{AppendsFront};
 ghost use Rattle.rdf_tokens.specs.Scans.{token_of};
 ghost use Rattle.rdf_stream.specs.LineOut.{Leaves, PutHalts, SameOut, Takes, Writes, most_waiting};
 ghost use Rattle.rdf_stream.specs.Showing.{LeavesToken, TakesToken};
-ghost use Rattle.rdf_stream.specs.WrittenForms.{is_plain};
+ghost use Rattle.rdf_stream.specs.WrittenForms.{keeps_lines};
 
 use crate::devices::{Drain, Failed};
 use crate::fault::StreamFault;
@@ -54,11 +54,17 @@ impl<'a, D: Drain, A: Allocator + Copy> LineOut<'a, D, A> {
         }
     }
 
-    /// Whether characters above U+007F are written as they are, and names without a word in front.
-    pub(crate) fn is_plain(&self) -> bool
-        ensures { result ≡ is_plain self.now.form }
+    /// Whether characters above U+007F are escaped.
+    pub(crate) fn is_ascii(&self) -> bool {
+        matches!(self.form.escapes, Escapes::Ascii)
+    }
+
+    /// Whether plain lines stand in what is written as they are, where they are known to be ASCII or not.
+    pub(crate) fn keeps_lines(&self, are_ascii: bool) -> bool
+        ensures { result ≡ keeps_lines self.now.form are_ascii }
     {
-        matches!(self.form.escapes, Escapes::Plain) && self.form.prefix.as_str().is_empty()
+        (are_ascii || matches!(self.form.escapes, Escapes::Plain))
+            && self.form.prefix.as_str().is_empty()
     }
 
     /// Hands over all that waits.

@@ -1,13 +1,14 @@
 // Reading a piece part by part.
 
-ghost use Rattle.std.specs.Prelude.{◌≡◌, ◌≤◌, ◌<◌, ◌++◌, ℕ, List, Bool, false, length, take, drop, IsUtf8, OnOk, IfOk, IfErr};
+ghost use Rattle.std.specs.Prelude.{◌≡◌, ◌≤◌, ◌<◌, ◌++◌, ℕ, List, Bool, true, false, length, take, drop, IsUtf8, OnOk, IfOk, IfErr};
 ghost use Rattle.std.specs.Str.Lossy.{utf8_valid_len};
 ghost use Rattle.rdf_tokens.specs.Scans.{most_bytes};
 ghost use Rattle.rdf_stream.specs.declared.fault.StreamFault.{StreamFault};
-ghost use Rattle.rdf_stream.specs.Parts.{HaltsWithin};
+ghost use Rattle.rdf_stream.specs.Parts.{HaltsWithin, IsAsciiText, MayPass};
 ghost use Rattle.rdf_stream.specs.Pieces.{HaltsOn, HasBegun, TakesMore};
 
 use crate::fault::StreamFault;
+use rdf_terms::runs::{Run, run_end};
 use simdutf8::compat::from_utf8;
 
 /// At least so many bytes are read after a try that passed none, and more after each further one in a row.
@@ -30,9 +31,13 @@ pub(crate) trait Parts<L> {
         ensures within { result ≤ length bytes.now }
         ensures some { 0 < length bytes.now → 0 < result };
 
-    /// Passes a front of the text, which may be empty, and answers how many bytes it has.
-    fn pass_front(&mut self, text: &str, out: &mut L) -> Result<usize, StreamFault>
+    /// Whether it passes text only where that is known to be ASCII.
+    fn passes_ascii(&self, out: &L) -> bool;
+
+    /// Passes a front of the text, which may be known to be ASCII, and answers how many bytes it has: none, or more.
+    fn pass_front(&mut self, text: &str, is_ascii: bool, out: &mut L) -> Result<usize, StreamFault>
         requires begun { HasBegun taken (self.old, out.old) }
+        requires ascii { is_ascii ≡ true → IsAsciiText text.now }
         ensures within { IfOk result (λ n. n ≤ length text.now) }
         ensures takes { IfOk result (λ n. TakesMore taken (self.old, out.old) (take n text.now) (self.new, out.new)) }
         ensures halts { IfErr result (λ f. HaltsWithin taken halts f (self.old, out.old) text.now (self.new, out.new)) };
@@ -72,20 +77,25 @@ fn take_rest<L, R: Parts<L>>(run: &mut R, rest: &[u8], out: &mut L) -> Result<()
     ensures halts { IfErr result (λ f. HaltsOn R.taken R.halts f (run.old, out.old) (λ bytes. bytes ++ rest.now) false (run.new, out.new)) }
 {
     let text = utf8_front(rest);
+    let is_ascii = run.passes_ascii(out);
+    let mut left = "";
     let mut at = 0;
     let mut least = 0;
     while at < rest.len() {
-        let front = text_from(text, at);
-        let from = match run.pass_front(front, out) {
-            Ok(passed) => at + passed,
+        let front = front_from(left, text, at, is_ascii);
+        let passed = match run.pass_front(front, is_ascii, out) {
+            Ok(passed) => passed,
             Err(fault) => return Err(fault),
         };
-        least = next_least(least, from - at);
+        least = next_least(least, passed);
+        let from = at + passed;
         let to = from + run.part_len(&rest[from..], least);
         match run.read_part(&rest[from..to], out) {
-            Ok(()) => at = to,
+            Ok(()) => {}
             Err(fault) => return Err(fault),
         }
+        left = text_from(front, to - at);
+        at = to;
     }
     Ok(())
 }
@@ -99,6 +109,26 @@ fn next_least(least: usize, passed: usize) -> usize {
     } else {
         least
     }
+}
+
+// What may be passed from a place on: what is left of the last one, or else all of the text, or its front that is ASCII.
+fn front_from<'a>(left: &'a str, text: &'a str, at: usize, is_ascii: bool) -> &'a str
+    requires { MayPass text.now at is_ascii left.now }
+    ensures { MayPass text.now at is_ascii result.now }
+{
+    if !left.is_empty() {
+        return left;
+    }
+    let rest = text_from(text, at);
+    if is_ascii { ascii_front(rest) } else { rest }
+}
+
+// The longest front of the text that is ASCII.
+fn ascii_front(text: &str) -> &str
+    ensures front { result.now ≡ take (length result.now) text.now }
+    ensures ascii { IsAsciiText result.now }
+{
+    &text[..run_end(Run::Ascii, text.as_bytes(), 0)]
 }
 
 // The text from a place on, if a character begins there, or else none of it.

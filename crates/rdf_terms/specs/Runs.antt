@@ -3,7 +3,7 @@ use Rattle.std.specs.Prelude.{◌≡◌, ℕ, ◌+◌, ◌<◌, ◌≤◌, Bool,
 use Rattle.rdf_terms.specs.Classes.{member, is_digit, is_letter, one_of}
 use Rattle.rdf_terms.specs.Classes.Class.{iri_char}
 use Rattle.rdf_terms.specs.declared.runs.Run.{Run}
-use Rattle.rdf_terms.specs.declared.runs.Run.TheVariants.{Iri, Text, AsciiText, Name, Unescaped}
+use Rattle.rdf_terms.specs.declared.runs.Run.TheVariants.{Iri, Text, AsciiText, Ascii, Name, Unescaped}
 
 -- a byte of the UTF-8 of the characters of an IRIREF: what it excludes is ASCII
 abbrev pub iri_byte : ℕ → Bool
@@ -13,9 +13,13 @@ iri_byte b = nat_le 128 b || member iri_char b
 abbrev pub is_text_byte : ℕ → Bool
 is_text_byte b = not (one_of (34 ∷ 39 ∷ 92 ∷ 10 ∷ 13 ∷ []) b)
 
--- the same, in ASCII
+-- a byte of ASCII
+abbrev pub is_ascii_byte : ℕ → Bool
+is_ascii_byte b = not (nat_le 128 b)
+
+-- one that stands in strings
 abbrev pub is_ascii_text_byte : ℕ → Bool
-is_ascii_text_byte b = is_text_byte b && not (nat_le 128 b)
+is_ascii_text_byte b = is_text_byte b && is_ascii_byte b
 
 -- an ASCII letter, a digit, '_' or '-', each of them allowed in a name after its first character
 abbrev pub is_name_byte : ℕ → Bool
@@ -30,6 +34,7 @@ abbrev pub goes_over : Run → ℕ → Bool
 goes_over Iri b = iri_byte b
 goes_over Text b = is_text_byte b
 goes_over AsciiText b = is_ascii_text_byte b
+goes_over Ascii b = is_ascii_byte b
 goes_over Name b = is_name_byte b
 goes_over Unescaped b = is_unescaped b
 

@@ -2,7 +2,7 @@
 
 ghost use Rattle.std.specs.Prelude.{◌≡◌, ◌+◌, ◌≤◌, length, map, not};
 ghost use Rattle.std.specs.Simd.Lanes.{mask_l};
-ghost use Rattle.rdf_terms.specs.Runs.{iri_byte, goes_over, is_ascii_text_byte, is_name_byte, is_text_byte, is_unescaped, IsRun, IsRunIn};
+ghost use Rattle.rdf_terms.specs.Runs.{iri_byte, goes_over, is_ascii_byte, is_ascii_text_byte, is_name_byte, is_text_byte, is_unescaped, IsRun, IsRunIn};
 ghost use Rattle.rdf_terms.specs.Terms.{all_have};
 
 use crate::classes::is_iri_byte;
@@ -20,6 +20,8 @@ pub enum Run {
     Text,
     /// What a string has as it is, in ASCII.
     AsciiText,
+    /// ASCII.
+    Ascii,
     /// Letters, digits, `_` and `-`, in ASCII.
     Name,
     /// What stands between the escapes of a string: all but the backslash.
@@ -64,6 +66,7 @@ fn is_passed(run: Run, byte: u8) -> bool
         Run::Iri => is_iri_byte(byte),
         Run::Text => is_text_byte(byte),
         Run::AsciiText => is_text_byte(byte) && byte < 128,
+        Run::Ascii => byte < 128,
         Run::Name => matches!(byte, b'A'..=b'Z' | b'a'..=b'z' | b'0'..=b'9' | b'_' | b'-'),
         Run::Unescaped => byte != b'\\',
     }
@@ -99,6 +102,7 @@ fn stops(run: Run, v: u8x16) -> u64
         Run::Iri => iri_stops(v),
         Run::Text => text_stops(v),
         Run::AsciiText => ascii_text_stops(v),
+        Run::Ascii => ascii_stops(v),
         Run::Name => name_stops(v),
         Run::Unescaped => backslashes(v),
     }
@@ -133,6 +137,13 @@ fn ascii_text_stops(v: u8x16) -> u64
     let breaks = v.simd_eq(u8x16::splat(b'\n')) | v.simd_eq(u8x16::splat(b'\r'));
     let others = v.simd_eq(u8x16::splat(b'\\')) | v.simd_ge(u8x16::splat(128));
     ((quotes | breaks) | others).to_bitmask()
+}
+
+#[inline(always)]
+fn ascii_stops(v: u8x16) -> u64
+    ensures { result ≡ mask_l (map (λ b. not (is_ascii_byte b)) v) }
+{
+    v.simd_ge(u8x16::splat(128)).to_bitmask()
 }
 
 #[inline(always)]

@@ -224,6 +224,30 @@ fn a_quad_comes_at_its_dot(rt: HostRuntime) {
     }
 }
 
+/// How many bytes a reader holds that was fed a text, whether it was refused or not.
+fn held_after(alloc: Global, text: &str) -> u64 {
+    let mut reader = line_reader(alloc, LineForm::NQuads);
+    let mut sink = recording_sink(alloc, 64);
+    let _ = reader.feed(text.as_bytes(), &mut sink);
+    reader.held()
+}
+
+#[test]
+fn the_texts_of_an_open_statement_are_held(rt: HostRuntime) {
+    for (text, held) in [
+        ("", 0),
+        ("<a:s", 4),
+        ("<a:s> <a:", 6),
+        ("<a:s> <a:p> \"a\u{E9}\"@en ", 11),
+        ("_:x1 <a:p> \"\\u0041b\"^^<a:t> _:g ", 11),
+        ("<a:s> <a:p> \"ab\" .", 0),
+        ("<a:s> <a:p> <a:o> _:g <a:x> ", 1),
+        ("<a:s> <a:p> x", 7),
+    ] {
+        assert_eq!(rt; held_after(rt.alloc(), text), held, "{text}");
+    }
+}
+
 #[test]
 fn after_a_failed_put_reading_has_ended(rt: HostRuntime) {
     for (puts, lines) in [(0, ""), (1, LINE)] {

@@ -96,8 +96,8 @@ pub record TakesBytes (old : Unread) (piece : List ℕ) (n : ℕ) (new : Unread)
 abbrev pub RefusesFor : Reason → Unread → List ℕ → Place → Unread → Type 0
 RefusesFor Ended old piece at new = ((old.stopped ≡ true) ⊎ (old.ended ≡ true)) × (new ≡ old)
 RefusesFor DocumentTooLong old piece at new =
-    IsOpen old × (0 < length piece) × (old.taken.offset ≡ most_bytes) × (at ≡ old.taken) × (new.stopped ≡ true)
-RefusesFor Memory old piece at new = IsOpen old × (new.stopped ≡ true)
+    IsOpen old × (0 < length piece) × (old.taken.offset ≡ most_bytes) × (at ≡ old.taken) × (new.stopped ≡ true) × SameScan old new
+RefusesFor Memory old piece at new = IsOpen old × (new.stopped ≡ true) × SameScan old new
 RefusesFor r old piece at new = ⊥
 
 -- what a push does

@@ -111,6 +111,7 @@ impl<A: Allocator + Copy> Scanner<A> {
     pub fn pending(&self) -> u64
         ensures count { result ≡ unread_bytes self.now }
         ensures bound { result ≤ most_unread self.now.limit }
+        ensures few { result ≤ most_bytes }
     {
         (self.text.len() - self.start + self.pending.len()) as u64
     }

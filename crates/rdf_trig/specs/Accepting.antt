@@ -26,6 +26,7 @@ abbrev pub tree_words : Words TreeAt Chosen Quad
 tree_words = record {
   dialect = turtle;
   limit = λ g. g.limit;
+  most = λ g. 0;
   documents = λ x. documents x.form x.start;
   passes = λ x. Passes x.form x.start;
   blames = λ x. Blamed x.form x.start;

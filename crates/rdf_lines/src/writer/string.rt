@@ -2,13 +2,14 @@
 
 ghost use Rattle.std.specs.Prelude.{◌≡◌, ◌++◌, ◌<◌, ◌≤◌, length, chars, encode_utf8, encode_utf8_all, flat_map, IfOk, OnErr, OnOk};
 ghost use Rattle.rdf_terms.specs.Views.{iri_chars};
+ghost use Rattle.rdf_lines.specs.declared.form.Escapes.TheVariants.{Ascii};
 ghost use Rattle.rdf_lines.specs.Writing.{escaped, written};
 ghost use Rattle.rdf_lines.specs.WrittenBytes.{BeginsWith, escaped_bytes, run_of, string_bytes_of};
 
 use crate::form::Escapes;
 use crate::writer::escape::put_uchar;
 use rdf_terms::IriView;
-use rdf_terms::runs::{Run, run_end};
+use rdf_terms::runs::{Run, is_run, run_end};
 use std::alloc::{AllocError, Allocator};
 
 pub fn put_string<A: Allocator + Copy>(
@@ -26,7 +27,7 @@ pub fn put_string<A: Allocator + Copy>(
 }
 
 /// What stands between the brackets of an IRI. No character of an IRI is escaped by a letter.
-#[tactic(auto, using(crate::proofs::EscapedRuns::plain_iri, crate::proofs::EscapedRuns::escaped_iri))]
+#[tactic(auto, using(crate::proofs::EscapedRuns::plain_iri))]
 pub fn put_characters<A: Allocator + Copy>(
     iri: IriView<'_>,
     escapes: Escapes,
@@ -37,10 +38,26 @@ pub fn put_characters<A: Allocator + Copy>(
 {
     match escapes {
         Escapes::Plain => out.extend_from_slice(iri.as_str().as_bytes()),
-        Escapes::Ascii => put_escaped(iri.as_str(), escapes, out),
+        Escapes::Ascii => put_in_ascii(iri, out),
     }
 }
 
+// The same in ASCII. An IRI of ASCII stands as it is.
+#[tactic(auto, using(crate::proofs::EscapedRuns::ascii_iri, crate::proofs::EscapedRuns::escaped_iri))]
+fn put_in_ascii<A: Allocator + Copy>(
+    iri: IriView<'_>,
+    out: &mut Vec<u8, A>,
+) -> Result<(), AllocError>
+    ensures written { OnOk result (out.new.items ≡ out.old.items ++ encode_utf8_all (flat_map (written Ascii) (iri_chars iri.entry))) }
+    ensures grown { OnErr result (BeginsWith out.old.items out.new.items) }
+{
+    if is_run(Run::Ascii, iri.as_str().as_bytes()) {
+        return out.extend_from_slice(iri.as_str().as_bytes());
+    }
+    put_escaped(iri.as_str(), Escapes::Ascii, out)
+}
+
+// A text that is a run stands as it is.
 #[tactic(auto, using(crate::proofs::WrittenBytesLemmas::begins_with_front))]
 fn put_escaped<A: Allocator + Copy>(
     text: &str,
@@ -50,6 +67,9 @@ fn put_escaped<A: Allocator + Copy>(
     ensures written { OnOk result (out.new.items ≡ out.old.items ++ escaped_bytes escapes text.now) }
     ensures grown { OnErr result (BeginsWith out.old.items out.new.items) }
 {
+    if is_run(run_of(escapes), text.as_bytes()) {
+        return out.extend_from_slice(text.as_bytes());
+    }
     let mut rest = text;
     while !rest.is_empty() {
         rest = put_run(rest, escapes, out)?;

@@ -219,7 +219,7 @@ rdfconv: unexpected token at byte 43, line 1
 ];
 
 /// Documents that are the same in N-Triples and N-Quads.
-pub(crate) const N_TRIPLES_AND_N_QUADS: [(&[u8], &str); 22] = [
+pub(crate) const N_TRIPLES_AND_N_QUADS: [(&[u8], &str); 25] = [
     (b"", ""),
     // Lines that stand as they are written, and others: a cut within one makes it one of the others.
     (
@@ -235,6 +235,19 @@ _:b <a:p> \"é\" .
     (
         b"<a:s> <a:p> <a:o> .\n<a:s> <a:p> <o> .\n",
         "<a:s> <a:p> <a:o> .\nrdfconv: relative IRI at byte 32, line 2\n",
+    ),
+    // Strings with the escapes that are written, with others, and with what is no escape.
+    (
+        b"<a:s> <a:p> \"q\\\"r\\n\" .\n<a:s> <a:p> \"\\\\\\r\\n'\"@en .\n<a:s> <a:p> \"a\\tb\" .\n<a:s> <a:p> \"\\n\\'\\u0022\" .\n<a:s> <a:p> \"\\\"\"^^<a:t> .\n",
+        "<a:s> <a:p> \"q\\\"r\\n\" .\n<a:s> <a:p> \"\\\\\\r\\n'\"@en .\n<a:s> <a:p> \"a\tb\" .\n<a:s> <a:p> \"\\n'\\\"\" .\n<a:s> <a:p> \"\\\"\"^^<a:t> .\n",
+    ),
+    (
+        b"<a:s> <a:p> \"\\n\" .\n<a:s> <a:p> \"\\n\\x\" .\n",
+        "<a:s> <a:p> \"\\n\" .\nrdfconv: no token at byte 31, line 2\n",
+    ),
+    (
+        b"<a:s> <a:p> \"\\n\" .\n<a:s> <a:p> \"\\\" .\n",
+        "<a:s> <a:p> \"\\n\" .\nrdfconv: no token at byte 31, line 2\n",
     ),
     (
         b"<a:s> <a:p> <a:o> .\n<a:s> <a:p> \"x\"^^<http://www.w3.org/2001/XMLSchema#string> .\n<a:s> <a:p> \"z\" .\n",

@@ -1,14 +1,26 @@
-use Rattle.std.proofs.Common.{◌≡◌, ◌<◌, take, subst, arith}
-use Rattle.std.proofs.lemmas.Str.{IsCharBoundary-before_ascii, IsUtf8-take}
-use Rattle.rdf_lines.specs.Fronts.{NoEscapes}
-use Rattle.rdf_lines.proofs.FrontsLemmas.{string_stands}
+use Rattle.std.proofs.Common.{◌∷◌, subst}
+use Rattle.std.specs.Prelude.{flat_map}
+use Rattle.rdf_terms.specs.Runs.{is_text_byte, IsRun}
+use Rattle.rdf_lines.specs.declared.form.Escapes.TheVariants.{Plain}
+use Rattle.rdf_lines.specs.Writing.{escaped}
+use Rattle.rdf_lines.proofs.FrontsLemmas.{characters_then, no_characters, run_then}
+use Rattle.rdf_lines.proofs.PassedLemmas.{past_text}
 use Rattle.rdf_lines.proofs.canonical.string.Goals as goal
 
-pub returns : goal.returns
-returns c =
-    let text = c.args.text.now in
-    let end = c.string_end-end.result in
-    let byte = c.in_ok-rest.ensures.byte in
-    let cut = IsUtf8-take text end c.utf8.text (IsCharBoundary-before_ascii text end c.in_ok-rest.ensures.inside (omega (arith, byte))) in
-    let plain : NoEscapes (take end text) = subst (λ x. NoEscapes (take end x)) c.as_bytes.ensures.value c.string_end-end.ensures.plain in
-    string_stands (take end text) text c.in_ok-rest.rest.now cut plain c.in_ok-rest.ensures.is
+pub as_bytes-requires-text-self : goal.as_bytes-requires-text-self
+as_bytes-requires-text-self c κs = past_text (flat_map (escaped Plain) c.runs.invariant.characters) c.args.text.now c.runs.rest.now c.utf8.text c.runs.invariant.stands
+
+pub returns-in-Some : goal.returns-in-Some
+returns-in-Some c =
+    let rest = c.runs.rest.now in
+    let end = c.run_end-end.result in
+    let behind = c.in-Some.behind.now in
+    let run : IsRun is_text_byte rest 0 end = subst (λ x. IsRun is_text_byte x 0 end) c.as_bytes.ensures.value c.run_end-end.ensures in
+    let good = past_text (flat_map (escaped Plain) c.runs.invariant.characters) c.args.text.now rest c.utf8.text c.runs.invariant.stands in
+    characters_then c.args.text.now rest (34 ∷ behind) c.runs.invariant (run_then rest end (34 ∷ behind) (34 ∷ behind) good run c.in-Some.ensures.is (no_characters (34 ∷ behind)))
+
+pub after_run-requires : goal.after_run-requires
+after_run-requires c = record { run = subst (λ x. IsRun is_text_byte x 0 c.run_end-end.result) c.as_bytes.ensures.value c.run_end-end.ensures }
+
+pub runs-preserved : goal.runs-preserved
+runs-preserved c = characters_then c.args.text.now c.runs.rest.now c.in_ok-rest.rest.now c.runs.invariant c.in_ok-rest.ensures.stands

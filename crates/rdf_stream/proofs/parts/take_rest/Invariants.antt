@@ -1,10 +1,15 @@
--- The bytes before the place were taken.
+-- The bytes before the place were taken, and what is left of the text may be passed.
 use Rattle.std.proofs.Common.{length, ◌-◌}
+use denote.Text.{Utf8}
+use denote.Shadow.{shadow}
+use Rattle.rdf_stream.specs.Parts.{MayPass}
 use Rattle.rdf_stream.proofs.PartsLemmas.{HasTaken}
 use Rattle.rdf_stream.proofs.parts.take_rest.Given as goal
 
 abbrev pub invariant-loop-at : goal.invariant-loop-at
-invariant-loop-at g l = HasTaken g.R.Parts.taken (l.initial.run, l.initial.out) (l.run, l.out) l.rest l.at (g.R.Parts.count l.run)
+invariant-loop-at g l =
+    shadow (Utf8 l.left) × MayPass l.text l.at l.is_ascii l.left
+    × HasTaken g.R.Parts.taken (l.initial.run, l.initial.out) (l.run, l.out) l.rest l.at (g.R.Parts.count l.run)
 
 abbrev pub decreases-loop-at : goal.decreases-loop-at
 decreases-loop-at g l = length l.rest - l.at

@@ -1,7 +1,11 @@
-use Rattle.std.proofs.Common.{◌≡◌, ◌++◌, length, sym, ap, ◌∙◌}
+use Rattle.std.proofs.Common.{◌≡◌, ◌++◌, length, sym, ap, ◌∙◌, true}
 use Rattle.std.proofs.lemmas.Bool.{eqb-true}
 use Rattle.std.proofs.lemmas.List.{append-nil}
-use Rattle.rdf_lines.proofs.EscapedRuns.{none_written}
+use Rattle.rdf_terms.specs.Runs.{goes_over}
+use Rattle.rdf_terms.specs.Terms.{all_have}
+use Rattle.rdf_lines.specs.WrittenBytes.{run_of}
+use Rattle.rdf_lines.proofs.EscapedRuns.{none_written, text_stands}
+use Rattle.rdf_lines.proofs.WrittenBytesLemmas.{on_ok, where_ok}
 use Rattle.rdf_lines.proofs.writer.string.put_escaped.Goals as goal
 
 pub returns-clause-written : goal.returns-clause-written
@@ -9,3 +13,14 @@ returns-clause-written g c =
     let out = c.loop-rest.out.items in
     let none = none_written c.args.escapes c.loop-rest.rest.now (eqb-true (length c.loop-rest.rest.now) 0 (sym c.loop-rest-test.ensures)) in
     sym (append-nil out) ∙ (ap (λ x. out ++ x) (sym none) ∙ c.loop-rest.invariant.1)
+
+-- a run is appended as it stands
+pub returns-then-is_run-clause-written : goal.returns-then-is_run-clause-written
+returns-then-is_run-clause-written g c =
+    let out = c.args.out.now.items in
+    let text = c.args.text.now in
+    let have : all_have (goes_over (run_of c.args.escapes)) text ≡ true =
+    ap (λ r. all_have (goes_over r) text) (sym c.run_of.ensures) ∙ (ap (all_have (goes_over c.run_of.result)) (sym c.as_bytes.ensures.value) ∙ (sym c.is_run.ensures ∙ c.if-is_run.true)) in
+    on_ok c.extend_from_slice.result
+    (λ e. e ∙ ap (λ x. out ++ x) (c.as_bytes-then-is_run.ensures.value ∙ sym (text_stands c.args.escapes text c.utf8.text have)))
+    (where_ok c.extend_from_slice.result _ _ _ c.extend_from_slice.ensures.items)

@@ -5,6 +5,7 @@ use Rattle.rdf_stream.proofs.line_out.LineOutQuadSink.put.Goals as goal
 pub returns-in-Err-NotLabelled-clause-left : goal.returns-in-Err-NotLabelled-clause-left
 returns-in-Err-NotLabelled-clause-left g c = record {
   same = record { form = refl; buffer = refl; drain = refl };
+  formed = c.see_quad.ensures;
   rest = _;
   moves = waits _ _ _ refl;
   live = λ h. waits_same _ _ _ c.in-Err-NotLabelled.ensures.unchanged;
@@ -13,6 +14,7 @@ returns-in-Err-NotLabelled-clause-left g c = record {
 pub returns-in-Err-Memory-clause-left : goal.returns-in-Err-Memory-clause-left
 returns-in-Err-Memory-clause-left g c = record {
   same = record { form = refl; buffer = refl; drain = refl };
+  formed = c.see_quad.ensures;
   rest = _;
   moves = waits _ _ _ refl;
   live = λ h. waits_same _ _ _ c.in-Err-Memory.ensures.unchanged;
