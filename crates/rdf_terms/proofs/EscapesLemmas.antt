@@ -43,6 +43,7 @@ pub left_room : (n left v : ℕ) → 0 < left → (n + 1) * 16 ^ left ≤ 2 ^ 32
 left_room n zero v p h l = absurd (omega arith)
 left_room n (suc k) v p h l = let e : k ≡ suc k - 1 = omega arith in subst (λ j. (16 * n + v + 1) * 16 ^ j ≤ 2 ^ 32) e (digit_room n k v h l)
 
+-- so the sum with the next digit does not overflow either
 pub left_fits : (n left : ℕ) → 0 < left → (n + 1) * 16 ^ left ≤ 2 ^ 32 → 16 * n + 16 ≤ 2 ^ 32
 left_fits n zero p h = absurd (omega arith)
 left_fits n (suc k) p h = digit_fits n k h
@@ -95,6 +96,7 @@ pub step_byte : (i : Inside) (s : Spot) (b : ℕ) (bs : List ℕ) (at : ℕ) →
     value_after i (leads s) bs at ≡ value_after i (move i s b) bs (at + 1)
 step_byte i s b bs at l u e a = step_low i s (move i s b) bs at l u (omega (arith, e)) (ap (move i s) e)
 
+-- and what stands there is UTF-8 again
 pub utf8_byte : (b : ℕ) (bs : List ℕ) (at : ℕ) → at < length bs → IsUtf8 (drop at bs) → get_or bs at 0 ≡ b → b < 128 → IsUtf8 (drop (at + 1) bs)
 utf8_byte b bs at l u e a = utf8_low bs at l u (omega (arith, e))
 
@@ -135,6 +137,7 @@ letter_high c h =
     let n : (k : ℕ) → k < 128 → (c == k) ≡ false = λ k l. none_of c k h l in
     rw (n 116 (omega arith), n 98 (omega arith), n 110 (omega arith), n 114 (omega arith), n 102 (omega arith), n 34 (omega arith), n 39 (omega arith), n 92 (omega arith)) refl
 
+-- nor is it one of ECHAR where an IRI stands
 echar_high : (i : Inside) (c : ℕ) → 128 ≤ c → echar_move i c ≡ fails
 echar_high of_string c h = letter_high c h
 echar_high of_iri c h = refl
@@ -144,6 +147,7 @@ slash_letter : (i : Inside) (c : ℕ) → (c == 117) ≡ false → (c == 85) ≡
 slash_letter i c u v =
     cond-false (c == 117) (leads (digits 4 0)) _ u ∙ cond-false (c == 85) (leads (digits 8 0)) (echar_move i c) v
 
+-- so a backslash before it begins no escape
 slash_high : (i : Inside) (c : ℕ) → 128 ≤ c → move i slash c ≡ fails
 slash_high i c h = slash_letter i c (none_of c 117 h (omega arith)) (none_of c 85 h (omega arith)) ∙ echar_high i c h
 
@@ -176,6 +180,7 @@ hex_none : (c : ℕ) → 128 ≤ c → has hex_digit c ≡ false
 unfolding has
 hex_none c h = grind (arith, nat_tests)
 
+-- so what stands for a hex digit is one byte
 hex_low : (c : ℕ) → has hex_digit c ≡ true → c < 128
 hex_low c h = ⊎_elim (λ (l : c < 128). l) (λ l. absurd (false≢true (sym (hex_none c l) ∙ h))) (cases_lt c 128)
 
@@ -253,6 +258,7 @@ map-nil : (o : Option (List ℕ)) → option_map (λ w. [] ++ w) o ≡ o
 map-nil None = refl
 map-nil (Some w) = refl
 
+-- two of them are one
 map-append : (u v : List ℕ) (o : Option (List ℕ)) → option_map (λ w. u ++ w) (option_map (λ w. v ++ w) o) ≡ option_map (λ w. (u ++ v) ++ w) o
 map-append u v None = refl
 map-append u v (Some w) = ap Some (sym (append_assoc u v w))
@@ -272,6 +278,7 @@ slice_passes p bs at (suc n) l h =
     ap (λ x. all_have p (take (suc n) x)) (drop_more bs at 0 (omega arith))
     ∙ and_from (p (get_or bs at 0)) _ (h at (omega arith) (omega arith)) (slice_passes p bs (at + 1) n (omega arith) (λ k from to. h k (omega arith) (omega arith)))
 
+-- as the bytes of a run do, which a look at the whole text needs
 run_passes : (p : ℕ → Bool) (bs : List ℕ) (at end : ℕ) → IsRun p bs at end → all_have p (slice_range bs at end) ≡ true
 run_passes p bs at end r =
     slice_passes p bs at (end - at) (omega (arith, r.from, r.within)) (λ k from to. r.pass k from (omega (arith, r.from)))
@@ -284,12 +291,14 @@ unescaped_one c h =
     (λ e. not_from_false (c == 92) e)
     (cases_Bool (c == 92))
 
+-- so a text without the byte has no such character
 unescaped_chars : (w : List ℕ) → all_have is_unescaped (encode_utf8_all w) ≡ true → all_have is_unescaped w ≡ true
 unescaped_chars [] h = refl
 unescaped_chars (c ∷ w) h =
     let p = and_parts (all_have is_unescaped (encode_utf8 c)) _ (sym (have-append is_unescaped (encode_utf8 c) (encode_utf8_all w)) ∙ h) in
     and_from (is_unescaped c) _ (unescaped_one c p.0) (unescaped_chars w p.1)
 
+-- so the characters of a run between escapes stand as they are
 run_stands : (i : Inside) (bs : List ℕ) → IsUtf8 bs → all_have (goes_over (run_of i)) bs ≡ true → all_have (stands i) (chars bs) ≡ true
 run_stands of_string bs u h = unescaped_chars (chars bs) (ap (all_have is_unescaped) (encodes-chars bs u) ∙ h)
 run_stands of_iri bs u h = sym (iri_bytes bs u) ∙ h
@@ -334,6 +343,7 @@ pub record RunRead (i : Inside) (bs : List ℕ) (at end : ℕ) : Type 0 where
   pub front : IsUtf8 (slice_range bs at end)
   pub value : value i outside (chars (drop at bs)) ≡ behind (slice_range bs at end) (value i outside (chars (drop end bs)))
 
+-- how a look from escape to escape goes over a run
 pub run_read : (i : Inside) (bs : List ℕ) (at end : ℕ) → IsUtf8 bs → IsUtf8 (drop at bs) → IsRun (goes_over (run_of i)) bs at end → RunRead i bs at end
 run_read i bs at end u v r =
     let cut = run_cut i bs at end r in

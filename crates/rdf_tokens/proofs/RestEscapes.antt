@@ -59,6 +59,7 @@ record Numbers (s e : State) (h : ℕ → State) : Type 0 where
 hex_below : (c : ℕ) → is_hex c ≡ true → c < 128
 hex_below c h = ⊎_elim (λ (l : c < 128). l) (λ l. absurd (let n : is_hex c ≡ false = grind (arith, nat_tests) in false≢true (sym n ∙ h))) (cases_lt c 128)
 
+-- so is the letter behind a backslash
 letter_below : (c : ℕ) → is_letter c ≡ true → c < 128
 letter_below c h = ⊎_elim (λ (l : c < 128). l) (λ l. absurd (let n : is_letter c ≡ false = grind (arith, nat_tests) in false≢true (sym n ∙ h))) (cases_lt c 128)
 
@@ -112,6 +113,7 @@ uchar_from bs at end u = ⊎_elim
     (λ g. (omega (arith, g.1.ends), g.1.within))
     u.digits
 
+-- so a UCHAR leads back to the state before it
 rests_uchar : (s e : State) (h : ℕ → State) → Numbers s e h → (bs : List ℕ) (at end : ℕ) → IsUchar bs at end → Rests s bs at end
 rests_uchar s e h f bs at end u =
     let l = uchar_from bs at end u in
@@ -151,17 +153,21 @@ is_letter_sort x = false
 implied : (p q : ℕ → Bool) → agree_below (λ c. not (p c) || q c) (λ _. true) 128 ≡ true → (c : ℕ) → c < 128 → p c ≡ true → q c ≡ true
 implied p q all c l h = sym (ap (λ t. not t || q c) h) ∙ agree_below_at (λ c. not (p c) || q c) (λ _. true) 128 c all l
 
+-- a hex digit is of such a sort, by a test of each byte
 text_hex : (c : ℕ) → is_hex c ≡ true → is_hex_sort (sort_by text.ascii text.high c) ≡ true
 text_hex c h = implied is_hex (λ c. is_hex_sort (sort_by text.ascii text.high c)) refl c (hex_below c h) h
 
+-- and so is a letter of ECHAR
 text_letter : (c : ℕ) → is_letter c ≡ true → is_letter_sort (sort_by text.ascii text.high c) ≡ true
 text_letter c h = implied is_letter (λ c. is_letter_sort (sort_by text.ascii text.high c)) refl c (letter_below c h) h
 
+-- such a sort leads on where a hex digit is to come
 if_hex-hex : (s : Text) (x : TextSort) → is_hex_sort x ≡ true → text.if_hex s x ≡ s
 if_hex-hex s text_sort.HexLetter h = refl
 if_hex-hex s text_sort.HexDigit h = refl
 if_hex-hex s x h = absurd (false≢true h)
 
+-- and back behind a backslash
 escaped-letter : (hex : ℕ → Text) (s : Text) (x : TextSort) → is_letter_sort x ≡ true → text.escaped hex s x ≡ s
 escaped-letter hex s text_sort.DoubleQuote h = refl
 escaped-letter hex s text_sort.SingleQuote h = refl
@@ -170,6 +176,7 @@ escaped-letter hex s text_sort.Letter h = refl
 escaped-letter hex s text_sort.HexLetter h = refl
 escaped-letter hex s x h = absurd (false≢true h)
 
+-- how a string with one quote at each end takes a UCHAR
 short_numbers : (q : Quote) → Numbers (state.Text (text_state.Short q)) (state.Text (text_state.ShortEscape q)) (λ n. state.Text (text_state.ShortHex q n))
 short_numbers q = record {
   slash = λ d. slash q d;
@@ -186,6 +193,7 @@ short_numbers q = record {
     slash Double d = refl
     slash Single d = refl
 
+-- how one with three does
 long_numbers : (q : Quote) → Numbers (state.Text (text_state.Long q)) (state.Text (text_state.LongEscape q)) (λ n. state.Text (text_state.LongHex q n))
 long_numbers q = record {
   slash = λ d. slash q d;
@@ -235,17 +243,21 @@ abbrev is_hex_in_iri : IriSort → Bool
 is_hex_in_iri iri_sort.HexDigit = true
 is_hex_in_iri x = false
 
+-- a hex digit is of that sort
 iri_hex : (c : ℕ) → is_hex c ≡ true → is_hex_in_iri (sort_by iri.ascii iri.high c) ≡ true
 iri_hex c h = implied is_hex (λ c. is_hex_in_iri (sort_by iri.ascii iri.high c)) refl c (hex_below c h) h
 
+-- the last one leads back
 iri_last : (x : IriSort) → is_hex_in_iri x ≡ true → iri.move (iri_state.Hex 0) x ≡ iri_state.Inside
 iri_last iri_sort.HexDigit h = refl
 iri_last x h = absurd (false≢true h)
 
+-- another one leads to the next
 iri_more : (n : ℕ) (x : IriSort) → is_hex_in_iri x ≡ true → iri.move (iri_state.Hex (suc n)) x ≡ iri_state.Hex n
 iri_more n iri_sort.HexDigit h = refl
 iri_more n x h = absurd (false≢true h)
 
+-- how an IRI takes a UCHAR
 iri_numbers : Numbers (state.Iri iri_state.Inside) (state.Iri iri_state.Escape) (λ n. state.Iri (iri_state.Hex n))
 iri_numbers = record {
   slash = λ d. refl;
