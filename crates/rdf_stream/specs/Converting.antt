@@ -39,7 +39,8 @@ pub record Begins {G X D A : Type 0} (failed : D → Bool) (w : Words G X Quad) 
   pub live : failed lines.drain.now ≡ false
 
 -- The reader has read these bytes, the drain has taken the lines of all quads that are due in them, and none waits.
-pub record HandedOver {G X D A : Type 0} (contents : D → Option (List ℕ)) (failed : D → Bool) (w : Words G X Quad) (x : X) (reader : Driven G) (bytes : List ℕ) (first lines : LineOut D A) : Type 0 where
+pub record HandedOver {G X D A : Type 0} (contents : D → Option (List ℕ)) (failed : D → Bool) (w : Words G X Quad) (x : X)
+    (reader : Driven G) (bytes : List ℕ) (first lines : LineOut D A) : Type 0 where
   pub quads : List Quad
   pub read : HasRead w reader x bytes quads
   pub written : Appends (contents first.drain.now) (contents lines.drain.now) (lines_of (form_of first.form) quads)
@@ -49,7 +50,8 @@ pub record HandedOver {G X D A : Type 0} (contents : D → Option (List ℕ)) (f
   pub live : failed lines.drain.now ≡ false
 
 -- The reader has read these bytes, and the lines of all quads that are due in them were put: the drain has taken a front of them, and the others wait.
-pub record HasPut {G X D A : Type 0} (contents : D → Option (List ℕ)) (failed : D → Bool) (w : Words G X Quad) (x : X) (reader : Driven G) (bytes : List ℕ) (first lines : LineOut D A) : Type 0 where
+pub record HasPut {G X D A : Type 0} (contents : D → Option (List ℕ)) (failed : D → Bool) (w : Words G X Quad) (x : X) (reader : Driven G)
+    (bytes : List ℕ) (first lines : LineOut D A) : Type 0 where
   pub quads : List Quad
   pub read : HasRead w reader x bytes quads
   pub moves : Moves (contents first.drain.now) (contents lines.drain.now) (lines_of (form_of first.form) quads) lines.buffer.now.items
@@ -58,14 +60,16 @@ pub record HasPut {G X D A : Type 0} (contents : D → Option (List ℕ)) (faile
   pub live : failed lines.drain.now ≡ false
 
 -- Since the run began, with lines in this style, these bytes were read, and all lines that are due of them were put.
-pub record IsPutting {G X D A : Type 0} (contents : D → Option (List ℕ)) (failed : D → Bool) (w : Words G X Quad) (style : Style) (reader : Driven G) (first : LineOut D A) (bytes : List ℕ) (now : Driven G) (lines : LineOut D A) : Type 0 where
+pub record IsPutting {G X D A : Type 0} (contents : D → Option (List ℕ)) (failed : D → Bool) (w : Words G X Quad) (style : Style)
+    (reader : Driven G) (first : LineOut D A) (bytes : List ℕ) (now : Driven G) (lines : LineOut D A) : Type 0 where
   pub begun : (x : X) × Begins failed w x reader first
   pub styled : first.form.style ≡ style
   pub limit : now.scanner.limit ≡ reader.scanner.limit
   pub put : (x : X) → Begins failed w x reader first → HasPut contents failed w x now bytes first lines
 
 -- The same, and they were all handed over.
-pub record IsConverting {G X D A : Type 0} (contents : D → Option (List ℕ)) (failed : D → Bool) (w : Words G X Quad) (style : Style) (reader : Driven G) (first : LineOut D A) (bytes : List ℕ) (now : Driven G) (lines : LineOut D A) : Type 0 where
+pub record IsConverting {G X D A : Type 0} (contents : D → Option (List ℕ)) (failed : D → Bool) (w : Words G X Quad) (style : Style)
+    (reader : Driven G) (first : LineOut D A) (bytes : List ℕ) (now : Driven G) (lines : LineOut D A) : Type 0 where
   pub begun : (x : X) × Begins failed w x reader first
   pub styled : first.form.style ≡ style
   pub limit : now.scanner.limit ≡ reader.scanner.limit
@@ -79,14 +83,16 @@ HaltsFor fault.Write job bytes is_end old new failed = (failed ≡ true) × Writ
 HaltsFor fault.Memory job bytes is_end old new failed = (failed ≡ false) × WritesSome job (reading_of job.language bytes is_end).tokens old new
 
 -- Since the run began these bytes came, and are not read on.
-pub record RunHalts {G X D A : Type 0} (contents : D → Option (List ℕ)) (failed : D → Bool) (w : Words G X Quad) (told : StreamFault) (reader : Driven G) (first : LineOut D A) (bytes : List ℕ) (is_end : Bool) (lines : LineOut D A) : Type 0 where
+pub record RunHalts {G X D A : Type 0} (contents : D → Option (List ℕ)) (failed : D → Bool) (w : Words G X Quad) (told : StreamFault)
+    (reader : Driven G) (first : LineOut D A) (bytes : List ℕ) (is_end : Bool) (lines : LineOut D A) : Type 0 where
   pub begun : (x : X) × Begins failed w x reader first
   pub same : SameOut first lines
   pub halts : (x : X) → Begins failed w x reader first →
       HaltsFor told (conversion w x reader.scanner.limit (form_of first.form)) bytes is_end (contents first.drain.now) (contents lines.drain.now) (failed lines.drain.now)
 
 -- Since the run began these bytes came, they are all that there are, and were converted.
-pub record RunEnds {G X D A : Type 0} (contents : D → Option (List ℕ)) (failed flushed : D → Bool) (w : Words G X Quad) (summary : Summary) (reader : Driven G) (first : LineOut D A) (bytes : List ℕ) (lines : LineOut D A) : Type 0 where
+pub record RunEnds {G X D A : Type 0} (contents : D → Option (List ℕ)) (failed flushed : D → Bool) (w : Words G X Quad) (summary : Summary)
+    (reader : Driven G) (first : LineOut D A) (bytes : List ℕ) (lines : LineOut D A) : Type 0 where
   pub same : SameOut first lines
   pub sent : flushed lines.drain.now ≡ true
   pub accepts : (x : X) → Begins failed w x reader first →
