@@ -37,8 +37,14 @@ returns-in-Err-clause-err g c =
 
 pub returns-in-Ok-clause-limits : goal.returns-in-Ok-clause-limits
 returns-in-Ok-clause-limits g c =
-    subst (λ y. KeepsLimits tree_words y _) c.self.view_is (record { token = refl; most = ap most_kept (c.in-Ok.ensures.limits ∙ sym c.self.invariant.0) })
+    let r = c.self.inside in
+    let bytes = state_bytes c.accept.new.self + bytes_held c.accept.new.scope in
+    let new : TreeAt = record { form = r.rules.form; limit = r.rules.limits.token; state = state_of r.rules.form c.accept.new.scope c.accept.new.self; held = bytes } in
+    subst (λ y. KeepsLimits tree_words y new) c.self.view_is (record { token = refl; most = ap most_kept (c.in-Ok.ensures.limits ∙ sym c.self.invariant.0) })
 
 pub returns-in-Err-clause-limits : goal.returns-in-Err-clause-limits
 returns-in-Err-clause-limits g c =
-    subst (λ y. KeepsLimits tree_words y _) c.self.view_is (record { token = refl; most = ap most_kept (c.clear.ensures ∙ sym c.self.invariant.0) })
+    let r = c.self.inside in
+    let bytes = state_bytes c.restart.new.state + bytes_held c.clear.new.scope in
+    let new : TreeAt = record { form = r.rules.form; limit = r.rules.limits.token; state = state_of r.rules.form c.clear.new.scope c.restart.new.state; held = bytes } in
+    subst (λ y. KeepsLimits tree_words y new) c.self.view_is (record { token = refl; most = ap most_kept (c.clear.ensures ∙ sym c.self.invariant.0) })
