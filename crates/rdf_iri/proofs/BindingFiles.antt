@@ -89,7 +89,7 @@ left_behind lines w start (Some v) e l =
     let whole : before 10 w ++ 10 ∷ v ≡ w = ap (λ o. before 10 w ++ suffix 10 o) e ∙ cut_whole 10 w in
     then_behind lines (before 10 w) v ∙ (ap (then lines) whole ∙ l)
 
--- the map and the limits behind one line more
+-- the map and the limits after one line more
 fits_behind : (sizes : Sizes) (entries : List Entry) (entry : Entry) (s t : InForce) → s.limits ≡ sizes → AllFit sizes entries → SameMap s.bindings (bindings_of entries) → EntryFits s.limits entry → Enters s entry t →
     AllFit sizes (entries ++ entry ∷ []) × SameMap t.bindings (bindings_of (entries ++ entry ∷ []))
 fits_behind sizes entries None s t l f m k e =
@@ -209,7 +209,7 @@ pieces (c ∷ w) =
     longer c line [] = refl
     longer c line (next ∷ more) = refl
 
--- the line at hand, and those behind it
+-- the line at hand, and those after it
 behind_line : (front : List (List ℕ)) (w start : List ℕ) → Left front (Some w) start → AllByRecursion (Lacks 10) front → (rest : List (List ℕ)) × IsCut start (front ++ before 10 w ∷ rest)
 behind_line front w start l a = by (after 10 w) refl
   where

@@ -22,7 +22,7 @@ one_start bytes v w a b =
     (λ x. ⊎_elim (λ y. absurd (x.0 (w, y))) (λ y. x.1 ∙ sym y.1) b)
     a
 
--- what stands behind the first LF
+-- what stands after the first LF
 abbrev behind : List (List ℕ) → Option (List ℕ)
 behind [] = None
 behind (line ∷ more) = Some (with_feeds line more)

@@ -153,7 +153,7 @@ pub few_bytes : (w : List ℕ) → length (encode_utf8_all w) ≤ 4 * length w
 few_bytes [] = omega arith
 few_bytes (c ∷ w) = let a = len_utf8_bounds c in let r = few_bytes w in omega (arith, length-append (encode_utf8 c) (encode_utf8_all w), length-encode c, a.1, r)
 
--- what stands behind a character, by what begins with it
+-- what stands after a character, by what begins with it
 pub after-from : (c : ℕ) (w : List ℕ) (d : ℕ) (v : List ℕ) → from c w ≡ d ∷ v → after c w ≡ Some v
 after-from c [] d v e = absurd (cc)
 after-from c (x ∷ w) d v e =

@@ -116,7 +116,7 @@ joined_bound : (a b c : Bool) (i j : Option (List ℕ)) (o : Option (List ℕ)) 
 joined_bound true b c i j o h = cond-true (is_some i) i j h
 joined_bound false b c i j o h = refl
 
--- one more binding behind some entries
+-- one more binding after some entries
 pub adds : (es : List Entry) (p i : List ℕ) → Adds (bindings_of es) p i (bindings_of (es ++ Some (p, i) ∷ []))
 adds [] p i = record { bound = λ q. ap (λ b. cond b (Some i) None) (swapped q p); count = refl }
 adds (None ∷ es) p i = adds es p i

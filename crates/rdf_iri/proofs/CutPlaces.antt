@@ -66,7 +66,7 @@ cut_none c w l =
     let r = cut_suffix c w None l in
     (ap (before c) (sym (append-nil w)) ∙ r.0, ap (after c) (sym (append-nil w)) ∙ r.1)
 
--- a text may be cut before a slash or at its end, and behind two slashes
+-- a text may be cut before a slash or at its end, and after two slashes
 pub boundary_there : (w : List ℕ) (n : ℕ) → n ≤ length w → drop n w ≡ from 47 w → IsCharBoundary w n
 boundary_there w n l e =
     ⊎_elim

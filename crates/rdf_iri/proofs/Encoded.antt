@@ -200,7 +200,7 @@ A-bytes s h =
     cond-false (begins (codes "../") s.input) _ _ f ∙ (drop-bytes (codes "./") s.input refl t ∙ ap bytes (sym (cond-false (begins (codes "../") s.input) (drop 3 s.input) (drop 2 s.input) f))))
     (cases_Bool (begins (codes "../") s.input)))
 
--- behind the front, or nothing where the text is all of the input
+-- after the front, or nothing where the text is all of the input
 slashed-bytes : (front whole w : List ℕ) → are_ascii front ≡ true → are_ascii whole ≡ true → drop (length front) whole ≡ [] → (begins front w || equal w whole) ≡ true →
     drop (length front) (bytes w) ≡ bytes (drop (length front) w)
 slashed-bytes front whole w a b n h =

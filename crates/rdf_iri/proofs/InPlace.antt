@@ -35,7 +35,7 @@ pub skip_kept : (w : List ℕ) (r k n : ℕ) (result : List ℕ) → Keeps w r k
 skip_kept w r k n result h s =
     ap (λ v. finish (walk v (take k w))) (sym (drop-drop n r w)) ∙ stepped w r k result (skip n) h s
 
--- a slash written behind the output
+-- a slash written after the output
 slashed : (w : List ℕ) (r n : ℕ) → r + n < length w → drop (r + n) (set w (r + n) 47) ≡ 47 ∷ drop (suc n) (drop r w)
 slashed w r n l =
     let e : (r + n) + 1 ≡ r + suc n = omega arith in

@@ -126,7 +126,7 @@ none_from (Some w) h = absurd (false≢true (sym h))
 pub some_not : (o : Option (List ℕ)) → is_some o ≡ true → o ≡ None → ⊥
 some_not o h e = false≢true (ap is_some (sym e) ∙ h)
 
--- an IRI with more characters behind it is an IRI
+-- an IRI with more characters after it is an IRI
 pub IsIri-append : (front local : List ℕ) → IsIri front → IsIriText local → IsIri (front ++ local)
 IsIri-append front local i t = record { characters = all_have-append _ front local i.characters t; scheme = has_scheme-append front local i.scheme }
 

@@ -7,7 +7,7 @@ use Rattle.rdf_terms.specs.Classes.{is_letter, is_digit}
 use Rattle.std.specs.Option.{is_some}
 use Rattle.rdf_iri.specs.Parts.{suffix}
 
--- a suffix behind a text that lacks its byte is cut off again
+-- a suffix after a text that lacks its byte is cut off again
 pub cut_suffix : (c : ℕ) (w : List ℕ) (o : Option (List ℕ)) → Lacks c w → (before c (w ++ suffix c o) ≡ w) × (after c (w ++ suffix c o) ≡ o)
 cut_suffix c [] None l = (refl, refl)
 cut_suffix c [] (Some v) l =

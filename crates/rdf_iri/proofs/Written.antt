@@ -111,7 +111,7 @@ merged_path b r text reference p d f g o1 o2 o3 o4 m o5 eb er ea en ep eg ed ef 
     (e5 ∙ ap (λ x. x ++ suffix 35 r.fragment) em)
     ∙ (ap recompose (with_merged_path b r r.path ea refl (λ e. en (ap length e))) ∙ of_texts b r text reference eb er)
 
--- a path cleaned in place behind other bytes
+-- a path cleaned in place after other bytes
 pub cleaned : (old front path dm ys post rest : List ℕ) (start n v : ℕ) → dm ≡ (old ++ front) ++ path → start ≡ length old → start + n ≤ v → n ≤ length ys →
     take n ys ≡ remove_dots (take (length dm - start) (drop start dm)) → take (start + n) (take v ((take start dm ++ (ys ++ post)) ++ rest)) ≡ old ++ remove_dots (front ++ path)
 cleaned old front path dm ys post rest start n v e s b l h =

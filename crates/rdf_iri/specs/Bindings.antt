@@ -21,7 +21,7 @@ byte_order_mark = 0xEF ∷ 0xBB ∷ 0xBF ∷ []
 abbrev pub MarkDropped : List ℕ → List ℕ → Type 0
 MarkDropped bytes rest = (bytes ≡ byte_order_mark ++ rest) ⊎ ((BeginsWith byte_order_mark bytes → ⊥) × (rest ≡ bytes))
 
--- a line and those behind it, with an LF before each of these
+-- a line and those after it, with an LF before each of these
 abbrev pub with_feeds : List ℕ → List (List ℕ) → List ℕ
 with_feeds line [] = line
 with_feeds line (next ∷ more) = line ++ code "\n" ∷ with_feeds next more
@@ -108,7 +108,7 @@ pub record KeepsSizes (b : BindingMap) : Type 0 where
 abbrev pub IsReadFrom : Sizes → List ℕ → BindingMap → Type 0
 IsReadFrom sizes bytes b = (entries : List Entry) × IsFile sizes bytes entries × SameMap b.bindings (bindings_of entries) × (b.limits ≡ sizes)
 
--- why a line fails behind lines that say this, by the first reason that fits
+-- why a line fails after lines that say this, by the first reason that fits
 abbrev pub FailsFor : BindingReason → Sizes → List Entry → List ℕ → Type 0
 FailsFor BadBinding sizes ahead line = (entry : Entry) → Says line entry → ⊥
 FailsFor TokenTooLong sizes ahead line = (e : List ℕ × List ℕ) × Says line (Some e) × (sizes.token < length (e.0 ++ codes ":"))

@@ -7,7 +7,7 @@ begins [] w = true
 begins (c ∷ front) [] = false
 begins (c ∷ front) (d ∷ w) = c == d && begins front w
 
--- what stands before the first c, and behind it if it is there
+-- what stands before the first c, and after it if it is there
 abbrev pub before : ℕ → List ℕ → List ℕ
 before c [] = []
 before c (d ∷ w) = cond (d == c) [] (d ∷ before c w)

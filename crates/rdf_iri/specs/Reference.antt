@@ -12,7 +12,7 @@ pub record Parts : Type 0 where
   pub query : Option (List ℕ)
   pub fragment : Option (List ℕ)
 
--- Recomposition (RFC 3986, section 5.3): a scheme has ':' behind it
+-- Recomposition (RFC 3986, section 5.3): a scheme has ':' after it
 abbrev pub with_scheme : Option (List ℕ) → List ℕ → List ℕ
 with_scheme None rest = rest
 with_scheme (Some s) rest = s ++ code ":" ∷ rest

@@ -89,7 +89,7 @@ abbrev pub NotBound : InForce → List ℕ → List ℕ → IriFault → Type 0
 NotBound s prefix reference TooManyBindings = (iri : List ℕ) × ResolvesHere s reference iri × IsFull s prefix
 NotBound s prefix reference fault = UnresolvedHere s reference fault
 
--- the prefix's IRI with the local part behind it
+-- the prefix's IRI with the local part after it
 abbrev pub Expands : InForce → List ℕ → List ℕ → List ℕ → Type 0
 Expands s prefix local iri = (front : List ℕ) × (bound_to s.bindings prefix ≡ Some front) × (iri ≡ front ++ local)
 

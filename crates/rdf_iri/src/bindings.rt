@@ -83,7 +83,7 @@ fn without_mark(bytes: &[u8]) -> &[u8]
     }
 }
 
-/// What stands before the first LF, and behind it if it is there.
+/// What stands before the first LF, and after it if it is there.
 fn first_line(bytes: &[u8]) -> (&[u8], Option<&[u8]>)
     ensures line { result.0.now ≡ before 10 bytes.now }
     ensures rest { text_of result.1 ≡ after 10 bytes.now }

@@ -10,7 +10,7 @@ use crate::places::{begins_with, bytes_before, is_equal, parent_len};
 enum Rule {
     /// They are dropped.
     Skip(usize),
-    /// They are dropped, and the byte behind them becomes a slash.
+    /// They are dropped, and the byte after them becomes a slash.
     Slash(usize),
     /// The same, and the last segment given out is taken back.
     Up(usize),

@@ -15,13 +15,13 @@ use rdf_terms::has_scheme;
 pub struct Parts<'a> {
     /// What stands before the first `:`, where that is a scheme.
     pub scheme: Option<&'a str>,
-    /// What stands behind `//`.
+    /// What stands after `//`.
     pub authority: Option<&'a str>,
     /// The path, with its slashes.
     pub path: &'a str,
-    /// What stands behind `?`.
+    /// What stands after `?`.
     pub query: Option<&'a str>,
-    /// What stands behind `#`.
+    /// What stands after `#`.
     pub fragment: Option<&'a str>,
 }
 
@@ -75,7 +75,7 @@ fn cut_authority(text: &str) -> (Option<&str>, &str)
     (Some(authority), path)
 }
 
-/// What stands before the first mark, and what stands behind it.
+/// What stands before the first mark, and what stands after it.
 pub(crate) fn cut(text: &str, mark: char) -> (&str, Option<&str>)
     requires { mark < 128 }
     ensures front { result.0.now ≡ before mark text.now }

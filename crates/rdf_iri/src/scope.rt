@@ -127,7 +127,7 @@ impl<A: Allocator + Copy> Scope<A> {
         self.names.contains_key(prefix) || (self.names.len() as u64) < self.limits.bindings()
     }
 
-    /// The IRI of a name: that of its prefix, with the local part behind it. The local part is a value, without the
+    /// The IRI of a name: that of its prefix, with the local part after it. The local part is a value, without the
     /// backslashes of its escapes.
     pub fn expand(&self, prefix: &str, local: &str) -> Result<Iri<A>, IriFault>
         requires { IsIriText (chars local.now) }
@@ -172,7 +172,7 @@ fn iri_len<A: Allocator>(iri: &Iri<A>) -> u64
     iri.as_str().len() as u64
 }
 
-/// An IRI with more characters behind it.
+/// An IRI with more characters after it.
 fn joined<A: Allocator + Copy>(
     alloc: A,
     front: &Iri<A>,

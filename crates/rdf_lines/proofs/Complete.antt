@@ -23,7 +23,7 @@ run_subject : (test : List ℕ → Bool) (f : LineForm) (n : Name) (ts : List To
 run_subject test f (Ref l) ts b = absolute_goes test (iri_of l) _ (λ m. run test f m ts) b
 run_subject test f (Lab l) ts b = refl
 
--- behind the object: a graph label, if any, and the dot
+-- after the object: a graph label, if any, and the dot
 run_end : (test : List ℕ → Bool) (f : LineForm) (s : Subject) (p : List ℕ) (o : Term) (g : Option Name) (d : Leaf) (ts : List Token) → graph_bound test g → graph_fits f g →
     run test f (AfterObject s p o) (graph_tokens g ++ token Dot d ∷ ts) ≡ with_quad (quad s p o (option_map subject_of g)) (run test f AfterDot ts)
 run_end test f s p o None d ts b h = refl
@@ -31,7 +31,7 @@ run_end test NTriples s p o (Some n) d ts b h = absurd (let e : Some n ≡ None 
 run_end test NQuads s p o (Some (Ref l)) d ts b h = absolute_goes test (iri_of l) _ (λ m. run test NQuads m (token Dot d ∷ ts)) b
 run_end test NQuads s p o (Some (Lab l)) d ts b h = refl
 
--- the same behind a plain string
+-- the same after a plain string
 run_plain : (test : List ℕ → Bool) (f : LineForm) (s : Subject) (p w : List ℕ) (g : Option Name) (d : Leaf) (ts : List Token) →
     run test f (AfterString s p w) (graph_tokens g ++ token Dot d ∷ ts) ≡ run test f (AfterObject s p (Literal w (Typed xsd_string))) (graph_tokens g ++ token Dot d ∷ ts)
 run_plain test f s p w None d ts = refl

@@ -65,7 +65,7 @@ before-none (next (L.one s) e d) n k l =
     cond-false (nat_lt (n + length (head_tokens s)) k) _ _ (le-ltb _ _ (omega arith))
     ∙ before-none d (n + length (statement_tokens s) + 1) k (omega arith)
 
--- The quad of a statement is due with the token behind its head, its dot, and the others by what follows.
+-- The quad of a statement is due with the token after its head, its dot, and the others by what follows.
 one_line : (s : Statement) (n k : ℕ) (ms : List Marked) (rest : List Token) (qs : List Quad) →
     (k ≤ length (head_tokens s) → items_below (n + k) ms ≡ []) →
     ((j : ℕ) → k ≡ length (head_tokens s) + 1 + j → items_below (n + k) ms ≡ take (dots (take j rest)) qs) →

@@ -1,4 +1,4 @@
--- A run stands as it is written, with the character behind it.
+-- A run stands as it is written, with the character after it.
 use Rattle.std.proofs.Common.{◌≡◌, ℕ, zero, suc, ◌+◌, ◌<◌, ◌≤◌, Bool, true, false, List, [], ◌∷◌, ◌++◌, refl, sym, ap, ◌∙◌, subst, ⊎_elim, length, take, drop, get_or, arith}
 use Rattle.std.specs.Prelude.{flat_map}
 use Rattle.std.specs.Str.{chars, IsUtf8, IsCharBoundary, encode_utf8_all}

@@ -104,7 +104,7 @@ characters_then a b c f g = record {
       (stands_then (flat_map (escaped Plain) f.characters) (flat_map (escaped Plain) g.characters) a b c f.stands g.stands);
 }
 
--- a run, and characters behind it
+-- a run, and characters after it
 pub run_then : (a : List ℕ) (end : ℕ) (b c : List ℕ) → IsUtf8 a → IsRun is_text_byte a 0 end → a ≡ take end a ++ b → CharactersStand b c → CharactersStand a c
 run_then a end b c u r e f =
     let run = take end a in
@@ -125,7 +125,7 @@ escape_stands a b c e h = record {
   stands = subst (λ w. Stands w a c) (sym (append-nil (escaped Plain h.character))) (e ∙ h.stands);
 }
 
--- the four escapes, by what stands behind the backslash
+-- the four escapes, by what stands after the backslash
 letter_means : (letter c : ℕ) (a b : List ℕ) → escaped Plain c ≡ 92 ∷ letter ∷ [] → scalar c ≡ true → letter < 128 → a ≡ letter ∷ b → EscapeStands a b
 letter_means letter c a b w s l e = record {
   character = c;

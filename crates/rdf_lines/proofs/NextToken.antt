@@ -1,4 +1,4 @@
--- When a text is the next token, whatever comes behind it.
+-- When a text is the next token, whatever comes after it.
 use Rattle.std.proofs.Common.{◌≡◌, ℕ, zero, suc, ◌+◌, ◌-◌, ◌<◌, ◌≤◌, true, false, ◌||◌, ⊎_elim, is_some, List, [], ◌∷◌, ◌++◌, refl, sym, ap, ◌∙◌, subst, Option, Some, None, length, take, drop, arith, length-append, append_assoc}
 use Rattle.std.proofs.lemmas.Bool.{cond-true, cond-false, false≢true, le-ltb, and_left, and_right, cases_lt, cases_Bool}
 use Rattle.std.proofs.lemmas.List.{append-nil, take_all, take_at, drop_at}
@@ -64,7 +64,7 @@ pub cut_dead : (w v : List ℕ) → Cut w v → (v ≡ [] → is_live Lines w �
 cut_dead w [] t e = ap (is_live Lines) (append-nil w) ∙ e refl
 cut_dead w (x ∷ v) t e = ap (λ u. is_live Lines (w ++ u)) (sym (take_all (suc (length v)) (x ∷ v) (omega arith))) ∙ cut_live w (x ∷ v) t (length v) (omega arith)
 
--- The first character behind it cannot stand in the shape.
+-- The first character after it cannot stand in the shape.
 pub cut_by_other : (c : ℕ) (k : Kind) → Begins c k → (w : List ℕ) (x : ℕ) (v : List ℕ) → uses (shape Lines k) x ≡ false → Cut (c ∷ w) (x ∷ v)
 cut_by_other c k b w x v e m l u n =
     let s : (c ∷ w ++ x ∷ take m v) ++ u ≡ c ∷ w ++ x ∷ (take m v ++ u) = append_assoc (c ∷ w) (x ∷ take m v) u in

@@ -14,7 +14,7 @@ use Rattle.rdf_iri.specs.Texts.{byte_len}
 use Rattle.rdf_iri.proofs.ResolvedText.{byte_len-chars}
 use Rattle.rdf_lines.specs.Machine.{is_taken, iri_refused}
 
--- a label behind "_:", and a tag behind '@'
+-- a label after "_:", and a tag after '@'
 pub label_in : (w : List ℕ) → Shape Lines LabelNode w → IsLabel (drop 2 w)
 unfolding shape
 label_in w m =

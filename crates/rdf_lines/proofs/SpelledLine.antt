@@ -40,7 +40,7 @@ abbrev total : List Token → ℕ
 total [] = 0
 total (t ∷ ts) = length t.text + total ts
 
--- A text spells tokens, if these are read from it, whatever comes behind it, where none is too long; they depend on its place alone.
+-- A text spells tokens, if these are read from it, whatever comes after it, where none is too long; they depend on its place alone.
 pub record Spells (limit : ℕ) (w : List ℕ) (f : Place → List Token) : Type 0 where
   pub size : (p : Place) → total (f p) ≤ length w
   pub reads : (tail : Behind) (p : Place) (v : List ℕ) → AllShort limit (f p) → tokens Lines limit tail false p (w ++ v) ≡ with_tokens (f p) (tokens Lines limit tail false (past p w) v)

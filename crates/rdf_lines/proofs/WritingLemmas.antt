@@ -155,7 +155,7 @@ unfolding has
 escape_part e = escape_cases e (λ c w. Matches part w) (two_part 34 refl) (two_part 92 refl) (two_part 110 refl) (two_part 114 refl)
     (λ c h. written_cases e (Matches part) c (inl (c, h, refl)) (λ l. inr (inr (uchar_shape c))))
 
--- behind a written character a string goes on as before
+-- after a written character a string goes on as before
 plain_after : (c : ℕ) → has plain_double c ≡ true → clean (after string_rest c) ≡ string_rest
 plain_after c h =
     let o = plain_others c h in

@@ -15,7 +15,7 @@ use Rattle.rdf_lines.specs.Writing.{CanWriteSubject, CanWriteTerm, CanWriteGraph
 abbrev pub Stands : List ℕ → List ℕ → List ℕ → Type 0
 Stands w bytes rest = bytes ≡ encode_utf8_all w ++ rest
 
--- an IRI behind its bracket, of at most so many bytes, and the bracket that closes it
+-- an IRI after its bracket, of at most so many bytes, and the bracket that closes it
 pub record IriStands (iri : ℕ) (i bytes rest : List ℕ) : Type 0 where
   pub is : IsIri i
   pub within : byte_len i ≤ iri
@@ -39,11 +39,11 @@ pub record CharactersStand (bytes rest : List ℕ) : Type 0 where
   pub are : all_have scalar characters ≡ true
   pub stands : Stands (flat_map (escaped Plain) characters) bytes rest
 
--- a string behind its quote, and the quote that closes it
+-- a string after its quote, and the quote that closes it
 abbrev pub StringStands : List ℕ → List ℕ → Type 0
 StringStands bytes rest = CharactersStand bytes (34 ∷ rest)
 
--- an escape behind its backslash
+-- an escape after its backslash
 pub record EscapeStands (bytes rest : List ℕ) : Type 0 where
   pub character : ℕ
   pub is : scalar character ≡ true

@@ -40,7 +40,7 @@ pub struct WrittenForm<'a> {
     pub style: Style,
     /// How characters above U+007F stand.
     pub escapes: Escapes,
-    /// The word in front of each node's name, behind its `_:`.
+    /// The word in front of each node's name, after its `_:`.
     pub prefix: NodePrefixView<'a>,
 }
 

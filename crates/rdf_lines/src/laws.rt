@@ -117,7 +117,7 @@ pub fn prefixes_keep_apart()
     ensures { PrefixesKeepApart }
 {}
 
-/// Texts that were written with words, one behind the other, are a document of N-Quads that has the quads of both.
+/// Texts that were written with words, one after the other, are a document of N-Quads that has the quads of both.
 pub fn joined_texts_read_back()
     ensures { JoinedTextsReadBack }
 {}

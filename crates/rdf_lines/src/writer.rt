@@ -47,7 +47,7 @@ pub fn write_line<A: Allocator + Copy>(
     write_line_in(quad, form, out)
 }
 
-/// The same, with a word in front of each node's name, behind its `_:`. Without characters it is what `write_line` appends.
+/// The same, with a word in front of each node's name, after its `_:`. Without characters it is what `write_line` appends.
 pub fn write_line_in<A: Allocator + Copy>(
     quad: QuadRef<'_>,
     form: WrittenForm<'_>,

@@ -52,7 +52,7 @@ marked_kept (last (one s) e) n k = more_kept _ (quad_of s) [] (statement_kept s)
 marked_kept (next empty e d) n k = marked_kept d _ k
 marked_kept (next (one s) e d) n k = more_kept _ (quad_of s) _ (statement_kept s) (marked_kept d _ k)
 
--- what is due behind some tokens
+-- what is due after some tokens
 pub due_kept : (f : LineForm) (ts : List Token) (qs : List Quad) → Due (documents f) ts qs → AllByRecursion (CanWrite Kept) qs
 due_kept f ts qs d =
     let (tree, same, good, marks) = d.2 in

@@ -1,4 +1,4 @@
--- What a sink of lines has handed over behind some puts, and what waits.
+-- What a sink of lines has handed over after some puts, and what waits.
 use Rattle.std.proofs.Common.{◌≡◌, ℕ, Bool, false, List, [], ◌∷◌, ◌++◌, Option, refl, sym, ap, subst, ◌∙◌, append_assoc, ⊎_elim, inr}
 use Rattle.std.proofs.lemmas.List.{append-nil}
 use Rattle.std.proofs.lemmas.Str.{encodes-append}
@@ -169,7 +169,7 @@ module _ {D A : Type 0} (contents : D → Option (List ℕ)) (failed : D → Boo
   puts_live [] a b h l = subst (λ (x : LineOut D A). failed x.drain.now ≡ false) (sym h) l
   puts_live (q ∷ qs) a b h l = puts_live qs h.0 b h.2 h.1.live
 
--- ---- bytes that go to the drain behind what waited
+-- ---- bytes that go to the drain after what waited
 
 -- all of them were taken
 pub all_behind : (a b c : Option (List ℕ)) (waiting bytes rest : List ℕ) → Appends a b waiting → Appends b c bytes → rest ≡ [] → Moves a c (waiting ++ bytes) rest

@@ -1,4 +1,4 @@
--- The lines of tokens: what a sink of lines has handed over behind some puts of tokens, and what waits.
+-- The lines of tokens: what a sink of lines has handed over after some puts of tokens, and what waits.
 use Rattle.std.proofs.Common.{◌≡◌, ℕ, Bool, true, false, cond, List, [], ◌∷◌, ◌++◌, Option, refl, sym, ap, subst, ◌∙◌, append_assoc, ⊎_elim, inr}
 use Rattle.std.proofs.lemmas.List.{append-nil}
 use Rattle.rdf_terms.specs.Sinks as sink

@@ -33,7 +33,7 @@ Writes contents before bytes after = Moves (contents before.drain.now) (contents
 abbrev pub line_bytes : WrittenForm → Quad → List ℕ
 line_bytes f q = encode_utf8_all (line_in (form_of f) q)
 
--- What a put of a quad does: its line is written behind the others. The quad's type says that it is well formed.
+-- What a put of a quad does: its line is written after the others. The quad's type says that it is well formed.
 pub record Takes {D A : Type 0} (contents : D → Option (List ℕ)) (failed : D → Bool) (before : LineOut D A) (q : Quad) (after : LineOut D A) : Type 0 where
   pub same : SameOut before after
   pub formed : ∥ IsQuad q ∥₁

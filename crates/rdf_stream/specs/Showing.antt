@@ -14,7 +14,7 @@ use Rattle.rdf_stream.specs.LineOut.{Moves, SameOut, Writes}
 use Rattle.rdf_stream.specs.Shows.{Shows, ShowsFront, ShowsSome, ShowRefuses, dialect_of, token_line, token_lines, tokens_in}
 use Rattle.rdf_stream.specs.TokenWords.{token_words, without_end}
 
--- what a put of a token does: its line is written behind the others
+-- what a put of a token does: its line is written after the others
 pub record TakesToken {D A : Type 0} (contents : D → Option (List ℕ)) (failed : D → Bool)
     (before : LineOut D A) (t : Token) (after : LineOut D A) : Type 0 where
   pub same : SameOut before after

@@ -105,7 +105,7 @@ ShowRefuses DocumentTooLong job bytes is_end at old new =
     IsTooLong bytes at × Appends old new (token_lines (tokens_in job (take most_bytes bytes) false).tokens)
 ShowRefuses reason job bytes is_end at old new = ⊥
 
--- The source has given these bytes, which do not decide what stands behind them, and the lines of the tokens that they decide were written.
+-- The source has given these bytes, which do not decide what stands after them, and the lines of the tokens that they decide were written.
 pub record ShowsSoFar (job : JobRead) (known left old new : Option (List ℕ)) : Type 0 where
   pub bytes : List ℕ
   pub consumed : Consumes known left bytes

@@ -22,7 +22,7 @@ use std::alloc::{Allocator, Global};
 /// The number of bytes that wait for the drain at most, once a line has been put.
 const WAITING_LEN: usize = 65536;
 
-/// Fewer bytes than these are copied behind what waits, and more go to the drain as they stand.
+/// Fewer bytes than these are copied after what waits, and more go to the drain as they stand.
 const COPIED_LEN: usize = 4096;
 
 /// The lines of the quads that were put: the drain has their front, and the buffer what waits for it. A put of a quad
@@ -116,7 +116,7 @@ impl<'a, D: Drain, A: Allocator + Copy> LineOut<'a, D, A> {
         }
     }
 
-    // Copies lines behind those that wait, and hands them over where they are many then.
+    // Copies lines after those that wait, and hands them over where they are many then.
     fn copy(&mut self, lines: &[u8]) -> Result<(), StreamFault>
         requires live { D.has_failed self.old.drain.now ≡ false }
         ensures same { SameOut self.old self.new }

@@ -372,7 +372,7 @@ fn a_drain_that_fails_has_a_beginning_of_the_lines(rt: HostRuntime) {
     }
 }
 
-/// How many bytes of the lines are written where the source fails behind so many bytes.
+/// How many bytes of the lines are written where the source fails after so many bytes.
 const BREAKS: [(Task, Form, &str, &str, &[(u64, usize)]); 6] = [
     (Task::Convert, Form::NQuads, ONE, ONE, &[(39, 0), (40, 41)]),
     (Task::Convert, Form::TriG, ONE, ONE, &[(40, 0), (41, 41)]),

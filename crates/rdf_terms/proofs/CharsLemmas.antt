@@ -22,7 +22,7 @@ empty_list (c ∷ w) e = absurd (omega arith)
 pub no_chars : (bytes : List ℕ) → length bytes ≡ 0 → chars bytes ≡ []
 no_chars bytes e = ap chars (empty_list bytes e) ∙ chars-nil
 
--- a text and one ASCII character behind it
+-- a text and one ASCII character after it
 pub record Before (bytes front : List ℕ) (c : ℕ) : Type 0 where
   pub chars : chars bytes ≡ chars front ++ c ∷ []
   pub utf8 : IsUtf8 front

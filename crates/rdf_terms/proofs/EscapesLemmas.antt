@@ -131,7 +131,7 @@ reads_from i m n bs at to (Some x) l e h = record {
 none_of : (c k : ℕ) → 128 ≤ c → k < 128 → (c == k) ≡ false
 none_of c k h l = ne_eqb c k (λ e. omega (arith, e))
 
--- so no escape has it behind its backslash
+-- so no escape has it after its backslash
 letter_high : (c : ℕ) → 128 ≤ c → letter_move c ≡ fails
 letter_high c h =
     let n : (k : ℕ) → k < 128 → (c == k) ≡ false = λ k l. none_of c k h l in
@@ -151,7 +151,7 @@ slash_letter i c u v =
 slash_high : (i : Inside) (c : ℕ) → 128 ≤ c → move i slash c ≡ fails
 slash_high i c h = slash_letter i c (none_of c 117 h (omega arith)) (none_of c 85 h (omega arith)) ∙ echar_high i c h
 
--- behind a backslash stands the letter of an ECHAR, or the escape is bad
+-- after a backslash stands the letter of an ECHAR, or the escape is bad
 pub reads_letter : (i : Inside) (bs : List ℕ) (at : ℕ) (o : Option ℕ) → at < length bs → IsUtf8 (drop at bs) → (get_or bs at 0 == 117) ≡ false →
     (get_or bs at 0 == 85) ≡ false → completes o ≡ echar_move i (get_or bs at 0) → IfSome o (λ c. scalar c ≡ true) →
     Reads i (leads slash) bs at (option_map (λ c. (c, at + 1)) o)
@@ -358,12 +358,12 @@ run_read i bs at end u v r =
           ∙ value_stands i (chars run) (chars (drop end bs)) (run_stands i run front (run_passes (goes_over (run_of i)) bs at end r)));
     }
 
--- whether there is a value, behind a run
+-- whether there is a value, after a run
 pub run_is_some : (i : Inside) (bs : List ℕ) (at end : ℕ) → RunRead i bs at end →
     is_some (value i outside (chars (drop at bs))) ≡ is_some (value i outside (chars (drop end bs)))
 run_is_some i bs at end r = ap is_some r.value ∙ is_some-map (λ w. chars (slice_range bs at end) ++ w) (value i outside (chars (drop end bs)))
 
--- and behind an escape that was read
+-- and after an escape that was read
 pub read_is_some : (i : Inside) (bs : List ℕ) (at c end : ℕ) → IsRead i (leads outside) bs at c end →
     is_some (value i outside (chars (drop at bs))) ≡ is_some (value i outside (chars (drop end bs)))
 read_is_some i bs at c end r = ap is_some r.value ∙ is_some-map (λ w. c ∷ w) (value i outside (chars (drop end bs)))
@@ -372,7 +372,7 @@ read_is_some i bs at c end r = ap is_some r.value ∙ is_some-map (λ w. c ∷ w
 pub value_end : (i : Inside) (bs : List ℕ) (at : ℕ) → length bs ≤ at → value i outside (chars (drop at bs)) ≡ Some []
 value_end i bs at l = ap (λ w. value i outside (chars w)) (drop_all at bs l) ∙ ap (value i outside) chars-nil
 
--- a run that was put behind what was built
+-- a run that was put after what was built
 pub behind-run : (i : Inside) (out grown bs : List ℕ) (at end : ℕ) → IsUtf8 out → grown ≡ out ++ slice_range bs at end → RunRead i bs at end →
     behind out (value i outside (chars (drop at bs))) ≡ behind grown (value i outside (chars (drop end bs)))
 behind-run i out grown bs at end u e r =

@@ -191,7 +191,7 @@ matches-tag part (c ∷ w) m =
 pub tag_goes_on-IsTag : (b : Bool) (w : List ℕ) → b ≡ tag_goes_on start w → (b ≡ true) ↔ IsTag w
 tag_goes_on-IsTag b w e = (λ h. tag-matches start w (sym e ∙ h), λ m. e ∙ matches-tag start w m)
 
--- the rest of a label or a prefix behind a character that is no end
+-- the rest of a label or a prefix after a character that is no end
 abbrev longer_name : Dialect → Regex
 longer_name d = many (one (pn_char d) ∣ dot) · one (pn_char d)
 

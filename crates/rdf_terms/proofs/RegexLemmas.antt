@@ -42,7 +42,7 @@ matches-nullable (r ∣ s) m =
     ⊎_elim (λ x. or_left _ _ (matches-nullable r x)) (λ x. or_right _ _ (matches-nullable s x)) m
 matches-nullable (many r) m = refl
 
--- a text whose first character is c splits after c, or behind an empty part
+-- a text whose first character is c splits after c, or after an empty part
 pub split_first : (c : ℕ) (w u v : List ℕ) → c ∷ w ≡ u ++ v →
     ((u ≡ []) × (v ≡ c ∷ w)) ⊎ ((t : List ℕ) × (u ≡ c ∷ t) × (w ≡ t ++ v))
 split_first c w [] v e = inl (refl, sym e)

@@ -69,9 +69,9 @@ member letter c = is_letter c
 member letter_or_digit c = is_letter c || is_digit c
 -- IRIREF: [^#x00-#x20<>"{}|^`\]
 member iri_char c = not (nat_le c 0x20 || one_of (codes "<>\"{}|^`\\") c)
--- PN_LOCAL_ESC, behind its backslash
+-- PN_LOCAL_ESC, after its backslash
 member local_escape c = one_of (codes "_~.-!$&'()*+,;=/?#@%") c
--- ECHAR, behind its backslash
+-- ECHAR, after its backslash
 member escape_letter c = one_of (codes "tbnrf\"'\\") c
 -- strings in double quotes: [^#x22#x5C#xA#xD]; in single quotes: [^#x27#x5C#xA#xD]; long ones: [^"\] and [^'\]
 member plain_double c = not (one_of (codes "\"\\\n\r") c)

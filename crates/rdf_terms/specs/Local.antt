@@ -3,7 +3,7 @@ use Rattle.std.specs.Prelude.{ℕ, Bool, cond, List, [], ◌∷◌, ◌==◌, �
 use Rattle.rdf_terms.specs.Classes.{has}
 use Rattle.rdf_terms.specs.Classes.Class.{iri_char, local_escape}
 
--- the character may stand behind a backslash, or elsewhere
+-- the character may stand after a backslash, or elsewhere
 abbrev pub local_stands : Bool → ℕ → Bool
 local_stands escaped c = cond escaped (has local_escape c) (c == 92 || has iri_char c)
 

@@ -16,7 +16,7 @@ abbrev pub name_goes_on : Dialect → Bool → List ℕ → Bool
 name_goes_on d ends [] = ends
 name_goes_on d ends (c ∷ w) = cond (has (pn_char d) c) (name_goes_on d true w) (has (the 46) c && name_goes_on d false w)
 
--- where a character of a tag stands: at the start, behind letters of the first part, a hyphen, or what stands in a later part
+-- where a character of a tag stands: at the start, after letters of the first part, a hyphen, or what stands in a later part
 pub data Place : Type 0 where
   start : Place
   letters : Place

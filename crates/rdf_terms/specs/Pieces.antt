@@ -62,7 +62,7 @@ IsNumberEscape i piece c = (hexes : List ℕ)
 abbrev pub IsPiece : Inside → List ℕ → ℕ → Type 0
 IsPiece i piece c = IsPlain i piece c ⊎ (IsLetterEscape i piece c ⊎ IsNumberEscape i piece c)
 
--- a piece of a local part: PN_LOCAL_ESC ::= '\' [_~.\-!$&'()*+,;=/?#@%] means the character behind its backslash, and any other means itself
+-- a piece of a local part: PN_LOCAL_ESC ::= '\' [_~.\-!$&'()*+,;=/?#@%] means the character after its backslash, and any other means itself
 abbrev pub IsLocalPiece : List ℕ → ℕ → Type 0
 IsLocalPiece piece c = ((piece ≡ c ∷ []) × (c ≢ backslash) × (has iri_char c ≡ true)) ⊎ ((piece ≡ backslash ∷ c ∷ []) × (has local_escape c ≡ true))
 

@@ -86,11 +86,11 @@ abbrev pub pn_local : Regex
 pn_local = (one (pn_u Turtle) ∣ one (the (code ":")) ∣ one digit ∣ plx)
     · optional (many (one (pn_char Turtle) ∣ dot ∣ one (the (code ":")) ∣ plx) · (one (pn_char Turtle) ∣ one (the (code ":")) ∣ plx))
 
--- the part of BLANK_NODE_LABEL behind "_:" ::= (PN_CHARS_U | [0-9]) ((PN_CHARS | '.')* PN_CHARS)?
+-- the part of BLANK_NODE_LABEL after "_:" ::= (PN_CHARS_U | [0-9]) ((PN_CHARS | '.')* PN_CHARS)?
 abbrev pub label_name : Dialect → Regex
 label_name d = (one (pn_u d) ∣ one digit) · optional (many (one (pn_char d) ∣ dot) · one (pn_char d))
 
--- the part of LANGTAG behind '@' ::= [a-zA-Z]+ ('-' [a-zA-Z0-9]+)*
+-- the part of LANGTAG after '@' ::= [a-zA-Z]+ ('-' [a-zA-Z0-9]+)*
 abbrev pub tag_name : Regex
 tag_name = some (one letter) · many (one (the (code "-")) · some (one letter_or_digit))
 

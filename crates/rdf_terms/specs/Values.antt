@@ -6,7 +6,7 @@ pub use Rattle.rdf_terms.specs.Pieces.{Inside, of_string, of_iri, hex_value, ins
 use Rattle.rdf_terms.specs.declared.kind.Kind.{Kind}
 use Rattle.rdf_terms.specs.declared.kind.Kind.TheVariants.{IriRef, ShortString, LongString}
 
--- where a character stands: outside an escape, behind the backslash, or where so many hex digits are still to come, with the number so far
+-- where a character stands: outside an escape, after the backslash, or where so many hex digits are still to come, with the number so far
 pub data Spot : Type 0 where
   outside : Spot
   slash : Spot
@@ -66,7 +66,7 @@ string_value w = value of_string outside w
 abbrev pub iri_value : List ℕ → Option (List ℕ)
 iri_value w = value of_iri outside w
 
--- a local part, behind a backslash or not: PN_LOCAL_ESC stands for its last character, and `%` stands for itself
+-- a local part, after a backslash or not: PN_LOCAL_ESC stands for its last character, and `%` stands for itself
 abbrev pub local_from : Bool → List ℕ → Option (List ℕ)
 local_from true [] = None
 local_from false [] = Some []

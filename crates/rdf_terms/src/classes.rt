@@ -52,7 +52,7 @@ pub fn is_iri_char(c: char) -> bool
     )
 }
 
-/// The characters behind the backslash of a PN_LOCAL_ESC (Turtle 6.5)
+/// The characters after the backslash of a PN_LOCAL_ESC (Turtle 6.5)
 #[tactic(auto, unfolding(crate::specs::Classes::has))]
 pub fn is_local_escape(c: char) -> bool
     ensures { result ≡ has local_escape c }

@@ -15,7 +15,7 @@ use crate::views::LabelView;
 use std::alloc::{AllocError, Allocator, Global};
 use std::marker::Model;
 
-/// The part of a blank node label behind `_:`, of the line formats.
+/// The part of a blank node label after `_:`, of the line formats.
 #[derive(Drop)]
 pub struct Label<A: Allocator = Global> {
     text: String<A>,

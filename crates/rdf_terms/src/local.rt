@@ -13,8 +13,8 @@ use crate::classes::{iri_text, is_iri_char, is_local_escape};
 use crate::values::{ValueFault, copied};
 use std::alloc::Allocator;
 
-/// The characters that a local part means: each PN_LOCAL_ESC stands for the one behind its backslash, and a `%`
-/// stands for itself, with hex digits behind it or without (Turtle 6.4).
+/// The characters that a local part means: each PN_LOCAL_ESC stands for the one after its backslash, and a `%`
+/// stands for itself, with hex digits after it or without (Turtle 6.4).
 #[tactic(auto, using(crate::proofs::LocalLemmas::local_value_plain))]
 pub fn local_value<A: Allocator>(alloc: A, inside: &str) -> Result<String<A>, ValueFault>
     ensures ok { IfOk result (λ s. local_value (chars inside.now) ≡ Some (chars (string_bytes s))) }
@@ -67,7 +67,7 @@ fn opens(escaped: bool, c: char) -> bool
     !escaped && c == '\\'
 }
 
-/// The text without its backslashes; none of them stands behind another.
+/// The text without its backslashes; none of them stands after another.
 fn unescaped<A: Allocator>(alloc: A, text: &str) -> Result<String<A>, ValueFault>
     ensures ok { IfOk result (λ s. chars (string_bytes s) ≡ without_backslashes (chars text.now)) }
     ensures memory { OnErr result (result ≡ Err ValueFault.Memory) }

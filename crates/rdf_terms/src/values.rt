@@ -211,7 +211,7 @@ fn escape(inside: Inside, text: &[u8], at: usize) -> Option<(char, usize)>
     escape_behind(inside, text, at + 1)
 }
 
-/// The same behind its backslash.
+/// The same after its backslash.
 #[inline(always)]
 fn escape_behind(inside: Inside, text: &[u8], at: usize) -> Option<(char, usize)>
     requires within { at ≤ length text.now }

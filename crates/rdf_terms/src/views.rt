@@ -12,7 +12,7 @@ pub struct IriView<'a> {
     ghost is_iri: { ∥ IsIri (chars text.now) ∥₁ },
 }
 
-/// The part of a blank node label behind `_:`, of the line formats.
+/// The part of a blank node label after `_:`, of the line formats.
 #[derive(Clone, Copy)]
 pub struct LabelView<'a> {
     text: &'a str,

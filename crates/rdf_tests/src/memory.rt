@@ -217,7 +217,7 @@ fn use_a_scope<A: Allocator + Copy>(alloc: A) -> Result<(), Stop> {
     Ok(())
 }
 
-/// Want of memory, if it was reported and each call behind it reports that reading has ended.
+/// Want of memory, if it was reported and each call after it reports that reading has ended.
 fn ended(fault: Fault, next: Result<Summary, Fault>) -> Stop {
     match next {
         Err(ended) if ended.reason == Reason::Ended => Stop::from(fault),

@@ -1,4 +1,4 @@
--- A text that begins no name begins none at a later letter of its first run either: the states behind both letters are the same.
+-- A text that begins no name begins none at a later letter of its first run either: the states after both letters are the same.
 use Rattle.std.proofs.Common.{◌≡◌, ℕ, zero, suc, ◌+◌, ◌-◌, ◌<◌, Bool, true, false, List, [], ◌∷◌, ◌++◌, ◌&&◌, ◌||◌, ◌==◌, ◌≤◌, inl, inr, not, refl, sym, ap, ◌∙◌, subst, ⊎_elim, length, take, drop, get_or, arith, length-append, length-drop, Option, Some, None, IsUtf8}
 use Rattle.std.proofs.lemmas.Bool.{agree_below_at, and_parts, true≢false, cases_lt}
 use Rattle.std.proofs.lemmas.Bool.Decides.{nat_tests}
@@ -29,7 +29,7 @@ in_prefix (Name name.Prefix) = true
 in_prefix (Name name.PrefixDots) = true
 in_prefix s = false
 
--- a state behind a letter of a prefix
+-- a state after a letter of a prefix
 abbrev at_letter : State → Bool
 at_letter (Name name.Prefix) = true
 at_letter s = false
@@ -69,7 +69,7 @@ letter_steps c e =
     let q = and_parts _ _ p.1 in
     (letter_state _ p.0, (letter_state _ q.0, letter_state _ q.1))
 
--- a letter behind a prefix leads where it leads alone
+-- a letter after a prefix leads where it leads alone
 letter_within : (s : State) (c : ℕ) → in_prefix s ≡ true → is_letter c ≡ true → step Turtle s c ≡ step Turtle Start c
 letter_within (Name name.Prefix) c h e = let p = letter_steps c e in p.1.0 ∙ sym p.0
 letter_within (Name name.PrefixDots) c h e = let p = letter_steps c e in p.1.1 ∙ sym p.0
@@ -117,7 +117,7 @@ no_quotes c (a ∷ b ∷ w) e =
     let q : (c == 39) ≡ false = grind (arith, nat_tests) in
     ap (λ t. ((t && a == 34) && b == 34) || ((c == 39 && a == 39) && b == 39)) p ∙ ap (λ t. (t && a == 39) && b == 39) q
 
--- the state behind a letter and what follows it, from within a prefix and alone
+-- the state after a letter and what follows it, from within a prefix and alone
 same_state : (u v : List ℕ) (c : ℕ) → in_prefix (state_of Turtle u) ≡ true → is_letter c ≡ true → state_of Turtle (u ++ c ∷ v) ≡ state_of Turtle (c ∷ v)
 same_state u v c h e = run-append (step Turtle) Start u (c ∷ v) ∙ ap (λ s. run (step Turtle) s v) (letter_within (state_of Turtle u) c h e)
 
@@ -126,7 +126,7 @@ take_over : (u v : List ℕ) (n : ℕ) → take (length u + n) (u ++ v) ≡ u ++
 take_over [] v n = ap (λ m. take m v) (omega arith)
 take_over (c ∷ u) v n = let e : suc (length u) + n ≡ suc (length u + n) = omega arith in ap (λ m. take m (c ∷ (u ++ v))) e ∙ ap (λ x. c ∷ x) (take_over u v n)
 
--- what is known behind a prefix holds from its next letter on
+-- what is known after a prefix holds from its next letter on
 bare_behind : (u v : List ℕ) (c : ℕ) (s : Option State) → three_quotes Turtle (u ++ c ∷ v) ≡ false → in_prefix (state_of Turtle u) ≡ true → is_letter c ≡ true →
     IsBare Turtle (u ++ c ∷ v) s → IsBare Turtle (c ∷ v) s
 bare_behind u v c s t h e b = record {
@@ -151,7 +151,7 @@ prefix_live (Name name.Prefix) h = refl
 prefix_live (Name name.PrefixDots) h = refl
 prefix_live s h = absurd (true≢false (sym h))
 
--- where the states have ended they have behind more characters
+-- where the states have ended they have after more characters
 pub ends_more : (d : Dialect) (w : List ℕ) (m n : ℕ) → m ≤ n → Ends d w m → Ends d w n
 ends_more d w m n l e = ⊎_elim
     (λ (a : length w ≤ m). inl (omega arith))
@@ -242,7 +242,7 @@ bare_here d w len kind state f e g = record {
 pub best_of_bare : (d : Dialect) (w : List ℕ) (s : Option State) → IsBare d w s → None ≡ in_bytes w (longest_by (kind_by_states d w) w (length w))
 best_of_bare d w s b = sym (ap (in_bytes w) b.none)
 
--- behind some bytes the same is known
+-- after some bytes the same is known
 bare_drop : (d : Dialect) (bs : List ℕ) (n : ℕ) (b : Option Bare) → IsBareIn d bs b → IsBareIn d (drop n bs) b
 bare_drop d bs n None h = tt
 bare_drop d bs n (Some b) h = λ p l e.

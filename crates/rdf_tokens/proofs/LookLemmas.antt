@@ -100,7 +100,7 @@ not-empty : (d : Dialect) (w : List ℕ) (n : ℕ) (k : Kind) → in_bytes w (lo
 not-empty d [] n k e = absurd (let h : None ≡ Some (n, k) = e in cc)
 not-empty d (c ∷ w) n k e = refl
 
--- a token that nothing makes longer is the step, whatever comes behind the text
+-- a token that nothing makes longer is the step, whatever comes after the text
 pub token-look : (d : Dialect) (limit : ℕ) (t : Tail) (bs : List ℕ) (n : ℕ) (k : Kind) → IsUtf8 bs → over d limit (chars bs) ≡ false → IsToken d bs n k →
     IsLook (Given n k) (step d limit t (chars bs)) (chars bs)
 token-look d limit t bs n k u o q =

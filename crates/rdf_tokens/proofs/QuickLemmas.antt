@@ -1,4 +1,4 @@
--- Tokens that the first bytes of a text settle: the states end behind them, and no spelling is longer or begins so.
+-- Tokens that the first bytes of a text settle: the states end after them, and no spelling is longer or begins so.
 use Rattle.std.proofs.Common.{◌≡◌, ℕ, zero, suc, ◌+◌, ◌<◌, ◌≤◌, Bool, true, false, cond, nat_lt, List, [], ◌∷◌, ◌&&◌, ◌||◌, ◌==◌, not, refl, sym, ap, ◌∙◌, subst, length, get_or, arith, Option, Some, None, IsUtf8, lt-ltb}
 use Rattle.std.proofs.lemmas.Bool.{agree_below_at, and_parts, false≢true, eqb-true, ltb-true}
 use Rattle.std.proofs.lemmas.Bool.Decides.{nat_tests}
@@ -38,7 +38,7 @@ settled d bs at s b f n k u r g ef l e t =
       fit = t;
     }
 
--- A byte of ASCII behind which the states end without a kind, and which is a spelling and the beginning of no other.
+-- A byte of ASCII after which the states end without a kind, and which is a spelling and the beginning of no other.
 record IsSingle (d : Dialect) (c : ℕ) (k : Kind) : Type 0 where
   low : c < 128
   out : goes_on d (step d Start c) ≡ false
@@ -106,7 +106,7 @@ single-is : (d : Dialect) (c : ℕ) (k : Kind) → single d c ≡ Some k → IsS
 single-is Lines c k e = single-lines c k e
 single-is Turtle c k e = single-turtle c k e
 
--- the states behind the first byte, where they have no kind
+-- the states after the first byte, where they have no kind
 first-none : (d : Dialect) (bs : List ℕ) (s : State) → IsUtf8 bs → 0 < length bs → get_or bs 0 0 < 128 → s ≡ step d Start (get_or bs 0 0) → kind_at s ≡ None → Reached d bs 1 s None
 first-none d bs s u l a es k =
     let c = get_or bs 0 0 in
@@ -194,7 +194,7 @@ longer-second : (f : Option (ℕ × Kind)) (p n : ℕ) (k : Kind) → AtMost p f
 longer-second None p n k h l = refl
 longer-second (Some x) p n k h l = let i : x.0 ≤ p = h in ap (λ t. cond t (Some (n, k)) (Some x)) (lt-ltb x.0 n (omega arith))
 
--- a state behind a character of a local part
+-- a state after a character of a local part
 abbrev at_local : State → Bool
 at_local (Name name.Local) = true
 at_local s = false
@@ -204,7 +204,7 @@ local-state : (s : State) → at_local s ≡ true → s ≡ Name name.Local
 local-state (Name name.Local) e = refl
 local-state s e = absurd (false≢true e)
 
--- the state behind what is no name
+-- the state after what is no name
 abbrev at_dead : State → Bool
 at_dead (Name name.Dead) = true
 at_dead s = false
@@ -218,7 +218,7 @@ dead-state s e = absurd (false≢true e)
 abbrev local_tests : ℕ → Bool
 local_tests c = not (is_name_byte c) || (c == 45 || at_local (step Turtle (Name name.Colon) c))
 
--- and one that ends a name leads to no state, from behind the colon and within a local part
+-- and one that ends a name leads to no state, from after the colon and within a local part
 abbrev end_tests : ℕ → Bool
 end_tests c = not (ends_name c) || (is_name_byte c || (at_dead (step Turtle (Name name.Colon) c) && at_dead (step Turtle (Name name.Local) c)))
 
@@ -231,7 +231,7 @@ other : (a b : Bool) → (a || b) ≡ true → a ≡ false → b ≡ true
 other true b e h = absurd (false≢true (sym h))
 other false b e h = e
 
--- a local part begins behind the colon
+-- a local part begins after the colon
 local-first : (c : ℕ) → is_name_byte c ≡ true → (c == 45) ≡ false → step Turtle (Name name.Colon) c ≡ Name name.Local
 local-first c e h =
     local-state _ (other (c == 45) _ (implied (is_name_byte c) _ (agree_below_at local_tests (λ c. true) 128 c refl (low-name c e)) e) h)
@@ -256,7 +256,7 @@ name-fit : (w : List ℕ) → (is_fit PnameNs w ≡ true) × (is_fit PnameLn w �
 unfolding is_fit
 name-fit w = (refl, refl)
 
--- A run of name bytes that begins with a letter, a colon, and a run of name bytes behind it that ends before the text does.
+-- A run of name bytes that begins with a letter, a colon, and a run of name bytes after it that ends before the text does.
 module _ (bs : List ℕ) (colon end : ℕ) (u : IsUtf8 bs) (l : 0 < length bs) (e : is_letter (get_or bs 0 0) ≡ true) (r : IsRun is_name_byte bs 1 colon)
     (m : is_colon bs colon ≡ true) (q : IsRun is_name_byte bs (colon + 1) end) (z : is_name_end bs end ≡ true) where
   -- such a text does not begin with three quotes
@@ -279,7 +279,7 @@ module _ (bs : List ℕ) (colon end : ℕ) (u : IsUtf8 bs) (l : 0 < length bs) (
   is_58 : get_or bs colon 0 ≡ 58
   is_58 = eqb-true (get_or bs colon 0) 58 (and_parts _ _ m).1
 
-  -- the states behind the colon
+  -- the states after the colon
   behind : Reached Turtle bs (colon + 1) (Name name.Colon) (Some (colon + 1, PnameNs))
   behind =
       let c = get_or bs 0 0 in
@@ -289,7 +289,7 @@ module _ (bs : List ℕ) (colon end : ℕ) (u : IsUtf8 bs) (l : 0 < length bs) (
       let i = inside in
       byte_on colon (Name name.Prefix) (Name name.Colon) (Some PnameNs) None i (omega (arith, is_58)) prefix (ap (step Turtle (Name name.Prefix)) (sym is_58)) refl
 
-  -- and behind the byte that ends the name
+  -- and after the byte that ends the name
   over : (s : State) (k : Kind) → Reached Turtle bs end s (Some (end, k)) → step Turtle s (get_or bs end 0) ≡ Name name.Dead → ((w : List ℕ) → is_fit k w ≡ true) → IsToken Turtle bs end k
   over s k h x t =
       let c = get_or bs end 0 in
@@ -305,7 +305,7 @@ module _ (bs : List ℕ) (colon end : ℕ) (u : IsUtf8 bs) (l : 0 < length bs) (
   ended : (step Turtle (Name name.Colon) (get_or bs end 0) ≡ Name name.Dead) × (step Turtle (Name name.Local) (get_or bs end 0) ≡ Name name.Dead)
   ended = let p = and_parts _ _ z in end-steps (get_or bs end 0) p.1 (q.stops (ltb-true end (length bs) p.0))
 
-  -- nothing stands behind the colon, and the token is a namespace
+  -- nothing stands after the colon, and the token is a namespace
   pub quick_namespace : end ≡ colon + 1 → IsToken Turtle bs end PnameNs
   quick_namespace x = over (Name name.Colon) PnameNs (subst (λ n. Reached Turtle bs n (Name name.Colon) (Some (n, PnameNs))) (sym x) behind) ended.0 (λ w. (name-fit w).0)
 

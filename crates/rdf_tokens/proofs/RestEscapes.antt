@@ -44,7 +44,7 @@ byte_on d bs at s t b l a e n r =
     (sym (ap (only_long (three_quotes d (chars bs))) n ∙ no_long (three_quotes d (chars bs))))
     refl
 
--- how the states within a string or an IRI take a UCHAR: by the state behind its backslash, and those that wait for one hex digit and so many more
+-- how the states within a string or an IRI take a UCHAR: by the state after its backslash, and those that wait for one hex digit and so many more
 record Numbers (s e : State) (h : ℕ → State) : Type 0 where
   slash : (d : Dialect) → step d s 92 ≡ e
   small : (d : Dialect) → step d e 117 ≡ h 3
@@ -59,7 +59,7 @@ record Numbers (s e : State) (h : ℕ → State) : Type 0 where
 hex_below : (c : ℕ) → is_hex c ≡ true → c < 128
 hex_below c h = ⊎_elim (λ (l : c < 128). l) (λ l. absurd (let n : is_hex c ≡ false = grind (arith, nat_tests) in false≢true (sym n ∙ h))) (cases_lt c 128)
 
--- so is the letter behind a backslash
+-- so is the letter after a backslash
 letter_below : (c : ℕ) → is_letter c ≡ true → c < 128
 letter_below c h = ⊎_elim (λ (l : c < 128). l) (λ l. absurd (let n : is_letter c ≡ false = grind (arith, nat_tests) in false≢true (sym n ∙ h))) (cases_lt c 128)
 
@@ -167,7 +167,7 @@ if_hex-hex s text_sort.HexLetter h = refl
 if_hex-hex s text_sort.HexDigit h = refl
 if_hex-hex s x h = absurd (false≢true h)
 
--- and back behind a backslash
+-- and back after a backslash
 escaped-letter : (hex : ℕ → Text) (s : Text) (x : TextSort) → is_letter_sort x ≡ true → text.escaped hex s x ≡ s
 escaped-letter hex s text_sort.DoubleQuote h = refl
 escaped-letter hex s text_sort.SingleQuote h = refl

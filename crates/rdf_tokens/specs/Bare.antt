@@ -13,7 +13,7 @@ use Rattle.rdf_tokens.specs.Front.{longest_by, state_of, kind_by_states, open_st
 abbrev pub is_bare_byte : ℕ → Bool
 is_bare_byte b = is_name_byte b || b == 46
 
--- No front of the text is a token of a kind that has states, and this is the state behind all of it, where a token may go on there.
+-- No front of the text is a token of a kind that has states, and this is the state after all of it, where a token may go on there.
 pub record IsBare (d : Dialect) (w : List ℕ) (s : Option State) : Type 0 where
   pub none : longest_by (kind_by_states d w) w (length w) ≡ None
   pub state : s ≡ open_state d (state_of d w)
@@ -22,7 +22,7 @@ pub record IsBare (d : Dialect) (w : List ℕ) (s : Option State) : Type 0 where
 abbrev pub Ends : Dialect → List ℕ → ℕ → Type 0
 Ends d w n = (length w ≤ n) ⊎ (goes_on d (state_of d (take n w)) ≡ false)
 
--- It is so from each ASCII letter on that stands before the end, and the text behind has no more bytes than the states go over characters and `out`.
+-- It is so from each ASCII letter on that stands before the end, and the text after has no more bytes than the states go over characters and `out`.
 abbrev pub IsBareIn : Dialect → List ℕ → Option Bare → Type 0
 IsBareIn d bs None = Unit {0}
 IsBareIn d bs (Some b) = (p : ℕ) → p + b.left < length bs → is_letter (get_or bs p 0) ≡ true →

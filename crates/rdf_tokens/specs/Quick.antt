@@ -29,7 +29,7 @@ single Lines c = cond (c == 46) (Some Dot) (cond (c == 13) (Some LineEnd) (cond 
 single Turtle c = cond (c == 59) (Some Semicolon) (cond (c == 44) (Some Comma) (cond (c == 91) (Some OpenBracket) (cond (c == 93) (Some CloseBracket)
     (cond (c == 40) (Some OpenParen) (cond (c == 41) (Some CloseParen) (cond (c == 123) (Some OpenBrace) (cond (c == 125) (Some CloseBrace) None)))))))
 
--- the text is longer than what is left behind the run without names
+-- the text is longer than what is left after the run without names
 abbrev pub stands_bare : ℕ → Option Bare → Bool
 stands_bare n None = false
 stands_bare n (Some b) = nat_lt b.left n

@@ -5,7 +5,7 @@ ghost use Rattle.rdf_tokens.specs.Escapes.{is_hex, is_letter, IsEchar, IsHexes, 
 
 use rdf_terms::runs::{Run, run_end};
 
-/// The place behind the plain bytes and the whole escapes of a string from a place on.
+/// The place after the plain bytes and the whole escapes of a string from a place on.
 pub(crate) fn string_end(bytes: &[u8], from: usize) -> usize
     requires { from ≤ length bytes.now }
     ensures { RestsInString bytes.now from result }

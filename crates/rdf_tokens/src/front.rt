@@ -44,7 +44,7 @@ pub(crate) struct Walk {
     kind: Option<Kind>,
 }
 
-/// The end of a text within which names were sought and none was found: the bytes behind the end, the state behind the whole
+/// The end of a text within which names were sought and none was found: the bytes after the end, the state after the whole
 /// text, of each name that would begin there with a letter of ASCII, and how many bytes the text has more than the states go
 /// over characters.
 #[derive(Clone, Copy)]
@@ -191,7 +191,7 @@ fn first_front(dialect: Dialect, text: &str, bare: &mut Option<Bare>) -> Shaped
     }
 }
 
-/// The same where a name begins, by the state behind its first character. Where no name was found before, none is sought again.
+/// The same where a name begins, by the state after its first character. Where no name was found before, none is sought again.
 #[inline(always)]
 fn name_front(
     dialect: Dialect,

@@ -16,7 +16,7 @@ pub(crate) struct Quick {
     pub(crate) kind: Option<Kind>,
 }
 
-/// The token that a text begins with, where its first byte settles it or, of a name of ASCII, the byte behind it.
+/// The token that a text begins with, where its first byte settles it or, of a name of ASCII, the byte after it.
 #[inline(always)]
 pub(crate) fn quick_front(dialect: Dialect, text: &str, bare: &Option<Bare>) -> Quick
     ensures { IsQuick dialect text.now result.len result.kind }

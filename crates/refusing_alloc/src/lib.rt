@@ -12,7 +12,7 @@ pub struct Refusing<B: Allocator> {
 }
 
 impl<B: Allocator> Refusing<B> {
-    /// Passes so many calls on, below 2^63, and refuses the one behind them.
+    /// Passes so many calls on, below 2^63, and refuses the one after them.
     pub fn after(inner: B, calls: u64) -> Refusing<B> {
         Refusing {
             inner,

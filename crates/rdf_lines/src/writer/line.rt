@@ -1,4 +1,4 @@
-// The parts of a written line, each with the space behind it (N-Quads 4).
+// The parts of a written line, each with the space after it (N-Quads 4).
 
 ghost use Rattle.std.specs.Prelude.{◌≡◌, [], ◌∷◌, ◌++◌, OnErr, OnOk};
 ghost use Rattle.rdf_lines.specs.Forms.{form_of};

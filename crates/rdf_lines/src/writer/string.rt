@@ -77,7 +77,7 @@ fn put_escaped<A: Allocator + Copy>(
     Ok(())
 }
 
-// A run in front, whose characters stand as they are, and the character behind it: the text behind these.
+// A run in front, whose characters stand as they are, and the character after it: the text after these.
 fn put_run<'a, A: Allocator + Copy>(
     text: &'a str,
     escapes: Escapes,
@@ -93,7 +93,7 @@ fn put_run<'a, A: Allocator + Copy>(
     put_first(rest, escapes, out)
 }
 
-// The first character, if there is one: the text behind it.
+// The first character, if there is one: the text after it.
 fn put_first<'a, A: Allocator + Copy>(
     text: &'a str,
     escapes: Escapes,

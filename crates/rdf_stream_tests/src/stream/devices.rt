@@ -92,7 +92,7 @@ impl Drain for SlowDrain {
     }
 }
 
-/// All of the bytes, cut behind the first of them; at 0 each byte comes alone.
+/// All of the bytes, cut after the first of them; at 0 each byte comes alone.
 pub(crate) fn cut_at(bytes: &[u8], cut: usize) -> Parts<'_>
     ensures more { result.ended ≡ false }
     ensures live { result.failed ≡ false }
@@ -107,7 +107,7 @@ pub(crate) fn cut_at(bytes: &[u8], cut: usize) -> Parts<'_>
     }
 }
 
-/// A byte a call, and a failure behind these calls.
+/// A byte a call, and a failure after these calls.
 pub(crate) fn failing_source(text: &str, calls: u64) -> Parts<'_>
     ensures more { result.ended ≡ false }
     ensures live { result.failed ≡ false }
@@ -129,7 +129,7 @@ pub(crate) fn ample_drain(alloc: Global) -> SlowDrain
     wide_drain(alloc, u64::MAX)
 }
 
-/// Takes all that it is given, and fails behind these calls.
+/// Takes all that it is given, and fails after these calls.
 pub(crate) fn wide_drain(alloc: Global, calls: u64) -> SlowDrain
     ensures { result.failed ≡ false }
 {
@@ -142,7 +142,7 @@ pub(crate) fn wide_drain(alloc: Global, calls: u64) -> SlowDrain
     }
 }
 
-/// A byte a call, and a failure behind these calls.
+/// A byte a call, and a failure after these calls.
 pub(crate) fn failing_drain(alloc: Global, calls: u64) -> SlowDrain
     ensures { result.failed ≡ false }
 {
@@ -155,7 +155,7 @@ pub(crate) fn failing_drain(alloc: Global, calls: u64) -> SlowDrain
     }
 }
 
-/// Gives all that it is asked for, and fails behind these calls.
+/// Gives all that it is asked for, and fails after these calls.
 pub(crate) fn wide_source(bytes: &[u8], calls: u64) -> Parts<'_>
     ensures more { result.ended ≡ false }
     ensures live { result.failed ≡ false }

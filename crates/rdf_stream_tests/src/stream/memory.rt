@@ -94,7 +94,7 @@ fn whole_run(
     ended(alloc, result, drain)
 }
 
-/// Whichever of the growths is refused, a run ends for want of memory behind whole lines of a beginning of what it writes where none is.
+/// Whichever of the growths is refused, a run ends for want of memory after whole lines of a beginning of what it writes where none is.
 fn ends_where_memory_does(
     rt: &impl Abort,
     alloc: Global,
@@ -130,7 +130,7 @@ fn is_same(rt: &impl Abort, run: &Run, whole: &Run) {
     assert_eq!(rt; run.flushed, whole.flushed);
 }
 
-/// Whichever fill fails, of one byte each, a run ends for it behind whole lines of a beginning.
+/// Whichever fill fails, of one byte each, a run ends for it after whole lines of a beginning.
 fn ends_where_its_source_does(
     rt: &impl Abort,
     alloc: Global,
@@ -158,7 +158,7 @@ fn ends_where_its_source_does(
     Err(Fail::new("each run met a failure"))
 }
 
-/// Whichever put fails, of one byte each, or the flush, a run ends for it behind the bytes that were taken before.
+/// Whichever put fails, of one byte each, or the flush, a run ends for it after the bytes that were taken before.
 fn ends_where_its_drain_does(
     rt: &impl Abort,
     alloc: Global,

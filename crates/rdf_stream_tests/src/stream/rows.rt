@@ -1,4 +1,4 @@
-// Documents, and what a run writes and tells of them: its lines, and behind them the line of the fault, if there is one.
+// Documents, and what a run writes and tells of them: its lines, and after them the line of the fault, if there is one.
 
 /// Documents that are the same in Turtle and TriG.
 pub(crate) const TURTLE_AND_TRIG: [(&[u8], &str); 33] = [

@@ -52,7 +52,7 @@ impl Asked {
     }
 }
 
-/// What a run wrote, with the line of its fault behind it, and its summary, if there was no fault.
+/// What a run wrote, with the line of its fault after it, and its summary, if there was no fault.
 #[derive(Drop)]
 pub(crate) struct Run {
     pub(crate) text: Vec<u8>,
@@ -161,7 +161,7 @@ pub(crate) fn is_converted(
     Ok(())
 }
 
-/// With a byte that is no UTF-8 at a place of a document of these lines, that place is told, behind whole lines of a beginning.
+/// With a byte that is no UTF-8 at a place of a document of these lines, that place is told, after whole lines of a beginning.
 pub(crate) fn is_refused_at(
     rt: &impl Abort,
     alloc: Global,

@@ -25,7 +25,7 @@ loop-prefix-init g c =
     in
     (tt, tt, kept.0, kept.1, kept.2)
 
--- the entries that are left are this one and those behind it
+-- the entries that are left are this one and those after it
 left : (g : Over) (c : goal.After-iri_len g) →
     sum_by entry_bytes c.loop-prefix.prefix-iterator ≡ c.len.result + c.iri_len.result + sum_by entry_bytes c.next.new.self
 left g c =
