@@ -1,12 +1,13 @@
 #!/usr/bin/python3
-"""Draws the figures that `bench/rdfconv.py --json FIGURES` or `bench/readers.py --json FIGURES` wrote, as SVG. Debian:
-python3-matplotlib.
+"""Draws the figures that `bench/rdfconv.py --json FIGURES`, `bench/readers.py --json FIGURES` or `bench/held.py FIGURES` wrote, as SVG.
+Debian: python3-matplotlib.
 
     bench/draw.py FIGURES FOLDER
 
 Of the first, FOLDER/speed.svg: MB/s of `convert` and `check` by kind of document, at the largest size, `cat` and `wc -l` left out, and
 FOLDER/growth.svg: how time and memory of `convert` grow from the first size to the last. Of the second, FOLDER/readers.svg: instructions
-for a byte, or MB/s, of `convert` and of other readers by kind of document.
+for a byte, or MB/s, of `convert` and of other readers by kind of document. Of the third, FOLDER/held.svg: the memory that `convert` held
+beside the bound that is proved of the texts.
 """
 import json
 import os
@@ -76,12 +77,27 @@ def readers(figures, path):
     save(figure, path)
 
 
+def held(figures, path):
+    """The bound and what was held, a line each, by the size of the document."""
+    figure, axes = pyplot.subplots(figsize=(7, 4.5))
+    figures = sorted(figures, key=lambda one: one['document'])
+    sizes = [one['document'] / 2**20 for one in figures]
+    axes.plot(sizes, [one['bound'] / 2**20 for one in figures], marker='o', color=SHADES[1], label='bound of the texts, proved')
+    axes.plot(sizes, [one['kilobytes'] / 1024 for one in figures], marker='o', color=SHADES[0], label='held by the process, code included')
+    axes.set(xscale='log', yscale='log', xlabel='MiB of a document that is held to its end', ylabel='MiB')
+    axes.legend()
+    save(figure, path)
+
+
 def main():
     if len(sys.argv) != 3:
         sys.exit(__doc__)
     with open(sys.argv[1]) as f:
         figures = json.load(f)
     os.makedirs(sys.argv[2], exist_ok=True)
+    if 'held' in figures:
+        held(figures['held'], os.path.join(sys.argv[2], 'held.svg'))
+        return
     if all('columns' not in one for one in figures.values()):
         readers(figures, os.path.join(sys.argv[2], 'readers.svg'))
         return
