@@ -1,16 +1,19 @@
 // Worked references, and a scope that lives through refusals.
 
-ghost use Rattle.std.specs.Prelude.{◌≡◌, ◌*◌, ◌≤◌, IfOk, length};
+ghost use Rattle.std.specs.Prelude.{◌≡◌, ◌≤◌, IfOk};
 ghost use Rattle.rdf_iri.specs.Texts.{byte_len};
 
 use rdf_iri::{
-    BindingFault, BindingReason, IriFault, Limits, Scope, has_scheme, read_bindings, resolve, split,
+    BindingReason, IriFault, Limits, Parts, Scope, has_scheme, read_bindings, resolve, split,
 };
 use rdf_terms::{Iri, TermFault, iri_text};
 use std::alloc::Global;
 
+/// An IRI, or why there is none.
+type Told = Result<&'static str, IriFault>;
+
 /// RFC 3986, section 5.4, but for a reference with the base's scheme, which is kept as it is.
-const REFERENCES: [(&str, &str); 42] = [
+static REFERENCES: [(&str, &str); 42] = [
     ("g:h", "g:h"),
     ("g", "http://a/b/c/g"),
     ("./g", "http://a/b/c/g"),
@@ -57,7 +60,7 @@ const REFERENCES: [(&str, &str); 42] = [
 
 /// What the RFC's examples leave out: bases without a path, an authority or a slash, texts that are not ASCII, and dots
 /// in a reference that is kept.
-const OTHER_BASES: [(&str, &str, &str); 9] = [
+static OTHER_BASES: [(&str, &str, &str); 9] = [
     ("http://a", "g", "http://a/g"),
     ("a:b/c", "d", "a:b/d"),
     ("a:b", "../c", "a:c"),
@@ -101,62 +104,113 @@ fn absolute(alloc: Global, text: &str, limit: u64) -> Result<Iri, IriFault>
     }
 }
 
-#[test]
-fn the_references_of_the_rfc(rt: HostRuntime) -> Result<(), IriFault> {
-    for (reference, wanted) in REFERENCES {
-        let result = against(rt.alloc(), BASE, reference, 100)?;
-        assert_eq!(rt; result.as_str(), wanted, "at {reference}");
+/// Whether these are the IRIs, or the refusals.
+fn is_told(iri: Result<Iri, IriFault>, wanted: Told) -> bool {
+    match (iri, wanted) {
+        (Ok(iri), Ok(text)) => iri.as_str() == text,
+        (Err(fault), Err(reason)) => fault == reason,
+        _ => false,
     }
-    Ok(())
 }
 
 #[test]
-fn references_against_other_bases(rt: HostRuntime) -> Result<(), IriFault> {
-    for (base, reference, wanted) in OTHER_BASES {
-        let result = against(rt.alloc(), base, reference, 100)?;
-        assert_eq!(rt; result.as_str(), wanted, "at {reference} against {base}");
+fn the_references_of_the_rfc(rt: HostRuntime) {
+    for (reference, wanted) in REFERENCES.as_slice() {
+        assert!(rt;
+            is_told(against(rt.alloc(), BASE, reference, 100), Ok(wanted)),
+            "{reference}"
+        );
     }
-    Ok(())
+}
+
+#[test]
+fn references_against_other_bases(rt: HostRuntime) {
+    for (base, reference, wanted) in OTHER_BASES.as_slice() {
+        assert!(rt;
+            is_told(against(rt.alloc(), base, reference, 100), Ok(wanted)),
+            "{reference}"
+        );
+    }
 }
 
 #[test]
 fn a_reference_without_scheme_and_base(rt: HostRuntime) {
-    assert!(rt; matches!(absolute(rt.alloc(), "s", 100), Err(IriFault::NoBase)));
+    assert!(rt; is_told(absolute(rt.alloc(), "s", 100), Err(IriFault::NoBase)));
 }
 
 #[test]
-fn the_limit_counts_the_result_alone(rt: HostRuntime) -> Result<(), IriFault> {
-    let exact = against(rt.alloc(), BASE, "g", 14)?;
-    assert_eq!(rt; exact.as_str(), "http://a/b/c/g");
-    let long = against(rt.alloc(), BASE, "g", 13);
-    assert!(rt; matches!(long, Err(IriFault::IriTooLong)));
-    let shorter = against(rt.alloc(), BASE, "../../../../g", 10)?;
-    assert_eq!(rt; shorter.as_str(), "http://a/g");
-    let kept = against(rt.alloc(), BASE, "g:h", 2);
-    assert!(rt; matches!(kept, Err(IriFault::IriTooLong)));
-    Ok(())
+fn the_limit_counts_the_result_alone(rt: HostRuntime) {
+    for (reference, limit, wanted) in [
+        ("g", 14, Ok("http://a/b/c/g")),
+        ("g", 13, Err(IriFault::IriTooLong)),
+        ("../../../../g", 10, Ok("http://a/g")),
+        ("g:h", 2, Err(IriFault::IriTooLong)),
+    ] {
+        assert!(rt;
+            is_told(against(rt.alloc(), BASE, reference, limit), wanted),
+            "{reference}"
+        );
+    }
+}
+
+/// References and their parts.
+static SPLIT: [(&str, Parts); 3] = [
+    (
+        "a+1://b:c@d/e:f?g?h#i?j",
+        Parts {
+            scheme: Some("a+1"),
+            authority: Some("b:c@d"),
+            path: "/e:f",
+            query: Some("g?h"),
+            fragment: Some("i?j"),
+        },
+    ),
+    (
+        "1a:b",
+        Parts {
+            scheme: None,
+            authority: None,
+            path: "1a:b",
+            query: None,
+            fragment: None,
+        },
+    ),
+    (
+        "//?#",
+        Parts {
+            scheme: None,
+            authority: Some(""),
+            path: "",
+            query: Some(""),
+            fragment: Some(""),
+        },
+    ),
+];
+
+fn has_parts(reference: &str, wanted: &Parts<'_>) -> bool {
+    let parts = split(reference);
+    parts.scheme == wanted.scheme
+        && parts.authority == wanted.authority
+        && parts.path == wanted.path
+        && parts.query == wanted.query
+        && parts.fragment == wanted.fragment
+        && has_scheme(reference) == wanted.scheme.is_some()
 }
 
 #[test]
 fn the_parts_of_a_reference(rt: HostRuntime) {
-    let parts = split("a+1://b:c@d/e:f?g?h#i?j");
-    assert_eq!(rt; parts.scheme, Some("a+1"));
-    assert_eq!(rt; parts.authority, Some("b:c@d"));
-    assert_eq!(rt; parts.path, "/e:f");
-    assert_eq!(rt; parts.query, Some("g?h"));
-    assert_eq!(rt; parts.fragment, Some("i?j"));
-    let none = split("1a:b");
-    assert_eq!(rt; none.scheme, None);
-    assert_eq!(rt; none.authority, None);
-    assert_eq!(rt; none.path, "1a:b");
-    assert_eq!(rt; none.query, None);
-    assert_eq!(rt; none.fragment, None);
-    assert!(rt; has_scheme("a+1://b") && !has_scheme("1a:b"));
-    let empty = split("//?#");
-    assert_eq!(rt; empty.authority, Some(""));
-    assert_eq!(rt; empty.path, "");
-    assert_eq!(rt; empty.query, Some(""));
-    assert_eq!(rt; empty.fragment, Some(""));
+    for (reference, parts) in SPLIT.as_slice() {
+        assert!(rt; has_parts(reference, parts), "{reference}");
+    }
+}
+
+/// A call on a scope.
+#[derive(Clone, Copy)]
+enum Call {
+    SetBase(&'static str),
+    Bind(&'static str, &'static str),
+    Resolve(&'static str),
+    Expand(&'static str, &'static str),
 }
 
 fn set_base(scope: &mut Scope, reference: &str) -> Result<(), IriFault>
@@ -169,11 +223,12 @@ fn set_base(scope: &mut Scope, reference: &str) -> Result<(), IriFault>
     }
 }
 
+/// Binds a prefix of one byte or none.
 fn bind(scope: &mut Scope, prefix: &str, reference: &str) -> Result<(), IriFault>
-    requires { length prefix.now ≤ 4 * scope.old.limits.token }
+    requires { 1 ≤ scope.old.limits.token }
     ensures { scope.new.limits ≡ scope.old.limits }
 {
-    if iri_text(reference) {
+    if iri_text(reference) && prefix.len() <= 1 {
         scope.bind(prefix, reference)
     } else {
         Err(IriFault::Memory)
@@ -196,47 +251,86 @@ fn expand(scope: &Scope, prefix: &str, local: &str) -> Result<Iri, IriFault> {
     }
 }
 
+fn is_done(done: Result<(), IriFault>, wanted: Told) -> bool {
+    match (done, wanted) {
+        (Ok(()), Ok(_)) => true,
+        (Err(fault), Err(reason)) => fault == reason,
+        _ => false,
+    }
+}
+
+/// Whether the scope answers a call so. A call that answers no IRI is done where one is wanted.
+fn answers(scope: &mut Scope, call: Call, wanted: Told) -> bool
+    requires { 1 ≤ scope.old.limits.token }
+    ensures { scope.new.limits ≡ scope.old.limits }
+{
+    match call {
+        Call::SetBase(reference) => is_done(set_base(scope, reference), wanted),
+        Call::Bind(prefix, reference) => is_done(bind(scope, prefix, reference), wanted),
+        Call::Resolve(reference) => is_told(resolve_here(scope, reference), wanted),
+        Call::Expand(prefix, local) => is_told(expand(scope, prefix, local), wanted),
+    }
+}
+
+/// How many of the calls, one after another, the scope answers as is wanted.
+fn answered(scope: &mut Scope, calls: &[(Call, Told)]) -> usize
+    requires { 1 ≤ scope.old.limits.token }
+{
+    for i in 0..calls.len() {
+        let (call, wanted) = calls[i];
+        if !answers(scope, call, wanted) {
+            return i;
+        }
+    }
+    calls.len()
+}
+
+static ONE_BINDING: [(Call, Told); 10] = [
+    (Call::Bind("x", "../x/"), Ok("")),
+    (Call::Expand("x", "b~c"), Ok("http://a/b/x/b~c")),
+    (Call::Expand("z", "b"), Err(IriFault::Unbound)),
+    (Call::SetBase("../../z"), Ok("")),
+    (Call::Expand("x", "b"), Ok("http://a/b/x/b")),
+    (Call::Resolve("y"), Ok("http://a/y")),
+    (Call::Bind("y", "k"), Err(IriFault::TooManyBindings)),
+    (Call::Expand("x", "b"), Ok("http://a/b/x/b")),
+    (Call::Bind("x", "k"), Ok("")),
+    (Call::Expand("x", "b"), Ok("http://a/kb")),
+];
+
 #[test]
 fn a_scope_with_one_binding(rt: HostRuntime) -> Result<(), IriFault> {
-    let base = absolute(rt.alloc(), BASE, 100)?;
-    let Some(limits) = Limits::new(1, 0, 1, 100) else {
-        return Err(IriFault::Memory);
-    };
+    let limits = Limits::new(1, 0, 1, 100).unwrap_or_default();
+    let base = absolute(rt.alloc(), BASE, limits.iri())?;
     let mut scope = Scope::new(rt.alloc(), Some(base), limits);
-    bind(&mut scope, "x", "../x/")?;
-    assert_eq!(rt; expand(&scope, "x", "b~c")?.as_str(), "http://a/b/x/b~c");
-    assert!(rt; matches!(expand(&scope, "z", "b"), Err(IriFault::Unbound)));
-    set_base(&mut scope, "../../z")?;
-    assert_eq!(rt; expand(&scope, "x", "b")?.as_str(), "http://a/b/x/b");
-    assert_eq!(rt; resolve_here(&scope, "y")?.as_str(), "http://a/y");
-    assert!(rt; matches!(bind(&mut scope, "y", "k"), Err(IriFault::TooManyBindings)));
-    assert_eq!(rt; expand(&scope, "x", "b")?.as_str(), "http://a/b/x/b");
-    bind(&mut scope, "x", "k")?;
-    assert_eq!(rt; expand(&scope, "x", "b")?.as_str(), "http://a/kb");
+    assert_eq!(rt; answered(&mut scope, ONE_BINDING.as_slice()), 10);
     Ok(())
 }
+
+/// A refused call changes nothing.
+static REFUSED: [(Call, Told); 9] = [
+    (Call::SetBase("g"), Err(IriFault::NoBase)),
+    (Call::Bind("", "g"), Err(IriFault::NoBase)),
+    (Call::SetBase("a:/b/c"), Ok("")),
+    (Call::Bind("", "g/"), Ok("")),
+    (Call::SetBase("dddddddd"), Err(IriFault::IriTooLong)),
+    (Call::Bind("", "dddddddd"), Err(IriFault::IriTooLong)),
+    (Call::Resolve("h"), Ok("a:/b/h")),
+    (Call::Expand("", "h"), Ok("a:/b/g/h")),
+    (Call::Expand("", "hhhhh"), Err(IriFault::IriTooLong)),
+];
 
 #[test]
-fn a_refused_call_changes_nothing(rt: HostRuntime) -> Result<(), IriFault> {
-    let Some(limits) = Limits::new(1, 0, 2, 10) else {
-        return Err(IriFault::Memory);
-    };
-    let none: Option<Iri> = None;
-    let mut scope = Scope::new(rt.alloc(), none, limits);
-    assert!(rt; matches!(set_base(&mut scope, "g"), Err(IriFault::NoBase)));
-    assert!(rt; matches!(bind(&mut scope, "", "g"), Err(IriFault::NoBase)));
-    set_base(&mut scope, "a:/b/c")?;
-    bind(&mut scope, "", "g/")?;
-    assert!(rt; matches!(set_base(&mut scope, "dddddddd"), Err(IriFault::IriTooLong)));
-    assert!(rt; matches!(bind(&mut scope, "", "dddddddd"), Err(IriFault::IriTooLong)));
-    assert_eq!(rt; resolve_here(&scope, "h")?.as_str(), "a:/b/h");
-    assert_eq!(rt; expand(&scope, "", "h")?.as_str(), "a:/b/g/h");
-    assert!(rt; matches!(expand(&scope, "", "hhhhh"), Err(IriFault::IriTooLong)));
-    Ok(())
+fn a_refused_call_changes_nothing(rt: HostRuntime) {
+    let limits = Limits::new(1, 0, 2, 10).unwrap_or_default();
+    let mut scope = Scope::new(rt.alloc(), None, limits);
+    assert_eq!(rt; answered(&mut scope, REFUSED.as_slice()), 9);
 }
 
-/// The bindings of a file, or why there are none: limits on tokens, bindings and IRIs, and the file.
-const FILES: [(u64, u64, u64, &[u8], Option<(BindingReason, u64)>); 23] = [
+/// Limits on tokens, bindings and IRIs, a file, and why it has no bindings, and at which line, if it has none.
+type File = (u64, u64, u64, &'static [u8], Option<(BindingReason, u64)>);
+
+static FILES: [File; 23] = [
     (9, 9, 99, b"", None),
     (9, 9, 99, b"\n\r\n", None),
     (9, 9, 99, b"x: http://x/\r\n: http://e/", None),
@@ -334,37 +428,41 @@ const FILES: [(u64, u64, u64, &[u8], Option<(BindingReason, u64)>); 23] = [
     ),
 ];
 
-#[test]
-fn files_of_bindings(rt: HostRuntime) {
-    for (token, bindings, iri, file, wanted) in FILES {
-        let Some(limits) = Limits::new(token, 0, bindings, iri) else {
-            assert!(rt; false, "limits");
-            return;
-        };
-        match (read_bindings(rt.alloc(), limits, file), wanted) {
-            (Ok(bindings), None) => assert_eq!(rt; bindings.limits(), limits),
-            (Err(fault), Some((reason, line))) => assert_eq!(rt;
-                fault,
-                BindingFault { reason, line }
-            ),
-            (Ok(_), Some(_)) => assert!(rt; false, "taken"),
-            (Err(_), None) => assert!(rt; false, "refused"),
-        }
+/// Whether the file has bindings under these limits, or none for the reason that is wanted.
+fn is_read(alloc: Global, file: &File) -> bool {
+    let (token, bindings, iri, bytes, wanted) = *file;
+    let Some(limits) = Limits::new(token, 0, bindings, iri) else {
+        return false;
+    };
+    match read_bindings(alloc, limits, bytes) {
+        Ok(bindings) => wanted.is_none() && bindings.limits() == limits,
+        Err(fault) => wanted == Some((fault.reason, fault.line)),
     }
 }
 
 #[test]
-fn a_scope_that_starts_with_bindings(rt: HostRuntime) -> Result<(), IriFault> {
+fn files_of_bindings(rt: HostRuntime) {
+    for i in 0..FILES.len() {
+        assert!(rt; is_read(rt.alloc(), &FILES[i]), "file {i}");
+    }
+}
+
+static STARTED: [(Call, Told); 4] = [
+    (Call::Expand("x", "s"), Ok("http://y/s")),
+    (Call::Expand("", "p"), Ok("http://e/p")),
+    (Call::Bind("x", "http://z/"), Ok("")),
+    (Call::Expand("x", "s"), Ok("http://z/s")),
+];
+
+#[test]
+fn a_scope_that_starts_with_bindings(rt: HostRuntime) {
     let limits = Limits::default();
     let file = b"x: http://x/\r\n: http://e/\r\nx: http://y/";
-    let Ok(bindings) = read_bindings(rt.alloc(), limits, file) else {
-        return Err(IriFault::Memory);
-    };
-    let none: Option<Iri> = None;
-    let mut scope = Scope::starting(rt.alloc(), none, limits, bindings);
-    assert_eq!(rt; expand(&scope, "x", "s")?.as_str(), "http://y/s");
-    assert_eq!(rt; expand(&scope, "", "p")?.as_str(), "http://e/p");
-    bind(&mut scope, "x", "http://z/")?;
-    assert_eq!(rt; expand(&scope, "x", "s")?.as_str(), "http://z/s");
-    Ok(())
+    match read_bindings(rt.alloc(), limits, file) {
+        Ok(bindings) => {
+            let mut scope = Scope::starting(rt.alloc(), None, limits, bindings);
+            assert_eq!(rt; answered(&mut scope, STARTED.as_slice()), 4);
+        }
+        Err(_) => assert!(rt; false, "refused"),
+    }
 }

@@ -9,6 +9,8 @@ mod lines;
 #[cfg(test)]
 mod memory;
 #[cfg(test)]
+mod sinks;
+#[cfg(test)]
 mod terms;
 #[cfg(test)]
 mod tokens;

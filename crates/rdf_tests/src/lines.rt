@@ -1,55 +1,21 @@
 // Documents in pieces of all lengths, a sink that fails, and what is told afterwards.
 
-ghost use Rattle.std.specs.Prelude.{◌≡◌, ◌≤◌, ◌++◌, false, encode_utf8_all, length};
-ghost use Rattle.rdf_lines.specs.declared.form.Escapes.TheVariants.{Plain};
-ghost use Rattle.rdf_lines.specs.declared.form.Style.TheVariants.{Kept};
-ghost use Rattle.rdf_lines.specs.Writing.{line};
+ghost use Rattle.std.specs.Prelude.{◌≡◌, ◌≤◌, true, false, length};
 
+use crate::sinks::{RecordingSink, recording_sink};
 use rdf_iri::Limits;
-use rdf_lines::{Escapes, Fault, LineForm, LineReader, Style, Summary, write_line};
-use rdf_terms::{PutFault, QuadRef, QuadSink, Reason};
+use rdf_lines::{Fault, LineForm, LineReader, Summary};
+use rdf_terms::Reason;
 use std::alloc::Global;
 
-/// Keeps the lines of the quads that are put, and fails once a number of puts has been made.
-#[derive(Drop)]
-struct RecordingSink {
-    lines: Vec<u8>,
-    puts: u64,
-    failed: bool,
-}
-
-impl QuadSink for RecordingSink {
-    ghost takes = { λ before quad after. after.lines.items ≡ before.lines.items ++ encode_utf8_all (line Kept Plain quad) };
-
-    ghost leaves = { λ before quad after. after.lines.items ≡ before.lines.items };
-
-    ghost has_failed = { λ sink. sink.failed };
-
-    fn put(&mut self, quad: QuadRef<'_>) -> Result<(), PutFault> {
-        if self.puts == 0 {
-            self.failed = true;
-            return Err(PutFault::Device);
-        }
-        self.puts -= 1;
-        match write_line(quad, Style::Kept, Escapes::Plain, &mut self.lines) {
-            Ok(()) => Ok(()),
-            Err(_) => Err(PutFault::Memory),
-        }
-    }
-
-    fn failed(&self) -> bool {
-        self.failed
-    }
-}
-
-fn recording_sink(alloc: Global, puts: u64) -> RecordingSink
-    ensures { result.failed ≡ false }
-{
-    RecordingSink {
-        lines: Vec::new(alloc),
-        puts,
-        failed: false,
-    }
+/// A document, the lines of its quads, and the numbers of its quads, tokens and bytes, or why it is refused, at which
+/// byte and line.
+#[derive(Clone, Copy)]
+struct Row {
+    form: LineForm,
+    bytes: &'static [u8],
+    lines: &'static str,
+    told: Result<(u64, u64, u64), (Reason, u64, u64)>,
 }
 
 /// A reader of tokens of 18 characters and IRIs of 14 bytes.
@@ -87,140 +53,199 @@ fn read_bytes(
     reader.finish(sink)
 }
 
-fn refused(reason: Reason, offset: u64, line: u64) -> Result<Summary, Fault> {
-    Err(Fault {
-        reason,
-        offset,
-        line,
-    })
+/// Whether this was to be told of a document, and these lines to be put.
+fn is_told(row: &Row, told: Result<Summary, Fault>, sink: &RecordingSink) -> bool {
+    let is_told = match told {
+        Ok(summary) => row.told == Ok((summary.quads, summary.tokens, summary.bytes)),
+        Err(fault) => row.told == Err((fault.reason, fault.offset, fault.line)),
+    };
+    is_told && sink.lines.as_slice() == row.lines.as_bytes()
 }
 
-fn accepted(quads: u64, tokens: u64, bytes: u64) -> Result<Summary, Fault> {
-    Ok(Summary {
-        quads,
-        tokens,
-        bytes,
-    })
+fn is_read_in_two(alloc: Global, row: &Row, cut: usize) -> bool
+    requires { cut ≤ length row.now.bytes.now }
+{
+    let mut reader = line_reader(alloc, row.form);
+    let mut sink = recording_sink(alloc, 64);
+    let told = read_in_two(&mut reader, row.bytes, cut, &mut sink);
+    is_told(row, told, &sink)
 }
 
-/// Whether a document puts these lines and tells this, whole, in two pieces at each byte, and byte by byte.
-fn reads_to(
-    alloc: Global,
-    form: LineForm,
-    text: &[u8],
-    lines: &str,
-    told: Result<Summary, Fault>,
-) -> bool {
-    for cut in 0..=text.len() {
-        let mut reader = line_reader(alloc, form);
-        let mut sink = recording_sink(alloc, 64);
-        let answer = read_in_two(&mut reader, text, cut, &mut sink);
-        if answer != told || sink.lines.as_slice() != lines.as_bytes() {
+fn is_read_by_bytes(alloc: Global, row: &Row) -> bool {
+    let mut reader = line_reader(alloc, row.form);
+    let mut sink = recording_sink(alloc, 64);
+    let told = read_bytes(&mut reader, row.bytes, &mut sink);
+    is_told(row, told, &sink)
+}
+
+/// Whether a document puts its lines and tells what it is to, whole, in two pieces at each byte, and byte by byte.
+fn is_read(alloc: Global, row: &Row) -> bool {
+    for cut in 0..=row.bytes.len() {
+        if !is_read_in_two(alloc, row, cut) {
             return false;
         }
     }
-    let mut reader = line_reader(alloc, form);
-    let mut sink = recording_sink(alloc, 64);
-    let answer = read_bytes(&mut reader, text, &mut sink);
-    answer == told && sink.lines.as_slice() == lines.as_bytes()
-}
-
-/// Whether each call tells that reading has ended, and puts nothing.
-fn has_ended(alloc: Global, reader: &mut LineReader) -> bool {
-    let mut sink = recording_sink(alloc, 64);
-    let fed = reader.feed(b"<a:s> <a:p> <a:o> .", &mut sink);
-    let fed_ends = matches!(fed, Err(fault) if fault.reason == Reason::Ended);
-    let mut other = recording_sink(alloc, 64);
-    let finished = reader.finish(&mut other);
-    let finish_ends = matches!(finished, Err(fault) if fault.reason == Reason::Ended);
-    fed_ends && finish_ends && sink.lines.is_empty() && other.lines.is_empty()
+    is_read_by_bytes(alloc, row)
 }
 
 const LINE: &str = "<a:s> <a:p> <a:o> .\n";
 
+static ROWS: [Row; 15] = [
+    Row {
+        form: LineForm::NQuads,
+        bytes: b"",
+        lines: "",
+        told: Ok((0, 0, 0)),
+    },
+    Row {
+        form: LineForm::NQuads,
+        bytes: b"\xEF\xBB\xBF_:x.y <a:p> \"\\u0041\"@en <a:g>. # c\r\n\n<a:s> <a:p> \"\"^^<a:t> .",
+        lines: "_:nx.y <a:p> \"A\"@en <a:g> .\n<a:s> <a:p> \"\"^^<a:t> .\n",
+        told: Ok((2, 15, 63)),
+    },
+    Row {
+        form: LineForm::NQuads,
+        bytes: b"<a:s> <a:p> <a:o>.\n<a:s> <a:p> <a:o>.",
+        lines: "<a:s> <a:p> <a:o> .\n<a:s> <a:p> <a:o> .\n",
+        told: Ok((2, 9, 37)),
+    },
+    Row {
+        form: LineForm::NQuads,
+        bytes: b"<a:s> <a:p> <a:o> . <a:s> <a:p> <a:o> .",
+        lines: LINE,
+        told: Err((Reason::Unexpected, 20, 1)),
+    },
+    Row {
+        form: LineForm::NQuads,
+        bytes: b"<a:s> <a:p> <a:o> .\n<s> <a:p> <a:o> .",
+        lines: LINE,
+        told: Err((Reason::RelativeIri, 20, 2)),
+    },
+    Row {
+        form: LineForm::NQuads,
+        bytes: b"\n<a:s> <a:p>\n",
+        lines: "",
+        told: Err((Reason::Unexpected, 12, 2)),
+    },
+    Row {
+        form: LineForm::NQuads,
+        bytes: b"\xEF\xBB\xBF<a:s> <a:p> <a:o>",
+        lines: "",
+        told: Err((Reason::Unexpected, 20, 1)),
+    },
+    Row {
+        form: LineForm::NQuads,
+        bytes: b"<a:s> <a:p> \"\"\"\" .",
+        lines: "",
+        told: Err((Reason::Unexpected, 14, 1)),
+    },
+    Row {
+        form: LineForm::NQuads,
+        bytes: b"<a:s> <a:p> \"\\uD800\" .",
+        lines: "",
+        told: Err((Reason::BadEscape, 12, 1)),
+    },
+    Row {
+        form: LineForm::NQuads,
+        bytes: b"<a:s> <a:p> 1 .",
+        lines: "",
+        told: Err((Reason::NoToken, 12, 1)),
+    },
+    Row {
+        form: LineForm::NQuads,
+        bytes: b"<a:s> <a:0123456789abcdef> .",
+        lines: "",
+        told: Err((Reason::TokenTooLong, 6, 1)),
+    },
+    Row {
+        form: LineForm::NQuads,
+        bytes: b"<a:s> <a:\\u004123456789> <a:0123456789ab> .\n<a:0123456789a\xC3\xA9> <a:p> <a:o> .",
+        lines: "<a:s> <a:A23456789> <a:0123456789ab> .\n",
+        told: Err((Reason::IriTooLong, 44, 2)),
+    },
+    Row {
+        form: LineForm::NQuads,
+        bytes: b"<0123456789abcde> <a:p> <a:o> .",
+        lines: "",
+        told: Err((Reason::RelativeIri, 0, 1)),
+    },
+    Row {
+        form: LineForm::NTriples,
+        bytes: b"<a:s> <a:p> <a:o> <a:g> .",
+        lines: "",
+        told: Err((Reason::Unexpected, 18, 1)),
+    },
+    Row {
+        form: LineForm::NTriples,
+        bytes: b"<a:s> <a:p> <a:o> .\n\xFF",
+        lines: LINE,
+        told: Err((Reason::BadUtf8, 20, 2)),
+    },
+];
+
 #[test]
 fn a_document_is_read_the_same_however_it_is_cut(rt: HostRuntime) {
-    let rows = [
-        ("", "", accepted(0, 0, 0)),
-        (
-            "\u{FEFF}_:x.y <a:p> \"\\u0041\"@en <a:g>. # c\r\n\n<a:s> <a:p> \"\"^^<a:t> .",
-            "_:x.y <a:p> \"A\"@en <a:g> .\n<a:s> <a:p> \"\"^^<a:t> .\n",
-            accepted(2, 15, 63),
-        ),
-        (
-            "<a:s> <a:p> <a:o>.\n<a:s> <a:p> <a:o>.",
-            "<a:s> <a:p> <a:o> .\n<a:s> <a:p> <a:o> .\n",
-            accepted(2, 9, 37),
-        ),
-        (
-            "<a:s> <a:p> <a:o> . <a:s> <a:p> <a:o> .",
-            LINE,
-            refused(Reason::Unexpected, 20, 1),
-        ),
-        (
-            "<a:s> <a:p> <a:o> .\n<s> <a:p> <a:o> .",
-            LINE,
-            refused(Reason::RelativeIri, 20, 2),
-        ),
-        ("\n<a:s> <a:p>\n", "", refused(Reason::Unexpected, 12, 2)),
-        (
-            "\u{FEFF}<a:s> <a:p> <a:o>",
-            "",
-            refused(Reason::Unexpected, 20, 1),
-        ),
-        (
-            "<a:s> <a:p> \"\"\"\" .",
-            "",
-            refused(Reason::Unexpected, 14, 1),
-        ),
-        (
-            "<a:s> <a:p> \"\\uD800\" .",
-            "",
-            refused(Reason::BadEscape, 12, 1),
-        ),
-        ("<a:s> <a:p> 1 .", "", refused(Reason::NoToken, 12, 1)),
-        (
-            "<a:s> <a:0123456789abcdef> .",
-            "",
-            refused(Reason::TokenTooLong, 6, 1),
-        ),
-        (
-            "<a:s> <a:\\u004123456789> <a:0123456789ab> .\n<a:0123456789a\u{E9}> <a:p> <a:o> .",
-            "<a:s> <a:A23456789> <a:0123456789ab> .\n",
-            refused(Reason::IriTooLong, 44, 2),
-        ),
-        (
-            "<0123456789abcde> <a:p> <a:o> .",
-            "",
-            refused(Reason::RelativeIri, 0, 1),
-        ),
-    ];
-    for (text, lines, told) in rows {
-        assert!(rt;
-            reads_to(rt.alloc(), LineForm::NQuads, text.as_bytes(), lines, told),
-            "{text}"
-        );
+    for i in 0..ROWS.len() {
+        assert!(rt; is_read(rt.alloc(), &ROWS[i]), "document {i}");
     }
-    let label = b"<a:s> <a:p> <a:o> <a:g> .".as_slice();
-    let told = refused(Reason::Unexpected, 18, 1);
-    assert!(rt; reads_to(rt.alloc(), LineForm::NTriples, label, "", told));
-    let bad = b"<a:s> <a:p> <a:o> .\n\xFF".as_slice();
-    let told = refused(Reason::BadUtf8, 20, 2);
-    assert!(rt; reads_to(rt.alloc(), LineForm::NTriples, bad, LINE, told));
+}
+
+/// Whether a piece is taken, and these are the lines that are put by then.
+fn is_fed(reader: &mut LineReader, piece: &str, sink: &mut RecordingSink, lines: &str) -> bool
+    requires { sink.old.failed ≡ false }
+    ensures { result ≡ true → sink.new.failed ≡ false }
+{
+    match reader.feed(piece.as_bytes(), sink) {
+        Ok(()) => sink.lines.as_slice() == lines.as_bytes(),
+        Err(_) => false,
+    }
+}
+
+fn comes_at_its_dot(alloc: Global) -> bool {
+    let mut reader = line_reader(alloc, LineForm::NTriples);
+    let mut sink = recording_sink(alloc, 64);
+    let line = "<a:s> <a:p> \"x\"^^<a:t> .\n";
+    is_fed(&mut reader, "<a:s> <a:p> \"x\" ", &mut sink, "")
+        && is_fed(&mut reader, "^^<a:t> ", &mut sink, "")
+        && is_fed(&mut reader, ".", &mut sink, line)
 }
 
 #[test]
 fn a_quad_comes_at_its_dot(rt: HostRuntime) {
-    let mut reader = line_reader(rt.alloc(), LineForm::NTriples);
-    let mut sink = recording_sink(rt.alloc(), 64);
-    for (piece, lines) in [
-        ("<a:s> <a:p> \"x\" ", ""),
-        ("^^<a:t> ", ""),
-        (".", "<a:s> <a:p> \"x\"^^<a:t> .\n"),
-    ] {
-        assert!(rt; !sink.failed());
-        assert!(rt; reader.feed(piece.as_bytes(), &mut sink).is_ok());
-        assert_eq!(rt; sink.lines.as_slice(), lines.as_bytes(), "{piece}");
+    assert!(rt; comes_at_its_dot(rt.alloc()));
+}
+
+fn feed_has_ended(alloc: Global, reader: &mut LineReader) -> bool {
+    let mut sink = recording_sink(alloc, 64);
+    match reader.feed(b"<a:s> <a:p> <a:o> .", &mut sink) {
+        Ok(()) => false,
+        Err(fault) => fault.reason == Reason::Ended && sink.lines.is_empty(),
+    }
+}
+
+fn finish_has_ended(alloc: Global, reader: &mut LineReader) -> bool {
+    let mut sink = recording_sink(alloc, 64);
+    match reader.finish(&mut sink) {
+        Ok(_) => false,
+        Err(fault) => fault.reason == Reason::Ended && sink.lines.is_empty(),
+    }
+}
+
+/// Whether each call tells that reading has ended, and puts nothing.
+fn has_ended(alloc: Global, reader: &mut LineReader) -> bool {
+    feed_has_ended(alloc, reader) && finish_has_ended(alloc, reader)
+}
+
+/// Whether a sink that has room for so many quads has these lines, is the reason, and reading has ended after it.
+fn ends_at_its_sink(alloc: Global, room: u64, lines: &str) -> bool {
+    let mut reader = line_reader(alloc, LineForm::NTriples);
+    let mut sink = recording_sink(alloc, room);
+    let text = b"<a:s> <a:p> <a:o> .\n<a:s> <a:p> <a:o> .";
+    match read_bytes(&mut reader, text, &mut sink) {
+        Err(fault) if fault.reason == Reason::Sink => {
+            sink.lines.as_slice() == lines.as_bytes() && has_ended(alloc, &mut reader)
+        }
+        _ => false,
     }
 }
 
@@ -250,23 +275,21 @@ fn the_texts_of_an_open_statement_are_held(rt: HostRuntime) {
 
 #[test]
 fn after_a_failed_put_reading_has_ended(rt: HostRuntime) {
-    for (puts, lines) in [(0, ""), (1, LINE)] {
-        let mut reader = line_reader(rt.alloc(), LineForm::NTriples);
-        let mut sink = recording_sink(rt.alloc(), puts);
-        let text = b"<a:s> <a:p> <a:o> .\n<a:s> <a:p> <a:o> .".as_slice();
-        let told = read_bytes(&mut reader, text, &mut sink);
-        assert!(rt; matches!(told, Err(fault) if fault.reason == Reason::Sink));
-        assert_eq!(rt; sink.lines.as_slice(), lines.as_bytes());
-        assert!(rt; has_ended(rt.alloc(), &mut reader));
+    for (room, lines) in [(0, ""), (1, LINE)] {
+        assert!(rt; ends_at_its_sink(rt.alloc(), room, lines), "{lines}");
     }
+}
+
+fn has_ended_after(alloc: Global, text: &str) -> bool {
+    let mut reader = line_reader(alloc, LineForm::NTriples);
+    let mut sink = recording_sink(alloc, 64);
+    let _ = read_bytes(&mut reader, text.as_bytes(), &mut sink);
+    has_ended(alloc, &mut reader)
 }
 
 #[test]
 fn after_a_refusal_and_after_the_end_reading_has_ended(rt: HostRuntime) {
     for text in ["<a:s> . ", "<a:s> <a:p> <a:o> ."] {
-        let mut reader = line_reader(rt.alloc(), LineForm::NTriples);
-        let mut sink = recording_sink(rt.alloc(), 64);
-        let _ = read_in_two(&mut reader, text.as_bytes(), 0, &mut sink);
-        assert!(rt; has_ended(rt.alloc(), &mut reader));
+        assert!(rt; has_ended_after(rt.alloc(), text), "{text}");
     }
 }

@@ -1,271 +1,423 @@
 // Outside values: the examples of the Recommendations, and characters at the ends of their classes.
 
+use crate::sinks::{has_line, has_lines};
 use rdf_terms::*;
+use std::alloc::Global;
+use std::test::Fail;
+
+/// The classes of characters.
+#[derive(Clone, Copy, PartialEq, Eq, Debug)]
+enum Class {
+    Base,
+    OfTurtle,
+    OfLines,
+    WithinTurtle,
+    WithinLines,
+    OfIri,
+    Escaped,
+}
+
+fn is_in(class: Class, c: char) -> bool {
+    match class {
+        Class::Base => is_pn_base(c),
+        Class::OfTurtle => is_pn_u(c, Dialect::Turtle),
+        Class::OfLines => is_pn_u(c, Dialect::Lines),
+        Class::WithinTurtle => is_pn_char(c, Dialect::Turtle),
+        Class::WithinLines => is_pn_char(c, Dialect::Lines),
+        Class::OfIri => is_iri_char(c),
+        Class::Escaped => is_local_escape(c),
+    }
+}
+
+static CLASSED: [(Class, char, bool); 16] = [
+    (Class::Base, 'é', true),
+    (Class::Base, '\u{FEFF}', true),
+    (Class::Base, '×', false),
+    (Class::Base, '_', false),
+    (Class::OfTurtle, '_', true),
+    (Class::OfTurtle, ':', false),
+    (Class::OfLines, ':', true),
+    (Class::WithinTurtle, '-', true),
+    (Class::WithinLines, '\u{2040}', true),
+    (Class::WithinLines, '.', false),
+    (Class::OfIri, 'é', true),
+    (Class::OfIri, '%', true),
+    (Class::OfIri, ' ', false),
+    (Class::OfIri, '\\', false),
+    (Class::Escaped, '~', true),
+    (Class::Escaped, ':', false),
+];
 
 #[test]
 fn a_character_is_in_its_classes(rt: HostRuntime) {
-    assert!(rt; is_pn_base('é') && is_pn_base('\u{FEFF}') && !is_pn_base('×') && !is_pn_base('_'));
-    assert!(rt;
-        is_pn_u('_', Dialect::Turtle)
-            && !is_pn_u(':', Dialect::Turtle)
-            && is_pn_u(':', Dialect::Lines)
-    );
-    assert!(rt;
-        is_pn_char('-', Dialect::Turtle)
-            && is_pn_char('\u{2040}', Dialect::Lines)
-            && !is_pn_char('.', Dialect::Lines)
-    );
-    assert!(rt; is_iri_char('é') && is_iri_char('%') && !is_iri_char(' ') && !is_iri_char('\\'));
-    assert!(rt; is_local_escape('~') && !is_local_escape(':'));
-    assert!(rt;
-        hex_value('F') == Some(15)
-            && hex_value('f') == Some(15)
-            && hex_value('7') == Some(7)
-            && hex_value('g').is_none()
-    );
+    for (class, c, wanted) in CLASSED.as_slice() {
+        assert!(rt; is_in(*class, *c) == *wanted, "{class:?} of {c}");
+    }
 }
+
+#[test]
+fn a_digit_has_its_value(rt: HostRuntime) {
+    for (digit, wanted) in [
+        ('F', Some(15)),
+        ('f', Some(15)),
+        ('7', Some(7)),
+        ('g', None),
+    ] {
+        assert!(rt; hex_value(digit) == wanted, "{digit}");
+    }
+}
+
+static SCHEMES: [(&str, bool); 11] = [
+    ("http://a/b", true),
+    ("a:", true),
+    ("urn:x", true),
+    ("a+.-1:/", true),
+    ("", false),
+    ("a", false),
+    (":a", false),
+    ("1a:b", false),
+    ("//a/b:c", false),
+    ("a/b:c", false),
+    ("é:a", false),
+];
 
 #[test]
 fn a_scheme_begins_with_a_letter_and_ends_at_its_colon(rt: HostRuntime) {
-    for text in ["http://a/b", "a:", "urn:x", "a+.-1:/"] {
-        assert!(rt; has_scheme(text), "{text}");
+    for (text, wanted) in SCHEMES.as_slice() {
+        assert!(rt; has_scheme(text) == *wanted, "{text}");
     }
-    for text in ["", "a", ":a", "1a:b", "//a/b:c", "a/b:c", "é:a"] {
-        assert!(rt; !has_scheme(text), "{text}");
-    }
-    assert!(rt; iri_text("http://a/é?q#f") && !iri_text("http://a/ b") && !iri_text("a\\u0020"));
 }
+
+#[test]
+fn an_iri_has_no_blank_and_no_backslash(rt: HostRuntime) {
+    for (text, wanted) in [
+        ("http://a/é?q#f", true),
+        ("http://a/ b", false),
+        ("a\\u0020", false),
+    ] {
+        assert!(rt; iri_text(text) == wanted, "{text}");
+    }
+}
+
+fn copies_iri(alloc: Global, iri: IriView<'_>, text: &str) -> bool {
+    match iri.try_copy(alloc) {
+        Ok(copy) => copy.as_str() == text,
+        Err(_) => false,
+    }
+}
+
+/// Whether the text is an IRI, which has it and of which a copy has it, or is refused, as is wanted.
+fn is_iri(alloc: Global, text: &str, wanted: bool) -> bool {
+    match Iri::new(alloc, text) {
+        Ok(iri) => wanted && iri.as_str() == text && copies_iri(alloc, iri.view(), text),
+        Err(fault) => !wanted && fault == TermFault::BadTerm,
+    }
+}
+
+static IRIS: [(&str, bool); 5] = [
+    ("http://a/é", true),
+    ("", false),
+    ("s", false),
+    ("http://a/ b", false),
+    ("http://a/>", false),
+];
 
 #[test]
 fn an_iri_is_absolute(rt: HostRuntime) {
-    let iri = Iri::new(rt.alloc(), "http://a/é").expect(&rt, "memory");
-    assert_eq!(rt; iri.as_str(), "http://a/é");
-    let copy = iri.view().try_copy(rt.alloc()).expect(&rt, "memory");
-    assert_eq!(rt; copy.as_str(), "http://a/é");
-    for text in ["", "s", "http://a/ b", "http://a/>"] {
-        assert!(rt;
-            matches!(Iri::new(rt.alloc(), text), Err(TermFault::BadTerm)),
-            "{text}"
-        );
+    for (text, wanted) in IRIS.as_slice() {
+        assert!(rt; is_iri(rt.alloc(), text, *wanted), "{text}");
     }
 }
+
+static PREFIXES: [(&str, bool); 16] = [
+    (":", true),
+    ("x:", true),
+    ("é:", true),
+    ("a.b:", true),
+    ("a-:", true),
+    ("a\u{B7}1:", true),
+    ("", false),
+    ("x", false),
+    ("x.:", false),
+    (".x:", false),
+    ("x:y", false),
+    ("x::", false),
+    ("1x:", false),
+    ("_x:", false),
+    ("-x:", false),
+    ("x :", false),
+];
 
 #[test]
 fn a_prefix_has_its_colon_and_ends_in_no_dot(rt: HostRuntime) {
-    for text in [":", "x:", "é:", "a.b:", "a-:", "a\u{B7}1:"] {
-        assert!(rt; is_pname_ns(text), "{text}");
-    }
-    for text in [
-        "", "x", "x.:", ".x:", "x:y", "x::", "1x:", "_x:", "-x:", "x :",
-    ] {
-        assert!(rt; !is_pname_ns(text), "{text}");
+    for (text, wanted) in PREFIXES.as_slice() {
+        assert!(rt; is_pname_ns(text) == *wanted, "{text}");
     }
 }
+
+fn copies_label(alloc: Global, label: LabelView<'_>, text: &str) -> bool {
+    match label.try_copy(alloc) {
+        Ok(copy) => copy.view().as_str() == text,
+        Err(_) => false,
+    }
+}
+
+/// Whether the text is a label, which has it and of which a copy has it, or is refused, as is wanted.
+fn is_label(alloc: Global, text: &str, wanted: bool) -> bool {
+    match Label::new(alloc, text) {
+        Ok(label) => wanted && label.as_str() == text && copies_label(alloc, label.view(), text),
+        Err(fault) => !wanted && fault == TermFault::BadTerm,
+    }
+}
+
+static LABELS: [(&str, bool); 15] = [
+    ("a", true),
+    ("a:b", true),
+    ("19", true),
+    ("a.b", true),
+    ("a..b", true),
+    ("_-", true),
+    (":", true),
+    ("é\u{B7}", true),
+    ("", false),
+    (".", false),
+    ("a.", false),
+    ("a.b..", false),
+    ("-a", false),
+    ("a b", false),
+    ("a/", false),
+];
 
 #[test]
 fn a_label_ends_in_no_dot(rt: HostRuntime) {
-    for text in ["a", "a:b", "19", "a.b", "a..b", "_-", ":", "é\u{B7}"] {
-        let label = Label::new(rt.alloc(), text).expect(&rt, "a label");
-        assert_eq!(rt; label.as_str(), text);
-        let copy = label.view().try_copy(rt.alloc()).expect(&rt, "memory");
-        assert_eq!(rt; copy.view().as_str(), text);
-    }
-    for text in ["", ".", "a.", "a.b..", "-a", "a b", "a/"] {
-        assert!(rt;
-            matches!(Label::new(rt.alloc(), text), Err(TermFault::BadTerm)),
-            "{text}"
-        );
+    for (text, wanted) in LABELS.as_slice() {
+        assert!(rt; is_label(rt.alloc(), text, *wanted), "{text}");
     }
 }
+
+fn copies_tag(alloc: Global, tag: TagView<'_>, text: &str) -> bool {
+    match tag.try_copy(alloc) {
+        Ok(copy) => copy.view().as_str() == text,
+        Err(_) => false,
+    }
+}
+
+/// Whether the text is a language tag, which has it and of which a copy has it, or is refused, as is wanted.
+fn is_tag(alloc: Global, text: &str, wanted: bool) -> bool {
+    match Tag::new(alloc, text) {
+        Ok(tag) => wanted && tag.as_str() == text && copies_tag(alloc, tag.view(), text),
+        Err(fault) => !wanted && fault == TermFault::BadTerm,
+    }
+}
+
+static TAGS: [(&str, bool); 11] = [
+    ("en", true),
+    ("en-GB", true),
+    ("de-CH-1996", true),
+    ("x-1-a", true),
+    ("", false),
+    ("-", false),
+    ("en-", false),
+    ("en--GB", false),
+    ("1", false),
+    ("e1", false),
+    ("en-é", false),
+];
 
 #[test]
 fn a_tag_has_parts(rt: HostRuntime) {
-    for text in ["en", "en-GB", "de-CH-1996", "x-1-a"] {
-        let tag = Tag::new(rt.alloc(), text).expect(&rt, "a tag");
-        assert_eq!(rt; tag.as_str(), text);
-        let copy = tag.view().try_copy(rt.alloc()).expect(&rt, "memory");
-        assert_eq!(rt; copy.view().as_str(), text);
-    }
-    for text in ["", "-", "en-", "en--GB", "1", "e1", "en-é"] {
-        assert!(rt;
-            matches!(Tag::new(rt.alloc(), text), Err(TermFault::BadTerm)),
-            "{text}"
-        );
+    for (text, wanted) in TAGS.as_slice() {
+        assert!(rt; is_tag(rt.alloc(), text, *wanted), "{text}");
     }
 }
+
+/// Whether the answer is the wanted text, or that an escape is bad where none is wanted.
+fn is_value(answer: Result<String, ValueFault>, wanted: Option<&str>) -> bool {
+    match answer {
+        Ok(value) => wanted == Some(value.as_str()),
+        Err(fault) => wanted.is_none() && fault == ValueFault::BadEscape,
+    }
+}
+
+static STRINGS: [(&str, Option<&str>); 11] = [
+    ("", Some("")),
+    ("é", Some("é")),
+    ("a\\tb\\u00E9", Some("a\tbé")),
+    ("\\b\\n\\r\\f\\\"\\'\\\\", Some("\u{8}\n\r\u{C}\"'\\")),
+    ("\\U0010ffff", Some("\u{10FFFF}")),
+    ("\\", None),
+    ("\\a", None),
+    ("\\u00E", None),
+    ("\\u00Eg", None),
+    ("\\uD800", None),
+    ("\\U00110000", None),
+];
 
 #[test]
 fn an_escape_stands_for_its_character(rt: HostRuntime) {
-    for (inside, meant) in [
-        ("", ""),
-        ("é", "é"),
-        ("a\\tb\\u00E9", "a\tbé"),
-        ("\\b\\n\\r\\f\\\"\\'\\\\", "\u{8}\n\r\u{C}\"'\\"),
-        ("\\U0010ffff", "\u{10FFFF}"),
-    ] {
-        let value = string_value(rt.alloc(), inside).expect(&rt, "a value");
-        assert_eq!(rt; value.as_str(), meant);
-    }
-    for inside in ["\\", "\\a", "\\u00E", "\\u00Eg", "\\uD800", "\\U00110000"] {
+    for (inside, meant) in STRINGS.as_slice() {
         assert!(rt;
-            matches!(string_value(rt.alloc(), inside), Err(ValueFault::BadEscape)),
+            is_value(string_value(rt.alloc(), inside), *meant),
             "{inside}"
         );
     }
 }
+
+static ESCAPED_IRIS: [(&str, Option<&str>); 7] = [
+    ("http://a/é", Some("http://a/é")),
+    ("\\u0068ttp://a/\\U000000e9", Some("http://a/é")),
+    ("http://a/\\u003E", None),
+    ("http://a/>", None),
+    ("http://a/\\u0020", None),
+    ("a\\tb", None),
+    ("\\uDFFF", None),
+];
 
 #[test]
 fn an_escape_of_an_iri_stands_for_one_of_its_characters(rt: HostRuntime) {
-    for (inside, meant) in [
-        ("http://a/é", "http://a/é"),
-        ("\\u0068ttp://a/\\U000000e9", "http://a/é"),
-    ] {
-        let value = iri_value(rt.alloc(), inside).expect(&rt, "a value");
-        assert_eq!(rt; value.as_str(), meant);
-    }
-    for inside in [
-        "http://a/\\u003E",
-        "http://a/>",
-        "http://a/\\u0020",
-        "a\\tb",
-        "\\uDFFF",
-    ] {
-        assert!(rt;
-            matches!(iri_value(rt.alloc(), inside), Err(ValueFault::BadEscape)),
-            "{inside}"
-        );
+    for (inside, meant) in ESCAPED_IRIS.as_slice() {
+        assert!(rt; is_value(iri_value(rt.alloc(), inside), *meant), "{inside}");
     }
 }
+
+static FIT: [(Kind, &str, bool); 7] = [
+    (Kind::IriRef, "<http://a/\\u00E9>", true),
+    (Kind::IriRef, "<http://a/\\u003E>", false),
+    (Kind::ShortString, "'\\t'", true),
+    (Kind::ShortString, "\"\\uD800\"", false),
+    (Kind::LongString, "\"\"\"a\"b\n\\u00E9\\t\"\"\"", true),
+    (Kind::LongString, "'''\\U00110000'''", false),
+    (Kind::PnameLn, "x:b\\~c", true),
+];
 
 #[test]
 fn a_token_is_fit_if_its_escapes_are(rt: HostRuntime) {
-    assert!(rt;
-        is_fit(Kind::IriRef, "<http://a/\\u00E9>") && !is_fit(Kind::IriRef, "<http://a/\\u003E>")
-    );
-    assert!(rt; is_fit(Kind::ShortString, "'\\t'") && !is_fit(Kind::ShortString, "\"\\uD800\""));
-    assert!(rt;
-        is_fit(Kind::LongString, "\"\"\"a\"b\n\\u00E9\\t\"\"\"")
-            && !is_fit(Kind::LongString, "'''\\U00110000'''")
-    );
-    assert!(rt; is_fit(Kind::PnameLn, "x:b\\~c"));
-}
-
-#[test]
-fn the_known_iris_are_those_of_the_standards(rt: HostRuntime) {
-    for (iri, text) in [
-        (
-            Known::RdfType,
-            "http://www.w3.org/1999/02/22-rdf-syntax-ns#type",
-        ),
-        (
-            Known::RdfFirst,
-            "http://www.w3.org/1999/02/22-rdf-syntax-ns#first",
-        ),
-        (
-            Known::RdfRest,
-            "http://www.w3.org/1999/02/22-rdf-syntax-ns#rest",
-        ),
-        (
-            Known::RdfNil,
-            "http://www.w3.org/1999/02/22-rdf-syntax-ns#nil",
-        ),
-        (Known::XsdString, "http://www.w3.org/2001/XMLSchema#string"),
-        (
-            Known::XsdInteger,
-            "http://www.w3.org/2001/XMLSchema#integer",
-        ),
-        (
-            Known::XsdDecimal,
-            "http://www.w3.org/2001/XMLSchema#decimal",
-        ),
-        (Known::XsdDouble, "http://www.w3.org/2001/XMLSchema#double"),
-        (
-            Known::XsdBoolean,
-            "http://www.w3.org/2001/XMLSchema#boolean",
-        ),
-    ] {
-        assert_eq!(rt; known(iri).as_str(), text);
+    for (kind, text, wanted) in FIT.as_slice() {
+        assert!(rt; is_fit(*kind, text) == *wanted, "{text}");
     }
 }
 
-fn tagged<'a>(label: &'a Label, tag: &'a Tag) -> QuadRef<'a> {
+static KNOWN: [(Known, &str); 9] = [
+    (
+        Known::RdfType,
+        "http://www.w3.org/1999/02/22-rdf-syntax-ns#type",
+    ),
+    (
+        Known::RdfFirst,
+        "http://www.w3.org/1999/02/22-rdf-syntax-ns#first",
+    ),
+    (
+        Known::RdfRest,
+        "http://www.w3.org/1999/02/22-rdf-syntax-ns#rest",
+    ),
+    (
+        Known::RdfNil,
+        "http://www.w3.org/1999/02/22-rdf-syntax-ns#nil",
+    ),
+    (Known::XsdString, "http://www.w3.org/2001/XMLSchema#string"),
+    (
+        Known::XsdInteger,
+        "http://www.w3.org/2001/XMLSchema#integer",
+    ),
+    (
+        Known::XsdDecimal,
+        "http://www.w3.org/2001/XMLSchema#decimal",
+    ),
+    (Known::XsdDouble, "http://www.w3.org/2001/XMLSchema#double"),
+    (
+        Known::XsdBoolean,
+        "http://www.w3.org/2001/XMLSchema#boolean",
+    ),
+];
+
+#[test]
+fn the_known_iris_are_those_of_the_standards(rt: HostRuntime) {
+    for (iri, text) in KNOWN.as_slice() {
+        assert!(rt; known(*iri).as_str() == *text, "{text}");
+    }
+}
+
+fn tagged<'a>(label: LabelView<'a>, tag: TagView<'a>) -> QuadRef<'a> {
     QuadRef {
-        subject: SubjectRef::Node(NodeRef::Label(label.view())),
+        subject: SubjectRef::Node(NodeRef::Label(label)),
         predicate: known(Known::RdfType),
-        object: TermRef::Literal(LiteralRef::new("é", TailRef::Lang(tag.view()))),
+        object: TermRef::Literal(LiteralRef::new("é", TailRef::Lang(tag))),
         graph: None,
     }
 }
 
-#[test]
-fn a_list_keeps_its_quads_in_order(rt: HostRuntime) {
-    let mut list = QuadList::new(rt.alloc());
-    let tag = Tag::new(rt.alloc(), "en-GB").expect(&rt, "a tag");
-    let label = Label::new(rt.alloc(), "x").expect(&rt, "a label");
-    let first = tagged(&label, &tag);
-    let second = QuadRef {
+fn of_nodes() -> QuadRef<'static> {
+    QuadRef {
         subject: SubjectRef::Iri(known(Known::RdfNil)),
         predicate: known(Known::RdfRest),
         object: TermRef::Node(NodeRef::Cell(27)),
         graph: Some(SubjectRef::Node(NodeRef::Anon(19))),
-    };
-    assert!(rt; list.put(first).is_ok() && list.put(second).is_ok() && list.put(first).is_ok());
-    assert!(rt; list.len() == 3 && !list.failed() && list.get(3).is_none());
-    let Some(quad) = list.get(0) else {
-        assert!(rt; false);
-        return;
-    };
-    assert!(rt;
-        matches!(quad.subject, SubjectRef::Node(NodeRef::Label(name)) if name.as_str() == "x")
-    );
-    assert!(rt;
-        matches!(quad.object, TermRef::Literal(literal) if literal.lexical == "é" && matches!(literal.tail, TailRef::Lang(name) if name.as_str() == "en-GB"))
-    );
-    let Some(quad) = list.get(1) else {
-        assert!(rt; false);
-        return;
-    };
-    assert!(rt;
-        matches!(quad.graph, Some(SubjectRef::Node(NodeRef::Anon(19))))
-            && matches!(quad.object, TermRef::Node(NodeRef::Cell(27)))
-    );
-    assert_eq!(rt; quad.predicate.as_str(), known(Known::RdfRest).as_str());
+    }
 }
 
+/// The lines of the three quads.
+const KEPT: &str = "_:nx <http://www.w3.org/1999/02/22-rdf-syntax-ns#type> \"é\"@en-GB .
+<http://www.w3.org/1999/02/22-rdf-syntax-ns#nil> <http://www.w3.org/1999/02/22-rdf-syntax-ns#rest> _:c27 _:a19 .
+_:nx <http://www.w3.org/1999/02/22-rdf-syntax-ns#type> \"é\"@en-GB .
+";
+
 #[test]
-fn a_copy_of_a_quad_views_as_the_quad(rt: HostRuntime) {
-    let graph = Iri::new(rt.alloc(), "http://g/").expect(&rt, "an IRI");
-    let quad = QuadRef {
-        subject: SubjectRef::Iri(graph.view()),
+fn a_list_keeps_its_quads_in_order(rt: HostRuntime) -> Result<(), Fail> {
+    let tag = Tag::new(rt.alloc(), "en-GB")?;
+    let label = Label::new(rt.alloc(), "x")?;
+    let first = tagged(label.view(), tag.view());
+    let mut list = QuadList::new(rt.alloc());
+    for quad in [first, of_nodes(), first] {
+        list.put(quad)?;
+    }
+    assert!(rt; list.len() == 3 && !list.failed() && list.get(3).is_none());
+    assert!(rt; has_lines(rt.alloc(), &list, KEPT));
+    Ok(())
+}
+
+fn of_iris(iri: IriView<'_>) -> QuadRef<'_> {
+    QuadRef {
+        subject: SubjectRef::Iri(iri),
         predicate: known(Known::RdfFirst),
         object: TermRef::Literal(LiteralRef::new("1", TailRef::Typed(known(Known::XsdInteger)))),
-        graph: Some(SubjectRef::Iri(graph.view())),
-    };
-    let copy = quad.try_copy(rt.alloc()).expect(&rt, "memory");
-    let view = copy.view();
-    assert!(rt; matches!(view.graph, Some(SubjectRef::Iri(name)) if name.as_str() == "http://g/"));
-    assert!(rt;
-        matches!(view.object, TermRef::Literal(literal) if matches!(literal.tail, TailRef::Typed(name) if name.as_str() == "http://www.w3.org/2001/XMLSchema#integer"))
-    );
+        graph: Some(SubjectRef::Iri(iri)),
+    }
 }
 
+const COPIED: &str =
+    "<http://g/> <http://www.w3.org/1999/02/22-rdf-syntax-ns#first> \"1\"^^<http://www.w3.org/2001/XMLSchema#integer> <http://g/> .\n";
+
 #[test]
-fn escapes_are_taken_out_and_percents_kept(rt: HostRuntime) -> Result<(), ValueFault> {
-    for (inside, wanted) in [
-        ("", ""),
-        ("b~c", "b~c"),
-        ("b%20\\~c", "b%20~c"),
-        ("%", "%"),
-        ("é\\.\\%\\_", "é.%_"),
-        ("a:b\\/c", "a:b/c"),
-    ] {
-        assert_eq!(rt;
-            local_value(rt.alloc(), inside)?.as_str(),
-            wanted,
-            "at {inside}"
+fn a_copy_of_a_quad_views_as_the_quad(rt: HostRuntime) -> Result<(), Fail> {
+    let graph = Iri::new(rt.alloc(), "http://g/")?;
+    let copy = of_iris(graph.view()).try_copy(rt.alloc())?;
+    assert!(rt; has_line(rt.alloc(), copy.view(), COPIED));
+    Ok(())
+}
+
+static LOCAL_PARTS: [(&str, Option<&str>); 12] = [
+    ("", Some("")),
+    ("b~c", Some("b~c")),
+    ("b%20\\~c", Some("b%20~c")),
+    ("%", Some("%")),
+    ("é\\.\\%\\_", Some("é.%_")),
+    ("a:b\\/c", Some("a:b/c")),
+    ("a\\", None),
+    ("a\\b", None),
+    ("\\\\", None),
+    ("\\u0041", None),
+    ("a b", None),
+    ("\\~<", None),
+];
+
+#[test]
+fn escapes_are_taken_out_and_percents_kept(rt: HostRuntime) {
+    for (inside, wanted) in LOCAL_PARTS.as_slice() {
+        assert!(rt;
+            is_value(local_value(rt.alloc(), inside), *wanted),
+            "{inside}"
         );
     }
-    Ok(())
 }
 
 #[test]
@@ -277,14 +429,6 @@ fn a_part_without_escapes_is_plain(rt: HostRuntime) {
         ("a\\.b", false),
         ("a b", false),
     ] {
-        assert_eq!(rt; is_plain_local(inside), plain, "at {inside}");
-    }
-}
-
-#[test]
-fn bad_escapes_are_refused(rt: HostRuntime) {
-    for inside in ["a\\", "a\\b", "\\\\", "\\u0041", "a b", "\\~<"] {
-        let result = local_value(rt.alloc(), inside);
-        assert!(rt; matches!(result, Err(ValueFault::BadEscape)), "at {inside}");
+        assert!(rt; is_plain_local(inside) == plain, "{inside}");
     }
 }

@@ -1,5 +1,4 @@
 // Readers of Turtle and TriG.
 
 mod documents;
-mod sinks;
 mod sizes;

@@ -2,10 +2,10 @@
 
 ghost use Rattle.std.specs.Prelude.{◌≡◌, ◌≤◌, false, length};
 
-use super::sinks::{RecordingSink, lines_of, recording_sink};
+use crate::sinks::{RecordingSink, has_lines, recording_sink};
 use rdf_driver::{Fault, Summary};
 use rdf_iri::Limits;
-use rdf_terms::{Iri, QuadList, Reason};
+use rdf_terms::{Iri, Reason};
 use rdf_trig::{DocForm, Options, TrigReader, read_document};
 use std::alloc::Global;
 use std::str;
@@ -97,13 +97,6 @@ fn is_read_by_bytes(alloc: Global, setting: &Setting, row: &Row) -> bool {
     let mut sink = recording_sink(alloc, 64);
     let told = read_bytes(&mut reader, row.bytes, &mut sink);
     is_told(row, told, &sink)
-}
-
-fn has_lines(alloc: Global, list: &QuadList, lines: &str) -> bool {
-    match lines_of(alloc, list) {
-        Ok(written) => written.as_slice() == lines.as_bytes(),
-        Err(_) => false,
-    }
 }
 
 fn is_read_at_once(alloc: Global, setting: &Setting, row: &Row) -> bool {

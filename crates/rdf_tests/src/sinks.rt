@@ -9,10 +9,11 @@ use rdf_lines::{Escapes, LabelFault, Style, write_line};
 use rdf_terms::{PutFault, QuadList, QuadRef, QuadSink};
 use std::alloc::Global;
 
-/// Counts the quads that are put and keeps their lines, and fails where there is no room for one more.
+/// Counts the puts and the quads that are taken, keeps their lines, and fails where there is no room for one more.
 #[derive(Drop)]
 pub struct RecordingSink {
     pub lines: Vec<u8>,
+    pub puts: u64,
     pub quads: u64,
     pub room: u64,
     pub failed: bool,
@@ -26,6 +27,7 @@ impl QuadSink for RecordingSink {
     ghost has_failed = { λ sink. sink.failed };
 
     fn put(&mut self, quad: QuadRef<'_>) -> Result<(), PutFault> {
+        self.puts = self.puts.saturating_add(1);
         if self.quads >= self.room {
             self.failed = true;
             return Err(PutFault::Device);
@@ -48,6 +50,7 @@ pub fn recording_sink(alloc: Global, room: u64) -> RecordingSink
 {
     RecordingSink {
         lines: Vec::new(alloc),
+        puts: 0,
         quads: 0,
         room,
         failed: false,
@@ -55,7 +58,7 @@ pub fn recording_sink(alloc: Global, room: u64) -> RecordingSink
 }
 
 /// The lines of the quads of a list.
-pub fn lines_of(alloc: Global, list: &QuadList) -> Result<Vec<u8>, LabelFault> {
+fn lines_of(alloc: Global, list: &QuadList) -> Result<Vec<u8>, LabelFault> {
     let mut out = Vec::new(alloc);
     for i in 0..list.len() {
         if let Some(quad) = list.get(i) {
@@ -63,4 +66,21 @@ pub fn lines_of(alloc: Global, list: &QuadList) -> Result<Vec<u8>, LabelFault> {
         }
     }
     Ok(out)
+}
+
+/// Whether these are the lines of the quads of a list.
+pub fn has_lines(alloc: Global, list: &QuadList, lines: &str) -> bool {
+    match lines_of(alloc, list) {
+        Ok(written) => written.as_slice() == lines.as_bytes(),
+        Err(_) => false,
+    }
+}
+
+/// Whether this is the line of a quad.
+pub fn has_line(alloc: Global, quad: QuadRef<'_>, line: &str) -> bool {
+    let mut out = Vec::new(alloc);
+    match write_line(quad, Style::Tagged, Escapes::Plain, &mut out) {
+        Ok(()) => out.as_slice() == line.as_bytes(),
+        Err(_) => false,
+    }
 }
