@@ -9,6 +9,8 @@ mod lines;
 #[cfg(test)]
 mod memory;
 #[cfg(test)]
+mod puts;
+#[cfg(test)]
 mod sinks;
 #[cfg(test)]
 mod terms;

@@ -270,14 +270,14 @@ fn options<A: Allocator>(form: DocForm) -> Result<Options<A>, Stop> {
 }
 
 /// A document of N-Triples in pieces.
-const LINES: [&str; 3] = [
+pub const LINES: [&str; 3] = [
     "<http://a/\\u0073> <a:p> \"\\t\\u00e9 a",
     " text\"@en-GB .\n_:x <a:p> _:y .\n<a:s> ",
     "<a:p> \"x\"^^<a:t> . # c\n<a:s> <a:p> <a:o> .",
 ];
 
 /// A document of Turtle in pieces. Its last dot is decided by its end, and a quad is given out there.
-const STATEMENTS: [&str; 3] = [
+pub const STATEMENTS: [&str; 3] = [
     "@base <http://h/b/c> . @prefix : <#> . :s a :b%20\\~c, <s\\u0061>, _:l ; :p 'a\\t",
     "'@en, \"b\"^^:t, 1 . [ :p [ :q ( 1 [ ] ( \"a\" ) () ) ] ] . @prefix : <x> . ( [ :p :o ] ) ",
     ":p :o .",
