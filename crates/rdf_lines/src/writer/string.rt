@@ -42,7 +42,8 @@ pub fn put_characters<A: Allocator + Copy>(
     }
 }
 
-// The same in ASCII. An IRI of ASCII stands as it is.
+// The same in ASCII. An IRI of ASCII stands as it is. Apart, so that `put_characters` is small enough to stand where it is called.
+#[inline(never)]
 #[tactic(auto, using(crate::proofs::EscapedRuns::ascii_iri, crate::proofs::EscapedRuns::escaped_iri))]
 fn put_in_ascii<A: Allocator + Copy>(
     iri: IriView<'_>,
