@@ -10,12 +10,16 @@ mod give;
 mod grammar;
 mod holding;
 pub mod laws;
+mod lists;
 mod names;
+mod objects;
+mod outer;
 mod reader;
 mod rest;
 mod rules;
 mod spelled;
 mod state;
+mod subjects;
 mod turns;
 
 pub use document::read_document;

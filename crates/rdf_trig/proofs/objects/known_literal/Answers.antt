@@ -2,7 +2,7 @@ use Rattle.std.proofs.Common.{◌≡◌, rules, ap, arith}
 use Rattle.std.specs.Str.{chars}
 use Rattle.std.specs.String.{string_bytes}
 use Rattle.rdf_trig.proofs.code.HoldingLemmas.{spelled_fits}
-use Rattle.rdf_trig.proofs.turns.known_literal.Goals as goal
+use Rattle.rdf_trig.proofs.objects.known_literal.Goals as goal
 
 pub returns-clause-fits : goal.returns-clause-fits
 returns-clause-fits g c =

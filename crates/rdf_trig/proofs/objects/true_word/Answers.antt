@@ -1,6 +1,6 @@
 use Rattle.std.proofs.Common.{refl}
 use Rattle.std.specs.Str.{chars}
-use Rattle.rdf_trig.proofs.turns.true_word.Goals as goal
+use Rattle.rdf_trig.proofs.objects.true_word.Goals as goal
 
 pub returns : goal.returns
 unfolding chars
