@@ -12,7 +12,7 @@ import os
 import sys
 import tempfile
 
-import memory
+import runs
 
 TOP = os.path.dirname(os.path.dirname(os.path.abspath(__file__)))
 PROGRAM = os.environ.get('RDFCONV', os.path.join(TOP, 'crates', 'rdf_tool', 'out', 'rdf_tool'))
@@ -50,7 +50,7 @@ def main():
                 with open(path, 'w') as file:
                     file.write(document(*limits))
                 words = [PROGRAM, 'convert', *('--%s=%d' % it for it in zip(('token', 'depth', 'bindings', 'iri'), limits))]
-                kilobytes = memory.held(words, path, may_fail=True)
+                kilobytes = runs.held(words, path, may_fail=True)
                 figures.append({'limits': limits, 'bound': bound(*limits), 'document': os.path.getsize(path), 'kilobytes': kilobytes})
                 print('tokens of %5d characters, IRIs of %5d bytes, %3d brackets and bindings: document %6.2f MiB, held %6.2f MiB, bound of its texts %6.2f MiB'
                       % (token, limits[3], brackets, figures[-1]['document'] / 2**20, kilobytes / 1024, figures[-1]['bound'] / 2**20))

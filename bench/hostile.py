@@ -11,12 +11,12 @@ have a tenth of the size, and are one token of just as many characters as the li
 crates/rdf_tool builds the program.
 """
 import os
-import resource
 import socket
-import subprocess
 import sys
 import tempfile
 import threading
+
+import runs
 
 TOP = os.path.dirname(os.path.dirname(os.path.abspath(__file__)))
 PROGRAM = os.environ.get("RDFCONV", os.path.join(TOP, "crates", "rdf_tool", "out", "rdf_tool"))
@@ -99,11 +99,9 @@ BYTE_BY_BYTE = {
 
 
 def seconds(words, stdin):
-    """The processor time of a run in the program itself."""
-    before = resource.getrusage(resource.RUSAGE_CHILDREN)
-    subprocess.run([PROGRAM] + words, stdin=stdin, stdout=subprocess.DEVNULL, stderr=subprocess.DEVNULL)
-    after = resource.getrusage(resource.RUSAGE_CHILDREN)
-    return after.ru_utime - before.ru_utime, after.ru_stime - before.ru_stime
+    """The processor time of a run, in the program itself and in the system."""
+    _, user, system = runs.processor_seconds([PROGRAM] + words, stdin)
+    return user, system
 
 
 def times(action, shape, size, path):

@@ -7,7 +7,7 @@ in the same run.
     bench/rdfconv.py nt nq ttl trig --megabytes 10 100 400      # these documents alone
     bench/rdfconv.py --json figures.json                        # and the figures as JSON, for bench/draw.py
 
-Prints MB/s of the input (the best of the runs) and the most memory held, then by how much time and memory grow from the
+Prints MB/s of the input (by processor time, the best of the runs) and the most memory held, then by how much time and memory grow from the
 first size to the last. Ends with a failure where a status is not what it should be, where not as many quads are counted
 or lines written as the document has, and where a `.` behind its end is not refused at its place.
 """
@@ -18,10 +18,9 @@ import os
 import subprocess
 import sys
 import tempfile
-import time
 
 import documents
-import memory
+import runs
 
 TOP = os.path.dirname(os.path.dirname(os.path.abspath(__file__)))
 PROGRAM = os.path.join(TOP, 'crates', 'rdf_tool', 'out', 'rdf_tool')
@@ -42,11 +41,11 @@ def words_of(column, document):
 
 
 def seconds(words, path):
-    """Seconds of a run that reads the file."""
+    """Seconds of processor time of a run that reads the file."""
     with open(path, 'rb') as f:
-        begin = time.monotonic()
-        subprocess.run(words, stdin=f, stdout=subprocess.DEVNULL, check=True)
-        return time.monotonic() - begin
+        status, user, system = runs.processor_seconds(words, f)
+    expect(status, 0)
+    return user + system
 
 
 def answer(words, path):
@@ -85,14 +84,14 @@ def expect_refused(document, path, quads):
     expect(line_count(words_of('convert', document), path), (quads, place, 1))
 
 
-def measure(kind, megabytes, runs, path):
+def measure(kind, megabytes, rounds, path):
     document = documents.DOCUMENTS[kind]
     quads = documents.write(kind, megabytes, path)
     size = os.path.getsize(path)
     expect_accepted(document, path, quads)
     lines = [words_of(column, document) for column in COLUMNS]
-    rounds = [[seconds(words, path) for words in lines] for _ in range(runs)]
-    figures = Figures(size, [min(column) for column in zip(*rounds)], [memory.held(words, path) for words in lines])
+    found = [[seconds(words, path) for words in lines] for _ in range(rounds)]
+    figures = Figures(size, [min(column) for column in zip(*found)], [runs.held(words, path) for words in lines])
     expect_refused(document, path, quads)
     return figures
 

@@ -8,8 +8,9 @@ installed, a copy that only checks UTF-8 (crates/utf8_copy), and `cat`. All writ
     bench/readers.py --instructions --megabytes 2     # millions of instructions by callgrind in place of times, the same on a busy machine
     bench/readers.py --json figures.json              # and the figures as JSON, for bench/draw.py
 
-The runs of one document are interleaved: each reader once, then each again. Prints MB/s of the input, and how many times as fast
-`convert` is as each other reader. A reader that ends with another status than 0 has no figure. `rt run` in crates/utf8_copy builds the copy.
+The runs of one document are interleaved: each reader once, then each again. Prints MB/s of the input by processor time, and how
+many times as fast `convert` is as each other reader. A reader that ends with another status than 0 has no figure. `rt run` in
+crates/utf8_copy builds the copy.
 """
 import argparse
 import json
@@ -19,9 +20,9 @@ import shutil
 import subprocess
 import sys
 import tempfile
-import time
 
 import documents
+import runs
 
 TOP = os.path.dirname(os.path.dirname(os.path.abspath(__file__)))
 PROGRAM = os.path.join(TOP, 'crates', 'rdf_tool', 'out', 'rdf_tool')
@@ -45,15 +46,14 @@ def readers(document):
 
 
 def seconds(words, path, by):
-    """Seconds of a run over the file, or through a pipe that is written by so many bytes; None where it fails."""
-    begin = time.monotonic()
+    """Seconds of processor time of a run over the file, or through a pipe that is written by so many bytes; None where it fails."""
     if by:
         with subprocess.Popen(['dd', 'if=' + path, 'bs=%d' % by, 'status=none'], stdout=subprocess.PIPE) as feed:
-            status = subprocess.run(words, stdin=feed.stdout, stdout=subprocess.DEVNULL, stderr=subprocess.DEVNULL).returncode
+            status, user, system = runs.processor_seconds(words, feed.stdout)
     else:
         with open(path, 'rb') as f:
-            status = subprocess.run(words, stdin=f, stdout=subprocess.DEVNULL, stderr=subprocess.DEVNULL).returncode
-    return None if status else time.monotonic() - begin
+            status, user, system = runs.processor_seconds(words, f)
+    return None if status else user + system
 
 
 def instructions(words, path):

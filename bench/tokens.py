@@ -3,15 +3,14 @@
 
     bench/tokens.py [MEGABYTES]     (50)
 
-For each: MB/s of both (the best of three runs) and their ratio. `rt ci` or `rt run` in crates/token_count builds the program.
+For each: MB/s of both by processor time (the best of three runs) and their ratio. `rt ci` or `rt run` in crates/token_count builds the program.
 """
 import os
-import subprocess
 import sys
 import tempfile
-import time
 
 import documents
+import runs
 
 TOP = os.path.dirname(os.path.dirname(os.path.abspath(__file__)))
 PROGRAM = os.path.join(TOP, 'crates', 'token_count', 'out', 'token_count')
@@ -19,9 +18,10 @@ PROGRAM = os.path.join(TOP, 'crates', 'token_count', 'out', 'token_count')
 
 def seconds(words, path):
     with open(path, 'rb') as f:
-        begin = time.monotonic()
-        subprocess.run(words, stdin=f, stdout=subprocess.DEVNULL, check=True)
-        return time.monotonic() - begin
+        status, user, system = runs.processor_seconds(words, f)
+    if status:
+        sys.exit('%s: status %d' % (words[0], status))
+    return user + system
 
 
 def main():

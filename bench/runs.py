@@ -1,7 +1,17 @@
-"""How much memory a program holds."""
+"""How much processor time a run takes, and how much memory it holds."""
+import os
 import subprocess
 import sys
 import time
+
+
+def processor_seconds(words, stdin):
+    """The status of a run, and the seconds that it had a processor, in the program itself and in the system: other work on the machine,
+    and waiting, do not count."""
+    p = subprocess.Popen(words, stdin=stdin, stdout=subprocess.DEVNULL, stderr=subprocess.DEVNULL)
+    _, status, used = os.wait4(p.pid, 0)
+    p.returncode = os.waitstatus_to_exitcode(status)
+    return p.returncode, used.ru_utime, used.ru_stime
 
 
 def held(words, path, may_fail=False):
