@@ -144,7 +144,8 @@ AsksForNone request base_text prefixes word_text fault = FailsToBind (sizes_of r
 -- A conversion stopped, with these lines.
 abbrev pub Stopped : StreamFault → JobRead → List ℕ → List ℕ → Type 0
 Stopped fault job input lines =
-    (left : Reading) × (left.has_failed ≡ false) × (write_failed : Bool) × StopsFor fault (conversion_of job) (Some input) left (Some []) (Some lines) write_failed
+    (left : Reading) × (left.has_failed ≡ false) × (write_failed : Bool) ×
+    StopsFor fault (conversion_of job) (Some input) left (Some []) (Some lines) write_failed
 
 -- A check stopped.
 abbrev pub CheckStopped : StreamFault → JobRead → List ℕ → Type 0

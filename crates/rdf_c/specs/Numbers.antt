@@ -81,7 +81,8 @@ outcome_of_status s = record { status = s; reason = 0; offset = 0; line = 0; qua
 
 -- a line of the prefixes is refused
 abbrev pub outcome_of_prefixes : BindingFault → Outcome
-outcome_of_prefixes f = record { status = 6; reason = number_of_binding_reason f.reason; offset = 0; line = f.line; quads = 0; tokens = 0; bytes = 0; needed = 0; written = 0 }
+outcome_of_prefixes f =
+    record { status = 6; reason = number_of_binding_reason f.reason; offset = 0; line = f.line; quads = 0; tokens = 0; bytes = 0; needed = 0; written = 0 }
 
 -- accepted, with so many bytes of lines and so many of them written
 abbrev pub accepted_with : Summary → ℕ → ℕ → Outcome

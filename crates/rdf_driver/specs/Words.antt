@@ -32,7 +32,8 @@ pub record Lawful {G X I : Type 0} (w : Words G X I) : Type 0 where
   pub whole : (g : G) (x : X) (ts : List Token) (t : Token) (qs : List I) → w.reached g x (ts ++ t ∷ []) qs → t.kind ≡ End →
       (all : List (MarkedItem I)) × w.documents x (ts ++ t ∷ []) all × (unmarked all ≡ qs)
   -- no document within the limits goes on with a token that is refused
-  pub ends : (x : X) (reason : Reason) (ts : List Token) (t : Token) → w.blames x reason ts t → Viable (w.documents x) (ts ++ t ∷ []) → PassesNone (w.passes x) (ts ++ t ∷ []) → ⊥
+  pub ends : (x : X) (reason : Reason) (ts : List Token) (t : Token) → w.blames x reason ts t →
+      Viable (w.documents x) (ts ++ t ∷ []) → PassesNone (w.passes x) (ts ++ t ∷ []) → ⊥
 
 -- The limits stay: on the characters of a token, and on the bytes that are held.
 pub record KeepsLimits {G X I : Type 0} (w : Words G X I) (old new : G) : Type 0 where
@@ -40,7 +41,8 @@ pub record KeepsLimits {G X I : Type 0} (w : Words G X I) (old new : G) : Type 0
   pub most : w.most new ≡ w.most old
 
 -- a token was accepted, and n quads were put
-pub record Takes {G X I S : Type 0} (w : Words G X I) (takes : S → I → S → Type 0) (old : G) (t : Token) (n : ℕ) (before : S) (new : G) (after : S) : Type 0 where
+pub record Takes {G X I S : Type 0} (w : Words G X I) (takes : S → I → S → Type 0)
+    (old : G) (t : Token) (n : ℕ) (before : S) (new : G) (after : S) : Type 0 where
   pub more : List I
   pub count : n ≡ length more
   pub puts : Appends takes before more after

@@ -114,7 +114,8 @@ FailsFor BadBinding sizes ahead line = (entry : Entry) → Says line entry → �
 FailsFor TokenTooLong sizes ahead line = (e : List ℕ × List ℕ) × Says line (Some e) × (sizes.token < length (e.0 ++ codes ":"))
 FailsFor IriTooLong sizes ahead line = (e : List ℕ × List ℕ) × Says line (Some e) × (length (e.0 ++ codes ":") ≤ sizes.token) × (sizes.iri < byte_len e.1)
 FailsFor TooManyBindings sizes ahead line =
-    (e : List ℕ × List ℕ) × Says line (Some e) × EntryFits sizes (Some e) × (bound_to (bindings_of ahead) e.0 ≡ None) × (sizes.bindings ≤ length (bindings_of ahead))
+    (e : List ℕ × List ℕ) × Says line (Some e) × EntryFits sizes (Some e) × (bound_to (bindings_of ahead) e.0 ≡ None)
+    × (sizes.bindings ≤ length (bindings_of ahead))
 FailsFor Memory sizes ahead line = ⊥
 
 -- the first line that fails: those before it keep the form and the limits; lines are counted from 1

@@ -10,7 +10,8 @@ pub record Walk : Type 0 where
 
 -- the output without its last segment and the '/' before it, if any
 abbrev pub LastSegmentRemoved : List ℕ → List ℕ → Type 0
-LastSegmentRemoved out shorter = ((segment : List ℕ) × Lacks (code "/") segment × (out ≡ shorter ++ code "/" ∷ segment)) ⊎ (Lacks (code "/") out × (shorter ≡ []))
+LastSegmentRemoved out shorter =
+    ((segment : List ℕ) × Lacks (code "/") segment × (out ≡ shorter ++ code "/" ∷ segment)) ⊎ (Lacks (code "/") out × (shorter ≡ []))
 
 -- A: a front "../" or "./" is removed
 abbrev pub RuleA : Walk → Walk → Type 0

@@ -31,4 +31,5 @@ DotsAreComputed = (path w : List ℕ) → (remove_dots path ≡ w) ↔ DotsRemov
 -- `resolved` computes the IRI, and there is none where the reference has no scheme and there is no base.
 abbrev pub ResultsAreComputed : Type 0
 ResultsAreComputed = (base : Option (List ℕ)) (reference : List ℕ) →
-    ((w : List ℕ) → (resolved base reference ≡ Some w) ↔ Resolves base reference w) × ((resolved base reference ≡ None) ↔ ((has_scheme reference ≡ false) × (base ≡ None)))
+    ((w : List ℕ) → (resolved base reference ≡ Some w) ↔ Resolves base reference w)
+    × ((resolved base reference ≡ None) ↔ ((has_scheme reference ≡ false) × (base ≡ None)))

@@ -20,7 +20,14 @@ part_chars o = option_map chars o
 
 -- the five parts as characters, given as bytes; a part is cut at ASCII, so each is UTF-8 where the reference is
 abbrev pub parts_chars : Parts → Parts
-parts_chars p = record { scheme = part_chars p.scheme; authority = part_chars p.authority; path = chars p.path; query = part_chars p.query; fragment = part_chars p.fragment }
+parts_chars p =
+    record {
+      scheme = part_chars p.scheme;
+      authority = part_chars p.authority;
+      path = chars p.path;
+      query = part_chars p.query;
+      fragment = part_chars p.fragment;
+    }
 
 -- the characters of the parts
 abbrev pub seen : Slices → Parts

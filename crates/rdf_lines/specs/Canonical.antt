@@ -61,8 +61,8 @@ pub record IsCanonical (form : LineForm) (token iri : ℕ) (bytes : List ℕ) (q
   pub is : bytes ≡ encode_utf8_all (text Kept Plain qs)
   pub each : AllByRecursion (IsTaken form token iri) qs
 
--- Between two lines, canonical lines spell as many tokens as are counted for their quads, give these quads, and lead back between two lines; `^^` has two
--- characters.
+-- Between two lines, canonical lines spell as many tokens as are counted for their quads, give these quads, and lead back between two
+-- lines; `^^` has two characters.
 abbrev pub CanonicalLinesAreRead : Type 0
 CanonicalLinesAreRead = (r : Driven LineAt) (bytes : List ℕ) (qs : List Quad) → r.grammar.mode ≡ Begin → 2 ≤ r.scanner.limit →
     IsCanonical r.grammar.rules.form r.scanner.limit r.grammar.rules.iri bytes qs → LeadsBack line_words r bytes qs (count qs)
@@ -74,4 +74,5 @@ pub record PassesLines (old : Driven LineAt) (bytes : List ℕ) (new : Driven Li
   pub grammar : new.grammar ≡ old.grammar
   pub limit : new.scanner.limit ≡ old.scanner.limit
   pub done : new.done ≡ old.done
-  pub read : (x : Rules) (before : List ℕ) (quads : List Quad) → HasRead line_words old x before quads → HasRead line_words new x (before ++ bytes) (quads ++ given)
+  pub read : (x : Rules) (before : List ℕ) (quads : List Quad) → HasRead line_words old x before quads →
+      HasRead line_words new x (before ++ bytes) (quads ++ given)

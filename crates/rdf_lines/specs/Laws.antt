@@ -34,8 +34,8 @@ TokensSettleWhatIsDue = (form : LineForm) (ts : List Token) (qs rs : List Quad) 
 
 -- What is due is a beginning of the quads of each document that begins so.
 abbrev pub DueBeginsTheQuads : Type 0
-DueBeginsTheQuads = (form : LineForm) (ts more : List Token) (qs : List Quad) (all : List Marked) → Due (documents form) ts qs → documents form (ts ++ more) all →
-    (rest : List Quad) × (unmarked all ≡ qs ++ rest)
+DueBeginsTheQuads = (form : LineForm) (ts more : List Token) (qs : List Quad) (all : List Marked) →
+    Due (documents form) ts qs → documents form (ts ++ more) all → (rest : List Quad) × (unmarked all ≡ qs ++ rest)
 
 -- What a reader has read decides tokens that are all in the front, leaves the next one open, and the quads that were put are due after them.
 abbrev pub ReadQuadsAreDue : Type 0
@@ -103,8 +103,9 @@ pub record TokensWithin (e : Escapes) (n : ℕ) (q : Quad) : Type 0 where
 
 -- What is written for quads is read to its end as N-Quads, where no token of the lines and no IRI of the quads passes a limit; `^^` has two characters.
 abbrev pub WrittenTextIsRead : Type 0
-WrittenTextIsRead = (s : Style) (e : Escapes) (qs : List Quad) (limit iri : ℕ) → Writable s qs → 2 ≤ limit → AllByRecursion (TokensWithin e limit) (map (rename s) qs) →
-    AllByRecursion (IrisWithin iri) qs → IsReadToItsEnd (in_lines NQuads limit iri) (encode_utf8_all (text s e qs))
+WrittenTextIsRead = (s : Style) (e : Escapes) (qs : List Quad) (limit iri : ℕ) → Writable s qs → 2 ≤ limit →
+    AllByRecursion (TokensWithin e limit) (map (rename s) qs) → AllByRecursion (IrisWithin iri) qs →
+    IsReadToItsEnd (in_lines NQuads limit iri) (encode_utf8_all (text s e qs))
 
 -- The quads of a document are well formed, and each of their nodes has a label.
 abbrev pub DocumentIsWritable : Type 0
@@ -122,13 +123,15 @@ iri_width Ascii = 3
 
 -- What is written, with the labels kept, for a document within some limits is read to its end with limits that are higher by what the escapes take.
 abbrev pub WrittenDocumentIsRead : Type 0
-WrittenDocumentIsRead = (e : Escapes) (form : LineForm) (token iri : ℕ) (bytes : List ℕ) (qs : List Quad) → IsDocumentOf (in_lines form token iri) bytes qs → IsWhole (in_lines form token iri) bytes →
+WrittenDocumentIsRead = (e : Escapes) (form : LineForm) (token iri : ℕ) (bytes : List ℕ) (qs : List Quad) →
+    IsDocumentOf (in_lines form token iri) bytes qs → IsWhole (in_lines form token iri) bytes →
     (token_then iri_then : ℕ) → string_width e * token ≤ token_then → iri_width e * iri + 2 ≤ token_then → 64 ≤ token_then → iri ≤ iri_then → 64 ≤ iri_then →
     IsReadToItsEnd (in_lines NQuads token_then iri_then) (encode_utf8_all (text Kept e qs))
 
 -- In ASCII each byte that is written is below 128, where each label has such characters alone.
 abbrev pub AsciiIsWritten : Type 0
-AsciiIsWritten = (s : Style) (qs : List Quad) → Writable s qs → AllByRecursion HasAsciiLabels qs → AllByRecursion (λ b. b < 128) (encode_utf8_all (text s Ascii qs))
+AsciiIsWritten = (s : Style) (qs : List Quad) →
+    Writable s qs → AllByRecursion HasAsciiLabels qs → AllByRecursion (λ b. b < 128) (encode_utf8_all (text s Ascii qs))
 
 -- The written bytes are a document of N-Quads whose quads are these, their nodes named by the form, whatever the limit on IRIs.
 abbrev pub ReadsBackIn : Form → List Quad → ℕ → Type 0
@@ -136,7 +139,8 @@ ReadsBackIn f qs limit = (iri : ℕ) → IsDocumentOf (in_lines NQuads limit iri
 
 -- What is written in a form reads back.
 abbrev pub PrefixedTextReadsBack : Type 0
-PrefixedTextReadsBack = (f : Form) (qs : List Quad) (limit : ℕ) → IsNodePrefix f.prefix → Writable f.style qs → length (text_in f qs) ≤ limit → ReadsBackIn f qs limit
+PrefixedTextReadsBack = (f : Form) (qs : List Quad) (limit : ℕ) →
+    IsNodePrefix f.prefix → Writable f.style qs → length (text_in f qs) ≤ limit → ReadsBackIn f qs limit
 
 -- A word takes its length of a limit on tokens, and nothing else.
 abbrev pub PrefixedTextIsRead : Type 0

@@ -26,7 +26,8 @@ rename_term s (Literal w t) = Literal w t
 
 -- the same of a quad
 abbrev pub rename : Style → Quad → Quad
-rename s q = record { subject = rename_subject s q.subject; predicate = q.predicate; object = rename_term s q.object; graph = option_map (rename_subject s) q.graph }
+rename s q =
+    record { subject = rename_subject s q.subject; predicate = q.predicate; object = rename_term s q.object; graph = option_map (rename_subject s) q.graph }
 
 -- style Kept cannot write a node without a label
 abbrev pub CanWriteNode : Style → Node → Type 0
@@ -123,7 +124,9 @@ graph_text e (Some g) = subject_text e g ++ space
 
 -- each part and a space, then a dot and LF
 abbrev pub quad_text : Escapes → Quad → List ℕ
-quad_text e q = (subject_text e q.subject ++ space) ++ (iri_text e q.predicate ++ space) ++ (term_text e q.object ++ space) ++ graph_text e q.graph ++ (46 ∷ []) ++ (10 ∷ [])
+quad_text e q =
+    (subject_text e q.subject ++ space) ++ (iri_text e q.predicate ++ space) ++ (term_text e q.object ++ space)
+    ++ graph_text e q.graph ++ (46 ∷ []) ++ (10 ∷ [])
 
 -- the line of a quad in a style and a form
 abbrev pub line : Style → Escapes → Quad → List ℕ

@@ -138,10 +138,12 @@ fn after_string<A: Allocator, S: QuadSink>(
 ) -> Result<State<A>, Reason>
     requires token { IsLineToken token }
     requires live { S.has_failed sink.old ≡ false }
-    ensures ok { IfOk result (λ s. Does S.takes (answer setup.rules (mode_of (state.AfterString beginning lexical)) token.entry) sink.old (mode_of s) sink.new) }
+    ensures ok { IfOk result (λ s. Does S.takes
+        (answer setup.rules (mode_of (state.AfterString beginning lexical)) token.entry) sink.old (mode_of s) sink.new) }
     ensures live { OnOk result (S.has_failed sink.new ≡ false) }
     ensures held { IfOk result (StaysWithin setup.rules.iri (state.AfterString beginning lexical) token.entry) }
-    ensures err { IfErr result (λ r. Fails S.leaves S.has_failed r (answer setup.rules (mode_of (state.AfterString beginning lexical)) token.entry) sink.old sink.new) }
+    ensures err { IfErr result (λ r. Fails S.leaves S.has_failed r
+        (answer setup.rules (mode_of (state.AfterString beginning lexical)) token.entry) sink.old sink.new) }
 {
     match token.kind {
         Kind::LangTag => Ok(State::AfterObject {
@@ -184,10 +186,12 @@ fn after_object<A: Allocator, S: QuadSink>(
 ) -> Result<State<A>, Reason>
     requires token { IsLineToken token }
     requires live { S.has_failed sink.old ≡ false }
-    ensures ok { IfOk result (λ s. Does S.takes (answer setup.rules (mode_of (state.AfterObject beginning object)) token.entry) sink.old (mode_of s) sink.new) }
+    ensures ok { IfOk result (λ s. Does S.takes
+        (answer setup.rules (mode_of (state.AfterObject beginning object)) token.entry) sink.old (mode_of s) sink.new) }
     ensures live { OnOk result (S.has_failed sink.new ≡ false) }
     ensures held { IfOk result (StaysWithin setup.rules.iri (state.AfterObject beginning object) token.entry) }
-    ensures err { IfErr result (λ r. Fails S.leaves S.has_failed r (answer setup.rules (mode_of (state.AfterObject beginning object)) token.entry) sink.old sink.new) }
+    ensures err { IfErr result (λ r. Fails S.leaves S.has_failed r
+        (answer setup.rules (mode_of (state.AfterObject beginning object)) token.entry) sink.old sink.new) }
 {
     match (setup.rules.form, token.kind) {
         (_, Kind::Dot) => give(&beginning, &object, None, sink),
@@ -213,10 +217,12 @@ fn after_graph<A: Allocator, S: QuadSink>(
     sink: &mut S,
 ) -> Result<State<A>, Reason>
     requires { S.has_failed sink.old ≡ false }
-    ensures ok { IfOk result (λ s. (g : Rules) → Does S.takes (answer g (mode_of (state.AfterGraph beginning object graph)) token.entry) sink.old (mode_of s) sink.new) }
+    ensures ok { IfOk result (λ s. (g : Rules) → Does S.takes
+        (answer g (mode_of (state.AfterGraph beginning object graph)) token.entry) sink.old (mode_of s) sink.new) }
     ensures live { OnOk result (S.has_failed sink.new ≡ false) }
     ensures held { IfOk result (λ s. (n : ℕ) → HoldsAtMost n s) }
-    ensures err { IfErr result (λ r. (g : Rules) → Fails S.leaves S.has_failed r (answer g (mode_of (state.AfterGraph beginning object graph)) token.entry) sink.old sink.new) }
+    ensures err { IfErr result (λ r. (g : Rules) → Fails S.leaves S.has_failed r
+        (answer g (mode_of (state.AfterGraph beginning object graph)) token.entry) sink.old sink.new) }
 {
     match token.kind {
         Kind::Dot => give(&beginning, &object, Some(graph.view()), sink),

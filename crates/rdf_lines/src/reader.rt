@@ -1,13 +1,10 @@
 // The reader of the line formats.
 
-ghost use Rattle.std.specs.Prelude.{◌≡◌, ◌≤◌, ◌+◌, ◌++◌, ℕ, List, [], false, true, not, is_ok, OnOk, IfOk, IfErr};
+ghost use Rattle.std.specs.Prelude.{◌≡◌, ◌≤◌, ◌+◌, [], false, true, not, is_ok, OnOk, IfOk, IfErr};
 ghost use Rattle.rdf_tokens.specs.Scans.{most_bytes, unread_bytes, place_of};
-ghost use Rattle.rdf_tokens.specs.Grammars.{GoesOn, IsWhole};
-ghost use Rattle.rdf_terms.specs.Terms.{Quad};
-ghost use Rattle.rdf_driver.specs.Readers.{HasRead, SameLimits, Feeds, FeedFails, Finishes, FinishFails, Exactly, IsPlaced};
+ghost use Rattle.rdf_driver.specs.Readers.{HasRead, SameLimits, Feeds, FeedFails, Finishes, FinishFails, TakesExactly, FinishesExactly, IsPlacedWith, IsPlacedInRead};
 ghost use Rattle.rdf_driver.specs.Readers as R;
-ghost use Rattle.rdf_lines.specs.declared.rules.Rules.{Rules};
-ghost use Rattle.rdf_lines.specs.Documents.{in_lines, most_held};
+ghost use Rattle.rdf_lines.specs.Documents.{most_held};
 ghost use Rattle.rdf_lines.specs.Accepting.{line_words};
 
 use crate::form::LineForm;
@@ -71,9 +68,10 @@ impl<A: Allocator + Copy> LineReader<A> {
         ensures ok { OnOk result (Feeds line_words S.takes self.old sink.old piece.now self.new sink.new) }
         ensures few { OnOk result (self.new.scanner.taken.offset ≤ most_bytes) }
         ensures live { OnOk result (S.has_failed sink.new ≡ false) }
-        ensures err { IfErr result (λ f. FeedFails line_words S.takes S.leaves S.has_failed f.reason (place_of f) self.old sink.old piece.now self.new sink.new) }
-        ensures exact { (x : Rules) (bytes : List ℕ) (quads : List Quad) → HasRead line_words self.old x bytes quads → Exactly result (GoesOn (in_lines x.form self.old.scanner.limit x.iri) (bytes ++ piece.now)) }
-        ensures place { IfErr result (λ f. (x : Rules) (bytes : List ℕ) (quads : List Quad) → HasRead line_words self.old x bytes quads → IsPlaced f.reason (bytes ++ piece.now) (place_of f)) }
+        ensures err { IfErr result (λ f. FeedFails line_words S.takes S.leaves S.has_failed f.reason (place_of f)
+            self.old sink.old piece.now self.new sink.new) }
+        ensures exact { TakesExactly line_words self.old piece.now result }
+        ensures place { IfErr result (IsPlacedWith line_words self.old piece.now) }
         ensures done { self.new.done ≡ not (is_ok result) }
         ensures limits { SameLimits line_words self.old self.new }
     {
@@ -85,8 +83,8 @@ impl<A: Allocator + Copy> LineReader<A> {
         requires { self.old.done ≡ false → S.has_failed sink.old ≡ false }
         ensures ok { IfOk result (λ s. Finishes line_words S.takes self.old sink.old s sink.new) }
         ensures err { IfErr result (λ f. FinishFails line_words S.takes S.leaves S.has_failed f.reason (place_of f) self.old sink.old self.new sink.new) }
-        ensures exact { (x : Rules) (bytes : List ℕ) (quads : List Quad) → HasRead line_words self.old x bytes quads → Exactly result (IsWhole (in_lines x.form self.old.scanner.limit x.iri) bytes) }
-        ensures place { IfErr result (λ f. (x : Rules) (bytes : List ℕ) (quads : List Quad) → HasRead line_words self.old x bytes quads → IsPlaced f.reason bytes (place_of f)) }
+        ensures exact { FinishesExactly line_words self.old result }
+        ensures place { IfErr result (IsPlacedInRead line_words self.old) }
         ensures done { self.new.done ≡ true }
         ensures limits { SameLimits line_words self.old self.new }
     {

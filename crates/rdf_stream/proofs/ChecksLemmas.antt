@@ -93,7 +93,7 @@ refused_more l ends reason.DocumentTooLong bytes more e at h = too_long_more byt
 refused_more l ends why bytes more e at h = (h.0, refused_in_more l ends bytes more e why at h.0 h.1)
 
 -- what is not read on is not read on with more bytes
-checks_no_more : (told : StreamFault) (l : Language) → EndsAtBlame l → (bytes more : List ℕ) → ChecksNoMore told l bytes false → ChecksNoMore told l (bytes ++ more) false
+checks_no_more : (reported : StreamFault) (l : Language) → EndsAtBlame l → (bytes more : List ℕ) → ChecksNoMore reported l bytes false → ChecksNoMore reported l (bytes ++ more) false
 checks_no_more (stream.Refused f) l ends bytes more h = refused_more l ends f.reason bytes more false (place_of f) h
 checks_no_more stream.Read l ends bytes more h = h
 checks_no_more stream.Write l ends bytes more h = h
@@ -107,15 +107,15 @@ refused_of_document l reason.Ended bytes e at h = h.1
 refused_of_document l why bytes e at h = tt
 
 -- a refusal that a check reports is one of the document
-halts_of_document : (told : StreamFault) (l : Language) (bytes : List ℕ) (e : Bool) → ChecksNoMore told l bytes e → IsRefusal told
+halts_of_document : (reported : StreamFault) (l : Language) (bytes : List ℕ) (e : Bool) → ChecksNoMore reported l bytes e → IsRefusal reported
 halts_of_document (stream.Refused f) l bytes e h = refused_of_document l f.reason bytes e (place_of f) h
 halts_of_document stream.Read l bytes e h = tt
 halts_of_document stream.Write l bytes e h = tt
 halts_of_document stream.Memory l bytes e h = tt
 
 -- why the bytes that were given are not read on is why a check stops
-halts_stops : (told : StreamFault) (l : Language) → EndsAtBlame l → (known : Option (List ℕ)) (left : Reading) (given : HasGiven known left) →
-    ChecksNoMore told l given.bytes left.has_ended → CheckStops told l known left
+halts_stops : (reported : StreamFault) (l : Language) → EndsAtBlame l → (known : Option (List ℕ)) (left : Reading) (given : HasGiven known left) →
+    ChecksNoMore reported l given.bytes left.has_ended → CheckStops reported l known left
 halts_stops (stream.Refused f) l ends known left given h =
     (all_given known left (λ bytes e. IsRefusedFor f.reason l bytes e (place_of f)) (λ bytes more x. refused_more l ends f.reason bytes more true (place_of f) x) given h, given, h)
 halts_stops stream.Read l ends known left given h = absurd h
@@ -123,10 +123,10 @@ halts_stops stream.Write l ends known left given h = absurd h
 halts_stops stream.Memory l ends known left given h = given
 
 -- the bytes that are not read on, and more
-pub halts_more : {G X : Type 0} (w : Words G X Quad) (told : StreamFault) (first : Driven G) (bytes more : List ℕ) → CheckHalts w told first bytes false → CheckHalts w told first (bytes ++ more) false
-halts_more w told first bytes more h = record {
+pub halts_more : {G X : Type 0} (w : Words G X Quad) (reported : StreamFault) (first : Driven G) (bytes more : List ℕ) → CheckHalts w reported first bytes false → CheckHalts w reported first (bytes ++ more) false
+halts_more w reported first bytes more h = record {
   begun = h.begun;
-  halts = λ x b. checks_no_more told (in_words w x first.scanner.limit) (b.lawful.ends x) bytes more (h.halts x b);
+  halts = λ x b. checks_no_more reported (in_words w x first.scanner.limit) (b.lawful.ends x) bytes more (h.halts x b);
 }
 
 -- the bytes that were passed
@@ -154,7 +154,7 @@ module _ {G X : Type 0} (w : Words G X Quad) where
   Taken first bytes now = IsChecking w first.0 bytes now.0
 
   abbrev pub Halted : StreamFault → R → List ℕ → Bool → R → Type 0
-  Halted told first bytes e now = CheckHalts w told first.0 bytes e
+  Halted reported first bytes e now = CheckHalts w reported first.0 bytes e
 
   abbrev pub Ended : Summary → R → List ℕ → R → Type 0
   Ended s first bytes now = CheckEnds w s first.0 bytes
@@ -178,15 +178,15 @@ module _ {G X : Type 0} (w : Words G X Quad) where
           subst (λ n. GoesOn (in_words w x n) h.bytes) same_limit (subst (λ n. GoesOn (in_words w x n) h.bytes) h.is_taken.limit goes_on),
         )
 
-    pub stopped : (told : StreamFault) → ReadStops Taken Halted told known left first now → CheckStops told (in_words w x limit) known left
-    stopped told h =
+    pub stopped : (reported : StreamFault) → ReadStops Taken Halted reported known left first now → CheckStops reported (in_words w x limit) known left
+    stopped reported h =
         ⊎_elim (λ p. subst (λ t. CheckStops t (in_words w x limit) known left) (sym p.0) (broke p.1))
         (λ p.
-        halts_stops told (in_words w x limit) (b.lawful.ends x) known left p.0
-        (subst (λ n. ChecksNoMore told (in_words w x n) p.0.bytes left.has_ended) same_limit (p.1.halts x b)))
+        halts_stops reported (in_words w x limit) (b.lawful.ends x) known left p.0
+        (subst (λ n. ChecksNoMore reported (in_words w x n) p.0.bytes left.has_ended) same_limit (p.1.halts x b)))
         h
 
-    pub refused_document : (told : StreamFault) → ReadStops Taken Halted told known left first now → IsRefusal told
-    refused_document told h =
+    pub refused_document : (reported : StreamFault) → ReadStops Taken Halted reported known left first now → IsRefusal reported
+    refused_document reported h =
         ⊎_elim (λ p. subst IsRefusal (sym p.0) tt)
-        (λ p. halts_of_document told (in_words w x first.0.scanner.limit) p.0.bytes left.has_ended (p.1.halts x b)) h
+        (λ p. halts_of_document reported (in_words w x first.0.scanner.limit) p.0.bytes left.has_ended (p.1.halts x b)) h

@@ -33,7 +33,7 @@ use Rattle.rdf_stream.specs.Languages.{Conversion, conversion}
 use Rattle.rdf_stream.specs.declared.fault.StreamFault.{StreamFault}
 use Rattle.rdf_stream.specs.declared.fault.StreamFault.TheVariants as stream
 use Rattle.rdf_stream.specs.declared.line_out.LineOut.{LineOut}
-use Rattle.rdf_stream.specs.Converting.{HandedOver, HaltsFor, HasPut, IsConverting, IsPutting, RunEnds, RunHalts, Suits, Tells, TellsFault, TellsWrite}
+use Rattle.rdf_stream.specs.Converting.{HandedOver, HaltsFor, HasPut, IsConverting, IsPutting, RunEnds, RunHalts, Suits, Reports, ReportsFault, ReportsWrite}
 use Rattle.rdf_stream.specs.Converts.{Accepts, IsAscii, WritesDue, WritesFront, WritesSome, lines_of}
 use Rattle.rdf_stream.specs.Devices.{AppendsFront}
 use Rattle.rdf_stream.specs.Faults.{fault_by}
@@ -54,19 +54,19 @@ written_ascii f qs p w is labels =
     subst (λ (e : Escapes). AllByRecursion (λ b. b < 128) (encode_utf8_all (text_in (record { style = f.style; escapes = e; prefix = f.prefix }) qs))) (sym is) (form_ascii f.style f.prefix qs p w labels)
 
 -- what holds of all quads of two lists holds of those of the first, and of the second
-first_ones : (P : Quad → Type 0) (qs rs : List Quad) → AllByRecursion P (qs ++ rs) → AllByRecursion P qs
-first_ones P [] rs h = tt
-first_ones P (q ∷ qs) rs h = (h.0, first_ones P qs rs h.1)
+all_in_first : (P : Quad → Type 0) (qs rs : List Quad) → AllByRecursion P (qs ++ rs) → AllByRecursion P qs
+all_in_first P [] rs h = tt
+all_in_first P (q ∷ qs) rs h = (h.0, all_in_first P qs rs h.1)
 
 -- the first of some quads that can be written can
-first_able : (s : Style) (qs rs : List Quad) → Writable s (qs ++ rs) → Writable s qs
-first_able s [] rs h = tt
-first_able s (q ∷ qs) rs h = (h.0, first_able s qs rs h.1)
+writable_in_first : (s : Style) (qs rs : List Quad) → Writable s (qs ++ rs) → Writable s qs
+writable_in_first s [] rs h = tt
+writable_in_first s (q ∷ qs) rs h = (h.0, writable_in_first s qs rs h.1)
 
 -- what holds of all quads holds of the last ones
-last_ones : (P : Quad → Type 0) (qs rs : List Quad) → AllByRecursion P (qs ++ rs) → AllByRecursion P rs
-last_ones P [] rs h = h
-last_ones P (q ∷ qs) rs h = last_ones P qs rs h.1
+all_in_last : (P : Quad → Type 0) (qs rs : List Quad) → AllByRecursion P (qs ++ rs) → AllByRecursion P rs
+all_in_last P [] rs h = h
+all_in_last P (q ∷ qs) rs h = all_in_last P qs rs h.1
 
 module _ (l : Language) where
   abbrev Begun : List Token → List Quad → Type 0
@@ -183,7 +183,7 @@ module _ {G X D A : Type 0} (contents : D → Option (List ℕ)) (failed : D →
   styled : (ts : List Token) (qs rest : List Quad) → Due (w.documents x) ts ((o.quads ++ qs) ++ rest) → AllByRecursion (CanWrite lines.form.style) qs
   styled ts qs rest d =
       subst (λ (f : WrittenForm). AllByRecursion (CanWrite f.style) qs) (sym o.same.form)
-      (last_ones (CanWrite first.form.style) o.quads qs (first_ones (CanWrite first.form.style) (o.quads ++ qs) rest (suits.can_write ts ((o.quads ++ qs) ++ rest) d)))
+      (all_in_last (CanWrite first.form.style) o.quads qs (all_in_first (CanWrite first.form.style) (o.quads ++ qs) rest (suits.can_write ts ((o.quads ++ qs) ++ rest) d)))
 
   styled_all : (ts : List Token) (qs : List Quad) → Due (w.documents x) ts (o.quads ++ qs) → AllByRecursion (CanWrite lines.form.style) qs
   styled_all ts qs d = styled ts qs [] (subst (Due (w.documents x) ts) (sym (append-nil (o.quads ++ qs))) d)
@@ -204,7 +204,7 @@ module _ {G X D A : Type 0} (contents : D → Option (List ℕ)) (failed : D →
       let d = h.due x bytes o.quads o.read in record { more = h.more; tries = tried contents failed h.more lines mid h.puts; due = d }
 
   -- the drain failed, before or when it was handed what waited
-  tells_write : (ts : List Token) (mid after : LineOut D A) → LeftOff ts mid → TellsWrite contents failed mid after → WritesFront job ts (contents first.drain.now) (contents after.drain.now)
+  tells_write : (ts : List Token) (mid after : LineOut D A) → LeftOff ts mid → ReportsWrite contents failed mid after → WritesFront job ts (contents first.drain.now) (contents after.drain.now)
   tells_write ts mid after h t = by (failed mid.drain.now) refl
     where
       by : (b : Bool) → failed mid.drain.now ≡ b → WritesFront job ts (contents first.drain.now) (contents after.drain.now)
@@ -218,14 +218,14 @@ module _ {G X D A : Type 0} (contents : D → Option (List ℕ)) (failed : D →
           written_front after ts h.more (rest ++ bytes_of lines.form later) (left_able ts mid h) (subst (λ qs. Behind after qs (rest ++ bytes_of lines.form later)) (sym split) m) h.due
 
   -- the drain has all whole lines
-  tells_some : (ts : List Token) (mid after : LineOut D A) → LeftOff ts mid → TellsFault contents failed mid after → WritesSome job ts (contents first.drain.now) (contents after.drain.now)
+  tells_some : (ts : List Token) (mid after : LineOut D A) → LeftOff ts mid → ReportsFault contents failed mid after → WritesSome job ts (contents first.drain.now) (contents after.drain.now)
   tells_some ts mid after h t =
       let (done, later, split, writes) = h.tries.whole t.live in
       record {
         quads = o.quads ++ done;
         due = begins_less l ts (o.quads ++ done) later (subst (Begun l ts) (ap (λ qs. o.quads ++ qs) split ∙ sym (append_assoc o.quads done later)) h.due);
         written = written_all mid after done writes t.taken;
-        ascii = all_ascii done (first_able lines.form.style done later (subst (Writable lines.form.style) split (left_able ts mid h)));
+        ascii = all_ascii done (writable_in_first lines.form.style done later (subst (Writable lines.form.style) split (left_able ts mid h)));
       }
 
   -- what was refused
@@ -249,7 +249,7 @@ module _ {G X D A : Type 0} (contents : D → Option (List ℕ)) (failed : D →
         };
       }
 
-  tells_due : (why : Reason) (at : Place) (reading : Reading) (mid after : LineOut D A) → RefusedAt why at reading mid → TellsFault contents failed mid after →
+  tells_due : (why : Reason) (at : Place) (reading : Reading) (mid after : LineOut D A) → RefusedAt why at reading mid → ReportsFault contents failed mid after →
       (ahead : List Token) × RefusedIn l reading why at ahead × WritesDue job ahead (contents first.drain.now) (contents after.drain.now)
   tells_due why at reading mid after r t =
       let writes : WritesDue job r.refused.0 (contents first.drain.now) (contents after.drain.now) = record {
@@ -261,14 +261,14 @@ module _ {G X D A : Type 0} (contents : D → Option (List ℕ)) (failed : D →
 
   -- ---- what is reported of an error
 
-  pub record Halts (told : StreamFault) (b : List ℕ) (e : Bool) (after : LineOut D A) : Type 0 where
+  pub record Halts (reported : StreamFault) (b : List ℕ) (e : Bool) (after : LineOut D A) : Type 0 where
     pub same : SameOut first after
-    pub halts : HaltsFor told job b e (contents first.drain.now) (contents after.drain.now) (failed after.drain.now)
+    pub halts : HaltsFor reported job b e (contents first.drain.now) (contents after.drain.now) (failed after.drain.now)
 
-  halts_by : (b : List ℕ) (e : Bool) (fault told : StreamFault) (mid after : LineOut D A) → LeftOff (reading_of l b e).tokens mid → SameOut mid after →
-      (TellsFault contents failed mid after → HaltsFor fault job b e (contents first.drain.now) (contents after.drain.now) (failed after.drain.now)) →
-      ((told ≡ stream.Write) × TellsWrite contents failed mid after) ⊎ ((told ≡ fault) × TellsFault contents failed mid after) → Halts told b e after
-  halts_by b e fault told mid after h s why t = record {
+  halts_by : (b : List ℕ) (e : Bool) (fault reported : StreamFault) (mid after : LineOut D A) → LeftOff (reading_of l b e).tokens mid → SameOut mid after →
+      (ReportsFault contents failed mid after → HaltsFor fault job b e (contents first.drain.now) (contents after.drain.now) (failed after.drain.now)) →
+      ((reported ≡ stream.Write) × ReportsWrite contents failed mid after) ⊎ ((reported ≡ fault) × ReportsFault contents failed mid after) → Halts reported b e after
+  halts_by b e fault reported mid after h s why t = record {
     same = same_out first mid after (same_out first lines mid o.same h.tries.same) s;
     halts = ⊎_elim
         (λ p. subst (λ y. HaltsFor y job b e (contents first.drain.now) (contents after.drain.now) (failed after.drain.now)) (sym p.0) (p.1.failed_now, tells_write (reading_of l b e).tokens mid after h p.1))
@@ -303,7 +303,7 @@ module _ {G X D A : Type 0} (contents : D → Option (List ℕ)) (failed : D →
     left_piece reason.DocumentTooLong h = overruns h
     left_piece why h = (refuses why (record { offset = n; line = k }) (piece_reading w reader.scanner.limit piece) mid h).left
 
-    fault_piece : (after : LineOut D A) (why : Reason) → FailsPiece why → TellsFault contents failed mid after →
+    fault_piece : (after : LineOut D A) (why : Reason) → FailsPiece why → ReportsFault contents failed mid after →
         HaltsFor (fault_by why (record { reason = why; offset = n; line = k })) job (bytes ++ piece) false (contents first.drain.now) (contents after.drain.now) (failed after.drain.now)
     fault_piece after reason.Ended h t = absurd (false≢true (sym o.read.running ∙ h.0))
     fault_piece after reason.Memory h t = (t.live_now, tells_some read_so_far.tokens mid after (left_piece reason.Memory h) t)
@@ -313,10 +313,10 @@ module _ {G X D A : Type 0} (contents : D → Option (List ℕ)) (failed : D →
         tells_due why (record { offset = n; line = k }) read_so_far mid after (refuses why (record { offset = n; line = k }) (piece_reading w reader.scanner.limit piece) mid h) t
 
     -- an error in a piece
-    pub piece_halts : (why : Reason) (after : LineOut D A) (told : StreamFault) → FailsPiece why → SameOut mid after → Tells contents failed (record { reason = why; offset = n; line = k }) told mid after →
-        Halts told (bytes ++ piece) false after
-    piece_halts why after told h s t =
-        halts_by (bytes ++ piece) false (fault_by why (record { reason = why; offset = n; line = k })) told mid after (left_piece why h) s (fault_piece after why h) t
+    pub piece_halts : (why : Reason) (after : LineOut D A) (reported : StreamFault) → FailsPiece why → SameOut mid after → Reports contents failed (record { reason = why; offset = n; line = k }) reported mid after →
+        Halts reported (bytes ++ piece) false after
+    piece_halts why after reported h s t =
+        halts_by (bytes ++ piece) false (fault_by why (record { reason = why; offset = n; line = k })) reported mid after (left_piece why h) s (fault_piece after why h) t
 
   module _ (n k : ℕ) (reader' : Driven G) (mid : LineOut D A) where
     abbrev FailsEnd : Reason → Type 0
@@ -334,7 +334,7 @@ module _ {G X D A : Type 0} (contents : D → Option (List ℕ)) (failed : D →
     left_end reason.Sink h = leaves_off end_reading mid h.0
     left_end why h = (refuses why (record { offset = n; line = k }) end_reading mid h).left
 
-    fault_end : (after : LineOut D A) (why : Reason) → FailsEnd why → TellsFault contents failed mid after →
+    fault_end : (after : LineOut D A) (why : Reason) → FailsEnd why → ReportsFault contents failed mid after →
         HaltsFor (fault_by why (record { reason = why; offset = n; line = k })) job bytes true (contents first.drain.now) (contents after.drain.now) (failed after.drain.now)
     fault_end after reason.Ended h t = absurd (false≢true (sym o.read.running ∙ h.0))
     fault_end after reason.Memory h t = (t.live_now, tells_some read_all.tokens mid after (left_end reason.Memory h) t)
@@ -343,9 +343,9 @@ module _ {G X D A : Type 0} (contents : D → Option (List ℕ)) (failed : D →
     fault_end after why h t = tells_due why (record { offset = n; line = k }) read_all mid after (refuses why (record { offset = n; line = k }) end_reading mid h) t
 
     -- an error at the end
-    pub end_halts : (why : Reason) (after : LineOut D A) (told : StreamFault) → FailsEnd why → SameOut mid after → Tells contents failed (record { reason = why; offset = n; line = k }) told mid after →
-        Halts told bytes true after
-    end_halts why after told h s t = halts_by bytes true (fault_by why (record { reason = why; offset = n; line = k })) told mid after (left_end why h) s (fault_end after why h) t
+    pub end_halts : (why : Reason) (after : LineOut D A) (reported : StreamFault) → FailsEnd why → SameOut mid after → Reports contents failed (record { reason = why; offset = n; line = k }) reported mid after →
+        Halts reported bytes true after
+    end_halts why after reported h s t = halts_by bytes true (fault_by why (record { reason = why; offset = n; line = k })) reported mid after (left_end why h) s (fault_end after why h) t
 
   -- ---- more was read
 
@@ -397,8 +397,8 @@ module _ {G X D A : Type 0} (contents : D → Option (List ℕ)) (failed : D →
         (subst (λ b. Writes contents lines b after) their_lines m) live
 
     -- it was not put
-    pub text_halts : (told : StreamFault) (after : LineOut D A) → SameOut lines after → PutHalts contents failed told lines text after → Halts told (bytes ++ text) false after
-    text_halts told after s h = record { same = same_out first lines after o.same s; halts = by told h }
+    pub text_halts : (reported : StreamFault) (after : LineOut D A) → SameOut lines after → PutHalts contents failed reported lines text after → Halts reported (bytes ++ text) false after
+    text_halts reported after s h = record { same = same_out first lines after o.same s; halts = by reported h }
       where
         ts : List Token
         ts = (reading_of l (bytes ++ text) false).tokens
@@ -406,8 +406,8 @@ module _ {G X D A : Type 0} (contents : D → Option (List ℕ)) (failed : D →
         able : Writable lines.form.style p.given
         able = subst (λ y. Writable y p.given) (sym (ap (λ (f : WrittenForm). f.style) o.same.form ∙ same_style)) p.writable
 
-        by : (told : StreamFault) → PutHalts contents failed told lines text after →
-            HaltsFor told job (bytes ++ text) false (contents first.drain.now) (contents after.drain.now) (failed after.drain.now)
+        by : (reported : StreamFault) → PutHalts contents failed reported lines text after →
+            HaltsFor reported job (bytes ++ text) false (contents first.drain.now) (contents after.drain.now) (failed after.drain.now)
         by stream.Write h = (
           h.0,
           written_front after ts p.given h.1 able
@@ -423,7 +423,7 @@ module _ {G X D A : Type 0} (contents : D → Option (List ℕ)) (failed : D →
             ascii = these_ascii;
           },
         )
-        by told h = absurd h
+        by reported h = absurd h
 
   -- ---- what waits is handed over
 
@@ -573,13 +573,13 @@ module _ {G X D A : Type 0} (contents : D → Option (List ℕ)) (failed : D →
       let small : old.scanner.taken.offset ≡ length bytes = ap (λ (p : Place). p.offset) put_now.read.scanned.taken in omega (arith, count_now, small, few)
 
   -- what halts by the limit of the reader halts by that of the run
-  halted : (told : StreamFault) (b : List ℕ) (e : Bool) (after : LineOut D A) →
-      ((x : X) (s : Suits w x first.form.style) (o : HasPut contents failed w x old bytes first lines) → Halts contents failed w x old bytes first lines s o told b e after) → RunHalts contents failed w told reader first b e after
-  halted told b e after h = record {
+  halted : (reported : StreamFault) (b : List ℕ) (e : Bool) (after : LineOut D A) →
+      ((x : X) (s : Suits w x first.form.style) (o : HasPut contents failed w x old bytes first lines) → Halts contents failed w x old bytes first lines s o reported b e after) → RunHalts contents failed w reported reader first b e after
+  halted reported b e after h = record {
     begun = i.begun;
     same = (h i.begun.0 i.begun.1.starts.suits put_now).same;
     halts = λ x y.
-        subst (λ n. HaltsFor told (conversion w x n (form_of first.form)) b e (contents first.drain.now) (contents after.drain.now) (failed after.drain.now)) i.limit (h x y.starts.suits (i.put x y)).halts;
+        subst (λ n. HaltsFor reported (conversion w x n (form_of first.form)) b e (contents first.drain.now) (contents after.drain.now) (failed after.drain.now)) i.limit (h x y.starts.suits (i.put x y)).halts;
   }
 
   -- what stays from the beginning of a run stays from any state that had it
@@ -614,11 +614,11 @@ module _ {G X D A : Type 0} (contents : D → Option (List ℕ)) (failed : D →
     }
 
     -- an error in a part
-    pub run_halts : (n k : ℕ) (new : Driven G) (mid after : LineOut D A) (why : Reason) (told : StreamFault) →
+    pub run_halts : (n k : ℕ) (new : Driven G) (mid after : LineOut D A) (why : Reason) (reported : StreamFault) →
         FeedFails w (Takes contents failed) (Leaves contents failed) (λ s. failed s.drain.now) why (record { offset = n; line = k }) old lines part new mid → SameOut mid after →
-        Tells contents failed (record { reason = why; offset = n; line = k }) told mid after → RunHalts contents failed w told reader first (bytes ++ part) false after
-    run_halts n k new mid after why told h s t =
-        halted told (bytes ++ part) false after (λ x y o. piece_halts contents failed w x old bytes first lines y o part n k new mid why after told h s t)
+        Reports contents failed (record { reason = why; offset = n; line = k }) reported mid after → RunHalts contents failed w reported reader first (bytes ++ part) false after
+    run_halts n k new mid after why reported h s t =
+        halted reported (bytes ++ part) false after (λ x y o. piece_halts contents failed w x old bytes first lines y o part n k new mid why after reported h s t)
 
     module _ (kept : KeepsText lines.form part) (new : Driven G) (p : PassesText w style old part new) where
       -- some text was passed, and put as it stands
@@ -631,8 +631,8 @@ module _ {G X D A : Type 0} (contents : D → Option (List ℕ)) (failed : D →
       }
 
       -- it was not put
-      pub pass_halts : (told : StreamFault) (after : LineOut D A) → SameOut lines after → PutHalts contents failed told lines part after → RunHalts contents failed w told reader first (bytes ++ part) false after
-      pass_halts told after s h = halted told (bytes ++ part) false after (λ x y o. text_halts contents failed w x old bytes first lines y o style i.styled part kept new p told after s h)
+      pub pass_halts : (reported : StreamFault) (after : LineOut D A) → SameOut lines after → PutHalts contents failed reported lines part after → RunHalts contents failed w reported reader first (bytes ++ part) false after
+      pass_halts reported after s h = halted reported (bytes ++ part) false after (λ x y o. text_halts contents failed w x old bytes first lines y o style i.styled part kept new p reported after s h)
 
   module _ (summary : Summary) (mid : LineOut D A) (f : Finishes w (Takes contents failed) old lines summary mid) where
     -- the document was read and written
@@ -652,7 +652,7 @@ module _ {G X D A : Type 0} (contents : D → Option (List ℕ)) (failed : D →
     end_run_broke after s t broke = halted stream.Write bytes true after (λ x y o. end_broke contents failed w x old bytes first lines y o summary mid f after s t broke)
 
   -- an error at the end
-  pub end_run_halts : (n k : ℕ) (new : Driven G) (mid after : LineOut D A) (why : Reason) (told : StreamFault) →
+  pub end_run_halts : (n k : ℕ) (new : Driven G) (mid after : LineOut D A) (why : Reason) (reported : StreamFault) →
       FinishFails w (Takes contents failed) (Leaves contents failed) (λ s. failed s.drain.now) why (record { offset = n; line = k }) old lines new mid → SameOut mid after →
-      Tells contents failed (record { reason = why; offset = n; line = k }) told mid after → RunHalts contents failed w told reader first bytes true after
-  end_run_halts n k new mid after why told h s t = halted told bytes true after (λ x y o. end_halts contents failed w x old bytes first lines y o n k new mid why after told h s t)
+      Reports contents failed (record { reason = why; offset = n; line = k }) reported mid after → RunHalts contents failed w reported reader first bytes true after
+  end_run_halts n k new mid after why reported h s t = halted reported bytes true after (λ x y o. end_halts contents failed w x old bytes first lines y o n k new mid why after reported h s t)

@@ -52,8 +52,8 @@ refuses_more job ends reason.DocumentTooLong bytes more e at old new h = (too_lo
 refuses_more job ends why bytes more e at old new h = (h.0, refused_in_more job.language ends bytes more e why at h.0 h.1, h.2)
 
 -- what is not read on is not read on with more bytes
-halts_for_more : (told : StreamFault) (job : Conversion) → EndsAtBlame job.language → (bytes more : List ℕ) (old new : Option (List ℕ)) (failed : Bool) →
-    HaltsFor told job bytes false old new failed → HaltsFor told job (bytes ++ more) false old new failed
+halts_for_more : (reported : StreamFault) (job : Conversion) → EndsAtBlame job.language → (bytes more : List ℕ) (old new : Option (List ℕ)) (failed : Bool) →
+    HaltsFor reported job bytes false old new failed → HaltsFor reported job (bytes ++ more) false old new failed
 halts_for_more (stream.Refused f) job ends bytes more old new failed h = refuses_more job ends f.reason bytes more false (place_of f) old new h
 halts_for_more stream.Read job ends bytes more old new failed h = h
 halts_for_more stream.Write job ends bytes more old new failed h =
@@ -61,13 +61,13 @@ halts_for_more stream.Write job ends bytes more old new failed h =
 halts_for_more stream.Memory job ends bytes more old new failed h = (h.0, some_more job ends bytes more false old new h.1)
 
 -- bytes that are not read on in a run, and more
-pub halts_more : {G X D A : Type 0} (contents : D → Option (List ℕ)) (failed : D → Bool) (w : Words G X Quad) (told : StreamFault) (reader : Driven G) (first : LineOut D A) (bytes more : List ℕ) (lines : LineOut D A) →
-    RunHalts contents failed w told reader first bytes false lines → RunHalts contents failed w told reader first (bytes ++ more) false lines
-halts_more contents failed w told reader first bytes more lines h = record {
+pub halts_more : {G X D A : Type 0} (contents : D → Option (List ℕ)) (failed : D → Bool) (w : Words G X Quad) (reported : StreamFault) (reader : Driven G) (first : LineOut D A) (bytes more : List ℕ) (lines : LineOut D A) →
+    RunHalts contents failed w reported reader first bytes false lines → RunHalts contents failed w reported reader first (bytes ++ more) false lines
+halts_more contents failed w reported reader first bytes more lines h = record {
   begun = h.begun;
   same = h.same;
   halts = λ x b.
-      halts_for_more told (conversion w x reader.scanner.limit (form_of first.form)) (b.starts.suits.lawful.ends x) bytes more (contents first.drain.now) (contents lines.drain.now) (failed lines.drain.now) (h.halts x b);
+      halts_for_more reported (conversion w x reader.scanner.limit (form_of first.form)) (b.starts.suits.lawful.ends x) bytes more (contents first.drain.now) (contents lines.drain.now) (failed lines.drain.now) (h.halts x b);
 }
 
 -- a refusal is of the document
@@ -78,15 +78,15 @@ refuses_document job reason.Ended bytes e at old new h = h.1
 refuses_document job why bytes e at old new h = tt
 
 -- a refusal that a conversion reports is one of the document
-halts_document : (told : StreamFault) (job : Conversion) (bytes : List ℕ) (e : Bool) (old new : Option (List ℕ)) (failed : Bool) → HaltsFor told job bytes e old new failed → IsRefusal told
+halts_document : (reported : StreamFault) (job : Conversion) (bytes : List ℕ) (e : Bool) (old new : Option (List ℕ)) (failed : Bool) → HaltsFor reported job bytes e old new failed → IsRefusal reported
 halts_document (stream.Refused f) job bytes e old new failed h = refuses_document job f.reason bytes e (place_of f) old new h
 halts_document stream.Read job bytes e old new failed h = tt
 halts_document stream.Write job bytes e old new failed h = tt
 halts_document stream.Memory job bytes e old new failed h = tt
 
 -- why the bytes that were given are not read on is why a conversion stops
-halts_stops : (told : StreamFault) (job : Conversion) → EndsAtBlame job.language → (known : Option (List ℕ)) (left : Reading) (old new : Option (List ℕ)) (write_failed : Bool) (given : HasGiven known left) →
-    HaltsFor told job given.bytes left.has_ended old new write_failed → StopsFor told job known left old new write_failed
+halts_stops : (reported : StreamFault) (job : Conversion) → EndsAtBlame job.language → (known : Option (List ℕ)) (left : Reading) (old new : Option (List ℕ)) (write_failed : Bool) (given : HasGiven known left) →
+    HaltsFor reported job given.bytes left.has_ended old new write_failed → StopsFor reported job known left old new write_failed
 halts_stops (stream.Refused f) job ends known left old new write_failed given h =
     (all_given known left (λ bytes e. RefusesDocument f.reason job bytes e (place_of f) old new) (λ bytes more x. refuses_more job ends f.reason bytes more true (place_of f) old new x) given h, given, h)
 halts_stops stream.Read job ends known left old new write_failed given h = absurd h
@@ -102,7 +102,7 @@ module _ {G X D : Type 0} (A : Type 0) (contents : D → Option (List ℕ)) (fai
   Taken first bytes now = IsConverting contents failed w style first.0 first.1 bytes now.0 now.1
 
   abbrev pub Halted : StreamFault → R → List ℕ → Bool → R → Type 0
-  Halted told first bytes e now = RunHalts contents failed w told first.0 first.1 bytes e now.1
+  Halted reported first bytes e now = RunHalts contents failed w reported first.0 first.1 bytes e now.1
 
   abbrev pub Ended : Summary → R → List ℕ → R → Type 0
   Ended s first bytes now = RunEnds contents failed flushed w s first.0 first.1 bytes now.1
@@ -166,19 +166,19 @@ module _ {G X D : Type 0} (A : Type 0) (contents : D → Option (List ℕ)) (fai
           },
         )
 
-    pub stopped : (told : StreamFault) → ReadStops Taken Halted told known left first now →
-        StopsFor told job known left old new (failed now.1.drain.now)
-    stopped told h =
+    pub stopped : (reported : StreamFault) → ReadStops Taken Halted reported known left first now →
+        StopsFor reported job known left old new (failed now.1.drain.now)
+    stopped reported h =
         ⊎_elim (λ p. subst (λ t. StopsFor t job known left old new (failed now.1.drain.now)) (sym p.0) (broke p.1))
         (λ p.
-        halts_stops told job (b.starts.suits.lawful.ends x) known left old new (failed now.1.drain.now) p.0
-        (asked (λ n s. HaltsFor told (conversion w x n s) p.0.bytes left.has_ended old new (failed now.1.drain.now)) (p.1.halts x b)))
+        halts_stops reported job (b.starts.suits.lawful.ends x) known left old new (failed now.1.drain.now) p.0
+        (asked (λ n s. HaltsFor reported (conversion w x n s) p.0.bytes left.has_ended old new (failed now.1.drain.now)) (p.1.halts x b)))
         h
 
-    pub refused_document : (told : StreamFault) → ReadStops Taken Halted told known left first now → IsRefusal told
-    refused_document told h =
+    pub refused_document : (reported : StreamFault) → ReadStops Taken Halted reported known left first now → IsRefusal reported
+    refused_document reported h =
         ⊎_elim (λ p. subst IsRefusal (sym p.0) tt)
-        (λ p. halts_document told (conversion w x first.0.scanner.limit (form_of first.1.form)) p.0.bytes left.has_ended old new (failed now.1.drain.now) (p.1.halts x b)) h
+        (λ p. halts_document reported (conversion w x first.0.scanner.limit (form_of first.1.form)) p.0.bytes left.has_ended old new (failed now.1.drain.now) (p.1.halts x b)) h
 
 -- ---- by the job
 

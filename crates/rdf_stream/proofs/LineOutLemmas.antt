@@ -19,7 +19,7 @@ use Rattle.rdf_stream.specs.LineOut.{Leaves, Moves, PutHalts, SameOut, Takes, Wr
 use Rattle.rdf_stream.specs.declared.fault.StreamFault.{StreamFault}
 use Rattle.rdf_stream.specs.declared.fault.StreamFault.TheVariants as stream
 use Rattle.rdf_stream.specs.declared.line_out.LineOut.{LineOut}
-use Rattle.rdf_stream.proofs.WellFormedLemmas.{quad_had}
+use Rattle.rdf_stream.proofs.WellFormedLemmas.{untruncated_quad}
 
 -- nothing was taken
 pub waits : (known : Option (List ℕ)) (bytes rest : List ℕ) → rest ≡ bytes → Moves known known bytes rest
@@ -98,7 +98,7 @@ module _ {D A : Type 0} (contents : D → Option (List ℕ)) (failed : D → Boo
       let more = subst (λ f. Writes contents next (bytes_of f qs) b) t.same.form r.writes in
       record {
         same = same_out a next b t.same r.same;
-        writable = ((quad_had q t.formed, w.0), subst (λ (f : WrittenForm). Writable f.style qs) t.same.form r.writable);
+        writable = ((untruncated_quad q t.formed, w.0), subst (λ (f : WrittenForm). Writable f.style qs) t.same.form r.writable);
         writes = subst (λ l. Writes contents a l b) (sym (encodes-append (line_in (form_of a.form) q) (text_in (form_of a.form) qs)))
             (writes_on a next b (line_bytes a.form q) (bytes_of a.form qs) t.writes more);
         live = λ l. r.live t.live;
@@ -129,7 +129,7 @@ module _ {D A : Type 0} (contents : D → Option (List ℕ)) (failed : D → Boo
         rest = p.1.rest;
         moves = subst (λ l. Moves (contents a.drain.now) (contents b.drain.now) (a.buffer.now.items ++ l) p.1.rest)
             (ap encode_utf8_all (sym (append-nil (line_in (form_of a.form) q))) ∙ ap (λ rs. bytes_of a.form (q ∷ rs)) (sym p.0)) p.1.moves;
-        writable = λ w. ((quad_had q p.1.formed, w.0), subst (Writable a.form.style) (sym p.0) tt);
+        writable = λ w. ((untruncated_quad q p.1.formed, w.0), subst (Writable a.form.style) (sym p.0) tt);
         whole = λ l. ([], q ∷ qs, refl, p.1.live l);
       }
 
@@ -147,7 +147,7 @@ module _ {D A : Type 0} (contents : D → Option (List ℕ)) (failed : D → Boo
                 (moves_on (contents a.drain.now) (contents next.drain.now) (contents b.drain.now) (a.buffer.now.items ++ line_bytes a.form q) (bytes_of a.form qs) next.buffer.now.items r.rest first
                 (subst (λ f. Moves (contents next.drain.now) (contents b.drain.now) (next.buffer.now.items ++ bytes_of f qs) r.rest) t.same.form r.moves));
             writable = λ w. (
-              (quad_had q t.formed, w.0),
+              (untruncated_quad q t.formed, w.0),
               subst (λ (f : WrittenForm). Writable f.style qs) t.same.form (r.writable (subst (λ (f : WrittenForm). AllByRecursion (CanWrite f.style) qs) (sym t.same.form) w.1)),
             );
             whole = λ l.
@@ -172,16 +172,16 @@ module _ {D A : Type 0} (contents : D → Option (List ℕ)) (failed : D → Boo
 -- ---- bytes that go to the drain after what waited
 
 -- all of them were taken
-pub all_behind : (a b c : Option (List ℕ)) (waiting bytes rest : List ℕ) → Appends a b waiting → Appends b c bytes → rest ≡ [] → Moves a c (waiting ++ bytes) rest
-all_behind a b c waiting bytes rest p q e = record { front = waiting ++ bytes; whole = sym (ap (λ l. (waiting ++ bytes) ++ l) e ∙ append-nil (waiting ++ bytes)); taken = Appends-trans a b c waiting bytes p q }
+pub all_taken : (a b c : Option (List ℕ)) (waiting bytes rest : List ℕ) → Appends a b waiting → Appends b c bytes → rest ≡ [] → Moves a c (waiting ++ bytes) rest
+all_taken a b c waiting bytes rest p q e = record { front = waiting ++ bytes; whole = sym (ap (λ l. (waiting ++ bytes) ++ l) e ∙ append-nil (waiting ++ bytes)); taken = Appends-trans a b c waiting bytes p q }
 
 -- a beginning of what waited was taken
 pub front_before : (a b : Option (List ℕ)) (waiting bytes : List ℕ) → AppendsFront a b waiting → (rest : List ℕ) × Moves a b (waiting ++ bytes) rest
 front_before a b waiting bytes p = let (rest, m) = front_moves a b waiting p in (rest ++ bytes, moves_more a b waiting bytes rest m)
 
 -- all that waited was taken, and a beginning of them
-pub front_behind : (a b c : Option (List ℕ)) (waiting bytes : List ℕ) → Appends a b waiting → AppendsFront b c bytes → (rest : List ℕ) × Moves a c (waiting ++ bytes) rest
-front_behind a b c waiting bytes p q =
+pub front_taken : (a b c : Option (List ℕ)) (waiting bytes : List ℕ) → Appends a b waiting → AppendsFront b c bytes → (rest : List ℕ) × Moves a c (waiting ++ bytes) rest
+front_taken a b c waiting bytes p q =
     let (rest, m) = front_moves b c bytes q in
     (rest, moves_on a b c waiting bytes [] rest (record { front = waiting; whole = sym (append-nil waiting); taken = p }) m)
 
@@ -189,7 +189,7 @@ front_behind a b c waiting bytes p q =
 
 module _ {D A : Type 0} (contents : D → Option (List ℕ)) (failed : D → Bool) (before mid after : LineOut D A) (bytes : List ℕ) (m : Writes contents before [] mid) where
   -- nothing of it waits, and what waits was handed over, or not
-  pub put_left : (told : StreamFault) → PutHalts contents failed told mid [] after → PutHalts contents failed told before bytes after
+  pub put_left : (reported : StreamFault) → PutHalts contents failed reported mid [] after → PutHalts contents failed reported before bytes after
   put_left stream.Write p = (
     p.0,
     p.1 ++ bytes,
@@ -202,4 +202,4 @@ module _ {D A : Type 0} (contents : D → Option (List ℕ)) (failed : D → Boo
     subst (Appends (contents before.drain.now) (contents after.drain.now)) (append-nil before.buffer.now.items)
         (moves_all (contents before.drain.now) (contents mid.drain.now) (contents after.drain.now) (before.buffer.now.items ++ []) mid.buffer.now.items m p.1),
   )
-  put_left told p = absurd p
+  put_left reported p = absurd p

@@ -59,14 +59,14 @@ module _ (known : Option (List ℕ)) (left left' : Reading) (bytes : List ℕ) (
 
   -- the end
   pub gives_all : Consumes left.remaining left'.remaining [] → IsAtEnd left'.remaining → left'.has_ended ≡ true → left'.has_failed ≡ false → HasGivenAll known left' bytes
-  gives_all c at_end told live = record {
+  gives_all c at_end reported live = record {
     consumed = subst (Consumes known left'.remaining) (append-nil bytes) (Consumes-trans known left.remaining left'.remaining bytes [] i.consumed c);
     at_end = at_end;
-    ended = told;
+    ended = reported;
     live = live;
   }
 
 -- a `?` that reported a fault
-pub told_fault : {T : Type 0} (r : Result T LoadFault) (told : LoadFault) (P : LoadFault → Type 0) → IsErrAnd r (λ t. t ≡ told) → P told → IfErr r P
-told_fault (Ok x) told P e h = tt
-told_fault (Err t) told P e h = subst P (sym e) h
+pub reported_fault : {T : Type 0} (r : Result T LoadFault) (reported : LoadFault) (P : LoadFault → Type 0) → IsErrAnd r (λ t. t ≡ reported) → P reported → IfErr r P
+reported_fault (Ok x) reported P e h = tt
+reported_fault (Err t) reported P e h = subst P (sym e) h

@@ -14,16 +14,16 @@ use Rattle.rdf_stream.specs.Parts.{HaltsWithin, IsAsciiText, MayPass}
 use Rattle.rdf_stream.specs.Pieces.{HaltsOn, HasBegun, TakesMore}
 
 -- a front of an ASCII text is ASCII
-pub low_take : (n : ℕ) (w : List ℕ) → IsAsciiText w → IsAsciiText (take n w)
-low_take zero w a = tt
-low_take (suc n) [] a = tt
-low_take (suc n) (b ∷ w) a = (a.0, low_take n w a.1)
+pub ascii_take : (n : ℕ) (w : List ℕ) → IsAsciiText w → IsAsciiText (take n w)
+ascii_take zero w a = tt
+ascii_take (suc n) [] a = tt
+ascii_take (suc n) (b ∷ w) a = (a.0, ascii_take n w a.1)
 
 -- so is what stands from a place on
-low_drop : (n : ℕ) (w : List ℕ) → IsAsciiText w → IsAsciiText (drop n w)
-low_drop zero w a = a
-low_drop (suc n) [] a = tt
-low_drop (suc n) (b ∷ w) a = low_drop n w a.1
+ascii_drop : (n : ℕ) (w : List ℕ) → IsAsciiText w → IsAsciiText (drop n w)
+ascii_drop zero w a = a
+ascii_drop (suc n) [] a = tt
+ascii_drop (suc n) (b ∷ w) a = ascii_drop n w a.1
 
 -- the text may be cut where a run of ASCII ends
 module _ (w : List ℕ) (n : ℕ) (r : IsRun is_ascii_byte w 0 n) where
@@ -64,7 +64,7 @@ pub pass_later : (text front later : List ℕ) (at n to : ℕ) (b : Bool) → to
 pass_later text front later at n to b t m e = record {
   stands = sym (take-length later) ∙ (front_at (drop at text) front later (length front) n (length later) m.stands e (omega arith)
       ∙ ap (take (length later)) (drop-drop n at text ∙ ap (λ k. drop k text) (sym t)));
-  ascii = λ h. subst IsAsciiText (sym e) (low_take (length later) (drop n front) (low_drop n front (m.ascii h)));
+  ascii = λ h. subst IsAsciiText (sym e) (ascii_take (length later) (drop n front) (ascii_drop n front (m.ascii h)));
 }
 
 -- such a front ends within the bytes

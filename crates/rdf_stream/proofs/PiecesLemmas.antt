@@ -39,9 +39,9 @@ pub no_more : (left left' : Option (List ℕ)) (n : ℕ) (buf : List ℕ) → Co
 no_more left left' n buf h e room = subst (λ k. Consumes left left' (take k buf)) e h.0
 
 -- a `?` that reported a fault
-pub told_stops : {T : Type 0} (r : Result T StreamFault) (told : StreamFault) (P : StreamFault → Type 0) → IsErrAnd r (λ t. t ≡ told) → P told → IfErr r P
-told_stops (Ok x) told P e h = tt
-told_stops (Err t) told P e h = subst P (sym e) h
+pub reported_stops : {T : Type 0} (r : Result T StreamFault) (reported : StreamFault) (P : StreamFault → Type 0) → IsErrAnd r (λ t. t ≡ reported) → P reported → IfErr r P
+reported_stops (Ok x) reported P e h = tt
+reported_stops (Err t) reported P e h = subst P (sym e) h
 
 -- what each value, and each fault, brings
 pub if_ok : {T E : Type 0} (r : Result T E) (P Q : T → Type 0) → ((x : T) → P x → Q x) → IfOk r P → IfOk r Q
@@ -88,14 +88,14 @@ module _ {R : Type 0} (taken : R → List ℕ → R → Type 0) (halts : StreamF
       on_piece room' some h s = record { bytes = i.bytes ++ piece; consumed = all_consumed; is_taken = h first i.bytes i.is_taken; same = s; more = more; live = live; has_room = some }
 
       -- a fault in a piece
-      pub piece_stops : (told : StreamFault) → HaltsOn taken halts told now (λ bytes. bytes ++ piece) false now' → ReadStops taken halts told known left' first now'
-      piece_stops told h =
+      pub piece_stops : (reported : StreamFault) → HaltsOn taken halts reported now (λ bytes. bytes ++ piece) false now' → ReadStops taken halts reported known left' first now'
+      piece_stops reported h =
           inr (
             record { bytes = i.bytes ++ piece; consumed = all_consumed; ended = λ e. absurd (false≢true (sym more ∙ e)); live = live },
-            subst (λ e. halts told first (i.bytes ++ piece) e now') (sym more) (h first i.bytes i.is_taken),
+            subst (λ e. halts reported first (i.bytes ++ piece) e now') (sym more) (h first i.bytes i.is_taken),
           )
 
-    module _ (c : Consumes left.remaining left'.remaining []) (ended : IsAtEnd left'.remaining) (told : left'.has_ended ≡ true) where
+    module _ (c : Consumes left.remaining left'.remaining []) (ended : IsAtEnd left'.remaining) (reported : left'.has_ended ≡ true) where
       whole_consumed : Consumes known left'.remaining i.bytes
       whole_consumed = subst (Consumes known left'.remaining) (append-nil i.bytes) (Consumes-trans known left.remaining left'.remaining i.bytes [] i.consumed c)
 
@@ -103,7 +103,7 @@ module _ {R : Type 0} (taken : R → List ℕ → R → Type 0) (halts : StreamF
       pub end_read : (r : Result Summary StreamFault) → IfOk r (λ s. ReadsEnd taken ends s now now') → IfOk r (λ s. ReadsAll ends known left' s first now')
       end_read r h =
           if_ok r (λ s. ReadsEnd taken ends s now now') (λ s. ReadsAll ends known left' s first now')
-          (λ s e. record { bytes = i.bytes; consumed = whole_consumed; told = told; at_end = ended; is_end = e first i.bytes i.is_taken }) h
+          (λ s e. record { bytes = i.bytes; consumed = whole_consumed; reported = reported; at_end = ended; is_end = e first i.bytes i.is_taken }) h
 
       -- a fault at the end
       pub end_stops : (r : Result Summary StreamFault) → IfErr r (λ f. HaltsOn taken halts f now (λ bytes. bytes) true now') → IfErr r (λ f. ReadStops taken halts f known left' first now')
@@ -112,5 +112,5 @@ module _ {R : Type 0} (taken : R → List ℕ → R → Type 0) (halts : StreamF
           (λ f e.
           inr (
             record { bytes = i.bytes; consumed = whole_consumed; ended = λ _. ended; live = live },
-            subst (λ b. halts f first i.bytes b now') (sym told) (e first i.bytes i.is_taken),
+            subst (λ b. halts f first i.bytes b now') (sym reported) (e first i.bytes i.is_taken),
           )) h

@@ -25,7 +25,7 @@ use Rattle.rdf_stream.specs.declared.line_out.LineOut.{LineOut}
 use Rattle.rdf_stream.specs.Devices.{AppendsFront, HasGiven, Reading as Reader}
 use Rattle.rdf_stream.specs.Faults.{IsOfDocument, IsRefusal, fault_by}
 use Rattle.rdf_stream.specs.LineOut.{Moves, SameOut, Writes}
-use Rattle.rdf_stream.specs.Converting.{Tells, TellsFault, TellsWrite}
+use Rattle.rdf_stream.specs.Converting.{Reports, ReportsFault, ReportsWrite}
 use Rattle.rdf_stream.specs.Pieces.{ReadStops, ReadsAll, SourceFails}
 use Rattle.rdf_stream.specs.Shows.{ShowStops, Shows, ShowsFront, ShowsSome, ShowRefuses, StopsAt, dialect_of, token_lines, tokens_in}
 use Rattle.rdf_stream.specs.Showing.{Begins, HaltsFor, HandedOver, IsShowing, LeavesToken, ShowEnds, ShowHalts, TakesToken}
@@ -47,8 +47,8 @@ begun_less r ts us b = (us ++ b.0, b.1 ∙ append_assoc ts us b.0)
 begun_all : (r : Reading) (ts : List Token) → ts ≡ without_end r.tokens → Begun r ts
 begun_all r ts e = ([], sym e ∙ sym (append-nil ts))
 
-begun_ahead : (r : Reading) (ahead behind ts rest : List Token) → r.tokens ≡ ahead ++ behind → ts ++ rest ≡ without_end ahead → Begun r ts
-begun_ahead r ahead behind ts rest e d =
+begun_in_front : (r : Reading) (ahead behind ts rest : List Token) → r.tokens ≡ ahead ++ behind → ts ++ rest ≡ without_end ahead → Begun r ts
+begun_in_front r ahead behind ts rest e d =
     (rest ++ without_end behind, ap without_end e ∙ (without-append ahead behind ∙ (ap (λ l. l ++ without_end behind) (sym d) ∙ append_assoc ts rest (without_end behind))))
 
 -- a beginning of their lines is one of the lines of the reading
@@ -165,11 +165,11 @@ module _ {D A : Type 0} (contents : D → Option (List ℕ)) (failed : D → Boo
       record {
         more = h.more;
         tries = tried_tokens contents failed h.more lines mid h.puts;
-        begun = begun_ahead (tokens_in job b e) x.ahead x.behind (before ++ h.more) x.rest (ap (λ r. r.tokens) (sym (same ∙ same_reading b e)) ∙ x.tokens) (due_tokens d x.ahead ((before ++ h.more) ++ x.rest) x.due);
+        begun = begun_in_front (tokens_in job b e) x.ahead x.behind (before ++ h.more) x.rest (ap (λ r. r.tokens) (sym (same ∙ same_reading b e)) ∙ x.tokens) (due_tokens d x.ahead ((before ++ h.more) ++ x.rest) x.due);
       }
 
   -- the drain failed, before or when it was handed what waited
-  tells_write : (r : Reading) (mid after : LineOut D A) → LeftOff r mid → TellsWrite contents failed mid after → ShowsFront r (contents first.drain.now) (contents after.drain.now)
+  tells_write : (r : Reading) (mid after : LineOut D A) → LeftOff r mid → ReportsWrite contents failed mid after → ShowsFront r (contents first.drain.now) (contents after.drain.now)
   tells_write r mid after h t = by (failed mid.drain.now) refl
     where
       by : (b : Bool) → failed mid.drain.now ≡ b → ShowsFront r (contents first.drain.now) (contents after.drain.now)
@@ -183,7 +183,7 @@ module _ {D A : Type 0} (contents : D → Option (List ℕ)) (failed : D → Boo
           written_front after r h.more (rest ++ all_lines later) (subst (λ ts. Behind after ts (rest ++ all_lines later)) (sym split) m) h.begun
 
   -- the drain has all whole lines
-  tells_some : (r : Reading) (mid after : LineOut D A) → LeftOff r mid → TellsFault contents failed mid after → ShowsSome r (contents first.drain.now) (contents after.drain.now)
+  tells_some : (r : Reading) (mid after : LineOut D A) → LeftOff r mid → ReportsFault contents failed mid after → ShowsSome r (contents first.drain.now) (contents after.drain.now)
   tells_some r mid after h t =
       let (done, later, split, writes) = h.tries.whole t.live in
       shows_some (contents first.drain.now) (contents after.drain.now) r (before ++ done)
@@ -244,7 +244,7 @@ module _ {D A : Type 0} (contents : D → Option (List ℕ)) (failed : D → Boo
         };
       }
 
-  tells_refused : (why : Reason) (at : Place) (b : List ℕ) (e : Bool) (mid after : LineOut D A) → RefusedAt why at b e mid → TellsFault contents failed mid after →
+  tells_refused : (why : Reason) (at : Place) (b : List ℕ) (e : Bool) (mid after : LineOut D A) → RefusedAt why at b e mid → ReportsFault contents failed mid after →
       ShowRefuses why job b e at (contents first.drain.now) (contents after.drain.now)
   tells_refused why at b e mid after h t =
       refused_shown why at b e h.ahead (contents first.drain.now) (contents after.drain.now) h.refused
@@ -252,14 +252,14 @@ module _ {D A : Type 0} (contents : D → Option (List ℕ)) (failed : D → Boo
 
   -- ---- what is reported of an error
 
-  record Halted (told : StreamFault) (b : List ℕ) (e : Bool) (after : LineOut D A) : Type 0 where
+  record Halted (reported : StreamFault) (b : List ℕ) (e : Bool) (after : LineOut D A) : Type 0 where
     pub same : SameOut first after
-    pub halts : HaltsFor told job b e (contents first.drain.now) (contents after.drain.now) (failed after.drain.now)
+    pub halts : HaltsFor reported job b e (contents first.drain.now) (contents after.drain.now) (failed after.drain.now)
 
-  halts_by : (b : List ℕ) (e : Bool) (fault told : StreamFault) (mid after : LineOut D A) → LeftOff (tokens_in job b e) mid → SameOut mid after →
-      (TellsFault contents failed mid after → HaltsFor fault job b e (contents first.drain.now) (contents after.drain.now) (failed after.drain.now)) →
-      ((told ≡ stream.Write) × TellsWrite contents failed mid after) ⊎ ((told ≡ fault) × TellsFault contents failed mid after) → Halted told b e after
-  halts_by b e fault told mid after h s why t = record {
+  halts_by : (b : List ℕ) (e : Bool) (fault reported : StreamFault) (mid after : LineOut D A) → LeftOff (tokens_in job b e) mid → SameOut mid after →
+      (ReportsFault contents failed mid after → HaltsFor fault job b e (contents first.drain.now) (contents after.drain.now) (failed after.drain.now)) →
+      ((reported ≡ stream.Write) × ReportsWrite contents failed mid after) ⊎ ((reported ≡ fault) × ReportsFault contents failed mid after) → Halted reported b e after
+  halts_by b e fault reported mid after h s why t = record {
     same = same_out first mid after (same_out first lines mid o.same h.tries.same) s;
     halts = ⊎_elim
         (λ p. subst (λ y. HaltsFor y job b e (contents first.drain.now) (contents after.drain.now) (failed after.drain.now)) (sym p.0) (p.1.failed_now, tells_write (tokens_in job b e) mid after h p.1))
@@ -283,7 +283,7 @@ module _ {D A : Type 0} (contents : D → Option (List ℕ)) (failed : D → Boo
         let f = h.full tt bytes before o.read in
         let front = take most_bytes all_bytes in
         let b : Begun (tokens_in job (front ++ drop most_bytes all_bytes) false) (before ++ h.more) =
-        begun_ahead (tokens_in job (front ++ drop most_bytes all_bytes) false) (tokens_in job front false).tokens (longer job front (drop most_bytes all_bytes) false).0 (before ++ h.more) []
+        begun_in_front (tokens_in job (front ++ drop most_bytes all_bytes) false) (tokens_in job front false).tokens (longer job front (drop most_bytes all_bytes) false).0 (before ++ h.more) []
         (longer job front (drop most_bytes all_bytes) false).1 (append-nil (before ++ h.more) ∙ full_tokens h) in
         record {
           more = h.more;
@@ -294,7 +294,7 @@ module _ {D A : Type 0} (contents : D → Option (List ℕ)) (failed : D → Boo
         full_tokens : (h : R.Overruns w (TakesToken contents failed) reader lines piece here mid) → before ++ h.more ≡ without_end (tokens_in job (take most_bytes all_bytes) false).tokens
         full_tokens h = due_tokens d _ (before ++ h.more) (h.full tt bytes before o.read).due ∙ ap (λ r. without_end r.tokens) (same_reading (take most_bytes all_bytes) false)
 
-    overruns_shown : (after : LineOut D A) → R.Overruns w (TakesToken contents failed) reader lines piece here mid → TellsFault contents failed mid after →
+    overruns_shown : (after : LineOut D A) → R.Overruns w (TakesToken contents failed) reader lines piece here mid → ReportsFault contents failed mid after →
         ShowRefuses reason.DocumentTooLong job all_bytes false here (contents first.drain.now) (contents after.drain.now)
     overruns_shown after h t =
         let f = h.full tt bytes before o.read in
@@ -311,7 +311,7 @@ module _ {D A : Type 0} (contents : D → Option (List ℕ)) (failed : D → Boo
     left_piece reason.DocumentTooLong h = overruns h
     left_piece why h = (refuses why here all_bytes false (piece_reading w reader.scanner.limit piece) mid refl h).left
 
-    fault_piece : (after : LineOut D A) (why : Reason) → FailsPiece why → TellsFault contents failed mid after →
+    fault_piece : (after : LineOut D A) (why : Reason) → FailsPiece why → ReportsFault contents failed mid after →
         HaltsFor (fault_by why (record { reason = why; offset = n; line = k })) job all_bytes false (contents first.drain.now) (contents after.drain.now) (failed after.drain.now)
     fault_piece after reason.Ended h t = absurd (false≢true (sym o.read.running ∙ h.0))
     fault_piece after reason.Memory h t = (t.live_now, tells_some (tokens_in job all_bytes false) mid after (left_piece reason.Memory h) t)
@@ -320,10 +320,10 @@ module _ {D A : Type 0} (contents : D → Option (List ℕ)) (failed : D → Boo
     fault_piece after why h t = tells_refused why here all_bytes false mid after (refuses why here all_bytes false (piece_reading w reader.scanner.limit piece) mid refl h) t
 
     -- an error in a piece
-    piece_halts : (why : Reason) (after : LineOut D A) (told : StreamFault) → FailsPiece why → SameOut mid after → Tells contents failed (record { reason = why; offset = n; line = k }) told mid after →
-        Halted told all_bytes false after
-    piece_halts why after told h s t =
-        halts_by all_bytes false (fault_by why (record { reason = why; offset = n; line = k })) told mid after (left_piece why h) s (fault_piece after why h) t
+    piece_halts : (why : Reason) (after : LineOut D A) (reported : StreamFault) → FailsPiece why → SameOut mid after → Reports contents failed (record { reason = why; offset = n; line = k }) reported mid after →
+        Halted reported all_bytes false after
+    piece_halts why after reported h s t =
+        halts_by all_bytes false (fault_by why (record { reason = why; offset = n; line = k })) reported mid after (left_piece why h) s (fault_piece after why h) t
 
   module _ (n k : ℕ) (reader' : Driven ℕ) (mid : LineOut D A) where
     abbrev end_at : Place
@@ -341,7 +341,7 @@ module _ {D A : Type 0} (contents : D → Option (List ℕ)) (failed : D → Boo
     left_end reason.Sink h = leaves_off bytes true end_reading mid refl h.0
     left_end why h = (refuses why end_at bytes true end_reading mid refl h).left
 
-    fault_end : (after : LineOut D A) (why : Reason) → FailsEnd why → TellsFault contents failed mid after →
+    fault_end : (after : LineOut D A) (why : Reason) → FailsEnd why → ReportsFault contents failed mid after →
         HaltsFor (fault_by why (record { reason = why; offset = n; line = k })) job bytes true (contents first.drain.now) (contents after.drain.now) (failed after.drain.now)
     fault_end after reason.Ended h t = absurd (false≢true (sym o.read.running ∙ h.0))
     fault_end after reason.Memory h t = (t.live_now, tells_some (tokens_in job bytes true) mid after (left_end reason.Memory h) t)
@@ -349,9 +349,9 @@ module _ {D A : Type 0} (contents : D → Option (List ℕ)) (failed : D → Boo
     fault_end after why h t = tells_refused why end_at bytes true mid after (refuses why end_at bytes true end_reading mid refl h) t
 
     -- an error at the end
-    end_halts : (why : Reason) (after : LineOut D A) (told : StreamFault) → FailsEnd why → SameOut mid after → Tells contents failed (record { reason = why; offset = n; line = k }) told mid after →
-        Halted told bytes true after
-    end_halts why after told h s t = halts_by bytes true (fault_by why (record { reason = why; offset = n; line = k })) told mid after (left_end why h) s (fault_end after why h) t
+    end_halts : (why : Reason) (after : LineOut D A) (reported : StreamFault) → FailsEnd why → SameOut mid after → Reports contents failed (record { reason = why; offset = n; line = k }) reported mid after →
+        Halted reported bytes true after
+    end_halts why after reported h s t = halts_by bytes true (fault_by why (record { reason = why; offset = n; line = k })) reported mid after (left_end why h) s (fault_end after why h) t
 
   -- ---- all that comes was read
 
@@ -437,9 +437,9 @@ module _ {D A : Type 0} (contents : D → Option (List ℕ)) (failed : D → Boo
   pub live_now : failed lines.drain.now ≡ false
   live_now = begun_with.live
 
-  halted : (told : StreamFault) (b : List ℕ) (e : Bool) (after : LineOut D A) →
-      ((job : JobRead) (o : HandedOver contents failed d job old bytes first lines) → Halted contents failed d job old bytes first lines o told b e after) → ShowHalts contents failed d told reader first b e after
-  halted told b e after h = record { begun = i.begun; same = (h i.begun.0 begun_with).same; halts = λ job y. (h job (i.handed job y)).halts }
+  halted : (reported : StreamFault) (b : List ℕ) (e : Bool) (after : LineOut D A) →
+      ((job : JobRead) (o : HandedOver contents failed d job old bytes first lines) → Halted contents failed d job old bytes first lines o reported b e after) → ShowHalts contents failed d reported reader first b e after
+  halted reported b e after h = record { begun = i.begun; same = (h i.begun.0 begun_with).same; halts = λ job y. (h job (i.handed job y)).halts }
 
   -- what stays from the beginning of a run stays from any state that had it
   pub stays_on : (after : LineOut D A) → SameOut first after → (other : LineOut D A) → SameOut other lines → SameOut other after
@@ -482,11 +482,11 @@ module _ {D A : Type 0} (contents : D → Option (List ℕ)) (failed : D → Boo
       run_broke after s t broke = halted stream.Write (bytes ++ piece) false after (λ job o. piece_broke contents failed d job old bytes first lines o piece new mid f after s t broke)
 
     -- an error in a piece
-    pub run_halts : (n k : ℕ) (new : Driven ℕ) (mid after : LineOut D A) (why : Reason) (told : StreamFault) →
+    pub run_halts : (n k : ℕ) (new : Driven ℕ) (mid after : LineOut D A) (why : Reason) (reported : StreamFault) →
         FeedFails (token_words d) (TakesToken contents failed) (LeavesToken contents failed) (λ s. failed s.drain.now) why (record { offset = n; line = k }) old lines piece new mid → SameOut mid after →
-        Tells contents failed (record { reason = why; offset = n; line = k }) told mid after → ShowHalts contents failed d told reader first (bytes ++ piece) false after
-    run_halts n k new mid after why told h s t =
-        halted told (bytes ++ piece) false after (λ job o. piece_halts contents failed d job old bytes first lines o piece n k new mid why after told h s t)
+        Reports contents failed (record { reason = why; offset = n; line = k }) reported mid after → ShowHalts contents failed d reported reader first (bytes ++ piece) false after
+    run_halts n k new mid after why reported h s t =
+        halted reported (bytes ++ piece) false after (λ job o. piece_halts contents failed d job old bytes first lines o piece n k new mid why after reported h s t)
 
   module _ (summary : Summary) (mid : LineOut D A) (f : Finishes (token_words d) (TakesToken contents failed) old lines summary mid) where
     -- the document was read, and its tokens shown
@@ -504,10 +504,10 @@ module _ {D A : Type 0} (contents : D → Option (List ℕ)) (failed : D → Boo
     end_run_broke after s t broke = halted stream.Write bytes true after (λ job o. end_broke contents failed d job old bytes first lines o summary mid f after s t broke)
 
   -- an error at the end
-  pub end_run_halts : (n k : ℕ) (new : Driven ℕ) (mid after : LineOut D A) (why : Reason) (told : StreamFault) →
+  pub end_run_halts : (n k : ℕ) (new : Driven ℕ) (mid after : LineOut D A) (why : Reason) (reported : StreamFault) →
       FinishFails (token_words d) (TakesToken contents failed) (LeavesToken contents failed) (λ s. failed s.drain.now) why (record { offset = n; line = k }) old lines new mid → SameOut mid after →
-      Tells contents failed (record { reason = why; offset = n; line = k }) told mid after → ShowHalts contents failed d told reader first bytes true after
-  end_run_halts n k new mid after why told h s t = halted told bytes true after (λ job o. end_halts contents failed d job old bytes first lines o n k new mid why after told h s t)
+      Reports contents failed (record { reason = why; offset = n; line = k }) reported mid after → ShowHalts contents failed d reported reader first bytes true after
+  end_run_halts n k new mid after why reported h s t = halted reported bytes true after (λ job o. end_halts contents failed d job old bytes first lines o n k new mid why after reported h s t)
 
 -- ---- a whole run
 
@@ -519,15 +519,15 @@ refusal_of_document reason.Ended job bytes e at old new h = h
 refusal_of_document why job bytes e at old new h = tt
 
 -- a refusal that showing reports is one of the document
-halts_of_document : (told : StreamFault) (job : JobRead) (bytes : List ℕ) (e : Bool) (old new : Option (List ℕ)) (failed : Bool) → HaltsFor told job bytes e old new failed → IsRefusal told
+halts_of_document : (reported : StreamFault) (job : JobRead) (bytes : List ℕ) (e : Bool) (old new : Option (List ℕ)) (failed : Bool) → HaltsFor reported job bytes e old new failed → IsRefusal reported
 halts_of_document (stream.Refused f) job bytes e old new failed h = refusal_of_document f.reason job bytes e (place_of f) old new h
 halts_of_document stream.Read job bytes e old new failed h = tt
 halts_of_document stream.Write job bytes e old new failed h = tt
 halts_of_document stream.Memory job bytes e old new failed h = tt
 
 -- why the bytes that were given are not read on is why the tokens are not all shown
-halts_stops : (told : StreamFault) (job : JobRead) (known : Option (List ℕ)) (left : Reader) (old new : Option (List ℕ)) (write_failed : Bool) (given : HasGiven known left) →
-    HaltsFor told job given.bytes left.has_ended old new write_failed → ShowStops told job known left old new write_failed
+halts_stops : (reported : StreamFault) (job : JobRead) (known : Option (List ℕ)) (left : Reader) (old new : Option (List ℕ)) (write_failed : Bool) (given : HasGiven known left) →
+    HaltsFor reported job given.bytes left.has_ended old new write_failed → ShowStops reported job known left old new write_failed
 halts_stops (stream.Refused f) job known left old new write_failed given h =
     (all_given known left (λ bytes e. ShowRefuses f.reason job bytes e (place_of f) old new) (λ bytes more x. stops_more job bytes more true old new f.reason (place_of f) x) given h, given, h)
 halts_stops stream.Read job known left old new write_failed given h = absurd h
@@ -543,7 +543,7 @@ module _ {D : Type 0} (A : Type 0) (contents : D → Option (List ℕ)) (failed 
   Taken first bytes now = IsShowing contents failed d first.0 first.1 bytes now.0 now.1
 
   abbrev pub Stopped : StreamFault → State → List ℕ → Bool → State → Type 0
-  Stopped told first bytes e now = ShowHalts contents failed d told first.0 first.1 bytes e now.1
+  Stopped reported first bytes e now = ShowHalts contents failed d reported first.0 first.1 bytes e now.1
 
   abbrev pub Ended : Summary → State → List ℕ → State → Type 0
   Ended s first bytes now = ShowEnds contents failed flushed d s first.0 first.1 bytes now.1
@@ -588,11 +588,11 @@ module _ {D : Type 0} (A : Type 0) (contents : D → Option (List ℕ)) (failed 
           },
         )
 
-    pub run_stopped : (told : StreamFault) → ReadStops Taken Stopped told known left first now → ShowStops told job known left old new (failed now.1.drain.now)
-    run_stopped told h =
+    pub run_stopped : (reported : StreamFault) → ReadStops Taken Stopped reported known left first now → ShowStops reported job known left old new (failed now.1.drain.now)
+    run_stopped reported h =
         ⊎_elim (λ p. subst (λ t. ShowStops t job known left old new (failed now.1.drain.now)) (sym p.0) (broke p.1))
-        (λ p. halts_stops told job known left old new (failed now.1.drain.now) p.0 (p.1.halts job b)) h
+        (λ p. halts_stops reported job known left old new (failed now.1.drain.now) p.0 (p.1.halts job b)) h
 
-    pub run_refused : (told : StreamFault) → ReadStops Taken Stopped told known left first now → IsRefusal told
-    run_refused told h =
-        ⊎_elim (λ p. subst IsRefusal (sym p.0) tt) (λ p. halts_of_document told job p.0.bytes left.has_ended old new (failed now.1.drain.now) (p.1.halts job b)) h
+    pub run_refused : (reported : StreamFault) → ReadStops Taken Stopped reported known left first now → IsRefusal reported
+    run_refused reported h =
+        ⊎_elim (λ p. subst IsRefusal (sym p.0) tt) (λ p. halts_of_document reported job p.0.bytes left.has_ended old new (failed now.1.drain.now) (p.1.halts job b)) h

@@ -57,12 +57,12 @@ pub record IsChecking {G X : Type 0} (w : Words G X Quad) (reader : Driven G) (b
 abbrev pub ChecksNoMore : StreamFault → Language → List ℕ → Bool → Type 0
 ChecksNoMore (Refused f) language bytes is_end = IsRefusedFor f.reason language bytes is_end (place_of f)
 ChecksNoMore Memory language bytes is_end = Unit
-ChecksNoMore told language bytes is_end = ⊥
+ChecksNoMore reported language bytes is_end = ⊥
 
 -- Since the run began these bytes came, and are not read on.
-pub record CheckHalts {G X : Type 0} (w : Words G X Quad) (told : StreamFault) (reader : Driven G) (bytes : List ℕ) (is_end : Bool) : Type 0 where
+pub record CheckHalts {G X : Type 0} (w : Words G X Quad) (reported : StreamFault) (reader : Driven G) (bytes : List ℕ) (is_end : Bool) : Type 0 where
   pub begun : (x : X) × BeginsToRead w x reader
-  pub halts : (x : X) → BeginsToRead w x reader → ChecksNoMore told (in_words w x reader.scanner.limit) bytes is_end
+  pub halts : (x : X) → BeginsToRead w x reader → ChecksNoMore reported (in_words w x reader.scanner.limit) bytes is_end
 
 -- Since the run began these bytes came, they are all that there are, and are a document.
 abbrev pub CheckEnds : {G X : Type 0} → Words G X Quad → Summary → Driven G → List ℕ → Type 0

@@ -83,12 +83,13 @@ HaltsFor fault.Write job bytes is_end old new failed = (failed ≡ true) × Writ
 HaltsFor fault.Memory job bytes is_end old new failed = (failed ≡ false) × WritesSome job (reading_of job.language bytes is_end).tokens old new
 
 -- Since the run began these bytes came, and are not read on.
-pub record RunHalts {G X D A : Type 0} (contents : D → Option (List ℕ)) (failed : D → Bool) (w : Words G X Quad) (told : StreamFault)
+pub record RunHalts {G X D A : Type 0} (contents : D → Option (List ℕ)) (failed : D → Bool) (w : Words G X Quad) (reported : StreamFault)
     (reader : Driven G) (first : LineOut D A) (bytes : List ℕ) (is_end : Bool) (lines : LineOut D A) : Type 0 where
   pub begun : (x : X) × Begins failed w x reader first
   pub same : SameOut first lines
   pub halts : (x : X) → Begins failed w x reader first →
-      HaltsFor told (conversion w x reader.scanner.limit (form_of first.form)) bytes is_end (contents first.drain.now) (contents lines.drain.now) (failed lines.drain.now)
+      HaltsFor reported (conversion w x reader.scanner.limit (form_of first.form)) bytes is_end
+      (contents first.drain.now) (contents lines.drain.now) (failed lines.drain.now)
 
 -- Since the run began these bytes came, they are all that there are, and were converted.
 pub record RunEnds {G X D A : Type 0} (contents : D → Option (List ℕ)) (failed flushed : D → Bool) (w : Words G X Quad) (summary : Summary)
@@ -99,18 +100,19 @@ pub record RunEnds {G X D A : Type 0} (contents : D → Option (List ℕ)) (fail
       Accepts (conversion w x reader.scanner.limit (form_of first.form)) bytes (contents first.drain.now) (contents lines.drain.now) summary
 
 -- The drain has failed: before, and is as it was, or while it took what waited.
-pub record TellsWrite {D A : Type 0} (contents : D → Option (List ℕ)) (failed : D → Bool) (before after : LineOut D A) : Type 0 where
+pub record ReportsWrite {D A : Type 0} (contents : D → Option (List ℕ)) (failed : D → Bool) (before after : LineOut D A) : Type 0 where
   pub failed_now : failed after.drain.now ≡ true
-  pub while_taking : failed before.drain.now ≡ false → (rest : List ℕ) × Moves (contents before.drain.now) (contents after.drain.now) before.buffer.now.items rest
+  pub while_taking : failed before.drain.now ≡ false → (rest : List ℕ) ×
+      Moves (contents before.drain.now) (contents after.drain.now) before.buffer.now.items rest
   pub before_it : failed before.drain.now ≡ true → contents after.drain.now ≡ contents before.drain.now
 
 -- The drain has not failed, and has taken all that waited.
-pub record TellsFault {D A : Type 0} (contents : D → Option (List ℕ)) (failed : D → Bool) (before after : LineOut D A) : Type 0 where
+pub record ReportsFault {D A : Type 0} (contents : D → Option (List ℕ)) (failed : D → Bool) (before after : LineOut D A) : Type 0 where
   pub live : failed before.drain.now ≡ false
   pub live_now : failed after.drain.now ≡ false
   pub taken : Appends (contents before.drain.now) (contents after.drain.now) before.buffer.now.items
 
 -- what is reported of a reader's fault, once all that waited was handed over
-abbrev pub Tells : {D A : Type 0} → (D → Option (List ℕ)) → (D → Bool) → Fault → StreamFault → LineOut D A → LineOut D A → Type 0
-Tells contents failed f told before after =
-    ((told ≡ fault.Write) × TellsWrite contents failed before after) ⊎ ((told ≡ fault_by f.reason f) × TellsFault contents failed before after)
+abbrev pub Reports : {D A : Type 0} → (D → Option (List ℕ)) → (D → Bool) → Fault → StreamFault → LineOut D A → LineOut D A → Type 0
+Reports contents failed f reported before after =
+    ((reported ≡ fault.Write) × ReportsWrite contents failed before after) ⊎ ((reported ≡ fault_by f.reason f) × ReportsFault contents failed before after)

@@ -21,4 +21,4 @@ IsOfDocument reason = Unit
 -- What is refused is the document.
 abbrev pub IsRefusal : StreamFault → Type 0
 IsRefusal (Refused f) = IsOfDocument f.reason
-IsRefusal told = Unit
+IsRefusal reported = Unit

@@ -49,11 +49,11 @@ pub record Leaves {D A : Type 0} (contents : D → Option (List ℕ)) (failed : 
   pub moves : Moves (contents before.drain.now) (contents after.drain.now) (before.buffer.now.items ++ line_bytes before.form q) rest
   pub live : failed after.drain.now ≡ false → Writes contents before [] after
 
--- What is told of bytes that were not put, once all that waited was handed over: nothing of them was written, or where the drain failed, a beginning of
+-- What is reported of bytes that were not put, once all that waited was handed over: nothing of them was written, or where the drain failed, a beginning of
 -- what waited and of them.
 abbrev pub PutHalts : {D A : Type 0} → (D → Option (List ℕ)) → (D → Bool) → StreamFault → LineOut D A → List ℕ → LineOut D A → Type 0
 PutHalts contents failed fault.Write before bytes after =
     (failed after.drain.now ≡ true) × (rest : List ℕ) × Moves (contents before.drain.now) (contents after.drain.now) (before.buffer.now.items ++ bytes) rest
 PutHalts contents failed fault.Memory before bytes after =
     (failed after.drain.now ≡ false) × Appends (contents before.drain.now) (contents after.drain.now) before.buffer.now.items
-PutHalts contents failed told before bytes after = ⊥
+PutHalts contents failed reported before bytes after = ⊥

@@ -10,7 +10,7 @@ use Rattle.rdf_stream.specs.declared.fault.LoadFault.{LoadFault}
 use Rattle.rdf_stream.specs.declared.fault.LoadFault.TheVariants.{Read, Memory, Bad}
 use Rattle.rdf_stream.specs.Devices.{HasBroken, HasGiven, Reading}
 
--- These are all bytes that the source had, and it has told its end.
+-- These are all bytes that the source had, and it has reported its end.
 pub record HasGivenAll (known : Option (List ℕ)) (left : Reading) (bytes : List ℕ) : Type 0 where
   pub consumed : Consumes known left.remaining bytes
   pub at_end : IsAtEnd left.remaining

@@ -1,4 +1,4 @@
--- The line that tells of a fault, as the program prints it.
+-- The line that reports a fault, as the program prints it.
 use Rattle.std.specs.Prelude.{ℕ, List, [], ◌∷◌, ◌++◌, codes, decimal}
 use Rattle.rdf_terms.specs.declared.reason.Reason.{Reason}
 use Rattle.rdf_terms.specs.declared.reason.Reason.TheVariants as reason

@@ -28,7 +28,7 @@ pub record ReadsAll {R : Type 0} (ends : Summary → R → List ℕ → R → Ty
     (known : Option (List ℕ)) (left : Reading) (summary : Summary) (first now : R) : Type 0 where
   pub bytes : List ℕ
   pub consumed : Consumes known left.remaining bytes
-  pub told : left.has_ended ≡ true
+  pub reported : left.has_ended ≡ true
   pub at_end : IsAtEnd left.remaining
   pub is_end : ends summary first bytes now
 

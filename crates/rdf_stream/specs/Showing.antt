@@ -62,12 +62,12 @@ pub record IsShowing {D A : Type 0} (contents : D → Option (List ℕ)) (failed
   pub handed : (job : JobRead) → Begins failed d job reader first → HandedOver contents failed d job now bytes first lines
 
 -- Since the run began these bytes came, and are not read on.
-pub record ShowHalts {D A : Type 0} (contents : D → Option (List ℕ)) (failed : D → Bool) (d : Dialect) (told : StreamFault)
+pub record ShowHalts {D A : Type 0} (contents : D → Option (List ℕ)) (failed : D → Bool) (d : Dialect) (reported : StreamFault)
     (reader : Driven ℕ) (first : LineOut D A) (bytes : List ℕ) (is_end : Bool) (lines : LineOut D A) : Type 0 where
   pub begun : (job : JobRead) × Begins failed d job reader first
   pub same : SameOut first lines
   pub halts : (job : JobRead) → Begins failed d job reader first →
-      HaltsFor told job bytes is_end (contents first.drain.now) (contents lines.drain.now) (failed lines.drain.now)
+      HaltsFor reported job bytes is_end (contents first.drain.now) (contents lines.drain.now) (failed lines.drain.now)
 
 -- Since the run began these bytes came, they are all that there are, and their tokens were shown.
 pub record ShowEnds {D A : Type 0} (contents : D → Option (List ℕ)) (failed flushed : D → Bool) (d : Dialect) (summary : Summary)

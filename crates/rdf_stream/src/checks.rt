@@ -52,8 +52,8 @@ fn check_with<A: Allocator + Copy, G: Passes<A>, S: Source>(
     ensures accepted { IfOk result (λ summary. (x : G.Setting) → BeginsToRead G.words x reader →
         IsAllAccepted (in_words G.words x reader.scanner.limit) (S.remaining source.old) summary) }
     ensures ended { OnOk result (S.has_ended source.new ≡ true) }
-    ensures stops { IfErr result (λ told. (x : G.Setting) → BeginsToRead G.words x reader →
-        CheckStops told (in_words G.words x reader.scanner.limit) (S.remaining source.old) (reading S.remaining S.has_ended S.has_failed source.new)) }
+    ensures stops { IfErr result (λ reported. (x : G.Setting) → BeginsToRead G.words x reader →
+        CheckStops reported (in_words G.words x reader.scanner.limit) (S.remaining source.old) (reading S.remaining S.has_ended S.has_failed source.new)) }
     ensures refused { IfErr result IsRefusal }
 {
     let mut piece = piece_buffer(alloc)?;
@@ -64,7 +64,7 @@ fn check_with<A: Allocator + Copy, G: Passes<A>, S: Source>(
 impl<A: Allocator + Copy, G: Passes<A>> Run<NoQuads> for Reader<G, A> {
     ghost taken = { λ first bytes now. IsChecking G.words first.0 bytes now.0 };
 
-    ghost halts = { λ told first bytes is_end now. CheckHalts G.words told first.0 bytes is_end };
+    ghost halts = { λ reported first bytes is_end now. CheckHalts G.words reported first.0 bytes is_end };
 
     ghost ends = { λ summary first bytes now. CheckEnds G.words summary first.0 bytes };
 
@@ -87,7 +87,7 @@ impl<A: Allocator + Copy, G: Passes<A>> Run<NoQuads> for Reader<G, A> {
 impl<A: Allocator + Copy, G: Passes<A>> Parts<NoQuads> for Reader<G, A> {
     ghost taken = { λ first bytes now. IsChecking G.words first.0 bytes now.0 };
 
-    ghost halts = { λ told first bytes is_end now. CheckHalts G.words told first.0 bytes is_end };
+    ghost halts = { λ reported first bytes is_end now. CheckHalts G.words reported first.0 bytes is_end };
 
     ghost count = { λ now. now.so_far.bytes };
 

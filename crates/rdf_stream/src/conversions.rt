@@ -75,12 +75,14 @@ fn convert_with<A: Allocator + Copy, G: Passes<A>, S: Source, D: Drain>(
     requires source { S.has_failed source.old ≡ false }
     requires room { 0 < length piece.old }
     ensures accepted { IfOk result (λ summary. (x : G.Setting) → Begins D.has_failed G.words x reader lines.old → IfSome (S.remaining source.old) (λ bytes.
-        Accepts (conversion G.words x reader.scanner.limit (form_of lines.old.form)) bytes (D.contents lines.old.drain.now) (D.contents lines.new.drain.now) summary)) }
+        Accepts (conversion G.words x reader.scanner.limit (form_of lines.old.form)) bytes
+        (D.contents lines.old.drain.now) (D.contents lines.new.drain.now) summary)) }
     ensures ended { OnOk result (S.has_ended source.new ≡ true) }
     ensures flushed { OnOk result (D.is_flushed lines.new.drain.now ≡ true) }
     ensures same { SameOut lines.old lines.new }
-    ensures stops { IfErr result (λ told. (x : G.Setting) → Begins D.has_failed G.words x reader lines.old →
-        StopsFor told (conversion G.words x reader.scanner.limit (form_of lines.old.form)) (S.remaining source.old) (reading S.remaining S.has_ended S.has_failed source.new)
+    ensures stops { IfErr result (λ reported. (x : G.Setting) → Begins D.has_failed G.words x reader lines.old →
+        StopsFor reported (conversion G.words x reader.scanner.limit (form_of lines.old.form)) (S.remaining source.old)
+        (reading S.remaining S.has_ended S.has_failed source.new)
         (D.contents lines.old.drain.now) (D.contents lines.new.drain.now) (D.has_failed lines.new.drain.now)) }
     ensures refused { IfErr result IsRefusal }
 {
@@ -92,7 +94,7 @@ impl<'a, A: Allocator + Copy, G: QuadGrammar + Passes<A>, D: Drain> Run<LineOut<
     for Reader<G, A> {
     ghost taken = { λ first bytes now. IsConverting D.contents D.has_failed G.words G.style first.0 first.1 bytes now.0 now.1 };
 
-    ghost halts = { λ told first bytes is_end now. RunHalts D.contents D.has_failed G.words told first.0 first.1 bytes is_end now.1 };
+    ghost halts = { λ reported first bytes is_end now. RunHalts D.contents D.has_failed G.words reported first.0 first.1 bytes is_end now.1 };
 
     ghost ends = { λ summary first bytes now. RunEnds D.contents D.has_failed D.is_flushed G.words summary first.0 first.1 bytes now.1 };
 
@@ -126,7 +128,7 @@ impl<'a, A: Allocator + Copy, G: QuadGrammar + Passes<A>, D: Drain> Run<LineOut<
 impl<'a, A: Allocator + Copy, G: Passes<A>, D: Drain> Parts<LineOut<'a, D, A>> for Reader<G, A> {
     ghost taken = { λ first bytes now. IsPutting D.contents D.has_failed G.words G.style first.0 first.1 bytes now.0 now.1 };
 
-    ghost halts = { λ told first bytes is_end now. RunHalts D.contents D.has_failed G.words told first.0 first.1 bytes is_end now.1 };
+    ghost halts = { λ reported first bytes is_end now. RunHalts D.contents D.has_failed G.words reported first.0 first.1 bytes is_end now.1 };
 
     ghost count = { λ now. now.so_far.bytes };
 

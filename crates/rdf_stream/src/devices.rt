@@ -2,7 +2,7 @@
 
 ghost use Rattle.std.specs.Prelude.{◌≡◌, ℕ, ◌<◌, ◌≤◌, List, length, true, false, is_err, is_ok, Option, Bool, IfOk};
 ghost use Rattle.std.specs.Io.KnownBytes.{Keeps, ReadConsumes, WriteAppends};
-ghost use Rattle.rdf_stream.specs.Devices.{Reading, TellsEnd, Written};
+ghost use Rattle.rdf_stream.specs.Devices.{Reading, ReportsEnd, Written};
 
 use std::io::{Read, Write};
 use std::marker::Model;
@@ -15,7 +15,7 @@ pub struct Failed;
 pub trait Source {
     /// The bytes that are left, where they are known.
     ghost remaining: { Self → Option (List ℕ) };
-    /// Whether a call has told the end.
+    /// Whether a call has reported the end.
     ghost has_ended: { Self → Bool };
     /// Whether a call has failed.
     ghost has_failed: { Self → Bool };
@@ -28,10 +28,10 @@ pub trait Source {
         ensures bound { IfOk result (λ n. n ≤ length buf.new) }
         ensures len { length buf.new ≡ length buf.old }
         ensures bytes { ReadConsumes (remaining self.old) (remaining self.new) result buf.new }
-        ensures ended { TellsEnd result buf.new (has_ended self.new) }
+        ensures ended { ReportsEnd result buf.new (has_ended self.new) }
         ensures failed { has_failed self.new ≡ is_err result };
 
-    /// Whether a call has told the end.
+    /// Whether a call has reported the end.
     fn ended(&self) -> bool
         ensures { result ≡ has_ended self.now };
 

@@ -14,7 +14,7 @@ use thiserror::Error;
 /// Why a run stopped before it had written all.
 #[derive(Debug, Drop, Error)]
 pub enum StreamFault {
-    /// The document is refused. A run never tells the reasons `Memory`, `Ended` and `Sink` so.
+    /// The document is refused. A run never reports the reasons `Memory`, `Ended` and `Sink` in this way.
     #[error("refused at byte {}, line {}", .0.offset, .0.line)]
     Refused(Fault),
     /// The source failed.
@@ -38,7 +38,7 @@ impl From<AllocError> for StreamFault {
 
 /// A fault of a reader whose sink has the run's drain. Its `Memory` is the run's, and its `Sink` the drain's failure.
 impl From<Fault> for StreamFault {
-    ghost from_gives = { λ fault told. told ≡ fault_by fault.reason fault };
+    ghost from_gives = { λ fault reported. reported ≡ fault_by fault.reason fault };
 
     fn from(fault: Fault) -> StreamFault {
         match fault.reason {
@@ -52,7 +52,7 @@ impl From<Fault> for StreamFault {
 /// Why a file of bindings was not loaded.
 #[derive(Debug, Drop, Error)]
 pub enum LoadFault {
-    /// A line of the file is refused. A load never tells the reason `Memory` so.
+    /// A line of the file is refused. A load never reports the reason `Memory` in this way.
     #[error("refused at line {}", .0.line)]
     Bad(BindingFault),
     /// The source failed.
@@ -74,7 +74,7 @@ impl From<AllocError> for LoadFault {
 }
 
 impl From<BindingFault> for LoadFault {
-    ghost from_gives = { λ fault told. told ≡ load_fault fault.reason fault };
+    ghost from_gives = { λ fault reported. reported ≡ load_fault fault.reason fault };
 
     fn from(fault: BindingFault) -> LoadFault {
         match fault.reason {

@@ -36,7 +36,14 @@ impl<A: Allocator> Model for Job<A> {
 
     ghost Value = { JobRead };
 
-    ghost view = { λ j. record { form = j.form; base = j.base; bindings = handed_in j.bindings; escapes = j.escapes; node_prefix = word_of j.node_prefix; limits = j.limits } };
+    ghost view = { λ j. record {
+      form = j.form;
+      base = j.base;
+      bindings = handed_in j.bindings;
+      escapes = j.escapes;
+      node_prefix = word_of j.node_prefix;
+      limits = j.limits;
+    } };
 
     ghost invariant = { λ j. BaseFits j.base j.limits × IfSome j.bindings (λ b. b.limits ≡ j.limits) };
 }
@@ -45,7 +52,14 @@ impl<A: Allocator> Job<A> {
     /// A job without bindings, in plain lines and without a word in front of the names of nodes, or None where the base has more
     /// bytes than the limits allow for an IRI. It takes no memory.
     pub fn new(form: Form, base: Option<Iri<A>>, limits: Limits) -> Option<Job<A>>
-        ensures made { IfSome result (λ job. job ≡ record { form = form; base = base; bindings = []; escapes = Escapes.Plain; node_prefix = []; limits = limits }) }
+        ensures made { IfSome result (λ job. job ≡ record {
+          form = form;
+          base = base;
+          bindings = [];
+          escapes = Escapes.Plain;
+          node_prefix = [];
+          limits = limits;
+        }) }
         ensures none { (result ≡ None) ↔ ¬ BaseFits base limits }
     {
         if !fits(&base, limits) {

@@ -2,7 +2,7 @@
 
 ghost use Rattle.std.specs.Prelude.{◌≡◌, ◌↔◌, [], ◌<◌, length, true, false, Bool, List, ℕ, Option, is_err, OnOk, OnErr, IfErr};
 ghost use Rattle.std.specs.Io.KnownBytes.{Appends};
-ghost use Rattle.rdf_stream.specs.Converting.{Tells};
+ghost use Rattle.rdf_stream.specs.Converting.{Reports};
 ghost use Rattle.rdf_stream.specs.Devices.{AppendsFront};
 ghost use Rattle.rdf_tokens.specs.Scans.{token_of};
 ghost use Rattle.rdf_stream.specs.LineOut.{Leaves, PutHalts, SameOut, Takes, Writes, most_waiting};
@@ -101,7 +101,7 @@ impl<'a, D: Drain, A: Allocator + Copy> LineOut<'a, D, A> {
         ensures writes { OnOk result (Writes D.contents self.old lines.now self.new) }
         ensures few { OnOk result (length self.old.buffer.now.items < most_waiting → length self.new.buffer.now.items < most_waiting) }
         ensures live { OnOk result (D.has_failed self.new.drain.now ≡ false) }
-        ensures halts { IfErr result (λ told. PutHalts D.contents D.has_failed told self.old lines.now self.new) }
+        ensures halts { IfErr result (λ reported. PutHalts D.contents D.has_failed reported self.old lines.now self.new) }
     {
         if lines.len() < COPIED_LEN {
             return self.copy(lines);
@@ -123,7 +123,7 @@ impl<'a, D: Drain, A: Allocator + Copy> LineOut<'a, D, A> {
         ensures writes { OnOk result (Writes D.contents self.old lines.now self.new) }
         ensures few { OnOk result (length self.old.buffer.now.items < most_waiting → length self.new.buffer.now.items < most_waiting) }
         ensures live { OnOk result (D.has_failed self.new.drain.now ≡ false) }
-        ensures halts { IfErr result (λ told. PutHalts D.contents D.has_failed told self.old lines.now self.new) }
+        ensures halts { IfErr result (λ reported. PutHalts D.contents D.has_failed reported self.old lines.now self.new) }
     {
         match self.buffer.extend_from_slice(lines) {
             Ok(()) => {}
@@ -189,7 +189,7 @@ impl<'a, D: Drain, A: Allocator + Copy> QuadSink for LineOut<'a, D, A> {
     }
 }
 
-/// Hands over what waits where no memory was left, and says what is told of it.
+/// Hands over what waits where no memory was left, and says what is reported of it.
 pub(crate) fn handed_over<A: Allocator + Copy, D: Drain>(
     lines: &mut LineOut<'_, D, A>,
 ) -> StreamFault
@@ -209,7 +209,7 @@ pub(crate) fn stop<A: Allocator + Copy, D: Drain>(
     lines: &mut LineOut<'_, D, A>,
 ) -> StreamFault
     ensures same { SameOut lines.old lines.new }
-    ensures tells { Tells D.contents D.has_failed fault result lines.old lines.new }
+    ensures reports { Reports D.contents D.has_failed fault result lines.old lines.new }
 {
     if lines.failed() {
         return StreamFault::Write;

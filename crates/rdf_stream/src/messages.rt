@@ -1,4 +1,4 @@
-// The line that tells of a fault.
+// The line that reports a fault.
 
 ghost use Rattle.std.specs.Prelude.{◌≡◌, ◌++◌, codes, decimal, IfOk, IfErr, OnOk, OnErr};
 ghost use Rattle.rdf_stream.specs.Messages.{reason_text, place_text, fault_text, report_text};
@@ -9,7 +9,7 @@ use rdf_terms::Reason;
 use rdf_tokens::Fault;
 use std::alloc::{AllocError, Allocator};
 
-/// Appends the line that tells of the fault, with its LF. Where a growth of memory is refused, it appends nothing.
+/// Appends the line that reports the fault, with its LF. Where a growth of memory is refused, it appends nothing.
 pub fn report<A: Allocator + Copy>(
     alloc: A,
     fault: &StreamFault,

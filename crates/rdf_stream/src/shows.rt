@@ -93,7 +93,7 @@ impl<'a, T: Spoken + Drop, D: Drain, A: Allocator + Copy> Run<LineOut<'a, D, A>>
     for Reader<TokenGrammar<T>, A> {
     ghost taken = { λ first bytes now. IsShowing D.contents D.has_failed T.spoken first.0 first.1 bytes now.0 now.1 };
 
-    ghost halts = { λ told first bytes is_end now. ShowHalts D.contents D.has_failed T.spoken told first.0 first.1 bytes is_end now.1 };
+    ghost halts = { λ reported first bytes is_end now. ShowHalts D.contents D.has_failed T.spoken reported first.0 first.1 bytes is_end now.1 };
 
     ghost ends = { λ summary first bytes now. ShowEnds D.contents D.has_failed D.is_flushed T.spoken summary first.0 first.1 bytes now.1 };
 

@@ -25,9 +25,11 @@ abbrev pub IsRow : List (ℕ × ℕ) → ℕ → ℕ → Type 0
 IsRow [] a b = ⊥
 IsRow (row ∷ rows) a b = ((a ≡ row.0) × (b ≡ row.1)) ⊎ IsRow rows a b
 
--- ECHAR ::= '\' [tbnrf"'\]: the letter, and the character that it stands for: tab, backspace, line feed, carriage return, form feed, and the other three themselves
+-- ECHAR ::= '\' [tbnrf"'\]: the letter, and the character that it stands for: tab, backspace, line feed, carriage return, form feed,
+-- and the other three themselves
 abbrev pub letters : List (ℕ × ℕ)
-letters = (code "t", code "\t") ∷ (code "b", 0x08) ∷ (code "n", code "\n") ∷ (code "r", code "\r") ∷ (code "f", 0x0C) ∷ (code "\"", code "\"") ∷ (code "'", code "'") ∷ (code "\\", code "\\") ∷ []
+letters = (code "t", code "\t") ∷ (code "b", 0x08) ∷ (code "n", code "\n") ∷ (code "r", code "\r") ∷ (code "f", 0x0C)
+    ∷ (code "\"", code "\"") ∷ (code "'", code "'") ∷ (code "\\", code "\\") ∷ []
 
 -- what a hex digit counts: '0' to '9', 'A' to 'F', 'a' to 'f'
 abbrev pub hex_value : ℕ → ℕ

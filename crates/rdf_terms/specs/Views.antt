@@ -51,7 +51,8 @@ term_by f (term.Literal l) = Literal (f l.lexical.now) (tail_by f l.tail)
 
 -- a quad, each of its texts seen so
 abbrev pub quad_by : (List ℕ → List ℕ) → QuadRef → Quad
-quad_by f q = record { subject = subject_by f q.subject; predicate = f q.predicate.text.now; object = term_by f q.object; graph = option_map (subject_by f) q.graph }
+quad_by f q =
+    record { subject = subject_by f q.subject; predicate = f q.predicate.text.now; object = term_by f q.object; graph = option_map (subject_by f) q.graph }
 
 -- the node and the quad that a view means
 abbrev pub node_of : NodeRef → Node

@@ -81,12 +81,18 @@ pub record Reached (d : Dialect) (bs : List ℕ) (at : ℕ) (s : State) (best : 
   pub state : s ≡ state_of d (take n (chars bs))
   pub front : best ≡ in_bytes (chars bs) (longest_by (kind_by_states d (chars bs)) (chars bs) n)
 
+-- By the states, the longest front of the bytes that has a kind has this length and this kind; without a kind there is no such front.
+abbrev pub IsLongestByStates : Dialect → List ℕ → ℕ → Option Kind → Type 0
+IsLongestByStates d bs len kind =
+    with_length len kind None ≡ in_bytes (chars bs) (longest_by (kind_by_states d (chars bs)) (chars bs) (length (chars bs)))
+
 -- The bytes between two places lead from a state back to it, and no token ends between them: where the states have come to the one
 -- place with it, they have come to the other, and the longest front so far is the same but for what ends where they are.
 pub record Rests (s : State) (bs : List ℕ) (at end : ℕ) : Type 0 where
   pub from : at ≤ end
   pub within : end ≤ length bs
-  pub on : (d : Dialect) (b : Option (ℕ × Kind)) → Reached d bs at s (with_length at (kind_here d bs s) b) → Reached d bs end s (with_length end (kind_here d bs s) b)
+  pub on : (d : Dialect) (b : Option (ℕ × Kind)) → Reached d bs at s (with_length at (kind_here d bs s) b) →
+      Reached d bs end s (with_length end (kind_here d bs s) b)
 
 -- The bytes between two places leave a state as it is: whichever character begins with one of them, the state after it is the same.
 -- The characters there are whole.

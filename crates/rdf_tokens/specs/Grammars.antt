@@ -37,7 +37,8 @@ Viable {I} documents ts = (more : List Token) × (qs : List (MarkedItem I)) × d
 abbrev pub Shaped : (List Token → List Marked → Type 0) → List Token → Type 0
 Shaped trees ts = Viable trees ts
 
--- The items that are due when the tokens have been accepted, in a document that begins with them: of its quads those whose head ends before the last of the tokens.
+-- The items that are due when the tokens have been accepted, in a document that begins with them: of its quads those whose head ends
+-- before the last of the tokens.
 abbrev pub Due : {I : Type 0} → (List Token → List (MarkedItem I) → Type 0) → List Token → List I → Type 0
 Due {I} documents ts is = (more : List Token) × (all : List (MarkedItem I)) × documents (ts ++ more) all × (items_below (length ts) all ≡ is)
 
@@ -46,14 +47,16 @@ abbrev pub PassesNone : (List Token → Token → Type 0) → List Token → Typ
 PassesNone passes ts = (ahead behind : List Token) (t : Token) → ts ≡ ahead ++ t ∷ behind → passes ahead t → ⊥
 
 -- the longest beginning of some tokens that a document has and in which no token passes a limit
-pub record IsFront {I : Type 0} (documents : List Token → List (MarkedItem I) → Type 0) (passes : List Token → Token → Type 0) (all front : List Token) : Type 0 where
+pub record IsFront {I : Type 0} (documents : List Token → List (MarkedItem I) → Type 0) (passes : List Token → Token → Type 0)
+    (all front : List Token) : Type 0 where
   pub begins : (rest : List Token) × (all ≡ front ++ rest)
   pub viable : Viable documents front
   pub kept : PassesNone passes front
   pub longest : (longer rest : List Token) → all ≡ longer ++ rest → Viable documents longer → PassesNone passes longer → length longer ≤ length front
 
 -- no limit is met: no place with viable tokens before it has a token that is too long, no token passes a limit, and there are not too many bytes
-pub record Within {I : Type 0} (documents : List Token → List (MarkedItem I) → Type 0) (passes : List Token → Token → Type 0) (reading : Reading) (bytes : List ℕ) : Type 0 where
+pub record Within {I : Type 0} (documents : List Token → List (MarkedItem I) → Type 0) (passes : List Token → Token → Type 0)
+    (reading : Reading) (bytes : List ℕ) : Type 0 where
   pub tokens : Viable documents reading.tokens → reading.outcome ≢ token_too_long
   pub limits : PassesNone passes reading.tokens
   pub size : length bytes ≤ most_bytes
@@ -141,7 +144,8 @@ abbrev pub Refused : {I : Type 0} → LanguageOf I → List ℕ → Bool → Rea
 Refused l bytes is_end reason at = (ahead : List Token) × RefusedIn l (reading_of l bytes is_end) reason at ahead
 
 -- The items are the first of those that are due after some first tokens of the list, of which none passes a limit: so after tokens of the front.
-pub record BeginsDue {I : Type 0} (documents : List Token → List (MarkedItem I) → Type 0) (passes : List Token → Token → Type 0) (ts : List Token) (items : List I) : Type 0 where
+pub record BeginsDue {I : Type 0} (documents : List Token → List (MarkedItem I) → Type 0) (passes : List Token → Token → Type 0)
+    (ts : List Token) (items : List I) : Type 0 where
   pub ahead : List Token
   pub behind : List Token
   pub tokens : ts ≡ ahead ++ behind

@@ -24,7 +24,8 @@ pub record Held (text : List ℕ) (start : ℕ) (pending : List ℕ) (place take
   pub last : IsPlace taken
 
 -- and how far the states have come in the rest, where it has no names, and that no more is held than the limit allows
-pub record Holds (d : Dialect) (limit : ℕ) (text : List ℕ) (start : ℕ) (walk : Option Walk) (bare : Option Bare) (pending : List ℕ) (place taken : Place) : Type 0 where
+pub record Holds (d : Dialect) (limit : ℕ) (text : List ℕ) (start : ℕ) (walk : Option Walk) (bare : Option Bare)
+    (pending : List ℕ) (place taken : Place) : Type 0 where
   pub held : Held text start pending place taken
   pub walked : Walked d (drop start text) walk
   pub no_names : IsBareIn d (drop start text) bare

@@ -4,7 +4,7 @@ ghost use Rattle.std.specs.Prelude.{◌≡◌, length, get_or};
 ghost use Rattle.std.specs.Str.{chars};
 ghost use Rattle.rdf_terms.specs.Shapes.{is_live};
 ghost use Rattle.rdf_tokens.specs.Tokens.{three_quotes, only_long, with_length, longest};
-ghost use Rattle.rdf_tokens.specs.Front.{Reached, in_bytes, longest_by, longer_front, state_of, kind_by_states, kind_here, open_state};
+ghost use Rattle.rdf_tokens.specs.Front.{Reached, IsLongestByStates, in_bytes, longer_front, state_of, kind_here, open_state};
 ghost use Rattle.rdf_tokens.specs.Walk.{Walked, IsWalk, IsCounted, walk_kept};
 ghost use Rattle.rdf_tokens.specs.Bare.{is_bare_byte, IsBare, IsBareIn};
 ghost use Rattle.rdf_terms.specs.Classes.{is_letter};
@@ -133,7 +133,7 @@ fn shaped_front(
 ) -> Shaped
     requires walked { Walked dialect text.now walk.now }
     requires bare { IsBareIn dialect text.now bare.old }
-    ensures best { with_length result.len result.kind None ≡ in_bytes (chars text.now) (longest_by (kind_by_states dialect (chars text.now)) (chars text.now) (length (chars text.now))) }
+    ensures best { IsLongestByStates dialect text.now result.len result.kind }
     ensures state { result.state ≡ open_state dialect (state_of dialect (chars text.now)) }
     ensures bare { IsBareIn dialect text.now bare.new }
 {
@@ -145,7 +145,7 @@ fn shaped_front(
 
 fn resumed_front(dialect: Dialect, text: &str, walk: &Walk) -> Shaped
     requires { IsWalk dialect text.now walk.now }
-    ensures best { with_length result.len result.kind None ≡ in_bytes (chars text.now) (longest_by (kind_by_states dialect (chars text.now)) (chars text.now) (length (chars text.now))) }
+    ensures best { IsLongestByStates dialect text.now result.len result.kind }
     ensures state { result.state ≡ open_state dialect (state_of dialect (chars text.now)) }
 {
     let at = walk.at;
@@ -164,7 +164,7 @@ fn resumed_front(dialect: Dialect, text: &str, walk: &Walk) -> Shaped
 
 fn first_front(dialect: Dialect, text: &str, bare: &mut Option<Bare>) -> Shaped
     requires { IsBareIn dialect text.now bare.old }
-    ensures best { with_length result.len result.kind None ≡ in_bytes (chars text.now) (longest_by (kind_by_states dialect (chars text.now)) (chars text.now) (length (chars text.now))) }
+    ensures best { IsLongestByStates dialect text.now result.len result.kind }
     ensures state { result.state ≡ open_state dialect (state_of dialect (chars text.now)) }
     ensures bare { IsBareIn dialect text.now bare.new }
 {
@@ -202,7 +202,7 @@ fn name_front(
 ) -> Shaped
     requires name { Reached dialect text.now first (name begun) (with_length first (kind_here dialect text.now (name begun)) None) }
     requires bare { IsBareIn dialect text.now bare.old }
-    ensures best { with_length result.len result.kind None ≡ in_bytes (chars text.now) (longest_by (kind_by_states dialect (chars text.now)) (chars text.now) (length (chars text.now))) }
+    ensures best { IsLongestByStates dialect text.now result.len result.kind }
     ensures state { result.state ≡ open_state dialect (state_of dialect (chars text.now)) }
     ensures bare { IsBareIn dialect text.now bare.new }
 {
@@ -275,7 +275,7 @@ fn front_from<S: Shape>(
 ) -> Shaped
     requires { Reached dialect text.now first (S.whole begun)
         (with_length first (kind_here dialect text.now (S.whole begun)) (with_length before before_kind None)) }
-    ensures best { with_length result.len result.kind None ≡ in_bytes (chars text.now) (longest_by (kind_by_states dialect (chars text.now)) (chars text.now) (length (chars text.now))) }
+    ensures best { IsLongestByStates dialect text.now result.len result.kind }
     ensures state { result.state ≡ open_state dialect (state_of dialect (chars text.now)) }
 {
     let three = has_three_quotes(dialect, text.as_bytes());

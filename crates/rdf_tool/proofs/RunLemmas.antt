@@ -6,7 +6,7 @@ use Rattle.rdf_stream.specs.declared.fault.StreamFault.{StreamFault}
 use Rattle.rdf_stream.specs.declared.fault.StreamFault.TheVariants.{Refused, Read, Write, Memory}
 use Rattle.rdf_tool.specs.declared.task.Task.{Task}
 use Rattle.rdf_tool.specs.Runs.{Does, RunEnds, StartsWith, StopsAction, job_of}
-use Rattle.rdf_tool.specs.Statuses.{TellsOf, status_of}
+use Rattle.rdf_tool.specs.Statuses.{ReportsFault, status_of}
 
 some_status : (fault : StreamFault) → status_of fault ≡ 0 → ⊥
 some_status (Refused f) e = omega (arith, e)
@@ -22,8 +22,8 @@ module _ (t : Task) (prefixes : Option (Option (List ℕ))) (bindings : List (Li
       inl (bindings, source, starts, ((λ e. (subst (λ j. IfSome known (λ bytes. Does t.action j bytes out_old out.contents)) is done, flushed)), (λ n. absurd (n refl))))
 
   pub run_stopped : (fault : StreamFault) (status : ℕ) → status ≡ status_of fault → StopsAction t.action fault job known source out_old out.contents out.has_failed
-      → TellsOf fault err_old err.contents err.has_failed → RunEnds t prefixes known status out_old out err_old err
-  run_stopped fault status same stops told =
+      → ReportsFault fault err_old err.contents err.has_failed → RunEnds t prefixes known status out_old out err_old err
+  run_stopped fault status same stops reported =
       inl (
         bindings,
         source,
@@ -34,7 +34,7 @@ module _ (t : Task) (prefixes : Option (Option (List ℕ))) (bindings : List (Li
             fault = fault;
             status_is = same;
             stops = subst (λ j. StopsAction t.action fault j known source out_old out.contents out.has_failed) is stops;
-            told = told;
+            reported = reported;
           }),
         ),
       )

@@ -9,7 +9,7 @@ use Rattle.rdf_tool.specs.declared.task.Task.{Task}
 use Rattle.rdf_tool.specs.declared.task.WordsFault.{WordsFault}
 use Rattle.rdf_tool.specs.declared.task.WordsFault.TheVariants.{Memory}
 use Rattle.rdf_tool.specs.Runs.{RunEnds}
-use Rattle.rdf_tool.specs.Statuses.{GoesTo, RefusesWords, Tells}
+use Rattle.rdf_tool.specs.Statuses.{GoesTo, RefusesWords, Reports}
 use Rattle.rdf_tool.specs.Words.{GivesNone, GivesTask, IsUsageOf, TakesFormats, rdfconv}
 
 -- the words of the command line give the task
@@ -47,7 +47,7 @@ pub record IsNotOpen (is_shut : Text → Type 0) (t : Task) (status : ℕ) (out_
   pub shut : is_shut path
   pub status_is : status ≡ 3
   pub unwritten : out.contents ≡ out_old
-  pub told : Tells (codes "rdfconv: cannot open file\n") err_old err.contents err.has_failed
+  pub reported : Reports (codes "rdfconv: cannot open file\n") err_old err.contents err.has_failed
 
 -- What the task names was read, the file of bindings where there is one, and the document, its file or else standard input; and the run of the
 -- task ended so. Or a file did not open.

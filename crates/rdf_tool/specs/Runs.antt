@@ -18,7 +18,7 @@ use Rattle.rdf_tool.specs.declared.task.Action.{Action}
 use Rattle.rdf_tool.specs.declared.task.Action.TheVariants.{Check, Show, Convert}
 use Rattle.rdf_tool.specs.declared.task.Task.{Task}
 use Rattle.rdf_tool.specs.declared.runs.Files.{Files}
-use Rattle.rdf_tool.specs.Statuses.{TellsLoad, TellsOf, load_status, status_of}
+use Rattle.rdf_tool.specs.Statuses.{ReportsLoad, ReportsFault, load_status, status_of}
 
 -- the job that a task asks for, with these bindings
 abbrev pub job_of : Task → List (List ℕ × List ℕ) → JobRead
@@ -30,7 +30,7 @@ pub record AreFresh {I : Type 0} (has_ended has_failed : I → Bool) (files : Fi
   pub more : has_ended files.document ≡ false
   pub live : has_failed files.document ≡ false
 
--- the line that tells what is in an accepted document
+-- the line that says what is in an accepted document
 abbrev pub accepted_text : Summary → List ℕ
 accepted_text s = codes "accepted, " ++ decimal s.quads ++ codes " quads, " ++ decimal s.bytes ++ codes " bytes\n"
 
@@ -67,12 +67,12 @@ abbrev pub IsDone : Task → List (List ℕ × List ℕ) → Option (List ℕ) �
 IsDone t bindings known out_old out = IfSome known (λ bytes. Does t.action (job_of t bindings) bytes out_old out.contents) × (out.is_flushed ≡ true)
 
 -- The run stopped for a fault, which its status and the text on the error output say.
-pub record RunStops (t : Task) (bindings : List (List ℕ × List ℕ)) (status : ℕ) (known : Option (List ℕ)) (source : Reading) (out_old : Option (List ℕ)) (out : Written)
-    (err_old : Option (List ℕ)) (err : Written) : Type 0 where
+pub record RunStops (t : Task) (bindings : List (List ℕ × List ℕ)) (status : ℕ) (known : Option (List ℕ)) (source : Reading)
+    (out_old : Option (List ℕ)) (out : Written) (err_old : Option (List ℕ)) (err : Written) : Type 0 where
   pub fault : StreamFault
   pub status_is : status ≡ status_of fault
   pub stops : StopsAction t.action fault (job_of t bindings) known source out_old out.contents out.has_failed
-  pub told : TellsOf fault err_old err.contents err.has_failed
+  pub reported : ReportsFault fault err_old err.contents err.has_failed
 
 -- A run with these bindings, over a source of these bytes, left the source and the two outputs like this: it is done at 0, and else it stopped.
 abbrev pub DocumentEnds : Task → List (List ℕ × List ℕ) → ℕ → Option (List ℕ) → Reading → Option (List ℕ) → Written → Option (List ℕ) → Written → Type 0
@@ -96,7 +96,7 @@ pub record PrefixesStop (t : Task) (prefixes : Option (Option (List ℕ))) (stat
   pub stops : StartsNot fault t.limits prefixes
   pub status_is : status ≡ load_status fault
   pub unwritten : out.contents ≡ out_old
-  pub told : TellsLoad fault err_old err.contents err.has_failed
+  pub reported : ReportsLoad fault err_old err.contents err.has_failed
 
 -- The document was read with the bindings to start with, and the run ended so; or there are none to start with.
 abbrev pub RunEnds : Task → Option (Option (List ℕ)) → Option (List ℕ) → ℕ → Option (List ℕ) → Written → Option (List ℕ) → Written → Type 0

@@ -1,4 +1,4 @@
--- The status that the program exits with, and the texts that it tells.
+-- The status that the program exits with, and the texts that it writes.
 use Rattle.std.specs.Prelude.{◌≡◌, ◌≢◌, ◌⊎◌, ℕ, Bool, false, List, ◌++◌, Option, codes, decimal}
 use Rattle.std.specs.Io.KnownBytes.{Appends}
 use Rattle.clap.specs.Words.{kind_of}
@@ -22,17 +22,17 @@ status_of Write = 3
 status_of Memory = 4
 
 -- The text is written to a device, or a beginning of it, where the device failed.
-abbrev pub Tells : List ℕ → Option (List ℕ) → Option (List ℕ) → Bool → Type 0
-Tells text old new failed = AppendsFront old new text × (failed ≡ false → Appends old new text)
+abbrev pub Reports : List ℕ → Option (List ℕ) → Option (List ℕ) → Bool → Type 0
+Reports text old new failed = AppendsFront old new text × (failed ≡ false → Appends old new text)
 
--- the line that tells of a line of a file of bindings
+-- the line that reports a bad line of a file of bindings
 abbrev pub prefixes_text : ℕ → List ℕ
 prefixes_text line = codes "rdfconv: bad prefixes at line " ++ decimal line ++ codes "\n"
 
--- What is told of a fault. The text of a refusal takes memory, and nothing of it is told where that is refused.
-abbrev pub TellsOf : StreamFault → Option (List ℕ) → Option (List ℕ) → Bool → Type 0
-TellsOf (Refused f) old new failed = Tells (report_text (Refused f)) old new failed ⊎ (new ≡ old)
-TellsOf fault old new failed = Tells (report_text fault) old new failed
+-- What is reported of a fault. The text of a refusal takes memory, and nothing of it is reported where that is refused.
+abbrev pub ReportsFault : StreamFault → Option (List ℕ) → Option (List ℕ) → Bool → Type 0
+ReportsFault (Refused f) old new failed = Reports (report_text (Refused f)) old new failed ⊎ (new ≡ old)
+ReportsFault fault old new failed = Reports (report_text fault) old new failed
 
 -- a line of a file of bindings that is refused is a mistake of the words
 abbrev pub load_status : LoadFault → ℕ
@@ -40,22 +40,22 @@ load_status (Bad f) = 2
 load_status load.Read = 3
 load_status load.Memory = 4
 
--- What is told of a file of bindings that was not loaded. The text of a line takes memory, and nothing of it is told where that is refused.
-abbrev pub TellsLoad : LoadFault → Option (List ℕ) → Option (List ℕ) → Bool → Type 0
-TellsLoad (Bad f) old new failed = Tells (prefixes_text f.line) old new failed ⊎ (new ≡ old)
-TellsLoad load.Read old new failed = Tells (report_text Read) old new failed
-TellsLoad load.Memory old new failed = Tells (report_text Memory) old new failed
+-- What is reported of a file of bindings that was not loaded. The text of a line takes memory, and nothing of it is reported where that is refused.
+abbrev pub ReportsLoad : LoadFault → Option (List ℕ) → Option (List ℕ) → Bool → Type 0
+ReportsLoad (Bad f) old new failed = Reports (prefixes_text f.line) old new failed ⊎ (new ≡ old)
+ReportsLoad load.Read old new failed = Reports (report_text Read) old new failed
+ReportsLoad load.Memory old new failed = Reports (report_text Memory) old new failed
 
 -- 0 where help was asked for, and else 2
 abbrev pub IsUsageStatus : ErrorKind → ℕ → Type 0
 IsUsageStatus kind status = (kind ≡ DisplayHelp → status ≡ 0) × (kind ≢ DisplayHelp → kind ≢ DisplayVersion → status ≡ 2)
 
--- the status of words that are no task, and the text that is told where it is no text of clap's
+-- the status of words that are no task, and the text that is reported where it is no text of clap's
 abbrev pub RefusesWords : WordsFault → ℕ → Option (List ℕ) → Option (List ℕ) → Bool → Type 0
 RefusesWords (words.Usage e) status old new failed = IsUsageStatus (kind_of e) status
-RefusesWords words.BadBase status old new failed = (status ≡ 2) × Tells (codes "rdfconv: bad base\n") old new failed
-RefusesWords words.BadNodePrefix status old new failed = (status ≡ 2) × Tells (codes "rdfconv: bad node prefix\n") old new failed
-RefusesWords words.Memory status old new failed = (status ≡ 4) × Tells (report_text Memory) old new failed
+RefusesWords words.BadBase status old new failed = (status ≡ 2) × Reports (codes "rdfconv: bad base\n") old new failed
+RefusesWords words.BadNodePrefix status old new failed = (status ≡ 2) × Reports (codes "rdfconv: bad node prefix\n") old new failed
+RefusesWords words.Memory status old new failed = (status ≡ 4) × Reports (report_text Memory) old new failed
 
 -- help changes the output alone, and all else the error output alone
 abbrev pub GoesTo : {O E : Type 0} → WordsFault → O → O → E → E → Type 0

@@ -20,8 +20,10 @@ use std::alloc::{AllocError, Global};
 /// The task that the words ask for. The first word is the program's name.
 pub fn command_of<'a>(alloc: Global, words: &'a [&'a str]) -> Result<Task, WordsFault>
     ensures base { IfOk result (λ task. BaseFits task.base task.limits) }
-    ensures task { IfOk result (λ task. (formats : ValueParser) × TakesFormats formats × GivesTask (rdfconv formats) (map (λ s. s.now) words.entry.now) task) }
-    ensures refused { IfErr result (λ fault. (formats : ValueParser) × TakesFormats formats × GivesNone (rdfconv formats) (map (λ s. s.now) words.entry.now) fault) }
+    ensures task { IfOk result (λ task. (formats : ValueParser) × TakesFormats formats ×
+        GivesTask (rdfconv formats) (map (λ s. s.now) words.entry.now) task) }
+    ensures refused { IfErr result (λ fault. (formats : ValueParser) × TakesFormats formats ×
+        GivesNone (rdfconv formats) (map (λ s. s.now) words.entry.now) fault) }
 {
     command_by(alloc, words, FORMATS.as_slice())
 }

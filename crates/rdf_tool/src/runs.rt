@@ -1,4 +1,4 @@
-// A run, its status, and what it tells.
+// A run, its status, and what it reports.
 
 ghost use Rattle.std.specs.Prelude.{◌≡◌, ◌++◌, ℕ, List, [], false, true, codes, decimal, IfErr, IfOk, IfSome, OnErr, OnOk, is_err, option_map};
 ghost use Rattle.std.specs.Io.KnownBytes.{Appends};
@@ -9,7 +9,7 @@ ghost use Rattle.rdf_stream.specs.Loads.{LoadStops, Loads};
 ghost use Rattle.rdf_stream.specs.Messages.{report_text};
 ghost use Rattle.rdf_stream.specs.declared.fault.StreamFault.{StreamFault};
 ghost use Rattle.rdf_tool.specs.Runs.{AreFresh, Does, IsChecked, RunEnds, StartsNot, StartsWith, StopsAction, StopsCheck, accepted_text, job_of};
-ghost use Rattle.rdf_tool.specs.Statuses.{GoesTo, RefusesWords, Tells, TellsLoad, TellsOf, load_status, prefixes_text, status_of};
+ghost use Rattle.rdf_tool.specs.Statuses.{GoesTo, RefusesWords, Reports, ReportsLoad, ReportsFault, load_status, prefixes_text, status_of};
 
 use crate::task::{Action, Task, WordsFault};
 use clap::Error;
@@ -69,7 +69,8 @@ fn job_of<I: Source + Drop>(
 ) -> Result<Job, LoadFault>
     requires base { BaseFits task.base task.limits }
     requires fresh { IfSome prefixes (λ s. (I.has_ended s ≡ false) × (I.has_failed s ≡ false)) }
-    ensures job { IfOk result (λ job. (bindings : List (List ℕ × List ℕ)) × StartsWith task.limits (option_map I.remaining prefixes) bindings × (job ≡ job_of task bindings)) }
+    ensures job { IfOk result (λ job. (bindings : List (List ℕ × List ℕ)) ×
+        StartsWith task.limits (option_map I.remaining prefixes) bindings × (job ≡ job_of task bindings)) }
     ensures stops { IfErr result (λ fault. StartsNot fault task.limits (option_map I.remaining prefixes)) }
 {
     let job = Job::new(task.form, task.base, task.limits).unwrap();
@@ -109,7 +110,7 @@ fn load<I: Source + Drop>(alloc: Global, limits: Limits, source: I) -> Result<Bi
 fn refuse_prefixes<E: Drain>(alloc: Global, fault: &LoadFault, err: &mut E) -> u8
     requires { E.has_failed err.old ≡ false }
     ensures status { result ≡ load_status fault.now }
-    ensures told { TellsLoad fault.now (E.contents err.old) (E.contents err.new) (E.has_failed err.new) }
+    ensures reported { ReportsLoad fault.now (E.contents err.old) (E.contents err.new) (E.has_failed err.new) }
 {
     match fault {
         LoadFault::Bad(fault) => {
@@ -139,7 +140,7 @@ fn prefixes_line(alloc: Global, line: u64) -> Result<Vec<u8>, AllocError>
 pub fn refuse_file<E: Drain>(err: &mut E) -> u8
     requires { E.has_failed err.old ≡ false }
     ensures status { result ≡ 3 }
-    ensures told { Tells (codes "rdfconv: cannot open file\n") (E.contents err.old) (E.contents err.new) (E.has_failed err.new) }
+    ensures reported { Reports (codes "rdfconv: cannot open file\n") (E.contents err.old) (E.contents err.new) (E.has_failed err.new) }
 {
     tell("rdfconv: cannot open file\n", err);
     3
@@ -158,7 +159,8 @@ fn act<S: Source, O: Drain>(
     ensures accepted { OnOk result (IfSome (S.remaining source.old) (λ bytes. Does action job bytes (O.contents out.old) (O.contents out.new))) }
     ensures flushed { OnOk result (O.is_flushed out.new ≡ true) }
     ensures stops { IfErr result (λ fault.
-        StopsAction action fault job (S.remaining source.old) (reading S.remaining S.has_ended S.has_failed source.new) (O.contents out.old) (O.contents out.new) (O.has_failed out.new)) }
+        StopsAction action fault job (S.remaining source.old) (reading S.remaining S.has_ended S.has_failed source.new)
+        (O.contents out.old) (O.contents out.new) (O.has_failed out.new)) }
 {
     match action {
         Action::Check => check_to(alloc, job, source, out),
@@ -173,7 +175,7 @@ fn act<S: Source, O: Drain>(
     }
 }
 
-// Checks a document, and tells what is in it.
+// Checks a document, and says what is in it.
 fn check_to<S: Source, O: Drain>(
     alloc: Global,
     job: Job,
@@ -186,7 +188,8 @@ fn check_to<S: Source, O: Drain>(
     ensures accepted { OnOk result (IfSome (S.remaining source.old) (λ bytes. IsChecked job bytes (O.contents out.old) (O.contents out.new))) }
     ensures flushed { OnOk result (O.is_flushed out.new ≡ true) }
     ensures stops { IfErr result (λ fault.
-        StopsCheck fault job (S.remaining source.old) (reading S.remaining S.has_ended S.has_failed source.new) (O.contents out.old) (O.contents out.new) (O.has_failed out.new)) }
+        StopsCheck fault job (S.remaining source.old) (reading S.remaining S.has_ended S.has_failed source.new)
+        (O.contents out.old) (O.contents out.new) (O.has_failed out.new)) }
 {
     let summary = match check(alloc, job, source) {
         Ok(summary) => summary,
@@ -235,10 +238,10 @@ fn status(fault: &StreamFault) -> u8
     }
 }
 
-// Tells of a fault. The text of a refusal alone takes memory.
+// Reports a fault. The text of a refusal alone takes memory.
 fn tell_fault<E: Drain>(alloc: Global, fault: &StreamFault, err: &mut E)
     requires { E.has_failed err.old ≡ false }
-    ensures { TellsOf fault.now (E.contents err.old) (E.contents err.new) (E.has_failed err.new) }
+    ensures { ReportsFault fault.now (E.contents err.old) (E.contents err.new) (E.has_failed err.new) }
 {
     match fault {
         StreamFault::Refused(_) => match tell_refusal(alloc, fault, err) {
@@ -252,11 +255,11 @@ fn tell_fault<E: Drain>(alloc: Global, fault: &StreamFault, err: &mut E)
     }
 }
 
-// Where memory for the text is refused, nothing is told.
+// Where memory for the text is refused, nothing is reported.
 fn tell_refusal<E: Drain>(alloc: Global, fault: &StreamFault, err: &mut E) -> Result<(), AllocError>
     requires { E.has_failed err.old ≡ false }
-    ensures told { OnOk result (Tells (report_text fault.now) (E.contents err.old) (E.contents err.new) (E.has_failed err.new)) }
-    ensures untold { OnErr result (E.contents err.new ≡ E.contents err.old) }
+    ensures reported { OnOk result (Reports (report_text fault.now) (E.contents err.old) (E.contents err.new) (E.has_failed err.new)) }
+    ensures unreported { OnErr result (E.contents err.new ≡ E.contents err.old) }
 {
     let mut text = Vec::new(alloc);
     match report(alloc, fault, &mut text) {
@@ -268,11 +271,11 @@ fn tell_refusal<E: Drain>(alloc: Global, fault: &StreamFault, err: &mut E) -> Re
     }
 }
 
-// Tells that memory was refused, which takes none, and answers the status.
+// Reports that memory was refused, which takes none, and answers the status.
 fn tell_memory<E: Drain>(err: &mut E) -> u8
     requires { E.has_failed err.old ≡ false }
     ensures status { result ≡ 4 }
-    ensures told { Tells (report_text StreamFault.Memory) (E.contents err.old) (E.contents err.new) (E.has_failed err.new) }
+    ensures reported { Reports (report_text StreamFault.Memory) (E.contents err.old) (E.contents err.new) (E.has_failed err.new) }
 {
     tell("rdfconv: out of memory\n", err);
     4
@@ -312,7 +315,7 @@ pub fn refuse_words<O: Drain, E: Drain>(
     }
 }
 
-// Where memory for the text is refused, nothing is told.
+// Where memory for the text is refused, nothing is reported.
 fn tell_usage<E: Drain>(alloc: Global, error: &Error, err: &mut E)
     requires { E.has_failed err.old ≡ false }
 {
@@ -323,15 +326,15 @@ fn tell_usage<E: Drain>(alloc: Global, error: &Error, err: &mut E)
 
 fn tell<E: Drain>(text: &str, err: &mut E)
     requires { E.has_failed err.old ≡ false }
-    ensures { Tells text.now (E.contents err.old) (E.contents err.new) (E.has_failed err.new) }
+    ensures { Reports text.now (E.contents err.old) (E.contents err.new) (E.has_failed err.new) }
 {
     tell_bytes(text.as_bytes(), err);
 }
 
-// A failure of the device that is told to changes nothing.
+// Where the device fails, that is not reported: there is no other to report it to.
 fn tell_bytes<E: Drain>(text: &[u8], err: &mut E)
     requires { E.has_failed err.old ≡ false }
-    ensures { Tells text.now (E.contents err.old) (E.contents err.new) (E.has_failed err.new) }
+    ensures { Reports text.now (E.contents err.old) (E.contents err.new) (E.has_failed err.new) }
 {
     match put_all(err, text) {
         Ok(()) | Err(Failed) => {}

@@ -114,9 +114,9 @@ fn a_run_writes_the_lines_or_tells_why_not(rt: HostRuntime) {
     for (action, form, text, status, lines, message) in rows {
         let task = task(action, form, Limits::default());
         let mut written = Vec::new(rt.alloc());
-        let mut told = Vec::new(rt.alloc());
+        let mut reported = Vec::new(rt.alloc());
         let mut out = Out::new(&mut written);
-        let mut err = Out::new(&mut told);
+        let mut err = Out::new(&mut reported);
         assert_eq!(rt;
             run(rt.alloc(), task, files(text), &mut out, &mut err),
             status,
@@ -125,7 +125,7 @@ fn a_run_writes_the_lines_or_tells_why_not(rt: HostRuntime) {
         drop(out);
         drop(err);
         assert_eq!(rt; written.as_slice(), lines.as_bytes());
-        assert_eq!(rt; told.as_slice(), message.as_bytes());
+        assert_eq!(rt; reported.as_slice(), message.as_bytes());
     }
 }
 
@@ -139,13 +139,13 @@ fn a_run_keeps_to_the_limits_of_its_task(rt: HostRuntime) {
     for (token, iri, status, message) in rows {
         let limits = Limits::new(token, 0, 0, iri).expect(&rt, "limits");
         let task = task(Action::Convert, Form::NTriples, limits);
-        let mut told = Vec::new(rt.alloc());
+        let mut reported = Vec::new(rt.alloc());
         let mut out = Out::new(Vec::new(rt.alloc()));
-        let mut err = Out::new(&mut told);
+        let mut err = Out::new(&mut reported);
         let files = files("<a:> <b:> <c:> .");
         assert_eq!(rt; run(rt.alloc(), task, files, &mut out, &mut err), status);
         drop(err);
-        assert_eq!(rt; told.as_slice(), message.as_bytes());
+        assert_eq!(rt; reported.as_slice(), message.as_bytes());
     }
 }
 
@@ -224,9 +224,9 @@ fn is_refused(
     message: &str,
 ) -> Result<(), Fail> {
     let mut written = Vec::new(alloc);
-    let mut told = Vec::new(alloc);
+    let mut reported = Vec::new(alloc);
     let mut out = Out::new(&mut written);
-    let mut err = Out::new(&mut told);
+    let mut err = Out::new(&mut reported);
     match command_of(alloc, words) {
         Ok(_) => return Err(Fail::new("the words are a task")),
         Err(fault) => {
@@ -236,7 +236,7 @@ fn is_refused(
     drop(out);
     drop(err);
     assert_eq!(rt; str::from_utf8(written.as_slice()), Ok(text));
-    assert_eq!(rt; str::from_utf8(told.as_slice()), Ok(message));
+    assert_eq!(rt; str::from_utf8(reported.as_slice()), Ok(message));
     Ok(())
 }
 
@@ -429,14 +429,14 @@ fn the_program_does_what_its_words_say(rt: HostRuntime) {
             ],
         };
         let mut written = Vec::new(rt.alloc());
-        let mut told = Vec::new(rt.alloc());
+        let mut reported = Vec::new(rt.alloc());
         let mut out = Out::new(&mut written);
-        let mut err = Out::new(&mut told);
+        let mut err = Out::new(&mut reported);
         assert_eq!(rt; start(rt.alloc(), &host, &mut out, &mut err), status);
         drop(out);
         drop(err);
         assert_eq!(rt; str::from_utf8(written.as_slice()), Ok(text));
-        assert_eq!(rt; str::from_utf8(told.as_slice()), Ok(message));
+        assert_eq!(rt; str::from_utf8(reported.as_slice()), Ok(message));
     }
 }
 

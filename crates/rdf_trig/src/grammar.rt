@@ -43,7 +43,12 @@ impl<A: Allocator> Model for TreeGrammar<A> {
 
     ghost coded = { Prim.hlevel (codes, up_code, around_code, place_code) };
 
-    ghost view = { λ g. record { form = g.rules.form; limit = g.rules.limits.token; state = state_of g.rules.form g.scope g.state; held = state_bytes g.state + bytes_held g.scope } };
+    ghost view = { λ g. record {
+      form = g.rules.form;
+      limit = g.rules.limits.token;
+      state = state_of g.rules.form g.scope g.state;
+      held = state_bytes g.state + bytes_held g.scope;
+    } };
 
     ghost invariant = { λ g. (g.scope.limits ≡ g.rules.limits) × Keeps g.rules.form g.rules.limits g.state };
 }
@@ -51,7 +56,12 @@ impl<A: Allocator> Model for TreeGrammar<A> {
 impl<A: Allocator + Copy> TreeGrammar<A> {
     /// Before the first token of a document. It takes no memory.
     pub fn new(alloc: A, options: Options<A>) -> TreeGrammar<A>
-        ensures { result ≡ record { form = options.form; limit = options.start.limits.token; state = M.at_start options.start; held = bytes_held options.start } }
+        ensures { result ≡ record {
+          form = options.form;
+          limit = options.start.limits.token;
+          state = M.at_start options.start;
+          held = bytes_held options.start;
+        } }
     {
         TreeGrammar {
             alloc,

@@ -1,12 +1,9 @@
 // The reader of Turtle and TriG.
 
-ghost use Rattle.std.specs.Prelude.{◌≡◌, ◌+◌, ◌≤◌, ◌++◌, ℕ, List, [], true, false, not, is_ok, OnOk, IfOk, IfErr, SomeIff};
-ghost use Rattle.rdf_terms.specs.Terms.{Quad};
+ghost use Rattle.std.specs.Prelude.{◌≡◌, ◌+◌, ◌≤◌, [], true, false, not, is_ok, OnOk, IfOk, IfErr, SomeIff};
 ghost use Rattle.rdf_tokens.specs.Scans.{most_bytes, place_of, unread_bytes};
-ghost use Rattle.rdf_tokens.specs.Grammars.{GoesOn, IsWhole};
-ghost use Rattle.rdf_driver.specs.Words.{in_words};
 ghost use Rattle.rdf_driver.specs.Readers as R;
-ghost use Rattle.rdf_driver.specs.Readers.{HasRead, SameLimits, Feeds, FeedFails, Finishes, FinishFails, Exactly, IsPlaced};
+ghost use Rattle.rdf_driver.specs.Readers.{HasRead, SameLimits, Feeds, FeedFails, Finishes, FinishFails, TakesExactly, FinishesExactly, IsPlacedWith, IsPlacedInRead};
 ghost use Rattle.rdf_iri.specs.Scope.{InForce, BaseFits};
 ghost use Rattle.rdf_trig.specs.Language.{Chosen};
 ghost use Rattle.rdf_trig.specs.Accepting.{tree_words};
@@ -175,10 +172,8 @@ impl<A: Allocator + Copy> TrigReader<A> {
         ensures live { OnOk result (S.has_failed sink.new ≡ false) }
         ensures err { IfErr result (λ f. FeedFails tree_words S.takes S.leaves S.has_failed f.reason
             (place_of f) self.old sink.old piece.now self.new sink.new) }
-        ensures exact { (x : Chosen) (bytes : List ℕ) (quads : List Quad) → HasRead tree_words self.old x bytes quads →
-            Exactly result (GoesOn (in_words tree_words x self.old.scanner.limit) (bytes ++ piece.now)) }
-        ensures place { IfErr result (λ f. (x : Chosen) (bytes : List ℕ) (quads : List Quad) → HasRead tree_words self.old x bytes quads →
-            IsPlaced f.reason (bytes ++ piece.now) (place_of f)) }
+        ensures exact { TakesExactly tree_words self.old piece.now result }
+        ensures place { IfErr result (IsPlacedWith tree_words self.old piece.now) }
         ensures done { self.new.done ≡ not (is_ok result) }
         ensures limits { SameLimits tree_words self.old self.new }
     {
@@ -190,10 +185,8 @@ impl<A: Allocator + Copy> TrigReader<A> {
         requires { self.old.done ≡ false → S.has_failed sink.old ≡ false }
         ensures ok { IfOk result (λ s. Finishes tree_words S.takes self.old sink.old s sink.new) }
         ensures err { IfErr result (λ f. FinishFails tree_words S.takes S.leaves S.has_failed f.reason (place_of f) self.old sink.old self.new sink.new) }
-        ensures exact { (x : Chosen) (bytes : List ℕ) (quads : List Quad) → HasRead tree_words self.old x bytes quads →
-            Exactly result (IsWhole (in_words tree_words x self.old.scanner.limit) bytes) }
-        ensures place { IfErr result (λ f. (x : Chosen) (bytes : List ℕ) (quads : List Quad) → HasRead tree_words self.old x bytes quads →
-            IsPlaced f.reason bytes (place_of f)) }
+        ensures exact { FinishesExactly tree_words self.old result }
+        ensures place { IfErr result (IsPlacedInRead tree_words self.old) }
         ensures done { self.new.done ≡ true }
         ensures limits { SameLimits tree_words self.old self.new }
     {

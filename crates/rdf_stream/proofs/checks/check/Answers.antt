@@ -1,4 +1,4 @@
--- A check of either kind of format, from what its run has done to what the caller is told.
+-- A check of either kind of format, from what its run has done to what the caller is reported.
 use Rattle.std.proofs.Common.{rules, refl, IfSome}
 use Rattle.rdf_lines.proofs.AcceptingLemmas.{lawful as lines_lawful}
 use Rattle.rdf_trig.proofs.code.LawfulGrammar.{lawful as trees_lawful}
@@ -11,8 +11,8 @@ use Rattle.rdf_stream.proofs.checks.check.Goals as goal
 pub returns-in-Line-clause-stops : goal.returns-in-Line-clause-stops
 returns-in-Line-clause-stops g c =
     if_err c.check_with.result _ _
-    (λ told h.
-    lines_job (λ j. CheckStops told j.language (g.S.Source.remaining c.args.source.now) (reading g.S.Source.remaining g.S.Source.has_ended g.S.Source.has_failed c.check_with.new.source)) c.args.job c.in-Line.form (search rules)
+    (λ reported h.
+    lines_job (λ j. CheckStops reported j.language (g.S.Source.remaining c.args.source.now) (reading g.S.Source.remaining g.S.Source.has_ended g.S.Source.has_failed c.check_with.new.source)) c.args.job c.in-Line.form (search rules)
     c.limits.result.iri (search rules) c.line_reader.result.scanner.limit (search rules) _ refl (h _ (record { lawful = lines_lawful; read = c.line_reader.ensures.read })))
     c.check_with.ensures.stops
 
@@ -27,7 +27,7 @@ returns-clause-accepted g c =
 pub returns-clause-stops : goal.returns-clause-stops
 returns-clause-stops g c =
     if_err c.check_with-in-Tree.result _ _
-    (λ told h.
-    trees_job (λ j. CheckStops told j.language (g.S.Source.remaining c.args.source.now) (reading g.S.Source.remaining g.S.Source.has_ended g.S.Source.has_failed c.check_with-in-Tree.new.source)) c.args.job c.in-Tree.form
+    (λ reported h.
+    trees_job (λ j. CheckStops reported j.language (g.S.Source.remaining c.args.source.now) (reading g.S.Source.remaining g.S.Source.has_ended g.S.Source.has_failed c.check_with-in-Tree.new.source)) c.args.job c.in-Tree.form
     (search rules) c.options.result (search rules) c.tree_reader.result.scanner.limit (search rules) _ refl (h _ (record { lawful = trees_lawful; read = c.tree_reader.ensures.read })))
     c.check_with-in-Tree.ensures.stops

@@ -3,11 +3,11 @@ use Rattle.std.proofs.Common.{◌≡◌, true, refl}
 use Rattle.rdf_stream.specs.Devices.{reading}
 use Rattle.rdf_stream.specs.Faults.{IsRefusal}
 use Rattle.rdf_stream.proofs.ChecksLemmas.{begins, checked, refused_document, stopped}
-use Rattle.rdf_stream.proofs.PiecesLemmas.{if_err, if_ok, none_given, on_ok, told_stops}
+use Rattle.rdf_stream.proofs.PiecesLemmas.{if_err, if_ok, none_given, on_ok, reported_stops}
 use Rattle.rdf_stream.proofs.checks.check_with.Goals as goal
 
 pub returns-in_err-piece-clause-stops : goal.returns-in_err-piece-clause-stops
-returns-in_err-piece-clause-stops g c = told_stops _ _ _ c.from_residual.ensures.1 (λ x b. none_given (reading g.S.Source.remaining g.S.Source.has_ended g.S.Source.has_failed c.args.source.now) c.requires.more c.requires.source)
+returns-in_err-piece-clause-stops g c = reported_stops _ _ _ c.from_residual.ensures.1 (λ x b. none_given (reading g.S.Source.remaining g.S.Source.has_ended g.S.Source.has_failed c.args.source.now) c.requires.more c.requires.source)
 
 pub read_pieces-requires-clause-begun : goal.read_pieces-requires-clause-begun
 read_pieces-requires-clause-begun g c = begins g.G.Grammar.words c.requires.begun.0 (c.args.reader, _) c.requires.begun.1
@@ -17,13 +17,13 @@ returns-clause-accepted g c =
     if_ok c.read_pieces.result _ _ (λ s a x b. checked g.G.Grammar.words x _ (c.args.reader, _) (c.read_pieces.new.run, _) refl b _ _ s a) c.read_pieces.ensures.read
 
 pub returns-clause-ended : goal.returns-clause-ended
-returns-clause-ended g c = on_ok c.read_pieces.result _ (g.S.Source.has_ended c.read_pieces.new.source ≡ true) (λ s a. a.told) c.read_pieces.ensures.read
+returns-clause-ended g c = on_ok c.read_pieces.result _ (g.S.Source.has_ended c.read_pieces.new.source ≡ true) (λ s a. a.reported) c.read_pieces.ensures.read
 
 pub returns-clause-stops : goal.returns-clause-stops
 returns-clause-stops g c =
-    if_err c.read_pieces.result _ _ (λ told a x b. stopped g.G.Grammar.words x _ (c.args.reader, _) (c.read_pieces.new.run, _) refl b _ _ told a) c.read_pieces.ensures.stops
+    if_err c.read_pieces.result _ _ (λ reported a x b. stopped g.G.Grammar.words x _ (c.args.reader, _) (c.read_pieces.new.run, _) refl b _ _ reported a) c.read_pieces.ensures.stops
 
 pub returns-clause-refused : goal.returns-clause-refused
 returns-clause-refused g c =
     if_err c.read_pieces.result _ IsRefusal
-    (λ told a. refused_document g.G.Grammar.words c.requires.begun.0 _ (c.args.reader, _) (c.read_pieces.new.run, _) refl c.requires.begun.1 _ _ told a) c.read_pieces.ensures.stops
+    (λ reported a. refused_document g.G.Grammar.words c.requires.begun.0 _ (c.args.reader, _) (c.read_pieces.new.run, _) refl c.requires.begun.1 _ _ reported a) c.read_pieces.ensures.stops

@@ -20,18 +20,18 @@ returns-clause-accepted g c =
     c.read_pieces.ensures.read
 
 pub returns-clause-ended : goal.returns-clause-ended
-returns-clause-ended g c = on_ok c.read_pieces.result _ (g.S.Source.has_ended c.read_pieces.new.source ≡ true) (λ s a. a.told) c.read_pieces.ensures.read
+returns-clause-ended g c = on_ok c.read_pieces.result _ (g.S.Source.has_ended c.read_pieces.new.source ≡ true) (λ s a. a.reported) c.read_pieces.ensures.read
 
 pub returns-clause-stops : goal.returns-clause-stops
 returns-clause-stops g c =
     if_err c.read_pieces.result _ _
-    (λ told a x b.
-    stopped _ g.D.Drain.contents g.D.Drain.has_failed g.D.Drain.is_flushed g.G.Grammar.words g.G.Passes.style x _ _ (c.args.reader, c.args.lines.now) (c.read_pieces.new.run, c.read_pieces.new.out) refl refl b _ _ told a)
+    (λ reported a x b.
+    stopped _ g.D.Drain.contents g.D.Drain.has_failed g.D.Drain.is_flushed g.G.Grammar.words g.G.Passes.style x _ _ (c.args.reader, c.args.lines.now) (c.read_pieces.new.run, c.read_pieces.new.out) refl refl b _ _ reported a)
     c.read_pieces.ensures.stops
 
 pub returns-clause-refused : goal.returns-clause-refused
 returns-clause-refused g c =
     if_err c.read_pieces.result _ IsRefusal
-    (λ told a.
-    refused_document _ g.D.Drain.contents g.D.Drain.has_failed g.D.Drain.is_flushed g.G.Grammar.words g.G.Passes.style c.requires.begins.0 _ _ (c.args.reader, c.args.lines.now) (c.read_pieces.new.run, c.read_pieces.new.out) refl refl c.requires.begins.1 _ _ told a)
+    (λ reported a.
+    refused_document _ g.D.Drain.contents g.D.Drain.has_failed g.D.Drain.is_flushed g.G.Grammar.words g.G.Passes.style c.requires.begins.0 _ _ (c.args.reader, c.args.lines.now) (c.read_pieces.new.run, c.read_pieces.new.out) refl refl c.requires.begins.1 _ _ reported a)
     c.read_pieces.ensures.stops

@@ -2,7 +2,7 @@ use Rattle.std.proofs.Common.{rules, arith, length-take, length-append, length, 
 use Rattle.std.proofs.KnownBytes.{Consumes-nil}
 use Rattle.rdf_stream.specs.Devices.{reading}
 use Rattle.rdf_stream.proofs.PiecesLemmas.{no_more}
-use Rattle.rdf_stream.proofs.LoadsLemmas.{giving_given, gives_all, gives_more, source_failed, told_fault}
+use Rattle.rdf_stream.proofs.LoadsLemmas.{giving_given, gives_all, gives_more, source_failed, reported_fault}
 use Rattle.rdf_stream.proofs.loads.read_all.Goals as goal
 
 pub loop-count-init : goal.loop-count-init
@@ -35,5 +35,5 @@ loop-count-preserved g c =
 pub returns-in_err-extend_from_slice-clause-stops : goal.returns-in_err-extend_from_slice-clause-stops
 returns-in_err-extend_from_slice-clause-stops g c =
     let left = reading g.S.Source.remaining g.S.Source.has_ended g.S.Source.has_failed c.fill.new.self in
-    told_fault _ _ _ c.from_residual.ensures.1 (giving_given _ left _ _
+    reported_fault _ _ _ c.from_residual.ensures.1 (giving_given _ left _ _
     (gives_more _ _ left _ _ c.loop-count.invariant _ c.in-Ok.ensures.bytes.0 (c.in-Ok.ensures.ended.1 (λ e. absurd (c.if-count-eq0.false e))) c.in-Ok.ensures.failed (length c.fill.new.buf) (search rules)))

@@ -30,12 +30,12 @@ returns-clause-accepted g c =
 pub returns-clause-stops : goal.returns-clause-stops
 returns-clause-stops g c =
     if_err c.read_pieces.result _ _
-    (λ told a.
+    (λ reported a.
     run_stopped _ g.D.Drain.contents g.D.Drain.has_failed g.D.Drain.is_flushed g.T.Spoken.spoken c.args.job.now _ _ (record {
       dialect = c.requires.dialect;
       limit = search rules;
       read = c.new-reader.ensures.read tt refl;
       none_waits = c.requires.none_waits;
       live = c.requires.live;
-    }) _ _ told a)
+    }) _ _ reported a)
     c.read_pieces.ensures.stops

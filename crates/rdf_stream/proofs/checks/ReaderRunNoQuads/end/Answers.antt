@@ -8,5 +8,5 @@ returns-in-Ok-clause-ends g c = λ first bytes i. end_read g.G.Grammar.words fir
 
 pub returns-in-Err-clause-halts : goal.returns-in-Err-clause-halts
 returns-in-Err-clause-halts g c = λ first bytes i.
-    subst (λ told. CheckHalts g.G.Grammar.words told first.0 bytes true) (sym c.from.ensures)
+    subst (λ reported. CheckHalts g.G.Grammar.words reported first.0 bytes true) (sym c.from.ensures)
     (end_halts g.G.Grammar.words first.0 c.args.self.now bytes i _ _ _ c.in-Err.fault.reason c.in-Err.fault.offset c.in-Err.fault.line c.in-Err.ensures.err)

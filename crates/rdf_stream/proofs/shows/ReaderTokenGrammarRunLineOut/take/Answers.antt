@@ -36,8 +36,8 @@ pub returns-in-Err-clause-stays : goal.returns-in-Err-clause-stays
 returns-in-Err-clause-stays g c = λ before s.
     let (first, bytes, i) = c.requires.begun in
     stays_on g.D.Drain.contents g.D.Drain.has_failed g.T.Spoken.spoken first.0 first.1 bytes c.args.self.now c.args.lines.now i _
-    (run_halts g.D.Drain.contents g.D.Drain.has_failed g.T.Spoken.spoken first.0 first.1 bytes c.args.self.now c.args.lines.now i _ _ _ _ _ _ _ _ c.in-Err.ensures.err c.stop.ensures.same c.stop.ensures.tells).same before.1 s
+    (run_halts g.D.Drain.contents g.D.Drain.has_failed g.T.Spoken.spoken first.0 first.1 bytes c.args.self.now c.args.lines.now i _ _ _ _ _ _ _ _ c.in-Err.ensures.err c.stop.ensures.same c.stop.ensures.reports).same before.1 s
 
 pub returns-in-Err-clause-halts : goal.returns-in-Err-clause-halts
 returns-in-Err-clause-halts g c = λ first bytes i.
-    run_halts g.D.Drain.contents g.D.Drain.has_failed g.T.Spoken.spoken first.0 first.1 bytes c.args.self.now c.args.lines.now i _ _ _ _ _ _ _ _ c.in-Err.ensures.err c.stop.ensures.same c.stop.ensures.tells
+    run_halts g.D.Drain.contents g.D.Drain.has_failed g.T.Spoken.spoken first.0 first.1 bytes c.args.self.now c.args.lines.now i _ _ _ _ _ _ _ _ c.in-Err.ensures.err c.stop.ensures.same c.stop.ensures.reports
