@@ -1,5 +1,5 @@
 -- Where the states stop, they or the count decide the definition's test.
-use Rattle.std.proofs.Common.{◌≡◌, ◌⊎◌, ◌≤◌, ◌||◌, false, is_some, length, ⊎_elim, sym, ap, ◌∙◌, arith}
+use Rattle.std.proofs.Common.{◌≡◌, ◌⊎◌, ◌≤◌, ◌||◌, true, false, is_some, length, ⊎_elim, sym, ap, ◌∙◌, arith}
 use Rattle.std.proofs.lemmas.Bool.{le-ltb}
 use Rattle.std.specs.Str.{chars}
 use Rattle.rdf_tokens.specs.Machine.{kind_at, goes_on}
@@ -25,3 +25,13 @@ returns-else-is_some c =
     let most = w.ensures.few in
     c.is_live.ensures
     ∙ sym (by_state d c.args.limit l.count (chars c.args.text.now) l.state (omega arith) w.ensures.came.here.count w.ensures.came.state ∙ ap (λ b. b || goes_on d l.state) none)
+
+pub returns-then-is_some : goal.returns-then-is_some
+returns-then-is_some c =
+    let w = c.walk_on-end in
+    let l = w.result in
+    let d = c.args.dialect in
+    let over = c.if-end-limit.true in
+    let some : is_some (kind_at l.state) ≡ true = sym (c.is_some.ensures ∙ ap is_some c.kind.ensures) ∙ c.if-is_some.true in
+    let most = w.ensures.few in
+    c.if-is_some.true ∙ sym (by_state d c.args.limit l.count (chars c.args.text.now) l.state (omega arith) w.ensures.came.here.count w.ensures.came.state ∙ ap (λ b. b || goes_on d l.state) some)
