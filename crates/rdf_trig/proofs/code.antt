@@ -6,6 +6,8 @@ pub mod PutsInRow
 pub mod TurnsLemmas
 pub mod FrameStack
 pub mod HoldingLemmas
+pub mod OpenLists
+pub mod OwedHeld
 pub mod SpelledLemmas
 pub mod LocalShapes
 pub mod ColonLemmas

@@ -13,3 +13,4 @@ pub mod OneTokenMore
 pub mod AlikeLemmas
 pub mod EndOfInput
 pub mod Fallbacks
+pub mod OpenSizes

@@ -1,16 +1,17 @@
 -- Turtle and TriG as a grammar that a reader drives.
-use Rattle.std.specs.Prelude.{◌≡◌, ℕ}
+use Rattle.std.specs.Prelude.{◌≡◌, ℕ, ◌+◌, ◌≤◌}
 use Rattle.rdf_terms.specs.declared.kind.Dialect.TheVariants.{Turtle as turtle}
 use Rattle.rdf_terms.specs.declared.reason.Reason.{Reason}
 use Rattle.rdf_terms.specs.declared.reason.Reason.TheVariants as reason
 use Rattle.rdf_terms.specs.Terms.{Quad}
+use Rattle.rdf_iri.specs.Scope.{bytes_held}
 use Rattle.rdf_driver.specs.Words.{Words}
 use Rattle.rdf_driver.specs.Readers.{Driven}
 use Rattle.rdf_trig.specs.declared.form.DocForm.{DocForm}
 use Rattle.rdf_trig.specs.declared.fault.StepFault.{StepFault}
 use Rattle.rdf_trig.specs.declared.fault.StepFault.TheVariants as fault
 use Rattle.rdf_trig.specs.Documents.{documents, Passes}
-use Rattle.rdf_trig.specs.Machine.{State}
+use Rattle.rdf_trig.specs.Machine.{State, mode_size}
 use Rattle.rdf_trig.specs.Alike.{RunsTo}
 use Rattle.rdf_trig.specs.Owed.{most_kept}
 use Rattle.rdf_trig.specs.Language.{Chosen, Blamed}
@@ -24,6 +25,10 @@ pub record TreeAt : Type 0 where
   -- the bytes of the texts that are held
   pub held : ℕ
 
+-- what is held is at least what the open predicate lists hold, the base, and the prefixes with their IRIs
+abbrev pub HoldsOpen : TreeAt → Type 0
+HoldsOpen g = mode_size g.state.mode + bytes_held g.state.setting.scope ≤ g.held
+
 -- the documents from a scope on, and what the machine has accepted of one
 abbrev pub tree_words : Words TreeAt Chosen Quad
 tree_words = record {
@@ -33,7 +38,7 @@ tree_words = record {
   documents = λ x. documents x.form x.start;
   passes = λ x. Passes x.form x.start;
   blames = λ x. Blamed x.form x.start;
-  reached = λ g x ts qs. (g.form ≡ x.form) × (g.limit ≡ x.start.limits.token) × RunsTo x.form x.start ts qs g.state;
+  reached = λ g x ts qs. (g.form ≡ x.form) × (g.limit ≡ x.start.limits.token) × RunsTo x.form x.start ts qs g.state × HoldsOpen g;
 }
 
 -- a reader of Turtle or TriG as its callers see it

@@ -3,7 +3,7 @@ use Rattle.std.proofs.Common.{◌≡◌, ◌⊎◌, inl, inr, ℕ, Bool, true, f
 use Rattle.std.specs.Coded.{Coded, code_by, coded×, coded⊎, coded_ℕ, coded_bool, coded_list, coded_option}
 use Rattle.rdf_terms.specs.Terms.{Node, Label, Anon, Cell}
 use Rattle.rdf_terms.specs.Terms as term
-use Rattle.rdf_trig.specs.Machine.{Level, Top, InBlock, Place, Listed, InCells, Around, Statement, Boxed, Up, Subject, At}
+use Rattle.rdf_trig.specs.Machine.{Topic, Spelt, unsized, spelt, Level, Top, InBlock, Place, Listed, InCells, Around, Statement, Boxed, Up, Subject, At}
 
 -- what a blank node is made of: the text of its label, or the offset of its '[', or that of its cell
 abbrev NodeOf : Type 0
@@ -65,9 +65,19 @@ abbrev level_back : (v : Level) → level_from (level_to v) ≡ v
 level_back Top = refl
 level_back InBlock = refl
 
+-- the subject of a predicate list is coded by its term and its size
+abbrev topic_code : Coded Topic
+topic_code = code_by (Option term.Subject × ℕ) (coded× (coded_option subject_code) coded_ℕ) (λ s. (s.term, s.size))
+    (λ x. record { term = x.0; size = x.1 }) (λ s. refl)
+
+-- a verb by its IRI and its size
+abbrev spelt_code : Coded Spelt
+spelt_code = code_by (Option (List ℕ) × ℕ) (coded× (coded_option (coded_list coded_ℕ)) coded_ℕ) (λ p. (p.iri, p.size))
+    (λ x. record { iri = x.0; size = x.1 }) (λ p. refl)
+
 -- a predicate list by its subject and verb, or a collection by two cells
 abbrev Open : Type 0
-Open = (Option term.Subject × Option (List ℕ)) ⊎ (ℕ × ℕ)
+Open = (Topic × Spelt) ⊎ (ℕ × ℕ)
 
 -- whether the outermost predicate list is that of a statement, its level, and what is open
 abbrev Chain : Type 0
@@ -83,7 +93,7 @@ abbrev mutual
   place_to (Listed s p a) = around_to s p a
   place_to (InCells f n u) = with_open (inr (f, n)) (up_to u)
 
-  around_to : Option term.Subject → Option (List ℕ) → Around → Chain
+  around_to : Topic → Spelt → Around → Chain
   around_to s p (Statement v) = (true, (level_to v, inl (s, p) ∷ []))
   around_to s p (Boxed u) = with_open (inl (s, p)) (up_to u)
 
@@ -131,7 +141,7 @@ abbrev mutual
 -- chains are coded by the codes of subjects, texts and offsets
 abbrev chain_code : Coded Chain
 chain_code = coded× coded_bool (coded× coded_bool (coded_list
-    (coded⊎ (coded× (coded_option subject_code) (coded_option (coded_list coded_ℕ))) (coded× coded_ℕ coded_ℕ))))
+    (coded⊎ (coded× topic_code spelt_code) (coded× coded_ℕ coded_ℕ))))
 
 -- what a bracket stands for is coded by its chain
 abbrev pub up_code : Coded Up
@@ -139,7 +149,7 @@ up_code = code_by Chain chain_code up_to from up_back
 
 -- the object's place of which a chain is made; the chain of a subject has none, and any will do
 abbrev place_of : Up → Place
-place_of (Subject v) = Listed None None (Statement v)
+place_of (Subject v) = Listed (unsized None) (spelt None) (Statement v)
 place_of (At p) = p
 
 -- places of objects are coded as what a bracket at them stands for
@@ -154,4 +164,4 @@ around_of (At (InCells f n u)) = Boxed u
 
 -- what a predicate list stands in is coded by a place in such a list
 abbrev pub around_code : Coded Around
-around_code = code_by Up up_code (λ a. At (Listed None None a)) around_of (λ a. refl)
+around_code = code_by Up up_code (λ a. At (Listed (unsized None) (spelt None) a)) around_of (λ a. refl)

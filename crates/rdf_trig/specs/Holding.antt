@@ -5,14 +5,9 @@ use Rattle.std.specs.List.{AllByRecursion, sum_by}
 use Rattle.rdf_terms.specs.declared.kind.Kind.{Kind}
 use Rattle.rdf_terms.specs.declared.kind.Kind.TheVariants.{OpenBracket, CloseBracket, OpenParen, CloseParen}
 use Rattle.rdf_terms.specs.declared.terms.Subject.{Subject as OwnedSubject}
-use Rattle.rdf_terms.specs.Owned.{owned_subject}
 use Rattle.rdf_tokens.specs.declared.token.Token.{Token as Given}
 use Rattle.rdf_iri.specs.Texts.{byte_len}
 use Rattle.rdf_iri.specs.Limits.{Sizes}
-use Rattle.rdf_trig.specs.declared.state.Verb.{Verb}
-use Rattle.rdf_trig.specs.declared.state.Verb.TheVariants as verb
-use Rattle.rdf_trig.specs.declared.state.Topic.{Topic}
-use Rattle.rdf_trig.specs.declared.state.Topic.TheVariants as topic
 use Rattle.rdf_trig.specs.declared.state.Level.{Level}
 use Rattle.rdf_trig.specs.declared.state.Level.TheVariants as level
 use Rattle.rdf_trig.specs.declared.state.Frame.{Frame}
@@ -26,22 +21,8 @@ use Rattle.rdf_trig.specs.declared.state.Object.TheVariants as object
 use Rattle.rdf_trig.specs.declared.state.Held.{Held}
 use Rattle.rdf_trig.specs.declared.state.Held.TheVariants as held
 use Rattle.rdf_trig.specs.declared.state.State.{State}
-use Rattle.rdf_trig.specs.Owed.{term_size}
+pub use Rattle.rdf_trig.specs.States.{verb_bytes, subject_bytes, topic_bytes}
 use Rattle.rdf_trig.specs.States.{leaf}
-
--- the bytes of a verb's IRI; `a` has no text
-abbrev pub verb_bytes : {A : Type 0} → Verb A → ℕ
-verb_bytes (verb.Named i) = byte_len i
-verb_bytes verb.Type = 0
-
--- the bytes of the IRI or label of a subject or graph
-abbrev pub subject_bytes : {A : Type 0} → OwnedSubject A → ℕ
-subject_bytes s = term_size (Some (owned_subject s))
-
--- those of the subject of a predicate list; the empty collection has no text
-abbrev pub topic_bytes : {A : Type 0} → Topic A → ℕ
-topic_bytes (topic.Term s) = subject_bytes s
-topic_bytes topic.Nil = 0
 
 -- those of a graph's label, if there is one
 abbrev pub graph_bytes : {A : Type 0} → Option (OwnedSubject A) → ℕ

@@ -25,6 +25,7 @@ use Rattle.rdf_trig.specs.Names.{reference_in, name_in, prefix_of, with_binding}
 use Rattle.rdf_trig.specs.TreeQuads.{document_quads}
 use Rattle.rdf_trig.specs.Events.{Use, tokens, event_quads, document_events, BoundFront}
 use Rattle.rdf_trig.specs.Documents.{documents, trees, InTree, Passes}
+use Rattle.rdf_trig.specs.Owed.{Owed}
 use Rattle.rdf_trig.specs.Refusals.{Refusal, RefusedFor}
 use Rattle.rdf_trig.specs.Machine.{Over, State, refuses, accept, at_start, ran, accept_all}
 use Rattle.rdf_trig.specs.Language.{Chosen, language}
@@ -52,6 +53,11 @@ TokensSettleTheQuads = (form : DocForm) (start : InForce) (ts : List Token) (qs 
 abbrev pub TokensSettleWhatIsDue : Type 0
 TokensSettleWhatIsDue = (form : DocForm) (start : InForce) (ts : List Token) (qs rs : List Quad) → Due (documents form start) ts qs →
     Due (documents form start) ts rs → qs ≡ rs
+
+-- Something is owed after tokens that begin a document, and it is the same in each document that begins with them.
+abbrev pub TokensSettleWhatIsOwed : Type 0
+TokensSettleWhatIsOwed = (form : DocForm) (start : InForce) (ts : List Token) → Viable (documents form start) ts →
+    (size : ℕ) × Owed form start ts size × ((other : ℕ) → Owed form start ts other → other ≡ size)
 
 -- What is due is a beginning of the quads of each document that begins so.
 abbrev pub DueBeginsTheQuads : Type 0

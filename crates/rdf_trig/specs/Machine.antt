@@ -13,9 +13,11 @@ use Rattle.rdf_iri.specs.Scope.{InForce}
 use Rattle.rdf_lines.specs.Lines.{Leaf, leaf_of}
 use Rattle.rdf_trig.specs.declared.form.DocForm.{DocForm}
 use Rattle.rdf_trig.specs.declared.form.DocForm.TheVariants.{Turtle, TriG}
+use Rattle.rdf_trig.specs.Trees.{Verb}
 use Rattle.rdf_trig.specs.Names.{prefix_of, reference_in, name_in, with_base, with_binding, is_full}
-use Rattle.rdf_trig.specs.Quads.{Setting, in_default, in_graph, stated, named, node, resource, anon_at, labelled, short_value, long_value, tag_of, plain_literal, tagged_literal, typed_literal, cell_at, rest_quad}
+use Rattle.rdf_trig.specs.Quads.{Setting, in_default, in_graph, verb_of, stated, named, node, resource, anon_at, labelled, short_value, long_value, tag_of, plain_literal, tagged_literal, typed_literal, cell_at, rest_quad}
 pub use Rattle.rdf_trig.specs.Refusals.{Refusal, unexpected, too_deep, unbound, no_base, iri_too_long, too_many_bindings}
+use Rattle.rdf_trig.specs.Owed.{iri_size, term_size, verb_size}
 use Rattle.rdf_trig.specs.Events.{Use, itself, stands, binds, Event, Took, give}
 
 -- outside of a block, or in one
@@ -23,11 +25,41 @@ pub data Level : Type 0 where
   Top : Level
   InBlock : Level
 
+-- the subject of a predicate list, and how many bytes its text has, which is 0 where no token spells it
+pub record Topic : Type 0 where
+  pub term : Option term.Subject
+  pub size : ℕ
+
+-- a verb's IRI, and how many bytes it has, which is 0 for `a`
+pub record Spelt : Type 0 where
+  pub iri : Option (List ℕ)
+  pub size : ℕ
+
+-- a subject that a token spells, or a node without a label
+abbrev pub sized : Option term.Subject → Topic
+sized s = record { term = s; size = term_size s }
+
+-- a subject that no token spells, as a collection
+abbrev pub unsized : Option term.Subject → Topic
+unsized s = record { term = s; size = 0 }
+
+-- a verb that a token spells
+abbrev pub spelt : Option (List ℕ) → Spelt
+spelt i = record { iri = i; size = iri_size i }
+
+-- `a`, which is rdf:type
+abbrev pub type_verb : Spelt
+type_verb = record { iri = Some (known_chars RdfType); size = 0 }
+
+-- a verb of the grammar in a scope
+abbrev pub verb_in : InForce → Verb → Spelt
+verb_in s v = record { iri = verb_of s v; size = verb_size s v }
+
 -- The frames. Each holds a subject and a verb at most; what it stands in is the frame below.
 mutual
   -- where an object stands: after a subject and a verb, or in a collection with its first and its present cell, as offsets
   pub data Place : Type 0 where
-    Listed : Option term.Subject → Option (List ℕ) → Around → Place
+    Listed : Topic → Spelt → Around → Place
     InCells : ℕ → ℕ → Up → Place
 
   -- what a predicate list stands in
@@ -56,7 +88,7 @@ pub data Mode : Type 0 where
   WantBaseIri : Spelling → Mode
   WantDot : Mode
   -- after a label or subject; after GRAPH, after its '[' and after its label
-  AfterLabel : Option term.Subject → Mode
+  AfterLabel : Topic → Mode
   GraphWord : Mode
   GraphBox : ℕ → Mode
   WantBrace : Option term.Subject → Mode
@@ -71,9 +103,9 @@ pub data Mode : Type 0 where
   Box : ℕ → Up → Mode
   Paren : Up → Mode
   -- a verb has to come; after ';' one may; after a property list that is a subject
-  WantVerb : Option term.Subject → Around → Mode
-  Semi : Option term.Subject → Around → Mode
-  AfterBox : Option term.Subject → Level → Mode
+  WantVerb : Topic → Around → Mode
+  Semi : Topic → Around → Mode
+  AfterBox : Topic → Level → Mode
 
 -- What a token does by the grammar alone: nothing has it there; or what it stands for, a quad whose head ends with it as the first token of
 -- the next item, a quad whose head ends with it as an object, and where the reader stands after it.
@@ -91,12 +123,12 @@ cell n = node (Cell n)
 
 -- the subject of the triple that an object at this place belongs to
 abbrev pub subject_at : Place → Option term.Subject
-subject_at (Listed s p a) = s
+subject_at (Listed s p a) = s.term
 subject_at (InCells f n u) = cell n
 
 -- its predicate: rdf:first in a collection
 abbrev pub verb_at : Place → Option (List ℕ)
-verb_at (Listed s p a) = p
+verb_at (Listed s p a) = p.iri
 verb_at (InCells f n u) = Some (known_chars RdfFirst)
 
 -- the quad of an object at this place
@@ -151,40 +183,40 @@ want_type c w p k l = No
 
 -- Verbs.
 -- a verb has come, and its first object has to come next
-abbrev pub verb_is : Setting → Option term.Subject → Around → Option (List ℕ) → Reply
-verb_is c s a i = Go (stands i) None None c (Want (Listed s i a))
+abbrev pub verb_is : Setting → Topic → Around → Option (List ℕ) → Reply
+verb_is c s a i = Go (stands i) None None c (Want (Listed s (spelt i) a))
 
 -- the first token of a verb, which is its only one: an iri or `a`
-abbrev pub verb_start : Setting → Option term.Subject → Around → Kind → Leaf → Reply
+abbrev pub verb_start : Setting → Topic → Around → Kind → Leaf → Reply
 verb_start c s a IriRef l = verb_is c s a (reference_in c.scope l)
 verb_start c s a PnameLn l = verb_is c s a (name_in c.scope l)
 verb_start c s a PnameNs l = verb_is c s a (name_in c.scope l)
-verb_start c s a A l = goes c (Want (Listed s (Some (known_chars RdfType)) a))
+verb_start c s a A l = goes c (Want (Listed s type_verb a))
 verb_start c s a k l = No
 
 -- Where the reader stands after a subject that is a name or node, a property list, and a collection.
-abbrev pub after_subject : DocForm → Level → Option term.Subject → Mode
+abbrev pub after_subject : DocForm → Level → Topic → Mode
 after_subject form InBlock s = WantVerb s (Statement InBlock)
 after_subject Turtle Top s = WantVerb s (Statement Top)
 after_subject TriG Top s = AfterLabel s
 
 -- after `[]`: a subject may go on as one, and in TriG as the label of a graph; an object has come
-abbrev pub node_closed : DocForm → Up → Option term.Subject → Mode
+abbrev pub node_closed : DocForm → Up → Topic → Mode
 node_closed form (Subject v) s = after_subject form v s
 node_closed form (At p) s = After p
 
 -- after the ']' of a property list: as a subject it may end the statement, as an object it has come
-abbrev pub box_closed : Up → Option term.Subject → Mode
+abbrev pub box_closed : Up → Topic → Mode
 box_closed (Subject v) s = AfterBox s v
 box_closed (At p) s = After p
 
 -- after the ')' of a collection: as a subject it needs a verb, as an object it has come
-abbrev pub list_closed : Up → Option term.Subject → Mode
+abbrev pub list_closed : Up → Topic → Mode
 list_closed (Subject v) s = WantVerb s (Statement v)
 list_closed (At p) s = After p
 
 -- the end of a predicate list
-abbrev pub list_end : Setting → Option term.Subject → Around → Kind → Leaf → Reply
+abbrev pub list_end : Setting → Topic → Around → Kind → Leaf → Reply
 list_end c s (Statement Top) Dot l = goes c Start
 list_end c s (Statement InBlock) Dot l = goes c Inside
 list_end c s (Statement InBlock) CloseBrace l = goes (in_default c.scope) Start
@@ -192,7 +224,7 @@ list_end c s (Boxed u) CloseBracket l = goes c (box_closed u s)
 list_end c s a k l = No
 
 -- after ';' there may be another ';', a verb, or the end of the predicate list
-abbrev pub semi : Setting → Option term.Subject → Around → Kind → Leaf → Reply
+abbrev pub semi : Setting → Topic → Around → Kind → Leaf → Reply
 semi c s a Semicolon l = goes c (Semi s a)
 semi c s a IriRef l = verb_start c s a IriRef l
 semi c s a PnameLn l = verb_start c s a PnameLn l
@@ -205,7 +237,7 @@ abbrev pub after : Setting → Place → Kind → Leaf → Reply
 after c (Listed s p a) Comma l = goes c (Want (Listed s p a))
 after c (Listed s p a) Semicolon l = goes c (Semi s a)
 after c (Listed s p a) k l = list_end c s a k l
-after c (InCells f n u) CloseParen l = Go itself None (rest_quad c (Cell n) nil) c (list_closed u (cell f))
+after c (InCells f n u) CloseParen l = Go itself None (rest_quad c (Cell n) nil) c (list_closed u (unsized (cell f)))
 after c (InCells f n u) k l = object_start c (InCells f l.at.offset u) (rest_quad c (Cell n) (Blank (cell_at l))) k l
 
 -- a string with its language tag has come
@@ -223,16 +255,16 @@ after_text c w p k l = after c p k l
 -- Brackets.
 -- after '[': ']' at once, for a node without a label, or the first verb of a property list
 abbrev pub box : DocForm → Setting → ℕ → Up → Kind → Leaf → Reply
-box form c n u CloseBracket l = goes c (node_closed form u (node (term.Anon n)))
-box form c n u k l = verb_start c (node (term.Anon n)) (Boxed u) k l
+box form c n u CloseBracket l = goes c (node_closed form u (sized (node (term.Anon n))))
+box form c n u k l = verb_start c (sized (node (term.Anon n))) (Boxed u) k l
 
 -- after '(': ')' at once for rdf:nil, or the first item, whose cell is what the collection means
 abbrev pub paren : Setting → Up → Kind → Leaf → Reply
-paren c u CloseParen l = goes c (list_closed u (Some nil))
+paren c u CloseParen l = goes c (list_closed u (unsized (Some nil)))
 paren c u k l = object_start c (InCells l.at.offset l.at.offset u) None k l
 
 -- after a property list that is a subject: a verb, or the end of the statement
-abbrev pub after_box : Setting → Option term.Subject → Level → Kind → Leaf → Reply
+abbrev pub after_box : Setting → Topic → Level → Kind → Leaf → Reply
 after_box c s v IriRef l = verb_start c s (Statement v) IriRef l
 after_box c s v PnameLn l = verb_start c s (Statement v) PnameLn l
 after_box c s v PnameNs l = verb_start c s (Statement v) PnameNs l
@@ -242,14 +274,14 @@ after_box c s v k l = list_end c s (Statement v) k l
 -- Subjects, labels and blocks.
 -- an iri has come as a subject, or as a label that looks like one
 abbrev pub subject_is : DocForm → Setting → Level → Option (List ℕ) → Reply
-subject_is form c v i = Go (stands i) None None c (after_subject form v (named i))
+subject_is form c v i = Go (stands i) None None c (after_subject form v (sized (named i)))
 
 -- the first token of a subject
 abbrev pub subject_start : DocForm → Setting → Level → Kind → Leaf → Reply
 subject_start form c v IriRef l = subject_is form c v (reference_in c.scope l)
 subject_start form c v PnameLn l = subject_is form c v (name_in c.scope l)
 subject_start form c v PnameNs l = subject_is form c v (name_in c.scope l)
-subject_start form c v LabelNode l = goes c (after_subject form v (node (labelled l)))
+subject_start form c v LabelNode l = goes c (after_subject form v (sized (node (labelled l))))
 subject_start form c v OpenBracket l = goes c (Box l.at.offset (Subject v))
 subject_start form c v OpenParen l = goes c (Paren (Subject v))
 subject_start form c v k l = No
@@ -276,8 +308,8 @@ want_brace c g OpenBrace l = goes (in_graph c.scope g) Inside
 want_brace c g k l = No
 
 -- after an iri or blank node outside of blocks in TriG: '{' makes it a graph's label, and a verb makes it a subject
-abbrev pub after_label : Setting → Option term.Subject → Kind → Leaf → Reply
-after_label c g OpenBrace l = goes (in_graph c.scope g) Inside
+abbrev pub after_label : Setting → Topic → Kind → Leaf → Reply
+after_label c g OpenBrace l = goes (in_graph c.scope g.term) Inside
 after_label c g k l = verb_start c g (Statement Top) k l
 
 -- the IRI of a label after GRAPH has come
@@ -384,6 +416,32 @@ go_on t (Go u early now c m) next = put t u early now (next c m)
 abbrev pub run : DocForm → Setting → Mode → List Token → Option (List Event)
 run form c m [] = stop m
 run form c m (t ∷ ts) = fronted (waiting c m t.kind (leaf_of t)) (go_on t (step form c m t.kind (leaf_of t)) (λ c' m'. run form c' m' ts))
+
+-- The bytes of the open predicate lists: of each its subject, and its last verb where a further object of it can come.
+abbrev mutual
+  pub place_size : Place → ℕ
+  place_size (Listed s p a) = around_size a + s.size + p.size
+  place_size (InCells f n u) = up_size u
+
+  pub around_size : Around → ℕ
+  around_size (Statement v) = 0
+  around_size (Boxed u) = up_size u
+
+  pub up_size : Up → ℕ
+  up_size (Subject v) = 0
+  up_size (At p) = place_size p
+
+-- those in a mode; a subject whose verb has not come is not counted
+abbrev pub mode_size : Mode → ℕ
+mode_size (Want p) = place_size p
+mode_size (After p) = place_size p
+mode_size (AfterText w p) = place_size p
+mode_size (WantType w p) = place_size p
+mode_size (Box n u) = up_size u
+mode_size (Paren u) = up_size u
+mode_size (WantVerb s a) = around_size a
+mode_size (Semi s a) = around_size a + s.size
+mode_size m = 0
 
 -- How many '[' and '(' are open.
 abbrev mutual

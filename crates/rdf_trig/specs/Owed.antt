@@ -1,5 +1,5 @@
 -- What a reader has to hold after some tokens, and the most that it may hold.
-use Rattle.std.specs.Prelude.{◌≡◌, ℕ, ◌+◌, ◌*◌, Bool, cond, List, ◌++◌, ◌&&◌, length, nat_lt, nat_le, max, Option, Some, None}
+use Rattle.std.specs.Prelude.{◌≡◌, ℕ, ◌+◌, ◌*◌, List, [], ◌∷◌, ◌++◌, max, Option, Some, None}
 use Rattle.rdf_terms.specs.Terms.{Node, Label, Anon, Cell}
 use Rattle.rdf_terms.specs.Terms as term
 use Rattle.rdf_tokens.specs.Tokens.{Token}
@@ -8,14 +8,12 @@ use Rattle.rdf_iri.specs.Texts.{byte_len}
 use Rattle.rdf_iri.specs.Scope.{InForce}
 use Rattle.rdf_trig.specs.declared.form.DocForm.{DocForm}
 use Rattle.rdf_trig.specs.declared.form.DocForm.TheVariants.{Turtle, TriG}
-use Rattle.rdf_trig.specs.Trees.{Verb, predicate, type_word, Object, iri_object, blank_object, collection_object, list_object, literal_object, Collection, collection, Items, no_items, item, BlankNodePropertyList, property_list, PredicateObjectList, predicate_objects, More, no_more, semicolon, semicolon_objects, ObjectList, objects, Commas, no_commas, comma, Subject, iri_subject, blank_subject, collection_subject, Triples, subject_triples, list_triples, TriplesBlock, last, last_dot, dot, WrappedGraph, wrapped, named_graph, label_triples, list_triples2, collection_triples2, Block, triples_or_graph, default_graph, triples2, graph_word, Body, Document, end, with_directive, with_body, object_tokens, objects_tokens, predicates_tokens, collection_tokens, list_tokens, subject_tokens, label_tokens, triples_tokens, directive_tokens, body_tokens, document_tokens}
+use Rattle.rdf_trig.specs.Trees.{BlankNode, label, anon, Verb, predicate, type_word, plain, tagged, typed, Literal, rdf, numeric, boolean, Object, iri_object, blank_object, collection_object, list_object, literal_object, Collection, collection, Items, no_items, item, BlankNodePropertyList, property_list, PredicateObjectList, predicate_objects, More, no_more, semicolon, semicolon_objects, ObjectList, objects, Commas, no_commas, comma, Subject, iri_subject, blank_subject, collection_subject, Triples, subject_triples, list_triples, Directive, prefix_id, base, sparql_prefix, sparql_base, LabelOrSubject, iri_label, blank_label, TriplesBlock, last, last_dot, dot, WrappedGraph, wrapped, named_graph, label_triples, list_triples2, collection_triples2, Block, triples_or_graph, default_graph, triples2, graph_word, Body, Document, end, with_directive, with_body, document_tokens}
 use Rattle.rdf_trig.specs.Names.{iri_in, scope_after}
 use Rattle.rdf_trig.specs.Quads.{subject_of, label_of}
 use Rattle.rdf_trig.specs.Events.{Bound, document_events}
 
--- What a reader has to hold when k tokens are read: for each predicate list that has its verb among them and may go on after them, the bytes of its
--- subject's IRI or label; and those of its last verb, where a further object of it can come. Nodes without a label, and IRIs that no token spells, are not
--- held. In what follows n tokens stand before the tree.
+-- the bytes of an IRI
 abbrev pub iri_size : Option (List ℕ) → ℕ
 iri_size None = 0
 iri_size (Some i) = byte_len i
@@ -35,104 +33,129 @@ term_size (Some (term.Blank x)) = node_size x
 -- a collection, rdf:nil too, is not held
 abbrev pub subject_size : InForce → Subject → ℕ
 subject_size s (collection_subject c) = 0
-subject_size s (iri_subject i) = iri_size (iri_in s i)
-subject_size s (blank_subject b) = term_size (subject_of s (blank_subject b))
+subject_size s (iri_subject i) = term_size (subject_of s (iri_subject i))
+subject_size s (blank_subject x) = term_size (subject_of s (blank_subject x))
 
 -- the bytes of a verb's IRI; `a` has none that would have to be held
 abbrev pub verb_size : InForce → Verb → ℕ
 verb_size s (predicate i) = iri_size (iri_in s i)
 verb_size s (type_word l) = 0
 
--- the first of a part's tokens is read, and one of its own may come after those read
-abbrev pub is_open : ℕ → ℕ → List Token → Bool
-is_open k n ts = nat_lt n k && nat_le k (n + length ts)
+-- A document from left to right, with the bytes that a reader has to hold after each token: for each predicate list whose verb has come and that may
+-- go on, those of its subject's IRI or label; and those of its last verb, where a further object of it can come. Nodes without a label, and IRIs that no
+-- token spells, are not held. In what follows b bytes are held outside of the tree, and what comes after it stands in the last argument.
+-- a blank node: a label, or two brackets
+abbrev pub blank_held : ℕ → BlankNode → List ℕ → List ℕ
+blank_held b (label l) rest = b ∷ rest
+blank_held b (anon l r) rest = b ∷ b ∷ rest
 
--- the bytes of a verb while a further object of it may come
-abbrev pub verb_held : InForce → ℕ → ℕ → Verb → ObjectList → ℕ
-verb_held s k n v os = cond (nat_lt n k && nat_le k (n + 1 + length (objects_tokens os))) (verb_size s v) 0
+-- a literal: a string, its tag, or '^^' and its type; a number or boolean
+abbrev pub literal_held : ℕ → Literal → List ℕ → List ℕ
+literal_held b (rdf (plain w)) rest = b ∷ rest
+literal_held b (rdf (tagged w t)) rest = b ∷ b ∷ rest
+literal_held b (rdf (typed w c i)) rest = b ∷ b ∷ b ∷ rest
+literal_held b (numeric n) rest = b ∷ rest
+literal_held b (boolean x) rest = b ∷ rest
 
--- The bytes that are held inside an object: of each predicate list that is open when k tokens are read, its subject and its verb.
+-- An object. A predicate list holds its subject from its first verb on, and each verb up to the end of its objects.
 abbrev mutual
-  pub object_held : InForce → ℕ → ℕ → Object → ℕ
-  object_held s k n (iri_object i) = 0
-  object_held s k n (blank_object b) = 0
-  object_held s k n (collection_object c) = collection_held s k n c
-  object_held s k n (list_object p) = list_held s k n p
-  object_held s k n (literal_object l) = 0
+  pub object_held : InForce → ℕ → Object → List ℕ → List ℕ
+  object_held s b (iri_object i) rest = b ∷ rest
+  object_held s b (blank_object x) rest = blank_held b x rest
+  object_held s b (collection_object c) rest = collection_held s b c rest
+  object_held s b (list_object p) rest = list_held s b p rest
+  object_held s b (literal_object l) rest = literal_held b l rest
 
-  pub collection_held : InForce → ℕ → ℕ → Collection → ℕ
-  collection_held s k n (collection l os r) = items_held s k (n + 1) os
+  pub collection_held : InForce → ℕ → Collection → List ℕ → List ℕ
+  collection_held s b (collection l os r) rest = b ∷ items_held s b os (b ∷ rest)
 
-  pub items_held : InForce → ℕ → ℕ → Items → ℕ
-  items_held s k n no_items = 0
-  items_held s k n (item o os) = object_held s k n o + items_held s k (n + length (object_tokens o)) os
+  pub items_held : InForce → ℕ → Items → List ℕ → List ℕ
+  items_held s b no_items rest = rest
+  items_held s b (item o os) rest = object_held s b o (items_held s b os rest)
 
-  pub list_held : InForce → ℕ → ℕ → BlankNodePropertyList → ℕ
-  list_held s k n (property_list l ps r) = predicates_held s k (n + 1) 0 ps
+  pub list_held : InForce → ℕ → BlankNodePropertyList → List ℕ → List ℕ
+  list_held s b (property_list l ps r) rest = b ∷ predicates_held s b 0 ps (b ∷ rest)
 
-  pub predicates_held : InForce → ℕ → ℕ → ℕ → PredicateObjectList → ℕ
-  predicates_held s k n size (predicate_objects v os m) =
-      cond (is_open k n (predicates_tokens (predicate_objects v os m))) size 0 + verb_held s k n v os + objects_held s k (n + 1) os
-      + more_held s k (n + 1 + length (objects_tokens os)) m
+  pub predicates_held : InForce → ℕ → ℕ → PredicateObjectList → List ℕ → List ℕ
+  predicates_held s b size (predicate_objects v os m) rest =
+      (b + size + verb_size s v) ∷ objects_held s (b + size + verb_size s v) os (more_held s b size m rest)
 
-  pub more_held : InForce → ℕ → ℕ → More → ℕ
-  more_held s k n no_more = 0
-  more_held s k n (semicolon l m) = more_held s k (n + 1) m
-  more_held s k n (semicolon_objects l v os m) =
-      verb_held s k (n + 1) v os + objects_held s k (n + 2) os + more_held s k (n + 2 + length (objects_tokens os)) m
+  pub more_held : InForce → ℕ → ℕ → More → List ℕ → List ℕ
+  more_held s b size no_more rest = rest
+  more_held s b size (semicolon l m) rest = (b + size) ∷ more_held s b size m rest
+  more_held s b size (semicolon_objects l v os m) rest =
+      (b + size) ∷ (b + size + verb_size s v) ∷ objects_held s (b + size + verb_size s v) os (more_held s b size m rest)
 
-  pub objects_held : InForce → ℕ → ℕ → ObjectList → ℕ
-  objects_held s k n (objects o os) = object_held s k n o + commas_held s k (n + length (object_tokens o)) os
+  pub objects_held : InForce → ℕ → ObjectList → List ℕ → List ℕ
+  objects_held s b (objects o os) rest = object_held s b o (commas_held s b os rest)
 
-  pub commas_held : InForce → ℕ → ℕ → Commas → ℕ
-  commas_held s k n no_commas = 0
-  commas_held s k n (comma l o os) = object_held s k (n + 1) o + commas_held s k (n + 1 + length (object_tokens o)) os
+  pub commas_held : InForce → ℕ → Commas → List ℕ → List ℕ
+  commas_held s b no_commas rest = rest
+  commas_held s b (comma l o os) rest = b ∷ object_held s b o (commas_held s b os rest)
 
--- the bytes that are held inside a subject, which only a collection has
-abbrev pub subject_held : InForce → ℕ → ℕ → Subject → ℕ
-subject_held s k n (collection_subject c) = collection_held s k n c
-subject_held s k n t = 0
+-- a subject, or the label of a graph: nothing is held for it before its verb has come
+abbrev pub subject_held : InForce → Subject → List ℕ → List ℕ
+subject_held s (iri_subject i) rest = 0 ∷ rest
+subject_held s (blank_subject x) rest = blank_held 0 x rest
+subject_held s (collection_subject c) rest = collection_held s 0 c rest
 
--- those of a predicate list that may be left out after a property list, whose node is no text
-abbrev pub maybe_held : InForce → ℕ → ℕ → Option PredicateObjectList → ℕ
-maybe_held s k n None = 0
-maybe_held s k n (Some ps) = predicates_held s k n 0 ps
+abbrev pub label_held : LabelOrSubject → List ℕ → List ℕ
+label_held (iri_label i) rest = 0 ∷ rest
+label_held (blank_label x) rest = blank_held 0 x rest
 
--- those of a subject with its predicate list
-abbrev pub triples_held : InForce → ℕ → ℕ → Triples → ℕ
-triples_held s k n (subject_triples t ps) = subject_held s k n t + predicates_held s k (n + length (subject_tokens t)) (subject_size s t) ps
-triples_held s k n (list_triples p ps) = list_held s k n p + maybe_held s k (n + length (list_tokens p)) ps
+-- a predicate list that may be left out after a property list, whose node is no text
+abbrev pub maybe_held : InForce → Option PredicateObjectList → List ℕ → List ℕ
+maybe_held s None rest = rest
+maybe_held s (Some ps) rest = predicates_held s 0 0 ps rest
 
--- those of a block's triples
-abbrev pub block_held : InForce → ℕ → ℕ → TriplesBlock → ℕ
-block_held s k n (last t) = triples_held s k n t
-block_held s k n (last_dot t d) = triples_held s k n t
-block_held s k n (dot t d b) = triples_held s k n t + block_held s k (n + length (triples_tokens t) + 1) b
+-- a subject with its predicate list
+abbrev pub triples_held : InForce → Triples → List ℕ → List ℕ
+triples_held s (subject_triples t ps) rest = subject_held s t (predicates_held s 0 (subject_size s t) ps rest)
+triples_held s (list_triples p ps) rest = list_held s 0 p (maybe_held s ps rest)
 
--- those of what stands between '{' and '}'; the label of a block's graph is not counted
-abbrev pub wrapped_held : InForce → ℕ → ℕ → WrappedGraph → ℕ
-wrapped_held s k n (wrapped l None r) = 0
-wrapped_held s k n (wrapped l (Some b) r) = block_held s k (n + 1) b
+-- the triples of a block with the dots between them
+abbrev pub block_held : InForce → TriplesBlock → List ℕ → List ℕ
+block_held s (last t) rest = triples_held s t rest
+block_held s (last_dot t d) rest = triples_held s t (0 ∷ rest)
+block_held s (dot t d b) rest = triples_held s t (0 ∷ block_held s b rest)
 
--- those of a block of TriG
-abbrev pub trig_held : InForce → ℕ → ℕ → Block → ℕ
-trig_held s k n (triples_or_graph (named_graph g w)) = wrapped_held s k (n + length (label_tokens g)) w
-trig_held s k n (triples_or_graph (label_triples g ps d)) = predicates_held s k (n + length (label_tokens g)) (term_size (label_of s g)) ps
-trig_held s k n (default_graph w) = wrapped_held s k n w
-trig_held s k n (triples2 (list_triples2 p ps d)) = list_held s k n p + maybe_held s k (n + length (list_tokens p)) ps
-trig_held s k n (triples2 (collection_triples2 c ps d)) = collection_held s k n c + predicates_held s k (n + length (collection_tokens c)) 0 ps
-trig_held s k n (graph_word l g w) = wrapped_held s k (n + 1 + length (label_tokens g)) w
+-- what stands between '{' and '}'; the label of a block's graph is not counted
+abbrev pub wrapped_held : InForce → WrappedGraph → List ℕ → List ℕ
+wrapped_held s (wrapped l None r) rest = 0 ∷ 0 ∷ rest
+wrapped_held s (wrapped l (Some b) r) rest = 0 ∷ block_held s b (0 ∷ rest)
 
--- those of a statement or a block
-abbrev pub body_held : (form : DocForm) → InForce → ℕ → ℕ → Body form → ℕ
-body_held Turtle s k n b = triples_held s k n b.triples
-body_held TriG s k n b = trig_held s k n b
+-- a block of TriG
+abbrev pub trig_held : InForce → Block → List ℕ → List ℕ
+trig_held s (triples_or_graph (named_graph g w)) rest = label_held g (wrapped_held s w rest)
+trig_held s (triples_or_graph (label_triples g ps d)) rest = label_held g (predicates_held s 0 (term_size (label_of s g)) ps (0 ∷ rest))
+trig_held s (default_graph w) rest = wrapped_held s w rest
+trig_held s (triples2 (list_triples2 p ps d)) rest = list_held s 0 p (maybe_held s ps (0 ∷ rest))
+trig_held s (triples2 (collection_triples2 c ps d)) rest = collection_held s 0 c (predicates_held s 0 0 ps (0 ∷ rest))
+trig_held s (graph_word l g w) rest = 0 ∷ label_held g (wrapped_held s w rest)
 
--- the bytes that have to be held in this document when k of its tokens are read, in the scopes that its directives give
-abbrev pub document_held : {form : DocForm} → InForce → ℕ → ℕ → Document form → ℕ
-document_held s k n (end l) = 0
-document_held s k n (with_directive d rest) = document_held (scope_after s d) k (n + length (directive_tokens d)) rest
-document_held {form} s k n (with_body b rest) = body_held form s k n b + document_held s k (n + length (body_tokens form b)) rest
+-- a statement or a block
+abbrev pub body_held : (form : DocForm) → InForce → Body form → List ℕ → List ℕ
+body_held Turtle s b rest = triples_held s b.triples (0 ∷ rest)
+body_held TriG s b rest = trig_held s b rest
+
+-- a directive, which has no predicate list
+abbrev pub directive_held : Directive → List ℕ → List ℕ
+directive_held (prefix_id w p i d) rest = 0 ∷ 0 ∷ 0 ∷ 0 ∷ rest
+directive_held (base w i d) rest = 0 ∷ 0 ∷ 0 ∷ rest
+directive_held (sparql_prefix w p i) rest = 0 ∷ 0 ∷ 0 ∷ rest
+directive_held (sparql_base w i) rest = 0 ∷ 0 ∷ rest
+
+-- all of a document, in the scopes that its directives give
+abbrev pub document_held : {form : DocForm} → InForce → Document form → List ℕ
+document_held s (end l) = 0 ∷ []
+document_held s (with_directive d rest) = directive_held d (document_held (scope_after s d) rest)
+document_held {form} s (with_body b rest) = body_held form s b (document_held s rest)
+
+-- what is held after the last of some tokens, by the bytes after each; and b before the first
+abbrev pub held_after : ℕ → List Token → List ℕ → ℕ
+held_after b [] hs = b
+held_after b (t ∷ ts) [] = b
+held_after b (t ∷ ts) (h ∷ hs) = held_after h ts hs
 
 -- what is owed after some tokens: what has to be held in a document that begins with them
 pub record Owed (form : DocForm) (start : InForce) (ts : List Token) (size : ℕ) : Type 0 where
@@ -140,7 +163,7 @@ pub record Owed (form : DocForm) (start : InForce) (ts : List Token) (size : ℕ
   pub more : List Token
   pub tokens : ts ++ more ≡ document_tokens tree
   pub bound : Bound (document_events start tree)
-  pub held : document_held start (length ts) 0 tree ≡ size
+  pub held : held_after 0 ts (document_held start tree) ≡ size
 
 -- the most bytes of the texts of the open frames and of what is read, of the base, and of the prefixes with their IRIs
 abbrev pub most_kept : Sizes → ℕ

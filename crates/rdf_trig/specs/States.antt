@@ -7,6 +7,7 @@ use Rattle.rdf_terms.specs.declared.kind.Kind.TheVariants.{IriRef, PnameNs, Pnam
 use Rattle.rdf_terms.specs.declared.kind.Dialect.TheVariants as dialect
 use Rattle.rdf_terms.specs.Terms.{Cell, Blank, Lang, Typed, Term, Resource, Literal, Quad}
 use Rattle.rdf_terms.specs.Terms as term
+use Rattle.rdf_terms.specs.declared.terms.Subject.{Subject as OwnedSubject}
 use Rattle.rdf_terms.specs.Owned.{owned_subject}
 use Rattle.rdf_terms.specs.Known.{known_chars}
 use Rattle.rdf_terms.specs.declared.constants.Known.TheVariants.{RdfType, RdfRest}
@@ -39,6 +40,7 @@ use Rattle.rdf_trig.specs.declared.state.Object.TheVariants as object
 use Rattle.rdf_trig.specs.declared.state.Held.{Held}
 use Rattle.rdf_trig.specs.declared.state.Held.TheVariants as held
 use Rattle.rdf_trig.specs.declared.state.State.{State}
+use Rattle.rdf_trig.specs.Owed.{term_size}
 use Rattle.rdf_trig.specs.Names.{reference_in, name_in, with_base, with_binding, is_full}
 use Rattle.rdf_trig.specs.Quads.{Setting, stated}
 use Rattle.rdf_trig.specs.Events.{Use, itself, stands, binds}
@@ -63,6 +65,27 @@ abbrev pub topic_of : {A : Type 0} → Topic A → term.Subject
 topic_of (topic.Term s) = owned_subject s
 topic_of topic.Nil = nil
 
+-- the bytes of a verb's IRI; `a` has no text
+abbrev pub verb_bytes : {A : Type 0} → Verb A → ℕ
+verb_bytes (verb.Named i) = byte_len i
+verb_bytes verb.Type = 0
+
+-- the bytes of the IRI or label of a subject or graph
+abbrev pub subject_bytes : {A : Type 0} → OwnedSubject A → ℕ
+subject_bytes s = term_size (Some (owned_subject s))
+
+-- those of the subject of a predicate list; the empty collection has no text
+abbrev pub topic_bytes : {A : Type 0} → Topic A → ℕ
+topic_bytes (topic.Term s) = subject_bytes s
+topic_bytes topic.Nil = 0
+
+-- a verb and a subject as the machine has them, with their bytes
+abbrev pub spelt_of : {A : Type 0} → Verb A → M.Spelt
+spelt_of p = record { iri = Some (verb_of p); size = verb_bytes p }
+
+abbrev pub sized_of : {A : Type 0} → Topic A → M.Topic
+sized_of s = record { term = Some (topic_of s); size = topic_bytes s }
+
 -- the level, and the graph of its statements
 abbrev pub level_of : {A : Type 0} → Level A → M.Level
 level_of level.Top = M.Top
@@ -80,7 +103,7 @@ around_of around.Brackets v u = M.Boxed u
 
 -- the object's place of a frame: after the subject and the verb of a list, or in a collection, with the frames below round it
 abbrev pub place_of : {A : Type 0} → M.Level → Frame A → M.Up → M.Place
-place_of v (frame.List s p a) u = M.Listed (Some (topic_of s)) (Some (verb_of p)) (around_of a v u)
+place_of v (frame.List s p a) u = M.Listed (sized_of s) (spelt_of p) (around_of a v u)
 place_of v (frame.Cells first cell) u = M.InCells first cell u
 
 -- what a bracket stands for, by the frames that are open, the innermost one last
@@ -123,16 +146,16 @@ semi_at (M.InCells first cell u) = M.Over
 -- the mode of the machine, by the frame in hand, and where the frames below make what a bracket stands for
 abbrev pub mode_at : {A : Type 0} → DocForm → M.Level → Frame A → M.Up → Mode A → M.Mode
 mode_at form v f u (mode.Outer o) = outer_of o
-mode_at form v f u (mode.AfterSubject s) = M.after_subject form v (Some (owned_subject s))
+mode_at form v f u (mode.AfterSubject s) = M.after_subject form v (M.sized (Some (owned_subject s)))
 mode_at form v f u mode.Want = M.Want (place_of v f u)
 mode_at form v f u mode.After = M.After (place_of v f u)
 mode_at form v f u (mode.AfterText w) = M.AfterText (chars (string_bytes w)) (place_of v f u)
 mode_at form v f u (mode.WantType w) = M.WantType (chars (string_bytes w)) (place_of v f u)
 mode_at form v f u (mode.Bracket n) = M.Box n u
 mode_at form v f u mode.Paren = M.Paren u
-mode_at form v f u (mode.WantVerb s) = M.WantVerb (Some (topic_of s)) (M.Statement v)
+mode_at form v f u (mode.WantVerb s) = M.WantVerb (sized_of s) (M.Statement v)
 mode_at form v f u mode.Semicolon = semi_at (place_of v f u)
-mode_at form v f u (mode.AfterBrackets s) = M.AfterBox (Some (topic_of s)) v
+mode_at form v f u (mode.AfterBrackets s) = M.AfterBox (sized_of s) v
 
 -- the mode of the machine that a mode of the reader is, by its level and its open frames
 abbrev pub mode_of : {A : Type 0} → DocForm → Level A → Frame A → List (Frame A) → Mode A → M.Mode

@@ -98,7 +98,7 @@ fn is_graph(kind: Kind) -> bool
 }
 
 fn goes_on_after_subject<A: Allocator>(form: DocForm, level: &Level<A>, kind: Kind) -> bool
-    ensures { (c : Setting) (s : Option term.Subject) (l : Leaf) → result ≡ is_go (M.step form c (M.after_subject form (level_of level.now) s) kind l) }
+    ensures { (c : Setting) (s : M.Topic) (l : Leaf) → result ≡ is_go (M.step form c (M.after_subject form (level_of level.now) s) kind l) }
 {
     match (form, level) {
         (DocForm::TriG, Level::Top) => matches!(kind, Kind::OpenBrace) || begins_verb(kind),
@@ -188,7 +188,7 @@ fn goes_on_after_semicolon<A: Allocator>(frame: &Frame<A>, level: &Level<A>, kin
 
 // After a `;` of a predicate list.
 fn goes_on_after_verb<A: Allocator>(around: Around, level: &Level<A>, kind: Kind) -> bool
-    ensures { (c : Setting) (s : Option term.Subject) (u : M.Up) (l : Leaf) → result ≡ is_go (M.semi c s (around_of around (level_of level.now) u) kind l) }
+    ensures { (c : Setting) (s : M.Topic) (u : M.Up) (l : Leaf) → result ≡ is_go (M.semi c s (around_of around (level_of level.now) u) kind l) }
 {
     match kind {
         Kind::Semicolon => true,
@@ -198,7 +198,7 @@ fn goes_on_after_verb<A: Allocator>(around: Around, level: &Level<A>, kind: Kind
 
 #[tactic(auto, using(crate::proofs::machine::Fallbacks::fallbacks))]
 fn goes_on_after_brackets<A: Allocator>(level: &Level<A>, kind: Kind) -> bool
-    ensures { (c : Setting) (s : Option term.Subject) (l : Leaf) → result ≡ is_go (M.after_box c s (level_of level.now) kind l) }
+    ensures { (c : Setting) (s : M.Topic) (l : Leaf) → result ≡ is_go (M.after_box c s (level_of level.now) kind l) }
 {
     begins_verb(kind) || ends_list(Around::Statement, level, kind)
 }
@@ -210,7 +210,7 @@ pub fn begins_verb(kind: Kind) -> bool
 }
 
 fn ends_list<A: Allocator>(around: Around, level: &Level<A>, kind: Kind) -> bool
-    ensures { (c : Setting) (s : Option term.Subject) (u : M.Up) (l : Leaf) → result ≡ is_go (M.list_end c s (around_of around (level_of level.now) u) kind l) }
+    ensures { (c : Setting) (s : M.Topic) (u : M.Up) (l : Leaf) → result ≡ is_go (M.list_end c s (around_of around (level_of level.now) u) kind l) }
 {
     match (around, level) {
         (Around::Brackets, _) => matches!(kind, Kind::CloseBracket),

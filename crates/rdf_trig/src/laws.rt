@@ -1,6 +1,6 @@
 //! The laws of Turtle and TriG. These functions do nothing: their contracts are the laws.
 
-ghost use Rattle.rdf_trig.specs.Laws.{EventsTellTheTree, MarksNeverFall, TokensSettleTheQuads, TokensSettleWhatIsDue, DueBeginsTheQuads, TokensSettleTheirSenses, ViableIsShapedAndBound, BeginningsAreCompleted, NamelessIsUnbound, DirectivesBind};
+ghost use Rattle.rdf_trig.specs.Laws.{EventsTellTheTree, MarksNeverFall, TokensSettleTheQuads, TokensSettleWhatIsDue, TokensSettleWhatIsOwed, DueBeginsTheQuads, TokensSettleTheirSenses, ViableIsShapedAndBound, BeginningsAreCompleted, NamelessIsUnbound, DirectivesBind};
 ghost use Rattle.rdf_trig.specs.Laws.{DocumentsAreAccepted, AcceptedIsADocument, AcceptedBeginsADocument, RefusedForItsReason, ReadQuadsAreDue, DocumentsAreRead, RefusedIsNoDocument, DocumentIsWritable, WrittenDocumentIsRead, PrefixedDocumentIsRead};
 
 /// The events of a tree, from left to right, have the tokens that it derives, and its quads with their marks.
@@ -21,6 +21,11 @@ pub fn tokens_settle_the_quads()
 /// What is due after some tokens is the same in every document that begins with them.
 pub fn tokens_settle_what_is_due()
     ensures { TokensSettleWhatIsDue }
+{}
+
+/// Something is owed after tokens that begin a document, and it is the same in each document that begins with them.
+pub fn tokens_settle_what_is_owed()
+    ensures { TokensSettleWhatIsOwed }
 {}
 
 /// What is due is a beginning of the quads of each document that begins so.

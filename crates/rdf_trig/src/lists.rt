@@ -7,7 +7,7 @@ ghost use Rattle.rdf_iri.specs.Scope.{InForce};
 ghost use Rattle.rdf_lines.specs.Lines.{Leaf};
 ghost use Rattle.rdf_trig.specs.Machine as M;
 ghost use Rattle.rdf_trig.specs.Machine.{No, Go};
-ghost use Rattle.rdf_trig.specs.States.{leaf, IsTurtleToken, IsNamed, name_at, use_at, setting, graph_of, graph_at, outer_of, outer_graph, level_of, topic_of, verb_of};
+ghost use Rattle.rdf_trig.specs.States.{leaf, IsTurtleToken, IsNamed, name_at, use_at, setting, graph_of, graph_at, outer_of, outer_graph, level_of, sized_of, spelt_of};
 ghost use Rattle.rdf_trig.specs.States.{place_of, up_of, around_of, mode_of, behind_dot, begins_verb, semi_at, up_in, place_in, setting_in, Gives};
 ghost use Rattle.rdf_trig.specs.Holding.{verb_bytes, topic_bytes, level_bytes, outer_bytes, TextFits, NameFits, FrameFits, OpenFits, Fits, Closes, frames_most};
 
@@ -48,7 +48,7 @@ impl<A: Allocator + Copy> State<A> {
     fn after_listed(&mut self, around: Around, kind: Kind) -> Result<(), StepFault>
         ensures gives { (form : DocForm) (s : InForce) (subject : Topic A) (verb : Verb A) (l : Leaf) → self.old.frame ≡ Frame.List subject verb around →
             Gives form s (use_at s kind l) result self.new (M.after (setting_in s self.old)
-            (M.Listed (Some (topic_of subject)) (Some (verb_of verb)) (around_of around (level_of self.old.level) (up_in self.old))) kind l) }
+            (M.Listed (sized_of subject) (spelt_of verb) (around_of around (level_of self.old.level) (up_in self.old))) kind l) }
         ensures depth { self.new.depth ≡ self.old.depth }
         ensures stack { OnOk result (length self.new.frames.items ≤ frames_most kind (length self.old.frames.items)) }
         ensures fits { (n : ℕ) → OpenFits n self.old → OnOk result (Fits n self.new) }
@@ -141,7 +141,7 @@ impl<A: Allocator + Copy> State<A> {
         requires named { IsNamed kind name }
         ensures gives { (form : DocForm) (s : InForce) (subject : Topic A) (verb : Verb A) (l : Leaf) → self.old.frame ≡ Frame.List subject verb around →
             name_at s kind l ≡ name →
-            Gives form s (use_at s kind l) result self.new (M.semi (setting_in s self.old) (Some (topic_of subject))
+            Gives form s (use_at s kind l) result self.new (M.semi (setting_in s self.old) (sized_of subject)
             (around_of around (level_of self.old.level) (up_in self.old)) kind l) }
         ensures depth { self.new.depth ≡ self.old.depth }
         ensures stack { OnOk result (length self.new.frames.items ≤ frames_most kind (length self.old.frames.items)) }
@@ -164,7 +164,7 @@ impl<A: Allocator + Copy> State<A> {
         requires named { IsNamed kind name }
         ensures gives { (form : DocForm) (s : InForce) (subject : Topic A) (verb : Verb A) (around : Around) (l : Leaf) →
             self.old.frame ≡ Frame.List subject verb around → name_at s kind l ≡ name →
-            Gives form s (use_at s kind l) result self.new (M.verb_start (setting_in s self.old) (Some (topic_of subject))
+            Gives form s (use_at s kind l) result self.new (M.verb_start (setting_in s self.old) (sized_of subject)
             (around_of around (level_of self.old.level) (up_in self.old)) kind l) }
         ensures depth { self.new.depth ≡ self.old.depth }
         ensures stack { OnOk result (length self.new.frames.items ≤ frames_most kind (length self.old.frames.items)) }
@@ -191,7 +191,7 @@ impl<A: Allocator + Copy> State<A> {
         requires named { IsNamed kind name }
         ensures gives { (form : DocForm) (s : InForce) (l : Leaf) → name_at s kind l ≡ name →
             Gives form s (use_at s kind l) result self.new
-            (M.after_box (setting_in s self.old) (Some (topic_of subject)) (level_of self.old.level) kind l) }
+            (M.after_box (setting_in s self.old) (sized_of subject) (level_of self.old.level) kind l) }
         ensures depth { self.new.depth ≡ self.old.depth }
         ensures stack { OnOk result (length self.new.frames.items ≤ frames_most kind (length self.old.frames.items)) }
         ensures fits { (n : ℕ) → NameFits n name → OpenFits n self.old → topic_bytes subject ≤ n → OnOk result (Fits n self.new) }
@@ -213,7 +213,7 @@ impl<A: Allocator + Copy> State<A> {
     ) -> Result<(), StepFault>
         requires { IsNamed kind name }
         ensures gives { (form : DocForm) (s : InForce) (l : Leaf) → name_at s kind l ≡ name →
-            Gives form s (use_at s kind l) result self.new (M.verb_start (setting_in s self.old) (Some (topic_of subject))
+            Gives form s (use_at s kind l) result self.new (M.verb_start (setting_in s self.old) (sized_of subject)
             (around_of around (level_of self.old.level) (up_in self.old)) kind l) }
         ensures depth { self.new.depth ≡ self.old.depth }
         ensures stack { OnOk result (length self.new.frames.items ≤ frames_most kind (length self.old.frames.items)) }
@@ -234,7 +234,7 @@ impl<A: Allocator + Copy> State<A> {
     // The end of a predicate list.
     fn list_end(&mut self, around: Around, kind: Kind) -> Result<(), StepFault>
         ensures gives { (form : DocForm) (s : InForce) (subject : Topic A) (verb : Verb A) (l : Leaf) → self.old.frame ≡ Frame.List subject verb around →
-            Gives form s (use_at s kind l) result self.new (M.list_end (setting_in s self.old) (Some (topic_of subject))
+            Gives form s (use_at s kind l) result self.new (M.list_end (setting_in s self.old) (sized_of subject)
             (around_of around (level_of self.old.level) (up_in self.old)) kind l) }
         ensures depth { self.new.depth ≡ self.old.depth }
         ensures stack { OnOk result (length self.new.frames.items ≤ frames_most kind (length self.old.frames.items)) }
@@ -254,7 +254,7 @@ impl<A: Allocator + Copy> State<A> {
     }
 
     fn statement_end(&mut self, kind: Kind) -> Result<(), StepFault>
-        ensures gives { (form : DocForm) (s : InForce) (x : Option term.Subject) (l : Leaf) →
+        ensures gives { (form : DocForm) (s : InForce) (x : M.Topic) (l : Leaf) →
             Gives form s (use_at s kind l) result self.new (M.list_end (setting_in s self.old) x (M.Statement (level_of self.old.level)) kind l) }
         ensures depth { self.new.depth ≡ self.old.depth }
         ensures stack { OnOk result (length self.new.frames.items ≤ frames_most kind (length self.old.frames.items)) }
@@ -288,7 +288,7 @@ pub fn list_closed<A: Allocator>(
     subject: Topic<A>,
 ) -> Mode<A>
     ensures mode { (form : DocForm) (v : Level A) → mode_of form v frame.new frames.new.items result ≡ M.list_closed (up_of (level_of v) frames.old.items)
-        (Some (topic_of subject)) }
+        (sized_of subject) }
     ensures graph { (g : Option term.Subject) → graph_at result g ≡ g }
     ensures stack { length frames.new.items ≤ length frames.old.items - 1 }
     ensures fits { (n : ℕ) → topic_bytes subject ≤ n → FrameFits n frame.old → AllByRecursion (FrameFits n) frames.old.items → Closes n result frame.new frames.new.items }
@@ -305,7 +305,7 @@ pub fn list_closed<A: Allocator>(
 #[tactic(auto, using(crate::proofs::code::FrameStack::stack_steps, crate::proofs::code::HoldingLemmas::frames_popped))]
 fn box_closed<A: Allocator>(frame: &mut Frame<A>, frames: &mut Vec<Frame<A>, A>) -> Mode<A>
     ensures mode { (form : DocForm) (v : Level A) (subject : Topic A) (verb : Verb A) (around : Around) → frame.old ≡ Frame.List subject verb around →
-        mode_of form v frame.new frames.new.items result ≡ M.box_closed (up_of (level_of v) frames.old.items) (Some (topic_of subject)) }
+        mode_of form v frame.new frames.new.items result ≡ M.box_closed (up_of (level_of v) frames.old.items) (sized_of subject) }
     ensures graph { (g : Option term.Subject) → graph_at result g ≡ g }
     ensures stack { length frames.new.items ≤ length frames.old.items - 1 }
     ensures fits { (n : ℕ) → FrameFits n frame.old → AllByRecursion (FrameFits n) frames.old.items → Closes n result frame.new frames.new.items }
@@ -340,9 +340,9 @@ fn statement_ended<A: Allocator>(level: &mut Level<A>) -> Outer<A>
 // The verb that a token is.
 fn verb<A: Allocator>(kind: Kind, name: Option<Iri<A>>) -> Option<Verb<A>>
     requires { IsNamed kind name }
-    ensures verb { (s : InForce) (g : Option term.Subject) (x : Option term.Subject) (a : M.Around) (l : Leaf) → name_at s kind l ≡ name →
+    ensures verb { (s : InForce) (g : Option term.Subject) (x : M.Topic) (a : M.Around) (l : Leaf) → name_at s kind l ≡ name →
         MatchOption result (M.verb_start (setting s g) x a kind l ≡ No)
-        (λ v. M.verb_start (setting s g) x a kind l ≡ Go (use_at s kind l) None None (setting s g) (M.Want (M.Listed x (Some (verb_of v)) a))) }
+        (λ v. M.verb_start (setting s g) x a kind l ≡ Go (use_at s kind l) None None (setting s g) (M.Want (M.Listed x (spelt_of v) a))) }
     ensures fits { IfSome result (λ v. (n : ℕ) → NameFits n name → verb_bytes v ≤ n) }
     ensures stack { IfSome result (λ v. (m : ℕ) → frames_most kind m ≡ m) }
 {

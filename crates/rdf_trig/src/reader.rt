@@ -1,13 +1,17 @@
 // The reader of Turtle and TriG.
 
-ghost use Rattle.std.specs.Prelude.{◌≡◌, ◌+◌, ◌≤◌, [], true, false, not, is_ok, OnOk, IfOk, IfErr, SomeIff};
+ghost use Rattle.std.specs.Prelude.{◌≡◌, ◌+◌, ◌≤◌, ℕ, List, [], true, false, not, is_ok, OnOk, IfOk, IfErr, SomeIff};
+ghost use Rattle.rdf_terms.specs.Terms.{Quad};
 ghost use Rattle.rdf_tokens.specs.Scans.{most_bytes, place_of, unread_bytes};
+ghost use Rattle.rdf_tokens.specs.Good.{tokens_of};
+ghost use Rattle.rdf_tokens.specs.Grammars.{GoesOn, IsWhole};
+ghost use Rattle.rdf_driver.specs.Words.{in_words};
 ghost use Rattle.rdf_driver.specs.Readers as R;
 ghost use Rattle.rdf_driver.specs.Readers.{HasRead, SameLimits, Feeds, FeedFails, Finishes, FinishFails, TakesExactly, FinishesExactly, IsPlacedWith, IsPlacedInRead};
-ghost use Rattle.rdf_iri.specs.Scope.{InForce, BaseFits};
+ghost use Rattle.rdf_iri.specs.Scope.{InForce, BaseFits, bytes_held};
 ghost use Rattle.rdf_trig.specs.Language.{Chosen};
 ghost use Rattle.rdf_trig.specs.Accepting.{tree_words};
-ghost use Rattle.rdf_trig.specs.Owed.{most_held};
+ghost use Rattle.rdf_trig.specs.Owed.{Owed, most_held};
 
 use crate::form::DocForm;
 use crate::grammar::TreeGrammar;
@@ -198,6 +202,9 @@ impl<A: Allocator + Copy> TrigReader<A> {
     pub fn held(&self) -> u64
         ensures sum { result ≡ unread_bytes self.now.scanner + self.now.grammar.held }
         ensures most { result ≤ R.most_held tree_words self.now }
+        ensures least { (x : Chosen) (bytes : List ℕ) (quads : List Quad) (size : ℕ) → HasRead tree_words self.now x bytes quads →
+            Owed x.form x.start (tokens_of tree_words.dialect self.now.scanner.limit bytes false).tokens size →
+            unread_bytes self.now.scanner + bytes_held self.now.grammar.state.setting.scope + size ≤ result }
     {
         self.reader.held()
     }

@@ -71,7 +71,7 @@ impl<A: Allocator + Copy> State<A> {
         requires named { IsNamed kind name }
         ensures gives { (s : InForce) (l : Leaf) → name_at s kind l ≡ name →
             Gives form s (use_at s kind l) result self.new (M.step form (setting_in s self.old)
-            (M.after_subject form (level_of self.old.level) (Some (owned_subject subject))) kind l) }
+            (M.after_subject form (level_of self.old.level) (M.sized (Some (owned_subject subject)))) kind l) }
         ensures depth { self.new.depth ≡ self.old.depth }
         ensures stack { OnOk result (length self.new.frames.items ≤ frames_most kind (length self.old.frames.items)) }
         ensures fits { (n : ℕ) → NameFits n name → OpenFits n self.old → subject_bytes subject ≤ n → OnOk result (Fits n self.new) }
@@ -97,7 +97,7 @@ impl<A: Allocator + Copy> State<A> {
         requires named { IsNamed kind name }
         requires level { self.old.level ≡ Level.Top }
         ensures gives { (form : DocForm) (s : InForce) (l : Leaf) → name_at s kind l ≡ name →
-            Gives form s (use_at s kind l) result self.new (M.after_label (setting s None) (Some (owned_subject label)) kind l) }
+            Gives form s (use_at s kind l) result self.new (M.after_label (setting s None) (M.sized (Some (owned_subject label))) kind l) }
         ensures depth { self.new.depth ≡ self.old.depth }
         ensures stack { OnOk result (length self.new.frames.items ≤ frames_most kind (length self.old.frames.items)) }
         ensures fits { (n : ℕ) → NameFits n name → OpenFits n self.old → subject_bytes label ≤ n → OnOk result (Fits n self.new) }
@@ -172,7 +172,7 @@ fn node_closed<A: Allocator>(
     subject: Subject<A>,
 ) -> Mode<A>
     ensures mode { (form : DocForm) (v : Level A) → mode_of form v frame.new frames.new.items result ≡ M.node_closed form (up_of (level_of v) frames.old.items)
-        (Some (owned_subject subject)) }
+        (M.sized (Some (owned_subject subject))) }
     ensures graph { (g : Option term.Subject) → graph_at result g ≡ g }
     ensures stack { length frames.new.items ≤ length frames.old.items - 1 }
     ensures fits { (n : ℕ) → subject_bytes subject ≤ n → FrameFits n frame.old → AllByRecursion (FrameFits n) frames.old.items → Closes n result frame.new frames.new.items }

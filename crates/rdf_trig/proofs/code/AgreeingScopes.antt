@@ -94,7 +94,7 @@ none_ordinary s t (M.WantBaseIri w) k l r o e n = absurd o
 none_ordinary s t m k l r o e n = stops_at s.limits t.limits k (use_at s k l) (use_at t k l) r e.limits (use_at-same s t k l e) n
 
 -- what comes after a subject is no directive
-subject_ordinary : (form : DocForm) (v : M.Level) (x : Option term.Subject) → Ordinary (M.after_subject form v x)
+subject_ordinary : (form : DocForm) (v : M.Level) (x : M.Topic) → Ordinary (M.after_subject form v x)
 subject_ordinary TriG M.Top x = tt
 subject_ordinary TriG M.InBlock x = tt
 subject_ordinary Turtle M.Top x = tt

@@ -1,5 +1,5 @@
 -- What the machine of Turtle and TriG promises a reader.
-use Rattle.std.proofs.Common.{◌≡◌, ℕ, Bool, List, [], ◌∷◌, ◌++◌, length, refl, sym, ap, ◌∙◌, subst, append_assoc}
+use Rattle.std.proofs.Common.{◌≡◌, ◌+◌, ◌≤◌, arith, ℕ, Bool, List, [], ◌∷◌, ◌++◌, length, refl, sym, ap, ◌∙◌, subst, append_assoc}
 use Rattle.std.proofs.lemmas.List.{append-nil}
 use Rattle.rdf_terms.specs.declared.kind.Kind.TheVariants.{End}
 use Rattle.rdf_terms.specs.declared.reason.Reason.{Reason}
@@ -17,8 +17,9 @@ use Rattle.rdf_trig.specs.declared.fault.StepFault.TheVariants as fault
 use Rattle.rdf_trig.specs.declared.state.State.{State as Code}
 use Rattle.rdf_trig.specs.Documents.{documents, Passes}
 use Rattle.rdf_trig.specs.Refusals.{Refusal, RefusedFor, unexpected, too_deep, unbound, no_base, iri_too_long, too_many_bindings}
-use Rattle.rdf_trig.specs.Machine.{State, Answer, accepts, refuses, accept, at_start}
+use Rattle.rdf_trig.specs.Machine.{State, Answer, accepts, refuses, accept, at_start, mode_size}
 use Rattle.rdf_trig.specs.Alike.{SameState}
+use Rattle.rdf_trig.specs.States.{mode_in}
 use Rattle.rdf_trig.specs.Steps.{state_of, Accepts, answered, Begins, Fails}
 use Rattle.rdf_trig.specs.Language.{Chosen, Blamed}
 use Rattle.rdf_trig.specs.Accepting.{TreeAt, reason_of, tree_words}
@@ -64,7 +65,7 @@ lawful = record {
 -- Before the first token nothing was accepted.
 pub begins_here : (g : TreeAt) (x : Chosen) → g ≡ record { form = x.form; limit = x.start.limits.token; state = at_start x.start; held = bytes_held x.start } →
     tree_words.reached g x [] []
-begins_here g x e = subst (λ y. tree_words.reached y x [] []) (sym e) (refl, refl, record { machine = at_start x.start; accepted = refl; same = state_self (at_start x.start) })
+begins_here g x e = subst (λ y. tree_words.reached y x [] []) (sym e) (refl, refl, record { machine = at_start x.start; accepted = refl; same = state_self (at_start x.start) }, omega arith)
 
 -- what a token does by some form
 abbrev answer : DocForm → TreeAt → Token → Answer
@@ -76,10 +77,11 @@ module _ {S : Type 0} (takes : S → Quad → S → Type 0) (g : TreeAt) (t : To
   by_form x a e h = sym (ap (λ y. answer y g t) e) ∙ h
 
   -- The machine accepts: the quads that it gives out were put, and it stands where the reader does.
-  pub takes_token : {A : Type 0} (r : Code A) (scope : InForce) (n bytes : ℕ) (old new : S) → Accepts takes g.form (answer g.form g t) old r scope new →
+  pub takes_token : {A : Type 0} (r : Code A) (scope : InForce) (n bytes : ℕ) (old new : S) →
+      mode_size (mode_in g.form r) + bytes_held scope ≤ bytes → Accepts takes g.form (answer g.form g t) old r scope new →
       ((qs : List Quad) (m : State) → answer g.form g t ≡ accepts qs m → n ≡ length qs) →
       Takes tree_words takes g t n old (record { form = g.form; limit = g.limit; state = state_of g.form scope r; held = bytes }) new
-  takes_token r scope n bytes old new h count = by (answer g.form g t) refl h
+  takes_token r scope n bytes old new enough h count = by (answer g.form g t) refl h
     where
       by : (a : Answer) → answer g.form g t ≡ a → Accepts takes g.form a old r scope new →
           Takes tree_words takes g t n old (record { form = g.form; limit = g.limit; state = state_of g.form scope r; held = bytes }) new
@@ -92,7 +94,7 @@ module _ {S : Type 0} (takes : S → Quad → S → Type 0) (g : TreeAt) (t : To
             count = count quads m e;
             puts = h.0;
             limit = refl;
-            reached = λ x ts qs reached. (reached.0, reached.1, runs_one x.form x.start ts t qs quads g.state m now reached.2 (by_form x (accepts quads m) reached.0 e) same);
+            reached = λ x ts qs reached. (reached.0, reached.1, runs_one x.form x.start ts t qs quads g.state m now reached.2 (by_form x (accepts quads m) reached.0 e) same, enough);
           }
 
   module _ (leaves : S → Quad → S → Type 0) (failed : S → Bool) (old new : S) where

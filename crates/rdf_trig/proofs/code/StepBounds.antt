@@ -46,7 +46,7 @@ type_fits c w p PnameNs l = (refl, refl, tt)
 type_fits c w p k l = tt
 
 -- each reply at a verb keeps to this
-verb_fits : (c : Setting) (s : Option term.Subject) (a : M.Around) (k : Kind) (l : Leaf) →
+verb_fits : (c : Setting) (s : M.Topic) (a : M.Around) (k : Kind) (l : Leaf) →
     Fits (use_at c.scope k l) (depth_around a) k l (M.verb_start c s a k l)
 verb_fits c s a IriRef l = (refl, refl, tt)
 verb_fits c s a PnameLn l = (refl, refl, tt)
@@ -55,7 +55,7 @@ verb_fits c s a A l = (refl, refl, tt)
 verb_fits c s a k l = tt
 
 -- after a subject no bracket is open
-subject_depth : (form : DocForm) (v : M.Level) (s : Option term.Subject) (n : ℕ) →
+subject_depth : (form : DocForm) (v : M.Level) (s : M.Topic) (n : ℕ) →
     (depth (M.after_subject form v s) ≡ 0) × ShortPrefix n (M.after_subject form v s)
 subject_depth TriG M.Top s n = (refl, tt)
 subject_depth TriG M.InBlock s n = (refl, tt)
@@ -63,23 +63,23 @@ subject_depth Turtle M.Top s n = (refl, tt)
 subject_depth Turtle M.InBlock s n = (refl, tt)
 
 -- after `[]` one bracket fewer is open than inside it
-node_depth : (form : DocForm) (u : M.Up) (s : Option term.Subject) (n : ℕ) →
+node_depth : (form : DocForm) (u : M.Up) (s : M.Topic) (n : ℕ) →
     (depth (M.node_closed form u s) + 1 ≡ depth_up u + 1) × ShortPrefix n (M.node_closed form u s)
 node_depth form (M.Subject v) s n = let d = subject_depth form v s n in (ap (λ x. x + 1) d.0, d.1)
 node_depth form (M.At p) s n = (refl, tt)
 
 -- after the ']' of a property list one bracket fewer is open than inside it
-box_depth : (u : M.Up) (s : Option term.Subject) (n : ℕ) → (depth (M.box_closed u s) + 1 ≡ depth_up u + 1) × ShortPrefix n (M.box_closed u s)
+box_depth : (u : M.Up) (s : M.Topic) (n : ℕ) → (depth (M.box_closed u s) + 1 ≡ depth_up u + 1) × ShortPrefix n (M.box_closed u s)
 box_depth (M.Subject v) s n = (refl, tt)
 box_depth (M.At p) s n = (refl, tt)
 
 -- after the ')' of a collection one parenthesis fewer is open than inside it
-list_depth : (u : M.Up) (s : Option term.Subject) (n : ℕ) → (depth (M.list_closed u s) + 1 ≡ depth_up u + 1) × ShortPrefix n (M.list_closed u s)
+list_depth : (u : M.Up) (s : M.Topic) (n : ℕ) → (depth (M.list_closed u s) + 1 ≡ depth_up u + 1) × ShortPrefix n (M.list_closed u s)
 list_depth (M.Subject v) s n = (refl, tt)
 list_depth (M.At p) s n = (refl, tt)
 
 -- each reply at the end of a predicate list keeps to this
-end_fits : (c : Setting) (s : Option term.Subject) (a : M.Around) (k : Kind) (l : Leaf) → Fits (use_at c.scope k l) (depth_around a) k l (M.list_end c s a k l)
+end_fits : (c : Setting) (s : M.Topic) (a : M.Around) (k : Kind) (l : Leaf) → Fits (use_at c.scope k l) (depth_around a) k l (M.list_end c s a k l)
 end_fits c s (M.Statement M.Top) Dot l = (refl, refl, tt)
 end_fits c s (M.Statement M.InBlock) Dot l = (refl, refl, tt)
 end_fits c s (M.Statement M.InBlock) CloseBrace l = (refl, refl, tt)
@@ -87,7 +87,7 @@ end_fits c s (M.Boxed u) CloseBracket l = let d = box_depth u s (byte_len l.text
 end_fits c s a k l = tt
 
 -- each reply after ';' keeps to this
-semi_fits : (c : Setting) (s : Option term.Subject) (a : M.Around) (k : Kind) (l : Leaf) → Fits (use_at c.scope k l) (depth_around a) k l (M.semi c s a k l)
+semi_fits : (c : Setting) (s : M.Topic) (a : M.Around) (k : Kind) (l : Leaf) → Fits (use_at c.scope k l) (depth_around a) k l (M.semi c s a k l)
 semi_fits c s a Semicolon l = (refl, refl, tt)
 semi_fits c s a IriRef l = verb_fits c s a IriRef l
 semi_fits c s a PnameLn l = verb_fits c s a PnameLn l
@@ -100,7 +100,7 @@ after_fits : (c : Setting) (p : M.Place) (k : Kind) (l : Leaf) → Fits (use_at 
 after_fits c (M.Listed s p a) Comma l = (refl, refl, tt)
 after_fits c (M.Listed s p a) Semicolon l = (refl, refl, tt)
 after_fits c (M.Listed s p a) k l = end_fits c s a k l
-after_fits c (M.InCells f n u) CloseParen l = let d = list_depth u (M.cell f) (byte_len l.text) in (refl, d.0, d.1)
+after_fits c (M.InCells f n u) CloseParen l = let d = list_depth u (M.unsized (M.cell f)) (byte_len l.text) in (refl, d.0, d.1)
 after_fits c (M.InCells f n u) k l = object_fits c (M.InCells f l.at.offset u) (rest_quad c (term.Cell n) (term.Blank (cell_at l))) k l
 
 -- each reply after a string keeps to this
@@ -113,16 +113,16 @@ text_fits c w p k l = after_fits c p k l
 
 -- each reply after '[' keeps to this
 box_fits : (form : DocForm) (c : Setting) (n : ℕ) (u : M.Up) (k : Kind) (l : Leaf) → Fits (use_at c.scope k l) (depth_up u + 1) k l (M.box form c n u k l)
-box_fits form c n u CloseBracket l = let d = node_depth form u (node (term.Anon n)) (byte_len l.text) in (refl, d.0, d.1)
-box_fits form c n u k l = verb_fits c (node (term.Anon n)) (M.Boxed u) k l
+box_fits form c n u CloseBracket l = let d = node_depth form u (M.sized (node (term.Anon n))) (byte_len l.text) in (refl, d.0, d.1)
+box_fits form c n u k l = verb_fits c (M.sized (node (term.Anon n))) (M.Boxed u) k l
 
 -- each reply after '(' keeps to this
 paren_fits : (c : Setting) (u : M.Up) (k : Kind) (l : Leaf) → Fits (use_at c.scope k l) (depth_up u + 1) k l (M.paren c u k l)
-paren_fits c u CloseParen l = let d = list_depth u (Some M.nil) (byte_len l.text) in (refl, d.0, d.1)
+paren_fits c u CloseParen l = let d = list_depth u (M.unsized (Some M.nil)) (byte_len l.text) in (refl, d.0, d.1)
 paren_fits c u k l = object_fits c (M.InCells l.at.offset l.at.offset u) None k l
 
 -- each reply after a property list that is a subject keeps to this
-after_box_fits : (c : Setting) (s : Option term.Subject) (v : M.Level) (k : Kind) (l : Leaf) → Fits (use_at c.scope k l) 0 k l (M.after_box c s v k l)
+after_box_fits : (c : Setting) (s : M.Topic) (v : M.Level) (k : Kind) (l : Leaf) → Fits (use_at c.scope k l) 0 k l (M.after_box c s v k l)
 after_box_fits c s v IriRef l = verb_fits c s (M.Statement v) IriRef l
 after_box_fits c s v PnameLn l = verb_fits c s (M.Statement v) PnameLn l
 after_box_fits c s v PnameNs l = verb_fits c s (M.Statement v) PnameNs l
@@ -163,7 +163,7 @@ brace_fits c g OpenBrace l = (refl, refl, tt)
 brace_fits c g k l = tt
 
 -- each reply after a label or subject keeps to this
-label_fits : (c : Setting) (g : Option term.Subject) (k : Kind) (l : Leaf) → Fits (use_at c.scope k l) 0 k l (M.after_label c g k l)
+label_fits : (c : Setting) (g : M.Topic) (k : Kind) (l : Leaf) → Fits (use_at c.scope k l) 0 k l (M.after_label c g k l)
 label_fits c g OpenBrace l = (refl, refl, tt)
 label_fits c g k l = verb_fits c g (M.Statement M.Top) k l
 

@@ -29,7 +29,7 @@ pub gives_object : {A T : Type 0} (form : DocForm) (s : InForce) (r : Result T S
 gives_object form s r n c p g k l x y e h = subst (λ z. Gives form s (use_at s k l) r n (M.object_start c p (rest_of g z) k l)) e h
 
 -- after a subject a token stands for what it does elsewhere
-pub gives_subject : {A T : Type 0} (form : DocForm) (t : M.Level) (x : Option term.Subject) (s : InForce) (k : Kind) (l : Leaf)
+pub gives_subject : {A T : Type 0} (form : DocForm) (t : M.Level) (x : M.Topic) (s : InForce) (k : Kind) (l : Leaf)
     (r : Result T StepFault) (n : State A) (y : Reply) →
     Gives form s (use_at s k l) r n y →
     Gives form (scope_in s (M.after_subject form t x) k l) (use_in s (M.after_subject form t x) k l) r n y
@@ -39,7 +39,7 @@ gives_subject Turtle M.Top x s k l r n y g = g
 gives_subject Turtle M.InBlock x s k l r n y g = g
 
 -- after a subject a token's IRI is looked up as anywhere in a statement
-pub name_subject : (form : DocForm) (t : M.Level) (x : Option term.Subject) (s : InForce) (k : Kind) (l : Leaf) (i : Option (List ℕ)) →
+pub name_subject : (form : DocForm) (t : M.Level) (x : M.Topic) (s : InForce) (k : Kind) (l : Leaf) (i : Option (List ℕ)) →
     NameIn s (M.after_subject form t x) k l i → name_at s k l ≡ i
 name_subject TriG M.Top x s k l i h = h
 name_subject TriG M.InBlock x s k l i h = h

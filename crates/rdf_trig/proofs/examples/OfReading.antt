@@ -26,7 +26,7 @@ use Rattle.rdf_trig.specs.Names.{reference_in, name_in, is_full}
 use Rattle.rdf_trig.specs.Quads.{in_default}
 use Rattle.rdf_trig.specs.Documents.{documents, Passes}
 use Rattle.rdf_trig.specs.Refusals.{unexpected}
-use Rattle.rdf_trig.specs.Machine.{Top, Statement, Start, Over, WantVerb, State, at_start, ran, accept_all}
+use Rattle.rdf_trig.specs.Machine.{sized, Top, Statement, Start, Over, WantVerb, State, at_start, ran, accept_all}
 use Rattle.rdf_trig.specs.Language.{language}
 use Rattle.rdf_trig.specs.Accepting.{TrigRead, tree_words}
 use Rattle.rdf_trig.specs.Laws.{IsRefusedAfter}
@@ -128,7 +128,7 @@ unfolding tokens_of tokens read step kind_of is_live shape has chars utf8_valid_
 subject_tokens = refl
 
 abbrev behind_subject : State
-behind_subject = record { setting = in_default small; mode = WantVerb (Some (term.Iri (codes "a:"))) (Statement Top); held = [] }
+behind_subject = record { setting = in_default small; mode = WantVerb (sized (Some (term.Iri (codes "a:")))) (Statement Top); held = [] }
 
 subject_ran : accept_all Turtle (at_start small) (subject_token ∷ []) ≡ ran behind_subject []
 unfolding reference_in name_in resolved is_full has encode

@@ -14,7 +14,7 @@ use Rattle.rdf_trig.specs.Names.{reference_in, name_in, with_base, with_binding,
 use Rattle.rdf_trig.specs.Quads.{Setting, named, node, resource, typed_literal, cell_at, rest_quad}
 use Rattle.rdf_trig.specs.Refusals.{Refusal, too_deep, iri_too_long, too_many_bindings}
 use Rattle.rdf_trig.specs.Events.{Use, itself, stands, binds}
-use Rattle.rdf_trig.specs.Machine.{Level, Top, InBlock, Place, Listed, InCells, Around, Statement, Boxed, Up, Subject, At, Spelling, Mode, Start, Over, WantPrefix, WantPrefixIri, WantBaseIri, WantDot, AfterLabel, GraphWord, GraphBox, WantBrace, Inside, Want, After, AfterText, WantType, Box, Paren, WantVerb, Semi, AfterBox, Reply, No, Go, quad_at, object_start, want_type, verb_start, after_subject, list_end, semi, after, after_text, box, paren, after_box, subject_start, start, inside, want_brace, after_label, graph_word, graph_box, want_prefix, want_prefix_iri, want_base_iri, want_dot, step, waiting, depth}
+use Rattle.rdf_trig.specs.Machine.{Topic, sized, spelt, Level, Top, InBlock, Place, Listed, InCells, Around, Statement, Boxed, Up, Subject, At, Spelling, Mode, Start, Over, WantPrefix, WantPrefixIri, WantBaseIri, WantDot, AfterLabel, GraphWord, GraphBox, WantBrace, Inside, Want, After, AfterText, WantType, Box, Paren, WantVerb, Semi, AfterBox, Reply, No, Go, quad_at, object_start, want_type, verb_start, after_subject, list_end, semi, after, after_text, box, paren, after_box, subject_start, start, inside, want_brace, after_label, graph_word, graph_box, want_prefix, want_prefix_iri, want_base_iri, want_dot, step, waiting, depth}
 use Rattle.rdf_trig.specs.Machine.{kept, State, Answer, refuses, accepts, too_long, by_use, deepens, answer, accept}
 use Rattle.rdf_trig.specs.Alike.{SameState}
 use Rattle.rdf_trig.proofs.trees.NamesLemmas.{binds_prefix}
@@ -93,15 +93,15 @@ module _ (s t : InForce) (same : SameNames s t) where
   object_same g p early OpenParen l = (refl, refl, refl, (same, refl), refl)
   object_same g p early k l = tt
 
-  verb_same : (g : Option (Option term.Subject)) (x : Option term.Subject) (a : Around) (k : Kind) (l : Leaf) →
+  verb_same : (g : Option (Option term.Subject)) (x : Topic) (a : Around) (k : Kind) (l : Leaf) →
       SameReply (verb_start (from g) x a k l) (verb_start (to g) x a k l)
-  verb_same g x a IriRef l = by_name (λ i. None) (λ i. Want (Listed x i a)) g None _ _ (reference l)
-  verb_same g x a PnameLn l = by_name (λ i. None) (λ i. Want (Listed x i a)) g None _ _ (name l)
-  verb_same g x a PnameNs l = by_name (λ i. None) (λ i. Want (Listed x i a)) g None _ _ (name l)
+  verb_same g x a IriRef l = by_name (λ i. None) (λ i. Want (Listed x (spelt i) a)) g None _ _ (reference l)
+  verb_same g x a PnameLn l = by_name (λ i. None) (λ i. Want (Listed x (spelt i) a)) g None _ _ (name l)
+  verb_same g x a PnameNs l = by_name (λ i. None) (λ i. Want (Listed x (spelt i) a)) g None _ _ (name l)
   verb_same g x a A l = (refl, refl, refl, (same, refl), refl)
   verb_same g x a k l = tt
 
-  end_same : (g : Option (Option term.Subject)) (x : Option term.Subject) (a : Around) (k : Kind) (l : Leaf) →
+  end_same : (g : Option (Option term.Subject)) (x : Topic) (a : Around) (k : Kind) (l : Leaf) →
       SameReply (list_end (from g) x a k l) (list_end (to g) x a k l)
   end_same g x (Statement Top) Dot l = (refl, refl, refl, (same, refl), refl)
   end_same g x (Statement InBlock) Dot l = (refl, refl, refl, (same, refl), refl)
@@ -111,7 +111,7 @@ module _ (s t : InForce) (same : SameNames s t) where
   end_same g x (Statement InBlock) k l = tt
   end_same g x (Boxed u) k l = tt
 
-  semi_same : (g : Option (Option term.Subject)) (x : Option term.Subject) (a : Around) (k : Kind) (l : Leaf) →
+  semi_same : (g : Option (Option term.Subject)) (x : Topic) (a : Around) (k : Kind) (l : Leaf) →
       SameReply (semi (from g) x a k l) (semi (to g) x a k l)
   semi_same g x a Semicolon l = (refl, refl, refl, (same, refl), refl)
   semi_same g x a IriRef l = verb_same g x a IriRef l
@@ -145,13 +145,13 @@ module _ (s t : InForce) (same : SameNames s t) where
   box_same : (form : DocForm) (g : Option (Option term.Subject)) (n : ℕ) (u : Up) (k : Kind) (l : Leaf) →
       SameReply (box form (from g) n u k l) (box form (to g) n u k l)
   box_same form g n u CloseBracket l = (refl, refl, refl, (same, refl), refl)
-  box_same form g n u k l = verb_same g (node (Anon n)) (Boxed u) k l
+  box_same form g n u k l = verb_same g (sized (node (Anon n))) (Boxed u) k l
 
   paren_same : (g : Option (Option term.Subject)) (u : Up) (k : Kind) (l : Leaf) → SameReply (paren (from g) u k l) (paren (to g) u k l)
   paren_same g u CloseParen l = (refl, refl, refl, (same, refl), refl)
   paren_same g u k l = object_same g (InCells l.at.offset l.at.offset u) None k l
 
-  after_box_same : (g : Option (Option term.Subject)) (x : Option term.Subject) (v : Level) (k : Kind) (l : Leaf) →
+  after_box_same : (g : Option (Option term.Subject)) (x : Topic) (v : Level) (k : Kind) (l : Leaf) →
       SameReply (after_box (from g) x v k l) (after_box (to g) x v k l)
   after_box_same g x v IriRef l = verb_same g x (Statement v) IriRef l
   after_box_same g x v PnameLn l = verb_same g x (Statement v) PnameLn l
@@ -161,9 +161,9 @@ module _ (s t : InForce) (same : SameNames s t) where
 
   subject_same : (form : DocForm) (g : Option (Option term.Subject)) (v : Level) (k : Kind) (l : Leaf) →
       SameReply (subject_start form (from g) v k l) (subject_start form (to g) v k l)
-  subject_same form g v IriRef l = by_name (λ i. None) (λ i. after_subject form v (named i)) g None _ _ (reference l)
-  subject_same form g v PnameLn l = by_name (λ i. None) (λ i. after_subject form v (named i)) g None _ _ (name l)
-  subject_same form g v PnameNs l = by_name (λ i. None) (λ i. after_subject form v (named i)) g None _ _ (name l)
+  subject_same form g v IriRef l = by_name (λ i. None) (λ i. after_subject form v (sized (named i))) g None _ _ (reference l)
+  subject_same form g v PnameLn l = by_name (λ i. None) (λ i. after_subject form v (sized (named i))) g None _ _ (name l)
+  subject_same form g v PnameNs l = by_name (λ i. None) (λ i. after_subject form v (sized (named i))) g None _ _ (name l)
   subject_same form g v LabelNode l = (refl, refl, refl, (same, refl), refl)
   subject_same form g v OpenBracket l = (refl, refl, refl, (same, refl), refl)
   subject_same form g v OpenParen l = (refl, refl, refl, (same, refl), refl)
@@ -188,7 +188,7 @@ module _ (s t : InForce) (same : SameNames s t) where
   brace_same g x OpenBrace l = (refl, refl, refl, (same, refl), refl)
   brace_same g x k l = tt
 
-  label_same : (g : Option (Option term.Subject)) (x : Option term.Subject) (k : Kind) (l : Leaf) →
+  label_same : (g : Option (Option term.Subject)) (x : Topic) (k : Kind) (l : Leaf) →
       SameReply (after_label (from g) x k l) (after_label (to g) x k l)
   label_same g x OpenBrace l = (refl, refl, refl, (same, refl), refl)
   label_same g x k l = verb_same g x (Statement Top) k l

@@ -16,7 +16,7 @@ use Rattle.rdf_trig.specs.declared.form.DocForm.TheVariants.{Turtle, TriG}
 use Rattle.rdf_trig.specs.Names.{prefix_of, reference_in, with_base, with_binding, is_full}
 use Rattle.rdf_trig.specs.Quads.{Setting, in_default, named, node, resource, plain_literal, typed_literal, rest_quad}
 use Rattle.rdf_trig.specs.Events.{Use, itself, stands, binds, Event, Took, Gave, give}
-use Rattle.rdf_trig.specs.Machine.{Level, Top, InBlock, Place, Listed, InCells, Around, Statement, Boxed, Up, Subject, At, Spelling, Dotted, Sparql, Mode, Start, Over, WantPrefix, WantPrefixIri, WantBaseIri, WantDot, AfterLabel, GraphWord, GraphBox, WantBrace, Inside, Want, After, AfterText, WantType, Box, Paren, WantVerb, Semi, AfterBox, Go, goes, cell, quad_at, nil, after_subject, node_closed, box_closed, list_closed, directive_end, step, waiting, fronted, put, go_on, run}
+use Rattle.rdf_trig.specs.Machine.{Topic, Spelt, sized, unsized, spelt, Level, Top, InBlock, Place, Listed, InCells, Around, Statement, Boxed, Up, Subject, At, Spelling, Dotted, Sparql, Mode, Start, Over, WantPrefix, WantPrefixIri, WantBaseIri, WantDot, AfterLabel, GraphWord, GraphBox, WantBrace, Inside, Want, After, AfterText, WantType, Box, Paren, WantVerb, Semi, AfterBox, Go, goes, cell, quad_at, nil, after_subject, node_closed, box_closed, list_closed, directive_end, step, waiting, fronted, put, go_on, run}
 use Rattle.rdf_trig.proofs.machine.Completeness.{text_run}
 
 -- whether a token that stands for this is taken: with a name that stands for something, or with any
@@ -192,43 +192,43 @@ module _ (strict : Bool) (form : DocForm) where
   at_end : (c : Setting) → Accepts c Start (the_end ∷ [])
   at_end c = plain End (leaf []) refl record { events = []; runs = refl; bound = tt }
 
-  level_closes : (v : Level) (c : Setting) (s : Option term.Subject) (p : Option (List ℕ)) → Accepts c (After (Listed s p (Statement v))) (close_level v)
+  level_closes : (v : Level) (c : Setting) (s : Topic) (p : Spelt) → Accepts c (After (Listed s p (Statement v))) (close_level v)
   level_closes Top c s p = plain Dot (leaf (codes ".")) refl (at_end c)
   level_closes InBlock c s p = plain CloseBrace (leaf (codes "}")) refl (at_end (in_default c.scope))
 
-  box_closes : (v : Level) (c : Setting) (s : Option term.Subject) → Accepts c (AfterBox s v) (close_level v)
+  box_closes : (v : Level) (c : Setting) (s : Topic) → Accepts c (AfterBox s v) (close_level v)
   box_closes Top c s = plain Dot (leaf (codes ".")) refl (at_end c)
   box_closes InBlock c s = plain CloseBrace (leaf (codes "}")) refl (at_end (in_default c.scope))
 
   object_closes : (c : Setting) (p : Place) (ts : List Token) → Accepts c (After p) ts → Accepts c (Want p) (iri ∷ ts)
   object_closes c p ts a = named_by None (quad_at c p (resource (named (reference_in c.scope any_iri)))) refl a
 
-  verb_closes : (v : Level) (c : Setting) (s : Option term.Subject) → Accepts c (WantVerb s (Statement v)) (close_verb v)
+  verb_closes : (v : Level) (c : Setting) (s : Topic) → Accepts c (WantVerb s (Statement v)) (close_verb v)
   verb_closes v c s =
-      named_by None None refl (object_closes c (Listed s (reference_in c.scope any_iri) (Statement v)) (close_level v) (level_closes v c s (reference_in c.scope any_iri)))
+      named_by None None refl (object_closes c (Listed s (spelt (reference_in c.scope any_iri)) (Statement v)) (close_level v) (level_closes v c s (spelt (reference_in c.scope any_iri))))
 
-  label_closes : (c : Setting) (s : Option term.Subject) → Accepts c (AfterLabel s) (close_verb Top)
+  label_closes : (c : Setting) (s : Topic) → Accepts c (AfterLabel s) (close_verb Top)
   label_closes c s =
-      named_by None None refl (object_closes c (Listed s (reference_in c.scope any_iri) (Statement Top)) (close_level Top) (level_closes Top c s (reference_in c.scope any_iri)))
+      named_by None None refl (object_closes c (Listed s (spelt (reference_in c.scope any_iri)) (Statement Top)) (close_level Top) (level_closes Top c s (spelt (reference_in c.scope any_iri))))
 
   mutual
     place_closes : (p : Place) (c : Setting) → Accepts c (After p) (close_place p)
     place_closes (Listed s p (Statement v)) c = level_closes v c s p
     place_closes (Listed s p (Boxed u)) c = plain CloseBracket (leaf (codes "]")) refl (up_box u c s)
-    place_closes (InCells f n u) c = takes CloseParen (leaf (codes ")")) itself None (rest_quad c (Cell n) nil) (itself_passes strict) refl (up_list u c (cell f))
+    place_closes (InCells f n u) c = takes CloseParen (leaf (codes ")")) itself None (rest_quad c (Cell n) nil) (itself_passes strict) refl (up_list u c (unsized (cell f)))
 
-    up_list : (u : Up) (c : Setting) (s : Option term.Subject) → Accepts c (list_closed u s) (close_list u)
+    up_list : (u : Up) (c : Setting) (s : Topic) → Accepts c (list_closed u s) (close_list u)
     up_list (Subject v) c s = verb_closes v c s
     up_list (At p) c s = place_closes p c
 
-    up_box : (u : Up) (c : Setting) (s : Option term.Subject) → Accepts c (box_closed u s) (close_box u)
+    up_box : (u : Up) (c : Setting) (s : Topic) → Accepts c (box_closed u s) (close_box u)
     up_box (Subject v) c s = box_closes v c s
     up_box (At p) c s = place_closes p c
 
   brace_closes : (c : Setting) (g : Option term.Subject) → Accepts c (WantBrace g) close_block
   brace_closes c g = plain OpenBrace (leaf (codes "{")) refl (plain CloseBrace (leaf (codes "}")) refl (at_end (in_default c.scope)))
 
-  around_closes : (a : Around) (c : Setting) (s : Option term.Subject) → Accepts c (Semi s a) (close_around a)
+  around_closes : (a : Around) (c : Setting) (s : Topic) → Accepts c (Semi s a) (close_around a)
   around_closes (Statement Top) c s = plain Dot (leaf (codes ".")) refl (at_end c)
   around_closes (Statement InBlock) c s = plain CloseBrace (leaf (codes "}")) refl (at_end (in_default c.scope))
   around_closes (Boxed u) c s = plain CloseBracket (leaf (codes "]")) refl (up_box u c s)
@@ -250,14 +250,14 @@ module _ (strict : Bool) (form : DocForm) where
   }
 
 -- after a subject, in both forms
-subject_closes : (strict : Bool) (form : DocForm) (v : Level) (c : Setting) (s : Option term.Subject) →
+subject_closes : (strict : Bool) (form : DocForm) (v : Level) (c : Setting) (s : Topic) →
     Accepts strict form c (after_subject form v s) (close_verb v)
 subject_closes strict form InBlock c s = verb_closes strict form InBlock c s
 subject_closes strict Turtle Top c s = verb_closes strict Turtle Top c s
 subject_closes strict TriG Top c s = label_closes strict TriG c s
 
 module _ (strict : Bool) (form : DocForm) where
-  up_node : (u : Up) (c : Setting) (s : Option term.Subject) → Accepts strict form c (node_closed form u s) (close_list u)
+  up_node : (u : Up) (c : Setting) (s : Topic) → Accepts strict form c (node_closed form u s) (close_list u)
   up_node (Subject v) c s = subject_closes strict form v c s
   up_node (At p) c s = place_closes strict form p c
 
@@ -277,10 +277,10 @@ module _ (strict : Bool) (form : DocForm) where
   closes (After p) c = place_closes strict form p c
   closes (AfterText w p) c = text_closes strict form c w p (close_place p) (place_closes strict form p c)
   closes (WantType w p) c = named_by strict form None (quad_at c p (typed_literal w (reference_in c.scope any_iri))) refl (place_closes strict form p c)
-  closes (Box n u) c = plain strict form CloseBracket (leaf (codes "]")) refl (up_node u c (node (Anon n)))
-  closes (Paren u) c = plain strict form CloseParen (leaf (codes ")")) refl (up_list strict form u c (Some nil))
+  closes (Box n u) c = plain strict form CloseBracket (leaf (codes "]")) refl (up_node u c (sized (node (Anon n))))
+  closes (Paren u) c = plain strict form CloseParen (leaf (codes ")")) refl (up_list strict form u c (unsized (Some nil)))
   closes (WantVerb s a) c =
       named_by strict form None None refl
-      (object_closes strict form c (Listed s (reference_in c.scope any_iri) a) (close_around a) (place_closes strict form (Listed s (reference_in c.scope any_iri) a) c))
+      (object_closes strict form c (Listed s (spelt (reference_in c.scope any_iri)) a) (close_around a) (place_closes strict form (Listed s (spelt (reference_in c.scope any_iri)) a) c))
   closes (Semi s a) c = around_closes strict form a c s
   closes (AfterBox s v) c = box_closes strict form v c s

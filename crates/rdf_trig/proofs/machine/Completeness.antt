@@ -14,7 +14,7 @@ use Rattle.rdf_trig.specs.Trees as tree
 use Rattle.rdf_trig.specs.Names.{reference_in, name_in, iri_in, scope_after}
 use Rattle.rdf_trig.specs.Quads.{Setting, in_default, in_graph, named, node, resource, anon_at, blank_of, verb_of, lexical, language, plain_literal, tagged_literal, typed_literal, literal_of, iri_leaf, string_leaf, literal_leaf, object_leaf, cell_at, items_of, collection_of, list_of, label_of, rest_quad}
 use Rattle.rdf_trig.specs.Events.{Use, itself, stands, Event, Took, take, give, iri_events, verb_events, string_events, tag_events, blank_object_events, literal_events, object_quad, object_events, collection_events, items_events, rest_events, list_events, predicates_events, more_events, objects_events, commas_events, maybe_events, triples_events, label_events, block_events, maybe_block_events, wrapped_events, body_events, document_events, tokens}
-use Rattle.rdf_trig.specs.Machine.{Level, Top, InBlock, Place, Listed, InCells, Around, Statement, Boxed, Up, Subject, At, Mode, Start, AfterLabel, GraphWord, WantBrace, Inside, Want, After, AfterText, WantType, Box, Paren, WantVerb, Semi, AfterBox, Reply, No, Go, goes, cell, subject_at, verb_at, quad_at, quad_up, nil, object_start, verb_start, after_subject, list_closed, after, subject_start, step, waiting, fronted, put, go_on, run}
+use Rattle.rdf_trig.specs.Machine.{Topic, Spelt, sized, unsized, spelt, verb_in, Level, Top, InBlock, Place, Listed, InCells, Around, Statement, Boxed, Up, Subject, At, Mode, Start, AfterLabel, GraphWord, WantBrace, Inside, Want, After, AfterText, WantType, Box, Paren, WantVerb, Semi, AfterBox, Reply, No, Go, goes, cell, subject_at, verb_at, quad_at, quad_up, nil, object_start, verb_start, after_subject, list_closed, after, subject_start, step, waiting, fronted, put, go_on, run}
 
 module _ (form : DocForm) where
   -- the run from a state takes these events' tokens, and has these events
@@ -47,7 +47,7 @@ module _ (form : DocForm) where
   shift q (Some fs) es e = let z : fs ≡ es = cc in ap (λ x. Some (give q x)) z
 
   -- no tag, and no type
-  no_tag : (c : Setting) (p : Place) (l : Leaf) →
+  pub no_tag : (c : Setting) (p : Place) (l : Leaf) →
       (after c p LangTag l ≡ No) × (after c p AtBase l ≡ No) × (after c p AtPrefix l ≡ No) × (after c p Carets l ≡ No)
   no_tag c (Listed s v (Statement Top)) l = (refl, refl, refl, refl)
   no_tag c (Listed s v (Statement InBlock)) l = (refl, refl, refl, refl)
@@ -77,11 +77,11 @@ module _ (form : DocForm) where
   text_good {c} {p} {rest} w g = record { runs = rw (tokens_give (quad_at c p (plain_literal w)) rest) (text_run c w p (tokens rest) rest g.runs) }
 
   -- The state takes a name, whose first token is this, and stands after it where it says.
-  record TakesIri (c : Setting) (m : Mode) (s : InForce) (before early : Option Quad) (now : Option (List ℕ) → Option Quad) (c' : Setting) (next : Option (List ℕ) → Mode) (l : Leaf) : Type 0 where
-    waits : (waiting c m IriRef l ≡ before) × (waiting c m PnameLn l ≡ before) × (waiting c m PnameNs l ≡ before)
-    ref : step form c m IriRef l ≡ Go (stands (reference_in s l)) early (now (reference_in s l)) c' (next (reference_in s l))
-    ln : step form c m PnameLn l ≡ Go (stands (name_in s l)) early (now (name_in s l)) c' (next (name_in s l))
-    ns : step form c m PnameNs l ≡ Go (stands (name_in s l)) early (now (name_in s l)) c' (next (name_in s l))
+  pub record TakesIri (c : Setting) (m : Mode) (s : InForce) (before early : Option Quad) (now : Option (List ℕ) → Option Quad) (c' : Setting) (next : Option (List ℕ) → Mode) (l : Leaf) : Type 0 where
+    pub waits : (waiting c m IriRef l ≡ before) × (waiting c m PnameLn l ≡ before) × (waiting c m PnameNs l ≡ before)
+    pub ref : step form c m IriRef l ≡ Go (stands (reference_in s l)) early (now (reference_in s l)) c' (next (reference_in s l))
+    pub ln : step form c m PnameLn l ≡ Go (stands (name_in s l)) early (now (name_in s l)) c' (next (name_in s l))
+    pub ns : step form c m PnameNs l ≡ Go (stands (name_in s l)) early (now (name_in s l)) c' (next (name_in s l))
 
   iri_good : (i : Iri) (c : Setting) (m : Mode) (s : InForce) (before early : Option Quad) (now : Option (List ℕ) → Option Quad) (c' : Setting)
       (next : Option (List ℕ) → Mode) (rest : List Event) →
@@ -92,23 +92,23 @@ module _ (form : DocForm) where
   iri_good (prefixed (pname_ns l)) c m s before early now c' next rest h g = one PnameNs l before _ early _ h.waits.2 h.ns g
 
   -- a state that takes an object at this place, whose first token is this
-  abbrev Starts : Setting → Mode → Place → Option Quad → Option Quad → Kind → Leaf → Type 0
+  abbrev pub Starts : Setting → Mode → Place → Option Quad → Option Quad → Kind → Leaf → Type 0
   Starts c m p before early k l = (waiting c m k l ≡ before) × (step form c m k l ≡ object_start c p early k l)
 
-  record TakesObject (c : Setting) (m : Mode) (p : Place) (before early : Option Quad) (l : Leaf) : Type 0 where
-    iri : TakesIri c m c.scope before early (λ i. quad_at c p (resource (named i))) c (λ i. After p) l
-    label : Starts c m p before early LabelNode l
-    short : Starts c m p before early ShortString l
-    long : Starts c m p before early LongString l
-    integer : Starts c m p before early Integer l
-    decimal : Starts c m p before early Decimal l
-    double : Starts c m p before early Double l
-    true_word : Starts c m p before early True l
-    false_word : Starts c m p before early False l
-    box : Starts c m p before early OpenBracket l
-    list : Starts c m p before early OpenParen l
+  pub record TakesObject (c : Setting) (m : Mode) (p : Place) (before early : Option Quad) (l : Leaf) : Type 0 where
+    pub iri : TakesIri c m c.scope before early (λ i. quad_at c p (resource (named i))) c (λ i. After p) l
+    pub label : Starts c m p before early LabelNode l
+    pub short : Starts c m p before early ShortString l
+    pub long : Starts c m p before early LongString l
+    pub integer : Starts c m p before early Integer l
+    pub decimal : Starts c m p before early Decimal l
+    pub double : Starts c m p before early Double l
+    pub true_word : Starts c m p before early True l
+    pub false_word : Starts c m p before early False l
+    pub box : Starts c m p before early OpenBracket l
+    pub list : Starts c m p before early OpenParen l
 
-  want_takes : (c : Setting) (p : Place) (l : Leaf) → TakesObject c (Want p) p None None l
+  pub want_takes : (c : Setting) (p : Place) (l : Leaf) → TakesObject c (Want p) p None None l
   want_takes c p l = record {
     iri = record { waits = (refl, refl, refl); ref = refl; ln = refl; ns = refl };
     label = (refl, refl);
@@ -123,7 +123,7 @@ module _ (form : DocForm) where
     list = (refl, refl);
   }
 
-  paren_takes : (c : Setting) (u : Up) (l : Leaf) → TakesObject c (Paren u) (InCells l.at.offset l.at.offset u) (quad_up c u (Blank (cell_at l))) None l
+  pub paren_takes : (c : Setting) (u : Up) (l : Leaf) → TakesObject c (Paren u) (InCells l.at.offset l.at.offset u) (quad_up c u (Blank (cell_at l))) None l
   paren_takes c u l = record {
     iri = record { waits = (refl, refl, refl); ref = refl; ln = refl; ns = refl };
     label = (refl, refl);
@@ -138,7 +138,7 @@ module _ (form : DocForm) where
     list = (refl, refl);
   }
 
-  item_takes : (c : Setting) (f n : ℕ) (u : Up) (l : Leaf) →
+  pub item_takes : (c : Setting) (f n : ℕ) (u : Up) (l : Leaf) →
       TakesObject c (After (InCells f n u)) (InCells f l.at.offset u) None (rest_quad c (Cell n) (Blank (cell_at l))) l
   item_takes c f n u l = record {
     iri = record { waits = (refl, refl, refl); ref = refl; ln = refl; ns = refl };
@@ -154,18 +154,18 @@ module _ (form : DocForm) where
     list = (refl, refl);
   }
 
-  record TakesVerb (c : Setting) (m : Mode) (s : Option term.Subject) (a : Around) : Type 0 where
-    iri : (l : Leaf) → TakesIri c m c.scope None None (λ i. None) c (λ i. Want (Listed s i a)) l
-    type : (l : Leaf) → (waiting c m A l ≡ None) × (step form c m A l ≡ verb_start c s a A l)
+  pub record TakesVerb (c : Setting) (m : Mode) (s : Topic) (a : Around) : Type 0 where
+    pub iri : (l : Leaf) → TakesIri c m c.scope None None (λ i. None) c (λ i. Want (Listed s (spelt i) a)) l
+    pub type : (l : Leaf) → (waiting c m A l ≡ None) × (step form c m A l ≡ verb_start c s a A l)
 
   -- a token that ends a predicate list, and the state after it
-  record Ends (c : Setting) (s : Option term.Subject) (a : Around) (k : Kind) (l : Leaf) (c' : Setting) (m' : Mode) : Type 0 where
-    after : (p : Option (List ℕ)) → step form c (After (Listed s p a)) k l ≡ goes c' m'
-    semi : step form c (Semi s a) k l ≡ goes c' m'
+  pub record Ends (c : Setting) (s : Topic) (a : Around) (k : Kind) (l : Leaf) (c' : Setting) (m' : Mode) : Type 0 where
+    pub after : (p : Spelt) → step form c (After (Listed s p a)) k l ≡ goes c' m'
+    pub semi : step form c (Semi s a) k l ≡ goes c' m'
 
-  verb_good : (v : Verb) (c : Setting) (m : Mode) (s : Option term.Subject) (a : Around) (rest : List Event) → TakesVerb c m s a →
-      Good c (Want (Listed s (verb_of c.scope v) a)) rest → Good c m (verb_events c.scope v rest)
-  verb_good (predicate i) c m s a rest h g = iri_good i c m c.scope None None (λ i. None) c (λ i. Want (Listed s i a)) rest (h.iri (iri_leaf i)) g
+  verb_good : (v : Verb) (c : Setting) (m : Mode) (s : Topic) (a : Around) (rest : List Event) → TakesVerb c m s a →
+      Good c (Want (Listed s (verb_in c.scope v) a)) rest → Good c m (verb_events c.scope v rest)
+  verb_good (predicate i) c m s a rest h g = iri_good i c m c.scope None None (λ i. None) c (λ i. Want (Listed s (spelt i) a)) rest (h.iri (iri_leaf i)) g
   verb_good (type_word l) c m s a rest h g = alone A l (h.type l).0 (h.type l).1 g
 
   string_good : (w : String) (c : Setting) (m : Mode) (p : Place) (before early : Option Quad) (rest : List Event) →
@@ -180,7 +180,7 @@ module _ (form : DocForm) where
   tag_good (base_tag l) c w p rest g = one AtBase l None itself None _ refl refl g
   tag_good (prefix_tag l) c w p rest g = one AtPrefix l None itself None _ refl refl g
 
-  type_takes : (c : Setting) (w : List ℕ) (p : Place) (l : Leaf) →
+  pub type_takes : (c : Setting) (w : List ℕ) (p : Place) (l : Leaf) →
       TakesIri c (WantType w p) c.scope None None (λ i. quad_at c p (typed_literal w i)) c (λ i. After p) l
   type_takes c w p l = record { waits = (refl, refl, refl); ref = refl; ln = refl; ns = refl }
 
@@ -198,13 +198,13 @@ module _ (form : DocForm) where
   literal_good (boolean (true_word l)) c m p before early rest h g = one True l before itself early _ h.true_word.0 h.true_word.1 g
   literal_good (boolean (false_word l)) c m p before early rest h g = one False l before itself early _ h.false_word.0 h.false_word.1 g
 
-  box_verb : (c : Setting) (n : ℕ) (u : Up) → TakesVerb c (Box n u) (node (Anon n)) (Boxed u)
+  pub box_verb : (c : Setting) (n : ℕ) (u : Up) → TakesVerb c (Box n u) (sized (node (Anon n))) (Boxed u)
   box_verb c n u = record { iri = λ l. record { waits = (refl, refl, refl); ref = refl; ln = refl; ns = refl }; type = λ l. (refl, refl) }
 
-  semi_verb : (c : Setting) (s : Option term.Subject) (a : Around) → TakesVerb c (Semi s a) s a
+  pub semi_verb : (c : Setting) (s : Topic) (a : Around) → TakesVerb c (Semi s a) s a
   semi_verb c s a = record { iri = λ l. record { waits = (refl, refl, refl); ref = refl; ln = refl; ns = refl }; type = λ l. (refl, refl) }
 
-  want_verb : (c : Setting) (s : Option term.Subject) (a : Around) → TakesVerb c (WantVerb s a) s a
+  pub want_verb : (c : Setting) (s : Topic) (a : Around) → TakesVerb c (WantVerb s a) s a
   want_verb c s a = record { iri = λ l. record { waits = (refl, refl, refl); ref = refl; ln = refl; ns = refl }; type = λ l. (refl, refl) }
 
   mutual
@@ -228,100 +228,100 @@ module _ (form : DocForm) where
         Good c (After p) rest → Good c m (give before (list_events c ps early (object_quad c (subject_at p) (verb_at p) (list_object ps)) rest))
     list_object_good (property_list l ps r) c m p before early rest h g =
         one OpenBracket l before itself early _ h.box.0 h.box.1
-        (predicates_good ps c (Box l.at.offset (At p)) (node (anon_at l)) (Boxed (At p)) CloseBracket r c (After p) rest (box_verb c l.at.offset (At p)) record { after = λ v. refl; semi = refl } g)
+        (predicates_good ps c (Box l.at.offset (At p)) (sized (node (anon_at l))) (Boxed (At p)) CloseBracket r c (After p) rest (box_verb c l.at.offset (At p)) record { after = λ v. refl; semi = refl } g)
 
-    items_good : (os : Items) (c : Setting) (u : Up) (r : Leaf) (rest : List Event) → Good c (list_closed u (Some (items_of os))) rest →
+    items_good : (os : Items) (c : Setting) (u : Up) (r : Leaf) (rest : List Event) → Good c (list_closed u (unsized (Some (items_of os)))) rest →
         Good c (Paren u) (give (quad_up c u (items_of os)) (items_events c os r rest))
     items_good no_items c u r rest g = one CloseParen r (quad_up c u nil) itself None None refl refl g
     items_good (item o os) c u r rest g =
         let l = object_leaf o in
         object_good o c (Paren u) (InCells l.at.offset l.at.offset u) (quad_up c u (Blank (cell_at l))) None _ (paren_takes c u l) (rest_good os c l.at.offset l.at.offset u r rest g)
 
-    rest_good : (os : Items) (c : Setting) (f n : ℕ) (u : Up) (r : Leaf) (rest : List Event) → Good c (list_closed u (cell f)) rest →
+    rest_good : (os : Items) (c : Setting) (f n : ℕ) (u : Up) (r : Leaf) (rest : List Event) → Good c (list_closed u (unsized (cell f))) rest →
         Good c (After (InCells f n u)) (rest_events c os (Cell n) r rest)
     rest_good no_items c f n u r rest g = one CloseParen r None itself None (rest_quad c (Cell n) nil) refl refl g
     rest_good (item o os) c f n u r rest g =
         let l = object_leaf o in
         object_good o c (After (InCells f n u)) (InCells f l.at.offset u) None (rest_quad c (Cell n) (Blank (cell_at l))) _ (item_takes c f n u l) (rest_good os c f l.at.offset u r rest g)
 
-    predicates_good : (ps : PredicateObjectList) (c : Setting) (m : Mode) (s : Option term.Subject) (a : Around) (k : Kind) (l : Leaf) (c' : Setting)
+    predicates_good : (ps : PredicateObjectList) (c : Setting) (m : Mode) (s : Topic) (a : Around) (k : Kind) (l : Leaf) (c' : Setting)
         (m' : Mode) (rest : List Event) →
-        TakesVerb c m s a → Ends c s a k l c' m' → Good c' m' rest → Good c m (predicates_events c ps s (take k l rest))
+        TakesVerb c m s a → Ends c s a k l c' m' → Good c' m' rest → Good c m (predicates_events c ps s.term (take k l rest))
     predicates_good (predicate_objects v os ms) c m s a k l c' m' rest h e g =
-        verb_good v c m s a _ h (objects_good os c s (verb_of c.scope v) a _ (more_good ms c s (verb_of c.scope v) a k l c' m' rest e g))
+        verb_good v c m s a _ h (objects_good os c s (verb_in c.scope v) a _ (more_good ms c s (verb_in c.scope v) a k l c' m' rest e g))
 
-    objects_good : (os : ObjectList) (c : Setting) (s : Option term.Subject) (v : Option (List ℕ)) (a : Around) (rest : List Event) →
+    objects_good : (os : ObjectList) (c : Setting) (s : Topic) (v : Spelt) (a : Around) (rest : List Event) →
         Good c (After (Listed s v a)) rest →
-        Good c (Want (Listed s v a)) (objects_events c os s v rest)
+        Good c (Want (Listed s v a)) (objects_events c os s.term v.iri rest)
     objects_good (objects o os) c s v a rest g = object_good o c (Want (Listed s v a)) (Listed s v a) None None _ (want_takes c (Listed s v a) (object_leaf o)) (commas_good os c s v a rest g)
 
-    commas_good : (os : Commas) (c : Setting) (s : Option term.Subject) (v : Option (List ℕ)) (a : Around) (rest : List Event) →
+    commas_good : (os : Commas) (c : Setting) (s : Topic) (v : Spelt) (a : Around) (rest : List Event) →
         Good c (After (Listed s v a)) rest →
-        Good c (After (Listed s v a)) (commas_events c os s v rest)
+        Good c (After (Listed s v a)) (commas_events c os s.term v.iri rest)
     commas_good no_commas c s v a rest g = g
     commas_good (comma l o os) c s v a rest g =
         alone Comma l refl refl (object_good o c (Want (Listed s v a)) (Listed s v a) None None _ (want_takes c (Listed s v a) (object_leaf o)) (commas_good os c s v a rest g))
 
-    more_good : (ms : More) (c : Setting) (s : Option term.Subject) (v : Option (List ℕ)) (a : Around) (k : Kind) (l : Leaf) (c' : Setting)
+    more_good : (ms : More) (c : Setting) (s : Topic) (v : Spelt) (a : Around) (k : Kind) (l : Leaf) (c' : Setting)
         (m' : Mode) (rest : List Event) →
         Ends c s a k l c' m' → Good c' m' rest →
-        Good c (After (Listed s v a)) (more_events c ms s (take k l rest))
+        Good c (After (Listed s v a)) (more_events c ms s.term (take k l rest))
     more_good no_more c s v a k l c' m' rest e g = alone k l refl (e.after v) g
     more_good (semicolon d ms) c s v a k l c' m' rest e g = alone Semicolon d refl refl (semi_good ms c s a k l c' m' rest e g)
     more_good (semicolon_objects d w os ms) c s v a k l c' m' rest e g =
-        alone Semicolon d refl refl (verb_good w c (Semi s a) s a _ (semi_verb c s a) (objects_good os c s (verb_of c.scope w) a _ (more_good ms c s (verb_of c.scope w) a k l c' m' rest e g)))
+        alone Semicolon d refl refl (verb_good w c (Semi s a) s a _ (semi_verb c s a) (objects_good os c s (verb_in c.scope w) a _ (more_good ms c s (verb_in c.scope w) a k l c' m' rest e g)))
 
-    semi_good : (ms : More) (c : Setting) (s : Option term.Subject) (a : Around) (k : Kind) (l : Leaf) (c' : Setting) (m' : Mode) (rest : List Event) →
+    semi_good : (ms : More) (c : Setting) (s : Topic) (a : Around) (k : Kind) (l : Leaf) (c' : Setting) (m' : Mode) (rest : List Event) →
         Ends c s a k l c' m' → Good c' m' rest →
-        Good c (Semi s a) (more_events c ms s (take k l rest))
+        Good c (Semi s a) (more_events c ms s.term (take k l rest))
     semi_good no_more c s a k l c' m' rest e g = alone k l refl e.semi g
     semi_good (semicolon d ms) c s a k l c' m' rest e g = alone Semicolon d refl refl (semi_good ms c s a k l c' m' rest e g)
     semi_good (semicolon_objects d w os ms) c s a k l c' m' rest e g =
-        alone Semicolon d refl refl (verb_good w c (Semi s a) s a _ (semi_verb c s a) (objects_good os c s (verb_of c.scope w) a _ (more_good ms c s (verb_of c.scope w) a k l c' m' rest e g)))
+        alone Semicolon d refl refl (verb_good w c (Semi s a) s a _ (semi_verb c s a) (objects_good os c s (verb_in c.scope w) a _ (more_good ms c s (verb_in c.scope w) a k l c' m' rest e g)))
 
   -- a state that takes the subject of triples
-  record TakesSubject (c0 : Setting) (m : Mode) (c : Setting) (v : Level) : Type 0 where
-    iri : (l : Leaf) → TakesIri c0 m c.scope None None (λ i. None) c (λ i. after_subject form v (named i)) l
-    label : (l : Leaf) → (waiting c0 m LabelNode l ≡ None) × (step form c0 m LabelNode l ≡ subject_start form c v LabelNode l)
-    box : (l : Leaf) → (waiting c0 m OpenBracket l ≡ None) × (step form c0 m OpenBracket l ≡ subject_start form c v OpenBracket l)
-    list : (l : Leaf) → (waiting c0 m OpenParen l ≡ None) × (step form c0 m OpenParen l ≡ subject_start form c v OpenParen l)
+  pub record TakesSubject (c0 : Setting) (m : Mode) (c : Setting) (v : Level) : Type 0 where
+    pub iri : (l : Leaf) → TakesIri c0 m c.scope None None (λ i. None) c (λ i. after_subject form v (sized (named i))) l
+    pub label : (l : Leaf) → (waiting c0 m LabelNode l ≡ None) × (step form c0 m LabelNode l ≡ subject_start form c v LabelNode l)
+    pub box : (l : Leaf) → (waiting c0 m OpenBracket l ≡ None) × (step form c0 m OpenBracket l ≡ subject_start form c v OpenBracket l)
+    pub list : (l : Leaf) → (waiting c0 m OpenParen l ≡ None) × (step form c0 m OpenParen l ≡ subject_start form c v OpenParen l)
 
-  record EndsTriples (c : Setting) (v : Level) (k : Kind) (l : Leaf) (c' : Setting) (m' : Mode) : Type 0 where
-    list : (s : Option term.Subject) → Ends c s (Statement v) k l c' m'
-    box : (s : Option term.Subject) → step form c (AfterBox s v) k l ≡ goes c' m'
+  pub record EndsTriples (c : Setting) (v : Level) (k : Kind) (l : Leaf) (c' : Setting) (m' : Mode) : Type 0 where
+    pub list : (s : Topic) → Ends c s (Statement v) k l c' m'
+    pub box : (s : Topic) → step form c (AfterBox s v) k l ≡ goes c' m'
 
-  label_verb : (c : Setting) (s : Option term.Subject) → TakesVerb c (AfterLabel s) s (Statement Top)
+  pub label_verb : (c : Setting) (s : Topic) → TakesVerb c (AfterLabel s) s (Statement Top)
   label_verb c s = record { iri = λ l. record { waits = (refl, refl, refl); ref = refl; ln = refl; ns = refl }; type = λ l. (refl, refl) }
 
-  box_then_verb : (c : Setting) (s : Option term.Subject) (v : Level) → TakesVerb c (AfterBox s v) s (Statement v)
+  pub box_then_verb : (c : Setting) (s : Topic) (v : Level) → TakesVerb c (AfterBox s v) s (Statement v)
   box_then_verb c s v = record { iri = λ l. record { waits = (refl, refl, refl); ref = refl; ln = refl; ns = refl }; type = λ l. (refl, refl) }
 
-  maybe_good : (ps : Option PredicateObjectList) (c : Setting) (s : Option term.Subject) (v : Level) (k : Kind) (l : Leaf) (c' : Setting) (m' : Mode)
+  maybe_good : (ps : Option PredicateObjectList) (c : Setting) (s : Topic) (v : Level) (k : Kind) (l : Leaf) (c' : Setting) (m' : Mode)
       (rest : List Event) →
       EndsTriples c v k l c' m' → Good c' m' rest →
-      Good c (AfterBox s v) (maybe_events c s ps (take k l rest))
+      Good c (AfterBox s v) (maybe_events c s.term ps (take k l rest))
   maybe_good None c s v k l c' m' rest e g = alone k l refl (e.box s) g
   maybe_good (Some ps) c s v k l c' m' rest e g = predicates_good ps c (AfterBox s v) s (Statement v) k l c' m' rest (box_then_verb c s v) (e.list s) g
 
   list_good : (p : BlankNodePropertyList) (c0 : Setting) (m : Mode) (c : Setting) (v : Level) (rest : List Event) → TakesSubject c0 m c v →
-      Good c (AfterBox (Some (list_of p)) v) rest → Good c0 m (list_events c p None None rest)
+      Good c (AfterBox (sized (Some (list_of p))) v) rest → Good c0 m (list_events c p None None rest)
   list_good (property_list l ps r) c0 m c v rest h g =
       alone OpenBracket l (h.box l).0 (h.box l).1
-      (predicates_good ps c (Box l.at.offset (Subject v)) (node (anon_at l)) (Boxed (Subject v)) CloseBracket r c (AfterBox (node (anon_at l)) v) rest (box_verb c l.at.offset (Subject v)) record { after = λ x. refl; semi = refl } g)
+      (predicates_good ps c (Box l.at.offset (Subject v)) (sized (node (anon_at l))) (Boxed (Subject v)) CloseBracket r c (AfterBox (sized (node (anon_at l))) v) rest (box_verb c l.at.offset (Subject v)) record { after = λ x. refl; semi = refl } g)
 
   collection_good : (x : Collection) (c0 : Setting) (m : Mode) (c : Setting) (v : Level) (rest : List Event) → TakesSubject c0 m c v →
-      Good c (WantVerb (Some (collection_of x)) (Statement v)) rest →
+      Good c (WantVerb (unsized (Some (collection_of x))) (Statement v)) rest →
       Good c0 m (collection_events c x None None rest)
   collection_good (collection l os r) c0 m c v rest h g = alone OpenParen l (h.list l).0 (h.list l).1 (items_good os c (Subject v) r rest g)
 
   blank_good : (b : BlankNode) (c0 : Setting) (m : Mode) (c : Setting) (v : Level) (rest : List Event) → TakesSubject c0 m c v →
-      Good c (after_subject form v (node (blank_of b))) rest →
+      Good c (after_subject form v (sized (node (blank_of b)))) rest →
       Good c0 m (blank_object_events b None None rest)
   blank_good (label l) c0 m c v rest h g = alone LabelNode l (h.label l).0 (h.label l).1 g
   blank_good (anon l r) c0 m c v rest h g = alone OpenBracket l (h.box l).0 (h.box l).1 (alone CloseBracket r refl refl g)
 
 -- after a subject a verb may come, in both forms
-subject_verb : (form : DocForm) (v : Level) (c : Setting) (s : Option term.Subject) → TakesVerb form c (after_subject form v s) s (Statement v)
+pub subject_verb : (form : DocForm) (v : Level) (c : Setting) (s : Topic) → TakesVerb form c (after_subject form v s) s (Statement v)
 subject_verb form InBlock c s = want_verb form c s (Statement InBlock)
 subject_verb Turtle Top c s = want_verb Turtle c s (Statement Top)
 subject_verb TriG Top c s = label_verb TriG c s
@@ -331,18 +331,18 @@ module _ (form : DocForm) where
       TakesSubject form c0 m c v → EndsTriples form c v k l c' m' →
       Good form c' m' rest → Good form c0 m (triples_events c t (take k l rest))
   triples_good (subject_triples (iri_subject i) ps) c0 m c v k l c' m' rest h e g =
-      let s = named (iri_in c.scope i) in
-      iri_good form i c0 m c.scope None None (λ j. None) c (λ j. after_subject form v (named j)) _ (h.iri (iri_leaf i))
+      let s = sized (named (iri_in c.scope i)) in
+      iri_good form i c0 m c.scope None None (λ j. None) c (λ j. after_subject form v (sized (named j))) _ (h.iri (iri_leaf i))
       (predicates_good form ps c (after_subject form v s) s (Statement v) k l c' m' rest (subject_verb form v c s) (e.list s) g)
   triples_good (subject_triples (blank_subject b) ps) c0 m c v k l c' m' rest h e g =
-      let s = node (blank_of b) in
+      let s = sized (node (blank_of b)) in
       blank_good form b c0 m c v _ h (predicates_good form ps c (after_subject form v s) s (Statement v) k l c' m' rest (subject_verb form v c s) (e.list s) g)
   triples_good (subject_triples (collection_subject x) ps) c0 m c v k l c' m' rest h e g =
-      let s = Some (collection_of x) in
+      let s = unsized (Some (collection_of x)) in
       collection_good form x c0 m c v _ h (predicates_good form ps c (WantVerb s (Statement v)) s (Statement v) k l c' m' rest (want_verb form c s (Statement v)) (e.list s) g)
-  triples_good (list_triples p ps) c0 m c v k l c' m' rest h e g = list_good form p c0 m c v _ h (maybe_good form ps c (Some (list_of p)) v k l c' m' rest e g)
+  triples_good (list_triples p ps) c0 m c v k l c' m' rest h e g = list_good form p c0 m c v _ h (maybe_good form ps c (sized (Some (list_of p))) v k l c' m' rest e g)
 
-  start_takes : (c : Setting) → TakesSubject form c Start (in_default c.scope) Top
+  pub start_takes : (c : Setting) → TakesSubject form c Start (in_default c.scope) Top
   start_takes c = record {
     iri = λ l. record { waits = (refl, refl, refl); ref = refl; ln = refl; ns = refl };
     label = λ l. (refl, refl);
@@ -350,7 +350,7 @@ module _ (form : DocForm) where
     list = λ l. (refl, refl);
   }
 
-  inside_takes : (c : Setting) → TakesSubject form c Inside c InBlock
+  pub inside_takes : (c : Setting) → TakesSubject form c Inside c InBlock
   inside_takes c = record {
     iri = λ l. record { waits = (refl, refl, refl); ref = refl; ln = refl; ns = refl };
     label = λ l. (refl, refl);
@@ -358,13 +358,13 @@ module _ (form : DocForm) where
     list = λ l. (refl, refl);
   }
 
-  top_ends : (c : Setting) (l : Leaf) → EndsTriples form c Top Dot l c Start
+  pub top_ends : (c : Setting) (l : Leaf) → EndsTriples form c Top Dot l c Start
   top_ends c l = record { list = λ s. record { after = λ v. refl; semi = refl }; box = λ s. refl }
 
-  dot_ends : (c : Setting) (l : Leaf) → EndsTriples form c InBlock Dot l c Inside
+  pub dot_ends : (c : Setting) (l : Leaf) → EndsTriples form c InBlock Dot l c Inside
   dot_ends c l = record { list = λ s. record { after = λ v. refl; semi = refl }; box = λ s. refl }
 
-  brace_ends : (c : Setting) (l : Leaf) → EndsTriples form c InBlock CloseBrace l (in_default c.scope) Start
+  pub brace_ends : (c : Setting) (l : Leaf) → EndsTriples form c InBlock CloseBrace l (in_default c.scope) Start
   brace_ends c l = record { list = λ s. record { after = λ v. refl; semi = refl }; box = λ s. refl }
 
   block_good : (b : TriplesBlock) (c : Setting) (r : Leaf) (rest : List Event) → Good form (in_default c.scope) Start rest →
@@ -384,9 +384,9 @@ module _ (form : DocForm) where
   wrapped_good (wrapped l b r) c0 m c rest h g = alone form OpenBrace l (h l).0 (h l).1 (maybe_block_good b c r rest g)
 
 -- a label that begins a block
-label_good : (x : LabelOrSubject) (c : Setting) (rest : List Event) → Good TriG (in_default c.scope) (AfterLabel (label_of c.scope x)) rest →
+label_good : (x : LabelOrSubject) (c : Setting) (rest : List Event) → Good TriG (in_default c.scope) (AfterLabel (sized (label_of c.scope x))) rest →
     Good TriG c Start (label_events c.scope x rest)
-label_good (iri_label i) c rest g = iri_good TriG i c Start c.scope None None (λ j. None) (in_default c.scope) (λ j. AfterLabel (named j)) rest ((start_takes TriG c).iri (iri_leaf i)) g
+label_good (iri_label i) c rest g = iri_good TriG i c Start c.scope None None (λ j. None) (in_default c.scope) (λ j. AfterLabel (sized (named j))) rest ((start_takes TriG c).iri (iri_leaf i)) g
 label_good (blank_label b) c rest g = blank_good TriG b c Start (in_default c.scope) Top rest (start_takes TriG c) g
 
 -- a label after GRAPH
@@ -401,16 +401,16 @@ body_good : (form : DocForm) (b : Body form) (c : Setting) (rest : List Event) �
     Good form c Start (body_events form c.scope b rest)
 body_good Turtle b c rest g = triples_good Turtle b.triples c Start (in_default c.scope) Top Dot b.dot (in_default c.scope) Start rest (start_takes Turtle c) (top_ends Turtle (in_default c.scope) b.dot) g
 body_good TriG (triples_or_graph (named_graph x w)) c rest g =
-    label_good x c _ (wrapped_good TriG w (in_default c.scope) (AfterLabel (label_of c.scope x)) (in_graph c.scope (label_of c.scope x)) rest (λ l. (refl, refl)) g)
+    label_good x c _ (wrapped_good TriG w (in_default c.scope) (AfterLabel (sized (label_of c.scope x))) (in_graph c.scope (label_of c.scope x)) rest (λ l. (refl, refl)) g)
 body_good TriG (triples_or_graph (label_triples x ps d)) c rest g =
     label_good x c _
-    (predicates_good TriG ps (in_default c.scope) (AfterLabel (label_of c.scope x)) (label_of c.scope x) (Statement Top) Dot d (in_default c.scope) Start rest (label_verb TriG (in_default c.scope) (label_of c.scope x))
-    ((top_ends TriG (in_default c.scope) d).list (label_of c.scope x)) g)
+    (predicates_good TriG ps (in_default c.scope) (AfterLabel (sized (label_of c.scope x))) (sized (label_of c.scope x)) (Statement Top) Dot d (in_default c.scope) Start rest (label_verb TriG (in_default c.scope) (sized (label_of c.scope x)))
+    ((top_ends TriG (in_default c.scope) d).list (sized (label_of c.scope x))) g)
 body_good TriG (default_graph w) c rest g = wrapped_good TriG w c Start (in_default c.scope) rest (λ l. (refl, refl)) g
 body_good TriG (triples2 (list_triples2 p ps d)) c rest g =
-    list_good TriG p c Start (in_default c.scope) Top _ (start_takes TriG c) (maybe_good TriG ps (in_default c.scope) (Some (list_of p)) Top Dot d (in_default c.scope) Start rest (top_ends TriG (in_default c.scope) d) g)
+    list_good TriG p c Start (in_default c.scope) Top _ (start_takes TriG c) (maybe_good TriG ps (in_default c.scope) (sized (Some (list_of p))) Top Dot d (in_default c.scope) Start rest (top_ends TriG (in_default c.scope) d) g)
 body_good TriG (triples2 (collection_triples2 x ps d)) c rest g =
-    let s = Some (collection_of x) in
+    let s = unsized (Some (collection_of x)) in
     collection_good TriG x c Start (in_default c.scope) Top _ (start_takes TriG c)
     (predicates_good TriG ps (in_default c.scope) (WantVerb s (Statement Top)) s (Statement Top) Dot d (in_default c.scope) Start rest (want_verb TriG (in_default c.scope) s (Statement Top)) ((top_ends TriG (in_default c.scope) d).list s) g)
 body_good TriG (tree.graph_word l x w) c rest g =

@@ -12,7 +12,7 @@ use Rattle.rdf_trig.specs.declared.form.DocForm.TheVariants.{Turtle, TriG}
 use Rattle.rdf_trig.specs.Names.{reference_in, name_in, with_base, with_binding, is_full}
 use Rattle.rdf_trig.specs.Quads.{Setting, in_default, named, node, labelled, cell_at, rest_quad}
 use Rattle.rdf_trig.specs.Events.{Use, itself, stands, binds}
-use Rattle.rdf_trig.specs.Machine.{Level, Top, InBlock, Place, Listed, InCells, Around, Statement, Boxed, Up, Subject, At, Spelling, Dotted, Sparql, Mode, Start, Over, WantPrefix, WantPrefixIri, WantBaseIri, WantDot, AfterLabel, GraphWord, GraphBox, WantBrace, Inside, Want, After, AfterText, WantType, Box, Paren, WantVerb, Semi, AfterBox, Reply, No, Go, cell, nil, object_start, want_type, verb_start, after_subject, node_closed, box_closed, list_closed, list_end, semi, after, after_text, box, paren, after_box, subject_start, start, inside, want_brace, after_label, graph_word, graph_box, want_prefix, want_prefix_iri, want_base_iri, want_dot, step}
+use Rattle.rdf_trig.specs.Machine.{Topic, sized, unsized, Level, Top, InBlock, Place, Listed, InCells, Around, Statement, Boxed, Up, Subject, At, Spelling, Dotted, Sparql, Mode, Start, Over, WantPrefix, WantPrefixIri, WantBaseIri, WantDot, AfterLabel, GraphWord, GraphBox, WantBrace, Inside, Want, After, AfterText, WantType, Box, Paren, WantVerb, Semi, AfterBox, Reply, No, Go, cell, nil, object_start, want_type, verb_start, after_subject, node_closed, box_closed, list_closed, list_end, semi, after, after_text, box, paren, after_box, subject_start, start, inside, want_brace, after_label, graph_word, graph_box, want_prefix, want_prefix_iri, want_base_iri, want_dot, step}
 use Rattle.rdf_trig.specs.Machine.{depth, depth_at, depth_around, depth_up}
 use Rattle.rdf_trig.specs.Documents.{opens, closes, opened, closed, open_in}
 use Rattle.rdf_trig.proofs.machine.ClosingTokens.{admits}
@@ -48,23 +48,23 @@ with_binding_limits s p None = refl
 with_binding_limits s p (Some i) = refl
 
 -- after a property list nothing is held that would be lost at the end of the input
-box_quiet : (u : Up) (s : Option term.Subject) → Quiet (box_closed u s) None None
+box_quiet : (u : Up) (s : Topic) → Quiet (box_closed u s) None None
 box_quiet (Subject v) s = tt
 box_quiet (At p) s = tt
 
 -- after a collection nothing is held that would be lost at the end of the input
-list_quiet : (u : Up) (s : Option term.Subject) (early now : Option Quad) → Quiet (list_closed u s) early now
+list_quiet : (u : Up) (s : Topic) (early now : Option Quad) → Quiet (list_closed u s) early now
 list_quiet (Subject v) s early now = tt
 list_quiet (At p) s early now = tt
 
 -- after a subject nothing is held that would be lost at the end of the input
-subject_quiet : (form : DocForm) (v : Level) (s : Option term.Subject) → Quiet (after_subject form v s) None None
+subject_quiet : (form : DocForm) (v : Level) (s : Topic) → Quiet (after_subject form v s) None None
 subject_quiet form InBlock s = tt
 subject_quiet Turtle Top s = tt
 subject_quiet TriG Top s = tt
 
 -- after `[]` nothing is held that would be lost at the end of the input
-node_quiet : (form : DocForm) (u : Up) (s : Option term.Subject) → Quiet (node_closed form u s) None None
+node_quiet : (form : DocForm) (u : Up) (s : Topic) → Quiet (node_closed form u s) None None
 node_quiet form (Subject v) s = subject_quiet form v s
 node_quiet form (At p) s = tt
 
@@ -86,7 +86,7 @@ object_facts c p early OpenParen l = (omega arith, refl, refl, refl)
 object_facts c p early k l = tt
 
 -- each reply at a verb keeps to this
-verb_facts : (c : Setting) (s : Option term.Subject) (a : Around) (k : Kind) (l : Leaf) → Facts (depth_around a) c.scope k l (verb_start c s a k l)
+verb_facts : (c : Setting) (s : Topic) (a : Around) (k : Kind) (l : Leaf) → Facts (depth_around a) c.scope k l (verb_start c s a k l)
 verb_facts c s a IriRef l = (refl, inl refl, refl, tt)
 verb_facts c s a PnameLn l = (refl, refl, refl, tt)
 verb_facts c s a PnameNs l = (refl, inl refl, refl, tt)
@@ -94,28 +94,28 @@ verb_facts c s a A l = (refl, refl, refl, tt)
 verb_facts c s a k l = tt
 
 -- the ']' of a property list leads back to the depth outside
-box_depth : (u : Up) (s : Option term.Subject) → depth (box_closed u s) ≡ depth_up u
+box_depth : (u : Up) (s : Topic) → depth (box_closed u s) ≡ depth_up u
 box_depth (Subject v) s = refl
 box_depth (At p) s = refl
 
 -- the ')' of a collection leads back to the depth outside
-list_depth : (u : Up) (s : Option term.Subject) → depth (list_closed u s) ≡ depth_up u
+list_depth : (u : Up) (s : Topic) → depth (list_closed u s) ≡ depth_up u
 list_depth (Subject v) s = refl
 list_depth (At p) s = refl
 
 -- after a subject no bracket is open
-subject_depth : (form : DocForm) (v : Level) (s : Option term.Subject) → depth (after_subject form v s) ≡ 0
+subject_depth : (form : DocForm) (v : Level) (s : Topic) → depth (after_subject form v s) ≡ 0
 subject_depth form InBlock s = refl
 subject_depth Turtle Top s = refl
 subject_depth TriG Top s = refl
 
 -- after `[]` the depth is that outside
-node_depth : (form : DocForm) (u : Up) (s : Option term.Subject) → depth (node_closed form u s) ≡ depth_up u
+node_depth : (form : DocForm) (u : Up) (s : Topic) → depth (node_closed form u s) ≡ depth_up u
 node_depth form (Subject v) s = subject_depth form v s
 node_depth form (At p) s = refl
 
 -- each reply at the end of a predicate list keeps to this
-end_facts : (c : Setting) (s : Option term.Subject) (a : Around) (k : Kind) (l : Leaf) → Facts (depth_around a) c.scope k l (list_end c s a k l)
+end_facts : (c : Setting) (s : Topic) (a : Around) (k : Kind) (l : Leaf) → Facts (depth_around a) c.scope k l (list_end c s a k l)
 end_facts c s (Statement Top) Dot l = (refl, refl, refl, tt)
 end_facts c s (Statement InBlock) Dot l = (refl, refl, refl, tt)
 end_facts c s (Statement InBlock) CloseBrace l = (refl, refl, refl, tt)
@@ -125,7 +125,7 @@ end_facts c s (Statement InBlock) k l = tt
 end_facts c s (Boxed u) k l = tt
 
 -- each reply after ';' keeps to this
-semi_facts : (c : Setting) (s : Option term.Subject) (a : Around) (k : Kind) (l : Leaf) → Facts (depth_around a) c.scope k l (semi c s a k l)
+semi_facts : (c : Setting) (s : Topic) (a : Around) (k : Kind) (l : Leaf) → Facts (depth_around a) c.scope k l (semi c s a k l)
 semi_facts c s a Semicolon l = (refl, refl, refl, tt)
 semi_facts c s a IriRef l = verb_facts c s a IriRef l
 semi_facts c s a PnameLn l = verb_facts c s a PnameLn l
@@ -138,7 +138,7 @@ after_facts : (c : Setting) (p : Place) (k : Kind) (l : Leaf) → Facts (depth_a
 after_facts c (Listed s p a) Comma l = (refl, refl, refl, tt)
 after_facts c (Listed s p a) Semicolon l = (refl, refl, refl, tt)
 after_facts c (Listed s p a) k l = end_facts c s a k l
-after_facts c (InCells f n u) CloseParen l = (omega (arith, list_depth u (cell f)), refl, refl, list_quiet u (cell f) None (rest_quad c (Cell n) nil))
+after_facts c (InCells f n u) CloseParen l = (omega (arith, list_depth u (unsized (cell f))), refl, refl, list_quiet u (unsized (cell f)) None (rest_quad c (Cell n) nil))
 after_facts c (InCells f n u) k l = object_facts c (InCells f l.at.offset u) (rest_quad c (Cell n) (Blank (cell_at l))) k l
 
 -- each reply after a string keeps to this
@@ -158,16 +158,16 @@ type_facts c w p k l = tt
 
 -- each reply after '[' keeps to this
 box_facts : (form : DocForm) (c : Setting) (n : ℕ) (u : Up) (k : Kind) (l : Leaf) → Facts (depth_up u + 1) c.scope k l (box form c n u k l)
-box_facts form c n u CloseBracket l = (omega (arith, node_depth form u (node (Anon n))), refl, refl, node_quiet form u (node (Anon n)))
-box_facts form c n u k l = verb_facts c (node (Anon n)) (Boxed u) k l
+box_facts form c n u CloseBracket l = (omega (arith, node_depth form u (sized (node (Anon n)))), refl, refl, node_quiet form u (sized (node (Anon n))))
+box_facts form c n u k l = verb_facts c (sized (node (Anon n))) (Boxed u) k l
 
 -- each reply after '(' keeps to this
 paren_facts : (c : Setting) (u : Up) (k : Kind) (l : Leaf) → Facts (depth_up u + 1) c.scope k l (paren c u k l)
-paren_facts c u CloseParen l = (omega (arith, list_depth u (Some nil)), refl, refl, list_quiet u (Some nil) None None)
+paren_facts c u CloseParen l = (omega (arith, list_depth u (unsized (Some nil))), refl, refl, list_quiet u (unsized (Some nil)) None None)
 paren_facts c u k l = object_facts c (InCells l.at.offset l.at.offset u) None k l
 
 -- each reply after a property list that is a subject keeps to this
-after_box_facts : (c : Setting) (s : Option term.Subject) (v : Level) (k : Kind) (l : Leaf) → Facts 0 c.scope k l (after_box c s v k l)
+after_box_facts : (c : Setting) (s : Topic) (v : Level) (k : Kind) (l : Leaf) → Facts 0 c.scope k l (after_box c s v k l)
 after_box_facts c s v IriRef l = verb_facts c s (Statement v) IriRef l
 after_box_facts c s v PnameLn l = verb_facts c s (Statement v) PnameLn l
 after_box_facts c s v PnameNs l = verb_facts c s (Statement v) PnameNs l
@@ -176,10 +176,10 @@ after_box_facts c s v k l = end_facts c s (Statement v) k l
 
 -- each reply at the first token of a subject keeps to this
 subject_facts : (form : DocForm) (c : Setting) (v : Level) (k : Kind) (l : Leaf) → Facts 0 c.scope k l (subject_start form c v k l)
-subject_facts form c v IriRef l = (omega (arith, subject_depth form v (named (reference_in c.scope l))), inl refl, refl, subject_quiet form v (named (reference_in c.scope l)))
-subject_facts form c v PnameLn l = (omega (arith, subject_depth form v (named (name_in c.scope l))), refl, refl, subject_quiet form v (named (name_in c.scope l)))
-subject_facts form c v PnameNs l = (omega (arith, subject_depth form v (named (name_in c.scope l))), inl refl, refl, subject_quiet form v (named (name_in c.scope l)))
-subject_facts form c v LabelNode l = (omega (arith, subject_depth form v (node (labelled l))), refl, refl, subject_quiet form v (node (labelled l)))
+subject_facts form c v IriRef l = (omega (arith, subject_depth form v (sized (named (reference_in c.scope l)))), inl refl, refl, subject_quiet form v (sized (named (reference_in c.scope l))))
+subject_facts form c v PnameLn l = (omega (arith, subject_depth form v (sized (named (name_in c.scope l)))), refl, refl, subject_quiet form v (sized (named (name_in c.scope l))))
+subject_facts form c v PnameNs l = (omega (arith, subject_depth form v (sized (named (name_in c.scope l)))), inl refl, refl, subject_quiet form v (sized (named (name_in c.scope l))))
+subject_facts form c v LabelNode l = (omega (arith, subject_depth form v (sized (node (labelled l)))), refl, refl, subject_quiet form v (sized (node (labelled l))))
 subject_facts form c v OpenBracket l = (refl, refl, refl, tt)
 subject_facts form c v OpenParen l = (refl, refl, refl, refl)
 subject_facts form c v k l = tt
@@ -206,7 +206,7 @@ brace_facts c g OpenBrace l = (refl, refl, refl, tt)
 brace_facts c g k l = tt
 
 -- each reply after a label or subject keeps to this
-label_facts : (c : Setting) (g : Option term.Subject) (k : Kind) (l : Leaf) → Facts 0 c.scope k l (after_label c g k l)
+label_facts : (c : Setting) (g : Topic) (k : Kind) (l : Leaf) → Facts 0 c.scope k l (after_label c g k l)
 label_facts c g OpenBrace l = (refl, refl, refl, tt)
 label_facts c g k l = verb_facts c g (Statement Top) k l
 

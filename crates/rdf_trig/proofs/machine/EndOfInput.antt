@@ -15,7 +15,7 @@ use Rattle.rdf_trig.specs.declared.form.DocForm.{DocForm}
 use Rattle.rdf_trig.specs.Trees.{Document, end, with_directive, with_body, directive_tokens, body_tokens, document_tokens}
 use Rattle.rdf_trig.specs.Documents.{documents}
 use Rattle.rdf_trig.specs.Quads.{Setting}
-use Rattle.rdf_trig.specs.Machine.{Top, InBlock, Place as P, Listed, InCells, Around, Statement, Boxed, Mode, Start, Over, AfterText, After, Semi, AfterBox, Reply, No, Go, list_end, after, step, waiting}
+use Rattle.rdf_trig.specs.Machine.{Topic, Top, InBlock, Place as P, Listed, InCells, Around, Statement, Boxed, Mode, Start, Over, AfterText, After, Semi, AfterBox, Reply, No, Go, list_end, after, step, waiting}
 use Rattle.rdf_trig.specs.Machine.{State, Answer, refuses, accepts, accept, ran, refused, go, accept_all}
 use Rattle.rdf_trig.proofs.machine.AcceptedTokens.{accepted, first_ran}
 
@@ -25,7 +25,7 @@ IsOver No = Unit {0}
 IsOver (Go u early now c m) = m ≡ Over
 
 -- each mode that takes the end, in turn
-end_over : (c : Setting) (s : Option term.Subject) (a : Around) (l : Leaf) → IsOver (list_end c s a End l)
+end_over : (c : Setting) (s : Topic) (a : Around) (l : Leaf) → IsOver (list_end c s a End l)
 end_over c s (Statement Top) l = tt
 end_over c s (Statement InBlock) l = tt
 end_over c s (Boxed u) l = tt

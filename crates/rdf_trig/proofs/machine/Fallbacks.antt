@@ -12,12 +12,12 @@ use Rattle.rdf_trig.specs.States.{begins_verb}
 
 -- after '[' what does not close it is a verb
 pub box-else : (form : DocForm) (c : Setting) (n : ℕ) (u : M.Up) (k : Kind) (l : Leaf) → (k ≡ CloseBracket → ⊥) →
-    M.box form c n u k l ≡ M.verb_start c (node (term.Anon n)) (M.Boxed u) k l
+    M.box form c n u k l ≡ M.verb_start c (M.sized (node (term.Anon n))) (M.Boxed u) k l
 box-else form c n u CloseBracket l h = absurd (h refl)
 box-else form c n u k l h = refl
 
 -- after a label what opens no block is a verb
-pub label-else : (c : Setting) (g : Option term.Subject) (k : Kind) (l : Leaf) → (k ≡ OpenBrace → ⊥) →
+pub label-else : (c : Setting) (g : M.Topic) (k : Kind) (l : Leaf) → (k ≡ OpenBrace → ⊥) →
     M.after_label c g k l ≡ M.verb_start c g (M.Statement M.Top) k l
 label-else c g OpenBrace l h = absurd (h refl)
 label-else c g k l h = refl
@@ -28,7 +28,7 @@ inside-else form c CloseBrace l h = absurd (h refl)
 inside-else form c k l h = refl
 
 -- after ';' a verb may come
-pub semi-verb : (c : Setting) (s : Option term.Subject) (a : M.Around) (k : Kind) (l : Leaf) → begins_verb k ≡ true → M.semi c s a k l ≡ M.verb_start c s a k l
+pub semi-verb : (c : Setting) (s : M.Topic) (a : M.Around) (k : Kind) (l : Leaf) → begins_verb k ≡ true → M.semi c s a k l ≡ M.verb_start c s a k l
 semi-verb c s a IriRef l h = refl
 semi-verb c s a PnameNs l h = refl
 semi-verb c s a PnameLn l h = refl
@@ -36,7 +36,7 @@ semi-verb c s a A l h = refl
 semi-verb c s a k l h = absurd (false≢true h)
 
 -- after ';' what is no verb and no further ';' ends the predicate list
-pub semi-else : (c : Setting) (s : Option term.Subject) (a : M.Around) (k : Kind) (l : Leaf) → begins_verb k ≡ false → (k ≡ Semicolon → ⊥) →
+pub semi-else : (c : Setting) (s : M.Topic) (a : M.Around) (k : Kind) (l : Leaf) → begins_verb k ≡ false → (k ≡ Semicolon → ⊥) →
     M.semi c s a k l ≡ M.list_end c s a k l
 semi-else c s a IriRef l h n = absurd (cc)
 semi-else c s a PnameNs l h n = absurd (cc)
@@ -46,7 +46,7 @@ semi-else c s a Semicolon l h n = absurd (n refl)
 semi-else c s a k l h n = refl
 
 -- after a property list that is a subject a verb may come
-pub after_box-verb : (c : Setting) (s : Option term.Subject) (v : M.Level) (k : Kind) (l : Leaf) → begins_verb k ≡ true →
+pub after_box-verb : (c : Setting) (s : M.Topic) (v : M.Level) (k : Kind) (l : Leaf) → begins_verb k ≡ true →
     M.after_box c s v k l ≡ M.verb_start c s (M.Statement v) k l
 after_box-verb c s v IriRef l h = refl
 after_box-verb c s v PnameNs l h = refl
@@ -55,7 +55,7 @@ after_box-verb c s v A l h = refl
 after_box-verb c s v k l h = absurd (false≢true h)
 
 -- after a property list that is a subject what is no verb ends the statement
-pub after_box-else : (c : Setting) (s : Option term.Subject) (v : M.Level) (k : Kind) (l : Leaf) → begins_verb k ≡ false →
+pub after_box-else : (c : Setting) (s : M.Topic) (v : M.Level) (k : Kind) (l : Leaf) → begins_verb k ≡ false →
     M.after_box c s v k l ≡ M.list_end c s (M.Statement v) k l
 after_box-else c s v IriRef l h = absurd (cc)
 after_box-else c s v PnameNs l h = absurd (cc)
@@ -69,7 +69,7 @@ pub cells-else : (c : Setting) (f n : ℕ) (u : M.Up) (k : Kind) (l : Leaf) → 
 cells-else c f n u CloseParen l h = absurd (h refl)
 cells-else c f n u k l h = refl
 
-pub listed-else : (c : Setting) (s : Option term.Subject) (p : Option (List ℕ)) (a : M.Around) (k : Kind) (l : Leaf) → (k ≡ Comma → ⊥) → (k ≡ Semicolon → ⊥) →
+pub listed-else : (c : Setting) (s : M.Topic) (p : M.Spelt) (a : M.Around) (k : Kind) (l : Leaf) → (k ≡ Comma → ⊥) → (k ≡ Semicolon → ⊥) →
     M.after c (M.Listed s p a) k l ≡ M.list_end c s a k l
 listed-else c s p a Comma l h i = absurd (h refl)
 listed-else c s p a Semicolon l h i = absurd (i refl)

@@ -16,7 +16,7 @@ use Rattle.rdf_trig.specs.Trees as tree
 use Rattle.rdf_trig.specs.Names.{prefix_of, reference_in, name_in, iri_in, with_base, with_binding, is_full}
 use Rattle.rdf_trig.specs.Quads.{Setting, in_default, in_graph, named, node, resource, anon_at, labelled, blank_of, short_value, long_value, lexical, language, plain_literal, tagged_literal, typed_literal, literal_of, iri_leaf, string_leaf, literal_leaf, object_leaf, cell_at, items_of, collection_of, list_of, label_of, rest_quad}
 use Rattle.rdf_trig.specs.Events.{Use, itself, binds, Event, Took, take, name, give, iri_events, string_events, tag_events, blank_object_events, literal_events, object_events, collection_events, items_events, rest_events, list_events, predicates_events, more_events, commas_events, maybe_events, triples_events, label_events, maybe_block_events, wrapped_events, document_events, tokens}
-use Rattle.rdf_trig.specs.Machine.{Level, Top, InBlock, Place, Listed, InCells, Around, Statement, Boxed, Up, Subject, At, Spelling, Dotted, Sparql, Mode, Start, Over, WantPrefix, WantPrefixIri, WantBaseIri, WantDot, AfterLabel, GraphWord, GraphBox, WantBrace, Inside, Want, After, AfterText, WantType, Box, Paren, WantVerb, Semi, AfterBox, Reply, No, Go, cell, subject_at, verb_at, quad_at, quad_up, nil, object_start, want_type, verb_start, after_subject, node_closed, box_closed, list_closed, list_end, semi, after, after_text, box, paren, after_box, subject_start, start, inside, want_brace, after_label, graph_word, graph_box, want_prefix, want_prefix_iri, want_base_iri, want_dot, step, waiting, fronted, put, stop, go_on, run}
+use Rattle.rdf_trig.specs.Machine.{Topic, sized, unsized, spelt, type_verb, Level, Top, InBlock, Place, Listed, InCells, Around, Statement, Boxed, Up, Subject, At, Spelling, Dotted, Sparql, Mode, Start, Over, WantPrefix, WantPrefixIri, WantBaseIri, WantDot, AfterLabel, GraphWord, GraphBox, WantBrace, Inside, Want, After, AfterText, WantType, Box, Paren, WantVerb, Semi, AfterBox, Reply, No, Go, cell, subject_at, verb_at, quad_at, quad_up, nil, object_start, want_type, verb_start, after_subject, node_closed, box_closed, list_closed, list_end, semi, after, after_text, box, paren, after_box, subject_start, start, inside, want_brace, after_label, graph_word, graph_box, want_prefix, want_prefix_iri, want_base_iri, want_dot, step, waiting, fronted, put, stop, go_on, run}
 
 -- what a bracket was
 data Was : Type 0 where
@@ -74,7 +74,7 @@ behind_subject TriG c Top s r = behind_label TriG c s r
 
 abbrev mutual
   place_events : (form : DocForm) → Setting → (p : Place) → RestPlace form p → List Event
-  place_events form c (Listed s p a) r = commas_events c r.0 s p (more_events c r.1 s (around_events form c a s r.2))
+  place_events form c (Listed s p a) r = commas_events c r.0 s.term p.iri (more_events c r.1 s.term (around_events form c a s.term r.2))
   place_events form c (InCells f n u) r = rest_events c r.0 (Cell n) r.1 (up_events form c u was_list (cell f) r.2)
 
   up_events : (form : DocForm) → Setting → (u : Up) → (was : Was) → Option term.Subject → RestUp form u was → List Event
@@ -159,7 +159,7 @@ all_events form c (WantPrefix w) r = take PnameNs r.0 (binding_events form c.sco
 all_events form c (WantPrefixIri w p) r = binding_events form c.scope p w r
 all_events form c (WantBaseIri w) r = name IriRef r.0 (reference_in c.scope r.0) (spelled_events form (with_base c.scope (reference_in c.scope r.0)) w r.1)
 all_events form c WantDot r = take Dot r.0 (document_events c.scope r.1)
-all_events form c (AfterLabel s) r = behind_label form c s r
+all_events form c (AfterLabel s) r = behind_label form c s.term r
 all_events form c GraphWord r = label_events c.scope r.0 (brace_events form c (label_of c.scope r.0) (r.1, r.2))
 all_events form c (GraphBox n) r = take CloseBracket r.0 (brace_events form c (node (Anon n)) (r.1, r.2))
 all_events form c (WantBrace g) r = brace_events form c g r
@@ -170,9 +170,9 @@ all_events form c (AfterText w p) r = end_events c w p r.0 (place_events form c 
 all_events form c (WantType w p) r = iri_events c.scope r.0 (give (quad_at c p (typed_literal w (iri_in c.scope r.0))) (place_events form c p r.1))
 all_events form c (Box n u) r = box_events form c n u r
 all_events form c (Paren u) r = give (quad_up c u (items_of r.0)) (items_events c r.0 r.1 (up_events form c u was_list (Some (items_of r.0)) r.2))
-all_events form c (WantVerb s a) r = predicates_events c r.0 s (around_events form c a s r.1)
-all_events form c (Semi s a) r = semi_events c s r.0 (around_events form c a s r.1)
-all_events form c (AfterBox s v) r = maybe_events c s r.0 (level_events form c v r.1)
+all_events form c (WantVerb s a) r = predicates_events c r.0 s.term (around_events form c a s.term r.1)
+all_events form c (Semi s a) r = semi_events c s.term r.0 (around_events form c a s.term r.1)
+all_events form c (AfterBox s v) r = maybe_events c s.term r.0 (level_events form c v r.1)
 
 -- some rest of a tree has these events, so that the tokens to come are those of a tree
 abbrev Found : DocForm → Setting → Mode → List Event → Type 0
@@ -215,27 +215,27 @@ collection_body Turtle x s es ps (d, rest) e = (with_body record { triples = sub
 collection_body TriG x s es ps (d, rest) e = (with_body (triples2 (collection_triples2 x ps d)) rest, e)
 
 -- what is to come after a subject, read as a rest of its production
-as_subject : (form : DocForm) (v : Level) (s : Option term.Subject) (c : Setting) (r : Rest form (after_subject form v s)) →
-    (x : RestSubject form v) × (all_events form c (after_subject form v s) r ≡ behind_subject form c v s x)
+as_subject : (form : DocForm) (v : Level) (s : Topic) (c : Setting) (r : Rest form (after_subject form v s)) →
+    (x : RestSubject form v) × (all_events form c (after_subject form v s) r ≡ behind_subject form c v s.term x)
 as_subject form InBlock s c r = (r, refl)
 as_subject Turtle Top s c r = (r, refl)
 as_subject TriG Top s c r = (r, refl)
 
 -- what is to come after a property list, read as a rest of its production
-as_box : (form : DocForm) (u : Up) (s : Option term.Subject) (c : Setting) (r : Rest form (box_closed u s)) →
-    (x : RestUp form u was_box) × (all_events form c (box_closed u s) r ≡ up_events form c u was_box s x)
+as_box : (form : DocForm) (u : Up) (s : Topic) (c : Setting) (r : Rest form (box_closed u s)) →
+    (x : RestUp form u was_box) × (all_events form c (box_closed u s) r ≡ up_events form c u was_box s.term x)
 as_box form (Subject v) s c r = (r, refl)
 as_box form (At p) s c r = (r, refl)
 
 -- what is to come after `[]`, read as a rest of its production
-as_node : (form : DocForm) (u : Up) (s : Option term.Subject) (c : Setting) (r : Rest form (node_closed form u s)) →
-    (x : RestUp form u was_node) × (all_events form c (node_closed form u s) r ≡ up_events form c u was_node s x)
+as_node : (form : DocForm) (u : Up) (s : Topic) (c : Setting) (r : Rest form (node_closed form u s)) →
+    (x : RestUp form u was_node) × (all_events form c (node_closed form u s) r ≡ up_events form c u was_node s.term x)
 as_node form (Subject v) s c r = as_subject form v s c r
 as_node form (At p) s c r = (r, refl)
 
 -- what is to come after a collection, read as a rest of its production
-as_list : (form : DocForm) (u : Up) (s : Option term.Subject) (c : Setting) (r : Rest form (list_closed u s)) →
-    (x : RestUp form u was_list) × (all_events form c (list_closed u s) r ≡ up_events form c u was_list s x)
+as_list : (form : DocForm) (u : Up) (s : Topic) (c : Setting) (r : Rest form (list_closed u s)) →
+    (x : RestUp form u was_list) × (all_events form c (list_closed u s) r ≡ up_events form c u was_list s.term x)
 as_list form (Subject v) s c r = (r, refl)
 as_list form (At p) s c r = (r, refl)
 
@@ -262,9 +262,9 @@ module _ (form : DocForm) (next : Setting → Mode → Option (List Event))
       let f = ih c m x.0 x.1 in
       (f.0, x.2 ∙ ap (λ fs. give w (Took (token k l) u ∷ give early (give now fs))) f.1)
 
-  list_end_found : (c : Setting) (s : Option term.Subject) (a : Around) (k : Kind) (l : Leaf) (w : Option Quad) (es : List Event) →
+  list_end_found : (c : Setting) (s : Topic) (a : Around) (k : Kind) (l : Leaf) (w : Option Quad) (es : List Event) →
       fronted w (go_on (token k l) (list_end c s a k l) next) ≡ Some es →
-      (r : RestAround form a) × (es ≡ give w (around_events form c a s r))
+      (r : RestAround form a) × (es ≡ give w (around_events form c a s.term r))
   list_end_found c s (Statement Top) Dot l w es e = let b = behind_it Dot l w itself None None c Start es e in ((l, b.0), b.1)
   list_end_found c s (Statement Top) k l w es e = absurd (let z : None ≡ Some es = e in cc)
   list_end_found c s (Statement InBlock) Dot l w es e = let b = behind_it Dot l w itself None None c Inside es e in (inl (l, b.0.0, b.0.1, b.0.2), b.1)
@@ -329,11 +329,11 @@ module _ (form : DocForm) (next : Setting → Mode → Option (List Event))
       let b = behind_it Comma l w itself None None c (Want (Listed s v a)) es e in ((comma l b.0.0 b.0.1.0, b.0.1.1, b.0.1.2), b.1)
   after_found c (Listed s v a) w Semicolon l es e =
       let b = behind_it Semicolon l w itself None None c (Semi s a) es e in
-      ((no_commas, more_of l b.0.0, b.0.1), b.1 ∙ ap (give w) (more_of-events c s l b.0.0 (around_events form c a s b.0.1)))
+      ((no_commas, more_of l b.0.0, b.0.1), b.1 ∙ ap (give w) (more_of-events c s.term l b.0.0 (around_events form c a s.term b.0.1)))
   after_found c (Listed s v a) w k l es e = let x = list_end_found c s a k l w es e in ((no_commas, no_more, x.0), x.1)
   after_found c (InCells f n u) w CloseParen l es e =
-      let b = behind_it CloseParen l w itself None (rest_quad c (Cell n) nil) c (list_closed u (cell f)) es e in
-      let x = as_list form u (cell f) c b.0 in
+      let b = behind_it CloseParen l w itself None (rest_quad c (Cell n) nil) c (list_closed u (unsized (cell f))) es e in
+      let x = as_list form u (unsized (cell f)) c b.0 in
       ((no_items, l, x.0), b.1 ∙ ap (λ fs. give w (take CloseParen l (give (rest_quad c (Cell n) nil) fs))) x.1)
   after_found c (InCells f n u) w k l es e =
       let x = object_found c (InCells f l.at.offset u) (rest_quad c (Cell n) (Blank (cell_at l))) w k l es e in (
@@ -342,28 +342,28 @@ module _ (form : DocForm) (next : Setting → Mode → Option (List Event))
       )
 
   -- a predicate list from its verb
-  abbrev PredicatesFound : Setting → Option term.Subject → Around → List Event → Type 0
-  PredicatesFound c s a es = (r : PredicateObjectList × RestAround form a) × (es ≡ predicates_events c r.0 s (around_events form c a s r.1))
+  abbrev PredicatesFound : Setting → Topic → Around → List Event → Type 0
+  PredicatesFound c s a es = (r : PredicateObjectList × RestAround form a) × (es ≡ predicates_events c r.0 s.term (around_events form c a s.term r.1))
 
-  predicate_found : (i : Iri) (c : Setting) (s : Option term.Subject) (a : Around) (es : List Event) (r : Rest form (Want (Listed s (iri_in c.scope i) a))) →
-      es ≡ iri_events c.scope i (all_events form c (Want (Listed s (iri_in c.scope i) a)) r) → PredicatesFound c s a es
+  predicate_found : (i : Iri) (c : Setting) (s : Topic) (a : Around) (es : List Event) (r : Rest form (Want (Listed s (spelt (iri_in c.scope i)) a))) →
+      es ≡ iri_events c.scope i (all_events form c (Want (Listed s (spelt (iri_in c.scope i)) a)) r) → PredicatesFound c s a es
   predicate_found i c s a es r e = ((predicate_objects (predicate i) (objects r.0 r.1.0) r.1.1, r.1.2), e)
 
-  verb_found : (c : Setting) (s : Option term.Subject) (a : Around) (k : Kind) (l : Leaf) (es : List Event) →
+  verb_found : (c : Setting) (s : Topic) (a : Around) (k : Kind) (l : Leaf) (es : List Event) →
       fronted None (go_on (token k l) (verb_start c s a k l) next) ≡ Some es → PredicatesFound c s a es
-  verb_found c s a IriRef l es e = let b = behind_it IriRef l None _ None None c (Want (Listed s (reference_in c.scope l) a)) es e in predicate_found (iri_ref l) c s a es b.0 b.1
-  verb_found c s a PnameLn l es e = let b = behind_it PnameLn l None _ None None c (Want (Listed s (name_in c.scope l) a)) es e in predicate_found (prefixed (pname_ln l)) c s a es b.0 b.1
-  verb_found c s a PnameNs l es e = let b = behind_it PnameNs l None _ None None c (Want (Listed s (name_in c.scope l) a)) es e in predicate_found (prefixed (pname_ns l)) c s a es b.0 b.1
+  verb_found c s a IriRef l es e = let b = behind_it IriRef l None _ None None c (Want (Listed s (spelt (reference_in c.scope l)) a)) es e in predicate_found (iri_ref l) c s a es b.0 b.1
+  verb_found c s a PnameLn l es e = let b = behind_it PnameLn l None _ None None c (Want (Listed s (spelt (name_in c.scope l)) a)) es e in predicate_found (prefixed (pname_ln l)) c s a es b.0 b.1
+  verb_found c s a PnameNs l es e = let b = behind_it PnameNs l None _ None None c (Want (Listed s (spelt (name_in c.scope l)) a)) es e in predicate_found (prefixed (pname_ns l)) c s a es b.0 b.1
   verb_found c s a A l es e =
-      let b = behind_it A l None itself None None c (Want (Listed s (Some (known_chars RdfType)) a)) es e in
+      let b = behind_it A l None itself None None c (Want (Listed s type_verb a)) es e in
       ((predicate_objects (type_word l) (objects b.0.0 b.0.1.0) b.0.1.1, b.0.1.2), b.1)
   verb_found c s a k l es e = absurd (let z : None ≡ Some es = e in cc)
 
-  semi_found : (c : Setting) (s : Option term.Subject) (a : Around) (k : Kind) (l : Leaf) (es : List Event) →
+  semi_found : (c : Setting) (s : Topic) (a : Around) (k : Kind) (l : Leaf) (es : List Event) →
       fronted None (go_on (token k l) (semi c s a k l) next) ≡ Some es → Found form c (Semi s a) es
   semi_found c s a Semicolon l es e =
       let b = behind_it Semicolon l None itself None None c (Semi s a) es e in
-      ((inr (more_of l b.0.0), b.0.1), b.1 ∙ more_of-events c s l b.0.0 (around_events form c a s b.0.1))
+      ((inr (more_of l b.0.0), b.0.1), b.1 ∙ more_of-events c s.term l b.0.0 (around_events form c a s.term b.0.1))
   semi_found c s a IriRef l es e = let x = verb_found c s a IriRef l es e in ((inl x.0.0, x.0.1), x.1)
   semi_found c s a PnameLn l es e = let x = verb_found c s a PnameLn l es e in ((inl x.0.0, x.0.1), x.1)
   semi_found c s a PnameNs l es e = let x = verb_found c s a PnameNs l es e in ((inl x.0.0, x.0.1), x.1)
@@ -373,16 +373,16 @@ module _ (form : DocForm) (next : Setting → Mode → Option (List Event))
   box_mode_found : (c : Setting) (n : ℕ) (u : Up) (k : Kind) (l : Leaf) (es : List Event) →
       fronted None (go_on (token k l) (box form c n u k l) next) ≡ Some es → Found form c (Box n u) es
   box_mode_found c n u CloseBracket l es e =
-      let b = behind_it CloseBracket l None itself None None c (node_closed form u (node (Anon n))) es e in
-      let x = as_node form u (node (Anon n)) c b.0 in
+      let b = behind_it CloseBracket l None itself None None c (node_closed form u (sized (node (Anon n)))) es e in
+      let x = as_node form u (sized (node (Anon n))) c b.0 in
       (inl (l, x.0), b.1 ∙ ap (take CloseBracket l) x.1)
-  box_mode_found c n u k l es e = let x = verb_found c (node (Anon n)) (Boxed u) k l es e in (inr x.0, x.1)
+  box_mode_found c n u k l es e = let x = verb_found c (sized (node (Anon n))) (Boxed u) k l es e in (inr x.0, x.1)
 
   paren_found : (c : Setting) (u : Up) (k : Kind) (l : Leaf) (es : List Event) →
       fronted (waiting c (Paren u) k l) (go_on (token k l) (paren c u k l) next) ≡ Some es → Found form c (Paren u) es
   paren_found c u CloseParen l es e =
-      let b = behind_it CloseParen l (quad_up c u nil) itself None None c (list_closed u (Some nil)) es e in
-      let x = as_list form u (Some nil) c b.0 in
+      let b = behind_it CloseParen l (quad_up c u nil) itself None None c (list_closed u (unsized (Some nil))) es e in
+      let x = as_list form u (unsized (Some nil)) c b.0 in
       ((no_items, l, x.0), b.1 ∙ ap (λ fs. give (quad_up c u nil) (take CloseParen l fs)) x.1)
   paren_found c u k l es e =
       let x = object_found c (InCells l.at.offset l.at.offset u) None (quad_up c u (Blank (cell_at l))) k l es e in (
@@ -406,7 +406,7 @@ module _ (form : DocForm) (next : Setting → Mode → Option (List Event))
   want_type_found c w p PnameNs l es e = let b = behind_it PnameNs l None _ None _ c (After p) es e in ((prefixed (pname_ns l), b.0), b.1)
   want_type_found c w p k l es e = absurd (let z : None ≡ Some es = e in cc)
 
-  after_box_found : (c : Setting) (s : Option term.Subject) (v : Level) (k : Kind) (l : Leaf) (es : List Event) →
+  after_box_found : (c : Setting) (s : Topic) (v : Level) (k : Kind) (l : Leaf) (es : List Event) →
       fronted None (go_on (token k l) (after_box c s v k l) next) ≡ Some es → Found form c (AfterBox s v) es
   after_box_found c s v IriRef l es e = let x = verb_found c s (Statement v) IriRef l es e in ((Some x.0.0, x.0.1), x.1)
   after_box_found c s v PnameLn l es e = let x = verb_found c s (Statement v) PnameLn l es e in ((Some x.0.0, x.0.1), x.1)
@@ -423,17 +423,17 @@ module _ (form : DocForm) (next : Setting → Mode → Option (List Event))
   block_box c l es (inl (d, (ps, r))) e = (subject_triples (blank_subject (anon l d)) ps, r, e)
   block_box c l es (inr (ps, (d, (qs, r)))) e = (list_triples (property_list l ps d) qs, r, e)
 
-  block_iri : (i : Iri) (c : Setting) (es : List Event) (r : Rest form (WantVerb (named (iri_in c.scope i)) (Statement InBlock))) →
-      es ≡ iri_events c.scope i (all_events form c (WantVerb (named (iri_in c.scope i)) (Statement InBlock)) r) → TriplesFound c es
+  block_iri : (i : Iri) (c : Setting) (es : List Event) (r : Rest form (WantVerb (sized (named (iri_in c.scope i))) (Statement InBlock))) →
+      es ≡ iri_events c.scope i (all_events form c (WantVerb (sized (named (iri_in c.scope i))) (Statement InBlock)) r) → TriplesFound c es
   block_iri i c es r e = (subject_triples (iri_subject i) r.0, r.1, e)
 
   block_triples : (c : Setting) (k : Kind) (l : Leaf) (es : List Event) → fronted None (go_on (token k l) (subject_start form c InBlock k l) next) ≡ Some es →
       TriplesFound c es
-  block_triples c IriRef l es e = let b = behind_it IriRef l None _ None None c (WantVerb (named (reference_in c.scope l)) (Statement InBlock)) es e in block_iri (iri_ref l) c es b.0 b.1
-  block_triples c PnameLn l es e = let b = behind_it PnameLn l None _ None None c (WantVerb (named (name_in c.scope l)) (Statement InBlock)) es e in block_iri (prefixed (pname_ln l)) c es b.0 b.1
-  block_triples c PnameNs l es e = let b = behind_it PnameNs l None _ None None c (WantVerb (named (name_in c.scope l)) (Statement InBlock)) es e in block_iri (prefixed (pname_ns l)) c es b.0 b.1
+  block_triples c IriRef l es e = let b = behind_it IriRef l None _ None None c (WantVerb (sized (named (reference_in c.scope l))) (Statement InBlock)) es e in block_iri (iri_ref l) c es b.0 b.1
+  block_triples c PnameLn l es e = let b = behind_it PnameLn l None _ None None c (WantVerb (sized (named (name_in c.scope l))) (Statement InBlock)) es e in block_iri (prefixed (pname_ln l)) c es b.0 b.1
+  block_triples c PnameNs l es e = let b = behind_it PnameNs l None _ None None c (WantVerb (sized (named (name_in c.scope l))) (Statement InBlock)) es e in block_iri (prefixed (pname_ns l)) c es b.0 b.1
   block_triples c LabelNode l es e =
-      let b = behind_it LabelNode l None itself None None c (WantVerb (node (labelled l)) (Statement InBlock)) es e in (subject_triples (blank_subject (label l)) b.0.0, b.0.1, b.1)
+      let b = behind_it LabelNode l None itself None None c (WantVerb (sized (node (labelled l))) (Statement InBlock)) es e in (subject_triples (blank_subject (label l)) b.0.0, b.0.1, b.1)
   block_triples c OpenBracket l es e = let b = behind_it OpenBracket l None itself None None c (Box l.at.offset (Subject InBlock)) es e in block_box c l es b.0 b.1
   block_triples c OpenParen l es e =
       let b = behind_it OpenParen l None itself None None c (Paren (Subject InBlock)) es e in (subject_triples (collection_subject (collection l b.0.0 b.0.1)) b.0.2.0, b.0.2.1, b.1)
@@ -451,9 +451,9 @@ module _ (form : DocForm) (next : Setting → Mode → Option (List Event))
   inside_found c k l es e = let x = block_triples c k l es e in block_of c es x.0 x.1 x.2
 
   -- statements at the top
-  start_iri : (i : Iri) (c : Setting) (es : List Event) (r : Rest form (after_subject form Top (named (iri_in c.scope i)))) →
-      es ≡ iri_events c.scope i (all_events form (in_default c.scope) (after_subject form Top (named (iri_in c.scope i))) r) → Found form c Start es
-  start_iri i c es r e = let x = as_subject form Top (named (iri_in c.scope i)) (in_default c.scope) r in iri_body form i c.scope es x.0 (e ∙ ap (iri_events c.scope i) x.1)
+  start_iri : (i : Iri) (c : Setting) (es : List Event) (r : Rest form (after_subject form Top (sized (named (iri_in c.scope i))))) →
+      es ≡ iri_events c.scope i (all_events form (in_default c.scope) (after_subject form Top (sized (named (iri_in c.scope i)))) r) → Found form c Start es
+  start_iri i c es r e = let x = as_subject form Top (sized (named (iri_in c.scope i))) (in_default c.scope) r in iri_body form i c.scope es x.0 (e ∙ ap (iri_events c.scope i) x.1)
 
   start_box : (c : Setting) (l : Leaf) (es : List Event) (r : Rest form (Box l.at.offset (Subject Top))) →
       es ≡ take OpenBracket l (box_events form (in_default c.scope) l.at.offset (Subject Top) r) →
@@ -463,12 +463,12 @@ module _ (form : DocForm) (next : Setting → Mode → Option (List Event))
 
   subject_found : (c : Setting) (k : Kind) (l : Leaf) (es : List Event) →
       fronted None (go_on (token k l) (subject_start form (in_default c.scope) Top k l) next) ≡ Some es → Found form c Start es
-  subject_found c IriRef l es e = let b = behind_it IriRef l None _ None None (in_default c.scope) (after_subject form Top (named (reference_in c.scope l))) es e in start_iri (iri_ref l) c es b.0 b.1
-  subject_found c PnameLn l es e = let b = behind_it PnameLn l None _ None None (in_default c.scope) (after_subject form Top (named (name_in c.scope l))) es e in start_iri (prefixed (pname_ln l)) c es b.0 b.1
-  subject_found c PnameNs l es e = let b = behind_it PnameNs l None _ None None (in_default c.scope) (after_subject form Top (named (name_in c.scope l))) es e in start_iri (prefixed (pname_ns l)) c es b.0 b.1
+  subject_found c IriRef l es e = let b = behind_it IriRef l None _ None None (in_default c.scope) (after_subject form Top (sized (named (reference_in c.scope l)))) es e in start_iri (iri_ref l) c es b.0 b.1
+  subject_found c PnameLn l es e = let b = behind_it PnameLn l None _ None None (in_default c.scope) (after_subject form Top (sized (named (name_in c.scope l)))) es e in start_iri (prefixed (pname_ln l)) c es b.0 b.1
+  subject_found c PnameNs l es e = let b = behind_it PnameNs l None _ None None (in_default c.scope) (after_subject form Top (sized (named (name_in c.scope l)))) es e in start_iri (prefixed (pname_ns l)) c es b.0 b.1
   subject_found c LabelNode l es e =
-      let b = behind_it LabelNode l None itself None None (in_default c.scope) (after_subject form Top (node (labelled l))) es e in
-      let x = as_subject form Top (node (labelled l)) (in_default c.scope) b.0 in
+      let b = behind_it LabelNode l None itself None None (in_default c.scope) (after_subject form Top (sized (node (labelled l)))) es e in
+      let x = as_subject form Top (sized (node (labelled l))) (in_default c.scope) b.0 in
       blank_body form (label l) c.scope es x.0 (b.1 ∙ ap (take LabelNode l) x.1)
   subject_found c OpenBracket l es e = let b = behind_it OpenBracket l None itself None None (in_default c.scope) (Box l.at.offset (Subject Top)) es e in start_box c l es b.0 b.1
   subject_found c OpenParen l es e =
@@ -485,9 +485,9 @@ module _ (form : DocForm) (next : Setting → Mode → Option (List Event))
       (r : Rest form (WantBaseIri w)) × (es ≡ take k l (all_events form c (WantBaseIri w) r))
   base_found c k w l es e = behind_it k l None itself None None c (WantBaseIri w) es e
 
-  after_label_found : (c : Setting) (g : Option term.Subject) (k : Kind) (l : Leaf) (es : List Event) →
+  after_label_found : (c : Setting) (g : Topic) (k : Kind) (l : Leaf) (es : List Event) →
       fronted None (go_on (token k l) (after_label c g k l) next) ≡ Some es → Found form c (AfterLabel g) es
-  after_label_found c g OpenBrace l es e = let b = behind_it OpenBrace l None itself None None (in_graph c.scope g) Inside es e in (inr (wrapped l b.0.0 b.0.1, b.0.2), b.1)
+  after_label_found c g OpenBrace l es e = let b = behind_it OpenBrace l None itself None None (in_graph c.scope g.term) Inside es e in (inr (wrapped l b.0.0 b.0.1, b.0.2), b.1)
   after_label_found c g k l es e = let x = verb_found c g (Statement Top) k l es e in (inl (x.0.0, x.0.1), x.1)
 
   want_brace_found : (c : Setting) (g : Option term.Subject) (k : Kind) (l : Leaf) (es : List Event) →

@@ -12,7 +12,7 @@ use Rattle.rdf_lines.specs.Lines.{Leaf, leaf_of}
 use Rattle.rdf_trig.specs.declared.form.DocForm.{DocForm}
 use Rattle.rdf_trig.specs.declared.form.DocForm.TheVariants.{TriG}
 use Rattle.rdf_trig.specs.Quads.{Setting, in_default, node, cell_at, rest_quad}
-use Rattle.rdf_trig.specs.Machine.{Level, Top, InBlock, Place, Listed, InCells, Around, Statement, Boxed, Up, Spelling, Mode, Start, Over, WantPrefix, WantPrefixIri, WantBaseIri, WantDot, AfterLabel, GraphWord, GraphBox, WantBrace, Inside, Want, After, AfterText, WantType, Box, Paren, WantVerb, Semi, AfterBox, Reply, No, Go, object_start, want_type, verb_start, list_end, semi, after, after_text, box, paren, after_box, subject_start, start, inside, want_brace, after_label, graph_word, graph_box, want_prefix, want_prefix_iri, want_base_iri, want_dot, step, waiting}
+use Rattle.rdf_trig.specs.Machine.{Topic, sized, Level, Top, InBlock, Place, Listed, InCells, Around, Statement, Boxed, Up, Spelling, Mode, Start, Over, WantPrefix, WantPrefixIri, WantBaseIri, WantDot, AfterLabel, GraphWord, GraphBox, WantBrace, Inside, Want, After, AfterText, WantType, Box, Paren, WantVerb, Semi, AfterBox, Reply, No, Go, object_start, want_type, verb_start, list_end, semi, after, after_text, box, paren, after_box, subject_start, start, inside, want_brace, after_label, graph_word, graph_box, want_prefix, want_prefix_iri, want_base_iri, want_dot, step, waiting}
 use Rattle.rdf_trig.specs.Machine.{kept, State, Answer, refuses, accepts, accept, at_start, ran, refused, go, accept_all}
 use Rattle.rdf_trig.proofs.machine.AcceptedTokens.{accepted, first_ran}
 
@@ -84,14 +84,14 @@ object_few c p early OpenBracket l = both _ early _ refl
 object_few c p early OpenParen l = first _ early
 object_few c p early k l = tt
 
-verb_few : (c : Setting) (s : Option term.Subject) (a : Around) (k : Kind) (l : Leaf) → Few k (verb_start c s a k l)
+verb_few : (c : Setting) (s : Topic) (a : Around) (k : Kind) (l : Leaf) → Few k (verb_start c s a k l)
 verb_few c s a IriRef l = quiet _
 verb_few c s a PnameLn l = quiet _
 verb_few c s a PnameNs l = quiet _
 verb_few c s a A l = quiet _
 verb_few c s a k l = tt
 
-end_few : (c : Setting) (s : Option term.Subject) (a : Around) (k : Kind) (l : Leaf) → Few k (list_end c s a k l)
+end_few : (c : Setting) (s : Topic) (a : Around) (k : Kind) (l : Leaf) → Few k (list_end c s a k l)
 end_few c s (Statement Top) Dot l = quiet _
 end_few c s (Statement InBlock) Dot l = quiet _
 end_few c s (Statement InBlock) CloseBrace l = quiet _
@@ -100,7 +100,7 @@ end_few c s (Statement Top) k l = tt
 end_few c s (Statement InBlock) k l = tt
 end_few c s (Boxed u) k l = tt
 
-semi_few : (c : Setting) (s : Option term.Subject) (a : Around) (k : Kind) (l : Leaf) → Few k (semi c s a k l)
+semi_few : (c : Setting) (s : Topic) (a : Around) (k : Kind) (l : Leaf) → Few k (semi c s a k l)
 semi_few c s a Semicolon l = quiet _
 semi_few c s a IriRef l = verb_few c s a IriRef l
 semi_few c s a PnameLn l = verb_few c s a PnameLn l
@@ -130,13 +130,13 @@ type_few c w p k l = tt
 
 box_few : (form : DocForm) (c : Setting) (n : ℕ) (u : Up) (k : Kind) (l : Leaf) → Few k (box form c n u k l)
 box_few form c n u CloseBracket l = quiet _
-box_few form c n u k l = verb_few c (node (Anon n)) (Boxed u) k l
+box_few form c n u k l = verb_few c (sized (node (Anon n))) (Boxed u) k l
 
 paren_few : (c : Setting) (u : Up) (k : Kind) (l : Leaf) → Few k (paren c u k l)
 paren_few c u CloseParen l = quiet _
 paren_few c u k l = object_few c (InCells l.at.offset l.at.offset u) None k l
 
-after_box_few : (c : Setting) (s : Option term.Subject) (v : Level) (k : Kind) (l : Leaf) → Few k (after_box c s v k l)
+after_box_few : (c : Setting) (s : Topic) (v : Level) (k : Kind) (l : Leaf) → Few k (after_box c s v k l)
 after_box_few c s v IriRef l = verb_few c s (Statement v) IriRef l
 after_box_few c s v PnameLn l = verb_few c s (Statement v) PnameLn l
 after_box_few c s v PnameNs l = verb_few c s (Statement v) PnameNs l
@@ -170,7 +170,7 @@ brace_few : (c : Setting) (g : Option term.Subject) (k : Kind) (l : Leaf) → Fe
 brace_few c g OpenBrace l = quiet _
 brace_few c g k l = tt
 
-label_few : (c : Setting) (g : Option term.Subject) (k : Kind) (l : Leaf) → Few k (after_label c g k l)
+label_few : (c : Setting) (g : Topic) (k : Kind) (l : Leaf) → Few k (after_label c g k l)
 label_few c g OpenBrace l = quiet _
 label_few c g k l = verb_few c g (Statement Top) k l
 

@@ -19,7 +19,7 @@ use Rattle.rdf_trig.specs.Names.{prefix_of, reference_in, name_in}
 use Rattle.rdf_trig.specs.Trees.{Document, document_tokens}
 use Rattle.rdf_trig.specs.Quads.{Setting, in_default, in_graph, named, node, resource, anon_at, labelled, tag_of, plain_literal, tagged_literal, typed_literal, cell_at, rest_quad}
 use Rattle.rdf_trig.specs.Events.{itself, Event, Took, Gave, give, event_quads, document_events}
-use Rattle.rdf_trig.specs.Machine.{Level, Top, InBlock, Place, Listed, InCells, Around, Statement, Boxed, Up, Subject, At, Spelling, Dotted, Sparql, Mode, Start, Over, WantPrefix, WantPrefixIri, WantBaseIri, WantDot, AfterLabel, GraphWord, GraphBox, WantBrace, Inside, Want, After, AfterText, WantType, Box, Paren, WantVerb, Semi, AfterBox, Reply, No, Go, subject_at, verb_at, quad_at, quad_up, nil, iri_object_at, literal_at, object_start, type_at, want_type, verb_is, verb_start, after_subject, node_closed, box_closed, list_closed, list_end, semi, after, tag_at, after_text, box, paren, after_box, subject_is, subject_start, start, inside, want_brace, after_label, graph_is, graph_word, graph_box, directive_end, want_prefix, want_prefix_iri, want_base_iri, want_dot, step, waiting}
+use Rattle.rdf_trig.specs.Machine.{Topic, sized, unsized, Level, Top, InBlock, Place, Listed, InCells, Around, Statement, Boxed, Up, Subject, At, Spelling, Dotted, Sparql, Mode, Start, Over, WantPrefix, WantPrefixIri, WantBaseIri, WantDot, AfterLabel, GraphWord, GraphBox, WantBrace, Inside, Want, After, AfterText, WantType, Box, Paren, WantVerb, Semi, AfterBox, Reply, No, Go, subject_at, verb_at, quad_at, quad_up, nil, iri_object_at, literal_at, object_start, type_at, want_type, verb_is, verb_start, after_subject, node_closed, box_closed, list_closed, list_end, semi, after, tag_at, after_text, box, paren, after_box, subject_is, subject_start, start, inside, want_brace, after_label, graph_is, graph_word, graph_box, directive_end, want_prefix, want_prefix_iri, want_base_iri, want_dot, step, waiting}
 use Rattle.rdf_trig.specs.Machine.{stop, fronted, go_on, run}
 use Rattle.rdf_trig.specs.Spelled.{SpellsTag}
 use Rattle.rdf_trig.specs.Laws.{HasIris}
@@ -43,7 +43,7 @@ module _ (r : Room) where
   -- what a mode holds can be written
   abbrev mutual
     FitPlace : Place → Type 0
-    FitPlace (Listed s p a) = IsSubject s × IfSome p (FitIri r) × FitAround a
+    FitPlace (Listed s p a) = IsSubject s.term × IfSome p.iri (FitIri r) × FitAround a
     FitPlace (InCells f n u) = (f < 2 ^ 64) × (n < 2 ^ 64) × FitUp u
 
     FitAround : Around → Type 0
@@ -55,7 +55,7 @@ module _ (r : Room) where
     FitUp (At p) = FitPlace p
 
   abbrev FitMode : Mode → Type 0
-  FitMode (AfterLabel g) = IsSubject g
+  FitMode (AfterLabel g) = IsSubject g.term
   FitMode (GraphBox n) = n < 2 ^ 64
   FitMode (WantBrace g) = IsSubject g
   FitMode (Want p) = FitPlace p
@@ -64,9 +64,9 @@ module _ (r : Room) where
   FitMode (WantType w p) = FitWord r w × FitPlace p
   FitMode (Box n u) = (n < 2 ^ 64) × FitUp u
   FitMode (Paren u) = FitUp u
-  FitMode (WantVerb s a) = IsSubject s × FitAround a
-  FitMode (Semi s a) = IsSubject s × FitAround a
-  FitMode (AfterBox s v) = IsSubject s
+  FitMode (WantVerb s a) = IsSubject s.term × FitAround a
+  FitMode (Semi s a) = IsSubject s.term × FitAround a
+  FitMode (AfterBox s v) = IsSubject s.term
   FitMode m = Unit {0}
 
   -- where the IRI of the token is within the limit, the quads can be written, and what is held after it
@@ -143,11 +143,11 @@ module _ (r : Room) where
   want_type_fits c v p k l f h g = tt
 
   -- Verbs.
-  verb_is_fits : (c : Setting) (s : Option term.Subject) (a : Around) (i : Option (List ℕ)) → FitSetting c → IsSubject s → FitAround a →
+  verb_is_fits : (c : Setting) (s : Topic) (a : Around) (i : Option (List ℕ)) → FitSetting c → IsSubject s.term → FitAround a →
       IfSome i IsIri → FitReply (verb_is c s a i)
   verb_is_fits c s a i f h g n = λ w. (tt, tt, f, (h, named_fits r i n w, g))
 
-  verb_start_fits : (c : Setting) (s : Option term.Subject) (a : Around) (k : Kind) (l : Leaf) → FitSetting c → IsSubject s → FitAround a →
+  verb_start_fits : (c : Setting) (s : Topic) (a : Around) (k : Kind) (l : Leaf) → FitSetting c → IsSubject s.term → FitAround a →
       FitReply (verb_start c s a k l)
   verb_start_fits c s a IriRef l f h g = verb_is_fits c s a (reference_in c.scope l) f h g (reference_iri c.scope l f.0)
   verb_start_fits c s a PnameLn l f h g = verb_is_fits c s a (name_in c.scope l) f h g (name_iri c.scope l f.0)
@@ -156,20 +156,20 @@ module _ (r : Room) where
   verb_start_fits c s a k l f h g = tt
 
   -- Where the machine stands after a subject, and after brackets.
-  subject_mode : (form : DocForm) (v : Level) (s : Option term.Subject) → IsSubject s → FitMode (after_subject form v s)
+  subject_mode : (form : DocForm) (v : Level) (s : Topic) → IsSubject s.term → FitMode (after_subject form v s)
   subject_mode form InBlock s h = (h, tt)
   subject_mode Turtle Top s h = (h, tt)
   subject_mode TriG Top s h = h
 
-  node_mode : (form : DocForm) (u : Up) (s : Option term.Subject) → FitUp u → IsSubject s → FitMode (node_closed form u s)
+  node_mode : (form : DocForm) (u : Up) (s : Topic) → FitUp u → IsSubject s.term → FitMode (node_closed form u s)
   node_mode form (Subject v) s g h = subject_mode form v s h
   node_mode form (At p) s g h = g
 
-  box_mode : (u : Up) (s : Option term.Subject) → FitUp u → IsSubject s → FitMode (box_closed u s)
+  box_mode : (u : Up) (s : Topic) → FitUp u → IsSubject s.term → FitMode (box_closed u s)
   box_mode (Subject v) s g h = h
   box_mode (At p) s g h = g
 
-  list_mode : (u : Up) (s : Option term.Subject) → FitUp u → IsSubject s → FitMode (list_closed u s)
+  list_mode : (u : Up) (s : Topic) → FitUp u → IsSubject s.term → FitMode (list_closed u s)
   list_mode (Subject v) s g h = (h, tt)
   list_mode (At p) s g h = g
 
@@ -177,7 +177,7 @@ module _ (r : Room) where
   goes_fits : (c : Setting) (m : Mode) → FitSetting c → FitMode m → FitReply (Go itself None None c m)
   goes_fits c m f g = λ w. (tt, tt, f, g)
 
-  list_end_fits : (c : Setting) (s : Option term.Subject) (a : Around) (k : Kind) (l : Leaf) → FitSetting c → IsSubject s → FitAround a →
+  list_end_fits : (c : Setting) (s : Topic) (a : Around) (k : Kind) (l : Leaf) → FitSetting c → IsSubject s.term → FitAround a →
       FitReply (list_end c s a k l)
   list_end_fits c s (Statement Top) Dot l f h g = goes_fits c Start f tt
   list_end_fits c s (Statement InBlock) Dot l f h g = goes_fits c Inside f tt
@@ -187,7 +187,7 @@ module _ (r : Room) where
   list_end_fits c s (Statement InBlock) k l f h g = tt
   list_end_fits c s (Boxed u) k l f h g = tt
 
-  semi_fits : (c : Setting) (s : Option term.Subject) (a : Around) (k : Kind) (l : Leaf) → FitSetting c → IsSubject s → FitAround a →
+  semi_fits : (c : Setting) (s : Topic) (a : Around) (k : Kind) (l : Leaf) → FitSetting c → IsSubject s.term → FitAround a →
       FitReply (semi c s a k l)
   semi_fits c s a Semicolon l f h g = goes_fits c (Semi s a) f (h, g)
   semi_fits c s a IriRef l f h g = verb_start_fits c s a IriRef l f h g
@@ -201,7 +201,7 @@ module _ (r : Room) where
   after_fits c (Listed s p a) Semicolon l f g h = goes_fits c (Semi s a) f (g.0, g.2)
   after_fits c (Listed s p a) k l f g h = list_end_fits c s a k l f g.0 g.2
   after_fits c (InCells i n u) CloseParen l f g h =
-      λ w. (tt, rest_fits c n nil f g.1 (known_fits r RdfNil), f, list_mode u (node (Cell i)) g.2 (cell_fits r i g.0))
+      λ w. (tt, rest_fits c n nil f g.1 (known_fits r RdfNil), f, list_mode u (unsized (node (Cell i))) g.2 (cell_fits r i g.0))
   after_fits c (InCells i n u) k l f g h =
       let q = rest_fits c n (Blank (cell_at l)) f g.1 (cell_fits r l.at.offset h.2) in
       object_fits c (InCells i l.at.offset u) (rest_quad c (Cell n) (Blank (cell_at l))) k l f (g.0, h.2, g.2) q h
@@ -221,14 +221,14 @@ module _ (r : Room) where
 
   -- Brackets.
   box_fits : (form : DocForm) (c : Setting) (n : ℕ) (u : Up) (k : Kind) (l : Leaf) → FitSetting c → n < 2 ^ 64 → FitUp u → FitReply (box form c n u k l)
-  box_fits form c n u CloseBracket l f h g = goes_fits c (node_closed form u (node (Anon n))) f (node_mode form u (node (Anon n)) g (anon_fits r n h))
-  box_fits form c n u k l f h g = verb_start_fits c (node (Anon n)) (Boxed u) k l f (anon_fits r n h) g
+  box_fits form c n u CloseBracket l f h g = goes_fits c (node_closed form u (sized (node (Anon n)))) f (node_mode form u (sized (node (Anon n))) g (anon_fits r n h))
+  box_fits form c n u k l f h g = verb_start_fits c (sized (node (Anon n))) (Boxed u) k l f (anon_fits r n h) g
 
   paren_fits : (c : Setting) (u : Up) (k : Kind) (l : Leaf) → FitSetting c → FitUp u → Good r k l → FitReply (paren c u k l)
-  paren_fits c u CloseParen l f g h = goes_fits c (list_closed u (Some nil)) f (list_mode u (Some nil) g (known_fits r RdfNil))
+  paren_fits c u CloseParen l f g h = goes_fits c (list_closed u (unsized (Some nil))) f (list_mode u (unsized (Some nil)) g (known_fits r RdfNil))
   paren_fits c u k l f g h = object_fits c (InCells l.at.offset l.at.offset u) None k l f (h.2, h.2, g) tt h
 
-  after_box_fits : (c : Setting) (s : Option term.Subject) (v : Level) (k : Kind) (l : Leaf) → FitSetting c → IsSubject s → FitReply (after_box c s v k l)
+  after_box_fits : (c : Setting) (s : Topic) (v : Level) (k : Kind) (l : Leaf) → FitSetting c → IsSubject s.term → FitReply (after_box c s v k l)
   after_box_fits c s v IriRef l f h = verb_start_fits c s (Statement v) IriRef l f h tt
   after_box_fits c s v PnameLn l f h = verb_start_fits c s (Statement v) PnameLn l f h tt
   after_box_fits c s v PnameNs l f h = verb_start_fits c s (Statement v) PnameNs l f h tt
@@ -237,14 +237,14 @@ module _ (r : Room) where
 
   -- Subjects, labels and blocks.
   subject_is_fits : (form : DocForm) (c : Setting) (v : Level) (i : Option (List ℕ)) → FitSetting c → IfSome i IsIri → FitReply (subject_is form c v i)
-  subject_is_fits form c v i f n = λ w. (tt, tt, f, subject_mode form v (named i) (subject_named r i (named_fits r i n w)))
+  subject_is_fits form c v i f n = λ w. (tt, tt, f, subject_mode form v (sized (named i)) (subject_named r i (named_fits r i n w)))
 
   subject_start_fits : (form : DocForm) (c : Setting) (v : Level) (k : Kind) (l : Leaf) → FitSetting c → Good r k l → FitReply (subject_start form c v k l)
   subject_start_fits form c v IriRef l f h = subject_is_fits form c v (reference_in c.scope l) f (reference_iri c.scope l f.0)
   subject_start_fits form c v PnameLn l f h = subject_is_fits form c v (name_in c.scope l) f (name_iri c.scope l f.0)
   subject_start_fits form c v PnameNs l f h = subject_is_fits form c v (name_in c.scope l) f (name_iri c.scope l f.0)
   subject_start_fits form c v LabelNode l f h =
-      goes_fits c (after_subject form v (node (labelled l))) f (subject_mode form v (node (labelled l)) (label_fits r l h))
+      goes_fits c (after_subject form v (sized (node (labelled l)))) f (subject_mode form v (sized (node (labelled l))) (label_fits r l h))
   subject_start_fits form c v OpenBracket l f h = goes_fits c (Box l.at.offset (Subject v)) f (h.2, tt)
   subject_start_fits form c v OpenParen l f h = goes_fits c (Paren (Subject v)) f tt
   subject_start_fits form c v k l f h = tt
@@ -267,8 +267,8 @@ module _ (r : Room) where
   brace_fits c g OpenBrace l f h = goes_fits (in_graph c.scope g) Inside (graph_fits c g f h) tt
   brace_fits c g k l f h = tt
 
-  after_label_fits : (c : Setting) (g : Option term.Subject) (k : Kind) (l : Leaf) → FitSetting c → IsSubject g → FitReply (after_label c g k l)
-  after_label_fits c g OpenBrace l f h = goes_fits (in_graph c.scope g) Inside (graph_fits c g f h) tt
+  after_label_fits : (c : Setting) (g : Topic) (k : Kind) (l : Leaf) → FitSetting c → IsSubject g.term → FitReply (after_label c g k l)
+  after_label_fits c g OpenBrace l f h = goes_fits (in_graph c.scope g.term) Inside (graph_fits c g.term f h) tt
   after_label_fits c g k l f h = verb_start_fits c g (Statement Top) k l f h tt
 
   graph_is_fits : (c : Setting) (i : Option (List ℕ)) → FitSetting c → IfSome i IsIri → FitReply (graph_is c i)

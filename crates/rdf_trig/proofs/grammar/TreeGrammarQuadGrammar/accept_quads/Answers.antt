@@ -1,5 +1,5 @@
 -- What a step of the reader did is what the machine does, so the driver may use the grammar.
-use Rattle.std.proofs.Common.{◌+◌, subst, sym, ap, refl, ◌∙◌}
+use Rattle.std.proofs.Common.{◌+◌, arith, subst, sym, ap, refl, ◌∙◌}
 use Rattle.rdf_iri.specs.Scope.{bytes_held}
 use Rattle.rdf_tokens.specs.Scans.{token_of}
 use Rattle.rdf_driver.specs.Words.{Takes, Misses, KeepsLimits}
@@ -8,6 +8,7 @@ use Rattle.rdf_trig.specs.Owed.{most_kept}
 use Rattle.rdf_trig.specs.Holding.{state_bytes}
 use Rattle.rdf_trig.specs.Accepting.{TreeAt, reason_of, tree_words}
 use Rattle.rdf_trig.proofs.code.AnswersOfSteps.{same_scope}
+use Rattle.rdf_trig.proofs.code.OpenLists.{open_within}
 use Rattle.rdf_trig.proofs.code.LawfulGrammar.{takes_token, misses_token}
 use Rattle.rdf_trig.proofs.grammar.TreeGrammarQuadGrammar.accept_quads.Goals as goal
 
@@ -23,7 +24,7 @@ returns-in-Ok-clause-ok g c =
     let new : TreeAt = record { form = r.rules.form; limit = r.rules.limits.token; state = state_of r.rules.form c.accept.new.scope c.accept.new.self; held = bytes } in
     subst (λ y. Takes tree_words g.S.QuadSink.takes y t c.in-Ok.given c.args.sink.now new c.accept.new.sink) c.self.view_is
     (takes_token g.S.QuadSink.takes old t c.accept.new.self c.accept.new.scope c.in-Ok.given bytes c.args.sink.now c.accept.new.sink
-    (c.in-Ok.ensures.ok r.scope (same_scope r.scope)) (c.in-Ok.ensures.count r.scope))
+    (let enough = open_within r.rules.form c.accept.new.self in omega (arith, enough)) (c.in-Ok.ensures.ok r.scope (same_scope r.scope)) (c.in-Ok.ensures.count r.scope))
 
 pub returns-in-Err-clause-err : goal.returns-in-Err-clause-err
 returns-in-Err-clause-err g c =

@@ -2,6 +2,7 @@ use Rattle.std.proofs.Common.{Some, None, subst}
 use Rattle.rdf_terms.specs.Owned.{owned_subject}
 use Rattle.rdf_trig.specs.States.{use_at, setting, graph_of, level_of, Gives}
 use Rattle.rdf_trig.specs.Machine as M
+use Rattle.rdf_trig.specs.Machine.{sized}
 use Rattle.rdf_trig.proofs.machine.Fallbacks.{label-else}
 use Rattle.rdf_trig.proofs.code.TurnsLemmas.{gives_at}
 use Rattle.rdf_trig.proofs.state.State.after_label.Goals as goal
@@ -9,7 +10,7 @@ use Rattle.rdf_trig.proofs.state.State.after_label.Goals as goal
 pub returns-in_default : goal.returns-in_default
 returns-in_default g c = record {
   gives = λ form s l h.
-      let x = Some (owned_subject c.args.label) in
+      let x = sized (Some (owned_subject c.args.label)) in
       let k = c.args.kind in
       let self = c.verb_start.new.self in
       gives_at form s (use_at s k l) c.verb_start.result self _ _

@@ -1,5 +1,5 @@
 use Rattle.std.proofs.Common.{Some, sym, ◌∙◌}
-use Rattle.rdf_trig.specs.States.{use_at, setting_in, level_of, topic_of, around_of, up_in}
+use Rattle.rdf_trig.specs.States.{use_at, setting_in, level_of, sized_of, around_of, up_in}
 use Rattle.rdf_trig.proofs.machine.Fallbacks.{semi-verb, semi-else}
 use Rattle.rdf_trig.proofs.code.TurnsLemmas.{gives_at}
 use Rattle.rdf_trig.proofs.state.State.after_semicolon.Goals as goal
@@ -8,7 +8,7 @@ pub returns-then-begins_verb-clause-gives : goal.returns-then-begins_verb-clause
 returns-then-begins_verb-clause-gives g c form s subject verb l e h =
     let self = c.args.self.now in
     gives_at form s (use_at s c.args.kind l) c.next_verb.result c.next_verb.new.self _ _
-    (semi-verb (setting_in s self) (Some (topic_of subject)) (around_of c.args.around (level_of self.level) (up_in self)) c.args.kind l
+    (semi-verb (setting_in s self) (sized_of subject) (around_of c.args.around (level_of self.level) (up_in self)) c.args.kind l
     (sym c.begins_verb.ensures ∙ c.if-begins_verb.true))
     (c.next_verb.ensures.gives form s subject verb c.args.around l e h)
 
@@ -17,7 +17,7 @@ returns g c = record {
   gives = λ form s subject verb l e h.
       let self = c.args.self.now in
       gives_at form s (use_at s c.args.kind l) c.list_end.result c.list_end.new.self _ _
-      (semi-else (setting_in s self) (Some (topic_of subject)) (around_of c.args.around (level_of self.level) (up_in self)) c.args.kind l
+      (semi-else (setting_in s self) (sized_of subject) (around_of c.args.around (level_of self.level) (up_in self)) c.args.kind l
       (sym c.begins_verb.ensures ∙ c.if-begins_verb.false) c.in_default.not-Semicolon)
       (c.list_end.ensures.gives form s subject verb l e);
   depth = c.list_end.ensures.depth;

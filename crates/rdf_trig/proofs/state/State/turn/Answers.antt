@@ -1,13 +1,14 @@
 use Rattle.std.proofs.Common.{Some}
 use Rattle.rdf_terms.specs.Owned.{owned_subject}
 use Rattle.rdf_trig.specs.States.{leaf, level_of, setting_in, graph_of, place_in}
+use Rattle.rdf_trig.specs.Machine.{sized}
 use Rattle.rdf_trig.proofs.code.TurnsLemmas.{gives_subject, gives_object, gives_semi, name_subject, name_semi}
 use Rattle.rdf_trig.proofs.state.State.turn.Goals as goal
 
 pub returns-in-AfterSubject-clause-gives : goal.returns-in-AfterSubject-clause-gives
 returns-in-AfterSubject-clause-gives g c =
     let v = level_of c.args.self.now.level in
-    let x = Some (owned_subject c.in-AfterSubject.subject) in
+    let x = sized (Some (owned_subject c.in-AfterSubject.subject)) in
     rw c.in-AfterSubject.is (λ s h. gives_subject c.args.form v x s c.args.token.now.kind (leaf c.args.token.now)
     c.after_subject.result c.after_subject.new.self _
     (c.after_subject.ensures.gives s (leaf c.args.token.now) (name_subject c.args.form v x s c.args.token.now.kind (leaf c.args.token.now) c.args.name h)))
