@@ -9,6 +9,7 @@ use std::alloc::AllocError;
 #[derive(Drop)]
 pub(crate) struct Bytes<'a> {
     rest: &'a [u8],
+    last: usize,
     ended: bool,
 }
 
@@ -17,12 +18,18 @@ impl<'a> Bytes<'a> {
         ensures rest { result.rest.now ≡ rest.now }
         ensures more { result.ended ≡ false }
     {
-        Bytes { rest, ended: false }
+        Bytes {
+            rest,
+            last: 0,
+            ended: false,
+        }
     }
 }
 
 impl<'a> Source for Bytes<'a> {
     ghost remaining = { λ s. Some s.rest.now };
+
+    ghost last = { λ s. s.last };
 
     ghost has_ended = { λ s. s.ended };
 
@@ -33,6 +40,7 @@ impl<'a> Source for Bytes<'a> {
         let (front, rest) = self.rest.split_at(count);
         buf[..count].copy_from_slice(front);
         self.rest = rest;
+        self.last = count;
         self.ended = count == 0 && !buf.is_empty();
         Ok(count)
     }

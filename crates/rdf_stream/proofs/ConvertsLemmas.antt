@@ -1,12 +1,13 @@
 -- A whole conversion, from what its run has done.
-use Rattle.std.proofs.Common.{◌≡◌, ℕ, Bool, true, false, List, [], ◌∷◌, ◌++◌, Option, IfSome, refl, sym, subst, ⊎_elim}
-use Rattle.std.proofs.KnownBytes.{Appends-nil, Consumes-whole}
+use Rattle.std.proofs.Common.{◌≡◌, ℕ, Bool, true, false, List, [], ◌∷◌, ◌++◌, Option, IfSome, refl, sym, ap, subst, ⊎_elim, arith}
+use Rattle.std.proofs.KnownBytes.{Appends-nil, Consumes-nil, Consumes-whole}
 use Rattle.rdf_terms.specs.declared.reason.Reason.{Reason}
 use Rattle.rdf_terms.specs.declared.reason.Reason.TheVariants as reason
 use Rattle.rdf_terms.specs.Terms.{Quad}
 use Rattle.rdf_tokens.specs.Tokens.{Place}
 use Rattle.rdf_tokens.specs.Scans.{place_of}
 use Rattle.rdf_tokens.specs.Grammars.{Due, GoesOn, PassesNone, reading_of}
+use Rattle.rdf_tokens.proofs.GrammarsLemmas.{tokens_of-nil}
 use Rattle.rdf_tokens.proofs.LanguageLemmas.{EndsAtBlame, due_more, refused_in_more}
 use Rattle.rdf_driver.specs.declared.summary.Summary.{Summary}
 use Rattle.rdf_driver.specs.Readers.{Driven}
@@ -16,7 +17,7 @@ use Rattle.rdf_stream.specs.declared.fault.StreamFault.{StreamFault}
 use Rattle.rdf_stream.specs.declared.fault.StreamFault.TheVariants as stream
 use Rattle.rdf_stream.specs.declared.line_out.LineOut.{LineOut}
 use Rattle.rdf_stream.specs.Converting.{Begins, HaltsFor, IsConverting, RunEnds, RunHalts}
-use Rattle.rdf_stream.specs.Converts.{Accepts, RefusesDocument, StopsFor, WritesDue, WritesSome}
+use Rattle.rdf_stream.specs.Converts.{Accepts, IsPrompt, RefusesDocument, StopsFor, WritesDue, WritesSome}
 use Rattle.rdf_stream.specs.Devices.{HasGiven, Reading}
 use Rattle.rdf_stream.specs.Faults.{IsOfDocument, IsRefusal}
 use Rattle.rdf_lines.specs.declared.form.LineForm.{LineForm}
@@ -37,9 +38,11 @@ use Rattle.rdf_lines.specs.Machine.{Begin}
 use Rattle.rdf_lines.proofs.AcceptingLemmas.{lawful as lines_lawful}
 use Rattle.rdf_trig.specs.Machine.{at_start}
 use Rattle.rdf_trig.proofs.machine.ExactDocuments.{due_ran}
-use Rattle.rdf_stream.specs.Pieces.{ReadStops, ReadsAll, SourceFails}
+use Rattle.rdf_stream.specs.LineOut.{OnlyGrows}
+use Rattle.rdf_stream.specs.Pieces.{ReadStops, ReadsAll, SourceFails, TakenBefore}
 use Rattle.rdf_lines.proofs.NodePrefixLemmas.{IsNodePrefix-had}
 use Rattle.rdf_stream.proofs.ConvertingLemmas.{written_ascii}
+use Rattle.rdf_stream.proofs.GrowthLemmas.{grows_none}
 use Rattle.rdf_stream.proofs.PiecesLemmas.{all_given, none_given, too_long_more}
 
 -- what was written of what is due is due with more bytes
@@ -107,6 +110,9 @@ module _ {G X D : Type 0} (A : Type 0) (contents : D → Option (List ℕ)) (fai
   abbrev pub Ended : Summary → R → List ℕ → R → Type 0
   Ended s first bytes now = RunEnds contents failed flushed w s first.0 first.1 bytes now.1
 
+  abbrev pub Stays : R → R → Type 0
+  Stays first now = OnlyGrows contents first.1 now.1
+
   -- nothing was read or written
   pub begins : (x : X) (first : R) → Begins failed w x first.0 first.1 → first.1.form.style ≡ style → Taken first [] first
   begins x first b styled = record {
@@ -143,26 +149,44 @@ module _ {G X D : Type 0} (A : Type 0) (contents : D → Option (List ℕ)) (fai
     converted s h =
         Consumes-whole known left.remaining h.bytes (λ bytes. Accepts job bytes old new s) h.consumed h.at_end (asked (λ n s'. Accepts (conversion w x n s') h.bytes old new s) (h.is_end.accepts x b))
 
+    -- the lines of all quads that are due in the bytes that were taken were written
+    writes_taken : (bytes : List ℕ) (at : R) → Taken first bytes at → WritesDue job (reading_of job.language bytes false).tokens old (contents at.1.drain.now)
+    writes_taken bytes at t =
+        let o = t.handed x b in
+        let n = at.0.scanner.limit in
+        let here = contents at.1.drain.now in
+        asked (λ k s. WritesDue (conversion w x k s) (reading_of (in_words w x k) bytes false).tokens old here)
+        (subst (λ k. WritesDue (conversion w x k (form_of first.1.form)) (reading_of (in_words w x k) bytes false).tokens old here) t.limit
+        (record {
+          quads = o.quads;
+          due = b.starts.suits.lawful.due at.0.grammar x (reading_of (in_words w x n) bytes false).tokens o.quads o.read.reached;
+          written = o.written;
+          ascii = written_ascii (form_of first.1.form) o.quads (IsNodePrefix-had (form_of first.1.form).prefix first.1.form.prefix.is_prefix) o.writable;
+        }))
+
+    -- those that are due in the bytes before the last fill were written then
+    pub prompt : TakenBefore Taken Stays known left first now → IsPrompt job known left old new
+    prompt h = record {
+      before = h.before;
+      piece = h.piece;
+      consumed = h.consumed;
+      few = h.few;
+      at_fill = contents h.at_fill.1.drain.now;
+      writes = writes_taken h.before h.at_fill h.is_taken;
+      grows = (h.stays_on h.at_fill (grows_none contents h.at_fill.1)).grows;
+    }
+
     -- the source failed
     broke : SourceFails Taken known left first now → StopsFor stream.Read job known left old new (failed now.1.drain.now)
     broke h =
         let o = h.is_taken.handed x b in
-        let n = now.0.scanner.limit in
-        let law = b.starts.suits.lawful in
-        let writes : WritesDue (conversion w x first.0.scanner.limit (form_of first.1.form)) (reading_of (in_words w x first.0.scanner.limit) h.bytes false).tokens old new =
-        subst (λ k. WritesDue (conversion w x k (form_of first.1.form)) (reading_of (in_words w x k) h.bytes false).tokens old new) h.is_taken.limit
-        (record {
-          quads = o.quads;
-          due = law.due now.0.grammar x (reading_of (in_words w x n) h.bytes false).tokens o.quads o.read.reached;
-          written = o.written;
-          ascii = written_ascii (form_of first.1.form) o.quads (IsNodePrefix-had (form_of first.1.form).prefix first.1.form.prefix.is_prefix) o.writable;
-        }) in (
+        let law = b.starts.suits.lawful in (
           h.broken,
           record {
             bytes = h.bytes;
             consumed = h.consumed;
             goes_on = asked (λ k s. GoesOn (in_words w x k) h.bytes) (subst (λ k. GoesOn (in_words w x k) h.bytes) h.is_taken.limit (read_goes_on w law now.0 x h.bytes o.quads o.read));
-            writes = asked (λ k s. WritesDue (conversion w x k s) (reading_of (in_words w x k) h.bytes false).tokens old new) writes;
+            writes = writes_taken h.bytes now h.is_taken;
           },
         )
 
@@ -202,6 +226,23 @@ trees_job P job form k x i n l f e h =
 none_due : (k : Kind) (job : JobRead) → Due (conversion_by k job).language.documents [] []
 none_due (Line form) job = lines_lawful.due (record { rules = record { form = form; iri = 0 }; limit = 0; mode = Begin; held = 0 }) (record { form = form; iri = 0 }) [] [] (refl, refl)
 none_due (Tree form) job = due_ran form (tree_job form job).start [] (at_start (tree_job form job).start) [] refl
+
+-- the source was never asked for bytes
+pub none_prompt : (job : JobRead) (left : Reading) (old : Option (List ℕ)) → IsPrompt (conversion_of job) left.remaining left old old
+none_prompt job left old = record {
+  before = [];
+  piece = [];
+  consumed = Consumes-nil left.remaining;
+  few = omega arith;
+  at_fill = old;
+  writes = record {
+    quads = [];
+    due = subst (λ ts. Due (language_of job).documents ts []) (sym (ap (λ r. r.tokens) (tokens_of-nil (language_of job).dialect (language_of job).limit))) (none_due (kind_of job.form) job);
+    written = Appends-nil old;
+    ascii = λ is labels. tt;
+  };
+  grows = record { more = []; added = Appends-nil old };
+}
 
 -- there was no memory to begin with
 pub none_stops : (job : JobRead) (left : Reading) (old : Option (List ℕ)) (write_failed : Bool) → left.has_ended ≡ false → left.has_failed ≡ false → write_failed ≡ false →

@@ -5,6 +5,7 @@ pub mod PiecesLemmas
 pub mod PartsLemmas
 pub mod PassesLemmas
 pub mod ConvertingLemmas
+pub mod GrowthLemmas
 pub mod ConvertsLemmas
 pub mod DocumentLemmas
 pub mod ChecksLemmas

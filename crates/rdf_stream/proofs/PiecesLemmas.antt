@@ -13,7 +13,7 @@ use Rattle.rdf_driver.specs.declared.summary.Summary.{Summary}
 use Rattle.rdf_stream.specs.declared.fault.StreamFault.{StreamFault}
 use Rattle.rdf_stream.specs.declared.fault.StreamFault.TheVariants as stream
 use Rattle.rdf_stream.specs.Devices.{HasGiven, Reading}
-use Rattle.rdf_stream.specs.Pieces.{HaltsOn, ReadStops, ReadsAll, ReadsEnd, TakesMore}
+use Rattle.rdf_stream.specs.Pieces.{HaltsOn, ReadStops, ReadsAll, ReadsEnd, StaysOn, TakenBefore, TakesMore}
 
 -- too many bytes are too many with more
 pub too_long_more : (bytes more : List ℕ) (at : Place) → IsTooLong bytes at → IsTooLong (bytes ++ more) at
@@ -77,6 +77,18 @@ module _ {R : Type 0} (taken : R → List ℕ → R → Type 0) (halts : StreamF
   -- the source failed
   pub read_stops : Keeps left.remaining left'.remaining → left'.has_failed ≡ true → left'.has_ended ≡ false → ReadStops taken halts stream.Read known left' first now
   read_stops k e o = inl (refl, record { bytes = i.bytes; consumed = Consumes-kept known left.remaining left'.remaining i.bytes i.consumed k; broken = (e, o); is_taken = i.is_taken })
+
+  -- what was given before the last fill was taken
+  pub before_piece : (now' : R) (piece : List ℕ) → Consumes left.remaining left'.remaining piece → length piece ≤ left'.last → StaysOn stays now now' → TakenBefore taken stays known left' first now'
+  before_piece now' piece c few s = record {
+    before = i.bytes;
+    piece = piece;
+    consumed = Consumes-trans known left.remaining left'.remaining i.bytes piece i.consumed c;
+    few = few;
+    at_fill = now;
+    is_taken = i.is_taken;
+    stays_on = s;
+  }
 
   module _ (live : left'.has_failed ≡ false) (now' : R) where
     module _ (piece : List ℕ) (c : Consumes left.remaining left'.remaining piece) (more : left'.has_ended ≡ false) where

@@ -1,5 +1,5 @@
 -- What a conversion writes, and why it stops.
-use Rattle.std.specs.Prelude.{◌≡◌, ℕ, ◌+◌, ◌≤◌, ◌<◌, Bool, true, false, List, length, Option, IfSome, encode_utf8_all}
+use Rattle.std.specs.Prelude.{◌≡◌, ℕ, ◌+◌, ◌≤◌, ◌<◌, Bool, true, false, List, ◌++◌, length, Option, IfSome, encode_utf8_all}
 use Rattle.std.specs.Io.KnownBytes.{Appends, Consumes}
 use Rattle.std.specs.List.{AllByRecursion}
 use Rattle.rdf_terms.specs.declared.reason.Reason.{Reason}
@@ -15,7 +15,7 @@ use Rattle.rdf_lines.specs.NodePrefixes.{Form, text_in}
 use Rattle.rdf_lines.specs.Laws.{ReadsBackIn}
 use Rattle.rdf_stream.specs.declared.fault.StreamFault.{StreamFault}
 use Rattle.rdf_stream.specs.declared.fault.StreamFault.TheVariants.{Refused, Read, Write, Memory}
-use Rattle.rdf_stream.specs.Devices.{AppendsFront, HasBroken, HasGiven, Reading}
+use Rattle.rdf_stream.specs.Devices.{AppendsFront, Grows, HasBroken, HasGiven, Reading}
 use Rattle.rdf_stream.specs.Languages.{Conversion}
 
 -- the bytes of the quads' lines
@@ -85,6 +85,19 @@ pub record BreaksOff (job : Conversion) (known left old new : Option (List ℕ))
   pub consumed : Consumes known left bytes
   pub goes_on : GoesOn job.language bytes
   pub writes : WritesDue job (reading_of job.language bytes false).tokens old new
+
+-- Lines are handed over before the next fill: when the source was last asked for bytes, the lines of all quads that are due in those that it had
+-- given had been written. What came after that was written behind them.
+pub record IsPrompt (job : Conversion) (known : Option (List ℕ)) (left : Reading) (old new : Option (List ℕ)) : Type 0 where
+  -- the bytes given before the last fill, and by it
+  pub before : List ℕ
+  pub piece : List ℕ
+  pub consumed : Consumes known left.remaining (before ++ piece)
+  pub few : length piece ≤ left.last
+  -- what the drain had at that fill
+  pub at_fill : Option (List ℕ)
+  pub writes : WritesDue job (reading_of job.language before false).tokens old at_fill
+  pub grows : Grows at_fill new
 
 -- Why a conversion stopped, by what the source gave, and what it had written: whole lines, but where the drain failed a beginning of them.
 abbrev pub StopsFor : StreamFault → Conversion → Option (List ℕ) → Reading → Option (List ℕ) → Option (List ℕ) → Bool → Type 0

@@ -3,15 +3,16 @@ use Rattle.std.specs.Prelude.{◌≡◌, ◌<◌, ℕ, Bool, true, false, List, 
 use Rattle.std.specs.Io.KnownBytes.{Appends, Consumes, IsAtEnd}
 use Rattle.std.specs.declared.result.Result.{Result}
 
--- a reader: the bytes that are left, whether a call has reported its end, and whether one has failed
+-- a reader: the bytes that are left, how many the last call gave, whether a call has reported its end, and whether one has failed
 pub record Reading : Type 0 where
   pub remaining : Option (List ℕ)
+  pub last : ℕ
   pub has_ended : Bool
   pub has_failed : Bool
 
 -- a source as a reader
-abbrev pub reading : {S : Type 0} → (S → Option (List ℕ)) → (S → Bool) → (S → Bool) → S → Reading
-reading remaining ended failed s = record { remaining = remaining s; has_ended = ended s; has_failed = failed s }
+abbrev pub reading : {S : Type 0} → (S → Option (List ℕ)) → (S → ℕ) → (S → Bool) → (S → Bool) → S → Reading
+reading remaining last ended failed s = record { remaining = remaining s; last = last s; has_ended = ended s; has_failed = failed s }
 
 -- An answer of no bytes where there was room reports the end, and no other answer does.
 abbrev pub ReportsEnd : {E : Type 0} → Result ℕ E → List ℕ → Bool → Type 0
@@ -27,6 +28,11 @@ pub record Written : Type 0 where
 -- the bytes grew by a beginning of these
 abbrev pub AppendsFront : Option (List ℕ) → Option (List ℕ) → List ℕ → Type 0
 AppendsFront old new bytes = (front : List ℕ) × (rest : List ℕ) × (bytes ≡ front ++ rest) × Appends old new front
+
+-- The bytes grew, or stayed as they were.
+pub record Grows (old new : Option (List ℕ)) : Type 0 where
+  pub more : List ℕ
+  pub added : Appends old new more
 
 -- What a source that has not failed has given: these bytes, and none is left where it has reported its end.
 pub record HasGiven (known : Option (List ℕ)) (left : Reading) : Type 0 where

@@ -5,6 +5,7 @@ use Rattle.rdf_terms.specs.Terms.{Quad, IsQuad}
 use Rattle.rdf_lines.specs.declared.form.WrittenForm.{WrittenForm}
 use Rattle.rdf_lines.specs.Forms.{form_of}
 use Rattle.rdf_lines.specs.NodePrefixes.{line_in}
+use Rattle.rdf_stream.specs.Devices.{Grows}
 use Rattle.rdf_stream.specs.declared.fault.StreamFault.{StreamFault}
 use Rattle.rdf_stream.specs.declared.fault.StreamFault.TheVariants as fault
 use Rattle.rdf_stream.specs.declared.line_out.LineOut.{LineOut}
@@ -24,6 +25,11 @@ pub record SameOut {D A : Type 0} (before after : LineOut D A) : Type 0 where
   pub form : after.form ≡ before.form
   pub buffer : after.buffer.ghost_name ≡ before.buffer.ghost_name
   pub drain : after.drain.ghost_name ≡ before.drain.ghost_name
+
+-- The same, and the drain only grows.
+pub record OnlyGrows {D A : Type 0} (contents : D → Option (List ℕ)) (before after : LineOut D A) : Type 0 where
+  pub same : SameOut before after
+  pub grows : Grows (contents before.drain.now) (contents after.drain.now)
 
 -- The drain took a front of the bytes that waited and of these, and the others wait.
 abbrev pub Writes : {D A : Type 0} → (D → Option (List ℕ)) → LineOut D A → List ℕ → LineOut D A → Type 0

@@ -1,5 +1,5 @@
 -- What reading a source by pieces does to what takes them. A run has taken some bytes from a first state on.
-use Rattle.std.specs.Prelude.{◌≡◌, ◌⊎◌, ℕ, Bool, true, false, List, ◌++◌, Option}
+use Rattle.std.specs.Prelude.{◌≡◌, ◌⊎◌, ◌≤◌, ℕ, Bool, true, false, List, ◌++◌, length, Option}
 use Rattle.std.specs.Io.KnownBytes.{Consumes, IsAtEnd}
 use Rattle.rdf_driver.specs.declared.summary.Summary.{Summary}
 use Rattle.rdf_stream.specs.declared.fault.StreamFault.{StreamFault}
@@ -13,6 +13,10 @@ HasBegun {R} taken now = (first : R) × (bytes : List ℕ) × taken first bytes 
 -- A piece more was taken, whatever was taken before.
 abbrev pub TakesMore : {R : Type 0} → (R → List ℕ → R → Type 0) → R → List ℕ → R → Type 0
 TakesMore {R} taken old piece new = (first : R) (bytes : List ℕ) → taken first bytes old → taken first (bytes ++ piece) new
+
+-- What stayed up to one state stays up to another.
+abbrev pub StaysOn : {R : Type 0} → (R → R → Type 0) → R → R → Type 0
+StaysOn {R} stays old new = (first : R) → stays first old → stays first new
 
 -- All bytes so far, as a function of those before, are not read on, whatever was taken before.
 abbrev pub HaltsOn : {R : Type 0} → (R → List ℕ → R → Type 0) → (StreamFault → R → List ℕ → Bool → R → Type 0)
@@ -38,6 +42,17 @@ pub record SourceFails {R : Type 0} (taken : R → List ℕ → R → Type 0) (k
   pub consumed : Consumes known left.remaining bytes
   pub broken : HasBroken left
   pub is_taken : taken first bytes now
+
+-- What a source gave before its last fill was taken when it was asked for more, and what stays from then on has stayed.
+pub record TakenBefore {R : Type 0} (taken : R → List ℕ → R → Type 0) (stays : R → R → Type 0) (known : Option (List ℕ)) (left : Reading) (first now : R) : Type 0 where
+  -- the bytes given before the last fill, and by it
+  pub before : List ℕ
+  pub piece : List ℕ
+  pub consumed : Consumes known left.remaining (before ++ piece)
+  pub few : length piece ≤ left.last
+  pub at_fill : R
+  pub is_taken : taken first before at_fill
+  pub stays_on : StaysOn stays at_fill now
 
 -- Why a source was not read to its end: it failed, or what takes the pieces did not read on.
 abbrev pub ReadStops : {R : Type 0} → (R → List ℕ → R → Type 0) → (StreamFault → R → List ℕ → Bool → R → Type 0)

@@ -31,7 +31,7 @@ pub fn check<A: Allocator + Copy, S: Source>(
     ensures accepted { IfOk result (IsAllAccepted (language_of job) (S.remaining source.old)) }
     ensures ended { OnOk result (S.has_ended source.new ≡ true) }
     ensures stops { IfErr result (λ fault.
-        CheckStops fault (language_of job) (S.remaining source.old) (reading S.remaining S.has_ended S.has_failed source.new)) }
+        CheckStops fault (language_of job) (S.remaining source.old) (reading S.remaining S.last S.has_ended S.has_failed source.new)) }
     ensures refused { IfErr result IsRefusal }
 {
     let mut job = job;
@@ -53,7 +53,7 @@ fn check_with<A: Allocator + Copy, G: Passes<A>, S: Source>(
         IsAllAccepted (in_words G.words x reader.scanner.limit) (S.remaining source.old) summary) }
     ensures ended { OnOk result (S.has_ended source.new ≡ true) }
     ensures stops { IfErr result (λ reported. (x : G.Setting) → BeginsToRead G.words x reader →
-        CheckStops reported (in_words G.words x reader.scanner.limit) (S.remaining source.old) (reading S.remaining S.has_ended S.has_failed source.new)) }
+        CheckStops reported (in_words G.words x reader.scanner.limit) (S.remaining source.old) (reading S.remaining S.last S.has_ended S.has_failed source.new)) }
     ensures refused { IfErr result IsRefusal }
 {
     let mut piece = piece_buffer(alloc)?;
@@ -88,6 +88,8 @@ impl<A: Allocator + Copy, G: Passes<A>> Parts<NoQuads> for Reader<G, A> {
     ghost taken = { λ first bytes now. IsChecking G.words first.0 bytes now.0 };
 
     ghost halts = { λ reported first bytes is_end now. CheckHalts G.words reported first.0 bytes is_end };
+
+    ghost stays = { λ first now. Unit };
 
     ghost count = { λ now. now.so_far.bytes };
 

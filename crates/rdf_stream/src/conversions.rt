@@ -3,11 +3,11 @@
 ghost use Rattle.std.specs.Prelude.{◌≡◌, ◌<◌, ◌++◌, true, false, length, OnOk, IfOk, IfErr, IfSome};
 ghost use Rattle.rdf_lines.specs.Forms.{form_of};
 ghost use Rattle.rdf_stream.specs.Converting.{Begins, IsConverting, IsPutting, RunEnds, RunHalts};
-ghost use Rattle.rdf_stream.specs.Converts.{Accepts, AcceptsAll, StopsFor};
+ghost use Rattle.rdf_stream.specs.Converts.{Accepts, AcceptsAll, IsPrompt, StopsFor};
 ghost use Rattle.rdf_stream.specs.Devices.{reading};
 ghost use Rattle.rdf_stream.specs.Faults.{IsRefusal};
 ghost use Rattle.rdf_stream.specs.Languages.{conversion, conversion_of};
-ghost use Rattle.rdf_stream.specs.LineOut.{SameOut};
+ghost use Rattle.rdf_stream.specs.LineOut.{OnlyGrows, SameOut};
 
 use crate::devices::{Drain, Failed, Source};
 use crate::fault::StreamFault;
@@ -25,8 +25,8 @@ use std::alloc::Allocator;
 /// Reads a document of the job's format from the source, writes the lines of its quads to the drain with the job's
 /// escapes and its word in front of the names of nodes, and flushes it.
 ///
-/// Before it asks the source for more, all lines that are due of the bytes so far have been handed to the drain, and so
-/// they have before a refusal or a failed read is reported.
+/// Before it asks the source for more, all lines that are due of the bytes so far have been handed to the drain (`prompt`),
+/// and so they have before a refusal or a failed read is reported.
 pub fn convert<A: Allocator + Copy, S: Source, D: Drain>(
     alloc: A,
     job: Job<A>,
@@ -40,9 +40,11 @@ pub fn convert<A: Allocator + Copy, S: Source, D: Drain>(
     ensures ended { OnOk result (S.has_ended source.new ≡ true) }
     ensures flushed { OnOk result (D.is_flushed drain.new ≡ true) }
     ensures stops { IfErr result (λ fault.
-        StopsFor fault (conversion_of job) (S.remaining source.old) (reading S.remaining S.has_ended S.has_failed source.new)
+        StopsFor fault (conversion_of job) (S.remaining source.old) (reading S.remaining S.last S.has_ended S.has_failed source.new)
         (D.contents drain.old) (D.contents drain.new) (D.has_failed drain.new)) }
     ensures refused { IfErr result IsRefusal }
+    ensures prompt { IsPrompt (conversion_of job) (S.remaining source.old) (reading S.remaining S.last S.has_ended S.has_failed source.new)
+        (D.contents drain.old) (D.contents drain.new) }
 {
     let mut piece = piece_buffer(alloc)?;
     let mut buffer = Vec::new(alloc);
@@ -82,9 +84,12 @@ fn convert_with<A: Allocator + Copy, G: Passes<A>, S: Source, D: Drain>(
     ensures same { SameOut lines.old lines.new }
     ensures stops { IfErr result (λ reported. (x : G.Setting) → Begins D.has_failed G.words x reader lines.old →
         StopsFor reported (conversion G.words x reader.scanner.limit (form_of lines.old.form)) (S.remaining source.old)
-        (reading S.remaining S.has_ended S.has_failed source.new)
+        (reading S.remaining S.last S.has_ended S.has_failed source.new)
         (D.contents lines.old.drain.now) (D.contents lines.new.drain.now) (D.has_failed lines.new.drain.now)) }
     ensures refused { IfErr result IsRefusal }
+    ensures prompt { (x : G.Setting) → Begins D.has_failed G.words x reader lines.old →
+        IsPrompt (conversion G.words x reader.scanner.limit (form_of lines.old.form)) (S.remaining source.old)
+        (reading S.remaining S.last S.has_ended S.has_failed source.new) (D.contents lines.old.drain.now) (D.contents lines.new.drain.now) }
 {
     let mut reader = reader;
     read_pieces(source, piece, &mut reader, lines)
@@ -98,7 +103,7 @@ impl<'a, A: Allocator + Copy, G: QuadGrammar + Passes<A>, D: Drain> Run<LineOut<
 
     ghost ends = { λ summary first bytes now. RunEnds D.contents D.has_failed D.is_flushed G.words summary first.0 first.1 bytes now.1 };
 
-    ghost stays = { λ first now. SameOut first.1 now.1 };
+    ghost stays = { λ first now. OnlyGrows D.contents first.1 now.1 };
 
     ghost count = { λ now. now.so_far.bytes };
 
@@ -129,6 +134,8 @@ impl<'a, A: Allocator + Copy, G: Passes<A>, D: Drain> Parts<LineOut<'a, D, A>> f
     ghost taken = { λ first bytes now. IsPutting D.contents D.has_failed G.words G.style first.0 first.1 bytes now.0 now.1 };
 
     ghost halts = { λ reported first bytes is_end now. RunHalts D.contents D.has_failed G.words reported first.0 first.1 bytes is_end now.1 };
+
+    ghost stays = { λ first now. OnlyGrows D.contents first.1 now.1 };
 
     ghost count = { λ now. now.so_far.bytes };
 

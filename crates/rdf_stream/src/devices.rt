@@ -1,6 +1,6 @@
 // Where bytes come from and where they go, and std's readers and writers in these places.
 
-ghost use Rattle.std.specs.Prelude.{◌≡◌, ℕ, ◌<◌, ◌≤◌, List, length, true, false, is_err, is_ok, Option, Bool, IfOk};
+ghost use Rattle.std.specs.Prelude.{◌≡◌, ℕ, ◌<◌, ◌≤◌, List, length, true, false, is_err, is_ok, Option, Bool, IfOk, OnErr};
 ghost use Rattle.std.specs.Io.KnownBytes.{Keeps, ReadConsumes, WriteAppends};
 ghost use Rattle.rdf_stream.specs.Devices.{Reading, ReportsEnd, Written};
 
@@ -15,6 +15,8 @@ pub struct Failed;
 pub trait Source {
     /// The bytes that are left, where they are known.
     ghost remaining: { Self → Option (List ℕ) };
+    /// How many bytes the last call gave.
+    ghost last: { Self → ℕ };
     /// Whether a call has reported the end.
     ghost has_ended: { Self → Bool };
     /// Whether a call has failed.
@@ -28,6 +30,8 @@ pub trait Source {
         ensures bound { IfOk result (λ n. n ≤ length buf.new) }
         ensures len { length buf.new ≡ length buf.old }
         ensures bytes { ReadConsumes (remaining self.old) (remaining self.new) result buf.new }
+        ensures last { IfOk result (λ n. last self.new ≡ n) }
+        ensures none { OnErr result (last self.new ≡ 0) }
         ensures ended { ReportsEnd result buf.new (has_ended self.new) }
         ensures failed { has_failed self.new ≡ is_err result };
 
@@ -75,6 +79,7 @@ pub trait Drain {
 #[derive(Drop)]
 pub struct In<R: Read> {
     reader: R,
+    last: usize,
     ended: bool,
     failed: bool,
 }
@@ -82,16 +87,17 @@ pub struct In<R: Read> {
 impl<R: Read> Model for In<R> {
     ghost Value = { Reading };
 
-    ghost view = { λ s. record { remaining = R.remaining s.reader; has_ended = s.ended; has_failed = s.failed } };
+    ghost view = { λ s. record { remaining = R.remaining s.reader; last = s.last; has_ended = s.ended; has_failed = s.failed } };
 }
 
 impl<R: Read> In<R> {
     /// A source that reads on from where the reader stands.
     pub fn new(reader: R) -> In<R>
-        ensures { result ≡ record { remaining = R.remaining reader; has_ended = false; has_failed = false } }
+        ensures { result ≡ record { remaining = R.remaining reader; last = 0; has_ended = false; has_failed = false } }
     {
         In {
             reader,
+            last: 0,
             ended: false,
             failed: false,
         }
@@ -101,6 +107,8 @@ impl<R: Read> In<R> {
 impl<R: Read> Source for In<R> {
     ghost remaining = { λ s. s.remaining };
 
+    ghost last = { λ s. s.last };
+
     ghost has_ended = { λ s. s.has_ended };
 
     ghost has_failed = { λ s. s.has_failed };
@@ -108,11 +116,16 @@ impl<R: Read> Source for In<R> {
     fn fill(&mut self, buf: &mut [u8]) -> Result<usize, Failed> {
         match self.reader.read(buf) {
             Ok(count) if count == 0 && !buf.is_empty() => {
+                self.last = 0;
                 self.ended = true;
                 Ok(count)
             }
-            Ok(count) => Ok(count),
+            Ok(count) => {
+                self.last = count;
+                Ok(count)
+            }
             Err(_) => {
+                self.last = 0;
                 self.failed = true;
                 Err(Failed)
             }

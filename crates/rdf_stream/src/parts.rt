@@ -5,7 +5,7 @@ ghost use Rattle.std.specs.Str.Lossy.{utf8_valid_len};
 ghost use Rattle.rdf_tokens.specs.Scans.{most_bytes};
 ghost use Rattle.rdf_stream.specs.declared.fault.StreamFault.{StreamFault};
 ghost use Rattle.rdf_stream.specs.Parts.{HaltsWithin, IsAsciiText, MayPass};
-ghost use Rattle.rdf_stream.specs.Pieces.{HaltsOn, HasBegun, TakesMore};
+ghost use Rattle.rdf_stream.specs.Pieces.{HaltsOn, HasBegun, StaysOn, TakesMore};
 
 use crate::fault::StreamFault;
 use rdf_terms::runs::{Run, run_end};
@@ -23,6 +23,8 @@ pub(crate) trait Parts<L> {
     ghost taken: { Self × L → List ℕ → Self × L → Type 0 };
     /// From the first state on, these bytes are not read on, with their end or before more come.
     ghost halts: { StreamFault → Self × L → List ℕ → Bool → Self × L → Type 0 };
+    /// What stays from the first state on.
+    ghost stays: { Self × L → Self × L → Type 0 };
     /// The number of bytes that were taken.
     ghost count: { Self → ℕ };
 
@@ -40,6 +42,7 @@ pub(crate) trait Parts<L> {
         requires ascii { is_ascii ≡ true → IsAsciiText text.now }
         ensures within { IfOk result (λ n. n ≤ length text.now) }
         ensures takes { IfOk result (λ n. TakesMore taken (self.old, out.old) (take n text.now) (self.new, out.new)) }
+        ensures stays { StaysOn stays (self.old, out.old) (self.new, out.new) }
         ensures halts { IfErr result (λ f. HaltsWithin taken halts f (self.old, out.old) text.now (self.new, out.new)) };
 
     /// Reads a part.
@@ -47,6 +50,7 @@ pub(crate) trait Parts<L> {
         requires begun { HasBegun taken (self.old, out.old) }
         ensures takes { OnOk result (TakesMore taken (self.old, out.old) part.now (self.new, out.new)) }
         ensures few { OnOk result (count self.new ≤ most_bytes) }
+        ensures stays { StaysOn stays (self.old, out.old) (self.new, out.new) }
         ensures halts { IfErr result (λ f. HaltsWithin taken halts f (self.old, out.old) part.now (self.new, out.new)) };
 }
 
@@ -59,6 +63,7 @@ pub(crate) fn take_parts<L, R: Parts<L>>(
     requires begun { HasBegun R.taken (run.old, out.old) }
     ensures takes { OnOk result (TakesMore R.taken (run.old, out.old) piece.now (run.new, out.new)) }
     ensures few { OnOk result (R.count run.new ≤ most_bytes) }
+    ensures stays { StaysOn R.stays (run.old, out.old) (run.new, out.new) }
     ensures halts { IfErr result (λ f. HaltsOn R.taken R.halts f (run.old, out.old) (λ bytes. bytes ++ piece.now) false (run.new, out.new)) }
 {
     let len = run.part_len(piece, 0);
@@ -74,6 +79,7 @@ fn take_rest<L, R: Parts<L>>(run: &mut R, rest: &[u8], out: &mut L) -> Result<()
     requires few { R.count run.old ≤ most_bytes }
     ensures takes { OnOk result (TakesMore R.taken (run.old, out.old) rest.now (run.new, out.new)) }
     ensures few { OnOk result (R.count run.new ≤ most_bytes) }
+    ensures stays { StaysOn R.stays (run.old, out.old) (run.new, out.new) }
     ensures halts { IfErr result (λ f. HaltsOn R.taken R.halts f (run.old, out.old) (λ bytes. bytes ++ rest.now) false (run.new, out.new)) }
 {
     let text = utf8_front(rest);

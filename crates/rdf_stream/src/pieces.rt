@@ -5,7 +5,7 @@ ghost use Rattle.rdf_tokens.specs.Scans.{most_bytes};
 ghost use Rattle.rdf_driver.specs.declared.summary.Summary.{Summary};
 ghost use Rattle.rdf_stream.specs.declared.fault.StreamFault.{StreamFault};
 ghost use Rattle.rdf_stream.specs.Devices.{reading};
-ghost use Rattle.rdf_stream.specs.Pieces.{HaltsOn, HasBegun, ReadsAll, ReadStops, ReadsEnd, TakesMore};
+ghost use Rattle.rdf_stream.specs.Pieces.{HaltsOn, HasBegun, ReadsAll, ReadStops, ReadsEnd, StaysOn, TakenBefore, TakesMore};
 
 use crate::devices::{Failed, Source};
 use crate::fault::StreamFault;
@@ -34,14 +34,14 @@ pub(crate) trait Run<L> {
         ensures takes { OnOk result (TakesMore taken (self.old, out.old) piece.now (self.new, out.new)) }
         ensures count { OnOk result (count self.new ≡ count self.old + length piece.now) }
         ensures few { OnOk result (count self.new ≤ most_bytes) }
-        ensures stays { (first : Self × L) → stays first (self.old, out.old) → stays first (self.new, out.new) }
+        ensures stays { StaysOn stays (self.old, out.old) (self.new, out.new) }
         ensures halts { IfErr result (λ f. HaltsOn taken halts f (self.old, out.old) (λ bytes. bytes ++ piece.now) false (self.new, out.new)) };
 
     /// Takes the end.
     fn end(&mut self, out: &mut L) -> Result<Summary, StreamFault>
         requires begun { HasBegun taken (self.old, out.old) }
         ensures ends { IfOk result (λ summary. ReadsEnd taken ends summary (self.old, out.old) (self.new, out.new)) }
-        ensures stays { (first : Self × L) → stays first (self.old, out.old) → stays first (self.new, out.new) }
+        ensures stays { StaysOn stays (self.old, out.old) (self.new, out.new) }
         ensures halts { IfErr result (λ f. HaltsOn taken halts f (self.old, out.old) (λ bytes. bytes) true (self.new, out.new)) };
 }
 
@@ -59,9 +59,11 @@ pub(crate) fn read_pieces<S: Source, L, R: Run<L>>(
     requires stays { R.stays (run.old, out.old) (run.old, out.old) }
     ensures stays { R.stays (run.old, out.old) (run.new, out.new) }
     ensures read { IfOk result (λ summary.
-        ReadsAll R.ends (S.remaining source.old) (reading S.remaining S.has_ended S.has_failed source.new) summary (run.old, out.old) (run.new, out.new)) }
+        ReadsAll R.ends (S.remaining source.old) (reading S.remaining S.last S.has_ended S.has_failed source.new) summary (run.old, out.old) (run.new, out.new)) }
     ensures stops { IfErr result (λ f.
-        ReadStops R.taken R.halts f (S.remaining source.old) (reading S.remaining S.has_ended S.has_failed source.new) (run.old, out.old) (run.new, out.new)) }
+        ReadStops R.taken R.halts f (S.remaining source.old) (reading S.remaining S.last S.has_ended S.has_failed source.new) (run.old, out.old) (run.new, out.new)) }
+    ensures before { TakenBefore R.taken R.stays (S.remaining source.old) (reading S.remaining S.last S.has_ended S.has_failed source.new)
+        (run.old, out.old) (run.new, out.new) }
 {
     loop {
         let count = match source.fill(piece) {

@@ -35,7 +35,7 @@ pub fn show<A: Allocator + Copy, S: Source, D: Drain>(
     ensures accepted { IfOk result (ShowsAll job (S.remaining source.old) (D.contents drain.old) (D.contents drain.new)) }
     ensures ended { OnOk result (S.has_ended source.new ≡ true) }
     ensures flushed { OnOk result (D.is_flushed drain.new ≡ true) }
-    ensures stops { IfErr result (λ fault. ShowStops fault job (S.remaining source.old) (reading S.remaining S.has_ended S.has_failed source.new)
+    ensures stops { IfErr result (λ fault. ShowStops fault job (S.remaining source.old) (reading S.remaining S.last S.has_ended S.has_failed source.new)
         (D.contents drain.old) (D.contents drain.new) (D.has_failed drain.new)) }
     ensures refused { IfErr result IsRefusal }
 {
@@ -80,7 +80,7 @@ fn show_in<T: Spoken + Drop, A: Allocator + Copy, S: Source, D: Drain>(
     ensures ended { OnOk result (S.has_ended source.new ≡ true) }
     ensures flushed { OnOk result (D.is_flushed lines.new.drain.now ≡ true) }
     ensures same { SameOut lines.old lines.new }
-    ensures stops { IfErr result (λ fault. ShowStops fault job.now (S.remaining source.old) (reading S.remaining S.has_ended S.has_failed source.new)
+    ensures stops { IfErr result (λ fault. ShowStops fault job.now (S.remaining source.old) (reading S.remaining S.last S.has_ended S.has_failed source.new)
         (D.contents lines.old.drain.now) (D.contents lines.new.drain.now) (D.has_failed lines.new.drain.now)) }
     ensures refused { IfErr result IsRefusal }
 {

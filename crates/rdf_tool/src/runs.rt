@@ -159,7 +159,7 @@ fn act<S: Source, O: Drain>(
     ensures accepted { OnOk result (IfSome (S.remaining source.old) (λ bytes. Does action job bytes (O.contents out.old) (O.contents out.new))) }
     ensures flushed { OnOk result (O.is_flushed out.new ≡ true) }
     ensures stops { IfErr result (λ fault.
-        StopsAction action fault job (S.remaining source.old) (reading S.remaining S.has_ended S.has_failed source.new)
+        StopsAction action fault job (S.remaining source.old) (reading S.remaining S.last S.has_ended S.has_failed source.new)
         (O.contents out.old) (O.contents out.new) (O.has_failed out.new)) }
 {
     match action {
@@ -188,7 +188,7 @@ fn check_to<S: Source, O: Drain>(
     ensures accepted { OnOk result (IfSome (S.remaining source.old) (λ bytes. IsChecked job bytes (O.contents out.old) (O.contents out.new))) }
     ensures flushed { OnOk result (O.is_flushed out.new ≡ true) }
     ensures stops { IfErr result (λ fault.
-        StopsCheck fault job (S.remaining source.old) (reading S.remaining S.has_ended S.has_failed source.new)
+        StopsCheck fault job (S.remaining source.old) (reading S.remaining S.last S.has_ended S.has_failed source.new)
         (O.contents out.old) (O.contents out.new) (O.has_failed out.new)) }
 {
     let summary = match check(alloc, job, source) {

@@ -12,6 +12,7 @@ pub(crate) struct Parts<'a> {
     part: usize,
     others: usize,
     calls: u64,
+    last: usize,
     ended: bool,
     failed: bool,
 }
@@ -19,12 +20,15 @@ pub(crate) struct Parts<'a> {
 impl<'a> Source for Parts<'a> {
     ghost remaining = { λ s. Some s.bytes.now };
 
+    ghost last = { λ s. s.last };
+
     ghost has_ended = { λ s. s.ended };
 
     ghost has_failed = { λ s. s.failed };
 
     fn fill(&mut self, buf: &mut [u8]) -> Result<usize, Failed> {
         if self.calls == 0 {
+            self.last = 0;
             self.failed = true;
             return Err(Failed);
         }
@@ -33,6 +37,7 @@ impl<'a> Source for Parts<'a> {
         let (front, rest) = self.bytes.split_at(count);
         buf[..count].copy_from_slice(front);
         self.bytes = rest;
+        self.last = count;
         self.part = self.others;
         if count == 0 && !buf.is_empty() {
             self.ended = true;
@@ -102,6 +107,7 @@ pub(crate) fn cut_at(bytes: &[u8], cut: usize) -> Parts<'_>
         part: cut,
         others: if cut == 0 { 1 } else { usize::MAX },
         calls: u64::MAX,
+        last: 0,
         ended: false,
         failed: false,
     }
@@ -117,6 +123,7 @@ pub(crate) fn failing_source(text: &str, calls: u64) -> Parts<'_>
         part: 1,
         others: 1,
         calls,
+        last: 0,
         ended: false,
         failed: false,
     }
@@ -165,6 +172,7 @@ pub(crate) fn wide_source(bytes: &[u8], calls: u64) -> Parts<'_>
         part: usize::MAX,
         others: usize::MAX,
         calls,
+        last: 0,
         ended: false,
         failed: false,
     }

@@ -12,7 +12,7 @@ pub returns-in-Line-clause-stops : goal.returns-in-Line-clause-stops
 returns-in-Line-clause-stops g c =
     if_err c.check_with.result _ _
     (λ reported h.
-    lines_job (λ j. CheckStops reported j.language (g.S.Source.remaining c.args.source.now) (reading g.S.Source.remaining g.S.Source.has_ended g.S.Source.has_failed c.check_with.new.source)) c.args.job c.in-Line.form (search rules)
+    lines_job (λ j. CheckStops reported j.language (g.S.Source.remaining c.args.source.now) (reading g.S.Source.remaining g.S.Source.last g.S.Source.has_ended g.S.Source.has_failed c.check_with.new.source)) c.args.job c.in-Line.form (search rules)
     c.limits.result.iri (search rules) c.line_reader.result.scanner.limit (search rules) _ refl (h _ (record { lawful = lines_lawful; read = c.line_reader.ensures.read })))
     c.check_with.ensures.stops
 
@@ -28,6 +28,6 @@ pub returns-clause-stops : goal.returns-clause-stops
 returns-clause-stops g c =
     if_err c.check_with-in-Tree.result _ _
     (λ reported h.
-    trees_job (λ j. CheckStops reported j.language (g.S.Source.remaining c.args.source.now) (reading g.S.Source.remaining g.S.Source.has_ended g.S.Source.has_failed c.check_with-in-Tree.new.source)) c.args.job c.in-Tree.form
+    trees_job (λ j. CheckStops reported j.language (g.S.Source.remaining c.args.source.now) (reading g.S.Source.remaining g.S.Source.last g.S.Source.has_ended g.S.Source.has_failed c.check_with-in-Tree.new.source)) c.args.job c.in-Tree.form
     (search rules) c.options.result (search rules) c.tree_reader.result.scanner.limit (search rules) _ refl (h _ (record { lawful = trees_lawful; read = c.tree_reader.ensures.read })))
     c.check_with-in-Tree.ensures.stops

@@ -7,7 +7,7 @@ use Rattle.rdf_stream.proofs.PiecesLemmas.{if_err, if_ok, none_given, on_ok, rep
 use Rattle.rdf_stream.proofs.checks.check_with.Goals as goal
 
 pub returns-in_err-piece-clause-stops : goal.returns-in_err-piece-clause-stops
-returns-in_err-piece-clause-stops g c = reported_stops _ _ _ c.from_residual.ensures.1 (λ x b. none_given (reading g.S.Source.remaining g.S.Source.has_ended g.S.Source.has_failed c.args.source.now) c.requires.more c.requires.source)
+returns-in_err-piece-clause-stops g c = reported_stops _ _ _ c.from_residual.ensures.1 (λ x b. none_given (reading g.S.Source.remaining g.S.Source.last g.S.Source.has_ended g.S.Source.has_failed c.args.source.now) c.requires.more c.requires.source)
 
 pub read_pieces-requires-clause-begun : goal.read_pieces-requires-clause-begun
 read_pieces-requires-clause-begun g c = begins g.G.Grammar.words c.requires.begun.0 (c.args.reader, _) c.requires.begun.1

@@ -1,7 +1,8 @@
 -- A run over the pieces of a source: it begins with nothing read, and each outcome is that of the pieces.
 use Rattle.std.proofs.Common.{◌≡◌, true, refl}
 use Rattle.rdf_stream.specs.Faults.{IsRefusal}
-use Rattle.rdf_stream.proofs.ConvertsLemmas.{begins, converted, refused_document, stopped}
+use Rattle.rdf_stream.proofs.ConvertsLemmas.{begins, converted, prompt, refused_document, stopped}
+use Rattle.rdf_stream.proofs.GrowthLemmas.{grows_none}
 use Rattle.rdf_stream.proofs.PiecesLemmas.{if_err, if_ok, on_ok}
 use Rattle.rdf_stream.proofs.conversions.convert_with.Goals as goal
 
@@ -35,3 +36,13 @@ returns-clause-refused g c =
     (λ reported a.
     refused_document _ g.D.Drain.contents g.D.Drain.has_failed g.D.Drain.is_flushed g.G.Grammar.words g.G.Passes.style c.requires.begins.0 _ _ (c.args.reader, c.args.lines.now) (c.read_pieces.new.run, c.read_pieces.new.out) refl refl c.requires.begins.1 _ _ reported a)
     c.read_pieces.ensures.stops
+
+pub read_pieces-requires-clause-stays : goal.read_pieces-requires-clause-stays
+read_pieces-requires-clause-stays g c = grows_none g.D.Drain.contents c.args.lines.now
+
+pub returns-clause-same : goal.returns-clause-same
+returns-clause-same g c = c.read_pieces.ensures.stays.same
+
+pub returns-clause-prompt : goal.returns-clause-prompt
+returns-clause-prompt g c = λ x b.
+    prompt _ g.D.Drain.contents g.D.Drain.has_failed g.D.Drain.is_flushed g.G.Grammar.words g.G.Passes.style x _ _ (c.args.reader, c.args.lines.now) (c.read_pieces.new.run, c.read_pieces.new.out) refl refl b _ _ c.read_pieces.ensures.before

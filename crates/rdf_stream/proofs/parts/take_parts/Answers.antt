@@ -7,3 +7,6 @@ take_rest-requires-clause-begun g c = begun_on g.R.Parts.taken _ _ _ c.requires.
 
 pub returns-in-Err-clause-halts : goal.returns-in-Err-clause-halts
 returns-in-Err-clause-halts g c = halts_in g.R.Parts.taken g.R.Parts.halts _ _ _ _ c.args.piece.now _ refl c.in-Err.ensures.halts
+
+pub returns-in-Ok-clause-stays : goal.returns-in-Ok-clause-stays
+returns-in-Ok-clause-stays g c = λ first s. c.take_rest.ensures.stays first (c.in-Ok.ensures.stays first s)

@@ -36,6 +36,7 @@ loop-at-preserved g c =
         begun = begun_on g.R.Parts.taken _ _ _ (begun_on g.R.Parts.taken _ _ _ i.begun c.in-Ok.ensures.takes) c.in-Ok-read_part.ensures.takes;
         few = c.in-Ok-read_part.ensures.few;
       },
+      λ first s. c.in-Ok-read_part.ensures.stays first (c.in-Ok.ensures.stays first (c.loop-at.invariant.3 first s)),
     )
 
 pub returns-in-Err-read_part-clause-halts : goal.returns-in-Err-read_part-clause-halts
@@ -46,3 +47,12 @@ returns-in-Err-read_part-clause-halts g c =
     let passed = front_at rest c.utf8_front-text.result.now front _ c.loop-at.at n c.utf8_front-text.ensures c.front_from-front.ensures.stands c.in-Ok.ensures.within in
     let mid = takes_to g.R.Parts.taken _ _ _ rest (take n front) c.loop-at.at n c.loop-at.invariant.2.takes c.in-Ok.ensures.takes passed in
     halts_from g.R.Parts.taken g.R.Parts.halts _ _ _ _ rest _ (c.loop-at.at + n) _ mid refl c.in-Err-read_part.ensures.halts
+
+pub returns-in-Err-clause-stays : goal.returns-in-Err-clause-stays
+returns-in-Err-clause-stays g c = λ first s. c.in-Err.ensures.stays first (c.loop-at.invariant.3 first s)
+
+pub returns-in-Err-read_part-clause-stays : goal.returns-in-Err-read_part-clause-stays
+returns-in-Err-read_part-clause-stays g c = λ first s. c.in-Err-read_part.ensures.stays first (c.in-Ok.ensures.stays first (c.loop-at.invariant.3 first s))
+
+pub returns-clause-stays : goal.returns-clause-stays
+returns-clause-stays g c = c.loop-at.invariant.3

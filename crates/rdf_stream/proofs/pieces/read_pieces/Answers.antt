@@ -1,7 +1,7 @@
 -- The loop over the pieces of a source: the bytes so far were taken, and it ends where the source does or an error stops it.
-use Rattle.std.proofs.Common.{rules, arith, length-take}
-use Rattle.std.proofs.KnownBytes.{Consumes-nil}
-use Rattle.rdf_stream.proofs.PiecesLemmas.{end_read, end_stops, no_more, on_piece, piece_stops, read_stops}
+use Rattle.std.proofs.Common.{◌≤◌, [], rules, arith, length, length-take, take}
+use Rattle.std.proofs.KnownBytes.{Consumes-kept, Consumes-nil}
+use Rattle.rdf_stream.proofs.PiecesLemmas.{before_piece, end_read, end_stops, no_more, on_piece, piece_stops, read_stops}
 use Rattle.rdf_stream.proofs.pieces.read_pieces.Goals as goal
 
 pub loop-count-init : goal.loop-count-init
@@ -33,3 +33,17 @@ returns-in-Err-take-clause-stops g c =
 pub returns-in-Err-clause-stops : goal.returns-in-Err-clause-stops
 returns-in-Err-clause-stops g c =
     read_stops g.R.Run.taken g.R.Run.halts g.R.Run.ends g.R.Run.stays _ _ _ _ _ _ c.loop-count.invariant c.in-Err.ensures.bytes c.in-Err.ensures.failed c.in-Err.ensures.ended
+
+pub returns-in-Err-clause-before : goal.returns-in-Err-clause-before
+returns-in-Err-clause-before g c =
+    before_piece g.R.Run.taken g.R.Run.halts g.R.Run.ends g.R.Run.stays _ _ _ _ _ _ c.loop-count.invariant _ [] (Consumes-kept _ _ _ [] (Consumes-nil _) c.in-Err.ensures.bytes) (omega arith) (λ first s. s)
+
+pub returns-then-count-eq0-clause-before : goal.returns-then-count-eq0-clause-before
+returns-then-count-eq0-clause-before g c =
+    before_piece g.R.Run.taken g.R.Run.halts g.R.Run.ends g.R.Run.stays _ _ _ _ _ _ c.loop-count.invariant _ [] (no_more _ _ _ _ c.in-Ok.ensures.bytes c.if-count-eq0.true (search rules)) (omega arith)
+    c.end.ensures.stays
+
+pub returns-in-Err-take-clause-before : goal.returns-in-Err-take-clause-before
+returns-in-Err-take-clause-before g c =
+    let few : length (take c.in-Ok.count c.fill.new.buf) ≤ g.S.Source.last c.fill.new.self = omega (arith, length-take c.in-Ok.count c.fill.new.buf, c.in-Ok.ensures.last) in
+    before_piece g.R.Run.taken g.R.Run.halts g.R.Run.ends g.R.Run.stays _ _ _ _ _ _ c.loop-count.invariant _ _ c.in-Ok.ensures.bytes.0 few c.in-Err-take.ensures.stays

@@ -5,6 +5,7 @@ use Rattle.rdf_stream.specs.Converting.{RunHalts}
 use Rattle.rdf_stream.specs.LineOut.{PutHalts, Writes}
 use Rattle.rdf_stream.proofs.ConvertingLemmas.{kept_where, live_now, pass_halts, run_passes}
 use Rattle.rdf_stream.proofs.ConvertsLemmas.{halts_more}
+use Rattle.rdf_stream.proofs.GrowthLemmas.{grows_both, grows_moved, refusal_grows}
 use Rattle.rdf_stream.proofs.PartsLemmas.{ascii_take}
 use Rattle.rdf_stream.proofs.conversions.ReaderPartsLineOut.pass_front.Goals as goal
 
@@ -31,3 +32,9 @@ returns-in-Err-clause-halts g c = λ more first bytes i.
     ∙ (ap (λ l. bytes ++ l) (sym (append_assoc part rest more)) ∙ ap (λ l. bytes ++ (l ++ more)) (take-append-drop c.pass-passed.result text)) in
     subst (λ b. RunHalts g.D.Drain.contents g.D.Drain.has_failed g.G.Grammar.words c.in-Err.fault first.0 first.1 b false c.append.new.self) whole
     (halts_more g.D.Drain.contents g.D.Drain.has_failed g.G.Grammar.words c.in-Err.fault first.0 first.1 (bytes ++ part) (rest ++ more) c.append.new.self halts)
+
+pub returns-in-Ok-clause-stays : goal.returns-in-Ok-clause-stays
+returns-in-Ok-clause-stays g c = λ first s. grows_both g.D.Drain.contents _ _ _ s (grows_moved g.D.Drain.contents _ _ _ _ c.in-Ok.ensures.same c.in-Ok.ensures.writes)
+
+pub returns-in-Err-clause-stays : goal.returns-in-Err-clause-stays
+returns-in-Err-clause-stays g c = λ first s. grows_both g.D.Drain.contents _ _ _ s (refusal_grows g.D.Drain.contents g.D.Drain.has_failed _ _ _ _ c.in-Err.ensures.same c.in-Err.ensures.halts)

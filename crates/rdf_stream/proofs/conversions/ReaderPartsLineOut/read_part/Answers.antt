@@ -3,6 +3,7 @@ use Rattle.std.proofs.Common.{◌++◌, false, append_assoc, subst}
 use Rattle.rdf_stream.specs.Converting.{RunHalts}
 use Rattle.rdf_stream.proofs.ConvertingLemmas.{few_now, live_now, run_halts, run_reads}
 use Rattle.rdf_stream.proofs.ConvertsLemmas.{halts_more}
+use Rattle.rdf_stream.proofs.GrowthLemmas.{feed_grows, grows_both, puts_grow, stop_grows}
 use Rattle.rdf_stream.proofs.conversions.ReaderPartsLineOut.read_part.Goals as goal
 
 pub feed-requires : goal.feed-requires
@@ -26,3 +27,12 @@ returns-in-Err-clause-halts g c = λ more first bytes i.
     let halts = run_halts g.D.Drain.contents g.D.Drain.has_failed g.G.Grammar.words g.G.Passes.style first.0 first.1 bytes c.args.self.now c.args.lines.now i part _ _ _ _ _ _ _ c.in-Err.ensures.err c.stop.ensures.same c.stop.ensures.reports in
     subst (λ b. RunHalts g.D.Drain.contents g.D.Drain.has_failed g.G.Grammar.words c.stop.result first.0 first.1 b false c.stop.new.lines) (append_assoc bytes part more)
     (halts_more g.D.Drain.contents g.D.Drain.has_failed g.G.Grammar.words c.stop.result first.0 first.1 (bytes ++ part) more c.stop.new.lines halts)
+
+pub returns-in-Ok-clause-stays : goal.returns-in-Ok-clause-stays
+returns-in-Ok-clause-stays g c = λ first s. grows_both g.D.Drain.contents _ _ _ s (puts_grow g.D.Drain.contents g.D.Drain.has_failed _ _ _ c.in-Ok.ensures.ok.puts)
+
+pub returns-in-Err-clause-stays : goal.returns-in-Err-clause-stays
+returns-in-Err-clause-stays g c = λ first s.
+    grows_both g.D.Drain.contents _ _ _ s
+    (grows_both g.D.Drain.contents _ _ _ (feed_grows g.D.Drain.contents g.D.Drain.has_failed g.G.Grammar.words _ _ _ _ _ _ _ c.in-Err.ensures.err)
+    (stop_grows g.D.Drain.contents g.D.Drain.has_failed _ _ _ _ c.stop.ensures.same c.stop.ensures.reports))

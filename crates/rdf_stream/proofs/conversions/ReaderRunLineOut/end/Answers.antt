@@ -1,7 +1,8 @@
 -- The end: what waits is sent, and an error there or of the drain stops the run.
 use Rattle.std.proofs.Common.{rules}
 use Rattle.rdf_stream.proofs.LineOutLemmas.{puts_live}
-use Rattle.rdf_stream.proofs.ConvertingLemmas.{end_run_broke, end_run_halts, live_now, putting, run_ends, stays_on}
+use Rattle.rdf_stream.proofs.GrowthLemmas.{finish_grows, grows_both, grows_by, grows_front, puts_grow, stop_grows}
+use Rattle.rdf_stream.proofs.ConvertingLemmas.{end_run_broke, end_run_halts, live_now, putting, run_ends}
 use Rattle.rdf_stream.proofs.conversions.ReaderRunLineOut.end.Goals as goal
 
 pub send-requires : goal.send-requires
@@ -14,26 +15,22 @@ returns-in-Ok-send-clause-ends g c = λ first bytes i.
     run_ends g.D.Drain.contents g.D.Drain.has_failed g.G.Grammar.words g.G.Passes.style first.0 first.1 bytes c.args.self.now c.args.lines.now (putting g.D.Drain.contents g.D.Drain.has_failed g.G.Grammar.words g.G.Passes.style first.0 first.1 bytes c.args.self.now c.args.lines.now i) _ _ c.in-Ok.ensures.ok g.D.Drain.is_flushed _ (search rules) (search rules) (search rules)
 
 pub returns-in-Ok-send-clause-stays : goal.returns-in-Ok-send-clause-stays
-returns-in-Ok-send-clause-stays g c = λ before s.
-    let (first, bytes, i) = c.requires.begun in
-    stays_on g.D.Drain.contents g.D.Drain.has_failed g.G.Grammar.words g.G.Passes.style first.0 first.1 bytes c.args.self.now c.args.lines.now (putting g.D.Drain.contents g.D.Drain.has_failed g.G.Grammar.words g.G.Passes.style first.0 first.1 bytes c.args.self.now c.args.lines.now i) _
-    (run_ends g.D.Drain.contents g.D.Drain.has_failed g.G.Grammar.words g.G.Passes.style first.0 first.1 bytes c.args.self.now c.args.lines.now (putting g.D.Drain.contents g.D.Drain.has_failed g.G.Grammar.words g.G.Passes.style first.0 first.1 bytes c.args.self.now c.args.lines.now i) _ _ c.in-Ok.ensures.ok g.D.Drain.is_flushed _ (search rules) (search rules) (search rules)).same before.1 s
+returns-in-Ok-send-clause-stays g c = λ first s.
+    grows_both g.D.Drain.contents _ _ _ s (grows_both g.D.Drain.contents _ _ _ (puts_grow g.D.Drain.contents g.D.Drain.has_failed _ _ _ c.in-Ok.ensures.ok.puts) (grows_by g.D.Drain.contents _ _ c.finish.new.sink.buffer.now.items (search rules) (search rules)))
 
 pub returns-in-Err-send-clause-stays : goal.returns-in-Err-send-clause-stays
-returns-in-Err-send-clause-stays g c = λ before s.
-    let (first, bytes, i) = c.requires.begun in
-    stays_on g.D.Drain.contents g.D.Drain.has_failed g.G.Grammar.words g.G.Passes.style first.0 first.1 bytes c.args.self.now c.args.lines.now (putting g.D.Drain.contents g.D.Drain.has_failed g.G.Grammar.words g.G.Passes.style first.0 first.1 bytes c.args.self.now c.args.lines.now i) _
-    (end_run_broke g.D.Drain.contents g.D.Drain.has_failed g.G.Grammar.words g.G.Passes.style first.0 first.1 bytes c.args.self.now c.args.lines.now (putting g.D.Drain.contents g.D.Drain.has_failed g.G.Grammar.words g.G.Passes.style first.0 first.1 bytes c.args.self.now c.args.lines.now i) _ _ c.in-Ok.ensures.ok _ (search rules) (search rules) (search rules)).same before.1 s
+returns-in-Err-send-clause-stays g c = λ first s.
+    grows_both g.D.Drain.contents _ _ _ s (grows_both g.D.Drain.contents _ _ _ (puts_grow g.D.Drain.contents g.D.Drain.has_failed _ _ _ c.in-Ok.ensures.ok.puts) (grows_front g.D.Drain.contents _ _ c.finish.new.sink.buffer.now.items (search rules) (search rules)))
 
 pub returns-in-Err-send-clause-halts : goal.returns-in-Err-send-clause-halts
 returns-in-Err-send-clause-halts g c = λ first bytes i.
     end_run_broke g.D.Drain.contents g.D.Drain.has_failed g.G.Grammar.words g.G.Passes.style first.0 first.1 bytes c.args.self.now c.args.lines.now (putting g.D.Drain.contents g.D.Drain.has_failed g.G.Grammar.words g.G.Passes.style first.0 first.1 bytes c.args.self.now c.args.lines.now i) _ _ c.in-Ok.ensures.ok _ (search rules) (search rules) (search rules)
 
 pub returns-in-Err-clause-stays : goal.returns-in-Err-clause-stays
-returns-in-Err-clause-stays g c = λ before s.
-    let (first, bytes, i) = c.requires.begun in
-    stays_on g.D.Drain.contents g.D.Drain.has_failed g.G.Grammar.words g.G.Passes.style first.0 first.1 bytes c.args.self.now c.args.lines.now (putting g.D.Drain.contents g.D.Drain.has_failed g.G.Grammar.words g.G.Passes.style first.0 first.1 bytes c.args.self.now c.args.lines.now i) _
-    (end_run_halts g.D.Drain.contents g.D.Drain.has_failed g.G.Grammar.words g.G.Passes.style first.0 first.1 bytes c.args.self.now c.args.lines.now (putting g.D.Drain.contents g.D.Drain.has_failed g.G.Grammar.words g.G.Passes.style first.0 first.1 bytes c.args.self.now c.args.lines.now i) _ _ _ _ _ _ _ c.in-Err.ensures.err c.stop.ensures.same c.stop.ensures.reports).same before.1 s
+returns-in-Err-clause-stays g c = λ first s.
+    grows_both g.D.Drain.contents _ _ _ s
+    (grows_both g.D.Drain.contents _ _ _ (finish_grows g.D.Drain.contents g.D.Drain.has_failed g.G.Grammar.words _ _ _ _ _ _ c.in-Err.ensures.err)
+    (stop_grows g.D.Drain.contents g.D.Drain.has_failed _ _ _ _ c.stop.ensures.same c.stop.ensures.reports))
 
 pub returns-in-Err-clause-halts : goal.returns-in-Err-clause-halts
 returns-in-Err-clause-halts g c = λ first bytes i.

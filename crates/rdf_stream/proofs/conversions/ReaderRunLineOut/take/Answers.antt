@@ -1,7 +1,7 @@
 -- A piece: its lines are handed over, and an error within it or of the drain stops the run.
 use Rattle.std.proofs.Common.{rules, ap, ◌+◌, ◌∙◌, length, length-append, sym}
-use Rattle.rdf_stream.proofs.ConvertingLemmas.{count_now, live_now, putting, run_broke, run_handed, same_now, stays_on}
-use Rattle.rdf_stream.proofs.LineOutLemmas.{same_out}
+use Rattle.rdf_stream.proofs.ConvertingLemmas.{count_now, live_now, putting, run_broke, run_handed}
+use Rattle.rdf_stream.proofs.GrowthLemmas.{grows_both, grows_by, grows_front}
 use Rattle.rdf_stream.proofs.conversions.ReaderRunLineOut.take.Goals as goal
 
 pub take_parts-requires : goal.take_parts-requires
@@ -30,20 +30,10 @@ returns-in-Ok-hand_over-clause-count g c =
     ∙ (length-append bytes c.args.piece.now ∙ ap (λ n. n + length c.args.piece.now) (sym before))
 
 pub returns-in-Ok-hand_over-clause-stays : goal.returns-in-Ok-hand_over-clause-stays
-returns-in-Ok-hand_over-clause-stays g c = λ before s.
-    let (first, bytes, i) = c.requires.begun in
-    let put = putting g.D.Drain.contents g.D.Drain.has_failed g.G.Grammar.words g.G.Passes.style first.0 first.1 bytes c.args.self.now c.args.lines.now i in
-    let mid = same_now g.D.Drain.contents g.D.Drain.has_failed g.G.Grammar.words g.G.Passes.style first.0 first.1 _ _ _ (c.in-Ok.ensures.takes first bytes put) in
-    stays_on g.D.Drain.contents g.D.Drain.has_failed g.G.Grammar.words g.G.Passes.style first.0 first.1 bytes c.args.self.now c.args.lines.now put _
-    (same_out first.1 _ _ mid (search rules)) before.1 s
+returns-in-Ok-hand_over-clause-stays g c = λ first s. grows_both g.D.Drain.contents _ _ _ (c.in-Ok.ensures.stays first s) (grows_by g.D.Drain.contents _ _ c.take_parts.new.out.buffer.now.items (search rules) (search rules))
 
 pub returns-in-Err-hand_over-clause-stays : goal.returns-in-Err-hand_over-clause-stays
-returns-in-Err-hand_over-clause-stays g c = λ before s.
-    let (first, bytes, i) = c.requires.begun in
-    let put = putting g.D.Drain.contents g.D.Drain.has_failed g.G.Grammar.words g.G.Passes.style first.0 first.1 bytes c.args.self.now c.args.lines.now i in
-    let mid = same_now g.D.Drain.contents g.D.Drain.has_failed g.G.Grammar.words g.G.Passes.style first.0 first.1 _ _ _ (c.in-Ok.ensures.takes first bytes put) in
-    stays_on g.D.Drain.contents g.D.Drain.has_failed g.G.Grammar.words g.G.Passes.style first.0 first.1 bytes c.args.self.now c.args.lines.now put _
-    (same_out first.1 _ _ mid (search rules)) before.1 s
+returns-in-Err-hand_over-clause-stays g c = λ first s. grows_both g.D.Drain.contents _ _ _ (c.in-Ok.ensures.stays first s) (grows_front g.D.Drain.contents _ _ c.take_parts.new.out.buffer.now.items (search rules) (search rules))
 
 pub returns-in-Err-hand_over-clause-halts : goal.returns-in-Err-hand_over-clause-halts
 returns-in-Err-hand_over-clause-halts g c = λ first bytes i.
@@ -52,11 +42,7 @@ returns-in-Err-hand_over-clause-halts g c = λ first bytes i.
     (search rules) (search rules) (search rules)
 
 pub returns-in-Err-clause-stays : goal.returns-in-Err-clause-stays
-returns-in-Err-clause-stays g c = λ before s.
-    let (first, bytes, i) = c.requires.begun in
-    let put = putting g.D.Drain.contents g.D.Drain.has_failed g.G.Grammar.words g.G.Passes.style first.0 first.1 bytes c.args.self.now c.args.lines.now i in
-    stays_on g.D.Drain.contents g.D.Drain.has_failed g.G.Grammar.words g.G.Passes.style first.0 first.1 bytes c.args.self.now c.args.lines.now put _
-    (c.in-Err.ensures.halts first bytes put).same before.1 s
+returns-in-Err-clause-stays g c = c.in-Err.ensures.stays
 
 pub returns-in-Err-clause-halts : goal.returns-in-Err-clause-halts
 returns-in-Err-clause-halts g c = λ first bytes i.
