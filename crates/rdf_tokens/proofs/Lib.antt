@@ -10,6 +10,7 @@ pub mod LabelLemmas
 pub mod TextLemmas
 pub mod TagLemmas
 pub mod NumberLemmas
+mod NumberQuick
 pub mod NameLemmas
 pub mod NameSorts
 pub mod IriSorts

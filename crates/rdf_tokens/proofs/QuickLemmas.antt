@@ -5,22 +5,23 @@ use Rattle.std.proofs.lemmas.Bool.Decides.{nat_tests}
 use Rattle.std.proofs.lemmas.Str.{encode_ascii, length-encode}
 use Rattle.std.specs.Str.{chars}
 use Rattle.rdf_terms.specs.declared.kind.Kind.{Kind}
-use Rattle.rdf_terms.specs.declared.kind.Kind.TheVariants.{Dot, LineEnd, Semicolon, Comma, OpenBracket, CloseBracket, OpenParen, CloseParen, OpenBrace, CloseBrace, PnameNs, PnameLn}
+use Rattle.rdf_terms.specs.declared.kind.Kind.TheVariants.{A, Dot, LineEnd, Semicolon, Comma, OpenBracket, CloseBracket, OpenParen, CloseParen, OpenBrace, CloseBrace, PnameNs, PnameLn}
 use Rattle.rdf_terms.specs.declared.kind.Dialect.{Dialect}
 use Rattle.rdf_terms.specs.declared.kind.Dialect.TheVariants.{Lines, Turtle}
-use Rattle.rdf_terms.specs.Classes.{is_letter}
+use Rattle.rdf_terms.specs.Classes.{is_digit, is_letter}
 use Rattle.rdf_terms.specs.Shapes.{fixed}
 use Rattle.rdf_terms.specs.Runs.{IsRun, is_name_byte}
 use Rattle.rdf_terms.specs.Values.{is_fit}
 use Rattle.rdf_tokens.specs.declared.front.Bare.{Bare}
 use Rattle.rdf_tokens.specs.declared.states.machine.State.{State}
-use Rattle.rdf_tokens.specs.declared.states.machine.State.TheVariants.{Start, Name}
+use Rattle.rdf_tokens.specs.declared.states.machine.State.TheVariants.{Start, Name, Number}
 use Rattle.rdf_tokens.specs.declared.states.name.Name.TheVariants as name
+use Rattle.rdf_tokens.specs.declared.states.number.Number.TheVariants as number
 use Rattle.rdf_tokens.specs.Tokens.{with_length, three_quotes, only_long}
 use Rattle.rdf_tokens.specs.Fixed.{Row, fits, left, is_begun, live_by, rows_of}
 use Rattle.rdf_tokens.specs.Front.{Reached, longer_front, begins, row_front, front_by, state_of}
 use Rattle.rdf_tokens.specs.Machine.{step, kind_at, goes_on}
-use Rattle.rdf_tokens.specs.Quick.{IsToken, IsQuick, single, is_sought, is_colon, ends_name, is_name_end}
+use Rattle.rdf_tokens.specs.Quick.{IsToken, IsQuick, single, is_sought, is_colon, ends_name, is_name_end, is_a, is_dot, begins_number}
 use Rattle.rdf_tokens.proofs.ByteLemmas.{at-start, ascii_first}
 use Rattle.rdf_tokens.proofs.BareLemmas.{implied, low-letter, letter_steps, no_long, no_quotes, one_on}
 use Rattle.rdf_tokens.proofs.RestLemmas.{reached-run}
@@ -28,7 +29,7 @@ use Rattle.rdf_tokens.proofs.RestStates.{rests_prefix, rests_local}
 use Rattle.rdf_tokens.proofs.StateLemmas.{front-bytes, live-bytes, reached-first, reached-step, reached-dead}
 
 -- where the states have ended and no spelling goes on, the longest front so far is the token
-settled : (d : Dialect) (bs : List ℕ) (at : ℕ) (s : State) (b f : Option (ℕ × Kind)) (n : ℕ) (k : Kind) → IsUtf8 bs → Reached d bs at s b → goes_on d s ≡ false →
+pub settled : (d : Dialect) (bs : List ℕ) (at : ℕ) (s : State) (b f : Option (ℕ × Kind)) (n : ℕ) (k : Kind) → IsUtf8 bs → Reached d bs at s b → goes_on d s ≡ false →
     f ≡ front_by (rows_of d fixed) bs → live_by (rows_of d fixed) bs ≡ false → longer_front f b ≡ Some (n, k) → ((w : List ℕ) → is_fit k w ≡ true) → IsToken d bs n k
 settled d bs at s b f n k u r g ef l e t =
     let p = reached-dead d bs at s b r g in
@@ -132,7 +133,7 @@ no_colons [] = true
 no_colons (r ∷ rs) = no_colon r.any_case r.text && no_colons rs
 
 -- what is not true is false
-not_true : (t : Bool) → not t ≡ true → t ≡ false
+pub not_true : (t : Bool) → not t ≡ true → t ≡ false
 not_true true e = absurd (false≢true e)
 not_true false e = refl
 
@@ -227,7 +228,7 @@ low-name : (c : ℕ) → is_name_byte c ≡ true → c < 128
 low-name c e = grind (arith, nat_tests)
 
 -- one of two holds that does not fail
-other : (a b : Bool) → (a || b) ≡ true → a ≡ false → b ≡ true
+pub other : (a b : Bool) → (a || b) ≡ true → a ≡ false → b ≡ true
 other true b e h = absurd (false≢true (sym h))
 other false b e h = e
 
@@ -336,3 +337,94 @@ some-bytes n e = grind (arith, nat_tests)
 pub sought : (d : Dialect) (bs : List ℕ) (b : Option Bare) → is_sought d bs b ≡ true → (d ≡ Turtle) × (is_letter (get_or bs 0 0) ≡ true)
 sought Lines bs b e = absurd (false≢true (and_parts _ _ e).1)
 sought Turtle bs b e = (refl, (and_parts _ _ e).1)
+
+-- Two bytes of ASCII: after the first the states have no kind, after the second they have ended, and the first is a spelling and
+-- the beginning of no longer one that goes on with the second.
+record IsFirst (c x : ℕ) (k : Kind) : Type 0 where
+  low : c < 128
+  low_next : x < 128
+  none : kind_at (step Turtle Start c) ≡ None
+  none_next : kind_at (step Turtle (step Turtle Start c) x) ≡ None
+  out : goes_on Turtle (step Turtle (step Turtle Start c) x) ≡ false
+  front : (t : List ℕ) → front_by (rows_of Turtle fixed) (c ∷ x ∷ t) ≡ Some (1, k)
+  closed : (t : List ℕ) → live_by (rows_of Turtle fixed) (c ∷ x ∷ t) ≡ false
+  fit : (w : List ℕ) → is_fit k w ≡ true
+
+-- the first of two such bytes is the token
+quick_first : (c x : ℕ) (t : List ℕ) (k : Kind) → IsUtf8 (c ∷ x ∷ t) → IsFirst c x k → IsToken Turtle (c ∷ x ∷ t) 1 k
+quick_first c x t k u p =
+    let bs = c ∷ x ∷ t in
+    let s = step Turtle Start c in
+    let s' = step Turtle s x in
+    let first = first-none Turtle bs s u (omega arith) p.low refl p.none in
+    let none : None ≡ only_long (three_quotes Turtle (chars bs)) (kind_at s') = sym (ap (only_long (three_quotes Turtle (chars bs))) p.none_next ∙ no_long (three_quotes Turtle (chars bs))) in
+    let next = reached-step Turtle bs 1 2 x s s' None None None first (ascii_first bs 1 (omega arith) p.low_next)
+    (omega (arith, ap length (encode_ascii x p.low_next), length-encode x)) (omega arith) refl none refl in
+    settled Turtle bs 2 s' None (Some (1, k)) 1 k u next p.out (sym (p.front t)) (p.closed t) refl p.fit
+
+-- a state of no name and of no number
+abbrev pub at_ended : State → Bool
+at_ended (Name name.Dead) = true
+at_ended (Number number.Dead) = true
+at_ended s = false
+
+-- such a state has no kind and goes on with nothing
+pub ended-state : (s : State) → at_ended s ≡ true → (kind_at s ≡ None) × (goes_on Turtle s ≡ false)
+ended-state (Name name.Dead) e = (refl, refl)
+ended-state (Number number.Dead) e = (refl, refl)
+ended-state s e = absurd (false≢true e)
+
+-- each byte of ASCII: one with which no name goes on ends the word `a`
+abbrev word_tests : ℕ → Bool
+word_tests x = not (ends_name x) || (is_name_byte x || at_ended (step Turtle (step Turtle Start 97) x))
+
+-- and one that is no digit ends what begins with a dot
+abbrev dot_tests : ℕ → Bool
+dot_tests x = is_digit x || at_ended (step Turtle (step Turtle Start 46) x)
+
+-- the word `a` before a byte with which no name goes on
+word-first : (x : ℕ) → ends_name x ≡ true → is_name_byte x ≡ false → IsFirst 97 x A
+unfolding is_fit
+word-first x e h =
+    let low : x < 128 = ltb-true x 128 (and_parts _ _ e).0 in
+    let p = ended-state (step Turtle (step Turtle Start 97) x) (other (is_name_byte x) _ (implied (ends_name x) _ (agree_below_at word_tests (λ c. true) 128 x refl low) e) h) in
+    record { low = omega arith; low_next = low; none = refl; none_next = p.0; out = p.1; front = λ t. refl; closed = λ t. refl; fit = λ w. refl }
+
+-- a dot before no digit
+dot-first : (x : ℕ) → x < 128 → is_digit x ≡ false → IsFirst 46 x Dot
+unfolding is_fit
+dot-first x low h =
+    let p = ended-state (step Turtle (step Turtle Start 46) x) (other (is_digit x) _ (agree_below_at dot_tests (λ c. true) 128 x refl low) h) in
+    record { low = omega arith; low_next = low; none = refl; none_next = p.0; out = p.1; front = λ t. refl; closed = λ t. refl; fit = λ w. refl }
+
+-- the word `a` is the token, where its run ends at a byte with which no name goes on
+pub quick_a : (bs : List ℕ) (end : ℕ) → IsUtf8 bs → IsRun is_name_byte bs 1 end → is_a bs end ≡ true → IsToken Turtle bs 1 A
+quick_a bs end u r e =
+    let p = and_parts _ _ e in
+    let q = and_parts _ _ p.1 in
+    let one : end ≡ 1 = eqb-true end 1 p.0 in
+    let z : is_name_end bs 1 ≡ true = subst (λ n. is_name_end bs n ≡ true) one q.1 in
+    go bs u (eqb-true (get_or bs 0 0) 97 q.0) z (λ l. subst (λ n. is_name_byte (get_or bs n 0) ≡ false) one (r.stops (subst (λ n. n < length bs) (sym one) l)))
+  where
+    go : (bs : List ℕ) → IsUtf8 bs → get_or bs 0 0 ≡ 97 → is_name_end bs 1 ≡ true → (1 < length bs → is_name_byte (get_or bs 1 0) ≡ false) → IsToken Turtle bs 1 A
+    go [] u c z h = absurd (false≢true z)
+    go (c ∷ []) u a z h = absurd (false≢true z)
+    go (c ∷ x ∷ t) u a z h =
+        let e : ends_name x ≡ true = (and_parts (nat_lt 1 (length (c ∷ x ∷ t))) (ends_name x) z).1 in
+        subst (λ c. IsUtf8 (c ∷ x ∷ t) → IsToken Turtle (c ∷ x ∷ t) 1 A) (sym a) (λ u. quick_first 97 x t A u (word-first x e (h (omega arith)))) u
+
+-- a dot is the token before a byte that is no digit
+pub quick_dot : (d : Dialect) (bs : List ℕ) → IsUtf8 bs → is_dot d bs ≡ true → IsToken d bs 1 Dot
+quick_dot Lines bs u e = absurd (false≢true e)
+quick_dot Turtle [] u e = absurd (false≢true e)
+quick_dot Turtle (c ∷ []) u e = absurd (false≢true e)
+quick_dot Turtle (c ∷ x ∷ t) u e =
+    let p = and_parts (c == 46) _ (and_parts _ _ e).1 in
+    let q = and_parts _ _ p.1 in
+    subst (λ c. IsUtf8 (c ∷ x ∷ t) → IsToken Turtle (c ∷ x ∷ t) 1 Dot) (sym (eqb-true c 46 p.0))
+    (λ u. quick_first 46 x t Dot u (dot-first x (ltb-true x 128 q.0) (not_true _ q.1))) u
+
+-- where a number is sought
+pub numbered : (d : Dialect) (bs : List ℕ) → begins_number d bs ≡ true → (d ≡ Turtle) × (is_digit (get_or bs 0 0) ≡ true)
+numbered Lines bs e = absurd (false≢true e)
+numbered Turtle bs e = (refl, e)

@@ -1,11 +1,11 @@
 -- Tokens that the first bytes of a text settle.
-use Rattle.std.specs.Prelude.{◌≡◌, ℕ, Bool, true, false, cond, not, ◌&&◌, ◌==◌, nat_lt, List, [], ◌∷◌, length, get_or, Option, None, Some}
+use Rattle.std.specs.Prelude.{◌≡◌, ◌+◌, ℕ, Bool, true, false, cond, not, ◌&&◌, ◌==◌, nat_lt, List, [], ◌∷◌, length, get_or, Option, None, Some}
 use Rattle.std.specs.Str.{chars}
 use Rattle.rdf_terms.specs.declared.kind.Dialect.{Dialect}
 use Rattle.rdf_terms.specs.declared.kind.Dialect.TheVariants.{Lines, Turtle}
 use Rattle.rdf_terms.specs.declared.kind.Kind.{Kind}
 use Rattle.rdf_terms.specs.declared.kind.Kind.TheVariants.{Dot, LineEnd, Semicolon, Comma, OpenBracket, CloseBracket, OpenParen, CloseParen, OpenBrace, CloseBrace}
-use Rattle.rdf_terms.specs.Classes.{is_letter, is_turtle, one_of}
+use Rattle.rdf_terms.specs.Classes.{is_digit, is_letter, is_turtle, one_of}
 use Rattle.rdf_terms.specs.Shapes.{is_live}
 use Rattle.rdf_terms.specs.Values.{is_fit}
 use Rattle.rdf_tokens.specs.declared.front.Bare.{Bare}
@@ -49,3 +49,35 @@ ends_name b = nat_lt b 128 && not (one_of (58 ∷ 46 ∷ 37 ∷ 92 ∷ []) b)
 -- such a byte stands at a place
 abbrev pub is_name_end : List ℕ → ℕ → Bool
 is_name_end bs at = nat_lt at (length bs) && ends_name (get_or bs at 0)
+
+-- the word `a`, by the end of the run of letters, digits, '_' and '-' after its first byte, where no name goes on
+abbrev pub is_a : List ℕ → ℕ → Bool
+is_a bs end = (end == 1) && ((get_or bs 0 0 == 97) && is_name_end bs end)
+
+-- a dot of Turtle before a byte of ASCII that is no digit, with which no number begins
+abbrev pub is_dot : Dialect → List ℕ → Bool
+is_dot d bs = is_turtle d && (nat_lt 1 (length bs) && ((get_or bs 0 0 == 46) && (nat_lt (get_or bs 1 0) 128 && not (is_digit (get_or bs 1 0)))))
+
+-- a digit of Turtle comes first
+abbrev pub begins_number : Dialect → List ℕ → Bool
+begins_number d bs = is_turtle d && is_digit (get_or bs 0 0)
+
+-- '.' stands at a place
+abbrev pub is_point : List ℕ → ℕ → Bool
+is_point bs at = nat_lt at (length bs) && get_or bs at 0 == 46
+
+-- a byte of ASCII that is none of '.', 'E' and 'e': no integer goes on with it but with a digit
+abbrev pub ends_integer : ℕ → Bool
+ends_integer b = nat_lt b 128 && not (one_of (46 ∷ 69 ∷ 101 ∷ []) b)
+
+-- the same of decimals, after which a dot may stand
+abbrev pub ends_number : ℕ → Bool
+ends_number b = nat_lt b 128 && not (one_of (69 ∷ 101 ∷ []) b)
+
+-- a byte that ends an integer stands at a place
+abbrev pub is_integer_end : List ℕ → ℕ → Bool
+is_integer_end bs at = nat_lt at (length bs) && ends_integer (get_or bs at 0)
+
+-- digits stand between the dot and a place, and there a byte that ends a decimal
+abbrev pub is_decimal_end : List ℕ → ℕ → ℕ → Bool
+is_decimal_end bs dot at = nat_lt (dot + 1) at && (nat_lt at (length bs) && ends_number (get_or bs at 0))

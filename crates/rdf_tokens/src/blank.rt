@@ -1,6 +1,6 @@
 // White space and comments.
 
-ghost use Rattle.std.specs.Prelude.{◌≡◌};
+ghost use Rattle.std.specs.Prelude.{◌≡◌, true, false};
 ghost use Rattle.std.specs.Str.{chars};
 ghost use Rattle.rdf_tokens.specs.Tokens.{blank, is_line_end as ends_line, is_space as spaces};
 ghost use Rattle.rdf_tokens.specs.Blank.{comment_step, comment_after};
@@ -30,6 +30,12 @@ fn blank_bytes(dialect: Dialect, in_comment: bool, bytes: &[u8]) -> Blank
     ensures len { result.len ≡ blank dialect in_comment bytes.now }
     ensures comment { result.in_comment ≡ comment_after dialect in_comment bytes.now }
 {
+    if !in_comment && is_one_space(dialect, bytes) {
+        return Blank {
+            len: 1,
+            in_comment: false,
+        };
+    }
     let mut comment = in_comment;
     for (i, byte) in bytes.iter().enumerate() {
         match behind(dialect, comment, *byte) {
@@ -45,6 +51,18 @@ fn blank_bytes(dialect: Dialect, in_comment: bool, bytes: &[u8]) -> Blank
     Blank {
         len: bytes.len(),
         in_comment: comment,
+    }
+}
+
+/// Whether one space stands before a byte that is neither white space nor the beginning of a comment.
+#[inline(always)]
+fn is_one_space(dialect: Dialect, bytes: &[u8]) -> bool
+    ensures len { result ≡ true → blank dialect false bytes.now ≡ 1 }
+    ensures comment { result ≡ true → comment_after dialect false bytes.now ≡ false }
+{
+    match bytes {
+        [b' ', next, ..] => behind(dialect, false, *next).is_none(),
+        _ => false,
     }
 }
 

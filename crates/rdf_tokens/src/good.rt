@@ -68,6 +68,17 @@ pub fn line_feeds(bytes: &[u8]) -> usize
     count
 }
 
+/// The same of bytes that are mostly one.
+#[inline(always)]
+pub fn few_line_feeds(bytes: &[u8]) -> usize
+    ensures { result ≡ count_by (λ b. b == 10) bytes.now }
+{
+    match bytes {
+        [byte] => usize::from(*byte == b'\n'),
+        _ => line_feeds(bytes),
+    }
+}
+
 /// The same of sixteen bytes from a place on.
 #[inline(always)]
 fn feeds_in(bytes: &[u8], at: usize) -> usize

@@ -1,9 +1,10 @@
 // Tokens that the first bytes of a text settle.
 
-ghost use Rattle.std.specs.Prelude.{◌≡◌, ◌<◌, true, length, get_or};
-ghost use Rattle.rdf_terms.specs.Classes.{is_letter};
+ghost use Rattle.std.specs.Prelude.{◌≡◌, ◌<◌, ◌≤◌, true, length, get_or};
+ghost use Rattle.rdf_terms.specs.Classes.{is_digit, is_letter};
 ghost use Rattle.rdf_terms.specs.declared.kind.Dialect.TheVariants.{Turtle};
-ghost use Rattle.rdf_tokens.specs.Quick.{IsQuick, single, is_sought, is_colon, ends_name, is_name_end};
+ghost use Rattle.rdf_tokens.specs.Quick.{IsQuick, single, is_sought, is_colon, ends_name, is_name_end, is_a, is_dot, begins_number, is_point, is_integer_end, is_decimal_end, ends_integer, ends_number};
+ghost use Rattle.rdf_terms.specs.Runs.{IsRun};
 
 use crate::front::{Bare, begins_in_letter};
 use rdf_terms::runs::{Run, run_end};
@@ -31,6 +32,15 @@ pub(crate) fn quick_front(dialect: Dialect, text: &str, bare: &Option<Bare>) -> 
     }
     if is_sought(dialect, bytes, bare) {
         return quick_name(text);
+    }
+    if is_dot(dialect, bytes) {
+        return Quick {
+            len: 1,
+            kind: Some(Kind::Dot),
+        };
+    }
+    if begins_number(dialect, bytes) {
+        return quick_number(text);
     }
     Quick { len: 0, kind: None }
 }
@@ -71,7 +81,7 @@ fn is_sought(dialect: Dialect, bytes: &[u8], bare: &Option<Bare>) -> bool
     }
 }
 
-/// A name of Turtle that begins with a letter, and whose other characters are letters, digits, `_` and `-`.
+/// A name of Turtle that begins with a letter, and whose other characters are letters, digits, `_` and `-`; or the word `a`.
 #[inline(always)]
 fn quick_name(text: &str) -> Quick
     requires some { 0 < length text.now }
@@ -98,7 +108,129 @@ fn quick_name(text: &str) -> Quick
             }
         }
     }
+    if is_a(bytes, colon) {
+        return Quick {
+            len: 1,
+            kind: Some(Kind::A),
+        };
+    }
     Quick { len: 0, kind: None }
+}
+
+/// Whether the text of Turtle begins with a digit.
+#[inline(always)]
+fn begins_number(dialect: Dialect, bytes: &[u8]) -> bool
+    ensures { result ≡ begins_number dialect bytes.now }
+{
+    dialect == Dialect::Turtle && matches!(bytes, [b'0'..=b'9', ..])
+}
+
+/// An integer or a decimal of Turtle that begins with a digit, up to a byte of ASCII with which no number goes on.
+#[inline(always)]
+fn quick_number(text: &str) -> Quick
+    requires some { 0 < length text.now }
+    requires digit { is_digit (get_or text.now 0 0) ≡ true }
+    ensures { IsQuick Turtle text.now result.len result.kind }
+{
+    let bytes = text.as_bytes();
+    let end = digits_end(bytes, 1);
+    if is_integer_end(bytes, end) {
+        return Quick {
+            len: end,
+            kind: Some(Kind::Integer),
+        };
+    }
+    if is_point(bytes, end) {
+        let last = digits_end(bytes, end + 1);
+        if is_decimal_end(bytes, end, last) {
+            return Quick {
+                len: last,
+                kind: Some(Kind::Decimal),
+            };
+        }
+    }
+    Quick { len: 0, kind: None }
+}
+
+/// Where the run of digits from a place on ends.
+#[inline(always)]
+fn digits_end(bytes: &[u8], from: usize) -> usize
+    requires { from ≤ length bytes.now }
+    ensures { IsRun is_digit bytes.now from result }
+{
+    let mut at = from;
+    while at < bytes.len() && is_digit(bytes[at]) {
+        at += 1;
+    }
+    at
+}
+
+#[inline(always)]
+fn is_digit(byte: u8) -> bool
+    ensures { result ≡ is_digit byte }
+{
+    matches!(byte, b'0'..=b'9')
+}
+
+#[inline(always)]
+fn is_point(bytes: &[u8], at: usize) -> bool
+    ensures { result ≡ is_point bytes.now at }
+{
+    at < bytes.len() && bytes[at] == b'.'
+}
+
+/// Whether there is a byte with which no integer goes on, nor a number that begins with it.
+#[inline(always)]
+fn is_integer_end(bytes: &[u8], at: usize) -> bool
+    ensures { result ≡ is_integer_end bytes.now at }
+{
+    at < bytes.len() && ends_integer(bytes[at])
+}
+
+/// Whether there are digits after the dot, and a byte after them with which no decimal goes on.
+#[inline(always)]
+fn is_decimal_end(bytes: &[u8], dot: usize, at: usize) -> bool
+    requires { dot < length bytes.now }
+    ensures { result ≡ is_decimal_end bytes.now dot at }
+{
+    dot + 1 < at && (at < bytes.len() && ends_number(bytes[at]))
+}
+
+/// Whether a byte that is no digit goes on with no integer.
+#[inline(always)]
+fn ends_integer(byte: u8) -> bool
+    ensures { result ≡ ends_integer byte }
+{
+    byte < 128 && !matches!(byte, b'.' | b'E' | b'e')
+}
+
+/// The same of a decimal.
+#[inline(always)]
+fn ends_number(byte: u8) -> bool
+    ensures { result ≡ ends_number byte }
+{
+    byte < 128 && !matches!(byte, b'E' | b'e')
+}
+
+/// Whether the text is the word `a`, where its run of letters, digits, `_` and `-` ends at a byte with which no name goes on.
+#[inline(always)]
+fn is_a(bytes: &[u8], end: usize) -> bool
+    requires { 0 < length bytes.now }
+    ensures { result ≡ is_a bytes.now end }
+{
+    end == 1 && bytes[0] == b'a' && is_name_end(bytes, end)
+}
+
+/// Whether the text of Turtle begins with a dot and a byte of ASCII that is no digit: with no number.
+#[inline(always)]
+fn is_dot(dialect: Dialect, bytes: &[u8]) -> bool
+    ensures { result ≡ is_dot dialect bytes.now }
+{
+    dialect == Dialect::Turtle
+        && bytes.len() >= 2
+        && bytes[0] == b'.'
+        && bytes[1] < 128
+        && !bytes[1].is_ascii_digit()
 }
 
 #[inline(always)]

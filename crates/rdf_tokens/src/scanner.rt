@@ -16,7 +16,7 @@ ghost use Rattle.rdf_tokens.specs.Front.{bytes_of};
 
 use crate::blank::blank_run;
 use crate::front::{Bare, Walk};
-use crate::good::{good_front, line_feeds, mark_len};
+use crate::good::{few_line_feeds, good_front, line_feeds, mark_len};
 use crate::look::{Look, Tail, look_at};
 use crate::token::{Fault, Token};
 use rdf_terms::{Dialect, Kind, Reason};
@@ -367,7 +367,7 @@ impl<A: Allocator + Copy> Scanner<A> {
             return;
         }
         let end = self.start + len;
-        self.line += line_feeds(&self.text.as_bytes()[self.start..end]) as u64;
+        self.line += few_line_feeds(&self.text.as_bytes()[self.start..end]) as u64;
         self.offset += len as u64;
         self.start += len;
         self.walk = None;

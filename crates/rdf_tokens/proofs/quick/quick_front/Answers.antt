@@ -1,8 +1,9 @@
 -- The first byte tells the token, or a name is sought.
-use Rattle.std.proofs.Common.{◌≡◌, ◌<◌, ◌∙◌, true, sym, ap, subst, length, get_or}
-use Rattle.rdf_terms.specs.Classes.{is_letter}
-use Rattle.rdf_tokens.specs.Quick.{IsQuick, single}
-use Rattle.rdf_tokens.proofs.QuickLemmas.{quick_kind, some-bytes, sought}
+use Rattle.std.proofs.Common.{◌≡◌, ◌<◌, ◌∙◌, true, sym, ap, subst, length, get_or, IsUtf8}
+use Rattle.rdf_terms.specs.declared.kind.Kind.TheVariants.{Dot}
+use Rattle.rdf_terms.specs.Classes.{is_digit, is_letter}
+use Rattle.rdf_tokens.specs.Quick.{IsQuick, IsToken, single}
+use Rattle.rdf_tokens.proofs.QuickLemmas.{numbered, quick_dot, quick_kind, some-bytes, sought}
 use Rattle.rdf_tokens.proofs.quick.quick_front.Goals as goal
 
 pub returns-then-is_some : goal.returns-then-is_some
@@ -25,3 +26,24 @@ pub returns-then-is_sought : goal.returns-then-is_sought
 returns-then-is_sought c =
     let q = c.quick_name.result in
     subst (λ d. IsQuick d c.args.text.now q.len q.kind) (sym (sought c.args.dialect c.as_bytes-bytes.result.now c.args.bare.now (sym c.is_sought.ensures ∙ c.if-is_sought.true)).0) c.quick_name.ensures
+
+pub returns-then-is_dot : goal.returns-then-is_dot
+returns-then-is_dot c =
+    let bs = c.as_bytes-bytes.result.now in
+    let v = c.as_bytes-bytes.ensures.value in
+    subst (λ b. IsToken c.args.dialect b 1 Dot) v (quick_dot c.args.dialect bs (subst IsUtf8 (sym v) c.utf8.text) (sym c.is_dot.ensures ∙ c.if-is_dot.true))
+
+pub quick_number-requires-clause-some : goal.quick_number-requires-clause-some
+quick_number-requires-clause-some c =
+    subst (λ b. 0 < length b) c.as_bytes-bytes.ensures.value (some-bytes (length c.as_bytes-bytes.result.now) (sym c.is_empty.ensures ∙ c.if-is_empty.false))
+
+pub quick_number-requires-clause-digit : goal.quick_number-requires-clause-digit
+quick_number-requires-clause-digit c =
+    subst (λ b. is_digit (get_or b 0 0) ≡ true) c.as_bytes-bytes.ensures.value
+    (numbered c.args.dialect c.as_bytes-bytes.result.now (sym c.begins_number.ensures ∙ c.if-begins_number.true)).1
+
+pub returns-then-begins_number : goal.returns-then-begins_number
+returns-then-begins_number c =
+    let q = c.quick_number.result in
+    subst (λ d. IsQuick d c.args.text.now q.len q.kind) (sym (numbered c.args.dialect c.as_bytes-bytes.result.now (sym c.begins_number.ensures ∙ c.if-begins_number.true)).0)
+    c.quick_number.ensures

@@ -25,8 +25,8 @@ overflow_add-end g c =
     let k = s.text.bytes.ok.0 in
     search rules
 
-pub slice_bounds-line_feeds-end : goal.slice_bounds-line_feeds-end
-slice_bounds-line_feeds-end g c =
+pub slice_bounds-few_line_feeds-end : goal.slice_bounds-few_line_feeds-end
+slice_bounds-few_line_feeds-end g c =
     let s = c.self.inside in
     let n = c.requires.0 in
     let e : c.args.len ≡ bytes_of n (chars (drop s.start (string_bytes s.text))) = c.requires.1 ∙ ap (λ v. bytes_of n v.text) (sym c.self.view_is) in
@@ -40,8 +40,8 @@ invariant_of-self g c =
     let n = c.requires.0 in
     let e : c.args.len ≡ bytes_of n (chars (drop s.start (string_bytes s.text))) = c.requires.1 ∙ ap (λ v. bytes_of n v.text) (sym c.self.view_is) in
     let bytes = c.as_bytes.ensures.value in
-    let feeds = c.line_feeds.ensures ∙ ap (λ b. count_by (λ x. x == 10) (take (s.start + c.args.len - s.start) (drop s.start b))) bytes in
-    let held = held_advanced (string_bytes s.text) s.start n c.args.len s.pending.items _ _ c.self.invariant.held (IsUtf8-string_bytes s.text) e c.line_feeds.result feeds in
+    let feeds = c.few_line_feeds.ensures ∙ ap (λ b. count_by (λ x. x == 10) (take (s.start + c.args.len - s.start) (drop s.start b))) bytes in
+    let held = held_advanced (string_bytes s.text) s.start n c.args.len s.pending.items _ _ c.self.invariant.held (IsUtf8-string_bytes s.text) e c.few_line_feeds.result feeds in
     let bounded = c.self.invariant.bounded in
     record { held = held; walked = tt; no_names = bare_advanced s.dialect (string_bytes s.text) s.start c.args.len s.bare c.self.invariant.no_names; bounded = omega arith }
 
@@ -53,7 +53,7 @@ returns g c = λ n e.
     let s = c.self.inside in
     let e : c.args.len ≡ bytes_of n (chars (drop s.start (string_bytes s.text))) = e ∙ ap (λ v. bytes_of n v.text) (sym c.self.view_is) in
     let bytes = c.as_bytes.ensures.value in
-    let feeds = c.line_feeds.ensures ∙ ap (λ b. count_by (λ x. x == 10) (take (s.start + c.args.len - s.start) (drop s.start b))) bytes in
-    let place = place_advanced (string_bytes s.text) s.start n c.args.len s.pending.items _ _ c.self.invariant.held (IsUtf8-string_bytes s.text) e c.line_feeds.result feeds in
+    let feeds = c.few_line_feeds.ensures ∙ ap (λ b. count_by (λ x. x == 10) (take (s.start + c.args.len - s.start) (drop s.start b))) bytes in
+    let place = place_advanced (string_bytes s.text) s.start n c.args.len s.pending.items _ _ c.self.invariant.held (IsUtf8-string_bytes s.text) e c.few_line_feeds.result feeds in
     let text = text_advanced (string_bytes s.text) s.start n c.args.len s.pending.items _ _ c.self.invariant.held (IsUtf8-string_bytes s.text) e in
     moved_same (unread_of s) place text ∙ ap (λ v. moved v (past v.place (take n v.text)) v.begun v.comment (drop n v.text)) c.self.view_is
