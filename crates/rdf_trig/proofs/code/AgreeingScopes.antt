@@ -4,7 +4,6 @@ use Rattle.std.specs.Prelude.{nat_le, is_some, Result, Ok, Err, IfOk, IfErr}
 use Rattle.std.proofs.lemmas.Bool.{cases_Bool, cond-true, cond-false}
 use Rattle.rdf_terms.specs.declared.kind.Kind.{Kind}
 use Rattle.rdf_terms.specs.declared.kind.Kind.TheVariants.{IriRef, PnameNs, PnameLn}
-use Rattle.rdf_terms.specs.Terms as term
 use Rattle.rdf_iri.specs.Limits.{Sizes}
 use Rattle.rdf_iri.specs.Texts.{equal}
 use Rattle.rdf_iri.specs.Resolve.{resolved}

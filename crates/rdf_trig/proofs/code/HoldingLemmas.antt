@@ -1,6 +1,6 @@
 -- The texts that a token brings are no longer than the token, and the stack of frames keeps what holds of each.
 use Rattle.std.proofs.Common.{◌≡◌, ℕ, Option, Some, None, ◌+◌, ◌^◌, ◌*◌, ◌≤◌, List, [], ◌∷◌, ◌++◌, length, drop, subst, sym, ap, ap₂, ◌∙◌, arith, length-append}
-use Rattle.std.specs.List.{All, AllByRecursion, sum_by}
+use Rattle.std.specs.List.{AllByRecursion, sum_by}
 use Rattle.std.proofs.lemmas.Nat.{mul-le}
 use native.Mathlib.Nat.{le-max_left, le-max_right, max-le, mul-add, mul_comm, mul_assoc}
 use Rattle.std.proofs.lemmas.List.Elements.{All-weaker, All-from_recursion}

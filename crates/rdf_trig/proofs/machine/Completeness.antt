@@ -2,8 +2,7 @@
 use Rattle.std.proofs.Common.{◌≡◌, ℕ, List, [], ◌∷◌, Option, Some, None, refl, sym, ap, ◌∙◌}
 use Rattle.rdf_terms.specs.declared.kind.Kind.{Kind}
 use Rattle.rdf_terms.specs.declared.kind.Kind.TheVariants.{IriRef, LabelNode, ShortString, LongString, LangTag, Carets, Dot, Integer, Decimal, Double, True, False, A, AtPrefix, AtBase, Prefix, Base, Graph, PnameNs, PnameLn, Semicolon, Comma, OpenBracket, CloseBracket, OpenParen, CloseParen, OpenBrace, CloseBrace, End}
-use Rattle.rdf_terms.specs.Terms.{Node, Label, Anon, Cell, Blank, Term, Quad}
-use Rattle.rdf_terms.specs.Terms as term
+use Rattle.rdf_terms.specs.Terms.{Anon, Cell, Blank, Quad}
 use Rattle.rdf_tokens.specs.Tokens.{Token}
 use Rattle.rdf_iri.specs.Scope.{InForce}
 use Rattle.rdf_lines.specs.Lines.{Leaf, leaf_of, token}
@@ -12,7 +11,7 @@ use Rattle.rdf_trig.specs.declared.form.DocForm.TheVariants.{Turtle, TriG}
 use Rattle.rdf_trig.specs.Trees.{PrefixedName, pname_ln, pname_ns, Iri, iri_ref, prefixed, BlankNode, label, anon, Verb, predicate, type_word, String, short, long, Tag, lang_tag, base_tag, prefix_tag, RDFLiteral, plain, tagged, typed, NumericLiteral, integer, decimal, double, BooleanLiteral, true_word, false_word, Literal, rdf, numeric, boolean, Object, iri_object, blank_object, collection_object, list_object, literal_object, Collection, collection, Items, no_items, item, BlankNodePropertyList, property_list, PredicateObjectList, predicate_objects, More, no_more, semicolon, semicolon_objects, ObjectList, objects, Commas, no_commas, comma, iri_subject, blank_subject, collection_subject, Triples, subject_triples, list_triples, Directive, prefix_id, base, sparql_prefix, sparql_base, LabelOrSubject, iri_label, blank_label, TriplesBlock, last, last_dot, dot, WrappedGraph, wrapped, TriplesOrGraph, named_graph, label_triples, Triples2, list_triples2, collection_triples2, Block, triples_or_graph, default_graph, triples2, Body, Document, end, with_directive, with_body}
 use Rattle.rdf_trig.specs.Trees as tree
 use Rattle.rdf_trig.specs.Names.{reference_in, name_in, iri_in, scope_after}
-use Rattle.rdf_trig.specs.Quads.{Setting, in_default, in_graph, named, node, resource, anon_at, blank_of, verb_of, lexical, language, plain_literal, tagged_literal, typed_literal, literal_of, iri_leaf, string_leaf, literal_leaf, object_leaf, cell_at, items_of, collection_of, list_of, label_of, rest_quad}
+use Rattle.rdf_trig.specs.Quads.{Setting, in_default, in_graph, named, node, resource, anon_at, blank_of, lexical, language, plain_literal, tagged_literal, typed_literal, literal_of, iri_leaf, string_leaf, literal_leaf, object_leaf, cell_at, items_of, collection_of, list_of, label_of, rest_quad}
 use Rattle.rdf_trig.specs.Events.{Use, itself, stands, Event, Took, take, give, iri_events, verb_events, string_events, tag_events, blank_object_events, literal_events, object_quad, object_events, collection_events, items_events, rest_events, list_events, predicates_events, more_events, objects_events, commas_events, maybe_events, triples_events, label_events, block_events, maybe_block_events, wrapped_events, body_events, document_events, tokens}
 use Rattle.rdf_trig.specs.Machine.{Topic, Spelt, sized, unsized, spelt, verb_in, Level, Top, InBlock, Place, Listed, InCells, Around, Statement, Boxed, Up, Subject, At, Mode, Start, AfterLabel, GraphWord, WantBrace, Inside, Want, After, AfterText, WantType, Box, Paren, WantVerb, Semi, AfterBox, Reply, No, Go, goes, cell, subject_at, verb_at, quad_at, quad_up, nil, object_start, verb_start, after_subject, list_closed, after, subject_start, step, waiting, fronted, put, go_on, run}
 

@@ -1,9 +1,8 @@
 -- After the end a document is over, and each document has one.
-use Rattle.std.proofs.Common.{◌≡◌, ℕ, Bool, List, [], ◌∷◌, ◌++◌, Option, refl, sym, ap, ◌∙◌, subst, append_assoc}
+use Rattle.std.proofs.Common.{◌≡◌, ℕ, Bool, List, [], ◌∷◌, ◌++◌, refl, sym, ap, ◌∙◌, subst, append_assoc}
 use Rattle.rdf_terms.specs.declared.kind.Dialect.TheVariants.{Turtle as turtle}
 use Rattle.rdf_terms.specs.declared.kind.Kind.TheVariants.{End}
 use Rattle.rdf_terms.specs.Terms.{Quad}
-use Rattle.rdf_terms.specs.Terms as term
 use Rattle.rdf_tokens.specs.Tokens.{Token}
 use Rattle.rdf_tokens.specs.Tokens.Outcome.{complete}
 use Rattle.rdf_tokens.specs.Good.{tokens_of}

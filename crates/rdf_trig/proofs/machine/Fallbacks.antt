@@ -1,5 +1,5 @@
 -- What is left of a production for the kinds that it does not name itself.
-use Rattle.std.proofs.Common.{◌≡◌, ℕ, true, false, List, Option, None, refl}
+use Rattle.std.proofs.Common.{◌≡◌, ℕ, true, false, List, None, refl}
 use Rattle.std.proofs.lemmas.Bool.{false≢true}
 use Rattle.rdf_terms.specs.declared.kind.Kind.{Kind}
 use Rattle.rdf_terms.specs.declared.kind.Kind.TheVariants.{IriRef, PnameNs, PnameLn, A, CloseBracket, CloseParen, CloseBrace, OpenBrace, Semicolon, Comma, LangTag, AtBase, AtPrefix, Base, Prefix, Graph, End, Carets}

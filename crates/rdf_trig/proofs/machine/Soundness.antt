@@ -5,7 +5,7 @@ use Rattle.rdf_terms.specs.declared.kind.Kind.TheVariants.{IriRef, LabelNode, Sh
 use Rattle.rdf_terms.specs.Terms.{Node, Label, Anon, Cell, Blank, Term, Quad}
 use Rattle.rdf_terms.specs.Terms as term
 use Rattle.rdf_terms.specs.Known.{known_chars}
-use Rattle.rdf_terms.specs.declared.constants.Known.TheVariants.{RdfType, RdfFirst}
+use Rattle.rdf_terms.specs.declared.constants.Known.TheVariants.{RdfFirst}
 use Rattle.rdf_tokens.specs.Tokens.{Token}
 use Rattle.rdf_iri.specs.Scope.{InForce}
 use Rattle.rdf_lines.specs.Lines.{Leaf, leaf_of, token}

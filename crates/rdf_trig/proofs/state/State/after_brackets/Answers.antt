@@ -1,4 +1,4 @@
-use Rattle.std.proofs.Common.{Some, sym, ◌∙◌}
+use Rattle.std.proofs.Common.{sym, ◌∙◌}
 use Rattle.rdf_trig.specs.States.{use_at, setting_in, level_of, sized_of}
 use Rattle.rdf_trig.proofs.machine.Fallbacks.{after_box-else}
 use Rattle.rdf_trig.proofs.code.TurnsLemmas.{gives_at}

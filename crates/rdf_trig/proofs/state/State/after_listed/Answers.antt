@@ -1,4 +1,3 @@
-use Rattle.std.proofs.Common.{Some}
 use Rattle.rdf_trig.specs.States.{use_at, setting_in, level_of, sized_of, spelt_of, around_of, up_in}
 use Rattle.rdf_trig.proofs.machine.Fallbacks.{listed-else}
 use Rattle.rdf_trig.proofs.code.TurnsLemmas.{gives_at}

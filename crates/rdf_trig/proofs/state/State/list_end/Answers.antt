@@ -1,4 +1,3 @@
-use Rattle.std.proofs.Common.{Some}
 use Rattle.rdf_trig.specs.declared.state.Around.TheVariants.{Brackets}
 use Rattle.rdf_trig.specs.Events.{itself}
 use Rattle.rdf_trig.specs.States.{graph_of, sized_of}
