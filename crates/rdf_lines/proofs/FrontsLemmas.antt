@@ -16,16 +16,16 @@ use Rattle.rdf_terms.specs.Classes.Class.{iri_char}
 use Rattle.rdf_terms.specs.Terms.{Label, Tail, Lang, Typed, Subject, Iri, Blank, Term, Resource, Literal, Quad, xsd_string, all_have, has_scheme, IsIri, IsLabel, IsTag}
 use Rattle.rdf_lines.specs.declared.form.LineForm.{LineForm}
 use Rattle.rdf_lines.specs.declared.form.LineForm.TheVariants.{NTriples, NQuads}
+use Rattle.rdf_lines.specs.declared.form.LineEnding.{LineEnding}
+use Rattle.rdf_lines.specs.declared.form.LineEnding.TheVariants.{Lf, CrLf}
 use Rattle.rdf_lines.specs.declared.form.Escapes.TheVariants.{Plain}
-use Rattle.rdf_lines.specs.declared.form.Style.TheVariants.{Kept}
-use Rattle.rdf_lines.specs.Canonical.{type_count, term_count, graph_count, quad_count, count, LabelFits, IsTaken}
+use Rattle.rdf_lines.specs.Canonical.{end_text, end_count, statement_text, ended_line, ended_lines, type_count, term_count, graph_count, quad_count, count, LabelFits, IsTaken}
 use Rattle.rdf_lines.specs.Fronts.{Stands, IriStands, LabelStands, TagStands, StringStands, SubjectStands, PredicateStands, TailStands, ObjectStands, GraphStands, LineStands, LinesStand, AreLines, CharactersStand, EscapeStands}
 use Rattle.rdf_lines.specs.Laws.{TermShort, TailShort, GraphShort, TokensWithin}
-use Rattle.rdf_lines.specs.Writing.{written, escaped, iri_text, subject_text, string_text, type_text, tail_text, term_text, space, graph_text, quad_text, rename, text}
+use Rattle.rdf_lines.specs.Writing.{written, escaped, iri_text, subject_text, string_text, type_text, tail_text, term_text, space, graph_text}
 use Rattle.rdf_terms.specs.Runs.{iri_byte, is_text_byte, IsRun}
 use Rattle.rdf_terms.proofs.IriBytes.{iri_bytes}
 use Rattle.rdf_terms.proofs.RunsLemmas.{run_decides}
-use Rattle.rdf_lines.proofs.CanonicalLines.{kept}
 use Rattle.rdf_lines.proofs.EscapedRuns.{each, run_cut}
 use Rattle.rdf_lines.proofs.PlainRuns.{plain_front, run_plain, escaped_text}
 use Rattle.rdf_lines.proofs.EncodedLine.{low, xsd, same_type}
@@ -88,7 +88,7 @@ all_scalar [] e = refl
 all_scalar (c ∷ w) e = let p = and_parts (Utf8.scalar c) (scalars w) e in and_from (scalar c) (all_have scalar w) (scalar_same c p.0) (all_scalar w p.1)
 
 -- characters of a string, one text after another
-have_both : (p : ℕ → Bool) (u v : List ℕ) → all_have p u ≡ true → all_have p v ≡ true → all_have p (u ++ v) ≡ true
+pub have_both : (p : ℕ → Bool) (u v : List ℕ) → all_have p u ≡ true → all_have p v ≡ true → all_have p (u ++ v) ≡ true
 have_both p [] v a b = b
 have_both p (c ∷ u) v a b = let h = and_parts (p c) (all_have p u) a in and_from (p c) (all_have p (u ++ v)) h.0 (have_both p u v h.1 b)
 
@@ -240,13 +240,12 @@ module _ (n : ℕ) (roomy : 64 ≤ n) where
   graph_short None l = tt
   graph_short (Some g) l = let k = length-append (subject_text Plain g) space in omega (arith, k)
 
-  tokens_within : (q : Quad) → length (quad_text Plain q) ≤ n → TokensWithin Plain n q
+  tokens_within : (q : Quad) → length (statement_text q) ≤ n → TokensWithin Plain n q
   tokens_within q l =
       let a = subject_text Plain q.subject in
       let b = iri_text Plain q.predicate in
       let c = term_text Plain q.object in
       let g = graph_text Plain q.graph in
-      let e = length-append ((((a ++ space) ++ (b ++ space)) ++ (c ++ space)) ++ g ++ (46 ∷ [])) (10 ∷ []) in
       let f = length-append ((((a ++ space) ++ (b ++ space)) ++ (c ++ space)) ++ g) (46 ∷ []) in
       let h = length-append (((a ++ space) ++ (b ++ space)) ++ (c ++ space)) g in
       let i = length-append ((a ++ space) ++ (b ++ space)) (c ++ space) in
@@ -255,69 +254,77 @@ module _ (n : ℕ) (roomy : 64 ≤ n) where
       let m = length-append b space in
       let o = length-append c space in
       record {
-        subject = omega (arith, e, f, h, i, j, k, m, o);
-        predicate = omega (arith, e, f, h, i, j, k, m, o);
-        object = term_short q.object (omega (arith, e, f, h, i, j, k, m, o));
-        graph = graph_short q.graph (omega (arith, e, f, h, i, j, k, m, o));
+        subject = omega (arith, f, h, i, j, k, m, o);
+        predicate = omega (arith, f, h, i, j, k, m, o);
+        object = term_short q.object (omega (arith, f, h, i, j, k, m, o));
+        graph = graph_short q.graph (omega (arith, f, h, i, j, k, m, o));
       }
 
-pub line_stands : (form : LineForm) (token limit m n : ℕ) (a b c d f g h : List ℕ) → SubjectStands limit a b → PredicateStands limit b c → ObjectStands limit m c d → GraphStands form limit n d f →
-    f ≡ 46 ∷ g → g ≡ 10 ∷ h → 64 ≤ token → length a - length h ≤ token → LineStands form token limit (m + n + 4) a h
-line_stands form token limit m n a b c d f g h s p o r e k roomy l = record {
-  quad = q;
-  is = record {
-    quad = record { subject = s.is; predicate = p.is; object = o.is; graph = r.is };
-    labels = record { subject = s.labels; object = o.labels; graph = r.labels };
-    tokens = tokens_within token roomy q short;
-    iris = record { subject = s.within; predicate = p.within; object = o.within; graph = r.within };
-    graph = r.fits;
-  };
-  count = let x = o.count in let y = r.count in omega (arith, x, y);
-  stands = all;
-}
-  where
-    q : Quad
-    q = record { subject = s.subject; predicate = p.predicate; object = o.object; graph = r.graph }
+-- the end of a line
+end_stands : (ending : LineEnding) (a b : List ℕ) → a ≡ end_text ending ++ b → Stands (end_text ending) a b
+end_stands Lf a b e = stands_byte 10 a b (omega arith) e
+end_stands CrLf a b e = stands_then (13 ∷ []) (10 ∷ []) a (10 ∷ b) b (stands_byte 13 a (10 ∷ b) (omega arith) e) (stands_byte 10 (10 ∷ b) b (omega arith) refl)
 
-    all : Stands (quad_text Plain q) a h
-    all =
-        stands_then _ (10 ∷ []) a g h
-        (stands_then _ (46 ∷ []) a f g
-        (stands_then _ (graph_text Plain r.graph) a d f
-        (stands_then _ (term_text Plain o.object ++ space) a c d
-        (stands_then (subject_text Plain s.subject ++ space) (iri_text Plain p.predicate ++ space) a b c s.stands p.stands)
-        o.stands)
-        r.stands)
-        (stands_byte 46 f g (omega arith) e))
-        (stands_byte 10 g h (omega arith) k)
+module _ (ending : LineEnding) where
+  pub line_stands : (form : LineForm) (token limit m n : ℕ) (a b c d f g h : List ℕ) → SubjectStands limit a b → PredicateStands limit b c → ObjectStands limit m c d → GraphStands form limit n d f →
+      f ≡ 46 ∷ g → g ≡ end_text ending ++ h → 64 ≤ token → length a ≤ token → LineStands ending form token limit (m + n + 3 + end_count ending) a h
+  line_stands form token limit m n a b c d f g h s p o r e t roomy l = record {
+    quad = q;
+    is = record {
+      quad = record { subject = s.is; predicate = p.is; object = o.is; graph = r.is };
+      labels = record { subject = s.labels; object = o.labels; graph = r.labels };
+      tokens = tokens_within token roomy q short;
+      iris = record { subject = s.within; predicate = p.within; object = o.within; graph = r.within };
+      graph = r.fits;
+    };
+    count = let x = o.count in let y = r.count in omega (arith, x, y);
+    stands = all;
+  }
+    where
+      q : Quad
+      q = record { subject = s.subject; predicate = p.predicate; object = o.object; graph = r.graph }
 
-    short : length (quad_text Plain q) ≤ token
-    short = let few = length-le-encodes (quad_text Plain q) in omega (arith, few, l, ap length all, length-append (encode_utf8_all (quad_text Plain q)) h)
+      all : Stands (ended_line ending q) a h
+      all =
+          stands_then (statement_text q) (end_text ending) a g h
+          (stands_then _ (46 ∷ []) a f g
+          (stands_then _ (graph_text Plain r.graph) a d f
+          (stands_then _ (term_text Plain o.object ++ space) a c d
+          (stands_then (subject_text Plain s.subject ++ space) (iri_text Plain p.predicate ++ space) a b c s.stands p.stands)
+          o.stands)
+          r.stands)
+          (stands_byte 46 f g (omega arith) e))
+          (end_stands ending g h t)
 
--- lines, one after another
-pub lines_none : (form : LineForm) (token iri : ℕ) (a : List ℕ) → LinesStand form token iri 0 0 a a
-lines_none form token iri a = record { given = []; each = tt; quad_count = refl; token_count = refl; stands = refl }
+      short : length (statement_text q) ≤ token
+      short =
+          let few = length-le-encodes (ended_line ending q) in
+          omega (arith, few, l, ap length all, length-append (encode_utf8_all (ended_line ending q)) h, length-append (statement_text q) (end_text ending))
 
-count-append : (qs rs : List Quad) → count (qs ++ rs) ≡ count qs + count rs
-count-append [] rs = omega arith
-count-append (q ∷ qs) rs = let h = count-append qs rs in omega (arith, h)
+  -- lines, one after another
+  pub lines_none : (form : LineForm) (token iri : ℕ) (a : List ℕ) → LinesStand ending form token iri 0 0 a a
+  lines_none form token iri a = record { given = []; each = tt; quad_count = refl; token_count = refl; stands = refl }
 
-module _ (form : LineForm) (token iri : ℕ) where
-  each-append : (qs rs : List Quad) → AllByRecursion (IsTaken form token iri) qs → AllByRecursion (IsTaken form token iri) rs → AllByRecursion (IsTaken form token iri) (qs ++ rs)
-  each-append [] rs h k = k
-  each-append (q ∷ qs) rs h k = (h.0, each-append qs rs h.1 k)
+  count-append : (qs rs : List Quad) → count ending (qs ++ rs) ≡ count ending qs + count ending rs
+  count-append [] rs = omega arith
+  count-append (q ∷ qs) rs = let h = count-append qs rs in omega (arith, h)
 
-  pub lines_more : (n m k : ℕ) (a b c : List ℕ) → LinesStand form token iri n m a b → LineStands form token iri k b c → LinesStand form token iri (n + 1) (m + k) a c
-  lines_more n m k a b c h l =
-      let one = l.quad ∷ [] in
-      let line : Stands (text Kept Plain one) b c = subst (λ w. Stands w b c) (sym (append-nil (quad_text Plain (rename Kept l.quad)) ∙ ap (quad_text Plain) (kept l.quad))) l.stands in
-      record {
-        given = h.given ++ one;
-        each = each-append h.given one h.each (l.is, tt);
-        quad_count = let x = h.quad_count in omega (arith, x, length-append h.given one);
-        token_count = let x = h.token_count in let y = l.count in omega (arith, x, y, count-append h.given one);
-        stands = subst (λ w. Stands w a c) (sym (flat_map-append (λ q. quad_text Plain (rename Kept q)) h.given one)) (stands_then (text Kept Plain h.given) (text Kept Plain one) a b c h.stands line);
-      }
+  module _ (form : LineForm) (token iri : ℕ) where
+    each-append : (qs rs : List Quad) → AllByRecursion (IsTaken form token iri) qs → AllByRecursion (IsTaken form token iri) rs → AllByRecursion (IsTaken form token iri) (qs ++ rs)
+    each-append [] rs h k = k
+    each-append (q ∷ qs) rs h k = (h.0, each-append qs rs h.1 k)
+
+    pub lines_more : (n m k : ℕ) (a b c : List ℕ) → LinesStand ending form token iri n m a b → LineStands ending form token iri k b c → LinesStand ending form token iri (n + 1) (m + k) a c
+    lines_more n m k a b c h l =
+        let one = l.quad ∷ [] in
+        let line : Stands (ended_lines ending one) b c = subst (λ w. Stands w b c) (sym (append-nil (ended_line ending l.quad))) l.stands in
+        record {
+          given = h.given ++ one;
+          each = each-append h.given one h.each (l.is, tt);
+          quad_count = let x = h.quad_count in omega (arith, x, length-append h.given one);
+          token_count = let x = h.token_count in let y = l.count in omega (arith, x, y, count-append h.given one);
+          stands = subst (λ w. Stands w a c) (sym (flat_map-append (ended_line ending) h.given one)) (stands_then (ended_lines ending h.given) (ended_lines ending one) a b c h.stands line);
+        }
 
 -- there are no more tokens than bytes, nor quads
 few_tokens : (t : Term) → term_count t ≤ 3
@@ -333,56 +340,60 @@ label_long : (g : Option Subject) → graph_count g ≤ length (graph_text Plain
 label_long None = omega arith
 label_long (Some g) = let k = length-append (subject_text Plain g) space in omega (arith, k)
 
-quad_long : (q : Quad) → quad_count q ≤ length (quad_text Plain q)
-quad_long q =
-    let a = subject_text Plain q.subject in
-    let b = iri_text Plain q.predicate in
-    let c = term_text Plain q.object in
-    let g = graph_text Plain q.graph in
-    let e = length-append ((((a ++ space) ++ (b ++ space)) ++ (c ++ space)) ++ g ++ (46 ∷ [])) (10 ∷ []) in
-    let f = length-append ((((a ++ space) ++ (b ++ space)) ++ (c ++ space)) ++ g) (46 ∷ []) in
-    let h = length-append (((a ++ space) ++ (b ++ space)) ++ (c ++ space)) g in
-    let i = length-append ((a ++ space) ++ (b ++ space)) (c ++ space) in
-    let j = length-append (a ++ space) (b ++ space) in
-    let k = length-append a space in
-    let m = length-append b space in
-    let o = length-append c space in
-    let p = length-append (flat_map (written Plain) q.predicate) (62 ∷ []) in
-    omega (arith, e, f, h, i, j, k, m, o, p, few_tokens q.object, label_long q.graph)
+end_long : (e : LineEnding) → end_count e ≤ length (end_text e)
+end_long Lf = omega arith
+end_long CrLf = omega arith
 
-text_long : (qs : List Quad) → (count qs ≤ length (text Kept Plain qs)) × (length qs ≤ count qs)
-text_long [] = (omega arith, omega arith)
-text_long (q ∷ qs) =
-    let r = text_long qs in
-    let k = length-append (quad_text Plain (rename Kept q)) (text Kept Plain qs) in
-    let l : length (quad_text Plain (rename Kept q)) ≡ length (quad_text Plain q) = ap (λ x. length (quad_text Plain x)) (kept q) in
-    (omega (arith, r.0, k, l, quad_long q), omega (arith, r.1))
+module _ (ending : LineEnding) where
+  quad_long : (q : Quad) → quad_count ending q ≤ length (ended_line ending q)
+  quad_long q =
+      let a = subject_text Plain q.subject in
+      let b = iri_text Plain q.predicate in
+      let c = term_text Plain q.object in
+      let g = graph_text Plain q.graph in
+      let e = length-append (statement_text q) (end_text ending) in
+      let f = length-append ((((a ++ space) ++ (b ++ space)) ++ (c ++ space)) ++ g) (46 ∷ []) in
+      let h = length-append (((a ++ space) ++ (b ++ space)) ++ (c ++ space)) g in
+      let i = length-append ((a ++ space) ++ (b ++ space)) (c ++ space) in
+      let j = length-append (a ++ space) (b ++ space) in
+      let k = length-append a space in
+      let m = length-append b space in
+      let o = length-append c space in
+      let p = length-append (flat_map (written Plain) q.predicate) (62 ∷ []) in
+      omega (arith, e, f, h, i, j, k, m, o, p, few_tokens q.object, label_long q.graph, end_long ending)
 
-pub lines_few : (form : LineForm) (token iri n m : ℕ) (a b : List ℕ) → LinesStand form token iri n m a b → (m + length b ≤ length a) × (n ≤ m)
-lines_few form token iri n m a b h =
-    let l = text_long h.given in
-    let k = length-le-encodes (text Kept Plain h.given) in
-    let s = ap length h.stands ∙ length-append (encode_utf8_all (text Kept Plain h.given)) b in
-    let x = h.token_count in
-    let y = h.quad_count in
-    (omega (arith, l.0, k, s, x), omega (arith, l.1, x, y))
+  text_long : (qs : List Quad) → (count ending qs ≤ length (ended_lines ending qs)) × (length qs ≤ count ending qs)
+  text_long [] = (omega arith, omega arith)
+  text_long (q ∷ qs) =
+      let r = text_long qs in
+      let k = length-append (ended_line ending q) (ended_lines ending qs) in
+      (omega (arith, r.0, k, quad_long q), omega (arith, r.1))
 
-pub line_goes_on : (form : LineForm) (token iri n : ℕ) (a b : List ℕ) → LineStands form token iri n a b → (n + length b ≤ length a) × (0 < n)
-line_goes_on form token iri n a b h =
-    let k = length-le-encodes (quad_text Plain h.quad) in
-    let s = ap length h.stands ∙ length-append (encode_utf8_all (quad_text Plain h.quad)) b in
-    let x = h.count in
-    (omega (arith, quad_long h.quad, k, s, x), omega (arith, x))
+  pub lines_few : (form : LineForm) (token iri n m : ℕ) (a b : List ℕ) → LinesStand ending form token iri n m a b → (m + length b ≤ length a) × (n ≤ m)
+  lines_few form token iri n m a b h =
+      let l = text_long h.given in
+      let k = length-le-encodes (ended_lines ending h.given) in
+      let s = ap length h.stands ∙ length-append (encode_utf8_all (ended_lines ending h.given)) b in
+      let x = h.token_count in
+      let y = h.quad_count in
+      (omega (arith, l.0, k, s, x), omega (arith, l.1, x, y))
 
--- the bytes before the rest
-pub lines_front : (form : LineForm) (token iri n m : ℕ) (a b : List ℕ) → LinesStand form token iri n m a b → AreLines form token iri n m (take (length a - length b) a)
-lines_front form token iri n m a b h =
-    let w = encode_utf8_all (text Kept Plain h.given) in
-    let s = ap length h.stands ∙ length-append w b in
-    let size : length a - length b ≡ length w = omega (arith, s) in
-    record {
-      given = h.given;
-      canonical = record { is = ap (λ k. take k a) size ∙ (ap (take (length w)) h.stands ∙ take-append_seam w b); each = h.each };
-      quad_count = h.quad_count;
-      token_count = h.token_count;
-    }
+  pub line_goes_on : (form : LineForm) (token iri n : ℕ) (a b : List ℕ) → LineStands ending form token iri n a b → (n + length b ≤ length a) × (0 < n)
+  line_goes_on form token iri n a b h =
+      let k = length-le-encodes (ended_line ending h.quad) in
+      let s = ap length h.stands ∙ length-append (encode_utf8_all (ended_line ending h.quad)) b in
+      let x = h.count in
+      (omega (arith, quad_long h.quad, k, s, x), omega (arith, x))
+
+  -- the bytes before the rest
+  pub lines_front : (form : LineForm) (token iri n m : ℕ) (a b : List ℕ) → LinesStand ending form token iri n m a b → AreLines ending form token iri n m (take (length a - length b) a)
+  lines_front form token iri n m a b h =
+      let w = encode_utf8_all (ended_lines ending h.given) in
+      let s = ap length h.stands ∙ length-append w b in
+      let size : length a - length b ≡ length w = omega (arith, s) in
+      record {
+        given = h.given;
+        canonical = record { is = ap (λ k. take k a) size ∙ (ap (take (length w)) h.stands ∙ take-append_seam w b); each = h.each };
+        quad_count = h.quad_count;
+        token_count = h.token_count;
+      }

@@ -36,3 +36,4 @@ pub mod AcceptingLemmas
 pub mod CanonicalLines
 pub mod FrontsLemmas
 mod PassedLemmas
+pub mod WithoutCrs

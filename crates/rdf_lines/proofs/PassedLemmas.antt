@@ -14,13 +14,11 @@ use Rattle.rdf_driver.specs.Passing.{can_pass, passed, LeadsBack}
 use Rattle.rdf_driver.proofs.PassingLemmas.{can_pass-parts}
 use Rattle.rdf_lines.specs.declared.rules.Rules.{Rules}
 use Rattle.rdf_lines.specs.declared.form.LineForm.{LineForm}
-use Rattle.rdf_lines.specs.declared.form.Escapes.TheVariants.{Plain}
-use Rattle.rdf_lines.specs.declared.form.Style.TheVariants.{Kept}
+use Rattle.rdf_lines.specs.declared.form.LineEnding.{LineEnding}
 use Rattle.rdf_lines.specs.Machine.{Mode, Begin, AfterSubject, AfterPredicate, AfterString, AfterCarets, AfterObject, AfterGraph, AfterDot, Finished}
 use Rattle.rdf_lines.specs.States.{is_begin}
 use Rattle.rdf_lines.specs.Accepting.{LineAt, line_words}
-use Rattle.rdf_lines.specs.Writing.{text}
-use Rattle.rdf_lines.specs.Canonical.{PassesLines}
+use Rattle.rdf_lines.specs.Canonical.{ended_lines, PassesLines}
 use Rattle.rdf_lines.specs.Fronts.{LinesStand, AreLines}
 use Rattle.rdf_lines.proofs.CanonicalLines.{lines_read}
 
@@ -30,8 +28,8 @@ past_text [] bytes rest u e = subst IsUtf8 e u
 past_text (c ∷ w) bytes rest u e =
     past_text w (encodes w ++ rest) rest (IsUtf8-past_char bytes (encodes w ++ rest) c u (e ∙ append_assoc (encode c) (encodes w) rest)) refl
 
-pub rest_utf8 : (form : LineForm) (token iri n m : ℕ) (a b : List ℕ) → IsUtf8 a → LinesStand form token iri n m a b → IsUtf8 b
-rest_utf8 form token iri n m a b u h = past_text (text Kept Plain h.given) a b u h.stands
+pub rest_utf8 : (ending : LineEnding) (form : LineForm) (token iri n m : ℕ) (a b : List ℕ) → IsUtf8 a → LinesStand ending form token iri n m a b → IsUtf8 b
+rest_utf8 ending form token iri n m a b u h = past_text (ended_lines ending h.given) a b u h.stands
 
 pub begins : (m : Mode) → is_begin m ≡ true → m ≡ Begin
 begins Begin e = refl
@@ -45,21 +43,21 @@ begins AfterDot e = absurd (let h : false ≡ true = e in cc)
 begins Finished e = absurd (let h : false ≡ true = e in cc)
 
 -- what a grammar knows of lines, its reader knows
-pub at_reader : (r : Driven LineAt) (g : LineAt) → g ≡ r.grammar → r.scanner.limit ≡ r.grammar.limit → (bytes : List ℕ) (quads tokens : ℕ) →
-    AreLines g.rules.form g.limit g.rules.iri quads tokens bytes → (g.mode ≡ Begin) × (2 ≤ g.limit) →
-    AreLines r.grammar.rules.form r.scanner.limit r.grammar.rules.iri quads tokens bytes × ((r.grammar.mode ≡ Begin) × (2 ≤ r.scanner.limit))
-at_reader r g e l bytes quads tokens lines b =
-    let lines_here = subst (λ (y : LineAt). AreLines y.rules.form y.limit y.rules.iri quads tokens bytes) e lines in
+pub at_reader : (ending : LineEnding) (r : Driven LineAt) (g : LineAt) → g ≡ r.grammar → r.scanner.limit ≡ r.grammar.limit → (bytes : List ℕ) (quads tokens : ℕ) →
+    AreLines ending g.rules.form g.limit g.rules.iri quads tokens bytes → (g.mode ≡ Begin) × (2 ≤ g.limit) →
+    AreLines ending r.grammar.rules.form r.scanner.limit r.grammar.rules.iri quads tokens bytes × ((r.grammar.mode ≡ Begin) × (2 ≤ r.scanner.limit))
+at_reader ending r g e l bytes quads tokens lines b =
+    let lines_here = subst (λ (y : LineAt). AreLines ending y.rules.form y.limit y.rules.iri quads tokens bytes) e lines in
     let begin : r.grammar.mode ≡ Begin = ap (λ (y : LineAt). y.mode) (sym e) ∙ b.0 in
     let roomy : 2 ≤ r.grammar.limit = subst (λ (y : LineAt). 2 ≤ y.limit) e b.1 in
-    (subst (λ n. AreLines r.grammar.rules.form n r.grammar.rules.iri quads tokens bytes) (sym l) lines_here, (begin, subst (λ n. 2 ≤ n) (sym l) roomy))
+    (subst (λ n. AreLines ending r.grammar.rules.form n r.grammar.rules.iri quads tokens bytes) (sym l) lines_here, (begin, subst (λ n. 2 ≤ n) (sym l) roomy))
 
 -- no lines
-pub none_are_lines : (form : LineForm) (token iri : ℕ) → AreLines form token iri 0 0 []
-none_are_lines form token iri = record { given = []; canonical = record { is = refl; each = tt }; quad_count = refl; token_count = refl }
+pub none_are_lines : (ending : LineEnding) (form : LineForm) (token iri : ℕ) → AreLines ending form token iri 0 0 []
+none_are_lines ending form token iri = record { given = []; canonical = record { is = refl; each = tt }; quad_count = refl; token_count = refl }
 
-pub passes_none : (r : Driven LineAt) → PassesLines r [] r
-passes_none r = record {
+pub passes_none : (ending : LineEnding) (r : Driven LineAt) → PassesLines ending r [] r
+passes_none ending r = record {
   given = [];
   canonical = record { is = refl; each = tt };
   grammar = refl;
@@ -79,17 +77,17 @@ can_pass_less r n m e l =
 pub can_pass_few : (r : Driven LineAt) (n : ℕ) → can_pass r n ≡ true → n ≤ most_bytes
 can_pass_few r n e = let p = can_pass-parts r n e in let room = p.2 in omega (arith, room)
 
-module _ (r : Driven LineAt) (begin : r.grammar.mode ≡ Begin) (roomy : 2 ≤ r.scanner.limit) (bytes : List ℕ) (quads tokens : ℕ)
-    (lines : AreLines r.grammar.rules.form r.scanner.limit r.grammar.rules.iri quads tokens bytes) where
+module _ (ending : LineEnding) (r : Driven LineAt) (begin : r.grammar.mode ≡ Begin) (roomy : 2 ≤ r.scanner.limit) (bytes : List ℕ) (quads tokens : ℕ)
+    (lines : AreLines ending r.grammar.rules.form r.scanner.limit r.grammar.rules.iri quads tokens bytes) where
   back : LeadsBack line_words r bytes lines.given tokens
-  back = subst (LeadsBack line_words r bytes lines.given) (sym lines.token_count) (lines_read r bytes lines.given begin roomy lines.canonical)
+  back = subst (LeadsBack line_words r bytes lines.given) (sym lines.token_count) (lines_read r ending bytes lines.given begin roomy lines.canonical)
 
   pub leads : (more : List Quad) × (quads ≡ length more) × LeadsBack line_words r bytes more tokens
   leads = (lines.given, lines.quad_count, back)
 
   pub passes : (new : Driven LineAt) → new ≡ passed r bytes quads tokens →
       ((more : List Quad) → quads ≡ length more → LeadsBack line_words r bytes more tokens → (x : Rules) (before : List ℕ) (given : List Quad) → HasRead line_words r x before given → HasRead line_words new x (before ++ bytes) (given ++ more)) →
-      PassesLines r bytes new
+      PassesLines ending r bytes new
   passes new e reads = record {
     given = lines.given;
     canonical = lines.canonical;

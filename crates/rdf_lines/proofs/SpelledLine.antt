@@ -197,9 +197,13 @@ module _ (form : Escapes) where
   unfolding kind_of is_live shape has is_fit
   spells_dot limit = spells_alone limit 46 [] Dot (λ v. refl) refl refl (λ v. cut_by_dead (46 ∷ []) v refl) refl
 
-  spells_line_end : (limit : ℕ) → Spells limit (10 ∷ []) (alone LineEnd (10 ∷ []))
+  pub spells_line_end : (limit : ℕ) → Spells limit (10 ∷ []) (alone LineEnd (10 ∷ []))
   unfolding kind_of is_live shape has is_fit
   spells_line_end limit = spells_alone limit 10 [] LineEnd (λ v. refl) refl refl (λ v. cut_by_dead (10 ∷ []) v refl) refl
+
+  pub spells_cr : (limit : ℕ) → Spells limit (13 ∷ []) (alone LineEnd (13 ∷ []))
+  unfolding kind_of is_live shape has is_fit
+  spells_cr limit = spells_alone limit 13 [] LineEnd (λ v. refl) refl refl (λ v. cut_by_dead (13 ∷ []) v refl) refl
 
   abbrev pub name_tree : Place → Subject → Name
   name_tree p (Iri i) = Ref (leaf (iri_text form i) p)
@@ -271,11 +275,9 @@ module _ (form : Escapes) where
   spells_graph limit None h c = spells_nothing limit
   spells_graph limit (Some g) h c = spells_name limit g h c
 
-  pub spells_line : (limit : ℕ) (q : Quad) → IsQuad q → CanWrite Kept q →
-      Spells limit (quad_text form q) (λ p. statement_tokens (statement_tree p q) ++ alone LineEnd (10 ∷ []) (past p (upto_graph q ++ 46 ∷ [])))
-  spells_line limit q h c =
-      spells_then limit (upto_graph q ++ 46 ∷ []) (10 ∷ []) (λ p. statement_tokens (statement_tree p q)) (alone LineEnd (10 ∷ []))
-      (spells_then limit (upto_graph q) (46 ∷ [])
+  pub spells_statement : (limit : ℕ) (q : Quad) → IsQuad q → CanWrite Kept q → Spells limit (upto_graph q ++ 46 ∷ []) (λ p. statement_tokens (statement_tree p q))
+  spells_statement limit q h c =
+      spells_then limit (upto_graph q) (46 ∷ [])
       (λ p. name_tokens (name_tree p q.subject) ++ alone IriRef (iri_text form q.predicate) (past p (upto_subject q)) ++ object_tokens (object_tree (past p (upto_predicate q)) q.object) ++ graph_tokens (graph_tree (past p (upto_object q)) q.graph))
       (alone Dot (46 ∷ []))
       (spells_then limit (upto_object q) (graph_text form q.graph)
@@ -289,8 +291,12 @@ module _ (form : Escapes) where
       (spells_iri limit q.predicate h.predicate))
       (spells_object limit q.object h.object c.object))
       (spells_graph limit q.graph h.graph c.graph))
-      (spells_dot limit))
-      (spells_line_end limit)
+      (spells_dot limit)
+
+  spells_line : (limit : ℕ) (q : Quad) → IsQuad q → CanWrite Kept q →
+      Spells limit (quad_text form q) (λ p. statement_tokens (statement_tree p q) ++ alone LineEnd (10 ∷ []) (past p (upto_graph q ++ 46 ∷ [])))
+  spells_line limit q h c =
+      spells_then limit (upto_graph q ++ 46 ∷ []) (10 ∷ []) (λ p. statement_tokens (statement_tree p q)) (alone LineEnd (10 ∷ [])) (spells_statement limit q h c) (spells_line_end limit)
 
   reads_end : (limit : ℕ) (p : Place) → tokens Lines limit ended false p [] ≡ record { tokens = alone End [] p; outcome = complete; at = p }
   unfolding step

@@ -53,7 +53,7 @@ matched_scalars : (r : Regex) (w : List ℕ) → Matches r w → scalars w ≡ t
 matched_scalars r w m = scalars_from (uses r) (uses_scalar r) w (all_used r w m)
 
 -- two texts of characters have only characters together
-scalars_append : (u v : List ℕ) → scalars u ≡ true → scalars v ≡ true → scalars (u ++ v) ≡ true
+pub scalars_append : (u v : List ℕ) → scalars u ≡ true → scalars v ≡ true → scalars (u ++ v) ≡ true
 scalars_append [] v a b = b
 scalars_append (c ∷ u) v a b = let p = and_parts (utf8_scalar c) (scalars u) a in and_from _ _ p.0 (scalars_append u v p.1 b)
 
@@ -107,14 +107,17 @@ graph_scalars : (e : Escapes) (g : Option Subject) → IsGraph g → CanWriteGra
 graph_scalars e None h c = refl
 graph_scalars e (Some g) h c = scalars_append (subject_text e g) space (subject_scalars e g h c) refl
 
-pub quad_scalars : (e : Escapes) (q : Quad) → IsQuad q → CanWrite Kept q → scalars (quad_text e q) ≡ true
-quad_scalars e q h c =
+pub statement_scalars : (e : Escapes) (q : Quad) → IsQuad q → CanWrite Kept q → scalars (upto_graph e q ++ 46 ∷ []) ≡ true
+statement_scalars e q h c =
     let a = scalars_append (subject_text e q.subject) space (subject_scalars e q.subject h.subject c.subject) refl in
     let b = scalars_append (iri_text e q.predicate) space (iri_scalars e q.predicate h.predicate) refl in
     let d = scalars_append (term_text e q.object) space (term_scalars e q.object h.object c.object) refl in
     let f = graph_scalars e q.graph h.graph c.graph in
-    scalars_append (upto_graph e q ++ 46 ∷ []) (10 ∷ []) (scalars_append (upto_graph e q) (46 ∷ []) (scalars_append (upto_object e q) (graph_text e q.graph)
-    (scalars_append (upto_predicate e q) (term_text e q.object ++ space) (scalars_append (upto_subject e q) (iri_text e q.predicate ++ space) a b) d) f) refl) refl
+    scalars_append (upto_graph e q) (46 ∷ []) (scalars_append (upto_object e q) (graph_text e q.graph)
+    (scalars_append (upto_predicate e q) (term_text e q.object ++ space) (scalars_append (upto_subject e q) (iri_text e q.predicate ++ space) a b) d) f) refl
+
+pub quad_scalars : (e : Escapes) (q : Quad) → IsQuad q → CanWrite Kept q → scalars (quad_text e q) ≡ true
+quad_scalars e q h c = scalars_append (upto_graph e q ++ 46 ∷ []) (10 ∷ []) (statement_scalars e q h c) refl
 
 pub text_scalars : (e : Escapes) (qs : List Quad) → Written qs → scalars (flat_map (quad_text e) qs) ≡ true
 text_scalars e [] h = refl

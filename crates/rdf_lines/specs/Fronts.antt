@@ -5,11 +5,12 @@ use Rattle.rdf_terms.specs.Classes.{scalar}
 use Rattle.rdf_terms.specs.Terms.{Tail, Subject, Term, Quad, all_have, IsIri, IsLabel, IsTag, IsSubject, IsTail, IsTerm, IsGraph}
 use Rattle.rdf_iri.specs.Texts.{byte_len}
 use Rattle.rdf_lines.specs.declared.form.LineForm.{LineForm}
+use Rattle.rdf_lines.specs.declared.form.LineEnding.{LineEnding}
 use Rattle.rdf_lines.specs.declared.form.Escapes.TheVariants.{Plain}
 use Rattle.rdf_lines.specs.declared.form.Style.TheVariants.{Kept}
-use Rattle.rdf_lines.specs.Canonical.{tail_count, term_count, graph_count, quad_count, count, LabelFits, IsTaken, IsCanonical}
+use Rattle.rdf_lines.specs.Canonical.{tail_count, term_count, graph_count, ended_line, ended_lines, quad_count, count, LabelFits, IsTaken, IsCanonical}
 use Rattle.rdf_lines.specs.Laws.{SubjectWithin, TailWithin, TermWithin, GraphWithin}
-use Rattle.rdf_lines.specs.Writing.{CanWriteSubject, CanWriteTerm, CanWriteGraph, written, escaped, iri_text, subject_text, tail_text, term_text, space, graph_text, quad_text, text}
+use Rattle.rdf_lines.specs.Writing.{CanWriteSubject, CanWriteTerm, CanWriteGraph, written, escaped, iri_text, subject_text, tail_text, term_text, space, graph_text}
 
 -- The text stands there, before the rest.
 abbrev pub Stands : List ℕ → List ℕ → List ℕ → Type 0
@@ -91,24 +92,24 @@ pub record GraphStands (form : LineForm) (iri n : ℕ) (bytes rest : List ℕ) :
   pub count : n ≡ graph_count graph
   pub stands : Stands (graph_text Plain graph) bytes rest
 
--- a line of so many tokens, that a document of the form may have within the limits
-pub record LineStands (form : LineForm) (token iri n : ℕ) (bytes rest : List ℕ) : Type 0 where
+-- a line that ends so, of so many tokens, that a document of the form may have within the limits
+pub record LineStands (ending : LineEnding) (form : LineForm) (token iri n : ℕ) (bytes rest : List ℕ) : Type 0 where
   pub quad : Quad
   pub is : IsTaken form token iri quad
-  pub count : n ≡ quad_count quad
-  pub stands : Stands (quad_text Plain quad) bytes rest
+  pub count : n ≡ quad_count ending quad
+  pub stands : Stands (ended_line ending quad) bytes rest
 
--- lines of so many quads and tokens, that a document of the form may have within the limits
-pub record LinesStand (form : LineForm) (token iri quads tokens : ℕ) (bytes rest : List ℕ) : Type 0 where
+-- lines that end so, of so many quads and tokens, that a document of the form may have within the limits
+pub record LinesStand (ending : LineEnding) (form : LineForm) (token iri quads tokens : ℕ) (bytes rest : List ℕ) : Type 0 where
   pub given : List Quad
   pub each : AllByRecursion (IsTaken form token iri) given
   pub quad_count : quads ≡ length given
-  pub token_count : tokens ≡ count given
-  pub stands : Stands (text Kept Plain given) bytes rest
+  pub token_count : tokens ≡ count ending given
+  pub stands : Stands (ended_lines ending given) bytes rest
 
 -- The bytes are such lines.
-pub record AreLines (form : LineForm) (token iri quads tokens : ℕ) (bytes : List ℕ) : Type 0 where
+pub record AreLines (ending : LineEnding) (form : LineForm) (token iri quads tokens : ℕ) (bytes : List ℕ) : Type 0 where
   pub given : List Quad
-  pub canonical : IsCanonical form token iri bytes given
+  pub canonical : IsCanonical ending form token iri bytes given
   pub quad_count : quads ≡ length given
-  pub token_count : tokens ≡ count given
+  pub token_count : tokens ≡ count ending given

@@ -1,13 +1,13 @@
 // Lines that stand as they are written.
 
-ghost use Rattle.std.specs.Prelude.{◌≡◌, ◌<◌, ◌≤◌, ◌+◌, ◌∷◌, ◌++◌, length, take, get_or, IfSome};
+ghost use Rattle.std.specs.Prelude.{◌≡◌, ◌<◌, ◌≤◌, ◌+◌, ℕ, ◌∷◌, ◌++◌, length, take, get_or, IfSome};
 ghost use Rattle.std.specs.Str.{chars, IsUtf8};
 ghost use Rattle.rdf_terms.specs.Runs.{is_text_byte, IsRun};
 ghost use Rattle.rdf_tokens.specs.Scans.{most_bytes};
-ghost use Rattle.rdf_lines.specs.Canonical.{PassesLines};
+ghost use Rattle.rdf_lines.specs.Canonical.{PassesLines, end_count, end_text};
 ghost use Rattle.rdf_lines.specs.Fronts.{IriStands, LabelStands, TagStands, StringStands, SubjectStands, PredicateStands, TailStands, ObjectStands, GraphStands, LineStands, AreLines, CharactersStand, EscapeStands};
 
-use crate::form::LineForm;
+use crate::form::{LineEnding, LineForm};
 use crate::grammar::LineGrammar;
 use crate::rules::Rules;
 use rdf_driver::Reader;
@@ -40,16 +40,21 @@ struct IriPart<'a> {
     rest: &'a str,
 }
 
-/// Passes lines at the front of the text that stand as they are written, where the reader stands between two lines, and answers how many
-/// bytes they have. What is written for their quads with the labels kept are these bytes. With limits below 64 it passes none.
-pub fn pass_lines<A: Allocator + Copy>(reader: &mut Reader<LineGrammar<A>, A>, text: &str) -> usize
+/// Passes lines at the front of the text that end so and stand as they are written, where the reader stands between two lines, and
+/// answers how many bytes they have. What is written for their quads with the labels kept are these bytes without their CRs. With
+/// limits below 64 it passes none.
+pub fn pass_lines<A: Allocator + Copy>(
+    reader: &mut Reader<LineGrammar<A>, A>,
+    text: &str,
+    ending: LineEnding,
+) -> usize
     ensures within { result ≤ length text.now }
-    ensures passes { PassesLines reader.old (take result text.now) reader.new }
+    ensures passes { PassesLines ending reader.old (take result text.now) reader.new }
 {
     if !reader.can_pass(text.len()) {
         return 0;
     }
-    let front = reader.grammar().lines_in(text);
+    let front = reader.grammar().lines_in(text, ending);
     if front.bytes == 0 {
         return 0;
     }
@@ -58,24 +63,52 @@ pub fn pass_lines<A: Allocator + Copy>(reader: &mut Reader<LineGrammar<A>, A>, t
     front.bytes
 }
 
-/// As many lines at the front of the text as are known to stand as they are written.
-pub fn canonical_front(text: &str, rules: Rules, token: u64) -> Front
+/// As many lines at the front of the text as end so and are known to stand as they are written.
+pub fn canonical_front(text: &str, ending: LineEnding, rules: Rules, token: u64) -> Front
     requires token { 64 ≤ token }
     requires iri { 64 ≤ rules.iri }
     requires few { length text.now ≤ most_bytes }
-    ensures lines { AreLines rules.form token rules.iri result.quads result.tokens (take result.bytes text.now) }
+    ensures lines { AreLines ending rules.form token rules.iri result.quads result.tokens (take result.bytes text.now) }
+    ensures within { result.bytes ≤ length text.now }
+{
+    ended_front(front_within(text, token), ending, rules, token)
+}
+
+// The text, or its front of so many bytes, or none of it where a character stands across that place.
+fn front_within(text: &str, limit: u64) -> &str
+    ensures front { result.now ≡ take (length result.now) text.now }
+    ensures within { length result.now ≤ limit }
+    ensures shorter { length result.now ≤ length text.now }
+{
+    if text.len() as u64 <= limit {
+        return text;
+    }
+    match text.split_at_checked(limit as usize) {
+        Some((front, _)) => front,
+        None => "",
+    }
+}
+
+// The same of a text that is no longer than a token may be.
+fn ended_front(text: &str, ending: LineEnding, rules: Rules, token: u64) -> Front
+    requires token { 64 ≤ token }
+    requires short { length text.now ≤ token }
+    requires iri { 64 ≤ rules.iri }
+    requires few { length text.now ≤ most_bytes }
+    ensures lines { AreLines ending rules.form token rules.iri result.quads result.tokens (take result.bytes text.now) }
     ensures within { result.bytes ≤ length text.now }
 {
     let len = text.len();
+    let ends = end_tokens(ending);
     let mut rest = text;
     let mut quads = 0;
     let mut tokens = 0;
     'lines: loop {
-        match canonical_line(rest, rules, token) {
+        match canonical_line(rest, ending, rules) {
             Some(line) => {
                 rest = line.rest;
                 quads += 1;
-                tokens += line.tokens;
+                tokens += line.tokens + ends;
             }
             None => {
                 return Front {
@@ -88,23 +121,39 @@ pub fn canonical_front(text: &str, rules: Rules, token: u64) -> Front
     }
 }
 
-// The line that the text begins with, if it is one that would be written so.
-fn canonical_line(text: &str, rules: Rules, token: u64) -> Option<Part<'_>>
-    requires token { 64 ≤ token }
+// How many tokens the end of a line has.
+fn end_tokens(ending: LineEnding) -> u64
+    ensures { result ≡ end_count ending }
+{
+    match ending {
+        LineEnding::Lf => 1,
+        LineEnding::CrLf => 2,
+    }
+}
+
+// The line that the text begins with, if it is one that would be written so, and ends so; with the tokens before its end.
+fn canonical_line(text: &str, ending: LineEnding, rules: Rules) -> Option<Part<'_>>
     requires iri { 64 ≤ rules.iri }
-    ensures { IfSome result (λ p. LineStands rules.form token rules.iri p.tokens text.now p.rest.now) }
+    ensures { IfSome result (λ p. (token : ℕ) → 64 ≤ token → length text.now ≤ token →
+        LineStands ending rules.form token rules.iri (p.tokens + end_count ending) text.now p.rest.now) }
 {
     let rest = predicate(subject(text, rules.iri)?, rules.iri)?;
     let object = object(rest, rules.iri)?;
     let graph = graph(object.rest, rules)?;
-    let rest = after_byte(after_byte(graph.rest, b'.')?, b'\n')?;
-    if (text.len() - rest.len()) as u64 > token {
-        return None;
-    }
     Some(Part {
-        tokens: object.tokens + graph.tokens + 4,
-        rest,
+        tokens: object.tokens + graph.tokens + 3,
+        rest: after_end(after_byte(graph.rest, b'.')?, ending)?,
     })
+}
+
+// The text after a line's end.
+fn after_end(text: &str, ending: LineEnding) -> Option<&str>
+    ensures { IfSome result (λ rest. text.now ≡ end_text ending ++ rest.now) }
+{
+    match ending {
+        LineEnding::Lf => after_byte(text, b'\n'),
+        LineEnding::CrLf => after_byte(after_byte(text, b'\r')?, b'\n'),
+    }
 }
 
 fn subject(text: &str, limit: u64) -> Option<&str>

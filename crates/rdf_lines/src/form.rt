@@ -33,6 +33,15 @@ pub enum Escapes {
     Ascii,
 }
 
+/// How lines end that are read.
+#[derive(Clone, Copy, PartialEq, Eq, Debug)]
+pub enum LineEnding {
+    /// In LF, as each line that is written.
+    Lf,
+    /// In CR and LF.
+    CrLf,
+}
+
 /// All that is asked for of what is written.
 #[derive(Clone, Copy)]
 pub struct WrittenForm<'a> {

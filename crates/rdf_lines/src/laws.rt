@@ -5,7 +5,7 @@ ghost use Rattle.rdf_terms.specs.Terms.{IsNode, Node, Quad};
 ghost use Rattle.rdf_lines.specs.declared.form.Escapes.{Escapes};
 ghost use Rattle.rdf_lines.specs.declared.form.Style.{Style};
 ghost use Rattle.rdf_lines.specs.Writing.{Writable, rename_node, text};
-ghost use Rattle.rdf_lines.specs.Canonical.{CanonicalLinesAreRead};
+ghost use Rattle.rdf_lines.specs.Canonical.{CanonicalLinesAreRead, CanonicalLinesAreWritten};
 ghost use Rattle.rdf_lines.specs.Laws.{ReadsBack, TokensSettleTheQuads, TokensSettleWhatIsDue, DueBeginsTheQuads, ReadQuadsAreDue, DocumentsAreRead, RefusedIsNoDocument, WrittenTextIsRead, DocumentIsWritable, WrittenDocumentIsRead, AsciiIsWritten};
 ghost use Rattle.rdf_lines.specs.Laws.{PrefixedTextReadsBack, PrefixedTextIsRead, PrefixedDocumentIsRead, PrefixedAsciiIsWritten, FormsAgreeOnAscii, PrefixedNamesStayApart, PrefixesKeepApart, JoinedTextsReadBack, NoPrefixIsNoChange};
 
@@ -73,6 +73,11 @@ pub fn written_document_is_read()
 /// two lines.
 pub fn canonical_lines_are_read()
     ensures { CanonicalLinesAreRead }
+{}
+
+/// Lines that stand as they are written are what is written for their quads, but for the CRs of those that end in CR and LF.
+pub fn canonical_lines_are_written()
+    ensures { CanonicalLinesAreWritten }
 {}
 
 /// In ASCII each byte that is written is below 128, where each label has such characters alone.

@@ -14,7 +14,7 @@ mod state;
 mod writer;
 
 pub use canonical::pass_lines;
-pub use form::{Escapes, LineForm, Style, WrittenForm};
+pub use form::{Escapes, LineEnding, LineForm, Style, WrittenForm};
 pub use grammar::LineGrammar;
 pub use prefix::{NodePrefix, NodePrefixView};
 pub use rdf_driver::{Fault, Summary};

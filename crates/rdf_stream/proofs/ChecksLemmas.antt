@@ -19,6 +19,7 @@ use Rattle.rdf_stream.specs.declared.fault.StreamFault.TheVariants as stream
 use Rattle.rdf_stream.specs.Checks.{BeginsToRead, CheckEnds, CheckHalts, CheckStops, ChecksNoMore, IsChecking, IsRefusedFor, IsAccepted}
 use Rattle.rdf_stream.specs.Devices.{HasGiven, Reading}
 use Rattle.rdf_stream.specs.Faults.{IsOfDocument, IsRefusal, fault_by}
+use Rattle.rdf_lines.specs.declared.form.LineEnding.{LineEnding}
 use Rattle.rdf_lines.specs.declared.form.Style.{Style}
 use Rattle.rdf_stream.specs.Passes.{PassesText}
 use Rattle.rdf_stream.specs.Pieces.{ReadStops, ReadsAll, SourceFails}
@@ -130,8 +131,8 @@ halts_more w reported first bytes more h = record {
 }
 
 -- the bytes that were passed
-pub text_passed : {G X : Type 0} (w : Words G X Quad) (style : Style) (first old new : Driven G) (bytes text : List ℕ) → IsChecking w first bytes old → PassesText w style old text new → IsChecking w first (bytes ++ text) new
-text_passed w style first old new bytes text i p = record {
+pub text_passed : {G X : Type 0} (w : Words G X Quad) (style : Style) (ending : LineEnding) (first old new : Driven G) (bytes text : List ℕ) → IsChecking w first bytes old → PassesText w style ending old text new → IsChecking w first (bytes ++ text) new
+text_passed w style ending first old new bytes text i p = record {
   begun = i.begun;
   limit = p.limit ∙ i.limit;
   read = λ x b. let (quads, h) = i.read x b in (quads ++ p.given, p.read x bytes quads h);

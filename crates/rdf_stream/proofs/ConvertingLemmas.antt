@@ -21,7 +21,9 @@ use Rattle.rdf_driver.specs.Readers.{Driven, FeedFails, Feeds, FinishFails, Fini
 use Rattle.rdf_driver.specs.Words.{Words, in_words}
 use Rattle.rdf_lines.specs.declared.form.Escapes.{Escapes}
 use Rattle.rdf_lines.specs.declared.form.Escapes.TheVariants.{Plain, Ascii}
+use Rattle.rdf_lines.specs.declared.form.LineEnding.{LineEnding}
 use Rattle.rdf_lines.specs.declared.form.Style.{Style}
+use Rattle.rdf_lines.specs.Canonical.{written_as}
 use Rattle.rdf_lines.specs.Writing.{CanWrite, Writable}
 use Rattle.rdf_lines.specs.declared.form.WrittenForm.{WrittenForm}
 use Rattle.rdf_lines.specs.Forms.{form_of}
@@ -382,22 +384,27 @@ module _ {G X D A : Type 0} (contents : D → Option (List ℕ)) (failed : D →
       let put = taken contents failed f.more lines mid f.puts (styled_all (reading_of (now' part reader' f.limit f.more read') (bytes ++ part) false).tokens f.more (due' part reader' f.limit f.more read')) in
       more_put part reader' f.limit f.more read' mid put.same (subst (λ (y : WrittenForm). Writable y.style f.more) o.same.form put.writable) put.writes (put.live o.live)
 
-  -- Some text was passed: it is the plain lines of quads in the style.
-  module _ (style : Style) (same_style : first.form.style ≡ style) (text : List ℕ) (kept : KeepsText lines.form text) (reader' : Driven G) (p : PassesText w style reader text reader') where
+  -- Some text was passed: it is the plain lines of quads in the style, but for CRs.
+  module _ (style : Style) (same_style : first.form.style ≡ style) (ending : LineEnding) (text : List ℕ) (kept : KeepsText lines.form (written_as ending text)) (reader' : Driven G)
+      (p : PassesText w style ending reader text reader') where
+    -- what is written of it
+    abbrev put : List ℕ
+    put = written_as ending text
+
     passed' : HasRead w reader' x (bytes ++ text) (o.quads ++ p.given)
     passed' = p.read x bytes o.quads o.read
 
-    their_lines : text ≡ bytes_of lines.form p.given
-    their_lines = kept p.given (subst (λ s. text ≡ lines_of (plain s) p.given) (sym (ap (λ (f : WrittenForm). f.style) o.same.form ∙ same_style)) p.is)
+    their_lines : put ≡ bytes_of lines.form p.given
+    their_lines = kept p.given (subst (λ s. put ≡ lines_of (plain s) p.given) (sym (ap (λ (f : WrittenForm). f.style) o.same.form ∙ same_style)) p.is)
 
-    -- it was put as it stands
-    pub text_put : (after : LineOut D A) → SameOut lines after → Writes contents lines text after → failed after.drain.now ≡ false → HasPut contents failed w x reader' (bytes ++ text) first after
+    -- it was put
+    pub text_put : (after : LineOut D A) → SameOut lines after → Writes contents lines put after → failed after.drain.now ≡ false → HasPut contents failed w x reader' (bytes ++ text) first after
     text_put after s m live =
         more_put text reader' p.limit p.given passed' after s (subst (λ y. Writable y p.given) (sym same_style) p.writable)
         (subst (λ b. Writes contents lines b after) their_lines m) live
 
     -- it was not put
-    pub text_halts : (reported : StreamFault) (after : LineOut D A) → SameOut lines after → PutHalts contents failed reported lines text after → Halts reported (bytes ++ text) false after
+    pub text_halts : (reported : StreamFault) (after : LineOut D A) → SameOut lines after → PutHalts contents failed reported lines put after → Halts reported (bytes ++ text) false after
     text_halts reported after s h = record { same = same_out first lines after o.same s; halts = by reported h }
       where
         ts : List Token
@@ -406,7 +413,7 @@ module _ {G X D A : Type 0} (contents : D → Option (List ℕ)) (failed : D →
         able : Writable lines.form.style p.given
         able = subst (λ y. Writable y p.given) (sym (ap (λ (f : WrittenForm). f.style) o.same.form ∙ same_style)) p.writable
 
-        by : (reported : StreamFault) → PutHalts contents failed reported lines text after →
+        by : (reported : StreamFault) → PutHalts contents failed reported lines put after →
             HaltsFor reported job (bytes ++ text) false (contents first.drain.now) (contents after.drain.now) (failed after.drain.now)
         by stream.Write h = (
           h.0,
@@ -620,19 +627,19 @@ module _ {G X D A : Type 0} (contents : D → Option (List ℕ)) (failed : D →
     run_halts n k new mid after why reported h s t =
         halted reported (bytes ++ part) false after (λ x y o. piece_halts contents failed w x old bytes first lines y o part n k new mid why after reported h s t)
 
-    module _ (kept : KeepsText lines.form part) (new : Driven G) (p : PassesText w style old part new) where
-      -- some text was passed, and put as it stands
-      pub run_passes : (after : LineOut D A) → SameOut lines after → Writes contents lines part after → failed after.drain.now ≡ false → IsPutting contents failed w style reader first (bytes ++ part) new after
+    module _ (ending : LineEnding) (kept : KeepsText lines.form (written_as ending part)) (new : Driven G) (p : PassesText w style ending old part new) where
+      -- some text was passed, and put
+      pub run_passes : (after : LineOut D A) → SameOut lines after → Writes contents lines (written_as ending part) after → failed after.drain.now ≡ false → IsPutting contents failed w style reader first (bytes ++ part) new after
       run_passes after s m live = record {
         begun = i.begun;
         styled = i.styled;
         limit = p.limit ∙ i.limit;
-        put = λ x y. text_put contents failed w x old bytes first lines y.starts.suits (i.put x y) style i.styled part kept new p after s m live;
+        put = λ x y. text_put contents failed w x old bytes first lines y.starts.suits (i.put x y) style i.styled ending part kept new p after s m live;
       }
 
       -- it was not put
-      pub pass_halts : (reported : StreamFault) (after : LineOut D A) → SameOut lines after → PutHalts contents failed reported lines part after → RunHalts contents failed w reported reader first (bytes ++ part) false after
-      pass_halts reported after s h = halted reported (bytes ++ part) false after (λ x y o. text_halts contents failed w x old bytes first lines y o style i.styled part kept new p reported after s h)
+      pub pass_halts : (reported : StreamFault) (after : LineOut D A) → SameOut lines after → PutHalts contents failed reported lines (written_as ending part) after → RunHalts contents failed w reported reader first (bytes ++ part) false after
+      pass_halts reported after s h = halted reported (bytes ++ part) false after (λ x y o. text_halts contents failed w x old bytes first lines y o style i.styled ending part kept new p reported after s h)
 
   module _ (summary : Summary) (mid : LineOut D A) (f : Finishes w (Takes contents failed) old lines summary mid) where
     -- the document was read and written

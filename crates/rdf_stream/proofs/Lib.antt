@@ -13,3 +13,4 @@ pub mod TokenWordsLemmas
 pub mod TokenOutLemmas
 pub mod ShowsLemmas
 pub mod LoadsLemmas
+mod WithoutCrsLemmas

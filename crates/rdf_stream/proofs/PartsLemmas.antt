@@ -1,13 +1,16 @@
 -- From the parts of a piece to all of it.
-use Rattle.std.proofs.Common.{◌≡◌, ◌+◌, ◌≤◌, ◌<◌, ℕ, zero, suc, Bool, true, false, List, [], ◌∷◌, ◌++◌, length, take, drop, get_or, sym, ap, subst, ◌∙◌, append_assoc, ⊎_elim, length-take, arith}
+use Rattle.std.proofs.Common.{◌≡◌, ◌+◌, ◌≤◌, ◌<◌, ℕ, zero, suc, Bool, true, false, List, [], ◌∷◌, ◌++◌, ◌==◌, not, length, take, drop, get_or, sym, ap, subst, ◌∙◌, append_assoc, ⊎_elim, length-take, arith}
 use Rattle.std.specs.Str.{IsUtf8, IsCharBoundary}
-use Rattle.std.proofs.lemmas.Bool.{cases_lt}
+use Rattle.std.proofs.lemmas.Bool.{cases_Bool, cases_lt, cond-true, cond-false}
 use Rattle.std.proofs.lemmas.Bool.Decides.{nat_tests}
 use Rattle.std.proofs.lemmas.Str.{IsCharBoundary-from_take}
 use Rattle.std.proofs.lemmas.List.{append-nil, drop-append-le, drop-drop, length-drop, length-take-le, take-append-drop, take-append-le}
 use Rattle.std.proofs.Math.Seq.{take-add, take-length}
 use Rattle.rdf_terms.specs.Runs.{IsRun, is_ascii_byte}
 use Rattle.rdf_tokens.specs.Scans.{most_bytes}
+use Rattle.rdf_lines.specs.declared.form.LineEnding.{LineEnding}
+use Rattle.rdf_lines.specs.declared.form.LineEnding.TheVariants.{Lf, CrLf}
+use Rattle.rdf_lines.specs.Canonical.{written_as}
 use Rattle.rdf_lines.proofs.AsciiLemmas.{low_encodes, low_scalars}
 use Rattle.rdf_stream.specs.declared.fault.StreamFault.{StreamFault}
 use Rattle.rdf_stream.specs.Parts.{HaltsWithin, IsAsciiText, MayPass}
@@ -18,6 +21,17 @@ pub ascii_take : (n : ℕ) (w : List ℕ) → IsAsciiText w → IsAsciiText (tak
 ascii_take zero w a = tt
 ascii_take (suc n) [] a = tt
 ascii_take (suc n) (b ∷ w) a = (a.0, ascii_take n w a.1)
+
+-- so is what is written of its lines
+pub low_written : (ending : LineEnding) (w : List ℕ) → IsAsciiText w → IsAsciiText (written_as ending w)
+low_written Lf w a = a
+low_written CrLf [] a = tt
+low_written CrLf (b ∷ w) a =
+    let rest = low_written CrLf w a.1 in
+    ⊎_elim
+    (λ t. subst IsAsciiText (sym (cond-true (not (b == 13)) (b ∷ written_as CrLf w) (written_as CrLf w) t)) (a.0, rest))
+    (λ t. subst IsAsciiText (sym (cond-false (not (b == 13)) (b ∷ written_as CrLf w) (written_as CrLf w) t)) rest)
+    (cases_Bool (not (b == 13)))
 
 -- so is what stands from a place on
 ascii_drop : (n : ℕ) (w : List ℕ) → IsAsciiText w → IsAsciiText (drop n w)

@@ -1,5 +1,5 @@
 -- What passing text does to a reader, by its grammar.
-use Rattle.std.proofs.Common.{ℕ, List, [], ◌∷◌, ◌++◌, refl, sym, ap, ◌∙◌, subst}
+use Rattle.std.proofs.Common.{◌≡◌, ℕ, List, [], ◌∷◌, ◌++◌, refl, sym, ap, ◌∙◌, subst}
 use Rattle.std.specs.Prelude.{encode_utf8_all}
 use Rattle.std.proofs.lemmas.List.{append-nil}
 use Rattle.rdf_terms.specs.Terms.{Quad}
@@ -8,19 +8,26 @@ use Rattle.rdf_driver.specs.Words.{Words}
 use Rattle.rdf_lines.specs.declared.form.Style.{Style}
 use Rattle.rdf_lines.specs.declared.form.Style.TheVariants.{Kept}
 use Rattle.rdf_lines.specs.declared.form.LineForm.{LineForm}
+use Rattle.rdf_lines.specs.declared.form.LineEnding.{LineEnding}
+use Rattle.rdf_lines.specs.declared.form.LineEnding.TheVariants.{Lf, CrLf}
 use Rattle.rdf_lines.specs.declared.form.Escapes.TheVariants.{Plain}
 use Rattle.rdf_lines.specs.Accepting.{LineAt, line_words}
-use Rattle.rdf_lines.specs.Canonical.{IsTaken, PassesLines}
+use Rattle.rdf_lines.specs.Canonical.{IsTaken, PassesLines, written_as}
 use Rattle.rdf_lines.specs.Writing.{Writable}
 use Rattle.rdf_lines.proofs.NodePrefixLemmas.{text_unprefixed}
+use Rattle.rdf_lines.proofs.WithoutCrs.{lines_written}
 use Rattle.std.specs.List.{AllByRecursion}
 use Rattle.rdf_stream.specs.Passes.{PassesText}
 
 -- no text was passed
-pub passes_none : {G X : Type 0} (w : Words G X Quad) (style : Style) (r : Driven G) → PassesText w style r [] r
-passes_none w style r = record {
+none_written : (ending : LineEnding) → written_as ending [] ≡ []
+none_written Lf = refl
+none_written CrLf = refl
+
+pub passes_none : {G X : Type 0} (w : Words G X Quad) (style : Style) (ending : LineEnding) (r : Driven G) → PassesText w style ending r [] r
+passes_none w style ending r = record {
   given = [];
-  is = refl;
+  is = none_written ending;
   writable = tt;
   limit = refl;
   read = λ x before quads h. subst (λ b. HasRead w r x b (quads ++ [])) (sym (append-nil before)) (subst (HasRead w r x before) (sym (append-nil quads)) h);
@@ -32,10 +39,10 @@ taken_writable form token iri [] h = tt
 taken_writable form token iri (q ∷ qs) h = ((h.0.quad, h.0.labels), taken_writable form token iri qs h.1)
 
 -- lines are text
-pub lines_passed : (old : Driven LineAt) (bytes : List ℕ) (new : Driven LineAt) → PassesLines old bytes new → PassesText line_words Kept old bytes new
-lines_passed old bytes new h = record {
+pub lines_passed : (ending : LineEnding) (old : Driven LineAt) (bytes : List ℕ) (new : Driven LineAt) → PassesLines ending old bytes new → PassesText line_words Kept ending old bytes new
+lines_passed ending old bytes new h = record {
   given = h.given;
-  is = h.canonical.is ∙ ap encode_utf8_all (sym (text_unprefixed Kept Plain h.given));
+  is = lines_written ending old.grammar.rules.form old.scanner.limit old.grammar.rules.iri bytes h.given h.canonical ∙ ap encode_utf8_all (sym (text_unprefixed Kept Plain h.given));
   writable = taken_writable old.grammar.rules.form old.scanner.limit old.grammar.rules.iri h.given h.canonical.each;
   limit = h.limit;
   read = h.read;

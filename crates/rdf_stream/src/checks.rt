@@ -15,7 +15,7 @@ use crate::parts::{Parts, take_parts};
 use crate::passes::Passes;
 use crate::pieces::{Run, piece_buffer, read_pieces};
 use rdf_driver::{Reader, Summary};
-use rdf_lines::line_reader;
+use rdf_lines::{LineEnding, line_reader};
 use rdf_terms::{PutFault, QuadRef, QuadSink};
 use rdf_trig::tree_reader;
 use std::alloc::Allocator;
@@ -101,8 +101,14 @@ impl<A: Allocator + Copy, G: Passes<A>> Parts<NoQuads> for Reader<G, A> {
         false
     }
 
-    fn pass_front(&mut self, text: &str, _: bool, _: &mut NoQuads) -> Result<usize, StreamFault> {
-        Ok(G::pass(self, text))
+    fn pass_front(
+        &mut self,
+        text: &str,
+        ending: LineEnding,
+        _: bool,
+        _: &mut NoQuads,
+    ) -> Result<usize, StreamFault> {
+        Ok(G::pass(self, text, ending))
     }
 
     fn read_part(&mut self, part: &[u8], sink: &mut NoQuads) -> Result<(), StreamFault> {

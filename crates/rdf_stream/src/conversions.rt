@@ -18,7 +18,7 @@ use crate::parts::{Parts, take_parts};
 use crate::passes::Passes;
 use crate::pieces::{Run, piece_buffer, read_pieces};
 use rdf_driver::{QuadGrammar, Reader, Summary};
-use rdf_lines::{Style, line_reader};
+use rdf_lines::{LineEnding, Style, line_reader};
 use rdf_trig::tree_reader;
 use std::alloc::Allocator;
 
@@ -147,18 +147,19 @@ impl<'a, A: Allocator + Copy, G: Passes<A>, D: Drain> Parts<LineOut<'a, D, A>> f
         lines.is_ascii()
     }
 
-    // Passes lines, and puts them as they stand, where they are written so.
+    // Passes lines, and puts them as they stand but for their CRs, where they are written so.
     fn pass_front(
         &mut self,
         text: &str,
+        ending: LineEnding,
         is_ascii: bool,
         lines: &mut LineOut<'a, D, A>,
     ) -> Result<usize, StreamFault> {
         if !lines.keeps_lines(is_ascii) {
             return Ok(0);
         }
-        let passed = G::pass(self, text);
-        match lines.append(&text.as_bytes()[..passed]) {
+        let passed = G::pass(self, text, ending);
+        match lines.append(&text.as_bytes()[..passed], ending) {
             Ok(()) => Ok(passed),
             Err(fault) => Err(fault),
         }

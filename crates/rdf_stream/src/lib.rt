@@ -18,6 +18,7 @@ mod shows;
 mod token_grammar;
 mod token_line;
 mod views;
+mod without_crs;
 
 pub use checks::check;
 pub use conversions::convert;

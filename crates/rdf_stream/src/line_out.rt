@@ -2,6 +2,7 @@
 
 ghost use Rattle.std.specs.Prelude.{◌≡◌, ◌↔◌, [], ◌<◌, length, true, false, Bool, List, ℕ, Option, is_err, OnOk, OnErr, IfErr};
 ghost use Rattle.std.specs.Io.KnownBytes.{Appends};
+ghost use Rattle.rdf_lines.specs.Canonical.{without_crs, written_as};
 ghost use Rattle.rdf_stream.specs.Converting.{Reports};
 ghost use Rattle.rdf_stream.specs.Devices.{AppendsFront};
 ghost use Rattle.rdf_tokens.specs.Scans.{token_of};
@@ -14,7 +15,8 @@ use crate::fault::StreamFault;
 use crate::put::put_all;
 use crate::token_line::put_token_line;
 use crate::views::see_quad;
-use rdf_lines::{Escapes, LabelFault, WrittenForm, write_line_in};
+use crate::without_crs::put_without_crs;
+use rdf_lines::{Escapes, LabelFault, LineEnding, WrittenForm, write_line_in};
 use rdf_terms::{PutFault, QuadRef, QuadSink};
 use rdf_tokens::{Fault, Token};
 use std::alloc::{Allocator, Global};
@@ -94,8 +96,45 @@ impl<'a, D: Drain, A: Allocator + Copy> LineOut<'a, D, A> {
         self.drain.flush()
     }
 
-    /// Puts lines as they stand.
-    pub(crate) fn append(&mut self, lines: &[u8]) -> Result<(), StreamFault>
+    /// Puts lines as they stand, but for the CRs of those that end in CR and LF.
+    pub(crate) fn append(&mut self, lines: &[u8], ending: LineEnding) -> Result<(), StreamFault>
+        requires live { D.has_failed self.old.drain.now ≡ false }
+        ensures same { SameOut self.old self.new }
+        ensures writes { OnOk result (Writes D.contents self.old (written_as ending lines.now) self.new) }
+        ensures few { OnOk result (length self.old.buffer.now.items < most_waiting → length self.new.buffer.now.items < most_waiting) }
+        ensures live { OnOk result (D.has_failed self.new.drain.now ≡ false) }
+        ensures halts { IfErr result (λ reported. PutHalts D.contents D.has_failed reported self.old (written_as ending lines.now) self.new) }
+    {
+        match ending {
+            LineEnding::Lf => self.append_as_is(lines),
+            LineEnding::CrLf => self.append_without_crs(lines),
+        }
+    }
+
+    // Copies lines without their CRs after those that wait, and hands them over where they are many then.
+    fn append_without_crs(&mut self, lines: &[u8]) -> Result<(), StreamFault>
+        requires live { D.has_failed self.old.drain.now ≡ false }
+        ensures same { SameOut self.old self.new }
+        ensures writes { OnOk result (Writes D.contents self.old (without_crs lines.now) self.new) }
+        ensures few { OnOk result (length self.old.buffer.now.items < most_waiting → length self.new.buffer.now.items < most_waiting) }
+        ensures live { OnOk result (D.has_failed self.new.drain.now ≡ false) }
+        ensures halts { IfErr result (λ reported. PutHalts D.contents D.has_failed reported self.old (without_crs lines.now) self.new) }
+    {
+        match put_without_crs(lines, self.buffer) {
+            Ok(()) => {}
+            Err(_) => return Err(handed_over(self)),
+        }
+        if WAITING_LEN <= self.buffer.len() {
+            return match self.hand_over() {
+                Ok(()) => Ok(()),
+                Err(Failed) => Err(StreamFault::Write),
+            };
+        }
+        Ok(())
+    }
+
+    // Puts lines as they stand.
+    fn append_as_is(&mut self, lines: &[u8]) -> Result<(), StreamFault>
         requires live { D.has_failed self.old.drain.now ≡ false }
         ensures same { SameOut self.old self.new }
         ensures writes { OnOk result (Writes D.contents self.old lines.now self.new) }

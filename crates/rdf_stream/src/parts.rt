@@ -8,6 +8,7 @@ ghost use Rattle.rdf_stream.specs.Parts.{HaltsWithin, IsAsciiText, MayPass};
 ghost use Rattle.rdf_stream.specs.Pieces.{HaltsOn, HasBegun, StaysOn, TakesMore};
 
 use crate::fault::StreamFault;
+use rdf_lines::LineEnding;
 use rdf_terms::runs::{Run, run_end};
 use simdutf8::compat::from_utf8;
 
@@ -36,8 +37,14 @@ pub(crate) trait Parts<L> {
     /// Whether it passes text only where that is known to be ASCII.
     fn passes_ascii(&self, out: &L) -> bool;
 
-    /// Passes a front of the text, which may be known to be ASCII, and answers how many bytes it has: none, or more.
-    fn pass_front(&mut self, text: &str, is_ascii: bool, out: &mut L) -> Result<usize, StreamFault>
+    /// Passes a front of the text, whose lines end so and which may be known to be ASCII, and answers how many bytes it has: none, or more.
+    fn pass_front(
+        &mut self,
+        text: &str,
+        ending: LineEnding,
+        is_ascii: bool,
+        out: &mut L,
+    ) -> Result<usize, StreamFault>
         requires begun { HasBegun taken (self.old, out.old) }
         requires ascii { is_ascii ≡ true → IsAsciiText text.now }
         ensures within { IfOk result (λ n. n ≤ length text.now) }
@@ -68,13 +75,18 @@ pub(crate) fn take_parts<L, R: Parts<L>>(
 {
     let len = run.part_len(piece, 0);
     match run.read_part(&piece[..len], out) {
-        Ok(()) => take_rest(run, &piece[len..], out),
+        Ok(()) => take_rest(run, &piece[len..], ending_of(&piece[..len]), out),
         Err(fault) => Err(fault),
     }
 }
 
-// Takes what comes after the first part of a piece.
-fn take_rest<L, R: Parts<L>>(run: &mut R, rest: &[u8], out: &mut L) -> Result<(), StreamFault>
+// Takes what comes after the first part of a piece, which ended so. Lines that end as the one before are passed.
+fn take_rest<L, R: Parts<L>>(
+    run: &mut R,
+    rest: &[u8],
+    first: LineEnding,
+    out: &mut L,
+) -> Result<(), StreamFault>
     requires begun { HasBegun R.taken (run.old, out.old) }
     requires few { R.count run.old ≤ most_bytes }
     ensures takes { OnOk result (TakesMore R.taken (run.old, out.old) rest.now (run.new, out.new)) }
@@ -84,12 +96,13 @@ fn take_rest<L, R: Parts<L>>(run: &mut R, rest: &[u8], out: &mut L) -> Result<()
 {
     let text = utf8_front(rest);
     let is_ascii = run.passes_ascii(out);
+    let mut ending = first;
     let mut left = "";
     let mut at = 0;
     let mut least = 0;
     while at < rest.len() {
         let front = front_from(left, text, at, is_ascii);
-        let passed = match run.pass_front(front, is_ascii, out) {
+        let passed = match run.pass_front(front, ending, is_ascii, out) {
             Ok(passed) => passed,
             Err(fault) => return Err(fault),
         };
@@ -100,10 +113,20 @@ fn take_rest<L, R: Parts<L>>(run: &mut R, rest: &[u8], out: &mut L) -> Result<()
             Ok(()) => {}
             Err(fault) => return Err(fault),
         }
+        ending = ending_of(&rest[from..to]);
         left = text_from(front, to - at);
         at = to;
     }
     Ok(())
+}
+
+// How the last line of a part ends.
+fn ending_of(part: &[u8]) -> LineEnding {
+    if part.ends_with(b"\r\n") {
+        LineEnding::CrLf
+    } else {
+        LineEnding::Lf
+    }
 }
 
 // How many bytes are read at least before the next try to pass some, by how many it was before the last one and what that passed.

@@ -7,7 +7,7 @@ ghost use Rattle.rdf_stream.specs.Passes.{PassesText};
 
 use memchr::memchr;
 use rdf_driver::{QuadGrammar, Reader};
-use rdf_lines::{LineGrammar, pass_lines};
+use rdf_lines::{LineEnding, LineGrammar, pass_lines};
 use rdf_trig::TreeGrammar;
 use std::alloc::Allocator;
 
@@ -21,29 +21,28 @@ pub(crate) trait Passes<A: Allocator + Copy>: QuadGrammar + Drop {
         ensures within { result ≤ length bytes.now }
         ensures some { 0 < length bytes.now → 0 < result };
 
-    /// Passes a front of the text, which may be empty, and answers how many bytes it has.
-    fn pass(reader: &mut Reader<Self, A>, text: &str) -> usize
+    /// Passes a front of the text, whose lines end so and which may be empty, and answers how many bytes it has.
+    fn pass(reader: &mut Reader<Self, A>, text: &str, ending: LineEnding) -> usize
         ensures within { result ≤ length text.now }
-        ensures passes { PassesText Self.words style reader.old (take result text.now) reader.new };
+        ensures passes { PassesText Self.words style ending reader.old (take result text.now) reader.new };
 }
 
 impl<A: Allocator + Copy> Passes<A> for LineGrammar<A> {
     ghost style = { Kept };
 
-    // Whole lines, or all of them where one ends in CR and LF: so do the others then, and such lines are not passed.
+    // Whole lines.
     fn part_len(bytes: &[u8], least: usize) -> usize {
         if bytes.len() <= least {
             return bytes.len();
         }
         match memchr(b'\n', &bytes[least..]) {
-            Some(at) if at > 0 && bytes[least + at - 1] == b'\r' => bytes.len(),
             Some(at) => least + at + 1,
             None => bytes.len(),
         }
     }
 
-    fn pass(reader: &mut Reader<LineGrammar<A>, A>, text: &str) -> usize {
-        pass_lines(reader, text)
+    fn pass(reader: &mut Reader<LineGrammar<A>, A>, text: &str, ending: LineEnding) -> usize {
+        pass_lines(reader, text, ending)
     }
 }
 
@@ -55,7 +54,7 @@ impl<A: Allocator + Copy> Passes<A> for TreeGrammar<A> {
         bytes.len()
     }
 
-    fn pass(_: &mut Reader<TreeGrammar<A>, A>, _: &str) -> usize {
+    fn pass(_: &mut Reader<TreeGrammar<A>, A>, _: &str, _: LineEnding) -> usize {
         0
     }
 }

@@ -219,7 +219,7 @@ rdfconv: unexpected token at byte 43, line 1
 ];
 
 /// Documents that are the same in N-Triples and N-Quads.
-pub(crate) const N_TRIPLES_AND_N_QUADS: [(&[u8], &str); 25] = [
+pub(crate) const N_TRIPLES_AND_N_QUADS: [(&[u8], &str); 27] = [
     (b"", ""),
     // Lines that stand as they are written, and others: a cut within one makes it one of the others.
     (
@@ -231,6 +231,24 @@ _:b <a:p> \"x\"@en .
 _:b <a:p> \"é\" .
 <a:s> <a:p> \"q\\\"r\\n\" .
 ",
+    ),
+    // Lines that stand so but for a CR before each LF, and other ends among them.
+    (
+        b"<a:s> <a:p> <a:o> .\r\n<a:s> <a:p> \"x\"@en .\r\n<a:s> <a:p> \"\xC3\xA9\" .\n_:b <a:p> \"q\\\"r\\n\" .\r\n\r\n<a:s> <a:p> \"y\"^^<a:t> .\r\n<a:s> <a:p> \"z\" .\r<a:s> <a:p> \"w\" .\n\r<a:s> <a:p> <a:o> . # c\r\n_:b <a:p> <a:o> .\r\n",
+        "<a:s> <a:p> <a:o> .
+<a:s> <a:p> \"x\"@en .
+<a:s> <a:p> \"é\" .
+_:b <a:p> \"q\\\"r\\n\" .
+<a:s> <a:p> \"y\"^^<a:t> .
+<a:s> <a:p> \"z\" .
+<a:s> <a:p> \"w\" .
+<a:s> <a:p> <a:o> .
+_:b <a:p> <a:o> .
+",
+    ),
+    (
+        b"<a:s> <a:p> <a:o> .\r\n<a:s> <a:p> <a:o> .\r\n<a:s> <a:p> <o> .\r\n",
+        "<a:s> <a:p> <a:o> .\n<a:s> <a:p> <a:o> .\nrdfconv: relative IRI at byte 54, line 3\n",
     ),
     (
         b"<a:s> <a:p> <a:o> .\n<a:s> <a:p> <o> .\n",

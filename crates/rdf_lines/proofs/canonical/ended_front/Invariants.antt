@@ -1,9 +1,9 @@
 use Rattle.std.proofs.Common.{length}
 use Rattle.rdf_lines.specs.Fronts.{LinesStand}
-use Rattle.rdf_lines.proofs.canonical.canonical_front.Given as goal
+use Rattle.rdf_lines.proofs.canonical.ended_front.Given as goal
 
 abbrev pub invariant-lines : goal.invariant-lines
-invariant-lines l = LinesStand l.rules.form l.token l.rules.iri l.quads l.tokens l.text l.rest
+invariant-lines l = LinesStand l.ending l.rules.form l.token l.rules.iri l.quads l.tokens l.text l.rest
 
 abbrev pub decreases-lines : goal.decreases-lines
 decreases-lines l = length l.rest

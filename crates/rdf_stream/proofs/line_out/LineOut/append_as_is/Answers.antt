@@ -1,6 +1,6 @@
 use Rattle.std.proofs.Common.{rules}
 use Rattle.rdf_stream.proofs.LineOutLemmas.{all_taken, front_before, front_taken}
-use Rattle.rdf_stream.proofs.line_out.LineOut.append.Goals as goal
+use Rattle.rdf_stream.proofs.line_out.LineOut.append_as_is.Goals as goal
 
 pub returns-in-Err-clause-halts : goal.returns-in-Err-clause-halts
 returns-in-Err-clause-halts g c = let r = front_before _ _ _ c.args.lines.now c.in-Err.ensures.err in (search rules, r.0, r.1)

@@ -1,0 +1,32 @@
+-- Lines without their CRs, run by run.
+use Rattle.std.proofs.Common.{◌≡◌, ◌++◌, ◌+◌, ◌-◌, ◌<◌, ℕ, zero, suc, List, [], ◌∷◌, ◌==◌, true, false, not, length, take, drop, length-take, sym, ap, refl, ◌∙◌, arith}
+use Rattle.std.specs.Prelude.{slice_index}
+use Rattle.std.proofs.lemmas.Bool.{cond-true, cond-false}
+use Rattle.std.proofs.Math.Seq.{take-length}
+use Rattle.std.proofs.lemmas.List.{length-drop, take-append-le}
+use Rattle.rdf_lines.specs.Canonical.{without_crs}
+use Rattle.rdf_lines.specs.WrittenBytes.{BeginsWith}
+
+-- up to the first CR the bytes stay
+pub first_cr : (w : List ℕ) (at : ℕ) → ((k : ℕ) → k < at → (slice_index w k == 13) ≡ false) → (slice_index w at == 13) ≡ true → at < length w →
+    without_crs w ≡ take at w ++ without_crs (drop (suc at) w)
+first_cr [] at f e l = absurd (omega arith)
+first_cr (b ∷ w) zero f e l = cond-false (not (b == 13)) (b ∷ without_crs w) (without_crs w) (ap not e)
+first_cr (b ∷ w) (suc n) f e l =
+    cond-true (not (b == 13)) (b ∷ without_crs w) (without_crs w) (ap not (f 0 (omega arith)))
+    ∙ ap (λ x. b ∷ x) (first_cr w n (λ k h. f (suc k) (omega arith)) e (omega arith))
+
+-- where there is none, they all do
+pub no_cr : (w : List ℕ) → ((k : ℕ) → k < length w → (slice_index w k == 13) ≡ false) → without_crs w ≡ w
+no_cr [] f = refl
+no_cr (b ∷ w) f =
+    cond-true (not (b == 13)) (b ∷ without_crs w) (without_crs w) (ap not (f 0 (omega arith)))
+    ∙ ap (λ x. b ∷ x) (no_cr w (λ k h. f (suc k) (omega arith)))
+
+-- all from a place on
+pub slice_rest : (w : List ℕ) (n : ℕ) → take (length w - n) (drop n w) ≡ drop n w
+slice_rest w n = ap (λ k. take k (drop n w)) (sym (length-drop n w)) ∙ take-length (drop n w)
+
+-- what begins so still does where more is appended
+pub begins_more : (a b c w : List ℕ) → BeginsWith a b → c ≡ b ++ w → BeginsWith a c
+begins_more a b c w h e = ap (take (length a)) e ∙ (take-append-le (length a) b w (omega (arith, ap length h, length-take (length a) b)) ∙ h)
