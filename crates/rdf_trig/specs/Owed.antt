@@ -93,12 +93,13 @@ abbrev mutual
   commas_held s b no_commas rest = rest
   commas_held s b (comma l o os) rest = b ∷ object_held s b o (commas_held s b os rest)
 
--- a subject, or the label of a graph: nothing is held for it before its verb has come
+-- a subject: nothing is held for it before its verb has come
 abbrev pub subject_held : InForce → Subject → List ℕ → List ℕ
 subject_held s (iri_subject i) rest = 0 ∷ rest
 subject_held s (blank_subject x) rest = blank_held 0 x rest
 subject_held s (collection_subject c) rest = collection_held s 0 c rest
 
+-- the label of a graph, or a subject in its place
 abbrev pub label_held : LabelOrSubject → List ℕ → List ℕ
 label_held (iri_label i) rest = 0 ∷ rest
 label_held (blank_label x) rest = blank_held 0 x rest

@@ -79,10 +79,11 @@ abbrev pub topic_bytes : {A : Type 0} → Topic A → ℕ
 topic_bytes (topic.Term s) = subject_bytes s
 topic_bytes topic.Nil = 0
 
--- a verb and a subject as the machine has them, with their bytes
+-- a verb as the machine has it, with its bytes
 abbrev pub spelt_of : {A : Type 0} → Verb A → M.Spelt
 spelt_of p = record { iri = Some (verb_of p); size = verb_bytes p }
 
+-- the subject of a predicate list as the machine has it, with its bytes
 abbrev pub sized_of : {A : Type 0} → Topic A → M.Topic
 sized_of s = record { term = Some (topic_of s); size = topic_bytes s }
 
