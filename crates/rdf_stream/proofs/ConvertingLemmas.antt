@@ -566,10 +566,6 @@ module _ {G X D A : Type 0} (contents : D → Option (List ℕ)) (failed : D →
   pub live_now : failed lines.drain.now ≡ false
   live_now = put_now.live
 
-  -- the lines go where they went
-  pub same_now : SameOut first lines
-  same_now = put_now.same
-
   -- the bytes are counted
   pub count_now : old.so_far.bytes ≡ length bytes
   count_now = ap (λ (s : Summary). s.bytes) put_now.read.so_far
@@ -588,12 +584,6 @@ module _ {G X D A : Type 0} (contents : D → Option (List ℕ)) (failed : D →
     halts = λ x y.
         subst (λ n. HaltsFor reported (conversion w x n (form_of first.form)) b e (contents first.drain.now) (contents after.drain.now) (failed after.drain.now)) i.limit (h x y.starts.suits (i.put x y)).halts;
   }
-
-  -- what stays from the beginning of a run stays from any state that had it
-  pub stays_on : (after : LineOut D A) → SameOut first after → (before : LineOut D A) → SameOut before lines → SameOut before after
-  stays_on after h before s =
-      let o = same_now in
-      record { form = h.form ∙ (sym o.form ∙ s.form); buffer = h.buffer ∙ (sym o.buffer ∙ s.buffer); drain = h.drain ∙ (sym o.drain ∙ s.drain) }
 
   -- what waited was handed over
   pub run_handed : (after : LineOut D A) → SameOut lines after → Appends (contents lines.drain.now) (contents after.drain.now) lines.buffer.now.items → after.buffer.now.items ≡ [] →
