@@ -27,7 +27,7 @@ pub use fault::{LoadFault, StreamFault};
 pub use form::Form;
 pub use job::Job;
 pub use loads::load_bindings;
-pub use messages::report;
+pub use messages::{out_of_memory, read_failed, report, write_failed};
 pub use put::put_all;
 pub use rdf_driver::{Fault, Summary};
 pub use rdf_iri::{BindingFault, BindingReason, Bindings, Limits};

@@ -1,7 +1,7 @@
 // The line that reports a fault.
 
 ghost use Rattle.std.specs.Prelude.{◌≡◌, ◌++◌, codes, decimal, IfOk, IfErr, OnOk, OnErr};
-ghost use Rattle.rdf_stream.specs.Messages.{reason_text, place_text, fault_text, report_text};
+ghost use Rattle.rdf_stream.specs.Messages.{reason_text, place_text, report_text};
 
 use crate::fault::StreamFault;
 use itoa::Buffer;
@@ -24,27 +24,45 @@ pub fn report<A: Allocator + Copy>(
     Ok(())
 }
 
+/// The line that reports a failed source, with its LF. It takes no memory.
+pub fn read_failed() -> &'static str
+    ensures { result.now ≡ report_text StreamFault.Read }
+{
+    "rdfconv: read failed\n"
+}
+
+/// The line that reports a failed drain, with its LF. It takes no memory.
+pub fn write_failed() -> &'static str
+    ensures { result.now ≡ report_text StreamFault.Write }
+{
+    "rdfconv: write failed\n"
+}
+
+/// The line that reports want of memory, with its LF. It takes none.
+pub fn out_of_memory() -> &'static str
+    ensures { result.now ≡ report_text StreamFault.Memory }
+{
+    "rdfconv: out of memory\n"
+}
+
 fn report_line<A: Allocator + Copy>(alloc: A, fault: &StreamFault) -> Result<Vec<u8, A>, AllocError>
     ensures { IfOk result (λ line. line.items ≡ report_text fault.now) }
 {
-    let mut line = Vec::from_slice(alloc, b"rdfconv: ")?;
-    put_fault(fault, &mut line)?;
-    line.extend_from_slice(b"\n")?;
-    Ok(line)
+    match fault {
+        StreamFault::Refused(fault) => refusal_line(alloc, fault),
+        StreamFault::Read => Vec::from_slice(alloc, read_failed().as_bytes()),
+        StreamFault::Write => Vec::from_slice(alloc, write_failed().as_bytes()),
+        StreamFault::Memory => Vec::from_slice(alloc, out_of_memory().as_bytes()),
+    }
 }
 
-fn put_fault<A: Allocator + Copy>(
-    fault: &StreamFault,
-    line: &mut Vec<u8, A>,
-) -> Result<(), AllocError>
-    ensures { OnOk result (line.new.items ≡ line.old.items ++ fault_text fault.now) }
+fn refusal_line<A: Allocator + Copy>(alloc: A, fault: &Fault) -> Result<Vec<u8, A>, AllocError>
+    ensures { IfOk result (λ line. line.items ≡ report_text (StreamFault.Refused fault.now)) }
 {
-    match fault {
-        StreamFault::Refused(fault) => put_refusal(fault, line),
-        StreamFault::Read => line.extend_from_slice(b"read failed"),
-        StreamFault::Write => line.extend_from_slice(b"write failed"),
-        StreamFault::Memory => line.extend_from_slice(b"out of memory"),
-    }
+    let mut line = Vec::from_slice(alloc, b"rdfconv: ")?;
+    put_refusal(fault, &mut line)?;
+    line.extend_from_slice(b"\n")?;
+    Ok(line)
 }
 
 fn put_refusal<A: Allocator + Copy>(fault: &Fault, line: &mut Vec<u8, A>) -> Result<(), AllocError>

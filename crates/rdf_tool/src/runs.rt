@@ -16,7 +16,7 @@ use clap::Error;
 use itoa::Buffer;
 use rdf_stream::{
     Bindings, Drain, Failed, Job, Limits, LoadFault, NodePrefix, Source, StreamFault, Summary,
-    check, convert, load_bindings, put_all, report, show,
+    check, convert, load_bindings, out_of_memory, put_all, read_failed, report, show, write_failed,
 };
 use std::alloc::{AllocError, Global};
 
@@ -120,7 +120,7 @@ fn refuse_prefixes<E: Drain>(alloc: Global, fault: &LoadFault, err: &mut E) -> u
             2
         }
         LoadFault::Read => {
-            tell("rdfconv: read failed\n", err);
+            tell(read_failed(), err);
             3
         }
         LoadFault::Memory => tell_memory(err),
@@ -247,8 +247,8 @@ fn tell_fault<E: Drain>(alloc: Global, fault: &StreamFault, err: &mut E)
         StreamFault::Refused(_) => match tell_refusal(alloc, fault, err) {
             Ok(()) | Err(AllocError) => {}
         },
-        StreamFault::Read => tell("rdfconv: read failed\n", err),
-        StreamFault::Write => tell("rdfconv: write failed\n", err),
+        StreamFault::Read => tell(read_failed(), err),
+        StreamFault::Write => tell(write_failed(), err),
         StreamFault::Memory => {
             tell_memory(err);
         }
@@ -277,7 +277,7 @@ fn tell_memory<E: Drain>(err: &mut E) -> u8
     ensures status { result ≡ 4 }
     ensures reported { Reports (report_text StreamFault.Memory) (E.contents err.old) (E.contents err.new) (E.has_failed err.new) }
 {
-    tell("rdfconv: out of memory\n", err);
+    tell(out_of_memory(), err);
     4
 }
 
