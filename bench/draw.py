@@ -46,14 +46,16 @@ def speed(figures, path):
 
 def growth(figures, path):
     """Time beside size, and memory beside size, a line for each kind of document."""
-    figure, (time, memory) = pyplot.subplots(1, 2, figsize=(11, 5), sharex=True)
+    figure, (time, memory) = pyplot.subplots(1, 2, figsize=(12, 5), sharex=True)
     for kind, sizes in figures.items():
         bytes_read = [one['bytes'] / 1e6 for one in sizes]
         time.plot(bytes_read, [one['columns']['convert']['seconds'] for one in sizes], marker='o', label=kind)
         memory.plot(bytes_read, [one['columns']['convert']['kilobytes'] / 1024 for one in sizes], marker='o', label=kind)
     for axes, label in ((time, 'seconds'), (memory, 'MiB held at most')):
         axes.set(xscale='log', yscale='log', xlabel='MB of the document', ylabel=label + ' of convert')
-    time.legend(fontsize='small')
+        axes.set_xticks(bytes_read, ['%.0f' % it for it in bytes_read])
+        axes.minorticks_off()
+    memory.legend(fontsize='small', loc='upper left', bbox_to_anchor=(1.02, 1))
     save(figure, path)
 
 
@@ -98,7 +100,7 @@ def main():
     if 'held' in figures:
         held(figures['held'], os.path.join(sys.argv[2], 'held.svg'))
         return
-    if all('columns' not in one for one in figures.values()):
+    if all(isinstance(one, dict) for one in figures.values()):
         readers(figures, os.path.join(sys.argv[2], 'readers.svg'))
         return
     speed(figures, os.path.join(sys.argv[2], 'speed.svg'))
