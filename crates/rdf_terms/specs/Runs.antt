@@ -3,7 +3,7 @@ use Rattle.std.specs.Prelude.{◌≡◌, ℕ, ◌+◌, ◌<◌, ◌≤◌, Bool,
 use Rattle.rdf_terms.specs.Classes.{member, is_digit, is_letter, one_of}
 use Rattle.rdf_terms.specs.Classes.Class.{iri_char}
 use Rattle.rdf_terms.specs.declared.runs.Run.{Run}
-use Rattle.rdf_terms.specs.declared.runs.Run.TheVariants.{Iri, Text, AsciiText, Ascii, Name, Unescaped}
+use Rattle.rdf_terms.specs.declared.runs.Run.TheVariants.{Iri, Text, AsciiText, Ascii, Name, Unescaped, Comment, Spaces, White}
 
 -- a byte of the UTF-8 of the characters of an IRIREF: what it excludes is ASCII
 abbrev pub iri_byte : ℕ → Bool
@@ -29,6 +29,22 @@ is_name_byte b = is_letter b || is_digit b || b == 95 || b == 45
 abbrev pub is_unescaped : ℕ → Bool
 is_unescaped b = not (b == 92)
 
+-- CR or LF
+abbrev pub is_line_break : ℕ → Bool
+is_line_break b = b == 10 || b == 13
+
+-- what a comment goes on with
+abbrev pub is_comment_byte : ℕ → Bool
+is_comment_byte b = not (is_line_break b)
+
+-- a space or a tab
+abbrev pub is_space : ℕ → Bool
+is_space b = b == 32 || b == 9
+
+-- a space, a tab, CR or LF
+abbrev pub is_white : ℕ → Bool
+is_white b = b == 32 || b == 9 || is_line_break b
+
 -- the bytes that a run goes over
 abbrev pub goes_over : Run → ℕ → Bool
 goes_over Iri b = iri_byte b
@@ -37,6 +53,9 @@ goes_over AsciiText b = is_ascii_text_byte b
 goes_over Ascii b = is_ascii_byte b
 goes_over Name b = is_name_byte b
 goes_over Unescaped b = is_unescaped b
+goes_over Comment b = is_comment_byte b
+goes_over Spaces b = is_space b
+goes_over White b = is_white b
 
 -- the bytes between two places pass
 abbrev pub PassBetween : (ℕ → Bool) → List ℕ → ℕ → ℕ → Type 0

@@ -2,7 +2,7 @@
 
 ghost use Rattle.std.specs.Prelude.{◌≡◌, ◌+◌, ◌≤◌, length, map, not};
 ghost use Rattle.std.specs.Simd.Lanes.{mask_l};
-ghost use Rattle.rdf_terms.specs.Runs.{iri_byte, goes_over, is_ascii_byte, is_ascii_text_byte, is_name_byte, is_text_byte, is_unescaped, IsRun, IsRunIn};
+ghost use Rattle.rdf_terms.specs.Runs.{iri_byte, goes_over, is_ascii_byte, is_ascii_text_byte, is_name_byte, is_text_byte, is_unescaped, is_line_break, is_comment_byte, is_space, is_white, IsRun, IsRunIn};
 ghost use Rattle.rdf_terms.specs.Terms.{all_have};
 
 use crate::classes::is_iri_byte;
@@ -26,6 +26,12 @@ pub enum Run {
     Name,
     /// What stands between the escapes of a string: all but the backslash.
     Unescaped,
+    /// What a comment has: all but CR and LF.
+    Comment,
+    /// White space of the line formats: spaces and tabs.
+    Spaces,
+    /// White space of Turtle: spaces, tabs, CRs and LFs.
+    White,
 }
 
 /// The place of the first byte from a place on that the run does not go over, or the length.
@@ -69,6 +75,9 @@ fn is_passed(run: Run, byte: u8) -> bool
         Run::Ascii => byte < 128,
         Run::Name => matches!(byte, b'A'..=b'Z' | b'a'..=b'z' | b'0'..=b'9' | b'_' | b'-'),
         Run::Unescaped => byte != b'\\',
+        Run::Comment => !is_line_break(byte),
+        Run::Spaces => is_space(byte),
+        Run::White => byte == b' ' || byte == b'\t' || is_line_break(byte),
     }
 }
 
@@ -77,6 +86,20 @@ fn is_text_byte(byte: u8) -> bool
     ensures { result ≡ is_text_byte byte }
 {
     !matches!(byte, b'"' | b'\'' | b'\\' | b'\n' | b'\r')
+}
+
+#[inline(always)]
+fn is_line_break(byte: u8) -> bool
+    ensures { result ≡ is_line_break byte }
+{
+    byte == b'\n' || byte == b'\r'
+}
+
+#[inline(always)]
+fn is_space(byte: u8) -> bool
+    ensures { result ≡ is_space byte }
+{
+    byte == b' ' || byte == b'\t'
 }
 
 /// How many of the sixteen bytes come before the first that the run does not go over.
@@ -105,6 +128,9 @@ fn stops(run: Run, v: u8x16) -> u64
         Run::Ascii => ascii_stops(v),
         Run::Name => name_stops(v),
         Run::Unescaped => backslashes(v),
+        Run::Comment => line_breaks(v),
+        Run::Spaces => space_stops(v),
+        Run::White => white_stops(v),
     }
 }
 
@@ -163,6 +189,29 @@ fn backslashes(v: u8x16) -> u64
     ensures { result ≡ mask_l (map (λ b. not (is_unescaped b)) v) }
 {
     v.simd_eq(u8x16::splat(b'\\')).to_bitmask()
+}
+
+#[inline(always)]
+fn line_breaks(v: u8x16) -> u64
+    ensures { result ≡ mask_l (map (λ b. not (is_comment_byte b)) v) }
+{
+    (v.simd_eq(u8x16::splat(b'\n')) | v.simd_eq(u8x16::splat(b'\r'))).to_bitmask()
+}
+
+#[inline(always)]
+fn space_stops(v: u8x16) -> u64
+    ensures { result ≡ mask_l (map (λ b. not (is_space b)) v) }
+{
+    (v.simd_ne(u8x16::splat(b' ')) & v.simd_ne(u8x16::splat(b'\t'))).to_bitmask()
+}
+
+#[inline(always)]
+fn white_stops(v: u8x16) -> u64
+    ensures { result ≡ mask_l (map (λ b. not (is_white b)) v) }
+{
+    let no_space = v.simd_ne(u8x16::splat(b' ')) & v.simd_ne(u8x16::splat(b'\t'));
+    let no_break = v.simd_ne(u8x16::splat(b'\n')) & v.simd_ne(u8x16::splat(b'\r'));
+    (no_space & no_break).to_bitmask()
 }
 
 /// Whether the run goes over all of the bytes. The last load overlaps the one before it.

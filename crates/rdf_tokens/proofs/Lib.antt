@@ -24,6 +24,7 @@ pub mod SpellingLemmas
 pub mod StateLemmas
 pub mod WalkLemmas
 pub mod BlankLemmas
+pub mod BlankRuns
 pub mod StepLemmas
 pub mod OverLemmas
 pub mod LookLemmas

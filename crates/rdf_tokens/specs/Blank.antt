@@ -1,6 +1,7 @@
 -- White space and comments: whether a comment is open after them.
-use Rattle.std.specs.Prelude.{ℕ, Bool, true, false, cond, List, [], ◌∷◌, ◌==◌, Option, Some, None}
+use Rattle.std.specs.Prelude.{ℕ, Bool, true, false, cond, List, [], ◌∷◌, ◌==◌, ◌&&◌, nat_lt, length, get_or, Option, Some, None}
 use Rattle.rdf_terms.specs.declared.kind.Dialect.{Dialect}
+use Rattle.rdf_terms.specs.Runs.{is_comment_byte}
 use Rattle.rdf_tokens.specs.Tokens.{is_line_end, is_space}
 
 -- where a character of white space or of a comment leads: whether a comment is open after it
@@ -13,3 +14,15 @@ abbrev pub comment_after : Dialect → Bool → List ℕ → Bool
 comment_after d b [] = b
 comment_after d false (c ∷ w) = cond (is_space d c) (comment_after d false w) (cond (c == 35) (comment_after d true w) false)
 comment_after d true (c ∷ w) = cond (is_line_end c) (cond (is_space d c) (comment_after d false w) false) (comment_after d true w)
+
+-- a byte that an open comment goes on with; none, where no comment is open
+abbrev pub goes_on : Bool → ℕ → Bool
+goes_on b c = b && is_comment_byte c
+
+-- a comment is open up to the end of the bytes
+abbrev pub is_cut : Bool → List ℕ → ℕ → Bool
+is_cut b bs end = b && end == length bs
+
+-- '#' stands at a place
+abbrev pub is_hash : List ℕ → ℕ → Bool
+is_hash bs at = nat_lt at (length bs) && get_or bs at 0 == 35

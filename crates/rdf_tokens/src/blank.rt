@@ -1,12 +1,14 @@
 // White space and comments.
 
-ghost use Rattle.std.specs.Prelude.{◌≡◌, true, false};
+ghost use Rattle.std.specs.Prelude.{◌≡◌, ◌≤◌, true, false, length};
 ghost use Rattle.std.specs.Str.{chars};
 ghost use Rattle.rdf_tokens.specs.Tokens.{blank, is_line_end as ends_line, is_space as spaces};
-ghost use Rattle.rdf_tokens.specs.Blank.{comment_step, comment_after};
+ghost use Rattle.rdf_tokens.specs.Blank.{comment_step, comment_after, goes_on, is_cut, is_hash};
+ghost use Rattle.rdf_terms.specs.Runs.{IsRun};
 ghost use Rattle.rdf_tokens.specs.Front.{bytes_of};
 
 use rdf_terms::Dialect;
+use rdf_terms::runs::{Run, run_end};
 
 /// The white space and the comments at the front of a text.
 #[derive(Clone, Copy)]
@@ -36,22 +38,74 @@ fn blank_bytes(dialect: Dialect, in_comment: bool, bytes: &[u8]) -> Blank
             in_comment: false,
         };
     }
+    blank_parts(dialect, in_comment, bytes)
+}
+
+/// The same, a comment and the white space after it at a time.
+fn blank_parts(dialect: Dialect, in_comment: bool, bytes: &[u8]) -> Blank
+    ensures len { result.len ≡ blank dialect in_comment bytes.now }
+    ensures comment { result.in_comment ≡ comment_after dialect in_comment bytes.now }
+{
+    let mut at = 0;
     let mut comment = in_comment;
-    for (i, byte) in bytes.iter().enumerate() {
-        match behind(dialect, comment, *byte) {
-            Some(next) => comment = next,
-            None => {
-                return Blank {
-                    len: i,
-                    in_comment: false,
-                };
-            }
+    'parts: loop {
+        let end = comment_end(comment, bytes, at);
+        if is_cut(comment, bytes, end) {
+            return Blank {
+                len: end,
+                in_comment: true,
+            };
         }
+        at = white_end(dialect, bytes, end);
+        if !is_hash(bytes, at) {
+            return Blank {
+                len: at,
+                in_comment: false,
+            };
+        }
+        comment = true;
     }
-    Blank {
-        len: bytes.len(),
-        in_comment: comment,
+}
+
+/// Where the comment ends that is open at a place; the place, where none is.
+#[inline(always)]
+fn comment_end(in_comment: bool, bytes: &[u8], from: usize) -> usize
+    requires { from ≤ length bytes.now }
+    ensures { IsRun (goes_on in_comment) bytes.now from result }
+{
+    if in_comment {
+        run_end(Run::Comment, bytes, from)
+    } else {
+        from
     }
+}
+
+/// Whether a comment goes on after the text.
+#[inline(always)]
+fn is_cut(in_comment: bool, bytes: &[u8], end: usize) -> bool
+    ensures { result ≡ is_cut in_comment bytes.now end }
+{
+    in_comment && end == bytes.len()
+}
+
+/// Where the white space from a place on ends.
+#[inline(always)]
+fn white_end(dialect: Dialect, bytes: &[u8], from: usize) -> usize
+    requires { from ≤ length bytes.now }
+    ensures { IsRun (spaces dialect) bytes.now from result }
+{
+    match dialect {
+        Dialect::Lines => run_end(Run::Spaces, bytes, from),
+        Dialect::Turtle => run_end(Run::White, bytes, from),
+    }
+}
+
+/// Whether a comment begins at a place.
+#[inline(always)]
+fn is_hash(bytes: &[u8], at: usize) -> bool
+    ensures { result ≡ is_hash bytes.now at }
+{
+    at < bytes.len() && bytes[at] == b'#'
 }
 
 /// Whether one space stands before a byte that is neither white space nor the beginning of a comment.

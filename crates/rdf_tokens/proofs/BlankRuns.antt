@@ -1,0 +1,164 @@
+-- White space and comments, a run at a time.
+use Rattle.std.proofs.Common.{◌≡◌, ℕ, zero, suc, ◌+◌, ◌-◌, ◌<◌, ◌≤◌, Bool, true, false, cond, nat_lt, List, [], ◌∷◌, ◌&&◌, ◌||◌, ◌==◌, not, refl, sym, ap, ◌∙◌, subst, length, get_or, drop, arith, lt-ltb, ⊎_elim}
+use Rattle.std.proofs.lemmas.Bool.{and_parts, cases_lt, eqb-true, false≢true, ltb-true}
+use Rattle.std.proofs.lemmas.Bool.Decides.{nat_tests}
+use Rattle.std.proofs.lemmas.List.{drop_more, drop_all}
+use Rattle.rdf_terms.specs.declared.kind.Dialect.{Dialect}
+use Rattle.rdf_terms.specs.declared.kind.Dialect.TheVariants.{Lines, Turtle}
+use Rattle.rdf_terms.specs.Runs.{IsRun, PassBetween, is_comment_byte}
+use Rattle.rdf_tokens.specs.Tokens.{is_line_end, is_space, blank}
+use Rattle.rdf_tokens.specs.Blank.{comment_after, goes_on, is_cut, is_hash}
+
+-- A text begins with so many characters of white space and comments. What comes after them is taken on as if a comment were open there, or none.
+pub record Goes (d : Dialect) (b : Bool) (w : List ℕ) (n : ℕ) (b' : Bool) (v : List ℕ) : Type 0 where
+  pub len : blank d b w ≡ n + blank d b' v
+  pub comment : comment_after d b w ≡ comment_after d b' v
+
+-- one front and then another are a front
+and_then : (d : Dialect) (b b' b'' : Bool) (w v u : List ℕ) (m n : ℕ) → Goes d b w m b' v → Goes d b' v n b'' u → Goes d b w (m + n) b'' u
+and_then d b b' b'' w v u m n p q = let i = p.len in let j = q.len in record { len = omega (arith, i, j); comment = p.comment ∙ q.comment }
+
+-- what is false is not true
+is_false : (t : Bool) → not t ≡ true → t ≡ false
+is_false true e = absurd (false≢true e)
+is_false false e = refl
+
+-- an open comment goes on with what ends no line
+comment_on : (d : Dialect) (c : ℕ) (w : List ℕ) → goes_on true c ≡ true → Goes d true (c ∷ w) 1 true w
+comment_on d c w e =
+    let f : is_line_end c ≡ false = is_false (is_line_end c) e in
+    let len : blank d true (c ∷ w) ≡ suc (blank d true w) = ap (λ t. cond t (cond (is_space d c) (suc (blank d false w)) 0) (suc (blank d true w))) f in record {
+      len = omega (arith, len);
+      comment = ap (λ t. cond t (cond (is_space d c) (comment_after d false w) false) (comment_after d true w)) f;
+    }
+
+-- white space goes on
+white_on : (d : Dialect) (c : ℕ) (w : List ℕ) → is_space d c ≡ true → Goes d false (c ∷ w) 1 false w
+white_on d c w e =
+    let len : blank d false (c ∷ w) ≡ suc (blank d false w) = ap (λ t. cond t (suc (blank d false w)) (cond (c == 35) (suc (blank d true w)) 0)) e in record {
+      len = omega (arith, len);
+      comment = ap (λ t. cond t (comment_after d false w) (cond (c == 35) (comment_after d true w) false)) e;
+    }
+
+-- Bytes that each go on, and leave a comment open or closed as it was, are taken off together.
+bytes_on : (d : Dialect) (b : Bool) (p : ℕ → Bool) → ((c : ℕ) (w : List ℕ) → p c ≡ true → Goes d b (c ∷ w) 1 b w) →
+    (bs : List ℕ) (n at : ℕ) → at + n ≤ length bs → PassBetween p bs at (at + n) → Goes d b (drop at bs) n b (drop (at + n) bs)
+bytes_on d b p one bs zero at l pass =
+    let e : at ≡ at + 0 = omega arith in
+    let len : blank d b (drop at bs) ≡ blank d b (drop (at + 0) bs) = ap (λ k. blank d b (drop k bs)) e in
+    record { len = omega (arith, len); comment = ap (λ k. comment_after d b (drop k bs)) e }
+bytes_on d b p one bs (suc n) at l pass =
+    let c = get_or bs at 0 in
+    let first = subst (λ w. Goes d b w 1 b (drop (at + 1) bs)) (sym (drop_more bs at 0 (omega arith))) (one c (drop (at + 1) bs) (pass at (omega arith) (omega arith))) in
+    let rest = bytes_on d b p one bs n (at + 1) (omega arith) (λ k x y. pass k (omega arith) (omega arith)) in
+    let e : at + 1 + n ≡ at + suc n = omega arith in
+    let m : 1 + n ≡ suc n = omega arith in
+    subst (λ m. Goes d b (drop at bs) m b (drop (at + suc n) bs)) m
+    (subst (λ k. Goes d b (drop at bs) (1 + n) b (drop k bs)) e (and_then d b b b (drop at bs) (drop (at + 1) bs) (drop (at + 1 + n) bs) 1 n first rest))
+
+-- the same of a run
+run_on : (d : Dialect) (b : Bool) (p : ℕ → Bool) → ((c : ℕ) (w : List ℕ) → p c ≡ true → Goes d b (c ∷ w) 1 b w) →
+    (bs : List ℕ) (at end : ℕ) → IsRun p bs at end → Goes d b (drop at bs) (end - at) b (drop end bs)
+run_on d b p one bs at end r =
+    let from = r.from in
+    let within = r.within in
+    let e : at + (end - at) ≡ end = omega arith in
+    subst (λ k. Goes d b (drop at bs) (end - at) b (drop k bs)) e (bytes_on d b p one bs (end - at) at (omega arith) (λ k x y. r.pass k x (omega arith)))
+
+-- a line end closes a comment
+line_end_closes : (d : Dialect) (c : ℕ) (w : List ℕ) → is_line_end c ≡ true → (c == 35) ≡ false → Goes d true (c ∷ w) 0 false (c ∷ w)
+line_end_closes d c w e h =
+    let len : blank d true (c ∷ w) ≡ blank d false (c ∷ w) = ap (λ t. cond t (cond (is_space d c) (suc (blank d false w)) 0) (suc (blank d true w))) e
+    ∙ sym (ap (λ t. cond (is_space d c) (suc (blank d false w)) (cond t (suc (blank d true w)) 0)) h) in record {
+      len = omega (arith, len);
+      comment = ap (λ t. cond t (cond (is_space d c) (comment_after d false w) false) (comment_after d true w)) e
+          ∙ sym (ap (λ t. cond (is_space d c) (comment_after d false w) (cond t (comment_after d true w) false)) h);
+    }
+
+-- a line end is no '#'
+no_hash : (c : ℕ) → is_line_end c ≡ true → (c == 35) ≡ false
+no_hash c e = grind (arith, nat_tests)
+
+-- what is not open does not go on
+none_on : (d : Dialect) (c : ℕ) (w : List ℕ) → goes_on false c ≡ true → Goes d false (c ∷ w) 1 false w
+none_on d c w e = absurd (false≢true e)
+
+-- Past a comment that ends within the text no comment is open.
+past_comment : (d : Dialect) (b : Bool) (bs : List ℕ) (at end : ℕ) → IsRun (goes_on b) bs at end → is_cut b bs end ≡ false → Goes d b (drop at bs) (end - at) false (drop end bs)
+past_comment d false bs at end r e = run_on d false (goes_on false) (none_on d) bs at end r
+past_comment d true bs at end r e =
+    let within = r.within in
+    let inside : end < length bs = grind (arith, nat_tests) in
+    let c = get_or bs end 0 in
+    let ends : is_line_end c ≡ true = is_true (is_line_end c) (r.stops inside) in
+    let closed = subst (λ w. Goes d true w 0 false w) (sym (drop_more bs end 0 inside)) (line_end_closes d c (drop (end + 1) bs) ends (no_hash c ends)) in
+    let all = and_then d true true false (drop at bs) (drop end bs) (drop end bs) (end - at) 0 (run_on d true (goes_on true) (comment_on d) bs at end r) closed in
+    let z : end - at + 0 ≡ end - at = omega arith in
+    subst (λ n. Goes d true (drop at bs) n false (drop end bs)) z all
+  where
+    is_true : (t : Bool) → not t ≡ false → t ≡ true
+    is_true true e = refl
+    is_true false e = absurd (false≢true (sym e))
+
+-- a comment that is open, and the white space after it
+pub part_on : (d : Dialect) (b : Bool) (bs : List ℕ) (at end white : ℕ) → IsRun (goes_on b) bs at end → is_cut b bs end ≡ false → IsRun (is_space d) bs end white →
+    Goes d b (drop at bs) (white - at) false (drop white bs)
+part_on d b bs at end white r e s =
+    let from = r.from in
+    let more = s.from in
+    let n : (end - at) + (white - end) ≡ white - at = omega arith in
+    subst (λ n. Goes d b (drop at bs) n false (drop white bs)) n (and_then d b false false (drop at bs) (drop end bs) (drop white bs) (end - at) (white - end)
+    (past_comment d b bs at end r e) (run_on d false (is_space d) (white_on d) bs end white s))
+
+-- a comment that goes on up to the end of the text
+pub cut_on : (d : Dialect) (b : Bool) (bs : List ℕ) (at end : ℕ) → IsRun (goes_on b) bs at end → is_cut b bs end ≡ true →
+    (blank d b (drop at bs) ≡ end - at) × (comment_after d b (drop at bs) ≡ true)
+cut_on d false bs at end r e = absurd (false≢true e)
+cut_on d true bs at end r e =
+    let g = run_on d true (goes_on true) (comment_on d) bs at end r in
+    let z : drop end bs ≡ [] = drop_all end bs (omega (arith, eqb-true end (length bs) e)) in
+    let len = g.len in
+    let none : blank d true (drop end bs) ≡ 0 = ap (blank d true) z in
+    (omega arith, g.comment ∙ ap (comment_after d true) z)
+
+-- white space ends where neither more of it nor a comment comes
+pub ends_there : (d : Dialect) (bs : List ℕ) (at white : ℕ) → IsRun (is_space d) bs at white → is_hash bs white ≡ false →
+    (blank d false (drop white bs) ≡ 0) × (comment_after d false (drop white bs) ≡ false)
+ends_there d bs at white r e = ⊎_elim
+    (λ l.
+    let c = get_or bs white 0 in
+    let h : (c == 35) ≡ false = sym (ap (λ t. t && c == 35) (lt-ltb white (length bs) l)) ∙ e in
+    let more = drop_more bs white 0 l in
+    let w = drop (white + 1) bs in
+    let none = r.stops l in (
+      ap (blank d false) more ∙ (ap (λ t. cond t (suc (blank d false w)) (cond (c == 35) (suc (blank d true w)) 0)) none ∙ ap (λ t. cond t (suc (blank d true w)) 0) h),
+      ap (comment_after d false) more ∙ (ap (λ t. cond t (comment_after d false w) (cond (c == 35) (comment_after d true w) false)) none ∙ ap (λ t. cond t (comment_after d true w) false) h),
+    ))
+    (λ m. let z : drop white bs ≡ [] = drop_all white bs m in (ap (blank d false) z, ap (comment_after d false) z))
+    (cases_lt white (length bs))
+
+-- a '#' opens a comment, which goes on with it
+pub hash_opens : (d : Dialect) (bs : List ℕ) (at : ℕ) → is_hash bs at ≡ true → Goes d false (drop at bs) 0 true (drop at bs)
+hash_opens d bs at e =
+    let p = and_parts _ _ e in
+    let more = drop_more bs at 0 (ltb-true at (length bs) p.0) in
+    let w = drop (at + 1) bs in
+    subst (λ v. Goes d false v 0 true v) (sym (more ∙ ap (λ c. c ∷ w) (eqb-true (get_or bs at 0) 35 p.1))) (opens d w)
+  where
+    opens : (d : Dialect) (w : List ℕ) → Goes d false (35 ∷ w) 0 true (35 ∷ w)
+    opens Lines w = let len : blank Lines false (35 ∷ w) ≡ blank Lines true (35 ∷ w) = refl in record { len = omega (arith, len); comment = refl }
+    opens Turtle w = let len : blank Turtle false (35 ∷ w) ≡ blank Turtle true (35 ∷ w) = refl in record { len = omega (arith, len); comment = refl }
+
+-- from one '#' to the next some bytes are taken off
+pub hash_moves : (d : Dialect) (bs : List ℕ) (at end white : ℕ) → IsRun (goes_on true) bs at end → IsRun (is_space d) bs end white → is_hash bs white ≡ true → at < white
+hash_moves d bs at end white r s e = ⊎_elim
+    (λ l. l)
+    (λ m.
+    let p = and_parts (nat_lt white (length bs)) (get_or bs white 0 == 35) e in
+    let from = r.from in
+    let more = s.from in
+    let same : white ≡ end = omega arith in
+    let c : get_or bs end 0 ≡ 35 = ap (λ k. get_or bs k 0) (sym same) ∙ eqb-true (get_or bs white 0) 35 p.1 in
+    let inside : end < length bs = omega (arith, ltb-true white (length bs) p.0) in
+    absurd (false≢true (sym (r.stops inside) ∙ ap (goes_on true) c)))
+    (cases_lt at white)
