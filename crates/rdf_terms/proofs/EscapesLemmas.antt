@@ -264,7 +264,7 @@ map-append u v None = refl
 map-append u v (Some w) = ap Some (sym (append_assoc u v w))
 
 -- so a text of such characters does, in front of another
-value_stands : (i : Inside) (u w : List ℕ) → all_have (stands i) u ≡ true → value i outside (u ++ w) ≡ option_map (λ v. u ++ v) (value i outside w)
+pub value_stands : (i : Inside) (u w : List ℕ) → all_have (stands i) u ≡ true → value i outside (u ++ w) ≡ option_map (λ v. u ++ v) (value i outside w)
 value_stands i [] w h = sym (map-nil (value i outside w))
 value_stands i (c ∷ u) w h =
     let p = and_parts (stands i c) (all_have (stands i) u) h in
@@ -272,7 +272,7 @@ value_stands i (c ∷ u) w h =
     ∙ (ap (option_map (λ v. c ∷ v)) (value_stands i u w p.1) ∙ map-append (c ∷ []) u (value i outside w))
 
 -- the bytes of a run, as a text
-slice_passes : (p : ℕ → Bool) (bs : List ℕ) (at n : ℕ) → at + n ≤ length bs → PassBetween p bs at (at + n) → all_have p (take n (drop at bs)) ≡ true
+pub slice_passes : (p : ℕ → Bool) (bs : List ℕ) (at n : ℕ) → at + n ≤ length bs → PassBetween p bs at (at + n) → all_have p (take n (drop at bs)) ≡ true
 slice_passes p bs at zero l h = refl
 slice_passes p bs at (suc n) l h =
     ap (λ x. all_have p (take (suc n) x)) (drop_more bs at 0 (omega arith))
@@ -299,7 +299,7 @@ unescaped_chars (c ∷ w) h =
     and_from (is_unescaped c) _ (unescaped_one c p.0) (unescaped_chars w p.1)
 
 -- so the characters of a run between escapes stand as they are
-run_stands : (i : Inside) (bs : List ℕ) → IsUtf8 bs → all_have (goes_over (run_of i)) bs ≡ true → all_have (stands i) (chars bs) ≡ true
+pub run_stands : (i : Inside) (bs : List ℕ) → IsUtf8 bs → all_have (goes_over (run_of i)) bs ≡ true → all_have (stands i) (chars bs) ≡ true
 run_stands of_string bs u h = unescaped_chars (chars bs) (ap (all_have is_unescaped) (encodes-chars bs u) ∙ h)
 run_stands of_iri bs u h = sym (iri_bytes bs u) ∙ h
 

@@ -17,3 +17,4 @@ pub mod PiecesLemmas
 pub mod SinksLemmas
 pub mod IriBytes
 pub mod RunsLemmas
+pub mod PlainTokens

@@ -1,11 +1,11 @@
 -- White space and comments, a run at a time.
-use Rattle.std.proofs.Common.{◌≡◌, ℕ, zero, suc, ◌+◌, ◌-◌, ◌<◌, ◌≤◌, Bool, true, false, cond, nat_lt, List, [], ◌∷◌, ◌&&◌, ◌||◌, ◌==◌, not, refl, sym, ap, ◌∙◌, subst, length, get_or, drop, arith, lt-ltb, ⊎_elim}
+use Rattle.std.proofs.Common.{◌≡◌, ℕ, zero, suc, ◌+◌, ◌-◌, ◌<◌, ◌≤◌, Bool, true, false, cond, nat_lt, List, [], ◌∷◌, ◌&&◌, ◌==◌, not, refl, sym, ap, ◌∙◌, subst, length, get_or, drop, arith, lt-ltb, ⊎_elim}
 use Rattle.std.proofs.lemmas.Bool.{and_parts, cases_lt, eqb-true, false≢true, ltb-true}
 use Rattle.std.proofs.lemmas.Bool.Decides.{nat_tests}
 use Rattle.std.proofs.lemmas.List.{drop_more, drop_all}
 use Rattle.rdf_terms.specs.declared.kind.Dialect.{Dialect}
 use Rattle.rdf_terms.specs.declared.kind.Dialect.TheVariants.{Lines, Turtle}
-use Rattle.rdf_terms.specs.Runs.{IsRun, PassBetween, is_comment_byte}
+use Rattle.rdf_terms.specs.Runs.{IsRun, PassBetween}
 use Rattle.rdf_tokens.specs.Tokens.{is_line_end, is_space, blank}
 use Rattle.rdf_tokens.specs.Blank.{comment_after, goes_on, is_cut, is_hash}
 

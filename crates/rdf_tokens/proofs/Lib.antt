@@ -11,6 +11,7 @@ pub mod TextLemmas
 pub mod TagLemmas
 pub mod NumberLemmas
 mod NumberQuick
+mod PlainQuick
 pub mod NameLemmas
 pub mod NameSorts
 pub mod IriSorts

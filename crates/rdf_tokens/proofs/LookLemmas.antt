@@ -107,9 +107,9 @@ token-look d limit t bs n k u o q =
     let w = chars bs in
     let e = not-empty d w n k q.best in
     let told : IsLook (Given n k) (decided d w) w =
-    subst (λ l. IsLook l (decided d w) w) (go bs (empty-bytes bs u ∙ e)) (decided-look d bs (Some (n, k)) u (sym q.best)) in
+    subst (λ l. IsLook l (decided d w) w) (go bs (empty-bytes bs u ∙ e) q.fit) (decided-look d bs (Some (n, k)) u (sym q.best)) in
     subst (λ s. IsLook (Given n k) s w) (sym (step-done d limit t w false o (sym (ap (λ x. x || is_live d w) e ∙ q.closed)) (inr refl))) told
   where
-    go : (v : List ℕ) → is_empty v ≡ false → decided_by v (Some (n, k)) ≡ Given n k
-    go [] e = absurd (true≢false e)
-    go (x ∷ v) e = ap (λ t. cond t (Given n k) (Stop BadEscape)) (q.fit (chars (take n (x ∷ v))))
+    go : (v : List ℕ) → is_empty v ≡ false → is_fit k (chars (take n v)) ≡ true → decided_by v (Some (n, k)) ≡ Given n k
+    go [] e f = absurd (true≢false e)
+    go (x ∷ v) e f = ap (λ t. cond t (Given n k) (Stop BadEscape)) f

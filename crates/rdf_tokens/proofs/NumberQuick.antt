@@ -6,7 +6,6 @@ use Rattle.std.proofs.lemmas.Str.{encode_ascii, length-encode}
 use Rattle.std.specs.Str.{chars}
 use Rattle.rdf_terms.specs.declared.kind.Kind.{Kind}
 use Rattle.rdf_terms.specs.declared.kind.Kind.TheVariants.{Integer, Decimal}
-use Rattle.rdf_terms.specs.declared.kind.Dialect.{Dialect}
 use Rattle.rdf_terms.specs.declared.kind.Dialect.TheVariants.{Turtle}
 use Rattle.rdf_terms.specs.Classes.{is_digit}
 use Rattle.rdf_terms.specs.Shapes.{fixed}
@@ -17,8 +16,8 @@ use Rattle.rdf_tokens.specs.declared.states.machine.State.TheVariants.{Start, Nu
 use Rattle.rdf_tokens.specs.declared.states.number.Number.TheVariants as number
 use Rattle.rdf_tokens.specs.Tokens.{with_length, three_quotes, only_long}
 use Rattle.rdf_tokens.specs.Fixed.{Row, fits, left, is_begun, live_by, rows_of}
-use Rattle.rdf_tokens.specs.Front.{Reached, longer_front, begins, row_front, front_by}
-use Rattle.rdf_tokens.specs.Machine.{step, kind_at, goes_on}
+use Rattle.rdf_tokens.specs.Front.{Reached, longer_front, begins, front_by}
+use Rattle.rdf_tokens.specs.Machine.{step, kind_at}
 use Rattle.rdf_tokens.specs.Quick.{IsToken, is_point, is_integer_end, is_decimal_end, ends_integer, ends_number}
 use Rattle.rdf_tokens.proofs.ByteLemmas.{at-start, ascii_first}
 use Rattle.rdf_tokens.proofs.BareLemmas.{implied, one_on}
@@ -26,12 +25,12 @@ use Rattle.rdf_tokens.proofs.QuickLemmas.{settled, not_true, other, at_ended, en
 use Rattle.rdf_tokens.proofs.StateLemmas.{reached-first, reached-step}
 
 -- no spelling begins with a character
-abbrev no_begin : ℕ → Bool → List ℕ → Bool
+abbrev pub no_begin : ℕ → Bool → List ℕ → Bool
 no_begin c b [] = false
 no_begin c b (x ∷ s) = not (fits b x c)
 
 -- none of several does
-abbrev no_first : ℕ → List Row → Bool
+abbrev pub no_first : ℕ → List Row → Bool
 no_first c [] = true
 no_first c (r ∷ rs) = no_begin c r.any_case r.text && no_first c rs
 
@@ -43,7 +42,7 @@ first_row b (x ∷ s) c t n =
     (ap (λ z. z && begins b s t) f, ap (λ z. is_begun (cond z (left b s t) None)) f)
 
 -- the same of several spellings
-first_rows : (rs : List Row) (c : ℕ) (t : List ℕ) → no_first c rs ≡ true → (front_by rs (c ∷ t) ≡ None) × (live_by rs (c ∷ t) ≡ false)
+pub first_rows : (rs : List Row) (c : ℕ) (t : List ℕ) → no_first c rs ≡ true → (front_by rs (c ∷ t) ≡ None) × (live_by rs (c ∷ t) ≡ false)
 first_rows [] c t n = (refl, refl)
 first_rows (r ∷ rs) c t n =
     let a = and_parts (no_begin c r.any_case r.text) (no_first c rs) n in
@@ -181,7 +180,7 @@ module _ (bs : List ℕ) (end : ℕ) (u : IsUtf8 bs) (l : 0 < length bs) (e : is
       let s' = step Turtle s (get_or bs to 0) in
       let d = ended-state s' x in
       let z = unspelled bs l e in
-      settled Turtle bs (to + 1) s' (Some (to, k)) None to k u (byte_on to s s' None (Some (to, k)) i a h refl (sym d.0)) d.1 (sym z.0) z.1 refl t
+      settled Turtle bs (to + 1) s' (Some (to, k)) None to k u (byte_on to s s' None (Some (to, k)) i a h refl (sym d.0)) d.1 (sym z.0) z.1 refl (t _)
 
   -- an integer
   pub quick_integer : is_integer_end bs end ≡ true → IsToken Turtle bs end Integer

@@ -1,5 +1,5 @@
 -- Tokens that the first bytes of a text settle: the states end after them, and no spelling is longer or begins so.
-use Rattle.std.proofs.Common.{◌≡◌, ℕ, zero, suc, ◌+◌, ◌<◌, ◌≤◌, Bool, true, false, cond, nat_lt, List, [], ◌∷◌, ◌&&◌, ◌||◌, ◌==◌, not, refl, sym, ap, ◌∙◌, subst, length, get_or, arith, Option, Some, None, IsUtf8, lt-ltb}
+use Rattle.std.proofs.Common.{◌≡◌, ℕ, zero, suc, ◌+◌, ◌<◌, ◌≤◌, Bool, true, false, cond, nat_lt, List, [], ◌∷◌, ◌&&◌, ◌||◌, ◌==◌, not, refl, sym, ap, ◌∙◌, subst, length, get_or, take, arith, Option, Some, None, IsUtf8, lt-ltb}
 use Rattle.std.proofs.lemmas.Bool.{agree_below_at, and_parts, false≢true, eqb-true, ltb-true}
 use Rattle.std.proofs.lemmas.Bool.Decides.{nat_tests}
 use Rattle.std.proofs.lemmas.Str.{encode_ascii, length-encode}
@@ -30,7 +30,7 @@ use Rattle.rdf_tokens.proofs.StateLemmas.{front-bytes, live-bytes, reached-first
 
 -- where the states have ended and no spelling goes on, the longest front so far is the token
 pub settled : (d : Dialect) (bs : List ℕ) (at : ℕ) (s : State) (b f : Option (ℕ × Kind)) (n : ℕ) (k : Kind) → IsUtf8 bs → Reached d bs at s b → goes_on d s ≡ false →
-    f ≡ front_by (rows_of d fixed) bs → live_by (rows_of d fixed) bs ≡ false → longer_front f b ≡ Some (n, k) → ((w : List ℕ) → is_fit k w ≡ true) → IsToken d bs n k
+    f ≡ front_by (rows_of d fixed) bs → live_by (rows_of d fixed) bs ≡ false → longer_front f b ≡ Some (n, k) → is_fit k (chars (take n bs)) ≡ true → IsToken d bs n k
 settled d bs at s b f n k u r g ef l e t =
     let p = reached-dead d bs at s b r g in
     record {
@@ -108,7 +108,7 @@ single-is Lines c k e = single-lines c k e
 single-is Turtle c k e = single-turtle c k e
 
 -- the states after the first byte, where they have no kind
-first-none : (d : Dialect) (bs : List ℕ) (s : State) → IsUtf8 bs → 0 < length bs → get_or bs 0 0 < 128 → s ≡ step d Start (get_or bs 0 0) → kind_at s ≡ None → Reached d bs 1 s None
+pub first-none : (d : Dialect) (bs : List ℕ) (s : State) → IsUtf8 bs → 0 < length bs → get_or bs 0 0 < 128 → s ≡ step d Start (get_or bs 0 0) → kind_at s ≡ None → Reached d bs 1 s None
 first-none d bs s u l a es k =
     let c = get_or bs 0 0 in
     let t = three_quotes d (chars bs) in
@@ -120,7 +120,7 @@ pub quick_single : (d : Dialect) (bs : List ℕ) (k : Kind) → IsUtf8 bs → 0 
 quick_single d [] k u l e = absurd (omega arith)
 quick_single d (c ∷ t) k u l e =
     let p = single-is d c k e in
-    settled d (c ∷ t) 1 (step d Start c) None (Some (1, k)) 1 k u (first-none d (c ∷ t) (step d Start c) u l p.low refl p.none) p.out (sym (p.front t)) (p.closed t) refl p.fit
+    settled d (c ∷ t) 1 (step d Start c) None (Some (1, k)) 1 k u (first-none d (c ∷ t) (step d Start c) u l p.low refl p.none) p.out (sym (p.front t)) (p.closed t) refl (p.fit _)
 
 -- no character of a spelling is ':'
 abbrev no_colon : Bool → List ℕ → Bool
@@ -224,7 +224,7 @@ abbrev end_tests : ℕ → Bool
 end_tests c = not (ends_name c) || (is_name_byte c || (at_dead (step Turtle (Name name.Colon) c) && at_dead (step Turtle (Name name.Local) c)))
 
 -- the bytes of a run of names are ASCII
-low-name : (c : ℕ) → is_name_byte c ≡ true → c < 128
+pub low-name : (c : ℕ) → is_name_byte c ≡ true → c < 128
 low-name c e = grind (arith, nat_tests)
 
 -- one of two holds that does not fail
@@ -301,7 +301,7 @@ module _ (bs : List ℕ) (colon end : ℕ) (u : IsUtf8 bs) (l : 0 < length bs) (
       let low : c < 128 = ltb-true c 128 (and_parts _ _ p.1).0 in
       settled Turtle bs (end + 1) (Name name.Dead) (Some (end, k)) f end k u (byte_on end s (Name name.Dead) None (Some (end, k)) (ltb-true end (length bs) p.0) low h (sym x) refl) refl refl
       (rows-none (rows_of Turtle fixed) bs colon refl i is_58)
-      (longer-second f colon end k (rows-short (rows_of Turtle fixed) bs colon refl is_58) (omega arith)) t
+      (longer-second f colon end k (rows-short (rows_of Turtle fixed) bs colon refl is_58) (omega arith)) (t _)
 
   ended : (step Turtle (Name name.Colon) (get_or bs end 0) ≡ Name name.Dead) × (step Turtle (Name name.Local) (get_or bs end 0) ≡ Name name.Dead)
   ended = let p = and_parts _ _ z in end-steps (get_or bs end 0) p.1 (q.stops (ltb-true end (length bs) p.0))
@@ -360,7 +360,7 @@ quick_first c x t k u p =
     let none : None ≡ only_long (three_quotes Turtle (chars bs)) (kind_at s') = sym (ap (only_long (three_quotes Turtle (chars bs))) p.none_next ∙ no_long (three_quotes Turtle (chars bs))) in
     let next = reached-step Turtle bs 1 2 x s s' None None None first (ascii_first bs 1 (omega arith) p.low_next)
     (omega (arith, ap length (encode_ascii x p.low_next), length-encode x)) (omega arith) refl none refl in
-    settled Turtle bs 2 s' None (Some (1, k)) 1 k u next p.out (sym (p.front t)) (p.closed t) refl p.fit
+    settled Turtle bs 2 s' None (Some (1, k)) 1 k u next p.out (sym (p.front t)) (p.closed t) refl (p.fit _)
 
 -- a state of no name and of no number
 abbrev pub at_ended : State → Bool

@@ -1,11 +1,12 @@
 -- Tokens that the first bytes of a text settle.
-use Rattle.std.specs.Prelude.{◌≡◌, ◌+◌, ℕ, Bool, true, false, cond, not, ◌&&◌, ◌==◌, nat_lt, List, [], ◌∷◌, length, get_or, Option, None, Some}
+use Rattle.std.specs.Prelude.{◌≡◌, ◌+◌, ℕ, Bool, true, false, cond, not, ◌&&◌, ◌==◌, nat_lt, List, [], ◌∷◌, length, get_or, take, Option, None, Some}
 use Rattle.std.specs.Str.{chars}
 use Rattle.rdf_terms.specs.declared.kind.Dialect.{Dialect}
 use Rattle.rdf_terms.specs.declared.kind.Dialect.TheVariants.{Lines, Turtle}
 use Rattle.rdf_terms.specs.declared.kind.Kind.{Kind}
 use Rattle.rdf_terms.specs.declared.kind.Kind.TheVariants.{Dot, LineEnd, Semicolon, Comma, OpenBracket, CloseBracket, OpenParen, CloseParen, OpenBrace, CloseBrace}
 use Rattle.rdf_terms.specs.Classes.{is_digit, is_letter, is_turtle, one_of}
+use Rattle.rdf_terms.specs.Runs.{is_name_byte, is_ascii_text_byte}
 use Rattle.rdf_terms.specs.Shapes.{is_live}
 use Rattle.rdf_terms.specs.Values.{is_fit}
 use Rattle.rdf_tokens.specs.declared.front.Bare.{Bare}
@@ -16,7 +17,7 @@ use Rattle.rdf_tokens.specs.Front.{in_bytes}
 pub record IsToken (d : Dialect) (bs : List ℕ) (n : ℕ) (k : Kind) : Type 0 where
   pub best : in_bytes (chars bs) (longest d (chars bs) (length (chars bs))) ≡ Some (n, k)
   pub closed : is_live d (chars bs) ≡ false
-  pub fit : (w : List ℕ) → is_fit k w ≡ true
+  pub fit : is_fit k (chars (take n bs)) ≡ true
 
 -- It is so where a kind is told.
 abbrev pub IsQuick : Dialect → List ℕ → ℕ → Option Kind → Type 0
@@ -81,3 +82,23 @@ is_integer_end bs at = nat_lt at (length bs) && ends_integer (get_or bs at 0)
 -- digits stand between the dot and a place, and there a byte that ends a decimal
 abbrev pub is_decimal_end : List ℕ → ℕ → ℕ → Bool
 is_decimal_end bs dot at = nat_lt (dot + 1) at && (nat_lt at (length bs) && ends_number (get_or bs at 0))
+
+-- this byte stands at a place
+abbrev pub stands_at : ℕ → List ℕ → ℕ → Bool
+stands_at b bs at = nat_lt at (length bs) && get_or bs at 0 == b
+
+-- a letter, a digit or '_'
+abbrev pub begins_label_name : ℕ → Bool
+begins_label_name b = is_name_byte b && not (b == 45)
+
+-- `_:` comes first, and what a label's name begins with
+abbrev pub begins_label : List ℕ → Bool
+begins_label bs = nat_lt 2 (length bs) && ((get_or bs 0 0 == 95) && ((get_or bs 1 0 == 58) && begins_label_name (get_or bs 2 0)))
+
+-- a double quote comes first, and a byte of ASCII that stands in strings as it is
+abbrev pub begins_string : List ℕ → Bool
+begins_string bs = nat_lt 1 (length bs) && ((get_or bs 0 0 == 34) && is_ascii_text_byte (get_or bs 1 0))
+
+-- '<' comes first
+abbrev pub begins_iri : List ℕ → Bool
+begins_iri bs = stands_at 60 bs 0

@@ -2,9 +2,10 @@
 
 ghost use Rattle.std.specs.Prelude.{◌≡◌, ◌<◌, ◌≤◌, true, length, get_or};
 ghost use Rattle.rdf_terms.specs.Classes.{is_digit, is_letter};
+ghost use Rattle.rdf_terms.specs.declared.kind.Dialect.{Dialect};
 ghost use Rattle.rdf_terms.specs.declared.kind.Dialect.TheVariants.{Turtle};
-ghost use Rattle.rdf_tokens.specs.Quick.{IsQuick, single, is_sought, is_colon, ends_name, is_name_end, is_a, is_dot, begins_number, is_point, is_integer_end, is_decimal_end, ends_integer, ends_number};
-ghost use Rattle.rdf_terms.specs.Runs.{IsRun};
+ghost use Rattle.rdf_tokens.specs.Quick.{IsQuick, single, is_sought, is_colon, ends_name, is_name_end, is_a, is_dot, begins_number, is_point, is_integer_end, is_decimal_end, ends_integer, ends_number, begins_iri, begins_string, begins_label, begins_label_name, stands_at};
+ghost use Rattle.rdf_terms.specs.Runs.{IsRun, is_ascii_text_byte};
 
 use crate::front::{Bare, begins_in_letter};
 use rdf_terms::runs::{Run, run_end};
@@ -41,6 +42,121 @@ pub(crate) fn quick_front(dialect: Dialect, text: &str, bare: &Option<Bare>) -> 
     }
     if begins_number(dialect, bytes) {
         return quick_number(text);
+    }
+    quick_plain(text)
+}
+
+/// A token without an escape that begins with `<`, `"` or `_:`.
+#[inline(always)]
+fn quick_plain(text: &str) -> Quick
+    requires some { 0 < length text.now }
+    ensures { (dialect : Dialect) → IsQuick dialect text.now result.len result.kind }
+{
+    let bytes = text.as_bytes();
+    if begins_iri(bytes) {
+        return quick_iri(text);
+    }
+    if begins_string(bytes) {
+        return quick_string(text);
+    }
+    if begins_label(bytes) {
+        return quick_label(text);
+    }
+    Quick { len: 0, kind: None }
+}
+
+#[inline(always)]
+fn begins_iri(bytes: &[u8]) -> bool
+    ensures { result ≡ begins_iri bytes.now }
+{
+    stands_at(b'<', bytes, 0)
+}
+
+/// Whether a byte stands at a place.
+#[inline(always)]
+fn stands_at(byte: u8, bytes: &[u8], at: usize) -> bool
+    ensures { result ≡ stands_at byte bytes.now at }
+{
+    at < bytes.len() && bytes[at] == byte
+}
+
+/// A reference in angle brackets.
+#[inline(always)]
+fn quick_iri(text: &str) -> Quick
+    requires { begins_iri text.now ≡ true }
+    ensures { (dialect : Dialect) → IsQuick dialect text.now result.len result.kind }
+{
+    let bytes = text.as_bytes();
+    let end = run_end(Run::Iri, bytes, 1);
+    if stands_at(b'>', bytes, end) {
+        return Quick {
+            len: end + 1,
+            kind: Some(Kind::IriRef),
+        };
+    }
+    Quick { len: 0, kind: None }
+}
+
+/// Whether a quote comes first, and a byte of ASCII that stands in strings as it is.
+#[inline(always)]
+fn begins_string(bytes: &[u8]) -> bool
+    ensures { result ≡ begins_string bytes.now }
+{
+    bytes.len() > 1 && bytes[0] == b'"' && is_plain(bytes[1])
+}
+
+#[inline(always)]
+fn is_plain(byte: u8) -> bool
+    ensures { result ≡ is_ascii_text_byte byte }
+{
+    !matches!(byte, b'"' | b'\'' | b'\\' | b'\n' | b'\r') && byte < 128
+}
+
+/// A string in quotes.
+#[inline(always)]
+fn quick_string(text: &str) -> Quick
+    requires { begins_string text.now ≡ true }
+    ensures { (dialect : Dialect) → IsQuick dialect text.now result.len result.kind }
+{
+    let bytes = text.as_bytes();
+    let end = run_end(Run::Text, bytes, 2);
+    if stands_at(b'"', bytes, end) {
+        return Quick {
+            len: end + 1,
+            kind: Some(Kind::ShortString),
+        };
+    }
+    Quick { len: 0, kind: None }
+}
+
+/// Whether `_:` comes first, and a letter, a digit or `_`.
+#[inline(always)]
+fn begins_label(bytes: &[u8]) -> bool
+    ensures { result ≡ begins_label bytes.now }
+{
+    bytes.len() > 2 && bytes[0] == b'_' && bytes[1] == b':' && begins_label_name(bytes[2])
+}
+
+#[inline(always)]
+fn begins_label_name(byte: u8) -> bool
+    ensures { result ≡ begins_label_name byte }
+{
+    matches!(byte, b'A'..=b'Z' | b'a'..=b'z' | b'0'..=b'9' | b'_')
+}
+
+/// A label of ASCII, up to a byte with which no name goes on.
+#[inline(always)]
+fn quick_label(text: &str) -> Quick
+    requires { begins_label text.now ≡ true }
+    ensures { (dialect : Dialect) → IsQuick dialect text.now result.len result.kind }
+{
+    let bytes = text.as_bytes();
+    let end = run_end(Run::Name, bytes, 3);
+    if is_name_end(bytes, end) {
+        return Quick {
+            len: end,
+            kind: Some(Kind::LabelNode),
+        };
     }
     Quick { len: 0, kind: None }
 }

@@ -1,8 +1,6 @@
 -- What comes before a place was taken off; the comment and the white space there are taken off with it.
-use Rattle.std.proofs.Common.{◌≡◌, ◌+◌, ◌-◌, ◌<◌, ◌∙◌, Bool, true, false, cond, sym, subst, length, drop, arith}
-use Rattle.rdf_terms.specs.Runs.{IsRun}
-use Rattle.rdf_tokens.specs.Blank.{goes_on}
-use Rattle.rdf_tokens.proofs.BlankRuns.{part_on, cut_on, ends_there, hash_opens, hash_moves}
+use Rattle.std.proofs.Common.{◌∙◌, sym, arith}
+use Rattle.rdf_tokens.proofs.BlankRuns.{part_on, cut_on, ends_there, hash_opens}
 use Rattle.rdf_tokens.proofs.blank.blank_parts.Goals as goal
 
 pub returns-then-is_cut-clause-len : goal.returns-then-is_cut-clause-len

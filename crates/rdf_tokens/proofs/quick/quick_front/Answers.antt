@@ -47,3 +47,6 @@ returns-then-begins_number c =
     let q = c.quick_number.result in
     subst (λ d. IsQuick d c.args.text.now q.len q.kind) (sym (numbered c.args.dialect c.as_bytes-bytes.result.now (sym c.begins_number.ensures ∙ c.if-begins_number.true)).0)
     c.quick_number.ensures
+
+pub returns : goal.returns
+returns c = c.quick_plain.ensures c.args.dialect

@@ -1,0 +1,57 @@
+-- Tokens without an escape are fit: what is inside of their delimiters means itself.
+use Rattle.std.proofs.Common.{◌≡◌, ℕ, zero, suc, ◌+◌, ◌-◌, ◌*◌, ◌<◌, ◌≤◌, Bool, true, false, List, [], ◌∷◌, ◌++◌, Option, Some, None, is_some, option_map, refl, sym, ap, ◌∙◌, subst, length, get_or, take, drop, length-append, arith}
+use Rattle.std.specs.Str.{chars, IsUtf8, IsAscii}
+use Rattle.std.proofs.Math.Seq.{take-suc, take-append_seam}
+use Rattle.std.proofs.lemmas.List.{append-nil}
+use Rattle.std.proofs.lemmas.Bool.Decides.{nat_tests}
+use Rattle.std.proofs.lemmas.Str.{chars-append, chars-IsAscii, encode_ascii, IsCharBoundary-before_ascii, IsUtf8-from_ascii, IsUtf8-take}
+use Rattle.rdf_terms.specs.declared.kind.Kind.TheVariants.{IriRef, ShortString}
+use Rattle.rdf_terms.specs.Runs.{PassBetween, goes_over, is_unescaped, is_text_byte, iri_byte}
+use Rattle.rdf_terms.specs.Values.{Inside, of_string, of_iri, outside, inside, is_fit, value}
+use Rattle.rdf_terms.specs.Escapes.{run_of}
+use Rattle.rdf_terms.proofs.CharsLemmas.{next_char}
+use Rattle.rdf_terms.proofs.EscapesLemmas.{run_stands, slice_passes, value_stands}
+
+-- one byte of ASCII is a text
+ascii_one : (x : ℕ) → x < 128 → IsAscii (x ∷ [])
+ascii_one x l zero = l
+ascii_one x l (suc i) = omega arith
+
+-- A text within two delimiters of ASCII, all of whose bytes stand as they are, has a value.
+plain_value : (i : Inside) (x : ℕ) (t : List ℕ) (n : ℕ) → IsUtf8 (x ∷ t) → x < 128 → n < length t → get_or t n 0 < 128 → PassBetween (goes_over (run_of i)) t 0 n →
+    is_some (value i outside (inside 1 (chars (take (n + 2) (x ∷ t))))) ≡ true
+plain_value i x t n u l m h pass =
+    let y = get_or t n 0 in
+    let r = take n t in
+    let rest = (next_char (x ∷ t) t x u (ap (λ w. w ++ t) (sym (encode_ascii x l)))).utf8 in
+    let front : IsUtf8 r = IsUtf8-take t n rest (IsCharBoundary-before_ascii t n m h) in
+    let k : n + 2 ≡ suc (suc n) = omega arith in
+    let bytes : take (n + 2) (x ∷ t) ≡ (x ∷ []) ++ (r ++ y ∷ []) = ap (λ k. take k (x ∷ t)) k ∙ ap (λ w. x ∷ w) (take-suc t n 0 m) in
+    let first = ascii_one x l in
+    let last = ascii_one y h in
+    let text : chars (take (n + 2) (x ∷ t)) ≡ x ∷ (chars r ++ y ∷ []) = ap chars bytes
+    ∙ (chars-append (x ∷ []) (r ++ y ∷ []) (IsUtf8-from_ascii (x ∷ []) first)
+    ∙ (ap (λ w. w ++ chars (r ++ y ∷ [])) (chars-IsAscii (x ∷ []) first)
+    ∙ ap (λ w. x ∷ w) (chars-append r (y ∷ []) front ∙ ap (λ w. chars r ++ w) (chars-IsAscii (y ∷ []) last)))) in
+    let long : suc (length (chars r ++ y ∷ [])) - 2 ≡ length (chars r) = omega (arith, length-append (chars r) (y ∷ [])) in
+    let plain : inside 1 (chars (take (n + 2) (x ∷ t))) ≡ chars r = ap (inside 1) text
+    ∙ (ap (λ k. take k (chars r ++ y ∷ [])) long ∙ take-append_seam (chars r) (y ∷ [])) in
+    let stand = run_stands i r front (slice_passes (goes_over (run_of i)) t 0 n (omega arith) (λ k a b. pass k a (omega arith))) in
+    ap (λ w. is_some (value i outside w)) (plain ∙ sym (append-nil (chars r)))
+    ∙ ap is_some (value_stands i (chars r) [] stand)
+
+-- a byte of a string that is plain is no backslash
+text_stands : (b : ℕ) → is_text_byte b ≡ true → is_unescaped b ≡ true
+text_stands b e = grind (arith, nat_tests)
+
+-- an IRIREF without an escape is fit
+pub plain_iri_fit : (x : ℕ) (t : List ℕ) (n : ℕ) → IsUtf8 (x ∷ t) → x < 128 → n < length t → get_or t n 0 < 128 → PassBetween iri_byte t 0 n →
+    is_fit IriRef (chars (take (n + 2) (x ∷ t))) ≡ true
+unfolding is_fit
+plain_iri_fit x t n u l m h pass = plain_value of_iri x t n u l m h pass
+
+-- a string without an escape is fit
+pub plain_string_fit : (x : ℕ) (t : List ℕ) (n : ℕ) → IsUtf8 (x ∷ t) → x < 128 → n < length t → get_or t n 0 < 128 → PassBetween is_text_byte t 0 n →
+    is_fit ShortString (chars (take (n + 2) (x ∷ t))) ≡ true
+unfolding is_fit
+plain_string_fit x t n u l m h pass = plain_value of_string x t n u l m h (λ k a b. text_stands (get_or t k 0) (pass k a b))

@@ -1,0 +1,312 @@
+-- Tokens without an escape: references, strings and labels whose bytes are plain up to their end.
+use Rattle.std.proofs.Common.{◌≡◌, ℕ, zero, suc, ◌+◌, ◌<◌, ◌≤◌, Bool, true, false, nat_lt, List, [], ◌∷◌, ◌&&◌, ◌||◌, ◌==◌, not, refl, sym, ap, ◌∙◌, subst, length, get_or, take, drop, arith, Option, Some, None, IsUtf8}
+use Rattle.std.proofs.lemmas.Bool.{agree_below, agree_below_at, and_parts, false≢true, eqb-true, ltb-true}
+use Rattle.std.proofs.lemmas.Bool.Decides.{nat_tests}
+use Rattle.std.proofs.lemmas.Str.{encode_ascii, length-encode}
+use Rattle.std.specs.Str.{chars}
+use Rattle.rdf_terms.specs.declared.kind.Kind.{Kind}
+use Rattle.rdf_terms.specs.declared.kind.Kind.TheVariants.{IriRef, ShortString, LabelNode}
+use Rattle.rdf_terms.specs.declared.kind.Dialect.{Dialect}
+use Rattle.rdf_terms.specs.declared.kind.Dialect.TheVariants.{Lines, Turtle}
+use Rattle.rdf_terms.specs.Shapes.{fixed}
+use Rattle.rdf_terms.specs.Runs.{IsRun, iri_byte, is_text_byte, is_ascii_text_byte, is_name_byte}
+use Rattle.rdf_terms.specs.Values.{is_fit}
+use Rattle.rdf_terms.proofs.PlainTokens.{plain_iri_fit, plain_string_fit}
+use Rattle.rdf_tokens.specs.declared.states.machine.State.{State}
+use Rattle.rdf_tokens.specs.declared.states.machine.State.TheVariants.{Start, Iri, Text, Label}
+use Rattle.rdf_tokens.specs.declared.states.iri.Iri.TheVariants as iri
+use Rattle.rdf_tokens.specs.declared.states.label.Label.TheVariants as label
+use Rattle.rdf_tokens.specs.declared.states.text.Text.TheVariants as text
+use Rattle.rdf_tokens.specs.declared.states.text.Quote.TheVariants.{Double}
+use Rattle.rdf_tokens.specs.Tokens.{with_length, three_quotes, only_long}
+use Rattle.rdf_tokens.specs.Fixed.{live_by, rows_of}
+use Rattle.rdf_tokens.specs.Front.{Reached, front_by}
+use Rattle.rdf_tokens.specs.Machine.{step, kind_at}
+use Rattle.rdf_tokens.specs.Quick.{IsToken, stands_at, begins_label, begins_label_name, begins_string, begins_iri, ends_name, is_name_end}
+use Rattle.rdf_tokens.proofs.ByteLemmas.{at-start, ascii_first}
+use Rattle.rdf_tokens.proofs.BareLemmas.{implied, no_long, one_on}
+use Rattle.rdf_tokens.proofs.NumberQuick.{no_first, first_rows}
+use Rattle.rdf_tokens.proofs.QuickLemmas.{settled, first-none, other, low-name}
+use Rattle.rdf_tokens.proofs.RestLemmas.{reached-run}
+use Rattle.rdf_tokens.proofs.RestStates.{rests_iri, rests_short, rests_label}
+use Rattle.rdf_tokens.proofs.StateLemmas.{reached-step}
+
+-- one byte of ASCII on, in a text that does not begin with three quotes
+byte_on : (d : Dialect) (bs : List ℕ) (at : ℕ) (s t : State) (k : Option Kind) (b : Option (ℕ × Kind)) → three_quotes d (chars bs) ≡ false → at < length bs → get_or bs at 0 < 128 →
+    Reached d bs at s b → t ≡ step d s (get_or bs at 0) → k ≡ kind_at t → Reached d bs (at + 1) t (with_length (at + 1) k b)
+byte_on d bs at s t k b q i a h es ek =
+    let c = get_or bs at 0 in
+    reached-step d bs at (at + 1) c s t k b (with_length (at + 1) k b) h (ascii_first bs at i a) (omega (arith, ap length (encode_ascii c a), length-encode c)) (omega arith) es
+    (ek ∙ sym (ap (λ x. only_long x (kind_at t)) q)) refl
+
+-- no spelling begins with such a byte
+abbrev begins_none : ℕ → Type 0
+begins_none c = (d : Dialect) → no_first c (rows_of d fixed) ≡ true
+
+-- so none stands at the front, and none is begun
+unspelled : (d : Dialect) (c : ℕ) (bs : List ℕ) → begins_none c → 0 < length bs → get_or bs 0 0 ≡ c → (front_by (rows_of d fixed) bs ≡ None) × (live_by (rows_of d fixed) bs ≡ false)
+unspelled d c [] n l e = absurd (omega arith)
+unspelled d c (x ∷ t) n l e = first_rows (rows_of d fixed) x t (ap (λ x. no_first x (rows_of d fixed)) e ∙ n d)
+
+-- no three quotes come first where no quote does
+no_quote_first : (d : Dialect) (c : ℕ) (w : List ℕ) → (c == 34) ≡ false → (c == 39) ≡ false → three_quotes d (c ∷ w) ≡ false
+no_quote_first Lines c w p q = refl
+no_quote_first Turtle c [] p q = refl
+no_quote_first Turtle c (a ∷ []) p q = refl
+no_quote_first Turtle c (a ∷ b ∷ w) p q =
+    ap (λ t. ((t && a == 34) && b == 34) || ((c == 39 && a == 39) && b == 39)) p ∙ ap (λ t. (t && a == 39) && b == 39) q
+
+-- nor where the second is none
+no_quote_second : (d : Dialect) (a : ℕ) (w : List ℕ) → (a == 34) ≡ false → three_quotes d (34 ∷ a ∷ w) ≡ false
+no_quote_second Lines a w p = refl
+no_quote_second Turtle a [] p = refl
+no_quote_second Turtle a (b ∷ w) p = ap (λ t. ((true && t) && b == 34) || ((false && a == 39) && b == 39)) p
+
+-- A text that begins with a byte of ASCII that is no quote.
+quotes_of : (d : Dialect) (bs : List ℕ) (c : ℕ) → IsUtf8 bs → 0 < length bs → c < 128 → get_or bs 0 0 ≡ c → (c == 34) ≡ false → (c == 39) ≡ false → three_quotes d (chars bs) ≡ false
+quotes_of d bs c u l a e p q =
+    let low : get_or bs 0 0 < 128 = omega (arith, e) in
+    ap (three_quotes d) ((one_on bs 0 (at-start bs u) l low).0 ∙ ap (λ x. x ∷ drop 1 (chars bs)) e) ∙ no_quote_first d c (drop 1 (chars bs)) p q
+
+-- A reference in angle brackets, without an escape.
+module _ (d : Dialect) (bs : List ℕ) (end : ℕ) (u : IsUtf8 bs) (e : begins_iri bs ≡ true) (r : IsRun iri_byte bs 1 end) (z : stands_at 62 bs end ≡ true) where
+  some_iri : 0 < length bs
+  some_iri = ltb-true 0 (length bs) (and_parts (nat_lt 0 (length bs)) (get_or bs 0 0 == 60) e).0
+
+  is_60 : get_or bs 0 0 ≡ 60
+  is_60 = eqb-true (get_or bs 0 0) 60 (and_parts (nat_lt 0 (length bs)) (get_or bs 0 0 == 60) e).1
+
+  inside_iri : end < length bs
+  inside_iri = ltb-true end (length bs) (and_parts (nat_lt end (length bs)) (get_or bs end 0 == 62) z).0
+
+  is_62 : get_or bs end 0 ≡ 62
+  is_62 = eqb-true (get_or bs end 0) 62 (and_parts (nat_lt end (length bs)) (get_or bs end 0 == 62) z).1
+
+  -- what it means needs no look at its bytes
+  iri_fit : is_fit IriRef (chars (take (end + 1) bs)) ≡ true
+  iri_fit = go bs some_iri is_60 u inside_iri is_62 r
+    where
+      go : (bs : List ℕ) → 0 < length bs → get_or bs 0 0 ≡ 60 → IsUtf8 bs → end < length bs → get_or bs end 0 ≡ 62 → IsRun iri_byte bs 1 end → is_fit IriRef (chars (take (end + 1) bs)) ≡ true
+      go [] l e u i x r = absurd (omega arith)
+      go (c ∷ t) l e u i x r = at_end end r i x
+        where
+          at_end : (end : ℕ) → IsRun iri_byte (c ∷ t) 1 end → end < length (c ∷ t) → get_or (c ∷ t) end 0 ≡ 62 → is_fit IriRef (chars (take (end + 1) (c ∷ t))) ≡ true
+          at_end zero r i x = absurd (let from = r.from in omega arith)
+          at_end (suc n) r i x =
+              let k : n + 2 ≡ suc n + 1 = omega arith in
+              subst (λ k. is_fit IriRef (chars (take k (c ∷ t))) ≡ true) k
+              (plain_iri_fit c t n u (omega (arith, e)) (omega arith) (omega (arith, x)) (λ k a b. r.pass (suc k) (omega arith) (omega arith)))
+
+  pub quick_iri : IsToken d bs (end + 1) IriRef
+  quick_iri =
+      let n = unspelled d 60 bs (λ d. go d) some_iri is_60 in
+      let q = quotes_of d bs 60 u some_iri (omega arith) is_60 refl refl in
+      let first = first-none d bs (Iri iri.Inside) u some_iri (omega (arith, is_60)) (sym (ap (step d Start) is_60)) refl in
+      let none = sym (no_long (three_quotes d (chars bs))) in
+      let run = reached-run d bs 1 end (Iri iri.Inside) None None none (rests_iri bs 1 end r) first in
+      let closed = byte_on d bs end (Iri iri.Inside) (Iri iri.Whole) (Some IriRef) None q inside_iri (omega (arith, is_62)) run (sym (ap (step d (Iri iri.Inside)) is_62)) refl in
+      settled d bs (end + 1) (Iri iri.Whole) (Some (end + 1, IriRef)) None (end + 1) IriRef u closed refl (sym n.0) n.1 refl iri_fit
+    where
+      go : begins_none 60
+      go Lines = refl
+      go Turtle = refl
+
+-- a state within a string in double quotes
+abbrev at_short : State → Bool
+at_short (Text (text.Short Double)) = true
+at_short s = false
+
+-- that state
+short-state : (s : State) → at_short s ≡ true → s ≡ Text (text.Short Double)
+short-state (Text (text.Short Double)) e = refl
+short-state s e = absurd (false≢true e)
+
+-- each byte of ASCII: one that stands in strings leads into the string after its quote
+abbrev string_tests : Dialect → ℕ → Bool
+string_tests d c = not (is_ascii_text_byte c) || at_short (step d (Text (text.Opened Double)) c)
+
+-- it is so for each of them
+string_all : (d : Dialect) → agree_below (string_tests d) (λ c. true) 128 ≡ true
+string_all Lines = refl
+string_all Turtle = refl
+
+-- the step of such a byte
+string-first : (d : Dialect) (c : ℕ) → c < 128 → is_ascii_text_byte c ≡ true → step d (Text (text.Opened Double)) c ≡ Text (text.Short Double)
+string-first d c l e = short-state _ (implied (is_ascii_text_byte c) _ (agree_below_at (string_tests d) (λ c. true) 128 c (string_all d) l) e)
+
+-- the steps of the quotes
+opened : (d : Dialect) → Text (text.Opened Double) ≡ step d Start 34
+opened Lines = refl
+opened Turtle = refl
+
+closed_string : (d : Dialect) → Text text.ShortWhole ≡ step d (Text (text.Short Double)) 34
+closed_string Lines = refl
+closed_string Turtle = refl
+
+-- a byte that stands in strings in ASCII is ASCII, stands in strings, and is no quote
+plain_byte : (c : ℕ) → is_ascii_text_byte c ≡ true → (c < 128) × (is_text_byte c ≡ true) × ((c == 34) ≡ false)
+plain_byte c e = (low c e, text_on c e, no_quote c e)
+  where
+    low : (c : ℕ) → is_ascii_text_byte c ≡ true → c < 128
+    low c e = grind (arith, nat_tests)
+
+    text_on : (c : ℕ) → is_ascii_text_byte c ≡ true → is_text_byte c ≡ true
+    text_on c e = (and_parts (is_text_byte c) _ e).0
+
+    no_quote : (c : ℕ) → is_ascii_text_byte c ≡ true → (c == 34) ≡ false
+    no_quote c e = grind (arith, nat_tests)
+
+-- A string in quotes, without an escape.
+module _ (d : Dialect) (bs : List ℕ) (end : ℕ) (u : IsUtf8 bs) (e : begins_string bs ≡ true) (r : IsRun is_text_byte bs 2 end) (z : stands_at 34 bs end ≡ true) where
+  two : 1 < length bs
+  two = ltb-true 1 (length bs) (and_parts (nat_lt 1 (length bs)) _ e).0
+
+  is_34 : get_or bs 0 0 ≡ 34
+  is_34 = eqb-true (get_or bs 0 0) 34 (and_parts (get_or bs 0 0 == 34) _ (and_parts (nat_lt 1 (length bs)) _ e).1).0
+
+  plain_second : is_ascii_text_byte (get_or bs 1 0) ≡ true
+  plain_second = (and_parts (get_or bs 0 0 == 34) _ (and_parts (nat_lt 1 (length bs)) _ e).1).1
+
+  inside_string : end < length bs
+  inside_string = ltb-true end (length bs) (and_parts (nat_lt end (length bs)) (get_or bs end 0 == 34) z).0
+
+  ends_34 : get_or bs end 0 ≡ 34
+  ends_34 = eqb-true (get_or bs end 0) 34 (and_parts (nat_lt end (length bs)) (get_or bs end 0 == 34) z).1
+
+  -- the text does not begin with three quotes
+  one_quote : three_quotes d (chars bs) ≡ false
+  one_quote =
+      let x = plain_byte (get_or bs 1 0) plain_second in
+      let l = two in
+      let s = is_34 in
+      let first = one_on bs 0 (at-start bs u) (omega arith) (omega (arith, s)) in
+      let second = one_on bs 1 first.1 l x.0 in
+      ap (three_quotes d) (first.0 ∙ (ap (λ c. c ∷ drop 1 (chars bs)) s ∙ ap (λ w. 34 ∷ w) second.0)) ∙ no_quote_second d (get_or bs 1 0) (drop 2 (chars bs)) x.2
+
+  -- what it means needs no look at its bytes
+  string_fit : is_fit ShortString (chars (take (end + 1) bs)) ≡ true
+  string_fit = go bs two is_34 u inside_string ends_34 (plain_byte (get_or bs 1 0) plain_second).1 r
+    where
+      go : (bs : List ℕ) → 1 < length bs → get_or bs 0 0 ≡ 34 → IsUtf8 bs → end < length bs → get_or bs end 0 ≡ 34 → is_text_byte (get_or bs 1 0) ≡ true → IsRun is_text_byte bs 2 end →
+          is_fit ShortString (chars (take (end + 1) bs)) ≡ true
+      go [] l e u i x p r = absurd (omega arith)
+      go (c ∷ t) l e u i x p r = at_end end r i x
+        where
+          at_end : (end : ℕ) → IsRun is_text_byte (c ∷ t) 2 end → end < length (c ∷ t) → get_or (c ∷ t) end 0 ≡ 34 → is_fit ShortString (chars (take (end + 1) (c ∷ t))) ≡ true
+          at_end zero r i x = absurd (let from = r.from in omega arith)
+          at_end (suc n) r i x =
+              let k : n + 2 ≡ suc n + 1 = omega arith in
+              let pass : (k : ℕ) → 0 ≤ k → k < n → is_text_byte (get_or t k 0) ≡ true = passes in
+              subst (λ k. is_fit ShortString (chars (take k (c ∷ t))) ≡ true) k (plain_string_fit c t n u (omega (arith, e)) (omega arith) (omega (arith, x)) pass)
+            where
+              passes : (k : ℕ) → 0 ≤ k → k < n → is_text_byte (get_or t k 0) ≡ true
+              passes zero a b = p
+              passes (suc k) a b = r.pass (suc (suc k)) (omega arith) (omega arith)
+
+  pub quick_string : IsToken d bs (end + 1) ShortString
+  quick_string =
+      let l = two in
+      let n = unspelled d 34 bs (λ d. go d) (omega arith) is_34 in
+      let x = plain_byte (get_or bs 1 0) plain_second in
+      let s = is_34 in
+      let first = first-none d bs (Text (text.Opened Double)) u (omega arith) (omega (arith, s)) (opened d ∙ sym (ap (step d Start) s)) refl in
+      let second = byte_on d bs 1 (Text (text.Opened Double)) (Text (text.Short Double)) None None one_quote l x.0 first (sym (string-first d (get_or bs 1 0) x.0 plain_second)) refl in
+      let none = sym (no_long (three_quotes d (chars bs))) in
+      let run = reached-run d bs 2 end (Text (text.Short Double)) None None none (rests_short Double bs 2 end r) second in
+      let f = ends_34 in
+      let closed = byte_on d bs end (Text (text.Short Double)) (Text text.ShortWhole) (Some ShortString) None one_quote inside_string (omega (arith, f)) run
+      (closed_string d ∙ sym (ap (step d (Text (text.Short Double))) f)) refl in
+      settled d bs (end + 1) (Text text.ShortWhole) (Some (end + 1, ShortString)) None (end + 1) ShortString u closed refl (sym n.0) n.1 refl string_fit
+    where
+      go : begins_none 34
+      go Lines = refl
+      go Turtle = refl
+
+-- a state within the name of a label
+abbrev at_label : State → Bool
+at_label (Label label.Name) = true
+at_label s = false
+
+-- that state
+label-state : (s : State) → at_label s ≡ true → s ≡ Label label.Name
+label-state (Label label.Name) e = refl
+label-state s e = absurd (false≢true e)
+
+-- the state after what is no label
+abbrev at_no_label : State → Bool
+at_no_label (Label label.Dead) = true
+at_no_label s = false
+
+-- that state
+no_label-state : (s : State) → at_no_label s ≡ true → s ≡ Label label.Dead
+no_label-state (Label label.Dead) e = refl
+no_label-state s e = absurd (false≢true e)
+
+-- each byte of ASCII: such a one leads into the name
+abbrev label_tests : Dialect → ℕ → Bool
+label_tests d c = not (begins_label_name c) || at_label (step d (Label label.Colon) c)
+
+-- and one that ends a name leads to no label
+abbrev over_tests : Dialect → ℕ → Bool
+over_tests d c = not (ends_name c) || (is_name_byte c || at_no_label (step d (Label label.Name) c))
+
+-- it is so for each of them
+label_all : (d : Dialect) → (agree_below (label_tests d) (λ c. true) 128 ≡ true) × (agree_below (over_tests d) (λ c. true) 128 ≡ true)
+label_all Lines = (refl, refl)
+label_all Turtle = (refl, refl)
+
+-- the steps of `_:`
+underscore : (d : Dialect) → Label label.Underscore ≡ step d Start 95
+underscore Lines = refl
+underscore Turtle = refl
+
+colon : (d : Dialect) → Label label.Colon ≡ step d (Label label.Underscore) 58
+colon Lines = refl
+colon Turtle = refl
+
+-- no label has an escape
+label-fit : (w : List ℕ) → is_fit LabelNode w ≡ true
+unfolding is_fit
+label-fit w = refl
+
+-- A label of ASCII before a byte with which no name goes on.
+module _ (d : Dialect) (bs : List ℕ) (end : ℕ) (u : IsUtf8 bs) (e : begins_label bs ≡ true) (r : IsRun is_name_byte bs 3 end) (z : is_name_end bs end ≡ true) where
+  three : 2 < length bs
+  three = ltb-true 2 (length bs) (and_parts (nat_lt 2 (length bs)) _ e).0
+
+  is_95 : get_or bs 0 0 ≡ 95
+  is_95 = eqb-true (get_or bs 0 0) 95 (and_parts (get_or bs 0 0 == 95) _ (and_parts (nat_lt 2 (length bs)) _ e).1).0
+
+  is_58 : get_or bs 1 0 ≡ 58
+  is_58 = eqb-true (get_or bs 1 0) 58 (and_parts (get_or bs 1 0 == 58) _ (and_parts (get_or bs 0 0 == 95) _ (and_parts (nat_lt 2 (length bs)) _ e).1).1).0
+
+  begun : begins_label_name (get_or bs 2 0) ≡ true
+  begun = (and_parts (get_or bs 1 0 == 58) _ (and_parts (get_or bs 0 0 == 95) _ (and_parts (nat_lt 2 (length bs)) _ e).1).1).1
+
+  pub quick_label : IsToken d bs end LabelNode
+  quick_label =
+      let l = three in
+      let n = unspelled d 95 bs (λ d. go d) (omega arith) is_95 in
+      let q = quotes_of d bs 95 u (omega arith) (omega arith) is_95 refl refl in
+      let a = is_95 in
+      let b = is_58 in
+      let c = get_or bs 2 0 in
+      let low : c < 128 = low-name c (and_parts (is_name_byte c) _ begun).0 in
+      let first = first-none d bs (Label label.Underscore) u (omega arith) (omega (arith, a)) (underscore d ∙ sym (ap (step d Start) a)) refl in
+      let second = byte_on d bs 1 (Label label.Underscore) (Label label.Colon) None None q (omega arith) (omega (arith, b)) first (colon d ∙ sym (ap (step d (Label label.Underscore)) b)) refl in
+      let named : step d (Label label.Colon) c ≡ Label label.Name = label-state _ (implied (begins_label_name c) _ (agree_below_at (label_tests d) (λ c. true) 128 c (label_all d).0 low) begun) in
+      let third = byte_on d bs 2 (Label label.Colon) (Label label.Name) (Some LabelNode) None q l low second (sym named) refl in
+      let kind : Some LabelNode ≡ only_long (three_quotes d (chars bs)) (Some LabelNode) = sym (ap (λ x. only_long x (Some LabelNode)) q) in
+      let run = reached-run d bs 3 end (Label label.Name) (Some LabelNode) None kind (rests_label bs 3 end r) third in
+      let p = and_parts (nat_lt end (length bs)) _ z in
+      let i : end < length bs = ltb-true end (length bs) p.0 in
+      let x = get_or bs end 0 in
+      let ascii : x < 128 = ltb-true x 128 (and_parts _ _ p.1).0 in
+      let dead : step d (Label label.Name) x ≡ Label label.Dead =
+      no_label-state _ (other (is_name_byte x) _ (implied (ends_name x) _ (agree_below_at (over_tests d) (λ c. true) 128 x (label_all d).1 ascii) p.1) (r.stops i)) in
+      let over = byte_on d bs end (Label label.Name) (Label label.Dead) None (Some (end, LabelNode)) q i ascii run (sym dead) refl in
+      settled d bs (end + 1) (Label label.Dead) (Some (end, LabelNode)) None end LabelNode u over refl (sym n.0) n.1 refl (label-fit _)
+    where
+      go : begins_none 95
+      go Lines = refl
+      go Turtle = refl

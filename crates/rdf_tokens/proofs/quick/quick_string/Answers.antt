@@ -1,0 +1,14 @@
+-- A string, by its quotes and the run between them.
+use Rattle.std.proofs.Common.{◌≡◌, ◌+◌, ◌∙◌, true, sym, subst, IsUtf8}
+use Rattle.rdf_terms.specs.declared.kind.Kind.TheVariants.{ShortString}
+use Rattle.rdf_tokens.specs.Quick.{IsToken, begins_string}
+use Rattle.rdf_tokens.proofs.PlainQuick.{quick_string}
+use Rattle.rdf_tokens.proofs.quick.quick_string.Goals as goal
+
+pub returns-then-stands_at : goal.returns-then-stands_at
+returns-then-stands_at c d =
+    let bs = c.as_bytes-bytes.result.now in
+    let v = c.as_bytes-bytes.ensures.value in
+    let end = c.run_end-end.result in
+    subst (λ b. IsToken d b (end + 1) ShortString) v
+    (quick_string d bs end (subst IsUtf8 (sym v) c.utf8.text) (subst (λ b. begins_string b ≡ true) (sym v) c.requires) c.run_end-end.ensures (sym c.stands_at.ensures ∙ c.if-stands_at.true))
