@@ -18,7 +18,8 @@ pub(crate) struct Quick {
     pub(crate) kind: Option<Kind>,
 }
 
-/// The token that a text begins with, where its first byte settles it or, of a name of ASCII, the byte after it.
+/// The token that a text begins with, where its first bytes settle it: a byte that is one by itself, a plain text up to its delimiter, or a name, a
+/// label or a number of ASCII with the byte after it.
 #[inline(always)]
 pub(crate) fn quick_front(dialect: Dialect, text: &str, bare: &Option<Bare>) -> Quick
     ensures { IsQuick dialect text.now result.len result.kind }
