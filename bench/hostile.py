@@ -2,10 +2,11 @@
 """Runs `rdfconv` on documents that are made to take long, at 1, 2, 4 and 8 times a size, and fails where 8 times the size takes
 more than 10 times as long.
 
-    bench/hostile.py [KILOBYTES] [WORD..]     (250)
+    bench/hostile.py [--instructions] [KILOBYTES] [WORD..]     (250, and 100 where instructions are counted)
 
 For each shape and each of `convert`, `check` and `show`: the seconds of processor time at each size (the best of three runs), and
-how many times as long the last takes as the first. Times below a hundredth of a second are taken as one. The shapes "byte by byte"
+how many times as long the last takes as the first. Times below a hundredth of a second are taken as one. With --instructions it is
+the millions of instructions by callgrind, of one run at each size, which are the same on a busy machine; fewer than one million are taken as one. The shapes "byte by byte"
 have a tenth of the size, and are one token of just as many characters as the limit on tokens, given in pieces of one byte. Those
 "in runs of the limit" have a size of their own. With words, only the shapes whose names have one of them. `rt ci` or `rt run` in
 crates/rdf_tool builds the program.
@@ -23,6 +24,7 @@ PROGRAM = os.environ.get("RDFCONV", os.path.join(TOP, "crates", "rdf_tool", "out
 
 MOST_GROWTH = 10
 LEAST_SECONDS = 0.01
+LEAST_MILLIONS = 1
 SCALES = (1, 2, 4, 8)
 
 HEAD = '<http://a/s> <http://a/p> '
@@ -66,6 +68,9 @@ SHAPES = {
     'quotes of two kinds': again('"\''),
     'carets': again('^^'),
     'angle brackets': again('<'),
+    'tags of three parts': item('"a"@a-b-c '),
+    'one tag': within('"a"@', 'a', ''),
+    'one tag of many parts': within('"a"@a', '-b', ''),
     'labels and dots': again('_:a..'),
     'names and dots': again('x:a..'),
     'percents': again('x:%4'),
@@ -99,38 +104,45 @@ BYTE_BY_BYTE = {
 
 
 def seconds(words, stdin):
-    """The processor time of a run, in the program itself and in the system."""
+    """The processor time of a run in the program itself, and that with the time in the system."""
     _, user, system = runs.processor_seconds([PROGRAM] + words, stdin)
-    return user, system
+    return user, user + system
 
 
-def times(action, shape, size, path):
-    """The best of three runs at each scale."""
+def millions(words, stdin):
+    """Millions of instructions of a run, which has none in the system."""
+    _, count = runs.instructions([PROGRAM] + words, stdin)
+    return count, count
+
+
+def best_of(measure, words, path):
+    """The best of the runs over a file."""
+    best = []
+    for _ in range(3 if measure is seconds else 1):
+        with open(path, 'rb') as f:
+            best.append(measure(words, f)[1])
+    return min(best)
+
+
+def growth_of_shape(measure, action, shape, size, path):
+    """What a shape takes at each scale."""
     found = []
     for scale in SCALES:
         with open(path, 'w') as f:
             f.write(shape(size * scale))
-        best = []
-        for _ in range(3):
-            with open(path, 'rb') as f:
-                best.append(sum(seconds([action], f)))
-        found.append(min(best))
+        found.append(best_of(measure, [action], path))
     return found
 
 
-def times_of_runs(action, shape, path):
-    """The best of three runs at each scale, of runs that grow with it."""
+def growth_of_runs(measure, action, shape, path):
+    """What runs take that grow with each scale."""
     word, most = shape
     found = []
     for scale in SCALES:
         run = word * (most * scale // SCALES[-1])
         with open(path, 'w') as f:
             f.write(HEAD + '(' + (run + ' ') * 64 + ') .\n')
-        best = []
-        for _ in range(3):
-            with open(path, 'rb') as f:
-                best.append(sum(seconds([action, '--token', str(len(run))], f)))
-        found.append(min(best))
+        found.append(best_of(measure, [action, '--token', str(len(run))], path))
     return found
 
 
@@ -144,8 +156,8 @@ def send_bytes(end, text):
     end.close()
 
 
-def times_of_bytes(action, shape, size):
-    """The best of three runs at each scale, without the time in the system, of a token that comes byte by byte."""
+def growth_of_bytes(measure, action, shape, size):
+    """What a token takes at each scale that comes byte by byte, without the time in the system."""
     begin, character, end = shape
     found = []
     for scale in SCALES:
@@ -153,11 +165,11 @@ def times_of_bytes(action, shape, size):
         text = ('PREFIX p: <http://a/> ' + HEAD + token + ' .\n').encode()
         limits = ['--token', str(len(token)), '--iri', str(len(text))]
         best = []
-        for _ in range(3):
+        for _ in range(3 if measure is seconds else 1):
             ours, theirs = socket.socketpair(socket.AF_UNIX, socket.SOCK_SEQPACKET)
             sender = threading.Thread(target=send_bytes, args=(ours, text))
             sender.start()
-            best.append(seconds([action] + limits, theirs)[0])
+            best.append(measure([action] + limits, theirs)[0])
             theirs.close()
             sender.join()
         found.append(min(best))
@@ -166,7 +178,10 @@ def times_of_bytes(action, shape, size):
 
 def main():
     words = sys.argv[1:]
-    size = 1000 * (int(words.pop(0)) if words and words[0].isdigit() else 250)
+    counts = '--instructions' in words
+    words = [word for word in words if word != '--instructions']
+    measure, least = (millions, LEAST_MILLIONS) if counts else (seconds, LEAST_SECONDS)
+    size = 1000 * (int(words.pop(0)) if words and words[0].isdigit() else 100 if counts else 250)
     worst = 0
     with tempfile.TemporaryDirectory() as folder:
         path = os.path.join(folder, 'document')
@@ -175,14 +190,14 @@ def main():
                 continue
             for action in ('convert', 'check', 'show'):
                 if name in SHAPES:
-                    found = times(action, SHAPES[name], size, path)
+                    found = growth_of_shape(measure, action, SHAPES[name], size, path)
                 elif name in IN_RUNS:
-                    found = times_of_runs(action, IN_RUNS[name], path)
+                    found = growth_of_runs(measure, action, IN_RUNS[name], path)
                 else:
-                    found = times_of_bytes(action, BYTE_BY_BYTE[name], size)
-                growth = max(found[-1], LEAST_SECONDS) / max(found[0], LEAST_SECONDS)
+                    found = growth_of_bytes(measure, action, BYTE_BY_BYTE[name], size)
+                growth = max(found[-1], least) / max(found[0], least)
                 worst = max(worst, growth)
-                print('%-40s %-8s %s   times %.1f' % (name, action, ' '.join('%.3f' % t for t in found), growth))
+                print('%-40s %-8s %s   times %.1f' % (name, action, ' '.join('%.3f' % each for each in found), growth))
                 sys.stdout.flush()
     print('the greatest growth: %.1f' % worst)
     sys.exit(worst > MOST_GROWTH)

@@ -15,7 +15,6 @@ crates/utf8_copy builds the copy.
 import argparse
 import json
 import os
-import re
 import shutil
 import subprocess
 import sys
@@ -58,11 +57,9 @@ def seconds(words, path, by):
 
 def instructions(words, path):
     """Millions of instructions of a run over the file; None where it fails."""
-    with open(path, 'rb') as f, tempfile.NamedTemporaryFile() as profile:
-        told = ['valgrind', '--tool=callgrind', '--callgrind-out-file=' + profile.name]
-        p = subprocess.run(told + words, stdin=f, stdout=subprocess.DEVNULL, stderr=subprocess.PIPE)
-    count = re.search(rb'Collected : (\d+)', p.stderr)
-    return None if p.returncode or not count else int(count.group(1)) / 1e6
+    with open(path, 'rb') as f:
+        status, count = runs.instructions(words, f)
+    return None if status else count
 
 
 def measure(kind, asked, path):

@@ -1,7 +1,9 @@
 """How much processor time a run takes, and how much memory it holds."""
 import os
+import re
 import subprocess
 import sys
+import tempfile
 import time
 
 
@@ -12,6 +14,15 @@ def processor_seconds(words, stdin):
     _, status, used = os.wait4(p.pid, 0)
     p.returncode = os.waitstatus_to_exitcode(status)
     return p.returncode, used.ru_utime, used.ru_stime
+
+
+def instructions(words, stdin):
+    """The status of a run, and its millions of instructions by callgrind, which are the same on a busy machine; None where there is no count."""
+    with tempfile.NamedTemporaryFile() as profile:
+        counted = ['valgrind', '--tool=callgrind', '--callgrind-out-file=' + profile.name]
+        p = subprocess.run(counted + words, stdin=stdin, stdout=subprocess.DEVNULL, stderr=subprocess.PIPE)
+    count = re.search(rb'Collected : (\d+)', p.stderr)
+    return p.returncode, int(count.group(1)) / 1e6 if count else None
 
 
 def held(words, path, may_fail=False):

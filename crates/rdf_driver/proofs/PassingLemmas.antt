@@ -58,6 +58,7 @@ module _ {G X I : Type 0} (w : Words G X I) (r : Driven G) (idle : is_idle r.sca
 
 -- the counts of a reader have room
 module _ {G X I : Type 0} (w : Words G X I) (law : Lawful w) (r : Driven G) (i : IsLive w r) where
+  -- items are at most two for each token, and tokens at most one for each byte
   few_quads : (x : X) (bytes : List ℕ) (quads : List I) → HasRead w r x bytes quads → r.so_far.quads ≤ 2 * most_bytes
   few_quads x bytes quads h =
       let ts = (tokens_of w.dialect r.scanner.limit bytes false).tokens in
@@ -68,6 +69,7 @@ module _ {G X I : Type 0} (w : Words G X I) (law : Lawful w) (r : Driven G) (i :
       let most = i.most in
       omega (arith, few, given, count, size, most)
 
+  -- the count of tokens is that of a list that the bytes bound
   few_tokens : (x : X) (bytes : List ℕ) (quads : List I) → HasRead w r x bytes quads → r.so_far.tokens ≤ most_bytes
   few_tokens x bytes quads h =
       let ts = (tokens_of w.dialect r.scanner.limit bytes false).tokens in
@@ -78,6 +80,7 @@ module _ {G X I : Type 0} (w : Words G X I) (law : Lawful w) (r : Driven G) (i :
       let most = i.most in
       omega (arith, given, counted, count, size, most)
 
+  -- the count of bytes is the scanner's place, which is bounded
   few_bytes : (x : X) (bytes : List ℕ) (quads : List I) → HasRead w r x bytes quads → r.so_far.bytes ≤ most_bytes
   few_bytes x bytes quads h =
       let count : r.so_far.bytes ≡ length bytes = ap (λ s. s.bytes) h.so_far in
@@ -85,12 +88,15 @@ module _ {G X I : Type 0} (w : Words G X I) (law : Lawful w) (r : Driven G) (i :
       let most = i.most in
       omega (arith, count, size, most)
 
+  -- The same without naming what was read: the sum of this count and what is passed cannot pass 64 bits.
   pub quads_room : r.so_far.quads ≤ 2 * most_bytes
   quads_room = ∥∥₁_elim i.read le_prop (λ y. few_quads y.0 y.1 y.2 y.3)
 
+  -- so for the count of tokens
   pub tokens_room : r.so_far.tokens ≤ most_bytes
   tokens_room = ∥∥₁_elim i.read le_prop (λ y. few_tokens y.0 y.1 y.2 y.3)
 
+  -- and for that of bytes
   pub bytes_room : r.so_far.bytes ≤ most_bytes
   bytes_room = ∥∥₁_elim i.read le_prop (λ y. few_bytes y.0 y.1 y.2 y.3)
 
@@ -107,11 +113,13 @@ can_pass-parts r len e =
 
 -- the reader may read more after so many quads and tokens
 module _ {G X I : Type 0} (w : Words G X I) (r : Driven G) (piece : List ℕ) (quads tokens : ℕ) (can : can_pass r (length piece) ≡ true) where
+  -- what was read of it stays true, so `feed` may be called next
   pub pass_live : IsLive w r → (more : List I) × (quads ≡ length more) × LeadsBack w r piece more tokens → IsLive w (passed r piece quads tokens)
   pass_live i l =
       let p = can_pass-parts r (length piece) can in
       subst (λ n. IsLive w (passed r piece n tokens)) (sym l.1) (passed_live w r p.1 piece l.0 tokens l.2 p.2 i)
 
+  -- what was read is what stood before and what was passed
   pub pass_reads : (more : List I) → quads ≡ length more → LeadsBack w r piece more tokens → (x : X) (before : List ℕ) (given : List I) → HasRead w r x before given →
       HasRead w (passed r piece quads tokens) x (before ++ piece) (given ++ more)
   pass_reads more n l x before given h =

@@ -64,43 +64,43 @@ nothing_read sizes bytes start rest s m r e = record {
 }
 
 -- what holds of two lists holds of both together
-all_behind : {X : Type 0} (P : X → Type 0) (v w : List X) → AllByRecursion P v → AllByRecursion P w → AllByRecursion P (v ++ w)
-all_behind P [] w a b = b
-all_behind P (x ∷ v) w a b = (a.0, all_behind P v w a.1 b)
+all_in_both : {X : Type 0} (P : X → Type 0) (v w : List X) → AllByRecursion P v → AllByRecursion P w → AllByRecursion P (v ++ w)
+all_in_both P [] w a b = b
+all_in_both P (x ∷ v) w a b = (a.0, all_in_both P v w a.1 b)
 
 -- lines that say some entries, and one line more
-say_behind : (lines : List (List ℕ)) (entries : List Entry) (line : List ℕ) (entry : Entry) → AllSay lines entries → Says line entry → AllSay (lines ++ line ∷ []) (entries ++ entry ∷ [])
-say_behind [] [] line entry a b = (b, tt)
-say_behind [] (e ∷ es) line entry a b = absurd a
-say_behind (l ∷ ls) [] line entry a b = absurd a
-say_behind (l ∷ ls) (e ∷ es) line entry a b = (a.0, say_behind ls es line entry a.1 b)
+say_one_more : (lines : List (List ℕ)) (entries : List Entry) (line : List ℕ) (entry : Entry) → AllSay lines entries → Says line entry → AllSay (lines ++ line ∷ []) (entries ++ entry ∷ [])
+say_one_more [] [] line entry a b = (b, tt)
+say_one_more [] (e ∷ es) line entry a b = absurd a
+say_one_more (l ∷ ls) [] line entry a b = absurd a
+say_one_more (l ∷ ls) (e ∷ es) line entry a b = (a.0, say_one_more ls es line entry a.1 b)
 
 -- lines before a line, with that line taken over to them
-then_behind : (lines : List (List ℕ)) (line w : List ℕ) → then (lines ++ line ∷ []) w ≡ then lines (line ++ 10 ∷ w)
-then_behind [] line w = refl
-then_behind (l ∷ lines) line w = ap (λ x. l ++ 10 ∷ x) (then_behind lines line w)
+then_one_more : (lines : List (List ℕ)) (line w : List ℕ) → then (lines ++ line ∷ []) w ≡ then lines (line ++ 10 ∷ w)
+then_one_more [] line w = refl
+then_one_more (l ∷ lines) line w = ap (λ x. l ++ 10 ∷ x) (then_one_more lines line w)
 
 -- one line more
-left_behind : (lines : List (List ℕ)) (w start : List ℕ) (rest : Option (List ℕ)) → rest ≡ after 10 w → Left lines (Some w) start → Left (lines ++ before 10 w ∷ []) rest start
-left_behind lines w start None e l =
+left_one_more : (lines : List (List ℕ)) (w start : List ℕ) (rest : Option (List ℕ)) → rest ≡ after 10 w → Left lines (Some w) start → Left (lines ++ before 10 w ∷ []) rest start
+left_one_more lines w start None e l =
     let whole : before 10 w ≡ w = sym (append-nil (before 10 w)) ∙ (ap (λ o. before 10 w ++ suffix 10 o) e ∙ cut_whole 10 w) in
     (lines, before 10 w, refl, ap (then lines) whole ∙ l)
-left_behind lines w start (Some v) e l =
+left_one_more lines w start (Some v) e l =
     let whole : before 10 w ++ 10 ∷ v ≡ w = ap (λ o. before 10 w ++ suffix 10 o) e ∙ cut_whole 10 w in
-    then_behind lines (before 10 w) v ∙ (ap (then lines) whole ∙ l)
+    then_one_more lines (before 10 w) v ∙ (ap (then lines) whole ∙ l)
 
 -- the map and the limits after one line more
-fits_behind : (sizes : Sizes) (entries : List Entry) (entry : Entry) (s t : InForce) → s.limits ≡ sizes → AllFit sizes entries → SameMap s.bindings (bindings_of entries) → EntryFits s.limits entry → Enters s entry t →
+fits_one_more : (sizes : Sizes) (entries : List Entry) (entry : Entry) (s t : InForce) → s.limits ≡ sizes → AllFit sizes entries → SameMap s.bindings (bindings_of entries) → EntryFits s.limits entry → Enters s entry t →
     AllFit sizes (entries ++ entry ∷ []) × SameMap t.bindings (bindings_of (entries ++ entry ∷ []))
-fits_behind sizes entries None s t l f m k e =
+fits_one_more sizes entries None s t l f m k e =
     let b : bindings_of (entries ++ None ∷ []) ≡ bindings_of entries = adds_nothing entries in (
-      (all_behind (EntryFits sizes) entries (None ∷ []) f.0 (tt, tt), subst (λ x. length x ≤ sizes.bindings) (sym b) f.1),
+      (all_in_both (EntryFits sizes) entries (None ∷ []) f.0 (tt, tt), subst (λ x. length x ≤ sizes.bindings) (sym b) f.1),
       subst (λ x. SameMap t.bindings x) (sym b) (subst (λ (x : InForce). SameMap x.bindings (bindings_of entries)) (sym e) m),
     )
-fits_behind sizes entries (Some x) s t l f m k e =
+fits_one_more sizes entries (Some x) s t l f m k e =
     let a = adds entries x.0 x.1 in
     let room : length (bindings_of (entries ++ Some x ∷ [])) ≤ sizes.bindings = has_room (bound_to s.bindings x.0) refl in (
-      (all_behind (EntryFits sizes) entries (Some x ∷ []) f.0 (subst (λ z. EntryFits z (Some x)) l k, tt), room),
+      (all_in_both (EntryFits sizes) entries (Some x ∷ []) f.0 (subst (λ z. EntryFits z (Some x)) l k, tt), room),
       record {
         bound = λ q. e.1.bound q ∙ (ap (λ o. cond (equal x.0 q) (Some x.1) o) (m.bound q) ∙ sym (a.bound q));
         count = e.1.count ∙ (ap (λ (n : ℕ). n + cond (is_some (bound_to s.bindings x.0)) 0 1) m.count
@@ -128,16 +128,16 @@ enters_base s t (Some x) e = (e.1.base, e.1.limits)
 pub one_line_more : (sizes : Sizes) (bytes w text : List ℕ) (rest more : Option (List ℕ)) (line next : ℕ) (s t : InForce) → ReadSoFar sizes bytes rest line s → rest ≡ Some w → more ≡ after 10 w →
     CrDropped (before 10 w) text → TakesLine s text t → next ≡ line + 1 → ReadSoFar sizes bytes more next t
 one_line_more sizes bytes w text rest more line next s t r e m c k n =
-    let f = fits_behind sizes r.entries k.0 s t r.limits r.fits r.same k.2 k.3 in
+    let f = fits_one_more sizes r.entries k.0 s t r.limits r.fits r.same k.2 k.3 in
     let b = enters_base s t k.0 k.3 in
     record {
       start = r.start;
       mark = r.mark;
       front = r.front ++ before 10 w ∷ [];
       entries = r.entries ++ k.0 ∷ [];
-      left = left_behind r.front w r.start more m (subst (λ o. Left r.front o r.start) e r.left);
-      lacks = all_behind (Lacks 10) r.front (before 10 w ∷ []) r.lacks (before-lacks 10 w, tt);
-      says = say_behind r.front r.entries (before 10 w) k.0 r.says (text, c, k.1);
+      left = left_one_more r.front w r.start more m (subst (λ o. Left r.front o r.start) e r.left);
+      lacks = all_in_both (Lacks 10) r.front (before 10 w ∷ []) r.lacks (before-lacks 10 w, tt);
+      says = say_one_more r.front r.entries (before 10 w) k.0 r.says (text, c, k.1);
       fits = f.0;
       same = f.1;
       base = b.0 ∙ r.base;
@@ -210,17 +210,17 @@ pieces (c ∷ w) =
     longer c line (next ∷ more) = refl
 
 -- the line at hand, and those after it
-behind_line : (front : List (List ℕ)) (w start : List ℕ) → Left front (Some w) start → AllByRecursion (Lacks 10) front → (rest : List (List ℕ)) × IsCut start (front ++ before 10 w ∷ rest)
-behind_line front w start l a = by (after 10 w) refl
+lines_after : (front : List (List ℕ)) (w start : List ℕ) → Left front (Some w) start → AllByRecursion (Lacks 10) front → (rest : List (List ℕ)) × IsCut start (front ++ before 10 w ∷ rest)
+lines_after front w start l a = by (after 10 w) refl
   where
     by : (o : Option (List ℕ)) → after 10 w ≡ o → (rest : List (List ℕ)) × IsCut start (front ++ before 10 w ∷ rest)
     by None e =
         let whole : before 10 w ≡ w = sym (append-nil (before 10 w)) ∙ (ap (λ o. before 10 w ++ suffix 10 o) (sym e) ∙ cut_whole 10 w) in
-        ([], feeds_then front (before 10 w) [] start (ap (then front) whole ∙ l) (all_behind (Lacks 10) front (before 10 w ∷ []) a (before-lacks 10 w, tt)))
+        ([], feeds_then front (before 10 w) [] start (ap (then front) whole ∙ l) (all_in_both (Lacks 10) front (before 10 w ∷ []) a (before-lacks 10 w, tt)))
     by (Some v) e =
         let p = pieces v in
         let whole : before 10 w ++ 10 ∷ with_feeds p.line p.more ≡ w = ap (λ x. before 10 w ++ 10 ∷ x) p.whole ∙ (ap (λ o. before 10 w ++ suffix 10 o) (sym e) ∙ cut_whole 10 w) in
-        (p.line ∷ p.more, feeds_then front (before 10 w) (p.line ∷ p.more) start (ap (then front) whole ∙ l) (all_behind (Lacks 10) front (before 10 w ∷ p.line ∷ p.more) a (before-lacks 10 w, p.lacks)))
+        (p.line ∷ p.more, feeds_then front (before 10 w) (p.line ∷ p.more) start (ap (then front) whole ∙ l) (all_in_both (Lacks 10) front (before 10 w ∷ p.line ∷ p.more) a (before-lacks 10 w, p.lacks)))
 
 -- why the line fails
 fails : (reason : BindingReason) (sizes : Sizes) (s : InForce) (entries : List Entry) (line text : List ℕ) → s.limits ≡ sizes → SameMap s.bindings (bindings_of entries) → CrDropped line text →
@@ -257,7 +257,7 @@ one_text line v w a b =
 at : (reason : BindingReason) (sizes : Sizes) (bytes w text : List ℕ) (rest : Option (List ℕ)) (line next : ℕ) (s : InForce) → ReadSoFar sizes bytes rest line s → rest ≡ Some w →
     CrDropped (before 10 w) text → StopsAt reason s text → next ≡ line + 1 → (reason ≡ Memory → ⊥) → FailsAt reason sizes bytes next
 at reason sizes bytes w text rest line next s r e c k n m =
-    let b = behind_line r.front w r.start (subst (λ o. Left r.front o r.start) e r.left) r.lacks in
+    let b = lines_after r.front w r.start (subst (λ o. Left r.front o r.start) e r.left) r.lacks in
     record {
       front = r.front;
       line = before 10 w;

@@ -23,21 +23,21 @@ one_start bytes v w a b =
     a
 
 -- what stands after the first LF
-abbrev behind : List (List ℕ) → Option (List ℕ)
-behind [] = None
-behind (line ∷ more) = Some (with_feeds line more)
+abbrev further : List (List ℕ) → Option (List ℕ)
+further [] = None
+further (line ∷ more) = Some (with_feeds line more)
 
 -- lines that are joined are cut at the first LF
-first_cut : (line : List ℕ) (lines : List (List ℕ)) → with_feeds line lines ≡ line ++ suffix 10 (behind lines)
+first_cut : (line : List ℕ) (lines : List (List ℕ)) → with_feeds line lines ≡ line ++ suffix 10 (further lines)
 first_cut line [] = sym (append-nil line)
 first_cut line (next ∷ lines) = refl
 
 -- two ways to cut a text have the same first line, and the same text after it
-heads : (l m : List ℕ) (ls ms : List (List ℕ)) → with_feeds l ls ≡ with_feeds m ms → Lacks 10 l → Lacks 10 m → (l ≡ m) × (behind ls ≡ behind ms)
+heads : (l m : List ℕ) (ls ms : List (List ℕ)) → with_feeds l ls ≡ with_feeds m ms → Lacks 10 l → Lacks 10 m → (l ≡ m) × (further ls ≡ further ms)
 heads l m ls ms e a b =
-    let x = cut_suffix 10 l (behind ls) a in
-    let y = cut_suffix 10 m (behind ms) b in
-    let f : l ++ suffix 10 (behind ls) ≡ m ++ suffix 10 (behind ms) = sym (first_cut l ls) ∙ (e ∙ first_cut m ms) in
+    let x = cut_suffix 10 l (further ls) a in
+    let y = cut_suffix 10 m (further ms) b in
+    let f : l ++ suffix 10 (further ls) ≡ m ++ suffix 10 (further ms) = sym (first_cut l ls) ∙ (e ∙ first_cut m ms) in
     (sym x.0 ∙ (ap (before 10) f ∙ y.0), sym x.1 ∙ (ap (after 10) f ∙ y.1))
 
 -- so two ways to cut it are the same

@@ -81,8 +81,8 @@ boundary_there w n l e =
     (cases_lt n (length w))
 
 -- a reference may be cut after "//", since both are ASCII
-pub boundary_behind_slashes : (w : List ℕ) → IsUtf8 w → begins (47 ∷ 47 ∷ []) w ≡ true → IsCharBoundary w 2
-boundary_behind_slashes w u h =
+pub boundary_after_slashes : (w : List ℕ) → IsUtf8 w → begins (47 ∷ 47 ∷ []) w ≡ true → IsCharBoundary w 2
+boundary_after_slashes w u h =
     let e = begins-true (47 ∷ 47 ∷ []) w h in
     let l = ap length e in
     let b : get_or w 1 0 ≡ 47 = ap (λ x. get_or x 1 0) e in

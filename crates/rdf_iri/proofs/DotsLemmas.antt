@@ -4,7 +4,7 @@ use Rattle.std.specs.Prelude.{codes}
 use Rattle.std.proofs.lemmas.Bool.{or_cases, or_left, or_right, or_from, or_parts, cases_Bool, cond-true, cond-false, false≢true, false_from_ne_true, eqb-true, eqb-false, ne_eqb}
 use Rattle.std.proofs.lemmas.List.{append-nil, length-append, length-drop}
 use Rattle.rdf_iri.specs.Texts.{Lacks, begins, equal, before, from}
-use Rattle.rdf_iri.specs.Dots.{Walk, Step, FirstOf, RuleA, RuleB, RuleC, RuleD, RuleE, Slashed, LastSegmentRemoved, Ends, DotsRemoved, has_slash, parent, first_segment, behind_segment, walk, fits_A, by_A, fits_B, by_B, fits_C, by_C, fits_D, by_D, by_E, step, steps, finish, remove_dots}
+use Rattle.rdf_iri.specs.Dots.{Walk, Step, FirstOf, RuleA, RuleB, RuleC, RuleD, RuleE, ReplacedBySlash, LastSegmentRemoved, Ends, DotsRemoved, has_slash, parent, first_segment, after_segment, walk, fits_A, by_A, fits_B, by_B, fits_C, by_C, fits_D, by_D, by_E, step, steps, finish, remove_dots}
 use Rattle.rdf_iri.proofs.TextsLemmas.{cut_at, before-lacks, from-starts, before-from, StartsAt, begins-true, begins-from, equal-true, equal-from}
 
 -- the last slash
@@ -98,9 +98,9 @@ A-fits s h =
     (cases_Bool (begins (codes "../") s.input))
 
 -- B and C: the front, or the last text, which is the front without its slash
-slashed-only : (front last : List ℕ) (s t : Walk) → drop (length front) last ≡ [] → ((rest : List ℕ) → drop (length front) (front ++ rest) ≡ rest) →
-    Slashed front last s t → ((begins front s.input || equal s.input last) ≡ true) × (t.input ≡ 47 ∷ drop (length front) s.input)
-slashed-only front last s t n d r =
+replaced-only : (front last : List ℕ) (s t : Walk) → drop (length front) last ≡ [] → ((rest : List ℕ) → drop (length front) (front ++ rest) ≡ rest) →
+    ReplacedBySlash front last s t → ((begins front s.input || equal s.input last) ≡ true) × (t.input ≡ 47 ∷ drop (length front) s.input)
+replaced-only front last s t n d r =
     ⊎_elim
     (λ (h : (rest : List ℕ) × (s.input ≡ front ++ rest) × (t.input ≡ 47 ∷ rest)). (
       or_left _ _ (begins-from front s.input h.0 h.1),
@@ -113,9 +113,9 @@ slashed-only front last s t n d r =
     r
 
 -- the front that rules B and C replace, where it computes as there
-slashed-fits : (front last : List ℕ) (s t : Walk) → drop (length front) last ≡ [] →
-    (begins front s.input || equal s.input last) ≡ true → t.input ≡ 47 ∷ drop (length front) s.input → Slashed front last s t
-slashed-fits front last s t n h e =
+replaced-fits : (front last : List ℕ) (s t : Walk) → drop (length front) last ≡ [] →
+    (begins front s.input || equal s.input last) ≡ true → t.input ≡ 47 ∷ drop (length front) s.input → ReplacedBySlash front last s t
+replaced-fits front last s t n h e =
     ⊎_elim
     (λ b. inl (drop (length front) s.input, begins-true front s.input b, e))
     (λ q.
@@ -126,22 +126,22 @@ slashed-fits front last s t n h e =
 -- rule B gives only what is computed
 B-only : (s t : Walk) → RuleB s t → (fits_B s.input ≡ true) × (t ≡ by_B s)
 B-only s t r =
-    let p = slashed-only (codes "/./") (codes "/.") s t refl (λ _. refl) r.0 in
+    let p = replaced-only (codes "/./") (codes "/.") s t refl (λ _. refl) r.0 in
     (p.0, same_walk t _ s.output p.1 r.1)
 
 -- rule B gives what is computed where it computes as fitting
 B-fits : (s : Walk) → fits_B s.input ≡ true → RuleB s (by_B s)
-B-fits s h = (slashed-fits (codes "/./") (codes "/.") s (by_B s) refl h refl, refl)
+B-fits s h = (replaced-fits (codes "/./") (codes "/.") s (by_B s) refl h refl, refl)
 
 -- rule C gives only what is computed
 C-only : (s t : Walk) → RuleC s t → (fits_C s.input ≡ true) × (t ≡ by_C s)
 C-only s t r =
-    let p = slashed-only (codes "/../") (codes "/..") s t refl (λ _. refl) r.0 in
+    let p = replaced-only (codes "/../") (codes "/..") s t refl (λ _. refl) r.0 in
     (p.0, same_walk t _ (parent s.output) p.1 (removed_is_parent s.output t.output r.1))
 
 -- rule C gives what is computed where it computes as fitting
 C-fits : (s : Walk) → fits_C s.input ≡ true → RuleC s (by_C s)
-C-fits s h = (slashed-fits (codes "/../") (codes "/..") s (by_C s) refl h refl, parent_removes s.output)
+C-fits s h = (replaced-fits (codes "/../") (codes "/..") s (by_C s) refl h refl, parent_removes s.output)
 
 -- rule D gives only what is computed
 D-only : (s t : Walk) → RuleD s t → (fits_D s.input ≡ true) × (t ≡ by_D s)
@@ -168,14 +168,14 @@ D-fits s h = (
 E-only : (s t : Walk) → RuleE s t → t ≡ by_E s
 E-only s t r =
     let p = cut_at 47 r.1 t.input r.3 r.4 in
-    let i : t.input ≡ behind_segment s.input = sym (ap behind_segment r.2 ∙ p.1) in
+    let i : t.input ≡ after_segment s.input = sym (ap after_segment r.2 ∙ p.1) in
     let o : first_segment s.input ≡ r.0 ∷ r.1 = ap first_segment r.2 ∙ ap (λ x. r.0 ∷ x) p.0 in
     same_walk t _ _ i (r.5 ∙ ap (λ x. s.output ++ x) (sym o))
 
 -- rule E gives what is computed, where some input is left
 E-fits : (s : Walk) (c : ℕ) (w : List ℕ) → s.input ≡ c ∷ w → RuleE s (by_E s)
 E-fits s c w e =
-    let i : behind_segment s.input ≡ from 47 w = ap behind_segment e in
+    let i : after_segment s.input ≡ from 47 w = ap after_segment e in
     let o : first_segment s.input ≡ c ∷ before 47 w = ap first_segment e in (
       c,
       before 47 w,
@@ -288,7 +288,7 @@ step-shorter s c w e =
     (λ h. let j = ap length (cond-true (begins (codes "../") s.input) (drop 3 s.input) (drop 2 s.input) h) in omega (arith, length-drop 3 s.input))
     (λ h. let j = ap length (cond-false (begins (codes "../") s.input) (drop 3 s.input) (drop 2 s.input) h) in omega (arith, length-drop 2 s.input))
     (cases_Bool (begins (codes "../") s.input)) in
-    let z : length (behind_segment s.input) ≤ length w = let j = ap (λ x. length (behind_segment x)) e in let k = length-from 47 w in omega arith in
+    let z : length (after_segment s.input) ≤ length w = let j = ap (λ x. length (after_segment x)) e in let k = length-from 47 w in omega arith in
     either_length (fits_A s.input) (by_A s) (step_B s) (length w) (λ h. a)
     (either_length (fits_B s.input) (by_B s) (step_C s) (length w)
     (λ h. let k = two_bytes (codes "/./") (codes "/.") s.input c w (omega arith) (omega arith) e h in omega (arith, length-drop 3 s.input))

@@ -12,7 +12,7 @@ use Rattle.rdf_terms.specs.Classes.{is_letter, is_digit, within}
 use Rattle.rdf_terms.specs.Terms.{has_scheme, scheme_goes_on}
 use Rattle.rdf_iri.specs.Texts.{Lacks, begins, equal, before, after, from}
 use Rattle.rdf_iri.specs.Parts.{Parts, recompose, with_scheme, with_authority, suffix, parts_of, fragment_parts, query_parts, hierarchy_parts}
-use Rattle.rdf_iri.specs.Dots.{Walk, walk, step, finish, remove_dots, has_slash, parent, first_segment, behind_segment, fits_A, by_A, fits_B, by_B, fits_C, by_C, fits_D, by_D, by_E}
+use Rattle.rdf_iri.specs.Dots.{Walk, walk, step, finish, remove_dots, has_slash, parent, first_segment, after_segment, fits_A, by_A, fits_B, by_B, fits_C, by_C, fits_D, by_D, by_E}
 use Rattle.rdf_iri.specs.Resolve.{target, authority_target, path_target, joined, merge_onto, directory, or_else}
 use Rattle.rdf_iri.proofs.TextsLemmas.{StartsAt, cut_at, cut_suffix, cut_whole, before-from, before-lacks, from-starts, Lacks-append, begins-true, begins-from, equal-true, equal-from}
 use Rattle.rdf_iri.proofs.DotsLemmas.{parent-at, parent-none, no_slash, has_slash-at, last_slash, no_slash-lacks, step_B, step_C, step_D, step-shorter, finish-empty, finish-after}
@@ -96,18 +96,18 @@ ahead (k ∷ front) w a =
     bytes-cons k (front ++ w) (ltb-true k 128 p.0) ∙ ap (λ x. k ∷ x) (ahead front w p.1)
 
 -- a text whose bytes begin with ASCII begins with it
-behind : (front w rest : List ℕ) → are_ascii front ≡ true → bytes w ≡ front ++ rest → (v : List ℕ) × (w ≡ front ++ v) × (bytes v ≡ rest)
-behind [] w rest a e = (w, refl, e)
-behind (k ∷ front) w rest a e =
+after_front : (front w rest : List ℕ) → are_ascii front ≡ true → bytes w ≡ front ++ rest → (v : List ℕ) × (w ≡ front ++ v) × (bytes v ≡ rest)
+after_front [] w rest a e = (w, refl, e)
+after_front (k ∷ front) w rest a e =
     let p = and_parts (nat_lt k 128) (are_ascii front) a in
     let c = cons_from_encodes w (front ++ rest) k (e ∙ ap (λ x. x ++ (front ++ rest)) (sym (encode_ascii k (ltb-true k 128 p.0)))) in
-    let r = behind front c.0 rest p.1 c.2 in
+    let r = after_front front c.0 rest p.1 c.2 in
     (r.0, c.1 ∙ ap (λ x. k ∷ x) r.1, r.2)
 
 -- so a test for an ASCII front may be made on bytes
 begins-bytes : (front w : List ℕ) → are_ascii front ≡ true → begins front (bytes w) ≡ begins front w
 begins-bytes front w a = same_test _ _
-    (λ t. let r = behind front w (drop (length front) (bytes w)) a (begins-true front (bytes w) t) in begins-from front w r.0 r.1)
+    (λ t. let r = after_front front w (drop (length front) (bytes w)) a (begins-true front (bytes w) t) in begins-from front w r.0 r.1)
     (λ t. begins-from front (bytes w) _ (ap bytes (begins-true front w t) ∙ ahead front _ a))
 
 -- an ASCII front may be dropped from the bytes of a text
@@ -156,7 +156,7 @@ rest_of_char c b bs e =
     eq {c} i = ap (λ x. x == 47) i
 
 -- the first segment of a path, in bytes
-segment-bytes : (w : List ℕ) → (first_segment (bytes w) ≡ bytes (first_segment w)) × (behind_segment (bytes w) ≡ bytes (behind_segment w))
+segment-bytes : (w : List ℕ) → (first_segment (bytes w) ≡ bytes (first_segment w)) × (after_segment (bytes w) ≡ bytes (after_segment w))
 segment-bytes [] = (refl, refl)
 segment-bytes (c ∷ w) =
     let f = first_of_char c in
@@ -167,7 +167,7 @@ segment-bytes (c ∷ w) =
     (bytes-starts 47 (from 47 w) (omega arith) (from-starts 47 w)) in
     let whole : f.1 ++ bytes w ≡ (f.1 ++ u) ++ v = ap (λ x. f.1 ++ bytes x) (sym (before-from 47 w)) ∙ (ap (λ x. f.1 ++ x) (encodes-append (before 47 w) (from 47 w)) ∙ sym (append_assoc f.1 u v)) in (
       ap first_segment e ∙ (ap (λ x. f.0 ∷ before 47 x) whole ∙ (ap (λ x. f.0 ∷ x) r.0 ∙ ap (λ x. x ++ u) (sym f.2))),
-      ap behind_segment e ∙ (ap (from 47) whole ∙ r.1),
+      ap after_segment e ∙ (ap (from 47) whole ∙ r.1),
     )
 
 -- the removal of dots
@@ -201,9 +201,9 @@ A-bytes s h =
     (cases_Bool (begins (codes "../") s.input)))
 
 -- after the front, or nothing where the text is all of the input
-slashed-bytes : (front whole w : List ℕ) → are_ascii front ≡ true → are_ascii whole ≡ true → drop (length front) whole ≡ [] → (begins front w || equal w whole) ≡ true →
+replaced-bytes : (front whole w : List ℕ) → are_ascii front ≡ true → are_ascii whole ≡ true → drop (length front) whole ≡ [] → (begins front w || equal w whole) ≡ true →
     drop (length front) (bytes w) ≡ bytes (drop (length front) w)
-slashed-bytes front whole w a b n h =
+replaced-bytes front whole w a b n h =
     ⊎_elim
     (λ t. drop-bytes front w a t)
     (λ t.
@@ -215,13 +215,13 @@ slashed-bytes front whole w a b n h =
 B-bytes : (s : Walk) → fits_B s.input ≡ true → by_B (walk_bytes s) ≡ walk_bytes (by_B s)
 B-bytes s h =
     ap (λ x. walk x (bytes s.output))
-    (ap (λ x. 47 ∷ x) (slashed-bytes (codes "/./") (codes "/.") s.input refl refl refl h) ∙ sym (bytes-cons 47 (drop 3 s.input) (omega arith)))
+    (ap (λ x. 47 ∷ x) (replaced-bytes (codes "/./") (codes "/.") s.input refl refl refl h) ∙ sym (bytes-cons 47 (drop 3 s.input) (omega arith)))
 
 -- rule C, in bytes
 C-bytes : (s : Walk) → fits_C s.input ≡ true → by_C (walk_bytes s) ≡ walk_bytes (by_C s)
 C-bytes s h =
     ap (λ x. walk x (parent (bytes s.output)))
-    (ap (λ x. 47 ∷ x) (slashed-bytes (codes "/../") (codes "/..") s.input refl refl refl h) ∙ sym (bytes-cons 47 (drop 4 s.input) (omega arith)))
+    (ap (λ x. 47 ∷ x) (replaced-bytes (codes "/../") (codes "/..") s.input refl refl refl h) ∙ sym (bytes-cons 47 (drop 4 s.input) (omega arith)))
     ∙ ap (λ x. walk (bytes (47 ∷ drop 4 s.input)) x) (has_slash-bytes s.output).1
 
 -- rule E, in bytes
@@ -229,7 +229,7 @@ E-bytes : (s : Walk) → by_E (walk_bytes s) ≡ walk_bytes (by_E s)
 E-bytes s =
     let g = segment-bytes s.input in
     ap (λ x. walk x (bytes s.output ++ first_segment (bytes s.input))) g.1
-    ∙ ap (λ x. walk (bytes (behind_segment s.input)) x) (ap (λ x. bytes s.output ++ x) g.0 ∙ sym (encodes-append s.output (first_segment s.input)))
+    ∙ ap (λ x. walk (bytes (after_segment s.input)) x) (ap (λ x. bytes s.output ++ x) g.0 ∙ sym (encodes-append s.output (first_segment s.input)))
 
 -- so a step may be made on bytes
 step-bytes : (s : Walk) → step (walk_bytes s) ≡ walk_bytes (step s)

@@ -36,8 +36,8 @@ skip_kept w r k n result h s =
     ap (λ v. finish (walk v (take k w))) (sym (drop-drop n r w)) ∙ stepped w r k result (skip n) h s
 
 -- a slash written after the output
-slashed : (w : List ℕ) (r n : ℕ) → r + n < length w → drop (r + n) (set w (r + n) 47) ≡ 47 ∷ drop (suc n) (drop r w)
-slashed w r n l =
+slash_set : (w : List ℕ) (r n : ℕ) → r + n < length w → drop (r + n) (set w (r + n) 47) ≡ 47 ∷ drop (suc n) (drop r w)
+slash_set w r n l =
     let e : (r + n) + 1 ≡ r + suc n = omega arith in
     drop-set w (r + n) 47 l ∙ ap (λ v. 47 ∷ v) (ap (λ i. drop i w) e ∙ sym (drop-drop (suc n) r w))
 
@@ -45,7 +45,7 @@ slashed w r n l =
 pub slash_kept : (w : List ℕ) (r k n : ℕ) (result : List ℕ) → k ≤ r → r + n < length w → Keeps w r k result →
     ((o : List ℕ) → step (walk (take (length w - r) (drop r w)) o) ≡ slash n (walk (take (length w - r) (drop r w)) o)) → Keeps (set w (r + n) 47) (r + n) k result
 slash_kept w r k n result b l h s =
-    ap (λ v. finish (walk v (take k (set w (r + n) 47)))) (slashed w r n l)
+    ap (λ v. finish (walk v (take k (set w (r + n) 47)))) (slash_set w r n l)
     ∙ (ap (λ v. finish (walk (47 ∷ drop (suc n) (drop r w)) v)) (take-set-le k w (r + n) 47 (omega arith)) ∙ stepped w r k result (slash n) h s)
 
 -- to remove the last segment of the output as well keeps it
@@ -57,7 +57,7 @@ up_kept w r k n j result b l h s m p =
     let e = take-set-le k w (r + n) 47 (omega arith) in
     let i : j ≤ k = let q = length-take k v in omega arith in
     let o : take j v ≡ parent (take k w) = sym (take-take j k v i) ∙ (p ∙ ap parent e) in
-    ap (λ x. finish (walk x (take j v))) (slashed w r n l)
+    ap (λ x. finish (walk x (take j v))) (slash_set w r n l)
     ∙ (ap (λ x. finish (walk (47 ∷ drop (suc n) (drop r w)) x)) o ∙ stepped w r k result (up n) h s)
 
 -- a segment moved to the output

@@ -1,7 +1,7 @@
 -- A map with text as keys, as a list of prefixes and IRIs.
 use Rattle.std.proofs.Common.{◌≡◌, ◌≤◌, ◌<◌, ◌+◌, ◌*◌, ℕ, suc, Bool, true, false, cond, List, [], ◌∷◌, ◌++◌, length, Option, Some, None, refl, sym, ap, ◌∙◌, subst, ⊎_elim, arith}
 use Rattle.std.specs.Prelude.{String, is_some, MatchBool, nat_lt}
-use Rattle.std.specs.Prelude.{Result, Ok, Err, IfOk, IfErr}
+use Rattle.std.specs.Prelude.{Result, Ok, Err, OnOk, IfErr}
 use Rattle.rdf_iri.specs.declared.fault.IriFault.{IriFault}
 use Rattle.rdf_iri.specs.declared.fault.IriFault.TheVariants.{NoBase, IriTooLong, Memory, Unbound, TooManyBindings}
 use Rattle.std.specs.String.{string_bytes, string_cmp}
@@ -173,10 +173,10 @@ chars-joined t0 t1 t2 f l front e0 e1 e2 u e =
     ap chars whole ∙ (chars-append f l u ∙ ap (λ x. x ++ chars l) e)
 
 -- an IRI that was put together is that of the name
-pub expands_joined : (s : InForce) (prefix local front : List ℕ) (r : Result (List ℕ) IriFault) → bound_to s.bindings prefix ≡ Some front →
-    IfOk r (λ iri. iri ≡ front ++ local) → IfOk r (λ iri. byte_len iri ≤ s.limits.iri) → IfOk r (ExpandsHere s prefix local)
-expands_joined s prefix local front (Ok iri) e h l = ((front, e, h), l)
-expands_joined s prefix local front (Err fault) e h l = tt
+pub expands_joined : {T : Type 0} (s : InForce) (prefix local front iri : List ℕ) (r : Result T IriFault) → bound_to s.bindings prefix ≡ Some front →
+    OnOk r (iri ≡ front ++ local) → OnOk r (byte_len iri ≤ s.limits.iri) → OnOk r (ExpandsHere s prefix local iri)
+expands_joined s prefix local front iri (Ok t) e h l = ((front, e, h), l)
+expands_joined s prefix local front iri (Err fault) e h l = tt
 
 -- why the texts were not joined is why the name was not expanded
 not_expanded : (s : InForce) (prefix local front : List ℕ) → bound_to s.bindings prefix ≡ Some front → (fault : IriFault) →
@@ -188,9 +188,9 @@ not_expanded s prefix local front e Unbound h = absurd h
 not_expanded s prefix local front e TooManyBindings h = absurd h
 
 -- an error that the join returned is one that the expansion may return
-pub expands_not : (s : InForce) (prefix local front : List ℕ) (r : Result (List ℕ) IriFault) → bound_to s.bindings prefix ≡ Some front →
+pub expands_not : {T : Type 0} (s : InForce) (prefix local front : List ℕ) (r : Result T IriFault) → bound_to s.bindings prefix ≡ Some front →
     IfErr r (NotJoined front local s.limits.iri) → IfErr r (NotExpanded s prefix local)
-expands_not s prefix local front (Ok iri) e h = tt
+expands_not s prefix local front (Ok t) e h = tt
 expands_not s prefix local front (Err fault) e h = not_expanded s prefix local front e fault h
 
 -- a test of two numbers

@@ -117,8 +117,8 @@ pub cleaned : (old front path dm ys post rest : List ℕ) (start n v : ℕ) → 
 cleaned old front path dm ys post rest start n v e s b l h =
     let whole : dm ≡ old ++ (front ++ path) = e ∙ append_assoc old front path in
     let begin : take start dm ≡ old = ap (λ k. take k dm) s ∙ (ap (take (length old)) whole ∙ take-append_seam old (front ++ path)) in
-    let behind : drop start dm ≡ front ++ path = ap (λ k. drop k dm) s ∙ (ap (drop (length old)) whole ∙ drop-append_seam old (front ++ path)) in
-    let part : take (length dm - start) (drop start dm) ≡ front ++ path = between_to_end dm start (length dm) (omega arith) ∙ behind in
+    let from_start : drop start dm ≡ front ++ path = ap (λ k. drop k dm) s ∙ (ap (drop (length old)) whole ∙ drop-append_seam old (front ++ path)) in
+    let part : take (length dm - start) (drop start dm) ≡ front ++ path = between_to_end dm start (length dm) (omega arith) ∙ from_start in
     let m = take start dm ++ (ys ++ post) in
     let long : start + n ≤ length m = let k = ap length begin in omega (arith, length-append (take start dm) (ys ++ post), length-append ys post) in
     take-take (start + n) v (m ++ rest) b

@@ -18,17 +18,17 @@ abbrev pub RuleA : Walk → Walk → Type 0
 RuleA s t = ((s.input ≡ codes "../" ++ t.input) ⊎ (s.input ≡ codes "./" ++ t.input)) × (t.output ≡ s.output)
 
 -- the front, or the last text where it is all of the input, is replaced by "/"
-abbrev pub Slashed : List ℕ → List ℕ → Walk → Walk → Type 0
-Slashed front last s t =
+abbrev pub ReplacedBySlash : List ℕ → List ℕ → Walk → Walk → Type 0
+ReplacedBySlash front last s t =
     ((rest : List ℕ) × (s.input ≡ front ++ rest) × (t.input ≡ code "/" ∷ rest)) ⊎ ((s.input ≡ last) × (t.input ≡ codes "/"))
 
 -- B: "/./", or the last "/.", is replaced by "/"
 abbrev pub RuleB : Walk → Walk → Type 0
-RuleB s t = Slashed (codes "/./") (codes "/.") s t × (t.output ≡ s.output)
+RuleB s t = ReplacedBySlash (codes "/./") (codes "/.") s t × (t.output ≡ s.output)
 
 -- C: "/../", or the last "/..", is replaced by "/", and the last segment of the output is removed
 abbrev pub RuleC : Walk → Walk → Type 0
-RuleC s t = Slashed (codes "/../") (codes "/..") s t × LastSegmentRemoved s.output t.output
+RuleC s t = ReplacedBySlash (codes "/../") (codes "/..") s t × LastSegmentRemoved s.output t.output
 
 -- D: a last "." or ".." is removed
 abbrev pub RuleD : Walk → Walk → Type 0

@@ -3,7 +3,7 @@ use Rattle.std.specs.Prelude.{ℕ, zero, suc, Bool, cond, List, [], ◌∷◌, �
 use Rattle.rdf_iri.specs.Cuts.{begins, before, from}
 use Rattle.rdf_iri.specs.Texts.{equal}
 pub use Rattle.rdf_iri.specs.Texts.{has_slash, parent}
-pub use Rattle.rdf_iri.specs.DotSegments.{Walk, LastSegmentRemoved, RuleA, Slashed, RuleB, RuleC, RuleD, RuleE, FirstOf, Step, Ends, DotsRemoved}
+pub use Rattle.rdf_iri.specs.DotSegments.{Walk, LastSegmentRemoved, RuleA, ReplacedBySlash, RuleB, RuleC, RuleD, RuleE, FirstOf, Step, Ends, DotsRemoved}
 
 -- the first segment, with the '/' before it, and what follows
 abbrev pub first_segment : List ℕ → List ℕ
@@ -11,9 +11,9 @@ first_segment [] = []
 first_segment (c ∷ w) = c ∷ before 47 w
 
 -- the path from the '/' that ends its first segment, or nothing where the segment is the last
-abbrev pub behind_segment : List ℕ → List ℕ
-behind_segment [] = []
-behind_segment (c ∷ w) = from 47 w
+abbrev pub after_segment : List ℕ → List ℕ
+after_segment [] = []
+after_segment (c ∷ w) = from 47 w
 
 -- a state of the removal: the path still to read, and the result so far
 abbrev pub walk : List ℕ → List ℕ → Walk
@@ -53,7 +53,7 @@ by_D s = walk [] s.output
 
 -- the state after rule E, which always fits: the first segment has moved to the output
 abbrev pub by_E : Walk → Walk
-by_E s = walk (behind_segment s.input) (s.output ++ first_segment s.input)
+by_E s = walk (after_segment s.input) (s.output ++ first_segment s.input)
 
 -- the first of the rules that fits
 unfoldable pub step : Walk → Walk

@@ -61,8 +61,8 @@ pub fn read_bindings<A: Allocator + Copy>(
     let mut scope = Scope::new(alloc, None, limits);
     let mut rest = Some(without_mark(bytes));
     let mut line = 0;
-    while let Some(behind) = rest {
-        let (text, more) = first_line(behind);
+    while let Some(left) = rest {
+        let (text, more) = first_line(left);
         line += 1;
         if let Err(reason) = bind_line(&mut scope, without_cr(text)) {
             return Err(BindingFault { reason, line });

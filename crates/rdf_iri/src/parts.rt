@@ -56,8 +56,8 @@ fn cut_scheme(text: &str) -> (Option<&str>, &str)
     if !has_scheme(text) {
         return (None, text);
     }
-    let (front, behind) = cut(text, ':');
-    match behind {
+    let (front, after_colon) = cut(text, ':');
+    match after_colon {
         Some(rest) => (Some(front), rest),
         None => (None, text),
     }

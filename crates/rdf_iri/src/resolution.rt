@@ -1,8 +1,9 @@
 // Resolution of a reference against a base (RFC 3986, section 5.2).
 
-ghost use Rattle.std.specs.Prelude.{◌≡◌, ◌++◌, ◌≤◌, OnOk, IfOk, IfErr};
+ghost use Rattle.std.specs.Prelude.{◌≡◌, ℕ, ◌++◌, ◌≤◌, OnOk, IfOk, IfErr};
 ghost use Rattle.std.specs.Str.{chars};
 ghost use Rattle.std.specs.String.{string_bytes};
+ghost use Rattle.rdf_terms.specs.Terms.{IsIri};
 ghost use Rattle.rdf_iri.specs.Texts.{IsIriText, byte_len};
 ghost use Rattle.rdf_iri.specs.Seen.{text_of};
 ghost use Rattle.rdf_iri.specs.Parts.{suffix, scheme_text, authority_text, parts_of, recompose};
@@ -45,6 +46,49 @@ pub fn resolve<A: Allocator + Copy>(
         return Err(IriFault::IriTooLong);
     }
     Ok(Iri::of_text(text))
+}
+
+/// Puts the IRI of a reference in its place: a reference with a scheme stays as it is.
+pub fn resolve_in_place<A: Allocator + Copy>(
+    alloc: A,
+    base: Option<&Iri<A>>,
+    text: &mut String<A>,
+    limit: u64,
+) -> Result<(), IriFault>
+    requires { IsIriText (chars (string_bytes text.old)) }
+    ensures resolved { OnOk result (Resolves (text_of base.entry) (chars (string_bytes text.old)) (chars (string_bytes text.new))) }
+    ensures is_iri { OnOk result (IsIri (chars (string_bytes text.new))) }
+    ensures within { OnOk result (byte_len (chars (string_bytes text.new)) ≤ limit) }
+    ensures refused { IfErr result (Unresolved (text_of base.entry) (chars (string_bytes text.old)) limit) }
+{
+    if let Err(fault) = make_absolute(alloc, base, text) {
+        return Err(fault);
+    }
+    if text.len() as u64 > limit {
+        return Err(IriFault::IriTooLong);
+    }
+    Ok(())
+}
+
+/// The same without a limit.
+fn make_absolute<A: Allocator + Copy>(
+    alloc: A,
+    base: Option<&Iri<A>>,
+    text: &mut String<A>,
+) -> Result<(), IriFault>
+    requires { IsIriText (chars (string_bytes text.old)) }
+    ensures resolved { OnOk result (Resolves (text_of base.entry) (chars (string_bytes text.old)) (chars (string_bytes text.new))) }
+    ensures is_iri { OnOk result (IsIri (chars (string_bytes text.new))) }
+    ensures refused { IfErr result (λ r. (limit : ℕ) → Unresolved (text_of base.entry) (chars (string_bytes text.old)) limit r) }
+{
+    if has_scheme(text.as_str()) {
+        return Ok(());
+    }
+    let Some(base) = base else {
+        return Err(IriFault::NoBase);
+    };
+    *text = resolved(alloc, base.as_str(), text.as_str())?;
+    Ok(())
 }
 
 /// The text of a reference without a scheme.

@@ -2,6 +2,7 @@
 
 ghost use Rattle.std.specs.Prelude.{◌≡◌, ℕ, List, Some, ◌++◌, ◌*◌, ◌≤◌, [], IfOk, IfErr, OnOk, OnErr, MatchBool, length};
 ghost use Rattle.std.specs.Str.{chars};
+ghost use Rattle.std.specs.String.{string_bytes};
 ghost use Rattle.rdf_terms.specs.Terms.{IsIri};
 ghost use Rattle.rdf_iri.specs.Texts.{IsIriText, byte_len};
 ghost use Rattle.rdf_iri.specs.Seen.{text_of};
@@ -10,7 +11,7 @@ ghost use Rattle.rdf_iri.specs.Scope.{BaseFits, bound_to, ResolvesHere, Unresolv
 use crate::bindings::Bindings;
 use crate::fault::IriFault;
 use crate::limits::Limits;
-use crate::resolution::resolve;
+use crate::resolution::{resolve, resolve_in_place};
 use rdf_terms::Iri;
 use std::alloc::{Allocator, Global};
 use std::collections::BTreeMap;
@@ -92,6 +93,16 @@ impl<A: Allocator + Copy> Scope<A> {
         resolve(self.alloc, self.base.as_ref(), reference, self.limits.iri())
     }
 
+    /// Puts the IRI of a reference, against the base in force, in its place. After an error nothing is known of the text.
+    pub fn resolve_in_place(&self, text: &mut String<A>) -> Result<(), IriFault>
+        requires { IsIriText (chars (string_bytes text.old)) }
+        ensures resolved { OnOk result (ResolvesHere self.now (chars (string_bytes text.old)) (chars (string_bytes text.new))) }
+        ensures is_iri { OnOk result (IsIri (chars (string_bytes text.new))) }
+        ensures refused { IfErr result (UnresolvedHere self.now (chars (string_bytes text.old))) }
+    {
+        resolve_in_place(self.alloc, self.base.as_ref(), text, self.limits.iri())
+    }
+
     /// Takes the IRI of a reference as the base.
     pub fn set_base(&mut self, reference: &str) -> Result<(), IriFault>
         requires { IsIriText (chars reference.now) }
@@ -134,10 +145,27 @@ impl<A: Allocator + Copy> Scope<A> {
         ensures expanded { IfOk result (ExpandsHere self.now (chars prefix.now) (chars local.now)) }
         ensures refused { IfErr result (NotExpanded self.now (chars prefix.now) (chars local.now)) }
     {
+        let mut text = String::new(self.alloc);
+        self.expand_into(prefix, local, &mut text)?;
+        Ok(Iri::of_text(text))
+    }
+
+    /// Puts the IRI of a name in place of a text, in the memory that the text has. After an error nothing is known of the text.
+    pub fn expand_into(
+        &self,
+        prefix: &str,
+        local: &str,
+        text: &mut String<A>,
+    ) -> Result<(), IriFault>
+        requires { IsIriText (chars local.now) }
+        ensures expanded { OnOk result (ExpandsHere self.now (chars prefix.now) (chars local.now) (chars (string_bytes text.new))) }
+        ensures is_iri { OnOk result (IsIri (chars (string_bytes text.new))) }
+        ensures refused { IfErr result (NotExpanded self.now (chars prefix.now) (chars local.now)) }
+    {
         let Some(front) = self.names.get(prefix) else {
             return Err(IriFault::Unbound);
         };
-        joined(self.alloc, front, local, self.limits.iri())
+        put_joined(text, front, local, self.limits.iri())
     }
 
     /// The bytes of the texts in force: the base, and each prefix, without its colon, with its IRI. What the texts have
@@ -172,16 +200,17 @@ fn iri_len<A: Allocator>(iri: &Iri<A>) -> u64
     iri.as_str().len() as u64
 }
 
-/// An IRI with more characters after it.
-fn joined<A: Allocator + Copy>(
-    alloc: A,
+/// Puts an IRI with more characters after it in place of a text.
+fn put_joined<A: Allocator>(
+    text: &mut String<A>,
     front: &Iri<A>,
     local: &str,
     limit: u64,
-) -> Result<Iri<A>, IriFault>
+) -> Result<(), IriFault>
     requires { IsIriText (chars local.now) }
-    ensures joined { IfOk result (λ iri. iri ≡ front.now ++ chars local.now) }
-    ensures within { IfOk result (λ iri. byte_len iri ≤ limit) }
+    ensures joined { OnOk result (chars (string_bytes text.new) ≡ front.now ++ chars local.now) }
+    ensures is_iri { OnOk result (IsIri (chars (string_bytes text.new))) }
+    ensures within { OnOk result (byte_len (chars (string_bytes text.new)) ≤ limit) }
     ensures refused { IfErr result (NotJoined front.now (chars local.now) limit) }
 {
     let front = front.as_str();
@@ -189,8 +218,8 @@ fn joined<A: Allocator + Copy>(
     if len as u64 > limit {
         return Err(IriFault::IriTooLong);
     }
-    let mut text = String::with_capacity(alloc, len)?;
+    text.clear();
     text.push_str(front)?;
     text.push_str(local)?;
-    Ok(Iri::of_text(text))
+    Ok(())
 }

@@ -26,6 +26,7 @@ pub low_encodes : (w : List ℕ) → AllByRecursion (λ c. c < 128) w → encode
 low_encodes [] a = refl
 low_encodes (c ∷ w) a = ap (λ x. x ++ encodes w) (encode_ascii c a.0) ∙ ap (λ x. c ∷ x) (low_encodes w a.1)
 
+-- characters of ASCII are scalar values, so their text can be encoded
 pub low_scalars : (w : List ℕ) → AllByRecursion (λ c. c < 128) w → scalars w ≡ true
 low_scalars [] a = refl
 low_scalars (c ∷ w) a = and_from _ _ (low_scalar c a.0) (low_scalars w a.1)
@@ -33,20 +34,25 @@ low_scalars (c ∷ w) a = and_from _ _ (low_scalar c a.0) (low_scalars w a.1)
     low_scalar : (c : ℕ) → c < 128 → scalar c ≡ true
     low_scalar c l = grind (arith, nat_tests)
 
+-- two texts in a row are ASCII where each is
 pub joined : (u v : List ℕ) → AllLow u → AllLow v → AllLow (u ++ v)
 joined [] v a b = b
 joined (c ∷ u) v a b = (a.0, joined u v a.1 b)
 
+-- a text is ASCII where what stands for each character is
 each : (f : ℕ → List ℕ) → ((c : ℕ) → AllLow (f c)) → (w : List ℕ) → AllLow (flat_map f w)
 each f h [] = tt
 each f h (c ∷ w) = joined (f c) (flat_map f w) (h c) (each f h w)
 
+-- the test of the code, as an order
 below : (c : ℕ) → nat_le c 127 ≡ true → c < 128
 below c e = grind (arith, nat_tests)
 
+-- a character of an IRI is itself, or an escape of ASCII
 written_low : (c : ℕ) → AllLow (written Ascii c)
 written_low c = cond_both (nat_le c 127) (c ∷ []) (uchar c) AllLow (λ h. (below c h, tt)) (λ h. uchar_low c)
 
+-- a character of a string is one of the four short escapes, or as in an IRI
 escaped_low : (c : ℕ) → AllLow (escaped Ascii c)
 escaped_low c =
     cond_both (c == 34) _ _ AllLow (λ h. (omega arith, (omega arith, tt)))
@@ -54,12 +60,15 @@ escaped_low c =
     (λ h. cond_both (c == 10) _ _ AllLow (λ h. (omega arith, (omega arith, tt)))
     (λ h. cond_both (c == 13) _ _ AllLow (λ h. (omega arith, (omega arith, tt))) (λ h. written_low c))))
 
+-- so an IRI in its brackets is ASCII
 iri_low : (i : List ℕ) → AllLow (iri_text Ascii i)
 iri_low i = (omega arith, joined (flat_map (written Ascii) i) (62 ∷ []) (each (written Ascii) written_low i) (omega arith, tt))
 
+-- so is a string in its quotes
 string_low : (w : List ℕ) → AllLow (string_text Ascii w)
 string_low w = (omega arith, joined (flat_map (escaped Ascii) w) (34 ∷ []) (each (escaped Ascii) escaped_low w) (omega arith, tt))
 
+-- digits are ASCII, however many
 digits_low : (k n : ℕ) (w : List ℕ) → AllLow w → AllLow (digits_onto k 10 false n w)
 digits_low zero n w a = a
 digits_low (suc k) n w a =
@@ -70,10 +79,12 @@ digits_low (suc k) n w a =
     glyph_low : (d : ℕ) → d < 10 → digit_glyph false d < 128
     glyph_low d l = grind (arith, nat_tests)
 
+-- so is an offset, which names a node
 pub number_low : (n : ℕ) → AllLow (decimal n)
 unfolding digits
 number_low n = digits_low 64 n [] tt
 
+-- a label is ASCII where the document's was; a node's own name always is
 node_low : (s : Style) (n : Node) → HasAsciiLabel n → AllLow (node_text (rename_node s n))
 node_low Kept (Label x) h = (omega arith, (omega arith, h))
 node_low Kept (Anon n) h = tt
@@ -82,6 +93,7 @@ node_low Tagged (Label x) h = (omega arith, (omega arith, (omega arith, h)))
 node_low Tagged (Anon n) h = (omega arith, (omega arith, (omega arith, number_low n)))
 node_low Tagged (Cell n) h = (omega arith, (omega arith, (omega arith, number_low n)))
 
+-- so a subject is ASCII, be it an IRI or a node
 subject_low : (s : Style) (t : Subject) → SubjectHasAsciiLabel t → AllLow (subject_text Ascii (rename_subject s t))
 subject_low s (Iri i) h = iri_low i
 subject_low s (Blank n) h = node_low s n h
@@ -91,6 +103,7 @@ tag_char : (c : ℕ) → uses tag_name c ≡ true → c < 128
 unfolding has
 tag_char c h = grind (arith, nat_tests)
 
+-- so a language tag needs no escape
 tag_low : (t : List ℕ) → IsTag t → AllLow t
 tag_low t m = each_low t (all_used tag_name t m)
   where
@@ -98,25 +111,31 @@ tag_low t m = each_low t (all_used tag_name t m)
     each_low [] a = tt
     each_low (c ∷ w) a = (tag_char c a.0, each_low w a.1)
 
+-- a datatype is ASCII, or left out where it is xsd:string
 type_low : (b : Bool) (i : List ℕ) → AllLow (type_text Ascii b i)
 type_low true i = tt
 type_low false i = (omega arith, (omega arith, iri_low i))
 
+-- so what comes after a string is ASCII, a tag or a datatype
 tail_low : (t : Tail) → IsTail t → AllLow (tail_text Ascii t)
 tail_low (Lang t) h = (omega arith, tag_low t h)
 tail_low (Typed i) h = type_low (bytes_eq i xsd_string) i
 
+-- so an object is ASCII, part by part
 term_low : (s : Style) (t : Term) → IsTerm t → TermHasAsciiLabel t → AllLow (term_text Ascii (rename_term s t))
 term_low s (Resource r) f h = subject_low s r h
 term_low s (Literal w t) f h = joined (string_text Ascii w) (tail_text Ascii t) (string_low w) (tail_low t f.1)
 
+-- the space between two terms is ASCII
 space_low : AllLow space
 space_low = (omega arith, tt)
 
+-- so a graph label is ASCII with its space, or nothing is there
 graph_low : (s : Style) (g : Option Subject) → GraphHasAsciiLabel g → AllLow (graph_text Ascii (option_map (rename_subject s) g))
 graph_low s None h = tt
 graph_low s (Some g) h = joined (subject_text Ascii (rename_subject s g)) space (subject_low s g h) space_low
 
+-- a line is ASCII, part by part
 line_low : (s : Style) (q : Quad) → IsQuad q → HasAsciiLabels q → AllLow (line s Ascii q)
 line_low s q f h =
     let u = subject_text Ascii (rename_subject s q.subject) ++ space in
@@ -128,10 +147,12 @@ line_low s q f h =
     let c = joined (term_text Ascii (rename_term s q.object)) space (term_low s q.object f.object h.object) space_low in
     joined (u ++ v ++ w ++ g ++ 46 ∷ []) (10 ∷ []) (joined (u ++ v ++ w ++ g) (46 ∷ []) (joined (u ++ v ++ w) g (joined (u ++ v) w (joined u v a b) c) (graph_low s q.graph h.graph)) (omega arith, tt)) (omega arith, tt)
 
+-- and so are all lines
 text_low : (s : Style) (qs : List Quad) → Writable s qs → AllByRecursion HasAsciiLabels qs → AllLow (text s Ascii qs)
 text_low s [] w h = tt
 text_low s (q ∷ qs) w h = joined (line s Ascii q) (text s Ascii qs) (line_low s q w.0.0 h.0) (text_low s qs w.1 h.1)
 
+-- the law: in the form that escapes all else, each byte of what is written is below 128
 pub ascii_written : AsciiIsWritten
 ascii_written s qs w h =
     let a = text_low s qs w h in

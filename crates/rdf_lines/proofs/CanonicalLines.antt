@@ -45,14 +45,17 @@ subject_kept : (s : Subject) → rename_subject Kept s ≡ s
 subject_kept (Iri i) = refl
 subject_kept (Blank n) = refl
 
+-- with the labels kept an object is as it was
 term_kept : (t : Term) → rename_term Kept t ≡ t
 term_kept (Resource s) = ap Resource (subject_kept s)
 term_kept (Literal w t) = refl
 
+-- and so is a graph label
 graph_kept : (g : Option Subject) → option_map (rename_subject Kept) g ≡ g
 graph_kept None = refl
 graph_kept (Some g) = ap (λ x. Some x) (subject_kept g)
 
+-- and so is a quad, which lets the laws speak of the quads themselves
 pub kept : (q : Quad) → rename Kept q ≡ q
 kept q = fields (rename_subject Kept q.subject) (rename_term Kept q.object) (option_map (rename_subject Kept) q.graph) (subject_kept q.subject) (term_kept q.object) (graph_kept q.graph)
   where
@@ -63,6 +66,7 @@ kept q = fields (rename_subject Kept q.subject) (rename_term Kept q.object) (opt
         ∙ (ap (λ (y : Term). let x : Quad = record { subject = q.subject; predicate = q.predicate; object = y; graph = g } in x) b
         ∙ ap (λ (y : Option Subject). let x : Quad = record { subject = q.subject; predicate = q.predicate; object = q.object; graph = y } in x) c)
 
+-- so the text of quads is what `write_line` writes, line by line
 pub text_kept : (qs : List Quad) → text Kept Plain qs ≡ flat_map (quad_text Plain) qs
 text_kept [] = refl
 text_kept (q ∷ qs) = ap (λ x. quad_text Plain x ++ text Kept Plain qs) (kept q) ∙ ap (λ x. quad_text Plain q ++ x) (text_kept qs)
@@ -72,23 +76,28 @@ subject_counted : (p : Place) (s : Subject) → length (name_tokens (name_tree P
 subject_counted p (Iri i) = refl
 subject_counted p (Blank n) = refl
 
+-- a literal with a datatype: its string, and two carets and an IRI where the type is written
 typed_counted : (p : Place) (b : Bool) (w i : List ℕ) → length (object_tokens (typed_tree Plain b p w i)) ≡ 1 + type_count b
 typed_counted p true w i = refl
 typed_counted p false w i = refl
 
+-- an object is one token, or as many as its literal is written with
 term_counted : (p : Place) (t : Term) → length (object_tokens (object_tree Plain p t)) ≡ term_count t
 term_counted p (Resource s) = subject_counted p s
 term_counted p (Literal w (Lang t)) = refl
 term_counted p (Literal w (Typed i)) = typed_counted p (bytes_eq i xsd_string) w i
 
+-- a graph label is one token, and where there is none there is no token
 graph_counted : (p : Place) (g : Option Subject) → length (graph_tokens (graph_tree Plain p g)) ≡ graph_count g
 graph_counted p None = refl
 graph_counted p (Some g) = subject_counted p g
 
+-- the end of a line: one token, or two with a CR
 end_counted : (ending : LineEnding) (p : Place) → length (end_tokens ending p) ≡ end_count ending
 end_counted Lf p = refl
 end_counted CrLf p = refl
 
+-- a line has the tokens of its parts, its dot and its end
 quad_counted : (ending : LineEnding) (q : Quad) (p : Place) → length (quad_tokens ending q p) ≡ quad_count ending q
 quad_counted ending q p =
     let s = statement_tree Plain p q in
@@ -111,6 +120,7 @@ quad_counted ending q p =
         let v = length-append head (d ∷ []) in
         omega (arith, z, y, x, w, v, a, b, c, f)
 
+-- lines have those of each, so the reader's counts move on as if it had read them
 lines_counted : (ending : LineEnding) (qs : List Quad) (p : Place) → count ending qs ≡ length (lines_tokens ending qs p)
 lines_counted ending [] p = refl
 lines_counted ending (q ∷ qs) p =
@@ -128,6 +138,7 @@ ended_scalars ending (q ∷ qs) h =
     end_scalars Lf = refl
     end_scalars CrLf = refl
 
+-- quads whose lines are passed can be written
 pub written_quads : (form : LineForm) (limit iri : ℕ) (qs : List Quad) → AllByRecursion (IsTaken form limit iri) qs → Written qs
 written_quads form limit iri [] h = tt
 written_quads form limit iri (q ∷ qs) h = ((h.0.quad, h.0.labels), written_quads form limit iri qs h.1)
@@ -138,6 +149,7 @@ module _ (ending : LineEnding) (form : LineForm) (limit iri : ℕ) where
   spells_end Lf = spells_line_end Plain limit
   spells_end CrLf = spells_then limit (13 ∷ []) (10 ∷ []) (alone LineEnd (13 ∷ [])) (alone LineEnd (10 ∷ [])) (spells_cr Plain limit) (spells_line_end Plain limit)
 
+  -- the tokens of the lines are those that the scanner would find
   spells_lines : (qs : List Quad) → Written qs → Spells limit (ended_lines ending qs) (lines_tokens ending qs)
   spells_lines [] h = spells_nothing limit
   spells_lines (q ∷ qs) h =
@@ -145,10 +157,12 @@ module _ (ending : LineEnding) (form : LineForm) (limit iri : ℕ) where
       (spells_then limit (statement_text q) (end_text ending) (λ p. statement_tokens (statement_tree Plain p q)) (end_tokens ending) (spells_statement Plain limit q h.0.0 h.0.1) (spells_end ending))
       (spells_lines qs h.1)
 
+  -- the end of a line keeps every limit of at least two
   end_short : 2 ≤ limit → (e : LineEnding) (p : Place) → AllShort limit (end_tokens e p)
   end_short l Lf p = (omega arith, tt)
   end_short l CrLf p = (omega arith, (omega arith, tt))
 
+  -- no token of the lines passes the limit
   lines_short : 2 ≤ limit → (qs : List Quad) → AllByRecursion (IsTaken form limit iri) qs → (p : Place) → AllShort limit (lines_tokens ending qs p)
   lines_short e [] h p = tt
   lines_short e (q ∷ qs) h p =
@@ -161,10 +175,12 @@ module _ (ending : LineEnding) (form : LineForm) (limit iri : ℕ) where
   fits NTriples p g h = ap (graph_tree Plain p) h
   fits NQuads p g h = tt
 
+  -- after the end of a line the machine is where a statement begins
   end_ran : (e : LineEnding) (p : Place) → run (is_taken iri) form AfterDot (end_tokens e p) ≡ ran Begin []
   end_ran Lf p = refl
   end_ran CrLf p = refl
 
+  -- the tokens of one line bring its quad
   quad_ran : (q : Quad) (p : Place) → IsTaken form limit iri q → run (is_taken iri) form Begin (quad_tokens ending q p) ≡ ran Begin (q ∷ [])
   quad_ran q p h =
       let m = statement_meant Plain p q h.quad h.labels in
@@ -175,6 +191,7 @@ module _ (ending : LineEnding) (form : LineForm) (limit iri : ℕ) where
       ∙ (ap (with_quad (quad_of (statement_tree Plain p q))) (end_ran ending end)
       ∙ ap (λ x. with_quad x (ran Begin [])) m.0)
 
+  -- those of all lines bring their quads, in order
   lines_ran : (qs : List Quad) (p : Place) → AllByRecursion (IsTaken form limit iri) qs → run (is_taken iri) form Begin (lines_tokens ending qs p) ≡ ran Begin qs
   lines_ran [] p h = refl
   lines_ran (q ∷ qs) p h =
@@ -184,6 +201,7 @@ module _ (ending : LineEnding) (form : LineForm) (limit iri : ℕ) where
       ∙ (ap (λ r. then r (λ m. run (is_taken iri) form m rest)) (quad_ran q p h.0)
       ∙ ap (with_quads (q ∷ [])) (lines_ran qs next h.1))
 
+-- the law: a reader that passes lines is where reading them would have left it
 pub lines_read : CanonicalLinesAreRead
 lines_read r ending bytes qs begin e h =
     let rules = r.grammar.rules in

@@ -128,6 +128,7 @@ same_type w u =
     (λ f. f ∙ sym (false_from_ne_true _ (λ t. false≢true (sym f ∙ D.1 (encodes_same (chars w) xsd_string (text w u ∙ (E.0 t ∙ sym xsd)))))))
     (cases_Bool (bytes_eq (chars w) xsd_string))
 
+-- a datatype's two carets are their own bytes
 pub encoded_type : (e : Escapes) (i : List ℕ) → encode_utf8_all (94 ∷ 94 ∷ iri_text e i) ≡ 94 ∷ 94 ∷ encode_utf8_all (iri_text e i)
 encoded_type e i = after 94 (94 ∷ iri_text e i) _ (omega arith) (after 94 (iri_text e i) _ (omega arith) refl)
 
@@ -143,6 +144,7 @@ joined {u} {v} {a} {b} e f = record { is = encodes-append u v ∙ (ap (λ x. x +
 blank : Coded space space
 blank = record { is = low 32 [] (omega arith) }
 
+-- a text has the bytes that encode it
 itself : (u : List ℕ) → Coded u (encodes u)
 itself u = record { is = refl }
 

@@ -1,12 +1,12 @@
 -- A run stands as it is written, with the character after it.
-use Rattle.std.proofs.Common.{◌≡◌, ℕ, zero, suc, ◌+◌, ◌<◌, ◌≤◌, Bool, true, false, List, [], ◌∷◌, ◌++◌, refl, sym, ap, ◌∙◌, subst, ⊎_elim, length, take, drop, get_or, arith}
+use Rattle.std.proofs.Common.{◌≡◌, ℕ, zero, suc, ◌<◌, ◌≤◌, Bool, true, false, List, [], ◌∷◌, ◌++◌, refl, sym, ap, ◌∙◌, subst, ⊎_elim, length, take, drop, get_or, arith}
 use Rattle.std.specs.Prelude.{flat_map}
 use Rattle.std.specs.Str.{chars, IsUtf8, IsCharBoundary, encode_utf8_all}
 use Rattle.std.specs.List.{AllByRecursion}
 use Rattle.std.proofs.Math.Utf8.{encode, encodes}
 use Rattle.std.proofs.Math.Logic.{∥∥₁_elim}
 use mathlib.Core.Bool.{Bool-set}
-use Rattle.std.proofs.lemmas.Bool.{and_parts, and_from, cases_lt, false≢true}
+use Rattle.std.proofs.lemmas.Bool.{and_parts, and_from, cases_lt}
 use Rattle.std.proofs.lemmas.Bool.Decides.{nat_tests}
 use Rattle.std.proofs.lemmas.List.{take-append-drop}
 use Rattle.std.proofs.lemmas.List.Concat.{flat_map-append}
@@ -29,6 +29,7 @@ use Rattle.rdf_lines.proofs.EncodedLine.{high_bytes}
 abbrev passes : Escapes → ℕ → Bool
 passes e b = goes_over (run_of e) b
 
+-- a test that holds of two texts in a row holds of each
 have_parts : (p : ℕ → Bool) (u v : List ℕ) → all_have p (u ++ v) ≡ true → (all_have p u ≡ true) × (all_have p v ≡ true)
 have_parts p [] v h = (refl, h)
 have_parts p (c ∷ u) v h =
@@ -49,9 +50,11 @@ no_high p none c l h = fails (encode c) (let n = length-encode c in let one = (l
     fails [] l a h = omega arith
     fails (b ∷ w) l a h = none b a.0 (and_parts (p b) (all_have p w) h).0
 
+-- a run in a string of the ASCII form goes over no byte from 128 on
 no_ascii_text : (b : ℕ) → 128 ≤ b → is_ascii_text_byte b ≡ true → ⊥
 no_ascii_text b l h = grind (arith, nat_tests)
 
+-- nor does one in an IRI
 no_ascii : (b : ℕ) → 128 ≤ b → is_ascii_byte b ≡ true → ⊥
 no_ascii b l h = grind (arith, nat_tests)
 
@@ -63,6 +66,7 @@ high_stands Plain c l h = stands c l
     stands c l = grind (arith, nat_tests)
 high_stands Ascii c l h = absurd (no_high is_ascii_text_byte no_ascii_text c l h)
 
+-- so a character whose bytes a run goes over is written as itself
 stands : (e : Escapes) (c : ℕ) → all_have (passes e) (encode c) ≡ true → escaped e c ≡ c ∷ []
 stands e c h =
     ⊎_elim
@@ -77,6 +81,7 @@ each_stands p f one (c ∷ cs) h =
     let (a, b) = have_parts p (encode c) (encodes cs) h in
     ap (λ x. x ++ flat_map f cs) (one c a) ∙ ap (λ x. c ∷ x) (each_stands p f one cs b)
 
+-- and a text of such characters too
 all_stand : (e : Escapes) (cs : List ℕ) → all_have (passes e) (encodes cs) ≡ true → flat_map (escaped e) cs ≡ cs
 all_stand e cs h = each_stands (passes e) (escaped e) (stands e) cs h
 
@@ -86,11 +91,13 @@ text_stands e w u h =
     let whole = encodes-chars w u in
     ap encodes (all_stand e (chars w) (subst (λ x. all_have (passes e) x ≡ true) (sym whole) h)) ∙ whole
 
+-- a test that holds at each place of a front holds of the front
 front_passes : (p : ℕ → Bool) (w : List ℕ) (n : ℕ) → ((k : ℕ) → k < n → p (get_or w k 0) ≡ true) → n ≤ length w → all_have p (take n w) ≡ true
 front_passes p w zero h l = refl
 front_passes p [] (suc n) h l = refl
 front_passes p (c ∷ w) (suc n) h l = and_from (p c) (all_have p (take n w)) (h 0 (omega arith)) (front_passes p w n (λ k m. h (suc k) (omega arith)) (omega arith))
 
+-- the front that a run went over passes its test
 run_front : (e : Escapes) (w : List ℕ) (n : ℕ) → IsRun (goes_over (run_of e)) w 0 n → all_have (passes e) (take n w) ≡ true
 run_front e w n r = front_passes (passes e) w n (λ k l. r.pass k (omega arith) l) r.within
 
@@ -102,6 +109,7 @@ all_low (b ∷ w) h = let p = and_parts (is_ascii_text_byte b) (all_have is_asci
     low : (b : ℕ) → is_ascii_text_byte b ≡ true → b < 128
     low b h = grind (arith, nat_tests)
 
+-- before its end a text is cut at a byte of ASCII, or after bytes of ASCII
 cut_inside : (e : Escapes) (w : List ℕ) (n : ℕ) → IsUtf8 w → IsRun (goes_over (run_of e)) w 0 n → n < length w → IsCharBoundary w n
 cut_inside Plain w n u r l = IsCharBoundary-before_ascii w n l (low (get_or w n 0) (r.stops l))
   where
@@ -111,6 +119,7 @@ cut_inside Ascii w n u r l =
     let a = all_low (take n w) (run_front Ascii w n r) in
     IsCharBoundary-from_take w n u r.within (take n w, (low_scalars (take n w) a, low_encodes (take n w) a))
 
+-- so the front is UTF-8 and can be copied by itself
 pub run_cut : (e : Escapes) (w : List ℕ) (n : ℕ) → IsUtf8 w → IsRun (goes_over (run_of e)) w 0 n → IsCharBoundary w n
 run_cut e w n u r =
     ⊎_elim
@@ -142,6 +151,7 @@ pub each : (w : List ℕ) → flat_map (written Plain) w ≡ w
 each [] = refl
 each (c ∷ w) = ap (λ x. c ∷ x) (each w)
 
+-- so its bytes are copied
 pub plain_iri : (i : IriView) → encode_utf8_all (flat_map (written Plain) (iri_chars i)) ≡ i.text.now
 plain_iri i = ap encodes (each (iri_chars i)) ∙ encodes-chars i.text.now (IsUtf8-had _ i.utf8)
 
@@ -158,10 +168,12 @@ ascii_iri i h =
     let whole = encodes-chars i.text.now (IsUtf8-had _ i.utf8) in
     ap encodes (each_stands is_ascii_byte (written Ascii) ascii_stands (iri_chars i) (subst (λ x. all_have is_ascii_byte x ≡ true) (sym whole) h)) ∙ whole
 
+-- the four short escapes are of characters that no IRI has
 iri_char_stands : (e : Escapes) (c : ℕ) → has iri_char c ≡ true → escaped e c ≡ written e c
 unfolding has
 iri_char_stands e c h = grind (arith, nat_tests)
 
+-- so an IRI may be written by the loop that writes strings
 all_iri : (e : Escapes) (w : List ℕ) → all_have (has iri_char) w ≡ true → flat_map (escaped e) w ≡ flat_map (written e) w
 all_iri e [] h = refl
 all_iri e (c ∷ w) h =

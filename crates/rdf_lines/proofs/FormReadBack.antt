@@ -25,20 +25,24 @@ subject_kept : (s : Subject) → rename_subject Kept s ≡ s
 subject_kept (Iri i) = refl
 subject_kept (Blank n) = refl
 
+-- an object is as it was
 term_kept : (t : Term) → rename_term Kept t ≡ t
 term_kept (Resource s) = ap Resource (subject_kept s)
 term_kept (Literal w t) = refl
 
+-- and so is a graph label
 graph_kept : (g : Option Subject) → option_map (rename_subject Kept) g ≡ g
 graph_kept None = refl
 graph_kept (Some g) = ap Some (subject_kept g)
 
+-- and so is a quad, so the law for kept labels serves the named quads
 kept : (q : Quad) → rename Kept q ≡ q
 kept q =
     ap (λ s. record { subject = s; predicate = q.predicate; object = rename_term Kept q.object; graph = option_map (rename_subject Kept) q.graph }) (subject_kept q.subject)
     ∙ (ap (λ t. record { subject = q.subject; predicate = q.predicate; object = t; graph = option_map (rename_subject Kept) q.graph }) (term_kept q.object)
     ∙ ap (λ (g : Option Subject). record { subject = q.subject; predicate = q.predicate; object = q.object; graph = g }) (graph_kept q.graph))
 
+-- and so is a list of quads
 all_kept : (qs : List Quad) → map (rename Kept) qs ≡ qs
 all_kept [] = refl
 all_kept (q ∷ qs) = ap (λ x. x ∷ map (rename Kept) qs) (kept q) ∙ ap (λ x. q ∷ x) (all_kept qs)
@@ -69,14 +73,17 @@ subject_named : (n : ℕ) (f : Form) (s : Subject) → SubjectWithin n s → Sub
 subject_named n f (Iri i) w = w
 subject_named n f (Blank b) w = tt
 
+-- so an object has the same IRIs within the limit
 term_named : (n : ℕ) (f : Form) (t : Term) → TermWithin n t → TermWithin n (name_term f t)
 term_named n f (Resource s) w = subject_named n f s w
 term_named n f (Literal l t) w = w
 
+-- so has a graph label
 graph_named : (n : ℕ) (f : Form) (g : Option Subject) → GraphWithin n g → GraphWithin n (name_graph f g)
 graph_named n f None w = tt
 graph_named n f (Some g) w = subject_named n f g w
 
+-- so have all quads: with a word the limit on IRIs stays the same
 iris_named : (n : ℕ) (f : Form) (qs : List Quad) → AllByRecursion (IrisWithin n) qs → AllByRecursion (IrisWithin n) (map (named f) qs)
 iris_named n f [] w = tt
 iris_named n f (q ∷ qs) w = (
@@ -91,24 +98,29 @@ iris_named n f (q ∷ qs) w = (
 
 -- A token is longer by the word at most.
 module _ (e : Escapes) (p : List ℕ) (n : ℕ) where
+  -- an IRI or a node is longer by the word at most
   subject_short : (s : Subject) → length (subject_text e s) ≤ n → length (subject_text e (prefix_subject p s)) ≤ length p + n
   subject_short (Iri i) l = omega arith
   subject_short (Blank (Label x)) l = let a = length-append p x in omega arith
   subject_short (Blank (Anon m)) l = omega arith
   subject_short (Blank (Cell m)) l = omega arith
 
+  -- what comes after a literal's string has no name in it, so it is as long as before
   tail_short : (t : Tail) → TailShort e n t → TailShort e (length p + n) t
   tail_short (Lang t) l = omega arith
   tail_short (Typed i) l = omega arith
 
+  -- so is an object
   term_short : (t : Term) → TermShort e n t → TermShort e (length p + n) (prefix_term p t)
   term_short (Resource s) l = subject_short s l
   term_short (Literal w t) l = (let a = l.0 in omega arith, tail_short t l.1)
 
+  -- so is a graph label
   graph_short : (g : Option Subject) → GraphShort e n g → GraphShort e (length p + n) (prefix_graph p g)
   graph_short None l = tt
   graph_short (Some g) l = subject_short g l
 
+  -- so is each part of a quad
   quad_short : (q : Quad) → TokensWithin e n q → TokensWithin e (length p + n) (put_prefix p q)
   quad_short q l = record {
     subject = subject_short q.subject l.subject;
@@ -117,6 +129,7 @@ module _ (e : Escapes) (p : List ℕ) (n : ℕ) where
     graph = graph_short q.graph l.graph;
   }
 
+-- so is each part of all quads, as the law of reading back with a limit asks it
 all_short : (f : Form) (n : ℕ) (qs : List Quad) → AllByRecursion (TokensWithin f.escapes n) (map (rename f.style) qs) →
     AllByRecursion (TokensWithin f.escapes (length f.prefix + n)) (map (named f) qs)
 all_short f n [] l = tt

@@ -35,6 +35,7 @@ pub if_some : {A : Type 0} (o : Option A) (P Q : A → Type 0) → ((x : A) → 
 if_some None P Q f h = h
 if_some (Some x) P Q f h = f x h
 
+-- the slice from the beginning is the front
 pub front_slice : (bs : List ℕ) (end : ℕ) → slice_range bs 0 end ≡ take end bs
 front_slice bs end = ap (λ n. take n bs) (let e : end - 0 ≡ end = omega arith in e)
 
@@ -51,6 +52,7 @@ run_taken p bs end r =
     } in
     sym (run_decides p s (length s) all) ∙ eq-eqb (length s) (length s) refl
 
+-- the run of the code goes over bytes of characters that an IRI may have
 pub iri_taken : (bs : List ℕ) (end : ℕ) → IsRun iri_byte bs 0 end → IsUtf8 (take end bs) → all_have (has iri_char) (chars (take end bs)) ≡ true
 iri_taken bs end r u = sym (iri_bytes (take end bs) u) ∙ run_taken iri_byte bs end r
 
@@ -60,6 +62,7 @@ stands_then u w a b c f g =
     f ∙ (ap (λ x. encode_utf8_all u ++ x) g
     ∙ (sym (append_assoc (encode_utf8_all u) (encode_utf8_all w) c) ∙ ap (λ x. x ++ c) (sym (encodes-append u w))))
 
+-- a character of ASCII is its byte
 stands_byte : (c : ℕ) (a b : List ℕ) → c < 128 → a ≡ c ∷ b → Stands (c ∷ []) a b
 stands_byte c a b l e = e ∙ ap (λ x. x ++ b) (sym (low c [] l))
 
@@ -67,6 +70,7 @@ stands_byte c a b l e = e ∙ ap (λ x. x ++ b) (sym (low c [] l))
 stands_text : (part a b : List ℕ) → IsUtf8 part → a ≡ part ++ b → Stands (chars part) a b
 stands_text part a b u e = e ∙ ap (λ x. x ++ b) (sym (encodes-chars part u))
 
+-- a run of such bytes with a scheme, up to the closing bracket, is an IRI of the line
 pub iri_stands : (limit : ℕ) (part a b : List ℕ) → IsUtf8 part → all_have (has iri_char) (chars part) ≡ true → has_scheme (chars part) ≡ true → length part ≤ limit → a ≡ part ++ 62 ∷ b → IriStands limit (chars part) a b
 iri_stands limit part a b u h s l e = record {
   is = record { characters = h; scheme = s };
@@ -74,15 +78,19 @@ iri_stands limit part a b u h s l e = record {
   stands = subst (λ w. Stands (w ++ 62 ∷ []) a b) (sym (each (chars part))) (stands_then (chars part) (62 ∷ []) a (62 ∷ b) b (stands_text part a (62 ∷ b) u e) (stands_byte 62 (62 ∷ b) b (omega arith) refl));
 }
 
+-- bytes that are a label's, at the front
 pub label_stands : (part a b : List ℕ) → IsUtf8 part → IsLabel (chars part) → a ≡ part ++ b → LabelStands a b
 label_stands part a b u h e = record { label = chars part; is = h; stands = stands_text part a b u e }
 
+-- bytes that are a language tag's, at the front
 pub tag_stands : (part a b : List ℕ) → IsUtf8 part → IsTag (chars part) → a ≡ part ++ b → TagStands a b
 tag_stands part a b u h e = record { tag = chars part; is = h; stands = stands_text part a b u e }
 
+-- a scalar value of UTF-8 is one of a string's characters
 scalar_same : (c : ℕ) → Utf8.scalar c ≡ true → scalar c ≡ true
 scalar_same c e = grind (arith, nat_tests)
 
+-- so the characters of UTF-8 may all stand in a string
 all_scalar : (w : List ℕ) → scalars w ≡ true → all_have scalar w ≡ true
 all_scalar [] e = refl
 all_scalar (c ∷ w) e = let p = and_parts (Utf8.scalar c) (scalars w) e in and_from (scalar c) (all_have scalar w) (scalar_same c p.0) (all_scalar w p.1)
@@ -92,9 +100,11 @@ pub have_both : (p : ℕ → Bool) (u v : List ℕ) → all_have p u ≡ true �
 have_both p [] v a b = b
 have_both p (c ∷ u) v a b = let h = and_parts (p c) (all_have p u) a in and_from (p c) (all_have p (u ++ v)) h.0 (have_both p u v h.1 b)
 
+-- where a loop over the parts of a string begins
 pub no_characters : (a : List ℕ) → CharactersStand a a
 no_characters a = record { characters = []; are = refl; stands = refl }
 
+-- where it goes on
 pub characters_then : (a b c : List ℕ) → CharactersStand a b → CharactersStand b c → CharactersStand a c
 characters_then a b c f g = record {
   characters = f.characters ++ g.characters;
@@ -133,6 +143,7 @@ letter_means letter c a b w s l e = record {
   stands = subst (λ x. Stands x (92 ∷ a) b) (sym w) (stands_then (92 ∷ []) (letter ∷ []) (92 ∷ a) a b (stands_byte 92 (92 ∷ a) a (omega arith) refl) (stands_byte letter a b l e));
 }
 
+-- a backslash and one of the four letters is the escape that would be written
 pub letter_stands : (letter : ℕ) (a b : List ℕ) → (letter ≡ 34) ⊎ ((letter ≡ 92) ⊎ ((letter ≡ 110) ⊎ (letter ≡ 114))) → a ≡ letter ∷ b → EscapeStands a b
 letter_stands letter a b h e =
     let means = λ (n c : ℕ) (w : escaped Plain c ≡ 92 ∷ n ∷ []) (s : scalar c ≡ true) (l : n < 128) (i : letter ≡ n). letter_means n c a b w s l (e ∙ ap (λ x. x ∷ b) i) in
@@ -147,14 +158,17 @@ module _ (limit : ℕ) where
   spaced : (w a b c : List ℕ) → Stands w a b → b ≡ 32 ∷ c → Stands (w ++ space) a c
   spaced w a b c h e = stands_then w space a b c h (stands_byte 32 b c (omega arith) e)
 
+  -- an IRI in its brackets with a space is a subject
   pub iri_subject : (i a b c d : List ℕ) → a ≡ 60 ∷ b → IriStands limit i b c → c ≡ 32 ∷ d → SubjectStands limit a d
   iri_subject i a b c d e h f = record { subject = Iri i; is = h.is; labels = tt; within = h.within; stands = spaced (iri_text Plain i) a c d (bracketed i a b c e h) f }
 
+  -- so is a label after its two characters, with a space
   pub label_subject : (a b c d r : List ℕ) → a ≡ 95 ∷ b → b ≡ 58 ∷ c → LabelStands c d → d ≡ 32 ∷ r → SubjectStands limit a r
   label_subject a b c d r e f h g =
       let mark : Stands (95 ∷ 58 ∷ []) a c = stands_then (95 ∷ []) (58 ∷ []) a b c (stands_byte 95 a b (omega arith) e) (stands_byte 58 b c (omega arith) f) in
       record { subject = Blank (Label h.label); is = h.is; labels = tt; within = tt; stands = spaced (95 ∷ 58 ∷ h.label) a d r (stands_then (95 ∷ 58 ∷ []) h.label a c d mark h.stands) g }
 
+  -- an IRI and a space, as a predicate
   pub predicate_stands : (i a b c d : List ℕ) → a ≡ 60 ∷ b → IriStands limit i b c → c ≡ 32 ∷ d → PredicateStands limit a d
   predicate_stands i a b c d e h f = record { predicate = i; is = h.is; within = h.within; stands = spaced (iri_text Plain i) a c d (bracketed i a b c e h) f }
 
@@ -162,6 +176,7 @@ module _ (limit : ℕ) where
   pub named_object : (a b : List ℕ) → SubjectStands limit a b → ObjectStands limit 1 a b
   named_object a b h = record { object = Resource h.subject; is = h.is; labels = h.labels; within = h.within; count = refl; stands = h.stands }
 
+  -- a string and what comes after it are an object, with the tokens of both
   pub literal_object : (n : ℕ) (a b c d : List ℕ) → a ≡ 34 ∷ b → StringStands b c → TailStands limit n c d → ObjectStands limit (n + 1) a d
   literal_object n a b c d e s t =
       let inner : Stands (flat_map (escaped Plain) s.characters ++ 34 ∷ []) b c = stands_then (flat_map (escaped Plain) s.characters) (34 ∷ []) b (34 ∷ c) c s.stands (stands_byte 34 (34 ∷ c) c (omega arith) refl) in
@@ -175,10 +190,12 @@ module _ (limit : ℕ) where
         stands = subst (λ x. Stands x a d) (sym (append_assoc (string_text Plain s.characters) (tail_text Plain t.tail) space)) (stands_then (string_text Plain s.characters) (tail_text Plain t.tail ++ space) a c d w t.stands);
       }
 
+  -- the datatype that is not written is an IRI all the same
   xsd_iri : IsIri xsd_string
   unfolding has
   xsd_iri = record { characters = refl; scheme = refl }
 
+  -- a string and a space: its datatype is xsd:string, whose length counts though it is not written
   pub plain_tail : (a b : List ℕ) → 39 ≤ limit → a ≡ 32 ∷ b → TailStands limit 0 a b
   plain_tail a b l e = record {
     tail = Typed xsd_string;
@@ -188,6 +205,7 @@ module _ (limit : ℕ) where
     stands = stands_byte 32 a b (omega arith) e;
   }
 
+  -- a language tag and a space
   pub tagged_tail : (a b c d : List ℕ) → a ≡ 64 ∷ b → TagStands b c → c ≡ 32 ∷ d → TailStands limit 1 a d
   tagged_tail a b c d e h f = record {
     tail = Lang h.tag;
@@ -197,6 +215,7 @@ module _ (limit : ℕ) where
     stands = spaced (64 ∷ h.tag) a c d (stands_then (64 ∷ []) h.tag a b c (stands_byte 64 a b (omega arith) e) h.stands) f;
   }
 
+  -- two carets, an IRI that is not that of xsd:string, and a space
   pub typed_tail : (i a b c d f g : List ℕ) → IsUtf8 i → bytes_eq i xsd_string ≡ false → a ≡ 94 ∷ b → b ≡ 94 ∷ c → c ≡ 60 ∷ d → IriStands limit (chars i) d f → f ≡ 32 ∷ g → TailStands limit 2 a g
   typed_tail i a b c d f g u n e k l h m =
       let other : bytes_eq (chars i) xsd_string ≡ false = same_type i u ∙ n in
@@ -218,28 +237,34 @@ module _ (limit : ℕ) where
       none NTriples = refl
       none NQuads = tt
 
+  -- a graph label is written as a subject is
   pub one_graph : (a b : List ℕ) → SubjectStands limit a b → GraphStands NQuads limit 1 a b
   one_graph a b h = record { graph = Some h.subject; is = h.is; labels = h.labels; within = h.within; fits = tt; count = refl; stands = h.stands }
 
 -- no token of a line is longer than the line, but for a datatype that is not written
 module _ (n : ℕ) (roomy : 64 ≤ n) where
+  -- a datatype that is not written has 41 characters, fewer than the 64 that are asked
   typed_short : (b : Bool) (i : List ℕ) → (b ≡ true → i ≡ xsd_string) → length (type_text Plain b i) ≤ n → length (iri_text Plain i) ≤ n
   typed_short true i e l = let k : length (iri_text Plain xsd_string) ≡ 41 = refl in let same : length (iri_text Plain i) ≡ length (iri_text Plain xsd_string) = ap (λ x. length (iri_text Plain x)) (e refl) in omega (arith, k, same)
   typed_short false i e l = omega arith
 
+  -- so what comes after a string keeps a limit that its text keeps
   tail_short : (t : Tail) → length (tail_text Plain t) ≤ n → TailShort Plain n t
   tail_short (Lang t) l = l
   tail_short (Typed i) l = typed_short (bytes_eq i xsd_string) i (bytes_eq-Decides i xsd_string).0 l
 
+  -- so does an object, its string and what comes after it
   term_short : (t : Term) → length (term_text Plain t) ≤ n → TermShort Plain n t
   term_short (Resource s) l = l
   term_short (Literal w t) l =
       let k = length-append (string_text Plain w) (tail_text Plain t) in (omega (arith, k), tail_short t (omega (arith, k)))
 
+  -- so does a graph label
   graph_short : (g : Option Subject) → length (graph_text Plain g) ≤ n → GraphShort Plain n g
   graph_short None l = tt
   graph_short (Some g) l = let k = length-append (subject_text Plain g) space in omega (arith, k)
 
+  -- so all tokens of a statement keep a limit that the line keeps
   tokens_within : (q : Quad) → length (statement_text q) ≤ n → TokensWithin Plain n q
   tokens_within q l =
       let a = subject_text Plain q.subject in
@@ -266,6 +291,7 @@ end_stands Lf a b e = stands_byte 10 a b (omega arith) e
 end_stands CrLf a b e = stands_then (13 ∷ []) (10 ∷ []) a (10 ∷ b) b (stands_byte 13 a (10 ∷ b) (omega arith) e) (stands_byte 10 (10 ∷ b) b (omega arith) refl)
 
 module _ (ending : LineEnding) where
+  -- the parts in a row, a dot and the end are a line that may be passed
   pub line_stands : (form : LineForm) (token limit m n : ℕ) (a b c d f g h : List ℕ) → SubjectStands limit a b → PredicateStands limit b c → ObjectStands limit m c d → GraphStands form limit n d f →
       f ≡ 46 ∷ g → g ≡ end_text ending ++ h → 64 ≤ token → length a ≤ token → LineStands ending form token limit (m + n + 3 + end_count ending) a h
   line_stands form token limit m n a b c d f g h s p o r e t roomy l = record {
@@ -305,15 +331,18 @@ module _ (ending : LineEnding) where
   pub lines_none : (form : LineForm) (token iri : ℕ) (a : List ℕ) → LinesStand ending form token iri 0 0 a a
   lines_none form token iri a = record { given = []; each = tt; quad_count = refl; token_count = refl; stands = refl }
 
+  -- the tokens of two lists of lines are counted together
   count-append : (qs rs : List Quad) → count ending (qs ++ rs) ≡ count ending qs + count ending rs
   count-append [] rs = omega arith
   count-append (q ∷ qs) rs = let h = count-append qs rs in omega (arith, h)
 
   module _ (form : LineForm) (token iri : ℕ) where
+    -- what holds of the quads of two lists holds of both in a row
     each-append : (qs rs : List Quad) → AllByRecursion (IsTaken form token iri) qs → AllByRecursion (IsTaken form token iri) rs → AllByRecursion (IsTaken form token iri) (qs ++ rs)
     each-append [] rs h k = k
     each-append (q ∷ qs) rs h k = (h.0, each-append qs rs h.1 k)
 
+    -- the lines so far and one line more
     pub lines_more : (n m k : ℕ) (a b c : List ℕ) → LinesStand ending form token iri n m a b → LineStands ending form token iri k b c → LinesStand ending form token iri (n + 1) (m + k) a c
     lines_more n m k a b c h l =
         let one = l.quad ∷ [] in
@@ -336,15 +365,18 @@ few_tokens (Literal w (Typed i)) = by (bytes_eq i xsd_string)
     by true = omega arith
     by false = omega arith
 
+-- a graph label has a character for its token
 label_long : (g : Option Subject) → graph_count g ≤ length (graph_text Plain g)
 label_long None = omega arith
 label_long (Some g) = let k = length-append (subject_text Plain g) space in omega (arith, k)
 
+-- and so has the end of a line
 end_long : (e : LineEnding) → end_count e ≤ length (end_text e)
 end_long Lf = omega arith
 end_long CrLf = omega arith
 
 module _ (ending : LineEnding) where
+  -- a line has a character for each of its tokens
   quad_long : (q : Quad) → quad_count ending q ≤ length (ended_line ending q)
   quad_long q =
       let a = subject_text Plain q.subject in
@@ -362,6 +394,7 @@ module _ (ending : LineEnding) where
       let p = length-append (flat_map (written Plain) q.predicate) (62 ∷ []) in
       omega (arith, e, f, h, i, j, k, m, o, p, few_tokens q.object, label_long q.graph, end_long ending)
 
+  -- and so have all lines, which have a token for each quad
   text_long : (qs : List Quad) → (count ending qs ≤ length (ended_lines ending qs)) × (length qs ≤ count ending qs)
   text_long [] = (omega arith, omega arith)
   text_long (q ∷ qs) =
@@ -369,6 +402,7 @@ module _ (ending : LineEnding) where
       let k = length-append (ended_line ending q) (ended_lines ending qs) in
       (omega (arith, r.0, k, quad_long q), omega (arith, r.1))
 
+  -- so the counts of what is passed are within the bytes, and cannot pass 64 bits
   pub lines_few : (form : LineForm) (token iri n m : ℕ) (a b : List ℕ) → LinesStand ending form token iri n m a b → (m + length b ≤ length a) × (n ≤ m)
   lines_few form token iri n m a b h =
       let l = text_long h.given in
@@ -378,6 +412,7 @@ module _ (ending : LineEnding) where
       let y = h.quad_count in
       (omega (arith, l.0, k, s, x), omega (arith, l.1, x, y))
 
+  -- and the loop over the lines comes nearer to the end with each
   pub line_goes_on : (form : LineForm) (token iri n : ℕ) (a b : List ℕ) → LineStands ending form token iri n a b → (n + length b ≤ length a) × (0 < n)
   line_goes_on form token iri n a b h =
       let k = length-le-encodes (ended_line ending h.quad) in

@@ -93,19 +93,24 @@ example_reads_back = bytes_read_back Tagged Plain example 80 writable (lit≤ tt
 abbrev faces : List Quad
 faces = record { subject = Blank (Label label); predicate = codes "http://a/é"; object = Literal (0x1F600 ∷ []) (Lang tag); graph = None } ∷ []
 
+-- by the definition it is this text
 pub ascii_written_so : text Tagged Ascii faces ≡ codes "_:na27 <http://a/\\u00E9> \"\\U0001F600\"@en-GB .\n"
 ascii_written_so = refl
 
+-- they are quads that may be written
 faces_writable : Writable Tagged faces
 unfolding has
 faces_writable = ((record { subject = label_is; predicate = record { characters = refl; scheme = refl }; object = (refl, tag_is); graph = tt }, record { subject = tt; object = tt; graph = tt }), tt)
 
+-- the label is ASCII, which the law of bytes asks
 low_label : AllByRecursion (λ c. c < 128) label
 low_label = (lit< tt, (lit< tt, (lit< tt, tt)))
 
+-- so each byte is below 128
 pub ascii_is_low : AllByRecursion (λ b. b < 128) (encode_utf8_all (text Tagged Ascii faces))
 ascii_is_low = ascii_written Tagged faces faces_writable (record { subject = low_label; object = tt; graph = tt }, tt)
 
+-- and it reads back with limits of 60
 pub ascii_reads_back : ReadsBack Tagged Ascii faces 60
 ascii_reads_back = bytes_read_back Tagged Ascii faces 60 faces_writable (lit≤ tt)
 
@@ -122,10 +127,12 @@ with_word = record { style = Tagged; escapes = Plain; prefix = word }
 abbrev with_other : Form
 with_other = record { style = Tagged; escapes = Plain; prefix = other }
 
+-- by the definition it is this text, with the word in each name
 pub prefixed_written : text_in with_word example ≡ codes "_:a7na27 <http://a/p> _:a7a27 .\n_:a7c27 <http://a/p> \"\\\"\\né\"@en-GB <http://a/p> .\n"
 unfolding digits
 prefixed_written = refl
 
+-- which reads back as the named quads
 pub prefixed_reads_back : ReadsBackIn with_word example 86
 unfolding digits
 prefixed_reads_back = form_reads_back with_word example 86 refl writable (lit≤ tt)
@@ -136,12 +143,14 @@ pub joined_reads_back : IsDocumentOf (in_lines NQuads 180 10) (encode_utf8_all (
 unfolding digits
 joined_reads_back = joined_read_back with_word with_other example example 180 10 refl refl refl writable writable (lit≤ tt)
 
+-- one label under two words of the same length is two nodes
 pub one_label_in_two_documents_apart : name_node with_word (Label label) ≢ name_node with_other (Label label)
 one_label_in_two_documents_apart = forms_apart with_word with_other (Label label) (Label label) refl (λ e. let z : 97 ≡ 98 = heads e in omega arith) tt tt
   where
     heads : {c d : ℕ} {u v : List ℕ} → c ∷ u ≡ d ∷ v → c ≡ d
     heads e = cc
 
+-- a label that looks like an offset stays apart from the node of that offset, with a word too
 pub label_and_node_apart_with_a_word : name_node with_word (Label label) ≢ name_node with_word (Anon 27)
 label_and_node_apart_with_a_word e = let same : Label label ≡ Anon 27 = names_apart with_word (Label label) (Anon 27) label_is (lit< tt) e in cc
 
@@ -230,6 +239,7 @@ abbrev line_tokens : List Token
 line_tokens =
     spelled IriRef 0 (codes "<a:>") ∷ spelled IriRef 5 (codes "<a:>") ∷ spelled IriRef 10 (codes "<a:>") ∷ spelled Dot 14 (codes ".") ∷ spelled LineEnd 15 (codes "\n") ∷ []
 
+-- the scanner's tokens of it, computed
 line_read : (tokens_of Lines 8 one_line false).tokens ≡ line_tokens
 unfolding tokens_of tokens read step kind_of is_live shape has chars utf8_valid_len utf8_error_len is_utf8 encode is_fit
 line_read = refl
@@ -237,6 +247,7 @@ line_read = refl
 abbrev line_quad : Quad
 line_quad = record { subject = Iri (codes "a:"); predicate = codes "a:"; object = Resource (Iri (codes "a:")); graph = None }
 
+-- they are a statement, and bring its quad
 line_ran : run has_scheme NTriples Begin line_tokens ≡ ran Begin (line_quad ∷ [])
 unfolding has
 line_ran = refl

@@ -29,14 +29,17 @@ node_same (Label x) = refl
 node_same (Anon n) = refl
 node_same (Cell n) = refl
 
+-- so an IRI or a node stays as it is
 subject_same : (s : Subject) → prefix_subject [] s ≡ s
 subject_same (Iri i) = refl
 subject_same (Blank n) = ap Blank (node_same n)
 
+-- so does an object
 term_same : (t : Term) → prefix_term [] t ≡ t
 term_same (Resource s) = ap Resource (subject_same s)
 term_same (Literal w t) = refl
 
+-- so does a graph label
 graph_same : (g : Option Subject) → prefix_graph [] g ≡ g
 graph_same None = refl
 graph_same (Some g) = ap Some (subject_same g)
@@ -61,6 +64,7 @@ text_unprefixed s e (q ∷ qs) = ap (λ x. x ++ text_in (unprefixed s e) qs) (li
 pub no_chars : chars [] ≡ []
 no_chars = chars-nil
 
+-- so the form without a word is one of the forms that the laws speak of
 pub no_word : IsNodePrefix (chars [])
 no_word = ap (all_have is_word_char) chars-nil
 
@@ -69,25 +73,30 @@ word_begins : (c : ℕ) → is_word_char c ≡ true → (has (pn_u Lines) c ≡ 
 unfolding has
 word_begins c h = ⊎_elim (λ l. inl (grind (arith, nat_tests))) (λ d. inr (grind (arith, nat_tests))) (or_cases (is_letter c) (is_digit c) h)
 
+-- a word in front of a label makes a label
 prefixed_label : (p : List ℕ) → IsNodePrefix p → (x : List ℕ) → IsLabel x → IsLabel (p ++ x)
 prefixed_label [] h x l = l
 prefixed_label (c ∷ p) h x l =
     let a = and_parts (is_word_char c) (all_have is_word_char p) h in
     label_front c (p ++ x) (word_begins c a.0) (prefixed_label p a.1 x l)
 
+-- so a node with a word in front can be written
 prefixed_node : (p : List ℕ) → IsNodePrefix p → (n : Node) → IsNode n → CanWriteNode Kept n → IsNode (prefix_node p n) × CanWriteNode Kept (prefix_node p n)
 prefixed_node p h (Label x) i c = (prefixed_label p h x i, tt)
 prefixed_node p h (Anon n) i c = absurd c
 prefixed_node p h (Cell n) i c = absurd c
 
+-- and so can a subject
 prefixed_subject : (p : List ℕ) → IsNodePrefix p → (s : Subject) → IsSubject s → CanWriteSubject Kept s → IsSubject (prefix_subject p s) × CanWriteSubject Kept (prefix_subject p s)
 prefixed_subject p h (Iri i) f c = (f, tt)
 prefixed_subject p h (Blank n) f c = prefixed_node p h n f c
 
+-- and so can an object
 prefixed_term : (p : List ℕ) → IsNodePrefix p → (t : Term) → IsTerm t → CanWriteTerm Kept t → IsTerm (prefix_term p t) × CanWriteTerm Kept (prefix_term p t)
 prefixed_term p h (Resource s) f c = prefixed_subject p h s f c
 prefixed_term p h (Literal w t) f c = (f, tt)
 
+-- and so can a graph label
 prefixed_graph : (p : List ℕ) → IsNodePrefix p → (g : Option Subject) → IsGraph g → CanWriteGraph Kept g → IsGraph (prefix_graph p g) × CanWriteGraph Kept (prefix_graph p g)
 prefixed_graph p h None f c = (tt, tt)
 prefixed_graph p h (Some g) f c = prefixed_subject p h g f c
@@ -146,6 +155,7 @@ word_low (c ∷ p) h = let a = and_parts (is_word_char c) (all_have is_word_char
     char_low : (c : ℕ) → is_word_char c ≡ true → c < 128
     char_low c h = grind (arith, nat_tests)
 
+-- a word of ASCII keeps a name of ASCII
 pub named_low : (f : Form) → IsNodePrefix f.prefix → (n : Node) → HasAsciiLabel n → HasAsciiLabel (name_node f n)
 named_low f p n h = prefixed_low (rename_node f.style n) (renamed_low f.style n h)
   where

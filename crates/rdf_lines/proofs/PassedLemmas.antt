@@ -28,9 +28,11 @@ past_text [] bytes rest u e = subst IsUtf8 e u
 past_text (c ∷ w) bytes rest u e =
     past_text w (encodes w ++ rest) rest (IsUtf8-past_char bytes (encodes w ++ rest) c u (e ∙ append_assoc (encode c) (encodes w) rest)) refl
 
+-- so the code may go on with what is left after the lines
 pub rest_utf8 : (ending : LineEnding) (form : LineForm) (token iri n m : ℕ) (a b : List ℕ) → IsUtf8 a → LinesStand ending form token iri n m a b → IsUtf8 b
 rest_utf8 ending form token iri n m a b u h = past_text (ended_lines ending h.given) a b u h.stands
 
+-- the code asks this by a test, and the law needs the mode itself
 pub begins : (m : Mode) → is_begin m ≡ true → m ≡ Begin
 begins Begin e = refl
 begins (AfterSubject s) e = absurd (let h : false ≡ true = e in cc)
@@ -56,6 +58,7 @@ at_reader ending r g e l bytes quads tokens lines b =
 pub none_are_lines : (ending : LineEnding) (form : LineForm) (token iri : ℕ) → AreLines ending form token iri 0 0 []
 none_are_lines ending form token iri = record { given = []; canonical = record { is = refl; each = tt }; quad_count = refl; token_count = refl }
 
+-- a grammar that passes nothing leaves the reader as it is
 pub passes_none : (ending : LineEnding) (r : Driven LineAt) → PassesLines ending r [] r
 passes_none ending r = record {
   given = [];
@@ -74,6 +77,7 @@ can_pass_less r n m e l =
     and_from (not r.done) (is_idle r.scanner && nat_le (r.scanner.taken.offset + m) most_bytes) (ap not p.0)
     (and_from (is_idle r.scanner) (nat_le (r.scanner.taken.offset + m) most_bytes) p.1 (le-leb (r.scanner.taken.offset + m) most_bytes (omega (arith, room))))
 
+-- where a reader may pass some bytes, they are within its bound on bytes
 pub can_pass_few : (r : Driven LineAt) (n : ℕ) → can_pass r n ≡ true → n ≤ most_bytes
 can_pass_few r n e = let p = can_pass-parts r n e in let room = p.2 in omega (arith, room)
 

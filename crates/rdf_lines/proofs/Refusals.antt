@@ -115,6 +115,7 @@ fell k l a test r (inr (h, m, same)) n e =
 
 -- A run under a test goes the same way under a wider one.
 module _ (narrow wide : List ℕ → Bool) (wider : (i : List ℕ) → narrow i ≡ true → wide i ≡ true) where
+  -- of one token: a test that passes more refuses nothing that went on
   wider_one : (k : Kind) (l : Leaf) (a : (List ℕ → Bool) → Answer) (more : (List ℕ → Bool) → Mode → Run) (n : Mode) (qs : List Quad) → Tested k l a →
       go_on (a narrow) (more narrow) ≡ ran n qs → go_on (a wide) (more narrow) ≡ ran n qs
   wider_one k l a more n qs (inl (x, h, same)) e = ap (λ y. go_on y (more narrow)) (same wide ∙ sym (same narrow)) ∙ e
@@ -124,6 +125,7 @@ module _ (narrow wide : List ℕ → Bool) (wider : (i : List ℕ) → narrow i 
       (λ t. absurd (let z : refused (iri_refused (iri_of l)) ≡ ran n qs = sym (ap (λ y. go_on y (more narrow)) (same narrow ∙ absolute_refuses narrow (iri_of l) m t)) ∙ e in cc))
       (cases_Bool (narrow (iri_of l)))
 
+  -- so a run that goes on under one test goes on under one that passes more, to the same quads
   pub wider_run : (f : LineForm) (ts : List Token) (m n : Mode) (qs : List Quad) → run narrow f m ts ≡ ran n qs → run wide f m ts ≡ ran n qs
   wider_run f [] m n qs e = e
   wider_run f (t ∷ ts) m n qs e =
@@ -178,10 +180,12 @@ module _ (n : ℕ) (f : LineForm) (ts : List Token) (t : Token) (m : Mode) (qs :
   unexpected a v =
       not_viable any_iri f ts t m qs Unexpected (in_trees n f ts m qs e) (unexpected_same t.kind (leaf_of t) one (is_taken n) any_iri (tested f m t.kind (leaf_of t)) a) v
 
+  -- nor does it begin a document, whose IRIs have schemes
   pub unexpected_not_viable : one (is_taken n) ≡ refuses Unexpected → Viable (documents f) (ts ++ t ∷ []) → ⊥
   unexpected_not_viable a v =
       not_viable has_scheme f ts t m qs Unexpected (in_documents n f ts m qs e) (unexpected_same t.kind (leaf_of t) one (is_taken n) has_scheme (tested f m t.kind (leaf_of t)) a) v
 
+  -- a refusal that is not of the kind is one of an IRI by the test
   fell_here : (r : Reason) → r ≢ Unexpected → one (is_taken n) ≡ refuses r → Fell (leaf_of t) t.kind one (is_taken n) r
   fell_here r x a = fell t.kind (leaf_of t) one (is_taken n) r (tested f m t.kind (leaf_of t)) x a
 
@@ -191,9 +195,11 @@ module _ (n : ℕ) (f : LineForm) (ts : List Token) (t : Token) (m : Mode) (qs :
   taken_by test r x h s =
       run_one test f ts t Begin m qs s ∙ ap (λ y. with_quads qs (go_on y (λ k. ran k []))) (x.other test ∙ absolute_goes test (iri_of (leaf_of t)) x.mode h)
 
+  -- so is a refusal as relative
   relative_fell : one (is_taken n) ≡ refuses RelativeIri → Fell (leaf_of t) t.kind one (is_taken n) RelativeIri
   relative_fell a = fell_here RelativeIri (λ z. cc) a
 
+  -- whose IRI has no scheme, as the reason says
   no_scheme : one (is_taken n) ≡ refuses RelativeIri → has_scheme (iri_of (leaf_of t)) ≡ false
   no_scheme a =
       ⊎_elim
@@ -207,14 +213,17 @@ module _ (n : ℕ) (f : LineForm) (ts : List Token) (t : Token) (m : Mode) (qs :
       let x = relative_fell a in
       (viable_ran any_iri f refl (ts ++ t ∷ []) x.mode (qs ++ []) (taken_by any_iri RelativeIri x refl (in_trees n f ts m qs e)), x.is_iri, no_scheme a)
 
+  -- and no document goes on with it
   pub relative_not_viable : one (is_taken n) ≡ refuses RelativeIri → Viable (documents f) (ts ++ t ∷ []) → ⊥
   relative_not_viable a v =
       let x = relative_fell a in
       not_viable has_scheme f ts t m qs (iri_refused (iri_of (leaf_of t))) (in_documents n f ts m qs e) (x.other has_scheme ∙ absolute_refuses has_scheme (iri_of (leaf_of t)) x.mode (no_scheme a)) v
 
+  -- so is a refusal as too long
   long_fell : one (is_taken n) ≡ refuses IriTooLong → Fell (leaf_of t) t.kind one (is_taken n) IriTooLong
   long_fell a = fell_here IriTooLong (λ z. cc) a
 
+  -- whose IRI has a scheme, so the limit alone is in its way
   with_scheme : one (is_taken n) ≡ refuses IriTooLong → has_scheme (iri_of (leaf_of t)) ≡ true
   with_scheme a =
       ⊎_elim

@@ -52,8 +52,8 @@ many_before : (r : Regex) (u w : List ℕ) → Matches r u → Matches (many r) 
 many_before r u w m n = (u ∷ n.0, (m, n.1), ap (λ x. u ++ x) n.2)
 
 -- one more at its end
-many_behind : (r : Regex) (w u : List ℕ) → Matches (many r) w → Matches r u → Matches (many r) (w ++ u)
-many_behind r w u n m = subst (λ x. Matches (many r) (x ++ u)) (sym n.2) (at n.0 n.1)
+many_then : (r : Regex) (w u : List ℕ) → Matches (many r) w → Matches r u → Matches (many r) (w ++ u)
+many_then r w u n m = subst (λ x. Matches (many r) (x ++ u)) (sym n.2) (at n.0 n.1)
   where
     at : (ps : List (List ℕ)) → AllByRecursion (Matches r) ps → Matches (many r) (concat ps ++ u)
     at [] a = (u ∷ [], (m, tt), sym (append-nil u))
@@ -78,7 +78,7 @@ label_more : (x : List ℕ) (c : ℕ) → has (pn_char Lines) c ≡ true → IsL
 label_more x c h m =
     let end : Matches rest (m.1 ++ c ∷ []) = ⊎_elim
     (λ e. subst (λ y. Matches rest (y ++ c ∷ [])) (sym e) (inr ([], c ∷ [], ([], tt, refl), (c, h, refl), refl)))
-    (λ t. inr (m.1, c ∷ [], subst (Matches (many middle)) (sym t.4) (many_behind middle t.0 t.1 t.2 (inl t.3)), (c, h, refl), refl))
+    (λ t. inr (m.1, c ∷ [], subst (Matches (many middle)) (sym t.4) (many_then middle t.0 t.1 t.2 (inl t.3)), (c, h, refl), refl))
     m.3 in
     (m.0, m.1 ++ c ∷ [], m.2, end, ap (λ y. y ++ c ∷ []) m.4 ∙ append_assoc m.0 m.1 (c ∷ []))
 

@@ -9,7 +9,7 @@ use Rattle.rdf_terms.specs.declared.kind.Kind.TheVariants.{IriRef, LabelNode, Sh
 use Rattle.rdf_terms.specs.declared.reason.Reason.TheVariants.{RelativeIri, IriTooLong}
 use Rattle.rdf_terms.specs.Shapes.{shape, Shape}
 use Rattle.rdf_terms.specs.Terms.{all_have, has_scheme, IsIri, IsLabel, IsTag}
-use Rattle.rdf_terms.specs.Values.{Spot, outside, slash, digits, Move, leads, means, fails, of_iri, allowed, hex_value, digit_move, move, go, value, iri_value, string_value, inside, is_fit}
+use Rattle.rdf_terms.specs.Values.{EscapeState, outside, slash, digits, Move, leads, means, fails, of_iri, allowed, hex_value, digit_move, move, go, value, iri_value, string_value, inside, is_fit}
 use Rattle.rdf_iri.specs.Texts.{byte_len}
 use Rattle.rdf_iri.proofs.ResolvedText.{byte_len-chars}
 use Rattle.rdf_lines.specs.Machine.{is_taken, iri_refused}
@@ -57,7 +57,7 @@ digit_fits zero n = ⊎_elim (λ h. subst Fits (sym (cond-true _ _ _ h)) (allowe
 digit_fits (suc k) n = tt
 
 -- each character that the walk over an IRIREF gives is one that IRIREF has
-move_fits : (s : Spot) (c : ℕ) → Fits (move of_iri s c)
+move_fits : (s : EscapeState) (c : ℕ) → Fits (move of_iri s c)
 move_fits outside c = cond_both (c == 92) (leads slash) (allowed of_iri c) Fits (λ h. tt) (λ h. allowed_fits c)
 move_fits slash c =
     cond_both (c == 117) (leads (digits 4 0)) (cond (c == 85) (leads (digits 8 0)) fails) Fits (λ h. tt)
@@ -67,7 +67,7 @@ move_fits (digits (suc k) n) c =
     cond_both (has hex_digit c) (digit_move of_iri k (16 * n + hex_value c)) fails Fits (λ h. digit_fits k (16 * n + hex_value c)) (λ h. tt)
 
 -- so an IRIREF means characters of IRIREF alone
-iri_characters : (s : Spot) (w v : List ℕ) → value of_iri s w ≡ Some v → all_have (has iri_char) v ≡ true
+iri_characters : (s : EscapeState) (w v : List ℕ) → value of_iri s w ≡ Some v → all_have (has iri_char) v ≡ true
 iri_characters outside [] v e = let h : [] ≡ v = cc in subst (λ x. all_have (has iri_char) x ≡ true) h refl
 iri_characters slash [] v e = absurd (let h : None ≡ Some v = e in cc)
 iri_characters (digits k n) [] v e = absurd (let h : None ≡ Some v = e in cc)
@@ -77,7 +77,7 @@ iri_characters s (c ∷ w) v e = by_move (move of_iri s c) (move_fits s c) (λ t
     head c None v e = absurd (let h : None ≡ Some v = e in cc)
     head c (Some u) v e = (u, refl, cc)
 
-    by_move : (m : Move) → Fits m → ((t : Spot) (u : List ℕ) → value of_iri t w ≡ Some u → all_have (has iri_char) u ≡ true) → (v : List ℕ) →
+    by_move : (m : Move) → Fits m → ((t : EscapeState) (u : List ℕ) → value of_iri t w ≡ Some u → all_have (has iri_char) u ≡ true) → (v : List ℕ) →
         go m (λ t. value of_iri t w) ≡ Some v → all_have (has iri_char) v ≡ true
     by_move (leads t) f h v e = h t v e
     by_move (means d) f h v e =
@@ -91,12 +91,15 @@ is_iri w v e s = record { characters = iri_characters outside w v e; scheme = s 
 
 -- The bytes of a text are those of its characters, so its length decides whether an IRI is taken.
 module _ (n : ℕ) (bytes : List ℕ) (utf8 : IsUtf8 bytes) (scheme : has_scheme (chars bytes) ≡ true) where
+  -- the code compares bytes, the definition the bytes of characters: they are as many
   size : byte_len (chars bytes) ≡ length bytes
   size = byte_len-chars bytes utf8
 
+  -- an IRI with a scheme within the limit is taken
   pub short_taken : length bytes ≤ n → is_taken n (chars bytes) ≡ true
   short_taken l = and_from (has_scheme (chars bytes)) (not (nat_lt n (byte_len (chars bytes)))) scheme (ap not (le-ltb n (byte_len (chars bytes)) (omega (arith, size))))
 
+  -- one over it is refused, and for its length
   pub long_refused : n < length bytes → (is_taken n (chars bytes) ≡ false) × (iri_refused (chars bytes) ≡ IriTooLong)
   long_refused l = (
     and_right (has_scheme (chars bytes)) (not (nat_lt n (byte_len (chars bytes)))) (ap not (lt-ltb n (byte_len (chars bytes)) (omega (arith, size)))),

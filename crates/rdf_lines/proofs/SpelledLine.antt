@@ -146,32 +146,39 @@ short_both limit [] us h k = k
 short_both limit (t ∷ ts) us h k = (h.0, short_both limit ts us h.1 k)
 
 module _ (form : Escapes) where
+  -- an IRI in its brackets, as the scanner finds it
   spells_iri : (limit : ℕ) (i : List ℕ) → IsIri i → Spells limit (iri_text form i ++ space) (alone IriRef (iri_text form i))
   spells_iri limit i h =
       spells_before_space limit 60 (flat_map (written form) i ++ 62 ∷ []) IriRef (λ v. refl) (kind_at 60 IriRef begins_iri (flat_map (written form) i ++ 62 ∷ []) (iri_shape form i h.characters)) (iri_fit form i h.characters)
       (λ v. cut_by_other 60 IriRef begins_iri (flat_map (written form) i ++ 62 ∷ []) 32 v iri_space)
 
+  -- a label has the shape of its token
   label_shape : (x : List ℕ) → IsLabel x → Matches (shape Lines LabelNode) (95 ∷ 58 ∷ x)
   unfolding shape has
   label_shape x h = (95 ∷ 58 ∷ [], x, (95 ∷ [], 58 ∷ [], (95, refl, refl), (58 ∷ [], [], (58, refl, refl), refl, refl), refl), h, refl)
 
+  -- and no escape that could be wrong
   label_fit : (w : List ℕ) → is_fit LabelNode w ≡ true
   unfolding is_fit
   label_fit w = refl
 
+  -- so it is one token
   spells_label : (limit : ℕ) (x : List ℕ) → IsLabel x → Spells limit (95 ∷ 58 ∷ x ++ space) (alone LabelNode (95 ∷ 58 ∷ x))
   spells_label limit x h =
       spells_before_space limit 95 (58 ∷ x) LabelNode (λ v. refl) (kind_at 95 LabelNode begins_label (58 ∷ x) (label_shape x h)) (label_fit (95 ∷ 58 ∷ x))
       (λ v. cut_by_other 95 LabelNode begins_label (58 ∷ x) 32 v label_space)
 
+  -- a language tag has the shape of its token
   tag_shape : (t : List ℕ) → IsTag t → Matches (shape Lines LangTag) (64 ∷ t)
   unfolding shape has
   tag_shape t h = (64 ∷ [], t, (64, refl, refl), h, refl)
 
+  -- and no escape that could be wrong
   tag_fit : (w : List ℕ) → is_fit LangTag w ≡ true
   unfolding is_fit
   tag_fit w = refl
 
+  -- so it is one token
   spells_tag : (limit : ℕ) (t : List ℕ) → IsTag t → Spells limit (64 ∷ t ++ space) (alone LangTag (64 ∷ t))
   spells_tag limit t h =
       spells_before_space limit 64 t LangTag (λ v. refl) (kind_at 64 LangTag begins_tag t (tag_shape t h)) (tag_fit (64 ∷ t))
@@ -184,23 +191,28 @@ module _ (form : Escapes) where
       longer : (x : ℕ) × (u : List ℕ) × Matches (any_shape Lines kinds) (string_text form w ++ x ∷ u) → ⊥
       longer m = string_ends form w a m.0 m.1 (shape_at 34 ShortString begins_string _ m.2)
 
+  -- so a string is one token whatever comes after it
   spells_string : (limit : ℕ) (w : List ℕ) → all_have scalar w ≡ true → Spells limit (string_text form w) (alone ShortString (string_text form w))
   spells_string limit w a =
       spells_alone limit 34 (flat_map (escaped form) w ++ 34 ∷ []) ShortString (λ v. refl) (kind_at 34 ShortString begins_string _ (string_shape form w a)) (string_fit form w a)
       (λ v. cut_by_shape 34 ShortString begins_string _ v (string_ends form w a)) (string_dead w a)
 
+  -- two carets are a token, which nothing makes longer
   spells_carets : (limit : ℕ) → Spells limit (94 ∷ 94 ∷ []) (alone Carets (94 ∷ 94 ∷ []))
   unfolding kind_of is_live shape has is_fit
   spells_carets limit = spells_alone limit 94 (94 ∷ []) Carets (λ v. refl) refl refl (λ v. cut_by_dead (94 ∷ 94 ∷ []) v refl) refl
 
+  -- so is the dot
   spells_dot : (limit : ℕ) → Spells limit (46 ∷ []) (alone Dot (46 ∷ []))
   unfolding kind_of is_live shape has is_fit
   spells_dot limit = spells_alone limit 46 [] Dot (λ v. refl) refl refl (λ v. cut_by_dead (46 ∷ []) v refl) refl
 
+  -- so is a line feed
   pub spells_line_end : (limit : ℕ) → Spells limit (10 ∷ []) (alone LineEnd (10 ∷ []))
   unfolding kind_of is_live shape has is_fit
   spells_line_end limit = spells_alone limit 10 [] LineEnd (λ v. refl) refl refl (λ v. cut_by_dead (10 ∷ []) v refl) refl
 
+  -- so is a CR, which stands before it in lines that end in both
   pub spells_cr : (limit : ℕ) → Spells limit (13 ∷ []) (alone LineEnd (13 ∷ []))
   unfolding kind_of is_live shape has is_fit
   spells_cr limit = spells_alone limit 13 [] LineEnd (λ v. refl) refl refl (λ v. cut_by_dead (13 ∷ []) v refl) refl
@@ -248,12 +260,14 @@ module _ (form : Escapes) where
   document_tree p [] = last L.empty (leaf [] p)
   document_tree p (q ∷ qs) = next (L.one (statement_tree p q)) (leaf (10 ∷ []) (past p (upto_graph q ++ 46 ∷ []))) (document_tree (past p (quad_text form q)) qs)
 
+  -- a subject is one token
   spells_name : (limit : ℕ) (s : Subject) → IsSubject s → CanWriteSubject Kept s → Spells limit (subject_text form s ++ space) (λ p. name_tokens (name_tree p s))
   spells_name limit (Iri i) h c = spells_iri limit i h
   spells_name limit (Blank (Label x)) h c = spells_label limit x h
   spells_name limit (Blank (Anon n)) h c = absurd c
   spells_name limit (Blank (Cell n)) h c = absurd c
 
+  -- a literal with a datatype is one token, or three where the type is written
   spells_typed : (limit : ℕ) (b : Bool) (w i : List ℕ) → all_have scalar w ≡ true → IsIri i → Spells limit (string_text form w ++ type_text form b i ++ space) (λ p. object_tokens (typed_tree b p w i))
   spells_typed limit true w i a h =
       subst (λ x. Spells limit x (λ p. object_tokens (typed_tree true p w i))) (ap (λ x. x ++ space) (sym (append-nil (string_text form w))))
@@ -264,6 +278,7 @@ module _ (form : Escapes) where
       (spells_string limit w a)
       (spells_then limit (94 ∷ 94 ∷ []) (iri_text form i ++ space) (alone Carets (94 ∷ 94 ∷ [])) (alone IriRef (iri_text form i)) (spells_carets limit) (spells_iri limit i h)))
 
+  -- an object has the tokens of its tree
   spells_object : (limit : ℕ) (t : Term) → IsTerm t → CanWriteTerm Kept t → Spells limit (term_text form t ++ space) (λ p. object_tokens (object_tree p t))
   spells_object limit (Resource s) h c = spells_name limit s h c
   spells_object limit (Literal w (Lang t)) h c =
@@ -271,10 +286,12 @@ module _ (form : Escapes) where
       (spells_then limit (string_text form w) (64 ∷ t ++ space) (alone ShortString (string_text form w)) (alone LangTag (64 ∷ t)) (spells_string limit w h.0) (spells_tag limit t h.1))
   spells_object limit (Literal w (Typed i)) h c = spells_typed limit (bytes_eq i xsd_string) w i h.0 h.1
 
+  -- so has a graph label
   spells_graph : (limit : ℕ) (g : Option Subject) → IsGraph g → CanWriteGraph Kept g → Spells limit (graph_text form g) (λ p. graph_tokens (graph_tree p g))
   spells_graph limit None h c = spells_nothing limit
   spells_graph limit (Some g) h c = spells_name limit g h c
 
+  -- so has a statement, up to its dot
   pub spells_statement : (limit : ℕ) (q : Quad) → IsQuad q → CanWrite Kept q → Spells limit (upto_graph q ++ 46 ∷ []) (λ p. statement_tokens (statement_tree p q))
   spells_statement limit q h c =
       spells_then limit (upto_graph q) (46 ∷ [])
@@ -293,11 +310,13 @@ module _ (form : Escapes) where
       (spells_graph limit q.graph h.graph c.graph))
       (spells_dot limit)
 
+  -- and a line, up to its end
   spells_line : (limit : ℕ) (q : Quad) → IsQuad q → CanWrite Kept q →
       Spells limit (quad_text form q) (λ p. statement_tokens (statement_tree p q) ++ alone LineEnd (10 ∷ []) (past p (upto_graph q ++ 46 ∷ [])))
   spells_line limit q h c =
       spells_then limit (upto_graph q ++ 46 ∷ []) (10 ∷ []) (λ p. statement_tokens (statement_tree p q)) (alone LineEnd (10 ∷ [])) (spells_statement limit q h c) (spells_line_end limit)
 
+  -- after the last line only the end is read
   reads_end : (limit : ℕ) (p : Place) → tokens Lines limit ended false p [] ≡ record { tokens = alone End [] p; outcome = complete; at = p }
   unfolding step
   reads_end limit p = at_stop Lines limit ended false p [] complete (ends limit)
@@ -305,6 +324,7 @@ module _ (form : Escapes) where
       ends : (limit : ℕ) → step Lines limit ended [] ≡ stop complete
       ends limit = cond-false (over Lines limit []) _ _ (and_left (nat_lt limit 0) _ (le-ltb limit 0 (omega arith)))
 
+  -- the tokens have no more characters than the text, so a limit of its length suffices
   text_size : (limit : ℕ) (qs : List Quad) → Written qs → (p : Place) → total (document_tokens (document_tree p qs)) ≤ length (flat_map (quad_text form) qs)
   text_size limit [] h p = omega arith
   text_size limit (q ∷ qs) h p =
@@ -317,6 +337,7 @@ module _ (form : Escapes) where
       let parts : total (f ++ (e ++ ts)) ≡ total (f ++ e) + total ts = ap total (sym (append_assoc f e ts)) ∙ total-append (f ++ e) ts in
       omega (arith, line, more, parts, length-append w (flat_map (quad_text form) qs))
 
+  -- the scanner finds the tokens of the tree in all lines, where none is too long
   reads_text : (limit : ℕ) (qs : List Quad) → Written qs → (p : Place) → AllShort limit (document_tokens (document_tree p qs)) →
       tokens Lines limit ended false p (flat_map (quad_text form) qs) ≡ record { tokens = document_tokens (document_tree p qs); outcome = complete; at = past p (flat_map (quad_text form) qs) }
   reads_text limit [] h p s = reads_end limit p
@@ -333,23 +354,28 @@ module _ (form : Escapes) where
       ∙ (ap (λ (x : List Token). record { tokens = x; outcome = complete; at = past (past p w) rest }) (append_assoc f e (document_tokens (document_tree (past p w) qs)))
       ∙ ap (λ (x : Place). record { tokens = document_tokens (document_tree p (q ∷ qs)); outcome = complete; at = x }) (sym (past-append w rest p))))
 
+  -- the token of a subject is as long as its text
   pub name_short : (limit : ℕ) (p : Place) (s : Subject) → length (subject_text form s) ≤ limit → AllShort limit (name_tokens (name_tree p s))
   name_short limit p (Iri i) h = (h, tt)
   name_short limit p (Blank n) h = (h, tt)
 
+  -- those of a literal with a datatype are its string, its IRI, and the two carets
   typed_short : (limit : ℕ) (p : Place) (b : Bool) (w i : List ℕ) → 2 ≤ limit → length (string_text form w) ≤ limit → length (iri_text form i) ≤ limit → AllShort limit (object_tokens (typed_tree b p w i))
   typed_short limit p true w i t h k = (h, tt)
   typed_short limit p false w i t h k = (h, (t, (k, tt)))
 
+  -- those of an object keep the limit where its parts do
   object_short : (limit : ℕ) (p : Place) (t : Term) → 2 ≤ limit → TermShort form limit t → AllShort limit (object_tokens (object_tree p t))
   object_short limit p (Resource s) e h = name_short limit p s h
   object_short limit p (Literal w (Lang t)) e h = (h.0, (h.1, tt))
   object_short limit p (Literal w (Typed i)) e h = typed_short limit p (bytes_eq i xsd_string) w i e h.0 h.1
 
+  -- that of a graph label is as long as its text
   graph_short : (limit : ℕ) (p : Place) (g : Option Subject) → GraphShort form limit g → AllShort limit (graph_tokens (graph_tree p g))
   graph_short limit p None h = tt
   graph_short limit p (Some g) h = name_short limit p g h
 
+  -- so those of a statement and its dot keep the limit
   pub statement_short : (limit : ℕ) (p : Place) (q : Quad) → 2 ≤ limit → TokensWithin form limit q → AllShort limit (statement_tokens (statement_tree p q))
   statement_short limit p q e h =
       let s = statement_tree p q in
@@ -364,6 +390,7 @@ module _ (form : Escapes) where
       (graph_short limit (past p (upto_object q)) q.graph h.graph))
       (omega arith, tt)
 
+  -- those of all lines: this is how the limit on tokens is met
   pub document_short : (limit : ℕ) (qs : List Quad) → 2 ≤ limit → AllByRecursion (TokensWithin form limit) qs → (p : Place) → AllShort limit (document_tokens (document_tree p qs))
   document_short limit [] e h p = (omega arith, tt)
   document_short limit (q ∷ qs) e h p =
@@ -371,21 +398,26 @@ module _ (form : Escapes) where
       (statement_short limit p q e h.0)
       (omega arith, document_short limit qs e h.1 (past p (quad_text form q)))
 
+  -- the token of a written IRI means the IRI
   iri_leaf : (i : List ℕ) → IsIri i → (p : Place) → iri_of (leaf (iri_text form i) p) ≡ i
   iri_leaf i h p = ap (λ x. unwrap_or (iri_value x) []) (inside_one 60 62 (flat_map (written form) i)) ∙ ap (λ x. unwrap_or x []) (iri_meant form i h.characters)
 
+  -- the token of a written string means its characters
   string_leaf : (w : List ℕ) → all_have scalar w ≡ true → (p : Place) → string_of (leaf (string_text form w) p) ≡ w
   string_leaf w a p = ap (λ x. unwrap_or (string_value x) []) (inside_one 34 34 (flat_map (escaped form) w)) ∙ ap (λ x. unwrap_or x []) (string_meant form w a)
 
+  -- and the IRI has its scheme, so the reader takes it
   iri_bound : (i : List ℕ) → IsIri i → (p : Place) → has_scheme (iri_of (leaf (iri_text form i) p)) ≡ true
   iri_bound i h p = ap has_scheme (iri_leaf i h p) ∙ h.scheme
 
+  -- the tree of a subject means the subject
   name_meant : (p : Place) (s : Subject) → IsSubject s → CanWriteSubject Kept s → (subject_of (name_tree p s) ≡ s) × name_bound has_scheme (name_tree p s)
   name_meant p (Iri i) h c = (ap Iri (iri_leaf i h p), iri_bound i h p)
   name_meant p (Blank (Label x)) h c = (refl, tt)
   name_meant p (Blank (Anon n)) h c = absurd c
   name_meant p (Blank (Cell n)) h c = absurd c
 
+  -- that of a literal with a datatype means the literal, also where the datatype is left out
   typed_meant : (p : Place) (b : Bool) (w i : List ℕ) → (b ≡ true → i ≡ xsd_string) → all_have scalar w ≡ true → IsIri i →
       (term_of (typed_tree b p w i) ≡ Literal w (Typed i)) × object_bound has_scheme (typed_tree b p w i)
   typed_meant p true w i e a h = (ap (λ x. Literal x (Typed xsd_string)) (string_leaf w a p) ∙ ap (λ x. Literal w (Typed x)) (sym (e refl)), tt)
@@ -394,15 +426,18 @@ module _ (form : Escapes) where
     iri_bound i h (past (past p (string_text form w)) (94 ∷ 94 ∷ [])),
   )
 
+  -- that of an object means the object
   object_meant : (p : Place) (t : Term) → IsTerm t → CanWriteTerm Kept t → (term_of (object_tree p t) ≡ t) × object_bound has_scheme (object_tree p t)
   object_meant p (Resource s) h c = let m = name_meant p s h c in (ap Resource m.0, m.1)
   object_meant p (Literal w (Lang t)) h c = (ap (λ x. Literal x (Lang t)) (string_leaf w h.0 p), tt)
   object_meant p (Literal w (Typed i)) h c = typed_meant p (bytes_eq i xsd_string) w i (bytes_eq-Decides i xsd_string).0 h.0 h.1
 
+  -- that of a graph label means the label
   graph_meant : (p : Place) (g : Option Subject) → IsGraph g → CanWriteGraph Kept g → (option_map subject_of (graph_tree p g) ≡ g) × graph_bound has_scheme (graph_tree p g)
   graph_meant p None h c = (refl, tt)
   graph_meant p (Some g) h c = let m = name_meant p g h c in (ap (λ x. Some x) m.0, m.1)
 
+  -- a quad is the same where its four parts are
   same_quad : (q : Quad) (s : Subject) (v : List ℕ) (o : Term) (g : Option Subject) → s ≡ q.subject → v ≡ q.predicate → o ≡ q.object → g ≡ q.graph →
       (let r : Quad = record { subject = s; predicate = v; object = o; graph = g } in r) ≡ q
   same_quad q s v o g a b c d =
@@ -411,6 +446,7 @@ module _ (form : Escapes) where
       ∙ (ap (λ (x : Term). let r : Quad = record { subject = q.subject; predicate = q.predicate; object = x; graph = g } in r) c
       ∙ ap (λ (x : Option Subject). let r : Quad = record { subject = q.subject; predicate = q.predicate; object = q.object; graph = x } in r) d))
 
+  -- so the tree of a line means its quad, and is a statement of N-Quads
   pub statement_meant : (p : Place) (q : Quad) → IsQuad q → CanWrite Kept q → (quad_of (statement_tree p q) ≡ q) × GoodStatement has_scheme NQuads (statement_tree p q)
   statement_meant p q h c =
       let s = name_meant p q.subject h.subject c.subject in
@@ -421,6 +457,7 @@ module _ (form : Escapes) where
         record { subject = s.1; predicate = iri_bound q.predicate h.predicate (past p (upto_subject q)); object = o.1; graph = g.1; labels = tt },
       )
 
+  -- and that of the text means the quads
   document_meant : (p : Place) (qs : List Quad) → Written qs → (plain_quads (document_tree p qs) ≡ qs) × GoodDocument has_scheme NQuads (document_tree p qs)
   document_meant p [] h = (refl, tt)
   document_meant p (q ∷ qs) h =
@@ -428,6 +465,7 @@ module _ (form : Escapes) where
       let d = document_meant (past p (quad_text form q)) qs h.1 in
       (ap (λ x. x ∷ plain_quads (document_tree (past p (quad_text form q)) qs)) s.0 ∙ ap (λ x. q ∷ x) d.0, (s.1, d.1))
 
+  -- so what is written is a document of those quads
   pub reads_back : (limit : ℕ) (qs : List Quad) → Written qs → (p : Place) → AllShort limit (document_tokens (document_tree p qs)) →
       ((tokens Lines limit ended false p (flat_map (quad_text form) qs)).outcome ≡ complete) × IsPlain has_scheme NQuads (tokens Lines limit ended false p (flat_map (quad_text form) qs)).tokens qs
   reads_back limit qs h p s =
@@ -435,5 +473,6 @@ module _ (form : Escapes) where
       let m = document_meant p qs h in
       (ap (λ x. x.outcome) r, (document_tree p qs, ap (λ x. x.tokens) r, m.1, m.0))
 
+  -- with a limit of the text's length no token is too long
   pub text_short : (limit : ℕ) (qs : List Quad) → Written qs → length (flat_map (quad_text form) qs) ≤ limit → (p : Place) → AllShort limit (document_tokens (document_tree p qs))
   text_short limit qs h l p = total_short limit (document_tokens (document_tree p qs)) (let s = text_size limit qs h p in omega arith)

@@ -1,20 +1,18 @@
 -- A character as UCHAR: its digits, its shape, and what it means.
-use Rattle.std.proofs.Common.{◌≡◌, ◌≢◌, ℕ, ◌+◌, ◌*◌, ◌/◌, ◌%◌, ◌^◌, ◌<◌, ◌≤◌, Bool, true, false, cond, List, [], ◌∷◌, ◌++◌, ◌==◌, nat_le, inl, inr, length, refl, sym, ap, ◌∙◌, subst, arith}
-use Rattle.std.specs.Prelude.{map}
+use Rattle.std.proofs.Common.{◌≡◌, ℕ, ◌+◌, ◌*◌, ◌/◌, ◌%◌, ◌^◌, ◌<◌, ◌≤◌, true, false, List, [], ◌∷◌, nat_le, inl, inr, length, refl, sym, ap, ◌∙◌, arith}
 use Rattle.std.specs.List.{AllByRecursion}
 use Rattle.std.proofs.lemmas.Bool.{cond_both, and_from}
 use Rattle.std.proofs.lemmas.Bool.Decides.{nat_tests}
 use Rattle.rdf_terms.specs.Classes.{has, scalar}
 use Rattle.rdf_terms.specs.Classes.Class.{hex_digit}
-use Rattle.rdf_terms.specs.Regex.{Regex, Matches, ◌·◌, ◌∣◌}
-use Rattle.rdf_terms.specs.Regex.Regex.{one}
+use Rattle.rdf_terms.specs.Regex.{Regex, Matches, ◌·◌}
 use Rattle.rdf_terms.specs.Shapes.{hex}
 use Rattle.rdf_terms.specs.Shapes as shapes
 use Rattle.rdf_terms.specs.Terms.{all_have}
 use Rattle.rdf_terms.specs.Pieces.{Inside, hex_value, hex_number, MayMean, IsNumberEscape}
 use Rattle.rdf_lines.specs.declared.form.Escapes.{Escapes}
 use Rattle.rdf_lines.specs.declared.form.Escapes.TheVariants.{Plain, Ascii}
-use Rattle.rdf_lines.specs.Writing.{hex_glyph, hex_digits, uchar, written}
+use Rattle.rdf_lines.specs.Writing.{hex_character, hex_digits, uchar, written}
 
 -- the digits of the two lengths
 abbrev pub four : ℕ → List ℕ
@@ -23,9 +21,11 @@ four c = hex_digits (0x1000 ∷ 0x100 ∷ 0x10 ∷ 1 ∷ []) c
 abbrev pub eight : ℕ → List ℕ
 eight c = hex_digits (0x10000000 ∷ 0x1000000 ∷ 0x100000 ∷ 0x10000 ∷ 0x1000 ∷ 0x100 ∷ 0x10 ∷ 1 ∷ []) c
 
+-- the test of the code, as an order
 above : (c n : ℕ) → nat_le c n ≡ false → n < c
 above c n e = grind (arith, nat_tests)
 
+-- and its other half
 within : (c n : ℕ) → nat_le c n ≡ true → c ≤ n
 within c n e = grind (arith, nat_tests)
 
@@ -34,27 +34,33 @@ pub written_cases : (e : Escapes) (P : List ℕ → Type 0) (c : ℕ) → P (c �
 written_cases Plain P c raw escape = raw
 written_cases Ascii P c raw escape = cond_both (nat_le c 0x7F) (c ∷ []) (uchar c) P (λ h. raw) (λ h. escape (above c 127 h))
 
+-- what holds of both forms of the escape holds of it
 pub uchar_cases : (P : List ℕ → Type 0) (c : ℕ) → (c ≤ 0xFFFF → P (92 ∷ 117 ∷ four c)) → (0xFFFF < c → P (92 ∷ 85 ∷ eight c)) → P (uchar c)
 uchar_cases P c short long = cond_both (nat_le c 0xFFFF) (92 ∷ 117 ∷ four c) (92 ∷ 85 ∷ eight c) P (λ h. short (within c 0xFFFF h)) (λ h. long (above c 0xFFFF h))
 
 -- a digit
-glyph_is : (d : ℕ) → d < 16 → has hex_digit (hex_glyph d) ≡ true
+glyph_is : (d : ℕ) → d < 16 → has hex_digit (hex_character d) ≡ true
 unfolding has
 glyph_is d l = grind (arith, nat_tests)
 
-glyph_value : (d : ℕ) → d < 16 → hex_value (hex_glyph d) ≡ d
+-- a digit reads back as its number
+glyph_value : (d : ℕ) → d < 16 → hex_value (hex_character d) ≡ d
 glyph_value d l = grind (arith, nat_tests)
 
-glyph_low : (d : ℕ) → d < 16 → hex_glyph d < 128
+-- and is ASCII
+glyph_low : (d : ℕ) → d < 16 → hex_character d < 128
 glyph_low d l = grind (arith, nat_tests)
 
-digit_at : (c place : ℕ) → has hex_digit (hex_glyph (c / place % 16)) ≡ true
+-- at each place stands a digit of HEX
+digit_at : (c place : ℕ) → has hex_digit (hex_character (c / place % 16)) ≡ true
 digit_at c place = glyph_is (c / place % 16) (omega arith)
 
+-- so all that is written are digits of HEX
 pub digits_are : (places : List ℕ) (c : ℕ) → all_have (has hex_digit) (hex_digits places c) ≡ true
 digits_are [] c = refl
-digits_are (p ∷ ps) c = and_from (has hex_digit (hex_glyph (c / p % 16))) (all_have (has hex_digit) (hex_digits ps c)) (digit_at c p) (digits_are ps c)
+digits_are (p ∷ ps) c = and_from (has hex_digit (hex_character (c / p % 16))) (all_have (has hex_digit) (hex_digits ps c)) (digit_at c p) (digits_are ps c)
 
+-- and ASCII
 digits_low : (places : List ℕ) (c : ℕ) → AllByRecursion (λ d. d < 128) (hex_digits places c)
 digits_low [] c = tt
 digits_low (p ∷ ps) c = (glyph_low (c / p % 16) (omega arith), digits_low ps c)
@@ -67,21 +73,24 @@ uchar_low c =
     (λ l. (omega arith, (omega arith, digits_low (0x10000000 ∷ 0x1000000 ∷ 0x100000 ∷ 0x10000 ∷ 0x1000 ∷ 0x100 ∷ 0x10 ∷ 1 ∷ []) c)))
 
 -- its shape
-hex_then : (c place : ℕ) (r : Regex) (w : List ℕ) → Matches r w → Matches (hex · r) (hex_glyph (c / place % 16) ∷ w)
-hex_then c place r w m = (hex_glyph (c / place % 16) ∷ [], w, (hex_glyph (c / place % 16), digit_at c place, refl), m, refl)
+hex_then : (c place : ℕ) (r : Regex) (w : List ℕ) → Matches r w → Matches (hex · r) (hex_character (c / place % 16) ∷ w)
+hex_then c place r w m = (hex_character (c / place % 16) ∷ [], w, (hex_character (c / place % 16), digit_at c place, refl), m, refl)
 
-hex_last : (c place : ℕ) → Matches hex (hex_glyph (c / place % 16) ∷ [])
-hex_last c place = (hex_glyph (c / place % 16), digit_at c place, refl)
+-- one digit, as the grammar has it
+hex_last : (c place : ℕ) → Matches hex (hex_character (c / place % 16) ∷ [])
+hex_last c place = (hex_character (c / place % 16), digit_at c place, refl)
 
 -- as many digits as places, of which there is one at least
 abbrev row : List ℕ → Regex
 row [] = hex
 row (p ∷ ps) = hex · row ps
 
+-- a row of them
 row_shape : (p : ℕ) (ps : List ℕ) (c : ℕ) → Matches (row ps) (hex_digits (p ∷ ps) c)
 row_shape p [] c = hex_last c p
 row_shape p (q ∷ qs) c = hex_then c p (row qs) (hex_digits (q ∷ qs) c) (row_shape q qs c)
 
+-- so the escape is a UCHAR of the grammar
 pub uchar_shape : (c : ℕ) → Matches shapes.uchar (uchar c)
 unfolding has
 uchar_shape c =
@@ -104,10 +113,12 @@ abbrev number_at : List ℕ → ℕ → ℕ
 number_at [] c = 0
 number_at (p ∷ ps) c = c / p % 16 * p + number_at ps c
 
+-- there is one digit for each place
 length-digits : (ps : List ℕ) (c : ℕ) → length (hex_digits ps c) ≡ length ps
 length-digits [] c = refl
 length-digits (p ∷ ps) c = let h = length-digits ps c in omega arith
 
+-- their number is the character's, as far as the places go
 digits_number : (ps : List ℕ) (c : ℕ) → AreSixteens ps → hex_number (hex_digits ps c) ≡ number_at ps c
 digits_number [] c a = refl
 digits_number (p ∷ ps) c a =
@@ -116,16 +127,19 @@ digits_number (p ∷ ps) c a =
     ∙ (ap (λ x. c / p % 16 * 16 ^ x + rest) (length-digits ps c)
     ∙ (ap (λ x. c / p % 16 * x + rest) (sym a.0) ∙ ap (λ x. c / p % 16 * p + x) (digits_number ps c a.1)))
 
+-- four places suffice up to U+FFFF
 four_number : (c : ℕ) → c ≤ 0xFFFF → c ≡ hex_number (four c)
 four_number c l =
     let whole : c ≡ number_at (0x1000 ∷ 0x100 ∷ 0x10 ∷ 1 ∷ []) c = omega arith in
     whole ∙ sym (digits_number (0x1000 ∷ 0x100 ∷ 0x10 ∷ 1 ∷ []) c (refl, (refl, (refl, (refl, tt)))))
 
+-- eight suffice for every character
 eight_number : (c : ℕ) → c < 0x100000000 → c ≡ hex_number (eight c)
 eight_number c l =
     let whole : c ≡ number_at (0x10000000 ∷ 0x1000000 ∷ 0x100000 ∷ 0x10000 ∷ 0x1000 ∷ 0x100 ∷ 0x10 ∷ 1 ∷ []) c = omega arith in
     whole ∙ sym (digits_number (0x10000000 ∷ 0x1000000 ∷ 0x100000 ∷ 0x10000 ∷ 0x1000 ∷ 0x100 ∷ 0x10 ∷ 1 ∷ []) c (refl, (refl, (refl, (refl, (refl, (refl, (refl, (refl, tt)))))))))
 
+-- a scalar value has no more than eight digits
 scalar_bound : (c : ℕ) → scalar c ≡ true → c < 0x100000000
 scalar_bound c h = grind (arith, nat_tests)
 

@@ -10,7 +10,7 @@ use Rattle.rdf_terms.specs.declared.kind.Dialect.TheVariants.{Lines}
 use Rattle.rdf_terms.specs.declared.kind.Kind.{Kind}
 use Rattle.rdf_terms.specs.declared.kind.Kind.TheVariants.{IriRef, LabelNode, ShortString, LangTag, Dot, LineEnd, End}
 use Rattle.rdf_terms.specs.Shapes.{shape, Shape}
-use Rattle.rdf_terms.specs.Values.{Spot, outside, slash, digits, Move, leads, means, fails, of_string, letter_move, hex_value, digit_move, move, go, value, iri_value, string_value, inside}
+use Rattle.rdf_terms.specs.Values.{EscapeState, outside, slash, digits, Move, leads, means, fails, of_string, letter_move, hex_value, digit_move, move, go, value, iri_value, string_value, inside}
 use Rattle.rdf_terms.specs.Known.{known_chars}
 use Rattle.rdf_terms.specs.declared.constants.Known.TheVariants.{XsdString}
 use Rattle.rdf_terms.specs.Terms.{all_have, has_scheme, xsd_string, IsIri, IsSubject, IsTerm, IsGraph, IsQuad}
@@ -86,7 +86,7 @@ digit_fits zero n = cond_both (scalar n) _ _ Fits (λ h. h) (λ h. tt)
 digit_fits (suc k) n = tt
 
 -- each piece of a string stands for a character
-move_fits : (s : Spot) (c : ℕ) → scalar c ≡ true → Fits (move of_string s c)
+move_fits : (s : EscapeState) (c : ℕ) → scalar c ≡ true → Fits (move of_string s c)
 move_fits outside c k = cond_both (c == 92) _ _ Fits (λ h. tt) (λ h. k)
 move_fits slash c k = cond_both (c == 117) _ _ Fits (λ h. tt) (λ h. cond_both (c == 85) _ _ Fits (λ g. tt) (λ g. letter_fits c))
 move_fits (digits zero n) c k = tt
@@ -98,7 +98,7 @@ AreScalars None = Unit
 AreScalars (Some w) = all_have scalar w ≡ true
 
 -- so a string's value has characters alone
-value_scalars : (s : Spot) (w : List ℕ) → all_have scalar w ≡ true → AreScalars (value of_string s w)
+value_scalars : (s : EscapeState) (w : List ℕ) → all_have scalar w ≡ true → AreScalars (value of_string s w)
 value_scalars outside [] h = refl
 value_scalars slash [] h = tt
 value_scalars (digits k n) [] h = tt
@@ -110,7 +110,7 @@ value_scalars s (c ∷ w) h =
     head d None k h = tt
     head d (Some u) k h = and_from _ _ k h
 
-    by_move : (m : Move) → Fits m → ((t : Spot) → AreScalars (value of_string t w)) → AreScalars (go m (λ t. value of_string t w))
+    by_move : (m : Move) → Fits m → ((t : EscapeState) → AreScalars (value of_string t w)) → AreScalars (go m (λ t. value of_string t w))
     by_move (leads t) f h = h t
     by_move (means d) f h = head d (value of_string outside w) f (h outside)
     by_move fails f h = tt

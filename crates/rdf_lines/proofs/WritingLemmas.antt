@@ -1,5 +1,5 @@
 -- Each kind of written text has its shape, is fit, and means what was written.
-use Rattle.std.proofs.Common.{◌≡◌, ◌≢◌, ℕ, ◌-◌, ◌*◌, ◌<◌, Bool, true, false, cond, List, [], ◌∷◌, ◌++◌, ◌==◌, inl, inr, refl, sym, ap, ◌∙◌, subst, ⊎_elim, append_assoc, Some, length, take, drop, is_some, arith, length-append}
+use Rattle.std.proofs.Common.{◌≡◌, ◌≢◌, ℕ, ◌-◌, ◌*◌, Bool, true, false, cond, List, [], ◌∷◌, ◌++◌, ◌==◌, inl, inr, refl, sym, ap, ◌∙◌, subst, ⊎_elim, append_assoc, Some, length, take, drop, is_some, arith, length-append}
 use Rattle.std.specs.Prelude.{flat_map}
 use Rattle.std.proofs.lemmas.Bool.{cases_Bool, cond-true, cond-false, false≢true, and_parts, eqb-true, eq-eqb}
 use Rattle.std.proofs.lemmas.Bool.Decides.{nat_tests}
@@ -80,6 +80,7 @@ inside_one c d w = take_at w (d ∷ []) (length (c ∷ w ++ d ∷ []) - 2 * 1) (
 abbrev iri_part : Regex
 iri_part = one iri_char ∣ shapes.uchar
 
+-- a character of an IRI stands as itself or as a UCHAR, and both are parts of an IRIREF
 iri_char_part : (e : Escapes) (c : ℕ) → has iri_char c ≡ true → Matches iri_part (written e c)
 iri_char_part e c h = written_cases e (Matches iri_part) c (inl (c, h, refl)) (λ l. inr (uchar_shape c))
 
@@ -94,15 +95,18 @@ iri_shape e i a =
 not_slash : (c : ℕ) → (c == 92) ≡ false → c ≢ 92
 not_slash c h e = false≢true (sym h ∙ eq-eqb c 92 e)
 
+-- it is a scalar value and no backslash, so it means itself
 iri_others : (c : ℕ) → has iri_char c ≡ true → (scalar c ≡ true) × ((c == 92) ≡ false)
 unfolding has
 iri_others c h = (grind (arith, nat_tests), grind (arith, nat_tests))
 
+-- one piece of an IRIREF means the character
 iri_piece : (e : Escapes) (c : ℕ) → has iri_char c ≡ true → IsPiece of_iri (written e c) c
 iri_piece e c h =
     let o = iri_others c h in
     written_cases e (λ w. IsPiece of_iri w c) c (inl (refl, not_slash c o.1, h)) (λ l. inr (inr (uchar_meant of_iri c o.0 h)))
 
+-- so all pieces mean the IRI, as it is read back
 iri_pieces : (e : Escapes) (i : List ℕ) → all_have (has iri_char) i ≡ true → Means (IsPiece of_iri) (flat_map (written e) i) i
 iri_pieces e [] a = refl
 iri_pieces e (c ∷ w) a =
@@ -159,7 +163,7 @@ escape_part e = escape_cases e (λ c w. Matches part w) (two_part 34 refl) (two_
 plain_after : (c : ℕ) → has plain_double c ≡ true → clean (after string_rest c) ≡ string_rest
 plain_after c h =
     let o = plain_others c h in
-    rw (h, o.0, o.1) refl
+    rw (h, o.0, o.1) (refl {a = string_rest})
 
 -- after an ECHAR the rest of the string is left
 two_after : (x : ℕ) → clean (after_all string_rest (92 ∷ x ∷ [])) ≡ string_rest → (v : List ℕ) → Matches string_rest (92 ∷ x ∷ v) → Matches string_rest v
@@ -196,10 +200,12 @@ four_left = hex · hex · hex · hex
 abbrev eight_left : Regex
 eight_left = hex · hex · hex · hex · four_left
 
+-- after `\u` four digits are to come
 short_after : clean (after_all string_rest (92 ∷ 117 ∷ [])) ≡ (four_left · many part) · one (the 34)
 unfolding has
 short_after = refl
 
+-- after `\U` eight are
 long_after : clean (after_all string_rest (92 ∷ 85 ∷ [])) ≡ (eight_left · many part) · one (the 34)
 unfolding has
 long_after = refl
@@ -212,23 +218,28 @@ digit_off r x v m =
     let same : x ∷ v ≡ d.2.0 ∷ (d.1 ++ n.1) ++ m.1 = m.4 ∙ ap (λ u. u ++ m.1) (n.4 ∙ ap (λ u. u ++ n.1) (d.4 ∙ ap (λ u. u ++ d.1) d.2.2)) in
     (d.1 ++ n.1, m.1, (d.1, n.1, d.3, n.3, refl), m.3, (let z : v ≡ (d.1 ++ n.1) ++ m.1 = cc in z))
 
+-- the last digit
 last_off : (x : ℕ) (v : List ℕ) → Left hex (x ∷ v) → Matches string_rest v
 last_off x v m =
     let n = m.2 in
     let same : x ∷ v ≡ n.2.0 ∷ n.1 ++ m.1 = m.4 ∙ ap (λ u. u ++ m.1) (n.4 ∙ ap (λ u. u ++ n.1) n.2.2) in
     (n.1, m.1, n.3, m.3, (let z : v ≡ n.1 ++ m.1 = cc in z))
 
+-- what is left of a string after a backslash and its letter
 left_after : (r : Regex) (x : ℕ) → clean (after_all string_rest (92 ∷ x ∷ [])) ≡ (r · many part) · one (the 34) → (v : List ℕ) → Matches string_rest (92 ∷ x ∷ v) → Left r v
 left_after r x e v m =
     subst (λ r. Matches r v) e (matches-clean (after_all string_rest (92 ∷ x ∷ [])) v (matches-after_all (92 ∷ x ∷ []) v string_rest m))
 
+-- four digits are the whole escape, or the second half of it
 four_off : (a b d e : ℕ) (v : List ℕ) → Left four_left (a ∷ b ∷ d ∷ e ∷ v) → Matches string_rest v
 four_off a b d e v m = last_off e v (digit_off hex d _ (digit_off (hex · hex) b _ (digit_off (hex · hex · hex) a _ m)))
 
+-- the first four of eight
 eight_off : (a b d e : ℕ) (v : List ℕ) → Left eight_left (a ∷ b ∷ d ∷ e ∷ v) → Left four_left v
 eight_off a b d e v m =
     digit_off four_left e v (digit_off (hex · four_left) d _ (digit_off (hex · hex · four_left) b _ (digit_off (hex · hex · hex · four_left) a _ m)))
 
+-- so after an escaped character a string goes on as before
 uchar_after : (c : ℕ) (v : List ℕ) → Matches string_rest (uchar c ++ v) → Matches string_rest v
 uchar_after c v =
     uchar_cases (λ w. Matches string_rest (w ++ v) → Matches string_rest v) c
@@ -278,10 +289,12 @@ string_ends e w a x u m =
     let z : x ∷ u ≡ [] = subst (λ r. Matches r (x ∷ u)) end_after (matches-clean (after string_rest 34) (x ∷ u) (matches-after string_rest 34 (x ∷ u) f)) in
     cc
 
+-- a character that stands as itself in a string is a scalar value
 plain_scalar : (c : ℕ) → has plain_double c ≡ true → scalar c ≡ true
 unfolding has
 plain_scalar c h = (and_parts (scalar c) _ h).0
 
+-- one piece of a string means the character
 string_piece : (e : Escapes) (c : ℕ) → scalar c ≡ true → IsPiece of_string (escaped e c) c
 string_piece e =
     escape_cases e (λ c w. IsPiece of_string w c)
@@ -291,6 +304,7 @@ string_piece e =
     (inr (inl (114, refl, inr (inr (inr (inl (refl, refl)))))))
     (λ c h. written_cases e (λ w. IsPiece of_string w c) c (inl (refl, not_slash c ((plain_others c h).2), tt)) (λ l. inr (inr (uchar_meant of_string c (plain_scalar c h) tt))))
 
+-- so all pieces mean the characters, as they are read back
 string_pieces : (e : Escapes) (w : List ℕ) → all_have scalar w ≡ true → Means (IsPiece of_string) (flat_map (escaped e) w) w
 string_pieces e [] a = refl
 string_pieces e (c ∷ w) a =

@@ -12,7 +12,7 @@ use Rattle.std.proofs.Math.Nat.{mul-suc, mul-add}
 use Rattle.std.specs.Char.{len_utf8}
 use Rattle.rdf_terms.specs.declared.kind.Dialect.TheVariants.{Lines}
 use Rattle.rdf_terms.specs.declared.kind.Kind.TheVariants.{IriRef, LabelNode, ShortString, LangTag, Dot, LineEnd, End}
-use Rattle.rdf_terms.specs.Values.{Spot, outside, slash, digits, Move, leads, means, fails, of_string, move, go, value, string_value, inside}
+use Rattle.rdf_terms.specs.Values.{EscapeState, outside, slash, digits, Move, leads, means, fails, of_string, move, go, value, string_value, inside}
 use Rattle.rdf_terms.specs.Terms.{Quad, xsd_string}
 use Rattle.rdf_iri.specs.Texts.{byte_len}
 use Rattle.rdf_tokens.specs.Tokens.{Token}
@@ -37,7 +37,7 @@ use Rattle.rdf_lines.proofs.FormReadBack.{form_text_read}
 use Rattle.rdf_lines.proofs.WellFormed.{split, document_writable}
 
 -- a value has no more characters than the text that spells it
-value_short : (s : Spot) (w v : List ℕ) → value of_string s w ≡ Some v → length v ≤ length w
+value_short : (s : EscapeState) (w v : List ℕ) → value of_string s w ≡ Some v → length v ≤ length w
 value_short outside [] v e = let h : [] ≡ v = cc in let z = ap length h in omega arith
 value_short slash [] v e = absurd (let h : None ≡ Some v = e in cc)
 value_short (digits k n) [] v e = absurd (let h : None ≡ Some v = e in cc)
@@ -47,7 +47,7 @@ value_short s (c ∷ w) v e = by_move (move of_string s c) (λ t u f. value_shor
     head c None v e = absurd (let h : None ≡ Some v = e in cc)
     head c (Some u) v e = (u, refl, cc)
 
-    by_move : (m : Move) → ((t : Spot) (u : List ℕ) → value of_string t w ≡ Some u → length u ≤ length w) → (v : List ℕ) →
+    by_move : (m : Move) → ((t : EscapeState) (u : List ℕ) → value of_string t w ≡ Some u → length u ≤ length w) → (v : List ℕ) →
         go m (λ t. value of_string t w) ≡ Some v → length v ≤ length (c ∷ w)
     by_move (leads t) h v e = let z = h t v e in omega arith
     by_move (means d) h v e =
@@ -69,13 +69,16 @@ string_short n w = by (string_value (inside n w)) refl
     by None e = omega arith
     by (Some v) e = let a = value_short outside (inside n w) v e in let b = inside_short n w in omega arith
 
+-- an escape has ten characters at most
 length-uchar : (c : ℕ) → length (uchar c) ≤ 10
 length-uchar c = uchar_cases (λ w. length w ≤ 10) c (λ l. omega arith) (λ l. omega arith)
 
+-- so a character of an IRI has no more than the form's width
 written_short : (e : Escapes) (c : ℕ) → length (written e c) ≤ string_width e
 written_short escapes.Plain c = omega arith
 written_short escapes.Ascii c = written_cases escapes.Ascii (λ w. length w ≤ 10) c (omega arith) (λ l. length-uchar c)
 
+-- a short escape has two, which is within the width
 wide : (e : Escapes) → 2 ≤ string_width e
 wide escapes.Plain = omega arith
 wide escapes.Ascii = omega arith
@@ -103,6 +106,7 @@ all_short f n h (c ∷ w) =
 pub written_string : (e : Escapes) (w : List ℕ) → length (string_text e w) ≤ 2 + string_width e * length w
 written_string e w = let a = all_short (escaped e) (string_width e) (escaped_short e) w in let s = length-append (flat_map (escaped e) w) (34 ∷ []) in omega arith
 
+-- an escape has up to ten characters for a character of two bytes or more
 uchar_bytes : (c : ℕ) → 127 < c → length (uchar c) ≤ 3 * length (encode c)
 uchar_bytes c l =
     let n = length-encode c in
@@ -116,6 +120,7 @@ uchar_bytes c l =
     four_bytes : (c : ℕ) → 0xFFFF < c → len_utf8 c ≡ 4
     four_bytes c l = grind (arith, nat_tests)
 
+-- so the width of an IRI is counted by its bytes, as its limit is
 char_bytes : (e : Escapes) (c : ℕ) → length (written e c) ≤ iri_width e * length (encode c)
 char_bytes e c = let n = length-encode c in let one = (len_utf8_bounds c).0 in by e one n
   where
@@ -123,6 +128,7 @@ char_bytes e c = let n = length-encode c in let one = (len_utf8_bounds c).0 in b
     by escapes.Plain o n = omega arith
     by escapes.Ascii o n = written_cases escapes.Ascii (λ w. length w ≤ 3 * length (encode c)) c (omega (arith, o, n)) (λ l. uchar_bytes c l)
 
+-- and the text of an IRI is within that many times its bytes
 iri_bytes : (e : Escapes) (i : List ℕ) → length (flat_map (written e) i) ≤ iri_width e * byte_len i
 iri_bytes e [] = omega arith
 iri_bytes e (c ∷ i) =
@@ -143,6 +149,7 @@ xsd_bytes : byte_len xsd_string ≡ 39
 unfolding encode
 xsd_bytes = refl
 
+-- the datatype that is not written has a length of its own
 xsd_text : (e : Escapes) → length (iri_text e xsd_string) ≡ 41
 xsd_text escapes.Plain = refl
 xsd_text escapes.Ascii = refl
@@ -152,10 +159,12 @@ pub string_room : (e : Escapes) (v n limit t : ℕ) → v ≤ n - 1 → n ≤ li
 string_room escapes.Plain v n limit t a b c d = omega arith
 string_room escapes.Ascii v n limit t a b c d = omega arith
 
+-- the brackets are two more
 pub iri_room : (e : Escapes) (v n t : ℕ) → v ≤ n → iri_width e * n + 2 ≤ t → 2 + iri_width e * v ≤ t
 iri_room escapes.Plain v n t a b = omega arith
 iri_room escapes.Ascii v n t a b = omega arith
 
+-- a limit that has room for a string has room for its quotes
 pub token_room : (e : Escapes) (limit t : ℕ) → string_width e * limit ≤ t → 2 * limit ≤ t
 token_room escapes.Plain limit t a = omega arith
 token_room escapes.Ascii limit t a = omega arith
@@ -165,29 +174,36 @@ module _ (form : Escapes) (limit n token_then iri_then : ℕ) (a : string_width 
   abbrev Good : Token → Type 0
   Good t = (length t.text ≤ limit) × (t.kind ≡ IriRef → byte_len (iri_of (leaf_of t)) ≤ n)
 
+  -- a token that is an IRI within the limit is written within the limit of what is written
   iri_fits : (l : Leaf) → Good (token IriRef l) → (byte_len (iri_of l) ≤ iri_then) × (length (iri_text form (iri_of l)) ≤ token_then)
   iri_fits l g = let z = g.1 refl in let w = written_iri form (iri_of l) in let r = iri_room form _ _ _ z b in (omega arith, omega arith)
 
+  -- so is one that is a label, which no form changes
   label_fits : (l : Leaf) → Good (token LabelNode l) → length (95 ∷ 58 ∷ drop 2 l.text) ≤ token_then
   label_fits l g = let s = length-drop 2 l.text in let z = g.0 in let r = token_room form limit token_then a in omega (arith, s)
 
+  -- so is one that is a string
   string_fits : (l : Leaf) → Good (token ShortString l) → length (string_text form (string_of l)) ≤ token_then
   string_fits l g = let w = written_string form (string_of l) in let r = string_room form _ _ _ _ (string_short 1 l.text) g.0 a c in omega arith
 
+  -- so is one that is a language tag
   tag_fits : (l : Leaf) → Good (token LangTag l) → length (64 ∷ drop 1 l.text) ≤ token_then
   tag_fits l g = let s = length-drop 1 l.text in let z = g.0 in let r = token_room form limit token_then a in omega (arith, s)
 
+  -- so the subject that the tokens mean keeps both limits
   name_fits : (x : Name) → AllByRecursion Good (name_tokens x) →
       SubjectWithin iri_then (subject_of x) × (length (subject_text form (rename_subject Kept (subject_of x))) ≤ token_then)
   name_fits (Ref l) g = iri_fits l g.0
   name_fits (Lab l) g = (tt, label_fits l g.0)
 
+  -- so does the object
   object_fits : (x : Object) → AllByRecursion Good (object_tokens x) → TermWithin iri_then (term_of x) × TermShort form token_then (rename_term Kept (term_of x))
   object_fits (Named x) g = name_fits x g
   object_fits (Plain l) g = (let z = xsd_bytes in omega arith, (string_fits l g.0, let w = xsd_text form in omega arith))
   object_fits (WithType l k i) g = let z = iri_fits i g.1.1.0 in (z.0, (string_fits l g.0, z.1))
   object_fits (WithTag l t) g = (tt, (string_fits l g.0, tag_fits t g.1.0))
 
+  -- so does the graph label
   graph_fits_in : (x : Option Name) → AllByRecursion Good (graph_tokens x) →
       GraphWithin iri_then (option_map subject_of x) × GraphShort form token_then (option_map (rename_subject Kept) (option_map subject_of x))
   graph_fits_in None g = (tt, tt)
@@ -196,6 +212,7 @@ module _ (form : Escapes) (limit n token_then iri_then : ℕ) (a : string_width 
   abbrev Fits : Quad → Type 0
   Fits q = IrisWithin iri_then q × TokensWithin form token_then (rename Kept q)
 
+  -- so does the quad of a statement
   statement_fits : (s : Statement) → AllByRecursion Good (statement_tokens s) → Fits (quad_of s)
   statement_fits s g =
       let n = name_tokens s.subject in
@@ -212,6 +229,7 @@ module _ (form : Escapes) (limit n token_then iri_then : ℕ) (a : string_width 
       let w = graph_fits_in s.graph k.1 in
       (record { subject = x.0; predicate = y.0; object = z.0; graph = w.0 }, record { subject = x.1; predicate = y.1; object = z.1; graph = w.1 })
 
+  -- so do all quads of a document
   tree_fits : (t : Tree) → AllByRecursion Good (document_tokens t) → AllByRecursion Fits (plain_quads t)
   tree_fits (last L.empty l) g = tt
   tree_fits (last (L.one s) l) g = (statement_fits s (split Good (statement_tokens s) (token End l ∷ []) g).0, tt)
@@ -220,10 +238,12 @@ module _ (form : Escapes) (limit n token_then iri_then : ℕ) (a : string_width 
       let p = split Good (statement_tokens s) (token LineEnd l ∷ document_tokens t) g in
       (statement_fits s p.0, tree_fits t p.1.1)
 
+  -- the half of that for IRIs, as the law of reading back asks it
   iris : (qs : List Quad) → AllByRecursion Fits qs → AllByRecursion (IrisWithin iri_then) qs
   iris [] h = tt
   iris (q ∷ qs) h = (h.0.0, iris qs h.1)
 
+  -- the half of that for tokens
   shorts : (qs : List Quad) → AllByRecursion Fits qs → AllByRecursion (TokensWithin form token_then) (map (rename Kept) qs)
   shorts [] h = tt
   shorts (q ∷ qs) h = (h.0.1, shorts qs h.1)

@@ -1,5 +1,5 @@
 -- The written bytes are good text.
-use Rattle.std.proofs.Common.{◌≡◌, ℕ, ◌<◌, Bool, true, false, cond, List, [], ◌∷◌, ◌++◌, ◌==◌, refl, ap, ◌∙◌, ⊎_elim, length, take, drop, Option, Some, None, arith}
+use Rattle.std.proofs.Common.{◌≡◌, ℕ, Bool, true, false, cond, List, [], ◌∷◌, ◌++◌, ◌==◌, refl, ap, ◌∙◌, ⊎_elim, length, take, drop, Option, Some, None, arith}
 use Rattle.std.specs.Prelude.{flat_map, encode_utf8_all, bytes_eq}
 use Rattle.std.specs.List.{AllByRecursion}
 use Rattle.std.specs.Str.{chars}
@@ -62,9 +62,11 @@ has_scalar : (k : Class) (c : ℕ) → has k c ≡ true → scalar c ≡ true
 unfolding has
 has_scalar k c h = (and_parts (scalar c) _ h).0
 
+-- a character of an IRI is written by scalar values
 written_scalars : (e : Escapes) (c : ℕ) → scalar c ≡ true → scalars (written e c) ≡ true
 written_scalars e c h = written_cases e (λ w. scalars w ≡ true) c (and_from _ true (same_scalar c h) refl) (λ l. low_scalars (uchar c) (uchar_low c))
 
+-- a text is of scalar values where what stands for each character is
 all_written : (f : ℕ → List ℕ) (test : ℕ → Bool) → ((c : ℕ) → test c ≡ true → scalars (f c) ≡ true) → (w : List ℕ) → all_have test w ≡ true → scalars (flat_map f w) ≡ true
 all_written f test g [] a = refl
 all_written f test g (c ∷ w) a = let p = and_parts (test c) (all_have test w) a in scalars_append (f c) (flat_map f w) (g c p.0) (all_written f test g w p.1)
@@ -90,23 +92,28 @@ escaped_scalars e c h =
     test : (x : ℕ) (u v : List ℕ) → scalars u ≡ true → scalars v ≡ true → scalars (cond (c == x) u v) ≡ true
     test x u v a b = ⊎_elim (λ t. ap scalars (cond-true (c == x) u v t) ∙ a) (λ t. ap scalars (cond-false (c == x) u v t) ∙ b) (cases_Bool (c == x))
 
+-- so a string is written by scalar values
 string_scalars : (e : Escapes) (w : List ℕ) → all_have scalar w ≡ true → scalars (string_text e w) ≡ true
 string_scalars e w a = scalars_append (flat_map (escaped e) w) (34 ∷ []) (all_written (escaped e) scalar (escaped_scalars e) w a) refl
 
+-- and a datatype
 type_scalars : (e : Escapes) (b : Bool) (i : List ℕ) → IsIri i → scalars (type_text e b i) ≡ true
 type_scalars e true i h = refl
 type_scalars e false i h = iri_scalars e i h
 
+-- and an object
 term_scalars : (e : Escapes) (t : Term) → IsTerm t → CanWriteTerm Kept t → scalars (term_text e t) ≡ true
 term_scalars e (Resource s) h c = subject_scalars e s h c
 term_scalars e (Literal w (Lang t)) h c = scalars_append (string_text e w) (64 ∷ t) (string_scalars e w h.0) (matched_scalars tag_name t h.1)
 term_scalars e (Literal w (Typed i)) h c =
     scalars_append (string_text e w) (type_text e (bytes_eq i xsd_string) i) (string_scalars e w h.0) (type_scalars e (bytes_eq i xsd_string) i h.1)
 
+-- and a graph label
 graph_scalars : (e : Escapes) (g : Option Subject) → IsGraph g → CanWriteGraph Kept g → scalars (graph_text e g) ≡ true
 graph_scalars e None h c = refl
 graph_scalars e (Some g) h c = scalars_append (subject_text e g) space (subject_scalars e g h c) refl
 
+-- and a statement, up to its dot
 pub statement_scalars : (e : Escapes) (q : Quad) → IsQuad q → CanWrite Kept q → scalars (upto_graph e q ++ 46 ∷ []) ≡ true
 statement_scalars e q h c =
     let a = scalars_append (subject_text e q.subject) space (subject_scalars e q.subject h.subject c.subject) refl in
@@ -116,13 +123,16 @@ statement_scalars e q h c =
     scalars_append (upto_graph e q) (46 ∷ []) (scalars_append (upto_object e q) (graph_text e q.graph)
     (scalars_append (upto_predicate e q) (term_text e q.object ++ space) (scalars_append (upto_subject e q) (iri_text e q.predicate ++ space) a b) d) f) refl
 
+-- and a line
 pub quad_scalars : (e : Escapes) (q : Quad) → IsQuad q → CanWrite Kept q → scalars (quad_text e q) ≡ true
 quad_scalars e q h c = scalars_append (upto_graph e q ++ 46 ∷ []) (10 ∷ []) (statement_scalars e q h c) refl
 
+-- so all that is written encodes to UTF-8, which the reader asks
 pub text_scalars : (e : Escapes) (qs : List Quad) → Written qs → scalars (flat_map (quad_text e) qs) ≡ true
 text_scalars e [] h = refl
 text_scalars e (q ∷ qs) h = scalars_append (quad_text e q) (flat_map (quad_text e) qs) (quad_scalars e q h.0.0 h.0.1) (text_scalars e qs h.1)
 
+-- and it does not begin with a byte order mark, which the reader would drop
 pub no_mark : (e : Escapes) (qs : List Quad) → Written qs → has_byte_order_mark (flat_map (quad_text e) qs) ≡ false
 no_mark x [] h = refl
 no_mark x (q ∷ qs) h =

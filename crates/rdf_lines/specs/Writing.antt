@@ -1,5 +1,5 @@
 -- The text that is written for a quad, and how labels are renamed in it.
-use Rattle.std.specs.Prelude.{ℕ, ◌+◌, ◌/◌, ◌%◌, ◌<◌, Bool, true, false, cond, nat_le, nat_lt, List, [], ◌∷◌, ◌++◌, ◌==◌, ◌||◌, map, flat_map, decimal, bytes_eq, Option, Some, None, option_map}
+use Rattle.std.specs.Prelude.{ℕ, ◌+◌, ◌/◌, ◌%◌, ◌<◌, Bool, true, false, cond, nat_le, nat_lt, List, [], ◌∷◌, ◌++◌, ◌==◌, map, flat_map, decimal, bytes_eq, Option, Some, None, option_map}
 use Rattle.rdf_terms.specs.Terms.{Node, Label, Anon, Cell, Tail, Lang, Typed, Subject, Iri, Blank, Term, Resource, Literal, Quad, xsd_string, IsQuad}
 use Rattle.std.specs.List.{AllByRecursion}
 use Rattle.rdf_lines.specs.declared.form.Escapes.{Escapes}
@@ -58,12 +58,12 @@ pub record CanWrite (s : Style) (q : Quad) : Type 0 where
   pub graph : CanWriteGraph s q.graph
 
 -- a hex digit in upper case
-abbrev pub hex_glyph : ℕ → ℕ
-hex_glyph d = cond (nat_lt d 10) (48 + d) (55 + d)
+abbrev pub hex_character : ℕ → ℕ
+hex_character d = cond (nat_lt d 10) (48 + d) (55 + d)
 
 -- the hex digits of a number at some places, each a power of 16
 abbrev pub hex_digits : List ℕ → ℕ → List ℕ
-hex_digits places n = map (λ place. hex_glyph (n / place % 16)) places
+hex_digits places n = map (λ place. hex_character (n / place % 16)) places
 
 -- UCHAR: \u and four digits up to U+FFFF, \U and eight above
 abbrev pub uchar : ℕ → List ℕ

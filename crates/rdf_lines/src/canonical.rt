@@ -279,8 +279,8 @@ fn string(text: &str) -> Option<&str>
     let mut rest = text;
     'runs: loop {
         let end = run_end(Run::Text, rest.as_bytes(), 0);
-        if let Some(behind) = after_byte_at(rest, end, b'"') {
-            return Some(behind);
+        if let Some(left) = after_byte_at(rest, end, b'"') {
+            return Some(left);
         }
         rest = after_run(rest, end)?;
     }

@@ -7,7 +7,7 @@ use Rattle.rdf_terms.specs.declared.reason.Reason.TheVariants as reason
 use Rattle.rdf_terms.specs.Terms.{Quad}
 use Rattle.rdf_tokens.specs.Tokens.{Place}
 use Rattle.rdf_tokens.specs.Scans.{place_of}
-use Rattle.rdf_tokens.specs.Grammars.{GoesOn, Language, reading_of}
+use Rattle.rdf_tokens.specs.Grammars.{GoesOn, Language}
 use Rattle.rdf_tokens.proofs.LanguageLemmas.{EndsAtBlame, refused_in_more}
 use Rattle.rdf_driver.specs.declared.summary.Summary.{Summary}
 use Rattle.rdf_driver.specs.Readers.{Driven, FeedFails, Feeds, FinishFails, Finishes, HasRead}
@@ -165,10 +165,12 @@ module _ {G X : Type 0} (w : Words G X Quad) where
   begins x first b = record { begun = (x, b); limit = refl; read = λ y b. ([], b.read) }
 
   module _ (x : X) (limit : ℕ) (first now : R) (same_limit : first.0.scanner.limit ≡ limit) (b : BeginsToRead w x first.0) (known : Option (List ℕ)) (left : Reading) where
+    -- a run that read to the end has accepted the document, as `check` promises
     pub checked : (s : Summary) → ReadsAll Ended known left s first now → IfSome known (λ bytes. IsAccepted (in_words w x limit) bytes s)
     checked s h =
         Consumes-whole known left.remaining h.bytes (λ bytes. IsAccepted (in_words w x limit) bytes s) h.consumed h.at_end (subst (λ n. IsAccepted (in_words w x n) h.bytes s) same_limit (h.is_end x b))
 
+    -- where the source failed, what was read before it may begin a document
     broke : SourceFails Taken known left first now → CheckStops stream.Read (in_words w x limit) known left
     broke h =
         let (quads, r) = h.is_taken.read x b in
@@ -179,6 +181,7 @@ module _ {G X : Type 0} (w : Words G X Quad) where
           subst (λ n. GoesOn (in_words w x n) h.bytes) same_limit (subst (λ n. GoesOn (in_words w x n) h.bytes) h.is_taken.limit goes_on),
         )
 
+    -- each other end is a failed source, or the reader's refusal at its place
     pub stopped : (reported : StreamFault) → ReadStops Taken Halted reported known left first now → CheckStops reported (in_words w x limit) known left
     stopped reported h =
         ⊎_elim (λ p. subst (λ t. CheckStops t (in_words w x limit) known left) (sym p.0) (broke p.1))
@@ -187,6 +190,7 @@ module _ {G X : Type 0} (w : Words G X Quad) where
         (subst (λ n. ChecksNoMore reported (in_words w x n) p.0.bytes left.has_ended) same_limit (p.1.halts x b)))
         h
 
+    -- an error of a run is one that `check` may report, and none of a drain
     pub refused_document : (reported : StreamFault) → ReadStops Taken Halted reported known left first now → IsRefusal reported
     refused_document reported h =
         ⊎_elim (λ p. subst IsRefusal (sym p.0) tt)

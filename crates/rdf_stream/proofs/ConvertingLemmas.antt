@@ -1,5 +1,5 @@
 -- A piece more, the end, or an error within one: what the drain has then.
-use Rattle.std.proofs.Common.{◌≡◌, ◌≤◌, ◌<◌, ◌+◌, ℕ, Bool, true, false, List, [], ◌∷◌, ◌++◌, ◌⊎◌, ◌||◌, length, take, drop, Option, refl, sym, ap, subst, ◌∙◌, append_assoc, ⊎_elim, length-append, arith}
+use Rattle.std.proofs.Common.{◌≡◌, ◌≤◌, ◌<◌, ℕ, Bool, true, false, List, [], ◌∷◌, ◌++◌, ◌⊎◌, ◌||◌, length, take, drop, Option, refl, sym, ap, subst, ◌∙◌, append_assoc, ⊎_elim, arith}
 use Rattle.std.proofs.lemmas.List.{append-nil, take-append-drop}
 use Rattle.std.proofs.lemmas.Bool.{false≢true, and_parts, eqb-true}
 use Rattle.std.specs.Prelude.{encode_utf8_all}
@@ -35,7 +35,7 @@ use Rattle.rdf_stream.specs.Languages.{Conversion, conversion}
 use Rattle.rdf_stream.specs.declared.fault.StreamFault.{StreamFault}
 use Rattle.rdf_stream.specs.declared.fault.StreamFault.TheVariants as stream
 use Rattle.rdf_stream.specs.declared.line_out.LineOut.{LineOut}
-use Rattle.rdf_stream.specs.Converting.{HandedOver, HaltsFor, HasPut, IsConverting, IsPutting, RunEnds, RunHalts, Suits, Reports, ReportsFault, ReportsWrite}
+use Rattle.rdf_stream.specs.Converting.{HandedOver, HaltsFor, HasPut, IsConverting, IsPutting, RunEnds, RunHalts, IsConvertible, Reports, ReportsFault, ReportsWrite}
 use Rattle.rdf_stream.specs.Converts.{Accepts, IsAscii, WritesDue, WritesFront, WritesSome, lines_of}
 use Rattle.rdf_stream.specs.Devices.{AppendsFront}
 use Rattle.rdf_stream.specs.Faults.{fault_by}
@@ -116,7 +116,7 @@ module _ (l : Language) where
 abbrev KeepsText : WrittenForm → List ℕ → Type 0
 KeepsText w text = (qs : List Quad) → text ≡ lines_of (plain w.style) qs → text ≡ lines_of (form_of w) qs
 
-module _ {G X D A : Type 0} (contents : D → Option (List ℕ)) (failed : D → Bool) (w : Words G X Quad) (x : X) (reader : Driven G) (bytes : List ℕ) (first lines : LineOut D A) (suits : Suits w x first.form.style)
+module _ {G X D A : Type 0} (contents : D → Option (List ℕ)) (failed : D → Bool) (w : Words G X Quad) (x : X) (reader : Driven G) (bytes : List ℕ) (first lines : LineOut D A) (convertible : IsConvertible w x first.form.style)
     (o : HasPut contents failed w x reader bytes first lines) where
   abbrev l : Language
   l = in_words w x reader.scanner.limit
@@ -185,7 +185,7 @@ module _ {G X D A : Type 0} (contents : D → Option (List ℕ)) (failed : D →
   styled : (ts : List Token) (qs rest : List Quad) → Due (w.documents x) ts ((o.quads ++ qs) ++ rest) → AllByRecursion (CanWrite lines.form.style) qs
   styled ts qs rest d =
       subst (λ (f : WrittenForm). AllByRecursion (CanWrite f.style) qs) (sym o.same.form)
-      (all_in_last (CanWrite first.form.style) o.quads qs (all_in_first (CanWrite first.form.style) (o.quads ++ qs) rest (suits.can_write ts ((o.quads ++ qs) ++ rest) d)))
+      (all_in_last (CanWrite first.form.style) o.quads qs (all_in_first (CanWrite first.form.style) (o.quads ++ qs) rest (convertible.can_write ts ((o.quads ++ qs) ++ rest) d)))
 
   styled_all : (ts : List Token) (qs : List Quad) → Due (w.documents x) ts (o.quads ++ qs) → AllByRecursion (CanWrite lines.form.style) qs
   styled_all ts qs d = styled ts qs [] (subst (Due (w.documents x) ts) (sym (append-nil (o.quads ++ qs))) d)
@@ -294,7 +294,7 @@ module _ {G X D A : Type 0} (contents : D → Option (List ℕ)) (failed : D →
           more = h.more;
           tries = tried contents failed h.more lines mid (puts_tries contents failed h.more lines mid h.puts);
           due = subst (λ b. Begun l (reading_of l b false).tokens (o.quads ++ h.more)) (take-append-drop most_bytes all)
-              (due_more l (suits.lawful.ends x) (take most_bytes all) (drop most_bytes all) false (o.quads ++ h.more)
+              (due_more l (convertible.lawful.ends x) (take most_bytes all) (drop most_bytes all) false (o.quads ++ h.more)
               (begins_all l (reading_of l (take most_bytes all) false).tokens (o.quads ++ h.more) f.goes_on.front.kept f.due));
         }
 
@@ -357,13 +357,13 @@ module _ {G X D A : Type 0} (contents : D → Option (List ℕ)) (failed : D →
     now' = in_words w x reader'.scanner.limit
 
     due' : Due (w.documents x) (reading_of now' (bytes ++ part) false).tokens (o.quads ++ more)
-    due' = suits.lawful.due reader'.grammar x (reading_of now' (bytes ++ part) false).tokens (o.quads ++ more) read'.reached
+    due' = convertible.lawful.due reader'.grammar x (reading_of now' (bytes ++ part) false).tokens (o.quads ++ more) read'.reached
 
     begun' : Begun l (reading_of l (bytes ++ part) false).tokens (o.quads ++ more)
     begun' =
         subst (λ n. Begun (in_words w x n) (reading_of (in_words w x n) (bytes ++ part) false).tokens (o.quads ++ more)) same_limit
         (begins_all now' (reading_of now' (bytes ++ part) false).tokens (o.quads ++ more)
-        (suits.lawful.kept reader'.grammar x (reading_of now' (bytes ++ part) false).tokens (o.quads ++ more) read'.reached) due')
+        (convertible.lawful.kept reader'.grammar x (reading_of now' (bytes ++ part) false).tokens (o.quads ++ more) read'.reached) due')
 
     -- the lines of more quads were put
     more_put : (mid : LineOut D A) → SameOut lines mid → Writable first.form.style more → Writes contents lines (bytes_of lines.form more) mid → failed mid.drain.now ≡ false →
@@ -461,7 +461,7 @@ module _ {G X D A : Type 0} (contents : D → Option (List ℕ)) (failed : D →
           broke,
           record {
             quads = o.quads;
-            due = begins_all l now o.quads (suits.lawful.kept reader.grammar x now o.quads o.read.reached) (suits.lawful.due reader.grammar x now o.quads o.read.reached);
+            due = begins_all l now o.quads (convertible.lawful.kept reader.grammar x now o.quads o.read.reached) (convertible.lawful.due reader.grammar x now o.quads o.read.reached);
             written = moves_front (contents first.drain.now) (contents after.drain.now) (lines_of (form_of first.form) o.quads) rest
                 (subst (λ b. Moves (contents first.drain.now) (contents after.drain.now) b rest) (append-nil (lines_of (form_of first.form) o.quads)) all);
             ascii = these_ascii;
@@ -577,12 +577,12 @@ module _ {G X D A : Type 0} (contents : D → Option (List ℕ)) (failed : D →
 
   -- what halts by the limit of the reader halts by that of the run
   halted : (reported : StreamFault) (b : List ℕ) (e : Bool) (after : LineOut D A) →
-      ((x : X) (s : Suits w x first.form.style) (o : HasPut contents failed w x old bytes first lines) → Halts contents failed w x old bytes first lines s o reported b e after) → RunHalts contents failed w reported reader first b e after
+      ((x : X) (s : IsConvertible w x first.form.style) (o : HasPut contents failed w x old bytes first lines) → Halts contents failed w x old bytes first lines s o reported b e after) → RunHalts contents failed w reported reader first b e after
   halted reported b e after h = record {
     begun = i.begun;
-    same = (h i.begun.0 i.begun.1.starts.suits put_now).same;
+    same = (h i.begun.0 i.begun.1.starts.convertible put_now).same;
     halts = λ x y.
-        subst (λ n. HaltsFor reported (conversion w x n (form_of first.form)) b e (contents first.drain.now) (contents after.drain.now) (failed after.drain.now)) i.limit (h x y.starts.suits (i.put x y)).halts;
+        subst (λ n. HaltsFor reported (conversion w x n (form_of first.form)) b e (contents first.drain.now) (contents after.drain.now) (failed after.drain.now)) i.limit (h x y.starts.convertible (i.put x y)).halts;
   }
 
   -- what waited was handed over
@@ -592,7 +592,7 @@ module _ {G X D A : Type 0} (contents : D → Option (List ℕ)) (failed : D →
     begun = i.begun;
     styled = i.styled;
     limit = i.limit;
-    handed = λ x y. handed contents failed w x old bytes first lines y.starts.suits (i.put x y) after s t none live;
+    handed = λ x y. handed contents failed w x old bytes first lines y.starts.convertible (i.put x y) after s t none live;
   }
 
   -- the drain failed
@@ -607,7 +607,7 @@ module _ {G X D A : Type 0} (contents : D → Option (List ℕ)) (failed : D →
       begun = i.begun;
       styled = i.styled;
       limit = f.limit ∙ i.limit;
-      put = λ x y. part_read contents failed w x old bytes first lines y.starts.suits (i.put x y) part new mid f;
+      put = λ x y. part_read contents failed w x old bytes first lines y.starts.convertible (i.put x y) part new mid f;
     }
 
     -- an error in a part
@@ -624,7 +624,7 @@ module _ {G X D A : Type 0} (contents : D → Option (List ℕ)) (failed : D →
         begun = i.begun;
         styled = i.styled;
         limit = p.limit ∙ i.limit;
-        put = λ x y. text_put contents failed w x old bytes first lines y.starts.suits (i.put x y) style i.styled ending part kept new p after s m live;
+        put = λ x y. text_put contents failed w x old bytes first lines y.starts.convertible (i.put x y) style i.styled ending part kept new p after s m live;
       }
 
       -- it was not put
@@ -636,11 +636,11 @@ module _ {G X D A : Type 0} (contents : D → Option (List ℕ)) (failed : D →
     pub run_ends : (flushed : D → Bool) (after : LineOut D A) → SameOut mid after → Appends (contents mid.drain.now) (contents after.drain.now) mid.buffer.now.items → flushed after.drain.now ≡ true →
         RunEnds contents failed flushed w summary reader first bytes after
     run_ends flushed after s t sent = record {
-      same = (end_read contents failed w i.begun.0 old bytes first lines i.begun.1.starts.suits put_now summary mid f after s t).0;
+      same = (end_read contents failed w i.begun.0 old bytes first lines i.begun.1.starts.convertible put_now summary mid f after s t).0;
       sent = sent;
       accepts = λ x y.
           subst (λ n. Accepts (conversion w x n (form_of first.form)) bytes (contents first.drain.now) (contents after.drain.now) summary) i.limit
-          (end_read contents failed w x old bytes first lines y.starts.suits (i.put x y) summary mid f after s t).1;
+          (end_read contents failed w x old bytes first lines y.starts.convertible (i.put x y) summary mid f after s t).1;
     }
 
     -- the drain failed

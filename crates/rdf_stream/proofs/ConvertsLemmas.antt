@@ -70,7 +70,7 @@ halts_more contents failed w reported reader first bytes more lines h = record {
   begun = h.begun;
   same = h.same;
   halts = λ x b.
-      halts_for_more reported (conversion w x reader.scanner.limit (form_of first.form)) (b.starts.suits.lawful.ends x) bytes more (contents first.drain.now) (contents lines.drain.now) (failed lines.drain.now) (h.halts x b);
+      halts_for_more reported (conversion w x reader.scanner.limit (form_of first.form)) (b.starts.convertible.lawful.ends x) bytes more (contents first.drain.now) (contents lines.drain.now) (failed lines.drain.now) (h.halts x b);
 }
 
 -- a refusal is of the document
@@ -159,7 +159,7 @@ module _ {G X D : Type 0} (A : Type 0) (contents : D → Option (List ℕ)) (fai
         (subst (λ k. WritesDue (conversion w x k (form_of first.1.form)) (reading_of (in_words w x k) bytes false).tokens old here) t.limit
         (record {
           quads = o.quads;
-          due = b.starts.suits.lawful.due at.0.grammar x (reading_of (in_words w x n) bytes false).tokens o.quads o.read.reached;
+          due = b.starts.convertible.lawful.due at.0.grammar x (reading_of (in_words w x n) bytes false).tokens o.quads o.read.reached;
           written = o.written;
           ascii = written_ascii (form_of first.1.form) o.quads (IsNodePrefix-had (form_of first.1.form).prefix first.1.form.prefix.is_prefix) o.writable;
         }))
@@ -180,7 +180,7 @@ module _ {G X D : Type 0} (A : Type 0) (contents : D → Option (List ℕ)) (fai
     broke : SourceFails Taken known left first now → StopsFor stream.Read job known left old new (failed now.1.drain.now)
     broke h =
         let o = h.is_taken.handed x b in
-        let law = b.starts.suits.lawful in (
+        let law = b.starts.convertible.lawful in (
           h.broken,
           record {
             bytes = h.bytes;
@@ -195,7 +195,7 @@ module _ {G X D : Type 0} (A : Type 0) (contents : D → Option (List ℕ)) (fai
     stopped reported h =
         ⊎_elim (λ p. subst (λ t. StopsFor t job known left old new (failed now.1.drain.now)) (sym p.0) (broke p.1))
         (λ p.
-        halts_stops reported job (b.starts.suits.lawful.ends x) known left old new (failed now.1.drain.now) p.0
+        halts_stops reported job (b.starts.convertible.lawful.ends x) known left old new (failed now.1.drain.now) p.0
         (asked (λ n s. HaltsFor reported (conversion w x n s) p.0.bytes left.has_ended old new (failed now.1.drain.now)) (p.1.halts x b)))
         h
 

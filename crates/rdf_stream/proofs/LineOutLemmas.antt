@@ -85,6 +85,7 @@ module _ {D A : Type 0} (contents : D → Option (List ℕ)) (failed : D → Boo
       subst (λ l. Moves (contents a.drain.now) (contents c.drain.now) l c.buffer.now.items) (append_assoc a.buffer.now.items bs cs)
       (moves_on (contents a.drain.now) (contents b.drain.now) (contents c.drain.now) (a.buffer.now.items ++ bs) cs b.buffer.now.items c.buffer.now.items p q)
 
+  -- the lines of quads that were put are in the buffer or the drain, one after another
   pub taken : (qs : List Quad) (a b : LineOut D A) → Puts a qs b → AllByRecursion (CanWrite a.form.style) qs → Taken a qs b
   taken [] a b h w = subst (Taken a []) (sym h) (record {
     same = record { form = refl; buffer = refl; drain = refl };
@@ -113,6 +114,7 @@ module _ {D A : Type 0} (contents : D → Option (List ℕ)) (failed : D → Boo
     -- where the drain has not failed, the lines of some of the quads were written
     pub whole : failed b.drain.now ≡ false → (done later : List Quad) × (qs ≡ done ++ later) × Writes contents a (bytes_of a.form done) b
 
+  -- so for quads of which the last was refused: then the drain has a beginning of their lines
   pub tried : (qs : List Quad) (a b : LineOut D A) → Tries a qs b → Tried a qs b
   tried [] a b h = subst (Tried a []) (sym h) (record {
     same = record { form = refl; buffer = refl; drain = refl };
@@ -134,9 +136,9 @@ module _ {D A : Type 0} (contents : D → Option (List ℕ)) (failed : D → Boo
       }
 
       more : ((n : LineOut D A) → Tries n qs b → Tried n qs b) → (next : LineOut D A) × Takes contents failed a q next × Tries next qs b → Tried a (q ∷ qs) b
-      more behind p =
+      more others p =
           let (next, t, tries) = p in
-          let r = behind next tries in
+          let r = others next tries in
           let first = t.writes in
           let join = encodes-append (line_in (form_of a.form) q) (text_in (form_of a.form) qs) in
           record {
@@ -165,6 +167,7 @@ module _ {D A : Type 0} (contents : D → Option (List ℕ)) (failed : D → Boo
   puts_tries [] a b h = h
   puts_tries (q ∷ qs) a b h = inr (h.0, h.1, puts_tries qs h.0 b h.2)
 
+  -- a drain that took all lines has not failed
   pub puts_live : (qs : List Quad) (a b : LineOut D A) → Puts a qs b → failed a.drain.now ≡ false → failed b.drain.now ≡ false
   puts_live [] a b h l = subst (λ (x : LineOut D A). failed x.drain.now ≡ false) (sym h) l
   puts_live (q ∷ qs) a b h l = puts_live qs h.0 b h.2 h.1.live

@@ -22,9 +22,11 @@ pub record IsGiving (known : Option (List ℕ)) (left : Reading) (bytes : List �
   pub live : left.has_failed ≡ false
   pub has_room : 0 < room
 
+-- so the promise of `load_bindings` can say what its source gave, where it stopped before the end
 pub giving_given : (known : Option (List ℕ)) (left : Reading) (bytes : List ℕ) (room : ℕ) → IsGiving known left bytes room → HasGiven known left
 giving_given known left bytes room i = record { bytes = bytes; consumed = i.consumed; ended = λ e. absurd (false≢true (sym i.more ∙ e)); live = i.live }
 
+-- and where it came to the end
 pub all_given : (known : Option (List ℕ)) (left : Reading) (bytes : List ℕ) → HasGivenAll known left bytes → HasGiven known left
 all_given known left bytes h = record { bytes = bytes; consumed = h.consumed; ended = λ e. h.at_end; live = h.live }
 

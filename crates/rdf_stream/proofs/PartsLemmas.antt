@@ -41,6 +41,7 @@ ascii_drop (suc n) (b ∷ w) a = ascii_drop n w a.1
 
 -- the text may be cut where a run of ASCII ends
 module _ (w : List ℕ) (n : ℕ) (r : IsRun is_ascii_byte w 0 n) where
+  -- the bytes that a run of ASCII goes over are ASCII
   pub low_run : IsAsciiText (take n w)
   low_run = each w n (λ k l. r.pass k (omega arith) l) r.within
     where
@@ -52,6 +53,7 @@ module _ (w : List ℕ) (n : ℕ) (r : IsRun is_ascii_byte w 0 n) where
       each [] (suc n) h l = tt
       each (b ∷ w) (suc n) h l = (low b (h 0 (omega arith)), each w n (λ k m. h (suc k) (omega arith)) (omega arith))
 
+  -- so the front and the rest are UTF-8, and each can be read by itself
   pub ascii_cut : IsUtf8 w → IsCharBoundary w n
   ascii_cut u = IsCharBoundary-from_take w n u r.within (take n w, (low_scalars (take n w) low_run, low_encodes (take n w) low_run))
 
@@ -67,10 +69,10 @@ front_at rest text front v at n t f h = ⊎_elim outside inside (cases_lt (lengt
     inside : at ≤ length text → take n front ≡ take n (drop at rest)
     inside i =
         let whole : rest ≡ text ++ drop v rest = sym (take-append-drop v rest) ∙ ap (λ l. l ++ drop v rest) (sym t) in
-        let behind : drop at rest ≡ drop at text ++ drop v rest = ap (drop at) whole ∙ drop-append-le at text (drop v rest) i in
+        let then_text : drop at rest ≡ drop at text ++ drop v rest = ap (drop at) whole ∙ drop-append-le at text (drop v rest) i in
         let split : drop at text ≡ front ++ drop (length front) (drop at text) = sym (take-append-drop (length front) (drop at text)) ∙ ap (λ l. l ++ drop (length front) (drop at text)) (sym f) in
         let all : drop at rest ≡ front ++ (drop (length front) (drop at text) ++ drop v rest) =
-        behind ∙ (ap (λ l. l ++ drop v rest) split ∙ append_assoc front (drop (length front) (drop at text)) (drop v rest)) in
+        then_text ∙ (ap (λ l. l ++ drop v rest) split ∙ append_assoc front (drop (length front) (drop at text)) (drop v rest)) in
         sym (ap (take n) all ∙ take-append-le n front (drop (length front) (drop at text) ++ drop v rest) h)
 
 -- what stands from a place on in such a text may be passed there

@@ -24,6 +24,7 @@ none_written : (ending : LineEnding) → written_as ending [] ≡ []
 none_written Lf = refl
 none_written CrLf = refl
 
+-- a run that passes nothing leaves the reader as it is, for grammars whose lines are never passed
 pub passes_none : {G X : Type 0} (w : Words G X Quad) (style : Style) (ending : LineEnding) (r : Driven G) → PassesText w style ending r [] r
 passes_none w style ending r = record {
   given = [];

@@ -1,5 +1,5 @@
 -- From the pieces of a source to all of its bytes.
-use Rattle.std.proofs.Common.{◌≡◌, ◌<◌, ◌≤◌, ◌+◌, ◌-◌, ◌^◌, ℕ, Bool, true, false, List, [], ◌++◌, length, take, Option, Some, None, IfSome, IfOk, OnOk, IfErr, Result, Ok, Err, refl, sym, ap, subst, ◌∙◌, inl, inr, arith, length-append}
+use Rattle.std.proofs.Common.{◌≡◌, ◌<◌, ◌≤◌, ℕ, Bool, true, false, List, [], ◌++◌, length, take, Option, Some, None, IfSome, IfOk, OnOk, IfErr, Result, Ok, Err, refl, sym, ap, subst, ◌∙◌, inl, inr, arith, length-append}
 use Rattle.std.proofs.lemmas.List.{append-nil, take-append-le}
 use Rattle.std.proofs.lemmas.Bool.{false≢true}
 use Rattle.std.proofs.KnownBytes.{Consumes-kept, Consumes-nil, Consumes-trans, Consumes-whole}

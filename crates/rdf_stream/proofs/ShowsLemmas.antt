@@ -41,12 +41,15 @@ use Rattle.rdf_stream.proofs.TokenWordsLemmas.{due_tokens, without-append}
 abbrev Begun : Reading → List Token → Type 0
 Begun r firsts = (rest : List Token) × (without_end r.tokens ≡ firsts ++ rest)
 
+-- fewer tokens begin a reading that more of them begin
 begun_less : (r : Reading) (ts us : List Token) → Begun r (ts ++ us) → Begun r ts
 begun_less r ts us b = (us ++ b.0, b.1 ∙ append_assoc ts us b.0)
 
+-- all tokens but the end begin their own reading
 begun_all : (r : Reading) (ts : List Token) → ts ≡ without_end r.tokens → Begun r ts
 begun_all r ts e = ([], sym e ∙ sym (append-nil ts))
 
+-- so do the first of them
 begun_in_front : (r : Reading) (ahead behind ts rest : List Token) → r.tokens ≡ ahead ++ behind → ts ++ rest ≡ without_end ahead → Begun r ts
 begun_in_front r ahead behind ts rest e d =
     (rest ++ without_end behind, ap without_end e ∙ (without-append ahead behind ∙ (ap (λ l. l ++ without_end behind) (sym d) ∙ append_assoc ts rest (without_end behind))))
@@ -61,15 +64,17 @@ shows_front a b r ts g f =
 shows_some : (a b : Option (List ℕ)) (r : Reading) (ts : List Token) → Begun r ts → Appends a b (all_lines ts) → ShowsSome r a b
 shows_some a b r ts g w =
     let h = first_shown r.tokens ts g.0 g.1 in
-    record { first = h.ahead; others = h.behind; tokens = h.tokens; written = subst (Appends a b) (sym h.lines) w }
+    record { first = h.ahead; others = h.later; tokens = h.tokens; written = subst (Appends a b) (sym h.lines) w }
 
 -- ---- more bytes
 
 module _ (job : JobRead) (bytes more : List ℕ) (e : Bool) where
+  -- more bytes bring further tokens, and change none before them
   longer : (rest : List Token) × ((tokens_in job (bytes ++ more) e).tokens ≡ (tokens_in job bytes false).tokens ++ rest)
   longer = (lengthens (dialect_of job.form) job.limits.token bytes more e).0
 
   module _ (old new : Option (List ℕ)) where
+    -- a reading that has ended keeps its outcome and its place, whatever bytes follow
     stops_at_more : (o : Outcome) (at : Place) → o ≢ undecided → StopsAt (tokens_in job bytes false) o at old new → StopsAt (tokens_in job (bytes ++ more) e) o at old new
     stops_at_more o at d s = subst (λ r. StopsAt r o at old new) (sym ((lengthens (dialect_of job.form) job.limits.token bytes more e).1 (λ x. d (sym s.outcome ∙ x)))) s
 
@@ -572,6 +577,7 @@ module _ {D : Type 0} (A : Type 0) (contents : D → Option (List ℕ)) (failed 
     abbrev new : Option (List ℕ)
     new = contents now.1.drain.now
 
+    -- a run that read to the end has shown each token of the document, as `show` promises
     pub run_shown : (s : Summary) → ReadsAll Ended known left s first now → IfSome known (λ bytes. Shows job bytes old new s)
     run_shown s h = Consumes-whole known left.remaining h.bytes (λ bytes. Shows job bytes old new s) h.consumed h.at_end (h.is_end.shows job b)
 
@@ -588,11 +594,13 @@ module _ {D : Type 0} (A : Type 0) (contents : D → Option (List ℕ)) (failed 
           },
         )
 
+    -- each other end is a failed source, or an error at the place where the tokens stop
     pub run_stopped : (reported : StreamFault) → ReadStops Taken Stopped reported known left first now → ShowStops reported job known left old new (failed now.1.drain.now)
     run_stopped reported h =
         ⊎_elim (λ p. subst (λ t. ShowStops t job known left old new (failed now.1.drain.now)) (sym p.0) (broke p.1))
         (λ p. halts_stops reported job known left old new (failed now.1.drain.now) p.0 (p.1.halts job b)) h
 
+    -- an error of a run is one that `show` may report
     pub run_refused : (reported : StreamFault) → ReadStops Taken Stopped reported known left first now → IsRefusal reported
     run_refused reported h =
         ⊎_elim (λ p. subst IsRefusal (sym p.0) tt) (λ p. halts_of_document reported job p.0.bytes left.has_ended old new (failed now.1.drain.now) (p.1.halts job b)) h

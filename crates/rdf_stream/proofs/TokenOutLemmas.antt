@@ -22,6 +22,7 @@ pub all-append : (ts us : List Token) → all_lines (ts ++ us) ≡ all_lines ts 
 all-append [] us = refl
 all-append (t ∷ ts) us = ap (λ l. token_line t ++ l) (all-append ts us) ∙ sym (append_assoc (token_line t) (all_lines ts) (all_lines us))
 
+-- so are the lines that are shown, which leave out the end
 pub lines-append : (ts us : List Token) → token_lines (ts ++ us) ≡ token_lines ts ++ token_lines us
 lines-append [] us = refl
 lines-append (t ∷ ts) us = ap (λ l. shown t ++ l) (lines-append ts us) ∙ sym (append_assoc (shown t) (token_lines ts) (token_lines us))
@@ -31,6 +32,7 @@ lines_step : (b : Bool) (t : Token) (ts : List Token) → all_lines (cond b ts (
 lines_step true t ts = refl
 lines_step false t ts = refl
 
+-- so leaving out the end before the lines are made or after is the same
 pub lines_without : (ts : List Token) → all_lines (without_end ts) ≡ token_lines ts
 lines_without [] = refl
 lines_without (t ∷ ts) = lines_step (is_end t.kind) t (without_end ts) ∙ ap (λ l. shown t ++ l) (lines_without ts)
@@ -39,26 +41,27 @@ lines_without (t ∷ ts) = lines_step (is_end t.kind) t (without_end ts) ∙ ap 
 same_first : {t u : Token} {ts us : List Token} → t ∷ ts ≡ u ∷ us → t ≡ u
 same_first e = cc
 
+-- the half of that for the others
 same_others : {t u : Token} {ts us : List Token} → t ∷ ts ≡ u ∷ us → ts ≡ us
 same_others e = cc
 
 -- The first of some tokens, whose lines are those of these.
 pub record Shown (ts firsts : List Token) : Type 0 where
   pub ahead : List Token
-  pub behind : List Token
-  pub tokens : ts ≡ ahead ++ behind
+  pub later : List Token
+  pub tokens : ts ≡ ahead ++ later
   pub lines : token_lines ahead ≡ all_lines firsts
 
 -- the lines of the first tokens but the end are what is shown of the first tokens
 pub first_shown : (ts firsts rest : List Token) → without_end ts ≡ firsts ++ rest → Shown ts firsts
-first_shown ts [] rest e = record { ahead = []; behind = ts; tokens = refl; lines = refl }
+first_shown ts [] rest e = record { ahead = []; later = ts; tokens = refl; lines = refl }
 first_shown [] (u ∷ us) rest e = cc
 first_shown (t ∷ ts) (u ∷ us) rest e = by (λ firsts h. first_shown ts firsts rest h) (is_end t.kind) refl e
   where
     more : (firsts : List Token) → Shown ts firsts → shown t ++ all_lines firsts ≡ all_lines (u ∷ us) → Shown (t ∷ ts) (u ∷ us)
     more firsts h l = record {
       ahead = t ∷ h.ahead;
-      behind = h.behind;
+      later = h.later;
       tokens = ap (λ us. t ∷ us) h.tokens;
       lines = ap (λ l. shown t ++ l) h.lines ∙ l;
     }
@@ -81,6 +84,7 @@ module _ {D A : Type 0} (contents : D → Option (List ℕ)) (failed : D → Boo
     pub same : SameOut a b
     pub writes : Writes contents a (all_lines ts) b
 
+  -- the lines of tokens that were put are in the buffer or the drain, one after another
   pub put : (ts : List Token) (a b : LineOut D A) → Puts a ts b → Put a ts b
   put [] a b h = subst (Put a []) (sym h) (record {
     same = record { form = refl; buffer = refl; drain = refl };
@@ -99,6 +103,7 @@ module _ {D A : Type 0} (contents : D → Option (List ℕ)) (failed : D → Boo
     -- where the drain has not failed, the lines of some of the tokens were written
     pub whole : failed b.drain.now ≡ false → (done later : List Token) × (ts ≡ done ++ later) × Writes contents a (all_lines done) b
 
+  -- so for tokens of which the last was refused: then the drain has a beginning of their lines
   pub tried_tokens : (ts : List Token) (a b : LineOut D A) → Tries a ts b → TriedTokens a ts b
   tried_tokens [] a b h = subst (TriedTokens a []) (sym h) (record {
     same = record { form = refl; buffer = refl; drain = refl };
@@ -118,9 +123,9 @@ module _ {D A : Type 0} (contents : D → Option (List ℕ)) (failed : D → Boo
       }
 
       more : ((n : LineOut D A) → Tries n ts b → TriedTokens n ts b) → (next : LineOut D A) × TakesToken contents failed a t next × Tries next ts b → TriedTokens a (t ∷ ts) b
-      more behind p =
+      more others p =
           let (next, x, tries) = p in
-          let r = behind next tries in
+          let r = others next tries in
           record {
             same = same_out a next b x.same r.same;
             rest = r.rest;
@@ -136,6 +141,7 @@ module _ {D A : Type 0} (contents : D → Option (List ℕ)) (failed : D → Boo
   tries_tokens [] a b h = h
   tries_tokens (t ∷ ts) a b h = inr (h.0, h.1, tries_tokens ts h.0 b h.2)
 
+  -- a drain that took all lines has not failed
   pub tokens_live : (ts : List Token) (a b : LineOut D A) → Puts a ts b → failed a.drain.now ≡ false → failed b.drain.now ≡ false
   tokens_live [] a b h l = subst (λ (x : LineOut D A). failed x.drain.now ≡ false) (sym h) l
   tokens_live (t ∷ ts) a b h l = tokens_live ts h.0 b h.2 h.1.live

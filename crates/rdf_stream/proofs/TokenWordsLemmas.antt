@@ -25,6 +25,7 @@ due_step : (b : Bool) (n m : ℕ) (t : Token) (rest : List (MarkedItem Token)) (
 due_step true n m t rest ts l e = e
 due_step false n m t rest ts l e = cond-true (ltb n m) _ _ (lt-ltb n m l) ∙ ap (λ us. t ∷ us) e
 
+-- so the tokens below a number are due, whatever comes after them
 due_below : (n : ℕ) (ts more : List Token) → items_below (n + length ts) (marked_from n (ts ++ more)) ≡ without_end ts
 due_below n [] more = none_below n (n + 0) more (omega arith)
 due_below n (t ∷ ts) more =
@@ -32,6 +33,7 @@ due_below n (t ∷ ts) more =
     due_step (is_end t.kind) n (n + length (t ∷ ts)) t (marked_from (n + 1) (ts ++ more)) (without_end ts) (omega arith)
     (ap (λ k. items_below k (marked_from (n + 1) (ts ++ more))) m ∙ due_below (n + 1) ts more)
 
+-- so all tokens that were read are due at once, and none waits for the next
 due_all : (ts more : List Token) → items_below (length ts) (marked_from 0 (ts ++ more)) ≡ without_end ts
 due_all ts more = let n : 0 + length ts ≡ length ts = omega arith in subst (λ k. items_below k (marked_from 0 (ts ++ more)) ≡ without_end ts) n (due_below 0 ts more)
 
@@ -40,6 +42,7 @@ unmarked_step : (b : Bool) (n : ℕ) (t : Token) (rest : List (MarkedItem Token)
 unmarked_step true n t rest ts e = e
 unmarked_step false n t rest ts e = ap (λ us. t ∷ us) e
 
+-- the items of a document are its tokens but the end
 unmarked_all : (n : ℕ) (ts : List Token) → unmarked (marked_from n ts) ≡ without_end ts
 unmarked_all n [] = refl
 unmarked_all n (t ∷ ts) = unmarked_step (is_end t.kind) n t (marked_from (n + 1) ts) (without_end ts) (unmarked_all (n + 1) ts)
@@ -49,6 +52,7 @@ few_step : (b : Bool) (t : Token) (ts : List Token) (n : ℕ) → length ts ≤ 
 few_step true t ts n l = omega (arith, l)
 few_step false t ts n l = omega (arith, l)
 
+-- one for each token is within what the reader's counts have room for
 few_all : (ts : List Token) → length (without_end ts) ≤ 2 * counted ts
 few_all [] = omega arith
 few_all (t ∷ ts) = few_step (is_end t.kind) t (without_end ts) (counted ts) (few_all ts)
@@ -58,6 +62,7 @@ append_step : (b : Bool) (t : Token) (ts us : List Token) → cond b (ts ++ us) 
 append_step true t ts us = refl
 append_step false t ts us = refl
 
+-- leaving out the end is done in each of two lists by itself, so the reader may do it piece by piece
 pub without-append : (ts us : List Token) → without_end (ts ++ us) ≡ without_end ts ++ without_end us
 without-append [] us = refl
 without-append (t ∷ ts) us =
@@ -67,6 +72,7 @@ without-append (t ∷ ts) us =
 pub due_tokens : (d : Dialect) (ts is : List Token) → Due ((token_words d).documents tt) ts is → is ≡ without_end ts
 due_tokens d ts is (more, all, document, e) = sym e ∙ (ap (items_below (length ts)) document ∙ due_all ts more)
 
+-- and the other way round, as the reader's promise asks it
 pub tokens_due : (d : Dialect) (ts is : List Token) → is ≡ without_end ts → Due ((token_words d).documents tt) ts is
 tokens_due d ts is e = ([], marked_from 0 (ts ++ []), refl, due_all ts [] ∙ sym e)
 
@@ -95,6 +101,7 @@ module _ {S : Type 0} (takes leaves : S → Token → S → Type 0) (d : Dialect
   one_more : (ts qs : List Token) → is_end t.kind ≡ false → qs ≡ without_end ts → qs ++ t ∷ [] ≡ without_end (ts ++ t ∷ [])
   one_more ts qs e h = ap (λ us. us ++ t ∷ []) h ∙ sym (without-append ts (t ∷ []) ∙ ap (λ us. without_end ts ++ us) (cond-false (is_end t.kind) _ _ e))
 
+  -- a token that is not the end is one item, which is put at once
   pub takes_token : (after : S) → is_end t.kind ≡ false → takes before t after → Takes (token_words d) takes g t 1 before g after
   takes_token after e h = record { more = t ∷ []; count = refl; puts = (after, h, refl); limit = refl; reached = λ x ts qs r. one_more ts qs e r }
 

@@ -22,14 +22,14 @@ use Rattle.rdf_stream.specs.Faults.{fault_by}
 use Rattle.rdf_stream.specs.LineOut.{Moves, SameOut}
 
 -- what a conversion asks of a grammar and of the style of its lines
-pub record Suits {G X : Type 0} (w : Words G X Quad) (x : X) (style : Style) : Type 0 where
+pub record IsConvertible {G X : Type 0} (w : Words G X Quad) (x : X) (style : Style) : Type 0 where
   pub lawful : Lawful w
   -- each quad that is due in a document can be written
   pub can_write : (ts : List Token) (quads : List Quad) → Due (w.documents x) ts quads → AllByRecursion (CanWrite style) quads
 
--- A reader of a grammar that suits the style has read nothing.
+-- A reader of a grammar whose quads the style can write has read nothing.
 pub record Starts {G X : Type 0} (w : Words G X Quad) (x : X) (reader : Driven G) (style : Style) : Type 0 where
-  pub suits : Suits w x style
+  pub convertible : IsConvertible w x style
   pub read : HasRead w reader x [] []
 
 -- The same, and no line waits.

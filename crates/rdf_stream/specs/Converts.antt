@@ -87,7 +87,7 @@ pub record BreaksOff (job : Conversion) (known left old new : Option (List ℕ))
   pub writes : WritesDue job (reading_of job.language bytes false).tokens old new
 
 -- Lines are handed over before the next fill: when the source was last asked for bytes, the lines of all quads that are due in those that it had
--- given had been written. What came after that was written behind them.
+-- given had been written. What came after that was written after them.
 pub record IsPrompt (job : Conversion) (known : Option (List ℕ)) (left : Reading) (old new : Option (List ℕ)) : Type 0 where
   -- the bytes given before the last fill, and by it
   pub before : List ℕ

@@ -13,7 +13,7 @@ use Rattle.rdf_terms.specs.Classes.{has, member, scalar}
 use Rattle.rdf_terms.specs.Classes.Class.{hex_digit, iri_char}
 use Rattle.rdf_terms.specs.Terms.{all_have}
 use Rattle.rdf_terms.specs.Runs.{IsRun, PassBetween, goes_over, is_unescaped, iri_byte}
-use Rattle.rdf_terms.specs.Values.{Inside, of_string, of_iri, Spot, outside, slash, digits, Move, leads, means, fails, allowed, letter_move, echar_move, digit_move, hex_value, go, move, value}
+use Rattle.rdf_terms.specs.Values.{Inside, of_string, of_iri, EscapeState, outside, slash, digits, Move, leads, means, fails, allowed, letter_move, echar_move, digit_move, hex_value, go, move, value}
 use Rattle.rdf_terms.specs.Escapes.{run_of, stands, completes, value_after, IsRead, Reads}
 use Rattle.rdf_terms.proofs.CharsLemmas.{Next, next_char}
 use Rattle.rdf_terms.proofs.IriBytes.{iri_bytes, have-append}
@@ -49,7 +49,7 @@ left_fits n zero p h = absurd (omega arith)
 left_fits n (suc k) p h = digit_fits n k h
 
 -- the value of a text by the move of its first character
-value-cons : (i : Inside) (s : Spot) (c : ℕ) (w : List ℕ) → value i s (c ∷ w) ≡ go (move i s c) (λ t. value i t w)
+value-cons : (i : Inside) (s : EscapeState) (c : ℕ) (w : List ℕ) → value i s (c ∷ w) ≡ go (move i s c) (λ t. value i t w)
 value-cons i outside c w = refl
 value-cons i slash c w = refl
 value-cons i (digits k n) c w = refl
@@ -81,7 +81,7 @@ high_first bs at l u h = by u.0 (chars_from_encodes u.0 (drop at bs) u u.1.1) u.
     )
 
 -- one byte of ASCII on
-pub step_low : (i : Inside) (s : Spot) (m : Move) (bs : List ℕ) (at : ℕ) → at < length bs → IsUtf8 (drop at bs) → get_or bs at 0 < 128 →
+pub step_low : (i : Inside) (s : EscapeState) (m : Move) (bs : List ℕ) (at : ℕ) → at < length bs → IsUtf8 (drop at bs) → get_or bs at 0 < 128 →
     move i s (get_or bs at 0) ≡ m → value_after i (leads s) bs at ≡ value_after i m bs (at + 1)
 step_low i s m bs at l u a e =
     let rest = chars (drop (at + 1) bs) in
@@ -92,7 +92,7 @@ pub utf8_low : (bs : List ℕ) (at : ℕ) → at < length bs → IsUtf8 (drop at
 utf8_low bs at l u a = (low_first bs at l u a).utf8
 
 -- the same by the byte's number
-pub step_byte : (i : Inside) (s : Spot) (b : ℕ) (bs : List ℕ) (at : ℕ) → at < length bs → IsUtf8 (drop at bs) → get_or bs at 0 ≡ b → b < 128 →
+pub step_byte : (i : Inside) (s : EscapeState) (b : ℕ) (bs : List ℕ) (at : ℕ) → at < length bs → IsUtf8 (drop at bs) → get_or bs at 0 ≡ b → b < 128 →
     value_after i (leads s) bs at ≡ value_after i (move i s b) bs (at + 1)
 step_byte i s b bs at l u e a = step_low i s (move i s b) bs at l u (omega (arith, e)) (ap (move i s) e)
 
@@ -105,14 +105,14 @@ pub not_end : (at n : ℕ) → at ≤ n → (at ≡ n → ⊥) → at < n
 not_end at n l f = ⊎_elim (λ (k : at < n). k) (λ k. absurd (f (omega arith))) (cases_lt at n)
 
 -- where no character from U+0080 on may stand
-step_high : (i : Inside) (s : Spot) (bs : List ℕ) (at : ℕ) → at < length bs → IsUtf8 (drop at bs) → 128 ≤ get_or bs at 0 →
+step_high : (i : Inside) (s : EscapeState) (bs : List ℕ) (at : ℕ) → at < length bs → IsUtf8 (drop at bs) → 128 ≤ get_or bs at 0 →
     ((c : ℕ) → 128 ≤ c → move i s c ≡ fails) → value_after i (leads s) bs at ≡ None
 step_high i s bs at l u h f =
     let n = high_first bs at l u h in
     ap (value i s) n.2 ∙ (value-cons i s n.0 n.1 ∙ ap (λ x. go x (λ t. value i t n.1)) (f n.0 n.3))
 
 -- where a text may not end
-pub step_end : (i : Inside) (s : Spot) (bs : List ℕ) (at : ℕ) → length bs ≤ at → value i s [] ≡ None → value_after i (leads s) bs at ≡ None
+pub step_end : (i : Inside) (s : EscapeState) (bs : List ℕ) (at : ℕ) → length bs ≤ at → value i s [] ≡ None → value_after i (leads s) bs at ≡ None
 step_end i s bs at l e = ap (λ w. value i s (chars w)) (drop_all at bs l) ∙ (ap (value i s) chars-nil ∙ e)
 
 -- the rest of an escape that is read from a byte on was read from one before it
@@ -221,13 +221,13 @@ is_some-map f None = refl
 is_some-map f (Some w) = refl
 
 -- what was built before what is left
-abbrev pub behind : List ℕ → Option (List ℕ) → Option (List ℕ)
-behind out o = option_map (λ w. chars out ++ w) o
+abbrev pub with_front : List ℕ → Option (List ℕ) → Option (List ℕ)
+with_front out o = option_map (λ w. chars out ++ w) o
 
 -- before the first character nothing has been given out
-pub behind-nil : (out : List ℕ) (o : Option (List ℕ)) → out ≡ [] → behind out o ≡ o
-behind-nil out None e = refl
-behind-nil out (Some w) e = ap (λ x. Some (x ++ w)) (ap chars e ∙ chars-nil)
+pub with_front-nil : (out : List ℕ) (o : Option (List ℕ)) → out ≡ [] → with_front out o ≡ o
+with_front-nil out None e = refl
+with_front-nil out (Some w) e = ap (λ x. Some (x ++ w)) (ap chars e ∙ chars-nil)
 
 -- the two ways to write the range of a character say the same
 std_scalar : (c : ℕ) → scalar c ≡ true → lib_scalar c ≡ true
@@ -239,10 +239,10 @@ chars-encode c h =
     ap chars (sym (append-nil (encode_utf8 c))) ∙ chars-encodes (c ∷ []) (and_from _ _ (std_scalar c h) refl)
 
 -- a character that was pushed is the next of the value
-pub behind-push : (out grown : List ℕ) (c : ℕ) (o : Option (List ℕ)) → IsUtf8 out → scalar c ≡ true → grown ≡ out ++ encode_utf8 c →
-    behind out (option_map (λ w. c ∷ w) o) ≡ behind grown o
-behind-push out grown c None u h e = refl
-behind-push out grown c (Some w) u h e =
+pub with_front-push : (out grown : List ℕ) (c : ℕ) (o : Option (List ℕ)) → IsUtf8 out → scalar c ≡ true → grown ≡ out ++ encode_utf8 c →
+    with_front out (option_map (λ w. c ∷ w) o) ≡ with_front grown o
+with_front-push out grown c None u h e = refl
+with_front-push out grown c (Some w) u h e =
     let one : chars (encode_utf8 c) ≡ c ∷ [] = chars-encode c h in
     ap Some (sym (ap (λ x. chars x ++ w) e ∙ ap (λ x. x ++ w) (chars-append out (encode_utf8 c) u ∙ ap (λ x. chars out ++ x) one) ∙ append_assoc (chars out) (c ∷ []) w))
 
@@ -341,7 +341,7 @@ run_cut i bs at end r =
 pub record RunRead (i : Inside) (bs : List ℕ) (at end : ℕ) : Type 0 where
   pub utf8 : IsUtf8 (drop end bs)
   pub front : IsUtf8 (slice_range bs at end)
-  pub value : value i outside (chars (drop at bs)) ≡ behind (slice_range bs at end) (value i outside (chars (drop end bs)))
+  pub value : value i outside (chars (drop at bs)) ≡ with_front (slice_range bs at end) (value i outside (chars (drop end bs)))
 
 -- how a look from escape to escape goes over a run
 pub run_read : (i : Inside) (bs : List ℕ) (at end : ℕ) → IsUtf8 bs → IsUtf8 (drop at bs) → IsRun (goes_over (run_of i)) bs at end → RunRead i bs at end
@@ -373,19 +373,19 @@ pub value_end : (i : Inside) (bs : List ℕ) (at : ℕ) → length bs ≤ at →
 value_end i bs at l = ap (λ w. value i outside (chars w)) (drop_all at bs l) ∙ ap (value i outside) chars-nil
 
 -- a run that was put after what was built
-pub behind-run : (i : Inside) (out grown bs : List ℕ) (at end : ℕ) → IsUtf8 out → grown ≡ out ++ slice_range bs at end → RunRead i bs at end →
-    behind out (value i outside (chars (drop at bs))) ≡ behind grown (value i outside (chars (drop end bs)))
-behind-run i out grown bs at end u e r =
+pub with_front-run : (i : Inside) (out grown bs : List ℕ) (at end : ℕ) → IsUtf8 out → grown ≡ out ++ slice_range bs at end → RunRead i bs at end →
+    with_front out (value i outside (chars (drop at bs))) ≡ with_front grown (value i outside (chars (drop end bs)))
+with_front-run i out grown bs at end u e r =
     let run = slice_range bs at end in
     let rest = value i outside (chars (drop end bs)) in
-    ap (behind out) r.value
+    ap (with_front out) r.value
     ∙ (map-append (chars out) (chars run) rest
     ∙ ap (λ x. option_map (λ w. x ++ w) rest) (sym (ap chars e ∙ chars-append out run u)))
 
 -- the first run
-pub behind-first : (i : Inside) (text out : List ℕ) → out ≡ [] → value i outside (chars text) ≡ behind out (value i outside (chars (drop 0 text)))
-behind-first i text out e = sym (behind-nil out (value i outside (chars text)) e)
+pub with_front-first : (i : Inside) (text out : List ℕ) → out ≡ [] → value i outside (chars text) ≡ with_front out (value i outside (chars (drop 0 text)))
+with_front-first i text out e = sym (with_front-nil out (value i outside (chars text)) e)
 
 -- at the end of the text what was built is its value
-pub behind-end : (i : Inside) (out bs : List ℕ) (at : ℕ) → length bs ≤ at → behind out (value i outside (chars (drop at bs))) ≡ Some (chars out)
-behind-end i out bs at l = ap (behind out) (value_end i bs at l) ∙ ap Some (append-nil (chars out))
+pub with_front-end : (i : Inside) (out bs : List ℕ) (at : ℕ) → length bs ≤ at → with_front out (value i outside (chars (drop at bs))) ≡ Some (chars out)
+with_front-end i out bs at l = ap (with_front out) (value_end i bs at l) ∙ ap Some (append-nil (chars out))

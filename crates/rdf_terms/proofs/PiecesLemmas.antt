@@ -8,7 +8,7 @@ use Rattle.rdf_terms.specs.Classes.{has, scalar}
 use Rattle.rdf_terms.specs.Classes.Class.{hex_digit, iri_char, local_escape}
 use Rattle.rdf_terms.specs.Terms.{all_have}
 use Rattle.rdf_terms.specs.Pieces.{Inside, of_string, of_iri, hex_value, hex_number, inside, IsRow, letters, MayMean, IsLetterEscape, IsNumberEscape, IsPiece, IsLocalPiece, Means, HasMeaning}
-use Rattle.rdf_terms.specs.Values.{Spot, outside, slash, digits, Move, leads, means, fails, letter_move, allowed, echar_move, digit_move, move, go, value, string_value, iri_value, local_from, local_value, is_fit}
+use Rattle.rdf_terms.specs.Values.{EscapeState, outside, slash, digits, Move, leads, means, fails, letter_move, allowed, echar_move, digit_move, move, go, value, string_value, iri_value, local_from, local_value, is_fit}
 use Rattle.rdf_terms.proofs.LocalLemmas.{mapped}
 
 -- no value is none that is there
@@ -114,7 +114,7 @@ means-value i (c ∷ v) w m =
     ap (value i outside) m.2 ∙ (piece-takes i m.0 c m.3 m.1 ∙ ap (option_map (λ w. c ∷ w)) (means-value i v m.1 m.4))
 
 -- From the value to the pieces.
-abbrev MeansFrom : Inside → Spot → List ℕ → List ℕ → Type 0
+abbrev MeansFrom : Inside → EscapeState → List ℕ → List ℕ → Type 0
 MeansFrom i outside w v = Means (IsPiece i) w v
 MeansFrom i slash w v = Means (IsPiece i) (92 ∷ w) v
 MeansFrom i (digits k n) w v = (hexes rest : List ℕ) × (c : ℕ) × (u : List ℕ) × (w ≡ hexes ++ rest) × (length hexes ≡ k) × (all_have (has hex_digit) hexes ≡ true)
@@ -122,7 +122,7 @@ MeansFrom i (digits k n) w v = (hexes rest : List ℕ) × (c : ℕ) × (u : List
 
 -- what holds of what follows
 abbrev Follows : Inside → List ℕ → Type 0
-Follows i w = (t : Spot) (u : List ℕ) → value i t w ≡ Some u → MeansFrom i t w u
+Follows i w = (t : EscapeState) (u : List ℕ) → value i t w ≡ Some u → MeansFrom i t w u
 
 -- the first character that is meant
 abbrev First : Inside → ℕ → List ℕ → List ℕ → Type 0
@@ -235,7 +235,7 @@ from-digits i (suc k) n c w v f e =
     (cases_Bool (has hex_digit c))
 
 -- so a text with a value consists of pieces that mean it
-value-means : (i : Inside) (s : Spot) (w v : List ℕ) → value i s w ≡ Some v → MeansFrom i s w v
+value-means : (i : Inside) (s : EscapeState) (w v : List ℕ) → value i s w ≡ Some v → MeansFrom i s w v
 value-means i outside [] v e = subst (Means (IsPiece i) []) (some_same [] v e) refl
 value-means i slash [] v e = absurd (none_is_some v e)
 value-means i (digits k n) [] v e = absurd (none_is_some v e)

@@ -1,5 +1,5 @@
 -- Tokens without an escape are fit: what is inside of their delimiters means itself.
-use Rattle.std.proofs.Common.{◌≡◌, ℕ, zero, suc, ◌+◌, ◌-◌, ◌*◌, ◌<◌, ◌≤◌, Bool, true, false, List, [], ◌∷◌, ◌++◌, Option, Some, None, is_some, option_map, refl, sym, ap, ◌∙◌, subst, length, get_or, take, drop, length-append, arith}
+use Rattle.std.proofs.Common.{◌≡◌, ℕ, zero, suc, ◌+◌, ◌-◌, ◌<◌, true, List, [], ◌∷◌, ◌++◌, is_some, sym, ap, ◌∙◌, length, get_or, take, length-append, arith}
 use Rattle.std.specs.Str.{chars, IsUtf8, IsAscii}
 use Rattle.std.proofs.Math.Seq.{take-suc, take-append_seam}
 use Rattle.std.proofs.lemmas.List.{append-nil}

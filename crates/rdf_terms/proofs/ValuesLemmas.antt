@@ -6,7 +6,7 @@ use Rattle.rdf_terms.specs.declared.kind.Kind.TheVariants.{IriRef, ShortString, 
 use Rattle.rdf_terms.specs.Classes.{has, scalar}
 use Rattle.rdf_terms.specs.Classes.Class.{iri_char, hex_digit}
 use Rattle.rdf_terms.specs.Terms.{all_have}
-use Rattle.rdf_terms.specs.Values.{of_iri, Spot, outside, slash, digits, Move, leads, means, fails, allowed, digit_move, hex_value, move, go, value, iri_value, is_fit}
+use Rattle.rdf_terms.specs.Values.{of_iri, EscapeState, outside, slash, digits, Move, leads, means, fails, allowed, digit_move, hex_value, move, go, value, iri_value, is_fit}
 
 -- no character of an IRI is a backslash
 pub backslash_excluded : (c : ℕ) → has iri_char c ≡ true → (c ≡ 92 → ⊥)
@@ -41,7 +41,7 @@ IsIriMove-digit zero n = cond_both (scalar n) (allowed of_iri n) fails IsIriMove
 IsIriMove-digit (suc k) n = tt
 
 -- each character that the walk over an IRIREF gives is one of IRIREF
-IsIriMove-move : (s : Spot) (c : ℕ) → IsIriMove (move of_iri s c)
+IsIriMove-move : (s : EscapeState) (c : ℕ) → IsIriMove (move of_iri s c)
 IsIriMove-move outside c = cond_both (c == 92) (leads slash) (allowed of_iri c) IsIriMove (λ _. tt) (λ _. IsIriMove-allowed c)
 IsIriMove-move slash c =
     cond_both (c == 117) (leads (digits 4 0)) _ IsIriMove (λ _. tt)
@@ -61,13 +61,13 @@ AllIri-cons c None k h = tt
 AllIri-cons c (Some w) k h = and_from (has iri_char c) (all_have (has iri_char) w) k h
 
 -- after a move that gives IRI characters the value has only such
-AllIri-go : (m : Move) (rest : Spot → Option (List ℕ)) → IsIriMove m → ((t : Spot) → AllIri (rest t)) → AllIri (go m rest)
+AllIri-go : (m : Move) (rest : EscapeState → Option (List ℕ)) → IsIriMove m → ((t : EscapeState) → AllIri (rest t)) → AllIri (go m rest)
 AllIri-go (leads s) rest k h = h s
 AllIri-go (means c) rest k h = AllIri-cons c (rest outside) k (h outside)
 AllIri-go fails rest k h = tt
 
 -- the value of each IRIREF has only IRI characters
-AllIri-value : (s : Spot) (w : List ℕ) → AllIri (value of_iri s w)
+AllIri-value : (s : EscapeState) (w : List ℕ) → AllIri (value of_iri s w)
 AllIri-value outside [] = refl
 AllIri-value slash [] = tt
 AllIri-value (digits k n) [] = tt

@@ -7,14 +7,14 @@ use Rattle.rdf_terms.specs.declared.kind.Kind.{Kind}
 use Rattle.rdf_terms.specs.declared.kind.Kind.TheVariants.{IriRef, ShortString, LongString}
 
 -- where a character stands: outside an escape, after the backslash, or where so many hex digits are still to come, with the number so far
-pub data Spot : Type 0 where
-  outside : Spot
-  slash : Spot
-  digits : ℕ → ℕ → Spot
+pub data EscapeState : Type 0 where
+  outside : EscapeState
+  slash : EscapeState
+  digits : ℕ → ℕ → EscapeState
 
 -- what a character does there: it leads on inside an escape, it completes the character that is meant, or it cannot stand there
 pub data Move : Type 0 where
-  leads : Spot → Move
+  leads : EscapeState → Move
   means : ℕ → Move
   fails : Move
 
@@ -39,20 +39,20 @@ digit_move i zero n = cond (scalar n) (allowed i n) fails
 digit_move i (suc k) n = leads (digits (suc k) n)
 
 -- what the next character does at this place inside a string or an IRI; a UCHAR has 4 digits after 'u' and 8 after 'U' (Turtle 6.4)
-abbrev pub move : Inside → Spot → ℕ → Move
+abbrev pub move : Inside → EscapeState → ℕ → Move
 move i outside c = cond (c == 92) (leads slash) (allowed i c)
 move i slash c = cond (c == 117) (leads (digits 4 0)) (cond (c == 85) (leads (digits 8 0)) (echar_move i c))
 move i (digits zero n) c = fails
 move i (digits (suc k) n) c = cond (has hex_digit c) (digit_move i k (16 * n + hex_value c)) fails
 
 -- the value of a text whose first character makes this move, given the value of the rest from each place
-abbrev pub go : Move → (Spot → Option (List ℕ)) → Option (List ℕ)
+abbrev pub go : Move → (EscapeState → Option (List ℕ)) → Option (List ℕ)
 go (leads s) rest = rest s
 go (means c) rest = option_map (λ w. c ∷ w) (rest outside)
 go fails rest = None
 
 -- the characters that the rest of a string or an IRI means from this place on, or none where an escape is bad or cut
-abbrev pub value : Inside → Spot → List ℕ → Option (List ℕ)
+abbrev pub value : Inside → EscapeState → List ℕ → Option (List ℕ)
 value i outside [] = Some []
 value i slash [] = None
 value i (digits k n) [] = None

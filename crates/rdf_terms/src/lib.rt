@@ -37,7 +37,10 @@ pub use sink::{PutFault, QuadSink};
 pub use spelled::known;
 pub use tags::{Tag, is_tag};
 pub use terms::{Literal, Node, Quad, Subject, Tail, Term};
-pub use values::{ValueFault, iri_value, is_fit, string_value, without_ends, without_first};
+pub use values::{
+    ValueFault, iri_value, is_fit, set_iri_value, set_string_value, string_value, without_ends,
+    without_first,
+};
 pub use views::{
     IriView, LabelView, LiteralRef, NodeRef, QuadRef, SubjectRef, TagView, TailRef, TermRef,
 };

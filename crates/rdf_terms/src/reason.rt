@@ -15,7 +15,7 @@ pub enum Reason {
     DocumentTooLong,
     /// A growth of memory was refused.
     Memory,
-    /// The value has told a fault before, or has come to its end.
+    /// The value has reported a fault before, or has come to its end.
     Ended,
     /// No document has this token here.
     Unexpected,

@@ -11,7 +11,7 @@ use crate::views::QuadRef;
 pub enum PutFault {
     /// A growth of memory was refused.
     Memory,
-    /// The device behind the sink failed.
+    /// The device that the sink writes to failed.
     Device,
 }
 

@@ -1,6 +1,6 @@
 // The characters that a token's inside means.
 
-ghost use Rattle.std.specs.Prelude.{◌≡◌, ◌↔◌, ◌^◌, ◌≤◌, ◌<◌, ◌++◌, true, false, cond, IfOk, OnErr, IfSome, SomeIff, Err, Some, None, is_some, option_map, drop, length, get_or, slice_range};
+ghost use Rattle.std.specs.Prelude.{◌≡◌, ◌↔◌, ◌^◌, ◌≤◌, ◌<◌, ◌++◌, true, false, cond, IfOk, OnOk, OnErr, IfSome, SomeIff, Err, Some, None, is_some, option_map, drop, length, get_or, slice_range};
 ghost use Rattle.std.specs.Str.{chars, IsUtf8};
 ghost use Rattle.std.specs.String.{string_bytes};
 ghost use Rattle.rdf_terms.specs.Classes.{has, scalar};
@@ -40,6 +40,25 @@ pub fn iri_value<A: Allocator>(alloc: A, inside: &str) -> Result<String<A>, Valu
     ensures bad { (result ≡ Err ValueFault.BadEscape) ↔ (iri_value (chars inside.now) ≡ None) }
 {
     value(alloc, Inside::OfIri, inside)
+}
+
+/// Puts what the inside of a string token means in place of a text, in the memory that the text has. After an error nothing is known of
+/// the text.
+pub fn set_string_value<A: Allocator>(out: &mut String<A>, inside: &str) -> Result<(), ValueFault>
+    ensures ok { OnOk result (string_value (chars inside.now) ≡ Some (chars (string_bytes out.new))) }
+    ensures bad { (result ≡ Err ValueFault.BadEscape) ↔ (string_value (chars inside.now) ≡ None) }
+{
+    set_value(out, Inside::OfString, inside)
+}
+
+/// Puts what the inside of an IRIREF means in place of a text, as `set_string_value` does.
+#[tactic(auto, using(crate::proofs::ValuesLemmas::iri_value_characters))]
+pub fn set_iri_value<A: Allocator>(out: &mut String<A>, inside: &str) -> Result<(), ValueFault>
+    ensures ok { OnOk result (iri_value (chars inside.now) ≡ Some (chars (string_bytes out.new))) }
+    ensures characters { OnOk result (all_have (has iri_char) (chars (string_bytes out.new)) ≡ true) }
+    ensures bad { (result ≡ Err ValueFault.BadEscape) ↔ (iri_value (chars inside.now) ≡ None) }
+{
+    set_value(out, Inside::OfIri, inside)
 }
 
 /// Whether a token's text has no bad escape. A text of another kind than IRIs and strings has none.
@@ -108,7 +127,24 @@ fn value<A: Allocator>(alloc: A, inside: Inside, text: &str) -> Result<String<A>
     }
 }
 
-/// A bad escape is told also where memory is short: then alone the text is looked at twice.
+/// The same in place of a text.
+#[inline(always)]
+fn set_value<A: Allocator>(
+    out: &mut String<A>,
+    inside: Inside,
+    text: &str,
+) -> Result<(), ValueFault>
+    ensures ok { OnOk result (value (inside_of inside) outside (chars text.now) ≡ Some (chars (string_bytes out.new))) }
+    ensures bad { (result ≡ Err ValueFault.BadEscape) ↔ (value (inside_of inside) outside (chars text.now) ≡ None) }
+{
+    match put_value(out, inside, text) {
+        Ok(true) => Ok(()),
+        Ok(false) => Err(ValueFault::BadEscape),
+        Err(_) => Err(shortage(inside, text)),
+    }
+}
+
+/// A bad escape is reported also where memory is short: then alone the text is looked at twice.
 #[cold]
 #[inline(never)]
 fn shortage(inside: Inside, text: &str) -> ValueFault
@@ -164,18 +200,36 @@ fn built<A: Allocator>(
 ) -> Result<Option<String<A>>, AllocError>
     ensures { IfOk result (λ s. value (inside_of inside) outside (chars text.now) ≡ option_map (λ t. chars (string_bytes t)) s) }
 {
-    let mut out = String::with_capacity(alloc, text.len())?;
-    let mut at = put_run(&mut out, inside, text, 0)?;
+    let mut out = String::new(alloc);
+    if put_value(&mut out, inside, text)? {
+        Ok(Some(out))
+    } else {
+        Ok(None)
+    }
+}
+
+/// Puts the characters that the inside means in place of a text, unless an escape of it is bad, and answers whether none is.
+#[inline(always)]
+fn put_value<A: Allocator>(
+    out: &mut String<A>,
+    inside: Inside,
+    text: &str,
+) -> Result<bool, AllocError>
+    ensures { IfOk result (λ fit. value (inside_of inside) outside (chars text.now) ≡ cond fit (Some (chars (string_bytes out.new))) None) }
+{
+    out.clear();
+    out.reserve(text.len())?;
+    let mut at = put_run(out, inside, text, 0)?;
     while at < text.len() {
         match escape(inside, text.as_bytes(), at) {
             Some((meant, next)) => {
                 out.push(meant)?;
-                at = put_run(&mut out, inside, text, next)?;
+                at = put_run(out, inside, text, next)?;
             }
-            None => return Ok(None),
+            None => return Ok(false),
         }
     }
-    Ok(Some(out))
+    Ok(true)
 }
 
 /// What stands at a place as it is, up to the next escape: the place of that.
@@ -208,12 +262,12 @@ fn escape(inside: Inside, text: &[u8], at: usize) -> Option<(char, usize)>
     if text[at] != b'\\' {
         return None;
     }
-    escape_behind(inside, text, at + 1)
+    after_backslash(inside, text, at + 1)
 }
 
 /// The same after its backslash.
 #[inline(always)]
-fn escape_behind(inside: Inside, text: &[u8], at: usize) -> Option<(char, usize)>
+fn after_backslash(inside: Inside, text: &[u8], at: usize) -> Option<(char, usize)>
     requires within { at ≤ length text.now }
     requires utf8 { IsUtf8 (drop at text.now) }
     ensures { Reads (inside_of inside) (leads slash) text.now at result }

@@ -8,7 +8,7 @@ use rdf_lines::{Escapes, LabelFault, LineForm, LineReader, Style, label_text, wr
 use rdf_terms::{
     Iri, Known, Label, LiteralRef, NodeRef, PutFault, QuadList, QuadRef, QuadSink, Reason,
     SubjectRef, Tag, TailRef, TermFault, TermRef, ValueFault, iri_text, iri_value, known,
-    local_value, string_value,
+    local_value, set_iri_value, set_string_value, string_value,
 };
 use rdf_tokens::{Dialect, Scanner};
 use rdf_trig::{DocForm, Options, TrigReader, read_document};
@@ -78,8 +78,17 @@ impl Stop {
     }
 }
 
+/// Values that are put in place of a text.
+fn put_values<A: Allocator + Copy>(alloc: A) -> Result<(), Stop> {
+    let mut text = String::new(alloc);
+    set_string_value(&mut text, "a value")?;
+    set_iri_value(&mut text, "http://a/\\u0073\\U00000074")?;
+    Ok(())
+}
+
 /// Terms, values of escapes, and IRIs of references.
 fn make_terms<A: Allocator + Copy>(alloc: A) -> Result<(), Stop> {
+    put_values(alloc)?;
     let base = Iri::new(alloc, "http://h/b/c")?;
     Label::new(alloc, "x.y")?;
     Tag::new(alloc, "en-GB")?;
@@ -195,6 +204,27 @@ fn bind<A: Allocator + Copy>(
     }
 }
 
+/// The IRIs of a reference and of a name.
+fn use_names<A: Allocator + Copy>(scope: &Scope<A>, reference: &str) -> Result<(), Stop> {
+    if !iri_text(reference) {
+        return Err(Stop::Wrong);
+    }
+    scope.resolve_here(reference)?;
+    scope.expand("x", reference)?;
+    Ok(())
+}
+
+/// The same, put in place of a text.
+fn put_names<A: Allocator + Copy>(alloc: A, scope: &Scope<A>, reference: &str) -> Result<(), Stop> {
+    if !iri_text(reference) {
+        return Err(Stop::Wrong);
+    }
+    let mut text = String::from_str(alloc, reference)?;
+    scope.resolve_in_place(&mut text)?;
+    scope.expand_into("x", reference, &mut text)?;
+    Ok(())
+}
+
 /// Bases, bindings, and the IRIs of references and names.
 fn use_a_scope<A: Allocator + Copy>(alloc: A) -> Result<(), Stop> {
     let Some(limits) = Limits::new(9, 9, 9, 99) else {
@@ -207,11 +237,8 @@ fn use_a_scope<A: Allocator + Copy>(alloc: A) -> Result<(), Stop> {
     set_base(&mut scope, "../g/")?;
     bind(&mut scope, "x", "#h")?;
     for reference in ["s", "http://a/s"] {
-        if !iri_text(reference) {
-            return Err(Stop::Wrong);
-        }
-        scope.resolve_here(reference)?;
-        scope.expand("x", reference)?;
+        use_names(&scope, reference)?;
+        put_names(alloc, &scope, reference)?;
     }
     read_bindings(alloc, limits, b"x: http://x/\r\n: http://e/\nx: http://y/")?;
     Ok(())

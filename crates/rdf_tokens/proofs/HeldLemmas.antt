@@ -9,12 +9,14 @@ use Rattle.std.specs.List.{count_by}
 use Rattle.std.specs.Str.{chars, IsUtf8, IsCharBoundary}
 use Rattle.std.specs.Str.Lossy.{utf8_valid_len, utf8_error_len}
 use Rattle.rdf_tokens.specs.Front.{bytes_of}
-use Rattle.rdf_tokens.specs.Tokens.{Place, past}
+use Rattle.rdf_terms.specs.declared.kind.Dialect.{Dialect}
+use Rattle.rdf_tokens.specs.Tokens.{Place, past, blank}
 use Rattle.rdf_tokens.specs.Good.{good}
 use Rattle.rdf_tokens.specs.Moves.{BeginsChar, beyond, good_bytes, rest_of_bytes, is_broken}
 use Rattle.rdf_tokens.specs.Held.{Held}
 use Rattle.rdf_tokens.specs.Scans.{most_bytes}
 use Rattle.rdf_tokens.proofs.GoodLemmas.{good_front}
+use Rattle.rdf_tokens.proofs.BlankLemmas.{blank-bytes}
 use Rattle.rdf_tokens.proofs.CutLemmas.{Cut, cut}
 use Rattle.rdf_tokens.proofs.PlaceLemmas.{feeds-chars, past-chars}
 use Rattle.rdf_tokens.proofs.PastGood.{valid_past}
@@ -119,10 +121,9 @@ module _ (text : List ℕ) (start n len : ℕ) (pending : List ℕ) (place taken
   pub front_advanced : chars (take (start + len - start) (drop start text)) ≡ take n (chars (drop start text))
   front_advanced = let c = the_cut in ap chars front ∙ c.front
 
-  pub none_advanced : count_by (λ c. c == 10) (take n (chars (drop start text))) ≡ 0 → count_by (λ b. b == 10) (take (start + len - start) (drop start text)) ≡ 0
-  none_advanced none =
-      let c = the_cut in
-      ap (count_by (λ b. b == 10)) front ∙ (feeds-chars (take len (drop start text)) c.front_utf8 ∙ (ap (count_by (λ b. b == 10)) c.front ∙ none))
+  -- the line feeds among the characters are those among the bytes
+  pub feeds_advanced : count_by (λ b. b == 10) (take (start + len - start) (drop start text)) ≡ count_by (λ c. c == 10) (take n (chars (drop start text)))
+  feeds_advanced = let c = the_cut in ap (count_by (λ b. b == 10)) front ∙ (feeds-chars (take len (drop start text)) c.front_utf8 ∙ ap (count_by (λ b. b == 10)) c.front)
 
   module _ (feeds : ℕ) (f : feeds ≡ count_by (λ b. b == 10) (take (start + len - start) (drop start text))) where
     pub place_advanced : (let q : Place = record { offset = place.offset + len; line = place.line + feeds } in q) ≡ past place (take n (chars (drop start text)))
@@ -153,6 +154,13 @@ module _ (text : List ℕ) (start n len : ℕ) (pending : List ℕ) (place taken
           lines = omega arith;
           last = h.last;
         }
+
+-- the line feeds in white space of one byte
+pub blank_feeds : (d : Dialect) (bs : List ℕ) → IsUtf8 bs → blank d false bs ≡ 1 →
+    count_by (λ c. c == 10) (take (blank d false (chars bs)) (chars bs)) ≡ count_by (λ b. b == 10) (take 1 bs)
+blank_feeds d bs u e =
+    let c = cut bs (blank d false (chars bs)) 1 u (sym e ∙ blank-bytes d false bs u) in
+    sym (feeds-chars (take 1 bs) c.front_utf8 ∙ ap (count_by (λ b. b == 10)) c.front)
 
 -- the place after all of the text
 pub place_behind : (text : List ℕ) (start : ℕ) (pending : List ℕ) (place taken : Place) → Held text start pending place taken → IsUtf8 text →

@@ -12,6 +12,7 @@ pub mod TagLemmas
 pub mod NumberLemmas
 mod NumberQuick
 mod PlainQuick
+mod TagQuick
 pub mod NameLemmas
 pub mod NameSorts
 pub mod IriSorts

@@ -12,7 +12,7 @@ use Rattle.rdf_tokens.specs.Tokens.Step.{token, stop}
 use Rattle.rdf_tokens.specs.Good.{mark, tokens_at, tokens_of}
 use Rattle.rdf_tokens.specs.Unread.{Unread}
 use Rattle.rdf_tokens.specs.Scans.{HasScanned}
-use Rattle.rdf_tokens.specs.Moves.{BeginsChar, tail_now, is_settled, MayCome, moved, Stands, Moves}
+use Rattle.rdf_tokens.specs.Moves.{MovesBytes, BeginsChar, tail_now, is_settled, MayCome, moved, Stands, Moves}
 use Rattle.rdf_tokens.specs.Front.{bytes_of}
 use Rattle.rdf_tokens.specs.Blank.{comment_step, comment_after}
 use Rattle.rdf_tokens.proofs.BlankLemmas.{blank_by, comment_by, blank-step, comment-step, tokens-blank, tokens-rest, rest-blank}
@@ -161,6 +161,12 @@ bared_is v new rest len comment h r b l k =
     h n (l ∙ ap (λ w. bytes_of (blank v.dialect v.comment w) w) r)
     ∙ (ap (λ b. moved v (past v.place (take n v.text)) b comment (drop n v.text)) b
     ∙ ap (λ k. moved v (past v.place (take n v.text)) true k (drop n v.text)) (k ∙ ap (comment_after v.dialect v.comment) r))
+
+-- the same where one space stands there, and no comment is open
+pub one_bared : (v new : Unread) (rest : List ℕ) → MovesBytes v 1 new → rest ≡ v.text →
+    v.begun ≡ true → v.comment ≡ false → bytes_of (blank v.dialect false rest) rest ≡ 1 → comment_after v.dialect false rest ≡ false → new ≡ bared v
+one_bared v new rest h r b c l k =
+    bared_is v new rest 1 v.comment h r b (sym l ∙ ap (λ k. bytes_of (blank v.dialect k rest) rest) (sym c)) (c ∙ (sym k ∙ ap (λ k. comment_after v.dialect k rest) (sym c)))
 
 -- where no white space comes first
 module _ (v : Unread) (s : Stands v) where

@@ -14,13 +14,12 @@ use Rattle.rdf_tokens.specs.Tokens.Outcome.{undecided, complete, token_too_long,
 use Rattle.rdf_tokens.specs.Good.{tokens_at, tokens_of}
 use Rattle.rdf_tokens.specs.Unread.{Unread}
 use Rattle.rdf_tokens.specs.Scans.{HasScanned, IsOpen, SameScan, IsToken, GivesToken, Waits, Stops, StopsFor, left, is_end}
-use Rattle.rdf_tokens.specs.Moves.{BeginsChar, tail_now, is_settled, fault_place, IsGiven, moved, Stands, Moves}
+use Rattle.rdf_tokens.specs.Moves.{IsEndGiven, GivesBytes, BeginsChar, tail_now, is_settled, fault_place, moved, Stands, Moves}
 use Rattle.rdf_terms.specs.declared.reason.Reason.{Reason}
 use Rattle.rdf_terms.specs.declared.reason.Reason.TheVariants.{BadUtf8, NoToken, BadEscape, TokenTooLong}
 use Rattle.rdf_tokens.specs.declared.look.Look.TheVariants as Look
 use Rattle.rdf_tokens.specs.declared.look.Look.TheVariants.{Stop}
 use Rattle.rdf_tokens.specs.Look.{IsLook}
-use Rattle.rdf_tokens.specs.Front.{bytes_of}
 use Rattle.rdf_tokens.proofs.StepLemmas.{step-token}
 use Rattle.rdf_tokens.proofs.TokensLemmas.{at_stop, step_token}
 use Rattle.rdf_tokens.proofs.ReadLemmas.{read_now, read_on}
@@ -190,13 +189,13 @@ module _ (old mid : Unread) (m : Moves old [] mid) (p : old.stopped ≡ false) (
       subst (λ s. StopsFor s old p new) (sym e) (subst (λ p. StopsFor r old p new) (sym f)
       (subst (λ n. StopsFor r old (fault_place r mid.place mid.text) n) (sym h) (stops_for r l)))
 
-  pub ends_at : {t : Token} {new : Unread} → (new ≡ record mid { stopped = true }) × (t ≡ record { kind = End; text = []; at = mid.place }) →
+  pub ends_at : {t : Token} {new : Unread} → IsEndGiven mid t new →
       step mid.dialect mid.limit (tail_now mid) mid.text ≡ stop complete → GivesToken old t new
-  ends_at {t} {new} h e = subst (λ n. GivesToken old t n) (sym h.0) (subst (λ t. GivesToken old t (record mid { stopped = true })) (sym h.1) (gives_end e))
+  ends_at {t} {new} h e = subst (λ n. GivesToken old t n) (sym h.stopped) (subst (λ t. GivesToken old t (record mid { stopped = true })) (sym h.token) (gives_end e))
 
   -- a token of some bytes
   pub gives_look : (len : ℕ) (k : Kind) (t : Token) (new : Unread) → IsLook (Look.Token len k) (step mid.dialect mid.limit (tail_now mid) mid.text) mid.text →
-      ((n : ℕ) → len ≡ bytes_of n mid.text → IsGiven mid k n t new) → GivesToken old t new
+      GivesBytes mid k len t new → GivesToken old t new
   gives_look len k t new l h =
       let n = l.0 in
       let g = h n l.3 in

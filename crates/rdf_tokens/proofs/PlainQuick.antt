@@ -32,7 +32,7 @@ use Rattle.rdf_tokens.proofs.RestStates.{rests_iri, rests_short, rests_label}
 use Rattle.rdf_tokens.proofs.StateLemmas.{reached-step}
 
 -- one byte of ASCII on, in a text that does not begin with three quotes
-byte_on : (d : Dialect) (bs : List ℕ) (at : ℕ) (s t : State) (k : Option Kind) (b : Option (ℕ × Kind)) → three_quotes d (chars bs) ≡ false → at < length bs → get_or bs at 0 < 128 →
+pub byte_on : (d : Dialect) (bs : List ℕ) (at : ℕ) (s t : State) (k : Option Kind) (b : Option (ℕ × Kind)) → three_quotes d (chars bs) ≡ false → at < length bs → get_or bs at 0 < 128 →
     Reached d bs at s b → t ≡ step d s (get_or bs at 0) → k ≡ kind_at t → Reached d bs (at + 1) t (with_length (at + 1) k b)
 byte_on d bs at s t k b q i a h es ek =
     let c = get_or bs at 0 in
@@ -63,7 +63,7 @@ no_quote_second Turtle a [] p = refl
 no_quote_second Turtle a (b ∷ w) p = ap (λ t. ((true && t) && b == 34) || ((false && a == 39) && b == 39)) p
 
 -- A text that begins with a byte of ASCII that is no quote.
-quotes_of : (d : Dialect) (bs : List ℕ) (c : ℕ) → IsUtf8 bs → 0 < length bs → c < 128 → get_or bs 0 0 ≡ c → (c == 34) ≡ false → (c == 39) ≡ false → three_quotes d (chars bs) ≡ false
+pub quotes_of : (d : Dialect) (bs : List ℕ) (c : ℕ) → IsUtf8 bs → 0 < length bs → c < 128 → get_or bs 0 0 ≡ c → (c == 34) ≡ false → (c == 39) ≡ false → three_quotes d (chars bs) ≡ false
 quotes_of d bs c u l a e p q =
     let low : get_or bs 0 0 < 128 = omega (arith, e) in
     ap (three_quotes d) ((one_on bs 0 (at-start bs u) l low).0 ∙ ap (λ x. x ∷ drop 1 (chars bs)) e) ∙ no_quote_first d c (drop 1 (chars bs)) p q

@@ -146,3 +146,8 @@ walked-kept d bs old n count len kind (Some s) u h e m f g = ⊎_elim
           state = state ∙ ap (state_of d) (sym (take_all (length w) w (omega arith)));
           front = f;
         }
+
+-- what is kept or what was there, as a test says
+pub walked_if : (d : Dialect) (bs : List ℕ) (b : Bool) (new old : Option Walk) → Walked d bs new → Walked d bs old → Walked d bs (cond b new old)
+walked_if d bs true new old n o = n
+walked_if d bs false new old n o = o

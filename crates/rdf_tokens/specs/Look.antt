@@ -1,6 +1,7 @@
 -- What a look at the front of a text tells of the next step.
-use Rattle.std.specs.Prelude.{◌≡◌, ◌≤◌, ℕ, cond, List, [], ◌∷◌, length, take, Option, Some, None}
+use Rattle.std.specs.Prelude.{◌≡◌, ◌≤◌, ℕ, false, cond, List, [], ◌∷◌, length, take, Option, Some, None}
 use Rattle.std.specs.Str.{chars, IsCharBoundary}
+use Rattle.rdf_terms.specs.declared.kind.Dialect.{Dialect}
 use Rattle.rdf_terms.specs.declared.kind.Kind.{Kind}
 use Rattle.rdf_terms.specs.Values.{is_fit}
 use Rattle.rdf_terms.specs.declared.reason.Reason.TheVariants.{BadUtf8, NoToken, BadEscape, TokenTooLong}
@@ -8,7 +9,7 @@ use Rattle.rdf_tokens.specs.declared.look.Tail.{Tail as Behind}
 use Rattle.rdf_tokens.specs.declared.look.Tail.TheVariants.{GoesOn, Ended, Broken}
 use Rattle.rdf_tokens.specs.declared.look.Look.{Look}
 use Rattle.rdf_tokens.specs.declared.look.Look.TheVariants.{Undecided, Complete, Stop, Token}
-use Rattle.rdf_tokens.specs.Tokens.{Tail, Step}
+use Rattle.rdf_tokens.specs.Tokens.{Tail, Step, over, step}
 use Rattle.rdf_tokens.specs.Tokens.Tail.{goes_on, ended, broken}
 use Rattle.rdf_tokens.specs.Tokens.Outcome.{undecided, complete, token_too_long, bad_utf8, no_token, bad_escape}
 use Rattle.rdf_tokens.specs.Tokens.Step.{token, stop}
@@ -30,6 +31,11 @@ IsLook (Stop NoToken) s w = s ≡ stop no_token
 IsLook (Stop BadEscape) s w = s ≡ stop bad_escape
 IsLook (Stop r) s w = ⊥
 IsLook (Token m k) s w = (n : ℕ) × (s ≡ token n k) × (n ≤ length w) × (m ≡ bytes_of n w)
+
+-- A look that tells the step whatever comes after the text. Without one no token is too long.
+abbrev pub IsFirstLook : Dialect → ℕ → Option Look → List ℕ → Type 0
+IsFirstLook d limit None bs = over d limit (chars bs) ≡ false
+IsFirstLook d limit (Some l) bs = (t : Tail) → IsLook l (step d limit t (chars bs)) (chars bs)
 
 -- what is decided by the longest front, in bytes
 abbrev pub chosen_by : List ℕ → Option (ℕ × Kind) → Look

@@ -2,12 +2,13 @@
 use Rattle.std.specs.Prelude.{◌≡◌, ◌||◌, ℕ, Bool, true, false, cond, List, [], ◌++◌, ◌⊎◌, ◌+◌, ◌==◌, ◌≤◌, length, count_by, take, drop, not, is_some, None}
 use Rattle.std.specs.Str.Lossy.{utf8_valid_len, utf8_error_len}
 use Rattle.rdf_terms.specs.declared.kind.Kind.{Kind}
-use Rattle.rdf_terms.specs.declared.kind.Kind.TheVariants.{LineEnd, LongString}
+use Rattle.rdf_terms.specs.declared.kind.Kind.TheVariants.{End, LineEnd, LongString}
 use Rattle.rdf_terms.specs.declared.reason.Reason.{Reason}
 use Rattle.rdf_terms.specs.declared.reason.Reason.TheVariants.{BadUtf8}
 use Rattle.rdf_tokens.specs.Tokens.{Tail, Place, Token, past, is_empty, blank, with_tokens}
 use Rattle.rdf_tokens.specs.Tokens.Tail.{goes_on, ended, broken}
 use Rattle.rdf_tokens.specs.Good.{good, tokens_at}
+use Rattle.rdf_tokens.specs.Front.{bytes_of}
 use Rattle.rdf_tokens.specs.Unread.{Unread}
 
 -- bytes that begin a character, which has not come whole, or none
@@ -68,6 +69,19 @@ moved v p begun comment text = record v { place = p; begun = begun; comment = co
 pub record IsGiven (old : Unread) (k : Kind) (n : ℕ) (t : Token) (new : Unread) : Type 0 where
   pub token : t ≡ record { kind = k; text = take n old.text; at = old.place }
   pub moved_on : new ≡ moved old (past old.place (take n old.text)) old.begun false (drop n old.text)
+
+-- it is so of the token of so many bytes
+abbrev pub GivesBytes : Unread → Kind → ℕ → Token → Unread → Type 0
+GivesBytes old k len t new = (n : ℕ) → len ≡ bytes_of n old.text → IsGiven old k n t new
+
+-- The end was given, and the reader has stopped.
+pub record IsEndGiven (old : Unread) (t : Token) (new : Unread) : Type 0 where
+  pub token : t ≡ record { kind = End; text = []; at = old.place }
+  pub stopped : new ≡ record old { stopped = true }
+
+-- the reader stands so many bytes on
+abbrev pub MovesBytes : Unread → ℕ → Unread → Type 0
+MovesBytes old len new = (n : ℕ) → len ≡ bytes_of n old.text → new ≡ moved old (past old.place (take n old.text)) old.begun old.comment (drop n old.text)
 
 -- a kind whose texts have no line feed
 abbrev pub is_flat : Kind → Bool

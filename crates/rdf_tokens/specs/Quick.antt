@@ -1,5 +1,5 @@
 -- Tokens that the first bytes of a text settle.
-use Rattle.std.specs.Prelude.{◌≡◌, ◌+◌, ℕ, Bool, true, false, cond, not, ◌&&◌, ◌==◌, nat_lt, List, [], ◌∷◌, length, get_or, take, Option, None, Some}
+use Rattle.std.specs.Prelude.{◌≡◌, ◌+◌, ℕ, Bool, true, false, cond, not, ◌&&◌, ◌||◌, ◌==◌, nat_lt, List, [], ◌∷◌, length, get_or, take, Option, None, Some}
 use Rattle.std.specs.Str.{chars}
 use Rattle.rdf_terms.specs.declared.kind.Dialect.{Dialect}
 use Rattle.rdf_terms.specs.declared.kind.Dialect.TheVariants.{Lines, Turtle}
@@ -102,3 +102,27 @@ begins_string bs = nat_lt 1 (length bs) && ((get_or bs 0 0 == 34) && is_ascii_te
 -- '<' comes first
 abbrev pub begins_iri : List ℕ → Bool
 begins_iri bs = stands_at 60 bs 0
+
+-- two bytes begin the words `prefix` or `base`
+abbrev pub begins_directive : ℕ → ℕ → Bool
+begins_directive a b = (a == 112 && b == 114) || (a == 98 && b == 97)
+
+-- '@' comes first, and a letter, and with the byte after it neither `@prefix` nor `@base` begins
+abbrev pub begins_tag : List ℕ → Bool
+begins_tag bs = nat_lt 2 (length bs) && ((get_or bs 0 0 == 64) && (is_letter (get_or bs 1 0) && not (begins_directive (get_or bs 1 0) (get_or bs 2 0))))
+
+-- a letter or a digit
+abbrev pub is_part_byte : ℕ → Bool
+is_part_byte b = is_letter b || is_digit b
+
+-- a byte of ASCII that is no hyphen: no tag goes on with it but with a letter or, after its first part, with a digit
+abbrev pub ends_tag : ℕ → Bool
+ends_tag b = nat_lt b 128 && not (b == 45)
+
+-- such a byte stands at a place
+abbrev pub is_tag_end : List ℕ → ℕ → Bool
+is_tag_end bs at = nat_lt at (length bs) && ends_tag (get_or bs at 0)
+
+-- such a byte, and something between a hyphen and it
+abbrev pub is_later_end : List ℕ → ℕ → ℕ → Bool
+is_later_end bs hyphen at = nat_lt (hyphen + 1) at && is_tag_end bs at

@@ -1,6 +1,6 @@
 // White space and comments.
 
-ghost use Rattle.std.specs.Prelude.{◌≡◌, ◌≤◌, true, false, length};
+ghost use Rattle.std.specs.Prelude.{◌≡◌, ◌==◌, ◌≤◌, true, false, length, take, count_by};
 ghost use Rattle.std.specs.Str.{chars};
 ghost use Rattle.rdf_tokens.specs.Tokens.{blank, is_line_end as ends_line, is_space as spaces};
 ghost use Rattle.rdf_tokens.specs.Blank.{comment_step, comment_after, goes_on, is_cut, is_hash};
@@ -27,22 +27,8 @@ pub(crate) fn blank_run(dialect: Dialect, in_comment: bool, text: &str) -> Blank
     blank_bytes(dialect, in_comment, text.as_bytes())
 }
 
-/// A byte from 128 on stands in a comment as it is, and is no white space.
+/// A comment and the white space after it at a time. A byte from 128 on stands in a comment as it is, and is no white space.
 fn blank_bytes(dialect: Dialect, in_comment: bool, bytes: &[u8]) -> Blank
-    ensures len { result.len ≡ blank dialect in_comment bytes.now }
-    ensures comment { result.in_comment ≡ comment_after dialect in_comment bytes.now }
-{
-    if !in_comment && is_one_space(dialect, bytes) {
-        return Blank {
-            len: 1,
-            in_comment: false,
-        };
-    }
-    blank_parts(dialect, in_comment, bytes)
-}
-
-/// The same, a comment and the white space after it at a time.
-fn blank_parts(dialect: Dialect, in_comment: bool, bytes: &[u8]) -> Blank
     ensures len { result.len ≡ blank dialect in_comment bytes.now }
     ensures comment { result.in_comment ≡ comment_after dialect in_comment bytes.now }
 {
@@ -108,11 +94,21 @@ fn is_hash(bytes: &[u8], at: usize) -> bool
     at < bytes.len() && bytes[at] == b'#'
 }
 
-/// Whether one space stands before a byte that is neither white space nor the beginning of a comment.
+/// Whether one space stands before a character that is neither white space nor the beginning of a comment.
 #[inline(always)]
-fn is_one_space(dialect: Dialect, bytes: &[u8]) -> bool
+pub(crate) fn is_one_space(dialect: Dialect, text: &str) -> bool
+    ensures len { result ≡ true → bytes_of (blank dialect false (chars text.now)) (chars text.now) ≡ 1 }
+    ensures comment { result ≡ true → comment_after dialect false (chars text.now) ≡ false }
+    ensures feeds { result ≡ true → count_by (λ c. c == 10) (take (blank dialect false (chars text.now)) (chars text.now)) ≡ 0 }
+{
+    is_one_space_byte(dialect, text.as_bytes())
+}
+
+#[inline(always)]
+fn is_one_space_byte(dialect: Dialect, bytes: &[u8]) -> bool
     ensures len { result ≡ true → blank dialect false bytes.now ≡ 1 }
     ensures comment { result ≡ true → comment_after dialect false bytes.now ≡ false }
+    ensures feeds { result ≡ true → count_by (λ b. b == 10) (take 1 bytes.now) ≡ 0 }
 {
     match bytes {
         [b' ', next, ..] => behind(dialect, false, *next).is_none(),

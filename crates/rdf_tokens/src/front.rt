@@ -1,6 +1,6 @@
 // The longest token at the front of a text.
 
-ghost use Rattle.std.specs.Prelude.{◌≡◌, length, get_or};
+ghost use Rattle.std.specs.Prelude.{◌≡◌, cond, length, get_or};
 ghost use Rattle.std.specs.Str.{chars};
 ghost use Rattle.rdf_terms.specs.Shapes.{is_live};
 ghost use Rattle.rdf_tokens.specs.Tokens.{three_quotes, only_long, with_length, longest};
@@ -55,10 +55,11 @@ pub(crate) struct Bare {
 }
 
 /// The longest token at the front of a text. The states go on from where they came in the text's first bytes, and where a
-/// longer token may come, it is kept how far they came.
+/// longer token may come, and more text, it is kept how far they came.
 pub(crate) fn front_of(
     dialect: Dialect,
     text: &str,
+    more: bool,
     walk: &mut Option<Walk>,
     bare: &mut Option<Bare>,
 ) -> Front
@@ -70,7 +71,7 @@ pub(crate) fn front_of(
     ensures bare { IsBareIn dialect text.now bare.new }
 {
     let shaped = shaped_front(dialect, text, walk, bare);
-    keep(walk, text, &shaped);
+    keep(walk, text, more, &shaped);
     Front {
         best: longer(
             fixed_front(dialect, text.as_bytes()),
@@ -89,11 +90,15 @@ struct Shaped {
     state: Option<State>,
 }
 
-/// Keeps how far the states came where they go on. After fewer than three bytes quotes may still turn into those of a long string.
-fn keep(walk: &mut Option<Walk>, text: &str, shaped: &Shaped)
+/// Keeps how far the states came where they go on and more text may come. After fewer than three bytes quotes may still turn into those of a
+/// long string. Where nothing more comes, each token is looked at once, so the characters of the whole text need not be counted for it.
+fn keep(walk: &mut Option<Walk>, text: &str, more: bool, shaped: &Shaped)
     requires { IsCounted text.now walk.old }
-    ensures { walk.new ≡ walk_kept walk.old (length text.now) (length (chars text.now)) shaped.now.len shaped.now.kind shaped.now.state }
+    ensures { walk.new ≡ cond more (walk_kept walk.old (length text.now) (length (chars text.now)) shaped.now.len shaped.now.kind shaped.now.state) walk.old }
 {
+    if !more {
+        return;
+    }
     if let Some(state) = shaped.state {
         if text.len() >= 3 {
             *walk = Some(Walk {

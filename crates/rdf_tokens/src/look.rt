@@ -1,11 +1,11 @@
 // The decision what stands at a place, from the text that has come.
 
 ghost use Rattle.std.specs.Str.{chars};
-ghost use Rattle.std.specs.Prelude.{◌≡◌, ◌||◌};
-ghost use Rattle.rdf_tokens.specs.Tokens.{is_empty, step};
+ghost use Rattle.std.specs.Prelude.{◌≡◌, ◌||◌, ℕ, false};
+ghost use Rattle.rdf_tokens.specs.Tokens.{is_empty, over, step};
 ghost use Rattle.rdf_tokens.specs.Walk.{Walked};
 ghost use Rattle.rdf_tokens.specs.Bare.{IsBareIn};
-ghost use Rattle.rdf_tokens.specs.Look.{behind, IsLook, CutsAt, decided_by};
+ghost use Rattle.rdf_tokens.specs.Look.{behind, IsLook, IsFirstLook, CutsAt, decided_by};
 
 use crate::front::{Bare, Walk, front_of};
 use crate::over::is_over;
@@ -36,38 +36,58 @@ pub(crate) enum Look {
     Token(usize, Kind),
 }
 
-/// What stands at the front of a text, from which white space and comments have been taken off. What is kept of its token
-/// is not looked at again, and what was seen of it is kept.
-pub(crate) fn look_at(
+/// What stands at the front of a text, from which white space and comments have been taken off, where that is settled whatever comes after it:
+/// by the first bytes, or since a token is too long.
+#[inline(always)]
+pub(crate) fn first_look(
     dialect: Dialect,
     text: &str,
     limit: u64,
+    walk: &Option<Walk>,
+    bare: &Option<Bare>,
+) -> Option<Look>
+    requires walked { Walked dialect text.now walk.now }
+    requires bare { IsBareIn dialect text.now bare.now }
+    ensures { IsFirstLook dialect limit result text.now }
+{
+    if is_over(dialect, text, limit, walk, bare) {
+        return Some(Look::Stop(Reason::TokenTooLong));
+    }
+    if walk.is_none() {
+        let quick = quick_front(dialect, text, bare);
+        if let Some(kind) = quick.kind {
+            return Some(Look::Token(quick.len, kind));
+        }
+    }
+    None
+}
+
+/// The same by the states, of a text within the limit. What is kept of its token is not looked at again, and what was seen of it is kept.
+pub(crate) fn look_at(
+    dialect: Dialect,
+    text: &str,
     tail: Tail,
     walk: &mut Option<Walk>,
     bare: &mut Option<Bare>,
 ) -> Look
     requires walked { Walked dialect text.now walk.old }
     requires bare { IsBareIn dialect text.now bare.old }
-    ensures look { IsLook result (step dialect limit (behind tail) (chars text.now)) (chars text.now) }
+    ensures look { (limit : ℕ) → over dialect limit (chars text.now) ≡ false → IsLook result (step dialect limit (behind tail) (chars text.now)) (chars text.now) }
     ensures walked { Walked dialect text.now walk.new }
     ensures bare { IsBareIn dialect text.now bare.new }
 {
-    if is_over(dialect, text, limit, walk, bare) {
-        return Look::Stop(Reason::TokenTooLong);
-    }
-    if walk.is_none() {
-        let quick = quick_front(dialect, text, bare);
-        if let Some(kind) = quick.kind {
-            return Look::Token(quick.len, kind);
-        }
-    }
-    let front = front_of(dialect, text, walk, bare);
+    let front = front_of(dialect, text, may_grow(tail), walk, bare);
     let waits = is_open(text, front.live);
     match tail {
         Tail::GoesOn if waits => Look::Undecided,
         Tail::Broken if waits => Look::Stop(Reason::BadUtf8),
         _ => decided(text, front.best),
     }
+}
+
+#[inline(always)]
+fn may_grow(tail: Tail) -> bool {
+    matches!(tail, Tail::GoesOn)
 }
 
 fn is_open(text: &str, live: bool) -> bool

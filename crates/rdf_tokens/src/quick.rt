@@ -4,7 +4,7 @@ ghost use Rattle.std.specs.Prelude.{◌≡◌, ◌<◌, ◌≤◌, true, length,
 ghost use Rattle.rdf_terms.specs.Classes.{is_digit, is_letter};
 ghost use Rattle.rdf_terms.specs.declared.kind.Dialect.{Dialect};
 ghost use Rattle.rdf_terms.specs.declared.kind.Dialect.TheVariants.{Turtle};
-ghost use Rattle.rdf_tokens.specs.Quick.{IsQuick, single, is_sought, is_colon, ends_name, is_name_end, is_a, is_dot, begins_number, is_point, is_integer_end, is_decimal_end, ends_integer, ends_number, begins_iri, begins_string, begins_label, begins_label_name, stands_at};
+ghost use Rattle.rdf_tokens.specs.Quick.{IsQuick, single, is_sought, is_colon, ends_name, is_name_end, is_a, is_dot, begins_number, is_point, is_integer_end, is_decimal_end, ends_integer, ends_number, begins_iri, begins_string, begins_label, begins_label_name, begins_tag, begins_directive, is_part_byte, is_tag_end, is_later_end, stands_at};
 ghost use Rattle.rdf_terms.specs.Runs.{IsRun, is_ascii_text_byte};
 
 use crate::front::{Bare, begins_in_letter};
@@ -47,7 +47,7 @@ pub(crate) fn quick_front(dialect: Dialect, text: &str, bare: &Option<Bare>) -> 
     quick_plain(text)
 }
 
-/// A token without an escape that begins with `<`, `"` or `_:`.
+/// A token without an escape that begins with `<`, `"`, `_:` or `@`.
 #[inline(always)]
 fn quick_plain(text: &str) -> Quick
     requires some { 0 < length text.now }
@@ -62,6 +62,9 @@ fn quick_plain(text: &str) -> Quick
     }
     if begins_label(bytes) {
         return quick_label(text);
+    }
+    if begins_tag(bytes) {
+        return quick_tag(text);
     }
     Quick { len: 0, kind: None }
 }
@@ -160,6 +163,107 @@ fn quick_label(text: &str) -> Quick
         };
     }
     Quick { len: 0, kind: None }
+}
+
+/// Whether `@` comes first and a letter, and with the byte after it neither `@prefix` nor `@base` begins.
+#[inline(always)]
+fn begins_tag(bytes: &[u8]) -> bool
+    ensures { result ≡ begins_tag bytes.now }
+{
+    bytes.len() > 2
+        && bytes[0] == b'@'
+        && is_letter(bytes[1])
+        && !begins_directive(bytes[1], bytes[2])
+}
+
+#[inline(always)]
+fn is_letter(byte: u8) -> bool
+    ensures { result ≡ is_letter byte }
+{
+    matches!(byte, b'A'..=b'Z' | b'a'..=b'z')
+}
+
+#[inline(always)]
+fn begins_directive(first: u8, second: u8) -> bool
+    ensures { result ≡ begins_directive first second }
+{
+    first == b'p' && second == b'r' || first == b'b' && second == b'a'
+}
+
+/// A tag of one part or two, up to a byte of ASCII with which no tag goes on.
+#[inline(always)]
+fn quick_tag(text: &str) -> Quick
+    requires { begins_tag text.now ≡ true }
+    ensures { (dialect : Dialect) → IsQuick dialect text.now result.len result.kind }
+{
+    let bytes = text.as_bytes();
+    let end = letters_end(bytes, 2);
+    if is_tag_end(bytes, end) {
+        return Quick {
+            len: end,
+            kind: Some(Kind::LangTag),
+        };
+    }
+    if stands_at(b'-', bytes, end) {
+        let last = part_end(bytes, end + 1);
+        if is_later_end(bytes, end, last) {
+            return Quick {
+                len: last,
+                kind: Some(Kind::LangTag),
+            };
+        }
+    }
+    Quick { len: 0, kind: None }
+}
+
+/// Where the run of letters from a place on ends.
+#[inline(always)]
+fn letters_end(bytes: &[u8], from: usize) -> usize
+    requires { from ≤ length bytes.now }
+    ensures { IsRun is_letter bytes.now from result }
+{
+    let mut at = from;
+    while at < bytes.len() && is_letter(bytes[at]) {
+        at += 1;
+    }
+    at
+}
+
+/// Where the run of letters and digits from a place on ends.
+#[inline(always)]
+fn part_end(bytes: &[u8], from: usize) -> usize
+    requires { from ≤ length bytes.now }
+    ensures { IsRun is_part_byte bytes.now from result }
+{
+    let mut at = from;
+    while at < bytes.len() && is_part_byte(bytes[at]) {
+        at += 1;
+    }
+    at
+}
+
+#[inline(always)]
+fn is_part_byte(byte: u8) -> bool
+    ensures { result ≡ is_part_byte byte }
+{
+    is_letter(byte) || is_digit(byte)
+}
+
+/// Whether there is a byte of ASCII that is no hyphen. Behind a run of letters, or of letters and digits after a hyphen, no tag goes on with it.
+#[inline(always)]
+fn is_tag_end(bytes: &[u8], at: usize) -> bool
+    ensures { result ≡ is_tag_end bytes.now at }
+{
+    at < bytes.len() && (bytes[at] < 128 && bytes[at] != b'-')
+}
+
+/// Whether there is something between a hyphen and such a byte.
+#[inline(always)]
+fn is_later_end(bytes: &[u8], hyphen: usize, at: usize) -> bool
+    requires { hyphen < length bytes.now }
+    ensures { result ≡ is_later_end bytes.now hyphen at }
+{
+    hyphen + 1 < at && is_tag_end(bytes, at)
 }
 
 /// The kind of a byte that is a token whatever comes after it.

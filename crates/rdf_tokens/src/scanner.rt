@@ -1,23 +1,22 @@
 // The scanner.
 
-ghost use Rattle.std.specs.Prelude.{◌≡◌, ◌==◌, ℕ, List, [], ◌++◌, count_by, true, IsErrOf, OnOk, OnErr, IfOk, cond, min, ◌-◌, ◌+◌, ◌≤◌, ◌<◌, ◌&&◌, ◌||◌, nat_le, length, drop, take, ⊤, ◌/◌};
+ghost use Rattle.std.specs.Prelude.{◌≡◌, ◌==◌, ℕ, List, [], ◌++◌, count_by, true, OnOk, OnErr, IfOk, cond, min, ◌-◌, ◌+◌, ◌≤◌, ◌<◌, ◌&&◌, ◌||◌, nat_le, length, drop, take, ⊤, ◌/◌};
 ghost use Rattle.std.specs.Str.{chars, IsCharBoundary};
 ghost use Rattle.std.specs.String.{string_bytes};
 ghost use mathlib.Core.Option.{none};
 ghost use Rattle.std.specs.Borrow.{sem, follows_so};
-ghost use Rattle.rdf_tokens.specs.Tokens.{Token as Read, past, step, is_empty};
+ghost use Rattle.rdf_tokens.specs.Tokens.{Token as Read, step, is_empty};
 ghost use Rattle.rdf_tokens.specs.Scans.{HasScanned, Pushes, Gives, most_bytes, token_of, place_of, unread_bytes, IsWaiting, most_unread, fitting};
 ghost use Rattle.rdf_tokens.specs.Look.{behind, IsLook};
 ghost use Rattle.rdf_tokens.specs.contracts.scanner.Scanner.{the_row};
-ghost use Rattle.rdf_tokens.specs.Moves.{closed, grown, good_bytes, is_broken, rest_of_bytes, is_settled, moved, tail_now, fault_place, is_flat, IsGiven, Moves, Stands};
+ghost use Rattle.rdf_tokens.specs.Moves.{closed, grown, good_bytes, is_broken, rest_of_bytes, is_settled, tail_now, fault_place, is_flat, GivesBytes, IsEndGiven, Moves, MovesBytes, Stands};
 ghost use Rattle.rdf_tokens.specs.Passing.{is_idle, passed};
-ghost use Rattle.rdf_tokens.specs.Good.{mark};
 ghost use Rattle.rdf_tokens.specs.Front.{bytes_of};
 
-use crate::blank::blank_run;
+use crate::blank::{blank_run, is_one_space};
 use crate::front::{Bare, Walk};
 use crate::good::{few_line_feeds, good_front, line_feeds, mark_len};
-use crate::look::{Look, Tail, look_at};
+use crate::look::{Look, Tail, first_look, look_at};
 use crate::token::{Fault, Token};
 use rdf_terms::{Dialect, Kind, Reason};
 use std::alloc::{AllocError, Allocator, Global};
@@ -74,7 +73,8 @@ impl<A: Allocator> Model for Scanner<A> {
       stopped = s.stopped;
     } };
 
-    ghost invariant = { λ s. Holds s.dialect s.limit (string_bytes s.text) s.start s.walk s.bare s.pending.items (record { offset = s.offset; line = s.line }) (record { offset = s.taken; line = s.last_line }) };
+    ghost invariant = { λ s. Holds s.dialect s.limit (string_bytes s.text) s.start s.walk s.bare s.pending.items
+        (record { offset = s.offset; line = s.line }) (record { offset = s.taken; line = s.last_line }) };
 }
 
 impl<A: Allocator + Copy> Scanner<A> {
@@ -149,7 +149,7 @@ impl<A: Allocator + Copy> Scanner<A> {
     /// gives `End`, once. A fault stands at the place of the token that is not there; `BadUtf8` after
     /// all of the text. After it, and after `End`, the scanner is stopped and answers `Ended`.
     pub fn next(&mut self) -> Result<Option<Token<'_>>, Fault>
-        ensures* { sem 𝓛 (follows_so (the_row A.row A.Allocator) (the_row A.row A.Allocator) self.entry.ghost_name none (λ _ _. ⊤) (λ v. Gives self.old result v)) }
+        ensures* { sem 𝓛 (follows_so (the_row A.row A.Allocator) (the_row A.row A.Allocator) self.entry.ghost_name none (λ _ _. ⊤) (Gives self.old result)) }
     {
         if self.stopped {
             return Err(self.fault(Reason::Ended));
@@ -212,16 +212,13 @@ impl<A: Allocator + Copy> Scanner<A> {
         ensures look { IsLook result (step self.new.dialect self.new.limit (tail_now self.new) self.new.text) self.new.text }
         ensures same { self.new ≡ self.old }
     {
+        let rest = &self.text.as_str()[self.start..];
+        if let Some(look) = first_look(self.dialect, rest, self.limit, &self.walk, &self.bare) {
+            return look;
+        }
         let tail = self.tail();
         let rest = &self.text.as_str()[self.start..];
-        look_at(
-            self.dialect,
-            rest,
-            self.limit,
-            tail,
-            &mut self.walk,
-            &mut self.bare,
-        )
+        look_at(self.dialect, rest, tail, &mut self.walk, &mut self.bare)
     }
 
     fn tail(&self) -> Tail
@@ -237,7 +234,8 @@ impl<A: Allocator + Copy> Scanner<A> {
     }
 
     fn give_end(&mut self) -> Token<'_>
-        ensures* { sem 𝓛 (follows_so (the_row A.row A.Allocator) (the_row A.row A.Allocator) self.entry.ghost_name none (λ _ _. ⊤) (λ v. (v ≡ record self.old { stopped = true }) × (token_of result ≡ record { kind = Kind.End; text = []; at = self.old.place }))) }
+        ensures* { sem 𝓛 (follows_so (the_row A.row A.Allocator) (the_row A.row A.Allocator) self.entry.ghost_name none (λ _ _. ⊤)
+            (IsEndGiven self.old (token_of result))) }
     {
         self.stopped = true;
         Token {
@@ -250,7 +248,8 @@ impl<A: Allocator + Copy> Scanner<A> {
 
     fn give(&mut self, kind: Kind, len: usize) -> Token<'_>
         requires { (n : ℕ) × (len ≡ bytes_of n self.old.text) × (is_flat kind ≡ true → count_by (λ c. c == 10) (take n self.old.text) ≡ 0) }
-        ensures* { sem 𝓛 (follows_so (the_row A.row A.Allocator) (the_row A.row A.Allocator) self.entry.ghost_name none (λ _ _. ⊤) (λ v. (n : ℕ) → len ≡ bytes_of n self.old.text → IsGiven self.old kind n (token_of result) v)) }
+        ensures* { sem 𝓛 (follows_so (the_row A.row A.Allocator) (the_row A.row A.Allocator) self.entry.ghost_name none (λ _ _. ⊤)
+            (GivesBytes self.old kind len (token_of result))) }
     {
         let start = self.start;
         let end = start + len;
@@ -259,7 +258,7 @@ impl<A: Allocator + Copy> Scanner<A> {
         self.line += feeds_of(kind, &self.text.as_bytes()[start..end]) as u64;
         self.offset += len as u64;
         self.start = end;
-        self.walk = None;
+        forget(&mut self.walk);
         self.comment = false;
         Token {
             kind,
@@ -353,6 +352,10 @@ impl<A: Allocator + Copy> Scanner<A> {
         ensures moves { Moves self.old [] self.new }
         ensures stands { Stands self.new }
     {
+        if !self.comment && is_one_space(self.dialect, self.rest()) {
+            self.move_on(1, 0);
+            return;
+        }
         let blank = blank_run(self.dialect, self.comment, self.rest());
         self.comment = blank.in_comment;
         self.advance(blank.len);
@@ -361,16 +364,26 @@ impl<A: Allocator + Copy> Scanner<A> {
     // Moves on over the bytes of some characters.
     fn advance(&mut self, len: usize)
         requires { (n : ℕ) × (len ≡ bytes_of n self.old.text) }
-        ensures { (n : ℕ) → len ≡ bytes_of n self.old.text → self.new ≡ moved self.old (past self.old.place (take n self.old.text)) self.old.begun self.old.comment (drop n self.old.text) }
+        ensures { MovesBytes self.old len self.new }
     {
         if len == 0 {
             return;
         }
         let end = self.start + len;
-        self.line += few_line_feeds(&self.text.as_bytes()[self.start..end]) as u64;
+        let feeds = few_line_feeds(&self.text.as_bytes()[self.start..end]);
+        self.move_on(len, feeds);
+    }
+
+    // The same where it is known how many line feeds they are.
+    #[inline(always)]
+    fn move_on(&mut self, len: usize, feeds: usize)
+        requires { (n : ℕ) × (len ≡ bytes_of n self.old.text) × (feeds ≡ count_by (λ c. c == 10) (take n self.old.text)) }
+        ensures { MovesBytes self.old len self.new }
+    {
+        self.line += feeds as u64;
         self.offset += len as u64;
         self.start += len;
-        self.walk = None;
+        forget(&mut self.walk);
     }
 
     fn stop(&mut self, reason: Reason) -> Fault
@@ -408,6 +421,16 @@ fn feeds_of(kind: Kind, text: &[u8]) -> usize
     match kind {
         Kind::LineEnd | Kind::LongString => line_feeds(text),
         _ => 0,
+    }
+}
+
+// Most tokens leave nothing to forget, and a test is less than a write.
+#[inline(always)]
+fn forget(walk: &mut Option<Walk>)
+    ensures { walk.new ≡ None }
+{
+    if walk.is_some() {
+        *walk = None;
     }
 }
 

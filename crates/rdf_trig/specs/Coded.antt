@@ -66,7 +66,7 @@ level_back Top = refl
 level_back InBlock = refl
 
 -- the subject of a predicate list is coded by its term and its size
-abbrev topic_code : Coded Topic
+abbrev pub topic_code : Coded Topic
 topic_code = code_by (Option term.Subject × ℕ) (coded× (coded_option subject_code) coded_ℕ) (λ s. (s.term, s.size))
     (λ x. record { term = x.0; size = x.1 }) (λ s. refl)
 

@@ -14,6 +14,7 @@ pub mod TreeQuads
 pub mod Laws
 pub mod Alike
 pub mod States
+pub mod Slots
 pub mod Spelled
 pub mod Holding
 pub mod Steps

@@ -1,5 +1,5 @@
 -- What the states of the reader's code mean.
-use Rattle.std.specs.Prelude.{◌≡◌, ℕ, Bool, true, false, List, [], ◌∷◌, Option, Some, None, option_map, Result, Ok, Err, ⊤, ◌+◌, ◌≤◌}
+use Rattle.std.specs.Prelude.{◌≡◌, ℕ, Bool, true, false, List, [], ◌∷◌, Option, Some, None, option_map, unwrap_or, Result, Ok, Err, ⊤, ◌+◌, ◌≤◌}
 use Rattle.std.specs.Str.{chars}
 use Rattle.std.specs.String.{string_bytes}
 use Rattle.rdf_terms.specs.declared.kind.Kind.{Kind}
@@ -7,10 +7,8 @@ use Rattle.rdf_terms.specs.declared.kind.Kind.TheVariants.{IriRef, PnameNs, Pnam
 use Rattle.rdf_terms.specs.declared.kind.Dialect.TheVariants as dialect
 use Rattle.rdf_terms.specs.Terms.{Cell, Blank, Lang, Typed, Term, Resource, Literal, Quad}
 use Rattle.rdf_terms.specs.Terms as term
-use Rattle.rdf_terms.specs.declared.terms.Subject.{Subject as OwnedSubject}
-use Rattle.rdf_terms.specs.Owned.{owned_subject}
 use Rattle.rdf_terms.specs.Known.{known_chars}
-use Rattle.rdf_terms.specs.declared.constants.Known.TheVariants.{RdfType, RdfRest}
+use Rattle.rdf_terms.specs.declared.constants.Known.TheVariants.{RdfType, RdfRest, XsdString}
 use Rattle.rdf_tokens.specs.declared.token.Token.{Token as Given}
 use Rattle.rdf_tokens.specs.Scans.{token_of, IsToken}
 use Rattle.rdf_iri.specs.Texts.{byte_len}
@@ -19,28 +17,25 @@ use Rattle.rdf_lines.specs.Lines.{Leaf, leaf_of}
 use Rattle.rdf_trig.specs.declared.form.DocForm.{DocForm}
 use Rattle.rdf_trig.specs.declared.fault.StepFault.{StepFault}
 use Rattle.rdf_trig.specs.declared.fault.StepFault.TheVariants as fault
-use Rattle.rdf_trig.specs.declared.state.Verb.{Verb}
-use Rattle.rdf_trig.specs.declared.state.Verb.TheVariants as verb
-use Rattle.rdf_trig.specs.declared.state.Topic.{Topic}
-use Rattle.rdf_trig.specs.declared.state.Topic.TheVariants as topic
+use Rattle.rdf_trig.specs.declared.state.Block.{Block}
+use Rattle.rdf_trig.specs.declared.state.Block.TheVariants as block
 use Rattle.rdf_trig.specs.declared.state.Level.{Level}
 use Rattle.rdf_trig.specs.declared.state.Level.TheVariants as level
 use Rattle.rdf_trig.specs.declared.state.Around.{Around}
 use Rattle.rdf_trig.specs.declared.state.Around.TheVariants as around
+use Rattle.rdf_trig.specs.declared.state.Container.{Container}
+use Rattle.rdf_trig.specs.declared.state.Container.TheVariants as container
 use Rattle.rdf_trig.specs.declared.state.Frame.{Frame}
-use Rattle.rdf_trig.specs.declared.state.Frame.TheVariants as frame
 use Rattle.rdf_trig.specs.declared.state.Spelling.{Spelling}
 use Rattle.rdf_trig.specs.declared.state.Spelling.TheVariants as spelling
 use Rattle.rdf_trig.specs.declared.state.Outer.{Outer}
 use Rattle.rdf_trig.specs.declared.state.Outer.TheVariants as outer
 use Rattle.rdf_trig.specs.declared.state.Mode.{Mode}
 use Rattle.rdf_trig.specs.declared.state.Mode.TheVariants as mode
-use Rattle.rdf_trig.specs.declared.state.Object.{Object}
-use Rattle.rdf_trig.specs.declared.state.Object.TheVariants as object
 use Rattle.rdf_trig.specs.declared.state.Held.{Held}
 use Rattle.rdf_trig.specs.declared.state.Held.TheVariants as held
 use Rattle.rdf_trig.specs.declared.state.State.{State}
-use Rattle.rdf_trig.specs.Owed.{term_size}
+use Rattle.rdf_trig.specs.Owed.{iri_size}
 use Rattle.rdf_trig.specs.Names.{reference_in, name_in, with_base, with_binding, is_full}
 use Rattle.rdf_trig.specs.Quads.{Setting, stated}
 use Rattle.rdf_trig.specs.Events.{Use, itself, stands, binds}
@@ -55,57 +50,46 @@ leaf t = leaf_of (token_of t)
 abbrev pub IsTurtleToken : Given → Type 0
 IsTurtleToken t = IsToken dialect.Turtle (token_of t)
 
--- the predicate's IRI: for `a` it is rdf:type
-abbrev pub verb_of : {A : Type 0} → Verb A → List ℕ
-verb_of (verb.Named i) = i
-verb_of verb.Type = known_chars RdfType
+-- the predicate's IRI: where a verb has no text it is `a`, which is rdf:type
+abbrev pub verb_of : Option (List ℕ) → List ℕ
+verb_of p = unwrap_or p (known_chars RdfType)
 
--- the subject of a predicate list: for `()` it is rdf:nil
-abbrev pub topic_of : {A : Type 0} → Topic A → term.Subject
-topic_of (topic.Term s) = owned_subject s
-topic_of topic.Nil = nil
+-- a verb as the machine has it, with its bytes; `a` has no text
+abbrev pub spelt_of : Option (List ℕ) → M.Spelt
+spelt_of p = record { iri = Some (verb_of p); size = iri_size p }
 
--- the bytes of a verb's IRI; `a` has no text
-abbrev pub verb_bytes : {A : Type 0} → Verb A → ℕ
-verb_bytes (verb.Named i) = byte_len i
-verb_bytes verb.Type = 0
-
--- the bytes of the IRI or label of a subject or graph
-abbrev pub subject_bytes : {A : Type 0} → OwnedSubject A → ℕ
-subject_bytes s = term_size (Some (owned_subject s))
-
--- those of the subject of a predicate list; the empty collection has no text
-abbrev pub topic_bytes : {A : Type 0} → Topic A → ℕ
-topic_bytes (topic.Term s) = subject_bytes s
-topic_bytes topic.Nil = 0
-
--- a verb as the machine has it, with its bytes
-abbrev pub spelt_of : {A : Type 0} → Verb A → M.Spelt
-spelt_of p = record { iri = Some (verb_of p); size = verb_bytes p }
-
--- the subject of a predicate list as the machine has it, with its bytes
-abbrev pub sized_of : {A : Type 0} → Topic A → M.Topic
-sized_of s = record { term = Some (topic_of s); size = topic_bytes s }
+-- the datatype of a string; where it has no text it is xsd:string
+abbrev pub datatype_of : Option (List ℕ) → List ℕ
+datatype_of d = unwrap_or d (known_chars XsdString)
 
 -- the level, and the graph of its statements
-abbrev pub level_of : {A : Type 0} → Level A → M.Level
+abbrev pub level_of : Level → M.Level
 level_of level.Top = M.Top
-level_of (level.Block g) = M.InBlock
+level_of (level.Block b) = M.InBlock
+
+-- the graph of a block: its label, or the default graph
+abbrev pub block_graph : Block → M.Topic → Option term.Subject
+block_graph block.Default g = None
+block_graph block.Named g = g.term
 
 -- the graph in which a statement's triples stand; none is the default graph
-abbrev pub graph_of : {A : Type 0} → Level A → Option term.Subject
-graph_of level.Top = None
-graph_of (level.Block g) = option_map owned_subject g
+abbrev pub graph_of : Level → M.Topic → Option term.Subject
+graph_of level.Top g = None
+graph_of (level.Block b) g = block_graph b g
 
 -- what a predicate list stands in: for a list in brackets, what the frames below make of the bracket
 abbrev pub around_of : Around → M.Level → M.Up → M.Around
 around_of around.Statement v u = M.Statement v
 around_of around.Brackets v u = M.Boxed u
 
--- the object's place of a frame: after the subject and the verb of a list, or in a collection, with the frames below round it
+-- the object's place: after the subject and the verb of a list, or in a collection, with the frames below round it
+abbrev pub place_at : M.Level → Container → M.Topic → Option (List ℕ) → M.Up → M.Place
+place_at v (container.List a) s p u = M.Listed s (spelt_of p) (around_of a v u)
+place_at v (container.Cells first cell) s p u = M.InCells first cell u
+
+-- the object's place of a frame
 abbrev pub place_of : {A : Type 0} → M.Level → Frame A → M.Up → M.Place
-place_of v (frame.List s p a) u = M.Listed (sized_of s) (spelt_of p) (around_of a v u)
-place_of v (frame.Cells first cell) u = M.InCells first cell u
+place_of v f u = place_at v f.container f.subject f.verb u
 
 -- what a bracket stands for, by the frames that are open, the innermost one last
 abbrev pub up_from : {A : Type 0} → M.Level → M.Up → List (Frame A) → M.Up
@@ -121,68 +105,88 @@ abbrev pub spelling_of : Spelling → M.Spelling
 spelling_of spelling.Dotted = M.Dotted
 spelling_of spelling.Sparql = M.Sparql
 
--- where the reader stands between statements, in a directive or before a block, in the machine's words
-abbrev pub outer_of : {A : Type 0} → Outer A → M.Mode
-outer_of outer.Start = M.Start
-outer_of (outer.Inside g) = M.Inside
-outer_of outer.Over = M.Over
-outer_of (outer.WantPrefix w) = M.WantPrefix (spelling_of w)
-outer_of (outer.WantPrefixIri w p) = M.WantPrefixIri (spelling_of w) (chars (string_bytes p))
-outer_of (outer.WantBaseIri w) = M.WantBaseIri (spelling_of w)
-outer_of outer.WantDot = M.WantDot
-outer_of outer.GraphWord = M.GraphWord
-outer_of (outer.GraphBracket n) = M.GraphBox n
-outer_of (outer.WantBrace g) = M.WantBrace (Some (owned_subject g))
+-- where the reader stands between statements, in a directive with this prefix, or before a block with this label, in the machine's words
+abbrev pub outer_of : Outer → List ℕ → M.Topic → M.Mode
+outer_of outer.Start p g = M.Start
+outer_of (outer.Inside b) p g = M.Inside
+outer_of outer.Over p g = M.Over
+outer_of (outer.WantPrefix w) p g = M.WantPrefix (spelling_of w)
+outer_of (outer.WantPrefixIri w) p g = M.WantPrefixIri (spelling_of w) p
+outer_of (outer.WantBaseIri w) p g = M.WantBaseIri (spelling_of w)
+outer_of outer.WantDot p g = M.WantDot
+outer_of outer.GraphWord p g = M.GraphWord
+outer_of (outer.GraphBracket n) p g = M.GraphBox n
+outer_of outer.WantBrace p g = M.WantBrace g.term
 
 -- the graph of the block whose statements come next; none outside of a block, and in one of the default graph
-abbrev pub outer_graph : {A : Type 0} → Outer A → Option term.Subject
-outer_graph (outer.Inside g) = option_map owned_subject g
-outer_graph o = None
+abbrev pub outer_graph : Outer → M.Topic → Option term.Subject
+outer_graph (outer.Inside b) g = block_graph b g
+outer_graph o g = None
 
 -- after a `;` the frame in hand is a predicate list
 abbrev pub semi_at : M.Place → M.Mode
 semi_at (M.Listed s p a) = M.Semi s a
 semi_at (M.InCells first cell u) = M.Over
 
--- the mode of the machine, by the frame in hand, and where the frames below make what a bracket stands for
-abbrev pub mode_at : {A : Type 0} → DocForm → M.Level → Frame A → M.Up → Mode A → M.Mode
-mode_at form v f u (mode.Outer o) = outer_of o
-mode_at form v f u (mode.AfterSubject s) = M.after_subject form v (M.sized (Some (owned_subject s)))
-mode_at form v f u mode.Want = M.Want (place_of v f u)
-mode_at form v f u mode.After = M.After (place_of v f u)
-mode_at form v f u (mode.AfterText w) = M.AfterText (chars (string_bytes w)) (place_of v f u)
-mode_at form v f u (mode.WantType w) = M.WantType (chars (string_bytes w)) (place_of v f u)
-mode_at form v f u (mode.Bracket n) = M.Box n u
-mode_at form v f u mode.Paren = M.Paren u
-mode_at form v f u (mode.WantVerb s) = M.WantVerb (sized_of s) (M.Statement v)
-mode_at form v f u mode.Semicolon = semi_at (place_of v f u)
-mode_at form v f u (mode.AfterBrackets s) = M.AfterBox (sized_of s) v
+-- of a state: what a bracket stands for, the place in hand, the characters of its text
+abbrev pub up_in : {A : Type 0} → State A → M.Up
+up_in r = up_of (level_of r.level) r.frames.items
 
--- the mode of the machine that a mode of the reader is, by its level and its open frames
-abbrev pub mode_of : {A : Type 0} → DocForm → Level A → Frame A → List (Frame A) → Mode A → M.Mode
-mode_of form v f fs m = mode_at form (level_of v) f (up_of (level_of v) fs) m
+abbrev pub place_in : {A : Type 0} → State A → M.Place
+place_in r = place_of (level_of r.level) r.frame (up_in r)
 
--- the graph of the quads there
-abbrev pub graph_at : {A : Type 0} → Mode A → Option term.Subject → Option term.Subject
-graph_at (mode.Outer o) g = outer_graph o
-graph_at m g = g
+abbrev pub text_in : {A : Type 0} → State A → List ℕ
+text_in r = chars (string_bytes r.text)
+
+-- the mode of the machine that a mode of the reader is, with the texts and frames of a state
+abbrev pub mode_at : {A : Type 0} → DocForm → State A → Mode → M.Mode
+mode_at form r (mode.Outer o) = outer_of o (text_in r) r.graph
+mode_at form r mode.AfterSubject = M.after_subject form (level_of r.level) r.frame.subject
+mode_at form r mode.Want = M.Want (place_in r)
+mode_at form r mode.After = M.After (place_in r)
+mode_at form r mode.AfterText = M.AfterText (text_in r) (place_in r)
+mode_at form r mode.WantType = M.WantType (text_in r) (place_in r)
+mode_at form r (mode.Bracket n) = M.Box n (up_in r)
+mode_at form r mode.Paren = M.Paren (up_in r)
+mode_at form r mode.WantVerb = M.WantVerb r.frame.subject (M.Statement (level_of r.level))
+mode_at form r mode.Semicolon = semi_at (place_in r)
+mode_at form r mode.AfterBrackets = M.AfterBox r.frame.subject (level_of r.level)
+
+-- the mode of a state
+abbrev pub mode_in : {A : Type 0} → DocForm → State A → M.Mode
+mode_in form r = mode_at form r r.mode
+
+-- the graph of the quads in a mode, and of a state
+abbrev pub graph_at : {A : Type 0} → State A → Mode → Option term.Subject
+graph_at r (mode.Outer o) = outer_graph o r.graph
+graph_at r m = graph_of r.level r.graph
+
+abbrev pub graph_in : {A : Type 0} → State A → Option term.Subject
+graph_in r = graph_at r r.mode
 
 -- a scope, and a graph whose label stands for an IRI or a blank node, or the default graph
 abbrev pub setting : InForce → Option term.Subject → Setting
 setting s g = record { scope = s; graph = Some g }
 
 -- the term of an object that is held: an IRI or node, a string with its type or tag, a number or boolean with the datatype of its form
-abbrev pub object_of : {A : Type 0} → Object A → Term
-object_of (object.Named s) = Resource (owned_subject s)
-object_of (object.WithType w i) = Literal (chars (string_bytes w)) (Typed i)
-object_of (object.WithTag w t) = Literal (chars (string_bytes w)) (Lang t)
-object_of (object.OfKnown w k) = Literal (chars (string_bytes w)) (Typed (known_chars k))
+abbrev pub object_of : {A : Type 0} → State A → Held → Option Term
+object_of r held.Resource = option_map Resource r.object.term
+object_of r held.WithType = Some (Literal (text_in r) (Typed (datatype_of r.datatype)))
+object_of r held.WithTag = option_map (λ t. Literal (text_in r) (Lang t)) r.tag
+object_of r (held.OfKnown k) = Some (Literal (text_in r) (Typed (known_chars k)))
+object_of r h = None
 
 -- the quad of an object that has come at a place, and that of a mode whose object has come
-abbrev pub object_quad : Option term.Subject → M.Mode → Term → Option Quad
-object_quad g (M.After p) o = stated (Some g) (subject_at p) (verb_at p) (Some o)
-object_quad g (M.Box n (M.At p)) o = stated (Some g) (subject_at p) (verb_at p) (Some o)
+abbrev pub object_quad : Option term.Subject → M.Mode → Option Term → Option Quad
+object_quad g (M.After p) o = stated (Some g) (subject_at p) (verb_at p) o
+object_quad g (M.Box n (M.At p)) o = stated (Some g) (subject_at p) (verb_at p) o
 object_quad g m o = None
+
+-- a mode in which no quad waits to know the next token
+abbrev pub IsSettled : Mode → Type 0
+IsSettled mode.AfterText = ⊥
+IsSettled mode.Paren = ⊥
+IsSettled m = ⊤
 
 -- the rdf:rest quad of a cell, to the next cell or to rdf:nil
 abbrev pub cells_quad : Option term.Subject → ℕ → term.Subject → Option Quad
@@ -194,28 +198,19 @@ rest_of g None = None
 rest_of g (Some p) = cells_quad g p.0 (Blank (Cell p.1))
 
 -- the quad whose head ended with the last token: of an object at its place, or the last rdf:rest of a collection
-abbrev pub held_of : {A : Type 0} → Option term.Subject → M.Mode → Held A → Option Quad
-held_of g m held.Nothing = None
-held_of g m (held.Object o) = object_quad g m (object_of o)
-held_of g m (held.Nil cell) = cells_quad g cell nil
+abbrev pub held_of : {A : Type 0} → Option term.Subject → M.Mode → State A → Held → Option Quad
+held_of g m r held.Nothing = None
+held_of g m r (held.Nil cell) = cells_quad g cell nil
+held_of g m r h = object_quad g m (object_of r h)
 
 -- where a statement's dot leads
 abbrev pub behind_dot : M.Level → M.Mode
 behind_dot M.Top = M.Start
 behind_dot M.InBlock = M.Inside
 
--- of a state: what a bracket stands for, the place in hand, the setting of a statement, the mode
-abbrev pub up_in : {A : Type 0} → State A → M.Up
-up_in r = up_of (level_of r.level) r.frames.items
-
-abbrev pub place_in : {A : Type 0} → State A → M.Place
-place_in r = place_of (level_of r.level) r.frame (up_in r)
-
+-- the setting of the statement of a state
 abbrev pub setting_in : {A : Type 0} → InForce → State A → Setting
-setting_in s r = setting s (graph_of r.level)
-
-abbrev pub mode_in : {A : Type 0} → DocForm → State A → M.Mode
-mode_in form r = mode_of form r.level r.frame r.frames.items r.mode
+setting_in s r = setting s (graph_of r.level r.graph)
 
 -- what a token stands for outside of directives
 abbrev pub name_at : InForce → Kind → Leaf → Option (List ℕ)
@@ -278,8 +273,8 @@ NameIn s m k l i = name_at s k l ≡ i
 -- what the token does, by the state after it
 abbrev pub moved : {A : Type 0} → DocForm → InForce → Use → State A → Reply
 moved form s u r =
-    let g = graph_at r.mode (graph_of r.level) in
-    Go u (rest_of g r.rest) (held_of g (mode_in form r) r.held) (setting s g) (mode_in form r)
+    let g = graph_in r in
+    Go u (rest_of g r.rest) (held_of g (mode_in form r) r r.held) (setting s g) (mode_in form r)
 
 -- what a function that left this state answered is this reply, unless memory ran out
 abbrev pub Gives : {A T : Type 0} → DocForm → InForce → Use → Result T StepFault → State A → Reply → Type 0
@@ -288,9 +283,9 @@ Gives form s u (Err fault.Unexpected) r reply = reply ≡ No
 Gives form s u (Err fault.Memory) r reply = ⊤
 Gives form s u (Err e) r reply = ⊥
 
--- the same where the token leads out of statements, or goes on outside of one
-abbrev pub GivesOuter : {A : Type 0} → InForce → Use → Result (Outer A) StepFault → Reply → Type 0
-GivesOuter s u (Ok o) reply = reply ≡ Go u None None (setting s (outer_graph o)) (outer_of o)
+-- the same where the token leads to a mode outside of statements that has no text and no graph
+abbrev pub GivesOuter : InForce → Use → Result Outer StepFault → Reply → Type 0
+GivesOuter s u (Ok o) reply = (p : List ℕ) (g : M.Topic) → reply ≡ Go u None None (setting s (outer_graph o g)) (outer_of o p g)
 GivesOuter s u (Err fault.Unexpected) reply = reply ≡ No
 GivesOuter s u (Err fault.Memory) reply = ⊤
 GivesOuter s u (Err e) reply = ⊥
@@ -313,7 +308,7 @@ abbrev pub ShortPrefix : ℕ → M.Mode → Type 0
 ShortPrefix n (M.WantPrefixIri w p) = byte_len p ≤ n
 ShortPrefix n m = ⊤
 
--- the same of a mode of the reader's code, which holds the prefix as a string
-abbrev pub PrefixFits : {A : Type 0} → ℕ → Mode A → Type 0
-PrefixFits n (mode.Outer (outer.WantPrefixIri w p)) = byte_len (chars (string_bytes p)) ≤ n
-PrefixFits n m = ⊤
+-- the same of a state of the reader's code, whose text is the prefix
+abbrev pub PrefixFits : {A : Type 0} → ℕ → State A → Mode → Type 0
+PrefixFits n r (mode.Outer (outer.WantPrefixIri w)) = byte_len (text_in r) ≤ n
+PrefixFits n r m = ⊤

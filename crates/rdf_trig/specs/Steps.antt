@@ -17,7 +17,7 @@ use Rattle.rdf_terms.specs.declared.kind.Kind.{Kind}
 use Rattle.rdf_terms.specs.declared.kind.Kind.TheVariants.{OpenBracket, CloseBracket, OpenParen, CloseParen}
 use Rattle.rdf_lines.specs.Lines.{Leaf}
 use Rattle.rdf_trig.specs.Machine.{Reply, No, Go, subject_at, verb_at, kept}
-use Rattle.rdf_trig.specs.States.{leaf, mode_in, graph_of, graph_at, setting, rest_of, held_of, is_go, PrefixFits}
+use Rattle.rdf_trig.specs.States.{leaf, mode_in, graph_in, setting, rest_of, held_of, is_go, PrefixFits}
 use Rattle.rdf_trig.specs.Scopes.{SameScope}
 use Rattle.rdf_trig.specs.Holding.{most_text, Fits}
 
@@ -38,15 +38,15 @@ up_quad g (M.At p) o = stated (Some g) (subject_at p) (verb_at p) (Some o)
 
 -- the quads that are held, and those with the one that waits to know the token
 abbrev pub held_quads : {A : Type 0} → DocForm → State A → List Quad
-held_quads form r = let g = graph_at r.mode (graph_of r.level) in kept (rest_of g r.rest) (kept (held_of g (mode_in form r) r.held) [])
+held_quads form r = let g = graph_in r in kept (rest_of g r.rest) (kept (held_of g (mode_in form r) r r.held) [])
 
 -- the quads that go to the sink when the token is accepted: those held, and one whose object the token decides
 abbrev pub given : {A : Type 0} → DocForm → InForce → State A → Given → List Quad
-given form s r t = held_quads form r ++ kept (M.waiting (setting s (graph_at r.mode (graph_of r.level))) (mode_in form r) t.kind (leaf t)) []
+given form s r t = held_quads form r ++ kept (M.waiting (setting s (graph_in r)) (mode_in form r) t.kind (leaf t)) []
 
 -- the state of the machine that a state of the reader is, in a scope
 abbrev pub state_of : {A : Type 0} → DocForm → InForce → State A → M.State
-state_of form s r = record { setting = setting s (graph_at r.mode (graph_of r.level)); mode = mode_in form r; held = held_quads form r }
+state_of form s r = record { setting = setting s (graph_in r); mode = mode_in form r; held = held_quads form r }
 
 -- the token is allowed by the grammar and by the limit of open brackets
 abbrev pub May : DocForm → M.State → Kind → Leaf → Type 0
@@ -76,7 +76,7 @@ Stays r reply = ⊥
 -- open than brackets
 pub record Keeps {A : Type 0} (form : DocForm) (sizes : Sizes) (r : State A) : Type 0 where
   pub depth : r.depth ≡ M.depth (mode_in form r)
-  pub short : PrefixFits (4 * sizes.token) r.mode
+  pub short : PrefixFits (4 * sizes.token) r r.mode
   pub deep : r.depth ≤ sizes.depth
   pub fits : Fits (most_text sizes) r
   pub stack : length r.frames.items ≤ r.depth

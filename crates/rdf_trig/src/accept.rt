@@ -6,7 +6,7 @@ ghost use Rattle.rdf_terms.specs.Terms.{Quad};
 ghost use Rattle.rdf_iri.specs.Scope.{InForce};
 ghost use Rattle.rdf_lines.specs.Lines.{Leaf};
 ghost use Rattle.rdf_trig.specs.Machine as M;
-ghost use Rattle.rdf_trig.specs.States.{leaf, IsTurtleToken, IsNamedIn, NameIn, use_in, scope_in, setting, graph_at, graph_of, mode_in, moved, DepthMoves};
+ghost use Rattle.rdf_trig.specs.States.{leaf, IsTurtleToken, IsNamedIn, NameIn, use_in, scope_in, setting, graph_in, mode_in, moved, DepthMoves};
 ghost use Rattle.rdf_trig.specs.Scopes.{SameScope};
 ghost use Rattle.rdf_trig.specs.Holding.{state_bytes, TextFits, NameFits, Fits, frames_most};
 ghost use Rattle.rdf_trig.specs.Steps.{state_of, May, Refused, Stays, DepthMay, Keeps, Accepts, Fails};
@@ -15,11 +15,12 @@ use crate::allows::allows;
 use crate::fault::StepFault;
 use crate::form::DocForm;
 use crate::give::give;
-use crate::names::look_up;
+use crate::names::Name;
 use crate::rest::Rest;
+use crate::slots::{TagText, Topic};
 use crate::state::{Frame, Held, Level, Mode, Outer, State};
-use rdf_iri::{Limits, Scope};
-use rdf_terms::{Iri, Kind, QuadSink};
+use rdf_iri::Scope;
+use rdf_terms::{Kind, QuadSink};
 use rdf_tokens::Token;
 use std::alloc::Allocator;
 
@@ -30,12 +31,12 @@ fn deepens(kind: Kind) -> bool
 }
 
 // Whether the token opens a bracket more than may be open.
-fn is_too_deep(limits: Limits, depth: u64, kind: Kind) -> bool
-    ensures is { result ≡ (M.deepens kind && nat_le limits.depth depth) }
+fn is_too_deep(most: u64, depth: u64, kind: Kind) -> bool
+    ensures is { result ≡ (M.deepens kind && nat_le most depth) }
     ensures room { result ≡ false → M.deepens kind ≡ true → depth + 1 < 2 ^ 64 }
-    ensures deep { result ≡ false → M.deepens kind ≡ true → depth + 1 ≤ limits.depth }
+    ensures deep { result ≡ false → M.deepens kind ≡ true → depth + 1 ≤ most }
 {
-    deepens(kind) && limits.depth() <= depth
+    deepens(kind) && most <= depth
 }
 
 // How many brackets are open after a token.
@@ -58,29 +59,36 @@ impl<A: Allocator + Copy> State<A> {
         ensures held { state_bytes result ≡ 0 }
     {
         State {
+            alloc,
             mode: Mode::Outer(Outer::Start),
-            frame: Frame::none(),
+            frame: Frame::none(alloc),
             level: Level::Top,
+            graph: Topic::new(alloc),
             frames: Vec::new(alloc),
             rest: Rest::none(),
             held: Held::Nothing,
+            object: Topic::new(alloc),
+            text: String::new(alloc),
+            datatype: Name::new(alloc),
+            tag: TagText::new(alloc),
+            name: Name::new(alloc),
             depth: 0,
         }
     }
 
     // Whether the token may stand here by the grammar, and by the limit of open brackets.
     #[inline(always)]
-    fn check(&self, form: DocForm, limits: Limits, kind: Kind) -> Result<(), StepFault>
+    fn check(&self, form: DocForm, most: u64, kind: Kind) -> Result<(), StepFault>
         requires { self.now.depth ≡ M.depth (mode_in form self.now) }
-        ensures ok { OnOk result ((s : InForce) (l : Leaf) → s.limits ≡ limits → May form (state_of form s self.now) kind l) }
+        ensures ok { OnOk result ((s : InForce) (l : Leaf) → s.limits.depth ≡ most → May form (state_of form s self.now) kind l) }
         ensures room { OnOk result (DepthMay kind self.now.depth) }
-        ensures deep { OnOk result (M.deepens kind ≡ true → self.now.depth + 1 ≤ limits.depth) }
-        ensures err { IfErr result (λ r. (s : InForce) (l : Leaf) → s.limits ≡ limits → Refused r (M.accept form (state_of form s self.now) kind l)) }
+        ensures deep { OnOk result (M.deepens kind ≡ true → self.now.depth + 1 ≤ most) }
+        ensures err { IfErr result (λ r. (s : InForce) (l : Leaf) → s.limits.depth ≡ most → Refused r (M.accept form (state_of form s self.now) kind l)) }
     {
-        if !allows(form, &self.mode, &self.frame, &self.level, kind) {
+        if !allows(form, self, kind) {
             return Err(StepFault::Unexpected);
         }
-        if is_too_deep(limits, self.depth, kind) {
+        if is_too_deep(most, self.depth, kind) {
             return Err(StepFault::TooDeep);
         }
         Ok(())
@@ -88,28 +96,22 @@ impl<A: Allocator + Copy> State<A> {
 
     // Moves, once the quads were put.
     #[inline(always)]
-    fn move_on(
-        &mut self,
-        alloc: A,
-        form: DocForm,
-        token: &Token<'_>,
-        name: Option<Iri<A>>,
-    ) -> Result<(), StepFault>
+    fn move_on(&mut self, form: DocForm, token: &Token<'_>) -> Result<(), StepFault>
         requires token { IsTurtleToken token.now }
-        requires named { IsNamedIn (mode_in form self.old) token.now.kind name }
+        requires named { IsNamedIn (mode_in form self.old) token.now.kind self.old.name }
         requires room { DepthMay token.now.kind self.old.depth }
         ensures ok { OnOk result ((s : InForce) → let m = mode_in form self.old in
-            NameIn s m token.now.kind (leaf token.now) name →
-            M.step form (setting s (graph_at self.old.mode (graph_of self.old.level))) m token.now.kind (leaf token.now) ≡ moved form
+            NameIn s m token.now.kind (leaf token.now) self.old.name →
+            M.step form (setting s (graph_in self.old)) m token.now.kind (leaf token.now) ≡ moved form
             (scope_in s m token.now.kind (leaf token.now)) (use_in s m token.now.kind (leaf token.now)) self.new) }
         ensures depth { OnOk result (DepthMoves token.now.kind self.old.depth self.new.depth) }
         ensures stack { OnOk result (length self.new.frames.items ≤ frames_most token.now.kind (length self.old.frames.items)) }
-        ensures fits { (n : ℕ) → TextFits n token.now → NameFits n name → Fits n self.old → OnOk result (Fits n self.new) }
+        ensures fits { (n : ℕ) → TextFits n token.now → NameFits n self.old.name → Fits n self.old → OnOk result (Fits n self.new) }
         ensures err { IfErr result (λ r. (s : InForce) → let m = mode_in form self.old in
-            NameIn s m token.now.kind (leaf token.now) name →
-            Stays r (M.step form (setting s (graph_at self.old.mode (graph_of self.old.level))) m token.now.kind (leaf token.now))) }
+            NameIn s m token.now.kind (leaf token.now) self.old.name →
+            Stays r (M.step form (setting s (graph_in self.old)) m token.now.kind (leaf token.now))) }
     {
-        match self.go_on(alloc, form, token, name) {
+        match self.go_on(form, token) {
             Ok(()) => {
                 self.depth = depth_behind(self.depth, token.kind);
                 Ok(())
@@ -122,32 +124,31 @@ impl<A: Allocator + Copy> State<A> {
     /// state.
     pub fn accept<S: QuadSink>(
         &mut self,
-        alloc: A,
         form: DocForm,
-        limits: Limits,
+        most: u64,
         scope: &mut Scope<A>,
         token: &Token<'_>,
         sink: &mut S,
     ) -> Result<u64, StepFault>
         requires token { IsTurtleToken token.now }
-        requires short { length (leaf token.now).text ≤ limits.token }
-        requires limits { scope.old.limits ≡ limits }
-        requires keeps { Keeps form limits self.old }
+        requires short { length (leaf token.now).text ≤ scope.old.limits.token }
+        requires most { most ≡ scope.old.limits.depth }
+        requires keeps { Keeps form scope.old.limits self.old }
         requires live { S.has_failed sink.old ≡ false }
         ensures ok { OnOk result ((s : InForce) → SameScope s scope.old →
             Accepts S.takes form (M.accept form (state_of form s self.old) token.now.kind (leaf token.now)) sink.old self.new scope.new sink.new) }
         ensures count { IfOk result (λ n. (s : InForce) (qs : List Quad) (m : M.State) →
             M.accept form (state_of form s self.old) token.now.kind (leaf token.now) ≡ M.accepts qs m → n ≡ length qs) }
-        ensures limits { OnOk result (scope.new.limits ≡ limits) }
-        ensures keeps { OnOk result (Keeps form limits self.new) }
+        ensures limits { OnOk result (scope.new.limits ≡ scope.old.limits) }
+        ensures keeps { OnOk result (Keeps form scope.old.limits self.new) }
         ensures live { OnOk result (S.has_failed sink.new ≡ false) }
         ensures err { IfErr result (λ r. (s : InForce) → SameScope s scope.old →
             Fails S.takes S.leaves S.has_failed r (M.accept form (state_of form s self.old) token.now.kind (leaf token.now)) sink.old sink.new) }
     {
-        self.check(form, limits, token.kind)?;
-        let name = look_up(alloc, &self.mode, scope, token)?;
+        self.check(form, most, token.kind)?;
+        self.look_up(scope, token)?;
         let given = give(self, token, sink)?;
-        match self.move_on(alloc, form, token, name) {
+        match self.move_on(form, token) {
             Ok(()) => Ok(given),
             Err(fault) => Err(fault),
         }

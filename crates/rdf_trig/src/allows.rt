@@ -6,52 +6,48 @@ ghost use Rattle.rdf_terms.specs.Terms.{Quad};
 ghost use Rattle.rdf_lines.specs.Lines.{Leaf};
 ghost use Rattle.rdf_trig.specs.Quads.{Setting};
 ghost use Rattle.rdf_trig.specs.Machine as M;
-ghost use Rattle.rdf_trig.specs.States.{begins_verb, is_go, level_of, around_of, place_of, outer_of, mode_of, up_of, semi_at};
+ghost use Rattle.rdf_trig.specs.States.{begins_verb, is_go, level_of, around_of, place_at, outer_of, mode_in, semi_at};
 
 use crate::form::DocForm;
-use crate::state::{Around, Frame, Level, Mode, Outer};
+use crate::state::{Around, Container, Level, Mode, Outer, State};
 use rdf_terms::Kind;
 use std::alloc::Allocator;
 
 /// Whether some document has a token of this kind next, as far as the kinds go.
-pub fn allows<A: Allocator>(
-    form: DocForm,
-    mode: &Mode<A>,
-    frame: &Frame<A>,
-    level: &Level<A>,
-    kind: Kind,
-) -> bool
-    ensures { (c : Setting) (fs : List (Frame A)) (l : Leaf) → result ≡ is_go (M.step form c (mode_of form level.now frame.now fs mode.now) kind l) }
+pub fn allows<A: Allocator>(form: DocForm, state: &State<A>, kind: Kind) -> bool
+    ensures { (c : Setting) (l : Leaf) → result ≡ is_go (M.step form c (mode_in form state.now) kind l) }
 {
-    match mode {
+    let container = state.frame.container;
+    let level = state.level;
+    match state.mode {
         Mode::Outer(outer) => allows_outer(form, outer, kind),
-        Mode::AfterSubject(_) => goes_on_after_subject(form, level, kind),
+        Mode::AfterSubject => goes_on_after_subject(form, level, kind),
         Mode::Want => begins_object(kind),
-        Mode::After => goes_on_after(frame, level, kind),
-        Mode::AfterText(_) => goes_on_after_text(frame, level, kind),
-        Mode::WantType(_) => is_name(kind),
+        Mode::After => goes_on_after(container, level, kind),
+        Mode::AfterText => goes_on_after_text(container, level, kind),
+        Mode::WantType => is_name(kind),
         Mode::Bracket(_) => matches!(kind, Kind::CloseBracket) || begins_verb(kind),
         Mode::Paren => goes_on_after_paren(kind),
-        Mode::WantVerb(_) => begins_verb(kind),
-        Mode::Semicolon => goes_on_after_semicolon(frame, level, kind),
-        Mode::AfterBrackets(_) => goes_on_after_brackets(level, kind),
+        Mode::WantVerb => begins_verb(kind),
+        Mode::Semicolon => goes_on_after_semicolon(container, level, kind),
+        Mode::AfterBrackets => goes_on_after_brackets(level, kind),
     }
 }
 
-fn allows_outer<A: Allocator>(form: DocForm, outer: &Outer<A>, kind: Kind) -> bool
-    ensures { (c : Setting) (l : Leaf) → result ≡ is_go (M.step form c (outer_of outer.now) kind l) }
+fn allows_outer(form: DocForm, outer: Outer, kind: Kind) -> bool
+    ensures { (c : Setting) (p : List ℕ) (g : M.Topic) (l : Leaf) → result ≡ is_go (M.step form c (outer_of outer p g) kind l) }
 {
     match outer {
         Outer::Start => starts(form, kind),
         Outer::Inside(_) => goes_on_inside(kind),
         Outer::Over => false,
         Outer::WantPrefix(_) => matches!(kind, Kind::PnameNs),
-        Outer::WantPrefixIri(_, _) => matches!(kind, Kind::IriRef),
+        Outer::WantPrefixIri(_) => matches!(kind, Kind::IriRef),
         Outer::WantBaseIri(_) => matches!(kind, Kind::IriRef),
         Outer::WantDot => matches!(kind, Kind::Dot),
         Outer::GraphWord => is_graph(kind),
         Outer::GraphBracket(_) => matches!(kind, Kind::CloseBracket),
-        Outer::WantBrace(_) => matches!(kind, Kind::OpenBrace),
+        Outer::WantBrace => matches!(kind, Kind::OpenBrace),
     }
 }
 
@@ -97,8 +93,8 @@ fn is_graph(kind: Kind) -> bool
     )
 }
 
-fn goes_on_after_subject<A: Allocator>(form: DocForm, level: &Level<A>, kind: Kind) -> bool
-    ensures { (c : Setting) (s : M.Topic) (l : Leaf) → result ≡ is_go (M.step form c (M.after_subject form (level_of level.now) s) kind l) }
+fn goes_on_after_subject(form: DocForm, level: Level, kind: Kind) -> bool
+    ensures { (c : Setting) (s : M.Topic) (l : Leaf) → result ≡ is_go (M.step form c (M.after_subject form (level_of level) s) kind l) }
 {
     match (form, level) {
         (DocForm::TriG, Level::Top) => matches!(kind, Kind::OpenBrace) || begins_verb(kind),
@@ -106,28 +102,28 @@ fn goes_on_after_subject<A: Allocator>(form: DocForm, level: &Level<A>, kind: Ki
     }
 }
 
-fn goes_on_after_text<A: Allocator>(frame: &Frame<A>, level: &Level<A>, kind: Kind) -> bool
-    ensures { (c : Setting) (w : List ℕ) (u : M.Up) (l : Leaf) → result ≡ is_go (M.after_text c w (place_of (level_of level.now) frame.now u) kind l) }
+fn goes_on_after_text(container: Container, level: Level, kind: Kind) -> bool
+    ensures { (c : Setting) (w : List ℕ) (s : M.Topic) (p : Option (List ℕ)) (u : M.Up) (l : Leaf) → result ≡ is_go (M.after_text c w (place_at (level_of level) container s p u) kind l) }
 {
     match kind {
         Kind::LangTag => true,
         Kind::AtBase => true,
         Kind::AtPrefix => true,
         Kind::Carets => true,
-        _ => goes_on_after(frame, level, kind),
+        _ => goes_on_after(container, level, kind),
     }
 }
 
-fn goes_on_after<A: Allocator>(frame: &Frame<A>, level: &Level<A>, kind: Kind) -> bool
-    ensures { (c : Setting) (u : M.Up) (l : Leaf) → result ≡ is_go (M.after c (place_of (level_of level.now) frame.now u) kind l) }
+fn goes_on_after(container: Container, level: Level, kind: Kind) -> bool
+    ensures { (c : Setting) (s : M.Topic) (p : Option (List ℕ)) (u : M.Up) (l : Leaf) → result ≡ is_go (M.after c (place_at (level_of level) container s p u) kind l) }
 {
-    match frame {
-        Frame::List { around, .. } => match kind {
+    match container {
+        Container::List(around) => match kind {
             Kind::Comma => true,
             Kind::Semicolon => true,
-            _ => ends_list(*around, level, kind),
+            _ => ends_list(around, level, kind),
         },
-        Frame::Cells { .. } => goes_on_after_item(kind),
+        Container::Cells { .. } => goes_on_after_item(kind),
     }
 }
 
@@ -176,19 +172,19 @@ fn begins_object(kind: Kind) -> bool
     )
 }
 
-fn goes_on_after_semicolon<A: Allocator>(frame: &Frame<A>, level: &Level<A>, kind: Kind) -> bool
-    ensures { (form : DocForm) (c : Setting) (u : M.Up) (l : Leaf) →
-        result ≡ is_go (M.step form c (semi_at (place_of (level_of level.now) frame.now u)) kind l) }
+fn goes_on_after_semicolon(container: Container, level: Level, kind: Kind) -> bool
+    ensures { (form : DocForm) (c : Setting) (s : M.Topic) (p : Option (List ℕ)) (u : M.Up) (l : Leaf) →
+        result ≡ is_go (M.step form c (semi_at (place_at (level_of level) container s p u)) kind l) }
 {
-    match frame {
-        Frame::List { around, .. } => goes_on_after_verb(*around, level, kind),
-        Frame::Cells { .. } => false,
+    match container {
+        Container::List(around) => goes_on_after_verb(around, level, kind),
+        Container::Cells { .. } => false,
     }
 }
 
 // After a `;` of a predicate list.
-fn goes_on_after_verb<A: Allocator>(around: Around, level: &Level<A>, kind: Kind) -> bool
-    ensures { (c : Setting) (s : M.Topic) (u : M.Up) (l : Leaf) → result ≡ is_go (M.semi c s (around_of around (level_of level.now) u) kind l) }
+fn goes_on_after_verb(around: Around, level: Level, kind: Kind) -> bool
+    ensures { (c : Setting) (s : M.Topic) (u : M.Up) (l : Leaf) → result ≡ is_go (M.semi c s (around_of around (level_of level) u) kind l) }
 {
     match kind {
         Kind::Semicolon => true,
@@ -197,8 +193,8 @@ fn goes_on_after_verb<A: Allocator>(around: Around, level: &Level<A>, kind: Kind
 }
 
 #[tactic(auto, using(crate::proofs::machine::Fallbacks::fallbacks))]
-fn goes_on_after_brackets<A: Allocator>(level: &Level<A>, kind: Kind) -> bool
-    ensures { (c : Setting) (s : M.Topic) (l : Leaf) → result ≡ is_go (M.after_box c s (level_of level.now) kind l) }
+fn goes_on_after_brackets(level: Level, kind: Kind) -> bool
+    ensures { (c : Setting) (s : M.Topic) (l : Leaf) → result ≡ is_go (M.after_box c s (level_of level) kind l) }
 {
     begins_verb(kind) || ends_list(Around::Statement, level, kind)
 }
@@ -209,8 +205,8 @@ pub fn begins_verb(kind: Kind) -> bool
     matches!(kind, Kind::IriRef | Kind::PnameNs | Kind::PnameLn | Kind::A)
 }
 
-fn ends_list<A: Allocator>(around: Around, level: &Level<A>, kind: Kind) -> bool
-    ensures { (c : Setting) (s : M.Topic) (u : M.Up) (l : Leaf) → result ≡ is_go (M.list_end c s (around_of around (level_of level.now) u) kind l) }
+fn ends_list(around: Around, level: Level, kind: Kind) -> bool
+    ensures { (c : Setting) (s : M.Topic) (u : M.Up) (l : Leaf) → result ≡ is_go (M.list_end c s (around_of around (level_of level) u) kind l) }
 {
     match (around, level) {
         (Around::Brackets, _) => matches!(kind, Kind::CloseBracket),

@@ -5,26 +5,22 @@ ghost use Rattle.std.specs.Str.{chars};
 ghost use Rattle.std.specs.String.{string_bytes};
 ghost use Rattle.rdf_terms.specs.Terms as term;
 ghost use Rattle.rdf_terms.specs.Sinks.{Appends};
-ghost use Rattle.rdf_terms.specs.Owned.{owned_subject};
-ghost use Rattle.rdf_terms.specs.Known.{known_chars};
-ghost use Rattle.rdf_terms.specs.Views.{iri_chars, subject_by, term_by, tail_by, quad_of};
+ghost use Rattle.rdf_terms.specs.Views.{subject_by, term_by, tail_by, quad_of};
 ghost use Rattle.rdf_iri.specs.Scope.{InForce};
 ghost use Rattle.rdf_trig.specs.Quads.{stated, plain_literal};
 ghost use Rattle.rdf_trig.specs.declared.form.DocForm.{DocForm};
 ghost use Rattle.rdf_trig.specs.Machine as M;
 ghost use Rattle.rdf_trig.specs.Machine.{subject_at, verb_at, kept};
 ghost use Rattle.rdf_tokens.specs.declared.token.Token.{Token as Given};
-ghost use Rattle.rdf_lines.specs.Lines.{Leaf};
-ghost use Rattle.rdf_trig.specs.Quads.{Setting};
-ghost use Rattle.rdf_trig.specs.States.{leaf, mode_at, topic_of, verb_of, object_of, place_of, up_of, level_of, mode_in, graph_of, graph_at, setting, cells_quad, rest_of, held_of};
+ghost use Rattle.rdf_trig.specs.States.{leaf, object_of, object_quad, IsSettled, place_of, up_of, mode_in, graph_in, block_graph, setting, cells_quad, rest_of, held_of};
 ghost use Rattle.rdf_trig.specs.Steps.{GaveUp, given, up_quad};
 
 use crate::fault::StepFault;
 use crate::rest::Rest;
-use crate::state::{Frame, Held, Level, Mode, Object, Outer, State, Topic, Verb};
+use crate::state::{Block, Container, Frame, Held, Level, Mode, Outer, State};
 use rdf_terms::{
-    Iri, IriView, Kind, Known, LiteralRef, NodeRef, PutFault, QuadRef, QuadSink, Subject,
-    SubjectRef, TailRef, TermRef, known,
+    Kind, Known, LiteralRef, NodeRef, PutFault, QuadRef, QuadSink, SubjectRef, TailRef, TermRef,
+    known,
 };
 use rdf_tokens::Token;
 use std::alloc::Allocator;
@@ -50,23 +46,22 @@ pub fn give<A: Allocator, S: QuadSink>(
 
 // Whether no quad is held, and none waits to know the token.
 #[inline(always)]
-#[tactic(auto, using(crate::proofs::code::PutsInRow::given_none))]
+#[tactic(auto, using(crate::proofs::code::PutsInRow::given_idle))]
 fn is_idle<A: Allocator>(state: &State<A>) -> bool
     ensures { result ≡ true → (form : DocForm) (s : InForce) (t : Given) → given form s state.now t ≡ [] }
 {
     match state.held {
-        Held::Nothing => !state.rest.is_owed() && !waits(&state.mode),
+        Held::Nothing => !state.rest.is_owed() && !waits(state.mode),
         _ => false,
     }
 }
 
 // Whether a quad waits to know the token.
 #[inline(always)]
-fn waits<A: Allocator>(mode: &Mode<A>) -> bool
-    ensures { result ≡ false → (form : DocForm) (c : Setting) (v : M.Level) (f : Frame A) (u : M.Up) (k : Kind) (l : Leaf) →
-        M.waiting c (mode_at form v f u mode.now) k l ≡ None }
+fn waits(mode: Mode) -> bool
+    ensures { result ≡ false → IsSettled mode }
 {
-    matches!(mode, Mode::AfterText(_) | Mode::Paren)
+    matches!(mode, Mode::AfterText | Mode::Paren)
 }
 
 // Puts what is held and what waits.
@@ -83,7 +78,7 @@ fn give_all<A: Allocator, S: QuadSink>(
     ensures err { IfErr result (λ r. (form : DocForm) (s : InForce) →
         GaveUp S.takes S.leaves S.has_failed r (given form s state.now token.now) sink.old sink.new) }
 {
-    let graph = graph(&state.mode, &state.level);
+    let graph = graph(state);
     let rest = put(rest_quad(&state.rest, graph), sink)?;
     let held = put(held_quad(state, graph), sink)?;
     let waiting = put(waiting_quad(state, graph, token), sink)?;
@@ -91,25 +86,21 @@ fn give_all<A: Allocator, S: QuadSink>(
 }
 
 // The graph of the quads.
-fn graph<'a, A: Allocator>(mode: &'a Mode<A>, level: &'a Level<A>) -> Option<SubjectRef<'a>>
-    ensures { option_map (subject_by chars) result ≡ graph_at mode.now (graph_of level.now) }
+#[inline(always)]
+fn graph<A: Allocator>(state: &State<A>) -> Option<SubjectRef<'_>>
+    ensures { option_map (subject_by chars) result ≡ graph_in state.now }
 {
-    match mode {
-        Mode::Outer(Outer::Inside(graph)) => label(graph),
-        Mode::Outer(_) => None,
-        _ => match level {
-            Level::Top => None,
-            Level::Block(graph) => label(graph),
+    let block = match state.mode {
+        Mode::Outer(Outer::Inside(block)) => block,
+        Mode::Outer(_) => Block::Default,
+        _ => match state.level {
+            Level::Top => Block::Default,
+            Level::Block(block) => block,
         },
-    }
-}
-
-fn label<A: Allocator>(graph: &Option<Subject<A>>) -> Option<SubjectRef<'_>>
-    ensures { option_map (subject_by chars) result ≡ option_map owned_subject graph.now }
-{
-    match graph {
-        None => None,
-        Some(subject) => Some(subject.view()),
+    };
+    match block {
+        Block::Default => None,
+        Block::Named => Some(state.graph.view()),
     }
 }
 
@@ -130,31 +121,53 @@ fn held_quad<'a, A: Allocator>(
     graph: Option<SubjectRef<'a>>,
 ) -> Option<QuadRef<'a>>
     ensures { (form : DocForm) → option_map quad_of result ≡ held_of (option_map (subject_by chars) graph.entry)
-        (mode_in form state.now) state.now.held }
+        (mode_in form state.now) state.now state.now.held }
 {
-    match &state.held {
+    match state.held {
         Held::Nothing => None,
-        Held::Object(kept) => match state.mode {
-            Mode::After => Some(quad_at(&state.frame, object(kept), graph)),
-            Mode::Bracket(_) => quad_up(&state.frames, object(kept), graph),
-            _ => None,
+        Held::Nil(cell) => Some(cells(cell, nil(), graph)),
+        _ => match object(state) {
+            Some(object) => object_quad(state, object, graph),
+            None => None,
         },
-        Held::Nil(cell) => Some(cells(*cell, nil(), graph)),
     }
 }
 
-fn object<A: Allocator>(object: &Object<A>) -> TermRef<'_>
-    ensures { term_by chars result ≡ object_of object.now }
+// The quad of an object that has come.
+#[inline(always)]
+fn object_quad<'a, A: Allocator>(
+    state: &'a State<A>,
+    object: TermRef<'a>,
+    graph: Option<SubjectRef<'a>>,
+) -> Option<QuadRef<'a>>
+    ensures { (form : DocForm) → option_map quad_of result ≡ object_quad (option_map (subject_by chars) graph.entry) (mode_in form state.now)
+        (Some (term_by chars object.entry)) }
 {
-    match object {
-        Object::Named(subject) => resource(subject.view()),
-        Object::WithType(lexical, datatype) => {
-            literal(lexical.as_str(), TailRef::Typed(datatype.view()))
+    match state.mode {
+        Mode::After => Some(quad_at(&state.frame, object, graph)),
+        Mode::Bracket(_) => quad_up(&state.frames, object, graph),
+        _ => None,
+    }
+}
+
+// The object that is held.
+#[inline(always)]
+fn object<A: Allocator>(state: &State<A>) -> Option<TermRef<'_>>
+    ensures { option_map (term_by chars) result ≡ object_of state.now state.now.held }
+{
+    let text = state.text.as_str();
+    match state.held {
+        Held::Resource => Some(resource(state.object.view())),
+        Held::WithType => {
+            let datatype = state.datatype.view_or(Known::XsdString);
+            Some(literal(text, TailRef::Typed(datatype)))
         }
-        Object::WithTag(lexical, tag) => literal(lexical.as_str(), TailRef::Lang(tag.view())),
-        Object::OfKnown(lexical, datatype) => {
-            literal(lexical.as_str(), TailRef::Typed(known(*datatype)))
-        }
+        Held::WithTag => match state.tag.view() {
+            Some(tag) => Some(literal(text, TailRef::Lang(tag))),
+            None => None,
+        },
+        Held::OfKnown(datatype) => Some(literal(text, TailRef::Typed(known(datatype)))),
+        Held::Nothing | Held::Nil(_) => None,
     }
 }
 
@@ -202,10 +215,10 @@ fn waiting_quad<'a, A: Allocator>(
         (setting s (option_map (subject_by chars) graph.entry)) (mode_in form state.now)
         token.now.kind (leaf token.now) }
 {
-    match &state.mode {
-        Mode::AfterText(lexical) => match token.kind {
+    match state.mode {
+        Mode::AfterText => match token.kind {
             Kind::LangTag | Kind::AtBase | Kind::AtPrefix | Kind::Carets => None,
-            _ => Some(quad_at(&state.frame, plain(lexical), graph)),
+            _ => Some(quad_at(&state.frame, plain(&state.text), graph)),
         },
         Mode::Paren => {
             let first = match token.kind {
@@ -263,19 +276,15 @@ fn quad_at<'a, A: Allocator>(
     ensures { (v : M.Level) (u : M.Up) → Some (quad_of result) ≡ stated (Some (option_map (subject_by chars) graph.entry))
         (subject_at (place_of v frame.now u)) (verb_at (place_of v frame.now u)) (Some (term_by chars object.entry)) }
 {
-    match frame {
-        Frame::List {
-            subject,
-            verb: predicate,
-            ..
-        } => QuadRef {
-            subject: topic(subject),
-            predicate: verb(predicate),
+    match frame.container {
+        Container::List(_) => QuadRef {
+            subject: frame.subject.view(),
+            predicate: frame.verb.view_or(Known::RdfType),
             object,
             graph,
         },
-        Frame::Cells { cell, .. } => QuadRef {
-            subject: SubjectRef::Node(NodeRef::Cell(*cell)),
+        Container::Cells { cell, .. } => QuadRef {
+            subject: SubjectRef::Node(NodeRef::Cell(cell)),
             predicate: known(Known::RdfFirst),
             object,
             graph,
@@ -283,28 +292,10 @@ fn quad_at<'a, A: Allocator>(
     }
 }
 
-fn topic<A: Allocator>(topic: &Topic<A>) -> SubjectRef<'_>
-    ensures { subject_by chars result ≡ topic_of topic.now }
-{
-    match topic {
-        Topic::Term(subject) => subject.view(),
-        Topic::Nil => nil(),
-    }
-}
-
 fn nil() -> SubjectRef<'static>
     ensures { subject_by chars result ≡ M.nil }
 {
     SubjectRef::Iri(known(Known::RdfNil))
-}
-
-fn verb<A: Allocator>(verb: &Verb<A>) -> IriView<'_>
-    ensures { iri_chars result ≡ verb_of verb.now }
-{
-    match verb {
-        Verb::Named(iri) => iri.view(),
-        Verb::Type => known(Known::RdfType),
-    }
 }
 
 fn resource(subject: SubjectRef<'_>) -> TermRef<'_>

@@ -119,7 +119,7 @@ impl<A: Allocator + Copy> QuadGrammar for TreeGrammar<A> {
         let Rules { form, limits } = self.rules;
         match self
             .state
-            .accept(self.alloc, form, limits, &mut self.scope, &token, sink)
+            .accept(form, limits.depth(), &mut self.scope, &token, sink)
         {
             Ok(given) => Ok(given),
             Err(fault) => {

@@ -17,6 +17,7 @@ mod outer;
 mod reader;
 mod rest;
 mod rules;
+mod slots;
 mod spelled;
 mod state;
 mod subjects;

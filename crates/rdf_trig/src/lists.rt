@@ -1,22 +1,20 @@
 // Tokens after an object or a verb: lists of objects and of verbs, the items of collections, and where they end.
 
-ghost use Rattle.std.specs.Prelude.{◌≡◌, ℕ, ◌+◌, ◌-◌, ◌*◌, ◌≤◌, List, length, Option, Some, None, OnOk, IfErr, IfSome, MatchOption};
+ghost use Rattle.std.specs.Prelude.{◌≡◌, ℕ, ◌+◌, ◌-◌, ◌≤◌, List, length, OnOk, IfErr};
 ghost use Rattle.std.specs.List.{AllByRecursion};
-ghost use Rattle.rdf_terms.specs.Terms as term;
 ghost use Rattle.rdf_iri.specs.Scope.{InForce};
 ghost use Rattle.rdf_lines.specs.Lines.{Leaf};
+ghost use Rattle.rdf_trig.specs.declared.form.DocForm.{DocForm};
 ghost use Rattle.rdf_trig.specs.Machine as M;
-ghost use Rattle.rdf_trig.specs.Machine.{No, Go};
-ghost use Rattle.rdf_trig.specs.States.{leaf, IsTurtleToken, IsNamed, name_at, use_at, setting, graph_of, graph_at, outer_of, outer_graph, level_of, sized_of, spelt_of};
-ghost use Rattle.rdf_trig.specs.States.{place_of, up_of, around_of, mode_of, behind_dot, begins_verb, semi_at, up_in, place_in, setting_in, Gives};
-ghost use Rattle.rdf_trig.specs.Holding.{verb_bytes, topic_bytes, level_bytes, outer_bytes, TextFits, NameFits, FrameFits, OpenFits, Fits, Closes, frames_most};
+ghost use Rattle.rdf_trig.specs.States.{leaf, IsTurtleToken, IsNamed, name_at, use_at, graph_of, graph_at, outer_of, outer_graph, level_of, spelt_of};
+ghost use Rattle.rdf_trig.specs.States.{place_of, up_of, around_of, mode_at, behind_dot, semi_at, up_in, place_in, setting_in, Gives};
+ghost use Rattle.rdf_trig.specs.Holding.{outer_bytes, level_bytes, frame_bytes, TextFits, NameFits, FrameFits, OpenFits, Fits, Closes, frames_most};
 
 use crate::allows::begins_verb;
 use crate::fault::StepFault;
-use crate::form::DocForm;
 use crate::rest::Rest;
-use crate::state::{Around, Frame, Held, Level, Mode, Outer, State, Topic, Verb};
-use rdf_terms::{Iri, Kind, Node, Subject};
+use crate::state::{Around, Block, Container, Frame, Held, Level, Mode, Outer, State};
+use rdf_terms::Kind;
 use rdf_tokens::Token;
 use std::alloc::Allocator;
 use std::mem;
@@ -24,31 +22,26 @@ use std::mem;
 impl<A: Allocator + Copy> State<A> {
     // The token after an object.
     #[inline(always)]
-    pub fn after(
-        &mut self,
-        alloc: A,
-        token: &Token<'_>,
-        name: Option<Iri<A>>,
-    ) -> Result<(), StepFault>
+    pub fn after(&mut self, token: &Token<'_>) -> Result<(), StepFault>
         requires token { IsTurtleToken token.now }
-        requires named { IsNamed token.now.kind name }
-        ensures gives { (form : DocForm) (s : InForce) → name_at s token.now.kind (leaf token.now) ≡ name →
+        requires named { IsNamed token.now.kind self.old.name }
+        ensures gives { (form : DocForm) (s : InForce) → name_at s token.now.kind (leaf token.now) ≡ self.old.name →
             Gives form s (use_at s token.now.kind (leaf token.now)) result self.new
             (M.after (setting_in s self.old) (place_in self.old) token.now.kind (leaf token.now)) }
         ensures depth { self.new.depth ≡ self.old.depth }
         ensures stack { OnOk result (length self.new.frames.items ≤ frames_most token.now.kind (length self.old.frames.items)) }
-        ensures fits { (n : ℕ) → TextFits n token.now → NameFits n name → OpenFits n self.old → OnOk result (Fits n self.new) }
+        ensures fits { (n : ℕ) → TextFits n token.now → NameFits n self.old.name → OpenFits n self.old → OnOk result (Fits n self.new) }
     {
-        match self.frame {
-            Frame::List { around, .. } => self.after_listed(around, token.kind),
-            Frame::Cells { first, cell } => self.after_item(alloc, first, cell, token, name),
+        match self.frame.container {
+            Container::List(around) => self.after_listed(around, token.kind),
+            Container::Cells { first, cell } => self.after_item(first, cell, token),
         }
     }
 
     fn after_listed(&mut self, around: Around, kind: Kind) -> Result<(), StepFault>
-        ensures gives { (form : DocForm) (s : InForce) (subject : Topic A) (verb : Verb A) (l : Leaf) → self.old.frame ≡ Frame.List subject verb around →
-            Gives form s (use_at s kind l) result self.new (M.after (setting_in s self.old)
-            (M.Listed (sized_of subject) (spelt_of verb) (around_of around (level_of self.old.level) (up_in self.old))) kind l) }
+        requires listed { self.old.frame.container ≡ Container.List around }
+        ensures gives { (form : DocForm) (s : InForce) (l : Leaf) → Gives form s (use_at s kind l) result self.new
+            (M.after (setting_in s self.old) (place_in self.old) kind l) }
         ensures depth { self.new.depth ≡ self.old.depth }
         ensures stack { OnOk result (length self.new.frames.items ≤ frames_most kind (length self.old.frames.items)) }
         ensures fits { (n : ℕ) → OpenFits n self.old → OnOk result (Fits n self.new) }
@@ -67,35 +60,28 @@ impl<A: Allocator + Copy> State<A> {
     }
 
     #[tactic(auto, using(crate::proofs::machine::Fallbacks::fallbacks))]
-    fn after_item(
-        &mut self,
-        alloc: A,
-        first: u64,
-        cell: u64,
-        token: &Token<'_>,
-        name: Option<Iri<A>>,
-    ) -> Result<(), StepFault>
+    fn after_item(&mut self, first: u64, cell: u64, token: &Token<'_>) -> Result<(), StepFault>
         requires token { IsTurtleToken token.now }
-        requires named { IsNamed token.now.kind name }
-        ensures gives { (form : DocForm) (s : InForce) → name_at s token.now.kind (leaf token.now) ≡ name →
+        requires named { IsNamed token.now.kind self.old.name }
+        ensures gives { (form : DocForm) (s : InForce) → name_at s token.now.kind (leaf token.now) ≡ self.old.name →
             Gives form s (use_at s token.now.kind (leaf token.now)) result self.new
             (M.after (setting_in s self.old) (M.InCells first cell (up_in self.old)) token.now.kind (leaf token.now)) }
         ensures depth { self.new.depth ≡ self.old.depth }
         ensures stack { OnOk result (length self.new.frames.items ≤ frames_most token.now.kind (length self.old.frames.items)) }
-        ensures fits { (n : ℕ) → TextFits n token.now → NameFits n name → OpenFits n self.old → OnOk result (Fits n self.new) }
+        ensures fits { (n : ℕ) → TextFits n token.now → NameFits n self.old.name → OpenFits n self.old → OnOk result (Fits n self.new) }
     {
         match token.kind {
             Kind::CloseParen => {
-                let subject = Topic::Term(Subject::Node(Node::Cell(first)));
-                self.mode = list_closed(&mut self.frame, &mut self.frames, subject);
+                self.frame.subject.set_cell(first);
+                self.mode = self.collection_closed();
                 self.rest = Rest::none();
                 self.held = Held::Nil(cell);
                 Ok(())
             }
             _ => {
                 let next = token.offset;
-                self.frame = Frame::Cells { first, cell: next };
-                self.object_start(alloc, Rest::of(cell, next), token, name)
+                self.frame.container = Container::Cells { first, cell: next };
+                self.object_start(Rest::of(cell, next), token)
             }
         }
     }
@@ -104,51 +90,46 @@ impl<A: Allocator + Copy> State<A> {
     #[tactic(auto, using(crate::proofs::code::FrameStack::stack_steps, crate::proofs::code::HoldingLemmas::frames_pushed))]
     pub fn open(&mut self) -> Result<(), StepFault>
         ensures up { OnOk result ((v : M.Level) → up_of v self.new.frames.items ≡ M.At (place_of v self.old.frame (up_of v self.old.frames.items))) }
-        ensures level { self.new.level ≡ self.old.level }
+        ensures same { OnOk result (self.new ≡ record self.old { frame = self.new.frame; frames = self.new.frames }) }
         ensures depth { self.new.depth ≡ self.old.depth }
         ensures stack { OnOk result (length self.new.frames.items ≡ length self.old.frames.items + 1) }
         ensures fits { (n : ℕ) → OpenFits n self.old → OnOk result (OpenFits n self.new) }
         ensures err { IfErr result (λ r. r ≡ StepFault.Memory) }
     {
-        let frame = mem::replace(&mut self.frame, Frame::none());
+        let frame = mem::replace(&mut self.frame, Frame::none(self.alloc));
         self.frames.push(frame)?;
         Ok(())
     }
 
     // The token after ';'.
     #[inline(always)]
-    pub fn semicolon(&mut self, kind: Kind, name: Option<Iri<A>>) -> Result<(), StepFault>
-        requires named { IsNamed kind name }
-        ensures gives { (form : DocForm) (s : InForce) (l : Leaf) → name_at s kind l ≡ name →
+    pub fn semicolon(&mut self, kind: Kind) -> Result<(), StepFault>
+        requires named { IsNamed kind self.old.name }
+        ensures gives { (form : DocForm) (s : InForce) (l : Leaf) → name_at s kind l ≡ self.old.name →
             Gives form s (use_at s kind l) result self.new (M.step form (setting_in s self.old) (semi_at (place_in self.old)) kind l) }
         ensures depth { self.new.depth ≡ self.old.depth }
         ensures stack { OnOk result (length self.new.frames.items ≤ frames_most kind (length self.old.frames.items)) }
-        ensures fits { (n : ℕ) → NameFits n name → OpenFits n self.old → OnOk result (Fits n self.new) }
+        ensures fits { (n : ℕ) → NameFits n self.old.name → OpenFits n self.old → OnOk result (Fits n self.new) }
     {
-        match self.frame {
-            Frame::List { around, .. } => self.after_semicolon(around, kind, name),
-            Frame::Cells { .. } => Err(StepFault::Unexpected),
+        match self.frame.container {
+            Container::List(around) => self.after_semicolon(around, kind),
+            Container::Cells { .. } => Err(StepFault::Unexpected),
         }
     }
 
     #[tactic(auto, using(crate::proofs::machine::Fallbacks::fallbacks))]
-    fn after_semicolon(
-        &mut self,
-        around: Around,
-        kind: Kind,
-        name: Option<Iri<A>>,
-    ) -> Result<(), StepFault>
-        requires named { IsNamed kind name }
-        ensures gives { (form : DocForm) (s : InForce) (subject : Topic A) (verb : Verb A) (l : Leaf) → self.old.frame ≡ Frame.List subject verb around →
-            name_at s kind l ≡ name →
-            Gives form s (use_at s kind l) result self.new (M.semi (setting_in s self.old) (sized_of subject)
+    fn after_semicolon(&mut self, around: Around, kind: Kind) -> Result<(), StepFault>
+        requires named { IsNamed kind self.old.name }
+        requires listed { self.old.frame.container ≡ Container.List around }
+        ensures gives { (form : DocForm) (s : InForce) (l : Leaf) → name_at s kind l ≡ self.old.name →
+            Gives form s (use_at s kind l) result self.new (M.semi (setting_in s self.old) self.old.frame.subject
             (around_of around (level_of self.old.level) (up_in self.old)) kind l) }
         ensures depth { self.new.depth ≡ self.old.depth }
         ensures stack { OnOk result (length self.new.frames.items ≤ frames_most kind (length self.old.frames.items)) }
-        ensures fits { (n : ℕ) → NameFits n name → OpenFits n self.old → OnOk result (Fits n self.new) }
+        ensures fits { (n : ℕ) → NameFits n self.old.name → OpenFits n self.old → OnOk result (Fits n self.new) }
     {
         if begins_verb(kind) {
-            return self.next_verb(kind, name);
+            return self.verb_start(around, kind);
         }
         match kind {
             Kind::Semicolon => {
@@ -159,92 +140,59 @@ impl<A: Allocator + Copy> State<A> {
         }
     }
 
-    // One more verb of the predicate list in hand.
-    fn next_verb(&mut self, kind: Kind, name: Option<Iri<A>>) -> Result<(), StepFault>
-        requires named { IsNamed kind name }
-        ensures gives { (form : DocForm) (s : InForce) (subject : Topic A) (verb : Verb A) (around : Around) (l : Leaf) →
-            self.old.frame ≡ Frame.List subject verb around → name_at s kind l ≡ name →
-            Gives form s (use_at s kind l) result self.new (M.verb_start (setting_in s self.old) (sized_of subject)
-            (around_of around (level_of self.old.level) (up_in self.old)) kind l) }
-        ensures depth { self.new.depth ≡ self.old.depth }
-        ensures stack { OnOk result (length self.new.frames.items ≤ frames_most kind (length self.old.frames.items)) }
-        ensures fits { (n : ℕ) → NameFits n name → OpenFits n self.old → OnOk result (Fits n self.new) }
-    {
-        let Some(next) = verb(kind, name) else {
-            return Err(StepFault::Unexpected);
-        };
-        if let Frame::List { verb, .. } = &mut self.frame {
-            *verb = next;
-        }
-        self.stand(Mode::Want);
-        Ok(())
-    }
-
     // The token after a property list that is a subject.
     #[tactic(auto, using(crate::proofs::machine::Fallbacks::fallbacks))]
-    pub fn after_brackets(
-        &mut self,
-        subject: Topic<A>,
-        kind: Kind,
-        name: Option<Iri<A>>,
-    ) -> Result<(), StepFault>
-        requires named { IsNamed kind name }
-        ensures gives { (form : DocForm) (s : InForce) (l : Leaf) → name_at s kind l ≡ name →
+    pub fn after_brackets(&mut self, kind: Kind) -> Result<(), StepFault>
+        requires named { IsNamed kind self.old.name }
+        ensures gives { (form : DocForm) (s : InForce) (l : Leaf) → name_at s kind l ≡ self.old.name →
             Gives form s (use_at s kind l) result self.new
-            (M.after_box (setting_in s self.old) (sized_of subject) (level_of self.old.level) kind l) }
+            (M.after_box (setting_in s self.old) self.old.frame.subject (level_of self.old.level) kind l) }
         ensures depth { self.new.depth ≡ self.old.depth }
         ensures stack { OnOk result (length self.new.frames.items ≤ frames_most kind (length self.old.frames.items)) }
-        ensures fits { (n : ℕ) → NameFits n name → OpenFits n self.old → topic_bytes subject ≤ n → OnOk result (Fits n self.new) }
+        ensures fits { (n : ℕ) → NameFits n self.old.name → OpenFits n self.old → self.old.frame.subject.size ≤ n → OnOk result (Fits n self.new) }
     {
         if begins_verb(kind) {
-            self.verb_start(subject, Around::Statement, kind, name)
+            self.verb_start(Around::Statement, kind)
         } else {
             self.statement_end(kind)
         }
     }
 
-    // The first verb of a predicate list.
-    pub fn verb_start(
-        &mut self,
-        subject: Topic<A>,
-        around: Around,
-        kind: Kind,
-        name: Option<Iri<A>>,
-    ) -> Result<(), StepFault>
-        requires { IsNamed kind name }
-        ensures gives { (form : DocForm) (s : InForce) (l : Leaf) → name_at s kind l ≡ name →
-            Gives form s (use_at s kind l) result self.new (M.verb_start (setting_in s self.old) (sized_of subject)
+    // A verb of a predicate list, whose subject is that of the frame in hand.
+    pub fn verb_start(&mut self, around: Around, kind: Kind) -> Result<(), StepFault>
+        requires named { IsNamed kind self.old.name }
+        ensures gives { (form : DocForm) (s : InForce) (l : Leaf) → name_at s kind l ≡ self.old.name →
+            Gives form s (use_at s kind l) result self.new (M.verb_start (setting_in s self.old) self.old.frame.subject
             (around_of around (level_of self.old.level) (up_in self.old)) kind l) }
         ensures depth { self.new.depth ≡ self.old.depth }
         ensures stack { OnOk result (length self.new.frames.items ≤ frames_most kind (length self.old.frames.items)) }
-        ensures fits { (n : ℕ) → NameFits n name → OpenFits n self.old → topic_bytes subject ≤ n → OnOk result (Fits n self.new) }
+        ensures fits { (n : ℕ) → NameFits n self.old.name → OpenFits n self.old → self.old.frame.subject.size ≤ n → OnOk result (Fits n self.new) }
     {
-        let Some(verb) = verb(kind, name) else {
-            return Err(StepFault::Unexpected);
-        };
-        self.frame = Frame::List {
-            subject,
-            verb,
-            around,
-        };
+        match kind {
+            Kind::IriRef | Kind::PnameNs | Kind::PnameLn => {
+                mem::swap(&mut self.frame.verb, &mut self.name);
+            }
+            Kind::A => self.frame.verb.clear(),
+            _ => return Err(StepFault::Unexpected),
+        }
+        self.frame.container = Container::List(around);
         self.stand(Mode::Want);
         Ok(())
     }
 
     // The end of a predicate list.
     fn list_end(&mut self, around: Around, kind: Kind) -> Result<(), StepFault>
-        ensures gives { (form : DocForm) (s : InForce) (subject : Topic A) (verb : Verb A) (l : Leaf) → self.old.frame ≡ Frame.List subject verb around →
-            Gives form s (use_at s kind l) result self.new (M.list_end (setting_in s self.old) (sized_of subject)
-            (around_of around (level_of self.old.level) (up_in self.old)) kind l) }
+        ensures gives { (form : DocForm) (s : InForce) (l : Leaf) → Gives form s (use_at s kind l) result self.new
+            (M.list_end (setting_in s self.old) self.old.frame.subject (around_of around (level_of self.old.level) (up_in self.old)) kind l) }
         ensures depth { self.new.depth ≡ self.old.depth }
         ensures stack { OnOk result (length self.new.frames.items ≤ frames_most kind (length self.old.frames.items)) }
-        ensures fits { (n : ℕ) → OpenFits n self.old → OnOk result (Fits n self.new) }
+        ensures fits { (n : ℕ) → OpenFits n self.old → self.old.frame.subject.size ≤ n → OnOk result (Fits n self.new) }
     {
         match around {
             Around::Statement => self.statement_end(kind),
             Around::Brackets => match kind {
                 Kind::CloseBracket => {
-                    let mode = box_closed(&mut self.frame, &mut self.frames);
+                    let mode = self.brackets_closed();
                     self.stand(mode);
                     Ok(())
                 }
@@ -254,16 +202,18 @@ impl<A: Allocator + Copy> State<A> {
     }
 
     fn statement_end(&mut self, kind: Kind) -> Result<(), StepFault>
-        ensures gives { (form : DocForm) (s : InForce) (x : M.Topic) (l : Leaf) →
-            Gives form s (use_at s kind l) result self.new (M.list_end (setting_in s self.old) x (M.Statement (level_of self.old.level)) kind l) }
+        ensures gives { (form : DocForm) (s : InForce) (x : M.Topic) (l : Leaf) → Gives form s (use_at s kind l) result self.new
+            (M.list_end (setting_in s self.old) x (M.Statement (level_of self.old.level)) kind l) }
         ensures depth { self.new.depth ≡ self.old.depth }
         ensures stack { OnOk result (length self.new.frames.items ≤ frames_most kind (length self.old.frames.items)) }
+        ensures empty { OnOk result (frame_bytes self.new.frame ≡ 0) }
         ensures fits { (n : ℕ) → OpenFits n self.old → OnOk result (Fits n self.new) }
     {
         match kind {
             Kind::Dot => {
-                let outer = statement_ended(&mut self.level);
-                self.frame = Frame::none();
+                let outer = after_dot(self.level);
+                self.level = Level::Top;
+                self.frame.container = Container::none();
                 self.stand(Mode::Outer(outer));
                 Ok(())
             }
@@ -271,7 +221,7 @@ impl<A: Allocator + Copy> State<A> {
                 Level::Top => Err(StepFault::Unexpected),
                 Level::Block(_) => {
                     self.level = Level::Top;
-                    self.frame = Frame::none();
+                    self.frame.container = Container::none();
                     self.stand(Mode::Outer(Outer::Start));
                     Ok(())
                 }
@@ -279,76 +229,60 @@ impl<A: Allocator + Copy> State<A> {
             _ => Err(StepFault::Unexpected),
         }
     }
-}
 
-#[tactic(auto, using(crate::proofs::code::FrameStack::stack_steps))]
-pub fn list_closed<A: Allocator>(
-    frame: &mut Frame<A>,
-    frames: &mut Vec<Frame<A>, A>,
-    subject: Topic<A>,
-) -> Mode<A>
-    ensures mode { (form : DocForm) (v : Level A) → mode_of form v frame.new frames.new.items result ≡ M.list_closed (up_of (level_of v) frames.old.items)
-        (sized_of subject) }
-    ensures graph { (g : Option term.Subject) → graph_at result g ≡ g }
-    ensures stack { length frames.new.items ≤ length frames.old.items - 1 }
-    ensures fits { (n : ℕ) → topic_bytes subject ≤ n → FrameFits n frame.old → AllByRecursion (FrameFits n) frames.old.items → Closes n result frame.new frames.new.items }
-{
-    match frames.pop() {
-        None => Mode::WantVerb(subject),
-        Some(outer) => {
-            *frame = outer;
-            Mode::After
+    // The mode after a collection, whose first cell is the subject of the frame in hand.
+    #[tactic(auto, using(crate::proofs::code::FrameStack::stack_steps, crate::proofs::code::HoldingLemmas::frames_popped))]
+    pub fn collection_closed(&mut self) -> Mode
+        ensures mode { (form : DocForm) → mode_at form self.new result ≡ M.list_closed (up_in self.old) self.old.frame.subject }
+        ensures graph { graph_at self.new result ≡ graph_of self.old.level self.old.graph }
+        ensures same { self.new ≡ record self.old { frame = self.new.frame; frames = self.new.frames } }
+        ensures stack { length self.new.frames.items ≤ length self.old.frames.items - 1 }
+        ensures fits { (n : ℕ) → self.old.frame.subject.size ≤ n → FrameFits n self.old.frame → AllByRecursion (FrameFits n) self.old.frames.items →
+            Closes n result self.new }
+    {
+        match self.frames.pop() {
+            None => {
+                self.frame.container = Container::none();
+                Mode::WantVerb
+            }
+            Some(outer) => {
+                self.frame = outer;
+                Mode::After
+            }
+        }
+    }
+
+    // The mode after a property list.
+    #[tactic(auto, using(crate::proofs::code::FrameStack::stack_steps, crate::proofs::code::HoldingLemmas::frames_popped))]
+    fn brackets_closed(&mut self) -> Mode
+        ensures mode { (form : DocForm) → mode_at form self.new result ≡ M.box_closed (up_in self.old) self.old.frame.subject }
+        ensures graph { graph_at self.new result ≡ graph_of self.old.level self.old.graph }
+        ensures same { self.new ≡ record self.old { frame = self.new.frame; frames = self.new.frames } }
+        ensures stack { length self.new.frames.items ≤ length self.old.frames.items - 1 }
+        ensures fits { (n : ℕ) → self.old.frame.subject.size ≤ n → FrameFits n self.old.frame → AllByRecursion (FrameFits n) self.old.frames.items →
+            Closes n result self.new }
+    {
+        match self.frames.pop() {
+            None => {
+                self.frame.container = Container::none();
+                Mode::AfterBrackets
+            }
+            Some(outer) => {
+                self.frame = outer;
+                Mode::After
+            }
         }
     }
 }
 
-#[tactic(auto, using(crate::proofs::code::FrameStack::stack_steps, crate::proofs::code::HoldingLemmas::frames_popped))]
-fn box_closed<A: Allocator>(frame: &mut Frame<A>, frames: &mut Vec<Frame<A>, A>) -> Mode<A>
-    ensures mode { (form : DocForm) (v : Level A) (subject : Topic A) (verb : Verb A) (around : Around) → frame.old ≡ Frame.List subject verb around →
-        mode_of form v frame.new frames.new.items result ≡ M.box_closed (up_of (level_of v) frames.old.items) (sized_of subject) }
-    ensures graph { (g : Option term.Subject) → graph_at result g ≡ g }
-    ensures stack { length frames.new.items ≤ length frames.old.items - 1 }
-    ensures fits { (n : ℕ) → FrameFits n frame.old → AllByRecursion (FrameFits n) frames.old.items → Closes n result frame.new frames.new.items }
+// Where a statement's dot leads.
+fn after_dot(level: Level) -> Outer
+    ensures graph { (g : M.Topic) → outer_graph result g ≡ graph_of level g }
+    ensures mode { (p : List ℕ) (g : M.Topic) → outer_of result p g ≡ behind_dot (level_of level) }
+    ensures bytes { (p : ℕ) (g : M.Topic) → outer_bytes result p g ≡ level_bytes level g }
 {
-    let closed = match frames.pop() {
-        None => mem::replace(frame, Frame::none()),
-        Some(outer) => {
-            *frame = outer;
-            return Mode::After;
-        }
-    };
-    match closed {
-        Frame::List { subject, .. } => Mode::AfterBrackets(subject),
-        // Only the end of a predicate list comes here.
-        Frame::Cells { .. } => Mode::Paren,
-    }
-}
-
-// The mode after a statement's dot, and after the end of a block.
-fn statement_ended<A: Allocator>(level: &mut Level<A>) -> Outer<A>
-    ensures graph { outer_graph result ≡ graph_of level.old }
-    ensures mode { outer_of result ≡ behind_dot (level_of level.old) }
-    ensures level { level.new ≡ Level.Top }
-    ensures bytes { outer_bytes result ≡ level_bytes level.old }
-{
-    match mem::replace(level, Level::Top) {
+    match level {
         Level::Top => Outer::Start,
-        Level::Block(graph) => Outer::Inside(graph),
-    }
-}
-
-// The verb that a token is.
-fn verb<A: Allocator>(kind: Kind, name: Option<Iri<A>>) -> Option<Verb<A>>
-    requires { IsNamed kind name }
-    ensures verb { (s : InForce) (g : Option term.Subject) (x : M.Topic) (a : M.Around) (l : Leaf) → name_at s kind l ≡ name →
-        MatchOption result (M.verb_start (setting s g) x a kind l ≡ No)
-        (λ v. M.verb_start (setting s g) x a kind l ≡ Go (use_at s kind l) None None (setting s g) (M.Want (M.Listed x (spelt_of v) a))) }
-    ensures fits { IfSome result (λ v. (n : ℕ) → NameFits n name → verb_bytes v ≤ n) }
-    ensures stack { IfSome result (λ v. (m : ℕ) → frames_most kind m ≡ m) }
-{
-    match (kind, name) {
-        (Kind::IriRef | Kind::PnameNs | Kind::PnameLn, Some(iri)) => Some(Verb::Named(iri)),
-        (Kind::A, _) => Some(Verb::Type),
-        _ => None,
+        Level::Block(block) => Outer::Inside(block),
     }
 }

@@ -1,26 +1,187 @@
 // What references and names stand for, and what directives do to the scope.
 
-ghost use Rattle.std.specs.Prelude.{◌≡◌, ◌≤◌, ◌*◌, ◌++◌, true, Some, None, IfOk, IfErr, OnOk, length};
+ghost use Rattle.std.specs.Prelude.{◌≡◌, ◌≤◌, ◌*◌, ℕ, List, true, Some, None, IfOk, IfErr, OnOk, length, is_some, unwrap_or};
 ghost use Rattle.std.specs.Str.{chars};
 ghost use Rattle.std.specs.String.{string_bytes};
+ghost use Rattle.rdf_terms.specs.Terms.{IsIri};
 ghost use Rattle.rdf_terms.specs.Values.{local_value};
+ghost use Rattle.rdf_terms.specs.Views.{iri_chars};
+ghost use Rattle.rdf_terms.specs.Known.{known_chars};
 ghost use Rattle.rdf_iri.specs.Texts.{IsIriText, byte_len};
-ghost use Rattle.rdf_iri.specs.Scope.{InForce};
+ghost use Rattle.rdf_iri.specs.Scope.{InForce, ExpandsHere, NotExpanded};
 ghost use Rattle.rdf_lines.specs.Lines.{iri_of};
 ghost use Rattle.rdf_trig.specs.declared.form.DocForm.{DocForm};
 ghost use Rattle.rdf_trig.specs.Machine as M;
-ghost use Rattle.rdf_trig.specs.Names.{local_of, name_in, reference_in};
-ghost use Rattle.rdf_trig.specs.States.{leaf, IsTurtleToken, PrefixFits, mode_at, outer_of};
+ghost use Rattle.rdf_trig.specs.Owed.{iri_size};
+ghost use Rattle.rdf_trig.specs.States.{leaf, IsTurtleToken, PrefixFits, mode_at, mode_in};
 ghost use Rattle.rdf_trig.specs.Holding.{NameFits};
 ghost use Rattle.rdf_trig.specs.Scopes.{IsReference, IsPrefixed, MeansLocal, Names, Unnamed, Binding, NotBinding, Based, SameScope, LooksUp, LooksUpNone};
 
 use crate::fault::StepFault;
+use crate::slots::text_len;
 use crate::spelled::parts;
-use crate::state::{Frame, Mode, Outer};
-use rdf_iri::Scope;
-use rdf_terms::{Iri, Kind, ValueFault, iri_value, is_plain_local, local_value, without_ends};
+use crate::state::{Mode, Outer, State};
+use rdf_iri::{IriFault, Scope};
+use rdf_terms::{
+    IriView, Kind, Known, ValueFault, iri_value, is_plain_local, known, local_value, set_iri_value,
+    without_ends,
+};
 use rdf_tokens::Token;
-use std::alloc::Allocator;
+use std::alloc::{Allocator, Global};
+use std::marker::Model;
+use std::mem;
+
+/// An IRI, or none, in a text that is used again.
+#[derive(Drop)]
+pub struct Name<A: Allocator = Global> {
+    is_some: bool,
+    text: String<A>,
+}
+
+impl<A: Allocator> Model for Name<A> {
+    ghost use Rattle.std.specs.Prelude.{◌≡◌, ℕ, List, Option, Some, None, cond, true};
+    ghost use Rattle.std.specs.Str.{chars};
+    ghost use Rattle.std.specs.String.{string_bytes};
+    ghost use Rattle.rdf_terms.specs.Terms.{IsIri};
+
+    ghost Value = { Option (List ℕ) };
+
+    ghost view = { λ n. cond n.is_some (Some (chars (string_bytes n.text))) None };
+
+    ghost invariant = { λ n. n.is_some ≡ true → ∥ IsIri (chars (string_bytes n.text)) ∥₁ };
+}
+
+impl<A: Allocator> Name<A> {
+    /// No IRI. It takes no memory.
+    pub fn new(alloc: A) -> Name<A>
+        ensures { result ≡ None }
+    {
+        Name {
+            is_some: false,
+            text: String::new(alloc),
+        }
+    }
+
+    /// Takes the IRI away.
+    #[inline(always)]
+    pub fn clear(&mut self)
+        ensures { self.new ≡ None }
+    {
+        self.is_some = false;
+    }
+
+    /// Gives its text away for another one.
+    #[inline(always)]
+    pub fn give(&mut self, text: &mut String<A>)
+        requires { is_some self.old ≡ true }
+        ensures text { Some (chars (string_bytes text.new)) ≡ self.old }
+        ensures is_iri { IsIri (chars (string_bytes text.new)) }
+        ensures none { self.new ≡ None }
+    {
+        mem::swap(&mut self.text, text);
+        self.is_some = false;
+    }
+
+    /// The IRI, borrowed; or, where there is none, this one.
+    #[inline(always)]
+    pub fn view_or(&self, other: Known) -> IriView<'_>
+        ensures { iri_chars result ≡ unwrap_or self.now (known_chars other) }
+    {
+        if self.is_some {
+            IriView::new(self.text.as_str())
+        } else {
+            known(other)
+        }
+    }
+
+    /// How many bytes the IRI has.
+    pub fn len(&self) -> u64
+        ensures { result ≡ iri_size self.now }
+    {
+        if self.is_some {
+            text_len(self.text.as_str())
+        } else {
+            0
+        }
+    }
+}
+
+impl<A: Allocator + Copy> Name<A> {
+    // The IRI of a prefix with a local part after it.
+    #[inline(always)]
+    fn expand(&mut self, scope: &Scope<A>, prefix: &str, local: &str) -> Result<(), IriFault>
+        requires { IsIriText (chars local.now) }
+        ensures expanded { OnOk result ((i : List ℕ) × (self.new ≡ Some i) × ExpandsHere scope.now (chars prefix.now) (chars local.now) i) }
+        ensures refused { IfErr result (NotExpanded scope.now (chars prefix.now) (chars local.now)) }
+    {
+        self.is_some = false;
+        match scope.expand_into(prefix, local, &mut self.text) {
+            Ok(()) => {
+                self.is_some = true;
+                Ok(())
+            }
+            Err(fault) => Err(fault),
+        }
+    }
+
+    // The IRI of a reference, which is resolved where it stands.
+    #[tactic(auto, using(crate::proofs::code::LookUps::reference_at, crate::proofs::code::LookUps::reference_not))]
+    fn set_reference(&mut self, scope: &Scope<A>, token: &Token<'_>) -> Result<(), StepFault>
+        requires token { IsTurtleToken token.now }
+        requires kind { IsReference token.now.kind }
+        ensures ok { OnOk result (Names scope.now token.now.kind (leaf token.now) self.new) }
+        ensures fits { OnOk result (NameFits scope.now.limits.iri self.new) }
+        ensures err { IfErr result (λ r. Unnamed scope.now token.now.kind (leaf token.now) r) }
+    {
+        self.is_some = false;
+        set_reference_text(&mut self.text, token)?;
+        match scope.resolve_in_place(&mut self.text) {
+            Ok(()) => {
+                self.is_some = true;
+                Ok(())
+            }
+            Err(fault) => Err(fault.into()),
+        }
+    }
+
+    // The IRI of a prefixed name.
+    #[tactic(auto, using(crate::proofs::code::LookUps::name_names, crate::proofs::code::LookUps::name_not))]
+    #[inline(always)]
+    fn set_prefixed(
+        &mut self,
+        alloc: A,
+        scope: &Scope<A>,
+        token: &Token<'_>,
+    ) -> Result<(), StepFault>
+        requires token { IsTurtleToken token.now }
+        requires kind { IsPrefixed token.now.kind }
+        ensures ok { OnOk result (Names scope.now token.now.kind (leaf token.now) self.new) }
+        ensures fits { OnOk result (NameFits scope.now.limits.iri self.new) }
+        ensures err { IfErr result (λ r. Unnamed scope.now token.now.kind (leaf token.now) r) }
+    {
+        let (prefix, local) = parts(token.text);
+        if is_plain_local(local) {
+            return Ok(self.expand(scope, prefix, local)?);
+        }
+        let local = local_text(alloc, local)?;
+        Ok(self.expand(scope, prefix, local.as_str())?)
+    }
+}
+
+// Puts the text of an IRIREF, with its escapes replaced, in place of a text.
+fn set_reference_text<A: Allocator>(out: &mut String<A>, token: &Token<'_>) -> Result<(), StepFault>
+    requires token { IsTurtleToken token.now }
+    requires kind { IsReference token.now.kind }
+    ensures ok { OnOk result (chars (string_bytes out.new) ≡ iri_of (leaf token.now)) }
+    ensures text { OnOk result (IsIriText (chars (string_bytes out.new))) }
+    ensures err { IfErr result (λ r. r ≡ StepFault.Memory) }
+{
+    match set_iri_value(out, without_ends(token.text)) {
+        Ok(()) => Ok(()),
+        Err(ValueFault::BadEscape) => unreachable!(),
+        Err(ValueFault::Memory) => Err(StepFault::Memory),
+    }
+}
 
 // The text of an IRIREF, with its escapes replaced.
 fn reference_text<A: Allocator>(alloc: A, token: &Token<'_>) -> Result<String<A>, StepFault>
@@ -37,23 +198,6 @@ fn reference_text<A: Allocator>(alloc: A, token: &Token<'_>) -> Result<String<A>
     }
 }
 
-// The IRI of a reference.
-#[tactic(auto, using(crate::proofs::code::LookUps::reference_at, crate::proofs::code::LookUps::reference_not))]
-fn reference<A: Allocator + Copy>(
-    alloc: A,
-    scope: &Scope<A>,
-    token: &Token<'_>,
-) -> Result<Iri<A>, StepFault>
-    requires token { IsTurtleToken token.now }
-    requires kind { IsReference token.now.kind }
-    ensures ok { IfOk result (λ i. Names scope.now token.now.kind (leaf token.now) (Some i)) }
-    ensures fits { IfOk result (λ i. byte_len i ≤ scope.now.limits.iri) }
-    ensures err { IfErr result (λ r. Unnamed scope.now token.now.kind (leaf token.now) r) }
-{
-    let reference = reference_text(alloc, token)?;
-    Ok(scope.resolve_here(reference.as_str())?)
-}
-
 // The local part of a name, with its escapes replaced.
 fn local_text<A: Allocator>(alloc: A, local: &str) -> Result<String<A>, StepFault>
     requires { MeansLocal (chars local.now) }
@@ -65,47 +209,6 @@ fn local_text<A: Allocator>(alloc: A, local: &str) -> Result<String<A>, StepFaul
         Ok(value) => Ok(value),
         Err(ValueFault::BadEscape) => unreachable!(),
         Err(ValueFault::Memory) => Err(StepFault::Memory),
-    }
-}
-
-// The IRI of a prefixed name.
-#[tactic(auto, using(crate::proofs::code::LookUps::name_names, crate::proofs::code::LookUps::name_not))]
-#[inline(always)]
-fn prefixed<A: Allocator + Copy>(
-    alloc: A,
-    scope: &Scope<A>,
-    token: &Token<'_>,
-) -> Result<Iri<A>, StepFault>
-    requires token { IsTurtleToken token.now }
-    requires kind { IsPrefixed token.now.kind }
-    ensures ok { IfOk result (λ i. Names scope.now token.now.kind (leaf token.now) (Some i)) }
-    ensures fits { IfOk result (λ i. byte_len i ≤ scope.now.limits.iri) }
-    ensures err { IfErr result (λ r. Unnamed scope.now token.now.kind (leaf token.now) r) }
-{
-    let (prefix, local) = parts(token.text);
-    if is_plain_local(local) {
-        return Ok(scope.expand(prefix, local)?);
-    }
-    let local = local_text(alloc, local)?;
-    Ok(scope.expand(prefix, local.as_str())?)
-}
-
-// The IRI that a token stands for, if it is a reference or a name.
-#[inline(always)]
-fn name<A: Allocator + Copy>(
-    alloc: A,
-    scope: &Scope<A>,
-    token: &Token<'_>,
-) -> Result<Option<Iri<A>>, StepFault>
-    requires token { IsTurtleToken token.now }
-    ensures ok { IfOk result (λ i. Names scope.now token.now.kind (leaf token.now) i) }
-    ensures fits { IfOk result (NameFits scope.now.limits.iri) }
-    ensures err { IfErr result (λ r. Unnamed scope.now token.now.kind (leaf token.now) r) }
-{
-    match token.kind {
-        Kind::IriRef => Ok(Some(reference(alloc, scope, token)?)),
-        Kind::PnameNs | Kind::PnameLn => Ok(Some(prefixed(alloc, scope, token)?)),
-        _ => Ok(None),
     }
 }
 
@@ -143,68 +246,109 @@ fn bind<A: Allocator + Copy>(
     Ok(())
 }
 
-/// Looks up what a token stands for. In a directive the scope changes, and no IRI comes back.
-#[inline(always)]
-pub fn look_up<A: Allocator + Copy>(
-    alloc: A,
-    mode: &Mode<A>,
-    scope: &mut Scope<A>,
-    token: &Token<'_>,
-) -> Result<Option<Iri<A>>, StepFault>
-    requires token { IsTurtleToken token.now }
-    requires short { PrefixFits (4 * scope.old.limits.token) mode.now }
-    ensures ok { IfOk result (λ i. (form : DocForm) (v : M.Level) (f : Frame A) (u : M.Up) (s : InForce) → SameScope s scope.old →
-        LooksUp s (mode_at form v f u mode.now) token.now.kind (leaf token.now) i scope.new) }
-    ensures fits { IfOk result (NameFits scope.old.limits.iri) }
-    ensures err { IfErr result (λ r. (form : DocForm) (v : M.Level) (f : Frame A) (u : M.Up) (s : InForce) → SameScope s scope.old →
-        LooksUpNone s (mode_at form v f u mode.now) token.now.kind (leaf token.now) r) }
-{
-    match mode {
-        Mode::Outer(outer) => look_up_outer(alloc, outer, scope, token),
-        _ => name(alloc, scope, token),
+impl<A: Allocator + Copy> State<A> {
+    /// Looks up what a token stands for: the state's name is its IRI. In a directive the scope changes, and there is no name.
+    #[inline(always)]
+    pub fn look_up(&mut self, scope: &mut Scope<A>, token: &Token<'_>) -> Result<(), StepFault>
+        requires token { IsTurtleToken token.now }
+        requires short { PrefixFits (4 * scope.old.limits.token) self.old self.old.mode }
+        ensures ok { OnOk result ((form : DocForm) (s : InForce) → SameScope s scope.old →
+            LooksUp s (mode_in form self.old) token.now.kind (leaf token.now) self.new.name scope.new) }
+        ensures fits { OnOk result (NameFits scope.old.limits.iri self.new.name) }
+        ensures same { self.new ≡ record self.old { name = self.new.name } }
+        ensures err { IfErr result (λ r. (form : DocForm) (s : InForce) → SameScope s scope.old →
+            LooksUpNone s (mode_in form self.old) token.now.kind (leaf token.now) r) }
+    {
+        match self.mode {
+            Mode::Outer(outer) => self.look_up_outer(outer, scope, token),
+            _ => self.look_up_name(scope, token),
+        }
+    }
+
+    fn look_up_outer(
+        &mut self,
+        outer: Outer,
+        scope: &mut Scope<A>,
+        token: &Token<'_>,
+    ) -> Result<(), StepFault>
+        requires token { IsTurtleToken token.now }
+        requires short { PrefixFits (4 * scope.old.limits.token) self.old (Mode.Outer outer) }
+        ensures ok { OnOk result ((form : DocForm) (s : InForce) → SameScope s scope.old →
+            LooksUp s (mode_at form self.old (Mode.Outer outer)) token.now.kind (leaf token.now) self.new.name scope.new) }
+        ensures fits { OnOk result (NameFits scope.old.limits.iri self.new.name) }
+        ensures same { self.new ≡ record self.old { name = self.new.name } }
+        ensures err { IfErr result (λ r. (form : DocForm) (s : InForce) → SameScope s scope.old →
+            LooksUpNone s (mode_at form self.old (Mode.Outer outer)) token.now.kind (leaf token.now) r) }
+    {
+        match outer {
+            Outer::WantPrefix(_) => {
+                self.name.clear();
+                Ok(())
+            }
+            Outer::WantPrefixIri(_) => {
+                self.name.clear();
+                look_up_prefix(self.alloc, scope, &self.text, token)
+            }
+            Outer::WantBaseIri(_) => {
+                self.name.clear();
+                look_up_base(self.alloc, scope, token)
+            }
+            _ => self.look_up_name(scope, token),
+        }
+    }
+
+    // The IRI of a reference or a name. What the state holds stays as it is, though the token may be refused.
+    #[inline(always)]
+    fn look_up_name(&mut self, scope: &Scope<A>, token: &Token<'_>) -> Result<(), StepFault>
+        requires token { IsTurtleToken token.now }
+        ensures ok { OnOk result (Names scope.now token.now.kind (leaf token.now) self.new.name) }
+        ensures fits { OnOk result (NameFits scope.now.limits.iri self.new.name) }
+        ensures same { self.new ≡ record self.old { name = self.new.name } }
+        ensures err { IfErr result (λ r. Unnamed scope.now token.now.kind (leaf token.now) r) }
+    {
+        name_token(self.alloc, &mut self.name, scope, token)
     }
 }
 
-fn look_up_outer<A: Allocator + Copy>(
+// The IRI that a token stands for, if it is a reference or a name.
+#[inline(always)]
+fn name_token<A: Allocator + Copy>(
     alloc: A,
-    outer: &Outer<A>,
-    scope: &mut Scope<A>,
+    name: &mut Name<A>,
+    scope: &Scope<A>,
     token: &Token<'_>,
-) -> Result<Option<Iri<A>>, StepFault>
+) -> Result<(), StepFault>
     requires token { IsTurtleToken token.now }
-    requires short { PrefixFits (4 * scope.old.limits.token) (Mode.Outer outer.now) }
-    ensures ok { IfOk result (λ i. (s : InForce) → SameScope s scope.old → LooksUp s (outer_of outer.now) token.now.kind (leaf token.now) i scope.new) }
-    ensures fits { IfOk result (NameFits scope.old.limits.iri) }
-    ensures err { IfErr result (λ r. (s : InForce) → SameScope s scope.old → LooksUpNone s (outer_of outer.now) token.now.kind (leaf token.now) r) }
+    ensures ok { OnOk result (Names scope.now token.now.kind (leaf token.now) name.new) }
+    ensures fits { OnOk result (NameFits scope.now.limits.iri name.new) }
+    ensures err { IfErr result (λ r. Unnamed scope.now token.now.kind (leaf token.now) r) }
 {
-    match outer {
-        Outer::WantPrefix(_) => Ok(None),
-        Outer::WantPrefixIri(_, prefix) => look_up_prefix(alloc, prefix, scope, token),
-        Outer::WantBaseIri(_) => look_up_base(alloc, scope, token),
-        _ => name(alloc, scope, token),
+    match token.kind {
+        Kind::IriRef => name.set_reference(scope, token),
+        Kind::PnameNs | Kind::PnameLn => name.set_prefixed(alloc, scope, token),
+        _ => {
+            name.clear();
+            Ok(())
+        }
     }
 }
 
 fn look_up_prefix<A: Allocator + Copy>(
     alloc: A,
-    prefix: &String<A>,
     scope: &mut Scope<A>,
+    prefix: &String<A>,
     token: &Token<'_>,
-) -> Result<Option<Iri<A>>, StepFault>
+) -> Result<(), StepFault>
     requires token { IsTurtleToken token.now }
     requires short { byte_len (chars (string_bytes prefix.now)) ≤ 4 * scope.old.limits.token }
-    ensures ok { IfOk result (λ i. (w : M.Spelling) (s : InForce) → SameScope s scope.old →
-        LooksUp s (M.WantPrefixIri w (chars (string_bytes prefix.now))) token.now.kind (leaf token.now) i scope.new) }
-    ensures fits { IfOk result (NameFits scope.old.limits.iri) }
+    ensures ok { OnOk result ((w : M.Spelling) (s : InForce) → SameScope s scope.old →
+        LooksUp s (M.WantPrefixIri w (chars (string_bytes prefix.now))) token.now.kind (leaf token.now) None scope.new) }
     ensures err { IfErr result (λ r. (w : M.Spelling) (s : InForce) → SameScope s scope.old →
         LooksUpNone s (M.WantPrefixIri w (chars (string_bytes prefix.now))) token.now.kind (leaf token.now) r) }
 {
     match token.kind {
-        Kind::IriRef => match bind(alloc, scope, prefix, token) {
-            Ok(()) => Ok(None),
-            Err(fault) => Err(fault),
-        },
-        _ => Ok(None),
+        Kind::IriRef => bind(alloc, scope, prefix, token),
+        _ => Ok(()),
     }
 }
 
@@ -212,19 +356,15 @@ fn look_up_base<A: Allocator + Copy>(
     alloc: A,
     scope: &mut Scope<A>,
     token: &Token<'_>,
-) -> Result<Option<Iri<A>>, StepFault>
+) -> Result<(), StepFault>
     requires token { IsTurtleToken token.now }
-    ensures ok { IfOk result (λ i. (w : M.Spelling) (s : InForce) → SameScope s scope.old →
-        LooksUp s (M.WantBaseIri w) token.now.kind (leaf token.now) i scope.new) }
-    ensures fits { IfOk result (NameFits scope.old.limits.iri) }
+    ensures ok { OnOk result ((w : M.Spelling) (s : InForce) → SameScope s scope.old →
+        LooksUp s (M.WantBaseIri w) token.now.kind (leaf token.now) None scope.new) }
     ensures err { IfErr result (λ r. (w : M.Spelling) (s : InForce) → SameScope s scope.old →
         LooksUpNone s (M.WantBaseIri w) token.now.kind (leaf token.now) r) }
 {
     match token.kind {
-        Kind::IriRef => match set_base(alloc, scope, token) {
-            Ok(()) => Ok(None),
-            Err(fault) => Err(fault),
-        },
-        _ => Ok(None),
+        Kind::IriRef => set_base(alloc, scope, token),
+        _ => Ok(()),
     }
 }

@@ -2,35 +2,28 @@
 
 ghost use Rattle.std.specs.Prelude.{◌≡◌};
 
+use crate::names::Name;
 use crate::rest::Rest;
-use rdf_terms::{Iri, Known, Subject, Tag};
+use crate::slots::{TagText, Topic};
+use rdf_terms::Known;
 use std::alloc::{Allocator, Global};
 
-/// A verb.
-#[derive(Drop)]
-pub enum Verb<A: Allocator = Global> {
-    /// An IRI.
-    Named(Iri<A>),
-    /// `a`, which is rdf:type.
-    Type,
-}
-
-/// The subject of a predicate list.
-#[derive(Drop)]
-pub enum Topic<A: Allocator = Global> {
-    /// An IRI or a blank node.
-    Term(Subject<A>),
-    /// The empty collection, which is rdf:nil.
-    Nil,
+/// The graph of a block.
+#[derive(Clone, Copy)]
+pub enum Block {
+    /// The default graph.
+    Default,
+    /// The graph whose label the state has.
+    Named,
 }
 
 /// Where a statement stands.
-#[derive(Drop)]
-pub enum Level<A: Allocator = Global> {
+#[derive(Clone, Copy)]
+pub enum Level {
     /// Outside of a block.
     Top,
-    /// In a block, of this graph or of the default graph.
-    Block(Option<Subject<A>>),
+    /// In a block.
+    Block(Block),
 }
 
 /// What a predicate list stands in.
@@ -43,19 +36,20 @@ pub enum Around {
 }
 
 /// What is open round an object.
-#[derive(Drop)]
-pub enum Frame<A: Allocator = Global> {
-    /// A predicate list, with its subject and its last verb.
-    List {
-        subject: Topic<A>,
-        verb: Verb<A>,
-        around: Around,
-    },
+#[derive(Clone, Copy)]
+pub enum Container {
+    /// A predicate list.
+    List(Around),
     /// A collection, with its first and its present cell.
-    Cells {
-        first: u64,
-        cell: u64,
-    },
+    Cells { first: u64, cell: u64 },
+}
+
+/// What is open round an object, with its texts: the subject of a predicate list, and its last verb, where no IRI is `a`.
+#[derive(Drop)]
+pub struct Frame<A: Allocator = Global> {
+    pub container: Container,
+    pub subject: Topic<A>,
+    pub verb: Name<A>,
 }
 
 /// How a directive is spelled.
@@ -68,92 +62,111 @@ pub enum Spelling {
 }
 
 /// Where the reader stands outside of statements.
-#[derive(Drop)]
-pub enum Outer<A: Allocator = Global> {
+#[derive(Clone, Copy)]
+pub enum Outer {
     /// Between statements, outside of a block.
     Start,
-    /// Between statements, in a block of this graph.
-    Inside(Option<Subject<A>>),
+    /// Between statements, in a block.
+    Inside(Block),
     /// After the end.
     Over,
     WantPrefix(Spelling),
-    WantPrefixIri(Spelling, String<A>),
+    /// The text is the prefix.
+    WantPrefixIri(Spelling),
     WantBaseIri(Spelling),
     WantDot,
     /// After GRAPH, after its `[`, and after its label.
     GraphWord,
     GraphBracket(u64),
-    WantBrace(Subject<A>),
+    WantBrace,
 }
 
-/// Where the reader stands. The parts own their texts, since the pieces that they came in are gone. What an object, its
-/// type or a `;` belongs to is the frame in hand, which a state has beside its mode.
-#[derive(Drop)]
-pub enum Mode<A: Allocator = Global> {
-    Outer(Outer<A>),
+/// Where the reader stands. The texts that belong to it are in the state: the subject that has come is that of the frame in hand, a string
+/// is the state's text.
+#[derive(Clone, Copy)]
+pub enum Mode {
+    Outer(Outer),
     /// After a subject; outside of a block it may be a graph's label in TriG.
-    AfterSubject(Subject<A>),
+    AfterSubject,
     /// An object is to come, or has come; a string has come, and after it `^^`.
     Want,
     After,
-    AfterText(String<A>),
-    WantType(String<A>),
+    AfterText,
+    WantType,
     /// After `[` and after `(`.
     Bracket(u64),
     Paren,
     /// A verb has to come; after `;` one may; after a property list that is a subject.
-    WantVerb(Topic<A>),
+    WantVerb,
     Semicolon,
-    AfterBrackets(Topic<A>),
-}
-
-/// An object that has come whole.
-#[derive(Drop)]
-pub enum Object<A: Allocator = Global> {
-    /// An IRI or a blank node.
-    Named(Subject<A>),
-    /// A string and its datatype.
-    WithType(String<A>, Iri<A>),
-    /// A string and its language tag.
-    WithTag(String<A>, Tag<A>),
-    /// A number or a boolean, with the datatype that its form has.
-    OfKnown(String<A>, Known),
+    AfterBrackets,
 }
 
 /// The quad whose head ended with the last token.
-#[derive(Drop)]
-pub enum Held<A: Allocator = Global> {
+#[derive(Clone, Copy)]
+pub enum Held {
     Nothing,
-    /// That of this object, where the mode says.
-    Object(Object<A>),
+    /// That of the object, an IRI or a blank node, where the mode says.
+    Resource,
+    /// That of the text with the datatype, and with the tag.
+    WithType,
+    WithTag,
+    /// That of the text, a number or a boolean, with the datatype that its form has.
+    OfKnown(Known),
     /// The end of a collection, by its last cell.
     Nil(u64),
 }
 
-/// What has been read, as far as it matters for what may come.
+/// What has been read, as far as it matters for what may come. Its texts are used again, so a statement like those before it takes no
+/// memory.
 #[derive(Drop)]
 pub struct State<A: Allocator = Global> {
+    pub alloc: A,
     /// Where the reader stands.
-    pub mode: Mode<A>,
+    pub mode: Mode,
     /// The predicate list or collection in hand, in the modes that belong to one. It stays where it is from token to token.
     pub frame: Frame<A>,
     /// Where the statement stands that is being read.
-    pub level: Level<A>,
+    pub level: Level,
+    /// The label of the graph of the block.
+    pub graph: Topic<A>,
     /// What is open round the frame in hand, or round a bracket that has just come, the innermost last.
     pub frames: Vec<Frame<A>, A>,
     /// The cell before the one that the last token opened, and that cell.
     pub rest: Rest,
     /// The quad whose head ended with the last token.
-    pub held: Held<A>,
+    pub held: Held,
+    /// The object, where it is an IRI or a blank node.
+    pub object: Topic<A>,
+    /// A lexical form, or the prefix of a directive.
+    pub text: String<A>,
+    /// The datatype and the tag of the lexical form.
+    pub datatype: Name<A>,
+    pub tag: TagText<A>,
+    /// The IRI that the last token stands for.
+    pub name: Name<A>,
     /// How many `[` and `(` are open.
     pub depth: u64,
 }
 
-impl<A: Allocator> Frame<A> {
-    /// What is in hand where the mode needs no frame.
-    pub fn none() -> Frame<A>
-        ensures { result ≡ Frame.Cells 0 0 }
+impl<A: Allocator + Copy> Frame<A> {
+    /// What is in hand where the mode needs no frame. It takes no memory.
+    pub fn none(alloc: A) -> Frame<A>
+        ensures { result.container ≡ Container.Cells 0 0 }
     {
-        Frame::Cells { first: 0, cell: 0 }
+        Frame {
+            container: Container::none(),
+            subject: Topic::new(alloc),
+            verb: Name::new(alloc),
+        }
+    }
+}
+
+impl Container {
+    /// What is open where the mode needs no frame.
+    pub fn none() -> Container
+        ensures { result ≡ Container.Cells 0 0 }
+    {
+        Container::Cells { first: 0, cell: 0 }
     }
 }

@@ -1,7 +1,7 @@
 // A character as UCHAR (N-Quads 4).
 
 ghost use Rattle.std.specs.Prelude.{◌≡◌, [], ◌∷◌, ◌++◌, ◌<◌, ◌/◌, ◌%◌, OnErr, OnOk};
-ghost use Rattle.rdf_lines.specs.Writing.{hex_glyph, hex_digits, uchar};
+ghost use Rattle.rdf_lines.specs.Writing.{hex_character, hex_digits, uchar};
 
 use std::alloc::{AllocError, Allocator};
 
@@ -24,10 +24,10 @@ fn four_digits(n: u32) -> [u8; 6]
     [
         b'\\',
         b'u',
-        hex_glyph(n, 0x1000),
-        hex_glyph(n, 0x100),
-        hex_glyph(n, 0x10),
-        hex_glyph(n, 1),
+        hex_character(n, 0x1000),
+        hex_character(n, 0x100),
+        hex_character(n, 0x10),
+        hex_character(n, 1),
     ]
 }
 
@@ -37,21 +37,21 @@ fn eight_digits(n: u32) -> [u8; 10]
     [
         b'\\',
         b'U',
-        hex_glyph(n, 0x1000_0000),
-        hex_glyph(n, 0x100_0000),
-        hex_glyph(n, 0x10_0000),
-        hex_glyph(n, 0x1_0000),
-        hex_glyph(n, 0x1000),
-        hex_glyph(n, 0x100),
-        hex_glyph(n, 0x10),
-        hex_glyph(n, 1),
+        hex_character(n, 0x1000_0000),
+        hex_character(n, 0x100_0000),
+        hex_character(n, 0x10_0000),
+        hex_character(n, 0x1_0000),
+        hex_character(n, 0x1000),
+        hex_character(n, 0x100),
+        hex_character(n, 0x10),
+        hex_character(n, 1),
     ]
 }
 
 // The digit of a number at a place, a power of 16.
-fn hex_glyph(n: u32, place: u32) -> u8
+fn hex_character(n: u32, place: u32) -> u8
     requires { 0 < place }
-    ensures { result ≡ hex_glyph (n / place % 16) }
+    ensures { result ≡ hex_character (n / place % 16) }
 {
     let digit = (n / place % 16) as u8;
     if digit < 10 {

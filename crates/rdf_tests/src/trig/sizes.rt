@@ -190,11 +190,9 @@ fn growths(alloc: Global, lines: u32) -> Option<u64> {
 }
 
 #[test]
-fn each_line_takes_as_many_growths_as_the_one_before(rt: HostRuntime) {
-    let few = growths(rt.alloc(), 64).expect(&rt, "few lines");
+fn a_line_like_those_before_it_takes_no_memory(rt: HostRuntime) {
+    let few = growths(rt.alloc(), 2).expect(&rt, "few lines");
     let more = growths(rt.alloc(), 128).expect(&rt, "more lines");
     let most = growths(rt.alloc(), 256).expect(&rt, "most lines");
-    assert!(rt; few < more && more < most);
-    let (first, second) = (more - few, most - more);
-    assert!(rt; first < second && second - first == first);
+    assert!(rt; few == more && more == most);
 }

@@ -1,6 +1,6 @@
 -- Scopes that agree in every look-up give tokens the same meaning, and stay so.
 use Rattle.std.proofs.Common.{◌≡◌, ◌+◌, ℕ, true, false, cond, List, [], ◌∷◌, ◌++◌, ◌&&◌, not, length, Option, Some, None, option_map, refl, sym, ap, ◌∙◌, subst, ⊎_elim, arith}
-use Rattle.std.specs.Prelude.{nat_le, is_some, Result, Ok, Err, IfOk, IfErr}
+use Rattle.std.specs.Prelude.{nat_le, is_some, Result, Ok, Err, OnOk, IfErr}
 use Rattle.std.proofs.lemmas.Bool.{cases_Bool, cond-true, cond-false}
 use Rattle.rdf_terms.specs.declared.kind.Kind.{Kind}
 use Rattle.rdf_terms.specs.declared.kind.Kind.TheVariants.{IriRef, PnameNs, PnameLn}
@@ -16,7 +16,7 @@ use Rattle.rdf_trig.specs.declared.form.DocForm.TheVariants.{Turtle, TriG}
 use Rattle.rdf_trig.specs.declared.fault.StepFault.{StepFault}
 use Rattle.rdf_trig.specs.declared.state.Outer.{Outer}
 use Rattle.rdf_trig.specs.declared.state.Outer.TheVariants as outer
-use Rattle.rdf_trig.specs.declared.state.Frame.{Frame}
+use Rattle.rdf_trig.specs.declared.state.State.{State}
 use Rattle.rdf_trig.specs.declared.state.Mode.{Mode}
 use Rattle.rdf_trig.specs.declared.state.Mode.TheVariants as mode
 use Rattle.rdf_trig.specs.declared.state.Spelling.{Spelling}
@@ -24,7 +24,7 @@ use Rattle.rdf_trig.specs.Names.{reference_in, name_in, prefix_of, local_of, bin
 use Rattle.rdf_trig.specs.Events.{Use, stands, binds}
 use Rattle.rdf_trig.specs.Machine as M
 use Rattle.rdf_trig.specs.Machine.{by_use}
-use Rattle.rdf_trig.specs.States.{name_at, use_at, mode_at, outer_of, place_of, semi_at}
+use Rattle.rdf_trig.specs.States.{name_at, use_at, mode_at, outer_of, level_of, place_in, text_in, semi_at}
 use Rattle.rdf_trig.specs.Scopes.{IsAdmitted, IsDenied, Names, Unnamed, Based, Binding, NotBinding, SameScope, LooksUp, LooksUpNone}
 
 -- a reference depends on the base alone, on which such scopes agree
@@ -104,50 +104,51 @@ semi_ordinary (M.Listed s p a) = tt
 semi_ordinary (M.InCells first cell u) = tt
 
 -- no mode of a statement is in a directive, so that one lemma serves all of them
-mode_ordinary : {A : Type 0} (form : DocForm) (v : M.Level) (f : Frame A) (u : M.Up) (m : Mode A) → ((o : Outer A) → m ≡ mode.Outer o → ⊥) → Ordinary (mode_at form v f u m)
-mode_ordinary form v f u (mode.Outer o) n = absurd (n o refl)
-mode_ordinary form v f u (mode.AfterSubject s) n = subject_ordinary form v _
-mode_ordinary form v f u mode.Semicolon n = semi_ordinary (place_of v f u)
-mode_ordinary form v f u m n = tt
+mode_ordinary : {A : Type 0} (form : DocForm) (n : State A) (m : Mode) → ((o : Outer) → m ≡ mode.Outer o → ⊥) → Ordinary (mode_at form n m)
+mode_ordinary form n (mode.Outer o) h = absurd (h o refl)
+mode_ordinary form n mode.AfterSubject h = subject_ordinary form (level_of n.level) n.frame.subject
+mode_ordinary form n mode.Semicolon h = semi_ordinary (place_in n)
+mode_ordinary form n m h = tt
 
 -- outside of statements only the three modes that wait for a directive's parts are not ordinary
-outer_ordinary : {A : Type 0} (o : Outer A) → ((w : Spelling) → o ≡ outer.WantPrefix w → ⊥) →
-    ((w : Spelling) (p : _) → o ≡ outer.WantPrefixIri w p → ⊥) → ((w : Spelling) → o ≡ outer.WantBaseIri w → ⊥) → Ordinary (outer_of o)
-outer_ordinary (outer.WantPrefix w) a b c = absurd (a w refl)
-outer_ordinary (outer.WantPrefixIri w p) a b c = absurd (b w p refl)
-outer_ordinary (outer.WantBaseIri w) a b c = absurd (c w refl)
-outer_ordinary o a b c = tt
+outer_ordinary : (o : Outer) (p : List ℕ) (g : M.Topic) → ((w : Spelling) → o ≡ outer.WantPrefix w → ⊥) →
+    ((w : Spelling) → o ≡ outer.WantPrefixIri w → ⊥) → ((w : Spelling) → o ≡ outer.WantBaseIri w → ⊥) → Ordinary (outer_of o p g)
+outer_ordinary (outer.WantPrefix w) p g a b c = absurd (a w refl)
+outer_ordinary (outer.WantPrefixIri w) p g a b c = absurd (b w refl)
+outer_ordinary (outer.WantBaseIri w) p g a b c = absurd (c w refl)
+outer_ordinary o p g a b c = tt
 
 -- in a statement, whatever frames are open, a look-up that succeeds is the machine's
-pub mode_looks : {A : Type 0} (m : Mode A) (s t : InForce) (k : Kind) (l : Leaf) (r : Result (Option (List ℕ)) StepFault) →
-    ((o : Outer A) → m ≡ mode.Outer o → ⊥) →
-    IfOk r (λ i. Names t k l i) → IfOk r (λ i. (form : DocForm) (v : M.Level) (f : Frame A) (u : M.Up) (s : InForce) → SameScope s t → LooksUp s (mode_at form v f u m) k l i t)
-mode_looks m s t k l (Ok i) n h = λ form v f u s e. looks_ordinary s t (mode_at form v f u m) k l i (mode_ordinary form v f u m n) e h
-mode_looks m s t k l (Err r) n h = tt
+pub mode_looks : {A T : Type 0} (n : State A) (m : Mode) (t : InForce) (k : Kind) (l : Leaf) (i : Option (List ℕ)) (r : Result T StepFault) →
+    ((o : Outer) → m ≡ mode.Outer o → ⊥) →
+    OnOk r (Names t k l i) → OnOk r ((form : DocForm) (s : InForce) → SameScope s t → LooksUp s (mode_at form n m) k l i t)
+mode_looks n m t k l i (Ok x) h e = λ form s y. looks_ordinary s t (mode_at form n m) k l i (mode_ordinary form n m h) y e
+mode_looks n m t k l i (Err r) h e = tt
 
 -- in a statement, whatever frames are open, a look-up that fails is the machine's
-pub mode_none : {A : Type 0} (m : Mode A) (s t : InForce) (k : Kind) (l : Leaf) (r : Result (Option (List ℕ)) StepFault) →
-    ((o : Outer A) → m ≡ mode.Outer o → ⊥) →
-    IfErr r (λ f. Unnamed t k l f) → IfErr r (λ e. (form : DocForm) (v : M.Level) (f : Frame A) (u : M.Up) (s : InForce) → SameScope s t →
-    LooksUpNone s (mode_at form v f u m) k l e)
-mode_none m s t k l (Ok i) n h = tt
-mode_none m s t k l (Err r) n h = λ form v f u s e. none_ordinary s t (mode_at form v f u m) k l r (mode_ordinary form v f u m n) e h
+pub mode_none : {A T : Type 0} (n : State A) (m : Mode) (t : InForce) (k : Kind) (l : Leaf) (r : Result T StepFault) →
+    ((o : Outer) → m ≡ mode.Outer o → ⊥) →
+    IfErr r (λ f. Unnamed t k l f) → IfErr r (λ e. (form : DocForm) (s : InForce) → SameScope s t → LooksUpNone s (mode_at form n m) k l e)
+mode_none n m t k l (Ok x) h e = tt
+mode_none n m t k l (Err r) h e = λ form s y. none_ordinary s t (mode_at form n m) k l r (mode_ordinary form n m h) y e
 
 -- outside of statements and of directives a look-up that succeeds is the machine's
-pub outer_looks : {A : Type 0} (o : Outer A) (t : InForce) (k : Kind) (l : Leaf) (r : Result (Option (List ℕ)) StepFault) →
-    ((w : Spelling) → o ≡ outer.WantPrefix w → ⊥) → ((w : Spelling) (p : _) → o ≡ outer.WantPrefixIri w p → ⊥) →
+pub outer_looks : {A T : Type 0} (n : State A) (o : Outer) (t : InForce) (k : Kind) (l : Leaf) (i : Option (List ℕ)) (r : Result T StepFault) →
+    ((w : Spelling) → o ≡ outer.WantPrefix w → ⊥) → ((w : Spelling) → o ≡ outer.WantPrefixIri w → ⊥) →
     ((w : Spelling) → o ≡ outer.WantBaseIri w → ⊥) →
-    IfOk r (λ i. Names t k l i) → IfOk r (λ i. (s : InForce) → SameScope s t → LooksUp s (outer_of o) k l i t)
-outer_looks o t k l (Ok i) a b c h = λ s e. looks_ordinary s t (outer_of o) k l i (outer_ordinary o a b c) e h
-outer_looks o t k l (Err r) a b c h = tt
+    OnOk r (Names t k l i) → OnOk r ((form : DocForm) (s : InForce) → SameScope s t → LooksUp s (mode_at form n (mode.Outer o)) k l i t)
+outer_looks n o t k l i (Ok x) a b c h =
+    λ form s e. looks_ordinary s t (outer_of o (text_in n) n.graph) k l i (outer_ordinary o (text_in n) n.graph a b c) e h
+outer_looks n o t k l i (Err r) a b c h = tt
 
 -- outside of statements and of directives a look-up that fails is the machine's
-pub outer_none : {A : Type 0} (o : Outer A) (t : InForce) (k : Kind) (l : Leaf) (r : Result (Option (List ℕ)) StepFault) →
-    ((w : Spelling) → o ≡ outer.WantPrefix w → ⊥) → ((w : Spelling) (p : _) → o ≡ outer.WantPrefixIri w p → ⊥) →
+pub outer_none : {A T : Type 0} (n : State A) (o : Outer) (t : InForce) (k : Kind) (l : Leaf) (r : Result T StepFault) →
+    ((w : Spelling) → o ≡ outer.WantPrefix w → ⊥) → ((w : Spelling) → o ≡ outer.WantPrefixIri w → ⊥) →
     ((w : Spelling) → o ≡ outer.WantBaseIri w → ⊥) →
-    IfErr r (λ f. Unnamed t k l f) → IfErr r (λ f. (s : InForce) → SameScope s t → LooksUpNone s (outer_of o) k l f)
-outer_none o t k l (Ok i) a b c h = tt
-outer_none o t k l (Err r) a b c h = λ s e. none_ordinary s t (outer_of o) k l r (outer_ordinary o a b c) e h
+    IfErr r (λ f. Unnamed t k l f) → IfErr r (λ f. (form : DocForm) (s : InForce) → SameScope s t → LooksUpNone s (mode_at form n (mode.Outer o)) k l f)
+outer_none n o t k l (Ok x) a b c h = tt
+outer_none n o t k l (Err r) a b c h =
+    λ form s e. none_ordinary s t (outer_of o (text_in n) n.graph) k l r (outer_ordinary o (text_in n) n.graph a b c) e h
 
 -- in directives
 pub prefix_looks : (s t : InForce) (w : M.Spelling) (k : Kind) (l : Leaf) (i : Option (List ℕ)) → SameScope s t → LooksUp s (M.WantPrefix w) k l i t
@@ -261,13 +262,3 @@ binding_looks s t n w p l i e b = record {
 pub binding_none : (s t : InForce) (w : M.Spelling) (p : List ℕ) (l : Leaf) (r : StepFault) → SameScope s t → NotBinding t p l r →
     LooksUpNone s (M.WantPrefixIri w p) IriRef l r
 binding_none s t w p l r e n = stops_at s.limits t.limits IriRef _ _ r e.limits (binds-same s t p l e) n
-
--- what holds of all holds of one
-pub picked_ok : {X E W : Type 0} (P : W → X → Type 0) (r : Result X E) (w : W) → IfOk r (λ x. (w : W) → P w x) → IfOk r (λ x. P w x)
-picked_ok P (Ok x) w h = h w
-picked_ok P (Err e) w h = tt
-
--- what holds of an error for all scopes holds for one of them
-pub picked_err : {X E W : Type 0} (P : W → E → Type 0) (r : Result X E) (w : W) → IfErr r (λ e. (w : W) → P w e) → IfErr r (λ e. P w e)
-picked_err P (Ok x) w h = tt
-picked_err P (Err e) w h = h w

@@ -22,15 +22,13 @@ use Rattle.rdf_trig.specs.declared.state.State.{State}
 use Rattle.rdf_trig.specs.declared.state.Mode.{Mode}
 use Rattle.rdf_trig.specs.declared.state.Mode.TheVariants as mode
 use Rattle.rdf_trig.specs.declared.state.Outer.TheVariants as outer
-use Rattle.rdf_trig.specs.declared.state.Level.{Level}
-use Rattle.rdf_trig.specs.declared.state.Frame.{Frame}
 use Rattle.rdf_trig.specs.Names.{with_base, with_binding, reference_in}
 use Rattle.rdf_trig.specs.Quads.{Setting}
 use Rattle.rdf_trig.specs.Events.{Use}
 use Rattle.rdf_trig.specs.Refusals as refusal
 use Rattle.rdf_trig.specs.Machine as M
 use Rattle.rdf_trig.specs.Machine.{Reply, No, Go, kept, by_use, refuses, accepts}
-use Rattle.rdf_trig.specs.States.{mode_of, use_in, scope_in, is_go, moved, DepthMoves, ShortPrefix, PrefixFits}
+use Rattle.rdf_trig.specs.States.{mode_at, use_in, scope_in, is_go, moved, DepthMoves, ShortPrefix, PrefixFits}
 use Rattle.rdf_trig.specs.Scopes.{IsAdmitted, SameScope, LooksUp, LooksUpNone}
 use Rattle.rdf_trig.specs.Holding.{most_text, frames_most, Fits}
 use Rattle.rdf_trig.specs.Steps.{Begins, GaveUp, state_of, May, Stays, DepthMay, Keeps, Accepts, answered, Fails}
@@ -162,10 +160,9 @@ depth_same CloseParen old new was is e f g = omega (arith, e, f, g)
 depth_same k old new was is e f g = f ∙ (e ∙ sym g)
 
 -- a prefix that is no longer than its token keeps within the limit of tokens
-prefix_kept : {A : Type 0} (a b : ℕ) (form : DocForm) (v : Level A) (f : Frame A) (fs : List (Frame A)) (m : Mode A) → a ≤ b →
-    ShortPrefix a (mode_of form v f fs m) → PrefixFits b m
-prefix_kept a b form v f fs (mode.Outer (outer.WantPrefixIri w p)) h s = omega (arith, h, s)
-prefix_kept a b form v f fs m h s = tt
+prefix_kept : {A : Type 0} (a b : ℕ) (form : DocForm) (r : State A) (m : Mode) → a ≤ b → ShortPrefix a (mode_at form r m) → PrefixFits b r m
+prefix_kept a b form r (mode.Outer (outer.WantPrefixIri w)) h s = omega (arith, h, s)
+prefix_kept a b form r m h s = tt
 
 -- as many brackets as may be are open after a token that opens one only where there was room
 depth_within : (k : Kind) (old new most : ℕ) → old ≤ most → (M.deepens k ≡ true → old + 1 ≤ most) → DepthMoves k old new → new ≤ most
@@ -193,7 +190,7 @@ keeps_moved form s sizes old r k l u t keeps short e d room stack fits =
     let n = state_of form s old in
     record {
       depth = depth_same k old.depth r.depth (M.depth n.mode) _ keeps.depth d (step_depth form n.setting n.mode k l u _ _ _ _ e);
-      short = prefix_kept (byte_len l.text) (4 * sizes.token) form r.level r.frame r.frames.items r.mode short (step_prefix form n.setting n.mode k l u _ _ _ _ e);
+      short = prefix_kept (byte_len l.text) (4 * sizes.token) form r r.mode short (step_prefix form n.setting n.mode k l u _ _ _ _ e);
       deep = depth_within k old.depth r.depth sizes.depth keeps.deep room d;
       fits = fits;
       stack = stack_within k (length old.frames.items) (length r.frames.items) old.depth r.depth keeps.stack stack d;

@@ -16,10 +16,14 @@ use Rattle.rdf_iri.proofs.ResolvedText.{byte_len-chars}
 use Rattle.rdf_lines.proofs.WrittenLimits.{string_short}
 use Rattle.rdf_trig.specs.declared.form.DocForm.{DocForm}
 use Rattle.rdf_trig.specs.declared.state.Frame.{Frame}
-use Rattle.rdf_trig.specs.declared.state.Frame.TheVariants as frame
+use Rattle.rdf_trig.specs.declared.state.Block.TheVariants as block
+use Rattle.rdf_trig.specs.declared.state.Container.{Container}
+use Rattle.rdf_trig.specs.declared.state.Container.TheVariants as container
+use Rattle.rdf_trig.specs.declared.state.Level.{Level}
+use Rattle.rdf_trig.specs.declared.state.Level.TheVariants as level
 use Rattle.rdf_trig.specs.declared.state.Mode.{Mode}
 use Rattle.rdf_trig.specs.declared.state.Mode.TheVariants as mode
-use Rattle.rdf_trig.specs.declared.state.Object.{Object}
+use Rattle.rdf_trig.specs.declared.state.Held.{Held}
 use Rattle.rdf_trig.specs.declared.state.Held.TheVariants as held
 use Rattle.rdf_trig.specs.declared.state.State.{State}
 use Rattle.rdf_tokens.specs.declared.token.Token.{Token as Given}
@@ -28,9 +32,12 @@ use Rattle.rdf_iri.specs.Limits.{Sizes, InRange}
 use Rattle.rdf_iri.specs.Scope.{most_bytes_held}
 use Rattle.rdf_trig.specs.States.{leaf}
 use Rattle.rdf_trig.specs.Steps.{Keeps}
-use Rattle.rdf_trig.specs.Owed.{most_kept}
+use Rattle.rdf_trig.specs.Owed.{iri_size, most_kept}
+use Rattle.rdf_trig.specs.Machine.{Topic}
+use Rattle.rdf_trig.specs.Slots.{topic_at}
+use Rattle.rdf_trig.specs.declared.slots.SubjectKind.TheVariants as kind
 use Rattle.rdf_trig.specs.Spelled.{short_in, long_in}
-use Rattle.rdf_trig.specs.Holding.{frame_bytes, mode_bytes, object_bytes, state_bytes, most_text, TextFits, NameFits, FrameFits, OpenFits, Fits}
+use Rattle.rdf_trig.specs.Holding.{level_bytes, open_bytes, frame_bytes, mode_bytes, held_bytes, state_bytes, most_text, TextFits, NameFits, ListFits, FrameFits, OpenFits, Fits}
 use Rattle.rdf_trig.proofs.code.AnswersOfSteps.{bytes_at_most}
 
 -- a text of no more characters than another has at most four bytes for each of the other's
@@ -65,24 +72,39 @@ before_shorter c w =
     omega (arith, all, cut)
 
 -- a state that holds no object fits where its mode does
-pub stood_fits : {A : Type 0} (n : ℕ) (old new : State A) (m : Mode A) (x : Option (ℕ × ℕ)) →
-    new ≡ record old { rest = x; held = held.Nothing; mode = m } → OpenFits n old → mode_bytes m ≤ n → Fits n new
+pub stood_fits : {A : Type 0} (n : ℕ) (old new : State A) (m : Mode) (x : Option (ℕ × ℕ)) →
+    new ≡ record old { rest = x; held = held.Nothing; mode = m } → OpenFits n old → mode_bytes old m ≤ n → Fits n new
 stood_fits n old new m x e o h =
     subst (Fits n) (sym e) (record { around = record { level = o.level; frame = o.frame; frames = o.frames }; mode = h; hand = omega (arith, h) })
 
 -- one that holds an object fits where the object has at most two texts
-pub holds_fits : {A : Type 0} (n : ℕ) (old new : State A) (b : Object A) (x : Option (ℕ × ℕ)) →
-    new ≡ record old { rest = x; held = held.Object b; mode = mode.After } → OpenFits n old → object_bytes b ≤ 2 * n → Fits n new
+pub holds_fits : {A : Type 0} (n : ℕ) (old new : State A) (b : Held) (x : Option (ℕ × ℕ)) →
+    new ≡ record old { rest = x; held = b; mode = mode.After } → OpenFits n old → held_bytes old b ≤ 2 * n → Fits n new
 holds_fits n old new b x e o h =
     subst (Fits n) (sym e) (record { around = record { level = o.level; frame = o.frame; frames = o.frames }; mode = omega arith; hand = omega (arith, h) })
 
--- one that holds an object without a text fits after a bracket too
-pub opened_fits : {A : Type 0} (n k : ℕ) (old new : State A) (b : Object A) (x : Option (ℕ × ℕ)) →
-    new ≡ record old { rest = x; held = held.Object b; mode = mode.After } → OpenFits n old → object_bytes b ≡ 0 →
-    Fits n (record new { mode = mode.Bracket k })
-opened_fits n k old new b x e o h =
-    subst (λ r. Fits n (record r { mode = mode.Bracket k })) (sym e)
-    (record { around = record { level = o.level; frame = o.frame; frames = o.frames }; mode = omega arith; hand = omega (arith, h) })
+-- a predicate list with another subject fits where that subject does, and with another verb where that verb does
+pub subject_fits : (n : ℕ) (o : Container) (s t : Topic) (p : Option (List ℕ)) → ListFits n o s p → t.size ≤ n → ListFits n o t p
+subject_fits n (container.List a) s t p h k = (k, h.1)
+subject_fits n (container.Cells first cell) s t p h k = tt
+
+-- the label that a token spells fits where the token does
+pub label_fits : (n : ℕ) (x : Topic) (v w : List ℕ) → x ≡ topic_at kind.Label v → v ≡ drop 2 w → 4 * length w ≤ n → x.size ≤ n
+label_fits n x v w e f h =
+    let z = dropped_fits 2 w in
+    subst (λ (y : Topic). y.size ≤ n) (sym e) (subst (λ u. byte_len u ≤ n) (sym f) (omega (arith, z, h)))
+
+-- so does its tag
+pub tag_fits : (n : ℕ) (x : Option (List ℕ)) (v w : List ℕ) → x ≡ Some v → v ≡ drop 1 w → 4 * length w ≤ n → iri_size x ≤ n
+tag_fits n x v w e f h =
+    let z = dropped_fits 1 w in
+    subst (λ y. iri_size y ≤ n) (sym e) (subst (λ u. byte_len u ≤ n) (sym f) (omega (arith, z, h)))
+
+-- the label of a graph that fits does so in each block
+pub graph_fits : (n : ℕ) (v : Level) (g : Topic) → g.size ≤ n → level_bytes v g ≤ n
+graph_fits n level.Top g h = omega arith
+graph_fits n (level.Block block.Default) g h = omega arith
+graph_fits n (level.Block block.Named) g h = h
 
 -- what fits of each frame fits of one frame more
 pub frames_pushed : {A : Type 0} (n : ℕ) (gs fs : List (Frame A)) (f : Frame A) → gs ≡ fs ++ f ∷ [] →
@@ -118,10 +140,17 @@ name_within here sizes (Some i) e h =
 pub counted_fits : {A : Type 0} (n k : ℕ) (r : State A) → Fits n r → Fits n (record r { depth = k })
 counted_fits n k r f = record { around = record { level = f.around.level; frame = f.around.frame; frames = f.around.frames }; mode = f.mode; hand = f.hand }
 
+-- so too with another name
+pub named_fits : {A : Type 0} (n : ℕ) (r : State A) (i : Option (List ℕ)) → Fits n r → Fits n (record r { name = i })
+named_fits n r i f = record { around = record { level = f.around.level; frame = f.around.frame; frames = f.around.frames }; mode = f.mode; hand = f.hand }
+
 -- a frame holds two texts at most
 frame_within : {A : Type 0} (n : ℕ) (f : Frame A) → FrameFits n f → frame_bytes f ≤ 2 * n
-frame_within n (frame.List s p a) h = let x = h.0 in let y = h.1 in omega (arith, x, y)
-frame_within n (frame.Cells first cell) h = omega arith
+frame_within n f h = by f.container f.subject f.verb h
+  where
+    by : (o : Container) (s : Topic) (p : Option (List ℕ)) → ListFits n o s p → open_bytes o s p ≤ 2 * n
+    by (container.List a) s p h = let x = h.0 in let y = h.1 in omega (arith, x, y)
+    by (container.Cells first cell) s p h = omega arith
 
 -- so all of them hold twice as many as they are
 frames_within : {A : Type 0} (n : ℕ) (fs : List (Frame A)) → AllByRecursion (FrameFits n) fs → sum_by frame_bytes fs ≤ length fs * (2 * n)

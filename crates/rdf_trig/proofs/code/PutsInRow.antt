@@ -8,13 +8,20 @@ use Rattle.rdf_trig.specs.declared.fault.StepFault.TheVariants.{Memory, Sink}
 use Rattle.std.specs.Prelude.{IfErr, IsErrAnd}
 use Rattle.rdf_iri.specs.Scope.{InForce}
 use Rattle.rdf_trig.specs.declared.form.DocForm.{DocForm}
+use Rattle.rdf_trig.specs.declared.form.DocForm.TheVariants.{Turtle, TriG}
+use Rattle.rdf_terms.specs.declared.kind.Kind.{Kind}
+use Rattle.rdf_lines.specs.Lines.{Leaf}
+use Rattle.rdf_trig.specs.Quads.{Setting}
+use Rattle.rdf_trig.specs.declared.state.Mode.{Mode}
+use Rattle.rdf_trig.specs.declared.state.Mode.TheVariants as mode
+use Rattle.rdf_trig.specs.declared.state.Outer.TheVariants as outer
 use Rattle.rdf_terms.specs.Terms as term
 use Rattle.rdf_tokens.specs.declared.token.Token.{Token as Given}
 use Rattle.rdf_trig.specs.declared.state.State.{State}
 use Rattle.rdf_trig.specs.declared.state.Held.TheVariants as held
 use Rattle.rdf_trig.specs.Machine as M
 use Rattle.rdf_trig.specs.Machine.{kept}
-use Rattle.rdf_trig.specs.States.{leaf, mode_in, graph_of, graph_at, setting, rest_of, held_of}
+use Rattle.rdf_trig.specs.States.{leaf, mode_in, graph_in, setting, rest_of, held_of, IsSettled, mode_at, level_of, place_in, semi_at}
 use Rattle.rdf_trig.specs.Steps.{Begins, GaveUp, given}
 
 -- puts of two lists, one after the other, are the puts of both
@@ -76,20 +83,57 @@ given_apart q a r b w c e f g =
 
 -- the quads that a token gives out, in the words of the reader's state, for the loop that puts them
 pub given_in : {A : Type 0} (form : DocForm) (s : InForce) (n : State A) (t : Given) (g : Option term.Subject) (q r w : Option Quad) →
-    g ≡ graph_at n.mode (graph_of n.level) → q ≡ rest_of g n.rest → r ≡ held_of g (mode_in form n) n.held → w ≡ M.waiting (setting s g) (mode_in form n) t.kind (leaf t) →
+    g ≡ graph_in n → q ≡ rest_of g n.rest → r ≡ held_of g (mode_in form n) n n.held → w ≡ M.waiting (setting s g) (mode_in form n) t.kind (leaf t) →
     given form s n t ≡ kept q [] ++ (kept r [] ++ kept w [])
 given_in form s n t g q r w e a b c =
     given_apart q _ r _ w _
     (a ∙ ap (λ x. rest_of x n.rest) e)
-    (b ∙ ap (λ x. held_of x (mode_in form n) n.held) e)
+    (b ∙ ap (λ x. held_of x (mode_in form n) n n.held) e)
     (c ∙ ap (λ x. M.waiting (setting s x) (mode_in form n) t.kind (leaf t)) e)
 
 -- where nothing is held and nothing waits no quad is given out
-pub given_none : {A : Type 0} (form : DocForm) (s : InForce) (n : State A) (t : Given) → n.rest ≡ None → n.held ≡ held.Nothing →
-    M.waiting (setting s (graph_at n.mode (graph_of n.level))) (mode_in form n) t.kind (leaf t) ≡ None → given form s n t ≡ []
+given_none : {A : Type 0} (form : DocForm) (s : InForce) (n : State A) (t : Given) → n.rest ≡ None → n.held ≡ held.Nothing →
+    M.waiting (setting s (graph_in n)) (mode_in form n) t.kind (leaf t) ≡ None → given form s n t ≡ []
 given_none form s n t e f h =
-    let g = graph_at n.mode (graph_of n.level) in
-    given_in form s n t g None None None refl (sym (ap (λ r. rest_of g r) e)) (sym (ap (λ r. held_of g (mode_in form n) r) f)) (sym h)
+    let g = graph_in n in
+    given_in form s n t g None None None refl (sym (ap (λ r. rest_of g r) e)) (sym (ap (λ r. held_of g (mode_in form n) n r) f)) (sym h)
+
+-- in such a mode no quad waits to know the token
+settled : {A : Type 0} (form : DocForm) (c : Setting) (n : State A) (m : Mode) (k : Kind) (l : Leaf) → IsSettled m → M.waiting c (mode_at form n m) k l ≡ None
+settled form c n (mode.Outer outer.Start) k l h = refl
+settled form c n (mode.Outer (outer.Inside b)) k l h = refl
+settled form c n (mode.Outer outer.Over) k l h = refl
+settled form c n (mode.Outer (outer.WantPrefix w)) k l h = refl
+settled form c n (mode.Outer (outer.WantPrefixIri w)) k l h = refl
+settled form c n (mode.Outer (outer.WantBaseIri w)) k l h = refl
+settled form c n (mode.Outer outer.WantDot) k l h = refl
+settled form c n (mode.Outer outer.GraphWord) k l h = refl
+settled form c n (mode.Outer (outer.GraphBracket x)) k l h = refl
+settled form c n (mode.Outer outer.WantBrace) k l h = refl
+settled form c n mode.AfterSubject k l h = subject form (level_of n.level)
+  where
+    subject : (form : DocForm) (v : M.Level) → M.waiting c (M.after_subject form v n.frame.subject) k l ≡ None
+    subject form M.InBlock = refl
+    subject Turtle M.Top = refl
+    subject TriG M.Top = refl
+settled form c n mode.Want k l h = refl
+settled form c n mode.After k l h = refl
+settled form c n mode.AfterText k l h = absurd h
+settled form c n mode.WantType k l h = refl
+settled form c n (mode.Bracket x) k l h = refl
+settled form c n mode.Paren k l h = absurd h
+settled form c n mode.WantVerb k l h = refl
+settled form c n mode.Semicolon k l h = semi (place_in n)
+  where
+    semi : (p : M.Place) → M.waiting c (semi_at p) k l ≡ None
+    semi (M.Listed x p a) = refl
+    semi (M.InCells first cell u) = refl
+settled form c n mode.AfterBrackets k l h = refl
+
+-- so where nothing is held in such a mode, no quad is given out
+pub given_idle : {A : Type 0} (form : DocForm) (s : InForce) (n : State A) (t : Given) → n.rest ≡ None → n.held ≡ held.Nothing → IsSettled n.mode →
+    given form s n t ≡ []
+given_idle form s n t e f h = given_none form s n t e f (settled form (setting s (graph_in n)) n n.mode t.kind (leaf t) h)
 
 -- an error with a known reason has what holds of the reason
 pub told_stops : {T : Type 0} (r : Result T StepFault) (told : StepFault) (P : StepFault → Type 0) → IsErrAnd r (λ t. t ≡ told) → P told → IfErr r P

@@ -18,21 +18,21 @@ bind_line-requires g c = c.loop-rest.invariant.read.base
 
 pub returns-in-Err-clause-refused : goal.returns-in-Err-clause-refused
 returns-in-Err-clause-refused g c =
-    line_fails c.in-Err.reason c.args.limits c.args.bytes.now c.in-Some.behind.now c.without_cr.result.now (text_of c.loop-rest.rest) c.loop-rest.line _ c.loop-rest.scope c.loop-rest.invariant.read
+    line_fails c.in-Err.reason c.args.limits c.args.bytes.now c.in-Some.left.now c.without_cr.result.now (text_of c.loop-rest.rest) c.loop-rest.line _ c.loop-rest.scope c.loop-rest.invariant.read
     (ap text_of c.in-Some.is) (subst (λ x. CrDropped x c.without_cr.result.now) c.first_line.ensures.line c.without_cr.ensures) c.in-Err.ensures.err refl
 
 pub loop-rest-smaller : goal.loop-rest-smaller
 loop-rest-smaller g c =
-    let m = left_more (text_of c.first_line.result.1) c.in-Some.behind.now c.first_line.ensures.rest in
+    let m = left_more (text_of c.first_line.result.1) c.in-Some.left.now c.first_line.ensures.rest in
     let k = ap left (ap text_of c.in-Some.is) in
     omega (arith, m, k)
 
 pub loop-rest-preserved : goal.loop-rest-preserved
 loop-rest-preserved g c =
-    let m = left_more (text_of c.first_line.result.1) c.in-Some.behind.now c.first_line.ensures.rest in
+    let m = left_more (text_of c.first_line.result.1) c.in-Some.left.now c.first_line.ensures.rest in
     let k = ap left (ap text_of c.in-Some.is) in
     record {
-      read = one_line_more c.args.limits c.args.bytes.now c.in-Some.behind.now c.without_cr.result.now (text_of c.loop-rest.rest) (text_of c.first_line.result.1) c.loop-rest.line _ c.loop-rest.scope
+      read = one_line_more c.args.limits c.args.bytes.now c.in-Some.left.now c.without_cr.result.now (text_of c.loop-rest.rest) (text_of c.first_line.result.1) c.loop-rest.line _ c.loop-rest.scope
           c.bind_line.new.scope c.loop-rest.invariant.read (ap text_of c.in-Some.is) c.first_line.ensures.rest
           (subst (λ x. CrDropped x c.without_cr.result.now) c.first_line.ensures.line c.without_cr.ensures) c.in_default-bind_line.ensures.ok refl;
       few = omega (arith, m, k, c.loop-rest.invariant.few);

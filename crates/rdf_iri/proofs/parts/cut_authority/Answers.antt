@@ -1,10 +1,10 @@
 use Rattle.std.proofs.Common.{◌≡◌, ◌∙◌, ap, sym, subst, List, ℕ, [], ◌∷◌, ◌≤◌, length, drop}
 use Rattle.rdf_iri.specs.Texts.{begins, from}
-use Rattle.rdf_iri.proofs.CutPlaces.{boundary_there, boundary_behind_slashes}
+use Rattle.rdf_iri.proofs.CutPlaces.{boundary_there, boundary_after_slashes}
 use Rattle.rdf_iri.proofs.parts.cut_authority.Goals as goal
 
 pub range_from-rest-requires : goal.range_from-rest-requires
-range_from-rest-requires c = λ _. boundary_behind_slashes c.args.text.now c.utf8.text
+range_from-rest-requires c = λ _. boundary_after_slashes c.args.text.now c.utf8.text
     (sym (c.begins_with.ensures ∙ ap (begins (47 ∷ 47 ∷ [])) c.as_bytes.ensures.value) ∙ c.if-not-begins_with.false)
 
 pub split_at-requires : goal.split_at-requires

@@ -14,6 +14,7 @@ returns-then-byte-mark-clause-rest c =
 pub loop-i-preserved : goal.loop-i-preserved
 loop-i-preserved c = Lacks-more c.args.mark c.args.text.now c.loop-i.i c.loop-i.invariant (omega arith) c.if-byte-mark.false
 
+-- at the end of the loop all bytes were looked at
 whole : (c : goal.After-loop-i) → c.loop-i.i ≡ length c.args.text.now
 whole c = omega (arith, c.loop-i.auto.i-end, c.loop-i-test.false)
 

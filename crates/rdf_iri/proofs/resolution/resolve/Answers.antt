@@ -28,6 +28,7 @@ returns-then-has_scheme-clause-within g c =
 made : (g : Over) (c : After-len g) → chars (string_bytes c.in_ok-text.text) ≡ target_text (chars c.as_str.result.now) (chars c.args.reference.now)
 made g c = c.in_ok-text.ensures
 
+-- the text that was built is the target's, by the parts that it was built from
 resolves : (g : Over) (c : After-len g) → Resolves (text_of c.args.base) (chars c.args.reference.now) (chars (string_bytes c.in_ok-text.text))
 resolves g c =
     let b = chars c.as_str.result.now in
@@ -36,6 +37,7 @@ resolves g c =
     let e : Some b ≡ text_of c.args.base = ap (λ x. Some x) c.as_str.ensures.value ∙ sym (ap text_of c.in-Some.is) in
     subst (Resolves (text_of c.args.base) w) (sym (made g c)) (subst (λ o. Resolves o w (target_text b w)) e (Resolves-target b w n))
 
+-- it is UTF-8, so its characters have as many bytes as it has
 size : (g : Over) (c : After-len g) → byte_len (chars (string_bytes c.in_ok-text.text)) ≡ length (string_bytes c.in_ok-text.text)
 size g c = byte_len-chars _ (IsUtf8-string_bytes c.in_ok-text.text)
 
@@ -60,7 +62,7 @@ returns-clause-within g c =
     let a = (goal.at.returns-clause-within g c).After-len in
     omega (arith, ap byte_len c.of_text-2.ensures, size g a, c.if-len-limit.false, c.len.ensures, c.in_ok-text.text.bytes.ok.0)
 
--- memory is told only where there is a result
+-- memory is reported only where there is a result
 pub returns-in_err-from_str-clause-refused : goal.returns-in_err-from_str-clause-refused
 returns-in_err-from_str-clause-refused g c =
     let p = err_from_is_err_and c.from_residual.result c.from_residual.ensures.1 in

@@ -1,4 +1,4 @@
-use Rattle.std.proofs.Common.{◌≡◌, true, length, take, sym, ap, ◌∙◌, subst, arith}
+use Rattle.std.proofs.Common.{◌≡◌, true, length, take, sym, ◌∙◌, subst, arith}
 use Rattle.rdf_driver.specs.Passing.{can_pass}
 use Rattle.rdf_driver.proofs.PassingLemmas.{can_pass-parts}
 use Rattle.rdf_lines.specs.Canonical.{PassesLines}

@@ -14,10 +14,10 @@ pub returns-in-Some : goal.returns-in-Some
 returns-in-Some c =
     let rest = c.runs.rest.now in
     let end = c.run_end-end.result in
-    let behind = c.in-Some.behind.now in
+    let left = c.in-Some.left.now in
     let run : IsRun is_text_byte rest 0 end = subst (λ x. IsRun is_text_byte x 0 end) c.as_bytes.ensures.value c.run_end-end.ensures in
     let good = past_text (flat_map (escaped Plain) c.runs.invariant.characters) c.args.text.now rest c.utf8.text c.runs.invariant.stands in
-    characters_then c.args.text.now rest (34 ∷ behind) c.runs.invariant (run_then rest end (34 ∷ behind) (34 ∷ behind) good run c.in-Some.ensures.is (no_characters (34 ∷ behind)))
+    characters_then c.args.text.now rest (34 ∷ left) c.runs.invariant (run_then rest end (34 ∷ left) (34 ∷ left) good run c.in-Some.ensures.is (no_characters (34 ∷ left)))
 
 pub after_run-requires : goal.after_run-requires
 after_run-requires c = record { run = subst (λ x. IsRun is_text_byte x 0 c.run_end-end.result) c.as_bytes.ensures.value c.run_end-end.ensures }

@@ -1,4 +1,4 @@
-use Rattle.std.proofs.Common.{rules, arith, length-take, length-append, length, subst, sym}
+use Rattle.std.proofs.Common.{rules, arith, length-take, length}
 use Rattle.std.proofs.KnownBytes.{Consumes-nil}
 use Rattle.rdf_stream.specs.Devices.{reading}
 use Rattle.rdf_stream.proofs.PiecesLemmas.{no_more}

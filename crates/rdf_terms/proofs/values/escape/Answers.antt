@@ -9,12 +9,12 @@ pub returns-then-text-at-ne92-clause-read : goal.returns-then-text-at-ne92-claus
 returns-then-text-at-ne92-clause-read c =
     stop_fails (inside_of c.args.inside) c.args.text.now c.args.at c.requires.within c.requires.utf8 c.requires.stopped c.if-text-at-ne92.true
 
-pub escape_behind-requires-clause-utf8 : goal.escape_behind-requires-clause-utf8
-escape_behind-requires-clause-utf8 c =
+pub after_backslash-requires-clause-utf8 : goal.after_backslash-requires-clause-utf8
+after_backslash-requires-clause-utf8 c =
     utf8_byte 92 c.args.text.now c.args.at c.requires.within c.requires.utf8 c.if-text-at-ne92.false (omega arith)
 
 pub returns-clause-read : goal.returns-clause-read
 returns-clause-read c =
     let i = inside_of c.args.inside in
-    reads_from i (leads outside) (leads slash) c.args.text.now c.args.at _ c.escape_behind.result (omega arith)
-    (step_byte i outside 92 c.args.text.now c.args.at c.requires.within c.requires.utf8 c.if-text-at-ne92.false (omega arith)) c.escape_behind.ensures
+    reads_from i (leads outside) (leads slash) c.args.text.now c.args.at _ c.after_backslash.result (omega arith)
+    (step_byte i outside 92 c.args.text.now c.args.at c.requires.within c.requires.utf8 c.if-text-at-ne92.false (omega arith)) c.after_backslash.ensures

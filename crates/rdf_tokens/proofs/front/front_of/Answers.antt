@@ -7,7 +7,7 @@ use Rattle.rdf_tokens.specs.Front.{front_by, state_of}
 use Rattle.rdf_tokens.specs.Machine.{goes_on}
 use Rattle.rdf_tokens.specs.Walk.{Walked}
 use Rattle.rdf_tokens.proofs.StateLemmas.{front-bytes, live-bytes, open-live}
-use Rattle.rdf_tokens.proofs.WalkLemmas.{counted-walk, walked-kept}
+use Rattle.rdf_tokens.proofs.WalkLemmas.{counted-walk, walked-kept, walked_if}
 use Rattle.rdf_tokens.proofs.front.front_of.Goals as goal
 
 pub returns-then-is_some-clause-best : goal.returns-then-is_some-clause-best
@@ -28,7 +28,9 @@ pub returns-then-is_some-clause-walked : goal.returns-then-is_some-clause-walked
 returns-then-is_some-clause-walked c =
     let shaped = c.shaped_front-shaped in
     subst (Walked c.args.dialect c.args.text.now) (sym c.keep.ensures)
+    (walked_if c.args.dialect c.args.text.now c.args.more _ _
     (walked-kept c.args.dialect c.args.text.now _ _ _ shaped.result.len shaped.result.kind shaped.result.state c.utf8.text c.requires.walked refl refl shaped.ensures.best shaped.ensures.state)
+    c.requires.walked)
 
 pub returns-else-is_some-clause-best : goal.returns-else-is_some-clause-best
 returns-else-is_some-clause-best c =

@@ -1,17 +1,18 @@
-use Rattle.std.proofs.Common.{None, subst, sym}
-use Rattle.rdf_trig.specs.Machine as M
+-- The base that the scope takes, or its error, is that of the machine.
+use Rattle.std.proofs.Common.{None, subst}
 use Rattle.rdf_trig.specs.States.{leaf}
-use Rattle.rdf_trig.specs.Scopes.{Unnamed, LooksUpNone}
+use Rattle.rdf_trig.specs.Scopes.{Unnamed}
 use Rattle.rdf_trig.proofs.code.AgreeingScopes.{base_looks, base_none}
+use Rattle.rdf_trig.proofs.code.TurnsLemmas.{on_ok, if_err}
 use Rattle.rdf_trig.proofs.names.look_up_base.Goals as goal
 
-pub returns-in-Ok-clause-ok : goal.returns-in-Ok-clause-ok
-returns-in-Ok-clause-ok g c w s e =
-    rw c.in-IriRef.is (base_looks s c.args.scope.now c.set_base.new.scope w (leaf c.args.token.now) None e c.in-Ok.ensures.ok)
+pub returns-in-IriRef-clause-ok : goal.returns-in-IriRef-clause-ok
+returns-in-IriRef-clause-ok g c =
+    rw c.in-IriRef.is (on_ok c.set_base.result _ _
+    (λ h w s e. base_looks s c.args.scope.now c.set_base.new.scope w (leaf c.args.token.now) None e h) c.set_base.ensures.ok)
 
-pub returns-in-Err-clause-err : goal.returns-in-Err-clause-err
-returns-in-Err-clause-err g c w s e =
+pub returns-in-IriRef-clause-err : goal.returns-in-IriRef-clause-err
+returns-in-IriRef-clause-err g c =
     let l = leaf c.args.token.now in
-    let r = c.in-Err.fault in
-    subst (λ k. LooksUpNone s (M.WantBaseIri w) k l r) (sym c.in-IriRef.is)
-    (base_none s c.args.scope.now w l r e (subst (λ k. Unnamed c.args.scope.now k l r) c.in-IriRef.is c.in-Err.ensures.err))
+    rw c.in-IriRef.is (if_err c.set_base.result _ _
+    (λ r h w s e. base_none s c.args.scope.now w l r e (subst (λ k. Unnamed c.args.scope.now k l r) c.in-IriRef.is h)) c.set_base.ensures.err)

@@ -1,5 +1,5 @@
 -- An IRI of ASCII is appended as it stands.
-use Rattle.std.proofs.Common.{◌≡◌, ◌++◌, sym, ap, ◌∙◌, subst, true}
+use Rattle.std.proofs.Common.{◌≡◌, ◌++◌, sym, ap, ◌∙◌, true}
 use Rattle.rdf_terms.specs.Runs.{is_ascii_byte}
 use Rattle.rdf_terms.specs.Terms.{all_have}
 use Rattle.rdf_lines.proofs.EscapedRuns.{ascii_iri}

@@ -2,7 +2,7 @@ use Rattle.std.proofs.Common.{◌≡◌, ◌++◌, append_assoc, take, drop, sub
 use Rattle.rdf_terms.specs.Runs.{IsRun, goes_over}
 use Rattle.rdf_lines.specs.WrittenBytes.{escaped_bytes, run_of}
 use Rattle.rdf_lines.proofs.EscapedRuns.{run_cut, run_written}
-use Rattle.rdf_lines.proofs.WrittenBytesLemmas.{if_ok}
+use Rattle.rdf_lines.proofs.WrittenBytesLemmas.{begins_with_front, begins_with_same, if_ok}
 use Rattle.rdf_lines.proofs.writer.string.put_run.Goals as goal
 
 pub split_at-requires : goal.split_at-requires
@@ -25,3 +25,11 @@ returns-clause-written g c =
     if_ok c.put_first.result
     (λ rest h. h ∙ (ap (λ x. x ++ escaped_bytes e c.split_at.result.1.now) front ∙ (ap (λ x. (out ++ take at text) ++ escaped_bytes e x) c.split_at.ensures.back ∙ parts)))
     c.put_first.ensures.written
+
+-- after an error the bytes still begin with those from before
+pub returns-in_err-extend_from_slice-clause-grown : goal.returns-in_err-extend_from_slice-clause-grown
+returns-in_err-extend_from_slice-clause-grown g c = begins_with_same c.args.out.now.items c.extend_from_slice.new.self.items c.in_err-extend_from_slice.ensures.items
+
+pub returns-clause-grown : goal.returns-clause-grown
+returns-clause-grown g c =
+    begins_with_front c.args.out.now.items c.extend_from_slice.new.self.items _ c.put_first.new.out.items c.in_ok-extend_from_slice.ensures.items c.put_first.ensures.grown

@@ -6,10 +6,11 @@ use Rattle.std.specs.String.{string_bytes}
 use Rattle.rdf_terms.specs.declared.kind.Kind.{Kind}
 use Rattle.rdf_tokens.specs.Tokens.{Place, Token, past}
 use Rattle.rdf_tokens.specs.Unread.{Unread}
+use Rattle.rdf_tokens.specs.Walk.{Walked}
 use Rattle.rdf_tokens.specs.Moves.{moved, IsGiven}
 use Rattle.rdf_tokens.specs.Front.{bytes_of}
 use Rattle.rdf_tokens.proofs.Inside.{unread_of}
-use Rattle.rdf_tokens.proofs.HeldLemmas.{boundary_advanced, front_advanced, held_advanced, place_advanced, text_advanced, advance_within, none_advanced}
+use Rattle.rdf_tokens.proofs.HeldLemmas.{boundary_advanced, front_advanced, held_advanced, place_advanced, text_advanced, advance_within, feeds_advanced}
 use Rattle.rdf_tokens.proofs.BareLemmas.{bare_advanced}
 use Rattle.rdf_tokens.proofs.scanner.Scanner.give.Goals as goal
 
@@ -39,7 +40,7 @@ feeds_of-requires g c = λ f.
     let none : count_by (λ x. x == 10) (take n (chars (drop s.start (string_bytes s.text)))) ≡ 0 =
     ap (λ v. count_by (λ x. x == 10) (take n v.text)) c.self.view_is ∙ c.requires.2 f in
     ap (λ b. count_by (λ x. x == 10) (take (s.start + c.args.len - s.start) (drop s.start b))) c.as_bytes.ensures.value
-    ∙ none_advanced (string_bytes s.text) s.start n c.args.len s.pending.items _ _ c.self.invariant.held (IsUtf8-string_bytes s.text) e none
+    ∙ (feeds_advanced (string_bytes s.text) s.start n c.args.len s.pending.items _ _ c.self.invariant.held (IsUtf8-string_bytes s.text) e ∙ none)
 
 pub invariant_of-self : goal.invariant_of-self
 invariant_of-self g c =
@@ -50,7 +51,7 @@ invariant_of-self g c =
     let feeds = c.feeds_of.ensures ∙ ap (λ b. count_by (λ x. x == 10) (take (s.start + c.args.len - s.start) (drop s.start b))) bytes in
     let held = held_advanced (string_bytes s.text) s.start n c.args.len s.pending.items _ _ c.self.invariant.held (IsUtf8-string_bytes s.text) e c.feeds_of.result feeds in
     let bounded = c.self.invariant.bounded in
-    record { held = held; walked = tt; no_names = bare_advanced s.dialect (string_bytes s.text) s.start c.args.len s.bare c.self.invariant.no_names; bounded = omega arith }
+    record { held = held; walked = subst (Walked s.dialect (drop (s.start + c.args.len) (string_bytes s.text))) (sym c.forget.ensures) tt; no_names = bare_advanced s.dialect (string_bytes s.text) s.start c.args.len s.bare c.self.invariant.no_names; bounded = omega arith }
 
 pub range-requires-clause-end_boundary : goal.range-requires-clause-end_boundary
 range-requires-clause-end_boundary g c =

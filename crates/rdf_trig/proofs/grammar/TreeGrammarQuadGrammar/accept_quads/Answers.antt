@@ -41,7 +41,7 @@ returns-in-Ok-clause-limits g c =
     let r = c.self.inside in
     let bytes = state_bytes c.accept.new.self + bytes_held c.accept.new.scope in
     let new : TreeAt = record { form = r.rules.form; limit = r.rules.limits.token; state = state_of r.rules.form c.accept.new.scope c.accept.new.self; held = bytes } in
-    subst (λ y. KeepsLimits tree_words y new) c.self.view_is (record { token = refl; most = ap most_kept (c.in-Ok.ensures.limits ∙ sym c.self.invariant.0) })
+    subst (λ y. KeepsLimits tree_words y new) c.self.view_is (record { token = refl; most = ap most_kept c.in-Ok.ensures.limits })
 
 pub returns-in-Err-clause-limits : goal.returns-in-Err-clause-limits
 returns-in-Err-clause-limits g c =

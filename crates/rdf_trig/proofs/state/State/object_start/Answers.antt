@@ -1,42 +1,35 @@
-use Rattle.std.proofs.Common.{◌≤◌, ◌*◌, arith, refl, sym, subst, ap, length}
-use Rattle.rdf_trig.specs.Holding.{object_bytes, NameFits}
-use Rattle.rdf_trig.proofs.code.HoldingLemmas.{stood_fits, holds_fits, opened_fits}
+use Rattle.std.proofs.Common.{ap, length, arith}
+use Rattle.rdf_trig.specs.States.{leaf}
+use Rattle.rdf_trig.specs.declared.state.Held.TheVariants as held
+use Rattle.rdf_terms.specs.declared.constants.Known.TheVariants.{XsdBoolean}
+use Rattle.rdf_trig.proofs.code.HoldingLemmas.{holds_fits, label_fits}
 use Rattle.rdf_trig.proofs.code.SpelledLemmas.{true_length, false_length}
 use Rattle.rdf_trig.proofs.state.State.object_start.Goals as goal
-use Rattle.rdf_trig.proofs.state.State.object_start.Goals.{in-IriRef-Some, in-LabelNode-default+in_ok-label-in-LabelNode-default, in-Integer-default+in_ok-object-in-Integer-default, in-Decimal-default+in_ok-object-in-Decimal-default, in-Double-default+in_ok-object-in-Double-default, in-True-default+in_ok-object-in-True-default, in-False-default+in_ok-object-in-False-default}
 
-pub returns-in-OpenBracket-default-clause-fits : goal.returns-in-OpenBracket-default-clause-fits
-returns-in-OpenBracket-default-clause-fits g c = λ n t h o.
-    opened_fits n c.args.token.now.offset c.open.new.self c.hold.new.self _ _ c.hold.ensures (c.in_ok-open-in-OpenBracket-default.ensures.fits n o) refl
+pub returns-in_ok-set_label-in-LabelNode-clause-fits : goal.returns-in_ok-set_label-in-LabelNode-clause-fits
+returns-in_ok-set_label-in-LabelNode-clause-fits g c = λ n t h o.
+    let self = c.args.self.now in
+    let label = c.set_label.new.self in
+    let size = label_fits n label _ (leaf c.args.token.now).text c.in_ok-set_label-in-LabelNode.ensures c.label_of.ensures.label t in
+    holds_fits n (record self { object = label }) c.hold-in-LabelNode.new.self held.Resource _ c.hold-in-LabelNode.ensures
+    (record { level = o.level; frame = o.frame; frames = o.frames }) (omega (arith, size))
 
-pub returns-in-OpenParen-default-clause-fits : goal.returns-in-OpenParen-default-clause-fits
-returns-in-OpenParen-default-clause-fits g c = λ n t h o.
-    stood_fits n c.open-in-OpenParen-default.new.self c.wait-in-OpenParen-default.new.self _ _ c.wait-in-OpenParen-default.ensures
-    (c.in_ok-open-in-OpenParen-default.ensures.fits n o) (omega arith)
+pub returns-in_ok-known_literal-in-True-clause-fits : goal.returns-in_ok-known_literal-in-True-clause-fits
+returns-in_ok-known_literal-in-True-clause-fits g c = λ n t h o.
+    let self = c.args.self.now in
+    let made = c.known_literal-in-True.new.self in
+    let z = c.in_ok-known_literal-in-True.ensures.fits in
+    let size = ap length c.true_word.ensures in
+    let all = true_length c.args.token.now c.in-True.is c.requires.token in
+    holds_fits n (record self { text = made.text }) made (held.OfKnown XsdBoolean) _ c.in_ok-known_literal-in-True.ensures.ok
+    (record { level = o.level; frame = o.frame; frames = o.frames }) (omega (arith, t, z, size, all))
 
-pub returns-clause-fits : goal.returns-clause-fits
-returns-clause-fits g c = λ n t h o.
-    holds_fits n c.args.self.now c.hold-2.new.self c.match-token.object _ c.hold-2.ensures o
-    (elim c.match-token.branch [
-      | in-IriRef-Some w ↦ subst (λ b. object_bytes b ≤ 2 * n) (sym w.object-is) (let z = subst (NameFits n) w.in-IriRef-Some.is-1 h in omega (arith, z))
-      | in-LabelNode-default+in_ok-label-in-LabelNode-default w ↦
-          subst (λ b. object_bytes b ≤ 2 * n) (sym w.object-is) (let z = w.in_ok-label-in-LabelNode-default.ensures.fits in omega (arith, t, z))
-      | in-Integer-default+in_ok-object-in-Integer-default w ↦
-          subst (λ b. object_bytes b ≤ 2 * n) (sym w.object-is) (let z = w.in_ok-object-in-Integer-default.ensures.fits in omega (arith, t, z))
-      | in-Decimal-default+in_ok-object-in-Decimal-default w ↦
-          subst (λ b. object_bytes b ≤ 2 * n) (sym w.object-is) (let z = w.in_ok-object-in-Decimal-default.ensures.fits in omega (arith, t, z))
-      | in-Double-default+in_ok-object-in-Double-default w ↦
-          subst (λ b. object_bytes b ≤ 2 * n) (sym w.object-is) (let z = w.in_ok-object-in-Double-default.ensures.fits in omega (arith, t, z))
-      | in-True-default+in_ok-object-in-True-default w ↦
-          subst (λ b. object_bytes b ≤ 2 * n) (sym w.object-is)
-          (let z = w.in_ok-object-in-True-default.ensures.fits in
-          let size = ap length w.true_word.ensures in
-          let all = true_length c.args.token.now w.in-True-default.is-0 c.requires.token in
-          omega (arith, t, z, size, all))
-      | in-False-default+in_ok-object-in-False-default w ↦
-          subst (λ b. object_bytes b ≤ 2 * n) (sym w.object-is)
-          (let z = w.in_ok-object-in-False-default.ensures.fits in
-          let size = ap length w.false_word.ensures in
-          let all = false_length c.args.token.now w.in-False-default.is-0 c.requires.token in
-          omega (arith, t, z, size, all))
-    ])
+pub returns-in_ok-known_literal-in-False-clause-fits : goal.returns-in_ok-known_literal-in-False-clause-fits
+returns-in_ok-known_literal-in-False-clause-fits g c = λ n t h o.
+    let self = c.args.self.now in
+    let made = c.known_literal-in-False.new.self in
+    let z = c.in_ok-known_literal-in-False.ensures.fits in
+    let size = ap length c.false_word.ensures in
+    let all = false_length c.args.token.now c.in-False.is c.requires.token in
+    holds_fits n (record self { text = made.text }) made (held.OfKnown XsdBoolean) _ c.in_ok-known_literal-in-False.ensures.ok
+    (record { level = o.level; frame = o.frame; frames = o.frames }) (omega (arith, t, z, size, all))

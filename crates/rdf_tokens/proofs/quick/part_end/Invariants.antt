@@ -1,0 +1,10 @@
+use Rattle.std.proofs.Common.{◌-◌, ◌≤◌, length}
+use Rattle.rdf_tokens.specs.Quick.{is_part_byte}
+use Rattle.rdf_terms.specs.Runs.{PassBetween}
+use Rattle.rdf_tokens.proofs.quick.part_end.Given as goal
+
+abbrev pub invariant-loop-at : goal.invariant-loop-at
+invariant-loop-at l = record { from : l.from ≤ l.at; within : l.at ≤ length l.bytes; pass : PassBetween is_part_byte l.bytes l.from l.at }
+
+abbrev pub decreases-loop-at : goal.decreases-loop-at
+decreases-loop-at l = length l.bytes - l.at

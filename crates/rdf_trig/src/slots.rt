@@ -1,0 +1,217 @@
+// Texts that are used again: those of the subject, graph, object and tag of a state.
+
+ghost use Rattle.std.specs.Prelude.{◌≡◌, [], true, Some, None, OnOk, option_map, is_some};
+ghost use Rattle.std.specs.Str.{chars};
+ghost use Rattle.rdf_terms.specs.Terms.{IsLabel, IsTag};
+ghost use Rattle.rdf_terms.specs.Views.{tag_chars, subject_by};
+ghost use Rattle.rdf_iri.specs.Texts.{byte_len};
+ghost use Rattle.rdf_trig.specs.Quads.{named};
+ghost use Rattle.rdf_trig.specs.declared.slots.SubjectKind.TheVariants as SubjectKind;
+ghost use Rattle.rdf_trig.specs.Slots.{topic_at};
+ghost use Rattle.rdf_trig.specs.Machine as M;
+ghost use Rattle.rdf_trig.specs.Owed.{iri_size};
+
+use crate::names::Name;
+use rdf_terms::{IriView, Known, LabelView, NodeRef, SubjectRef, TagView, known};
+use std::alloc::{AllocError, Allocator, Global};
+use std::marker::Model;
+
+/// What a subject is.
+#[derive(Clone, Copy)]
+pub enum SubjectKind {
+    Iri,
+    Label,
+    Anon(u64),
+    Cell(u64),
+    Nil,
+}
+
+/// A subject, a graph's label, or an object that is an IRI or a blank node.
+#[derive(Drop)]
+pub struct Topic<A: Allocator = Global> {
+    kind: SubjectKind,
+    text: String<A>,
+}
+
+impl<A: Allocator> Model for Topic<A> {
+    ghost use Rattle.std.specs.Str.{chars};
+    ghost use Rattle.std.specs.String.{string_bytes};
+    ghost use Rattle.std.specs.Coded.{codes};
+    ghost use Rattle.rdf_trig.specs.Slots.{topic_at, Suits};
+    ghost use Rattle.rdf_trig.specs.Machine as M;
+    ghost use Rattle.rdf_trig.specs.Coded.{topic_code};
+
+    ghost Value = { M.Topic };
+
+    ghost coded = { Prim.hlevel (codes, topic_code) };
+
+    ghost view = { λ t. topic_at t.kind (chars (string_bytes t.text)) };
+
+    ghost invariant = { λ t. Suits t.kind (chars (string_bytes t.text)) };
+}
+
+impl<A: Allocator> Topic<A> {
+    /// The empty collection, which is rdf:nil. It takes no memory.
+    pub fn new(alloc: A) -> Topic<A>
+        ensures { result ≡ M.unsized (Some M.nil) }
+    {
+        Topic {
+            kind: SubjectKind::Nil,
+            text: String::new(alloc),
+        }
+    }
+
+    /// Takes the IRI of a name.
+    #[inline(always)]
+    pub fn take(&mut self, name: &mut Name<A>)
+        requires { is_some name.old ≡ true }
+        ensures { self.new ≡ M.sized (named name.old) }
+    {
+        name.give(&mut self.text);
+        self.kind = SubjectKind::Iri;
+    }
+
+    /// The node of a label, which stands here without its `_:`.
+    pub fn set_label(&mut self, label: &str) -> Result<(), AllocError>
+        requires { IsLabel (chars label.now) }
+        ensures { OnOk result (self.new ≡ topic_at SubjectKind.Label (chars label.now)) }
+    {
+        self.kind = SubjectKind::Nil;
+        self.text.clear();
+        self.text.push_str(label)?;
+        self.kind = SubjectKind::Label;
+        Ok(())
+    }
+
+    /// The node of a `[` at this byte offset.
+    #[inline(always)]
+    pub fn set_anon(&mut self, offset: u64)
+        ensures { self.new ≡ topic_at (SubjectKind.Anon offset) [] }
+    {
+        self.kind = SubjectKind::Anon(offset);
+    }
+
+    /// The cell of a collection's item whose first token stands at this byte offset.
+    #[inline(always)]
+    pub fn set_cell(&mut self, offset: u64)
+        ensures { self.new ≡ topic_at (SubjectKind.Cell offset) [] }
+    {
+        self.kind = SubjectKind::Cell(offset);
+    }
+
+    /// The empty collection.
+    #[inline(always)]
+    pub fn set_nil(&mut self)
+        ensures { self.new ≡ topic_at SubjectKind.Nil [] }
+    {
+        self.kind = SubjectKind::Nil;
+    }
+
+    /// The subject, borrowed.
+    #[inline(always)]
+    pub fn view(&self) -> SubjectRef<'_>
+        ensures { Some (subject_by chars result) ≡ self.now.term }
+    {
+        match self.kind {
+            SubjectKind::Iri => SubjectRef::Iri(IriView::new(self.text.as_str())),
+            SubjectKind::Label => {
+                SubjectRef::Node(NodeRef::Label(LabelView::new(self.text.as_str())))
+            }
+            SubjectKind::Anon(offset) => SubjectRef::Node(NodeRef::Anon(offset)),
+            SubjectKind::Cell(offset) => SubjectRef::Node(NodeRef::Cell(offset)),
+            SubjectKind::Nil => SubjectRef::Iri(known(Known::RdfNil)),
+        }
+    }
+
+    /// It stands for a term. Nothing is done.
+    #[inline(always)]
+    pub fn has_term(&self)
+        ensures { is_some self.now.term ≡ true }
+    {
+        let _ = &self.kind;
+    }
+
+    /// How many bytes its IRI or label has. The empty collection has none.
+    pub fn len(&self) -> u64
+        ensures { result ≡ self.now.size }
+    {
+        match self.kind {
+            SubjectKind::Iri | SubjectKind::Label => text_len(self.text.as_str()),
+            SubjectKind::Anon(_) | SubjectKind::Cell(_) | SubjectKind::Nil => 0,
+        }
+    }
+}
+
+/// A language tag, or none.
+#[derive(Drop)]
+pub struct TagText<A: Allocator = Global> {
+    is_some: bool,
+    text: String<A>,
+}
+
+impl<A: Allocator> Model for TagText<A> {
+    ghost use Rattle.std.specs.Prelude.{◌≡◌, ℕ, List, Option, Some, None, cond, true};
+    ghost use Rattle.std.specs.Str.{chars};
+    ghost use Rattle.std.specs.String.{string_bytes};
+    ghost use Rattle.rdf_terms.specs.Terms.{IsTag};
+
+    ghost Value = { Option (List ℕ) };
+
+    ghost view = { λ t. cond t.is_some (Some (chars (string_bytes t.text))) None };
+
+    ghost invariant = { λ t. t.is_some ≡ true → ∥ IsTag (chars (string_bytes t.text)) ∥₁ };
+}
+
+impl<A: Allocator> TagText<A> {
+    /// No tag. It takes no memory.
+    pub fn new(alloc: A) -> TagText<A>
+        ensures { result ≡ None }
+    {
+        TagText {
+            is_some: false,
+            text: String::new(alloc),
+        }
+    }
+
+    /// The tag, which stands here without its `@`.
+    pub fn set(&mut self, tag: &str) -> Result<(), AllocError>
+        requires { IsTag (chars tag.now) }
+        ensures { OnOk result (self.new ≡ Some (chars tag.now)) }
+    {
+        self.is_some = false;
+        self.text.clear();
+        self.text.push_str(tag)?;
+        self.is_some = true;
+        Ok(())
+    }
+
+    /// The tag, borrowed.
+    #[inline(always)]
+    pub fn view(&self) -> Option<TagView<'_>>
+        ensures { option_map tag_chars result ≡ self.now }
+    {
+        if self.is_some {
+            Some(TagView::new(self.text.as_str()))
+        } else {
+            None
+        }
+    }
+
+    /// How many bytes it has.
+    pub fn len(&self) -> u64
+        ensures { result ≡ iri_size self.now }
+    {
+        if self.is_some {
+            text_len(self.text.as_str())
+        } else {
+            0
+        }
+    }
+}
+
+/// The bytes of a text, by its characters.
+pub fn text_len(text: &str) -> u64
+    ensures { result ≡ byte_len (chars text.now) }
+{
+    text.len() as u64
+}
