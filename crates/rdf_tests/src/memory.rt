@@ -252,39 +252,72 @@ fn ended(fault: Fault, next: Result<Summary, Fault>) -> Stop {
     }
 }
 
-/// Documents, read in pieces and at once.
-fn read_documents<A: Allocator + Copy>(alloc: A) -> Result<(), Stop> {
+/// A token that is pushed in two pieces.
+fn push_a_token<A: Allocator + Copy>(alloc: A) -> Result<(), Stop> {
     let mut scanner = Scanner::new(alloc, Dialect::Turtle, 99);
     scanner.push(b"\"a text that is longer than a few bytes")?;
     scanner.push(b" and goes on in the next piece, and no quote ends it")?;
-    for form in [LineForm::NTriples, LineForm::NQuads] {
-        let mut reader = LineReader::new(alloc, form, Limits::default());
-        let mut list = QuadList::new(alloc);
-        for piece in LINES {
-            if let Err(fault) = reader.feed(piece.as_bytes(), &mut list) {
-                return Err(ended(fault, reader.finish(&mut list)));
-            }
-        }
-        if let Err(fault) = reader.finish(&mut list) {
-            return Err(ended(fault, reader.finish(&mut list)));
+    Ok(())
+}
+
+fn feed_lines<A: Allocator + Copy>(
+    reader: &mut LineReader<A>,
+    list: &mut QuadList<A>,
+) -> Result<(), Stop> {
+    for piece in LINES {
+        if let Err(fault) = reader.feed(piece.as_bytes(), list) {
+            return Err(ended(fault, reader.finish(list)));
         }
     }
+    match reader.finish(list) {
+        Ok(_) => Ok(()),
+        Err(fault) => Err(ended(fault, reader.finish(list))),
+    }
+}
+
+/// Lines, read in pieces.
+fn read_lines<A: Allocator + Copy>(alloc: A, form: LineForm) -> Result<(), Stop> {
+    let mut reader = LineReader::new(alloc, form, Limits::default());
+    feed_lines(&mut reader, &mut QuadList::new(alloc))
+}
+
+fn feed_statements<A: Allocator + Copy>(
+    reader: &mut TrigReader<A>,
+    list: &mut QuadList<A>,
+) -> Result<(), Stop> {
+    for piece in STATEMENTS {
+        if let Err(fault) = reader.feed(piece.as_bytes(), list) {
+            return Err(ended(fault, reader.finish(list)));
+        }
+    }
+    match reader.finish(list) {
+        Ok(_) => Ok(()),
+        Err(fault) => Err(ended(fault, reader.finish(list))),
+    }
+}
+
+/// Statements, read in pieces.
+fn read_statements<A: Allocator + Copy>(alloc: A, form: DocForm) -> Result<(), Stop> {
+    let mut reader = TrigReader::new(alloc, options(form)?);
+    feed_statements(&mut reader, &mut QuadList::new(alloc))
+}
+
+/// A document, read at once.
+fn read_a_whole<A: Allocator + Copy>(alloc: A, form: DocForm) -> Result<(), Stop> {
+    let document = b"@prefix : <http://e/> . [ :p ( :o 'x'@en [] ) ] .";
+    read_document(alloc, options(form)?, document)?;
+    Ok(())
+}
+
+/// Documents, read in pieces and at once.
+fn read_documents<A: Allocator + Copy>(alloc: A) -> Result<(), Stop> {
+    push_a_token(alloc)?;
+    for form in [LineForm::NTriples, LineForm::NQuads] {
+        read_lines(alloc, form)?;
+    }
     for form in [DocForm::Turtle, DocForm::TriG] {
-        let mut reader = TrigReader::new(alloc, options(form)?);
-        let mut list = QuadList::new(alloc);
-        for piece in STATEMENTS {
-            if let Err(fault) = reader.feed(piece.as_bytes(), &mut list) {
-                return Err(ended(fault, reader.finish(&mut list)));
-            }
-        }
-        if let Err(fault) = reader.finish(&mut list) {
-            return Err(ended(fault, reader.finish(&mut list)));
-        }
-        read_document(
-            alloc,
-            options(form)?,
-            b"@prefix : <http://e/> . [ :p ( :o 'x'@en [] ) ] .",
-        )?;
+        read_statements(alloc, form)?;
+        read_a_whole(alloc, form)?;
     }
     Ok(())
 }
