@@ -3,7 +3,7 @@
 
     bench/documents.py KIND MEGABYTES FILE
 
-KIND is one of DOCUMENTS below. The document ends with the first whole statement behind so many MB.
+KIND is one of DOCUMENTS below. The document ends with the first whole statement after so many MB.
 """
 import collections
 import sys

@@ -9,7 +9,7 @@ in the same run.
 
 Prints MB/s of the input (by processor time, the best of the runs) and the most memory held, then by how much time and memory grow from the
 first size to the last. Ends with a failure where a status is not what it should be, where not as many quads are counted
-or lines written as the document has, and where a `.` behind its end is not refused at its place.
+or lines written as the document has, and where a `.` after its end is not refused at its place.
 """
 import argparse
 import collections

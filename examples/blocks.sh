@@ -4,7 +4,7 @@
 #
 #     examples/blocks.sh FILE [BLOCK]     BLOCK as GNU parallel takes it (64M); the format is that of FILE's name
 #
-# Each block but the first is read behind an empty line, so that a U+FEFF at its start begins no document.
+# Each block but the first is read after an empty line, so that a U+FEFF at its start begins no document.
 file=$1 block=${2:-64M}
 case $file in *.nt) form=nt ;; *.nq) form=nq ;; *) echo "blocks: $file is no .nt or .nq" >&2; exit 2 ;; esac
 scratch=$(mktemp -d)

@@ -1,5 +1,5 @@
 #!/bin/bash
-# Converts a dump of N-Triples or N-Quads, and goes on behind the line of each refusal.
+# Converts a dump of N-Triples or N-Quads, and goes on after the line of each refusal.
 #
 #     examples/skip.sh FILE BAD     the format is that of FILE's name; BAD gets each refusal's reason and place, a tab, and the line
 #

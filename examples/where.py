@@ -31,7 +31,7 @@ def line_start(file, offset):
 
 
 def near(file, begin, offset):
-    """How many characters of the line stand before the byte, and the bytes near it, before and behind."""
+    """How many characters of the line stand before the byte, and the bytes near it, before and after."""
     file.seek(begin)
     count, before, left = 0, b'', offset - begin
     while left:

@@ -4,7 +4,7 @@
     examples/cluster/cluster.py --scheduler tcp://HOST:8786 documents FOLDER OUT     a folder of documents, one a task
     examples/cluster/cluster.py --scheduler tcp://HOST:8786 dump FILE OUT.nq         N-Triples or N-Quads, by blocks of lines
 
-Formats go by the names' ends (.nt .nq .ttl .trig, in a folder also with .gz behind them). FOLDER, FILE, OUT and the program
+Formats go by the names' ends (.nt .nq .ttl .trig, in a folder also with .gz after them). FOLDER, FILE, OUT and the program
 have to have the same paths on every worker, as on a shared file system. Standard error has each refusal with its place in
 the whole document, and a last line of counts. Status 0 where all was accepted, else that of the first run that was not.
 """

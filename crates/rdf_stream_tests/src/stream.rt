@@ -73,7 +73,7 @@ fn a_document_is_read_within_its_limits(rt: HostRuntime) -> Result<(), Fail> {
 }
 
 #[test]
-fn a_long_run_of_letters_is_told_by_its_length(rt: HostRuntime) -> Result<(), Fail> {
+fn a_long_run_of_letters_is_reported_by_its_length(rt: HostRuntime) -> Result<(), Fail> {
     let limits = Limits::new(1000, 9, 9, 1000).ok_or("limits")?;
     for (letter, count, text) in [
         ("b", 1000, "rdfconv: no token at byte 0, line 1\n"),
@@ -129,7 +129,7 @@ fn references_are_resolved_against_the_base(rt: HostRuntime) -> Result<(), Fail>
 }
 
 #[test]
-fn a_bad_byte_is_told_where_it_stands(rt: HostRuntime) -> Result<(), Fail> {
+fn a_bad_byte_is_reported_where_it_stands(rt: HostRuntime) -> Result<(), Fail> {
     for (document, text) in TURTLE_AND_TRIG {
         if text.contains("rdfconv") {
             continue;
@@ -453,10 +453,10 @@ const UNFINISHED: [(Form, &str, u64); 4] = [
 ];
 
 #[test]
-fn the_end_refuses_only_where_the_source_told_it(rt: HostRuntime) -> Result<(), Fail> {
+fn the_end_refuses_only_where_the_source_ended(rt: HostRuntime) -> Result<(), Fail> {
     for (form, text, offset) in UNFINISHED {
         let calls = text.len() as u64;
-        for (calls, told) in [(calls, false), (calls + 1, true)] {
+        for (calls, ended) in [(calls, false), (calls + 1, true)] {
             let mut source = failing_source(text, calls);
             let mut drain = ample_drain(rt.alloc());
             let converted = convert(
@@ -465,27 +465,27 @@ fn the_end_refuses_only_where_the_source_told_it(rt: HostRuntime) -> Result<(), 
                 &mut source,
                 &mut drain,
             );
-            is_refused_if(&rt, told, &converted, offset);
-            assert_eq!(rt; (source.ended(), source.failed()), (told, !told));
+            is_refused_if(&rt, ended, &converted, offset);
+            assert_eq!(rt; (source.ended(), source.failed()), (ended, !ended));
             let mut source = failing_source(text, calls);
             let checked = check(rt.alloc(), job(rt.alloc(), &Asked::of(form))?, &mut source);
-            is_refused_if(&rt, told, &checked, offset);
-            assert_eq!(rt; (source.ended(), source.failed()), (told, !told));
+            is_refused_if(&rt, ended, &checked, offset);
+            assert_eq!(rt; (source.ended(), source.failed()), (ended, !ended));
         }
     }
     Ok(())
 }
 
 /// The end was refused at the place, or the source failed.
-fn is_refused_if(rt: &impl Abort, told: bool, outcome: &Result<Summary, StreamFault>, at: u64) {
+fn is_refused_if(rt: &impl Abort, ended: bool, outcome: &Result<Summary, StreamFault>, at: u64) {
     match outcome {
         Err(StreamFault::Refused(fault)) => {
             assert_eq!(rt;
-                (told, fault.reason, fault.offset),
+                (ended, fault.reason, fault.offset),
                 (true, Reason::Unexpected, at)
             );
         }
-        Err(StreamFault::Read) => assert!(rt; !told, "no end at {at}"),
+        Err(StreamFault::Read) => assert!(rt; !ended, "no end at {at}"),
         _ => assert!(rt; false, "no end at {at}"),
     }
 }

@@ -10,7 +10,7 @@ use rdf_terms::{Iri, TermFault, iri_text};
 use std::alloc::Global;
 
 /// An IRI, or why there is none.
-type Told = Result<&'static str, IriFault>;
+type Answer = Result<&'static str, IriFault>;
 
 /// RFC 3986, section 5.4, but for a reference with the base's scheme, which is kept as it is.
 static REFERENCES: [(&str, &str); 42] = [
@@ -105,7 +105,7 @@ fn absolute(alloc: Global, text: &str, limit: u64) -> Result<Iri, IriFault>
 }
 
 /// Whether these are the IRIs, or the refusals.
-fn is_told(iri: Result<Iri, IriFault>, wanted: Told) -> bool {
+fn is_answered(iri: Result<Iri, IriFault>, wanted: Answer) -> bool {
     match (iri, wanted) {
         (Ok(iri), Ok(text)) => iri.as_str() == text,
         (Err(fault), Err(reason)) => fault == reason,
@@ -117,7 +117,7 @@ fn is_told(iri: Result<Iri, IriFault>, wanted: Told) -> bool {
 fn the_references_of_the_rfc(rt: HostRuntime) {
     for (reference, wanted) in REFERENCES.as_slice() {
         assert!(rt;
-            is_told(against(rt.alloc(), BASE, reference, 100), Ok(wanted)),
+            is_answered(against(rt.alloc(), BASE, reference, 100), Ok(wanted)),
             "{reference}"
         );
     }
@@ -127,7 +127,7 @@ fn the_references_of_the_rfc(rt: HostRuntime) {
 fn references_against_other_bases(rt: HostRuntime) {
     for (base, reference, wanted) in OTHER_BASES.as_slice() {
         assert!(rt;
-            is_told(against(rt.alloc(), base, reference, 100), Ok(wanted)),
+            is_answered(against(rt.alloc(), base, reference, 100), Ok(wanted)),
             "{reference}"
         );
     }
@@ -135,7 +135,7 @@ fn references_against_other_bases(rt: HostRuntime) {
 
 #[test]
 fn a_reference_without_scheme_and_base(rt: HostRuntime) {
-    assert!(rt; is_told(absolute(rt.alloc(), "s", 100), Err(IriFault::NoBase)));
+    assert!(rt; is_answered(absolute(rt.alloc(), "s", 100), Err(IriFault::NoBase)));
 }
 
 #[test]
@@ -147,7 +147,7 @@ fn the_limit_counts_the_result_alone(rt: HostRuntime) {
         ("g:h", 2, Err(IriFault::IriTooLong)),
     ] {
         assert!(rt;
-            is_told(against(rt.alloc(), BASE, reference, limit), wanted),
+            is_answered(against(rt.alloc(), BASE, reference, limit), wanted),
             "{reference}"
         );
     }
@@ -251,7 +251,7 @@ fn expand(scope: &Scope, prefix: &str, local: &str) -> Result<Iri, IriFault> {
     }
 }
 
-fn is_done(done: Result<(), IriFault>, wanted: Told) -> bool {
+fn is_done(done: Result<(), IriFault>, wanted: Answer) -> bool {
     match (done, wanted) {
         (Ok(()), Ok(_)) => true,
         (Err(fault), Err(reason)) => fault == reason,
@@ -260,20 +260,20 @@ fn is_done(done: Result<(), IriFault>, wanted: Told) -> bool {
 }
 
 /// Whether the scope answers a call so. A call that answers no IRI is done where one is wanted.
-fn answers(scope: &mut Scope, call: Call, wanted: Told) -> bool
+fn answers(scope: &mut Scope, call: Call, wanted: Answer) -> bool
     requires { 1 ≤ scope.old.limits.token }
     ensures { scope.new.limits ≡ scope.old.limits }
 {
     match call {
         Call::SetBase(reference) => is_done(set_base(scope, reference), wanted),
         Call::Bind(prefix, reference) => is_done(bind(scope, prefix, reference), wanted),
-        Call::Resolve(reference) => is_told(resolve_here(scope, reference), wanted),
-        Call::Expand(prefix, local) => is_told(expand(scope, prefix, local), wanted),
+        Call::Resolve(reference) => is_answered(resolve_here(scope, reference), wanted),
+        Call::Expand(prefix, local) => is_answered(expand(scope, prefix, local), wanted),
     }
 }
 
 /// How many of the calls, one after another, the scope answers as is wanted.
-fn answered(scope: &mut Scope, calls: &[(Call, Told)]) -> usize
+fn answered(scope: &mut Scope, calls: &[(Call, Answer)]) -> usize
     requires { 1 ≤ scope.old.limits.token }
 {
     for i in 0..calls.len() {
@@ -285,7 +285,7 @@ fn answered(scope: &mut Scope, calls: &[(Call, Told)]) -> usize
     calls.len()
 }
 
-static ONE_BINDING: [(Call, Told); 10] = [
+static ONE_BINDING: [(Call, Answer); 10] = [
     (Call::Bind("x", "../x/"), Ok("")),
     (Call::Expand("x", "b~c"), Ok("http://a/b/x/b~c")),
     (Call::Expand("z", "b"), Err(IriFault::Unbound)),
@@ -308,7 +308,7 @@ fn a_scope_with_one_binding(rt: HostRuntime) -> Result<(), IriFault> {
 }
 
 /// A refused call changes nothing.
-static REFUSED: [(Call, Told); 9] = [
+static REFUSED: [(Call, Answer); 9] = [
     (Call::SetBase("g"), Err(IriFault::NoBase)),
     (Call::Bind("", "g"), Err(IriFault::NoBase)),
     (Call::SetBase("a:/b/c"), Ok("")),
@@ -447,7 +447,7 @@ fn files_of_bindings(rt: HostRuntime) {
     }
 }
 
-static STARTED: [(Call, Told); 4] = [
+static STARTED: [(Call, Answer); 4] = [
     (Call::Expand("x", "s"), Ok("http://y/s")),
     (Call::Expand("", "p"), Ok("http://e/p")),
     (Call::Bind("x", "http://z/"), Ok("")),

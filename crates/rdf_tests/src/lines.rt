@@ -1,4 +1,4 @@
-// Documents in pieces of all lengths, a sink that fails, and what is told afterwards.
+// Documents in pieces of all lengths, a sink that fails, and what is answered afterwards.
 
 ghost use Rattle.std.specs.Prelude.{◌≡◌, ◌≤◌, true, false, length};
 
@@ -15,7 +15,7 @@ struct Row {
     form: LineForm,
     bytes: &'static [u8],
     lines: &'static str,
-    told: Result<(u64, u64, u64), (Reason, u64, u64)>,
+    answer: Result<(u64, u64, u64), (Reason, u64, u64)>,
 }
 
 /// A reader of tokens of 18 characters and IRIs of 14 bytes.
@@ -53,13 +53,13 @@ fn read_bytes(
     reader.finish(sink)
 }
 
-/// Whether this was to be told of a document, and these lines to be put.
-fn is_told(row: &Row, told: Result<Summary, Fault>, sink: &RecordingSink) -> bool {
-    let is_told = match told {
-        Ok(summary) => row.told == Ok((summary.quads, summary.tokens, summary.bytes)),
-        Err(fault) => row.told == Err((fault.reason, fault.offset, fault.line)),
+/// Whether this was to be answered for a document, and these lines to be put.
+fn is_answered(row: &Row, answer: Result<Summary, Fault>, sink: &RecordingSink) -> bool {
+    let is_answered = match answer {
+        Ok(summary) => row.answer == Ok((summary.quads, summary.tokens, summary.bytes)),
+        Err(fault) => row.answer == Err((fault.reason, fault.offset, fault.line)),
     };
-    is_told && sink.lines.as_slice() == row.lines.as_bytes()
+    is_answered && sink.lines.as_slice() == row.lines.as_bytes()
 }
 
 fn is_read_in_two(alloc: Global, row: &Row, cut: usize) -> bool
@@ -67,15 +67,15 @@ fn is_read_in_two(alloc: Global, row: &Row, cut: usize) -> bool
 {
     let mut reader = line_reader(alloc, row.form);
     let mut sink = recording_sink(alloc, 64);
-    let told = read_in_two(&mut reader, row.bytes, cut, &mut sink);
-    is_told(row, told, &sink)
+    let answer = read_in_two(&mut reader, row.bytes, cut, &mut sink);
+    is_answered(row, answer, &sink)
 }
 
 fn is_read_by_bytes(alloc: Global, row: &Row) -> bool {
     let mut reader = line_reader(alloc, row.form);
     let mut sink = recording_sink(alloc, 64);
-    let told = read_bytes(&mut reader, row.bytes, &mut sink);
-    is_told(row, told, &sink)
+    let answer = read_bytes(&mut reader, row.bytes, &mut sink);
+    is_answered(row, answer, &sink)
 }
 
 /// Whether a document puts its lines and tells what it is to, whole, in two pieces at each byte, and byte by byte.
@@ -95,91 +95,91 @@ static ROWS: [Row; 15] = [
         form: LineForm::NQuads,
         bytes: b"",
         lines: "",
-        told: Ok((0, 0, 0)),
+        answer: Ok((0, 0, 0)),
     },
     Row {
         form: LineForm::NQuads,
         bytes: b"\xEF\xBB\xBF_:x.y <a:p> \"\\u0041\"@en <a:g>. # c\r\n\n<a:s> <a:p> \"\"^^<a:t> .",
         lines: "_:nx.y <a:p> \"A\"@en <a:g> .\n<a:s> <a:p> \"\"^^<a:t> .\n",
-        told: Ok((2, 15, 63)),
+        answer: Ok((2, 15, 63)),
     },
     Row {
         form: LineForm::NQuads,
         bytes: b"<a:s> <a:p> <a:o>.\n<a:s> <a:p> <a:o>.",
         lines: "<a:s> <a:p> <a:o> .\n<a:s> <a:p> <a:o> .\n",
-        told: Ok((2, 9, 37)),
+        answer: Ok((2, 9, 37)),
     },
     Row {
         form: LineForm::NQuads,
         bytes: b"<a:s> <a:p> <a:o> . <a:s> <a:p> <a:o> .",
         lines: LINE,
-        told: Err((Reason::Unexpected, 20, 1)),
+        answer: Err((Reason::Unexpected, 20, 1)),
     },
     Row {
         form: LineForm::NQuads,
         bytes: b"<a:s> <a:p> <a:o> .\n<s> <a:p> <a:o> .",
         lines: LINE,
-        told: Err((Reason::RelativeIri, 20, 2)),
+        answer: Err((Reason::RelativeIri, 20, 2)),
     },
     Row {
         form: LineForm::NQuads,
         bytes: b"\n<a:s> <a:p>\n",
         lines: "",
-        told: Err((Reason::Unexpected, 12, 2)),
+        answer: Err((Reason::Unexpected, 12, 2)),
     },
     Row {
         form: LineForm::NQuads,
         bytes: b"\xEF\xBB\xBF<a:s> <a:p> <a:o>",
         lines: "",
-        told: Err((Reason::Unexpected, 20, 1)),
+        answer: Err((Reason::Unexpected, 20, 1)),
     },
     Row {
         form: LineForm::NQuads,
         bytes: b"<a:s> <a:p> \"\"\"\" .",
         lines: "",
-        told: Err((Reason::Unexpected, 14, 1)),
+        answer: Err((Reason::Unexpected, 14, 1)),
     },
     Row {
         form: LineForm::NQuads,
         bytes: b"<a:s> <a:p> \"\\uD800\" .",
         lines: "",
-        told: Err((Reason::BadEscape, 12, 1)),
+        answer: Err((Reason::BadEscape, 12, 1)),
     },
     Row {
         form: LineForm::NQuads,
         bytes: b"<a:s> <a:p> 1 .",
         lines: "",
-        told: Err((Reason::NoToken, 12, 1)),
+        answer: Err((Reason::NoToken, 12, 1)),
     },
     Row {
         form: LineForm::NQuads,
         bytes: b"<a:s> <a:0123456789abcdef> .",
         lines: "",
-        told: Err((Reason::TokenTooLong, 6, 1)),
+        answer: Err((Reason::TokenTooLong, 6, 1)),
     },
     Row {
         form: LineForm::NQuads,
         bytes: b"<a:s> <a:\\u004123456789> <a:0123456789ab> .\n<a:0123456789a\xC3\xA9> <a:p> <a:o> .",
         lines: "<a:s> <a:A23456789> <a:0123456789ab> .\n",
-        told: Err((Reason::IriTooLong, 44, 2)),
+        answer: Err((Reason::IriTooLong, 44, 2)),
     },
     Row {
         form: LineForm::NQuads,
         bytes: b"<0123456789abcde> <a:p> <a:o> .",
         lines: "",
-        told: Err((Reason::RelativeIri, 0, 1)),
+        answer: Err((Reason::RelativeIri, 0, 1)),
     },
     Row {
         form: LineForm::NTriples,
         bytes: b"<a:s> <a:p> <a:o> <a:g> .",
         lines: "",
-        told: Err((Reason::Unexpected, 18, 1)),
+        answer: Err((Reason::Unexpected, 18, 1)),
     },
     Row {
         form: LineForm::NTriples,
         bytes: b"<a:s> <a:p> <a:o> .\n\xFF",
         lines: LINE,
-        told: Err((Reason::BadUtf8, 20, 2)),
+        answer: Err((Reason::BadUtf8, 20, 2)),
     },
 ];
 

@@ -20,7 +20,7 @@ enum Document {
 
 /// What comes of a document of which one put may fail.
 enum Outcome {
-    /// The put failed: this was told, after a beginning of the quads, and nothing was put after it.
+    /// The put failed: this was the answer, after a beginning of the quads, and nothing was put after it.
     Stopped,
     /// No put failed, and the quads are so many.
     Whole(u64),
@@ -56,8 +56,8 @@ fn lines_have_finished(reader: &mut LineReader, sink: &mut RecordingSink) -> boo
     }
 }
 
-/// What is told of the lines, if each call after it tells that reading has ended.
-fn told_of_lines(
+/// The answer to the lines, if each call after it reports that reading has ended.
+fn answer_to_lines(
     alloc: Global,
     form: LineForm,
     sink: &mut RecordingSink,
@@ -65,9 +65,9 @@ fn told_of_lines(
     requires { sink.old.failed ≡ false }
 {
     let mut reader = LineReader::new(alloc, form, Limits::default());
-    let told = feed_lines(&mut reader, sink);
+    let answer = feed_lines(&mut reader, sink);
     if lines_have_ended(&mut reader, sink) {
-        Some(told)
+        Some(answer)
     } else {
         None
     }
@@ -107,8 +107,8 @@ fn statement_reader(alloc: Global, form: DocForm) -> Option<TrigReader> {
     Some(TrigReader::new(alloc, options))
 }
 
-/// What is told of the statements, if each call after it tells that reading has ended.
-fn told_of_statements(
+/// The answer to the statements, if each call after it reports that reading has ended.
+fn answer_to_statements(
     alloc: Global,
     form: DocForm,
     sink: &mut RecordingSink,
@@ -116,15 +116,15 @@ fn told_of_statements(
     requires { sink.old.failed ≡ false }
 {
     let mut reader = statement_reader(alloc, form)?;
-    let told = feed_statements(&mut reader, sink);
+    let answer = feed_statements(&mut reader, sink);
     if statements_have_ended(&mut reader, sink) {
-        Some(told)
+        Some(answer)
     } else {
         None
     }
 }
 
-fn told_of(
+fn answer_to(
     alloc: Global,
     document: Document,
     sink: &mut RecordingSink,
@@ -132,15 +132,15 @@ fn told_of(
     requires { sink.old.failed ≡ false }
 {
     match document {
-        Document::Lines(form) => told_of_lines(alloc, form, sink),
-        Document::Statements(form) => told_of_statements(alloc, form, sink),
+        Document::Lines(form) => answer_to_lines(alloc, form, sink),
+        Document::Statements(form) => answer_to_statements(alloc, form, sink),
     }
 }
 
 /// The lines of a document whose sink has room for each of its quads.
 fn whole_of(alloc: Global, document: Document) -> Option<Vec<u8>> {
     let mut sink = recording_sink(alloc, MOST);
-    told_of(alloc, document, &mut sink)?.ok()?;
+    answer_to(alloc, document, &mut sink)?.ok()?;
     let RecordingSink { lines, .. } = sink;
     Some(lines)
 }
@@ -148,7 +148,7 @@ fn whole_of(alloc: Global, document: Document) -> Option<Vec<u8>> {
 /// What comes of a document whose sink has room for so many quads and fails at the put after them.
 fn outcome_of(alloc: Global, document: Document, room: u64, whole: &[u8]) -> Outcome {
     let mut sink = recording_sink(alloc, room);
-    match told_of(alloc, document, &mut sink) {
+    match answer_to(alloc, document, &mut sink) {
         Some(Ok(summary)) => {
             if !sink.failed && summary.quads == sink.quads && sink.lines.as_slice() == whole {
                 Outcome::Whole(sink.quads)

@@ -15,7 +15,7 @@ topic_at (kind.Cell n) w = unsized (cell n)
 topic_at kind.Nil w = unsized (Some nil)
 
 -- the text is one of this kind
-abbrev pub Suits : SubjectKind → List ℕ → Type 0
-Suits kind.Iri w = ∥ IsIri w ∥₁
-Suits kind.Label w = ∥ IsLabel w ∥₁
-Suits k w = ⊤
+abbrev pub IsOfKind : SubjectKind → List ℕ → Type 0
+IsOfKind kind.Iri w = ∥ IsIri w ∥₁
+IsOfKind kind.Label w = ∥ IsLabel w ∥₁
+IsOfKind k w = ⊤

@@ -135,6 +135,10 @@ up_in r = up_of (level_of r.level) r.frames.items
 abbrev pub place_in : {A : Type 0} → State A → M.Place
 place_in r = place_of (level_of r.level) r.frame (up_in r)
 
+-- what a predicate list in hand stands in
+abbrev pub around_in : {A : Type 0} → State A → Around → M.Around
+around_in r a = around_of a (level_of r.level) (up_in r)
+
 abbrev pub text_in : {A : Type 0} → State A → List ℕ
 text_in r = chars (string_bytes r.text)
 
@@ -312,3 +316,39 @@ ShortPrefix n m = ⊤
 abbrev pub PrefixFits : {A : Type 0} → ℕ → State A → Mode → Type 0
 PrefixFits n r (mode.Outer (outer.WantPrefixIri w)) = byte_len (text_in r) ≤ n
 PrefixFits n r m = ⊤
+
+-- a token of this kind may come after an object that stands so, by the grammar alone
+abbrev pub MayComeAfter : Container → Level → Kind → Bool → Type 0
+MayComeAfter a v k b = (c : Setting) (s : M.Topic) (p : Option (List ℕ)) (u : M.Up) (l : Leaf) → b ≡ is_go (M.after c (place_at (level_of v) a s p u) k l)
+
+-- the same after a string, whose type or tag may come
+abbrev pub MayComeAfterText : Container → Level → Kind → Bool → Type 0
+MayComeAfterText a v k b =
+    (c : Setting) (w : List ℕ) (s : M.Topic) (p : Option (List ℕ)) (u : M.Up) (l : Leaf) → b ≡ is_go (M.after_text c w (place_at (level_of v) a s p u) k l)
+
+-- the same after a `;`
+abbrev pub MayComeAfterSemicolon : Container → Level → Kind → Bool → Type 0
+MayComeAfterSemicolon a v k b =
+    (form : DocForm) (c : Setting) (s : M.Topic) (p : Option (List ℕ)) (u : M.Up) (l : Leaf) →
+    b ≡ is_go (M.step form c (semi_at (place_at (level_of v) a s p u)) k l)
+
+-- with a token that stands for this IRI, if for one, the state that was left answers what the machine does, in each scope
+abbrev pub Replies : {A T : Type 0} → DocForm → Given → Option (List ℕ) → Result T StepFault → State A → (InForce → Kind → Leaf → Reply) → Type 0
+Replies form t i result r reply =
+    (s : InForce) → name_at s t.kind (leaf t) ≡ i → Gives form s (use_at s t.kind (leaf t)) result r (reply s t.kind (leaf t))
+
+-- the same with a kind alone, whatever token has it
+abbrev pub RepliesTo : {A T : Type 0} → DocForm → Kind → Option (List ℕ) → Result T StepFault → State A → (InForce → Kind → Leaf → Reply) → Type 0
+RepliesTo form k i result r reply = (s : InForce) (l : Leaf) → name_at s k l ≡ i → Gives form s (use_at s k l) result r (reply s k l)
+
+-- the same in a mode of the machine, with the graph of its quads, where a directive may change the scope
+abbrev pub RepliesIn : {A T : Type 0} → DocForm → M.Mode → Option term.Subject → Given → Option (List ℕ) → Result T StepFault → State A → Type 0
+RepliesIn form m g t i result r =
+    (s : InForce) → NameIn s m t.kind (leaf t) i →
+    Gives form (scope_in s m t.kind (leaf t)) (use_in s m t.kind (leaf t)) result r (M.step form (setting s g) m t.kind (leaf t))
+
+-- the token leads from the mode to the state
+abbrev pub Moves : {A : Type 0} → DocForm → M.Mode → Option term.Subject → Given → Option (List ℕ) → State A → Type 0
+Moves form m g t i r =
+    (s : InForce) → NameIn s m t.kind (leaf t) i →
+    M.step form (setting s g) m t.kind (leaf t) ≡ moved form (scope_in s m t.kind (leaf t)) (use_in s m t.kind (leaf t)) r

@@ -17,7 +17,7 @@ use Rattle.rdf_terms.specs.declared.kind.Kind.{Kind}
 use Rattle.rdf_terms.specs.declared.kind.Kind.TheVariants.{OpenBracket, CloseBracket, OpenParen, CloseParen}
 use Rattle.rdf_lines.specs.Lines.{Leaf}
 use Rattle.rdf_trig.specs.Machine.{Reply, No, Go, subject_at, verb_at, kept}
-use Rattle.rdf_trig.specs.States.{leaf, mode_in, graph_in, setting, rest_of, held_of, is_go, PrefixFits}
+use Rattle.rdf_trig.specs.States.{leaf, mode_in, graph_in, setting, rest_of, held_of, is_go, NameIn, PrefixFits}
 use Rattle.rdf_trig.specs.Scopes.{SameScope}
 use Rattle.rdf_trig.specs.Holding.{most_text, Fits}
 
@@ -58,6 +58,10 @@ Refused Unexpected a = a ≡ M.refuses refusal.unexpected
 Refused TooDeep a = a ≡ M.refuses refusal.too_deep
 Refused r a = ⊥
 
+-- the same of a state of the reader, in each scope with this limit of open brackets
+abbrev pub RefusedWithin : {A : Type 0} → DocForm → ℕ → State A → Kind → StepFault → Type 0
+RefusedWithin form most r k e = (s : InForce) (l : Leaf) → s.limits.depth ≡ most → Refused e (M.accept form (state_of form s r) k l)
+
 -- the count of open brackets can change so
 abbrev pub DepthMay : Kind → ℕ → Type 0
 DepthMay OpenBracket n = n + 1 < 2 ^ 64
@@ -71,6 +75,14 @@ abbrev pub Stays : StepFault → Reply → Type 0
 Stays Unexpected reply = reply ≡ No
 Stays Memory reply = ⊤
 Stays r reply = ⊥
+
+-- so of the token in a mode of the machine
+abbrev pub StaysIn : DocForm → M.Mode → Option term.Subject → Given → Option (List ℕ) → StepFault → Type 0
+StaysIn form m g t i e = (s : InForce) → NameIn s m t.kind (leaf t) i → Stays e (M.step form (setting s g) m t.kind (leaf t))
+
+-- what the machine answers to a token in a state of the reader
+abbrev pub answer_to : {A : Type 0} → DocForm → InForce → State A → Given → M.Answer
+answer_to form s r t = M.accept form (state_of form s r) t.kind (leaf t)
 
 -- what each step keeps: the brackets are counted and no more than the limit, a prefix is no longer than a token, each text fits, and no more frames are
 -- open than brackets

@@ -83,7 +83,7 @@ impl<A: Allocator + Copy> State<A> {
         ensures ok { OnOk result ((s : InForce) (l : Leaf) → s.limits.depth ≡ most → May form (state_of form s self.now) kind l) }
         ensures room { OnOk result (DepthMay kind self.now.depth) }
         ensures deep { OnOk result (M.deepens kind ≡ true → self.now.depth + 1 ≤ most) }
-        ensures err { IfErr result (λ r. (s : InForce) (l : Leaf) → s.limits.depth ≡ most → Refused r (M.accept form (state_of form s self.now) kind l)) }
+        ensures err { IfErr result (RefusedWithin form most self.now kind) }
     {
         if !allows(form, self, kind) {
             return Err(StepFault::Unexpected);
@@ -100,16 +100,11 @@ impl<A: Allocator + Copy> State<A> {
         requires token { IsTurtleToken token.now }
         requires named { IsNamedIn (mode_in form self.old) token.now.kind self.old.name }
         requires room { DepthMay token.now.kind self.old.depth }
-        ensures ok { OnOk result ((s : InForce) → let m = mode_in form self.old in
-            NameIn s m token.now.kind (leaf token.now) self.old.name →
-            M.step form (setting s (graph_in self.old)) m token.now.kind (leaf token.now) ≡ moved form
-            (scope_in s m token.now.kind (leaf token.now)) (use_in s m token.now.kind (leaf token.now)) self.new) }
+        ensures ok { OnOk result (Moves form (mode_in form self.old) (graph_in self.old) token.now self.old.name self.new) }
         ensures depth { OnOk result (DepthMoves token.now.kind self.old.depth self.new.depth) }
         ensures stack { OnOk result (length self.new.frames.items ≤ frames_most token.now.kind (length self.old.frames.items)) }
         ensures fits { (n : ℕ) → TextFits n token.now → NameFits n self.old.name → Fits n self.old → OnOk result (Fits n self.new) }
-        ensures err { IfErr result (λ r. (s : InForce) → let m = mode_in form self.old in
-            NameIn s m token.now.kind (leaf token.now) self.old.name →
-            Stays r (M.step form (setting s (graph_in self.old)) m token.now.kind (leaf token.now))) }
+        ensures err { IfErr result (StaysIn form (mode_in form self.old) (graph_in self.old) token.now self.old.name) }
     {
         match self.go_on(form, token) {
             Ok(()) => {
@@ -136,14 +131,14 @@ impl<A: Allocator + Copy> State<A> {
         requires keeps { Keeps form scope.old.limits self.old }
         requires live { S.has_failed sink.old ≡ false }
         ensures ok { OnOk result ((s : InForce) → SameScope s scope.old →
-            Accepts S.takes form (M.accept form (state_of form s self.old) token.now.kind (leaf token.now)) sink.old self.new scope.new sink.new) }
+            Accepts S.takes form (answer_to form s self.old token.now) sink.old self.new scope.new sink.new) }
         ensures count { IfOk result (λ n. (s : InForce) (qs : List Quad) (m : M.State) →
-            M.accept form (state_of form s self.old) token.now.kind (leaf token.now) ≡ M.accepts qs m → n ≡ length qs) }
+            answer_to form s self.old token.now ≡ M.accepts qs m → n ≡ length qs) }
         ensures limits { OnOk result (scope.new.limits ≡ scope.old.limits) }
         ensures keeps { OnOk result (Keeps form scope.old.limits self.new) }
         ensures live { OnOk result (S.has_failed sink.new ≡ false) }
         ensures err { IfErr result (λ r. (s : InForce) → SameScope s scope.old →
-            Fails S.takes S.leaves S.has_failed r (M.accept form (state_of form s self.old) token.now.kind (leaf token.now)) sink.old sink.new) }
+            Fails S.takes S.leaves S.has_failed r (answer_to form s self.old token.now) sink.old sink.new) }
     {
         self.check(form, most, token.kind)?;
         self.look_up(scope, token)?;

@@ -103,7 +103,7 @@ fn goes_on_after_subject(form: DocForm, level: Level, kind: Kind) -> bool
 }
 
 fn goes_on_after_text(container: Container, level: Level, kind: Kind) -> bool
-    ensures { (c : Setting) (w : List ℕ) (s : M.Topic) (p : Option (List ℕ)) (u : M.Up) (l : Leaf) → result ≡ is_go (M.after_text c w (place_at (level_of level) container s p u) kind l) }
+    ensures { MayComeAfterText container level kind result }
 {
     match kind {
         Kind::LangTag => true,
@@ -115,7 +115,7 @@ fn goes_on_after_text(container: Container, level: Level, kind: Kind) -> bool
 }
 
 fn goes_on_after(container: Container, level: Level, kind: Kind) -> bool
-    ensures { (c : Setting) (s : M.Topic) (p : Option (List ℕ)) (u : M.Up) (l : Leaf) → result ≡ is_go (M.after c (place_at (level_of level) container s p u) kind l) }
+    ensures { MayComeAfter container level kind result }
 {
     match container {
         Container::List(around) => match kind {
@@ -173,8 +173,7 @@ fn begins_object(kind: Kind) -> bool
 }
 
 fn goes_on_after_semicolon(container: Container, level: Level, kind: Kind) -> bool
-    ensures { (form : DocForm) (c : Setting) (s : M.Topic) (p : Option (List ℕ)) (u : M.Up) (l : Leaf) →
-        result ≡ is_go (M.step form c (semi_at (place_at (level_of level) container s p u)) kind l) }
+    ensures { MayComeAfterSemicolon container level kind result }
 {
     match container {
         Container::List(around) => goes_on_after_verb(around, level, kind),

@@ -25,9 +25,7 @@ impl<A: Allocator + Copy> State<A> {
     pub fn after(&mut self, token: &Token<'_>) -> Result<(), StepFault>
         requires token { IsTurtleToken token.now }
         requires named { IsNamed token.now.kind self.old.name }
-        ensures gives { (form : DocForm) (s : InForce) → name_at s token.now.kind (leaf token.now) ≡ self.old.name →
-            Gives form s (use_at s token.now.kind (leaf token.now)) result self.new
-            (M.after (setting_in s self.old) (place_in self.old) token.now.kind (leaf token.now)) }
+        ensures gives { (form : DocForm) → Replies form token.now self.old.name result self.new (λ s. M.after (setting_in s self.old) (place_in self.old)) }
         ensures depth { self.new.depth ≡ self.old.depth }
         ensures stack { OnOk result (length self.new.frames.items ≤ frames_most token.now.kind (length self.old.frames.items)) }
         ensures fits { (n : ℕ) → TextFits n token.now → NameFits n self.old.name → OpenFits n self.old → OnOk result (Fits n self.new) }
@@ -63,9 +61,7 @@ impl<A: Allocator + Copy> State<A> {
     fn after_item(&mut self, first: u64, cell: u64, token: &Token<'_>) -> Result<(), StepFault>
         requires token { IsTurtleToken token.now }
         requires named { IsNamed token.now.kind self.old.name }
-        ensures gives { (form : DocForm) (s : InForce) → name_at s token.now.kind (leaf token.now) ≡ self.old.name →
-            Gives form s (use_at s token.now.kind (leaf token.now)) result self.new
-            (M.after (setting_in s self.old) (M.InCells first cell (up_in self.old)) token.now.kind (leaf token.now)) }
+        ensures gives { (form : DocForm) → Replies form token.now self.old.name result self.new (λ s. M.after (setting_in s self.old) (M.InCells first cell (up_in self.old))) }
         ensures depth { self.new.depth ≡ self.old.depth }
         ensures stack { OnOk result (length self.new.frames.items ≤ frames_most token.now.kind (length self.old.frames.items)) }
         ensures fits { (n : ℕ) → TextFits n token.now → NameFits n self.old.name → OpenFits n self.old → OnOk result (Fits n self.new) }
@@ -105,8 +101,7 @@ impl<A: Allocator + Copy> State<A> {
     #[inline(always)]
     pub fn semicolon(&mut self, kind: Kind) -> Result<(), StepFault>
         requires named { IsNamed kind self.old.name }
-        ensures gives { (form : DocForm) (s : InForce) (l : Leaf) → name_at s kind l ≡ self.old.name →
-            Gives form s (use_at s kind l) result self.new (M.step form (setting_in s self.old) (semi_at (place_in self.old)) kind l) }
+        ensures gives { (form : DocForm) → RepliesTo form kind self.old.name result self.new (λ s. M.step form (setting_in s self.old) (semi_at (place_in self.old))) }
         ensures depth { self.new.depth ≡ self.old.depth }
         ensures stack { OnOk result (length self.new.frames.items ≤ frames_most kind (length self.old.frames.items)) }
         ensures fits { (n : ℕ) → NameFits n self.old.name → OpenFits n self.old → OnOk result (Fits n self.new) }
@@ -121,9 +116,7 @@ impl<A: Allocator + Copy> State<A> {
     fn after_semicolon(&mut self, around: Around, kind: Kind) -> Result<(), StepFault>
         requires named { IsNamed kind self.old.name }
         requires listed { self.old.frame.container ≡ Container.List around }
-        ensures gives { (form : DocForm) (s : InForce) (l : Leaf) → name_at s kind l ≡ self.old.name →
-            Gives form s (use_at s kind l) result self.new (M.semi (setting_in s self.old) self.old.frame.subject
-            (around_of around (level_of self.old.level) (up_in self.old)) kind l) }
+        ensures gives { (form : DocForm) → RepliesTo form kind self.old.name result self.new (λ s. M.semi (setting_in s self.old) self.old.frame.subject (around_in self.old around)) }
         ensures depth { self.new.depth ≡ self.old.depth }
         ensures stack { OnOk result (length self.new.frames.items ≤ frames_most kind (length self.old.frames.items)) }
         ensures fits { (n : ℕ) → NameFits n self.old.name → OpenFits n self.old → OnOk result (Fits n self.new) }
@@ -144,9 +137,7 @@ impl<A: Allocator + Copy> State<A> {
     #[tactic(auto, using(crate::proofs::machine::Fallbacks::fallbacks))]
     pub fn after_brackets(&mut self, kind: Kind) -> Result<(), StepFault>
         requires named { IsNamed kind self.old.name }
-        ensures gives { (form : DocForm) (s : InForce) (l : Leaf) → name_at s kind l ≡ self.old.name →
-            Gives form s (use_at s kind l) result self.new
-            (M.after_box (setting_in s self.old) self.old.frame.subject (level_of self.old.level) kind l) }
+        ensures gives { (form : DocForm) → RepliesTo form kind self.old.name result self.new (λ s. M.after_box (setting_in s self.old) self.old.frame.subject (level_of self.old.level)) }
         ensures depth { self.new.depth ≡ self.old.depth }
         ensures stack { OnOk result (length self.new.frames.items ≤ frames_most kind (length self.old.frames.items)) }
         ensures fits { (n : ℕ) → NameFits n self.old.name → OpenFits n self.old → self.old.frame.subject.size ≤ n → OnOk result (Fits n self.new) }
@@ -161,9 +152,7 @@ impl<A: Allocator + Copy> State<A> {
     // A verb of a predicate list, whose subject is that of the frame in hand.
     pub fn verb_start(&mut self, around: Around, kind: Kind) -> Result<(), StepFault>
         requires named { IsNamed kind self.old.name }
-        ensures gives { (form : DocForm) (s : InForce) (l : Leaf) → name_at s kind l ≡ self.old.name →
-            Gives form s (use_at s kind l) result self.new (M.verb_start (setting_in s self.old) self.old.frame.subject
-            (around_of around (level_of self.old.level) (up_in self.old)) kind l) }
+        ensures gives { (form : DocForm) → RepliesTo form kind self.old.name result self.new (λ s. M.verb_start (setting_in s self.old) self.old.frame.subject (around_in self.old around)) }
         ensures depth { self.new.depth ≡ self.old.depth }
         ensures stack { OnOk result (length self.new.frames.items ≤ frames_most kind (length self.old.frames.items)) }
         ensures fits { (n : ℕ) → NameFits n self.old.name → OpenFits n self.old → self.old.frame.subject.size ≤ n → OnOk result (Fits n self.new) }
@@ -183,7 +172,7 @@ impl<A: Allocator + Copy> State<A> {
     // The end of a predicate list.
     fn list_end(&mut self, around: Around, kind: Kind) -> Result<(), StepFault>
         ensures gives { (form : DocForm) (s : InForce) (l : Leaf) → Gives form s (use_at s kind l) result self.new
-            (M.list_end (setting_in s self.old) self.old.frame.subject (around_of around (level_of self.old.level) (up_in self.old)) kind l) }
+            (M.list_end (setting_in s self.old) self.old.frame.subject (around_in self.old around) kind l) }
         ensures depth { self.new.depth ≡ self.old.depth }
         ensures stack { OnOk result (length self.new.frames.items ≤ frames_most kind (length self.old.frames.items)) }
         ensures fits { (n : ℕ) → OpenFits n self.old → self.old.frame.subject.size ≤ n → OnOk result (Fits n self.new) }

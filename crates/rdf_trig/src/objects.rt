@@ -25,9 +25,7 @@ impl<A: Allocator + Copy> State<A> {
     pub fn object_start(&mut self, rest: Rest, token: &Token<'_>) -> Result<(), StepFault>
         requires token { IsTurtleToken token.now }
         requires named { IsNamed token.now.kind self.old.name }
-        ensures gives { (form : DocForm) (s : InForce) → name_at s token.now.kind (leaf token.now) ≡ self.old.name →
-            Gives form s (use_at s token.now.kind (leaf token.now)) result self.new (M.object_start (setting_in s self.old) (place_in self.old)
-            (rest_of (graph_of self.old.level self.old.graph) rest) token.now.kind (leaf token.now)) }
+        ensures gives { (form : DocForm) → Replies form token.now self.old.name result self.new (λ s. M.object_start (setting_in s self.old) (place_in self.old) (rest_of (graph_of self.old.level self.old.graph) rest)) }
         ensures depth { self.new.depth ≡ self.old.depth }
         ensures stack { OnOk result (length self.new.frames.items ≤ frames_most token.now.kind (length self.old.frames.items)) }
         ensures fits { (n : ℕ) → TextFits n token.now → NameFits n self.old.name → OpenFits n self.old → OnOk result (Fits n self.new) }
@@ -74,12 +72,10 @@ impl<A: Allocator + Copy> State<A> {
     pub fn after_text(&mut self, token: &Token<'_>) -> Result<(), StepFault>
         requires token { IsTurtleToken token.now }
         requires named { IsNamed token.now.kind self.old.name }
-        ensures gives { (form : DocForm) (s : InForce) → name_at s token.now.kind (leaf token.now) ≡ self.old.name →
-            Gives form s (use_at s token.now.kind (leaf token.now)) result self.new
-            (M.after_text (setting_in s self.old) (text_in self.old) (place_in self.old) token.now.kind (leaf token.now)) }
+        ensures gives { (form : DocForm) → Replies form token.now self.old.name result self.new (λ s. M.after_text (setting_in s self.old) (text_in self.old) (place_in self.old)) }
         ensures depth { self.new.depth ≡ self.old.depth }
         ensures stack { OnOk result (length self.new.frames.items ≤ frames_most token.now.kind (length self.old.frames.items)) }
-        ensures fits { (n : ℕ) → TextFits n token.now → NameFits n self.old.name → OpenFits n self.old → text_bytes self.old ≤ n → OnOk result (Fits n self.new) }
+        ensures fits { KeepsFit token.now self.old (text_bytes self.old) result self.new }
     {
         match token.kind {
             Kind::LangTag | Kind::AtBase | Kind::AtPrefix => {
@@ -98,8 +94,7 @@ impl<A: Allocator + Copy> State<A> {
     // The type of a string.
     pub fn want_type(&mut self, kind: Kind) -> Result<(), StepFault>
         requires named { IsNamed kind self.old.name }
-        ensures gives { (form : DocForm) (s : InForce) (l : Leaf) → name_at s kind l ≡ self.old.name →
-            Gives form s (use_at s kind l) result self.new (M.want_type (setting_in s self.old) (text_in self.old) (place_in self.old) kind l) }
+        ensures gives { (form : DocForm) → RepliesTo form kind self.old.name result self.new (λ s. M.want_type (setting_in s self.old) (text_in self.old) (place_in self.old)) }
         ensures depth { self.new.depth ≡ self.old.depth }
         ensures stack { OnOk result (length self.new.frames.items ≤ frames_most kind (length self.old.frames.items)) }
         ensures fits { (n : ℕ) → NameFits n self.old.name → OpenFits n self.old → text_bytes self.old ≤ n → OnOk result (Fits n self.new) }

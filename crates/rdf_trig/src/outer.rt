@@ -31,14 +31,10 @@ impl<A: Allocator + Copy> State<A> {
     ) -> Result<(), StepFault>
         requires token { IsTurtleToken token.now }
         requires named { IsNamedIn (mode_at form self.old (Mode.Outer outer)) token.now.kind self.old.name }
-        ensures gives { (s : InForce) → let m = mode_at form self.old (Mode.Outer outer) in
-            NameIn s m token.now.kind (leaf token.now) self.old.name →
-            Gives form (scope_in s m token.now.kind (leaf token.now)) (use_in s m token.now.kind (leaf token.now)) result self.new
-            (M.step form (setting s (outer_graph outer self.old.graph)) m token.now.kind (leaf token.now)) }
+        ensures gives { RepliesIn form (mode_at form self.old (Mode.Outer outer)) (outer_graph outer self.old.graph) token.now self.old.name result self.new }
         ensures depth { self.new.depth ≡ self.old.depth }
         ensures stack { OnOk result (length self.new.frames.items ≤ frames_most token.now.kind (length self.old.frames.items)) }
-        ensures fits { (n : ℕ) → TextFits n token.now → NameFits n self.old.name → OpenFits n self.old → outer_bytes outer (text_bytes self.old) self.old.graph ≤ n →
-            OnOk result (Fits n self.new) }
+        ensures fits { KeepsFit token.now self.old (outer_bytes outer (text_bytes self.old) self.old.graph) result self.new }
     {
         match outer {
             Outer::Start => self.start(form, token),
@@ -59,9 +55,7 @@ impl<A: Allocator + Copy> State<A> {
     fn start(&mut self, form: DocForm, token: &Token<'_>) -> Result<(), StepFault>
         requires token { IsTurtleToken token.now }
         requires named { IsNamed token.now.kind self.old.name }
-        ensures gives { (s : InForce) → name_at s token.now.kind (leaf token.now) ≡ self.old.name →
-            Gives form s (use_at s token.now.kind (leaf token.now)) result self.new
-            (M.start form (setting s None) token.now.kind (leaf token.now)) }
+        ensures gives { Replies form token.now self.old.name result self.new (λ s. M.start form (setting s None)) }
         ensures depth { self.new.depth ≡ self.old.depth }
         ensures stack { OnOk result (length self.new.frames.items ≤ frames_most token.now.kind (length self.old.frames.items)) }
         ensures fits { (n : ℕ) → TextFits n token.now → NameFits n self.old.name → OpenFits n self.old → OnOk result (Fits n self.new) }
@@ -80,13 +74,10 @@ impl<A: Allocator + Copy> State<A> {
     fn inside(&mut self, block: Block, token: &Token<'_>) -> Result<(), StepFault>
         requires token { IsTurtleToken token.now }
         requires named { IsNamed token.now.kind self.old.name }
-        ensures gives { (form : DocForm) (s : InForce) → name_at s token.now.kind (leaf token.now) ≡ self.old.name →
-            Gives form s (use_at s token.now.kind (leaf token.now)) result self.new
-            (M.inside form (setting s (block_graph block self.old.graph)) token.now.kind (leaf token.now)) }
+        ensures gives { (form : DocForm) → Replies form token.now self.old.name result self.new (λ s. M.inside form (setting s (block_graph block self.old.graph))) }
         ensures depth { self.new.depth ≡ self.old.depth }
         ensures stack { OnOk result (length self.new.frames.items ≤ frames_most token.now.kind (length self.old.frames.items)) }
-        ensures fits { (n : ℕ) → TextFits n token.now → NameFits n self.old.name → OpenFits n self.old → block_bytes block self.old.graph ≤ n →
-            OnOk result (Fits n self.new) }
+        ensures fits { KeepsFit token.now self.old (block_bytes block self.old.graph) result self.new }
     {
         match token.kind {
             Kind::CloseBrace => {
@@ -157,8 +148,7 @@ impl<A: Allocator + Copy> State<A> {
     fn graph_word(&mut self, token: &Token<'_>) -> Result<(), StepFault>
         requires token { IsTurtleToken token.now }
         requires named { IsNamed token.now.kind self.old.name }
-        ensures gives { (form : DocForm) (s : InForce) → name_at s token.now.kind (leaf token.now) ≡ self.old.name →
-            Gives form s (use_at s token.now.kind (leaf token.now)) result self.new (M.graph_word (setting s None) token.now.kind (leaf token.now)) }
+        ensures gives { (form : DocForm) → Replies form token.now self.old.name result self.new (λ s. M.graph_word (setting s None)) }
         ensures depth { self.new.depth ≡ self.old.depth }
         ensures stack { OnOk result (self.new.frames.items ≡ []) }
         ensures fits { (n : ℕ) → TextFits n token.now → NameFits n self.old.name → OpenFits n self.old →

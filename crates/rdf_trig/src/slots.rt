@@ -37,7 +37,7 @@ impl<A: Allocator> Model for Topic<A> {
     ghost use Rattle.std.specs.Str.{chars};
     ghost use Rattle.std.specs.String.{string_bytes};
     ghost use Rattle.std.specs.Coded.{codes};
-    ghost use Rattle.rdf_trig.specs.Slots.{topic_at, Suits};
+    ghost use Rattle.rdf_trig.specs.Slots.{topic_at, IsOfKind};
     ghost use Rattle.rdf_trig.specs.Machine as M;
     ghost use Rattle.rdf_trig.specs.Coded.{topic_code};
 
@@ -47,7 +47,7 @@ impl<A: Allocator> Model for Topic<A> {
 
     ghost view = { λ t. topic_at t.kind (chars (string_bytes t.text)) };
 
-    ghost invariant = { λ t. Suits t.kind (chars (string_bytes t.text)) };
+    ghost invariant = { λ t. IsOfKind t.kind (chars (string_bytes t.text)) };
 }
 
 impl<A: Allocator> Topic<A> {

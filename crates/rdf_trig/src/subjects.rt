@@ -24,9 +24,7 @@ impl<A: Allocator + Copy> State<A> {
         requires token { IsTurtleToken token.now }
         requires named { IsNamed token.now.kind self.old.name }
         requires frames { self.old.frames.items ≡ [] }
-        ensures gives { (form : DocForm) (s : InForce) → name_at s token.now.kind (leaf token.now) ≡ self.old.name →
-            Gives form s (use_at s token.now.kind (leaf token.now)) result self.new
-            (M.subject_start form (setting_in s self.old) (level_of self.old.level) token.now.kind (leaf token.now)) }
+        ensures gives { (form : DocForm) → Replies form token.now self.old.name result self.new (λ s. M.subject_start form (setting_in s self.old) (level_of self.old.level)) }
         ensures depth { self.new.depth ≡ self.old.depth }
         ensures stack { OnOk result (length self.new.frames.items ≤ frames_most token.now.kind (length self.old.frames.items)) }
         ensures fits { (n : ℕ) → TextFits n token.now → NameFits n self.old.name → OpenFits n self.old → OnOk result (Fits n self.new) }
@@ -57,9 +55,7 @@ impl<A: Allocator + Copy> State<A> {
     // The token after a subject, which outside of a block may be a graph's label in TriG.
     pub fn after_subject(&mut self, form: DocForm, kind: Kind) -> Result<(), StepFault>
         requires named { IsNamed kind self.old.name }
-        ensures gives { (s : InForce) (l : Leaf) → name_at s kind l ≡ self.old.name →
-            Gives form s (use_at s kind l) result self.new (M.step form (setting_in s self.old)
-            (M.after_subject form (level_of self.old.level) self.old.frame.subject) kind l) }
+        ensures gives { RepliesTo form kind self.old.name result self.new (λ s. M.step form (setting_in s self.old) (M.after_subject form (level_of self.old.level) self.old.frame.subject)) }
         ensures depth { self.new.depth ≡ self.old.depth }
         ensures stack { OnOk result (length self.new.frames.items ≤ frames_most kind (length self.old.frames.items)) }
         ensures fits { (n : ℕ) → NameFits n self.old.name → OpenFits n self.old → self.old.frame.subject.size ≤ n → OnOk result (Fits n self.new) }
@@ -77,8 +73,7 @@ impl<A: Allocator + Copy> State<A> {
     fn after_label(&mut self, kind: Kind) -> Result<(), StepFault>
         requires named { IsNamed kind self.old.name }
         requires level { self.old.level ≡ Level.Top }
-        ensures gives { (form : DocForm) (s : InForce) (l : Leaf) → name_at s kind l ≡ self.old.name →
-            Gives form s (use_at s kind l) result self.new (M.after_label (setting s None) self.old.frame.subject kind l) }
+        ensures gives { (form : DocForm) → RepliesTo form kind self.old.name result self.new (λ s. M.after_label (setting s None) self.old.frame.subject) }
         ensures depth { self.new.depth ≡ self.old.depth }
         ensures stack { OnOk result (length self.new.frames.items ≤ frames_most kind (length self.old.frames.items)) }
         ensures fits { (n : ℕ) → NameFits n self.old.name → OpenFits n self.old → self.old.frame.subject.size ≤ n → OnOk result (Fits n self.new) }
@@ -99,8 +94,7 @@ impl<A: Allocator + Copy> State<A> {
     #[tactic(auto, using(crate::proofs::machine::Fallbacks::fallbacks))]
     pub fn bracket(&mut self, node: u64, kind: Kind) -> Result<(), StepFault>
         requires named { IsNamed kind self.old.name }
-        ensures gives { (form : DocForm) (s : InForce) (l : Leaf) → name_at s kind l ≡ self.old.name →
-            Gives form s (use_at s kind l) result self.new (M.box form (setting_in s self.old) node (up_in self.old) kind l) }
+        ensures gives { (form : DocForm) → RepliesTo form kind self.old.name result self.new (λ s. M.box form (setting_in s self.old) node (up_in self.old)) }
         ensures depth { self.new.depth ≡ self.old.depth }
         ensures stack { OnOk result (length self.new.frames.items ≤ frames_most kind (length self.old.frames.items)) }
         ensures fits { (n : ℕ) → NameFits n self.old.name → OpenFits n self.old → OnOk result (Fits n self.new) }
@@ -121,9 +115,7 @@ impl<A: Allocator + Copy> State<A> {
     pub fn paren(&mut self, token: &Token<'_>) -> Result<(), StepFault>
         requires token { IsTurtleToken token.now }
         requires named { IsNamed token.now.kind self.old.name }
-        ensures gives { (form : DocForm) (s : InForce) → name_at s token.now.kind (leaf token.now) ≡ self.old.name →
-            Gives form s (use_at s token.now.kind (leaf token.now)) result self.new
-            (M.paren (setting_in s self.old) (up_in self.old) token.now.kind (leaf token.now)) }
+        ensures gives { (form : DocForm) → Replies form token.now self.old.name result self.new (λ s. M.paren (setting_in s self.old) (up_in self.old)) }
         ensures depth { self.new.depth ≡ self.old.depth }
         ensures stack { OnOk result (length self.new.frames.items ≤ frames_most token.now.kind (length self.old.frames.items)) }
         ensures fits { (n : ℕ) → TextFits n token.now → NameFits n self.old.name → OpenFits n self.old → OnOk result (Fits n self.new) }

@@ -19,10 +19,7 @@ impl<A: Allocator + Copy> State<A> {
     pub fn go_on(&mut self, form: DocForm, token: &Token<'_>) -> Result<(), StepFault>
         requires token { IsTurtleToken token.now }
         requires named { IsNamedIn (mode_in form self.old) token.now.kind self.old.name }
-        ensures gives { (s : InForce) → let m = mode_in form self.old in
-            NameIn s m token.now.kind (leaf token.now) self.old.name →
-            Gives form (scope_in s m token.now.kind (leaf token.now)) (use_in s m token.now.kind (leaf token.now)) result self.new
-            (M.step form (setting s (graph_in self.old)) m token.now.kind (leaf token.now)) }
+        ensures gives { RepliesIn form (mode_in form self.old) (graph_in self.old) token.now self.old.name result self.new }
         ensures depth { self.new.depth ≡ self.old.depth }
         ensures stack { OnOk result (length self.new.frames.items ≤ frames_most token.now.kind (length self.old.frames.items)) }
         ensures fits { (n : ℕ) → TextFits n token.now → NameFits n self.old.name → Fits n self.old → OnOk result (Fits n self.new) }

@@ -65,8 +65,8 @@ fn read_bytes(
 }
 
 /// Whether this was to be reported of a document, and these lines to be put.
-fn is_told(row: &Row, told: Result<Summary, Fault>, sink: &RecordingSink) -> bool {
-    let is_told = match told {
+fn is_answered(row: &Row, answer: Result<Summary, Fault>, sink: &RecordingSink) -> bool {
+    let is_answered = match answer {
         Ok(summary) => {
             row.refused.is_none()
                 && summary.quads == sink.quads
@@ -74,7 +74,7 @@ fn is_told(row: &Row, told: Result<Summary, Fault>, sink: &RecordingSink) -> boo
         }
         Err(fault) => row.refused == Some((fault.reason, fault.offset, fault.line)),
     };
-    is_told && sink.lines.as_slice() == row.lines.as_bytes()
+    is_answered && sink.lines.as_slice() == row.lines.as_bytes()
 }
 
 fn is_read_in_two(alloc: Global, setting: &Setting, row: &Row, cut: usize) -> bool
@@ -85,8 +85,8 @@ fn is_read_in_two(alloc: Global, setting: &Setting, row: &Row, cut: usize) -> bo
     };
     let mut reader = TrigReader::new(alloc, options);
     let mut sink = recording_sink(alloc, 64);
-    let told = read_in_two(&mut reader, row.bytes, cut, &mut sink);
-    is_told(row, told, &sink)
+    let answer = read_in_two(&mut reader, row.bytes, cut, &mut sink);
+    is_answered(row, answer, &sink)
 }
 
 fn is_read_by_bytes(alloc: Global, setting: &Setting, row: &Row) -> bool {
@@ -95,8 +95,8 @@ fn is_read_by_bytes(alloc: Global, setting: &Setting, row: &Row) -> bool {
     };
     let mut reader = TrigReader::new(alloc, options);
     let mut sink = recording_sink(alloc, 64);
-    let told = read_bytes(&mut reader, row.bytes, &mut sink);
-    is_told(row, told, &sink)
+    let answer = read_bytes(&mut reader, row.bytes, &mut sink);
+    is_answered(row, answer, &sink)
 }
 
 fn is_read_at_once(alloc: Global, setting: &Setting, row: &Row) -> bool {

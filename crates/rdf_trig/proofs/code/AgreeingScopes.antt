@@ -150,22 +150,6 @@ outer_none n o t k l (Ok x) a b c h = tt
 outer_none n o t k l (Err r) a b c h =
     λ form s e. none_ordinary s t (outer_of o (text_in n) n.graph) k l r (outer_ordinary o (text_in n) n.graph a b c) e h
 
--- in directives
-pub prefix_looks : (s t : InForce) (w : M.Spelling) (k : Kind) (l : Leaf) (i : Option (List ℕ)) → SameScope s t → LooksUp s (M.WantPrefix w) k l i t
-prefix_looks s t w k l i e = record { admitted = λ a. refl; name = tt; named = tt; scope = e }
-
--- where a directive waits for its IRIREF, any other token has nothing to look up
-pub other_binding : (s t : InForce) (w : M.Spelling) (p : List ℕ) (k : Kind) (l : Leaf) (i : Option (List ℕ)) → (k ≡ IriRef → ⊥) → SameScope s t →
-    LooksUp s (M.WantPrefixIri w p) k l i t
-other_binding s t w p IriRef l i n e = absurd (n refl)
-other_binding s t w p k l i n e = record { admitted = λ a. refl; name = tt; named = tt; scope = e }
-
--- where a base directive waits for its IRIREF, any other token has nothing to look up
-pub other_base : (s t : InForce) (w : M.Spelling) (k : Kind) (l : Leaf) (i : Option (List ℕ)) → (k ≡ IriRef → ⊥) → SameScope s t →
-    LooksUp s (M.WantBaseIri w) k l i t
-other_base s t w IriRef l i n e = absurd (n refl)
-other_base s t w k l i n e = record { admitted = λ a. refl; name = tt; named = tt; scope = e }
-
 -- scopes that agree do so after both have taken a base
 based_same : (s t : InForce) (o : Option (List ℕ)) → SameScope s t → SameScope (with_base s o) (with_base t o)
 based_same s t None e = e
