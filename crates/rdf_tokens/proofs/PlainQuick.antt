@@ -17,16 +17,17 @@ use Rattle.rdf_tokens.specs.declared.states.machine.State.TheVariants.{Start, Ir
 use Rattle.rdf_tokens.specs.declared.states.iri.Iri.TheVariants as iri
 use Rattle.rdf_tokens.specs.declared.states.label.Label.TheVariants as label
 use Rattle.rdf_tokens.specs.declared.states.text.Text.TheVariants as text
-use Rattle.rdf_tokens.specs.declared.states.text.Quote.TheVariants.{Double}
+use Rattle.rdf_tokens.specs.declared.states.text.Quote.{Quote}
+use Rattle.rdf_tokens.specs.declared.states.text.Quote.TheVariants.{Double, Single}
 use Rattle.rdf_tokens.specs.Tokens.{with_length, three_quotes, only_long}
 use Rattle.rdf_tokens.specs.Fixed.{live_by, rows_of}
-use Rattle.rdf_tokens.specs.Front.{Reached, front_by}
+use Rattle.rdf_tokens.specs.Front.{IsAt, Reached, front_by}
 use Rattle.rdf_tokens.specs.Machine.{step, kind_at}
-use Rattle.rdf_tokens.specs.Quick.{IsToken, stands_at, begins_label, begins_label_name, begins_string, begins_iri, ends_name, is_name_end}
+use Rattle.rdf_tokens.specs.Quick.{IsToken, stands_at, begins_label, begins_label_name, quote_byte, has_quote, opens_with, begins_string, is_empty_string, begins_iri, ends_name, is_name_end}
 use Rattle.rdf_tokens.proofs.ByteLemmas.{at-start, ascii_first}
 use Rattle.rdf_tokens.proofs.BareLemmas.{implied, no_long, one_on}
 use Rattle.rdf_tokens.proofs.NumberQuick.{no_first, first_rows}
-use Rattle.rdf_tokens.proofs.QuickLemmas.{settled, first-none, other, low-name}
+use Rattle.rdf_tokens.proofs.QuickLemmas.{settled, first-none, other, not_true, low-name}
 use Rattle.rdf_tokens.proofs.RestLemmas.{reached-run}
 use Rattle.rdf_tokens.proofs.RestStates.{rests_iri, rests_short, rests_label}
 use Rattle.rdf_tokens.proofs.StateLemmas.{reached-step}
@@ -57,10 +58,18 @@ no_quote_first Turtle c (a ∷ b ∷ w) p q =
     ap (λ t. ((t && a == 34) && b == 34) || ((c == 39 && a == 39) && b == 39)) p ∙ ap (λ t. (t && a == 39) && b == 39) q
 
 -- nor where the second is none
-no_quote_second : (d : Dialect) (a : ℕ) (w : List ℕ) → (a == 34) ≡ false → three_quotes d (34 ∷ a ∷ w) ≡ false
-no_quote_second Lines a w p = refl
-no_quote_second Turtle a [] p = refl
-no_quote_second Turtle a (b ∷ w) p = ap (λ t. ((true && t) && b == 34) || ((false && a == 39) && b == 39)) p
+no_quote_second : (d : Dialect) (q : Quote) (a : ℕ) (w : List ℕ) → (a == quote_byte q) ≡ false → three_quotes d (quote_byte q ∷ a ∷ w) ≡ false
+no_quote_second Lines q a w p = refl
+no_quote_second Turtle Double a [] p = refl
+no_quote_second Turtle Single a [] p = refl
+no_quote_second Turtle Double a (b ∷ w) p = ap (λ t. ((true && t) && b == 34) || ((false && a == 39) && b == 39)) p
+no_quote_second Turtle Single a (b ∷ w) p = ap (λ t. ((false && a == 34) && b == 34) || ((true && t) && b == 39)) p
+
+-- nor where the third is none
+no_quote_third : (d : Dialect) (q : Quote) (b : ℕ) (w : List ℕ) → (b == quote_byte q) ≡ false → three_quotes d (quote_byte q ∷ quote_byte q ∷ b ∷ w) ≡ false
+no_quote_third Lines q b w p = refl
+no_quote_third Turtle Double b w p = ap (λ t. t || false) p
+no_quote_third Turtle Single b w p = p
 
 -- A text that begins with a byte of ASCII that is no quote.
 pub quotes_of : (d : Dialect) (bs : List ℕ) (c : ℕ) → IsUtf8 bs → 0 < length bs → c < 128 → get_or bs 0 0 ≡ c → (c == 34) ≡ false → (c == 39) ≡ false → three_quotes d (chars bs) ≡ false
@@ -111,41 +120,84 @@ module _ (d : Dialect) (bs : List ℕ) (end : ℕ) (u : IsUtf8 bs) (e : begins_i
       go Lines = refl
       go Turtle = refl
 
--- a state within a string in double quotes
-abbrev at_short : State → Bool
-at_short (Text (text.Short Double)) = true
-at_short s = false
+-- a state within a string in this quote
+abbrev at_short : Quote → State → Bool
+at_short Double (Text (text.Short Double)) = true
+at_short Single (Text (text.Short Single)) = true
+at_short q s = false
 
 -- that state
-short-state : (s : State) → at_short s ≡ true → s ≡ Text (text.Short Double)
-short-state (Text (text.Short Double)) e = refl
-short-state s e = absurd (false≢true e)
+short-state : (q : Quote) (s : State) → at_short q s ≡ true → s ≡ Text (text.Short q)
+short-state Double (Text (text.Short Double)) e = refl
+short-state Single (Text (text.Short Single)) e = refl
+short-state q s e = absurd (false≢true e)
+
+-- the state after what is no string
+abbrev at_no_string : State → Bool
+at_no_string (Text text.Dead) = true
+at_no_string s = false
+
+-- that state
+no_string-state : (s : State) → at_no_string s ≡ true → s ≡ Text text.Dead
+no_string-state (Text text.Dead) e = refl
+no_string-state s e = absurd (false≢true e)
 
 -- each byte of ASCII: one that stands in strings leads into the string after its quote
-abbrev string_tests : Dialect → ℕ → Bool
-string_tests d c = not (is_ascii_text_byte c) || at_short (step d (Text (text.Opened Double)) c)
+abbrev string_tests : Dialect → Quote → ℕ → Bool
+string_tests d q c = not (is_ascii_text_byte c) || at_short q (step d (Text (text.Opened q)) c)
+
+-- and one that is not the quote leads out of the empty string
+abbrev empty_tests : Dialect → Quote → ℕ → Bool
+empty_tests d q c = c == quote_byte q || at_no_string (step d (Text (text.Empty q)) c)
 
 -- it is so for each of them
-string_all : (d : Dialect) → agree_below (string_tests d) (λ c. true) 128 ≡ true
-string_all Lines = refl
-string_all Turtle = refl
+string_all : (d : Dialect) (q : Quote) → (agree_below (string_tests d q) (λ c. true) 128 ≡ true) × (agree_below (empty_tests d q) (λ c. true) 128 ≡ true)
+string_all Lines Double = (refl, refl)
+string_all Lines Single = (refl, refl)
+string_all Turtle Double = (refl, refl)
+string_all Turtle Single = (refl, refl)
 
--- the step of such a byte
-string-first : (d : Dialect) (c : ℕ) → c < 128 → is_ascii_text_byte c ≡ true → step d (Text (text.Opened Double)) c ≡ Text (text.Short Double)
-string-first d c l e = short-state _ (implied (is_ascii_text_byte c) _ (agree_below_at (string_tests d) (λ c. true) 128 c (string_all d) l) e)
+-- the step of a byte that stands in strings
+string-first : (d : Dialect) (q : Quote) (c : ℕ) → c < 128 → is_ascii_text_byte c ≡ true → step d (Text (text.Opened q)) c ≡ Text (text.Short q)
+string-first d q c l e = short-state q _ (implied (is_ascii_text_byte c) _ (agree_below_at (string_tests d q) (λ c. true) 128 c (string_all d q).0 l) e)
+
+-- that of a byte after two quotes that is not a third
+empty-last : (d : Dialect) (q : Quote) (c : ℕ) → c < 128 → (c == quote_byte q) ≡ false → step d (Text (text.Empty q)) c ≡ Text text.Dead
+empty-last d q c l e = no_string-state _ (other (c == quote_byte q) _ (agree_below_at (empty_tests d q) (λ c. true) 128 c (string_all d q).1 l) e)
 
 -- the steps of the quotes
-opened : (d : Dialect) → Text (text.Opened Double) ≡ step d Start 34
-opened Lines = refl
-opened Turtle = refl
+opened : (d : Dialect) (q : Quote) → has_quote d q ≡ true → Text (text.Opened q) ≡ step d Start (quote_byte q)
+opened Lines Double e = refl
+opened Lines Single e = absurd (false≢true e)
+opened Turtle Double e = refl
+opened Turtle Single e = refl
 
-closed_string : (d : Dialect) → Text text.ShortWhole ≡ step d (Text (text.Short Double)) 34
-closed_string Lines = refl
-closed_string Turtle = refl
+closed_string : (d : Dialect) (q : Quote) → Text text.ShortWhole ≡ step d (Text (text.Short q)) (quote_byte q)
+closed_string Lines Double = refl
+closed_string Lines Single = refl
+closed_string Turtle Double = refl
+closed_string Turtle Single = refl
+
+closed_empty : (d : Dialect) (q : Quote) → Text (text.Empty q) ≡ step d (Text (text.Opened q)) (quote_byte q)
+closed_empty Lines Double = refl
+closed_empty Lines Single = refl
+closed_empty Turtle Double = refl
+closed_empty Turtle Single = refl
+
+-- no spelling begins with a quote, which is ASCII
+quote_spells : (q : Quote) → begins_none (quote_byte q)
+quote_spells Double Lines = refl
+quote_spells Double Turtle = refl
+quote_spells Single Lines = refl
+quote_spells Single Turtle = refl
+
+low_quote : (q : Quote) → quote_byte q < 128
+low_quote Double = omega arith
+low_quote Single = omega arith
 
 -- a byte that stands in strings in ASCII is ASCII, stands in strings, and is no quote
-plain_byte : (c : ℕ) → is_ascii_text_byte c ≡ true → (c < 128) × (is_text_byte c ≡ true) × ((c == 34) ≡ false)
-plain_byte c e = (low c e, text_on c e, no_quote c e)
+plain_byte : (c : ℕ) (q : Quote) → is_ascii_text_byte c ≡ true → (c < 128) × (is_text_byte c ≡ true) × ((c == quote_byte q) ≡ false)
+plain_byte c q e = (low c e, text_on c e, no_quote q c e)
   where
     low : (c : ℕ) → is_ascii_text_byte c ≡ true → c < 128
     low c e = grind (arith, nat_tests)
@@ -153,74 +205,139 @@ plain_byte c e = (low c e, text_on c e, no_quote c e)
     text_on : (c : ℕ) → is_ascii_text_byte c ≡ true → is_text_byte c ≡ true
     text_on c e = (and_parts (is_text_byte c) _ e).0
 
-    no_quote : (c : ℕ) → is_ascii_text_byte c ≡ true → (c == 34) ≡ false
-    no_quote c e = grind (arith, nat_tests)
+    no_quote : (q : Quote) (c : ℕ) → is_ascii_text_byte c ≡ true → (c == quote_byte q) ≡ false
+    no_quote Double c e = grind (arith, nat_tests)
+    no_quote Single c e = grind (arith, nat_tests)
 
--- A string in quotes, without an escape.
-module _ (d : Dialect) (bs : List ℕ) (end : ℕ) (u : IsUtf8 bs) (e : begins_string bs ≡ true) (r : IsRun is_text_byte bs 2 end) (z : stands_at 34 bs end ≡ true) where
-  two : 1 < length bs
-  two = ltb-true 1 (length bs) (and_parts (nat_lt 1 (length bs)) _ e).0
+-- A quote of the dialect comes first.
+module _ (d : Dialect) (q : Quote) (bs : List ℕ) (u : IsUtf8 bs) (o : opens_with d q bs ≡ true) where
+  stands : stands_at (quote_byte q) bs 0 ≡ true
+  stands = (and_parts (has_quote d q) _ o).1
 
-  is_34 : get_or bs 0 0 ≡ 34
-  is_34 = eqb-true (get_or bs 0 0) 34 (and_parts (get_or bs 0 0 == 34) _ (and_parts (nat_lt 1 (length bs)) _ e).1).0
+  some_string : 0 < length bs
+  some_string = ltb-true 0 (length bs) (and_parts (nat_lt 0 (length bs)) _ stands).0
 
-  plain_second : is_ascii_text_byte (get_or bs 1 0) ≡ true
-  plain_second = (and_parts (get_or bs 0 0 == 34) _ (and_parts (nat_lt 1 (length bs)) _ e).1).1
+  is_quote : get_or bs 0 0 ≡ quote_byte q
+  is_quote = eqb-true (get_or bs 0 0) (quote_byte q) (and_parts (nat_lt 0 (length bs)) (get_or bs 0 0 == quote_byte q) stands).1
 
-  inside_string : end < length bs
-  inside_string = ltb-true end (length bs) (and_parts (nat_lt end (length bs)) (get_or bs end 0 == 34) z).0
+  ascii_quote : get_or bs 0 0 < 128
+  ascii_quote = subst (λ n. n < 128) (sym is_quote) (low_quote q)
 
-  ends_34 : get_or bs end 0 ≡ 34
-  ends_34 = eqb-true (get_or bs end 0) 34 (and_parts (nat_lt end (length bs)) (get_or bs end 0 == 34) z).1
+  -- the states after the quote
+  after_quote : Reached d bs 1 (Text (text.Opened q)) None
+  after_quote =
+      first-none d bs (Text (text.Opened q)) u some_string ascii_quote (opened d q (and_parts (has_quote d q) _ o).0 ∙ sym (ap (step d Start) is_quote)) refl
 
-  -- the text does not begin with three quotes
-  one_quote : three_quotes d (chars bs) ≡ false
-  one_quote =
-      let x = plain_byte (get_or bs 1 0) plain_second in
-      let l = two in
-      let s = is_34 in
-      let first = one_on bs 0 (at-start bs u) (omega arith) (omega (arith, s)) in
-      let second = one_on bs 1 first.1 l x.0 in
-      ap (three_quotes d) (first.0 ∙ (ap (λ c. c ∷ drop 1 (chars bs)) s ∙ ap (λ w. 34 ∷ w) second.0)) ∙ no_quote_second d (get_or bs 1 0) (drop 2 (chars bs)) x.2
+  -- no spelling stands there, and none is begun
+  no_spelling : (front_by (rows_of d fixed) bs ≡ None) × (live_by (rows_of d fixed) bs ≡ false)
+  no_spelling = unspelled d (quote_byte q) bs (quote_spells q) some_string is_quote
 
-  -- what it means needs no look at its bytes
-  string_fit : is_fit ShortString (chars (take (end + 1) bs)) ≡ true
-  string_fit = go bs two is_34 u inside_string ends_34 (plain_byte (get_or bs 1 0) plain_second).1 r
+  -- what the token means needs no look at its bytes, which stand in strings up to the second quote
+  string_fit : (end : ℕ) → 0 < end → end < length bs → get_or bs end 0 < 128 → ((k : ℕ) → 1 ≤ k → k < end → is_text_byte (get_or bs k 0) ≡ true) →
+      is_fit ShortString (chars (take (end + 1) bs)) ≡ true
+  string_fit end p i x pass = go bs u ascii_quote i x pass
     where
-      go : (bs : List ℕ) → 1 < length bs → get_or bs 0 0 ≡ 34 → IsUtf8 bs → end < length bs → get_or bs end 0 ≡ 34 → is_text_byte (get_or bs 1 0) ≡ true → IsRun is_text_byte bs 2 end →
+      go : (bs : List ℕ) → IsUtf8 bs → get_or bs 0 0 < 128 → end < length bs → get_or bs end 0 < 128 → ((k : ℕ) → 1 ≤ k → k < end → is_text_byte (get_or bs k 0) ≡ true) →
           is_fit ShortString (chars (take (end + 1) bs)) ≡ true
-      go [] l e u i x p r = absurd (omega arith)
-      go (c ∷ t) l e u i x p r = at_end end r i x
+      go [] u e i x pass = absurd (omega arith)
+      go (c ∷ t) u e i x pass = at_end end p i x pass
         where
-          at_end : (end : ℕ) → IsRun is_text_byte (c ∷ t) 2 end → end < length (c ∷ t) → get_or (c ∷ t) end 0 ≡ 34 → is_fit ShortString (chars (take (end + 1) (c ∷ t))) ≡ true
-          at_end zero r i x = absurd (let from = r.from in omega arith)
-          at_end (suc n) r i x =
+          at_end : (end : ℕ) → 0 < end → end < length (c ∷ t) → get_or (c ∷ t) end 0 < 128 → ((k : ℕ) → 1 ≤ k → k < end → is_text_byte (get_or (c ∷ t) k 0) ≡ true) →
+              is_fit ShortString (chars (take (end + 1) (c ∷ t))) ≡ true
+          at_end zero p i x pass = absurd (omega arith)
+          at_end (suc n) p i x pass =
               let k : n + 2 ≡ suc n + 1 = omega arith in
-              let pass : (k : ℕ) → 0 ≤ k → k < n → is_text_byte (get_or t k 0) ≡ true = passes in
-              subst (λ k. is_fit ShortString (chars (take k (c ∷ t))) ≡ true) k (plain_string_fit c t n u (omega (arith, e)) (omega arith) (omega (arith, x)) pass)
-            where
-              passes : (k : ℕ) → 0 ≤ k → k < n → is_text_byte (get_or t k 0) ≡ true
-              passes zero a b = p
-              passes (suc k) a b = r.pass (suc (suc k)) (omega arith) (omega arith)
+              subst (λ k. is_fit ShortString (chars (take k (c ∷ t))) ≡ true) k
+              (plain_string_fit c t n u e (omega arith) x (λ k a b. pass (suc k) (omega arith) (omega arith)))
 
-  pub quick_string : IsToken d bs (end + 1) ShortString
-  quick_string =
-      let l = two in
-      let n = unspelled d 34 bs (λ d. go d) (omega arith) is_34 in
-      let x = plain_byte (get_or bs 1 0) plain_second in
-      let s = is_34 in
-      let first = first-none d bs (Text (text.Opened Double)) u (omega arith) (omega (arith, s)) (opened d ∙ sym (ap (step d Start) s)) refl in
-      let second = byte_on d bs 1 (Text (text.Opened Double)) (Text (text.Short Double)) None None one_quote l x.0 first (sym (string-first d (get_or bs 1 0) x.0 plain_second)) refl in
-      let none = sym (no_long (three_quotes d (chars bs))) in
-      let run = reached-run d bs 2 end (Text (text.Short Double)) None None none (rests_short Double bs 2 end r) second in
-      let f = ends_34 in
-      let closed = byte_on d bs end (Text (text.Short Double)) (Text text.ShortWhole) (Some ShortString) None one_quote inside_string (omega (arith, f)) run
-      (closed_string d ∙ sym (ap (step d (Text (text.Short Double))) f)) refl in
-      settled d bs (end + 1) (Text text.ShortWhole) (Some (end + 1, ShortString)) None (end + 1) ShortString u closed refl (sym n.0) n.1 refl string_fit
-    where
-      go : begins_none 34
-      go Lines = refl
-      go Turtle = refl
+  -- the first two characters, where the second is ASCII
+  first_two : 1 < length bs → get_or bs 1 0 < 128 → (chars bs ≡ quote_byte q ∷ get_or bs 1 0 ∷ drop 2 (chars bs)) × IsAt bs 2 2
+  first_two l a =
+      let first = one_on bs 0 (at-start bs u) some_string ascii_quote in
+      let second = one_on bs 1 first.1 l a in
+      (first.0 ∙ (ap (λ c. c ∷ drop 1 (chars bs)) is_quote ∙ ap (λ w. quote_byte q ∷ w) second.0), second.1)
+
+  -- Bytes that stand in strings come between the quotes, and no escape.
+  module _ (end : ℕ) (e : begins_string bs ≡ true) (r : IsRun is_text_byte bs 2 end) (z : stands_at (quote_byte q) bs end ≡ true) where
+    two : 1 < length bs
+    two = ltb-true 1 (length bs) (and_parts (nat_lt 1 (length bs)) _ e).0
+
+    plain_second : is_ascii_text_byte (get_or bs 1 0) ≡ true
+    plain_second = (and_parts (nat_lt 1 (length bs)) _ e).1
+
+    inside_string : end < length bs
+    inside_string = ltb-true end (length bs) (and_parts (nat_lt end (length bs)) _ z).0
+
+    ends : get_or bs end 0 ≡ quote_byte q
+    ends = eqb-true (get_or bs end 0) (quote_byte q) (and_parts (nat_lt end (length bs)) (get_or bs end 0 == quote_byte q) z).1
+
+    ascii_end : get_or bs end 0 < 128
+    ascii_end = subst (λ n. n < 128) (sym ends) (low_quote q)
+
+    -- the text does not begin with three quotes
+    one_quote : three_quotes d (chars bs) ≡ false
+    one_quote =
+        let x = plain_byte (get_or bs 1 0) q plain_second in
+        ap (three_quotes d) (first_two two x.0).0 ∙ no_quote_second d q (get_or bs 1 0) (drop 2 (chars bs)) x.2
+
+    passes : (k : ℕ) → 1 ≤ k → k < end → is_text_byte (get_or bs k 0) ≡ true
+    passes zero a b = absurd (omega arith)
+    passes (suc zero) a b = (plain_byte (get_or bs 1 0) q plain_second).1
+    passes (suc (suc k)) a b = r.pass (suc (suc k)) (omega arith) b
+
+    pub quick_string : IsToken d bs (end + 1) ShortString
+    quick_string =
+        let x = plain_byte (get_or bs 1 0) q plain_second in
+        let second = byte_on d bs 1 (Text (text.Opened q)) (Text (text.Short q)) None None one_quote two x.0 after_quote (sym (string-first d q (get_or bs 1 0) x.0 plain_second)) refl in
+        let none = sym (no_long (three_quotes d (chars bs))) in
+        let run = reached-run d bs 2 end (Text (text.Short q)) None None none (rests_short q bs 2 end r) second in
+        let closed = byte_on d bs end (Text (text.Short q)) (Text text.ShortWhole) (Some ShortString) None one_quote inside_string ascii_end run
+        (closed_string d q ∙ sym (ap (step d (Text (text.Short q))) ends)) refl in
+        let from = r.from in
+        settled d bs (end + 1) (Text text.ShortWhole) (Some (end + 1, ShortString)) None (end + 1) ShortString u closed refl (sym no_spelling.0) no_spelling.1 refl
+        (string_fit end (omega arith) inside_string ascii_end passes)
+
+  -- The second byte is the quote too, and the third another byte of ASCII.
+  module _ (e : is_empty_string q bs ≡ true) where
+    second_stands : stands_at (quote_byte q) bs 1 ≡ true
+    second_stands = (and_parts (stands_at (quote_byte q) bs 1) _ e).0
+
+    third : (nat_lt 2 (length bs) && (nat_lt (get_or bs 2 0) 128 && not (get_or bs 2 0 == quote_byte q))) ≡ true
+    third = (and_parts (stands_at (quote_byte q) bs 1) _ e).1
+
+    three_bytes : 2 < length bs
+    three_bytes = ltb-true 2 (length bs) (and_parts (nat_lt 2 (length bs)) _ third).0
+
+    ascii_third : get_or bs 2 0 < 128
+    ascii_third = ltb-true (get_or bs 2 0) 128 (and_parts (nat_lt (get_or bs 2 0) 128) _ (and_parts (nat_lt 2 (length bs)) _ third).1).0
+
+    no_third : (get_or bs 2 0 == quote_byte q) ≡ false
+    no_third = not_true _ (and_parts (nat_lt (get_or bs 2 0) 128) _ (and_parts (nat_lt 2 (length bs)) _ third).1).1
+
+    is_second : get_or bs 1 0 ≡ quote_byte q
+    is_second = eqb-true (get_or bs 1 0) (quote_byte q) (and_parts (nat_lt 1 (length bs)) (get_or bs 1 0 == quote_byte q) second_stands).1
+
+    ascii_second : get_or bs 1 0 < 128
+    ascii_second = subst (λ n. n < 128) (sym is_second) (low_quote q)
+
+    -- the text does not begin with three quotes
+    two_quotes : three_quotes d (chars bs) ≡ false
+    two_quotes =
+        let l = three_bytes in
+        let x = first_two (omega arith) ascii_second in
+        let third = one_on bs 2 x.1 l ascii_third in
+        ap (three_quotes d) (x.0 ∙ (ap (λ c. quote_byte q ∷ c ∷ drop 2 (chars bs)) is_second ∙ ap (λ w. quote_byte q ∷ quote_byte q ∷ w) third.0))
+        ∙ no_quote_third d q (get_or bs 2 0) (drop 3 (chars bs)) no_third
+
+    pub quick_empty : IsToken d bs 2 ShortString
+    quick_empty =
+        let l = three_bytes in
+        let second = byte_on d bs 1 (Text (text.Opened q)) (Text (text.Empty q)) (Some ShortString) None two_quotes (omega arith) ascii_second after_quote
+        (closed_empty d q ∙ sym (ap (step d (Text (text.Opened q))) is_second)) refl in
+        let over = byte_on d bs 2 (Text (text.Empty q)) (Text text.Dead) None (Some (2, ShortString)) two_quotes l ascii_third second
+        (sym (empty-last d q (get_or bs 2 0) ascii_third no_third)) refl in
+        settled d bs 3 (Text text.Dead) (Some (2, ShortString)) None 2 ShortString u over refl (sym no_spelling.0) no_spelling.1 refl
+        (string_fit 1 (omega arith) (omega arith) ascii_second (λ k a b. absurd (omega arith)))
 
 -- a state within the name of a label
 abbrev at_label : State → Bool

@@ -1,5 +1,5 @@
 -- Tokens that the first bytes of a text settle: the states end after them, and no spelling is longer or begins so.
-use Rattle.std.proofs.Common.{◌≡◌, ℕ, zero, suc, ◌+◌, ◌<◌, ◌≤◌, Bool, true, false, cond, nat_lt, List, [], ◌∷◌, ◌&&◌, ◌||◌, ◌==◌, not, refl, sym, ap, ◌∙◌, subst, length, get_or, take, arith, Option, Some, None, IsUtf8, lt-ltb}
+use Rattle.std.proofs.Common.{◌≡◌, ℕ, zero, suc, ◌+◌, ◌<◌, ◌≤◌, Bool, true, false, cond, nat_lt, List, [], ◌∷◌, ◌&&◌, ◌||◌, ◌==◌, not, refl, sym, ap, ◌∙◌, subst, length, get_or, take, drop, inl, inr, arith, Option, Some, None, IsUtf8, lt-ltb}
 use Rattle.std.proofs.lemmas.Bool.{agree_below_at, and_parts, false≢true, eqb-true, ltb-true}
 use Rattle.std.proofs.lemmas.Bool.Decides.{nat_tests}
 use Rattle.std.proofs.lemmas.Str.{encode_ascii, length-encode}
@@ -21,7 +21,7 @@ use Rattle.rdf_tokens.specs.Tokens.{with_length, three_quotes, only_long}
 use Rattle.rdf_tokens.specs.Fixed.{Row, fits, left, is_begun, live_by, rows_of}
 use Rattle.rdf_tokens.specs.Front.{Reached, longer_front, begins, row_front, front_by, state_of}
 use Rattle.rdf_tokens.specs.Machine.{step, kind_at, goes_on}
-use Rattle.rdf_tokens.specs.Quick.{IsToken, IsQuick, single, is_sought, is_colon, ends_name, is_name_end, is_a, is_dot, begins_number}
+use Rattle.rdf_tokens.specs.Quick.{IsToken, IsQuick, single, is_sought, is_named, IsPrefix, is_colon, ends_name, is_name_end, is_a, is_dot, begins_number}
 use Rattle.rdf_tokens.proofs.ByteLemmas.{at-start, ascii_first}
 use Rattle.rdf_tokens.proofs.BareLemmas.{implied, low-letter, letter_steps, no_long, no_quotes, one_on}
 use Rattle.rdf_tokens.proofs.RestLemmas.{reached-run}
@@ -107,7 +107,16 @@ single-is : (d : Dialect) (c : ℕ) (k : Kind) → single d c ≡ Some k → IsS
 single-is Lines c k e = single-lines c k e
 single-is Turtle c k e = single-turtle c k e
 
--- the states after the first byte, where they have no kind
+-- the states after the first byte of a text that does not begin with three quotes
+pub first-kind : (d : Dialect) (bs : List ℕ) (s : State) (k : Option Kind) → IsUtf8 bs → 0 < length bs → get_or bs 0 0 < 128 → s ≡ step d Start (get_or bs 0 0) →
+    three_quotes d (chars bs) ≡ false → k ≡ kind_at s → Reached d bs 1 s (with_length 1 k None)
+first-kind d bs s k u l a es q ek =
+    let c = get_or bs 0 0 in
+    let kind : with_length 1 (only_long (three_quotes d (chars bs)) (kind_at s)) None ≡ with_length 1 k None =
+    ap (λ x. with_length 1 (only_long x (kind_at s)) None) q ∙ ap (λ k. with_length 1 k None) (sym ek) in
+    subst (Reached d bs 1 s) kind (reached-first d bs 1 c s u (ascii_first bs 0 l a) (omega (arith, ap length (encode_ascii c a), length-encode c)) (omega arith) es)
+
+-- those that have no kind, whatever comes after
 pub first-none : (d : Dialect) (bs : List ℕ) (s : State) → IsUtf8 bs → 0 < length bs → get_or bs 0 0 < 128 → s ≡ step d Start (get_or bs 0 0) → kind_at s ≡ None → Reached d bs 1 s None
 first-none d bs s u l a es k =
     let c = get_or bs 0 0 in
@@ -257,14 +266,39 @@ name-fit : (w : List ℕ) → (is_fit PnameNs w ≡ true) × (is_fit PnameLn w �
 unfolding is_fit
 name-fit w = (refl, refl)
 
--- A run of name bytes that begins with a letter, a colon, and a run of name bytes after it that ends before the text does.
-module _ (bs : List ℕ) (colon end : ℕ) (u : IsUtf8 bs) (l : 0 < length bs) (e : is_letter (get_or bs 0 0) ≡ true) (r : IsRun is_name_byte bs 1 colon)
-    (m : is_colon bs colon ≡ true) (q : IsRun is_name_byte bs (colon + 1) end) (z : is_name_end bs end ≡ true) where
+-- no three quotes come first where a colon does
+colon-quotes : (w : List ℕ) → three_quotes Turtle (58 ∷ w) ≡ false
+colon-quotes [] = refl
+colon-quotes (a ∷ []) = refl
+colon-quotes (a ∷ b ∷ w) = refl
+
+-- A prefix, which may be empty, a colon, and a run of name bytes after it that ends before the text does.
+module _ (bs : List ℕ) (colon end : ℕ) (u : IsUtf8 bs) (p : IsPrefix bs colon) (m : is_colon bs colon ≡ true) (q : IsRun is_name_byte bs (colon + 1) end)
+    (z : is_name_end bs end ≡ true) where
+  inside : colon < length bs
+  inside = ltb-true colon (length bs) (and_parts _ _ m).0
+
+  is_58 : get_or bs colon 0 ≡ 58
+  is_58 = eqb-true (get_or bs colon 0) 58 (and_parts _ _ m).1
+
+  some : 0 < length bs
+  some = let i = inside in omega arith
+
+  -- where the prefix is empty, the colon comes first
+  first_58 : colon ≡ 0 → get_or bs 0 0 ≡ 58
+  first_58 x = subst (λ n. get_or bs n 0 ≡ 58) x is_58
+
   -- such a text does not begin with three quotes
   quotes : three_quotes Turtle (chars bs) ≡ false
-  quotes =
-      let c = get_or bs 0 0 in
-      ap (three_quotes Turtle) (one_on bs 0 (at-start bs u) l (low-letter c e)).0 ∙ no_quotes c _ e
+  quotes = by_prefix p
+    where
+      by_prefix : IsPrefix bs colon → three_quotes Turtle (chars bs) ≡ false
+      by_prefix (inl x) =
+          let f = first_58 x in
+          ap (three_quotes Turtle) ((one_on bs 0 (at-start bs u) some (omega (arith, f))).0 ∙ ap (λ c. c ∷ drop 1 (chars bs)) f) ∙ colon-quotes (drop 1 (chars bs))
+      by_prefix (inr h) =
+          let c = get_or bs 0 0 in
+          ap (three_quotes Turtle) (one_on bs 0 (at-start bs u) some (low-letter c h.0)).0 ∙ no_quotes c _ h.0
 
   -- one byte of ASCII on
   byte_on : (at : ℕ) (s t : State) (k : Option Kind) (b : Option (ℕ × Kind)) → at < length bs → get_or bs at 0 < 128 → Reached Turtle bs at s b →
@@ -274,21 +308,22 @@ module _ (bs : List ℕ) (colon end : ℕ) (u : IsUtf8 bs) (l : 0 < length bs) (
       reached-step Turtle bs at (at + 1) c s t k b (with_length (at + 1) k b) h (ascii_first bs at i a) (omega (arith, ap length (encode_ascii c a), length-encode c)) (omega arith) es
       (ek ∙ sym (ap (λ x. only_long x (kind_at t)) quotes)) refl
 
-  inside : colon < length bs
-  inside = ltb-true colon (length bs) (and_parts _ _ m).0
-
-  is_58 : get_or bs colon 0 ≡ 58
-  is_58 = eqb-true (get_or bs colon 0) 58 (and_parts _ _ m).1
-
   -- the states after the colon
-  behind : Reached Turtle bs (colon + 1) (Name name.Colon) (Some (colon + 1, PnameNs))
-  behind =
-      let c = get_or bs 0 0 in
-      let none = sym (no_long (three_quotes Turtle (chars bs))) in
-      let first = first-none Turtle bs (Name name.Prefix) u l (low-letter c e) (sym (letter_steps c e).0) refl in
-      let prefix = reached-run Turtle bs 1 colon (Name name.Prefix) None None none (rests_prefix bs 1 colon r) first in
-      let i = inside in
-      byte_on colon (Name name.Prefix) (Name name.Colon) (Some PnameNs) None i (omega (arith, is_58)) prefix (ap (step Turtle (Name name.Prefix)) (sym is_58)) refl
+  after : Reached Turtle bs (colon + 1) (Name name.Colon) (Some (colon + 1, PnameNs))
+  after = by_prefix p
+    where
+      by_prefix : IsPrefix bs colon → Reached Turtle bs (colon + 1) (Name name.Colon) (Some (colon + 1, PnameNs))
+      by_prefix (inl x) =
+          let f = first_58 x in
+          subst (λ n. Reached Turtle bs (n + 1) (Name name.Colon) (Some (n + 1, PnameNs))) (sym x)
+          (first-kind Turtle bs (Name name.Colon) (Some PnameNs) u some (omega (arith, f)) (sym (ap (step Turtle Start) f)) quotes refl)
+      by_prefix (inr h) =
+          let c = get_or bs 0 0 in
+          let none = sym (no_long (three_quotes Turtle (chars bs))) in
+          let first = first-none Turtle bs (Name name.Prefix) u some (low-letter c h.0) (sym (letter_steps c h.0).0) refl in
+          let prefix = reached-run Turtle bs 1 colon (Name name.Prefix) None None none (rests_prefix bs 1 colon h.1) first in
+          let i = inside in
+          byte_on colon (Name name.Prefix) (Name name.Colon) (Some PnameNs) None i (omega (arith, is_58)) prefix (ap (step Turtle (Name name.Prefix)) (sym is_58)) refl
 
   -- and after the byte that ends the name
   over : (s : State) (k : Kind) → Reached Turtle bs end s (Some (end, k)) → step Turtle s (get_or bs end 0) ≡ Name name.Dead → ((w : List ℕ) → is_fit k w ≡ true) → IsToken Turtle bs end k
@@ -308,7 +343,7 @@ module _ (bs : List ℕ) (colon end : ℕ) (u : IsUtf8 bs) (l : 0 < length bs) (
 
   -- nothing stands after the colon, and the token is a namespace
   pub quick_namespace : end ≡ colon + 1 → IsToken Turtle bs end PnameNs
-  quick_namespace x = over (Name name.Colon) PnameNs (subst (λ n. Reached Turtle bs n (Name name.Colon) (Some (n, PnameNs))) (sym x) behind) ended.0 (λ w. (name-fit w).0)
+  quick_namespace x = over (Name name.Colon) PnameNs (subst (λ n. Reached Turtle bs n (Name name.Colon) (Some (n, PnameNs))) (sym x) after) ended.0 (λ w. (name-fit w).0)
 
   -- a local part stands there
   pub quick_local : (end ≡ colon + 1 → ⊥) → (get_or bs (colon + 1) 0 ≡ 45 → ⊥) → IsToken Turtle bs end PnameLn
@@ -318,7 +353,7 @@ module _ (bs : List ℕ) (colon end : ℕ) (u : IsUtf8 bs) (l : 0 < length bs) (
       let more : colon + 1 < end = omega (arith, n) in
       let c = get_or bs (colon + 1) 0 in
       let named : is_name_byte c ≡ true = q.pass (colon + 1) (omega arith) more in
-      let first = byte_on (colon + 1) (Name name.Colon) (Name name.Local) (Some PnameLn) (Some (colon + 1, PnameNs)) (omega arith) (low-name c named) behind (sym (local-first c named (no_hyphen c h))) refl in
+      let first = byte_on (colon + 1) (Name name.Colon) (Name name.Local) (Some PnameLn) (Some (colon + 1, PnameNs)) (omega arith) (low-name c named) after (sym (local-first c named (no_hyphen c h))) refl in
       let rest : IsRun is_name_byte bs (colon + 1 + 1) end = record { from = omega arith; within = within; pass = λ k a b. q.pass k (omega arith) b; stops = q.stops } in
       let kind : Some PnameLn ≡ only_long (three_quotes Turtle (chars bs)) (Some PnameLn) = sym (ap (λ x. only_long x (Some PnameLn)) quotes) in
       let all = reached-run Turtle bs (colon + 1 + 1) end (Name name.Local) (Some PnameLn) (Some (colon + 1, PnameNs)) kind (rests_local bs (colon + 1 + 1) end rest) first in
@@ -332,6 +367,11 @@ quick_kind d bs (Some k) u l e = quick_single d bs k u l (sym e)
 -- a length that is not 0
 pub some-bytes : (n : ℕ) → (n == 0) ≡ false → 0 < n
 some-bytes n e = grind (arith, nat_tests)
+
+-- where a colon comes first
+pub named : (d : Dialect) (bs : List ℕ) → is_named d bs ≡ true → (d ≡ Turtle) × (is_colon bs 0 ≡ true)
+named Lines bs e = absurd (false≢true e)
+named Turtle bs e = (refl, e)
 
 -- where a name is sought
 pub sought : (d : Dialect) (bs : List ℕ) (b : Option Bare) → is_sought d bs b ≡ true → (d ≡ Turtle) × (is_letter (get_or bs 0 0) ≡ true)

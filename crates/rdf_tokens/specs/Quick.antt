@@ -1,15 +1,17 @@
 -- Tokens that the first bytes of a text settle.
-use Rattle.std.specs.Prelude.{◌≡◌, ◌+◌, ℕ, Bool, true, false, cond, not, ◌&&◌, ◌||◌, ◌==◌, nat_lt, List, [], ◌∷◌, length, get_or, take, Option, None, Some}
+use Rattle.std.specs.Prelude.{◌≡◌, ◌+◌, ℕ, Bool, true, false, cond, not, ◌&&◌, ◌||◌, ◌==◌, nat_lt, List, [], ◌∷◌, length, get_or, take, Option, None, Some, ◌⊎◌}
 use Rattle.std.specs.Str.{chars}
 use Rattle.rdf_terms.specs.declared.kind.Dialect.{Dialect}
 use Rattle.rdf_terms.specs.declared.kind.Dialect.TheVariants.{Lines, Turtle}
 use Rattle.rdf_terms.specs.declared.kind.Kind.{Kind}
 use Rattle.rdf_terms.specs.declared.kind.Kind.TheVariants.{Dot, LineEnd, Semicolon, Comma, OpenBracket, CloseBracket, OpenParen, CloseParen, OpenBrace, CloseBrace}
 use Rattle.rdf_terms.specs.Classes.{is_digit, is_letter, is_turtle, one_of}
-use Rattle.rdf_terms.specs.Runs.{is_name_byte, is_ascii_text_byte}
+use Rattle.rdf_terms.specs.Runs.{IsRun, is_name_byte, is_ascii_text_byte}
 use Rattle.rdf_terms.specs.Shapes.{is_live}
 use Rattle.rdf_terms.specs.Values.{is_fit}
 use Rattle.rdf_tokens.specs.declared.front.Bare.{Bare}
+use Rattle.rdf_tokens.specs.declared.states.text.Quote.{Quote}
+use Rattle.rdf_tokens.specs.declared.states.text.Quote.TheVariants.{Double, Single}
 use Rattle.rdf_tokens.specs.Tokens.{longest}
 use Rattle.rdf_tokens.specs.Front.{in_bytes}
 
@@ -42,6 +44,14 @@ is_sought d bs b = not (stands_bare (length bs) b) && (is_turtle d && is_letter 
 -- ':' stands at a place
 abbrev pub is_colon : List ℕ → ℕ → Bool
 is_colon bs at = nat_lt at (length bs) && get_or bs at 0 == 58
+
+-- a colon of Turtle comes first
+abbrev pub is_named : Dialect → List ℕ → Bool
+is_named d bs = is_turtle d && is_colon bs 0
+
+-- the bytes before a place are a prefix: none, or a letter and a run of letters, digits, '_' and '-'
+abbrev pub IsPrefix : List ℕ → ℕ → Type 0
+IsPrefix bs colon = (colon ≡ 0) ⊎ ((is_letter (get_or bs 0 0) ≡ true) × IsRun is_name_byte bs 1 colon)
 
 -- a byte of ASCII that is none of ':', '.', '%' and a backslash: no name goes on with it but with a letter, a digit, '_' or '-'
 abbrev pub ends_name : ℕ → Bool
@@ -95,9 +105,28 @@ begins_label_name b = is_name_byte b && not (b == 45)
 abbrev pub begins_label : List ℕ → Bool
 begins_label bs = nat_lt 2 (length bs) && ((get_or bs 0 0 == 95) && ((get_or bs 1 0 == 58) && begins_label_name (get_or bs 2 0)))
 
--- a double quote comes first, and a byte of ASCII that stands in strings as it is
+-- the byte of a quote
+abbrev pub quote_byte : Quote → ℕ
+quote_byte Double = 34
+quote_byte Single = 39
+
+-- the dialect has strings in this quote
+abbrev pub has_quote : Dialect → Quote → Bool
+has_quote d Double = true
+has_quote d Single = is_turtle d
+
+-- such a quote comes first
+abbrev pub opens_with : Dialect → Quote → List ℕ → Bool
+opens_with d q bs = has_quote d q && stands_at (quote_byte q) bs 0
+
+-- a byte of ASCII comes second that stands in strings as it is
 abbrev pub begins_string : List ℕ → Bool
-begins_string bs = nat_lt 1 (length bs) && ((get_or bs 0 0 == 34) && is_ascii_text_byte (get_or bs 1 0))
+begins_string bs = nat_lt 1 (length bs) && is_ascii_text_byte (get_or bs 1 0)
+
+-- the quote comes second too, and another byte of ASCII third
+abbrev pub is_empty_string : Quote → List ℕ → Bool
+is_empty_string q bs =
+    stands_at (quote_byte q) bs 1 && (nat_lt 2 (length bs) && (nat_lt (get_or bs 2 0) 128 && not (get_or bs 2 0 == quote_byte q)))
 
 -- '<' comes first
 abbrev pub begins_iri : List ℕ → Bool

@@ -4,10 +4,15 @@ ghost use Rattle.std.specs.Prelude.{◌≡◌, ◌<◌, ◌≤◌, true, length,
 ghost use Rattle.rdf_terms.specs.Classes.{is_digit, is_letter};
 ghost use Rattle.rdf_terms.specs.declared.kind.Dialect.{Dialect};
 ghost use Rattle.rdf_terms.specs.declared.kind.Dialect.TheVariants.{Turtle};
-ghost use Rattle.rdf_tokens.specs.Quick.{IsQuick, single, is_sought, is_colon, ends_name, is_name_end, is_a, is_dot, begins_number, is_point, is_integer_end, is_decimal_end, ends_integer, ends_number, begins_iri, begins_string, begins_label, begins_label_name, begins_tag, begins_directive, is_part_byte, is_tag_end, is_later_end, stands_at};
+ghost use Rattle.rdf_tokens.specs.Quick.{IsQuick, single, stands_at};
+ghost use Rattle.rdf_tokens.specs.Quick.{is_sought, is_named, IsPrefix, is_colon, ends_name, is_name_end, is_a};
+ghost use Rattle.rdf_tokens.specs.Quick.{is_dot, begins_number, is_point, is_integer_end, is_decimal_end, ends_integer, ends_number};
+ghost use Rattle.rdf_tokens.specs.Quick.{begins_iri, quote_byte, opens_with, begins_string, is_empty_string, begins_label, begins_label_name};
+ghost use Rattle.rdf_tokens.specs.Quick.{begins_tag, begins_directive, is_part_byte, is_tag_end, is_later_end};
 ghost use Rattle.rdf_terms.specs.Runs.{IsRun, is_ascii_text_byte};
 
 use crate::front::{Bare, begins_in_letter};
+use crate::states::text::Quote;
 use rdf_terms::runs::{Run, run_end};
 use rdf_terms::{Dialect, Kind};
 
@@ -35,6 +40,9 @@ pub(crate) fn quick_front(dialect: Dialect, text: &str, bare: &Option<Bare>) -> 
     if is_sought(dialect, bytes, bare) {
         return quick_name(text);
     }
+    if is_named(dialect, bytes) {
+        return quick_local(text, 0);
+    }
     if is_dot(dialect, bytes) {
         return Quick {
             len: 1,
@@ -44,10 +52,16 @@ pub(crate) fn quick_front(dialect: Dialect, text: &str, bare: &Option<Bare>) -> 
     if begins_number(dialect, bytes) {
         return quick_number(text);
     }
+    if opens_with(dialect, Quote::Single, bytes) {
+        return quick_string(dialect, Quote::Single, text);
+    }
+    if opens_with(dialect, Quote::Double, bytes) {
+        return quick_string(dialect, Quote::Double, text);
+    }
     quick_plain(text)
 }
 
-/// A token without an escape that begins with `<`, `"`, `_:` or `@`.
+/// A token without an escape that begins with `<`, `_:` or `@`.
 #[inline(always)]
 fn quick_plain(text: &str) -> Quick
     requires some { 0 < length text.now }
@@ -56,9 +70,6 @@ fn quick_plain(text: &str) -> Quick
     let bytes = text.as_bytes();
     if begins_iri(bytes) {
         return quick_iri(text);
-    }
-    if begins_string(bytes) {
-        return quick_string(text);
     }
     if begins_label(bytes) {
         return quick_label(text);
@@ -101,12 +112,44 @@ fn quick_iri(text: &str) -> Quick
     Quick { len: 0, kind: None }
 }
 
-/// Whether a quote comes first, and a byte of ASCII that stands in strings as it is.
+/// The byte of a quote.
+#[inline(always)]
+fn quote_byte(quote: Quote) -> u8
+    ensures { result ≡ quote_byte quote }
+{
+    match quote {
+        Quote::Double => b'"',
+        Quote::Single => b'\'',
+    }
+}
+
+/// Whether this quote comes first. The line formats have the double one alone.
+#[inline(always)]
+fn opens_with(dialect: Dialect, quote: Quote, bytes: &[u8]) -> bool
+    ensures { result ≡ opens_with dialect quote bytes.now }
+{
+    let is_quote = match quote {
+        Quote::Double => true,
+        Quote::Single => dialect == Dialect::Turtle,
+    };
+    is_quote && stands_at(quote_byte(quote), bytes, 0)
+}
+
+/// Whether a byte of ASCII comes second that stands in strings as it is.
 #[inline(always)]
 fn begins_string(bytes: &[u8]) -> bool
     ensures { result ≡ begins_string bytes.now }
 {
-    bytes.len() > 1 && bytes[0] == b'"' && is_plain(bytes[1])
+    bytes.len() > 1 && is_plain(bytes[1])
+}
+
+/// Whether the same quote comes second, and another byte of ASCII third.
+#[inline(always)]
+fn is_empty_string(quote: Quote, bytes: &[u8]) -> bool
+    ensures { result ≡ is_empty_string quote bytes.now }
+{
+    let byte = quote_byte(quote);
+    stands_at(byte, bytes, 1) && bytes.len() > 2 && bytes[2] < 128 && bytes[2] != byte
 }
 
 #[inline(always)]
@@ -116,15 +159,24 @@ fn is_plain(byte: u8) -> bool
     !matches!(byte, b'"' | b'\'' | b'\\' | b'\n' | b'\r') && byte < 128
 }
 
-/// A string in quotes.
+/// A string in quotes, up to the next byte that is a quote, a backslash or the end of a line.
 #[inline(always)]
-fn quick_string(text: &str) -> Quick
-    requires { begins_string text.now ≡ true }
-    ensures { (dialect : Dialect) → IsQuick dialect text.now result.len result.kind }
+fn quick_string(dialect: Dialect, quote: Quote, text: &str) -> Quick
+    requires { opens_with dialect quote text.now ≡ true }
+    ensures { IsQuick dialect text.now result.len result.kind }
 {
     let bytes = text.as_bytes();
+    if is_empty_string(quote, bytes) {
+        return Quick {
+            len: 2,
+            kind: Some(Kind::ShortString),
+        };
+    }
+    if !begins_string(bytes) {
+        return Quick { len: 0, kind: None };
+    }
     let end = run_end(Run::Text, bytes, 2);
-    if stands_at(b'"', bytes, end) {
+    if stands_at(quote_byte(quote), bytes, end) {
         return Quick {
             len: end + 1,
             kind: Some(Kind::ShortString),
@@ -312,22 +364,7 @@ fn quick_name(text: &str) -> Quick
     let bytes = text.as_bytes();
     let colon = run_end(Run::Name, bytes, 1);
     if is_colon(bytes, colon) {
-        let local = colon + 1;
-        let end = run_end(Run::Name, bytes, local);
-        if is_name_end(bytes, end) {
-            if end == local {
-                return Quick {
-                    len: end,
-                    kind: Some(Kind::PnameNs),
-                };
-            }
-            if bytes[local] != b'-' {
-                return Quick {
-                    len: end,
-                    kind: Some(Kind::PnameLn),
-                };
-            }
-        }
+        return quick_local(text, colon);
     }
     if is_a(bytes, colon) {
         return Quick {
@@ -336,6 +373,42 @@ fn quick_name(text: &str) -> Quick
         };
     }
     Quick { len: 0, kind: None }
+}
+
+/// A name of Turtle, whose prefix ends before the colon at this place. Its local part is of letters, digits, `_` and `-`, or empty.
+#[inline(always)]
+fn quick_local(text: &str, colon: usize) -> Quick
+    requires prefix { IsPrefix text.now colon }
+    requires colon { is_colon text.now colon ≡ true }
+    ensures { IsQuick Turtle text.now result.len result.kind }
+{
+    let bytes = text.as_bytes();
+    let local = colon + 1;
+    let end = run_end(Run::Name, bytes, local);
+    if !is_name_end(bytes, end) {
+        return Quick { len: 0, kind: None };
+    }
+    if end == local {
+        return Quick {
+            len: end,
+            kind: Some(Kind::PnameNs),
+        };
+    }
+    if bytes[local] == b'-' {
+        return Quick { len: 0, kind: None };
+    }
+    Quick {
+        len: end,
+        kind: Some(Kind::PnameLn),
+    }
+}
+
+/// Whether the text of Turtle begins with a colon.
+#[inline(always)]
+fn is_named(dialect: Dialect, bytes: &[u8]) -> bool
+    ensures { result ≡ is_named dialect bytes.now }
+{
+    dialect == Dialect::Turtle && is_colon(bytes, 0)
 }
 
 /// Whether the text of Turtle begins with a digit.

@@ -1,14 +1,27 @@
 -- A string, by its quotes and the run between them.
 use Rattle.std.proofs.Common.{◌≡◌, ◌+◌, ◌∙◌, true, sym, subst, IsUtf8}
 use Rattle.rdf_terms.specs.declared.kind.Kind.TheVariants.{ShortString}
-use Rattle.rdf_tokens.specs.Quick.{IsToken, begins_string}
-use Rattle.rdf_tokens.proofs.PlainQuick.{quick_string}
+use Rattle.rdf_tokens.specs.Quick.{IsToken, opens_with, stands_at}
+use Rattle.rdf_tokens.proofs.PlainQuick.{quick_empty, quick_string}
 use Rattle.rdf_tokens.proofs.quick.quick_string.Goals as goal
 
-pub returns-then-stands_at : goal.returns-then-stands_at
-returns-then-stands_at c d =
+pub returns-then-is_empty_string : goal.returns-then-is_empty_string
+returns-then-is_empty_string c =
     let bs = c.as_bytes-bytes.result.now in
     let v = c.as_bytes-bytes.ensures.value in
+    let d = c.args.dialect in
+    let q = c.args.quote in
+    subst (λ b. IsToken d b 2 ShortString) v
+    (quick_empty d q bs (subst IsUtf8 (sym v) c.utf8.text) (subst (λ b. opens_with d q b ≡ true) (sym v) c.requires) (sym c.is_empty_string.ensures ∙ c.if-is_empty_string.true))
+
+pub returns-then-stands_at : goal.returns-then-stands_at
+returns-then-stands_at c =
+    let bs = c.as_bytes-bytes.result.now in
+    let v = c.as_bytes-bytes.ensures.value in
+    let d = c.args.dialect in
+    let q = c.args.quote in
     let end = c.run_end-end.result in
     subst (λ b. IsToken d b (end + 1) ShortString) v
-    (quick_string d bs end (subst IsUtf8 (sym v) c.utf8.text) (subst (λ b. begins_string b ≡ true) (sym v) c.requires) c.run_end-end.ensures (sym c.stands_at.ensures ∙ c.if-stands_at.true))
+    (quick_string d q bs (subst IsUtf8 (sym v) c.utf8.text) (subst (λ b. opens_with d q b ≡ true) (sym v) c.requires) end
+    (sym c.begins_string.ensures ∙ c.if-not-begins_string.false) c.run_end-end.ensures
+    (subst (λ n. stands_at n bs end ≡ true) c.quote_byte.ensures (sym c.stands_at.ensures ∙ c.if-stands_at.true)))
