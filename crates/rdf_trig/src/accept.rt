@@ -6,10 +6,10 @@ ghost use Rattle.rdf_terms.specs.Terms.{Quad};
 ghost use Rattle.rdf_iri.specs.Scope.{InForce};
 ghost use Rattle.rdf_lines.specs.Lines.{Leaf};
 ghost use Rattle.rdf_trig.specs.Machine as M;
-ghost use Rattle.rdf_trig.specs.States.{leaf, IsTurtleToken, IsNamedIn, NameIn, use_in, scope_in, setting, graph_in, mode_in, moved, DepthMoves};
+ghost use Rattle.rdf_trig.specs.States.{leaf, IsTurtleToken, IsNamedIn, graph_in, mode_in, DepthMoves, Moves};
 ghost use Rattle.rdf_trig.specs.Scopes.{SameScope};
 ghost use Rattle.rdf_trig.specs.Holding.{state_bytes, TextFits, NameFits, Fits, frames_most};
-ghost use Rattle.rdf_trig.specs.Steps.{state_of, May, Refused, Stays, DepthMay, Keeps, Accepts, Fails};
+ghost use Rattle.rdf_trig.specs.Steps.{state_of, May, DepthMay, Keeps, Accepts, Fails, RefusedWithin, StaysIn, answer_to};
 
 use crate::allows::allows;
 use crate::fault::StepFault;

@@ -6,7 +6,7 @@ ghost use Rattle.rdf_terms.specs.Terms.{Quad};
 ghost use Rattle.rdf_lines.specs.Lines.{Leaf};
 ghost use Rattle.rdf_trig.specs.Quads.{Setting};
 ghost use Rattle.rdf_trig.specs.Machine as M;
-ghost use Rattle.rdf_trig.specs.States.{begins_verb, is_go, level_of, around_of, place_at, outer_of, mode_in, semi_at};
+ghost use Rattle.rdf_trig.specs.States.{begins_verb, is_go, level_of, around_of, outer_of, mode_in, MayComeAfter, MayComeAfterText, MayComeAfterSemicolon};
 
 use crate::form::DocForm;
 use crate::state::{Around, Container, Level, Mode, Outer, State};

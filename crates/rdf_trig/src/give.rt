@@ -12,7 +12,7 @@ ghost use Rattle.rdf_trig.specs.declared.form.DocForm.{DocForm};
 ghost use Rattle.rdf_trig.specs.Machine as M;
 ghost use Rattle.rdf_trig.specs.Machine.{subject_at, verb_at, kept};
 ghost use Rattle.rdf_tokens.specs.declared.token.Token.{Token as Given};
-ghost use Rattle.rdf_trig.specs.States.{leaf, object_of, object_quad, IsSettled, place_of, up_of, mode_in, graph_in, block_graph, setting, cells_quad, rest_of, held_of};
+ghost use Rattle.rdf_trig.specs.States.{leaf, object_of, object_quad, IsSettled, place_of, up_of, mode_in, graph_in, setting, cells_quad, rest_of, held_of};
 ghost use Rattle.rdf_trig.specs.Steps.{GaveUp, given, up_quad};
 
 use crate::fault::StepFault;

@@ -6,8 +6,8 @@ ghost use Rattle.rdf_iri.specs.Scope.{InForce};
 ghost use Rattle.rdf_lines.specs.Lines.{Leaf};
 ghost use Rattle.rdf_trig.specs.declared.form.DocForm.{DocForm};
 ghost use Rattle.rdf_trig.specs.Machine as M;
-ghost use Rattle.rdf_trig.specs.States.{leaf, IsTurtleToken, IsNamed, name_at, use_at, graph_of, graph_at, outer_of, outer_graph, level_of, spelt_of};
-ghost use Rattle.rdf_trig.specs.States.{place_of, up_of, around_of, mode_at, behind_dot, semi_at, up_in, place_in, setting_in, Gives};
+ghost use Rattle.rdf_trig.specs.States.{IsTurtleToken, IsNamed, use_at, graph_of, graph_at, outer_of, outer_graph, level_of};
+ghost use Rattle.rdf_trig.specs.States.{place_of, up_of, mode_at, behind_dot, semi_at, up_in, place_in, setting_in, Gives, Replies, RepliesTo, around_in};
 ghost use Rattle.rdf_trig.specs.Holding.{outer_bytes, level_bytes, frame_bytes, TextFits, NameFits, FrameFits, OpenFits, Fits, Closes, frames_most};
 
 use crate::allows::begins_verb;

@@ -2,12 +2,10 @@
 
 ghost use Rattle.std.specs.Prelude.{◌≡◌, ℕ, ◌+◌, ◌-◌, ◌*◌, ◌≤◌, length, OnOk, IfErr, codes};
 ghost use Rattle.std.specs.Str.{chars};
-ghost use Rattle.rdf_iri.specs.Scope.{InForce};
-ghost use Rattle.rdf_lines.specs.Lines.{Leaf};
 ghost use Rattle.rdf_trig.specs.declared.form.DocForm.{DocForm};
 ghost use Rattle.rdf_trig.specs.Machine as M;
-ghost use Rattle.rdf_trig.specs.States.{leaf, IsTurtleToken, IsNamed, name_at, use_at, graph_of, rest_of, place_in, setting_in, text_in, Gives};
-ghost use Rattle.rdf_trig.specs.Holding.{text_bytes, TextFits, NameFits, OpenFits, Fits, frames_most};
+ghost use Rattle.rdf_trig.specs.States.{IsTurtleToken, IsNamed, graph_of, rest_of, place_in, setting_in, text_in, Replies, RepliesTo};
+ghost use Rattle.rdf_trig.specs.Holding.{text_bytes, TextFits, NameFits, OpenFits, Fits, frames_most, KeepsFit};
 
 use crate::fault::StepFault;
 use crate::form::DocForm;

@@ -9,9 +9,9 @@ ghost use Rattle.rdf_lines.specs.Lines.{Leaf};
 ghost use Rattle.rdf_trig.specs.Events.{Use, itself};
 ghost use Rattle.rdf_trig.specs.Machine as M;
 ghost use Rattle.rdf_trig.specs.Machine.{Reply, Go};
-ghost use Rattle.rdf_trig.specs.States.{leaf, IsTurtleToken, IsNamed, IsNamedIn, NameIn, name_at, use_at, use_in, scope_in, setting, outer_of, outer_graph, spelling_of};
-ghost use Rattle.rdf_trig.specs.States.{block_graph, text_in, mode_at, Gives, GivesOuter};
-ghost use Rattle.rdf_trig.specs.Holding.{text_bytes, block_bytes, outer_bytes, TextFits, NameFits, OpenFits, Fits, IsTextless, frames_most};
+ghost use Rattle.rdf_trig.specs.States.{leaf, IsTurtleToken, IsNamed, IsNamedIn, use_at, use_in, scope_in, setting, outer_of, outer_graph, spelling_of};
+ghost use Rattle.rdf_trig.specs.States.{block_graph, mode_at, Gives, GivesOuter, Replies, RepliesIn};
+ghost use Rattle.rdf_trig.specs.Holding.{text_bytes, block_bytes, outer_bytes, TextFits, NameFits, OpenFits, Fits, IsTextless, frames_most, KeepsFit};
 
 use crate::fault::StepFault;
 use crate::form::DocForm;

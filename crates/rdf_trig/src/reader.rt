@@ -4,8 +4,6 @@ ghost use Rattle.std.specs.Prelude.{◌≡◌, ◌+◌, ◌≤◌, ℕ, List, []
 ghost use Rattle.rdf_terms.specs.Terms.{Quad};
 ghost use Rattle.rdf_tokens.specs.Scans.{most_bytes, place_of, unread_bytes};
 ghost use Rattle.rdf_tokens.specs.Good.{tokens_of};
-ghost use Rattle.rdf_tokens.specs.Grammars.{GoesOn, IsWhole};
-ghost use Rattle.rdf_driver.specs.Words.{in_words};
 ghost use Rattle.rdf_driver.specs.Readers as R;
 ghost use Rattle.rdf_driver.specs.Readers.{HasRead, SameLimits, Feeds, FeedFails, Finishes, FinishFails, TakesExactly, FinishesExactly, IsPlacedWith, IsPlacedInRead};
 ghost use Rattle.rdf_iri.specs.Scope.{InForce, BaseFits, bytes_held};

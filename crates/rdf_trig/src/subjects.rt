@@ -2,10 +2,8 @@
 
 ghost use Rattle.std.specs.Prelude.{◌≡◌, ℕ, ◌+◌, ◌-◌, ◌≤◌, [], length, None, OnOk};
 ghost use Rattle.std.specs.List.{AllByRecursion};
-ghost use Rattle.rdf_iri.specs.Scope.{InForce};
-ghost use Rattle.rdf_lines.specs.Lines.{Leaf};
 ghost use Rattle.rdf_trig.specs.Machine as M;
-ghost use Rattle.rdf_trig.specs.States.{leaf, IsTurtleToken, IsNamed, name_at, use_at, setting, graph_of, graph_at, level_of, mode_at, up_in, setting_in, Gives};
+ghost use Rattle.rdf_trig.specs.States.{IsTurtleToken, IsNamed, setting, graph_of, graph_at, level_of, mode_at, up_in, setting_in, Replies, RepliesTo};
 ghost use Rattle.rdf_trig.specs.Holding.{TextFits, NameFits, FrameFits, OpenFits, Fits, Closes, frames_most};
 
 use crate::fault::StepFault;

@@ -1,9 +1,8 @@
 // What a token does to the mode and the frames, once it is known what it stands for.
 
 ghost use Rattle.std.specs.Prelude.{◌≡◌, ℕ, ◌+◌, ◌-◌, ◌≤◌, length, None, OnOk};
-ghost use Rattle.rdf_iri.specs.Scope.{InForce};
 ghost use Rattle.rdf_trig.specs.Machine as M;
-ghost use Rattle.rdf_trig.specs.States.{leaf, IsTurtleToken, IsNamedIn, NameIn, use_in, scope_in, setting, graph_in, mode_in, Gives};
+ghost use Rattle.rdf_trig.specs.States.{IsTurtleToken, IsNamedIn, graph_in, mode_in, RepliesIn};
 ghost use Rattle.rdf_trig.specs.Holding.{TextFits, NameFits, Fits, frames_most};
 
 use crate::fault::StepFault;
