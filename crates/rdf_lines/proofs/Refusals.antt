@@ -252,14 +252,14 @@ one_taken k l a test more n rs qs (inr (h, m, same)) i e =
     (cases_Bool (test (iri_of l)))
 
 -- each IRI of tokens that are taken passes the test
-all_taken : (test : List ℕ → Bool) (f : LineForm) (ts : List Token) (m k : Mode) (qs : List Quad) → run test f m ts ≡ ran k qs → (ahead behind : List Token) (t : Token) →
-    ts ≡ ahead ++ t ∷ behind → t.kind ≡ IriRef → test (iri_of (leaf_of t)) ≡ true
-all_taken test f ts m k qs e ahead behind t s i =
-    let whole : then (run test f m ahead) (λ x. run test f x (t ∷ behind)) ≡ ran k qs = sym (run_append test f ahead (t ∷ behind) m) ∙ (ap (run test f m) (sym s) ∙ e) in
-    let front = then_ran (run test f m ahead) (λ x. run test f x (t ∷ behind)) k qs whole in
-    one_taken t.kind (leaf_of t) (λ test. accept test f front.0 t.kind (leaf_of t)) test (λ x. run test f x behind) k front.1 qs (tested f front.0 t.kind (leaf_of t)) i
-    (sym (ap (λ r. then r (λ x. run test f x (t ∷ behind))) front.2) ∙ whole)
+all_taken : (test : List ℕ → Bool) (f : LineForm) (ts : List Token) (m k : Mode) (qs : List Quad) → run test f m ts ≡ ran k qs → (ahead after : List Token) (t : Token) →
+    ts ≡ ahead ++ t ∷ after → t.kind ≡ IriRef → test (iri_of (leaf_of t)) ≡ true
+all_taken test f ts m k qs e ahead after t s i =
+    let whole : then (run test f m ahead) (λ x. run test f x (t ∷ after)) ≡ ran k qs = sym (run_append test f ahead (t ∷ after) m) ∙ (ap (run test f m) (sym s) ∙ e) in
+    let front = then_ran (run test f m ahead) (λ x. run test f x (t ∷ after)) k qs whole in
+    one_taken t.kind (leaf_of t) (λ test. accept test f front.0 t.kind (leaf_of t)) test (λ x. run test f x after) k front.1 qs (tested f front.0 t.kind (leaf_of t)) i
+    (sym (ap (λ r. then r (λ x. run test f x (t ∷ after))) front.2) ∙ whole)
 
 -- The tokens of a run pass no limit.
 pub ran_none : (n : ℕ) (f : LineForm) (ts : List Token) (m k : Mode) (qs : List Quad) → run (is_taken n) f m ts ≡ ran k qs → PassesNone (Passes n) ts
-ran_none n f ts m k qs e ahead behind t s p = not_taken n (iri_of (leaf_of t)) p.1 (all_taken (is_taken n) f ts m k qs e ahead behind t s p.0)
+ran_none n f ts m k qs e ahead after t s p = not_taken n (iri_of (leaf_of t)) p.1 (all_taken (is_taken n) f ts m k qs e ahead after t s p.0)

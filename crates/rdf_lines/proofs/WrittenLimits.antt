@@ -253,7 +253,7 @@ module _ (form : Escapes) (limit n token_then iri_then : ℕ) (a : string_width 
   good [] s k = tt
   good (t ∷ ts) s k = (
     (All-head (λ t. length t.text ≤ limit) t ts s, λ i. ⊎_elim (λ l. absurd (k [] ts t refl (i, l))) (λ l. l) (cases_lt n (byte_len (iri_of (leaf_of t))))),
-    good ts (All-tail (λ t. length t.text ≤ limit) t ts s) (λ ahead behind u r p. k (t ∷ ahead) behind u (ap (λ x. t ∷ x) r) p),
+    good ts (All-tail (λ t. length t.text ≤ limit) t ts s) (λ ahead after u r p. k (t ∷ ahead) after u (ap (λ x. t ∷ x) r) p),
   )
 
 -- so the quads of a document fit

@@ -78,7 +78,7 @@ module _ (l : Language) where
   begins_less : (ts : List Token) (qs rs : List Quad) → Begun ts (qs ++ rs) → Begun ts qs
   begins_less ts qs rs d = record {
     ahead = d.ahead;
-    behind = d.behind;
+    after = d.after;
     tokens = d.tokens;
     kept = d.kept;
     rest = rs ++ d.rest;
@@ -86,10 +86,10 @@ module _ (l : Language) where
   }
 
   -- what is due after some first tokens of a list, of which none passes a limit
-  begins_ahead : (ts ahead behind : List Token) (qs : List Quad) → ts ≡ ahead ++ behind → PassesNone l.passes ahead → Due l.documents ahead qs → Begun ts qs
-  begins_ahead ts ahead behind qs e k d = record {
+  begins_ahead : (ts ahead later : List Token) (qs : List Quad) → ts ≡ ahead ++ later → PassesNone l.passes ahead → Due l.documents ahead qs → Begun ts qs
+  begins_ahead ts ahead later qs e k d = record {
     ahead = ahead;
-    behind = behind;
+    after = later;
     tokens = e;
     kept = k;
     rest = [];
@@ -110,7 +110,7 @@ module _ (l : Language) where
   begins_refused r reason.Memory at ahead qs x d = absurd x
   begins_refused r reason.Ended at ahead qs x d = absurd x
   begins_refused r reason.Sink at ahead qs x d = absurd x
-  begins_refused r why at ahead qs x d = begins_ahead r.tokens ahead (x.token ∷ x.behind) qs x.tokens x.front.kept d
+  begins_refused r why at ahead qs x d = begins_ahead r.tokens ahead (x.token ∷ x.after) qs x.tokens x.front.kept d
 
 -- where some text is the plain lines of quads, it is their lines in the form
 abbrev KeepsText : WrittenForm → List ℕ → Type 0

@@ -254,7 +254,7 @@ none_stops job left old write_failed o r f = (
     quads = [];
     due = record {
       ahead = [];
-      behind = (reading_of (language_of job) [] left.has_ended).tokens;
+      after = (reading_of (language_of job) [] left.has_ended).tokens;
       tokens = refl;
       kept = none_passes;
       rest = [];
@@ -266,5 +266,5 @@ none_stops job left old write_failed o r f = (
 )
   where
     none_passes : PassesNone (language_of job).passes []
-    none_passes [] behind t e p = let z : [] ≡ t ∷ behind = e in cc
-    none_passes (u ∷ us) behind t e p = let z : [] ≡ u ∷ (us ++ t ∷ behind) = e in cc
+    none_passes [] after t e p = let z : [] ≡ t ∷ after = e in cc
+    none_passes (u ∷ us) after t e p = let z : [] ≡ u ∷ (us ++ t ∷ after) = e in cc

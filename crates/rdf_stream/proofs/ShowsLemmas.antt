@@ -50,9 +50,9 @@ begun_all : (r : Reading) (ts : List Token) → ts ≡ without_end r.tokens → 
 begun_all r ts e = ([], sym e ∙ sym (append-nil ts))
 
 -- so do the first of them
-begun_in_front : (r : Reading) (ahead behind ts rest : List Token) → r.tokens ≡ ahead ++ behind → ts ++ rest ≡ without_end ahead → Begun r ts
-begun_in_front r ahead behind ts rest e d =
-    (rest ++ without_end behind, ap without_end e ∙ (without-append ahead behind ∙ (ap (λ l. l ++ without_end behind) (sym d) ∙ append_assoc ts rest (without_end behind))))
+begun_in_front : (r : Reading) (ahead later ts rest : List Token) → r.tokens ≡ ahead ++ later → ts ++ rest ≡ without_end ahead → Begun r ts
+begun_in_front r ahead later ts rest e d =
+    (rest ++ without_end later, ap without_end e ∙ (without-append ahead later ∙ (ap (λ l. l ++ without_end later) (sym d) ∙ append_assoc ts rest (without_end later))))
 
 -- a beginning of their lines is one of the lines of the reading
 shows_front : (a b : Option (List ℕ)) (r : Reading) (ts : List Token) → Begun r ts → AppendsFront a b (all_lines ts) → ShowsFront r a b
@@ -170,7 +170,7 @@ module _ {D A : Type 0} (contents : D → Option (List ℕ)) (failed : D → Boo
       record {
         more = h.more;
         tries = tried_tokens contents failed h.more lines mid h.puts;
-        begun = begun_in_front (tokens_in job b e) x.ahead x.behind (before ++ h.more) x.rest (ap (λ r. r.tokens) (sym (same ∙ same_reading b e)) ∙ x.tokens) (due_tokens d x.ahead ((before ++ h.more) ++ x.rest) x.due);
+        begun = begun_in_front (tokens_in job b e) x.ahead x.after (before ++ h.more) x.rest (ap (λ r. r.tokens) (sym (same ∙ same_reading b e)) ∙ x.tokens) (due_tokens d x.ahead ((before ++ h.more) ++ x.rest) x.due);
       }
 
   -- the drain failed, before or when it was handed what waited

@@ -80,7 +80,7 @@ tokens_due d ts is e = ([], marked_from 0 (ts ++ []), refl, due_all ts [] ∙ sy
 pub lawful : (d : Dialect) → Lawful (token_words d)
 lawful d = record {
   due = λ g x ts qs e. tokens_due d ts qs e;
-  kept = λ g x ts qs e ahead behind t s p. p;
+  kept = λ g x ts qs e ahead later t s p. p;
   few = λ g x ts qs e. subst (λ l. length l ≤ 2 * counted ts) (sym e) (few_all ts);
   whole = λ g x ts t qs e k. (marked_from 0 (ts ++ t ∷ []), refl, unmarked_all 0 (ts ++ t ∷ []) ∙ sym e);
   ends = λ x reason ts t b v k. b;
@@ -112,9 +112,9 @@ module _ {S : Type 0} (takes leaves : S → Token → S → Type 0) (d : Dialect
     puts = inl (refl, h);
     due = λ x ts qs r. record {
       ahead = ts ++ t ∷ [];
-      behind = [];
+      after = [];
       tokens = sym (append-nil (ts ++ t ∷ []));
-      kept = λ ahead behind u s p. p;
+      kept = λ ahead later u s p. p;
       rest = [];
       due = tokens_due d (ts ++ t ∷ []) ((qs ++ t ∷ []) ++ []) (append-nil (qs ++ t ∷ []) ∙ one_more ts qs e r);
     };

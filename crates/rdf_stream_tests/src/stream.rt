@@ -237,7 +237,7 @@ fn a_base_is_no_longer_than_an_iri_may_be(rt: HostRuntime) {
 }
 
 #[test]
-fn a_put_goes_on_behind_a_short_one(rt: HostRuntime) {
+fn a_put_goes_on_after_a_short_one(rt: HostRuntime) {
     let mut taken = failing_drain(rt.alloc(), 5);
     assert_eq!(rt; put_all(&mut taken, b"bytes"), Ok(()));
     assert_eq!(rt; taken.bytes.as_slice(), b"bytes".as_slice());

@@ -182,7 +182,10 @@ static A_FULL_SCANNER_TAKES_WHAT_FITS: [Script; 2] = [
         dialect: Dialect::Turtle,
         limit: 2,
         steps: &[
-            (Step::Push(b"\"\xF0\x9F\x98\x80\xF0\x9F\x98"), Answer::Took(8)),
+            (
+                Step::Push(b"\"\xF0\x9F\x98\x80\xF0\x9F\x98"),
+                Answer::Took(8),
+            ),
             (Step::Next, Answer::Undecided),
             (Step::Pending, Answer::Pending(8)),
             (Step::Push(b"\x80 1 2 3 4"), Answer::Took(7)),

@@ -163,9 +163,9 @@ blank_feeds d bs u e =
     sym (feeds-chars (take 1 bs) c.front_utf8 ∙ ap (count_by (λ b. b == 10)) c.front)
 
 -- the place after all of the text
-pub place_behind : (text : List ℕ) (start : ℕ) (pending : List ℕ) (place taken : Place) → Held text start pending place taken → IsUtf8 text →
+pub place_after : (text : List ℕ) (start : ℕ) (pending : List ℕ) (place taken : Place) → Held text start pending place taken → IsUtf8 text →
     beyond place (drop start text) ≡ past place (chars (drop start text))
-place_behind text start pending place taken h u = sym (past-chars place (drop start text) (IsUtf8-drop text start u h.boundary))
+place_after text start pending place taken h u = sym (past-chars place (drop start text) (IsUtf8-drop text start u h.boundary))
 
 -- how many bytes the rest of the text has, by its characters
 pub size_of_rest : (text : List ℕ) (start : ℕ) → IsCharBoundary text start → IsUtf8 text → length text - start ≡ length (encode_utf8_all (chars (drop start text)))

@@ -60,11 +60,11 @@ module _ {I : Type 0} (l : LanguageOf I) (ends : EndsAtBlame l) where
     refuses_more : (reason : Reason) (at : Place) (ahead : List Token) → RefusesAt l (reading_of l bytes false) reason at ahead → RefusesAt l (reading_of l (bytes ++ more) e) reason at ahead
     refuses_more reason at ahead y =
         let m = (lengthens l.dialect l.limit bytes more e).0 in
-        let rest = y.behind ++ m.0 in
-        let all : (reading_of l (bytes ++ more) e).tokens ≡ ahead ++ y.token ∷ rest = m.1 ∙ (ap (λ ts. ts ++ m.0) y.tokens ∙ append_assoc ahead (y.token ∷ y.behind) m.0) in
+        let rest = y.after ++ m.0 in
+        let all : (reading_of l (bytes ++ more) e).tokens ≡ ahead ++ y.token ∷ rest = m.1 ∙ (ap (λ ts. ts ++ m.0) y.tokens ∙ append_assoc ahead (y.token ∷ y.after) m.0) in
         record {
           token = y.token;
-          behind = rest;
+          after = rest;
           tokens = all;
           place = y.place;
           front = front_before l.documents l.passes (reading_of l (bytes ++ more) e).tokens ahead rest y.token all y.front.viable y.front.kept (ends reason ahead y.token y.because);
@@ -89,8 +89,8 @@ module _ {I : Type 0} (l : LanguageOf I) (ends : EndsAtBlame l) where
         let m = (lengthens l.dialect l.limit bytes more e).0 in
         record {
           ahead = d.ahead;
-          behind = d.behind ++ m.0;
-          tokens = m.1 ∙ (ap (λ ts. ts ++ m.0) d.tokens ∙ append_assoc d.ahead d.behind m.0);
+          after = d.after ++ m.0;
+          tokens = m.1 ∙ (ap (λ ts. ts ++ m.0) d.tokens ∙ append_assoc d.ahead d.after m.0);
           kept = d.kept;
           rest = d.rest;
           due = d.due;
@@ -112,7 +112,7 @@ module _ {I : Type 0} (l : LanguageOf I) (ends : EndsAtBlame l) where
       by Memory s = s
       by Ended s = s
       by Sink s = s
-      by reason y = not_whole l.documents l.passes r.tokens ahead y.behind y.token y.tokens (ends reason ahead y.token y.because) a.front
+      by reason y = not_whole l.documents l.passes r.tokens ahead y.after y.token y.tokens (ends reason ahead y.token y.because) a.front
 
   -- What is refused is no document within the limits.
   pub refused_no_document : (bytes : List ℕ) (qs : List I) (reason : Reason) (at : Place) → Refused l bytes true reason at → IsDocumentOf l bytes qs → IsWithin l bytes → ⊥

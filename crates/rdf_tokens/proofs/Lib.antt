@@ -17,7 +17,7 @@ pub mod NameLemmas
 pub mod NameSorts
 pub mod IriSorts
 pub mod FamilySorts
-pub mod BareLemmas
+pub mod NoNamesLemmas
 pub mod TextSorts
 pub mod FixedLemmas
 pub mod MachineLemmas

@@ -84,9 +84,9 @@ no_longer d limit bytes e =
         All-cons Short (record { kind = k; text = take n (rest_of d b w); at = place_of d b p w }) r.tokens (omega arith) a
 
 -- the last of some tokens
-last_at : (P : Token → Type 0) (ahead behind : List Token) (t : Token) → All P (ahead ++ t ∷ behind) → P t
-last_at P [] behind t h = All-head P t behind h
-last_at P (x ∷ ahead) behind t h = last_at P ahead behind t (All-tail P x (ahead ++ t ∷ behind) h)
+last_at : (P : Token → Type 0) (ahead after : List Token) (t : Token) → All P (ahead ++ t ∷ after) → P t
+last_at P [] after t h = All-head P t after h
+last_at P (x ∷ ahead) after t h = last_at P ahead after t (All-tail P x (ahead ++ t ∷ after) h)
 
 -- a token that a scanner gives
 pub given_short : (v w : Unread) (bytes : List ℕ) (ts : List Token) (t : Token) → HasScanned v bytes ts → GivesToken v t w → length t.text ≤ v.limit

@@ -20,7 +20,7 @@ use Rattle.rdf_tokens.specs.Front.{Reached, longer_front, begins, front_by}
 use Rattle.rdf_tokens.specs.Machine.{step, kind_at}
 use Rattle.rdf_tokens.specs.Quick.{IsToken, is_point, is_integer_end, is_decimal_end, ends_integer, ends_number}
 use Rattle.rdf_tokens.proofs.ByteLemmas.{at-start, ascii_first}
-use Rattle.rdf_tokens.proofs.BareLemmas.{implied, one_on}
+use Rattle.rdf_tokens.proofs.NoNamesLemmas.{implied, one_on}
 use Rattle.rdf_tokens.proofs.QuickLemmas.{settled, not_true, other, at_ended, ended-state}
 use Rattle.rdf_tokens.proofs.StateLemmas.{reached-first, reached-step}
 
@@ -60,7 +60,7 @@ digits-state : (s : State) → at_digits s ≡ true → s ≡ Number number.Digi
 digits-state (Number number.Digits) e = refl
 digits-state s e = absurd (false≢true e)
 
--- a state after digits behind the dot
+-- a state after digits after the dot
 abbrev at_fraction : State → Bool
 at_fraction (Number number.Fraction) = true
 at_fraction s = false
@@ -78,7 +78,7 @@ first_tests c = not (is_digit c) || no_first c (rows_of Turtle fixed)
 abbrev digits_tests : ℕ → Bool
 digits_tests c = not (is_digit c) || (at_digits (step Turtle Start c) && at_digits (step Turtle (Number number.Digits) c))
 
--- and so behind the dot
+-- and so after the dot
 abbrev fraction_tests : ℕ → Bool
 fraction_tests c = not (is_digit c) || (at_fraction (step Turtle (Number number.DigitsDot) c) && at_fraction (step Turtle (Number number.Fraction) c))
 
@@ -101,7 +101,7 @@ digit_steps c e =
     (implied (is_digit c) _ (agree_below_at digits_tests (λ c. true) 128 c refl (low-digit c e)) e) in
     (digits-state (step Turtle Start c) p.0, digits-state (step Turtle (Number number.Digits) c) p.1)
 
--- and those behind the dot
+-- and those after the dot
 fraction_steps : (c : ℕ) → is_digit c ≡ true → (step Turtle (Number number.DigitsDot) c ≡ Number number.Fraction) × (step Turtle (Number number.Fraction) c ≡ Number number.Fraction)
 fraction_steps c e =
     let p = and_parts (at_fraction (step Turtle (Number number.DigitsDot) c)) (at_fraction (step Turtle (Number number.Fraction) c))

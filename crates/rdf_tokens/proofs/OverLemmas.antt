@@ -16,9 +16,9 @@ use Rattle.rdf_tokens.specs.Machines.{IsChars}
 use Rattle.rdf_tokens.specs.Machine.{kind_at, goes_on}
 use Rattle.rdf_tokens.specs.Fixed.{Row, fits, left, is_done, is_begun, kind_by, live_by, rows_of, kind_by_table, live_by_table}
 use Rattle.rdf_tokens.specs.Front.{IsAt, begins, state_of}
-use Rattle.rdf_tokens.specs.declared.front.Bare.{Bare}
+use Rattle.rdf_tokens.specs.declared.front.NoNames.{NoNames}
 use Rattle.rdf_tokens.specs.declared.over.Begun.{Begun}
-use Rattle.rdf_tokens.specs.Bare.{IsBareIn, Ends, ends_within}
+use Rattle.rdf_tokens.specs.NoNames.{HasNoNames, Ends, ends_within}
 use Rattle.rdf_tokens.specs.Over.{shaped_over, row_over, fixed_over, HasCome}
 use Rattle.rdf_tokens.proofs.ByteLemmas.{at-end, chars_take, is-chars}
 use Rattle.rdf_tokens.proofs.MachineLemmas.{whole-kind, whole-live}
@@ -64,9 +64,9 @@ ends-within d limit w e = ⊎_elim
     no_more m = ap (λ b. b && (is_some (kind_at (state_of d (take (limit + 1) w))) || goes_on d (state_of d (take (limit + 1) w)))) (le-ltb _ _ m)
 
 -- what is kept of a run without names tells that
-pub bare-within : (d : Dialect) (limit : ℕ) (bs : List ℕ) (b : Option Bare) → IsBareIn d bs b → ends_within limit bs b ≡ true → shaped_over d limit (chars bs) ≡ false
-bare-within d limit bs None h e = absurd (false≢true e)
-bare-within d limit bs (Some b) h e =
+pub names-within : (d : Dialect) (limit : ℕ) (bs : List ℕ) (b : Option NoNames) → HasNoNames d bs b → ends_within limit bs b ≡ true → shaped_over d limit (chars bs) ≡ false
+names-within d limit bs None h e = absurd (false≢true e)
+names-within d limit bs (Some b) h e =
     let p = and_parts (nat_lt b.left (length bs)) (nat_le (length bs - limit) b.out && is_letter (get_or bs 0 0)) e in
     let q = and_parts (nat_le (length bs - limit) b.out) (is_letter (get_or bs 0 0)) p.1 in
     let few : length bs - limit ≤ b.out = le-true (length bs - limit) b.out q.0 in

@@ -25,7 +25,7 @@ use Rattle.rdf_tokens.specs.Front.{IsAt, Reached, front_by}
 use Rattle.rdf_tokens.specs.Machine.{step, kind_at}
 use Rattle.rdf_tokens.specs.Quick.{IsToken, stands_at, begins_label, begins_label_name, quote_byte, has_quote, opens_with, begins_string, is_empty_string, begins_iri, ends_name, is_name_end}
 use Rattle.rdf_tokens.proofs.ByteLemmas.{at-start, ascii_first}
-use Rattle.rdf_tokens.proofs.BareLemmas.{implied, no_long, one_on}
+use Rattle.rdf_tokens.proofs.NoNamesLemmas.{implied, no_long, one_on}
 use Rattle.rdf_tokens.proofs.NumberQuick.{no_first, first_rows}
 use Rattle.rdf_tokens.proofs.QuickLemmas.{settled, first-none, other, not_true, low-name}
 use Rattle.rdf_tokens.proofs.RestLemmas.{reached-run}

@@ -12,7 +12,7 @@ use Rattle.rdf_terms.specs.Classes.{is_digit, is_letter}
 use Rattle.rdf_terms.specs.Shapes.{fixed}
 use Rattle.rdf_terms.specs.Runs.{IsRun, is_name_byte}
 use Rattle.rdf_terms.specs.Values.{is_fit}
-use Rattle.rdf_tokens.specs.declared.front.Bare.{Bare}
+use Rattle.rdf_tokens.specs.declared.front.NoNames.{NoNames}
 use Rattle.rdf_tokens.specs.declared.states.machine.State.{State}
 use Rattle.rdf_tokens.specs.declared.states.machine.State.TheVariants.{Start, Name, Number}
 use Rattle.rdf_tokens.specs.declared.states.name.Name.TheVariants as name
@@ -23,7 +23,7 @@ use Rattle.rdf_tokens.specs.Front.{Reached, longer_front, begins, row_front, fro
 use Rattle.rdf_tokens.specs.Machine.{step, kind_at, goes_on}
 use Rattle.rdf_tokens.specs.Quick.{IsToken, IsQuick, single, is_sought, is_named, IsPrefix, is_colon, ends_name, is_name_end, is_a, is_dot, begins_number}
 use Rattle.rdf_tokens.proofs.ByteLemmas.{at-start, ascii_first}
-use Rattle.rdf_tokens.proofs.BareLemmas.{implied, low-letter, letter_steps, no_long, no_quotes, one_on}
+use Rattle.rdf_tokens.proofs.NoNamesLemmas.{implied, low-letter, letter_steps, no_long, no_quotes, one_on}
 use Rattle.rdf_tokens.proofs.RestLemmas.{reached-run}
 use Rattle.rdf_tokens.proofs.RestStates.{rests_prefix, rests_local}
 use Rattle.rdf_tokens.proofs.StateLemmas.{front-bytes, live-bytes, reached-first, reached-step, reached-dead}
@@ -374,7 +374,7 @@ named Lines bs e = absurd (false≢true e)
 named Turtle bs e = (refl, e)
 
 -- where a name is sought
-pub sought : (d : Dialect) (bs : List ℕ) (b : Option Bare) → is_sought d bs b ≡ true → (d ≡ Turtle) × (is_letter (get_or bs 0 0) ≡ true)
+pub sought : (d : Dialect) (bs : List ℕ) (b : Option NoNames) → is_sought d bs b ≡ true → (d ≡ Turtle) × (is_letter (get_or bs 0 0) ≡ true)
 sought Lines bs b e = absurd (false≢true (and_parts _ _ e).1)
 sought Turtle bs b e = (refl, (and_parts _ _ e).1)
 

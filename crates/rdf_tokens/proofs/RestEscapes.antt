@@ -26,7 +26,7 @@ use Rattle.rdf_tokens.specs.Tokens.{with_length, only_long, three_quotes}
 use Rattle.rdf_tokens.specs.Iri as iri
 use Rattle.rdf_tokens.specs.Text as text
 use Rattle.rdf_tokens.specs.Escapes.{is_hex, is_letter, IsHexes, IsEchar, IsUchar, RestsInString, RestsInIri}
-use Rattle.rdf_tokens.proofs.BareLemmas.{no_long}
+use Rattle.rdf_tokens.proofs.NoNamesLemmas.{no_long}
 use Rattle.rdf_tokens.proofs.RestLemmas.{rests-more}
 use Rattle.rdf_tokens.proofs.RestStates.{rests_short, rests_long}
 use Rattle.rdf_tokens.proofs.StateLemmas.{reached-step}
@@ -52,7 +52,7 @@ record Numbers (s e : State) (h : ℕ → State) : Type 0 where
   more : (d : Dialect) (n c : ℕ) → is_hex c ≡ true → step d (h (suc n)) c ≡ h n
   last : (d : Dialect) (c : ℕ) → is_hex c ≡ true → step d (h 0) c ≡ s
   none : kind_at s ≡ None
-  none_behind : kind_at e ≡ None
+  none_after : kind_at e ≡ None
   none_yet : (n : ℕ) → kind_at (h n) ≡ None
 
 -- what is escaped is ASCII
@@ -81,8 +81,8 @@ module _ (s e : State) (h : ℕ → State) (f : Numbers s e h) (bs : List ℕ) (
   digits_on c n a x y t g r =
       let w = g.within in
       let z = g.ends in
-      let behind = byte_on d bs at s e b (omega arith) (omega (arith, x)) (ap (step d s) x ∙ f.slash d) f.none_behind r in
-      let begun = byte_on d bs (at + 1) e (h n) b (omega arith) (omega (arith, y)) (ap (step d e) y ∙ t) (f.none_yet n) behind in
+      let after = byte_on d bs at s e b (omega arith) (omega (arith, x)) (ap (step d s) x ∙ f.slash d) f.none_after r in
+      let begun = byte_on d bs (at + 1) e (h n) b (omega arith) (omega (arith, y)) (ap (step d e) y ∙ t) (f.none_yet n) after in
       let two : at + 1 + 1 ≡ at + 2 = omega arith in
       subst (λ k. Reached d bs k s b) (sym z)
       (hexes_on s e h f d bs b n (at + 2) (omega arith) (subst (PassBetween is_hex bs (at + 2)) z g.hexes) (subst (λ k. Reached d bs k (h n) b) two begun))
@@ -130,8 +130,8 @@ rests_echar s e h f letter bs at end u =
         let w = u.within in
         let z = u.ends in
         let x = u.slash in
-        let behind = byte_on d bs at s e b (omega arith) (omega arith) (ap (step d s) x ∙ f.slash d) f.none_behind r in
-        let done = byte_on d bs (at + 1) e s b (omega arith) (letter_below (get_or bs (at + 1) 0) u.letter) (letter d (get_or bs (at + 1) 0) u.letter) f.none behind in
+        let after = byte_on d bs at s e b (omega arith) (omega arith) (ap (step d s) x ∙ f.slash d) f.none_after r in
+        let done = byte_on d bs (at + 1) e s b (omega arith) (letter_below (get_or bs (at + 1) 0) u.letter) (letter d (get_or bs (at + 1) 0) u.letter) f.none after in
         let two : at + 1 + 1 ≡ end = omega arith in
         subst (λ k. Reached d bs k s b) two done
 
@@ -185,7 +185,7 @@ short_numbers q = record {
   more = λ d n c h. ap state.Text (if_hex-hex (text_state.ShortHex q n) (sort_by text.ascii text.high c) (text_hex c h));
   last = λ d c h. ap state.Text (if_hex-hex (text_state.Short q) (sort_by text.ascii text.high c) (text_hex c h));
   none = refl;
-  none_behind = refl;
+  none_after = refl;
   none_yet = λ n. refl;
 }
   where
@@ -202,7 +202,7 @@ long_numbers q = record {
   more = λ d n c h. ap state.Text (if_hex-hex (text_state.LongHex q n) (sort_by text.ascii text.high c) (text_hex c h));
   last = λ d c h. ap state.Text (if_hex-hex (text_state.Long q) (sort_by text.ascii text.high c) (text_hex c h));
   none = refl;
-  none_behind = refl;
+  none_after = refl;
   none_yet = λ n. refl;
 }
   where
@@ -266,7 +266,7 @@ iri_numbers = record {
   more = λ d n c h. ap state.Iri (iri_more n (sort_by iri.ascii iri.high c) (iri_hex c h));
   last = λ d c h. ap state.Iri (iri_last (sort_by iri.ascii iri.high c) (iri_hex c h));
   none = refl;
-  none_behind = refl;
+  none_after = refl;
   none_yet = λ n. refl;
 }
 

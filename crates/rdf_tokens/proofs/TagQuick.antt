@@ -19,7 +19,7 @@ use Rattle.rdf_tokens.specs.Fixed.{left, is_begun, live_by, rows_of}
 use Rattle.rdf_tokens.specs.Front.{Reached, Rests, longer_front, begins, front_by}
 use Rattle.rdf_tokens.specs.Machine.{step}
 use Rattle.rdf_tokens.specs.Quick.{IsToken, stands_at, begins_directive, begins_tag, is_part_byte, ends_tag, is_tag_end, is_later_end}
-use Rattle.rdf_tokens.proofs.BareLemmas.{implied}
+use Rattle.rdf_tokens.proofs.NoNamesLemmas.{implied}
 use Rattle.rdf_tokens.proofs.NumberQuick.{first_rows}
 use Rattle.rdf_tokens.proofs.PlainQuick.{byte_on, quotes_of}
 use Rattle.rdf_tokens.proofs.QuickLemmas.{settled, first-none, not_true, other}

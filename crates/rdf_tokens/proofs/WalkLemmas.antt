@@ -42,12 +42,12 @@ at-more bs more at n u v h =
     let w = chars bs in
     let x = chars more in
     let e : chars (bs ++ more) ≡ w ++ x = chars-append bs more u in
-    let behind : drop at (bs ++ more) ≡ drop at bs ++ more = drop-append-le at bs more h.inside in
+    let after : drop at (bs ++ more) ≡ drop at bs ++ more = drop-append-le at bs more h.inside in
     record {
       inside = omega (arith, length-append bs more, h.inside);
       count = omega (arith, ap length e, length-append w x, h.count);
-      utf8 = subst IsUtf8 (sym behind) (IsUtf8-append (drop at bs) more h.utf8 v);
-      left = ap (drop n) e ∙ (drop-append-le n w x h.count ∙ (ap (λ y. y ++ x) h.left ∙ (sym (chars-append (drop at bs) more h.utf8) ∙ ap chars (sym behind))));
+      utf8 = subst IsUtf8 (sym after) (IsUtf8-append (drop at bs) more h.utf8 v);
+      left = ap (drop n) e ∙ (drop-append-le n w x h.count ∙ (ap (λ y. y ++ x) h.left ∙ (sym (chars-append (drop at bs) more h.utf8) ∙ ap chars (sym after))));
       bytes = h.bytes ∙ ap (λ y. length (encode_utf8_all y)) (sym (ap (take n) e ∙ take-append-le n w x h.count));
     }
 

@@ -44,7 +44,7 @@ Due {I} documents ts is = (more : List Token) × (all : List (MarkedItem I)) × 
 
 -- no token of the list passes a limit, where the relation says that a token does so after the tokens before it
 abbrev pub PassesNone : (List Token → Token → Type 0) → List Token → Type 0
-PassesNone passes ts = (ahead behind : List Token) (t : Token) → ts ≡ ahead ++ t ∷ behind → passes ahead t → ⊥
+PassesNone passes ts = (ahead after : List Token) (t : Token) → ts ≡ ahead ++ t ∷ after → passes ahead t → ⊥
 
 -- the longest beginning of some tokens that a document has and in which no token passes a limit
 pub record IsFront {I : Type 0} (documents : List Token → List (MarkedItem I) → Type 0) (passes : List Token → Token → Type 0)
@@ -121,8 +121,8 @@ pub record StopsAt {I : Type 0} (l : LanguageOf I) (reading : Reading) (why : Ou
 -- The token at the place is the first after the front, and it is refused for the reason.
 pub record RefusesAt {I : Type 0} (l : LanguageOf I) (reading : Reading) (reason : Reason) (at : Place) (ahead : List Token) : Type 0 where
   pub token : Token
-  pub behind : List Token
-  pub tokens : reading.tokens ≡ ahead ++ token ∷ behind
+  pub after : List Token
+  pub tokens : reading.tokens ≡ ahead ++ token ∷ after
   pub place : token.at ≡ at
   pub front : IsFrontOf l reading ahead
   pub because : l.blames reason ahead token
@@ -147,8 +147,8 @@ Refused l bytes is_end reason at = (ahead : List Token) × RefusedIn l (reading_
 pub record BeginsDue {I : Type 0} (documents : List Token → List (MarkedItem I) → Type 0) (passes : List Token → Token → Type 0)
     (ts : List Token) (items : List I) : Type 0 where
   pub ahead : List Token
-  pub behind : List Token
-  pub tokens : ts ≡ ahead ++ behind
+  pub after : List Token
+  pub tokens : ts ≡ ahead ++ after
   pub kept : PassesNone passes ahead
   pub rest : List I
   pub due : Due documents ahead (items ++ rest)

@@ -3,10 +3,10 @@ use Rattle.std.specs.Prelude.{ℕ, ◌≤◌, ◌+◌, ◌-◌, List, Option, le
 use Rattle.std.specs.Str.{IsCharBoundary}
 use Rattle.rdf_terms.specs.declared.kind.Dialect.{Dialect}
 use Rattle.rdf_tokens.specs.declared.front.Walk.{Walk}
-use Rattle.rdf_tokens.specs.declared.front.Bare.{Bare}
+use Rattle.rdf_tokens.specs.declared.front.NoNames.{NoNames}
 use Rattle.rdf_tokens.specs.Tokens.{Place}
 use Rattle.rdf_tokens.specs.Walk.{Walked}
-use Rattle.rdf_tokens.specs.Bare.{IsBareIn}
+use Rattle.rdf_tokens.specs.NoNames.{HasNoNames}
 use Rattle.rdf_tokens.specs.Moves.{BeginsChar}
 use Rattle.rdf_tokens.specs.Scans.{most_bytes, most_unread}
 
@@ -24,9 +24,9 @@ pub record Held (text : List ℕ) (start : ℕ) (pending : List ℕ) (place take
   pub last : IsPlace taken
 
 -- and how far the states have come in the rest, where it has no names, and that no more is held than the limit allows
-pub record Holds (d : Dialect) (limit : ℕ) (text : List ℕ) (start : ℕ) (walk : Option Walk) (bare : Option Bare)
+pub record Holds (d : Dialect) (limit : ℕ) (text : List ℕ) (start : ℕ) (walk : Option Walk) (names : Option NoNames)
     (pending : List ℕ) (place taken : Place) : Type 0 where
   pub held : Held text start pending place taken
   pub walked : Walked d (drop start text) walk
-  pub no_names : IsBareIn d (drop start text) bare
+  pub no_names : HasNoNames d (drop start text) names
   pub bounded : length text - start + length pending ≤ most_unread limit

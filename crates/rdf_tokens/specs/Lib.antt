@@ -20,7 +20,7 @@ pub mod Spellings
 pub mod Front
 pub mod Escapes
 pub mod Walk
-pub mod Bare
+pub mod NoNames
 pub mod Quick
 pub mod Over
 pub mod Plain

@@ -5,7 +5,7 @@ use Rattle.rdf_terms.specs.declared.kind.Dialect.{Dialect}
 use Rattle.rdf_terms.specs.declared.kind.Kind.{Kind}
 use Rattle.rdf_terms.specs.Values.{is_fit}
 use Rattle.rdf_terms.specs.declared.reason.Reason.TheVariants.{BadUtf8, NoToken, BadEscape, TokenTooLong}
-use Rattle.rdf_tokens.specs.declared.look.Tail.{Tail as Behind}
+use Rattle.rdf_tokens.specs.declared.look.Tail.{Tail as Following}
 use Rattle.rdf_tokens.specs.declared.look.Tail.TheVariants.{GoesOn, Ended, Broken}
 use Rattle.rdf_tokens.specs.declared.look.Look.{Look}
 use Rattle.rdf_tokens.specs.declared.look.Look.TheVariants.{Undecided, Complete, Stop, Token}
@@ -16,10 +16,10 @@ use Rattle.rdf_tokens.specs.Tokens.Step.{token, stop}
 use Rattle.rdf_tokens.specs.Front.{bytes_of}
 
 -- what comes after the text, by the code's name for it
-abbrev pub behind : Behind → Tail
-behind GoesOn = goes_on
-behind Ended = ended
-behind Broken = broken
+abbrev pub tail_after : Following → Tail
+tail_after GoesOn = goes_on
+tail_after Ended = ended
+tail_after Broken = broken
 
 -- A look tells the step; that of a token has its length in bytes, which lies within the text.
 abbrev pub IsLook : Look → Step → List ℕ → Type 0

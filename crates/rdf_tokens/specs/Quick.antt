@@ -9,7 +9,7 @@ use Rattle.rdf_terms.specs.Classes.{is_digit, is_letter, is_turtle, one_of}
 use Rattle.rdf_terms.specs.Runs.{IsRun, is_name_byte, is_ascii_text_byte}
 use Rattle.rdf_terms.specs.Shapes.{is_live}
 use Rattle.rdf_terms.specs.Values.{is_fit}
-use Rattle.rdf_tokens.specs.declared.front.Bare.{Bare}
+use Rattle.rdf_tokens.specs.declared.front.NoNames.{NoNames}
 use Rattle.rdf_tokens.specs.declared.states.text.Quote.{Quote}
 use Rattle.rdf_tokens.specs.declared.states.text.Quote.TheVariants.{Double, Single}
 use Rattle.rdf_tokens.specs.Tokens.{longest}
@@ -33,13 +33,13 @@ single Turtle c = cond (c == 59) (Some Semicolon) (cond (c == 44) (Some Comma) (
     (cond (c == 40) (Some OpenParen) (cond (c == 41) (Some CloseParen) (cond (c == 123) (Some OpenBrace) (cond (c == 125) (Some CloseBrace) None)))))))
 
 -- the text is longer than what is left after the run without names
-abbrev pub stands_bare : ℕ → Option Bare → Bool
-stands_bare n None = false
-stands_bare n (Some b) = nat_lt b.left n
+abbrev pub stands_without_names : ℕ → Option NoNames → Bool
+stands_without_names n None = false
+stands_without_names n (Some b) = nat_lt b.left n
 
 -- a letter of Turtle, at which names were not sought before
-abbrev pub is_sought : Dialect → List ℕ → Option Bare → Bool
-is_sought d bs b = not (stands_bare (length bs) b) && (is_turtle d && is_letter (get_or bs 0 0))
+abbrev pub is_sought : Dialect → List ℕ → Option NoNames → Bool
+is_sought d bs b = not (stands_without_names (length bs) b) && (is_turtle d && is_letter (get_or bs 0 0))
 
 -- ':' stands at a place
 abbrev pub is_colon : List ℕ → ℕ → Bool

@@ -111,13 +111,13 @@ fn is_one_space_byte(dialect: Dialect, bytes: &[u8]) -> bool
     ensures feeds { result ≡ true → count_by (λ b. b == 10) (take 1 bytes.now) ≡ 0 }
 {
     match bytes {
-        [b' ', next, ..] => behind(dialect, false, *next).is_none(),
+        [b' ', next, ..] => comment_step(dialect, false, *next).is_none(),
         _ => false,
     }
 }
 
 /// Whether a comment is open after a byte; None where the byte is neither white space nor in a comment.
-fn behind(dialect: Dialect, in_comment: bool, byte: u8) -> Option<bool>
+fn comment_step(dialect: Dialect, in_comment: bool, byte: u8) -> Option<bool>
     ensures { result ≡ comment_step dialect in_comment byte }
 {
     if in_comment && !is_line_end(byte) {

@@ -6,7 +6,7 @@ ghost use Rattle.rdf_terms.specs.Shapes.{is_live};
 ghost use Rattle.rdf_tokens.specs.Tokens.{three_quotes, only_long, with_length, longest};
 ghost use Rattle.rdf_tokens.specs.Front.{Reached, IsLongestByStates, in_bytes, longer_front, state_of, kind_here, open_state};
 ghost use Rattle.rdf_tokens.specs.Walk.{Walked, IsWalk, IsCounted, walk_kept};
-ghost use Rattle.rdf_tokens.specs.Bare.{is_bare_byte, IsBare, IsBareIn};
+ghost use Rattle.rdf_tokens.specs.NoNames.{is_prefix_byte, BeginsNoName, HasNoNames};
 ghost use Rattle.rdf_terms.specs.Classes.{is_letter};
 ghost use Rattle.rdf_terms.specs.Runs.{IsRun};
 ghost use Rattle.rdf_tokens.specs.declared.states.machine.State.TheVariants.{Name as name};
@@ -48,7 +48,7 @@ pub(crate) struct Walk {
 /// text, of each name that would begin there with a letter of ASCII, and how many bytes the text has more than the states go
 /// over characters.
 #[derive(Clone, Copy)]
-pub(crate) struct Bare {
+pub(crate) struct NoNames {
     pub(crate) left: usize,
     state: Option<State>,
     pub(crate) out: usize,
@@ -61,16 +61,16 @@ pub(crate) fn front_of(
     text: &str,
     more: bool,
     walk: &mut Option<Walk>,
-    bare: &mut Option<Bare>,
+    no_names: &mut Option<NoNames>,
 ) -> Front
     requires walked { Walked dialect text.now walk.old }
-    requires bare { IsBareIn dialect text.now bare.old }
+    requires no_names { HasNoNames dialect text.now no_names.old }
     ensures best { result.best ≡ in_bytes (chars text.now) (longest dialect (chars text.now) (length (chars text.now))) }
     ensures live { result.live ≡ is_live dialect (chars text.now) }
     ensures walked { Walked dialect text.now walk.new }
-    ensures bare { IsBareIn dialect text.now bare.new }
+    ensures no_names { HasNoNames dialect text.now no_names.new }
 {
-    let shaped = shaped_front(dialect, text, walk, bare);
+    let shaped = shaped_front(dialect, text, walk, no_names);
     keep(walk, text, more, &shaped);
     Front {
         best: longer(
@@ -134,17 +134,17 @@ fn shaped_front(
     dialect: Dialect,
     text: &str,
     walk: &Option<Walk>,
-    bare: &mut Option<Bare>,
+    no_names: &mut Option<NoNames>,
 ) -> Shaped
     requires walked { Walked dialect text.now walk.now }
-    requires bare { IsBareIn dialect text.now bare.old }
+    requires no_names { HasNoNames dialect text.now no_names.old }
     ensures best { IsLongestByStates dialect text.now result.len result.kind }
     ensures state { result.state ≡ open_state dialect (state_of dialect (chars text.now)) }
-    ensures bare { IsBareIn dialect text.now bare.new }
+    ensures no_names { HasNoNames dialect text.now no_names.new }
 {
     match walk {
         Some(walk) => resumed_front(dialect, text, walk),
-        None => first_front(dialect, text, bare),
+        None => first_front(dialect, text, no_names),
     }
 }
 
@@ -167,11 +167,11 @@ fn resumed_front(dialect: Dialect, text: &str, walk: &Walk) -> Shaped
     }
 }
 
-fn first_front(dialect: Dialect, text: &str, bare: &mut Option<Bare>) -> Shaped
-    requires { IsBareIn dialect text.now bare.old }
+fn first_front(dialect: Dialect, text: &str, no_names: &mut Option<NoNames>) -> Shaped
+    requires { HasNoNames dialect text.now no_names.old }
     ensures best { IsLongestByStates dialect text.now result.len result.kind }
     ensures state { result.state ≡ open_state dialect (state_of dialect (chars text.now)) }
-    ensures bare { IsBareIn dialect text.now bare.new }
+    ensures no_names { HasNoNames dialect text.now no_names.new }
 {
     if text.is_empty() {
         return Shaped {
@@ -187,7 +187,7 @@ fn first_front(dialect: Dialect, text: &str, bare: &mut Option<Bare>) -> Shaped
         Family::Text => front_from(dialect, text, next, Text::Start.step(dialect, c), 0, None),
         Family::Tag => front_from(dialect, text, next, Tag::Start.step(c), 0, None),
         Family::Number => front_from(dialect, text, next, Number::Start.step(dialect, c), 0, None),
-        Family::Name => name_front(dialect, text, Name::Start.step(dialect, c), next, bare),
+        Family::Name => name_front(dialect, text, Name::Start.step(dialect, c), next, no_names),
         Family::None => Shaped {
             len: 0,
             kind: None,
@@ -203,15 +203,15 @@ fn name_front(
     text: &str,
     begun: Name,
     first: usize,
-    bare: &mut Option<Bare>,
+    no_names: &mut Option<NoNames>,
 ) -> Shaped
     requires name { Reached dialect text.now first (name begun) (with_length first (kind_here dialect text.now (name begun)) None) }
-    requires bare { IsBareIn dialect text.now bare.old }
+    requires no_names { HasNoNames dialect text.now no_names.old }
     ensures best { IsLongestByStates dialect text.now result.len result.kind }
     ensures state { result.state ≡ open_state dialect (state_of dialect (chars text.now)) }
-    ensures bare { IsBareIn dialect text.now bare.new }
+    ensures no_names { HasNoNames dialect text.now no_names.new }
 {
-    if let Some(known) = *bare {
+    if let Some(known) = *no_names {
         if known.left < text.len() && begins_in_letter(text.as_bytes()) {
             return Shaped {
                 len: 0,
@@ -222,7 +222,7 @@ fn name_front(
     }
     let shaped = front_from(dialect, text, first, begun, 0, None);
     if shaped.kind.is_none() {
-        *bare = bare_of(dialect, text, shaped.state);
+        *no_names = no_names_of(dialect, text, shaped.state);
     }
     shaped
 }
@@ -230,14 +230,14 @@ fn name_front(
 /// What is known of names where the text is the beginning of none, and its states lead to this one.
 #[cold]
 #[inline(never)]
-fn bare_of(dialect: Dialect, text: &str, state: Option<State>) -> Option<Bare>
-    requires { IsBare dialect (chars text.now) state }
-    ensures { IsBareIn dialect text.now result }
+fn no_names_of(dialect: Dialect, text: &str, state: Option<State>) -> Option<NoNames>
+    requires { BeginsNoName dialect (chars text.now) state }
+    ensures { HasNoNames dialect text.now result }
 {
     let bytes = text.as_bytes();
     match dialect {
-        Dialect::Turtle if begins_in_letter(bytes) => Some(Bare {
-            left: bytes.len() - bare_end(bytes),
+        Dialect::Turtle if begins_in_letter(bytes) => Some(NoNames {
+            left: bytes.len() - prefix_end(bytes),
             state,
             out: bytes.len() - states_end(dialect, text),
         }),
@@ -252,18 +252,18 @@ pub(crate) fn begins_in_letter(text: &[u8]) -> bool
 }
 
 /// How many of the first bytes a prefix has, dots too, in ASCII.
-fn bare_end(bytes: &[u8]) -> usize
-    ensures { IsRun is_bare_byte bytes.now 0 result }
+fn prefix_end(bytes: &[u8]) -> usize
+    ensures { IsRun is_prefix_byte bytes.now 0 result }
 {
     let mut at = 0;
-    while at < bytes.len() && is_bare_byte(bytes[at]) {
+    while at < bytes.len() && is_prefix_byte(bytes[at]) {
         at += 1;
     }
     at
 }
 
-fn is_bare_byte(byte: u8) -> bool
-    ensures { result ≡ is_bare_byte byte }
+fn is_prefix_byte(byte: u8) -> bool
+    ensures { result ≡ is_prefix_byte byte }
 {
     matches!(byte, b'A'..=b'Z' | b'a'..=b'z' | b'0'..=b'9' | b'_' | b'-' | b'.')
 }

@@ -4,10 +4,10 @@ ghost use Rattle.std.specs.Str.{chars};
 ghost use Rattle.std.specs.Prelude.{◌≡◌, ◌||◌, ℕ, false};
 ghost use Rattle.rdf_tokens.specs.Tokens.{is_empty, over, step};
 ghost use Rattle.rdf_tokens.specs.Walk.{Walked};
-ghost use Rattle.rdf_tokens.specs.Bare.{IsBareIn};
-ghost use Rattle.rdf_tokens.specs.Look.{behind, IsLook, IsFirstLook, CutsAt, decided_by};
+ghost use Rattle.rdf_tokens.specs.NoNames.{HasNoNames};
+ghost use Rattle.rdf_tokens.specs.Look.{tail_after, IsLook, IsFirstLook, CutsAt, decided_by};
 
-use crate::front::{Bare, Walk, front_of};
+use crate::front::{NoNames, Walk, front_of};
 use crate::over::is_over;
 use crate::quick::quick_front;
 use rdf_terms::{Dialect, Kind, Reason, is_fit};
@@ -44,17 +44,17 @@ pub(crate) fn first_look(
     text: &str,
     limit: u64,
     walk: &Option<Walk>,
-    bare: &Option<Bare>,
+    no_names: &Option<NoNames>,
 ) -> Option<Look>
     requires walked { Walked dialect text.now walk.now }
-    requires bare { IsBareIn dialect text.now bare.now }
+    requires no_names { HasNoNames dialect text.now no_names.now }
     ensures { IsFirstLook dialect limit result text.now }
 {
-    if is_over(dialect, text, limit, walk, bare) {
+    if is_over(dialect, text, limit, walk, no_names) {
         return Some(Look::Stop(Reason::TokenTooLong));
     }
     if walk.is_none() {
-        let quick = quick_front(dialect, text, bare);
+        let quick = quick_front(dialect, text, no_names);
         if let Some(kind) = quick.kind {
             return Some(Look::Token(quick.len, kind));
         }
@@ -68,15 +68,15 @@ pub(crate) fn look_at(
     text: &str,
     tail: Tail,
     walk: &mut Option<Walk>,
-    bare: &mut Option<Bare>,
+    no_names: &mut Option<NoNames>,
 ) -> Look
     requires walked { Walked dialect text.now walk.old }
-    requires bare { IsBareIn dialect text.now bare.old }
-    ensures look { (limit : ℕ) → over dialect limit (chars text.now) ≡ false → IsLook result (step dialect limit (behind tail) (chars text.now)) (chars text.now) }
+    requires no_names { HasNoNames dialect text.now no_names.old }
+    ensures look { (limit : ℕ) → over dialect limit (chars text.now) ≡ false → IsLook result (step dialect limit (tail_after tail) (chars text.now)) (chars text.now) }
     ensures walked { Walked dialect text.now walk.new }
-    ensures bare { IsBareIn dialect text.now bare.new }
+    ensures no_names { HasNoNames dialect text.now no_names.new }
 {
-    let front = front_of(dialect, text, may_grow(tail), walk, bare);
+    let front = front_of(dialect, text, may_grow(tail), walk, no_names);
     let waits = is_open(text, front.live);
     match tail {
         Tail::GoesOn if waits => Look::Undecided,

@@ -5,11 +5,11 @@ ghost use Rattle.std.specs.Str.{chars};
 ghost use Rattle.rdf_tokens.specs.Tokens.{over};
 ghost use Rattle.rdf_tokens.specs.Over.{shaped_over, HasCome};
 ghost use Rattle.rdf_tokens.specs.Walk.{Walked};
-ghost use Rattle.rdf_tokens.specs.Bare.{IsBareIn, Ends, ends_within};
+ghost use Rattle.rdf_tokens.specs.NoNames.{HasNoNames, Ends, ends_within};
 ghost use Rattle.rdf_tokens.specs.Machine.{goes_on};
 
 use crate::bytes::char_at;
-use crate::front::{Bare, Walk, begins_in_letter};
+use crate::front::{NoNames, Walk, begins_in_letter};
 use crate::states::fixed::is_fixed_over;
 use crate::states::machine::State;
 use rdf_terms::Dialect;
@@ -21,17 +21,18 @@ pub(crate) fn is_over(
     text: &str,
     limit: u64,
     walk: &Option<Walk>,
-    bare: &Option<Bare>,
+    no_names: &Option<NoNames>,
 ) -> bool
     requires walked { Walked dialect text.now walk.now }
-    requires bare { IsBareIn dialect text.now bare.now }
+    requires no_names { HasNoNames dialect text.now no_names.now }
     ensures { result ≡ over dialect limit (chars text.now) }
 {
     if text.len() as u64 <= limit {
         return false;
     }
     let most = limit as usize;
-    is_shaped_over(dialect, text, most, walk, bare) || is_fixed_over(dialect, text.as_bytes(), most)
+    is_shaped_over(dialect, text, most, walk, no_names)
+        || is_fixed_over(dialect, text.as_bytes(), most)
 }
 
 /// The same by the states, which go on from where they came. Where it is known that they end within the limit, they are not asked.
@@ -40,25 +41,25 @@ fn is_shaped_over(
     text: &str,
     limit: usize,
     walk: &Option<Walk>,
-    bare: &Option<Bare>,
+    no_names: &Option<NoNames>,
 ) -> bool
     requires long { limit < length text.now }
     requires walked { Walked dialect text.now walk.now }
-    requires bare { IsBareIn dialect text.now bare.now }
+    requires no_names { HasNoNames dialect text.now no_names.now }
     ensures { result ≡ shaped_over dialect limit (chars text.now) }
 {
-    if ends_within(text.as_bytes(), limit, bare) {
+    if ends_within(text.as_bytes(), limit, no_names) {
         return false;
     }
     is_over_from(dialect, text, limit, resumed(walk, limit))
 }
 
 /// Whether no name begins with the letter at the front, and the states are known to end within so many characters.
-fn ends_within(bytes: &[u8], limit: usize, bare: &Option<Bare>) -> bool
+fn ends_within(bytes: &[u8], limit: usize, no_names: &Option<NoNames>) -> bool
     requires { limit < length bytes.now }
-    ensures { result ≡ ends_within limit bytes.now bare.now }
+    ensures { result ≡ ends_within limit bytes.now no_names.now }
 {
-    match bare {
+    match no_names {
         Some(known) => {
             known.left < bytes.len() && bytes.len() - limit <= known.out && begins_in_letter(bytes)
         }

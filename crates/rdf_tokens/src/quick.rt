@@ -11,7 +11,7 @@ ghost use Rattle.rdf_tokens.specs.Quick.{begins_iri, quote_byte, opens_with, beg
 ghost use Rattle.rdf_tokens.specs.Quick.{begins_tag, begins_directive, is_part_byte, is_tag_end, is_later_end};
 ghost use Rattle.rdf_terms.specs.Runs.{IsRun, is_ascii_text_byte};
 
-use crate::front::{Bare, begins_in_letter};
+use crate::front::{NoNames, begins_in_letter};
 use crate::states::text::Quote;
 use rdf_terms::runs::{Run, run_end};
 use rdf_terms::{Dialect, Kind};
@@ -26,7 +26,7 @@ pub(crate) struct Quick {
 /// The token that a text begins with, where its first bytes settle it: a byte that is one by itself, a plain text up to its delimiter, or a name, a
 /// label or a number of ASCII with the byte after it.
 #[inline(always)]
-pub(crate) fn quick_front(dialect: Dialect, text: &str, bare: &Option<Bare>) -> Quick
+pub(crate) fn quick_front(dialect: Dialect, text: &str, no_names: &Option<NoNames>) -> Quick
     ensures { IsQuick dialect text.now result.len result.kind }
 {
     let bytes = text.as_bytes();
@@ -37,7 +37,7 @@ pub(crate) fn quick_front(dialect: Dialect, text: &str, bare: &Option<Bare>) -> 
     if kind.is_some() {
         return Quick { len: 1, kind };
     }
-    if is_sought(dialect, bytes, bare) {
+    if is_sought(dialect, bytes, no_names) {
         return quick_name(text);
     }
     if is_named(dialect, bytes) {
@@ -301,7 +301,7 @@ fn is_part_byte(byte: u8) -> bool
     is_letter(byte) || is_digit(byte)
 }
 
-/// Whether there is a byte of ASCII that is no hyphen. Behind a run of letters, or of letters and digits after a hyphen, no tag goes on with it.
+/// Whether there is a byte of ASCII that is no hyphen. After a run of letters, or of letters and digits after a hyphen, no tag goes on with it.
 #[inline(always)]
 fn is_tag_end(bytes: &[u8], at: usize) -> bool
     ensures { result ≡ is_tag_end bytes.now at }
@@ -345,10 +345,10 @@ fn single(dialect: Dialect, byte: u8) -> Option<Kind>
 
 /// Whether the text begins with a letter, and not before the end within which no names are.
 #[inline(always)]
-fn is_sought(dialect: Dialect, bytes: &[u8], bare: &Option<Bare>) -> bool
-    ensures { result ≡ is_sought dialect bytes.now bare.now }
+fn is_sought(dialect: Dialect, bytes: &[u8], no_names: &Option<NoNames>) -> bool
+    ensures { result ≡ is_sought dialect bytes.now no_names.now }
 {
-    match bare {
+    match no_names {
         Some(known) if known.left < bytes.len() => false,
         _ => dialect == Dialect::Turtle && begins_in_letter(bytes),
     }

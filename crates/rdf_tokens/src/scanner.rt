@@ -7,14 +7,14 @@ ghost use mathlib.Core.Option.{none};
 ghost use Rattle.std.specs.Borrow.{sem, follows_so};
 ghost use Rattle.rdf_tokens.specs.Tokens.{Token as Read, step, is_empty};
 ghost use Rattle.rdf_tokens.specs.Scans.{HasScanned, Pushes, Gives, most_bytes, token_of, place_of, unread_bytes, IsWaiting, most_unread, fitting};
-ghost use Rattle.rdf_tokens.specs.Look.{behind, IsLook};
+ghost use Rattle.rdf_tokens.specs.Look.{tail_after, IsLook};
 ghost use Rattle.rdf_tokens.specs.contracts.scanner.Scanner.{the_row};
 ghost use Rattle.rdf_tokens.specs.Moves.{closed, grown, good_bytes, is_broken, rest_of_bytes, is_settled, tail_now, fault_place, is_flat, GivesBytes, IsEndGiven, Moves, MovesBytes, Stands};
 ghost use Rattle.rdf_tokens.specs.Passing.{is_idle, passed};
 ghost use Rattle.rdf_tokens.specs.Front.{bytes_of};
 
 use crate::blank::{blank_run, is_one_space};
-use crate::front::{Bare, Walk};
+use crate::front::{NoNames, Walk};
 use crate::good::{few_line_feeds, good_front, line_feeds, mark_len};
 use crate::look::{Look, Tail, first_look, look_at};
 use crate::token::{Fault, Token};
@@ -36,7 +36,7 @@ pub struct Scanner<A: Allocator = Global> {
     // How far the states have come in the token that the rest of the text begins with, where it is open.
     walk: Option<Walk>,
     // Up to where the text is known to have no name.
-    bare: Option<Bare>,
+    no_names: Option<NoNames>,
     // The bytes after the text that begin a character.
     pending: Vec<u8, A>,
     broken: bool,
@@ -73,7 +73,7 @@ impl<A: Allocator> Model for Scanner<A> {
       stopped = s.stopped;
     } };
 
-    ghost invariant = { λ s. Holds s.dialect s.limit (string_bytes s.text) s.start s.walk s.bare s.pending.items
+    ghost invariant = { λ s. Holds s.dialect s.limit (string_bytes s.text) s.start s.walk s.no_names s.pending.items
         (record { offset = s.offset; line = s.line }) (record { offset = s.taken; line = s.last_line }) };
 }
 
@@ -91,7 +91,7 @@ impl<A: Allocator + Copy> Scanner<A> {
             text: String::new(alloc),
             start: 0,
             walk: None,
-            bare: None,
+            no_names: None,
             pending: Vec::new(alloc),
             broken: false,
             begun: false,
@@ -213,16 +213,16 @@ impl<A: Allocator + Copy> Scanner<A> {
         ensures same { self.new ≡ self.old }
     {
         let rest = &self.text.as_str()[self.start..];
-        if let Some(look) = first_look(self.dialect, rest, self.limit, &self.walk, &self.bare) {
+        if let Some(look) = first_look(self.dialect, rest, self.limit, &self.walk, &self.no_names) {
             return look;
         }
         let tail = self.tail();
         let rest = &self.text.as_str()[self.start..];
-        look_at(self.dialect, rest, tail, &mut self.walk, &mut self.bare)
+        look_at(self.dialect, rest, tail, &mut self.walk, &mut self.no_names)
     }
 
     fn tail(&self) -> Tail
-        ensures { behind result ≡ tail_now self.now }
+        ensures { tail_after result ≡ tail_now self.now }
     {
         if self.broken || self.ended && !self.pending.is_empty() {
             Tail::Broken
@@ -310,7 +310,7 @@ impl<A: Allocator + Copy> Scanner<A> {
         if !self.broken {
             drop_front(&mut self.text, self.start)?;
             self.start = 0;
-            self.bare = None;
+            self.no_names = None;
             self.broken = add_piece(&mut self.text, &mut self.pending, piece)?;
         }
         self.taken += piece.len() as u64;

@@ -208,9 +208,9 @@ held_of g m r (held.Nil cell) = cells_quad g cell nil
 held_of g m r h = object_quad g m (object_of r h)
 
 -- where a statement's dot leads
-abbrev pub behind_dot : M.Level → M.Mode
-behind_dot M.Top = M.Start
-behind_dot M.InBlock = M.Inside
+abbrev pub mode_after_dot : M.Level → M.Mode
+mode_after_dot M.Top = M.Start
+mode_after_dot M.InBlock = M.Inside
 
 -- the setting of the statement of a state
 abbrev pub setting_in : {A : Type 0} → InForce → State A → Setting

@@ -40,7 +40,7 @@ fn is_too_deep(most: u64, depth: u64, kind: Kind) -> bool
 }
 
 // How many brackets are open after a token.
-fn depth_behind(depth: u64, kind: Kind) -> u64
+fn depth_after(depth: u64, kind: Kind) -> u64
     requires { DepthMay kind depth }
     ensures { DepthMoves kind depth result }
 {
@@ -108,7 +108,7 @@ impl<A: Allocator + Copy> State<A> {
     {
         match self.go_on(form, token) {
             Ok(()) => {
-                self.depth = depth_behind(self.depth, token.kind);
+                self.depth = depth_after(self.depth, token.kind);
                 Ok(())
             }
             Err(fault) => Err(fault),

@@ -7,7 +7,7 @@ ghost use Rattle.rdf_lines.specs.Lines.{Leaf};
 ghost use Rattle.rdf_trig.specs.declared.form.DocForm.{DocForm};
 ghost use Rattle.rdf_trig.specs.Machine as M;
 ghost use Rattle.rdf_trig.specs.States.{IsTurtleToken, IsNamed, use_at, graph_of, graph_at, outer_of, outer_graph, level_of};
-ghost use Rattle.rdf_trig.specs.States.{place_of, up_of, mode_at, behind_dot, semi_at, up_in, place_in, setting_in, Gives, Replies, RepliesTo, around_in};
+ghost use Rattle.rdf_trig.specs.States.{place_of, up_of, mode_at, mode_after_dot, semi_at, up_in, place_in, setting_in, Gives, Replies, RepliesTo, around_in};
 ghost use Rattle.rdf_trig.specs.Holding.{outer_bytes, level_bytes, frame_bytes, TextFits, NameFits, FrameFits, OpenFits, Fits, Closes, frames_most};
 
 use crate::allows::begins_verb;
@@ -267,7 +267,7 @@ impl<A: Allocator + Copy> State<A> {
 // Where a statement's dot leads.
 fn after_dot(level: Level) -> Outer
     ensures graph { (g : M.Topic) → outer_graph result g ≡ graph_of level g }
-    ensures mode { (p : List ℕ) (g : M.Topic) → outer_of result p g ≡ behind_dot (level_of level) }
+    ensures mode { (p : List ℕ) (g : M.Topic) → outer_of result p g ≡ mode_after_dot (level_of level) }
     ensures bytes { (p : ℕ) (g : M.Topic) → outer_bytes result p g ≡ level_bytes level g }
 {
     match level {

@@ -75,23 +75,23 @@ abbrev quads_out : M.State → Kind → Leaf → List Quad
 quads_out n k l = n.held ++ kept (M.waiting n.setting n.mode k l) []
 
 -- the machine's state after a reply, with the quads that it holds back
-abbrev behind : Option Quad → Option Quad → Setting → M.Mode → M.State
-behind early now c m = record { setting = c; mode = m; held = kept early (kept now []) }
+abbrev after : Option Quad → Option Quad → Setting → M.Mode → M.State
+after early now c m = record { setting = c; mode = m; held = kept early (kept now []) }
 
 -- the answer to an allowed token is decided by what the token stands for alone
 answer_is : (form : DocForm) (n : M.State) (k : Kind) (l : Leaf) (u : Use) (early now : Option Quad) (c : Setting) (m : M.Mode) → May form n k l →
     M.step form n.setting n.mode k l ≡ Go u early now c m → M.accept form n k l ≡ by_use n.setting.scope.limits k u
-    (accepts (quads_out n k l) (behind early now c m))
+    (accepts (quads_out n k l) (after early now c m))
 answer_is form n k l u early now c m may e =
     ap (M.answer n.setting.scope.limits n k (M.waiting n.setting n.mode k l)) e
-    ∙ cond-false (M.deepens k && nat_le n.setting.scope.limits.depth (M.depth n.mode)) (refuses refusal.too_deep) (by_use n.setting.scope.limits k u (accepts (quads_out n k l) (behind early now c m))) may.1
+    ∙ cond-false (M.deepens k && nat_le n.setting.scope.limits.depth (M.depth n.mode)) (refuses refusal.too_deep) (by_use n.setting.scope.limits k u (accepts (quads_out n k l) (after early now c m))) may.1
 
 -- and what it stands for passes
 passed : (form : DocForm) (n : M.State) (k : Kind) (l : Leaf) → May form n k l → IsAdmitted n.setting.scope.limits k (use_in n.setting.scope n.mode k l) →
     (o : M.State) × (M.accept form n k l ≡ accepts (quads_out n k l) o)
 passed form n k l may p =
     let r = goes (M.step form n.setting n.mode k l) may.0 in
-    let o = behind r.1 r.2 r.3 r.4 in
+    let o = after r.1 r.2 r.3 r.4 in
     let same = step_use form n.setting n.mode k l r.0 r.1 r.2 r.3 r.4 r.5 in
     (o, answer_is form n k l r.0 r.1 r.2 r.3 r.4 may r.5 ∙ (ap (λ u. by_use n.setting.scope.limits k u (accepts (quads_out n k l) o)) same ∙ p (accepts (quads_out n k l) o)))
 
@@ -100,7 +100,7 @@ stops_answer : (form : DocForm) (n : M.State) (k : Kind) (l : Leaf) (e : refusal
     ((a : M.Answer) → by_use n.setting.scope.limits k (use_in n.setting.scope n.mode k l) a ≡ refuses e) → M.accept form n k l ≡ refuses e
 stops_answer form n k l e may s =
     let r = goes (M.step form n.setting n.mode k l) may.0 in
-    let o = behind r.1 r.2 r.3 r.4 in
+    let o = after r.1 r.2 r.3 r.4 in
     let same = step_use form n.setting n.mode k l r.0 r.1 r.2 r.3 r.4 r.5 in
     answer_is form n k l r.0 r.1 r.2 r.3 r.4 may r.5 ∙ (ap (λ u. by_use n.setting.scope.limits k u (accepts (quads_out n k l) o)) same ∙ s (accepts (quads_out n k l) o))
 

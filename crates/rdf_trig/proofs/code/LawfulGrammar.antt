@@ -114,7 +114,7 @@ module _ {S : Type 0} (takes : S → Quad → S → Type 0) (g : TreeAt) (t : To
       due = λ x ts qs r.
           let reads = begins x.form x.start ts r.2.machine qs r.2.accepted in
           let none : qs ≡ (qs ++ []) ++ [] = sym (append-nil (qs ++ []) ∙ append-nil qs) in
-          record { ahead = ts; behind = t ∷ []; tokens = refl; kept = reads.front.kept; rest = []; due = subst (Due (documents x.form x.start) ts) none reads.due };
+          record { ahead = ts; after = t ∷ []; tokens = refl; kept = reads.front.kept; rest = []; due = subst (Due (documents x.form x.start) ts) none reads.due };
     }
 
     -- Some of what the machine gives out was put, from the first quad on.
@@ -131,7 +131,7 @@ module _ {S : Type 0} (takes : S → Quad → S → Type 0) (g : TreeAt) (t : To
               let next = runs_one x.form x.start ts t qs all g.state n n r.2 (by_form x (accepts all n) r.0 e) (state_self n) in
               let reads = begins x.form x.start us next.machine (qs ++ all) next.accepted in
               let split : qs ++ all ≡ (qs ++ h.0) ++ h.1 = ap (λ y. qs ++ y) h.2 ∙ sym (append_assoc qs h.0 h.1) in
-              record { ahead = us; behind = []; tokens = sym (append-nil us); kept = reads.front.kept; rest = h.1; due = subst (Due (documents x.form x.start) us) split reads.due };
+              record { ahead = us; after = []; tokens = sym (append-nil us); kept = reads.front.kept; rest = h.1; due = subst (Due (documents x.form x.start) us) split reads.due };
         }
 
     -- The machine refuses, and nothing was put.

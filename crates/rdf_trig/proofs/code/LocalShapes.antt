@@ -195,8 +195,8 @@ lacks r [] n a = tt
 lacks r (c ∷ w) n a = ((λ e. false≢true (sym n ∙ subst (λ x. uses r x ≡ true) e a.0)), lacks r w n a.1)
 
 -- a prefix has no ':', so the first ':' of a name ends its prefix
-behind_colon : (p l : List ℕ) → Matches (optional pn_prefix) p → after 58 (p ++ 58 ∷ l) ≡ Some l
-behind_colon p l m = (cut_suffix 58 p (Some l) (lacks (optional pn_prefix) p no_colon (all_used (optional pn_prefix) p m))).1
+colon_passed : (p l : List ℕ) → Matches (optional pn_prefix) p → after 58 (p ++ 58 ∷ l) ≡ Some l
+colon_passed p l m = (cut_suffix 58 p (Some l) (lacks (optional pn_prefix) p no_colon (all_used (optional pn_prefix) p m))).1
 
 -- what follows the first ':' of a PNAME_LN has a meaning
 local_ln : (w : List ℕ) → Shape Turtle PnameLn w → MeansLocal (unwrap_or (after 58 w) [])
@@ -204,7 +204,7 @@ unfolding shape
 local_ln w m =
     let b = m.3 in
     let rest : m.1 ≡ 58 ∷ b.1 = b.4 ∙ ap (λ x. x ++ b.1) (b.2.2 ∙ ap (λ (z : ℕ). z ∷ []) (the_char 58 b.2.0 b.2.1)) in
-    let at : after 58 w ≡ Some b.1 = ap (after 58) (m.4 ∙ ap (λ x. m.0 ++ x) rest) ∙ behind_colon m.0 b.1 m.2 in
+    let at : after 58 w ≡ Some b.1 = ap (after 58) (m.4 ∙ ap (λ x. m.0 ++ x) rest) ∙ colon_passed m.0 b.1 m.2 in
     subst MeansLocal (sym (ap (λ o. unwrap_or o []) at)) (means b.1 (good_local.good b.1 b.3))
 
 -- what follows the ':' of a PNAME_NS is empty, and has a meaning
@@ -212,7 +212,7 @@ local_ns : (w : List ℕ) → Shape Turtle PnameNs w → MeansLocal (unwrap_or (
 unfolding shape
 local_ns w m =
     let rest : m.1 ≡ 58 ∷ [] = m.3.2 ∙ ap (λ (z : ℕ). z ∷ []) (the_char 58 m.3.0 m.3.1) in
-    let at : after 58 w ≡ Some [] = ap (after 58) (m.4 ∙ ap (λ x. m.0 ++ x) rest) ∙ behind_colon m.0 [] m.2 in
+    let at : after 58 w ≡ Some [] = ap (after 58) (m.4 ∙ ap (λ x. m.0 ++ x) rest) ∙ colon_passed m.0 [] m.2 in
     subst MeansLocal (sym (ap (λ o. unwrap_or o []) at)) refl
 
 -- what follows the first ':' of a prefixed name of either kind has a meaning

@@ -51,9 +51,9 @@ begins_more : {S : Type 0} (takes leaves : S → Quad → S → Type 0) (a b : S
 begins_more takes leaves a b qs rs h = (h.0, h.1 ++ rs, ap (λ x. x ++ rs) h.2 ∙ append_assoc h.0 h.1 rs, h.3)
 
 -- some quads after others that were all put are a beginning of both
-begins_behind : {S : Type 0} (takes leaves : S → Quad → S → Type 0) (a b c : S) (qs rs : List Quad) → Appends takes a qs b →
+begins_after : {S : Type 0} (takes leaves : S → Quad → S → Type 0) (a b c : S) (qs rs : List Quad) → Appends takes a qs b →
     Begins takes leaves rs b c → Begins takes leaves (qs ++ rs) a c
-begins_behind takes leaves a b c qs rs h k = (qs ++ k.0, k.1, ap (λ x. qs ++ x) k.2 ∙ sym (append_assoc qs k.0 k.1), attempts_append takes leaves a b c qs k.0 h k.3)
+begins_after takes leaves a b c qs rs h k = (qs ++ k.0, k.1, ap (λ x. qs ++ x) k.2 ∙ sym (append_assoc qs k.0 k.1), attempts_append takes leaves a b c qs k.0 h k.3)
 
 -- giving up within some quads is giving up within a longer list
 pub gave_more : {S : Type 0} (takes leaves : S → Quad → S → Type 0) (failed : S → Bool) (r : StepFault) (a b : S) (qs rs : List Quad) →
@@ -63,11 +63,11 @@ gave_more takes leaves failed Sink a b qs rs h = (begins_more takes leaves a b q
 gave_more takes leaves failed r a b qs rs h = absurd h
 
 -- giving up after some quads that were put is giving up within both
-pub gave_behind : {S : Type 0} (takes leaves : S → Quad → S → Type 0) (failed : S → Bool) (r : StepFault) (a b c : S) (qs rs : List Quad) →
+pub gave_after : {S : Type 0} (takes leaves : S → Quad → S → Type 0) (failed : S → Bool) (r : StepFault) (a b c : S) (qs rs : List Quad) →
     Appends takes a qs b → GaveUp takes leaves failed r rs b c → GaveUp takes leaves failed r (qs ++ rs) a c
-gave_behind takes leaves failed Memory a b c qs rs h k = (begins_behind takes leaves a b c qs rs h k.0, k.1)
-gave_behind takes leaves failed Sink a b c qs rs h k = (begins_behind takes leaves a b c qs rs h k.0, k.1)
-gave_behind takes leaves failed r a b c qs rs h k = absurd k
+gave_after takes leaves failed Memory a b c qs rs h k = (begins_after takes leaves a b c qs rs h k.0, k.1)
+gave_after takes leaves failed Sink a b c qs rs h k = (begins_after takes leaves a b c qs rs h k.0, k.1)
+gave_after takes leaves failed r a b c qs rs h k = absurd k
 
 -- the quads that a token determines, one by one
 pub kept_apart : (q r w : Option Quad) → kept q (kept r []) ++ kept w [] ≡ kept q [] ++ (kept r [] ++ kept w [])

@@ -415,9 +415,9 @@ pub owed_inside : Owed TriG start (take 5 open_tokens) 30
 unfolding reference_in name_in resolved is_full has encode
 owed_inside = owed_by 5 30 refl refl
 
-pub owed_behind : Owed TriG start (take 7 open_tokens) 20
+pub owed_after : Owed TriG start (take 7 open_tokens) 20
 unfolding reference_in name_in resolved is_full has encode
-owed_behind = owed_by 7 20 refl refl
+owed_after = owed_by 7 20 refl refl
 
 pub owed_not : Owed TriG start (take 8 open_tokens) 0
 unfolding reference_in name_in resolved is_full has encode

@@ -120,29 +120,29 @@ subject_token = token IriRef (leaf (codes "<a:>") 0 1)
 abbrev dot : Token
 dot = token Dot (leaf (codes ".") 4 1)
 
-abbrev behind_dot : List Token
-behind_dot = token End (leaf [] 6 2) ∷ []
+abbrev mode_after_dot : List Token
+mode_after_dot = token End (leaf [] 6 2) ∷ []
 
-subject_tokens : (reading_of in_turtle subject true).tokens ≡ subject_token ∷ dot ∷ behind_dot
+subject_tokens : (reading_of in_turtle subject true).tokens ≡ subject_token ∷ dot ∷ mode_after_dot
 unfolding tokens_of tokens read step kind_of is_live shape has chars utf8_valid_len utf8_error_len is_utf8 encode is_fit
 subject_tokens = refl
 
-abbrev behind_subject : State
-behind_subject = record { setting = in_default small; mode = WantVerb (sized (Some (term.Iri (codes "a:")))) (Statement Top); held = [] }
+abbrev state_after_subject : State
+state_after_subject = record { setting = in_default small; mode = WantVerb (sized (Some (term.Iri (codes "a:")))) (Statement Top); held = [] }
 
-subject_ran : accept_all Turtle (at_start small) (subject_token ∷ []) ≡ ran behind_subject []
+subject_ran : accept_all Turtle (at_start small) (subject_token ∷ []) ≡ ran state_after_subject []
 unfolding reference_in name_in resolved is_full has encode
 subject_ran = refl
 
-dot_stops : IsRefusedAfter Turtle small (subject_token ∷ []) dot behind_dot unexpected
-dot_stops = stops Turtle small (subject_token ∷ []) dot behind_dot behind_subject [] unexpected subject_ran refl
+dot_stops : IsRefusedAfter Turtle small (subject_token ∷ []) dot mode_after_dot unexpected
+dot_stops = stops Turtle small (subject_token ∷ []) dot mode_after_dot state_after_subject [] unexpected subject_ran refl
 
 dot_is_refused : Refused in_turtle subject true Unexpected (record { offset = 4; line = 1 })
 dot_is_refused = (
   subject_token ∷ [],
   record {
     token = dot;
-    behind = behind_dot;
+    after = mode_after_dot;
     tokens = subject_tokens;
     place = refl;
     front = subst (λ ts. IsFront (documents Turtle small) (Passes Turtle small) ts (subject_token ∷ [])) (sym subject_tokens) dot_stops.front;

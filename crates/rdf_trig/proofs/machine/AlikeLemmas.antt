@@ -57,13 +57,13 @@ module _ (s t : InForce) (same : SameNames s t) where
   full : (p : List ℕ) → is_full s p ≡ is_full t p
   full p = same_full s t p same
 
-  base_behind : (i : Option (List ℕ)) → SameNames (with_base s i) (with_base t i)
-  base_behind None = same
-  base_behind (Some i) = same_based s t i same
+  base_after : (i : Option (List ℕ)) → SameNames (with_base s i) (with_base t i)
+  base_after None = same
+  base_after (Some i) = same_based s t i same
 
-  binding_behind : (p : List ℕ) (i : Option (List ℕ)) → SameNames (with_binding s p i) (with_binding t p i)
-  binding_behind p None = same
-  binding_behind p (Some i) = same_binding s t (with_binding s p (Some i)) p i same (binds_prefix s p i)
+  binding_after : (p : List ℕ) (i : Option (List ℕ)) → SameNames (with_binding s p i) (with_binding t p i)
+  binding_after p None = same
+  binding_after p (Some i) = same_binding s t (with_binding s p (Some i)) p i same (binds_prefix s p i)
 
   abbrev from : Option (Option term.Subject) → Setting
   from g = record { scope = s; graph = g }
@@ -215,7 +215,7 @@ module _ (s t : InForce) (same : SameNames s t) where
     ap (λ b. binds b (reference_in s l)) (full p) ∙ ap (binds (is_full t p)) (reference l),
     refl,
     refl,
-    (subst (λ i. SameNames (with_binding s p (reference_in s l)) (with_binding t p i)) (reference l) (binding_behind p (reference_in s l)), refl),
+    (subst (λ i. SameNames (with_binding s p (reference_in s l)) (with_binding t p i)) (reference l) (binding_after p (reference_in s l)), refl),
     refl,
   )
   prefix_iri_same g w p k l = tt
@@ -223,7 +223,7 @@ module _ (s t : InForce) (same : SameNames s t) where
   base_iri_same : (g : Option (Option term.Subject)) (w : Spelling) (k : Kind) (l : Leaf) →
       SameReply (want_base_iri (from g) w k l) (want_base_iri (to g) w k l)
   base_iri_same g w IriRef l =
-      (ap stands (reference l), refl, refl, (subst (λ i. SameNames (with_base s (reference_in s l)) (with_base t i)) (reference l) (base_behind (reference_in s l)), refl), refl)
+      (ap stands (reference l), refl, refl, (subst (λ i. SameNames (with_base s (reference_in s l)) (with_base t i)) (reference l) (base_after (reference_in s l)), refl), refl)
   base_iri_same g w k l = tt
 
   dot_same : (g : Option (Option term.Subject)) (k : Kind) (l : Leaf) → SameReply (want_dot (from g) k l) (want_dot (to g) k l)

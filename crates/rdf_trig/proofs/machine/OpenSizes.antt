@@ -327,12 +327,12 @@ walk : (form : DocForm) (ts us : List Token) (c : Setting) (m : Mode) (n : Stand
 walk form [] us c m n hs r e = let z : stand c m ≡ n = cc in ap (λ s. mode_size (Stand.mode s)) z
 walk form (t ∷ ts) us c m n hs r e = by (λ c' k gs f h. walk form ts us c' k n gs f h) (step form c m t.kind (leaf_of t)) hs r e
   where
-    behind : ((c' : Setting) (k : Mode) (gs : List ℕ) → reach true form c' k ts ≡ Some n → sizes form c' k (ts ++ us) ≡ Some gs →
+    later : ((c' : Setting) (k : Mode) (gs : List ℕ) → reach true form c' k ts ≡ Some n → sizes form c' k (ts ++ us) ≡ Some gs →
         held_after (mode_size k) ts gs ≡ mode_size n.mode) →
         (c' : Setting) (k : Mode) (o : Option (List ℕ)) (hs : List ℕ) → sizes form c' k (ts ++ us) ≡ o → with_size (mode_size k) o ≡ Some hs →
         reach true form c' k ts ≡ Some n → held_after (mode_size m) (t ∷ ts) hs ≡ mode_size n.mode
-    behind ih c' k None hs h e r = absurd (let z : None ≡ Some hs = e in cc)
-    behind ih c' k (Some gs) hs h e r =
+    later ih c' k None hs h e r = absurd (let z : None ≡ Some hs = e in cc)
+    later ih c' k (Some gs) hs h e r =
         let z : mode_size k ∷ gs ≡ hs = cc in
         subst (λ x. held_after (mode_size m) (t ∷ ts) x ≡ mode_size n.mode) z (ih c' k gs r h)
 
@@ -342,7 +342,7 @@ walk form (t ∷ ts) us c m n hs r e = by (λ c' k gs f h. walk form ts us c' k 
         sized_reply x (λ c' m'. sizes form c' m' (ts ++ us)) ≡ Some hs → held_after (mode_size m) (t ∷ ts) hs ≡ mode_size n.mode
     by ih No hs r e = absurd (let z : None ≡ Some hs = e in cc)
     by ih (Go u early now c' k) hs r e =
-        behind ih c' k (sizes form c' k (ts ++ us)) hs refl e (was_true (admits true u) (reach true form c' k ts) n r)
+        later ih c' k (sizes form c' k (ts ++ us)) hs refl e (was_true (admits true u) (reach true form c' k ts) n r)
 
 -- what is owed after tokens is what the open predicate lists hold in the mode that they lead to
 owed_in_mode : (form : DocForm) (start : InForce) (ts : List Token) (n : Stand) (size : ℕ) → reach true form (in_default start) Start ts ≡ Some n →

@@ -132,8 +132,8 @@ halfway form (y ∷ ahead) t more s n qs e = by (λ m rest x. halfway form ahead
 -- No token of a run passes a limit.
 pub passes_none : (form : DocForm) (start : InForce) (ts : List Token) (n : State) (qs : List Quad) → accept_all form (at_start start) ts ≡ ran n qs →
     PassesNone (Passes form start) ts
-passes_none form start ts n qs e ahead behind t split p =
-    let h = halfway form ahead t behind (at_start start) n qs (ap (accept_all form (at_start start)) (sym split) ∙ e) in
+passes_none form start ts n qs e ahead after t split p =
+    let h = halfway form ahead t after (at_start start) n qs (ap (accept_all form (at_start start)) (sym split) ∙ e) in
     passes_not form start ahead t h.state h.quads h.next (reached_start form start ahead h.state h.given h.before) h.accepts_it p
 
 -- Why an answer refuses.

@@ -62,15 +62,15 @@ level_events form c InBlock (inl r) = take Dot r.0 (maybe_block_events c r.1 (ta
 level_events form c InBlock (inr r) = take CloseBrace r.0 (document_events c.scope r.1)
 
 -- the events of what follows a label
-abbrev behind_label : (form : DocForm) → Setting → Option term.Subject → RestLabel form → List Event
-behind_label form c s (inl r) = predicates_events c r.0 s (level_events form c Top r.1)
-behind_label form c s (inr r) = wrapped_events (in_graph c.scope s) r.0 (document_events c.scope r.1)
+abbrev events_after_label : (form : DocForm) → Setting → Option term.Subject → RestLabel form → List Event
+events_after_label form c s (inl r) = predicates_events c r.0 s (level_events form c Top r.1)
+events_after_label form c s (inr r) = wrapped_events (in_graph c.scope s) r.0 (document_events c.scope r.1)
 
 -- the events of what follows a subject
-abbrev behind_subject : (form : DocForm) → Setting → (v : Level) → Option term.Subject → RestSubject form v → List Event
-behind_subject form c InBlock s r = predicates_events c r.0 s (level_events form c InBlock r.1)
-behind_subject Turtle c Top s r = predicates_events c r.0 s (level_events Turtle c Top r.1)
-behind_subject TriG c Top s r = behind_label TriG c s r
+abbrev events_after_subject : (form : DocForm) → Setting → (v : Level) → Option term.Subject → RestSubject form v → List Event
+events_after_subject form c InBlock s r = predicates_events c r.0 s (level_events form c InBlock r.1)
+events_after_subject Turtle c Top s r = predicates_events c r.0 s (level_events Turtle c Top r.1)
+events_after_subject TriG c Top s r = events_after_label TriG c s r
 
 abbrev mutual
   place_events : (form : DocForm) → Setting → (p : Place) → RestPlace form p → List Event
@@ -78,7 +78,7 @@ abbrev mutual
   place_events form c (InCells f n u) r = rest_events c r.0 (Cell n) r.1 (up_events form c u was_list (cell f) r.2)
 
   up_events : (form : DocForm) → Setting → (u : Up) → (was : Was) → Option term.Subject → RestUp form u was → List Event
-  up_events form c (Subject v) was_node s r = behind_subject form c v s r
+  up_events form c (Subject v) was_node s r = events_after_subject form c v s r
   up_events form c (Subject v) was_list s r = predicates_events c r.0 s (level_events form c v r.1)
   up_events form c (Subject v) was_box s r = maybe_events c s r.0 (level_events form c v r.1)
   up_events form c (At p) was s r = place_events form c p r
@@ -159,7 +159,7 @@ all_events form c (WantPrefix w) r = take PnameNs r.0 (binding_events form c.sco
 all_events form c (WantPrefixIri w p) r = binding_events form c.scope p w r
 all_events form c (WantBaseIri w) r = name IriRef r.0 (reference_in c.scope r.0) (spelled_events form (with_base c.scope (reference_in c.scope r.0)) w r.1)
 all_events form c WantDot r = take Dot r.0 (document_events c.scope r.1)
-all_events form c (AfterLabel s) r = behind_label form c s.term r
+all_events form c (AfterLabel s) r = events_after_label form c s.term r
 all_events form c GraphWord r = label_events c.scope r.0 (brace_events form c (label_of c.scope r.0) (r.1, r.2))
 all_events form c (GraphBox n) r = take CloseBracket r.0 (brace_events form c (node (Anon n)) (r.1, r.2))
 all_events form c (WantBrace g) r = brace_events form c g r
@@ -187,7 +187,7 @@ unput w t u early now (Some fs) es e = (fs, refl, cc)
 
 -- what the parts of a statement at the top are in each form
 iri_body : (form : DocForm) (i : Iri) (s : InForce) (es : List Event) (r : RestSubject form Top) →
-    es ≡ iri_events s i (behind_subject form (in_default s) Top (named (iri_in s i)) r) →
+    es ≡ iri_events s i (events_after_subject form (in_default s) Top (named (iri_in s i)) r) →
     (d : Document form) × (es ≡ document_events s d)
 iri_body Turtle i s es (ps, (d, rest)) e = (with_body record { triples = subject_triples (iri_subject i) ps; dot = d } rest, e)
 iri_body TriG i s es (inl (ps, (d, rest))) e = (with_body (triples_or_graph (label_triples (iri_label i) ps d)) rest, e)
@@ -195,7 +195,7 @@ iri_body TriG i s es (inr (w, rest)) e = (with_body (triples_or_graph (named_gra
 
 -- a blank node and what follows it are a body of the document
 blank_body : (form : DocForm) (b : BlankNode) (s : InForce) (es : List Event) (r : RestSubject form Top) →
-    es ≡ blank_object_events b None None (behind_subject form (in_default s) Top (node (blank_of b)) r) → (d : Document form) × (es ≡ document_events s d)
+    es ≡ blank_object_events b None None (events_after_subject form (in_default s) Top (node (blank_of b)) r) → (d : Document form) × (es ≡ document_events s d)
 blank_body Turtle b s es (ps, (d, rest)) e = (with_body record { triples = subject_triples (blank_subject b) ps; dot = d } rest, e)
 blank_body TriG b s es (inl (ps, (d, rest))) e = (with_body (triples_or_graph (label_triples (blank_label b) ps d)) rest, e)
 blank_body TriG b s es (inr (w, rest)) e = (with_body (triples_or_graph (named_graph (blank_label b) w)) rest, e)
@@ -216,7 +216,7 @@ collection_body TriG x s es ps (d, rest) e = (with_body (triples2 (collection_tr
 
 -- what is to come after a subject, read as a rest of its production
 as_subject : (form : DocForm) (v : Level) (s : Topic) (c : Setting) (r : Rest form (after_subject form v s)) →
-    (x : RestSubject form v) × (all_events form c (after_subject form v s) r ≡ behind_subject form c v s.term x)
+    (x : RestSubject form v) × (all_events form c (after_subject form v s) r ≡ events_after_subject form c v s.term x)
 as_subject form InBlock s c r = (r, refl)
 as_subject Turtle Top s c r = (r, refl)
 as_subject TriG Top s c r = (r, refl)
@@ -254,10 +254,10 @@ more_of-events c s l (inr m) rest = refl
 module _ (form : DocForm) (next : Setting → Mode → Option (List Event))
     (ih : (c : Setting) (m : Mode) (es : List Event) → next c m ≡ Some es → Found form c m es) where
   -- one step, from what is found after it
-  behind_it : (k : Kind) (l : Leaf) (w : Option Quad) (u : Use) (early now : Option Quad) (c : Setting) (m : Mode) (es : List Event) →
+  after_it : (k : Kind) (l : Leaf) (w : Option Quad) (u : Use) (early now : Option Quad) (c : Setting) (m : Mode) (es : List Event) →
       fronted w (put (token k l) u early now (next c m)) ≡ Some es →
       (r : Rest form m) × (es ≡ give w (Took (token k l) u ∷ give early (give now (all_events form c m r))))
-  behind_it k l w u early now c m es e =
+  after_it k l w u early now c m es e =
       let x = unput w (token k l) u early now (next c m) es e in
       let f = ih c m x.0 x.1 in
       (f.0, x.2 ∙ ap (λ fs. give w (Took (token k l) u ∷ give early (give now fs))) f.1)
@@ -265,13 +265,13 @@ module _ (form : DocForm) (next : Setting → Mode → Option (List Event))
   list_end_found : (c : Setting) (s : Topic) (a : Around) (k : Kind) (l : Leaf) (w : Option Quad) (es : List Event) →
       fronted w (go_on (token k l) (list_end c s a k l) next) ≡ Some es →
       (r : RestAround form a) × (es ≡ give w (around_events form c a s.term r))
-  list_end_found c s (Statement Top) Dot l w es e = let b = behind_it Dot l w itself None None c Start es e in ((l, b.0), b.1)
+  list_end_found c s (Statement Top) Dot l w es e = let b = after_it Dot l w itself None None c Start es e in ((l, b.0), b.1)
   list_end_found c s (Statement Top) k l w es e = absurd (let z : None ≡ Some es = e in cc)
-  list_end_found c s (Statement InBlock) Dot l w es e = let b = behind_it Dot l w itself None None c Inside es e in (inl (l, b.0.0, b.0.1, b.0.2), b.1)
-  list_end_found c s (Statement InBlock) CloseBrace l w es e = let b = behind_it CloseBrace l w itself None None (in_default c.scope) Start es e in (inr (l, b.0), b.1)
+  list_end_found c s (Statement InBlock) Dot l w es e = let b = after_it Dot l w itself None None c Inside es e in (inl (l, b.0.0, b.0.1, b.0.2), b.1)
+  list_end_found c s (Statement InBlock) CloseBrace l w es e = let b = after_it CloseBrace l w itself None None (in_default c.scope) Start es e in (inr (l, b.0), b.1)
   list_end_found c s (Statement InBlock) k l w es e = absurd (let z : None ≡ Some es = e in cc)
   list_end_found c s (Boxed u) CloseBracket l w es e =
-      let b = behind_it CloseBracket l w itself None None c (box_closed u s) es e in
+      let b = after_it CloseBracket l w itself None None c (box_closed u s) es e in
       let x = as_box form u s c b.0 in
       ((l, x.0), b.1 ∙ ap (λ fs. give w (take CloseBracket l fs)) x.1)
   list_end_found c s (Boxed u) k l w es e = absurd (let z : None ≡ Some es = e in cc)
@@ -305,20 +305,20 @@ module _ (form : DocForm) (next : Setting → Mode → Option (List Event))
 
   object_found : (c : Setting) (p : Place) (early w : Option Quad) (k : Kind) (l : Leaf) (es : List Event) →
       fronted w (go_on (token k l) (object_start c p early k l) next) ≡ Some es → ObjectFound c p early w l es
-  object_found c p early w IriRef l es e = let b = behind_it IriRef l w _ early _ c (After p) es e in iri_found (iri_ref l) c p early w es b.0 b.1
-  object_found c p early w PnameLn l es e = let b = behind_it PnameLn l w _ early _ c (After p) es e in iri_found (prefixed (pname_ln l)) c p early w es b.0 b.1
-  object_found c p early w PnameNs l es e = let b = behind_it PnameNs l w _ early _ c (After p) es e in iri_found (prefixed (pname_ns l)) c p early w es b.0 b.1
-  object_found c p early w LabelNode l es e = let b = behind_it LabelNode l w _ early _ c (After p) es e in record { obj = blank_object (label l); rest = b.0; first = refl; events = b.1 }
-  object_found c p early w ShortString l es e = let b = behind_it ShortString l w itself early None c (AfterText (short_value l) p) es e in text_found (short l) c p early w es b.0.0 b.0.1 b.1
-  object_found c p early w LongString l es e = let b = behind_it LongString l w itself early None c (AfterText (long_value l) p) es e in text_found (long l) c p early w es b.0.0 b.0.1 b.1
-  object_found c p early w Integer l es e = let b = behind_it Integer l w _ early _ c (After p) es e in literal_found (numeric (integer l)) c p early w es b.0 b.1
-  object_found c p early w Decimal l es e = let b = behind_it Decimal l w _ early _ c (After p) es e in literal_found (numeric (decimal l)) c p early w es b.0 b.1
-  object_found c p early w Double l es e = let b = behind_it Double l w _ early _ c (After p) es e in literal_found (numeric (double l)) c p early w es b.0 b.1
-  object_found c p early w True l es e = let b = behind_it True l w _ early _ c (After p) es e in literal_found (boolean (true_word l)) c p early w es b.0 b.1
-  object_found c p early w False l es e = let b = behind_it False l w _ early _ c (After p) es e in literal_found (boolean (false_word l)) c p early w es b.0 b.1
-  object_found c p early w OpenBracket l es e = let b = behind_it OpenBracket l w _ early _ c (Box l.at.offset (At p)) es e in box_found c p early w l es b.0 b.1
+  object_found c p early w IriRef l es e = let b = after_it IriRef l w _ early _ c (After p) es e in iri_found (iri_ref l) c p early w es b.0 b.1
+  object_found c p early w PnameLn l es e = let b = after_it PnameLn l w _ early _ c (After p) es e in iri_found (prefixed (pname_ln l)) c p early w es b.0 b.1
+  object_found c p early w PnameNs l es e = let b = after_it PnameNs l w _ early _ c (After p) es e in iri_found (prefixed (pname_ns l)) c p early w es b.0 b.1
+  object_found c p early w LabelNode l es e = let b = after_it LabelNode l w _ early _ c (After p) es e in record { obj = blank_object (label l); rest = b.0; first = refl; events = b.1 }
+  object_found c p early w ShortString l es e = let b = after_it ShortString l w itself early None c (AfterText (short_value l) p) es e in text_found (short l) c p early w es b.0.0 b.0.1 b.1
+  object_found c p early w LongString l es e = let b = after_it LongString l w itself early None c (AfterText (long_value l) p) es e in text_found (long l) c p early w es b.0.0 b.0.1 b.1
+  object_found c p early w Integer l es e = let b = after_it Integer l w _ early _ c (After p) es e in literal_found (numeric (integer l)) c p early w es b.0 b.1
+  object_found c p early w Decimal l es e = let b = after_it Decimal l w _ early _ c (After p) es e in literal_found (numeric (decimal l)) c p early w es b.0 b.1
+  object_found c p early w Double l es e = let b = after_it Double l w _ early _ c (After p) es e in literal_found (numeric (double l)) c p early w es b.0 b.1
+  object_found c p early w True l es e = let b = after_it True l w _ early _ c (After p) es e in literal_found (boolean (true_word l)) c p early w es b.0 b.1
+  object_found c p early w False l es e = let b = after_it False l w _ early _ c (After p) es e in literal_found (boolean (false_word l)) c p early w es b.0 b.1
+  object_found c p early w OpenBracket l es e = let b = after_it OpenBracket l w _ early _ c (Box l.at.offset (At p)) es e in box_found c p early w l es b.0 b.1
   object_found c p early w OpenParen l es e =
-      let b = behind_it OpenParen l w _ early None c (Paren (At p)) es e in
+      let b = after_it OpenParen l w _ early None c (Paren (At p)) es e in
       record { obj = collection_object (collection l b.0.0 b.0.1); rest = b.0.2; first = refl; events = b.1 }
   object_found c p early w k l es e = absurd (let z : None ≡ Some es = e in cc)
 
@@ -326,13 +326,13 @@ module _ (form : DocForm) (next : Setting → Mode → Option (List Event))
       fronted w (go_on (token k l) (after c p k l) next) ≡ Some es →
       (r : RestPlace form p) × (es ≡ give w (place_events form c p r))
   after_found c (Listed s v a) w Comma l es e =
-      let b = behind_it Comma l w itself None None c (Want (Listed s v a)) es e in ((comma l b.0.0 b.0.1.0, b.0.1.1, b.0.1.2), b.1)
+      let b = after_it Comma l w itself None None c (Want (Listed s v a)) es e in ((comma l b.0.0 b.0.1.0, b.0.1.1, b.0.1.2), b.1)
   after_found c (Listed s v a) w Semicolon l es e =
-      let b = behind_it Semicolon l w itself None None c (Semi s a) es e in
+      let b = after_it Semicolon l w itself None None c (Semi s a) es e in
       ((no_commas, more_of l b.0.0, b.0.1), b.1 ∙ ap (give w) (more_of-events c s.term l b.0.0 (around_events form c a s.term b.0.1)))
   after_found c (Listed s v a) w k l es e = let x = list_end_found c s a k l w es e in ((no_commas, no_more, x.0), x.1)
   after_found c (InCells f n u) w CloseParen l es e =
-      let b = behind_it CloseParen l w itself None (rest_quad c (Cell n) nil) c (list_closed u (unsized (cell f))) es e in
+      let b = after_it CloseParen l w itself None (rest_quad c (Cell n) nil) c (list_closed u (unsized (cell f))) es e in
       let x = as_list form u (unsized (cell f)) c b.0 in
       ((no_items, l, x.0), b.1 ∙ ap (λ fs. give w (take CloseParen l (give (rest_quad c (Cell n) nil) fs))) x.1)
   after_found c (InCells f n u) w k l es e =
@@ -351,18 +351,18 @@ module _ (form : DocForm) (next : Setting → Mode → Option (List Event))
 
   verb_found : (c : Setting) (s : Topic) (a : Around) (k : Kind) (l : Leaf) (es : List Event) →
       fronted None (go_on (token k l) (verb_start c s a k l) next) ≡ Some es → PredicatesFound c s a es
-  verb_found c s a IriRef l es e = let b = behind_it IriRef l None _ None None c (Want (Listed s (spelt (reference_in c.scope l)) a)) es e in predicate_found (iri_ref l) c s a es b.0 b.1
-  verb_found c s a PnameLn l es e = let b = behind_it PnameLn l None _ None None c (Want (Listed s (spelt (name_in c.scope l)) a)) es e in predicate_found (prefixed (pname_ln l)) c s a es b.0 b.1
-  verb_found c s a PnameNs l es e = let b = behind_it PnameNs l None _ None None c (Want (Listed s (spelt (name_in c.scope l)) a)) es e in predicate_found (prefixed (pname_ns l)) c s a es b.0 b.1
+  verb_found c s a IriRef l es e = let b = after_it IriRef l None _ None None c (Want (Listed s (spelt (reference_in c.scope l)) a)) es e in predicate_found (iri_ref l) c s a es b.0 b.1
+  verb_found c s a PnameLn l es e = let b = after_it PnameLn l None _ None None c (Want (Listed s (spelt (name_in c.scope l)) a)) es e in predicate_found (prefixed (pname_ln l)) c s a es b.0 b.1
+  verb_found c s a PnameNs l es e = let b = after_it PnameNs l None _ None None c (Want (Listed s (spelt (name_in c.scope l)) a)) es e in predicate_found (prefixed (pname_ns l)) c s a es b.0 b.1
   verb_found c s a A l es e =
-      let b = behind_it A l None itself None None c (Want (Listed s type_verb a)) es e in
+      let b = after_it A l None itself None None c (Want (Listed s type_verb a)) es e in
       ((predicate_objects (type_word l) (objects b.0.0 b.0.1.0) b.0.1.1, b.0.1.2), b.1)
   verb_found c s a k l es e = absurd (let z : None ≡ Some es = e in cc)
 
   semi_found : (c : Setting) (s : Topic) (a : Around) (k : Kind) (l : Leaf) (es : List Event) →
       fronted None (go_on (token k l) (semi c s a k l) next) ≡ Some es → Found form c (Semi s a) es
   semi_found c s a Semicolon l es e =
-      let b = behind_it Semicolon l None itself None None c (Semi s a) es e in
+      let b = after_it Semicolon l None itself None None c (Semi s a) es e in
       ((inr (more_of l b.0.0), b.0.1), b.1 ∙ more_of-events c s.term l b.0.0 (around_events form c a s.term b.0.1))
   semi_found c s a IriRef l es e = let x = verb_found c s a IriRef l es e in ((inl x.0.0, x.0.1), x.1)
   semi_found c s a PnameLn l es e = let x = verb_found c s a PnameLn l es e in ((inl x.0.0, x.0.1), x.1)
@@ -373,7 +373,7 @@ module _ (form : DocForm) (next : Setting → Mode → Option (List Event))
   box_mode_found : (c : Setting) (n : ℕ) (u : Up) (k : Kind) (l : Leaf) (es : List Event) →
       fronted None (go_on (token k l) (box form c n u k l) next) ≡ Some es → Found form c (Box n u) es
   box_mode_found c n u CloseBracket l es e =
-      let b = behind_it CloseBracket l None itself None None c (node_closed form u (sized (node (Anon n)))) es e in
+      let b = after_it CloseBracket l None itself None None c (node_closed form u (sized (node (Anon n)))) es e in
       let x = as_node form u (sized (node (Anon n))) c b.0 in
       (inl (l, x.0), b.1 ∙ ap (take CloseBracket l) x.1)
   box_mode_found c n u k l es e = let x = verb_found c (sized (node (Anon n))) (Boxed u) k l es e in (inr x.0, x.1)
@@ -381,7 +381,7 @@ module _ (form : DocForm) (next : Setting → Mode → Option (List Event))
   paren_found : (c : Setting) (u : Up) (k : Kind) (l : Leaf) (es : List Event) →
       fronted (waiting c (Paren u) k l) (go_on (token k l) (paren c u k l) next) ≡ Some es → Found form c (Paren u) es
   paren_found c u CloseParen l es e =
-      let b = behind_it CloseParen l (quad_up c u nil) itself None None c (list_closed u (unsized (Some nil))) es e in
+      let b = after_it CloseParen l (quad_up c u nil) itself None None c (list_closed u (unsized (Some nil))) es e in
       let x = as_list form u (unsized (Some nil)) c b.0 in
       ((no_items, l, x.0), b.1 ∙ ap (λ fs. give (quad_up c u nil) (take CloseParen l fs)) x.1)
   paren_found c u k l es e =
@@ -393,17 +393,17 @@ module _ (form : DocForm) (next : Setting → Mode → Option (List Event))
   after_text_found : (c : Setting) (w : List ℕ) (p : Place) (k : Kind) (l : Leaf) (es : List Event) →
       fronted (waiting c (AfterText w p) k l) (go_on (token k l) (after_text c w p k l) next) ≡ Some es →
       Found form c (AfterText w p) es
-  after_text_found c w p LangTag l es e = let b = behind_it LangTag l None itself None _ c (After p) es e in ((tag_end (lang_tag l), b.0), b.1)
-  after_text_found c w p AtBase l es e = let b = behind_it AtBase l None itself None _ c (After p) es e in ((tag_end (base_tag l), b.0), b.1)
-  after_text_found c w p AtPrefix l es e = let b = behind_it AtPrefix l None itself None _ c (After p) es e in ((tag_end (prefix_tag l), b.0), b.1)
-  after_text_found c w p Carets l es e = let b = behind_it Carets l None itself None None c (WantType w p) es e in ((type_end l b.0.0, b.0.1), b.1)
+  after_text_found c w p LangTag l es e = let b = after_it LangTag l None itself None _ c (After p) es e in ((tag_end (lang_tag l), b.0), b.1)
+  after_text_found c w p AtBase l es e = let b = after_it AtBase l None itself None _ c (After p) es e in ((tag_end (base_tag l), b.0), b.1)
+  after_text_found c w p AtPrefix l es e = let b = after_it AtPrefix l None itself None _ c (After p) es e in ((tag_end (prefix_tag l), b.0), b.1)
+  after_text_found c w p Carets l es e = let b = after_it Carets l None itself None None c (WantType w p) es e in ((type_end l b.0.0, b.0.1), b.1)
   after_text_found c w p k l es e = let x = after_found c p (quad_at c p (plain_literal w)) k l es e in ((no_end, x.0), x.1)
 
   want_type_found : (c : Setting) (w : List ℕ) (p : Place) (k : Kind) (l : Leaf) (es : List Event) →
       fronted None (go_on (token k l) (want_type c w p k l) next) ≡ Some es → Found form c (WantType w p) es
-  want_type_found c w p IriRef l es e = let b = behind_it IriRef l None _ None _ c (After p) es e in ((iri_ref l, b.0), b.1)
-  want_type_found c w p PnameLn l es e = let b = behind_it PnameLn l None _ None _ c (After p) es e in ((prefixed (pname_ln l), b.0), b.1)
-  want_type_found c w p PnameNs l es e = let b = behind_it PnameNs l None _ None _ c (After p) es e in ((prefixed (pname_ns l), b.0), b.1)
+  want_type_found c w p IriRef l es e = let b = after_it IriRef l None _ None _ c (After p) es e in ((iri_ref l, b.0), b.1)
+  want_type_found c w p PnameLn l es e = let b = after_it PnameLn l None _ None _ c (After p) es e in ((prefixed (pname_ln l), b.0), b.1)
+  want_type_found c w p PnameNs l es e = let b = after_it PnameNs l None _ None _ c (After p) es e in ((prefixed (pname_ns l), b.0), b.1)
   want_type_found c w p k l es e = absurd (let z : None ≡ Some es = e in cc)
 
   after_box_found : (c : Setting) (s : Topic) (v : Level) (k : Kind) (l : Leaf) (es : List Event) →
@@ -429,14 +429,14 @@ module _ (form : DocForm) (next : Setting → Mode → Option (List Event))
 
   block_triples : (c : Setting) (k : Kind) (l : Leaf) (es : List Event) → fronted None (go_on (token k l) (subject_start form c InBlock k l) next) ≡ Some es →
       TriplesFound c es
-  block_triples c IriRef l es e = let b = behind_it IriRef l None _ None None c (WantVerb (sized (named (reference_in c.scope l))) (Statement InBlock)) es e in block_iri (iri_ref l) c es b.0 b.1
-  block_triples c PnameLn l es e = let b = behind_it PnameLn l None _ None None c (WantVerb (sized (named (name_in c.scope l))) (Statement InBlock)) es e in block_iri (prefixed (pname_ln l)) c es b.0 b.1
-  block_triples c PnameNs l es e = let b = behind_it PnameNs l None _ None None c (WantVerb (sized (named (name_in c.scope l))) (Statement InBlock)) es e in block_iri (prefixed (pname_ns l)) c es b.0 b.1
+  block_triples c IriRef l es e = let b = after_it IriRef l None _ None None c (WantVerb (sized (named (reference_in c.scope l))) (Statement InBlock)) es e in block_iri (iri_ref l) c es b.0 b.1
+  block_triples c PnameLn l es e = let b = after_it PnameLn l None _ None None c (WantVerb (sized (named (name_in c.scope l))) (Statement InBlock)) es e in block_iri (prefixed (pname_ln l)) c es b.0 b.1
+  block_triples c PnameNs l es e = let b = after_it PnameNs l None _ None None c (WantVerb (sized (named (name_in c.scope l))) (Statement InBlock)) es e in block_iri (prefixed (pname_ns l)) c es b.0 b.1
   block_triples c LabelNode l es e =
-      let b = behind_it LabelNode l None itself None None c (WantVerb (sized (node (labelled l))) (Statement InBlock)) es e in (subject_triples (blank_subject (label l)) b.0.0, b.0.1, b.1)
-  block_triples c OpenBracket l es e = let b = behind_it OpenBracket l None itself None None c (Box l.at.offset (Subject InBlock)) es e in block_box c l es b.0 b.1
+      let b = after_it LabelNode l None itself None None c (WantVerb (sized (node (labelled l))) (Statement InBlock)) es e in (subject_triples (blank_subject (label l)) b.0.0, b.0.1, b.1)
+  block_triples c OpenBracket l es e = let b = after_it OpenBracket l None itself None None c (Box l.at.offset (Subject InBlock)) es e in block_box c l es b.0 b.1
   block_triples c OpenParen l es e =
-      let b = behind_it OpenParen l None itself None None c (Paren (Subject InBlock)) es e in (subject_triples (collection_subject (collection l b.0.0 b.0.1)) b.0.2.0, b.0.2.1, b.1)
+      let b = after_it OpenParen l None itself None None c (Paren (Subject InBlock)) es e in (subject_triples (collection_subject (collection l b.0.0 b.0.1)) b.0.2.0, b.0.2.1, b.1)
   block_triples c k l es e = absurd (let z : None ≡ Some es = e in cc)
 
   block_of : (c : Setting) (es : List Event) (t : Triples) (r : RestLevel form InBlock) → es ≡ triples_events c t (level_events form c InBlock r) →
@@ -447,7 +447,7 @@ module _ (form : DocForm) (next : Setting → Mode → Option (List Event))
 
   inside_found : (c : Setting) (k : Kind) (l : Leaf) (es : List Event) → fronted None (go_on (token k l) (inside form c k l) next) ≡ Some es →
       Found form c Inside es
-  inside_found c CloseBrace l es e = let b = behind_it CloseBrace l None itself None None (in_default c.scope) Start es e in ((None, l, b.0), b.1)
+  inside_found c CloseBrace l es e = let b = after_it CloseBrace l None itself None None (in_default c.scope) Start es e in ((None, l, b.0), b.1)
   inside_found c k l es e = let x = block_triples c k l es e in block_of c es x.0 x.1 x.2
 
   -- statements at the top
@@ -463,41 +463,41 @@ module _ (form : DocForm) (next : Setting → Mode → Option (List Event))
 
   subject_found : (c : Setting) (k : Kind) (l : Leaf) (es : List Event) →
       fronted None (go_on (token k l) (subject_start form (in_default c.scope) Top k l) next) ≡ Some es → Found form c Start es
-  subject_found c IriRef l es e = let b = behind_it IriRef l None _ None None (in_default c.scope) (after_subject form Top (sized (named (reference_in c.scope l)))) es e in start_iri (iri_ref l) c es b.0 b.1
-  subject_found c PnameLn l es e = let b = behind_it PnameLn l None _ None None (in_default c.scope) (after_subject form Top (sized (named (name_in c.scope l)))) es e in start_iri (prefixed (pname_ln l)) c es b.0 b.1
-  subject_found c PnameNs l es e = let b = behind_it PnameNs l None _ None None (in_default c.scope) (after_subject form Top (sized (named (name_in c.scope l)))) es e in start_iri (prefixed (pname_ns l)) c es b.0 b.1
+  subject_found c IriRef l es e = let b = after_it IriRef l None _ None None (in_default c.scope) (after_subject form Top (sized (named (reference_in c.scope l)))) es e in start_iri (iri_ref l) c es b.0 b.1
+  subject_found c PnameLn l es e = let b = after_it PnameLn l None _ None None (in_default c.scope) (after_subject form Top (sized (named (name_in c.scope l)))) es e in start_iri (prefixed (pname_ln l)) c es b.0 b.1
+  subject_found c PnameNs l es e = let b = after_it PnameNs l None _ None None (in_default c.scope) (after_subject form Top (sized (named (name_in c.scope l)))) es e in start_iri (prefixed (pname_ns l)) c es b.0 b.1
   subject_found c LabelNode l es e =
-      let b = behind_it LabelNode l None itself None None (in_default c.scope) (after_subject form Top (sized (node (labelled l)))) es e in
+      let b = after_it LabelNode l None itself None None (in_default c.scope) (after_subject form Top (sized (node (labelled l)))) es e in
       let x = as_subject form Top (sized (node (labelled l))) (in_default c.scope) b.0 in
       blank_body form (label l) c.scope es x.0 (b.1 ∙ ap (take LabelNode l) x.1)
-  subject_found c OpenBracket l es e = let b = behind_it OpenBracket l None itself None None (in_default c.scope) (Box l.at.offset (Subject Top)) es e in start_box c l es b.0 b.1
+  subject_found c OpenBracket l es e = let b = after_it OpenBracket l None itself None None (in_default c.scope) (Box l.at.offset (Subject Top)) es e in start_box c l es b.0 b.1
   subject_found c OpenParen l es e =
-      let b = behind_it OpenParen l None itself None None (in_default c.scope) (Paren (Subject Top)) es e in collection_body form (collection l b.0.0 b.0.1) c.scope es b.0.2.0 b.0.2.1 b.1
+      let b = after_it OpenParen l None itself None None (in_default c.scope) (Paren (Subject Top)) es e in collection_body form (collection l b.0.0 b.0.1) c.scope es b.0.2.0 b.0.2.1 b.1
   subject_found c k l es e = absurd (let z : None ≡ Some es = e in cc)
 
   prefix_found : (c : Setting) (k : Kind) (w : Spelling) (l : Leaf) (es : List Event) →
       fronted None (put (token k l) itself None None (next c (WantPrefix w))) ≡ Some es →
       (r : Rest form (WantPrefix w)) × (es ≡ take k l (all_events form c (WantPrefix w) r))
-  prefix_found c k w l es e = behind_it k l None itself None None c (WantPrefix w) es e
+  prefix_found c k w l es e = after_it k l None itself None None c (WantPrefix w) es e
 
   base_found : (c : Setting) (k : Kind) (w : Spelling) (l : Leaf) (es : List Event) →
       fronted None (put (token k l) itself None None (next c (WantBaseIri w))) ≡ Some es →
       (r : Rest form (WantBaseIri w)) × (es ≡ take k l (all_events form c (WantBaseIri w) r))
-  base_found c k w l es e = behind_it k l None itself None None c (WantBaseIri w) es e
+  base_found c k w l es e = after_it k l None itself None None c (WantBaseIri w) es e
 
   after_label_found : (c : Setting) (g : Topic) (k : Kind) (l : Leaf) (es : List Event) →
       fronted None (go_on (token k l) (after_label c g k l) next) ≡ Some es → Found form c (AfterLabel g) es
-  after_label_found c g OpenBrace l es e = let b = behind_it OpenBrace l None itself None None (in_graph c.scope g.term) Inside es e in (inr (wrapped l b.0.0 b.0.1, b.0.2), b.1)
+  after_label_found c g OpenBrace l es e = let b = after_it OpenBrace l None itself None None (in_graph c.scope g.term) Inside es e in (inr (wrapped l b.0.0 b.0.1, b.0.2), b.1)
   after_label_found c g k l es e = let x = verb_found c g (Statement Top) k l es e in (inl (x.0.0, x.0.1), x.1)
 
   want_brace_found : (c : Setting) (g : Option term.Subject) (k : Kind) (l : Leaf) (es : List Event) →
       fronted None (go_on (token k l) (want_brace c g k l) next) ≡ Some es → Found form c (WantBrace g) es
-  want_brace_found c g OpenBrace l es e = let b = behind_it OpenBrace l None itself None None (in_graph c.scope g) Inside es e in ((wrapped l b.0.0 b.0.1, b.0.2), b.1)
+  want_brace_found c g OpenBrace l es e = let b = after_it OpenBrace l None itself None None (in_graph c.scope g) Inside es e in ((wrapped l b.0.0 b.0.1, b.0.2), b.1)
   want_brace_found c g k l es e = absurd (let z : None ≡ Some es = e in cc)
 
   graph_box_found : (c : Setting) (n : ℕ) (k : Kind) (l : Leaf) (es : List Event) → fronted None (go_on (token k l) (graph_box c n k l) next) ≡ Some es →
       Found form c (GraphBox n) es
-  graph_box_found c n CloseBracket l es e = let b = behind_it CloseBracket l None itself None None c (WantBrace (node (Anon n))) es e in ((l, b.0.0, b.0.1), b.1)
+  graph_box_found c n CloseBracket l es e = let b = after_it CloseBracket l None itself None None c (WantBrace (node (Anon n))) es e in ((l, b.0.0, b.0.1), b.1)
   graph_box_found c n k l es e = absurd (let z : None ≡ Some es = e in cc)
 
   graph_iri : (i : Iri) (c : Setting) (es : List Event) (r : Rest form (WantBrace (named (iri_in c.scope i)))) →
@@ -506,34 +506,34 @@ module _ (form : DocForm) (next : Setting → Mode → Option (List Event))
 
   graph_word_found : (c : Setting) (k : Kind) (l : Leaf) (es : List Event) → fronted None (go_on (token k l) (graph_word c k l) next) ≡ Some es →
       Found form c GraphWord es
-  graph_word_found c IriRef l es e = let b = behind_it IriRef l None _ None None c (WantBrace (named (reference_in c.scope l))) es e in graph_iri (iri_ref l) c es b.0 b.1
-  graph_word_found c PnameLn l es e = let b = behind_it PnameLn l None _ None None c (WantBrace (named (name_in c.scope l))) es e in graph_iri (prefixed (pname_ln l)) c es b.0 b.1
-  graph_word_found c PnameNs l es e = let b = behind_it PnameNs l None _ None None c (WantBrace (named (name_in c.scope l))) es e in graph_iri (prefixed (pname_ns l)) c es b.0 b.1
-  graph_word_found c LabelNode l es e = let b = behind_it LabelNode l None itself None None c (WantBrace (node (labelled l))) es e in ((blank_label (label l), b.0.0, b.0.1), b.1)
-  graph_word_found c OpenBracket l es e = let b = behind_it OpenBracket l None itself None None c (GraphBox l.at.offset) es e in ((blank_label (anon l b.0.0), b.0.1, b.0.2), b.1)
+  graph_word_found c IriRef l es e = let b = after_it IriRef l None _ None None c (WantBrace (named (reference_in c.scope l))) es e in graph_iri (iri_ref l) c es b.0 b.1
+  graph_word_found c PnameLn l es e = let b = after_it PnameLn l None _ None None c (WantBrace (named (name_in c.scope l))) es e in graph_iri (prefixed (pname_ln l)) c es b.0 b.1
+  graph_word_found c PnameNs l es e = let b = after_it PnameNs l None _ None None c (WantBrace (named (name_in c.scope l))) es e in graph_iri (prefixed (pname_ns l)) c es b.0 b.1
+  graph_word_found c LabelNode l es e = let b = after_it LabelNode l None itself None None c (WantBrace (node (labelled l))) es e in ((blank_label (label l), b.0.0, b.0.1), b.1)
+  graph_word_found c OpenBracket l es e = let b = after_it OpenBracket l None itself None None c (GraphBox l.at.offset) es e in ((blank_label (anon l b.0.0), b.0.1, b.0.2), b.1)
   graph_word_found c k l es e = absurd (let z : None ≡ Some es = e in cc)
 
   want_prefix_found : (c : Setting) (w : Spelling) (k : Kind) (l : Leaf) (es : List Event) →
       fronted None (go_on (token k l) (want_prefix c w k l) next) ≡ Some es → Found form c (WantPrefix w) es
-  want_prefix_found c w PnameNs l es e = let b = behind_it PnameNs l None itself None None c (WantPrefixIri w (prefix_of l)) es e in ((l, b.0.0, b.0.1), b.1)
+  want_prefix_found c w PnameNs l es e = let b = after_it PnameNs l None itself None None c (WantPrefixIri w (prefix_of l)) es e in ((l, b.0.0, b.0.1), b.1)
   want_prefix_found c w k l es e = absurd (let z : None ≡ Some es = e in cc)
 
   want_prefix_iri_found : (c : Setting) (w : Spelling) (p : List ℕ) (k : Kind) (l : Leaf) (es : List Event) →
       fronted None (go_on (token k l) (want_prefix_iri c w p k l) next) ≡ Some es → Found form c (WantPrefixIri w p) es
   want_prefix_iri_found c Dotted p IriRef l es e =
-      let b = behind_it IriRef l None _ None None (in_default (with_binding c.scope p (reference_in c.scope l))) WantDot es e in ((l, (b.0.0, b.0.1)), b.1)
-  want_prefix_iri_found c Sparql p IriRef l es e = let b = behind_it IriRef l None _ None None (in_default (with_binding c.scope p (reference_in c.scope l))) Start es e in ((l, b.0), b.1)
+      let b = after_it IriRef l None _ None None (in_default (with_binding c.scope p (reference_in c.scope l))) WantDot es e in ((l, (b.0.0, b.0.1)), b.1)
+  want_prefix_iri_found c Sparql p IriRef l es e = let b = after_it IriRef l None _ None None (in_default (with_binding c.scope p (reference_in c.scope l))) Start es e in ((l, b.0), b.1)
   want_prefix_iri_found c w p k l es e = absurd (let z : None ≡ Some es = e in cc)
 
   want_base_iri_found : (c : Setting) (w : Spelling) (k : Kind) (l : Leaf) (es : List Event) →
       fronted None (go_on (token k l) (want_base_iri c w k l) next) ≡ Some es → Found form c (WantBaseIri w) es
-  want_base_iri_found c Dotted IriRef l es e = let b = behind_it IriRef l None _ None None (in_default (with_base c.scope (reference_in c.scope l))) WantDot es e in ((l, (b.0.0, b.0.1)), b.1)
-  want_base_iri_found c Sparql IriRef l es e = let b = behind_it IriRef l None _ None None (in_default (with_base c.scope (reference_in c.scope l))) Start es e in ((l, b.0), b.1)
+  want_base_iri_found c Dotted IriRef l es e = let b = after_it IriRef l None _ None None (in_default (with_base c.scope (reference_in c.scope l))) WantDot es e in ((l, (b.0.0, b.0.1)), b.1)
+  want_base_iri_found c Sparql IriRef l es e = let b = after_it IriRef l None _ None None (in_default (with_base c.scope (reference_in c.scope l))) Start es e in ((l, b.0), b.1)
   want_base_iri_found c w k l es e = absurd (let z : None ≡ Some es = e in cc)
 
   want_dot_found : (c : Setting) (k : Kind) (l : Leaf) (es : List Event) → fronted None (go_on (token k l) (want_dot c k l) next) ≡ Some es →
       Found form c WantDot es
-  want_dot_found c Dot l es e = let b = behind_it Dot l None itself None None c Start es e in ((l, b.0), b.1)
+  want_dot_found c Dot l es e = let b = after_it Dot l None itself None None c Start es e in ((l, b.0), b.1)
   want_dot_found c k l es e = absurd (let z : None ≡ Some es = e in cc)
 
 -- at GRAPH a rest is found, if one is found after it
@@ -541,20 +541,20 @@ graph_start_found : (next : Setting → Mode → Option (List Event))
     (ih : (c : Setting) (m : Mode) (es : List Event) → next c m ≡ Some es → Found TriG c m es) (c : Setting) (l : Leaf) (es : List Event) →
     fronted None (go_on (token Graph l) (start TriG c Graph l) next) ≡ Some es → Found TriG c Start es
 graph_start_found next ih c l es e =
-    let b = behind_it TriG next ih Graph l None itself None None c GraphWord es e in (with_body (tree.graph_word l b.0.0 b.0.1) b.0.2, b.1)
+    let b = after_it TriG next ih Graph l None itself None None c GraphWord es e in (with_body (tree.graph_word l b.0.0 b.0.1) b.0.2, b.1)
 
 -- at the '{' of a block without a label a rest is found, if one is found after it
 brace_start_found : (next : Setting → Mode → Option (List Event))
     (ih : (c : Setting) (m : Mode) (es : List Event) → next c m ≡ Some es → Found TriG c m es) (c : Setting) (l : Leaf) (es : List Event) →
     fronted None (go_on (token OpenBrace l) (start TriG c OpenBrace l) next) ≡ Some es → Found TriG c Start es
 brace_start_found next ih c l es e =
-    let b = behind_it TriG next ih OpenBrace l None itself None None (in_default c.scope) Inside es e in (with_body (default_graph (wrapped l b.0.0 b.0.1)) b.0.2, b.1)
+    let b = after_it TriG next ih OpenBrace l None itself None None (in_default c.scope) Inside es e in (with_body (default_graph (wrapped l b.0.0 b.0.1)) b.0.2, b.1)
 
 -- between statements a rest is found, if one is found after the token
 start_found : (form : DocForm) (next : Setting → Mode → Option (List Event))
     (ih : (c : Setting) (m : Mode) (es : List Event) → next c m ≡ Some es → Found form c m es) (c : Setting) (k : Kind) (l : Leaf) (es : List Event) →
     fronted None (go_on (token k l) (start form c k l) next) ≡ Some es → Found form c Start es
-start_found form next ih c End l es e = let b = behind_it form next ih End l None itself None None c Over es e in (end l, b.1)
+start_found form next ih c End l es e = let b = after_it form next ih End l None itself None None c Over es e in (end l, b.1)
 start_found form next ih c AtPrefix l es e =
     let b = prefix_found form next ih c AtPrefix Dotted l es e in (with_directive (prefix_id l b.0.0 b.0.1 b.0.2.0) b.0.2.1, b.1)
 start_found form next ih c Prefix l es e = let b = prefix_found form next ih c Prefix Sparql l es e in (with_directive (sparql_prefix l b.0.0 b.0.1) b.0.2, b.1)

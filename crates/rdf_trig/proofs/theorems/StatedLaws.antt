@@ -52,14 +52,14 @@ none_below (q ∷ qs) m k l r = cond-false (nat_lt q.mark k) _ _ (le-ltb _ _ (om
 -- quads with rising marks: those below a number come first
 front_below : (qs : List Marked) (m k : ℕ) → Rises m qs → (rest : List Quad) × (unmarked qs ≡ items_below k qs ++ rest)
 front_below [] m k r = ([], refl)
-front_below (q ∷ qs) m k r = ⊎_elim (below (front_below qs q.mark k r.1)) behind (cases_lt q.mark k)
+front_below (q ∷ qs) m k r = ⊎_elim (below (front_below qs q.mark k r.1)) after (cases_lt q.mark k)
   where
     below : (rest : List Quad) × (unmarked qs ≡ items_below k qs ++ rest) → q.mark < k →
         (rest : List Quad) × (unmarked (q ∷ qs) ≡ items_below k (q ∷ qs) ++ rest)
     below ih l = (ih.0, ap (λ x. q.item ∷ x) ih.1 ∙ sym (ap (λ x. x ++ ih.0) (cond-true (nat_lt q.mark k) (q.item ∷ items_below k qs) (items_below k qs) (lt-ltb _ _ l))))
 
-    behind : k ≤ q.mark → (rest : List Quad) × (unmarked (q ∷ qs) ≡ items_below k (q ∷ qs) ++ rest)
-    behind l =
+    after : k ≤ q.mark → (rest : List Quad) × (unmarked (q ∷ qs) ≡ items_below k (q ∷ qs) ++ rest)
+    after l =
         let e : items_below k (q ∷ qs) ≡ [] = cond-false (nat_lt q.mark k) (q.item ∷ items_below k qs) (items_below k qs) (le-ltb _ _ l) ∙ none_below qs q.mark k l r.1 in
         (unmarked (q ∷ qs), sym (ap (λ x. x ++ unmarked (q ∷ qs)) e))
 

@@ -29,7 +29,7 @@ use Rattle.rdf_trig.specs.Documents.{IsLong, Passes, InTree}
 use Rattle.rdf_trig.specs.Language.{language}
 use Rattle.rdf_trig.specs.Laws.{HasIris, DocumentIsWritable, WrittenDocumentIsRead, PrefixedDocumentIsRead}
 use Rattle.rdf_trig.proofs.trees.TokensOfEvents.{document_told}
-use Rattle.rdf_trig.proofs.trees.Senses.{tokens_behind}
+use Rattle.rdf_trig.proofs.trees.Senses.{tokens_after}
 use Rattle.rdf_trig.proofs.theorems.WrittenParts.{Room, FitSubject, FitTail, FitTerm, GoodToken, Within}
 use Rattle.rdf_trig.proofs.theorems.WrittenSteps.{AllWithin, AllFit, tree_fits}
 
@@ -178,7 +178,7 @@ module _ (r : Room) (form : DocForm) (start : InForce) (same : r.iri ≡ start.l
   kept_within front (Gave q ∷ es) e = kept_within (front ++ Gave q ∷ []) es (e ∙ sym (append_assoc front (Gave q ∷ []) es))
   kept_within front (Took t u ∷ es) e =
       let place : InTree form start (tokens front) t u = record { tree = d; front = front; rest = es; events = e; read = refl } in
-      let told : document_tokens d ≡ tokens front ++ t ∷ tokens es = sym (document_told d start) ∙ ap tokens e ∙ tokens_behind front t u es in (
+      let told : document_tokens d ≡ tokens front ++ t ∷ tokens es = sym (document_told d start) ∙ ap tokens e ∙ tokens_after front t u es in (
         use_within u (λ x. kept (tokens front) (tokens es) t told (u, record { place = place; bound = bound }, inr (inl x))),
         kept_within (front ++ Took t u ∷ []) es (e ∙ sym (append_assoc front (Took t u ∷ []) es)),
       )

@@ -16,7 +16,7 @@ use Rattle.rdf_trig.proofs.machine.Soundness.{unput}
 use Rattle.rdf_trig.proofs.trees.TokensOfEvents.{document_told}
 use Rattle.rdf_trig.proofs.machine.ClosingTokens.{has_iri}
 use Rattle.rdf_trig.proofs.machine.ViableTokens.{Stand, stand, reach, on_reply, if_true, run_tree, reach-snoc, step_on, and_on, use_bound, reached_viable, viable_reached, begins_reached, any_passing}
-use Rattle.rdf_trig.proofs.trees.Senses.{same_sense, tokens_behind}
+use Rattle.rdf_trig.proofs.trees.Senses.{same_sense, tokens_after}
 
 -- a quad among the events makes no difference to bound names
 bound_give : (q : Option Quad) (n : ℕ) (es : List Event) → BoundFront n es → BoundFront n (give q es)
@@ -102,7 +102,7 @@ viable_bound form start ts = record {
 pub settled : (form : DocForm) (start : InForce) (ahead : List Token) (t : Token) (u v : Use) → InTree form start ahead t u → InTree form start ahead t v →
     u ≡ v
 settled form start ahead t u v p q =
-    let told : tokens (document_events start p.tree) ≡ ahead ++ t ∷ tokens p.rest = ap tokens p.events ∙ tokens_behind p.front t u p.rest ∙ ap (λ x. x ++ t ∷ tokens p.rest) p.read in
+    let told : tokens (document_events start p.tree) ≡ ahead ++ t ∷ tokens p.rest = ap tokens p.events ∙ tokens_after p.front t u p.rest ∙ ap (λ x. x ++ t ∷ tokens p.rest) p.read in
     let all = any_passing (document_events start p.tree) in
     let s = begins_reached false form ahead start (p.tree, t ∷ tokens p.rest, told, all) in
     let n = begins_reached false form (ahead ++ t ∷ []) start (p.tree, tokens p.rest, told ∙ sym (append_assoc ahead (t ∷ []) (tokens p.rest)), all) in

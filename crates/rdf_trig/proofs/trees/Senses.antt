@@ -27,16 +27,16 @@ sense_give None n es = refl
 sense_give (Some q) n es = refl
 
 -- a token in the middle stands for what its event says
-sense_behind : (front : List Event) (t : Token) (u : Use) (rest : List Event) → sense_at (length (tokens front)) (front ++ Took t u ∷ rest) ≡ Some u
-sense_behind [] t u rest = refl
-sense_behind (Took x v ∷ front) t u rest = sense_behind front t u rest
-sense_behind (Gave q ∷ front) t u rest = sense_behind front t u rest
+sense_after : (front : List Event) (t : Token) (u : Use) (rest : List Event) → sense_at (length (tokens front)) (front ++ Took t u ∷ rest) ≡ Some u
+sense_after [] t u rest = refl
+sense_after (Took x v ∷ front) t u rest = sense_after front t u rest
+sense_after (Gave q ∷ front) t u rest = sense_after front t u rest
 
 -- the tokens of events with one in the middle
-pub tokens_behind : (front : List Event) (t : Token) (u : Use) (rest : List Event) → tokens (front ++ Took t u ∷ rest) ≡ tokens front ++ t ∷ tokens rest
-tokens_behind [] t u rest = refl
-tokens_behind (Took x v ∷ front) t u rest = ap (λ y. x ∷ y) (tokens_behind front t u rest)
-tokens_behind (Gave q ∷ front) t u rest = tokens_behind front t u rest
+pub tokens_after : (front : List Event) (t : Token) (u : Use) (rest : List Event) → tokens (front ++ Took t u ∷ rest) ≡ tokens front ++ t ∷ tokens rest
+tokens_after [] t u rest = refl
+tokens_after (Took x v ∷ front) t u rest = ap (λ y. x ∷ y) (tokens_after front t u rest)
+tokens_after (Gave q ∷ front) t u rest = tokens_after front t u rest
 
 -- the events before a token and after it
 record Split (es : List Event) (ts : List Token) (t : Token) : Type 0 where
@@ -109,9 +109,9 @@ pub same_sense : (strict : Bool) (form : DocForm) (start : InForce) (ts : List T
     reach strict form (in_default start) Start ts ≡ Some s → step form s.setting s.mode t.kind (leaf_of t) ≡ Go u early now c m →
     InTree form start ts t v → v ≡ u
 same_sense strict form start ts t s u v early now c m e n p =
-    let told : tokens (document_events start p.tree) ≡ ts ++ t ∷ tokens p.rest = ap tokens p.events ∙ tokens_behind p.front t v p.rest ∙ ap (λ x. x ++ t ∷ tokens p.rest) p.read in
+    let told : tokens (document_events start p.tree) ≡ ts ++ t ∷ tokens p.rest = ap tokens p.events ∙ tokens_after p.front t v p.rest ∙ ap (λ x. x ++ t ∷ tokens p.rest) p.read in
     let a = sense_run strict form ts t (tokens p.rest) (in_default start) Start (document_events start p.tree) s u early now c m (run_tree strict form p.tree start (ts ++ t ∷ tokens p.rest) told) e n in
-    let b : sense_at (length ts) (document_events start p.tree) ≡ Some v = ap (λ x. sense_at (length ts) x) p.events ∙ ap (λ x. sense_at (length x) (p.front ++ Took t v ∷ p.rest)) (sym p.read) ∙ sense_behind p.front t v p.rest in
+    let b : sense_at (length ts) (document_events start p.tree) ≡ Some v = ap (λ x. sense_at (length ts) x) p.events ∙ ap (λ x. sense_at (length x) (p.front ++ Took t v ∷ p.rest)) (sym p.read) ∙ sense_after p.front t v p.rest in
     let z : Some v ≡ Some u = sym b ∙ a in
     cc
 
@@ -151,5 +151,5 @@ pub stands_viable : (form : DocForm) (start : InForce) (ts : List Token) (t : To
 stands_viable form start ts t u p =
     let x = p.place in
     let told : tokens (document_events start x.tree) ≡ (ts ++ t ∷ []) ++ tokens x.rest =
-    ap tokens x.events ∙ tokens_behind x.front t u x.rest ∙ ap (λ y. y ++ t ∷ tokens x.rest) x.read ∙ sym (append_assoc ts (t ∷ []) (tokens x.rest)) in
+    ap tokens x.events ∙ tokens_after x.front t u x.rest ∙ ap (λ y. y ++ t ∷ tokens x.rest) x.read ∙ sym (append_assoc ts (t ∷ []) (tokens x.rest)) in
     begins_viable form start (ts ++ t ∷ []) (x.tree, tokens x.rest, told, bound_passing (document_events start x.tree) p.bound)

@@ -20,12 +20,12 @@ quick_name-requires-clause-some c =
 pub quick_name-requires-clause-letter : goal.quick_name-requires-clause-letter
 quick_name-requires-clause-letter c =
     subst (λ b. is_letter (get_or b 0 0) ≡ true) c.as_bytes-bytes.ensures.value
-    (sought c.args.dialect c.as_bytes-bytes.result.now c.args.bare.now (sym c.is_sought.ensures ∙ c.if-is_sought.true)).1
+    (sought c.args.dialect c.as_bytes-bytes.result.now c.args.no_names.now (sym c.is_sought.ensures ∙ c.if-is_sought.true)).1
 
 pub returns-then-is_sought : goal.returns-then-is_sought
 returns-then-is_sought c =
     let q = c.quick_name.result in
-    subst (λ d. IsQuick d c.args.text.now q.len q.kind) (sym (sought c.args.dialect c.as_bytes-bytes.result.now c.args.bare.now (sym c.is_sought.ensures ∙ c.if-is_sought.true)).0) c.quick_name.ensures
+    subst (λ d. IsQuick d c.args.text.now q.len q.kind) (sym (sought c.args.dialect c.as_bytes-bytes.result.now c.args.no_names.now (sym c.is_sought.ensures ∙ c.if-is_sought.true)).0) c.quick_name.ensures
 
 pub quick_local-requires-clause-prefix : goal.quick_local-requires-clause-prefix
 quick_local-requires-clause-prefix c = inl refl

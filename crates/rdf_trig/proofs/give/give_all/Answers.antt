@@ -5,7 +5,7 @@ use Rattle.rdf_terms.specs.Sinks.{Appends}
 use Rattle.rdf_terms.specs.Views.{quad_of}
 use Rattle.rdf_trig.specs.Machine.{kept}
 use Rattle.rdf_trig.specs.Steps.{GaveUp}
-use Rattle.rdf_trig.proofs.code.PutsInRow.{appends_append, gave_more, gave_behind, given_in, told_stops}
+use Rattle.rdf_trig.proofs.code.PutsInRow.{appends_append, gave_more, gave_after, given_in, told_stops}
 use Rattle.rdf_trig.proofs.give.give_all.Goals as goal
 
 pub returns-in_err-rest-clause-err : goal.returns-in_err-rest-clause-err
@@ -26,7 +26,7 @@ returns-in_err-held-clause-err g c =
     (sym (given_in form s c.args.state.now c.args.token.now _
     (option_map quad_of c.rest_quad.result) (option_map quad_of c.held_quad.result) _ c.graph-graph.ensures c.rest_quad.ensures
     (c.held_quad.ensures form) refl))
-    (gave_behind g.S.QuadSink.takes g.S.QuadSink.leaves g.S.QuadSink.has_failed told c.args.sink.now c.put.new.sink c.put-2.new.sink (kept (option_map quad_of c.rest_quad.result) []) _ c.in_ok-rest.ensures.ok
+    (gave_after g.S.QuadSink.takes g.S.QuadSink.leaves g.S.QuadSink.has_failed told c.args.sink.now c.put.new.sink c.put-2.new.sink (kept (option_map quad_of c.rest_quad.result) []) _ c.in_ok-rest.ensures.ok
     (gave_more g.S.QuadSink.takes g.S.QuadSink.leaves g.S.QuadSink.has_failed told c.put.new.sink c.put-2.new.sink (kept (option_map quad_of c.held_quad.result) []) _ c.in_err-held.ensures.err)))
 
 pub returns-in_err-waiting-clause-err : goal.returns-in_err-waiting-clause-err
@@ -37,8 +37,8 @@ returns-in_err-waiting-clause-err g c =
     (sym (given_in form s c.args.state.now c.args.token.now _
     (option_map quad_of c.rest_quad.result) (option_map quad_of c.held_quad.result) (option_map quad_of c.waiting_quad.result) c.graph-graph.ensures c.rest_quad.ensures
     (c.held_quad.ensures form) (c.waiting_quad.ensures form s)))
-    (gave_behind g.S.QuadSink.takes g.S.QuadSink.leaves g.S.QuadSink.has_failed told c.args.sink.now c.put.new.sink c.put-3.new.sink (kept (option_map quad_of c.rest_quad.result) []) _ c.in_ok-rest.ensures.ok
-    (gave_behind g.S.QuadSink.takes g.S.QuadSink.leaves g.S.QuadSink.has_failed told c.put.new.sink c.put-2.new.sink c.put-3.new.sink (kept (option_map quad_of c.held_quad.result) []) (kept (option_map quad_of c.waiting_quad.result) []) c.in_ok-held.ensures.ok c.in_err-waiting.ensures.err)))
+    (gave_after g.S.QuadSink.takes g.S.QuadSink.leaves g.S.QuadSink.has_failed told c.args.sink.now c.put.new.sink c.put-3.new.sink (kept (option_map quad_of c.rest_quad.result) []) _ c.in_ok-rest.ensures.ok
+    (gave_after g.S.QuadSink.takes g.S.QuadSink.leaves g.S.QuadSink.has_failed told c.put.new.sink c.put-2.new.sink c.put-3.new.sink (kept (option_map quad_of c.held_quad.result) []) (kept (option_map quad_of c.waiting_quad.result) []) c.in_ok-held.ensures.ok c.in_err-waiting.ensures.err)))
 
 pub returns-clause-ok : goal.returns-clause-ok
 returns-clause-ok g c = λ form s.

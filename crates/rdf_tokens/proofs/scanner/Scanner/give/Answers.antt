@@ -11,7 +11,7 @@ use Rattle.rdf_tokens.specs.Moves.{moved, IsGiven}
 use Rattle.rdf_tokens.specs.Front.{bytes_of}
 use Rattle.rdf_tokens.proofs.Inside.{unread_of}
 use Rattle.rdf_tokens.proofs.HeldLemmas.{boundary_advanced, front_advanced, held_advanced, place_advanced, text_advanced, advance_within, feeds_advanced}
-use Rattle.rdf_tokens.proofs.BareLemmas.{bare_advanced}
+use Rattle.rdf_tokens.proofs.NoNamesLemmas.{none_advanced}
 use Rattle.rdf_tokens.proofs.scanner.Scanner.give.Goals as goal
 
 pub overflow_add-end : goal.overflow_add-end
@@ -51,7 +51,7 @@ invariant_of-self g c =
     let feeds = c.feeds_of.ensures ∙ ap (λ b. count_by (λ x. x == 10) (take (s.start + c.args.len - s.start) (drop s.start b))) bytes in
     let held = held_advanced (string_bytes s.text) s.start n c.args.len s.pending.items _ _ c.self.invariant.held (IsUtf8-string_bytes s.text) e c.feeds_of.result feeds in
     let bounded = c.self.invariant.bounded in
-    record { held = held; walked = subst (Walked s.dialect (drop (s.start + c.args.len) (string_bytes s.text))) (sym c.forget.ensures) tt; no_names = bare_advanced s.dialect (string_bytes s.text) s.start c.args.len s.bare c.self.invariant.no_names; bounded = omega arith }
+    record { held = held; walked = subst (Walked s.dialect (drop (s.start + c.args.len) (string_bytes s.text))) (sym c.forget.ensures) tt; no_names = none_advanced s.dialect (string_bytes s.text) s.start c.args.len s.no_names c.self.invariant.no_names; bounded = omega arith }
 
 pub range-requires-clause-end_boundary : goal.range-requires-clause-end_boundary
 range-requires-clause-end_boundary g c =

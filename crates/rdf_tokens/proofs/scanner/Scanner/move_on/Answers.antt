@@ -10,7 +10,7 @@ use Rattle.rdf_tokens.specs.Moves.{moved}
 use Rattle.rdf_tokens.specs.Front.{bytes_of}
 use Rattle.rdf_tokens.proofs.Inside.{unread_of}
 use Rattle.rdf_tokens.proofs.HeldLemmas.{feeds_advanced, held_advanced, place_advanced, text_advanced, advance_within}
-use Rattle.rdf_tokens.proofs.BareLemmas.{bare_advanced}
+use Rattle.rdf_tokens.proofs.NoNamesLemmas.{none_advanced}
 use Rattle.rdf_tokens.proofs.scanner.Scanner.move_on.Goals as goal
 
 pub overflow_add-self : goal.overflow_add-self
@@ -74,7 +74,7 @@ invariant_of-self g c =
     record {
       held = held;
       walked = subst (Walked s.dialect (drop (s.start + c.args.len) (string_bytes s.text))) (sym c.forget.ensures) tt;
-      no_names = bare_advanced s.dialect (string_bytes s.text) s.start c.args.len s.bare c.self.invariant.no_names;
+      no_names = none_advanced s.dialect (string_bytes s.text) s.start c.args.len s.no_names c.self.invariant.no_names;
       bounded = omega arith;
     }
 

@@ -7,7 +7,7 @@ use Rattle.rdf_tokens.specs.Tokens.{Place}
 use Rattle.rdf_tokens.specs.Scans.{place_of}
 use Rattle.rdf_tokens.specs.Moves.{fault_place, beyond}
 use Rattle.rdf_tokens.proofs.Inside.{unread_of}
-use Rattle.rdf_tokens.proofs.HeldLemmas.{place_behind}
+use Rattle.rdf_tokens.proofs.HeldLemmas.{place_after}
 use Rattle.rdf_tokens.proofs.scanner.Scanner.stop_here.Goals.{in-BadUtf8, in_default}
 use Rattle.rdf_tokens.proofs.scanner.Scanner.stop_here.Goals as goal
 
@@ -27,7 +27,7 @@ returns-clause-place g c =
       | in-BadUtf8 w ↦
           ap place_of w.result-is
           ∙ (at_rest v.place (w.range_from-rest.ensures.value ∙ ap (drop s.start) w.as_str.ensures.value) (w.line_feeds.ensures ∙ ap (count_by (λ b. b == 10)) w.as_bytes.ensures.value)
-          ∙ (place_behind (string_bytes s.text) s.start s.pending.items _ _ c.self.invariant.held (IsUtf8-string_bytes s.text)
+          ∙ (place_after (string_bytes s.text) s.start s.pending.items _ _ c.self.invariant.held (IsUtf8-string_bytes s.text)
           ∙ ap (λ r. fault_place r v.place v.text) (sym w.in-BadUtf8.is)))
       | in_default w ↦ ap place_of w.result-is ∙ sym (here c.args.reason w.in_default.not-BadUtf8 v.place v.text)
     ] in

@@ -16,14 +16,14 @@ use Rattle.rdf_tokens.proofs.scanner.Scanner.take_in.Goals as goal
 
 module _ {Z : Type 0} where
   -- the place after a piece, of which so many bytes are line feeds
-  abbrev behind : Inside Z → List ℕ → ℕ → Place
-  behind s piece feeds = record { offset = s.taken + length piece; line = s.last_line + feeds }
+  abbrev after : Inside Z → List ℕ → ℕ → Place
+  after s piece feeds = record { offset = s.taken + length piece; line = s.last_line + feeds }
 
   abbrev HeldAt : Inside Z → Place → Type 0
   HeldAt s p = Held (string_bytes s.text) s.start s.pending.items (record { offset = s.offset; line = s.line }) p
 
   abbrev HoldsAt : Inside Z → Place → Type 0
-  HoldsAt s p = Holds s.dialect s.limit (string_bytes s.text) s.start s.walk s.bare s.pending.items (record { offset = s.offset; line = s.line }) p
+  HoldsAt s p = Holds s.dialect s.limit (string_bytes s.text) s.start s.walk s.no_names s.pending.items (record { offset = s.offset; line = s.line }) p
 
 abbrev with_fields : Unread → List ℕ → List ℕ → Bool → Place → Unread
 with_fields v text pending broken taken = record v { text = text; pending = pending; broken = broken; taken = taken }
@@ -39,20 +39,20 @@ invariant_of-self-2 g c =
     let room : length (string_bytes s.text) - s.start + length s.pending.items + length piece ≤ most_unread s.limit =
     let r = subst (λ v. unread_bytes v + length piece ≤ most_unread v.limit) (sym c.self.view_is) c.requires.room in
     omega (arith, size_of_rest (string_bytes s.text) s.start c.self.invariant.held.boundary (IsUtf8-string_bytes s.text)) in
-    let P : Inside _ → Type 0 = λ i. HoldsAt i (behind i piece c.line_feeds.result) in
+    let P : Inside _ → Type 0 = λ i. HoldsAt i (after i piece c.line_feeds.result) in
     elim c.if-not-self.branch [
       | then-not-self+in_ok-drop_front+in_ok-self-inside w ↦
           let new : string_bytes w.add_piece.new.text ≡ drop s.start (string_bytes s.text) ++ good_bytes (s.pending.items ++ piece) =
           w.in_ok-self-inside.ensures.text ∙ ap (λ x. x ++ good_bytes (s.pending.items ++ piece)) w.in_ok-drop_front.ensures.ok in
           let kept : w.add_piece.new.pending.items ≡ cond (is_broken (s.pending.items ++ piece)) [] (rest_of_bytes (s.pending.items ++ piece)) =
           w.in_ok-self-inside.ensures.pending ∙ ap (λ b. cond b [] (rest_of_bytes (s.pending.items ++ piece))) w.in_ok-self-inside.ensures.broken in
-          let held = subst (λ n. Held (string_bytes w.add_piece.new.text) 0 w.add_piece.new.pending.items (record { offset = s.offset; line = s.line }) (behind s piece n)) (sym c.line_feeds.ensures)
+          let held = subst (λ n. Held (string_bytes w.add_piece.new.text) 0 w.add_piece.new.pending.items (record { offset = s.offset; line = s.line }) (after s piece n)) (sym c.line_feeds.ensures)
           (held_grown (string_bytes s.text) (string_bytes w.add_piece.new.text) s.start s.pending.items w.add_piece.new.pending.items piece _ _ c.self.invariant.held most (IsUtf8-string_bytes w.add_piece.new.text) new kept) in
           let walked = walked_grown s.dialect (string_bytes s.text) (string_bytes w.add_piece.new.text) s.start s.walk (s.pending.items ++ piece) (IsUtf8-string_bytes s.text) c.self.invariant.held.boundary new c.self.invariant.walked in
           let bounded = bounded_grown (string_bytes s.text) (string_bytes w.add_piece.new.text) s.start s.pending.items w.add_piece.new.pending.items piece (most_unread s.limit) new kept room in
           subst P (sym w.self-inside-is) (record { held = held; walked = walked; no_names = tt; bounded = bounded })
       | else-not-self w ↦
-          let held = subst (λ n. HeldAt s (behind s piece n)) (sym c.line_feeds.ensures) (held_counted (string_bytes s.text) s.start s.pending.items piece _ _ c.self.invariant.held most) in
+          let held = subst (λ n. HeldAt s (after s piece n)) (sym c.line_feeds.ensures) (held_counted (string_bytes s.text) s.start s.pending.items piece _ _ c.self.invariant.held most) in
           subst P (sym w.self-inside-is) (record { held = held; walked = c.self.invariant.walked; no_names = c.self.invariant.no_names; bounded = c.self.invariant.bounded })
     ]
 
@@ -61,18 +61,18 @@ returns-clause-ok g c =
     let s = c.self.inside in
     let piece = c.args.piece.now in
     let v : Unread = unread_of s in
-    let P : Inside _ → Type 0 = λ i. unread_at i (behind i piece c.line_feeds.result) ≡ grown v piece in
-    let all : unread_at c.if-not-self.self-inside (behind c.if-not-self.self-inside piece c.line_feeds.result) ≡ grown v piece = elim c.if-not-self.branch [
+    let P : Inside _ → Type 0 = λ i. unread_at i (after i piece c.line_feeds.result) ≡ grown v piece in
+    let all : unread_at c.if-not-self.self-inside (after c.if-not-self.self-inside piece c.line_feeds.result) ≡ grown v piece = elim c.if-not-self.branch [
       | then-not-self+in_ok-drop_front+in_ok-self-inside w ↦
           let new : string_bytes w.add_piece.new.text ≡ drop s.start (string_bytes s.text) ++ good_bytes (s.pending.items ++ piece) =
           w.in_ok-self-inside.ensures.text ∙ ap (λ x. x ++ good_bytes (s.pending.items ++ piece)) w.in_ok-drop_front.ensures.ok in
           let text = text_grown (string_bytes s.text) (string_bytes w.add_piece.new.text) s.start s.pending.items piece _ _ c.self.invariant.held (IsUtf8-string_bytes s.text) new in
           let kept : w.add_piece.new.pending.items ≡ cond (is_broken (s.pending.items ++ piece)) [] (rest_of_bytes (s.pending.items ++ piece)) =
           w.in_ok-self-inside.ensures.pending ∙ ap (λ b. cond b [] (rest_of_bytes (s.pending.items ++ piece))) w.in_ok-self-inside.ensures.broken in
-          subst P (sym w.self-inside-is) (same_fields v text kept w.in_ok-self-inside.ensures.broken (ap (λ n. behind s piece n) c.line_feeds.ensures)
+          subst P (sym w.self-inside-is) (same_fields v text kept w.in_ok-self-inside.ensures.broken (ap (λ n. after s piece n) c.line_feeds.ensures)
           ∙ sym (cond-false s.broken (counted v piece) (lengthened v piece) w.if-not-self.true))
       | else-not-self w ↦
           subst P (sym w.self-inside-is)
-          (ap (λ n. unread_at s (behind s piece n)) c.line_feeds.ensures ∙ sym (cond-true s.broken (counted v piece) (lengthened v piece) w.if-not-self.false))
+          (ap (λ n. unread_at s (after s piece n)) c.line_feeds.ensures ∙ sym (cond-true s.broken (counted v piece) (lengthened v piece) w.if-not-self.false))
     ] in
     all ∙ ap (λ v. grown v piece) c.self.view_is

@@ -1,10 +1,10 @@
 use Rattle.std.proofs.Common.{◌-◌, ◌≤◌, length}
 use Rattle.rdf_terms.specs.Runs.{PassBetween}
-use Rattle.rdf_tokens.specs.Bare.{is_bare_byte}
-use Rattle.rdf_tokens.proofs.front.bare_end.Given as goal
+use Rattle.rdf_tokens.specs.NoNames.{is_prefix_byte}
+use Rattle.rdf_tokens.proofs.front.prefix_end.Given as goal
 
 abbrev pub invariant-loop-at : goal.invariant-loop-at
-invariant-loop-at l = record { within : l.at ≤ length l.bytes; pass : PassBetween is_bare_byte l.bytes 0 l.at }
+invariant-loop-at l = record { within : l.at ≤ length l.bytes; pass : PassBetween is_prefix_byte l.bytes 0 l.at }
 
 abbrev pub decreases-loop-at : goal.decreases-loop-at
 decreases-loop-at l = length l.bytes - l.at

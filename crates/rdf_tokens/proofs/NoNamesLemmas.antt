@@ -14,12 +14,12 @@ use Rattle.rdf_terms.specs.Runs.{IsRun}
 use Rattle.rdf_tokens.specs.declared.states.machine.State.{State}
 use Rattle.rdf_tokens.specs.declared.states.machine.State.TheVariants.{Start, Name}
 use Rattle.rdf_tokens.specs.declared.states.name.Name.TheVariants as name
-use Rattle.rdf_tokens.specs.declared.front.Bare.{Bare}
+use Rattle.rdf_tokens.specs.declared.front.NoNames.{NoNames}
 use Rattle.rdf_tokens.specs.Tokens.{with_length, three_quotes, only_long}
 use Rattle.rdf_tokens.specs.Machines.{run}
 use Rattle.rdf_tokens.specs.Machine.{step, kind_at, goes_on}
 use Rattle.rdf_tokens.specs.Front.{IsAt, bytes_of, in_bytes, longest_by, state_of, kind_by_states, open_state}
-use Rattle.rdf_tokens.specs.Bare.{is_bare_byte, IsBare, IsBareIn, Ends}
+use Rattle.rdf_tokens.specs.NoNames.{is_prefix_byte, BeginsNoName, HasNoNames, Ends}
 use Rattle.rdf_tokens.proofs.ByteLemmas.{at-start, char-step, ascii_first, run-append, run-more}
 use Rattle.rdf_tokens.proofs.StateLemmas.{longer_state}
 
@@ -44,8 +44,8 @@ abbrev letter_tests : ℕ → Bool
 letter_tests c = not (is_letter c) || (at_letter (step Turtle Start c) && (at_letter (step Turtle (Name name.Prefix) c) && at_letter (step Turtle (Name name.PrefixDots) c)))
 
 -- and a byte of a prefix leads from within one into it again
-abbrev bare_tests : ℕ → Bool
-bare_tests c = not (is_bare_byte c) || (in_prefix (step Turtle (Name name.Prefix) c) && in_prefix (step Turtle (Name name.PrefixDots) c))
+abbrev prefix_tests : ℕ → Bool
+prefix_tests c = not (is_prefix_byte c) || (in_prefix (step Turtle (Name name.Prefix) c) && in_prefix (step Turtle (Name name.PrefixDots) c))
 
 -- an implication between truth values, from its test
 pub implied : (a b : Bool) → (not a || b) ≡ true → a ≡ true → b ≡ true
@@ -57,8 +57,8 @@ pub low-letter : (c : ℕ) → is_letter c ≡ true → c < 128
 low-letter c e = grind (arith, nat_tests)
 
 -- the bytes of a run without names are ASCII
-low-bare : (c : ℕ) → is_bare_byte c ≡ true → c < 128
-low-bare c e = grind (arith, nat_tests)
+low-prefix : (c : ℕ) → is_prefix_byte c ≡ true → c < 128
+low-prefix c e = grind (arith, nat_tests)
 
 -- a letter leads into a prefix from the start, within a prefix and after its dots
 pub letter_steps : (c : ℕ) → is_letter c ≡ true →
@@ -76,8 +76,8 @@ letter_within (Name name.PrefixDots) c h e = let p = letter_steps c e in p.1.1 �
 letter_within s c h e = absurd (true≢false (sym h))
 
 -- a byte of the run leads on within a prefix
-bare_within : (s : State) (c : ℕ) → in_prefix s ≡ true → is_bare_byte c ≡ true → in_prefix (step Turtle s c) ≡ true
-bare_within s c h e = go s h (and_parts _ _ (implied (is_bare_byte c) _ (agree_below_at bare_tests (λ c. true) 128 c refl (low-bare c e)) e))
+prefix_within : (s : State) (c : ℕ) → in_prefix s ≡ true → is_prefix_byte c ≡ true → in_prefix (step Turtle s c) ≡ true
+prefix_within s c h e = go s h (and_parts _ _ (implied (is_prefix_byte c) _ (agree_below_at prefix_tests (λ c. true) 128 c refl (low-prefix c e)) e))
   where
     go : (s : State) → in_prefix s ≡ true → (in_prefix (step Turtle (Name name.Prefix) c) ≡ true) × (in_prefix (step Turtle (Name name.PrefixDots) c) ≡ true) →
         in_prefix (step Turtle s c) ≡ true
@@ -127,9 +127,9 @@ take_over [] v n = ap (λ m. take m v) (omega arith)
 take_over (c ∷ u) v n = let e : suc (length u) + n ≡ suc (length u + n) = omega arith in ap (λ m. take m (c ∷ (u ++ v))) e ∙ ap (λ x. c ∷ x) (take_over u v n)
 
 -- what is known after a prefix holds from its next letter on
-bare_behind : (u v : List ℕ) (c : ℕ) (s : Option State) → three_quotes Turtle (u ++ c ∷ v) ≡ false → in_prefix (state_of Turtle u) ≡ true → is_letter c ≡ true →
-    IsBare Turtle (u ++ c ∷ v) s → IsBare Turtle (c ∷ v) s
-bare_behind u v c s t h e b = record {
+none_after : (u v : List ℕ) (c : ℕ) (s : Option State) → three_quotes Turtle (u ++ c ∷ v) ≡ false → in_prefix (state_of Turtle u) ≡ true → is_letter c ≡ true →
+    BeginsNoName Turtle (u ++ c ∷ v) s → BeginsNoName Turtle (c ∷ v) s
+none_after u v c s t h e b = record {
   none = none_all (kind_by_states Turtle (c ∷ v)) (c ∷ v) (length (c ∷ v)) each;
   state = b.state ∙ ap (open_state Turtle) (same_state u v c h e);
 }
@@ -163,8 +163,8 @@ ends_more d w m n l e = ⊎_elim
     go (suc k) f i x = subst (λ j. goes_on d (state_of d (take j w)) ≡ false) x (longer_state d w m k (omega arith) f).0
 
 -- the states end at the same place from a later letter on
-ends_behind : (u v : List ℕ) (c n : ℕ) → in_prefix (state_of Turtle u) ≡ true → is_letter c ≡ true → Ends Turtle (u ++ c ∷ v) (length u + n) → Ends Turtle (c ∷ v) n
-ends_behind u v c n h e x = ⊎_elim (λ (a : length (u ++ c ∷ v) ≤ length u + n). inl (omega (arith, length-append u (c ∷ v)))) (λ f. inr (go n f)) x
+ends_after : (u v : List ℕ) (c n : ℕ) → in_prefix (state_of Turtle u) ≡ true → is_letter c ≡ true → Ends Turtle (u ++ c ∷ v) (length u + n) → Ends Turtle (c ∷ v) n
+ends_after u v c n h e x = ⊎_elim (λ (a : length (u ++ c ∷ v) ≤ length u + n). inl (omega (arith, length-append u (c ∷ v)))) (λ f. inr (go n f)) x
   where
     go : (n : ℕ) → goes_on Turtle (state_of Turtle (take (length u + n) (u ++ c ∷ v))) ≡ false → goes_on Turtle (state_of Turtle (take n (c ∷ v))) ≡ false
     go zero f =
@@ -182,7 +182,7 @@ one_on bs p h l a =
     (x.0, subst (λ n. IsAt bs n n) one x.1)
 
 -- the states stay within a prefix over its bytes
-prefixed : (bs : List ℕ) (end : ℕ) → IsUtf8 bs → IsRun is_bare_byte bs 0 end → is_letter (get_or bs 0 0) ≡ true → (p : ℕ) → p < end →
+prefixed : (bs : List ℕ) (end : ℕ) → IsUtf8 bs → IsRun is_prefix_byte bs 0 end → is_letter (get_or bs 0 0) ≡ true → (p : ℕ) → p < end →
     IsAt bs (suc p) (suc p) × (in_prefix (state_of Turtle (take (suc p) (chars bs))) ≡ true)
 prefixed bs end u r e zero l =
     let c = get_or bs 0 0 in
@@ -193,19 +193,19 @@ prefixed bs end u r e (suc p) l =
     let h = prefixed bs end u r e p (omega arith) in
     let c = get_or bs (suc p) 0 in
     let w = chars bs in
-    let bare : is_bare_byte c ≡ true = r.pass (suc p) (omega arith) l in
-    let x = one_on bs (suc p) h.0 (omega (arith, r.within)) (low-bare c bare) in
+    let no_names : is_prefix_byte c ≡ true = r.pass (suc p) (omega arith) l in
+    let x = one_on bs (suc p) h.0 (omega (arith, r.within)) (low-prefix c no_names) in
     let one : suc p + 1 ≡ suc (suc p) = omega arith in
     let state : step Turtle (state_of Turtle (take (suc p) w)) c ≡ state_of Turtle (take (suc (suc p)) w) =
     run-more (step Turtle) Start (state_of Turtle (take (suc p) w)) w _ (suc p) c x.0 refl ∙ ap (λ n. state_of Turtle (take n w)) one in
-    (x.1, ap in_prefix (sym state) ∙ bare_within (state_of Turtle (take (suc p) w)) c h.1 bare)
+    (x.1, ap in_prefix (sym state) ∙ prefix_within (state_of Turtle (take (suc p) w)) c h.1 no_names)
 
 -- what is known from a letter on is so up to the end of its run
-pub bare_in : (bs : List ℕ) (end left states out : ℕ) (s : Option State) → IsUtf8 bs → is_letter (get_or bs 0 0) ≡ true → IsRun is_bare_byte bs 0 end → IsBare Turtle (chars bs) s →
-    Ends Turtle (chars bs) states → left ≡ length bs - end → out + states ≡ length bs → IsBareIn Turtle bs (Some (record { left = left; state = s; out = out }))
-bare_in bs end left states out s u e r b x k o = at
+pub none_in : (bs : List ℕ) (end left states out : ℕ) (s : Option State) → IsUtf8 bs → is_letter (get_or bs 0 0) ≡ true → IsRun is_prefix_byte bs 0 end → BeginsNoName Turtle (chars bs) s →
+    Ends Turtle (chars bs) states → left ≡ length bs - end → out + states ≡ length bs → HasNoNames Turtle bs (Some (record { left = left; state = s; out = out }))
+none_in bs end left states out s u e r b x k o = at
   where
-    at : (p : ℕ) → p + left < length bs → is_letter (get_or bs p 0) ≡ true → IsBare Turtle (chars (drop p bs)) s × ((n : ℕ) → length bs ≤ n + (p + out) → Ends Turtle (chars (drop p bs)) n)
+    at : (p : ℕ) → p + left < length bs → is_letter (get_or bs p 0) ≡ true → BeginsNoName Turtle (chars (drop p bs)) s × ((n : ℕ) → length bs ≤ n + (p + out) → Ends Turtle (chars (drop p bs)) n)
     at zero l f = (b, λ n m. ends_more Turtle (chars bs) states n (omega arith) x)
     at (suc p) l f =
         let w = chars bs in
@@ -220,9 +220,9 @@ bare_in bs end left states out s u e r b x k o = at
         let quotes : three_quotes Turtle (take (suc p) w ++ c ∷ v) ≡ false =
         ap (three_quotes Turtle) (sym whole ∙ first.0) ∙ no_quotes (get_or bs 0 0) (drop 1 w) e in
         let size = length-take-le (suc p) w h.0.count in (
-          subst (λ y. IsBare Turtle y s) (sym on.0 ∙ h.0.left) (bare_behind (take (suc p) w) v c s quotes h.1 f (subst (λ y. IsBare Turtle y s) whole b)),
+          subst (λ y. BeginsNoName Turtle y s) (sym on.0 ∙ h.0.left) (none_after (take (suc p) w) v c s quotes h.1 f (subst (λ y. BeginsNoName Turtle y s) whole b)),
           λ n m. subst (λ y. Ends Turtle y n) (sym on.0 ∙ h.0.left)
-              (ends_behind (take (suc p) w) v c n h.1 f (subst (λ y. Ends Turtle y (length (take (suc p) w) + n)) whole (ends_more Turtle w states (length (take (suc p) w) + n) (omega (arith, size)) x))),
+              (ends_after (take (suc p) w) v c n h.1 f (subst (λ y. Ends Turtle y (length (take (suc p) w) + n)) whole (ends_more Turtle w states (length (take (suc p) w) + n) (omega (arith, size)) x))),
         )
 
 -- no front in bytes is no front
@@ -231,26 +231,26 @@ no_bytes w None e = refl
 no_bytes w (Some x) e = absurd (let h : None ≡ Some (bytes_of x.0 w, x.1) = e in cc)
 
 -- where a look finds no front, and the other way round
-pub bare_here : (d : Dialect) (w : List ℕ) (len : ℕ) (kind : Option Kind) (state : Option State) →
-    with_length len kind None ≡ in_bytes w (longest_by (kind_by_states d w) w (length w)) → kind ≡ None → state ≡ open_state d (state_of d w) → IsBare d w state
-bare_here d w len kind state f e g = record {
+pub none_here : (d : Dialect) (w : List ℕ) (len : ℕ) (kind : Option Kind) (state : Option State) →
+    with_length len kind None ≡ in_bytes w (longest_by (kind_by_states d w) w (length w)) → kind ≡ None → state ≡ open_state d (state_of d w) → BeginsNoName d w state
+none_here d w len kind state f e g = record {
   none = no_bytes w (longest_by (kind_by_states d w) w (length w)) (sym (ap (λ k. with_length len k None) e) ∙ f);
   state = g;
 }
 
--- a text that is known to be bare has no front by the states, so it need not be looked through again
-pub best_of_bare : (d : Dialect) (w : List ℕ) (s : Option State) → IsBare d w s → None ≡ in_bytes w (longest_by (kind_by_states d w) w (length w))
-best_of_bare d w s b = sym (ap (in_bytes w) b.none)
+-- a text that is known to be no_names has no front by the states, so it need not be looked through again
+pub best_of_none : (d : Dialect) (w : List ℕ) (s : Option State) → BeginsNoName d w s → None ≡ in_bytes w (longest_by (kind_by_states d w) w (length w))
+best_of_none d w s b = sym (ap (in_bytes w) b.none)
 
 -- after some bytes the same is known
-bare_drop : (d : Dialect) (bs : List ℕ) (n : ℕ) (b : Option Bare) → IsBareIn d bs b → IsBareIn d (drop n bs) b
-bare_drop d bs n None h = tt
-bare_drop d bs n (Some b) h = λ p l e.
+none_dropped : (d : Dialect) (bs : List ℕ) (n : ℕ) (b : Option NoNames) → HasNoNames d bs b → HasNoNames d (drop n bs) b
+none_dropped d bs n None h = tt
+none_dropped d bs n (Some b) h = λ p l e.
     let x = h (n + p) (omega (arith, l, length-drop n bs)) (ap is_letter (sym (get_or-drop n bs p 0)) ∙ e) in (
-      subst (λ y. IsBare d (chars y) b.state) (sym (drop-drop p n bs)) x.0,
+      subst (λ y. BeginsNoName d (chars y) b.state) (sym (drop-drop p n bs)) x.0,
       λ m k. subst (λ y. Ends d (chars y) m) (sym (drop-drop p n bs)) (x.1 m (omega (arith, l, k, length-drop n bs))),
     )
 
 -- what is known of a text is known of what is left of it when a token was given
-pub bare_advanced : (d : Dialect) (text : List ℕ) (start len : ℕ) (b : Option Bare) → IsBareIn d (drop start text) b → IsBareIn d (drop (start + len) text) b
-bare_advanced d text start len b h = subst (λ y. IsBareIn d y b) (drop-drop len start text) (bare_drop d (drop start text) len b h)
+pub none_advanced : (d : Dialect) (text : List ℕ) (start len : ℕ) (b : Option NoNames) → HasNoNames d (drop start text) b → HasNoNames d (drop (start + len) text) b
+none_advanced d text start len b h = subst (λ y. HasNoNames d y b) (drop-drop len start text) (none_dropped d (drop start text) len b h)
