@@ -1,5 +1,5 @@
 -- Runs of bytes that a text has as they are.
-use Rattle.std.specs.Prelude.{◌≡◌, ℕ, ◌+◌, ◌<◌, ◌≤◌, Bool, true, false, not, ◌&&◌, ◌||◌, ◌==◌, nat_le, List, [], ◌∷◌, length, get_or}
+use Rattle.std.specs.Prelude.{◌≡◌, ℕ, ◌+◌, ◌<◌, ◌≤◌, Bool, true, false, not, ◌&&◌, ◌||◌, ◌==◌, nat_le, List, [], ◌∷◌, length, get_or, nat_lt}
 use Rattle.rdf_terms.specs.Classes.{member, is_digit, is_letter, one_of}
 use Rattle.rdf_terms.specs.Classes.Class.{iri_char}
 use Rattle.rdf_terms.specs.declared.runs.Run.{Run}
@@ -73,3 +73,9 @@ pub record IsRunIn (p : ℕ → Bool) (bs : List ℕ) (at n count : ℕ) : Type 
   pub few : count ≤ n
   pub pass : PassBetween p bs at (at + count)
   pub stops : count < n → p (get_or bs (at + count) 0) ≡ false
+
+-- six bytes or more begin with `http:` or `https:`
+abbrev pub is_http : List ℕ → Bool
+is_http bs =
+    nat_lt 5 (length bs) && ((get_or bs 0 0 == 104) && ((get_or bs 1 0 == 116) && ((get_or bs 2 0 == 116) && ((get_or bs 3 0 == 112)
+    && ((get_or bs 4 0 == 58) || ((get_or bs 4 0 == 115) && get_or bs 5 0 == 58))))))

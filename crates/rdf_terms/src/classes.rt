@@ -4,7 +4,7 @@ ghost use Rattle.std.specs.Prelude.{◌≡◌, ◌||◌, ◌==◌, ◌<◌, Some
 ghost use Rattle.std.specs.Str.{chars};
 ghost use Rattle.std.specs.Str.Iter.{chars_rest};
 ghost use Rattle.rdf_terms.specs.Classes.{has, is_letter, is_digit};
-ghost use Rattle.rdf_terms.specs.Runs.{iri_byte};
+ghost use Rattle.rdf_terms.specs.Runs.{iri_byte, is_http};
 ghost use Rattle.rdf_terms.specs.Classes.Class.{hex_digit, iri_char, local_escape, pn_base, pn_u, pn_char};
 ghost use Rattle.rdf_terms.specs.Terms.{has_scheme, scheme_goes_on, all_have};
 ghost use Rattle.rdf_terms.specs.Values.{hex_value};
@@ -134,11 +134,27 @@ pub(crate) fn is_iri_byte(byte: u8) -> bool
 pub fn has_scheme(text: &str) -> bool
     ensures { result ≡ has_scheme (chars text.now) }
 {
+    if is_http(text.as_bytes()) {
+        return true;
+    }
     let mut rest = text.chars();
     match rest.next() {
         Some(c) => is_letter(c) && scheme_goes_on(rest),
         None => false,
     }
+}
+
+/// Whether `http:` or `https:` comes first, and at least six bytes. Most IRIs begin so.
+#[inline(always)]
+fn is_http(bytes: &[u8]) -> bool
+    ensures { result ≡ is_http bytes.now }
+{
+    bytes.len() > 5
+        && bytes[0] == b'h'
+        && bytes[1] == b't'
+        && bytes[2] == b't'
+        && bytes[3] == b'p'
+        && (bytes[4] == b':' || bytes[4] == b's' && bytes[5] == b':')
 }
 
 fn scheme_goes_on(rest: Chars<'_>) -> bool
