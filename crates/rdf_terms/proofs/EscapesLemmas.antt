@@ -61,7 +61,7 @@ low_first bs at l u a =
     (drop_more bs at 0 l ∙ ap (λ x. x ++ drop (at + 1) bs) (sym (encode_ascii (get_or bs at 0) a)))
 
 -- another byte begins a character that is not of ASCII
-high_first : (bs : List ℕ) (at : ℕ) → at < length bs → IsUtf8 (drop at bs) → 128 ≤ get_or bs at 0 →
+pub high_first : (bs : List ℕ) (at : ℕ) → at < length bs → IsUtf8 (drop at bs) → 128 ≤ get_or bs at 0 →
     (c : ℕ) × (w : List ℕ) × (chars (drop at bs) ≡ c ∷ w) × (128 ≤ c)
 high_first bs at l u h = by u.0 (chars_from_encodes u.0 (drop at bs) u u.1.1) u.1.1
   where

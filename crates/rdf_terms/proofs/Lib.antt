@@ -18,3 +18,4 @@ pub mod SinksLemmas
 pub mod IriBytes
 pub mod RunsLemmas
 pub mod PlainTokens
+pub mod SchemeLemmas

@@ -1,17 +1,15 @@
 // The classes of characters, as tests.
 
-ghost use Rattle.std.specs.Prelude.{◌≡◌, ◌||◌, ◌==◌, ◌<◌, SomeIff, IfSome, IsUtf8, true};
+ghost use Rattle.std.specs.Prelude.{◌≡◌, ◌||◌, ◌==◌, ◌<◌, SomeIff, IfSome, true};
 ghost use Rattle.std.specs.Str.{chars};
-ghost use Rattle.std.specs.Str.Iter.{chars_rest};
 ghost use Rattle.rdf_terms.specs.Classes.{has, is_letter, is_digit};
 ghost use Rattle.rdf_terms.specs.Runs.{iri_byte, is_http};
 ghost use Rattle.rdf_terms.specs.Classes.Class.{hex_digit, iri_char, local_escape, pn_base, pn_u, pn_char};
-ghost use Rattle.rdf_terms.specs.Terms.{has_scheme, scheme_goes_on, all_have};
+ghost use Rattle.rdf_terms.specs.Terms.{has_scheme, all_have};
 ghost use Rattle.rdf_terms.specs.Values.{hex_value};
 
 use crate::Dialect;
 use crate::runs::{Run, is_run};
-use std::str::Chars;
 
 /// PN_CHARS_BASE (Turtle 6.5)
 #[tactic(auto, unfolding(crate::specs::Classes::has))]
@@ -134,14 +132,8 @@ pub(crate) fn is_iri_byte(byte: u8) -> bool
 pub fn has_scheme(text: &str) -> bool
     ensures { result ≡ has_scheme (chars text.now) }
 {
-    if is_http(text.as_bytes()) {
-        return true;
-    }
-    let mut rest = text.chars();
-    match rest.next() {
-        Some(c) => is_letter(c) && scheme_goes_on(rest),
-        None => false,
-    }
+    let bytes = text.as_bytes();
+    is_http(bytes) || begins_scheme(bytes)
 }
 
 /// Whether `http:` or `https:` comes first, and at least six bytes. Most IRIs begin so.
@@ -157,30 +149,36 @@ fn is_http(bytes: &[u8]) -> bool
         && (bytes[4] == b':' || bytes[4] == b's' && bytes[5] == b':')
 }
 
-fn scheme_goes_on(rest: Chars<'_>) -> bool
-    requires { IsUtf8 (chars_rest rest) }
-    ensures { result ≡ scheme_goes_on (chars (chars_rest rest.entry)) }
+/// Whether a letter comes first, and bytes of a scheme up to a colon.
+fn begins_scheme(bytes: &[u8]) -> bool
+    ensures { result ≡ has_scheme bytes.now }
 {
-    for c in rest {
-        if c == ':' {
+    if bytes.is_empty() || !is_letter(bytes[0]) {
+        return false;
+    }
+    let mut at = 1;
+    while at < bytes.len() {
+        let byte = bytes[at];
+        if byte == b':' {
             return true;
         }
-        if !is_scheme_char(c) {
+        if !is_scheme_byte(byte) {
             return false;
         }
+        at += 1;
     }
     false
 }
 
-fn is_letter(c: char) -> bool
-    ensures { result ≡ is_letter c }
+fn is_letter(byte: u8) -> bool
+    ensures { result ≡ is_letter byte }
 {
-    matches!(c, 'A'..='Z' | 'a'..='z')
+    matches!(byte, b'A'..=b'Z' | b'a'..=b'z')
 }
 
 /// ALPHA, DIGIT, `+`, `-` or `.`
-fn is_scheme_char(c: char) -> bool
-    ensures { result ≡ (is_letter c || is_digit c || c == 43 || c == 45 || c == 46) }
+fn is_scheme_byte(byte: u8) -> bool
+    ensures { result ≡ (is_letter byte || is_digit byte || byte == 43 || byte == 45 || byte == 46) }
 {
-    matches!(c, 'A'..='Z' | 'a'..='z' | '0'..='9' | '+' | '-' | '.')
+    matches!(byte, b'A'..=b'Z' | b'a'..=b'z' | b'0'..=b'9' | b'+' | b'-' | b'.')
 }

@@ -1,17 +1,16 @@
-use Rattle.std.proofs.Common.{◌≡◌, true, sym, subst, ◌∙◌}
+-- A scheme, by the bytes of the text.
+use Rattle.std.proofs.Common.{◌≡◌, true, sym, ap, ◌∙◌}
 use Rattle.rdf_terms.specs.Runs.{is_http}
-use Rattle.rdf_terms.proofs.CharsLemmas.{http_scheme, next_char}
+use Rattle.rdf_terms.specs.Terms.{has_scheme}
+use Rattle.rdf_terms.proofs.SchemeLemmas.{http_scheme, scheme_by_bytes}
 use Rattle.rdf_terms.proofs.classes.has_scheme.Goals as goal
-
-pub scheme_goes_on-requires : goal.scheme_goes_on-requires
-scheme_goes_on-requires c =
-    (next_char c.args.text.now _ _ c.utf8.text (sym c.chars-rest.ensures.rest ∙ c.in-Some.ensures.steps.0)).utf8
-
-pub returns-then-is_letter : goal.returns-then-is_letter
-returns-then-is_letter c =
-    let n = next_char c.args.text.now _ _ c.utf8.text (sym c.chars-rest.ensures.rest ∙ c.in-Some.ensures.steps.0) in
-    rw (n.chars, ← c.is_letter.ensures, c.if-is_letter.true) c.scheme_goes_on.ensures
 
 pub returns-then-is_http : goal.returns-then-is_http
 returns-then-is_http c =
-    sym (http_scheme c.args.text.now c.utf8.text (subst (λ b. is_http b ≡ true) c.as_bytes.ensures.value (sym c.is_http.ensures ∙ c.if-is_http.true)))
+    let v = c.as_bytes-bytes.ensures.value in
+    let h : has_scheme c.as_bytes-bytes.result.now ≡ true = http_scheme c.as_bytes-bytes.result.now (sym c.is_http.ensures ∙ c.if-is_http.true) in
+    c.if-is_http.true ∙ (sym h ∙ (ap has_scheme v ∙ sym (scheme_by_bytes c.args.text.now c.utf8.text)))
+
+pub returns-else-is_http : goal.returns-else-is_http
+returns-else-is_http c =
+    c.begins_scheme.ensures ∙ (ap has_scheme c.as_bytes-bytes.ensures.value ∙ sym (scheme_by_bytes c.args.text.now c.utf8.text))
