@@ -16,6 +16,7 @@ use std::alloc::Allocator;
 
 impl<A: Allocator> State<A> {
     /// Takes a token. A statement's quad is put at its dot; after an error the reader has finished.
+    #[inline(always)]
     pub fn accept<S: QuadSink>(
         &mut self,
         rules: Rules,
@@ -69,6 +70,7 @@ impl<A: Allocator> State<A> {
         }
     }
 
+    #[inline(always)]
     fn at_begin(&mut self, limit: u64, token: &Token<'_>) -> Result<Mode, Reason>
         requires { IsLineToken token.now }
         ensures ok { IfOk result (λ m. LeadsTo limit M.Begin token.now (mode_at self.new m)) }
@@ -90,6 +92,7 @@ impl<A: Allocator> State<A> {
         }
     }
 
+    #[inline(always)]
     fn after_subject(&mut self, limit: u64, token: &Token<'_>) -> Result<Mode, Reason>
         requires { IsLineToken token.now }
         ensures ok { IfOk result (λ m. LeadsTo limit (mode_at self.old Mode.AfterSubject) token.now (mode_at self.new m)) }
@@ -105,6 +108,7 @@ impl<A: Allocator> State<A> {
         }
     }
 
+    #[inline(always)]
     fn after_predicate(&mut self, limit: u64, token: &Token<'_>) -> Result<Mode, Reason>
         requires { IsLineToken token.now }
         ensures ok { IfOk result (λ m. LeadsTo limit (mode_at self.old Mode.AfterPredicate) token.now (mode_at self.new m)) }
@@ -128,6 +132,7 @@ impl<A: Allocator> State<A> {
         }
     }
 
+    #[inline(always)]
     fn after_string<S: QuadSink>(
         &mut self,
         rules: Rules,
@@ -153,6 +158,7 @@ impl<A: Allocator> State<A> {
         }
     }
 
+    #[inline(always)]
     fn after_carets(&mut self, limit: u64, token: &Token<'_>) -> Result<Mode, Reason>
         requires { IsLineToken token.now }
         ensures ok { IfOk result (λ m. LeadsTo limit (mode_at self.old Mode.AfterCarets) token.now (mode_at self.new m)) }
@@ -169,6 +175,7 @@ impl<A: Allocator> State<A> {
     }
 
     // A graph label stands in N-Quads only.
+    #[inline(always)]
     fn after_object<S: QuadSink>(
         &mut self,
         rules: Rules,
@@ -199,6 +206,7 @@ impl<A: Allocator> State<A> {
         }
     }
 
+    #[inline(always)]
     fn after_graph<S: QuadSink>(
         &self,
         kind: ObjectKind,
@@ -220,6 +228,7 @@ impl<A: Allocator> State<A> {
     }
 
     // Puts the quad of the line, whose dot has come.
+    #[inline(always)]
     fn give<S: QuadSink>(
         &self,
         kind: ObjectKind,
@@ -245,6 +254,7 @@ impl<A: Allocator> State<A> {
         }
     }
 
+    #[inline(always)]
     fn after_dot(&self, token: &Token<'_>) -> Result<Mode, Reason>
         ensures ok { IfOk result (λ m. (g : Rules) → answer g M.AfterDot token.now ≡ goes (mode_at self.now m)) }
         ensures held { IfOk result (λ m. (n : ℕ) → HoldsAt n self.now m) }
