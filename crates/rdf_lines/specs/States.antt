@@ -1,11 +1,10 @@
 -- What the states of the reader's code mean, and what taking a token does.
-use Rattle.std.specs.Prelude.{◌≡◌, ◌≤◌, ◌+◌, ◌*◌, ◌^◌, ℕ, Bool, true, false, length, Option, option_map, ◌⊎◌}
+use Rattle.std.specs.Prelude.{◌≡◌, ◌≤◌, ◌+◌, ◌*◌, ◌^◌, ℕ, Bool, true, false, List, length, Option, option_map, ◌⊎◌}
 use Rattle.std.specs.Str.{chars}
 use Rattle.std.specs.String.{string_bytes}
 use Rattle.rdf_terms.specs.declared.reason.Reason.{Reason}
 use Rattle.rdf_terms.specs.declared.reason.Reason.TheVariants.{Memory, Unexpected, RelativeIri, IriTooLong, Sink}
-use Rattle.rdf_terms.specs.Terms.{Node, Label, Lang, Typed, Subject, Iri, Blank, Term, Resource, Literal, Quad, xsd_string}
-use Rattle.rdf_terms.specs.Owned.{owned_subject}
+use Rattle.rdf_terms.specs.Terms.{Node, Label, Tail, Lang, Typed, Subject, Iri, Blank, Term, Resource, Literal, Quad, xsd_string}
 use Rattle.rdf_terms.specs.Views.{subject_by}
 use Rattle.rdf_terms.specs.declared.views.SubjectRef.{SubjectRef}
 use Rattle.rdf_tokens.specs.declared.token.Token.{Token as Given}
@@ -14,33 +13,40 @@ use Rattle.rdf_tokens.specs.Scans.{token_of, IsToken}
 use Rattle.rdf_iri.specs.Texts.{byte_len}
 use Rattle.rdf_lines.specs.declared.form.LineForm.{LineForm}
 use Rattle.rdf_lines.specs.declared.rules.Rules.{Rules}
-use Rattle.rdf_lines.specs.declared.state.Beginning.{Beginning}
-use Rattle.rdf_lines.specs.declared.state.Object.{Object}
-use Rattle.rdf_lines.specs.declared.state.Object.TheVariants.{Named, Plain, WithType, WithTag}
+use Rattle.rdf_lines.specs.declared.state.ObjectKind.{ObjectKind}
+use Rattle.rdf_lines.specs.declared.state.ObjectKind.TheVariants.{Named, Plain, WithTail}
+use Rattle.rdf_lines.specs.declared.state.Mode.{Mode as Stand}
+use Rattle.rdf_lines.specs.declared.state.Mode.TheVariants as at
 use Rattle.rdf_lines.specs.declared.state.State.{State}
-use Rattle.rdf_lines.specs.declared.state.State.TheVariants as state
 use Rattle.rdf_lines.specs.Lines.{Leaf, leaf_of}
 use Rattle.rdf_lines.specs.Documents.{most_text}
 use Rattle.rdf_lines.specs.Machine.{Mode, Begin, AfterSubject, AfterPredicate, AfterString, AfterCarets, AfterObject, AfterGraph, AfterDot, Finished, Answer, accept, goes, gives, is_taken, quad, refuses}
 
--- the term of an object that was read
-abbrev pub object_of : {A : Type 0} → Object A → Term
-object_of (Named s) = Resource (owned_subject s)
-object_of (Plain w) = Literal (chars (string_bytes w)) (Typed xsd_string)
-object_of (WithType w i) = Literal (chars (string_bytes w)) (Typed i)
-object_of (WithTag w t) = Literal (chars (string_bytes w)) (Lang t)
+-- the characters of the lexical form
+abbrev pub text_in : {A : Type 0} → State A → List ℕ
+text_in r = chars (string_bytes r.lexical)
+
+-- the term of an object of this kind
+abbrev pub object_of : {A : Type 0} → State A → ObjectKind → Term
+object_of r Named = Resource r.object
+object_of r Plain = Literal (text_in r) (Typed xsd_string)
+object_of r WithTail = Literal (text_in r) r.tail
+
+-- the mode of the machine that a mode of the reader is, with the texts of a state
+abbrev pub mode_at : {A : Type 0} → State A → Stand → Mode
+mode_at r at.Begin = Begin
+mode_at r at.AfterSubject = AfterSubject r.subject
+mode_at r at.AfterPredicate = AfterPredicate r.subject r.predicate
+mode_at r at.AfterString = AfterString r.subject r.predicate (text_in r)
+mode_at r at.AfterCarets = AfterCarets r.subject r.predicate (text_in r)
+mode_at r (at.AfterObject k) = AfterObject r.subject r.predicate (object_of r k)
+mode_at r (at.AfterGraph k) = AfterGraph r.subject r.predicate (object_of r k) r.graph
+mode_at r at.AfterDot = AfterDot
+mode_at r at.Finished = Finished
 
 -- the mode of the machine that a state is
 abbrev pub mode_of : {A : Type 0} → State A → Mode
-mode_of state.Begin = Begin
-mode_of (state.AfterSubject s) = AfterSubject (owned_subject s)
-mode_of (state.AfterPredicate b) = AfterPredicate (owned_subject b.subject) b.predicate
-mode_of (state.AfterString b w) = AfterString (owned_subject b.subject) b.predicate (chars (string_bytes w))
-mode_of (state.AfterCarets b w) = AfterCarets (owned_subject b.subject) b.predicate (chars (string_bytes w))
-mode_of (state.AfterObject b o) = AfterObject (owned_subject b.subject) b.predicate (object_of o)
-mode_of (state.AfterGraph b o g) = AfterGraph (owned_subject b.subject) b.predicate (object_of o) (owned_subject g)
-mode_of state.AfterDot = AfterDot
-mode_of state.Finished = Finished
+mode_of r = mode_at r r.mode
 
 -- the mode between two lines
 abbrev pub is_begin : Mode → Bool
@@ -64,9 +70,9 @@ IsLineToken t = IsToken Lines (token_of t)
 abbrev pub answer : Rules → Mode → Given → Answer
 answer rules m t = accept (is_taken rules.iri) rules.form m t.kind (leaf t)
 
--- the quad of the parts that were read
-abbrev pub quad_with : {A : Type 0} → Beginning A → Object A → Option SubjectRef → Quad
-quad_with b o g = quad (owned_subject b.subject) b.predicate (object_of o) (option_map (subject_by chars) g)
+-- the quad of the parts that were read, with an object of this kind
+abbrev pub quad_with : {A : Type 0} → State A → ObjectKind → Option SubjectRef → Quad
+quad_with r k g = quad r.subject r.predicate (object_of r k) (option_map (subject_by chars) g)
 
 -- why a token is not accepted where nothing is put
 abbrev pub Declines : Reason → Answer → Type 0
@@ -115,51 +121,67 @@ abbrev pub subject_bytes : Subject → ℕ
 subject_bytes (Iri i) = byte_len i
 subject_bytes (Blank n) = node_bytes n
 
--- the bytes of a subject and a predicate
-abbrev pub beginning_bytes : {A : Type 0} → Beginning A → ℕ
-beginning_bytes b = subject_bytes (owned_subject b.subject) + byte_len b.predicate
+-- the bytes of a datatype or a tag
+abbrev pub tail_bytes : Tail → ℕ
+tail_bytes (Lang t) = byte_len t
+tail_bytes (Typed i) = byte_len i
 
--- the bytes of an object's texts; xsd:string, where it is not spelled, is none of them
-abbrev pub object_bytes : {A : Type 0} → Object A → ℕ
-object_bytes (Named s) = subject_bytes (owned_subject s)
-object_bytes (Plain w) = length (string_bytes w)
-object_bytes (WithType w i) = length (string_bytes w) + byte_len i
-object_bytes (WithTag w t) = length (string_bytes w) + byte_len t
+-- the bytes of the subject and the predicate
+abbrev pub front_bytes : {A : Type 0} → State A → ℕ
+front_bytes r = subject_bytes r.subject + byte_len r.predicate
 
--- the bytes of the texts that a state holds
+-- the bytes of the lexical form
+abbrev pub text_bytes : {A : Type 0} → State A → ℕ
+text_bytes r = length (string_bytes r.lexical)
+
+-- the bytes of the texts of an object of this kind; xsd:string, where it is not spelled, is none of them
+abbrev pub object_bytes : {A : Type 0} → State A → ObjectKind → ℕ
+object_bytes r Named = subject_bytes r.object
+object_bytes r Plain = text_bytes r
+object_bytes r WithTail = text_bytes r + tail_bytes r.tail
+
+-- the bytes of the texts that belong to a mode
+abbrev pub bytes_at : {A : Type 0} → State A → Stand → ℕ
+bytes_at r at.Begin = 0
+bytes_at r at.AfterSubject = subject_bytes r.subject
+bytes_at r at.AfterPredicate = front_bytes r
+bytes_at r at.AfterString = front_bytes r + text_bytes r
+bytes_at r at.AfterCarets = front_bytes r + text_bytes r
+bytes_at r (at.AfterObject k) = front_bytes r + object_bytes r k
+bytes_at r (at.AfterGraph k) = front_bytes r + object_bytes r k + subject_bytes r.graph
+bytes_at r at.AfterDot = 0
+bytes_at r at.Finished = 0
+
+-- the bytes of the texts that a state holds; what it has of others is room for the next ones
 abbrev pub state_bytes : {A : Type 0} → State A → ℕ
-state_bytes state.Begin = 0
-state_bytes (state.AfterSubject s) = subject_bytes (owned_subject s)
-state_bytes (state.AfterPredicate b) = beginning_bytes b
-state_bytes (state.AfterString b w) = beginning_bytes b + length (string_bytes w)
-state_bytes (state.AfterCarets b w) = beginning_bytes b + length (string_bytes w)
-state_bytes (state.AfterObject b o) = beginning_bytes b + object_bytes o
-state_bytes (state.AfterGraph b o g) = beginning_bytes b + object_bytes o + subject_bytes (owned_subject g)
-state_bytes state.AfterDot = 0
-state_bytes state.Finished = 0
+state_bytes r = bytes_at r r.mode
 
--- how many texts they are at most
-abbrev pub texts_in : {A : Type 0} → State A → ℕ
-texts_in state.Begin = 0
-texts_in (state.AfterSubject s) = 1
-texts_in (state.AfterPredicate b) = 2
-texts_in (state.AfterString b w) = 3
-texts_in (state.AfterCarets b w) = 3
-texts_in (state.AfterObject b o) = 4
-texts_in (state.AfterGraph b o g) = 5
-texts_in state.AfterDot = 0
-texts_in state.Finished = 0
+-- how many texts belong to a mode at most
+abbrev pub texts_in : Stand → ℕ
+texts_in at.Begin = 0
+texts_in at.AfterSubject = 1
+texts_in at.AfterPredicate = 2
+texts_in at.AfterString = 3
+texts_in at.AfterCarets = 3
+texts_in (at.AfterObject k) = 4
+texts_in (at.AfterGraph k) = 5
+texts_in at.AfterDot = 0
+texts_in at.Finished = 0
 
--- a state holds no more than so many bytes for each of its texts
+-- in a mode a state holds no more than so many bytes for each of its texts
+abbrev pub HoldsAt : {A : Type 0} → ℕ → State A → Stand → Type 0
+HoldsAt n r m = bytes_at r m ≤ texts_in m * n
+
+-- the same in the mode that it has
 abbrev pub HoldsAtMost : {A : Type 0} → ℕ → State A → Type 0
-HoldsAtMost n s = state_bytes s ≤ texts_in s * n
+HoldsAtMost n r = HoldsAt n r r.mode
 
--- what is held stays within such a bound, if an IRI's limit and a token's characters are within it
-abbrev pub StaysWithin : {A : Type 0} → ℕ → State A → Given → State A → Type 0
-StaysWithin iri before t after = (n : ℕ) → iri ≤ n → 4 * length (token_of t).text ≤ n → HoldsAtMost n before → HoldsAtMost n after
+-- what is held, in a mode before a token and one after it, stays within such a bound, if an IRI's limit and the token's characters are within it
+abbrev pub StaysWithin : {A : Type 0} → ℕ → State A → Stand → Given → State A → Stand → Type 0
+StaysWithin iri before m t after next = (n : ℕ) → iri ≤ n → 4 * length (token_of t).text ≤ n → HoldsAt n before m → HoldsAt n after next
 
 -- The limits are in range, and a state keeps them.
-pub record KeepsLine {A : Type 0} (limit iri : ℕ) (s : State A) : Type 0 where
+pub record KeepsLine {A : Type 0} (limit iri : ℕ) (r : State A) : Type 0 where
   pub limit_in_range : limit ≤ 2 ^ 28
   pub iri_in_range : iri ≤ 2 ^ 28
-  pub held : HoldsAtMost (most_text limit iri) s
+  pub held : HoldsAtMost (most_text limit iri) r

@@ -2,268 +2,268 @@
 
 ghost use Rattle.std.specs.Prelude.{◌≡◌, ℕ, false, OnOk, IfOk, IfErr};
 ghost use Rattle.rdf_lines.specs.declared.rules.Rules.{Rules};
-ghost use Rattle.rdf_lines.specs.declared.state.State.TheVariants as state;
 ghost use Rattle.rdf_lines.specs.Machine as M;
 ghost use Rattle.rdf_lines.specs.Machine.{goes, gives};
-ghost use Rattle.rdf_lines.specs.States.{mode_of, answer, quad_with, IsLineToken, Declines, Does, Fails, LeadsTo, IsDeclined, HoldsAtMost, StaysWithin};
+ghost use Rattle.rdf_lines.specs.States.{mode_of, mode_at, answer, quad_with, IsLineToken, Declines, Does, Fails, LeadsTo, IsDeclined, HoldsAt, StaysWithin};
 
 use crate::form::LineForm;
 use crate::rules::Rules;
-use crate::spelled::{iri, label, string, tag};
-use crate::state::{Beginning, Object, State};
-use rdf_terms::{Kind, PutFault, QuadRef, QuadSink, Reason, Subject, SubjectRef};
+use crate::spelled::set_string;
+use crate::state::{Mode, ObjectKind, State};
+use rdf_terms::{Kind, PutFault, QuadRef, QuadSink, Reason, SubjectRef};
 use rdf_tokens::Token;
 use std::alloc::Allocator;
 
-// What terms are made with, and the rules that they keep.
-#[derive(Drop)]
-struct Setup<A: Allocator> {
-    alloc: A,
-    rules: Rules,
-}
+impl<A: Allocator> State<A> {
+    /// Takes a token. A statement's quad is put at its dot; after an error the reader has finished.
+    #[inline(always)]
+    pub fn accept<S: QuadSink>(
+        &mut self,
+        rules: Rules,
+        token: &Token<'_>,
+        sink: &mut S,
+    ) -> Result<(), Reason>
+        requires token { IsLineToken token.now }
+        requires live { S.has_failed sink.old ≡ false }
+        ensures ok { OnOk result (Does S.takes (answer rules (mode_of self.old) token.now) sink.old (mode_of self.new) sink.new) }
+        ensures live { OnOk result (S.has_failed sink.new ≡ false) }
+        ensures held { StaysWithin rules.iri self.old self.old.mode token.now self.new self.new.mode }
+        ensures err { IfErr result (λ r. Fails S.leaves S.has_failed r (answer rules (mode_of self.old) token.now) sink.old sink.new) }
+    {
+        match self.next(rules, token, sink) {
+            Ok(mode) => {
+                self.mode = mode;
+                Ok(())
+            }
+            Err(reason) => {
+                self.mode = Mode::Finished;
+                Err(reason)
+            }
+        }
+    }
 
-/// Takes a token. A statement's quad is put at its dot; after an error the line's parts are gone.
-pub fn accept<A: Allocator, S: QuadSink>(
-    alloc: A,
-    rules: Rules,
-    state: State<A>,
-    token: Token<'_>,
-    sink: &mut S,
-) -> Result<State<A>, Reason>
-    requires token { IsLineToken token }
-    requires live { S.has_failed sink.old ≡ false }
-    ensures ok { IfOk result (λ s. Does S.takes (answer rules (mode_of state) token.entry) sink.old (mode_of s) sink.new) }
-    ensures live { OnOk result (S.has_failed sink.new ≡ false) }
-    ensures held { IfOk result (StaysWithin rules.iri state token.entry) }
-    ensures err { IfErr result (λ r. Fails S.leaves S.has_failed r (answer rules (mode_of state) token.entry) sink.old sink.new) }
-{
-    match state {
-        State::Begin => at_begin(alloc, rules.iri, token),
-        State::AfterSubject { subject } => after_subject(alloc, rules.iri, subject, token),
-        State::AfterPredicate { beginning } => after_predicate(alloc, rules.iri, beginning, token),
-        State::AfterString { beginning, lexical } => {
-            after_string(Setup { alloc, rules }, beginning, lexical, token, sink)
+    // The mode after a token, whose text has then its place in the state.
+    #[inline(always)]
+    fn next<S: QuadSink>(
+        &mut self,
+        rules: Rules,
+        token: &Token<'_>,
+        sink: &mut S,
+    ) -> Result<Mode, Reason>
+        requires token { IsLineToken token.now }
+        requires live { S.has_failed sink.old ≡ false }
+        ensures ok { IfOk result (λ m. Does S.takes (answer rules (mode_of self.old) token.now) sink.old (mode_at self.new m) sink.new) }
+        ensures live { OnOk result (S.has_failed sink.new ≡ false) }
+        ensures held { IfOk result (StaysWithin rules.iri self.old self.old.mode token.now self.new) }
+        ensures err { IfErr result (λ r. Fails S.leaves S.has_failed r (answer rules (mode_of self.old) token.now) sink.old sink.new) }
+    {
+        match self.mode {
+            Mode::Begin => self.at_begin(rules.iri, token),
+            Mode::AfterSubject => self.after_subject(rules.iri, token),
+            Mode::AfterPredicate => self.after_predicate(rules.iri, token),
+            Mode::AfterString => self.after_string(rules, token, sink),
+            Mode::AfterCarets => self.after_carets(rules.iri, token),
+            Mode::AfterObject(kind) => self.after_object(rules, kind, token, sink),
+            Mode::AfterGraph(kind) => self.after_graph(kind, token, sink),
+            Mode::AfterDot => self.after_dot(token),
+            Mode::Finished => Err(Reason::Unexpected),
         }
-        State::AfterCarets { beginning, lexical } => {
-            after_carets(alloc, rules.iri, beginning, lexical, token)
+    }
+
+    #[inline(always)]
+    fn at_begin(&mut self, limit: u64, token: &Token<'_>) -> Result<Mode, Reason>
+        requires { IsLineToken token.now }
+        ensures ok { IfOk result (λ m. LeadsTo limit M.Begin token.now (mode_at self.new m)) }
+        ensures held { IfOk result (StaysWithin limit self.old Mode.Begin token.now self.new) }
+        ensures err { IfErr result (IsDeclined limit M.Begin token.now) }
+    {
+        match token.kind {
+            Kind::IriRef => {
+                self.subject.set_iri(token.text, limit)?;
+                Ok(Mode::AfterSubject)
+            }
+            Kind::LabelNode => {
+                self.subject.set_label(token.text)?;
+                Ok(Mode::AfterSubject)
+            }
+            Kind::LineEnd => Ok(Mode::Begin),
+            Kind::End => Ok(Mode::Finished),
+            _ => Err(Reason::Unexpected),
         }
-        State::AfterObject { beginning, object } => {
-            after_object(Setup { alloc, rules }, beginning, object, token, sink)
+    }
+
+    #[inline(always)]
+    fn after_subject(&mut self, limit: u64, token: &Token<'_>) -> Result<Mode, Reason>
+        requires { IsLineToken token.now }
+        ensures ok { IfOk result (λ m. LeadsTo limit (mode_at self.old Mode.AfterSubject) token.now (mode_at self.new m)) }
+        ensures held { IfOk result (StaysWithin limit self.old Mode.AfterSubject token.now self.new) }
+        ensures err { IfErr result (IsDeclined limit (mode_at self.old Mode.AfterSubject) token.now) }
+    {
+        match token.kind {
+            Kind::IriRef => {
+                self.predicate.set(token.text, limit)?;
+                Ok(Mode::AfterPredicate)
+            }
+            _ => Err(Reason::Unexpected),
         }
-        State::AfterGraph {
-            beginning,
-            object,
+    }
+
+    #[inline(always)]
+    fn after_predicate(&mut self, limit: u64, token: &Token<'_>) -> Result<Mode, Reason>
+        requires { IsLineToken token.now }
+        ensures ok { IfOk result (λ m. LeadsTo limit (mode_at self.old Mode.AfterPredicate) token.now (mode_at self.new m)) }
+        ensures held { IfOk result (StaysWithin limit self.old Mode.AfterPredicate token.now self.new) }
+        ensures err { IfErr result (IsDeclined limit (mode_at self.old Mode.AfterPredicate) token.now) }
+    {
+        match token.kind {
+            Kind::IriRef => {
+                self.object.set_iri(token.text, limit)?;
+                Ok(Mode::AfterObject(ObjectKind::Named))
+            }
+            Kind::LabelNode => {
+                self.object.set_label(token.text)?;
+                Ok(Mode::AfterObject(ObjectKind::Named))
+            }
+            Kind::ShortString => {
+                set_string(&mut self.lexical, token.text)?;
+                Ok(Mode::AfterString)
+            }
+            _ => Err(Reason::Unexpected),
+        }
+    }
+
+    #[inline(always)]
+    fn after_string<S: QuadSink>(
+        &mut self,
+        rules: Rules,
+        token: &Token<'_>,
+        sink: &mut S,
+    ) -> Result<Mode, Reason>
+        requires token { IsLineToken token.now }
+        requires live { S.has_failed sink.old ≡ false }
+        ensures ok { IfOk result (λ m. Does S.takes
+            (answer rules (mode_at self.old Mode.AfterString) token.now) sink.old (mode_at self.new m) sink.new) }
+        ensures live { OnOk result (S.has_failed sink.new ≡ false) }
+        ensures held { IfOk result (StaysWithin rules.iri self.old Mode.AfterString token.now self.new) }
+        ensures err { IfErr result (λ r. Fails S.leaves S.has_failed r
+            (answer rules (mode_at self.old Mode.AfterString) token.now) sink.old sink.new) }
+    {
+        match token.kind {
+            Kind::LangTag => {
+                self.tail.set_tag(token.text)?;
+                Ok(Mode::AfterObject(ObjectKind::WithTail))
+            }
+            Kind::Carets => Ok(Mode::AfterCarets),
+            _ => self.after_object(rules, ObjectKind::Plain, token, sink),
+        }
+    }
+
+    #[inline(always)]
+    fn after_carets(&mut self, limit: u64, token: &Token<'_>) -> Result<Mode, Reason>
+        requires { IsLineToken token.now }
+        ensures ok { IfOk result (λ m. LeadsTo limit (mode_at self.old Mode.AfterCarets) token.now (mode_at self.new m)) }
+        ensures held { IfOk result (StaysWithin limit self.old Mode.AfterCarets token.now self.new) }
+        ensures err { IfErr result (IsDeclined limit (mode_at self.old Mode.AfterCarets) token.now) }
+    {
+        match token.kind {
+            Kind::IriRef => {
+                self.tail.set_datatype(token.text, limit)?;
+                Ok(Mode::AfterObject(ObjectKind::WithTail))
+            }
+            _ => Err(Reason::Unexpected),
+        }
+    }
+
+    // A graph label stands in N-Quads only.
+    #[inline(always)]
+    fn after_object<S: QuadSink>(
+        &mut self,
+        rules: Rules,
+        kind: ObjectKind,
+        token: &Token<'_>,
+        sink: &mut S,
+    ) -> Result<Mode, Reason>
+        requires token { IsLineToken token.now }
+        requires live { S.has_failed sink.old ≡ false }
+        ensures ok { IfOk result (λ m. Does S.takes
+            (answer rules (mode_at self.old (Mode.AfterObject kind)) token.now) sink.old (mode_at self.new m) sink.new) }
+        ensures live { OnOk result (S.has_failed sink.new ≡ false) }
+        ensures held { IfOk result (StaysWithin rules.iri self.old (Mode.AfterObject kind) token.now self.new) }
+        ensures err { IfErr result (λ r. Fails S.leaves S.has_failed r
+            (answer rules (mode_at self.old (Mode.AfterObject kind)) token.now) sink.old sink.new) }
+    {
+        match (rules.form, token.kind) {
+            (_, Kind::Dot) => self.give(kind, None, sink),
+            (LineForm::NQuads, Kind::IriRef) => {
+                self.graph.set_iri(token.text, rules.iri)?;
+                Ok(Mode::AfterGraph(kind))
+            }
+            (LineForm::NQuads, Kind::LabelNode) => {
+                self.graph.set_label(token.text)?;
+                Ok(Mode::AfterGraph(kind))
+            }
+            _ => Err(Reason::Unexpected),
+        }
+    }
+
+    #[inline(always)]
+    fn after_graph<S: QuadSink>(
+        &self,
+        kind: ObjectKind,
+        token: &Token<'_>,
+        sink: &mut S,
+    ) -> Result<Mode, Reason>
+        requires { S.has_failed sink.old ≡ false }
+        ensures ok { IfOk result (λ m. (g : Rules) → Does S.takes
+            (answer g (mode_at self.now (Mode.AfterGraph kind)) token.now) sink.old (mode_at self.now m) sink.new) }
+        ensures live { OnOk result (S.has_failed sink.new ≡ false) }
+        ensures held { IfOk result (λ m. (n : ℕ) → HoldsAt n self.now m) }
+        ensures err { IfErr result (λ r. (g : Rules) → Fails S.leaves S.has_failed r
+            (answer g (mode_at self.now (Mode.AfterGraph kind)) token.now) sink.old sink.new) }
+    {
+        match token.kind {
+            Kind::Dot => self.give(kind, Some(self.graph.view()), sink),
+            _ => Err(Reason::Unexpected),
+        }
+    }
+
+    // Puts the quad of the line, whose dot has come.
+    #[inline(always)]
+    fn give<S: QuadSink>(
+        &self,
+        kind: ObjectKind,
+        graph: Option<SubjectRef<'_>>,
+        sink: &mut S,
+    ) -> Result<Mode, Reason>
+        requires { S.has_failed sink.old ≡ false }
+        ensures ok { IfOk result (λ m. Does S.takes (gives (quad_with self.now kind graph.entry) M.AfterDot) sink.old (mode_at self.now m) sink.new) }
+        ensures live { OnOk result (S.has_failed sink.new ≡ false) }
+        ensures held { IfOk result (λ m. (n : ℕ) → HoldsAt n self.now m) }
+        ensures err { IfErr result (λ r. Fails S.leaves S.has_failed r (gives (quad_with self.now kind graph.entry) M.AfterDot) sink.old sink.new) }
+    {
+        let quad = QuadRef {
+            subject: self.subject.view(),
+            predicate: self.predicate.view(),
+            object: self.object(kind),
             graph,
-        } => after_graph(beginning, object, graph, token, sink),
-        State::AfterDot => after_dot(token),
-        State::Finished => Err(Reason::Unexpected),
-    }
-}
-
-fn at_begin<A: Allocator>(alloc: A, limit: u64, token: Token<'_>) -> Result<State<A>, Reason>
-    requires { IsLineToken token }
-    ensures ok { IfOk result (λ s. LeadsTo limit M.Begin token.entry (mode_of s)) }
-    ensures held { IfOk result (StaysWithin limit state.Begin token.entry) }
-    ensures err { IfErr result (IsDeclined limit M.Begin token.entry) }
-{
-    match token.kind {
-        Kind::IriRef => Ok(State::AfterSubject {
-            subject: Subject::Iri(iri(alloc, token.text, limit)?),
-        }),
-        Kind::LabelNode => Ok(State::AfterSubject {
-            subject: label(alloc, token.text)?,
-        }),
-        Kind::LineEnd => Ok(State::Begin),
-        Kind::End => Ok(State::Finished),
-        _ => Err(Reason::Unexpected),
-    }
-}
-
-fn after_subject<A: Allocator>(
-    alloc: A,
-    limit: u64,
-    subject: Subject<A>,
-    token: Token<'_>,
-) -> Result<State<A>, Reason>
-    requires { IsLineToken token }
-    ensures ok { IfOk result (λ s. LeadsTo limit (mode_of (state.AfterSubject subject)) token.entry (mode_of s)) }
-    ensures held { IfOk result (StaysWithin limit (state.AfterSubject subject) token.entry) }
-    ensures err { IfErr result (IsDeclined limit (mode_of (state.AfterSubject subject)) token.entry) }
-{
-    match token.kind {
-        Kind::IriRef => {
-            let predicate = iri(alloc, token.text, limit)?;
-            Ok(State::AfterPredicate {
-                beginning: Beginning { subject, predicate },
-            })
+        };
+        match sink.put(quad) {
+            Ok(()) => Ok(Mode::AfterDot),
+            Err(PutFault::Memory) => Err(Reason::Memory),
+            Err(PutFault::Device) => Err(Reason::Sink),
         }
-        _ => Err(Reason::Unexpected),
     }
-}
 
-fn after_predicate<A: Allocator>(
-    alloc: A,
-    limit: u64,
-    beginning: Beginning<A>,
-    token: Token<'_>,
-) -> Result<State<A>, Reason>
-    requires { IsLineToken token }
-    ensures ok { IfOk result (λ s. LeadsTo limit (mode_of (state.AfterPredicate beginning)) token.entry (mode_of s)) }
-    ensures held { IfOk result (StaysWithin limit (state.AfterPredicate beginning) token.entry) }
-    ensures err { IfErr result (IsDeclined limit (mode_of (state.AfterPredicate beginning)) token.entry) }
-{
-    match token.kind {
-        Kind::IriRef => Ok(State::AfterObject {
-            beginning,
-            object: Object::Named(Subject::Iri(iri(alloc, token.text, limit)?)),
-        }),
-        Kind::LabelNode => Ok(State::AfterObject {
-            beginning,
-            object: Object::Named(label(alloc, token.text)?),
-        }),
-        Kind::ShortString => Ok(State::AfterString {
-            beginning,
-            lexical: string(alloc, token.text)?,
-        }),
-        _ => Err(Reason::Unexpected),
-    }
-}
-
-fn after_string<A: Allocator, S: QuadSink>(
-    setup: Setup<A>,
-    beginning: Beginning<A>,
-    lexical: String<A>,
-    token: Token<'_>,
-    sink: &mut S,
-) -> Result<State<A>, Reason>
-    requires token { IsLineToken token }
-    requires live { S.has_failed sink.old ≡ false }
-    ensures ok { IfOk result (λ s. Does S.takes
-        (answer setup.rules (mode_of (state.AfterString beginning lexical)) token.entry) sink.old (mode_of s) sink.new) }
-    ensures live { OnOk result (S.has_failed sink.new ≡ false) }
-    ensures held { IfOk result (StaysWithin setup.rules.iri (state.AfterString beginning lexical) token.entry) }
-    ensures err { IfErr result (λ r. Fails S.leaves S.has_failed r
-        (answer setup.rules (mode_of (state.AfterString beginning lexical)) token.entry) sink.old sink.new) }
-{
-    match token.kind {
-        Kind::LangTag => Ok(State::AfterObject {
-            beginning,
-            object: Object::WithTag(lexical, tag(setup.alloc, token.text)?),
-        }),
-        Kind::Carets => Ok(State::AfterCarets { beginning, lexical }),
-        _ => after_object(setup, beginning, Object::Plain(lexical), token, sink),
-    }
-}
-
-fn after_carets<A: Allocator>(
-    alloc: A,
-    limit: u64,
-    beginning: Beginning<A>,
-    lexical: String<A>,
-    token: Token<'_>,
-) -> Result<State<A>, Reason>
-    requires { IsLineToken token }
-    ensures ok { IfOk result (λ s. LeadsTo limit (mode_of (state.AfterCarets beginning lexical)) token.entry (mode_of s)) }
-    ensures held { IfOk result (StaysWithin limit (state.AfterCarets beginning lexical) token.entry) }
-    ensures err { IfErr result (IsDeclined limit (mode_of (state.AfterCarets beginning lexical)) token.entry) }
-{
-    match token.kind {
-        Kind::IriRef => Ok(State::AfterObject {
-            beginning,
-            object: Object::WithType(lexical, iri(alloc, token.text, limit)?),
-        }),
-        _ => Err(Reason::Unexpected),
-    }
-}
-
-// A graph label stands in N-Quads only.
-fn after_object<A: Allocator, S: QuadSink>(
-    setup: Setup<A>,
-    beginning: Beginning<A>,
-    object: Object<A>,
-    token: Token<'_>,
-    sink: &mut S,
-) -> Result<State<A>, Reason>
-    requires token { IsLineToken token }
-    requires live { S.has_failed sink.old ≡ false }
-    ensures ok { IfOk result (λ s. Does S.takes
-        (answer setup.rules (mode_of (state.AfterObject beginning object)) token.entry) sink.old (mode_of s) sink.new) }
-    ensures live { OnOk result (S.has_failed sink.new ≡ false) }
-    ensures held { IfOk result (StaysWithin setup.rules.iri (state.AfterObject beginning object) token.entry) }
-    ensures err { IfErr result (λ r. Fails S.leaves S.has_failed r
-        (answer setup.rules (mode_of (state.AfterObject beginning object)) token.entry) sink.old sink.new) }
-{
-    match (setup.rules.form, token.kind) {
-        (_, Kind::Dot) => give(&beginning, &object, None, sink),
-        (LineForm::NQuads, Kind::IriRef) => Ok(State::AfterGraph {
-            beginning,
-            object,
-            graph: Subject::Iri(iri(setup.alloc, token.text, setup.rules.iri)?),
-        }),
-        (LineForm::NQuads, Kind::LabelNode) => Ok(State::AfterGraph {
-            beginning,
-            object,
-            graph: label(setup.alloc, token.text)?,
-        }),
-        _ => Err(Reason::Unexpected),
-    }
-}
-
-fn after_graph<A: Allocator, S: QuadSink>(
-    beginning: Beginning<A>,
-    object: Object<A>,
-    graph: Subject<A>,
-    token: Token<'_>,
-    sink: &mut S,
-) -> Result<State<A>, Reason>
-    requires { S.has_failed sink.old ≡ false }
-    ensures ok { IfOk result (λ s. (g : Rules) → Does S.takes
-        (answer g (mode_of (state.AfterGraph beginning object graph)) token.entry) sink.old (mode_of s) sink.new) }
-    ensures live { OnOk result (S.has_failed sink.new ≡ false) }
-    ensures held { IfOk result (λ s. (n : ℕ) → HoldsAtMost n s) }
-    ensures err { IfErr result (λ r. (g : Rules) → Fails S.leaves S.has_failed r
-        (answer g (mode_of (state.AfterGraph beginning object graph)) token.entry) sink.old sink.new) }
-{
-    match token.kind {
-        Kind::Dot => give(&beginning, &object, Some(graph.view()), sink),
-        _ => Err(Reason::Unexpected),
-    }
-}
-
-fn after_dot<A: Allocator>(token: Token<'_>) -> Result<State<A>, Reason>
-    ensures ok { IfOk result (λ s. (g : Rules) → answer g M.AfterDot token.entry ≡ goes (mode_of s)) }
-    ensures held { IfOk result (λ s. (n : ℕ) → HoldsAtMost n s) }
-    ensures err { IfErr result (λ r. (g : Rules) → Declines r (answer g M.AfterDot token.entry)) }
-{
-    match token.kind {
-        Kind::LineEnd => Ok(State::Begin),
-        Kind::End => Ok(State::Finished),
-        _ => Err(Reason::Unexpected),
-    }
-}
-
-// Puts the quad of these parts, whose dot has come.
-fn give<A: Allocator, S: QuadSink>(
-    beginning: &Beginning<A>,
-    object: &Object<A>,
-    graph: Option<SubjectRef<'_>>,
-    sink: &mut S,
-) -> Result<State<A>, Reason>
-    requires { S.has_failed sink.old ≡ false }
-    ensures ok { IfOk result (λ s. Does S.takes (gives (quad_with beginning.now object.now graph.entry) M.AfterDot) sink.old (mode_of s) sink.new) }
-    ensures live { OnOk result (S.has_failed sink.new ≡ false) }
-    ensures held { IfOk result (λ s. (n : ℕ) → HoldsAtMost n s) }
-    ensures err { IfErr result (λ r. Fails S.leaves S.has_failed r (gives (quad_with beginning.now object.now graph.entry) M.AfterDot) sink.old sink.new) }
-{
-    let quad = QuadRef {
-        subject: beginning.subject.view(),
-        predicate: beginning.predicate.view(),
-        object: object.view(),
-        graph,
-    };
-    match sink.put(quad) {
-        Ok(()) => Ok(State::AfterDot),
-        Err(PutFault::Memory) => Err(Reason::Memory),
-        Err(PutFault::Device) => Err(Reason::Sink),
+    #[inline(always)]
+    fn after_dot(&self, token: &Token<'_>) -> Result<Mode, Reason>
+        ensures ok { IfOk result (λ m. (g : Rules) → answer g M.AfterDot token.now ≡ goes (mode_at self.now m)) }
+        ensures held { IfOk result (λ m. (n : ℕ) → HoldsAt n self.now m) }
+        ensures err { IfErr result (λ r. (g : Rules) → Declines r (answer g M.AfterDot token.now)) }
+    {
+        match token.kind {
+            Kind::LineEnd => Ok(Mode::Begin),
+            Kind::End => Ok(Mode::Finished),
+            _ => Err(Reason::Unexpected),
+        }
     }
 }

@@ -9,6 +9,7 @@ pub mod laws;
 mod prefix;
 mod reader;
 mod rules;
+mod slots;
 mod spelled;
 mod state;
 mod writer;

@@ -1,94 +1,99 @@
-// The terms that tokens spell.
+// The texts that tokens spell.
 
-ghost use Rattle.std.specs.Prelude.{◌≡◌, ◌<◌, ◌≤◌, ◌+◌, ◌*◌, ℕ, List, ◌∷◌, ◌++◌, [], true, false, IfOk, IfErr, drop, length};
+ghost use Rattle.std.specs.Prelude.{◌≡◌, ◌≤◌, ◌*◌, true, OnOk, IfErr, drop, length};
 ghost use Rattle.std.specs.Str.{chars};
 ghost use Rattle.std.specs.String.{string_bytes};
 ghost use Rattle.rdf_terms.specs.Shapes.{Shape};
 ghost use Rattle.rdf_terms.specs.Values as V;
-ghost use Rattle.rdf_terms.specs.Terms.{IsIri, has_scheme, Blank, Label};
-ghost use Rattle.rdf_terms.specs.Owned.{owned_subject};
+ghost use Rattle.rdf_terms.specs.Terms.{IsIri, IsLabel, IsTag, has_scheme};
 ghost use Rattle.rdf_iri.specs.Texts.{byte_len};
 ghost use Rattle.rdf_lines.specs.Machine.{is_taken};
-ghost use Rattle.rdf_lines.specs.States.{subject_bytes};
 ghost use Rattle.rdf_lines.specs.Spelled.{iri_in, string_in, IriRefused};
 
 use rdf_terms::{
-    Dialect, Iri, Kind, LabelView, NodeRef, Reason, Subject, SubjectRef, Tag, TagView, ValueFault,
-    has_scheme, iri_value, string_value, without_ends, without_first,
+    Dialect, Kind, Reason, ValueFault, has_scheme, set_iri_value, set_string_value, without_ends,
+    without_first,
 };
 use std::alloc::Allocator;
 
-/// The IRI of an IRIREF. Where it has no scheme, that is `RelativeIri`, and where it has more bytes than the limit, `IriTooLong`.
-pub fn iri<A: Allocator>(alloc: A, text: &str, limit: u64) -> Result<Iri<A>, Reason>
-    requires shape { Shape Dialect.Lines Kind.IriRef (chars text.now) }
+/// Puts the IRI of an IRIREF in place of a text. Where it has no scheme, that is `RelativeIri`, and where it has more bytes than the
+/// limit, `IriTooLong`.
+pub fn set_iri<A: Allocator>(out: &mut String<A>, text: &str, limit: u64) -> Result<(), Reason>
     requires fit { V.is_fit Kind.IriRef (chars text.now) ≡ true }
-    ensures ok { IfOk result (λ i. i ≡ iri_in (chars text.now)) }
-    ensures taken { IfOk result (λ i. is_taken limit i ≡ true) }
-    ensures short { IfOk result (λ i. byte_len i ≤ limit) }
+    ensures ok { OnOk result (chars (string_bytes out.new) ≡ iri_in (chars text.now)) }
+    ensures is_iri { OnOk result (IsIri (chars (string_bytes out.new))) }
+    ensures taken { OnOk result (is_taken limit (iri_in (chars text.now)) ≡ true) }
+    ensures short { OnOk result (byte_len (iri_in (chars text.now)) ≤ limit) }
     ensures err { IfErr result (λ r. IriRefused limit r (iri_in (chars text.now))) }
 {
-    match iri_value(alloc, without_ends(text)) {
-        Ok(value) => absolute(value, limit),
+    match set_iri_value(out, without_ends(text)) {
+        Ok(()) => check(out.as_str(), limit),
         Err(ValueFault::BadEscape) => unreachable!(),
         Err(ValueFault::Memory) => Err(Reason::Memory),
     }
 }
 
-fn absolute<A: Allocator>(value: String<A>, limit: u64) -> Result<Iri<A>, Reason>
-    requires { has_scheme (chars (string_bytes value)) ≡ true → IsIri (chars (string_bytes value)) }
-    ensures ok { IfOk result (λ i. i ≡ chars (string_bytes value)) }
-    ensures taken { IfOk result (λ i. is_taken limit i ≡ true) }
-    ensures short { IfOk result (λ i. byte_len i ≤ limit) }
-    ensures err { IfErr result (λ r. IriRefused limit r (chars (string_bytes value))) }
+// Whether an IRI is taken.
+fn check(iri: &str, limit: u64) -> Result<(), Reason>
+    ensures scheme { OnOk result (has_scheme (chars iri.now) ≡ true) }
+    ensures taken { OnOk result (is_taken limit (chars iri.now) ≡ true) }
+    ensures short { OnOk result (byte_len (chars iri.now) ≤ limit) }
+    ensures err { IfErr result (λ r. IriRefused limit r (chars iri.now)) }
 {
-    let text = value.as_str();
-    if !has_scheme(text) {
+    if !has_scheme(iri) {
         Err(Reason::RelativeIri)
-    } else if text.len() as u64 > limit {
+    } else if iri.len() as u64 > limit {
         Err(Reason::IriTooLong)
     } else {
-        Ok(Iri::of_text(value))
+        Ok(())
     }
 }
 
-/// The lexical form of a string.
-pub fn string<A: Allocator>(alloc: A, text: &str) -> Result<String<A>, Reason>
-    requires shape { Shape Dialect.Lines Kind.ShortString (chars text.now) }
+/// Puts the lexical form of a string in place of a text.
+pub fn set_string<A: Allocator>(out: &mut String<A>, text: &str) -> Result<(), Reason>
     requires fit { V.is_fit Kind.ShortString (chars text.now) ≡ true }
-    ensures ok { IfOk result (λ s. chars (string_bytes s) ≡ string_in (chars text.now)) }
-    ensures short { IfOk result (λ s. length (string_bytes s) ≤ 4 * length (chars text.now)) }
+    ensures ok { OnOk result (chars (string_bytes out.new) ≡ string_in (chars text.now)) }
+    ensures short { OnOk result (length (string_bytes out.new) ≤ 4 * length (chars text.now)) }
     ensures err { IfErr result (λ r. r ≡ Reason.Memory) }
 {
-    match string_value(alloc, without_ends(text)) {
-        Ok(value) => Ok(value),
+    match set_string_value(out, without_ends(text)) {
+        Ok(()) => Ok(()),
         Err(ValueFault::BadEscape) => unreachable!(),
         Err(ValueFault::Memory) => Err(Reason::Memory),
     }
 }
 
-/// The node of a label.
-pub fn label<A: Allocator>(alloc: A, text: &str) -> Result<Subject<A>, Reason>
-    requires { Shape Dialect.Lines Kind.LabelNode (chars text.now) }
-    ensures ok { IfOk result (λ s. owned_subject s ≡ Blank (Label (drop 2 (chars text.now)))) }
-    ensures short { IfOk result (λ s. subject_bytes (owned_subject s) ≤ 4 * length (chars text.now)) }
+/// Puts a text in place of another one.
+#[inline(always)]
+pub fn put_text<A: Allocator>(out: &mut String<A>, text: &str) -> Result<(), Reason>
+    ensures ok { OnOk result (string_bytes out.new ≡ text.now) }
     ensures err { IfErr result (λ r. r ≡ Reason.Memory) }
 {
-    let label = LabelView::new(without_first(without_first(text)));
-    match SubjectRef::Node(NodeRef::Label(label)).try_copy(alloc) {
-        Ok(subject) => Ok(subject),
+    out.clear();
+    match out.push_str(text) {
+        Ok(()) => Ok(()),
         Err(_) => Err(Reason::Memory),
     }
+}
+
+/// The label of a BLANK_NODE_LABEL.
+#[inline(always)]
+pub fn label_of(text: &str) -> &str
+    requires { Shape Dialect.Lines Kind.LabelNode (chars text.now) }
+    ensures label { chars result.now ≡ drop 2 (chars text.now) }
+    ensures is_label { IsLabel (chars result.now) }
+    ensures short { byte_len (chars result.now) ≤ 4 * length (chars text.now) }
+{
+    without_first(without_first(text))
 }
 
 /// The tag of a LANGTAG.
-pub fn tag<A: Allocator>(alloc: A, text: &str) -> Result<Tag<A>, Reason>
+#[inline(always)]
+pub fn tag_of(text: &str) -> &str
     requires { Shape Dialect.Lines Kind.LangTag (chars text.now) }
-    ensures ok { IfOk result (λ t. t ≡ drop 1 (chars text.now)) }
-    ensures short { IfOk result (λ t. byte_len t ≤ 4 * length (chars text.now)) }
-    ensures err { IfErr result (λ r. r ≡ Reason.Memory) }
+    ensures tag { chars result.now ≡ drop 1 (chars text.now) }
+    ensures is_tag { IsTag (chars result.now) }
+    ensures short { byte_len (chars result.now) ≤ 4 * length (chars text.now) }
 {
-    match TagView::new(without_first(text)).try_copy(alloc) {
-        Ok(tag) => Ok(tag),
-        Err(_) => Err(Reason::Memory),
-    }
+    without_first(text)
 }

@@ -1,82 +1,144 @@
 // What has been read of a line.
 
-ghost use Rattle.std.specs.Prelude.{◌≡◌, ◌≤◌};
+ghost use Rattle.std.specs.Prelude.{◌≡◌, ◌≤◌, ℕ};
 ghost use Rattle.std.specs.Str.{chars};
 ghost use Rattle.std.specs.String.{string_bytes};
 ghost use Rattle.rdf_terms.specs.Terms.{Literal, Resource};
 ghost use Rattle.rdf_terms.specs.Views.{tail_by, subject_by, term_by};
-ghost use Rattle.rdf_terms.specs.Owned.{owned_node, owned_subject};
 ghost use Rattle.rdf_tokens.specs.Scans.{most_bytes};
-ghost use Rattle.rdf_lines.specs.States.{object_of, mode_of, gave, is_begin, node_bytes, subject_bytes, beginning_bytes, object_bytes, state_bytes};
+ghost use Rattle.rdf_lines.specs.Machine as M;
+ghost use Rattle.rdf_lines.specs.States.{object_of, mode_of, gave, is_begin, front_bytes, object_bytes, state_bytes, HoldsAtMost};
 
-use rdf_terms::{Iri, Known, LiteralRef, Node, Subject, SubjectRef, Tag, TailRef, TermRef, known};
+use crate::slots::{IriText, SubjectText, TailText};
+use rdf_terms::{Known, LiteralRef, SubjectRef, TailRef, TermRef, known};
 use std::alloc::{Allocator, Global};
 
-/// An object that has come whole.
-#[derive(Drop)]
-pub enum Object<A: Allocator = Global> {
+/// What an object is that has come.
+#[derive(Clone, Copy)]
+pub enum ObjectKind {
     /// An IRI or a label.
-    Named(Subject<A>),
+    Named,
     /// A string alone.
-    Plain(String<A>),
-    /// A string and its datatype.
-    WithType(String<A>, Iri<A>),
-    /// A string and its language tag.
-    WithTag(String<A>, Tag<A>),
+    Plain,
+    /// A string, and its datatype or its language tag.
+    WithTail,
 }
 
-impl<A: Allocator> Object<A> {
-    /// The term, borrowed.
+/// Where the reader stands in a line.
+#[derive(Clone, Copy)]
+pub enum Mode {
+    Begin,
+    AfterSubject,
+    AfterPredicate,
+    AfterString,
+    AfterCarets,
+    AfterObject(ObjectKind),
+    AfterGraph(ObjectKind),
+    AfterDot,
+    Finished,
+}
+
+/// What has been read of a line. The mode says which of the texts belong to it; the others are room for those to come, so that a line
+/// whose texts are no longer than those before it takes no memory.
+#[derive(Drop)]
+pub struct State<A: Allocator = Global> {
+    pub mode: Mode,
+    pub subject: SubjectText<A>,
+    pub predicate: IriText<A>,
+    /// The object, where it is an IRI or a label.
+    pub object: SubjectText<A>,
+    /// The lexical form of a literal.
+    pub lexical: String<A>,
+    /// The datatype or the tag of a literal.
+    pub tail: TailText<A>,
+    /// The label of the graph.
+    pub graph: SubjectText<A>,
+}
+
+impl<A: Allocator + Copy> State<A> {
+    /// Before the first line. It takes no memory.
+    pub fn new(alloc: A) -> State<A>
+        ensures begins { mode_of result ≡ M.Begin }
+        ensures held { state_bytes result ≡ 0 }
+        ensures most { (n : ℕ) → HoldsAtMost n result }
+    {
+        State {
+            mode: Mode::Begin,
+            subject: SubjectText::new(alloc),
+            predicate: IriText::new(alloc),
+            object: SubjectText::new(alloc),
+            lexical: String::new(alloc),
+            tail: TailText::new(alloc),
+            graph: SubjectText::new(alloc),
+        }
+    }
+}
+
+impl<A: Allocator> State<A> {
+    /// Whether nothing of the line has been read.
+    pub fn begins(&self) -> bool
+        ensures { result ≡ is_begin (mode_of self.now) }
+    {
+        matches!(self.mode, Mode::Begin)
+    }
+
+    /// Whether the last token was a dot, so that a quad was given.
+    #[inline(always)]
+    pub fn gave(&self) -> bool
+        ensures { result ≡ gave (mode_of self.now) }
+    {
+        matches!(self.mode, Mode::AfterDot)
+    }
+
+    /// The object of this kind, borrowed.
+    #[inline(always)]
     #[tactic(auto, unfolding(rdf_terms::specs::Known::known_chars))]
-    pub fn view(&self) -> TermRef<'_>
-        ensures { term_by chars result ≡ object_of self.now }
+    pub fn object(&self, kind: ObjectKind) -> TermRef<'_>
+        ensures { term_by chars result ≡ object_of self.now kind }
     {
-        match self {
-            Object::Named(subject) => resource(subject.view()),
-            Object::Plain(lexical) => literal(
-                lexical.as_str(),
-                TailRef::Typed(known(Known::XsdString)),
-            ),
-            Object::WithType(lexical, datatype) => {
-                literal(lexical.as_str(), TailRef::Typed(datatype.view()))
-            }
-            Object::WithTag(lexical, tag) => literal(lexical.as_str(), TailRef::Lang(tag.view())),
+        let lexical = self.lexical.as_str();
+        match kind {
+            ObjectKind::Named => resource(self.object.view()),
+            ObjectKind::Plain => literal(lexical, TailRef::Typed(known(Known::XsdString))),
+            ObjectKind::WithTail => literal(lexical, self.tail.view()),
         }
     }
 
-    // The bytes of its texts.
-    fn held(&self) -> u64
-        requires { object_bytes self.now ≤ most_bytes }
-        ensures { result ≡ object_bytes self.now }
+    /// The bytes of the texts that are held.
+    pub fn held(&self) -> u64
+        requires { state_bytes self.now ≤ most_bytes }
+        ensures { result ≡ state_bytes self.now }
     {
-        match self {
-            Object::Named(subject) => subject_len(subject),
-            Object::Plain(lexical) => lexical.len() as u64,
-            Object::WithType(lexical, datatype) => {
-                lexical.len() as u64 + datatype.as_str().len() as u64
+        match self.mode {
+            Mode::Begin | Mode::AfterDot | Mode::Finished => 0,
+            Mode::AfterSubject => self.subject.len(),
+            Mode::AfterPredicate => self.front_len(),
+            Mode::AfterString | Mode::AfterCarets => self.front_len() + self.lexical.len() as u64,
+            Mode::AfterObject(kind) => self.front_len() + self.object_len(kind),
+            Mode::AfterGraph(kind) => {
+                self.front_len() + self.object_len(kind) + self.graph.len()
             }
-            Object::WithTag(lexical, tag) => lexical.len() as u64 + tag.as_str().len() as u64,
         }
     }
-}
 
-// The bytes of an IRI or a label.
-fn subject_len<A: Allocator>(subject: &Subject<A>) -> u64
-    ensures { result ≡ subject_bytes (owned_subject subject.now) }
-{
-    match subject {
-        Subject::Iri(iri) => iri.as_str().len() as u64,
-        Subject::Node(node) => node_len(node),
+    // The bytes of the subject and the predicate.
+    fn front_len(&self) -> u64
+        requires { front_bytes self.now ≤ most_bytes }
+        ensures { result ≡ front_bytes self.now }
+    {
+        self.subject.len() + self.predicate.len()
     }
-}
 
-// The bytes of a label. A node without one has no text.
-fn node_len<A: Allocator>(node: &Node<A>) -> u64
-    ensures { result ≡ node_bytes (owned_node node.now) }
-{
-    match node {
-        Node::Label(label) => label.as_str().len() as u64,
-        _ => 0,
+    // The bytes of an object's texts.
+    fn object_len(&self, kind: ObjectKind) -> u64
+        requires { object_bytes self.now kind ≤ most_bytes }
+        ensures { result ≡ object_bytes self.now kind }
+    {
+        match kind {
+            ObjectKind::Named => self.object.len(),
+            ObjectKind::Plain => self.lexical.len() as u64,
+            ObjectKind::WithTail => self.lexical.len() as u64 + self.tail.len(),
+        }
     }
 }
 
@@ -93,88 +155,4 @@ fn literal<'a>(lexical: &'a str, tail: TailRef<'a>) -> TermRef<'a>
     ensures { term_by chars result ≡ Literal (chars lexical.entry.now) (tail_by chars tail.entry) }
 {
     TermRef::Literal(LiteralRef { lexical, tail })
-}
-
-/// The subject and the predicate of a statement.
-#[derive(Drop)]
-pub struct Beginning<A: Allocator = Global> {
-    pub subject: Subject<A>,
-    pub predicate: Iri<A>,
-}
-
-impl<A: Allocator> Beginning<A> {
-    // The bytes of its texts.
-    fn held(&self) -> u64
-        requires { beginning_bytes self.now ≤ most_bytes }
-        ensures { result ≡ beginning_bytes self.now }
-    {
-        subject_len(&self.subject) + self.predicate.as_str().len() as u64
-    }
-}
-
-/// What has been read of a line. The parts own their texts, since the pieces that they came in are gone.
-#[derive(Drop)]
-pub enum State<A: Allocator = Global> {
-    Begin,
-    AfterSubject {
-        subject: Subject<A>,
-    },
-    AfterPredicate {
-        beginning: Beginning<A>,
-    },
-    AfterString {
-        beginning: Beginning<A>,
-        lexical: String<A>,
-    },
-    AfterCarets {
-        beginning: Beginning<A>,
-        lexical: String<A>,
-    },
-    AfterObject {
-        beginning: Beginning<A>,
-        object: Object<A>,
-    },
-    AfterGraph {
-        beginning: Beginning<A>,
-        object: Object<A>,
-        graph: Subject<A>,
-    },
-    AfterDot,
-    Finished,
-}
-
-impl<A: Allocator> State<A> {
-    /// Whether nothing of the line has been read.
-    pub fn begins(&self) -> bool
-        ensures { result ≡ is_begin (mode_of self.now) }
-    {
-        matches!(self, State::Begin)
-    }
-
-    /// The bytes of the texts that are held.
-    pub fn held(&self) -> u64
-        requires { state_bytes self.now ≤ most_bytes }
-        ensures { result ≡ state_bytes self.now }
-    {
-        match self {
-            State::Begin | State::AfterDot | State::Finished => 0,
-            State::AfterSubject { subject } => subject_len(subject),
-            State::AfterPredicate { beginning } => beginning.held(),
-            State::AfterString { beginning, lexical } => beginning.held() + lexical.len() as u64,
-            State::AfterCarets { beginning, lexical } => beginning.held() + lexical.len() as u64,
-            State::AfterObject { beginning, object } => beginning.held() + object.held(),
-            State::AfterGraph {
-                beginning,
-                object,
-                graph,
-            } => beginning.held() + object.held() + subject_len(graph),
-        }
-    }
-
-    /// Whether the last token was a dot, so that a quad was given.
-    pub fn gave(&self) -> bool
-        ensures { result ≡ gave (mode_of self.now) }
-    {
-        matches!(self, State::AfterDot)
-    }
 }

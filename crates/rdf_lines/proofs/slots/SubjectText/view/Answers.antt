@@ -1,0 +1,17 @@
+use Rattle.std.proofs.Common.{sym, subst}
+use Rattle.std.specs.Str.{chars}
+use Rattle.std.specs.String.{string_bytes}
+use Rattle.rdf_terms.specs.Terms.{IsIri, IsLabel}
+use Rattle.rdf_terms.proofs.TermsLemmas.{IsIri-had, IsLabel-had}
+use Rattle.rdf_lines.specs.Slots.{IsSubjectText}
+use Rattle.rdf_lines.proofs.slots.SubjectText.view.Goals as goal
+
+pub new-requires : goal.new-requires
+new-requires g c =
+    subst (λ w. IsIri (chars w)) (sym c.as_str.ensures.value)
+    (IsIri-had _ (subst (λ k. IsSubjectText k (chars (string_bytes c.self.inside.text))) c.in-Iri.is c.self.invariant))
+
+pub new-requires-in-Label : goal.new-requires-in-Label
+new-requires-in-Label g c =
+    subst (λ w. IsLabel (chars w)) (sym c.as_str-in-Label.ensures.value)
+    (IsLabel-had _ (subst (λ k. IsSubjectText k (chars (string_bytes c.self.inside.text))) c.in-Label.is c.self.invariant))

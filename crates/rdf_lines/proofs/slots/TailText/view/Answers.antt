@@ -1,0 +1,17 @@
+use Rattle.std.proofs.Common.{sym, subst}
+use Rattle.std.specs.Str.{chars}
+use Rattle.std.specs.String.{string_bytes}
+use Rattle.rdf_terms.specs.Terms.{IsIri, IsTag}
+use Rattle.rdf_terms.proofs.TermsLemmas.{IsIri-had, IsTag-had}
+use Rattle.rdf_lines.specs.Slots.{IsTailText}
+use Rattle.rdf_lines.proofs.slots.TailText.view.Goals as goal
+
+pub new-requires : goal.new-requires
+new-requires g c =
+    subst (λ w. IsIri (chars w)) (sym c.as_str.ensures.value)
+    (IsIri-had _ (subst (λ k. IsTailText k (chars (string_bytes c.self.inside.text))) c.in-Datatype.is c.self.invariant))
+
+pub new-requires-in-Tag : goal.new-requires-in-Tag
+new-requires-in-Tag g c =
+    subst (λ w. IsTag (chars w)) (sym c.as_str-in-Tag.ensures.value)
+    (IsTag-had _ (subst (λ k. IsTailText k (chars (string_bytes c.self.inside.text))) c.in-Tag.is c.self.invariant))

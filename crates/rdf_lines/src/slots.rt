@@ -1,0 +1,284 @@
+// Texts that are used again from line to line: those of a subject, of a predicate, and of what follows a string.
+
+ghost use Rattle.std.specs.Prelude.{◌≡◌, ◌≤◌, ◌*◌, [], length, true, drop, OnOk, IfErr};
+ghost use Rattle.std.specs.Str.{chars};
+ghost use Rattle.rdf_terms.specs.Shapes.{Shape};
+ghost use Rattle.rdf_terms.specs.Values as V;
+ghost use Rattle.rdf_terms.specs.Terms.{Subject, Iri, Label, Blank, Lang, Typed, xsd_string};
+ghost use Rattle.rdf_terms.specs.Views.{iri_chars, subject_by, tail_by};
+ghost use Rattle.rdf_iri.specs.Texts.{byte_len};
+ghost use Rattle.rdf_lines.specs.Machine.{is_taken};
+ghost use Rattle.rdf_lines.specs.Slots.{subject_at, tail_at};
+ghost use Rattle.rdf_lines.specs.Spelled.{iri_in, IriRefused};
+ghost use Rattle.rdf_lines.specs.States.{subject_bytes, tail_bytes};
+ghost use Rattle.rdf_lines.specs.declared.slots.SubjectKind.TheVariants as SubjectKind;
+ghost use Rattle.rdf_lines.specs.declared.slots.TailKind.TheVariants as TailKind;
+
+use crate::spelled::{label_of, put_text, set_iri, tag_of};
+use rdf_terms::{
+    Dialect, IriView, Kind, Known, LabelView, NodeRef, Reason, SubjectRef, TagView, TailRef, known,
+};
+use std::alloc::{Allocator, Global};
+use std::marker::Model;
+
+/// What a subject is.
+#[derive(Clone, Copy)]
+pub enum SubjectKind {
+    Iri,
+    Label,
+    /// None has come yet.
+    Nothing,
+}
+
+/// A subject, a graph's label, or an object that is an IRI or a label.
+#[derive(Drop)]
+pub struct SubjectText<A: Allocator = Global> {
+    kind: SubjectKind,
+    text: String<A>,
+}
+
+impl<A: Allocator> Model for SubjectText<A> {
+    ghost use Rattle.std.specs.Str.{chars};
+    ghost use Rattle.std.specs.String.{string_bytes};
+    ghost use Rattle.rdf_terms.specs.Terms.{Subject};
+    ghost use Rattle.rdf_lines.specs.Slots.{subject_at, IsSubjectText};
+
+    ghost Value = { Subject };
+
+    ghost view = { λ s. subject_at s.kind (chars (string_bytes s.text)) };
+
+    ghost invariant = { λ s. IsSubjectText s.kind (chars (string_bytes s.text)) };
+}
+
+impl<A: Allocator> SubjectText<A> {
+    /// Before the first subject. It takes no memory.
+    pub fn new(alloc: A) -> SubjectText<A>
+        ensures { result ≡ subject_at SubjectKind.Nothing [] }
+    {
+        SubjectText {
+            kind: SubjectKind::Nothing,
+            text: String::new(alloc),
+        }
+    }
+
+    /// The IRI of an IRIREF.
+    #[inline(always)]
+    pub fn set_iri(&mut self, text: &str, limit: u64) -> Result<(), Reason>
+        requires fit { V.is_fit Kind.IriRef (chars text.now) ≡ true }
+        ensures ok { OnOk result (self.new ≡ Iri (iri_in (chars text.now))) }
+        ensures taken { OnOk result (is_taken limit (iri_in (chars text.now)) ≡ true) }
+        ensures short { OnOk result (byte_len (iri_in (chars text.now)) ≤ limit) }
+        ensures err { IfErr result (λ r. IriRefused limit r (iri_in (chars text.now))) }
+    {
+        self.kind = SubjectKind::Nothing;
+        set_iri(&mut self.text, text, limit)?;
+        self.kind = SubjectKind::Iri;
+        Ok(())
+    }
+
+    /// The node of a BLANK_NODE_LABEL.
+    #[inline(always)]
+    pub fn set_label(&mut self, text: &str) -> Result<(), Reason>
+        requires { Shape Dialect.Lines Kind.LabelNode (chars text.now) }
+        ensures ok { OnOk result (self.new ≡ Blank (Label (drop 2 (chars text.now)))) }
+        ensures short { OnOk result (byte_len (drop 2 (chars text.now)) ≤ 4 * length (chars text.now)) }
+        ensures err { IfErr result (λ r. r ≡ Reason.Memory) }
+    {
+        self.kind = SubjectKind::Nothing;
+        put_text(&mut self.text, label_of(text))?;
+        self.kind = SubjectKind::Label;
+        Ok(())
+    }
+
+    /// The subject, borrowed.
+    #[inline(always)]
+    pub fn view(&self) -> SubjectRef<'_>
+        ensures { subject_by chars result ≡ self.now }
+    {
+        match self.kind {
+            SubjectKind::Iri => SubjectRef::Iri(IriView::new(self.text.as_str())),
+            SubjectKind::Label => {
+                SubjectRef::Node(NodeRef::Label(LabelView::new(self.text.as_str())))
+            }
+            SubjectKind::Nothing => SubjectRef::Node(NodeRef::Anon(0)),
+        }
+    }
+
+    /// How many bytes its IRI or label has.
+    pub fn len(&self) -> u64
+        ensures { result ≡ subject_bytes self.now }
+    {
+        match self.kind {
+            SubjectKind::Iri | SubjectKind::Label => text_len(self.text.as_str()),
+            SubjectKind::Nothing => 0,
+        }
+    }
+}
+
+/// A predicate.
+#[derive(Drop)]
+pub struct IriText<A: Allocator = Global> {
+    has_come: bool,
+    text: String<A>,
+}
+
+impl<A: Allocator> Model for IriText<A> {
+    ghost use Rattle.std.specs.Prelude.{◌≡◌, ℕ, List, true};
+    ghost use Rattle.std.specs.Str.{chars};
+    ghost use Rattle.std.specs.String.{string_bytes};
+    ghost use Rattle.rdf_terms.specs.Terms.{IsIri};
+    ghost use Rattle.rdf_lines.specs.Slots.{iri_at};
+
+    ghost Value = { List ℕ };
+
+    ghost view = { λ i. iri_at i.has_come (chars (string_bytes i.text)) };
+
+    ghost invariant = { λ i. i.has_come ≡ true → ∥ IsIri (chars (string_bytes i.text)) ∥₁ };
+}
+
+impl<A: Allocator> IriText<A> {
+    /// Before the first predicate. It takes no memory.
+    pub fn new(alloc: A) -> IriText<A>
+        ensures { result ≡ xsd_string }
+    {
+        IriText {
+            has_come: false,
+            text: String::new(alloc),
+        }
+    }
+
+    /// The IRI of an IRIREF.
+    #[inline(always)]
+    pub fn set(&mut self, text: &str, limit: u64) -> Result<(), Reason>
+        requires fit { V.is_fit Kind.IriRef (chars text.now) ≡ true }
+        ensures ok { OnOk result (self.new ≡ iri_in (chars text.now)) }
+        ensures taken { OnOk result (is_taken limit (iri_in (chars text.now)) ≡ true) }
+        ensures short { OnOk result (byte_len (iri_in (chars text.now)) ≤ limit) }
+        ensures err { IfErr result (λ r. IriRefused limit r (iri_in (chars text.now))) }
+    {
+        self.has_come = false;
+        set_iri(&mut self.text, text, limit)?;
+        self.has_come = true;
+        Ok(())
+    }
+
+    /// The IRI, borrowed.
+    #[inline(always)]
+    #[tactic(auto, unfolding(rdf_terms::specs::Known::known_chars))]
+    pub fn view(&self) -> IriView<'_>
+        ensures { iri_chars result ≡ self.now }
+    {
+        if self.has_come {
+            IriView::new(self.text.as_str())
+        } else {
+            known(Known::XsdString)
+        }
+    }
+
+    /// How many bytes it has.
+    pub fn len(&self) -> u64
+        ensures { result ≡ byte_len self.now }
+    {
+        text_len(self.view().as_str())
+    }
+}
+
+/// What a literal has besides its lexical form, where it is spelled.
+#[derive(Clone, Copy)]
+pub enum TailKind {
+    Datatype,
+    Tag,
+    /// None has come yet.
+    Nothing,
+}
+
+/// The datatype or the tag of a literal.
+#[derive(Drop)]
+pub struct TailText<A: Allocator = Global> {
+    kind: TailKind,
+    text: String<A>,
+}
+
+impl<A: Allocator> Model for TailText<A> {
+    ghost use Rattle.std.specs.Str.{chars};
+    ghost use Rattle.std.specs.String.{string_bytes};
+    ghost use Rattle.rdf_terms.specs.Terms.{Tail};
+    ghost use Rattle.rdf_lines.specs.Slots.{tail_at, IsTailText};
+
+    ghost Value = { Tail };
+
+    ghost view = { λ t. tail_at t.kind (chars (string_bytes t.text)) };
+
+    ghost invariant = { λ t. IsTailText t.kind (chars (string_bytes t.text)) };
+}
+
+impl<A: Allocator> TailText<A> {
+    /// Before the first datatype or tag. It takes no memory.
+    pub fn new(alloc: A) -> TailText<A>
+        ensures { result ≡ tail_at TailKind.Nothing [] }
+    {
+        TailText {
+            kind: TailKind::Nothing,
+            text: String::new(alloc),
+        }
+    }
+
+    /// The datatype of an IRIREF.
+    #[inline(always)]
+    pub fn set_datatype(&mut self, text: &str, limit: u64) -> Result<(), Reason>
+        requires fit { V.is_fit Kind.IriRef (chars text.now) ≡ true }
+        ensures ok { OnOk result (self.new ≡ Typed (iri_in (chars text.now))) }
+        ensures taken { OnOk result (is_taken limit (iri_in (chars text.now)) ≡ true) }
+        ensures short { OnOk result (byte_len (iri_in (chars text.now)) ≤ limit) }
+        ensures err { IfErr result (λ r. IriRefused limit r (iri_in (chars text.now))) }
+    {
+        self.kind = TailKind::Nothing;
+        set_iri(&mut self.text, text, limit)?;
+        self.kind = TailKind::Datatype;
+        Ok(())
+    }
+
+    /// The tag of a LANGTAG.
+    #[inline(always)]
+    pub fn set_tag(&mut self, text: &str) -> Result<(), Reason>
+        requires { Shape Dialect.Lines Kind.LangTag (chars text.now) }
+        ensures ok { OnOk result (self.new ≡ Lang (drop 1 (chars text.now))) }
+        ensures short { OnOk result (byte_len (drop 1 (chars text.now)) ≤ 4 * length (chars text.now)) }
+        ensures err { IfErr result (λ r. r ≡ Reason.Memory) }
+    {
+        self.kind = TailKind::Nothing;
+        put_text(&mut self.text, tag_of(text))?;
+        self.kind = TailKind::Tag;
+        Ok(())
+    }
+
+    /// The datatype or the tag, borrowed.
+    #[inline(always)]
+    #[tactic(auto, unfolding(rdf_terms::specs::Known::known_chars))]
+    pub fn view(&self) -> TailRef<'_>
+        ensures { tail_by chars result ≡ self.now }
+    {
+        match self.kind {
+            TailKind::Datatype => TailRef::Typed(IriView::new(self.text.as_str())),
+            TailKind::Tag => TailRef::Lang(TagView::new(self.text.as_str())),
+            TailKind::Nothing => TailRef::Typed(known(Known::XsdString)),
+        }
+    }
+
+    /// How many bytes it has.
+    pub fn len(&self) -> u64
+        ensures { result ≡ tail_bytes self.now }
+    {
+        match self.view() {
+            TailRef::Typed(datatype) => text_len(datatype.as_str()),
+            TailRef::Lang(tag) => text_len(tag.as_str()),
+        }
+    }
+}
+
+// The bytes of a text, by its characters.
+fn text_len(text: &str) -> u64
+    ensures { result ≡ byte_len (chars text.now) }
+{
+    text.len() as u64
+}
