@@ -1,6 +1,6 @@
 // What keeps the quads of a test.
 
-ghost use Rattle.std.specs.Prelude.{◌≡◌, ◌++◌, false, encode_utf8_all};
+ghost use Rattle.std.specs.Prelude.{◌≡◌, ◌++◌, ◌≤◌, false, encode_utf8_all};
 ghost use Rattle.rdf_lines.specs.declared.form.Escapes.TheVariants.{Plain};
 ghost use Rattle.rdf_lines.specs.declared.form.Style.TheVariants.{Tagged};
 ghost use Rattle.rdf_lines.specs.Writing.{line};
@@ -41,6 +41,29 @@ impl QuadSink for RecordingSink {
 
     fn failed(&self) -> bool {
         self.failed
+    }
+}
+
+/// Counts the quads that are put.
+#[derive(Clone, Copy)]
+pub struct CountingSink {
+    pub quads: u64,
+}
+
+impl QuadSink for CountingSink {
+    ghost takes = { λ before _ after. before.quads ≤ after.quads };
+
+    ghost leaves = { λ before _ after. before.quads ≤ after.quads };
+
+    ghost has_failed = { λ _. false };
+
+    fn put(&mut self, _: QuadRef<'_>) -> Result<(), PutFault> {
+        self.quads = self.quads.saturating_add(1);
+        Ok(())
+    }
+
+    fn failed(&self) -> bool {
+        false
     }
 }
 

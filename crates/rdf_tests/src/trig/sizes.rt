@@ -1,37 +1,12 @@
 // Brackets and prefixes in their tens of thousands, piece by piece, and how much is held.
 
-ghost use Rattle.std.specs.Prelude.{◌≤◌, false};
-
+use crate::sinks::CountingSink;
 use rdf_driver::{Fault, Summary};
 use rdf_iri::Limits;
-use rdf_terms::{Iri, PutFault, QuadRef, QuadSink, Reason};
+use rdf_terms::{Iri, Reason};
 use rdf_trig::{DocForm, Options, TrigReader};
-use refusing_alloc::Refusing;
-use std::alloc::{Allocator, Global};
+use std::alloc::Global;
 use std::test::Fail;
-
-/// Counts the quads that are put.
-#[derive(Clone, Copy)]
-struct CountingSink {
-    quads: u64,
-}
-
-impl QuadSink for CountingSink {
-    ghost takes = { λ before _ after. before.quads ≤ after.quads };
-
-    ghost leaves = { λ before _ after. before.quads ≤ after.quads };
-
-    ghost has_failed = { λ _. false };
-
-    fn put(&mut self, _: QuadRef<'_>) -> Result<(), PutFault> {
-        self.quads = self.quads.saturating_add(1);
-        Ok(())
-    }
-
-    fn failed(&self) -> bool {
-        false
-    }
-}
 
 /// A reader of TriG in which so many brackets may be open.
 fn reader(alloc: Global, depth: u64) -> Option<TrigReader> {
@@ -159,40 +134,4 @@ fn what_is_open_is_held(rt: HostRuntime) {
         let found = held_after(rt.alloc(), limits, base, piece);
         assert_eq!(rt; found, Some(held), "{piece}");
     }
-}
-
-/// Reads so many lines, a line a call, and says whether all were read.
-fn read_lines<A: Allocator + Copy>(alloc: A, lines: u32) -> bool {
-    let Some(options) = Options::new(DocForm::TriG, None, Limits::default()) else {
-        return false;
-    };
-    let mut reader = TrigReader::new(alloc, options);
-    let mut sink = CountingSink { quads: 0 };
-    let line = b"<http://a/s> <http://a/p> <http://a/s> .\n";
-    for _ in 0..lines {
-        if reader.feed(line, &mut sink).is_err() {
-            return false;
-        }
-    }
-    reader.finish(&mut sink).is_ok()
-}
-
-/// How many growths so many lines take, found by refusing each of them in turn.
-fn growths(alloc: Global, lines: u32) -> Option<u64> {
-    for calls in 0..5000 {
-        let memory = Refusing::after(alloc, calls);
-        let read = read_lines(&memory, lines);
-        if !memory.has_refused() {
-            return if read { Some(calls) } else { None };
-        }
-    }
-    None
-}
-
-#[test]
-fn a_line_like_those_before_it_takes_no_memory(rt: HostRuntime) {
-    let few = growths(rt.alloc(), 2).expect(&rt, "few lines");
-    let more = growths(rt.alloc(), 128).expect(&rt, "more lines");
-    let most = growths(rt.alloc(), 256).expect(&rt, "most lines");
-    assert!(rt; few == more && more == most);
 }
