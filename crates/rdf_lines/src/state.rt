@@ -2,7 +2,6 @@
 
 ghost use Rattle.std.specs.Prelude.{◌≡◌, ◌≤◌, ℕ};
 ghost use Rattle.std.specs.Str.{chars};
-ghost use Rattle.std.specs.String.{string_bytes};
 ghost use Rattle.rdf_terms.specs.Terms.{Literal, Resource};
 ghost use Rattle.rdf_terms.specs.Views.{tail_by, subject_by, term_by};
 ghost use Rattle.rdf_tokens.specs.Scans.{most_bytes};
