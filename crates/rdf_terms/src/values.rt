@@ -246,7 +246,9 @@ fn put_run<A: Allocator>(
     ensures put { IfOk result (λ end. string_bytes out.new ≡ string_bytes out.old ++ slice_range text.now from end) }
 {
     let end = run_end(run_of(inside), text.as_bytes(), from);
-    out.push_str(&text[from..end])?;
+    if from < end {
+        out.push_str(&text[from..end])?;
+    }
     Ok(end)
 }
 

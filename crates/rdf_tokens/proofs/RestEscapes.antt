@@ -1,7 +1,7 @@
 -- A whole escape leads from the state within a string or an IRI back to it.
-use Rattle.std.proofs.Common.{◌≡◌, ℕ, zero, suc, ◌+◌, ◌<◌, ◌≤◌, Bool, true, false, not, ◌||◌, ◌⊎◌, List, ◌++◌, get_or, refl, sym, ap, ◌∙◌, subst, arith, ⊎_elim, length, drop, Option, None}
+use Rattle.std.proofs.Common.{◌≡◌, ℕ, zero, suc, ◌+◌, ◌<◌, ◌≤◌, Bool, true, false, not, ◌||◌, ◌⊎◌, List, ◌++◌, get_or, nat_le, ◌&&◌, ◌==◌, refl, sym, ap, ◌∙◌, subst, arith, ⊎_elim, length, drop, Option, None}
 use Rattle.std.specs.Str.{chars}
-use Rattle.std.proofs.lemmas.Bool.{agree_below, agree_below_at, cases_lt, false≢true}
+use Rattle.std.proofs.lemmas.Bool.{agree_below, agree_below_at, and_parts, cases_lt, eqb-true, leb-true, false≢true}
 use Rattle.std.proofs.lemmas.Bool.Decides.{nat_tests}
 use Rattle.std.proofs.lemmas.List.{drop_more}
 use Rattle.std.proofs.lemmas.Str.{encode_ascii, len_utf8_ascii}
@@ -223,9 +223,12 @@ rests_escape bs at end u = record {
       u;
 }
 
--- where an escape of a string ends
-pub escape_from : (bs : List ℕ) (at end : ℕ) → IsEchar bs at end ⊎ IsUchar bs at end → (at < end) × (end ≤ length bs)
-escape_from bs at end u = ⊎_elim (λ x. (omega (arith, x.ends), x.within)) (λ x. uchar_from bs at end x) u
+-- the bytes that are tested are an ECHAR
+pub echar_of : (bs : List ℕ) (at : ℕ) → (nat_le (at + 2) (length bs) && get_or bs at 0 == 92 && is_letter (get_or bs (at + 1) 0)) ≡ true → IsEchar bs at (at + 2)
+echar_of bs at e =
+    let p = and_parts _ _ e in
+    let q = and_parts _ _ p.0 in
+    record { ends = refl; within = leb-true (at + 2) (length bs) q.0; slash = eqb-true (get_or bs at 0) 92 q.1; letter = p.1 }
 
 -- a run in a string
 pub rests_string : (bs : List ℕ) (at end : ℕ) → IsRun is_text_byte bs at end → RestsInString bs at end

@@ -1,7 +1,8 @@
 // The insides of strings and IRIs: plain bytes by runs, and whole escapes between them.
 
-ghost use Rattle.std.specs.Prelude.{◌≡◌, ◌≤◌, ◌+◌, ◌⊎◌, ◌&&◌, ◌==◌, nat_le, length, get_or, IfSome};
-ghost use Rattle.rdf_tokens.specs.Escapes.{is_hex, is_letter, IsEchar, IsHexes, IsUchar, RestsInIri, RestsInString};
+ghost use Rattle.std.specs.Prelude.{◌≡◌, ◌<◌, ◌≤◌, ◌+◌, ◌&&◌, ◌==◌, nat_le, length, get_or, IfSome};
+ghost use Rattle.rdf_terms.specs.Runs.{IsRun, is_text_byte};
+ghost use Rattle.rdf_tokens.specs.Escapes.{is_hex, is_letter, IsHexes, IsUchar, RestsInIri, RestsInString};
 
 use rdf_terms::runs::{Run, run_end};
 
@@ -12,9 +13,37 @@ pub(crate) fn string_end(bytes: &[u8], from: usize) -> usize
 {
     let mut at = run_end(Run::Text, bytes, from);
     while let Some(next) = escape_end(bytes, at) {
-        at = run_end(Run::Text, bytes, next);
+        at = next;
     }
     at
+}
+
+/// Where the escape at a place and the plain bytes after it end, if all of it is there.
+#[inline(always)]
+fn escape_end(bytes: &[u8], at: usize) -> Option<usize>
+    requires { at ≤ length bytes.now }
+    ensures rests { IfSome result (λ end. RestsInString bytes.now at end) }
+    ensures on { IfSome result (λ end. at < end) }
+{
+    if is_echar(bytes, at) {
+        return Some(run_end(Run::Text, bytes, at + 2));
+    }
+    match uchar_end(bytes, at) {
+        Some(next) => Some(plain_end(bytes, next)),
+        None => None,
+    }
+}
+
+/// The end of the plain bytes of a string from a place on. Escapes by number often come in a row, and between two of them nothing is looked for.
+#[inline(always)]
+fn plain_end(bytes: &[u8], from: usize) -> usize
+    requires { from ≤ length bytes.now }
+    ensures { IsRun is_text_byte bytes.now from result }
+{
+    if from < bytes.len() && bytes[from] == b'\\' {
+        return from;
+    }
+    run_end(Run::Text, bytes, from)
 }
 
 /// The same in an IRI, where UCHAR alone stands.
@@ -27,18 +56,6 @@ pub(crate) fn iri_end(bytes: &[u8], from: usize) -> usize
         at = run_end(Run::Iri, bytes, next);
     }
     at
-}
-
-/// Where the escape at a place ends, if all of it is there.
-#[inline(always)]
-fn escape_end(bytes: &[u8], at: usize) -> Option<usize>
-    requires { at ≤ length bytes.now }
-    ensures { IfSome result (λ end. IsEchar bytes.now at end ⊎ IsUchar bytes.now at end) }
-{
-    if is_echar(bytes, at) {
-        return Some(at + 2);
-    }
-    uchar_end(bytes, at)
 }
 
 #[inline(always)]

@@ -1,4 +1,6 @@
-use Rattle.rdf_tokens.proofs.RestEscapes.{rests_escape, rests_string, string-more}
+use Rattle.std.proofs.Common.{arith}
+use Rattle.rdf_tokens.proofs.RestEscapes.{rests_string, string-more}
+use Rattle.rdf_tokens.specs.declared.states.text.Quote.TheVariants.{Double}
 use Rattle.rdf_tokens.proofs.escapes.string_end.Goals as goal
 
 pub loop-next-init : goal.loop-next-init
@@ -9,12 +11,14 @@ loop-next-init c = record {
 
 pub loop-next-preserved : goal.loop-next-preserved
 loop-next-preserved c =
-    let bs = c.args.bytes.now in
-    let at = c.loop-next.at in
-    let next = c.in-Some.next in
-    let end = c.run_end-at-in-Some.result in
-    let piece = string-more bs at next end (rests_escape bs at next c.in-Some.ensures) (rests_string bs next end c.run_end-at-in-Some.ensures) in
+    let rests = c.in-Some.ensures.rests in
     record {
-      within = c.run_end-at-in-Some.ensures.within;
-      rests = string-more bs c.args.from at end c.loop-next.invariant.rests piece;
+      within = (rests.short Double).within;
+      rests = string-more c.args.bytes.now c.args.from c.loop-next.at c.in-Some.next c.loop-next.invariant.rests rests;
     }
+
+pub loop-next-smaller : goal.loop-next-smaller
+loop-next-smaller c =
+    let on = c.in-Some.ensures.on in
+    let within = (c.in-Some.ensures.rests.short Double).within in
+    omega (arith, on, within)
