@@ -6,8 +6,8 @@ use Rattle.rdf_tokens.specs.Tokens.{is_empty, by_tail, decided}
 use Rattle.rdf_tokens.specs.Tokens.Tail.{ended}
 use Rattle.rdf_tokens.specs.Look.{tail_after, IsLook}
 use Rattle.rdf_tokens.proofs.LookLemmas.{empty-bytes, step-open, step-done, decided-look, cuts-front}
-use Rattle.rdf_tokens.proofs.look.look_at.Goals as goal
-use Rattle.rdf_tokens.proofs.look.look_at.Goals.{in_default-via-in-GoesOn+else-waits, in_default-via-in-Broken+else-waits-2, in_default-via-in_default}
+use Rattle.rdf_tokens.proofs.look.state_look.Goals as goal
+use Rattle.rdf_tokens.proofs.look.state_look.Goals.{in_default-via-in-GoesOn+else-waits, in_default-via-in-Broken+else-waits-2, in_default-via-in_default}
 
 pub decided-requires : goal.decided-requires
 decided-requires c = cuts-front c.args.dialect c.args.text.now c.front_of-front.result.best c.utf8.text c.front_of-front.ensures.best
