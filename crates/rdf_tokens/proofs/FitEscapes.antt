@@ -43,7 +43,7 @@ pub text_unescaped : (b : ℕ) → is_text_byte b ≡ true → is_unescaped b �
 text_unescaped b e = grind (arith, nat_tests)
 
 -- bytes without a backslash
-fits_unescaped : (bs : List ℕ) (at end : ℕ) → at ≤ end → end ≤ length bs → PassBetween is_unescaped bs at end → FitsInString bs at end
+pub fits_unescaped : (bs : List ℕ) (at end : ℕ) → at ≤ end → end ≤ length bs → PassBetween is_unescaped bs at end → FitsInString bs at end
 fits_unescaped bs at end from within pass = record {
   from = from;
   within = within;

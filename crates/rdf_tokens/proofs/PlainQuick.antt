@@ -2,7 +2,7 @@
 use Rattle.std.proofs.Common.{◌≡◌, is_some, ℕ, zero, suc, ◌+◌, ◌-◌, ◌<◌, Bool, true, false, nat_lt, List, [], ◌∷◌, ◌++◌, ◌&&◌, ◌||◌, ◌==◌, not, refl, sym, ap, ◌∙◌, subst, length, get_or, take, drop, arith, Option, Some, None, IsUtf8}
 use Rattle.std.proofs.lemmas.Bool.{agree_below, agree_below_at, and_parts, false≢true, eqb-true, ltb-true}
 use Rattle.std.proofs.lemmas.Bool.Decides.{nat_tests}
-use Rattle.std.proofs.lemmas.List.{append-nil}
+use Rattle.std.proofs.lemmas.List.{append-nil, drop_more}
 use Rattle.std.proofs.lemmas.Str.{encode_ascii, length-encode}
 use Rattle.std.specs.Str.{chars}
 use Rattle.rdf_terms.specs.declared.kind.Kind.{Kind}
@@ -33,6 +33,7 @@ use Rattle.rdf_tokens.proofs.NumberQuick.{no_first, first_rows}
 use Rattle.rdf_tokens.proofs.QuickLemmas.{settled, first-none, other, not_true, low-name}
 use Rattle.rdf_tokens.proofs.RestLemmas.{reached-run}
 use Rattle.rdf_tokens.proofs.RestStates.{rests_iri, rests_short, rests_label}
+use Rattle.rdf_tokens.proofs.SpellingLemmas.{quotes-bytes}
 use Rattle.rdf_tokens.proofs.StateLemmas.{reached-step}
 
 -- one byte of ASCII on, in a text that does not begin with three quotes
@@ -194,7 +195,7 @@ quote_spells Double Turtle = refl
 quote_spells Single Lines = refl
 quote_spells Single Turtle = refl
 
-low_quote : (q : Quote) → quote_byte q < 128
+pub low_quote : (q : Quote) → quote_byte q < 128
 low_quote Double = omega arith
 low_quote Single = omega arith
 
@@ -217,7 +218,7 @@ module _ (d : Dialect) (q : Quote) (bs : List ℕ) (u : IsUtf8 bs) (o : opens_wi
   stands : stands_at (quote_byte q) bs 0 ≡ true
   stands = (and_parts (has_quote d q) _ o).1
 
-  some_string : 0 < length bs
+  pub some_string : 0 < length bs
   some_string = ltb-true 0 (length bs) (and_parts (nat_lt 0 (length bs)) _ stands).0
 
   is_quote : get_or bs 0 0 ≡ quote_byte q
@@ -259,9 +260,16 @@ module _ (d : Dialect) (q : Quote) (bs : List ℕ) (u : IsUtf8 bs) (o : opens_wi
       let second = one_on bs 1 first.1 l a in
       (first.0 ∙ (ap (λ c. c ∷ drop 1 (chars bs)) is_quote ∙ ap (λ w. quote_byte q ∷ w) second.0), second.1)
 
-  -- the text does not begin with three quotes, where its second byte is another of ASCII
-  pub one_quote : 1 < length bs → get_or bs 1 0 < 128 → (get_or bs 1 0 == quote_byte q) ≡ false → three_quotes d (chars bs) ≡ false
-  one_quote l a n = ap (three_quotes d) (first_two l a).0 ∙ no_quote_second d q (get_or bs 1 0) (drop 2 (chars bs)) n
+  -- what follows the quote is a text
+  pub utf8_after : IsUtf8 (drop 1 bs)
+  utf8_after = (one_on bs 0 (at-start bs u) some_string ascii_quote).1.utf8
+
+  -- the text does not begin with three quotes, where its second byte is another
+  pub one_quote : 1 < length bs → (get_or bs 1 0 == quote_byte q) ≡ false → three_quotes d (chars bs) ≡ false
+  one_quote l n =
+      let first : bs ≡ quote_byte q ∷ drop 1 bs = drop_more bs 0 0 some_string ∙ ap (λ c. c ∷ drop 1 bs) is_quote in
+      let both : bs ≡ quote_byte q ∷ get_or bs 1 0 ∷ drop 2 bs = first ∙ ap (λ w. quote_byte q ∷ w) (drop_more bs 1 0 l) in
+      sym (quotes-bytes d bs u) ∙ (ap (three_quotes d) both ∙ no_quote_second d q (get_or bs 1 0) (drop 2 bs) n)
 
   -- the states within the string have come to the second quote
   pub string_token : (end : ℕ) → three_quotes d (chars bs) ≡ false → FitsInString bs 1 end → stands_at (quote_byte q) bs end ≡ true → Reached d bs end (Text (text.Short q)) None →
@@ -288,7 +296,7 @@ module _ (d : Dialect) (q : Quote) (bs : List ℕ) (u : IsUtf8 bs) (o : opens_wi
     -- the states after it
     pub after_plain : Reached d bs 2 (Text (text.Short q)) None
     after_plain =
-        byte_on d bs 1 (Text (text.Opened q)) (Text (text.Short q)) None None (one_quote two plain_second.0 plain_second.2) two plain_second.0 after_quote
+        byte_on d bs 1 (Text (text.Opened q)) (Text (text.Short q)) None None (one_quote two plain_second.2) two plain_second.0 after_quote
         (sym (string-first d q (get_or bs 1 0) plain_second.0 (and_parts (nat_lt 1 (length bs)) _ e).1)) refl
 
     -- it has a meaning
@@ -299,7 +307,7 @@ module _ (d : Dialect) (q : Quote) (bs : List ℕ) (u : IsUtf8 bs) (o : opens_wi
   pub quick_string : (end : ℕ) → begins_string bs ≡ true → IsRun is_text_byte bs 2 end → stands_at (quote_byte q) bs end ≡ true → IsToken d bs (end + 1) ShortString
   quick_string end e r z =
       let none = sym (no_long (three_quotes d (chars bs))) in
-      string_token end (one_quote (two e) (plain_second e).0 (plain_second e).2) (fits-more bs 1 2 end (plain_fits e) (fits_run bs 2 end r)) z
+      string_token end (one_quote (two e) (plain_second e).2) (fits-more bs 1 2 end (plain_fits e) (fits_run bs 2 end r)) z
       (reached-run d bs 2 end (Text (text.Short q)) None None none (rests_short q bs 2 end r) (after_plain e))
 
   -- The second byte is the quote too, and the third another byte of ASCII.

@@ -13,7 +13,7 @@ pub(crate) fn string_end(bytes: &[u8], from: usize) -> usize
     ensures rests { RestsInString bytes.now from result }
     ensures fits { FitsInString bytes.now from result }
 {
-    let mut at = plain_end(bytes, from);
+    let mut at = run_end(Run::Text, bytes, from);
     while let Some(next) = escape_end(bytes, at) {
         at = next;
     }

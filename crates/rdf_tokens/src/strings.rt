@@ -1,12 +1,13 @@
 // Strings with one quote at each end, read without the states.
 
-ghost use Rattle.std.specs.Prelude.{◌≡◌, ◌≤◌, ◌<◌, true, length, IfSome};
+ghost use Rattle.std.specs.Prelude.{◌≡◌, ◌≤◌, ◌<◌, true, length, drop, IfSome, IsUtf8};
 ghost use Rattle.rdf_terms.specs.declared.kind.Kind.TheVariants.{ShortString};
 ghost use Rattle.rdf_tokens.specs.Escapes.{FitsInString};
 ghost use Rattle.rdf_tokens.specs.Quick.{IsToken, opens_with};
-ghost use Rattle.rdf_tokens.specs.Strings.{other_byte, IsFirst, RestsInQuotes};
+ghost use Rattle.rdf_tokens.specs.Strings.{begins_high, other_byte, IsFirst, RestsInQuotes};
 ghost use Rattle.rdf_tokens.specs.Walk.{Walked};
 
+use crate::bytes::char_at;
 use crate::escapes::{is_echar, string_end, uchar_end};
 use crate::front::{Walk, string_walk};
 use crate::quick::{begins_string, opens_with, quote_byte, stands_at};
@@ -52,7 +53,7 @@ fn quoted_len(dialect: Dialect, quote: Quote, text: &str, walk: &mut Option<Walk
     ensures walked { Walked dialect text.now walk.new }
 {
     let bytes = text.as_bytes();
-    let Some(first) = first_end(bytes) else {
+    let Some(first) = first_end(text) else {
         return None;
     };
     let end = inside_end(quote, bytes, first);
@@ -65,19 +66,32 @@ fn quoted_len(dialect: Dialect, quote: Quote, text: &str, walk: &mut Option<Walk
     None
 }
 
-/// Where the first byte or escape of a string ends, if it is of ASCII.
+/// Where the first character or escape of a string ends, if it can stand there.
 #[inline(always)]
-fn first_end(bytes: &[u8]) -> Option<usize>
-    requires { 0 < length bytes.now }
-    ensures { IfSome result (λ end. IsFirst bytes.now end) }
+fn first_end(text: &str) -> Option<usize>
+    requires some { 0 < length text.now }
+    requires utf8 { IsUtf8 (drop 1 text.now) }
+    ensures { IfSome result (λ end. IsFirst text.now end) }
 {
+    let bytes = text.as_bytes();
     if begins_string(bytes) {
         return Some(2);
+    }
+    if begins_high(bytes) {
+        return Some(char_at(text, 1).1);
     }
     if is_echar(bytes, 1) {
         return Some(3);
     }
     uchar_end(bytes, 1)
+}
+
+/// Whether the second byte is not of ASCII.
+#[inline(always)]
+fn begins_high(bytes: &[u8]) -> bool
+    ensures { result ≡ begins_high bytes.now }
+{
+    bytes.len() > 1 && bytes[1] >= 128
 }
 
 /// The place after what stands inside a string from a place on, the other quote too.

@@ -5,9 +5,9 @@ use Rattle.rdf_tokens.proofs.escapes.string_end.Goals as goal
 
 pub loop-next-init : goal.loop-next-init
 loop-next-init c = record {
-  within = c.plain_end-at.ensures.within;
-  rests = rests_string c.args.bytes.now c.args.from c.plain_end-at.result c.plain_end-at.ensures;
-  fits = fits_run c.args.bytes.now c.args.from c.plain_end-at.result c.plain_end-at.ensures;
+  within = c.run_end-at.ensures.within;
+  rests = rests_string c.args.bytes.now c.args.from c.run_end-at.result c.run_end-at.ensures;
+  fits = fits_run c.args.bytes.now c.args.from c.run_end-at.result c.run_end-at.ensures;
 }
 
 pub loop-next-preserved : goal.loop-next-preserved
