@@ -49,7 +49,7 @@ left_fits n zero p h = absurd (omega arith)
 left_fits n (suc k) p h = digit_fits n k h
 
 -- the value of a text by the move of its first character
-value-cons : (i : Inside) (s : EscapeState) (c : ℕ) (w : List ℕ) → value i s (c ∷ w) ≡ go (move i s c) (λ t. value i t w)
+pub value-cons : (i : Inside) (s : EscapeState) (c : ℕ) (w : List ℕ) → value i s (c ∷ w) ≡ go (move i s c) (λ t. value i t w)
 value-cons i outside c w = refl
 value-cons i slash c w = refl
 value-cons i (digits k n) c w = refl
@@ -148,7 +148,7 @@ slash_letter i c u v =
     cond-false (c == 117) (leads (digits 4 0)) _ u ∙ cond-false (c == 85) (leads (digits 8 0)) (echar_move i c) v
 
 -- so a backslash before it begins no escape
-slash_high : (i : Inside) (c : ℕ) → 128 ≤ c → move i slash c ≡ fails
+pub slash_high : (i : Inside) (c : ℕ) → 128 ≤ c → move i slash c ≡ fails
 slash_high i c h = slash_letter i c (none_of c 117 h (omega arith)) (none_of c 85 h (omega arith)) ∙ echar_high i c h
 
 -- after a backslash stands the letter of an ECHAR, or the escape is bad
@@ -176,7 +176,7 @@ reads_letter i bs at (Some c) l u x y e s =
     no_means c e = cc
 
 -- a hex digit is ASCII
-hex_none : (c : ℕ) → 128 ≤ c → has hex_digit c ≡ false
+pub hex_none : (c : ℕ) → 128 ≤ c → has hex_digit c ≡ false
 unfolding has
 hex_none c h = grind (arith, nat_tests)
 
@@ -248,7 +248,7 @@ with_front-push out grown c (Some w) u h e =
 
 -- Runs between escapes.
 -- a character that stands as it is means itself
-stands_means : (i : Inside) (c : ℕ) → stands i c ≡ true → move i outside c ≡ means c
+pub stands_means : (i : Inside) (c : ℕ) → stands i c ≡ true → move i outside c ≡ means c
 stands_means of_string c h = cond-false (c == 92) (leads slash) (means c) (not-true (c == 92) h)
 stands_means of_iri c h =
     cond-false (c == 92) (leads slash) (allowed of_iri c) (ne_eqb c 92 (backslash_excluded c h)) ∙ cond-true (has iri_char c) (means c) fails h

@@ -20,13 +20,13 @@ high_char c l = grind (arith, nat_tests)
 high_byte : (b : ℕ) → 128 ≤ b → iri_byte b ≡ true
 high_byte b l = grind (arith, nat_tests)
 
--- no byte of a text of bytes from 128 on is excluded in an IRI
-all_high : (xs : List ℕ) → ((k : ℕ) → k < length xs → 128 ≤ get_or xs k 0) → all_have iri_byte xs ≡ true
-all_high [] h = refl
-all_high (b ∷ xs) h = and_from (iri_byte b) (all_have iri_byte xs) (high_byte b (h 0 (omega arith))) (all_high xs (λ k l. h (suc k) (omega arith)))
+-- bytes from 128 on pass a test, if each such number does
+pub all_high : (test : ℕ → Bool) → ((b : ℕ) → 128 ≤ b → test b ≡ true) → (xs : List ℕ) → ((k : ℕ) → k < length xs → 128 ≤ get_or xs k 0) → all_have test xs ≡ true
+all_high test f [] h = refl
+all_high test f (b ∷ xs) h = and_from (test b) (all_have test xs) (f b (h 0 (omega arith))) (all_high test f xs (λ k l. h (suc k) (omega arith)))
 
 -- no byte of a character from 128 on is ASCII
-high_bytes : (c : ℕ) → 128 ≤ c → (k : ℕ) → k < length (encode_utf8 c) → 128 ≤ get_or (encode_utf8 c) k 0
+pub high_bytes : (c : ℕ) → 128 ≤ c → (k : ℕ) → k < length (encode_utf8 c) → 128 ≤ get_or (encode_utf8 c) k 0
 high_bytes c l k m =
     ⊎_elim
     (λ (h : get_or (encode_utf8 c) k 0 < 128). let e = inside_one c [] (encode_utf8 c) k (sym (append-nil (encode_utf8 c))) m h in absurd (omega (arith, e)))
@@ -48,7 +48,7 @@ one_char c s = ⊎_elim low high (cases_lt c 128)
         ap (all_have iri_byte) (encode_ascii c l) ∙ (ap (λ t. (t || member iri_char c) && true) e ∙ (same (member iri_char c) ∙ ap (λ t. t && member iri_char c) (sym s)))
 
     high : 128 ≤ c → all_have iri_byte (encode_utf8 c) ≡ (scalar c && member iri_char c)
-    high l = all_high (encode_utf8 c) (high_bytes c l) ∙ sym (and_from (scalar c) (member iri_char c) s (high_char c l))
+    high l = all_high iri_byte high_byte (encode_utf8 c) (high_bytes c l) ∙ sym (and_from (scalar c) (member iri_char c) s (high_char c l))
 
 -- a test of two texts is one of each
 pub have-append : (test : ℕ → Bool) (u v : List ℕ) → all_have test (u ++ v) ≡ (all_have test u && all_have test v)

@@ -17,5 +17,6 @@ pub mod PiecesLemmas
 pub mod SinksLemmas
 pub mod IriBytes
 pub mod RunsLemmas
+pub mod ValueBytes
 pub mod PlainTokens
 pub mod SchemeLemmas

@@ -25,7 +25,7 @@ allowed-may of_string c m = refl
 allowed-may of_iri c m = cond-true (has iri_char c) (means c) fails m
 
 -- the walk takes a piece, whatever follows, and gives the character that it means
-abbrev Takes : Inside → List ℕ → ℕ → Type 0
+abbrev pub Takes : Inside → List ℕ → ℕ → Type 0
 Takes i piece c = (rest : List ℕ) → value i outside (piece ++ rest) ≡ option_map (λ w. c ∷ w) (value i outside rest)
 
 -- it takes a plain character
@@ -94,7 +94,7 @@ letter_escape-takes of_string piece c h = subst (λ x. Takes of_string x c) (sym
 letter_escape-takes of_iri piece c h = absurd h
 
 -- the walk takes an escape of digits
-number_escape-takes : (i : Inside) (piece : List ℕ) (c : ℕ) → IsNumberEscape i piece c → Takes i piece c
+pub number_escape-takes : (i : Inside) (piece : List ℕ) (c : ℕ) → IsNumberEscape i piece c → Takes i piece c
 number_escape-takes i piece c h = ⊎_elim
     (λ p. subst (λ x. Takes i x c) (sym p.0) (λ rest. digits-take i 3 0 h.0 rest c p.1 h.2 (h.3 ∙ sym (from_none h.0)) h.4 h.5))
     (λ p. subst (λ x. Takes i x c) (sym p.0) (λ rest. digits-take i 7 0 h.0 rest c p.1 h.2 (h.3 ∙ sym (from_none h.0)) h.4 h.5))

@@ -1,26 +1,30 @@
--- Tokens without an escape are fit: what is inside of their delimiters means itself.
+-- Tokens whose bytes tell that they are fit: of an IRI without an escape each means itself, and those of a string have a value.
 use Rattle.std.proofs.Common.{◌≡◌, ℕ, zero, suc, ◌+◌, ◌-◌, ◌<◌, true, List, [], ◌∷◌, ◌++◌, is_some, sym, ap, ◌∙◌, length, get_or, take, length-append, arith}
 use Rattle.std.specs.Str.{chars, IsUtf8, IsAscii}
 use Rattle.std.proofs.Math.Seq.{take-suc, take-append_seam}
 use Rattle.std.proofs.lemmas.List.{append-nil}
-use Rattle.std.proofs.lemmas.Bool.Decides.{nat_tests}
 use Rattle.std.proofs.lemmas.Str.{chars-append, chars-IsAscii, encode_ascii, IsCharBoundary-before_ascii, IsUtf8-from_ascii, IsUtf8-take}
 use Rattle.rdf_terms.specs.declared.kind.Kind.TheVariants.{IriRef, ShortString}
-use Rattle.rdf_terms.specs.Runs.{PassBetween, goes_over, is_unescaped, is_text_byte, iri_byte}
-use Rattle.rdf_terms.specs.Values.{Inside, of_string, of_iri, outside, inside, is_fit, value}
+use Rattle.rdf_terms.specs.Runs.{PassBetween, goes_over, iri_byte}
+use Rattle.rdf_terms.specs.Values.{Inside, of_iri, outside, inside, is_fit, string_value, value}
 use Rattle.rdf_terms.specs.Escapes.{run_of}
 use Rattle.rdf_terms.proofs.CharsLemmas.{next_char}
 use Rattle.rdf_terms.proofs.EscapesLemmas.{run_stands, slice_passes, value_stands}
+use Rattle.rdf_terms.proofs.ValueBytes.{value-bytes}
 
 -- one byte of ASCII is a text
 ascii_one : (x : ℕ) → x < 128 → IsAscii (x ∷ [])
 ascii_one x l zero = l
 ascii_one x l (suc i) = omega arith
 
--- A text within two delimiters of ASCII, all of whose bytes stand as they are, has a value.
-plain_value : (i : Inside) (x : ℕ) (t : List ℕ) (n : ℕ) → IsUtf8 (x ∷ t) → x < 128 → n < length t → get_or t n 0 < 128 → PassBetween (goes_over (run_of i)) t 0 n →
-    is_some (value i outside (inside 1 (chars (take (n + 2) (x ∷ t))))) ≡ true
-plain_value i x t n u l m h pass =
+-- what stands between two delimiters of ASCII: as bytes it is UTF-8, and as characters it is the inside of the token
+record Between (x : ℕ) (t : List ℕ) (n : ℕ) : Type 0 where
+  utf8 : IsUtf8 (take n t)
+  inside : inside 1 (chars (take (n + 2) (x ∷ t))) ≡ chars (take n t)
+
+-- it is so of a text that is UTF-8
+between : (x : ℕ) (t : List ℕ) (n : ℕ) → IsUtf8 (x ∷ t) → x < 128 → n < length t → get_or t n 0 < 128 → Between x t n
+between x t n u l m h =
     let y = get_or t n 0 in
     let r = take n t in
     let rest = (next_char (x ∷ t) t x u (ap (λ w. w ++ t) (sym (encode_ascii x l)))).utf8 in
@@ -34,15 +38,20 @@ plain_value i x t n u l m h pass =
     ∙ (ap (λ w. w ++ chars (r ++ y ∷ [])) (chars-IsAscii (x ∷ []) first)
     ∙ ap (λ w. x ∷ w) (chars-append r (y ∷ []) front ∙ ap (λ w. chars r ++ w) (chars-IsAscii (y ∷ []) last)))) in
     let long : suc (length (chars r ++ y ∷ [])) - 2 ≡ length (chars r) = omega (arith, length-append (chars r) (y ∷ [])) in
-    let plain : inside 1 (chars (take (n + 2) (x ∷ t))) ≡ chars r = ap (inside 1) text
-    ∙ (ap (λ k. take k (chars r ++ y ∷ [])) long ∙ take-append_seam (chars r) (y ∷ [])) in
-    let stand = run_stands i r front (slice_passes (goes_over (run_of i)) t 0 n (omega arith) (λ k a b. pass k a (omega arith))) in
-    ap (λ w. is_some (value i outside w)) (plain ∙ sym (append-nil (chars r)))
-    ∙ ap is_some (value_stands i (chars r) [] stand)
+    record {
+      utf8 = front;
+      inside = ap (inside 1) text ∙ (ap (λ k. take k (chars r ++ y ∷ [])) long ∙ take-append_seam (chars r) (y ∷ []));
+    }
 
--- a byte of a string that is plain is no backslash
-text_stands : (b : ℕ) → is_text_byte b ≡ true → is_unescaped b ≡ true
-text_stands b e = grind (arith, nat_tests)
+-- A text within two delimiters of ASCII, all of whose bytes stand as they are, has a value.
+plain_value : (i : Inside) (x : ℕ) (t : List ℕ) (n : ℕ) → IsUtf8 (x ∷ t) → x < 128 → n < length t → get_or t n 0 < 128 → PassBetween (goes_over (run_of i)) t 0 n →
+    is_some (value i outside (inside 1 (chars (take (n + 2) (x ∷ t))))) ≡ true
+plain_value i x t n u l m h pass =
+    let b = between x t n u l m h in
+    let v = chars (take n t) in
+    let stand = run_stands i (take n t) b.utf8 (slice_passes (goes_over (run_of i)) t 0 n (omega arith) (λ k a b. pass k a (omega arith))) in
+    ap (λ w. is_some (value i outside w)) (b.inside ∙ sym (append-nil v))
+    ∙ ap is_some (value_stands i v [] stand)
 
 -- an IRIREF without an escape is fit
 pub plain_iri_fit : (x : ℕ) (t : List ℕ) (n : ℕ) → IsUtf8 (x ∷ t) → x < 128 → n < length t → get_or t n 0 < 128 → PassBetween iri_byte t 0 n →
@@ -50,8 +59,9 @@ pub plain_iri_fit : (x : ℕ) (t : List ℕ) (n : ℕ) → IsUtf8 (x ∷ t) → 
 unfolding is_fit
 plain_iri_fit x t n u l m h pass = plain_value of_iri x t n u l m h pass
 
--- a string without an escape is fit
-pub plain_string_fit : (x : ℕ) (t : List ℕ) (n : ℕ) → IsUtf8 (x ∷ t) → x < 128 → n < length t → get_or t n 0 < 128 → PassBetween is_text_byte t 0 n →
+-- a string is fit if its bytes between the quotes have a value
+pub valued_string_fit : (x : ℕ) (t : List ℕ) (n : ℕ) → IsUtf8 (x ∷ t) → x < 128 → n < length t → get_or t n 0 < 128 → is_some (string_value (take n t)) ≡ true →
     is_fit ShortString (chars (take (n + 2) (x ∷ t))) ≡ true
 unfolding is_fit
-plain_string_fit x t n u l m h pass = plain_value of_string x t n u l m h (λ k a b. text_stands (get_or t k 0) (pass k a b))
+valued_string_fit x t n u l m h v =
+    let b = between x t n u l m h in ap (λ w. is_some (string_value w)) b.inside ∙ (sym (value-bytes (take n t) b.utf8) ∙ v)

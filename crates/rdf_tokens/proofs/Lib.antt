@@ -48,5 +48,8 @@ pub mod LimitLemmas
 mod RestLemmas
 mod RestStates
 mod RestEscapes
+mod EscapeNumbers
+mod FitEscapes
 mod FlatLemmas
 mod QuickLemmas
+mod StringLemmas

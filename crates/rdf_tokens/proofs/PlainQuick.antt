@@ -1,7 +1,8 @@
--- Tokens without an escape: references, strings and labels whose bytes are plain up to their end.
-use Rattle.std.proofs.Common.{◌≡◌, ℕ, zero, suc, ◌+◌, ◌<◌, ◌≤◌, Bool, true, false, nat_lt, List, [], ◌∷◌, ◌&&◌, ◌||◌, ◌==◌, not, refl, sym, ap, ◌∙◌, subst, length, get_or, take, drop, arith, Option, Some, None, IsUtf8}
+-- References and labels whose bytes are plain up to their end, and strings with one quote at each end.
+use Rattle.std.proofs.Common.{◌≡◌, is_some, ℕ, zero, suc, ◌+◌, ◌-◌, ◌<◌, Bool, true, false, nat_lt, List, [], ◌∷◌, ◌++◌, ◌&&◌, ◌||◌, ◌==◌, not, refl, sym, ap, ◌∙◌, subst, length, get_or, take, drop, arith, Option, Some, None, IsUtf8}
 use Rattle.std.proofs.lemmas.Bool.{agree_below, agree_below_at, and_parts, false≢true, eqb-true, ltb-true}
 use Rattle.std.proofs.lemmas.Bool.Decides.{nat_tests}
+use Rattle.std.proofs.lemmas.List.{append-nil, drop_more}
 use Rattle.std.proofs.lemmas.Str.{encode_ascii, length-encode}
 use Rattle.std.specs.Str.{chars}
 use Rattle.rdf_terms.specs.declared.kind.Kind.{Kind}
@@ -10,8 +11,8 @@ use Rattle.rdf_terms.specs.declared.kind.Dialect.{Dialect}
 use Rattle.rdf_terms.specs.declared.kind.Dialect.TheVariants.{Lines, Turtle}
 use Rattle.rdf_terms.specs.Shapes.{fixed}
 use Rattle.rdf_terms.specs.Runs.{IsRun, iri_byte, is_text_byte, is_ascii_text_byte, is_name_byte}
-use Rattle.rdf_terms.specs.Values.{is_fit}
-use Rattle.rdf_terms.proofs.PlainTokens.{plain_iri_fit, plain_string_fit}
+use Rattle.rdf_terms.specs.Values.{is_fit, string_value}
+use Rattle.rdf_terms.proofs.PlainTokens.{plain_iri_fit, valued_string_fit}
 use Rattle.rdf_tokens.specs.declared.states.machine.State.{State}
 use Rattle.rdf_tokens.specs.declared.states.machine.State.TheVariants.{Start, Iri, Text, Label}
 use Rattle.rdf_tokens.specs.declared.states.iri.Iri.TheVariants as iri
@@ -19,17 +20,20 @@ use Rattle.rdf_tokens.specs.declared.states.label.Label.TheVariants as label
 use Rattle.rdf_tokens.specs.declared.states.text.Text.TheVariants as text
 use Rattle.rdf_tokens.specs.declared.states.text.Quote.{Quote}
 use Rattle.rdf_tokens.specs.declared.states.text.Quote.TheVariants.{Double, Single}
+use Rattle.rdf_tokens.specs.Escapes.{FitsInString}
 use Rattle.rdf_tokens.specs.Tokens.{with_length, three_quotes, only_long}
 use Rattle.rdf_tokens.specs.Fixed.{live_by, rows_of}
 use Rattle.rdf_tokens.specs.Front.{IsAt, Reached, front_by}
 use Rattle.rdf_tokens.specs.Machine.{step, kind_at}
 use Rattle.rdf_tokens.specs.Quick.{IsToken, stands_at, begins_label, begins_label_name, quote_byte, has_quote, opens_with, begins_string, is_empty_string, begins_iri, ends_name, is_name_end}
 use Rattle.rdf_tokens.proofs.ByteLemmas.{at-start, ascii_first}
+use Rattle.rdf_tokens.proofs.FitEscapes.{fits_byte, fits_none, fits_run, fits-more, text_unescaped}
 use Rattle.rdf_tokens.proofs.NoNamesLemmas.{implied, no_long, one_on}
 use Rattle.rdf_tokens.proofs.NumberQuick.{no_first, first_rows}
 use Rattle.rdf_tokens.proofs.QuickLemmas.{settled, first-none, other, not_true, low-name}
 use Rattle.rdf_tokens.proofs.RestLemmas.{reached-run}
 use Rattle.rdf_tokens.proofs.RestStates.{rests_iri, rests_short, rests_label}
+use Rattle.rdf_tokens.proofs.SpellingLemmas.{quotes-bytes}
 use Rattle.rdf_tokens.proofs.StateLemmas.{reached-step}
 
 -- one byte of ASCII on, in a text that does not begin with three quotes
@@ -191,7 +195,7 @@ quote_spells Double Turtle = refl
 quote_spells Single Lines = refl
 quote_spells Single Turtle = refl
 
-low_quote : (q : Quote) → quote_byte q < 128
+pub low_quote : (q : Quote) → quote_byte q < 128
 low_quote Double = omega arith
 low_quote Single = omega arith
 
@@ -214,7 +218,7 @@ module _ (d : Dialect) (q : Quote) (bs : List ℕ) (u : IsUtf8 bs) (o : opens_wi
   stands : stands_at (quote_byte q) bs 0 ≡ true
   stands = (and_parts (has_quote d q) _ o).1
 
-  some_string : 0 < length bs
+  pub some_string : 0 < length bs
   some_string = ltb-true 0 (length bs) (and_parts (nat_lt 0 (length bs)) _ stands).0
 
   is_quote : get_or bs 0 0 ≡ quote_byte q
@@ -224,7 +228,7 @@ module _ (d : Dialect) (q : Quote) (bs : List ℕ) (u : IsUtf8 bs) (o : opens_wi
   ascii_quote = subst (λ n. n < 128) (sym is_quote) (low_quote q)
 
   -- the states after the quote
-  after_quote : Reached d bs 1 (Text (text.Opened q)) None
+  pub after_quote : Reached d bs 1 (Text (text.Opened q)) None
   after_quote =
       first-none d bs (Text (text.Opened q)) u some_string ascii_quote (opened d q (and_parts (has_quote d q) _ o).0 ∙ sym (ap (step d Start) is_quote)) refl
 
@@ -232,23 +236,22 @@ module _ (d : Dialect) (q : Quote) (bs : List ℕ) (u : IsUtf8 bs) (o : opens_wi
   no_spelling : (front_by (rows_of d fixed) bs ≡ None) × (live_by (rows_of d fixed) bs ≡ false)
   no_spelling = unspelled d (quote_byte q) bs (quote_spells q) some_string is_quote
 
-  -- what the token means needs no look at its bytes, which stand in strings up to the second quote
-  string_fit : (end : ℕ) → 0 < end → end < length bs → get_or bs end 0 < 128 → ((k : ℕ) → 1 ≤ k → k < end → is_text_byte (get_or bs k 0) ≡ true) →
-      is_fit ShortString (chars (take (end + 1) bs)) ≡ true
-  string_fit end p i x pass = go bs u ascii_quote i x pass
+  -- what stands between the quotes has a meaning
+  string_fit : (end : ℕ) → 0 < end → end < length bs → get_or bs end 0 < 128 → FitsInString bs 1 end → is_fit ShortString (chars (take (end + 1) bs)) ≡ true
+  string_fit end p i x f = go bs u ascii_quote i x f
     where
-      go : (bs : List ℕ) → IsUtf8 bs → get_or bs 0 0 < 128 → end < length bs → get_or bs end 0 < 128 → ((k : ℕ) → 1 ≤ k → k < end → is_text_byte (get_or bs k 0) ≡ true) →
-          is_fit ShortString (chars (take (end + 1) bs)) ≡ true
-      go [] u e i x pass = absurd (omega arith)
-      go (c ∷ t) u e i x pass = at_end end p i x pass
+      go : (bs : List ℕ) → IsUtf8 bs → get_or bs 0 0 < 128 → end < length bs → get_or bs end 0 < 128 → FitsInString bs 1 end → is_fit ShortString (chars (take (end + 1) bs)) ≡ true
+      go [] u e i x f = absurd (omega arith)
+      go (c ∷ t) u e i x f = at_end end p i x f
         where
-          at_end : (end : ℕ) → 0 < end → end < length (c ∷ t) → get_or (c ∷ t) end 0 < 128 → ((k : ℕ) → 1 ≤ k → k < end → is_text_byte (get_or (c ∷ t) k 0) ≡ true) →
-              is_fit ShortString (chars (take (end + 1) (c ∷ t))) ≡ true
-          at_end zero p i x pass = absurd (omega arith)
-          at_end (suc n) p i x pass =
+          at_end : (end : ℕ) → 0 < end → end < length (c ∷ t) → get_or (c ∷ t) end 0 < 128 → FitsInString (c ∷ t) 1 end → is_fit ShortString (chars (take (end + 1) (c ∷ t))) ≡ true
+          at_end zero p i x f = absurd (omega arith)
+          at_end (suc n) p i x f =
               let k : n + 2 ≡ suc n + 1 = omega arith in
+              let len : n ≡ suc n - 1 = omega arith in
               subst (λ k. is_fit ShortString (chars (take k (c ∷ t))) ≡ true) k
-              (plain_string_fit c t n u e (omega arith) x (λ k a b. pass (suc k) (omega arith) (omega arith)))
+              (valued_string_fit c t n u e (omega arith) x
+              (ap (λ w. is_some (string_value w)) (sym (append-nil (take n t))) ∙ (ap (λ k. is_some (string_value (take k t ++ []))) len ∙ f.value [])))
 
   -- the first two characters, where the second is ASCII
   first_two : 1 < length bs → get_or bs 1 0 < 128 → (chars bs ≡ quote_byte q ∷ get_or bs 1 0 ∷ drop 2 (chars bs)) × IsAt bs 2 2
@@ -257,45 +260,55 @@ module _ (d : Dialect) (q : Quote) (bs : List ℕ) (u : IsUtf8 bs) (o : opens_wi
       let second = one_on bs 1 first.1 l a in
       (first.0 ∙ (ap (λ c. c ∷ drop 1 (chars bs)) is_quote ∙ ap (λ w. quote_byte q ∷ w) second.0), second.1)
 
-  -- Bytes that stand in strings come between the quotes, and no escape.
-  module _ (end : ℕ) (e : begins_string bs ≡ true) (r : IsRun is_text_byte bs 2 end) (z : stands_at (quote_byte q) bs end ≡ true) where
-    two : 1 < length bs
+  -- what follows the quote is a text
+  pub utf8_after : IsUtf8 (drop 1 bs)
+  utf8_after = (one_on bs 0 (at-start bs u) some_string ascii_quote).1.utf8
+
+  -- the text does not begin with three quotes, where its second byte is another
+  pub one_quote : 1 < length bs → (get_or bs 1 0 == quote_byte q) ≡ false → three_quotes d (chars bs) ≡ false
+  one_quote l n =
+      let first : bs ≡ quote_byte q ∷ drop 1 bs = drop_more bs 0 0 some_string ∙ ap (λ c. c ∷ drop 1 bs) is_quote in
+      let both : bs ≡ quote_byte q ∷ get_or bs 1 0 ∷ drop 2 bs = first ∙ ap (λ w. quote_byte q ∷ w) (drop_more bs 1 0 l) in
+      sym (quotes-bytes d bs u) ∙ (ap (three_quotes d) both ∙ no_quote_second d q (get_or bs 1 0) (drop 2 bs) n)
+
+  -- the states within the string have come to the second quote
+  pub string_token : (end : ℕ) → three_quotes d (chars bs) ≡ false → FitsInString bs 1 end → stands_at (quote_byte q) bs end ≡ true → Reached d bs end (Text (text.Short q)) None →
+      IsToken d bs (end + 1) ShortString
+  string_token end one f z r =
+      let from = f.from in
+      let p = and_parts (nat_lt end (length bs)) (get_or bs end 0 == quote_byte q) z in
+      let inside : end < length bs = ltb-true end (length bs) p.0 in
+      let ends : get_or bs end 0 ≡ quote_byte q = eqb-true (get_or bs end 0) (quote_byte q) p.1 in
+      let low : get_or bs end 0 < 128 = subst (λ n. n < 128) (sym ends) (low_quote q) in
+      let closed = byte_on d bs end (Text (text.Short q)) (Text text.ShortWhole) (Some ShortString) None one inside low r
+      (closed_string d q ∙ sym (ap (step d (Text (text.Short q))) ends)) refl in
+      settled d bs (end + 1) (Text text.ShortWhole) (Some (end + 1, ShortString)) None (end + 1) ShortString u closed refl (sym no_spelling.0) no_spelling.1 refl
+      (string_fit end (omega arith) inside low f)
+
+  -- a byte of ASCII that stands in strings comes second
+  module _ (e : begins_string bs ≡ true) where
+    pub two : 1 < length bs
     two = ltb-true 1 (length bs) (and_parts (nat_lt 1 (length bs)) _ e).0
 
-    plain_second : is_ascii_text_byte (get_or bs 1 0) ≡ true
-    plain_second = (and_parts (nat_lt 1 (length bs)) _ e).1
+    pub plain_second : (get_or bs 1 0 < 128) × (is_text_byte (get_or bs 1 0) ≡ true) × ((get_or bs 1 0 == quote_byte q) ≡ false)
+    plain_second = plain_byte (get_or bs 1 0) q (and_parts (nat_lt 1 (length bs)) _ e).1
 
-    inside_string : end < length bs
-    inside_string = ltb-true end (length bs) (and_parts (nat_lt end (length bs)) _ z).0
+    -- the states after it
+    pub after_plain : Reached d bs 2 (Text (text.Short q)) None
+    after_plain =
+        byte_on d bs 1 (Text (text.Opened q)) (Text (text.Short q)) None None (one_quote two plain_second.2) two plain_second.0 after_quote
+        (sym (string-first d q (get_or bs 1 0) plain_second.0 (and_parts (nat_lt 1 (length bs)) _ e).1)) refl
 
-    ends : get_or bs end 0 ≡ quote_byte q
-    ends = eqb-true (get_or bs end 0) (quote_byte q) (and_parts (nat_lt end (length bs)) (get_or bs end 0 == quote_byte q) z).1
+    -- it has a meaning
+    pub plain_fits : FitsInString bs 1 2
+    plain_fits = fits_byte bs 1 two (text_unescaped (get_or bs 1 0) plain_second.1)
 
-    ascii_end : get_or bs end 0 < 128
-    ascii_end = subst (λ n. n < 128) (sym ends) (low_quote q)
-
-    -- the text does not begin with three quotes
-    one_quote : three_quotes d (chars bs) ≡ false
-    one_quote =
-        let x = plain_byte (get_or bs 1 0) q plain_second in
-        ap (three_quotes d) (first_two two x.0).0 ∙ no_quote_second d q (get_or bs 1 0) (drop 2 (chars bs)) x.2
-
-    passes : (k : ℕ) → 1 ≤ k → k < end → is_text_byte (get_or bs k 0) ≡ true
-    passes zero a b = absurd (omega arith)
-    passes (suc zero) a b = (plain_byte (get_or bs 1 0) q plain_second).1
-    passes (suc (suc k)) a b = r.pass (suc (suc k)) (omega arith) b
-
-    pub quick_string : IsToken d bs (end + 1) ShortString
-    quick_string =
-        let x = plain_byte (get_or bs 1 0) q plain_second in
-        let second = byte_on d bs 1 (Text (text.Opened q)) (Text (text.Short q)) None None one_quote two x.0 after_quote (sym (string-first d q (get_or bs 1 0) x.0 plain_second)) refl in
-        let none = sym (no_long (three_quotes d (chars bs))) in
-        let run = reached-run d bs 2 end (Text (text.Short q)) None None none (rests_short q bs 2 end r) second in
-        let closed = byte_on d bs end (Text (text.Short q)) (Text text.ShortWhole) (Some ShortString) None one_quote inside_string ascii_end run
-        (closed_string d q ∙ sym (ap (step d (Text (text.Short q))) ends)) refl in
-        let from = r.from in
-        settled d bs (end + 1) (Text text.ShortWhole) (Some (end + 1, ShortString)) None (end + 1) ShortString u closed refl (sym no_spelling.0) no_spelling.1 refl
-        (string_fit end (omega arith) inside_string ascii_end passes)
+  -- Bytes that stand in strings come between the quotes, and no escape.
+  pub quick_string : (end : ℕ) → begins_string bs ≡ true → IsRun is_text_byte bs 2 end → stands_at (quote_byte q) bs end ≡ true → IsToken d bs (end + 1) ShortString
+  quick_string end e r z =
+      let none = sym (no_long (three_quotes d (chars bs))) in
+      string_token end (one_quote (two e) (plain_second e).2) (fits-more bs 1 2 end (plain_fits e) (fits_run bs 2 end r)) z
+      (reached-run d bs 2 end (Text (text.Short q)) None None none (rests_short q bs 2 end r) (after_plain e))
 
   -- The second byte is the quote too, and the third another byte of ASCII.
   module _ (e : is_empty_string q bs ≡ true) where
@@ -337,7 +350,7 @@ module _ (d : Dialect) (q : Quote) (bs : List ℕ) (u : IsUtf8 bs) (o : opens_wi
         let over = byte_on d bs 2 (Text (text.Empty q)) (Text text.Dead) None (Some (2, ShortString)) two_quotes l ascii_third second
         (sym (empty-last d q (get_or bs 2 0) ascii_third no_third)) refl in
         settled d bs 3 (Text text.Dead) (Some (2, ShortString)) None 2 ShortString u over refl (sym no_spelling.0) no_spelling.1 refl
-        (string_fit 1 (omega arith) (omega arith) ascii_second (λ k a b. absurd (omega arith)))
+        (string_fit 1 (omega arith) (omega arith) ascii_second (fits_none bs 1 (omega arith)))
 
 -- a state within the name of a label
 abbrev at_label : State → Bool

@@ -56,11 +56,11 @@ record Numbers (s e : State) (h : ℕ → State) : Type 0 where
   none_yet : (n : ℕ) → kind_at (h n) ≡ None
 
 -- what is escaped is ASCII
-hex_below : (c : ℕ) → is_hex c ≡ true → c < 128
+pub hex_below : (c : ℕ) → is_hex c ≡ true → c < 128
 hex_below c h = ⊎_elim (λ (l : c < 128). l) (λ l. absurd (let n : is_hex c ≡ false = grind (arith, nat_tests) in false≢true (sym n ∙ h))) (cases_lt c 128)
 
 -- so is the letter after a backslash
-letter_below : (c : ℕ) → is_letter c ≡ true → c < 128
+pub letter_below : (c : ℕ) → is_letter c ≡ true → c < 128
 letter_below c h = ⊎_elim (λ (l : c < 128). l) (λ l. absurd (let n : is_letter c ≡ false = grind (arith, nat_tests) in false≢true (sym n ∙ h))) (cases_lt c 128)
 
 -- over hex digits, to the last one
@@ -75,22 +75,22 @@ hexes_on s e h f d bs b (suc n) at l p r =
     let sum : at + 1 + suc n ≡ at + suc (suc n) = omega arith in
     subst (λ k. Reached d bs k s b) sum (hexes_on s e h f d bs b n (at + 1) (omega arith) (λ k from to. p k (omega arith) (omega arith)) next)
 
--- over a UCHAR
-module _ (s e : State) (h : ℕ → State) (f : Numbers s e h) (bs : List ℕ) (at end : ℕ) (d : Dialect) (b : Option (ℕ × Kind)) where
-  digits_on : (c n : ℕ) → c < 128 → get_or bs at 0 ≡ 92 → get_or bs (at + 1) 0 ≡ c → step d e c ≡ h n → IsHexes bs (at + 2) (suc n) end → Reached d bs at s b → Reached d bs end s b
+-- over a UCHAR, from a state that takes its backslash as the state within does
+module _ (s e : State) (h : ℕ → State) (f : Numbers s e h) (o : State) (bs : List ℕ) (at end : ℕ) (d : Dialect) (b : Option (ℕ × Kind)) (slash : step d o 92 ≡ e) where
+  digits_on : (c n : ℕ) → c < 128 → get_or bs at 0 ≡ 92 → get_or bs (at + 1) 0 ≡ c → step d e c ≡ h n → IsHexes bs (at + 2) (suc n) end → Reached d bs at o b → Reached d bs end s b
   digits_on c n a x y t g r =
       let w = g.within in
       let z = g.ends in
-      let after = byte_on d bs at s e b (omega arith) (omega (arith, x)) (ap (step d s) x ∙ f.slash d) f.none_after r in
+      let after = byte_on d bs at o e b (omega arith) (omega (arith, x)) (ap (step d o) x ∙ slash) f.none_after r in
       let begun = byte_on d bs (at + 1) e (h n) b (omega arith) (omega (arith, y)) (ap (step d e) y ∙ t) (f.none_yet n) after in
       let two : at + 1 + 1 ≡ at + 2 = omega arith in
       subst (λ k. Reached d bs k s b) (sym z)
       (hexes_on s e h f d bs b n (at + 2) (omega arith) (subst (PassBetween is_hex bs (at + 2)) z g.hexes) (subst (λ k. Reached d bs k (h n) b) two begun))
 
-  uchar_on : IsUchar bs at end → Reached d bs at s b → Reached d bs end s b
+  uchar_on : IsUchar bs at end → Reached d bs at o b → Reached d bs end s b
   uchar_on u r = ⊎_elim
-      (λ g. digits_on 117 3 (omega arith) u.slash g.0 (f.small d) g.1 r)
-      (λ g. digits_on 85 7 (omega arith) u.slash g.0 (f.big d) g.1 r)
+      (λ g. digits_on 117 3 (omega arith) u.slash g.0 (f.small d) g.1.hexes r)
+      (λ g. digits_on 85 7 (omega arith) u.slash g.0 (f.big d) g.1.hexes r)
       u.digits
 
 -- no token ends within it, so none is told
@@ -107,33 +107,35 @@ rests_by s bs at end n from within f = record {
 }
 
 -- where a UCHAR ends
-uchar_from : (bs : List ℕ) (at end : ℕ) → IsUchar bs at end → (at < end) × (end ≤ length bs)
+pub uchar_from : (bs : List ℕ) (at end : ℕ) → IsUchar bs at end → (at < end) × (end ≤ length bs)
 uchar_from bs at end u = ⊎_elim
-    (λ g. (omega (arith, g.1.ends), g.1.within))
-    (λ g. (omega (arith, g.1.ends), g.1.within))
+    (λ g. (omega (arith, g.1.hexes.ends), g.1.hexes.within))
+    (λ g. (omega (arith, g.1.hexes.ends), g.1.hexes.within))
     u.digits
 
 -- so a UCHAR leads back to the state before it
 rests_uchar : (s e : State) (h : ℕ → State) → Numbers s e h → (bs : List ℕ) (at end : ℕ) → IsUchar bs at end → Rests s bs at end
 rests_uchar s e h f bs at end u =
     let l = uchar_from bs at end u in
-    rests_by s bs at end f.none (let x = l.0 in omega arith) l.1 (λ d b r. uchar_on s e h f bs at end d b u r)
+    rests_by s bs at end f.none (let x = l.0 in omega arith) l.1 (λ d b r. uchar_on s e h f s bs at end d b (f.slash d) u r)
 
--- over an ECHAR
+-- over an ECHAR, from such a state
+echar_on : (s e : State) (h : ℕ → State) → Numbers s e h → ((d : Dialect) (c : ℕ) → is_letter c ≡ true → step d e c ≡ s) → (o : State) (bs : List ℕ) (at end : ℕ) (d : Dialect)
+    (b : Option (ℕ × Kind)) → step d o 92 ≡ e → IsEchar bs at end → Reached d bs at o b → Reached d bs end s b
+echar_on s e h f letter o bs at end d b slash u r =
+    let w = u.within in
+    let z = u.ends in
+    let x = u.slash in
+    let after = byte_on d bs at o e b (omega arith) (omega arith) (ap (step d o) x ∙ slash) f.none_after r in
+    let done = byte_on d bs (at + 1) e s b (omega arith) (letter_below (get_or bs (at + 1) 0) u.letter) (letter d (get_or bs (at + 1) 0) u.letter) f.none after in
+    let two : at + 1 + 1 ≡ end = omega arith in
+    subst (λ k. Reached d bs k s b) two done
+
+-- so an ECHAR leads back
 rests_echar : (s e : State) (h : ℕ → State) → Numbers s e h → ((d : Dialect) (c : ℕ) → is_letter c ≡ true → step d e c ≡ s) →
     (bs : List ℕ) (at end : ℕ) → IsEchar bs at end → Rests s bs at end
 rests_echar s e h f letter bs at end u =
-    rests_by s bs at end f.none (omega (arith, u.ends)) u.within on
-  where
-    on : (d : Dialect) (b : Option (ℕ × Kind)) → Reached d bs at s b → Reached d bs end s b
-    on d b r =
-        let w = u.within in
-        let z = u.ends in
-        let x = u.slash in
-        let after = byte_on d bs at s e b (omega arith) (omega arith) (ap (step d s) x ∙ f.slash d) f.none_after r in
-        let done = byte_on d bs (at + 1) e s b (omega arith) (letter_below (get_or bs (at + 1) 0) u.letter) (letter d (get_or bs (at + 1) 0) u.letter) f.none after in
-        let two : at + 1 + 1 ≡ end = omega arith in
-        subst (λ k. Reached d bs k s b) two done
+    rests_by s bs at end f.none (omega (arith, u.ends)) u.within (λ d b r. echar_on s e h f letter s bs at end d b (f.slash d) u r)
 
 -- The states of strings. A hex digit and a letter of ECHAR are sorts of their own.
 abbrev is_hex_sort : TextSort → Bool
@@ -150,7 +152,7 @@ is_letter_sort text_sort.HexLetter = true
 is_letter_sort x = false
 
 -- what a test of each byte of ASCII tells of one that passes another
-implied : (p q : ℕ → Bool) → agree_below (λ c. not (p c) || q c) (λ _. true) 128 ≡ true → (c : ℕ) → c < 128 → p c ≡ true → q c ≡ true
+pub implied : (p q : ℕ → Bool) → agree_below (λ c. not (p c) || q c) (λ _. true) 128 ≡ true → (c : ℕ) → c < 128 → p c ≡ true → q c ≡ true
 implied p q all c l h = sym (ap (λ t. not t || q c) h) ∙ agree_below_at (λ c. not (p c) || q c) (λ _. true) 128 c all l
 
 -- a hex digit is of such a sort, by a test of each byte
@@ -210,11 +212,15 @@ long_numbers q = record {
     slash Double d = refl
     slash Single d = refl
 
+-- a letter of ECHAR leads back into a string with one quote at each end
+short_letter : (q : Quote) (d : Dialect) (c : ℕ) → is_letter c ≡ true → step d (state.Text (text_state.ShortEscape q)) c ≡ state.Text (text_state.Short q)
+short_letter q d c h = ap state.Text (escaped-letter (λ n. text_state.ShortHex q n) (text_state.Short q) (sort_by text.ascii text.high c) (text_letter c h))
+
 -- an escape of a string
 pub rests_escape : (bs : List ℕ) (at end : ℕ) → IsEchar bs at end ⊎ IsUchar bs at end → RestsInString bs at end
 rests_escape bs at end u = record {
   short = λ q. ⊎_elim
-      (λ x. rests_echar (state.Text (text_state.Short q)) (state.Text (text_state.ShortEscape q)) (λ n. state.Text (text_state.ShortHex q n)) (short_numbers q) (λ d c h. ap state.Text (escaped-letter (λ n. text_state.ShortHex q n) (text_state.Short q) (sort_by text.ascii text.high c) (text_letter c h))) bs at end x)
+      (λ x. rests_echar (state.Text (text_state.Short q)) (state.Text (text_state.ShortEscape q)) (λ n. state.Text (text_state.ShortHex q n)) (short_numbers q) (short_letter q) bs at end x)
       (λ x. rests_uchar (state.Text (text_state.Short q)) (state.Text (text_state.ShortEscape q)) (λ n. state.Text (text_state.ShortHex q n)) (short_numbers q) bs at end x)
       u;
   long = λ q. ⊎_elim
@@ -222,6 +228,30 @@ rests_escape bs at end u = record {
       (λ x. rests_uchar (state.Text (text_state.Long q)) (state.Text (text_state.LongEscape q)) (λ n. state.Text (text_state.LongHex q n)) (long_numbers q) bs at end x)
       u;
 }
+
+-- an escape after the first quote leads into the string
+pub opened_escape : (d : Dialect) (q : Quote) (bs : List ℕ) (at end : ℕ) (b : Option (ℕ × Kind)) → IsEchar bs at end ⊎ IsUchar bs at end →
+    Reached d bs at (state.Text (text_state.Opened q)) b → Reached d bs end (state.Text (text_state.Short q)) b
+opened_escape d q bs at end b u r =
+    let s = state.Text (text_state.Short q) in
+    let e = state.Text (text_state.ShortEscape q) in
+    let h = λ (n : ℕ). state.Text (text_state.ShortHex q n) in
+    let o = state.Text (text_state.Opened q) in
+    ⊎_elim
+    (λ x. echar_on s e h (short_numbers q) (short_letter q) o bs at end d b (slash q) x r)
+    (λ x. uchar_on s e h (short_numbers q) o bs at end d b (slash q) x r)
+    u
+  where
+    slash : (q : Quote) → step d (state.Text (text_state.Opened q)) 92 ≡ state.Text (text_state.ShortEscape q)
+    slash Double = refl
+    slash Single = refl
+
+-- a byte that leaves the state within a string in this quote as it is
+pub rests_byte : (q : Quote) (bs : List ℕ) (at : ℕ) → at < length bs → get_or bs at 0 < 128 →
+    ((d : Dialect) → step d (state.Text (text_state.Short q)) (get_or bs at 0) ≡ state.Text (text_state.Short q)) → Rests (state.Text (text_state.Short q)) bs at (at + 1)
+rests_byte q bs at l a e =
+    let s = state.Text (text_state.Short q) in
+    rests_by s bs at (at + 1) refl (omega arith) (omega arith) (λ d b r. byte_on d bs at s s b l a (e d) refl r)
 
 -- the bytes that are tested are an ECHAR
 pub echar_of : (bs : List ℕ) (at : ℕ) → (nat_le (at + 2) (length bs) && get_or bs at 0 == 92 && is_letter (get_or bs (at + 1) 0)) ≡ true → IsEchar bs at (at + 2)

@@ -2,8 +2,8 @@
 use Rattle.std.proofs.Common.{◌≡◌, ℕ, zero, suc, ◌+◌, ◌≤◌, Bool, true, false, cond, List, [], ◌∷◌, ◌++◌, refl, sym, ap, ◌∙◌, subst, ⊎_elim, length, length-append, length-drop, take, drop, arith, Option, Some, None, IsUtf8}
 use Rattle.std.specs.Prelude.{encode_utf8_all}
 use Rattle.std.proofs.lemmas.Bool.{cond-true, cond-false, cases_lt, lt-ltb, le-ltb}
-use Rattle.std.proofs.lemmas.List.{take_all, drop_all, take-append-le, drop-append-le}
-use Rattle.std.proofs.lemmas.Str.{chars-append, chars-nil, encodes-chars, IsUtf8-append, IsUtf8-nil, IsUtf8-drop}
+use Rattle.std.proofs.lemmas.List.{take_all, drop_all, take-append-drop, take-append-le, drop-append-le}
+use Rattle.std.proofs.lemmas.Str.{chars-append, chars-nil, encodes-chars, IsCharBoundary-from_drop, IsUtf8-append, IsUtf8-nil, IsUtf8-drop, IsUtf8-take}
 use Rattle.std.specs.Str.{chars, IsCharBoundary}
 use Rattle.rdf_terms.specs.declared.kind.Kind.{Kind}
 use Rattle.rdf_terms.specs.declared.kind.Dialect.{Dialect}
@@ -27,6 +27,15 @@ counted-walk d bs (Some w) h = subst (IsAt bs w.at) (sym h.counted) h.reached.he
 -- all of the characters: those before a place, and those after it
 pub counted-whole : (bs : List ℕ) (at n : ℕ) → IsAt bs at n → n + length (chars (drop at bs)) ≡ length (chars bs)
 counted-whole bs at n h = let c = h.count in omega (arith, ap length h.left, length-drop n (chars bs))
+
+-- those before a place are all that were counted
+pub counted-before : (bs : List ℕ) (at n : ℕ) → IsUtf8 bs → IsAt bs at n → length (chars (take at bs)) ≡ n
+counted-before bs at n u h =
+    let front : IsUtf8 (take at bs) = IsUtf8-take bs at u (IsCharBoundary-from_drop bs at h.inside h.utf8) in
+    let all : length (chars bs) ≡ length (chars (take at bs)) + length (chars (drop at bs)) =
+    ap (λ x. length (chars x)) (sym (take-append-drop at bs))
+    ∙ (ap length (chars-append (take at bs) (drop at bs) front) ∙ length-append (chars (take at bs)) (chars (drop at bs))) in
+    omega (arith, all, counted-whole bs at n h)
 
 -- three quotes come first or not, whatever comes after three bytes
 quotes-more : (d : Dialect) (bs more : List ℕ) → 3 ≤ length bs → three_quotes d (bs ++ more) ≡ three_quotes d bs

@@ -1,7 +1,9 @@
 -- Whole escapes within strings and IRIs.
-use Rattle.std.specs.Prelude.{◌≡◌, ◌⊎◌, ℕ, ◌+◌, ◌≤◌, Bool, true, ◌||◌, List, [], ◌∷◌, length, get_or}
-use Rattle.rdf_terms.specs.Classes.{is_digit, within, one_of}
+use Rattle.std.specs.Prelude.{◌≡◌, ◌⊎◌, ℕ, ◌+◌, ◌≤◌, Bool, true, not, ◌&&◌, ◌||◌, ◌==◌, nat_le, List, [], ◌∷◌, ◌++◌, length, get_or, drop, take, slice_range, is_some}
+use Rattle.rdf_terms.specs.Classes.{is_digit, within, one_of, scalar}
+use Rattle.rdf_terms.specs.Pieces.{hex_number}
 use Rattle.rdf_terms.specs.Runs.{PassBetween}
+use Rattle.rdf_terms.specs.Values.{string_value}
 use Rattle.rdf_tokens.specs.declared.states.iri.Iri.TheVariants as iri_state
 use Rattle.rdf_tokens.specs.declared.states.machine.State.TheVariants as state
 use Rattle.rdf_tokens.specs.declared.states.text.Quote.{Quote}
@@ -22,6 +24,28 @@ pub record IsHexes (bs : List ℕ) (from count end : ℕ) : Type 0 where
   pub within : end ≤ length bs
   pub hexes : PassBetween is_hex bs from end
 
+-- and they write the number of a character
+pub record IsNumber (bs : List ℕ) (from count end : ℕ) : Type 0 where
+  pub hexes : IsHexes bs from count end
+  pub character : scalar (hex_number (take count (drop from bs))) ≡ true
+
+-- the first two of four hex digits are those of a surrogate: D, and one from 8 on
+abbrev pub is_surrogate : ℕ → ℕ → Bool
+is_surrogate a b = (a == 68 || a == 100) && nat_le 56 b
+
+-- two hex digits number a plane after the first: 01 to 0F, or 10
+abbrev pub is_plane : ℕ → ℕ → Bool
+is_plane a b = (a == 48 && not (b == 48)) || (a == 49 && b == 48)
+
+-- six hex digits write at most FFFF, and no surrogate
+abbrev pub is_in_first_plane : List ℕ → ℕ → Bool
+is_in_first_plane bs at = get_or bs at 0 == 48 && (get_or bs (at + 1) 0 == 48 && not (is_surrogate (get_or bs (at + 2) 0) (get_or bs (at + 3) 0)))
+
+-- eight hex digits write at most 10FFFF, and no surrogate
+abbrev pub is_in_planes : List ℕ → ℕ → Bool
+is_in_planes bs at =
+    get_or bs at 0 == 48 && (get_or bs (at + 1) 0 == 48 && (is_plane (get_or bs (at + 2) 0) (get_or bs (at + 3) 0) || is_in_first_plane bs (at + 2)))
+
 -- an ECHAR stands between two places
 pub record IsEchar (bs : List ℕ) (at end : ℕ) : Type 0 where
   pub ends : end ≡ at + 2
@@ -32,7 +56,7 @@ pub record IsEchar (bs : List ℕ) (at end : ℕ) : Type 0 where
 -- a UCHAR does
 pub record IsUchar (bs : List ℕ) (at end : ℕ) : Type 0 where
   pub slash : get_or bs at 0 ≡ 92
-  pub digits : ((get_or bs (at + 1) 0 ≡ 117) × IsHexes bs (at + 2) 4 end) ⊎ ((get_or bs (at + 1) 0 ≡ 85) × IsHexes bs (at + 2) 8 end)
+  pub digits : ((get_or bs (at + 1) 0 ≡ 117) × IsNumber bs (at + 2) 4 end) ⊎ ((get_or bs (at + 1) 0 ≡ 85) × IsNumber bs (at + 2) 8 end)
 
 -- the bytes between two places lead back to the state within a string, in whichever quotes it stands
 pub record RestsInString (bs : List ℕ) (at end : ℕ) : Type 0 where
@@ -42,3 +66,9 @@ pub record RestsInString (bs : List ℕ) (at end : ℕ) : Type 0 where
 -- the same within an IRI
 abbrev pub RestsInIri : List ℕ → ℕ → ℕ → Type 0
 RestsInIri bs at end = Rests (state.Iri iri_state.Inside) bs at end
+
+-- the bytes between two places of a string have a meaning, whatever text comes after them
+pub record FitsInString (bs : List ℕ) (at end : ℕ) : Type 0 where
+  pub from : at ≤ end
+  pub within : end ≤ length bs
+  pub value : (w : List ℕ) → is_some (string_value (slice_range bs at end ++ w)) ≡ is_some (string_value w)

@@ -22,6 +22,7 @@ pub mod Escapes
 pub mod Walk
 pub mod NoNames
 pub mod Quick
+pub mod Strings
 pub mod Over
 pub mod Plain
 pub mod Look

@@ -32,6 +32,10 @@ IsLook (Stop BadEscape) s w = s ≡ stop bad_escape
 IsLook (Stop r) s w = ⊥
 IsLook (Token m k) s w = (n : ℕ) × (s ≡ token n k) × (n ≤ length w) × (m ≡ bytes_of n w)
 
+-- the look tells the step where the text is within the limit
+abbrev pub IsLookWithin : Dialect → Tail → Look → List ℕ → Type 0
+IsLookWithin d t l w = (limit : ℕ) → over d limit w ≡ false → IsLook l (step d limit t w) w
+
 -- A look that tells the step whatever comes after the text. Without one no token is too long.
 abbrev pub IsFirstLook : Dialect → ℕ → Option Look → List ℕ → Type 0
 IsFirstLook d limit None bs = over d limit (chars bs) ≡ false

@@ -2,14 +2,16 @@
 
 ghost use Rattle.std.specs.Prelude.{◌≡◌, ◌<◌, ◌≤◌, ◌+◌, ◌&&◌, ◌==◌, nat_le, length, get_or, IfSome};
 ghost use Rattle.rdf_terms.specs.Runs.{IsRun, is_text_byte};
-ghost use Rattle.rdf_tokens.specs.Escapes.{is_hex, is_letter, IsHexes, IsUchar, RestsInIri, RestsInString};
+ghost use Rattle.rdf_tokens.specs.Escapes.{is_hex, is_letter, is_surrogate, is_plane, is_in_first_plane, is_in_planes};
+ghost use Rattle.rdf_tokens.specs.Escapes.{IsHexes, IsNumber, IsUchar, FitsInString, RestsInIri, RestsInString};
 
 use rdf_terms::runs::{Run, run_end};
 
-/// The place after the plain bytes and the whole escapes of a string from a place on.
+/// The place after the plain bytes and the whole escapes of a string from a place on. A bad escape is not passed.
 pub(crate) fn string_end(bytes: &[u8], from: usize) -> usize
     requires { from ≤ length bytes.now }
-    ensures { RestsInString bytes.now from result }
+    ensures rests { RestsInString bytes.now from result }
+    ensures fits { FitsInString bytes.now from result }
 {
     let mut at = run_end(Run::Text, bytes, from);
     while let Some(next) = escape_end(bytes, at) {
@@ -18,11 +20,12 @@ pub(crate) fn string_end(bytes: &[u8], from: usize) -> usize
     at
 }
 
-/// Where the escape at a place and the plain bytes after it end, if all of it is there.
+/// Where the escape at a place and the plain bytes after it end, if all of it is there and it is not bad.
 #[inline(always)]
 fn escape_end(bytes: &[u8], at: usize) -> Option<usize>
     requires { at ≤ length bytes.now }
     ensures rests { IfSome result (λ end. RestsInString bytes.now at end) }
+    ensures fits { IfSome result (λ end. FitsInString bytes.now at end) }
     ensures on { IfSome result (λ end. at < end) }
 {
     if is_echar(bytes, at) {
@@ -59,7 +62,7 @@ pub(crate) fn iri_end(bytes: &[u8], from: usize) -> usize
 }
 
 #[inline(always)]
-fn is_echar(bytes: &[u8], at: usize) -> bool
+pub(crate) fn is_echar(bytes: &[u8], at: usize) -> bool
     requires { at ≤ length bytes.now }
     ensures { result ≡ (nat_le (at + 2) (length bytes.now) && get_or bytes.now at 0 == 92 && is_letter (get_or bytes.now (at + 1) 0)) }
 {
@@ -75,9 +78,9 @@ fn is_letter(byte: u8) -> bool
     )
 }
 
-/// Where the UCHAR at a place ends, if all of it is there.
+/// Where the UCHAR at a place ends, if all of it is there and its number is that of a character.
 #[inline(always)]
-fn uchar_end(bytes: &[u8], at: usize) -> Option<usize>
+pub(crate) fn uchar_end(bytes: &[u8], at: usize) -> Option<usize>
     requires { at ≤ length bytes.now }
     ensures { IfSome result (λ end. IsUchar bytes.now at end) }
 {
@@ -85,10 +88,70 @@ fn uchar_end(bytes: &[u8], at: usize) -> Option<usize>
         return None;
     }
     match bytes[at + 1] {
-        b'u' => hex_end(bytes, at + 2, 4),
-        b'U' => hex_end(bytes, at + 2, 8),
+        b'u' => four_end(bytes, at + 2),
+        b'U' => eight_end(bytes, at + 2),
         _ => None,
     }
+}
+
+/// Where four hex digits end, if they are there and write the number of a character.
+#[inline(always)]
+fn four_end(bytes: &[u8], from: usize) -> Option<usize>
+    requires { from ≤ length bytes.now }
+    ensures { IfSome result (λ end. IsNumber bytes.now from 4 end) }
+{
+    match hex_end(bytes, from, 4) {
+        Some(end) if !is_surrogate(bytes[from], bytes[from + 1]) => Some(end),
+        _ => None,
+    }
+}
+
+/// The same of eight.
+#[inline(always)]
+fn eight_end(bytes: &[u8], from: usize) -> Option<usize>
+    requires { from ≤ length bytes.now }
+    ensures { IfSome result (λ end. IsNumber bytes.now from 8 end) }
+{
+    match hex_end(bytes, from, 8) {
+        Some(end) if is_in_planes(bytes, from) => Some(end),
+        _ => None,
+    }
+}
+
+/// Whether the first two of four hex digits are those of a surrogate.
+#[inline(always)]
+fn is_surrogate(first: u8, second: u8) -> bool
+    ensures { result ≡ is_surrogate first second }
+{
+    (first == b'D' || first == b'd') && second >= b'8'
+}
+
+/// Whether eight hex digits write at most 10FFFF, and no surrogate.
+#[inline(always)]
+fn is_in_planes(bytes: &[u8], at: usize) -> bool
+    requires { at + 8 ≤ length bytes.now }
+    ensures { result ≡ is_in_planes bytes.now at }
+{
+    bytes[at] == b'0'
+        && bytes[at + 1] == b'0'
+        && (is_plane(bytes[at + 2], bytes[at + 3]) || is_in_first_plane(bytes, at + 2))
+}
+
+/// Whether two hex digits number a plane after the first.
+#[inline(always)]
+fn is_plane(first: u8, second: u8) -> bool
+    ensures { result ≡ is_plane first second }
+{
+    first == b'0' && second != b'0' || first == b'1' && second == b'0'
+}
+
+/// Whether six hex digits write at most FFFF, and no surrogate.
+#[inline(always)]
+fn is_in_first_plane(bytes: &[u8], at: usize) -> bool
+    requires { at + 6 ≤ length bytes.now }
+    ensures { result ≡ is_in_first_plane bytes.now at }
+{
+    bytes[at] == b'0' && bytes[at + 1] == b'0' && !is_surrogate(bytes[at + 2], bytes[at + 3])
 }
 
 /// Where so many hex digits end, if they are there.

@@ -1,6 +1,6 @@
 // The longest token at the front of a text.
 
-ghost use Rattle.std.specs.Prelude.{◌≡◌, cond, length, get_or};
+ghost use Rattle.std.specs.Prelude.{◌≡◌, ◌≤◌, cond, length, get_or};
 ghost use Rattle.std.specs.Str.{chars};
 ghost use Rattle.rdf_terms.specs.Shapes.{is_live};
 ghost use Rattle.rdf_tokens.specs.Tokens.{three_quotes, only_long, with_length, longest};
@@ -9,7 +9,8 @@ ghost use Rattle.rdf_tokens.specs.Walk.{Walked, IsWalk, IsCounted, walk_kept};
 ghost use Rattle.rdf_tokens.specs.NoNames.{is_prefix_byte, BeginsNoName, HasNoNames};
 ghost use Rattle.rdf_terms.specs.Classes.{is_letter};
 ghost use Rattle.rdf_terms.specs.Runs.{IsRun};
-ghost use Rattle.rdf_tokens.specs.declared.states.machine.State.TheVariants.{Name as name};
+ghost use Rattle.rdf_tokens.specs.declared.states.machine.State.TheVariants.{Name as name, Text as text_state};
+ghost use Rattle.rdf_tokens.specs.declared.states.text.Text.TheVariants.{Short as short};
 
 use crate::bytes::char_at;
 use crate::over::states_end;
@@ -21,7 +22,7 @@ use crate::states::name::Name;
 use crate::states::number::Number;
 use crate::states::shape::Shape;
 use crate::states::tag::Tag;
-use crate::states::text::Text;
+use crate::states::text::{Quote, Text};
 use rdf_terms::{Dialect, Kind};
 
 /// What stands at the front of a text.
@@ -109,6 +110,21 @@ fn keep(walk: &mut Option<Walk>, text: &str, more: bool, shaped: &Shaped)
                 kind: shaped.kind,
             });
         }
+    }
+}
+
+/// How far the states come in a string with one quote at each end that goes on at this place.
+pub(crate) fn string_walk(dialect: Dialect, quote: Quote, text: &str, at: usize) -> Walk
+    requires enough { 3 ≤ at }
+    requires reached { Reached dialect text.now at (text_state (short quote)) None }
+    ensures { IsWalk dialect text.now result }
+{
+    Walk {
+        state: State::Text(Text::Short(quote)),
+        at,
+        count: char_count(&text[..at]),
+        len: 0,
+        kind: None,
     }
 }
 

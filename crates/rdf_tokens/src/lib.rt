@@ -13,6 +13,7 @@ mod plain;
 mod quick;
 mod scanner;
 mod states;
+mod strings;
 mod token;
 
 pub use plain::{RunClass, plain_run};

@@ -1,15 +1,16 @@
 // The decision what stands at a place, from the text that has come.
 
 ghost use Rattle.std.specs.Str.{chars};
-ghost use Rattle.std.specs.Prelude.{◌≡◌, ◌||◌, ℕ, false};
-ghost use Rattle.rdf_tokens.specs.Tokens.{is_empty, over, step};
+ghost use Rattle.std.specs.Prelude.{◌≡◌, ◌||◌};
+ghost use Rattle.rdf_tokens.specs.Tokens.{is_empty};
 ghost use Rattle.rdf_tokens.specs.Walk.{Walked};
 ghost use Rattle.rdf_tokens.specs.NoNames.{HasNoNames};
-ghost use Rattle.rdf_tokens.specs.Look.{tail_after, IsLook, IsFirstLook, CutsAt, decided_by};
+ghost use Rattle.rdf_tokens.specs.Look.{tail_after, IsLookWithin, IsFirstLook, CutsAt, decided_by};
 
 use crate::front::{NoNames, Walk, front_of};
 use crate::over::is_over;
 use crate::quick::quick_front;
+use crate::strings::string_len;
 use rdf_terms::{Dialect, Kind, Reason, is_fit};
 
 /// What comes after a text.
@@ -62,7 +63,8 @@ pub(crate) fn first_look(
     None
 }
 
-/// The same by the states, of a text within the limit. What is kept of its token is not looked at again, and what was seen of it is kept.
+/// The same of a text within the limit: a string as far as it can be read, and what else there is by the states. What is kept of its token is not
+/// looked at again, and what was seen of it is kept.
 pub(crate) fn look_at(
     dialect: Dialect,
     text: &str,
@@ -72,7 +74,27 @@ pub(crate) fn look_at(
 ) -> Look
     requires walked { Walked dialect text.now walk.old }
     requires no_names { HasNoNames dialect text.now no_names.old }
-    ensures look { (limit : ℕ) → over dialect limit (chars text.now) ≡ false → IsLook result (step dialect limit (tail_after tail) (chars text.now)) (chars text.now) }
+    ensures look { IsLookWithin dialect (tail_after tail) result (chars text.now) }
+    ensures walked { Walked dialect text.now walk.new }
+    ensures no_names { HasNoNames dialect text.now no_names.new }
+{
+    if let Some(len) = string_len(dialect, text, walk) {
+        return Look::Token(len, Kind::ShortString);
+    }
+    state_look(dialect, text, tail, walk, no_names)
+}
+
+/// The same by the states.
+fn state_look(
+    dialect: Dialect,
+    text: &str,
+    tail: Tail,
+    walk: &mut Option<Walk>,
+    no_names: &mut Option<NoNames>,
+) -> Look
+    requires walked { Walked dialect text.now walk.old }
+    requires no_names { HasNoNames dialect text.now no_names.old }
+    ensures look { IsLookWithin dialect (tail_after tail) result (chars text.now) }
     ensures walked { Walked dialect text.now walk.new }
     ensures no_names { HasNoNames dialect text.now no_names.new }
 {

@@ -89,7 +89,7 @@ fn begins_iri(bytes: &[u8]) -> bool
 
 /// Whether a byte stands at a place.
 #[inline(always)]
-fn stands_at(byte: u8, bytes: &[u8], at: usize) -> bool
+pub(crate) fn stands_at(byte: u8, bytes: &[u8], at: usize) -> bool
     ensures { result ≡ stands_at byte bytes.now at }
 {
     at < bytes.len() && bytes[at] == byte
@@ -114,7 +114,7 @@ fn quick_iri(text: &str) -> Quick
 
 /// The byte of a quote.
 #[inline(always)]
-fn quote_byte(quote: Quote) -> u8
+pub(crate) fn quote_byte(quote: Quote) -> u8
     ensures { result ≡ quote_byte quote }
 {
     match quote {
@@ -125,7 +125,7 @@ fn quote_byte(quote: Quote) -> u8
 
 /// Whether this quote comes first. The line formats have the double one alone.
 #[inline(always)]
-fn opens_with(dialect: Dialect, quote: Quote, bytes: &[u8]) -> bool
+pub(crate) fn opens_with(dialect: Dialect, quote: Quote, bytes: &[u8]) -> bool
     ensures { result ≡ opens_with dialect quote bytes.now }
 {
     let is_quote = match quote {
@@ -137,7 +137,7 @@ fn opens_with(dialect: Dialect, quote: Quote, bytes: &[u8]) -> bool
 
 /// Whether a byte of ASCII comes second that stands in strings as it is.
 #[inline(always)]
-fn begins_string(bytes: &[u8]) -> bool
+pub(crate) fn begins_string(bytes: &[u8]) -> bool
     ensures { result ≡ begins_string bytes.now }
 {
     bytes.len() > 1 && is_plain(bytes[1])

@@ -1,0 +1,161 @@
+-- Plain bytes and whole escapes of a string have a meaning, whatever text comes after them.
+use Rattle.std.proofs.Common.{◌≡◌, ℕ, ◌+◌, ◌-◌, ◌<◌, ◌≤◌, Bool, true, false, List, [], ◌∷◌, ◌++◌, inl, inr, is_some, get_or, take, drop, refl, ap, ◌∙◌, subst, arith, ⊎_elim, append_assoc, length, length-drop}
+use Rattle.std.specs.Prelude.{slice_range}
+use Rattle.std.proofs.lemmas.Bool.{and_from, and_parts, false≢true}
+use Rattle.std.proofs.lemmas.Bool.Decides.{nat_tests}
+use Rattle.std.proofs.lemmas.List.{get_or-drop, get_or-take, length-take-le}
+use Rattle.std.proofs.lemmas.List.Folds.{drop_split}
+use Rattle.std.proofs.Math.Seq.{take-append-add}
+use Rattle.rdf_terms.specs.Classes.{has}
+use Rattle.rdf_terms.specs.Classes.Class.{hex_digit}
+use Rattle.rdf_terms.specs.Pieces.{IsNumberEscape, hex_number}
+use Rattle.rdf_terms.specs.Runs.{IsRun, PassBetween, is_text_byte, is_unescaped}
+use Rattle.rdf_terms.specs.Terms.{all_have}
+use Rattle.rdf_terms.specs.Values.{of_string, slash, Move, means, move, go, value, string_value}
+use Rattle.rdf_terms.proofs.EscapesLemmas.{is_some-map, slice_passes, value_stands}
+use Rattle.rdf_terms.proofs.PiecesLemmas.{number_escape-takes}
+use Rattle.rdf_tokens.specs.Escapes.{is_hex, is_letter, IsEchar, IsNumber, IsUchar, FitsInString}
+use Rattle.rdf_tokens.proofs.EscapeNumbers.{digits-hex, digits-length}
+use Rattle.rdf_tokens.proofs.RestEscapes.{letter_below, implied, uchar_from}
+
+-- the bytes between two places, cut at one between them
+slice-split : (bs : List ℕ) (at mid end : ℕ) → at ≤ mid → mid ≤ end → mid ≤ length bs → slice_range bs at end ≡ slice_range bs at mid ++ slice_range bs mid end
+slice-split bs at mid end l m h =
+    let first = slice_range bs at mid in
+    let long : length first ≡ mid - at = length-take-le (mid - at) (drop at bs) (omega (arith, length-drop at bs)) in
+    let sum : end - at ≡ length first + (end - mid) = omega (arith, long) in
+    ap (take (end - at)) (drop_split bs at mid l) ∙ (ap (λ n. take n (first ++ drop mid bs)) sum ∙ take-append-add first (drop mid bs) (end - mid))
+
+-- one more piece of a string
+pub fits-more : (bs : List ℕ) (at mid end : ℕ) → FitsInString bs at mid → FitsInString bs mid end → FitsInString bs at end
+fits-more bs at mid end a b = record {
+  from = omega (arith, a.from, b.from);
+  within = b.within;
+  value = λ w.
+      let first = slice_range bs at mid in
+      let second = slice_range bs mid end in
+      ap (λ p. is_some (string_value (p ++ w))) (slice-split bs at mid end a.from b.from a.within)
+      ∙ (ap (λ p. is_some (string_value p)) (append_assoc first second w) ∙ (a.value (second ++ w) ∙ b.value w));
+}
+
+-- a plain byte is no backslash
+pub text_unescaped : (b : ℕ) → is_text_byte b ≡ true → is_unescaped b ≡ true
+text_unescaped b e = grind (arith, nat_tests)
+
+-- bytes without a backslash
+pub fits_unescaped : (bs : List ℕ) (at end : ℕ) → at ≤ end → end ≤ length bs → PassBetween is_unescaped bs at end → FitsInString bs at end
+fits_unescaped bs at end from within pass = record {
+  from = from;
+  within = within;
+  value = λ w.
+      let p = slice_range bs at end in
+      let all : all_have is_unescaped p ≡ true = slice_passes is_unescaped bs at (end - at) (omega arith) (λ k a b. pass k a (omega arith)) in
+      ap is_some (value_stands of_string p w all) ∙ is_some-map (λ v. p ++ v) (string_value w);
+}
+
+-- plain bytes
+pub fits_run : (bs : List ℕ) (at end : ℕ) → IsRun is_text_byte bs at end → FitsInString bs at end
+fits_run bs at end r = fits_unescaped bs at end r.from r.within (λ k a b. text_unescaped (get_or bs k 0) (r.pass k a b))
+
+-- one byte
+pub fits_byte : (bs : List ℕ) (at : ℕ) → at < length bs → is_unescaped (get_or bs at 0) ≡ true → FitsInString bs at (at + 1)
+fits_byte bs at l e =
+    fits_unescaped bs at (at + 1) (omega arith) (omega arith) (λ k a b. let same : at ≡ k = omega arith in subst (λ k. is_unescaped (get_or bs k 0) ≡ true) same e)
+
+-- none
+pub fits_none : (bs : List ℕ) (at : ℕ) → at ≤ length bs → FitsInString bs at at
+fits_none bs at l = fits_unescaped bs at at (omega arith) l (λ k a b. absurd (omega arith))
+
+-- the move means a character
+abbrev is_means : Move → Bool
+is_means (means c) = true
+is_means m = false
+
+-- that character
+meant : (m : Move) → is_means m ≡ true → (c : ℕ) × (m ≡ means c)
+meant (means c) e = (c, refl)
+meant m e = absurd (false≢true e)
+
+-- a letter of ECHAR means one after its backslash
+letter_meant : (l : ℕ) → is_letter l ≡ true → (c : ℕ) × (move of_string slash l ≡ means c)
+letter_meant l h = meant (move of_string slash l) (implied is_letter (λ c. is_means (move of_string slash c)) refl l (letter_below l h) h)
+
+-- so a backslash and the letter do, whatever comes after them
+letter_value : (l : ℕ) (w : List ℕ) → is_letter l ≡ true → is_some (string_value (92 ∷ l ∷ w)) ≡ is_some (string_value w)
+letter_value l w h =
+    let m = letter_meant l h in
+    ap (λ m. is_some (go m (λ t. value of_string t w))) m.1 ∙ is_some-map (λ v. m.0 ∷ v) (string_value w)
+
+-- two bytes
+two : (p : List ℕ) → length p ≡ 2 → p ≡ get_or p 0 0 ∷ get_or p 1 0 ∷ []
+two [] e = absurd (omega arith)
+two (x ∷ []) e = absurd (omega arith)
+two (x ∷ y ∷ []) e = refl
+two (x ∷ y ∷ z ∷ p) e = absurd (omega arith)
+
+-- the two bytes at a place
+two-at : (bs : List ℕ) (at end a b : ℕ) → end ≡ at + 2 → end ≤ length bs → get_or bs at 0 ≡ a → get_or bs (at + 1) 0 ≡ b → slice_range bs at end ≡ a ∷ b ∷ []
+two-at bs at end a b e l x y =
+    let p = slice_range bs at end in
+    let n : end - at ≡ 2 = omega arith in
+    let zero : at + 0 ≡ at = omega arith in
+    let long : length p ≡ 2 = length-take-le (end - at) (drop at bs) (omega (arith, length-drop at bs)) ∙ n in
+    let first : get_or p 0 0 ≡ a = get_or-take (end - at) (drop at bs) 0 0 (omega arith) ∙ (get_or-drop at bs 0 0 ∙ (ap (λ k. get_or bs k 0) zero ∙ x)) in
+    let second : get_or p 1 0 ≡ b = get_or-take (end - at) (drop at bs) 1 0 (omega arith) ∙ (get_or-drop at bs 1 0 ∙ y) in
+    two p long ∙ (ap (λ c. c ∷ get_or p 1 0 ∷ []) first ∙ ap (λ c. a ∷ c ∷ []) second)
+
+-- an ECHAR
+pub fits_echar : (bs : List ℕ) (at end : ℕ) → IsEchar bs at end → FitsInString bs at end
+fits_echar bs at end e = record {
+  from = omega (arith, e.ends);
+  within = e.within;
+  value = λ w.
+      let l = get_or bs (at + 1) 0 in
+      ap (λ p. is_some (string_value (p ++ w))) (two-at bs at end 92 l e.ends e.within e.slash refl) ∙ letter_value l w e.letter;
+}
+
+-- a hex digit is one of the grammar's
+has_hex : (c : ℕ) → is_hex c ≡ true → has hex_digit c ≡ true
+unfolding has
+has_hex c h = grind (arith, nat_tests)
+
+-- hex digits are
+have_hex : (w : List ℕ) → all_have is_hex w ≡ true → all_have (has hex_digit) w ≡ true
+have_hex [] h = refl
+have_hex (c ∷ w) h = let p = and_parts (is_hex c) (all_have is_hex w) h in and_from (has hex_digit c) _ (has_hex c p.0) (have_hex w p.1)
+
+-- what is an escape by number
+number_value : (piece : List ℕ) (c : ℕ) (w : List ℕ) → IsNumberEscape of_string piece c → is_some (string_value (piece ++ w)) ≡ is_some (string_value w)
+number_value piece c w h = ap is_some (number_escape-takes of_string piece c h w) ∙ is_some-map (λ v. c ∷ v) (string_value w)
+
+-- a backslash, a letter, and digits
+escape-at : (bs : List ℕ) (at count end a b : ℕ) → get_or bs at 0 ≡ a → get_or bs (at + 1) 0 ≡ b → IsNumber bs (at + 2) count end →
+    slice_range bs at end ≡ a ∷ b ∷ take count (drop (at + 2) bs)
+escape-at bs at count end a b x y n =
+    let e = n.hexes.ends in
+    let l = n.hexes.within in
+    let count_is : end - (at + 2) ≡ count = omega arith in
+    slice-split bs at (at + 2) end (omega arith) (omega arith) (omega arith)
+    ∙ (ap (λ p. p ++ slice_range bs (at + 2) end) (two-at bs at (at + 2) a b refl (omega arith) x y)
+    ∙ ap (λ k. a ∷ b ∷ take k (drop (at + 2) bs)) count_is)
+
+-- a UCHAR
+pub fits_uchar : (bs : List ℕ) (at end : ℕ) → IsUchar bs at end → FitsInString bs at end
+fits_uchar bs at end u = record {
+  from = let l = (uchar_from bs at end u).0 in omega arith;
+  within = (uchar_from bs at end u).1;
+  value = λ w. ⊎_elim
+      (λ g.
+      let hexes = take 4 (drop (at + 2) bs) in
+      let n = g.1 in
+      ap (λ p. is_some (string_value (p ++ w))) (escape-at bs at 4 end 92 117 u.slash g.0 n)
+      ∙ number_value (92 ∷ 117 ∷ hexes) (hex_number hexes) w
+      (hexes, inl (refl, digits-length bs (at + 2) 4 end n.hexes), have_hex hexes (digits-hex bs (at + 2) 4 end n.hexes), refl, n.character, tt))
+      (λ g.
+      let hexes = take 8 (drop (at + 2) bs) in
+      let n = g.1 in
+      ap (λ p. is_some (string_value (p ++ w))) (escape-at bs at 8 end 92 85 u.slash g.0 n)
+      ∙ number_value (92 ∷ 85 ∷ hexes) (hex_number hexes) w
+      (hexes, inr (refl, digits-length bs (at + 2) 8 end n.hexes), have_hex hexes (digits-hex bs (at + 2) 8 end n.hexes), refl, n.character, tt))
+      u.digits;
+}

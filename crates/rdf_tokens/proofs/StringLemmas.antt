@@ -1,0 +1,164 @@
+-- Strings with one quote at each end: how the states come to a place inside them, and what stands before it means.
+use Rattle.std.proofs.Common.{◌≡◌, ℕ, ◌+◌, ◌-◌, ◌<◌, ◌≤◌, true, false, not, ◌==◌, nat_lt, List, ◌++◌, refl, sym, ap, ◌∙◌, subst, arith, ⊎_elim, length, get_or, drop, IsUtf8, None, encode_utf8}
+use Rattle.std.specs.Char.{len_utf8}
+use Rattle.std.specs.Str.{chars}
+use Rattle.std.proofs.lemmas.Bool.{and_parts, cases_lt, cond-false, eqb-true, le-ltb, leb-true, ltb-true, ne_eqb}
+use Rattle.std.proofs.lemmas.List.{get_or-drop, get_or_append_left}
+use Rattle.std.proofs.lemmas.Str.{encode_ascii, length-encode, len_utf8_bounds}
+use Rattle.rdf_terms.specs.declared.kind.Dialect.{Dialect}
+use Rattle.rdf_terms.specs.declared.kind.Kind.TheVariants.{ShortString}
+use Rattle.rdf_terms.specs.Runs.{is_unescaped}
+use Rattle.rdf_tokens.specs.declared.states.machine.State.TheVariants.{Text}
+use Rattle.rdf_tokens.specs.declared.states.text.Sort.TheVariants as sort
+use Rattle.rdf_tokens.specs.declared.states.text.Text.TheVariants as text
+use Rattle.rdf_tokens.specs.declared.states.text.Quote.{Quote}
+use Rattle.rdf_tokens.specs.declared.states.text.Quote.TheVariants.{Double, Single}
+use Rattle.rdf_tokens.specs.Escapes.{FitsInString}
+use Rattle.rdf_tokens.specs.Front.{Reached}
+use Rattle.rdf_tokens.specs.Machine.{step}
+use Rattle.rdf_tokens.specs.Quick.{IsToken, opens_with, quote_byte, stands_at}
+use Rattle.rdf_tokens.specs.Sorts.{wide_of}
+use Rattle.rdf_tokens.specs.Strings.{IsFirst, IsHighChar, RestsInQuotes, begins_high, other_byte}
+use Rattle.rdf_tokens.specs.Text as strings
+use Rattle.rdf_tokens.specs.Tokens.{three_quotes}
+use Rattle.rdf_tokens.proofs.BlankLemmas.{high-encode}
+use Rattle.rdf_tokens.proofs.FitEscapes.{fits_byte, fits_echar, fits_uchar, fits_unescaped, fits-more}
+use Rattle.rdf_tokens.proofs.NoNamesLemmas.{no_long}
+use Rattle.rdf_tokens.proofs.PlainQuick.{after_plain, after_quote, low_quote, one_quote, plain_fits, plain_second, string_token}
+use Rattle.rdf_tokens.proofs.RestEscapes.{opened_escape, rests_byte, uchar_from}
+use Rattle.rdf_tokens.proofs.RestLemmas.{reached-run}
+use Rattle.rdf_tokens.proofs.StateLemmas.{reached-step}
+
+-- a byte that is a quote of the one kind
+is_other : (q : Quote) (bs : List ℕ) (at : ℕ) → stands_at (other_byte q) bs at ≡ true → (at < length bs) × (get_or bs at 0 ≡ other_byte q)
+is_other q bs at z =
+    let p = and_parts (nat_lt at (length bs)) (get_or bs at 0 == other_byte q) z in
+    (ltb-true at (length bs) p.0, eqb-true (get_or bs at 0) (other_byte q) p.1)
+
+-- it leads back to the state within a string in the other kind
+pub rests_other : (q : Quote) (bs : List ℕ) (at : ℕ) → stands_at (other_byte q) bs at ≡ true → RestsInQuotes q bs at (at + 1)
+rests_other q bs at z =
+    let x = is_other q bs at z in
+    rests_byte q bs at x.0 (subst (λ b. b < 128) (sym x.1) (low q)) (λ d. ap (step d (Text (text.Short q))) x.1 ∙ stays q d)
+  where
+    low : (q : Quote) → other_byte q < 128
+    low Double = omega arith
+    low Single = omega arith
+
+    stays : (q : Quote) (d : Dialect) → step d (Text (text.Short q)) (other_byte q) ≡ Text (text.Short q)
+    stays Double d = refl
+    stays Single d = refl
+
+-- and stands for itself
+pub fits_other : (q : Quote) (bs : List ℕ) (at : ℕ) → stands_at (other_byte q) bs at ≡ true → FitsInString bs at (at + 1)
+fits_other q bs at z = let x = is_other q bs at z in fits_byte bs at x.0 (ap is_unescaped x.1 ∙ plain q)
+  where
+    plain : (q : Quote) → is_unescaped (other_byte q) ≡ true
+    plain Double = refl
+    plain Single = refl
+
+-- a character at the second byte is not of ASCII where that byte is not
+pub high_char : (bs : List ℕ) (end c : ℕ) → begins_high bs ≡ true → drop 1 bs ≡ encode_utf8 c ++ drop end bs → end ≡ 1 + len_utf8 c → end ≤ length bs → IsHighChar bs 1 end
+high_char bs end c h e p w = record { c = c; high = high; is = e; past = p; within = w }
+  where
+    byte : 128 ≤ get_or bs 1 0
+    byte = leb-true 128 (get_or bs 1 0) (and_parts (nat_lt 1 (length bs)) _ h).1
+
+    high : 128 ≤ c
+    high = ⊎_elim
+        (λ (l : c < 128).
+        let same : get_or bs 1 0 ≡ c =
+        sym (get_or-drop 1 bs 0 0) ∙ (ap (λ v. get_or v 0 0) e ∙ ap (λ v. get_or (v ++ drop end bs) 0 0) (encode_ascii c l)) in
+        let b = byte in
+        absurd (omega (arith, same)))
+        (λ l. l)
+        (cases_lt c 128)
+
+-- its bytes mean themselves
+high_fits : (bs : List ℕ) (at end : ℕ) → IsHighChar bs at end → FitsInString bs at end
+high_fits bs at end x = fits_unescaped bs at end (omega (arith, x.past)) x.within (λ k from to.
+    let size = length-encode x.c in
+    let p = x.past in
+    let place : at + (k - at) ≡ k = omega arith in
+    let inside : k - at < length (encode_utf8 x.c) = omega (arith, size) in
+    let byte : get_or bs (at + (k - at)) 0 ≡ get_or (encode_utf8 x.c) (k - at) 0 =
+    sym (get_or-drop at bs (k - at) 0) ∙ (ap (λ v. get_or v (k - at) 0) x.is ∙ get_or_append_left (encode_utf8 x.c) (drop end bs) 0 (k - at) inside) in
+    let high = high-encode x.c x.high (k - at) inside in
+    ap not (ne_eqb (get_or bs k 0) 92 (λ e. omega (arith, e, high, byte, ap (λ j. get_or bs j 0) place))))
+
+-- after the first quote it leads into the string
+high_step : (d : Dialect) (q : Quote) (c : ℕ) → 128 ≤ c → step d (Text (text.Opened q)) c ≡ Text (text.Short q)
+high_step d q c l =
+    ap (λ x. Text (strings.move d (text.Opened q) x)) (cond-false (nat_lt c 128) (strings.ascii c) (strings.high (wide_of c)) (le-ltb c 128 l)) ∙ plain q
+  where
+    plain : (q : Quote) → Text (strings.move d (text.Opened q) sort.Plain) ≡ Text (text.Short q)
+    plain Double = refl
+    plain Single = refl
+
+-- what stands after the first quote ends within the text
+pub first_within : (bs : List ℕ) (end : ℕ) → IsFirst bs end → (2 ≤ end) × (end ≤ length bs)
+first_within bs end f = ⊎_elim
+    (λ x. let l : 1 < length bs = ltb-true 1 (length bs) (and_parts (nat_lt 1 (length bs)) _ x.0).0 in let e = x.1 in (omega arith, omega arith))
+    (λ x. ⊎_elim
+    (λ y. (omega (arith, y.past, len_utf8_bounds y.c), y.within))
+    (λ y. ⊎_elim
+    (λ z. (omega (arith, z.ends), z.within))
+    (λ z. let l = uchar_from bs 1 end z in let m = l.0 in (omega arith, l.1))
+    y)
+    x)
+    f
+
+-- A quote of the dialect comes first, and then what can stand in a string.
+module _ (d : Dialect) (q : Quote) (bs : List ℕ) (u : IsUtf8 bs) (o : opens_with d q bs ≡ true) (first : ℕ) (f : IsFirst bs first) where
+  -- the second byte is no quote
+  second : (get_or bs 1 0 == quote_byte q) ≡ false
+  second = ⊎_elim
+      (λ x. (plain_second d q bs u o x.0).2)
+      (λ x. ⊎_elim
+      (λ y. let l = first_byte y in ne_eqb (get_or bs 1 0) (quote_byte q) (λ e. let b = low_quote q in omega (arith, e)))
+      (λ y. ap (λ b. b == quote_byte q) (⊎_elim (λ z. z.slash) (λ z. z.slash) y) ∙ no_quote q)
+      x)
+      f
+    where
+      no_quote : (q : Quote) → (92 == quote_byte q) ≡ false
+      no_quote Double = refl
+      no_quote Single = refl
+
+      first_byte : IsHighChar bs 1 first → 128 ≤ get_or bs 1 0
+      first_byte y =
+          let size = length-encode y.c in
+          let bound = len_utf8_bounds y.c in
+          let inside : 0 < length (encode_utf8 y.c) = omega arith in
+          let byte : get_or bs 1 0 ≡ get_or (encode_utf8 y.c) 0 0 =
+          sym (get_or-drop 1 bs 0 0) ∙ (ap (λ v. get_or v 0 0) y.is ∙ get_or_append_left (encode_utf8 y.c) (drop first bs) 0 0 inside) in
+          let high = high-encode y.c y.high 0 inside in
+          omega (arith, byte)
+
+  one : three_quotes d (chars bs) ≡ false
+  one = let l = first_within bs first f in let a = l.0 in let b = l.1 in one_quote d q bs u o (omega arith) second
+
+  -- the states after it
+  first_on : Reached d bs first (Text (text.Short q)) None
+  first_on = ⊎_elim
+      (λ x. subst (λ n. Reached d bs n (Text (text.Short q)) None) (sym x.1) (after_plain d q bs u o x.0))
+      (λ x. ⊎_elim
+      (λ y. reached-step d bs 1 first y.c (Text (text.Opened q)) (Text (text.Short q)) None None None (after_quote d q bs u o) y.is y.past y.within
+      (sym (high_step d q y.c y.high)) (sym (no_long (three_quotes d (chars bs)))) refl)
+      (λ y. opened_escape d q bs 1 first None y (after_quote d q bs u o))
+      x)
+      f
+
+  -- it has a meaning
+  first_fits : FitsInString bs 1 first
+  first_fits = ⊎_elim
+      (λ x. subst (FitsInString bs 1) (sym x.1) (plain_fits d q bs u o x.0))
+      (λ x. ⊎_elim (λ y. high_fits bs 1 first y) (λ y. ⊎_elim (λ z. fits_echar bs 1 first z) (λ z. fits_uchar bs 1 first z) y) x)
+      f
+
+  -- the states within the string
+  pub string_reached : (end : ℕ) → RestsInQuotes q bs first end → Reached d bs end (Text (text.Short q)) None
+  string_reached end r = reached-run d bs first end (Text (text.Short q)) None None (sym (no_long (three_quotes d (chars bs)))) r first_on
+
+  -- the string, up to its second quote
+  pub string_whole : (end : ℕ) → RestsInQuotes q bs first end → FitsInString bs first end → stands_at (quote_byte q) bs end ≡ true → IsToken d bs (end + 1) ShortString
+  string_whole end r g z = string_token d q bs u o end one (fits-more bs 1 first end first_fits g) z (string_reached end r)

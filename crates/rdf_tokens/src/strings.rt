@@ -1,0 +1,120 @@
+// Strings with one quote at each end, read without the states.
+
+ghost use Rattle.std.specs.Prelude.{◌≡◌, ◌≤◌, ◌<◌, true, length, drop, IfSome, IsUtf8};
+ghost use Rattle.rdf_terms.specs.declared.kind.Kind.TheVariants.{ShortString};
+ghost use Rattle.rdf_tokens.specs.Escapes.{FitsInString};
+ghost use Rattle.rdf_tokens.specs.Quick.{IsToken, opens_with};
+ghost use Rattle.rdf_tokens.specs.Strings.{begins_high, other_byte, IsFirst, RestsInQuotes};
+ghost use Rattle.rdf_tokens.specs.Walk.{Walked};
+
+use crate::bytes::char_at;
+use crate::escapes::{is_echar, string_end, uchar_end};
+use crate::front::{Walk, string_walk};
+use crate::quick::{begins_string, opens_with, quote_byte, stands_at};
+use crate::states::text::Quote;
+use rdf_terms::Dialect;
+
+/// The length of the string that the text begins with, where it stands there whole, and no escape of it is bad. Of one that goes on it is kept how far
+/// it came, and where that was done no string is looked for.
+#[inline(always)]
+pub(crate) fn string_len(dialect: Dialect, text: &str, walk: &mut Option<Walk>) -> Option<usize>
+    requires { Walked dialect text.now walk.old }
+    ensures token { IfSome result (λ len. IsToken dialect text.now len ShortString) }
+    ensures walked { Walked dialect text.now walk.new }
+{
+    if walk.is_some() {
+        return None;
+    }
+    match quote_of(dialect, text.as_bytes()) {
+        Some(quote) => quoted_len(dialect, quote, text, walk),
+        None => None,
+    }
+}
+
+/// The quote that comes first.
+#[inline(always)]
+fn quote_of(dialect: Dialect, bytes: &[u8]) -> Option<Quote>
+    ensures { IfSome result (λ quote. opens_with dialect quote bytes.now ≡ true) }
+{
+    if opens_with(dialect, Quote::Double, bytes) {
+        Some(Quote::Double)
+    } else if opens_with(dialect, Quote::Single, bytes) {
+        Some(Quote::Single)
+    } else {
+        None
+    }
+}
+
+#[inline(never)]
+fn quoted_len(dialect: Dialect, quote: Quote, text: &str, walk: &mut Option<Walk>) -> Option<usize>
+    requires opens { opens_with dialect quote text.now ≡ true }
+    requires walked { Walked dialect text.now walk.old }
+    ensures token { IfSome result (λ len. IsToken dialect text.now len ShortString) }
+    ensures walked { Walked dialect text.now walk.new }
+{
+    let bytes = text.as_bytes();
+    let Some(first) = first_end(text) else {
+        return None;
+    };
+    let end = inside_end(quote, bytes, first);
+    if stands_at(quote_byte(quote), bytes, end) {
+        return Some(end + 1);
+    }
+    if end >= 3 {
+        *walk = Some(string_walk(dialect, quote, text, end));
+    }
+    None
+}
+
+/// Where the first character or escape of a string ends, if it can stand there.
+#[inline(always)]
+fn first_end(text: &str) -> Option<usize>
+    requires some { 0 < length text.now }
+    requires utf8 { IsUtf8 (drop 1 text.now) }
+    ensures { IfSome result (λ end. IsFirst text.now end) }
+{
+    let bytes = text.as_bytes();
+    if begins_string(bytes) {
+        return Some(2);
+    }
+    if begins_high(bytes) {
+        return Some(char_at(text, 1).1);
+    }
+    if is_echar(bytes, 1) {
+        return Some(3);
+    }
+    uchar_end(bytes, 1)
+}
+
+/// Whether the second byte is not of ASCII.
+#[inline(always)]
+fn begins_high(bytes: &[u8]) -> bool
+    ensures { result ≡ begins_high bytes.now }
+{
+    bytes.len() > 1 && bytes[1] >= 128
+}
+
+/// The place after what stands inside a string from a place on, the other quote too.
+#[inline(always)]
+fn inside_end(quote: Quote, bytes: &[u8], from: usize) -> usize
+    requires { from ≤ length bytes.now }
+    ensures rests { RestsInQuotes quote bytes.now from result }
+    ensures fits { FitsInString bytes.now from result }
+{
+    let other = other_byte(quote);
+    let mut at = string_end(bytes, from);
+    while stands_at(other, bytes, at) {
+        at = string_end(bytes, at + 1);
+    }
+    at
+}
+
+#[inline(always)]
+fn other_byte(quote: Quote) -> u8
+    ensures { result ≡ other_byte quote }
+{
+    match quote {
+        Quote::Double => b'\'',
+        Quote::Single => b'"',
+    }
+}
