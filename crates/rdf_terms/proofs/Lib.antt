@@ -19,3 +19,4 @@ pub mod IriBytes
 pub mod RunsLemmas
 pub mod PlainTokens
 pub mod SchemeLemmas
+pub mod SpelledLemmas
