@@ -2,7 +2,7 @@
 use Rattle.std.proofs.Common.{◌≡◌, ◌≢◌, ℕ, ◌*◌, ◌≤◌, true, false, List, [], ◌∷◌, ◌++◌, ◌==◌, length, drop, Option, Some, None, option_map, inl, inr, refl, sym, ap, ◌∙◌, subst, ⊎_elim, arith, encode_utf8}
 use Rattle.std.specs.Str.{chars, IsUtf8, encode_utf8_all}
 use Rattle.std.proofs.lemmas.Bool.{cases_Bool, cond-true, cond-false, and_parts, and_from}
-use Rattle.std.proofs.lemmas.Str.{encodes-chars, chars-encodes, scalars-chars, len_utf8_bounds, length-encode}
+use Rattle.std.proofs.lemmas.Str.{encodes-chars, chars-encodes, scalars-chars}
 use Rattle.std.proofs.lemmas.List.{append_cancel_right, length-append}
 use lib.Utf8.{scalar, scalars}
 use Rattle.rdf_terms.specs.declared.kind.Dialect.TheVariants.{Turtle}
@@ -147,11 +147,6 @@ one_binding text p i q j a b =
 pub no_empty_binding : (text p i : List ℕ) → text ≡ [] → IsBinding text p i → ⊥
 unfolding chars
 no_empty_binding text p i e b = absurd (let k = (binding_cuts text p i b).back in let l : after 32 (chars text) ≡ None = ap (λ x. after 32 (chars x)) e in cc)
-
--- a character has at most four bytes
-pub few_bytes : (w : List ℕ) → length (encode_utf8_all w) ≤ 4 * length w
-few_bytes [] = omega arith
-few_bytes (c ∷ w) = let a = len_utf8_bounds c in let r = few_bytes w in omega (arith, length-append (encode_utf8 c) (encode_utf8_all w), length-encode c, a.1, r)
 
 -- what stands after a character, by what begins with it
 pub after-from : (c : ℕ) (w : List ℕ) (d : ℕ) (v : List ℕ) → from c w ≡ d ∷ v → after c w ≡ Some v

@@ -3,12 +3,8 @@ use Rattle.std.proofs.Common.{◌≡◌, ℕ, ◌*◌, ◌≤◌, List, length, 
 use Rattle.std.proofs.lemmas.List.{length-drop}
 use Rattle.std.specs.Str.{chars}
 use Rattle.rdf_iri.specs.Texts.{byte_len}
-use Rattle.rdf_iri.proofs.BindingLemmas.{few_bytes}
+use Rattle.rdf_terms.proofs.CharsLemmas.{few_bytes}
 use Rattle.rdf_iri.proofs.ResolvedText.{byte_len-chars}
-
--- a text has the bytes of its characters
-pub text_bytes : (w v : List ℕ) → IsUtf8 w → chars w ≡ v → length w ≡ byte_len v
-text_bytes w v u e = sym (byte_len-chars w u) ∙ ap byte_len e
 
 -- what is left of a token without some characters at its front has at most four bytes for each of the token's
 pub rest_bytes : (n : ℕ) (w v : List ℕ) → v ≡ drop n w → byte_len v ≤ 4 * length w

@@ -28,7 +28,8 @@ use Rattle.rdf_lines.specs.Lines as L
 use Rattle.rdf_lines.specs.Writing.{CanWriteSubject, CanWriteTerm, CanWriteGraph, CanWrite, Writable}
 use Rattle.rdf_lines.specs.Laws.{DocumentIsWritable}
 use Rattle.rdf_lines.proofs.LinesLemmas.{without_marks}
-use Rattle.rdf_lines.proofs.SpelledLemmas.{is_iri, label_in, tag_in}
+use Rattle.rdf_terms.proofs.SpelledLemmas.{label_in, tag_in}
+use Rattle.rdf_lines.proofs.SpelledLemmas.{is_iri}
 use Rattle.rdf_lines.proofs.WrittenText.{uses_scalar}
 
 -- each element of a list that a law speaks of
@@ -153,14 +154,14 @@ string_formed l g = string_scalars (shape Lines ShortString) 1 l.text (shaped Sh
 -- a subject means one that is well formed
 name_formed : (x : Name) → name_bound has_scheme x → AllTokens (name_tokens x) → IsSubject (subject_of x) × CanWriteSubject Kept (subject_of x)
 name_formed (Ref l) b g = (absolute_iri l.text b, tt)
-name_formed (Lab l) b g = (label_in l.text (shaped LabelNode l (λ e. let z : LabelNode ≡ End = e in cc) g.0), tt)
+name_formed (Lab l) b g = (label_in Lines l.text (shaped LabelNode l (λ e. let z : LabelNode ≡ End = e in cc) g.0), tt)
 
 -- an object means one that is well formed
 object_formed : (x : Object) → object_bound has_scheme x → AllTokens (object_tokens x) → IsTerm (term_of x) × CanWriteTerm Kept (term_of x)
 object_formed (Named x) b g = name_formed x b g
 object_formed (Plain l) b g = ((string_formed l g.0, xsd_string_is), tt)
 object_formed (WithType l k i) b g = ((string_formed l g.0, absolute_iri i.text b), tt)
-object_formed (WithTag l t) b g = ((string_formed l g.0, tag_in t.text (shaped LangTag t (λ e. let z : LangTag ≡ End = e in cc) g.1.0)), tt)
+object_formed (WithTag l t) b g = ((string_formed l g.0, tag_in Lines t.text (shaped LangTag t (λ e. let z : LangTag ≡ End = e in cc) g.1.0)), tt)
 
 -- a graph label means one that is well formed
 graph_formed : (x : Option Name) → graph_bound has_scheme x → AllTokens (graph_tokens x) →

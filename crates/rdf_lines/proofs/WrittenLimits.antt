@@ -14,6 +14,7 @@ use Rattle.rdf_terms.specs.declared.kind.Dialect.TheVariants.{Lines}
 use Rattle.rdf_terms.specs.declared.kind.Kind.TheVariants.{IriRef, LabelNode, ShortString, LangTag, Dot, LineEnd, End}
 use Rattle.rdf_terms.specs.Values.{EscapeState, outside, slash, digits, Move, leads, means, fails, of_string, move, go, value, string_value, inside}
 use Rattle.rdf_terms.specs.Terms.{Quad, xsd_string}
+use Rattle.rdf_terms.proofs.SpelledLemmas.{string_short}
 use Rattle.rdf_iri.specs.Texts.{byte_len}
 use Rattle.rdf_tokens.specs.Tokens.{Token}
 use Rattle.rdf_tokens.specs.Good.{tokens_of}
@@ -35,39 +36,6 @@ use Rattle.rdf_lines.proofs.UcharLemmas.{written_cases, uchar_cases}
 use Rattle.rdf_lines.proofs.AcceptedLemmas.{text_read}
 use Rattle.rdf_lines.proofs.FormReadBack.{form_text_read}
 use Rattle.rdf_lines.proofs.WellFormed.{split, document_writable}
-
--- a value has no more characters than the text that spells it
-value_short : (s : EscapeState) (w v : List ℕ) → value of_string s w ≡ Some v → length v ≤ length w
-value_short outside [] v e = let h : [] ≡ v = cc in let z = ap length h in omega arith
-value_short slash [] v e = absurd (let h : None ≡ Some v = e in cc)
-value_short (digits k n) [] v e = absurd (let h : None ≡ Some v = e in cc)
-value_short s (c ∷ w) v e = by_move (move of_string s c) (λ t u f. value_short t w u f) v e
-  where
-    head : (c : ℕ) (o : Option (List ℕ)) (v : List ℕ) → option_map (λ u. c ∷ u) o ≡ Some v → (u : List ℕ) × (o ≡ Some u) × (v ≡ c ∷ u)
-    head c None v e = absurd (let h : None ≡ Some v = e in cc)
-    head c (Some u) v e = (u, refl, cc)
-
-    by_move : (m : Move) → ((t : EscapeState) (u : List ℕ) → value of_string t w ≡ Some u → length u ≤ length w) → (v : List ℕ) →
-        go m (λ t. value of_string t w) ≡ Some v → length v ≤ length (c ∷ w)
-    by_move (leads t) h v e = let z = h t v e in omega arith
-    by_move (means d) h v e =
-        let z = head d (value of_string outside w) v e in
-        let l = h outside z.0 z.1 in
-        let s = ap length z.2 in
-        omega arith
-    by_move fails h v e = absurd (let h : None ≡ Some v = e in cc)
-
--- a token without its delimiters is shorter by them
-inside_short : (n : ℕ) (w : List ℕ) → length (inside n w) ≤ length w - n
-inside_short n w = let a = length-take (length w - 2 * n) (drop n w) in let b = length-drop n w in omega (arith, a, b)
-
--- a string is shorter than its token by n characters at least
-pub string_short : (n : ℕ) (w : List ℕ) → length (unwrap_or (string_value (inside n w)) []) ≤ length w - n
-string_short n w = by (string_value (inside n w)) refl
-  where
-    by : (o : Option (List ℕ)) → string_value (inside n w) ≡ o → length (unwrap_or o []) ≤ length w - n
-    by None e = omega arith
-    by (Some v) e = let a = value_short outside (inside n w) v e in let b = inside_short n w in omega arith
 
 -- an escape has ten characters at most
 length-uchar : (c : ℕ) → length (uchar c) ≤ 10

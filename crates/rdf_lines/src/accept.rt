@@ -8,9 +8,8 @@ ghost use Rattle.rdf_lines.specs.States.{mode_of, mode_at, answer, quad_with, Is
 
 use crate::form::LineForm;
 use crate::rules::Rules;
-use crate::spelled::set_string;
 use crate::state::{Mode, ObjectKind, State};
-use rdf_terms::{Kind, PutFault, QuadRef, QuadSink, Reason, SubjectRef};
+use rdf_terms::{Kind, PutFault, QuadRef, QuadSink, Reason, SubjectRef, put_string};
 use rdf_tokens::Token;
 use std::alloc::Allocator;
 
@@ -125,7 +124,7 @@ impl<A: Allocator> State<A> {
                 Ok(Mode::AfterObject(ObjectKind::Named))
             }
             Kind::ShortString => {
-                set_string(&mut self.lexical, token.text)?;
+                put_string(&mut self.lexical, token.text)?;
                 Ok(Mode::AfterString)
             }
             _ => Err(Reason::Unexpected),

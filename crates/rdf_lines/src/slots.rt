@@ -2,6 +2,7 @@
 
 ghost use Rattle.std.specs.Prelude.{◌≡◌, ◌≤◌, ◌*◌, [], length, true, drop, OnOk, IfErr};
 ghost use Rattle.std.specs.Str.{chars};
+ghost use Rattle.rdf_terms.specs.Buffers.{iri_in};
 ghost use Rattle.rdf_terms.specs.Shapes.{Shape};
 ghost use Rattle.rdf_terms.specs.Values as V;
 ghost use Rattle.rdf_terms.specs.Terms.{Subject, Iri, Label, Blank, Lang, Typed, xsd_string};
@@ -9,14 +10,15 @@ ghost use Rattle.rdf_terms.specs.Views.{iri_chars, subject_by, tail_by};
 ghost use Rattle.rdf_iri.specs.Texts.{byte_len};
 ghost use Rattle.rdf_lines.specs.Machine.{is_taken};
 ghost use Rattle.rdf_lines.specs.Slots.{subject_at, tail_at};
-ghost use Rattle.rdf_lines.specs.Spelled.{iri_in, IriRefused};
+ghost use Rattle.rdf_lines.specs.Spelled.{IriRefused};
 ghost use Rattle.rdf_lines.specs.States.{subject_bytes, tail_bytes};
 ghost use Rattle.rdf_lines.specs.declared.slots.SubjectKind.TheVariants as SubjectKind;
 ghost use Rattle.rdf_lines.specs.declared.slots.TailKind.TheVariants as TailKind;
 
-use crate::spelled::{label_of, put_text, set_iri, tag_of};
+use crate::spelled::{set_iri, tag_of};
 use rdf_terms::{
     Dialect, IriView, Kind, Known, LabelView, NodeRef, Reason, SubjectRef, TagView, TailRef, known,
+    label_of, put_text, text_len,
 };
 use std::alloc::{Allocator, Global};
 use std::marker::Model;
@@ -274,11 +276,4 @@ impl<A: Allocator> TailText<A> {
             TailRef::Lang(tag) => text_len(tag.as_str()),
         }
     }
-}
-
-// The bytes of a text, by its characters.
-fn text_len(text: &str) -> u64
-    ensures { result ≡ byte_len (chars text.now) }
-{
-    text.len() as u64
 }

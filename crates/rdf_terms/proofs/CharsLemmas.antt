@@ -1,8 +1,8 @@
 -- The characters of a text, one by one.
-use Rattle.std.proofs.Common.{◌≡◌, ℕ, List, [], ◌∷◌, ◌++◌, length, take, encode_utf8, refl, sym, ap, ◌∙◌, subst, arith}
+use Rattle.std.proofs.Common.{◌≡◌, ◌≤◌, ◌*◌, ℕ, List, [], ◌∷◌, ◌++◌, length, take, encode_utf8, refl, sym, ap, ◌∙◌, subst, arith, length-append}
 use Rattle.std.specs.Str.{chars, IsUtf8, encode_utf8_all}
 use Rattle.std.proofs.Math.Seq.{take-append_seam}
-use Rattle.std.proofs.lemmas.Str.{IsUtf8-past_char, IsUtf8-take, IsCharBoundary-at_seam, chars_past_char, chars-append, chars-nil, encodes-append, encodes-chars}
+use Rattle.std.proofs.lemmas.Str.{IsUtf8-past_char, IsUtf8-take, IsCharBoundary-at_seam, chars_past_char, chars-append, chars-nil, encodes-append, encodes-chars, len_utf8_bounds, length-encode}
 
 -- a text that begins with a character
 pub record Next (bytes rest : List ℕ) (c : ℕ) : Type 0 where
@@ -37,3 +37,8 @@ before_last bytes front c k d u e =
 -- a text whose last character is ASCII ends in its byte
 pub last_char : (bytes v : List ℕ) (c : ℕ) → encode_utf8_all (c ∷ []) ≡ c ∷ [] → IsUtf8 bytes → chars bytes ≡ v ++ c ∷ [] → bytes ≡ encode_utf8_all v ++ c ∷ []
 last_char bytes v c k u e = sym (encodes-chars bytes u) ∙ (ap encode_utf8_all e ∙ (encodes-append v (c ∷ []) ∙ ap (λ x. encode_utf8_all v ++ x) k))
+
+-- a character has at most four bytes
+pub few_bytes : (w : List ℕ) → length (encode_utf8_all w) ≤ 4 * length w
+few_bytes [] = omega arith
+few_bytes (c ∷ w) = let a = len_utf8_bounds c in let r = few_bytes w in omega (arith, length-append (encode_utf8 c) (encode_utf8_all w), length-encode c, a.1, r)

@@ -20,3 +20,4 @@ pub mod RunsLemmas
 pub mod ValueBytes
 pub mod PlainTokens
 pub mod SchemeLemmas
+pub mod SpelledLemmas

@@ -12,6 +12,7 @@ pub mod Known
 pub mod Regex
 pub mod Shapes
 pub mod Values
+pub mod Buffers
 pub mod Escapes
 pub mod Names
 pub mod Local

@@ -1,16 +1,19 @@
 // Labels that own their texts.
 
-ghost use Rattle.std.specs.Prelude.{◌≡◌, ◌↔◌, IfOk, OnOk, Err, true};
-ghost use Rattle.std.specs.Str.{chars};
+ghost use Rattle.std.specs.Prelude.{◌≡◌, ◌↔◌, ◌≤◌, ◌*◌, IfOk, OnOk, Err, true, drop, length};
+ghost use Rattle.std.specs.Str.{chars, encode_utf8_all};
 ghost use Rattle.rdf_terms.specs.Classes.{has};
 ghost use Rattle.rdf_terms.specs.Names.{begins_label};
+ghost use Rattle.rdf_terms.specs.Shapes.{Shape};
 ghost use Rattle.rdf_terms.specs.Terms.{IsLabel};
 ghost use Rattle.rdf_terms.specs.Views.{label_chars};
+ghost use Rattle.rdf_terms.specs.declared.kind.Dialect.{Dialect as AnyDialect};
 
 use crate::classes::is_pn_u;
 use crate::fault::TermFault;
-use crate::kind::Dialect;
+use crate::kind::{Dialect, Kind};
 use crate::names::name_goes_on;
+use crate::values::without_first;
 use crate::views::LabelView;
 use std::alloc::{AllocError, Allocator, Global};
 use std::marker::Model;
@@ -92,4 +95,15 @@ fn begins_label(c: char) -> bool
     ensures { result ≡ begins_label c }
 {
     is_pn_u(c, Dialect::Lines) || matches!(c, '0'..='9')
+}
+
+/// The label of a BLANK_NODE_LABEL. One of Turtle is one of the line formats too.
+#[inline(always)]
+pub fn label_of(text: &str) -> &str
+    requires { (d : AnyDialect) × Shape d Kind.LabelNode (chars text.now) }
+    ensures label { chars result.now ≡ drop 2 (chars text.now) }
+    ensures is_label { IsLabel (chars result.now) }
+    ensures short { length (encode_utf8_all (chars result.now)) ≤ 4 * length (chars text.now) }
+{
+    without_first(without_first(text))
 }

@@ -2,6 +2,7 @@
 //! the tokens that spell them, and the sinks that quads go to.
 #![tactic(auto)]
 
+mod buffers;
 mod classes;
 mod constants;
 mod fault;
@@ -21,6 +22,7 @@ mod terms;
 mod values;
 mod views;
 
+pub use buffers::{put_iri, put_string, put_text, text_len};
 pub use classes::{
     has_scheme, hex_value, iri_text, is_iri_char, is_local_escape, is_pn_base, is_pn_char, is_pn_u,
 };
@@ -28,7 +30,7 @@ pub use constants::Known;
 pub use fault::TermFault;
 pub use iris::Iri;
 pub use kind::{Dialect, Kind};
-pub use labels::{Label, is_label};
+pub use labels::{Label, is_label, label_of};
 pub use list::QuadList;
 pub use local::{is_plain_local, local_value};
 pub use names::is_pname_ns;

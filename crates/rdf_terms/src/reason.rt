@@ -1,5 +1,7 @@
 // Why a document is refused, or why reading stopped.
 
+use std::alloc::AllocError;
+
 /// Why reading stopped.
 #[derive(Clone, Copy, PartialEq, Eq, Debug)]
 pub enum Reason {
@@ -33,4 +35,15 @@ pub enum Reason {
     TooDeep,
     /// The directive would bind one prefix more than may be bound.
     TooManyBindings,
+}
+
+impl From<AllocError> for Reason {
+    ghost use Rattle.std.specs.Prelude.{◌≡◌};
+    ghost use Rattle.rdf_terms.specs.declared.reason.Reason.TheVariants.{Memory};
+
+    ghost from_gives = { λ _ e. e ≡ Memory };
+
+    fn from(_error: AllocError) -> Reason {
+        Reason::Memory
+    }
 }

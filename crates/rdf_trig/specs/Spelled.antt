@@ -4,11 +4,7 @@ use Rattle.rdf_terms.specs.Values.{string_value, inside}
 use Rattle.rdf_terms.specs.declared.kind.Kind.{Kind}
 use Rattle.rdf_terms.specs.declared.kind.Kind.TheVariants.{LangTag, AtBase, AtPrefix}
 
--- the value of a string; it is there, since the token is fit
-abbrev pub short_in : List ℕ → List ℕ
-short_in w = unwrap_or (string_value (inside 1 w)) []
-
--- the same for a string in three quotes at each end
+-- the value of a string in three quotes; it is there, since the token is fit
 abbrev pub long_in : List ℕ → List ℕ
 long_in w = unwrap_or (string_value (inside 3 w)) []
 

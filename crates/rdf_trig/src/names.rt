@@ -18,13 +18,11 @@ ghost use Rattle.rdf_trig.specs.Holding.{NameFits};
 ghost use Rattle.rdf_trig.specs.Scopes.{IsReference, IsPrefixed, MeansLocal, Names, Unnamed, Binding, NotBinding, Based, SameScope, LooksUp, LooksUpNone};
 
 use crate::fault::StepFault;
-use crate::slots::text_len;
 use crate::spelled::parts;
 use crate::state::{Mode, Outer, State};
 use rdf_iri::{IriFault, Scope};
 use rdf_terms::{
-    IriView, Kind, Known, ValueFault, iri_value, is_plain_local, known, local_value, set_iri_value,
-    without_ends,
+    IriView, Kind, Known, ValueFault, is_plain_local, known, local_value, put_iri, text_len,
 };
 use rdf_tokens::Token;
 use std::alloc::{Allocator, Global};
@@ -169,6 +167,7 @@ impl<A: Allocator + Copy> Name<A> {
 }
 
 // Puts the text of an IRIREF, with its escapes replaced, in place of a text.
+#[tactic(auto, using(crate::proofs::code::SpelledLemmas::fit_reference))]
 fn set_reference_text<A: Allocator>(out: &mut String<A>, token: &Token<'_>) -> Result<(), StepFault>
     requires token { IsTurtleToken token.now }
     requires kind { IsReference token.now.kind }
@@ -176,11 +175,8 @@ fn set_reference_text<A: Allocator>(out: &mut String<A>, token: &Token<'_>) -> R
     ensures text { OnOk result (IsIriText (chars (string_bytes out.new))) }
     ensures err { IfErr result (λ r. r ≡ StepFault.Memory) }
 {
-    match set_iri_value(out, without_ends(token.text)) {
-        Ok(()) => Ok(()),
-        Err(ValueFault::BadEscape) => unreachable!(),
-        Err(ValueFault::Memory) => Err(StepFault::Memory),
-    }
+    put_iri(out, token.text)?;
+    Ok(())
 }
 
 // The text of an IRIREF, with its escapes replaced.
@@ -191,11 +187,9 @@ fn reference_text<A: Allocator>(alloc: A, token: &Token<'_>) -> Result<String<A>
     ensures text { IfOk result (λ s. IsIriText (chars (string_bytes s))) }
     ensures err { IfErr result (λ r. r ≡ StepFault.Memory) }
 {
-    match iri_value(alloc, without_ends(token.text)) {
-        Ok(value) => Ok(value),
-        Err(ValueFault::BadEscape) => unreachable!(),
-        Err(ValueFault::Memory) => Err(StepFault::Memory),
-    }
+    let mut text = String::new(alloc);
+    set_reference_text(&mut text, token)?;
+    Ok(text)
 }
 
 // The local part of a name, with its escapes replaced.

@@ -10,9 +10,9 @@ ghost use Rattle.rdf_trig.specs.Holding.{text_bytes, TextFits, NameFits, OpenFit
 use crate::fault::StepFault;
 use crate::form::DocForm;
 use crate::rest::Rest;
-use crate::spelled::{label_of, set_long_string, set_short_string, tag_of};
+use crate::spelled::{set_long_string, tag_of};
 use crate::state::{Held, Mode, State};
-use rdf_terms::{Kind, Known};
+use rdf_terms::{Kind, Known, label_of, put_string};
 use rdf_tokens::Token;
 use std::alloc::Allocator;
 use std::mem;
@@ -38,7 +38,7 @@ impl<A: Allocator + Copy> State<A> {
                 self.hold(rest, Held::Resource);
             }
             Kind::ShortString => {
-                set_short_string(&mut self.text, token.text)?;
+                put_string(&mut self.text, token.text)?;
                 self.wait(rest, Mode::AfterText);
             }
             Kind::LongString => {

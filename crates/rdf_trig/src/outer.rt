@@ -15,9 +15,9 @@ ghost use Rattle.rdf_trig.specs.Holding.{text_bytes, block_bytes, outer_bytes, T
 
 use crate::fault::StepFault;
 use crate::form::DocForm;
-use crate::spelled::{label_of, parts};
+use crate::spelled::parts;
 use crate::state::{Block, Held, Level, Mode, Outer, Spelling, State};
-use rdf_terms::Kind;
+use rdf_terms::{Kind, label_of};
 use rdf_tokens::Token;
 use std::alloc::Allocator;
 

@@ -4,7 +4,6 @@ ghost use Rattle.std.specs.Prelude.{◌≡◌, [], true, Some, None, OnOk, optio
 ghost use Rattle.std.specs.Str.{chars};
 ghost use Rattle.rdf_terms.specs.Terms.{IsLabel, IsTag};
 ghost use Rattle.rdf_terms.specs.Views.{tag_chars, subject_by};
-ghost use Rattle.rdf_iri.specs.Texts.{byte_len};
 ghost use Rattle.rdf_trig.specs.Quads.{named};
 ghost use Rattle.rdf_trig.specs.declared.slots.SubjectKind.TheVariants as SubjectKind;
 ghost use Rattle.rdf_trig.specs.Slots.{topic_at};
@@ -12,7 +11,9 @@ ghost use Rattle.rdf_trig.specs.Machine as M;
 ghost use Rattle.rdf_trig.specs.Owed.{iri_size};
 
 use crate::names::Name;
-use rdf_terms::{IriView, Known, LabelView, NodeRef, SubjectRef, TagView, known};
+use rdf_terms::{
+    IriView, Known, LabelView, NodeRef, SubjectRef, TagView, known, put_text, text_len,
+};
 use std::alloc::{AllocError, Allocator, Global};
 use std::marker::Model;
 
@@ -77,8 +78,7 @@ impl<A: Allocator> Topic<A> {
         ensures { OnOk result (self.new ≡ topic_at SubjectKind.Label (chars label.now)) }
     {
         self.kind = SubjectKind::Nil;
-        self.text.clear();
-        self.text.push_str(label)?;
+        put_text(&mut self.text, label)?;
         self.kind = SubjectKind::Label;
         Ok(())
     }
@@ -179,8 +179,7 @@ impl<A: Allocator> TagText<A> {
         ensures { OnOk result (self.new ≡ Some (chars tag.now)) }
     {
         self.is_some = false;
-        self.text.clear();
-        self.text.push_str(tag)?;
+        put_text(&mut self.text, tag)?;
         self.is_some = true;
         Ok(())
     }
@@ -207,11 +206,4 @@ impl<A: Allocator> TagText<A> {
             0
         }
     }
-}
-
-/// The bytes of a text, by its characters.
-pub fn text_len(text: &str) -> u64
-    ensures { result ≡ byte_len (chars text.now) }
-{
-    text.len() as u64
 }

@@ -1,56 +1,25 @@
 // The texts that tokens spell.
 
-ghost use Rattle.std.specs.Prelude.{◌≡◌, ◌≤◌, ◌*◌, [], true, OnOk, IfErr, length, drop, unwrap_or};
+ghost use Rattle.std.specs.Prelude.{◌≡◌, ◌≤◌, ◌*◌, [], true, OnOk, drop, length, unwrap_or};
 ghost use Rattle.std.specs.Str.{chars};
 ghost use Rattle.std.specs.String.{string_bytes};
-ghost use Rattle.rdf_terms.specs.Shapes.{Shape};
-ghost use Rattle.rdf_terms.specs.Values as V;
-ghost use Rattle.rdf_terms.specs.Terms.{IsLabel, IsTag};
+ghost use Rattle.rdf_terms.specs.Terms.{IsTag};
+ghost use Rattle.rdf_terms.specs.Values.{is_fit};
 ghost use Rattle.rdf_iri.specs.Texts.{before, after};
-ghost use Rattle.rdf_trig.specs.Spelled.{short_in, long_in, SpellsTag};
+ghost use Rattle.rdf_trig.specs.Spelled.{long_in, SpellsTag};
 ghost use Rattle.rdf_trig.specs.States.{leaf, IsTurtleToken};
 
-use crate::fault::StepFault;
-use rdf_terms::{Dialect, Kind, ValueFault, set_string_value, without_ends, without_first};
+use rdf_terms::{Kind, put_string, without_ends, without_first};
 use rdf_tokens::Token;
-use std::alloc::Allocator;
-
-/// Puts the lexical form of a string in quotes in place of a text.
-pub fn set_short_string<A: Allocator>(out: &mut String<A>, text: &str) -> Result<(), StepFault>
-    requires { V.is_fit Kind.ShortString (chars text.now) ≡ true }
-    ensures ok { OnOk result (chars (string_bytes out.new) ≡ short_in (chars text.now)) }
-    ensures fits { OnOk result (length (string_bytes out.new) ≤ 4 * length (chars text.now)) }
-    ensures err { IfErr result (λ r. r ≡ StepFault.Memory) }
-{
-    match set_string_value(out, without_ends(text)) {
-        Ok(()) => Ok(()),
-        Err(ValueFault::BadEscape) => unreachable!(),
-        Err(ValueFault::Memory) => Err(StepFault::Memory),
-    }
-}
+use std::alloc::{AllocError, Allocator};
 
 /// Puts the lexical form of a string in three quotes in place of a text.
-pub fn set_long_string<A: Allocator>(out: &mut String<A>, text: &str) -> Result<(), StepFault>
-    requires { V.is_fit Kind.LongString (chars text.now) ≡ true }
-    ensures ok { OnOk result (chars (string_bytes out.new) ≡ long_in (chars text.now)) }
-    ensures fits { OnOk result (length (string_bytes out.new) ≤ 4 * length (chars text.now)) }
-    ensures err { IfErr result (λ r. r ≡ StepFault.Memory) }
+pub fn set_long_string<A: Allocator>(out: &mut String<A>, text: &str) -> Result<(), AllocError>
+    requires { is_fit Kind.LongString (chars text.now) ≡ true }
+    ensures value { OnOk result (chars (string_bytes out.new) ≡ long_in (chars text.now)) }
+    ensures short { OnOk result (length (string_bytes out.new) ≤ 4 * length (chars text.now)) }
 {
-    match set_string_value(out, without_ends(without_ends(without_ends(text)))) {
-        Ok(()) => Ok(()),
-        Err(ValueFault::BadEscape) => unreachable!(),
-        Err(ValueFault::Memory) => Err(StepFault::Memory),
-    }
-}
-
-/// The label of a BLANK_NODE_LABEL.
-#[inline(always)]
-pub fn label_of(text: &str) -> &str
-    requires { Shape Dialect.Turtle Kind.LabelNode (chars text.now) }
-    ensures label { chars result.now ≡ drop 2 (chars text.now) }
-    ensures is_label { IsLabel (chars result.now) }
-{
-    without_first(without_first(text))
+    put_string(out, without_ends(without_ends(text)))
 }
 
 /// The tag of a LANGTAG, or of a word that is one too.

@@ -9,9 +9,8 @@ ghost use Rattle.rdf_trig.specs.Holding.{TextFits, NameFits, FrameFits, OpenFits
 use crate::fault::StepFault;
 use crate::form::DocForm;
 use crate::rest::Rest;
-use crate::spelled::label_of;
 use crate::state::{Around, Block, Container, Level, Mode, Outer, State};
-use rdf_terms::Kind;
+use rdf_terms::{Kind, label_of};
 use rdf_tokens::Token;
 use std::alloc::Allocator;
 use std::mem;

@@ -12,6 +12,7 @@ use Rattle.rdf_terms.specs.declared.kind.Kind.TheVariants.{IriRef, OpenBracket, 
 use Rattle.rdf_terms.specs.Terms.{Quad}
 use Rattle.rdf_terms.specs.Sinks.{Appends}
 use Rattle.rdf_iri.specs.Limits.{Sizes}
+use Rattle.rdf_terms.proofs.CharsLemmas.{few_bytes}
 use Rattle.rdf_iri.specs.Texts.{byte_len}
 use Rattle.rdf_iri.specs.Scope.{InForce}
 use Rattle.rdf_lines.specs.Lines.{Leaf}
@@ -198,16 +199,7 @@ keeps_moved form s sizes old r k l u t keeps short e d room stack fits =
 
 -- a character has at most four bytes
 pub bytes_at_most : (w : List ℕ) (n : ℕ) → length w ≤ n → byte_len w ≤ 4 * n
-bytes_at_most w n h = let b = by w in omega (arith, b, h)
-  where
-    by : (w : List ℕ) → byte_len w ≤ 4 * length w
-    by [] = omega arith
-    by (c ∷ w) =
-        let one = (len_utf8_bounds c).1 in
-        let size : length (encode c) ≡ len_utf8 c = length-encode c in
-        let all : byte_len (c ∷ w) ≡ length (encode c) + byte_len w = length-append (encode c) (encode_utf8_all w) in
-        let rest = by w in
-        omega (arith, one, size, all, rest)
+bytes_at_most w n h = let b = few_bytes w in omega (arith, b, h)
 
 -- and at least one
 pub bytes_at_least : (w : List ℕ) → length w ≤ byte_len w

@@ -13,7 +13,6 @@ use Rattle.std.proofs.lemmas.Str.{IsUtf8-string_bytes}
 use Rattle.rdf_iri.specs.Texts.{byte_len, before, from}
 use Rattle.rdf_iri.proofs.TextsLemmas.{before-from}
 use Rattle.rdf_iri.proofs.ResolvedText.{byte_len-chars}
-use Rattle.rdf_lines.proofs.WrittenLimits.{string_short}
 use Rattle.rdf_trig.specs.declared.form.DocForm.{DocForm}
 use Rattle.rdf_trig.specs.declared.state.Frame.{Frame}
 use Rattle.rdf_trig.specs.declared.state.Block.TheVariants as block
@@ -36,7 +35,6 @@ use Rattle.rdf_trig.specs.Owed.{iri_size, most_kept}
 use Rattle.rdf_trig.specs.Machine.{Topic}
 use Rattle.rdf_trig.specs.Slots.{topic_at}
 use Rattle.rdf_trig.specs.declared.slots.SubjectKind.TheVariants as kind
-use Rattle.rdf_trig.specs.Spelled.{short_in, long_in}
 use Rattle.rdf_trig.specs.Holding.{level_bytes, open_bytes, frame_bytes, mode_bytes, held_bytes, state_bytes, most_text, TextFits, NameFits, ListFits, FrameFits, OpenFits, Fits}
 use Rattle.rdf_trig.proofs.code.AnswersOfSteps.{bytes_at_most}
 
@@ -55,14 +53,6 @@ string_fits s w h = subst (λ n. n ≤ 4 * length w) (byte_len-chars (string_byt
 -- so too where its characters are known by an equation
 pub spelled_fits : {A : Type 0} (s : String A) (v w : List ℕ) → chars (string_bytes s) ≡ v → length v ≤ length w → length (string_bytes s) ≤ 4 * length w
 spelled_fits s v w e h = string_fits s w (subst (λ u. length u ≤ length w) (sym e) h)
-
--- a string in quotes has no more characters than its token
-pub short_shorter : (w : List ℕ) → length (short_in w) ≤ length w
-short_shorter w = let h = string_short 1 w in omega (arith, h)
-
--- nor has one in three quotes
-pub long_shorter : (w : List ℕ) → length (long_in w) ≤ length w
-long_shorter w = let h = string_short 3 w in omega (arith, h)
 
 -- what stands before a character is no longer than all
 pub before_shorter : (c : ℕ) (w : List ℕ) → length (before c w) ≤ length w

@@ -37,14 +37,15 @@ use Rattle.rdf_lines.specs.declared.form.Style.TheVariants.{Tagged}
 use Rattle.rdf_lines.specs.Laws.{string_width, iri_width}
 use Rattle.rdf_lines.specs.Writing.{uchar, written, escaped, rename_node, node_text, iri_text, string_text}
 use Rattle.rdf_lines.proofs.WellFormed.{matched_scalar, string_scalars}
-use Rattle.rdf_lines.proofs.WrittenLimits.{string_short, written_string, written_iri, string_room, iri_room, token_room}
+use Rattle.rdf_terms.proofs.SpelledLemmas.{label_in, string_short}
+use Rattle.rdf_lines.proofs.WrittenLimits.{written_string, written_iri, string_room, iri_room, token_room}
 use Rattle.rdf_trig.specs.Names.{reference_in, name_in, prefix_of, local_of, with_base, with_binding}
 use Rattle.rdf_trig.specs.Quads.{stated, named, resource, labelled, short_value, long_value, tag_of, typed_literal}
 use Rattle.rdf_trig.specs.Events.{Use, itself, stands, binds}
 use Rattle.rdf_trig.specs.Laws.{HasIris}
 use Rattle.rdf_trig.specs.Spelled.{SpellsTag}
 use Rattle.rdf_trig.proofs.trees.NamesLemmas.{binds_prefix}
-use Rattle.rdf_trig.proofs.code.SpelledLemmas.{label_in, spelled_tag}
+use Rattle.rdf_trig.proofs.code.SpelledLemmas.{spelled_tag}
 
 -- each character of a reference is one that an IRI has
 reference_text : (l : Leaf) → all_have (has iri_char) (iri_of l) ≡ true
@@ -327,7 +328,7 @@ module _ (r : Room) where
       let s = length-drop 2 l.text in
       let z = g.0 in
       let t = token_room r.form r.most r.most_then r.twice in
-      (label_in l.text (shaped LabelNode l (λ x. let z : LabelNode ≡ End = x in cc) g), omega (arith, s, t, r.least))
+      (label_in turtle l.text (shaped LabelNode l (λ x. let z : LabelNode ≡ End = x in cc) g), omega (arith, s, t, r.least))
 
   pub short_fits : (l : Leaf) → Good ShortString l → FitWord (short_value l)
   short_fits l g =

@@ -1,27 +1,32 @@
-use Rattle.std.proofs.Common.{◌≡◌, [], Err, ap, sym, ◌∙◌}
-use Rattle.std.specs.Prelude.{unwrap_or}
+use Rattle.std.proofs.Common.{◌≡◌, ◌≤◌, ◌*◌, ℕ, List, [], ap, sym, subst, length, true, is_some, unwrap_or, ◌∙◌, arith}
 use Rattle.std.specs.Str.{chars}
-use Rattle.rdf_terms.specs.Values as V
+use Rattle.std.specs.String.{string_bytes}
+use Rattle.rdf_terms.specs.Values.{string_value, inside, is_fit}
 use Rattle.rdf_terms.proofs.InsideLemmas.{inside-inside}
-use Rattle.rdf_trig.proofs.code.SpelledLemmas.{fit_long}
-use Rattle.rdf_trig.proofs.code.HoldingLemmas.{spelled_fits, long_shorter}
+use Rattle.rdf_terms.proofs.SpelledLemmas.{inside_short}
+use Rattle.rdf_lines.proofs.WrittenBytesLemmas.{on_ok}
 use Rattle.rdf_trig.proofs.spelled.set_long_string.Goals as goal
 
-pub unreachable-requires : goal.unreachable-requires
-unreachable-requires g c =
-    let none = c.set_string_value.ensures.bad.0 (c.in-Err-BadEscape.is ∙ ap Err c.in-Err-BadEscape.field-0-is) in
-    let at : chars c.without_ends-3.result.now ≡ V.inside 3 (chars c.args.text.now) =
-    c.without_ends-3.ensures ∙ (ap (V.inside 1) (c.without_ends-2.ensures ∙ (ap (V.inside 1) c.without_ends.ensures ∙ inside-inside 1 1 (chars c.args.text.now))) ∙ inside-inside 1 2 (chars c.args.text.now))
-    in
-    fit_long _ c.requires (sym (ap V.string_value at) ∙ none)
+-- two of the three quotes at each end
+two : (a b t : List ℕ) → chars a ≡ inside 1 t → chars b ≡ inside 1 (chars a) → chars b ≡ inside 2 t
+two a b t f g = g ∙ ap (inside 1) f ∙ inside-inside 1 1 t
 
-pub returns-in-Ok-clause-ok : goal.returns-in-Ok-clause-ok
-returns-in-Ok-clause-ok g c =
-    let at : chars c.without_ends-3.result.now ≡ V.inside 3 (chars c.args.text.now) =
-    c.without_ends-3.ensures ∙ (ap (V.inside 1) (c.without_ends-2.ensures ∙ (ap (V.inside 1) c.without_ends.ensures ∙ inside-inside 1 1 (chars c.args.text.now))) ∙ inside-inside 1 2 (chars c.args.text.now))
-    in
-    sym (ap (λ o. unwrap_or o []) (sym (ap V.string_value at) ∙ c.in-Ok.ensures.ok))
+-- and the third
+third : (b t : List ℕ) → chars b ≡ inside 2 t → inside 1 (chars b) ≡ inside 3 t
+third b t e = ap (inside 1) e ∙ inside-inside 1 2 t
 
-pub returns-in-Ok-clause-fits : goal.returns-in-Ok-clause-fits
-returns-in-Ok-clause-fits g c =
-    let w = chars c.args.text.now in spelled_fits c.set_string_value.new.out _ w (returns-in-Ok-clause-ok g c) (long_shorter w)
+pub put_string-requires : goal.put_string-requires
+unfolding is_fit
+put_string-requires g c =
+    let at = third _ _ (two _ _ (chars c.args.text.now) c.without_ends.ensures c.without_ends-2.ensures) in
+    subst (λ w. is_some (string_value w) ≡ true) (sym at) c.requires
+
+pub returns-clause-value : goal.returns-clause-value
+returns-clause-value g c =
+    let at = third _ _ (two _ _ (chars c.args.text.now) c.without_ends.ensures c.without_ends-2.ensures) in
+    on_ok c.put_string.result (λ e. e ∙ ap (λ w. unwrap_or (string_value w) []) at) c.put_string.ensures.value
+
+pub returns-clause-short : goal.returns-clause-short
+returns-clause-short g c =
+    let size = ap length (two _ _ (chars c.args.text.now) c.without_ends.ensures c.without_ends-2.ensures) in
+    on_ok c.put_string.result (λ (h : length (string_bytes c.put_string.new.out) ≤ 4 * length (chars c.without_ends-2.result.now)). omega (arith, h, size, inside_short 2 (chars c.args.text.now))) c.put_string.ensures.short

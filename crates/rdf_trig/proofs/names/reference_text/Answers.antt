@@ -1,9 +1,0 @@
-use Rattle.std.proofs.Common.{Err, ap, sym, ◌∙◌}
-use Rattle.rdf_terms.specs.Values as V
-use Rattle.rdf_trig.proofs.code.SpelledLemmas.{fit_reference}
-use Rattle.rdf_trig.proofs.names.reference_text.Goals as goal
-
-pub unreachable-requires : goal.unreachable-requires
-unreachable-requires g c =
-    let none = c.iri_value.ensures.bad.0 (c.in-Err-BadEscape.is ∙ ap Err c.in-Err-BadEscape.field-0-is) in
-    fit_reference c.args.token.now c.requires.kind c.requires.token (sym (ap V.iri_value c.without_ends.ensures) ∙ none)

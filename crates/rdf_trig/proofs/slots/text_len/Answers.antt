@@ -1,6 +1,0 @@
-use Rattle.std.proofs.Common.{sym}
-use Rattle.rdf_iri.proofs.ResolvedText.{byte_len-chars}
-use Rattle.rdf_trig.proofs.slots.text_len.Goals as goal
-
-pub returns : goal.returns
-returns c = sym (byte_len-chars _ c.utf8.text)
