@@ -1,5 +1,5 @@
 -- How many bytes of text a state of the reader's code holds, and the bounds that each step keeps.
-use Rattle.std.specs.Prelude.{ℕ, ◌+◌, ◌-◌, ◌*◌, ◌≤◌, List, length, max, Option, Some, None, ⊤, Result, OnOk}
+use Rattle.std.specs.Prelude.{ℕ, ◌+◌, ◌-◌, ◌*◌, ◌≤◌, List, length, max, Option, Some, None, ⊤}
 use Rattle.std.specs.String.{string_bytes}
 use Rattle.std.specs.List.{AllByRecursion, sum_by}
 use Rattle.rdf_terms.specs.declared.kind.Kind.{Kind}
@@ -7,7 +7,6 @@ use Rattle.rdf_terms.specs.declared.kind.Kind.TheVariants.{OpenBracket, CloseBra
 use Rattle.rdf_tokens.specs.declared.token.Token.{Token as Given}
 use Rattle.rdf_iri.specs.Texts.{byte_len}
 use Rattle.rdf_iri.specs.Limits.{Sizes}
-use Rattle.rdf_trig.specs.declared.fault.StepFault.{StepFault}
 use Rattle.rdf_trig.specs.declared.state.Block.{Block}
 use Rattle.rdf_trig.specs.declared.state.Block.TheVariants as block
 use Rattle.rdf_trig.specs.declared.state.Level.{Level}
@@ -121,10 +120,6 @@ pub record Fits {A : Type 0} (n : ℕ) (r : State A) : Type 0 where
   pub around : OpenFits n r
   pub mode : mode_bytes r r.mode ≤ n
   pub hand : mode_bytes r r.mode + held_bytes r r.held ≤ 2 * n
-
--- texts that fit before a token, with one of so many bytes, fit after it too
-abbrev pub KeepsFit : {A T : Type 0} → Given → State A → ℕ → Result T StepFault → State A → Type 0
-KeepsFit t old size result new = (n : ℕ) → TextFits n t → NameFits n old.name → OpenFits n old → size ≤ n → OnOk result (Fits n new)
 
 -- what a bracket's end leaves: a mode, the frame in hand and those below
 abbrev pub Closes : {A : Type 0} → ℕ → Mode → State A → Type 0

@@ -5,6 +5,7 @@ use Rattle.rdf_terms.specs.declared.reason.Reason.TheVariants as reason
 use Rattle.std.specs.Prelude.{ℕ, List, [], Option, Some, None}
 use Rattle.rdf_tokens.specs.Tokens.{Token}
 use Rattle.rdf_tokens.specs.Grammars.{Language}
+use Rattle.rdf_iri.specs.Limits.{Sizes}
 use Rattle.rdf_iri.specs.Bindings.{BindingMap}
 use Rattle.rdf_iri.specs.Scope.{InForce}
 use Rattle.rdf_trig.specs.declared.form.DocForm.{DocForm}
@@ -15,6 +16,10 @@ use Rattle.rdf_trig.specs.Refusals.{RefusedFor, unexpected, too_deep, unbound, n
 pub record Chosen : Type 0 where
   pub form : DocForm
   pub start : InForce
+
+-- this form, from a scope with this base or none and no prefix bound, within these limits
+abbrev pub chosen_alone : DocForm → Option (List ℕ) → Sizes → Chosen
+chosen_alone form base limits = record { form = form; start = record { base = base; bindings = []; limits = limits } }
 
 -- the bindings before the first token: those that are handed in, or none
 abbrev pub handed_in : Option BindingMap → List (List ℕ × List ℕ)

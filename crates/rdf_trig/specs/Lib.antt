@@ -17,6 +17,7 @@ pub mod States
 pub mod Slots
 pub mod Spelled
 pub mod Holding
+pub mod Turns
 pub mod Steps
 pub mod Scopes
 pub mod Coded

@@ -1,5 +1,5 @@
 -- What a look-up answers, and scopes that agree in every look-up.
-use Rattle.std.specs.Prelude.{◌≡◌, ℕ, true, List, is_some, Option, Some, ⊤}
+use Rattle.std.specs.Prelude.{◌≡◌, ℕ, true, List, is_some, Option, Some, None, ⊤}
 use Rattle.rdf_terms.specs.declared.kind.Kind.{Kind}
 use Rattle.rdf_terms.specs.declared.kind.Kind.TheVariants.{IriRef, PnameNs, PnameLn}
 use Rattle.rdf_terms.specs.Values.{local_value}
@@ -8,6 +8,10 @@ use Rattle.rdf_iri.specs.declared.fault.IriFault.TheVariants as iri
 use Rattle.rdf_iri.specs.Limits.{Sizes}
 use Rattle.rdf_iri.specs.Scope.{InForce, Binds}
 use Rattle.rdf_lines.specs.Lines.{Leaf}
+use Rattle.rdf_tokens.specs.declared.token.Token.{Token as Given}
+use Rattle.rdf_trig.specs.declared.form.DocForm.{DocForm}
+use Rattle.rdf_trig.specs.declared.state.Mode.{Mode}
+use Rattle.rdf_trig.specs.declared.state.State.{State}
 use Rattle.rdf_trig.specs.declared.fault.StepFault.{StepFault}
 use Rattle.rdf_trig.specs.declared.fault.StepFault.TheVariants as fault
 use Rattle.rdf_trig.specs.Names.{reference_in, with_base, is_full, SameNames}
@@ -15,7 +19,7 @@ use Rattle.rdf_trig.specs.Events.{Use, stands, binds}
 use Rattle.rdf_trig.specs.Refusals as refusal
 use Rattle.rdf_trig.specs.Machine as M
 use Rattle.rdf_trig.specs.Machine.{by_use, refuses}
-use Rattle.rdf_trig.specs.States.{name_at, use_at, IsNamed, NameIn, IsNamedIn, use_in, scope_in}
+use Rattle.rdf_trig.specs.States.{leaf, mode_at, name_at, use_at, IsNamed, NameIn, IsNamedIn, use_in, scope_in}
 
 -- a token of the kind is an IRIREF, to be resolved against the base
 abbrev pub IsReference : Kind → Type 0
@@ -93,3 +97,18 @@ pub record LooksUp (s : InForce) (m : M.Mode) (k : Kind) (l : Leaf) (i : Option 
 -- what the token stands for in this mode is refused for this reason
 abbrev pub LooksUpNone : InForce → M.Mode → Kind → Leaf → StepFault → Type 0
 LooksUpNone s m k l r = IsDenied s.limits k (use_in s m k l) r
+
+-- in a mode of a state, and in each scope that agrees with the reader's, the token stands for this IRI, if for one, and leads to this scope
+abbrev pub Finds : {A : Type 0} → State A → Mode → InForce → Given → Option (List ℕ) → InForce → Type 0
+Finds r m here t i next = (form : DocForm) (s : InForce) → SameScope s here → LooksUp s (mode_at form r m) t.kind (leaf t) i next
+
+-- there it is refused for this reason
+abbrev pub FindsNone : {A : Type 0} → State A → Mode → InForce → Given → StepFault → Type 0
+FindsNone r m here t e = (form : DocForm) (s : InForce) → SameScope s here → LooksUpNone s (mode_at form r m) t.kind (leaf t) e
+
+-- the same in a directive, however it is spelled, where no IRI comes with the token
+abbrev pub FindsIri : (M.Spelling → M.Mode) → InForce → Given → InForce → Type 0
+FindsIri m here t next = (w : M.Spelling) (s : InForce) → SameScope s here → LooksUp s (m w) t.kind (leaf t) None next
+
+abbrev pub FindsNoIri : (M.Spelling → M.Mode) → InForce → Given → StepFault → Type 0
+FindsNoIri m here t e = (w : M.Spelling) (s : InForce) → SameScope s here → LooksUpNone s (m w) t.kind (leaf t) e

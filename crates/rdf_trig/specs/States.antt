@@ -1,9 +1,9 @@
 -- What the states of the reader's code mean.
-use Rattle.std.specs.Prelude.{◌≡◌, ℕ, Bool, true, false, List, [], ◌∷◌, Option, Some, None, option_map, unwrap_or, Result, Ok, Err, ⊤, ◌+◌, ◌≤◌}
+use Rattle.std.specs.Prelude.{◌≡◌, ℕ, Bool, true, false, List, [], ◌∷◌, Option, Some, None, option_map, unwrap_or, ⊤, ◌+◌, ◌≤◌}
 use Rattle.std.specs.Str.{chars}
 use Rattle.std.specs.String.{string_bytes}
 use Rattle.rdf_terms.specs.declared.kind.Kind.{Kind}
-use Rattle.rdf_terms.specs.declared.kind.Kind.TheVariants.{IriRef, PnameNs, PnameLn, A, OpenBracket, OpenParen, CloseBracket, CloseParen}
+use Rattle.rdf_terms.specs.declared.kind.Kind.TheVariants.{IriRef, PnameNs, PnameLn, OpenBracket, OpenParen, CloseBracket, CloseParen}
 use Rattle.rdf_terms.specs.declared.kind.Dialect.TheVariants as dialect
 use Rattle.rdf_terms.specs.Terms.{Cell, Blank, Lang, Typed, Term, Resource, Literal, Quad}
 use Rattle.rdf_terms.specs.Terms as term
@@ -15,8 +15,6 @@ use Rattle.rdf_iri.specs.Texts.{byte_len}
 use Rattle.rdf_iri.specs.Scope.{InForce}
 use Rattle.rdf_lines.specs.Lines.{Leaf, leaf_of}
 use Rattle.rdf_trig.specs.declared.form.DocForm.{DocForm}
-use Rattle.rdf_trig.specs.declared.fault.StepFault.{StepFault}
-use Rattle.rdf_trig.specs.declared.fault.StepFault.TheVariants as fault
 use Rattle.rdf_trig.specs.declared.state.Block.{Block}
 use Rattle.rdf_trig.specs.declared.state.Block.TheVariants as block
 use Rattle.rdf_trig.specs.declared.state.Level.{Level}
@@ -237,14 +235,6 @@ IsNamed PnameNs None = ⊥
 IsNamed PnameLn None = ⊥
 IsNamed k i = ⊤
 
--- a verb begins
-abbrev pub begins_verb : Kind → Bool
-begins_verb IriRef = true
-begins_verb PnameNs = true
-begins_verb PnameLn = true
-begins_verb A = true
-begins_verb k = false
-
 -- the same in a directive too, and the scope after it
 abbrev pub use_in : InForce → M.Mode → Kind → Leaf → Use
 use_in s (M.WantPrefix w) k l = itself
@@ -280,20 +270,6 @@ moved form s u r =
     let g = graph_in r in
     Go u (rest_of g r.rest) (held_of g (mode_in form r) r r.held) (setting s g) (mode_in form r)
 
--- what a function that left this state answered is this reply, unless memory ran out
-abbrev pub Gives : {A T : Type 0} → DocForm → InForce → Use → Result T StepFault → State A → Reply → Type 0
-Gives form s u (Ok t) r reply = reply ≡ moved form s u r
-Gives form s u (Err fault.Unexpected) r reply = reply ≡ No
-Gives form s u (Err fault.Memory) r reply = ⊤
-Gives form s u (Err e) r reply = ⊥
-
--- the same where the token leads to a mode outside of statements that has no text and no graph
-abbrev pub GivesOuter : InForce → Use → Result Outer StepFault → Reply → Type 0
-GivesOuter s u (Ok o) reply = (p : List ℕ) (g : M.Topic) → reply ≡ Go u None None (setting s (outer_graph o g)) (outer_of o p g)
-GivesOuter s u (Err fault.Unexpected) reply = reply ≡ No
-GivesOuter s u (Err fault.Memory) reply = ⊤
-GivesOuter s u (Err e) reply = ⊥
-
 -- the token is allowed by the grammar alone
 abbrev pub is_go : Reply → Bool
 is_go No = false
@@ -316,39 +292,3 @@ ShortPrefix n m = ⊤
 abbrev pub PrefixFits : {A : Type 0} → ℕ → State A → Mode → Type 0
 PrefixFits n r (mode.Outer (outer.WantPrefixIri w)) = byte_len (text_in r) ≤ n
 PrefixFits n r m = ⊤
-
--- a token of this kind may come after an object that stands so, by the grammar alone
-abbrev pub MayComeAfter : Container → Level → Kind → Bool → Type 0
-MayComeAfter a v k b = (c : Setting) (s : M.Topic) (p : Option (List ℕ)) (u : M.Up) (l : Leaf) → b ≡ is_go (M.after c (place_at (level_of v) a s p u) k l)
-
--- the same after a string, whose type or tag may come
-abbrev pub MayComeAfterText : Container → Level → Kind → Bool → Type 0
-MayComeAfterText a v k b =
-    (c : Setting) (w : List ℕ) (s : M.Topic) (p : Option (List ℕ)) (u : M.Up) (l : Leaf) → b ≡ is_go (M.after_text c w (place_at (level_of v) a s p u) k l)
-
--- the same after a `;`
-abbrev pub MayComeAfterSemicolon : Container → Level → Kind → Bool → Type 0
-MayComeAfterSemicolon a v k b =
-    (form : DocForm) (c : Setting) (s : M.Topic) (p : Option (List ℕ)) (u : M.Up) (l : Leaf) →
-    b ≡ is_go (M.step form c (semi_at (place_at (level_of v) a s p u)) k l)
-
--- with a token that stands for this IRI, if for one, the state that was left answers what the machine does, in each scope
-abbrev pub Replies : {A T : Type 0} → DocForm → Given → Option (List ℕ) → Result T StepFault → State A → (InForce → Kind → Leaf → Reply) → Type 0
-Replies form t i result r reply =
-    (s : InForce) → name_at s t.kind (leaf t) ≡ i → Gives form s (use_at s t.kind (leaf t)) result r (reply s t.kind (leaf t))
-
--- the same with a kind alone, whatever token has it
-abbrev pub RepliesTo : {A T : Type 0} → DocForm → Kind → Option (List ℕ) → Result T StepFault → State A → (InForce → Kind → Leaf → Reply) → Type 0
-RepliesTo form k i result r reply = (s : InForce) (l : Leaf) → name_at s k l ≡ i → Gives form s (use_at s k l) result r (reply s k l)
-
--- the same in a mode of the machine, with the graph of its quads, where a directive may change the scope
-abbrev pub RepliesIn : {A T : Type 0} → DocForm → M.Mode → Option term.Subject → Given → Option (List ℕ) → Result T StepFault → State A → Type 0
-RepliesIn form m g t i result r =
-    (s : InForce) → NameIn s m t.kind (leaf t) i →
-    Gives form (scope_in s m t.kind (leaf t)) (use_in s m t.kind (leaf t)) result r (M.step form (setting s g) m t.kind (leaf t))
-
--- the token leads from the mode to the state
-abbrev pub Moves : {A : Type 0} → DocForm → M.Mode → Option term.Subject → Given → Option (List ℕ) → State A → Type 0
-Moves form m g t i r =
-    (s : InForce) → NameIn s m t.kind (leaf t) i →
-    M.step form (setting s g) m t.kind (leaf t) ≡ moved form (scope_in s m t.kind (leaf t)) (use_in s m t.kind (leaf t)) r

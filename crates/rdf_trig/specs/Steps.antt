@@ -9,6 +9,7 @@ use Rattle.rdf_iri.specs.Scope.{InForce}
 use Rattle.rdf_trig.specs.declared.form.DocForm.{DocForm}
 use Rattle.rdf_trig.specs.declared.fault.StepFault.{StepFault}
 use Rattle.rdf_trig.specs.declared.fault.StepFault.TheVariants.{Unexpected, TooDeep, Unbound, NoBase, IriTooLong, TooManyBindings, Memory, Sink}
+use Rattle.rdf_trig.specs.declared.state.Frame.{Frame}
 use Rattle.rdf_trig.specs.declared.state.State.{State}
 use Rattle.rdf_trig.specs.Quads.{stated}
 use Rattle.rdf_trig.specs.Refusals as refusal
@@ -16,8 +17,8 @@ use Rattle.rdf_trig.specs.Machine as M
 use Rattle.rdf_terms.specs.declared.kind.Kind.{Kind}
 use Rattle.rdf_terms.specs.declared.kind.Kind.TheVariants.{OpenBracket, CloseBracket, OpenParen, CloseParen}
 use Rattle.rdf_lines.specs.Lines.{Leaf}
-use Rattle.rdf_trig.specs.Machine.{Reply, No, Go, subject_at, verb_at, kept}
-use Rattle.rdf_trig.specs.States.{leaf, mode_in, graph_in, setting, rest_of, held_of, is_go, NameIn, PrefixFits}
+use Rattle.rdf_trig.specs.Machine.{subject_at, verb_at, kept}
+use Rattle.rdf_trig.specs.States.{leaf, place_of, object_quad, mode_in, graph_in, setting, rest_of, held_of, is_go, PrefixFits}
 use Rattle.rdf_trig.specs.Scopes.{SameScope}
 use Rattle.rdf_trig.specs.Holding.{most_text, Fits}
 
@@ -35,6 +36,18 @@ GaveUp takes leaves failed r qs old new = ⊥
 abbrev pub up_quad : Option term.Subject → M.Up → Term → Option Quad
 up_quad g (M.Subject v) o = None
 up_quad g (M.At p) o = stated (Some g) (subject_at p) (verb_at p) (Some o)
+
+-- the quad of an object at the place of a frame, whatever stands round it
+abbrev pub IsQuadAt : {A : Type 0} → Frame A → Option term.Subject → Term → Option Quad → Type 0
+IsQuadAt f g o q = (v : M.Level) (u : M.Up) → let p = place_of v f u in q ≡ stated (Some g) (subject_at p) (verb_at p) (Some o)
+
+-- that of an object that has come, where the mode says
+abbrev pub IsObjectQuad : {A : Type 0} → State A → Option term.Subject → Term → Option Quad → Type 0
+IsObjectQuad r g o q = (form : DocForm) → q ≡ object_quad g (mode_in form r) (Some o)
+
+-- that which waits to know the token
+abbrev pub IsWaitingQuad : {A : Type 0} → State A → Option term.Subject → Given → Option Quad → Type 0
+IsWaitingQuad r g t q = (form : DocForm) (s : InForce) → q ≡ M.waiting (setting s g) (mode_in form r) t.kind (leaf t)
 
 -- the quads that are held, and those with the one that waits to know the token
 abbrev pub held_quads : {A : Type 0} → DocForm → State A → List Quad
@@ -70,16 +83,6 @@ DepthMay CloseBracket n = 1 ≤ n
 DepthMay CloseParen n = 1 ≤ n
 DepthMay k n = ⊤
 
--- with this error the machine has no reply for the token either, unless memory was short
-abbrev pub Stays : StepFault → Reply → Type 0
-Stays Unexpected reply = reply ≡ No
-Stays Memory reply = ⊤
-Stays r reply = ⊥
-
--- so of the token in a mode of the machine
-abbrev pub StaysIn : DocForm → M.Mode → Option term.Subject → Given → Option (List ℕ) → StepFault → Type 0
-StaysIn form m g t i e = (s : InForce) → NameIn s m t.kind (leaf t) i → Stays e (M.step form (setting s g) m t.kind (leaf t))
-
 -- what the machine answers to a token in a state of the reader
 abbrev pub answer_to : {A : Type 0} → DocForm → InForce → State A → Given → M.Answer
 answer_to form s r t = M.accept form (state_of form s r) t.kind (leaf t)
@@ -113,3 +116,20 @@ Fails takes leaves failed IriTooLong a old new = (a ≡ M.refuses refusal.iri_to
 Fails takes leaves failed TooManyBindings a old new = (a ≡ M.refuses refusal.too_many_bindings) × (new ≡ old)
 Fails takes leaves failed Memory a old new = Begins takes leaves (answered a) old new × (failed new ≡ false)
 Fails takes leaves failed Sink a old new = Begins takes leaves (answered a) old new × (failed new ≡ true)
+
+-- the token is allowed in each scope with this limit of open brackets
+abbrev pub MayAll : {A : Type 0} → DocForm → ℕ → State A → Kind → Type 0
+MayAll form most r k = (s : InForce) (l : Leaf) → s.limits.depth ≡ most → May form (state_of form s r) k l
+
+-- in each scope that agrees with the reader's the machine accepts the token as the reader did
+abbrev pub AcceptsAll : {A S : Type 0} → (S → Quad → S → Type 0) → DocForm → InForce → State A → Given → S → State A → InForce → S → Type 0
+AcceptsAll takes form here r t old new next last = (s : InForce) → SameScope s here → Accepts takes form (answer_to form s r t) old new next last
+
+-- so many quads as the machine gives out
+abbrev pub Counts : {A : Type 0} → DocForm → State A → Given → ℕ → Type 0
+Counts form r t n = (s : InForce) (qs : List Quad) (m : M.State) → answer_to form s r t ≡ M.accepts qs m → n ≡ length qs
+
+-- in each scope that agrees with the reader's the machine refuses the token as the reader did
+abbrev pub FailsAll :
+    {A S : Type 0} → (S → Quad → S → Type 0) → (S → Quad → S → Type 0) → (S → Bool) → DocForm → InForce → State A → Given → S → S → StepFault → Type 0
+FailsAll takes leaves failed form here r t old new e = (s : InForce) → SameScope s here → Fails takes leaves failed e (answer_to form s r t) old new

@@ -13,7 +13,7 @@ ghost use Rattle.rdf_trig.specs.Machine as M;
 ghost use Rattle.rdf_trig.specs.Machine.{subject_at, verb_at, kept};
 ghost use Rattle.rdf_tokens.specs.declared.token.Token.{Token as Given};
 ghost use Rattle.rdf_trig.specs.States.{leaf, object_of, object_quad, IsSettled, place_of, up_of, mode_in, graph_in, setting, cells_quad, rest_of, held_of};
-ghost use Rattle.rdf_trig.specs.Steps.{GaveUp, given, up_quad};
+ghost use Rattle.rdf_trig.specs.Steps.{GaveUp, given, up_quad, IsQuadAt, IsObjectQuad, IsWaitingQuad};
 
 use crate::fault::StepFault;
 use crate::rest::Rest;
@@ -140,8 +140,7 @@ fn object_quad<'a, A: Allocator>(
     object: TermRef<'a>,
     graph: Option<SubjectRef<'a>>,
 ) -> Option<QuadRef<'a>>
-    ensures { (form : DocForm) → option_map quad_of result ≡ object_quad (option_map (subject_by chars) graph.entry) (mode_in form state.now)
-        (Some (term_by chars object.entry)) }
+    ensures { IsObjectQuad state.now (option_map (subject_by chars) graph.entry) (term_by chars object.entry) (option_map quad_of result) }
 {
     match state.mode {
         Mode::After => Some(quad_at(&state.frame, object, graph)),
@@ -211,9 +210,7 @@ fn waiting_quad<'a, A: Allocator>(
     graph: Option<SubjectRef<'a>>,
     token: &Token<'_>,
 ) -> Option<QuadRef<'a>>
-    ensures { (form : DocForm) (s : InForce) → option_map quad_of result ≡ M.waiting
-        (setting s (option_map (subject_by chars) graph.entry)) (mode_in form state.now)
-        token.now.kind (leaf token.now) }
+    ensures { IsWaitingQuad state.now (option_map (subject_by chars) graph.entry) token.now (option_map quad_of result) }
 {
     match state.mode {
         Mode::AfterText => match token.kind {
@@ -273,8 +270,7 @@ fn quad_at<'a, A: Allocator>(
     object: TermRef<'a>,
     graph: Option<SubjectRef<'a>>,
 ) -> QuadRef<'a>
-    ensures { (v : M.Level) (u : M.Up) → Some (quad_of result) ≡ stated (Some (option_map (subject_by chars) graph.entry))
-        (subject_at (place_of v frame.now u)) (verb_at (place_of v frame.now u)) (Some (term_by chars object.entry)) }
+    ensures { IsQuadAt frame.now (option_map (subject_by chars) graph.entry) (term_by chars object.entry) (Some (quad_of result)) }
 {
     match frame.container {
         Container::List(_) => QuadRef {

@@ -2,7 +2,6 @@
 #![tactic(auto)]
 
 mod accept;
-mod allows;
 mod document;
 mod fault;
 mod form;
@@ -21,6 +20,8 @@ mod slots;
 mod spelled;
 mod state;
 mod subjects;
+mod table;
+mod turn;
 mod turns;
 
 pub use document::read_document;

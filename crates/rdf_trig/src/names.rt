@@ -8,14 +8,13 @@ ghost use Rattle.rdf_terms.specs.Values.{local_value};
 ghost use Rattle.rdf_terms.specs.Views.{iri_chars};
 ghost use Rattle.rdf_terms.specs.Known.{known_chars};
 ghost use Rattle.rdf_iri.specs.Texts.{IsIriText, byte_len};
-ghost use Rattle.rdf_iri.specs.Scope.{InForce, ExpandsHere, NotExpanded};
+ghost use Rattle.rdf_iri.specs.Scope.{ExpandsHere, NotExpanded};
 ghost use Rattle.rdf_lines.specs.Lines.{iri_of};
-ghost use Rattle.rdf_trig.specs.declared.form.DocForm.{DocForm};
 ghost use Rattle.rdf_trig.specs.Machine as M;
 ghost use Rattle.rdf_trig.specs.Owed.{iri_size};
-ghost use Rattle.rdf_trig.specs.States.{leaf, IsTurtleToken, PrefixFits, mode_at, mode_in};
+ghost use Rattle.rdf_trig.specs.States.{leaf, IsTurtleToken, PrefixFits};
 ghost use Rattle.rdf_trig.specs.Holding.{NameFits};
-ghost use Rattle.rdf_trig.specs.Scopes.{IsReference, IsPrefixed, MeansLocal, Names, Unnamed, Binding, NotBinding, Based, SameScope, LooksUp, LooksUpNone};
+ghost use Rattle.rdf_trig.specs.Scopes.{IsReference, IsPrefixed, MeansLocal, Names, Unnamed, Binding, NotBinding, Based, Finds, FindsNone, FindsIri, FindsNoIri};
 
 use crate::fault::StepFault;
 use crate::spelled::parts;
@@ -246,12 +245,10 @@ impl<A: Allocator + Copy> State<A> {
     pub fn look_up(&mut self, scope: &mut Scope<A>, token: &Token<'_>) -> Result<(), StepFault>
         requires token { IsTurtleToken token.now }
         requires short { PrefixFits (4 * scope.old.limits.token) self.old self.old.mode }
-        ensures ok { OnOk result ((form : DocForm) (s : InForce) → SameScope s scope.old →
-            LooksUp s (mode_in form self.old) token.now.kind (leaf token.now) self.new.name scope.new) }
+        ensures ok { OnOk result (Finds self.old self.old.mode scope.old token.now self.new.name scope.new) }
         ensures fits { OnOk result (NameFits scope.old.limits.iri self.new.name) }
         ensures same { self.new ≡ record self.old { name = self.new.name } }
-        ensures err { IfErr result (λ r. (form : DocForm) (s : InForce) → SameScope s scope.old →
-            LooksUpNone s (mode_in form self.old) token.now.kind (leaf token.now) r) }
+        ensures err { IfErr result (FindsNone self.old self.old.mode scope.old token.now) }
     {
         match self.mode {
             Mode::Outer(outer) => self.look_up_outer(outer, scope, token),
@@ -267,12 +264,10 @@ impl<A: Allocator + Copy> State<A> {
     ) -> Result<(), StepFault>
         requires token { IsTurtleToken token.now }
         requires short { PrefixFits (4 * scope.old.limits.token) self.old (Mode.Outer outer) }
-        ensures ok { OnOk result ((form : DocForm) (s : InForce) → SameScope s scope.old →
-            LooksUp s (mode_at form self.old (Mode.Outer outer)) token.now.kind (leaf token.now) self.new.name scope.new) }
+        ensures ok { OnOk result (Finds self.old (Mode.Outer outer) scope.old token.now self.new.name scope.new) }
         ensures fits { OnOk result (NameFits scope.old.limits.iri self.new.name) }
         ensures same { self.new ≡ record self.old { name = self.new.name } }
-        ensures err { IfErr result (λ r. (form : DocForm) (s : InForce) → SameScope s scope.old →
-            LooksUpNone s (mode_at form self.old (Mode.Outer outer)) token.now.kind (leaf token.now) r) }
+        ensures err { IfErr result (FindsNone self.old (Mode.Outer outer) scope.old token.now) }
     {
         match outer {
             Outer::WantPrefix(_) => {
@@ -335,10 +330,8 @@ fn look_up_prefix<A: Allocator + Copy>(
 ) -> Result<(), StepFault>
     requires token { IsTurtleToken token.now }
     requires short { byte_len (chars (string_bytes prefix.now)) ≤ 4 * scope.old.limits.token }
-    ensures ok { OnOk result ((w : M.Spelling) (s : InForce) → SameScope s scope.old →
-        LooksUp s (M.WantPrefixIri w (chars (string_bytes prefix.now))) token.now.kind (leaf token.now) None scope.new) }
-    ensures err { IfErr result (λ r. (w : M.Spelling) (s : InForce) → SameScope s scope.old →
-        LooksUpNone s (M.WantPrefixIri w (chars (string_bytes prefix.now))) token.now.kind (leaf token.now) r) }
+    ensures ok { OnOk result (FindsIri (λ w. M.WantPrefixIri w (chars (string_bytes prefix.now))) scope.old token.now scope.new) }
+    ensures err { IfErr result (FindsNoIri (λ w. M.WantPrefixIri w (chars (string_bytes prefix.now))) scope.old token.now) }
 {
     match token.kind {
         Kind::IriRef => bind(alloc, scope, prefix, token),
@@ -352,10 +345,8 @@ fn look_up_base<A: Allocator + Copy>(
     token: &Token<'_>,
 ) -> Result<(), StepFault>
     requires token { IsTurtleToken token.now }
-    ensures ok { OnOk result ((w : M.Spelling) (s : InForce) → SameScope s scope.old →
-        LooksUp s (M.WantBaseIri w) token.now.kind (leaf token.now) None scope.new) }
-    ensures err { IfErr result (λ r. (w : M.Spelling) (s : InForce) → SameScope s scope.old →
-        LooksUpNone s (M.WantBaseIri w) token.now.kind (leaf token.now) r) }
+    ensures ok { OnOk result (FindsIri M.WantBaseIri scope.old token.now scope.new) }
+    ensures err { IfErr result (FindsNoIri M.WantBaseIri scope.old token.now) }
 {
     match token.kind {
         Kind::IriRef => set_base(alloc, scope, token),

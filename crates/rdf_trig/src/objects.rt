@@ -1,110 +1,152 @@
-// Tokens where an object stands, and the parts of a literal.
+// Turns where an object stands, and the parts of a literal.
 
-ghost use Rattle.std.specs.Prelude.{◌≡◌, ℕ, ◌+◌, ◌-◌, ◌*◌, ◌≤◌, length, OnOk, IfErr, codes};
+ghost use Rattle.std.specs.Prelude.{◌≡◌, ℕ, ◌+◌, ◌*◌, ◌≤◌, true, length, is_some, OnOk, IfErr, codes};
 ghost use Rattle.std.specs.Str.{chars};
-ghost use Rattle.rdf_trig.specs.declared.form.DocForm.{DocForm};
+ghost use Rattle.rdf_lines.specs.Lines.{Leaf};
+ghost use Rattle.rdf_trig.specs.declared.turn.Turn.TheVariants as Turn;
 ghost use Rattle.rdf_trig.specs.Machine as M;
-ghost use Rattle.rdf_trig.specs.States.{IsTurtleToken, IsNamed, graph_of, rest_of, place_in, setting_in, text_in, Replies, RepliesTo};
-ghost use Rattle.rdf_trig.specs.Holding.{text_bytes, TextFits, NameFits, OpenFits, Fits, frames_most, KeepsFit};
+ghost use Rattle.rdf_trig.specs.Spelled.{SpellsTag};
+ghost use Rattle.rdf_trig.specs.States.{leaf, IsTurtleToken, text_in, place_of, up_of};
+ghost use Rattle.rdf_trig.specs.Holding.{text_bytes, OpenFits};
+ghost use Rattle.rdf_trig.specs.Turns.{SuitsObject, frames_begun, Begins, BegunFits, Takes, TakesFit, TurnFits, FramesTaken};
 
 use crate::fault::StepFault;
-use crate::form::DocForm;
 use crate::rest::Rest;
 use crate::spelled::{set_long_string, tag_of};
-use crate::state::{Held, Mode, State};
-use rdf_terms::{Kind, Known, label_of, put_string};
+use crate::state::{Container, Frame, Held, Mode, State};
+use crate::turn::ObjectStart;
+use rdf_terms::{Known, label_of, put_string};
 use rdf_tokens::Token;
 use std::alloc::Allocator;
 use std::mem;
 
 impl<A: Allocator + Copy> State<A> {
-    // The first token of an object.
+    // An object begins.
     #[tactic(auto, using(crate::proofs::code::FrameStack::stack_steps))]
-    pub fn object_start(&mut self, rest: Rest, token: &Token<'_>) -> Result<(), StepFault>
+    pub fn object(
+        &mut self,
+        rest: Rest,
+        start: ObjectStart,
+        token: &Token<'_>,
+    ) -> Result<(), StepFault>
         requires token { IsTurtleToken token.now }
-        requires named { IsNamed token.now.kind self.old.name }
-        ensures gives { (form : DocForm) → Replies form token.now self.old.name result self.new (λ s. M.object_start (setting_in s self.old) (place_in self.old) (rest_of (graph_of self.old.level self.old.graph) rest)) }
+        requires suits { SuitsObject start token.now.kind self.old.name }
+        ensures takes { OnOk result (Begins self.old rest start (leaf token.now) self.new) }
         ensures depth { self.new.depth ≡ self.old.depth }
-        ensures stack { OnOk result (length self.new.frames.items ≤ frames_most token.now.kind (length self.old.frames.items)) }
-        ensures fits { (n : ℕ) → TextFits n token.now → NameFits n self.old.name → OpenFits n self.old → OnOk result (Fits n self.new) }
+        ensures stack { OnOk result (length self.new.frames.items ≤ frames_begun start (length self.old.frames.items)) }
+        ensures fits { OnOk result (BegunFits self.old token.now self.new) }
+        ensures err { IfErr result (λ r. r ≡ StepFault.Memory) }
     {
-        match token.kind {
-            Kind::IriRef | Kind::PnameNs | Kind::PnameLn => {
+        match start {
+            ObjectStart::Name => {
                 self.object.take(&mut self.name);
                 self.hold(rest, Held::Resource);
             }
-            Kind::LabelNode => {
+            ObjectStart::Label => {
                 self.object.set_label(label_of(token.text))?;
                 self.hold(rest, Held::Resource);
             }
-            Kind::ShortString => {
+            ObjectStart::ShortString => {
                 put_string(&mut self.text, token.text)?;
                 self.wait(rest, Mode::AfterText);
             }
-            Kind::LongString => {
+            ObjectStart::LongString => {
                 set_long_string(&mut self.text, token.text)?;
                 self.wait(rest, Mode::AfterText);
             }
-            Kind::Integer => self.known_literal(rest, token.text, Known::XsdInteger)?,
-            Kind::Decimal => self.known_literal(rest, token.text, Known::XsdDecimal)?,
-            Kind::Double => self.known_literal(rest, token.text, Known::XsdDouble)?,
-            Kind::True => self.known_literal(rest, true_word(), Known::XsdBoolean)?,
-            Kind::False => self.known_literal(rest, false_word(), Known::XsdBoolean)?,
-            Kind::OpenBracket => {
+            ObjectStart::Number(datatype) => self.known_literal(rest, token.text, datatype)?,
+            ObjectStart::True => self.known_literal(rest, true_word(), Known::XsdBoolean)?,
+            ObjectStart::False => self.known_literal(rest, false_word(), Known::XsdBoolean)?,
+            ObjectStart::Brackets => {
                 self.open()?;
                 self.object.set_anon(token.offset);
                 self.hold(rest, Held::Resource);
                 self.mode = Mode::Bracket(token.offset);
             }
-            Kind::OpenParen => {
+            ObjectStart::Collection => {
                 self.open()?;
                 self.wait(rest, Mode::Paren);
             }
-            _ => return Err(StepFault::Unexpected),
         }
         Ok(())
     }
 
-    // The token after a string.
-    #[tactic(auto, using(crate::proofs::machine::Fallbacks::fallbacks))]
-    pub fn after_text(&mut self, token: &Token<'_>) -> Result<(), StepFault>
+    // The first item of a collection.
+    pub fn first_item(&mut self, start: ObjectStart, token: &Token<'_>) -> Result<(), StepFault>
         requires token { IsTurtleToken token.now }
-        requires named { IsNamed token.now.kind self.old.name }
-        ensures gives { (form : DocForm) → Replies form token.now self.old.name result self.new (λ s. M.after_text (setting_in s self.old) (text_in self.old) (place_in self.old)) }
+        requires suits { SuitsObject start token.now.kind self.old.name }
+        ensures takes { OnOk result (Takes self.old (Turn.FirstItem start) (leaf token.now) self.new) }
         ensures depth { self.new.depth ≡ self.old.depth }
-        ensures stack { OnOk result (length self.new.frames.items ≤ frames_most token.now.kind (length self.old.frames.items)) }
-        ensures fits { KeepsFit token.now self.old (text_bytes self.old) result self.new }
+        ensures stack { OnOk result (FramesTaken self.old (Turn.FirstItem start) self.new) }
+        ensures fits { OnOk result (TakesFit self.old (Turn.FirstItem start) token.now self.new) }
+        ensures err { IfErr result (λ r. r ≡ StepFault.Memory) }
     {
-        match token.kind {
-            Kind::LangTag | Kind::AtBase | Kind::AtPrefix => {
-                self.tag.set(tag_of(token))?;
-                self.hold(Rest::none(), Held::WithTag);
-                Ok(())
-            }
-            Kind::Carets => {
-                self.stand(Mode::WantType);
-                Ok(())
-            }
-            _ => self.after(token),
-        }
+        let cell = token.offset;
+        self.frame.container = Container::Cells { first: cell, cell };
+        self.object(Rest::none(), start, token)
     }
 
-    // The type of a string.
-    pub fn want_type(&mut self, kind: Kind) -> Result<(), StepFault>
-        requires named { IsNamed kind self.old.name }
-        ensures gives { (form : DocForm) → RepliesTo form kind self.old.name result self.new (λ s. M.want_type (setting_in s self.old) (text_in self.old) (place_in self.old)) }
+    // The next item of a collection, after the first and the present cell.
+    pub fn next_item(
+        &mut self,
+        first: u64,
+        cell: u64,
+        start: ObjectStart,
+        token: &Token<'_>,
+    ) -> Result<(), StepFault>
+        requires token { IsTurtleToken token.now }
+        requires suits { SuitsObject start token.now.kind self.old.name }
+        ensures takes { OnOk result (Takes self.old (Turn.NextItem first cell start) (leaf token.now) self.new) }
         ensures depth { self.new.depth ≡ self.old.depth }
-        ensures stack { OnOk result (length self.new.frames.items ≤ frames_most kind (length self.old.frames.items)) }
-        ensures fits { (n : ℕ) → NameFits n self.old.name → OpenFits n self.old → text_bytes self.old ≤ n → OnOk result (Fits n self.new) }
+        ensures stack { OnOk result (FramesTaken self.old (Turn.NextItem first cell start) self.new) }
+        ensures fits { OnOk result (TakesFit self.old (Turn.NextItem first cell start) token.now self.new) }
+        ensures err { IfErr result (λ r. r ≡ StepFault.Memory) }
     {
-        match kind {
-            Kind::IriRef | Kind::PnameNs | Kind::PnameLn => {
-                mem::swap(&mut self.datatype, &mut self.name);
-                self.hold(Rest::none(), Held::WithType);
-                Ok(())
-            }
-            _ => Err(StepFault::Unexpected),
-        }
+        let next = token.offset;
+        self.frame.container = Container::Cells { first, cell: next };
+        self.object(Rest::of(cell, next), start, token)
+    }
+
+    // A bracket opens in the frame in hand.
+    #[tactic(auto, using(crate::proofs::code::FrameStack::stack_steps, crate::proofs::code::HoldingLemmas::frames_pushed))]
+    fn open(&mut self) -> Result<(), StepFault>
+        ensures up { OnOk result ((v : M.Level) → up_of v self.new.frames.items ≡ M.At (place_of v self.old.frame (up_of v self.old.frames.items))) }
+        ensures same { OnOk result (self.new ≡ record self.old { frame = self.new.frame; frames = self.new.frames }) }
+        ensures depth { self.new.depth ≡ self.old.depth }
+        ensures stack { OnOk result (length self.new.frames.items ≡ length self.old.frames.items + 1) }
+        ensures fits { (n : ℕ) → OpenFits n self.old → OnOk result (OpenFits n self.new) }
+        ensures err { IfErr result (λ r. r ≡ StepFault.Memory) }
+    {
+        let frame = mem::replace(&mut self.frame, Frame::none(self.alloc));
+        self.frames.push(frame)?;
+        Ok(())
+    }
+
+    // The tag of a string.
+    pub fn take_tag(&mut self, token: &Token<'_>) -> Result<(), StepFault>
+        requires token { IsTurtleToken token.now }
+        requires tag { SpellsTag token.now.kind }
+        ensures takes { OnOk result (Takes self.old (Turn.Tag) (leaf token.now) self.new) }
+        ensures depth { self.new.depth ≡ self.old.depth }
+        ensures stack { OnOk result (FramesTaken self.old (Turn.Tag) self.new) }
+        ensures fits { OnOk result (TakesFit self.old (Turn.Tag) token.now self.new) }
+        ensures err { IfErr result (λ r. r ≡ StepFault.Memory) }
+    {
+        self.tag.set(tag_of(token))?;
+        self.hold(Rest::none(), Held::WithTag);
+        Ok(())
+    }
+
+    // The datatype of a string.
+    pub fn take_datatype(&mut self)
+        requires named { is_some self.old.name ≡ true }
+        ensures takes { (l : Leaf) → Takes self.old (Turn.Datatype) l self.new }
+        ensures depth { self.new.depth ≡ self.old.depth }
+        ensures stack { FramesTaken self.old (Turn.Datatype) self.new }
+        ensures fits { TurnFits self.old (Turn.Datatype) self.new }
+    {
+        mem::swap(&mut self.datatype, &mut self.name);
+        self.hold(Rest::none(), Held::WithType);
     }
 
     // A number or a boolean.

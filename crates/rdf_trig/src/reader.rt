@@ -1,15 +1,13 @@
 // The reader of Turtle and TriG.
 
-ghost use Rattle.std.specs.Prelude.{◌≡◌, ◌+◌, ◌≤◌, ℕ, List, [], true, false, not, is_ok, OnOk, IfOk, IfErr, SomeIff};
-ghost use Rattle.rdf_terms.specs.Terms.{Quad};
+ghost use Rattle.std.specs.Prelude.{◌≡◌, ◌+◌, ◌≤◌, [], true, false, not, is_ok, OnOk, IfOk, IfErr, SomeIff};
 ghost use Rattle.rdf_tokens.specs.Scans.{most_bytes, place_of, unread_bytes};
-ghost use Rattle.rdf_tokens.specs.Good.{tokens_of};
 ghost use Rattle.rdf_driver.specs.Readers as R;
 ghost use Rattle.rdf_driver.specs.Readers.{HasRead, SameLimits, Feeds, FeedFails, Finishes, FinishFails, TakesExactly, FinishesExactly, IsPlacedWith, IsPlacedInRead};
-ghost use Rattle.rdf_iri.specs.Scope.{InForce, BaseFits, bytes_held};
-ghost use Rattle.rdf_trig.specs.Language.{Chosen};
-ghost use Rattle.rdf_trig.specs.Accepting.{tree_words};
-ghost use Rattle.rdf_trig.specs.Owed.{Owed, most_held};
+ghost use Rattle.rdf_iri.specs.Scope.{BaseFits};
+ghost use Rattle.rdf_trig.specs.Language.{chosen_alone};
+ghost use Rattle.rdf_trig.specs.Accepting.{tree_words, HoldsOwed};
+ghost use Rattle.rdf_trig.specs.Owed.{most_held};
 
 use crate::form::DocForm;
 use crate::grammar::TreeGrammar;
@@ -56,8 +54,7 @@ impl<A: Allocator> Options<A> {
     /// Documents of the form, with this base or none and no prefix bound, within the limits. None where the base has more
     /// bytes than an IRI may have; it is dropped then.
     pub fn new(form: DocForm, base: Option<Iri<A>>, limits: Limits) -> Option<Options<A>>
-        ensures { let start : InForce = record { base = base; bindings = []; limits = limits } in
-            let chosen : Chosen = record { form = form; start = start } in SomeIff result (BaseFits base limits) chosen }
+        ensures { SomeIff result (BaseFits base limits) (chosen_alone form base limits) }
     {
         if base_fits(&base, limits) {
             Some(Options {
@@ -201,9 +198,7 @@ impl<A: Allocator + Copy> TrigReader<A> {
     pub fn held(&self) -> u64
         ensures sum { result ≡ unread_bytes self.now.scanner + self.now.grammar.held }
         ensures most { result ≤ R.most_held tree_words self.now }
-        ensures least { (x : Chosen) (bytes : List ℕ) (quads : List Quad) (size : ℕ) → HasRead tree_words self.now x bytes quads →
-            Owed x.form x.start (tokens_of tree_words.dialect self.now.scanner.limit bytes false).tokens size →
-            unread_bytes self.now.scanner + bytes_held self.now.grammar.state.setting.scope + size ≤ result }
+        ensures least { HoldsOwed self.now result }
     {
         self.reader.held()
     }

@@ -1,41 +1,53 @@
 // What a token does to the mode and the frames, once it is known what it stands for.
 
-ghost use Rattle.std.specs.Prelude.{◌≡◌, ℕ, ◌+◌, ◌-◌, ◌≤◌, length, None, OnOk};
-ghost use Rattle.rdf_trig.specs.Machine as M;
-ghost use Rattle.rdf_trig.specs.States.{IsTurtleToken, IsNamedIn, graph_in, mode_in, RepliesIn};
-ghost use Rattle.rdf_trig.specs.Holding.{TextFits, NameFits, Fits, frames_most};
+ghost use Rattle.std.specs.Prelude.{◌≡◌, None, OnOk, IfErr};
+ghost use Rattle.rdf_trig.specs.States.{leaf, IsTurtleToken};
+ghost use Rattle.rdf_trig.specs.Turns.{Suits, Takes, TakesFit, FramesTaken};
 
 use crate::fault::StepFault;
-use crate::form::DocForm;
 use crate::rest::Rest;
-use crate::state::{Around, Held, Mode, State};
+use crate::state::{Held, Mode, Outer, State};
+use crate::turn::Turn;
 use rdf_tokens::Token;
 use std::alloc::Allocator;
 
 impl<A: Allocator + Copy> State<A> {
-    /// What a token does, once it is known what it stands for.
+    /// Does what the turn says.
     #[inline(always)]
-    pub fn go_on(&mut self, form: DocForm, token: &Token<'_>) -> Result<(), StepFault>
+    pub fn take(&mut self, turn: Turn, token: &Token<'_>) -> Result<(), StepFault>
         requires token { IsTurtleToken token.now }
-        requires named { IsNamedIn (mode_in form self.old) token.now.kind self.old.name }
-        ensures gives { RepliesIn form (mode_in form self.old) (graph_in self.old) token.now self.old.name result self.new }
+        requires suits { Suits turn token.now.kind self.old.name }
+        ensures takes { OnOk result (Takes self.old (turn) (leaf token.now) self.new) }
         ensures depth { self.new.depth ≡ self.old.depth }
-        ensures stack { OnOk result (length self.new.frames.items ≤ frames_most token.now.kind (length self.old.frames.items)) }
-        ensures fits { (n : ℕ) → TextFits n token.now → NameFits n self.old.name → Fits n self.old → OnOk result (Fits n self.new) }
+        ensures stack { OnOk result (FramesTaken self.old (turn) self.new) }
+        ensures fits { OnOk result (TakesFit self.old (turn) token.now self.new) }
+        ensures err { IfErr result (λ r. r ≡ StepFault.Memory) }
     {
-        match self.mode {
-            Mode::Outer(outer) => self.outer_turn(form, outer, token),
-            Mode::AfterSubject => self.after_subject(form, token.kind),
-            Mode::Want => self.object_start(Rest::none(), token),
-            Mode::After => self.after(token),
-            Mode::AfterText => self.after_text(token),
-            Mode::WantType => self.want_type(token.kind),
-            Mode::Bracket(node) => self.bracket(node, token.kind),
-            Mode::Paren => self.paren(token),
-            Mode::WantVerb => self.verb_start(Around::Statement, token.kind),
-            Mode::Semicolon => self.semicolon(token.kind),
-            Mode::AfterBrackets => self.after_brackets(token.kind),
+        match turn {
+            Turn::Lead(outer) => self.lead(outer),
+            Turn::Prefix(spelling) => self.take_prefix(spelling, token)?,
+            Turn::GraphName => self.graph_name(),
+            Turn::GraphLabel => self.graph_label(token)?,
+            Turn::GraphBracket => self.lead(Outer::GraphBracket(token.offset)),
+            Turn::GraphNode(node) => self.graph_node(node),
+            Turn::SubjectBlock => self.subject_block(),
+            Turn::Subject(level, start) => self.subject(level, start, token)?,
+            Turn::Verb(around, verb) => self.verb(around, verb),
+            Turn::FirstVerb(node, verb) => self.first_verb(node, verb),
+            Turn::Object(start) => self.object(Rest::none(), start, token)?,
+            Turn::FirstItem(start) => self.first_item(start, token)?,
+            Turn::NextItem(first, cell, start) => self.next_item(first, cell, start, token)?,
+            Turn::NextObject => self.stand(Mode::Want),
+            Turn::NextVerb => self.stand(Mode::Semicolon),
+            Turn::Tag => self.take_tag(token)?,
+            Turn::DatatypeMark => self.stand(Mode::WantType),
+            Turn::Datatype => self.take_datatype(),
+            Turn::EndNode(node) => self.end_node(node),
+            Turn::EndPropertyList => self.end_property_list(),
+            Turn::EmptyCollection => self.empty_collection(),
+            Turn::EndCollection(first, cell) => self.end_collection(first, cell),
         }
+        Ok(())
     }
 
     // The reader stands here, and nothing is held.

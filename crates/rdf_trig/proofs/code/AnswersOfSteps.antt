@@ -4,7 +4,7 @@ use Rattle.std.specs.Prelude.{nat_le}
 use Rattle.std.specs.Str.{encode_utf8_all}
 use lib.Utf8.{encode}
 use Rattle.std.specs.Char.{len_utf8}
-use Rattle.std.proofs.lemmas.Bool.{cond-false, false≢true}
+use Rattle.std.proofs.lemmas.Bool.{cond-true, cond-false, false≢true}
 use Rattle.std.proofs.lemmas.List.{length-append}
 use Rattle.std.proofs.lemmas.Str.{len_utf8_bounds, length-encode}
 use Rattle.rdf_terms.specs.declared.kind.Kind.{Kind}
@@ -32,7 +32,7 @@ use Rattle.rdf_trig.specs.Machine.{Reply, No, Go, kept, by_use, refuses, accepts
 use Rattle.rdf_trig.specs.States.{mode_at, use_in, scope_in, is_go, moved, DepthMoves, ShortPrefix, PrefixFits}
 use Rattle.rdf_trig.specs.Scopes.{IsAdmitted, SameScope, LooksUp, LooksUpNone}
 use Rattle.rdf_trig.specs.Holding.{most_text, frames_most, Fits}
-use Rattle.rdf_trig.specs.Steps.{Begins, GaveUp, state_of, May, Stays, DepthMay, Keeps, Accepts, answered, Fails}
+use Rattle.rdf_trig.specs.Steps.{Begins, GaveUp, state_of, May, DepthMay, Keeps, Accepts, answered, Fails}
 use Rattle.rdf_trig.proofs.code.StepBounds.{step_use, step_depth, step_prefix}
 use Rattle.rdf_trig.proofs.code.PutsInRow.{begins_all}
 
@@ -45,16 +45,10 @@ goes : (reply : Reply) → is_go reply ≡ true → Goes reply
 goes No h = absurd (false≢true h)
 goes (Go u early now c m) h = (u, early, now, c, m, refl)
 
--- where the grammar has no reply, the answer is the syntax error, whatever the limits say
-stays_no : (sizes : Sizes) (n : M.State) (k : Kind) (w : Option Quad) (reply : Reply) → is_go reply ≡ false →
-    M.answer sizes n k w reply ≡ refuses refusal.unexpected
-stays_no sizes n k w No h = refl
-stays_no sizes n k w (Go u early now c m) h = absurd (false≢true (sym h))
-
 -- a token for which the grammar has no reply is refused as unexpected
-pub not_allowed : (form : DocForm) (n : M.State) (k : Kind) (l : Leaf) → is_go (M.step form n.setting n.mode k l) ≡ false →
+pub no_reply : (form : DocForm) (n : M.State) (k : Kind) (l : Leaf) → M.step form n.setting n.mode k l ≡ No →
     M.accept form n k l ≡ refuses refusal.unexpected
-not_allowed form n k l h = stays_no n.setting.scope.limits n k (M.waiting n.setting n.mode k l) (M.step form n.setting n.mode k l) h
+no_reply form n k l h = ap (M.answer n.setting.scope.limits n k (M.waiting n.setting n.mode k l)) h
 
 -- the depth can be counted after a token that the grammar allows: no overflow at '[' or '(', and none is closed that is not open
 pub may_count : (form : DocForm) (c : Setting) (m : M.Mode) (k : Kind) (l : Leaf) (d : ℕ) → is_go (M.step form c m k l) ≡ true → d ≡ M.depth m →
@@ -78,6 +72,15 @@ quads_out n k l = n.held ++ kept (M.waiting n.setting n.mode k l) []
 -- the machine's state after a reply, with the quads that it holds back
 abbrev after : Option Quad → Option Quad → Setting → M.Mode → M.State
 after early now c m = record { setting = c; mode = m; held = kept early (kept now []) }
+
+-- a bracket that the grammar allows is refused where as many are open as may be
+pub deep_refused : (form : DocForm) (n : M.State) (k : Kind) (l : Leaf) → is_go (M.step form n.setting n.mode k l) ≡ true →
+    (M.deepens k && nat_le n.setting.scope.limits.depth (M.depth n.mode)) ≡ true → M.accept form n k l ≡ refuses refusal.too_deep
+deep_refused form n k l g d =
+    let r = goes (M.step form n.setting n.mode k l) g in
+    let sizes = n.setting.scope.limits in
+    ap (M.answer sizes n k (M.waiting n.setting n.mode k l)) r.5
+    ∙ cond-true (M.deepens k && nat_le sizes.depth (M.depth n.mode)) (refuses refusal.too_deep) (by_use sizes k r.0 (accepts (quads_out n k l) (after r.1 r.2 r.3 r.4))) d
 
 -- the answer to an allowed token is decided by what the token stands for alone
 answer_is : (form : DocForm) (n : M.State) (k : Kind) (l : Leaf) (u : Use) (early now : Option Quad) (c : Setting) (m : M.Mode) → May form n k l →
@@ -127,15 +130,15 @@ fails_gave takes leaves failed form n k l fault.Sink sink new may p h =
     let a = passed form n k l may p in (subst (λ x. Begins takes leaves (answered x) sink new) (sym a.1) h.0, h.1)
 fails_gave takes leaves failed form n k l r sink new may p h = absurd h
 
--- an error after all quads were put is one that the contract of the step allows
-pub fails_stays : {S : Type 0} (takes leaves : S → Quad → S → Type 0) (failed : S → Bool) (form : DocForm) (n : M.State) (k : Kind) (l : Leaf)
+-- where memory is short after all quads were put, the step fails so
+pub fails_after : {S : Type 0} (takes leaves : S → Quad → S → Type 0) (failed : S → Bool) (form : DocForm) (n : M.State) (k : Kind) (l : Leaf)
     (r : StepFault) (sink new : S) →
     May form n k l → IsAdmitted n.setting.scope.limits k (use_in n.setting.scope n.mode k l) → Appends takes sink (quads_out n k l) new →
-    Stays r (M.step form n.setting n.mode k l) → failed new ≡ false → Fails takes leaves failed r (M.accept form n k l) sink new
-fails_stays takes leaves failed form n k l fault.Unexpected sink new may p h s live = absurd (false≢true (sym (ap is_go s) ∙ may.0))
-fails_stays takes leaves failed form n k l fault.Memory sink new may p h s live =
-    let a = passed form n k l may p in (subst (λ x. Begins takes leaves (answered x) sink new) (sym a.1) (begins_all takes leaves sink new (quads_out n k l) h), live)
-fails_stays takes leaves failed form n k l r sink new may p h s live = absurd s
+    r ≡ fault.Memory → failed new ≡ false → Fails takes leaves failed r (M.accept form n k l) sink new
+fails_after takes leaves failed form n k l r sink new may p h e live =
+    let a = passed form n k l may p in
+    subst (λ x. Fails takes leaves failed x (M.accept form n k l) sink new) (sym e)
+    (subst (λ x. Begins takes leaves (answered x) sink new) (sym a.1) (begins_all takes leaves sink new (quads_out n k l) h), live)
 
 -- the state after an accepted token
 pub accepts_moved : {A S : Type 0} (takes : S → Quad → S → Type 0) (form : DocForm) (s t : InForce) (old r : State A) (k : Kind) (l : Leaf)

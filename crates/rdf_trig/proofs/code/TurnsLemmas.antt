@@ -1,24 +1,33 @@
 -- What a function gave, where its reply is known by an equation.
-use Rattle.std.proofs.Common.{◌≡◌, ℕ, Option, None, List, Result, Ok, Err, true, Some, refl, sym, ap, subst}
-use Rattle.std.specs.Prelude.{OnOk, IfErr, is_some}
+use Rattle.std.proofs.Common.{◌≡◌, ℕ, Option, None, List, Result, Ok, Err, true, Some, refl, sym, ap, subst, ◌∙◌}
+use Rattle.std.specs.Prelude.{OnOk, IfErr, IfSome, MatchOption, is_some}
 use Rattle.rdf_iri.specs.Scope.{InForce}
+use Rattle.rdf_terms.specs.declared.kind.Kind.{Kind}
+use Rattle.rdf_terms.specs.Terms as term
+use Rattle.rdf_terms.specs.Terms.{Quad}
+use Rattle.rdf_lines.specs.Lines.{Leaf}
 use Rattle.rdf_trig.specs.declared.form.DocForm.{DocForm}
+use Rattle.rdf_trig.specs.declared.form.DocForm.TheVariants.{Turtle, TriG}
 use Rattle.rdf_trig.specs.declared.fault.StepFault.{StepFault}
+use Rattle.rdf_trig.specs.declared.slots.SubjectKind.{SubjectKind}
+use Rattle.rdf_trig.specs.declared.slots.SubjectKind.TheVariants as kind
+use Rattle.rdf_trig.specs.declared.state.Block.{Block}
+use Rattle.rdf_trig.specs.declared.state.Level.{Level}
+use Rattle.rdf_trig.specs.declared.state.Level.TheVariants as level
 use Rattle.rdf_trig.specs.declared.state.State.{State}
 use Rattle.rdf_trig.specs.declared.state.Mode.{Mode}
 use Rattle.rdf_trig.specs.declared.state.Held.TheVariants as held
-use Rattle.rdf_trig.specs.Events.{Use, itself}
+use Rattle.rdf_trig.specs.declared.turn.ObjectStart.{ObjectStart}
+use Rattle.rdf_trig.specs.declared.turn.ObjectStart.TheVariants as object
+use Rattle.rdf_trig.specs.declared.turn.Turn.{Turn}
+use Rattle.rdf_trig.specs.declared.turn.Turn.TheVariants as turn
+use Rattle.rdf_trig.specs.Events.{Use}
 use Rattle.rdf_trig.specs.Slots.{topic_at}
-use Rattle.rdf_trig.specs.declared.slots.SubjectKind.{SubjectKind}
-use Rattle.rdf_trig.specs.declared.slots.SubjectKind.TheVariants as kind
-use Rattle.rdf_trig.specs.declared.form.DocForm.TheVariants.{Turtle, TriG}
-use Rattle.rdf_terms.specs.declared.kind.Kind.{Kind}
-use Rattle.rdf_terms.specs.Terms as term
-use Rattle.rdf_lines.specs.Lines.{Leaf}
-use Rattle.rdf_trig.specs.Quads.{Setting, in_graph}
+use Rattle.rdf_trig.specs.Quads.{Setting, cell_at, rest_quad}
 use Rattle.rdf_trig.specs.Machine as M
 use Rattle.rdf_trig.specs.Machine.{Reply, Go}
-use Rattle.rdf_trig.specs.States.{Gives, NameIn, name_at, use_at, use_in, scope_in, rest_of, cells_quad, semi_at, graph_at, setting, mode_at, moved}
+use Rattle.rdf_trig.specs.States.{IsNamedIn, NameIn, is_go, name_at, use_in, scope_in, cells_quad, semi_at, up_in, place_in, level_of, graph_of, graph_at, setting, setting_in, mode_at, moved}
+use Rattle.rdf_trig.specs.Turns.{Means, IsTurn, IsSuited, Suits, begun, turned, turn_bytes}
 
 -- what a success brings leads on to what it is to bring
 pub on_ok : {T : Type 0} (r : Result T StepFault) (P Q : Type 0) → (P → Q) → OnOk r P → OnOk r Q
@@ -30,45 +39,11 @@ pub if_err : {T : Type 0} (r : Result T StepFault) (P Q : StepFault → Type 0) 
 if_err (Ok x) P Q f h = tt
 if_err (Err e) P Q f h = f e h
 
--- a reply that is known by an equation
-pub gives_at : {A T : Type 0} (form : DocForm) (s : InForce) (u : Use) (r : Result T StepFault) (n : State A) (x y : Reply) →
-    y ≡ x → Gives form s u r n x → Gives form s u r n y
-gives_at form s u r n x y h g = subst (λ z. Gives form s u r n z) (sym h) g
-
--- an object's first token, where the cells are known by an equation
-pub gives_object : {A T : Type 0} (form : DocForm) (s : InForce) (r : Result T StepFault) (n : State A) (c : Setting)
-    (p : M.Place) (g : Option term.Subject)
-    (k : Kind) (l : Leaf) (x y : Option (ℕ × ℕ)) → x ≡ y →
-    Gives form s (use_at s k l) r n (M.object_start c p (rest_of g x) k l) → Gives form s (use_at s k l) r n (M.object_start c p (rest_of g y) k l)
-gives_object form s r n c p g k l x y e h = subst (λ z. Gives form s (use_at s k l) r n (M.object_start c p (rest_of g z) k l)) e h
-
--- after a subject a token stands for what it does elsewhere
-pub gives_subject : {A T : Type 0} (form : DocForm) (t : M.Level) (x : M.Topic) (s : InForce) (k : Kind) (l : Leaf)
-    (r : Result T StepFault) (n : State A) (y : Reply) →
-    Gives form s (use_at s k l) r n y →
-    Gives form (scope_in s (M.after_subject form t x) k l) (use_in s (M.after_subject form t x) k l) r n y
-gives_subject TriG M.Top x s k l r n y g = g
-gives_subject TriG M.InBlock x s k l r n y g = g
-gives_subject Turtle M.Top x s k l r n y g = g
-gives_subject Turtle M.InBlock x s k l r n y g = g
-
--- after a subject a token's IRI is looked up as anywhere in a statement
-pub name_subject : (form : DocForm) (t : M.Level) (x : M.Topic) (s : InForce) (k : Kind) (l : Leaf) (i : Option (List ℕ)) →
-    NameIn s (M.after_subject form t x) k l i → name_at s k l ≡ i
-name_subject TriG M.Top x s k l i h = h
-name_subject TriG M.InBlock x s k l i h = h
-name_subject Turtle M.Top x s k l i h = h
-name_subject Turtle M.InBlock x s k l i h = h
-
--- so too after a `;`
-pub gives_semi : {A T : Type 0} (form : DocForm) (p : M.Place) (s : InForce) (k : Kind) (l : Leaf) (r : Result T StepFault) (n : State A) (y : Reply) →
-    Gives form s (use_at s k l) r n y → Gives form (scope_in s (semi_at p) k l) (use_in s (semi_at p) k l) r n y
-gives_semi form (M.Listed x p a) s k l r n y g = g
-gives_semi form (M.InCells first cell u) s k l r n y g = g
-
-pub name_semi : (p : M.Place) (s : InForce) (k : Kind) (l : Leaf) (i : Option (List ℕ)) → NameIn s (semi_at p) k l i → name_at s k l ≡ i
-name_semi (M.Listed x p a) s k l i h = h
-name_semi (M.InCells first cell u) s k l i h = h
+-- what a part of the machine means, another part means that replies alike
+pub means_at : {A : Type 0} (form : DocForm) (r : State A) (k : Kind) (x : Option Turn) (f g : InForce → Leaf → Reply) →
+    ((s : InForce) (l : Leaf) → g s l ≡ f s l) → Means form r k x f → Means form r k x g
+means_at form r k None f g e h = λ s l. e s l ∙ h s l
+means_at form r k (Some t) f g e h = λ s l i n. e s l ∙ h s l i n
 
 -- the reply of a state that holds nothing
 pub stands_at : {A : Type 0} (form : DocForm) (s : InForce) (u : Use) (old new : State A) (m : Mode) (g : Option term.Subject) (x : M.Mode) →
@@ -80,11 +55,6 @@ stands_at form s u old new m g x is e f =
     subst (λ y. Go u None None (setting s y) x ≡ Go u None None (setting s h) (mode_at form old m)) e
     (ap (λ y. Go u None None (setting s h) y) (sym f)))
 
--- the graph of a block, where its label stands for a term
-pub in_block : (s : InForce) (g : Option term.Subject) → is_some g ≡ true → M.goes (in_graph s g) M.Inside ≡ M.goes (setting s g) M.Inside
-in_block s None h = absurd (cc)
-in_block s (Some t) h = refl
-
 -- the subject of a kind and a text is some term
 pub has_term : (k : SubjectKind) (w : List ℕ) → is_some (topic_at k w).term ≡ true
 has_term kind.Iri w = refl
@@ -94,11 +64,105 @@ has_term (kind.Cell n) w = refl
 has_term kind.Nil w = refl
 
 -- the reply of a state after the end of a collection
-pub ended_at : {A : Type 0} (form : DocForm) (s : InForce) (old : State A) (m : Mode) (g : Option term.Subject) (x : M.Mode) (n : ℕ) (y : Option (ℕ × ℕ)) →
+pub ended_at : {A : Type 0} (form : DocForm) (s : InForce) (u : Use) (old : State A) (m : Mode) (g : Option term.Subject) (x : M.Mode) (n : ℕ) (y : Option (ℕ × ℕ)) →
     y ≡ None → graph_at old m ≡ g → mode_at form old m ≡ x →
-    Go itself None (cells_quad g n M.nil) (setting s g) x ≡ moved form s itself (record old { rest = y; held = held.Nil n; mode = m })
-ended_at form s old m g x n y none e f =
-    subst (λ z. Go itself None (cells_quad g n M.nil) (setting s g) x ≡ moved form s itself (record old { rest = z; held = held.Nil n; mode = m })) (sym none)
+    Go u None (cells_quad g n M.nil) (setting s g) x ≡ moved form s u (record old { rest = y; held = held.Nil n; mode = m })
+ended_at form s u old m g x n y none e f =
+    subst (λ z. Go u None (cells_quad g n M.nil) (setting s g) x ≡ moved form s u (record old { rest = z; held = held.Nil n; mode = m })) (sym none)
     (let h = graph_at old m in
-    subst (λ z. Go itself None (cells_quad z n M.nil) (setting s z) x ≡ Go itself None (cells_quad h n M.nil) (setting s h) (mode_at form old m)) e
-    (ap (λ z. Go itself None (cells_quad h n M.nil) (setting s h) z) (sym f)))
+    subst (λ z. Go u None (cells_quad z n M.nil) (setting s z) x ≡ Go u None (cells_quad h n M.nil) (setting s h) (mode_at form old m)) e
+    (ap (λ z. Go u None (cells_quad h n M.nil) (setting s h) z) (sym f)))
+
+-- after a subject each token's IRI is looked up as anywhere in a statement, so what its mode means decides the turn
+pub subject_decides : {A : Type 0} (form : DocForm) (r : State A) (v : Level) (k : Kind) (x : Option Turn) →
+    let m = M.after_subject form (level_of v) r.frame.subject in
+    Means form r k x (λ s. M.step form (setting s (graph_of v r.graph)) m k) →
+    MatchOption x ((s : InForce) (l : Leaf) → M.step form (setting s (graph_of v r.graph)) m k l ≡ M.No)
+    (λ t. (s : InForce) (l : Leaf) (i : Option (List ℕ)) → NameIn s m k l i →
+    M.step form (setting s (graph_of v r.graph)) m k l ≡ turned form r (scope_in s m k l) (use_in s m k l) i t l)
+subject_decides TriG r level.Top k x h = h
+subject_decides TriG r (level.Block b) k x h = h
+subject_decides Turtle r level.Top k x h = h
+subject_decides Turtle r (level.Block b) k x h = h
+
+-- so too after a `;`
+pub semi_decides : {A : Type 0} (form : DocForm) (r : State A) (p : M.Place) (k : Kind) (x : Option Turn) →
+    Means form r k x (λ s. M.step form (setting_in s r) (semi_at p) k) →
+    MatchOption x ((s : InForce) (l : Leaf) → M.step form (setting_in s r) (semi_at p) k l ≡ M.No)
+    (λ t. (s : InForce) (l : Leaf) (i : Option (List ℕ)) → NameIn s (semi_at p) k l i →
+    M.step form (setting_in s r) (semi_at p) k l ≡ turned form r (scope_in s (semi_at p) k l) (use_in s (semi_at p) k l) i t l)
+semi_decides form r (M.Listed s p a) k x h = h
+semi_decides form r (M.InCells first cell u) k x h = h
+
+-- tokens that suit a turn with their IRIs do so after a subject and after a `;`
+pub subject_suits : {A : Type 0} (form : DocForm) (r : State A) (v : Level) (k : Kind) (x : Option Turn) → IfSome x (IsSuited k) →
+    IfSome x (λ t. (i : Option (List ℕ)) → IsNamedIn (M.after_subject form (level_of v) r.frame.subject) k i → Suits t k i)
+subject_suits TriG r level.Top k x h = h
+subject_suits TriG r (level.Block b) k x h = h
+subject_suits Turtle r level.Top k x h = h
+subject_suits Turtle r (level.Block b) k x h = h
+
+pub semi_suits : (p : M.Place) (k : Kind) (x : Option Turn) → IfSome x (IsSuited k) →
+    IfSome x (λ t. (i : Option (List ℕ)) → IsNamedIn (semi_at p) k i → Suits t k i)
+semi_suits (M.Listed s p a) k x h = h
+semi_suits (M.InCells first cell u) k x h = h
+
+-- after a subject in a block a verb comes
+pub block_verb : (form : DocForm) (c : Setting) (x : M.Topic) (k : Kind) (l : Leaf) (v : Level) (b : Block) → v ≡ level.Block b →
+    M.step form c (M.after_subject form (level_of v) x) k l ≡ M.verb_start c x (M.Statement (level_of v)) k l
+block_verb form c x k l v b e =
+    subst (λ v. M.step form c (M.after_subject form (level_of v) x) k l ≡ M.verb_start c x (M.Statement (level_of v)) k l) (sym e) refl
+
+-- so too in Turtle
+pub turtle_verb : (form : DocForm) (c : Setting) (x : M.Topic) (k : Kind) (l : Leaf) (v : Level) → form ≡ Turtle →
+    M.step form c (M.after_subject form (level_of v) x) k l ≡ M.verb_start c x (M.Statement (level_of v)) k l
+turtle_verb form c x k l v e =
+    subst (λ f. M.step f c (M.after_subject f (level_of v) x) k l ≡ M.verb_start c x (M.Statement (level_of v)) k l) (sym e) (by v)
+  where
+    by : (v : Level) → M.step Turtle c (M.after_subject Turtle (level_of v) x) k l ≡ M.verb_start c x (M.Statement (level_of v)) k l
+    by level.Top = refl
+    by (level.Block b) = refl
+
+-- in TriG, outside of a block, it may be a graph's label
+pub label_or_verb : (form : DocForm) (s : InForce) (g x : M.Topic) (k : Kind) (l : Leaf) (v : Level) → form ≡ TriG → v ≡ level.Top →
+    M.step form (setting s (graph_of v g)) (M.after_subject form (level_of v) x) k l ≡ M.after_label (setting s None) x k l
+label_or_verb form s g x k l v e f =
+    subst (λ z. M.step z (setting s (graph_of v g)) (M.after_subject z (level_of v) x) k l ≡ M.after_label (setting s None) x k l) (sym e)
+    (subst (λ z. M.step TriG (setting s (graph_of z g)) (M.after_subject TriG (level_of z) x) k l ≡ M.after_label (setting s None) x k l) (sym f) refl)
+
+-- a turn is a reply that goes on
+begun_goes : (c : Setting) (u : Use) (i : Option (List ℕ)) (p : M.Place) (early : Option Quad) (b : ObjectStart) (l : Leaf) → is_go (begun c u i p early b l) ≡ true
+begun_goes c u i p early object.Name l = refl
+begun_goes c u i p early b l = refl
+
+turned_goes : {A : Type 0} (form : DocForm) (r : State A) (s : InForce) (u : Use) (i : Option (List ℕ)) (t : Turn) (l : Leaf) →
+    is_go (turned form r s u i t l) ≡ true
+turned_goes form r s u i (turn.Object b) l = begun_goes (setting_in s r) u i (place_in r) None b l
+turned_goes form r s u i (turn.FirstItem b) l = begun_goes (setting_in s r) u i (M.InCells l.at.offset l.at.offset (up_in r)) None b l
+turned_goes form r s u i (turn.NextItem first cell b) l =
+    let c = setting_in s r in begun_goes c u i (M.InCells first l.at.offset (up_in r)) (rest_quad c (term.Cell cell) (term.Blank (cell_at l))) b l
+turned_goes form r s u i t l = refl
+
+-- what a token stands for in a mode, if that matters
+name_here : (s : InForce) (m : M.Mode) (k : Kind) (l : Leaf) → NameIn s m k l (name_at s k l)
+name_here s (M.WantPrefix w) k l = tt
+name_here s (M.WantPrefixIri w p) k l = tt
+name_here s (M.WantBaseIri w) k l = tt
+name_here s m k l = refl
+
+-- where there is a turn the grammar allows the token
+pub turn_goes : {A : Type 0} (form : DocForm) (r : State A) (m : Mode) (k : Kind) (t : Turn) → IsTurn form r m k t → (s : InForce) (l : Leaf) →
+    is_go (M.step form (setting s (graph_at r m)) (mode_at form r m) k l) ≡ true
+turn_goes form r m k t h s l =
+    let n = mode_at form r m in
+    ap is_go (h s l (name_at s k l) (name_here s n k l)) ∙ turned_goes form r (scope_in s n k l) (use_in s n k l) (name_at s k l) t l
+
+-- a turn asks nothing of the name that the state has
+pub turned_named : {A : Type 0} (form : DocForm) (r : State A) (x : Option (List ℕ)) (s : InForce) (u : Use) (i : Option (List ℕ)) (t : Turn) (l : Leaf) →
+    turned form (record r { name = x }) s u i t l ≡ turned form r s u i t l
+turned_named form r x s u i (turn.Lead o) l = refl
+turned_named form r x s u i t l = refl
+
+pub bytes_named : {A : Type 0} (r : State A) (x : Option (List ℕ)) (t : Turn) → turn_bytes (record r { name = x }) t ≡ turn_bytes r t
+bytes_named r x (turn.Lead o) = refl
+bytes_named r x t = refl

@@ -1,14 +1,14 @@
 -- What is left of a production for the kinds that it does not name itself.
-use Rattle.std.proofs.Common.{◌≡◌, ℕ, true, false, List, None, refl}
-use Rattle.std.proofs.lemmas.Bool.{false≢true}
+use Rattle.std.proofs.Common.{◌≡◌, ℕ, List, None, refl}
 use Rattle.rdf_terms.specs.declared.kind.Kind.{Kind}
-use Rattle.rdf_terms.specs.declared.kind.Kind.TheVariants.{IriRef, PnameNs, PnameLn, A, CloseBracket, CloseParen, CloseBrace, OpenBrace, Semicolon, Comma, LangTag, AtBase, AtPrefix, Base, Prefix, Graph, End, Carets}
+use Rattle.rdf_terms.specs.declared.kind.Kind.TheVariants.{IriRef, PnameNs, PnameLn, A, CloseBracket, CloseParen, CloseBrace, OpenBrace, Semicolon, Comma, LangTag, AtBase, AtPrefix, Carets}
 use Rattle.rdf_terms.specs.Terms as term
 use Rattle.rdf_lines.specs.Lines.{Leaf}
 use Rattle.rdf_trig.specs.declared.form.DocForm.{DocForm}
-use Rattle.rdf_trig.specs.Quads.{Setting, in_default, node, cell_at, rest_quad}
+use Rattle.rdf_trig.specs.Events.{Use}
+use Rattle.rdf_trig.specs.Quads.{Setting, node, cell_at, rest_quad}
 use Rattle.rdf_trig.specs.Machine as M
-use Rattle.rdf_trig.specs.States.{begins_verb}
+use Rattle.rdf_trig.specs.Machine.{Go}
 
 -- after '[' what does not close it is a verb
 pub box-else : (form : DocForm) (c : Setting) (n : ℕ) (u : M.Up) (k : Kind) (l : Leaf) → (k ≡ CloseBracket → ⊥) →
@@ -28,15 +28,16 @@ inside-else form c CloseBrace l h = absurd (h refl)
 inside-else form c k l h = refl
 
 -- after ';' a verb may come
-pub semi-verb : (c : Setting) (s : M.Topic) (a : M.Around) (k : Kind) (l : Leaf) → begins_verb k ≡ true → M.semi c s a k l ≡ M.verb_start c s a k l
-semi-verb c s a IriRef l h = refl
-semi-verb c s a PnameNs l h = refl
-semi-verb c s a PnameLn l h = refl
-semi-verb c s a A l h = refl
-semi-verb c s a k l h = absurd (false≢true h)
+pub semi-verb : (c : Setting) (s : M.Topic) (a : M.Around) (k : Kind) (l : Leaf) (u : Use) (d : Setting) (m : M.Mode) →
+    M.verb_start c s a k l ≡ Go u None None d m → M.semi c s a k l ≡ Go u None None d m
+semi-verb c s a IriRef l u d m h = h
+semi-verb c s a PnameNs l u d m h = h
+semi-verb c s a PnameLn l u d m h = h
+semi-verb c s a A l u d m h = h
+semi-verb c s a k l u d m h = absurd (cc)
 
 -- after ';' what is no verb and no further ';' ends the predicate list
-pub semi-else : (c : Setting) (s : M.Topic) (a : M.Around) (k : Kind) (l : Leaf) → begins_verb k ≡ false → (k ≡ Semicolon → ⊥) →
+pub semi-else : (c : Setting) (s : M.Topic) (a : M.Around) (k : Kind) (l : Leaf) → M.verb_start c s a k l ≡ M.No → (k ≡ Semicolon → ⊥) →
     M.semi c s a k l ≡ M.list_end c s a k l
 semi-else c s a IriRef l h n = absurd (cc)
 semi-else c s a PnameNs l h n = absurd (cc)
@@ -46,16 +47,16 @@ semi-else c s a Semicolon l h n = absurd (n refl)
 semi-else c s a k l h n = refl
 
 -- after a property list that is a subject a verb may come
-pub after_box-verb : (c : Setting) (s : M.Topic) (v : M.Level) (k : Kind) (l : Leaf) → begins_verb k ≡ true →
-    M.after_box c s v k l ≡ M.verb_start c s (M.Statement v) k l
-after_box-verb c s v IriRef l h = refl
-after_box-verb c s v PnameNs l h = refl
-after_box-verb c s v PnameLn l h = refl
-after_box-verb c s v A l h = refl
-after_box-verb c s v k l h = absurd (false≢true h)
+pub after_box-verb : (c : Setting) (s : M.Topic) (v : M.Level) (k : Kind) (l : Leaf) (u : Use) (d : Setting) (m : M.Mode) →
+    M.verb_start c s (M.Statement v) k l ≡ Go u None None d m → M.after_box c s v k l ≡ Go u None None d m
+after_box-verb c s v IriRef l u d m h = h
+after_box-verb c s v PnameNs l u d m h = h
+after_box-verb c s v PnameLn l u d m h = h
+after_box-verb c s v A l u d m h = h
+after_box-verb c s v k l u d m h = absurd (cc)
 
 -- after a property list that is a subject what is no verb ends the statement
-pub after_box-else : (c : Setting) (s : M.Topic) (v : M.Level) (k : Kind) (l : Leaf) → begins_verb k ≡ false →
+pub after_box-else : (c : Setting) (s : M.Topic) (v : M.Level) (k : Kind) (l : Leaf) → M.verb_start c s (M.Statement v) k l ≡ M.No →
     M.after_box c s v k l ≡ M.list_end c s (M.Statement v) k l
 after_box-else c s v IriRef l h = absurd (cc)
 after_box-else c s v PnameNs l h = absurd (cc)
@@ -90,17 +91,4 @@ text-else c w p AtPrefix l h i j n = absurd (j refl)
 text-else c w p Carets l h i j n = absurd (n refl)
 text-else c w p k l h i j n = refl
 
--- between statements what begins no directive and no block begins a subject
-pub start-else : (form : DocForm) (c : Setting) (k : Kind) (l : Leaf) → (k ≡ End → ⊥) → (k ≡ AtPrefix → ⊥) → (k ≡ Prefix → ⊥) → (k ≡ AtBase → ⊥) →
-    (k ≡ Base → ⊥)
-    → (k ≡ Graph → ⊥) → (k ≡ OpenBrace → ⊥) → M.start form c k l ≡ M.subject_start form (in_default c.scope) M.Top k l
-start-else form c End l a b d e f g h = absurd (a refl)
-start-else form c AtPrefix l a b d e f g h = absurd (b refl)
-start-else form c Prefix l a b d e f g h = absurd (d refl)
-start-else form c AtBase l a b d e f g h = absurd (e refl)
-start-else form c Base l a b d e f g h = absurd (f refl)
-start-else form c Graph l a b d e f g h = absurd (g refl)
-start-else form c OpenBrace l a b d e f g h = absurd (h refl)
-start-else form c k l a b d e f g h = refl
-
-pub ruleset fallbacks = (box-else, label-else, inside-else, semi-verb, semi-else, after_box-verb, after_box-else, cells-else, paren-else, text-else)
+pub ruleset fallbacks = (box-else, cells-else, paren-else)

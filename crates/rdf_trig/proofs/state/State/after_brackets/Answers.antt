@@ -1,13 +1,26 @@
-use Rattle.std.proofs.Common.{sym, ◌∙◌}
+use Rattle.std.proofs.Common.{None, ap, ◌∙◌}
+use Rattle.rdf_trig.specs.Machine as M
+use Rattle.rdf_trig.specs.Turns.{verb_by}
 use Rattle.rdf_trig.specs.States.{use_at, level_of, setting_in}
-use Rattle.rdf_trig.proofs.machine.Fallbacks.{after_box-else}
-use Rattle.rdf_trig.proofs.code.TurnsLemmas.{gives_at}
+use Rattle.rdf_trig.proofs.machine.Fallbacks.{after_box-verb, after_box-else}
+use Rattle.rdf_trig.proofs.code.TurnsLemmas.{means_at}
 use Rattle.rdf_trig.proofs.state.State.after_brackets.Goals as goal
 
-pub returns-else-begins_verb-clause-gives : goal.returns-else-begins_verb-clause-gives
-returns-else-begins_verb-clause-gives g c form s l h =
-    let x = c.args.self.now.frame.subject in
-    gives_at form s (use_at s c.args.kind l) c.statement_end.result c.statement_end.new.self _ _
-    (after_box-else (setting_in s c.args.self.now) x (level_of c.args.self.now.level) c.args.kind l
-    (sym c.begins_verb.ensures ∙ c.if-begins_verb.false))
-    (c.statement_end.ensures.gives form s x l)
+pub returns-in-None-clause-means : goal.returns-in-None-clause-means
+returns-in-None-clause-means g c = λ form.
+    let self = c.args.self.now in
+    let k = c.args.kind in
+    let x = self.frame.subject in
+    let v = level_of self.level in
+    means_at form self k c.list_end.result _ _
+    (λ s l. after_box-else (setting_in s self) x v k l (c.in-None.ensures.means (setting_in s self) x (M.Statement v) l))
+    (c.list_end.ensures.means form)
+
+pub returns-in-Some-clause-means : goal.returns-in-Some-clause-means
+returns-in-Some-clause-means g c = λ form s l i n.
+    let self = c.args.self.now in
+    let k = c.args.kind in
+    let x = self.frame.subject in
+    let a = M.Statement (level_of self.level) in
+    after_box-verb (setting_in s self) x (level_of self.level) k l _ _ _ (c.in-Some.ensures.means (setting_in s self) x a l)
+    ∙ ap (λ z. M.Go (use_at s k l) None None (setting_in s self) (M.Want (M.Listed x (verb_by c.in-Some.verb z) a))) n

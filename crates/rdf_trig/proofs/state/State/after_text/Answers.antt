@@ -1,13 +1,17 @@
-use Rattle.std.proofs.Common.{arith}
-use Rattle.rdf_trig.specs.States.{leaf}
-use Rattle.rdf_trig.specs.declared.state.Held.TheVariants as held
-use Rattle.rdf_trig.proofs.code.HoldingLemmas.{holds_fits, tag_fits}
+use Rattle.rdf_trig.specs.States.{text_in, place_in, setting_in}
+use Rattle.rdf_trig.proofs.machine.Fallbacks.{text-else}
+use Rattle.rdf_trig.proofs.code.TurnsLemmas.{means_at}
 use Rattle.rdf_trig.proofs.state.State.after_text.Goals as goal
 
-pub returns-in_ok-set-in-LangTag-clause-fits : goal.returns-in_ok-set-in-LangTag-clause-fits
-returns-in_ok-set-in-LangTag-clause-fits g c = λ n t h o b.
+pub returns-in_default : goal.returns-in_default
+returns-in_default g c =
     let self = c.args.self.now in
-    let tag = c.set.new.self in
-    let size = tag_fits n tag _ (leaf c.args.token.now).text c.in_ok-set-in-LangTag.ensures c.tag_of.ensures.tag t in
-    holds_fits n (record self { tag = tag }) c.hold.new.self held.WithTag _ c.hold.ensures
-    (record { level = o.level; frame = o.frame; frames = o.frames }) (omega (arith, size, b))
+    let n = c.in_default in
+    record {
+      means = λ form. means_at form self c.args.kind c.after_object.result _ _
+          (λ s l. text-else (setting_in s self) (text_in self) (place_in self) c.args.kind l n.not-LangTag n.not-AtBase n.not-AtPrefix n.not-Carets)
+          (c.after_object.ensures.means form);
+      suits = c.after_object.ensures.suits;
+      frames = c.after_object.ensures.frames;
+      fits = λ m o h. c.after_object.ensures.fits m o;
+    }

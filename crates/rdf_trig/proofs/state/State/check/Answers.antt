@@ -1,22 +1,44 @@
-use Rattle.std.proofs.Common.{[], None, sym, ◌∙◌}
+use Rattle.std.proofs.Common.{◌≡◌, false, true, [], None, sym, subst, ◌∙◌, ◌&&◌}
+use Rattle.std.specs.Prelude.{nat_le}
 use Rattle.rdf_iri.specs.Scope.{InForce}
 use Rattle.rdf_lines.specs.Lines.{Leaf}
+use Rattle.rdf_trig.specs.Machine as M
+use Rattle.rdf_trig.specs.States.{mode_in}
 use Rattle.rdf_trig.specs.Steps.{state_of}
-use Rattle.rdf_trig.proofs.code.AnswersOfSteps.{not_allowed, may_count}
+use Rattle.rdf_trig.proofs.code.AnswersOfSteps.{deep_refused, no_reply, may_count}
+use Rattle.rdf_trig.proofs.code.TurnsLemmas.{turn_goes}
 use Rattle.rdf_trig.proofs.state.State.check.Goals as goal
 
-pub returns-then-not-allows-clause-err : goal.returns-then-not-allows-clause-err
-returns-then-not-allows-clause-err g c s l e =
-    let n = state_of c.args.form s c.args.self.now in
-    not_allowed c.args.form n c.args.kind l (sym (c.allows.ensures n.setting l) ∙ c.if-not-allows.true)
+pub returns-in-None-clause-err : goal.returns-in-None-clause-err
+returns-in-None-clause-err g c s l e = no_reply c.args.rules.form (state_of c.args.rules.form s c.args.self.now) c.args.kind l (c.in-None.ensures.means s l)
 
-pub returns-clause-room : goal.returns-clause-room
-returns-clause-room g c =
+pub returns-then-is_too_deep-clause-err : goal.returns-then-is_too_deep-clause-err
+returns-then-is_too_deep-clause-err g c s l e =
+    let self = c.args.self.now in
+    let form = c.args.rules.form in
+    let k = c.args.kind in
+    deep_refused form (state_of form s self) k l (turn_goes form self self.mode k c.in-Some.turn c.in-Some.ensures.means s l)
+    (subst (λ d. (M.deepens k && nat_le d (M.depth (mode_in form self))) ≡ true) (sym e)
+    (subst (λ d. (M.deepens k && nat_le c.args.rules.limits.depth d) ≡ true) c.requires
+    (subst (λ d. (M.deepens k && nat_le d self.depth) ≡ true) c.depth.ensures (sym c.is_too_deep.ensures.is ∙ c.if-is_too_deep.true))))
+
+pub returns-else-is_too_deep-clause-ok : goal.returns-else-is_too_deep-clause-ok
+returns-else-is_too_deep-clause-ok g c s l e =
+    let self = c.args.self.now in
+    let form = c.args.rules.form in
+    let k = c.args.kind in (
+      turn_goes form self self.mode k c.in-Some.turn c.in-Some.ensures.means s l,
+      subst (λ d. (M.deepens k && nat_le d (M.depth (mode_in form self))) ≡ false) (sym e)
+          (subst (λ d. (M.deepens k && nat_le c.args.rules.limits.depth d) ≡ false) c.requires
+          (subst (λ d. (M.deepens k && nat_le d self.depth) ≡ false) c.depth.ensures (sym c.is_too_deep.ensures.is ∙ c.if-is_too_deep.false))),
+    )
+
+pub returns-else-is_too_deep-clause-room : goal.returns-else-is_too_deep-clause-room
+returns-else-is_too_deep-clause-room g c =
     let s : InForce = record { base = None; bindings = []; limits = record { token = 0; iri = 0; depth = 0; bindings = 0 } } in
     let l : Leaf = record { text = []; at = record { offset = 0; line = 0 } } in
-    let n = state_of c.args.form s c.args.self.now in
-    may_count c.args.form n.setting n.mode c.args.kind l c.args.self.now.depth
-    (sym (c.allows.ensures n.setting l) ∙ c.if-not-allows.false) c.requires (c.is_too_deep.ensures.room c.if-is_too_deep.false)
-
-pub returns-clause-deep : goal.returns-clause-deep
-returns-clause-deep g c = c.is_too_deep.ensures.deep c.if-is_too_deep.false
+    let self = c.args.self.now in
+    let form = c.args.rules.form in
+    let n = state_of form s self in
+    may_count form n.setting n.mode c.args.kind l self.depth
+    (turn_goes form self self.mode c.args.kind c.in-Some.turn c.in-Some.ensures.means s l) c.requires (c.is_too_deep.ensures.room c.if-is_too_deep.false)

@@ -1,14 +1,20 @@
-use Rattle.rdf_trig.specs.States.{leaf}
+-- A token in each mode outside of statements.
 use Rattle.rdf_trig.proofs.state.State.outer_turn.Goals as goal
 
-pub returns-in-WantPrefix-clause-gives : goal.returns-in-WantPrefix-clause-gives
-returns-in-WantPrefix-clause-gives g c = rw c.in-WantPrefix.is (λ s h. c.want_prefix.ensures.gives c.args.form s)
+pub returns-in-Start-clause-means : goal.returns-in-Start-clause-means
+returns-in-Start-clause-means g c = rw c.in-Start.is c.start.ensures.means
 
-pub returns-in-GraphWord-clause-gives : goal.returns-in-GraphWord-clause-gives
-returns-in-GraphWord-clause-gives g c = rw c.in-GraphWord.is (λ s h. c.graph_word.ensures.gives c.args.form s h)
+pub returns-in-Inside-clause-means : goal.returns-in-Inside-clause-means
+returns-in-Inside-clause-means g c = rw c.in-Inside.is (c.inside.ensures.means c.args.form)
 
-pub returns-in-GraphBracket-clause-gives : goal.returns-in-GraphBracket-clause-gives
-returns-in-GraphBracket-clause-gives g c = rw c.in-GraphBracket.is (λ s h. c.graph_bracket.ensures.gives c.args.form s (leaf c.args.token.now))
+pub returns-in-WantDot-clause-means : goal.returns-in-WantDot-clause-means
+returns-in-WantDot-clause-means g c = rw c.in-WantDot.is (c.want_dot.ensures.means c.args.form)
 
-pub returns-in-WantBrace-clause-gives : goal.returns-in-WantBrace-clause-gives
-returns-in-WantBrace-clause-gives g c = rw c.in-WantBrace.is (λ s h. c.want_brace.ensures.gives c.args.form s (leaf c.args.token.now))
+pub returns-in-GraphWord-clause-means : goal.returns-in-GraphWord-clause-means
+returns-in-GraphWord-clause-means g c = rw c.in-GraphWord.is (c.graph_word.ensures.means c.args.form)
+
+pub returns-in-GraphBracket-clause-means : goal.returns-in-GraphBracket-clause-means
+returns-in-GraphBracket-clause-means g c = rw c.in-GraphBracket.is (c.graph_bracket.ensures.means c.args.form)
+
+pub returns-in-WantBrace-clause-means : goal.returns-in-WantBrace-clause-means
+returns-in-WantBrace-clause-means g c = rw c.in-WantBrace.is (c.want_brace.ensures.means c.args.form)

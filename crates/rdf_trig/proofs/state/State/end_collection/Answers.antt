@@ -1,0 +1,11 @@
+use Rattle.std.proofs.Common.{◌∙◌, ap}
+use Rattle.rdf_trig.specs.States.{up_in}
+use Rattle.rdf_trig.specs.Machine as M
+use Rattle.rdf_trig.proofs.code.TurnsLemmas.{ended_at}
+use Rattle.rdf_trig.proofs.state.State.end_collection.Goals as goal
+
+pub returns-clause-takes : goal.returns-clause-takes
+returns-clause-takes g c = λ l form s u.
+    let closed = c.collection_closed-self in
+    ended_at form s u closed.new.self closed.result _ _ c.args.cell _ c.none-self.ensures closed.ensures.graph
+    (closed.ensures.mode form ∙ ap (M.list_closed (up_in c.args.self.now)) c.set_cell.ensures)

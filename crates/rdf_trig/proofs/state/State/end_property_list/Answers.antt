@@ -1,0 +1,7 @@
+use Rattle.rdf_trig.proofs.code.TurnsLemmas.{stands_at}
+use Rattle.rdf_trig.proofs.state.State.end_property_list.Goals as goal
+
+pub returns-clause-takes : goal.returns-clause-takes
+returns-clause-takes g c = λ l form s u.
+    let closed = c.brackets_closed-mode in
+    stands_at form s u closed.new.self c.stand.new.self closed.result _ _ c.stand.ensures closed.ensures.graph (closed.ensures.mode form)

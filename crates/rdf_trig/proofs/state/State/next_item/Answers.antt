@@ -1,0 +1,17 @@
+use Rattle.std.proofs.Common.{◌≡◌, subst}
+use Rattle.rdf_trig.specs.Machine as M
+use Rattle.rdf_trig.specs.States.{leaf, graph_of, rest_of, setting_in, up_in, moved}
+use Rattle.rdf_trig.specs.Turns.{begun}
+use Rattle.rdf_trig.proofs.code.TurnsLemmas.{on_ok}
+use Rattle.rdf_trig.proofs.state.State.next_item.Goals as goal
+
+pub returns-clause-takes : goal.returns-clause-takes
+returns-clause-takes g c = on_ok c.object.result _ _ (λ h form s u.
+    let self = c.args.self.now in
+    let at = c.args.token.now.offset in
+    subst (λ y. begun (setting_in s self) u self.name (M.InCells c.args.first at (up_in self)) (rest_of (graph_of self.level self.graph) y) c.args.start (leaf c.args.token.now)
+    ≡ moved form s u c.object.new.self) c.of.ensures (h form s u)) c.object.ensures.takes
+
+pub returns-clause-fits : goal.returns-clause-fits
+returns-clause-fits g c =
+    on_ok c.object.result _ _ (λ h n t i o b. h n t i (record { level = o.level; frame = tt; frames = o.frames })) c.object.ensures.fits
