@@ -591,6 +591,12 @@ fn the_longest_token_at_the_end_of_the_input(rt: HostRuntime) {
         ("<a b>", 100, Answer::Fault(Reason::NoToken, 0)),
         ("<\\u0020>", 100, Answer::Fault(Reason::BadEscape, 0)),
         ("\"\\uD800\"", 100, Answer::Fault(Reason::BadEscape, 0)),
+        ("\"\\U00110000\"", 100, Answer::Fault(Reason::BadEscape, 0)),
+        (
+            "'é\"\\uD7FF\\U0010FFFF'",
+            100,
+            Answer::Token(Kind::ShortString, 0, 1, 21),
+        ),
         ("é:ü ", 3, Answer::Token(Kind::PnameLn, 0, 1, 5)),
         ("é:ü ", 2, Answer::Fault(Reason::TokenTooLong, 0)),
         ("^^<a>", 1, Answer::Fault(Reason::TokenTooLong, 0)),
