@@ -127,7 +127,7 @@ impl<A: Allocator + Copy> State<A> {
     ) -> Result<u64, StepFault>
         requires token { IsTurtleToken token.now }
         requires short { length (leaf token.now).text ≤ scope.old.limits.token }
-        requires limits { rules.limits ≡ scope.old.limits }
+        requires most { rules.limits.depth ≡ scope.old.limits.depth }
         requires keeps { Keeps rules.form scope.old.limits self.old }
         requires live { S.has_failed sink.old ≡ false }
         ensures ok { OnOk result (AcceptsAll S.takes rules.form scope.old self.old token.now sink.old self.new scope.new sink.new) }

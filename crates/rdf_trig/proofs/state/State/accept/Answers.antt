@@ -1,7 +1,6 @@
 -- Each way through a step: a look-up or a put that failed, memory that was short at the end, and a token that was accepted.
-use Rattle.std.proofs.Common.{◌≡◌, ◌≤◌, ◌+◌, ◌∙◌, sym, ap, subst, refl, length, arith}
+use Rattle.std.proofs.Common.{◌≡◌, ◌≤◌, ◌∙◌, sym, ap, subst, refl, length, arith}
 use Rattle.rdf_terms.specs.Sinks.{Appends}
-use Rattle.rdf_iri.specs.Limits.{Sizes}
 use Rattle.rdf_trig.specs.Machine as M
 use Rattle.rdf_trig.proofs.machine.AcceptedTokens.{accepted}
 use Rattle.rdf_trig.specs.States.{leaf, moved, mode_in, use_in, scope_in, DepthMoves}
@@ -22,7 +21,7 @@ returns-in_err-look_up-clause-err g c =
     let l = leaf c.args.token.now in
     told_stops c.from_residual-in_err-look_up.result c.in_err-look_up.field-0.0 _ c.from_residual-in_err-look_up.ensures.1
     (λ s e. fails_stops g.S.QuadSink.takes g.S.QuadSink.leaves g.S.QuadSink.has_failed form (state_of form s self) k l c.in_err-look_up.field-0.0 c.args.sink.now c.requires.live
-    (c.in_ok-turn.ensures.ok s l (ap (λ z. z.depth) (e.limits ∙ sym c.requires.limits))) (c.in_err-look_up.ensures.err form s e))
+    (c.in_ok-turn.ensures.ok s l (ap (λ z. z.depth) e.limits ∙ sym c.requires.most)) (c.in_err-look_up.ensures.err form s e))
 
 pub returns-in_err-given-clause-err : goal.returns-in_err-given-clause-err
 returns-in_err-given-clause-err g c =
@@ -33,7 +32,7 @@ returns-in_err-given-clause-err g c =
     let l = leaf token in
     told_stops c.from_residual-in_err-given.result c.in_err-given.field-0.0 _ c.from_residual-in_err-given.ensures.1
     (λ s e. fails_gave g.S.QuadSink.takes g.S.QuadSink.leaves g.S.QuadSink.has_failed form (state_of form s self) k l c.in_err-given.field-0.0 c.args.sink.now c.give.new.sink
-    (c.in_ok-turn.ensures.ok s l (ap (λ z. z.depth) (e.limits ∙ sym c.requires.limits))) (c.in_ok-look_up.ensures.ok form s e).admitted
+    (c.in_ok-turn.ensures.ok s l (ap (λ z. z.depth) e.limits ∙ sym c.requires.most)) (c.in_ok-look_up.ensures.ok form s e).admitted
     (subst (λ r. GaveUp g.S.QuadSink.takes g.S.QuadSink.leaves g.S.QuadSink.has_failed c.in_err-given.field-0.0 (given form s r token) c.args.sink.now c.give.new.sink)
     c.look_up.ensures.same (c.in_err-given.ensures.err form s)))
 
@@ -46,7 +45,7 @@ returns-in_err-move_on-clause-err g c =
     let l = leaf token in
     told_stops c.from_residual-in_err-move_on.result c.in_err-move_on.field-0.0 _ c.from_residual-in_err-move_on.ensures.1
     (λ s e. fails_after g.S.QuadSink.takes g.S.QuadSink.leaves g.S.QuadSink.has_failed form (state_of form s self) k l c.in_err-move_on.field-0.0 c.args.sink.now c.give.new.sink
-    (c.in_ok-turn.ensures.ok s l (ap (λ z. z.depth) (e.limits ∙ sym c.requires.limits))) (c.in_ok-look_up.ensures.ok form s e).admitted
+    (c.in_ok-turn.ensures.ok s l (ap (λ z. z.depth) e.limits ∙ sym c.requires.most)) (c.in_ok-look_up.ensures.ok form s e).admitted
     (subst (λ r. Appends g.S.QuadSink.takes c.args.sink.now (given form s r token) c.give.new.sink) c.look_up.ensures.same (c.in_ok-given.ensures.ok form s))
     c.in_err-move_on.ensures.err c.in_ok-given.ensures.live)
 
@@ -74,7 +73,7 @@ returns-clause-ok g c = λ s e.
     let now = scope_in s m k l in
     let u = use_in s m k l in
     accepts_moved g.S.QuadSink.takes form s c.look_up.new.scope self c.move_on.new.self k l name c.args.sink.now c.give.new.sink
-    (c.in_ok-turn.ensures.ok s l (ap (λ z. z.depth) (e.limits ∙ sym c.requires.limits))) looks
+    (c.in_ok-turn.ensures.ok s l (ap (λ z. z.depth) e.limits ∙ sym c.requires.most)) looks
     (c.in_ok-turn.ensures.turn s l name looks.name ∙ (sym (turned_named form self name now u name turn l)
     ∙ subst (λ r. turned form r now u name turn l ≡ moved form now u c.move_on.new.self) same (c.in_ok-move_on.ensures.takes form now u)))
     (subst (λ r. Appends g.S.QuadSink.takes c.args.sink.now (given form s r token) c.give.new.sink) same (c.in_ok-given.ensures.ok form s))
@@ -118,7 +117,7 @@ returns-clause-keeps g c =
     (c.in_ok-turn.ensures.turn s l name looks.name ∙ (sym (turned_named form self name now u name turn l)
     ∙ subst (λ r. turned form r now u name turn l ≡ moved form now u c.move_on.new.self) same (c.in_ok-move_on.ensures.takes form now u)))
     (subst (λ r. DepthMoves k r.depth c.move_on.new.self.depth) same c.in_ok-move_on.ensures.depth)
-    (λ d. subst (λ (z : Sizes). self.depth + 1 ≤ z.depth) c.requires.limits (c.in_ok-turn.ensures.deep d))
+    (λ d. rw (sym c.requires.most) (c.in_ok-turn.ensures.deep d))
     (omega (arith, frames, most))
     (c.in_ok-move_on.ensures.fits (most_text sizes) (token_within sizes token c.requires.short)
     (name_within sizes sizes name refl c.in_ok-look_up.ensures.fits)
