@@ -1,5 +1,5 @@
 -- The texts of bindings: where their parts stand, and that a text says one thing.
-use Rattle.std.proofs.Common.{◌≡◌, ◌≢◌, ℕ, ◌*◌, ◌≤◌, true, false, List, [], ◌∷◌, ◌++◌, ◌==◌, length, drop, Option, Some, None, option_map, inl, inr, refl, sym, ap, ◌∙◌, subst, ⊎_elim, arith, encode_utf8}
+use Rattle.std.proofs.Common.{◌≡◌, ◌≢◌, ℕ, true, false, List, [], ◌∷◌, ◌++◌, ◌==◌, length, drop, Option, Some, None, option_map, inl, inr, refl, sym, ap, ◌∙◌, subst, ⊎_elim, arith}
 use Rattle.std.specs.Str.{chars, IsUtf8, encode_utf8_all}
 use Rattle.std.proofs.lemmas.Bool.{cases_Bool, cond-true, cond-false, and_parts, and_from}
 use Rattle.std.proofs.lemmas.Str.{encodes-chars, chars-encodes, scalars-chars}

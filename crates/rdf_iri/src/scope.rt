@@ -12,7 +12,7 @@ use crate::bindings::Bindings;
 use crate::fault::IriFault;
 use crate::limits::Limits;
 use crate::resolution::{resolve, resolve_in_place};
-use rdf_terms::Iri;
+use rdf_terms::{Iri, text_len};
 use std::alloc::{Allocator, Global};
 use std::collections::BTreeMap;
 use std::marker::Model;
@@ -197,7 +197,7 @@ fn base_len<A: Allocator>(base: Option<&Iri<A>>) -> u64
 fn iri_len<A: Allocator>(iri: &Iri<A>) -> u64
     ensures { result ≡ byte_len iri.now }
 {
-    iri.as_str().len() as u64
+    text_len(iri.as_str())
 }
 
 /// Puts an IRI with more characters after it in place of a text.

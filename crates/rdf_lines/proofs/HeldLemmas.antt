@@ -1,10 +1,8 @@
 -- How many bytes the texts have that tokens spell.
-use Rattle.std.proofs.Common.{◌≡◌, ℕ, ◌*◌, ◌≤◌, List, length, drop, sym, ap, ◌∙◌, IsUtf8, arith}
+use Rattle.std.proofs.Common.{◌≡◌, ℕ, ◌*◌, ◌≤◌, List, length, drop, ap, arith}
 use Rattle.std.proofs.lemmas.List.{length-drop}
-use Rattle.std.specs.Str.{chars}
 use Rattle.rdf_iri.specs.Texts.{byte_len}
 use Rattle.rdf_terms.proofs.CharsLemmas.{few_bytes}
-use Rattle.rdf_iri.proofs.ResolvedText.{byte_len-chars}
 
 -- what is left of a token without some characters at its front has at most four bytes for each of the token's
 pub rest_bytes : (n : ℕ) (w v : List ℕ) → v ≡ drop n w → byte_len v ≤ 4 * length w

@@ -1,15 +1,10 @@
 -- What an IRIREF spells, and whether it is taken.
-use Rattle.std.proofs.Common.{◌≡◌, ℕ, zero, suc, ◌+◌, ◌*◌, ◌<◌, ◌≤◌, not, nat_lt, true, false, cond, List, [], ◌∷◌, ◌++◌, ◌&&◌, ◌==◌, drop, length, IsUtf8, arith, Option, Some, None, is_some, option_map, refl, sym, ap, ◌∙◌, subst, ⊎_elim}
-use Rattle.std.proofs.lemmas.Bool.{and_from, and_right, le-ltb, lt-ltb, cases_Bool, cond-true, cond-false, cond_both}
+use Rattle.std.proofs.Common.{◌≡◌, ℕ, ◌<◌, ◌≤◌, not, nat_lt, true, false, List, length, IsUtf8, arith, Some, ap}
+use Rattle.std.proofs.lemmas.Bool.{and_from, and_right, le-ltb, lt-ltb, cond-true}
 use Rattle.std.specs.Str.{chars}
-use Rattle.rdf_terms.specs.Classes.{has, scalar}
-use Rattle.rdf_terms.specs.Classes.Class.{hex_digit, iri_char}
-use Rattle.rdf_terms.specs.declared.kind.Dialect.TheVariants.{Lines}
-use Rattle.rdf_terms.specs.declared.kind.Kind.TheVariants.{IriRef, LabelNode, ShortString, LangTag}
 use Rattle.rdf_terms.specs.declared.reason.Reason.TheVariants.{RelativeIri, IriTooLong}
-use Rattle.rdf_terms.specs.Shapes.{shape, Shape}
-use Rattle.rdf_terms.specs.Terms.{all_have, has_scheme, IsIri, IsLabel, IsTag}
-use Rattle.rdf_terms.specs.Values.{EscapeState, outside, slash, digits, Move, leads, means, fails, of_iri, allowed, hex_value, digit_move, move, go, value, iri_value, string_value, inside, is_fit}
+use Rattle.rdf_terms.specs.Terms.{has_scheme, IsIri}
+use Rattle.rdf_terms.specs.Values.{iri_value}
 use Rattle.rdf_terms.proofs.ValuesLemmas.{iri_value_characters}
 use Rattle.rdf_iri.specs.Texts.{byte_len}
 use Rattle.rdf_iri.proofs.ResolvedText.{byte_len-chars}

@@ -1,8 +1,8 @@
 -- The lines of a document's quads keep limits that are a little higher than the document's.
-use Rattle.std.proofs.Common.{◌≡◌, ℕ, ◌+◌, ◌-◌, ◌*◌, ◌<◌, ◌≤◌, true, List, [], ◌∷◌, ◌++◌, length, drop, refl, ap, subst, ⊎_elim, Option, Some, None, option_map, unwrap_or, arith, length-append}
+use Rattle.std.proofs.Common.{◌≡◌, ℕ, ◌+◌, ◌-◌, ◌*◌, ◌<◌, ◌≤◌, true, List, [], ◌∷◌, ◌++◌, length, drop, refl, ap, subst, ⊎_elim, Option, Some, None, option_map, arith, length-append}
 use Rattle.std.specs.Prelude.{map, flat_map, ◌==◌}
 use Rattle.std.specs.List.{All, AllByRecursion}
-use Rattle.std.proofs.lemmas.List.{length-take, length-drop}
+use Rattle.std.proofs.lemmas.List.{length-drop}
 use Rattle.std.proofs.lemmas.List.Elements.{All-head, All-tail}
 use Rattle.std.proofs.lemmas.Bool.{cases_lt, cond_both}
 use Rattle.std.proofs.lemmas.Bool.Decides.{nat_tests}
@@ -12,7 +12,6 @@ use Rattle.std.proofs.Math.Nat.{mul-suc, mul-add}
 use Rattle.std.specs.Char.{len_utf8}
 use Rattle.rdf_terms.specs.declared.kind.Dialect.TheVariants.{Lines}
 use Rattle.rdf_terms.specs.declared.kind.Kind.TheVariants.{IriRef, LabelNode, ShortString, LangTag, Dot, LineEnd, End}
-use Rattle.rdf_terms.specs.Values.{EscapeState, outside, slash, digits, Move, leads, means, fails, of_string, move, go, value, string_value, inside}
 use Rattle.rdf_terms.specs.Terms.{Quad, xsd_string}
 use Rattle.rdf_terms.proofs.SpelledLemmas.{string_short}
 use Rattle.rdf_iri.specs.Texts.{byte_len}

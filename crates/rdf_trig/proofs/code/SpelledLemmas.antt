@@ -1,18 +1,16 @@
 -- What the shape of a token says of what it spells.
-use Rattle.std.proofs.Common.{◌≡◌, ℕ, Bool, true, false, List, [], ◌∷◌, ◌++◌, ◌||◌, ◌&&◌, ◌==◌, length, drop, None, is_some, refl, sym, ap, ◌∙◌, subst, inl, inr, ⊎_elim}
+use Rattle.std.proofs.Common.{◌≡◌, ℕ, true, List, [], ◌∷◌, ◌++◌, ◌==◌, length, drop, refl, sym, ap, ◌∙◌, subst, ⊎_elim}
 use Rattle.std.specs.Prelude.{codes}
-use Rattle.std.specs.List.{AllByRecursion}
-use Rattle.std.proofs.lemmas.Bool.{false≢true, eqb-true, and_parts}
-use Rattle.rdf_terms.specs.Classes.{Class, has, scalar, is_base, is_digit, within}
-use Rattle.rdf_terms.specs.Classes.Class.{pn_u, pn_char, the}
-use Rattle.rdf_terms.specs.Regex.{Regex, Matches}
-use Rattle.rdf_terms.specs.Regex.Regex.{nothing, empty, one, ◌·◌, ◌∣◌, many}
+use Rattle.std.proofs.lemmas.Bool.{eqb-true, and_parts}
+use Rattle.rdf_terms.specs.Classes.{has, scalar}
+use Rattle.rdf_terms.specs.Classes.Class.{the}
+use Rattle.rdf_terms.specs.Regex.{Matches}
 use Rattle.rdf_terms.specs.declared.kind.Kind.{Kind}
-use Rattle.rdf_terms.specs.declared.kind.Dialect.TheVariants.{Lines, Turtle}
-use Rattle.rdf_terms.specs.declared.kind.Kind.TheVariants.{IriRef, LabelNode, LangTag, AtPrefix, AtBase, ShortString, LongString, True, False, End}
-use Rattle.rdf_terms.specs.Shapes.{shape, Shape, label_name, tag_name, word}
-use Rattle.rdf_terms.specs.Terms.{IsLabel, IsTag}
-use Rattle.rdf_terms.specs.Values.{string_value, iri_value, inside, is_fit}
+use Rattle.rdf_terms.specs.declared.kind.Dialect.TheVariants.{Turtle}
+use Rattle.rdf_terms.specs.declared.kind.Kind.TheVariants.{IriRef, LangTag, AtPrefix, AtBase, True, False, End}
+use Rattle.rdf_terms.specs.Shapes.{shape, Shape, tag_name, word}
+use Rattle.rdf_terms.specs.Terms.{IsTag}
+use Rattle.rdf_terms.specs.Values.{is_fit}
 use Rattle.rdf_trig.specs.Scopes.{IsReference}
 use Rattle.rdf_tokens.specs.declared.token.Token.{Token as Given}
 use Rattle.rdf_trig.specs.States.{leaf, IsTurtleToken}
