@@ -45,10 +45,10 @@ impl<A: Allocator + Copy> State<A> {
 
     // The `]` at the end of a predicate list.
     pub fn end_property_list(&mut self)
-        ensures takes { (l : Leaf) → Takes self.old (Turn.EndPropertyList) l self.new }
+        ensures takes { (l : Leaf) → Takes self.old Turn.EndPropertyList l self.new }
         ensures depth { self.new.depth ≡ self.old.depth }
-        ensures stack { FramesTaken self.old (Turn.EndPropertyList) self.new }
-        ensures fits { TurnFits self.old (Turn.EndPropertyList) self.new }
+        ensures stack { FramesTaken self.old Turn.EndPropertyList self.new }
+        ensures fits { TurnFits self.old Turn.EndPropertyList self.new }
     {
         let mode = self.brackets_closed();
         self.stand(mode);
@@ -56,10 +56,10 @@ impl<A: Allocator + Copy> State<A> {
 
     // The `)` after `(`.
     pub fn empty_collection(&mut self)
-        ensures takes { (l : Leaf) → Takes self.old (Turn.EmptyCollection) l self.new }
+        ensures takes { (l : Leaf) → Takes self.old Turn.EmptyCollection l self.new }
         ensures depth { self.new.depth ≡ self.old.depth }
-        ensures stack { FramesTaken self.old (Turn.EmptyCollection) self.new }
-        ensures fits { TurnFits self.old (Turn.EmptyCollection) self.new }
+        ensures stack { FramesTaken self.old Turn.EmptyCollection self.new }
+        ensures fits { TurnFits self.old Turn.EmptyCollection self.new }
     {
         self.frame.subject.set_nil();
         let mode = self.collection_closed();

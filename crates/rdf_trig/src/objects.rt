@@ -126,10 +126,10 @@ impl<A: Allocator + Copy> State<A> {
     pub fn take_tag(&mut self, token: &Token<'_>) -> Result<(), StepFault>
         requires token { IsTurtleToken token.now }
         requires tag { SpellsTag token.now.kind }
-        ensures takes { OnOk result (Takes self.old (Turn.Tag) (leaf token.now) self.new) }
+        ensures takes { OnOk result (Takes self.old Turn.Tag (leaf token.now) self.new) }
         ensures depth { self.new.depth ≡ self.old.depth }
-        ensures stack { OnOk result (FramesTaken self.old (Turn.Tag) self.new) }
-        ensures fits { OnOk result (TakesFit self.old (Turn.Tag) token.now self.new) }
+        ensures stack { OnOk result (FramesTaken self.old Turn.Tag self.new) }
+        ensures fits { OnOk result (TakesFit self.old Turn.Tag token.now self.new) }
         ensures err { IfErr result (λ r. r ≡ StepFault.Memory) }
     {
         self.tag.set(tag_of(token))?;
@@ -140,10 +140,10 @@ impl<A: Allocator + Copy> State<A> {
     // The datatype of a string.
     pub fn take_datatype(&mut self)
         requires named { is_some self.old.name ≡ true }
-        ensures takes { (l : Leaf) → Takes self.old (Turn.Datatype) l self.new }
+        ensures takes { (l : Leaf) → Takes self.old Turn.Datatype l self.new }
         ensures depth { self.new.depth ≡ self.old.depth }
-        ensures stack { FramesTaken self.old (Turn.Datatype) self.new }
-        ensures fits { TurnFits self.old (Turn.Datatype) self.new }
+        ensures stack { FramesTaken self.old Turn.Datatype self.new }
+        ensures fits { TurnFits self.old Turn.Datatype self.new }
     {
         mem::swap(&mut self.datatype, &mut self.name);
         self.hold(Rest::none(), Held::WithType);

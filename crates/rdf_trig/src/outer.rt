@@ -49,10 +49,10 @@ impl<A: Allocator + Copy> State<A> {
     // The IRI of a graph, after GRAPH.
     pub fn graph_name(&mut self)
         requires named { is_some self.old.name ≡ true }
-        ensures takes { (l : Leaf) → Takes self.old (Turn.GraphName) l self.new }
+        ensures takes { (l : Leaf) → Takes self.old Turn.GraphName l self.new }
         ensures depth { self.new.depth ≡ self.old.depth }
-        ensures stack { FramesTaken self.old (Turn.GraphName) self.new }
-        ensures fits { TurnFits self.old (Turn.GraphName) self.new }
+        ensures stack { FramesTaken self.old Turn.GraphName self.new }
+        ensures fits { TurnFits self.old Turn.GraphName self.new }
     {
         self.graph.take(&mut self.name);
         self.lead(Outer::WantBrace);
@@ -62,10 +62,10 @@ impl<A: Allocator + Copy> State<A> {
     pub fn graph_label(&mut self, token: &Token<'_>) -> Result<(), StepFault>
         requires token { IsTurtleToken token.now }
         requires label { token.now.kind ≡ Kind.LabelNode }
-        ensures takes { OnOk result (Takes self.old (Turn.GraphLabel) (leaf token.now) self.new) }
+        ensures takes { OnOk result (Takes self.old Turn.GraphLabel (leaf token.now) self.new) }
         ensures depth { self.new.depth ≡ self.old.depth }
-        ensures stack { OnOk result (FramesTaken self.old (Turn.GraphLabel) self.new) }
-        ensures fits { OnOk result (TakesFit self.old (Turn.GraphLabel) token.now self.new) }
+        ensures stack { OnOk result (FramesTaken self.old Turn.GraphLabel self.new) }
+        ensures fits { OnOk result (TakesFit self.old Turn.GraphLabel token.now self.new) }
         ensures err { IfErr result (λ r. r ≡ StepFault.Memory) }
     {
         self.graph.set_label(label_of(token.text))?;
@@ -87,10 +87,10 @@ impl<A: Allocator + Copy> State<A> {
 
     // The `{` after what would be a subject: it is a graph's label.
     pub fn subject_block(&mut self)
-        ensures takes { (l : Leaf) → Takes self.old (Turn.SubjectBlock) l self.new }
+        ensures takes { (l : Leaf) → Takes self.old Turn.SubjectBlock l self.new }
         ensures depth { self.new.depth ≡ self.old.depth }
-        ensures stack { FramesTaken self.old (Turn.SubjectBlock) self.new }
-        ensures fits { TurnFits self.old (Turn.SubjectBlock) self.new }
+        ensures stack { FramesTaken self.old Turn.SubjectBlock self.new }
+        ensures fits { TurnFits self.old Turn.SubjectBlock self.new }
     {
         mem::swap(&mut self.graph, &mut self.frame.subject);
         self.lead(Outer::Inside(Block::Named));

@@ -17,10 +17,10 @@ impl<A: Allocator + Copy> State<A> {
     pub fn take(&mut self, turn: Turn, token: &Token<'_>) -> Result<(), StepFault>
         requires token { IsTurtleToken token.now }
         requires suits { Suits turn token.now.kind self.old.name }
-        ensures takes { OnOk result (Takes self.old (turn) (leaf token.now) self.new) }
+        ensures takes { OnOk result (Takes self.old turn (leaf token.now) self.new) }
         ensures depth { self.new.depth ≡ self.old.depth }
-        ensures stack { OnOk result (FramesTaken self.old (turn) self.new) }
-        ensures fits { OnOk result (TakesFit self.old (turn) token.now self.new) }
+        ensures stack { OnOk result (FramesTaken self.old turn self.new) }
+        ensures fits { OnOk result (TakesFit self.old turn token.now self.new) }
         ensures err { IfErr result (λ r. r ≡ StepFault.Memory) }
     {
         match turn {

@@ -1,4 +1,4 @@
--- What a function gave, where its reply is known by an equation.
+-- What parts of the table mean, and what is known of each turn and of the states after it.
 use Rattle.std.proofs.Common.{◌≡◌, ℕ, Option, None, List, Result, Ok, Err, true, Some, refl, sym, ap, subst, ◌∙◌}
 use Rattle.std.specs.Prelude.{OnOk, IfErr, IfSome, MatchOption, is_some}
 use Rattle.rdf_iri.specs.Scope.{InForce}
