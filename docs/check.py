@@ -44,7 +44,7 @@ class Counts:
 
 def limits():
     """Name, least, most and default of each option that has a number, as the code hands them to clap."""
-    found = re.findall(r'limit_option\(\s*alloc,\s*"(\w+)",\s*(\d+),\s*(\d+),\s*"(\d+)"', read('crates/rdf_tool/src/options.rt'))
+    found = re.findall(r'name: "(\w+)",\s*least: (\d+),\s*most: (\d+),\s*default: "(\d+)"', read('crates/rdf_tool/src/options.rt'))
     return [(name, int(least), int(most), int(default)) for name, least, most, default in found]
 
 

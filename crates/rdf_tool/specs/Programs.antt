@@ -5,6 +5,7 @@ use Rattle.clap.specs.Words.{Text}
 use Rattle.clap.specs.declared.builder.value_parser.ValueParser.{ValueParser}
 use Rattle.clap.specs.declared.error.kind.ErrorKind.TheVariants.{InvalidValue}
 use Rattle.rdf_stream.specs.Devices.{Written}
+use Rattle.rdf_tool.specs.declared.host.Host as host
 use Rattle.rdf_tool.specs.declared.task.Task.{Task}
 use Rattle.rdf_tool.specs.declared.task.WordsFault.{WordsFault}
 use Rattle.rdf_tool.specs.declared.task.WordsFault.TheVariants.{Memory}
@@ -12,13 +13,21 @@ use Rattle.rdf_tool.specs.Runs.{RunEnds}
 use Rattle.rdf_tool.specs.Statuses.{GoesTo, RefusesWords, Reports}
 use Rattle.rdf_tool.specs.Words.{GivesNone, GivesTask, IsUsageOf, TakesFormats, rdfconv}
 
+-- These words give the task, as the command line of the program defines it.
+abbrev pub IsTaskOf : List Text → Task → Type 0
+IsTaskOf words t = (formats : ValueParser) × TakesFormats formats × GivesTask (rdfconv formats) words t
+
+-- These words give no task, for this reason.
+abbrev pub IsNoTaskOf : List Text → WordsFault → Type 0
+IsNoTaskOf words fault = (formats : ValueParser) × TakesFormats formats × GivesNone (rdfconv formats) words fault
+
 -- the words of the command line give the task
 abbrev pub IsGiven : (List Text → Type 0) → Task → Type 0
-IsGiven has_words t = (words : List Text) × has_words words × ((formats : ValueParser) × TakesFormats formats × GivesTask (rdfconv formats) words t)
+IsGiven has_words t = (words : List Text) × has_words words × IsTaskOf words t
 
 -- the words of the command line give no task, for this reason
 abbrev pub GiveNone : (List Text → Type 0) → WordsFault → Type 0
-GiveNone has_words fault = (words : List Text) × has_words words × ((formats : ValueParser) × TakesFormats formats × GivesNone (rdfconv formats) words fault)
+GiveNone has_words fault = (words : List Text) × has_words words × IsNoTaskOf words fault
 
 -- There is no task: the words give none, one of them is no UTF-8, or memory was refused.
 abbrev pub IsNotGiven : (List Text → Type 0) → Type 0 → WordsFault → Type 0
@@ -65,3 +74,8 @@ ProgramEnds has_words has_bad_word has_document is_shut status out_old out err_o
     ((task : Task) × IsGiven has_words task × TaskEnds has_document is_shut task status out_old out err_old err)
     ⊎ ((fault : WordsFault) × IsNotGiven has_words has_bad_word fault
     × RefusesWords fault status err_old err.contents err.has_failed × GoesTo fault out_old out.contents err_old err.contents)
+
+-- The program ended so over what its host starts it with: the words, the documents, and the files that do not open.
+abbrev pub HostEnds : {H I : Type 0} → host.Ghosts H I → H → ℕ → Option (List ℕ) → Written → Option (List ℕ) → Written → Type 0
+HostEnds says h status out_old out err_old err =
+    ProgramEnds (says.has_words h) (says.has_bad_word h) (says.has_document h) (says.is_shut h) status out_old out err_old err

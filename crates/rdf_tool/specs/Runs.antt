@@ -4,7 +4,9 @@ use Rattle.std.specs.Io.KnownBytes.{Appends}
 use Rattle.rdf_driver.specs.declared.summary.Summary.{Summary}
 use Rattle.rdf_stream.specs.Checks.{CheckStops, IsAccepted}
 use Rattle.rdf_stream.specs.Converts.{IsConverted, StopsFor}
+use Rattle.rdf_stream.specs.declared.devices.Drain as drain
 use Rattle.rdf_stream.specs.Devices.{AppendsFront, Reading, Written}
+use Rattle.rdf_stream.specs.Told.{written}
 use Rattle.rdf_iri.specs.Limits.{Sizes}
 use Rattle.rdf_iri.specs.Bindings.{BindingMap}
 use Rattle.rdf_stream.specs.Jobs.{JobRead, word_of}
@@ -23,6 +25,11 @@ use Rattle.rdf_tool.specs.Statuses.{ReportsLoad, ReportsFault, load_status, stat
 -- the job that a task asks for, with these bindings
 abbrev pub job_of : Task → List (List ℕ × List ℕ) → JobRead
 job_of t bindings = record { form = t.form; base = t.base; bindings = bindings; escapes = t.escapes; node_prefix = word_of t.node_prefix; limits = t.limits }
+
+-- The claim holds of the bytes that the output held and of what it tells now, and of the same of the error output.
+abbrev pub AsWritten : {O E : Type 0} → (Option (List ℕ) → Written → Option (List ℕ) → Written → Type 0)
+    → drain.Ghosts O → drain.Ghosts E → O → O → E → E → Type 0
+AsWritten claim out err out_old out_new err_old err_new = claim (out.contents out_old) (written out out_new) (err.contents err_old) (written err err_new)
 
 -- no call was made of these sources
 pub record AreFresh {I : Type 0} (has_ended has_failed : I → Bool) (files : Files I) : Type 0 where
@@ -83,6 +90,10 @@ DocumentEnds t bindings status known source out_old out err_old err =
 abbrev pub StartsWith : Sizes → Option (Option (List ℕ)) → List (List ℕ × List ℕ) → Type 0
 StartsWith sizes None bindings = bindings ≡ []
 StartsWith sizes (Some known) bindings = (b : BindingMap) × (left : Reading) × Loads sizes known left b × (bindings ≡ b.bindings)
+
+-- This is the job that the task asks for, with the bindings that its document starts with.
+abbrev pub IsJobOf : Task → Option (Option (List ℕ)) → JobRead → Type 0
+IsJobOf t prefixes job = (bindings : List (List ℕ × List ℕ)) × StartsWith t.limits prefixes bindings × (job ≡ job_of t bindings)
 
 -- Why there are no bindings to start with: the file of these bytes was not loaded.
 abbrev pub StartsNot : LoadFault → Sizes → Option (Option (List ℕ)) → Type 0

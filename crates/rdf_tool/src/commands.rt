@@ -7,6 +7,7 @@ ghost use Rattle.clap.specs.declared.builder.value_parser.ValueParser.TheVariant
 ghost use Rattle.rdf_iri.specs.Scope.{BaseFits};
 ghost use Rattle.rdf_lines.specs.declared.form.Escapes.TheVariants.{Ascii, Plain};
 ghost use Rattle.rdf_iri.specs.Texts.{byte_len};
+ghost use Rattle.rdf_tool.specs.Programs.{IsTaskOf, IsNoTaskOf};
 ghost use Rattle.rdf_tool.specs.Words.{Entered, GivesNone, GivesTask, HasLimits, HasNumber, HasSizes, IsBase, IsEntered, IsTaskBy, IsUsageOf, IsWord, NoBaseOf, NoTaskBy, NoWordOf, TakesFormats, escapes_by, format_names, number_of, rdfconv};
 
 use crate::names::{FORMATS, action_of, form_of};
@@ -20,10 +21,8 @@ use std::alloc::{AllocError, Global};
 /// The task that the words ask for. The first word is the program's name.
 pub fn command_of<'a>(alloc: Global, words: &'a [&'a str]) -> Result<Task, WordsFault>
     ensures base { IfOk result (λ task. BaseFits task.base task.limits) }
-    ensures task { IfOk result (λ task. (formats : ValueParser) × TakesFormats formats ×
-        GivesTask (rdfconv formats) (map (λ s. s.now) words.entry.now) task) }
-    ensures refused { IfErr result (λ fault. (formats : ValueParser) × TakesFormats formats ×
-        GivesNone (rdfconv formats) (map (λ s. s.now) words.entry.now) fault) }
+    ensures task { IfOk result (IsTaskOf (map (λ s. s.now) words.entry.now)) }
+    ensures refused { IfErr result (IsNoTaskOf (map (λ s. s.now) words.entry.now)) }
 {
     command_by(alloc, words, FORMATS.as_slice())
 }

@@ -3,7 +3,7 @@
 ghost use Rattle.std.specs.Prelude.{◌≡◌, IfOk, codes, false};
 ghost use Rattle.clap.specs.Words.{app_of, rule_of};
 ghost use Rattle.clap.specs.declared.builder.value_parser.ValueParser.TheVariants.{Names};
-ghost use Rattle.rdf_tool.specs.Words.{ReadsAs, action_app, ascii_rule, base_rule, file_rule, format_rule, limit_rule, node_prefix_rule, prefixes_rule, rdfconv, with_ascii, with_node_prefix, with_prefixes};
+ghost use Rattle.rdf_tool.specs.Words.{ReadsAs, action_app, ascii_rule, base_rule, bindings_rule, depth_rule, file_rule, format_rule, iri_rule, limit_rule, node_prefix_rule, prefixes_rule, rdfconv, token_rule, with_ascii, with_node_prefix, with_prefixes};
 
 use clap::builder::ValueParser;
 use clap::{Arg, ArgAction, Command};
@@ -56,6 +56,17 @@ Exit status:
   3  a file does not open, or a read or write failed
   4  out of memory";
 
+/// An option whose value is a number.
+#[derive(Clone, Copy)]
+struct Limit<'a> {
+    name: &'a str,
+    least: u64,
+    most: u64,
+    /// The number where the option is not given.
+    default: &'a str,
+    help: &'a str,
+}
+
 /// The whole command line, where a format has one of these names.
 pub fn program<'a>(alloc: Global, formats: &'a [&'a str]) -> Result<Command<'a>, AllocError>
     ensures { IfOk result (λ c. app_of c ≡ rdfconv (Names formats.entry)) }
@@ -106,38 +117,10 @@ fn action_command<'a>(
 {
     let format = format_option(alloc, formats);
     let base = base_option(alloc);
-    let token = limit_option(
-        alloc,
-        "token",
-        1,
-        268435456,
-        "16777216",
-        "Characters of one token, 1 to 268435456",
-    );
-    let depth = limit_option(
-        alloc,
-        "depth",
-        0,
-        1048576,
-        "1024",
-        "Brackets and parentheses open at one time, 0 to 1048576",
-    );
-    let bindings = limit_option(
-        alloc,
-        "bindings",
-        0,
-        16777216,
-        "65536",
-        "Prefixes bound at one time, 0 to 16777216",
-    );
-    let iri = limit_option(
-        alloc,
-        "iri",
-        1,
-        268435456,
-        "1048576",
-        "Bytes of one IRI, 1 to 268435456",
-    );
+    let token = token_option(alloc);
+    let depth = depth_option(alloc);
+    let bindings = bindings_option(alloc);
+    let iri = iri_option(alloc);
     let file = file_argument(alloc);
     Command::new(alloc, name)
         .about(about)
@@ -177,24 +160,81 @@ fn base_option<'a>(alloc: Global) -> Arg<'a>
         )
 }
 
-fn limit_option<'a>(
-    alloc: Global,
-    name: &'a str,
-    least: u64,
-    most: u64,
-    default: &'a str,
-    help: &'a str,
-) -> Arg<'a>
-    ensures rule { rule_of result ≡ limit_rule name.now least most default.now }
+fn token_option<'a>(alloc: Global) -> Arg<'a>
+    ensures rule { rule_of result ≡ token_rule }
     ensures local { result.global ≡ false }
 {
-    Arg::new(alloc, name)
-        .long(name)
+    limit_option(
+        alloc,
+        Limit {
+            name: "token",
+            least: 1,
+            most: 268435456,
+            default: "16777216",
+            help: "Characters of one token, 1 to 268435456",
+        },
+    )
+}
+
+fn depth_option<'a>(alloc: Global) -> Arg<'a>
+    ensures rule { rule_of result ≡ depth_rule }
+    ensures local { result.global ≡ false }
+{
+    limit_option(
+        alloc,
+        Limit {
+            name: "depth",
+            least: 0,
+            most: 1048576,
+            default: "1024",
+            help: "Brackets and parentheses open at one time, 0 to 1048576",
+        },
+    )
+}
+
+fn bindings_option<'a>(alloc: Global) -> Arg<'a>
+    ensures rule { rule_of result ≡ bindings_rule }
+    ensures local { result.global ≡ false }
+{
+    limit_option(
+        alloc,
+        Limit {
+            name: "bindings",
+            least: 0,
+            most: 16777216,
+            default: "65536",
+            help: "Prefixes bound at one time, 0 to 16777216",
+        },
+    )
+}
+
+fn iri_option<'a>(alloc: Global) -> Arg<'a>
+    ensures rule { rule_of result ≡ iri_rule }
+    ensures local { result.global ≡ false }
+{
+    limit_option(
+        alloc,
+        Limit {
+            name: "iri",
+            least: 1,
+            most: 268435456,
+            default: "1048576",
+            help: "Bytes of one IRI, 1 to 268435456",
+        },
+    )
+}
+
+fn limit_option<'a>(alloc: Global, limit: Limit<'a>) -> Arg<'a>
+    ensures rule { rule_of result ≡ limit_rule limit.entry.name.now limit.entry.least limit.entry.most limit.entry.default.now }
+    ensures local { result.global ≡ false }
+{
+    Arg::new(alloc, limit.name)
+        .long(limit.name)
         .action(ArgAction::Set)
         .value_name("N")
-        .help(help)
-        .value_parser(ValueParser::unsigned(least, most))
-        .default_value(default)
+        .help(limit.help)
+        .value_parser(ValueParser::unsigned(limit.least, limit.most))
+        .default_value(limit.default)
 }
 
 fn prefixes_option<'a>(alloc: Global) -> Arg<'a>

@@ -3,12 +3,13 @@
 ghost use Rattle.std.specs.Prelude.{◌≡◌, ◌++◌, ℕ, List, [], false, true, codes, decimal, IfErr, IfOk, IfSome, OnErr, OnOk, is_err, option_map};
 ghost use Rattle.std.specs.Io.KnownBytes.{Appends};
 ghost use Rattle.rdf_iri.specs.Scope.{BaseFits};
-ghost use Rattle.rdf_stream.specs.Devices.{AppendsFront, Reading, reading};
+ghost use Rattle.rdf_stream.specs.Devices.{AppendsFront, Reading};
 ghost use Rattle.rdf_stream.specs.Jobs.{word_of};
 ghost use Rattle.rdf_stream.specs.Loads.{LoadStops, Loads};
 ghost use Rattle.rdf_stream.specs.Messages.{report_text};
+ghost use Rattle.rdf_stream.specs.Told.{AsTold};
 ghost use Rattle.rdf_stream.specs.declared.fault.StreamFault.{StreamFault};
-ghost use Rattle.rdf_tool.specs.Runs.{AreFresh, Does, IsChecked, RunEnds, StartsNot, StartsWith, StopsAction, StopsCheck, accepted_text, job_of};
+ghost use Rattle.rdf_tool.specs.Runs.{AreFresh, AsWritten, Does, IsChecked, IsJobOf, RunEnds, StartsNot, StopsAction, StopsCheck, accepted_text};
 ghost use Rattle.rdf_tool.specs.Statuses.{GoesTo, RefusesWords, Reports, ReportsLoad, ReportsFault, load_status, prefixes_text, status_of};
 
 use crate::task::{Action, Task, WordsFault};
@@ -41,9 +42,8 @@ pub fn run<I: Source + Drop, O: Drain, E: Drain>(
     requires fresh { AreFresh I.has_ended I.has_failed files }
     requires out { O.has_failed out.old ≡ false }
     requires err { E.has_failed err.old ≡ false }
-    ensures { RunEnds task (option_map I.remaining files.prefixes) (I.remaining files.document) result
-        (O.contents out.old) (record { contents = O.contents out.new; has_failed = O.has_failed out.new; is_flushed = O.is_flushed out.new })
-        (E.contents err.old) (record { contents = E.contents err.new; has_failed = E.has_failed err.new; is_flushed = E.is_flushed err.new }) }
+    ensures { AsWritten (RunEnds task (option_map I.remaining files.prefixes) (I.remaining files.document) result)
+        O.Drain E.Drain out.old out.new err.old err.new }
 {
     let Files { prefixes, document } = files;
     let action = task.action;
@@ -69,8 +69,7 @@ fn job_of<I: Source + Drop>(
 ) -> Result<Job, LoadFault>
     requires base { BaseFits task.base task.limits }
     requires fresh { IfSome prefixes (λ s. (I.has_ended s ≡ false) × (I.has_failed s ≡ false)) }
-    ensures job { IfOk result (λ job. (bindings : List (List ℕ × List ℕ)) ×
-        StartsWith task.limits (option_map I.remaining prefixes) bindings × (job ≡ job_of task bindings)) }
+    ensures job { IfOk result (IsJobOf task (option_map I.remaining prefixes)) }
     ensures stops { IfErr result (λ fault. StartsNot fault task.limits (option_map I.remaining prefixes)) }
 {
     let job = Job::new(task.form, task.base, task.limits).unwrap();
@@ -158,9 +157,7 @@ fn act<S: Source, O: Drain>(
     requires out { O.has_failed out.old ≡ false }
     ensures accepted { OnOk result (IfSome (S.remaining source.old) (λ bytes. Does action job bytes (O.contents out.old) (O.contents out.new))) }
     ensures flushed { OnOk result (O.is_flushed out.new ≡ true) }
-    ensures stops { IfErr result (λ fault.
-        StopsAction action fault job (S.remaining source.old) (reading S.remaining S.last S.has_ended S.has_failed source.new)
-        (O.contents out.old) (O.contents out.new) (O.has_failed out.new)) }
+    ensures stops { IfErr result (λ fault. AsTold (StopsAction action fault job) S.Source O.Drain source.old source.new out.old out.new) }
 {
     match action {
         Action::Check => check_to(alloc, job, source, out),
@@ -187,9 +184,7 @@ fn check_to<S: Source, O: Drain>(
     requires out { O.has_failed out.old ≡ false }
     ensures accepted { OnOk result (IfSome (S.remaining source.old) (λ bytes. IsChecked job bytes (O.contents out.old) (O.contents out.new))) }
     ensures flushed { OnOk result (O.is_flushed out.new ≡ true) }
-    ensures stops { IfErr result (λ fault.
-        StopsCheck fault job (S.remaining source.old) (reading S.remaining S.last S.has_ended S.has_failed source.new)
-        (O.contents out.old) (O.contents out.new) (O.has_failed out.new)) }
+    ensures stops { IfErr result (λ fault. AsTold (StopsCheck fault job) S.Source O.Drain source.old source.new out.old out.new) }
 {
     let summary = match check(alloc, job, source) {
         Ok(summary) => summary,

@@ -3,8 +3,8 @@
 ghost use Rattle.std.specs.Prelude.{◌≡◌, ◌⊎◌, false, IfErr, IfOk, IfSome, List, map, OnErr, option_map, Some, string_bytes};
 ghost use Rattle.clap.specs.Words.{Text};
 ghost use Rattle.rdf_iri.specs.Scope.{BaseFits};
-ghost use Rattle.rdf_tool.specs.Programs.{HasPrefixes, IsGiven, IsNotGiven, ProgramEnds, TaskEnds, file_of, prefixes_of};
-ghost use Rattle.rdf_tool.specs.Runs.{AreFresh};
+ghost use Rattle.rdf_tool.specs.Programs.{HasPrefixes, HostEnds, IsGiven, IsNotGiven, TaskEnds, file_of, prefixes_of};
+ghost use Rattle.rdf_tool.specs.Runs.{AreFresh, AsWritten};
 
 use crate::commands::{command_of, not_utf8};
 use crate::host::{Host, NoWords, NotOpen};
@@ -17,9 +17,7 @@ use std::alloc::{AllocError, Global};
 pub fn start<H: Host, O: Drain, E: Drain>(alloc: Global, host: &H, out: &mut O, err: &mut E) -> u8
     requires out { O.has_failed out.old ≡ false }
     requires err { E.has_failed err.old ≡ false }
-    ensures { ProgramEnds (H.has_words host.now) (H.has_bad_word host.now) (H.has_document host.now) (H.is_shut host.now) result
-        (O.contents out.old) (record { contents = O.contents out.new; has_failed = O.has_failed out.new; is_flushed = O.is_flushed out.new })
-        (E.contents err.old) (record { contents = E.contents err.new; has_failed = E.has_failed err.new; is_flushed = E.is_flushed err.new }) }
+    ensures { AsWritten (HostEnds H.Host host.now result) O.Drain E.Drain out.old out.new err.old err.new }
 {
     match task_of(alloc, host) {
         Ok(task) => run_task(alloc, task, host, out, err),
@@ -58,9 +56,8 @@ fn run_task<H: Host, O: Drain, E: Drain>(
     requires base { BaseFits task.base task.limits }
     requires out { O.has_failed out.old ≡ false }
     requires err { E.has_failed err.old ≡ false }
-    ensures { TaskEnds (H.has_document host.now) (H.is_shut host.now) task result
-        (O.contents out.old) (record { contents = O.contents out.new; has_failed = O.has_failed out.new; is_flushed = O.is_flushed out.new })
-        (E.contents err.old) (record { contents = E.contents err.new; has_failed = E.has_failed err.new; is_flushed = E.is_flushed err.new }) }
+    ensures { AsWritten (TaskEnds (H.has_document host.now) (H.is_shut host.now) task result)
+        O.Drain E.Drain out.old out.new err.old err.new }
 {
     match open_files(host, &task) {
         Ok(files) => run(alloc, task, files, out, err),

@@ -13,8 +13,6 @@ use crate::start::start;
 use crate::task::{Action, Task};
 use hosts::InMemory;
 use rdf_stream::{Escapes, Form, In, Limits, Out, Source};
-use std::alloc::Global;
-use std::process::Abort;
 use std::test::Fail;
 use texts::{COMMAND_NOTES, COMMANDS, HELP, NOT_UTF8, USAGE};
 
@@ -216,13 +214,13 @@ fn words_give_each_field_of_a_task(rt: HostRuntime) {
 
 /// These words are no task, end with this status, and write and report these texts.
 fn is_refused(
-    rt: &impl Abort,
-    alloc: Global,
+    rt: &HostRuntime,
     words: &[&str],
     status: u8,
     text: &str,
     message: &str,
 ) -> Result<(), Fail> {
+    let alloc = rt.alloc();
     let mut written = Vec::new(alloc);
     let mut reported = Vec::new(alloc);
     let mut out = Out::new(&mut written);
@@ -243,7 +241,7 @@ fn is_refused(
 #[test]
 fn words_that_are_no_task_are_reported(rt: HostRuntime) -> Result<(), Fail> {
     for (words, message) in USAGE {
-        is_refused(&rt, rt.alloc(), words, 2, "", message)?;
+        is_refused(&rt, words, 2, "", message)?;
     }
     let bases: [&[&str]; 3] = [
         &["rdfconv", "convert", "--format=nt", "--base", "s"],
@@ -251,7 +249,7 @@ fn words_that_are_no_task_are_reported(rt: HostRuntime) -> Result<(), Fail> {
         &["rdfconv", "convert", "--iri=9", "--base=http://a/b"],
     ];
     for words in bases {
-        is_refused(&rt, rt.alloc(), words, 2, "", "rdfconv: bad base\n")?;
+        is_refused(&rt, words, 2, "", "rdfconv: bad base\n")?;
     }
     let fits = ["rdfconv", "convert", "--iri=10", "--base=http://a/b"];
     assert!(&rt; command_of(rt.alloc(), &fits).is_ok());
@@ -261,7 +259,7 @@ fn words_that_are_no_task_are_reported(rt: HostRuntime) -> Result<(), Fail> {
         &["rdfconv", "convert", "--node-prefix="],
     ];
     for words in words {
-        is_refused(&rt, rt.alloc(), words, 2, "", "rdfconv: bad node prefix\n")?;
+        is_refused(&rt, words, 2, "", "rdfconv: bad node prefix\n")?;
     }
     Ok(())
 }
@@ -274,7 +272,7 @@ fn help_is_written_to_the_output(rt: HostRuntime) -> Result<(), Fail> {
         &["rdfconv", "help"],
     ];
     for words in rows {
-        is_refused(&rt, rt.alloc(), words, 0, HELP, "")?;
+        is_refused(&rt, words, 0, HELP, "")?;
     }
     for (name, first, options) in COMMANDS {
         let text = format!(in rt.alloc(); "{first}{options}{COMMAND_NOTES}")?;
@@ -284,7 +282,7 @@ fn help_is_written_to_the_output(rt: HostRuntime) -> Result<(), Fail> {
             &["rdfconv", "help", name],
         ];
         for words in rows {
-            is_refused(&rt, rt.alloc(), words, 0, text.as_str(), "")?;
+            is_refused(&rt, words, 0, text.as_str(), "")?;
         }
     }
     Ok(())
@@ -333,7 +331,7 @@ fn a_long_command_line_is_taken(rt: HostRuntime) -> Result<(), Fail> {
     let message = format!(in alloc;
         "error: unexpected argument '{base}' found\n\nUsage: rdfconv show [OPTIONS] [FILE]\n\nFor more information, try '--help'.\n"
     )?;
-    is_refused(&rt, alloc, &many, 2, "", message.as_str())
+    is_refused(&rt, &many, 2, "", message.as_str())
 }
 
 #[test]
