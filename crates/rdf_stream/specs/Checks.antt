@@ -13,7 +13,9 @@ use Rattle.rdf_driver.specs.Words.{Lawful, Words, in_words}
 use Rattle.rdf_stream.specs.declared.fault.StreamFault.{StreamFault}
 use Rattle.rdf_stream.specs.declared.fault.StreamFault.TheVariants.{Refused, Read, Write, Memory}
 use Rattle.rdf_stream.specs.Converts.{Counts}
+use Rattle.rdf_stream.specs.declared.devices.Source as source
 use Rattle.rdf_stream.specs.Devices.{HasBroken, HasGiven, Reading}
+use Rattle.rdf_stream.specs.Told.{told}
 
 -- The bytes are a document within the limits, and the summary counts what is in it.
 pub record IsAccepted (language : Language) (bytes : List ℕ) (s : Summary) : Type 0 where
@@ -67,3 +69,13 @@ pub record CheckHalts {G X : Type 0} (w : Words G X Quad) (reported : StreamFaul
 -- Since the run began these bytes came, they are all that there are, and are a document.
 abbrev pub CheckEnds : {G X : Type 0} → Words G X Quad → Summary → Driven G → List ℕ → Type 0
 CheckEnds {G} {X} w summary reader bytes = (x : X) → BeginsToRead w x reader → IsAccepted (in_words w x reader.scanner.limit) bytes summary
+
+-- Whatever the run began with, all bytes of the source are a document, where they are known.
+abbrev pub CheckAccepts : {G X S : Type 0} → Words G X Quad → source.Ghosts S → Driven G → S → Summary → Type 0
+CheckAccepts {G} {X} w says reader from summary = (x : X) → BeginsToRead w x reader →
+    IsAllAccepted (in_words w x reader.scanner.limit) (says.remaining from) summary
+
+-- Whatever the run began with, this is why the source was not read to its end.
+abbrev pub ReadingStops : {G X S : Type 0} → Words G X Quad → source.Ghosts S → Driven G → S → S → StreamFault → Type 0
+ReadingStops {G} {X} w says reader from left reported = (x : X) → BeginsToRead w x reader →
+    CheckStops reported (in_words w x reader.scanner.limit) (says.remaining from) (told says left)

@@ -17,7 +17,10 @@ use Rattle.rdf_stream.specs.Languages.{Conversion, conversion}
 use Rattle.rdf_stream.specs.declared.fault.StreamFault.{StreamFault}
 use Rattle.rdf_stream.specs.declared.fault.StreamFault.TheVariants as fault
 use Rattle.rdf_stream.specs.declared.line_out.LineOut.{LineOut}
-use Rattle.rdf_stream.specs.Converts.{Accepts, RefusesDocument, WritesFront, WritesSome, lines_of}
+use Rattle.rdf_stream.specs.declared.devices.Source as source
+use Rattle.rdf_stream.specs.declared.devices.Drain as drain
+use Rattle.rdf_stream.specs.Converts.{Accepts, AcceptsAll, IsPrompt, RefusesDocument, StopsFor, WritesFront, WritesSome, lines_of}
+use Rattle.rdf_stream.specs.Told.{told}
 use Rattle.rdf_stream.specs.Faults.{fault_by}
 use Rattle.rdf_stream.specs.LineOut.{Moves, SameOut}
 
@@ -116,3 +119,22 @@ pub record ReportsFault {D A : Type 0} (contents : D → Option (List ℕ)) (fai
 abbrev pub Reports : {D A : Type 0} → (D → Option (List ℕ)) → (D → Bool) → Fault → StreamFault → LineOut D A → LineOut D A → Type 0
 Reports contents failed f reported before after =
     ((reported ≡ fault.Write) × ReportsWrite contents failed before after) ⊎ ((reported ≡ fault_by f.reason f) × ReportsFault contents failed before after)
+
+-- Whatever the run began with, all bytes of the source were converted, where they are known.
+abbrev pub Converts : {G X S D A : Type 0} → Words G X Quad → source.Ghosts S → drain.Ghosts D → Driven G → S → LineOut D A → LineOut D A → Summary → Type 0
+Converts {G} {X} w says takes reader from first lines summary = (x : X) → Begins takes.has_failed w x reader first →
+    AcceptsAll (conversion w x reader.scanner.limit (form_of first.form)) (says.remaining from)
+    (takes.contents first.drain.now) (takes.contents lines.drain.now) summary
+
+-- Whatever the run began with, this is why the conversion stopped, and what it had written.
+abbrev pub ConversionStops : {G X S D A : Type 0} → Words G X Quad → source.Ghosts S → drain.Ghosts D → Driven G → S → S → LineOut D A → LineOut D A
+    → StreamFault → Type 0
+ConversionStops {G} {X} w says takes reader from left first lines reported = (x : X) → Begins takes.has_failed w x reader first →
+    StopsFor reported (conversion w x reader.scanner.limit (form_of first.form)) (says.remaining from) (told says left)
+    (takes.contents first.drain.now) (takes.contents lines.drain.now) (takes.has_failed lines.drain.now)
+
+-- Whatever the run began with, no line that was due waited while the source was asked for more.
+abbrev pub KeepsPrompt : {G X S D A : Type 0} → Words G X Quad → source.Ghosts S → drain.Ghosts D → Driven G → S → S → LineOut D A → LineOut D A → Type 0
+KeepsPrompt {G} {X} w says takes reader from left first lines = (x : X) → Begins takes.has_failed w x reader first →
+    IsPrompt (conversion w x reader.scanner.limit (form_of first.form)) (says.remaining from) (told says left)
+    (takes.contents first.drain.now) (takes.contents lines.drain.now)

@@ -1,5 +1,6 @@
 -- what has to be believed
 pub mod Devices
+pub mod Told
 pub mod Messages
 pub mod Jobs
 pub mod Kinds

@@ -1,11 +1,10 @@
 // Reading a document to its end.
 
 ghost use Rattle.std.specs.Prelude.{◌≡◌, true, false, OnOk, IfOk, IfErr};
-ghost use Rattle.rdf_driver.specs.Words.{in_words};
-ghost use Rattle.rdf_stream.specs.Checks.{BeginsToRead, CheckEnds, CheckHalts, CheckStops, IsAllAccepted, IsChecking};
-ghost use Rattle.rdf_stream.specs.Devices.{reading};
+ghost use Rattle.rdf_stream.specs.Checks.{BeginsToRead, CheckAccepts, CheckEnds, CheckHalts, CheckStops, IsAllAccepted, IsChecking, ReadingStops};
 ghost use Rattle.rdf_stream.specs.Faults.{IsRefusal};
 ghost use Rattle.rdf_stream.specs.Languages.{language_of};
+ghost use Rattle.rdf_stream.specs.Told.{told};
 
 use crate::devices::Source;
 use crate::fault::StreamFault;
@@ -30,8 +29,7 @@ pub fn check<A: Allocator + Copy, S: Source>(
     requires source { S.has_failed source.old ≡ false }
     ensures accepted { IfOk result (IsAllAccepted (language_of job) (S.remaining source.old)) }
     ensures ended { OnOk result (S.has_ended source.new ≡ true) }
-    ensures stops { IfErr result (λ fault.
-        CheckStops fault (language_of job) (S.remaining source.old) (reading S.remaining S.last S.has_ended S.has_failed source.new)) }
+    ensures stops { IfErr result (λ fault. CheckStops fault (language_of job) (S.remaining source.old) (told S.Source source.new)) }
     ensures refused { IfErr result IsRefusal }
 {
     let mut job = job;
@@ -49,11 +47,9 @@ fn check_with<A: Allocator + Copy, G: Passes<A>, S: Source>(
     requires begun { (x : G.Setting) × BeginsToRead G.words x reader }
     requires more { S.has_ended source.old ≡ false }
     requires source { S.has_failed source.old ≡ false }
-    ensures accepted { IfOk result (λ summary. (x : G.Setting) → BeginsToRead G.words x reader →
-        IsAllAccepted (in_words G.words x reader.scanner.limit) (S.remaining source.old) summary) }
+    ensures accepted { IfOk result (CheckAccepts G.words S.Source reader source.old) }
     ensures ended { OnOk result (S.has_ended source.new ≡ true) }
-    ensures stops { IfErr result (λ reported. (x : G.Setting) → BeginsToRead G.words x reader →
-        CheckStops reported (in_words G.words x reader.scanner.limit) (S.remaining source.old) (reading S.remaining S.last S.has_ended S.has_failed source.new)) }
+    ensures stops { IfErr result (ReadingStops G.words S.Source reader source.old source.new) }
     ensures refused { IfErr result IsRefusal }
 {
     let mut piece = piece_buffer(alloc)?;

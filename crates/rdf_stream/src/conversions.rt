@@ -1,13 +1,12 @@
 // From a document to the lines of its quads.
 
 ghost use Rattle.std.specs.Prelude.{◌≡◌, ◌<◌, ◌++◌, true, false, length, OnOk, IfOk, IfErr, IfSome};
-ghost use Rattle.rdf_lines.specs.Forms.{form_of};
-ghost use Rattle.rdf_stream.specs.Converting.{Begins, IsConverting, IsPutting, RunEnds, RunHalts};
-ghost use Rattle.rdf_stream.specs.Converts.{Accepts, AcceptsAll, IsPrompt, StopsFor};
-ghost use Rattle.rdf_stream.specs.Devices.{reading};
+ghost use Rattle.rdf_stream.specs.Converting.{Begins, ConversionStops, Converts, IsConverting, IsPutting, KeepsPrompt, RunEnds, RunHalts};
+ghost use Rattle.rdf_stream.specs.Converts.{AcceptsAll, IsPrompt, StopsFor};
 ghost use Rattle.rdf_stream.specs.Faults.{IsRefusal};
-ghost use Rattle.rdf_stream.specs.Languages.{conversion, conversion_of};
+ghost use Rattle.rdf_stream.specs.Languages.{conversion_of};
 ghost use Rattle.rdf_stream.specs.LineOut.{OnlyGrows, SameOut};
+ghost use Rattle.rdf_stream.specs.Told.{AsTold, told};
 
 use crate::devices::{Drain, Failed, Source};
 use crate::fault::StreamFault;
@@ -39,11 +38,9 @@ pub fn convert<A: Allocator + Copy, S: Source, D: Drain>(
     ensures accepted { IfOk result (AcceptsAll (conversion_of job) (S.remaining source.old) (D.contents drain.old) (D.contents drain.new)) }
     ensures ended { OnOk result (S.has_ended source.new ≡ true) }
     ensures flushed { OnOk result (D.is_flushed drain.new ≡ true) }
-    ensures stops { IfErr result (λ fault.
-        StopsFor fault (conversion_of job) (S.remaining source.old) (reading S.remaining S.last S.has_ended S.has_failed source.new)
-        (D.contents drain.old) (D.contents drain.new) (D.has_failed drain.new)) }
+    ensures stops { IfErr result (λ fault. AsTold (StopsFor fault (conversion_of job)) S.Source D.Drain source.old source.new drain.old drain.new) }
     ensures refused { IfErr result IsRefusal }
-    ensures prompt { IsPrompt (conversion_of job) (S.remaining source.old) (reading S.remaining S.last S.has_ended S.has_failed source.new)
+    ensures prompt { IsPrompt (conversion_of job) (S.remaining source.old) (told S.Source source.new)
         (D.contents drain.old) (D.contents drain.new) }
 {
     let mut piece = piece_buffer(alloc)?;
@@ -76,20 +73,13 @@ fn convert_with<A: Allocator + Copy, G: Passes<A>, S: Source, D: Drain>(
     requires more { S.has_ended source.old ≡ false }
     requires source { S.has_failed source.old ≡ false }
     requires room { 0 < length piece.old }
-    ensures accepted { IfOk result (λ summary. (x : G.Setting) → Begins D.has_failed G.words x reader lines.old → IfSome (S.remaining source.old) (λ bytes.
-        Accepts (conversion G.words x reader.scanner.limit (form_of lines.old.form)) bytes
-        (D.contents lines.old.drain.now) (D.contents lines.new.drain.now) summary)) }
+    ensures accepted { IfOk result (Converts G.words S.Source D.Drain reader source.old lines.old lines.new) }
     ensures ended { OnOk result (S.has_ended source.new ≡ true) }
     ensures flushed { OnOk result (D.is_flushed lines.new.drain.now ≡ true) }
     ensures same { SameOut lines.old lines.new }
-    ensures stops { IfErr result (λ reported. (x : G.Setting) → Begins D.has_failed G.words x reader lines.old →
-        StopsFor reported (conversion G.words x reader.scanner.limit (form_of lines.old.form)) (S.remaining source.old)
-        (reading S.remaining S.last S.has_ended S.has_failed source.new)
-        (D.contents lines.old.drain.now) (D.contents lines.new.drain.now) (D.has_failed lines.new.drain.now)) }
+    ensures stops { IfErr result (ConversionStops G.words S.Source D.Drain reader source.old source.new lines.old lines.new) }
     ensures refused { IfErr result IsRefusal }
-    ensures prompt { (x : G.Setting) → Begins D.has_failed G.words x reader lines.old →
-        IsPrompt (conversion G.words x reader.scanner.limit (form_of lines.old.form)) (S.remaining source.old)
-        (reading S.remaining S.last S.has_ended S.has_failed source.new) (D.contents lines.old.drain.now) (D.contents lines.new.drain.now) }
+    ensures prompt { KeepsPrompt G.words S.Source D.Drain reader source.old source.new lines.old lines.new }
 {
     let mut reader = reader;
     read_pieces(source, piece, &mut reader, lines)

@@ -1,8 +1,8 @@
 // A file of bindings, read from a source.
 
 ghost use Rattle.std.specs.Prelude.{◌≡◌, ◌<◌, false, length, IfErr, IfOk};
-ghost use Rattle.rdf_stream.specs.Devices.{reading};
 ghost use Rattle.rdf_stream.specs.Loads.{HasGivenAll, LoadStops, Loads, ReadsNot};
+ghost use Rattle.rdf_stream.specs.Told.{told};
 
 use crate::devices::{Failed, Source};
 use crate::fault::LoadFault;
@@ -19,8 +19,8 @@ pub fn load_bindings<A: Allocator + Copy, S: Source>(
 ) -> Result<Bindings<A>, LoadFault>
     requires more { S.has_ended source.old ≡ false }
     requires source { S.has_failed source.old ≡ false }
-    ensures loaded { IfOk result (Loads limits (S.remaining source.old) (reading S.remaining S.last S.has_ended S.has_failed source.new)) }
-    ensures stops { IfErr result (λ fault. LoadStops fault limits (S.remaining source.old) (reading S.remaining S.last S.has_ended S.has_failed source.new)) }
+    ensures loaded { IfOk result (Loads limits (S.remaining source.old) (told S.Source source.new)) }
+    ensures stops { IfErr result (λ fault. LoadStops fault limits (S.remaining source.old) (told S.Source source.new)) }
 {
     let mut piece = piece_buffer(alloc)?;
     let bytes = match read_all(alloc, source, piece.as_mut_slice()) {
@@ -42,8 +42,8 @@ fn read_all<A: Allocator + Copy, S: Source>(
     requires more { S.has_ended source.old ≡ false }
     requires source { S.has_failed source.old ≡ false }
     requires room { 0 < length piece.old }
-    ensures given { IfOk result (λ bytes. HasGivenAll (S.remaining source.old) (reading S.remaining S.last S.has_ended S.has_failed source.new) bytes.items) }
-    ensures stops { IfErr result (λ fault. ReadsNot fault (S.remaining source.old) (reading S.remaining S.last S.has_ended S.has_failed source.new)) }
+    ensures given { IfOk result (λ bytes. HasGivenAll (S.remaining source.old) (told S.Source source.new) bytes.items) }
+    ensures stops { IfErr result (λ fault. ReadsNot fault (S.remaining source.old) (told S.Source source.new)) }
 {
     let mut bytes = Vec::new(alloc);
     loop {

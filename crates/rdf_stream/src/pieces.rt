@@ -4,8 +4,8 @@ ghost use Rattle.std.specs.Prelude.{◌≡◌, ◌+◌, ◌<◌, ◌≤◌, ◌+
 ghost use Rattle.rdf_tokens.specs.Scans.{most_bytes};
 ghost use Rattle.rdf_driver.specs.declared.summary.Summary.{Summary};
 ghost use Rattle.rdf_stream.specs.declared.fault.StreamFault.{StreamFault};
-ghost use Rattle.rdf_stream.specs.Devices.{reading};
 ghost use Rattle.rdf_stream.specs.Pieces.{HaltsOn, HasBegun, ReadsAll, ReadStops, ReadsEnd, StaysOn, TakenBefore, TakesMore};
+ghost use Rattle.rdf_stream.specs.Told.{told};
 
 use crate::devices::{Failed, Source};
 use crate::fault::StreamFault;
@@ -59,10 +59,10 @@ pub(crate) fn read_pieces<S: Source, L, R: Run<L>>(
     requires stays { R.stays (run.old, out.old) (run.old, out.old) }
     ensures stays { R.stays (run.old, out.old) (run.new, out.new) }
     ensures read { IfOk result (λ summary.
-        ReadsAll R.ends (S.remaining source.old) (reading S.remaining S.last S.has_ended S.has_failed source.new) summary (run.old, out.old) (run.new, out.new)) }
+        ReadsAll R.ends (S.remaining source.old) (told S.Source source.new) summary (run.old, out.old) (run.new, out.new)) }
     ensures stops { IfErr result (λ f.
-        ReadStops R.taken R.halts f (S.remaining source.old) (reading S.remaining S.last S.has_ended S.has_failed source.new) (run.old, out.old) (run.new, out.new)) }
-    ensures before { TakenBefore R.taken R.stays (S.remaining source.old) (reading S.remaining S.last S.has_ended S.has_failed source.new)
+        ReadStops R.taken R.halts f (S.remaining source.old) (told S.Source source.new) (run.old, out.old) (run.new, out.new)) }
+    ensures before { TakenBefore R.taken R.stays (S.remaining source.old) (told S.Source source.new)
         (run.old, out.old) (run.new, out.new) }
 {
     loop {

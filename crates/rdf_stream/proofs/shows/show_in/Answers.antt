@@ -1,8 +1,15 @@
 -- A run over the pieces of a source: it begins with nothing read, and each outcome is that of the pieces.
-use Rattle.std.proofs.Common.{rules, refl}
+use Rattle.std.proofs.Common.{rules, refl, []}
+use Rattle.std.proofs.KnownBytes.{Appends-nil}
+use Rattle.rdf_stream.specs.Told.{told}
 use Rattle.rdf_stream.proofs.ShowsLemmas.{run_begins, run_shown, run_stopped}
-use Rattle.rdf_stream.proofs.PiecesLemmas.{if_err, if_ok}
+use Rattle.rdf_stream.proofs.PiecesLemmas.{if_err, if_ok, none_given, reported_stops}
 use Rattle.rdf_stream.proofs.shows.show_in.Goals as goal
+
+pub returns-in_err-piece-clause-stops : goal.returns-in_err-piece-clause-stops
+returns-in_err-piece-clause-stops g c =
+    reported_stops _ _ _ c.from_residual.ensures.1
+    (c.requires.live, none_given (told g.S.Source c.args.source.now) c.requires.more c.requires.source, record { first = []; others = _; tokens = refl; written = Appends-nil _ })
 
 pub read_pieces-requires-clause-begun : goal.read_pieces-requires-clause-begun
 read_pieces-requires-clause-begun g c =
