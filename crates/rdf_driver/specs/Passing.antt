@@ -6,7 +6,7 @@ use Rattle.rdf_tokens.specs.Scans.{most_bytes}
 use Rattle.rdf_tokens.specs.Passing as Scan
 use Rattle.rdf_tokens.specs.Passing.{is_idle, Spells}
 use Rattle.rdf_driver.specs.Words.{Words}
-use Rattle.rdf_driver.specs.Readers.{Driven}
+use Rattle.rdf_driver.specs.Readers.{Driven, HasRead}
 
 -- The reader goes on, stands between two tokens, and so many bytes more are not too many.
 abbrev pub can_pass : {G : Type 0} → Driven G → ℕ → Bool
@@ -28,3 +28,8 @@ pub record LeadsBack {G X I : Type 0} (w : Words G X I) (r : Driven G) (bytes : 
   pub count : tokens ≡ length spelled
   pub spells : Spells w.dialect r.scanner.limit r.scanner.place (chars bytes) spelled
   pub reached : (x : X) (ts : List Token) (qs : List I) → w.reached r.grammar x ts qs → w.reached r.grammar x (ts ++ spelled) (qs ++ quads)
+
+-- Whatever the reader has read, it has read these bytes too, which spell so many tokens and give so many quads.
+abbrev pub IsReadOn : {G X I : Type 0} → Words G X I → Driven G → List ℕ → ℕ → ℕ → Driven G → Type 0
+IsReadOn {G} {X} {I} w old bytes quads tokens new = (more : List I) → quads ≡ length more → LeadsBack w old bytes more tokens →
+    (x : X) (before : List ℕ) (given : List I) → HasRead w old x before given → HasRead w new x (before ++ bytes) (given ++ more)

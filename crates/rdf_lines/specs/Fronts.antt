@@ -99,6 +99,10 @@ pub record LineStands (ending : LineEnding) (form : LineForm) (token iri n : ℕ
   pub count : n ≡ quad_count ending quad
   pub stands : Stands (ended_line ending quad) bytes rest
 
+-- Such a line stands there, by whatever limit on tokens that is neither below 64 nor below the number of bytes.
+abbrev pub LineStandsByAnyLimit : LineEnding → LineForm → ℕ → ℕ → List ℕ → List ℕ → Type 0
+LineStandsByAnyLimit ending form iri n bytes rest = (token : ℕ) → 64 ≤ token → length bytes ≤ token → LineStands ending form token iri n bytes rest
+
 -- lines that end so, of so many quads and tokens, that a document of the form may have within the limits
 pub record LinesStand (ending : LineEnding) (form : LineForm) (token iri quads tokens : ℕ) (bytes rest : List ℕ) : Type 0 where
   pub given : List Quad

@@ -111,6 +111,14 @@ Fails leaves failed Memory a old new = (new ≡ old) ⊎ (Leaves leaves a old ne
 Fails leaves failed Sink a old new = Leaves leaves a old new × (failed new ≡ true)
 Fails leaves failed r a old new = ⊥
 
+-- By whatever rules the token comes, it is accepted in this mode, and the quad that it gives is put.
+abbrev pub DoesByAnyRules : {S : Type 0} → (S → Quad → S → Type 0) → Mode → Given → S → Mode → S → Type 0
+DoesByAnyRules takes m t old mode new = (g : Rules) → Does takes (answer g m t) old mode new
+
+-- By whatever rules the token comes, this is why it is not accepted in this mode.
+abbrev pub FailsByAnyRules : {S : Type 0} → (S → Quad → S → Type 0) → (S → Bool) → Reason → Mode → Given → S → S → Type 0
+FailsByAnyRules leaves failed r m t old new = (g : Rules) → Fails leaves failed r (answer g m t) old new
+
 -- the bytes of a node's label; a node without one has no text
 abbrev pub node_bytes : Node → ℕ
 node_bytes (Label x) = byte_len x

@@ -4,7 +4,7 @@ ghost use Rattle.std.specs.Prelude.{◌≡◌, ℕ, false, OnOk, IfOk, IfErr};
 ghost use Rattle.rdf_lines.specs.declared.rules.Rules.{Rules};
 ghost use Rattle.rdf_lines.specs.Machine as M;
 ghost use Rattle.rdf_lines.specs.Machine.{goes, gives};
-ghost use Rattle.rdf_lines.specs.States.{mode_of, mode_at, answer, quad_with, IsLineToken, Declines, Does, Fails, LeadsTo, IsDeclined, HoldsAt, StaysWithin};
+ghost use Rattle.rdf_lines.specs.States.{mode_of, mode_at, answer, quad_with, IsLineToken, Declines, Does, DoesByAnyRules, Fails, FailsByAnyRules, LeadsTo, IsDeclined, HoldsAt, StaysWithin};
 
 use crate::form::LineForm;
 use crate::rules::Rules;
@@ -214,12 +214,12 @@ impl<A: Allocator> State<A> {
         sink: &mut S,
     ) -> Result<Mode, Reason>
         requires { S.has_failed sink.old ≡ false }
-        ensures ok { IfOk result (λ m. (g : Rules) → Does S.takes
-            (answer g (mode_at self.now (Mode.AfterGraph kind)) token.now) sink.old (mode_at self.now m) sink.new) }
+        ensures ok { IfOk result (λ m. DoesByAnyRules S.takes
+            (mode_at self.now (Mode.AfterGraph kind)) token.now sink.old (mode_at self.now m) sink.new) }
         ensures live { OnOk result (S.has_failed sink.new ≡ false) }
         ensures held { IfOk result (λ m. (n : ℕ) → HoldsAt n self.now m) }
-        ensures err { IfErr result (λ r. (g : Rules) → Fails S.leaves S.has_failed r
-            (answer g (mode_at self.now (Mode.AfterGraph kind)) token.now) sink.old sink.new) }
+        ensures err { IfErr result (λ r. FailsByAnyRules S.leaves S.has_failed r
+            (mode_at self.now (Mode.AfterGraph kind)) token.now sink.old sink.new) }
     {
         match token.kind {
             Kind::Dot => self.give(kind, Some(self.graph.view()), sink),

@@ -5,7 +5,7 @@ ghost use Rattle.std.specs.Str.{chars, IsUtf8};
 ghost use Rattle.rdf_terms.specs.Runs.{is_text_byte, IsRun};
 ghost use Rattle.rdf_tokens.specs.Scans.{most_bytes};
 ghost use Rattle.rdf_lines.specs.Canonical.{PassesLines, end_count, end_text};
-ghost use Rattle.rdf_lines.specs.Fronts.{IriStands, LabelStands, TagStands, StringStands, SubjectStands, PredicateStands, TailStands, ObjectStands, GraphStands, LineStands, AreLines, CharactersStand, EscapeStands};
+ghost use Rattle.rdf_lines.specs.Fronts.{IriStands, LabelStands, TagStands, StringStands, SubjectStands, PredicateStands, TailStands, ObjectStands, GraphStands, LineStandsByAnyLimit, AreLines, CharactersStand, EscapeStands};
 
 use crate::form::{LineEnding, LineForm};
 use crate::grammar::LineGrammar;
@@ -134,8 +134,7 @@ fn end_tokens(ending: LineEnding) -> u64
 // The line that the text begins with, if it is one that would be written so, and ends so; with the tokens before its end.
 fn canonical_line(text: &str, ending: LineEnding, rules: Rules) -> Option<Part<'_>>
     requires iri { 64 ≤ rules.iri }
-    ensures { IfSome result (λ p. (token : ℕ) → 64 ≤ token → length text.now ≤ token →
-        LineStands ending rules.form token rules.iri (p.tokens + end_count ending) text.now p.rest.now) }
+    ensures { IfSome result (λ p. LineStandsByAnyLimit ending rules.form rules.iri (p.tokens + end_count ending) text.now p.rest.now) }
 {
     let rest = predicate(subject(text, rules.iri)?, rules.iri)?;
     let object = object(rest, rules.iri)?;

@@ -81,6 +81,10 @@ pub record Reached (d : Dialect) (bs : List ℕ) (at : ℕ) (s : State) (best : 
   pub state : s ≡ state_of d (take n (chars bs))
   pub front : best ≡ in_bytes (chars bs) (longest_by (kind_by_states d (chars bs)) (chars bs) n)
 
+-- The states have come to a byte that is past the first, and before it the longest front has this length and this kind.
+abbrev pub HasBegun : Dialect → List ℕ → ℕ → State → ℕ → Option Kind → Type 0
+HasBegun d bs at s len kind = Reached d bs at s (with_length at (kind_here d bs s) (with_length len kind None))
+
 -- By the states, the longest front of the bytes that has a kind has this length and this kind; without a kind there is no such front.
 abbrev pub IsLongestByStates : Dialect → List ℕ → ℕ → Option Kind → Type 0
 IsLongestByStates d bs len kind =

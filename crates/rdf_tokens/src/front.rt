@@ -4,7 +4,7 @@ ghost use Rattle.std.specs.Prelude.{◌≡◌, cond, length, get_or};
 ghost use Rattle.std.specs.Str.{chars};
 ghost use Rattle.rdf_terms.specs.Shapes.{is_live};
 ghost use Rattle.rdf_tokens.specs.Tokens.{three_quotes, only_long, with_length, longest};
-ghost use Rattle.rdf_tokens.specs.Front.{Reached, IsLongestByStates, in_bytes, longer_front, state_of, kind_here, open_state};
+ghost use Rattle.rdf_tokens.specs.Front.{HasBegun, Reached, IsLongestByStates, in_bytes, longer_front, state_of, kind_here, open_state};
 ghost use Rattle.rdf_tokens.specs.Walk.{Walked, IsWalk, IsCounted, walk_kept};
 ghost use Rattle.rdf_tokens.specs.NoNames.{is_prefix_byte, BeginsNoName, HasNoNames};
 ghost use Rattle.rdf_terms.specs.Classes.{is_letter};
@@ -90,6 +90,13 @@ struct Shaped {
     state: Option<State>,
 }
 
+/// The longest front with a kind so far, by its length and its kind; without a kind there is none.
+#[derive(Clone, Copy)]
+struct Best {
+    len: usize,
+    kind: Option<Kind>,
+}
+
 /// Keeps how far the states came where they go on and more text may come. After fewer than three bytes quotes may still turn into those of a
 /// long string. Where nothing more comes, each token is looked at once, so the characters of the whole text need not be counted for it.
 fn keep(walk: &mut Option<Walk>, text: &str, more: bool, shaped: &Shaped)
@@ -154,16 +161,18 @@ fn resumed_front(dialect: Dialect, text: &str, walk: &Walk) -> Shaped
     ensures state { result.state ≡ open_state dialect (state_of dialect (chars text.now)) }
 {
     let at = walk.at;
-    let len = walk.len;
-    let kind = walk.kind;
+    let best = Best {
+        len: walk.len,
+        kind: walk.kind,
+    };
     match walk.state {
-        State::Iri(state) => front_from(dialect, text, at, state, len, kind),
-        State::Label(state) => front_from(dialect, text, at, state, len, kind),
-        State::Text(state) => front_from(dialect, text, at, state, len, kind),
-        State::Tag(state) => front_from(dialect, text, at, state, len, kind),
-        State::Number(state) => front_from(dialect, text, at, state, len, kind),
-        State::Name(state) => front_from(dialect, text, at, state, len, kind),
-        state => front_from(dialect, text, at, state, len, kind),
+        State::Iri(state) => front_from(dialect, text, at, state, best),
+        State::Label(state) => front_from(dialect, text, at, state, best),
+        State::Text(state) => front_from(dialect, text, at, state, best),
+        State::Tag(state) => front_from(dialect, text, at, state, best),
+        State::Number(state) => front_from(dialect, text, at, state, best),
+        State::Name(state) => front_from(dialect, text, at, state, best),
+        state => front_from(dialect, text, at, state, best),
     }
 }
 
@@ -181,12 +190,13 @@ fn first_front(dialect: Dialect, text: &str, no_names: &mut Option<NoNames>) -> 
         };
     }
     let (c, next) = char_at(text, 0);
+    let none = Best { len: 0, kind: None };
     match family_of(c) {
-        Family::Iri => front_from(dialect, text, next, Iri::Start.step(c), 0, None),
-        Family::Label => front_from(dialect, text, next, Label::Start.step(dialect, c), 0, None),
-        Family::Text => front_from(dialect, text, next, Text::Start.step(dialect, c), 0, None),
-        Family::Tag => front_from(dialect, text, next, Tag::Start.step(c), 0, None),
-        Family::Number => front_from(dialect, text, next, Number::Start.step(dialect, c), 0, None),
+        Family::Iri => front_from(dialect, text, next, Iri::Start.step(c), none),
+        Family::Label => front_from(dialect, text, next, Label::Start.step(dialect, c), none),
+        Family::Text => front_from(dialect, text, next, Text::Start.step(dialect, c), none),
+        Family::Tag => front_from(dialect, text, next, Tag::Start.step(c), none),
+        Family::Number => front_from(dialect, text, next, Number::Start.step(dialect, c), none),
         Family::Name => name_front(dialect, text, Name::Start.step(dialect, c), next, no_names),
         Family::None => Shaped {
             len: 0,
@@ -220,7 +230,7 @@ fn name_front(
             };
         }
     }
-    let shaped = front_from(dialect, text, first, begun, 0, None);
+    let shaped = front_from(dialect, text, first, begun, Best { len: 0, kind: None });
     if shaped.kind.is_none() {
         *no_names = no_names_of(dialect, text, shaped.state);
     }
@@ -270,24 +280,16 @@ fn is_prefix_byte(byte: u8) -> bool
 
 /// The same where a text's first bytes led to this state, and the longest token before their end is known.
 #[inline(never)]
-fn front_from<S: Shape>(
-    dialect: Dialect,
-    text: &str,
-    first: usize,
-    begun: S,
-    before: usize,
-    before_kind: Option<Kind>,
-) -> Shaped
-    requires { Reached dialect text.now first (S.whole begun)
-        (with_length first (kind_here dialect text.now (S.whole begun)) (with_length before before_kind None)) }
+fn front_from<S: Shape>(dialect: Dialect, text: &str, first: usize, begun: S, best: Best) -> Shaped
+    requires { HasBegun dialect text.now first (S.whole begun) best.len best.kind }
     ensures best { IsLongestByStates dialect text.now result.len result.kind }
     ensures state { result.state ≡ open_state dialect (state_of dialect (chars text.now)) }
 {
     let three = has_three_quotes(dialect, text.as_bytes());
     let mut state = begun;
     let mut at = state.rest_end(text, first);
-    let mut len = before;
-    let mut kind = before_kind;
+    let mut len = best.len;
+    let mut kind = best.kind;
     if let Some(longer) = only_long_string(three, state.whole_kind()) {
         len = at;
         kind = Some(longer);

@@ -1,8 +1,9 @@
 // The states of strings, short and long (the four STRING_LITERALs).
 
-ghost use Rattle.std.specs.Prelude.{◌≡◌, ◌<◌};
+ghost use Rattle.std.specs.Prelude.{◌≡◌, ◌<◌, ℕ};
 ghost use Rattle.rdf_tokens.specs.Sorts.{sort_by};
-ghost use Rattle.rdf_tokens.specs.Text.{step, ascii, high, closes, in_short, in_long, move, kind_at, goes_on};
+ghost use Rattle.rdf_tokens.specs.Text.{begin, step, ascii, high, closes, escaped, if_hex, in_short, in_long, move, kind_at, goes_on};
+ghost use Rattle.rdf_tokens.specs.declared.states.text.Text.{Text};
 
 use rdf_terms::{Dialect, Kind};
 
@@ -223,6 +224,41 @@ fn in_long_string(quote: Quote, sort: Sort) -> Text
     }
 }
 
+#[inline(always)]
+fn opened(dialect: Dialect, sort: Sort) -> Text
+    ensures { result ≡ begin dialect sort }
+{
+    match (dialect, sort) {
+        (_, Sort::DoubleQuote) => Text::Opened(Quote::Double),
+        (Dialect::Turtle, Sort::SingleQuote) => Text::Opened(Quote::Single),
+        _ => Text::Dead,
+    }
+}
+
+// The state after a backslash and this character: inside the string again, or before the hex digits of a small or a big U.
+#[inline(always)]
+fn escaped(sort: Sort, inside: Text, small: Text, big: Text) -> Text
+    ensures { (hex : ℕ → Text) → small ≡ hex 3 → big ≡ hex 7 → result ≡ escaped hex inside sort }
+{
+    match sort {
+        Sort::SmallU => small,
+        Sort::BigU => big,
+        Sort::DoubleQuote | Sort::SingleQuote | Sort::Backslash | Sort::Letter | Sort::HexLetter =>
+            inside,
+        _ => Text::Dead,
+    }
+}
+
+#[inline(always)]
+fn if_hex(sort: Sort, after_digit: Text) -> Text
+    ensures { result ≡ if_hex after_digit sort }
+{
+    match sort {
+        Sort::HexLetter | Sort::HexDigit => after_digit,
+        _ => Text::Dead,
+    }
+}
+
 fn sort_of(c: char) -> Sort
     ensures { result ≡ sort_by ascii high c }
 {
@@ -248,83 +284,39 @@ impl Text {
     fn after(self, dialect: Dialect, sort: Sort) -> Text
         ensures { result ≡ move dialect self sort }
     {
-        match (self, sort) {
-            (Text::Start, Sort::DoubleQuote) => Text::Opened(Quote::Double),
-            (Text::Start, Sort::SingleQuote) => match dialect {
-                Dialect::Lines => Text::Dead,
-                Dialect::Turtle => Text::Opened(Quote::Single),
-            },
-            (Text::Opened(quote), _) => {
-                if is_closed_by(quote, sort) {
-                    Text::Empty(quote)
-                } else {
-                    in_short_string(quote, sort)
-                }
+        match self {
+            Text::Start => opened(dialect, sort),
+            Text::Opened(quote) if is_closed_by(quote, sort) => Text::Empty(quote),
+            Text::Short(quote) if is_closed_by(quote, sort) => Text::ShortWhole,
+            Text::Opened(quote) | Text::Short(quote) => in_short_string(quote, sort),
+            Text::ShortEscape(quote) => {
+                escaped(
+                    sort,
+                    Text::Short(quote),
+                    Text::ShortHex(quote, 3),
+                    Text::ShortHex(quote, 7),
+                )
             }
-            (Text::Empty(quote), _) => {
-                if is_closed_by(quote, sort) && dialect == Dialect::Turtle {
-                    Text::Long(quote)
-                } else {
-                    Text::Dead
-                }
+            Text::ShortHex(quote, 0) => if_hex(sort, Text::Short(quote)),
+            Text::ShortHex(quote, n) => if_hex(sort, Text::ShortHex(quote, n - 1)),
+            Text::Empty(quote) if is_closed_by(quote, sort) && dialect == Dialect::Turtle =>
+                Text::Long(quote),
+            Text::Long(quote) if is_closed_by(quote, sort) => Text::LongOneQuote(quote),
+            Text::LongOneQuote(quote) if is_closed_by(quote, sort) => Text::LongTwoQuotes(quote),
+            Text::LongTwoQuotes(quote) if is_closed_by(quote, sort) => Text::LongWhole,
+            Text::Long(quote) | Text::LongOneQuote(quote) | Text::LongTwoQuotes(quote) =>
+                in_long_string(quote, sort),
+            Text::LongEscape(quote) => {
+                escaped(
+                    sort,
+                    Text::Long(quote),
+                    Text::LongHex(quote, 3),
+                    Text::LongHex(quote, 7),
+                )
             }
-            (Text::Short(quote), _) => {
-                if is_closed_by(quote, sort) {
-                    Text::ShortWhole
-                } else {
-                    in_short_string(quote, sort)
-                }
-            }
-            (Text::ShortEscape(quote), Sort::SmallU) => Text::ShortHex(quote, 3),
-            (Text::ShortEscape(quote), Sort::BigU) => Text::ShortHex(quote, 7),
-            (
-                Text::ShortEscape(quote),
-                Sort::DoubleQuote
-                | Sort::SingleQuote
-                | Sort::Backslash
-                | Sort::Letter
-                | Sort::HexLetter,
-            ) => Text::Short(quote),
-            (Text::ShortHex(quote, 0), Sort::HexLetter | Sort::HexDigit) => Text::Short(quote),
-            (Text::ShortHex(quote, n), Sort::HexLetter | Sort::HexDigit) => {
-                Text::ShortHex(quote, n - 1)
-            }
-            (Text::Long(quote), _) => {
-                if is_closed_by(quote, sort) {
-                    Text::LongOneQuote(quote)
-                } else {
-                    in_long_string(quote, sort)
-                }
-            }
-            (Text::LongOneQuote(quote), _) => {
-                if is_closed_by(quote, sort) {
-                    Text::LongTwoQuotes(quote)
-                } else {
-                    in_long_string(quote, sort)
-                }
-            }
-            (Text::LongTwoQuotes(quote), _) => {
-                if is_closed_by(quote, sort) {
-                    Text::LongWhole
-                } else {
-                    in_long_string(quote, sort)
-                }
-            }
-            (Text::LongEscape(quote), Sort::SmallU) => Text::LongHex(quote, 3),
-            (Text::LongEscape(quote), Sort::BigU) => Text::LongHex(quote, 7),
-            (
-                Text::LongEscape(quote),
-                Sort::DoubleQuote
-                | Sort::SingleQuote
-                | Sort::Backslash
-                | Sort::Letter
-                | Sort::HexLetter,
-            ) => Text::Long(quote),
-            (Text::LongHex(quote, 0), Sort::HexLetter | Sort::HexDigit) => Text::Long(quote),
-            (Text::LongHex(quote, n), Sort::HexLetter | Sort::HexDigit) => {
-                Text::LongHex(quote, n - 1)
-            }
-            _ => Text::Dead,
+            Text::LongHex(quote, 0) => if_hex(sort, Text::Long(quote)),
+            Text::LongHex(quote, n) => if_hex(sort, Text::LongHex(quote, n - 1)),
+            Text::Empty(_) | Text::ShortWhole | Text::LongWhole | Text::Dead => Text::Dead,
         }
     }
 

@@ -20,14 +20,14 @@ loop-at-init g c =
     let kind : c.only_long_string.result ≡ kind_here d bs s =
     c.only_long_string.ensures ∙ (ap (λ t. only_long t c.whole_kind.result) three ∙ ap (only_long (three_quotes d (chars bs))) c.whole_kind.ensures) in
     let k = c.only_long_string.result in
-    let before = with_length c.args.before c.args.before_kind None in
+    let before = with_length c.args.best.len c.args.best.kind None in
     let at = c.rest_end-at.result in
     let all : Reached d bs at s (with_length at k before) =
     reached-run d bs c.args.first at s k before kind c.rest_end-at.ensures (subst (λ k. Reached d bs c.args.first s (with_length c.args.first k before)) (sym kind) c.requires) in
     let same : with_length at k before ≡ with_length c.match-only_long_string.len c.match-only_long_string.kind None = elim c.match-only_long_string.branch [
       | in-Some w ↦ ap (λ k. with_length at k before) w.in-Some.is ∙ sym (ap (λ k. with_length c.match-only_long_string.len k None) w.kind-is ∙ ap (λ n. Some (n, w.in-Some.longer)) w.len-is)
       | in_default w ↦ ap (λ k. with_length at k before) w.in_default.is
-          ∙ sym (ap (λ k. with_length c.match-only_long_string.len k None) w.kind-is ∙ ap (λ n. with_length n c.args.before_kind None) w.len-is)
+          ∙ sym (ap (λ k. with_length c.match-only_long_string.len k None) w.kind-is ∙ ap (λ n. with_length n c.args.best.kind None) w.len-is)
     ] in
     subst (Reached d bs at s) same all
 
