@@ -15,16 +15,25 @@ fn calls_for(len: usize) -> u64 {
     (len as u64 / 32768).saturating_add(8)
 }
 
-/// A run of the task reads the document and writes the text in few calls, and a check counts the quads in few calls.
-fn is_done_in_few_calls(
-    rt: &impl Abort,
-    alloc: Global,
+/// What a task writes of a document, and how many quads that has.
+#[derive(Clone, Copy)]
+struct Written<'a> {
     task: Task,
     form: Form,
-    document: &str,
-    text: &str,
+    document: &'a str,
+    text: &'a str,
     quads: u64,
-) -> Result<(), Fail> {
+}
+
+/// A run of the task reads the document and writes the text in few calls, and a check counts the quads in few calls.
+fn is_done_in_few_calls(rt: &impl Abort, alloc: Global, row: Written<'_>) -> Result<(), Fail> {
+    let Written {
+        task,
+        form,
+        document,
+        text,
+        quads,
+    } = row;
     let mut source = wide_source(document.as_bytes(), calls_for(document.len()));
     let mut drain = wide_drain(alloc, calls_for(text.len()));
     let summary = run(alloc, task, &Asked::of(form), &mut source, &mut drain)?;
@@ -60,20 +69,33 @@ fn a_large_document_is_read_in_few_calls(rt: HostRuntime) -> Result<(), Fail> {
         tokens.push_str(&text)?;
     }
     for form in [Form::NTriples, Form::NQuads, Form::Turtle, Form::TriG] {
-        is_done_in_few_calls(&rt, alloc, Task::Convert, form, &lines, &lines, 20_000)?;
-        is_done_in_few_calls(&rt, alloc, Task::Convert, form, &long, &long, 1)?;
+        for (document, quads) in [(lines.as_str(), 20_000), (long.as_str(), 1)] {
+            let row = Written {
+                task: Task::Convert,
+                form,
+                document,
+                text: document,
+                quads,
+            };
+            is_done_in_few_calls(&rt, alloc, row)?;
+        }
     }
-    is_done_in_few_calls(
-        &rt,
-        alloc,
-        Task::Show,
-        Form::Turtle,
-        &lines,
-        &tokens,
-        20_000,
-    )?;
-    let shown = "0 4 iri\n5 4 iri\n10 300002 string\n300013 1 dot\n300014 1 lineend\n";
-    is_done_in_few_calls(&rt, alloc, Task::Show, Form::NQuads, &long, shown, 1)
+    let in_turtle = Written {
+        task: Task::Show,
+        form: Form::Turtle,
+        document: lines.as_str(),
+        text: tokens.as_str(),
+        quads: 20_000,
+    };
+    is_done_in_few_calls(&rt, alloc, in_turtle)?;
+    let in_lines = Written {
+        task: Task::Show,
+        form: Form::NQuads,
+        document: long.as_str(),
+        text: "0 4 iri\n5 4 iri\n10 300002 string\n300013 1 dot\n300014 1 lineend\n",
+        quads: 1,
+    };
+    is_done_in_few_calls(&rt, alloc, in_lines)
 }
 
 #[test]

@@ -75,18 +75,26 @@ GRAPH _:g { [ :p :o ] a :c . }\n[] { :s :p \"\"\"a\"b\"\"\" }\nBASE <http://h/b>
 /// More growths than any of these runs asks for.
 const MOST: u64 = 5000;
 
-/// What a run does where memory and devices do not fail, with the document cut there.
-fn whole_run(
-    rt: &impl Abort,
-    alloc: Global,
+/// A task that is tried over a document: what is asked for, and where the document is cut.
+#[derive(Clone, Copy)]
+struct Trial<'a> {
     task: Task,
-    asked: &Asked,
-    document: &str,
+    asked: Asked,
+    document: &'a str,
     cut: usize,
-) -> Result<Run, Fail> {
+}
+
+/// What a run does where memory and devices do not fail.
+fn whole_run(rt: &impl Abort, alloc: Global, trial: Trial<'_>) -> Result<Run, Fail> {
+    let Trial {
+        task,
+        asked,
+        document,
+        cut,
+    } = trial;
     let mut source = cut_at(document.as_bytes(), cut);
     let mut drain = ample_drain(alloc);
-    let result = run(alloc, task, asked, &mut source, &mut drain);
+    let result = run(alloc, task, &asked, &mut source, &mut drain);
     assert!(rt;
         !matches!(result, Err(StreamFault::Memory)),
         "{task:?} of {document}"
@@ -95,20 +103,19 @@ fn whole_run(
 }
 
 /// Whichever of the growths is refused, a run ends for want of memory after whole lines of a beginning of what it writes where none is.
-fn ends_where_memory_does(
-    rt: &impl Abort,
-    alloc: Global,
-    task: Task,
-    asked: &Asked,
-    document: &str,
-    cut: usize,
-) -> Result<(), Fail> {
-    let whole = whole_run(rt, alloc, task, asked, document, cut)?;
+fn ends_where_memory_does(rt: &impl Abort, alloc: Global, trial: Trial<'_>) -> Result<(), Fail> {
+    let whole = whole_run(rt, alloc, trial)?;
+    let Trial {
+        task,
+        asked,
+        document,
+        cut,
+    } = trial;
     for calls in 0..MOST {
         let memory = Refusing::after(alloc, calls);
         let mut source = cut_at(document.as_bytes(), cut);
         let mut drain = ample_drain(alloc);
-        let result = run(&memory, task, asked, &mut source, &mut drain);
+        let result = run(&memory, task, &asked, &mut source, &mut drain);
         if !memory.has_refused() {
             is_same(rt, &ended(alloc, result, drain)?, &whole);
             return Ok(());
@@ -134,15 +141,19 @@ fn is_same(rt: &impl Abort, run: &Run, whole: &Run) {
 fn ends_where_its_source_does(
     rt: &impl Abort,
     alloc: Global,
-    task: Task,
-    asked: &Asked,
-    document: &str,
+    trial: Trial<'_>,
 ) -> Result<(), Fail> {
-    let whole = whole_run(rt, alloc, task, asked, document, 0)?;
+    let whole = whole_run(rt, alloc, trial)?;
+    let Trial {
+        task,
+        asked,
+        document,
+        ..
+    } = trial;
     for calls in 0..MOST {
         let mut source = failing_source(document, calls);
         let mut drain = ample_drain(alloc);
-        let result = run(alloc, task, asked, &mut source, &mut drain);
+        let result = run(alloc, task, &asked, &mut source, &mut drain);
         if !source.failed() {
             is_same(rt, &ended(alloc, result, drain)?, &whole);
             return Ok(());
@@ -159,18 +170,18 @@ fn ends_where_its_source_does(
 }
 
 /// Whichever put fails, of one byte each, or the flush, a run ends for it after the bytes that were taken before.
-fn ends_where_its_drain_does(
-    rt: &impl Abort,
-    alloc: Global,
-    task: Task,
-    asked: &Asked,
-    document: &str,
-) -> Result<(), Fail> {
-    let whole = whole_run(rt, alloc, task, asked, document, document.len())?;
+fn ends_where_its_drain_does(rt: &impl Abort, alloc: Global, trial: Trial<'_>) -> Result<(), Fail> {
+    let whole = whole_run(rt, alloc, trial)?;
+    let Trial {
+        task,
+        asked,
+        document,
+        ..
+    } = trial;
     for calls in 0..MOST {
         let mut source = cut_at(document.as_bytes(), document.len());
         let mut drain = failing_drain(alloc, calls);
-        let result = run(alloc, task, asked, &mut source, &mut drain);
+        let result = run(alloc, task, &asked, &mut source, &mut drain);
         if !drain.failed() {
             is_same(rt, &ended(alloc, result, drain)?, &whole);
             return Ok(());
@@ -191,8 +202,20 @@ fn whichever_call_of_a_device_fails_the_run_ends_there(rt: HostRuntime) -> Resul
         let limits = Limits::new(1000, depth, 9, 1000).ok_or("limits")?;
         let asked = Asked::within(form, limits);
         for task in [Task::Convert, Task::Check, Task::Show] {
-            ends_where_its_source_does(&rt, rt.alloc(), task, &asked, document)?;
-            ends_where_its_drain_does(&rt, rt.alloc(), task, &asked, document)?;
+            let by_bytes = Trial {
+                task,
+                asked,
+                document,
+                cut: 0,
+            };
+            ends_where_its_source_does(&rt, rt.alloc(), by_bytes)?;
+            let at_once = Trial {
+                task,
+                asked,
+                document,
+                cut: document.len(),
+            };
+            ends_where_its_drain_does(&rt, rt.alloc(), at_once)?;
         }
     }
     Ok(())
@@ -243,7 +266,13 @@ fn whichever_growth_is_refused_memory_is_reported(rt: HostRuntime) -> Result<(),
         let asked = Asked::within(form, limits);
         for task in [Task::Convert, Task::Check, Task::Show] {
             for cut in [0, document.len()] {
-                ends_where_memory_does(&rt, rt.alloc(), task, &asked, document, cut)?;
+                let trial = Trial {
+                    task,
+                    asked,
+                    document,
+                    cut,
+                };
+                ends_where_memory_does(&rt, rt.alloc(), trial)?;
             }
         }
     }
@@ -265,7 +294,14 @@ fn long_tokens_and_deep_brackets_end_where_memory_does(rt: HostRuntime) -> Resul
     ] {
         for task in [Task::Convert, Task::Check, Task::Show] {
             let asked = Asked::of(form);
-            ends_where_memory_does(&rt, rt.alloc(), task, &asked, document, document.len())?;
+            let cut = document.len();
+            let trial = Trial {
+                task,
+                asked,
+                document,
+                cut,
+            };
+            ends_where_memory_does(&rt, rt.alloc(), trial)?;
         }
     }
     Ok(())
