@@ -3,7 +3,7 @@ use Rattle.std.proofs.Common.{◌≡◌, ◌⊎◌, inl, inr, ℕ, Bool, true, f
 use Rattle.std.specs.Coded.{Coded, code_by, coded×, coded⊎, coded_ℕ, coded_bool, coded_list, coded_option}
 use Rattle.rdf_terms.specs.Terms.{Node, Label, Anon, Cell}
 use Rattle.rdf_terms.specs.Terms as term
-use Rattle.rdf_trig.specs.Machine.{Topic, Spelt, unsized, spelt, Level, Top, InBlock, Place, Listed, InCells, Around, Statement, Boxed, Up, Subject, At}
+use Rattle.rdf_trig.specs.Machine.{Topic, Spelt, unsized, spelt, Level, Top, InBlock, Place, Listed, InCollection, Around, Statement, InPropertyList, Up, Subject, At}
 
 -- what a blank node is made of: the text of its label, or the offset of its '[', or that of its cell
 abbrev NodeOf : Type 0
@@ -91,11 +91,11 @@ with_open o c = (c.0, (c.1.0, o ∷ c.1.1))
 abbrev mutual
   place_to : Place → Chain
   place_to (Listed s p a) = around_to s p a
-  place_to (InCells f n u) = with_open (inr (f, n)) (up_to u)
+  place_to (InCollection f n u) = with_open (inr (f, n)) (up_to u)
 
   around_to : Topic → Spelt → Around → Chain
   around_to s p (Statement v) = (true, (level_to v, inl (s, p) ∷ []))
-  around_to s p (Boxed u) = with_open (inl (s, p)) (up_to u)
+  around_to s p (InPropertyList u) = with_open (inl (s, p)) (up_to u)
 
   up_to : Up → Chain
   up_to (Subject v) = (false, (level_to v, []))
@@ -104,14 +104,14 @@ abbrev mutual
 -- what the innermost predicate list stands in: a statement where nothing else is open, and otherwise its '[' and ']'
 abbrev around_by : List Open → Bool → Bool → Up → Around
 around_by [] true v u = Statement (level_from v)
-around_by [] false v u = Boxed u
-around_by (o ∷ os) b v u = Boxed u
+around_by [] false v u = InPropertyList u
+around_by (o ∷ os) b v u = InPropertyList u
 
 -- what a bracket stands for, put together from what is open round it, the innermost first
 abbrev up_from : List Open → Bool → Bool → Up
 up_from [] b v = Subject (level_from v)
 up_from (inl x ∷ os) b v = At (Listed x.0 x.1 (around_by os b v (up_from os b v)))
-up_from (inr x ∷ os) b v = At (InCells x.0 x.1 (up_from os b v))
+up_from (inr x ∷ os) b v = At (InCollection x.0 x.1 (up_from os b v))
 
 -- what a bracket stands for, by its chain
 abbrev from : Chain → Up
@@ -125,14 +125,14 @@ around_at c = around_by c.1.1 c.0 c.1.0 (from c)
 abbrev mutual
   place_back : (p : Place) → from (place_to p) ≡ At p
   place_back (Listed s p (Statement v)) = ap (λ x. At (Listed s p (Statement x))) (level_back v)
-  place_back (Listed s p (Boxed u)) = ap (λ x. At (Listed s p x)) (boxed_back u)
-  place_back (InCells f n u) = ap (λ x. At (InCells f n x)) (up_back u)
+  place_back (Listed s p (InPropertyList u)) = ap (λ x. At (Listed s p x)) (boxed_back u)
+  place_back (InCollection f n u) = ap (λ x. At (InCollection f n x)) (up_back u)
 
-  boxed_back : (u : Up) → around_at (up_to u) ≡ Boxed u
-  boxed_back (Subject v) = ap (λ x. Boxed (Subject x)) (level_back v)
-  boxed_back (At (Listed s p (Statement v))) = ap Boxed (place_back (Listed s p (Statement v)))
-  boxed_back (At (Listed s p (Boxed u))) = ap Boxed (place_back (Listed s p (Boxed u)))
-  boxed_back (At (InCells f n u)) = ap Boxed (place_back (InCells f n u))
+  boxed_back : (u : Up) → around_at (up_to u) ≡ InPropertyList u
+  boxed_back (Subject v) = ap (λ x. InPropertyList (Subject x)) (level_back v)
+  boxed_back (At (Listed s p (Statement v))) = ap InPropertyList (place_back (Listed s p (Statement v)))
+  boxed_back (At (Listed s p (InPropertyList u))) = ap InPropertyList (place_back (Listed s p (InPropertyList u)))
+  boxed_back (At (InCollection f n u)) = ap InPropertyList (place_back (InCollection f n u))
 
   up_back : (u : Up) → from (up_to u) ≡ u
   up_back (Subject v) = ap Subject (level_back v)
@@ -160,7 +160,7 @@ place_code = code_by Up up_code At place_of (λ p. refl)
 abbrev around_of : Up → Around
 around_of (Subject v) = Statement v
 around_of (At (Listed s p a)) = a
-around_of (At (InCells f n u)) = Boxed u
+around_of (At (InCollection f n u)) = InPropertyList u
 
 -- what a predicate list stands in is coded by a place in such a list
 abbrev pub around_code : Coded Around

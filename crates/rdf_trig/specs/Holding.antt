@@ -69,7 +69,7 @@ mode_bytes r mode.AfterSubject = r.frame.subject.size
 mode_bytes r mode.AfterText = text_bytes r
 mode_bytes r mode.WantType = text_bytes r
 mode_bytes r mode.WantVerb = r.frame.subject.size
-mode_bytes r mode.AfterBrackets = r.frame.subject.size
+mode_bytes r mode.AfterPropertyList = r.frame.subject.size
 mode_bytes r m = 0
 
 -- those that the quad needs which waits for the next token, as far as no frame has them: an IRI or label, or a literal with its datatype or tag;

@@ -60,12 +60,12 @@ mutual
   -- where an object stands: after a subject and a verb, or in a collection with its first and its present cell, as offsets
   pub data Place : Type 0 where
     Listed : Topic → Spelt → Around → Place
-    InCells : ℕ → ℕ → Up → Place
+    InCollection : ℕ → ℕ → Up → Place
 
   -- what a predicate list stands in
   pub data Around : Type 0 where
     Statement : Level → Around
-    Boxed : Up → Around
+    InPropertyList : Up → Around
 
   -- what a bracket stands for: a subject, or the object at a place
   pub data Up : Type 0 where
@@ -90,7 +90,7 @@ pub data Mode : Type 0 where
   -- after a label or subject; after GRAPH, after its '[' and after its label
   AfterLabel : Topic → Mode
   GraphWord : Mode
-  GraphBox : ℕ → Mode
+  GraphBracket : ℕ → Mode
   WantBrace : Option term.Subject → Mode
   -- in a block, before a subject
   Inside : Mode
@@ -100,12 +100,12 @@ pub data Mode : Type 0 where
   AfterText : List ℕ → Place → Mode
   WantType : List ℕ → Place → Mode
   -- after '[' and after '('
-  Box : ℕ → Up → Mode
-  Paren : Up → Mode
+  PropertyListStart : ℕ → Up → Mode
+  CollectionStart : Up → Mode
   -- a verb has to come; after ';' one may; after a property list that is a subject
   WantVerb : Topic → Around → Mode
-  Semi : Topic → Around → Mode
-  AfterBox : Topic → Level → Mode
+  AfterSemicolon : Topic → Around → Mode
+  AfterPropertyList : Topic → Level → Mode
 
 -- What a token does by the grammar alone: nothing has it there; or what it stands for, a quad whose head ends with it as the first token of
 -- the next item, a quad whose head ends with it as an object, and where the reader stands after it.
@@ -124,12 +124,12 @@ cell n = node (Cell n)
 -- the subject of the triple that an object at this place belongs to
 abbrev pub subject_at : Place → Option term.Subject
 subject_at (Listed s p a) = s.term
-subject_at (InCells f n u) = cell n
+subject_at (InCollection f n u) = cell n
 
 -- its predicate: rdf:first in a collection
 abbrev pub verb_at : Place → Option (List ℕ)
 verb_at (Listed s p a) = p.iri
-verb_at (InCells f n u) = Some (known_chars RdfFirst)
+verb_at (InCollection f n u) = Some (known_chars RdfFirst)
 
 -- the quad of an object at this place
 abbrev pub quad_at : Setting → Place → Option Term → Option Quad
@@ -166,8 +166,8 @@ object_start c p early Decimal l = literal_at c p early (typed_literal l.text (S
 object_start c p early Double l = literal_at c p early (typed_literal l.text (Some (known_chars XsdDouble)))
 object_start c p early True l = literal_at c p early (typed_literal (codes "true") (Some (known_chars XsdBoolean)))
 object_start c p early False l = literal_at c p early (typed_literal (codes "false") (Some (known_chars XsdBoolean)))
-object_start c p early OpenBracket l = Go itself early (quad_at c p (resource (node (anon_at l)))) c (Box l.at.offset (At p))
-object_start c p early OpenParen l = Go itself early None c (Paren (At p))
+object_start c p early OpenBracket l = Go itself early (quad_at c p (resource (node (anon_at l)))) c (PropertyListStart l.at.offset (At p))
+object_start c p early OpenParen l = Go itself early None c (CollectionStart (At p))
 object_start c p early k l = No
 
 -- a string with its datatype IRI has come
@@ -206,39 +206,39 @@ node_closed form (Subject v) s = after_subject form v s
 node_closed form (At p) s = After p
 
 -- after the ']' of a property list: as a subject it may end the statement, as an object it has come
-abbrev pub box_closed : Up → Topic → Mode
-box_closed (Subject v) s = AfterBox s v
-box_closed (At p) s = After p
+abbrev pub property_list_closed : Up → Topic → Mode
+property_list_closed (Subject v) s = AfterPropertyList s v
+property_list_closed (At p) s = After p
 
 -- after the ')' of a collection: as a subject it needs a verb, as an object it has come
-abbrev pub list_closed : Up → Topic → Mode
-list_closed (Subject v) s = WantVerb s (Statement v)
-list_closed (At p) s = After p
+abbrev pub collection_closed : Up → Topic → Mode
+collection_closed (Subject v) s = WantVerb s (Statement v)
+collection_closed (At p) s = After p
 
 -- the end of a predicate list
-abbrev pub list_end : Setting → Topic → Around → Kind → Leaf → Reply
-list_end c s (Statement Top) Dot l = goes c Start
-list_end c s (Statement InBlock) Dot l = goes c Inside
-list_end c s (Statement InBlock) CloseBrace l = goes (in_default c.scope) Start
-list_end c s (Boxed u) CloseBracket l = goes c (box_closed u s)
-list_end c s a k l = No
+abbrev pub predicate_list_end : Setting → Topic → Around → Kind → Leaf → Reply
+predicate_list_end c s (Statement Top) Dot l = goes c Start
+predicate_list_end c s (Statement InBlock) Dot l = goes c Inside
+predicate_list_end c s (Statement InBlock) CloseBrace l = goes (in_default c.scope) Start
+predicate_list_end c s (InPropertyList u) CloseBracket l = goes c (property_list_closed u s)
+predicate_list_end c s a k l = No
 
 -- after ';' there may be another ';', a verb, or the end of the predicate list
-abbrev pub semi : Setting → Topic → Around → Kind → Leaf → Reply
-semi c s a Semicolon l = goes c (Semi s a)
-semi c s a IriRef l = verb_start c s a IriRef l
-semi c s a PnameLn l = verb_start c s a PnameLn l
-semi c s a PnameNs l = verb_start c s a PnameNs l
-semi c s a A l = verb_start c s a A l
-semi c s a k l = list_end c s a k l
+abbrev pub after_semicolon : Setting → Topic → Around → Kind → Leaf → Reply
+after_semicolon c s a Semicolon l = goes c (AfterSemicolon s a)
+after_semicolon c s a IriRef l = verb_start c s a IriRef l
+after_semicolon c s a PnameLn l = verb_start c s a PnameLn l
+after_semicolon c s a PnameNs l = verb_start c s a PnameNs l
+after_semicolon c s a A l = verb_start c s a A l
+after_semicolon c s a k l = predicate_list_end c s a k l
 
 -- after an object: ',' or ';' or the end of its list; in a collection the next item or ')', with the rdf:rest of the cell before
 abbrev pub after : Setting → Place → Kind → Leaf → Reply
 after c (Listed s p a) Comma l = goes c (Want (Listed s p a))
-after c (Listed s p a) Semicolon l = goes c (Semi s a)
-after c (Listed s p a) k l = list_end c s a k l
-after c (InCells f n u) CloseParen l = Go itself None (rest_quad c (Cell n) nil) c (list_closed u (unsized (cell f)))
-after c (InCells f n u) k l = object_start c (InCells f l.at.offset u) (rest_quad c (Cell n) (Blank (cell_at l))) k l
+after c (Listed s p a) Semicolon l = goes c (AfterSemicolon s a)
+after c (Listed s p a) k l = predicate_list_end c s a k l
+after c (InCollection f n u) CloseParen l = Go itself None (rest_quad c (Cell n) nil) c (collection_closed u (unsized (cell f)))
+after c (InCollection f n u) k l = object_start c (InCollection f l.at.offset u) (rest_quad c (Cell n) (Blank (cell_at l))) k l
 
 -- a string with its language tag has come
 abbrev pub tag_at : Setting → List ℕ → Place → Leaf → Reply
@@ -254,22 +254,22 @@ after_text c w p k l = after c p k l
 
 -- Brackets.
 -- after '[': ']' at once, for a node without a label, or the first verb of a property list
-abbrev pub box : DocForm → Setting → ℕ → Up → Kind → Leaf → Reply
-box form c n u CloseBracket l = goes c (node_closed form u (sized (node (term.Anon n))))
-box form c n u k l = verb_start c (sized (node (term.Anon n))) (Boxed u) k l
+abbrev pub property_list_start : DocForm → Setting → ℕ → Up → Kind → Leaf → Reply
+property_list_start form c n u CloseBracket l = goes c (node_closed form u (sized (node (term.Anon n))))
+property_list_start form c n u k l = verb_start c (sized (node (term.Anon n))) (InPropertyList u) k l
 
 -- after '(': ')' at once for rdf:nil, or the first item, whose cell is what the collection means
-abbrev pub paren : Setting → Up → Kind → Leaf → Reply
-paren c u CloseParen l = goes c (list_closed u (unsized (Some nil)))
-paren c u k l = object_start c (InCells l.at.offset l.at.offset u) None k l
+abbrev pub collection_start : Setting → Up → Kind → Leaf → Reply
+collection_start c u CloseParen l = goes c (collection_closed u (unsized (Some nil)))
+collection_start c u k l = object_start c (InCollection l.at.offset l.at.offset u) None k l
 
 -- after a property list that is a subject: a verb, or the end of the statement
-abbrev pub after_box : Setting → Topic → Level → Kind → Leaf → Reply
-after_box c s v IriRef l = verb_start c s (Statement v) IriRef l
-after_box c s v PnameLn l = verb_start c s (Statement v) PnameLn l
-after_box c s v PnameNs l = verb_start c s (Statement v) PnameNs l
-after_box c s v A l = verb_start c s (Statement v) A l
-after_box c s v k l = list_end c s (Statement v) k l
+abbrev pub after_property_list : Setting → Topic → Level → Kind → Leaf → Reply
+after_property_list c s v IriRef l = verb_start c s (Statement v) IriRef l
+after_property_list c s v PnameLn l = verb_start c s (Statement v) PnameLn l
+after_property_list c s v PnameNs l = verb_start c s (Statement v) PnameNs l
+after_property_list c s v A l = verb_start c s (Statement v) A l
+after_property_list c s v k l = predicate_list_end c s (Statement v) k l
 
 -- Subjects, labels and blocks.
 -- an iri has come as a subject, or as a label that looks like one
@@ -282,8 +282,8 @@ subject_start form c v IriRef l = subject_is form c v (reference_in c.scope l)
 subject_start form c v PnameLn l = subject_is form c v (name_in c.scope l)
 subject_start form c v PnameNs l = subject_is form c v (name_in c.scope l)
 subject_start form c v LabelNode l = goes c (after_subject form v (sized (node (labelled l))))
-subject_start form c v OpenBracket l = goes c (Box l.at.offset (Subject v))
-subject_start form c v OpenParen l = goes c (Paren (Subject v))
+subject_start form c v OpenBracket l = goes c (PropertyListStart l.at.offset (Subject v))
+subject_start form c v OpenParen l = goes c (CollectionStart (Subject v))
 subject_start form c v k l = No
 
 -- between statements: a directive, a block, a subject or the end of the input
@@ -322,13 +322,13 @@ graph_word c IriRef l = graph_is c (reference_in c.scope l)
 graph_word c PnameLn l = graph_is c (name_in c.scope l)
 graph_word c PnameNs l = graph_is c (name_in c.scope l)
 graph_word c LabelNode l = goes c (WantBrace (node (labelled l)))
-graph_word c OpenBracket l = goes c (GraphBox l.at.offset)
+graph_word c OpenBracket l = goes c (GraphBracket l.at.offset)
 graph_word c k l = No
 
 -- after GRAPH and '[' only ']' may come, since a label is no property list
-abbrev pub graph_box : Setting → ℕ → Kind → Leaf → Reply
-graph_box c n CloseBracket l = goes c (WantBrace (node (term.Anon n)))
-graph_box c n k l = No
+abbrev pub graph_bracket : Setting → ℕ → Kind → Leaf → Reply
+graph_bracket c n CloseBracket l = goes c (WantBrace (node (term.Anon n)))
+graph_bracket c n k l = No
 
 -- Directives.
 -- a directive that begins with '@' needs its dot, and one in SPARQL's spelling ends with its IRIREF
@@ -367,18 +367,18 @@ step form c (WantBaseIri w) k l = want_base_iri c w k l
 step form c WantDot k l = want_dot c k l
 step form c (AfterLabel g) k l = after_label c g k l
 step form c GraphWord k l = graph_word c k l
-step form c (GraphBox n) k l = graph_box c n k l
+step form c (GraphBracket n) k l = graph_bracket c n k l
 step form c (WantBrace g) k l = want_brace c g k l
 step form c Inside k l = inside form c k l
 step form c (Want p) k l = object_start c p None k l
 step form c (After p) k l = after c p k l
 step form c (AfterText w p) k l = after_text c w p k l
 step form c (WantType w p) k l = want_type c w p k l
-step form c (Box n u) k l = box form c n u k l
-step form c (Paren u) k l = paren c u k l
+step form c (PropertyListStart n u) k l = property_list_start form c n u k l
+step form c (CollectionStart u) k l = collection_start c u k l
 step form c (WantVerb s a) k l = verb_start c s a k l
-step form c (Semi s a) k l = semi c s a k l
-step form c (AfterBox s v) k l = after_box c s v k l
+step form c (AfterSemicolon s a) k l = after_semicolon c s a k l
+step form c (AfterPropertyList s v) k l = after_property_list c s v k l
 
 -- a quad whose head has ended, but whose object is known only by this token
 abbrev pub waiting : Setting → Mode → Kind → Leaf → Option Quad
@@ -387,8 +387,8 @@ waiting c (AfterText w p) AtBase l = None
 waiting c (AfterText w p) AtPrefix l = None
 waiting c (AfterText w p) Carets l = None
 waiting c (AfterText w p) k l = quad_at c p (plain_literal w)
-waiting c (Paren u) CloseParen l = quad_up c u nil
-waiting c (Paren u) k l = quad_up c u (Blank (cell_at l))
+waiting c (CollectionStart u) CloseParen l = quad_up c u nil
+waiting c (CollectionStart u) k l = quad_up c u (Blank (cell_at l))
 waiting c m k l = None
 
 -- The run over all tokens of a document, as its events; none where it refuses a token or stops short.
@@ -421,11 +421,11 @@ run form c m (t ∷ ts) = fronted (waiting c m t.kind (leaf_of t)) (go_on t (ste
 abbrev mutual
   pub place_size : Place → ℕ
   place_size (Listed s p a) = around_size a + s.size + p.size
-  place_size (InCells f n u) = up_size u
+  place_size (InCollection f n u) = up_size u
 
   pub around_size : Around → ℕ
   around_size (Statement v) = 0
-  around_size (Boxed u) = up_size u
+  around_size (InPropertyList u) = up_size u
 
   pub up_size : Up → ℕ
   up_size (Subject v) = 0
@@ -437,21 +437,21 @@ mode_size (Want p) = place_size p
 mode_size (After p) = place_size p
 mode_size (AfterText w p) = place_size p
 mode_size (WantType w p) = place_size p
-mode_size (Box n u) = up_size u
-mode_size (Paren u) = up_size u
+mode_size (PropertyListStart n u) = up_size u
+mode_size (CollectionStart u) = up_size u
 mode_size (WantVerb s a) = around_size a
-mode_size (Semi s a) = around_size a + s.size
+mode_size (AfterSemicolon s a) = around_size a + s.size
 mode_size m = 0
 
 -- How many '[' and '(' are open.
 abbrev mutual
   pub depth_at : Place → ℕ
   depth_at (Listed s p a) = depth_around a
-  depth_at (InCells f n u) = depth_up u + 1
+  depth_at (InCollection f n u) = depth_up u + 1
 
   pub depth_around : Around → ℕ
   depth_around (Statement v) = 0
-  depth_around (Boxed u) = depth_up u + 1
+  depth_around (InPropertyList u) = depth_up u + 1
 
   pub depth_up : Up → ℕ
   depth_up (Subject v) = 0
@@ -459,15 +459,15 @@ abbrev mutual
 
 -- the '[' and '(' that are open in a mode, as the limit counts them
 abbrev pub depth : Mode → ℕ
-depth (GraphBox n) = 1
+depth (GraphBracket n) = 1
 depth (Want p) = depth_at p
 depth (After p) = depth_at p
 depth (AfterText w p) = depth_at p
 depth (WantType w p) = depth_at p
-depth (Box n u) = depth_up u + 1
-depth (Paren u) = depth_up u + 1
+depth (PropertyListStart n u) = depth_up u + 1
+depth (CollectionStart u) = depth_up u + 1
 depth (WantVerb s a) = depth_around a
-depth (Semi s a) = depth_around a
+depth (AfterSemicolon s a) = depth_around a
 depth m = 0
 
 -- where the reader stands, with the quads whose heads have ended at the last token: at most two

@@ -78,12 +78,12 @@ graph_of (level.Block b) g = block_graph b g
 -- what a predicate list stands in: for a list in brackets, what the frames below make of the bracket
 abbrev pub around_of : Around → M.Level → M.Up → M.Around
 around_of around.Statement v u = M.Statement v
-around_of around.Brackets v u = M.Boxed u
+around_of around.PropertyList v u = M.InPropertyList u
 
 -- the object's place: after the subject and the verb of a list, or in a collection, with the frames below round it
 abbrev pub place_at : M.Level → Container → M.Topic → Option (List ℕ) → M.Up → M.Place
 place_at v (container.List a) s p u = M.Listed s (spelt_of p) (around_of a v u)
-place_at v (container.Cells first cell) s p u = M.InCells first cell u
+place_at v (container.Cells first cell) s p u = M.InCollection first cell u
 
 -- the object's place of a frame
 abbrev pub place_of : {A : Type 0} → M.Level → Frame A → M.Up → M.Place
@@ -113,7 +113,7 @@ outer_of (outer.WantPrefixIri w) p g = M.WantPrefixIri (spelling_of w) p
 outer_of (outer.WantBaseIri w) p g = M.WantBaseIri (spelling_of w)
 outer_of outer.WantDot p g = M.WantDot
 outer_of outer.GraphWord p g = M.GraphWord
-outer_of (outer.GraphBracket n) p g = M.GraphBox n
+outer_of (outer.GraphBracket n) p g = M.GraphBracket n
 outer_of outer.WantBrace p g = M.WantBrace g.term
 
 -- the graph of the block whose statements come next; none outside of a block, and in one of the default graph
@@ -122,9 +122,9 @@ outer_graph (outer.Inside b) g = block_graph b g
 outer_graph o g = None
 
 -- after a `;` the frame in hand is a predicate list
-abbrev pub semi_at : M.Place → M.Mode
-semi_at (M.Listed s p a) = M.Semi s a
-semi_at (M.InCells first cell u) = M.Over
+abbrev pub after_semicolon_at : M.Place → M.Mode
+after_semicolon_at (M.Listed s p a) = M.AfterSemicolon s a
+after_semicolon_at (M.InCollection first cell u) = M.Over
 
 -- of a state: what a bracket stands for, the place in hand, the characters of its text
 abbrev pub up_in : {A : Type 0} → State A → M.Up
@@ -148,11 +148,11 @@ mode_at form r mode.Want = M.Want (place_in r)
 mode_at form r mode.After = M.After (place_in r)
 mode_at form r mode.AfterText = M.AfterText (text_in r) (place_in r)
 mode_at form r mode.WantType = M.WantType (text_in r) (place_in r)
-mode_at form r (mode.Bracket n) = M.Box n (up_in r)
-mode_at form r mode.Paren = M.Paren (up_in r)
+mode_at form r (mode.PropertyListStart n) = M.PropertyListStart n (up_in r)
+mode_at form r mode.CollectionStart = M.CollectionStart (up_in r)
 mode_at form r mode.WantVerb = M.WantVerb r.frame.subject (M.Statement (level_of r.level))
-mode_at form r mode.Semicolon = semi_at (place_in r)
-mode_at form r mode.AfterBrackets = M.AfterBox r.frame.subject (level_of r.level)
+mode_at form r mode.AfterSemicolon = after_semicolon_at (place_in r)
+mode_at form r mode.AfterPropertyList = M.AfterPropertyList r.frame.subject (level_of r.level)
 
 -- the mode of a state
 abbrev pub mode_in : {A : Type 0} → DocForm → State A → M.Mode
@@ -181,13 +181,13 @@ object_of r h = None
 -- the quad of an object that has come at a place, and that of a mode whose object has come
 abbrev pub object_quad : Option term.Subject → M.Mode → Option Term → Option Quad
 object_quad g (M.After p) o = stated (Some g) (subject_at p) (verb_at p) o
-object_quad g (M.Box n (M.At p)) o = stated (Some g) (subject_at p) (verb_at p) o
+object_quad g (M.PropertyListStart n (M.At p)) o = stated (Some g) (subject_at p) (verb_at p) o
 object_quad g m o = None
 
 -- a mode in which no quad waits to know the next token
 abbrev pub IsSettled : Mode → Type 0
 IsSettled mode.AfterText = ⊥
-IsSettled mode.Paren = ⊥
+IsSettled mode.CollectionStart = ⊥
 IsSettled m = ⊤
 
 -- the rdf:rest quad of a cell, to the next cell or to rdf:nil

@@ -32,7 +32,7 @@ use Rattle.rdf_trig.specs.Names.{prefix_of}
 use Rattle.rdf_trig.specs.Quads.{Setting, named, node, resource, anon_at, labelled, short_value, long_value, tag_of, tagged_literal, typed_literal, cell_at, rest_quad}
 use Rattle.rdf_trig.specs.Machine as M
 use Rattle.rdf_trig.specs.Machine.{Reply, No, Go, nil, quad_at}
-use Rattle.rdf_trig.specs.States.{level_of, graph_of, outer_of, outer_graph, spelling_of, semi_at, up_in, place_in, around_in, text_in, mode_at, graph_at, setting, setting_in, rest_of}
+use Rattle.rdf_trig.specs.States.{level_of, graph_of, outer_of, outer_graph, spelling_of, after_semicolon_at, up_in, place_in, around_in, text_in, mode_at, graph_at, setting, setting_in, rest_of}
 use Rattle.rdf_trig.specs.States.{name_at, use_at, use_in, scope_in, IsNamed, IsNamedIn, NameIn, moved}
 use Rattle.rdf_trig.specs.Spelled.{SpellsTag}
 use Rattle.rdf_trig.specs.Holding.{text_bytes, level_bytes, outer_bytes, TextFits, NameFits, FrameFits, OpenFits, Fits, Closes, frames_most}
@@ -41,8 +41,8 @@ use Rattle.rdf_trig.specs.Holding.{text_bytes, level_bytes, outer_bytes, TextFit
 abbrev pub subject_mode : DocForm → M.Level → SubjectStart → Option (List ℕ) → Leaf → M.Mode
 subject_mode form v subject.Name i l = M.after_subject form v (M.sized (named i))
 subject_mode form v subject.Label i l = M.after_subject form v (M.sized (node (labelled l)))
-subject_mode form v subject.Brackets i l = M.Box l.at.offset (M.Subject v)
-subject_mode form v subject.Collection i l = M.Paren (M.Subject v)
+subject_mode form v subject.Brackets i l = M.PropertyListStart l.at.offset (M.Subject v)
+subject_mode form v subject.Collection i l = M.CollectionStart (M.Subject v)
 
 -- a verb, with the same
 abbrev pub verb_by : Verb → Option (List ℕ) → M.Spelt
@@ -58,8 +58,8 @@ begun c u i p early object.LongString l = Go u early None c (M.AfterText (long_v
 begun c u i p early (object.Number d) l = Go u early (quad_at c p (typed_literal l.text (Some (known_chars d)))) c (M.After p)
 begun c u i p early object.True l = Go u early (quad_at c p (typed_literal (codes "true") (Some (known_chars XsdBoolean)))) c (M.After p)
 begun c u i p early object.False l = Go u early (quad_at c p (typed_literal (codes "false") (Some (known_chars XsdBoolean)))) c (M.After p)
-begun c u i p early object.Brackets l = Go u early (quad_at c p (resource (node (anon_at l)))) c (M.Box l.at.offset (M.At p))
-begun c u i p early object.Collection l = Go u early None c (M.Paren (M.At p))
+begun c u i p early object.Brackets l = Go u early (quad_at c p (resource (node (anon_at l)))) c (M.PropertyListStart l.at.offset (M.At p))
+begun c u i p early object.Collection l = Go u early None c (M.CollectionStart (M.At p))
 
 -- the reply that is a turn of a state: in the scope after the token, with what the token stands for
 abbrev pub turned : {A : Type 0} → DocForm → State A → InForce → Use → Option (List ℕ) → Turn → Leaf → Reply
@@ -67,27 +67,27 @@ turned form r s u i (turn.Lead o) l = Go u None None (setting s (outer_graph o r
 turned form r s u i (turn.Prefix w) l = Go u None None (setting s None) (M.WantPrefixIri (spelling_of w) (prefix_of l))
 turned form r s u i turn.GraphName l = Go u None None (setting s None) (M.WantBrace (named i))
 turned form r s u i turn.GraphLabel l = Go u None None (setting s None) (M.WantBrace (node (labelled l)))
-turned form r s u i turn.GraphBracket l = Go u None None (setting s None) (M.GraphBox l.at.offset)
+turned form r s u i turn.GraphBracket l = Go u None None (setting s None) (M.GraphBracket l.at.offset)
 turned form r s u i (turn.GraphNode n) l = Go u None None (setting s None) (M.WantBrace (node (Anon n)))
 turned form r s u i turn.SubjectBlock l = Go u None None (setting s r.frame.subject.term) M.Inside
 turned form r s u i (turn.Subject v b) l = Go u None None (setting s (graph_of v r.graph)) (subject_mode form (level_of v) b i l)
 turned form r s u i (turn.Verb a v) l = Go u None None (setting_in s r) (M.Want (M.Listed r.frame.subject (verb_by v i) (around_in r a)))
-turned form r s u i (turn.FirstVerb n v) l = Go u None None (setting_in s r) (M.Want (M.Listed (M.sized (node (Anon n))) (verb_by v i) (M.Boxed (up_in r))))
+turned form r s u i (turn.FirstVerb n v) l = Go u None None (setting_in s r) (M.Want (M.Listed (M.sized (node (Anon n))) (verb_by v i) (M.InPropertyList (up_in r))))
 turned form r s u i (turn.Object b) l = begun (setting_in s r) u i (place_in r) None b l
-turned form r s u i (turn.FirstItem b) l = begun (setting_in s r) u i (M.InCells l.at.offset l.at.offset (up_in r)) None b l
+turned form r s u i (turn.FirstItem b) l = begun (setting_in s r) u i (M.InCollection l.at.offset l.at.offset (up_in r)) None b l
 turned form r s u i (turn.NextItem first cell b) l =
-    let c = setting_in s r in begun c u i (M.InCells first l.at.offset (up_in r)) (rest_quad c (Cell cell) (Blank (cell_at l))) b l
+    let c = setting_in s r in begun c u i (M.InCollection first l.at.offset (up_in r)) (rest_quad c (Cell cell) (Blank (cell_at l))) b l
 turned form r s u i turn.NextObject l = Go u None None (setting_in s r) (M.Want (place_in r))
-turned form r s u i turn.NextVerb l = Go u None None (setting_in s r) (semi_at (place_in r))
+turned form r s u i turn.NextVerb l = Go u None None (setting_in s r) (after_semicolon_at (place_in r))
 turned form r s u i turn.Tag l =
     let c = setting_in s r in Go u None (quad_at c (place_in r) (tagged_literal (text_in r) (tag_of l))) c (M.After (place_in r))
 turned form r s u i turn.DatatypeMark l = Go u None None (setting_in s r) (M.WantType (text_in r) (place_in r))
 turned form r s u i turn.Datatype l = let c = setting_in s r in Go u None (quad_at c (place_in r) (typed_literal (text_in r) i)) c (M.After (place_in r))
 turned form r s u i (turn.EndNode n) l = Go u None None (setting_in s r) (M.node_closed form (up_in r) (M.sized (node (Anon n))))
-turned form r s u i turn.EndPropertyList l = Go u None None (setting_in s r) (M.box_closed (up_in r) r.frame.subject)
-turned form r s u i turn.EmptyCollection l = Go u None None (setting_in s r) (M.list_closed (up_in r) (M.unsized (Some nil)))
+turned form r s u i turn.EndPropertyList l = Go u None None (setting_in s r) (M.property_list_closed (up_in r) r.frame.subject)
+turned form r s u i turn.EmptyCollection l = Go u None None (setting_in s r) (M.collection_closed (up_in r) (M.unsized (Some nil)))
 turned form r s u i (turn.EndCollection first cell) l =
-    let c = setting_in s r in Go u None (rest_quad c (Cell cell) nil) c (M.list_closed (up_in r) (M.unsized (M.cell first)))
+    let c = setting_in s r in Go u None (rest_quad c (Cell cell) nil) c (M.collection_closed (up_in r) (M.unsized (M.cell first)))
 
 -- the tokens with which a subject begins so, and the IRI that comes with them
 abbrev pub SuitsSubject : SubjectStart → Kind → Option (List ℕ) → Type 0

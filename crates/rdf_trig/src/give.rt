@@ -61,7 +61,7 @@ fn is_idle<A: Allocator>(state: &State<A>) -> bool
 fn waits(mode: Mode) -> bool
     ensures { result ≡ false → IsSettled mode }
 {
-    matches!(mode, Mode::AfterText | Mode::Paren)
+    matches!(mode, Mode::AfterText | Mode::CollectionStart)
 }
 
 // Puts what is held and what waits.
@@ -144,7 +144,7 @@ fn object_quad<'a, A: Allocator>(
 {
     match state.mode {
         Mode::After => Some(quad_at(&state.frame, object, graph)),
-        Mode::Bracket(_) => quad_up(&state.frames, object, graph),
+        Mode::PropertyListStart(_) => quad_up(&state.frames, object, graph),
         _ => None,
     }
 }
@@ -217,7 +217,7 @@ fn waiting_quad<'a, A: Allocator>(
             Kind::LangTag | Kind::AtBase | Kind::AtPrefix | Kind::Carets => None,
             _ => Some(quad_at(&state.frame, plain(&state.text), graph)),
         },
-        Mode::Paren => {
+        Mode::CollectionStart => {
             let first = match token.kind {
                 Kind::CloseParen => nil(),
                 _ => cell_node(token.offset),

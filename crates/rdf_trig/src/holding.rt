@@ -30,8 +30,15 @@ impl<A: Allocator> State<A> {
             Mode::Outer(Outer::WantBrace) => self.graph.len(),
             Mode::Outer(_) => 0,
             Mode::AfterText | Mode::WantType => self.text_len(),
-            Mode::AfterSubject | Mode::WantVerb | Mode::AfterBrackets => self.frame.subject.len(),
-            Mode::Want | Mode::After | Mode::Bracket(_) | Mode::Paren | Mode::Semicolon => 0,
+            Mode::AfterSubject | Mode::WantVerb | Mode::AfterPropertyList => self
+                .frame
+                .subject
+                .len(),
+            Mode::Want
+            | Mode::After
+            | Mode::PropertyListStart(_)
+            | Mode::CollectionStart
+            | Mode::AfterSemicolon => 0,
         }
     }
 

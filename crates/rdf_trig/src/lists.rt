@@ -40,7 +40,7 @@ impl<A: Allocator + Copy> State<A> {
         ensures fits { TurnFits self.old (Turn.FirstVerb node verb) self.new }
     {
         self.frame.subject.set_anon(node);
-        self.verb(Around::Brackets, verb);
+        self.verb(Around::PropertyList, verb);
     }
 
     // The `]` at the end of a predicate list.
@@ -82,7 +82,7 @@ impl<A: Allocator + Copy> State<A> {
     // The mode after a collection, whose first cell is the subject of the frame in hand.
     #[tactic(auto, using(crate::proofs::code::FrameStack::stack_steps, crate::proofs::code::HoldingLemmas::frames_popped))]
     fn collection_closed(&mut self) -> Mode
-        ensures mode { (form : DocForm) → mode_at form self.new result ≡ M.list_closed (up_in self.old) self.old.frame.subject }
+        ensures mode { (form : DocForm) → mode_at form self.new result ≡ M.collection_closed (up_in self.old) self.old.frame.subject }
         ensures graph { graph_at self.new result ≡ graph_of self.old.level self.old.graph }
         ensures same { self.new ≡ record self.old { frame = self.new.frame; frames = self.new.frames } }
         ensures stack { length self.new.frames.items ≤ length self.old.frames.items - 1 }
@@ -103,7 +103,7 @@ impl<A: Allocator + Copy> State<A> {
     // The mode after a property list.
     #[tactic(auto, using(crate::proofs::code::FrameStack::stack_steps, crate::proofs::code::HoldingLemmas::frames_popped))]
     fn brackets_closed(&mut self) -> Mode
-        ensures mode { (form : DocForm) → mode_at form self.new result ≡ M.box_closed (up_in self.old) self.old.frame.subject }
+        ensures mode { (form : DocForm) → mode_at form self.new result ≡ M.property_list_closed (up_in self.old) self.old.frame.subject }
         ensures graph { graph_at self.new result ≡ graph_of self.old.level self.old.graph }
         ensures same { self.new ≡ record self.old { frame = self.new.frame; frames = self.new.frames } }
         ensures stack { length self.new.frames.items ≤ length self.old.frames.items - 1 }
@@ -112,7 +112,7 @@ impl<A: Allocator + Copy> State<A> {
         match self.frames.pop() {
             None => {
                 self.frame.container = Container::none();
-                Mode::AfterBrackets
+                Mode::AfterPropertyList
             }
             Some(outer) => {
                 self.frame = outer;

@@ -61,11 +61,11 @@ impl<A: Allocator + Copy> State<A> {
                 self.open()?;
                 self.object.set_anon(token.offset);
                 self.hold(rest, Held::Resource);
-                self.mode = Mode::Bracket(token.offset);
+                self.mode = Mode::PropertyListStart(token.offset);
             }
             ObjectStart::Collection => {
                 self.open()?;
-                self.wait(rest, Mode::Paren);
+                self.wait(rest, Mode::CollectionStart);
             }
         }
         Ok(())

@@ -32,7 +32,7 @@ pub enum Around {
     /// It is that of a statement.
     Statement,
     /// `[` and `]` are round it.
-    Brackets,
+    PropertyList,
 }
 
 /// What is open round an object.
@@ -94,12 +94,12 @@ pub enum Mode {
     AfterText,
     WantType,
     /// After `[` and after `(`.
-    Bracket(u64),
-    Paren,
+    PropertyListStart(u64),
+    CollectionStart,
     /// A verb has to come; after `;` one may; after a property list that is a subject.
     WantVerb,
-    Semicolon,
-    AfterBrackets,
+    AfterSemicolon,
+    AfterPropertyList,
 }
 
 /// The quad whose head ended with the last token.

@@ -42,8 +42,8 @@ impl<A: Allocator + Copy> State<A> {
                 self.frame.subject.set_label(label_of(token.text))?;
                 self.stand(Mode::AfterSubject);
             }
-            SubjectStart::Brackets => self.stand(Mode::Bracket(token.offset)),
-            SubjectStart::Collection => self.stand(Mode::Paren),
+            SubjectStart::Brackets => self.stand(Mode::PropertyListStart(token.offset)),
+            SubjectStart::Collection => self.stand(Mode::CollectionStart),
         }
         Ok(())
     }

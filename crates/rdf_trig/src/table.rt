@@ -31,11 +31,11 @@ impl<A: Allocator> State<A> {
             Mode::After => self.after_object(kind),
             Mode::AfterText => self.after_text(kind),
             Mode::WantType => self.want_type(kind),
-            Mode::Bracket(node) => self.after_bracket(node, kind),
-            Mode::Paren => self.after_paren(kind),
+            Mode::PropertyListStart(node) => self.property_list_start(node, kind),
+            Mode::CollectionStart => self.collection_start(kind),
             Mode::WantVerb => self.want_verb(Around::Statement, kind),
-            Mode::Semicolon => self.after_semicolon(kind),
-            Mode::AfterBrackets => self.after_brackets(kind),
+            Mode::AfterSemicolon => self.after_semicolon(kind),
+            Mode::AfterPropertyList => self.after_property_list(kind),
         }
     }
 }

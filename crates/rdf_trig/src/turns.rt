@@ -38,7 +38,7 @@ impl<A: Allocator + Copy> State<A> {
             Turn::FirstItem(start) => self.first_item(start, token)?,
             Turn::NextItem(first, cell, start) => self.next_item(first, cell, start, token)?,
             Turn::NextObject => self.stand(Mode::Want),
-            Turn::NextVerb => self.stand(Mode::Semicolon),
+            Turn::NextVerb => self.stand(Mode::AfterSemicolon),
             Turn::Tag => self.take_tag(token)?,
             Turn::DatatypeMark => self.stand(Mode::WantType),
             Turn::Datatype => self.take_datatype(),

@@ -15,13 +15,13 @@ use Rattle.rdf_trig.specs.declared.state.Mode.TheVariants as mode
 use Rattle.rdf_trig.specs.declared.state.State.{State}
 use Rattle.rdf_trig.specs.Machine as M
 use Rattle.rdf_trig.specs.Machine.{place_size, up_size, mode_size}
-use Rattle.rdf_trig.specs.States.{level_of, place_at, place_of, up_from, up_in, text_in, outer_of, semi_at, mode_at, mode_in}
+use Rattle.rdf_trig.specs.States.{level_of, place_at, place_of, up_from, up_in, text_in, outer_of, after_semicolon_at, mode_at, mode_in}
 use Rattle.rdf_trig.specs.Holding.{open_bytes, frame_bytes, state_bytes}
 
 -- what is open holds what its place has beside what stands round it
 list_within : (v : M.Level) (o : Container) (s : M.Topic) (p : Option (List ℕ)) (u : M.Up) → place_size (place_at v o s p u) ≤ up_size u + open_bytes o s p
 list_within v (container.List around.Statement) s p u = omega arith
-list_within v (container.List around.Brackets) s p u = omega arith
+list_within v (container.List around.PropertyList) s p u = omega arith
 list_within v (container.Cells first cell) s p u = omega arith
 
 -- so does a frame
@@ -57,9 +57,9 @@ subject_none TriG M.Top s = refl
 subject_none TriG M.InBlock s = refl
 
 -- after a `;` the verb is not counted
-semi_within : (v : M.Level) (o : Container) (s : M.Topic) (p : Option (List ℕ)) (u : M.Up) → mode_size (semi_at (place_at v o s p u)) ≤ up_size u + open_bytes o s p
+semi_within : (v : M.Level) (o : Container) (s : M.Topic) (p : Option (List ℕ)) (u : M.Up) → mode_size (after_semicolon_at (place_at v o s p u)) ≤ up_size u + open_bytes o s p
 semi_within v (container.List around.Statement) s p u = omega arith
-semi_within v (container.List around.Brackets) s p u = omega arith
+semi_within v (container.List around.PropertyList) s p u = omega arith
 semi_within v (container.Cells first cell) s p u = omega arith
 
 -- in each mode at most the frame in hand is counted with those below it
@@ -71,11 +71,11 @@ mode_within form r mode.Want = place_within (level_of r.level) r.frame (up_in r)
 mode_within form r mode.After = place_within (level_of r.level) r.frame (up_in r)
 mode_within form r mode.AfterText = place_within (level_of r.level) r.frame (up_in r)
 mode_within form r mode.WantType = place_within (level_of r.level) r.frame (up_in r)
-mode_within form r (mode.Bracket n) = omega arith
-mode_within form r mode.Paren = omega arith
+mode_within form r (mode.PropertyListStart n) = omega arith
+mode_within form r mode.CollectionStart = omega arith
 mode_within form r mode.WantVerb = omega arith
-mode_within form r mode.Semicolon = semi_within (level_of r.level) r.frame.container r.frame.subject r.frame.verb (up_in r)
-mode_within form r mode.AfterBrackets = omega arith
+mode_within form r mode.AfterSemicolon = semi_within (level_of r.level) r.frame.container r.frame.subject r.frame.verb (up_in r)
+mode_within form r mode.AfterPropertyList = omega arith
 
 -- What the machine's open predicate lists hold, a state that is its mode holds.
 pub open_within : {A : Type 0} (form : DocForm) (r : State A) → mode_size (mode_in form r) ≤ state_bytes r

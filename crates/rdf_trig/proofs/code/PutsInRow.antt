@@ -21,7 +21,7 @@ use Rattle.rdf_trig.specs.declared.state.State.{State}
 use Rattle.rdf_trig.specs.declared.state.Held.TheVariants as held
 use Rattle.rdf_trig.specs.Machine as M
 use Rattle.rdf_trig.specs.Machine.{kept}
-use Rattle.rdf_trig.specs.States.{leaf, mode_in, graph_in, setting, rest_of, held_of, IsSettled, mode_at, level_of, place_in, semi_at}
+use Rattle.rdf_trig.specs.States.{leaf, mode_in, graph_in, setting, rest_of, held_of, IsSettled, mode_at, level_of, place_in, after_semicolon_at}
 use Rattle.rdf_trig.specs.Steps.{Begins, GaveUp, given}
 
 -- puts of two lists, one after the other, are the puts of both
@@ -120,15 +120,15 @@ settled form c n mode.Want k l h = refl
 settled form c n mode.After k l h = refl
 settled form c n mode.AfterText k l h = absurd h
 settled form c n mode.WantType k l h = refl
-settled form c n (mode.Bracket x) k l h = refl
-settled form c n mode.Paren k l h = absurd h
+settled form c n (mode.PropertyListStart x) k l h = refl
+settled form c n mode.CollectionStart k l h = absurd h
 settled form c n mode.WantVerb k l h = refl
-settled form c n mode.Semicolon k l h = semi (place_in n)
+settled form c n mode.AfterSemicolon k l h = after_semicolon (place_in n)
   where
-    semi : (p : M.Place) → M.waiting c (semi_at p) k l ≡ None
-    semi (M.Listed x p a) = refl
-    semi (M.InCells first cell u) = refl
-settled form c n mode.AfterBrackets k l h = refl
+    after_semicolon : (p : M.Place) → M.waiting c (after_semicolon_at p) k l ≡ None
+    after_semicolon (M.Listed x p a) = refl
+    after_semicolon (M.InCollection first cell u) = refl
+settled form c n mode.AfterPropertyList k l h = refl
 
 -- so where nothing is held in such a mode, no quad is given out
 pub given_idle : {A : Type 0} (form : DocForm) (s : InForce) (n : State A) (t : Given) → n.rest ≡ None → n.held ≡ held.Nothing → IsSettled n.mode →

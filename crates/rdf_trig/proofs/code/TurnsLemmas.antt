@@ -26,7 +26,7 @@ use Rattle.rdf_trig.specs.Slots.{topic_at}
 use Rattle.rdf_trig.specs.Quads.{Setting, cell_at, rest_quad}
 use Rattle.rdf_trig.specs.Machine as M
 use Rattle.rdf_trig.specs.Machine.{Reply, Go}
-use Rattle.rdf_trig.specs.States.{IsNamedIn, NameIn, is_go, name_at, use_in, scope_in, cells_quad, semi_at, up_in, place_in, level_of, graph_of, graph_at, setting, setting_in, mode_at, moved}
+use Rattle.rdf_trig.specs.States.{IsNamedIn, NameIn, is_go, name_at, use_in, scope_in, cells_quad, after_semicolon_at, up_in, place_in, level_of, graph_of, graph_at, setting, setting_in, mode_at, moved}
 use Rattle.rdf_trig.specs.Turns.{Means, IsTurn, IsSuited, Suits, begun, turned, turn_bytes}
 
 -- what a success brings leads on to what it is to bring
@@ -87,12 +87,12 @@ subject_decides Turtle r (level.Block b) k x h = h
 
 -- so too after a `;`
 pub semi_decides : {A : Type 0} (form : DocForm) (r : State A) (p : M.Place) (k : Kind) (x : Option Turn) →
-    Means form r k x (λ s. M.step form (setting_in s r) (semi_at p) k) →
-    MatchOption x ((s : InForce) (l : Leaf) → M.step form (setting_in s r) (semi_at p) k l ≡ M.No)
-    (λ t. (s : InForce) (l : Leaf) (i : Option (List ℕ)) → NameIn s (semi_at p) k l i →
-    M.step form (setting_in s r) (semi_at p) k l ≡ turned form r (scope_in s (semi_at p) k l) (use_in s (semi_at p) k l) i t l)
+    Means form r k x (λ s. M.step form (setting_in s r) (after_semicolon_at p) k) →
+    MatchOption x ((s : InForce) (l : Leaf) → M.step form (setting_in s r) (after_semicolon_at p) k l ≡ M.No)
+    (λ t. (s : InForce) (l : Leaf) (i : Option (List ℕ)) → NameIn s (after_semicolon_at p) k l i →
+    M.step form (setting_in s r) (after_semicolon_at p) k l ≡ turned form r (scope_in s (after_semicolon_at p) k l) (use_in s (after_semicolon_at p) k l) i t l)
 semi_decides form r (M.Listed s p a) k x h = h
-semi_decides form r (M.InCells first cell u) k x h = h
+semi_decides form r (M.InCollection first cell u) k x h = h
 
 -- tokens that suit a turn with their IRIs do so after a subject and after a `;`
 pub subject_suits : {A : Type 0} (form : DocForm) (r : State A) (v : Level) (k : Kind) (x : Option Turn) → IfSome x (IsSuited k) →
@@ -103,9 +103,9 @@ subject_suits Turtle r level.Top k x h = h
 subject_suits Turtle r (level.Block b) k x h = h
 
 pub semi_suits : (p : M.Place) (k : Kind) (x : Option Turn) → IfSome x (IsSuited k) →
-    IfSome x (λ t. (i : Option (List ℕ)) → IsNamedIn (semi_at p) k i → Suits t k i)
+    IfSome x (λ t. (i : Option (List ℕ)) → IsNamedIn (after_semicolon_at p) k i → Suits t k i)
 semi_suits (M.Listed s p a) k x h = h
-semi_suits (M.InCells first cell u) k x h = h
+semi_suits (M.InCollection first cell u) k x h = h
 
 -- after a subject in a block a verb comes
 pub block_verb : (form : DocForm) (c : Setting) (x : M.Topic) (k : Kind) (l : Leaf) (v : Level) (b : Block) → v ≡ level.Block b →
@@ -138,9 +138,9 @@ begun_goes c u i p early b l = refl
 turned_goes : {A : Type 0} (form : DocForm) (r : State A) (s : InForce) (u : Use) (i : Option (List ℕ)) (t : Turn) (l : Leaf) →
     is_go (turned form r s u i t l) ≡ true
 turned_goes form r s u i (turn.Object b) l = begun_goes (setting_in s r) u i (place_in r) None b l
-turned_goes form r s u i (turn.FirstItem b) l = begun_goes (setting_in s r) u i (M.InCells l.at.offset l.at.offset (up_in r)) None b l
+turned_goes form r s u i (turn.FirstItem b) l = begun_goes (setting_in s r) u i (M.InCollection l.at.offset l.at.offset (up_in r)) None b l
 turned_goes form r s u i (turn.NextItem first cell b) l =
-    let c = setting_in s r in begun_goes c u i (M.InCells first l.at.offset (up_in r)) (rest_quad c (term.Cell cell) (term.Blank (cell_at l))) b l
+    let c = setting_in s r in begun_goes c u i (M.InCollection first l.at.offset (up_in r)) (rest_quad c (term.Cell cell) (term.Blank (cell_at l))) b l
 turned_goes form r s u i t l = refl
 
 -- what a token stands for in a mode, if that matters

@@ -23,7 +23,7 @@ use Rattle.rdf_trig.specs.Events.{Use, stands, document_events, event_quads}
 use Rattle.rdf_trig.specs.TreeQuads.{document_quads}
 use Rattle.rdf_trig.specs.Documents.{documents, trees, InTree}
 use Rattle.rdf_trig.specs.Refusals.{unexpected, too_deep, unbound, no_base, iri_too_long, too_many_bindings}
-use Rattle.rdf_trig.specs.Machine.{sized, spelt, Top, Listed, WantPrefixIri, Sparql, Statement, Boxed, At, Start, Over, Want, After, AfterBox, State, at_start, ran, accept_all}
+use Rattle.rdf_trig.specs.Machine.{sized, spelt, Top, Listed, WantPrefixIri, Sparql, Statement, InPropertyList, At, Start, Over, Want, After, AfterPropertyList, State, at_start, ran, accept_all}
 use Rattle.rdf_trig.specs.Laws.{Rises, CompletedBy, IsRefusedAfter, Reads, ViableWhereBound, ShapedAndBound, NamelessWhere}
 use Rattle.rdf_trig.proofs.examples.Documents.{leaf, quad, start, nested_tokens, nested_tree, nested_quads, nested_is, booleans_tokens, booleans_tree, booleans_quads, booleans_is, inner_collection_quads, inner_collection_tree, one_label_tokens, one_label_quads, one_label_is}
 use Rattle.rdf_trig.proofs.theorems.StatedLaws.{due_front, stops, begins, tree_told, never_fall}
@@ -42,7 +42,7 @@ abbrev brace : Token
 brace = token OpenBrace (leaf (codes "{") 30 1)
 
 abbrev box_state : State
-box_state = record { setting = in_default start; mode = AfterBox (sized (Some (Blank (Anon 0)))) Top; held = [] }
+box_state = record { setting = in_default start; mode = AfterPropertyList (sized (Some (Blank (Anon 0)))) Top; held = [] }
 
 box_ran : accept_all TriG (at_start start) box_tokens ≡ ran box_state
     (quad (Blank (Anon 0)) (codes "http://a/p") (Resource (term.Iri (codes "http://a/s"))) None ∷ [])
@@ -109,7 +109,7 @@ abbrev deep_token : Token
 deep_token = token OpenBracket (leaf (codes "[") 20 1)
 
 abbrev deep_state : State
-deep_state = record { setting = in_default tight; mode = Want (Listed (sized (Some (Blank (Anon 12)))) (spelt (Some (codes "a:q"))) (Boxed (At (Listed (sized (Some (term.Iri (codes "a:s")))) (spelt (Some (codes "a:p"))) (Statement Top))))); held = [] }
+deep_state = record { setting = in_default tight; mode = Want (Listed (sized (Some (Blank (Anon 12)))) (spelt (Some (codes "a:q"))) (InPropertyList (At (Listed (sized (Some (term.Iri (codes "a:s")))) (spelt (Some (codes "a:p"))) (Statement Top))))); held = [] }
 
 deep_ran : accept_all TriG (at_start tight) deep_tokens ≡ ran deep_state (quad (term.Iri (codes "a:s")) (codes "a:p") (Resource (Blank (Anon 12))) None ∷ [])
 unfolding reference_in name_in resolved is_full has encode

@@ -14,7 +14,7 @@ use Rattle.rdf_trig.specs.Names.{reference_in, name_in, with_base, with_binding,
 use Rattle.rdf_trig.specs.Quads.{Setting, named, node, resource, typed_literal, cell_at, rest_quad}
 use Rattle.rdf_trig.specs.Refusals.{Refusal, too_deep, iri_too_long, too_many_bindings}
 use Rattle.rdf_trig.specs.Events.{Use, itself, stands, binds}
-use Rattle.rdf_trig.specs.Machine.{Topic, sized, spelt, Level, Top, InBlock, Place, Listed, InCells, Around, Statement, Boxed, Up, Subject, At, Spelling, Mode, Start, Over, WantPrefix, WantPrefixIri, WantBaseIri, WantDot, AfterLabel, GraphWord, GraphBox, WantBrace, Inside, Want, After, AfterText, WantType, Box, Paren, WantVerb, Semi, AfterBox, Reply, No, Go, quad_at, object_start, want_type, verb_start, after_subject, list_end, semi, after, after_text, box, paren, after_box, subject_start, start, inside, want_brace, after_label, graph_word, graph_box, want_prefix, want_prefix_iri, want_base_iri, want_dot, step, waiting, depth}
+use Rattle.rdf_trig.specs.Machine.{Topic, sized, spelt, Level, Top, InBlock, Place, Listed, InCollection, Around, Statement, InPropertyList, Up, Subject, At, Spelling, Mode, Start, Over, WantPrefix, WantPrefixIri, WantBaseIri, WantDot, AfterLabel, GraphWord, GraphBracket, WantBrace, Inside, Want, After, AfterText, WantType, PropertyListStart, CollectionStart, WantVerb, AfterSemicolon, AfterPropertyList, Reply, No, Go, quad_at, object_start, want_type, verb_start, after_subject, predicate_list_end, after_semicolon, after, after_text, property_list_start, collection_start, after_property_list, subject_start, start, inside, want_brace, after_label, graph_word, graph_bracket, want_prefix, want_prefix_iri, want_base_iri, want_dot, step, waiting, depth}
 use Rattle.rdf_trig.specs.Machine.{kept, State, Answer, refuses, accepts, too_long, by_use, deepens, answer, accept}
 use Rattle.rdf_trig.specs.Alike.{SameState}
 use Rattle.rdf_trig.proofs.trees.NamesLemmas.{binds_prefix}
@@ -102,17 +102,17 @@ module _ (s t : InForce) (same : SameNames s t) where
   verb_same g x a k l = tt
 
   end_same : (g : Option (Option term.Subject)) (x : Topic) (a : Around) (k : Kind) (l : Leaf) →
-      SameReply (list_end (from g) x a k l) (list_end (to g) x a k l)
+      SameReply (predicate_list_end (from g) x a k l) (predicate_list_end (to g) x a k l)
   end_same g x (Statement Top) Dot l = (refl, refl, refl, (same, refl), refl)
   end_same g x (Statement InBlock) Dot l = (refl, refl, refl, (same, refl), refl)
   end_same g x (Statement InBlock) CloseBrace l = (refl, refl, refl, (same, refl), refl)
-  end_same g x (Boxed u) CloseBracket l = (refl, refl, refl, (same, refl), refl)
+  end_same g x (InPropertyList u) CloseBracket l = (refl, refl, refl, (same, refl), refl)
   end_same g x (Statement Top) k l = tt
   end_same g x (Statement InBlock) k l = tt
-  end_same g x (Boxed u) k l = tt
+  end_same g x (InPropertyList u) k l = tt
 
   semi_same : (g : Option (Option term.Subject)) (x : Topic) (a : Around) (k : Kind) (l : Leaf) →
-      SameReply (semi (from g) x a k l) (semi (to g) x a k l)
+      SameReply (after_semicolon (from g) x a k l) (after_semicolon (to g) x a k l)
   semi_same g x a Semicolon l = (refl, refl, refl, (same, refl), refl)
   semi_same g x a IriRef l = verb_same g x a IriRef l
   semi_same g x a PnameLn l = verb_same g x a PnameLn l
@@ -124,8 +124,8 @@ module _ (s t : InForce) (same : SameNames s t) where
   after_same g (Listed x v a) Comma l = (refl, refl, refl, (same, refl), refl)
   after_same g (Listed x v a) Semicolon l = (refl, refl, refl, (same, refl), refl)
   after_same g (Listed x v a) k l = end_same g x a k l
-  after_same g (InCells f n u) CloseParen l = (refl, refl, refl, (same, refl), refl)
-  after_same g (InCells f n u) k l = object_same g (InCells f l.at.offset u) (rest_quad (from g) (Cell n) (Blank (cell_at l))) k l
+  after_same g (InCollection f n u) CloseParen l = (refl, refl, refl, (same, refl), refl)
+  after_same g (InCollection f n u) k l = object_same g (InCollection f l.at.offset u) (rest_quad (from g) (Cell n) (Blank (cell_at l))) k l
 
   text_same : (g : Option (Option term.Subject)) (w : List ℕ) (p : Place) (k : Kind) (l : Leaf) →
       SameReply (after_text (from g) w p k l) (after_text (to g) w p k l)
@@ -143,16 +143,16 @@ module _ (s t : InForce) (same : SameNames s t) where
   type_same g w p k l = tt
 
   box_same : (form : DocForm) (g : Option (Option term.Subject)) (n : ℕ) (u : Up) (k : Kind) (l : Leaf) →
-      SameReply (box form (from g) n u k l) (box form (to g) n u k l)
+      SameReply (property_list_start form (from g) n u k l) (property_list_start form (to g) n u k l)
   box_same form g n u CloseBracket l = (refl, refl, refl, (same, refl), refl)
-  box_same form g n u k l = verb_same g (sized (node (Anon n))) (Boxed u) k l
+  box_same form g n u k l = verb_same g (sized (node (Anon n))) (InPropertyList u) k l
 
-  paren_same : (g : Option (Option term.Subject)) (u : Up) (k : Kind) (l : Leaf) → SameReply (paren (from g) u k l) (paren (to g) u k l)
+  paren_same : (g : Option (Option term.Subject)) (u : Up) (k : Kind) (l : Leaf) → SameReply (collection_start (from g) u k l) (collection_start (to g) u k l)
   paren_same g u CloseParen l = (refl, refl, refl, (same, refl), refl)
-  paren_same g u k l = object_same g (InCells l.at.offset l.at.offset u) None k l
+  paren_same g u k l = object_same g (InCollection l.at.offset l.at.offset u) None k l
 
   after_box_same : (g : Option (Option term.Subject)) (x : Topic) (v : Level) (k : Kind) (l : Leaf) →
-      SameReply (after_box (from g) x v k l) (after_box (to g) x v k l)
+      SameReply (after_property_list (from g) x v k l) (after_property_list (to g) x v k l)
   after_box_same g x v IriRef l = verb_same g x (Statement v) IriRef l
   after_box_same g x v PnameLn l = verb_same g x (Statement v) PnameLn l
   after_box_same g x v PnameNs l = verb_same g x (Statement v) PnameNs l
@@ -201,7 +201,7 @@ module _ (s t : InForce) (same : SameNames s t) where
   graph_same g OpenBracket l = (refl, refl, refl, (same, refl), refl)
   graph_same g k l = tt
 
-  graph_box_same : (g : Option (Option term.Subject)) (n : ℕ) (k : Kind) (l : Leaf) → SameReply (graph_box (from g) n k l) (graph_box (to g) n k l)
+  graph_box_same : (g : Option (Option term.Subject)) (n : ℕ) (k : Kind) (l : Leaf) → SameReply (graph_bracket (from g) n k l) (graph_bracket (to g) n k l)
   graph_box_same g n CloseBracket l = (refl, refl, refl, (same, refl), refl)
   graph_box_same g n k l = tt
 
@@ -240,18 +240,18 @@ module _ (s t : InForce) (same : SameNames s t) where
   step_same form g WantDot k l = dot_same g k l
   step_same form g (AfterLabel x) k l = label_same g x k l
   step_same form g GraphWord k l = graph_same g k l
-  step_same form g (GraphBox n) k l = graph_box_same g n k l
+  step_same form g (GraphBracket n) k l = graph_box_same g n k l
   step_same form g (WantBrace x) k l = brace_same g x k l
   step_same form g Inside k l = inside_same form g k l
   step_same form g (Want p) k l = object_same g p None k l
   step_same form g (After p) k l = after_same g p k l
   step_same form g (AfterText w p) k l = text_same g w p k l
   step_same form g (WantType w p) k l = type_same g w p k l
-  step_same form g (Box n u) k l = box_same form g n u k l
-  step_same form g (Paren u) k l = paren_same g u k l
+  step_same form g (PropertyListStart n u) k l = box_same form g n u k l
+  step_same form g (CollectionStart u) k l = paren_same g u k l
   step_same form g (WantVerb x a) k l = verb_same g x a k l
-  step_same form g (Semi x a) k l = semi_same g x a k l
-  step_same form g (AfterBox x v) k l = after_box_same g x v k l
+  step_same form g (AfterSemicolon x a) k l = semi_same g x a k l
+  step_same form g (AfterPropertyList x v) k l = after_box_same g x v k l
 
   waiting_same : (g : Option (Option term.Subject)) (m : Mode) (k : Kind) (l : Leaf) → waiting (from g) m k l ≡ waiting (to g) m k l
   waiting_same g (AfterText w p) LangTag l = refl
@@ -259,10 +259,10 @@ module _ (s t : InForce) (same : SameNames s t) where
   waiting_same g (AfterText w p) AtPrefix l = refl
   waiting_same g (AfterText w p) Carets l = refl
   waiting_same g (AfterText w p) k l = refl
-  waiting_same g (Paren (Subject v)) CloseParen l = refl
-  waiting_same g (Paren (At p)) CloseParen l = refl
-  waiting_same g (Paren (Subject v)) k l = refl
-  waiting_same g (Paren (At p)) k l = refl
+  waiting_same g (CollectionStart (Subject v)) CloseParen l = refl
+  waiting_same g (CollectionStart (At p)) CloseParen l = refl
+  waiting_same g (CollectionStart (Subject v)) k l = refl
+  waiting_same g (CollectionStart (At p)) k l = refl
   waiting_same g m k l = refl
 
 -- the same answers

@@ -16,7 +16,7 @@ use Rattle.rdf_trig.specs.declared.form.DocForm.TheVariants.{Turtle, TriG}
 use Rattle.rdf_trig.specs.Names.{prefix_of, reference_in, with_base, with_binding, is_full}
 use Rattle.rdf_trig.specs.Quads.{Setting, in_default, named, node, resource, plain_literal, typed_literal, rest_quad}
 use Rattle.rdf_trig.specs.Events.{Use, itself, stands, binds, Event, Took, Gave, give}
-use Rattle.rdf_trig.specs.Machine.{Topic, Spelt, sized, unsized, spelt, Level, Top, InBlock, Place, Listed, InCells, Around, Statement, Boxed, Up, Subject, At, Spelling, Dotted, Sparql, Mode, Start, Over, WantPrefix, WantPrefixIri, WantBaseIri, WantDot, AfterLabel, GraphWord, GraphBox, WantBrace, Inside, Want, After, AfterText, WantType, Box, Paren, WantVerb, Semi, AfterBox, Go, goes, cell, quad_at, nil, after_subject, node_closed, box_closed, list_closed, directive_end, step, waiting, fronted, put, go_on, run}
+use Rattle.rdf_trig.specs.Machine.{Topic, Spelt, sized, unsized, spelt, Level, Top, InBlock, Place, Listed, InCollection, Around, Statement, InPropertyList, Up, Subject, At, Spelling, Dotted, Sparql, Mode, Start, Over, WantPrefix, WantPrefixIri, WantBaseIri, WantDot, AfterLabel, GraphWord, GraphBracket, WantBrace, Inside, Want, After, AfterText, WantType, PropertyListStart, CollectionStart, WantVerb, AfterSemicolon, AfterPropertyList, Go, goes, cell, quad_at, nil, after_subject, node_closed, property_list_closed, collection_closed, directive_end, step, waiting, fronted, put, go_on, run}
 use Rattle.rdf_trig.proofs.machine.Completeness.{text_run}
 
 -- whether a token that stands for this is taken: with a name that stands for something, or with any
@@ -90,7 +90,7 @@ close_verb v = iri ∷ iri ∷ close_level v
 abbrev mutual
   pub close_place : Place → List Token
   close_place (Listed s p a) = close_around a
-  close_place (InCells f n u) = close_paren ∷ close_list u
+  close_place (InCollection f n u) = close_paren ∷ close_list u
 
   pub close_list : Up → List Token
   close_list (Subject v) = close_verb v
@@ -102,7 +102,7 @@ abbrev mutual
 
   pub close_around : Around → List Token
   close_around (Statement v) = close_level v
-  close_around (Boxed u) = close_bracket ∷ close_box u
+  close_around (InPropertyList u) = close_bracket ∷ close_box u
 
 -- what completes a directive whose IRIREF has been read
 abbrev pub close_directive : Spelling → List Token
@@ -123,18 +123,18 @@ close (WantBaseIri w) = iri ∷ close_directive w
 close WantDot = dot ∷ the_end ∷ []
 close (AfterLabel g) = close_verb Top
 close GraphWord = iri ∷ close_block
-close (GraphBox n) = close_bracket ∷ close_block
+close (GraphBracket n) = close_bracket ∷ close_block
 close (WantBrace g) = close_block
 close Inside = close_brace ∷ the_end ∷ []
 close (Want p) = iri ∷ close_place p
 close (After p) = close_place p
 close (AfterText w p) = close_place p
 close (WantType w p) = iri ∷ close_place p
-close (Box n u) = close_bracket ∷ close_list u
-close (Paren u) = close_paren ∷ close_list u
+close (PropertyListStart n u) = close_bracket ∷ close_list u
+close (CollectionStart u) = close_paren ∷ close_list u
 close (WantVerb s a) = iri ∷ iri ∷ close_around a
-close (Semi s a) = close_around a
-close (AfterBox s v) = close_level v
+close (AfterSemicolon s a) = close_around a
+close (AfterPropertyList s v) = close_level v
 
 -- <a:> has a scheme, so it stands for itself in every scope
 any_iri_stands : (s : InForce) → reference_in s any_iri ≡ Some (codes "a:")
@@ -196,7 +196,7 @@ module _ (strict : Bool) (form : DocForm) where
   level_closes Top c s p = plain Dot (leaf (codes ".")) refl (at_end c)
   level_closes InBlock c s p = plain CloseBrace (leaf (codes "}")) refl (at_end (in_default c.scope))
 
-  box_closes : (v : Level) (c : Setting) (s : Topic) → Accepts c (AfterBox s v) (close_level v)
+  box_closes : (v : Level) (c : Setting) (s : Topic) → Accepts c (AfterPropertyList s v) (close_level v)
   box_closes Top c s = plain Dot (leaf (codes ".")) refl (at_end c)
   box_closes InBlock c s = plain CloseBrace (leaf (codes "}")) refl (at_end (in_default c.scope))
 
@@ -214,24 +214,24 @@ module _ (strict : Bool) (form : DocForm) where
   mutual
     place_closes : (p : Place) (c : Setting) → Accepts c (After p) (close_place p)
     place_closes (Listed s p (Statement v)) c = level_closes v c s p
-    place_closes (Listed s p (Boxed u)) c = plain CloseBracket (leaf (codes "]")) refl (up_box u c s)
-    place_closes (InCells f n u) c = takes CloseParen (leaf (codes ")")) itself None (rest_quad c (Cell n) nil) (itself_passes strict) refl (up_list u c (unsized (cell f)))
+    place_closes (Listed s p (InPropertyList u)) c = plain CloseBracket (leaf (codes "]")) refl (up_box u c s)
+    place_closes (InCollection f n u) c = takes CloseParen (leaf (codes ")")) itself None (rest_quad c (Cell n) nil) (itself_passes strict) refl (up_list u c (unsized (cell f)))
 
-    up_list : (u : Up) (c : Setting) (s : Topic) → Accepts c (list_closed u s) (close_list u)
+    up_list : (u : Up) (c : Setting) (s : Topic) → Accepts c (collection_closed u s) (close_list u)
     up_list (Subject v) c s = verb_closes v c s
     up_list (At p) c s = place_closes p c
 
-    up_box : (u : Up) (c : Setting) (s : Topic) → Accepts c (box_closed u s) (close_box u)
+    up_box : (u : Up) (c : Setting) (s : Topic) → Accepts c (property_list_closed u s) (close_box u)
     up_box (Subject v) c s = box_closes v c s
     up_box (At p) c s = place_closes p c
 
   brace_closes : (c : Setting) (g : Option term.Subject) → Accepts c (WantBrace g) close_block
   brace_closes c g = plain OpenBrace (leaf (codes "{")) refl (plain CloseBrace (leaf (codes "}")) refl (at_end (in_default c.scope)))
 
-  around_closes : (a : Around) (c : Setting) (s : Topic) → Accepts c (Semi s a) (close_around a)
+  around_closes : (a : Around) (c : Setting) (s : Topic) → Accepts c (AfterSemicolon s a) (close_around a)
   around_closes (Statement Top) c s = plain Dot (leaf (codes ".")) refl (at_end c)
   around_closes (Statement InBlock) c s = plain CloseBrace (leaf (codes "}")) refl (at_end (in_default c.scope))
-  around_closes (Boxed u) c s = plain CloseBracket (leaf (codes "]")) refl (up_box u c s)
+  around_closes (InPropertyList u) c s = plain CloseBracket (leaf (codes "]")) refl (up_box u c s)
 
   directive_closes : (w : Spelling) (c : Setting) → Accepts c (directive_end w) (close_directive w)
   directive_closes Dotted c = plain Dot (leaf (codes ".")) refl (at_end c)
@@ -270,17 +270,17 @@ module _ (strict : Bool) (form : DocForm) where
   closes WantDot c = plain strict form Dot (leaf (codes ".")) refl (at_end strict form c)
   closes (AfterLabel g) c = label_closes strict form c g
   closes GraphWord c = named_by strict form None None refl (brace_closes strict form c (named (reference_in c.scope any_iri)))
-  closes (GraphBox n) c = plain strict form CloseBracket (leaf (codes "]")) refl (brace_closes strict form c (node (Anon n)))
+  closes (GraphBracket n) c = plain strict form CloseBracket (leaf (codes "]")) refl (brace_closes strict form c (node (Anon n)))
   closes (WantBrace g) c = brace_closes strict form c g
   closes Inside c = plain strict form CloseBrace (leaf (codes "}")) refl (at_end strict form (in_default c.scope))
   closes (Want p) c = object_closes strict form c p (close_place p) (place_closes strict form p c)
   closes (After p) c = place_closes strict form p c
   closes (AfterText w p) c = text_closes strict form c w p (close_place p) (place_closes strict form p c)
   closes (WantType w p) c = named_by strict form None (quad_at c p (typed_literal w (reference_in c.scope any_iri))) refl (place_closes strict form p c)
-  closes (Box n u) c = plain strict form CloseBracket (leaf (codes "]")) refl (up_node u c (sized (node (Anon n))))
-  closes (Paren u) c = plain strict form CloseParen (leaf (codes ")")) refl (up_list strict form u c (unsized (Some nil)))
+  closes (PropertyListStart n u) c = plain strict form CloseBracket (leaf (codes "]")) refl (up_node u c (sized (node (Anon n))))
+  closes (CollectionStart u) c = plain strict form CloseParen (leaf (codes ")")) refl (up_list strict form u c (unsized (Some nil)))
   closes (WantVerb s a) c =
       named_by strict form None None refl
       (object_closes strict form c (Listed s (spelt (reference_in c.scope any_iri)) a) (close_around a) (place_closes strict form (Listed s (spelt (reference_in c.scope any_iri)) a) c))
-  closes (Semi s a) c = around_closes strict form a c s
-  closes (AfterBox s v) c = box_closes strict form v c s
+  closes (AfterSemicolon s a) c = around_closes strict form a c s
+  closes (AfterPropertyList s v) c = box_closes strict form v c s

@@ -13,7 +13,7 @@ use Rattle.rdf_trig.specs.Trees as tree
 use Rattle.rdf_trig.specs.Names.{reference_in, name_in, iri_in, scope_after}
 use Rattle.rdf_trig.specs.Quads.{Setting, in_default, in_graph, named, node, resource, anon_at, blank_of, lexical, language, plain_literal, tagged_literal, typed_literal, literal_of, iri_leaf, string_leaf, literal_leaf, object_leaf, cell_at, items_of, collection_of, list_of, label_of, rest_quad}
 use Rattle.rdf_trig.specs.Events.{Use, itself, stands, Event, Took, take, give, iri_events, verb_events, string_events, tag_events, blank_object_events, literal_events, object_quad, object_events, collection_events, items_events, rest_events, list_events, predicates_events, more_events, objects_events, commas_events, maybe_events, triples_events, label_events, block_events, maybe_block_events, wrapped_events, body_events, document_events, tokens}
-use Rattle.rdf_trig.specs.Machine.{Topic, Spelt, sized, unsized, spelt, verb_in, Level, Top, InBlock, Place, Listed, InCells, Around, Statement, Boxed, Up, Subject, At, Mode, Start, AfterLabel, GraphWord, WantBrace, Inside, Want, After, AfterText, WantType, Box, Paren, WantVerb, Semi, AfterBox, Reply, No, Go, goes, cell, subject_at, verb_at, quad_at, quad_up, nil, object_start, verb_start, after_subject, list_closed, after, subject_start, step, waiting, fronted, put, go_on, run}
+use Rattle.rdf_trig.specs.Machine.{Topic, Spelt, sized, unsized, spelt, verb_in, Level, Top, InBlock, Place, Listed, InCollection, Around, Statement, InPropertyList, Up, Subject, At, Mode, Start, AfterLabel, GraphWord, WantBrace, Inside, Want, After, AfterText, WantType, PropertyListStart, CollectionStart, WantVerb, AfterSemicolon, AfterPropertyList, Reply, No, Go, goes, cell, subject_at, verb_at, quad_at, quad_up, nil, object_start, verb_start, after_subject, collection_closed, after, subject_start, step, waiting, fronted, put, go_on, run}
 
 module _ (form : DocForm) where
   -- the run from a state takes these events' tokens, and has these events
@@ -50,8 +50,8 @@ module _ (form : DocForm) where
       (after c p LangTag l ≡ No) × (after c p AtBase l ≡ No) × (after c p AtPrefix l ≡ No) × (after c p Carets l ≡ No)
   no_tag c (Listed s v (Statement Top)) l = (refl, refl, refl, refl)
   no_tag c (Listed s v (Statement InBlock)) l = (refl, refl, refl, refl)
-  no_tag c (Listed s v (Boxed u)) l = (refl, refl, refl, refl)
-  no_tag c (InCells f n u) l = (refl, refl, refl, refl)
+  no_tag c (Listed s v (InPropertyList u)) l = (refl, refl, refl, refl)
+  no_tag c (InCollection f n u) l = (refl, refl, refl, refl)
 
   dead : {T : Type 0} (r : Reply) (t : Token) (next : Setting → Mode → Option (List Event)) (es : List Event) → r ≡ No →
       fronted None (go_on t r next) ≡ Some es → T
@@ -104,7 +104,7 @@ module _ (form : DocForm) where
     pub double : Starts c m p before early Double l
     pub true_word : Starts c m p before early True l
     pub false_word : Starts c m p before early False l
-    pub box : Starts c m p before early OpenBracket l
+    pub property_list_start : Starts c m p before early OpenBracket l
     pub list : Starts c m p before early OpenParen l
 
   pub want_takes : (c : Setting) (p : Place) (l : Leaf) → TakesObject c (Want p) p None None l
@@ -118,11 +118,11 @@ module _ (form : DocForm) where
     double = (refl, refl);
     true_word = (refl, refl);
     false_word = (refl, refl);
-    box = (refl, refl);
+    property_list_start = (refl, refl);
     list = (refl, refl);
   }
 
-  pub paren_takes : (c : Setting) (u : Up) (l : Leaf) → TakesObject c (Paren u) (InCells l.at.offset l.at.offset u) (quad_up c u (Blank (cell_at l))) None l
+  pub paren_takes : (c : Setting) (u : Up) (l : Leaf) → TakesObject c (CollectionStart u) (InCollection l.at.offset l.at.offset u) (quad_up c u (Blank (cell_at l))) None l
   paren_takes c u l = record {
     iri = record { waits = (refl, refl, refl); ref = refl; ln = refl; ns = refl };
     label = (refl, refl);
@@ -133,12 +133,12 @@ module _ (form : DocForm) where
     double = (refl, refl);
     true_word = (refl, refl);
     false_word = (refl, refl);
-    box = (refl, refl);
+    property_list_start = (refl, refl);
     list = (refl, refl);
   }
 
   pub item_takes : (c : Setting) (f n : ℕ) (u : Up) (l : Leaf) →
-      TakesObject c (After (InCells f n u)) (InCells f l.at.offset u) None (rest_quad c (Cell n) (Blank (cell_at l))) l
+      TakesObject c (After (InCollection f n u)) (InCollection f l.at.offset u) None (rest_quad c (Cell n) (Blank (cell_at l))) l
   item_takes c f n u l = record {
     iri = record { waits = (refl, refl, refl); ref = refl; ln = refl; ns = refl };
     label = (refl, refl);
@@ -149,7 +149,7 @@ module _ (form : DocForm) where
     double = (refl, refl);
     true_word = (refl, refl);
     false_word = (refl, refl);
-    box = (refl, refl);
+    property_list_start = (refl, refl);
     list = (refl, refl);
   }
 
@@ -160,7 +160,7 @@ module _ (form : DocForm) where
   -- a token that ends a predicate list, and the state after it
   pub record Ends (c : Setting) (s : Topic) (a : Around) (k : Kind) (l : Leaf) (c' : Setting) (m' : Mode) : Type 0 where
     pub after : (p : Spelt) → step form c (After (Listed s p a)) k l ≡ goes c' m'
-    pub semi : step form c (Semi s a) k l ≡ goes c' m'
+    pub after_semicolon : step form c (AfterSemicolon s a) k l ≡ goes c' m'
 
   verb_good : (v : Verb) (c : Setting) (m : Mode) (s : Topic) (a : Around) (rest : List Event) → TakesVerb c m s a →
       Good c (Want (Listed s (verb_in c.scope v) a)) rest → Good c m (verb_events c.scope v rest)
@@ -197,10 +197,10 @@ module _ (form : DocForm) where
   literal_good (boolean (true_word l)) c m p before early rest h g = one True l before itself early _ h.true_word.0 h.true_word.1 g
   literal_good (boolean (false_word l)) c m p before early rest h g = one False l before itself early _ h.false_word.0 h.false_word.1 g
 
-  pub box_verb : (c : Setting) (n : ℕ) (u : Up) → TakesVerb c (Box n u) (sized (node (Anon n))) (Boxed u)
+  pub box_verb : (c : Setting) (n : ℕ) (u : Up) → TakesVerb c (PropertyListStart n u) (sized (node (Anon n))) (InPropertyList u)
   box_verb c n u = record { iri = λ l. record { waits = (refl, refl, refl); ref = refl; ln = refl; ns = refl }; type = λ l. (refl, refl) }
 
-  pub semi_verb : (c : Setting) (s : Topic) (a : Around) → TakesVerb c (Semi s a) s a
+  pub semi_verb : (c : Setting) (s : Topic) (a : Around) → TakesVerb c (AfterSemicolon s a) s a
   semi_verb c s a = record { iri = λ l. record { waits = (refl, refl, refl); ref = refl; ln = refl; ns = refl }; type = λ l. (refl, refl) }
 
   pub want_verb : (c : Setting) (s : Topic) (a : Around) → TakesVerb c (WantVerb s a) s a
@@ -212,7 +212,7 @@ module _ (form : DocForm) where
         Good c m (give before (object_events c o (subject_at p) (verb_at p) early rest))
     object_good (iri_object i) c m p before early rest h g = iri_good i c m c.scope before early (λ j. quad_at c p (resource (named j))) c (λ j. After p) rest h.iri g
     object_good (blank_object (label l)) c m p before early rest h g = one LabelNode l before itself early _ h.label.0 h.label.1 g
-    object_good (blank_object (anon l r)) c m p before early rest h g = one OpenBracket l before itself early _ h.box.0 h.box.1 (alone CloseBracket r refl refl g)
+    object_good (blank_object (anon l r)) c m p before early rest h g = one OpenBracket l before itself early _ h.property_list_start.0 h.property_list_start.1 (alone CloseBracket r refl refl g)
     object_good (collection_object os) c m p before early rest h g = collection_object_good os c m p before early rest h g
     object_good (list_object ps) c m p before early rest h g = list_object_good ps c m p before early rest h g
     object_good (literal_object x) c m p before early rest h g = literal_good x c m p before early rest h g
@@ -226,22 +226,22 @@ module _ (form : DocForm) where
         TakesObject c m p before early (object_leaf (list_object ps)) →
         Good c (After p) rest → Good c m (give before (list_events c ps early (object_quad c (subject_at p) (verb_at p) (list_object ps)) rest))
     list_object_good (property_list l ps r) c m p before early rest h g =
-        one OpenBracket l before itself early _ h.box.0 h.box.1
-        (predicates_good ps c (Box l.at.offset (At p)) (sized (node (anon_at l))) (Boxed (At p)) CloseBracket r c (After p) rest (box_verb c l.at.offset (At p)) record { after = λ v. refl; semi = refl } g)
+        one OpenBracket l before itself early _ h.property_list_start.0 h.property_list_start.1
+        (predicates_good ps c (PropertyListStart l.at.offset (At p)) (sized (node (anon_at l))) (InPropertyList (At p)) CloseBracket r c (After p) rest (box_verb c l.at.offset (At p)) record { after = λ v. refl; after_semicolon = refl } g)
 
-    items_good : (os : Items) (c : Setting) (u : Up) (r : Leaf) (rest : List Event) → Good c (list_closed u (unsized (Some (items_of os)))) rest →
-        Good c (Paren u) (give (quad_up c u (items_of os)) (items_events c os r rest))
+    items_good : (os : Items) (c : Setting) (u : Up) (r : Leaf) (rest : List Event) → Good c (collection_closed u (unsized (Some (items_of os)))) rest →
+        Good c (CollectionStart u) (give (quad_up c u (items_of os)) (items_events c os r rest))
     items_good no_items c u r rest g = one CloseParen r (quad_up c u nil) itself None None refl refl g
     items_good (item o os) c u r rest g =
         let l = object_leaf o in
-        object_good o c (Paren u) (InCells l.at.offset l.at.offset u) (quad_up c u (Blank (cell_at l))) None _ (paren_takes c u l) (rest_good os c l.at.offset l.at.offset u r rest g)
+        object_good o c (CollectionStart u) (InCollection l.at.offset l.at.offset u) (quad_up c u (Blank (cell_at l))) None _ (paren_takes c u l) (rest_good os c l.at.offset l.at.offset u r rest g)
 
-    rest_good : (os : Items) (c : Setting) (f n : ℕ) (u : Up) (r : Leaf) (rest : List Event) → Good c (list_closed u (unsized (cell f))) rest →
-        Good c (After (InCells f n u)) (rest_events c os (Cell n) r rest)
+    rest_good : (os : Items) (c : Setting) (f n : ℕ) (u : Up) (r : Leaf) (rest : List Event) → Good c (collection_closed u (unsized (cell f))) rest →
+        Good c (After (InCollection f n u)) (rest_events c os (Cell n) r rest)
     rest_good no_items c f n u r rest g = one CloseParen r None itself None (rest_quad c (Cell n) nil) refl refl g
     rest_good (item o os) c f n u r rest g =
         let l = object_leaf o in
-        object_good o c (After (InCells f n u)) (InCells f l.at.offset u) None (rest_quad c (Cell n) (Blank (cell_at l))) _ (item_takes c f n u l) (rest_good os c f l.at.offset u r rest g)
+        object_good o c (After (InCollection f n u)) (InCollection f l.at.offset u) None (rest_quad c (Cell n) (Blank (cell_at l))) _ (item_takes c f n u l) (rest_good os c f l.at.offset u r rest g)
 
     predicates_good : (ps : PredicateObjectList) (c : Setting) (m : Mode) (s : Topic) (a : Around) (k : Kind) (l : Leaf) (c' : Setting)
         (m' : Mode) (rest : List Event) →
@@ -268,45 +268,45 @@ module _ (form : DocForm) where
     more_good no_more c s v a k l c' m' rest e g = alone k l refl (e.after v) g
     more_good (semicolon d ms) c s v a k l c' m' rest e g = alone Semicolon d refl refl (semi_good ms c s a k l c' m' rest e g)
     more_good (semicolon_objects d w os ms) c s v a k l c' m' rest e g =
-        alone Semicolon d refl refl (verb_good w c (Semi s a) s a _ (semi_verb c s a) (objects_good os c s (verb_in c.scope w) a _ (more_good ms c s (verb_in c.scope w) a k l c' m' rest e g)))
+        alone Semicolon d refl refl (verb_good w c (AfterSemicolon s a) s a _ (semi_verb c s a) (objects_good os c s (verb_in c.scope w) a _ (more_good ms c s (verb_in c.scope w) a k l c' m' rest e g)))
 
     semi_good : (ms : More) (c : Setting) (s : Topic) (a : Around) (k : Kind) (l : Leaf) (c' : Setting) (m' : Mode) (rest : List Event) →
         Ends c s a k l c' m' → Good c' m' rest →
-        Good c (Semi s a) (more_events c ms s.term (take k l rest))
-    semi_good no_more c s a k l c' m' rest e g = alone k l refl e.semi g
+        Good c (AfterSemicolon s a) (more_events c ms s.term (take k l rest))
+    semi_good no_more c s a k l c' m' rest e g = alone k l refl e.after_semicolon g
     semi_good (semicolon d ms) c s a k l c' m' rest e g = alone Semicolon d refl refl (semi_good ms c s a k l c' m' rest e g)
     semi_good (semicolon_objects d w os ms) c s a k l c' m' rest e g =
-        alone Semicolon d refl refl (verb_good w c (Semi s a) s a _ (semi_verb c s a) (objects_good os c s (verb_in c.scope w) a _ (more_good ms c s (verb_in c.scope w) a k l c' m' rest e g)))
+        alone Semicolon d refl refl (verb_good w c (AfterSemicolon s a) s a _ (semi_verb c s a) (objects_good os c s (verb_in c.scope w) a _ (more_good ms c s (verb_in c.scope w) a k l c' m' rest e g)))
 
   -- a state that takes the subject of triples
   pub record TakesSubject (c0 : Setting) (m : Mode) (c : Setting) (v : Level) : Type 0 where
     pub iri : (l : Leaf) → TakesIri c0 m c.scope None None (λ i. None) c (λ i. after_subject form v (sized (named i))) l
     pub label : (l : Leaf) → (waiting c0 m LabelNode l ≡ None) × (step form c0 m LabelNode l ≡ subject_start form c v LabelNode l)
-    pub box : (l : Leaf) → (waiting c0 m OpenBracket l ≡ None) × (step form c0 m OpenBracket l ≡ subject_start form c v OpenBracket l)
+    pub property_list_start : (l : Leaf) → (waiting c0 m OpenBracket l ≡ None) × (step form c0 m OpenBracket l ≡ subject_start form c v OpenBracket l)
     pub list : (l : Leaf) → (waiting c0 m OpenParen l ≡ None) × (step form c0 m OpenParen l ≡ subject_start form c v OpenParen l)
 
   pub record EndsTriples (c : Setting) (v : Level) (k : Kind) (l : Leaf) (c' : Setting) (m' : Mode) : Type 0 where
     pub list : (s : Topic) → Ends c s (Statement v) k l c' m'
-    pub box : (s : Topic) → step form c (AfterBox s v) k l ≡ goes c' m'
+    pub property_list_start : (s : Topic) → step form c (AfterPropertyList s v) k l ≡ goes c' m'
 
   pub label_verb : (c : Setting) (s : Topic) → TakesVerb c (AfterLabel s) s (Statement Top)
   label_verb c s = record { iri = λ l. record { waits = (refl, refl, refl); ref = refl; ln = refl; ns = refl }; type = λ l. (refl, refl) }
 
-  pub box_then_verb : (c : Setting) (s : Topic) (v : Level) → TakesVerb c (AfterBox s v) s (Statement v)
+  pub box_then_verb : (c : Setting) (s : Topic) (v : Level) → TakesVerb c (AfterPropertyList s v) s (Statement v)
   box_then_verb c s v = record { iri = λ l. record { waits = (refl, refl, refl); ref = refl; ln = refl; ns = refl }; type = λ l. (refl, refl) }
 
   maybe_good : (ps : Option PredicateObjectList) (c : Setting) (s : Topic) (v : Level) (k : Kind) (l : Leaf) (c' : Setting) (m' : Mode)
       (rest : List Event) →
       EndsTriples c v k l c' m' → Good c' m' rest →
-      Good c (AfterBox s v) (maybe_events c s.term ps (take k l rest))
-  maybe_good None c s v k l c' m' rest e g = alone k l refl (e.box s) g
-  maybe_good (Some ps) c s v k l c' m' rest e g = predicates_good ps c (AfterBox s v) s (Statement v) k l c' m' rest (box_then_verb c s v) (e.list s) g
+      Good c (AfterPropertyList s v) (maybe_events c s.term ps (take k l rest))
+  maybe_good None c s v k l c' m' rest e g = alone k l refl (e.property_list_start s) g
+  maybe_good (Some ps) c s v k l c' m' rest e g = predicates_good ps c (AfterPropertyList s v) s (Statement v) k l c' m' rest (box_then_verb c s v) (e.list s) g
 
   list_good : (p : BlankNodePropertyList) (c0 : Setting) (m : Mode) (c : Setting) (v : Level) (rest : List Event) → TakesSubject c0 m c v →
-      Good c (AfterBox (sized (Some (list_of p))) v) rest → Good c0 m (list_events c p None None rest)
+      Good c (AfterPropertyList (sized (Some (list_of p))) v) rest → Good c0 m (list_events c p None None rest)
   list_good (property_list l ps r) c0 m c v rest h g =
-      alone OpenBracket l (h.box l).0 (h.box l).1
-      (predicates_good ps c (Box l.at.offset (Subject v)) (sized (node (anon_at l))) (Boxed (Subject v)) CloseBracket r c (AfterBox (sized (node (anon_at l))) v) rest (box_verb c l.at.offset (Subject v)) record { after = λ x. refl; semi = refl } g)
+      alone OpenBracket l (h.property_list_start l).0 (h.property_list_start l).1
+      (predicates_good ps c (PropertyListStart l.at.offset (Subject v)) (sized (node (anon_at l))) (InPropertyList (Subject v)) CloseBracket r c (AfterPropertyList (sized (node (anon_at l))) v) rest (box_verb c l.at.offset (Subject v)) record { after = λ x. refl; after_semicolon = refl } g)
 
   collection_good : (x : Collection) (c0 : Setting) (m : Mode) (c : Setting) (v : Level) (rest : List Event) → TakesSubject c0 m c v →
       Good c (WantVerb (unsized (Some (collection_of x))) (Statement v)) rest →
@@ -317,7 +317,7 @@ module _ (form : DocForm) where
       Good c (after_subject form v (sized (node (blank_of b)))) rest →
       Good c0 m (blank_object_events b None None rest)
   blank_good (label l) c0 m c v rest h g = alone LabelNode l (h.label l).0 (h.label l).1 g
-  blank_good (anon l r) c0 m c v rest h g = alone OpenBracket l (h.box l).0 (h.box l).1 (alone CloseBracket r refl refl g)
+  blank_good (anon l r) c0 m c v rest h g = alone OpenBracket l (h.property_list_start l).0 (h.property_list_start l).1 (alone CloseBracket r refl refl g)
 
 -- after a subject a verb may come, in both forms
 pub subject_verb : (form : DocForm) (v : Level) (c : Setting) (s : Topic) → TakesVerb form c (after_subject form v s) s (Statement v)
@@ -345,7 +345,7 @@ module _ (form : DocForm) where
   start_takes c = record {
     iri = λ l. record { waits = (refl, refl, refl); ref = refl; ln = refl; ns = refl };
     label = λ l. (refl, refl);
-    box = λ l. (refl, refl);
+    property_list_start = λ l. (refl, refl);
     list = λ l. (refl, refl);
   }
 
@@ -353,18 +353,18 @@ module _ (form : DocForm) where
   inside_takes c = record {
     iri = λ l. record { waits = (refl, refl, refl); ref = refl; ln = refl; ns = refl };
     label = λ l. (refl, refl);
-    box = λ l. (refl, refl);
+    property_list_start = λ l. (refl, refl);
     list = λ l. (refl, refl);
   }
 
   pub top_ends : (c : Setting) (l : Leaf) → EndsTriples form c Top Dot l c Start
-  top_ends c l = record { list = λ s. record { after = λ v. refl; semi = refl }; box = λ s. refl }
+  top_ends c l = record { list = λ s. record { after = λ v. refl; after_semicolon = refl }; property_list_start = λ s. refl }
 
   pub dot_ends : (c : Setting) (l : Leaf) → EndsTriples form c InBlock Dot l c Inside
-  dot_ends c l = record { list = λ s. record { after = λ v. refl; semi = refl }; box = λ s. refl }
+  dot_ends c l = record { list = λ s. record { after = λ v. refl; after_semicolon = refl }; property_list_start = λ s. refl }
 
   pub brace_ends : (c : Setting) (l : Leaf) → EndsTriples form c InBlock CloseBrace l (in_default c.scope) Start
-  brace_ends c l = record { list = λ s. record { after = λ v. refl; semi = refl }; box = λ s. refl }
+  brace_ends c l = record { list = λ s. record { after = λ v. refl; after_semicolon = refl }; property_list_start = λ s. refl }
 
   block_good : (b : TriplesBlock) (c : Setting) (r : Leaf) (rest : List Event) → Good form (in_default c.scope) Start rest →
       Good form c Inside (block_events c b (take CloseBrace r rest))

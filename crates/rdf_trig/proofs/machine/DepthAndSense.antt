@@ -12,7 +12,7 @@ use Rattle.rdf_trig.specs.declared.form.DocForm.TheVariants.{Turtle, TriG}
 use Rattle.rdf_trig.specs.Names.{reference_in, name_in, with_base, with_binding, is_full}
 use Rattle.rdf_trig.specs.Quads.{Setting, in_default, named, node, labelled, cell_at, rest_quad}
 use Rattle.rdf_trig.specs.Events.{Use, itself, stands, binds}
-use Rattle.rdf_trig.specs.Machine.{Topic, sized, unsized, Level, Top, InBlock, Place, Listed, InCells, Around, Statement, Boxed, Up, Subject, At, Spelling, Dotted, Sparql, Mode, Start, Over, WantPrefix, WantPrefixIri, WantBaseIri, WantDot, AfterLabel, GraphWord, GraphBox, WantBrace, Inside, Want, After, AfterText, WantType, Box, Paren, WantVerb, Semi, AfterBox, Reply, No, Go, cell, nil, object_start, want_type, verb_start, after_subject, node_closed, box_closed, list_closed, list_end, semi, after, after_text, box, paren, after_box, subject_start, start, inside, want_brace, after_label, graph_word, graph_box, want_prefix, want_prefix_iri, want_base_iri, want_dot, step}
+use Rattle.rdf_trig.specs.Machine.{Topic, sized, unsized, Level, Top, InBlock, Place, Listed, InCollection, Around, Statement, InPropertyList, Up, Subject, At, Spelling, Dotted, Sparql, Mode, Start, Over, WantPrefix, WantPrefixIri, WantBaseIri, WantDot, AfterLabel, GraphWord, GraphBracket, WantBrace, Inside, Want, After, AfterText, WantType, PropertyListStart, CollectionStart, WantVerb, AfterSemicolon, AfterPropertyList, Reply, No, Go, cell, nil, object_start, want_type, verb_start, after_subject, node_closed, property_list_closed, collection_closed, predicate_list_end, after_semicolon, after, after_text, property_list_start, collection_start, after_property_list, subject_start, start, inside, want_brace, after_label, graph_word, graph_bracket, want_prefix, want_prefix_iri, want_base_iri, want_dot, step}
 use Rattle.rdf_trig.specs.Machine.{depth, depth_at, depth_around, depth_up}
 use Rattle.rdf_trig.specs.Documents.{opens, closes, opened, closed, open_in}
 use Rattle.rdf_trig.proofs.machine.ClosingTokens.{admits}
@@ -29,7 +29,7 @@ IsUse s k l u = u ≡ itself
 abbrev pub Quiet : Mode → Option Quad → Option Quad → Type 0
 Quiet Over early now = (early ≡ None) × (now ≡ None)
 Quiet (AfterText w p) early now = now ≡ None
-Quiet (Paren u) early now = now ≡ None
+Quiet (CollectionStart u) early now = now ≡ None
 Quiet m early now = Unit {0}
 
 -- the facts of a reply, where n brackets are open
@@ -48,12 +48,12 @@ with_binding_limits s p None = refl
 with_binding_limits s p (Some i) = refl
 
 -- after a property list nothing is held that would be lost at the end of the input
-box_quiet : (u : Up) (s : Topic) → Quiet (box_closed u s) None None
+box_quiet : (u : Up) (s : Topic) → Quiet (property_list_closed u s) None None
 box_quiet (Subject v) s = tt
 box_quiet (At p) s = tt
 
 -- after a collection nothing is held that would be lost at the end of the input
-list_quiet : (u : Up) (s : Topic) (early now : Option Quad) → Quiet (list_closed u s) early now
+list_quiet : (u : Up) (s : Topic) (early now : Option Quad) → Quiet (collection_closed u s) early now
 list_quiet (Subject v) s early now = tt
 list_quiet (At p) s early now = tt
 
@@ -94,12 +94,12 @@ verb_facts c s a A l = (refl, refl, refl, tt)
 verb_facts c s a k l = tt
 
 -- the ']' of a property list leads back to the depth outside
-box_depth : (u : Up) (s : Topic) → depth (box_closed u s) ≡ depth_up u
+box_depth : (u : Up) (s : Topic) → depth (property_list_closed u s) ≡ depth_up u
 box_depth (Subject v) s = refl
 box_depth (At p) s = refl
 
 -- the ')' of a collection leads back to the depth outside
-list_depth : (u : Up) (s : Topic) → depth (list_closed u s) ≡ depth_up u
+list_depth : (u : Up) (s : Topic) → depth (collection_closed u s) ≡ depth_up u
 list_depth (Subject v) s = refl
 list_depth (At p) s = refl
 
@@ -115,17 +115,17 @@ node_depth form (Subject v) s = subject_depth form v s
 node_depth form (At p) s = refl
 
 -- each reply at the end of a predicate list keeps to this
-end_facts : (c : Setting) (s : Topic) (a : Around) (k : Kind) (l : Leaf) → Facts (depth_around a) c.scope k l (list_end c s a k l)
+end_facts : (c : Setting) (s : Topic) (a : Around) (k : Kind) (l : Leaf) → Facts (depth_around a) c.scope k l (predicate_list_end c s a k l)
 end_facts c s (Statement Top) Dot l = (refl, refl, refl, tt)
 end_facts c s (Statement InBlock) Dot l = (refl, refl, refl, tt)
 end_facts c s (Statement InBlock) CloseBrace l = (refl, refl, refl, tt)
-end_facts c s (Boxed u) CloseBracket l = (omega (arith, box_depth u s), refl, refl, box_quiet u s)
+end_facts c s (InPropertyList u) CloseBracket l = (omega (arith, box_depth u s), refl, refl, box_quiet u s)
 end_facts c s (Statement Top) k l = tt
 end_facts c s (Statement InBlock) k l = tt
-end_facts c s (Boxed u) k l = tt
+end_facts c s (InPropertyList u) k l = tt
 
 -- each reply after ';' keeps to this
-semi_facts : (c : Setting) (s : Topic) (a : Around) (k : Kind) (l : Leaf) → Facts (depth_around a) c.scope k l (semi c s a k l)
+semi_facts : (c : Setting) (s : Topic) (a : Around) (k : Kind) (l : Leaf) → Facts (depth_around a) c.scope k l (after_semicolon c s a k l)
 semi_facts c s a Semicolon l = (refl, refl, refl, tt)
 semi_facts c s a IriRef l = verb_facts c s a IriRef l
 semi_facts c s a PnameLn l = verb_facts c s a PnameLn l
@@ -138,8 +138,8 @@ after_facts : (c : Setting) (p : Place) (k : Kind) (l : Leaf) → Facts (depth_a
 after_facts c (Listed s p a) Comma l = (refl, refl, refl, tt)
 after_facts c (Listed s p a) Semicolon l = (refl, refl, refl, tt)
 after_facts c (Listed s p a) k l = end_facts c s a k l
-after_facts c (InCells f n u) CloseParen l = (omega (arith, list_depth u (unsized (cell f))), refl, refl, list_quiet u (unsized (cell f)) None (rest_quad c (Cell n) nil))
-after_facts c (InCells f n u) k l = object_facts c (InCells f l.at.offset u) (rest_quad c (Cell n) (Blank (cell_at l))) k l
+after_facts c (InCollection f n u) CloseParen l = (omega (arith, list_depth u (unsized (cell f))), refl, refl, list_quiet u (unsized (cell f)) None (rest_quad c (Cell n) nil))
+after_facts c (InCollection f n u) k l = object_facts c (InCollection f l.at.offset u) (rest_quad c (Cell n) (Blank (cell_at l))) k l
 
 -- each reply after a string keeps to this
 text_facts : (c : Setting) (w : List ℕ) (p : Place) (k : Kind) (l : Leaf) → Facts (depth_at p) c.scope k l (after_text c w p k l)
@@ -157,17 +157,17 @@ type_facts c w p PnameNs l = (refl, inl refl, refl, tt)
 type_facts c w p k l = tt
 
 -- each reply after '[' keeps to this
-box_facts : (form : DocForm) (c : Setting) (n : ℕ) (u : Up) (k : Kind) (l : Leaf) → Facts (depth_up u + 1) c.scope k l (box form c n u k l)
+box_facts : (form : DocForm) (c : Setting) (n : ℕ) (u : Up) (k : Kind) (l : Leaf) → Facts (depth_up u + 1) c.scope k l (property_list_start form c n u k l)
 box_facts form c n u CloseBracket l = (omega (arith, node_depth form u (sized (node (Anon n)))), refl, refl, node_quiet form u (sized (node (Anon n))))
-box_facts form c n u k l = verb_facts c (sized (node (Anon n))) (Boxed u) k l
+box_facts form c n u k l = verb_facts c (sized (node (Anon n))) (InPropertyList u) k l
 
 -- each reply after '(' keeps to this
-paren_facts : (c : Setting) (u : Up) (k : Kind) (l : Leaf) → Facts (depth_up u + 1) c.scope k l (paren c u k l)
+paren_facts : (c : Setting) (u : Up) (k : Kind) (l : Leaf) → Facts (depth_up u + 1) c.scope k l (collection_start c u k l)
 paren_facts c u CloseParen l = (omega (arith, list_depth u (unsized (Some nil))), refl, refl, list_quiet u (unsized (Some nil)) None None)
-paren_facts c u k l = object_facts c (InCells l.at.offset l.at.offset u) None k l
+paren_facts c u k l = object_facts c (InCollection l.at.offset l.at.offset u) None k l
 
 -- each reply after a property list that is a subject keeps to this
-after_box_facts : (c : Setting) (s : Topic) (v : Level) (k : Kind) (l : Leaf) → Facts 0 c.scope k l (after_box c s v k l)
+after_box_facts : (c : Setting) (s : Topic) (v : Level) (k : Kind) (l : Leaf) → Facts 0 c.scope k l (after_property_list c s v k l)
 after_box_facts c s v IriRef l = verb_facts c s (Statement v) IriRef l
 after_box_facts c s v PnameLn l = verb_facts c s (Statement v) PnameLn l
 after_box_facts c s v PnameNs l = verb_facts c s (Statement v) PnameNs l
@@ -220,7 +220,7 @@ graph_facts c OpenBracket l = (refl, refl, refl, tt)
 graph_facts c k l = tt
 
 -- each reply after the '[' of a label keeps to this
-graph_box_facts : (c : Setting) (n : ℕ) (k : Kind) (l : Leaf) → Facts 1 c.scope k l (graph_box c n k l)
+graph_box_facts : (c : Setting) (n : ℕ) (k : Kind) (l : Leaf) → Facts 1 c.scope k l (graph_bracket c n k l)
 graph_box_facts c n CloseBracket l = (refl, refl, refl, tt)
 graph_box_facts c n k l = tt
 
@@ -256,18 +256,18 @@ step_facts form c (WantBaseIri w) k l = base_iri_facts c w k l
 step_facts form c WantDot k l = dot_facts c k l
 step_facts form c (AfterLabel g) k l = label_facts c g k l
 step_facts form c GraphWord k l = graph_facts c k l
-step_facts form c (GraphBox n) k l = graph_box_facts c n k l
+step_facts form c (GraphBracket n) k l = graph_box_facts c n k l
 step_facts form c (WantBrace g) k l = brace_facts c g k l
 step_facts form c Inside k l = inside_facts form c k l
 step_facts form c (Want p) k l = object_facts c p None k l
 step_facts form c (After p) k l = after_facts c p k l
 step_facts form c (AfterText w p) k l = text_facts c w p k l
 step_facts form c (WantType w p) k l = type_facts c w p k l
-step_facts form c (Box n u) k l = box_facts form c n u k l
-step_facts form c (Paren u) k l = paren_facts c u k l
+step_facts form c (PropertyListStart n u) k l = box_facts form c n u k l
+step_facts form c (CollectionStart u) k l = paren_facts c u k l
 step_facts form c (WantVerb s a) k l = verb_facts c s a k l
-step_facts form c (Semi s a) k l = semi_facts c s a k l
-step_facts form c (AfterBox s v) k l = after_box_facts c s v k l
+step_facts form c (AfterSemicolon s a) k l = semi_facts c s a k l
+step_facts form c (AfterPropertyList s v) k l = after_box_facts c s v k l
 
 -- As many brackets are open as the tokens have opened and not closed.
 pub reached_depth : (strict : Bool) (form : DocForm) (ts : List Token) (c : Setting) (m : Mode) (s : Stand) → reach strict form c m ts ≡ Some s →

@@ -14,7 +14,7 @@ use Rattle.rdf_trig.specs.declared.form.DocForm.{DocForm}
 use Rattle.rdf_trig.specs.Trees.{Document, end, with_directive, with_body, directive_tokens, body_tokens, document_tokens}
 use Rattle.rdf_trig.specs.Documents.{documents}
 use Rattle.rdf_trig.specs.Quads.{Setting}
-use Rattle.rdf_trig.specs.Machine.{Topic, Top, InBlock, Place as P, Listed, InCells, Around, Statement, Boxed, Mode, Start, Over, AfterText, After, Semi, AfterBox, Reply, No, Go, list_end, after, step, waiting}
+use Rattle.rdf_trig.specs.Machine.{Topic, Top, InBlock, Place as P, Listed, InCollection, Around, Statement, InPropertyList, Mode, Start, Over, AfterText, After, AfterSemicolon, AfterPropertyList, Reply, No, Go, predicate_list_end, after, step, waiting}
 use Rattle.rdf_trig.specs.Machine.{State, Answer, refuses, accepts, accept, ran, refused, go, accept_all}
 use Rattle.rdf_trig.proofs.machine.AcceptedTokens.{accepted, first_ran}
 
@@ -24,23 +24,23 @@ IsOver No = Unit {0}
 IsOver (Go u early now c m) = m ≡ Over
 
 -- each mode that takes the end, in turn
-end_over : (c : Setting) (s : Topic) (a : Around) (l : Leaf) → IsOver (list_end c s a End l)
+end_over : (c : Setting) (s : Topic) (a : Around) (l : Leaf) → IsOver (predicate_list_end c s a End l)
 end_over c s (Statement Top) l = tt
 end_over c s (Statement InBlock) l = tt
-end_over c s (Boxed u) l = tt
+end_over c s (InPropertyList u) l = tt
 
 -- after an object the end of the input is no token, or the last one
 after_over : (c : Setting) (p : P) (l : Leaf) → IsOver (after c p End l)
 after_over c (Listed s v a) l = end_over c s a l
-after_over c (InCells f n u) l = tt
+after_over c (InCollection f n u) l = tt
 
 -- in every mode the end of the input is refused, or leads to the end
 step_over : (form : DocForm) (c : Setting) (m : Mode) (l : Leaf) → IsOver (step form c m End l)
 step_over form c Start l = refl
 step_over form c (After p) l = after_over c p l
 step_over form c (AfterText w p) l = after_over c p l
-step_over form c (Semi s a) l = end_over c s a l
-step_over form c (AfterBox s v) l = end_over c s (Statement v) l
+step_over form c (AfterSemicolon s a) l = end_over c s a l
+step_over form c (AfterPropertyList s v) l = end_over c s (Statement v) l
 step_over form c m l = tt
 
 -- so the token End, where it is accepted,

@@ -16,7 +16,7 @@ use Rattle.rdf_trig.specs.Quads.{Setting, in_default, in_graph, named, node, res
 use Rattle.rdf_trig.specs.Events.{Use, itself, Event, Took, take, give, iri_events, verb_events, string_events, tag_events, blank_object_events, literal_events, object_quad, object_events, collection_events, items_events, rest_events, list_events, predicates_events, more_events, objects_events, commas_events, maybe_events, triples_events, label_events, block_events, wrapped_events, body_events, document_events, tokens}
 use Rattle.rdf_trig.specs.Documents.{documents}
 use Rattle.rdf_trig.specs.Owed.{verb_size, blank_held, literal_held, object_held, collection_held, items_held, list_held, predicates_held, more_held, objects_held, commas_held, label_held, maybe_held, triples_held, block_held, wrapped_held, body_held, document_held, held_after, Owed}
-use Rattle.rdf_trig.specs.Machine.{Topic, Spelt, sized, unsized, spelt, verb_in, Level, Top, InBlock, Place, Listed, InCells, Around, Statement, Boxed, Up, Subject, At, Mode, Start, AfterLabel, GraphWord, WantBrace, Inside, Want, After, AfterText, WantType, Box, Paren, WantVerb, Semi, AfterBox, Reply, No, Go, goes, cell, subject_at, verb_at, quad_at, quad_up, nil, after_subject, list_closed, after, step, place_size, around_size, up_size, mode_size, State, at_start, ran, accept_all}
+use Rattle.rdf_trig.specs.Machine.{Topic, Spelt, sized, unsized, spelt, verb_in, Level, Top, InBlock, Place, Listed, InCollection, Around, Statement, InPropertyList, Up, Subject, At, Mode, Start, AfterLabel, GraphWord, WantBrace, Inside, Want, After, AfterText, WantType, PropertyListStart, CollectionStart, WantVerb, AfterSemicolon, AfterPropertyList, Reply, No, Go, goes, cell, subject_at, verb_at, quad_at, quad_up, nil, after_subject, collection_closed, after, step, place_size, around_size, up_size, mode_size, State, at_start, ran, accept_all}
 use Rattle.rdf_trig.proofs.trees.TokensOfEvents.{document_told}
 use Rattle.rdf_trig.proofs.machine.Completeness.{tokens_give, no_tag, TakesIri, TakesObject, want_takes, paren_takes, item_takes, TakesVerb, Ends, type_takes, box_verb, semi_verb, want_verb, TakesSubject, EndsTriples, label_verb, box_then_verb, subject_verb, start_takes, inside_takes, top_ends, dot_ends, brace_ends}
 use Rattle.rdf_trig.proofs.machine.ViableTokens.{Stand, stand, on_reply, if_true, reach, viable_reached}
@@ -45,7 +45,7 @@ subject_none Turtle Top s = refl
 subject_none TriG Top s = refl
 
 -- after a collection as much is held as outside of it
-list_size : (u : Up) (s : Topic) → mode_size (list_closed u s) ≡ up_size u
+list_size : (u : Up) (s : Topic) → mode_size (collection_closed u s) ≡ up_size u
 list_size (Subject v) s = refl
 list_size (At p) s = refl
 
@@ -139,7 +139,7 @@ module _ (form : DocForm) where
         Sized c m (give before (object_events c o (subject_at p) (verb_at p) early rest)) (object_held c.scope (place_size p) o hs)
     object_sized (iri_object i) c m p before early rest hs h g = iri_sized i c m c.scope before early (λ j. quad_at c p (resource (named j))) c (λ j. After p) rest hs h.iri g
     object_sized (blank_object (label l)) c m p before early rest hs h g = one LabelNode l before itself early _ h.label.1 g
-    object_sized (blank_object (anon l r)) c m p before early rest hs h g = one OpenBracket l before itself early _ h.box.1 (alone CloseBracket r refl g)
+    object_sized (blank_object (anon l r)) c m p before early rest hs h g = one OpenBracket l before itself early _ h.property_list_start.1 (alone CloseBracket r refl g)
     object_sized (collection_object os) c m p before early rest hs h g = collection_object_sized os c m p before early rest hs h g
     object_sized (list_object ps) c m p before early rest hs h g = list_object_sized ps c m p before early rest hs h g
     object_sized (literal_object x) c m p before early rest hs h g = literal_sized x c m p before early rest hs h g
@@ -154,23 +154,23 @@ module _ (form : DocForm) where
         TakesObject form c m p before early (object_leaf (list_object ps)) → Sized c (After p) rest hs →
         Sized c m (give before (list_events c ps early (object_quad c (subject_at p) (verb_at p) (list_object ps)) rest)) (list_held c.scope (place_size p) ps hs)
     list_object_sized (property_list l ps r) c m p before early rest hs h g =
-        one OpenBracket l before itself early _ h.box.1
-        (predicates_sized ps c (Box l.at.offset (At p)) (sized (node (anon_at l))) (Boxed (At p)) CloseBracket r c (After p) rest hs (box_verb form c l.at.offset (At p)) record { after = λ v. refl; semi = refl } g)
+        one OpenBracket l before itself early _ h.property_list_start.1
+        (predicates_sized ps c (PropertyListStart l.at.offset (At p)) (sized (node (anon_at l))) (InPropertyList (At p)) CloseBracket r c (After p) rest hs (box_verb form c l.at.offset (At p)) record { after = λ v. refl; after_semicolon = refl } g)
 
     items_sized : (os : Items) (c : Setting) (u : Up) (r : Leaf) (rest : List Event) (hs : List ℕ) →
-        Sized c (list_closed u (unsized (Some (items_of os)))) rest hs →
-        Sized c (Paren u) (give (quad_up c u (items_of os)) (items_events c os r rest)) (items_held c.scope (up_size u) os (up_size u ∷ hs))
+        Sized c (collection_closed u (unsized (Some (items_of os)))) rest hs →
+        Sized c (CollectionStart u) (give (quad_up c u (items_of os)) (items_events c os r rest)) (items_held c.scope (up_size u) os (up_size u ∷ hs))
     items_sized no_items c u r rest hs g = by_size (list_size u (unsized (Some nil))) (one CloseParen r (quad_up c u nil) itself None None refl g)
     items_sized (item o os) c u r rest hs g =
         let l = object_leaf o in
-        object_sized o c (Paren u) (InCells l.at.offset l.at.offset u) (quad_up c u (Blank (cell_at l))) None _ _ (paren_takes form c u l) (rest_sized os c l.at.offset l.at.offset u r rest hs g)
+        object_sized o c (CollectionStart u) (InCollection l.at.offset l.at.offset u) (quad_up c u (Blank (cell_at l))) None _ _ (paren_takes form c u l) (rest_sized os c l.at.offset l.at.offset u r rest hs g)
 
-    rest_sized : (os : Items) (c : Setting) (f n : ℕ) (u : Up) (r : Leaf) (rest : List Event) (hs : List ℕ) → Sized c (list_closed u (unsized (cell f))) rest hs →
-        Sized c (After (InCells f n u)) (rest_events c os (Cell n) r rest) (items_held c.scope (up_size u) os (up_size u ∷ hs))
+    rest_sized : (os : Items) (c : Setting) (f n : ℕ) (u : Up) (r : Leaf) (rest : List Event) (hs : List ℕ) → Sized c (collection_closed u (unsized (cell f))) rest hs →
+        Sized c (After (InCollection f n u)) (rest_events c os (Cell n) r rest) (items_held c.scope (up_size u) os (up_size u ∷ hs))
     rest_sized no_items c f n u r rest hs g = by_size (list_size u (unsized (cell f))) (one CloseParen r None itself None (rest_quad c (Cell n) nil) refl g)
     rest_sized (item o os) c f n u r rest hs g =
         let l = object_leaf o in
-        object_sized o c (After (InCells f n u)) (InCells f l.at.offset u) None (rest_quad c (Cell n) (Blank (cell_at l))) _ _ (item_takes form c f n u l) (rest_sized os c f l.at.offset u r rest hs g)
+        object_sized o c (After (InCollection f n u)) (InCollection f l.at.offset u) None (rest_quad c (Cell n) (Blank (cell_at l))) _ _ (item_takes form c f n u l) (rest_sized os c f l.at.offset u r rest hs g)
 
     predicates_sized : (ps : PredicateObjectList) (c : Setting) (m : Mode) (s : Topic) (a : Around) (k : Kind) (l : Leaf) (c' : Setting)
         (m' : Mode) (rest : List Event) (hs : List ℕ) →
@@ -199,30 +199,30 @@ module _ (form : DocForm) where
     more_sized no_more c s v a k l c' m' rest hs e g = alone k l (e.after v) g
     more_sized (semicolon d ms) c s v a k l c' m' rest hs e g = alone Semicolon d refl (semi_sized ms c s a k l c' m' rest hs e g)
     more_sized (semicolon_objects d w os ms) c s v a k l c' m' rest hs e g =
-        alone Semicolon d refl (verb_sized w c (Semi s a) s a _ _ (semi_verb form c s a) (objects_sized os c s (verb_in c.scope w) a _ _ (more_sized ms c s (verb_in c.scope w) a k l c' m' rest hs e g)))
+        alone Semicolon d refl (verb_sized w c (AfterSemicolon s a) s a _ _ (semi_verb form c s a) (objects_sized os c s (verb_in c.scope w) a _ _ (more_sized ms c s (verb_in c.scope w) a k l c' m' rest hs e g)))
 
     semi_sized : (ms : More) (c : Setting) (s : Topic) (a : Around) (k : Kind) (l : Leaf) (c' : Setting) (m' : Mode) (rest : List Event) (hs : List ℕ) →
         Ends form c s a k l c' m' → Sized c' m' rest hs →
-        Sized c (Semi s a) (more_events c ms s.term (take k l rest)) (more_held c.scope (around_size a) s.size ms (mode_size m' ∷ hs))
-    semi_sized no_more c s a k l c' m' rest hs e g = alone k l e.semi g
+        Sized c (AfterSemicolon s a) (more_events c ms s.term (take k l rest)) (more_held c.scope (around_size a) s.size ms (mode_size m' ∷ hs))
+    semi_sized no_more c s a k l c' m' rest hs e g = alone k l e.after_semicolon g
     semi_sized (semicolon d ms) c s a k l c' m' rest hs e g = alone Semicolon d refl (semi_sized ms c s a k l c' m' rest hs e g)
     semi_sized (semicolon_objects d w os ms) c s a k l c' m' rest hs e g =
-        alone Semicolon d refl (verb_sized w c (Semi s a) s a _ _ (semi_verb form c s a) (objects_sized os c s (verb_in c.scope w) a _ _ (more_sized ms c s (verb_in c.scope w) a k l c' m' rest hs e g)))
+        alone Semicolon d refl (verb_sized w c (AfterSemicolon s a) s a _ _ (semi_verb form c s a) (objects_sized os c s (verb_in c.scope w) a _ _ (more_sized ms c s (verb_in c.scope w) a k l c' m' rest hs e g)))
 
   maybe_sized : (ps : Option PredicateObjectList) (c : Setting) (s : Topic) (v : Level) (k : Kind) (l : Leaf) (c' : Setting) (m' : Mode)
       (rest : List Event) (hs : List ℕ) →
       s.size ≡ 0 → EndsTriples form c v k l c' m' → Sized c' m' rest hs →
-      Sized c (AfterBox s v) (maybe_events c s.term ps (take k l rest)) (maybe_held c.scope ps (mode_size m' ∷ hs))
-  maybe_sized None c s v k l c' m' rest hs z e g = alone k l (e.box s) g
+      Sized c (AfterPropertyList s v) (maybe_events c s.term ps (take k l rest)) (maybe_held c.scope ps (mode_size m' ∷ hs))
+  maybe_sized None c s v k l c' m' rest hs z e g = alone k l (e.property_list_start s) g
   maybe_sized (Some ps) c s v k l c' m' rest hs z e g =
-      subst (λ n. Sized c (AfterBox s v) (predicates_events c ps s.term (take k l rest)) (predicates_held c.scope 0 n ps (mode_size m' ∷ hs))) z
-      (predicates_sized ps c (AfterBox s v) s (Statement v) k l c' m' rest hs (box_then_verb form c s v) (e.list s) g)
+      subst (λ n. Sized c (AfterPropertyList s v) (predicates_events c ps s.term (take k l rest)) (predicates_held c.scope 0 n ps (mode_size m' ∷ hs))) z
+      (predicates_sized ps c (AfterPropertyList s v) s (Statement v) k l c' m' rest hs (box_then_verb form c s v) (e.list s) g)
 
   list_sized : (p : BlankNodePropertyList) (c0 : Setting) (m : Mode) (c : Setting) (v : Level) (rest : List Event) (hs : List ℕ) → TakesSubject form c0 m c v →
-      Sized c (AfterBox (sized (Some (list_of p))) v) rest hs → Sized c0 m (list_events c p None None rest) (list_held c.scope 0 p hs)
+      Sized c (AfterPropertyList (sized (Some (list_of p))) v) rest hs → Sized c0 m (list_events c p None None rest) (list_held c.scope 0 p hs)
   list_sized (property_list l ps r) c0 m c v rest hs h g =
-      alone OpenBracket l (h.box l).1
-      (predicates_sized ps c (Box l.at.offset (Subject v)) (sized (node (anon_at l))) (Boxed (Subject v)) CloseBracket r c (AfterBox (sized (node (anon_at l))) v) rest hs (box_verb form c l.at.offset (Subject v)) record { after = λ x. refl; semi = refl } g)
+      alone OpenBracket l (h.property_list_start l).1
+      (predicates_sized ps c (PropertyListStart l.at.offset (Subject v)) (sized (node (anon_at l))) (InPropertyList (Subject v)) CloseBracket r c (AfterPropertyList (sized (node (anon_at l))) v) rest hs (box_verb form c l.at.offset (Subject v)) record { after = λ x. refl; after_semicolon = refl } g)
 
   collection_sized : (x : Collection) (c0 : Setting) (m : Mode) (c : Setting) (v : Level) (rest : List Event) (hs : List ℕ) → TakesSubject form c0 m c v →
       Sized c (WantVerb (unsized (Some (collection_of x))) (Statement v)) rest hs →
@@ -233,7 +233,7 @@ module _ (form : DocForm) where
       Sized c (after_subject form v (sized (node (blank_of b)))) rest hs →
       Sized c0 m (blank_object_events b None None rest) (blank_held 0 b hs)
   blank_sized (label l) c0 m c v rest hs h g = by_size (subject_none form v _) (alone LabelNode l (h.label l).1 g)
-  blank_sized (anon l r) c0 m c v rest hs h g = alone OpenBracket l (h.box l).1 (by_size (subject_none form v _) (alone CloseBracket r refl g))
+  blank_sized (anon l r) c0 m c v rest hs h g = alone OpenBracket l (h.property_list_start l).1 (by_size (subject_none form v _) (alone CloseBracket r refl g))
 
   triples_sized : (t : Triples) (c0 : Setting) (m : Mode) (c : Setting) (v : Level) (k : Kind) (l : Leaf) (c' : Setting) (m' : Mode)
       (rest : List Event) (hs : List ℕ) →

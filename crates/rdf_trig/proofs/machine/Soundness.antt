@@ -16,7 +16,7 @@ use Rattle.rdf_trig.specs.Trees as tree
 use Rattle.rdf_trig.specs.Names.{prefix_of, reference_in, name_in, iri_in, with_base, with_binding, is_full}
 use Rattle.rdf_trig.specs.Quads.{Setting, in_default, in_graph, named, node, resource, anon_at, labelled, blank_of, short_value, long_value, lexical, language, plain_literal, tagged_literal, typed_literal, literal_of, iri_leaf, string_leaf, literal_leaf, object_leaf, cell_at, items_of, collection_of, list_of, label_of, rest_quad}
 use Rattle.rdf_trig.specs.Events.{Use, itself, binds, Event, Took, take, name, give, iri_events, string_events, tag_events, blank_object_events, literal_events, object_events, collection_events, items_events, rest_events, list_events, predicates_events, more_events, commas_events, maybe_events, triples_events, label_events, maybe_block_events, wrapped_events, document_events, tokens}
-use Rattle.rdf_trig.specs.Machine.{Topic, sized, unsized, spelt, type_verb, Level, Top, InBlock, Place, Listed, InCells, Around, Statement, Boxed, Up, Subject, At, Spelling, Dotted, Sparql, Mode, Start, Over, WantPrefix, WantPrefixIri, WantBaseIri, WantDot, AfterLabel, GraphWord, GraphBox, WantBrace, Inside, Want, After, AfterText, WantType, Box, Paren, WantVerb, Semi, AfterBox, Reply, No, Go, cell, subject_at, verb_at, quad_at, quad_up, nil, object_start, want_type, verb_start, after_subject, node_closed, box_closed, list_closed, list_end, semi, after, after_text, box, paren, after_box, subject_start, start, inside, want_brace, after_label, graph_word, graph_box, want_prefix, want_prefix_iri, want_base_iri, want_dot, step, waiting, fronted, put, stop, go_on, run}
+use Rattle.rdf_trig.specs.Machine.{Topic, sized, unsized, spelt, type_verb, Level, Top, InBlock, Place, Listed, InCollection, Around, Statement, InPropertyList, Up, Subject, At, Spelling, Dotted, Sparql, Mode, Start, Over, WantPrefix, WantPrefixIri, WantBaseIri, WantDot, AfterLabel, GraphWord, GraphBracket, WantBrace, Inside, Want, After, AfterText, WantType, PropertyListStart, CollectionStart, WantVerb, AfterSemicolon, AfterPropertyList, Reply, No, Go, cell, subject_at, verb_at, quad_at, quad_up, nil, object_start, want_type, verb_start, after_subject, node_closed, property_list_closed, collection_closed, predicate_list_end, after_semicolon, after, after_text, property_list_start, collection_start, after_property_list, subject_start, start, inside, want_brace, after_label, graph_word, graph_bracket, want_prefix, want_prefix_iri, want_base_iri, want_dot, step, waiting, fronted, put, stop, go_on, run}
 
 -- what a bracket was
 data Was : Type 0 where
@@ -42,7 +42,7 @@ RestSubject TriG Top = RestLabel TriG
 abbrev mutual
   RestPlace : DocForm → Place → Type 0
   RestPlace form (Listed s p a) = Commas × More × RestAround form a
-  RestPlace form (InCells f n u) = Items × Leaf × RestUp form u was_list
+  RestPlace form (InCollection f n u) = Items × Leaf × RestUp form u was_list
 
   -- after a node, a collection and a property list
   RestUp : DocForm → Up → Was → Type 0
@@ -53,7 +53,7 @@ abbrev mutual
 
   RestAround : DocForm → Around → Type 0
   RestAround form (Statement v) = RestLevel form v
-  RestAround form (Boxed u) = Leaf × RestUp form u was_box
+  RestAround form (InPropertyList u) = Leaf × RestUp form u was_box
 
 -- the events of what follows a predicate list of a statement
 abbrev level_events : (form : DocForm) → Setting → (v : Level) → RestLevel form v → List Event
@@ -75,7 +75,7 @@ events_after_subject TriG c Top s r = events_after_label TriG c s r
 abbrev mutual
   place_events : (form : DocForm) → Setting → (p : Place) → RestPlace form p → List Event
   place_events form c (Listed s p a) r = commas_events c r.0 s.term p.iri (more_events c r.1 s.term (around_events form c a s.term r.2))
-  place_events form c (InCells f n u) r = rest_events c r.0 (Cell n) r.1 (up_events form c u was_list (cell f) r.2)
+  place_events form c (InCollection f n u) r = rest_events c r.0 (Cell n) r.1 (up_events form c u was_list (cell f) r.2)
 
   up_events : (form : DocForm) → Setting → (u : Up) → (was : Was) → Option term.Subject → RestUp form u was → List Event
   up_events form c (Subject v) was_node s r = events_after_subject form c v s r
@@ -85,7 +85,7 @@ abbrev mutual
 
   around_events : (form : DocForm) → Setting → (a : Around) → Option term.Subject → RestAround form a → List Event
   around_events form c (Statement v) s r = level_events form c v r
-  around_events form c (Boxed u) s r = take CloseBracket r.0 (up_events form c u was_box s r.1)
+  around_events form c (InPropertyList u) s r = take CloseBracket r.0 (up_events form c u was_box s r.1)
 
 -- after a string: nothing of it, a tag or a type
 data TextEnd : Type 0 where
@@ -119,27 +119,27 @@ Rest form (WantBaseIri w) = Leaf × RestDirective form w
 Rest form WantDot = Leaf × Document form
 Rest form (AfterLabel s) = RestLabel form
 Rest form GraphWord = LabelOrSubject × WrappedGraph × Document form
-Rest form (GraphBox n) = Leaf × WrappedGraph × Document form
+Rest form (GraphBracket n) = Leaf × WrappedGraph × Document form
 Rest form (WantBrace g) = WrappedGraph × Document form
 Rest form Inside = Option TriplesBlock × Leaf × Document form
 Rest form (Want p) = Object × RestPlace form p
 Rest form (After p) = RestPlace form p
 Rest form (AfterText w p) = TextEnd × RestPlace form p
 Rest form (WantType w p) = Iri × RestPlace form p
-Rest form (Box n u) = (Leaf × RestUp form u was_node) ⊎ (PredicateObjectList × RestAround form (Boxed u))
-Rest form (Paren u) = Items × Leaf × RestUp form u was_list
+Rest form (PropertyListStart n u) = (Leaf × RestUp form u was_node) ⊎ (PredicateObjectList × RestAround form (InPropertyList u))
+Rest form (CollectionStart u) = Items × Leaf × RestUp form u was_list
 Rest form (WantVerb s a) = PredicateObjectList × RestAround form a
-Rest form (Semi s a) = (PredicateObjectList ⊎ More) × RestAround form a
-Rest form (AfterBox s v) = Option PredicateObjectList × RestLevel form v
+Rest form (AfterSemicolon s a) = (PredicateObjectList ⊎ More) × RestAround form a
+Rest form (AfterPropertyList s v) = Option PredicateObjectList × RestLevel form v
 
 -- the events of a block and of what follows it
 abbrev brace_events : (form : DocForm) → Setting → Option term.Subject → WrappedGraph × Document form → List Event
 brace_events form c g r = wrapped_events (in_graph c.scope g) r.0 (document_events c.scope r.1)
 
 -- the events of what follows a '['
-abbrev box_events : (form : DocForm) → Setting → ℕ → (u : Up) → (Leaf × RestUp form u was_node) ⊎ (PredicateObjectList × RestAround form (Boxed u)) → List Event
+abbrev box_events : (form : DocForm) → Setting → ℕ → (u : Up) → (Leaf × RestUp form u was_node) ⊎ (PredicateObjectList × RestAround form (InPropertyList u)) → List Event
 box_events form c n u (inl r) = take CloseBracket r.0 (up_events form c u was_node (node (Anon n)) r.1)
-box_events form c n u (inr r) = predicates_events c r.0 (node (Anon n)) (around_events form c (Boxed u) (node (Anon n)) r.1)
+box_events form c n u (inr r) = predicates_events c r.0 (node (Anon n)) (around_events form c (InPropertyList u) (node (Anon n)) r.1)
 
 -- the events of what follows a ';'
 abbrev semi_events : Setting → Option term.Subject → PredicateObjectList ⊎ More → List Event → List Event
@@ -161,18 +161,18 @@ all_events form c (WantBaseIri w) r = name IriRef r.0 (reference_in c.scope r.0)
 all_events form c WantDot r = take Dot r.0 (document_events c.scope r.1)
 all_events form c (AfterLabel s) r = events_after_label form c s.term r
 all_events form c GraphWord r = label_events c.scope r.0 (brace_events form c (label_of c.scope r.0) (r.1, r.2))
-all_events form c (GraphBox n) r = take CloseBracket r.0 (brace_events form c (node (Anon n)) (r.1, r.2))
+all_events form c (GraphBracket n) r = take CloseBracket r.0 (brace_events form c (node (Anon n)) (r.1, r.2))
 all_events form c (WantBrace g) r = brace_events form c g r
 all_events form c Inside r = maybe_block_events c r.0 (take CloseBrace r.1 (document_events c.scope r.2))
 all_events form c (Want p) r = object_events c r.0 (subject_at p) (verb_at p) None (place_events form c p r.1)
 all_events form c (After p) r = place_events form c p r
 all_events form c (AfterText w p) r = end_events c w p r.0 (place_events form c p r.1)
 all_events form c (WantType w p) r = iri_events c.scope r.0 (give (quad_at c p (typed_literal w (iri_in c.scope r.0))) (place_events form c p r.1))
-all_events form c (Box n u) r = box_events form c n u r
-all_events form c (Paren u) r = give (quad_up c u (items_of r.0)) (items_events c r.0 r.1 (up_events form c u was_list (Some (items_of r.0)) r.2))
+all_events form c (PropertyListStart n u) r = box_events form c n u r
+all_events form c (CollectionStart u) r = give (quad_up c u (items_of r.0)) (items_events c r.0 r.1 (up_events form c u was_list (Some (items_of r.0)) r.2))
 all_events form c (WantVerb s a) r = predicates_events c r.0 s.term (around_events form c a s.term r.1)
-all_events form c (Semi s a) r = semi_events c s.term r.0 (around_events form c a s.term r.1)
-all_events form c (AfterBox s v) r = maybe_events c s.term r.0 (level_events form c v r.1)
+all_events form c (AfterSemicolon s a) r = semi_events c s.term r.0 (around_events form c a s.term r.1)
+all_events form c (AfterPropertyList s v) r = maybe_events c s.term r.0 (level_events form c v r.1)
 
 -- some rest of a tree has these events, so that the tokens to come are those of a tree
 abbrev Found : DocForm → Setting → Mode → List Event → Type 0
@@ -222,8 +222,8 @@ as_subject Turtle Top s c r = (r, refl)
 as_subject TriG Top s c r = (r, refl)
 
 -- what is to come after a property list, read as a rest of its production
-as_box : (form : DocForm) (u : Up) (s : Topic) (c : Setting) (r : Rest form (box_closed u s)) →
-    (x : RestUp form u was_box) × (all_events form c (box_closed u s) r ≡ up_events form c u was_box s.term x)
+as_box : (form : DocForm) (u : Up) (s : Topic) (c : Setting) (r : Rest form (property_list_closed u s)) →
+    (x : RestUp form u was_box) × (all_events form c (property_list_closed u s) r ≡ up_events form c u was_box s.term x)
 as_box form (Subject v) s c r = (r, refl)
 as_box form (At p) s c r = (r, refl)
 
@@ -234,8 +234,8 @@ as_node form (Subject v) s c r = as_subject form v s c r
 as_node form (At p) s c r = (r, refl)
 
 -- what is to come after a collection, read as a rest of its production
-as_list : (form : DocForm) (u : Up) (s : Topic) (c : Setting) (r : Rest form (list_closed u s)) →
-    (x : RestUp form u was_list) × (all_events form c (list_closed u s) r ≡ up_events form c u was_list s.term x)
+as_list : (form : DocForm) (u : Up) (s : Topic) (c : Setting) (r : Rest form (collection_closed u s)) →
+    (x : RestUp form u was_list) × (all_events form c (collection_closed u s) r ≡ up_events form c u was_list s.term x)
 as_list form (Subject v) s c r = (r, refl)
 as_list form (At p) s c r = (r, refl)
 
@@ -263,18 +263,18 @@ module _ (form : DocForm) (next : Setting → Mode → Option (List Event))
       (f.0, x.2 ∙ ap (λ fs. give w (Took (token k l) u ∷ give early (give now fs))) f.1)
 
   list_end_found : (c : Setting) (s : Topic) (a : Around) (k : Kind) (l : Leaf) (w : Option Quad) (es : List Event) →
-      fronted w (go_on (token k l) (list_end c s a k l) next) ≡ Some es →
+      fronted w (go_on (token k l) (predicate_list_end c s a k l) next) ≡ Some es →
       (r : RestAround form a) × (es ≡ give w (around_events form c a s.term r))
   list_end_found c s (Statement Top) Dot l w es e = let b = after_it Dot l w itself None None c Start es e in ((l, b.0), b.1)
   list_end_found c s (Statement Top) k l w es e = absurd (let z : None ≡ Some es = e in cc)
   list_end_found c s (Statement InBlock) Dot l w es e = let b = after_it Dot l w itself None None c Inside es e in (inl (l, b.0.0, b.0.1, b.0.2), b.1)
   list_end_found c s (Statement InBlock) CloseBrace l w es e = let b = after_it CloseBrace l w itself None None (in_default c.scope) Start es e in (inr (l, b.0), b.1)
   list_end_found c s (Statement InBlock) k l w es e = absurd (let z : None ≡ Some es = e in cc)
-  list_end_found c s (Boxed u) CloseBracket l w es e =
-      let b = after_it CloseBracket l w itself None None c (box_closed u s) es e in
+  list_end_found c s (InPropertyList u) CloseBracket l w es e =
+      let b = after_it CloseBracket l w itself None None c (property_list_closed u s) es e in
       let x = as_box form u s c b.0 in
       ((l, x.0), b.1 ∙ ap (λ fs. give w (take CloseBracket l fs)) x.1)
-  list_end_found c s (Boxed u) k l w es e = absurd (let z : None ≡ Some es = e in cc)
+  list_end_found c s (InPropertyList u) k l w es e = absurd (let z : None ≡ Some es = e in cc)
 
   record ObjectFound (c : Setting) (p : Place) (early w : Option Quad) (l : Leaf) (es : List Event) : Type 0 where
     obj : Object
@@ -297,7 +297,7 @@ module _ (form : DocForm) (next : Setting → Mode → Option (List Event))
       es ≡ give w (literal_events c.scope x early (quad_at c p (literal_of c.scope x)) (place_events form c p r)) → ObjectFound c p early w (literal_leaf x) es
   literal_found x c p early w es r e = record { obj = literal_object x; rest = r; first = refl; events = e }
 
-  box_found : (c : Setting) (p : Place) (early w : Option Quad) (l : Leaf) (es : List Event) (r : Rest form (Box l.at.offset (At p))) →
+  box_found : (c : Setting) (p : Place) (early w : Option Quad) (l : Leaf) (es : List Event) (r : Rest form (PropertyListStart l.at.offset (At p))) →
       es ≡ give w (take OpenBracket l (give early (give (quad_at c p (resource (node (anon_at l)))) (box_events form c l.at.offset (At p) r)))) →
       ObjectFound c p early w l es
   box_found c p early w l es (inl r) e = record { obj = blank_object (anon l r.0); rest = r.1; first = refl; events = e }
@@ -316,9 +316,9 @@ module _ (form : DocForm) (next : Setting → Mode → Option (List Event))
   object_found c p early w Double l es e = let b = after_it Double l w _ early _ c (After p) es e in literal_found (numeric (double l)) c p early w es b.0 b.1
   object_found c p early w True l es e = let b = after_it True l w _ early _ c (After p) es e in literal_found (boolean (true_word l)) c p early w es b.0 b.1
   object_found c p early w False l es e = let b = after_it False l w _ early _ c (After p) es e in literal_found (boolean (false_word l)) c p early w es b.0 b.1
-  object_found c p early w OpenBracket l es e = let b = after_it OpenBracket l w _ early _ c (Box l.at.offset (At p)) es e in box_found c p early w l es b.0 b.1
+  object_found c p early w OpenBracket l es e = let b = after_it OpenBracket l w _ early _ c (PropertyListStart l.at.offset (At p)) es e in box_found c p early w l es b.0 b.1
   object_found c p early w OpenParen l es e =
-      let b = after_it OpenParen l w _ early None c (Paren (At p)) es e in
+      let b = after_it OpenParen l w _ early None c (CollectionStart (At p)) es e in
       record { obj = collection_object (collection l b.0.0 b.0.1); rest = b.0.2; first = refl; events = b.1 }
   object_found c p early w k l es e = absurd (let z : None ≡ Some es = e in cc)
 
@@ -328,15 +328,15 @@ module _ (form : DocForm) (next : Setting → Mode → Option (List Event))
   after_found c (Listed s v a) w Comma l es e =
       let b = after_it Comma l w itself None None c (Want (Listed s v a)) es e in ((comma l b.0.0 b.0.1.0, b.0.1.1, b.0.1.2), b.1)
   after_found c (Listed s v a) w Semicolon l es e =
-      let b = after_it Semicolon l w itself None None c (Semi s a) es e in
+      let b = after_it Semicolon l w itself None None c (AfterSemicolon s a) es e in
       ((no_commas, more_of l b.0.0, b.0.1), b.1 ∙ ap (give w) (more_of-events c s.term l b.0.0 (around_events form c a s.term b.0.1)))
   after_found c (Listed s v a) w k l es e = let x = list_end_found c s a k l w es e in ((no_commas, no_more, x.0), x.1)
-  after_found c (InCells f n u) w CloseParen l es e =
-      let b = after_it CloseParen l w itself None (rest_quad c (Cell n) nil) c (list_closed u (unsized (cell f))) es e in
+  after_found c (InCollection f n u) w CloseParen l es e =
+      let b = after_it CloseParen l w itself None (rest_quad c (Cell n) nil) c (collection_closed u (unsized (cell f))) es e in
       let x = as_list form u (unsized (cell f)) c b.0 in
       ((no_items, l, x.0), b.1 ∙ ap (λ fs. give w (take CloseParen l (give (rest_quad c (Cell n) nil) fs))) x.1)
-  after_found c (InCells f n u) w k l es e =
-      let x = object_found c (InCells f l.at.offset u) (rest_quad c (Cell n) (Blank (cell_at l))) w k l es e in (
+  after_found c (InCollection f n u) w k l es e =
+      let x = object_found c (InCollection f l.at.offset u) (rest_quad c (Cell n) (Blank (cell_at l))) w k l es e in (
         (item x.obj x.rest.0, x.rest.1, x.rest.2),
         x.events ∙ ap (λ y. give w (object_events c x.obj (node (cell_at y)) (Some (known_chars RdfFirst)) (rest_quad c (Cell n) (Blank (cell_at y))) (rest_events c x.rest.0 (cell_at y) x.rest.1 (up_events form c u was_list (cell f) x.rest.2)))) (sym x.first),
       )
@@ -360,9 +360,9 @@ module _ (form : DocForm) (next : Setting → Mode → Option (List Event))
   verb_found c s a k l es e = absurd (let z : None ≡ Some es = e in cc)
 
   semi_found : (c : Setting) (s : Topic) (a : Around) (k : Kind) (l : Leaf) (es : List Event) →
-      fronted None (go_on (token k l) (semi c s a k l) next) ≡ Some es → Found form c (Semi s a) es
+      fronted None (go_on (token k l) (after_semicolon c s a k l) next) ≡ Some es → Found form c (AfterSemicolon s a) es
   semi_found c s a Semicolon l es e =
-      let b = after_it Semicolon l None itself None None c (Semi s a) es e in
+      let b = after_it Semicolon l None itself None None c (AfterSemicolon s a) es e in
       ((inr (more_of l b.0.0), b.0.1), b.1 ∙ more_of-events c s.term l b.0.0 (around_events form c a s.term b.0.1))
   semi_found c s a IriRef l es e = let x = verb_found c s a IriRef l es e in ((inl x.0.0, x.0.1), x.1)
   semi_found c s a PnameLn l es e = let x = verb_found c s a PnameLn l es e in ((inl x.0.0, x.0.1), x.1)
@@ -371,21 +371,21 @@ module _ (form : DocForm) (next : Setting → Mode → Option (List Event))
   semi_found c s a k l es e = let x = list_end_found c s a k l None es e in ((inr no_more, x.0), x.1)
 
   box_mode_found : (c : Setting) (n : ℕ) (u : Up) (k : Kind) (l : Leaf) (es : List Event) →
-      fronted None (go_on (token k l) (box form c n u k l) next) ≡ Some es → Found form c (Box n u) es
+      fronted None (go_on (token k l) (property_list_start form c n u k l) next) ≡ Some es → Found form c (PropertyListStart n u) es
   box_mode_found c n u CloseBracket l es e =
       let b = after_it CloseBracket l None itself None None c (node_closed form u (sized (node (Anon n)))) es e in
       let x = as_node form u (sized (node (Anon n))) c b.0 in
       (inl (l, x.0), b.1 ∙ ap (take CloseBracket l) x.1)
-  box_mode_found c n u k l es e = let x = verb_found c (sized (node (Anon n))) (Boxed u) k l es e in (inr x.0, x.1)
+  box_mode_found c n u k l es e = let x = verb_found c (sized (node (Anon n))) (InPropertyList u) k l es e in (inr x.0, x.1)
 
   paren_found : (c : Setting) (u : Up) (k : Kind) (l : Leaf) (es : List Event) →
-      fronted (waiting c (Paren u) k l) (go_on (token k l) (paren c u k l) next) ≡ Some es → Found form c (Paren u) es
+      fronted (waiting c (CollectionStart u) k l) (go_on (token k l) (collection_start c u k l) next) ≡ Some es → Found form c (CollectionStart u) es
   paren_found c u CloseParen l es e =
-      let b = after_it CloseParen l (quad_up c u nil) itself None None c (list_closed u (unsized (Some nil))) es e in
+      let b = after_it CloseParen l (quad_up c u nil) itself None None c (collection_closed u (unsized (Some nil))) es e in
       let x = as_list form u (unsized (Some nil)) c b.0 in
       ((no_items, l, x.0), b.1 ∙ ap (λ fs. give (quad_up c u nil) (take CloseParen l fs)) x.1)
   paren_found c u k l es e =
-      let x = object_found c (InCells l.at.offset l.at.offset u) None (quad_up c u (Blank (cell_at l))) k l es e in (
+      let x = object_found c (InCollection l.at.offset l.at.offset u) None (quad_up c u (Blank (cell_at l))) k l es e in (
         (item x.obj x.rest.0, x.rest.1, x.rest.2),
         x.events ∙ ap (λ y. give (quad_up c u (Blank (cell_at y))) (object_events c x.obj (node (cell_at y)) (Some (known_chars RdfFirst)) None (rest_events c x.rest.0 (cell_at y) x.rest.1 (up_events form c u was_list (node (cell_at y)) x.rest.2)))) (sym x.first),
       )
@@ -407,7 +407,7 @@ module _ (form : DocForm) (next : Setting → Mode → Option (List Event))
   want_type_found c w p k l es e = absurd (let z : None ≡ Some es = e in cc)
 
   after_box_found : (c : Setting) (s : Topic) (v : Level) (k : Kind) (l : Leaf) (es : List Event) →
-      fronted None (go_on (token k l) (after_box c s v k l) next) ≡ Some es → Found form c (AfterBox s v) es
+      fronted None (go_on (token k l) (after_property_list c s v k l) next) ≡ Some es → Found form c (AfterPropertyList s v) es
   after_box_found c s v IriRef l es e = let x = verb_found c s (Statement v) IriRef l es e in ((Some x.0.0, x.0.1), x.1)
   after_box_found c s v PnameLn l es e = let x = verb_found c s (Statement v) PnameLn l es e in ((Some x.0.0, x.0.1), x.1)
   after_box_found c s v PnameNs l es e = let x = verb_found c s (Statement v) PnameNs l es e in ((Some x.0.0, x.0.1), x.1)
@@ -418,7 +418,7 @@ module _ (form : DocForm) (next : Setting → Mode → Option (List Event))
   abbrev TriplesFound : Setting → List Event → Type 0
   TriplesFound c es = (t : Triples) × (r : RestLevel form InBlock) × (es ≡ triples_events c t (level_events form c InBlock r))
 
-  block_box : (c : Setting) (l : Leaf) (es : List Event) (r : Rest form (Box l.at.offset (Subject InBlock))) →
+  block_box : (c : Setting) (l : Leaf) (es : List Event) (r : Rest form (PropertyListStart l.at.offset (Subject InBlock))) →
       es ≡ take OpenBracket l (box_events form c l.at.offset (Subject InBlock) r) → TriplesFound c es
   block_box c l es (inl (d, (ps, r))) e = (subject_triples (blank_subject (anon l d)) ps, r, e)
   block_box c l es (inr (ps, (d, (qs, r)))) e = (list_triples (property_list l ps d) qs, r, e)
@@ -434,9 +434,9 @@ module _ (form : DocForm) (next : Setting → Mode → Option (List Event))
   block_triples c PnameNs l es e = let b = after_it PnameNs l None _ None None c (WantVerb (sized (named (name_in c.scope l))) (Statement InBlock)) es e in block_iri (prefixed (pname_ns l)) c es b.0 b.1
   block_triples c LabelNode l es e =
       let b = after_it LabelNode l None itself None None c (WantVerb (sized (node (labelled l))) (Statement InBlock)) es e in (subject_triples (blank_subject (label l)) b.0.0, b.0.1, b.1)
-  block_triples c OpenBracket l es e = let b = after_it OpenBracket l None itself None None c (Box l.at.offset (Subject InBlock)) es e in block_box c l es b.0 b.1
+  block_triples c OpenBracket l es e = let b = after_it OpenBracket l None itself None None c (PropertyListStart l.at.offset (Subject InBlock)) es e in block_box c l es b.0 b.1
   block_triples c OpenParen l es e =
-      let b = after_it OpenParen l None itself None None c (Paren (Subject InBlock)) es e in (subject_triples (collection_subject (collection l b.0.0 b.0.1)) b.0.2.0, b.0.2.1, b.1)
+      let b = after_it OpenParen l None itself None None c (CollectionStart (Subject InBlock)) es e in (subject_triples (collection_subject (collection l b.0.0 b.0.1)) b.0.2.0, b.0.2.1, b.1)
   block_triples c k l es e = absurd (let z : None ≡ Some es = e in cc)
 
   block_of : (c : Setting) (es : List Event) (t : Triples) (r : RestLevel form InBlock) → es ≡ triples_events c t (level_events form c InBlock r) →
@@ -455,7 +455,7 @@ module _ (form : DocForm) (next : Setting → Mode → Option (List Event))
       es ≡ iri_events c.scope i (all_events form (in_default c.scope) (after_subject form Top (sized (named (iri_in c.scope i)))) r) → Found form c Start es
   start_iri i c es r e = let x = as_subject form Top (sized (named (iri_in c.scope i))) (in_default c.scope) r in iri_body form i c.scope es x.0 (e ∙ ap (iri_events c.scope i) x.1)
 
-  start_box : (c : Setting) (l : Leaf) (es : List Event) (r : Rest form (Box l.at.offset (Subject Top))) →
+  start_box : (c : Setting) (l : Leaf) (es : List Event) (r : Rest form (PropertyListStart l.at.offset (Subject Top))) →
       es ≡ take OpenBracket l (box_events form (in_default c.scope) l.at.offset (Subject Top) r) →
       Found form c Start es
   start_box c l es (inl (d, r)) e = blank_body form (anon l d) c.scope es r e
@@ -470,9 +470,9 @@ module _ (form : DocForm) (next : Setting → Mode → Option (List Event))
       let b = after_it LabelNode l None itself None None (in_default c.scope) (after_subject form Top (sized (node (labelled l)))) es e in
       let x = as_subject form Top (sized (node (labelled l))) (in_default c.scope) b.0 in
       blank_body form (label l) c.scope es x.0 (b.1 ∙ ap (take LabelNode l) x.1)
-  subject_found c OpenBracket l es e = let b = after_it OpenBracket l None itself None None (in_default c.scope) (Box l.at.offset (Subject Top)) es e in start_box c l es b.0 b.1
+  subject_found c OpenBracket l es e = let b = after_it OpenBracket l None itself None None (in_default c.scope) (PropertyListStart l.at.offset (Subject Top)) es e in start_box c l es b.0 b.1
   subject_found c OpenParen l es e =
-      let b = after_it OpenParen l None itself None None (in_default c.scope) (Paren (Subject Top)) es e in collection_body form (collection l b.0.0 b.0.1) c.scope es b.0.2.0 b.0.2.1 b.1
+      let b = after_it OpenParen l None itself None None (in_default c.scope) (CollectionStart (Subject Top)) es e in collection_body form (collection l b.0.0 b.0.1) c.scope es b.0.2.0 b.0.2.1 b.1
   subject_found c k l es e = absurd (let z : None ≡ Some es = e in cc)
 
   prefix_found : (c : Setting) (k : Kind) (w : Spelling) (l : Leaf) (es : List Event) →
@@ -495,8 +495,8 @@ module _ (form : DocForm) (next : Setting → Mode → Option (List Event))
   want_brace_found c g OpenBrace l es e = let b = after_it OpenBrace l None itself None None (in_graph c.scope g) Inside es e in ((wrapped l b.0.0 b.0.1, b.0.2), b.1)
   want_brace_found c g k l es e = absurd (let z : None ≡ Some es = e in cc)
 
-  graph_box_found : (c : Setting) (n : ℕ) (k : Kind) (l : Leaf) (es : List Event) → fronted None (go_on (token k l) (graph_box c n k l) next) ≡ Some es →
-      Found form c (GraphBox n) es
+  graph_box_found : (c : Setting) (n : ℕ) (k : Kind) (l : Leaf) (es : List Event) → fronted None (go_on (token k l) (graph_bracket c n k l) next) ≡ Some es →
+      Found form c (GraphBracket n) es
   graph_box_found c n CloseBracket l es e = let b = after_it CloseBracket l None itself None None c (WantBrace (node (Anon n))) es e in ((l, b.0.0, b.0.1), b.1)
   graph_box_found c n k l es e = absurd (let z : None ≡ Some es = e in cc)
 
@@ -510,7 +510,7 @@ module _ (form : DocForm) (next : Setting → Mode → Option (List Event))
   graph_word_found c PnameLn l es e = let b = after_it PnameLn l None _ None None c (WantBrace (named (name_in c.scope l))) es e in graph_iri (prefixed (pname_ln l)) c es b.0 b.1
   graph_word_found c PnameNs l es e = let b = after_it PnameNs l None _ None None c (WantBrace (named (name_in c.scope l))) es e in graph_iri (prefixed (pname_ns l)) c es b.0 b.1
   graph_word_found c LabelNode l es e = let b = after_it LabelNode l None itself None None c (WantBrace (node (labelled l))) es e in ((blank_label (label l), b.0.0, b.0.1), b.1)
-  graph_word_found c OpenBracket l es e = let b = after_it OpenBracket l None itself None None c (GraphBox l.at.offset) es e in ((blank_label (anon l b.0.0), b.0.1, b.0.2), b.1)
+  graph_word_found c OpenBracket l es e = let b = after_it OpenBracket l None itself None None c (GraphBracket l.at.offset) es e in ((blank_label (anon l b.0.0), b.0.1, b.0.2), b.1)
   graph_word_found c k l es e = absurd (let z : None ≡ Some es = e in cc)
 
   want_prefix_found : (c : Setting) (w : Spelling) (k : Kind) (l : Leaf) (es : List Event) →
@@ -577,18 +577,18 @@ step_found form next ih c (WantBaseIri w) k l es e = want_base_iri_found form ne
 step_found form next ih c WantDot k l es e = want_dot_found form next ih c k l es e
 step_found form next ih c (AfterLabel g) k l es e = after_label_found form next ih c g k l es e
 step_found form next ih c GraphWord k l es e = graph_word_found form next ih c k l es e
-step_found form next ih c (GraphBox n) k l es e = graph_box_found form next ih c n k l es e
+step_found form next ih c (GraphBracket n) k l es e = graph_box_found form next ih c n k l es e
 step_found form next ih c (WantBrace g) k l es e = want_brace_found form next ih c g k l es e
 step_found form next ih c Inside k l es e = inside_found form next ih c k l es e
 step_found form next ih c (Want p) k l es e = let x = object_found form next ih c p None None k l es e in ((x.obj, x.rest), x.events)
 step_found form next ih c (After p) k l es e = after_found form next ih c p None k l es e
 step_found form next ih c (AfterText w p) k l es e = after_text_found form next ih c w p k l es e
 step_found form next ih c (WantType w p) k l es e = want_type_found form next ih c w p k l es e
-step_found form next ih c (Box n u) k l es e = box_mode_found form next ih c n u k l es e
-step_found form next ih c (Paren u) k l es e = paren_found form next ih c u k l es e
+step_found form next ih c (PropertyListStart n u) k l es e = box_mode_found form next ih c n u k l es e
+step_found form next ih c (CollectionStart u) k l es e = paren_found form next ih c u k l es e
 step_found form next ih c (WantVerb s a) k l es e = verb_found form next ih c s a k l es e
-step_found form next ih c (Semi s a) k l es e = semi_found form next ih c s a k l es e
-step_found form next ih c (AfterBox s v) k l es e = after_box_found form next ih c s v k l es e
+step_found form next ih c (AfterSemicolon s a) k l es e = semi_found form next ih c s a k l es e
+step_found form next ih c (AfterPropertyList s v) k l es e = after_box_found form next ih c s v k l es e
 
 -- at the end nothing is to come
 stop_found : (form : DocForm) (c : Setting) (m : Mode) (es : List Event) → stop m ≡ Some es → Found form c m es

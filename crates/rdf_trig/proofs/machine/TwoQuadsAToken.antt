@@ -12,14 +12,14 @@ use Rattle.rdf_lines.specs.Lines.{Leaf, leaf_of}
 use Rattle.rdf_trig.specs.declared.form.DocForm.{DocForm}
 use Rattle.rdf_trig.specs.declared.form.DocForm.TheVariants.{TriG}
 use Rattle.rdf_trig.specs.Quads.{Setting, in_default, node, cell_at, rest_quad}
-use Rattle.rdf_trig.specs.Machine.{Topic, sized, Level, Top, InBlock, Place, Listed, InCells, Around, Statement, Boxed, Up, Spelling, Mode, Start, Over, WantPrefix, WantPrefixIri, WantBaseIri, WantDot, AfterLabel, GraphWord, GraphBox, WantBrace, Inside, Want, After, AfterText, WantType, Box, Paren, WantVerb, Semi, AfterBox, Reply, No, Go, object_start, want_type, verb_start, list_end, semi, after, after_text, box, paren, after_box, subject_start, start, inside, want_brace, after_label, graph_word, graph_box, want_prefix, want_prefix_iri, want_base_iri, want_dot, step, waiting}
+use Rattle.rdf_trig.specs.Machine.{Topic, sized, Level, Top, InBlock, Place, Listed, InCollection, Around, Statement, InPropertyList, Up, Spelling, Mode, Start, Over, WantPrefix, WantPrefixIri, WantBaseIri, WantDot, AfterLabel, GraphWord, GraphBracket, WantBrace, Inside, Want, After, AfterText, WantType, PropertyListStart, CollectionStart, WantVerb, AfterSemicolon, AfterPropertyList, Reply, No, Go, object_start, want_type, verb_start, predicate_list_end, after_semicolon, after, after_text, property_list_start, collection_start, after_property_list, subject_start, start, inside, want_brace, after_label, graph_word, graph_bracket, want_prefix, want_prefix_iri, want_base_iri, want_dot, step, waiting}
 use Rattle.rdf_trig.specs.Machine.{kept, State, Answer, refuses, accepts, accept, at_start, ran, refused, go, accept_all}
 use Rattle.rdf_trig.proofs.machine.AcceptedTokens.{accepted, first_ran}
 
 -- a quad may be waiting there
 abbrev owes : Mode → ℕ
 owes (AfterText w p) = 1
-owes (Paren u) = 1
+owes (CollectionStart u) = 1
 owes m = 0
 
 -- how many quads there are, none or one
@@ -35,7 +35,7 @@ size_le (Some q) = omega arith
 -- a mode owes one quad at most, that of a string or parenthesis whose next token decides it
 owes_le : (m : Mode) → owes m ≤ 1
 owes_le (AfterText w p) = omega arith
-owes_le (Paren u) = omega arith
+owes_le (CollectionStart u) = omega arith
 owes_le m = omega arith
 
 -- a list of quads with one before it
@@ -91,16 +91,16 @@ verb_few c s a PnameNs l = quiet _
 verb_few c s a A l = quiet _
 verb_few c s a k l = tt
 
-end_few : (c : Setting) (s : Topic) (a : Around) (k : Kind) (l : Leaf) → Few k (list_end c s a k l)
+end_few : (c : Setting) (s : Topic) (a : Around) (k : Kind) (l : Leaf) → Few k (predicate_list_end c s a k l)
 end_few c s (Statement Top) Dot l = quiet _
 end_few c s (Statement InBlock) Dot l = quiet _
 end_few c s (Statement InBlock) CloseBrace l = quiet _
-end_few c s (Boxed u) CloseBracket l = quiet _
+end_few c s (InPropertyList u) CloseBracket l = quiet _
 end_few c s (Statement Top) k l = tt
 end_few c s (Statement InBlock) k l = tt
-end_few c s (Boxed u) k l = tt
+end_few c s (InPropertyList u) k l = tt
 
-semi_few : (c : Setting) (s : Topic) (a : Around) (k : Kind) (l : Leaf) → Few k (semi c s a k l)
+semi_few : (c : Setting) (s : Topic) (a : Around) (k : Kind) (l : Leaf) → Few k (after_semicolon c s a k l)
 semi_few c s a Semicolon l = quiet _
 semi_few c s a IriRef l = verb_few c s a IriRef l
 semi_few c s a PnameLn l = verb_few c s a PnameLn l
@@ -112,8 +112,8 @@ after_few : (c : Setting) (p : Place) (k : Kind) (l : Leaf) → Few k (after c p
 after_few c (Listed s p a) Comma l = quiet _
 after_few c (Listed s p a) Semicolon l = quiet _
 after_few c (Listed s p a) k l = end_few c s a k l
-after_few c (InCells f n u) CloseParen l = one _ _
-after_few c (InCells f n u) k l = object_few c (InCells f l.at.offset u) (rest_quad c (Cell n) (Blank (cell_at l))) k l
+after_few c (InCollection f n u) CloseParen l = one _ _
+after_few c (InCollection f n u) k l = object_few c (InCollection f l.at.offset u) (rest_quad c (Cell n) (Blank (cell_at l))) k l
 
 text_few : (c : Setting) (w : List ℕ) (p : Place) (k : Kind) (l : Leaf) → Few k (after_text c w p k l)
 text_few c w p LangTag l = one _ _
@@ -128,15 +128,15 @@ type_few c w p PnameLn l = one _ _
 type_few c w p PnameNs l = one _ _
 type_few c w p k l = tt
 
-box_few : (form : DocForm) (c : Setting) (n : ℕ) (u : Up) (k : Kind) (l : Leaf) → Few k (box form c n u k l)
+box_few : (form : DocForm) (c : Setting) (n : ℕ) (u : Up) (k : Kind) (l : Leaf) → Few k (property_list_start form c n u k l)
 box_few form c n u CloseBracket l = quiet _
-box_few form c n u k l = verb_few c (sized (node (Anon n))) (Boxed u) k l
+box_few form c n u k l = verb_few c (sized (node (Anon n))) (InPropertyList u) k l
 
-paren_few : (c : Setting) (u : Up) (k : Kind) (l : Leaf) → Few k (paren c u k l)
+paren_few : (c : Setting) (u : Up) (k : Kind) (l : Leaf) → Few k (collection_start c u k l)
 paren_few c u CloseParen l = quiet _
-paren_few c u k l = object_few c (InCells l.at.offset l.at.offset u) None k l
+paren_few c u k l = object_few c (InCollection l.at.offset l.at.offset u) None k l
 
-after_box_few : (c : Setting) (s : Topic) (v : Level) (k : Kind) (l : Leaf) → Few k (after_box c s v k l)
+after_box_few : (c : Setting) (s : Topic) (v : Level) (k : Kind) (l : Leaf) → Few k (after_property_list c s v k l)
 after_box_few c s v IriRef l = verb_few c s (Statement v) IriRef l
 after_box_few c s v PnameLn l = verb_few c s (Statement v) PnameLn l
 after_box_few c s v PnameNs l = verb_few c s (Statement v) PnameNs l
@@ -182,7 +182,7 @@ graph_few c LabelNode l = quiet _
 graph_few c OpenBracket l = quiet _
 graph_few c k l = tt
 
-graph_box_few : (c : Setting) (n : ℕ) (k : Kind) (l : Leaf) → Few k (graph_box c n k l)
+graph_box_few : (c : Setting) (n : ℕ) (k : Kind) (l : Leaf) → Few k (graph_bracket c n k l)
 graph_box_few c n CloseBracket l = quiet _
 graph_box_few c n k l = tt
 
@@ -212,23 +212,23 @@ step_few form c (WantBaseIri w) k l = base_iri_few c w k l
 step_few form c WantDot k l = dot_few c k l
 step_few form c (AfterLabel g) k l = label_few c g k l
 step_few form c GraphWord k l = graph_few c k l
-step_few form c (GraphBox n) k l = graph_box_few c n k l
+step_few form c (GraphBracket n) k l = graph_box_few c n k l
 step_few form c (WantBrace g) k l = brace_few c g k l
 step_few form c Inside k l = inside_few form c k l
 step_few form c (Want p) k l = object_few c p None k l
 step_few form c (After p) k l = after_few c p k l
 step_few form c (AfterText w p) k l = text_few c w p k l
 step_few form c (WantType w p) k l = type_few c w p k l
-step_few form c (Box n u) k l = box_few form c n u k l
-step_few form c (Paren u) k l = paren_few c u k l
+step_few form c (PropertyListStart n u) k l = box_few form c n u k l
+step_few form c (CollectionStart u) k l = paren_few c u k l
 step_few form c (WantVerb s a) k l = verb_few c s a k l
-step_few form c (Semi s a) k l = semi_few c s a k l
-step_few form c (AfterBox s v) k l = after_box_few c s v k l
+step_few form c (AfterSemicolon s a) k l = semi_few c s a k l
+step_few form c (AfterPropertyList s v) k l = after_box_few c s v k l
 
 -- a quad that waits was owed
 waiting_few : (c : Setting) (m : Mode) (k : Kind) (l : Leaf) → size (waiting c m k l) ≤ owes m
 waiting_few c (AfterText w p) k l = size_le (waiting c (AfterText w p) k l)
-waiting_few c (Paren u) k l = size_le (waiting c (Paren u) k l)
+waiting_few c (CollectionStart u) k l = size_le (waiting c (CollectionStart u) k l)
 waiting_few c m k l = omega arith
 
 -- what one token gives out, and what is held after it

@@ -19,7 +19,7 @@ use Rattle.rdf_trig.specs.Names.{prefix_of, reference_in, name_in}
 use Rattle.rdf_trig.specs.Trees.{Document, document_tokens}
 use Rattle.rdf_trig.specs.Quads.{Setting, in_default, in_graph, named, node, resource, anon_at, labelled, tag_of, plain_literal, tagged_literal, typed_literal, cell_at, rest_quad}
 use Rattle.rdf_trig.specs.Events.{itself, Event, Took, Gave, give, event_quads, document_events}
-use Rattle.rdf_trig.specs.Machine.{Topic, sized, unsized, Level, Top, InBlock, Place, Listed, InCells, Around, Statement, Boxed, Up, Subject, At, Spelling, Dotted, Sparql, Mode, Start, Over, WantPrefix, WantPrefixIri, WantBaseIri, WantDot, AfterLabel, GraphWord, GraphBox, WantBrace, Inside, Want, After, AfterText, WantType, Box, Paren, WantVerb, Semi, AfterBox, Reply, No, Go, subject_at, verb_at, quad_at, quad_up, nil, iri_object_at, literal_at, object_start, type_at, want_type, verb_is, verb_start, after_subject, node_closed, box_closed, list_closed, list_end, semi, after, tag_at, after_text, box, paren, after_box, subject_is, subject_start, start, inside, want_brace, after_label, graph_is, graph_word, graph_box, directive_end, want_prefix, want_prefix_iri, want_base_iri, want_dot, step, waiting}
+use Rattle.rdf_trig.specs.Machine.{Topic, sized, unsized, Level, Top, InBlock, Place, Listed, InCollection, Around, Statement, InPropertyList, Up, Subject, At, Spelling, Dotted, Sparql, Mode, Start, Over, WantPrefix, WantPrefixIri, WantBaseIri, WantDot, AfterLabel, GraphWord, GraphBracket, WantBrace, Inside, Want, After, AfterText, WantType, PropertyListStart, CollectionStart, WantVerb, AfterSemicolon, AfterPropertyList, Reply, No, Go, subject_at, verb_at, quad_at, quad_up, nil, iri_object_at, literal_at, object_start, type_at, want_type, verb_is, verb_start, after_subject, node_closed, property_list_closed, collection_closed, predicate_list_end, after_semicolon, after, tag_at, after_text, property_list_start, collection_start, after_property_list, subject_is, subject_start, start, inside, want_brace, after_label, graph_is, graph_word, graph_bracket, directive_end, want_prefix, want_prefix_iri, want_base_iri, want_dot, step, waiting}
 use Rattle.rdf_trig.specs.Machine.{stop, fronted, go_on, run}
 use Rattle.rdf_trig.specs.Spelled.{SpellsTag}
 use Rattle.rdf_trig.specs.Laws.{HasIris}
@@ -44,11 +44,11 @@ module _ (r : Room) where
   abbrev mutual
     FitPlace : Place → Type 0
     FitPlace (Listed s p a) = IsSubject s.term × IfSome p.iri (FitIri r) × FitAround a
-    FitPlace (InCells f n u) = (f < 2 ^ 64) × (n < 2 ^ 64) × FitUp u
+    FitPlace (InCollection f n u) = (f < 2 ^ 64) × (n < 2 ^ 64) × FitUp u
 
     FitAround : Around → Type 0
     FitAround (Statement v) = Unit {0}
-    FitAround (Boxed u) = FitUp u
+    FitAround (InPropertyList u) = FitUp u
 
     FitUp : Up → Type 0
     FitUp (Subject v) = Unit {0}
@@ -56,17 +56,17 @@ module _ (r : Room) where
 
   abbrev FitMode : Mode → Type 0
   FitMode (AfterLabel g) = IsSubject g.term
-  FitMode (GraphBox n) = n < 2 ^ 64
+  FitMode (GraphBracket n) = n < 2 ^ 64
   FitMode (WantBrace g) = IsSubject g
   FitMode (Want p) = FitPlace p
   FitMode (After p) = FitPlace p
   FitMode (AfterText w p) = FitWord r w × FitPlace p
   FitMode (WantType w p) = FitWord r w × FitPlace p
-  FitMode (Box n u) = (n < 2 ^ 64) × FitUp u
-  FitMode (Paren u) = FitUp u
+  FitMode (PropertyListStart n u) = (n < 2 ^ 64) × FitUp u
+  FitMode (CollectionStart u) = FitUp u
   FitMode (WantVerb s a) = IsSubject s.term × FitAround a
-  FitMode (Semi s a) = IsSubject s.term × FitAround a
-  FitMode (AfterBox s v) = IsSubject s.term
+  FitMode (AfterSemicolon s a) = IsSubject s.term × FitAround a
+  FitMode (AfterPropertyList s v) = IsSubject s.term
   FitMode m = Unit {0}
 
   -- where the IRI of the token is within the limit, the quads can be written, and what is held after it
@@ -85,11 +85,11 @@ module _ (r : Room) where
   -- The quads of an object at a place, of a bracket's object, and of a cell.
   subject_fits : (p : Place) → FitPlace p → IsSubject (subject_at p)
   subject_fits (Listed s p a) f = f.0
-  subject_fits (InCells i n u) f = cell_fits r n f.1
+  subject_fits (InCollection i n u) f = cell_fits r n f.1
 
   verb_fits : (p : Place) → FitPlace p → IfSome (verb_at p) (FitIri r)
   verb_fits (Listed s p a) f = f.1
-  verb_fits (InCells i n u) f = known_fits r RdfFirst
+  verb_fits (InCollection i n u) f = known_fits r RdfFirst
 
   quad_fits : (c : Setting) (p : Place) (o : Option Term) → FitSetting c → FitPlace p → IfSome o (FitTerm r) → IsQuad (quad_at c p o)
   quad_fits c p o f g h = stated_fits r c.graph (subject_at p) (verb_at p) o f.1 (subject_fits p g) (verb_fits p g) h
@@ -165,11 +165,11 @@ module _ (r : Room) where
   node_mode form (Subject v) s g h = subject_mode form v s h
   node_mode form (At p) s g h = g
 
-  box_mode : (u : Up) (s : Topic) → FitUp u → IsSubject s.term → FitMode (box_closed u s)
+  box_mode : (u : Up) (s : Topic) → FitUp u → IsSubject s.term → FitMode (property_list_closed u s)
   box_mode (Subject v) s g h = h
   box_mode (At p) s g h = g
 
-  list_mode : (u : Up) (s : Topic) → FitUp u → IsSubject s.term → FitMode (list_closed u s)
+  list_mode : (u : Up) (s : Topic) → FitUp u → IsSubject s.term → FitMode (collection_closed u s)
   list_mode (Subject v) s g h = (h, tt)
   list_mode (At p) s g h = g
 
@@ -178,18 +178,18 @@ module _ (r : Room) where
   goes_fits c m f g = λ w. (tt, tt, f, g)
 
   list_end_fits : (c : Setting) (s : Topic) (a : Around) (k : Kind) (l : Leaf) → FitSetting c → IsSubject s.term → FitAround a →
-      FitReply (list_end c s a k l)
+      FitReply (predicate_list_end c s a k l)
   list_end_fits c s (Statement Top) Dot l f h g = goes_fits c Start f tt
   list_end_fits c s (Statement InBlock) Dot l f h g = goes_fits c Inside f tt
   list_end_fits c s (Statement InBlock) CloseBrace l f h g = goes_fits (in_default c.scope) Start (default_fits c f) tt
-  list_end_fits c s (Boxed u) CloseBracket l f h g = goes_fits c (box_closed u s) f (box_mode u s g h)
+  list_end_fits c s (InPropertyList u) CloseBracket l f h g = goes_fits c (property_list_closed u s) f (box_mode u s g h)
   list_end_fits c s (Statement Top) k l f h g = tt
   list_end_fits c s (Statement InBlock) k l f h g = tt
-  list_end_fits c s (Boxed u) k l f h g = tt
+  list_end_fits c s (InPropertyList u) k l f h g = tt
 
   semi_fits : (c : Setting) (s : Topic) (a : Around) (k : Kind) (l : Leaf) → FitSetting c → IsSubject s.term → FitAround a →
-      FitReply (semi c s a k l)
-  semi_fits c s a Semicolon l f h g = goes_fits c (Semi s a) f (h, g)
+      FitReply (after_semicolon c s a k l)
+  semi_fits c s a Semicolon l f h g = goes_fits c (AfterSemicolon s a) f (h, g)
   semi_fits c s a IriRef l f h g = verb_start_fits c s a IriRef l f h g
   semi_fits c s a PnameLn l f h g = verb_start_fits c s a PnameLn l f h g
   semi_fits c s a PnameNs l f h g = verb_start_fits c s a PnameNs l f h g
@@ -198,13 +198,13 @@ module _ (r : Room) where
 
   after_fits : (c : Setting) (p : Place) (k : Kind) (l : Leaf) → FitSetting c → FitPlace p → Good r k l → FitReply (after c p k l)
   after_fits c (Listed s p a) Comma l f g h = goes_fits c (Want (Listed s p a)) f g
-  after_fits c (Listed s p a) Semicolon l f g h = goes_fits c (Semi s a) f (g.0, g.2)
+  after_fits c (Listed s p a) Semicolon l f g h = goes_fits c (AfterSemicolon s a) f (g.0, g.2)
   after_fits c (Listed s p a) k l f g h = list_end_fits c s a k l f g.0 g.2
-  after_fits c (InCells i n u) CloseParen l f g h =
+  after_fits c (InCollection i n u) CloseParen l f g h =
       λ w. (tt, rest_fits c n nil f g.1 (known_fits r RdfNil), f, list_mode u (unsized (node (Cell i))) g.2 (cell_fits r i g.0))
-  after_fits c (InCells i n u) k l f g h =
+  after_fits c (InCollection i n u) k l f g h =
       let q = rest_fits c n (Blank (cell_at l)) f g.1 (cell_fits r l.at.offset h.2) in
-      object_fits c (InCells i l.at.offset u) (rest_quad c (Cell n) (Blank (cell_at l))) k l f (g.0, h.2, g.2) q h
+      object_fits c (InCollection i l.at.offset u) (rest_quad c (Cell n) (Blank (cell_at l))) k l f (g.0, h.2, g.2) q h
 
   -- after a string
   tag_at_fits : (c : Setting) (v : List ℕ) (p : Place) (k : Kind) (l : Leaf) → FitSetting c → FitWord r v → FitPlace p → SpellsTag k → k ≢ End →
@@ -220,15 +220,15 @@ module _ (r : Room) where
   text_fits c v p k l f g i h = after_fits c p k l f i h
 
   -- Brackets.
-  box_fits : (form : DocForm) (c : Setting) (n : ℕ) (u : Up) (k : Kind) (l : Leaf) → FitSetting c → n < 2 ^ 64 → FitUp u → FitReply (box form c n u k l)
+  box_fits : (form : DocForm) (c : Setting) (n : ℕ) (u : Up) (k : Kind) (l : Leaf) → FitSetting c → n < 2 ^ 64 → FitUp u → FitReply (property_list_start form c n u k l)
   box_fits form c n u CloseBracket l f h g = goes_fits c (node_closed form u (sized (node (Anon n)))) f (node_mode form u (sized (node (Anon n))) g (anon_fits r n h))
-  box_fits form c n u k l f h g = verb_start_fits c (sized (node (Anon n))) (Boxed u) k l f (anon_fits r n h) g
+  box_fits form c n u k l f h g = verb_start_fits c (sized (node (Anon n))) (InPropertyList u) k l f (anon_fits r n h) g
 
-  paren_fits : (c : Setting) (u : Up) (k : Kind) (l : Leaf) → FitSetting c → FitUp u → Good r k l → FitReply (paren c u k l)
-  paren_fits c u CloseParen l f g h = goes_fits c (list_closed u (unsized (Some nil))) f (list_mode u (unsized (Some nil)) g (known_fits r RdfNil))
-  paren_fits c u k l f g h = object_fits c (InCells l.at.offset l.at.offset u) None k l f (h.2, h.2, g) tt h
+  paren_fits : (c : Setting) (u : Up) (k : Kind) (l : Leaf) → FitSetting c → FitUp u → Good r k l → FitReply (collection_start c u k l)
+  paren_fits c u CloseParen l f g h = goes_fits c (collection_closed u (unsized (Some nil))) f (list_mode u (unsized (Some nil)) g (known_fits r RdfNil))
+  paren_fits c u k l f g h = object_fits c (InCollection l.at.offset l.at.offset u) None k l f (h.2, h.2, g) tt h
 
-  after_box_fits : (c : Setting) (s : Topic) (v : Level) (k : Kind) (l : Leaf) → FitSetting c → IsSubject s.term → FitReply (after_box c s v k l)
+  after_box_fits : (c : Setting) (s : Topic) (v : Level) (k : Kind) (l : Leaf) → FitSetting c → IsSubject s.term → FitReply (after_property_list c s v k l)
   after_box_fits c s v IriRef l f h = verb_start_fits c s (Statement v) IriRef l f h tt
   after_box_fits c s v PnameLn l f h = verb_start_fits c s (Statement v) PnameLn l f h tt
   after_box_fits c s v PnameNs l f h = verb_start_fits c s (Statement v) PnameNs l f h tt
@@ -245,8 +245,8 @@ module _ (r : Room) where
   subject_start_fits form c v PnameNs l f h = subject_is_fits form c v (name_in c.scope l) f (name_iri c.scope l f.0)
   subject_start_fits form c v LabelNode l f h =
       goes_fits c (after_subject form v (sized (node (labelled l)))) f (subject_mode form v (sized (node (labelled l))) (label_fits r l h))
-  subject_start_fits form c v OpenBracket l f h = goes_fits c (Box l.at.offset (Subject v)) f (h.2, tt)
-  subject_start_fits form c v OpenParen l f h = goes_fits c (Paren (Subject v)) f tt
+  subject_start_fits form c v OpenBracket l f h = goes_fits c (PropertyListStart l.at.offset (Subject v)) f (h.2, tt)
+  subject_start_fits form c v OpenParen l f h = goes_fits c (CollectionStart (Subject v)) f tt
   subject_start_fits form c v k l f h = tt
 
   start_fits : (form : DocForm) (c : Setting) (k : Kind) (l : Leaf) → FitSetting c → Good r k l → FitReply (start form c k l)
@@ -279,10 +279,10 @@ module _ (r : Room) where
   graph_word_fits c PnameLn l f h = graph_is_fits c (name_in c.scope l) f (name_iri c.scope l f.0)
   graph_word_fits c PnameNs l f h = graph_is_fits c (name_in c.scope l) f (name_iri c.scope l f.0)
   graph_word_fits c LabelNode l f h = goes_fits c (WantBrace (node (labelled l))) f (label_fits r l h)
-  graph_word_fits c OpenBracket l f h = goes_fits c (GraphBox l.at.offset) f h.2
+  graph_word_fits c OpenBracket l f h = goes_fits c (GraphBracket l.at.offset) f h.2
   graph_word_fits c k l f h = tt
 
-  graph_box_fits : (c : Setting) (n : ℕ) (k : Kind) (l : Leaf) → FitSetting c → n < 2 ^ 64 → FitReply (graph_box c n k l)
+  graph_box_fits : (c : Setting) (n : ℕ) (k : Kind) (l : Leaf) → FitSetting c → n < 2 ^ 64 → FitReply (graph_bracket c n k l)
   graph_box_fits c n CloseBracket l f h = goes_fits c (WantBrace (node (Anon n))) f (anon_fits r n h)
   graph_box_fits c n k l f h = tt
 
@@ -322,18 +322,18 @@ module _ (r : Room) where
   step_fits form c WantDot k l f g h = dot_fits c k l f
   step_fits form c (AfterLabel s) k l f g h = after_label_fits c s k l f g
   step_fits form c GraphWord k l f g h = graph_word_fits c k l f h
-  step_fits form c (GraphBox n) k l f g h = graph_box_fits c n k l f g
+  step_fits form c (GraphBracket n) k l f g h = graph_box_fits c n k l f g
   step_fits form c (WantBrace s) k l f g h = brace_fits c s k l f g
   step_fits form c Inside k l f g h = inside_fits form c k l f h
   step_fits form c (Want p) k l f g h = object_fits c p None k l f g tt h
   step_fits form c (After p) k l f g h = after_fits c p k l f g h
   step_fits form c (AfterText w p) k l f g h = text_fits c w p k l f g.0 g.1 h
   step_fits form c (WantType w p) k l f g h = want_type_fits c w p k l f g.0 g.1
-  step_fits form c (Box n u) k l f g h = box_fits form c n u k l f g.0 g.1
-  step_fits form c (Paren u) k l f g h = paren_fits c u k l f g h
+  step_fits form c (PropertyListStart n u) k l f g h = box_fits form c n u k l f g.0 g.1
+  step_fits form c (CollectionStart u) k l f g h = paren_fits c u k l f g h
   step_fits form c (WantVerb s a) k l f g h = verb_start_fits c s a k l f g.0 g.1
-  step_fits form c (Semi s a) k l f g h = semi_fits c s a k l f g.0 g.1
-  step_fits form c (AfterBox s v) k l f g h = after_box_fits c s v k l f g
+  step_fits form c (AfterSemicolon s a) k l f g h = semi_fits c s a k l f g.0 g.1
+  step_fits form c (AfterPropertyList s v) k l f g h = after_box_fits c s v k l f g
 
   -- the quad whose object is known only by the token after it
   waiting_fits : (c : Setting) (m : Mode) (k : Kind) (l : Leaf) → FitSetting c → FitMode m → Good r k l → IsQuad (waiting c m k l)
@@ -342,8 +342,8 @@ module _ (r : Room) where
   waiting_fits c (AfterText w p) AtPrefix l f g h = tt
   waiting_fits c (AfterText w p) Carets l f g h = tt
   waiting_fits c (AfterText w p) k l f g h = quad_fits c p (plain_literal w) f g.1 (g.0, known_fits r XsdString)
-  waiting_fits c (Paren u) CloseParen l f g h = up_fits c u nil f g (known_fits r RdfNil)
-  waiting_fits c (Paren u) k l f g h = up_fits c u (Blank (cell_at l)) f g (cell_fits r l.at.offset h.2)
+  waiting_fits c (CollectionStart u) CloseParen l f g h = up_fits c u nil f g (known_fits r RdfNil)
+  waiting_fits c (CollectionStart u) k l f g h = up_fits c u (Blank (cell_at l)) f g (cell_fits r l.at.offset h.2)
   waiting_fits c m k l f g h = tt
 
   -- The events of whole runs: each IRI that a token stands for is within the limit, and each quad can be written.

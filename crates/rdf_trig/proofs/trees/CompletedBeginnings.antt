@@ -9,7 +9,7 @@ use Rattle.rdf_trig.specs.declared.form.DocForm.{DocForm}
 use Rattle.rdf_trig.specs.Trees.{Document}
 use Rattle.rdf_trig.specs.Quads.{in_default}
 use Rattle.rdf_trig.specs.Events.{document_events, tokens, event_quads}
-use Rattle.rdf_trig.specs.Machine.{Level, Top, InBlock, Place, Listed, InCells, Around, Statement, Boxed, Up, Subject, At, Spelling, Dotted, Sparql, Mode, Start, Over, WantPrefix, WantPrefixIri, WantBaseIri, WantDot, AfterLabel, GraphWord, GraphBox, WantBrace, Inside, Want, After, AfterText, WantType, Box, Paren, WantVerb, Semi, AfterBox, start}
+use Rattle.rdf_trig.specs.Machine.{Level, Top, InBlock, Place, Listed, InCollection, Around, Statement, InPropertyList, Up, Subject, At, Spelling, Dotted, Sparql, Mode, Start, Over, WantPrefix, WantPrefixIri, WantBaseIri, WantDot, AfterLabel, GraphWord, GraphBracket, WantBrace, Inside, Want, After, AfterText, WantType, PropertyListStart, CollectionStart, WantVerb, AfterSemicolon, AfterPropertyList, start}
 use Rattle.rdf_trig.specs.Documents.{documents, trees}
 use Rattle.rdf_trig.specs.Laws.{IsClosing, CompletedBy}
 use Rattle.rdf_trig.proofs.machine.Soundness.{read_found}
@@ -43,8 +43,8 @@ verb_closing v = (refl, (refl, level_closing v))
 mutual
   place_closing : (p : Place) → Closing (close_place p)
   place_closing (Listed s p (Statement v)) = level_closing v
-  place_closing (Listed s p (Boxed u)) = (refl, box_closing u)
-  place_closing (InCells f n u) = (refl, list_closing u)
+  place_closing (Listed s p (InPropertyList u)) = (refl, box_closing u)
+  place_closing (InCollection f n u) = (refl, list_closing u)
 
   list_closing : (u : Up) → Closing (close_list u)
   list_closing (Subject v) = verb_closing v
@@ -57,7 +57,7 @@ mutual
 -- the brackets that are closed are of that kind
 around_closing : (a : Around) → Closing (close_around a)
 around_closing (Statement v) = level_closing v
-around_closing (Boxed u) = (refl, box_closing u)
+around_closing (InPropertyList u) = (refl, box_closing u)
 
 -- the tokens that complete a directive are of that kind
 directive_closing : (w : Spelling) → Closing (close_directive w)
@@ -78,18 +78,18 @@ closing (WantBaseIri w) = (refl, directive_closing w)
 closing WantDot = (refl, ended)
 closing (AfterLabel g) = verb_closing Top
 closing GraphWord = (refl, block_closing)
-closing (GraphBox n) = (refl, block_closing)
+closing (GraphBracket n) = (refl, block_closing)
 closing (WantBrace g) = block_closing
 closing Inside = (refl, ended)
 closing (Want p) = (refl, place_closing p)
 closing (After p) = place_closing p
 closing (AfterText w p) = place_closing p
 closing (WantType w p) = (refl, place_closing p)
-closing (Box n u) = (refl, list_closing u)
-closing (Paren u) = (refl, list_closing u)
+closing (PropertyListStart n u) = (refl, list_closing u)
+closing (CollectionStart u) = (refl, list_closing u)
 closing (WantVerb s a) = (refl, (refl, around_closing a))
-closing (Semi s a) = around_closing a
-closing (AfterBox s v) = level_closing v
+closing (AfterSemicolon s a) = around_closing a
+closing (AfterPropertyList s v) = level_closing v
 
 -- the whole document or tree
 record Whole (strict : Bool) (form : DocForm) (start : InForce) (ts : List Token) : Type 0 where

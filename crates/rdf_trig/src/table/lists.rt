@@ -3,7 +3,7 @@
 ghost use Rattle.std.specs.Prelude.{◌≡◌, ℕ, ◌≤◌, List, None, Option, IfSome};
 ghost use Rattle.rdf_trig.specs.Machine as M;
 ghost use Rattle.rdf_trig.specs.States.{IsNamed, setting, graph_of, level_of, outer_graph, outer_of, mode_at};
-ghost use Rattle.rdf_trig.specs.States.{setting_in, place_in, up_in, around_in, semi_at, mode_after_dot};
+ghost use Rattle.rdf_trig.specs.States.{setting_in, place_in, up_in, around_in, after_semicolon_at, mode_after_dot};
 ghost use Rattle.rdf_trig.specs.Holding.{outer_bytes, level_bytes, OpenFits, frames_most};
 ghost use Rattle.rdf_trig.specs.Turns.{IsVerb, SuitsVerb};
 ghost use Rattle.rdf_trig.specs.Turns.{Means, MeansHere, MeansVerb, IsSuited, KeepsFrames, IsWithin};
@@ -62,8 +62,8 @@ impl<A: Allocator> State<A> {
 
     #[tactic(auto, using(crate::proofs::machine::Fallbacks::fallbacks))]
     #[inline(always)]
-    pub fn after_bracket(&self, node: u64, kind: Kind) -> Option<Turn>
-        ensures means { (form : DocForm) → Means form self.now kind result (λ s. M.box form (setting_in s self.now) node (up_in self.now) kind) }
+    pub fn property_list_start(&self, node: u64, kind: Kind) -> Option<Turn>
+        ensures means { (form : DocForm) → Means form self.now kind result (λ s. M.property_list_start form (setting_in s self.now) node (up_in self.now) kind) }
         ensures suits { IfSome result (IsSuited kind) }
         ensures frames { IfSome result (KeepsFrames kind) }
         ensures fits { (n : ℕ) → OpenFits n self.now → IfSome result (IsWithin n self.now) }
@@ -85,13 +85,13 @@ impl<A: Allocator> State<A> {
         match kind {
             Kind::Comma => Some(Turn::NextObject),
             Kind::Semicolon => Some(Turn::NextVerb),
-            _ => self.list_end(around, kind),
+            _ => self.predicate_list_end(around, kind),
         }
     }
 
     #[inline(always)]
     pub fn after_semicolon(&self, kind: Kind) -> Option<Turn>
-        ensures means { (form : DocForm) → Means form self.now kind result (λ s. M.step form (setting_in s self.now) (semi_at (place_in self.now)) kind) }
+        ensures means { (form : DocForm) → Means form self.now kind result (λ s. M.step form (setting_in s self.now) (after_semicolon_at (place_in self.now)) kind) }
         ensures suits { IfSome result (IsSuited kind) }
         ensures frames { IfSome result (KeepsFrames kind) }
         ensures fits { (n : ℕ) → OpenFits n self.now → IfSome result (IsWithin n self.now) }
@@ -105,7 +105,7 @@ impl<A: Allocator> State<A> {
     #[inline(always)]
     fn after_verb(&self, around: Around, kind: Kind) -> Option<Turn>
         requires listed { self.now.frame.container ≡ Container.List around }
-        ensures means { MeansHere self.now kind result (λ c p. M.semi c self.now.frame.subject (around_in self.now around) kind) }
+        ensures means { MeansHere self.now kind result (λ c p. M.after_semicolon c self.now.frame.subject (around_in self.now around) kind) }
         ensures suits { IfSome result (IsSuited kind) }
         ensures frames { IfSome result (KeepsFrames kind) }
         ensures fits { (n : ℕ) → OpenFits n self.now → IfSome result (IsWithin n self.now) }
@@ -114,35 +114,35 @@ impl<A: Allocator> State<A> {
             Some(verb) => Some(Turn::Verb(around, verb)),
             None => match kind {
                 Kind::Semicolon => Some(Turn::NextVerb),
-                _ => self.list_end(around, kind),
+                _ => self.predicate_list_end(around, kind),
             },
         }
     }
 
     // After a property list that is a subject.
     #[inline(always)]
-    pub fn after_brackets(&self, kind: Kind) -> Option<Turn>
-        ensures means { MeansHere self.now kind result (λ c p. M.after_box c self.now.frame.subject (level_of self.now.level) kind) }
+    pub fn after_property_list(&self, kind: Kind) -> Option<Turn>
+        ensures means { MeansHere self.now kind result (λ c p. M.after_property_list c self.now.frame.subject (level_of self.now.level) kind) }
         ensures suits { IfSome result (IsSuited kind) }
         ensures frames { IfSome result (KeepsFrames kind) }
         ensures fits { (n : ℕ) → OpenFits n self.now → self.now.frame.subject.size ≤ n → IfSome result (IsWithin n self.now) }
     {
         match verb_of(kind) {
             Some(verb) => Some(Turn::Verb(Around::Statement, verb)),
-            None => self.list_end(Around::Statement, kind),
+            None => self.predicate_list_end(Around::Statement, kind),
         }
     }
 
     #[inline(always)]
-    fn list_end(&self, around: Around, kind: Kind) -> Option<Turn>
-        ensures means { MeansHere self.now kind result (λ c p. M.list_end c self.now.frame.subject (around_in self.now around) kind) }
+    fn predicate_list_end(&self, around: Around, kind: Kind) -> Option<Turn>
+        ensures means { MeansHere self.now kind result (λ c p. M.predicate_list_end c self.now.frame.subject (around_in self.now around) kind) }
         ensures suits { IfSome result (IsSuited kind) }
         ensures frames { IfSome result (KeepsFrames kind) }
         ensures fits { (n : ℕ) → OpenFits n self.now → self.now.frame.subject.size ≤ n → IfSome result (IsWithin n self.now) }
     {
         match around {
             Around::Statement => self.statement_end(kind),
-            Around::Brackets => match kind {
+            Around::PropertyList => match kind {
                 Kind::CloseBracket => Some(Turn::EndPropertyList),
                 _ => None,
             },
@@ -151,7 +151,7 @@ impl<A: Allocator> State<A> {
 
     #[inline(always)]
     fn statement_end(&self, kind: Kind) -> Option<Turn>
-        ensures means { (x : M.Topic) → MeansHere self.now kind result (λ c p. M.list_end c x (M.Statement (level_of self.now.level)) kind) }
+        ensures means { (x : M.Topic) → MeansHere self.now kind result (λ c p. M.predicate_list_end c x (M.Statement (level_of self.now.level)) kind) }
         ensures suits { IfSome result (IsSuited kind) }
         ensures frames { IfSome result (KeepsFrames kind) }
         ensures fits { (n : ℕ) → OpenFits n self.now → IfSome result (IsWithin n self.now) }

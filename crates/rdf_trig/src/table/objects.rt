@@ -40,7 +40,7 @@ impl<A: Allocator> State<A> {
     #[tactic(auto, using(crate::proofs::machine::Fallbacks::fallbacks))]
     #[inline(always)]
     fn after_item(&self, first: u64, cell: u64, kind: Kind) -> Option<Turn>
-        ensures means { MeansHere self.now kind result (λ c p. M.after c (M.InCells first cell (up_in self.now)) kind) }
+        ensures means { MeansHere self.now kind result (λ c p. M.after c (M.InCollection first cell (up_in self.now)) kind) }
         ensures suits { IfSome result (IsSuited kind) }
         ensures frames { IfSome result (KeepsFrames kind) }
         ensures fits { (n : ℕ) → OpenFits n self.now → IfSome result (IsWithin n self.now) }
@@ -53,8 +53,8 @@ impl<A: Allocator> State<A> {
 
     #[tactic(auto, using(crate::proofs::machine::Fallbacks::fallbacks))]
     #[inline(always)]
-    pub fn after_paren(&self, kind: Kind) -> Option<Turn>
-        ensures means { MeansHere self.now kind result (λ c p. M.paren c (up_in self.now) kind) }
+    pub fn collection_start(&self, kind: Kind) -> Option<Turn>
+        ensures means { MeansHere self.now kind result (λ c p. M.collection_start c (up_in self.now) kind) }
         ensures suits { IfSome result (IsSuited kind) }
         ensures frames { IfSome result (KeepsFrames kind) }
         ensures fits { (n : ℕ) → OpenFits n self.now → IfSome result (IsWithin n self.now) }

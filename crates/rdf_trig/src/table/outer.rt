@@ -132,7 +132,7 @@ impl<A: Allocator> State<A> {
 
     #[inline(always)]
     fn graph_bracket(&self, node: u64, kind: Kind) -> Option<Turn>
-        ensures means { (form : DocForm) → Means form self.now kind result (λ s. M.graph_box (setting s None) node kind) }
+        ensures means { (form : DocForm) → Means form self.now kind result (λ s. M.graph_bracket (setting s None) node kind) }
         ensures suits { IfSome result (IsSuited kind) }
         ensures frames { IfSome result (KeepsFrames kind) }
         ensures fits { (n : ℕ) → OpenFits n self.now → IfSome result (IsWithin n self.now) }

@@ -13,11 +13,11 @@ returns-in_default g c =
     let s = self.frame.subject in
     let p = self.frame.verb in
     record {
-      means = λ form. means_at form self k c.list_end.result _ _
+      means = λ form. means_at form self k c.predicate_list_end.result _ _
           (λ s' l. ap (λ o. M.after (setting_in s' self) (place_at (level_of self.level) o s p (up_in self)) k l) c.requires.listed
           ∙ listed-else (setting_in s' self) s (spelt_of p) (around_in self c.args.around) k l c.in_default.not-Comma c.in_default.not-Semicolon)
-          (c.list_end.ensures.means form);
-      suits = c.list_end.ensures.suits;
-      frames = c.list_end.ensures.frames;
-      fits = λ n o. c.list_end.ensures.fits n o (subst (λ x. ListFits n x s p) c.requires.listed o.frame).0;
+          (c.predicate_list_end.ensures.means form);
+      suits = c.predicate_list_end.ensures.suits;
+      frames = c.predicate_list_end.ensures.frames;
+      fits = λ n o. c.predicate_list_end.ensures.fits n o (subst (λ x. ListFits n x s p) c.requires.listed o.frame).0;
     }

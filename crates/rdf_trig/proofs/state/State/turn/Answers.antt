@@ -15,17 +15,17 @@ returns-in-AfterText-clause-means g c = rw c.in-AfterText.is (c.after_text.ensur
 pub returns-in-WantType-clause-means : goal.returns-in-WantType-clause-means
 returns-in-WantType-clause-means g c = rw c.in-WantType.is (c.want_type.ensures.means c.args.form)
 
-pub returns-in-Bracket-clause-means : goal.returns-in-Bracket-clause-means
-returns-in-Bracket-clause-means g c = rw c.in-Bracket.is (c.after_bracket.ensures.means c.args.form)
+pub returns-in-PropertyListStart-clause-means : goal.returns-in-PropertyListStart-clause-means
+returns-in-PropertyListStart-clause-means g c = rw c.in-PropertyListStart.is (c.property_list_start.ensures.means c.args.form)
 
-pub returns-in-Paren-clause-means : goal.returns-in-Paren-clause-means
-returns-in-Paren-clause-means g c = rw c.in-Paren.is (c.after_paren.ensures.means c.args.form)
+pub returns-in-CollectionStart-clause-means : goal.returns-in-CollectionStart-clause-means
+returns-in-CollectionStart-clause-means g c = rw c.in-CollectionStart.is (c.collection_start.ensures.means c.args.form)
 
 pub returns-in-WantVerb-clause-means : goal.returns-in-WantVerb-clause-means
 returns-in-WantVerb-clause-means g c = rw c.in-WantVerb.is (c.want_verb.ensures.means c.args.form)
 
-pub returns-in-AfterBrackets-clause-means : goal.returns-in-AfterBrackets-clause-means
-returns-in-AfterBrackets-clause-means g c = rw c.in-AfterBrackets.is (c.after_brackets.ensures.means c.args.form)
+pub returns-in-AfterPropertyList-clause-means : goal.returns-in-AfterPropertyList-clause-means
+returns-in-AfterPropertyList-clause-means g c = rw c.in-AfterPropertyList.is (c.after_property_list.ensures.means c.args.form)
 
 pub returns-in-AfterSubject-clause-means : goal.returns-in-AfterSubject-clause-means
 returns-in-AfterSubject-clause-means g c =
@@ -37,12 +37,12 @@ returns-in-AfterSubject-clause-suits g c =
     let self = c.args.self.now in
     rw c.in-AfterSubject.is (subject_suits c.args.form self self.level c.args.kind c.after_subject.result c.after_subject.ensures.suits)
 
-pub returns-in-Semicolon-clause-means : goal.returns-in-Semicolon-clause-means
-returns-in-Semicolon-clause-means g c =
+pub returns-in-AfterSemicolon-clause-means : goal.returns-in-AfterSemicolon-clause-means
+returns-in-AfterSemicolon-clause-means g c =
     let self = c.args.self.now in
-    rw c.in-Semicolon.is (semi_decides c.args.form self (place_in self) c.args.kind c.after_semicolon.result (c.after_semicolon.ensures.means c.args.form))
+    rw c.in-AfterSemicolon.is (semi_decides c.args.form self (place_in self) c.args.kind c.after_semicolon.result (c.after_semicolon.ensures.means c.args.form))
 
-pub returns-in-Semicolon-clause-suits : goal.returns-in-Semicolon-clause-suits
-returns-in-Semicolon-clause-suits g c =
+pub returns-in-AfterSemicolon-clause-suits : goal.returns-in-AfterSemicolon-clause-suits
+returns-in-AfterSemicolon-clause-suits g c =
     let self = c.args.self.now in
-    rw c.in-Semicolon.is (semi_suits (place_in self) c.args.kind c.after_semicolon.result c.after_semicolon.ensures.suits)
+    rw c.in-AfterSemicolon.is (semi_suits (place_in self) c.args.kind c.after_semicolon.result c.after_semicolon.ensures.suits)
