@@ -13,6 +13,8 @@ use crate::start::start;
 use crate::task::{Action, Task};
 use hosts::InMemory;
 use rdf_stream::{Escapes, Form, In, Limits, Out, Source};
+use std::alloc::Global;
+use std::process::Abort;
 use std::test::Fail;
 use texts::{COMMAND_NOTES, COMMANDS, HELP, NOT_UTF8, USAGE};
 
@@ -212,15 +214,29 @@ fn words_give_each_field_of_a_task(rt: HostRuntime) {
     }
 }
 
+/// What a run writes, and what it reports.
+#[derive(Clone, Copy)]
+struct Printed<'a> {
+    written: &'a str,
+    reported: &'a str,
+}
+
+/// A run that writes nothing.
+fn only(reported: &str) -> Printed<'_> {
+    Printed {
+        written: "",
+        reported,
+    }
+}
+
 /// These words are no task, end with this status, and write and report these texts.
 fn is_refused(
-    rt: &HostRuntime,
+    rt: &impl Abort,
+    alloc: Global,
     words: &[&str],
     status: u8,
-    text: &str,
-    message: &str,
+    printed: Printed<'_>,
 ) -> Result<(), Fail> {
-    let alloc = rt.alloc();
     let mut written = Vec::new(alloc);
     let mut reported = Vec::new(alloc);
     let mut out = Out::new(&mut written);
@@ -233,15 +249,15 @@ fn is_refused(
     }
     drop(out);
     drop(err);
-    assert_eq!(rt; str::from_utf8(written.as_slice()), Ok(text));
-    assert_eq!(rt; str::from_utf8(reported.as_slice()), Ok(message));
+    assert_eq!(rt; str::from_utf8(written.as_slice()), Ok(printed.written));
+    assert_eq!(rt; str::from_utf8(reported.as_slice()), Ok(printed.reported));
     Ok(())
 }
 
 #[test]
 fn words_that_are_no_task_are_reported(rt: HostRuntime) -> Result<(), Fail> {
     for (words, message) in USAGE {
-        is_refused(&rt, words, 2, "", message)?;
+        is_refused(&rt, rt.alloc(), words, 2, only(message))?;
     }
     let bases: [&[&str]; 3] = [
         &["rdfconv", "convert", "--format=nt", "--base", "s"],
@@ -249,7 +265,7 @@ fn words_that_are_no_task_are_reported(rt: HostRuntime) -> Result<(), Fail> {
         &["rdfconv", "convert", "--iri=9", "--base=http://a/b"],
     ];
     for words in bases {
-        is_refused(&rt, words, 2, "", "rdfconv: bad base\n")?;
+        is_refused(&rt, rt.alloc(), words, 2, only("rdfconv: bad base\n"))?;
     }
     let fits = ["rdfconv", "convert", "--iri=10", "--base=http://a/b"];
     assert!(&rt; command_of(rt.alloc(), &fits).is_ok());
@@ -259,7 +275,13 @@ fn words_that_are_no_task_are_reported(rt: HostRuntime) -> Result<(), Fail> {
         &["rdfconv", "convert", "--node-prefix="],
     ];
     for words in words {
-        is_refused(&rt, words, 2, "", "rdfconv: bad node prefix\n")?;
+        is_refused(
+            &rt,
+            rt.alloc(),
+            words,
+            2,
+            only("rdfconv: bad node prefix\n"),
+        )?;
     }
     Ok(())
 }
@@ -271,8 +293,12 @@ fn help_is_written_to_the_output(rt: HostRuntime) -> Result<(), Fail> {
         &["rdfconv", "-h"],
         &["rdfconv", "help"],
     ];
+    let help = Printed {
+        written: HELP,
+        reported: "",
+    };
     for words in rows {
-        is_refused(&rt, words, 0, HELP, "")?;
+        is_refused(&rt, rt.alloc(), words, 0, help)?;
     }
     for (name, first, options) in COMMANDS {
         let text = format!(in rt.alloc(); "{first}{options}{COMMAND_NOTES}")?;
@@ -282,7 +308,11 @@ fn help_is_written_to_the_output(rt: HostRuntime) -> Result<(), Fail> {
             &["rdfconv", "help", name],
         ];
         for words in rows {
-            is_refused(&rt, words, 0, text.as_str(), "")?;
+            let help = Printed {
+                written: text.as_str(),
+                reported: "",
+            };
+            is_refused(&rt, rt.alloc(), words, 0, help)?;
         }
     }
     Ok(())
@@ -331,7 +361,7 @@ fn a_long_command_line_is_taken(rt: HostRuntime) -> Result<(), Fail> {
     let message = format!(in alloc;
         "error: unexpected argument '{base}' found\n\nUsage: rdfconv show [OPTIONS] [FILE]\n\nFor more information, try '--help'.\n"
     )?;
-    is_refused(&rt, &many, 2, "", message.as_str())
+    is_refused(&rt, alloc, &many, 2, only(message.as_str()))
 }
 
 #[test]
