@@ -75,26 +75,18 @@ GRAPH _:g { [ :p :o ] a :c . }\n[] { :s :p \"\"\"a\"b\"\"\" }\nBASE <http://h/b>
 /// More growths than any of these runs asks for.
 const MOST: u64 = 5000;
 
-/// A task that is tried over a document: what is asked for, and where the document is cut.
-#[derive(Clone, Copy)]
-struct Trial<'a> {
+/// What a run does where memory and devices do not fail, with the document cut there.
+fn whole_run(
+    rt: &impl Abort,
+    alloc: Global,
     task: Task,
-    asked: Asked,
-    document: &'a str,
+    asked: &Asked,
+    document: &str,
     cut: usize,
-}
-
-/// What a run does where memory and devices do not fail.
-fn whole_run(rt: &impl Abort, alloc: Global, trial: Trial<'_>) -> Result<Run, Fail> {
-    let Trial {
-        task,
-        asked,
-        document,
-        cut,
-    } = trial;
+) -> Result<Run, Fail> {
     let mut source = cut_at(document.as_bytes(), cut);
     let mut drain = ample_drain(alloc);
-    let result = run(alloc, task, &asked, &mut source, &mut drain);
+    let result = run(alloc, task, asked, &mut source, &mut drain);
     assert!(rt;
         !matches!(result, Err(StreamFault::Memory)),
         "{task:?} of {document}"
@@ -103,19 +95,20 @@ fn whole_run(rt: &impl Abort, alloc: Global, trial: Trial<'_>) -> Result<Run, Fa
 }
 
 /// Whichever of the growths is refused, a run ends for want of memory after whole lines of a beginning of what it writes where none is.
-fn ends_where_memory_does(rt: &impl Abort, alloc: Global, trial: Trial<'_>) -> Result<(), Fail> {
-    let whole = whole_run(rt, alloc, trial)?;
-    let Trial {
-        task,
-        asked,
-        document,
-        cut,
-    } = trial;
+fn ends_where_memory_does(
+    rt: &impl Abort,
+    alloc: Global,
+    task: Task,
+    asked: &Asked,
+    document: &str,
+    cut: usize,
+) -> Result<(), Fail> {
+    let whole = whole_run(rt, alloc, task, asked, document, cut)?;
     for calls in 0..MOST {
         let memory = Refusing::after(alloc, calls);
         let mut source = cut_at(document.as_bytes(), cut);
         let mut drain = ample_drain(alloc);
-        let result = run(&memory, task, &asked, &mut source, &mut drain);
+        let result = run(&memory, task, asked, &mut source, &mut drain);
         if !memory.has_refused() {
             is_same(rt, &ended(alloc, result, drain)?, &whole);
             return Ok(());
@@ -141,19 +134,15 @@ fn is_same(rt: &impl Abort, run: &Run, whole: &Run) {
 fn ends_where_its_source_does(
     rt: &impl Abort,
     alloc: Global,
-    trial: Trial<'_>,
+    task: Task,
+    asked: &Asked,
+    document: &str,
 ) -> Result<(), Fail> {
-    let whole = whole_run(rt, alloc, trial)?;
-    let Trial {
-        task,
-        asked,
-        document,
-        ..
-    } = trial;
+    let whole = whole_run(rt, alloc, task, asked, document, 0)?;
     for calls in 0..MOST {
         let mut source = failing_source(document, calls);
         let mut drain = ample_drain(alloc);
-        let result = run(alloc, task, &asked, &mut source, &mut drain);
+        let result = run(alloc, task, asked, &mut source, &mut drain);
         if !source.failed() {
             is_same(rt, &ended(alloc, result, drain)?, &whole);
             return Ok(());
@@ -170,18 +159,18 @@ fn ends_where_its_source_does(
 }
 
 /// Whichever put fails, of one byte each, or the flush, a run ends for it after the bytes that were taken before.
-fn ends_where_its_drain_does(rt: &impl Abort, alloc: Global, trial: Trial<'_>) -> Result<(), Fail> {
-    let whole = whole_run(rt, alloc, trial)?;
-    let Trial {
-        task,
-        asked,
-        document,
-        ..
-    } = trial;
+fn ends_where_its_drain_does(
+    rt: &impl Abort,
+    alloc: Global,
+    task: Task,
+    asked: &Asked,
+    document: &str,
+) -> Result<(), Fail> {
+    let whole = whole_run(rt, alloc, task, asked, document, document.len())?;
     for calls in 0..MOST {
         let mut source = cut_at(document.as_bytes(), document.len());
         let mut drain = failing_drain(alloc, calls);
-        let result = run(alloc, task, &asked, &mut source, &mut drain);
+        let result = run(alloc, task, asked, &mut source, &mut drain);
         if !drain.failed() {
             is_same(rt, &ended(alloc, result, drain)?, &whole);
             return Ok(());
@@ -202,20 +191,8 @@ fn whichever_call_of_a_device_fails_the_run_ends_there(rt: HostRuntime) -> Resul
         let limits = Limits::new(1000, depth, 9, 1000).ok_or("limits")?;
         let asked = Asked::within(form, limits);
         for task in [Task::Convert, Task::Check, Task::Show] {
-            let by_bytes = Trial {
-                task,
-                asked,
-                document,
-                cut: 0,
-            };
-            ends_where_its_source_does(&rt, rt.alloc(), by_bytes)?;
-            let at_once = Trial {
-                task,
-                asked,
-                document,
-                cut: document.len(),
-            };
-            ends_where_its_drain_does(&rt, rt.alloc(), at_once)?;
+            ends_where_its_source_does(&rt, rt.alloc(), task, &asked, document)?;
+            ends_where_its_drain_does(&rt, rt.alloc(), task, &asked, document)?;
         }
     }
     Ok(())
@@ -266,13 +243,7 @@ fn whichever_growth_is_refused_memory_is_reported(rt: HostRuntime) -> Result<(),
         let asked = Asked::within(form, limits);
         for task in [Task::Convert, Task::Check, Task::Show] {
             for cut in [0, document.len()] {
-                let trial = Trial {
-                    task,
-                    asked,
-                    document,
-                    cut,
-                };
-                ends_where_memory_does(&rt, rt.alloc(), trial)?;
+                ends_where_memory_does(&rt, rt.alloc(), task, &asked, document, cut)?;
             }
         }
     }
@@ -294,14 +265,7 @@ fn long_tokens_and_deep_brackets_end_where_memory_does(rt: HostRuntime) -> Resul
     ] {
         for task in [Task::Convert, Task::Check, Task::Show] {
             let asked = Asked::of(form);
-            let cut = document.len();
-            let trial = Trial {
-                task,
-                asked,
-                document,
-                cut,
-            };
-            ends_where_memory_does(&rt, rt.alloc(), trial)?;
+            ends_where_memory_does(&rt, rt.alloc(), task, &asked, document, document.len())?;
         }
     }
     Ok(())
