@@ -1,6 +1,6 @@
 // IRIs that own their texts.
 
-ghost use Rattle.std.specs.Prelude.{◌≡◌, ◌↔◌, IfOk, OnOk, Err, true};
+ghost use Rattle.std.specs.Prelude.{◌≡◌, ◌↔◌, ◌++◌, IfOk, OnOk, OnErr, Err, true};
 ghost use Rattle.std.specs.Str.{chars};
 ghost use Rattle.std.specs.String.{string_bytes};
 ghost use Rattle.rdf_terms.specs.Terms.{IsIri};
@@ -61,6 +61,15 @@ impl<A: Allocator> Iri<A> {
         ensures is_iri { IsIri self.now }
     {
         self.text.as_str()
+    }
+
+    /// Appends characters to the IRI, in its own memory where that has room.
+    pub fn push_str(&mut self, text: &str) -> Result<(), AllocError>
+        requires { IsIri (self.old ++ chars text.now) }
+        ensures appended { OnOk result (self.new ≡ self.old ++ chars text.now) }
+        ensures unchanged { OnErr result (self.new ≡ self.old) }
+    {
+        self.text.push_str(text)
     }
 
     /// The IRI, borrowed.
