@@ -254,7 +254,7 @@ step-fits s c w e =
     (first-fits RuleD (RuleE ∷ []) s (by_D s) (by_E s) (fits_D s.input) (λ t r. (D-only s t r).0) (D-fits s) l)))
 
 -- a step shortens the input
-length-from : (c : ℕ) (w : List ℕ) → length (from c w) ≤ length w
+pub length-from : (c : ℕ) (w : List ℕ) → length (from c w) ≤ length w
 length-from c [] = omega arith
 length-from c (d ∷ w) =
     ⊎_elim

@@ -8,10 +8,12 @@ pub mod CutPlaces
 pub mod Written
 pub mod Encoded
 pub mod RulesLemmas
+pub mod DirectoryLemmas
 pub mod InPlace
 pub mod Slices
 pub mod ResolvedText
 pub mod ScopeLemmas
+pub mod BaseLemmas
 pub mod HeldLemmas
 pub mod BindingLemmas
 pub mod BindingSteps

@@ -23,7 +23,7 @@ not_B : (s : Walk) → fits_A s.input ≡ false → fits_B s.input ≡ false →
 not_B s a h = not_A s a ∙ cond-false (fits_B s.input) (by_B s) (step_C s) h
 
 -- where C does not fit either, those after it
-not_C : (s : Walk) → fits_A s.input ≡ false → fits_B s.input ≡ false → fits_C s.input ≡ false → step s ≡ step_D s
+pub not_C : (s : Walk) → fits_A s.input ≡ false → fits_B s.input ≡ false → fits_C s.input ≡ false → step s ≡ step_D s
 not_C s a b h = not_B s a b ∙ cond-false (fits_C s.input) (by_C s) (step_D s) h
 
 -- at "../" three bytes are dropped

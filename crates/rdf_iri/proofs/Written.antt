@@ -72,7 +72,7 @@ with_merged_path b r (c ∷ w) e f n =
     ∙ ap (λ x. record { scheme = b.scheme; authority = b.authority; path = remove_dots x; query = r.query; fragment = r.fragment }) (joined_pieces b c w)))
 
 -- the parts in hand are those of the texts
-no_items : (w : List ℕ) → length w ≡ 0 → w ≡ []
+pub no_items : (w : List ℕ) → length w ≡ 0 → w ≡ []
 no_items [] e = refl
 no_items (c ∷ w) e = absurd (omega arith)
 

@@ -12,6 +12,7 @@ pub mod Cuts
 pub mod Parts
 pub mod Dots
 pub mod Resolve
+pub mod Directory
 pub mod Seen
 pub mod Rules
 pub mod BindingSteps

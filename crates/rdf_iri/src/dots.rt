@@ -3,6 +3,7 @@
 ghost use Rattle.std.specs.Prelude.{◌≡◌, ◌≤◌, ◌<◌, ℕ, List, length, take};
 ghost use Rattle.rdf_iri.specs.Dots.{walk, step, fits_D, remove_dots as dots_removed};
 ghost use Rattle.rdf_iri.specs.Rules.{effect, TakesSome};
+ghost use Rattle.rdf_iri.specs.Directory.{has_dots};
 
 use crate::places::{begins_with, bytes_before, is_equal, parent_len};
 
@@ -75,4 +76,21 @@ pub(crate) fn remove_dots(path: &mut [u8]) -> usize
         }
     }
     write
+}
+
+/// Whether a segment of the path is `.` or `..`.
+pub(crate) fn has_dots(path: &[u8]) -> bool
+    ensures { result ≡ has_dots path.now }
+{
+    let mut rest = path;
+    loop {
+        let (segment, after) = rest.split_at(bytes_before(rest, b'/'));
+        if is_dots(segment) {
+            return true;
+        }
+        match after.split_first() {
+            Some((_, next)) => rest = next,
+            None => return false,
+        }
+    }
 }

@@ -1,6 +1,7 @@
 //! References of RFC 3986, the scope of a document (a base and prefixes), and the limits that every reader keeps.
 #![tactic(auto)]
 
+mod base;
 mod bindings;
 mod dots;
 mod fault;

@@ -8,6 +8,7 @@ ghost use Rattle.rdf_iri.specs.Texts.{IsIriText, byte_len};
 ghost use Rattle.rdf_iri.specs.Seen.{text_of};
 ghost use Rattle.rdf_iri.specs.Scope.{BaseFits, bound_to, ResolvesHere, UnresolvedHere, IsBased, IsBound, NotBound, HasRoom, IsFull, ExpandsHere, NotExpanded, NotJoined, base_bytes, bytes_held, most_bytes_held};
 
+use crate::base::Base;
 use crate::bindings::Bindings;
 use crate::fault::IriFault;
 use crate::limits::Limits;
@@ -21,7 +22,7 @@ use std::marker::Model;
 #[derive(Drop)]
 pub struct Scope<A: Allocator = Global> {
     alloc: A,
-    base: Option<Iri<A>>,
+    base: Option<Base<A>>,
     limits: Limits,
     names: BTreeMap<String<A>, Iri<A>, A>,
 }
@@ -42,6 +43,10 @@ impl<A: Allocator + Copy> Scope<A> {
         requires { BaseFits base limits }
         ensures { result ≡ record { base = base; bindings = []; limits = limits } }
     {
+        let base = match base {
+            Some(iri) => Some(Base::of_iri(iri)),
+            None => None,
+        };
         Scope {
             alloc,
             base,
@@ -73,6 +78,16 @@ impl<A: Allocator + Copy> Scope<A> {
         self.limits
     }
 
+    /// The base in force, or none.
+    fn base(&self) -> Option<&Iri<A>>
+        ensures { text_of result ≡ self.now.base }
+    {
+        match &self.base {
+            Some(base) => Some(base.iri()),
+            None => None,
+        }
+    }
+
     /// The prefixes that are bound, and their IRIs.
     pub(crate) fn into_bindings(self) -> Bindings<A>
         requires { (prefix iri : List ℕ) → bound_to self.bindings prefix ≡ Some iri → IsIri iri }
@@ -90,7 +105,7 @@ impl<A: Allocator + Copy> Scope<A> {
         ensures resolved { IfOk result (ResolvesHere self.now (chars reference.now)) }
         ensures refused { IfErr result (UnresolvedHere self.now (chars reference.now)) }
     {
-        resolve(self.alloc, self.base.as_ref(), reference, self.limits.iri())
+        resolve(self.alloc, self.base(), reference, self.limits.iri())
     }
 
     /// Puts the IRI of a reference, against the base in force, in its place. After an error nothing is known of the text.
@@ -100,18 +115,32 @@ impl<A: Allocator + Copy> Scope<A> {
         ensures is_iri { OnOk result (IsIri (chars (string_bytes text.new))) }
         ensures refused { IfErr result (UnresolvedHere self.now (chars (string_bytes text.old))) }
     {
-        resolve_in_place(self.alloc, self.base.as_ref(), text, self.limits.iri())
+        resolve_in_place(self.alloc, self.base(), text, self.limits.iri())
     }
 
-    /// Takes the IRI of a reference as the base.
+    /// Takes the IRI of a reference as the base. Where that is the base with the reference after it, it costs no more than
+    /// the reference is long.
     pub fn set_base(&mut self, reference: &str) -> Result<(), IriFault>
         requires { IsIriText (chars reference.now) }
         ensures based { OnOk result (IsBased self.old (chars reference.now) self.new) }
         ensures refused { IfErr result (UnresolvedHere self.old (chars reference.now)) }
         ensures unchanged { OnErr result (self.new ≡ self.old) }
     {
-        let base = self.resolve_here(reference)?;
-        self.base = Some(base);
+        let limit = self.limits.iri();
+        match &mut self.base {
+            Some(base) if base.grows_by(reference) => base.grow(reference, limit),
+            _ => self.replace_base(reference),
+        }
+    }
+
+    fn replace_base(&mut self, reference: &str) -> Result<(), IriFault>
+        requires { IsIriText (chars reference.now) }
+        ensures based { OnOk result (IsBased self.old (chars reference.now) self.new) }
+        ensures refused { IfErr result (UnresolvedHere self.old (chars reference.now)) }
+        ensures unchanged { OnErr result (self.new ≡ self.old) }
+    {
+        let iri = self.resolve_here(reference)?;
+        self.base = Some(Base::of_iri(iri));
         Ok(())
     }
 
@@ -175,7 +204,7 @@ impl<A: Allocator + Copy> Scope<A> {
         ensures most { result ≤ most_bytes_held self.now.limits }
     {
         self.limits.are_in_range();
-        let mut held = base_len(self.base.as_ref());
+        let mut held = base_len(self.base());
         for (prefix, iri) in self.names.iter() {
             held += prefix.len() as u64 + iri_len(iri);
         }

@@ -1,8 +1,7 @@
 -- What is counted, and what is left to count, are all bytes.
-use Rattle.std.proofs.Common.{◌≡◌, ◌+◌, ◌≤◌, ◌<◌, ◌∙◌, ap, subst, arith}
+use Rattle.std.proofs.Common.{◌≡◌, ◌+◌, ◌≤◌, ◌<◌, ◌∙◌, ap, sym, subst, arith}
 use Rattle.std.specs.List.{sum_by}
 use Rattle.rdf_iri.specs.Scope.{InForce, base_bytes, bytes_held, most_bytes_held}
-use Rattle.rdf_iri.proofs.ScopeLemmas.{copied_text}
 use Rattle.rdf_iri.proofs.HeldLemmas.{entry_bytes, sum-cons, sum-entries_of, sum_within, base_within, most_fits}
 use Rattle.rdf_iri.proofs.scope.Scope.held.Given.{Over}
 use Rattle.rdf_iri.proofs.scope.Scope.held.Goals as goal
@@ -11,7 +10,7 @@ pub loop-prefix-init : goal.loop-prefix-init
 loop-prefix-init g c =
     let m = c.self.inside.names in
     let l = c.self.inside.limits in
-    let base = c.base_len-held.ensures ∙ ap base_bytes (copied_text c.as_ref.result ∙ c.as_ref.ensures.value) in
+    let base = c.base_len-held.ensures ∙ ap base_bytes (c.base.ensures ∙ ap (λ (s : InForce). s.base) (sym c.self.view_is)) in
     let rest = ap (sum_by entry_bytes) (c.into_iter-prefix-iterator.ensures.into_iter_gives ∙ c.iter-prefix-items.ensures.rest) in
     let same = sum-entries_of m.entries in
     let all = sum_within m c.self.inside.base l c.self.invariant c.iter-prefix-items.ensures.found in
