@@ -37,6 +37,7 @@ impl<A: Allocator> Model for Base<A> {
 }
 
 impl<A: Allocator> Base<A> {
+    /// It looks at all of the IRI, once, and takes no memory.
     pub(crate) fn of_iri(iri: Iri<A>) -> Base<A>
         ensures { result ≡ iri }
     {
@@ -76,6 +77,7 @@ impl<A: Allocator> Base<A> {
     }
 }
 
+/// Whether the text is an absolute IRI whose path ends in a slash and has no dot segments, with nothing after it.
 fn has_directory(text: &str) -> bool
     ensures { result ≡ true → HasDirectory (parts_of text.now) }
 {
@@ -91,6 +93,7 @@ fn has_directory(text: &str) -> bool
     }
 }
 
+/// Whether the text is a path alone that begins with a segment and has no dot segments.
 fn has_path(text: &str) -> bool
     ensures { result ≡ true → HasPath (parts_of text.now) }
 {

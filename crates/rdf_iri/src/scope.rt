@@ -118,8 +118,8 @@ impl<A: Allocator + Copy> Scope<A> {
         resolve_in_place(self.alloc, self.base(), text, self.limits.iri())
     }
 
-    /// Takes the IRI of a reference as the base. Where that is the base with the reference after it, it costs no more than
-    /// the reference is long.
+    /// Takes the IRI of a reference as the base. A path without dot segments is written after a base that ends in a
+    /// directory, at the cost of the path alone.
     pub fn set_base(&mut self, reference: &str) -> Result<(), IriFault>
         requires { IsIriText (chars reference.now) }
         ensures based { OnOk result (IsBased self.old (chars reference.now) self.new) }
@@ -133,6 +133,7 @@ impl<A: Allocator + Copy> Scope<A> {
         }
     }
 
+    /// Takes the IRI of a reference, resolved into a text of its own, as the base.
     fn replace_base(&mut self, reference: &str) -> Result<(), IriFault>
         requires { IsIriText (chars reference.now) }
         ensures based { OnOk result (IsBased self.old (chars reference.now) self.new) }
