@@ -327,6 +327,41 @@ fn a_refused_call_changes_nothing(rt: HostRuntime) {
     assert_eq!(rt; answered(&mut scope, REFUSED.as_slice()), 9);
 }
 
+/// A base that grows by paths, and references that cannot be written after it.
+static GROWING: [(Call, Answer); 24] = [
+    (Call::SetBase("http://a"), Ok("")),
+    (Call::SetBase("b/"), Ok("")),
+    (Call::Resolve(""), Ok("http://a/b/")),
+    (Call::SetBase("c/é/"), Ok("")),
+    (Call::Resolve(""), Ok("http://a/b/c/é/")),
+    (Call::SetBase("d/../"), Ok("")),
+    (Call::Resolve(""), Ok("http://a/b/c/é/")),
+    (Call::SetBase("d"), Ok("")),
+    (Call::SetBase("e/"), Ok("")),
+    (Call::Resolve(""), Ok("http://a/b/c/é/e/")),
+    (Call::SetBase("/f/"), Ok("")),
+    (Call::SetBase("g?h/"), Ok("")),
+    (Call::SetBase("i/"), Ok("")),
+    (Call::Resolve(""), Ok("http://a/f/i/")),
+    (Call::SetBase("jjjjjjj/"), Err(IriFault::IriTooLong)),
+    (Call::Resolve(""), Ok("http://a/f/i/")),
+    (Call::SetBase("jjjjjj/"), Ok("")),
+    (Call::Resolve(""), Ok("http://a/f/i/jjjjjj/")),
+    (Call::SetBase("//k/"), Ok("")),
+    (Call::SetBase("l/"), Ok("")),
+    (Call::Resolve(""), Ok("http://k/l/")),
+    (Call::SetBase("m:./"), Ok("")),
+    (Call::SetBase("n/"), Ok("")),
+    (Call::Resolve(""), Ok("m:n/")),
+];
+
+#[test]
+fn a_base_that_grows(rt: HostRuntime) {
+    let limits = Limits::new(1, 0, 2, 20).unwrap_or_default();
+    let mut scope = Scope::new(rt.alloc(), None, limits);
+    assert_eq!(rt; answered(&mut scope, GROWING.as_slice()), 24);
+}
+
 /// Limits on tokens, bindings and IRIs, a file, and why it has no bindings, and at which line, if it has none.
 type File = (u64, u64, u64, &'static [u8], Option<(BindingReason, u64)>);
 

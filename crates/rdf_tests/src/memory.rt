@@ -235,6 +235,7 @@ fn use_a_scope<A: Allocator + Copy>(alloc: A) -> Result<(), Stop> {
     bind(&mut scope, "x", "../d/")?;
     bind(&mut scope, "", "e?q#f")?;
     set_base(&mut scope, "../g/")?;
+    set_base(&mut scope, "i/j/k/l/m/n/o/p/")?;
     bind(&mut scope, "x", "#h")?;
     for reference in ["s", "http://a/s"] {
         use_names(&scope, reference)?;
