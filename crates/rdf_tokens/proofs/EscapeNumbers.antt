@@ -36,11 +36,11 @@ hex-other : (c : ℕ) → is_hex c ≡ true → (c == 68 || c == 100) ≡ false 
 hex-other c h d = grind (arith, nat_tests)
 
 -- none but 0 counts 0
-hex-some : (c : ℕ) → is_hex c ≡ true → (c == 48) ≡ false → 1 ≤ hex_value c
+pub hex-some : (c : ℕ) → is_hex c ≡ true → (c == 48) ≡ false → 1 ≤ hex_value c
 hex-some c h d = grind (arith, nat_tests)
 
 -- what four digits write
-abbrev four : ℕ → ℕ → ℕ → ℕ → ℕ
+abbrev pub four : ℕ → ℕ → ℕ → ℕ → ℕ
 four a b c d = hex_value a * 4096 + (hex_value b * 256 + (hex_value c * 16 + (hex_value d * 1 + 0)))
 
 -- it is no surrogate where the first two are not those of one
@@ -68,7 +68,7 @@ not_true true e = absurd (false≢true e)
 not_true false e = refl
 
 -- what eight digits write
-abbrev eight : ℕ → ℕ → ℕ → ℕ → ℕ → ℕ
+abbrev pub eight : ℕ → ℕ → ℕ → ℕ → ℕ → ℕ
 eight a b c d n = hex_value a * 268435456 + (hex_value b * 16777216 + (hex_value c * 1048576 + (hex_value d * 65536 + n)))
 
 -- it is that of a character where the first four number a plane after the first
