@@ -1,36 +1,15 @@
 -- The character that an escape writes may stand in an IRI, by a test of its digits.
-use Rattle.std.proofs.Common.{◌≡◌, ℕ, suc, ◌+◌, ◌-◌, ◌*◌, ◌^◌, ◌≤◌, true, not, ◌&&◌, ◌||◌, ◌==◌, ◌⊎◌, List, get_or, take, drop, refl, sym, ap, ◌∙◌, subst, arith, ⊎_elim, length, length-drop}
+use Rattle.std.proofs.Common.{◌≡◌, ℕ, ◌+◌, ◌-◌, ◌*◌, ◌≤◌, true, not, ◌&&◌, ◌||◌, ◌==◌, ◌⊎◌, List, get_or, take, drop, sym, ap, ◌∙◌, subst, arith, ⊎_elim}
 use Rattle.std.specs.Prelude.{slice_range}
 use Rattle.std.proofs.lemmas.Bool.{cases_Bool, eqb-true}
-use Rattle.std.proofs.lemmas.List.{drop_more, length-take-le}
 use Rattle.rdf_terms.specs.Classes.{has, scalar}
 use Rattle.rdf_terms.specs.Classes.Class.{iri_char}
 use Rattle.rdf_terms.specs.Pieces.{MayMean, of_iri, hex_number, hex_value}
 use Rattle.rdf_terms.proofs.ValueBytes.{high_stands}
 use Rattle.rdf_tokens.specs.Escapes.{is_hex, is_iri_four, writes_iri_char, IsNumber}
-use Rattle.rdf_tokens.proofs.EscapeNumbers.{eight, four, hex-some}
+use Rattle.rdf_tokens.proofs.EscapeNumbers.{eight-at, four, four-at, hex-some}
 
--- the first of some hex digits, and those after it
-first_digit : (bs : List ℕ) (from next n worth : ℕ) → from + suc n ≤ length bs → next ≡ from + 1 → 16 ^ n ≡ worth →
-    hex_number (take (suc n) (drop from bs)) ≡ hex_value (get_or bs from 0) * worth + hex_number (take n (drop next bs))
-first_digit bs from next n worth l e w =
-    let b = get_or bs from 0 in
-    let rest = take n (drop (from + 1) bs) in
-    let long : length rest ≡ n = length-take-le n (drop (from + 1) bs) (omega (arith, length-drop (from + 1) bs)) in
-    ap (λ x. hex_number (take (suc n) x)) (drop_more bs from 0 (omega arith))
-    ∙ (ap (λ k. hex_value b * 16 ^ k + hex_number rest) long
-    ∙ (ap (λ k. hex_value b * k + hex_number rest) w ∙ ap (λ j. hex_value b * worth + hex_number (take n (drop j bs))) (sym e)))
-
--- what four digits at a place write
-four-at : (bs : List ℕ) (from : ℕ) → from + 4 ≤ length bs →
-    hex_number (take 4 (drop from bs)) ≡ four (get_or bs from 0) (get_or bs (from + 1) 0) (get_or bs (from + 2) 0) (get_or bs (from + 3) 0)
-four-at bs from l =
-    first_digit bs from (from + 1) 3 4096 l refl refl
-    ∙ (ap (λ k. hex_value (get_or bs from 0) * 4096 + k) (first_digit bs (from + 1) (from + 2) 2 256 (omega arith) (omega arith) refl
-    ∙ (ap (λ k. hex_value (get_or bs (from + 1) 0) * 256 + k) (first_digit bs (from + 2) (from + 3) 1 16 (omega arith) (omega arith) refl
-    ∙ (ap (λ k. hex_value (get_or bs (from + 2) 0) * 16 + k) (first_digit bs (from + 3) (from + 4) 0 1 (omega arith) (omega arith) refl))))))
-
--- a number that is not of ASCII, or that four digits write which pass the test
+-- what four digits write that pass the test
 allowed : (n a b c d : ℕ) → is_hex a ≡ true → is_hex b ≡ true → scalar n ≡ true → n ≡ four a b c d →
     (not (a == 48) || (not (b == 48) || has iri_char (16 * hex_value c + hex_value d))) ≡ true → has iri_char n ≡ true
 allowed n a b c d p q s m t = ⊎_elim
@@ -44,11 +23,11 @@ allowed n a b c d p q s m t = ⊎_elim
     (λ x. high_stands of_iri n (omega (arith, m, hex-some a p x)) s)
     (cases_Bool (a == 48))
 
--- what is no character past 10FFFF
+-- no character has a number past 10FFFF
 scalar-most : (n : ℕ) → scalar n ≡ true → n ≤ 0x10FFFF
 scalar-most n s = grind (arith)
 
--- four digits
+-- by four digits at a place a character of IRIs is written
 four_allowed : (bs : List ℕ) (from end : ℕ) → IsNumber bs from 4 end → is_iri_four bs (end - 4) ≡ true → has iri_char (hex_number (take 4 (drop from bs))) ≡ true
 four_allowed bs from end n t =
     let e = n.hexes.ends in
@@ -58,16 +37,7 @@ four_allowed bs from end n t =
     allowed (hex_number (take 4 (drop from bs))) (get_or bs from 0) (get_or bs (from + 1) 0) (get_or bs (from + 2) 0) (get_or bs (from + 3) 0)
     (hex from (omega arith) (omega arith)) (hex (from + 1) (omega arith) (omega arith)) n.character (four-at bs from (omega arith)) (subst (λ k. is_iri_four bs k ≡ true) at t)
 
--- what eight digits at a place write, by the last four of them
-eight-at : (bs : List ℕ) (from : ℕ) → from + 8 ≤ length bs →
-    hex_number (take 8 (drop from bs)) ≡ eight (get_or bs from 0) (get_or bs (from + 1) 0) (get_or bs (from + 2) 0) (get_or bs (from + 3) 0) (hex_number (take 4 (drop (from + 4) bs)))
-eight-at bs from l =
-    first_digit bs from (from + 1) 7 268435456 l refl refl
-    ∙ (ap (λ k. hex_value (get_or bs from 0) * 268435456 + k) (first_digit bs (from + 1) (from + 2) 6 16777216 (omega arith) (omega arith) refl
-    ∙ (ap (λ k. hex_value (get_or bs (from + 1) 0) * 16777216 + k) (first_digit bs (from + 2) (from + 3) 5 1048576 (omega arith) (omega arith) refl
-    ∙ (ap (λ k. hex_value (get_or bs (from + 2) 0) * 1048576 + k) (first_digit bs (from + 3) (from + 4) 4 65536 (omega arith) (omega arith) refl))))))
-
--- eight digits
+-- and by eight
 eight_allowed : (bs : List ℕ) (from end : ℕ) → IsNumber bs from 8 end →
     ((not (get_or bs (from + 2) 0 == 48) || not (get_or bs (from + 3) 0 == 48)) || is_iri_four bs (end - 4)) ≡ true → has iri_char (hex_number (take 8 (drop from bs))) ≡ true
 eight_allowed bs from end n t =
