@@ -119,7 +119,7 @@ fn keep(walk: &mut Option<Walk>, text: &str, more: bool, shaped: &Shaped)
     }
 }
 
-/// How far the states come in a token that goes on at this place, where they have come to this one and found no shorter token.
+/// How far the states come in a token that goes on at this place, by the state there. No shorter token stands before it.
 pub(crate) fn walk_to(dialect: Dialect, state: State, text: &str, at: usize) -> Walk
     requires enough { 3 ≤ at }
     requires reached { Reached dialect text.now at state None }
