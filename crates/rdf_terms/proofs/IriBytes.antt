@@ -13,7 +13,7 @@ use Rattle.rdf_terms.specs.Classes.Class.{iri_char}
 use Rattle.rdf_terms.specs.Terms.{all_have}
 
 -- IRIREF excludes no character from U+0080 on
-high_char : (c : ℕ) → 128 ≤ c → member iri_char c ≡ true
+pub high_char : (c : ℕ) → 128 ≤ c → member iri_char c ≡ true
 high_char c l = grind (arith, nat_tests)
 
 -- so no byte of such a character is excluded
@@ -60,7 +60,7 @@ have-append test (c ∷ u) v = ap (λ t. test c && t) (have-append test u v) ∙
     assoc false b c = refl
 
 -- what std calls a character is one here
-scalar_same : (c : ℕ) → scalars (c ∷ []) ≡ true → scalar c ≡ true
+pub scalar_same : (c : ℕ) → scalars (c ∷ []) ≡ true → scalar c ≡ true
 scalar_same c e = grind (arith, nat_tests)
 
 -- so a text may be tested by its bytes

@@ -1,15 +1,11 @@
--- Tokens whose bytes tell that they are fit: of an IRI without an escape each means itself, and those of a string have a value.
-use Rattle.std.proofs.Common.{◌≡◌, ℕ, zero, suc, ◌+◌, ◌-◌, ◌<◌, true, List, [], ◌∷◌, ◌++◌, is_some, sym, ap, ◌∙◌, length, get_or, take, length-append, arith}
+-- Tokens whose bytes tell that they are fit: those between the delimiters have a value.
+use Rattle.std.proofs.Common.{◌≡◌, ℕ, zero, suc, ◌+◌, ◌-◌, ◌<◌, true, List, [], ◌∷◌, ◌++◌, is_some, sym, ap, ◌∙◌, length, get_or, take, slice_range, length-append, arith}
 use Rattle.std.specs.Str.{chars, IsUtf8, IsAscii}
 use Rattle.std.proofs.Math.Seq.{take-suc, take-append_seam}
-use Rattle.std.proofs.lemmas.List.{append-nil}
 use Rattle.std.proofs.lemmas.Str.{chars-append, chars-IsAscii, encode_ascii, IsCharBoundary-before_ascii, IsUtf8-from_ascii, IsUtf8-take}
 use Rattle.rdf_terms.specs.declared.kind.Kind.TheVariants.{IriRef, ShortString}
-use Rattle.rdf_terms.specs.Runs.{PassBetween, goes_over, iri_byte}
-use Rattle.rdf_terms.specs.Values.{Inside, of_iri, outside, inside, is_fit, string_value, value}
-use Rattle.rdf_terms.specs.Escapes.{run_of}
+use Rattle.rdf_terms.specs.Values.{Inside, of_iri, of_string, outside, inside, is_fit, iri_value, string_value, value}
 use Rattle.rdf_terms.proofs.CharsLemmas.{next_char}
-use Rattle.rdf_terms.proofs.EscapesLemmas.{run_stands, slice_passes, value_stands}
 use Rattle.rdf_terms.proofs.ValueBytes.{value-bytes}
 
 -- one byte of ASCII is a text
@@ -43,25 +39,26 @@ between x t n u l m h =
       inside = ap (inside 1) text ∙ (ap (λ k. take k (chars r ++ y ∷ [])) long ∙ take-append_seam (chars r) (y ∷ []));
     }
 
--- A text within two delimiters of ASCII, all of whose bytes stand as they are, has a value.
-plain_value : (i : Inside) (x : ℕ) (t : List ℕ) (n : ℕ) → IsUtf8 (x ∷ t) → x < 128 → n < length t → get_or t n 0 < 128 → PassBetween (goes_over (run_of i)) t 0 n →
-    is_some (value i outside (inside 1 (chars (take (n + 2) (x ∷ t))))) ≡ true
-plain_value i x t n u l m h pass =
-    let b = between x t n u l m h in
-    let v = chars (take n t) in
-    let stand = run_stands i (take n t) b.utf8 (slice_passes (goes_over (run_of i)) t 0 n (omega arith) (λ k a b. pass k a (omega arith))) in
-    ap (λ w. is_some (value i outside w)) (b.inside ∙ sym (append-nil v))
-    ∙ ap is_some (value_stands i v [] stand)
+-- A text within two delimiters of ASCII has a value if its bytes have one.
+valued : (i : Inside) (bs : List ℕ) (end : ℕ) → IsUtf8 bs → 0 < end → end < length bs → get_or bs 0 0 < 128 → get_or bs end 0 < 128 →
+    is_some (value i outside (slice_range bs 1 end)) ≡ true → is_some (value i outside (inside 1 (chars (take (end + 1) bs)))) ≡ true
+valued i [] end u p l m h v = absurd (omega arith)
+valued i (x ∷ t) zero u p l m h v = absurd (omega arith)
+valued i (x ∷ t) (suc n) u p l m h v =
+    let b = between x t n u m (omega arith) h in
+    let whole : suc n + 1 ≡ n + 2 = omega arith in
+    let long : n ≡ suc n - 1 = omega arith in
+    ap (λ k. is_some (value i outside (inside 1 (chars (take k (x ∷ t)))))) whole
+    ∙ (ap (λ w. is_some (value i outside w)) b.inside ∙ (sym (value-bytes i (take n t) b.utf8) ∙ (ap (λ k. is_some (value i outside (take k t))) long ∙ v)))
 
--- an IRIREF without an escape is fit
-pub plain_iri_fit : (x : ℕ) (t : List ℕ) (n : ℕ) → IsUtf8 (x ∷ t) → x < 128 → n < length t → get_or t n 0 < 128 → PassBetween iri_byte t 0 n →
-    is_fit IriRef (chars (take (n + 2) (x ∷ t))) ≡ true
+-- an IRIREF is fit if its bytes between the brackets have a value
+pub valued_iri_fit : (bs : List ℕ) (end : ℕ) → IsUtf8 bs → 0 < end → end < length bs → get_or bs 0 0 < 128 → get_or bs end 0 < 128 →
+    is_some (iri_value (slice_range bs 1 end)) ≡ true → is_fit IriRef (chars (take (end + 1) bs)) ≡ true
 unfolding is_fit
-plain_iri_fit x t n u l m h pass = plain_value of_iri x t n u l m h pass
+valued_iri_fit bs end u p l m h v = valued of_iri bs end u p l m h v
 
 -- a string is fit if its bytes between the quotes have a value
-pub valued_string_fit : (x : ℕ) (t : List ℕ) (n : ℕ) → IsUtf8 (x ∷ t) → x < 128 → n < length t → get_or t n 0 < 128 → is_some (string_value (take n t)) ≡ true →
-    is_fit ShortString (chars (take (n + 2) (x ∷ t))) ≡ true
+pub valued_string_fit : (bs : List ℕ) (end : ℕ) → IsUtf8 bs → 0 < end → end < length bs → get_or bs 0 0 < 128 → get_or bs end 0 < 128 →
+    is_some (string_value (slice_range bs 1 end)) ≡ true → is_fit ShortString (chars (take (end + 1) bs)) ≡ true
 unfolding is_fit
-valued_string_fit x t n u l m h v =
-    let b = between x t n u l m h in ap (λ w. is_some (string_value w)) b.inside ∙ (sym (value-bytes (take n t) b.utf8) ∙ v)
+valued_string_fit bs end u p l m h v = valued of_string bs end u p l m h v

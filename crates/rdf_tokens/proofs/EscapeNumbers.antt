@@ -1,8 +1,8 @@
 -- The hex digits of an escape write the number of a character, by a test of the first of them.
-use Rattle.std.proofs.Common.{◌≡◌, ℕ, ◌+◌, ◌*◌, ◌<◌, ◌≤◌, Bool, true, false, not, nat_le, ◌&&◌, ◌||◌, ◌==◌, ◌⊎◌, List, [], ◌∷◌, inl, inr, get_or, take, drop, refl, sym, ap, ◌∙◌, subst, arith, ⊎_elim, length, length-drop}
+use Rattle.std.proofs.Common.{◌≡◌, ℕ, ◌+◌, ◌*◌, ◌^◌, suc, ◌<◌, ◌≤◌, Bool, true, false, not, nat_le, ◌&&◌, ◌||◌, ◌==◌, ◌⊎◌, List, inl, inr, get_or, take, drop, refl, sym, ap, ◌∙◌, subst, arith, ⊎_elim, length, length-drop}
 use Rattle.std.proofs.lemmas.Bool.{and_parts, cases_Bool, eqb-true, leb-true, false≢true}
 use Rattle.std.proofs.lemmas.Bool.Decides.{nat_tests}
-use Rattle.std.proofs.lemmas.List.{get_or-drop, get_or-take, length-take-le}
+use Rattle.std.proofs.lemmas.List.{drop_more, length-take-le}
 use Rattle.rdf_terms.specs.Classes.{scalar}
 use Rattle.rdf_terms.specs.Pieces.{hex_number, hex_value}
 use Rattle.rdf_terms.specs.Runs.{PassBetween}
@@ -36,11 +36,11 @@ hex-other : (c : ℕ) → is_hex c ≡ true → (c == 68 || c == 100) ≡ false 
 hex-other c h d = grind (arith, nat_tests)
 
 -- none but 0 counts 0
-hex-some : (c : ℕ) → is_hex c ≡ true → (c == 48) ≡ false → 1 ≤ hex_value c
+pub hex-some : (c : ℕ) → is_hex c ≡ true → (c == 48) ≡ false → 1 ≤ hex_value c
 hex-some c h d = grind (arith, nat_tests)
 
 -- what four digits write
-abbrev four : ℕ → ℕ → ℕ → ℕ → ℕ
+abbrev pub four : ℕ → ℕ → ℕ → ℕ → ℕ
 four a b c d = hex_value a * 4096 + (hex_value b * 256 + (hex_value c * 16 + (hex_value d * 1 + 0)))
 
 -- it is no surrogate where the first two are not those of one
@@ -85,64 +85,6 @@ plane_scalar a b c d n x y h l p = ⊎_elim
     (omega (arith, ap hex_value x, ap hex_value y, one, ap hex_value (eqb-true d 48 r.1))))
     (either (c == 48 && not (d == 48)) (c == 49 && d == 48) p)
 
--- what four digits write is at most FFFF
-four-most : (a b c d : ℕ) → is_hex a ≡ true → is_hex b ≡ true → is_hex c ≡ true → is_hex d ≡ true → four a b c d ≤ 65535
-four-most a b c d p q r s = omega (arith, hex-small a p, hex-small b q, hex-small c r, hex-small d s)
-
--- what the bytes of digits tell of their number
-abbrev FourTold : List ℕ → Type 0
-FourTold w = is_surrogate (get_or w 0 0) (get_or w 1 0) ≡ false
-
-abbrev EightTold : List ℕ → Type 0
-EightTold w = (get_or w 0 0 ≡ 48) × (get_or w 1 0 ≡ 48) × ((is_plane (get_or w 2 0) (get_or w 3 0) ≡ true)
-    ⊎ ((get_or w 2 0 ≡ 48) × (get_or w 3 0 ≡ 48) × (is_surrogate (get_or w 4 0) (get_or w 5 0) ≡ false)))
-
--- four digits
-four_digits : (w : List ℕ) → length w ≡ 4 → all_have is_hex w ≡ true → FourTold w → scalar (hex_number w) ≡ true
-four_digits (a ∷ b ∷ c ∷ d ∷ []) l h t =
-    let p = and_parts (is_hex a) _ h in
-    let q = and_parts (is_hex b) _ p.1 in
-    let r = and_parts (is_hex c) _ q.1 in
-    four_scalar a b c d p.0 q.0 r.0 (and_parts (is_hex d) true r.1).0 t
-four_digits [] l h t = absurd (omega arith)
-four_digits (a ∷ []) l h t = absurd (omega arith)
-four_digits (a ∷ b ∷ []) l h t = absurd (omega arith)
-four_digits (a ∷ b ∷ c ∷ []) l h t = absurd (omega arith)
-four_digits (a ∷ b ∷ c ∷ d ∷ e ∷ w) l h t = absurd (omega arith)
-
--- four after four others
-after_four : (a b c d : ℕ) (w : List ℕ) → length w ≡ 4 → is_hex d ≡ true → all_have is_hex w ≡ true → EightTold (a ∷ b ∷ c ∷ d ∷ w) → scalar (hex_number (a ∷ b ∷ c ∷ d ∷ w)) ≡ true
-after_four a b c d (e ∷ f ∷ g ∷ i ∷ []) l k h t =
-    let p = and_parts (is_hex e) _ h in
-    let q = and_parts (is_hex f) _ p.1 in
-    let r = and_parts (is_hex g) _ q.1 in
-    let s = (and_parts (is_hex i) true r.1).0 in
-    let n = four e f g i in
-    ⊎_elim
-    (λ x. plane_scalar a b c d n t.0 t.1 k (four-most e f g i p.0 q.0 r.0 s) x)
-    (λ x.
-    let same : n ≡ eight a b c d n = omega (arith, ap hex_value t.0, ap hex_value t.1, ap hex_value x.0, ap hex_value x.1) in
-    subst (λ m. scalar m ≡ true) same (four_scalar e f g i p.0 q.0 r.0 s x.2))
-    t.2
-after_four a b c d [] l k h t = absurd (omega arith)
-after_four a b c d (e ∷ []) l k h t = absurd (omega arith)
-after_four a b c d (e ∷ f ∷ []) l k h t = absurd (omega arith)
-after_four a b c d (e ∷ f ∷ g ∷ []) l k h t = absurd (omega arith)
-after_four a b c d (e ∷ f ∷ g ∷ i ∷ j ∷ w) l k h t = absurd (omega arith)
-
--- eight digits
-eight_digits : (w : List ℕ) → length w ≡ 8 → all_have is_hex w ≡ true → EightTold w → scalar (hex_number w) ≡ true
-eight_digits (a ∷ b ∷ c ∷ d ∷ w) l h t =
-    let p = and_parts (is_hex a) _ h in
-    let q = and_parts (is_hex b) _ p.1 in
-    let r = and_parts (is_hex c) _ q.1 in
-    let s = and_parts (is_hex d) _ r.1 in
-    after_four a b c d w (omega arith) s.0 s.1 t
-eight_digits [] l h t = absurd (omega arith)
-eight_digits (a ∷ []) l h t = absurd (omega arith)
-eight_digits (a ∷ b ∷ []) l h t = absurd (omega arith)
-eight_digits (a ∷ b ∷ c ∷ []) l h t = absurd (omega arith)
-
 -- The digits that stand at a place.
 module _ (bs : List ℕ) (from count end : ℕ) (h : IsHexes bs from count end) where
   -- there are so many
@@ -153,52 +95,101 @@ module _ (bs : List ℕ) (from count end : ℕ) (h : IsHexes bs from count end) 
   pub digits-hex : all_have is_hex (take count (drop from bs)) ≡ true
   digits-hex = let w = h.within in let e = h.ends in slice_passes is_hex bs from count (omega arith) (subst (PassBetween is_hex bs from) e h.hexes)
 
-  -- and each is the byte at its place
-  digit-at : (k j : ℕ) → k < count → j ≡ from + k → get_or bs j 0 ≡ get_or (take count (drop from bs)) k 0
-  digit-at k j l e = ap (λ j. get_or bs j 0) e ∙ (sym (get_or-drop from bs k 0) ∙ sym (get_or-take count (drop from bs) k 0 l))
+-- the first of some hex digits, and those after it
+first_digit : (bs : List ℕ) (from next n worth : ℕ) → from + suc n ≤ length bs → next ≡ from + 1 → 16 ^ n ≡ worth →
+    hex_number (take (suc n) (drop from bs)) ≡ hex_value (get_or bs from 0) * worth + hex_number (take n (drop next bs))
+first_digit bs from next n worth l e w =
+    let b = get_or bs from 0 in
+    let rest = take n (drop (from + 1) bs) in
+    let long : length rest ≡ n = length-take-le n (drop (from + 1) bs) (omega (arith, length-drop (from + 1) bs)) in
+    ap (λ x. hex_number (take (suc n) x)) (drop_more bs from 0 (omega arith))
+    ∙ (ap (λ k. hex_value b * 16 ^ k + hex_number rest) long
+    ∙ (ap (λ k. hex_value b * k + hex_number rest) w ∙ ap (λ j. hex_value b * worth + hex_number (take n (drop j bs))) (sym e)))
+
+-- what four digits at a place write
+pub four-at : (bs : List ℕ) (from : ℕ) → from + 4 ≤ length bs →
+    hex_number (take 4 (drop from bs)) ≡ four (get_or bs from 0) (get_or bs (from + 1) 0) (get_or bs (from + 2) 0) (get_or bs (from + 3) 0)
+four-at bs from l =
+    first_digit bs from (from + 1) 3 4096 l refl refl
+    ∙ (ap (λ k. hex_value (get_or bs from 0) * 4096 + k) (first_digit bs (from + 1) (from + 2) 2 256 (omega arith) (omega arith) refl
+    ∙ (ap (λ k. hex_value (get_or bs (from + 1) 0) * 256 + k) (first_digit bs (from + 2) (from + 3) 1 16 (omega arith) (omega arith) refl
+    ∙ (ap (λ k. hex_value (get_or bs (from + 2) 0) * 16 + k) (first_digit bs (from + 3) (from + 4) 0 1 (omega arith) (omega arith) refl))))))
+
+-- that is a character where the first two are not those of a surrogate
+four_character : (bs : List ℕ) (from : ℕ) → from + 4 ≤ length bs → PassBetween is_hex bs from (from + 4) →
+    is_surrogate (get_or bs from 0) (get_or bs (from + 1) 0) ≡ false → scalar (hex_number (take 4 (drop from bs))) ≡ true
+four_character bs from l hex t =
+    subst (λ n. scalar n ≡ true) (sym (four-at bs from l))
+    (four_scalar (get_or bs from 0) (get_or bs (from + 1) 0) (get_or bs (from + 2) 0) (get_or bs (from + 3) 0) (hex from (omega arith) (omega arith))
+    (hex (from + 1) (omega arith) (omega arith)) (hex (from + 2) (omega arith) (omega arith)) (hex (from + 3) (omega arith) (omega arith)) t)
+
+-- and at most FFFF
+four-most : (bs : List ℕ) (from : ℕ) → from + 4 ≤ length bs → PassBetween is_hex bs from (from + 4) → hex_number (take 4 (drop from bs)) ≤ 65535
+four-most bs from l hex =
+    let small : (k : ℕ) → from ≤ k → k < from + 4 → hex_value (get_or bs k 0) ≤ 15 = λ k a b. hex-small (get_or bs k 0) (hex k a b) in
+    omega (
+      arith,
+      four-at bs from l,
+      small from (omega arith) (omega arith),
+      small (from + 1) (omega arith) (omega arith),
+      small (from + 2) (omega arith) (omega arith),
+      small (from + 3) (omega arith) (omega arith),
+    )
+
+-- what eight digits at a place write, by the last four of them
+pub eight-at : (bs : List ℕ) (from : ℕ) → from + 8 ≤ length bs →
+    hex_number (take 8 (drop from bs)) ≡ eight (get_or bs from 0) (get_or bs (from + 1) 0) (get_or bs (from + 2) 0) (get_or bs (from + 3) 0) (hex_number (take 4 (drop (from + 4) bs)))
+eight-at bs from l =
+    first_digit bs from (from + 1) 7 268435456 l refl refl
+    ∙ (ap (λ k. hex_value (get_or bs from 0) * 268435456 + k) (first_digit bs (from + 1) (from + 2) 6 16777216 (omega arith) (omega arith) refl
+    ∙ (ap (λ k. hex_value (get_or bs (from + 1) 0) * 16777216 + k) (first_digit bs (from + 2) (from + 3) 5 1048576 (omega arith) (omega arith) refl
+    ∙ (ap (λ k. hex_value (get_or bs (from + 2) 0) * 1048576 + k) (first_digit bs (from + 3) (from + 4) 4 65536 (omega arith) (omega arith) refl))))))
 
 -- four hex digits of no surrogate
 pub four-number : (bs : List ℕ) (from end : ℕ) → IsHexes bs from 4 end → is_surrogate (get_or bs from 0) (get_or bs (from + 1) 0) ≡ false → IsNumber bs from 4 end
 four-number bs from end h t = record {
   hexes = h;
-  character = four_digits (take 4 (drop from bs)) (digits-length bs from 4 end h) (digits-hex bs from 4 end h)
-      (subst (λ x. is_surrogate x (get_or (take 4 (drop from bs)) 1 0) ≡ false) (digit-at bs from 4 end h 0 from (omega arith) (omega arith))
-      (subst (λ y. is_surrogate (get_or bs from 0) y ≡ false) (digit-at bs from 4 end h 1 (from + 1) (omega arith) refl) t));
+  character = four_character bs from (omega (arith, h.ends, h.within)) (λ k a b. h.hexes k a (omega (arith, h.ends))) t;
 }
 
 -- and eight of none, and at most 10FFFF
 pub eight-number : (bs : List ℕ) (from end : ℕ) → IsHexes bs from 8 end → is_in_planes bs from ≡ true → IsNumber bs from 8 end
-eight-number bs from end h t = record {
-  hexes = h;
-  character = eight_digits (take 8 (drop from bs)) (digits-length bs from 8 end h) (digits-hex bs from 8 end h) told;
-}
+eight-number bs from end h t = record { hexes = h; character = subst (λ n. scalar n ≡ true) (sym (eight-at bs from (omega (arith, h.ends, h.within)))) told }
   where
-    w : List ℕ
-    w = take 8 (drop from bs)
+    ends : end ≡ from + 8
+    ends = h.ends
 
-    at : (k j : ℕ) → k < 8 → j ≡ from + k → get_or bs j 0 ≡ get_or w k 0
-    at k j l e = digit-at bs from 8 end h k j l e
+    within : end ≤ length bs
+    within = h.within
 
-    is_0 : (k j : ℕ) → k < 8 → j ≡ from + k → (get_or bs j 0 == 48) ≡ true → get_or w k 0 ≡ 48
-    is_0 k j l e z = sym (at k j l e) ∙ eqb-true (get_or bs j 0) 48 z
+    digit : ℕ → ℕ
+    digit k = get_or bs k 0
 
-    told : EightTold w
+    low : ℕ
+    low = hex_number (take 4 (drop (from + 4) bs))
+
+    told : scalar (eight (digit from) (digit (from + 1)) (digit (from + 2)) (digit (from + 3)) low) ≡ true
     told =
-        let p = and_parts (get_or bs from 0 == 48) _ t in
-        let q = and_parts (get_or bs (from + 1) 0 == 48) _ p.1 in (
-          is_0 0 from (omega arith) (omega arith) p.0,
-          is_0 1 (from + 1) (omega arith) refl q.0,
-          ⊎_elim
-              (λ x. inl (subst (λ v. is_plane v (get_or w 3 0) ≡ true) (at 2 (from + 2) (omega arith) refl)
-              (subst (λ v. is_plane (get_or bs (from + 2) 0) v ≡ true) (at 3 (from + 3) (omega arith) refl) x)))
-              (λ x.
-              let r = and_parts (get_or bs (from + 2) 0 == 48) _ x in
-              let s = and_parts (get_or bs (from + 2 + 1) 0 == 48) _ r.1 in
-              inr (
-                is_0 2 (from + 2) (omega arith) refl r.0,
-                is_0 3 (from + 2 + 1) (omega arith) (omega arith) s.0,
-                subst (λ v. is_surrogate v (get_or w 5 0) ≡ false) (at 4 (from + 2 + 2) (omega arith) (omega arith))
-                    (subst (λ v. is_surrogate (get_or bs (from + 2 + 2) 0) v ≡ false) (at 5 (from + 2 + 3) (omega arith) (omega arith)) (not_true _ s.1)),
-              ))
-              (either (is_plane (get_or bs (from + 2) 0) (get_or bs (from + 3) 0)) (is_in_first_plane bs (from + 2)) q.1),
-        )
+        let e = ends in
+        let w = within in
+        let p = and_parts (digit from == 48) _ t in
+        let q = and_parts (digit (from + 1) == 48) _ p.1 in
+        let a = eqb-true (digit from) 48 p.0 in
+        let b = eqb-true (digit (from + 1)) 48 q.0 in
+        let hex : PassBetween is_hex bs (from + 4) (from + 4 + 4) = λ k x y. h.hexes k (omega arith) (omega arith) in
+        ⊎_elim
+        (λ x. plane_scalar (digit from) (digit (from + 1)) (digit (from + 2)) (digit (from + 3)) low a b (h.hexes (from + 3) (omega arith) (omega arith))
+        (four-most bs (from + 4) (omega arith) hex) x)
+        (λ x.
+        let r = and_parts (digit (from + 2) == 48) _ x in
+        let s = and_parts (digit (from + 2 + 1) == 48) _ r.1 in
+        let third : from + 2 + 1 ≡ from + 3 = omega arith in
+        let fourth : from + 2 + 2 ≡ from + 4 = omega arith in
+        let fifth : from + 2 + 3 ≡ from + 4 + 1 = omega arith in
+        let d : digit (from + 3) ≡ 48 = subst (λ k. digit k ≡ 48) third (eqb-true (digit (from + 2 + 1)) 48 s.0) in
+        let same : low ≡ eight (digit from) (digit (from + 1)) (digit (from + 2)) (digit (from + 3)) low =
+        omega (arith, ap hex_value a, ap hex_value b, ap hex_value (eqb-true (digit (from + 2)) 48 r.0), ap hex_value d) in
+        subst (λ n. scalar n ≡ true) same
+        (four_character bs (from + 4) (omega arith) hex
+        (subst (λ k. is_surrogate (digit (from + 4)) (digit k) ≡ false) fifth (subst (λ k. is_surrogate (digit k) (digit (from + 2 + 3)) ≡ false) fourth (not_true _ s.1)))))
+        (either (is_plane (digit (from + 2)) (digit (from + 3))) (is_in_first_plane bs (from + 2)) q.1)

@@ -1,20 +1,22 @@
--- Plain bytes and whole escapes of a string have a meaning, whatever text comes after them.
-use Rattle.std.proofs.Common.{◌≡◌, ℕ, ◌+◌, ◌-◌, ◌<◌, ◌≤◌, Bool, true, false, List, [], ◌∷◌, ◌++◌, inl, inr, is_some, get_or, take, drop, refl, ap, ◌∙◌, subst, arith, ⊎_elim, append_assoc, length, length-drop}
+-- Plain bytes and whole escapes of a string or an IRI have a meaning, whatever text comes after them.
+use Rattle.std.proofs.Common.{◌≡◌, ℕ, ◌+◌, ◌-◌, ◌<◌, ◌≤◌, Bool, true, false, List, [], ◌∷◌, ◌++◌, inl, inr, is_some, get_or, take, drop, refl, sym, ap, ◌∙◌, subst, arith, ⊎_elim, append_assoc, length, length-drop}
 use Rattle.std.specs.Prelude.{slice_range}
-use Rattle.std.proofs.lemmas.Bool.{and_from, and_parts, false≢true}
+use Rattle.std.proofs.lemmas.Bool.{and_from, and_parts, cases_lt, false≢true}
 use Rattle.std.proofs.lemmas.Bool.Decides.{nat_tests}
-use Rattle.std.proofs.lemmas.List.{get_or-drop, get_or-take, length-take-le}
+use Rattle.std.proofs.lemmas.List.{append-nil, get_or-drop, get_or-take, length-take-le}
 use Rattle.std.proofs.lemmas.List.Folds.{drop_split}
 use Rattle.std.proofs.Math.Seq.{take-append-add}
 use Rattle.rdf_terms.specs.Classes.{has}
-use Rattle.rdf_terms.specs.Classes.Class.{hex_digit}
-use Rattle.rdf_terms.specs.Pieces.{IsNumberEscape, hex_number}
-use Rattle.rdf_terms.specs.Runs.{IsRun, PassBetween, is_text_byte, is_unescaped}
+use Rattle.rdf_terms.specs.Classes.Class.{hex_digit, iri_char}
+use Rattle.rdf_terms.specs.Escapes.{stands}
+use Rattle.rdf_terms.specs.Pieces.{IsNumberEscape, MayMean, hex_number}
+use Rattle.rdf_terms.specs.Runs.{IsRun, PassBetween, iri_byte, is_text_byte, is_unescaped}
 use Rattle.rdf_terms.specs.Terms.{all_have}
-use Rattle.rdf_terms.specs.Values.{of_string, slash, Move, means, move, go, value, string_value}
+use Rattle.rdf_terms.specs.Values.{Inside, of_string, of_iri, outside, slash, Move, means, move, go, value, string_value}
 use Rattle.rdf_terms.proofs.EscapesLemmas.{is_some-map, slice_passes, value_stands}
 use Rattle.rdf_terms.proofs.PiecesLemmas.{number_escape-takes}
-use Rattle.rdf_tokens.specs.Escapes.{is_hex, is_letter, IsEchar, IsNumber, IsUchar, FitsInString}
+use Rattle.rdf_terms.proofs.ValueBytes.{high_byte_stands}
+use Rattle.rdf_tokens.specs.Escapes.{is_hex, is_letter, IsEchar, IsHexes, IsNumber, IsUchar, IsIriUchar, FitsIn, FitsInString, FitsInIri}
 use Rattle.rdf_tokens.proofs.EscapeNumbers.{digits-hex, digits-length}
 use Rattle.rdf_tokens.proofs.RestEscapes.{letter_below, implied, uchar_from}
 
@@ -26,34 +28,54 @@ slice-split bs at mid end l m h =
     let sum : end - at ≡ length first + (end - mid) = omega (arith, long) in
     ap (take (end - at)) (drop_split bs at mid l) ∙ (ap (λ n. take n (first ++ drop mid bs)) sum ∙ take-append-add first (drop mid bs) (end - mid))
 
--- one more piece of a string
-pub fits-more : (bs : List ℕ) (at mid end : ℕ) → FitsInString bs at mid → FitsInString bs mid end → FitsInString bs at end
-fits-more bs at mid end a b = record {
+-- one more piece
+pub fits-more : {i : Inside} (bs : List ℕ) (at mid end : ℕ) → FitsIn i bs at mid → FitsIn i bs mid end → FitsIn i bs at end
+fits-more {i} bs at mid end a b = record {
   from = omega (arith, a.from, b.from);
   within = b.within;
   value = λ w.
       let first = slice_range bs at mid in
       let second = slice_range bs mid end in
-      ap (λ p. is_some (string_value (p ++ w))) (slice-split bs at mid end a.from b.from a.within)
-      ∙ (ap (λ p. is_some (string_value p)) (append_assoc first second w) ∙ (a.value (second ++ w) ∙ b.value w));
+      ap (λ p. is_some (value i outside (p ++ w))) (slice-split bs at mid end a.from b.from a.within)
+      ∙ (ap (λ p. is_some (value i outside p)) (append_assoc first second w) ∙ (a.value (second ++ w) ∙ b.value w));
 }
+
+-- what fits has a meaning
+pub fits-value : {i : Inside} (bs : List ℕ) (at end : ℕ) → FitsIn i bs at end → is_some (value i outside (slice_range bs at end)) ≡ true
+fits-value {i} bs at end f = ap (λ w. is_some (value i outside w)) (sym (append-nil (slice_range bs at end))) ∙ f.value []
 
 -- a plain byte is no backslash
 pub text_unescaped : (b : ℕ) → is_text_byte b ≡ true → is_unescaped b ≡ true
 text_unescaped b e = grind (arith, nat_tests)
 
--- bytes without a backslash
-pub fits_unescaped : (bs : List ℕ) (at end : ℕ) → at ≤ end → end ≤ length bs → PassBetween is_unescaped bs at end → FitsInString bs at end
-fits_unescaped bs at end from within pass = record {
+-- bytes that stand as they are
+fits_standing : (i : Inside) (bs : List ℕ) (at end : ℕ) → at ≤ end → end ≤ length bs → PassBetween (stands i) bs at end → FitsIn i bs at end
+fits_standing i bs at end from within pass = record {
   from = from;
   within = within;
   value = λ w.
       let p = slice_range bs at end in
-      let all : all_have is_unescaped p ≡ true = slice_passes is_unescaped bs at (end - at) (omega arith) (λ k a b. pass k a (omega arith)) in
-      ap is_some (value_stands of_string p w all) ∙ is_some-map (λ v. p ++ v) (string_value w);
+      let all : all_have (stands i) p ≡ true = slice_passes (stands i) bs at (end - at) (omega arith) (λ k a b. pass k a (omega arith)) in
+      ap is_some (value_stands i p w all) ∙ is_some-map (λ v. p ++ v) (value i outside w);
 }
 
--- plain bytes
+-- in a string those without a backslash
+pub fits_unescaped : (bs : List ℕ) (at end : ℕ) → at ≤ end → end ≤ length bs → PassBetween is_unescaped bs at end → FitsInString bs at end
+fits_unescaped bs at end from within pass = fits_standing of_string bs at end from within pass
+
+-- a byte of the characters of IRIs stands in one as it is
+iri_stands : (b : ℕ) → b < 256 → iri_byte b ≡ true → stands of_iri b ≡ true
+unfolding has
+iri_stands b l e = ⊎_elim (λ a. low b a e) (λ a. high_byte_stands of_iri b a l) (cases_lt b 128)
+  where
+    low : (b : ℕ) → b < 128 → iri_byte b ≡ true → has iri_char b ≡ true
+    low b a e = grind (arith, nat_tests)
+
+-- a run in an IRI
+pub fits_iri_run : (bs : List ℕ) (at end : ℕ) → ((k : ℕ) → get_or bs k 0 < 256) → IsRun iri_byte bs at end → FitsInIri bs at end
+fits_iri_run bs at end byte r = fits_standing of_iri bs at end r.from r.within (λ k a b. iri_stands (get_or bs k 0) (byte k) (r.pass k a b))
+
+-- plain bytes of a string
 pub fits_run : (bs : List ℕ) (at end : ℕ) → IsRun is_text_byte bs at end → FitsInString bs at end
 fits_run bs at end r = fits_unescaped bs at end r.from r.within (λ k a b. text_unescaped (get_or bs k 0) (r.pass k a b))
 
@@ -125,8 +147,8 @@ have_hex [] h = refl
 have_hex (c ∷ w) h = let p = and_parts (is_hex c) (all_have is_hex w) h in and_from (has hex_digit c) _ (has_hex c p.0) (have_hex w p.1)
 
 -- what is an escape by number
-number_value : (piece : List ℕ) (c : ℕ) (w : List ℕ) → IsNumberEscape of_string piece c → is_some (string_value (piece ++ w)) ≡ is_some (string_value w)
-number_value piece c w h = ap is_some (number_escape-takes of_string piece c h w) ∙ is_some-map (λ v. c ∷ v) (string_value w)
+number_value : (i : Inside) (piece : List ℕ) (c : ℕ) (w : List ℕ) → IsNumberEscape i piece c → is_some (value i outside (piece ++ w)) ≡ is_some (value i outside w)
+number_value i piece c w h = ap is_some (number_escape-takes i piece c h w) ∙ is_some-map (λ v. c ∷ v) (value i outside w)
 
 -- a backslash, a letter, and digits
 escape-at : (bs : List ℕ) (at count end a b : ℕ) → get_or bs at 0 ≡ a → get_or bs (at + 1) 0 ≡ b → IsNumber bs (at + 2) count end →
@@ -139,23 +161,37 @@ escape-at bs at count end a b x y n =
     ∙ (ap (λ p. p ++ slice_range bs (at + 2) end) (two-at bs at (at + 2) a b refl (omega arith) x y)
     ∙ ap (λ k. a ∷ b ∷ take k (drop (at + 2) bs)) count_is)
 
--- a UCHAR
-pub fits_uchar : (bs : List ℕ) (at end : ℕ) → IsUchar bs at end → FitsInString bs at end
-fits_uchar bs at end u = record {
+-- a UCHAR whose character may be meant
+fits_number : (i : Inside) (bs : List ℕ) (at end : ℕ) (u : IsUchar bs at end) → MayMean i (hex_number (slice_range bs (at + 2) end)) → FitsIn i bs at end
+fits_number i bs at end u m = record {
   from = let l = (uchar_from bs at end u).0 in omega arith;
   within = (uchar_from bs at end u).1;
   value = λ w. ⊎_elim
       (λ g.
       let hexes = take 4 (drop (at + 2) bs) in
       let n = g.1 in
-      ap (λ p. is_some (string_value (p ++ w))) (escape-at bs at 4 end 92 117 u.slash g.0 n)
-      ∙ number_value (92 ∷ 117 ∷ hexes) (hex_number hexes) w
-      (hexes, inl (refl, digits-length bs (at + 2) 4 end n.hexes), have_hex hexes (digits-hex bs (at + 2) 4 end n.hexes), refl, n.character, tt))
+      ap (λ p. is_some (value i outside (p ++ w))) (escape-at bs at 4 end 92 117 u.slash g.0 n)
+      ∙ number_value i (92 ∷ 117 ∷ hexes) (hex_number hexes) w
+      (hexes, inl (refl, digits-length bs (at + 2) 4 end n.hexes), have_hex hexes (digits-hex bs (at + 2) 4 end n.hexes), refl, n.character, may 4 n.hexes))
       (λ g.
       let hexes = take 8 (drop (at + 2) bs) in
       let n = g.1 in
-      ap (λ p. is_some (string_value (p ++ w))) (escape-at bs at 8 end 92 85 u.slash g.0 n)
-      ∙ number_value (92 ∷ 85 ∷ hexes) (hex_number hexes) w
-      (hexes, inr (refl, digits-length bs (at + 2) 8 end n.hexes), have_hex hexes (digits-hex bs (at + 2) 8 end n.hexes), refl, n.character, tt))
+      ap (λ p. is_some (value i outside (p ++ w))) (escape-at bs at 8 end 92 85 u.slash g.0 n)
+      ∙ number_value i (92 ∷ 85 ∷ hexes) (hex_number hexes) w
+      (hexes, inr (refl, digits-length bs (at + 2) 8 end n.hexes), have_hex hexes (digits-hex bs (at + 2) 8 end n.hexes), refl, n.character, may 8 n.hexes))
       u.digits;
 }
+  where
+    may : (count : ℕ) → IsHexes bs (at + 2) count end → MayMean i (hex_number (take count (drop (at + 2) bs)))
+    may count h =
+        let e = h.ends in
+        let count_is : end - (at + 2) ≡ count = omega arith in
+        subst (λ k. MayMean i (hex_number (take k (drop (at + 2) bs)))) count_is m
+
+-- in a string each may
+pub fits_uchar : (bs : List ℕ) (at end : ℕ) → IsUchar bs at end → FitsInString bs at end
+fits_uchar bs at end u = fits_number of_string bs at end u tt
+
+-- in an IRI those that IRIs have
+pub fits_iri_uchar : (bs : List ℕ) (at end : ℕ) → IsIriUchar bs at end → FitsInIri bs at end
+fits_iri_uchar bs at end u = fits_number of_iri bs at end u.uchar u.allowed

@@ -50,6 +50,7 @@ mod RestStates
 mod RestEscapes
 mod EscapeNumbers
 mod FitEscapes
+mod IriEscapes
 mod FlatLemmas
 mod QuickLemmas
 mod StringLemmas

@@ -1,8 +1,8 @@
 -- References and labels whose bytes are plain up to their end, and strings with one quote at each end.
-use Rattle.std.proofs.Common.{◌≡◌, is_some, ℕ, zero, suc, ◌+◌, ◌-◌, ◌<◌, Bool, true, false, nat_lt, List, [], ◌∷◌, ◌++◌, ◌&&◌, ◌||◌, ◌==◌, not, refl, sym, ap, ◌∙◌, subst, length, get_or, take, drop, arith, Option, Some, None, IsUtf8}
+use Rattle.std.proofs.Common.{◌≡◌, ℕ, ◌+◌, ◌<◌, Bool, true, false, nat_lt, List, [], ◌∷◌, ◌&&◌, ◌||◌, ◌==◌, not, refl, sym, ap, ◌∙◌, subst, length, get_or, take, drop, arith, Option, Some, None, IsUtf8}
 use Rattle.std.proofs.lemmas.Bool.{agree_below, agree_below_at, and_parts, false≢true, eqb-true, ltb-true}
 use Rattle.std.proofs.lemmas.Bool.Decides.{nat_tests}
-use Rattle.std.proofs.lemmas.List.{append-nil, drop_more}
+use Rattle.std.proofs.lemmas.List.{drop_more}
 use Rattle.std.proofs.lemmas.Str.{encode_ascii, length-encode}
 use Rattle.std.specs.Str.{chars}
 use Rattle.rdf_terms.specs.declared.kind.Kind.{Kind}
@@ -11,8 +11,9 @@ use Rattle.rdf_terms.specs.declared.kind.Dialect.{Dialect}
 use Rattle.rdf_terms.specs.declared.kind.Dialect.TheVariants.{Lines, Turtle}
 use Rattle.rdf_terms.specs.Shapes.{fixed}
 use Rattle.rdf_terms.specs.Runs.{IsRun, iri_byte, is_text_byte, is_ascii_text_byte, is_name_byte}
-use Rattle.rdf_terms.specs.Values.{is_fit, string_value}
-use Rattle.rdf_terms.proofs.PlainTokens.{plain_iri_fit, valued_string_fit}
+use Rattle.rdf_terms.specs.Values.{is_fit}
+use Rattle.rdf_terms.proofs.PlainTokens.{valued_iri_fit, valued_string_fit}
+use Rattle.rdf_terms.proofs.ValueBytes.{utf8_bytes}
 use Rattle.rdf_tokens.specs.declared.states.machine.State.{State}
 use Rattle.rdf_tokens.specs.declared.states.machine.State.TheVariants.{Start, Iri, Text, Label}
 use Rattle.rdf_tokens.specs.declared.states.iri.Iri.TheVariants as iri
@@ -20,14 +21,14 @@ use Rattle.rdf_tokens.specs.declared.states.label.Label.TheVariants as label
 use Rattle.rdf_tokens.specs.declared.states.text.Text.TheVariants as text
 use Rattle.rdf_tokens.specs.declared.states.text.Quote.{Quote}
 use Rattle.rdf_tokens.specs.declared.states.text.Quote.TheVariants.{Double, Single}
-use Rattle.rdf_tokens.specs.Escapes.{FitsInString}
+use Rattle.rdf_tokens.specs.Escapes.{FitsInIri, FitsInString, RestsInIri}
 use Rattle.rdf_tokens.specs.Tokens.{with_length, three_quotes, only_long}
 use Rattle.rdf_tokens.specs.Fixed.{live_by, rows_of}
 use Rattle.rdf_tokens.specs.Front.{IsAt, Reached, front_by}
 use Rattle.rdf_tokens.specs.Machine.{step, kind_at}
 use Rattle.rdf_tokens.specs.Quick.{IsToken, stands_at, begins_label, begins_label_name, quote_byte, has_quote, opens_with, begins_string, is_empty_string, begins_iri, ends_name, is_name_end}
 use Rattle.rdf_tokens.proofs.ByteLemmas.{at-start, ascii_first}
-use Rattle.rdf_tokens.proofs.FitEscapes.{fits_byte, fits_none, fits_run, fits-more, text_unescaped}
+use Rattle.rdf_tokens.proofs.FitEscapes.{fits_byte, fits_iri_run, fits_none, fits_run, fits-more, fits-value, text_unescaped}
 use Rattle.rdf_tokens.proofs.NoNamesLemmas.{implied, no_long, one_on}
 use Rattle.rdf_tokens.proofs.NumberQuick.{no_first, first_rows}
 use Rattle.rdf_tokens.proofs.QuickLemmas.{settled, first-none, other, not_true, low-name}
@@ -81,48 +82,40 @@ quotes_of d bs c u l a e p q =
     let low : get_or bs 0 0 < 128 = omega (arith, e) in
     ap (three_quotes d) ((one_on bs 0 (at-start bs u) l low).0 ∙ ap (λ x. x ∷ drop 1 (chars bs)) e) ∙ no_quote_first d c (drop 1 (chars bs)) p q
 
--- A reference in angle brackets, without an escape.
-module _ (d : Dialect) (bs : List ℕ) (end : ℕ) (u : IsUtf8 bs) (e : begins_iri bs ≡ true) (r : IsRun iri_byte bs 1 end) (z : stands_at 62 bs end ≡ true) where
-  some_iri : 0 < length bs
+-- '<' comes first.
+module _ (d : Dialect) (bs : List ℕ) (u : IsUtf8 bs) (e : begins_iri bs ≡ true) where
+  pub some_iri : 0 < length bs
   some_iri = ltb-true 0 (length bs) (and_parts (nat_lt 0 (length bs)) (get_or bs 0 0 == 60) e).0
 
   is_60 : get_or bs 0 0 ≡ 60
   is_60 = eqb-true (get_or bs 0 0) 60 (and_parts (nat_lt 0 (length bs)) (get_or bs 0 0 == 60) e).1
 
-  inside_iri : end < length bs
-  inside_iri = ltb-true end (length bs) (and_parts (nat_lt end (length bs)) (get_or bs end 0 == 62) z).0
+  -- the states within the reference
+  pub iri_reached : (end : ℕ) → RestsInIri bs 1 end → Reached d bs end (Iri iri.Inside) None
+  iri_reached end r =
+      let first = first-none d bs (Iri iri.Inside) u some_iri (omega (arith, is_60)) (sym (ap (step d Start) is_60)) refl in
+      reached-run d bs 1 end (Iri iri.Inside) None None (sym (no_long (three_quotes d (chars bs)))) r first
 
-  is_62 : get_or bs end 0 ≡ 62
-  is_62 = eqb-true (get_or bs end 0) 62 (and_parts (nat_lt end (length bs)) (get_or bs end 0 == 62) z).1
-
-  -- what it means needs no look at its bytes
-  iri_fit : is_fit IriRef (chars (take (end + 1) bs)) ≡ true
-  iri_fit = go bs some_iri is_60 u inside_iri is_62 r
-    where
-      go : (bs : List ℕ) → 0 < length bs → get_or bs 0 0 ≡ 60 → IsUtf8 bs → end < length bs → get_or bs end 0 ≡ 62 → IsRun iri_byte bs 1 end → is_fit IriRef (chars (take (end + 1) bs)) ≡ true
-      go [] l e u i x r = absurd (omega arith)
-      go (c ∷ t) l e u i x r = at_end end r i x
-        where
-          at_end : (end : ℕ) → IsRun iri_byte (c ∷ t) 1 end → end < length (c ∷ t) → get_or (c ∷ t) end 0 ≡ 62 → is_fit IriRef (chars (take (end + 1) (c ∷ t))) ≡ true
-          at_end zero r i x = absurd (let from = r.from in omega arith)
-          at_end (suc n) r i x =
-              let k : n + 2 ≡ suc n + 1 = omega arith in
-              subst (λ k. is_fit IriRef (chars (take k (c ∷ t))) ≡ true) k
-              (plain_iri_fit c t n u (omega (arith, e)) (omega arith) (omega (arith, x)) (λ k a b. r.pass (suc k) (omega arith) (omega arith)))
-
-  pub quick_iri : IsToken d bs (end + 1) IriRef
-  quick_iri =
+  -- the reference, up to its closing bracket
+  pub iri_whole : (end : ℕ) → RestsInIri bs 1 end → FitsInIri bs 1 end → stands_at 62 bs end ≡ true → IsToken d bs (end + 1) IriRef
+  iri_whole end r f z =
       let n = unspelled d 60 bs (λ d. go d) some_iri is_60 in
       let q = quotes_of d bs 60 u some_iri (omega arith) is_60 refl refl in
-      let first = first-none d bs (Iri iri.Inside) u some_iri (omega (arith, is_60)) (sym (ap (step d Start) is_60)) refl in
-      let none = sym (no_long (three_quotes d (chars bs))) in
-      let run = reached-run d bs 1 end (Iri iri.Inside) None None none (rests_iri bs 1 end r) first in
-      let closed = byte_on d bs end (Iri iri.Inside) (Iri iri.Whole) (Some IriRef) None q inside_iri (omega (arith, is_62)) run (sym (ap (step d (Iri iri.Inside)) is_62)) refl in
-      settled d bs (end + 1) (Iri iri.Whole) (Some (end + 1, IriRef)) None (end + 1) IriRef u closed refl (sym n.0) n.1 refl iri_fit
+      let from = f.from in
+      let p = and_parts (nat_lt end (length bs)) (get_or bs end 0 == 62) z in
+      let inside : end < length bs = ltb-true end (length bs) p.0 in
+      let ends : get_or bs end 0 ≡ 62 = eqb-true (get_or bs end 0) 62 p.1 in
+      let closed = byte_on d bs end (Iri iri.Inside) (Iri iri.Whole) (Some IriRef) None q inside (omega (arith, ends)) (iri_reached end r) (sym (ap (step d (Iri iri.Inside)) ends)) refl in
+      settled d bs (end + 1) (Iri iri.Whole) (Some (end + 1, IriRef)) None (end + 1) IriRef u closed refl (sym n.0) n.1 refl
+      (valued_iri_fit bs end u (omega arith) inside (omega (arith, is_60)) (omega (arith, ends)) (fits-value bs 1 end f))
     where
       go : begins_none 60
       go Lines = refl
       go Turtle = refl
+
+  -- without an escape
+  pub quick_iri : (end : ℕ) → IsRun iri_byte bs 1 end → stands_at 62 bs end ≡ true → IsToken d bs (end + 1) IriRef
+  quick_iri end r z = iri_whole end (rests_iri bs 1 end r) (fits_iri_run bs 1 end (utf8_bytes bs u) r) z
 
 -- a state within a string in this quote
 abbrev at_short : Quote → State → Bool
@@ -238,20 +231,7 @@ module _ (d : Dialect) (q : Quote) (bs : List ℕ) (u : IsUtf8 bs) (o : opens_wi
 
   -- what stands between the quotes has a meaning
   string_fit : (end : ℕ) → 0 < end → end < length bs → get_or bs end 0 < 128 → FitsInString bs 1 end → is_fit ShortString (chars (take (end + 1) bs)) ≡ true
-  string_fit end p i x f = go bs u ascii_quote i x f
-    where
-      go : (bs : List ℕ) → IsUtf8 bs → get_or bs 0 0 < 128 → end < length bs → get_or bs end 0 < 128 → FitsInString bs 1 end → is_fit ShortString (chars (take (end + 1) bs)) ≡ true
-      go [] u e i x f = absurd (omega arith)
-      go (c ∷ t) u e i x f = at_end end p i x f
-        where
-          at_end : (end : ℕ) → 0 < end → end < length (c ∷ t) → get_or (c ∷ t) end 0 < 128 → FitsInString (c ∷ t) 1 end → is_fit ShortString (chars (take (end + 1) (c ∷ t))) ≡ true
-          at_end zero p i x f = absurd (omega arith)
-          at_end (suc n) p i x f =
-              let k : n + 2 ≡ suc n + 1 = omega arith in
-              let len : n ≡ suc n - 1 = omega arith in
-              subst (λ k. is_fit ShortString (chars (take k (c ∷ t))) ≡ true) k
-              (valued_string_fit c t n u e (omega arith) x
-              (ap (λ w. is_some (string_value w)) (sym (append-nil (take n t))) ∙ (ap (λ k. is_some (string_value (take k t ++ []))) len ∙ f.value [])))
+  string_fit end p i x f = valued_string_fit bs end u p i ascii_quote x (fits-value bs 1 end f)
 
   -- the first two characters, where the second is ASCII
   first_two : 1 < length bs → get_or bs 1 0 < 128 → (chars bs ≡ quote_byte q ∷ get_or bs 1 0 ∷ drop 2 (chars bs)) × IsAt bs 2 2

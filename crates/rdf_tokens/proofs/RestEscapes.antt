@@ -1,5 +1,5 @@
 -- A whole escape leads from the state within a string or an IRI back to it.
-use Rattle.std.proofs.Common.{◌≡◌, ℕ, zero, suc, ◌+◌, ◌<◌, ◌≤◌, Bool, true, false, not, ◌||◌, ◌⊎◌, List, ◌++◌, get_or, nat_le, ◌&&◌, ◌==◌, refl, sym, ap, ◌∙◌, subst, arith, ⊎_elim, length, drop, Option, None}
+use Rattle.std.proofs.Common.{◌≡◌, ℕ, zero, suc, ◌+◌, ◌<◌, ◌≤◌, Bool, true, false, not, ◌||◌, ◌⊎◌, inl, inr, List, ◌++◌, get_or, nat_le, ◌&&◌, ◌==◌, refl, sym, ap, ◌∙◌, subst, arith, ⊎_elim, length, drop, Option, None}
 use Rattle.std.specs.Str.{chars}
 use Rattle.std.proofs.lemmas.Bool.{agree_below, agree_below_at, and_parts, cases_lt, eqb-true, leb-true, false≢true}
 use Rattle.std.proofs.lemmas.Bool.Decides.{nat_tests}
@@ -25,7 +25,7 @@ use Rattle.rdf_tokens.specs.Sorts.{sort_by}
 use Rattle.rdf_tokens.specs.Tokens.{with_length, only_long, three_quotes}
 use Rattle.rdf_tokens.specs.Iri as iri
 use Rattle.rdf_tokens.specs.Text as text
-use Rattle.rdf_tokens.specs.Escapes.{is_hex, is_letter, IsHexes, IsEchar, IsUchar, RestsInString, RestsInIri}
+use Rattle.rdf_tokens.specs.Escapes.{is_hex, is_letter, IsHexes, IsNumber, IsEchar, IsUchar, RestsInString, RestsInIri}
 use Rattle.rdf_tokens.proofs.NoNamesLemmas.{no_long}
 use Rattle.rdf_tokens.proofs.RestLemmas.{rests-more}
 use Rattle.rdf_tokens.proofs.RestStates.{rests_short, rests_long}
@@ -112,6 +112,10 @@ uchar_from bs at end u = ⊎_elim
     (λ g. (omega (arith, g.1.hexes.ends), g.1.hexes.within))
     (λ g. (omega (arith, g.1.hexes.ends), g.1.hexes.within))
     u.digits
+
+-- its digits
+pub uchar_digits : (bs : List ℕ) (at end : ℕ) → IsUchar bs at end → IsNumber bs (at + 2) 4 end ⊎ IsNumber bs (at + 2) 8 end
+uchar_digits bs at end u = ⊎_elim (λ g. inl g.1) (λ g. inr g.1) u.digits
 
 -- so a UCHAR leads back to the state before it
 rests_uchar : (s e : State) (h : ℕ → State) → Numbers s e h → (bs : List ℕ) (at end : ℕ) → IsUchar bs at end → Rests s bs at end

@@ -1,9 +1,10 @@
 -- Whole escapes within strings and IRIs.
-use Rattle.std.specs.Prelude.{◌≡◌, ◌⊎◌, ℕ, ◌+◌, ◌≤◌, Bool, true, not, ◌&&◌, ◌||◌, ◌==◌, nat_le, List, [], ◌∷◌, ◌++◌, length, get_or, drop, take, slice_range, is_some}
-use Rattle.rdf_terms.specs.Classes.{is_digit, within, one_of, scalar}
-use Rattle.rdf_terms.specs.Pieces.{hex_number}
+use Rattle.std.specs.Prelude.{◌≡◌, ◌⊎◌, ℕ, ◌+◌, ◌-◌, ◌*◌, ◌≤◌, Bool, true, not, ◌&&◌, ◌||◌, ◌==◌, nat_le, List, [], ◌∷◌, ◌++◌, length, get_or, drop, take, slice_range, is_some}
+use Rattle.rdf_terms.specs.Classes.{has, is_digit, within, one_of, scalar}
+use Rattle.rdf_terms.specs.Classes.Class.{iri_char}
+use Rattle.rdf_terms.specs.Pieces.{MayMean, hex_number, hex_value}
 use Rattle.rdf_terms.specs.Runs.{PassBetween}
-use Rattle.rdf_terms.specs.Values.{string_value}
+use Rattle.rdf_terms.specs.Values.{Inside, of_string, of_iri, outside, value}
 use Rattle.rdf_tokens.specs.declared.states.iri.Iri.TheVariants as iri_state
 use Rattle.rdf_tokens.specs.declared.states.machine.State.TheVariants as state
 use Rattle.rdf_tokens.specs.declared.states.text.Quote.{Quote}
@@ -46,6 +47,16 @@ abbrev pub is_in_planes : List ℕ → ℕ → Bool
 is_in_planes bs at =
     get_or bs at 0 == 48 && (get_or bs (at + 1) 0 == 48 && (is_plane (get_or bs (at + 2) 0) (get_or bs (at + 3) 0) || is_in_first_plane bs (at + 2)))
 
+-- four hex digits write a character of IRIs: by the first two it is not of ASCII, or the other two tell it
+abbrev pub is_iri_four : List ℕ → ℕ → Bool
+is_iri_four bs at = not (get_or bs at 0 == 48) || (not (get_or bs (at + 1) 0 == 48)
+    || has iri_char (16 * hex_value (get_or bs (at + 2) 0) + hex_value (get_or bs (at + 3) 0)))
+
+-- four or eight hex digits between two places do: by the third and the fourth of eight it is not of the first plane, or the last four tell it
+abbrev pub writes_iri_char : List ℕ → ℕ → ℕ → Bool
+writes_iri_char bs from end =
+    (end - from == 8 && (not (get_or bs (from + 2) 0 == 48) || not (get_or bs (from + 3) 0 == 48))) || is_iri_four bs (end - 4)
+
 -- an ECHAR stands between two places
 pub record IsEchar (bs : List ℕ) (at end : ℕ) : Type 0 where
   pub ends : end ≡ at + 2
@@ -58,6 +69,11 @@ pub record IsUchar (bs : List ℕ) (at end : ℕ) : Type 0 where
   pub slash : get_or bs at 0 ≡ 92
   pub digits : ((get_or bs (at + 1) 0 ≡ 117) × IsNumber bs (at + 2) 4 end) ⊎ ((get_or bs (at + 1) 0 ≡ 85) × IsNumber bs (at + 2) 8 end)
 
+-- one does, whose character may stand in an IRI
+pub record IsIriUchar (bs : List ℕ) (at end : ℕ) : Type 0 where
+  pub uchar : IsUchar bs at end
+  pub allowed : MayMean of_iri (hex_number (slice_range bs (at + 2) end))
+
 -- the bytes between two places lead back to the state within a string, in whichever quotes it stands
 pub record RestsInString (bs : List ℕ) (at end : ℕ) : Type 0 where
   pub short : (q : Quote) → Rests (state.Text (text_state.Short q)) bs at end
@@ -67,8 +83,16 @@ pub record RestsInString (bs : List ℕ) (at end : ℕ) : Type 0 where
 abbrev pub RestsInIri : List ℕ → ℕ → ℕ → Type 0
 RestsInIri bs at end = Rests (state.Iri iri_state.Inside) bs at end
 
--- the bytes between two places of a string have a meaning, whatever text comes after them
-pub record FitsInString (bs : List ℕ) (at end : ℕ) : Type 0 where
+-- the bytes between two places of a string or an IRI have a meaning, whatever text comes after them
+pub record FitsIn (i : Inside) (bs : List ℕ) (at end : ℕ) : Type 0 where
   pub from : at ≤ end
   pub within : end ≤ length bs
-  pub value : (w : List ℕ) → is_some (string_value (slice_range bs at end ++ w)) ≡ is_some (string_value w)
+  pub value : (w : List ℕ) → is_some (value i outside (slice_range bs at end ++ w)) ≡ is_some (value i outside w)
+
+-- those of a string
+abbrev pub FitsInString : List ℕ → ℕ → ℕ → Type 0
+FitsInString bs at end = FitsIn of_string bs at end
+
+-- those of an IRI
+abbrev pub FitsInIri : List ℕ → ℕ → ℕ → Type 0
+FitsInIri bs at end = FitsIn of_iri bs at end

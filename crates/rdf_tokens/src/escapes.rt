@@ -1,10 +1,12 @@
 // The insides of strings and IRIs: plain bytes by runs, and whole escapes between them.
 
-ghost use Rattle.std.specs.Prelude.{◌≡◌, ◌<◌, ◌≤◌, ◌+◌, ◌&&◌, ◌==◌, nat_le, length, get_or, IfSome};
-ghost use Rattle.rdf_terms.specs.Runs.{IsRun, is_text_byte};
-ghost use Rattle.rdf_tokens.specs.Escapes.{is_hex, is_letter, is_surrogate, is_plane, is_in_first_plane, is_in_planes};
-ghost use Rattle.rdf_tokens.specs.Escapes.{IsHexes, IsNumber, IsUchar, FitsInString, RestsInIri, RestsInString};
+ghost use Rattle.std.specs.Prelude.{◌≡◌, ◌<◌, ◌≤◌, ◌+◌, ◌&&◌, ◌==◌, ◌⊎◌, nat_le, true, false, length, get_or, IfSome};
+ghost use Rattle.rdf_terms.specs.Pieces.{hex_value};
+ghost use Rattle.rdf_terms.specs.Runs.{IsRun, goes_over};
+ghost use Rattle.rdf_tokens.specs.Escapes.{is_hex, is_letter, is_surrogate, is_plane, is_in_first_plane, is_in_planes, is_iri_four, writes_iri_char};
+ghost use Rattle.rdf_tokens.specs.Escapes.{IsHexes, IsNumber, IsUchar, IsIriUchar, FitsInIri, FitsInString, RestsInIri, RestsInString};
 
+use rdf_terms::is_iri_char;
 use rdf_terms::runs::{Run, run_end};
 
 /// The place after the plain bytes and the whole escapes of a string from a place on. A bad escape is not passed.
@@ -32,33 +34,82 @@ fn escape_end(bytes: &[u8], at: usize) -> Option<usize>
         return Some(run_end(Run::Text, bytes, at + 2));
     }
     match uchar_end(bytes, at) {
-        Some(next) => Some(plain_end(bytes, next)),
+        Some(next) => Some(plain_end(Run::Text, bytes, next)),
         None => None,
     }
 }
 
-/// The end of the plain bytes of a string from a place on. Escapes by number often come in a row, and between two of them nothing is looked for.
+/// The end of a run in which no backslash stands. Escapes by number often come in a row, and between two of them nothing is looked for.
 #[inline(always)]
-fn plain_end(bytes: &[u8], from: usize) -> usize
-    requires { from ≤ length bytes.now }
-    ensures { IsRun is_text_byte bytes.now from result }
+fn plain_end(run: Run, bytes: &[u8], from: usize) -> usize
+    requires within { from ≤ length bytes.now }
+    requires backslash { goes_over run 92 ≡ false }
+    ensures { IsRun (goes_over run) bytes.now from result }
 {
     if from < bytes.len() && bytes[from] == b'\\' {
         return from;
     }
-    run_end(Run::Text, bytes, from)
+    run_end(run, bytes, from)
 }
 
-/// The same in an IRI, where UCHAR alone stands.
+/// The place after the plain bytes and the whole escapes of an IRI from a place on. An escape of a character that IRIs exclude is not passed.
 pub(crate) fn iri_end(bytes: &[u8], from: usize) -> usize
     requires { from ≤ length bytes.now }
-    ensures { RestsInIri bytes.now from result }
+    ensures rests { RestsInIri bytes.now from result }
+    ensures fits { FitsInIri bytes.now from result }
 {
     let mut at = run_end(Run::Iri, bytes, from);
-    while let Some(next) = uchar_end(bytes, at) {
-        at = run_end(Run::Iri, bytes, next);
+    while let Some(next) = iri_uchar_end(bytes, at) {
+        at = plain_end(Run::Iri, bytes, next);
     }
     at
+}
+
+/// Where the UCHAR at a place ends, if all of it is there and its character may stand in an IRI.
+#[inline(always)]
+fn iri_uchar_end(bytes: &[u8], at: usize) -> Option<usize>
+    requires { at ≤ length bytes.now }
+    ensures { IfSome result (λ end. IsIriUchar bytes.now at end) }
+{
+    match uchar_end(bytes, at) {
+        Some(end) if writes_iri_char(bytes, at + 2, end) => Some(end),
+        _ => None,
+    }
+}
+
+/// Whether four or eight hex digits write a character of IRIs. What those exclude is ASCII.
+#[inline(always)]
+fn writes_iri_char(bytes: &[u8], from: usize, end: usize) -> bool
+    requires { IsNumber bytes.now from 4 end ⊎ IsNumber bytes.now from 8 end }
+    ensures { result ≡ writes_iri_char bytes.now from end }
+{
+    end - from == 8 && (bytes[from + 2] != b'0' || bytes[from + 3] != b'0')
+        || is_iri_four(bytes, end - 4)
+}
+
+/// The same of four.
+#[inline(always)]
+fn is_iri_four(bytes: &[u8], at: usize) -> bool
+    requires { IsHexes bytes.now at 4 (at + 4) }
+    ensures { result ≡ is_iri_four bytes.now at }
+{
+    bytes[at] != b'0'
+        || bytes[at + 1] != b'0'
+        || is_iri_char((16 * digit(bytes[at + 2]) + digit(bytes[at + 3])) as char)
+}
+
+/// What a hex digit counts.
+#[inline(always)]
+fn digit(byte: u8) -> u8
+    requires { is_hex byte ≡ true }
+    ensures value { result ≡ hex_value byte }
+    ensures small { result < 16 }
+{
+    match byte {
+        b'0'..=b'9' => byte - b'0',
+        b'A'..=b'F' => byte - b'A' + 10,
+        _ => byte - b'a' + 10,
+    }
 }
 
 #[inline(always)]

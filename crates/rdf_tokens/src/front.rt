@@ -9,8 +9,7 @@ ghost use Rattle.rdf_tokens.specs.Walk.{Walked, IsWalk, IsCounted, walk_kept};
 ghost use Rattle.rdf_tokens.specs.NoNames.{is_prefix_byte, BeginsNoName, HasNoNames};
 ghost use Rattle.rdf_terms.specs.Classes.{is_letter};
 ghost use Rattle.rdf_terms.specs.Runs.{IsRun};
-ghost use Rattle.rdf_tokens.specs.declared.states.machine.State.TheVariants.{Name as name, Text as text_state};
-ghost use Rattle.rdf_tokens.specs.declared.states.text.Text.TheVariants.{Short as short};
+ghost use Rattle.rdf_tokens.specs.declared.states.machine.State.TheVariants.{Name as name};
 
 use crate::bytes::char_at;
 use crate::over::states_end;
@@ -22,7 +21,7 @@ use crate::states::name::Name;
 use crate::states::number::Number;
 use crate::states::shape::Shape;
 use crate::states::tag::Tag;
-use crate::states::text::{Quote, Text};
+use crate::states::text::Text;
 use rdf_terms::{Dialect, Kind};
 
 /// What stands at the front of a text.
@@ -120,14 +119,14 @@ fn keep(walk: &mut Option<Walk>, text: &str, more: bool, shaped: &Shaped)
     }
 }
 
-/// How far the states come in a string with one quote at each end that goes on at this place.
-pub(crate) fn string_walk(dialect: Dialect, quote: Quote, text: &str, at: usize) -> Walk
+/// How far the states come in a token that goes on at this place, by the state there. No shorter token stands before it.
+pub(crate) fn walk_to(dialect: Dialect, state: State, text: &str, at: usize) -> Walk
     requires enough { 3 ≤ at }
-    requires reached { Reached dialect text.now at (text_state (short quote)) None }
+    requires reached { Reached dialect text.now at state None }
     ensures { IsWalk dialect text.now result }
 {
     Walk {
-        state: State::Text(Text::Short(quote)),
+        state,
         at,
         count: char_count(&text[..at]),
         len: 0,

@@ -6,6 +6,7 @@ mod bytes;
 mod escapes;
 mod front;
 mod good;
+mod iris;
 pub mod laws;
 mod look;
 mod over;

@@ -8,6 +8,7 @@ ghost use Rattle.rdf_tokens.specs.NoNames.{HasNoNames};
 ghost use Rattle.rdf_tokens.specs.Look.{tail_after, IsLookWithin, IsFirstLook, CutsAt, decided_by};
 
 use crate::front::{NoNames, Walk, front_of};
+use crate::iris::iri_len;
 use crate::over::is_over;
 use crate::quick::quick_front;
 use crate::strings::string_len;
@@ -80,6 +81,9 @@ pub(crate) fn look_at(
 {
     if let Some(len) = string_len(dialect, text, walk) {
         return Look::Token(len, Kind::ShortString);
+    }
+    if let Some(len) = iri_len(dialect, text, walk) {
+        return Look::Token(len, Kind::IriRef);
     }
     state_look(dialect, text, tail, walk, no_names)
 }

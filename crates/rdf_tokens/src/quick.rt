@@ -80,8 +80,9 @@ fn quick_plain(text: &str) -> Quick
     Quick { len: 0, kind: None }
 }
 
+/// Whether a reference in angle brackets may come first.
 #[inline(always)]
-fn begins_iri(bytes: &[u8]) -> bool
+pub(crate) fn begins_iri(bytes: &[u8]) -> bool
     ensures { result ≡ begins_iri bytes.now }
 {
     stands_at(b'<', bytes, 0)

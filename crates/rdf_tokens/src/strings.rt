@@ -9,9 +9,10 @@ ghost use Rattle.rdf_tokens.specs.Walk.{Walked};
 
 use crate::bytes::char_at;
 use crate::escapes::{is_echar, string_end, uchar_end};
-use crate::front::{Walk, string_walk};
+use crate::front::{Walk, walk_to};
 use crate::quick::{begins_string, opens_with, quote_byte, stands_at};
-use crate::states::text::Quote;
+use crate::states::machine::State;
+use crate::states::text::{Quote, Text};
 use rdf_terms::Dialect;
 
 /// The length of the string that the text begins with, where it stands there whole, and no escape of it is bad. Of one that goes on it is kept how far
@@ -62,7 +63,7 @@ fn quoted_len(dialect: Dialect, quote: Quote, text: &str, walk: &mut Option<Walk
         return Some(end + 1);
     }
     if end >= 3 {
-        *walk = Some(string_walk(dialect, quote, text, end));
+        *walk = Some(walk_to(dialect, State::Text(Text::Short(quote)), text, end));
     }
     None
 }

@@ -1,11 +1,12 @@
 use Rattle.std.proofs.Common.{◌-◌, ◌≤◌, length}
-use Rattle.rdf_tokens.specs.Escapes.{RestsInIri}
+use Rattle.rdf_tokens.specs.Escapes.{FitsInIri, RestsInIri}
 use Rattle.rdf_tokens.proofs.escapes.iri_end.Given as goal
 
 abbrev pub invariant-loop-next : goal.invariant-loop-next
 invariant-loop-next l = record {
   within : l.at ≤ length l.bytes;
   rests : RestsInIri l.bytes l.from l.at;
+  fits : FitsInIri l.bytes l.from l.at;
 }
 
 abbrev pub decreases-loop-next : goal.decreases-loop-next

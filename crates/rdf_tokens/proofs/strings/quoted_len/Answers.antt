@@ -27,8 +27,8 @@ returns-then-stands_at-clause-token c =
     (string_whole d q bs (subst IsUtf8 (sym v) c.utf8.text) (subst (λ b. opens_with d q b ≡ true) (sym v) c.requires.opens) c.in-Some.first (subst (λ b. IsFirst b c.in-Some.first) (sym v) c.in-Some.ensures) e.result
     e.ensures.rests e.ensures.fits (subst (λ n. stands_at n bs e.result ≡ true) c.quote_byte.ensures (sym c.stands_at.ensures ∙ c.if-stands_at.true)))
 
-pub string_walk-requires-clause-reached : goal.string_walk-requires-clause-reached
-string_walk-requires-clause-reached c =
+pub walk_to-requires-clause-reached : goal.walk_to-requires-clause-reached
+walk_to-requires-clause-reached c =
     let bs = c.as_bytes-bytes.result.now in
     let v = c.as_bytes-bytes.ensures.value in
     let d = c.args.dialect in

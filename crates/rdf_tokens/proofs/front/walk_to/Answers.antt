@@ -3,7 +3,7 @@ use Rattle.std.proofs.Common.{◌≡◌, ◌-◌, length, take, ap, ◌∙◌, a
 use Rattle.std.specs.Str.{chars}
 use Rattle.std.proofs.lemmas.Str.{IsCharBoundary-from_drop}
 use Rattle.rdf_tokens.proofs.WalkLemmas.{counted-before}
-use Rattle.rdf_tokens.proofs.front.string_walk.Goals as goal
+use Rattle.rdf_tokens.proofs.front.walk_to.Goals as goal
 
 pub range-requires-clause-end_boundary : goal.range-requires-clause-end_boundary
 range-requires-clause-end_boundary c = let h = c.requires.reached.here in IsCharBoundary-from_drop c.args.text.now c.args.at h.inside h.utf8
