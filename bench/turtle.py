@@ -1,11 +1,10 @@
 #!/usr/bin/env python3
-"""Reads Turtle through the reader of Turtle and TriG, which counts the quads and keeps none, beside `wc -l` on the same
-file in the same run.
+"""Reads Turtle with `rdfconv check`, which counts the quads and keeps none, beside `wc -l` on the same file in the same run.
 
     bench/turtle.py
 
 For each document: what was counted, the time, MB/s of both (the best of three runs), their ratio, and the most memory that
-the reader held. Of two documents past a limit, the refusal. `rt ci` or `rt run` in crates/quad_count builds the program.
+was held. Of two documents past a limit, the refusal. `rt ci` or `rt run` in crates/rdf_tool builds the program.
 """
 import os
 import subprocess
@@ -14,10 +13,10 @@ import tempfile
 import time
 
 import documents
-from memory import held
+from runs import held
 
 TOP = os.path.dirname(os.path.dirname(os.path.abspath(__file__)))
-PROGRAM = os.path.join(TOP, 'crates', 'quad_count', 'out', 'quad_count')
+CHECK = [os.path.join(TOP, 'crates', 'rdf_tool', 'out', 'rdf_tool'), 'check', '--format', 'ttl']
 
 # Each function below that writes a document answers how many quads it gives.
 
@@ -91,10 +90,10 @@ def run(words, path):
 def is_refused(name, write, path, place):
     """Ends with a failure unless the document is refused for this reason at this place."""
     write(path)
-    _, status, says = run([PROGRAM, 'ttl'], path)
+    _, status, says = run(CHECK, path)
     if (status, says) != (1, place):
         sys.exit('%s: status %d: %s, but should be: %s' % (name, status, says, place))
-    kilobytes = held([PROGRAM, 'ttl'], path, may_fail=True)
+    kilobytes = held(CHECK, path, may_fail=True)
     print('%s: %s, at most %d kB held' % (name, says, kilobytes), flush=True)
 
 
@@ -102,11 +101,11 @@ def measure(name, write, words, path):
     """Ends with a failure unless as many quads are counted as were written."""
     quads = write(path)
     megabytes = os.path.getsize(path) / 1e6
-    words = [PROGRAM, 'ttl'] + words
+    words = CHECK + words
     reads = [run(words, path) for _ in range(3)]
     counts = [run(['wc', '-l'], path) for _ in range(3)]
     _, status, says = reads[0]
-    if status or not says.startswith('%d quads, ' % quads):
+    if status or not says.startswith('accepted, %d quads, ' % quads):
         sys.exit('%s: status %d: %s' % (name, status, says))
     best, plain = min(reads)[0], min(counts)[0]
     print('%s, %.1f MB: %s' % (name, megabytes, says))
@@ -123,10 +122,10 @@ def main():
         for megabytes in (11.5, 23):
             measure('65,000 prefixes again and again', bound_again(megabytes), [], path)
         for depth in (100000, 1000000):
-            measure('%d brackets, depth limit 1,048,576' % depth, nested(depth), ['1048576'], path)
-        is_refused('100,000 brackets, default limits', nested(100000), path, 'TooDeep at byte 15386, line 1')
+            measure('%d brackets, depth limit 1,048,576' % depth, nested(depth), ['--depth', '1048576'], path)
+        is_refused('100,000 brackets, default limits', nested(100000), path, 'rdfconv: too deep at byte 15386, line 1')
         measure('65,536 prefixes', bound(documents.MOST_BINDINGS), [], path)
-        is_refused('65,537 prefixes', bound(documents.MOST_BINDINGS + 1), path, 'TooManyBindings at byte 2337092, line 65537')
+        is_refused('65,537 prefixes', bound(documents.MOST_BINDINGS + 1), path, 'rdfconv: too many bindings at byte 2337092, line 65537')
 
 
 main()
