@@ -135,7 +135,13 @@ fn a_bad_byte_is_reported_where_it_stands(rt: HostRuntime) -> Result<(), Fail> {
             continue;
         }
         for at in 0..document.len() {
-            is_refused_at(&rt, rt.alloc(), &Asked::of(Form::TriG), document, text, at)?;
+            is_refused_at(
+                &rt,
+                rt.alloc(),
+                &Asked::of(Form::TriG).at(at),
+                document,
+                text,
+            )?;
         }
     }
     Ok(())
@@ -177,10 +183,9 @@ fn collections_are_read_as_deep_as_the_limit(rt: HostRuntime) -> Result<(), Fail
             is_converted(
                 &rt,
                 rt.alloc(),
-                &asked,
+                &asked.at(cut),
                 open.as_bytes(),
                 text.as_bytes(),
-                cut,
             )?;
         }
     }

@@ -75,16 +75,15 @@ GRAPH _:g { [ :p :o ] a :c . }\n[] { :s :p \"\"\"a\"b\"\"\" }\nBASE <http://h/b>
 /// More growths than any of these runs asks for.
 const MOST: u64 = 5000;
 
-/// What a run does where memory and devices do not fail, with the document cut there.
+/// What a run does where memory and devices do not fail.
 fn whole_run(
     rt: &impl Abort,
     alloc: Global,
     task: Task,
     asked: &Asked,
     document: &str,
-    cut: usize,
 ) -> Result<Run, Fail> {
-    let mut source = cut_at(document.as_bytes(), cut);
+    let mut source = cut_at(document.as_bytes(), asked.cut);
     let mut drain = ample_drain(alloc);
     let result = run(alloc, task, asked, &mut source, &mut drain);
     assert!(rt;
@@ -101,12 +100,11 @@ fn ends_where_memory_does(
     task: Task,
     asked: &Asked,
     document: &str,
-    cut: usize,
 ) -> Result<(), Fail> {
-    let whole = whole_run(rt, alloc, task, asked, document, cut)?;
+    let whole = whole_run(rt, alloc, task, asked, document)?;
     for calls in 0..MOST {
         let memory = Refusing::after(alloc, calls);
-        let mut source = cut_at(document.as_bytes(), cut);
+        let mut source = cut_at(document.as_bytes(), asked.cut);
         let mut drain = ample_drain(alloc);
         let result = run(&memory, task, asked, &mut source, &mut drain);
         if !memory.has_refused() {
@@ -138,7 +136,7 @@ fn ends_where_its_source_does(
     asked: &Asked,
     document: &str,
 ) -> Result<(), Fail> {
-    let whole = whole_run(rt, alloc, task, asked, document, 0)?;
+    let whole = whole_run(rt, alloc, task, asked, document)?;
     for calls in 0..MOST {
         let mut source = failing_source(document, calls);
         let mut drain = ample_drain(alloc);
@@ -166,9 +164,9 @@ fn ends_where_its_drain_does(
     asked: &Asked,
     document: &str,
 ) -> Result<(), Fail> {
-    let whole = whole_run(rt, alloc, task, asked, document, document.len())?;
+    let whole = whole_run(rt, alloc, task, asked, document)?;
     for calls in 0..MOST {
-        let mut source = cut_at(document.as_bytes(), document.len());
+        let mut source = cut_at(document.as_bytes(), asked.cut);
         let mut drain = failing_drain(alloc, calls);
         let result = run(alloc, task, asked, &mut source, &mut drain);
         if !drain.failed() {
@@ -192,7 +190,7 @@ fn whichever_call_of_a_device_fails_the_run_ends_there(rt: HostRuntime) -> Resul
         let asked = Asked::within(form, limits);
         for task in [Task::Convert, Task::Check, Task::Show] {
             ends_where_its_source_does(&rt, rt.alloc(), task, &asked, document)?;
-            ends_where_its_drain_does(&rt, rt.alloc(), task, &asked, document)?;
+            ends_where_its_drain_does(&rt, rt.alloc(), task, &asked.at(document.len()), document)?;
         }
     }
     Ok(())
@@ -243,7 +241,7 @@ fn whichever_growth_is_refused_memory_is_reported(rt: HostRuntime) -> Result<(),
         let asked = Asked::within(form, limits);
         for task in [Task::Convert, Task::Check, Task::Show] {
             for cut in [0, document.len()] {
-                ends_where_memory_does(&rt, rt.alloc(), task, &asked, document, cut)?;
+                ends_where_memory_does(&rt, rt.alloc(), task, &asked.at(cut), document)?;
             }
         }
     }
@@ -264,8 +262,8 @@ fn long_tokens_and_deep_brackets_end_where_memory_does(rt: HostRuntime) -> Resul
         (Form::TriG, &deep),
     ] {
         for task in [Task::Convert, Task::Check, Task::Show] {
-            let asked = Asked::of(form);
-            ends_where_memory_does(&rt, rt.alloc(), task, &asked, document, document.len())?;
+            let asked = Asked::of(form).at(document.len());
+            ends_where_memory_does(&rt, rt.alloc(), task, &asked, document)?;
         }
     }
     Ok(())

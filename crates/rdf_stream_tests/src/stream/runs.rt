@@ -34,21 +34,29 @@ pub(crate) struct Asked {
     pub(crate) form: Form,
     pub(crate) base: Base,
     pub(crate) limits: Limits,
+    /// The byte that the document is cut at; at 0 each byte comes alone.
+    pub(crate) cut: usize,
 }
 
 impl Asked {
-    /// No base, and the limits that hold where none are asked for.
+    /// No base, each byte alone, and the limits that hold where none are asked for.
     pub(crate) fn of(form: Form) -> Asked {
         Asked::within(form, Limits::default())
     }
 
-    /// No base, and these limits.
+    /// No base, each byte alone, and these limits.
     pub(crate) fn within(form: Form, limits: Limits) -> Asked {
         Asked {
             form,
             base: Base::Absent,
             limits,
+            cut: 0,
         }
+    }
+
+    /// The same of a document that is cut there.
+    pub(crate) fn at(self, cut: usize) -> Asked {
+        Asked { cut, ..self }
     }
 }
 
@@ -93,21 +101,21 @@ pub(crate) fn ended(
     })
 }
 
-fn converted(alloc: Global, asked: &Asked, bytes: &[u8], cut: usize) -> Result<Run, Fail> {
-    let mut source = cut_at(bytes, cut);
+fn converted(alloc: Global, asked: &Asked, bytes: &[u8]) -> Result<Run, Fail> {
+    let mut source = cut_at(bytes, asked.cut);
     let mut drain = ample_drain(alloc);
     let result = convert(alloc, job(alloc, asked)?, &mut source, &mut drain);
     ended(alloc, result, drain)
 }
 
-fn checked(alloc: Global, asked: &Asked, bytes: &[u8], cut: usize) -> Result<Run, Fail> {
-    let mut source = cut_at(bytes, cut);
+fn checked(alloc: Global, asked: &Asked, bytes: &[u8]) -> Result<Run, Fail> {
+    let mut source = cut_at(bytes, asked.cut);
     let result = check(alloc, job(alloc, asked)?, &mut source);
     ended(alloc, result, ample_drain(alloc))
 }
 
-fn shown(alloc: Global, asked: &Asked, bytes: &[u8], cut: usize) -> Result<Run, Fail> {
-    let mut source = cut_at(bytes, cut);
+fn shown(alloc: Global, asked: &Asked, bytes: &[u8]) -> Result<Run, Fail> {
+    let mut source = cut_at(bytes, asked.cut);
     let mut drain = ample_drain(alloc);
     let result = show(alloc, job(alloc, asked)?, &mut source, &mut drain);
     ended(alloc, result, drain)
@@ -122,10 +130,11 @@ pub(crate) fn is_read(
     document: &[u8],
     text: &str,
 ) -> Result<(), Fail> {
-    let whole = shown(alloc, asked, document, document.len())?;
+    let whole = shown(alloc, &asked.at(document.len()), document)?;
     for cut in 0..document.len().saturating_add(1) {
-        is_converted(rt, alloc, asked, document, text.as_bytes(), cut)?;
-        let cut_shown = shown(alloc, asked, document, cut)?;
+        let asked = asked.at(cut);
+        is_converted(rt, alloc, &asked, document, text.as_bytes())?;
+        let cut_shown = shown(alloc, &asked, document)?;
         assert_eq!(rt;
             cut_shown.text.as_slice(),
             whole.text.as_slice(),
@@ -135,19 +144,19 @@ pub(crate) fn is_read(
     Ok(())
 }
 
-/// Cut there, `convert` writes and tells this text, and `check` tells and counts the same.
+/// `convert` writes and tells this text, and `check` tells and counts the same.
 pub(crate) fn is_converted(
     rt: &impl Abort,
     alloc: Global,
     asked: &Asked,
     document: &[u8],
     text: &[u8],
-    cut: usize,
 ) -> Result<(), Fail> {
-    let converted = converted(alloc, asked, document, cut)?;
+    let cut = asked.cut;
+    let converted = converted(alloc, asked, document)?;
     assert_eq!(rt; converted.text.as_slice(), text, "cut at {cut}");
     assert_eq!(rt; converted.flushed, converted.summary.is_some());
-    let checked = checked(alloc, asked, document, cut)?;
+    let checked = checked(alloc, asked, document)?;
     assert_eq!(rt; checked.summary, converted.summary, "cut at {cut}");
     assert_eq!(rt; checked.text.is_empty(), checked.summary.is_some());
     assert!(rt; text.ends_with(checked.text.as_slice()));
@@ -161,15 +170,15 @@ pub(crate) fn is_converted(
     Ok(())
 }
 
-/// With a byte that is no UTF-8 at a place of a document of these lines, that place is told, after whole lines of a beginning.
+/// With a byte that is no UTF-8 where a document of these lines is cut, that place is told, after whole lines of a beginning.
 pub(crate) fn is_refused_at(
     rt: &impl Abort,
     alloc: Global,
     asked: &Asked,
     document: &[u8],
     lines: &str,
-    at: usize,
 ) -> Result<(), Fail> {
+    let at = asked.cut;
     let mut spoilt = Vec::from_slice(alloc, document)?;
     if let Some(byte) = spoilt.get_mut(at) {
         *byte = 0xff;
@@ -181,15 +190,15 @@ pub(crate) fn is_refused_at(
         .count()
         .saturating_add(1);
     let fault = format!(in alloc; "rdfconv: bad UTF-8 at byte {at}, line {line}\n")?;
-    let whole = converted(alloc, asked, spoilt.as_slice(), document.len())?;
+    let whole = converted(alloc, &asked.at(document.len()), spoilt.as_slice())?;
     let text = whole.text.as_slice();
     assert!(rt; text.ends_with(fault.as_bytes()), "a bad byte at {at}");
     assert!(rt;
         begins(lines.as_bytes(), text, fault.len()),
         "a bad byte at {at}"
     );
-    is_converted(rt, alloc, asked, spoilt.as_slice(), text, at)?;
-    is_converted(rt, alloc, asked, spoilt.as_slice(), text, 0)
+    is_converted(rt, alloc, asked, spoilt.as_slice(), text)?;
+    is_converted(rt, alloc, &asked.at(0), spoilt.as_slice(), text)
 }
 
 /// Without so many bytes at its end, the text is a beginning of the lines.
@@ -209,7 +218,7 @@ pub(crate) fn is_shown(
     text: &str,
 ) -> Result<(), Fail> {
     for cut in 0..document.len().saturating_add(1) {
-        let shown = shown(alloc, asked, document, cut)?;
+        let shown = shown(alloc, &asked.at(cut), document)?;
         assert_eq!(rt; shown.text.as_slice(), text.as_bytes(), "cut at {cut}");
         assert_eq!(rt; shown.flushed, shown.summary.is_some());
     }
