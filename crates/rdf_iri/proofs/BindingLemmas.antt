@@ -1,5 +1,5 @@
 -- The texts of bindings: where their parts stand, and that a text says one thing.
-use Rattle.std.proofs.Common.{◌≡◌, ◌≢◌, ℕ, true, false, List, [], ◌∷◌, ◌++◌, ◌==◌, length, drop, Option, Some, None, option_map, inl, inr, refl, sym, ap, ◌∙◌, subst, ⊎_elim, arith}
+use Rattle.std.proofs.Common.{◌≡◌, ℕ, true, false, List, [], ◌∷◌, ◌++◌, ◌==◌, length, drop, Option, Some, None, option_map, inl, inr, refl, sym, ap, ◌∙◌, subst, ⊎_elim, arith}
 use Rattle.std.specs.Str.{chars, IsUtf8, encode_utf8_all}
 use Rattle.std.proofs.lemmas.Bool.{cases_Bool, cond-true, cond-false, and_parts, and_from}
 use Rattle.std.proofs.lemmas.Str.{encodes-chars, chars-encodes, scalars-chars}
@@ -11,8 +11,8 @@ use Rattle.rdf_terms.specs.Classes.{has}
 use Rattle.rdf_terms.specs.Regex.{Matches}
 use Rattle.rdf_terms.specs.Terminals.{shape, Shape}
 use Rattle.rdf_terms.specs.Terms.{IsIri}
-use Rattle.rdf_terms.proofs.CharsLemmas.{before_last, last_char}
-use Rattle.rdf_terms.proofs.NamesLemmas.{bytes_colon, utf8_colon, chars_colon}
+use Rattle.rdf_terms.proofs.CharsLemmas.{before_last}
+use Rattle.rdf_terms.proofs.NamesLemmas.{utf8_colon, chars_colon}
 use Rattle.rdf_terms.proofs.UsedCharacters.{uses, not_used}
 use Rattle.rdf_iri.specs.Texts.{Lacks, before, after, from}
 use Rattle.rdf_iri.specs.Parts.{suffix}
@@ -114,13 +114,6 @@ is_binding bytes name prefix iri u e f g m i =
 -- and one without is none
 pub no_binding_without_space : (bytes prefix iri : List ℕ) → IsUtf8 bytes → None ≡ after 32 bytes → IsBinding bytes prefix iri → ⊥
 no_binding_without_space bytes prefix iri u e b = absurd (let k = no_space bytes u e in let l = (binding_cuts bytes prefix iri b).back in cc)
-
--- without a colon before the space a line is no binding
-pub no_binding_without_colon : (bytes name i prefix iri : List ℕ) → IsUtf8 bytes → name ≡ before 32 bytes → Some i ≡ after 32 bytes → ((front : List ℕ) → name ≢ front ++ 58 ∷ []) →
-    IsBinding bytes prefix iri → ⊥
-no_binding_without_colon bytes name i prefix iri u e f n b =
-    let a = at_space bytes name i u e f in
-    n (encode_utf8_all prefix) (last_char name prefix 58 bytes_colon a.utf8 (a.front ∙ (binding_cuts bytes prefix iri b).front))
 
 -- the name of a binding is a PNAME_NS
 pub binding_name : (bytes name i prefix iri : List ℕ) → IsUtf8 bytes → name ≡ before 32 bytes → Some i ≡ after 32 bytes → IsBinding bytes prefix iri → Shape Turtle PnameNs (chars name)

@@ -36,14 +36,6 @@ long_line s p r h b = subst (λ i. s.limits.iri < byte_len i) (kept s.base r b.0
 pub full_line : (s : InForce) (p r : List ℕ) → has_scheme r ≡ true → NotBound s p r fault.TooManyBindings → (byte_len r ≤ s.limits.iri) × IsFull s p
 full_line s p r h b = (subst (λ i. byte_len i ≤ s.limits.iri) (kept s.base r b.0 h b.1.0) b.1.1, b.2)
 
--- no base is ever needed in a file of bindings
-pub based_line : (s : InForce) (p r : List ℕ) → has_scheme r ≡ true → NotBound s p r fault.NoBase → ⊥
-based_line s p r h b = false≢true (sym b.0 ∙ h)
-
--- no line of a file of bindings is refused for an unbound prefix, since none is looked up
-pub unbound_line : (s : InForce) (p r : List ℕ) → NotBound s p r fault.Unbound → ⊥
-unbound_line s p r b = b
-
 -- the colon counts
 pub long_name : (p : List ℕ) (n t k : ℕ) → n ≡ length p → t ≡ k → t ≤ n → k < length (p ++ 58 ∷ [])
 long_name p n t k e f l = omega (arith, length-append p (58 ∷ []), e, f, l)

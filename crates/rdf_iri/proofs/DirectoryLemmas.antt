@@ -1,7 +1,7 @@
 -- A path written after a directory: it keeps all segments, and the result is the base with the reference after it.
 use Rattle.std.proofs.Common.{◌≡◌, ℕ, zero, suc, true, false, cond, List, [], ◌∷◌, ◌++◌, ◌==◌, ◌&&◌, ◌||◌, ◌≤◌, ◌⊎◌, drop, length, Option, Some, None, inr, refl, sym, ap, ◌∙◌, subst, ⊎_elim, append_assoc, arith}
 use Rattle.std.specs.Prelude.{MatchOption, is_some, codes}
-use Rattle.std.proofs.lemmas.Bool.{or_left, or_from, or_parts, cases_Bool, cond-true, cond-false, false≢true, false_from_ne_true, eqb-false}
+use Rattle.std.proofs.lemmas.Bool.{or_from, or_parts, cases_Bool, cond-true, cond-false, false≢true, false_from_ne_true, eqb-false}
 use Rattle.std.proofs.lemmas.List.{append-nil}
 use Rattle.rdf_terms.specs.Terms.{has_scheme}
 use Rattle.rdf_iri.specs.Texts.{Lacks, BeginsWith, begins, equal, before, from}
@@ -212,10 +212,6 @@ HasDirectory-appended base reference g e =
       path = (b.path ++ e.0, ap (λ x. b.path ++ x) e.1 ∙ sym (append_assoc b.path e.0 (47 ∷ [])));
       end = record { dots = has_dots-append b.path reference g.0.path g.0.end.dots dots; query = refl; fragment = refl };
     })
-
--- a path with a dot segment first has one
-pub dots-first : (w : List ℕ) → fits_D (before 47 w) ≡ true → has_dots w ≡ true
-dots-first w h = or_left _ (dots_after_slash w) h
 
 -- a path without one first has those from its first '/' on
 dots-later : (w rest : List ℕ) → fits_D (before 47 w) ≡ false → from 47 w ≡ rest → has_dots w ≡ has_dots rest

@@ -10,17 +10,15 @@ use Rattle.std.specs.Map.{lookup}
 use Rattle.std.specs.Ordering.{nat_cmp}
 use Rattle.std.specs.Cmp.Lexicographic.{slice_cmp}
 use Rattle.std.specs.BTreeMap.{BTreeMap, is_at, get_by_text, Updates}
-use Rattle.std.specs.Option.{option_copied, unwrap_or}
+use Rattle.std.specs.Option.{unwrap_or}
 use Rattle.std.proofs.lemmas.Map.Text.{is_eq-slice_cmp, btree_map_updates_text}
 use Rattle.std.proofs.lemmas.Slice.Eq.{bytes_eq-Decides}
 use Rattle.std.proofs.lemmas.Str.{encodes-chars, chars-encodes, scalars-chars, IsUtf8-string_bytes, encodes-append, chars-append}
 use Rattle.std.proofs.lemmas.List.{length-append}
 use Rattle.std.proofs.lemmas.Bool.{cases_Bool, cond-true, cond-false, false≢true, ltb-true, ltb-false}
-use denote.Ref.{Bor}
 use lib.Utf8.{scalars}
 use Rattle.rdf_terms.specs.Terms.{IsIri}
 use Rattle.rdf_iri.specs.Texts.{IsIriText, equal, byte_len}
-use Rattle.rdf_iri.specs.Seen.{text_of}
 use Rattle.rdf_iri.specs.Scope.{InForce, entries_of, bound_to, Binds, HasRoom, KeepsLimits, BaseFits, ExpandsHere, NotJoined, NotExpanded}
 use Rattle.rdf_iri.specs.Limits.{Sizes}
 use Rattle.rdf_iri.proofs.TextsLemmas.{equal-true, equal-from, has_scheme-append}
@@ -111,11 +109,6 @@ Binds-inserted base limits m n key prefix iri old k t u o l =
           ∙ (ap (λ (b : Bool). length m.entries + cond b 0 1) (ap is_some was)
           ∙ ap (λ (i : ℕ). i + cond (is_some (bound_to (entries_of m.entries) (chars prefix))) 0 1) (sym (length-entries_of m.entries))));
     }
-
--- an IRI that is borrowed, as a copy
-pub copied_text : (o : Option (Bor (List ℕ))) → text_of o ≡ option_copied o
-copied_text None = refl
-copied_text (Some b) = refl
 
 -- what is not there is none
 pub none_from : (o : Option (List ℕ)) → is_some o ≡ false → o ≡ None

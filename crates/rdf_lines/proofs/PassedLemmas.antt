@@ -1,17 +1,13 @@
 -- What passing lines does to a reader.
-use Rattle.std.proofs.Common.{◌≡◌, ◌&&◌, ℕ, ◌+◌, ◌≤◌, true, false, not, nat_le, List, [], ◌++◌, length, refl, sym, ap, ◌∙◌, subst, arith}
+use Rattle.std.proofs.Common.{◌≡◌, ℕ, ◌≤◌, true, false, List, [], ◌++◌, length, refl, sym, ap, ◌∙◌, subst}
 use Rattle.std.specs.Prelude.{IsUtf8}
-use Rattle.std.proofs.lemmas.Bool.{and_from, le-leb}
 use Rattle.std.proofs.lemmas.List.{append-nil}
 use Rattle.std.proofs.lemmas.Str.{IsUtf8-past_char}
 use Rattle.std.proofs.Math.Utf8.{encode, encodes}
 use Rattle.std.proofs.Common.{◌∷◌, append_assoc}
 use Rattle.rdf_terms.specs.Terms.{Quad}
-use Rattle.rdf_tokens.specs.Scans.{most_bytes}
-use Rattle.rdf_tokens.specs.Passing.{is_idle}
 use Rattle.rdf_driver.specs.Readers.{Driven, HasRead}
-use Rattle.rdf_driver.specs.Passing.{can_pass, passed, LeadsBack}
-use Rattle.rdf_driver.proofs.PassingLemmas.{can_pass-parts}
+use Rattle.rdf_driver.specs.Passing.{passed, LeadsBack}
 use Rattle.rdf_lines.specs.declared.rules.Rules.{Rules}
 use Rattle.rdf_lines.specs.declared.form.LineForm.{LineForm}
 use Rattle.rdf_lines.specs.declared.form.LineEnding.{LineEnding}
@@ -54,10 +50,6 @@ at_reader ending r g e l bytes quads tokens lines b =
     let roomy : 2 ≤ r.grammar.limit = subst (λ (y : LineAt). 2 ≤ y.limit) e b.1 in
     (subst (λ n. AreLines ending r.grammar.rules.form n r.grammar.rules.iri quads tokens bytes) (sym l) lines_here, (begin, subst (λ n. 2 ≤ n) (sym l) roomy))
 
--- no lines
-pub none_are_lines : (ending : LineEnding) (form : LineForm) (token iri : ℕ) → AreLines ending form token iri 0 0 []
-none_are_lines ending form token iri = record { given = []; canonical = record { is = refl; each = tt }; quad_count = refl; token_count = refl }
-
 -- a grammar that passes nothing leaves the reader as it is
 pub passes_none : (ending : LineEnding) (r : Driven LineAt) → PassesLines ending r [] r
 passes_none ending r = record {
@@ -68,18 +60,6 @@ passes_none ending r = record {
   done = refl;
   read = λ x before quads h. subst (λ u. HasRead line_words r x u (quads ++ [])) (sym (append-nil before)) (subst (HasRead line_words r x before) (sym (append-nil quads)) h);
 }
-
--- fewer bytes can be passed too
-pub can_pass_less : (r : Driven LineAt) (n m : ℕ) → can_pass r n ≡ true → m ≤ n → can_pass r m ≡ true
-can_pass_less r n m e l =
-    let p = can_pass-parts r n e in
-    let room = p.2 in
-    and_from (not r.done) (is_idle r.scanner && nat_le (r.scanner.taken.offset + m) most_bytes) (ap not p.0)
-    (and_from (is_idle r.scanner) (nat_le (r.scanner.taken.offset + m) most_bytes) p.1 (le-leb (r.scanner.taken.offset + m) most_bytes (omega (arith, room))))
-
--- where a reader may pass some bytes, they are within its bound on bytes
-pub can_pass_few : (r : Driven LineAt) (n : ℕ) → can_pass r n ≡ true → n ≤ most_bytes
-can_pass_few r n e = let p = can_pass-parts r n e in let room = p.2 in omega (arith, room)
 
 module _ (ending : LineEnding) (r : Driven LineAt) (begin : r.grammar.mode ≡ Begin) (roomy : 2 ≤ r.scanner.limit) (bytes : List ℕ) (quads tokens : ℕ)
     (lines : AreLines ending r.grammar.rules.form r.scanner.limit r.grammar.rules.iri quads tokens bytes) where

@@ -19,9 +19,6 @@ use Rattle.rdf_stream.specs.declared.fault.StreamFault.TheVariants as stream
 use Rattle.rdf_stream.specs.Checks.{BeginsToRead, CheckEnds, CheckHalts, CheckStops, ChecksNoMore, IsChecking, IsRefusedFor, IsAccepted}
 use Rattle.rdf_stream.specs.Devices.{HasGiven, Reading}
 use Rattle.rdf_stream.specs.Faults.{IsOfDocument, IsRefusal, fault_by}
-use Rattle.rdf_lines.specs.declared.form.LineEnding.{LineEnding}
-use Rattle.rdf_lines.specs.declared.form.Style.{Style}
-use Rattle.rdf_stream.specs.Passes.{PassesText}
 use Rattle.rdf_stream.specs.Pieces.{ReadStops, ReadsAll, SourceFails}
 use Rattle.rdf_stream.proofs.PiecesLemmas.{all_given, too_long_more}
 
@@ -128,14 +125,6 @@ pub halts_more : {G X : Type 0} (w : Words G X Quad) (reported : StreamFault) (f
 halts_more w reported first bytes more h = record {
   begun = h.begun;
   halts = λ x b. checks_no_more reported (in_words w x first.scanner.limit) (b.lawful.ends x) bytes more (h.halts x b);
-}
-
--- the bytes that were passed
-pub text_passed : {G X : Type 0} (w : Words G X Quad) (style : Style) (ending : LineEnding) (first old new : Driven G) (bytes text : List ℕ) → IsChecking w first bytes old → PassesText w style ending old text new → IsChecking w first (bytes ++ text) new
-text_passed w style ending first old new bytes text i p = record {
-  begun = i.begun;
-  limit = p.limit ∙ i.limit;
-  read = λ x b. let (quads, h) = i.read x b in (quads ++ p.given, p.read x bytes quads h);
 }
 
 -- the bytes are counted

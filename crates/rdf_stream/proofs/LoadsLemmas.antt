@@ -11,7 +11,7 @@ use Rattle.rdf_iri.specs.declared.fault.BindingReason.{BindingReason}
 use Rattle.rdf_iri.specs.declared.fault.BindingReason.TheVariants.{Memory as OutOfMemory, BadBinding, TokenTooLong, IriTooLong, TooManyBindings}
 use Rattle.rdf_iri.specs.declared.fault.BindingFault.{BindingFault}
 use Rattle.rdf_stream.specs.declared.fault.LoadFault.{LoadFault}
-use Rattle.rdf_stream.specs.declared.fault.LoadFault.TheVariants.{Read, Memory, Bad}
+use Rattle.rdf_stream.specs.declared.fault.LoadFault.TheVariants.{Read}
 use Rattle.rdf_stream.specs.Devices.{HasGiven, Reading}
 use Rattle.rdf_stream.specs.Loads.{HasGivenAll, LoadStops, ReadsNot, load_fault}
 
@@ -29,12 +29,6 @@ giving_given known left bytes room i = record { bytes = bytes; consumed = i.cons
 -- and where it came to the end
 pub all_given : (known : Option (List ℕ)) (left : Reading) (bytes : List ℕ) → HasGivenAll known left bytes → HasGiven known left
 all_given known left bytes h = record { bytes = bytes; consumed = h.consumed; ended = λ e. h.at_end; live = h.live }
-
--- a fault of reading is one of loading
-pub reads_not : (fault : LoadFault) (sizes : Sizes) (known : Option (List ℕ)) (left : Reading) → ReadsNot fault known left → LoadStops fault sizes known left
-reads_not (Bad f) sizes known left h = absurd h
-reads_not Read sizes known left h = h
-reads_not Memory sizes known left h = h
 
 -- so is a fault of the file
 pub refused : (f : BindingFault) (sizes : Sizes) (known : Option (List ℕ)) (left : Reading) (bytes : List ℕ) → HasGivenAll known left bytes → IsRefused f.reason sizes bytes f.line

@@ -152,15 +152,6 @@ value_is w h = by (local_value w) refl h
     by None e h = absurd (false≢true h)
     by (Some v) e h = let m = local-means false w v e in (e ∙ ap (λ x. Some x) m.0, sym (ap (all_have (has iri_char)) m.0) ∙ m.1)
 
--- what is not there is none
-pub none_is : (o : Option (List ℕ)) → is_some o ≡ false → o ≡ None
-none_is None h = refl
-none_is (Some w) h = absurd (false≢true (sym h))
-
--- what is there is not none
-pub some_is_not : (o : Option (List ℕ)) → is_some o ≡ true → o ≡ None → ⊥
-some_is_not o h e = false≢true (ap is_some (sym e) ∙ h)
-
 -- after the last character the text that was built is the value
 pub unescaped_all : (out rest : List ℕ) → chars rest ≡ [] → chars out ++ without_backslashes (chars rest) ≡ chars out
 unescaped_all out rest e = ap (λ x. chars out ++ without_backslashes x) e ∙ append-nil (chars out)

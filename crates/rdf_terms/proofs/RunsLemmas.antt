@@ -36,14 +36,6 @@ run_in p bs at n r room counted =
 pub pass-more : (p : ℕ → Bool) (bs : List ℕ) (at mid end : ℕ) → PassBetween p bs at mid → PassBetween p bs mid end → PassBetween p bs at end
 pass-more p bs at mid end a b k from to = ⊎_elim (λ l. a k from l) (λ l. b k l to) (cases_lt k mid)
 
--- no bytes pass
-pub pass-none : (p : ℕ → Bool) (bs : List ℕ) (at : ℕ) → PassBetween p bs at at
-pass-none p bs at k from to = absurd (omega arith)
-
--- one byte passes
-pub pass-one : (p : ℕ → Bool) (bs : List ℕ) (at : ℕ) → p (get_or bs at 0) ≡ true → PassBetween p bs at (at + 1)
-pass-one p bs at e k from to = let here : k ≡ at = omega arith in ap (λ n. p (get_or bs n 0)) here ∙ e
-
 -- if all bytes pass between the ends, the text passes
 all_pass : (p : ℕ → Bool) (bs : List ℕ) → PassBetween p bs 0 (length bs) → all_have p bs ≡ true
 all_pass p [] h = refl

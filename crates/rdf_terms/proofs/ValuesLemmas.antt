@@ -1,5 +1,5 @@
 -- The value of a text in which every character stands for itself, and of a token's inside.
-use Rattle.std.proofs.Common.{◌≡◌, ℕ, zero, suc, ◌+◌, ◌*◌, true, List, [], ◌∷◌, ◌==◌, Option, Some, None, is_some, option_map, refl, ap, subst}
+use Rattle.std.proofs.Common.{◌≡◌, ℕ, zero, suc, ◌+◌, ◌*◌, true, List, [], ◌∷◌, ◌==◌, Option, Some, None, option_map, refl, subst}
 use Rattle.std.proofs.lemmas.Bool.{and_from, cond_both, false≢true}
 use Rattle.rdf_terms.specs.declared.kind.Kind.{Kind}
 use Rattle.rdf_terms.specs.declared.kind.Kind.TheVariants.{IriRef, ShortString, LongString}
@@ -12,10 +12,6 @@ use Rattle.rdf_terms.specs.Values.{of_iri, EscapeState, outside, slash, digits, 
 pub backslash_excluded : (c : ℕ) → has iri_char c ≡ true → (c ≡ 92 → ⊥)
 unfolding has
 backslash_excluded c h e = false≢true (subst (λ x. has iri_char x ≡ true) e h)
-
--- what is known is there
-pub is_some-of : {X : Type 0} (o : Option X) (x : X) → o ≡ Some x → is_some o ≡ true
-is_some-of o x e = ap is_some e
 
 -- a kind without escapes
 pub is_fit_other : (k : Kind) (w : List ℕ) → (k ≡ IriRef → ⊥) → (k ≡ ShortString → ⊥) → (k ≡ LongString → ⊥) → is_fit k w ≡ true

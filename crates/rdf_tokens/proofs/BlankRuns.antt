@@ -148,17 +148,3 @@ hash_opens d bs at e =
     opens : (d : Dialect) (w : List ℕ) → Goes d false (35 ∷ w) 0 true (35 ∷ w)
     opens Lines w = let len : blank Lines false (35 ∷ w) ≡ blank Lines true (35 ∷ w) = refl in record { len = omega (arith, len); comment = refl }
     opens Turtle w = let len : blank Turtle false (35 ∷ w) ≡ blank Turtle true (35 ∷ w) = refl in record { len = omega (arith, len); comment = refl }
-
--- from one '#' to the next some bytes are taken off
-pub hash_moves : (d : Dialect) (bs : List ℕ) (at end white : ℕ) → IsRun (goes_on true) bs at end → IsRun (is_space d) bs end white → is_hash bs white ≡ true → at < white
-hash_moves d bs at end white r s e = ⊎_elim
-    (λ l. l)
-    (λ m.
-    let p = and_parts (nat_lt white (length bs)) (get_or bs white 0 == 35) e in
-    let from = r.from in
-    let more = s.from in
-    let same : white ≡ end = omega arith in
-    let c : get_or bs end 0 ≡ 35 = ap (λ k. get_or bs k 0) (sym same) ∙ eqb-true (get_or bs white 0) 35 p.1 in
-    let inside : end < length bs = omega (arith, ltb-true white (length bs) p.0) in
-    absurd (false≢true (sym (r.stops inside) ∙ ap (goes_on true) c)))
-    (cases_lt at white)

@@ -33,10 +33,6 @@ moves_both a b c ts us m n = joined b.place b.begun b.comment b.text (subst (Mov
           (sym (append_assoc ts us (tokens_at a.dialect a.limit t c.begun c.comment c.place (c.text ++ x)).tokens)));
     }
 
--- a scanner that does nothing has read nothing
-pub moves_none : (v : Unread) → Moves v [] v
-moves_none v = record { same = refl; less = omega arith; on = λ t x m. refl }
-
 -- the tail while bytes may come
 open_tail : (v : Unread) → v.broken ≡ false → v.ended ≡ false → tail_now v ≡ goes_on
 open_tail v b e = cond-false _ _ _ b ∙ cond-false _ _ _ e

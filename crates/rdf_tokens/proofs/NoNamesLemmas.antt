@@ -230,18 +230,6 @@ no_bytes : (w : List ℕ) (o : Option (ℕ × Kind)) → None ≡ in_bytes w o �
 no_bytes w None e = refl
 no_bytes w (Some x) e = absurd (let h : None ≡ Some (bytes_of x.0 w, x.1) = e in cc)
 
--- where a look finds no front, and the other way round
-pub none_here : (d : Dialect) (w : List ℕ) (len : ℕ) (kind : Option Kind) (state : Option State) →
-    with_length len kind None ≡ in_bytes w (longest_by (kind_by_states d w) w (length w)) → kind ≡ None → state ≡ open_state d (state_of d w) → BeginsNoName d w state
-none_here d w len kind state f e g = record {
-  none = no_bytes w (longest_by (kind_by_states d w) w (length w)) (sym (ap (λ k. with_length len k None) e) ∙ f);
-  state = g;
-}
-
--- a text that is known to be no_names has no front by the states, so it need not be looked through again
-pub best_of_none : (d : Dialect) (w : List ℕ) (s : Option State) → BeginsNoName d w s → None ≡ in_bytes w (longest_by (kind_by_states d w) w (length w))
-best_of_none d w s b = sym (ap (in_bytes w) b.none)
-
 -- after some bytes the same is known
 none_dropped : (d : Dialect) (bs : List ℕ) (n : ℕ) (b : Option NoNames) → HasNoNames d bs b → HasNoNames d (drop n bs) b
 none_dropped d bs n None h = tt

@@ -125,14 +125,14 @@ around_at c = around_by c.1.1 c.0 c.1.0 (from c)
 abbrev mutual
   place_back : (p : Place) → from (place_to p) ≡ At p
   place_back (Listed s p (Statement v)) = ap (λ x. At (Listed s p (Statement x))) (level_back v)
-  place_back (Listed s p (InPropertyList u)) = ap (λ x. At (Listed s p x)) (boxed_back u)
+  place_back (Listed s p (InPropertyList u)) = ap (λ x. At (Listed s p x)) (in_brackets_back u)
   place_back (InCollection f n u) = ap (λ x. At (InCollection f n x)) (up_back u)
 
-  boxed_back : (u : Up) → around_at (up_to u) ≡ InPropertyList u
-  boxed_back (Subject v) = ap (λ x. InPropertyList (Subject x)) (level_back v)
-  boxed_back (At (Listed s p (Statement v))) = ap InPropertyList (place_back (Listed s p (Statement v)))
-  boxed_back (At (Listed s p (InPropertyList u))) = ap InPropertyList (place_back (Listed s p (InPropertyList u)))
-  boxed_back (At (InCollection f n u)) = ap InPropertyList (place_back (InCollection f n u))
+  in_brackets_back : (u : Up) → around_at (up_to u) ≡ InPropertyList u
+  in_brackets_back (Subject v) = ap (λ x. InPropertyList (Subject x)) (level_back v)
+  in_brackets_back (At (Listed s p (Statement v))) = ap InPropertyList (place_back (Listed s p (Statement v)))
+  in_brackets_back (At (Listed s p (InPropertyList u))) = ap InPropertyList (place_back (Listed s p (InPropertyList u)))
+  in_brackets_back (At (InCollection f n u)) = ap InPropertyList (place_back (InCollection f n u))
 
   up_back : (u : Up) → from (up_to u) ≡ u
   up_back (Subject v) = ap Subject (level_back v)

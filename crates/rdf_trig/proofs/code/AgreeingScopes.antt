@@ -99,15 +99,15 @@ subject_ordinary TriG M.InBlock x = tt
 subject_ordinary Turtle M.Top x = tt
 subject_ordinary Turtle M.InBlock x = tt
 
-semi_ordinary : (p : M.Place) → Ordinary (after_semicolon_at p)
-semi_ordinary (M.Listed s p a) = tt
-semi_ordinary (M.InCollection first cell u) = tt
+semicolon_ordinary : (p : M.Place) → Ordinary (after_semicolon_at p)
+semicolon_ordinary (M.Listed s p a) = tt
+semicolon_ordinary (M.InCollection first cell u) = tt
 
 -- no mode of a statement is in a directive, so that one lemma serves all of them
 mode_ordinary : {A : Type 0} (form : DocForm) (n : State A) (m : Mode) → ((o : Outer) → m ≡ mode.Outer o → ⊥) → Ordinary (mode_at form n m)
 mode_ordinary form n (mode.Outer o) h = absurd (h o refl)
 mode_ordinary form n mode.AfterSubject h = subject_ordinary form (level_of n.level) n.frame.subject
-mode_ordinary form n mode.AfterSemicolon h = semi_ordinary (place_in n)
+mode_ordinary form n mode.AfterSemicolon h = semicolon_ordinary (place_in n)
 mode_ordinary form n m h = tt
 
 -- outside of statements only the three modes that wait for a directive's parts are not ordinary

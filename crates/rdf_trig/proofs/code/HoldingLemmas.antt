@@ -126,10 +126,6 @@ name_within here sizes (Some i) e h =
     let k : byte_len i ≤ sizes.iri = subst (λ (z : Sizes). byte_len i ≤ z.iri) e h in
     omega (arith, k, m)
 
--- a state that fits does so whatever it counts
-pub counted_fits : {A : Type 0} (n k : ℕ) (r : State A) → Fits n r → Fits n (record r { depth = k })
-counted_fits n k r f = record { around = record { level = f.around.level; frame = f.around.frame; frames = f.around.frames }; mode = f.mode; hand = f.hand }
-
 -- so too with another name
 pub named_fits : {A : Type 0} (n : ℕ) (r : State A) (i : Option (List ℕ)) → Fits n r → Fits n (record r { name = i })
 named_fits n r i f = record { around = record { level = f.around.level; frame = f.around.frame; frames = f.around.frames }; mode = f.mode; hand = f.hand }

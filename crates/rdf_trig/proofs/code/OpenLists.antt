@@ -57,10 +57,10 @@ subject_none TriG M.Top s = refl
 subject_none TriG M.InBlock s = refl
 
 -- after a `;` the verb is not counted
-semi_within : (v : M.Level) (o : Container) (s : M.Topic) (p : Option (List ℕ)) (u : M.Up) → mode_size (after_semicolon_at (place_at v o s p u)) ≤ up_size u + open_bytes o s p
-semi_within v (container.List around.Statement) s p u = omega arith
-semi_within v (container.List around.PropertyList) s p u = omega arith
-semi_within v (container.Cells first cell) s p u = omega arith
+semicolon_within : (v : M.Level) (o : Container) (s : M.Topic) (p : Option (List ℕ)) (u : M.Up) → mode_size (after_semicolon_at (place_at v o s p u)) ≤ up_size u + open_bytes o s p
+semicolon_within v (container.List around.Statement) s p u = omega arith
+semicolon_within v (container.List around.PropertyList) s p u = omega arith
+semicolon_within v (container.Cells first cell) s p u = omega arith
 
 -- in each mode at most the frame in hand is counted with those below it
 mode_within : {A : Type 0} (form : DocForm) (r : State A) (m : Mode) → mode_size (mode_at form r m) ≤ up_size (up_in r) + frame_bytes r.frame
@@ -74,7 +74,7 @@ mode_within form r mode.WantType = place_within (level_of r.level) r.frame (up_i
 mode_within form r (mode.PropertyListStart n) = omega arith
 mode_within form r mode.CollectionStart = omega arith
 mode_within form r mode.WantVerb = omega arith
-mode_within form r mode.AfterSemicolon = semi_within (level_of r.level) r.frame.container r.frame.subject r.frame.verb (up_in r)
+mode_within form r mode.AfterSemicolon = semicolon_within (level_of r.level) r.frame.container r.frame.subject r.frame.verb (up_in r)
 mode_within form r mode.AfterPropertyList = omega arith
 
 -- What the machine's open predicate lists hold, a state that is its mode holds.

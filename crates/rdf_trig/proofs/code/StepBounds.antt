@@ -69,9 +69,9 @@ node_depth form (M.Subject v) s n = let d = subject_depth form v s n in (ap (λ 
 node_depth form (M.At p) s n = (refl, tt)
 
 -- after the ']' of a property list one bracket fewer is open than inside it
-box_depth : (u : M.Up) (s : M.Topic) (n : ℕ) → (depth (M.property_list_closed u s) + 1 ≡ depth_up u + 1) × ShortPrefix n (M.property_list_closed u s)
-box_depth (M.Subject v) s n = (refl, tt)
-box_depth (M.At p) s n = (refl, tt)
+brackets_depth : (u : M.Up) (s : M.Topic) (n : ℕ) → (depth (M.property_list_closed u s) + 1 ≡ depth_up u + 1) × ShortPrefix n (M.property_list_closed u s)
+brackets_depth (M.Subject v) s n = (refl, tt)
+brackets_depth (M.At p) s n = (refl, tt)
 
 -- after the ')' of a collection one parenthesis fewer is open than inside it
 list_depth : (u : M.Up) (s : M.Topic) (n : ℕ) → (depth (M.collection_closed u s) + 1 ≡ depth_up u + 1) × ShortPrefix n (M.collection_closed u s)
@@ -83,17 +83,17 @@ end_fits : (c : Setting) (s : M.Topic) (a : M.Around) (k : Kind) (l : Leaf) → 
 end_fits c s (M.Statement M.Top) Dot l = (refl, refl, tt)
 end_fits c s (M.Statement M.InBlock) Dot l = (refl, refl, tt)
 end_fits c s (M.Statement M.InBlock) CloseBrace l = (refl, refl, tt)
-end_fits c s (M.InPropertyList u) CloseBracket l = let d = box_depth u s (byte_len l.text) in (refl, d.0, d.1)
+end_fits c s (M.InPropertyList u) CloseBracket l = let d = brackets_depth u s (byte_len l.text) in (refl, d.0, d.1)
 end_fits c s a k l = tt
 
 -- each reply after ';' keeps to this
-semi_fits : (c : Setting) (s : M.Topic) (a : M.Around) (k : Kind) (l : Leaf) → Fits (use_at c.scope k l) (depth_around a) k l (M.after_semicolon c s a k l)
-semi_fits c s a Semicolon l = (refl, refl, tt)
-semi_fits c s a IriRef l = verb_fits c s a IriRef l
-semi_fits c s a PnameLn l = verb_fits c s a PnameLn l
-semi_fits c s a PnameNs l = verb_fits c s a PnameNs l
-semi_fits c s a A l = verb_fits c s a A l
-semi_fits c s a k l = end_fits c s a k l
+semicolon_fits : (c : Setting) (s : M.Topic) (a : M.Around) (k : Kind) (l : Leaf) → Fits (use_at c.scope k l) (depth_around a) k l (M.after_semicolon c s a k l)
+semicolon_fits c s a Semicolon l = (refl, refl, tt)
+semicolon_fits c s a IriRef l = verb_fits c s a IriRef l
+semicolon_fits c s a PnameLn l = verb_fits c s a PnameLn l
+semicolon_fits c s a PnameNs l = verb_fits c s a PnameNs l
+semicolon_fits c s a A l = verb_fits c s a A l
+semicolon_fits c s a k l = end_fits c s a k l
 
 -- each reply after an object keeps to this
 after_fits : (c : Setting) (p : M.Place) (k : Kind) (l : Leaf) → Fits (use_at c.scope k l) (depth_at p) k l (M.after c p k l)
@@ -112,22 +112,22 @@ text_fits c w p Carets l = (refl, refl, tt)
 text_fits c w p k l = after_fits c p k l
 
 -- each reply after '[' keeps to this
-box_fits : (form : DocForm) (c : Setting) (n : ℕ) (u : M.Up) (k : Kind) (l : Leaf) → Fits (use_at c.scope k l) (depth_up u + 1) k l (M.property_list_start form c n u k l)
-box_fits form c n u CloseBracket l = let d = node_depth form u (M.sized (node (term.Anon n))) (byte_len l.text) in (refl, d.0, d.1)
-box_fits form c n u k l = verb_fits c (M.sized (node (term.Anon n))) (M.InPropertyList u) k l
+brackets_fits : (form : DocForm) (c : Setting) (n : ℕ) (u : M.Up) (k : Kind) (l : Leaf) → Fits (use_at c.scope k l) (depth_up u + 1) k l (M.property_list_start form c n u k l)
+brackets_fits form c n u CloseBracket l = let d = node_depth form u (M.sized (node (term.Anon n))) (byte_len l.text) in (refl, d.0, d.1)
+brackets_fits form c n u k l = verb_fits c (M.sized (node (term.Anon n))) (M.InPropertyList u) k l
 
 -- each reply after '(' keeps to this
-paren_fits : (c : Setting) (u : M.Up) (k : Kind) (l : Leaf) → Fits (use_at c.scope k l) (depth_up u + 1) k l (M.collection_start c u k l)
-paren_fits c u CloseParen l = let d = list_depth u (M.unsized (Some M.nil)) (byte_len l.text) in (refl, d.0, d.1)
-paren_fits c u k l = object_fits c (M.InCollection l.at.offset l.at.offset u) None k l
+collection_start_fits : (c : Setting) (u : M.Up) (k : Kind) (l : Leaf) → Fits (use_at c.scope k l) (depth_up u + 1) k l (M.collection_start c u k l)
+collection_start_fits c u CloseParen l = let d = list_depth u (M.unsized (Some M.nil)) (byte_len l.text) in (refl, d.0, d.1)
+collection_start_fits c u k l = object_fits c (M.InCollection l.at.offset l.at.offset u) None k l
 
 -- each reply after a property list that is a subject keeps to this
-after_box_fits : (c : Setting) (s : M.Topic) (v : M.Level) (k : Kind) (l : Leaf) → Fits (use_at c.scope k l) 0 k l (M.after_property_list c s v k l)
-after_box_fits c s v IriRef l = verb_fits c s (M.Statement v) IriRef l
-after_box_fits c s v PnameLn l = verb_fits c s (M.Statement v) PnameLn l
-after_box_fits c s v PnameNs l = verb_fits c s (M.Statement v) PnameNs l
-after_box_fits c s v A l = verb_fits c s (M.Statement v) A l
-after_box_fits c s v k l = end_fits c s (M.Statement v) k l
+after_brackets_fits : (c : Setting) (s : M.Topic) (v : M.Level) (k : Kind) (l : Leaf) → Fits (use_at c.scope k l) 0 k l (M.after_property_list c s v k l)
+after_brackets_fits c s v IriRef l = verb_fits c s (M.Statement v) IriRef l
+after_brackets_fits c s v PnameLn l = verb_fits c s (M.Statement v) PnameLn l
+after_brackets_fits c s v PnameNs l = verb_fits c s (M.Statement v) PnameNs l
+after_brackets_fits c s v A l = verb_fits c s (M.Statement v) A l
+after_brackets_fits c s v k l = end_fits c s (M.Statement v) k l
 
 -- each reply at the first token of a subject keeps to this
 subject_fits : (form : DocForm) (c : Setting) (v : M.Level) (k : Kind) (l : Leaf) → Fits (use_at c.scope k l) 0 k l (M.subject_start form c v k l)
@@ -177,9 +177,9 @@ graph_fits c OpenBracket l = (refl, refl, tt)
 graph_fits c k l = tt
 
 -- each reply after the '[' of a label keeps to this; that bracket is open as well
-graph_box_fits : (c : Setting) (n : ℕ) (k : Kind) (l : Leaf) → Fits (use_at c.scope k l) 1 k l (M.graph_bracket c n k l)
-graph_box_fits c n CloseBracket l = (refl, refl, tt)
-graph_box_fits c n k l = tt
+graph_brackets_fits : (c : Setting) (n : ℕ) (k : Kind) (l : Leaf) → Fits (use_at c.scope k l) 1 k l (M.graph_bracket c n k l)
+graph_brackets_fits c n CloseBracket l = (refl, refl, tt)
+graph_brackets_fits c n k l = tt
 
 -- directives
 front_short : (c : ℕ) (w : List ℕ) → byte_len (before c w) ≤ byte_len w
@@ -223,18 +223,18 @@ step_fits form c (M.WantBaseIri w) k l = base_iri_fits c w k l
 step_fits form c M.WantDot k l = dot_fits c k l
 step_fits form c (M.AfterLabel g) k l = label_fits c g k l
 step_fits form c M.GraphWord k l = graph_fits c k l
-step_fits form c (M.GraphBracket n) k l = graph_box_fits c n k l
+step_fits form c (M.GraphBracket n) k l = graph_brackets_fits c n k l
 step_fits form c (M.WantBrace g) k l = brace_fits c g k l
 step_fits form c M.Inside k l = inside_fits form c k l
 step_fits form c (M.Want p) k l = object_fits c p None k l
 step_fits form c (M.After p) k l = after_fits c p k l
 step_fits form c (M.AfterText w p) k l = text_fits c w p k l
 step_fits form c (M.WantType w p) k l = type_fits c w p k l
-step_fits form c (M.PropertyListStart n u) k l = box_fits form c n u k l
-step_fits form c (M.CollectionStart u) k l = paren_fits c u k l
+step_fits form c (M.PropertyListStart n u) k l = brackets_fits form c n u k l
+step_fits form c (M.CollectionStart u) k l = collection_start_fits c u k l
 step_fits form c (M.WantVerb s a) k l = verb_fits c s a k l
-step_fits form c (M.AfterSemicolon s a) k l = semi_fits c s a k l
-step_fits form c (M.AfterPropertyList s v) k l = after_box_fits c s v k l
+step_fits form c (M.AfterSemicolon s a) k l = semicolon_fits c s a k l
+step_fits form c (M.AfterPropertyList s v) k l = after_brackets_fits c s v k l
 
 -- what an accepted token stands for is what its kind and the mode say, so the reader may look it up beforehand
 pub step_use : (form : DocForm) (c : Setting) (m : M.Mode) (k : Kind) (l : Leaf) (u : Use) (early now : Option Quad) (d : Setting) (n : M.Mode) →

@@ -86,13 +86,13 @@ subject_decides Turtle r level.Top k x h = h
 subject_decides Turtle r (level.Block b) k x h = h
 
 -- so too after a `;`
-pub semi_decides : {A : Type 0} (form : DocForm) (r : State A) (p : M.Place) (k : Kind) (x : Option Turn) →
+pub semicolon_decides : {A : Type 0} (form : DocForm) (r : State A) (p : M.Place) (k : Kind) (x : Option Turn) →
     Means form r k x (λ s. M.step form (setting_in s r) (after_semicolon_at p) k) →
     MatchOption x ((s : InForce) (l : Leaf) → M.step form (setting_in s r) (after_semicolon_at p) k l ≡ M.No)
     (λ t. (s : InForce) (l : Leaf) (i : Option (List ℕ)) → NameIn s (after_semicolon_at p) k l i →
     M.step form (setting_in s r) (after_semicolon_at p) k l ≡ turned form r (scope_in s (after_semicolon_at p) k l) (use_in s (after_semicolon_at p) k l) i t l)
-semi_decides form r (M.Listed s p a) k x h = h
-semi_decides form r (M.InCollection first cell u) k x h = h
+semicolon_decides form r (M.Listed s p a) k x h = h
+semicolon_decides form r (M.InCollection first cell u) k x h = h
 
 -- tokens that suit a turn with their IRIs do so after a subject and after a `;`
 pub subject_suits : {A : Type 0} (form : DocForm) (r : State A) (v : Level) (k : Kind) (x : Option Turn) → IfSome x (IsSuited k) →
@@ -102,10 +102,10 @@ subject_suits TriG r (level.Block b) k x h = h
 subject_suits Turtle r level.Top k x h = h
 subject_suits Turtle r (level.Block b) k x h = h
 
-pub semi_suits : (p : M.Place) (k : Kind) (x : Option Turn) → IfSome x (IsSuited k) →
+pub semicolon_suits : (p : M.Place) (k : Kind) (x : Option Turn) → IfSome x (IsSuited k) →
     IfSome x (λ t. (i : Option (List ℕ)) → IsNamedIn (after_semicolon_at p) k i → Suits t k i)
-semi_suits (M.Listed s p a) k x h = h
-semi_suits (M.InCollection first cell u) k x h = h
+semicolon_suits (M.Listed s p a) k x h = h
+semicolon_suits (M.InCollection first cell u) k x h = h
 
 -- after a subject in a block a verb comes
 pub block_verb : (form : DocForm) (c : Setting) (x : M.Topic) (k : Kind) (l : Leaf) (v : Level) (b : Block) → v ≡ level.Block b →

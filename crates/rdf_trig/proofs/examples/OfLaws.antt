@@ -33,25 +33,25 @@ use Rattle.rdf_trig.proofs.trees.CompletedBeginnings.{completed}
 use Rattle.rdf_trig.proofs.trees.NamesLemmas.{nameless_where, binds_prefix}
 
 -- A property list, `[ P S ]`, with S and P as in the vectors.
-abbrev box_tokens : List Token
-box_tokens =
+abbrev brackets_tokens : List Token
+brackets_tokens =
     token OpenBracket (leaf (codes "[") 0 1) ∷ token IriRef (leaf (codes "<http://a/p>") 2 1) ∷ token IriRef (leaf (codes "<http://a/s>") 15 1) ∷
     token CloseBracket (leaf (codes "]") 28 1) ∷ []
 
 abbrev brace : Token
 brace = token OpenBrace (leaf (codes "{") 30 1)
 
-abbrev box_state : State
-box_state = record { setting = in_default start; mode = AfterPropertyList (sized (Some (Blank (Anon 0)))) Top; held = [] }
+abbrev brackets_state : State
+brackets_state = record { setting = in_default start; mode = AfterPropertyList (sized (Some (Blank (Anon 0)))) Top; held = [] }
 
-box_ran : accept_all TriG (at_start start) box_tokens ≡ ran box_state
+brackets_ran : accept_all TriG (at_start start) brackets_tokens ≡ ran brackets_state
     (quad (Blank (Anon 0)) (codes "http://a/p") (Resource (term.Iri (codes "http://a/s"))) None ∷ [])
 unfolding reference_in name_in resolved is_full has encode
-box_ran = refl
+brackets_ran = refl
 
 -- A property list is no label of a graph: the brace after it is in no tree.
-pub box_is_no_label : IsRefusedAfter TriG start box_tokens brace [] unexpected
-box_is_no_label = stops TriG start box_tokens brace [] box_state _ unexpected box_ran refl
+pub brackets_is_no_label : IsRefusedAfter TriG start brackets_tokens brace [] unexpected
+brackets_is_no_label = stops TriG start brackets_tokens brace [] brackets_state _ unexpected brackets_ran refl
 
 -- A prefix that is not bound: `S P S ; <http://a/q> e:x`.
 abbrev unbound_tokens : List Token

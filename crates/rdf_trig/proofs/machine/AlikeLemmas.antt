@@ -111,14 +111,14 @@ module _ (s t : InForce) (same : SameNames s t) where
   end_same g x (Statement InBlock) k l = tt
   end_same g x (InPropertyList u) k l = tt
 
-  semi_same : (g : Option (Option term.Subject)) (x : Topic) (a : Around) (k : Kind) (l : Leaf) →
+  semicolon_same : (g : Option (Option term.Subject)) (x : Topic) (a : Around) (k : Kind) (l : Leaf) →
       SameReply (after_semicolon (from g) x a k l) (after_semicolon (to g) x a k l)
-  semi_same g x a Semicolon l = (refl, refl, refl, (same, refl), refl)
-  semi_same g x a IriRef l = verb_same g x a IriRef l
-  semi_same g x a PnameLn l = verb_same g x a PnameLn l
-  semi_same g x a PnameNs l = verb_same g x a PnameNs l
-  semi_same g x a A l = verb_same g x a A l
-  semi_same g x a k l = end_same g x a k l
+  semicolon_same g x a Semicolon l = (refl, refl, refl, (same, refl), refl)
+  semicolon_same g x a IriRef l = verb_same g x a IriRef l
+  semicolon_same g x a PnameLn l = verb_same g x a PnameLn l
+  semicolon_same g x a PnameNs l = verb_same g x a PnameNs l
+  semicolon_same g x a A l = verb_same g x a A l
+  semicolon_same g x a k l = end_same g x a k l
 
   after_same : (g : Option (Option term.Subject)) (p : Place) (k : Kind) (l : Leaf) → SameReply (after (from g) p k l) (after (to g) p k l)
   after_same g (Listed x v a) Comma l = (refl, refl, refl, (same, refl), refl)
@@ -142,22 +142,22 @@ module _ (s t : InForce) (same : SameNames s t) where
   type_same g w p PnameNs l = by_name (λ i. quad_at (from g) p (typed_literal w i)) (λ i. After p) g None _ _ (name l)
   type_same g w p k l = tt
 
-  box_same : (form : DocForm) (g : Option (Option term.Subject)) (n : ℕ) (u : Up) (k : Kind) (l : Leaf) →
+  brackets_same : (form : DocForm) (g : Option (Option term.Subject)) (n : ℕ) (u : Up) (k : Kind) (l : Leaf) →
       SameReply (property_list_start form (from g) n u k l) (property_list_start form (to g) n u k l)
-  box_same form g n u CloseBracket l = (refl, refl, refl, (same, refl), refl)
-  box_same form g n u k l = verb_same g (sized (node (Anon n))) (InPropertyList u) k l
+  brackets_same form g n u CloseBracket l = (refl, refl, refl, (same, refl), refl)
+  brackets_same form g n u k l = verb_same g (sized (node (Anon n))) (InPropertyList u) k l
 
-  paren_same : (g : Option (Option term.Subject)) (u : Up) (k : Kind) (l : Leaf) → SameReply (collection_start (from g) u k l) (collection_start (to g) u k l)
-  paren_same g u CloseParen l = (refl, refl, refl, (same, refl), refl)
-  paren_same g u k l = object_same g (InCollection l.at.offset l.at.offset u) None k l
+  collection_start_same : (g : Option (Option term.Subject)) (u : Up) (k : Kind) (l : Leaf) → SameReply (collection_start (from g) u k l) (collection_start (to g) u k l)
+  collection_start_same g u CloseParen l = (refl, refl, refl, (same, refl), refl)
+  collection_start_same g u k l = object_same g (InCollection l.at.offset l.at.offset u) None k l
 
-  after_box_same : (g : Option (Option term.Subject)) (x : Topic) (v : Level) (k : Kind) (l : Leaf) →
+  after_brackets_same : (g : Option (Option term.Subject)) (x : Topic) (v : Level) (k : Kind) (l : Leaf) →
       SameReply (after_property_list (from g) x v k l) (after_property_list (to g) x v k l)
-  after_box_same g x v IriRef l = verb_same g x (Statement v) IriRef l
-  after_box_same g x v PnameLn l = verb_same g x (Statement v) PnameLn l
-  after_box_same g x v PnameNs l = verb_same g x (Statement v) PnameNs l
-  after_box_same g x v A l = verb_same g x (Statement v) A l
-  after_box_same g x v k l = end_same g x (Statement v) k l
+  after_brackets_same g x v IriRef l = verb_same g x (Statement v) IriRef l
+  after_brackets_same g x v PnameLn l = verb_same g x (Statement v) PnameLn l
+  after_brackets_same g x v PnameNs l = verb_same g x (Statement v) PnameNs l
+  after_brackets_same g x v A l = verb_same g x (Statement v) A l
+  after_brackets_same g x v k l = end_same g x (Statement v) k l
 
   subject_same : (form : DocForm) (g : Option (Option term.Subject)) (v : Level) (k : Kind) (l : Leaf) →
       SameReply (subject_start form (from g) v k l) (subject_start form (to g) v k l)
@@ -201,9 +201,9 @@ module _ (s t : InForce) (same : SameNames s t) where
   graph_same g OpenBracket l = (refl, refl, refl, (same, refl), refl)
   graph_same g k l = tt
 
-  graph_box_same : (g : Option (Option term.Subject)) (n : ℕ) (k : Kind) (l : Leaf) → SameReply (graph_bracket (from g) n k l) (graph_bracket (to g) n k l)
-  graph_box_same g n CloseBracket l = (refl, refl, refl, (same, refl), refl)
-  graph_box_same g n k l = tt
+  graph_brackets_same : (g : Option (Option term.Subject)) (n : ℕ) (k : Kind) (l : Leaf) → SameReply (graph_bracket (from g) n k l) (graph_bracket (to g) n k l)
+  graph_brackets_same g n CloseBracket l = (refl, refl, refl, (same, refl), refl)
+  graph_brackets_same g n k l = tt
 
   prefix_same : (g : Option (Option term.Subject)) (w : Spelling) (k : Kind) (l : Leaf) → SameReply (want_prefix (from g) w k l) (want_prefix (to g) w k l)
   prefix_same g w PnameNs l = (refl, refl, refl, (same, refl), refl)
@@ -240,18 +240,18 @@ module _ (s t : InForce) (same : SameNames s t) where
   step_same form g WantDot k l = dot_same g k l
   step_same form g (AfterLabel x) k l = label_same g x k l
   step_same form g GraphWord k l = graph_same g k l
-  step_same form g (GraphBracket n) k l = graph_box_same g n k l
+  step_same form g (GraphBracket n) k l = graph_brackets_same g n k l
   step_same form g (WantBrace x) k l = brace_same g x k l
   step_same form g Inside k l = inside_same form g k l
   step_same form g (Want p) k l = object_same g p None k l
   step_same form g (After p) k l = after_same g p k l
   step_same form g (AfterText w p) k l = text_same g w p k l
   step_same form g (WantType w p) k l = type_same g w p k l
-  step_same form g (PropertyListStart n u) k l = box_same form g n u k l
-  step_same form g (CollectionStart u) k l = paren_same g u k l
+  step_same form g (PropertyListStart n u) k l = brackets_same form g n u k l
+  step_same form g (CollectionStart u) k l = collection_start_same g u k l
   step_same form g (WantVerb x a) k l = verb_same g x a k l
-  step_same form g (AfterSemicolon x a) k l = semi_same g x a k l
-  step_same form g (AfterPropertyList x v) k l = after_box_same g x v k l
+  step_same form g (AfterSemicolon x a) k l = semicolon_same g x a k l
+  step_same form g (AfterPropertyList x v) k l = after_brackets_same g x v k l
 
   waiting_same : (g : Option (Option term.Subject)) (m : Mode) (k : Kind) (l : Leaf) → waiting (from g) m k l ≡ waiting (to g) m k l
   waiting_same g (AfterText w p) LangTag l = refl

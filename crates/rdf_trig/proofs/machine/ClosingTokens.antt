@@ -96,13 +96,13 @@ abbrev mutual
   close_list (Subject v) = close_verb v
   close_list (At p) = close_place p
 
-  pub close_box : Up → List Token
-  close_box (Subject v) = close_level v
-  close_box (At p) = close_place p
+  pub close_brackets : Up → List Token
+  close_brackets (Subject v) = close_level v
+  close_brackets (At p) = close_place p
 
   pub close_around : Around → List Token
   close_around (Statement v) = close_level v
-  close_around (InPropertyList u) = close_bracket ∷ close_box u
+  close_around (InPropertyList u) = close_bracket ∷ close_brackets u
 
 -- what completes a directive whose IRIREF has been read
 abbrev pub close_directive : Spelling → List Token
@@ -196,9 +196,9 @@ module _ (strict : Bool) (form : DocForm) where
   level_closes Top c s p = plain Dot (leaf (codes ".")) refl (at_end c)
   level_closes InBlock c s p = plain CloseBrace (leaf (codes "}")) refl (at_end (in_default c.scope))
 
-  box_closes : (v : Level) (c : Setting) (s : Topic) → Accepts c (AfterPropertyList s v) (close_level v)
-  box_closes Top c s = plain Dot (leaf (codes ".")) refl (at_end c)
-  box_closes InBlock c s = plain CloseBrace (leaf (codes "}")) refl (at_end (in_default c.scope))
+  brackets_closes : (v : Level) (c : Setting) (s : Topic) → Accepts c (AfterPropertyList s v) (close_level v)
+  brackets_closes Top c s = plain Dot (leaf (codes ".")) refl (at_end c)
+  brackets_closes InBlock c s = plain CloseBrace (leaf (codes "}")) refl (at_end (in_default c.scope))
 
   object_closes : (c : Setting) (p : Place) (ts : List Token) → Accepts c (After p) ts → Accepts c (Want p) (iri ∷ ts)
   object_closes c p ts a = named_by None (quad_at c p (resource (named (reference_in c.scope any_iri)))) refl a
@@ -214,16 +214,16 @@ module _ (strict : Bool) (form : DocForm) where
   mutual
     place_closes : (p : Place) (c : Setting) → Accepts c (After p) (close_place p)
     place_closes (Listed s p (Statement v)) c = level_closes v c s p
-    place_closes (Listed s p (InPropertyList u)) c = plain CloseBracket (leaf (codes "]")) refl (up_box u c s)
+    place_closes (Listed s p (InPropertyList u)) c = plain CloseBracket (leaf (codes "]")) refl (up_brackets u c s)
     place_closes (InCollection f n u) c = takes CloseParen (leaf (codes ")")) itself None (rest_quad c (Cell n) nil) (itself_passes strict) refl (up_list u c (unsized (cell f)))
 
     up_list : (u : Up) (c : Setting) (s : Topic) → Accepts c (collection_closed u s) (close_list u)
     up_list (Subject v) c s = verb_closes v c s
     up_list (At p) c s = place_closes p c
 
-    up_box : (u : Up) (c : Setting) (s : Topic) → Accepts c (property_list_closed u s) (close_box u)
-    up_box (Subject v) c s = box_closes v c s
-    up_box (At p) c s = place_closes p c
+    up_brackets : (u : Up) (c : Setting) (s : Topic) → Accepts c (property_list_closed u s) (close_brackets u)
+    up_brackets (Subject v) c s = brackets_closes v c s
+    up_brackets (At p) c s = place_closes p c
 
   brace_closes : (c : Setting) (g : Option term.Subject) → Accepts c (WantBrace g) close_block
   brace_closes c g = plain OpenBrace (leaf (codes "{")) refl (plain CloseBrace (leaf (codes "}")) refl (at_end (in_default c.scope)))
@@ -231,7 +231,7 @@ module _ (strict : Bool) (form : DocForm) where
   around_closes : (a : Around) (c : Setting) (s : Topic) → Accepts c (AfterSemicolon s a) (close_around a)
   around_closes (Statement Top) c s = plain Dot (leaf (codes ".")) refl (at_end c)
   around_closes (Statement InBlock) c s = plain CloseBrace (leaf (codes "}")) refl (at_end (in_default c.scope))
-  around_closes (InPropertyList u) c s = plain CloseBracket (leaf (codes "]")) refl (up_box u c s)
+  around_closes (InPropertyList u) c s = plain CloseBracket (leaf (codes "]")) refl (up_brackets u c s)
 
   directive_closes : (w : Spelling) (c : Setting) → Accepts c (directive_end w) (close_directive w)
   directive_closes Dotted c = plain Dot (leaf (codes ".")) refl (at_end c)
@@ -283,4 +283,4 @@ module _ (strict : Bool) (form : DocForm) where
       named_by strict form None None refl
       (object_closes strict form c (Listed s (spelt (reference_in c.scope any_iri)) a) (close_around a) (place_closes strict form (Listed s (spelt (reference_in c.scope any_iri)) a) c))
   closes (AfterSemicolon s a) c = around_closes strict form a c s
-  closes (AfterPropertyList s v) c = box_closes strict form v c s
+  closes (AfterPropertyList s v) c = brackets_closes strict form v c s

@@ -122,8 +122,8 @@ module _ (form : DocForm) where
     list = (refl, refl);
   }
 
-  pub paren_takes : (c : Setting) (u : Up) (l : Leaf) → TakesObject c (CollectionStart u) (InCollection l.at.offset l.at.offset u) (quad_up c u (Blank (cell_at l))) None l
-  paren_takes c u l = record {
+  pub collection_start_takes : (c : Setting) (u : Up) (l : Leaf) → TakesObject c (CollectionStart u) (InCollection l.at.offset l.at.offset u) (quad_up c u (Blank (cell_at l))) None l
+  collection_start_takes c u l = record {
     iri = record { waits = (refl, refl, refl); ref = refl; ln = refl; ns = refl };
     label = (refl, refl);
     short = (refl, refl);
@@ -197,11 +197,11 @@ module _ (form : DocForm) where
   literal_good (boolean (true_word l)) c m p before early rest h g = one True l before itself early _ h.true_word.0 h.true_word.1 g
   literal_good (boolean (false_word l)) c m p before early rest h g = one False l before itself early _ h.false_word.0 h.false_word.1 g
 
-  pub box_verb : (c : Setting) (n : ℕ) (u : Up) → TakesVerb c (PropertyListStart n u) (sized (node (Anon n))) (InPropertyList u)
-  box_verb c n u = record { iri = λ l. record { waits = (refl, refl, refl); ref = refl; ln = refl; ns = refl }; type = λ l. (refl, refl) }
+  pub brackets_verb : (c : Setting) (n : ℕ) (u : Up) → TakesVerb c (PropertyListStart n u) (sized (node (Anon n))) (InPropertyList u)
+  brackets_verb c n u = record { iri = λ l. record { waits = (refl, refl, refl); ref = refl; ln = refl; ns = refl }; type = λ l. (refl, refl) }
 
-  pub semi_verb : (c : Setting) (s : Topic) (a : Around) → TakesVerb c (AfterSemicolon s a) s a
-  semi_verb c s a = record { iri = λ l. record { waits = (refl, refl, refl); ref = refl; ln = refl; ns = refl }; type = λ l. (refl, refl) }
+  pub semicolon_verb : (c : Setting) (s : Topic) (a : Around) → TakesVerb c (AfterSemicolon s a) s a
+  semicolon_verb c s a = record { iri = λ l. record { waits = (refl, refl, refl); ref = refl; ln = refl; ns = refl }; type = λ l. (refl, refl) }
 
   pub want_verb : (c : Setting) (s : Topic) (a : Around) → TakesVerb c (WantVerb s a) s a
   want_verb c s a = record { iri = λ l. record { waits = (refl, refl, refl); ref = refl; ln = refl; ns = refl }; type = λ l. (refl, refl) }
@@ -227,14 +227,14 @@ module _ (form : DocForm) where
         Good c (After p) rest → Good c m (give before (list_events c ps early (object_quad c (subject_at p) (verb_at p) (list_object ps)) rest))
     list_object_good (property_list l ps r) c m p before early rest h g =
         one OpenBracket l before itself early _ h.property_list_start.0 h.property_list_start.1
-        (predicates_good ps c (PropertyListStart l.at.offset (At p)) (sized (node (anon_at l))) (InPropertyList (At p)) CloseBracket r c (After p) rest (box_verb c l.at.offset (At p)) record { after = λ v. refl; after_semicolon = refl } g)
+        (predicates_good ps c (PropertyListStart l.at.offset (At p)) (sized (node (anon_at l))) (InPropertyList (At p)) CloseBracket r c (After p) rest (brackets_verb c l.at.offset (At p)) record { after = λ v. refl; after_semicolon = refl } g)
 
     items_good : (os : Items) (c : Setting) (u : Up) (r : Leaf) (rest : List Event) → Good c (collection_closed u (unsized (Some (items_of os)))) rest →
         Good c (CollectionStart u) (give (quad_up c u (items_of os)) (items_events c os r rest))
     items_good no_items c u r rest g = one CloseParen r (quad_up c u nil) itself None None refl refl g
     items_good (item o os) c u r rest g =
         let l = object_leaf o in
-        object_good o c (CollectionStart u) (InCollection l.at.offset l.at.offset u) (quad_up c u (Blank (cell_at l))) None _ (paren_takes c u l) (rest_good os c l.at.offset l.at.offset u r rest g)
+        object_good o c (CollectionStart u) (InCollection l.at.offset l.at.offset u) (quad_up c u (Blank (cell_at l))) None _ (collection_start_takes c u l) (rest_good os c l.at.offset l.at.offset u r rest g)
 
     rest_good : (os : Items) (c : Setting) (f n : ℕ) (u : Up) (r : Leaf) (rest : List Event) → Good c (collection_closed u (unsized (cell f))) rest →
         Good c (After (InCollection f n u)) (rest_events c os (Cell n) r rest)
@@ -266,17 +266,17 @@ module _ (form : DocForm) where
         Ends c s a k l c' m' → Good c' m' rest →
         Good c (After (Listed s v a)) (more_events c ms s.term (take k l rest))
     more_good no_more c s v a k l c' m' rest e g = alone k l refl (e.after v) g
-    more_good (semicolon d ms) c s v a k l c' m' rest e g = alone Semicolon d refl refl (semi_good ms c s a k l c' m' rest e g)
+    more_good (semicolon d ms) c s v a k l c' m' rest e g = alone Semicolon d refl refl (semicolon_good ms c s a k l c' m' rest e g)
     more_good (semicolon_objects d w os ms) c s v a k l c' m' rest e g =
-        alone Semicolon d refl refl (verb_good w c (AfterSemicolon s a) s a _ (semi_verb c s a) (objects_good os c s (verb_in c.scope w) a _ (more_good ms c s (verb_in c.scope w) a k l c' m' rest e g)))
+        alone Semicolon d refl refl (verb_good w c (AfterSemicolon s a) s a _ (semicolon_verb c s a) (objects_good os c s (verb_in c.scope w) a _ (more_good ms c s (verb_in c.scope w) a k l c' m' rest e g)))
 
-    semi_good : (ms : More) (c : Setting) (s : Topic) (a : Around) (k : Kind) (l : Leaf) (c' : Setting) (m' : Mode) (rest : List Event) →
+    semicolon_good : (ms : More) (c : Setting) (s : Topic) (a : Around) (k : Kind) (l : Leaf) (c' : Setting) (m' : Mode) (rest : List Event) →
         Ends c s a k l c' m' → Good c' m' rest →
         Good c (AfterSemicolon s a) (more_events c ms s.term (take k l rest))
-    semi_good no_more c s a k l c' m' rest e g = alone k l refl e.after_semicolon g
-    semi_good (semicolon d ms) c s a k l c' m' rest e g = alone Semicolon d refl refl (semi_good ms c s a k l c' m' rest e g)
-    semi_good (semicolon_objects d w os ms) c s a k l c' m' rest e g =
-        alone Semicolon d refl refl (verb_good w c (AfterSemicolon s a) s a _ (semi_verb c s a) (objects_good os c s (verb_in c.scope w) a _ (more_good ms c s (verb_in c.scope w) a k l c' m' rest e g)))
+    semicolon_good no_more c s a k l c' m' rest e g = alone k l refl e.after_semicolon g
+    semicolon_good (semicolon d ms) c s a k l c' m' rest e g = alone Semicolon d refl refl (semicolon_good ms c s a k l c' m' rest e g)
+    semicolon_good (semicolon_objects d w os ms) c s a k l c' m' rest e g =
+        alone Semicolon d refl refl (verb_good w c (AfterSemicolon s a) s a _ (semicolon_verb c s a) (objects_good os c s (verb_in c.scope w) a _ (more_good ms c s (verb_in c.scope w) a k l c' m' rest e g)))
 
   -- a state that takes the subject of triples
   pub record TakesSubject (c0 : Setting) (m : Mode) (c : Setting) (v : Level) : Type 0 where
@@ -292,21 +292,21 @@ module _ (form : DocForm) where
   pub label_verb : (c : Setting) (s : Topic) → TakesVerb c (AfterLabel s) s (Statement Top)
   label_verb c s = record { iri = λ l. record { waits = (refl, refl, refl); ref = refl; ln = refl; ns = refl }; type = λ l. (refl, refl) }
 
-  pub box_then_verb : (c : Setting) (s : Topic) (v : Level) → TakesVerb c (AfterPropertyList s v) s (Statement v)
-  box_then_verb c s v = record { iri = λ l. record { waits = (refl, refl, refl); ref = refl; ln = refl; ns = refl }; type = λ l. (refl, refl) }
+  pub brackets_then_verb : (c : Setting) (s : Topic) (v : Level) → TakesVerb c (AfterPropertyList s v) s (Statement v)
+  brackets_then_verb c s v = record { iri = λ l. record { waits = (refl, refl, refl); ref = refl; ln = refl; ns = refl }; type = λ l. (refl, refl) }
 
   maybe_good : (ps : Option PredicateObjectList) (c : Setting) (s : Topic) (v : Level) (k : Kind) (l : Leaf) (c' : Setting) (m' : Mode)
       (rest : List Event) →
       EndsTriples c v k l c' m' → Good c' m' rest →
       Good c (AfterPropertyList s v) (maybe_events c s.term ps (take k l rest))
   maybe_good None c s v k l c' m' rest e g = alone k l refl (e.property_list_start s) g
-  maybe_good (Some ps) c s v k l c' m' rest e g = predicates_good ps c (AfterPropertyList s v) s (Statement v) k l c' m' rest (box_then_verb c s v) (e.list s) g
+  maybe_good (Some ps) c s v k l c' m' rest e g = predicates_good ps c (AfterPropertyList s v) s (Statement v) k l c' m' rest (brackets_then_verb c s v) (e.list s) g
 
   list_good : (p : BlankNodePropertyList) (c0 : Setting) (m : Mode) (c : Setting) (v : Level) (rest : List Event) → TakesSubject c0 m c v →
       Good c (AfterPropertyList (sized (Some (list_of p))) v) rest → Good c0 m (list_events c p None None rest)
   list_good (property_list l ps r) c0 m c v rest h g =
       alone OpenBracket l (h.property_list_start l).0 (h.property_list_start l).1
-      (predicates_good ps c (PropertyListStart l.at.offset (Subject v)) (sized (node (anon_at l))) (InPropertyList (Subject v)) CloseBracket r c (AfterPropertyList (sized (node (anon_at l))) v) rest (box_verb c l.at.offset (Subject v)) record { after = λ x. refl; after_semicolon = refl } g)
+      (predicates_good ps c (PropertyListStart l.at.offset (Subject v)) (sized (node (anon_at l))) (InPropertyList (Subject v)) CloseBracket r c (AfterPropertyList (sized (node (anon_at l))) v) rest (brackets_verb c l.at.offset (Subject v)) record { after = λ x. refl; after_semicolon = refl } g)
 
   collection_good : (x : Collection) (c0 : Setting) (m : Mode) (c : Setting) (v : Level) (rest : List Event) → TakesSubject c0 m c v →
       Good c (WantVerb (unsized (Some (collection_of x))) (Statement v)) rest →

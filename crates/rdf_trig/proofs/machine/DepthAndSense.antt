@@ -2,7 +2,7 @@
 use Rattle.std.proofs.Common.{◌≡◌, ℕ, ◌+◌, ◌⊎◌, inl, inr, Bool, true, false, List, [], ◌∷◌, ◌++◌, Option, Some, None, refl, sym, ap, ◌∙◌, arith}
 use Rattle.rdf_terms.specs.declared.kind.Kind.{Kind}
 use Rattle.rdf_terms.specs.declared.kind.Kind.TheVariants.{IriRef, LabelNode, ShortString, LongString, LangTag, Carets, Dot, Integer, Decimal, Double, True, False, A, AtPrefix, AtBase, Prefix, Base, Graph, PnameNs, PnameLn, Semicolon, Comma, OpenBracket, CloseBracket, OpenParen, CloseParen, OpenBrace, CloseBrace, End}
-use Rattle.rdf_terms.specs.Terms.{Node, Label, Anon, Cell, Blank, Term, Quad}
+use Rattle.rdf_terms.specs.Terms.{Anon, Cell, Blank, Quad}
 use Rattle.rdf_terms.specs.Terms as term
 use Rattle.rdf_tokens.specs.Tokens.{Token}
 use Rattle.rdf_iri.specs.Scope.{InForce}
@@ -14,7 +14,7 @@ use Rattle.rdf_trig.specs.Quads.{Setting, in_default, named, node, labelled, cel
 use Rattle.rdf_trig.specs.Events.{Use, itself, stands, binds}
 use Rattle.rdf_trig.specs.Machine.{Topic, sized, unsized, Level, Top, InBlock, Place, Listed, InCollection, Around, Statement, InPropertyList, Up, Subject, At, Spelling, Dotted, Sparql, Mode, Start, Over, WantPrefix, WantPrefixIri, WantBaseIri, WantDot, AfterLabel, GraphWord, GraphBracket, WantBrace, Inside, Want, After, AfterText, WantType, PropertyListStart, CollectionStart, WantVerb, AfterSemicolon, AfterPropertyList, Reply, No, Go, cell, nil, object_start, want_type, verb_start, after_subject, node_closed, property_list_closed, collection_closed, predicate_list_end, after_semicolon, after, after_text, property_list_start, collection_start, after_property_list, subject_start, start, inside, want_brace, after_label, graph_word, graph_bracket, want_prefix, want_prefix_iri, want_base_iri, want_dot, step}
 use Rattle.rdf_trig.specs.Machine.{depth, depth_at, depth_around, depth_up}
-use Rattle.rdf_trig.specs.Documents.{opens, closes, opened, closed, open_in}
+use Rattle.rdf_trig.specs.Documents.{opens, closes, opened, closed}
 use Rattle.rdf_trig.proofs.machine.ClosingTokens.{admits}
 use Rattle.rdf_trig.proofs.machine.ViableTokens.{Stand, stand, reach, on_reply, if_true}
 
@@ -48,9 +48,9 @@ with_binding_limits s p None = refl
 with_binding_limits s p (Some i) = refl
 
 -- after a property list nothing is held that would be lost at the end of the input
-box_quiet : (u : Up) (s : Topic) → Quiet (property_list_closed u s) None None
-box_quiet (Subject v) s = tt
-box_quiet (At p) s = tt
+brackets_quiet : (u : Up) (s : Topic) → Quiet (property_list_closed u s) None None
+brackets_quiet (Subject v) s = tt
+brackets_quiet (At p) s = tt
 
 -- after a collection nothing is held that would be lost at the end of the input
 list_quiet : (u : Up) (s : Topic) (early now : Option Quad) → Quiet (collection_closed u s) early now
@@ -94,9 +94,9 @@ verb_facts c s a A l = (refl, refl, refl, tt)
 verb_facts c s a k l = tt
 
 -- the ']' of a property list leads back to the depth outside
-box_depth : (u : Up) (s : Topic) → depth (property_list_closed u s) ≡ depth_up u
-box_depth (Subject v) s = refl
-box_depth (At p) s = refl
+brackets_depth : (u : Up) (s : Topic) → depth (property_list_closed u s) ≡ depth_up u
+brackets_depth (Subject v) s = refl
+brackets_depth (At p) s = refl
 
 -- the ')' of a collection leads back to the depth outside
 list_depth : (u : Up) (s : Topic) → depth (collection_closed u s) ≡ depth_up u
@@ -119,19 +119,19 @@ end_facts : (c : Setting) (s : Topic) (a : Around) (k : Kind) (l : Leaf) → Fac
 end_facts c s (Statement Top) Dot l = (refl, refl, refl, tt)
 end_facts c s (Statement InBlock) Dot l = (refl, refl, refl, tt)
 end_facts c s (Statement InBlock) CloseBrace l = (refl, refl, refl, tt)
-end_facts c s (InPropertyList u) CloseBracket l = (omega (arith, box_depth u s), refl, refl, box_quiet u s)
+end_facts c s (InPropertyList u) CloseBracket l = (omega (arith, brackets_depth u s), refl, refl, brackets_quiet u s)
 end_facts c s (Statement Top) k l = tt
 end_facts c s (Statement InBlock) k l = tt
 end_facts c s (InPropertyList u) k l = tt
 
 -- each reply after ';' keeps to this
-semi_facts : (c : Setting) (s : Topic) (a : Around) (k : Kind) (l : Leaf) → Facts (depth_around a) c.scope k l (after_semicolon c s a k l)
-semi_facts c s a Semicolon l = (refl, refl, refl, tt)
-semi_facts c s a IriRef l = verb_facts c s a IriRef l
-semi_facts c s a PnameLn l = verb_facts c s a PnameLn l
-semi_facts c s a PnameNs l = verb_facts c s a PnameNs l
-semi_facts c s a A l = verb_facts c s a A l
-semi_facts c s a k l = end_facts c s a k l
+semicolon_facts : (c : Setting) (s : Topic) (a : Around) (k : Kind) (l : Leaf) → Facts (depth_around a) c.scope k l (after_semicolon c s a k l)
+semicolon_facts c s a Semicolon l = (refl, refl, refl, tt)
+semicolon_facts c s a IriRef l = verb_facts c s a IriRef l
+semicolon_facts c s a PnameLn l = verb_facts c s a PnameLn l
+semicolon_facts c s a PnameNs l = verb_facts c s a PnameNs l
+semicolon_facts c s a A l = verb_facts c s a A l
+semicolon_facts c s a k l = end_facts c s a k l
 
 -- each reply after an object keeps to this
 after_facts : (c : Setting) (p : Place) (k : Kind) (l : Leaf) → Facts (depth_at p) c.scope k l (after c p k l)
@@ -157,22 +157,22 @@ type_facts c w p PnameNs l = (refl, inl refl, refl, tt)
 type_facts c w p k l = tt
 
 -- each reply after '[' keeps to this
-box_facts : (form : DocForm) (c : Setting) (n : ℕ) (u : Up) (k : Kind) (l : Leaf) → Facts (depth_up u + 1) c.scope k l (property_list_start form c n u k l)
-box_facts form c n u CloseBracket l = (omega (arith, node_depth form u (sized (node (Anon n)))), refl, refl, node_quiet form u (sized (node (Anon n))))
-box_facts form c n u k l = verb_facts c (sized (node (Anon n))) (InPropertyList u) k l
+brackets_facts : (form : DocForm) (c : Setting) (n : ℕ) (u : Up) (k : Kind) (l : Leaf) → Facts (depth_up u + 1) c.scope k l (property_list_start form c n u k l)
+brackets_facts form c n u CloseBracket l = (omega (arith, node_depth form u (sized (node (Anon n)))), refl, refl, node_quiet form u (sized (node (Anon n))))
+brackets_facts form c n u k l = verb_facts c (sized (node (Anon n))) (InPropertyList u) k l
 
 -- each reply after '(' keeps to this
-paren_facts : (c : Setting) (u : Up) (k : Kind) (l : Leaf) → Facts (depth_up u + 1) c.scope k l (collection_start c u k l)
-paren_facts c u CloseParen l = (omega (arith, list_depth u (unsized (Some nil))), refl, refl, list_quiet u (unsized (Some nil)) None None)
-paren_facts c u k l = object_facts c (InCollection l.at.offset l.at.offset u) None k l
+collection_start_facts : (c : Setting) (u : Up) (k : Kind) (l : Leaf) → Facts (depth_up u + 1) c.scope k l (collection_start c u k l)
+collection_start_facts c u CloseParen l = (omega (arith, list_depth u (unsized (Some nil))), refl, refl, list_quiet u (unsized (Some nil)) None None)
+collection_start_facts c u k l = object_facts c (InCollection l.at.offset l.at.offset u) None k l
 
 -- each reply after a property list that is a subject keeps to this
-after_box_facts : (c : Setting) (s : Topic) (v : Level) (k : Kind) (l : Leaf) → Facts 0 c.scope k l (after_property_list c s v k l)
-after_box_facts c s v IriRef l = verb_facts c s (Statement v) IriRef l
-after_box_facts c s v PnameLn l = verb_facts c s (Statement v) PnameLn l
-after_box_facts c s v PnameNs l = verb_facts c s (Statement v) PnameNs l
-after_box_facts c s v A l = verb_facts c s (Statement v) A l
-after_box_facts c s v k l = end_facts c s (Statement v) k l
+after_brackets_facts : (c : Setting) (s : Topic) (v : Level) (k : Kind) (l : Leaf) → Facts 0 c.scope k l (after_property_list c s v k l)
+after_brackets_facts c s v IriRef l = verb_facts c s (Statement v) IriRef l
+after_brackets_facts c s v PnameLn l = verb_facts c s (Statement v) PnameLn l
+after_brackets_facts c s v PnameNs l = verb_facts c s (Statement v) PnameNs l
+after_brackets_facts c s v A l = verb_facts c s (Statement v) A l
+after_brackets_facts c s v k l = end_facts c s (Statement v) k l
 
 -- each reply at the first token of a subject keeps to this
 subject_facts : (form : DocForm) (c : Setting) (v : Level) (k : Kind) (l : Leaf) → Facts 0 c.scope k l (subject_start form c v k l)
@@ -220,9 +220,9 @@ graph_facts c OpenBracket l = (refl, refl, refl, tt)
 graph_facts c k l = tt
 
 -- each reply after the '[' of a label keeps to this
-graph_box_facts : (c : Setting) (n : ℕ) (k : Kind) (l : Leaf) → Facts 1 c.scope k l (graph_bracket c n k l)
-graph_box_facts c n CloseBracket l = (refl, refl, refl, tt)
-graph_box_facts c n k l = tt
+graph_brackets_facts : (c : Setting) (n : ℕ) (k : Kind) (l : Leaf) → Facts 1 c.scope k l (graph_bracket c n k l)
+graph_brackets_facts c n CloseBracket l = (refl, refl, refl, tt)
+graph_brackets_facts c n k l = tt
 
 -- each reply at the prefix of a directive keeps to this
 prefix_facts : (c : Setting) (w : Spelling) (k : Kind) (l : Leaf) → Facts 0 c.scope k l (want_prefix c w k l)
@@ -256,18 +256,18 @@ step_facts form c (WantBaseIri w) k l = base_iri_facts c w k l
 step_facts form c WantDot k l = dot_facts c k l
 step_facts form c (AfterLabel g) k l = label_facts c g k l
 step_facts form c GraphWord k l = graph_facts c k l
-step_facts form c (GraphBracket n) k l = graph_box_facts c n k l
+step_facts form c (GraphBracket n) k l = graph_brackets_facts c n k l
 step_facts form c (WantBrace g) k l = brace_facts c g k l
 step_facts form c Inside k l = inside_facts form c k l
 step_facts form c (Want p) k l = object_facts c p None k l
 step_facts form c (After p) k l = after_facts c p k l
 step_facts form c (AfterText w p) k l = text_facts c w p k l
 step_facts form c (WantType w p) k l = type_facts c w p k l
-step_facts form c (PropertyListStart n u) k l = box_facts form c n u k l
-step_facts form c (CollectionStart u) k l = paren_facts c u k l
+step_facts form c (PropertyListStart n u) k l = brackets_facts form c n u k l
+step_facts form c (CollectionStart u) k l = collection_start_facts c u k l
 step_facts form c (WantVerb s a) k l = verb_facts c s a k l
-step_facts form c (AfterSemicolon s a) k l = semi_facts c s a k l
-step_facts form c (AfterPropertyList s v) k l = after_box_facts c s v k l
+step_facts form c (AfterSemicolon s a) k l = semicolon_facts c s a k l
+step_facts form c (AfterPropertyList s v) k l = after_brackets_facts c s v k l
 
 -- As many brackets are open as the tokens have opened and not closed.
 pub reached_depth : (strict : Bool) (form : DocForm) (ts : List Token) (c : Setting) (m : Mode) (s : Stand) → reach strict form c m ts ≡ Some s →
@@ -300,11 +300,6 @@ reached_limits strict form (t ∷ ts) c m s e = by (step form c m t.kind (leaf_o
         on_reply strict r (λ c' m'. reach strict form c' m' ts) ≡ Some s → s.setting.scope.limits ≡ c.scope.limits
     by No f ih e = absurd (let z : None ≡ Some s = e in cc)
     by (Go u early now c' m') f ih e = ih c' m' (when (admits strict u) (reach strict form c' m' ts) e) ∙ f.2
-
--- the depth of a state is the number of brackets open in the tokens before it, as the limit counts them
-pub depth_open : (strict : Bool) (form : DocForm) (ts : List Token) (start : InForce) (s : Stand) → reach strict form (in_default start) Start ts ≡ Some s →
-    depth s.mode ≡ open_in ts
-depth_open strict form ts start s e = let h = reached_depth strict form ts (in_default start) Start s e in omega (arith, h)
 
 -- what two lists of tokens open, both open
 pub opened-append : (ts us : List Token) → opened (ts ++ us) ≡ opened ts + opened us

@@ -18,7 +18,7 @@ use Rattle.rdf_trig.specs.Documents.{documents}
 use Rattle.rdf_trig.specs.Owed.{verb_size, blank_held, literal_held, object_held, collection_held, items_held, list_held, predicates_held, more_held, objects_held, commas_held, label_held, maybe_held, triples_held, block_held, wrapped_held, body_held, document_held, held_after, Owed}
 use Rattle.rdf_trig.specs.Machine.{Topic, Spelt, sized, unsized, spelt, verb_in, Level, Top, InBlock, Place, Listed, InCollection, Around, Statement, InPropertyList, Up, Subject, At, Mode, Start, AfterLabel, GraphWord, WantBrace, Inside, Want, After, AfterText, WantType, PropertyListStart, CollectionStart, WantVerb, AfterSemicolon, AfterPropertyList, Reply, No, Go, goes, cell, subject_at, verb_at, quad_at, quad_up, nil, after_subject, collection_closed, after, step, place_size, around_size, up_size, mode_size, State, at_start, ran, accept_all}
 use Rattle.rdf_trig.proofs.trees.TokensOfEvents.{document_told}
-use Rattle.rdf_trig.proofs.machine.Completeness.{tokens_give, no_tag, TakesIri, TakesObject, want_takes, paren_takes, item_takes, TakesVerb, Ends, type_takes, box_verb, semi_verb, want_verb, TakesSubject, EndsTriples, label_verb, box_then_verb, subject_verb, start_takes, inside_takes, top_ends, dot_ends, brace_ends}
+use Rattle.rdf_trig.proofs.machine.Completeness.{tokens_give, no_tag, TakesIri, TakesObject, want_takes, collection_start_takes, item_takes, TakesVerb, Ends, type_takes, brackets_verb, semicolon_verb, want_verb, TakesSubject, EndsTriples, label_verb, brackets_then_verb, subject_verb, start_takes, inside_takes, top_ends, dot_ends, brace_ends}
 use Rattle.rdf_trig.proofs.machine.ViableTokens.{Stand, stand, on_reply, if_true, reach, viable_reached}
 use Rattle.rdf_trig.proofs.machine.AcceptedTokens.{ran_tokens}
 use Rattle.rdf_trig.proofs.machine.ClosingTokens.{admits}
@@ -155,7 +155,7 @@ module _ (form : DocForm) where
         Sized c m (give before (list_events c ps early (object_quad c (subject_at p) (verb_at p) (list_object ps)) rest)) (list_held c.scope (place_size p) ps hs)
     list_object_sized (property_list l ps r) c m p before early rest hs h g =
         one OpenBracket l before itself early _ h.property_list_start.1
-        (predicates_sized ps c (PropertyListStart l.at.offset (At p)) (sized (node (anon_at l))) (InPropertyList (At p)) CloseBracket r c (After p) rest hs (box_verb form c l.at.offset (At p)) record { after = λ v. refl; after_semicolon = refl } g)
+        (predicates_sized ps c (PropertyListStart l.at.offset (At p)) (sized (node (anon_at l))) (InPropertyList (At p)) CloseBracket r c (After p) rest hs (brackets_verb form c l.at.offset (At p)) record { after = λ v. refl; after_semicolon = refl } g)
 
     items_sized : (os : Items) (c : Setting) (u : Up) (r : Leaf) (rest : List Event) (hs : List ℕ) →
         Sized c (collection_closed u (unsized (Some (items_of os)))) rest hs →
@@ -163,7 +163,7 @@ module _ (form : DocForm) where
     items_sized no_items c u r rest hs g = by_size (list_size u (unsized (Some nil))) (one CloseParen r (quad_up c u nil) itself None None refl g)
     items_sized (item o os) c u r rest hs g =
         let l = object_leaf o in
-        object_sized o c (CollectionStart u) (InCollection l.at.offset l.at.offset u) (quad_up c u (Blank (cell_at l))) None _ _ (paren_takes form c u l) (rest_sized os c l.at.offset l.at.offset u r rest hs g)
+        object_sized o c (CollectionStart u) (InCollection l.at.offset l.at.offset u) (quad_up c u (Blank (cell_at l))) None _ _ (collection_start_takes form c u l) (rest_sized os c l.at.offset l.at.offset u r rest hs g)
 
     rest_sized : (os : Items) (c : Setting) (f n : ℕ) (u : Up) (r : Leaf) (rest : List Event) (hs : List ℕ) → Sized c (collection_closed u (unsized (cell f))) rest hs →
         Sized c (After (InCollection f n u)) (rest_events c os (Cell n) r rest) (items_held c.scope (up_size u) os (up_size u ∷ hs))
@@ -197,17 +197,17 @@ module _ (form : DocForm) where
         Ends form c s a k l c' m' → Sized c' m' rest hs →
         Sized c (After (Listed s v a)) (more_events c ms s.term (take k l rest)) (more_held c.scope (around_size a) s.size ms (mode_size m' ∷ hs))
     more_sized no_more c s v a k l c' m' rest hs e g = alone k l (e.after v) g
-    more_sized (semicolon d ms) c s v a k l c' m' rest hs e g = alone Semicolon d refl (semi_sized ms c s a k l c' m' rest hs e g)
+    more_sized (semicolon d ms) c s v a k l c' m' rest hs e g = alone Semicolon d refl (semicolon_sized ms c s a k l c' m' rest hs e g)
     more_sized (semicolon_objects d w os ms) c s v a k l c' m' rest hs e g =
-        alone Semicolon d refl (verb_sized w c (AfterSemicolon s a) s a _ _ (semi_verb form c s a) (objects_sized os c s (verb_in c.scope w) a _ _ (more_sized ms c s (verb_in c.scope w) a k l c' m' rest hs e g)))
+        alone Semicolon d refl (verb_sized w c (AfterSemicolon s a) s a _ _ (semicolon_verb form c s a) (objects_sized os c s (verb_in c.scope w) a _ _ (more_sized ms c s (verb_in c.scope w) a k l c' m' rest hs e g)))
 
-    semi_sized : (ms : More) (c : Setting) (s : Topic) (a : Around) (k : Kind) (l : Leaf) (c' : Setting) (m' : Mode) (rest : List Event) (hs : List ℕ) →
+    semicolon_sized : (ms : More) (c : Setting) (s : Topic) (a : Around) (k : Kind) (l : Leaf) (c' : Setting) (m' : Mode) (rest : List Event) (hs : List ℕ) →
         Ends form c s a k l c' m' → Sized c' m' rest hs →
         Sized c (AfterSemicolon s a) (more_events c ms s.term (take k l rest)) (more_held c.scope (around_size a) s.size ms (mode_size m' ∷ hs))
-    semi_sized no_more c s a k l c' m' rest hs e g = alone k l e.after_semicolon g
-    semi_sized (semicolon d ms) c s a k l c' m' rest hs e g = alone Semicolon d refl (semi_sized ms c s a k l c' m' rest hs e g)
-    semi_sized (semicolon_objects d w os ms) c s a k l c' m' rest hs e g =
-        alone Semicolon d refl (verb_sized w c (AfterSemicolon s a) s a _ _ (semi_verb form c s a) (objects_sized os c s (verb_in c.scope w) a _ _ (more_sized ms c s (verb_in c.scope w) a k l c' m' rest hs e g)))
+    semicolon_sized no_more c s a k l c' m' rest hs e g = alone k l e.after_semicolon g
+    semicolon_sized (semicolon d ms) c s a k l c' m' rest hs e g = alone Semicolon d refl (semicolon_sized ms c s a k l c' m' rest hs e g)
+    semicolon_sized (semicolon_objects d w os ms) c s a k l c' m' rest hs e g =
+        alone Semicolon d refl (verb_sized w c (AfterSemicolon s a) s a _ _ (semicolon_verb form c s a) (objects_sized os c s (verb_in c.scope w) a _ _ (more_sized ms c s (verb_in c.scope w) a k l c' m' rest hs e g)))
 
   maybe_sized : (ps : Option PredicateObjectList) (c : Setting) (s : Topic) (v : Level) (k : Kind) (l : Leaf) (c' : Setting) (m' : Mode)
       (rest : List Event) (hs : List ℕ) →
@@ -216,13 +216,13 @@ module _ (form : DocForm) where
   maybe_sized None c s v k l c' m' rest hs z e g = alone k l (e.property_list_start s) g
   maybe_sized (Some ps) c s v k l c' m' rest hs z e g =
       subst (λ n. Sized c (AfterPropertyList s v) (predicates_events c ps s.term (take k l rest)) (predicates_held c.scope 0 n ps (mode_size m' ∷ hs))) z
-      (predicates_sized ps c (AfterPropertyList s v) s (Statement v) k l c' m' rest hs (box_then_verb form c s v) (e.list s) g)
+      (predicates_sized ps c (AfterPropertyList s v) s (Statement v) k l c' m' rest hs (brackets_then_verb form c s v) (e.list s) g)
 
   list_sized : (p : BlankNodePropertyList) (c0 : Setting) (m : Mode) (c : Setting) (v : Level) (rest : List Event) (hs : List ℕ) → TakesSubject form c0 m c v →
       Sized c (AfterPropertyList (sized (Some (list_of p))) v) rest hs → Sized c0 m (list_events c p None None rest) (list_held c.scope 0 p hs)
   list_sized (property_list l ps r) c0 m c v rest hs h g =
       alone OpenBracket l (h.property_list_start l).1
-      (predicates_sized ps c (PropertyListStart l.at.offset (Subject v)) (sized (node (anon_at l))) (InPropertyList (Subject v)) CloseBracket r c (AfterPropertyList (sized (node (anon_at l))) v) rest hs (box_verb form c l.at.offset (Subject v)) record { after = λ x. refl; after_semicolon = refl } g)
+      (predicates_sized ps c (PropertyListStart l.at.offset (Subject v)) (sized (node (anon_at l))) (InPropertyList (Subject v)) CloseBracket r c (AfterPropertyList (sized (node (anon_at l))) v) rest hs (brackets_verb form c l.at.offset (Subject v)) record { after = λ x. refl; after_semicolon = refl } g)
 
   collection_sized : (x : Collection) (c0 : Setting) (m : Mode) (c : Setting) (v : Level) (rest : List Event) (hs : List ℕ) → TakesSubject form c0 m c v →
       Sized c (WantVerb (unsized (Some (collection_of x))) (Statement v)) rest hs →

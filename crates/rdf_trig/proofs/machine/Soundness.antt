@@ -22,7 +22,7 @@ use Rattle.rdf_trig.specs.Machine.{Topic, sized, unsized, spelt, type_verb, Leve
 data Was : Type 0 where
   was_node : Was
   was_list : Was
-  was_box : Was
+  was_brackets : Was
 
 -- What is left of the document in a state.
 abbrev RestLevel : DocForm → Level → Type 0
@@ -48,12 +48,12 @@ abbrev mutual
   RestUp : DocForm → Up → Was → Type 0
   RestUp form (Subject v) was_node = RestSubject form v
   RestUp form (Subject v) was_list = PredicateObjectList × RestLevel form v
-  RestUp form (Subject v) was_box = Option PredicateObjectList × RestLevel form v
+  RestUp form (Subject v) was_brackets = Option PredicateObjectList × RestLevel form v
   RestUp form (At p) was = RestPlace form p
 
   RestAround : DocForm → Around → Type 0
   RestAround form (Statement v) = RestLevel form v
-  RestAround form (InPropertyList u) = Leaf × RestUp form u was_box
+  RestAround form (InPropertyList u) = Leaf × RestUp form u was_brackets
 
 -- the events of what follows a predicate list of a statement
 abbrev level_events : (form : DocForm) → Setting → (v : Level) → RestLevel form v → List Event
@@ -80,12 +80,12 @@ abbrev mutual
   up_events : (form : DocForm) → Setting → (u : Up) → (was : Was) → Option term.Subject → RestUp form u was → List Event
   up_events form c (Subject v) was_node s r = events_after_subject form c v s r
   up_events form c (Subject v) was_list s r = predicates_events c r.0 s (level_events form c v r.1)
-  up_events form c (Subject v) was_box s r = maybe_events c s r.0 (level_events form c v r.1)
+  up_events form c (Subject v) was_brackets s r = maybe_events c s r.0 (level_events form c v r.1)
   up_events form c (At p) was s r = place_events form c p r
 
   around_events : (form : DocForm) → Setting → (a : Around) → Option term.Subject → RestAround form a → List Event
   around_events form c (Statement v) s r = level_events form c v r
-  around_events form c (InPropertyList u) s r = take CloseBracket r.0 (up_events form c u was_box s r.1)
+  around_events form c (InPropertyList u) s r = take CloseBracket r.0 (up_events form c u was_brackets s r.1)
 
 -- after a string: nothing of it, a tag or a type
 data TextEnd : Type 0 where
@@ -137,14 +137,14 @@ abbrev brace_events : (form : DocForm) → Setting → Option term.Subject → W
 brace_events form c g r = wrapped_events (in_graph c.scope g) r.0 (document_events c.scope r.1)
 
 -- the events of what follows a '['
-abbrev box_events : (form : DocForm) → Setting → ℕ → (u : Up) → (Leaf × RestUp form u was_node) ⊎ (PredicateObjectList × RestAround form (InPropertyList u)) → List Event
-box_events form c n u (inl r) = take CloseBracket r.0 (up_events form c u was_node (node (Anon n)) r.1)
-box_events form c n u (inr r) = predicates_events c r.0 (node (Anon n)) (around_events form c (InPropertyList u) (node (Anon n)) r.1)
+abbrev brackets_events : (form : DocForm) → Setting → ℕ → (u : Up) → (Leaf × RestUp form u was_node) ⊎ (PredicateObjectList × RestAround form (InPropertyList u)) → List Event
+brackets_events form c n u (inl r) = take CloseBracket r.0 (up_events form c u was_node (node (Anon n)) r.1)
+brackets_events form c n u (inr r) = predicates_events c r.0 (node (Anon n)) (around_events form c (InPropertyList u) (node (Anon n)) r.1)
 
 -- the events of what follows a ';'
-abbrev semi_events : Setting → Option term.Subject → PredicateObjectList ⊎ More → List Event → List Event
-semi_events c s (inl ps) rest = predicates_events c ps s rest
-semi_events c s (inr ms) rest = more_events c ms s rest
+abbrev semicolon_events : Setting → Option term.Subject → PredicateObjectList ⊎ More → List Event → List Event
+semicolon_events c s (inl ps) rest = predicates_events c ps s rest
+semicolon_events c s (inr ms) rest = more_events c ms s rest
 
 -- the events of what follows the prefix of a directive
 abbrev binding_events : (form : DocForm) → InForce → List ℕ → (w : Spelling) → Leaf × RestDirective form w → List Event
@@ -168,10 +168,10 @@ all_events form c (Want p) r = object_events c r.0 (subject_at p) (verb_at p) No
 all_events form c (After p) r = place_events form c p r
 all_events form c (AfterText w p) r = end_events c w p r.0 (place_events form c p r.1)
 all_events form c (WantType w p) r = iri_events c.scope r.0 (give (quad_at c p (typed_literal w (iri_in c.scope r.0))) (place_events form c p r.1))
-all_events form c (PropertyListStart n u) r = box_events form c n u r
+all_events form c (PropertyListStart n u) r = brackets_events form c n u r
 all_events form c (CollectionStart u) r = give (quad_up c u (items_of r.0)) (items_events c r.0 r.1 (up_events form c u was_list (Some (items_of r.0)) r.2))
 all_events form c (WantVerb s a) r = predicates_events c r.0 s.term (around_events form c a s.term r.1)
-all_events form c (AfterSemicolon s a) r = semi_events c s.term r.0 (around_events form c a s.term r.1)
+all_events form c (AfterSemicolon s a) r = semicolon_events c s.term r.0 (around_events form c a s.term r.1)
 all_events form c (AfterPropertyList s v) r = maybe_events c s.term r.0 (level_events form c v r.1)
 
 -- some rest of a tree has these events, so that the tokens to come are those of a tree
@@ -222,10 +222,10 @@ as_subject Turtle Top s c r = (r, refl)
 as_subject TriG Top s c r = (r, refl)
 
 -- what is to come after a property list, read as a rest of its production
-as_box : (form : DocForm) (u : Up) (s : Topic) (c : Setting) (r : Rest form (property_list_closed u s)) →
-    (x : RestUp form u was_box) × (all_events form c (property_list_closed u s) r ≡ up_events form c u was_box s.term x)
-as_box form (Subject v) s c r = (r, refl)
-as_box form (At p) s c r = (r, refl)
+as_brackets : (form : DocForm) (u : Up) (s : Topic) (c : Setting) (r : Rest form (property_list_closed u s)) →
+    (x : RestUp form u was_brackets) × (all_events form c (property_list_closed u s) r ≡ up_events form c u was_brackets s.term x)
+as_brackets form (Subject v) s c r = (r, refl)
+as_brackets form (At p) s c r = (r, refl)
 
 -- what is to come after `[]`, read as a rest of its production
 as_node : (form : DocForm) (u : Up) (s : Topic) (c : Setting) (r : Rest form (node_closed form u s)) →
@@ -246,7 +246,7 @@ more_of l (inr m) = semicolon l m
 
 -- a ';' and what follows it are a rest of a predicate list
 more_of-events : (c : Setting) (s : Option term.Subject) (l : Leaf) (x : PredicateObjectList ⊎ More) (rest : List Event) →
-    take Semicolon l (semi_events c s x rest) ≡ more_events c (more_of l x) s rest
+    take Semicolon l (semicolon_events c s x rest) ≡ more_events c (more_of l x) s rest
 unfolding more_of
 more_of-events c s l (inl (predicate_objects v os m)) rest = refl
 more_of-events c s l (inr m) rest = refl
@@ -272,7 +272,7 @@ module _ (form : DocForm) (next : Setting → Mode → Option (List Event))
   list_end_found c s (Statement InBlock) k l w es e = absurd (let z : None ≡ Some es = e in cc)
   list_end_found c s (InPropertyList u) CloseBracket l w es e =
       let b = after_it CloseBracket l w itself None None c (property_list_closed u s) es e in
-      let x = as_box form u s c b.0 in
+      let x = as_brackets form u s c b.0 in
       ((l, x.0), b.1 ∙ ap (λ fs. give w (take CloseBracket l fs)) x.1)
   list_end_found c s (InPropertyList u) k l w es e = absurd (let z : None ≡ Some es = e in cc)
 
@@ -297,11 +297,11 @@ module _ (form : DocForm) (next : Setting → Mode → Option (List Event))
       es ≡ give w (literal_events c.scope x early (quad_at c p (literal_of c.scope x)) (place_events form c p r)) → ObjectFound c p early w (literal_leaf x) es
   literal_found x c p early w es r e = record { obj = literal_object x; rest = r; first = refl; events = e }
 
-  box_found : (c : Setting) (p : Place) (early w : Option Quad) (l : Leaf) (es : List Event) (r : Rest form (PropertyListStart l.at.offset (At p))) →
-      es ≡ give w (take OpenBracket l (give early (give (quad_at c p (resource (node (anon_at l)))) (box_events form c l.at.offset (At p) r)))) →
+  brackets_found : (c : Setting) (p : Place) (early w : Option Quad) (l : Leaf) (es : List Event) (r : Rest form (PropertyListStart l.at.offset (At p))) →
+      es ≡ give w (take OpenBracket l (give early (give (quad_at c p (resource (node (anon_at l)))) (brackets_events form c l.at.offset (At p) r)))) →
       ObjectFound c p early w l es
-  box_found c p early w l es (inl r) e = record { obj = blank_object (anon l r.0); rest = r.1; first = refl; events = e }
-  box_found c p early w l es (inr r) e = record { obj = list_object (property_list l r.0 r.1.0); rest = r.1.1; first = refl; events = e }
+  brackets_found c p early w l es (inl r) e = record { obj = blank_object (anon l r.0); rest = r.1; first = refl; events = e }
+  brackets_found c p early w l es (inr r) e = record { obj = list_object (property_list l r.0 r.1.0); rest = r.1.1; first = refl; events = e }
 
   object_found : (c : Setting) (p : Place) (early w : Option Quad) (k : Kind) (l : Leaf) (es : List Event) →
       fronted w (go_on (token k l) (object_start c p early k l) next) ≡ Some es → ObjectFound c p early w l es
@@ -316,7 +316,7 @@ module _ (form : DocForm) (next : Setting → Mode → Option (List Event))
   object_found c p early w Double l es e = let b = after_it Double l w _ early _ c (After p) es e in literal_found (numeric (double l)) c p early w es b.0 b.1
   object_found c p early w True l es e = let b = after_it True l w _ early _ c (After p) es e in literal_found (boolean (true_word l)) c p early w es b.0 b.1
   object_found c p early w False l es e = let b = after_it False l w _ early _ c (After p) es e in literal_found (boolean (false_word l)) c p early w es b.0 b.1
-  object_found c p early w OpenBracket l es e = let b = after_it OpenBracket l w _ early _ c (PropertyListStart l.at.offset (At p)) es e in box_found c p early w l es b.0 b.1
+  object_found c p early w OpenBracket l es e = let b = after_it OpenBracket l w _ early _ c (PropertyListStart l.at.offset (At p)) es e in brackets_found c p early w l es b.0 b.1
   object_found c p early w OpenParen l es e =
       let b = after_it OpenParen l w _ early None c (CollectionStart (At p)) es e in
       record { obj = collection_object (collection l b.0.0 b.0.1); rest = b.0.2; first = refl; events = b.1 }
@@ -359,32 +359,32 @@ module _ (form : DocForm) (next : Setting → Mode → Option (List Event))
       ((predicate_objects (type_word l) (objects b.0.0 b.0.1.0) b.0.1.1, b.0.1.2), b.1)
   verb_found c s a k l es e = absurd (let z : None ≡ Some es = e in cc)
 
-  semi_found : (c : Setting) (s : Topic) (a : Around) (k : Kind) (l : Leaf) (es : List Event) →
+  semicolon_found : (c : Setting) (s : Topic) (a : Around) (k : Kind) (l : Leaf) (es : List Event) →
       fronted None (go_on (token k l) (after_semicolon c s a k l) next) ≡ Some es → Found form c (AfterSemicolon s a) es
-  semi_found c s a Semicolon l es e =
+  semicolon_found c s a Semicolon l es e =
       let b = after_it Semicolon l None itself None None c (AfterSemicolon s a) es e in
       ((inr (more_of l b.0.0), b.0.1), b.1 ∙ more_of-events c s.term l b.0.0 (around_events form c a s.term b.0.1))
-  semi_found c s a IriRef l es e = let x = verb_found c s a IriRef l es e in ((inl x.0.0, x.0.1), x.1)
-  semi_found c s a PnameLn l es e = let x = verb_found c s a PnameLn l es e in ((inl x.0.0, x.0.1), x.1)
-  semi_found c s a PnameNs l es e = let x = verb_found c s a PnameNs l es e in ((inl x.0.0, x.0.1), x.1)
-  semi_found c s a A l es e = let x = verb_found c s a A l es e in ((inl x.0.0, x.0.1), x.1)
-  semi_found c s a k l es e = let x = list_end_found c s a k l None es e in ((inr no_more, x.0), x.1)
+  semicolon_found c s a IriRef l es e = let x = verb_found c s a IriRef l es e in ((inl x.0.0, x.0.1), x.1)
+  semicolon_found c s a PnameLn l es e = let x = verb_found c s a PnameLn l es e in ((inl x.0.0, x.0.1), x.1)
+  semicolon_found c s a PnameNs l es e = let x = verb_found c s a PnameNs l es e in ((inl x.0.0, x.0.1), x.1)
+  semicolon_found c s a A l es e = let x = verb_found c s a A l es e in ((inl x.0.0, x.0.1), x.1)
+  semicolon_found c s a k l es e = let x = list_end_found c s a k l None es e in ((inr no_more, x.0), x.1)
 
-  box_mode_found : (c : Setting) (n : ℕ) (u : Up) (k : Kind) (l : Leaf) (es : List Event) →
+  brackets_mode_found : (c : Setting) (n : ℕ) (u : Up) (k : Kind) (l : Leaf) (es : List Event) →
       fronted None (go_on (token k l) (property_list_start form c n u k l) next) ≡ Some es → Found form c (PropertyListStart n u) es
-  box_mode_found c n u CloseBracket l es e =
+  brackets_mode_found c n u CloseBracket l es e =
       let b = after_it CloseBracket l None itself None None c (node_closed form u (sized (node (Anon n)))) es e in
       let x = as_node form u (sized (node (Anon n))) c b.0 in
       (inl (l, x.0), b.1 ∙ ap (take CloseBracket l) x.1)
-  box_mode_found c n u k l es e = let x = verb_found c (sized (node (Anon n))) (InPropertyList u) k l es e in (inr x.0, x.1)
+  brackets_mode_found c n u k l es e = let x = verb_found c (sized (node (Anon n))) (InPropertyList u) k l es e in (inr x.0, x.1)
 
-  paren_found : (c : Setting) (u : Up) (k : Kind) (l : Leaf) (es : List Event) →
+  collection_start_found : (c : Setting) (u : Up) (k : Kind) (l : Leaf) (es : List Event) →
       fronted (waiting c (CollectionStart u) k l) (go_on (token k l) (collection_start c u k l) next) ≡ Some es → Found form c (CollectionStart u) es
-  paren_found c u CloseParen l es e =
+  collection_start_found c u CloseParen l es e =
       let b = after_it CloseParen l (quad_up c u nil) itself None None c (collection_closed u (unsized (Some nil))) es e in
       let x = as_list form u (unsized (Some nil)) c b.0 in
       ((no_items, l, x.0), b.1 ∙ ap (λ fs. give (quad_up c u nil) (take CloseParen l fs)) x.1)
-  paren_found c u k l es e =
+  collection_start_found c u k l es e =
       let x = object_found c (InCollection l.at.offset l.at.offset u) None (quad_up c u (Blank (cell_at l))) k l es e in (
         (item x.obj x.rest.0, x.rest.1, x.rest.2),
         x.events ∙ ap (λ y. give (quad_up c u (Blank (cell_at y))) (object_events c x.obj (node (cell_at y)) (Some (known_chars RdfFirst)) None (rest_events c x.rest.0 (cell_at y) x.rest.1 (up_events form c u was_list (node (cell_at y)) x.rest.2)))) (sym x.first),
@@ -406,22 +406,22 @@ module _ (form : DocForm) (next : Setting → Mode → Option (List Event))
   want_type_found c w p PnameNs l es e = let b = after_it PnameNs l None _ None _ c (After p) es e in ((prefixed (pname_ns l), b.0), b.1)
   want_type_found c w p k l es e = absurd (let z : None ≡ Some es = e in cc)
 
-  after_box_found : (c : Setting) (s : Topic) (v : Level) (k : Kind) (l : Leaf) (es : List Event) →
+  after_brackets_found : (c : Setting) (s : Topic) (v : Level) (k : Kind) (l : Leaf) (es : List Event) →
       fronted None (go_on (token k l) (after_property_list c s v k l) next) ≡ Some es → Found form c (AfterPropertyList s v) es
-  after_box_found c s v IriRef l es e = let x = verb_found c s (Statement v) IriRef l es e in ((Some x.0.0, x.0.1), x.1)
-  after_box_found c s v PnameLn l es e = let x = verb_found c s (Statement v) PnameLn l es e in ((Some x.0.0, x.0.1), x.1)
-  after_box_found c s v PnameNs l es e = let x = verb_found c s (Statement v) PnameNs l es e in ((Some x.0.0, x.0.1), x.1)
-  after_box_found c s v A l es e = let x = verb_found c s (Statement v) A l es e in ((Some x.0.0, x.0.1), x.1)
-  after_box_found c s v k l es e = let x = list_end_found c s (Statement v) k l None es e in ((None, x.0), x.1)
+  after_brackets_found c s v IriRef l es e = let x = verb_found c s (Statement v) IriRef l es e in ((Some x.0.0, x.0.1), x.1)
+  after_brackets_found c s v PnameLn l es e = let x = verb_found c s (Statement v) PnameLn l es e in ((Some x.0.0, x.0.1), x.1)
+  after_brackets_found c s v PnameNs l es e = let x = verb_found c s (Statement v) PnameNs l es e in ((Some x.0.0, x.0.1), x.1)
+  after_brackets_found c s v A l es e = let x = verb_found c s (Statement v) A l es e in ((Some x.0.0, x.0.1), x.1)
+  after_brackets_found c s v k l es e = let x = list_end_found c s (Statement v) k l None es e in ((None, x.0), x.1)
 
   -- triples in a block
   abbrev TriplesFound : Setting → List Event → Type 0
   TriplesFound c es = (t : Triples) × (r : RestLevel form InBlock) × (es ≡ triples_events c t (level_events form c InBlock r))
 
-  block_box : (c : Setting) (l : Leaf) (es : List Event) (r : Rest form (PropertyListStart l.at.offset (Subject InBlock))) →
-      es ≡ take OpenBracket l (box_events form c l.at.offset (Subject InBlock) r) → TriplesFound c es
-  block_box c l es (inl (d, (ps, r))) e = (subject_triples (blank_subject (anon l d)) ps, r, e)
-  block_box c l es (inr (ps, (d, (qs, r)))) e = (list_triples (property_list l ps d) qs, r, e)
+  block_brackets : (c : Setting) (l : Leaf) (es : List Event) (r : Rest form (PropertyListStart l.at.offset (Subject InBlock))) →
+      es ≡ take OpenBracket l (brackets_events form c l.at.offset (Subject InBlock) r) → TriplesFound c es
+  block_brackets c l es (inl (d, (ps, r))) e = (subject_triples (blank_subject (anon l d)) ps, r, e)
+  block_brackets c l es (inr (ps, (d, (qs, r)))) e = (list_triples (property_list l ps d) qs, r, e)
 
   block_iri : (i : Iri) (c : Setting) (es : List Event) (r : Rest form (WantVerb (sized (named (iri_in c.scope i))) (Statement InBlock))) →
       es ≡ iri_events c.scope i (all_events form c (WantVerb (sized (named (iri_in c.scope i))) (Statement InBlock)) r) → TriplesFound c es
@@ -434,7 +434,7 @@ module _ (form : DocForm) (next : Setting → Mode → Option (List Event))
   block_triples c PnameNs l es e = let b = after_it PnameNs l None _ None None c (WantVerb (sized (named (name_in c.scope l))) (Statement InBlock)) es e in block_iri (prefixed (pname_ns l)) c es b.0 b.1
   block_triples c LabelNode l es e =
       let b = after_it LabelNode l None itself None None c (WantVerb (sized (node (labelled l))) (Statement InBlock)) es e in (subject_triples (blank_subject (label l)) b.0.0, b.0.1, b.1)
-  block_triples c OpenBracket l es e = let b = after_it OpenBracket l None itself None None c (PropertyListStart l.at.offset (Subject InBlock)) es e in block_box c l es b.0 b.1
+  block_triples c OpenBracket l es e = let b = after_it OpenBracket l None itself None None c (PropertyListStart l.at.offset (Subject InBlock)) es e in block_brackets c l es b.0 b.1
   block_triples c OpenParen l es e =
       let b = after_it OpenParen l None itself None None c (CollectionStart (Subject InBlock)) es e in (subject_triples (collection_subject (collection l b.0.0 b.0.1)) b.0.2.0, b.0.2.1, b.1)
   block_triples c k l es e = absurd (let z : None ≡ Some es = e in cc)
@@ -455,11 +455,11 @@ module _ (form : DocForm) (next : Setting → Mode → Option (List Event))
       es ≡ iri_events c.scope i (all_events form (in_default c.scope) (after_subject form Top (sized (named (iri_in c.scope i)))) r) → Found form c Start es
   start_iri i c es r e = let x = as_subject form Top (sized (named (iri_in c.scope i))) (in_default c.scope) r in iri_body form i c.scope es x.0 (e ∙ ap (iri_events c.scope i) x.1)
 
-  start_box : (c : Setting) (l : Leaf) (es : List Event) (r : Rest form (PropertyListStart l.at.offset (Subject Top))) →
-      es ≡ take OpenBracket l (box_events form (in_default c.scope) l.at.offset (Subject Top) r) →
+  start_brackets : (c : Setting) (l : Leaf) (es : List Event) (r : Rest form (PropertyListStart l.at.offset (Subject Top))) →
+      es ≡ take OpenBracket l (brackets_events form (in_default c.scope) l.at.offset (Subject Top) r) →
       Found form c Start es
-  start_box c l es (inl (d, r)) e = blank_body form (anon l d) c.scope es r e
-  start_box c l es (inr (ps, (d, (qs, r)))) e = list_body form (property_list l ps d) c.scope es qs r e
+  start_brackets c l es (inl (d, r)) e = blank_body form (anon l d) c.scope es r e
+  start_brackets c l es (inr (ps, (d, (qs, r)))) e = list_body form (property_list l ps d) c.scope es qs r e
 
   subject_found : (c : Setting) (k : Kind) (l : Leaf) (es : List Event) →
       fronted None (go_on (token k l) (subject_start form (in_default c.scope) Top k l) next) ≡ Some es → Found form c Start es
@@ -470,7 +470,7 @@ module _ (form : DocForm) (next : Setting → Mode → Option (List Event))
       let b = after_it LabelNode l None itself None None (in_default c.scope) (after_subject form Top (sized (node (labelled l)))) es e in
       let x = as_subject form Top (sized (node (labelled l))) (in_default c.scope) b.0 in
       blank_body form (label l) c.scope es x.0 (b.1 ∙ ap (take LabelNode l) x.1)
-  subject_found c OpenBracket l es e = let b = after_it OpenBracket l None itself None None (in_default c.scope) (PropertyListStart l.at.offset (Subject Top)) es e in start_box c l es b.0 b.1
+  subject_found c OpenBracket l es e = let b = after_it OpenBracket l None itself None None (in_default c.scope) (PropertyListStart l.at.offset (Subject Top)) es e in start_brackets c l es b.0 b.1
   subject_found c OpenParen l es e =
       let b = after_it OpenParen l None itself None None (in_default c.scope) (CollectionStart (Subject Top)) es e in collection_body form (collection l b.0.0 b.0.1) c.scope es b.0.2.0 b.0.2.1 b.1
   subject_found c k l es e = absurd (let z : None ≡ Some es = e in cc)
@@ -495,10 +495,10 @@ module _ (form : DocForm) (next : Setting → Mode → Option (List Event))
   want_brace_found c g OpenBrace l es e = let b = after_it OpenBrace l None itself None None (in_graph c.scope g) Inside es e in ((wrapped l b.0.0 b.0.1, b.0.2), b.1)
   want_brace_found c g k l es e = absurd (let z : None ≡ Some es = e in cc)
 
-  graph_box_found : (c : Setting) (n : ℕ) (k : Kind) (l : Leaf) (es : List Event) → fronted None (go_on (token k l) (graph_bracket c n k l) next) ≡ Some es →
+  graph_brackets_found : (c : Setting) (n : ℕ) (k : Kind) (l : Leaf) (es : List Event) → fronted None (go_on (token k l) (graph_bracket c n k l) next) ≡ Some es →
       Found form c (GraphBracket n) es
-  graph_box_found c n CloseBracket l es e = let b = after_it CloseBracket l None itself None None c (WantBrace (node (Anon n))) es e in ((l, b.0.0, b.0.1), b.1)
-  graph_box_found c n k l es e = absurd (let z : None ≡ Some es = e in cc)
+  graph_brackets_found c n CloseBracket l es e = let b = after_it CloseBracket l None itself None None c (WantBrace (node (Anon n))) es e in ((l, b.0.0, b.0.1), b.1)
+  graph_brackets_found c n k l es e = absurd (let z : None ≡ Some es = e in cc)
 
   graph_iri : (i : Iri) (c : Setting) (es : List Event) (r : Rest form (WantBrace (named (iri_in c.scope i)))) →
       es ≡ iri_events c.scope i (brace_events form c (named (iri_in c.scope i)) r) → Found form c GraphWord es
@@ -577,18 +577,18 @@ step_found form next ih c (WantBaseIri w) k l es e = want_base_iri_found form ne
 step_found form next ih c WantDot k l es e = want_dot_found form next ih c k l es e
 step_found form next ih c (AfterLabel g) k l es e = after_label_found form next ih c g k l es e
 step_found form next ih c GraphWord k l es e = graph_word_found form next ih c k l es e
-step_found form next ih c (GraphBracket n) k l es e = graph_box_found form next ih c n k l es e
+step_found form next ih c (GraphBracket n) k l es e = graph_brackets_found form next ih c n k l es e
 step_found form next ih c (WantBrace g) k l es e = want_brace_found form next ih c g k l es e
 step_found form next ih c Inside k l es e = inside_found form next ih c k l es e
 step_found form next ih c (Want p) k l es e = let x = object_found form next ih c p None None k l es e in ((x.obj, x.rest), x.events)
 step_found form next ih c (After p) k l es e = after_found form next ih c p None k l es e
 step_found form next ih c (AfterText w p) k l es e = after_text_found form next ih c w p k l es e
 step_found form next ih c (WantType w p) k l es e = want_type_found form next ih c w p k l es e
-step_found form next ih c (PropertyListStart n u) k l es e = box_mode_found form next ih c n u k l es e
-step_found form next ih c (CollectionStart u) k l es e = paren_found form next ih c u k l es e
+step_found form next ih c (PropertyListStart n u) k l es e = brackets_mode_found form next ih c n u k l es e
+step_found form next ih c (CollectionStart u) k l es e = collection_start_found form next ih c u k l es e
 step_found form next ih c (WantVerb s a) k l es e = verb_found form next ih c s a k l es e
-step_found form next ih c (AfterSemicolon s a) k l es e = semi_found form next ih c s a k l es e
-step_found form next ih c (AfterPropertyList s v) k l es e = after_box_found form next ih c s v k l es e
+step_found form next ih c (AfterSemicolon s a) k l es e = semicolon_found form next ih c s a k l es e
+step_found form next ih c (AfterPropertyList s v) k l es e = after_brackets_found form next ih c s v k l es e
 
 -- at the end nothing is to come
 stop_found : (form : DocForm) (c : Setting) (m : Mode) (es : List Event) → stop m ≡ Some es → Found form c m es

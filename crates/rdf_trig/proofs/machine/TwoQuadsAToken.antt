@@ -100,13 +100,13 @@ end_few c s (Statement Top) k l = tt
 end_few c s (Statement InBlock) k l = tt
 end_few c s (InPropertyList u) k l = tt
 
-semi_few : (c : Setting) (s : Topic) (a : Around) (k : Kind) (l : Leaf) → Few k (after_semicolon c s a k l)
-semi_few c s a Semicolon l = quiet _
-semi_few c s a IriRef l = verb_few c s a IriRef l
-semi_few c s a PnameLn l = verb_few c s a PnameLn l
-semi_few c s a PnameNs l = verb_few c s a PnameNs l
-semi_few c s a A l = verb_few c s a A l
-semi_few c s a k l = end_few c s a k l
+semicolon_few : (c : Setting) (s : Topic) (a : Around) (k : Kind) (l : Leaf) → Few k (after_semicolon c s a k l)
+semicolon_few c s a Semicolon l = quiet _
+semicolon_few c s a IriRef l = verb_few c s a IriRef l
+semicolon_few c s a PnameLn l = verb_few c s a PnameLn l
+semicolon_few c s a PnameNs l = verb_few c s a PnameNs l
+semicolon_few c s a A l = verb_few c s a A l
+semicolon_few c s a k l = end_few c s a k l
 
 after_few : (c : Setting) (p : Place) (k : Kind) (l : Leaf) → Few k (after c p k l)
 after_few c (Listed s p a) Comma l = quiet _
@@ -128,20 +128,20 @@ type_few c w p PnameLn l = one _ _
 type_few c w p PnameNs l = one _ _
 type_few c w p k l = tt
 
-box_few : (form : DocForm) (c : Setting) (n : ℕ) (u : Up) (k : Kind) (l : Leaf) → Few k (property_list_start form c n u k l)
-box_few form c n u CloseBracket l = quiet _
-box_few form c n u k l = verb_few c (sized (node (Anon n))) (InPropertyList u) k l
+brackets_few : (form : DocForm) (c : Setting) (n : ℕ) (u : Up) (k : Kind) (l : Leaf) → Few k (property_list_start form c n u k l)
+brackets_few form c n u CloseBracket l = quiet _
+brackets_few form c n u k l = verb_few c (sized (node (Anon n))) (InPropertyList u) k l
 
-paren_few : (c : Setting) (u : Up) (k : Kind) (l : Leaf) → Few k (collection_start c u k l)
-paren_few c u CloseParen l = quiet _
-paren_few c u k l = object_few c (InCollection l.at.offset l.at.offset u) None k l
+collection_start_few : (c : Setting) (u : Up) (k : Kind) (l : Leaf) → Few k (collection_start c u k l)
+collection_start_few c u CloseParen l = quiet _
+collection_start_few c u k l = object_few c (InCollection l.at.offset l.at.offset u) None k l
 
-after_box_few : (c : Setting) (s : Topic) (v : Level) (k : Kind) (l : Leaf) → Few k (after_property_list c s v k l)
-after_box_few c s v IriRef l = verb_few c s (Statement v) IriRef l
-after_box_few c s v PnameLn l = verb_few c s (Statement v) PnameLn l
-after_box_few c s v PnameNs l = verb_few c s (Statement v) PnameNs l
-after_box_few c s v A l = verb_few c s (Statement v) A l
-after_box_few c s v k l = end_few c s (Statement v) k l
+after_brackets_few : (c : Setting) (s : Topic) (v : Level) (k : Kind) (l : Leaf) → Few k (after_property_list c s v k l)
+after_brackets_few c s v IriRef l = verb_few c s (Statement v) IriRef l
+after_brackets_few c s v PnameLn l = verb_few c s (Statement v) PnameLn l
+after_brackets_few c s v PnameNs l = verb_few c s (Statement v) PnameNs l
+after_brackets_few c s v A l = verb_few c s (Statement v) A l
+after_brackets_few c s v k l = end_few c s (Statement v) k l
 
 subject_few : (form : DocForm) (c : Setting) (v : Level) (k : Kind) (l : Leaf) → Few k (subject_start form c v k l)
 subject_few form c v IriRef l = quiet _
@@ -182,9 +182,9 @@ graph_few c LabelNode l = quiet _
 graph_few c OpenBracket l = quiet _
 graph_few c k l = tt
 
-graph_box_few : (c : Setting) (n : ℕ) (k : Kind) (l : Leaf) → Few k (graph_bracket c n k l)
-graph_box_few c n CloseBracket l = quiet _
-graph_box_few c n k l = tt
+graph_brackets_few : (c : Setting) (n : ℕ) (k : Kind) (l : Leaf) → Few k (graph_bracket c n k l)
+graph_brackets_few c n CloseBracket l = quiet _
+graph_brackets_few c n k l = tt
 
 prefix_few : (c : Setting) (w : Spelling) (k : Kind) (l : Leaf) → Few k (want_prefix c w k l)
 prefix_few c w PnameNs l = quiet _
@@ -212,18 +212,18 @@ step_few form c (WantBaseIri w) k l = base_iri_few c w k l
 step_few form c WantDot k l = dot_few c k l
 step_few form c (AfterLabel g) k l = label_few c g k l
 step_few form c GraphWord k l = graph_few c k l
-step_few form c (GraphBracket n) k l = graph_box_few c n k l
+step_few form c (GraphBracket n) k l = graph_brackets_few c n k l
 step_few form c (WantBrace g) k l = brace_few c g k l
 step_few form c Inside k l = inside_few form c k l
 step_few form c (Want p) k l = object_few c p None k l
 step_few form c (After p) k l = after_few c p k l
 step_few form c (AfterText w p) k l = text_few c w p k l
 step_few form c (WantType w p) k l = type_few c w p k l
-step_few form c (PropertyListStart n u) k l = box_few form c n u k l
-step_few form c (CollectionStart u) k l = paren_few c u k l
+step_few form c (PropertyListStart n u) k l = brackets_few form c n u k l
+step_few form c (CollectionStart u) k l = collection_start_few c u k l
 step_few form c (WantVerb s a) k l = verb_few c s a k l
-step_few form c (AfterSemicolon s a) k l = semi_few c s a k l
-step_few form c (AfterPropertyList s v) k l = after_box_few c s v k l
+step_few form c (AfterSemicolon s a) k l = semicolon_few c s a k l
+step_few form c (AfterPropertyList s v) k l = after_brackets_few c s v k l
 
 -- a quad that waits was owed
 waiting_few : (c : Setting) (m : Mode) (k : Kind) (l : Leaf) → size (waiting c m k l) ≤ owes m

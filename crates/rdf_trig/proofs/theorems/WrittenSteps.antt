@@ -165,9 +165,9 @@ module _ (r : Room) where
   node_mode form (Subject v) s g h = subject_mode form v s h
   node_mode form (At p) s g h = g
 
-  box_mode : (u : Up) (s : Topic) → FitUp u → IsSubject s.term → FitMode (property_list_closed u s)
-  box_mode (Subject v) s g h = h
-  box_mode (At p) s g h = g
+  brackets_mode : (u : Up) (s : Topic) → FitUp u → IsSubject s.term → FitMode (property_list_closed u s)
+  brackets_mode (Subject v) s g h = h
+  brackets_mode (At p) s g h = g
 
   list_mode : (u : Up) (s : Topic) → FitUp u → IsSubject s.term → FitMode (collection_closed u s)
   list_mode (Subject v) s g h = (h, tt)
@@ -182,19 +182,19 @@ module _ (r : Room) where
   list_end_fits c s (Statement Top) Dot l f h g = goes_fits c Start f tt
   list_end_fits c s (Statement InBlock) Dot l f h g = goes_fits c Inside f tt
   list_end_fits c s (Statement InBlock) CloseBrace l f h g = goes_fits (in_default c.scope) Start (default_fits c f) tt
-  list_end_fits c s (InPropertyList u) CloseBracket l f h g = goes_fits c (property_list_closed u s) f (box_mode u s g h)
+  list_end_fits c s (InPropertyList u) CloseBracket l f h g = goes_fits c (property_list_closed u s) f (brackets_mode u s g h)
   list_end_fits c s (Statement Top) k l f h g = tt
   list_end_fits c s (Statement InBlock) k l f h g = tt
   list_end_fits c s (InPropertyList u) k l f h g = tt
 
-  semi_fits : (c : Setting) (s : Topic) (a : Around) (k : Kind) (l : Leaf) → FitSetting c → IsSubject s.term → FitAround a →
+  semicolon_fits : (c : Setting) (s : Topic) (a : Around) (k : Kind) (l : Leaf) → FitSetting c → IsSubject s.term → FitAround a →
       FitReply (after_semicolon c s a k l)
-  semi_fits c s a Semicolon l f h g = goes_fits c (AfterSemicolon s a) f (h, g)
-  semi_fits c s a IriRef l f h g = verb_start_fits c s a IriRef l f h g
-  semi_fits c s a PnameLn l f h g = verb_start_fits c s a PnameLn l f h g
-  semi_fits c s a PnameNs l f h g = verb_start_fits c s a PnameNs l f h g
-  semi_fits c s a A l f h g = verb_start_fits c s a A l f h g
-  semi_fits c s a k l f h g = list_end_fits c s a k l f h g
+  semicolon_fits c s a Semicolon l f h g = goes_fits c (AfterSemicolon s a) f (h, g)
+  semicolon_fits c s a IriRef l f h g = verb_start_fits c s a IriRef l f h g
+  semicolon_fits c s a PnameLn l f h g = verb_start_fits c s a PnameLn l f h g
+  semicolon_fits c s a PnameNs l f h g = verb_start_fits c s a PnameNs l f h g
+  semicolon_fits c s a A l f h g = verb_start_fits c s a A l f h g
+  semicolon_fits c s a k l f h g = list_end_fits c s a k l f h g
 
   after_fits : (c : Setting) (p : Place) (k : Kind) (l : Leaf) → FitSetting c → FitPlace p → Good r k l → FitReply (after c p k l)
   after_fits c (Listed s p a) Comma l f g h = goes_fits c (Want (Listed s p a)) f g
@@ -220,20 +220,20 @@ module _ (r : Room) where
   text_fits c v p k l f g i h = after_fits c p k l f i h
 
   -- Brackets.
-  box_fits : (form : DocForm) (c : Setting) (n : ℕ) (u : Up) (k : Kind) (l : Leaf) → FitSetting c → n < 2 ^ 64 → FitUp u → FitReply (property_list_start form c n u k l)
-  box_fits form c n u CloseBracket l f h g = goes_fits c (node_closed form u (sized (node (Anon n)))) f (node_mode form u (sized (node (Anon n))) g (anon_fits r n h))
-  box_fits form c n u k l f h g = verb_start_fits c (sized (node (Anon n))) (InPropertyList u) k l f (anon_fits r n h) g
+  brackets_fits : (form : DocForm) (c : Setting) (n : ℕ) (u : Up) (k : Kind) (l : Leaf) → FitSetting c → n < 2 ^ 64 → FitUp u → FitReply (property_list_start form c n u k l)
+  brackets_fits form c n u CloseBracket l f h g = goes_fits c (node_closed form u (sized (node (Anon n)))) f (node_mode form u (sized (node (Anon n))) g (anon_fits r n h))
+  brackets_fits form c n u k l f h g = verb_start_fits c (sized (node (Anon n))) (InPropertyList u) k l f (anon_fits r n h) g
 
-  paren_fits : (c : Setting) (u : Up) (k : Kind) (l : Leaf) → FitSetting c → FitUp u → Good r k l → FitReply (collection_start c u k l)
-  paren_fits c u CloseParen l f g h = goes_fits c (collection_closed u (unsized (Some nil))) f (list_mode u (unsized (Some nil)) g (known_fits r RdfNil))
-  paren_fits c u k l f g h = object_fits c (InCollection l.at.offset l.at.offset u) None k l f (h.2, h.2, g) tt h
+  collection_start_fits : (c : Setting) (u : Up) (k : Kind) (l : Leaf) → FitSetting c → FitUp u → Good r k l → FitReply (collection_start c u k l)
+  collection_start_fits c u CloseParen l f g h = goes_fits c (collection_closed u (unsized (Some nil))) f (list_mode u (unsized (Some nil)) g (known_fits r RdfNil))
+  collection_start_fits c u k l f g h = object_fits c (InCollection l.at.offset l.at.offset u) None k l f (h.2, h.2, g) tt h
 
-  after_box_fits : (c : Setting) (s : Topic) (v : Level) (k : Kind) (l : Leaf) → FitSetting c → IsSubject s.term → FitReply (after_property_list c s v k l)
-  after_box_fits c s v IriRef l f h = verb_start_fits c s (Statement v) IriRef l f h tt
-  after_box_fits c s v PnameLn l f h = verb_start_fits c s (Statement v) PnameLn l f h tt
-  after_box_fits c s v PnameNs l f h = verb_start_fits c s (Statement v) PnameNs l f h tt
-  after_box_fits c s v A l f h = verb_start_fits c s (Statement v) A l f h tt
-  after_box_fits c s v k l f h = list_end_fits c s (Statement v) k l f h tt
+  after_brackets_fits : (c : Setting) (s : Topic) (v : Level) (k : Kind) (l : Leaf) → FitSetting c → IsSubject s.term → FitReply (after_property_list c s v k l)
+  after_brackets_fits c s v IriRef l f h = verb_start_fits c s (Statement v) IriRef l f h tt
+  after_brackets_fits c s v PnameLn l f h = verb_start_fits c s (Statement v) PnameLn l f h tt
+  after_brackets_fits c s v PnameNs l f h = verb_start_fits c s (Statement v) PnameNs l f h tt
+  after_brackets_fits c s v A l f h = verb_start_fits c s (Statement v) A l f h tt
+  after_brackets_fits c s v k l f h = list_end_fits c s (Statement v) k l f h tt
 
   -- Subjects, labels and blocks.
   subject_is_fits : (form : DocForm) (c : Setting) (v : Level) (i : Option (List ℕ)) → FitSetting c → IfSome i IsIri → FitReply (subject_is form c v i)
@@ -282,9 +282,9 @@ module _ (r : Room) where
   graph_word_fits c OpenBracket l f h = goes_fits c (GraphBracket l.at.offset) f h.2
   graph_word_fits c k l f h = tt
 
-  graph_box_fits : (c : Setting) (n : ℕ) (k : Kind) (l : Leaf) → FitSetting c → n < 2 ^ 64 → FitReply (graph_bracket c n k l)
-  graph_box_fits c n CloseBracket l f h = goes_fits c (WantBrace (node (Anon n))) f (anon_fits r n h)
-  graph_box_fits c n k l f h = tt
+  graph_brackets_fits : (c : Setting) (n : ℕ) (k : Kind) (l : Leaf) → FitSetting c → n < 2 ^ 64 → FitReply (graph_bracket c n k l)
+  graph_brackets_fits c n CloseBracket l f h = goes_fits c (WantBrace (node (Anon n))) f (anon_fits r n h)
+  graph_brackets_fits c n k l f h = tt
 
   -- Directives.
   prefix_fits : (c : Setting) (w : Spelling) (k : Kind) (l : Leaf) → FitSetting c → FitReply (want_prefix c w k l)
@@ -322,18 +322,18 @@ module _ (r : Room) where
   step_fits form c WantDot k l f g h = dot_fits c k l f
   step_fits form c (AfterLabel s) k l f g h = after_label_fits c s k l f g
   step_fits form c GraphWord k l f g h = graph_word_fits c k l f h
-  step_fits form c (GraphBracket n) k l f g h = graph_box_fits c n k l f g
+  step_fits form c (GraphBracket n) k l f g h = graph_brackets_fits c n k l f g
   step_fits form c (WantBrace s) k l f g h = brace_fits c s k l f g
   step_fits form c Inside k l f g h = inside_fits form c k l f h
   step_fits form c (Want p) k l f g h = object_fits c p None k l f g tt h
   step_fits form c (After p) k l f g h = after_fits c p k l f g h
   step_fits form c (AfterText w p) k l f g h = text_fits c w p k l f g.0 g.1 h
   step_fits form c (WantType w p) k l f g h = want_type_fits c w p k l f g.0 g.1
-  step_fits form c (PropertyListStart n u) k l f g h = box_fits form c n u k l f g.0 g.1
-  step_fits form c (CollectionStart u) k l f g h = paren_fits c u k l f g h
+  step_fits form c (PropertyListStart n u) k l f g h = brackets_fits form c n u k l f g.0 g.1
+  step_fits form c (CollectionStart u) k l f g h = collection_start_fits c u k l f g h
   step_fits form c (WantVerb s a) k l f g h = verb_start_fits c s a k l f g.0 g.1
-  step_fits form c (AfterSemicolon s a) k l f g h = semi_fits c s a k l f g.0 g.1
-  step_fits form c (AfterPropertyList s v) k l f g h = after_box_fits c s v k l f g
+  step_fits form c (AfterSemicolon s a) k l f g h = semicolon_fits c s a k l f g.0 g.1
+  step_fits form c (AfterPropertyList s v) k l f g h = after_brackets_fits c s v k l f g
 
   -- the quad whose object is known only by the token after it
   waiting_fits : (c : Setting) (m : Mode) (k : Kind) (l : Leaf) → FitSetting c → FitMode m → Good r k l → IsQuad (waiting c m k l)

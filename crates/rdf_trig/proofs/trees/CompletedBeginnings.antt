@@ -14,7 +14,7 @@ use Rattle.rdf_trig.specs.Documents.{documents, trees}
 use Rattle.rdf_trig.specs.Laws.{IsClosing, CompletedBy}
 use Rattle.rdf_trig.proofs.machine.Soundness.{read_found}
 use Rattle.rdf_trig.proofs.trees.TokensOfEvents.{document_told}
-use Rattle.rdf_trig.proofs.machine.ClosingTokens.{AllAdmitted, the_end, close_level, close_verb, close_place, close_list, close_box, close_around, close_directive, close_block, close, closes}
+use Rattle.rdf_trig.proofs.machine.ClosingTokens.{AllAdmitted, the_end, close_level, close_verb, close_place, close_list, close_brackets, close_around, close_directive, close_block, close, closes}
 use Rattle.rdf_trig.proofs.machine.ViableTokens.{Stand, reach, front, passing_bound, viable_reached, shaped_reached}
 
 -- each token is one of those of which completions are made
@@ -43,21 +43,21 @@ verb_closing v = (refl, (refl, level_closing v))
 mutual
   place_closing : (p : Place) → Closing (close_place p)
   place_closing (Listed s p (Statement v)) = level_closing v
-  place_closing (Listed s p (InPropertyList u)) = (refl, box_closing u)
+  place_closing (Listed s p (InPropertyList u)) = (refl, brackets_closing u)
   place_closing (InCollection f n u) = (refl, list_closing u)
 
   list_closing : (u : Up) → Closing (close_list u)
   list_closing (Subject v) = verb_closing v
   list_closing (At p) = place_closing p
 
-  box_closing : (u : Up) → Closing (close_box u)
-  box_closing (Subject v) = level_closing v
-  box_closing (At p) = place_closing p
+  brackets_closing : (u : Up) → Closing (close_brackets u)
+  brackets_closing (Subject v) = level_closing v
+  brackets_closing (At p) = place_closing p
 
 -- the brackets that are closed are of that kind
 around_closing : (a : Around) → Closing (close_around a)
 around_closing (Statement v) = level_closing v
-around_closing (InPropertyList u) = (refl, box_closing u)
+around_closing (InPropertyList u) = (refl, brackets_closing u)
 
 -- the tokens that complete a directive are of that kind
 directive_closing : (w : Spelling) → Closing (close_directive w)

@@ -8,11 +8,10 @@ use Rattle.rdf_trig.specs.declared.form.DocForm.{DocForm}
 use Rattle.rdf_trig.specs.Quads.{Setting, in_default}
 use Rattle.rdf_trig.specs.Events.{Use, Event, Took, Gave, give, document_events, tokens, Bound}
 use Rattle.rdf_trig.specs.Machine.{Mode, Start, Reply, No, Go, start, step, waiting, fronted, go_on, run}
-use Rattle.rdf_tokens.specs.Grammars.{Viable}
-use Rattle.rdf_trig.specs.Documents.{documents, InTree, StandsFor}
+use Rattle.rdf_trig.specs.Documents.{InTree, StandsFor}
 use Rattle.rdf_trig.proofs.machine.Soundness.{unput}
 use Rattle.rdf_trig.proofs.machine.ClosingTokens.{has_iri, admits}
-use Rattle.rdf_trig.proofs.machine.ViableTokens.{Stand, stand, reach, on_reply, if_true, run_tree, Begins, reached_begins, reach-snoc, and_on, passing_bound, bound_passing, begins_viable, goes_on, lax}
+use Rattle.rdf_trig.proofs.machine.ViableTokens.{Stand, stand, reach, on_reply, if_true, run_tree, Begins, reached_begins, reach-snoc, and_on, passing_bound, goes_on, lax}
 
 -- what the token of this number, from 0, stands for
 abbrev pub sense_at : ℕ → List Event → Option Use
@@ -144,12 +143,3 @@ stands_for form start ts t s u early now c m e n h =
     let b = reached_begins true form (ts ++ t ∷ []) start (stand c m) (goes_on form start ts t s u early now c m e n h) in
     let p = placed true form start ts t s u early now c m e n b in
     record { place = p.0; bound = subst (λ d. Bound (document_events start d)) (sym p.1) (passing_bound (document_events start b.0) b.3) }
-
--- the tokens before it begin a document with it
-pub stands_viable : (form : DocForm) (start : InForce) (ts : List Token) (t : Token) (u : Use) → StandsFor form start ts t u →
-    Viable (documents form start) (ts ++ t ∷ [])
-stands_viable form start ts t u p =
-    let x = p.place in
-    let told : tokens (document_events start x.tree) ≡ (ts ++ t ∷ []) ++ tokens x.rest =
-    ap tokens x.events ∙ tokens_after x.front t u x.rest ∙ ap (λ y. y ++ t ∷ tokens x.rest) x.read ∙ sym (append_assoc ts (t ∷ []) (tokens x.rest)) in
-    begins_viable form start (ts ++ t ∷ []) (x.tree, tokens x.rest, told, bound_passing (document_events start x.tree) p.bound)

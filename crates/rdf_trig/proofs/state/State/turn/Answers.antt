@@ -1,6 +1,6 @@
 -- A token in each mode, as it stands in the state.
 use Rattle.rdf_trig.specs.States.{place_in}
-use Rattle.rdf_trig.proofs.code.TurnsLemmas.{subject_decides, subject_suits, semi_decides, semi_suits}
+use Rattle.rdf_trig.proofs.code.TurnsLemmas.{subject_decides, subject_suits, semicolon_decides, semicolon_suits}
 use Rattle.rdf_trig.proofs.state.State.turn.Goals as goal
 
 pub returns-in-Want-clause-means : goal.returns-in-Want-clause-means
@@ -40,9 +40,9 @@ returns-in-AfterSubject-clause-suits g c =
 pub returns-in-AfterSemicolon-clause-means : goal.returns-in-AfterSemicolon-clause-means
 returns-in-AfterSemicolon-clause-means g c =
     let self = c.args.self.now in
-    rw c.in-AfterSemicolon.is (semi_decides c.args.form self (place_in self) c.args.kind c.after_semicolon.result (c.after_semicolon.ensures.means c.args.form))
+    rw c.in-AfterSemicolon.is (semicolon_decides c.args.form self (place_in self) c.args.kind c.after_semicolon.result (c.after_semicolon.ensures.means c.args.form))
 
 pub returns-in-AfterSemicolon-clause-suits : goal.returns-in-AfterSemicolon-clause-suits
 returns-in-AfterSemicolon-clause-suits g c =
     let self = c.args.self.now in
-    rw c.in-AfterSemicolon.is (semi_suits (place_in self) c.args.kind c.after_semicolon.result c.after_semicolon.ensures.suits)
+    rw c.in-AfterSemicolon.is (semicolon_suits (place_in self) c.args.kind c.after_semicolon.result c.after_semicolon.ensures.suits)
