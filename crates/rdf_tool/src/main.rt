@@ -1,18 +1,10 @@
 //! The program `rdfconv`: it reads a document of N-Triples, N-Quads, Turtle or TriG, and writes N-Quads.
 #![tactic(auto)]
 
-mod commands;
-mod host;
-mod names;
-mod options;
-mod runs;
-mod start;
-mod task;
 #[cfg(test)]
 mod tests;
 
-use crate::host::Process;
-use crate::start::start;
+use rdf_command::{Process, start};
 use rdf_stream::Out;
 use std::process::ExitCode;
 

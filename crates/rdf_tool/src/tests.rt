@@ -1,17 +1,15 @@
 // Runs over memory, and words.
 
 ghost use Rattle.rdf_iri.specs.Scope.{BaseFits};
-ghost use Rattle.rdf_tool.specs.Runs.{AreFresh};
+ghost use Rattle.rdf_command.specs.Runs.{AreFresh};
 
 mod hosts;
 mod texts;
 
-use crate::commands::command_of;
-use crate::host::{Host, NoWords, Process};
-use crate::runs::{Files, refuse_words, run};
-use crate::start::start;
-use crate::task::{Action, Task};
 use hosts::InMemory;
+use rdf_command::{
+    Action, Files, Host, NoWords, Process, Task, command_of, refuse_words, run, start,
+};
 use rdf_stream::{Escapes, Form, In, Limits, Out, Source};
 use std::alloc::Global;
 use std::process::Abort;

@@ -2,7 +2,7 @@
 
 ghost use Rattle.std.specs.Prelude.{⊤};
 
-use crate::host::{Host, NoWords, NotOpen};
+use rdf_command::{Host, NoWords, NotOpen};
 use rdf_stream::In;
 use std::alloc::Global;
 

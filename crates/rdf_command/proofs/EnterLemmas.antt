@@ -1,0 +1,132 @@
+-- A parse of the program's words that finds no fault enters a subcommand with all that a task needs.
+use Rattle.std.proofs.Common.{◌≡◌, ◌∙◌, ◌||◌, ◌⊎◌, Bool, true, false, true≢false, refl, sym, ap, subst, arith, inl, inr, List, [], ◌∷◌, ◌++◌, map, Option, Some, option_map, bytes_eq, codes}
+use Rattle.std.specs.List.{list_any}
+use Rattle.std.specs.Borrow.{Bor}
+use Rattle.clap.specs.Words.{App, Row, Rule, HasMatchesOf, Text, fault_of, first_of, found_of, is_simple, is_simple_and_free, rows_of, subcommand_name_of, subcommand_of, subcommand_rows_of}
+use Rattle.clap.specs.declared.parser.matches.ArgMatches.{ArgMatches}
+use Rattle.clap.specs.Walk.{rows_after, texts}
+use Rattle.clap.specs.Simple.{Shape, argument_words, built, filled_from, help_rule}
+use Rattle.clap.specs.declared.builder.value_parser.ValueParser.{ValueParser}
+use Rattle.clap.specs.declared.builder.value_parser.ValueParser.TheVariants.{Names, Unsigned}
+use Rattle.clap.proofs.OnLiterals.{clap_on_literals}
+use Rattle.clap.proofs.ValueTestLemmas.{accepts-Accepts}
+use Rattle.clap.proofs.WalkLemmas.{list_any-map}
+use Rattle.rdf_stream.specs.declared.form.Form.{Form}
+use Rattle.rdf_command.specs.declared.task.Action.{Action}
+use Rattle.rdf_command.specs.declared.task.Action.TheVariants.{Check, Show, Convert}
+use Rattle.rdf_command.specs.Words.{Entered, HasLimits, IsEntered, action_app, action_name, ascii_rule, form_name, format_names, forms, node_prefix_rule, prefixes_rule, rdfconv}
+use Rattle.rdf_command.proofs.RowLemmas.{Each, IsRead, same_text, value-of}
+use Rattle.rdf_command.proofs.GivenLemmas.{pair_is, same_some}
+use Rattle.rdf_command.proofs.LevelLemmas.{IsHelp, LevelHolds, enters}
+
+-- a text among the names of forms is the name of one
+named_form : (forms : List Form) (text : Text) → list_any (λ name. bytes_eq name text) (map form_name forms) ≡ true → (f : Form) × (form_name f ≡ text)
+named_form [] text e = absurd (true≢false (sym e))
+named_form (f ∷ rest) text e = go (bytes_eq (form_name f) text) refl e (named_form rest text)
+  where
+    go : (b : Bool) → bytes_eq (form_name f) text ≡ b → (b || list_any (λ name. bytes_eq name text) (map form_name rest)) ≡ true
+        → (list_any (λ name. bytes_eq name text) (map form_name rest) ≡ true → (g : Form) × (form_name g ≡ text)) → (g : Form) × (form_name g ≡ text)
+    go true is e later = (f, same_text (form_name f) text is)
+    go false is e later = later e
+
+module _ (names : Bor (List (Bor Text))) (known : texts names.now ≡ format_names) where
+  -- the options that an action has beside those of all
+  abbrev own_rules : Action → List Rule
+  own_rules Check = prefixes_rule ∷ []
+  own_rules Show = []
+  own_rules Convert = prefixes_rule ∷ ascii_rule ∷ node_prefix_rule ∷ []
+
+  -- the options of a built subcommand
+  abbrev options : Action → List Rule
+  options a = filled_from 1 ((action_app (Names names) []).top.rules ++ own_rules a ++ help_rule ∷ [])
+
+  are_read : (a : Action) → Each (IsRead (options a)) (options a)
+  unfolding clap_on_literals
+  are_read Check =
+      let set = inl (refl, refl, refl) in
+      ((refl, set), ((refl, set), ((refl, set), ((refl, set), ((refl, set), ((refl, set), ((refl, set), ((refl, set), ((refl, inr (inr refl)), tt)))))))))
+  are_read Show =
+      let set = inl (refl, refl, refl) in
+      ((refl, set), ((refl, set), ((refl, set), ((refl, set), ((refl, set), ((refl, set), ((refl, set), ((refl, inr (inr refl)), tt))))))))
+  are_read Convert =
+      let set = inl (refl, refl, refl) in
+      ((refl, set), ((refl, set), ((refl, set), ((refl, set), ((refl, set), ((refl, set), ((refl, set), ((refl, set), ((refl, inr (inl (refl, omega arith))), ((refl, set), ((refl, inr (inr refl)), tt)))))))))))
+
+  -- a built subcommand of the program
+  abbrev IsAction : Shape → Type 0
+  IsAction s = (a : Action) × (action_name a ≡ s.name) × (s.rules ≡ options a) × (s.subcommand_negates_reqs ≡ false)
+
+  is_ready_leaf : (s : Shape) → IsAction s → Each (IsRead s.rules) s.rules × (s.subcommand_negates_reqs ≡ false)
+  is_ready_leaf s is = (subst (λ rules. Each (IsRead rules) rules) (sym is.2) (are_read is.0), is.3)
+
+  subcommands : Each (λ s. IsAction s ⊎ IsHelp s) (built (rdfconv (Names names))).subs
+  unfolding clap_on_literals
+  subcommands = (inl (Check, refl, refl, refl), (inl (Show, refl, refl, refl), (inl (Convert, refl, refl, refl), (inr (refl, refl), tt))))
+
+  needs_subcommand : (built (rdfconv (Names names))).top.subcommand_required ≡ true
+  unfolding clap_on_literals
+  needs_subcommand = refl
+
+  offers_help : (built (rdfconv (Names names))).top.disable_help_subcommand ≡ false
+  unfolding clap_on_literals
+  offers_help = refl
+
+  module _ (a : Action) (rows : List Row) (holds : LevelHolds (options a) rows) where
+    limits-of : HasLimits rows
+    unfolding clap_on_literals
+    limits-of =
+        let token = value-of (options a) _ rows (are_read a).1.1.0.0 holds.pass (holds.defaults.1.1.0 (omega arith)) in
+        let depth = value-of (options a) _ rows (are_read a).1.1.1.0.0 holds.pass (holds.defaults.1.1.1.0 (omega arith)) in
+        let bindings = value-of (options a) _ rows (are_read a).1.1.1.1.0.0 holds.pass (holds.defaults.1.1.1.1.0 (omega arith)) in
+        let iri = value-of (options a) _ rows (are_read a).1.1.1.1.1.0.0 holds.pass (holds.defaults.1.1.1.1.1.0 (omega arith)) in
+        record {
+          token = (token.0, token.1, accepts-Accepts false (Unsigned 1 268435456) token.0 token.2);
+          depth = (depth.0, depth.1, accepts-Accepts false (Unsigned 0 1048576) depth.0 depth.2);
+          bindings = (bindings.0, bindings.1, accepts-Accepts false (Unsigned 0 16777216) bindings.0 bindings.2);
+          iri = (iri.0, iri.1, accepts-Accepts false (Unsigned 1 268435456) iri.0 iri.2);
+        }
+
+    form-of : (f : Form) × (first_of (codes "format") rows ≡ Some (form_name f))
+    unfolding clap_on_literals
+    form-of =
+        let format = value-of (options a) _ rows (are_read a).0.0 holds.pass (holds.defaults.0 (omega arith)) in
+        let among : list_any (λ name. bytes_eq name format.0) (texts names.now) ≡ true = sym (list_any-map (λ name. bytes_eq name format.0) (λ (s : Bor Text). s.now) names.now) ∙ format.2 in
+        let form = named_form forms format.0 (subst (λ xs. list_any (λ name. bytes_eq name format.0) xs ≡ true) known among) in
+        (form.0, format.1 ∙ ap (λ t. Some t) (sym form.1))
+
+  -- the subcommand that the words name, with its matches
+  pub entered : (words : List Text) → fault_of (rdfconv (Names names)) words ≡ [] → (p : Entered) × (subcommand_of (rdfconv (Names names)) words ≡ Some p) × IsEntered p
+  entered words none =
+      let at = enters (built (rdfconv (Names names))) IsAction is_ready_leaf subcommands (argument_words (rdfconv (Names names)) words) needs_subcommand offers_help none in
+      let rows = rows_after at.0.rules [] at.1 in
+      let holds : LevelHolds (options at.2.0) rows = subst (λ rules. LevelHolds rules rows) at.2.2 at.4 in
+      ((at.0.name, rows), at.3, record { action = (at.2.0, at.2.1); form = form-of at.2.0 rows holds; limits = limits-of at.2.0 rows holds })
+
+  -- the same, of what a parse was seen to enter
+  pub entered-at : (words : List Text) (p : Entered) → fault_of (rdfconv (Names names)) words ≡ [] → subcommand_of (rdfconv (Names names)) words ≡ Some p → IsEntered p
+  entered-at words p none is =
+      let met = entered words none in
+      subst IsEntered (same_some met.0 p (sym met.1 ∙ is)) met.2
+
+-- ---- a parse by the code
+
+-- the command line is of the simple form for which clap says when a parse finds no fault
+pub is_free : (f : ValueParser) → is_simple_and_free (rdfconv f) ≡ true
+unfolding clap_on_literals
+is_free f = refl
+
+-- the command line is of the form for which clap says what a parse gives
+is_ready : (f : ValueParser) → is_simple (rdfconv f) ≡ true
+unfolding clap_on_literals
+is_ready f = refl
+
+-- where the parse of a command that reads as the program's enters a subcommand, the definition has no fault and enters it
+pub enters-at : (names : Bor (List (Bor Text))) (a : App) (words : List Text) (m : ArgMatches) (o : Option (Bor Text × Bor ArgMatches)) (met : Bor Text × Bor ArgMatches)
+    → a ≡ rdfconv (Names names) → (is_simple_and_free a ≡ true → fault_of a words ≡ []) → HasMatchesOf a words m → o ≡ Some met
+    → option_map (λ p. p.0.now) o ≡ subcommand_name_of m → option_map (λ p. rows_of (found_of p.1.now)) o ≡ option_map (λ p. p.1) (subcommand_rows_of m)
+    → (fault_of (rdfconv (Names names)) words ≡ []) × (subcommand_of (rdfconv (Names names)) words ≡ Some (met.0.now, rows_of (found_of met.1.now)))
+enters-at names a words m o met is kinds has got name rows = (
+  ap (λ (x : App). fault_of x words) (sym is) ∙ kinds (ap is_simple_and_free is ∙ is_free (Names names)),
+  ap (λ (x : App). subcommand_of x words) (sym is) ∙ sym (has (ap is_simple is ∙ is_ready (Names names))).1
+      ∙ pair_is _ _ (λ (p : Bor Text × Bor ArgMatches). p.0.now) (λ (p : Bor Text × Bor ArgMatches). rows_of (found_of p.1.now)) o _ met got name rows,
+)

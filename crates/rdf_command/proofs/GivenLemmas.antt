@@ -1,0 +1,96 @@
+-- What clap's getters hand out, against what its definition says of the words.
+use Rattle.std.proofs.Common.{◌≡◌, ◌∙◌, true≢false, refl, sym, ap, ap₂, List, [], ℕ, codes, Bool, true, false, Option, Some, None, option_map, is_some, unwrap_or, ⊎_elim}
+use Rattle.std.specs.Prelude.{◌≢◌}
+use Rattle.std.specs.Borrow.{Bor}
+use Rattle.clap.specs.Words.{App, Text, fault_of, first_of, first_value, kind_of, rows_of, subcommand_of}
+use Rattle.clap.specs.Kinds.{HasKind, IsAmong}
+use Rattle.clap.specs.declared.error.Error.{Error}
+use Rattle.clap.specs.declared.error.kind.ErrorKind.{ErrorKind}
+use Rattle.clap.specs.declared.error.kind.ErrorKind.TheVariants.{OutOfMemory}
+use Rattle.clap.specs.declared.parser.matches.Found.{Found}
+use Rattle.clap.proofs.WalkLemmas.{first_value-rows}
+use Rattle.rdf_command.specs.declared.task.WordsFault.{WordsFault}
+use Rattle.rdf_command.specs.declared.task.WordsFault.TheVariants.{Usage, BadBase, BadNodePrefix, Memory}
+use Rattle.rdf_command.specs.Words.{Entered, GivesNone, NoBaseOf, NoTaskBy, NoWordOf, fault_by, number_of}
+
+-- what is there is not none
+some≢none : {X : Type 0} (x : X) → None ≡ Some x → ⊥
+some≢none x e = true≢false (ap is_some (sym e))
+
+-- ---- texts
+
+-- the text of an option, if it was given
+abbrev text_of : Option (Bor Text) → Option Text
+text_of = option_map (λ s. s.now)
+
+module _ (f : Found) (id text : Text) (o : Option (Bor Text)) (got : text_of o ≡ first_value f id) (is : first_of id (rows_of f) ≡ Some text) where
+  same : text_of o ≡ Some text
+  same = got ∙ first_value-rows f id ∙ is
+
+  pub text_given : is_some o ≡ true
+  text_given = go o same
+    where
+      go : (o : Option (Bor Text)) → text_of o ≡ Some text → is_some o ≡ true
+      go None e = absurd (some≢none text e)
+      go (Some s) e = refl
+
+  pub text_is : (s : Bor Text) → o ≡ Some s → s.now ≡ text
+  text_is s e = ap (λ x. unwrap_or x text) (sym (ap text_of e) ∙ same)
+
+-- ---- the subcommand
+
+-- two parts of one thing
+abbrev both_of : {X A B : Type 0} → (X → A) → (X → B) → X → A × B
+both_of f g b = (f b, g b)
+
+-- a name and rows that are each given are those of the pair
+pub pair_is : {X Y A B : Type 0} (f : X → A) (g : X → B) (n : Y → A) (w : Y → B) (r : Option Y) (o : Option X) (y : Y) → r ≡ Some y
+    → option_map n r ≡ option_map f o → option_map w r ≡ option_map (λ (p : A × B). p.1) (option_map (both_of f g) o)
+    → option_map (both_of f g) o ≡ Some (n y, w y)
+pair_is f g n w r None y is e h = absurd (some≢none (n y) (sym e ∙ ap (option_map n) is))
+pair_is f g n w r (Some x) y is e h =
+    ap₂ (λ a b. Some (a, b)) (ap (λ z. unwrap_or z (f x)) (sym e ∙ ap (option_map n) is)) (ap (λ z. unwrap_or z (g x)) (sym h ∙ ap (option_map w) is))
+
+-- equal answers have equal parts
+pub same_some : {X : Type 0} (x y : X) → Some x ≡ Some y → x ≡ y
+same_some x y e = ap (λ o. unwrap_or o x) e
+
+-- ---- errors
+
+-- the kind of error that is want of memory
+is_memory : ErrorKind → Bool
+is_memory OutOfMemory = true
+is_memory _ = false
+
+-- an error of clap is want of memory, or refuses the words with a kind that its definition names
+pub refuses : (a : App) (words : List Text) (e : Error) → HasKind (fault_of a words) e → GivesNone a words (fault_by (kind_of e) e)
+unfolding is_memory
+refuses a words e h = go (kind_of e) refl
+  where
+    among : (kind_of e ≢ OutOfMemory) → IsAmong (kind_of e) (fault_of a words)
+    among other = ⊎_elim (λ m. absurd (other m)) (λ x. x) h
+
+    go : (k : ErrorKind) → kind_of e ≡ k → GivesNone a words (fault_by k e)
+    go OutOfMemory is = tt
+    go k is = let other : kind_of e ≢ OutOfMemory = λ m. true≢false (sym (ap is_memory m) ∙ ap is_memory is) in (other, among other)
+
+-- words that clap takes, but that are no task, are refused for this reason
+pub refused_by : (a : App) (words : List Text) (p : Entered) (fault : WordsFault) → fault_of a words ≡ [] → subcommand_of a words ≡ Some p → NoTaskBy p fault → GivesNone a words fault
+refused_by a words p (Usage e) none is h = absurd h
+refused_by a words p BadBase none is h = record { entered = p; taken = none; matches = is; holds = h }
+refused_by a words p BadNodePrefix none is h = record { entered = p; taken = none; matches = is; holds = h }
+refused_by a words p Memory none is h = tt
+
+-- a base that is none is the base of the matches
+pub no_task : (p : Entered) (most : ℕ) (base : Option Text) (fault : WordsFault) → base ≡ first_of (codes "base") p.1 → number_of (codes "iri") p.1 ≡ Some most → NoBaseOf most base fault → NoTaskBy p fault
+no_task p most base (Usage e) is limit h = absurd h
+no_task p most base BadBase is limit h = (h.0, most, sym is ∙ h.1, limit, h.2)
+no_task p most base BadNodePrefix is limit h = absurd h
+no_task p most base Memory is limit h = tt
+
+-- a text that is no word is that of the matches
+pub no_word : (p : Entered) (word : Option Text) (fault : WordsFault) → word ≡ first_of (codes "node-prefix") p.1 → NoWordOf word fault → NoTaskBy p fault
+no_word p word (Usage e) is h = absurd h
+no_word p word BadBase is h = absurd h
+no_word p word BadNodePrefix is h = (h.0, sym is ∙ h.1, h.2)
+no_word p word Memory is h = tt

@@ -1,0 +1,40 @@
+-- How a run over a document ends, by the job that it was read with.
+use Rattle.std.proofs.Common.{◌≡◌, ℕ, true, List, Option, IfSome, refl, sym, subst, inl, ◌∙◌, arith}
+use Rattle.rdf_stream.specs.Devices.{Reading, Written}
+use Rattle.rdf_stream.specs.Jobs.{JobRead}
+use Rattle.rdf_stream.specs.declared.fault.StreamFault.{StreamFault}
+use Rattle.rdf_stream.specs.declared.fault.StreamFault.TheVariants.{Refused, Read, Write, Memory}
+use Rattle.rdf_command.specs.declared.task.Task.{Task}
+use Rattle.rdf_command.specs.Runs.{Does, RunEnds, StartsWith, StopsAction, job_of}
+use Rattle.rdf_command.specs.Statuses.{ReportsFault, status_of}
+
+some_status : (fault : StreamFault) → status_of fault ≡ 0 → ⊥
+some_status (Refused f) e = omega (arith, e)
+some_status Read e = omega (arith, e)
+some_status Write e = omega (arith, e)
+some_status Memory e = omega (arith, e)
+
+module _ (t : Task) (prefixes : Option (Option (List ℕ))) (bindings : List (List ℕ × List ℕ)) (starts : StartsWith t.limits prefixes bindings)
+    (job : JobRead) (is : job ≡ job_of t bindings) (known : Option (List ℕ)) (source : Reading) (out_old : Option (List ℕ)) (out : Written)
+    (err_old : Option (List ℕ)) (err : Written) where
+  pub run_done : IfSome known (λ bytes. Does t.action job bytes out_old out.contents) → out.is_flushed ≡ true → RunEnds t prefixes known 0 out_old out err_old err
+  run_done done flushed =
+      inl (bindings, source, starts, ((λ e. (subst (λ j. IfSome known (λ bytes. Does t.action j bytes out_old out.contents)) is done, flushed)), (λ n. absurd (n refl))))
+
+  pub run_stopped : (fault : StreamFault) (status : ℕ) → status ≡ status_of fault → StopsAction t.action fault job known source out_old out.contents out.has_failed
+      → ReportsFault fault err_old err.contents err.has_failed → RunEnds t prefixes known status out_old out err_old err
+  run_stopped fault status same stops reported =
+      inl (
+        bindings,
+        source,
+        starts,
+        (
+          (λ e. absurd (some_status fault (sym same ∙ e))),
+          (λ n. record {
+            fault = fault;
+            status_is = same;
+            stops = subst (λ j. StopsAction t.action fault j known source out_old out.contents out.has_failed) is stops;
+            reported = reported;
+          }),
+        ),
+      )

@@ -1,0 +1,81 @@
+-- What the whole program does, over what it is started with: words, standard input and files, as the program's host says.
+use Rattle.std.specs.Prelude.{◌≡◌, ◌⊎◌, ℕ, List, codes, Option, Some, None, option_map, ⊤}
+use Rattle.std.specs.String.{string_bytes}
+use Rattle.clap.specs.Words.{Text}
+use Rattle.clap.specs.declared.builder.value_parser.ValueParser.{ValueParser}
+use Rattle.clap.specs.declared.error.kind.ErrorKind.TheVariants.{InvalidValue}
+use Rattle.rdf_stream.specs.Devices.{Written}
+use Rattle.rdf_command.specs.declared.host.Host as host
+use Rattle.rdf_command.specs.declared.task.Task.{Task}
+use Rattle.rdf_command.specs.declared.task.WordsFault.{WordsFault}
+use Rattle.rdf_command.specs.declared.task.WordsFault.TheVariants.{Memory}
+use Rattle.rdf_command.specs.Runs.{RunEnds}
+use Rattle.rdf_command.specs.Statuses.{GoesTo, RefusesWords, Reports}
+use Rattle.rdf_command.specs.Words.{GivesNone, GivesTask, IsUsageOf, TakesFormats, rdfconv}
+
+-- These words give the task, as the command line of the program defines it.
+abbrev pub IsTaskOf : List Text → Task → Type 0
+IsTaskOf words t = (formats : ValueParser) × TakesFormats formats × GivesTask (rdfconv formats) words t
+
+-- These words give no task, for this reason.
+abbrev pub IsNoTaskOf : List Text → WordsFault → Type 0
+IsNoTaskOf words fault = (formats : ValueParser) × TakesFormats formats × GivesNone (rdfconv formats) words fault
+
+-- the words of the command line give the task
+abbrev pub IsGiven : (List Text → Type 0) → Task → Type 0
+IsGiven has_words t = (words : List Text) × has_words words × IsTaskOf words t
+
+-- the words of the command line give no task, for this reason
+abbrev pub GiveNone : (List Text → Type 0) → WordsFault → Type 0
+GiveNone has_words fault = (words : List Text) × has_words words × IsNoTaskOf words fault
+
+-- There is no task: the words give none, one of them is no UTF-8, or memory was refused.
+abbrev pub IsNotGiven : (List Text → Type 0) → Type 0 → WordsFault → Type 0
+IsNotGiven has_words has_bad_word fault = GiveNone has_words fault ⊎ ((has_bad_word × IsUsageOf InvalidValue fault) ⊎ (fault ≡ Memory))
+
+-- the name of the file that the task reads, where it reads one
+abbrev pub file_of : Task → Option Text
+file_of t = option_map string_bytes t.file
+
+-- the name of the file of bindings, where the task has one
+abbrev pub prefixes_of : Task → Option Text
+prefixes_of t = option_map string_bytes t.prefixes
+
+-- the file of bindings of this name has these bytes, where there is a name and the bytes are known
+abbrev pub HasPrefixes : (Option Text → Option (List ℕ) → Type 0) → Option Text → Option (Option (List ℕ)) → Type 0
+HasPrefixes has_document None None = ⊤
+HasPrefixes has_document None (Some known) = ⊥
+HasPrefixes has_document (Some path) None = ⊥
+HasPrefixes has_document (Some path) (Some known) = has_document (Some path) known
+
+-- A file of the task did not open, which the status and the text on the error output say, and nothing was written.
+pub record IsNotOpen (is_shut : Text → Type 0) (t : Task) (status : ℕ) (out_old : Option (List ℕ)) (out : Written)
+    (err_old : Option (List ℕ)) (err : Written) : Type 0 where
+  pub path : Text
+  pub named : (prefixes_of t ≡ Some path) ⊎ (file_of t ≡ Some path)
+  pub shut : is_shut path
+  pub status_is : status ≡ 3
+  pub unwritten : out.contents ≡ out_old
+  pub reported : Reports (codes "rdfconv: cannot open file\n") err_old err.contents err.has_failed
+
+-- What the task names was read, the file of bindings where there is one, and the document, its file or else standard input; and the run of the
+-- task ended so. Or a file did not open.
+abbrev pub TaskEnds : (Option Text → Option (List ℕ) → Type 0) → (Text → Type 0) → Task → ℕ
+    → Option (List ℕ) → Written → Option (List ℕ) → Written → Type 0
+TaskEnds has_document is_shut t status out_old out err_old err =
+    ((prefixes : Option (Option (List ℕ))) × (known : Option (List ℕ)) × HasPrefixes has_document (prefixes_of t) prefixes
+    × has_document (file_of t) known × RunEnds t prefixes known status out_old out err_old err)
+    ⊎ IsNotOpen is_shut t status out_old out err_old err
+
+-- The words give a task, which ended so; or they give none, which the status and the text on an output say.
+abbrev pub ProgramEnds : (List Text → Type 0) → Type 0 → (Option Text → Option (List ℕ) → Type 0) → (Text → Type 0) → ℕ
+    → Option (List ℕ) → Written → Option (List ℕ) → Written → Type 0
+ProgramEnds has_words has_bad_word has_document is_shut status out_old out err_old err =
+    ((task : Task) × IsGiven has_words task × TaskEnds has_document is_shut task status out_old out err_old err)
+    ⊎ ((fault : WordsFault) × IsNotGiven has_words has_bad_word fault
+    × RefusesWords fault status err_old err.contents err.has_failed × GoesTo fault out_old out.contents err_old err.contents)
+
+-- The program ended so over what its host starts it with: the words, the documents, and the files that do not open.
+abbrev pub HostEnds : {H I : Type 0} → host.Ghosts H I → H → ℕ → Option (List ℕ) → Written → Option (List ℕ) → Written → Type 0
+HostEnds says h status out_old out err_old err =
+    ProgramEnds (says.has_words h) (says.has_bad_word h) (says.has_document h) (says.is_shut h) status out_old out err_old err

@@ -1,0 +1,64 @@
+-- The status that the program exits with, and the texts that it writes.
+use Rattle.std.specs.Prelude.{◌≡◌, ◌≢◌, ◌⊎◌, ℕ, Bool, false, List, ◌++◌, Option, codes, decimal}
+use Rattle.std.specs.Io.KnownBytes.{Appends}
+use Rattle.clap.specs.Words.{kind_of}
+use Rattle.clap.specs.declared.error.kind.ErrorKind.{ErrorKind}
+use Rattle.clap.specs.declared.error.kind.ErrorKind.TheVariants.{DisplayHelp, DisplayVersion}
+use Rattle.rdf_stream.specs.Devices.{AppendsFront}
+use Rattle.rdf_stream.specs.Messages.{report_text}
+use Rattle.rdf_stream.specs.declared.fault.LoadFault.{LoadFault}
+use Rattle.rdf_stream.specs.declared.fault.LoadFault.TheVariants as load
+use Rattle.rdf_stream.specs.declared.fault.LoadFault.TheVariants.{Bad}
+use Rattle.rdf_stream.specs.declared.fault.StreamFault.{StreamFault}
+use Rattle.rdf_stream.specs.declared.fault.StreamFault.TheVariants.{Refused, Read, Write, Memory}
+use Rattle.rdf_command.specs.declared.task.WordsFault.{WordsFault}
+use Rattle.rdf_command.specs.declared.task.WordsFault.TheVariants as words
+
+-- 0 is for what was accepted, and 2 for words that are no command
+abbrev pub status_of : StreamFault → ℕ
+status_of (Refused f) = 1
+status_of Read = 3
+status_of Write = 3
+status_of Memory = 4
+
+-- The text is written to a device, or a beginning of it, where the device failed.
+abbrev pub Reports : List ℕ → Option (List ℕ) → Option (List ℕ) → Bool → Type 0
+Reports text old new failed = AppendsFront old new text × (failed ≡ false → Appends old new text)
+
+-- the line that reports a bad line of a file of bindings
+abbrev pub prefixes_text : ℕ → List ℕ
+prefixes_text line = codes "rdfconv: bad prefixes at line " ++ decimal line ++ codes "\n"
+
+-- What is reported of a fault. The text of a refusal takes memory, and nothing of it is reported where that is refused.
+abbrev pub ReportsFault : StreamFault → Option (List ℕ) → Option (List ℕ) → Bool → Type 0
+ReportsFault (Refused f) old new failed = Reports (report_text (Refused f)) old new failed ⊎ (new ≡ old)
+ReportsFault fault old new failed = Reports (report_text fault) old new failed
+
+-- a line of a file of bindings that is refused is a mistake of the words
+abbrev pub load_status : LoadFault → ℕ
+load_status (Bad f) = 2
+load_status load.Read = 3
+load_status load.Memory = 4
+
+-- What is reported of a file of bindings that was not loaded. The text of a line takes memory, and nothing of it is reported where that is refused.
+abbrev pub ReportsLoad : LoadFault → Option (List ℕ) → Option (List ℕ) → Bool → Type 0
+ReportsLoad (Bad f) old new failed = Reports (prefixes_text f.line) old new failed ⊎ (new ≡ old)
+ReportsLoad load.Read old new failed = Reports (report_text Read) old new failed
+ReportsLoad load.Memory old new failed = Reports (report_text Memory) old new failed
+
+-- 0 where help was asked for, and else 2
+abbrev pub IsUsageStatus : ErrorKind → ℕ → Type 0
+IsUsageStatus kind status = (kind ≡ DisplayHelp → status ≡ 0) × (kind ≢ DisplayHelp → kind ≢ DisplayVersion → status ≡ 2)
+
+-- the status of words that are no task, and the text that is reported where it is no text of clap's
+abbrev pub RefusesWords : WordsFault → ℕ → Option (List ℕ) → Option (List ℕ) → Bool → Type 0
+RefusesWords (words.Usage e) status old new failed = IsUsageStatus (kind_of e) status
+RefusesWords words.BadBase status old new failed = (status ≡ 2) × Reports (codes "rdfconv: bad base\n") old new failed
+RefusesWords words.BadNodePrefix status old new failed = (status ≡ 2) × Reports (codes "rdfconv: bad node prefix\n") old new failed
+RefusesWords words.Memory status old new failed = (status ≡ 4) × Reports (report_text Memory) old new failed
+
+-- help changes the output alone, and all else the error output alone
+abbrev pub GoesTo : {O E : Type 0} → WordsFault → O → O → E → E → Type 0
+GoesTo (words.Usage e) out_old out_new err_old err_new =
+    (kind_of e ≡ DisplayHelp → err_new ≡ err_old) × (kind_of e ≢ DisplayHelp → kind_of e ≢ DisplayVersion → out_new ≡ out_old)
+GoesTo fault out_old out_new err_old err_new = out_new ≡ out_old

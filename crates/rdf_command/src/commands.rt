@@ -1,0 +1,183 @@
+// The task that the words of the command line ask for.
+
+ghost use Rattle.std.specs.Prelude.{◌≡◌, ◌⊎◌, ◌<◌, ◌≤◌, ◌^◌, IfErr, IfOk, IfSome, OnOk, Some, Option, chars, codes, cond, map, option_map, string_bytes, ℕ, List};
+ghost use Rattle.clap.specs.Words.{App, Text, first_of, found_of, rows_of, subcommand_rows_of};
+ghost use Rattle.clap.specs.declared.builder.value_parser.ValueParser.{ValueParser};
+ghost use Rattle.clap.specs.declared.builder.value_parser.ValueParser.TheVariants.{Names};
+ghost use Rattle.rdf_iri.specs.Scope.{BaseFits};
+ghost use Rattle.rdf_lines.specs.declared.form.Escapes.TheVariants.{Ascii, Plain};
+ghost use Rattle.rdf_iri.specs.Texts.{byte_len};
+ghost use Rattle.rdf_command.specs.Programs.{IsTaskOf, IsNoTaskOf};
+ghost use Rattle.rdf_command.specs.Words.{Entered, GivesNone, GivesTask, HasLimits, HasNumber, HasSizes, IsBase, IsEntered, IsTaskBy, IsUsageOf, IsWord, NoBaseOf, NoTaskBy, NoWordOf, TakesFormats, escapes_by, format_names, number_of, rdfconv};
+
+use crate::names::{FORMATS, action_of, form_of};
+use crate::options::program;
+use crate::task::{Task, WordsFault};
+use clap::ArgMatches;
+use clap::error::ErrorKind;
+use rdf_stream::{Escapes, Iri, Limits, NodePrefix, TermFault};
+use std::alloc::{AllocError, Global};
+
+/// The task that the words ask for. The first word is the program's name.
+pub fn command_of<'a>(alloc: Global, words: &'a [&'a str]) -> Result<Task, WordsFault>
+    ensures base { IfOk result (λ task. BaseFits task.base task.limits) }
+    ensures task { IfOk result (IsTaskOf (map (λ s. s.now) words.entry.now)) }
+    ensures refused { IfErr result (IsNoTaskOf (map (λ s. s.now) words.entry.now)) }
+{
+    command_by(alloc, words, FORMATS.as_slice())
+}
+
+/// The fault of a command line with a word that is no UTF-8.
+pub fn not_utf8(alloc: Global) -> WordsFault
+    ensures { IsUsageOf ErrorKind.InvalidValue result }
+{
+    match program(alloc, FORMATS.as_slice()) {
+        Ok(mut command) => match command.error(ErrorKind::InvalidValue, "a word is no UTF-8") {
+            Ok(error) => WordsFault::from(error),
+            Err(error) => WordsFault::from(error),
+        },
+        Err(error) => WordsFault::from(error),
+    }
+}
+
+fn command_by<'a>(
+    alloc: Global,
+    words: &'a [&'a str],
+    formats: &'a [&'a str],
+) -> Result<Task, WordsFault>
+    requires { map (λ s. s.now) formats.now ≡ format_names }
+    ensures task { IfOk result (GivesTask (rdfconv (Names formats.entry)) (map (λ s. s.now) words.entry.now)) }
+    ensures base { IfOk result (λ task. BaseFits task.base task.limits) }
+    ensures refused { IfErr result (GivesNone (rdfconv (Names formats.entry)) (map (λ s. s.now) words.entry.now)) }
+{
+    let matches = program(alloc, formats)?.try_get_matches_from(words)?;
+    let (name, found) = matches.subcommand().unwrap();
+    task_of(alloc, name, found)
+}
+
+fn task_of(alloc: Global, name: &str, found: &ArgMatches<'_>) -> Result<Task, WordsFault>
+    requires { IsEntered (name.now, rows_of (found_of found.now)) }
+    ensures task { IfOk result (IsTaskBy (name.now, rows_of (found_of found.now))) }
+    ensures base { IfOk result (λ task. BaseFits task.base task.limits) }
+    ensures refused { IfErr result (NoTaskBy (name.now, rows_of (found_of found.now))) }
+{
+    let action = action_of(name);
+    let form = form_of(found.get_str("format").unwrap());
+    let limits = limits_of(found);
+    let base = base_of(alloc, found.get_str("base"), limits.iri())?;
+    let escapes = escapes_by(found.get_str("ascii"));
+    let node_prefix = node_prefix_of(alloc, found.get_str("node-prefix"))?;
+    let prefixes = owned(alloc, found.get_str("prefixes"))?;
+    let file = owned(alloc, found.get_str("file"))?;
+    Ok(Task {
+        action,
+        form,
+        base,
+        limits,
+        escapes,
+        node_prefix,
+        prefixes,
+        file,
+    })
+}
+
+// A flag has the text `true` where it was given, and `false` where it was not. A command without it has no text.
+fn escapes_by(text: Option<&str>) -> Escapes
+    ensures { result ≡ escapes_by (option_map (λ s. s.now) text.entry) }
+{
+    match text {
+        Some(text) => escapes_in(text == "true"),
+        None => Escapes::Plain,
+    }
+}
+
+fn escapes_in(ascii: bool) -> Escapes
+    ensures { result ≡ cond ascii Ascii Plain }
+{
+    if ascii {
+        Escapes::Ascii
+    } else {
+        Escapes::Plain
+    }
+}
+
+fn limits_of(found: &ArgMatches<'_>) -> Limits
+    requires { HasLimits (rows_of (found_of found.now)) }
+    ensures { HasSizes (rows_of (found_of found.now)) result }
+{
+    let token = limit_of(found, "token");
+    let depth = limit_of(found, "depth");
+    let bindings = limit_of(found, "bindings");
+    let iri = limit_of(found, "iri");
+    Limits::new(token, depth, bindings, iri).unwrap()
+}
+
+fn limit_of(found: &ArgMatches<'_>, id: &str) -> u64
+    requires { (least : ℕ) × (most : ℕ) × HasNumber id.now least most (rows_of (found_of found.now)) }
+    ensures { number_of id.now (rows_of (found_of found.now)) ≡ Some result }
+{
+    found.get_str(id).unwrap().parse::<u64>().unwrap()
+}
+
+fn base_of(alloc: Global, text: Option<&str>, most: u64) -> Result<Option<Iri>, WordsFault>
+    ensures base { IfOk result (λ base. base ≡ option_map chars (option_map (λ s. s.now) text.entry)) }
+    ensures good { OnOk result (IfSome (option_map (λ s. s.now) text.entry) (IsBase most)) }
+    ensures fits { IfOk result (λ base. IfSome base (λ b. byte_len b ≤ most)) }
+    ensures bad { IfErr result (NoBaseOf most (option_map (λ s. s.now) text.entry)) }
+{
+    match text {
+        Some(text) => Ok(Some(base_within(alloc, text, most)?)),
+        None => Ok(None),
+    }
+}
+
+fn base_within(alloc: Global, text: &str, most: u64) -> Result<Iri, WordsFault>
+    ensures base { IfOk result (λ base. base ≡ chars text.now) }
+    ensures good { OnOk result (IsBase most text.now) }
+    ensures fits { IfOk result (λ base. byte_len base ≤ most) }
+    ensures bad { IfErr result (NoBaseOf most (Some text.now)) }
+{
+    if text.len() as u64 > most {
+        return Err(WordsFault::BadBase);
+    }
+    match Iri::new(alloc, text) {
+        Ok(base) => Ok(base),
+        Err(TermFault::BadTerm) => Err(WordsFault::BadBase),
+        Err(TermFault::Memory) => Err(WordsFault::Memory),
+    }
+}
+
+fn node_prefix_of(alloc: Global, text: Option<&str>) -> Result<Option<NodePrefix>, WordsFault>
+    ensures word { IfOk result (λ word. word ≡ option_map chars (option_map (λ s. s.now) text.entry)) }
+    ensures good { OnOk result (IfSome (option_map (λ s. s.now) text.entry) IsWord) }
+    ensures bad { IfErr result (NoWordOf (option_map (λ s. s.now) text.entry)) }
+{
+    match text {
+        Some(text) => Ok(Some(node_prefix_in(alloc, text)?)),
+        None => Ok(None),
+    }
+}
+
+fn node_prefix_in(alloc: Global, text: &str) -> Result<NodePrefix, WordsFault>
+    ensures word { IfOk result (λ word. word ≡ chars text.now) }
+    ensures good { OnOk result (IsWord text.now) }
+    ensures bad { IfErr result (NoWordOf (Some text.now)) }
+{
+    if text.is_empty() {
+        return Err(WordsFault::BadNodePrefix);
+    }
+    let word = String::from_str(alloc, text)?;
+    match NodePrefix::new(word) {
+        Some(prefix) => Ok(prefix),
+        None => Err(WordsFault::BadNodePrefix),
+    }
+}
+
+fn owned(alloc: Global, text: Option<&str>) -> Result<Option<String>, AllocError>
+    ensures { IfOk result (λ copy. option_map string_bytes copy ≡ option_map (λ s. s.now) text.entry) }
+{
+    match text {
+        Some(text) => Ok(Some(String::from_str(alloc, text)?)),
+        None => Ok(None),
+    }
+}

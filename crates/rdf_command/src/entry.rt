@@ -1,0 +1,89 @@
+// The whole program, over what it is started with.
+
+ghost use Rattle.std.specs.Prelude.{◌≡◌, ◌⊎◌, false, IfErr, IfOk, IfSome, List, map, OnErr, option_map, Some, string_bytes};
+ghost use Rattle.clap.specs.Words.{Text};
+ghost use Rattle.rdf_iri.specs.Scope.{BaseFits};
+ghost use Rattle.rdf_command.specs.Programs.{HasPrefixes, HostEnds, IsGiven, IsNotGiven, TaskEnds, file_of, prefixes_of};
+ghost use Rattle.rdf_command.specs.Runs.{AreFresh, AsWritten};
+
+use crate::commands::{command_of, not_utf8};
+use crate::host::{Host, NoWords, NotOpen};
+use crate::runs::{Files, refuse_file, refuse_words, run};
+use crate::task::{Task, WordsFault};
+use rdf_stream::Drain;
+use std::alloc::{AllocError, Global};
+
+/// Does what the words ask for, and answers the status.
+pub fn start<H: Host, O: Drain, E: Drain>(alloc: Global, host: &H, out: &mut O, err: &mut E) -> u8
+    requires out { O.has_failed out.old ≡ false }
+    requires err { E.has_failed err.old ≡ false }
+    ensures { AsWritten (HostEnds H.Host host.now result) O.Drain E.Drain out.old out.new err.old err.new }
+{
+    match task_of(alloc, host) {
+        Ok(task) => run_task(alloc, task, host, out, err),
+        Err(fault) => refuse_words(alloc, &fault, out, err),
+    }
+}
+
+// The task of the command line. A word that is no UTF-8 makes it no command.
+fn task_of<H: Host>(alloc: Global, host: &H) -> Result<Task, WordsFault>
+    ensures base { IfOk result (λ task. BaseFits task.base task.limits) }
+    ensures task { IfOk result (IsGiven (H.has_words host.now)) }
+    ensures refused { IfErr result (IsNotGiven (H.has_words host.now) (H.has_bad_word host.now)) }
+{
+    let words = match host.words(alloc) {
+        Ok(words) => words,
+        Err(NoWords::NotUtf8) => return Err(not_utf8(alloc)),
+        Err(NoWords::Memory) => return Err(WordsFault::Memory),
+    };
+    let texts = texts_of(alloc, words.as_slice())?;
+    command_of(alloc, texts.as_slice())
+}
+
+fn texts_of(alloc: Global, words: &[String]) -> Result<Vec<&str>, AllocError>
+    ensures { IfOk result (λ texts. map (λ text. text.now) texts.items ≡ map string_bytes words.now) }
+{
+    words.iter().map(|word| word.as_str()).collect(alloc)
+}
+
+fn run_task<H: Host, O: Drain, E: Drain>(
+    alloc: Global,
+    task: Task,
+    host: &H,
+    out: &mut O,
+    err: &mut E,
+) -> u8
+    requires base { BaseFits task.base task.limits }
+    requires out { O.has_failed out.old ≡ false }
+    requires err { E.has_failed err.old ≡ false }
+    ensures { AsWritten (TaskEnds (H.has_document host.now) (H.is_shut host.now) task result)
+        O.Drain E.Drain out.old out.new err.old err.new }
+{
+    match open_files(host, &task) {
+        Ok(files) => run(alloc, task, files, out, err),
+        Err(NotOpen) => refuse_file(err),
+    }
+}
+
+// Opens the files of a task, that of the bindings first.
+fn open_files<H: Host>(host: &H, task: &Task) -> Result<Files<H::Input>, NotOpen>
+    ensures prefixes { IfOk result (λ files. HasPrefixes (H.has_document host.now) (prefixes_of task.now) (option_map H.Input.remaining files.prefixes)) }
+    ensures document { IfOk result (λ files. H.has_document host.now (file_of task.now) (H.Input.remaining files.document)) }
+    ensures fresh { IfOk result (AreFresh H.Input.has_ended H.Input.has_failed) }
+    ensures shut { OnErr result ((path : Text) × ((prefixes_of task.now ≡ Some path) ⊎ (file_of task.now ≡ Some path)) × H.is_shut host.now path) }
+{
+    let prefixes = open_prefixes(host, task)?;
+    let document = host.open(task.file.as_deref())?;
+    Ok(Files { prefixes, document })
+}
+
+fn open_prefixes<H: Host>(host: &H, task: &Task) -> Result<Option<H::Input>, NotOpen>
+    ensures opened { IfOk result (λ prefixes. HasPrefixes (H.has_document host.now) (prefixes_of task.now) (option_map H.Input.remaining prefixes)) }
+    ensures fresh { IfOk result (λ prefixes. IfSome prefixes (λ s. (H.Input.has_ended s ≡ false) × (H.Input.has_failed s ≡ false))) }
+    ensures shut { OnErr result ((path : Text) × (prefixes_of task.now ≡ Some path) × H.is_shut host.now path) }
+{
+    match task.prefixes.as_deref() {
+        Some(path) => Ok(Some(host.open(Some(path))?)),
+        None => Ok(None),
+    }
+}

@@ -1,0 +1,282 @@
+// The command line: its subcommands, their options, and what help says of them.
+
+ghost use Rattle.std.specs.Prelude.{◌≡◌, IfOk, codes, false};
+ghost use Rattle.clap.specs.Words.{app_of, rule_of};
+ghost use Rattle.clap.specs.declared.builder.value_parser.ValueParser.TheVariants.{Names};
+ghost use Rattle.rdf_command.specs.Words.{ReadsAs, action_app, ascii_rule, base_rule, bindings_rule, depth_rule, file_rule, format_rule, iri_rule, limit_rule, node_prefix_rule, prefixes_rule, rdfconv, token_rule, with_ascii, with_node_prefix, with_prefixes};
+
+use clap::builder::ValueParser;
+use clap::{Arg, ArgAction, Command};
+use std::alloc::{AllocError, Global};
+
+/// What the subcommands do.
+const CHECK: &str = "Read a document to its end, and count its quads and bytes";
+
+const SHOW: &str = "Write a line for each token: its offset, its characters and its kind";
+
+const CONVERT: &str = "Write the quads of a document as lines of N-Quads";
+
+/// What stands below the help of the program.
+const PROGRAM_NOTES: &str = "\
+Options of a command, which reads FILE or standard input:
+  --format FORMAT  nt (N-Triples), nq (N-Quads), ttl (Turtle) or trig (TriG) [default: trig];
+                   it is not guessed from the file's name
+  --base IRI       absolute IRI that relative references start from, at most --iri bytes;
+                   without one they are refused; line formats have none
+  --token N        characters of one token, 1 to 268435456 [default: 16777216]
+  --depth N        brackets and parentheses open at one time, 0 to 1048576 [default: 1024]
+  --bindings N     prefixes bound at one time, 0 to 16777216 [default: 65536]
+  --iri N          bytes of one IRI, 1 to 268435456 [default: 1048576]
+  --prefixes FILE2 (check, convert) prefixes that are bound before the document: a line for
+                   each, as `ex: http://example.org/`; line formats have none
+  --ascii          (convert) characters above U+007F of strings and IRIs as \\uXXXX or
+                   \\UXXXXXXXX; labels of blank nodes have no escapes, and stay as they are
+  --node-prefix WORD
+                   (convert) WORD, of ASCII letters and digits, in front of the label of each
+                   blank node, so that outputs with different words of one length can be joined
+Past one of the limits N a document is refused.
+
+Exit status:
+  0  accepted, or help was asked for
+  1  refused, with `rdfconv: REASON at byte N, line M` on standard error
+  2  the words are no command, the base is no IRI or too long, WORD is empty or has another
+     character, or a line of FILE2 is refused, with `rdfconv: bad prefixes at line N`
+  3  a file does not open, or a read or write failed
+  4  out of memory";
+
+/// What stands below the help of a subcommand.
+const COMMAND_NOTES: &str = "\
+The format is not guessed from the file's name. Past one of the limits N a document is refused.
+
+Exit status:
+  0  accepted, or help was asked for
+  1  refused, with `rdfconv: REASON at byte N, line M` on standard error
+  2  the words are no command, the base is no IRI or too long, WORD is empty or has another
+     character, or a line of FILE2 is refused, with `rdfconv: bad prefixes at line N`
+  3  a file does not open, or a read or write failed
+  4  out of memory";
+
+/// An option whose value is a number.
+#[derive(Clone, Copy)]
+struct Limit<'a> {
+    name: &'a str,
+    least: u64,
+    most: u64,
+    /// The number where the option is not given.
+    default: &'a str,
+    help: &'a str,
+}
+
+/// The whole command line, where a format has one of these names.
+pub fn program<'a>(alloc: Global, formats: &'a [&'a str]) -> Result<Command<'a>, AllocError>
+    ensures { IfOk result (λ c. app_of c ≡ rdfconv (Names formats.entry)) }
+{
+    let check = prefixed_command(alloc, "check", CHECK, formats)?;
+    let show = action_command(alloc, "show", SHOW, formats)?;
+    let convert = convert_command(alloc, formats)?;
+    Command::new(alloc, "rdfconv")
+        .about("Read N-Triples, N-Quads, Turtle or TriG, and write N-Quads")
+        .after_help(PROGRAM_NOTES)
+        .subcommand_required(true)
+        .subcommand(check)?
+        .subcommand(show)?
+        .subcommand(convert)
+}
+
+// The subcommand that writes quads.
+fn convert_command<'a>(alloc: Global, formats: &'a [&'a str]) -> Result<Command<'a>, AllocError>
+    ensures { IfOk result (λ c. ReadsAs c (with_node_prefix (with_ascii (with_prefixes (action_app (Names formats.entry) (codes "convert")))))) }
+{
+    let command = prefixed_command(alloc, "convert", CONVERT, formats)?;
+    let ascii = ascii_option(alloc);
+    let node_prefix = node_prefix_option(alloc);
+    command.arg(ascii)?.arg(node_prefix)
+}
+
+// A subcommand that looks at prefixes.
+fn prefixed_command<'a>(
+    alloc: Global,
+    name: &'a str,
+    about: &'a str,
+    formats: &'a [&'a str],
+) -> Result<Command<'a>, AllocError>
+    ensures { IfOk result (λ c. ReadsAs c (with_prefixes (action_app (Names formats.entry) name.now))) }
+{
+    let command = action_command(alloc, name, about, formats)?;
+    let prefixes = prefixes_option(alloc);
+    command.arg(prefixes)
+}
+
+fn action_command<'a>(
+    alloc: Global,
+    name: &'a str,
+    about: &'a str,
+    formats: &'a [&'a str],
+) -> Result<Command<'a>, AllocError>
+    ensures { IfOk result (λ c. ReadsAs c (action_app (Names formats.entry) name.now)) }
+{
+    let format = format_option(alloc, formats);
+    let base = base_option(alloc);
+    let token = token_option(alloc);
+    let depth = depth_option(alloc);
+    let bindings = bindings_option(alloc);
+    let iri = iri_option(alloc);
+    let file = file_argument(alloc);
+    Command::new(alloc, name)
+        .about(about)
+        .after_help(COMMAND_NOTES)
+        .arg(format)?
+        .arg(base)?
+        .arg(token)?
+        .arg(depth)?
+        .arg(bindings)?
+        .arg(iri)?
+        .arg(file)
+}
+
+fn format_option<'a>(alloc: Global, formats: &'a [&'a str]) -> Arg<'a>
+    ensures rule { rule_of result ≡ format_rule (Names formats.entry) }
+    ensures local { result.global ≡ false }
+{
+    Arg::new(alloc, "format")
+        .long("format")
+        .action(ArgAction::Set)
+        .value_name("FORMAT")
+        .help("Format of the document: nt N-Triples, nq N-Quads, ttl Turtle, trig TriG")
+        .value_parser(formats)
+        .default_value("trig")
+}
+
+fn base_option<'a>(alloc: Global) -> Arg<'a>
+    ensures rule { rule_of result ≡ base_rule }
+    ensures local { result.global ≡ false }
+{
+    Arg::new(alloc, "base")
+        .long("base")
+        .action(ArgAction::Set)
+        .value_name("IRI")
+        .help(
+            "Absolute IRI that relative references start from, at most --iri bytes; line formats have none",
+        )
+}
+
+fn token_option<'a>(alloc: Global) -> Arg<'a>
+    ensures rule { rule_of result ≡ token_rule }
+    ensures local { result.global ≡ false }
+{
+    limit_option(
+        alloc,
+        Limit {
+            name: "token",
+            least: 1,
+            most: 268435456,
+            default: "16777216",
+            help: "Characters of one token, 1 to 268435456",
+        },
+    )
+}
+
+fn depth_option<'a>(alloc: Global) -> Arg<'a>
+    ensures rule { rule_of result ≡ depth_rule }
+    ensures local { result.global ≡ false }
+{
+    limit_option(
+        alloc,
+        Limit {
+            name: "depth",
+            least: 0,
+            most: 1048576,
+            default: "1024",
+            help: "Brackets and parentheses open at one time, 0 to 1048576",
+        },
+    )
+}
+
+fn bindings_option<'a>(alloc: Global) -> Arg<'a>
+    ensures rule { rule_of result ≡ bindings_rule }
+    ensures local { result.global ≡ false }
+{
+    limit_option(
+        alloc,
+        Limit {
+            name: "bindings",
+            least: 0,
+            most: 16777216,
+            default: "65536",
+            help: "Prefixes bound at one time, 0 to 16777216",
+        },
+    )
+}
+
+fn iri_option<'a>(alloc: Global) -> Arg<'a>
+    ensures rule { rule_of result ≡ iri_rule }
+    ensures local { result.global ≡ false }
+{
+    limit_option(
+        alloc,
+        Limit {
+            name: "iri",
+            least: 1,
+            most: 268435456,
+            default: "1048576",
+            help: "Bytes of one IRI, 1 to 268435456",
+        },
+    )
+}
+
+fn limit_option<'a>(alloc: Global, limit: Limit<'a>) -> Arg<'a>
+    ensures rule { rule_of result ≡ limit_rule limit.entry.name.now limit.entry.least limit.entry.most limit.entry.default.now }
+    ensures local { result.global ≡ false }
+{
+    Arg::new(alloc, limit.name)
+        .long(limit.name)
+        .action(ArgAction::Set)
+        .value_name("N")
+        .help(limit.help)
+        .value_parser(ValueParser::unsigned(limit.least, limit.most))
+        .default_value(limit.default)
+}
+
+fn prefixes_option<'a>(alloc: Global) -> Arg<'a>
+    ensures rule { rule_of result ≡ prefixes_rule }
+    ensures local { result.global ≡ false }
+{
+    Arg::new(alloc, "prefixes")
+        .long("prefixes")
+        .action(ArgAction::Set)
+        .value_name("FILE2")
+        .help("File of prefixes bound before the document, a line each: `ex: http://example.org/`")
+}
+
+fn ascii_option<'a>(alloc: Global) -> Arg<'a>
+    ensures rule { rule_of result ≡ ascii_rule }
+    ensures local { result.global ≡ false }
+{
+    Arg::new(alloc, "ascii")
+        .long("ascii")
+        .action(ArgAction::SetTrue)
+        .help(
+            "Characters above U+007F of strings and IRIs as \\uXXXX or \\UXXXXXXXX; labels of blank nodes stay",
+        )
+}
+
+fn node_prefix_option<'a>(alloc: Global) -> Arg<'a>
+    ensures rule { rule_of result ≡ node_prefix_rule }
+    ensures local { result.global ≡ false }
+{
+    Arg::new(alloc, "node-prefix")
+        .long("node-prefix")
+        .action(ArgAction::Set)
+        .value_name("WORD")
+        .help("Word of ASCII letters and digits in front of the label of each blank node")
+}
+
+fn file_argument<'a>(alloc: Global) -> Arg<'a>
+    ensures rule { rule_of result ≡ file_rule }
+    ensures local { result.global ≡ false }
+{
+    Arg::new(alloc, "file")
+        .action(ArgAction::Set)
+        .value_name("FILE")
+        .help("Document to read, in place of standard input")
+}

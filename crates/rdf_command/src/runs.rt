@@ -1,0 +1,337 @@
+// A run, its status, and what it reports.
+
+ghost use Rattle.std.specs.Prelude.{◌≡◌, ◌++◌, ℕ, List, [], false, true, codes, decimal, IfErr, IfOk, IfSome, OnErr, OnOk, is_err, option_map};
+ghost use Rattle.std.specs.Io.KnownBytes.{Appends};
+ghost use Rattle.rdf_iri.specs.Scope.{BaseFits};
+ghost use Rattle.rdf_stream.specs.Devices.{AppendsFront, Reading};
+ghost use Rattle.rdf_stream.specs.Jobs.{word_of};
+ghost use Rattle.rdf_stream.specs.Loads.{LoadStops, Loads};
+ghost use Rattle.rdf_stream.specs.Messages.{report_text};
+ghost use Rattle.rdf_stream.specs.Told.{AsTold};
+ghost use Rattle.rdf_stream.specs.declared.fault.StreamFault.{StreamFault};
+ghost use Rattle.rdf_command.specs.Runs.{AreFresh, AsWritten, Does, IsChecked, IsJobOf, RunEnds, StartsNot, StopsAction, StopsCheck, accepted_text};
+ghost use Rattle.rdf_command.specs.Statuses.{GoesTo, RefusesWords, Reports, ReportsLoad, ReportsFault, load_status, prefixes_text, status_of};
+
+use crate::task::{Action, Task, WordsFault};
+use clap::Error;
+use itoa::Buffer;
+use rdf_stream::{
+    Bindings, Drain, Failed, Job, Limits, LoadFault, NodePrefix, Source, StreamFault, Summary,
+    check, convert, load_bindings, out_of_memory, put_all, read_failed, report, show, write_failed,
+};
+use std::alloc::{AllocError, Global};
+
+/// What a task reads: the file of the prefixes that are bound before the document, if it names one, and the document.
+#[derive(Drop)]
+pub struct Files<I> {
+    /// The file of bindings.
+    pub prefixes: Option<I>,
+    /// The document.
+    pub document: I,
+}
+
+/// Runs a task over its files, and answers the status. The file of bindings is read first.
+pub fn run<I: Source + Drop, O: Drain, E: Drain>(
+    alloc: Global,
+    task: Task,
+    files: Files<I>,
+    out: &mut O,
+    err: &mut E,
+) -> u8
+    requires base { BaseFits task.base task.limits }
+    requires fresh { AreFresh I.has_ended I.has_failed files }
+    requires out { O.has_failed out.old ≡ false }
+    requires err { E.has_failed err.old ≡ false }
+    ensures { AsWritten (RunEnds task (option_map I.remaining files.prefixes) (I.remaining files.document) result)
+        O.Drain E.Drain out.old out.new err.old err.new }
+{
+    let Files { prefixes, document } = files;
+    let action = task.action;
+    let mut document = document;
+    let job = match job_of(alloc, task, prefixes) {
+        Ok(job) => job,
+        Err(fault) => return refuse_prefixes(alloc, &fault, err),
+    };
+    match act(alloc, action, job, &mut document, out) {
+        Ok(()) => 0,
+        Err(fault) => {
+            tell_fault(alloc, &fault, err);
+            status(&fault)
+        }
+    }
+}
+
+// What a task asks for, with the bindings of its file.
+fn job_of<I: Source + Drop>(
+    alloc: Global,
+    task: Task,
+    prefixes: Option<I>,
+) -> Result<Job, LoadFault>
+    requires base { BaseFits task.base task.limits }
+    requires fresh { IfSome prefixes (λ s. (I.has_ended s ≡ false) × (I.has_failed s ≡ false)) }
+    ensures job { IfOk result (IsJobOf task (option_map I.remaining prefixes)) }
+    ensures stops { IfErr result (λ fault. StartsNot fault task.limits (option_map I.remaining prefixes)) }
+{
+    let job = Job::new(task.form, task.base, task.limits).unwrap();
+    let job = job.with_escapes(task.escapes);
+    let job = named(job, task.node_prefix);
+    match prefixes {
+        Some(source) => {
+            let bindings = load(alloc, task.limits, source)?;
+            Ok(job.with_bindings(bindings))
+        }
+        None => Ok(job),
+    }
+}
+
+// The job with the task's word in front of the names of nodes, where it has one.
+fn named(job: Job, prefix: Option<NodePrefix>) -> Job
+    requires { job.node_prefix ≡ [] }
+    ensures { result ≡ record job { node_prefix = word_of prefix } }
+{
+    match prefix {
+        Some(prefix) => job.with_node_prefix(prefix),
+        None => job,
+    }
+}
+
+fn load<I: Source + Drop>(alloc: Global, limits: Limits, source: I) -> Result<Bindings, LoadFault>
+    requires more { I.has_ended source ≡ false }
+    requires source { I.has_failed source ≡ false }
+    ensures loaded { IfOk result (λ b. (left : Reading) × Loads limits (I.remaining source) left b) }
+    ensures stops { IfErr result (λ fault. (left : Reading) × LoadStops fault limits (I.remaining source) left) }
+{
+    let mut source = source;
+    load_bindings(alloc, limits, &mut source)
+}
+
+/// The text and the status of a file of bindings that was not loaded.
+fn refuse_prefixes<E: Drain>(alloc: Global, fault: &LoadFault, err: &mut E) -> u8
+    requires { E.has_failed err.old ≡ false }
+    ensures status { result ≡ load_status fault.now }
+    ensures reported { ReportsLoad fault.now (E.contents err.old) (E.contents err.new) (E.has_failed err.new) }
+{
+    match fault {
+        LoadFault::Bad(fault) => {
+            if let Ok(line) = prefixes_line(alloc, fault.line) {
+                tell_bytes(line.as_slice(), err);
+            }
+            2
+        }
+        LoadFault::Read => {
+            tell(read_failed(), err);
+            3
+        }
+        LoadFault::Memory => tell_memory(err),
+    }
+}
+
+fn prefixes_line(alloc: Global, line: u64) -> Result<Vec<u8>, AllocError>
+    ensures { IfOk result (λ text. text.items ≡ prefixes_text line) }
+{
+    let mut text = Vec::from_slice(alloc, b"rdfconv: bad prefixes at line ")?;
+    text.extend_from_slice(Buffer::new().format(line).as_bytes())?;
+    text.extend_from_slice(b"\n")?;
+    Ok(text)
+}
+
+/// The text and the status of a file that did not open.
+pub fn refuse_file<E: Drain>(err: &mut E) -> u8
+    requires { E.has_failed err.old ≡ false }
+    ensures status { result ≡ 3 }
+    ensures reported { Reports (codes "rdfconv: cannot open file\n") (E.contents err.old) (E.contents err.new) (E.has_failed err.new) }
+{
+    tell("rdfconv: cannot open file\n", err);
+    3
+}
+
+fn act<S: Source, O: Drain>(
+    alloc: Global,
+    action: Action,
+    job: Job,
+    source: &mut S,
+    out: &mut O,
+) -> Result<(), StreamFault>
+    requires more { S.has_ended source.old ≡ false }
+    requires source { S.has_failed source.old ≡ false }
+    requires out { O.has_failed out.old ≡ false }
+    ensures accepted { OnOk result (IfSome (S.remaining source.old) (λ bytes. Does action job bytes (O.contents out.old) (O.contents out.new))) }
+    ensures flushed { OnOk result (O.is_flushed out.new ≡ true) }
+    ensures stops { IfErr result (λ fault. AsTold (StopsAction action fault job) S.Source O.Drain source.old source.new out.old out.new) }
+{
+    match action {
+        Action::Check => check_to(alloc, job, source, out),
+        Action::Show => match show(alloc, job, source, out) {
+            Ok(_) => Ok(()),
+            Err(fault) => Err(fault),
+        },
+        Action::Convert => match convert(alloc, job, source, out) {
+            Ok(_) => Ok(()),
+            Err(fault) => Err(fault),
+        },
+    }
+}
+
+// Checks a document, and says what is in it.
+fn check_to<S: Source, O: Drain>(
+    alloc: Global,
+    job: Job,
+    source: &mut S,
+    out: &mut O,
+) -> Result<(), StreamFault>
+    requires more { S.has_ended source.old ≡ false }
+    requires source { S.has_failed source.old ≡ false }
+    requires out { O.has_failed out.old ≡ false }
+    ensures accepted { OnOk result (IfSome (S.remaining source.old) (λ bytes. IsChecked job bytes (O.contents out.old) (O.contents out.new))) }
+    ensures flushed { OnOk result (O.is_flushed out.new ≡ true) }
+    ensures stops { IfErr result (λ fault. AsTold (StopsCheck fault job) S.Source O.Drain source.old source.new out.old out.new) }
+{
+    let summary = match check(alloc, job, source) {
+        Ok(summary) => summary,
+        Err(fault) => return Err(fault),
+    };
+    let text = match accepted_line(alloc, summary) {
+        Ok(text) => text,
+        Err(AllocError) => return Err(StreamFault::Memory),
+    };
+    match write_out(text.as_slice(), out) {
+        Ok(()) => Ok(()),
+        Err(Failed) => Err(StreamFault::Write),
+    }
+}
+
+fn accepted_line(alloc: Global, summary: Summary) -> Result<Vec<u8>, AllocError>
+    ensures { IfOk result (λ text. text.items ≡ accepted_text summary) }
+{
+    let mut text = Vec::from_slice(alloc, b"accepted, ")?;
+    text.extend_from_slice(Buffer::new().format(summary.quads).as_bytes())?;
+    text.extend_from_slice(b" quads, ")?;
+    text.extend_from_slice(Buffer::new().format(summary.bytes).as_bytes())?;
+    text.extend_from_slice(b" bytes\n")?;
+    Ok(text)
+}
+
+// Writes the bytes, and sends them on.
+fn write_out<O: Drain>(bytes: &[u8], out: &mut O) -> Result<(), Failed>
+    requires { O.has_failed out.old ≡ false }
+    ensures ok { OnOk result (Appends (O.contents out.old) (O.contents out.new) bytes.now) }
+    ensures flushed { OnOk result (O.is_flushed out.new ≡ true) }
+    ensures err { OnErr result (AppendsFront (O.contents out.old) (O.contents out.new) bytes.now) }
+    ensures failed { O.has_failed out.new ≡ is_err result }
+{
+    put_all(out, bytes)?;
+    out.flush()
+}
+
+fn status(fault: &StreamFault) -> u8
+    ensures { result ≡ status_of fault.now }
+{
+    match fault {
+        StreamFault::Refused(_) => 1,
+        StreamFault::Read | StreamFault::Write => 3,
+        StreamFault::Memory => 4,
+    }
+}
+
+// Reports a fault. The text of a refusal alone takes memory.
+fn tell_fault<E: Drain>(alloc: Global, fault: &StreamFault, err: &mut E)
+    requires { E.has_failed err.old ≡ false }
+    ensures { ReportsFault fault.now (E.contents err.old) (E.contents err.new) (E.has_failed err.new) }
+{
+    match fault {
+        StreamFault::Refused(_) => match tell_refusal(alloc, fault, err) {
+            Ok(()) | Err(AllocError) => {}
+        },
+        StreamFault::Read => tell(read_failed(), err),
+        StreamFault::Write => tell(write_failed(), err),
+        StreamFault::Memory => {
+            tell_memory(err);
+        }
+    }
+}
+
+// Where memory for the text is refused, nothing is reported.
+fn tell_refusal<E: Drain>(alloc: Global, fault: &StreamFault, err: &mut E) -> Result<(), AllocError>
+    requires { E.has_failed err.old ≡ false }
+    ensures reported { OnOk result (Reports (report_text fault.now) (E.contents err.old) (E.contents err.new) (E.has_failed err.new)) }
+    ensures unreported { OnErr result (E.contents err.new ≡ E.contents err.old) }
+{
+    let mut text = Vec::new(alloc);
+    match report(alloc, fault, &mut text) {
+        Ok(()) => {
+            tell_bytes(text.as_slice(), err);
+            Ok(())
+        }
+        Err(_) => Err(AllocError),
+    }
+}
+
+// Reports that memory was refused, which takes none, and answers the status.
+fn tell_memory<E: Drain>(err: &mut E) -> u8
+    requires { E.has_failed err.old ≡ false }
+    ensures status { result ≡ 4 }
+    ensures reported { Reports (report_text StreamFault.Memory) (E.contents err.old) (E.contents err.new) (E.has_failed err.new) }
+{
+    tell(out_of_memory(), err);
+    4
+}
+
+/// The text and the status of words that are no task. Help goes to the output.
+pub fn refuse_words<O: Drain, E: Drain>(
+    alloc: Global,
+    fault: &WordsFault,
+    out: &mut O,
+    err: &mut E,
+) -> u8
+    requires out { O.has_failed out.old ≡ false }
+    requires err { E.has_failed err.old ≡ false }
+    ensures status { RefusesWords fault.now result (E.contents err.old) (E.contents err.new) (E.has_failed err.new) }
+    ensures goes { GoesTo fault.now (O.contents out.old) (O.contents out.new) (E.contents err.old) (E.contents err.new) }
+{
+    match fault {
+        WordsFault::Usage(error) => {
+            if error.use_stderr() {
+                tell_usage(alloc, error, err);
+                2
+            } else {
+                tell_usage(alloc, error, out);
+                0
+            }
+        }
+        WordsFault::BadBase => {
+            tell("rdfconv: bad base\n", err);
+            2
+        }
+        WordsFault::BadNodePrefix => {
+            tell("rdfconv: bad node prefix\n", err);
+            2
+        }
+        WordsFault::Memory => tell_memory(err),
+    }
+}
+
+// Where memory for the text is refused, nothing is reported.
+fn tell_usage<E: Drain>(alloc: Global, error: &Error, err: &mut E)
+    requires { E.has_failed err.old ≡ false }
+{
+    if let Ok(text) = error.to_string(alloc) {
+        tell(text.as_str(), err);
+    }
+}
+
+fn tell<E: Drain>(text: &str, err: &mut E)
+    requires { E.has_failed err.old ≡ false }
+    ensures { Reports text.now (E.contents err.old) (E.contents err.new) (E.has_failed err.new) }
+{
+    tell_bytes(text.as_bytes(), err);
+}
+
+// Where the device fails, that is not reported: there is no other to report it to.
+fn tell_bytes<E: Drain>(text: &[u8], err: &mut E)
+    requires { E.has_failed err.old ≡ false }
+    ensures { Reports text.now (E.contents err.old) (E.contents err.new) (E.has_failed err.new) }
+{
+    match put_all(err, text) {
+        Ok(()) | Err(Failed) => {}
+    }
+}
