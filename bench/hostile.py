@@ -62,6 +62,7 @@ SHAPES = {
     'SPARQL directives': again('PREFIX'),
     'directives': again('@prefix'),
     'a directive and hyphens': again('@prefix-'),
+    'a base that grows': lambda size: 'BASE <http://a/>\n' + 'BASE <a/>\n' * (size // 10),
     'double quotes': again('"'),
     'single quotes': again("'"),
     'empty strings': item('"" '),
@@ -82,6 +83,7 @@ SHAPES = {
     'one string': within('"', 'a', '"'),
     'one string of emoji': within('"', '\U0001F600', '"'),
     'one string of escapes': within('"', '\\n', '"'),
+    'one IRI of escapes': within('<http://a/', '\\u00E9', '>'),
     'one long string of quotes': within('"""', 'a""', 'a"""'),
     'one string without its end': lambda size: HEAD + '"' + 'a' * size,
 }
