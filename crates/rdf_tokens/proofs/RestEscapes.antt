@@ -148,8 +148,8 @@ is_hex_sort text_sort.HexDigit = true
 is_hex_sort x = false
 
 abbrev is_letter_sort : TextSort → Bool
-is_letter_sort text_sort.DoubleQuote = true
-is_letter_sort text_sort.SingleQuote = true
+is_letter_sort text_sort.Quotation = true
+is_letter_sort text_sort.Apostrophe = true
 is_letter_sort text_sort.Backslash = true
 is_letter_sort text_sort.Letter = true
 is_letter_sort text_sort.HexLetter = true
@@ -175,8 +175,8 @@ if_hex-hex s x h = absurd (false≢true h)
 
 -- and back after a backslash
 escaped-letter : (hex : ℕ → Text) (s : Text) (x : TextSort) → is_letter_sort x ≡ true → text.escaped hex s x ≡ s
-escaped-letter hex s text_sort.DoubleQuote h = refl
-escaped-letter hex s text_sort.SingleQuote h = refl
+escaped-letter hex s text_sort.Quotation h = refl
+escaped-letter hex s text_sort.Apostrophe h = refl
 escaped-letter hex s text_sort.Backslash h = refl
 escaped-letter hex s text_sort.Letter h = refl
 escaped-letter hex s text_sort.HexLetter h = refl

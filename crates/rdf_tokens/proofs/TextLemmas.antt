@@ -22,8 +22,8 @@ use Rattle.rdf_tokens.proofs.FamilyLemmas.{Family, Moves, hexes, possible-hexes,
 
 -- a character of each sort, which stands for all of it
 abbrev rep : Sort → ℕ
-rep sort.DoubleQuote = 34
-rep sort.SingleQuote = 39
+rep sort.Quotation = 34
+rep sort.Apostrophe = 39
 rep sort.Backslash = 92
 rep sort.LineBreak = 10
 rep sort.SmallU = 117

@@ -16,7 +16,7 @@ use Rattle.rdf_tokens.specs.declared.states.text.Text.TheVariants.{Start, Opened
 
 -- what strings can tell of an ASCII character: quotes, line breaks, the letters of ECHAR and UCHAR, hex digits
 abbrev pub ascii : ℕ → Sort
-ascii c = cond (c == 34) sort.DoubleQuote (cond (c == 39) sort.SingleQuote (cond (c == 92) sort.Backslash (cond (c == 10 || c == 13) sort.LineBreak
+ascii c = cond (c == 34) sort.Quotation (cond (c == 39) sort.Apostrophe (cond (c == 92) sort.Backslash (cond (c == 10 || c == 13) sort.LineBreak
     (cond (c == 117) sort.SmallU (cond (c == 85) sort.BigU (cond (c == 116 || c == 110 || c == 114) sort.Letter (cond (c == 98 || c == 102) sort.HexLetter
     (cond (is_digit c || within 65 70 c || within 97 102 c) sort.HexDigit sort.Plain))))))))
 
@@ -26,8 +26,8 @@ high v = sort.Plain
 
 -- the character is the quote in which the string stands
 abbrev pub closes : Quote → Sort → Bool
-closes Double sort.DoubleQuote = true
-closes Single sort.SingleQuote = true
+closes Double sort.Quotation = true
+closes Single sort.Apostrophe = true
 closes q x = false
 
 -- what a character other than its quote does in a string with one quote at each end, where a line break may not stand
@@ -45,8 +45,8 @@ in_long q x = Long q
 abbrev pub escaped : (ℕ → Text) → Text → Sort → Text
 escaped hex inside sort.SmallU = hex 3
 escaped hex inside sort.BigU = hex 7
-escaped hex inside sort.DoubleQuote = inside
-escaped hex inside sort.SingleQuote = inside
+escaped hex inside sort.Quotation = inside
+escaped hex inside sort.Apostrophe = inside
 escaped hex inside sort.Backslash = inside
 escaped hex inside sort.Letter = inside
 escaped hex inside sort.HexLetter = inside
@@ -60,8 +60,8 @@ if_hex s x = Dead
 
 -- a string begins with '"', in Turtle and TriG with "'" too
 abbrev pub begin : Dialect → Sort → Text
-begin d sort.DoubleQuote = Opened Double
-begin Turtle sort.SingleQuote = Opened Single
+begin d sort.Quotation = Opened Double
+begin Turtle sort.Apostrophe = Opened Single
 begin d x = Dead
 
 -- the states of the four forms of strings: where a character of this sort leads; a hex state with n waits for n + 1 digits
