@@ -55,8 +55,8 @@ impl Asked {
     }
 
     /// The same of a document that is cut there.
-    pub(crate) fn at(self, cut: usize) -> Asked {
-        Asked { cut, ..self }
+    pub(crate) fn at(&self, cut: usize) -> Asked {
+        Asked { cut, ..*self }
     }
 }
 
