@@ -13,7 +13,8 @@ use Rattle.rdf_driver.proofs.PromiseLemmas.{read_goes_on}
 use Rattle.rdf_lines.specs.declared.form.LineForm.{LineForm}
 use Rattle.rdf_lines.specs.declared.form.LineForm.TheVariants.{NQuads}
 use Rattle.rdf_lines.specs.declared.form.Style.{Style}
-use Rattle.rdf_lines.specs.Lines.{Name, Ref, Lab, Object, Named, Plain, WithType, WithTag, Statement, Line, Document as Tree, last, next, iri_of, subject_of, term_of, quad_of, name_bound, object_bound, graph_bound, GoodStatement, GoodDocument}
+use Rattle.rdf_tokens.specs.Leaves.{iri_of}
+use Rattle.rdf_lines.specs.Lines.{Name, Ref, Lab, Object, Named, Plain, WithType, WithTag, Statement, Line, Document as Tree, last, next, subject_of, term_of, quad_of, name_bound, object_bound, graph_bound, GoodStatement, GoodDocument}
 use Rattle.rdf_lines.proofs.PlainQuads.{plain_quads}
 use Rattle.rdf_lines.specs.Lines as L
 use Rattle.rdf_lines.specs.Machine.{Begin, Finished, is_taken}

@@ -16,7 +16,8 @@ use Rattle.rdf_lines.specs.declared.form.LineEnding.TheVariants.{Lf, CrLf}
 use Rattle.rdf_lines.specs.declared.form.Escapes.TheVariants.{Plain}
 use Rattle.rdf_lines.specs.declared.form.Style.TheVariants.{Kept}
 use Rattle.rdf_lines.specs.declared.rules.Rules.{Rules}
-use Rattle.rdf_lines.specs.Lines.{token, statement_tokens, name_tokens, object_tokens, graph_tokens, graph_fits, quad_of, GoodStatement}
+use Rattle.rdf_tokens.specs.Leaves.{token}
+use Rattle.rdf_lines.specs.Lines.{statement_tokens, name_tokens, object_tokens, graph_tokens, graph_fits, quad_of, GoodStatement}
 use Rattle.rdf_lines.specs.Laws.{IrisWithin}
 use Rattle.rdf_lines.specs.Machine.{Begin, AfterDot, ran, with_quad, run, is_taken}
 use Rattle.rdf_lines.specs.Canonical.{end_text, end_count, statement_text, ended_line, ended_lines, type_count, term_count, graph_count, quad_count, count, LabelFits, IsTaken, CanonicalLinesAreRead}

@@ -6,7 +6,7 @@ use Rattle.rdf_terms.specs.Terms.{Quad}
 use Rattle.rdf_tokens.specs.Tokens.{Token}
 use Rattle.rdf_lines.specs.declared.form.LineForm.{LineForm}
 use Rattle.rdf_lines.specs.declared.form.LineForm.TheVariants.{NTriples, NQuads}
-use Rattle.rdf_lines.specs.Lines.{Leaf, leaf_of}
+use Rattle.rdf_tokens.specs.Leaves.{Leaf, leaf_of}
 use Rattle.rdf_lines.specs.Machine.{Mode, Begin, AfterString, AfterObject, AfterDot, Finished, goes, refuses, accept, ran, refused, go_on, run}
 use Rattle.rdf_lines.proofs.Runs.{with_quads, run_one, then_ran, run_append}
 

@@ -6,7 +6,7 @@ use Rattle.rdf_terms.specs.declared.kind.Kind.TheVariants.{IriRef, LabelNode, Sh
 use Rattle.rdf_terms.specs.Terms.{Subject, Term, Literal, Typed, xsd_string}
 use Rattle.rdf_lines.specs.declared.form.LineForm.{LineForm}
 use Rattle.rdf_lines.specs.declared.form.LineForm.TheVariants.{NQuads}
-use Rattle.rdf_lines.specs.Lines.{Leaf, iri_of}
+use Rattle.rdf_tokens.specs.Leaves.{Leaf, iri_of}
 use Rattle.rdf_lines.specs.Machine.{Mode, Begin, AfterSubject, AfterPredicate, AfterString, AfterCarets, AfterObject, AfterGraph, AfterDot, Answer, goes, gives, refuses, iri_refused, absolute, object_then, accept}
 use Rattle.rdf_lines.specs.States.{gave}
 

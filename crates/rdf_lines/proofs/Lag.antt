@@ -7,7 +7,7 @@ use Rattle.rdf_tokens.specs.Tokens.{Token}
 use Rattle.rdf_terms.specs.Terms.{Subject, Term, Literal, Typed, Quad, xsd_string}
 use Rattle.rdf_lines.specs.declared.form.LineForm.{LineForm}
 use Rattle.rdf_lines.specs.declared.form.LineForm.TheVariants.{NQuads}
-use Rattle.rdf_lines.specs.Lines.{Leaf, leaf_of, iri_of}
+use Rattle.rdf_tokens.specs.Leaves.{Leaf, leaf_of, iri_of}
 use Rattle.rdf_lines.specs.Machine.{Mode, Begin, AfterSubject, AfterPredicate, AfterString, AfterCarets, AfterObject, AfterGraph, AfterDot, Answer, goes, gives, refuses, iri_refused, absolute, object_then, accept, ran, refused, go_on, run}
 use Rattle.rdf_lines.proofs.Sound.{quad_first}
 

@@ -23,7 +23,8 @@ use Rattle.rdf_lines.specs.declared.form.LineForm.TheVariants.{NTriples, NQuads}
 use Rattle.rdf_terms.proofs.ShapesLemmas.{form-matches}
 use Rattle.rdf_lines.specs.declared.form.Escapes.TheVariants.{Plain, Ascii}
 use Rattle.rdf_lines.specs.declared.form.Style.TheVariants.{Kept, Tagged}
-use Rattle.rdf_lines.specs.Lines.{Leaf, Ref, Named, Document, last, next, empty, one, document_tokens, documents, trees}
+use Rattle.rdf_tokens.specs.Leaves.{Leaf}
+use Rattle.rdf_lines.specs.Lines.{Ref, Named, Document, last, next, empty, one, document_tokens, documents, trees}
 use Rattle.rdf_lines.specs.Machine.{Begin, ran, run}
 use Rattle.rdf_lines.specs.Documents.{in_lines}
 use Rattle.rdf_lines.specs.Accepting.{LineAt, line_words}

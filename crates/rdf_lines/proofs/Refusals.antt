@@ -11,7 +11,8 @@ use Rattle.rdf_terms.specs.Terms.{Subject, Term, Iri, Resource, Literal, Lang, T
 use Rattle.rdf_iri.specs.Texts.{byte_len}
 use Rattle.rdf_lines.specs.declared.form.LineForm.{LineForm}
 use Rattle.rdf_lines.specs.declared.form.LineForm.TheVariants.{NQuads}
-use Rattle.rdf_lines.specs.Lines.{Leaf, leaf_of, iri_of, string_of, any_iri, documents, trees}
+use Rattle.rdf_tokens.specs.Leaves.{Leaf, leaf_of, iri_of}
+use Rattle.rdf_lines.specs.Lines.{string_of, any_iri, documents, trees}
 use Rattle.rdf_lines.specs.Documents.{Passes}
 use Rattle.rdf_lines.specs.Machine.{Mode, Begin, AfterSubject, AfterPredicate, AfterString, AfterCarets, AfterObject, AfterGraph, AfterDot, Finished, Answer, goes, gives, refuses, is_taken, iri_refused, absolute, quad, blank, object_then, accept, Run, ran, refused, with_quad, go_on, run}
 use Rattle.rdf_lines.proofs.Sound.{quad_first}

@@ -3,7 +3,7 @@ use Rattle.std.proofs.Common.{◌≡◌, ℕ, Bool, List, [], ◌∷◌, ◌++�
 use Rattle.rdf_tokens.specs.Tokens.{Token}
 use Rattle.rdf_terms.specs.Terms.{Quad}
 use Rattle.rdf_lines.specs.declared.form.LineForm.{LineForm}
-use Rattle.rdf_lines.specs.Lines.{leaf_of}
+use Rattle.rdf_tokens.specs.Leaves.{leaf_of}
 use Rattle.rdf_lines.proofs.PlainQuads.{IsPlain}
 use Rattle.rdf_lines.specs.Machine.{Mode, Begin, Finished, Answer, goes, gives, refuses, accept, Run, ran, refused, with_quad, go_on, run}
 use Rattle.rdf_lines.proofs.Complete.{complete}

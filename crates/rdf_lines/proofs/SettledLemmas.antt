@@ -6,7 +6,8 @@ use Rattle.rdf_terms.specs.Terms.{Quad, has_scheme}
 use Rattle.rdf_tokens.specs.Tokens.{Token}
 use Rattle.rdf_tokens.specs.Grammars.{Marked, unmarked}
 use Rattle.rdf_lines.specs.declared.form.LineForm.{LineForm}
-use Rattle.rdf_lines.specs.Lines.{Name, Ref, Lab, Object, Named, Plain, WithType, WithTag, Statement, Document, last, next, token, name_tokens, object_tokens, graph_tokens, head_tokens, statement_tokens, line_tokens, document_tokens, document_quads, any_iri, trees}
+use Rattle.rdf_tokens.specs.Leaves.{token}
+use Rattle.rdf_lines.specs.Lines.{Name, Ref, Lab, Object, Named, Plain, WithType, WithTag, Statement, Document, last, next, name_tokens, object_tokens, graph_tokens, head_tokens, statement_tokens, line_tokens, document_tokens, document_quads, any_iri, trees}
 use Rattle.rdf_lines.specs.Lines as L
 use Rattle.rdf_lines.specs.Laws.{TokensSettleTheQuads, TokensSettleWhatIsDue, DueBeginsTheQuads}
 use Rattle.rdf_lines.proofs.LinesLemmas.{marked_document}

@@ -18,7 +18,8 @@ use Rattle.rdf_tokens.specs.Tokens.Outcome.{complete}
 use Rattle.rdf_tokens.specs.Tokens.Step.{stop}
 use Rattle.rdf_terms.specs.Terms.{Label, Anon, Cell, Lang, Typed, Subject, Iri, Blank, Term, Resource, Literal, Quad, xsd_string, has_scheme, all_have, IsIri, IsLabel, IsTag, IsSubject, IsTerm, IsGraph, IsQuad}
 use Rattle.rdf_lines.specs.Lines as L
-use Rattle.rdf_lines.specs.Lines.{Leaf, Name, Ref, Lab, Object, Named, Plain, WithType, WithTag, Statement, Line, Document, last, next, name_tokens, object_tokens, graph_tokens, statement_tokens, line_tokens, document_tokens, iri_of, string_of, subject_of, term_of, quad_of, name_bound, object_bound, graph_bound, GoodStatement, GoodDocument}
+use Rattle.rdf_tokens.specs.Leaves.{Leaf, token, iri_of}
+use Rattle.rdf_lines.specs.Lines.{Name, Ref, Lab, Object, Named, Plain, WithType, WithTag, Statement, Line, Document, last, next, name_tokens, object_tokens, graph_tokens, statement_tokens, line_tokens, document_tokens, string_of, subject_of, term_of, quad_of, name_bound, object_bound, graph_bound, GoodStatement, GoodDocument}
 use Rattle.rdf_lines.proofs.PlainQuads.{plain_quads, IsPlain}
 use Rattle.rdf_lines.specs.declared.form.LineForm.TheVariants.{NQuads}
 use Rattle.rdf_lines.specs.declared.form.Escapes.{Escapes}
@@ -71,7 +72,7 @@ leaf w p = record { text = w; at = p }
 
 -- a text that is one token
 abbrev pub alone : Kind → List ℕ → Place → List Token
-alone k w p = L.token k (leaf w p) ∷ []
+alone k w p = token k (leaf w p) ∷ []
 
 -- the place after two texts is that after the second, counted from after the first
 past-append : (u w : List ℕ) (p : Place) → past p (u ++ w) ≡ past (past p u) w
@@ -380,9 +381,9 @@ module _ (form : Escapes) where
   statement_short limit p q e h =
       let s = statement_tree p q in
       let n = name_tokens s.subject in
-      let i = L.token IriRef s.predicate ∷ [] in
+      let i = token IriRef s.predicate ∷ [] in
       let o = object_tokens s.object in
-      short_both limit (n ++ i ++ o ++ graph_tokens s.graph) (L.token Dot s.dot ∷ [])
+      short_both limit (n ++ i ++ o ++ graph_tokens s.graph) (token Dot s.dot ∷ [])
       (short_both limit (n ++ i ++ o) (graph_tokens s.graph)
       (short_both limit (n ++ i) o
       (short_both limit n i (name_short limit p q.subject h.subject) (h.predicate, tt))
@@ -394,7 +395,7 @@ module _ (form : Escapes) where
   pub document_short : (limit : ℕ) (qs : List Quad) → 2 ≤ limit → AllByRecursion (TokensWithin form limit) qs → (p : Place) → AllShort limit (document_tokens (document_tree p qs))
   document_short limit [] e h p = (omega arith, tt)
   document_short limit (q ∷ qs) e h p =
-      short_both limit (statement_tokens (statement_tree p q)) (L.token LineEnd (leaf (10 ∷ []) (past p (upto_graph q ++ 46 ∷ []))) ∷ document_tokens (document_tree (past p (quad_text form q)) qs))
+      short_both limit (statement_tokens (statement_tree p q)) (token LineEnd (leaf (10 ∷ []) (past p (upto_graph q ++ 46 ∷ []))) ∷ document_tokens (document_tree (past p (quad_text form q)) qs))
       (statement_short limit p q e h.0)
       (omega arith, document_short limit qs e h.1 (past p (quad_text form q)))
 

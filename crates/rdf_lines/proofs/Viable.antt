@@ -9,7 +9,8 @@ use Rattle.rdf_tokens.specs.Good.{first_place}
 use Rattle.rdf_tokens.specs.Grammars.{Viable}
 use Rattle.rdf_terms.specs.Terms.{Iri, Resource, Literal, Typed, Quad, xsd_string}
 use Rattle.rdf_lines.specs.declared.form.LineForm.{LineForm}
-use Rattle.rdf_lines.specs.Lines.{Leaf, leaf_of, token, IsDocument, document_quads}
+use Rattle.rdf_tokens.specs.Leaves.{Leaf, leaf_of, token}
+use Rattle.rdf_lines.specs.Lines.{IsDocument, document_quads}
 use Rattle.rdf_lines.proofs.PlainQuads.{plain_quads}
 use Rattle.rdf_lines.specs.Machine.{Mode, Begin, AfterSubject, AfterPredicate, AfterString, AfterCarets, AfterObject, AfterGraph, AfterDot, Finished, refuses, quad, accept, ran, refused, go_on, run}
 use Rattle.rdf_lines.proofs.Sound.{sound}

@@ -10,7 +10,8 @@ use Rattle.rdf_tokens.specs.Grammars.{Language, Viable, Shaped}
 use Rattle.rdf_iri.specs.Limits.{Sizes}
 use Rattle.rdf_iri.specs.Texts.{byte_len}
 use Rattle.rdf_lines.specs.declared.form.LineForm.{LineForm}
-use Rattle.rdf_lines.specs.Lines.{iri_of, leaf_of, documents, trees}
+use Rattle.rdf_tokens.specs.Leaves.{iri_of, leaf_of}
+use Rattle.rdf_lines.specs.Lines.{documents, trees}
 
 -- a token passes the limit where it spells an IRI of more bytes
 abbrev pub Passes : ℕ → List Token → Token → Type 0

@@ -1,22 +1,13 @@
 -- The line formats (N-Triples 7, N-Quads 4): a type for each production. A leaf is a token of the kind that the production names.
 use Rattle.std.specs.Prelude.{◌≡◌, ℕ, ◌+◌, Bool, true, List, [], ◌∷◌, ◌++◌, length, drop, Option, Some, None, option_map, unwrap_or}
-use Rattle.rdf_terms.specs.declared.kind.Kind.{Kind}
 use Rattle.rdf_terms.specs.declared.kind.Kind.TheVariants.{IriRef, LabelNode, ShortString, LangTag, Carets, Dot, LineEnd, End}
-use Rattle.rdf_terms.specs.Values.{iri_value, string_value, inside}
-use Rattle.rdf_tokens.specs.Tokens.{Token, Place}
+use Rattle.rdf_terms.specs.Values.{string_value, inside}
+use Rattle.rdf_tokens.specs.Tokens.{Token}
+use Rattle.rdf_tokens.specs.Leaves.{Leaf, token, iri_of}
 use Rattle.rdf_tokens.specs.Grammars.{Marked}
 use Rattle.rdf_terms.specs.Terms.{Label, Lang, Typed, Subject, Iri, Blank, Term, Resource, Literal, Quad, xsd_string, has_scheme}
 use Rattle.rdf_lines.specs.declared.form.LineForm.{LineForm}
 use Rattle.rdf_lines.specs.declared.form.LineForm.TheVariants.{NTriples, NQuads}
-
--- a token of a tree: its text and its place
-pub record Leaf : Type 0 where
-  pub text : List ℕ
-  pub at : Place
-
--- a token without its kind
-abbrev pub leaf_of : Token → Leaf
-leaf_of t = record { text = t.text; at = t.at }
 
 -- subject, graphLabel ::= IriRef | LabelNode
 pub data Name : Type 0 where
@@ -48,11 +39,7 @@ pub data Document : Type 0 where
   last : Line → Leaf → Document
   next : Line → Leaf → Document → Document
 
--- the tokens that a tree derives
-abbrev pub token : Kind → Leaf → Token
-token k l = record { kind = k; text = l.text; at = l.at }
-
--- those of an IRI or a label
+-- the tokens that an IRI or a label derives
 abbrev pub name_tokens : Name → List Token
 name_tokens (Ref l) = token IriRef l ∷ []
 name_tokens (Lab l) = token LabelNode l ∷ []
@@ -87,11 +74,7 @@ abbrev pub document_tokens : Document → List Token
 document_tokens (last l e) = line_tokens l ++ token End e ∷ []
 document_tokens (next l e d) = line_tokens l ++ token LineEnd e ∷ document_tokens d
 
--- the quads of a tree; the value of a token is there, since each token is fit
-abbrev pub iri_of : Leaf → List ℕ
-iri_of l = unwrap_or (iri_value (inside 1 l.text)) []
-
--- the characters that a string spells
+-- the characters that a string spells; each token is fit, so there are some
 abbrev pub string_of : Leaf → List ℕ
 string_of l = unwrap_or (string_value (inside 1 l.text)) []
 

@@ -9,7 +9,8 @@ use Rattle.rdf_terms.specs.Terms.{Label, Lang, Typed, Subject, Iri, Blank, Term,
 use Rattle.rdf_iri.specs.Texts.{byte_len}
 use Rattle.rdf_lines.specs.declared.form.LineForm.{LineForm}
 use Rattle.rdf_lines.specs.declared.form.LineForm.TheVariants.{NQuads}
-use Rattle.rdf_lines.specs.Lines.{Leaf, leaf_of, iri_of, string_of}
+use Rattle.rdf_tokens.specs.Leaves.{Leaf, leaf_of, iri_of}
+use Rattle.rdf_lines.specs.Lines.{string_of}
 
 -- what has been read of the line
 pub data Mode : Type 0 where

@@ -18,7 +18,7 @@ use Rattle.rdf_lines.specs.declared.state.ObjectKind.TheVariants.{Named, Plain, 
 use Rattle.rdf_lines.specs.declared.state.Mode.{Mode as Stand}
 use Rattle.rdf_lines.specs.declared.state.Mode.TheVariants as at
 use Rattle.rdf_lines.specs.declared.state.State.{State}
-use Rattle.rdf_lines.specs.Lines.{Leaf, leaf_of}
+use Rattle.rdf_tokens.specs.Leaves.{Leaf, leaf_of}
 use Rattle.rdf_lines.specs.Documents.{most_text}
 use Rattle.rdf_lines.specs.Machine.{Mode, Begin, AfterSubject, AfterPredicate, AfterString, AfterCarets, AfterObject, AfterGraph, AfterDot, Finished, Answer, accept, goes, gives, is_taken, quad, refuses}
 

@@ -1,6 +1,7 @@
 -- what has to be believed
 pub mod Tokens
 pub mod Good
+pub mod Leaves
 pub mod Grammars
 -- what need not be: functions that compute, machines and states, what the code's side speaks of (a scanner and its calls), and the laws
 pub mod Unread

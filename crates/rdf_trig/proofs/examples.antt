@@ -3,4 +3,3 @@ pub mod Documents
 pub mod OfBindings
 pub mod OfLaws
 pub mod OfReading
-pub mod OfWriting

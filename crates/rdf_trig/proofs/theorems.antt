@@ -1,6 +1,3 @@
--- The laws as they are stated, with what reading back needs.
+-- The laws as they are stated.
 pub mod StatedLaws
 pub mod DocumentsRead
-pub mod WrittenParts
-pub mod WrittenSteps
-pub mod WrittenLimits

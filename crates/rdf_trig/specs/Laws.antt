@@ -1,24 +1,16 @@
 -- The laws of the definitions, of the machine against them, and of reading.
-use Rattle.std.specs.Prelude.{◌≡◌, ◌≤◌, ◌+◌, ◌*◌, ℕ, true, false, List, [], ◌∷◌, ◌++◌, length, codes, Option, Some, None, IfSome, encode_utf8_all}
+use Rattle.std.specs.Prelude.{◌≡◌, ◌≤◌, ℕ, true, false, List, [], ◌∷◌, ◌++◌, length, codes, Option, Some, None}
 use Rattle.std.specs.List.{All}
 use Rattle.rdf_terms.specs.declared.kind.Kind.{Kind}
 use Rattle.rdf_terms.specs.declared.kind.Kind.TheVariants.{IriRef, PnameNs, Dot, CloseBracket, CloseParen, OpenBrace, CloseBrace, End}
 use Rattle.rdf_terms.specs.declared.reason.Reason.{Reason}
-use Rattle.rdf_terms.specs.Terms.{Quad, has_scheme, IsIri}
+use Rattle.rdf_terms.specs.Terms.{Quad, has_scheme}
 use Rattle.rdf_tokens.specs.Tokens.{Place, Token}
-use Rattle.rdf_tokens.specs.Grammars.{Marked, unmarked, Viable, Shaped, Due, PassesNone, IsFront, reading_of, IsDocumentOf, IsWithin, GoesOn, IsWhole, Refused, IsReadToItsEnd}
+use Rattle.rdf_tokens.specs.Grammars.{Marked, unmarked, Viable, Shaped, Due, PassesNone, IsFront, reading_of, IsDocumentOf, IsWithin, GoesOn, Refused, IsReadToItsEnd}
 use Rattle.rdf_driver.specs.Words.{in_words}
 use Rattle.rdf_driver.specs.Readers.{HasRead}
-use Rattle.rdf_tokens.specs.Scans.{most_bytes}
 use Rattle.rdf_iri.specs.Scope.{InForce, bound_to, Binds}
-use Rattle.rdf_lines.specs.Lines.{Leaf, leaf_of, iri_of}
-use Rattle.rdf_lines.specs.declared.form.LineForm.TheVariants.{NQuads}
-use Rattle.rdf_lines.specs.declared.form.Escapes.{Escapes}
-use Rattle.rdf_lines.specs.declared.form.Style.TheVariants.{Tagged}
-use Rattle.rdf_lines.specs.Laws.{string_width, iri_width}
-use Rattle.rdf_lines.specs.NodePrefixes.{IsNodePrefix, text_in}
-use Rattle.rdf_lines.specs.Writing.{text, Writable}
-use Rattle.rdf_lines.specs.Documents.{in_lines}
+use Rattle.rdf_tokens.specs.Leaves.{Leaf, leaf_of, iri_of}
 use Rattle.rdf_trig.specs.declared.form.DocForm.{DocForm}
 use Rattle.rdf_trig.specs.Trees.{Document, document_tokens}
 use Rattle.rdf_trig.specs.Names.{reference_in, name_in, prefix_of, with_binding}
@@ -177,28 +169,3 @@ abbrev pub RefusedIsNoDocument : Type 0
 RefusedIsNoDocument = (form : DocForm) (start : InForce) (bytes : List ℕ) (quads : List Quad) (reason : Reason) (at : Place) →
     Refused (language form start) bytes true reason at →
     IsDocumentOf (language form start) bytes quads → IsWithin (language form start) bytes → ⊥
-
--- the base, where there is one, and what each prefix is bound to are IRIs
-pub record HasIris (s : InForce) : Type 0 where
-  pub base : IfSome s.base IsIri
-  pub bindings : (prefix iri : List ℕ) → bound_to s.bindings prefix ≡ Some iri → IsIri iri
-
--- The quads of a document are well formed, and each of their nodes has a name where those without a label are named by their offsets.
-abbrev pub DocumentIsWritable : Type 0
-DocumentIsWritable = (form : DocForm) (start : InForce) (bytes : List ℕ) (qs : List Quad) → HasIris start → length bytes ≤ most_bytes →
-    IsDocumentOf (language form start) bytes qs → Writable Tagged qs
-
--- What is written for a document within its limits is read to its end as N-Quads with limits that are higher by what the escapes take.
-abbrev pub WrittenDocumentIsRead : Type 0
-WrittenDocumentIsRead = (e : Escapes) (form : DocForm) (start : InForce) (bytes : List ℕ) (qs : List Quad) → HasIris start → length bytes ≤ most_bytes →
-    IsDocumentOf (language form start) bytes qs → IsWhole (language form start) bytes → (token_then iri_then : ℕ) →
-    string_width e * start.limits.token ≤ token_then → iri_width e * start.limits.iri + 2 ≤ token_then → 64 ≤ token_then →
-    start.limits.iri ≤ iri_then → 64 ≤ iri_then → IsReadToItsEnd (in_lines NQuads token_then iri_then) (encode_utf8_all (text Tagged e qs))
-
--- With a word in front of the names, the limits that suffice without it, and the word's length more for tokens.
-abbrev pub PrefixedDocumentIsRead : Type 0
-PrefixedDocumentIsRead = (e : Escapes) (p : List ℕ) (form : DocForm) (start : InForce) (bytes : List ℕ) (qs : List Quad) → IsNodePrefix p → HasIris start →
-    length bytes ≤ most_bytes → IsDocumentOf (language form start) bytes qs → IsWhole (language form start) bytes → (token_then iri_then : ℕ) →
-    string_width e * start.limits.token ≤ token_then → iri_width e * start.limits.iri + 2 ≤ token_then → 64 ≤ token_then →
-    start.limits.iri ≤ iri_then → 64 ≤ iri_then →
-    IsReadToItsEnd (in_lines NQuads (length p + token_then) iri_then) (encode_utf8_all (text_in (record { style = Tagged; escapes = e; prefix = p }) qs))

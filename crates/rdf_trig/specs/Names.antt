@@ -4,7 +4,7 @@ use Rattle.rdf_terms.specs.Values.{local_value}
 use Rattle.rdf_iri.specs.Texts.{before, after, equal}
 use Rattle.rdf_iri.specs.Resolve.{resolved}
 use Rattle.rdf_iri.specs.Scope.{InForce, bound_to}
-use Rattle.rdf_lines.specs.Lines.{Leaf, iri_of}
+use Rattle.rdf_tokens.specs.Leaves.{Leaf, iri_of}
 use Rattle.rdf_trig.specs.Trees.{PrefixedName, pname_ln, pname_ns, Iri, iri_ref, prefixed, Directive, prefix_id, base, sparql_prefix, sparql_base}
 
 -- an IRIREF: its text with escapes replaced, resolved against the base in force; none where it needs a base and there is none

@@ -7,7 +7,7 @@ use Rattle.rdf_iri.specs.declared.fault.IriFault.{IriFault}
 use Rattle.rdf_iri.specs.declared.fault.IriFault.TheVariants as iri
 use Rattle.rdf_iri.specs.Limits.{Sizes}
 use Rattle.rdf_iri.specs.Scope.{InForce, Binds}
-use Rattle.rdf_lines.specs.Lines.{Leaf}
+use Rattle.rdf_tokens.specs.Leaves.{Leaf}
 use Rattle.rdf_tokens.specs.declared.token.Token.{Token as Given}
 use Rattle.rdf_trig.specs.declared.form.DocForm.{DocForm}
 use Rattle.rdf_trig.specs.declared.state.Mode.{Mode}

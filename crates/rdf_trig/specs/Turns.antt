@@ -8,7 +8,7 @@ use Rattle.rdf_terms.specs.Known.{known_chars}
 use Rattle.rdf_terms.specs.declared.constants.Known.TheVariants.{XsdBoolean}
 use Rattle.rdf_tokens.specs.declared.token.Token.{Token as Given}
 use Rattle.rdf_iri.specs.Scope.{InForce}
-use Rattle.rdf_lines.specs.Lines.{Leaf}
+use Rattle.rdf_tokens.specs.Leaves.{Leaf}
 use Rattle.rdf_trig.specs.declared.form.DocForm.{DocForm}
 use Rattle.rdf_trig.specs.declared.state.Around.{Around}
 use Rattle.rdf_trig.specs.declared.state.Container.TheVariants as container

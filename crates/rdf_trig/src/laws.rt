@@ -1,7 +1,7 @@
 //! The laws of Turtle and TriG. These functions do nothing: their contracts are the laws.
 
 ghost use Rattle.rdf_trig.specs.Laws.{EventsTellTheTree, MarksNeverFall, TokensSettleTheQuads, TokensSettleWhatIsDue, TokensSettleWhatIsOwed, DueBeginsTheQuads, TokensSettleTheirSenses, ViableIsShapedAndBound, BeginningsAreCompleted, NamelessIsUnbound, DirectivesBind};
-ghost use Rattle.rdf_trig.specs.Laws.{DocumentsAreAccepted, AcceptedIsADocument, AcceptedBeginsADocument, RefusedForItsReason, ReadQuadsAreDue, DocumentsAreRead, RefusedIsNoDocument, DocumentIsWritable, WrittenDocumentIsRead, PrefixedDocumentIsRead};
+ghost use Rattle.rdf_trig.specs.Laws.{DocumentsAreAccepted, AcceptedIsADocument, AcceptedBeginsADocument, RefusedForItsReason, ReadQuadsAreDue, DocumentsAreRead, RefusedIsNoDocument};
 
 /// The events of a tree, from left to right, have the tokens that it derives, and its quads with their marks.
 pub fn events_tell_the_tree()
@@ -91,20 +91,4 @@ pub fn documents_are_read()
 /// What is refused is no document within the limits.
 pub fn refused_is_no_document()
     ensures { RefusedIsNoDocument }
-{}
-
-/// The quads of a document can be written with a node that has no label named by its offset: they are well formed.
-pub fn document_is_writable()
-    ensures { DocumentIsWritable }
-{}
-
-/// What is written for a document within its limits is read to its end as N-Quads: with twice its limit on tokens, room
-/// for an IRI and its brackets, and its limit on IRIs, each at least 64.
-pub fn written_document_is_read()
-    ensures { WrittenDocumentIsRead }
-{}
-
-/// With a word in front of the names of nodes it is read so too, with the word's length more for tokens.
-pub fn prefixed_document_is_read()
-    ensures { PrefixedDocumentIsRead }
 {}

@@ -1,7 +1,7 @@
 // Turns in predicate lists and collections: verbs, and where they end.
 
 ghost use Rattle.std.specs.Prelude.{◌≡◌, ◌-◌, ◌≤◌, length};
-ghost use Rattle.rdf_lines.specs.Lines.{Leaf};
+ghost use Rattle.rdf_tokens.specs.Leaves.{Leaf};
 ghost use Rattle.rdf_trig.specs.declared.form.DocForm.{DocForm};
 ghost use Rattle.rdf_trig.specs.declared.turn.Turn.TheVariants as Turn;
 ghost use Rattle.rdf_trig.specs.Machine as M;

@@ -9,7 +9,7 @@ ghost use Rattle.rdf_terms.specs.Views.{iri_chars};
 ghost use Rattle.rdf_terms.specs.Known.{known_chars};
 ghost use Rattle.rdf_iri.specs.Texts.{IsIriText, byte_len};
 ghost use Rattle.rdf_iri.specs.Scope.{ExpandsHere, NotExpanded};
-ghost use Rattle.rdf_lines.specs.Lines.{iri_of};
+ghost use Rattle.rdf_tokens.specs.Leaves.{iri_of};
 ghost use Rattle.rdf_trig.specs.Machine as M;
 ghost use Rattle.rdf_trig.specs.Owed.{iri_size};
 ghost use Rattle.rdf_trig.specs.States.{leaf, IsTurtleToken, PrefixFits};

@@ -2,7 +2,7 @@
 
 ghost use Rattle.std.specs.Prelude.{◌≡◌, ℕ, ◌+◌, ◌*◌, ◌≤◌, true, length, is_some, OnOk, IfErr, codes};
 ghost use Rattle.std.specs.Str.{chars};
-ghost use Rattle.rdf_lines.specs.Lines.{Leaf};
+ghost use Rattle.rdf_tokens.specs.Leaves.{Leaf};
 ghost use Rattle.rdf_trig.specs.declared.turn.Turn.TheVariants as Turn;
 ghost use Rattle.rdf_trig.specs.Machine as M;
 ghost use Rattle.rdf_trig.specs.Spelled.{SpellsTag};

@@ -1,7 +1,7 @@
 // Turns where a subject stands.
 
 ghost use Rattle.std.specs.Prelude.{◌≡◌, ℕ, ◌-◌, ◌≤◌, [], length, OnOk, IfErr};
-ghost use Rattle.rdf_lines.specs.Lines.{Leaf};
+ghost use Rattle.rdf_tokens.specs.Leaves.{Leaf};
 ghost use Rattle.rdf_trig.specs.declared.form.DocForm.{DocForm};
 ghost use Rattle.rdf_trig.specs.declared.turn.Turn.TheVariants as Turn;
 ghost use Rattle.rdf_trig.specs.Machine as M;

@@ -10,7 +10,7 @@ use Rattle.rdf_iri.specs.Resolve.{resolved}
 use Rattle.rdf_iri.specs.Scope.{InForce, bound_to, Binds}
 use Rattle.rdf_iri.proofs.TextsLemmas.{equal-true, equal-from}
 use Rattle.rdf_iri.proofs.Encoded.{same_test}
-use Rattle.rdf_lines.specs.Lines.{Leaf, iri_of}
+use Rattle.rdf_tokens.specs.Leaves.{Leaf, iri_of}
 use Rattle.rdf_trig.specs.declared.form.DocForm.{DocForm}
 use Rattle.rdf_trig.specs.declared.form.DocForm.TheVariants.{Turtle, TriG}
 use Rattle.rdf_trig.specs.declared.fault.StepFault.{StepFault}

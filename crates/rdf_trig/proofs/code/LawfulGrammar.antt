@@ -9,7 +9,7 @@ use Rattle.rdf_terms.specs.Sinks.{Attempts}
 use Rattle.rdf_tokens.specs.Tokens.{Token}
 use Rattle.rdf_tokens.specs.Grammars.{Marked, unmarked, Viable, Due, PassesNone}
 use Rattle.rdf_iri.specs.Scope.{InForce, bytes_held}
-use Rattle.rdf_lines.specs.Lines.{leaf_of}
+use Rattle.rdf_tokens.specs.Leaves.{leaf_of}
 use Rattle.rdf_driver.specs.Words.{Lawful, Takes, GivesUp, Blames, Misses}
 use Rattle.rdf_trig.specs.declared.form.DocForm.{DocForm}
 use Rattle.rdf_trig.specs.declared.fault.StepFault.{StepFault}

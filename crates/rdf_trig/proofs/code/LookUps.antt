@@ -12,7 +12,7 @@ use Rattle.rdf_iri.specs.Texts.{byte_len}
 use Rattle.rdf_iri.specs.Resolve.{Resolves, resolved, based}
 use Rattle.rdf_iri.specs.Scope.{InForce, bound_to, HasRoom, ResolvesHere, UnresolvedHere, IsBased, IsBound, NotBound, ExpandsHere, NotExpanded}
 use Rattle.rdf_iri.proofs.ResolveLemmas.{resolves-only}
-use Rattle.rdf_lines.specs.Lines.{Leaf, iri_of}
+use Rattle.rdf_tokens.specs.Leaves.{Leaf, iri_of}
 use Rattle.rdf_trig.specs.declared.fault.StepFault.{StepFault}
 use Rattle.rdf_trig.specs.Names.{reference_in, name_in, prefix_of, local_of, with_base, is_full}
 use Rattle.rdf_trig.specs.Events.{stands, binds}

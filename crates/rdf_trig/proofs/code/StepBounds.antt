@@ -7,7 +7,7 @@ use Rattle.rdf_terms.specs.Terms as term
 use Rattle.rdf_iri.specs.Texts.{byte_len, before, from}
 use Rattle.rdf_iri.proofs.TextsLemmas.{before-from}
 use Rattle.rdf_iri.proofs.ScopeLemmas.{byte_len-append}
-use Rattle.rdf_lines.specs.Lines.{Leaf}
+use Rattle.rdf_tokens.specs.Leaves.{Leaf}
 use Rattle.rdf_trig.specs.declared.form.DocForm.{DocForm}
 use Rattle.rdf_trig.specs.declared.form.DocForm.TheVariants.{Turtle, TriG}
 use Rattle.rdf_trig.specs.Quads.{Setting, in_default, rest_quad, cell_at, node}

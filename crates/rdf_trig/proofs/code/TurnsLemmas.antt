@@ -5,7 +5,7 @@ use Rattle.rdf_iri.specs.Scope.{InForce}
 use Rattle.rdf_terms.specs.declared.kind.Kind.{Kind}
 use Rattle.rdf_terms.specs.Terms as term
 use Rattle.rdf_terms.specs.Terms.{Quad}
-use Rattle.rdf_lines.specs.Lines.{Leaf}
+use Rattle.rdf_tokens.specs.Leaves.{Leaf}
 use Rattle.rdf_trig.specs.declared.form.DocForm.{DocForm}
 use Rattle.rdf_trig.specs.declared.form.DocForm.TheVariants.{Turtle, TriG}
 use Rattle.rdf_trig.specs.declared.fault.StepFault.{StepFault}
@@ -30,7 +30,7 @@ use Rattle.rdf_trig.specs.States.{IsNamedIn, NameIn, is_go, name_at, use_in, sco
 use Rattle.rdf_trig.specs.Turns.{Means, IsTurn, IsSuited, Suits, begun, turned, turn_bytes}
 
 -- what a success brings leads on to what it is to bring
-pub on_ok : {T : Type 0} (r : Result T StepFault) (P Q : Type 0) → (P → Q) → OnOk r P → OnOk r Q
+pub on_ok : {T E : Type 0} (r : Result T E) (P Q : Type 0) → (P → Q) → OnOk r P → OnOk r Q
 on_ok (Ok x) P Q f h = f h
 on_ok (Err e) P Q f h = tt
 

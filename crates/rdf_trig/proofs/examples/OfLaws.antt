@@ -15,7 +15,7 @@ use Rattle.rdf_terms.specs.declared.constants.Known.TheVariants.{RdfFirst, XsdBo
 use Rattle.rdf_tokens.specs.Tokens.{Token}
 use Rattle.rdf_tokens.specs.Grammars.{Marked}
 use Rattle.rdf_iri.specs.Scope.{InForce}
-use Rattle.rdf_lines.specs.Lines.{token}
+use Rattle.rdf_tokens.specs.Leaves.{token}
 use Rattle.rdf_trig.specs.declared.form.DocForm.TheVariants.{TriG}
 use Rattle.rdf_trig.specs.Names.{reference_in, name_in, with_binding, is_full}
 use Rattle.rdf_trig.specs.Quads.{in_default}

@@ -20,7 +20,7 @@ use Rattle.rdf_tokens.specs.Grammars.{Due, PassesNone, IsFront, Language, readin
 use Rattle.rdf_driver.specs.Readers.{HasRead}
 use Rattle.rdf_iri.specs.Scope.{InForce}
 use Rattle.rdf_iri.specs.Resolve.{resolved}
-use Rattle.rdf_lines.specs.Lines.{token}
+use Rattle.rdf_tokens.specs.Leaves.{token}
 use Rattle.rdf_trig.specs.declared.form.DocForm.TheVariants.{Turtle}
 use Rattle.rdf_trig.specs.Names.{reference_in, name_in, is_full}
 use Rattle.rdf_trig.specs.Quads.{in_default}

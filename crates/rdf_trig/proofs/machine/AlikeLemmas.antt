@@ -7,7 +7,7 @@ use Rattle.rdf_terms.specs.Terms.{Node, Anon, Cell, Blank, Term, Quad}
 use Rattle.rdf_terms.specs.Terms as term
 use Rattle.rdf_iri.specs.Limits.{Sizes}
 use Rattle.rdf_iri.specs.Scope.{InForce}
-use Rattle.rdf_lines.specs.Lines.{Leaf}
+use Rattle.rdf_tokens.specs.Leaves.{Leaf}
 use Rattle.rdf_trig.specs.declared.form.DocForm.{DocForm}
 use Rattle.rdf_trig.specs.declared.form.DocForm.TheVariants.{TriG}
 use Rattle.rdf_trig.specs.Names.{reference_in, name_in, with_base, with_binding, is_full, SameNames}

@@ -9,7 +9,7 @@ use Rattle.rdf_tokens.specs.Good.{tokens_of}
 use Rattle.rdf_tokens.specs.Grammars.{Marked}
 use Rattle.rdf_tokens.proofs.GrammarsLemmas.{end_complete}
 use Rattle.rdf_iri.specs.Scope.{InForce}
-use Rattle.rdf_lines.specs.Lines.{Leaf, leaf_of, token}
+use Rattle.rdf_tokens.specs.Leaves.{Leaf, leaf_of, token}
 use Rattle.rdf_trig.specs.declared.form.DocForm.{DocForm}
 use Rattle.rdf_trig.specs.Trees.{Document, end, with_directive, with_body, directive_tokens, body_tokens, document_tokens}
 use Rattle.rdf_trig.specs.Documents.{documents}

@@ -5,7 +5,7 @@ use Rattle.rdf_terms.specs.Terms.{Quad}
 use Rattle.rdf_tokens.specs.Tokens.{Token}
 use Rattle.rdf_tokens.specs.Grammars.{counted}
 use Rattle.rdf_iri.specs.Scope.{InForce}
-use Rattle.rdf_lines.specs.Lines.{leaf_of}
+use Rattle.rdf_tokens.specs.Leaves.{leaf_of}
 use Rattle.rdf_trig.specs.declared.form.DocForm.{DocForm}
 use Rattle.rdf_trig.specs.Refusals.{Refusal}
 use Rattle.rdf_trig.specs.Machine.{State, Answer, refuses, accepts, accept, at_start, ran, refused, with_quads, go, accept_all}

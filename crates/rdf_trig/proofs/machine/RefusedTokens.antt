@@ -10,7 +10,7 @@ use Rattle.rdf_terms.specs.declared.kind.Kind.TheVariants.{IriRef, PnameNs, Pnam
 use Rattle.rdf_terms.specs.Terms.{Quad}
 use Rattle.rdf_tokens.specs.Tokens.{Token}
 use Rattle.rdf_iri.specs.Scope.{InForce}
-use Rattle.rdf_lines.specs.Lines.{Leaf, leaf_of}
+use Rattle.rdf_tokens.specs.Leaves.{Leaf, leaf_of}
 use Rattle.rdf_trig.specs.declared.form.DocForm.{DocForm}
 use Rattle.rdf_trig.specs.Names.{name_in}
 use Rattle.rdf_trig.specs.Quads.{Setting, in_default}

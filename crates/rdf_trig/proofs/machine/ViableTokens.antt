@@ -4,7 +4,7 @@ use Rattle.rdf_tokens.specs.Grammars.{Viable, Shaped}
 use Rattle.rdf_terms.specs.Terms.{Quad}
 use Rattle.rdf_tokens.specs.Tokens.{Token}
 use Rattle.rdf_iri.specs.Scope.{InForce}
-use Rattle.rdf_lines.specs.Lines.{leaf_of}
+use Rattle.rdf_tokens.specs.Leaves.{leaf_of}
 use Rattle.rdf_trig.specs.declared.form.DocForm.{DocForm}
 use Rattle.rdf_trig.specs.Trees.{Document}
 use Rattle.rdf_trig.specs.Quads.{Setting, in_default}

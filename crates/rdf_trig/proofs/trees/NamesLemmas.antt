@@ -6,7 +6,7 @@ use Rattle.rdf_terms.specs.Terms.{has_scheme}
 use Rattle.rdf_iri.specs.Texts.{equal}
 use Rattle.rdf_iri.specs.Resolve.{resolved, based}
 use Rattle.rdf_iri.specs.Scope.{InForce, bound_to, Binds}
-use Rattle.rdf_lines.specs.Lines.{Leaf, iri_of}
+use Rattle.rdf_tokens.specs.Leaves.{Leaf, iri_of}
 use Rattle.rdf_trig.specs.Names.{reference_in, name_in, prefix_of, local_of, bind, with_binding}
 use Rattle.rdf_trig.specs.Laws.{NamelessWhere}
 use Rattle.rdf_iri.proofs.TextsLemmas.{equal-true, equal-from}

@@ -4,7 +4,7 @@ use Rattle.std.specs.Prelude.{option_map, nat_le, not}
 use Rattle.rdf_iri.specs.Texts.{equal}
 use Rattle.rdf_iri.specs.Resolve.{resolved}
 use Rattle.rdf_iri.specs.Scope.{InForce, bound_to, Binds}
-use Rattle.rdf_lines.specs.Lines.{Leaf, iri_of}
+use Rattle.rdf_tokens.specs.Leaves.{Leaf, iri_of}
 use Rattle.rdf_trig.specs.Names.{reference_in, name_in, prefix_of, local_of, with_base, with_binding, is_full, SameNames}
 use Rattle.rdf_trig.proofs.trees.NamesLemmas.{binds_prefix}
 

@@ -4,7 +4,7 @@ use Rattle.std.specs.String.{string_bytes}
 use Rattle.rdf_terms.specs.Values.{string_value, inside, is_fit}
 use Rattle.rdf_terms.proofs.InsideLemmas.{inside-inside}
 use Rattle.rdf_terms.proofs.SpelledLemmas.{inside_short}
-use Rattle.rdf_lines.proofs.WrittenBytesLemmas.{on_ok}
+use Rattle.rdf_trig.proofs.code.TurnsLemmas.{on_ok}
 use Rattle.rdf_trig.proofs.spelled.set_long_string.Goals as goal
 
 -- two of the three quotes at each end
@@ -24,9 +24,9 @@ put_string-requires g c =
 pub returns-clause-value : goal.returns-clause-value
 returns-clause-value g c =
     let at = third _ _ (two _ _ (chars c.args.text.now) c.without_ends.ensures c.without_ends-2.ensures) in
-    on_ok c.put_string.result (λ e. e ∙ ap (λ w. unwrap_or (string_value w) []) at) c.put_string.ensures.value
+    on_ok c.put_string.result _ _ (λ e. e ∙ ap (λ w. unwrap_or (string_value w) []) at) c.put_string.ensures.value
 
 pub returns-clause-short : goal.returns-clause-short
 returns-clause-short g c =
     let size = ap length (two _ _ (chars c.args.text.now) c.without_ends.ensures c.without_ends-2.ensures) in
-    on_ok c.put_string.result (λ (h : length (string_bytes c.put_string.new.out) ≤ 4 * length (chars c.without_ends-2.result.now)). omega (arith, h, size, inside_short 2 (chars c.args.text.now))) c.put_string.ensures.short
+    on_ok c.put_string.result _ _ (λ (h : length (string_bytes c.put_string.new.out) ≤ 4 * length (chars c.without_ends-2.result.now)). omega (arith, h, size, inside_short 2 (chars c.args.text.now))) c.put_string.ensures.short

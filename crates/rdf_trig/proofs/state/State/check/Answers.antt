@@ -1,7 +1,7 @@
 use Rattle.std.proofs.Common.{◌≡◌, false, true, [], None, sym, subst, ◌∙◌, ◌&&◌}
 use Rattle.std.specs.Prelude.{nat_le}
 use Rattle.rdf_iri.specs.Scope.{InForce}
-use Rattle.rdf_lines.specs.Lines.{Leaf}
+use Rattle.rdf_tokens.specs.Leaves.{Leaf}
 use Rattle.rdf_trig.specs.Machine as M
 use Rattle.rdf_trig.specs.States.{mode_in}
 use Rattle.rdf_trig.specs.Steps.{state_of}

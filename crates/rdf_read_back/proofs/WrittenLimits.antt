@@ -27,11 +27,11 @@ use Rattle.rdf_trig.specs.Trees.{Document, document_tokens}
 use Rattle.rdf_trig.specs.Events.{Use, itself, stands, binds, Event, Took, Gave, tokens, Bound, document_events}
 use Rattle.rdf_trig.specs.Documents.{IsLong, Passes, InTree}
 use Rattle.rdf_trig.specs.Language.{language}
-use Rattle.rdf_trig.specs.Laws.{HasIris, DocumentIsWritable, WrittenDocumentIsRead, PrefixedDocumentIsRead}
+use Rattle.rdf_read_back.specs.Laws.{HasIris, DocumentIsWritable, WrittenDocumentIsRead, PrefixedDocumentIsRead}
 use Rattle.rdf_trig.proofs.trees.TokensOfEvents.{document_told}
 use Rattle.rdf_trig.proofs.trees.Senses.{tokens_after}
-use Rattle.rdf_trig.proofs.theorems.WrittenParts.{Room, FitSubject, FitTail, FitTerm, GoodToken, Within}
-use Rattle.rdf_trig.proofs.theorems.WrittenSteps.{AllWithin, AllFit, tree_fits}
+use Rattle.rdf_read_back.proofs.WrittenParts.{Room, FitSubject, FitTail, FitTerm, GoodToken, Within}
+use Rattle.rdf_read_back.proofs.WrittenSteps.{AllWithin, AllFit, tree_fits}
 
 module _ (r : Room) where
   -- What fits is well formed, and within the limits as it is written.

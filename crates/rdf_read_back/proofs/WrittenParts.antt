@@ -30,7 +30,7 @@ use Rattle.rdf_iri.specs.Resolve.{resolved, based}
 use Rattle.rdf_iri.specs.Scope.{InForce, bound_to}
 use Rattle.rdf_iri.proofs.ResolvedText.{IsIri-target}
 use Rattle.rdf_iri.proofs.ScopeLemmas.{IsIri-append}
-use Rattle.rdf_lines.specs.Lines.{Leaf, leaf_of, token, iri_of}
+use Rattle.rdf_tokens.specs.Leaves.{Leaf, leaf_of, token, iri_of}
 use Rattle.rdf_lines.specs.declared.form.Escapes.{Escapes}
 use Rattle.rdf_lines.specs.declared.form.Escapes.TheVariants.{Plain, Ascii}
 use Rattle.rdf_lines.specs.declared.form.Style.TheVariants.{Tagged}
@@ -42,7 +42,7 @@ use Rattle.rdf_lines.proofs.WrittenLimits.{written_string, written_iri, string_r
 use Rattle.rdf_trig.specs.Names.{reference_in, name_in, prefix_of, local_of, with_base, with_binding}
 use Rattle.rdf_trig.specs.Quads.{stated, named, resource, labelled, short_value, long_value, tag_of, typed_literal}
 use Rattle.rdf_trig.specs.Events.{Use, itself, stands, binds}
-use Rattle.rdf_trig.specs.Laws.{HasIris}
+use Rattle.rdf_read_back.specs.Laws.{HasIris}
 use Rattle.rdf_trig.specs.Spelled.{SpellsTag}
 use Rattle.rdf_trig.proofs.trees.NamesLemmas.{binds_prefix}
 use Rattle.rdf_trig.proofs.code.SpelledLemmas.{spelled_tag}

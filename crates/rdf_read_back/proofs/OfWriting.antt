@@ -15,7 +15,7 @@ use Rattle.rdf_tokens.specs.Tokens.{Token, step, read, tokens}
 use Rattle.rdf_tokens.specs.Good.{tokens_of}
 use Rattle.rdf_iri.specs.Scope.{InForce}
 use Rattle.rdf_iri.specs.Resolve.{resolved}
-use Rattle.rdf_lines.specs.Lines.{token}
+use Rattle.rdf_tokens.specs.Leaves.{token}
 use Rattle.rdf_lines.specs.declared.form.LineForm.TheVariants.{NQuads}
 use Rattle.rdf_lines.specs.declared.form.Escapes.TheVariants.{Plain}
 use Rattle.rdf_lines.specs.declared.form.Style.TheVariants.{Tagged}
@@ -28,13 +28,13 @@ use Rattle.rdf_trig.specs.Quads.{in_default}
 use Rattle.rdf_trig.specs.Documents.{documents, Passes}
 use Rattle.rdf_trig.specs.Machine.{Over, State, at_start, ran, accept_all}
 use Rattle.rdf_trig.specs.Language.{language}
-use Rattle.rdf_trig.specs.Laws.{HasIris}
+use Rattle.rdf_read_back.specs.Laws.{HasIris}
 use Rattle.rdf_tokens.specs.Grammars.{IsFront, reading_of, IsDocumentOf, IsWhole, IsReadToItsEnd}
 use Rattle.rdf_trig.proofs.examples.Documents.{leaf, quad}
 use Rattle.rdf_trig.proofs.theorems.StatedLaws.{begins}
 use Rattle.rdf_trig.proofs.machine.ExactDocuments.{accepted_document}
 use Rattle.rdf_trig.proofs.machine.EndOfInput.{document_complete}
-use Rattle.rdf_trig.proofs.theorems.WrittenLimits.{document_writable, document_read_back, form_document_read}
+use Rattle.rdf_read_back.proofs.WrittenLimits.{document_writable, document_read_back, form_document_read}
 
 abbrev small : InForce
 small = record { base = None; bindings = []; limits = record { token = 8; depth = 1; bindings = 1; iri = 8 } }

@@ -12,7 +12,7 @@ use Rattle.rdf_terms.specs.Terms as term
 use Rattle.rdf_tokens.specs.Tokens.{Token}
 use Rattle.rdf_tokens.specs.Grammars.{unmarked}
 use Rattle.rdf_iri.specs.Scope.{InForce}
-use Rattle.rdf_lines.specs.Lines.{Leaf, leaf_of}
+use Rattle.rdf_tokens.specs.Leaves.{Leaf, leaf_of}
 use Rattle.rdf_trig.specs.declared.form.DocForm.{DocForm}
 use Rattle.rdf_trig.specs.declared.form.DocForm.TheVariants.{Turtle, TriG}
 use Rattle.rdf_trig.specs.Names.{prefix_of, reference_in, name_in}
@@ -22,11 +22,11 @@ use Rattle.rdf_trig.specs.Events.{itself, Event, Took, Gave, give, event_quads, 
 use Rattle.rdf_trig.specs.Machine.{Topic, sized, unsized, Level, Top, InBlock, Place, Listed, InCollection, Around, Statement, InPropertyList, Up, Subject, At, Spelling, Dotted, Sparql, Mode, Start, Over, WantPrefix, WantPrefixIri, WantBaseIri, WantDot, AfterLabel, GraphWord, GraphBracket, WantBrace, Inside, Want, After, AfterText, WantType, PropertyListStart, CollectionStart, WantVerb, AfterSemicolon, AfterPropertyList, Reply, No, Go, subject_at, verb_at, quad_at, quad_up, nil, iri_object_at, literal_at, object_start, type_at, want_type, verb_is, verb_start, after_subject, node_closed, property_list_closed, collection_closed, predicate_list_end, after_semicolon, after, tag_at, after_text, property_list_start, collection_start, after_property_list, subject_is, subject_start, start, inside, want_brace, after_label, graph_is, graph_word, graph_bracket, directive_end, want_prefix, want_prefix_iri, want_base_iri, want_dot, step, waiting}
 use Rattle.rdf_trig.specs.Machine.{stop, fronted, go_on, run}
 use Rattle.rdf_trig.specs.Spelled.{SpellsTag}
-use Rattle.rdf_trig.specs.Laws.{HasIris}
+use Rattle.rdf_read_back.specs.Laws.{HasIris}
 use Rattle.rdf_trig.proofs.machine.Soundness.{unput}
 use Rattle.rdf_trig.proofs.machine.ViableTokens.{run_tree}
 use Rattle.rdf_trig.proofs.trees.TokensOfEvents.{document_told}
-use Rattle.rdf_trig.proofs.theorems.WrittenParts.{Room, FitIri, FitSubject, FitWord, FitTerm, FitQuad, Good, GoodToken, Within, known_fits, named_fits, subject_named, resource_fits, typed_fits, stated_fits, anon_fits, cell_fits, label_fits, short_fits, long_fits, integer_fits, decimal_fits, double_fits, true_fits, false_fits, tag_fits, reference_iri, name_iri, base_iris, binding_iris}
+use Rattle.rdf_read_back.proofs.WrittenParts.{Room, FitIri, FitSubject, FitWord, FitTerm, FitQuad, Good, GoodToken, Within, known_fits, named_fits, subject_named, resource_fits, typed_fits, stated_fits, anon_fits, cell_fits, label_fits, short_fits, long_fits, integer_fits, decimal_fits, double_fits, true_fits, false_fits, tag_fits, reference_iri, name_iri, base_iris, binding_iris}
 
 module _ (r : Room) where
   -- what is there can be written

@@ -1,0 +1,5 @@
+-- What is written for a document of Turtle or TriG is read back, and each law at a document.
+pub mod WrittenParts
+pub mod WrittenSteps
+pub mod WrittenLimits
+pub mod OfWriting

@@ -1,0 +1,40 @@
+-- What is written for a document of Turtle or TriG is a document of N-Quads, with the same quads.
+use Rattle.std.specs.Prelude.{◌≡◌, ◌≤◌, ◌+◌, ◌*◌, ℕ, List, length, Some, IfSome, encode_utf8_all}
+use Rattle.rdf_terms.specs.Terms.{Quad, IsIri}
+use Rattle.rdf_tokens.specs.Grammars.{IsDocumentOf, IsWhole, IsReadToItsEnd}
+use Rattle.rdf_tokens.specs.Scans.{most_bytes}
+use Rattle.rdf_iri.specs.Scope.{InForce, bound_to}
+use Rattle.rdf_lines.specs.declared.form.LineForm.TheVariants.{NQuads}
+use Rattle.rdf_lines.specs.declared.form.Escapes.{Escapes}
+use Rattle.rdf_lines.specs.declared.form.Style.TheVariants.{Tagged}
+use Rattle.rdf_lines.specs.Laws.{string_width, iri_width}
+use Rattle.rdf_lines.specs.NodePrefixes.{IsNodePrefix, text_in}
+use Rattle.rdf_lines.specs.Writing.{text, Writable}
+use Rattle.rdf_lines.specs.Documents.{in_lines}
+use Rattle.rdf_trig.specs.declared.form.DocForm.{DocForm}
+use Rattle.rdf_trig.specs.Language.{language}
+
+-- the base, where there is one, and what each prefix is bound to are IRIs
+pub record HasIris (s : InForce) : Type 0 where
+  pub base : IfSome s.base IsIri
+  pub bindings : (prefix iri : List ℕ) → bound_to s.bindings prefix ≡ Some iri → IsIri iri
+
+-- The quads of a document are well formed, and each of their nodes has a name where those without a label are named by their offsets.
+abbrev pub DocumentIsWritable : Type 0
+DocumentIsWritable = (form : DocForm) (start : InForce) (bytes : List ℕ) (qs : List Quad) → HasIris start → length bytes ≤ most_bytes →
+    IsDocumentOf (language form start) bytes qs → Writable Tagged qs
+
+-- What is written for a document within its limits is read to its end as N-Quads with limits that are higher by what the escapes take.
+abbrev pub WrittenDocumentIsRead : Type 0
+WrittenDocumentIsRead = (e : Escapes) (form : DocForm) (start : InForce) (bytes : List ℕ) (qs : List Quad) → HasIris start → length bytes ≤ most_bytes →
+    IsDocumentOf (language form start) bytes qs → IsWhole (language form start) bytes → (token_then iri_then : ℕ) →
+    string_width e * start.limits.token ≤ token_then → iri_width e * start.limits.iri + 2 ≤ token_then → 64 ≤ token_then →
+    start.limits.iri ≤ iri_then → 64 ≤ iri_then → IsReadToItsEnd (in_lines NQuads token_then iri_then) (encode_utf8_all (text Tagged e qs))
+
+-- With a word in front of the names, the limits that suffice without it, and the word's length more for tokens.
+abbrev pub PrefixedDocumentIsRead : Type 0
+PrefixedDocumentIsRead = (e : Escapes) (p : List ℕ) (form : DocForm) (start : InForce) (bytes : List ℕ) (qs : List Quad) → IsNodePrefix p → HasIris start →
+    length bytes ≤ most_bytes → IsDocumentOf (language form start) bytes qs → IsWhole (language form start) bytes → (token_then iri_then : ℕ) →
+    string_width e * start.limits.token ≤ token_then → iri_width e * start.limits.iri + 2 ≤ token_then → 64 ≤ token_then →
+    start.limits.iri ≤ iri_then → 64 ≤ iri_then →
+    IsReadToItsEnd (in_lines NQuads (length p + token_then) iri_then) (encode_utf8_all (text_in (record { style = Tagged; escapes = e; prefix = p }) qs))

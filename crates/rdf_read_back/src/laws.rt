@@ -1,0 +1,19 @@
+//! The laws of reading back. These functions do nothing: their contracts are the laws.
+
+ghost use Rattle.rdf_read_back.specs.Laws.{DocumentIsWritable, WrittenDocumentIsRead, PrefixedDocumentIsRead};
+
+/// The quads of a document can be written with a node that has no label named by its offset: they are well formed.
+pub fn document_is_writable()
+    ensures { DocumentIsWritable }
+{}
+
+/// What is written for a document within its limits is read to its end as N-Quads: with twice its limit on tokens, room
+/// for an IRI and its brackets, and its limit on IRIs, each at least 64.
+pub fn written_document_is_read()
+    ensures { WrittenDocumentIsRead }
+{}
+
+/// With a word in front of the names of nodes it is read so too, with the word's length more for tokens.
+pub fn prefixed_document_is_read()
+    ensures { PrefixedDocumentIsRead }
+{}

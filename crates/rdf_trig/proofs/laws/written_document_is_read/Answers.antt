@@ -1,5 +1,0 @@
-use Rattle.rdf_trig.proofs.theorems.WrittenLimits.{document_read_back}
-use Rattle.rdf_trig.proofs.laws.written_document_is_read.Goals as goal
-
-pub returns : goal.returns
-returns c = document_read_back
