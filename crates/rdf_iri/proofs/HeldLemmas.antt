@@ -1,5 +1,5 @@
 -- The bytes that a scope holds, counted over its map.
-use Rattle.std.proofs.Common.{◌≡◌, ◌≤◌, ◌<◌, ◌+◌, ◌*◌, ◌^◌, ℕ, List, [], ◌∷◌, length, Option, Some, None, refl, ◌∙◌, subst, arith}
+use Rattle.std.proofs.Common.{◌≡◌, ◌≤◌, ◌<◌, ◌+◌, ◌*◌, ◌^◌, ℕ, List, [], ◌∷◌, length, Option, Some, None, refl, ap, sym, ◌∙◌, arith}
 use Rattle.std.specs.Prelude.{String}
 use Rattle.std.specs.String.{string_bytes}
 use Rattle.std.specs.Str.{chars}
@@ -11,13 +11,10 @@ use Rattle.std.proofs.lemmas.List.Elements.{All-weaker}
 use Rattle.std.proofs.lemmas.List.Sums.{sum_by-cons, sum_by-le}
 use Rattle.rdf_iri.specs.Texts.{byte_len}
 use Rattle.rdf_iri.specs.Limits.{Sizes, InRange}
-use Rattle.rdf_iri.specs.Scope.{entries_of, KeepsLimits, BaseFits, base_bytes, binding_bytes, most_bytes_held}
+use Rattle.rdf_iri.specs.Prefixes.{entry_bytes}
+use Rattle.rdf_iri.specs.Scope.{entries_of, bound_to, BaseFits, base_bytes, binding_bytes, most_bytes_held}
 use Rattle.rdf_iri.proofs.ResolvedText.{byte_len-chars}
 use Rattle.rdf_iri.proofs.ScopeLemmas.{bound_to-text, length-entries_of}
-
--- the bytes of an entry of the map
-abbrev pub entry_bytes : {Z : Type 0} → String Z × List ℕ → ℕ
-entry_bytes e = length (string_bytes e.0) + byte_len e.1
 
 -- the first entry counts beside the others
 pub sum-cons : {Z : Type 0} (key : String Z) (iri : List ℕ) (es : List (String Z × List ℕ)) →
@@ -34,29 +31,26 @@ sum-entries_of {Z} (e ∷ es) =
     let rest = sum-entries_of es in
     omega (arith, first, same, size, rest)
 
--- an entry that the map finds keeps the limits
-entry_within : {Z : Type 0} (m : BTreeMap (String Z) (List ℕ)) (base : Option (List ℕ)) (limits : Sizes) →
-    KeepsLimits (record { base = base; bindings = entries_of m.entries; limits = limits }) →
-    (e : String Z × List ℕ) → get_by_text m (string_bytes e.0) ≡ Some e.1 → entry_bytes {Z = Z} e ≤ 4 * limits.token + limits.iri
-entry_within m base limits k e h =
-    let kept = k.bindings (chars (string_bytes e.0)) e.1 (bound_to-text m (string_bytes e.0) (IsUtf8-string_bytes e.0) ∙ h) in
+-- an entry that the map finds is within a limit that what is bound keeps
+entry_within : {Z : Type 0} (m : BTreeMap (String Z) (List ℕ)) (most : ℕ) →
+    ((q iri : List ℕ) → bound_to (entries_of m.entries) q ≡ Some iri → byte_len q + byte_len iri ≤ most) →
+    (e : String Z × List ℕ) → get_by_text m (string_bytes e.0) ≡ Some e.1 → entry_bytes {Z = Z} e ≤ most
+entry_within m most f e h =
+    let kept = f (chars (string_bytes e.0)) e.1 (bound_to-text m (string_bytes e.0) (IsUtf8-string_bytes e.0) ∙ h) in
     let size = byte_len-chars (string_bytes e.0) (IsUtf8-string_bytes e.0) in
-    omega (arith, kept.0, kept.1, size)
+    omega (arith, kept, size)
 
--- so all of them together do
-pub sum_within : {Z : Type 0} (m : BTreeMap (String Z) (List ℕ)) (base : Option (List ℕ)) (limits : Sizes) →
-    KeepsLimits (record { base = base; bindings = entries_of m.entries; limits = limits }) →
+-- so all of them together are
+pub sum_within : {Z : Type 0} (m : BTreeMap (String Z) (List ℕ)) (most : ℕ) →
+    ((q iri : List ℕ) → bound_to (entries_of m.entries) q ≡ Some iri → byte_len q + byte_len iri ≤ most) →
     All (λ (e : String Z × List ℕ). get_by_text m (string_bytes e.0) ≡ Some e.1) m.entries →
-    sum_by (entry_bytes {Z = Z}) m.entries ≤ limits.bindings * (4 * limits.token + limits.iri)
-sum_within {Z} m base limits k found =
-    let most = 4 * limits.token + limits.iri in
-    let each = All-weaker _ (λ (e : String Z × List ℕ). entry_bytes {Z = Z} e ≤ most) (entry_within m base limits k) m.entries found in
+    sum_by binding_bytes (entries_of m.entries) ≤ length (entries_of m.entries) * most
+sum_within {Z} m most f found =
+    let each = All-weaker _ (λ (e : String Z × List ℕ). entry_bytes {Z = Z} e ≤ most) (entry_within m most f) m.entries found in
     let all = sum_by-le (entry_bytes {Z = Z}) most m.entries each in
-    let count : length m.entries ≤ limits.bindings = subst (λ n. n ≤ limits.bindings) (length-entries_of m.entries) k.count in
-    le-trans all (mul-le (length m.entries) most limits.bindings most count (omega arith))
-  where
-    le-trans : {a b c : ℕ} → a ≤ b → b ≤ c → a ≤ c
-    le-trans {a} {b} {c} p q = omega (arith, p, q)
+    let same = sum-entries_of m.entries in
+    let count : length m.entries * most ≡ length (entries_of m.entries) * most = ap (λ (n : ℕ). n * most) (sym (length-entries_of m.entries)) in
+    omega (arith, all, same, count)
 
 -- the base keeps its limit
 pub base_within : (base : Option (List ℕ)) (limits : Sizes) → BaseFits base limits → base_bytes base ≤ limits.iri

@@ -13,6 +13,7 @@ pub mod InPlace
 pub mod Slices
 pub mod ResolvedText
 pub mod ScopeLemmas
+pub mod PrefixLemmas
 pub mod BaseLemmas
 pub mod HeldLemmas
 pub mod BindingLemmas

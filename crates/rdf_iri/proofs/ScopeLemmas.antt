@@ -21,13 +21,14 @@ use Rattle.rdf_terms.specs.Terms.{IsIri}
 use Rattle.rdf_iri.specs.Texts.{IsIriText, equal, byte_len}
 use Rattle.rdf_iri.specs.Scope.{InForce, entries_of, bound_to, Binds, HasRoom, KeepsLimits, BaseFits, ExpandsHere, NotJoined, NotExpanded}
 use Rattle.rdf_iri.specs.Limits.{Sizes}
+use Rattle.rdf_iri.specs.Prefixes.{Sets}
 use Rattle.rdf_iri.proofs.TextsLemmas.{equal-true, equal-from, has_scheme-append}
 use Rattle.rdf_iri.proofs.IriKept.{all_have-append}
 use Rattle.rdf_iri.proofs.Encoded.{same_test}
 use Rattle.rdf_iri.proofs.ResolvedText.{byte_len-chars}
 
 -- texts with the same characters have the same bytes
-same_text : (v w : List ℕ) → IsUtf8 v → IsUtf8 w → equal (chars v) (chars w) ≡ bytes_eq v w
+pub same_text : (v w : List ℕ) → IsUtf8 v → IsUtf8 w → equal (chars v) (chars w) ≡ bytes_eq v w
 same_text v w u t = same_test _ _
     (λ h. (bytes_eq-Decides v w).1 (sym (encodes-chars v u) ∙ (ap encode_utf8_all (equal-true (chars v) (chars w) h) ∙ encodes-chars w t)))
     (λ h. equal-from (chars v) (chars w) (ap chars ((bytes_eq-Decides v w).0 h)))
@@ -66,7 +67,7 @@ no_text [] q n = refl
 no_text (e ∷ es) q n = cond-false (equal q (chars (string_bytes e.0))) _ _ (differs q (string_bytes e.0) n (IsUtf8-string_bytes e.0)) ∙ no_text es q n
 
 -- texts compare alike either way round
-swapped : (v w : List ℕ) → equal v w ≡ equal w v
+pub swapped : (v w : List ℕ) → equal v w ≡ equal w v
 swapped v w = same_test _ _ (λ h. equal-from w v (sym (equal-true v w h))) (λ h. equal-from v w (sym (equal-true w v h)))
 
 -- after an update a prefix has its new IRI, and every other what it had
@@ -94,21 +95,25 @@ bound_to-updated m n key prefix iri e t u q =
     ∙ sym (cond-false (equal (chars prefix) q) (Some iri) (bound_to (entries_of m.entries) q) (swapped (chars prefix) q ∙ differs q prefix h t) ∙ no_text m.entries q h))
     (cases_Bool (scalars q))
 
--- an insertion into the map binds the prefix, as the contract of `bind` says
-pub Binds-inserted : {Z : Type 0} (base : Option (List ℕ)) (limits : Sizes) (m n : BTreeMap (String Z) (List ℕ)) (key : String Z) (prefix iri : List ℕ) (old : Option (List ℕ)) →
+-- an insertion into the map sets the prefix
+pub Sets-inserted : {Z : Type 0} (m n : BTreeMap (String Z) (List ℕ)) (key : String Z) (prefix iri : List ℕ) (old : Option (List ℕ)) →
     string_bytes key ≡ prefix → IsUtf8 prefix → Updates string_cmp m n key (Some iri) → old ≡ get_by_text m (string_bytes key) →
     length n.entries ≡ length m.entries + cond (is_some old) 0 1 →
-    Binds (record { base = base; bindings = entries_of m.entries; limits = limits }) (chars prefix) iri (record { base = base; bindings = entries_of n.entries; limits = limits })
-Binds-inserted base limits m n key prefix iri old k t u o l =
+    Sets (entries_of m.entries) (chars prefix) iri (entries_of n.entries)
+Sets-inserted m n key prefix iri old k t u o l =
     let was : old ≡ bound_to (entries_of m.entries) (chars prefix) = o ∙ (ap (get_by_text m) k ∙ sym (bound_to-text m prefix t)) in
     record {
-      base = refl;
-      limits = refl;
       bound = bound_to-updated m n key prefix iri k t u;
       count = length-entries_of n.entries ∙ (l
           ∙ (ap (λ (b : Bool). length m.entries + cond b 0 1) (ap is_some was)
           ∙ ap (λ (i : ℕ). i + cond (is_some (bound_to (entries_of m.entries) (chars prefix))) 0 1) (sym (length-entries_of m.entries))));
     }
+
+-- so a scope binds it, as the contract of `bind` says
+pub Binds-set : (s t : InForce) (prefix iri : List ℕ) (new : List (List ℕ × List ℕ)) → Sets s.bindings prefix iri new →
+    t ≡ record { base = s.base; bindings = new; limits = s.limits } → Binds s prefix iri t
+Binds-set s t prefix iri new k e =
+    subst (Binds s prefix iri) (sym e) (record { base = refl; limits = refl; bound = k.bound; count = k.count })
 
 -- what is not there is none
 pub none_from : (o : Option (List ℕ)) → is_some o ≡ false → o ≡ None

@@ -14,6 +14,7 @@ pub mod Dots
 pub mod Resolve
 pub mod Directory
 pub mod Seen
+pub mod Prefixes
 pub mod Rules
 pub mod BindingSteps
 pub mod Laws

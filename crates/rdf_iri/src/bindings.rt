@@ -14,28 +14,27 @@ use crate::fault::{BindingFault, BindingReason, IriFault};
 use crate::limits::Limits;
 use crate::parts::cut;
 use crate::places::{begins_with, bytes_before};
+use crate::prefixes::Prefixes;
 use crate::scope::Scope;
 use rdf_terms::{Iri, has_scheme, iri_text, is_pname_ns};
 use std::alloc::{Allocator, Global};
-use std::collections::BTreeMap;
 use std::marker::Model;
 
 /// Prefixes and their IRIs that are in force before a document begins. They keep the limits that they were read with.
 #[derive(Drop)]
 pub struct Bindings<A: Allocator = Global> {
-    pub(crate) names: BTreeMap<String<A>, Iri<A>, A>,
+    pub(crate) names: Prefixes<A>,
     pub(crate) limits: Limits,
 }
 
 impl<A: Allocator> Model for Bindings<A> {
-    ghost use Rattle.rdf_iri.specs.Scope.{entries_of};
     ghost use Rattle.rdf_iri.specs.Bindings.{BindingMap, KeepsSizes};
 
     ghost Value = { BindingMap };
 
-    ghost view = { λ b. record { bindings = entries_of b.names.entries; limits = b.limits } };
+    ghost view = { λ b. record { bindings = b.names; limits = b.limits } };
 
-    ghost invariant = { λ b. KeepsSizes (record { bindings = entries_of b.names.entries; limits = b.limits }) };
+    ghost invariant = { λ b. KeepsSizes (record { bindings = b.names; limits = b.limits }) };
 }
 
 impl<A: Allocator> Bindings<A> {

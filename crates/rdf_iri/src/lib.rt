@@ -9,6 +9,7 @@ pub mod laws;
 mod limits;
 mod parts;
 mod places;
+mod prefixes;
 mod resolution;
 mod scope;
 

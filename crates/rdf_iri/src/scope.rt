@@ -12,10 +12,10 @@ use crate::base::Base;
 use crate::bindings::Bindings;
 use crate::fault::IriFault;
 use crate::limits::Limits;
+use crate::prefixes::{Prefixes, iri_len};
 use crate::resolution::{resolve, resolve_in_place};
-use rdf_terms::{Iri, text_len};
+use rdf_terms::Iri;
 use std::alloc::{Allocator, Global};
-use std::collections::BTreeMap;
 use std::marker::Model;
 
 /// What is in force at a place of a document: the base, or none, and the IRIs of the prefixes that are bound.
@@ -24,17 +24,17 @@ pub struct Scope<A: Allocator = Global> {
     alloc: A,
     base: Option<Base<A>>,
     limits: Limits,
-    names: BTreeMap<String<A>, Iri<A>, A>,
+    names: Prefixes<A>,
 }
 
 impl<A: Allocator> Model for Scope<A> {
-    ghost use Rattle.rdf_iri.specs.Scope.{InForce, KeepsLimits, entries_of};
+    ghost use Rattle.rdf_iri.specs.Scope.{InForce, KeepsLimits};
 
     ghost Value = { InForce };
 
-    ghost view = { λ s. record { base = s.base; bindings = entries_of s.names.entries; limits = s.limits } };
+    ghost view = { λ s. record { base = s.base; bindings = s.names; limits = s.limits } };
 
-    ghost invariant = { λ s. KeepsLimits (record { base = s.base; bindings = entries_of s.names.entries; limits = s.limits }) };
+    ghost invariant = { λ s. KeepsLimits (record { base = s.base; bindings = s.names; limits = s.limits }) };
 }
 
 impl<A: Allocator + Copy> Scope<A> {
@@ -51,7 +51,7 @@ impl<A: Allocator + Copy> Scope<A> {
             alloc,
             base,
             limits,
-            names: BTreeMap::new(alloc),
+            names: Prefixes::new(alloc),
         }
     }
 
@@ -157,15 +157,14 @@ impl<A: Allocator + Copy> Scope<A> {
         if !self.has_room(prefix) {
             return Err(IriFault::TooManyBindings);
         }
-        let key = String::from_str(self.alloc, prefix)?;
-        self.names.insert(key, iri)?;
+        self.names.set(self.alloc, prefix, iri)?;
         Ok(())
     }
 
     fn has_room(&self, prefix: &str) -> bool
         ensures { MatchBool result (HasRoom self.now (chars prefix.now)) (IsFull self.now (chars prefix.now)) }
     {
-        self.names.contains_key(prefix) || (self.names.len() as u64) < self.limits.bindings()
+        self.names.get(prefix).is_some() || self.names.are_fewer(self.limits.bindings())
     }
 
     /// The IRI of a name: that of its prefix, with the local part after it. The local part is a value, without the
@@ -205,11 +204,7 @@ impl<A: Allocator + Copy> Scope<A> {
         ensures most { result ≤ most_bytes_held self.now.limits }
     {
         self.limits.are_in_range();
-        let mut held = base_len(self.base());
-        for (prefix, iri) in self.names.iter() {
-            held += prefix.len() as u64 + iri_len(iri);
-        }
-        held
+        base_len(self.base()) + self.names.held(self.limits)
     }
 }
 
@@ -221,13 +216,6 @@ fn base_len<A: Allocator>(base: Option<&Iri<A>>) -> u64
         Some(base) => iri_len(base),
         None => 0,
     }
-}
-
-/// The bytes of an IRI.
-fn iri_len<A: Allocator>(iri: &Iri<A>) -> u64
-    ensures { result ≡ byte_len iri.now }
-{
-    text_len(iri.as_str())
 }
 
 /// Puts an IRI with more characters after it in place of a text.

@@ -16,6 +16,7 @@ use crate::names::Name;
 use crate::rest::Rest;
 use crate::rules::Rules;
 use crate::slots::{TagText, Topic};
+use crate::spares::Spares;
 use crate::state::{Frame, Held, Level, Mode, Outer, State};
 use crate::turn::Turn;
 use rdf_iri::Scope;
@@ -64,6 +65,7 @@ impl<A: Allocator + Copy> State<A> {
             level: Level::Top,
             graph: Topic::new(alloc),
             frames: Vec::new(alloc),
+            spares: Spares::new(alloc),
             rest: Rest::none(),
             held: Held::Nothing,
             object: Topic::new(alloc),

@@ -17,6 +17,7 @@ mod reader;
 mod rest;
 mod rules;
 mod slots;
+mod spares;
 mod spelled;
 mod state;
 mod subjects;

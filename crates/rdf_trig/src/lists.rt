@@ -84,7 +84,7 @@ impl<A: Allocator + Copy> State<A> {
     fn collection_closed(&mut self) -> Mode
         ensures mode { (form : DocForm) → mode_at form self.new result ≡ M.collection_closed (up_in self.old) self.old.frame.subject }
         ensures graph { graph_at self.new result ≡ graph_of self.old.level self.old.graph }
-        ensures same { self.new ≡ record self.old { frame = self.new.frame; frames = self.new.frames } }
+        ensures same { self.new ≡ record self.old { frame = self.new.frame; frames = self.new.frames; spares = self.new.spares } }
         ensures stack { length self.new.frames.items ≤ length self.old.frames.items - 1 }
         ensures fits { BracketFits self.old result self.new }
     {
@@ -94,7 +94,7 @@ impl<A: Allocator + Copy> State<A> {
                 Mode::WantVerb
             }
             Some(outer) => {
-                self.frame = outer;
+                self.spares.keep(mem::replace(&mut self.frame, outer));
                 Mode::After
             }
         }
@@ -105,7 +105,7 @@ impl<A: Allocator + Copy> State<A> {
     fn brackets_closed(&mut self) -> Mode
         ensures mode { (form : DocForm) → mode_at form self.new result ≡ M.property_list_closed (up_in self.old) self.old.frame.subject }
         ensures graph { graph_at self.new result ≡ graph_of self.old.level self.old.graph }
-        ensures same { self.new ≡ record self.old { frame = self.new.frame; frames = self.new.frames } }
+        ensures same { self.new ≡ record self.old { frame = self.new.frame; frames = self.new.frames; spares = self.new.spares } }
         ensures stack { length self.new.frames.items ≤ length self.old.frames.items - 1 }
         ensures fits { BracketFits self.old result self.new }
     {
@@ -115,7 +115,7 @@ impl<A: Allocator + Copy> State<A> {
                 Mode::AfterPropertyList
             }
             Some(outer) => {
-                self.frame = outer;
+                self.spares.keep(mem::replace(&mut self.frame, outer));
                 Mode::After
             }
         }

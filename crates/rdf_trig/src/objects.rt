@@ -13,7 +13,7 @@ ghost use Rattle.rdf_trig.specs.Turns.{SuitsObject, frames_begun, Begins, BegunF
 use crate::fault::StepFault;
 use crate::rest::Rest;
 use crate::spelled::{set_long_string, tag_of};
-use crate::state::{Container, Frame, Held, Mode, State};
+use crate::state::{Container, Held, Mode, State};
 use crate::turn::ObjectStart;
 use rdf_terms::{Known, label_of, put_string};
 use rdf_tokens::Token;
@@ -111,14 +111,14 @@ impl<A: Allocator + Copy> State<A> {
     #[tactic(auto, using(crate::proofs::code::FrameStack::stack_steps, crate::proofs::code::HoldingLemmas::frames_pushed))]
     fn open(&mut self) -> Result<(), StepFault>
         ensures up { OnOk result ((v : M.Level) → up_of v self.new.frames.items ≡ M.At (place_of v self.old.frame (up_of v self.old.frames.items))) }
-        ensures same { OnOk result (self.new ≡ record self.old { frame = self.new.frame; frames = self.new.frames }) }
+        ensures same { OnOk result (self.new ≡ record self.old { frame = self.new.frame; frames = self.new.frames; spares = self.new.spares }) }
         ensures depth { self.new.depth ≡ self.old.depth }
         ensures stack { OnOk result (length self.new.frames.items ≡ length self.old.frames.items + 1) }
         ensures fits { (n : ℕ) → OpenFits n self.old → OnOk result (OpenFits n self.new) }
         ensures err { IfErr result (λ r. r ≡ StepFault.Memory) }
     {
-        let frame = mem::replace(&mut self.frame, Frame::none(self.alloc));
-        self.frames.push(frame)?;
+        let fresh = self.spares.take(self.alloc)?;
+        self.frames.push(mem::replace(&mut self.frame, fresh))?;
         Ok(())
     }
 

@@ -5,6 +5,7 @@ ghost use Rattle.std.specs.Prelude.{◌≡◌};
 use crate::names::Name;
 use crate::rest::Rest;
 use crate::slots::{TagText, Topic};
+use crate::spares::Spares;
 use rdf_terms::Known;
 use std::alloc::{Allocator, Global};
 
@@ -132,6 +133,8 @@ pub struct State<A: Allocator = Global> {
     pub graph: Topic<A>,
     /// What is open round the frame in hand, or round a bracket that has just come, the innermost last.
     pub frames: Vec<Frame<A>, A>,
+    /// Frames of brackets that have ended, for those that open.
+    pub spares: Spares<A>,
     /// The cell before the one that the last token opened, and that cell.
     pub rest: Rest,
     /// The quad whose head ended with the last token.

@@ -15,6 +15,7 @@ use crate::turn::SubjectStart;
 use rdf_terms::label_of;
 use rdf_tokens::Token;
 use std::alloc::Allocator;
+use std::mem;
 
 impl<A: Allocator + Copy> State<A> {
     // A subject begins.
@@ -76,14 +77,14 @@ impl<A: Allocator + Copy> State<A> {
     fn node_closed(&mut self) -> Mode
         ensures mode { (form : DocForm) → mode_at form self.new result ≡ M.node_closed form (up_in self.old) self.old.frame.subject }
         ensures graph { graph_at self.new result ≡ graph_of self.old.level self.old.graph }
-        ensures same { self.new ≡ record self.old { frame = self.new.frame; frames = self.new.frames } }
+        ensures same { self.new ≡ record self.old { frame = self.new.frame; frames = self.new.frames; spares = self.new.spares } }
         ensures stack { length self.new.frames.items ≤ length self.old.frames.items - 1 }
         ensures fits { BracketFits self.old result self.new }
     {
         match self.frames.pop() {
             None => Mode::AfterSubject,
             Some(outer) => {
-                self.frame = outer;
+                self.spares.keep(mem::replace(&mut self.frame, outer));
                 Mode::After
             }
         }

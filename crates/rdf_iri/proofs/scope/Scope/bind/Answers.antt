@@ -1,9 +1,9 @@
-use Rattle.std.proofs.Common.{◌≤◌, ◌*◌, ℕ, length, sym, subst}
+use Rattle.std.proofs.Common.{◌≤◌, ◌*◌, ℕ, length, refl, sym, subst}
 use Rattle.std.specs.Str.{chars}
 use Rattle.rdf_iri.specs.Texts.{byte_len}
-use Rattle.rdf_iri.specs.Scope.{InForce, entries_of, Binds, HasRoom}
+use Rattle.rdf_iri.specs.Scope.{InForce, Binds, HasRoom}
 use Rattle.rdf_iri.proofs.ResolvedText.{byte_len-chars}
-use Rattle.rdf_iri.proofs.ScopeLemmas.{Binds-inserted, KeepsLimits-bound}
+use Rattle.rdf_iri.proofs.ScopeLemmas.{Binds-set, KeepsLimits-bound}
 use Rattle.rdf_iri.proofs.scope.Scope.bind.Goals as goal
 
 pub invariant_of-self-2 : goal.invariant_of-self-2
@@ -11,22 +11,20 @@ invariant_of-self-2 g c =
     let p = c.args.prefix.now in
     let iri = c.in_ok-iri.iri in
     let was = sym c.self.view_is in
-    let i = c.in_ok-insert.ensures in
     KeepsLimits-bound _ _ (chars p) iri c.self.invariant
-    (Binds-inserted c.self.inside.base c.self.inside.limits c.self.inside.names c.insert.new.self c.in_ok-key.key p iri _ c.in_ok-key.ensures.ok c.utf8.prefix i.updates i.old i.len)
+    (Binds-set _ _ (chars p) iri c.set.new.self c.in_ok-set.ensures.set refl)
     (subst (λ (s : InForce). HasRoom s (chars p)) was (rw c.if-not-has_room.false at c.has_room.ensures))
     (subst (λ (n : ℕ). n ≤ 4 * c.self.inside.limits.token) (sym (byte_len-chars p c.utf8.prefix)) (subst (λ (s : InForce). length p ≤ 4 * s.limits.token) was c.requires.short))
     (subst (λ (s : InForce). byte_len iri ≤ s.limits.iri) was c.in_ok-iri.ensures.resolved.1)
 
 pub returns-clause-bound : goal.returns-clause-bound
 returns-clause-bound g c =
-    let p = c.args.prefix.now in
+    let p = chars c.args.prefix.now in
     let iri = c.in_ok-iri.iri in
-    let i = c.in_ok-insert.ensures in
-    let new : InForce = record { base = c.self.inside.base; bindings = entries_of c.insert.new.self.entries; limits = c.self.inside.limits } in (
+    let old : InForce = record { base = c.self.inside.base; bindings = c.self.inside.names; limits = c.self.inside.limits } in
+    let new : InForce = record { base = c.self.inside.base; bindings = c.set.new.self; limits = c.self.inside.limits } in (
       iri,
       c.in_ok-iri.ensures.resolved,
       rw c.if-not-has_room.false at c.has_room.ensures,
-      subst (λ (s : InForce). Binds s (chars p) iri new) c.self.view_is
-          (Binds-inserted c.self.inside.base c.self.inside.limits c.self.inside.names c.insert.new.self c.in_ok-key.key p iri _ c.in_ok-key.ensures.ok c.utf8.prefix i.updates i.old i.len),
+      subst (λ (s : InForce). Binds s p iri new) c.self.view_is (Binds-set old new p iri c.set.new.self c.in_ok-set.ensures.set refl),
     )

@@ -1,12 +1,12 @@
 -- What the scope looked up and joined is the IRI of the name, or why it has none.
 use Rattle.std.proofs.Common.{◌≡◌, ◌∙◌, ◌≤◌, ℕ, Some, None, ap, sym, subst}
 use Rattle.std.specs.Prelude.{OnOk, IfErr}
-use Rattle.std.specs.Option.{option_copied}
 use Rattle.std.specs.Str.{chars}
 use Rattle.std.specs.String.{string_bytes}
 use Rattle.rdf_iri.specs.Texts.{byte_len}
+use Rattle.rdf_iri.specs.Seen.{text_of}
 use Rattle.rdf_iri.specs.Scope.{InForce, bound_to, NotJoined}
-use Rattle.rdf_iri.proofs.ScopeLemmas.{bound_to-text, expands_joined, expands_not}
+use Rattle.rdf_iri.proofs.ScopeLemmas.{expands_joined, expands_not}
 use Rattle.rdf_iri.proofs.scope.Scope.expand_into.Goals as goal
 use Rattle.rdf_iri.proofs.scope.Scope.expand_into.Goals.{After-put_joined}
 use Rattle.rdf_iri.proofs.scope.Scope.expand_into.Given.{Over}
@@ -14,13 +14,13 @@ use Rattle.rdf_iri.proofs.scope.Scope.expand_into.Given.{Over}
 pub returns-in_default-clause-refused : goal.returns-in_default-clause-refused
 returns-in_default-clause-refused g c =
     subst (λ (s : InForce). bound_to s.bindings (chars c.args.prefix.now) ≡ None) c.self.view_is
-    (bound_to-text c.self.inside.names c.args.prefix.now c.utf8.prefix ∙ (sym c.get.ensures.value ∙ ap option_copied c.in_default.is))
+    (sym c.get.ensures ∙ ap text_of c.in_default.is)
 
 -- the prefix is bound to the text that was found
 found : (g : Over) (c : After-put_joined g) → bound_to c.args.self.now.bindings (chars c.args.prefix.now) ≡ Some c.in-Some.front.now
 found g c =
     subst (λ (s : InForce). bound_to s.bindings (chars c.args.prefix.now) ≡ Some c.in-Some.front.now) c.self.view_is
-    (bound_to-text c.self.inside.names c.args.prefix.now c.utf8.prefix ∙ (sym c.get.ensures.value ∙ ap option_copied c.in-Some.is))
+    (sym c.get.ensures ∙ ap text_of c.in-Some.is)
 
 -- the limit of the call is the scope's
 limit : (g : Over) (c : After-put_joined g) → c.iri.result ≡ c.args.self.now.limits.iri

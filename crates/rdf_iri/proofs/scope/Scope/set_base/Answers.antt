@@ -1,10 +1,10 @@
 -- A base that has grown is what the reference stands for; any other is replaced.
 use Rattle.std.proofs.Common.{◌≡◌, ◌∙◌, ℕ, List, Option, Some, ap, sym, subst}
-use Rattle.std.specs.Prelude.{OnOk, IfErr, String}
+use Rattle.std.specs.Prelude.{OnOk, IfErr}
 use Rattle.std.specs.Str.{chars}
 use Rattle.rdf_iri.specs.Limits.{Sizes}
 use Rattle.rdf_iri.specs.Faults.{Unresolved}
-use Rattle.rdf_iri.specs.Scope.{InForce, UnresolvedHere, IsBased, entries_of}
+use Rattle.rdf_iri.specs.Scope.{InForce, UnresolvedHere, IsBased}
 use Rattle.rdf_iri.proofs.scope.Scope.set_base.Goals as goal
 use Rattle.rdf_iri.proofs.scope.Scope.set_base.Goals.{After-replace_base, in_default-via-in-Some+else-grows_by, in_default-via-in_default}
 use Rattle.rdf_iri.proofs.scope.Scope.set_base.Given.{Over}
@@ -17,14 +17,14 @@ returns-in-Some-clause-refused g c =
     subst (λ (s : InForce). IfErr c.grow.result (UnresolvedHere s w)) c.self.view_is at_base
 
 -- what a scope with these fields is
-abbrev seen : {Z : Type 0} → Option (List ℕ) → List (String Z × List ℕ) → Sizes → InForce
-seen base names limits = record { base = base; bindings = entries_of names; limits = limits }
+abbrev seen : Option (List ℕ) → List (List ℕ × List ℕ) → Sizes → InForce
+seen base names limits = record { base = base; bindings = names; limits = limits }
 
 -- where the base did not grow, the scope is as it was
-same : (g : Over) (c : After-replace_base g) → seen c.in_default.self-inside.base c.in_default.self-inside.names.entries c.in_default.self-inside.limits ≡ c.args.self.now
+same : (g : Over) (c : After-replace_base g) → seen c.in_default.self-inside.base c.in_default.self-inside.names c.in_default.self-inside.limits ≡ c.args.self.now
 same g c = elim c.in_default.branch [
   | in_default-via-in-Some+else-grows_by w ↦
-      rw w.self-inside-is (ap (λ (b : Option (List ℕ)). seen b c.self.inside.names.entries c.self.inside.limits) (sym w.in-Some.is) ∙ c.self.view_is)
+      rw w.self-inside-is (ap (λ (b : Option (List ℕ)). seen b c.self.inside.names c.self.inside.limits) (sym w.in-Some.is) ∙ c.self.view_is)
   | in_default-via-in_default w ↦ rw w.self-inside-is c.self.view_is
 ]
 

@@ -1,0 +1,45 @@
+// Frames that are used again: a bracket that opens takes over the buffers of one that has ended.
+
+ghost use Rattle.std.specs.Prelude.{◌≡◌, IfOk};
+
+use crate::state::{Container, Frame};
+use std::alloc::{AllocError, Allocator, Global};
+
+/// How many frames are kept.
+const MOST: usize = 8;
+
+/// Frames that are in no use. What stands in their buffers is room for the next texts.
+#[derive(Drop)]
+pub struct Spares<A: Allocator = Global> {
+    frames: Vec<Frame<A>, A>,
+}
+
+impl<A: Allocator> Spares<A> {
+    /// No frames. It takes no memory.
+    pub fn new(alloc: A) -> Spares<A> {
+        Spares {
+            frames: Vec::new(alloc),
+        }
+    }
+
+    /// Keeps a frame, unless there are enough. It takes no memory.
+    pub fn keep(&mut self, frame: Frame<A>) {
+        if self.frames.len() < self.frames.capacity() {
+            self.frames.push_reserved(frame);
+        }
+    }
+}
+
+impl<A: Allocator + Copy> Spares<A> {
+    /// A frame with no list and no collection in it. Where none was kept, room is made for those that will be.
+    pub fn take(&mut self, alloc: A) -> Result<Frame<A>, AllocError>
+        ensures { IfOk result (λ f. f.container ≡ Container.Cells 0 0) }
+    {
+        if let Some(mut frame) = self.frames.pop() {
+            frame.container = Container::none();
+            return Ok(frame);
+        }
+        self.frames.reserve(MOST)?;
+        Ok(Frame::none(alloc))
+    }
+}
