@@ -11,6 +11,7 @@ pub mod OwedHeld
 pub mod SpelledLemmas
 pub mod LocalShapes
 pub mod ColonLemmas
+pub mod Backslashes
 pub mod LookUps
 pub mod AgreeingScopes
 pub mod StartingBase

@@ -13,6 +13,7 @@ mod lists;
 mod names;
 mod objects;
 mod outer;
+mod plain;
 mod reader;
 mod rest;
 mod rules;

@@ -17,12 +17,11 @@ ghost use Rattle.rdf_trig.specs.Holding.{NameFits};
 ghost use Rattle.rdf_trig.specs.Scopes.{IsReference, IsPrefixed, MeansLocal, Names, Unnamed, Binding, NotBinding, Based, Finds, FindsNone, FindsIri, FindsNoIri};
 
 use crate::fault::StepFault;
+use crate::plain::lacks_escapes;
 use crate::spelled::parts;
 use crate::state::{Mode, Outer, State};
 use rdf_iri::{IriFault, Scope};
-use rdf_terms::{
-    IriView, Kind, Known, ValueFault, is_plain_local, known, local_value, put_iri, text_len,
-};
+use rdf_terms::{IriView, Kind, Known, ValueFault, known, local_value, put_iri, text_len};
 use rdf_tokens::Token;
 use std::alloc::{Allocator, Global};
 use std::marker::Model;
@@ -157,7 +156,7 @@ impl<A: Allocator + Copy> Name<A> {
         ensures err { IfErr result (λ r. Unnamed scope.now token.now.kind (leaf token.now) r) }
     {
         let (prefix, local) = parts(token.text);
-        if is_plain_local(local) {
+        if lacks_escapes(local) {
             return Ok(self.expand(scope, prefix, local)?);
         }
         let local = local_text(alloc, local)?;

@@ -9,6 +9,9 @@ use Rattle.rdf_trig.proofs.code.LocalShapes.{token_local}
 use Rattle.rdf_trig.proofs.code.LookUps.{name_names}
 use Rattle.rdf_trig.proofs.names.Name.set_prefixed.Goals as goal
 
+pub lacks_escapes-requires : goal.lacks_escapes-requires
+lacks_escapes-requires g c = subst MeansLocal (sym c.parts.ensures.local) (token_local c.args.token.now c.requires.kind c.requires.token)
+
 pub local_text-requires : goal.local_text-requires
 local_text-requires g c = subst MeansLocal (sym c.parts.ensures.local) (token_local c.args.token.now c.requires.kind c.requires.token)
 
@@ -21,11 +24,11 @@ returns-clause-ok g c =
     (ap chars c.as_str.ensures.value ∙ ap (λ o. unwrap_or o []) (c.in_ok-local.ensures.ok ∙ ap local_value c.parts.ensures.local))
     expanded.2)
 
-pub returns-then-is_plain_local-clause-ok : goal.returns-then-is_plain_local-clause-ok
-returns-then-is_plain_local-clause-ok g c =
+pub returns-then-lacks_escapes-clause-ok : goal.returns-then-lacks_escapes-clause-ok
+returns-then-lacks_escapes-clause-ok g c =
     let expanded = c.in_ok-expand.ensures.expanded in
     subst (Names c.args.scope.now c.args.token.now.kind (leaf c.args.token.now)) (sym expanded.1)
     (name_names c.args.scope.now c.args.token.now.kind (leaf c.args.token.now) (chars c.parts.result.0.now) (chars c.parts.result.1.now) expanded.0 c.requires.kind
     c.parts.ensures.prefix
-    (ap (λ o. unwrap_or o []) (sym (c.is_plain_local.ensures.value c.if-is_plain_local.true) ∙ ap local_value c.parts.ensures.local))
+    (ap (λ o. unwrap_or o []) (sym (c.lacks_escapes.ensures.value c.if-lacks_escapes.true) ∙ ap local_value c.parts.ensures.local))
     expanded.2)
