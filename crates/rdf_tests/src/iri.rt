@@ -1,12 +1,11 @@
 // Worked references, and a scope that lives through refusals.
 
-ghost use Rattle.std.specs.Prelude.{◌≡◌, ◌≤◌, IfOk};
-ghost use Rattle.rdf_iri.specs.Texts.{byte_len};
+ghost use Rattle.std.specs.Prelude.{◌≡◌, ◌≤◌};
 
 use rdf_iri::{
     BindingReason, IriFault, Limits, Parts, Scope, has_scheme, read_bindings, resolve, split,
 };
-use rdf_terms::{Iri, TermFault, iri_text};
+use rdf_terms::{Iri, iri_text};
 use std::alloc::Global;
 
 /// An IRI, or why there is none.
@@ -58,53 +57,28 @@ static REFERENCES: [(&str, &str); 42] = [
     ("http:g", "http:g"),
 ];
 
-/// What the RFC's examples leave out: bases without a path, an authority or a slash, texts that are not ASCII, and dots
-/// in a reference that is kept.
-static OTHER_BASES: [(&str, &str, &str); 9] = [
-    ("http://a", "g", "http://a/g"),
-    ("a:b/c", "d", "a:b/d"),
-    ("a:b", "../c", "a:c"),
-    ("a:b/c", "../d", "a:/d"),
-    ("a:/b", "/.//c", "a://c"),
-    ("http://a/b#c", "", "http://a/b"),
-    ("http://é/ß/x", "ü", "http://é/ß/ü"),
-    ("http://é/ß/", "../ü?ö#ä", "http://é/ü?ö#ä"),
-    ("http://a/b", "http://c/d/../e", "http://c/d/../e"),
+/// What the RFC's examples leave out: bases without a path, an authority or a slash, texts that are not ASCII, dots in a reference that is kept, no
+/// base at all, and limits, which count the result alone.
+static OTHERS: [(&str, &str, u64, Answer); 14] = [
+    ("http://a", "g", 100, Ok("http://a/g")),
+    ("a:b/c", "d", 100, Ok("a:b/d")),
+    ("a:b", "../c", 100, Ok("a:c")),
+    ("a:b/c", "../d", 100, Ok("a:/d")),
+    ("a:/b", "/.//c", 100, Ok("a://c")),
+    ("http://a/b#c", "", 100, Ok("http://a/b")),
+    ("http://é/ß/x", "ü", 100, Ok("http://é/ß/ü")),
+    ("http://é/ß/", "../ü?ö#ä", 100, Ok("http://é/ü?ö#ä")),
+    ("http://a/b", "http://c/d/../e", 100, Ok("http://c/d/../e")),
+    ("", "s", 100, Err(IriFault::NoBase)),
+    (BASE, "g", 14, Ok("http://a/b/c/g")),
+    (BASE, "g", 13, Err(IriFault::IriTooLong)),
+    (BASE, "../../../../g", 10, Ok("http://a/g")),
+    (BASE, "g:h", 2, Err(IriFault::IriTooLong)),
 ];
 
 const BASE: &str = "http://a/b/c/d;p?q";
 
-fn iri(alloc: Global, text: &str) -> Result<Iri, IriFault> {
-    match Iri::new(alloc, text) {
-        Ok(iri) => Ok(iri),
-        Err(TermFault::BadTerm) => Err(IriFault::NoBase),
-        Err(TermFault::Memory) => Err(IriFault::Memory),
-    }
-}
-
-/// The IRI of a reference, which has only characters of an IRIREF, against the base.
-fn against(alloc: Global, base: &str, reference: &str, limit: u64) -> Result<Iri, IriFault> {
-    let base = iri(alloc, base)?;
-    if iri_text(reference) {
-        resolve(alloc, Some(&base), reference, limit)
-    } else {
-        Err(IriFault::NoBase)
-    }
-}
-
-/// The IRI itself, as a reference without a base.
-fn absolute(alloc: Global, text: &str, limit: u64) -> Result<Iri, IriFault>
-    ensures { IfOk result (λ iri. byte_len iri ≤ limit) }
-{
-    let none: Option<&Iri> = None;
-    if iri_text(text) {
-        resolve(alloc, none, text, limit)
-    } else {
-        Err(IriFault::Memory)
-    }
-}
-
-/// Whether these are the IRIs, or the refusals.
+/// Whether this is the IRI, or the refusal.
 fn is_answered(iri: Result<Iri, IriFault>, wanted: Answer) -> bool {
     match (iri, wanted) {
         (Ok(iri), Ok(text)) => iri.as_str() == text,
@@ -113,41 +87,23 @@ fn is_answered(iri: Result<Iri, IriFault>, wanted: Answer) -> bool {
     }
 }
 
+/// Whether this is the IRI of a reference against the base, or against none where that is empty, or why there is none.
+fn resolves(alloc: Global, base: &str, reference: &str, limit: u64, wanted: Answer) -> bool {
+    let base = Iri::new(alloc, base).ok();
+    iri_text(reference) && is_answered(resolve(alloc, base.as_ref(), reference, limit), wanted)
+}
+
 #[test]
-fn the_references_of_the_rfc(rt: HostRuntime) {
+fn references_against_bases(rt: HostRuntime) {
     for (reference, wanted) in REFERENCES.as_slice() {
         assert!(rt;
-            is_answered(against(rt.alloc(), BASE, reference, 100), Ok(wanted)),
+            resolves(rt.alloc(), BASE, reference, 100, Ok(wanted)),
             "{reference}"
         );
     }
-}
-
-#[test]
-fn references_against_other_bases(rt: HostRuntime) {
-    for (base, reference, wanted) in OTHER_BASES.as_slice() {
+    for (base, reference, limit, wanted) in OTHERS.as_slice() {
         assert!(rt;
-            is_answered(against(rt.alloc(), base, reference, 100), Ok(wanted)),
-            "{reference}"
-        );
-    }
-}
-
-#[test]
-fn a_reference_without_scheme_and_base(rt: HostRuntime) {
-    assert!(rt; is_answered(absolute(rt.alloc(), "s", 100), Err(IriFault::NoBase)));
-}
-
-#[test]
-fn the_limit_counts_the_result_alone(rt: HostRuntime) {
-    for (reference, limit, wanted) in [
-        ("g", 14, Ok("http://a/b/c/g")),
-        ("g", 13, Err(IriFault::IriTooLong)),
-        ("../../../../g", 10, Ok("http://a/g")),
-        ("g:h", 2, Err(IriFault::IriTooLong)),
-    ] {
-        assert!(rt;
-            is_answered(against(rt.alloc(), BASE, reference, limit), wanted),
+            resolves(rt.alloc(), base, reference, *limit, *wanted),
             "{reference}"
         );
     }
@@ -272,94 +228,119 @@ fn answers(scope: &mut Scope, call: Call, wanted: Answer) -> bool
     }
 }
 
-/// How many of the calls, one after another, the scope answers as is wanted.
-fn answered(scope: &mut Scope, calls: &[(Call, Answer)]) -> usize
-    requires { 1 ≤ scope.old.limits.token }
-{
-    for i in 0..calls.len() {
-        let (call, wanted) = calls[i];
-        if !answers(scope, call, wanted) {
-            return i;
+/// A file of bindings, limits on bindings and IRIs, and calls, one after another.
+struct Script {
+    file: &'static [u8],
+    bindings: u64,
+    iri: u64,
+    calls: &'static [(Call, Answer)],
+}
+
+/// How many of the calls a scope that starts with no base and the file's bindings answers as is wanted.
+fn answered(alloc: Global, script: &Script) -> Option<usize> {
+    let limits = Limits::new(9, 0, script.bindings, script.iri)?;
+    let bindings = read_bindings(alloc, limits, script.file).ok()?;
+    let mut scope = Scope::starting(alloc, None, limits, bindings);
+    for i in 0..script.calls.len() {
+        let (call, wanted) = script.calls[i];
+        if !answers(&mut scope, call, wanted) {
+            return Some(i);
         }
     }
-    calls.len()
+    Some(script.calls.len())
 }
 
-static ONE_BINDING: [(Call, Answer); 10] = [
-    (Call::Bind("x", "../x/"), Ok("")),
-    (Call::Expand("x", "b~c"), Ok("http://a/b/x/b~c")),
-    (Call::Expand("z", "b"), Err(IriFault::Unbound)),
-    (Call::SetBase("../../z"), Ok("")),
-    (Call::Expand("x", "b"), Ok("http://a/b/x/b")),
-    (Call::Resolve("y"), Ok("http://a/y")),
-    (Call::Bind("y", "k"), Err(IriFault::TooManyBindings)),
-    (Call::Expand("x", "b"), Ok("http://a/b/x/b")),
-    (Call::Bind("x", "k"), Ok("")),
-    (Call::Expand("x", "b"), Ok("http://a/kb")),
+/// One binding alone; refusals, which change nothing; a base that grows by paths, and references that cannot be written after it; and bindings at
+/// the start, of which the last of a prefix counts.
+static SCRIPTS: [Script; 4] = [
+    Script {
+        file: b"",
+        bindings: 1,
+        iri: 100,
+        calls: &[
+            (Call::SetBase(BASE), Ok("")),
+            (Call::Bind("x", "../x/"), Ok("")),
+            (Call::Expand("x", "b~c"), Ok("http://a/b/x/b~c")),
+            (Call::Expand("z", "b"), Err(IriFault::Unbound)),
+            (Call::SetBase("../../z"), Ok("")),
+            (Call::Expand("x", "b"), Ok("http://a/b/x/b")),
+            (Call::Resolve("y"), Ok("http://a/y")),
+            (Call::Bind("y", "k"), Err(IriFault::TooManyBindings)),
+            (Call::Expand("x", "b"), Ok("http://a/b/x/b")),
+            (Call::Bind("x", "k"), Ok("")),
+            (Call::Expand("x", "b"), Ok("http://a/kb")),
+        ],
+    },
+    Script {
+        file: b"",
+        bindings: 2,
+        iri: 10,
+        calls: &[
+            (Call::SetBase("g"), Err(IriFault::NoBase)),
+            (Call::Bind("", "g"), Err(IriFault::NoBase)),
+            (Call::SetBase("a:/b/c"), Ok("")),
+            (Call::Bind("", "g/"), Ok("")),
+            (Call::SetBase("dddddddd"), Err(IriFault::IriTooLong)),
+            (Call::Bind("", "dddddddd"), Err(IriFault::IriTooLong)),
+            (Call::Resolve("h"), Ok("a:/b/h")),
+            (Call::Expand("", "h"), Ok("a:/b/g/h")),
+            (Call::Expand("", "hhhhh"), Err(IriFault::IriTooLong)),
+        ],
+    },
+    Script {
+        file: b"",
+        bindings: 2,
+        iri: 20,
+        calls: &[
+            (Call::SetBase("http://a"), Ok("")),
+            (Call::SetBase("b/"), Ok("")),
+            (Call::Resolve(""), Ok("http://a/b/")),
+            (Call::SetBase("c/é/"), Ok("")),
+            (Call::Resolve(""), Ok("http://a/b/c/é/")),
+            (Call::SetBase("d/../"), Ok("")),
+            (Call::Resolve(""), Ok("http://a/b/c/é/")),
+            (Call::SetBase("d"), Ok("")),
+            (Call::SetBase("e/"), Ok("")),
+            (Call::Resolve(""), Ok("http://a/b/c/é/e/")),
+            (Call::SetBase("/f/"), Ok("")),
+            (Call::SetBase("g?h/"), Ok("")),
+            (Call::SetBase("i/"), Ok("")),
+            (Call::Resolve(""), Ok("http://a/f/i/")),
+            (Call::SetBase("jjjjjjj/"), Err(IriFault::IriTooLong)),
+            (Call::Resolve(""), Ok("http://a/f/i/")),
+            (Call::SetBase("jjjjjj/"), Ok("")),
+            (Call::Resolve(""), Ok("http://a/f/i/jjjjjj/")),
+            (Call::SetBase("//k/"), Ok("")),
+            (Call::SetBase("l/"), Ok("")),
+            (Call::Resolve(""), Ok("http://k/l/")),
+            (Call::SetBase("m:./"), Ok("")),
+            (Call::SetBase("n/"), Ok("")),
+            (Call::Resolve(""), Ok("m:n/")),
+        ],
+    },
+    Script {
+        file: b"x: http://x/\r\n: http://e/\r\nx: http://y/",
+        bindings: 2,
+        iri: 100,
+        calls: &[
+            (Call::Expand("x", "s"), Ok("http://y/s")),
+            (Call::Expand("", "p"), Ok("http://e/p")),
+            (Call::Bind("x", "http://z/"), Ok("")),
+            (Call::Expand("x", "s"), Ok("http://z/s")),
+        ],
+    },
 ];
 
 #[test]
-fn a_scope_with_one_binding(rt: HostRuntime) -> Result<(), IriFault> {
-    let limits = Limits::new(1, 0, 1, 100).unwrap_or_default();
-    let base = absolute(rt.alloc(), BASE, limits.iri())?;
-    let mut scope = Scope::new(rt.alloc(), Some(base), limits);
-    assert_eq!(rt; answered(&mut scope, ONE_BINDING.as_slice()), 10);
-    Ok(())
-}
-
-/// A refused call changes nothing.
-static REFUSED: [(Call, Answer); 9] = [
-    (Call::SetBase("g"), Err(IriFault::NoBase)),
-    (Call::Bind("", "g"), Err(IriFault::NoBase)),
-    (Call::SetBase("a:/b/c"), Ok("")),
-    (Call::Bind("", "g/"), Ok("")),
-    (Call::SetBase("dddddddd"), Err(IriFault::IriTooLong)),
-    (Call::Bind("", "dddddddd"), Err(IriFault::IriTooLong)),
-    (Call::Resolve("h"), Ok("a:/b/h")),
-    (Call::Expand("", "h"), Ok("a:/b/g/h")),
-    (Call::Expand("", "hhhhh"), Err(IriFault::IriTooLong)),
-];
-
-#[test]
-fn a_refused_call_changes_nothing(rt: HostRuntime) {
-    let limits = Limits::new(1, 0, 2, 10).unwrap_or_default();
-    let mut scope = Scope::new(rt.alloc(), None, limits);
-    assert_eq!(rt; answered(&mut scope, REFUSED.as_slice()), 9);
-}
-
-/// A base that grows by paths, and references that cannot be written after it.
-static GROWING: [(Call, Answer); 24] = [
-    (Call::SetBase("http://a"), Ok("")),
-    (Call::SetBase("b/"), Ok("")),
-    (Call::Resolve(""), Ok("http://a/b/")),
-    (Call::SetBase("c/é/"), Ok("")),
-    (Call::Resolve(""), Ok("http://a/b/c/é/")),
-    (Call::SetBase("d/../"), Ok("")),
-    (Call::Resolve(""), Ok("http://a/b/c/é/")),
-    (Call::SetBase("d"), Ok("")),
-    (Call::SetBase("e/"), Ok("")),
-    (Call::Resolve(""), Ok("http://a/b/c/é/e/")),
-    (Call::SetBase("/f/"), Ok("")),
-    (Call::SetBase("g?h/"), Ok("")),
-    (Call::SetBase("i/"), Ok("")),
-    (Call::Resolve(""), Ok("http://a/f/i/")),
-    (Call::SetBase("jjjjjjj/"), Err(IriFault::IriTooLong)),
-    (Call::Resolve(""), Ok("http://a/f/i/")),
-    (Call::SetBase("jjjjjj/"), Ok("")),
-    (Call::Resolve(""), Ok("http://a/f/i/jjjjjj/")),
-    (Call::SetBase("//k/"), Ok("")),
-    (Call::SetBase("l/"), Ok("")),
-    (Call::Resolve(""), Ok("http://k/l/")),
-    (Call::SetBase("m:./"), Ok("")),
-    (Call::SetBase("n/"), Ok("")),
-    (Call::Resolve(""), Ok("m:n/")),
-];
-
-#[test]
-fn a_base_that_grows(rt: HostRuntime) {
-    let limits = Limits::new(1, 0, 2, 20).unwrap_or_default();
-    let mut scope = Scope::new(rt.alloc(), None, limits);
-    assert_eq!(rt; answered(&mut scope, GROWING.as_slice()), 24);
+fn a_scope_answers_each_call(rt: HostRuntime) {
+    for i in 0..SCRIPTS.len() {
+        let script = &SCRIPTS[i];
+        assert_eq!(rt;
+            answered(rt.alloc(), script),
+            Some(script.calls.len()),
+            "script {i}"
+        );
+    }
 }
 
 /// Limits on tokens, bindings and IRIs, a file, and why it has no bindings, and at which line, if it has none.
@@ -479,25 +460,5 @@ fn is_read(alloc: Global, file: &File) -> bool {
 fn files_of_bindings(rt: HostRuntime) {
     for i in 0..FILES.len() {
         assert!(rt; is_read(rt.alloc(), &FILES[i]), "file {i}");
-    }
-}
-
-static STARTED: [(Call, Answer); 4] = [
-    (Call::Expand("x", "s"), Ok("http://y/s")),
-    (Call::Expand("", "p"), Ok("http://e/p")),
-    (Call::Bind("x", "http://z/"), Ok("")),
-    (Call::Expand("x", "s"), Ok("http://z/s")),
-];
-
-#[test]
-fn a_scope_that_starts_with_bindings(rt: HostRuntime) {
-    let limits = Limits::default();
-    let file = b"x: http://x/\r\n: http://e/\r\nx: http://y/";
-    match read_bindings(rt.alloc(), limits, file) {
-        Ok(bindings) => {
-            let mut scope = Scope::starting(rt.alloc(), None, limits, bindings);
-            assert_eq!(rt; answered(&mut scope, STARTED.as_slice()), 4);
-        }
-        Err(_) => assert!(rt; false, "refused"),
     }
 }

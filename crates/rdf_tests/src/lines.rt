@@ -1,6 +1,6 @@
-// Documents in pieces of all lengths, a sink that fails, and what is answered afterwards.
+// Documents in pieces of all lengths, and what is held of an open statement.
 
-ghost use Rattle.std.specs.Prelude.{◌≡◌, ◌≤◌, true, false, length};
+ghost use Rattle.std.specs.Prelude.{◌≡◌, ◌≤◌, false, length};
 
 use crate::sinks::{RecordingSink, recording_sink};
 use rdf_iri::Limits;
@@ -24,8 +24,8 @@ fn line_reader(alloc: Global, form: LineForm) -> LineReader {
     LineReader::new(alloc, form, limits)
 }
 
-/// Reads a document whose bytes come in two pieces.
-fn read_in_two(
+/// Reads a document whose first bytes come in one piece, and the others one by one.
+fn read(
     reader: &mut LineReader,
     text: &[u8],
     cut: usize,
@@ -35,19 +35,7 @@ fn read_in_two(
     requires live { sink.old.failed ≡ false }
 {
     reader.feed(&text[..cut], sink)?;
-    reader.feed(&text[cut..], sink)?;
-    reader.finish(sink)
-}
-
-/// Reads a document byte by byte.
-fn read_bytes(
-    reader: &mut LineReader,
-    text: &[u8],
-    sink: &mut RecordingSink,
-) -> Result<Summary, Fault>
-    requires { sink.old.failed ≡ false }
-{
-    for byte in text {
+    for byte in &text[cut..] {
         reader.feed(&[*byte], sink)?;
     }
     reader.finish(sink)
@@ -62,30 +50,23 @@ fn is_answered(row: &Row, answer: Result<Summary, Fault>, sink: &RecordingSink) 
     is_answered && sink.lines.as_slice() == row.lines.as_bytes()
 }
 
-fn is_read_in_two(alloc: Global, row: &Row, cut: usize) -> bool
+fn is_read_cut(alloc: Global, row: &Row, cut: usize) -> bool
     requires { cut ≤ length row.now.bytes.now }
 {
     let mut reader = line_reader(alloc, row.form);
     let mut sink = recording_sink(alloc, 64);
-    let answer = read_in_two(&mut reader, row.bytes, cut, &mut sink);
+    let answer = read(&mut reader, row.bytes, cut, &mut sink);
     is_answered(row, answer, &sink)
 }
 
-fn is_read_by_bytes(alloc: Global, row: &Row) -> bool {
-    let mut reader = line_reader(alloc, row.form);
-    let mut sink = recording_sink(alloc, 64);
-    let answer = read_bytes(&mut reader, row.bytes, &mut sink);
-    is_answered(row, answer, &sink)
-}
-
-/// Whether a document puts its lines and tells what it is to, whole, in two pieces at each byte, and byte by byte.
+/// Whether a document puts its lines and reports what it is to, wherever the bytes begin to come one by one.
 fn is_read(alloc: Global, row: &Row) -> bool {
     for cut in 0..=row.bytes.len() {
-        if !is_read_in_two(alloc, row, cut) {
+        if !is_read_cut(alloc, row, cut) {
             return false;
         }
     }
-    is_read_by_bytes(alloc, row)
+    true
 }
 
 const LINE: &str = "<a:s> <a:p> <a:o> .\n";
@@ -190,65 +171,6 @@ fn a_document_is_read_the_same_however_it_is_cut(rt: HostRuntime) {
     }
 }
 
-/// Whether a piece is taken, and these are the lines that are put by then.
-fn is_fed(reader: &mut LineReader, piece: &str, sink: &mut RecordingSink, lines: &str) -> bool
-    requires { sink.old.failed ≡ false }
-    ensures { result ≡ true → sink.new.failed ≡ false }
-{
-    match reader.feed(piece.as_bytes(), sink) {
-        Ok(()) => sink.lines.as_slice() == lines.as_bytes(),
-        Err(_) => false,
-    }
-}
-
-fn comes_at_its_dot(alloc: Global) -> bool {
-    let mut reader = line_reader(alloc, LineForm::NTriples);
-    let mut sink = recording_sink(alloc, 64);
-    let line = "<a:s> <a:p> \"x\"^^<a:t> .\n";
-    is_fed(&mut reader, "<a:s> <a:p> \"x\" ", &mut sink, "")
-        && is_fed(&mut reader, "^^<a:t> ", &mut sink, "")
-        && is_fed(&mut reader, ".", &mut sink, line)
-}
-
-#[test]
-fn a_quad_comes_at_its_dot(rt: HostRuntime) {
-    assert!(rt; comes_at_its_dot(rt.alloc()));
-}
-
-fn feed_has_ended(alloc: Global, reader: &mut LineReader) -> bool {
-    let mut sink = recording_sink(alloc, 64);
-    match reader.feed(b"<a:s> <a:p> <a:o> .", &mut sink) {
-        Ok(()) => false,
-        Err(fault) => fault.reason == Reason::Ended && sink.lines.is_empty(),
-    }
-}
-
-fn finish_has_ended(alloc: Global, reader: &mut LineReader) -> bool {
-    let mut sink = recording_sink(alloc, 64);
-    match reader.finish(&mut sink) {
-        Ok(_) => false,
-        Err(fault) => fault.reason == Reason::Ended && sink.lines.is_empty(),
-    }
-}
-
-/// Whether each call tells that reading has ended, and puts nothing.
-fn has_ended(alloc: Global, reader: &mut LineReader) -> bool {
-    feed_has_ended(alloc, reader) && finish_has_ended(alloc, reader)
-}
-
-/// Whether a sink that has room for so many quads has these lines, is the reason, and reading has ended after it.
-fn ends_at_its_sink(alloc: Global, room: u64, lines: &str) -> bool {
-    let mut reader = line_reader(alloc, LineForm::NTriples);
-    let mut sink = recording_sink(alloc, room);
-    let text = b"<a:s> <a:p> <a:o> .\n<a:s> <a:p> <a:o> .";
-    match read_bytes(&mut reader, text, &mut sink) {
-        Err(fault) if fault.reason == Reason::Sink => {
-            sink.lines.as_slice() == lines.as_bytes() && has_ended(alloc, &mut reader)
-        }
-        _ => false,
-    }
-}
-
 /// How many bytes a reader holds that was fed a text, whether it was refused or not.
 fn held_after(alloc: Global, text: &str) -> u64 {
     let mut reader = line_reader(alloc, LineForm::NQuads);
@@ -270,26 +192,5 @@ fn the_texts_of_an_open_statement_are_held(rt: HostRuntime) {
         ("<a:s> <a:p> x", 7),
     ] {
         assert_eq!(rt; held_after(rt.alloc(), text), held, "{text}");
-    }
-}
-
-#[test]
-fn after_a_failed_put_reading_has_ended(rt: HostRuntime) {
-    for (room, lines) in [(0, ""), (1, LINE)] {
-        assert!(rt; ends_at_its_sink(rt.alloc(), room, lines), "{lines}");
-    }
-}
-
-fn has_ended_after(alloc: Global, text: &str) -> bool {
-    let mut reader = line_reader(alloc, LineForm::NTriples);
-    let mut sink = recording_sink(alloc, 64);
-    let _ = read_bytes(&mut reader, text.as_bytes(), &mut sink);
-    has_ended(alloc, &mut reader)
-}
-
-#[test]
-fn after_a_refusal_and_after_the_end_reading_has_ended(rt: HostRuntime) {
-    for text in ["<a:s> . ", "<a:s> <a:p> <a:o> ."] {
-        assert!(rt; has_ended_after(rt.alloc(), text), "{text}");
     }
 }

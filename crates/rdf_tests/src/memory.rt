@@ -86,10 +86,8 @@ fn put_values<A: Allocator + Copy>(alloc: A) -> Result<(), Stop> {
     Ok(())
 }
 
-/// Terms, values of escapes, and IRIs of references.
+/// Terms and values of escapes.
 fn make_terms<A: Allocator + Copy>(alloc: A) -> Result<(), Stop> {
-    put_values(alloc)?;
-    let base = Iri::new(alloc, "http://h/b/c")?;
     Label::new(alloc, "x.y")?;
     Tag::new(alloc, "en-GB")?;
     string_value(alloc, "a value")?;
@@ -101,11 +99,24 @@ fn make_terms<A: Allocator + Copy>(alloc: A) -> Result<(), Stop> {
     iri_value(alloc, "http://a/\\u0073\\U00000074")?;
     local_value(alloc, "b%20c")?;
     local_value(alloc, "b%20\\~c")?;
+    Ok(())
+}
+
+/// The IRI of a reference against a base.
+fn resolve_one<A: Allocator + Copy>(alloc: A, reference: &str) -> Result<(), Stop> {
+    if !iri_text(reference) {
+        return Err(Stop::Wrong);
+    }
+    let base = Iri::new(alloc, "http://h/b/c")?;
+    match resolve(alloc, Some(&base), reference, 100) {
+        Ok(_) => Ok(()),
+        Err(fault) => Err(Stop::from(fault)),
+    }
+}
+
+fn resolve_references<A: Allocator + Copy>(alloc: A) -> Result<(), Stop> {
     for reference in ["g:h", "../g/./h?y#s", "", "?y"] {
-        if !iri_text(reference) {
-            return Err(Stop::Wrong);
-        }
-        resolve(alloc, Some(&base), reference, 100)?;
+        resolve_one(alloc, reference)?;
     }
     Ok(())
 }
@@ -119,26 +130,45 @@ fn quad<'a>(node: NodeRef<'a>, object: TermRef<'a>) -> QuadRef<'a> {
     }
 }
 
-/// A quad copied, kept and written. Where its line is not appended, those before it stay.
+/// A quad copied and kept.
+fn keep_quad<A: Allocator + Copy>(
+    alloc: A,
+    quad: QuadRef<'_>,
+    list: &mut QuadList<A>,
+) -> Result<(), Stop> {
+    match quad.try_copy(alloc) {
+        Ok(copy) => match list.put(copy.view()) {
+            Ok(()) => Ok(()),
+            Err(fault) => Err(Stop::from(fault)),
+        },
+        Err(_) => Err(Stop::Memory),
+    }
+}
+
+/// A quad written. Where its line is not appended, those before it stay.
+fn append<A: Allocator + Copy>(
+    quad: QuadRef<'_>,
+    escapes: Escapes,
+    out: &mut Vec<u8, A>,
+) -> Result<(), Stop> {
+    let len = out.len();
+    match write_line(quad, Style::Tagged, escapes, out) {
+        Ok(()) => Ok(()),
+        Err(fault) if out.len() == len => Err(Stop::from(fault)),
+        Err(_) => Err(Stop::Wrong),
+    }
+}
+
+/// A quad kept, and written in both forms.
 fn write_quad<A: Allocator + Copy>(
     alloc: A,
     quad: QuadRef<'_>,
     list: &mut QuadList<A>,
     out: &mut Vec<u8, A>,
 ) -> Result<(), Stop> {
-    let copy = quad.try_copy(alloc)?;
-    list.put(copy.view())?;
-    for escapes in [Escapes::Plain, Escapes::Ascii] {
-        let len = out.len();
-        if let Err(fault) = write_line(quad, Style::Tagged, escapes, out) {
-            return Err(if out.len() == len {
-                Stop::from(fault)
-            } else {
-                Stop::Wrong
-            });
-        }
-    }
-    Ok(())
+    keep_quad(alloc, quad, list)?;
+    append(quad, Escapes::Plain, out)?;
+    append(quad, Escapes::Ascii, out)
 }
 
 /// Quads of each kind of term, and the names of their nodes.
@@ -310,19 +340,6 @@ fn read_a_whole<A: Allocator + Copy>(alloc: A, form: DocForm) -> Result<(), Stop
     Ok(())
 }
 
-/// Documents, read in pieces and at once.
-fn read_documents<A: Allocator + Copy>(alloc: A) -> Result<(), Stop> {
-    push_a_token(alloc)?;
-    for form in [LineForm::NTriples, LineForm::NQuads] {
-        read_lines(alloc, form)?;
-    }
-    for form in [DocForm::Turtle, DocForm::TriG] {
-        read_statements(alloc, form)?;
-        read_a_whole(alloc, form)?;
-    }
-    Ok(())
-}
-
 fn options<A: Allocator>(form: DocForm) -> Result<Options<A>, Stop> {
     match Options::new(form, None, Limits::default()) {
         Some(options) => Ok(options),
@@ -348,20 +365,45 @@ pub const STATEMENTS: [&str; 3] = [
 const MOST: u64 = 2000;
 
 /// Calls that follow one another.
-#[derive(Clone, Copy, PartialEq, Eq, Debug)]
+#[derive(Clone, Copy, Debug)]
 enum Task {
+    Values,
     Terms,
+    References,
     Quads,
     Scope,
-    Documents,
+    Token,
+    Lines(LineForm),
+    Statements(DocForm),
+    Whole(DocForm),
 }
+
+static TASKS: [Task; 12] = [
+    Task::Values,
+    Task::Terms,
+    Task::References,
+    Task::Quads,
+    Task::Scope,
+    Task::Token,
+    Task::Lines(LineForm::NTriples),
+    Task::Lines(LineForm::NQuads),
+    Task::Statements(DocForm::Turtle),
+    Task::Statements(DocForm::TriG),
+    Task::Whole(DocForm::Turtle),
+    Task::Whole(DocForm::TriG),
+];
 
 fn run<A: Allocator + Copy>(alloc: A, task: Task) -> Result<(), Stop> {
     match task {
+        Task::Values => put_values(alloc),
         Task::Terms => make_terms(alloc),
+        Task::References => resolve_references(alloc),
         Task::Quads => write_quads(alloc),
         Task::Scope => use_a_scope(alloc),
-        Task::Documents => read_documents(alloc),
+        Task::Token => push_a_token(alloc),
+        Task::Lines(form) => read_lines(alloc, form),
+        Task::Statements(form) => read_statements(alloc, form),
+        Task::Whole(form) => read_a_whole(alloc, form),
     }
 }
 
@@ -380,7 +422,7 @@ fn ends_where_memory_does(rt: &impl Abort, alloc: Global, task: Task) -> bool {
 
 #[test]
 fn memory_is_reported_exactly_where_it_is_refused(rt: HostRuntime) {
-    for task in [Task::Terms, Task::Quads, Task::Scope, Task::Documents] {
-        assert!(rt; ends_where_memory_does(&rt, rt.alloc(), task), "{task:?}");
+    for task in TASKS.as_slice() {
+        assert!(rt; ends_where_memory_does(&rt, rt.alloc(), *task), "{task:?}");
     }
 }

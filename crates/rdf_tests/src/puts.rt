@@ -18,13 +18,24 @@ enum Document {
     Statements(DocForm),
 }
 
-/// What comes of a document of which one put may fail.
-enum Outcome {
-    /// The put failed: this was the answer, after a beginning of the quads, and nothing was put after it.
-    Stopped,
-    /// No put failed, and the quads are so many.
+/// What reading a document comes to, if the next call reports that reading has ended.
+#[derive(Clone, Copy, PartialEq, Eq)]
+enum Answer {
+    /// It is read, and has so many quads.
     Whole(u64),
+    /// The sink failed.
+    Sink,
     Wrong,
+}
+
+impl Answer {
+    fn of(answer: Result<Summary, Fault>) -> Answer {
+        match answer {
+            Ok(summary) => Answer::Whole(summary.quads),
+            Err(fault) if fault.reason == Reason::Sink => Answer::Sink,
+            Err(_) => Answer::Wrong,
+        }
+    }
 }
 
 fn feed_lines(reader: &mut LineReader, sink: &mut RecordingSink) -> Result<Summary, Fault>
@@ -37,39 +48,24 @@ fn feed_lines(reader: &mut LineReader, sink: &mut RecordingSink) -> Result<Summa
     reader.finish(sink)
 }
 
-/// Whether each call tells that reading has ended.
+/// Whether a call reports that reading has ended.
 fn lines_have_ended(reader: &mut LineReader, sink: &mut RecordingSink) -> bool
     requires { reader.old.done ≡ true }
 {
     match reader.feed(b"<a:s> <a:p> <a:o> .\n", sink) {
         Ok(()) => false,
-        Err(fault) => fault.reason == Reason::Ended && lines_have_finished(reader, sink),
-    }
-}
-
-fn lines_have_finished(reader: &mut LineReader, sink: &mut RecordingSink) -> bool
-    requires { reader.old.done ≡ true }
-{
-    match reader.finish(sink) {
-        Ok(_) => false,
         Err(fault) => fault.reason == Reason::Ended,
     }
 }
 
-/// The answer to the lines, if each call after it reports that reading has ended.
-fn answer_to_lines(
-    alloc: Global,
-    form: LineForm,
-    sink: &mut RecordingSink,
-) -> Option<Result<Summary, Fault>>
-    requires { sink.old.failed ≡ false }
-{
+fn put_lines(alloc: Global, form: LineForm, room: u64) -> (Answer, RecordingSink) {
     let mut reader = LineReader::new(alloc, form, Limits::default());
-    let answer = feed_lines(&mut reader, sink);
-    if lines_have_ended(&mut reader, sink) {
-        Some(answer)
+    let mut sink = recording_sink(alloc, room);
+    let answer = Answer::of(feed_lines(&mut reader, &mut sink));
+    if lines_have_ended(&mut reader, &mut sink) {
+        (answer, sink)
     } else {
-        None
+        (Answer::Wrong, sink)
     }
 }
 
@@ -83,92 +79,43 @@ fn feed_statements(reader: &mut TrigReader, sink: &mut RecordingSink) -> Result<
     reader.finish(sink)
 }
 
-/// Whether each call tells that reading has ended.
+/// Whether a call reports that reading has ended.
 fn statements_have_ended(reader: &mut TrigReader, sink: &mut RecordingSink) -> bool
     requires { reader.old.done ≡ true }
 {
     match reader.feed(b"<a:s> <a:p> <a:o> .\n", sink) {
         Ok(()) => false,
-        Err(fault) => fault.reason == Reason::Ended && statements_have_finished(reader, sink),
-    }
-}
-
-fn statements_have_finished(reader: &mut TrigReader, sink: &mut RecordingSink) -> bool
-    requires { reader.old.done ≡ true }
-{
-    match reader.finish(sink) {
-        Ok(_) => false,
         Err(fault) => fault.reason == Reason::Ended,
     }
 }
 
-fn statement_reader(alloc: Global, form: DocForm) -> Option<TrigReader> {
-    let options = Options::new(form, None, Limits::default())?;
-    Some(TrigReader::new(alloc, options))
-}
-
-/// The answer to the statements, if each call after it reports that reading has ended.
-fn answer_to_statements(
-    alloc: Global,
-    form: DocForm,
-    sink: &mut RecordingSink,
-) -> Option<Result<Summary, Fault>>
-    requires { sink.old.failed ≡ false }
-{
-    let mut reader = statement_reader(alloc, form)?;
-    let answer = feed_statements(&mut reader, sink);
-    if statements_have_ended(&mut reader, sink) {
-        Some(answer)
-    } else {
-        None
-    }
-}
-
-fn answer_to(
-    alloc: Global,
-    document: Document,
-    sink: &mut RecordingSink,
-) -> Option<Result<Summary, Fault>>
-    requires { sink.old.failed ≡ false }
-{
-    match document {
-        Document::Lines(form) => answer_to_lines(alloc, form, sink),
-        Document::Statements(form) => answer_to_statements(alloc, form, sink),
-    }
-}
-
-/// The lines of a document whose sink has room for each of its quads.
-fn whole_of(alloc: Global, document: Document) -> Option<Vec<u8>> {
-    let mut sink = recording_sink(alloc, MOST);
-    answer_to(alloc, document, &mut sink)?.ok()?;
-    let RecordingSink { lines, .. } = sink;
-    Some(lines)
-}
-
-/// What comes of a document whose sink has room for so many quads and fails at the put after them.
-fn outcome_of(alloc: Global, document: Document, room: u64, whole: &[u8]) -> Outcome {
+fn put_statements(alloc: Global, form: DocForm, room: u64) -> (Answer, RecordingSink) {
     let mut sink = recording_sink(alloc, room);
-    match answer_to(alloc, document, &mut sink) {
-        Some(Ok(summary)) => {
-            if !sink.failed && summary.quads == sink.quads && sink.lines.as_slice() == whole {
-                Outcome::Whole(sink.quads)
-            } else {
-                Outcome::Wrong
-            }
-        }
-        Some(Err(fault)) => {
-            if sink.failed
-                && fault.reason == Reason::Sink
-                && sink.puts == room.saturating_add(1)
-                && whole.starts_with(sink.lines.as_slice())
-            {
-                Outcome::Stopped
-            } else {
-                Outcome::Wrong
-            }
-        }
-        None => Outcome::Wrong,
+    let Some(options) = Options::new(form, None, Limits::default()) else {
+        return (Answer::Wrong, sink);
+    };
+    let mut reader = TrigReader::new(alloc, options);
+    let answer = Answer::of(feed_statements(&mut reader, &mut sink));
+    if statements_have_ended(&mut reader, &mut sink) {
+        (answer, sink)
+    } else {
+        (Answer::Wrong, sink)
     }
+}
+
+/// What a document comes to whose sink has room for so many quads and fails at the put after them.
+fn put(alloc: Global, document: Document, room: u64) -> (Answer, RecordingSink) {
+    match document {
+        Document::Lines(form) => put_lines(alloc, form, room),
+        Document::Statements(form) => put_statements(alloc, form, room),
+    }
+}
+
+/// Whether the sink failed at the put after so many, and has a beginning of the lines.
+fn is_beginning(sink: &RecordingSink, room: u64, whole: &RecordingSink) -> bool {
+    sink.failed
+        && sink.puts == room.saturating_add(1)
+        && whole.lines.as_slice().starts_with(sink.lines.as_slice())
 }
 
 /// More quads than any of these documents has.
@@ -176,15 +123,18 @@ const MOST: u64 = 100;
 
 /// The quads of a document, if reading stops at each put that fails, wherever one does.
 fn quads_of(alloc: Global, document: Document) -> Option<u64> {
-    let whole = whole_of(alloc, document)?;
-    for room in 0..MOST {
-        match outcome_of(alloc, document, room, whole.as_slice()) {
-            Outcome::Stopped => {}
-            Outcome::Whole(quads) => return if quads == room { Some(quads) } else { None },
-            Outcome::Wrong => return None,
+    let (answer, whole) = put(alloc, document, MOST);
+    for room in 0..whole.quads {
+        let (stopped, sink) = put(alloc, document, room);
+        if stopped != Answer::Sink || !is_beginning(&sink, room, &whole) {
+            return None;
         }
     }
-    None
+    if answer == Answer::Whole(whole.quads) {
+        Some(whole.quads)
+    } else {
+        None
+    }
 }
 
 #[test]

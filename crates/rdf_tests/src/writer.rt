@@ -5,7 +5,6 @@ use rdf_terms::{
     Iri, IriView, Label, LabelView, LiteralRef, NodeRef, QuadRef, SubjectRef, Tag, TailRef, TermRef,
 };
 use std::alloc::Global;
-use std::test::Fail;
 
 /// Whether the node has this name, or none where none is wanted, since it has no label.
 fn is_named(alloc: Global, node: NodeRef<'_>, style: Style, wanted: Option<&str>) -> bool {
@@ -15,21 +14,82 @@ fn is_named(alloc: Global, node: NodeRef<'_>, style: Style, wanted: Option<&str>
     }
 }
 
-#[test]
-fn a_node_is_named_by_its_style(rt: HostRuntime) -> Result<(), Fail> {
-    let label = Label::new(rt.alloc(), "x")?;
-    let node = NodeRef::Label(label.view());
-    for (node, style, name) in [
-        (node, Style::Kept, Some("_:x")),
-        (node, Style::Tagged, Some("_:nx")),
-        (NodeRef::Anon(27), Style::Tagged, Some("_:a27")),
-        (NodeRef::Cell(7), Style::Tagged, Some("_:c7")),
-        (NodeRef::Anon(27), Style::Kept, None),
-        (NodeRef::Cell(7), Style::Kept, None),
-    ] {
-        assert!(rt; is_named(rt.alloc(), node, style, name));
+fn has_names(alloc: Global, label: LabelView<'_>) -> bool {
+    let node = NodeRef::Label(label);
+    is_named(alloc, node, Style::Kept, Some("_:x"))
+        && is_named(alloc, node, Style::Tagged, Some("_:nx"))
+}
+
+fn labels_have_names(alloc: Global) -> bool {
+    match Label::new(alloc, "x") {
+        Ok(label) => has_names(alloc, label.view()),
+        Err(_) => false,
     }
-    Ok(())
+}
+
+#[test]
+fn a_node_is_named_by_its_style(rt: HostRuntime) {
+    let (anon, cell) = (NodeRef::Anon(27), NodeRef::Cell(7));
+    assert!(rt; labels_have_names(rt.alloc()));
+    assert!(rt; is_named(rt.alloc(), anon, Style::Tagged, Some("_:a27")));
+    assert!(rt; is_named(rt.alloc(), cell, Style::Tagged, Some("_:c7")));
+    assert!(rt; is_named(rt.alloc(), anon, Style::Kept, None));
+    assert!(rt; is_named(rt.alloc(), cell, Style::Kept, None));
+}
+
+/// A quad of a node and its line. Its subject has this label, its literal this lexical form and the tag `en` or the IRI as its type, which
+/// is also its predicate and its graph.
+struct Row {
+    escapes: Escapes,
+    label: &'static str,
+    iri: &'static str,
+    lexical: &'static str,
+    is_tagged: bool,
+    line: &'static str,
+}
+
+static ROWS: [Row; 4] = [
+    Row {
+        escapes: Escapes::Plain,
+        label: "x",
+        iri: "a:b",
+        lexical: "A",
+        is_tagged: true,
+        line: "_:x <a:b> \"A\"@en <a:b> .\n",
+    },
+    Row {
+        escapes: Escapes::Plain,
+        label: "x",
+        iri: "a:b",
+        lexical: "1",
+        is_tagged: false,
+        line: "_:x <a:b> \"1\"^^<a:b> <a:b> .\n",
+    },
+    Row {
+        escapes: Escapes::Plain,
+        label: "\u{E9}",
+        iri: "http://www.w3.org/2001/XMLSchema#string",
+        lexical: "\u{E9}\"\\\n\r\t'",
+        is_tagged: false,
+        line: "_:\u{E9} <http://www.w3.org/2001/XMLSchema#string> \"\u{E9}\\\"\\\\\\n\\r\t'\" <http://www.w3.org/2001/XMLSchema#string> .\n",
+    },
+    Row {
+        escapes: Escapes::Ascii,
+        label: "\u{E9}",
+        iri: "http://a/\u{E9}",
+        lexical: "\u{1F600}\u{FFFF}\u{10000}\n\u{7F}",
+        is_tagged: false,
+        line: "_:\u{E9} <http://a/\\u00E9> \"\\U0001F600\\uFFFF\\U00010000\\n\u{7F}\"^^<http://a/\\u00E9> <http://a/\\u00E9> .\n",
+    },
+];
+
+fn quad<'a>(label: LabelView<'a>, iri: IriView<'a>, object: TermRef<'a>) -> QuadRef<'a> {
+    QuadRef {
+        subject: SubjectRef::Node(NodeRef::Label(label)),
+        predicate: iri,
+        object,
+        graph: Some(SubjectRef::Iri(iri)),
+    }
 }
 
 /// Whether this is the line of a quad with its labels kept.
@@ -41,90 +101,61 @@ fn has_line(alloc: Global, quad: QuadRef<'_>, escapes: Escapes, line: &str) -> b
     }
 }
 
-fn of_literal<'a>(iri: IriView<'a>, lexical: &'a str, tail: TailRef<'a>) -> QuadRef<'a> {
-    QuadRef {
+fn is_written(alloc: Global, row: &Row) -> bool {
+    let Ok(label) = Label::new(alloc, row.label) else {
+        return false;
+    };
+    let Ok(iri) = Iri::new(alloc, row.iri) else {
+        return false;
+    };
+    let Ok(tag) = Tag::new(alloc, "en") else {
+        return false;
+    };
+    let tail = if row.is_tagged {
+        TailRef::Lang(tag.view())
+    } else {
+        TailRef::Typed(iri.view())
+    };
+    let object = TermRef::Literal(LiteralRef::new(row.lexical, tail));
+    has_line(
+        alloc,
+        quad(label.view(), iri.view(), object),
+        row.escapes,
+        row.line,
+    )
+}
+
+#[test]
+fn a_line_has_its_escapes_its_tag_or_its_type(rt: HostRuntime) {
+    for i in 0..ROWS.len() {
+        assert!(rt; is_written(rt.alloc(), &ROWS[i]), "line {i}");
+    }
+}
+
+/// Whether the line of a quad with a node is appended in one style, and in the other, which has no name for the node, nothing is.
+fn is_whole_or_not_at_all(alloc: Global, iri: IriView<'_>) -> bool {
+    let quad = QuadRef {
         subject: SubjectRef::Iri(iri),
         predicate: iri,
-        object: TermRef::Literal(LiteralRef { lexical, tail }),
-        graph: None,
-    }
-}
-
-#[test]
-fn a_literal_has_its_escapes_and_its_tag_or_type(rt: HostRuntime) -> Result<(), Fail> {
-    let iri = Iri::new(rt.alloc(), "a:b")?;
-    let string = Iri::new(rt.alloc(), "http://www.w3.org/2001/XMLSchema#string")?;
-    let tag = Tag::new(rt.alloc(), "base")?;
-    for (lexical, tail, line) in [
-        ("A", TailRef::Lang(tag.view()), "<a:b> <a:b> \"A\"@base .\n"),
-        (
-            "1",
-            TailRef::Typed(iri.view()),
-            "<a:b> <a:b> \"1\"^^<a:b> .\n",
-        ),
-        ("", TailRef::Typed(string.view()), "<a:b> <a:b> \"\" .\n"),
-        (
-            "\u{e9}\"\\\n\r\t'",
-            TailRef::Typed(string.view()),
-            "<a:b> <a:b> \"\u{e9}\\\"\\\\\\n\\r\t'\" .\n",
-        ),
-    ] {
-        let quad = of_literal(iri.view(), lexical, tail);
-        assert!(rt; has_line(rt.alloc(), quad, Escapes::Plain, line), "{line}");
-    }
-    Ok(())
-}
-
-fn of_all_kinds<'a>(label: LabelView<'a>, iri: IriView<'a>, lexical: &'a str) -> QuadRef<'a> {
-    QuadRef {
-        subject: SubjectRef::Node(NodeRef::Label(label)),
-        predicate: iri,
-        object: TermRef::Literal(LiteralRef {
-            lexical,
-            tail: TailRef::Typed(iri),
-        }),
-        graph: Some(SubjectRef::Iri(iri)),
-    }
-}
-
-const IN_ASCII: &str =
-    "_:\u{E9} <http://a/\\u00E9> \"\\U0001F600\\uFFFF\\U00010000\\n\u{7F}\"^^<http://a/\\u00E9> <http://a/\\u00E9> .\n";
-
-#[test]
-fn a_line_in_ascii_has_escapes_but_in_labels(rt: HostRuntime) -> Result<(), Fail> {
-    let iri = Iri::new(rt.alloc(), "http://a/\u{E9}")?;
-    let label = Label::new(rt.alloc(), "\u{E9}")?;
-    let lexical = "\u{1F600}\u{FFFF}\u{10000}\n\u{7F}";
-    let quad = of_all_kinds(label.view(), iri.view(), lexical);
-    assert!(rt; has_line(rt.alloc(), quad, Escapes::Ascii, IN_ASCII));
-    Ok(())
-}
-
-fn of_nodes<'a>(label: LabelView<'a>, predicate: IriView<'a>) -> QuadRef<'a> {
-    QuadRef {
-        subject: SubjectRef::Node(NodeRef::Label(label)),
-        predicate,
         object: TermRef::Node(NodeRef::Anon(19)),
         graph: Some(SubjectRef::Node(NodeRef::Cell(7))),
-    }
-}
-
-/// Whether the line of the quad is appended in one style, and in the other, which has no names for its nodes, nothing is.
-fn is_whole_or_not_at_all(alloc: Global, quad: QuadRef<'_>, line: &str) -> bool {
+    };
     let mut out = Vec::new(alloc);
     let written = write_line(quad, Style::Tagged, Escapes::Plain, &mut out);
     let refused = write_line(quad, Style::Kept, Escapes::Plain, &mut out);
     written == Ok(())
         && refused == Err(LabelFault::NotLabelled)
-        && out.as_slice() == line.as_bytes()
+        && out.as_slice() == b"<a:b> <a:b> _:a19 _:c7 .\n".as_slice()
+}
+
+fn lines_are_whole(alloc: Global) -> bool {
+    match Iri::new(alloc, "a:b") {
+        Ok(iri) => is_whole_or_not_at_all(alloc, iri.view()),
+        Err(_) => false,
+    }
 }
 
 #[test]
-fn a_line_is_appended_whole_or_not_at_all(rt: HostRuntime) -> Result<(), Fail> {
-    let iri = Iri::new(rt.alloc(), "http://a/p")?;
-    let label = Label::new(rt.alloc(), "a19")?;
-    let quad = of_nodes(label.view(), iri.view());
-    let line = "_:na19 <http://a/p> _:a19 _:c7 .\n";
-    assert!(rt; is_whole_or_not_at_all(rt.alloc(), quad, line));
-    Ok(())
+fn a_line_is_appended_whole_or_not_at_all(rt: HostRuntime) {
+    assert!(rt; lines_are_whole(rt.alloc()));
 }

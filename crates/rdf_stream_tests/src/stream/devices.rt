@@ -14,7 +14,7 @@ pub(crate) struct Parts<'a> {
     calls: u64,
     last: usize,
     ended: bool,
-    failed: bool,
+    pub(crate) failed: bool,
 }
 
 impl<'a> Source for Parts<'a> {
@@ -60,7 +60,7 @@ pub(crate) struct SlowDrain {
     pub(crate) bytes: Vec<u8>,
     room: usize,
     calls: u64,
-    failed: bool,
+    pub(crate) failed: bool,
     pub(crate) flushed: bool,
 }
 
@@ -97,8 +97,8 @@ impl Drain for SlowDrain {
     }
 }
 
-/// All of the bytes, cut after the first of them; at 0 each byte comes alone.
-pub(crate) fn cut_at(bytes: &[u8], cut: usize) -> Parts<'_>
+/// All of the bytes, cut after so many of them; at 0 each byte comes alone. It fails after these calls.
+pub(crate) fn parts_of(bytes: &[u8], cut: usize, calls: u64) -> Parts<'_>
     ensures more { result.ended ≡ false }
     ensures live { result.failed ≡ false }
 {
@@ -106,22 +106,6 @@ pub(crate) fn cut_at(bytes: &[u8], cut: usize) -> Parts<'_>
         bytes,
         part: cut,
         others: if cut == 0 { 1 } else { usize::MAX },
-        calls: u64::MAX,
-        last: 0,
-        ended: false,
-        failed: false,
-    }
-}
-
-/// A byte a call, and a failure after these calls.
-pub(crate) fn failing_source(text: &str, calls: u64) -> Parts<'_>
-    ensures more { result.ended ≡ false }
-    ensures live { result.failed ≡ false }
-{
-    Parts {
-        bytes: text.as_bytes(),
-        part: 1,
-        others: 1,
         calls,
         last: 0,
         ended: false,
@@ -129,51 +113,15 @@ pub(crate) fn failing_source(text: &str, calls: u64) -> Parts<'_>
     }
 }
 
-/// Takes all that it is given.
-pub(crate) fn ample_drain(alloc: Global) -> SlowDrain
-    ensures { result.failed ≡ false }
-{
-    wide_drain(alloc, u64::MAX)
-}
-
-/// Takes all that it is given, and fails after these calls.
-pub(crate) fn wide_drain(alloc: Global, calls: u64) -> SlowDrain
+/// Takes so many bytes a call, and fails after these calls.
+pub(crate) fn slow_drain(alloc: Global, room: usize, calls: u64) -> SlowDrain
     ensures { result.failed ≡ false }
 {
     SlowDrain {
         bytes: Vec::new(alloc),
-        room: usize::MAX,
+        room,
         calls,
         failed: false,
         flushed: false,
-    }
-}
-
-/// A byte a call, and a failure after these calls.
-pub(crate) fn failing_drain(alloc: Global, calls: u64) -> SlowDrain
-    ensures { result.failed ≡ false }
-{
-    SlowDrain {
-        bytes: Vec::new(alloc),
-        room: 1,
-        calls,
-        failed: false,
-        flushed: false,
-    }
-}
-
-/// Gives all that it is asked for, and fails after these calls.
-pub(crate) fn wide_source(bytes: &[u8], calls: u64) -> Parts<'_>
-    ensures more { result.ended ≡ false }
-    ensures live { result.failed ≡ false }
-{
-    Parts {
-        bytes,
-        part: usize::MAX,
-        others: usize::MAX,
-        calls,
-        last: 0,
-        ended: false,
-        failed: false,
     }
 }

@@ -1,19 +1,17 @@
 // Runs of which each growth is refused in turn, and each call of a device fails; and the other calls that can report want of memory.
 
-use super::devices::{ample_drain, cut_at, failing_drain, failing_source};
-use super::runs::{Asked, Run, ended};
-use super::{Task, repeated, run};
+use super::devices::parts_of;
+use super::large::repeated;
+use super::runs::{Asked, End, Outcome, Task, is_alike, run};
 use rdf_iri::Limits;
 use rdf_lines::Fault;
-use rdf_stream::{Drain, Form, LoadFault, Source, StreamFault, load_bindings, report};
+use rdf_stream::{Form, LoadFault, StreamFault, load_bindings, report};
 use rdf_terms::Reason;
 use refusing_alloc::Refusing;
-use std::alloc::{Allocator, Global};
-use std::process::Abort;
-use std::test::Fail;
+use std::alloc::{AllocError, Allocator, Global};
 
 /// Formats, limits of open brackets, and documents.
-const DOCUMENTS: [(Form, u64, &str); 11] = [
+static DOCUMENTS: [(Form, u64, &str); 11] = [
     (
         Form::TriG,
         9,
@@ -72,199 +70,215 @@ const BLOCKS: &str =
     "@prefix : <http://e/> .\n{ :s :p :o . :s :p 'x'@en }\n:g { :s :p ( 1 [ :q :r ] ) . }
 GRAPH _:g { [ :p :o ] a :c . }\n[] { :s :p \"\"\"a\"b\"\"\" }\nBASE <http://h/b>\nGRAPH <g> { }\n<g> { <s> <p> <o>, <?q> ; <r> 1.5 }\n_:x :p _:g .";
 
-/// More growths than any of these runs asks for.
+/// More growths or calls than any of these runs makes.
 const MOST: u64 = 5000;
 
-/// What a run does where memory and devices do not fail.
-fn whole_run(
-    rt: &impl Abort,
-    alloc: Global,
-    task: Task,
-    asked: &Asked,
-    document: &str,
-) -> Result<Run, Fail> {
-    let mut source = cut_at(document.as_bytes(), asked.cut);
-    let mut drain = ample_drain(alloc);
-    let result = run(alloc, task, asked, &mut source, &mut drain);
-    assert!(rt;
-        !matches!(result, Err(StreamFault::Memory)),
-        "{task:?} of {document}"
-    );
-    ended(alloc, result, drain)
+/// What a run meets after some calls: a growth that is refused, a fill that fails, or a put.
+#[derive(Clone, Copy, PartialEq, Eq)]
+enum Met {
+    Growth,
+    Fill,
+    Put,
 }
 
-/// Whichever of the growths is refused, a run ends for want of memory after whole lines of a beginning of what it writes where none is.
-fn ends_where_memory_does(
-    rt: &impl Abort,
-    alloc: Global,
-    task: Task,
-    asked: &Asked,
-    document: &str,
-) -> Result<(), Fail> {
-    let whole = whole_run(rt, alloc, task, asked, document)?;
-    for calls in 0..MOST {
+/// What comes of a run of which a call meets that, and whether one did.
+fn run_that_meets(alloc: Global, asked: &Asked<'_>, met: Met, calls: u64) -> (Outcome, bool) {
+    if met == Met::Growth {
         let memory = Refusing::after(alloc, calls);
-        let mut source = cut_at(document.as_bytes(), asked.cut);
-        let mut drain = ample_drain(alloc);
-        let result = run(&memory, task, asked, &mut source, &mut drain);
-        if !memory.has_refused() {
-            is_same(rt, &ended(alloc, result, drain)?, &whole);
-            return Ok(());
-        }
-        assert!(rt;
-            matches!(result, Err(StreamFault::Memory)),
-            "{task:?} of {document} after {calls} calls"
-        );
-        let lines = drain.bytes.as_slice();
-        assert!(rt; whole.text.as_slice().starts_with(lines));
-        assert!(rt; lines.is_empty() || lines.ends_with(b"\n"));
+        let outcome = run(&memory, alloc, asked);
+        return (outcome, memory.has_refused());
     }
-    Err(Fail::new("each run met a refusal"))
+    let failing = if met == Met::Fill {
+        Asked {
+            cut: 0,
+            fills: calls,
+            ..*asked
+        }
+    } else {
+        Asked {
+            room: 1,
+            puts: calls,
+            ..*asked
+        }
+    };
+    let outcome = run(alloc, alloc, &failing);
+    let has_failed = outcome.has_failed;
+    (outcome, has_failed)
 }
 
-fn is_same(rt: &impl Abort, run: &Run, whole: &Run) {
-    assert_eq!(rt; run.summary, whole.summary);
-    assert_eq!(rt; run.text.as_slice(), whole.text.as_slice());
-    assert_eq!(rt; run.flushed, whole.flushed);
+/// Whether the run ended for what it met, after a beginning of what it writes where it meets nothing: whole lines of it where the drain
+/// did not fail, and else so many bytes.
+fn is_stopped(stopped: &Outcome, met: Met, calls: u64, whole: &Outcome) -> bool {
+    let Some(written) = stopped.text.as_slice().get(..stopped.len) else {
+        return false;
+    };
+    if stopped.flushed || !whole.text.as_slice().starts_with(written) {
+        return false;
+    }
+    match met {
+        Met::Growth => stopped.end == End::Memory && are_lines(written),
+        Met::Fill => stopped.end == End::Read && are_lines(written),
+        Met::Put => stopped.end == End::Write && stopped.len as u64 == calls,
+    }
 }
 
-/// Whichever fill fails, of one byte each, a run ends for it after whole lines of a beginning.
-fn ends_where_its_source_does(
-    rt: &impl Abort,
-    alloc: Global,
-    task: Task,
-    asked: &Asked,
-    document: &str,
-) -> Result<(), Fail> {
-    let whole = whole_run(rt, alloc, task, asked, document)?;
+fn are_lines(written: &[u8]) -> bool {
+    written.is_empty() || written.ends_with(b"\n")
+}
+
+/// Whether a run ends so wherever it meets that, and as it does without where it does not.
+fn ends_where_met(alloc: Global, asked: &Asked<'_>, met: Met) -> bool {
+    let whole = run(alloc, alloc, asked);
     for calls in 0..MOST {
-        let mut source = failing_source(document, calls);
-        let mut drain = ample_drain(alloc);
-        let result = run(alloc, task, asked, &mut source, &mut drain);
-        if !source.failed() {
-            is_same(rt, &ended(alloc, result, drain)?, &whole);
-            return Ok(());
+        let (stopped, has_met) = run_that_meets(alloc, asked, met, calls);
+        if !has_met {
+            return is_alike(&stopped, &whole);
         }
-        assert!(rt;
-            matches!(result, Err(StreamFault::Read)),
-            "{task:?} of {document} after {calls} calls"
-        );
-        let lines = drain.bytes.as_slice();
-        assert!(rt; whole.text.as_slice().starts_with(lines) && !drain.flushed);
-        assert!(rt; lines.is_empty() || lines.ends_with(b"\n"));
+        if !is_stopped(&stopped, met, calls, &whole) {
+            return false;
+        }
     }
-    Err(Fail::new("each run met a failure"))
+    false
 }
 
-/// Whichever put fails, of one byte each, or the flush, a run ends for it after the bytes that were taken before.
-fn ends_where_its_drain_does(
-    rt: &impl Abort,
-    alloc: Global,
-    task: Task,
-    asked: &Asked,
-    document: &str,
-) -> Result<(), Fail> {
-    let whole = whole_run(rt, alloc, task, asked, document)?;
-    for calls in 0..MOST {
-        let mut source = cut_at(document.as_bytes(), asked.cut);
-        let mut drain = failing_drain(alloc, calls);
-        let result = run(alloc, task, asked, &mut source, &mut drain);
-        if !drain.failed() {
-            is_same(rt, &ended(alloc, result, drain)?, &whole);
-            return Ok(());
+/// The tasks, and where their documents are cut; at 0 each byte comes alone.
+static TASKS: [(Task, usize); 6] = [
+    (Task::Convert, 0),
+    (Task::Check, 0),
+    (Task::Show, 0),
+    (Task::Convert, usize::MAX),
+    (Task::Check, usize::MAX),
+    (Task::Show, usize::MAX),
+];
+
+/// The first of the tasks that does not end so over a document with these limits of open brackets, if there is one.
+fn goes_on(alloc: Global, form: Form, depth: u64, document: &str, met: Met) -> Option<Task> {
+    for (task, cut) in TASKS.as_slice() {
+        let asked = Asked {
+            limits: Limits::new(1000, depth, 9, 1000).unwrap_or_default(),
+            cut: *cut,
+            ..Asked::of(*task, form, document.as_bytes())
+        };
+        if !ends_where_met(alloc, &asked, met) {
+            return Some(*task);
         }
-        assert!(rt;
-            matches!(result, Err(StreamFault::Write)),
-            "{task:?} of {document} after {calls} calls"
-        );
-        assert_eq!(rt; drain.bytes.len() as u64, calls);
-        assert!(rt; whole.text.as_slice().starts_with(drain.bytes.as_slice()));
     }
-    Err(Fail::new("each run met a failure"))
+    None
 }
 
 #[test]
-fn whichever_call_of_a_device_fails_the_run_ends_there(rt: HostRuntime) -> Result<(), Fail> {
-    for (form, depth, document) in DOCUMENTS {
-        let limits = Limits::new(1000, depth, 9, 1000).ok_or("limits")?;
-        let asked = Asked::within(form, limits);
-        for task in [Task::Convert, Task::Check, Task::Show] {
-            ends_where_its_source_does(&rt, rt.alloc(), task, &asked, document)?;
-            ends_where_its_drain_does(&rt, rt.alloc(), task, &asked.at(document.len()), document)?;
+fn whichever_call_of_a_device_fails_the_run_ends_there(rt: HostRuntime) {
+    for (form, depth, document) in DOCUMENTS.as_slice() {
+        for met in [Met::Fill, Met::Put] {
+            assert_eq!(rt;
+                goes_on(rt.alloc(), *form, *depth, document, met),
+                None,
+                "{document}"
+            );
         }
     }
-    Ok(())
 }
 
-/// Two reports and a file of bindings. Where a report is not appended, the one before it stays.
-fn report_and_load<A: Allocator + Copy>(alloc: A) -> Result<(), StreamFault> {
+#[test]
+fn whichever_growth_is_refused_memory_is_reported(rt: HostRuntime) {
+    for (form, depth, document) in DOCUMENTS.as_slice() {
+        let stays = goes_on(rt.alloc(), *form, *depth, document, Met::Growth);
+        assert_eq!(rt; stays, None, "{document}");
+    }
+}
+
+#[test]
+fn the_base_is_kept_or_memory_is_reported(rt: HostRuntime) {
+    let asked = Asked {
+        base: "http://a/b",
+        ..Asked::of(Task::Convert, Form::Turtle, b"<c> <d> <#e> .")
+    };
+    assert!(rt; ends_where_met(rt.alloc(), &asked, Met::Growth));
+}
+
+/// Appends two reports, and says whether both are there. Where a report is not appended, the one before it stays.
+fn reports<A: Allocator + Copy>(alloc: A) -> Option<bool> {
     let refused = StreamFault::Refused(Fault {
         reason: Reason::TooManyBindings,
         offset: u64::MAX,
         line: u64::MAX,
     });
     let mut out = Vec::new(alloc);
-    report(alloc, &StreamFault::Read, &mut out)?;
+    report(alloc, &StreamFault::Read, &mut out).ok()?;
     let len = out.len();
-    if let Err(fault) = report(alloc, &refused, &mut out) {
-        return Err(if out.len() == len { fault } else { refused });
+    match report(alloc, &refused, &mut out) {
+        Ok(()) => Some(true),
+        Err(_) if out.len() == len => None,
+        Err(_) => Some(false),
     }
-    let file = "x: http://x/\r\n: http://e/\nx: http://y/";
-    let mut source = cut_at(file.as_bytes(), 9);
+}
+
+/// Loads a file of bindings, and says whether it is none.
+fn loads<A: Allocator + Copy>(alloc: A) -> Option<bool> {
+    let file = b"x: http://x/\r\n: http://e/\nx: http://y/";
+    let mut source = parts_of(file, 9, u64::MAX);
     match load_bindings(alloc, Limits::default(), &mut source) {
-        Ok(_) => Ok(()),
-        Err(LoadFault::Memory) => Err(StreamFault::Memory),
-        Err(_) => Err(refused),
+        Ok(_) => Some(true),
+        Err(LoadFault::Memory) => None,
+        Err(_) => Some(false),
     }
 }
 
+/// Whether both end well, or not for want of memory, where a growth is refused.
+fn ends_well_or_for_memory(alloc: Global, calls: u64) -> (bool, bool) {
+    let memory = Refusing::after(alloc, calls);
+    let reported = reports(&memory);
+    let loaded = loads(&memory);
+    let ends_well = reported == Some(true) && loaded == Some(true);
+    let is_right = reported != Some(false) && loaded != Some(false);
+    (is_right && ends_well != memory.has_refused(), ends_well)
+}
+
 #[test]
-fn a_report_is_appended_whole_or_for_want_of_memory_not_at_all(
-    rt: HostRuntime,
-) -> Result<(), Fail> {
+fn a_report_is_appended_whole_or_for_want_of_memory_not_at_all(rt: HostRuntime) {
     for calls in 0..MOST {
-        let memory = Refusing::after(rt.alloc(), calls);
-        let result = report_and_load(&memory);
-        if !memory.has_refused() {
-            assert!(rt; result.is_ok());
-            return Ok(());
-        }
-        assert!(rt; matches!(result, Err(StreamFault::Memory)));
-    }
-    Err(Fail::new("each call met a refusal"))
-}
-
-#[test]
-fn whichever_growth_is_refused_memory_is_reported(rt: HostRuntime) -> Result<(), Fail> {
-    for (form, depth, document) in DOCUMENTS {
-        let limits = Limits::new(1000, depth, 9, 1000).ok_or("limits")?;
-        let asked = Asked::within(form, limits);
-        for task in [Task::Convert, Task::Check, Task::Show] {
-            for cut in [0, document.len()] {
-                ends_where_memory_does(&rt, rt.alloc(), task, &asked.at(cut), document)?;
-            }
+        let (is_right, ends_well) = ends_well_or_for_memory(rt.alloc(), calls);
+        assert!(rt; is_right, "after {calls} calls");
+        if ends_well {
+            return;
         }
     }
-    Ok(())
+    assert!(rt; false, "each call met a refusal");
 }
 
-#[test]
-fn long_tokens_and_deep_brackets_end_where_memory_does(rt: HostRuntime) -> Result<(), Fail> {
-    let mut long = repeated(rt.alloc(), "<a:> <b:> \"", "x", 150_000)?;
+/// A long token, or brackets in brackets.
+fn long_document(alloc: Global, form: Form) -> Result<String, AllocError> {
+    if form == Form::TriG {
+        let mut deep = repeated(alloc, "<a:> <b:> ", "[ <c:> ( ", 200)?;
+        for _ in 0..200 {
+            deep.push_str(") ] ")?;
+        }
+        deep.push_str(".\n")?;
+        return Ok(deep);
+    }
+    let mut long = repeated(alloc, "<a:> <b:> \"", "x", 150_000)?;
     long.push_str("\" .\n")?;
-    let mut deep = repeated(rt.alloc(), "<a:> <b:> ", "[ <c:> ( ", 200)?;
-    deep.push_str(&repeated(rt.alloc(), "", ") ] ", 200)?)?;
-    deep.push_str(".\n")?;
-    for (form, document) in [
-        (Form::NTriples, &long),
-        (Form::NQuads, &long),
-        (Form::Turtle, &long),
-        (Form::TriG, &deep),
-    ] {
+    Ok(long)
+}
+
+fn long_ends_where_met(alloc: Global, form: Form, task: Task) -> bool {
+    match long_document(alloc, form) {
+        Ok(document) => {
+            let asked = Asked::of(task, form, document.as_bytes());
+            ends_where_met(alloc, &asked, Met::Growth)
+        }
+        Err(_) => false,
+    }
+}
+
+#[test]
+fn long_tokens_and_deep_brackets_end_where_memory_does(rt: HostRuntime) {
+    for form in [Form::NTriples, Form::NQuads, Form::Turtle, Form::TriG] {
         for task in [Task::Convert, Task::Check, Task::Show] {
-            let asked = Asked::of(form).at(document.len());
-            ends_where_memory_does(&rt, rt.alloc(), task, &asked, document)?;
+            assert!(rt;
+                long_ends_where_met(rt.alloc(), form, task),
+                "{task:?} of {form:?}"
+            );
         }
     }
-    Ok(())
 }

@@ -1,226 +1,188 @@
-// Runs over memory: what they write and tell, however the document is cut.
+// Runs over memory: what they write and report, whatever their devices and their memory do.
 
-use super::devices::{SlowDrain, ample_drain, cut_at};
+ghost use Rattle.std.specs.Prelude.{◌≡◌, false};
+
+use super::devices::{Parts, SlowDrain, parts_of, slow_drain};
 use rdf_iri::Limits;
 use rdf_lines::Summary;
 use rdf_stream::{Form, Job, StreamFault, check, convert, report, show};
 use rdf_terms::Iri;
-use std::alloc::Global;
-use std::process::Abort;
-use std::test::Fail;
+use std::alloc::{Allocator, Global};
 
-/// The base that a run is given.
-#[derive(Clone, Copy)]
-pub(crate) enum Base {
-    Absent,
-    /// The base of the examples of RFC 3986.
-    OfTheRfc,
-    Other,
+/// What is done with a document. A check writes nothing.
+#[derive(Clone, Copy, PartialEq, Eq, Debug)]
+pub(crate) enum Task {
+    Convert,
+    Check,
+    Show,
 }
 
-impl Base {
-    fn text(self) -> &'static str {
-        match self {
-            Base::Absent => "",
-            Base::OfTheRfc => "http://a/b/c/d;p?q",
-            Base::Other => "http://h/b/c",
-        }
-    }
-}
-
-/// What a run is asked for.
+/// What a run is asked for, and how its devices behave.
 #[derive(Clone, Copy)]
-pub(crate) struct Asked {
+pub(crate) struct Asked<'a> {
+    pub(crate) task: Task,
     pub(crate) form: Form,
-    pub(crate) base: Base,
+    /// The base, or nothing.
+    pub(crate) base: &'a str,
     pub(crate) limits: Limits,
-    /// The byte that the document is cut at; at 0 each byte comes alone.
+    pub(crate) document: &'a [u8],
+    /// Where the document is cut; at 0 each byte comes alone.
     pub(crate) cut: usize,
+    /// The calls after which the source fails.
+    pub(crate) fills: u64,
+    /// How many bytes the drain takes a call.
+    pub(crate) room: usize,
+    /// The calls after which the drain fails.
+    pub(crate) puts: u64,
 }
 
-impl Asked {
-    /// No base, each byte alone, and the limits that hold where none are asked for.
-    pub(crate) fn of(form: Form) -> Asked {
-        Asked::within(form, Limits::default())
+impl<'a> Asked<'a> {
+    /// The same for another task.
+    pub(crate) fn to(&self, task: Task) -> Asked<'a> {
+        Asked { task, ..*self }
     }
 
-    /// No base, each byte alone, and these limits.
-    pub(crate) fn within(form: Form, limits: Limits) -> Asked {
+    /// No base, the default limits, the document whole, and devices that fail nowhere.
+    pub(crate) fn of(task: Task, form: Form, document: &'a [u8]) -> Asked<'a> {
         Asked {
+            task,
             form,
-            base: Base::Absent,
-            limits,
-            cut: 0,
+            base: "",
+            limits: Limits::default(),
+            document,
+            cut: usize::MAX,
+            fills: u64::MAX,
+            room: usize::MAX,
+            puts: u64::MAX,
         }
     }
-
-    /// The same of a document that is cut there.
-    pub(crate) fn at(&self, cut: usize) -> Asked {
-        Asked { cut, ..*self }
-    }
 }
 
-/// What a run wrote, with the line of its fault after it, and its summary, if there was no fault.
+/// How a run ended.
+#[derive(Clone, Copy, PartialEq, Eq, Debug)]
+pub(crate) enum End {
+    Done(Summary),
+    Refused,
+    Read,
+    Write,
+    Memory,
+}
+
+/// What came of a run.
 #[derive(Drop)]
-pub(crate) struct Run {
+pub(crate) struct Outcome {
+    /// What was written, and the line of the fault after it, if there was one.
     pub(crate) text: Vec<u8>,
-    pub(crate) summary: Option<Summary>,
+    /// How many bytes were written.
+    pub(crate) len: usize,
+    pub(crate) end: End,
     pub(crate) flushed: bool,
+    /// Whether a call of the source or the drain failed.
+    pub(crate) has_failed: bool,
 }
 
-pub(crate) fn job(alloc: Global, asked: &Asked) -> Result<Job, Fail> {
-    let base = match asked.base {
-        Base::Absent => None,
-        base => Some(Iri::new(alloc, base.text())?),
-    };
-    match Job::new(asked.form, base, asked.limits) {
-        Some(job) => Ok(job),
-        None => Err(Fail::new("the base is too long")),
+impl End {
+    fn of(fault: &StreamFault) -> End {
+        match fault {
+            StreamFault::Refused(_) => End::Refused,
+            StreamFault::Read => End::Read,
+            StreamFault::Write => End::Write,
+            StreamFault::Memory => End::Memory,
+        }
     }
 }
 
-/// What came of a run over this drain.
-pub(crate) fn ended(
+impl Outcome {
+    pub(crate) fn is_done(&self) -> bool {
+        matches!(self.end, End::Done(_))
+    }
+}
+
+fn job<A: Allocator + Copy>(alloc: A, asked: &Asked<'_>) -> Option<Job<A>> {
+    if asked.base.is_empty() {
+        return Job::new(asked.form, None, asked.limits);
+    }
+    match Iri::new(alloc, asked.base) {
+        Ok(base) => Job::new(asked.form, Some(base), asked.limits),
+        Err(_) => None,
+    }
+}
+
+fn stream<A: Allocator + Copy>(
+    memory: A,
+    asked: &Asked<'_>,
+    source: &mut Parts<'_>,
+    drain: &mut SlowDrain,
+) -> Result<Summary, StreamFault>
+    requires more { source.old.ended ≡ false }
+    requires source { source.old.failed ≡ false }
+    requires drain { drain.old.failed ≡ false }
+{
+    let Some(job) = job(memory, asked) else {
+        return Err(StreamFault::Memory);
+    };
+    match asked.task {
+        Task::Convert => convert(memory, job, source, drain),
+        Task::Check => check(memory, job, source),
+        Task::Show => show(memory, job, source, drain),
+    }
+}
+
+fn ended(
     alloc: Global,
     outcome: Result<Summary, StreamFault>,
+    source_failed: bool,
     drain: SlowDrain,
-) -> Result<Run, Fail> {
-    let SlowDrain { bytes, flushed, .. } = drain;
+) -> Outcome {
+    let SlowDrain {
+        bytes,
+        failed,
+        flushed,
+        ..
+    } = drain;
     let mut text = bytes;
-    let summary = match outcome {
-        Ok(summary) => Some(summary),
+    let len = text.len();
+    let end = match outcome {
+        Ok(summary) => End::Done(summary),
         Err(fault) => {
-            report(alloc, &fault, &mut text)?;
-            None
+            let _ = report(alloc, &fault, &mut text);
+            End::of(&fault)
         }
     };
-    Ok(Run {
+    Outcome {
         text,
-        summary,
+        len,
+        end,
         flushed,
-    })
-}
-
-fn converted(alloc: Global, asked: &Asked, bytes: &[u8]) -> Result<Run, Fail> {
-    let mut source = cut_at(bytes, asked.cut);
-    let mut drain = ample_drain(alloc);
-    let result = convert(alloc, job(alloc, asked)?, &mut source, &mut drain);
-    ended(alloc, result, drain)
-}
-
-fn checked(alloc: Global, asked: &Asked, bytes: &[u8]) -> Result<Run, Fail> {
-    let mut source = cut_at(bytes, asked.cut);
-    let result = check(alloc, job(alloc, asked)?, &mut source);
-    ended(alloc, result, ample_drain(alloc))
-}
-
-fn shown(alloc: Global, asked: &Asked, bytes: &[u8]) -> Result<Run, Fail> {
-    let mut source = cut_at(bytes, asked.cut);
-    let mut drain = ample_drain(alloc);
-    let result = show(alloc, job(alloc, asked)?, &mut source, &mut drain);
-    ended(alloc, result, drain)
-}
-
-/// However the document is cut, `convert` writes and tells this text, `check` tells and counts the same, and `show` writes
-/// and tells what it does of the whole.
-pub(crate) fn is_read(
-    rt: &impl Abort,
-    alloc: Global,
-    asked: &Asked,
-    document: &[u8],
-    text: &str,
-) -> Result<(), Fail> {
-    let whole = shown(alloc, &asked.at(document.len()), document)?;
-    for cut in 0..document.len().saturating_add(1) {
-        let asked = asked.at(cut);
-        is_converted(rt, alloc, &asked, document, text.as_bytes())?;
-        let cut_shown = shown(alloc, &asked, document)?;
-        assert_eq!(rt;
-            cut_shown.text.as_slice(),
-            whole.text.as_slice(),
-            "cut at {cut}"
-        );
-    }
-    Ok(())
-}
-
-/// `convert` writes and tells this text, and `check` tells and counts the same.
-pub(crate) fn is_converted(
-    rt: &impl Abort,
-    alloc: Global,
-    asked: &Asked,
-    document: &[u8],
-    text: &[u8],
-) -> Result<(), Fail> {
-    let cut = asked.cut;
-    let converted = converted(alloc, asked, document)?;
-    assert_eq!(rt; converted.text.as_slice(), text, "cut at {cut}");
-    assert_eq!(rt; converted.flushed, converted.summary.is_some());
-    let checked = checked(alloc, asked, document)?;
-    assert_eq!(rt; checked.summary, converted.summary, "cut at {cut}");
-    assert_eq!(rt; checked.text.is_empty(), checked.summary.is_some());
-    assert!(rt; text.ends_with(checked.text.as_slice()));
-    if let Some(summary) = converted.summary {
-        let quads = text.iter().filter(|b| **b == b'\n').count() as u64;
-        assert_eq!(rt;
-            (summary.quads, summary.bytes),
-            (quads, document.len() as u64)
-        );
-    }
-    Ok(())
-}
-
-/// With a byte that is no UTF-8 where a document of these lines is cut, that place is told, after whole lines of a beginning.
-pub(crate) fn is_refused_at(
-    rt: &impl Abort,
-    alloc: Global,
-    asked: &Asked,
-    document: &[u8],
-    lines: &str,
-) -> Result<(), Fail> {
-    let at = asked.cut;
-    let mut spoilt = Vec::from_slice(alloc, document)?;
-    if let Some(byte) = spoilt.get_mut(at) {
-        *byte = 0xff;
-    }
-    let line = spoilt
-        .iter()
-        .take(at)
-        .filter(|b| **b == b'\n')
-        .count()
-        .saturating_add(1);
-    let fault = format!(in alloc; "rdfconv: bad UTF-8 at byte {at}, line {line}\n")?;
-    let whole = converted(alloc, &asked.at(document.len()), spoilt.as_slice())?;
-    let text = whole.text.as_slice();
-    assert!(rt; text.ends_with(fault.as_bytes()), "a bad byte at {at}");
-    assert!(rt;
-        begins(lines.as_bytes(), text, fault.len()),
-        "a bad byte at {at}"
-    );
-    is_converted(rt, alloc, asked, spoilt.as_slice(), text)?;
-    is_converted(rt, alloc, &asked.at(0), spoilt.as_slice(), text)
-}
-
-/// Without so many bytes at its end, the text is a beginning of the lines.
-fn begins(lines: &[u8], text: &[u8], end: usize) -> bool {
-    match text.get(..text.len().saturating_sub(end)) {
-        Some(front) => lines.starts_with(front),
-        None => false,
+        has_failed: source_failed || failed,
     }
 }
 
-/// However the text is cut, `show` writes and tells this.
-pub(crate) fn is_shown(
-    rt: &impl Abort,
-    alloc: Global,
-    asked: &Asked,
-    document: &[u8],
-    text: &str,
-) -> Result<(), Fail> {
-    for cut in 0..document.len().saturating_add(1) {
-        let shown = shown(alloc, &asked.at(cut), document)?;
-        assert_eq!(rt; shown.text.as_slice(), text.as_bytes(), "cut at {cut}");
-        assert_eq!(rt; shown.flushed, shown.summary.is_some());
-    }
-    Ok(())
+/// What comes of a run that takes its memory there.
+pub(crate) fn run<A: Allocator + Copy>(memory: A, alloc: Global, asked: &Asked<'_>) -> Outcome {
+    let mut source = parts_of(asked.document, asked.cut, asked.fills);
+    let mut drain = slow_drain(alloc, asked.room, asked.puts);
+    let outcome = stream(memory, asked, &mut source, &mut drain);
+    let Parts { failed, .. } = source;
+    ended(alloc, outcome, failed, drain)
+}
+
+/// Whether a check ended as the run, counted what it counts, and reports what it reports.
+pub(crate) fn is_checked(checked: &Outcome, converted: &Outcome) -> bool {
+    checked.end == converted.end
+        && checked.len == 0
+        && converted.text.as_slice().ends_with(checked.text.as_slice())
+}
+
+/// Whether the same came of two runs.
+pub(crate) fn is_alike(one: &Outcome, other: &Outcome) -> bool {
+    one.end == other.end
+        && one.flushed == other.flushed
+        && one.text.as_slice() == other.text.as_slice()
+}
+
+/// Whether a run writes and reports this text, and flushes where it is done.
+pub(crate) fn has_text(alloc: Global, asked: &Asked<'_>, text: &[u8]) -> bool {
+    let run = run(alloc, alloc, asked);
+    run.text.as_slice() == text && run.flushed == run.is_done()
 }
