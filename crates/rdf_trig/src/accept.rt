@@ -79,16 +79,16 @@ impl<A: Allocator + Copy> State<A> {
 
     // What the token does, if it may stand here by the grammar and by the limit of open brackets.
     #[inline(always)]
-    fn check(&self, rules: Rules, kind: Kind) -> Result<Turn, StepFault>
-        requires { self.now.depth ≡ M.depth (mode_in rules.form self.now) }
-        ensures ok { OnOk result (MayAll rules.form rules.limits.depth self.now kind) }
-        ensures turn { IfOk result (IsTurn rules.form self.now self.now.mode kind) }
-        ensures suits { IfOk result (SuitsIn rules.form self.now self.now.mode kind) }
+    fn check(&self, rules: &Rules, kind: Kind) -> Result<Turn, StepFault>
+        requires { self.now.depth ≡ M.depth (mode_in rules.now.form self.now) }
+        ensures ok { OnOk result (MayAll rules.now.form rules.now.limits.depth self.now kind) }
+        ensures turn { IfOk result (IsTurn rules.now.form self.now self.now.mode kind) }
+        ensures suits { IfOk result (SuitsIn rules.now.form self.now self.now.mode kind) }
         ensures frames { IfOk result (KeepsFrames kind) }
         ensures fits { (n : ℕ) → Fits n self.now → IfOk result (IsWithin n self.now) }
         ensures room { OnOk result (DepthMay kind self.now.depth) }
-        ensures deep { OnOk result (M.deepens kind ≡ true → self.now.depth + 1 ≤ rules.limits.depth) }
-        ensures err { IfErr result (RefusedWithin rules.form rules.limits.depth self.now kind) }
+        ensures deep { OnOk result (M.deepens kind ≡ true → self.now.depth + 1 ≤ rules.now.limits.depth) }
+        ensures err { IfErr result (RefusedWithin rules.now.form rules.now.limits.depth self.now kind) }
     {
         match self.turn(rules.form, kind) {
             None => Err(StepFault::Unexpected),
@@ -122,22 +122,22 @@ impl<A: Allocator + Copy> State<A> {
     /// state.
     pub fn accept<S: QuadSink>(
         &mut self,
-        rules: Rules,
+        rules: &Rules,
         scope: &mut Scope<A>,
         token: &Token<'_>,
         sink: &mut S,
     ) -> Result<u64, StepFault>
         requires token { IsTurtleToken token.now }
         requires short { length (leaf token.now).text ≤ scope.old.limits.token }
-        requires most { rules.limits.depth ≡ scope.old.limits.depth }
-        requires keeps { Keeps rules.form scope.old.limits self.old }
+        requires most { rules.now.limits.depth ≡ scope.old.limits.depth }
+        requires keeps { Keeps rules.now.form scope.old.limits self.old }
         requires live { S.has_failed sink.old ≡ false }
-        ensures ok { OnOk result (AcceptsAll S.takes rules.form scope.old self.old token.now sink.old self.new scope.new sink.new) }
-        ensures count { IfOk result (Counts rules.form self.old token.now) }
+        ensures ok { OnOk result (AcceptsAll S.takes rules.now.form scope.old self.old token.now sink.old self.new scope.new sink.new) }
+        ensures count { IfOk result (Counts rules.now.form self.old token.now) }
         ensures limits { OnOk result (scope.new.limits ≡ scope.old.limits) }
-        ensures keeps { OnOk result (Keeps rules.form scope.old.limits self.new) }
+        ensures keeps { OnOk result (Keeps rules.now.form scope.old.limits self.new) }
         ensures live { OnOk result (S.has_failed sink.new ≡ false) }
-        ensures err { IfErr result (FailsAll S.takes S.leaves S.has_failed rules.form scope.old self.old token.now sink.old sink.new) }
+        ensures err { IfErr result (FailsAll S.takes S.leaves S.has_failed rules.now.form scope.old self.old token.now sink.old sink.new) }
     {
         let turn = self.check(rules, token.kind)?;
         self.look_up(scope, token)?;

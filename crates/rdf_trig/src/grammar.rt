@@ -116,12 +116,15 @@ impl<A: Allocator + Copy> Grammar for TreeGrammar<A> {
 
 impl<A: Allocator + Copy> QuadGrammar for TreeGrammar<A> {
     fn accept_quads<S: QuadSink>(&mut self, token: Token<'_>, sink: &mut S) -> Result<u64, Reason> {
-        let Rules { limits, .. } = self.rules;
-        match self.state.accept(self.rules, &mut self.scope, &token, sink) {
+        match self
+            .state
+            .accept(&self.rules, &mut self.scope, &token, sink)
+        {
             Ok(given) => Ok(given),
             Err(fault) => {
                 // A step that fails leaves any state, so both begin anew.
                 restart(self.alloc, &mut self.state);
+                let Rules { limits, .. } = self.rules;
                 clear(self.alloc, limits, &mut self.scope);
                 Err(reason_of(fault))
             }

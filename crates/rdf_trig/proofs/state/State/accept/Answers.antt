@@ -16,7 +16,7 @@ use Rattle.rdf_trig.proofs.state.State.accept.Goals as goal
 pub returns-in_err-look_up-clause-err : goal.returns-in_err-look_up-clause-err
 returns-in_err-look_up-clause-err g c =
     let self = c.args.self.now in
-    let form = c.args.rules.form in
+    let form = c.args.rules.now.form in
     let k = c.args.token.now.kind in
     let l = leaf c.args.token.now in
     told_stops c.from_residual-in_err-look_up.result c.in_err-look_up.field-0.0 _ c.from_residual-in_err-look_up.ensures.1
@@ -26,7 +26,7 @@ returns-in_err-look_up-clause-err g c =
 pub returns-in_err-given-clause-err : goal.returns-in_err-given-clause-err
 returns-in_err-given-clause-err g c =
     let self = c.args.self.now in
-    let form = c.args.rules.form in
+    let form = c.args.rules.now.form in
     let token = c.args.token.now in
     let k = token.kind in
     let l = leaf token in
@@ -39,7 +39,7 @@ returns-in_err-given-clause-err g c =
 pub returns-in_err-move_on-clause-err : goal.returns-in_err-move_on-clause-err
 returns-in_err-move_on-clause-err g c =
     let self = c.args.self.now in
-    let form = c.args.rules.form in
+    let form = c.args.rules.now.form in
     let token = c.args.token.now in
     let k = token.kind in
     let l = leaf token in
@@ -52,7 +52,7 @@ returns-in_err-move_on-clause-err g c =
 pub move_on-requires-clause-suits : goal.move_on-requires-clause-suits
 move_on-requires-clause-suits g c =
     let s = c.args.scope.now in
-    c.in_ok-turn.ensures.suits c.look_up.new.self.name (c.in_ok-look_up.ensures.ok c.args.rules.form s (same_scope s)).named
+    c.in_ok-turn.ensures.suits c.look_up.new.self.name (c.in_ok-look_up.ensures.ok c.args.rules.now.form s (same_scope s)).named
 
 pub move_on-requires-clause-room : goal.move_on-requires-clause-room
 move_on-requires-clause-room g c =
@@ -61,7 +61,7 @@ move_on-requires-clause-room g c =
 pub returns-clause-ok : goal.returns-clause-ok
 returns-clause-ok g c = λ s e.
     let self = c.args.self.now in
-    let form = c.args.rules.form in
+    let form = c.args.rules.now.form in
     let token = c.args.token.now in
     let k = token.kind in
     let l = leaf token in
@@ -81,7 +81,7 @@ returns-clause-ok g c = λ s e.
 pub returns-clause-count : goal.returns-clause-count
 returns-clause-count g c = λ s qs n a.
     let self = c.args.self.now in
-    let form = c.args.rules.form in
+    let form = c.args.rules.now.form in
     let token = c.args.token.now in
     let m = state_of form s self in
     let x = accepted s.limits m token.kind (M.waiting m.setting m.mode token.kind (leaf token)) (M.step form m.setting m.mode token.kind (leaf token)) qs n a in
@@ -90,14 +90,14 @@ returns-clause-count g c = λ s qs n a.
 pub returns-clause-limits : goal.returns-clause-limits
 returns-clause-limits g c =
     let s = c.args.scope.now in
-    let form = c.args.rules.form in
+    let form = c.args.rules.now.form in
     limits_kept s c.look_up.new.scope (state_of form s c.args.self.now).mode c.args.token.now.kind (leaf c.args.token.now) c.look_up.new.self.name
     (c.in_ok-look_up.ensures.ok form s (same_scope s))
 
 pub returns-clause-keeps : goal.returns-clause-keeps
 returns-clause-keeps g c =
     let self = c.args.self.now in
-    let form = c.args.rules.form in
+    let form = c.args.rules.now.form in
     let token = c.args.token.now in
     let k = token.kind in
     let l = leaf token in
