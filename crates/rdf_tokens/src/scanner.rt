@@ -25,6 +25,9 @@ use std::marker::Model;
 /// The greatest number of bytes in a document.
 const MOST_BYTES: u64 = 0x7fff_ffff_ffff_ffff;
 
+/// The number of bytes for which memory stays where it is given back.
+const LEAST_CAPACITY: usize = 65536;
+
 /// Takes the bytes of a document in pieces, and gives its tokens.
 #[derive(Drop)]
 pub struct Scanner<A: Allocator = Global> {
@@ -187,6 +190,20 @@ impl<A: Allocator + Copy> Scanner<A> {
         self.line += feeds;
         self.taken += len;
         self.last_line += feeds;
+    }
+
+    /// Gives memory back that the text of given tokens took, as after a long one. Nothing else changes: where a smaller block is refused,
+    /// the greater one stays.
+    pub fn shrink(&mut self)
+        ensures { self.new ≡ self.old }
+    {
+        match drop_front(&mut self.text, self.start) {
+            Ok(()) => {
+                self.start = 0;
+                self.text.shrink_to(LEAST_CAPACITY);
+            }
+            Err(_) => {}
+        }
     }
 
     // Whether all that came was given as tokens, and more may come.
