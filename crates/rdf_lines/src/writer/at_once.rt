@@ -64,10 +64,10 @@ fn place_line(slot: &mut [u8], at: usize, quad: &QuadRef<'_>, form: &WrittenForm
     requires room { at + line_room (length form.now.prefix.word.now) quad.now ≤ length slot.old }
     ensures { Placed slot.old slot.new at (line_bytes (form_of form.now) quad.now) result }
 {
-    let second = place_subject(slot, at, quad.subject, form);
+    let second = place_subject(slot, at, &quad.subject, form);
     let third = place_predicate(slot, second, quad.predicate);
-    let fourth = place_object(slot, third, quad.object, form);
-    let last = place_graph(slot, fourth, quad.graph, form);
+    let fourth = place_object(slot, third, &quad.object, form);
+    let last = place_graph(slot, fourth, &quad.graph, form);
     place_two(slot, last, b'.', b'\n')
 }
 
@@ -75,27 +75,27 @@ fn place_line(slot: &mut [u8], at: usize, quad: &QuadRef<'_>, form: &WrittenForm
 fn place_subject(
     slot: &mut [u8],
     at: usize,
-    subject: SubjectRef<'_>,
+    subject: &SubjectRef<'_>,
     form: &WrittenForm<'_>,
 ) -> usize
     requires plain { form.now.escapes ≡ Plain }
-    requires room { at + (subject_room subject + length form.now.prefix.word.now + 4) ≤ length slot.old }
-    ensures placed { Placed slot.old slot.new at (subject_bytes (form_of form.now) subject.entry ++ space) result }
-    ensures within { result ≤ at + (subject_room subject.entry + length form.now.prefix.word.now + 4) }
+    requires room { at + (subject_room subject.now + length form.now.prefix.word.now + 4) ≤ length slot.old }
+    ensures placed { Placed slot.old slot.new at (subject_bytes (form_of form.now) subject.now ++ space) result }
+    ensures within { result ≤ at + (subject_room subject.now + length form.now.prefix.word.now + 4) }
 {
     let end = place_name(slot, at, subject, form);
     place_byte(slot, end, b' ')
 }
 
 #[inline(always)]
-fn place_name(slot: &mut [u8], at: usize, name: SubjectRef<'_>, form: &WrittenForm<'_>) -> usize
+fn place_name(slot: &mut [u8], at: usize, name: &SubjectRef<'_>, form: &WrittenForm<'_>) -> usize
     requires plain { form.now.escapes ≡ Plain }
-    requires room { at + (subject_room name + length form.now.prefix.word.now + 3) ≤ length slot.old }
-    ensures placed { Placed slot.old slot.new at (subject_bytes (form_of form.now) name.entry) result }
-    ensures within { result ≤ at + (subject_room name.entry + length form.now.prefix.word.now + 3) }
+    requires room { at + (subject_room name.now + length form.now.prefix.word.now + 3) ≤ length slot.old }
+    ensures placed { Placed slot.old slot.new at (subject_bytes (form_of form.now) name.now) result }
+    ensures within { result ≤ at + (subject_room name.now + length form.now.prefix.word.now + 3) }
 {
     match name {
-        SubjectRef::Iri(iri) => place_iri(slot, at, iri),
+        SubjectRef::Iri(iri) => place_iri(slot, at, *iri),
         SubjectRef::Node(node) => place_node(slot, at, node, form),
     }
 }
@@ -122,13 +122,13 @@ fn place_iri(slot: &mut [u8], at: usize, iri: IriView<'_>) -> usize
 }
 
 #[inline(never)]
-fn place_node(slot: &mut [u8], at: usize, node: NodeRef<'_>, form: &WrittenForm<'_>) -> usize
-    requires { at + (node_room node + length form.now.prefix.word.now + 3) ≤ length slot.old }
-    ensures placed { Placed slot.old slot.new at (node_bytes (form_of form.now) node.entry) result }
-    ensures within { result ≤ at + (node_room node.entry + length form.now.prefix.word.now + 3) }
+fn place_node(slot: &mut [u8], at: usize, node: &NodeRef<'_>, form: &WrittenForm<'_>) -> usize
+    requires { at + (node_room node.now + length form.now.prefix.word.now + 3) ≤ length slot.old }
+    ensures placed { Placed slot.old slot.new at (node_bytes (form_of form.now) node.now) result }
+    ensures within { result ≤ at + (node_room node.now + length form.now.prefix.word.now + 3) }
 {
     let mut digits = Buffer::new();
-    match letter_and_name(node, form.style, &mut digits) {
+    match letter_and_name(*node, form.style, &mut digits) {
         None => at,
         Some((letter, name)) => {
             let end = place_front(slot, at, form.prefix.as_str(), letter);
@@ -153,36 +153,36 @@ fn place_front(slot: &mut [u8], at: usize, word: &str, letter: &str) -> usize
 }
 
 #[inline(always)]
-fn place_object(slot: &mut [u8], at: usize, object: TermRef<'_>, form: &WrittenForm<'_>) -> usize
-    requires plain { stands_as_is form.now.escapes object ≡ true }
-    requires room { at + (term_room object + length form.now.prefix.word.now + 7) ≤ length slot.old }
-    ensures placed { Placed slot.old slot.new at (term_bytes (form_of form.now) object.entry ++ space) result }
-    ensures within { result ≤ at + (term_room object.entry + length form.now.prefix.word.now + 7) }
+fn place_object(slot: &mut [u8], at: usize, object: &TermRef<'_>, form: &WrittenForm<'_>) -> usize
+    requires plain { stands_as_is form.now.escapes object.now ≡ true }
+    requires room { at + (term_room object.now + length form.now.prefix.word.now + 7) ≤ length slot.old }
+    ensures placed { Placed slot.old slot.new at (term_bytes (form_of form.now) object.now ++ space) result }
+    ensures within { result ≤ at + (term_room object.now + length form.now.prefix.word.now + 7) }
 {
     let end = place_term(slot, at, object, form);
     place_byte(slot, end, b' ')
 }
 
 #[inline(always)]
-fn place_term(slot: &mut [u8], at: usize, term: TermRef<'_>, form: &WrittenForm<'_>) -> usize
-    requires plain { stands_as_is form.now.escapes term ≡ true }
-    requires room { at + (term_room term + length form.now.prefix.word.now + 6) ≤ length slot.old }
-    ensures placed { Placed slot.old slot.new at (term_bytes (form_of form.now) term.entry) result }
-    ensures within { result ≤ at + (term_room term.entry + length form.now.prefix.word.now + 6) }
+fn place_term(slot: &mut [u8], at: usize, term: &TermRef<'_>, form: &WrittenForm<'_>) -> usize
+    requires plain { stands_as_is form.now.escapes term.now ≡ true }
+    requires room { at + (term_room term.now + length form.now.prefix.word.now + 6) ≤ length slot.old }
+    ensures placed { Placed slot.old slot.new at (term_bytes (form_of form.now) term.now) result }
+    ensures within { result ≤ at + (term_room term.now + length form.now.prefix.word.now + 6) }
 {
     match term {
-        TermRef::Iri(iri) => place_iri(slot, at, iri),
+        TermRef::Iri(iri) => place_iri(slot, at, *iri),
         TermRef::Node(node) => place_node(slot, at, node, form),
         TermRef::Literal(literal) => place_literal(slot, at, literal),
     }
 }
 
 #[inline(never)]
-fn place_literal(slot: &mut [u8], at: usize, literal: LiteralRef<'_>) -> usize
-    requires text { all_have (goes_over Text) literal.lexical.now ≡ true }
-    requires room { at + (length literal.lexical.now + tail_room literal.tail + 6) ≤ length slot.old }
-    ensures placed { Placed slot.old slot.new at (string_bytes_of Plain literal.entry.lexical.now ++ tail_bytes Plain literal.entry.tail) result }
-    ensures within { result ≤ at + (length literal.entry.lexical.now + tail_room literal.entry.tail + 6) }
+fn place_literal(slot: &mut [u8], at: usize, literal: &LiteralRef<'_>) -> usize
+    requires text { all_have (goes_over Text) literal.now.lexical.now ≡ true }
+    requires room { at + (length literal.now.lexical.now + tail_room literal.now.tail + 6) ≤ length slot.old }
+    ensures placed { Placed slot.old slot.new at (string_bytes_of Plain literal.now.lexical.now ++ tail_bytes Plain literal.now.tail) result }
+    ensures within { result ≤ at + (length literal.now.lexical.now + tail_room literal.now.tail + 6) }
 {
     let inside = place_byte(slot, at, b'"');
     let close = place_text(slot, inside, literal.lexical.as_bytes());
@@ -228,13 +228,13 @@ fn place_type(slot: &mut [u8], at: usize, plain: bool, datatype: IriView<'_>) ->
 fn place_graph(
     slot: &mut [u8],
     at: usize,
-    graph: Option<SubjectRef<'_>>,
+    graph: &Option<SubjectRef<'_>>,
     form: &WrittenForm<'_>,
 ) -> usize
     requires plain { form.now.escapes ≡ Plain }
-    requires room { at + (graph_room graph + length form.now.prefix.word.now + 4) ≤ length slot.old }
-    ensures placed { Placed slot.old slot.new at (graph_bytes (form_of form.now) graph.entry) result }
-    ensures within { result ≤ at + (graph_room graph.entry + length form.now.prefix.word.now + 4) }
+    requires room { at + (graph_room graph.now + length form.now.prefix.word.now + 4) ≤ length slot.old }
+    ensures placed { Placed slot.old slot.new at (graph_bytes (form_of form.now) graph.now) result }
+    ensures within { result ≤ at + (graph_room graph.now + length form.now.prefix.word.now + 4) }
 {
     match graph {
         None => at,
