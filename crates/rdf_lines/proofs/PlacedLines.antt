@@ -1,13 +1,12 @@
 -- The bytes of the parts of a line whose texts stand as they are.
-use Rattle.std.proofs.Common.{◌≡◌, ℕ, ◌+◌, ◌≤◌, ◌<◌, true, false, List, [], ◌∷◌, ◌++◌, length, take, drop, refl, sym, ap, ◌∙◌, subst, arith, append_assoc, length-append}
+use Rattle.std.proofs.Common.{◌≡◌, ℕ, true, List, [], ◌∷◌, ◌++◌, length, take, refl, ap, ◌∙◌, arith}
 use Rattle.std.specs.Prelude.{flat_map, chars, IsUtf8}
 use Rattle.std.proofs.lemmas.Bool.{false≢true}
 use Rattle.rdf_terms.specs.declared.views.IriView.{IriView}
 use Rattle.rdf_terms.specs.declared.views.TermRef.{TermRef}
-use Rattle.rdf_terms.specs.declared.views.TermRef.TheVariants as term_ref
 use Rattle.rdf_terms.specs.declared.runs.Run.TheVariants.{Text}
 use Rattle.rdf_terms.specs.Runs.{goes_over}
-use Rattle.rdf_terms.specs.Terms.{all_have, Quad}
+use Rattle.rdf_terms.specs.Terms.{all_have}
 use Rattle.rdf_terms.specs.Views.{iri_chars}
 use Rattle.rdf_lines.specs.declared.form.Escapes.{Escapes}
 use Rattle.rdf_lines.specs.declared.form.Escapes.TheVariants.{Plain, Ascii}

@@ -58,6 +58,7 @@ fn make_room<A: Allocator + Copy>(out: &mut Vec<u8, A>, room: usize) -> Result<(
     }
 }
 
+// Each part and a space, then the dot and LF: where the line ends.
 #[inline(always)]
 fn place_line(slot: &mut [u8], at: usize, quad: &QuadRef<'_>, form: &WrittenForm<'_>) -> usize
     requires plain { stands_as_is form.now.escapes quad.now.object ≡ true }
@@ -121,6 +122,7 @@ fn place_iri(slot: &mut [u8], at: usize, iri: IriView<'_>) -> usize
     place_byte(slot, end, b'>')
 }
 
+// A node that the style can't write has no text.
 #[inline(never)]
 fn place_node(slot: &mut [u8], at: usize, node: &NodeRef<'_>, form: &WrittenForm<'_>) -> usize
     requires { at + (node_room node.now + length form.now.prefix.word.now + 3) ≤ length slot.old }
@@ -177,6 +179,7 @@ fn place_term(slot: &mut [u8], at: usize, term: &TermRef<'_>, form: &WrittenForm
     }
 }
 
+// Apart, as the names of nodes are, so that lines of IRIs run through less code.
 #[inline(never)]
 fn place_literal(slot: &mut [u8], at: usize, literal: &LiteralRef<'_>) -> usize
     requires text { all_have (goes_over Text) literal.now.lexical.now ≡ true }

@@ -23,6 +23,7 @@ pub fn place_two(slot: &mut [u8], at: usize, first: u8, second: u8) -> usize
     place_byte(slot, next, second)
 }
 
+/// Places a text of any length, without a call for one of common length.
 #[inline(always)]
 pub fn place_text(slot: &mut [u8], at: usize, text: &[u8]) -> usize
     requires { at + length text.now ≤ length slot.old }
@@ -38,6 +39,7 @@ pub fn place_text(slot: &mut [u8], at: usize, text: &[u8]) -> usize
     }
 }
 
+/// Places a text of fewer than sixteen bytes.
 #[inline(always)]
 pub fn place_few(slot: &mut [u8], at: usize, text: &[u8]) -> usize
     requires { (length text.now < 16) × (at + length text.now ≤ length slot.old) }
@@ -57,6 +59,7 @@ pub fn place_few(slot: &mut [u8], at: usize, text: &[u8]) -> usize
     }
 }
 
+// By 32 bytes, and at last the two ends of what is left.
 #[inline(always)]
 fn place_long(slot: &mut [u8], at: usize, text: &[u8]) -> usize
     requires { (32 ≤ length text.now) × (at + length text.now ≤ length slot.old) }

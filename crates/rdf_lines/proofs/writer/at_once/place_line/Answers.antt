@@ -1,8 +1,8 @@
-use Rattle.std.proofs.Common.{◌≡◌, ℕ, List, ◌++◌, [], ◌∷◌, append_assoc, ap, sym, ◌∙◌, arith}
+use Rattle.std.proofs.Common.{ℕ, List, ◌++◌, [], ◌∷◌, append_assoc, ap, sym, ◌∙◌, arith}
 use Rattle.rdf_lines.specs.declared.form.Escapes.{Escapes}
 use Rattle.rdf_lines.specs.Forms.{form_of}
 use Rattle.rdf_lines.specs.Writing.{space}
-use Rattle.rdf_lines.specs.WrittenBytes.{graph_bytes, iri_bytes, line_bytes, subject_bytes, term_bytes}
+use Rattle.rdf_lines.specs.WrittenBytes.{graph_bytes, iri_bytes, subject_bytes, term_bytes}
 use Rattle.rdf_lines.proofs.EncodedLine.{encoded_line}
 use Rattle.rdf_lines.proofs.PlacedLines.{plain_form}
 use Rattle.rdf_lines.proofs.Places.{Placed-as, Placed-then}

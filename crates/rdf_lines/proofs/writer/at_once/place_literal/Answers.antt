@@ -1,7 +1,5 @@
-use Rattle.std.proofs.Common.{◌++◌, [], ◌∷◌, append_assoc, ap, sym, ◌∙◌}
+use Rattle.std.proofs.Common.{◌++◌, [], ◌∷◌, ap, sym, ◌∙◌}
 use Rattle.std.proofs.lemmas.Str.{IsUtf8-had}
-use Rattle.rdf_lines.specs.declared.form.Escapes.TheVariants.{Plain}
-use Rattle.rdf_lines.specs.WrittenBytes.{tail_bytes}
 use Rattle.rdf_lines.proofs.PlacedLines.{plain_string_bytes}
 use Rattle.rdf_lines.proofs.Places.{Placed-as, Placed-then}
 use Rattle.rdf_lines.proofs.writer.at_once.place_literal.Goals as goal

@@ -1,4 +1,4 @@
-use Rattle.std.proofs.Common.{◌≡◌, ◌∷◌, ap, sym, ◌∙◌}
+use Rattle.std.proofs.Common.{◌≡◌, ap, sym, ◌∙◌}
 use Rattle.std.specs.Prelude.{bytes_eq, chars, encode_utf8_all}
 use Rattle.std.proofs.lemmas.Str.{IsUtf8-had}
 use Rattle.rdf_terms.specs.Terms.{xsd_string}

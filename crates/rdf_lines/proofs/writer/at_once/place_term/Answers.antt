@@ -1,6 +1,4 @@
 use Rattle.std.proofs.Common.{◌++◌, ap, sym, ◌∙◌}
-use Rattle.rdf_lines.specs.declared.form.Escapes.{Escapes}
-use Rattle.rdf_lines.specs.declared.form.Escapes.TheVariants.{Plain}
 use Rattle.rdf_lines.specs.Forms.{form_of}
 use Rattle.rdf_lines.specs.WrittenBytes.{string_bytes_of, tail_bytes, term_bytes}
 use Rattle.rdf_lines.proofs.EncodedLine.{literal_bytes}
