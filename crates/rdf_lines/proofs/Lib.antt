@@ -21,6 +21,8 @@ pub mod EncodedLine
 pub mod EscapedRuns
 pub mod PlainRuns
 pub mod WrittenBytesLemmas
+pub mod Places
+pub mod PlacedLines
 pub mod LawExamples
 mod SpelledLemmas
 mod StatesLemmas

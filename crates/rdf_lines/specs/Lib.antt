@@ -8,6 +8,7 @@ pub mod Documents
 pub mod Machine
 pub mod Laws
 pub mod WrittenBytes
+pub mod Placing
 pub mod Slots
 pub mod States
 pub mod Spelled

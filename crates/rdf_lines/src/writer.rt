@@ -1,7 +1,10 @@
 // The line that is written for a quad, and the text of a blank node (N-Quads 4).
 
+mod at_once;
 mod escape;
 mod line;
+mod place;
+mod room;
 mod string;
 mod term;
 mod writable;
@@ -11,12 +14,15 @@ ghost use Rattle.std.specs.Result.{IsErrOf};
 ghost use Rattle.rdf_terms.specs.Views.{node_of, quad_of};
 ghost use Rattle.rdf_lines.specs.Forms.{form_of};
 ghost use Rattle.rdf_lines.specs.NodePrefixes.{line_in};
+ghost use Rattle.rdf_lines.specs.WrittenBytes.{line_bytes};
 ghost use Rattle.rdf_lines.specs.Writing.{CanWrite, CanWriteNode, line, node_text, rename_node};
 
 use crate::form::{Escapes, Style, WrittenForm};
+use at_once::put_at_once;
 use itoa::Buffer;
-use line::put_line;
+use line::put_in_parts;
 use rdf_terms::{NodeRef, QuadRef};
+use room::{short_room, stands_as_is};
 use std::alloc::{AllocError, Allocator};
 use term::letter_and_name;
 use writable::can_write;
@@ -60,13 +66,28 @@ pub fn write_line_in<A: Allocator + Copy>(
     if !can_write(quad, form.style) {
         return Err(LabelFault::NotLabelled);
     }
-    let start = out.len();
-    match put_line(quad, form, out) {
+    match put_quad(&quad, &form, out) {
         Ok(()) => Ok(()),
-        Err(_) => {
-            out.truncate(start);
-            Err(LabelFault::Memory)
-        }
+        Err(_) => Err(LabelFault::Memory),
+    }
+}
+
+// With one growth of the buffer where the texts are short and stand as they are, as most do.
+#[inline(always)]
+fn put_quad<A: Allocator + Copy>(
+    quad: &QuadRef<'_>,
+    form: &WrittenForm<'_>,
+    out: &mut Vec<u8, A>,
+) -> Result<(), AllocError>
+    ensures written { OnOk result (out.new.items ≡ out.old.items ++ line_bytes (form_of form.now) quad.now) }
+    ensures unchanged { OnErr result (out.new.items ≡ out.old.items) }
+{
+    if !stands_as_is(form.escapes, quad.object) {
+        return put_in_parts(quad, form, out);
+    }
+    match short_room(quad, form.prefix.as_str()) {
+        None => put_in_parts(quad, form, out),
+        Some(room) => put_at_once(quad, form, room, out),
     }
 }
 

@@ -10,7 +10,27 @@ use crate::writer::term::{put_iri, put_name, put_term};
 use rdf_terms::{IriView, QuadRef, SubjectRef, TermRef};
 use std::alloc::{AllocError, Allocator};
 
-pub fn put_line<A: Allocator + Copy>(
+/// Appends the line of a quad part by part: to texts with escapes, and to long ones.
+#[inline(never)]
+pub fn put_in_parts<A: Allocator + Copy>(
+    quad: &QuadRef<'_>,
+    form: &WrittenForm<'_>,
+    out: &mut Vec<u8, A>,
+) -> Result<(), AllocError>
+    ensures written { OnOk result (out.new.items ≡ out.old.items ++ line_bytes (form_of form.now) quad.now) }
+    ensures unchanged { OnErr result (out.new.items ≡ out.old.items) }
+{
+    let start = out.len();
+    match put_line(*quad, *form, out) {
+        Ok(()) => Ok(()),
+        Err(fault) => {
+            out.truncate(start);
+            Err(fault)
+        }
+    }
+}
+
+fn put_line<A: Allocator + Copy>(
     quad: QuadRef<'_>,
     form: WrittenForm<'_>,
     out: &mut Vec<u8, A>,

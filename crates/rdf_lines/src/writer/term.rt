@@ -1,9 +1,10 @@
 // Terms as they are written (N-Quads 4).
 
-ghost use Rattle.std.specs.Prelude.{◌≡◌, ◌↔◌, ◌∷◌, ◌++◌, bytes_eq, encode_utf8_all, IfSome, None, OnErr, OnOk};
+ghost use Rattle.std.specs.Prelude.{◌≡◌, ◌↔◌, ◌≤◌, ◌∷◌, ◌++◌, length, bytes_eq, encode_utf8_all, IfSome, None, OnErr, OnOk};
 ghost use Rattle.rdf_terms.specs.Terms.{xsd_string};
 ghost use Rattle.rdf_terms.specs.Views.{iri_chars, node_of};
 ghost use Rattle.rdf_lines.specs.Forms.{form_of};
+ghost use Rattle.rdf_lines.specs.Placing.{node_room};
 ghost use Rattle.rdf_lines.specs.Writing.{CanWriteNode, type_text};
 ghost use Rattle.rdf_lines.specs.WrittenBytes.{BeginsWith, IsNamed, iri_bytes, node_bytes, subject_bytes, tail_bytes, term_bytes};
 
@@ -107,6 +108,7 @@ fn put_part<A: Allocator + Copy>(text: &str, out: &mut Vec<u8, A>) -> Result<(),
 }
 
 // The label of a node in two parts, a letter or nothing and the name, or None where the style can't write it.
+#[inline(always)]
 pub fn letter_and_name<'a>(
     node: NodeRef<'a>,
     style: Style,
@@ -114,6 +116,8 @@ pub fn letter_and_name<'a>(
 ) -> Option<(&'static str, &'a str)>
     ensures named { IfSome result (λ parts. IsNamed style node.entry (parts.0.now ++ parts.1.now)) }
     ensures none { (result ≡ None) ↔ ¬ CanWriteNode style (node_of node.entry) }
+    ensures letter { IfSome result (λ parts. length parts.0.now ≤ 1) }
+    ensures name { IfSome result (λ parts. length parts.1.now ≤ node_room node.entry) }
 {
     match style {
         Style::Kept => match node {
@@ -143,7 +147,9 @@ fn put_tail<A: Allocator + Copy>(
     }
 }
 
-fn is_plain(datatype: &str) -> bool
+/// Whether a datatype is xsd:string, which is not written.
+#[inline(always)]
+pub fn is_plain(datatype: &str) -> bool
     ensures { result ≡ bytes_eq datatype.now xsd_string }
 {
     datatype == "http://www.w3.org/2001/XMLSchema#string"

@@ -2,6 +2,7 @@
 
 ghost use Rattle.std.specs.Prelude.{chars, option_map, Decides};
 ghost use Rattle.rdf_terms.specs.Views.{node_of, quad_of, subject_by, term_by};
+ghost use Rattle.rdf_lines.specs.declared.form.Style.TheVariants.{Kept};
 ghost use Rattle.rdf_lines.specs.Writing.{CanWrite, CanWriteGraph, CanWriteNode, CanWriteSubject, CanWriteTerm};
 
 use crate::form::Style;
@@ -10,9 +11,18 @@ use rdf_terms::{NodeRef, QuadRef, SubjectRef, TermRef};
 pub fn can_write(quad: QuadRef<'_>, style: Style) -> bool
     ensures { Decides result (CanWrite style (quad_of quad.entry)) }
 {
-    can_write_subject(quad.subject, style)
-        && can_write_term(quad.object, style)
-        && can_write_graph(quad.graph, style)
+    match style {
+        Style::Tagged => true,
+        Style::Kept => can_keep(quad),
+    }
+}
+
+fn can_keep(quad: QuadRef<'_>) -> bool
+    ensures { Decides result (CanWrite Kept (quad_of quad.entry)) }
+{
+    can_write_subject(quad.subject, Style::Kept)
+        && can_write_term(quad.object, Style::Kept)
+        && can_write_graph(quad.graph, Style::Kept)
 }
 
 fn can_write_subject(subject: SubjectRef<'_>, style: Style) -> bool

@@ -1,0 +1,19 @@
+use Rattle.std.proofs.Common.{◌≡◌, ◌+◌, rules, arith, ap, length, take-add, length-take-le, take-append-drop}
+use Rattle.std.proofs.lemmas.List.{take_rest}
+use Rattle.rdf_lines.proofs.Places.{Placed-then}
+use Rattle.rdf_lines.proofs.writer.place.place_long.Goals as goal
+
+pub loop-done-preserved : goal.loop-done-preserved
+loop-done-preserved c =
+    let src = c.args.text.now in
+    let done = c.loop-done.done in
+    let both = Placed-then c.loop-done.invariant.1 (rw (take_rest src done) at c.place_front.ensures) in
+    let whole = length-take-le (done + 32) src (search rules) in
+    let end : c.place_front.result ≡ c.args.at + (done + 32) = omega (arith, both.moved, ap length (take-add done 32 src), whole) in
+    (search rules, rw (take-add done 32 src, ← end) both)
+
+pub returns : goal.returns
+returns c =
+    let src = c.args.text.now in
+    let done = c.loop-done.done in
+    rw (take-append-drop done src) at (Placed-then c.loop-done.invariant.1 (rw (take_rest src done) at c.place_ends.ensures))

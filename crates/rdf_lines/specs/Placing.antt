@@ -1,0 +1,60 @@
+-- Bytes that are placed in a buffer that has room for them, and how much room a line takes at most.
+use Rattle.std.specs.Prelude.{◌≡◌, ℕ, ◌+◌, ◌*◌, Bool, true, false, List, ◌++◌, Option, Some, None, length, take}
+use Rattle.rdf_terms.specs.declared.views.NodeRef.{NodeRef}
+use Rattle.rdf_terms.specs.declared.views.NodeRef.TheVariants as node_ref
+use Rattle.rdf_terms.specs.declared.views.TailRef.{TailRef}
+use Rattle.rdf_terms.specs.declared.views.TailRef.TheVariants as tail_ref
+use Rattle.rdf_terms.specs.declared.views.SubjectRef.{SubjectRef}
+use Rattle.rdf_terms.specs.declared.views.SubjectRef.TheVariants as subject_ref
+use Rattle.rdf_terms.specs.declared.views.TermRef.{TermRef}
+use Rattle.rdf_terms.specs.declared.views.TermRef.TheVariants as term_ref
+use Rattle.rdf_terms.specs.declared.views.QuadRef.{QuadRef}
+use Rattle.rdf_terms.specs.declared.runs.Run.TheVariants.{Text}
+use Rattle.rdf_terms.specs.Runs.{goes_over}
+use Rattle.rdf_terms.specs.Terms.{all_have}
+use Rattle.rdf_lines.specs.declared.form.Escapes.{Escapes}
+use Rattle.rdf_lines.specs.declared.form.Escapes.TheVariants.{Plain, Ascii}
+
+-- new has xs after the first `at` bytes of old, up to `end`
+pub record Placed (old new : List ℕ) (at : ℕ) (xs : List ℕ) (end : ℕ) : Type 0 where
+  pub bytes : take end new ≡ take at old ++ xs
+  pub moved : end ≡ at + length xs
+  pub len : length new ≡ length old
+
+-- the bytes of a label, or the most digits of an offset
+abbrev pub node_room : NodeRef → ℕ
+node_room (node_ref.Label l) = length l.text.now
+node_room (node_ref.Anon n) = 20
+node_room (node_ref.Cell n) = 20
+
+-- the same of an IRI or a node
+abbrev pub subject_room : SubjectRef → ℕ
+subject_room (subject_ref.Iri i) = length i.text.now
+subject_room (subject_ref.Node n) = node_room n
+
+-- the bytes of a tag or a datatype
+abbrev pub tail_room : TailRef → ℕ
+tail_room (tail_ref.Lang t) = length t.text.now
+tail_room (tail_ref.Typed i) = length i.text.now
+
+-- the most bytes that the texts of an object take
+abbrev pub term_room : TermRef → ℕ
+term_room (term_ref.Iri i) = length i.text.now
+term_room (term_ref.Node n) = node_room n
+term_room (term_ref.Literal l) = length l.lexical.now + tail_room l.tail
+
+-- the same of a graph label
+abbrev pub graph_room : Option SubjectRef → ℕ
+graph_room None = 0
+graph_room (Some s) = subject_room s
+
+-- the most bytes of a line whose texts stand as they are, with a word of so many bytes in front of each name
+abbrev pub line_room : ℕ → QuadRef → ℕ
+line_room word q = subject_room q.subject + length q.predicate.text.now + term_room q.object + graph_room q.graph + 3 * word + 20
+
+-- whether an object has no escapes in the plain form, in which IRIs have none
+abbrev pub stands_as_is : Escapes → TermRef → Bool
+stands_as_is Ascii t = false
+stands_as_is Plain (term_ref.Iri i) = true
+stands_as_is Plain (term_ref.Node n) = true
+stands_as_is Plain (term_ref.Literal l) = all_have (goes_over Text) l.lexical.now

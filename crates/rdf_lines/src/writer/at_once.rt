@@ -1,0 +1,246 @@
+// Lines whose texts stand as they are: the buffer grows once, and the parts are placed in what is new of it.
+
+ghost use Rattle.std.specs.Prelude.{◌≡◌, ◌++◌, ◌+◌, ◌<◌, ◌≤◌, [], ◌∷◌, length, true, encode_utf8_all, OnErr, OnOk};
+ghost use Rattle.rdf_terms.specs.declared.runs.Run.TheVariants.{Text};
+ghost use Rattle.rdf_terms.specs.Runs.{goes_over};
+ghost use Rattle.rdf_terms.specs.Terms.{all_have};
+ghost use Rattle.rdf_terms.specs.Views.{iri_chars};
+ghost use Rattle.rdf_lines.specs.declared.form.Escapes.TheVariants.{Plain};
+ghost use Rattle.rdf_lines.specs.Forms.{form_of};
+ghost use Rattle.rdf_lines.specs.Placing.{Placed, graph_room, line_room, node_room, stands_as_is, subject_room, tail_room, term_room};
+ghost use Rattle.rdf_lines.specs.Writing.{space, type_text};
+ghost use Rattle.rdf_lines.specs.WrittenBytes.{BeginsWith, graph_bytes, iri_bytes, line_bytes, node_bytes, string_bytes_of, subject_bytes, tail_bytes, term_bytes};
+
+use crate::form::WrittenForm;
+use crate::writer::place::{place_byte, place_few, place_text, place_two};
+use crate::writer::term::{is_plain, letter_and_name};
+use itoa::Buffer;
+use rdf_terms::{IriView, LiteralRef, NodeRef, QuadRef, SubjectRef, TagView, TailRef, TermRef};
+use std::alloc::{AllocError, Allocator};
+
+/// Lines that take no more are placed in so many zeros, which are written by a few stores.
+const COMMON_ROOM: usize = 192;
+
+/// Appends the line of a quad that takes so many bytes at most.
+#[inline(always)]
+pub fn put_at_once<A: Allocator + Copy>(
+    quad: &QuadRef<'_>,
+    form: &WrittenForm<'_>,
+    room: usize,
+    out: &mut Vec<u8, A>,
+) -> Result<(), AllocError>
+    requires plain { stands_as_is form.now.escapes quad.now.object ≡ true }
+    requires room { line_room (length form.now.prefix.word.now) quad.now ≤ room }
+    requires short { room ≤ 4096 }
+    ensures written { OnOk result (out.new.items ≡ out.old.items ++ line_bytes (form_of form.now) quad.now) }
+    ensures unchanged { OnErr result (out.new.items ≡ out.old.items) }
+{
+    let start = out.len();
+    make_room(out, room)?;
+    let end = place_line(out.as_mut_slice(), start, quad, form);
+    out.truncate(end);
+    Ok(())
+}
+
+/// Appends so many bytes or more, of any value.
+#[inline(always)]
+fn make_room<A: Allocator + Copy>(out: &mut Vec<u8, A>, room: usize) -> Result<(), AllocError>
+    requires { room ≤ 4096 }
+    ensures front { OnOk result (BeginsWith out.old.items out.new.items) }
+    ensures room { OnOk result (length out.old.items + room ≤ length out.new.items) }
+    ensures unchanged { OnErr result (out.new.items ≡ out.old.items) }
+{
+    if room <= COMMON_ROOM {
+        out.extend_from_slice(&[0; COMMON_ROOM])
+    } else {
+        let len = out.len();
+        out.resize(len + room, 0)
+    }
+}
+
+// Each part and a space, then the dot and LF: where the line ends.
+#[inline(always)]
+fn place_line(slot: &mut [u8], at: usize, quad: &QuadRef<'_>, form: &WrittenForm<'_>) -> usize
+    requires plain { stands_as_is form.now.escapes quad.now.object ≡ true }
+    requires room { at + line_room (length form.now.prefix.word.now) quad.now ≤ length slot.old }
+    ensures { Placed slot.old slot.new at (line_bytes (form_of form.now) quad.now) result }
+{
+    let second = place_subject(slot, at, &quad.subject, form);
+    let third = place_predicate(slot, second, quad.predicate);
+    let fourth = place_object(slot, third, &quad.object, form);
+    let last = place_graph(slot, fourth, &quad.graph, form);
+    place_two(slot, last, b'.', b'\n')
+}
+
+#[inline(always)]
+fn place_subject(
+    slot: &mut [u8],
+    at: usize,
+    subject: &SubjectRef<'_>,
+    form: &WrittenForm<'_>,
+) -> usize
+    requires plain { form.now.escapes ≡ Plain }
+    requires room { at + (subject_room subject.now + length form.now.prefix.word.now + 4) ≤ length slot.old }
+    ensures placed { Placed slot.old slot.new at (subject_bytes (form_of form.now) subject.now ++ space) result }
+    ensures within { result ≤ at + (subject_room subject.now + length form.now.prefix.word.now + 4) }
+{
+    let end = place_name(slot, at, subject, form);
+    place_byte(slot, end, b' ')
+}
+
+#[inline(always)]
+fn place_name(slot: &mut [u8], at: usize, name: &SubjectRef<'_>, form: &WrittenForm<'_>) -> usize
+    requires plain { form.now.escapes ≡ Plain }
+    requires room { at + (subject_room name.now + length form.now.prefix.word.now + 3) ≤ length slot.old }
+    ensures placed { Placed slot.old slot.new at (subject_bytes (form_of form.now) name.now) result }
+    ensures within { result ≤ at + (subject_room name.now + length form.now.prefix.word.now + 3) }
+{
+    match name {
+        SubjectRef::Iri(iri) => place_iri(slot, at, *iri),
+        SubjectRef::Node(node) => place_node(slot, at, node, form),
+    }
+}
+
+#[inline(always)]
+fn place_predicate(slot: &mut [u8], at: usize, predicate: IriView<'_>) -> usize
+    requires { at + (length predicate.text.now + 3) ≤ length slot.old }
+    ensures placed { Placed slot.old slot.new at (iri_bytes Plain predicate.entry ++ space) result }
+    ensures within { result ≤ at + (length predicate.entry.text.now + 3) }
+{
+    let end = place_iri(slot, at, predicate);
+    place_byte(slot, end, b' ')
+}
+
+#[inline(always)]
+fn place_iri(slot: &mut [u8], at: usize, iri: IriView<'_>) -> usize
+    requires { at + (length iri.text.now + 2) ≤ length slot.old }
+    ensures placed { Placed slot.old slot.new at (iri_bytes Plain iri.entry) result }
+    ensures within { result ≡ at + (length iri.entry.text.now + 2) }
+{
+    let inside = place_byte(slot, at, b'<');
+    let end = place_text(slot, inside, iri.as_str().as_bytes());
+    place_byte(slot, end, b'>')
+}
+
+// A node that the style can't write has no text.
+#[inline(never)]
+fn place_node(slot: &mut [u8], at: usize, node: &NodeRef<'_>, form: &WrittenForm<'_>) -> usize
+    requires { at + (node_room node.now + length form.now.prefix.word.now + 3) ≤ length slot.old }
+    ensures placed { Placed slot.old slot.new at (node_bytes (form_of form.now) node.now) result }
+    ensures within { result ≤ at + (node_room node.now + length form.now.prefix.word.now + 3) }
+{
+    let mut digits = Buffer::new();
+    match letter_and_name(*node, form.style, &mut digits) {
+        None => at,
+        Some((letter, name)) => {
+            let end = place_front(slot, at, form.prefix.as_str(), letter);
+            place_text(slot, end, name.as_bytes())
+        }
+    }
+}
+
+// What stands in front of a name: `_:`, the word, and the letter. A word is mostly empty, which costs a test alone.
+#[inline(always)]
+fn place_front(slot: &mut [u8], at: usize, word: &str, letter: &str) -> usize
+    requires room { at + (length word.now + length letter.now + 2) ≤ length slot.old }
+    requires letter { length letter.now ≤ 1 }
+    ensures { Placed slot.old slot.new at (95 ∷ 58 ∷ (word.now ++ letter.now)) result }
+{
+    let begin = place_two(slot, at, b'_', b':');
+    if word.is_empty() {
+        return place_few(slot, begin, letter.as_bytes());
+    }
+    let end = place_text(slot, begin, word.as_bytes());
+    place_few(slot, end, letter.as_bytes())
+}
+
+#[inline(always)]
+fn place_object(slot: &mut [u8], at: usize, object: &TermRef<'_>, form: &WrittenForm<'_>) -> usize
+    requires plain { stands_as_is form.now.escapes object.now ≡ true }
+    requires room { at + (term_room object.now + length form.now.prefix.word.now + 7) ≤ length slot.old }
+    ensures placed { Placed slot.old slot.new at (term_bytes (form_of form.now) object.now ++ space) result }
+    ensures within { result ≤ at + (term_room object.now + length form.now.prefix.word.now + 7) }
+{
+    let end = place_term(slot, at, object, form);
+    place_byte(slot, end, b' ')
+}
+
+#[inline(always)]
+fn place_term(slot: &mut [u8], at: usize, term: &TermRef<'_>, form: &WrittenForm<'_>) -> usize
+    requires plain { stands_as_is form.now.escapes term.now ≡ true }
+    requires room { at + (term_room term.now + length form.now.prefix.word.now + 6) ≤ length slot.old }
+    ensures placed { Placed slot.old slot.new at (term_bytes (form_of form.now) term.now) result }
+    ensures within { result ≤ at + (term_room term.now + length form.now.prefix.word.now + 6) }
+{
+    match term {
+        TermRef::Iri(iri) => place_iri(slot, at, *iri),
+        TermRef::Node(node) => place_node(slot, at, node, form),
+        TermRef::Literal(literal) => place_literal(slot, at, literal),
+    }
+}
+
+// Apart, as the names of nodes are, so that lines of IRIs run through less code.
+#[inline(never)]
+fn place_literal(slot: &mut [u8], at: usize, literal: &LiteralRef<'_>) -> usize
+    requires text { all_have (goes_over Text) literal.now.lexical.now ≡ true }
+    requires room { at + (length literal.now.lexical.now + tail_room literal.now.tail + 6) ≤ length slot.old }
+    ensures placed { Placed slot.old slot.new at (string_bytes_of Plain literal.now.lexical.now ++ tail_bytes Plain literal.now.tail) result }
+    ensures within { result ≤ at + (length literal.now.lexical.now + tail_room literal.now.tail + 6) }
+{
+    let inside = place_byte(slot, at, b'"');
+    let close = place_text(slot, inside, literal.lexical.as_bytes());
+    let end = place_byte(slot, close, b'"');
+    place_tail(slot, end, literal.tail)
+}
+
+#[inline(always)]
+fn place_tail(slot: &mut [u8], at: usize, tail: TailRef<'_>) -> usize
+    requires { at + (tail_room tail + 4) ≤ length slot.old }
+    ensures placed { Placed slot.old slot.new at (tail_bytes Plain tail.entry) result }
+    ensures within { result ≤ at + (tail_room tail.entry + 4) }
+{
+    match tail {
+        TailRef::Lang(tag) => place_tag(slot, at, tag),
+        TailRef::Typed(datatype) => place_type(slot, at, is_plain(datatype.as_str()), datatype),
+    }
+}
+
+#[inline(always)]
+fn place_tag(slot: &mut [u8], at: usize, tag: TagView<'_>) -> usize
+    requires { at + (length tag.text.now + 1) ≤ length slot.old }
+    ensures { Placed slot.old slot.new at (64 ∷ tag.entry.text.now) result }
+{
+    let inside = place_byte(slot, at, b'@');
+    place_text(slot, inside, tag.as_str().as_bytes())
+}
+
+#[inline(always)]
+fn place_type(slot: &mut [u8], at: usize, plain: bool, datatype: IriView<'_>) -> usize
+    requires { at + (length datatype.text.now + 4) ≤ length slot.old }
+    ensures placed { Placed slot.old slot.new at (encode_utf8_all (type_text Plain plain (iri_chars datatype.entry))) result }
+    ensures within { result ≤ at + (length datatype.entry.text.now + 4) }
+{
+    if plain {
+        return at;
+    }
+    let inside = place_two(slot, at, b'^', b'^');
+    place_iri(slot, inside, datatype)
+}
+
+#[inline(always)]
+fn place_graph(
+    slot: &mut [u8],
+    at: usize,
+    graph: &Option<SubjectRef<'_>>,
+    form: &WrittenForm<'_>,
+) -> usize
+    requires plain { form.now.escapes ≡ Plain }
+    requires room { at + (graph_room graph.now + length form.now.prefix.word.now + 4) ≤ length slot.old }
+    ensures placed { Placed slot.old slot.new at (graph_bytes (form_of form.now) graph.now) result }
+    ensures within { result ≤ at + (graph_room graph.now + length form.now.prefix.word.now + 4) }
+{
+    match graph {
+        None => at,
+        Some(subject) => place_subject(slot, at, subject, form),
+    }
+}

@@ -1,0 +1,104 @@
+// How much room a line takes at most, where its texts are short.
+
+ghost use Rattle.std.specs.Prelude.{◌≡◌, ◌^◌, ◌<◌, ◌≤◌, length, IfSome};
+ghost use Rattle.rdf_lines.specs.declared.form.Escapes.TheVariants.{Plain};
+ghost use Rattle.rdf_lines.specs.Placing.{graph_room, line_room, node_room, stands_as_is, subject_room, tail_room, term_room};
+
+use crate::form::Escapes;
+use rdf_terms::runs::{Run, is_run};
+use rdf_terms::{NodeRef, QuadRef, SubjectRef, TailRef, TermRef};
+
+/// The most bytes that the texts of two parts of a short line have.
+const SHORT: usize = 512;
+
+/// The most bytes of the line of a quad with a word of so many bytes in front of each name, or None where a text is long.
+#[inline(always)]
+pub fn short_room(quad: &QuadRef<'_>, word: &str) -> Option<usize>
+    ensures room { IfSome result (λ room. room ≡ line_room (length word.now) quad.now) }
+    ensures short { IfSome result (λ room. room ≤ 4096) }
+{
+    let names = subject_room(quad.subject) + quad.predicate.as_str().len();
+    let others = graph_room(quad.graph) + word.len();
+    let object = term_room(quad.object);
+    if names > SHORT || others > SHORT || object > SHORT {
+        return None;
+    }
+    Some(names + object + others + 2 * word.len() + 20)
+}
+
+#[inline(always)]
+fn subject_room(subject: SubjectRef<'_>) -> usize
+    ensures room { result ≡ subject_room subject.entry }
+    ensures fits { result < 2 ^ 63 }
+{
+    match subject {
+        SubjectRef::Iri(iri) => iri.as_str().len(),
+        SubjectRef::Node(node) => node_room(node),
+    }
+}
+
+#[inline(always)]
+fn node_room(node: NodeRef<'_>) -> usize
+    ensures room { result ≡ node_room node.entry }
+    ensures fits { result < 2 ^ 63 }
+{
+    match node {
+        NodeRef::Label(label) => label.as_str().len(),
+        NodeRef::Anon(_) => 20,
+        NodeRef::Cell(_) => 20,
+    }
+}
+
+#[inline(always)]
+fn term_room(term: TermRef<'_>) -> usize
+    ensures { result ≡ term_room term.entry }
+{
+    match term {
+        TermRef::Iri(iri) => iri.as_str().len(),
+        TermRef::Node(node) => node_room(node),
+        TermRef::Literal(literal) => literal.lexical.len() + tail_room(literal.tail),
+    }
+}
+
+#[inline(always)]
+fn tail_room(tail: TailRef<'_>) -> usize
+    ensures { result ≡ tail_room tail.entry }
+{
+    match tail {
+        TailRef::Lang(tag) => tag.as_str().len(),
+        TailRef::Typed(datatype) => datatype.as_str().len(),
+    }
+}
+
+#[inline(always)]
+fn graph_room(graph: Option<SubjectRef<'_>>) -> usize
+    ensures room { result ≡ graph_room graph.entry }
+    ensures fits { result < 2 ^ 63 }
+{
+    match graph {
+        None => 0,
+        Some(subject) => subject_room(subject),
+    }
+}
+
+/// Whether an object has no escapes, in the plain form.
+#[inline(always)]
+pub fn stands_as_is(escapes: Escapes, object: TermRef<'_>) -> bool
+    ensures { result ≡ stands_as_is escapes object.entry }
+{
+    match escapes {
+        Escapes::Ascii => false,
+        Escapes::Plain => has_no_escapes(object),
+    }
+}
+
+#[inline(always)]
+fn has_no_escapes(object: TermRef<'_>) -> bool
+    ensures { result ≡ stands_as_is Plain object.entry }
+{
+    match object {
+        TermRef::Iri(_) => true,
+        TermRef::Node(_) => true,
+        TermRef::Literal(literal) => is_run(Run::Text, literal.lexical.as_bytes()),
+    }
+}
