@@ -21,7 +21,7 @@ pub fn put_in_parts<A: Allocator + Copy>(
     ensures unchanged { OnErr result (out.new.items ≡ out.old.items) }
 {
     let start = out.len();
-    match put_line(*quad, *form, out) {
+    match put_line(quad, form, out) {
         Ok(()) => Ok(()),
         Err(fault) => {
             out.truncate(start);
@@ -30,18 +30,19 @@ pub fn put_in_parts<A: Allocator + Copy>(
     }
 }
 
+#[inline(always)]
 fn put_line<A: Allocator + Copy>(
-    quad: QuadRef<'_>,
-    form: WrittenForm<'_>,
+    quad: &QuadRef<'_>,
+    form: &WrittenForm<'_>,
     out: &mut Vec<u8, A>,
 ) -> Result<(), AllocError>
-    ensures written { OnOk result (out.new.items ≡ out.old.items ++ line_bytes (form_of form.entry) quad.entry) }
+    ensures written { OnOk result (out.new.items ≡ out.old.items ++ line_bytes (form_of form.now) quad.now) }
     ensures grown { OnErr result (BeginsWith out.old.items out.new.items) }
 {
-    put_subject(quad.subject, form, out)?;
+    put_subject(quad.subject, *form, out)?;
     put_predicate(quad.predicate, form.escapes, out)?;
-    put_object(quad.object, form, out)?;
-    put_end(quad.graph, form, out)
+    put_object(quad.object, *form, out)?;
+    put_end(quad.graph, *form, out)
 }
 
 #[inline(always)]

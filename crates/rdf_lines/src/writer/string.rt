@@ -58,7 +58,7 @@ fn put_in_ascii<A: Allocator + Copy>(
     put_escaped(iri.as_str(), Escapes::Ascii, out)
 }
 
-// A text that is a run stands as it is.
+// Run by run: a text that is one run stands as it is.
 #[tactic(auto, using(crate::proofs::WrittenBytesLemmas::begins_with_front))]
 fn put_escaped<A: Allocator + Copy>(
     text: &str,
@@ -68,9 +68,6 @@ fn put_escaped<A: Allocator + Copy>(
     ensures written { OnOk result (out.new.items ≡ out.old.items ++ escaped_bytes escapes text.now) }
     ensures grown { OnErr result (BeginsWith out.old.items out.new.items) }
 {
-    if is_run(run_of(escapes), text.as_bytes()) {
-        return out.extend_from_slice(text.as_bytes());
-    }
     let mut rest = text;
     while !rest.is_empty() {
         rest = put_run(rest, escapes, out)?;
@@ -91,6 +88,9 @@ fn put_run<'a, A: Allocator + Copy>(
     let at = run_end(run_of(escapes), text.as_bytes(), 0);
     let (run, rest) = text.split_at(at);
     out.extend_from_slice(run.as_bytes())?;
+    if rest.is_empty() {
+        return Ok(rest);
+    }
     put_first(rest, escapes, out)
 }
 

@@ -9,8 +9,8 @@ use Rattle.rdf_lines.proofs.writer.line.put_line.Goals as goal
 pub returns-clause-written : goal.returns-clause-written
 returns-clause-written g c =
     let out = c.args.out.now.items in
-    let quad = c.args.quad in
-    let form = form_of c.args.form in
+    let quad = c.args.quad.now in
+    let form = form_of c.args.form.now in
     let subject = subject_bytes form quad.subject ++ space in
     let predicate = iri_bytes form.escapes quad.predicate ++ space in
     let object = term_bytes form quad.object ++ space in
