@@ -82,12 +82,13 @@ fn put_quad<A: Allocator + Copy>(
     ensures written { OnOk result (out.new.items ≡ out.old.items ++ line_bytes (form_of form.now) quad.now) }
     ensures unchanged { OnErr result (out.new.items ≡ out.old.items) }
 {
-    if !stands_as_is(form.escapes, quad.object) {
-        return put_in_parts(quad, form, out);
-    }
-    match short_room(quad, form.prefix.as_str()) {
-        None => put_in_parts(quad, form, out),
-        Some(room) => put_at_once(quad, form, room, out),
+    let room = match form.escapes {
+        Escapes::Plain => short_room(quad, form.prefix.as_str()),
+        Escapes::Ascii => None,
+    };
+    match room {
+        Some(room) if stands_as_is(form.escapes, quad.object) => put_at_once(quad, form, room, out),
+        _ => put_in_parts(quad, form, out),
     }
 }
 

@@ -12,6 +12,9 @@ use rdf_terms::IriView;
 use rdf_terms::runs::{Run, is_run, run_end};
 use std::alloc::{AllocError, Allocator};
 
+/// How many bytes a text has at least of which it is tested whether it is one run.
+const LONG: usize = 128;
+
 pub fn put_string<A: Allocator + Copy>(
     text: &str,
     escapes: Escapes,
@@ -58,7 +61,7 @@ fn put_in_ascii<A: Allocator + Copy>(
     put_escaped(iri.as_str(), Escapes::Ascii, out)
 }
 
-// Run by run: a text that is one run stands as it is.
+// Run by run. Whether a long text is one run is tested first, since that goes by more bytes at a time.
 #[tactic(auto, using(crate::proofs::WrittenBytesLemmas::begins_with_front))]
 fn put_escaped<A: Allocator + Copy>(
     text: &str,
@@ -68,6 +71,9 @@ fn put_escaped<A: Allocator + Copy>(
     ensures written { OnOk result (out.new.items ≡ out.old.items ++ escaped_bytes escapes text.now) }
     ensures grown { OnErr result (BeginsWith out.old.items out.new.items) }
 {
+    if text.len() >= LONG && is_run(run_of(escapes), text.as_bytes()) {
+        return out.extend_from_slice(text.as_bytes());
+    }
     let mut rest = text;
     while !rest.is_empty() {
         rest = put_run(rest, escapes, out)?;
