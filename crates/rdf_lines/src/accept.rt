@@ -246,7 +246,7 @@ impl<A: Allocator> State<A> {
             object: self.object(kind),
             graph,
         };
-        match sink.put(quad) {
+        match sink.put(&quad) {
             Ok(()) => Ok(Mode::AfterDot),
             Err(PutFault::Memory) => Err(Reason::Memory),
             Err(PutFault::Device) => Err(Reason::Sink),

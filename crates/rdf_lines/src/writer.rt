@@ -40,14 +40,14 @@ pub enum LabelFault {
 /// LF and CR are escaped, and xsd:string is not written. In ASCII the characters above U+007F of strings and IRIs are
 /// escaped too, and those of labels stay.
 pub fn write_line<A: Allocator + Copy>(
-    quad: QuadRef<'_>,
+    quad: &QuadRef<'_>,
     style: Style,
     escapes: Escapes,
     out: &mut Vec<u8, A>,
 ) -> Result<(), LabelFault>
-    ensures written { OnOk result (out.new.items ≡ out.old.items ++ encode_utf8_all (line style escapes (quad_of quad.entry))) }
+    ensures written { OnOk result (out.new.items ≡ out.old.items ++ encode_utf8_all (line style escapes (quad_of quad.now))) }
     ensures unchanged { OnErr result (out.new.items ≡ out.old.items) }
-    ensures not_labelled { IsErrOf result LabelFault.NotLabelled ↔ ¬ CanWrite style (quad_of quad.entry) }
+    ensures not_labelled { IsErrOf result LabelFault.NotLabelled ↔ ¬ CanWrite style (quad_of quad.now) }
 {
     let form = WrittenForm::new(style, escapes);
     write_line_in(quad, form, out)
@@ -55,18 +55,18 @@ pub fn write_line<A: Allocator + Copy>(
 
 /// The same, with a word in front of each node's name, after its `_:`. Without characters it is what `write_line` appends.
 pub fn write_line_in<A: Allocator + Copy>(
-    quad: QuadRef<'_>,
+    quad: &QuadRef<'_>,
     form: WrittenForm<'_>,
     out: &mut Vec<u8, A>,
 ) -> Result<(), LabelFault>
-    ensures written { OnOk result (out.new.items ≡ out.old.items ++ encode_utf8_all (line_in (form_of form.entry) (quad_of quad.entry))) }
+    ensures written { OnOk result (out.new.items ≡ out.old.items ++ encode_utf8_all (line_in (form_of form.entry) (quad_of quad.now))) }
     ensures unchanged { OnErr result (out.new.items ≡ out.old.items) }
-    ensures not_labelled { IsErrOf result LabelFault.NotLabelled ↔ ¬ CanWrite form.entry.style (quad_of quad.entry) }
+    ensures not_labelled { IsErrOf result LabelFault.NotLabelled ↔ ¬ CanWrite form.entry.style (quad_of quad.now) }
 {
     if !can_write(quad, form.style) {
         return Err(LabelFault::NotLabelled);
     }
-    match put_quad(&quad, &form, out) {
+    match put_quad(quad, &form, out) {
         Ok(()) => Ok(()),
         Err(_) => Err(LabelFault::Memory),
     }

@@ -126,7 +126,7 @@ impl QuadSink for NoQuads {
 
     ghost has_failed = { λ sink. false };
 
-    fn put(&mut self, _: QuadRef<'_>) -> Result<(), PutFault> {
+    fn put(&mut self, _: &QuadRef<'_>) -> Result<(), PutFault> {
         Ok(())
     }
 

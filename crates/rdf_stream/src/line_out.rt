@@ -206,7 +206,7 @@ impl<'a, D: Drain, A: Allocator + Copy> QuadSink for LineOut<'a, D, A> {
 
     ghost has_failed = { λ sink. D.has_failed sink.drain.now };
 
-    fn put(&mut self, quad: QuadRef<'_>) -> Result<(), PutFault> {
+    fn put(&mut self, quad: &QuadRef<'_>) -> Result<(), PutFault> {
         see_quad(quad);
         match write_line_in(quad, self.form, self.buffer) {
             Ok(()) => {}

@@ -112,11 +112,11 @@ impl<'a, T: Spoken, D: Drain, A: Allocator + Copy> Accepts<LineOut<'a, D, A>> fo
     ghost has_failed = { λ lines. D.has_failed lines.drain.now };
 
     // The end has no line.
-    fn accept(&mut self, token: Token<'_>, lines: &mut LineOut<'a, D, A>) -> Result<u64, Reason> {
+    fn accept(&mut self, token: &Token<'_>, lines: &mut LineOut<'a, D, A>) -> Result<u64, Reason> {
         if is_end(token.kind) {
             return Ok(0);
         }
-        match lines.put_token(token) {
+        match lines.put_token(*token) {
             Ok(()) => Ok(1),
             Err(PutFault::Memory) => Err(Reason::Memory),
             Err(PutFault::Device) => Err(Reason::Sink),

@@ -8,8 +8,8 @@ ghost use Rattle.rdf_terms.specs.Views.{node_by, subject_by, tail_by, term_by, q
 use rdf_terms::{LiteralRef, NodeRef, QuadRef, SubjectRef, TermRef};
 
 /// The quad is well formed.
-pub(crate) fn see_quad(quad: QuadRef<'_>)
-    ensures { ∥ IsQuad (quad_of quad.entry) ∥₁ }
+pub(crate) fn see_quad(quad: &QuadRef<'_>)
+    ensures { ∥ IsQuad (quad_of quad.now) ∥₁ }
 {
     see_subject(quad.subject);
     see_term(quad.object);

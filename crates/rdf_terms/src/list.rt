@@ -62,7 +62,7 @@ impl<A: Allocator + Copy> QuadSink for QuadList<A> {
 
     ghost has_failed = { λ _. false };
 
-    fn put(&mut self, quad: QuadRef<'_>) -> Result<(), PutFault> {
+    fn put(&mut self, quad: &QuadRef<'_>) -> Result<(), PutFault> {
         let Ok(quad) = quad.try_copy(self.alloc) else {
             return Err(PutFault::Memory);
         };

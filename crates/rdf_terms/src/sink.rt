@@ -25,10 +25,10 @@ pub trait QuadSink {
     ghost has_failed: { Self → Bool };
 
     /// Takes a quad, in the order of the calls. After `Device` it is not called again.
-    fn put(&mut self, quad: QuadRef<'_>) -> Result<(), PutFault>
+    fn put(&mut self, quad: &QuadRef<'_>) -> Result<(), PutFault>
         requires live { has_failed self.old ≡ false }
-        ensures taken { OnOk result (takes self.old (quad_of quad.entry) self.new) }
-        ensures left { OnErr result (leaves self.old (quad_of quad.entry) self.new) }
+        ensures taken { OnOk result (takes self.old (quad_of quad.now) self.new) }
+        ensures left { OnErr result (leaves self.old (quad_of quad.now) self.new) }
         ensures device { (has_failed self.new ≡ true) ↔ (result ≡ Err PutFault.Device) };
 
     /// Whether a put has answered `Device`.

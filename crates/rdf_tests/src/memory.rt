@@ -137,7 +137,7 @@ fn keep_quad<A: Allocator + Copy>(
     list: &mut QuadList<A>,
 ) -> Result<(), Stop> {
     match quad.try_copy(alloc) {
-        Ok(copy) => match list.put(copy.view()) {
+        Ok(copy) => match list.put(&copy.view()) {
             Ok(()) => Ok(()),
             Err(fault) => Err(Stop::from(fault)),
         },
@@ -152,7 +152,7 @@ fn append<A: Allocator + Copy>(
     out: &mut Vec<u8, A>,
 ) -> Result<(), Stop> {
     let len = out.len();
-    match write_line(quad, Style::Tagged, escapes, out) {
+    match write_line(&quad, Style::Tagged, escapes, out) {
         Ok(()) => Ok(()),
         Err(fault) if out.len() == len => Err(Stop::from(fault)),
         Err(_) => Err(Stop::Wrong),

@@ -26,7 +26,7 @@ impl QuadSink for RecordingSink {
 
     ghost has_failed = { λ sink. sink.failed };
 
-    fn put(&mut self, quad: QuadRef<'_>) -> Result<(), PutFault> {
+    fn put(&mut self, quad: &QuadRef<'_>) -> Result<(), PutFault> {
         self.puts = self.puts.saturating_add(1);
         if self.quads >= self.room {
             self.failed = true;
@@ -57,7 +57,7 @@ impl QuadSink for CountingSink {
 
     ghost has_failed = { λ _. false };
 
-    fn put(&mut self, _: QuadRef<'_>) -> Result<(), PutFault> {
+    fn put(&mut self, _: &QuadRef<'_>) -> Result<(), PutFault> {
         self.quads = self.quads.saturating_add(1);
         Ok(())
     }
@@ -85,7 +85,7 @@ fn lines_of(alloc: Global, list: &QuadList) -> Result<Vec<u8>, LabelFault> {
     let mut out = Vec::new(alloc);
     for i in 0..list.len() {
         if let Some(quad) = list.get(i) {
-            write_line(quad, Style::Tagged, Escapes::Plain, &mut out)?;
+            write_line(&quad, Style::Tagged, Escapes::Plain, &mut out)?;
         }
     }
     Ok(out)
@@ -102,7 +102,7 @@ pub fn has_lines(alloc: Global, list: &QuadList, lines: &str) -> bool {
 /// Whether this is the line of a quad.
 pub fn has_line(alloc: Global, quad: QuadRef<'_>, line: &str) -> bool {
     let mut out = Vec::new(alloc);
-    match write_line(quad, Style::Tagged, Escapes::Plain, &mut out) {
+    match write_line(&quad, Style::Tagged, Escapes::Plain, &mut out) {
         Ok(()) => out.as_slice() == line.as_bytes(),
         Err(_) => false,
     }

@@ -374,9 +374,9 @@ _:nx <http://www.w3.org/1999/02/22-rdf-syntax-ns#type> \"é\"@en-GB .
 fn keeps_quads(alloc: Global, label: LabelView<'_>, tag: TagView<'_>) -> bool {
     let first = tagged(label, tag);
     let mut list = QuadList::new(alloc);
-    let is_kept = list.put(first).is_ok()
-        && list.put(of_nodes()).is_ok()
-        && list.put(first).is_ok();
+    let is_kept = list.put(&first).is_ok()
+        && list.put(&of_nodes()).is_ok()
+        && list.put(&first).is_ok();
     is_kept
         && list.len() == 3
         && !list.failed()

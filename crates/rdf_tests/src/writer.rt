@@ -95,7 +95,7 @@ fn quad<'a>(label: LabelView<'a>, iri: IriView<'a>, object: TermRef<'a>) -> Quad
 /// Whether this is the line of a quad with its labels kept.
 fn has_line(alloc: Global, quad: QuadRef<'_>, escapes: Escapes, line: &str) -> bool {
     let mut out = Vec::new(alloc);
-    match write_line(quad, Style::Kept, escapes, &mut out) {
+    match write_line(&quad, Style::Kept, escapes, &mut out) {
         Ok(()) => out.as_slice() == line.as_bytes(),
         Err(_) => false,
     }
@@ -141,8 +141,8 @@ fn is_whole_or_not_at_all(alloc: Global, iri: IriView<'_>) -> bool {
         graph: Some(SubjectRef::Node(NodeRef::Cell(7))),
     };
     let mut out = Vec::new(alloc);
-    let written = write_line(quad, Style::Tagged, Escapes::Plain, &mut out);
-    let refused = write_line(quad, Style::Kept, Escapes::Plain, &mut out);
+    let written = write_line(&quad, Style::Tagged, Escapes::Plain, &mut out);
+    let refused = write_line(&quad, Style::Kept, Escapes::Plain, &mut out);
     written == Ok(())
         && refused == Err(LabelFault::NotLabelled)
         && out.as_slice() == b"<a:b> <a:b> _:a19 _:c7 .\n".as_slice()

@@ -196,7 +196,7 @@ fn put<S: QuadSink>(quad: Option<QuadRef<'_>>, sink: &mut S) -> Result<u64, Step
     let Some(quad) = quad else {
         return Ok(0);
     };
-    match sink.put(quad) {
+    match sink.put(&quad) {
         Ok(()) => Ok(1),
         Err(PutFault::Memory) => Err(StepFault::Memory),
         Err(PutFault::Device) => Err(StepFault::Sink),

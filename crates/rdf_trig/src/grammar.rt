@@ -115,10 +115,10 @@ impl<A: Allocator + Copy> Grammar for TreeGrammar<A> {
 }
 
 impl<A: Allocator + Copy> QuadGrammar for TreeGrammar<A> {
-    fn accept_quads<S: QuadSink>(&mut self, token: Token<'_>, sink: &mut S) -> Result<u64, Reason> {
+    fn accept_quads<S: QuadSink>(&mut self, token: &Token<'_>, sink: &mut S) -> Result<u64, Reason> {
         match self
             .state
-            .accept(&self.rules, &mut self.scope, &token, sink)
+            .accept(&self.rules, &mut self.scope, token, sink)
         {
             Ok(given) => Ok(given),
             Err(fault) => {

@@ -6,7 +6,7 @@ use crate::state::{Container, Frame};
 use std::alloc::{AllocError, Allocator, Global};
 
 /// How many frames are kept.
-const MOST: usize = 8;
+const MOST: usize = 1_024;
 
 /// Frames that are in no use. What stands in their buffers is room for the next texts.
 #[derive(Drop)]

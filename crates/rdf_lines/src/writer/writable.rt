@@ -8,8 +8,8 @@ ghost use Rattle.rdf_lines.specs.Writing.{CanWrite, CanWriteGraph, CanWriteNode,
 use crate::form::Style;
 use rdf_terms::{NodeRef, QuadRef, SubjectRef, TermRef};
 
-pub fn can_write(quad: QuadRef<'_>, style: Style) -> bool
-    ensures { Decides result (CanWrite style (quad_of quad.entry)) }
+pub fn can_write(quad: &QuadRef<'_>, style: Style) -> bool
+    ensures { Decides result (CanWrite style (quad_of quad.now)) }
 {
     match style {
         Style::Tagged => true,
@@ -17,8 +17,8 @@ pub fn can_write(quad: QuadRef<'_>, style: Style) -> bool
     }
 }
 
-fn can_keep(quad: QuadRef<'_>) -> bool
-    ensures { Decides result (CanWrite Kept (quad_of quad.entry)) }
+fn can_keep(quad: &QuadRef<'_>) -> bool
+    ensures { Decides result (CanWrite Kept (quad_of quad.now)) }
 {
     can_write_subject(quad.subject, Style::Kept)
         && can_write_term(quad.object, Style::Kept)
