@@ -51,6 +51,38 @@ pub fn run_end(run: Run, bytes: &[u8], from: usize) -> usize
     short_run_end(run, bytes, at)
 }
 
+/// Where the run from a place on ends, and where the one ends that begins after the byte there, if there is one.
+#[inline(always)]
+pub fn two_run_ends(run: Run, bytes: &[u8], from: usize) -> (usize, usize)
+    requires { from ≤ length bytes.now }
+{
+    if bytes.len() - from < LANES {
+        let first = short_run_end(run, bytes, from);
+        return (first, end_after(run, bytes, first));
+    }
+    let hits = stops(run, u8x16::from_slice(&bytes[from..]));
+    if hits == 0 {
+        let first = run_end(run, bytes, from + LANES);
+        return (first, end_after(run, bytes, first));
+    }
+    let first = from + hits.trailing_zeros() as usize;
+    let others = hits & (hits - 1);
+    if others == 0 {
+        return (first, run_end(run, bytes, from + LANES));
+    }
+    (first, from + others.trailing_zeros() as usize)
+}
+
+#[inline(always)]
+fn end_after(run: Run, bytes: &[u8], at: usize) -> usize
+{
+    if at < bytes.len() {
+        run_end(run, bytes, at + 1)
+    } else {
+        at
+    }
+}
+
 /// The same byte by byte.
 #[inline(always)]
 fn short_run_end(run: Run, bytes: &[u8], from: usize) -> usize

@@ -13,7 +13,7 @@ ghost use Rattle.rdf_terms.specs.Runs.{IsRun, is_ascii_text_byte};
 
 use crate::front::{NoNames, begins_in_letter};
 use crate::states::text::Quote;
-use rdf_terms::runs::{Run, run_end};
+use rdf_terms::runs::{Run, run_end, two_run_ends};
 use rdf_terms::{Dialect, Kind};
 
 /// The length and the kind of a token. Without a kind nothing is told.
@@ -41,7 +41,7 @@ pub(crate) fn quick_front(dialect: Dialect, text: &str, no_names: &Option<NoName
         return quick_name(text);
     }
     if is_named(dialect, bytes) {
-        return quick_local(text, 0);
+        return quick_local(text, 0, run_end(Run::Name, bytes, 1));
     }
     if is_dot(dialect, bytes) {
         return Quick {
@@ -363,9 +363,9 @@ fn quick_name(text: &str) -> Quick
     ensures { IsQuick Turtle text.now result.len result.kind }
 {
     let bytes = text.as_bytes();
-    let colon = run_end(Run::Name, bytes, 1);
+    let (colon, end) = two_run_ends(Run::Name, bytes, 1);
     if is_colon(bytes, colon) {
-        return quick_local(text, colon);
+        return quick_local(text, colon, end);
     }
     if is_a(bytes, colon) {
         return Quick {
@@ -378,14 +378,13 @@ fn quick_name(text: &str) -> Quick
 
 /// A name of Turtle, whose prefix ends before the colon at this place. Its local part is of letters, digits, `_` and `-`, or empty.
 #[inline(always)]
-fn quick_local(text: &str, colon: usize) -> Quick
+fn quick_local(text: &str, colon: usize, end: usize) -> Quick
     requires prefix { IsPrefix text.now colon }
     requires colon { is_colon text.now colon ≡ true }
     ensures { IsQuick Turtle text.now result.len result.kind }
 {
     let bytes = text.as_bytes();
     let local = colon + 1;
-    let end = run_end(Run::Name, bytes, local);
     if !is_name_end(bytes, end) {
         return Quick { len: 0, kind: None };
     }
