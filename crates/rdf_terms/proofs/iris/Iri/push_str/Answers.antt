@@ -1,5 +1,5 @@
 -- The text is the old one with the new characters, or the old one.
-use Rattle.std.proofs.Common.{◌≡◌, ◌++◌, ◌∙◌, ℕ, List, true, cond, ap, sym, subst}
+use Rattle.std.proofs.Common.{◌≡◌, ◌++◌, ◌∙◌, ℕ, List, cond, ap, sym, subst}
 use Rattle.std.specs.Prelude.{Result, Ok, Err, OnOk, is_ok}
 use Rattle.std.specs.Str.{chars, IsUtf8}
 use Rattle.std.specs.String.{string_bytes}
