@@ -1,8 +1,10 @@
 -- Runs of bytes, from the lanes of a load to whole texts.
-use Rattle.std.proofs.Common.{◌≡◌, ℕ, zero, suc, ◌+◌, ◌%◌, ◌^◌, ◌<◌, ◌≤◌, Bool, true, false, not, ◌&&◌, ◌==◌, List, [], ◌∷◌, length, map, get_or, refl, sym, ap, ap₂, ◌∙◌, arith, ⊎_elim, Fits, w8}
+use Rattle.std.proofs.Common.{◌≡◌, ℕ, zero, suc, ◌+◌, ◌-◌, ◌*◌, ◌/◌, ◌%◌, ◌^◌, ◌<◌, ◌≤◌, Bool, true, false, not, cond, ◌&&◌, ◌==◌, List, [], ◌∷◌, length, map, take, drop, get_or, refl, sym, ap, ap₂, subst, ◌∙◌, arith, ⊎_elim, Fits, w8}
+use Rattle.std.proofs.Math.Nat.{div-one, zero-div, pow-suc, mul_comm, div-div-eq-div-mul}
 use Rattle.std.proofs.lemmas.Bool.{agree_below, agree_below_at, not-true, not-false, and_from, cases_lt, eq-eqb, ne_eqb}
-use Rattle.std.proofs.lemmas.List.{length-map}
-use Rattle.std.proofs.lemmas.Simd.{map-map, mask_l-mod, zip2_of_maps, run_in_chunk_le, run_in_chunk_fails, run_in_chunk_stops}
+use Rattle.std.proofs.lemmas.List.{length-map, drop-take, drop-drop}
+use Rattle.std.proofs.lemmas.Simd.{map-map, mask_l-mod, zip2_of_maps, run_in_chunk_le, run_in_chunk_fails, run_in_chunk_stops, length-chunk, leading_from_mask_l, trailing_mask_l}
+use lib.Count.{count_trailing_zeros}
 use Rattle.std.specs.List.{prefix_len}
 use lib.Lanes.{Each1, chunk, mask_l, top, zip2}
 use Rattle.rdf_terms.specs.Terms.{all_have}
@@ -69,3 +71,99 @@ run_decides p bs end r =
     (λ l. let whole : end ≡ length bs = omega (arith, r.within) in
     eq-eqb end (length bs) whole ∙ sym (all_pass p bs (λ k from to. r.pass k from (omega arith))))
     (cases_lt end (length bs))
+
+-- the mask of what does not pass among so many bytes from a place on
+abbrev pub stop_mask : (ℕ → Bool) → List ℕ → ℕ → ℕ → ℕ
+stop_mask p bs at n = mask_l (map (λ b. not (p b)) (chunk at n bs))
+
+-- without a bit in the mask all bytes pass
+pub none_stops : (p : ℕ → Bool) (bs : List ℕ) (at n : ℕ) → at + n ≤ length bs → stop_mask p bs at n ≡ 0 → IsRunIn p bs at n n
+none_stops p bs at n room none =
+    run_in p bs at n n room (sym (leading_from_mask_l (λ b. not (p b)) (chunk at n bs) none ∙ length-chunk at n bs room))
+
+-- a mask with a bit has it below its length
+set_below : (q : ℕ → Bool) (xs : List ℕ) → 0 < mask_l (map q xs) → prefix_len (λ x. not (q x)) xs < length xs
+set_below q [] some = absurd (omega arith)
+set_below q (x ∷ xs) some = by (q x) (mask_l (map q xs)) some (set_below q xs)
+  where
+    by : (b : Bool) (m : ℕ) → 0 < cond b 1 0 + 2 * m → (0 < m → prefix_len (λ y. not (q y)) xs < length xs) →
+        cond (not b) (1 + prefix_len (λ y. not (q y)) xs) 0 < suc (length xs)
+    by true m some rest = omega arith
+    by false m some rest = omega (arith, rest (omega arith))
+
+-- the lowest bit of the mask is the first byte that does not pass
+module _ (p : ℕ → Bool) (bs : List ℕ) (at n : ℕ) (room : at + n ≤ length bs) (few : n ≤ 64) (some : 0 < stop_mask p bs at n) where
+  counted : count_trailing_zeros 64 (stop_mask p bs at n) ≡ prefix_len (λ x. not (not (p x))) (chunk at n bs)
+  counted = trailing_mask_l (λ b. not (p b)) 64 (chunk at n bs) (omega (arith, length-chunk at n bs room)) some
+
+  pub one_stops : IsRunIn p bs at n (count_trailing_zeros 64 (stop_mask p bs at n))
+  one_stops = run_in p bs at n _ room counted
+
+  pub one_within : count_trailing_zeros 64 (stop_mask p bs at n) < n
+  one_within = omega (arith, counted, set_below (λ b. not (p b)) (chunk at n bs) some, length-chunk at n bs room)
+
+  pub one_ends : IsRun p bs at (at + count_trailing_zeros 64 (stop_mask p bs at n))
+  one_ends = record {
+    from = omega arith;
+    within = omega (arith, one_within);
+    pass = one_stops.pass;
+    stops = λ _. one_stops.stops one_within;
+  }
+
+-- a mask without its lowest bits is that of the bytes after them
+mask-drop : (q : ℕ → Bool) (n : ℕ) (xs : List ℕ) → mask_l (map q xs) / 2 ^ n ≡ mask_l (map q (drop n xs))
+mask-drop q zero xs = div-one (mask_l (map q xs))
+mask-drop q (suc n) [] = zero-div (2 ^ suc n)
+mask-drop q (suc n) (x ∷ xs) =
+    let m = mask_l (map q (x ∷ xs)) in
+    ap (λ k. m / k) (pow-suc 2 n ∙ mul_comm (2 ^ n) 2) ∙ sym (div-div-eq-div-mul m 2 (2 ^ n)) ∙ ap (λ k. k / 2 ^ n) (half (q x) (mask_l (map q xs)))
+    ∙ mask-drop q n xs
+  where
+    half : (b : Bool) (m : ℕ) → (cond b 1 0 + 2 * m) / 2 ≡ m
+    half true m = omega arith
+    half false m = omega arith
+
+-- the same of the bytes of a load
+pub stop_mask-after : (p : ℕ → Bool) (bs : List ℕ) (at k m n : ℕ) → k + m ≡ n → stop_mask p bs at n / 2 ^ k ≡ stop_mask p bs (at + k) m
+stop_mask-after p bs at k m n sum =
+    let q : ℕ → Bool = λ b. not (p b) in
+    ap (λ j. mask_l (map q (chunk at j bs)) / 2 ^ k) (sym sum)
+    ∙ mask-drop q k (chunk at (k + m) bs)
+    ∙ ap (λ l. mask_l (map q l)) (drop-take k m (drop at bs) ∙ ap (take m) (drop-drop k at bs))
+
+-- a run goes on after bytes that all pass
+pub run_on : (p : ℕ → Bool) (bs : List ℕ) (at n mid end : ℕ) → at + n ≡ mid → IsRunIn p bs at n n → IsRun p bs mid end → IsRun p bs at end
+run_on p bs at n mid end sum front r = record {
+  from = omega (arith, sum, r.from);
+  within = r.within;
+  pass = pass-more p bs at mid end (λ k from to. front.pass k from (omega (arith, sum))) r.pass;
+  stops = r.stops;
+}
+
+-- the mask of sixteen bytes with a bit ends the run before the first bit, and the next run before the second
+module _ (p : ℕ → Bool) (bs : List ℕ) (at m : ℕ) (room : at + 16 ≤ length bs) (is : m ≡ stop_mask p bs at 16) (some : 0 < m) where
+  same : count_trailing_zeros 64 m ≡ count_trailing_zeros 64 (stop_mask p bs at 16)
+  same = ap (count_trailing_zeros 64) is
+
+  pub first_within : count_trailing_zeros 64 m < 16
+  first_within = omega (arith, same, one_within p bs at 16 room (omega arith) (omega (arith, is, some)))
+
+  pub first_ends : IsRun p bs at (at + count_trailing_zeros 64 m)
+  first_ends = subst (λ k. IsRun p bs at (at + k)) (sym same) (one_ends p bs at 16 room (omega arith) (omega (arith, is, some)))
+
+  pub others_are : m / 2 ^ (count_trailing_zeros 64 m + 1) ≡ stop_mask p bs (at + count_trailing_zeros 64 m + 1) (15 - count_trailing_zeros 64 m)
+  others_are =
+      let k = count_trailing_zeros 64 m + 1 in
+      ap (λ n. n / 2 ^ k) is ∙ stop_mask-after p bs at k (15 - count_trailing_zeros 64 m) 16 (omega (arith, first_within))
+      ∙ ap (λ j. stop_mask p bs j (15 - count_trailing_zeros 64 m)) (omega arith)
+
+  pub second_beyond : (end : ℕ) → m / 2 ^ (count_trailing_zeros 64 m + 1) ≡ 0 → IsRun p bs (at + 16) end → IsRun p bs (at + count_trailing_zeros 64 m + 1) end
+  second_beyond end none r =
+      run_on p bs _ (15 - count_trailing_zeros 64 m) (at + 16) end (omega (arith, first_within))
+      (none_stops p bs _ (15 - count_trailing_zeros 64 m) (omega (arith, first_within, room)) (sym others_are ∙ none)) r
+
+  pub second_ends : 0 < m / 2 ^ (count_trailing_zeros 64 m + 1) → IsRun p bs (at + count_trailing_zeros 64 m + 1)
+      (at + count_trailing_zeros 64 m + 1 + count_trailing_zeros 64 (m / 2 ^ (count_trailing_zeros 64 m + 1)))
+  second_ends more =
+      subst (λ o. IsRun p bs (at + count_trailing_zeros 64 m + 1) (at + count_trailing_zeros 64 m + 1 + count_trailing_zeros 64 o)) (sym others_are)
+      (one_ends p bs _ (15 - count_trailing_zeros 64 m) (omega (arith, first_within, room)) (omega arith) (omega (arith, others_are, more)))

@@ -1,6 +1,6 @@
 // Runs of bytes that a text has as they are, seen sixteen at a time.
 
-ghost use Rattle.std.specs.Prelude.{◌≡◌, ◌+◌, ◌≤◌, length, map, not};
+ghost use Rattle.std.specs.Prelude.{◌≡◌, ◌+◌, ◌≤◌, ◌<◌, length, map, not};
 ghost use Rattle.std.specs.Simd.Lanes.{mask_l};
 ghost use Rattle.rdf_terms.specs.Runs.{iri_byte, goes_over, is_ascii_byte, is_ascii_text_byte, is_name_byte, is_text_byte, is_unescaped, is_line_break, is_comment_byte, is_space, is_white, IsRun, IsRunIn};
 ghost use Rattle.rdf_terms.specs.Terms.{all_have};
@@ -51,10 +51,13 @@ pub fn run_end(run: Run, bytes: &[u8], from: usize) -> usize
     short_run_end(run, bytes, at)
 }
 
-/// Where the run from a place on ends, and where the one ends that begins after the byte there, if there is one.
+/// The end of the run from a place on, and the end of the run after the byte there, where there is one. Both are seen in one load where
+/// they are near.
 #[inline(always)]
 pub fn two_run_ends(run: Run, bytes: &[u8], from: usize) -> (usize, usize)
     requires { from ≤ length bytes.now }
+    ensures first { IsRun (goes_over run) bytes.now from result.0 }
+    ensures second { result.0 < length bytes.now → IsRun (goes_over run) bytes.now (result.0 + 1) result.1 }
 {
     if bytes.len() - from < LANES {
         let first = short_run_end(run, bytes, from);
@@ -65,16 +68,22 @@ pub fn two_run_ends(run: Run, bytes: &[u8], from: usize) -> (usize, usize)
         let first = run_end(run, bytes, from + LANES);
         return (first, end_after(run, bytes, first));
     }
-    let first = from + hits.trailing_zeros() as usize;
-    let others = hits & (hits - 1);
+    let first = hits.trailing_zeros() as usize;
+    let others = hits >> (first + 1);
     if others == 0 {
-        return (first, run_end(run, bytes, from + LANES));
+        return (from + first, run_end(run, bytes, from + LANES));
     }
-    (first, from + others.trailing_zeros() as usize)
+    (
+        from + first,
+        from + first + 1 + others.trailing_zeros() as usize,
+    )
 }
 
+/// The end of the run after the byte at a place, where there is one.
 #[inline(always)]
 fn end_after(run: Run, bytes: &[u8], at: usize) -> usize
+    requires { at ≤ length bytes.now }
+    ensures { at < length bytes.now → IsRun (goes_over run) bytes.now (at + 1) result }
 {
     if at < bytes.len() {
         run_end(run, bytes, at + 1)
