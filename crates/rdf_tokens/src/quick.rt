@@ -1,6 +1,6 @@
 // Tokens that the first bytes of a text settle.
 
-ghost use Rattle.std.specs.Prelude.{◌≡◌, ◌<◌, ◌≤◌, true, length, get_or};
+ghost use Rattle.std.specs.Prelude.{◌≡◌, ◌+◌, ◌<◌, ◌≤◌, true, length, get_or};
 ghost use Rattle.rdf_terms.specs.Classes.{is_digit, is_letter};
 ghost use Rattle.rdf_terms.specs.declared.kind.Dialect.{Dialect};
 ghost use Rattle.rdf_terms.specs.declared.kind.Dialect.TheVariants.{Turtle};
@@ -9,7 +9,7 @@ ghost use Rattle.rdf_tokens.specs.Quick.{is_sought, is_named, IsPrefix, is_colon
 ghost use Rattle.rdf_tokens.specs.Quick.{is_dot, begins_number, is_point, is_integer_end, is_decimal_end, ends_integer, ends_number};
 ghost use Rattle.rdf_tokens.specs.Quick.{begins_iri, quote_byte, opens_with, begins_string, is_empty_string, begins_label, begins_label_name};
 ghost use Rattle.rdf_tokens.specs.Quick.{begins_tag, begins_directive, is_part_byte, is_tag_end, is_later_end};
-ghost use Rattle.rdf_terms.specs.Runs.{IsRun, is_ascii_text_byte};
+ghost use Rattle.rdf_terms.specs.Runs.{IsRun, is_name_byte, is_ascii_text_byte};
 
 use crate::front::{NoNames, begins_in_letter};
 use crate::states::text::Quote;
@@ -33,15 +33,16 @@ pub(crate) fn quick_front(dialect: Dialect, text: &str, no_names: &Option<NoName
     if bytes.is_empty() {
         return Quick { len: 0, kind: None };
     }
+    if is_sought(dialect, bytes, no_names) {
+        return quick_name(text);
+    }
     let kind = single(dialect, bytes[0]);
     if kind.is_some() {
         return Quick { len: 1, kind };
     }
-    if is_sought(dialect, bytes, no_names) {
-        return quick_name(text);
-    }
     if is_named(dialect, bytes) {
-        return quick_local(text, 0, run_end(Run::Name, bytes, 1));
+        let end = run_end(Run::Name, bytes, 1);
+        return quick_local(text, 0, end);
     }
     if is_dot(dialect, bytes) {
         return Quick {
@@ -349,9 +350,12 @@ fn single(dialect: Dialect, byte: u8) -> Option<Kind>
 fn is_sought(dialect: Dialect, bytes: &[u8], no_names: &Option<NoNames>) -> bool
     ensures { result ≡ is_sought dialect bytes.now no_names.now }
 {
+    if dialect != Dialect::Turtle || !begins_in_letter(bytes) {
+        return false;
+    }
     match no_names {
         Some(known) if known.left < bytes.len() => false,
-        _ => dialect == Dialect::Turtle && begins_in_letter(bytes),
+        _ => true,
     }
 }
 
@@ -376,11 +380,13 @@ fn quick_name(text: &str) -> Quick
     Quick { len: 0, kind: None }
 }
 
-/// A name of Turtle, whose prefix ends before the colon at this place. Its local part is of letters, digits, `_` and `-`, or empty.
+/// A name of Turtle, whose prefix ends before the colon at this place, and its local part, of letters, digits, `_` and `-`, or empty, at
+/// the other.
 #[inline(always)]
 fn quick_local(text: &str, colon: usize, end: usize) -> Quick
     requires prefix { IsPrefix text.now colon }
     requires colon { is_colon text.now colon ≡ true }
+    requires local { IsRun is_name_byte text.now (colon + 1) end }
     ensures { IsQuick Turtle text.now result.len result.kind }
 {
     let bytes = text.as_bytes();
