@@ -11,10 +11,10 @@ use Rattle.rdf_lines.proofs.writer.write_line.Goals as goal
 
 pub returns-clause-written : goal.returns-clause-written
 returns-clause-written g c =
-    let quad = quad_of c.args.quad in
+    let quad = quad_of c.args.quad.now in
     let same = ap (λ f. line_in f quad) c.new-form.ensures ∙ line_unprefixed c.args.style c.args.escapes quad in
     on_ok c.write_line_in.result (λ h. h ∙ ap (λ x. c.args.out.now.items ++ encode_utf8_all x) same) c.write_line_in.ensures.written
 
 pub returns-clause-not_labelled : goal.returns-clause-not_labelled
 returns-clause-not_labelled g c =
-    subst (λ s. IsErrOf c.write_line_in.result LabelFault.NotLabelled ↔ (CanWrite s (quad_of c.args.quad) → ⊥)) (ap (λ f. f.style) c.new-form.ensures) c.write_line_in.ensures.not_labelled
+    subst (λ s. IsErrOf c.write_line_in.result LabelFault.NotLabelled ↔ (CanWrite s (quad_of c.args.quad.now) → ⊥)) (ap (λ f. f.style) c.new-form.ensures) c.write_line_in.ensures.not_labelled
