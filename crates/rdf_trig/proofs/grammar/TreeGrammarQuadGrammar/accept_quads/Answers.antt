@@ -18,7 +18,7 @@ invariant_of-self-in-Err g c = (c.clear.ensures, c.restart.ensures c.self.inside
 pub returns-in-Ok-clause-ok : goal.returns-in-Ok-clause-ok
 returns-in-Ok-clause-ok g c =
     let r = c.self.inside in
-    let t = token_of c.args.token in
+    let t = token_of c.args.token.now in
     let old : TreeAt = record { form = r.rules.form; limit = r.rules.limits.token; state = state_of r.rules.form r.scope r.state; held = state_bytes r.state + bytes_held r.scope } in
     let bytes = state_bytes c.accept.new.self + bytes_held c.accept.new.scope in
     let new : TreeAt = record { form = r.rules.form; limit = r.rules.limits.token; state = state_of r.rules.form c.accept.new.scope c.accept.new.self; held = bytes } in
@@ -29,7 +29,7 @@ returns-in-Ok-clause-ok g c =
 pub returns-in-Err-clause-err : goal.returns-in-Err-clause-err
 returns-in-Err-clause-err g c =
     let r = c.self.inside in
-    let t = token_of c.args.token in
+    let t = token_of c.args.token.now in
     let old : TreeAt = record { form = r.rules.form; limit = r.rules.limits.token; state = state_of r.rules.form r.scope r.state; held = state_bytes r.state + bytes_held r.scope } in
     rw c.reason_of.ensures
     (subst (λ y. Misses tree_words g.S.QuadSink.takes g.S.QuadSink.leaves g.S.QuadSink.has_failed (reason_of c.in-Err.fault) y t c.args.sink.now c.accept.new.sink) c.self.view_is
