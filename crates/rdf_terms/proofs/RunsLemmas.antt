@@ -132,13 +132,17 @@ stop_mask-after p bs at k m n sum =
     ∙ ap (λ l. mask_l (map q l)) (drop-take k m (drop at bs) ∙ ap (take m) (drop-drop k at bs))
 
 -- a run goes on after bytes that all pass
-pub run_on : (p : ℕ → Bool) (bs : List ℕ) (at n mid end : ℕ) → at + n ≡ mid → IsRunIn p bs at n n → IsRun p bs mid end → IsRun p bs at end
-run_on p bs at n mid end sum front r = record {
-  from = omega (arith, sum, r.from);
+pub run_after : (p : ℕ → Bool) (bs : List ℕ) (at mid end : ℕ) → at ≤ mid → PassBetween p bs at mid → IsRun p bs mid end → IsRun p bs at end
+run_after p bs at mid end on front r = record {
+  from = omega (arith, on, r.from);
   within = r.within;
-  pass = pass-more p bs at mid end (λ k from to. front.pass k from (omega (arith, sum))) r.pass;
+  pass = pass-more p bs at mid end front r.pass;
   stops = r.stops;
 }
+
+-- the same after a load
+pub run_on : (p : ℕ → Bool) (bs : List ℕ) (at n mid end : ℕ) → at + n ≡ mid → IsRunIn p bs at n n → IsRun p bs mid end → IsRun p bs at end
+run_on p bs at n mid end sum front r = run_after p bs at mid end (omega (arith, sum)) (λ k from to. front.pass k from (omega (arith, sum))) r
 
 -- the mask of sixteen bytes with a bit ends the run before the first bit, and the next run before the second
 module _ (p : ℕ → Bool) (bs : List ℕ) (at m : ℕ) (room : at + 16 ≤ length bs) (is : m ≡ stop_mask p bs at 16) (some : 0 < m) where

@@ -42,11 +42,11 @@ pub fn run_end(run: Run, bytes: &[u8], from: usize) -> usize
 {
     let mut at = from;
     while bytes.len() - at >= LANES {
-        let passed = passed_lanes(run, bytes, at);
-        at += passed;
-        if passed < LANES {
-            return at;
+        let hits = stops(run, u8x16::from_slice(&bytes[at..]));
+        if hits != 0 {
+            return at + hits.trailing_zeros() as usize;
         }
+        at += LANES;
     }
     short_run_end(run, bytes, at)
 }
