@@ -90,6 +90,12 @@ impl<A: Allocator> Name<A> {
         }
     }
 
+    /// How many bytes its text has memory for.
+    #[inline(always)]
+    pub fn capacity(&self) -> usize {
+        self.text.capacity()
+    }
+
     /// How many bytes the IRI has.
     pub fn len(&self) -> u64
         ensures { result ≡ iri_size self.now }

@@ -123,6 +123,12 @@ impl<A: Allocator> Topic<A> {
         }
     }
 
+    /// How many bytes its text has memory for.
+    #[inline(always)]
+    pub fn capacity(&self) -> usize {
+        self.text.capacity()
+    }
+
     /// It stands for a term. Nothing is done.
     #[inline(always)]
     pub fn has_term(&self)

@@ -8,6 +8,9 @@ use std::alloc::{AllocError, Allocator, Global};
 /// How many frames are kept.
 const MOST: usize = 1_024;
 
+/// The most bytes that a text of a frame that is kept has memory for, so that all of them have some 2 MiB at most.
+const SMALL: usize = 1_024;
+
 /// Frames that are in no use. What stands in their buffers is room for the next texts.
 #[derive(Drop)]
 pub struct Spares<A: Allocator = Global> {
@@ -22,9 +25,9 @@ impl<A: Allocator> Spares<A> {
         }
     }
 
-    /// Keeps a frame, unless there are enough. It takes no memory.
+    /// Keeps a frame, unless there are enough, or it has much memory. It takes no memory.
     pub fn keep(&mut self, frame: Frame<A>) {
-        if self.frames.len() < self.frames.capacity() {
+        if self.frames.len() < self.frames.capacity() && is_small(&frame) {
             self.frames.push_reserved(frame);
         }
     }
@@ -42,4 +45,9 @@ impl<A: Allocator + Copy> Spares<A> {
         self.frames.reserve(MOST)?;
         Ok(Frame::none(alloc))
     }
+}
+
+#[inline(always)]
+fn is_small<A: Allocator>(frame: &Frame<A>) -> bool {
+    frame.subject.capacity() <= SMALL && frame.verb.capacity() <= SMALL
 }
