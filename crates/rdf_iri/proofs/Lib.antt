@@ -9,6 +9,7 @@ pub mod Written
 pub mod Encoded
 pub mod RulesLemmas
 pub mod DirectoryLemmas
+pub mod StepsLemmas
 pub mod InPlace
 pub mod Slices
 pub mod ResolvedText

@@ -92,7 +92,7 @@ fn make_absolute<A: Allocator + Copy>(
 }
 
 /// The text of a reference without a scheme.
-fn resolved<A: Allocator + Copy>(
+pub(crate) fn resolved<A: Allocator + Copy>(
     alloc: A,
     base: &str,
     reference: &str,

@@ -14,7 +14,7 @@ use crate::fault::IriFault;
 use crate::limits::Limits;
 use crate::prefixes::{Prefixes, iri_len};
 use crate::resolution::{resolve, resolve_in_place};
-use rdf_terms::Iri;
+use rdf_terms::{Iri, has_scheme, put_text};
 use std::alloc::{Allocator, Global};
 use std::marker::Model;
 
@@ -116,6 +116,28 @@ impl<A: Allocator + Copy> Scope<A> {
         ensures refused { IfErr result (UnresolvedHere self.now (chars (string_bytes text.old))) }
     {
         resolve_in_place(self.alloc, self.base(), text, self.limits.iri())
+    }
+
+    /// Puts the IRI of a reference, against the base in force, in place of a text, in the memory that the text has. After an error
+    /// nothing is known of the text.
+    pub fn resolve_into(&self, reference: &str, text: &mut String<A>) -> Result<(), IriFault>
+        requires { IsIriText (chars reference.now) }
+        ensures resolved { OnOk result (ResolvesHere self.now (chars reference.now) (chars (string_bytes text.new))) }
+        ensures is_iri { OnOk result (IsIri (chars (string_bytes text.new))) }
+        ensures refused { IfErr result (UnresolvedHere self.now (chars reference.now)) }
+    {
+        if has_scheme(reference) {
+            put_text(text, reference)?;
+        } else {
+            let Some(base) = &self.base else {
+                return Err(IriFault::NoBase);
+            };
+            base.put_target(self.alloc, reference, text)?;
+        }
+        if text.len() as u64 > self.limits.iri() {
+            return Err(IriFault::IriTooLong);
+        }
+        Ok(())
     }
 
     /// Takes the IRI of a reference as the base. A path without dot segments is written after a base that ends in a

@@ -17,7 +17,7 @@ ghost use Rattle.rdf_trig.specs.Holding.{NameFits};
 ghost use Rattle.rdf_trig.specs.Scopes.{IsReference, IsPrefixed, MeansLocal, Names, Unnamed, Binding, NotBinding, Based, Finds, FindsNone, FindsIri, FindsNoIri};
 
 use crate::fault::StepFault;
-use crate::plain::lacks_escapes;
+use crate::plain::{lacks_escapes, plain_reference};
 use crate::spelled::parts;
 use crate::state::{Mode, Outer, State};
 use rdf_iri::{IriFault, Scope};
@@ -130,8 +130,14 @@ impl<A: Allocator + Copy> Name<A> {
         ensures err { IfErr result (λ r. Unnamed scope.now token.now.kind (leaf token.now) r) }
     {
         self.is_some = false;
-        set_reference_text(&mut self.text, token)?;
-        match scope.resolve_in_place(&mut self.text) {
+        let resolved = match plain_reference(token.text) {
+            Some(reference) => scope.resolve_into(reference, &mut self.text),
+            None => {
+                set_reference_text(&mut self.text, token)?;
+                scope.resolve_in_place(&mut self.text)
+            }
+        };
+        match resolved {
             Ok(()) => {
                 self.is_some = true;
                 Ok(())

@@ -20,6 +20,17 @@ pub fn lacks_escapes(local: &str) -> bool
     lacks_backslash(local.as_bytes())
 }
 
+/// The text of an IRIREF without escapes, without its brackets.
+#[inline(always)]
+pub fn plain_reference<'a>(text: &'a str) -> Option<&'a str>
+{
+    if lacks_backslash(text.as_bytes()) && text.len() >= 2 {
+        Some(&text[1..text.len() - 1])
+    } else {
+        None
+    }
+}
+
 /// Whether no byte is a backslash.
 #[inline(always)]
 fn lacks_backslash(text: &[u8]) -> bool
