@@ -10,6 +10,7 @@ pub mod Encoded
 pub mod RulesLemmas
 pub mod DirectoryLemmas
 pub mod StepsLemmas
+pub mod WrittenOnward
 pub mod InPlace
 pub mod Slices
 pub mod ResolvedText
