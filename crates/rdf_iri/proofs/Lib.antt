@@ -11,6 +11,7 @@ pub mod RulesLemmas
 pub mod DirectoryLemmas
 pub mod StepsLemmas
 pub mod WrittenOnward
+pub mod RootLemmas
 pub mod InPlace
 pub mod Slices
 pub mod ResolvedText

@@ -40,7 +40,7 @@ abbrev pub Rooted : List ℕ → Type 0
 Rooted path = (path ≡ []) ⊎ BeginsWith (47 ∷ []) path
 
 -- the directory above another is rooted as well
-parent-begins : (w : List ℕ) → Rooted (parent (47 ∷ w))
+pub parent-begins : (w : List ℕ) → Rooted (parent (47 ∷ w))
 parent-begins w =
     ⊎_elim
     (λ t. inr (parent w, cond-true (has_slash w) (47 ∷ parent w) [] t))

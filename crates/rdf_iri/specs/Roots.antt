@@ -15,7 +15,7 @@ front_text p = scheme_text p.scheme ++ authority_text p.authority
 pub record HasRoot (base : List ℕ) (root : Root) : Type 0 where
   pub path : BeginsWith (47 ∷ []) (parts_of base).path
   pub dots : has_dots (directory (parts_of base).path) ≡ false
-  pub length : root.first ≡ length (front_text (parts_of base)) + 1
+  pub at_first : root.first ≡ length (front_text (parts_of base)) + 1
   pub first : take root.first base ≡ front_text (parts_of base) ++ 47 ∷ []
   pub last : take root.last base ≡ front_text (parts_of base) ++ directory (parts_of base).path
   pub within_first : root.first ≤ length base

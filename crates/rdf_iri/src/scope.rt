@@ -13,8 +13,8 @@ use crate::bindings::Bindings;
 use crate::fault::IriFault;
 use crate::limits::Limits;
 use crate::prefixes::{Prefixes, iri_len};
-use crate::resolution::{resolve, resolve_in_place};
-use rdf_terms::{Iri, has_scheme, put_text};
+use crate::resolution::{resolve, resolve_in_place, resolve_into};
+use rdf_terms::Iri;
 use std::alloc::{Allocator, Global};
 use std::marker::Model;
 
@@ -88,6 +88,16 @@ impl<A: Allocator + Copy> Scope<A> {
         }
     }
 
+    /// The same with what is known of it.
+    fn known_base(&self) -> Option<&Base<A>>
+        ensures { text_of result ≡ self.now.base }
+    {
+        match &self.base {
+            Some(base) => Some(base),
+            None => None,
+        }
+    }
+
     /// The prefixes that are bound, and their IRIs.
     pub(crate) fn into_bindings(self) -> Bindings<A>
         requires { (prefix iri : List ℕ) → bound_to self.bindings prefix ≡ Some iri → IsIri iri }
@@ -126,18 +136,13 @@ impl<A: Allocator + Copy> Scope<A> {
         ensures is_iri { OnOk result (IsIri (chars (string_bytes text.new))) }
         ensures refused { IfErr result (UnresolvedHere self.now (chars reference.now)) }
     {
-        if has_scheme(reference) {
-            put_text(text, reference)?;
-        } else {
-            let Some(base) = &self.base else {
-                return Err(IriFault::NoBase);
-            };
-            base.put_target(self.alloc, reference, text)?;
-        }
-        if text.len() as u64 > self.limits.iri() {
-            return Err(IriFault::IriTooLong);
-        }
-        Ok(())
+        resolve_into(
+            self.alloc,
+            self.known_base(),
+            reference,
+            text,
+            self.limits.iri(),
+        )
     }
 
     /// Takes the IRI of a reference as the base. A path without dot segments is written after a base that ends in a
