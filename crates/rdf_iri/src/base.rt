@@ -3,7 +3,7 @@
 ghost use Rattle.std.specs.Prelude.{◌≡◌, ◌++◌, ◌≤◌, ◌<◌, ◌^◌, true, false, Some, IfErr, OnOk, OnErr, MatchOption, ⊤, length};
 ghost use Rattle.std.specs.Str.{chars, encode_utf8_all};
 ghost use Rattle.std.specs.String.{string_bytes};
-ghost use Rattle.rdf_terms.specs.Terms.{has_scheme};
+ghost use Rattle.rdf_terms.specs.Terms.{IsIri, has_scheme};
 ghost use Rattle.rdf_iri.specs.Texts.{IsIriText, byte_len};
 ghost use Rattle.rdf_iri.specs.Seen.{slices};
 ghost use Rattle.rdf_iri.specs.Parts.{parts_of, recompose};
@@ -109,7 +109,8 @@ impl<A: Allocator + Copy> Base<A> {
         text: &mut String<A>,
     ) -> Result<(), AllocError>
         requires { has_scheme (chars reference.now) ≡ false }
-        ensures { OnOk result (chars (string_bytes text.new) ≡ recompose (target (parts_of self.now) (parts_of (chars reference.now)))) }
+        ensures target { OnOk result (chars (string_bytes text.new) ≡ recompose (target (parts_of self.now) (parts_of (chars reference.now)))) }
+        ensures base { IsIri self.now }
     {
         match self.root {
             Some(root) if is_path(reference.as_bytes()) => {

@@ -17,7 +17,7 @@ put_after-requires-clause-root g c =
 pub put_after-requires-clause-no_scheme : goal.put_after-requires-clause-no_scheme
 put_after-requires-clause-no_scheme g c = has_scheme-chars c.args.reference.now c.utf8.reference ∙ c.requires
 
-pub returns-in-Some : goal.returns-in-Some
-returns-in-Some g c = on_ok_weaker c.put_after.result
+pub returns-in-Some-clause-target : goal.returns-in-Some-clause-target
+returns-in-Some-clause-target g c = on_ok_weaker c.put_after.result
     (λ e. ap chars e ∙ (chars-target _ _ c.as_str.utf8 c.utf8.reference ∙ ap (λ x. target_text x (chars c.args.reference.now)) (c.as_str.ensures.value ∙ c.self.view_is)))
     c.put_after.ensures
