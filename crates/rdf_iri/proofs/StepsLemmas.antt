@@ -1,18 +1,16 @@
 -- A path that is written after a directory: what each of its segments does.
-use Rattle.std.proofs.Common.{◌≡◌, ◌≢◌, ℕ, zero, suc, true, false, cond, List, [], ◌∷◌, ◌++◌, ◌==◌, ◌||◌, ◌&&◌, ◌+◌, ◌-◌, ◌≤◌, ◌<◌, ◌⊎◌, take, drop, length, get_or, slice_range, Some, inl, inr, refl, sym, ap, ◌∙◌, subst, ⊎_elim, append_assoc, arith}
+use Rattle.std.proofs.Common.{◌≡◌, ◌≢◌, ℕ, zero, suc, true, false, List, [], ◌∷◌, ◌++◌, ◌==◌, ◌+◌, ◌-◌, ◌≤◌, ◌<◌, ◌⊎◌, drop, length, get_or, slice_range, Some, inl, inr, refl, sym, ap, ◌∙◌, subst, ⊎_elim, append_assoc, arith}
 use Rattle.std.specs.Prelude.{codes}
-use Rattle.std.proofs.lemmas.Bool.{or_from, or_parts, cases_Bool, cond-true, cond-false, false≢true, false_from_ne_true, eqb-true, eqb-false, ne_eqb}
+use Rattle.std.proofs.lemmas.Bool.{or_from, or_parts, cond-false, false≢true, false_from_ne_true, ne_eqb}
 use Rattle.std.proofs.lemmas.List.{append-nil, length-append, append_cancel_right, drop_more}
 use Rattle.std.proofs.lemmas.List.Folds.{drop_split}
-use Rattle.std.proofs.Math.Seq.{drop-cons, take-append_seam, drop-append_seam, take-append-add, drop-append-add}
 use Rattle.rdf_iri.specs.Texts.{Lacks, BeginsWith, begins, equal, before, after, from}
 use Rattle.rdf_iri.specs.Parts.{suffix}
-use Rattle.rdf_iri.specs.Dots.{Walk, walk, step, by_D, by_E, fits_D, finish, has_slash, parent}
-use Rattle.rdf_iri.specs.Resolve.{directory}
+use Rattle.rdf_iri.specs.Dots.{walk, step, by_E, fits_D, finish, parent}
 use Rattle.rdf_iri.specs.Directory.{dots_after_slash, has_dots}
-use Rattle.rdf_iri.specs.Steps.{path_in, tail_in, onward, Leads, Passes, IsDirectory, front_at, path_at, written_onward}
-use Rattle.rdf_iri.proofs.TextsLemmas.{StartsAt, Lacks-append, cut_at, cut_whole, before-from, before-lacks, from-starts, begins-true, equal-true, equal-self}
-use Rattle.rdf_iri.proofs.DotsLemmas.{finish-step, finish-empty}
+use Rattle.rdf_iri.specs.Steps.{path_in, tail_in, onward, Leads, Passes}
+use Rattle.rdf_iri.proofs.TextsLemmas.{Lacks-append, cut_at, cut_whole, before-from, before-lacks, from-starts, begins-true, equal-true, equal-self}
+use Rattle.rdf_iri.proofs.DotsLemmas.{finish-step}
 use Rattle.rdf_iri.proofs.DirectoryLemmas.{dots-next, dots-last, finish-keeps}
 use Rattle.rdf_iri.proofs.RulesLemmas.{not_C}
 

@@ -1,10 +1,6 @@
 -- What stands in front of the path, and the path's directory, are counted.
-use Rattle.std.proofs.Common.{◌≡◌, ◌∙◌, ℕ, ap, sym, subst, length, take, arith}
-use Rattle.rdf_iri.specs.Seen.{slices}
+use Rattle.std.proofs.Common.{◌≡◌, ◌∙◌, ap, sym, length, arith}
 use Rattle.rdf_iri.specs.Parts.{parts_of}
-use Rattle.rdf_iri.specs.Resolve.{directory}
-use Rattle.rdf_iri.specs.Directory.{has_dots}
-use Rattle.rdf_iri.specs.Texts.{begins}
 use Rattle.rdf_iri.specs.Roots.{front_text}
 use Rattle.rdf_iri.proofs.RootLemmas.{front-within, root-found}
 use Rattle.rdf_iri.proofs.base.root_of.Goals as goal

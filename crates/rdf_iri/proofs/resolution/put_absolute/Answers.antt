@@ -1,7 +1,6 @@
 -- A reference with a scheme is absolute; any other is resolved.
 use Rattle.std.proofs.Common.{◌≡◌, ◌∙◌, ap, sym, subst, Some, false, inl, refl}
 use Rattle.std.specs.Str.{chars}
-use Rattle.std.specs.String.{string_bytes}
 use Rattle.std.proofs.lemmas.Result.{err_from_is_err_and}
 use Rattle.rdf_terms.specs.Terms.{IsIri, has_scheme}
 use Rattle.rdf_iri.specs.Resolve.{Resolves}

@@ -1,5 +1,4 @@
-use Rattle.std.proofs.Common.{arith}
-use Rattle.rdf_iri.proofs.WrittenOnward.{above-root, above-there}
+use Rattle.rdf_iri.proofs.WrittenOnward.{above-there}
 use Rattle.rdf_iri.proofs.steps.above.Goals as goal
 
 pub returns-then-text-root-clause-text : goal.returns-then-text-root-clause-text

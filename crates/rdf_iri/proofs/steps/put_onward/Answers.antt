@@ -1,11 +1,11 @@
 -- Each move keeps what the text with the rest of the reference comes to.
-use Rattle.std.proofs.Common.{◌≡◌, ◌≤◌, ◌++◌, ◌∷◌, [], ◌∙◌, ap, sym, subst, refl, append_assoc, length, drop, take, slice_range, arith}
+use Rattle.std.proofs.Common.{◌≡◌, ◌≤◌, ◌++◌, ◌∷◌, [], ◌∙◌, ap, sym, subst, append_assoc, length, drop, take, slice_range, arith}
 use Rattle.std.specs.String.{string_bytes}
 use Rattle.std.proofs.lemmas.List.{append-nil}
 use Rattle.std.proofs.lemmas.List.Folds.{drop_split}
 use Rattle.std.proofs.lemmas.Str.{IsUtf8-string_bytes}
 use Rattle.rdf_iri.specs.declared.steps.Move.TheVariants.{Here, Up, Into, Last}
-use Rattle.rdf_iri.specs.Steps.{IsMove, IsDirectory, front_at, path_at}
+use Rattle.rdf_iri.specs.Steps.{IsMove, front_at, path_at}
 use Rattle.rdf_iri.specs.Dots.{parent}
 use Rattle.rdf_iri.proofs.StepsLemmas.{between-more}
 use Rattle.rdf_iri.proofs.WrittenOnward.{comes-first, comes-same, comes-here, comes-up, comes-into, comes-last, between-none, passes-boundary, directory-boundary}
