@@ -147,8 +147,8 @@ pub here-last : (bytes : List ℕ) (at : ℕ) → at < length bytes → get_or b
 here-last bytes at l e n = (
   passes bytes at (at + 1) at (omega arith) refl l (omega (arith, e)),
   leads-from bytes (46 ∷ drop (at + 1) bytes) (drop (at + 1) bytes) at (at + 1) (λ o. o) (at-place bytes at 46 l e) refl
-  (λ o. ap (λ x. finish (walk (47 ∷ 46 ∷ x) o)) n ∙ (dot-last o ∙ ap (λ x. finish (walk (47 ∷ x) o)) (sym n)))
-  refl,
+      (λ o. ap (λ x. finish (walk (47 ∷ 46 ∷ x) o)) n ∙ (dot-last o ∙ ap (λ x. finish (walk (47 ∷ x) o)) (sym n)))
+      refl,
 )
 
 -- "./"
@@ -171,8 +171,8 @@ up-last bytes at l e f n =
     let w : drop at bytes ≡ 46 ∷ 46 ∷ v = at-place bytes at 46 (omega arith) e ∙ ap (λ x. 46 ∷ x) (at-place bytes (at + 1) 46 l f ∙ ap (λ (i : ℕ). 46 ∷ drop i bytes) k) in (
       passes bytes at (at + 2) (at + 1) (omega arith) (sym k) l (omega (arith, f)),
       leads-from bytes (46 ∷ 46 ∷ v) v at (at + 2) parent w refl
-      (λ o. ap (λ x. finish (walk (47 ∷ 46 ∷ 46 ∷ x) o)) n ∙ (dots-end o ∙ ap (λ x. finish (walk (47 ∷ x) (parent o))) (sym n)))
-      refl,
+          (λ o. ap (λ x. finish (walk (47 ∷ 46 ∷ 46 ∷ x) o)) n ∙ (dots-end o ∙ ap (λ x. finish (walk (47 ∷ x) (parent o))) (sym n)))
+          refl,
     )
 
 -- "../"

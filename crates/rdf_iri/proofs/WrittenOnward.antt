@@ -70,8 +70,8 @@ above-root root text d l =
     let n : d.path ≡ [] = no_items d.path (omega (arith, h, w)) in (
       omega (arith, e),
       ap (λ (i : ℕ). take i text) e ∙ (take-length text ∙ (d.whole
-      ∙ (ap (λ x. d.front ++ (x ++ 47 ∷ [])) (n ∙ ap parent (sym n))
-      ∙ (ap (λ x. x ++ (parent d.path ++ 47 ∷ [])) (sym (front-there root text d)) ∙ ap (λ x. front_at root text ++ (parent x ++ 47 ∷ [])) (sym (path-there root text d)))))),
+          ∙ (ap (λ x. d.front ++ (x ++ 47 ∷ [])) (n ∙ ap parent (sym n))
+          ∙ (ap (λ x. x ++ (parent d.path ++ 47 ∷ [])) (sym (front-there root text d)) ∙ ap (λ x. front_at root text ++ (parent x ++ 47 ∷ [])) (sym (path-there root text d)))))),
     )
 
 -- the directory above another one
@@ -135,12 +135,12 @@ comes-up root first reference text above rest more l e c =
     let d = c.directory in
     record {
       directory = record {
-            front = d.front;
-            path = parent d.path;
-            whole = e ∙ (ap (λ x. x ++ (parent (path_at root text) ++ 47 ∷ [])) (front-there root text d) ∙ ap (λ x. d.front ++ (parent x ++ 47 ∷ [])) (path-there root text d));
-            rooted = parent-rooted d.path d.rooted;
-            at_root = d.at_root;
-          };
+        front = d.front;
+        path = parent d.path;
+        whole = e ∙ (ap (λ x. x ++ (parent (path_at root text) ++ 47 ∷ [])) (front-there root text d) ∙ ap (λ x. d.front ++ (parent x ++ 47 ∷ [])) (path-there root text d));
+        rooted = parent-rooted d.path d.rooted;
+        at_root = d.at_root;
+      };
       front = c.front;
       path = sym (l.path d.path) ∙ c.path;
       tail = sym l.tail ∙ c.tail;
@@ -153,12 +153,12 @@ comes-into root first reference text segment longer rest more l e c =
     let d = c.directory in
     record {
       directory = record {
-            front = d.front;
-            path = d.path ++ 47 ∷ segment;
-            whole = e ∙ (ap (λ x. x ++ (segment ++ 47 ∷ [])) d.whole ∙ simp append_assoc);
-            rooted = ⊎_elim (λ (n : d.path ≡ []). inr (segment, ap (λ x. x ++ 47 ∷ segment) n)) (λ (b : BeginsWith (47 ∷ []) d.path). inr (b.0 ++ 47 ∷ segment, ap (λ x. x ++ 47 ∷ segment) b.1)) d.rooted;
-            at_root = d.at_root;
-          };
+        front = d.front;
+        path = d.path ++ 47 ∷ segment;
+        whole = e ∙ (ap (λ x. x ++ (segment ++ 47 ∷ [])) d.whole ∙ simp append_assoc);
+        rooted = ⊎_elim (λ (n : d.path ≡ []). inr (segment, ap (λ x. x ++ 47 ∷ segment) n)) (λ (b : BeginsWith (47 ∷ []) d.path). inr (b.0 ++ 47 ∷ segment, ap (λ x. x ++ 47 ∷ segment) b.1)) d.rooted;
+        at_root = d.at_root;
+      };
       front = c.front;
       path = sym (l.path d.path) ∙ c.path;
       tail = sym l.tail ∙ c.tail;

@@ -21,7 +21,9 @@ use crate::plain::{lacks_escapes, lacks_iri_escapes};
 use crate::spelled::parts;
 use crate::state::{Mode, Outer, State};
 use rdf_iri::{IriFault, Scope};
-use rdf_terms::{IriView, Kind, Known, ValueFault, known, local_value, put_iri, text_len, without_ends};
+use rdf_terms::{
+    IriView, Kind, Known, ValueFault, known, local_value, put_iri, text_len, without_ends,
+};
 use rdf_tokens::Token;
 use std::alloc::{Allocator, Global};
 use std::marker::Model;

@@ -16,8 +16,10 @@ loop-from-preserved c =
       after = omega arith;
       within = omega (arith, l.within);
       slash = lacks-one 47 c.args.bytes.now c.args.from c.loop-from.at i.after l.within c.if-bytes-at-eq47.false i.slash;
-      marks = (lacks-one 63 c.args.bytes.now c.args.from c.loop-from.at i.after l.within l.no_query i.marks.0,
-          lacks-one 35 c.args.bytes.now c.args.from c.loop-from.at i.after l.within l.no_fragment i.marks.1);
+      marks = (
+        lacks-one 63 c.args.bytes.now c.args.from c.loop-from.at i.after l.within l.no_query i.marks.0,
+        lacks-one 35 c.args.bytes.now c.args.from c.loop-from.at i.after l.within l.no_fragment i.marks.1,
+      );
     }
 
 pub returns : goal.returns
