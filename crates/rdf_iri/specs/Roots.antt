@@ -1,8 +1,9 @@
 -- Bases whose path begins with '/', and references that are paths.
 use Rattle.std.specs.Prelude.{◌≡◌, ◌≢◌, ℕ, ◌+◌, ◌≤◌, List, [], ◌∷◌, ◌++◌, take, length, false}
+use Rattle.std.specs.Str.{IsCharBoundary}
 use Rattle.rdf_iri.specs.declared.base.Root.{Root}
 use Rattle.rdf_iri.specs.Texts.{BeginsWith, begins}
-use Rattle.rdf_iri.specs.Parts.{Parts, parts_of, scheme_text, authority_text}
+use Rattle.rdf_iri.specs.Parts.{Parts, parts_of, scheme_text, authority_text, suffix}
 use Rattle.rdf_iri.specs.Resolve.{directory}
 use Rattle.rdf_iri.specs.Directory.{has_dots}
 use Rattle.rdf_iri.specs.Steps.{path_in}
@@ -11,13 +12,18 @@ use Rattle.rdf_iri.specs.Steps.{path_in}
 abbrev pub front_text : Parts → List ℕ
 front_text p = scheme_text p.scheme ++ authority_text p.authority
 
--- the base's path begins with '/', its directory has no dot segments, and these are the bytes up to that '/' and up to the last one
+-- the base's path begins with '/', its directory has no dot segments, and these are the bytes up to that '/', up to the last one, and up to
+-- the ends of the path and of the query
 pub record HasRoot (base : List ℕ) (root : Root) : Type 0 where
   pub path : BeginsWith (47 ∷ []) (parts_of base).path
   pub dots : has_dots (directory (parts_of base).path) ≡ false
   pub at_first : root.first ≡ length (front_text (parts_of base)) + 1
   pub first : take root.first base ≡ front_text (parts_of base) ++ 47 ∷ []
   pub last : take root.last base ≡ front_text (parts_of base) ++ directory (parts_of base).path
+  pub path_end : take root.path base ≡ front_text (parts_of base) ++ (parts_of base).path
+  pub query_end : take root.query base ≡ front_text (parts_of base) ++ ((parts_of base).path ++ suffix 63 (parts_of base).query)
+  pub path_cut : IsCharBoundary base root.path
+  pub query_cut : IsCharBoundary base root.query
   pub within_first : root.first ≤ length base
   pub within_last : root.last ≤ length base
 

@@ -1,13 +1,14 @@
 // The base in force, which grows in its own memory where a path is written after a directory.
 
-ghost use Rattle.std.specs.Prelude.{◌≡◌, ◌++◌, ◌≤◌, ◌<◌, ◌^◌, true, false, Some, IfErr, OnOk, OnErr, MatchOption, ⊤, length};
+ghost use Rattle.std.specs.Prelude.{◌≡◌, ◌++◌, ◌≤◌, ◌<◌, ◌^◌, [], true, false, Some, IfErr, OnOk, OnErr, MatchOption, ⊤, length};
 ghost use Rattle.std.specs.Str.{chars, encode_utf8_all};
 ghost use Rattle.std.specs.String.{string_bytes};
 ghost use Rattle.rdf_terms.specs.Terms.{IsIri, has_scheme};
 ghost use Rattle.rdf_iri.specs.Texts.{IsIriText, byte_len};
-ghost use Rattle.rdf_iri.specs.Seen.{slices};
-ghost use Rattle.rdf_iri.specs.Parts.{parts_of, recompose};
+ghost use Rattle.rdf_iri.specs.Seen.{slices, text_of};
+ghost use Rattle.rdf_iri.specs.Parts.{parts_of, recompose, suffix};
 ghost use Rattle.rdf_iri.specs.Resolve.{Resolves, target};
+ghost use Rattle.rdf_iri.specs.Steps.{path_in};
 ghost use Rattle.rdf_iri.specs.Roots.{HasRoot, HasOwnPath, front_text};
 ghost use Rattle.rdf_iri.specs.Faults.{Unresolved};
 ghost use Rattle.rdf_iri.specs.Directory.{EndsInSlash, BeginsSegment, HasDirectory, HasPath, GrowsBy};
@@ -32,11 +33,17 @@ pub(crate) struct Base<A: Allocator> {
     root: Option<Root>,
 }
 
-/// The bytes of a base up to the first slash of its path, which the path begins with, and up to the last one. No dot segment stands between them.
+/// Where a base whose path begins with a slash is cut, by its bytes up to each place.
 #[derive(Clone, Copy)]
 pub(crate) struct Root {
+    /// That first slash.
     first: usize,
+    /// The last slash of the path. No dot segment stands between them.
     last: usize,
+    /// The end of the path.
+    path: usize,
+    /// The end of the query, or of the path where there is none.
+    query: usize,
 }
 
 impl<A: Allocator> Model for Base<A> {
@@ -116,6 +123,9 @@ impl<A: Allocator + Copy> Base<A> {
             Some(root) if is_path(reference.as_bytes()) => {
                 put_after(text, self.iri.as_str(), root, reference)
             }
+            Some(root) if ends_at(reference.as_bytes(), 0) => {
+                put_beyond(text, self.iri.as_str(), root, reference)
+            }
             _ => {
                 *text = resolved(alloc, self.iri.as_str(), reference)?;
                 Ok(())
@@ -156,7 +166,34 @@ fn put_after<A: Allocator>(
     }
 }
 
-/// Where paths are written after a base.
+/// Puts a query or a fragment, or nothing, after the base's path, and after its query where the reference has none.
+fn put_beyond<A: Allocator>(
+    text: &mut String<A>,
+    base: &str,
+    root: Root,
+    reference: &str,
+) -> Result<(), AllocError>
+    requires root { HasRoot base.now root }
+    requires path { path_in reference.now ≡ [] }
+    requires no_scheme { has_scheme reference.now ≡ false }
+    ensures { OnOk result (string_bytes text.new ≡ recompose (target (parts_of base.now) (parts_of reference.now))) }
+{
+    if begins_with(reference.as_bytes(), b"?") {
+        put_both(text, &base[..root.path], reference)
+    } else {
+        put_both(text, &base[..root.query], reference)
+    }
+}
+
+fn put_both<A: Allocator>(text: &mut String<A>, front: &str, rest: &str) -> Result<(), AllocError>
+    ensures { OnOk result (string_bytes text.new ≡ front.now ++ rest.now) }
+{
+    put_text(text, front)?;
+    text.push_str(rest)?;
+    Ok(())
+}
+
+/// Where a base is cut, if its path begins with a slash.
 fn root_of(text: &str) -> Option<Root>
     ensures { MatchOption result ⊤ (HasRoot text.now) }
 {
@@ -170,10 +207,24 @@ fn root_of(text: &str) -> Option<Root>
         return None;
     }
     let front = front_len(&parts);
+    let end = front + path.len();
     Some(Root {
         first: front + 1,
         last: front + len,
+        path: end,
+        query: end + query_len(parts.query),
     })
+}
+
+/// The bytes of a query, with the character before it.
+fn query_len(query: Option<&str>) -> usize
+    requires { length (suffix 63 (text_of query)) < 2 ^ 63 }
+    ensures { result ≡ length (suffix 63 (text_of query.entry)) }
+{
+    match query {
+        Some(query) => query.len() + 1,
+        None => 0,
+    }
 }
 
 /// The bytes of what stands in front of the path.
