@@ -46,7 +46,7 @@ has_dots-from (c ∷ w) =
     (cases_Bool (c == 47))
 
 -- the rules move a path without dot segments to the output as it is
-finish-keeps : (n : ℕ) (w o : List ℕ) → length w ≤ n → has_dots w ≡ false → finish (walk w o) ≡ o ++ w
+pub finish-keeps : (n : ℕ) (w o : List ℕ) → length w ≤ n → has_dots w ≡ false → finish (walk w o) ≡ o ++ w
 finish-keeps n [] o l h = finish-empty (walk [] o) refl ∙ sym (append-nil o)
 finish-keeps zero (c ∷ w) o l h = absurd (omega arith)
 finish-keeps (suc n) (c ∷ w) o l h =

@@ -9,6 +9,9 @@ pub mod Written
 pub mod Encoded
 pub mod RulesLemmas
 pub mod DirectoryLemmas
+pub mod StepsLemmas
+pub mod WrittenOnward
+pub mod RootLemmas
 pub mod InPlace
 pub mod Slices
 pub mod ResolvedText

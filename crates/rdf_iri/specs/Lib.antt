@@ -16,6 +16,8 @@ pub mod Directory
 pub mod Seen
 pub mod Prefixes
 pub mod Rules
+pub mod Steps
+pub mod Roots
 pub mod BindingSteps
 pub mod Laws
 pub mod BindingLaws

@@ -12,6 +12,7 @@ mod places;
 mod prefixes;
 mod resolution;
 mod scope;
+mod steps;
 
 pub use bindings::{Bindings, read_bindings};
 pub use fault::{BindingFault, BindingReason, IriFault};

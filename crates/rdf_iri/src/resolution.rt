@@ -11,11 +11,12 @@ ghost use Rattle.rdf_iri.specs.Dots.{remove_dots as dots_removed};
 ghost use Rattle.rdf_iri.specs.Resolve.{Resolves, target, merged_front, or_else};
 ghost use Rattle.rdf_iri.specs.Faults.{Unresolved};
 
+use crate::base::Base;
 use crate::dots::remove_dots;
 use crate::fault::IriFault;
 use crate::parts::cut_parts;
 use crate::places::{begins_with, directory_len};
-use rdf_terms::{Iri, has_scheme};
+use rdf_terms::{Iri, has_scheme, put_text};
 use std::alloc::{AllocError, Allocator};
 
 /// The IRI of a reference within `limit` bytes: the reference itself where it has a scheme, else the reference
@@ -91,8 +92,54 @@ fn make_absolute<A: Allocator + Copy>(
     Ok(())
 }
 
+/// Puts the IRI of a reference in place of a text.
+pub fn resolve_into<A: Allocator + Copy>(
+    alloc: A,
+    base: Option<&Base<A>>,
+    reference: &str,
+    text: &mut String<A>,
+    limit: u64,
+) -> Result<(), IriFault>
+    requires { IsIriText (chars reference.now) }
+    ensures resolved { OnOk result (Resolves (text_of base.entry) (chars reference.now) (chars (string_bytes text.new))) }
+    ensures is_iri { OnOk result (IsIri (chars (string_bytes text.new))) }
+    ensures within { OnOk result (byte_len (chars (string_bytes text.new)) ≤ limit) }
+    ensures refused { IfErr result (Unresolved (text_of base.entry) (chars reference.now) limit) }
+{
+    if let Err(fault) = put_absolute(alloc, base, reference, text) {
+        return Err(fault);
+    }
+    if text.len() as u64 > limit {
+        return Err(IriFault::IriTooLong);
+    }
+    Ok(())
+}
+
+/// The same without a limit.
+fn put_absolute<A: Allocator + Copy>(
+    alloc: A,
+    base: Option<&Base<A>>,
+    reference: &str,
+    text: &mut String<A>,
+) -> Result<(), IriFault>
+    requires { IsIriText (chars reference.now) }
+    ensures resolved { OnOk result (Resolves (text_of base.entry) (chars reference.now) (chars (string_bytes text.new))) }
+    ensures is_iri { OnOk result (IsIri (chars (string_bytes text.new))) }
+    ensures refused { IfErr result (λ r. (limit : ℕ) → Unresolved (text_of base.entry) (chars reference.now) limit r) }
+{
+    if has_scheme(reference) {
+        put_text(text, reference)?;
+        return Ok(());
+    }
+    let Some(base) = base else {
+        return Err(IriFault::NoBase);
+    };
+    base.put_target(alloc, reference, text)?;
+    Ok(())
+}
+
 /// The text of a reference without a scheme.
-fn resolved<A: Allocator + Copy>(
+pub(crate) fn resolved<A: Allocator + Copy>(
     alloc: A,
     base: &str,
     reference: &str,

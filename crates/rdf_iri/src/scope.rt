@@ -13,7 +13,7 @@ use crate::bindings::Bindings;
 use crate::fault::IriFault;
 use crate::limits::Limits;
 use crate::prefixes::{Prefixes, iri_len};
-use crate::resolution::{resolve, resolve_in_place};
+use crate::resolution::{resolve, resolve_in_place, resolve_into};
 use rdf_terms::Iri;
 use std::alloc::{Allocator, Global};
 use std::marker::Model;
@@ -88,6 +88,16 @@ impl<A: Allocator + Copy> Scope<A> {
         }
     }
 
+    /// The same with what is known of it.
+    fn known_base(&self) -> Option<&Base<A>>
+        ensures { text_of result ≡ self.now.base }
+    {
+        match &self.base {
+            Some(base) => Some(base),
+            None => None,
+        }
+    }
+
     /// The prefixes that are bound, and their IRIs.
     pub(crate) fn into_bindings(self) -> Bindings<A>
         requires { (prefix iri : List ℕ) → bound_to self.bindings prefix ≡ Some iri → IsIri iri }
@@ -116,6 +126,23 @@ impl<A: Allocator + Copy> Scope<A> {
         ensures refused { IfErr result (UnresolvedHere self.now (chars (string_bytes text.old))) }
     {
         resolve_in_place(self.alloc, self.base(), text, self.limits.iri())
+    }
+
+    /// Puts the IRI of a reference, against the base in force, in place of a text, in the memory that the text has. After an error
+    /// nothing is known of the text.
+    pub fn resolve_into(&self, reference: &str, text: &mut String<A>) -> Result<(), IriFault>
+        requires { IsIriText (chars reference.now) }
+        ensures resolved { OnOk result (ResolvesHere self.now (chars reference.now) (chars (string_bytes text.new))) }
+        ensures is_iri { OnOk result (IsIri (chars (string_bytes text.new))) }
+        ensures refused { IfErr result (UnresolvedHere self.now (chars reference.now)) }
+    {
+        resolve_into(
+            self.alloc,
+            self.known_base(),
+            reference,
+            text,
+            self.limits.iri(),
+        )
     }
 
     /// Takes the IRI of a reference as the base. A path without dot segments is written after a base that ends in a

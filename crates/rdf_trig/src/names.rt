@@ -8,7 +8,7 @@ ghost use Rattle.rdf_terms.specs.Values.{local_value};
 ghost use Rattle.rdf_terms.specs.Views.{iri_chars};
 ghost use Rattle.rdf_terms.specs.Known.{known_chars};
 ghost use Rattle.rdf_iri.specs.Texts.{IsIriText, byte_len};
-ghost use Rattle.rdf_iri.specs.Scope.{ExpandsHere, NotExpanded};
+ghost use Rattle.rdf_iri.specs.Scope.{ExpandsHere, NotExpanded, ResolvesHere};
 ghost use Rattle.rdf_tokens.specs.Leaves.{iri_of};
 ghost use Rattle.rdf_trig.specs.Machine as M;
 ghost use Rattle.rdf_trig.specs.Owed.{iri_size};
@@ -17,11 +17,13 @@ ghost use Rattle.rdf_trig.specs.Holding.{NameFits};
 ghost use Rattle.rdf_trig.specs.Scopes.{IsReference, IsPrefixed, MeansLocal, Names, Unnamed, Binding, NotBinding, Based, Finds, FindsNone, FindsIri, FindsNoIri};
 
 use crate::fault::StepFault;
-use crate::plain::lacks_escapes;
+use crate::plain::{lacks_escapes, lacks_iri_escapes};
 use crate::spelled::parts;
 use crate::state::{Mode, Outer, State};
 use rdf_iri::{IriFault, Scope};
-use rdf_terms::{IriView, Kind, Known, ValueFault, known, local_value, put_iri, text_len};
+use rdf_terms::{
+    IriView, Kind, Known, ValueFault, known, local_value, put_iri, text_len, without_ends,
+};
 use rdf_tokens::Token;
 use std::alloc::{Allocator, Global};
 use std::marker::Model;
@@ -126,8 +128,8 @@ impl<A: Allocator + Copy> Name<A> {
         }
     }
 
-    // The IRI of a reference, which is resolved where it stands.
-    #[tactic(auto, using(crate::proofs::code::LookUps::reference_at, crate::proofs::code::LookUps::reference_not))]
+    // The IRI of a reference.
+    #[tactic(auto, using(crate::proofs::code::LookUps::reference_at))]
     fn set_reference(&mut self, scope: &Scope<A>, token: &Token<'_>) -> Result<(), StepFault>
         requires token { IsTurtleToken token.now }
         requires kind { IsReference token.now.kind }
@@ -136,13 +138,12 @@ impl<A: Allocator + Copy> Name<A> {
         ensures err { IfErr result (λ r. Unnamed scope.now token.now.kind (leaf token.now) r) }
     {
         self.is_some = false;
-        set_reference_text(&mut self.text, token)?;
-        match scope.resolve_in_place(&mut self.text) {
+        match put_reference(&mut self.text, scope, token) {
             Ok(()) => {
                 self.is_some = true;
                 Ok(())
             }
-            Err(fault) => Err(fault.into()),
+            Err(fault) => Err(fault),
         }
     }
 
@@ -168,6 +169,29 @@ impl<A: Allocator + Copy> Name<A> {
         let local = local_text(alloc, local)?;
         Ok(self.expand(scope, prefix, local.as_str())?)
     }
+}
+
+// Puts the IRI of a reference in place of a text. A reference without escapes is resolved as it stands in the token.
+#[tactic(auto, using(crate::proofs::code::LookUps::reference_not))]
+fn put_reference<A: Allocator + Copy>(
+    text: &mut String<A>,
+    scope: &Scope<A>,
+    token: &Token<'_>,
+) -> Result<(), StepFault>
+    requires token { IsTurtleToken token.now }
+    requires kind { IsReference token.now.kind }
+    ensures ok { OnOk result (ResolvesHere scope.now (iri_of (leaf token.now)) (chars (string_bytes text.new))) }
+    ensures is_iri { OnOk result (IsIri (chars (string_bytes text.new))) }
+    ensures err { IfErr result (λ r. Unnamed scope.now token.now.kind (leaf token.now) r) }
+{
+    let inside = without_ends(token.text);
+    if lacks_iri_escapes(inside) {
+        scope.resolve_into(inside, text)?;
+    } else {
+        set_reference_text(text, token)?;
+        scope.resolve_in_place(text)?;
+    }
+    Ok(())
 }
 
 // Puts the text of an IRIREF, with its escapes replaced, in place of a text.

@@ -1,10 +1,10 @@
-// Whether a local part has an escape. Two loads that overlap cover a short text.
+// Whether a local part or an IRIREF has an escape. Two loads that overlap cover a short text.
 
-ghost use Rattle.std.specs.Prelude.{◌≡◌, ◌+◌, ◌≤◌, true, Some, length};
+ghost use Rattle.std.specs.Prelude.{◌≡◌, ◌+◌, ◌≤◌, true, Some, is_some, length};
 ghost use Rattle.std.specs.Bool.{OnTrue};
 ghost use Rattle.std.specs.Str.{chars};
 ghost use Rattle.rdf_terms.specs.Runs.{is_unescaped, PassBetween};
-ghost use Rattle.rdf_terms.specs.Values.{local_value};
+ghost use Rattle.rdf_terms.specs.Values.{iri_value, local_value};
 ghost use Rattle.rdf_iri.specs.Texts.{IsIriText};
 ghost use Rattle.rdf_trig.specs.Scopes.{MeansLocal};
 
@@ -18,6 +18,16 @@ pub fn lacks_escapes(local: &str) -> bool
     ensures value { result ≡ true → local_value (chars local.now) ≡ Some (chars local.now) }
 {
     lacks_backslash(local.as_bytes())
+}
+
+/// Whether the inside of an IRIREF has no escape, and so is its own value.
+#[inline(always)]
+pub fn lacks_iri_escapes(inside: &str) -> bool
+    requires { is_some (iri_value (chars inside.now)) ≡ true }
+    ensures text { result ≡ true → IsIriText (chars inside.now) }
+    ensures value { result ≡ true → iri_value (chars inside.now) ≡ Some (chars inside.now) }
+{
+    lacks_backslash(inside.as_bytes())
 }
 
 /// Whether no byte is a backslash.

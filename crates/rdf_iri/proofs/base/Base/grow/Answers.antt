@@ -38,10 +38,13 @@ returns-in_err-push_str-clause-refused g c =
     rw (p.1, p.2) (_, resolves g (goal.at.returns-in_err-push_str-clause-refused g c).After-as_str)
 
 pub invariant_of-self-2 : goal.invariant_of-self-2
-invariant_of-self-2 g c = λ t.
-    subst (λ x. HasDirectory (parts_of (encode_utf8_all x))) (sym c.in_ok-push_str.ensures.appended)
-    (HasDirectory-grown c.self.inside.iri c.args.reference.now c.utf8.reference (subst (λ x. GrowsBy (encode_utf8_all x) c.args.reference.now) (sym c.self.view_is) c.requires.grows)
-    (subst EndsInSlash c.as_bytes.ensures.value (c.ends_in_slash-self-inside.ensures t)))
+invariant_of-self-2 g c = (
+  λ t.
+      subst (λ x. HasDirectory (parts_of (encode_utf8_all x))) (sym c.in_ok-push_str.ensures.appended)
+      (HasDirectory-grown c.self.inside.iri c.args.reference.now c.utf8.reference (subst (λ x. GrowsBy (encode_utf8_all x) c.args.reference.now) (sym c.self.view_is) c.requires.grows)
+      (subst EndsInSlash c.as_bytes.ensures.value (c.ends_in_slash-self-inside.ensures t))),
+  tt,
+)
 
 pub returns-clause-resolved : goal.returns-clause-resolved
 returns-clause-resolved g c =
