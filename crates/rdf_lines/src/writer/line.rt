@@ -10,7 +10,7 @@ use crate::writer::term::{put_iri, put_name, put_term};
 use rdf_terms::{IriView, QuadRef, SubjectRef, TermRef};
 use std::alloc::{AllocError, Allocator};
 
-/// Appends the line of a quad part by part: to texts with escapes, and to long ones.
+/// Appends the line of a quad part by part, as lines are that have escapes or long texts.
 #[inline(never)]
 pub fn put_in_parts<A: Allocator + Copy>(
     quad: &QuadRef<'_>,
