@@ -12,7 +12,7 @@ const SHORT: usize = 512;
 /// The most bytes of the line of a quad with a word of so many bytes in front of each name, or None where a text is long.
 #[inline(always)]
 pub fn short_room(quad: &QuadRef<'_>, word: &str) -> Option<usize>
-    ensures room { IfSome result (λ room. room ≡ line_room (length word.now) quad.now) }
+    ensures room { IfSome result (λ room. line_room (length word.now) quad.now ≤ room) }
     ensures short { IfSome result (λ room. room ≤ 4096) }
 {
     let names = subject_room(quad.subject) + quad.predicate.as_str().len();
