@@ -14,11 +14,11 @@ below zero p t h = absurd (omega arith)
 below (suc n) p t h =
     elim (eq-zero-or-pos (n - p)) [
       | inl z ↦
-        let e : p ≡ n = omega arith in
-        let both = and_l _ (are_pairs n) t in
-        let tens : get_or PAIRS (n * 2) 0 ≡ 48 + n / 10 = eqb→eq _ _ (and_l _ _ both) in
-        let ones : get_or PAIRS (n * 2 + 1) 0 ≡ 48 + n % 10 = eqb→eq _ _ (and_r _ _ both) in
-        rw e (rw (tens, ones))
+          let e : p ≡ n = omega arith in
+          let both = and_l _ (are_pairs n) t in
+          let tens : get_or PAIRS (n * 2) 0 ≡ 48 + n / 10 = eqb→eq _ _ (and_l _ _ both) in
+          let ones : get_or PAIRS (n * 2 + 1) 0 ≡ 48 + n % 10 = eqb→eq _ _ (and_r _ _ both) in
+          rw e (rw (tens, ones))
       | inr g ↦ below n p (and_r _ (are_pairs n) t) (omega arith)
     ]
 

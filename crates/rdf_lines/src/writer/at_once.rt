@@ -14,8 +14,10 @@ ghost use Rattle.rdf_lines.specs.WrittenBytes.{BeginsWith, graph_bytes, iri_byte
 use crate::form::{Style, WrittenForm};
 use crate::writer::digits::place_digits;
 use crate::writer::place::{place_byte, place_text, place_two};
-use crate::writer::term::{is_plain};
-use rdf_terms::{IriView, LabelView, LiteralRef, NodeRef, QuadRef, SubjectRef, TagView, TailRef, TermRef};
+use crate::writer::term::is_plain;
+use rdf_terms::{
+    IriView, LabelView, LiteralRef, NodeRef, QuadRef, SubjectRef, TagView, TailRef, TermRef,
+};
 use std::alloc::{AllocError, Allocator};
 
 /// Lines that take no more are placed in so many zeros, which are written by a few stores.
@@ -137,7 +139,7 @@ fn place_node(slot: &mut [u8], at: usize, node: &NodeRef<'_>, form: &WrittenForm
     }
 }
 
-// Apart, as the other names and the strings are, so that lines of IRIs run through less code.
+// Apart, as offsets and strings are, so that lines of IRIs run through less code.
 #[inline(never)]
 fn place_label(slot: &mut [u8], at: usize, label: LabelView<'_>, form: &WrittenForm<'_>) -> usize
     requires { at + (length label.text.now + length form.now.prefix.word.now + 3) ≤ length slot.old }
@@ -147,17 +149,11 @@ fn place_label(slot: &mut [u8], at: usize, label: LabelView<'_>, form: &WrittenF
     let begin = place_start(slot, at, form.prefix.as_str());
     match form.style {
         Style::Kept => place_text(slot, begin, label.as_str().as_bytes()),
-        Style::Tagged => place_tagged(slot, begin, label.as_str()),
+        Style::Tagged => {
+            let name = place_byte(slot, begin, b'n');
+            place_text(slot, name, label.as_str().as_bytes())
+        }
     }
-}
-
-#[inline(always)]
-fn place_tagged(slot: &mut [u8], at: usize, label: &str) -> usize
-    requires { at + (length label.now + 1) ≤ length slot.old }
-    ensures { Placed slot.old slot.new at (110 ∷ label.now) result }
-{
-    let name = place_byte(slot, at, b'n');
-    place_text(slot, name, label.as_bytes())
 }
 
 // A node that the style can't write has no text.
