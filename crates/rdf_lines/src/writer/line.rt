@@ -55,8 +55,7 @@ fn put_subject<A: Allocator + Copy>(
     ensures grown { OnErr result (BeginsWith out.old.items out.new.items) }
 {
     put_name(subject, form, out)?;
-    out.push(b' ')?;
-    Ok(())
+    out.extend_from_slice(b" ")
 }
 
 fn put_predicate<A: Allocator + Copy>(
@@ -68,8 +67,7 @@ fn put_predicate<A: Allocator + Copy>(
     ensures grown { OnErr result (BeginsWith out.old.items out.new.items) }
 {
     put_iri(predicate, escapes, out)?;
-    out.push(b' ')?;
-    Ok(())
+    out.extend_from_slice(b" ")
 }
 
 fn put_object<A: Allocator + Copy>(
@@ -81,8 +79,7 @@ fn put_object<A: Allocator + Copy>(
     ensures grown { OnErr result (BeginsWith out.old.items out.new.items) }
 {
     put_term(object, form, out)?;
-    out.push(b' ')?;
-    Ok(())
+    out.extend_from_slice(b" ")
 }
 
 fn put_end<A: Allocator + Copy>(

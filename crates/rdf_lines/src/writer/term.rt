@@ -55,10 +55,9 @@ pub fn put_iri<A: Allocator + Copy>(
     ensures written { OnOk result (out.new.items ≡ out.old.items ++ iri_bytes escapes iri.entry) }
     ensures grown { OnErr result (BeginsWith out.old.items out.new.items) }
 {
-    out.push(b'<')?;
+    out.extend_from_slice(b"<")?;
     put_characters(iri, escapes, out)?;
-    out.push(b'>')?;
-    Ok(())
+    out.extend_from_slice(b">")
 }
 
 #[tactic(auto, using(crate::proofs::EncodedLine::encoded_none))]
