@@ -1,19 +1,21 @@
 -- The bytes of the parts of a line whose texts stand as they are.
-use Rattle.std.proofs.Common.{◌≡◌, ℕ, true, List, [], ◌∷◌, ◌++◌, length, take, refl, ap, ◌∙◌, arith}
-use Rattle.std.specs.Prelude.{flat_map, chars, IsUtf8}
-use Rattle.std.proofs.lemmas.Bool.{false≢true}
+use Rattle.std.proofs.Common.{◌≡◌, ℕ, true, List, [], ◌∷◌, ◌++◌, length, take, refl, ap, sym, ◌∙◌, arith}
+use Rattle.std.specs.Prelude.{flat_map, chars, decimal, encode_utf8_all, IsUtf8}
 use Rattle.rdf_terms.specs.declared.views.IriView.{IriView}
-use Rattle.rdf_terms.specs.declared.views.TermRef.{TermRef}
+use Rattle.rdf_terms.specs.declared.views.LabelView.{LabelView}
+use Rattle.rdf_terms.specs.declared.views.NodeRef.TheVariants as node_ref
 use Rattle.rdf_terms.specs.declared.runs.Run.TheVariants.{Text}
 use Rattle.rdf_terms.specs.Runs.{goes_over}
 use Rattle.rdf_terms.specs.Terms.{all_have}
 use Rattle.rdf_terms.specs.Views.{iri_chars}
 use Rattle.rdf_lines.specs.declared.form.Escapes.{Escapes}
-use Rattle.rdf_lines.specs.declared.form.Escapes.TheVariants.{Plain, Ascii}
-use Rattle.rdf_lines.specs.Placing.{Placed, stands_as_is}
+use Rattle.rdf_lines.specs.declared.form.Escapes.TheVariants.{Plain}
+use Rattle.rdf_lines.specs.declared.form.Style.{Style}
+use Rattle.rdf_lines.specs.declared.form.Style.TheVariants.{Kept, Tagged}
+use Rattle.rdf_lines.specs.Placing.{Placed, label_bytes, number_bytes}
 use Rattle.rdf_lines.specs.Writing.{escaped, written}
-use Rattle.rdf_lines.specs.WrittenBytes.{BeginsWith, iri_bytes, string_bytes_of}
-use Rattle.rdf_lines.proofs.EncodedLine.{between}
+use Rattle.rdf_lines.specs.WrittenBytes.{BeginsWith, iri_bytes, node_bytes, string_bytes_of}
+use Rattle.rdf_lines.proofs.EncodedLine.{between, encoded_node}
 use Rattle.rdf_lines.proofs.EscapedRuns.{plain_iri, text_stands}
 
 -- an IRI in its brackets, in the plain form
@@ -24,10 +26,23 @@ plain_iri_bytes i = between 60 62 (flat_map (written Plain) (iri_chars i)) (omeg
 pub plain_string_bytes : (w : List ℕ) → IsUtf8 w → all_have (goes_over Text) w ≡ true → string_bytes_of Plain w ≡ 34 ∷ w ++ 34 ∷ []
 plain_string_bytes w u h = between 34 34 (flat_map (escaped Plain) (chars w)) (omega arith) (omega arith) ∙ ap (λ x. 34 ∷ x ++ 34 ∷ []) (text_stands Plain w u h)
 
--- an object without escapes is one of the plain form
-pub plain_form : (e : Escapes) (t : TermRef) → stands_as_is e t ≡ true → e ≡ Plain
-plain_form Plain t h = refl
-plain_form Ascii t h = absurd (false≢true h)
+-- the label of a node, with a word in front
+pub placed_label : (s : Style) (e : Escapes) (prefix word : List ℕ) (l : LabelView) → encode_utf8_all prefix ≡ word
+    → label_bytes s word l.text.now ≡ node_bytes (record { style = s; escapes = e; prefix = prefix }) (node_ref.Label l)
+placed_label Kept e prefix word l h = sym (encoded_node (record { style = Kept; escapes = e; prefix = prefix }) (node_ref.Label l) word l.text.now h refl)
+placed_label Tagged e prefix word l h = sym (encoded_node (record { style = Tagged; escapes = e; prefix = prefix }) (node_ref.Label l) word (110 ∷ l.text.now) h refl)
+
+-- the offset of a node without a label
+pub placed_anon : (s : Style) (e : Escapes) (prefix word : List ℕ) (n : ℕ) → encode_utf8_all prefix ≡ word
+    → number_bytes s word 97 n ≡ node_bytes (record { style = s; escapes = e; prefix = prefix }) (node_ref.Anon n)
+placed_anon Kept e prefix word n h = refl
+placed_anon Tagged e prefix word n h = sym (encoded_node (record { style = Tagged; escapes = e; prefix = prefix }) (node_ref.Anon n) word (97 ∷ decimal n) h refl)
+
+-- the same of a cell
+pub placed_cell : (s : Style) (e : Escapes) (prefix word : List ℕ) (n : ℕ) → encode_utf8_all prefix ≡ word
+    → number_bytes s word 99 n ≡ node_bytes (record { style = s; escapes = e; prefix = prefix }) (node_ref.Cell n)
+placed_cell Kept e prefix word n h = refl
+placed_cell Tagged e prefix word n h = sym (encoded_node (record { style = Tagged; escapes = e; prefix = prefix }) (node_ref.Cell n) word (99 ∷ decimal n) h refl)
 
 -- a line that was placed after what stood there was appended to it
 pub placed_appended : {old room new line : List ℕ} {end : ℕ} → BeginsWith old room → Placed room new (length old) line end → take end new ≡ old ++ line

@@ -22,7 +22,7 @@ use Rattle.rdf_tokens.specs.Scans.{IsToken}
 use Rattle.rdf_tokens.proofs.LawLemmas.{have_shapes}
 use Rattle.rdf_lines.specs.declared.form.LineForm.{LineForm}
 use Rattle.rdf_lines.specs.declared.form.Style.TheVariants.{Kept}
-use Rattle.rdf_tokens.specs.Leaves.{Leaf, token, iri_of}
+use Rattle.rdf_tokens.specs.Leaves.{Leaf, token}
 use Rattle.rdf_lines.specs.Lines.{Name, Ref, Lab, Object, Named, Plain, WithType, WithTag, Statement, Document as Tree, last, next, name_tokens, object_tokens, graph_tokens, statement_tokens, document_tokens, string_of, subject_of, term_of, quad_of, name_bound, object_bound, graph_bound, GoodStatement, GoodDocument}
 use Rattle.rdf_lines.proofs.PlainQuads.{plain_quads}
 use Rattle.rdf_lines.specs.Lines as L

@@ -1,7 +1,7 @@
 -- Parts that are appended in turn, and what stands in front of them.
-use Rattle.std.proofs.Common.{◌≡◌, ℕ, ◌+◌, List, [], ◌∷◌, ◌++◌, append_assoc, Result, Ok, Err, OnOk, OnErr, IfOk, is_ok, if◌then◌else◌, take, drop, length, sym, ap, ◌∙◌, arith, length-append}
-use Rattle.std.proofs.lemmas.List.{append-nil, take-take, take-append-drop}
-use Rattle.std.proofs.Math.Seq.{take-append_seam, take-length}
+use Rattle.std.proofs.Common.{◌≡◌, ℕ, ◌+◌, List, [], ◌∷◌, ◌++◌, append_assoc, Result, Ok, Err, OnOk, IfOk, is_ok, if◌then◌else◌, take, length, sym, ap, ◌∙◌, arith, length-append}
+use Rattle.std.proofs.lemmas.List.{append-nil, take-take}
+use Rattle.std.proofs.Math.Seq.{take-append_seam}
 use Rattle.rdf_lines.specs.WrittenBytes.{BeginsWith}
 
 -- bytes that grew still begin with what they began with
@@ -26,11 +26,6 @@ pub none_appended : (out w : List ℕ) → length w ≡ 0 → out ≡ out ++ w
 none_appended out [] e = sym (append-nil out)
 none_appended out (c ∷ w) e = absurd (omega arith)
 
--- what follows from an error, of the error
-pub on_err : {T E : Type 0} {P Q : Type 0} (r : Result T E) → (P → Q) → OnErr r P → OnErr r Q
-on_err (Ok x) f h = tt
-on_err (Err e) f h = f h
-
 -- three parts that were appended in turn
 pub parts_appended : (out a b c first second third : List ℕ) → first ≡ out ++ a → second ≡ first ++ b → third ≡ second ++ c → third ≡ out ++ (a ++ b ++ c)
 parts_appended out a b c first second third e f g =
@@ -40,30 +35,3 @@ parts_appended out a b c first second third e f g =
 pub if_ok : {T E : Type 0} {P Q : T → Type 0} (r : Result T E) → ((x : T) → P x → Q x) → IfOk r P → IfOk r Q
 if_ok (Ok x) f h = f x h
 if_ok (Err e) f h = tt
-
--- what holds in any case holds of an error
-pub of_err : {T E : Type 0} {P : Type 0} (r : Result T E) → P → OnErr r P
-of_err (Ok x) p = tt
-of_err (Err e) p = p
-
--- bytes that are the same begin with them
-pub begins_with_same : (a b : List ℕ) → b ≡ a → BeginsWith a b
-begins_with_same a b e = ap (take (length a)) e ∙ take-length a
-
--- bytes that two parts were appended to begin with them
-pub begins_with_two : (out a b first second third : List ℕ) → first ≡ out ++ a → second ≡ first ++ b → third ≡ second → BeginsWith out third
-begins_with_two out a b first second third e f g =
-    ap (take (length out)) (g ∙ (f ∙ (ap (λ x. x ++ b) e ∙ append_assoc out a b))) ∙ take-append_seam out (a ++ b)
-
--- what holds where the answer is an error
-pub where_err : {T E : Type 0} (r : Result T E) (new a b : List ℕ) → new ≡ (if is_ok r then a else b) → OnErr r (new ≡ b)
-where_err (Ok x) new a b e = tt
-where_err (Err x) new a b e = e
-
--- bytes that grew twice begin with what they began with at first
-pub begins_with_then : (a b c : List ℕ) → BeginsWith a b → BeginsWith b c → BeginsWith a c
-begins_with_then a b c h k = begins_with_front a b (drop (length a) b) c (sym (take-append-drop (length a) b) ∙ ap (λ x. x ++ drop (length a) b) h) k
-
--- bytes that a part was appended to begin with them
-pub begins_with_append : (out w new : List ℕ) → new ≡ out ++ w → BeginsWith out new
-begins_with_append out w new e = ap (take (length out)) e ∙ take-append_seam out w

@@ -1,5 +1,5 @@
 -- Bytes that are placed in a buffer that has room for them, and how much room a line takes at most.
-use Rattle.std.specs.Prelude.{◌≡◌, ℕ, ◌+◌, ◌*◌, Bool, true, false, List, ◌++◌, Option, Some, None, length, take}
+use Rattle.std.specs.Prelude.{◌≡◌, ℕ, ◌+◌, ◌*◌, ◌/◌, ◌%◌, Bool, true, List, [], ◌∷◌, ◌++◌, Option, Some, None, decimal, length, take}
 use Rattle.rdf_terms.specs.declared.views.NodeRef.{NodeRef}
 use Rattle.rdf_terms.specs.declared.views.NodeRef.TheVariants as node_ref
 use Rattle.rdf_terms.specs.declared.views.TailRef.{TailRef}
@@ -12,8 +12,8 @@ use Rattle.rdf_terms.specs.declared.views.QuadRef.{QuadRef}
 use Rattle.rdf_terms.specs.declared.runs.Run.TheVariants.{Text}
 use Rattle.rdf_terms.specs.Runs.{goes_over}
 use Rattle.rdf_terms.specs.Terms.{all_have}
-use Rattle.rdf_lines.specs.declared.form.Escapes.{Escapes}
-use Rattle.rdf_lines.specs.declared.form.Escapes.TheVariants.{Plain, Ascii}
+use Rattle.rdf_lines.specs.declared.form.Style.{Style}
+use Rattle.rdf_lines.specs.declared.form.Style.TheVariants.{Kept, Tagged}
 
 -- new has xs after the first `at` bytes of old, up to `end`
 pub record Placed (old new : List ℕ) (at : ℕ) (xs : List ℕ) (end : ℕ) : Type 0 where
@@ -53,8 +53,21 @@ abbrev pub line_room : ℕ → QuadRef → ℕ
 line_room word q = subject_room q.subject + length q.predicate.text.now + term_room q.object + graph_room q.graph + 3 * word + 20
 
 -- whether an object has no escapes in the plain form, in which IRIs have none
-abbrev pub stands_as_is : Escapes → TermRef → Bool
-stands_as_is Ascii t = false
-stands_as_is Plain (term_ref.Iri i) = true
-stands_as_is Plain (term_ref.Node n) = true
-stands_as_is Plain (term_ref.Literal l) = all_have (goes_over Text) l.lexical.now
+abbrev pub has_no_escapes : TermRef → Bool
+has_no_escapes (term_ref.Iri i) = true
+has_no_escapes (term_ref.Node n) = true
+has_no_escapes (term_ref.Literal l) = all_have (goes_over Text) l.lexical.now
+
+-- the bytes of a label with its `_:` and a word in front
+abbrev pub label_bytes : Style → List ℕ → List ℕ → List ℕ
+label_bytes Kept word l = 95 ∷ 58 ∷ (word ++ l)
+label_bytes Tagged word l = 95 ∷ 58 ∷ (word ++ 110 ∷ l)
+
+-- the same of an offset after its letter, which style Kept can't write
+abbrev pub number_bytes : Style → List ℕ → ℕ → ℕ → List ℕ
+number_bytes Kept word letter n = []
+number_bytes Tagged word letter n = 95 ∷ 58 ∷ (word ++ letter ∷ decimal n)
+
+-- the two digits of a number below 100
+abbrev pub two_digits : ℕ → List ℕ
+two_digits n = (48 + n / 10) ∷ (48 + n % 10) ∷ []

@@ -1,6 +1,7 @@
 // The line that is written for a quad, and the text of a blank node (N-Quads 4).
 
 mod at_once;
+mod digits;
 mod escape;
 mod line;
 mod place;
@@ -12,6 +13,7 @@ mod writable;
 ghost use Rattle.std.specs.Prelude.{◌≡◌, ◌↔◌, ◌∷◌, ◌++◌, chars, encode_utf8_all, string_bytes, IfOk, OnErr, OnOk};
 ghost use Rattle.std.specs.Result.{IsErrOf};
 ghost use Rattle.rdf_terms.specs.Views.{node_of, quad_of};
+ghost use Rattle.rdf_lines.specs.declared.form.Escapes.TheVariants.{Plain};
 ghost use Rattle.rdf_lines.specs.Forms.{form_of};
 ghost use Rattle.rdf_lines.specs.NodePrefixes.{line_in};
 ghost use Rattle.rdf_lines.specs.WrittenBytes.{line_bytes};
@@ -22,7 +24,7 @@ use at_once::put_at_once;
 use itoa::Buffer;
 use line::put_in_parts;
 use rdf_terms::{NodeRef, QuadRef};
-use room::{short_room, stands_as_is};
+use room::{has_no_escapes, short_room};
 use std::alloc::{AllocError, Allocator};
 use term::letter_and_name;
 use writable::can_write;
@@ -72,7 +74,7 @@ pub fn write_line_in<A: Allocator + Copy>(
     }
 }
 
-// With one growth of the buffer where the texts are short and stand as they are, as most do.
+// What is written in ASCII may have escapes in each part.
 #[inline(always)]
 fn put_quad<A: Allocator + Copy>(
     quad: &QuadRef<'_>,
@@ -82,12 +84,25 @@ fn put_quad<A: Allocator + Copy>(
     ensures written { OnOk result (out.new.items ≡ out.old.items ++ line_bytes (form_of form.now) quad.now) }
     ensures unchanged { OnErr result (out.new.items ≡ out.old.items) }
 {
-    let room = match form.escapes {
-        Escapes::Plain => short_room(quad, form.prefix.as_str()),
-        Escapes::Ascii => None,
-    };
-    match room {
-        Some(room) if stands_as_is(form.escapes, quad.object) => put_at_once(quad, form, room, out),
+    match form.escapes {
+        Escapes::Plain => put_plain(quad, form, out),
+        Escapes::Ascii => put_in_parts(quad, form, out),
+    }
+}
+
+// With one growth of the buffer where the texts are short and stand as they are, as most do.
+#[inline(always)]
+fn put_plain<A: Allocator + Copy>(
+    quad: &QuadRef<'_>,
+    form: &WrittenForm<'_>,
+    out: &mut Vec<u8, A>,
+) -> Result<(), AllocError>
+    requires { form.now.escapes ≡ Plain }
+    ensures written { OnOk result (out.new.items ≡ out.old.items ++ line_bytes (form_of form.now) quad.now) }
+    ensures unchanged { OnErr result (out.new.items ≡ out.old.items) }
+{
+    match short_room(quad, form.prefix.as_str()) {
+        Some(room) if has_no_escapes(quad.object) => put_at_once(quad, form, room, out),
         _ => put_in_parts(quad, form, out),
     }
 }

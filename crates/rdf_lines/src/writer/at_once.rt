@@ -7,15 +7,17 @@ ghost use Rattle.rdf_terms.specs.Terms.{all_have};
 ghost use Rattle.rdf_terms.specs.Views.{iri_chars};
 ghost use Rattle.rdf_lines.specs.declared.form.Escapes.TheVariants.{Plain};
 ghost use Rattle.rdf_lines.specs.Forms.{form_of};
-ghost use Rattle.rdf_lines.specs.Placing.{Placed, graph_room, line_room, node_room, stands_as_is, subject_room, tail_room, term_room};
+ghost use Rattle.rdf_lines.specs.Placing.{Placed, graph_room, has_no_escapes, label_bytes, line_room, node_room, number_bytes, subject_room, tail_room, term_room};
 ghost use Rattle.rdf_lines.specs.Writing.{space, type_text};
 ghost use Rattle.rdf_lines.specs.WrittenBytes.{BeginsWith, graph_bytes, iri_bytes, line_bytes, node_bytes, string_bytes_of, subject_bytes, tail_bytes, term_bytes};
 
-use crate::form::WrittenForm;
-use crate::writer::place::{place_byte, place_few, place_text, place_two};
-use crate::writer::term::{is_plain, letter_and_name};
-use itoa::Buffer;
-use rdf_terms::{IriView, LiteralRef, NodeRef, QuadRef, SubjectRef, TagView, TailRef, TermRef};
+use crate::form::{Style, WrittenForm};
+use crate::writer::digits::place_digits;
+use crate::writer::place::{place_byte, place_text, place_two};
+use crate::writer::term::is_plain;
+use rdf_terms::{
+    IriView, LabelView, LiteralRef, NodeRef, QuadRef, SubjectRef, TagView, TailRef, TermRef,
+};
 use std::alloc::{AllocError, Allocator};
 
 /// Lines that take no more are placed in so many zeros, which are written by a few stores.
@@ -29,7 +31,8 @@ pub fn put_at_once<A: Allocator + Copy>(
     room: usize,
     out: &mut Vec<u8, A>,
 ) -> Result<(), AllocError>
-    requires plain { stands_as_is form.now.escapes quad.now.object ≡ true }
+    requires plain { form.now.escapes ≡ Plain }
+    requires text { has_no_escapes quad.now.object ≡ true }
     requires room { line_room (length form.now.prefix.word.now) quad.now ≤ room }
     requires short { room ≤ 4096 }
     ensures written { OnOk result (out.new.items ≡ out.old.items ++ line_bytes (form_of form.now) quad.now) }
@@ -61,7 +64,8 @@ fn make_room<A: Allocator + Copy>(out: &mut Vec<u8, A>, room: usize) -> Result<(
 // Each part and a space, then the dot and LF: where the line ends.
 #[inline(always)]
 fn place_line(slot: &mut [u8], at: usize, quad: &QuadRef<'_>, form: &WrittenForm<'_>) -> usize
-    requires plain { stands_as_is form.now.escapes quad.now.object ≡ true }
+    requires plain { form.now.escapes ≡ Plain }
+    requires text { has_no_escapes quad.now.object ≡ true }
     requires room { at + line_room (length form.now.prefix.word.now) quad.now ≤ length slot.old }
     ensures { Placed slot.old slot.new at (line_bytes (form_of form.now) quad.now) result }
 {
@@ -122,41 +126,76 @@ fn place_iri(slot: &mut [u8], at: usize, iri: IriView<'_>) -> usize
     place_byte(slot, end, b'>')
 }
 
-// A node that the style can't write has no text.
-#[inline(never)]
+#[inline(always)]
 fn place_node(slot: &mut [u8], at: usize, node: &NodeRef<'_>, form: &WrittenForm<'_>) -> usize
     requires { at + (node_room node.now + length form.now.prefix.word.now + 3) ≤ length slot.old }
     ensures placed { Placed slot.old slot.new at (node_bytes (form_of form.now) node.now) result }
     ensures within { result ≤ at + (node_room node.now + length form.now.prefix.word.now + 3) }
 {
-    let mut digits = Buffer::new();
-    match letter_and_name(*node, form.style, &mut digits) {
-        None => at,
-        Some((letter, name)) => {
-            let end = place_front(slot, at, form.prefix.as_str(), letter);
-            place_text(slot, end, name.as_bytes())
+    match node {
+        NodeRef::Label(label) => place_label(slot, at, *label, form),
+        NodeRef::Anon(offset) => place_number(slot, at, b'a', *offset, form),
+        NodeRef::Cell(offset) => place_number(slot, at, b'c', *offset, form),
+    }
+}
+
+// Apart, as offsets and strings are, so that lines of IRIs run through less code.
+#[inline(never)]
+fn place_label(slot: &mut [u8], at: usize, label: LabelView<'_>, form: &WrittenForm<'_>) -> usize
+    requires { at + (length label.text.now + length form.now.prefix.word.now + 3) ≤ length slot.old }
+    ensures placed { Placed slot.old slot.new at (label_bytes form.now.style form.now.prefix.word.now label.entry.text.now) result }
+    ensures within { result ≤ at + (length label.entry.text.now + length form.now.prefix.word.now + 3) }
+{
+    let begin = place_start(slot, at, form.prefix.as_str());
+    match form.style {
+        Style::Kept => place_text(slot, begin, label.as_str().as_bytes()),
+        Style::Tagged => {
+            let name = place_byte(slot, begin, b'n');
+            place_text(slot, name, label.as_str().as_bytes())
         }
     }
 }
 
-// What stands in front of a name: `_:`, the word, and the letter. A word is mostly empty, which costs a test alone.
+// A node that the style can't write has no text.
+#[inline(never)]
+fn place_number(
+    slot: &mut [u8],
+    at: usize,
+    letter: u8,
+    offset: u64,
+    form: &WrittenForm<'_>,
+) -> usize
+    requires { at + (length form.now.prefix.word.now + 23) ≤ length slot.old }
+    ensures placed { Placed slot.old slot.new at (number_bytes form.now.style form.now.prefix.word.now letter offset) result }
+    ensures within { result ≤ at + (length form.now.prefix.word.now + 23) }
+{
+    match form.style {
+        Style::Kept => at,
+        Style::Tagged => {
+            let begin = place_start(slot, at, form.prefix.as_str());
+            let name = place_byte(slot, begin, letter);
+            place_digits(slot, name, offset)
+        }
+    }
+}
+
+// `_:` and a word, which is mostly empty: that costs a test alone.
 #[inline(always)]
-fn place_front(slot: &mut [u8], at: usize, word: &str, letter: &str) -> usize
-    requires room { at + (length word.now + length letter.now + 2) ≤ length slot.old }
-    requires letter { length letter.now ≤ 1 }
-    ensures { Placed slot.old slot.new at (95 ∷ 58 ∷ (word.now ++ letter.now)) result }
+fn place_start(slot: &mut [u8], at: usize, word: &str) -> usize
+    requires { at + (length word.now + 2) ≤ length slot.old }
+    ensures { Placed slot.old slot.new at (95 ∷ 58 ∷ word.now) result }
 {
     let begin = place_two(slot, at, b'_', b':');
     if word.is_empty() {
-        return place_few(slot, begin, letter.as_bytes());
+        return begin;
     }
-    let end = place_text(slot, begin, word.as_bytes());
-    place_few(slot, end, letter.as_bytes())
+    place_text(slot, begin, word.as_bytes())
 }
 
 #[inline(always)]
 fn place_object(slot: &mut [u8], at: usize, object: &TermRef<'_>, form: &WrittenForm<'_>) -> usize
-    requires plain { stands_as_is form.now.escapes object.now ≡ true }
+    requires plain { form.now.escapes ≡ Plain }
+    requires text { has_no_escapes object.now ≡ true }
     requires room { at + (term_room object.now + length form.now.prefix.word.now + 7) ≤ length slot.old }
     ensures placed { Placed slot.old slot.new at (term_bytes (form_of form.now) object.now ++ space) result }
     ensures within { result ≤ at + (term_room object.now + length form.now.prefix.word.now + 7) }
@@ -167,7 +206,8 @@ fn place_object(slot: &mut [u8], at: usize, object: &TermRef<'_>, form: &Written
 
 #[inline(always)]
 fn place_term(slot: &mut [u8], at: usize, term: &TermRef<'_>, form: &WrittenForm<'_>) -> usize
-    requires plain { stands_as_is form.now.escapes term.now ≡ true }
+    requires plain { form.now.escapes ≡ Plain }
+    requires text { has_no_escapes term.now ≡ true }
     requires room { at + (term_room term.now + length form.now.prefix.word.now + 6) ≤ length slot.old }
     ensures placed { Placed slot.old slot.new at (term_bytes (form_of form.now) term.now) result }
     ensures within { result ≤ at + (term_room term.now + length form.now.prefix.word.now + 6) }
@@ -179,7 +219,6 @@ fn place_term(slot: &mut [u8], at: usize, term: &TermRef<'_>, form: &WrittenForm
     }
 }
 
-// Apart, as the names of nodes are, so that lines of IRIs run through less code.
 #[inline(never)]
 fn place_literal(slot: &mut [u8], at: usize, literal: &LiteralRef<'_>) -> usize
     requires text { all_have (goes_over Text) literal.now.lexical.now ≡ true }

@@ -10,7 +10,7 @@ use crate::writer::term::{put_iri, put_name, put_term};
 use rdf_terms::{IriView, QuadRef, SubjectRef, TermRef};
 use std::alloc::{AllocError, Allocator};
 
-/// Appends the line of a quad part by part: to texts with escapes, and to long ones.
+/// Appends the line of a quad part by part, as lines are that have escapes or long texts.
 #[inline(never)]
 pub fn put_in_parts<A: Allocator + Copy>(
     quad: &QuadRef<'_>,
@@ -55,8 +55,7 @@ fn put_subject<A: Allocator + Copy>(
     ensures grown { OnErr result (BeginsWith out.old.items out.new.items) }
 {
     put_name(subject, form, out)?;
-    out.push(b' ')?;
-    Ok(())
+    out.extend_from_slice(b" ")
 }
 
 fn put_predicate<A: Allocator + Copy>(
@@ -68,8 +67,7 @@ fn put_predicate<A: Allocator + Copy>(
     ensures grown { OnErr result (BeginsWith out.old.items out.new.items) }
 {
     put_iri(predicate, escapes, out)?;
-    out.push(b' ')?;
-    Ok(())
+    out.extend_from_slice(b" ")
 }
 
 fn put_object<A: Allocator + Copy>(
@@ -81,8 +79,7 @@ fn put_object<A: Allocator + Copy>(
     ensures grown { OnErr result (BeginsWith out.old.items out.new.items) }
 {
     put_term(object, form, out)?;
-    out.push(b' ')?;
-    Ok(())
+    out.extend_from_slice(b" ")
 }
 
 fn put_end<A: Allocator + Copy>(

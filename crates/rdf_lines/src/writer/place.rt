@@ -5,6 +5,7 @@ ghost use Rattle.rdf_lines.specs.Placing.{Placed};
 
 use std::simd::Simd;
 
+/// Places one byte.
 #[inline(always)]
 pub fn place_byte(slot: &mut [u8], at: usize, byte: u8) -> usize
     requires { at < length slot.old }
@@ -14,6 +15,7 @@ pub fn place_byte(slot: &mut [u8], at: usize, byte: u8) -> usize
     at + 1
 }
 
+/// Places two bytes.
 #[inline(always)]
 pub fn place_two(slot: &mut [u8], at: usize, first: u8, second: u8) -> usize
     requires { at + 2 ≤ length slot.old }
@@ -39,9 +41,9 @@ pub fn place_text(slot: &mut [u8], at: usize, text: &[u8]) -> usize
     }
 }
 
-/// Places a text of fewer than sixteen bytes.
+// The same of fewer than sixteen bytes.
 #[inline(always)]
-pub fn place_few(slot: &mut [u8], at: usize, text: &[u8]) -> usize
+fn place_few(slot: &mut [u8], at: usize, text: &[u8]) -> usize
     requires { (length text.now < 16) × (at + length text.now ≤ length slot.old) }
     ensures { Placed slot.old slot.new at text.now result }
 {
@@ -53,7 +55,7 @@ pub fn place_few(slot: &mut [u8], at: usize, text: &[u8]) -> usize
     } else if len >= 2 {
         place_ends::<2>(slot, at, text)
     } else if len == 1 {
-        place_front::<1>(slot, at, text)
+        place_chunk::<1>(slot, at, text)
     } else {
         at
     }
@@ -67,7 +69,7 @@ fn place_long(slot: &mut [u8], at: usize, text: &[u8]) -> usize
 {
     let mut done = 0;
     while text.len() - done > 64 {
-        place_front::<32>(slot, at + done, &text[done..]);
+        place_chunk::<32>(slot, at + done, &text[done..]);
         done += 32;
     }
     place_ends::<32>(slot, at + done, &text[done..])
@@ -81,13 +83,13 @@ fn place_ends<const N: usize>(slot: &mut [u8], at: usize, text: &[u8]) -> usize
     ensures { Placed slot.old slot.new at text.now result }
 {
     let last = text.len() - N;
-    place_front::<N>(slot, at, text);
-    place_front::<N>(slot, at + last, &text[last..])
+    place_chunk::<N>(slot, at, text);
+    place_chunk::<N>(slot, at + last, &text[last..])
 }
 
 // The first N bytes are one load and one store.
 #[inline(always)]
-fn place_front<const N: usize>(slot: &mut [u8], at: usize, text: &[u8]) -> usize
+fn place_chunk<const N: usize>(slot: &mut [u8], at: usize, text: &[u8]) -> usize
     requires { (N ≤ length text.now) × (at + N ≤ length slot.old) }
     ensures { Placed slot.old slot.new at (take N text.now) result }
 {

@@ -1,10 +1,8 @@
 // How much room a line takes at most, where its texts are short.
 
 ghost use Rattle.std.specs.Prelude.{◌≡◌, ◌^◌, ◌<◌, ◌≤◌, length, IfSome};
-ghost use Rattle.rdf_lines.specs.declared.form.Escapes.TheVariants.{Plain};
-ghost use Rattle.rdf_lines.specs.Placing.{graph_room, line_room, node_room, stands_as_is, subject_room, tail_room, term_room};
+ghost use Rattle.rdf_lines.specs.Placing.{graph_room, has_no_escapes, line_room, node_room, subject_room, tail_room, term_room};
 
-use crate::form::Escapes;
 use rdf_terms::runs::{Run, is_run};
 use rdf_terms::{NodeRef, QuadRef, SubjectRef, TailRef, TermRef};
 
@@ -14,7 +12,7 @@ const SHORT: usize = 512;
 /// The most bytes of the line of a quad with a word of so many bytes in front of each name, or None where a text is long.
 #[inline(always)]
 pub fn short_room(quad: &QuadRef<'_>, word: &str) -> Option<usize>
-    ensures room { IfSome result (λ room. room ≡ line_room (length word.now) quad.now) }
+    ensures room { IfSome result (λ room. line_room (length word.now) quad.now ≤ room) }
     ensures short { IfSome result (λ room. room ≤ 4096) }
 {
     let names = subject_room(quad.subject) + quad.predicate.as_str().len();
@@ -81,20 +79,10 @@ fn graph_room(graph: Option<SubjectRef<'_>>) -> usize
     }
 }
 
-/// Whether an object has no escapes, in the plain form.
+/// Whether an object has no escapes in the plain form.
 #[inline(always)]
-pub fn stands_as_is(escapes: Escapes, object: TermRef<'_>) -> bool
-    ensures { result ≡ stands_as_is escapes object.entry }
-{
-    match escapes {
-        Escapes::Ascii => false,
-        Escapes::Plain => has_no_escapes(object),
-    }
-}
-
-#[inline(always)]
-fn has_no_escapes(object: TermRef<'_>) -> bool
-    ensures { result ≡ stands_as_is Plain object.entry }
+pub fn has_no_escapes(object: TermRef<'_>) -> bool
+    ensures { result ≡ has_no_escapes object.entry }
 {
     match object {
         TermRef::Iri(_) => true,

@@ -23,10 +23,9 @@ pub fn put_string<A: Allocator + Copy>(
     ensures written { OnOk result (out.new.items ≡ out.old.items ++ string_bytes_of escapes text.now) }
     ensures grown { OnErr result (BeginsWith out.old.items out.new.items) }
 {
-    out.push(b'"')?;
+    out.extend_from_slice(b"\"")?;
     put_escaped(text, escapes, out)?;
-    out.push(b'"')?;
-    Ok(())
+    out.extend_from_slice(b"\"")
 }
 
 /// What stands between the brackets of an IRI. No character of an IRI is escaped by a letter.

@@ -1,10 +1,9 @@
 // Terms as they are written (N-Quads 4).
 
-ghost use Rattle.std.specs.Prelude.{◌≡◌, ◌↔◌, ◌≤◌, ◌∷◌, ◌++◌, length, bytes_eq, encode_utf8_all, IfSome, None, OnErr, OnOk};
+ghost use Rattle.std.specs.Prelude.{◌≡◌, ◌↔◌, ◌∷◌, ◌++◌, bytes_eq, encode_utf8_all, IfSome, None, OnErr, OnOk};
 ghost use Rattle.rdf_terms.specs.Terms.{xsd_string};
 ghost use Rattle.rdf_terms.specs.Views.{iri_chars, node_of};
 ghost use Rattle.rdf_lines.specs.Forms.{form_of};
-ghost use Rattle.rdf_lines.specs.Placing.{node_room};
 ghost use Rattle.rdf_lines.specs.Writing.{CanWriteNode, type_text};
 ghost use Rattle.rdf_lines.specs.WrittenBytes.{BeginsWith, IsNamed, iri_bytes, node_bytes, subject_bytes, tail_bytes, term_bytes};
 
@@ -56,10 +55,9 @@ pub fn put_iri<A: Allocator + Copy>(
     ensures written { OnOk result (out.new.items ≡ out.old.items ++ iri_bytes escapes iri.entry) }
     ensures grown { OnErr result (BeginsWith out.old.items out.new.items) }
 {
-    out.push(b'<')?;
+    out.extend_from_slice(b"<")?;
     put_characters(iri, escapes, out)?;
-    out.push(b'>')?;
-    Ok(())
+    out.extend_from_slice(b">")
 }
 
 #[tactic(auto, using(crate::proofs::EncodedLine::encoded_none))]
@@ -116,8 +114,6 @@ pub fn letter_and_name<'a>(
 ) -> Option<(&'static str, &'a str)>
     ensures named { IfSome result (λ parts. IsNamed style node.entry (parts.0.now ++ parts.1.now)) }
     ensures none { (result ≡ None) ↔ ¬ CanWriteNode style (node_of node.entry) }
-    ensures letter { IfSome result (λ parts. length parts.0.now ≤ 1) }
-    ensures name { IfSome result (λ parts. length parts.1.now ≤ node_room node.entry) }
 {
     match style {
         Style::Kept => match node {

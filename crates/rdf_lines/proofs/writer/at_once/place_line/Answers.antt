@@ -4,7 +4,6 @@ use Rattle.rdf_lines.specs.Forms.{form_of}
 use Rattle.rdf_lines.specs.Writing.{space}
 use Rattle.rdf_lines.specs.WrittenBytes.{graph_bytes, iri_bytes, subject_bytes, term_bytes}
 use Rattle.rdf_lines.proofs.EncodedLine.{encoded_line}
-use Rattle.rdf_lines.proofs.PlacedLines.{plain_form}
 use Rattle.rdf_lines.proofs.Places.{Placed-as, Placed-then}
 use Rattle.rdf_lines.proofs.writer.at_once.place_line.Goals as goal
 
@@ -33,7 +32,7 @@ pub returns : goal.returns
 returns c =
     let quad = c.args.quad.now in
     let form = form_of c.args.form.now in
-    let plain = plain_form c.args.form.now.escapes quad.object c.requires.plain in
+    let plain = c.requires.plain in
     let subject = subject_bytes form quad.subject ++ space in
     let object = term_bytes form quad.object ++ space in
     let graph = graph_bytes form quad.graph in

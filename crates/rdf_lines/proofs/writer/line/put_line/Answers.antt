@@ -3,7 +3,7 @@ use Rattle.rdf_lines.specs.Forms.{form_of}
 use Rattle.rdf_lines.specs.Writing.{space}
 use Rattle.rdf_lines.specs.WrittenBytes.{subject_bytes, iri_bytes, term_bytes, graph_bytes}
 use Rattle.rdf_lines.proofs.EncodedLine.{encoded_line}
-use Rattle.rdf_lines.proofs.WrittenBytesLemmas.{begins_with_front, on_ok, on_err, parts_appended}
+use Rattle.rdf_lines.proofs.WrittenBytesLemmas.{on_ok, parts_appended}
 use Rattle.rdf_lines.proofs.writer.line.put_line.Goals as goal
 
 pub returns-clause-written : goal.returns-clause-written
@@ -21,8 +21,3 @@ returns-clause-written g c =
     on_ok c.put_end.result
     (λ h. h ∙ (ap (λ x. x ++ (graph ++ 46 ∷ [] ++ 10 ∷ [])) parts ∙ (whole ∙ ap (λ x. out ++ x) (sym (encoded_line form quad)))))
     c.put_end.ensures.written
-
-pub returns-clause-grown : goal.returns-clause-grown
-returns-clause-grown g c =
-    let parts = parts_appended _ _ _ _ _ _ _ c.in_ok-put_subject.ensures.written c.in_ok-put_predicate.ensures.written c.in_ok-put_object.ensures.written in
-    on_err c.put_end.result (λ h. begins_with_front _ _ _ _ parts h) c.put_end.ensures.grown

@@ -6,5 +6,5 @@ use Rattle.rdf_lines.proofs.writer.place.place_ends.Goals as goal
 pub returns : goal.returns
 returns g c =
     let src = c.args.text.now in
-    Placed-ends src g.row.N (search rules) c.requires.covers.0 c.requires.covers.1 c.place_front.ensures
-    (rw (take_rest src (length src - g.row.N)) at c.place_front-2.ensures)
+    Placed-ends src g.row.N (search rules) c.requires.covers.0 c.requires.covers.1 c.place_chunk.ensures
+    (rw (take_rest src (length src - g.row.N)) at c.place_chunk-2.ensures)

@@ -7,9 +7,9 @@ pub loop-done-preserved : goal.loop-done-preserved
 loop-done-preserved c =
     let src = c.args.text.now in
     let done = c.loop-done.done in
-    let both = Placed-then c.loop-done.invariant.1 (rw (take_rest src done) at c.place_front.ensures) in
+    let both = Placed-then c.loop-done.invariant.1 (rw (take_rest src done) at c.place_chunk.ensures) in
     let whole = length-take-le (done + 32) src (search rules) in
-    let end : c.place_front.result ≡ c.args.at + (done + 32) = omega (arith, both.moved, ap length (take-add done 32 src), whole) in
+    let end : c.place_chunk.result ≡ c.args.at + (done + 32) = omega (arith, both.moved, ap length (take-add done 32 src), whole) in
     (search rules, rw (take-add done 32 src, ← end) both)
 
 pub returns : goal.returns
