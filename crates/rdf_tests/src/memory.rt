@@ -251,6 +251,7 @@ fn put_names<A: Allocator + Copy>(alloc: A, scope: &Scope<A>, reference: &str) -
     }
     let mut text = String::from_str(alloc, reference)?;
     scope.resolve_in_place(&mut text)?;
+    scope.resolve_into(reference, &mut text)?;
     scope.expand_into("x", reference, &mut text)?;
     Ok(())
 }
