@@ -115,11 +115,12 @@ impl<A: Allocator + Copy> Grammar for TreeGrammar<A> {
 }
 
 impl<A: Allocator + Copy> QuadGrammar for TreeGrammar<A> {
-    fn accept_quads<S: QuadSink>(&mut self, token: &Token<'_>, sink: &mut S) -> Result<u64, Reason> {
-        match self
-            .state
-            .accept(&self.rules, &mut self.scope, token, sink)
-        {
+    fn accept_quads<S: QuadSink>(
+        &mut self,
+        token: &Token<'_>,
+        sink: &mut S,
+    ) -> Result<u64, Reason> {
+        match self.state.accept(&self.rules, &mut self.scope, token, sink) {
             Ok(given) => Ok(given),
             Err(fault) => {
                 // A step that fails leaves any state, so both begin anew.
