@@ -1,14 +1,14 @@
 -- The table of families against their definition: a test of each byte.
 use Rattle.std.proofs.Common.{◌≡◌, ℕ, ◌<◌, true, List, [], ◌∷◌, ◌==◌, refl, sym, ap, ◌∙◌, get_or}
 use Rattle.std.proofs.lemmas.Bool.{agree_below_at, eqb-true}
-use Rattle.rdf_tokens.specs.declared.states.machine.Family.{Family}
-use Rattle.rdf_tokens.specs.declared.states.machine.Family.TheVariants as family
-use Rattle.rdf_tokens.specs.declared.states.machine.TheConstants.{FAMILIES}
+use Rattle.rdf_tokens.specs.declared.states.family.Family.{Family}
+use Rattle.rdf_tokens.specs.declared.states.family.Family.TheVariants as family
+use Rattle.rdf_tokens.specs.declared.states.family.TheConstants.{FAMILIES}
 use Rattle.rdf_tokens.specs.Machine.{ascii}
 
 -- the families in the order of their numbers
 abbrev all : List Family
-all = family.Iri ∷ family.Label ∷ family.Text ∷ family.Tag ∷ family.Number ∷ family.Name ∷ family.None ∷ []
+all = family.Iri ∷ family.Label ∷ family.Text ∷ family.Tag ∷ family.Number ∷ family.Name ∷ family.Other ∷ []
 
 -- the number of a family
 abbrev place : Family → ℕ
@@ -18,7 +18,7 @@ place family.Text = 2
 place family.Tag = 3
 place family.Number = 4
 place family.Name = 5
-place family.None = 6
+place family.Other = 6
 
 -- the numbers are right
 at_place : (x : Family) → get_or all (place x) family.Iri ≡ x

@@ -7,8 +7,8 @@ use Rattle.rdf_terms.specs.declared.kind.Dialect.{Dialect}
 use Rattle.rdf_terms.specs.declared.kind.Dialect.TheVariants.{Lines, Turtle}
 use Rattle.rdf_tokens.specs.declared.states.wide.Wide.{Wide}
 use Rattle.rdf_tokens.specs.declared.states.wide.Wide.TheVariants as wide
-use Rattle.rdf_tokens.specs.declared.states.machine.Family.{Family}
-use Rattle.rdf_tokens.specs.declared.states.machine.Family.TheVariants as family
+use Rattle.rdf_tokens.specs.declared.states.family.Family.{Family}
+use Rattle.rdf_tokens.specs.declared.states.family.Family.TheVariants as family
 use Rattle.rdf_tokens.specs.declared.states.machine.State.{State}
 use Rattle.rdf_tokens.specs.declared.states.machine.State.TheVariants.{Start, Iri, Label, Text, Tag, Number, Name, Dead}
 use Rattle.rdf_terms.specs.Regex.{longer, after_all, nullable}

@@ -7,8 +7,8 @@ use Rattle.rdf_terms.specs.declared.kind.Kind.TheVariants.{IriRef, LabelNode, La
 use Rattle.rdf_terms.specs.declared.kind.Dialect.{Dialect}
 use Rattle.rdf_tokens.specs.declared.states.wide.Wide.{Wide}
 use Rattle.rdf_tokens.specs.declared.states.wide.Wide.TheVariants as wide
-use Rattle.rdf_tokens.specs.declared.states.machine.Family.{Family}
-use Rattle.rdf_tokens.specs.declared.states.machine.Family.TheVariants as family
+use Rattle.rdf_tokens.specs.declared.states.family.Family.{Family}
+use Rattle.rdf_tokens.specs.declared.states.family.Family.TheVariants as family
 use Rattle.rdf_tokens.specs.declared.states.machine.State.{State}
 use Rattle.rdf_tokens.specs.declared.states.machine.State.TheVariants.{Start, Iri, Label, Text, Tag, Number, Name, Dead}
 use Rattle.rdf_tokens.specs.declared.states.iri.Iri.TheVariants as iri_state
@@ -27,12 +27,12 @@ use Rattle.rdf_tokens.specs.Name as name
 -- the family of tokens that an ASCII character can begin: IRIREF, label, string, language tag, number or prefixed name
 abbrev pub ascii : ℕ → Family
 ascii c = cond (c == 60) family.Iri (cond (c == 95) family.Label (cond (c == 34 || c == 39) family.Text (cond (c == 64) family.Tag
-    (cond (c == 43 || c == 45 || c == 46 || is_digit c) family.Number (cond (c == 58 || is_letter c) family.Name family.None)))))
+    (cond (c == 43 || c == 45 || c == 46 || is_digit c) family.Number (cond (c == 58 || is_letter c) family.Name family.Other)))))
 
 -- from U+0080 on only PN_CHARS_BASE can begin a token, and that is a prefixed name
 abbrev pub high : Wide → Family
 high wide.Letter = family.Name
-high v = family.None
+high v = family.Other
 
 -- the state of the family after its first character
 abbrev pub begin : Dialect → Family → ℕ → State
@@ -42,7 +42,7 @@ begin d family.Text c = Text (text.step d text_state.Start c)
 begin d family.Tag c = Tag (tag.step tag_state.Start c)
 begin d family.Number c = Number (number.step d number_state.Start c)
 begin d family.Name c = Name (name.step d name_state.Start c)
-begin d family.None c = Dead
+begin d family.Other c = Dead
 
 -- where one more character leads in a token: its family is settled by the first
 abbrev pub step : Dialect → State → ℕ → State

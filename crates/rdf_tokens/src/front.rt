@@ -13,10 +13,11 @@ ghost use Rattle.rdf_tokens.specs.declared.states.machine.State.TheVariants.{Nam
 
 use crate::bytes::char_at;
 use crate::over::states_end;
+use crate::states::family::{Family, family_of};
 use crate::states::fixed::{fixed_front, is_fixed_live};
 use crate::states::iri::Iri;
 use crate::states::label::Label;
-use crate::states::machine::{Family, State, family_of};
+use crate::states::machine::State;
 use crate::states::name::Name;
 use crate::states::number::Number;
 use crate::states::shape::Shape;
@@ -213,7 +214,7 @@ fn first_front(dialect: Dialect, text: &str, no_names: &mut Option<NoNames>) -> 
         Family::Tag => front_from(dialect, text, next, Tag::Start.step(c), none),
         Family::Number => front_from(dialect, text, next, Number::Start.step(dialect, c), none),
         Family::Name => name_front(dialect, text, Name::Start.step(dialect, c), next, no_names),
-        Family::None => Shaped {
+        Family::Other => Shaped {
             len: 0,
             kind: None,
             state: None,

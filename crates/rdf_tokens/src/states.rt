@@ -1,5 +1,6 @@
 // The states of the token shapes, by family.
 
+pub(crate) mod family;
 pub(crate) mod fixed;
 pub(crate) mod iri;
 pub(crate) mod label;

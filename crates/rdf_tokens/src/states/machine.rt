@@ -1,30 +1,16 @@
 // The states of all families in one.
 
-ghost use Rattle.std.specs.Prelude.{◌≡◌, ◌<◌};
-ghost use Rattle.rdf_tokens.specs.Sorts.{sort_by};
-ghost use Rattle.rdf_tokens.specs.Machine.{ascii, high, step, kind_at, goes_on};
+ghost use Rattle.std.specs.Prelude.{◌≡◌};
+ghost use Rattle.rdf_tokens.specs.Machine.{step, kind_at, goes_on};
 
+use crate::states::family::{Family, family_of};
 use crate::states::iri::Iri;
 use crate::states::label::Label;
 use crate::states::name::Name;
 use crate::states::number::Number;
 use crate::states::tag::Tag;
 use crate::states::text::Text;
-use crate::states::wide::{Wide, width};
 use rdf_terms::{Dialect, Kind};
-
-/// The family that a first character begins.
-#[derive(Clone, Copy)]
-pub(crate) enum Family {
-    Iri,
-    Label,
-    Text,
-    Tag,
-    Number,
-    Name,
-    /// No family: a spelling, or nothing.
-    None,
-}
 
 /// The shapes that are still possible, fixed spellings aside.
 #[derive(Clone, Copy)]
@@ -38,168 +24,6 @@ pub(crate) enum State {
     Name(Name),
     /// None.
     Dead,
-}
-
-/// The families that ASCII begins.
-static FAMILIES: [Family; 128] = [
-    Family::None,
-    Family::None,
-    Family::None,
-    Family::None,
-    Family::None,
-    Family::None,
-    Family::None,
-    Family::None,
-    Family::None,
-    Family::None,
-    Family::None,
-    Family::None,
-    Family::None,
-    Family::None,
-    Family::None,
-    Family::None,
-    Family::None,
-    Family::None,
-    Family::None,
-    Family::None,
-    Family::None,
-    Family::None,
-    Family::None,
-    Family::None,
-    Family::None,
-    Family::None,
-    Family::None,
-    Family::None,
-    Family::None,
-    Family::None,
-    Family::None,
-    Family::None,
-    Family::None,
-    Family::None,
-    Family::Text,
-    Family::None,
-    Family::None,
-    Family::None,
-    Family::None,
-    Family::Text,
-    Family::None,
-    Family::None,
-    Family::None,
-    Family::Number,
-    Family::None,
-    Family::Number,
-    Family::Number,
-    Family::None,
-    Family::Number,
-    Family::Number,
-    Family::Number,
-    Family::Number,
-    Family::Number,
-    Family::Number,
-    Family::Number,
-    Family::Number,
-    Family::Number,
-    Family::Number,
-    Family::Name,
-    Family::None,
-    Family::Iri,
-    Family::None,
-    Family::None,
-    Family::None,
-    Family::Tag,
-    Family::Name,
-    Family::Name,
-    Family::Name,
-    Family::Name,
-    Family::Name,
-    Family::Name,
-    Family::Name,
-    Family::Name,
-    Family::Name,
-    Family::Name,
-    Family::Name,
-    Family::Name,
-    Family::Name,
-    Family::Name,
-    Family::Name,
-    Family::Name,
-    Family::Name,
-    Family::Name,
-    Family::Name,
-    Family::Name,
-    Family::Name,
-    Family::Name,
-    Family::Name,
-    Family::Name,
-    Family::Name,
-    Family::Name,
-    Family::None,
-    Family::None,
-    Family::None,
-    Family::None,
-    Family::Label,
-    Family::None,
-    Family::Name,
-    Family::Name,
-    Family::Name,
-    Family::Name,
-    Family::Name,
-    Family::Name,
-    Family::Name,
-    Family::Name,
-    Family::Name,
-    Family::Name,
-    Family::Name,
-    Family::Name,
-    Family::Name,
-    Family::Name,
-    Family::Name,
-    Family::Name,
-    Family::Name,
-    Family::Name,
-    Family::Name,
-    Family::Name,
-    Family::Name,
-    Family::Name,
-    Family::Name,
-    Family::Name,
-    Family::Name,
-    Family::Name,
-    Family::None,
-    Family::None,
-    Family::None,
-    Family::None,
-    Family::None,
-];
-
-#[inline(always)]
-fn family_of_ascii(byte: u8) -> Family
-    requires { byte < 128 }
-    ensures { result ≡ ascii byte }
-{
-    FAMILIES[byte as usize]
-}
-
-fn family_of_wide(wide: Wide) -> Family
-    ensures { result ≡ high wide }
-{
-    match wide {
-        Wide::Letter => Family::Name,
-        _ => Family::None,
-    }
-}
-
-/// The family that a character begins.
-#[inline(always)]
-pub(crate) fn family_of(c: char) -> Family
-    ensures { result ≡ sort_by ascii high c }
-{
-    let code = c as u32;
-    if code < 128 {
-        family_of_ascii(code as u8)
-    } else {
-        family_of_wide(width(c))
-    }
 }
 
 impl State {
@@ -216,7 +40,7 @@ impl State {
                 Family::Tag => State::Tag(Tag::Start.step(c)),
                 Family::Number => State::Number(Number::Start.step(dialect, c)),
                 Family::Name => State::Name(Name::Start.step(dialect, c)),
-                Family::None => State::Dead,
+                Family::Other => State::Dead,
             },
             State::Iri(state) => State::Iri(state.step(c)),
             State::Label(state) => State::Label(state.step(dialect, c)),

@@ -60,16 +60,16 @@ name_front-requires-clause-name c =
     reached-first d c.args.text.now x.result.1 x.result.0 (Name c.step-in-Name.result) c.utf8.text x.ensures.is x.ensures.past x.ensures.fits
     (ap Name c.step-in-Name.ensures ∙ sym (ap (λ f. begin d f x.result.0) (sym c.family_of.ensures ∙ c.in-Name.is)))
 
-pub returns-in-None-clause-best : goal.returns-in-None-clause-best
-returns-in-None-clause-best c =
+pub returns-in-Other-clause-best : goal.returns-in-Other-clause-best
+returns-in-Other-clause-best c =
     let x = c.char_at-c in
     let d = c.args.dialect in
     (reached-out d c.args.text.now x.result.1 Dead None (reached-none d c.args.text.now x.result.1 x.result.0 c.utf8.text x.ensures.is x.ensures.past x.ensures.fits
-    (sym (ap (λ f. begin d f x.result.0) (sym c.family_of.ensures ∙ c.in-None.is)))) (inr refl)).0
+    (sym (ap (λ f. begin d f x.result.0) (sym c.family_of.ensures ∙ c.in-Other.is)))) (inr refl)).0
 
-pub returns-in-None-clause-state : goal.returns-in-None-clause-state
-returns-in-None-clause-state c =
+pub returns-in-Other-clause-state : goal.returns-in-Other-clause-state
+returns-in-Other-clause-state c =
     let x = c.char_at-c in
     let d = c.args.dialect in
     (reached-out d c.args.text.now x.result.1 Dead None (reached-none d c.args.text.now x.result.1 x.result.0 c.utf8.text x.ensures.is x.ensures.past x.ensures.fits
-    (sym (ap (λ f. begin d f x.result.0) (sym c.family_of.ensures ∙ c.in-None.is)))) (inr refl)).1
+    (sym (ap (λ f. begin d f x.result.0) (sym c.family_of.ensures ∙ c.in-Other.is)))) (inr refl)).1
