@@ -28,3 +28,9 @@ returns-clause-bound g c =
       rw c.if-not-has_room.false at c.has_room.ensures,
       subst (λ (s : InForce). Binds s p iri new) c.self.view_is (Binds-set old new p iri c.set.new.self c.in_ok-set.ensures.set refl),
     )
+
+pub returns-clause-refused : goal.returns-clause-refused
+returns-clause-refused g c = tt
+
+pub returns-clause-unchanged : goal.returns-clause-unchanged
+returns-clause-unchanged g c = tt

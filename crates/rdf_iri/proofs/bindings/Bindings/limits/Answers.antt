@@ -1,0 +1,6 @@
+use Rattle.std.proofs.Common.{ap}
+use Rattle.rdf_iri.specs.Bindings.{BindingMap}
+use Rattle.rdf_iri.proofs.bindings.Bindings.limits.Goals as goal
+
+pub returns : goal.returns
+returns g c = ap (λ (b : BindingMap). b.limits) c.self.view_is

@@ -1,0 +1,6 @@
+use Rattle.std.proofs.Common.{ap}
+use Rattle.rdf_iri.specs.Limits.{Sizes}
+use Rattle.rdf_iri.proofs.limits.Limits.depth.Goals as goal
+
+pub returns : goal.returns
+returns c = ap (λ (s : Sizes). s.depth) c.self.view_is

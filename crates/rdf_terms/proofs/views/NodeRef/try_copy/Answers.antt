@@ -1,0 +1,7 @@
+use Rattle.std.proofs.Common.{ap, sym}
+use Rattle.std.specs.Str.{chars}
+use Rattle.rdf_terms.specs.Views.{node_by}
+use Rattle.rdf_terms.proofs.views.NodeRef.try_copy.Goals as goal
+
+pub returns-in-Anon : goal.returns-in-Anon
+returns-in-Anon g c = sym (ap (node_by chars) c.in-Anon.is)
