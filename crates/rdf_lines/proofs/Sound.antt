@@ -115,6 +115,10 @@ no_label : (f : LineForm) → graph_fits f None
 no_label NTriples = refl
 no_label NQuads = tt
 
+-- a run that refuses a token does not come to the end
+no_end : (qs : List Quad) → refused Unexpected ≡ ran Finished qs → ⊥
+no_end qs e = cc
+
 -- the step of one token in each part
 one : (test : List ℕ → Bool) (f : LineForm) (ts : List Token) → ((r : Part) → Sound test f ts r) → (r : Part) (k : Kind) (l : Leaf) (qs : List Quad) → Bound test f r →
     go_on (accept test f (mode r) k l) (λ n. run test f n ts) ≡ ran Finished qs → IsPlain test f (read r ++ token k l ∷ ts) (given r ++ qs)
@@ -157,7 +161,7 @@ one test f ts ih (dot s) LineEnd l qs b e =
     (next (L.one s) l d.0, ap (λ x. statement_tokens s ++ token LineEnd l ∷ x) d.1, (b, d.2), ap (λ x. quad_of s ∷ x) d.3)
 one test f ts ih (dot s) End l qs b e =
     subst (λ x. IsPlain test f x (quad_of s ∷ qs)) (append_assoc (statement_tokens s) (token End l ∷ []) ts) (ih (finished (L.one s) l) qs b e)
-one test f ts ih r k l qs b e = absurd (let z : refused Unexpected ≡ ran Finished qs = e in cc)
+one test f ts ih r k l qs b e = absurd (no_end qs e)
 
 -- so every run to the end reads the rest of a document
 sound_all : (test : List ℕ → Bool) (f : LineForm) (ts : List Token) (r : Part) → Sound test f ts r

@@ -1,6 +1,6 @@
 -- Parts that are appended in turn, and what stands in front of them.
-use Rattle.std.proofs.Common.{◌≡◌, ℕ, ◌+◌, List, [], ◌∷◌, ◌++◌, append_assoc, Result, Ok, Err, OnOk, IfOk, is_ok, if◌then◌else◌, take, length, sym, ap, ◌∙◌, arith, length-append}
-use Rattle.std.proofs.lemmas.List.{append-nil, take-take}
+use Rattle.std.proofs.Common.{◌≡◌, ℕ, ◌+◌, List, [], ◌∷◌, ◌++◌, append_assoc, Result, Ok, Err, OnOk, OnErr, IfOk, is_ok, if◌then◌else◌, take, length, sym, ap, ◌∙◌, arith, length-append}
+use Rattle.std.proofs.lemmas.List.{append-nil, take-take, take_all}
 use Rattle.std.proofs.Math.Seq.{take-append_seam}
 use Rattle.rdf_lines.specs.WrittenBytes.{BeginsWith}
 
@@ -10,6 +10,25 @@ begins_with_front a b w c e h =
     let l : length b ≡ length a + length w = ap length e ∙ length-append a w in
     sym (take-take (length a) (length b) c (omega arith))
     ∙ (ap (take (length a)) (h ∙ e) ∙ take-append_seam a w)
+
+-- what is as it was begins with what it was
+pub begins_with_same : (a b : List ℕ) → b ≡ a → BeginsWith a b
+begins_with_same a b e = ap (take (length a)) e ∙ take_all (length a) a (omega arith)
+
+-- what still begins with a part that was appended to begins with what stood before it
+pub begins_on_err : {T E : Type 0} (r : Result T E) (a b w c : List ℕ) → b ≡ a ++ w → OnErr r (BeginsWith b c) → OnErr r (BeginsWith a c)
+begins_on_err (Ok x) a b w c e h = tt
+begins_on_err (Err x) a b w c e h = begins_with_front a b w c e h
+
+-- what is not appended to is as it was
+pub begins_where_err : {T E : Type 0} (r : Result T E) (new a b : List ℕ) → new ≡ (if is_ok r then a else b) → OnErr r (BeginsWith b new)
+begins_where_err (Ok x) new a b h = tt
+begins_where_err (Err x) new a b h = begins_with_same b new h
+
+-- what holds holds where the answer is Err
+pub on_err : {T E : Type 0} {P : Type 0} (r : Result T E) → P → OnErr r P
+on_err (Ok x) h = tt
+on_err (Err x) h = h
 
 -- what follows of an answer
 pub on_ok : {T E : Type 0} {P Q : Type 0} (r : Result T E) → (P → Q) → OnOk r P → OnOk r Q

@@ -343,3 +343,27 @@ front_by-first (r ∷ rs) x w = go (begins r.any_case (take 1 r.text) (x ∷ [])
 pub front_by-at : (rs : List Row) (x : ℕ) (w : List ℕ) → Some x ≡ slice_get w 0 → front_by (at_first x rs) w ≡ front_by rs w
 front_by-at rs x [] e = absurd cc
 front_by-at rs x (y ∷ w) e = let h : x ≡ y = cc in subst (λ y. front_by (at_first x rs) (y ∷ w) ≡ front_by rs (y ∷ w)) h (front_by-first rs x w)
+
+-- of a spelling that begins with another character nothing is left
+left_other : (b : Bool) (s : List ℕ) (x : ℕ) (w : List ℕ) → begins b (take 1 s) (x ∷ []) ≡ false → left b s (x ∷ w) ≡ None
+left_other b [] x w e = absurd (true≢false e)
+left_other b (c ∷ s) x w e = go (fits b c x) e
+  where
+    go : (t : Bool) → (t && true) ≡ false → cond t (left b s w) None ≡ None
+    go true e = absurd (true≢false e)
+    go false e = refl
+
+-- only those that begin with its first character can be longer than the text
+live_by-first : (rs : List Row) (x : ℕ) (w : List ℕ) → live_by (at_first x rs) (x ∷ w) ≡ live_by rs (x ∷ w)
+live_by-first [] x w = refl
+live_by-first (r ∷ rs) x w = go (begins r.any_case (take 1 r.text) (x ∷ [])) refl (live_by-first rs x w)
+  where
+    go : (t : Bool) → begins r.any_case (take 1 r.text) (x ∷ []) ≡ t → live_by (at_first x rs) (x ∷ w) ≡ live_by rs (x ∷ w) →
+        live_by (cond t (r ∷ at_first x rs) (at_first x rs)) (x ∷ w) ≡ (is_begun (left r.any_case r.text (x ∷ w)) || live_by rs (x ∷ w))
+    go true e h = ap (λ t. is_begun (left r.any_case r.text (x ∷ w)) || t) h
+    go false e h = h ∙ sym (ap (λ o. is_begun o || live_by rs (x ∷ w)) (left_other r.any_case r.text x w e))
+
+-- only spellings that begin with the first byte need be looked at for a longer one
+pub live_by-at : (rs : List Row) (x : ℕ) (w : List ℕ) → Some x ≡ slice_get w 0 → live_by (at_first x rs) w ≡ live_by rs w
+live_by-at rs x [] e = absurd cc
+live_by-at rs x (y ∷ w) e = let h : x ≡ y = cc in subst (λ y. live_by (at_first x rs) (y ∷ w) ≡ live_by rs (y ∷ w)) h (live_by-first rs x w)

@@ -1,4 +1,4 @@
-use Rattle.std.proofs.Common.{◌∙◌, ap, List, ℕ, ◌++◌}
+use Rattle.std.proofs.Common.{◌∙◌, ap, List, ℕ, ◌++◌, arith}
 use Rattle.rdf_iri.specs.Parts.{scheme_text}
 use Rattle.rdf_iri.specs.Seen.{slices, text_of}
 use Rattle.rdf_iri.proofs.Written.{no_bytes, some_bytes, own_authority, base_path, merged_path}
@@ -27,3 +27,9 @@ returns g c =
           w.merge_front-front.ensures first w.in_ok-put_authority-in-None.ensures w.in_ok-put_path-in-None.ensures
           w.in_ok-put_suffix-in-None-2.ensures (ap (λ v. v.items) w.out-is) c.in_ok-put_suffix.ensures
     ]
+
+pub overflow_add-base : goal.overflow_add-base
+overflow_add-base g c = omega arith
+
+pub overflow_add-base-2 : goal.overflow_add-base-2
+overflow_add-base-2 g c = omega arith

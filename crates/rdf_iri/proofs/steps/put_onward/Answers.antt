@@ -97,3 +97,42 @@ returns-in-Last g c =
     c.in_ok-push_str-in-Last.ensures.bytes
     ∙ (ap (λ x. text ++ x) (c.range_from.ensures.value ∙ drop_split w c.loop-next.kept c.loop-next.at i.order)
     ∙ (sym (append_assoc text (slice_range w c.loop-next.kept c.loop-next.at) (drop c.loop-next.at w)) ∙ comes-last c.args.root _ _ _ _ m i.comes))
+
+pub put_between-requires-clause-order : goal.put_between-requires-clause-order
+put_between-requires-clause-order g c = c.loop-next.invariant.order
+
+pub put_between-requires-clause-from : goal.put_between-requires-clause-from
+put_between-requires-clause-from g c = c.loop-next.invariant.kept
+
+pub put_between-requires-clause-to : goal.put_between-requires-clause-to
+put_between-requires-clause-to g c = c.loop-next.invariant.at
+
+pub put_between-requires-in-Up-clause-order : goal.put_between-requires-in-Up-clause-order
+put_between-requires-in-Up-clause-order g c = c.loop-next.invariant.order
+
+pub put_between-requires-in-Up-clause-from : goal.put_between-requires-in-Up-clause-from
+put_between-requires-in-Up-clause-from g c = c.loop-next.invariant.kept
+
+pub put_between-requires-in-Up-clause-to : goal.put_between-requires-in-Up-clause-to
+put_between-requires-in-Up-clause-to g c = c.loop-next.invariant.at
+
+pub loop-next-smaller-in-Into : goal.loop-next-smaller-in-Into
+loop-next-smaller-in-Into g c =
+    let m = subst (λ x. IsMove x c.loop-next.at (Into c.in-Into.next)) c.as_bytes.ensures.value c.in-Into.ensures in
+    let some = m.0.some in
+    let within = m.0.within in
+    omega (arith, some, within)
+
+pub loop-next-smaller-in-Here : goal.loop-next-smaller-in-Here
+loop-next-smaller-in-Here g c =
+    let m = subst (λ x. IsMove x c.loop-next.at (Here c.in-Here.next)) c.as_bytes.ensures.value c.in-Here.ensures in
+    let some = m.0.some in
+    let within = m.0.within in
+    omega (arith, some, within)
+
+pub loop-next-smaller : goal.loop-next-smaller
+loop-next-smaller g c =
+    let m = subst (λ x. IsMove x c.loop-next.at (Up c.in-Up.next)) c.as_bytes.ensures.value c.in-Up.ensures in
+    let some = m.0.some in
+    let within = m.0.within in
+    omega (arith, some, within)

@@ -59,3 +59,18 @@ overflow_add-held g c =
     let r = ap (sum_by entry_bytes) c.in-Some.ensures.steps ∙ sum-cons c.in-Some.prefix.now c.in-Some.iri.now c.next.new.self in
     let most = most_fits c.args.limits c.are_in_range.ensures in
     omega (arith, i.2, i.3, r, most, c.binding_len-held.ensures)
+
+pub loop-prefix-preserved : goal.loop-prefix-preserved
+loop-prefix-preserved g c =
+    let i = c.loop-prefix.invariant in
+    let r = ap (sum_by entry_bytes) c.in-Some.ensures.steps ∙ sum-cons c.in-Some.prefix.now c.in-Some.iri.now c.next.new.self in
+    (tt, tt, omega (arith, i.2, r, c.binding_len-held.ensures), i.3)
+
+pub returns : goal.returns
+returns g c =
+    let i = c.loop-prefix.invariant in
+    let r = ap (sum_by entry_bytes) c.in-None.ensures.steps.0 in
+    record {
+      sum = omega (arith, i.2, r);
+      most = omega (arith, i.2, i.3);
+    }

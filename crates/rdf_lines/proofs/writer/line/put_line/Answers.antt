@@ -3,7 +3,7 @@ use Rattle.rdf_lines.specs.Forms.{form_of}
 use Rattle.rdf_lines.specs.Writing.{space}
 use Rattle.rdf_lines.specs.WrittenBytes.{subject_bytes, iri_bytes, term_bytes, graph_bytes}
 use Rattle.rdf_lines.proofs.EncodedLine.{encoded_line}
-use Rattle.rdf_lines.proofs.WrittenBytesLemmas.{on_ok, parts_appended}
+use Rattle.rdf_lines.proofs.WrittenBytesLemmas.{on_ok, on_err, parts_appended, begins_with_front, begins_on_err}
 use Rattle.rdf_lines.proofs.writer.line.put_line.Goals as goal
 
 pub returns-clause-written : goal.returns-clause-written
@@ -21,3 +21,15 @@ returns-clause-written g c =
     on_ok c.put_end.result
     (λ h. h ∙ (ap (λ x. x ++ (graph ++ 46 ∷ [] ++ 10 ∷ [])) parts ∙ (whole ∙ ap (λ x. out ++ x) (sym (encoded_line form quad)))))
     c.put_end.ensures.written
+
+pub returns-in_err-put_subject-clause-grown : goal.returns-in_err-put_subject-clause-grown
+returns-in_err-put_subject-clause-grown g c = on_err _ (c.in_err-put_subject.ensures.grown)
+
+pub returns-in_err-put_predicate-clause-grown : goal.returns-in_err-put_predicate-clause-grown
+returns-in_err-put_predicate-clause-grown g c = on_err _ (begins_with_front _ _ _ _ c.in_ok-put_subject.ensures.written c.in_err-put_predicate.ensures.grown)
+
+pub returns-in_err-put_object-clause-grown : goal.returns-in_err-put_object-clause-grown
+returns-in_err-put_object-clause-grown g c = on_err _ (begins_with_front _ _ _ _ c.in_ok-put_subject.ensures.written (begins_with_front _ _ _ _ c.in_ok-put_predicate.ensures.written c.in_err-put_object.ensures.grown))
+
+pub returns-clause-grown : goal.returns-clause-grown
+returns-clause-grown g c = begins_on_err c.put_end.result _ _ _ _ c.in_ok-put_subject.ensures.written (begins_on_err c.put_end.result _ _ _ _ c.in_ok-put_predicate.ensures.written (begins_on_err c.put_end.result _ _ _ _ c.in_ok-put_object.ensures.written c.put_end.ensures.grown))

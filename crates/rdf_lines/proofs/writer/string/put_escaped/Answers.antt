@@ -5,7 +5,7 @@ use Rattle.rdf_terms.specs.Runs.{goes_over}
 use Rattle.rdf_terms.specs.Terms.{all_have}
 use Rattle.rdf_lines.specs.WrittenBytes.{run_of}
 use Rattle.rdf_lines.proofs.EscapedRuns.{none_written, text_stands}
-use Rattle.rdf_lines.proofs.WrittenBytesLemmas.{on_ok, where_ok}
+use Rattle.rdf_lines.proofs.WrittenBytesLemmas.{on_ok, where_ok, begins_where_err}
 use Rattle.rdf_lines.proofs.writer.string.put_escaped.Goals as goal
 
 pub returns-clause-written : goal.returns-clause-written
@@ -24,3 +24,6 @@ returns-then-is_run-clause-written g c =
     on_ok c.extend_from_slice.result
     (λ e. e ∙ ap (λ x. out ++ x) (c.as_bytes-then-is_run.ensures.value ∙ sym (text_stands c.args.escapes text c.utf8.text have)))
     (where_ok c.extend_from_slice.result _ _ _ c.extend_from_slice.ensures.items)
+
+pub returns-then-is_run-clause-grown : goal.returns-then-is_run-clause-grown
+returns-then-is_run-clause-grown g c = begins_where_err c.extend_from_slice.result _ _ _ c.extend_from_slice.ensures.items

@@ -1,10 +1,10 @@
-use Rattle.std.proofs.Common.{ℕ, List, ◌≡◌, ◌++◌, append_assoc, take, drop, subst, sym, ap, ◌∙◌}
+use Rattle.std.proofs.Common.{ℕ, List, ◌≡◌, ◌++◌, append_assoc, take, drop, subst, sym, ap, ◌∙◌, refl}
 use Rattle.std.specs.Str.{IsUtf8}
 use Rattle.rdf_terms.specs.Runs.{IsRun, goes_over}
 use Rattle.rdf_lines.specs.declared.form.Escapes.{Escapes}
 use Rattle.rdf_lines.specs.WrittenBytes.{escaped_bytes, run_of}
 use Rattle.rdf_lines.proofs.EscapedRuns.{run_cut, run_written}
-use Rattle.rdf_lines.proofs.WrittenBytesLemmas.{if_ok}
+use Rattle.rdf_lines.proofs.WrittenBytesLemmas.{if_ok, begins_with_front, begins_with_same}
 use Rattle.rdf_lines.proofs.writer.string.put_run.Goals as goal
 
 -- a run that was put, and what is left of the text
@@ -35,3 +35,12 @@ returns-then-is_empty-clause-written g c =
     let run = subst (λ w. IsRun (goes_over (run_of c.args.escapes)) w 0 c.run_end-at.result) c.as_bytes.ensures.value runs in
     let front = c.in_ok-extend_from_slice.ensures.items ∙ ap (λ x. c.args.out.now.items ++ x) (c.as_bytes-2.ensures.value ∙ c.split_at.ensures.front) in
     put_front c.args.escapes c.args.out.now.items _ c.args.text.now c.split_at.result.1.now c.run_end-at.result c.utf8.text run front c.split_at.ensures.back
+
+pub returns-in_err-extend_from_slice-clause-grown : goal.returns-in_err-extend_from_slice-clause-grown
+returns-in_err-extend_from_slice-clause-grown g c = begins_with_same _ _ c.in_err-extend_from_slice.ensures.items
+
+pub returns-then-is_empty-clause-grown : goal.returns-then-is_empty-clause-grown
+returns-then-is_empty-clause-grown g c = begins_with_front _ _ _ _ c.in_ok-extend_from_slice.ensures.items (begins_with_same _ _ refl)
+
+pub returns-clause-grown : goal.returns-clause-grown
+returns-clause-grown g c = begins_with_front _ _ _ _ c.in_ok-extend_from_slice.ensures.items c.put_first.ensures.grown
