@@ -166,8 +166,8 @@ static ROWS: [Row; 15] = [
 
 #[test]
 fn a_document_is_read_the_same_however_it_is_cut(rt: HostRuntime) {
-    for i in 0..ROWS.len() {
-        assert!(rt; is_read(rt.alloc(), &ROWS[i]), "document {i}");
+    for row in ROWS.as_slice() {
+        assert!(rt; is_read(rt.alloc(), row), "{}", row.lines);
     }
 }
 

@@ -1,6 +1,6 @@
 // The calls that can report want of memory: they do where a growth was refused, and nowhere else.
 
-ghost use Rattle.std.specs.Prelude.{◌≡◌, ◌*◌, ◌≤◌, length};
+ghost use Rattle.std.specs.Prelude.{◌≡◌, ◌≤◌};
 
 use rdf_driver::{Fault, Summary};
 use rdf_iri::{BindingFault, BindingReason, IriFault, Limits, Scope, read_bindings, resolve};
@@ -86,19 +86,41 @@ fn put_values<A: Allocator + Copy>(alloc: A) -> Result<(), Stop> {
     Ok(())
 }
 
-/// Terms and values of escapes.
+/// What a text is the inside of.
+#[derive(Clone, Copy)]
+enum Inside {
+    String,
+    Iri,
+    Local,
+}
+
+static INSIDES: [(Inside, &str); 6] = [
+    (Inside::String, "a value"),
+    (
+        Inside::String,
+        "\\t\\b\\n\\r\\f\\\"\\'\\\\\\u00e9\\U0001F600 and so on",
+    ),
+    (Inside::Iri, "http://a/s"),
+    (Inside::Iri, "http://a/\\u0073\\U00000074"),
+    (Inside::Local, "b%20c"),
+    (Inside::Local, "b%20\\~c"),
+];
+
+/// Values of escapes.
+fn make_values<A: Allocator + Copy>(alloc: A) -> Result<(), Stop> {
+    for (inside, text) in INSIDES.as_slice() {
+        match inside {
+            Inside::String => string_value(alloc, text)?,
+            Inside::Iri => iri_value(alloc, text)?,
+            Inside::Local => local_value(alloc, text)?,
+        };
+    }
+    Ok(())
+}
+
 fn make_terms<A: Allocator + Copy>(alloc: A) -> Result<(), Stop> {
     Label::new(alloc, "x.y")?;
     Tag::new(alloc, "en-GB")?;
-    string_value(alloc, "a value")?;
-    string_value(
-        alloc,
-        "\\t\\b\\n\\r\\f\\\"\\'\\\\\\u00e9\\U0001F600 and so on",
-    )?;
-    iri_value(alloc, "http://a/s")?;
-    iri_value(alloc, "http://a/\\u0073\\U00000074")?;
-    local_value(alloc, "b%20c")?;
-    local_value(alloc, "b%20\\~c")?;
     Ok(())
 }
 
@@ -159,38 +181,63 @@ fn append<A: Allocator + Copy>(
     }
 }
 
-/// A quad kept, and written in both forms.
-fn write_quad<A: Allocator + Copy>(
+fn keep_quads<A: Allocator + Copy>(
     alloc: A,
     quad: QuadRef<'_>,
     list: &mut QuadList<A>,
-    out: &mut Vec<u8, A>,
 ) -> Result<(), Stop> {
-    keep_quad(alloc, quad, list)?;
-    append(quad, Escapes::Plain, out)?;
-    append(quad, Escapes::Ascii, out)
+    for _ in 0..3 {
+        keep_quad(alloc, quad, list)?;
+    }
+    Ok(())
 }
 
-/// Quads of each kind of term, and the names of their nodes.
-fn write_quads<A: Allocator + Copy>(alloc: A) -> Result<(), Stop> {
-    let label = Label::new(alloc, "x")?;
-    let tag = Tag::new(alloc, "en-GB")?;
-    let mut list = QuadList::new(alloc);
-    let mut out = Vec::new(alloc);
-    let node = NodeRef::Label(label.view());
-    let nil = quad(node, TermRef::Iri(known(Known::RdfNil)));
-    write_quad(alloc, nil, &mut list, &mut out)?;
-    let tail = TailRef::Lang(tag.view());
-    let text = LiteralRef::new("\u{E9}\"\\\n\r\u{1F600}", tail);
-    let tagged = quad(NodeRef::Anon(27), TermRef::Literal(text));
-    write_quad(alloc, tagged, &mut list, &mut out)?;
-    let number = LiteralRef::new("1", TailRef::Typed(known(Known::XsdInteger)));
-    let typed = quad(NodeRef::Cell(7), TermRef::Literal(number));
-    write_quad(alloc, typed, &mut list, &mut out)?;
-    label_text(alloc, node, Style::Tagged)?;
-    label_text(alloc, NodeRef::Anon(27), Style::Tagged)?;
-    label_text(alloc, NodeRef::Cell(7), Style::Tagged)?;
+fn append_lines<A: Allocator + Copy>(quad: QuadRef<'_>, out: &mut Vec<u8, A>) -> Result<(), Stop> {
+    for _ in 0..3 {
+        append(quad, Escapes::Plain, out)?;
+        append(quad, Escapes::Ascii, out)?;
+    }
     Ok(())
+}
+
+/// A quad kept, and written in both forms, three times, and the name of its subject's node.
+fn write_quad<A: Allocator + Copy>(
+    alloc: A,
+    node: NodeRef<'_>,
+    object: TermRef<'_>,
+) -> Result<(), Stop> {
+    let quad = quad(node, object);
+    keep_quads(alloc, quad, &mut QuadList::new(alloc))?;
+    append_lines(quad, &mut Vec::new(alloc))?;
+    label_text(alloc, node, Style::Tagged)?;
+    Ok(())
+}
+
+fn write_a_node<A: Allocator + Copy>(alloc: A) -> Result<(), Stop> {
+    let label = Label::new(alloc, "x")?;
+    write_quad(
+        alloc,
+        NodeRef::Label(label.view()),
+        TermRef::Iri(known(Known::RdfNil)),
+    )
+}
+
+fn write_a_text<A: Allocator + Copy>(alloc: A) -> Result<(), Stop> {
+    let tag = Tag::new(alloc, "en-GB")?;
+    let text = LiteralRef::new("\u{E9}\"\\\n\r\u{1F600}", TailRef::Lang(tag.view()));
+    write_quad(alloc, NodeRef::Anon(27), TermRef::Literal(text))
+}
+
+fn write_a_number<A: Allocator + Copy>(alloc: A) -> Result<(), Stop> {
+    let number = LiteralRef::new("1", TailRef::Typed(known(Known::XsdInteger)));
+    write_quad(alloc, NodeRef::Cell(7), TermRef::Literal(number))
+}
+
+/// Quads of each kind of term.
+fn write_quads<A: Allocator + Copy>(alloc: A) -> Result<(), Stop> {
+    write_a_node(alloc)?;
+    write_a_text(alloc)?;
+    write_a_number(alloc)
 }
 
 /// Takes the IRI of a reference as the base. Where memory is refused, the scope holds what it held.
@@ -211,16 +258,16 @@ fn set_base<A: Allocator + Copy>(scope: &mut Scope<A>, reference: &str) -> Resul
     }
 }
 
-/// Binds a prefix. Where memory is refused, the scope holds what it held.
+/// Binds a prefix of one byte or none. Where memory is refused, the scope holds what it held.
 fn bind<A: Allocator + Copy>(
     scope: &mut Scope<A>,
     prefix: &str,
     reference: &str,
 ) -> Result<(), Stop>
-    requires { length prefix.now ≤ 4 * scope.old.limits.token }
+    requires { 1 ≤ scope.old.limits.token }
     ensures { scope.new.limits ≡ scope.old.limits }
 {
-    if !iri_text(reference) {
+    if !iri_text(reference) || prefix.len() > 1 {
         return Err(Stop::Wrong);
     }
     let held = scope.held();
@@ -256,24 +303,44 @@ fn put_names<A: Allocator + Copy>(alloc: A, scope: &Scope<A>, reference: &str) -
     Ok(())
 }
 
+/// Bases and bindings, one after another.
+fn set_names<A: Allocator + Copy>(scope: &mut Scope<A>) -> Result<(), Stop>
+    requires { 1 ≤ scope.old.limits.token }
+{
+    set_base(scope, "http://h/b/c")?;
+    bind(scope, "x", "../d/")?;
+    bind(scope, "", "e?q#f")?;
+    set_base(scope, "../g/")?;
+    set_base(scope, "i/j/k/l/m/n/o/p/")?;
+    bind(scope, "x", "#h")
+}
+
 /// Bases, bindings, and the IRIs of references and names.
-fn use_a_scope<A: Allocator + Copy>(alloc: A) -> Result<(), Stop> {
-    let Some(limits) = Limits::new(9, 9, 9, 99) else {
-        return Err(Stop::Wrong);
-    };
-    let mut scope = Scope::new(alloc, None, limits);
-    set_base(&mut scope, "http://h/b/c")?;
-    bind(&mut scope, "x", "../d/")?;
-    bind(&mut scope, "", "e?q#f")?;
-    set_base(&mut scope, "../g/")?;
-    set_base(&mut scope, "i/j/k/l/m/n/o/p/")?;
-    bind(&mut scope, "x", "#h")?;
+fn name_all<A: Allocator + Copy>(alloc: A, scope: &mut Scope<A>) -> Result<(), Stop>
+    requires { 1 ≤ scope.old.limits.token }
+{
+    set_names(scope)?;
     for reference in ["s", "http://a/s"] {
-        use_names(&scope, reference)?;
-        put_names(alloc, &scope, reference)?;
+        use_names(scope, reference)?;
+        put_names(alloc, scope, reference)?;
     }
-    read_bindings(alloc, limits, b"x: http://x/\r\n: http://e/\nx: http://y/")?;
     Ok(())
+}
+
+fn use_a_scope<A: Allocator + Copy>(alloc: A) -> Result<(), Stop> {
+    match Limits::new(9, 9, 9, 99) {
+        Some(limits) => name_all(alloc, &mut Scope::new(alloc, None, limits)),
+        None => Err(Stop::Wrong),
+    }
+}
+
+/// A file of bindings, read.
+fn read_a_file<A: Allocator + Copy>(alloc: A) -> Result<(), Stop> {
+    let file = b"x: http://x/\r\n: http://e/\nx: http://y/";
+    match read_bindings(alloc, Limits::default(), file) {
+        Ok(_) => Ok(()),
+        Err(fault) => Err(Stop::from(fault)),
+    }
 }
 
 /// Want of memory, if it was reported and each call after it reports that reading has ended.
@@ -337,8 +404,10 @@ fn read_statements<A: Allocator + Copy>(alloc: A, form: DocForm) -> Result<(), S
 /// A document, read at once.
 fn read_a_whole<A: Allocator + Copy>(alloc: A, form: DocForm) -> Result<(), Stop> {
     let document = b"@prefix : <http://e/> . [ :p ( :o 'x'@en [] ) ] .";
-    read_document(alloc, options(form)?, document)?;
-    Ok(())
+    match read_document(alloc, options(form)?, document) {
+        Ok(_) => Ok(()),
+        Err(fault) => Err(Stop::from(fault)),
+    }
 }
 
 fn options<A: Allocator>(form: DocForm) -> Result<Options<A>, Stop> {
@@ -368,23 +437,27 @@ const MOST: u64 = 2000;
 /// Calls that follow one another.
 #[derive(Clone, Copy, Debug)]
 enum Task {
+    Put,
     Values,
     Terms,
     References,
     Quads,
     Scope,
+    File,
     Token,
     Lines(LineForm),
     Statements(DocForm),
     Whole(DocForm),
 }
 
-static TASKS: [Task; 12] = [
+static TASKS: [Task; 14] = [
+    Task::Put,
     Task::Values,
     Task::Terms,
     Task::References,
     Task::Quads,
     Task::Scope,
+    Task::File,
     Task::Token,
     Task::Lines(LineForm::NTriples),
     Task::Lines(LineForm::NQuads),
@@ -396,11 +469,13 @@ static TASKS: [Task; 12] = [
 
 fn run<A: Allocator + Copy>(alloc: A, task: Task) -> Result<(), Stop> {
     match task {
-        Task::Values => put_values(alloc),
+        Task::Put => put_values(alloc),
+        Task::Values => make_values(alloc),
         Task::Terms => make_terms(alloc),
         Task::References => resolve_references(alloc),
         Task::Quads => write_quads(alloc),
         Task::Scope => use_a_scope(alloc),
+        Task::File => read_a_file(alloc),
         Task::Token => push_a_token(alloc),
         Task::Lines(form) => read_lines(alloc, form),
         Task::Statements(form) => read_statements(alloc, form),

@@ -127,8 +127,8 @@ fn is_written(alloc: Global, row: &Row) -> bool {
 
 #[test]
 fn a_line_has_its_escapes_its_tag_or_its_type(rt: HostRuntime) {
-    for i in 0..ROWS.len() {
-        assert!(rt; is_written(rt.alloc(), &ROWS[i]), "line {i}");
+    for row in ROWS.as_slice() {
+        assert!(rt; is_written(rt.alloc(), row));
     }
 }
 
