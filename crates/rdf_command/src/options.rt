@@ -71,16 +71,13 @@ struct Limit<'a> {
 pub fn program<'a>(alloc: Global, formats: &'a [&'a str]) -> Result<Command<'a>, AllocError>
     ensures { IfOk result (λ c. app_of c ≡ rdfconv (Names formats.entry)) }
 {
-    let check = prefixed_command(alloc, "check", CHECK, formats)?;
-    let show = action_command(alloc, "show", SHOW, formats)?;
-    let convert = convert_command(alloc, formats)?;
-    Command::new(alloc, "rdfconv")
+    let command = Command::new(alloc, "rdfconv")
         .about("Read N-Triples, N-Quads, Turtle or TriG, and write N-Quads")
         .after_help(PROGRAM_NOTES)
-        .subcommand_required(true)
-        .subcommand(check)?
-        .subcommand(show)?
-        .subcommand(convert)
+        .subcommand_required(true);
+    let command = command.subcommand(prefixed_command(alloc, "check", CHECK, formats)?)?;
+    let command = command.subcommand(action_command(alloc, "show", SHOW, formats)?)?;
+    command.subcommand(convert_command(alloc, formats)?)
 }
 
 // The subcommand that writes quads.
@@ -115,23 +112,16 @@ fn action_command<'a>(
 ) -> Result<Command<'a>, AllocError>
     ensures { IfOk result (λ c. ReadsAs c (action_app (Names formats.entry) name.now)) }
 {
-    let format = format_option(alloc, formats);
-    let base = base_option(alloc);
-    let token = token_option(alloc);
-    let depth = depth_option(alloc);
-    let bindings = bindings_option(alloc);
-    let iri = iri_option(alloc);
-    let file = file_argument(alloc);
-    Command::new(alloc, name)
+    let command = Command::new(alloc, name)
         .about(about)
-        .after_help(COMMAND_NOTES)
-        .arg(format)?
-        .arg(base)?
-        .arg(token)?
-        .arg(depth)?
-        .arg(bindings)?
-        .arg(iri)?
-        .arg(file)
+        .after_help(COMMAND_NOTES);
+    let command = command.arg(format_option(alloc, formats))?;
+    let command = command.arg(base_option(alloc))?;
+    let command = command.arg(token_option(alloc))?;
+    let command = command.arg(depth_option(alloc))?;
+    let command = command.arg(bindings_option(alloc))?;
+    let command = command.arg(iri_option(alloc))?;
+    command.arg(file_argument(alloc))
 }
 
 fn format_option<'a>(alloc: Global, formats: &'a [&'a str]) -> Arg<'a>

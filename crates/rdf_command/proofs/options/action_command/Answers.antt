@@ -9,12 +9,12 @@ use Rattle.rdf_command.proofs.options.action_command.Goals as goal
 
 pub returns : goal.returns
 returns c =
-    let globals = ap (λ (f : Command-F Command). f.has_globals) c.after_help.ensures ∙ ap (λ (f : Command-F Command). f.has_globals) c.about.ensures ∙ c.new.ensures.local in
-    let app = ap app_of_fields c.after_help.ensures ∙ ap app_of_fields c.about.ensures ∙ c.new.ensures.app in
-    let first = with_argument _ _ _ (new_app c.args.name.now) _ c.in_ok-arg.ensures (globals, app) c.format_option-format.ensures.rule c.format_option-format.ensures.local in
-    let second = with_argument _ _ _ _ _ c.in_ok-arg-2.ensures first c.base_option-base.ensures.rule c.base_option-base.ensures.local in
-    let third = with_argument _ _ _ _ _ c.in_ok-arg-3.ensures second c.token_option-token.ensures.rule c.token_option-token.ensures.local in
-    let fourth = with_argument _ _ _ _ _ c.in_ok-arg-4.ensures third c.depth_option-depth.ensures.rule c.depth_option-depth.ensures.local in
-    let fifth = with_argument _ _ _ _ _ c.in_ok-arg-5.ensures fourth c.bindings_option-bindings.ensures.rule c.bindings_option-bindings.ensures.local in
-    let sixth = with_argument _ _ _ _ _ c.in_ok-arg-6.ensures fifth c.iri_option-iri.ensures.rule c.iri_option-iri.ensures.local in
-    IfOk-weaker c.arg-7.result _ _ (λ made added. with_argument _ made _ _ _ added sixth c.file_argument-file.ensures.rule c.file_argument-file.ensures.local) c.arg-7.ensures
+    let globals = ap (λ (f : Command-F Command). f.has_globals) c.after_help-command.ensures ∙ ap (λ (f : Command-F Command). f.has_globals) c.about.ensures ∙ c.new.ensures.local in
+    let app = ap app_of_fields c.after_help-command.ensures ∙ ap app_of_fields c.about.ensures ∙ c.new.ensures.app in
+    let first = with_argument _ _ _ (new_app c.args.name.now) _ c.in_ok-command.ensures (globals, app) c.format_option.ensures.rule c.format_option.ensures.local in
+    let second = with_argument _ _ _ _ _ c.in_ok-command-2.ensures first c.base_option.ensures.rule c.base_option.ensures.local in
+    let third = with_argument _ _ _ _ _ c.in_ok-command-3.ensures second c.token_option.ensures.rule c.token_option.ensures.local in
+    let fourth = with_argument _ _ _ _ _ c.in_ok-command-4.ensures third c.depth_option.ensures.rule c.depth_option.ensures.local in
+    let fifth = with_argument _ _ _ _ _ c.in_ok-command-5.ensures fourth c.bindings_option.ensures.rule c.bindings_option.ensures.local in
+    let sixth = with_argument _ _ _ _ _ c.in_ok-command-6.ensures fifth c.iri_option.ensures.rule c.iri_option.ensures.local in
+    IfOk-weaker c.arg-7.result _ _ (λ made added. with_argument _ made _ _ _ added sixth c.file_argument.ensures.rule c.file_argument.ensures.local) c.arg-7.ensures
