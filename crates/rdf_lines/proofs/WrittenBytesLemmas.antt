@@ -15,11 +15,6 @@ begins_with_front a b w c e h =
 pub begins_with_same : (a b : List ℕ) → b ≡ a → BeginsWith a b
 begins_with_same a b e = ap (take (length a)) e ∙ take_all (length a) a (omega arith)
 
--- what still begins with a part that was appended to begins with what stood before it
-pub begins_on_err : {T E : Type 0} (r : Result T E) (a b w c : List ℕ) → b ≡ a ++ w → OnErr r (BeginsWith b c) → OnErr r (BeginsWith a c)
-begins_on_err (Ok x) a b w c e h = tt
-begins_on_err (Err x) a b w c e h = begins_with_front a b w c e h
-
 -- what is not appended to is as it was
 pub begins_where_err : {T E : Type 0} (r : Result T E) (new a b : List ℕ) → new ≡ (if is_ok r then a else b) → OnErr r (BeginsWith b new)
 begins_where_err (Ok x) new a b h = tt

@@ -1,9 +1,10 @@
 use Rattle.std.proofs.Common.{◌≡◌, ◌++◌, [], ◌∷◌, append_assoc, ap, sym, ◌∙◌}
+use Rattle.std.proofs.lemmas.Result.{on_err_weaker}
 use Rattle.rdf_lines.specs.Forms.{form_of}
 use Rattle.rdf_lines.specs.Writing.{space}
 use Rattle.rdf_lines.specs.WrittenBytes.{subject_bytes, iri_bytes, term_bytes, graph_bytes}
 use Rattle.rdf_lines.proofs.EncodedLine.{encoded_line}
-use Rattle.rdf_lines.proofs.WrittenBytesLemmas.{on_ok, on_err, parts_appended, begins_with_front, begins_on_err}
+use Rattle.rdf_lines.proofs.WrittenBytesLemmas.{on_ok, on_err, parts_appended, begins_with_front}
 use Rattle.rdf_lines.proofs.writer.line.put_line.Goals as goal
 
 pub returns-clause-written : goal.returns-clause-written
@@ -32,4 +33,4 @@ pub returns-in_err-put_object-clause-grown : goal.returns-in_err-put_object-clau
 returns-in_err-put_object-clause-grown g c = on_err _ (begins_with_front _ _ _ _ c.in_ok-put_subject.ensures.written (begins_with_front _ _ _ _ c.in_ok-put_predicate.ensures.written c.in_err-put_object.ensures.grown))
 
 pub returns-clause-grown : goal.returns-clause-grown
-returns-clause-grown g c = begins_on_err c.put_end.result _ _ _ _ c.in_ok-put_subject.ensures.written (begins_on_err c.put_end.result _ _ _ _ c.in_ok-put_predicate.ensures.written (begins_on_err c.put_end.result _ _ _ _ c.in_ok-put_object.ensures.written c.put_end.ensures.grown))
+returns-clause-grown g c = on_err_weaker c.put_end.result (begins_with_front _ _ _ _ c.in_ok-put_subject.ensures.written) (on_err_weaker c.put_end.result (begins_with_front _ _ _ _ c.in_ok-put_predicate.ensures.written) (on_err_weaker c.put_end.result (begins_with_front _ _ _ _ c.in_ok-put_object.ensures.written) c.put_end.ensures.grown))

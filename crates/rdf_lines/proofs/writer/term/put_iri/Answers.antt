@@ -1,9 +1,10 @@
 use Rattle.std.proofs.Common.{◌++◌, [], ◌∷◌, ap, sym, ◌∙◌, arith}
 use Rattle.std.specs.Prelude.{encode_utf8_all, flat_map}
 use Rattle.rdf_terms.specs.Views.{iri_chars}
+use Rattle.std.proofs.lemmas.Result.{on_err_weaker}
 use Rattle.rdf_lines.specs.Writing.{written}
 use Rattle.rdf_lines.proofs.EncodedLine.{between}
-use Rattle.rdf_lines.proofs.WrittenBytesLemmas.{on_ok, on_err, parts_appended, where_ok, begins_with_front, begins_on_err, begins_with_same, begins_where_err}
+use Rattle.rdf_lines.proofs.WrittenBytesLemmas.{on_ok, on_err, parts_appended, where_ok, begins_with_front, begins_with_same, begins_where_err}
 use Rattle.rdf_lines.proofs.writer.term.put_iri.Goals as goal
 
 pub returns-clause-written : goal.returns-clause-written
@@ -23,4 +24,4 @@ pub returns-in_err-put_characters-clause-grown : goal.returns-in_err-put_charact
 returns-in_err-put_characters-clause-grown g c = on_err _ (begins_with_front _ _ _ _ c.in_ok-extend_from_slice.ensures.items c.in_err-put_characters.ensures.grown)
 
 pub returns-clause-grown : goal.returns-clause-grown
-returns-clause-grown g c = begins_on_err c.extend_from_slice-2.result _ _ _ _ c.in_ok-extend_from_slice.ensures.items (begins_on_err c.extend_from_slice-2.result _ _ _ _ c.in_ok-put_characters.ensures.written (begins_where_err c.extend_from_slice-2.result _ _ _ c.extend_from_slice-2.ensures.items))
+returns-clause-grown g c = on_err_weaker c.extend_from_slice-2.result (begins_with_front _ _ _ _ c.in_ok-extend_from_slice.ensures.items) (on_err_weaker c.extend_from_slice-2.result (begins_with_front _ _ _ _ c.in_ok-put_characters.ensures.written) (begins_where_err c.extend_from_slice-2.result _ _ _ c.extend_from_slice-2.ensures.items))
