@@ -121,6 +121,21 @@ abbrev pub outer_graph : Outer → M.Topic → Option term.Subject
 outer_graph (outer.Inside b) g = block_graph b g
 outer_graph o g = None
 
+-- the offset of the `[` that has just come, 0 where none has
+abbrev pub bracket_of : Mode → ℕ
+bracket_of (mode.PropertyListStart n) = n
+bracket_of (mode.Outer (outer.GraphBracket n)) = n
+bracket_of m = 0
+
+-- the first and the present cell of a collection, 0 where there is none
+abbrev pub first_of : Container → ℕ
+first_of (container.Cells first cell) = first
+first_of (container.List a) = 0
+
+abbrev pub cell_of : Container → ℕ
+cell_of (container.Cells first cell) = cell
+cell_of (container.List a) = 0
+
 -- after a `;` the frame in hand is a predicate list
 abbrev pub after_semicolon_at : M.Place → M.Mode
 after_semicolon_at (M.Listed s p a) = M.AfterSemicolon s a
@@ -132,6 +147,10 @@ up_in r = up_of (level_of r.level) r.frames.items
 
 abbrev pub place_in : {A : Type 0} → State A → M.Place
 place_in r = place_of (level_of r.level) r.frame (up_in r)
+
+-- the place of the present item of the collection in hand
+abbrev pub item_in : {A : Type 0} → State A → M.Place
+item_in r = M.InCollection (first_of r.frame.container) (cell_of r.frame.container) (up_in r)
 
 -- what a predicate list in hand stands in
 abbrev pub around_in : {A : Type 0} → State A → Around → M.Around

@@ -32,7 +32,7 @@ use Rattle.rdf_trig.specs.Names.{prefix_of}
 use Rattle.rdf_trig.specs.Quads.{Setting, named, node, resource, anon_at, labelled, short_value, long_value, tag_of, tagged_literal, typed_literal, cell_at, rest_quad}
 use Rattle.rdf_trig.specs.Machine as M
 use Rattle.rdf_trig.specs.Machine.{Reply, No, Go, nil, quad_at}
-use Rattle.rdf_trig.specs.States.{level_of, graph_of, outer_of, outer_graph, spelling_of, after_semicolon_at, up_in, place_in, around_in, text_in, mode_at, graph_at, setting, setting_in, rest_of}
+use Rattle.rdf_trig.specs.States.{level_of, graph_of, outer_of, outer_graph, spelling_of, bracket_of, first_of, cell_of, after_semicolon_at, up_in, place_in, around_in, text_in, mode_at, graph_at, setting, setting_in, rest_of}
 use Rattle.rdf_trig.specs.States.{name_at, use_at, use_in, scope_in, IsNamed, IsNamedIn, NameIn, moved}
 use Rattle.rdf_trig.specs.Spelled.{SpellsTag}
 use Rattle.rdf_trig.specs.Holding.{text_bytes, level_bytes, outer_bytes, TextFits, NameFits, FrameFits, OpenFits, Fits, Closes, frames_most}
@@ -68,26 +68,31 @@ turned form r s u i (turn.Prefix w) l = Go u None None (setting s None) (M.WantP
 turned form r s u i turn.GraphName l = Go u None None (setting s None) (M.WantBrace (named i))
 turned form r s u i turn.GraphLabel l = Go u None None (setting s None) (M.WantBrace (node (labelled l)))
 turned form r s u i turn.GraphBracket l = Go u None None (setting s None) (M.GraphBracket l.at.offset)
-turned form r s u i (turn.GraphNode n) l = Go u None None (setting s None) (M.WantBrace (node (Anon n)))
+turned form r s u i turn.GraphNode l = Go u None None (setting s None) (M.WantBrace (node (Anon (bracket_of r.mode))))
 turned form r s u i turn.SubjectBlock l = Go u None None (setting s r.frame.subject.term) M.Inside
 turned form r s u i (turn.Subject v b) l = Go u None None (setting s (graph_of v r.graph)) (subject_mode form (level_of v) b i l)
 turned form r s u i (turn.Verb a v) l = Go u None None (setting_in s r) (M.Want (M.Listed r.frame.subject (verb_by v i) (around_in r a)))
-turned form r s u i (turn.FirstVerb n v) l = Go u None None (setting_in s r) (M.Want (M.Listed (M.sized (node (Anon n))) (verb_by v i) (M.InPropertyList (up_in r))))
+turned form r s u i (turn.FirstVerb v) l =
+    Go u None None (setting_in s r) (M.Want (M.Listed (M.sized (node (Anon (bracket_of r.mode)))) (verb_by v i) (M.InPropertyList (up_in r))))
 turned form r s u i (turn.Object b) l = begun (setting_in s r) u i (place_in r) None b l
 turned form r s u i (turn.FirstItem b) l = begun (setting_in s r) u i (M.InCollection l.at.offset l.at.offset (up_in r)) None b l
-turned form r s u i (turn.NextItem first cell b) l =
-    let c = setting_in s r in begun c u i (M.InCollection first l.at.offset (up_in r)) (rest_quad c (Cell cell) (Blank (cell_at l))) b l
+turned form r s u i (turn.NextItem b) l =
+    let c = setting_in s r in
+    let here = r.frame.container in
+    begun c u i (M.InCollection (first_of here) l.at.offset (up_in r)) (rest_quad c (Cell (cell_of here)) (Blank (cell_at l))) b l
 turned form r s u i turn.NextObject l = Go u None None (setting_in s r) (M.Want (place_in r))
 turned form r s u i turn.NextVerb l = Go u None None (setting_in s r) (after_semicolon_at (place_in r))
 turned form r s u i turn.Tag l =
     let c = setting_in s r in Go u None (quad_at c (place_in r) (tagged_literal (text_in r) (tag_of l))) c (M.After (place_in r))
 turned form r s u i turn.DatatypeMark l = Go u None None (setting_in s r) (M.WantType (text_in r) (place_in r))
 turned form r s u i turn.Datatype l = let c = setting_in s r in Go u None (quad_at c (place_in r) (typed_literal (text_in r) i)) c (M.After (place_in r))
-turned form r s u i (turn.EndNode n) l = Go u None None (setting_in s r) (M.node_closed form (up_in r) (M.sized (node (Anon n))))
+turned form r s u i turn.EndNode l = Go u None None (setting_in s r) (M.node_closed form (up_in r) (M.sized (node (Anon (bracket_of r.mode)))))
 turned form r s u i turn.EndPropertyList l = Go u None None (setting_in s r) (M.property_list_closed (up_in r) r.frame.subject)
 turned form r s u i turn.EmptyCollection l = Go u None None (setting_in s r) (M.collection_closed (up_in r) (M.unsized (Some nil)))
-turned form r s u i (turn.EndCollection first cell) l =
-    let c = setting_in s r in Go u None (rest_quad c (Cell cell) nil) c (M.collection_closed (up_in r) (M.unsized (M.cell first)))
+turned form r s u i turn.EndCollection l =
+    let c = setting_in s r in
+    let here = r.frame.container in
+    Go u None (rest_quad c (Cell (cell_of here)) nil) c (M.collection_closed (up_in r) (M.unsized (M.cell (first_of here))))
 
 -- the tokens with which a subject begins so, and the IRI that comes with them
 abbrev pub SuitsSubject : SubjectStart → Kind → Option (List ℕ) → Type 0
@@ -116,10 +121,10 @@ Suits turn.GraphName k i = is_some i ≡ true
 Suits turn.GraphLabel k i = k ≡ LabelNode
 Suits (turn.Subject v b) k i = SuitsSubject b k i
 Suits (turn.Verb a v) k i = SuitsVerb v i
-Suits (turn.FirstVerb n v) k i = SuitsVerb v i
+Suits (turn.FirstVerb v) k i = SuitsVerb v i
 Suits (turn.Object b) k i = SuitsObject b k i
 Suits (turn.FirstItem b) k i = SuitsObject b k i
-Suits (turn.NextItem first cell b) k i = SuitsObject b k i
+Suits (turn.NextItem b) k i = SuitsObject b k i
 Suits turn.Tag k i = SpellsTag k
 Suits turn.Datatype k i = is_some i ≡ true
 Suits t k i = ⊤
@@ -131,15 +136,15 @@ frames_begun object.Collection m = m + 1
 frames_begun b m = m
 
 abbrev pub frames_after : Turn → ℕ → ℕ
-frames_after (turn.GraphNode n) m = 0
+frames_after turn.GraphNode m = 0
 frames_after (turn.Subject v b) m = 0
 frames_after (turn.Object b) m = frames_begun b m
 frames_after (turn.FirstItem b) m = frames_begun b m
-frames_after (turn.NextItem first cell b) m = frames_begun b m
-frames_after (turn.EndNode n) m = m - 1
+frames_after (turn.NextItem b) m = frames_begun b m
+frames_after turn.EndNode m = m - 1
 frames_after turn.EndPropertyList m = m - 1
 frames_after turn.EmptyCollection m = m - 1
-frames_after (turn.EndCollection first cell) m = m - 1
+frames_after turn.EndCollection m = m - 1
 frames_after t m = m
 
 -- the bytes of the texts that are there already and that a turn needs beside those of the frames

@@ -32,14 +32,14 @@ impl<A: Allocator + Copy> State<A> {
     }
 
     // The first verb in brackets, whose subject is the node of `[`.
-    pub fn first_verb(&mut self, node: u64, verb: Verb)
+    pub fn first_verb(&mut self, verb: Verb)
         requires suits { SuitsVerb verb self.old.name }
-        ensures takes { (l : Leaf) → Takes self.old (Turn.FirstVerb node verb) l self.new }
+        ensures takes { (l : Leaf) → Takes self.old (Turn.FirstVerb verb) l self.new }
         ensures depth { self.new.depth ≡ self.old.depth }
-        ensures stack { FramesTaken self.old (Turn.FirstVerb node verb) self.new }
-        ensures fits { TurnFits self.old (Turn.FirstVerb node verb) self.new }
+        ensures stack { FramesTaken self.old (Turn.FirstVerb verb) self.new }
+        ensures fits { TurnFits self.old (Turn.FirstVerb verb) self.new }
     {
-        self.frame.subject.set_anon(node);
+        self.frame.subject.set_anon(self.mode.bracket());
         self.verb(Around::PropertyList, verb);
     }
 
@@ -67,12 +67,13 @@ impl<A: Allocator + Copy> State<A> {
     }
 
     // The `)` after an item.
-    pub fn end_collection(&mut self, first: u64, cell: u64)
-        ensures takes { (l : Leaf) → Takes self.old (Turn.EndCollection first cell) l self.new }
+    pub fn end_collection(&mut self)
+        ensures takes { (l : Leaf) → Takes self.old Turn.EndCollection l self.new }
         ensures depth { self.new.depth ≡ self.old.depth }
-        ensures stack { FramesTaken self.old (Turn.EndCollection first cell) self.new }
-        ensures fits { TurnFits self.old (Turn.EndCollection first cell) self.new }
+        ensures stack { FramesTaken self.old Turn.EndCollection self.new }
+        ensures fits { TurnFits self.old Turn.EndCollection self.new }
     {
+        let (first, cell) = self.frame.container.cells();
         self.frame.subject.set_cell(first);
         self.mode = self.collection_closed();
         self.rest = Rest::none();

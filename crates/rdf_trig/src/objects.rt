@@ -86,22 +86,17 @@ impl<A: Allocator + Copy> State<A> {
         self.object(Rest::none(), start, token)
     }
 
-    // The next item of a collection, after the first and the present cell.
-    pub fn next_item(
-        &mut self,
-        first: u64,
-        cell: u64,
-        start: ObjectStart,
-        token: &Token<'_>,
-    ) -> Result<(), StepFault>
+    // The next item of a collection.
+    pub fn next_item(&mut self, start: ObjectStart, token: &Token<'_>) -> Result<(), StepFault>
         requires token { IsTurtleToken token.now }
         requires suits { SuitsObject start token.now.kind self.old.name }
-        ensures takes { OnOk result (Takes self.old (Turn.NextItem first cell start) (leaf token.now) self.new) }
+        ensures takes { OnOk result (Takes self.old (Turn.NextItem start) (leaf token.now) self.new) }
         ensures depth { self.new.depth ≡ self.old.depth }
-        ensures stack { OnOk result (FramesTaken self.old (Turn.NextItem first cell start) self.new) }
-        ensures fits { OnOk result (TakesFit self.old (Turn.NextItem first cell start) token.now self.new) }
+        ensures stack { OnOk result (FramesTaken self.old (Turn.NextItem start) self.new) }
+        ensures fits { OnOk result (TakesFit self.old (Turn.NextItem start) token.now self.new) }
         ensures err { IfErr result (λ r. r ≡ StepFault.Memory) }
     {
+        let (first, cell) = self.frame.container.cells();
         let next = token.offset;
         self.frame.container = Container::Cells { first, cell: next };
         self.object(Rest::of(cell, next), start, token)

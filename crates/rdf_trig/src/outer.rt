@@ -74,13 +74,13 @@ impl<A: Allocator + Copy> State<A> {
     }
 
     // The `]` after GRAPH and `[`. No frame is open there.
-    pub fn graph_node(&mut self, node: u64)
-        ensures takes { (l : Leaf) → Takes self.old (Turn.GraphNode node) l self.new }
+    pub fn graph_node(&mut self)
+        ensures takes { (l : Leaf) → Takes self.old Turn.GraphNode l self.new }
         ensures depth { self.new.depth ≡ self.old.depth }
-        ensures stack { FramesTaken self.old (Turn.GraphNode node) self.new }
-        ensures fits { TurnFits self.old (Turn.GraphNode node) self.new }
+        ensures stack { FramesTaken self.old Turn.GraphNode self.new }
+        ensures fits { TurnFits self.old Turn.GraphNode self.new }
     {
-        self.graph.set_anon(node);
+        self.graph.set_anon(self.mode.bracket());
         self.frames.clear();
         self.lead(Outer::WantBrace);
     }

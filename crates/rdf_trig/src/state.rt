@@ -1,6 +1,7 @@
 // Where the reader stands: what has been read, as far as it matters for what may come.
 
 ghost use Rattle.std.specs.Prelude.{◌≡◌};
+ghost use Rattle.rdf_trig.specs.States.{bracket_of, first_of, cell_of};
 
 use crate::names::Name;
 use crate::rest::Rest;
@@ -171,5 +172,30 @@ impl Container {
         ensures { result ≡ Container.Cells 0 0 }
     {
         Container::Cells { first: 0, cell: 0 }
+    }
+
+    /// The first and the present cell of a collection, zeros where there is none.
+    #[inline(always)]
+    pub fn cells(self) -> (u64, u64)
+        ensures { result ≡ (first_of self, cell_of self) }
+    {
+        match self {
+            Container::Cells { first, cell } => (first, cell),
+            Container::List(_) => (0, 0),
+        }
+    }
+}
+
+impl Mode {
+    /// The offset of the `[` that has just come, 0 where none has.
+    #[inline(always)]
+    pub fn bracket(self) -> u64
+        ensures { result ≡ bracket_of self }
+    {
+        match self {
+            Mode::PropertyListStart(node) => node,
+            Mode::Outer(Outer::GraphBracket(node)) => node,
+            _ => 0,
+        }
     }
 }

@@ -61,13 +61,13 @@ impl<A: Allocator + Copy> State<A> {
     }
 
     // The `]` after `[`.
-    pub fn end_node(&mut self, node: u64)
-        ensures takes { (l : Leaf) → Takes self.old (Turn.EndNode node) l self.new }
+    pub fn end_node(&mut self)
+        ensures takes { (l : Leaf) → Takes self.old Turn.EndNode l self.new }
         ensures depth { self.new.depth ≡ self.old.depth }
-        ensures stack { FramesTaken self.old (Turn.EndNode node) self.new }
-        ensures fits { TurnFits self.old (Turn.EndNode node) self.new }
+        ensures stack { FramesTaken self.old Turn.EndNode self.new }
+        ensures fits { TurnFits self.old Turn.EndNode self.new }
     {
-        self.frame.subject.set_anon(node);
+        self.frame.subject.set_anon(self.mode.bracket());
         let mode = self.node_closed();
         self.stand(mode);
     }

@@ -40,7 +40,7 @@ pub enum ObjectStart {
     Collection,
 }
 
-/// What a token does.
+/// What a token does. It has nothing that the state has, as the offset of a bracket that has come.
 #[derive(Clone, Copy)]
 pub enum Turn {
     /// It leads outside of statements, to a mode whose texts are there: of a directive all but its prefix, GRAPH, what opens and closes
@@ -52,18 +52,18 @@ pub enum Turn {
     GraphName,
     GraphLabel,
     GraphBracket,
-    GraphNode(u64),
+    GraphNode,
     /// `{` after what would be a subject.
     SubjectBlock,
     /// A subject begins, of a statement at this level.
     Subject(Level, SubjectStart),
-    /// A verb of a predicate list, and the first one in the brackets that opened at an offset.
+    /// A verb of a predicate list, and the first one in brackets.
     Verb(Around, Verb),
-    FirstVerb(u64, Verb),
-    /// An object begins: after a verb or a comma, as the first item of a collection, as the next one after the first and the present cell.
+    FirstVerb(Verb),
+    /// An object begins: after a verb or a comma, as the first item of a collection, as the next one.
     Object(ObjectStart),
     FirstItem(ObjectStart),
-    NextItem(u64, u64, ObjectStart),
+    NextItem(ObjectStart),
     /// `,` and `;`.
     NextObject,
     NextVerb,
@@ -72,9 +72,9 @@ pub enum Turn {
     DatatypeMark,
     Datatype,
     /// `]` after `[`, and at the end of a predicate list.
-    EndNode(u64),
+    EndNode,
     EndPropertyList,
-    /// `)` after `(`, and after an item, with the first and the last cell.
+    /// `)` after `(`, and after an item.
     EmptyCollection,
-    EndCollection(u64, u64),
+    EndCollection,
 }

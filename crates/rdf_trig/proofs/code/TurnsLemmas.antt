@@ -26,8 +26,8 @@ use Rattle.rdf_trig.specs.Slots.{topic_at}
 use Rattle.rdf_trig.specs.Quads.{Setting, cell_at, rest_quad}
 use Rattle.rdf_trig.specs.Machine as M
 use Rattle.rdf_trig.specs.Machine.{Reply, Go}
-use Rattle.rdf_trig.specs.States.{IsNamedIn, NameIn, is_go, name_at, use_in, scope_in, cells_quad, after_semicolon_at, up_in, place_in, level_of, graph_of, graph_at, setting, setting_in, mode_at, moved}
-use Rattle.rdf_trig.specs.Turns.{Means, IsTurn, IsSuited, Suits, begun, turned, turn_bytes}
+use Rattle.rdf_trig.specs.States.{IsNamedIn, NameIn, is_go, name_at, use_in, scope_in, cells_quad, first_of, cell_of, after_semicolon_at, up_in, place_in, level_of, graph_of, graph_at, setting, setting_in, mode_at, moved}
+use Rattle.rdf_trig.specs.Turns.{Means, Decides, IsTurn, IsSuited, Suits, begun, turned, turn_bytes}
 
 -- what a success brings leads on to what it is to bring
 pub on_ok : {T E : Type 0} (r : Result T E) (P Q : Type 0) → (P → Q) → OnOk r P → OnOk r Q
@@ -44,6 +44,11 @@ pub means_at : {A : Type 0} (form : DocForm) (r : State A) (k : Kind) (x : Optio
     ((s : InForce) (l : Leaf) → g s l ≡ f s l) → Means form r k x f → Means form r k x g
 means_at form r k None f g e h = λ s l. e s l ∙ h s l
 means_at form r k (Some t) f g e h = λ s l i n. e s l ∙ h s l i n
+
+-- what is decided in a mode is decided in a state that stands in it
+pub decides_at : {A : Type 0} (form : DocForm) (r : State A) (k : Kind) (x : Option Turn) (m : Mode) →
+    r.mode ≡ m → Decides form r m k x → Decides form r r.mode k x
+decides_at form r k x m e h = subst (λ m. Decides form r m k x) (sym e) h
 
 -- the reply of a state that holds nothing
 pub stands_at : {A : Type 0} (form : DocForm) (s : InForce) (u : Use) (old new : State A) (m : Mode) (g : Option term.Subject) (x : M.Mode) →
@@ -139,8 +144,10 @@ turned_goes : {A : Type 0} (form : DocForm) (r : State A) (s : InForce) (u : Use
     is_go (turned form r s u i t l) ≡ true
 turned_goes form r s u i (turn.Object b) l = begun_goes (setting_in s r) u i (place_in r) None b l
 turned_goes form r s u i (turn.FirstItem b) l = begun_goes (setting_in s r) u i (M.InCollection l.at.offset l.at.offset (up_in r)) None b l
-turned_goes form r s u i (turn.NextItem first cell b) l =
-    let c = setting_in s r in begun_goes c u i (M.InCollection first l.at.offset (up_in r)) (rest_quad c (term.Cell cell) (term.Blank (cell_at l))) b l
+turned_goes form r s u i (turn.NextItem b) l =
+    let c = setting_in s r in
+    let here = r.frame.container in
+    begun_goes c u i (M.InCollection (first_of here) l.at.offset (up_in r)) (rest_quad c (term.Cell (cell_of here)) (term.Blank (cell_at l))) b l
 turned_goes form r s u i t l = refl
 
 -- what a token stands for in a mode, if that matters

@@ -3,7 +3,7 @@
 ghost use Rattle.std.specs.Prelude.{◌≡◌, ℕ, ◌≤◌, List, None, Option, IfSome};
 ghost use Rattle.rdf_trig.specs.Machine as M;
 ghost use Rattle.rdf_trig.specs.States.{IsNamed, setting, graph_of, level_of, outer_graph, outer_of, mode_at};
-ghost use Rattle.rdf_trig.specs.States.{setting_in, place_in, up_in, around_in, after_semicolon_at, mode_after_dot};
+ghost use Rattle.rdf_trig.specs.States.{setting_in, place_in, up_in, around_in, bracket_of, after_semicolon_at, mode_after_dot};
 ghost use Rattle.rdf_trig.specs.Holding.{outer_bytes, level_bytes, OpenFits, frames_most};
 ghost use Rattle.rdf_trig.specs.Turns.{IsVerb, SuitsVerb};
 ghost use Rattle.rdf_trig.specs.Turns.{Means, MeansHere, MeansVerb, IsSuited, KeepsFrames, IsWithin};
@@ -62,15 +62,15 @@ impl<A: Allocator> State<A> {
 
     #[tactic(auto, using(crate::proofs::machine::Fallbacks::fallbacks))]
     #[inline(always)]
-    pub fn property_list_start(&self, node: u64, kind: Kind) -> Option<Turn>
-        ensures means { (form : DocForm) → Means form self.now kind result (λ s. M.property_list_start form (setting_in s self.now) node (up_in self.now) kind) }
+    pub fn property_list_start(&self, kind: Kind) -> Option<Turn>
+        ensures means { (form : DocForm) → Means form self.now kind result (λ s. M.property_list_start form (setting_in s self.now) (bracket_of self.now.mode) (up_in self.now) kind) }
         ensures suits { IfSome result (IsSuited kind) }
         ensures frames { IfSome result (KeepsFrames kind) }
         ensures fits { (n : ℕ) → OpenFits n self.now → IfSome result (IsWithin n self.now) }
     {
         match kind {
-            Kind::CloseBracket => Some(Turn::EndNode(node)),
-            _ => Some(Turn::FirstVerb(node, verb_of(kind)?)),
+            Kind::CloseBracket => Some(Turn::EndNode),
+            _ => Some(Turn::FirstVerb(verb_of(kind)?)),
         }
     }
 

@@ -3,7 +3,7 @@
 ghost use Rattle.std.specs.Prelude.{ℕ, ◌≤◌, List, None, Option, IfSome};
 ghost use Rattle.rdf_trig.specs.Machine as M;
 ghost use Rattle.rdf_trig.specs.States.{IsNamed, text_in};
-ghost use Rattle.rdf_trig.specs.States.{up_in};
+ghost use Rattle.rdf_trig.specs.States.{up_in, item_in};
 ghost use Rattle.rdf_trig.specs.Holding.{text_bytes, OpenFits, frames_most};
 ghost use Rattle.rdf_trig.specs.Turns.{BeginsObject, SuitsObject, frames_begun};
 ghost use Rattle.rdf_trig.specs.Turns.{MeansHere, IsSuited, KeepsFrames, IsWithin};
@@ -33,21 +33,21 @@ impl<A: Allocator> State<A> {
     {
         match self.frame.container {
             Container::List(around) => self.after_listed(around, kind),
-            Container::Cells { first, cell } => self.after_item(first, cell, kind),
+            Container::Cells { .. } => self.after_item(kind),
         }
     }
 
     #[tactic(auto, using(crate::proofs::machine::Fallbacks::fallbacks))]
     #[inline(always)]
-    fn after_item(&self, first: u64, cell: u64, kind: Kind) -> Option<Turn>
-        ensures means { MeansHere self.now kind result (λ c p. M.after c (M.InCollection first cell (up_in self.now)) kind) }
+    fn after_item(&self, kind: Kind) -> Option<Turn>
+        ensures means { MeansHere self.now kind result (λ c p. M.after c (item_in self.now) kind) }
         ensures suits { IfSome result (IsSuited kind) }
         ensures frames { IfSome result (KeepsFrames kind) }
         ensures fits { (n : ℕ) → OpenFits n self.now → IfSome result (IsWithin n self.now) }
     {
         match kind {
-            Kind::CloseParen => Some(Turn::EndCollection(first, cell)),
-            _ => Some(Turn::NextItem(first, cell, object_start(kind)?)),
+            Kind::CloseParen => Some(Turn::EndCollection),
+            _ => Some(Turn::NextItem(object_start(kind)?)),
         }
     }
 

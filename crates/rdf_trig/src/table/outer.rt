@@ -2,7 +2,7 @@
 
 ghost use Rattle.std.specs.Prelude.{◌≡◌, ℕ, ◌≤◌, List, None, Option, IfSome};
 ghost use Rattle.rdf_trig.specs.Machine as M;
-ghost use Rattle.rdf_trig.specs.States.{IsNamed, setting, block_graph, outer_graph, outer_of, spelling_of};
+ghost use Rattle.rdf_trig.specs.States.{IsNamed, setting, block_graph, outer_graph, outer_of, spelling_of, bracket_of};
 ghost use Rattle.rdf_trig.specs.Holding.{text_bytes, block_bytes, outer_bytes, level_bytes, OpenFits, IsTextless, frames_most};
 ghost use Rattle.rdf_trig.specs.Turns.{BeginsSubject, SuitsSubject, IsOuterStart};
 ghost use Rattle.rdf_trig.specs.Turns.{Decides, Means, MeansSubject, IsSuited, SuitsAny, SuitsIn, KeepsFrames, IsWithin};
@@ -18,6 +18,7 @@ impl<A: Allocator> State<A> {
     // Outside of statements.
     #[inline(always)]
     pub fn outer_turn(&self, form: DocForm, outer: Outer, kind: Kind) -> Option<Turn>
+        requires mode { self.now.mode ≡ Mode.Outer outer }
         ensures means { Decides form self.now (Mode.Outer outer) kind result }
         ensures suits { IfSome result (SuitsIn form self.now (Mode.Outer outer) kind) }
         ensures frames { IfSome result (KeepsFrames kind) }
@@ -32,7 +33,7 @@ impl<A: Allocator> State<A> {
             Outer::WantBaseIri(spelling) => self.want_iri(spelling, kind),
             Outer::WantDot => self.want_dot(kind),
             Outer::GraphWord => self.graph_word(kind),
-            Outer::GraphBracket(node) => self.graph_bracket(node, kind),
+            Outer::GraphBracket(_) => self.graph_bracket(kind),
             Outer::WantBrace => self.want_brace(kind),
         }
     }
@@ -131,14 +132,14 @@ impl<A: Allocator> State<A> {
     }
 
     #[inline(always)]
-    fn graph_bracket(&self, node: u64, kind: Kind) -> Option<Turn>
-        ensures means { (form : DocForm) → Means form self.now kind result (λ s. M.graph_bracket (setting s None) node kind) }
+    fn graph_bracket(&self, kind: Kind) -> Option<Turn>
+        ensures means { (form : DocForm) → Means form self.now kind result (λ s. M.graph_bracket (setting s None) (bracket_of self.now.mode) kind) }
         ensures suits { IfSome result (IsSuited kind) }
         ensures frames { IfSome result (KeepsFrames kind) }
         ensures fits { (n : ℕ) → OpenFits n self.now → IfSome result (IsWithin n self.now) }
     {
         match kind {
-            Kind::CloseBracket => Some(Turn::GraphNode(node)),
+            Kind::CloseBracket => Some(Turn::GraphNode),
             _ => None,
         }
     }

@@ -1,11 +1,17 @@
-use Rattle.std.proofs.Common.{◌∙◌, ap}
-use Rattle.rdf_trig.specs.States.{up_in}
+use Rattle.std.proofs.Common.{◌≡◌, ◌∙◌, None, ap, subst}
+use Rattle.rdf_trig.specs.declared.state.Held.TheVariants as held
 use Rattle.rdf_trig.specs.Machine as M
+use Rattle.rdf_trig.specs.Machine.{Go}
+use Rattle.rdf_trig.specs.States.{graph_of, cells_quad, setting_in, up_in, moved}
 use Rattle.rdf_trig.proofs.code.TurnsLemmas.{ended_at}
 use Rattle.rdf_trig.proofs.state.State.end_collection.Goals as goal
 
 pub returns-clause-takes : goal.returns-clause-takes
 returns-clause-takes g c = λ l form s u.
+    let self = c.args.self.now in
     let closed = c.collection_closed-self in
-    ended_at form s u closed.new.self closed.result _ _ c.args.cell _ c.none-self.ensures closed.ensures.graph
-    (closed.ensures.mode form ∙ ap (M.collection_closed (up_in c.args.self.now)) c.set_cell.ensures)
+    let ended = record closed.new.self { mode = closed.result; rest = c.none-self.result; held = held.Nil c.cells-first.result.1 } in
+    subst (λ p. Go u None (cells_quad (graph_of self.level self.graph) p.1 M.nil) (setting_in s self) (M.collection_closed (up_in self) (M.unsized (M.cell p.0))) ≡ moved form s u ended)
+    c.cells-first.ensures
+    (ended_at form s u closed.new.self closed.result _ _ c.cells-first.result.1 _ c.none-self.ensures closed.ensures.graph
+    (closed.ensures.mode form ∙ ap (M.collection_closed (up_in self)) c.set_cell.ensures))
