@@ -44,7 +44,7 @@ class Counts:
 
 def limits():
     """Name, least, most and default of each option that has a number, as the code hands them to clap."""
-    found = re.findall(r'name: "(\w+)",\s*least: (\d+),\s*most: (\d+),\s*default: "(\d+)"', read('crates/rdf_command/src/options.rt'))
+    found = re.findall(r'name: "(\w+)",\s*least: (\d+),\s*most: (\d+),\s*default: "(\d+)"', read('crates/rdf_options/src/options.rt'))
     return [(name, int(least), int(most), int(default)) for name, least, most, default in found]
 
 
@@ -89,8 +89,8 @@ def compare_counts(counts):
 
 def compare(counts):
     manual, readme, refusals = plain(read('docs/rdfconv.1')), read('README.md'), read('docs/REFUSALS.md')
-    source = read('crates/rdf_command/src/options.rt')
-    counts.expect('four options with a number in crates/rdf_command/src/options.rt', len(limits()) == 4)
+    source = read('crates/rdf_options/src/options.rt')
+    counts.expect('four options with a number in crates/rdf_options/src/options.rt', len(limits()) == 4)
     for name, least, most, default in limits():
         said = '%d to %d' % (least, most)
         row = re.search(r'--%s N +.*' % name, source)[0]

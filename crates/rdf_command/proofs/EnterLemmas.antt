@@ -14,7 +14,8 @@ use Rattle.clap.proofs.WalkLemmas.{list_any-map}
 use Rattle.rdf_stream.specs.declared.form.Form.{Form}
 use Rattle.rdf_command.specs.declared.task.Action.{Action}
 use Rattle.rdf_command.specs.declared.task.Action.TheVariants.{Check, Show, Convert}
-use Rattle.rdf_command.specs.Words.{Entered, HasLimits, IsEntered, action_app, action_name, ascii_rule, form_name, format_names, forms, node_prefix_rule, prefixes_rule, rdfconv}
+use Rattle.rdf_options.specs.Options.{action_app, ascii_rule, node_prefix_rule, prefixes_rule, rdfconv}
+use Rattle.rdf_command.specs.Words.{Entered, HasLimits, IsEntered, action_name, form_name, format_names, forms}
 use Rattle.rdf_command.proofs.RowLemmas.{Each, IsRead, same_text, value-of}
 use Rattle.rdf_command.proofs.GivenLemmas.{pair_is, same_some}
 use Rattle.rdf_command.proofs.LevelLemmas.{IsHelp, LevelHolds, enters}

@@ -1,7 +1,6 @@
 pub mod RowLemmas
 pub mod WalkLemmas
 pub mod LevelLemmas
-pub mod BuildLemmas
 pub mod EnterLemmas
 pub mod GivenLemmas
 pub mod RunLemmas

@@ -5,13 +5,14 @@ use Rattle.clap.specs.Words.{Text}
 use Rattle.clap.specs.declared.builder.value_parser.ValueParser.{ValueParser}
 use Rattle.clap.specs.declared.error.kind.ErrorKind.TheVariants.{InvalidValue}
 use Rattle.rdf_stream.specs.Devices.{Written}
+use Rattle.rdf_options.specs.Options.{rdfconv}
 use Rattle.rdf_command.specs.declared.host.Host as host
 use Rattle.rdf_command.specs.declared.task.Task.{Task}
 use Rattle.rdf_command.specs.declared.task.WordsFault.{WordsFault}
 use Rattle.rdf_command.specs.declared.task.WordsFault.TheVariants.{Memory}
 use Rattle.rdf_command.specs.Runs.{RunEnds}
 use Rattle.rdf_command.specs.Statuses.{GoesTo, RefusesWords, Reports}
-use Rattle.rdf_command.specs.Words.{GivesNone, GivesTask, IsUsageOf, TakesFormats, rdfconv}
+use Rattle.rdf_command.specs.Words.{GivesNone, GivesTask, IsUsageOf, TakesFormats}
 
 -- These words give the task, as the command line of the program defines it.
 abbrev pub IsTaskOf : List Text → Task → Type 0

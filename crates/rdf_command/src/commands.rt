@@ -1,20 +1,21 @@
 // The task that the words of the command line ask for.
 
 ghost use Rattle.std.specs.Prelude.{◌≡◌, ◌⊎◌, ◌<◌, ◌≤◌, ◌^◌, IfErr, IfOk, IfSome, OnOk, Some, Option, chars, codes, cond, map, option_map, string_bytes, ℕ, List};
-ghost use Rattle.clap.specs.Words.{App, Text, first_of, found_of, rows_of, subcommand_rows_of};
+ghost use Rattle.clap.specs.Words.{App, Text, first_of, found_of, kind_of, rows_of, subcommand_rows_of};
 ghost use Rattle.clap.specs.declared.builder.value_parser.ValueParser.{ValueParser};
 ghost use Rattle.clap.specs.declared.builder.value_parser.ValueParser.TheVariants.{Names};
 ghost use Rattle.rdf_iri.specs.Scope.{BaseFits};
 ghost use Rattle.rdf_lines.specs.declared.form.Escapes.TheVariants.{Ascii, Plain};
 ghost use Rattle.rdf_iri.specs.Texts.{byte_len};
+ghost use Rattle.rdf_options.specs.Options.{rdfconv};
 ghost use Rattle.rdf_command.specs.Programs.{IsTaskOf, IsNoTaskOf};
-ghost use Rattle.rdf_command.specs.Words.{Entered, GivesNone, GivesTask, HasLimits, HasNumber, HasSizes, IsBase, IsEntered, IsTaskBy, IsUsageOf, IsWord, NoBaseOf, NoTaskBy, NoWordOf, TakesFormats, escapes_by, format_names, number_of, rdfconv};
+ghost use Rattle.rdf_command.specs.Words.{Entered, GivesNone, GivesTask, HasLimits, HasNumber, HasSizes, IsBase, IsEntered, IsTaskBy, IsUsageOf, IsWord, NoBaseOf, NoTaskBy, NoWordOf, TakesFormats, escapes_by, format_names, number_of};
 
 use crate::names::{FORMATS, action_of, form_of};
-use crate::options::program;
 use crate::task::{Task, WordsFault};
-use clap::ArgMatches;
 use clap::error::ErrorKind;
+use clap::{ArgMatches, Error};
+use rdf_options::program;
 use rdf_stream::{Escapes, Iri, Limits, NodePrefix, TermFault};
 use std::alloc::{AllocError, Global};
 
@@ -31,13 +32,18 @@ pub fn command_of<'a>(alloc: Global, words: &'a [&'a str]) -> Result<Task, Words
 pub fn not_utf8(alloc: Global) -> WordsFault
     ensures { IsUsageOf ErrorKind.InvalidValue result }
 {
-    match program(alloc, FORMATS.as_slice()) {
-        Ok(mut command) => match command.error(ErrorKind::InvalidValue, "a word is no UTF-8") {
-            Ok(error) => WordsFault::from(error),
-            Err(error) => WordsFault::from(error),
-        },
+    match invalid(alloc, "a word is no UTF-8") {
+        Ok(error) => WordsFault::from(error),
         Err(error) => WordsFault::from(error),
     }
+}
+
+// The error that clap gives, with its usage, where a word is refused for this reason.
+fn invalid(alloc: Global, reason: &str) -> Result<Error, AllocError>
+    ensures { IfOk result (λ error. kind_of error ≡ ErrorKind.InvalidValue) }
+{
+    let mut command = program(alloc, FORMATS.as_slice())?;
+    command.error(ErrorKind::InvalidValue, reason)
 }
 
 fn command_by<'a>(

@@ -1,11 +1,10 @@
-//! The command line of `rdfconv`, and what a command does, over whatever gives its words, its documents and its outputs.
+//! What the words of the command line of `rdfconv` ask for, and its run, over whatever gives these words, the documents and the outputs.
 #![tactic(auto)]
 
 mod commands;
 mod entry;
 mod host;
 mod names;
-mod options;
 mod runs;
 mod task;
 

@@ -72,16 +72,25 @@ fn job_of<I: Source + Drop>(
     ensures job { IfOk result (IsJobOf task (option_map I.remaining prefixes)) }
     ensures stops { IfErr result (λ fault. StartsNot fault task.limits (option_map I.remaining prefixes)) }
 {
-    let job = Job::new(task.form, task.base, task.limits).unwrap();
-    let job = job.with_escapes(task.escapes);
-    let job = named(job, task.node_prefix);
+    let limits = task.limits;
+    let job = bare_job(task);
     match prefixes {
         Some(source) => {
-            let bindings = load(alloc, task.limits, source)?;
+            let bindings = load(alloc, limits, source)?;
             Ok(job.with_bindings(bindings))
         }
         None => Ok(job),
     }
+}
+
+// What a task asks for, without bindings.
+fn bare_job(task: Task) -> Job
+    requires { BaseFits task.base task.limits }
+    ensures { result ≡ record { form = task.form; base = task.base; bindings = []; escapes = task.escapes; node_prefix = word_of task.node_prefix; limits = task.limits } }
+{
+    let job = Job::new(task.form, task.base, task.limits).unwrap();
+    let job = job.with_escapes(task.escapes);
+    named(job, task.node_prefix)
 }
 
 // The job with the task's word in front of the names of nodes, where it has one.

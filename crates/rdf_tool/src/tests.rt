@@ -4,17 +4,41 @@ ghost use Rattle.rdf_iri.specs.Scope.{BaseFits};
 ghost use Rattle.rdf_command.specs.Runs.{AreFresh};
 
 mod hosts;
+mod rows;
 mod texts;
 
 use hosts::InMemory;
 use rdf_command::{
-    Action, Files, Host, NoWords, Process, Task, command_of, refuse_words, run, start,
+    Action, Files, Host, NoWords, Process, Task, WordsFault, command_of, refuse_words, run, start,
 };
 use rdf_stream::{Escapes, Form, In, Limits, Out, Source};
-use std::alloc::Global;
-use std::process::Abort;
+use rows::{Asked, FILES, Fields, INPUT, LIMITED, Limited, RUNS, Run, STARTED, Started, TASKS};
+use std::alloc::{AllocError, Global};
 use std::test::Fail;
-use texts::{COMMAND_NOTES, COMMANDS, HELP, NOT_UTF8, USAGE};
+use texts::{COMMAND_NOTES, COMMANDS, HELP, Help, NOT_UTF8, REFUSED, Refused};
+
+/// What came of a run.
+#[derive(Drop)]
+struct Ended {
+    status: u8,
+    written: Vec<u8>,
+    reported: Vec<u8>,
+}
+
+impl Ended {
+    /// What of it is not so, if anything.
+    fn differs_in(&self, status: u8, written: &str, reported: &str) -> Option<&'static str> {
+        if self.status != status {
+            Some("status")
+        } else if self.written.as_slice() != written.as_bytes() {
+            Some("written")
+        } else if self.reported.as_slice() != reported.as_bytes() {
+            Some("reported")
+        } else {
+            None
+        }
+    }
+}
 
 fn task(action: Action, form: Form, limits: Limits) -> Task
     ensures { BaseFits result.base result.limits }
@@ -40,298 +64,223 @@ fn files(text: &str) -> Files<In<&[u8]>>
     }
 }
 
+fn ran(alloc: Global, task: Task, document: &str) -> Ended
+    requires { BaseFits task.base task.limits }
+{
+    let mut written = Vec::new(alloc);
+    let mut reported = Vec::new(alloc);
+    let mut out = Out::new(&mut written);
+    let mut err = Out::new(&mut reported);
+    let status = run(alloc, task, files(document), &mut out, &mut err);
+    drop(out);
+    drop(err);
+    Ended {
+        status,
+        written,
+        reported,
+    }
+}
+
+fn run_differs_in(alloc: Global, row: &Run) -> Option<&'static str> {
+    let task = task(row.action, row.form, Limits::default());
+    ran(alloc, task, row.document).differs_in(row.status, row.written, row.reported)
+}
+
 #[test]
 fn a_run_writes_the_lines_or_tells_why_not(rt: HostRuntime) {
-    let rows = [
-        (
-            Action::Check,
-            Form::NQuads,
-            "<a:> <b:> <c:> <g:>.\n_:x <b:> <c:>.",
-            0,
-            "accepted, 2 quads, 35 bytes\n",
-            "",
-        ),
-        (
-            Action::Check,
-            Form::NTriples,
-            "<a:> <b:> <c:>.\n<a> <b:> <c:>.",
-            1,
-            "",
-            "rdfconv: relative IRI at byte 16, line 2\n",
-        ),
-        (
-            Action::Show,
-            Form::NQuads,
-            "<a:> \"é\" .\n?",
-            1,
-            "0 4 iri\n5 3 string\n10 1 dot\n11 1 lineend\n",
-            "rdfconv: no token at byte 12, line 2\n",
-        ),
-        (
-            Action::Convert,
-            Form::NTriples,
-            "<a:> <b:> \"x\" .",
-            0,
-            "<a:> <b:> \"x\" .\n",
-            "",
-        ),
-        (
-            Action::Convert,
-            Form::NQuads,
-            "<a:> <b:> _:x <g:>.",
-            0,
-            "<a:> <b:> _:x <g:> .\n",
-            "",
-        ),
-        (
-            Action::Convert,
-            Form::NTriples,
-            "<a:> <b:> <c:> <g:> .",
-            1,
-            "",
-            "rdfconv: unexpected token at byte 15, line 1\n",
-        ),
-        (Action::Convert, Form::NTriples, "", 0, "", ""),
-        (
-            Action::Convert,
-            Form::TriG,
-            "PREFIX : <a:> :g { :s :p [ :q ( 1 ) ] }",
-            0,
-            "<a:s> <a:p> _:a25 <a:g> .\n_:a25 <a:q> _:c32 <a:g> .\n_:c32 <http://www.w3.org/1999/02/22-rdf-syntax-ns#first> \"1\"^^<http://www.w3.org/2001/XMLSchema#integer> <a:g> .\n_:c32 <http://www.w3.org/1999/02/22-rdf-syntax-ns#rest> <http://www.w3.org/1999/02/22-rdf-syntax-ns#nil> <a:g> .\n",
-            "",
-        ),
-        (
-            Action::Check,
-            Form::Turtle,
-            "e:s",
-            1,
-            "",
-            "rdfconv: unbound prefix at byte 0, line 1\n",
-        ),
-    ];
-    for (action, form, text, status, lines, message) in rows {
-        let task = task(action, form, Limits::default());
-        let mut written = Vec::new(rt.alloc());
-        let mut reported = Vec::new(rt.alloc());
-        let mut out = Out::new(&mut written);
-        let mut err = Out::new(&mut reported);
-        assert_eq!(rt;
-            run(rt.alloc(), task, files(text), &mut out, &mut err),
-            status,
-            "{text}"
-        );
-        drop(out);
-        drop(err);
-        assert_eq!(rt; written.as_slice(), lines.as_bytes());
-        assert_eq!(rt; reported.as_slice(), message.as_bytes());
+    for row in RUNS.as_slice() {
+        assert_eq!(rt; run_differs_in(rt.alloc(), row), None, "{}", row.document);
     }
+}
+
+fn limited_run_differs_in(alloc: Global, row: &Limited) -> Option<&'static str> {
+    let Some(limits) = Limits::new(row.token, 0, 0, row.iri) else {
+        return Some("limits");
+    };
+    let task = task(Action::Convert, Form::NTriples, limits);
+    ran(alloc, task, "<a:> <b:> <c:> .").differs_in(row.status, row.written, row.reported)
 }
 
 #[test]
 fn a_run_keeps_to_the_limits_of_its_task(rt: HostRuntime) {
-    let rows = [
-        (4, 2, 0, ""),
-        (3, 2, 1, "rdfconv: token too long at byte 0, line 1\n"),
-        (4, 1, 1, "rdfconv: IRI too long at byte 0, line 1\n"),
-    ];
-    for (token, iri, status, message) in rows {
-        let limits = Limits::new(token, 0, 0, iri).expect(&rt, "limits");
-        let task = task(Action::Convert, Form::NTriples, limits);
-        let mut reported = Vec::new(rt.alloc());
-        let mut out = Out::new(Vec::new(rt.alloc()));
-        let mut err = Out::new(&mut reported);
-        let files = files("<a:> <b:> <c:> .");
-        assert_eq!(rt; run(rt.alloc(), task, files, &mut out, &mut err), status);
-        drop(err);
-        assert_eq!(rt; reported.as_slice(), message.as_bytes());
+    for row in LIMITED.as_slice() {
+        assert_eq!(rt;
+            limited_run_differs_in(rt.alloc(), row),
+            None,
+            "{}",
+            row.reported
+        );
     }
 }
 
-#[test]
-fn words_give_a_task_with_defaults(rt: HostRuntime) {
-    let task = command_of(rt.alloc(), &["rdfconv", "convert"]);
-    match task {
-        Ok(task) => {
-            assert_eq!(rt; task.action, Action::Convert);
-            assert_eq!(rt; task.form, Form::TriG);
-            assert_eq!(rt;
-                Some(task.limits),
-                Limits::new(16777216, 1024, 65536, 1048576)
-            );
-            assert!(rt; task.base.is_none());
-            assert_eq!(rt; task.escapes, Escapes::Plain);
-            assert!(rt; task.prefixes.is_none());
-            assert!(rt; task.file.is_none());
-        }
-        Err(_) => assert!(rt; false, "no task"),
+/// The field of the task that is not so, if there is one.
+fn other_field(task: &Task, fields: &Fields<'_>) -> Option<&'static str> {
+    let [token, depth, bindings, iri] = fields.limits;
+    if task.action != fields.action {
+        Some("action")
+    } else if task.form != fields.form {
+        Some("form")
+    } else if task.base.as_ref().map(|base| base.as_str()) != fields.base {
+        Some("base")
+    } else if Limits::new(token, depth, bindings, iri) != Some(task.limits) {
+        Some("limits")
+    } else if task.escapes != fields.escapes {
+        Some("escapes")
+    } else {
+        other_text(task, fields)
+    }
+}
+
+fn other_text(task: &Task, fields: &Fields<'_>) -> Option<&'static str> {
+    if task.node_prefix.as_ref().map(|word| word.view().as_str()) != fields.node_prefix {
+        Some("node prefix")
+    } else if task.prefixes.as_deref() != fields.prefixes {
+        Some("prefixes")
+    } else if task.file.as_deref() != fields.file {
+        Some("file")
+    } else {
+        None
+    }
+}
+
+fn task_differs_in(alloc: Global, words: &[&str], fields: &Fields<'_>) -> Option<&'static str> {
+    match command_of(alloc, words) {
+        Ok(task) => other_field(&task, fields),
+        Err(_) => Some("no task"),
+    }
+}
+
+/// The words of a line, which has a space between each two; an empty one has none.
+fn words_in<'a>(alloc: Global, line: &'a str) -> Result<Vec<&'a str>, AllocError> {
+    if line.is_empty() {
+        return Ok(Vec::new(alloc));
+    }
+    line.split(' ').collect(alloc)
+}
+
+fn asked_task_differs_in(alloc: Global, row: &Asked) -> Option<&'static str> {
+    match words_in(alloc, row.line) {
+        Ok(words) => task_differs_in(alloc, words.as_slice(), &row.fields),
+        Err(_) => Some("memory"),
     }
 }
 
 #[test]
 fn words_give_each_field_of_a_task(rt: HostRuntime) {
-    let words = [
-        "rdfconv",
-        "convert",
-        "--iri",
-        "12",
-        "--format=nt",
-        "--base",
-        "http://a/b/c",
-        "--token=1",
-        "--depth",
-        "0",
-        "data.nt",
-        "--ascii",
-        "--bindings",
-        "2",
-        "--prefixes",
-        "ex.txt",
-        "--node-prefix",
-        "Ab1",
-    ];
-    match command_of(rt.alloc(), &words) {
-        Ok(task) => {
-            assert_eq!(rt; task.form, Form::NTriples);
-            assert_eq!(rt; Some(task.limits), Limits::new(1, 0, 2, 12));
-            match &task.base {
-                Some(base) => assert_eq!(rt; base.as_str(), "http://a/b/c"),
-                None => assert!(rt; false, "no base"),
-            }
-            assert_eq!(rt; task.escapes, Escapes::Ascii);
-            match &task.node_prefix {
-                Some(word) => assert_eq!(rt; word.view().as_str(), "Ab1"),
-                None => assert!(rt; false, "no word"),
-            }
-            assert_eq!(rt; task.prefixes.as_deref(), Some("ex.txt"));
-            match &task.file {
-                Some(file) => assert_eq!(rt; file.as_str(), "data.nt"),
-                None => assert!(rt; false, "no file"),
-            }
-        }
-        Err(_) => assert!(rt; false, "no task"),
+    for row in TASKS.as_slice() {
+        assert_eq!(rt;
+            asked_task_differs_in(rt.alloc(), row),
+            None,
+            "{}",
+            row.line
+        );
     }
 }
 
-/// What a run writes, and what it reports.
-#[derive(Clone, Copy)]
-struct Printed<'a> {
-    written: &'a str,
-    reported: &'a str,
-}
-
-/// A run that writes nothing.
-fn only(reported: &str) -> Printed<'_> {
-    Printed {
-        written: "",
-        reported,
-    }
-}
-
-/// These words are no task, end with this status, and write and report these texts.
-fn is_refused(
-    rt: &impl Abort,
-    alloc: Global,
-    words: &[&str],
-    status: u8,
-    printed: Printed<'_>,
-) -> Result<(), Fail> {
+fn refused(alloc: Global, fault: WordsFault) -> Ended {
     let mut written = Vec::new(alloc);
     let mut reported = Vec::new(alloc);
     let mut out = Out::new(&mut written);
     let mut err = Out::new(&mut reported);
-    match command_of(alloc, words) {
-        Ok(_) => return Err(Fail::new("the words are a task")),
-        Err(fault) => {
-            assert_eq!(rt; refuse_words(alloc, &fault, &mut out, &mut err), status);
-        }
-    }
+    let status = refuse_words(alloc, &fault, &mut out, &mut err);
     drop(out);
     drop(err);
-    assert_eq!(rt; str::from_utf8(written.as_slice()), Ok(printed.written));
-    assert_eq!(rt; str::from_utf8(reported.as_slice()), Ok(printed.reported));
-    Ok(())
+    Ended {
+        status,
+        written,
+        reported,
+    }
 }
 
-#[test]
-fn words_that_are_no_task_are_reported(rt: HostRuntime) -> Result<(), Fail> {
-    for (words, message) in USAGE {
-        is_refused(&rt, rt.alloc(), words, 2, only(message))?;
+/// What differs where these words are no task, and end with this status and these texts.
+fn refusal_differs_in(
+    alloc: Global,
+    words: &[&str],
+    status: u8,
+    written: &str,
+    reported: &str,
+) -> Option<&'static str> {
+    match command_of(alloc, words) {
+        Ok(_) => Some("a task"),
+        Err(fault) => refused(alloc, fault).differs_in(status, written, reported),
     }
-    let bases: [&[&str]; 3] = [
-        &["rdfconv", "convert", "--format=nt", "--base", "s"],
-        &["rdfconv", "convert", "--format=nt", "--base", ""],
-        &["rdfconv", "convert", "--iri=9", "--base=http://a/b"],
-    ];
-    for words in bases {
-        is_refused(&rt, rt.alloc(), words, 2, only("rdfconv: bad base\n"))?;
-    }
-    let fits = ["rdfconv", "convert", "--iri=10", "--base=http://a/b"];
-    assert!(&rt; command_of(rt.alloc(), &fits).is_ok());
-    let words: [&[&str]; 3] = [
-        &["rdfconv", "convert", "--node-prefix", "a-b"],
-        &["rdfconv", "convert", "--node-prefix", "é"],
-        &["rdfconv", "convert", "--node-prefix="],
-    ];
-    for words in words {
-        is_refused(
-            &rt,
-            rt.alloc(),
-            words,
-            2,
-            only("rdfconv: bad node prefix\n"),
-        )?;
-    }
-    Ok(())
 }
 
-#[test]
-fn help_is_written_to_the_output(rt: HostRuntime) -> Result<(), Fail> {
-    let rows: [&[&str]; 3] = [
-        &["rdfconv", "--help"],
-        &["rdfconv", "-h"],
-        &["rdfconv", "help"],
-    ];
-    let help = Printed {
-        written: HELP,
-        reported: "",
-    };
-    for words in rows {
-        is_refused(&rt, rt.alloc(), words, 0, help)?;
+fn refused_line_differs_in(alloc: Global, row: &Refused) -> Option<&'static str> {
+    match words_in(alloc, row.line) {
+        Ok(words) => refusal_differs_in(alloc, words.as_slice(), 2, "", row.reported),
+        Err(_) => Some("memory"),
     }
-    for (name, first, options) in COMMANDS {
-        let text = format!(in rt.alloc(); "{first}{options}{COMMAND_NOTES}")?;
-        let rows: [&[&str]; 3] = [
-            &["rdfconv", name, "--help"],
-            &["rdfconv", name, "-h"],
-            &["rdfconv", "help", name],
-        ];
-        for words in rows {
-            let help = Printed {
-                written: text.as_str(),
-                reported: "",
-            };
-            is_refused(&rt, rt.alloc(), words, 0, help)?;
+}
+
+/// The first line that is not refused so, and what is not so.
+fn unlike_refusal(alloc: Global) -> Option<(&'static str, &'static str)> {
+    for row in REFUSED.as_slice() {
+        if let Some(other) = refused_line_differs_in(alloc, row) {
+            return Some((row.line, other));
         }
     }
-    Ok(())
+    None
 }
 
 #[test]
-fn a_long_command_line_is_taken(rt: HostRuntime) -> Result<(), Fail> {
-    let alloc = rt.alloc();
-    let mut base = String::from_str(alloc, "http://a/")?;
-    let mut file = String::new(alloc);
-    for _ in 0..100_000 {
-        base.push('b')?;
-        file.push('f')?;
+fn words_that_are_no_task_are_reported(rt: HostRuntime) {
+    assert_eq!(rt; unlike_refusal(rt.alloc()), None);
+}
+
+fn program_help_differs_in(alloc: Global) -> Option<&'static str> {
+    refusal_differs_in(alloc, &["rdfconv", "--help"], 0, HELP, "")
+        .or(refusal_differs_in(alloc, &["rdfconv", "-h"], 0, HELP, ""))
+        .or(refusal_differs_in(alloc, &["rdfconv", "help"], 0, HELP, ""))
+}
+
+fn command_help_differs_in(alloc: Global, name: &str, help: &str) -> Option<&'static str> {
+    refusal_differs_in(alloc, &["rdfconv", name, "--help"], 0, help, "")
+        .or(refusal_differs_in(alloc, &["rdfconv", name, "-h"], 0, help, ""))
+        .or(refusal_differs_in(alloc, &["rdfconv", "help", name], 0, help, ""))
+}
+
+/// What differs in the help of a command, which begins with these lines and options.
+fn help_differs_in(alloc: Global, help: &Help) -> Option<&'static str> {
+    match format!(in alloc; "{}{}{COMMAND_NOTES}", help.first, help.options) {
+        Ok(text) => command_help_differs_in(alloc, help.name, text.as_str()),
+        Err(_) => Some("memory"),
     }
+}
+
+/// The first command whose help is not so, and what is not so.
+fn unlike_help(alloc: Global) -> Option<(&'static str, &'static str)> {
+    for help in COMMANDS.as_slice() {
+        if let Some(other) = help_differs_in(alloc, help) {
+            return Some((help.name, other));
+        }
+    }
+    let other = program_help_differs_in(alloc)?;
+    Some(("rdfconv", other))
+}
+
+#[test]
+fn help_is_written_to_the_output(rt: HostRuntime) {
+    assert_eq!(rt; unlike_help(rt.alloc()), None);
+}
+
+/// The front, and the letter a hundred thousand times.
+fn long(alloc: Global, front: &str, letter: char) -> Result<String, AllocError> {
+    let mut text = String::from_str(alloc, front)?;
+    for _ in 0..100_000 {
+        text.push(letter)?;
+    }
+    Ok(text)
+}
+
+fn long_task_differs_in(alloc: Global, base: &str, file: &str) -> Option<&'static str> {
     let words = [
         "rdfconv",
         "show",
         "--format",
         "ttl",
         "--base",
-        base.as_str(),
+        base,
         "--token",
         "1",
         "--depth",
@@ -341,150 +290,143 @@ fn a_long_command_line_is_taken(rt: HostRuntime) -> Result<(), Fail> {
         "--iri",
         "200000",
         "--",
-        file.as_str(),
+        file,
     ];
-    match command_of(alloc, &words) {
-        Ok(task) => {
-            assert_eq!(&rt;
-                task.base.as_ref().map(|iri| iri.as_str()),
-                Some(base.as_str())
-            );
-            assert_eq!(&rt; task.file.as_deref(), Some(file.as_str()));
-        }
-        Err(_) => return Err(Fail::new("no task")),
+    let fields = Fields {
+        action: Action::Show,
+        form: Form::Turtle,
+        base: Some(base),
+        limits: [1, 2, 3, 200000],
+        escapes: Escapes::Plain,
+        node_prefix: None,
+        prefixes: None,
+        file: Some(file),
+    };
+    task_differs_in(alloc, &words, &fields)
+}
+
+fn many_words_differ_in(alloc: Global, word: &str) -> Option<&'static str> {
+    let mut words = [word; 1000];
+    words[0] = "rdfconv";
+    words[1] = "show";
+    match format!(in alloc;
+        "error: unexpected argument '{word}' found\n\nUsage: rdfconv show [OPTIONS] [FILE]\n\nFor more information, try '--help'.\n"
+    ) {
+        Ok(message) => refusal_differs_in(alloc, &words, 2, "", message.as_str()),
+        Err(_) => Some("memory"),
     }
-    let mut many = [base.as_str(); 1000];
-    many[0] = "rdfconv";
-    many[1] = "show";
-    let message = format!(in alloc;
-        "error: unexpected argument '{base}' found\n\nUsage: rdfconv show [OPTIONS] [FILE]\n\nFor more information, try '--help'.\n"
-    )?;
-    is_refused(&rt, alloc, &many, 2, only(message.as_str()))
+}
+
+fn long_line_differs_in(alloc: Global) -> Result<Option<&'static str>, AllocError> {
+    let base = long(alloc, "http://a/", 'b')?;
+    let file = long(alloc, "", 'f')?;
+    let task = long_task_differs_in(alloc, base.as_str(), file.as_str());
+    Ok(task.or(many_words_differ_in(alloc, base.as_str())))
+}
+
+#[test]
+fn a_long_command_line_is_taken(rt: HostRuntime) -> Result<(), Fail> {
+    assert_eq!(&rt; long_line_differs_in(rt.alloc())?, None);
+    Ok(())
+}
+
+fn start_differs_in(
+    alloc: Global,
+    words: Result<&str, NoWords>,
+    status: u8,
+    written: &str,
+    reported: &str,
+) -> Option<&'static str> {
+    let host = InMemory {
+        words,
+        input: INPUT,
+        files: FILES.as_slice(),
+    };
+    started(alloc, &host).differs_in(status, written, reported)
+}
+
+fn started(alloc: Global, host: &InMemory<'_>) -> Ended {
+    let mut written = Vec::new(alloc);
+    let mut reported = Vec::new(alloc);
+    let mut out = Out::new(&mut written);
+    let mut err = Out::new(&mut reported);
+    let status = start(alloc, host, &mut out, &mut err);
+    drop(out);
+    drop(err);
+    Ended {
+        status,
+        written,
+        reported,
+    }
+}
+
+fn started_line_differs_in(alloc: Global, row: &Started) -> Option<&'static str> {
+    start_differs_in(alloc, Ok(row.line), row.status, row.written, row.reported)
+}
+
+fn start_without_words_differs_in(alloc: Global) -> Option<&'static str> {
+    let no_text = start_differs_in(alloc, Err(NoWords::NotUtf8), 2, "", NOT_UTF8);
+    let no_memory = Err(NoWords::Memory);
+    no_text.or(start_differs_in(alloc, no_memory, 4, "", "rdfconv: out of memory\n"))
+}
+
+/// The first line of which something else comes, and what is not so.
+fn unlike_start(alloc: Global) -> Option<(&'static str, &'static str)> {
+    for row in STARTED.as_slice() {
+        if let Some(other) = started_line_differs_in(alloc, row) {
+            return Some((row.line, other));
+        }
+    }
+    let other = start_without_words_differs_in(alloc)?;
+    Some(("no words", other))
 }
 
 #[test]
 fn the_program_does_what_its_words_say(rt: HostRuntime) {
-    let rows: [(Result<&[&str], NoWords>, u8, &str, &str); 16] = [
-        (
-            Ok(&["rdfconv", "convert", "--format", "nt", "data.nt"]),
-            0,
-            "<a:> <b:> \"file\" .\n",
-            "",
-        ),
-        (Ok(&["rdfconv", "convert"]), 0, "<a:> <b:> _:ninput .\n", ""),
-        (
-            Ok(&["rdfconv", "show", "data.nt"]),
-            0,
-            "0 4 iri\n5 4 iri\n10 6 string\n17 1 dot\n",
-            "",
-        ),
-        (
-            Ok(&["rdfconv", "check", "--iri", "1", "data.nt"]),
-            1,
-            "",
-            "rdfconv: IRI too long at byte 0, line 1\n",
-        ),
-        (
-            Ok(&["rdfconv", "check", "no.nt"]),
-            3,
-            "",
-            "rdfconv: cannot open file\n",
-        ),
-        (
-            Ok(&["rdfconv", "convert", "--prefixes", "ex.txt", "data.ttl"]),
-            0,
-            "<http://e/s> <http://e/p> <http://e/o> .\n",
-            "",
-        ),
-        (
-            Ok(&["rdfconv", "check", "--prefixes=data.nt", "data.ttl"]),
-            2,
-            "",
-            "rdfconv: bad prefixes at line 1\n",
-        ),
-        (
-            Ok(&["rdfconv", "convert", "--format=nt", "--prefixes=bad.txt"]),
-            2,
-            "",
-            "rdfconv: bad prefixes at line 2\n",
-        ),
-        (
-            Ok(&["rdfconv", "convert", "--format=nt", "--prefixes=ex.txt"]),
-            0,
-            "<a:> <b:> _:input .\n",
-            "",
-        ),
-        (
-            Ok(&["rdfconv", "check", "--prefixes=no.txt"]),
-            3,
-            "",
-            "rdfconv: cannot open file\n",
-        ),
-        (
-            Ok(&["rdfconv", "check", "--prefixes=bad.txt", "no.nt"]),
-            3,
-            "",
-            "rdfconv: cannot open file\n",
-        ),
-        (
-            Ok(&["rdfconv", "convert", "--ascii", "accents.ttl"]),
-            0,
-            "<a:\\u00E9> <b:> \"\\U0001F600\" .\n<a:\\u00E9> <b:> _:né .\n",
-            "",
-        ),
-        (
-            Ok(&["rdfconv", "convert", "--node-prefix=x1", "accents.ttl"]),
-            0,
-            "<a:é> <b:> \"😀\" .\n<a:é> <b:> _:x1né .\n",
-            "",
-        ),
-        (Ok(&["rdfconv", "--help"]), 0, HELP, ""),
-        (Err(NoWords::NotUtf8), 2, "", NOT_UTF8),
-        (Err(NoWords::Memory), 4, "", "rdfconv: out of memory\n"),
-    ];
-    for (words, status, text, message) in rows {
-        let host = InMemory {
-            words,
-            input: "<a:> <b:> _:input .",
-            files: &[
-                ("data.nt", "<a:> <b:> \"file\" ."),
-                ("data.ttl", "ex:s ex:p ex:o ."),
-                ("accents.ttl", "<a:é> <b:> \"😀\" , _:é ."),
-                ("ex.txt", "ex: http://e/\n"),
-                ("bad.txt", "ex: http://e/\nex: e\n"),
-            ],
-        };
-        let mut written = Vec::new(rt.alloc());
-        let mut reported = Vec::new(rt.alloc());
-        let mut out = Out::new(&mut written);
-        let mut err = Out::new(&mut reported);
-        assert_eq!(rt; start(rt.alloc(), &host, &mut out, &mut err), status);
-        drop(out);
-        drop(err);
-        assert_eq!(rt; str::from_utf8(written.as_slice()), Ok(text));
-        assert_eq!(rt; str::from_utf8(reported.as_slice()), Ok(message));
+    assert_eq!(rt; unlike_start(rt.alloc()), None);
+}
+
+/// The words, with a zero byte after each.
+fn with_zeros(alloc: Global, words: &[String]) -> Result<String, AllocError> {
+    let mut text = String::new(alloc);
+    for word in words {
+        text.push_str(word.as_str())?;
+        text.push('\0')?;
+    }
+    Ok(text)
+}
+
+fn words_of(alloc: Global, process: &Process<'_>) -> Result<String, &'static str> {
+    match process.words(alloc) {
+        Ok(words) => with_zeros(alloc, words.as_slice()).or(Err("no memory")),
+        Err(_) => Err("no words"),
+    }
+}
+
+/// How many bytes the file gives first.
+fn read(process: &Process<'_>, file: &str, buf: &mut [u8]) -> Result<usize, &'static str> {
+    match process.open(Some(file)) {
+        Ok(source) => {
+            let mut source = source;
+            source.fill(buf).or(Err("no bytes"))
+        }
+        Err(_) => Err("no file"),
     }
 }
 
 /// The system's file of the words of a process has a zero byte after each, and may have a loader's words first.
+fn has_all_words(alloc: Global, process: &Process<'_>) -> Result<bool, &'static str> {
+    let mut buf = [0u8; 4096];
+    let count = read(process, "/proc/self/cmdline", &mut buf)?;
+    let front = buf.get(..count).ok_or("no front")?;
+    let words = words_of(alloc, process)?;
+    Ok(!words.is_empty() && front.ends_with(words.as_bytes()))
+}
+
 #[test]
 fn the_process_has_all_its_words(rt: HostRuntime) -> Result<(), Fail> {
     let process = Process::new(&rt);
-    let mut expected = String::new(rt.alloc());
-    for word in process
-        .words(rt.alloc())
-        .map_err(|_| Fail::new("no words"))?
-    {
-        expected.push_str(word.as_str())?;
-        expected.push('\0')?;
-    }
     assert!(&rt; process.open(Some("no such file")).is_err());
-    let mut source = process
-        .open(Some("/proc/self/cmdline"))
-        .map_err(|_| Fail::new("no file"))?;
-    let mut buf = [0u8; 4096];
-    let count = source.fill(&mut buf).map_err(|_| Fail::new("no bytes"))?;
-    let words = buf.get(..count).ok_or("no words")?;
-    assert!(&rt; !expected.is_empty() && words.ends_with(expected.as_bytes()));
+    assert!(&rt; has_all_words(rt.alloc(), &process)?);
     Ok(())
 }

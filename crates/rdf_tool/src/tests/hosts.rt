@@ -6,10 +6,10 @@ use rdf_command::{Host, NoWords, NotOpen};
 use rdf_stream::In;
 use std::alloc::Global;
 
-/// Words, or why there are none, standard input, and files with their names.
+/// Words with a space between each two, or why there are none, standard input, and files with their names.
 #[derive(Drop)]
 pub(crate) struct InMemory<'a> {
-    pub(crate) words: Result<&'a [&'a str], NoWords>,
+    pub(crate) words: Result<&'a str, NoWords>,
     pub(crate) input: &'a str,
     pub(crate) files: &'a [(&'a str, &'a str)],
 }
@@ -27,7 +27,7 @@ impl<'a> Host for InMemory<'a> {
 
     fn words(&self, alloc: Global) -> Result<Vec<String>, NoWords> {
         let mut words = Vec::new(alloc);
-        for word in self.words? {
+        for word in self.words?.split(' ') {
             if words.push(String::from_str(alloc, word)?).is_err() {
                 return Err(NoWords::Memory);
             }

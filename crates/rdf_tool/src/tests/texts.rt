@@ -42,23 +42,29 @@ Exit status:
   4  out of memory
 ";
 
-/// The subcommands, and their help up to what ends it.
-pub(crate) const COMMANDS: [(&str, &str, &str); 3] = [
-    (
-        "check",
-        "Read a document to its end, and count its quads and bytes\n\nUsage: rdfconv check [OPTIONS] [FILE]\n",
-        CHECK_HELP,
-    ),
-    (
-        "show",
-        "Write a line for each token: its offset, its characters and its kind\n\nUsage: rdfconv show [OPTIONS] [FILE]\n",
-        SHOW_HELP,
-    ),
-    (
-        "convert",
-        "Write the quads of a document as lines of N-Quads\n\nUsage: rdfconv convert [OPTIONS] [FILE]\n",
-        CONVERT_HELP,
-    ),
+/// The help of a subcommand, up to what ends it.
+pub(crate) struct Help {
+    pub(crate) name: &'static str,
+    pub(crate) first: &'static str,
+    pub(crate) options: &'static str,
+}
+
+pub(crate) static COMMANDS: [Help; 3] = [
+    Help {
+        name: "check",
+        first: "Read a document to its end, and count its quads and bytes\n\nUsage: rdfconv check [OPTIONS] [FILE]\n",
+        options: CHECK_HELP,
+    },
+    Help {
+        name: "show",
+        first: "Write a line for each token: its offset, its characters and its kind\n\nUsage: rdfconv show [OPTIONS] [FILE]\n",
+        options: SHOW_HELP,
+    },
+    Help {
+        name: "convert",
+        first: "Write the quads of a document as lines of N-Quads\n\nUsage: rdfconv convert [OPTIONS] [FILE]\n",
+        options: CONVERT_HELP,
+    },
 ];
 
 /// What follows these lines in the help of `check`.
@@ -141,92 +147,128 @@ Usage: rdfconv <COMMAND>
 For more information, try '--help'.
 ";
 
-/// Words that are no command, and all that is reported of them.
-pub(crate) const USAGE: [(&[&str], &str); 23] = [
-    (&[], NO_COMMAND),
-    (&["rdfconv"], NO_COMMAND),
-    (
-        &["rdfconv", "delete", "--format", "nt"],
-        "error: unrecognized subcommand 'delete'\n\nUsage: rdfconv <COMMAND>\n\nFor more information, try '--help'.\n",
-    ),
-    (
-        &["rdfconv", "convert", "--format", "xml"],
-        "error: invalid value 'xml' for '--format <FORMAT>'\n  [possible values: nt, nq, ttl, trig]\n\nFor more information, try '--help'.\n",
-    ),
-    (
-        &["rdfconv", "check", "--format", "--help"],
-        "error: a value is required for '--format <FORMAT>' but none was supplied\n  [possible values: nt, nq, ttl, trig]\n\nFor more information, try '--help'.\n",
-    ),
-    (
-        &["rdfconv", "convert", "--format=nt", "--format=nt"],
-        "error: the argument '--format <FORMAT>' cannot be used multiple times\n\nUsage: rdfconv convert [OPTIONS] [FILE]\n\nFor more information, try '--help'.\n",
-    ),
-    (
-        &["rdfconv", "show", "a.nt", "b.nt"],
-        "error: unexpected argument 'b.nt' found\n\nUsage: rdfconv show [OPTIONS] [FILE]\n\nFor more information, try '--help'.\n",
-    ),
-    (
-        &["rdfconv", "check", "--colour", "x"],
-        "error: unexpected argument '--colour' found\n\n  tip: to pass '--colour' as a value, use '-- --colour'\n\nUsage: rdfconv check [OPTIONS] [FILE]\n\nFor more information, try '--help'.\n",
-    ),
-    (
-        &["rdfconv", "show", "--prefixes", "ex.txt"],
-        "error: unexpected argument '--prefixes' found\n\n  tip: to pass '--prefixes' as a value, use '-- --prefixes'\n\nUsage: rdfconv show [OPTIONS] [FILE]\n\nFor more information, try '--help'.\n",
-    ),
-    (
-        &["rdfconv", "check", "--ascii"],
-        "error: unexpected argument '--ascii' found\n\n  tip: to pass '--ascii' as a value, use '-- --ascii'\n\nUsage: rdfconv check [OPTIONS] [FILE]\n\nFor more information, try '--help'.\n",
-    ),
-    (
-        &["rdfconv", "show", "--ascii"],
-        "error: unexpected argument '--ascii' found\n\n  tip: to pass '--ascii' as a value, use '-- --ascii'\n\nUsage: rdfconv show [OPTIONS] [FILE]\n\nFor more information, try '--help'.\n",
-    ),
-    (
-        &["rdfconv", "convert", "--ascii", "--ascii"],
-        "error: the argument '--ascii' cannot be used multiple times\n\nUsage: rdfconv convert [OPTIONS] [FILE]\n\nFor more information, try '--help'.\n",
-    ),
-    (
-        &["rdfconv", "convert", "--ascii=true"],
-        "error: unexpected value 'true' for '--ascii' found; no more were expected\n\nUsage: rdfconv convert --ascii [FILE]\n\nFor more information, try '--help'.\n",
-    ),
-    (
-        &["rdfconv", "check", "--node-prefix", "a"],
-        "error: unexpected argument '--node-prefix' found\n\n  tip: to pass '--node-prefix' as a value, use '-- --node-prefix'\n\nUsage: rdfconv check [OPTIONS] [FILE]\n\nFor more information, try '--help'.\n",
-    ),
-    (
-        &["rdfconv", "show", "--node-prefix=a"],
-        "error: unexpected argument '--node-prefix' found\n\n  tip: to pass '--node-prefix' as a value, use '-- --node-prefix'\n\nUsage: rdfconv show [OPTIONS] [FILE]\n\nFor more information, try '--help'.\n",
-    ),
-    (
-        &["rdfconv", "convert", "--node-prefix"],
-        "error: a value is required for '--node-prefix <WORD>' but none was supplied\n\nFor more information, try '--help'.\n",
-    ),
-    (
-        &["rdfconv", "convert", "--node-prefix=a", "--node-prefix=b"],
-        "error: the argument '--node-prefix <WORD>' cannot be used multiple times\n\nUsage: rdfconv convert [OPTIONS] [FILE]\n\nFor more information, try '--help'.\n",
-    ),
-    (
-        &["rdfconv", "convert", "--token=0"],
-        "error: invalid value '0' for '--token <N>': 0 is not in 1..=268435456\n\nFor more information, try '--help'.\n",
-    ),
-    (
-        &["rdfconv", "convert", "--depth=1048577"],
-        "error: invalid value '1048577' for '--depth <N>': 1048577 is not in 0..=1048576\n\nFor more information, try '--help'.\n",
-    ),
-    (
-        &["rdfconv", "convert", "--bindings=16777217"],
-        "error: invalid value '16777217' for '--bindings <N>': 16777217 is not in 0..=16777216\n\nFor more information, try '--help'.\n",
-    ),
-    (
-        &["rdfconv", "convert", "--iri=18446744073709551615"],
-        "error: invalid value '18446744073709551615' for '--iri <N>': 18446744073709551615 is not in 1..=268435456\n\nFor more information, try '--help'.\n",
-    ),
-    (
-        &["rdfconv", "convert", "--token", "18446744073709551616"],
-        "error: invalid value '18446744073709551616' for '--token <N>': number too large to fit in target type\n\nFor more information, try '--help'.\n",
-    ),
-    (
-        &["rdfconv", "convert", "--iri=ten"],
-        "error: invalid value 'ten' for '--iri <N>': invalid digit found in string\n\nFor more information, try '--help'.\n",
-    ),
+/// Words that are no task, and all that is reported of them.
+pub(crate) struct Refused {
+    /// The words, with a space after each but the last; it is empty where there are none.
+    pub(crate) line: &'static str,
+    pub(crate) reported: &'static str,
+}
+
+pub(crate) static REFUSED: [Refused; 29] = [
+    Refused {
+        line: "",
+        reported: NO_COMMAND,
+    },
+    Refused {
+        line: "rdfconv",
+        reported: NO_COMMAND,
+    },
+    Refused {
+        line: "rdfconv delete --format nt",
+        reported: "error: unrecognized subcommand 'delete'\n\nUsage: rdfconv <COMMAND>\n\nFor more information, try '--help'.\n",
+    },
+    Refused {
+        line: "rdfconv convert --format xml",
+        reported: "error: invalid value 'xml' for '--format <FORMAT>'\n  [possible values: nt, nq, ttl, trig]\n\nFor more information, try '--help'.\n",
+    },
+    Refused {
+        line: "rdfconv check --format --help",
+        reported: "error: a value is required for '--format <FORMAT>' but none was supplied\n  [possible values: nt, nq, ttl, trig]\n\nFor more information, try '--help'.\n",
+    },
+    Refused {
+        line: "rdfconv convert --format=nt --format=nt",
+        reported: "error: the argument '--format <FORMAT>' cannot be used multiple times\n\nUsage: rdfconv convert [OPTIONS] [FILE]\n\nFor more information, try '--help'.\n",
+    },
+    Refused {
+        line: "rdfconv show a.nt b.nt",
+        reported: "error: unexpected argument 'b.nt' found\n\nUsage: rdfconv show [OPTIONS] [FILE]\n\nFor more information, try '--help'.\n",
+    },
+    Refused {
+        line: "rdfconv check --colour x",
+        reported: "error: unexpected argument '--colour' found\n\n  tip: to pass '--colour' as a value, use '-- --colour'\n\nUsage: rdfconv check [OPTIONS] [FILE]\n\nFor more information, try '--help'.\n",
+    },
+    Refused {
+        line: "rdfconv show --prefixes ex.txt",
+        reported: "error: unexpected argument '--prefixes' found\n\n  tip: to pass '--prefixes' as a value, use '-- --prefixes'\n\nUsage: rdfconv show [OPTIONS] [FILE]\n\nFor more information, try '--help'.\n",
+    },
+    Refused {
+        line: "rdfconv check --ascii",
+        reported: "error: unexpected argument '--ascii' found\n\n  tip: to pass '--ascii' as a value, use '-- --ascii'\n\nUsage: rdfconv check [OPTIONS] [FILE]\n\nFor more information, try '--help'.\n",
+    },
+    Refused {
+        line: "rdfconv show --ascii",
+        reported: "error: unexpected argument '--ascii' found\n\n  tip: to pass '--ascii' as a value, use '-- --ascii'\n\nUsage: rdfconv show [OPTIONS] [FILE]\n\nFor more information, try '--help'.\n",
+    },
+    Refused {
+        line: "rdfconv convert --ascii --ascii",
+        reported: "error: the argument '--ascii' cannot be used multiple times\n\nUsage: rdfconv convert [OPTIONS] [FILE]\n\nFor more information, try '--help'.\n",
+    },
+    Refused {
+        line: "rdfconv convert --ascii=true",
+        reported: "error: unexpected value 'true' for '--ascii' found; no more were expected\n\nUsage: rdfconv convert --ascii [FILE]\n\nFor more information, try '--help'.\n",
+    },
+    Refused {
+        line: "rdfconv check --node-prefix a",
+        reported: "error: unexpected argument '--node-prefix' found\n\n  tip: to pass '--node-prefix' as a value, use '-- --node-prefix'\n\nUsage: rdfconv check [OPTIONS] [FILE]\n\nFor more information, try '--help'.\n",
+    },
+    Refused {
+        line: "rdfconv show --node-prefix=a",
+        reported: "error: unexpected argument '--node-prefix' found\n\n  tip: to pass '--node-prefix' as a value, use '-- --node-prefix'\n\nUsage: rdfconv show [OPTIONS] [FILE]\n\nFor more information, try '--help'.\n",
+    },
+    Refused {
+        line: "rdfconv convert --node-prefix",
+        reported: "error: a value is required for '--node-prefix <WORD>' but none was supplied\n\nFor more information, try '--help'.\n",
+    },
+    Refused {
+        line: "rdfconv convert --node-prefix=a --node-prefix=b",
+        reported: "error: the argument '--node-prefix <WORD>' cannot be used multiple times\n\nUsage: rdfconv convert [OPTIONS] [FILE]\n\nFor more information, try '--help'.\n",
+    },
+    Refused {
+        line: "rdfconv convert --token=0",
+        reported: "error: invalid value '0' for '--token <N>': 0 is not in 1..=268435456\n\nFor more information, try '--help'.\n",
+    },
+    Refused {
+        line: "rdfconv convert --depth=1048577",
+        reported: "error: invalid value '1048577' for '--depth <N>': 1048577 is not in 0..=1048576\n\nFor more information, try '--help'.\n",
+    },
+    Refused {
+        line: "rdfconv convert --bindings=16777217",
+        reported: "error: invalid value '16777217' for '--bindings <N>': 16777217 is not in 0..=16777216\n\nFor more information, try '--help'.\n",
+    },
+    Refused {
+        line: "rdfconv convert --iri=18446744073709551615",
+        reported: "error: invalid value '18446744073709551615' for '--iri <N>': 18446744073709551615 is not in 1..=268435456\n\nFor more information, try '--help'.\n",
+    },
+    Refused {
+        line: "rdfconv convert --token 18446744073709551616",
+        reported: "error: invalid value '18446744073709551616' for '--token <N>': number too large to fit in target type\n\nFor more information, try '--help'.\n",
+    },
+    Refused {
+        line: "rdfconv convert --iri=ten",
+        reported: "error: invalid value 'ten' for '--iri <N>': invalid digit found in string\n\nFor more information, try '--help'.\n",
+    },
+    Refused {
+        line: "rdfconv convert --format=nt --base s",
+        reported: "rdfconv: bad base\n",
+    },
+    Refused {
+        line: "rdfconv convert --format=nt --base ",
+        reported: "rdfconv: bad base\n",
+    },
+    Refused {
+        line: "rdfconv convert --iri=9 --base=http://a/b",
+        reported: "rdfconv: bad base\n",
+    },
+    Refused {
+        line: "rdfconv convert --node-prefix a-b",
+        reported: "rdfconv: bad node prefix\n",
+    },
+    Refused {
+        line: "rdfconv convert --node-prefix é",
+        reported: "rdfconv: bad node prefix\n",
+    },
+    Refused {
+        line: "rdfconv convert --node-prefix=",
+        reported: "rdfconv: bad node prefix\n",
+    },
 ];

@@ -5,7 +5,7 @@ use Rattle.clap.specs.Words.{App, Text, fault_of, found_of, is_simple_and_free, 
 use Rattle.clap.specs.declared.builder.value_parser.ValueParser.TheVariants.{Names}
 use Rattle.clap.specs.Kinds.{HasKind}
 use Rattle.clap.proofs.TakesLemmas.{passed_up}
-use Rattle.rdf_command.specs.Words.{rdfconv}
+use Rattle.rdf_options.specs.Options.{rdfconv}
 use Rattle.rdf_command.proofs.EnterLemmas.{entered-at, enters-at, is_free}
 use Rattle.rdf_command.proofs.GivenLemmas.{refused_by, refuses}
 use Rattle.rdf_command.proofs.commands.command_by.Goals as goal

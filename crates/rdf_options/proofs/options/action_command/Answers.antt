@@ -4,8 +4,8 @@ use Rattle.clap.specs.Words.{new_app}
 use Rattle.clap.specs.Simple.{app_of_fields}
 use Rattle.clap.specs.declared.builder.command.Command.{Command}
 use Rattle.clap.specs.declared.builder.command.Command.TheOpen.{Command-F}
-use Rattle.rdf_command.proofs.BuildLemmas.{with_argument}
-use Rattle.rdf_command.proofs.options.action_command.Goals as goal
+use Rattle.rdf_options.proofs.BuildLemmas.{with_argument}
+use Rattle.rdf_options.proofs.options.action_command.Goals as goal
 
 pub returns : goal.returns
 returns c =
@@ -13,8 +13,5 @@ returns c =
     let app = ap app_of_fields c.after_help-command.ensures ∙ ap app_of_fields c.about.ensures ∙ c.new.ensures.app in
     let first = with_argument _ _ _ (new_app c.args.name.now) _ c.in_ok-command.ensures (globals, app) c.format_option.ensures.rule c.format_option.ensures.local in
     let second = with_argument _ _ _ _ _ c.in_ok-command-2.ensures first c.base_option.ensures.rule c.base_option.ensures.local in
-    let third = with_argument _ _ _ _ _ c.in_ok-command-3.ensures second c.token_option.ensures.rule c.token_option.ensures.local in
-    let fourth = with_argument _ _ _ _ _ c.in_ok-command-4.ensures third c.depth_option.ensures.rule c.depth_option.ensures.local in
-    let fifth = with_argument _ _ _ _ _ c.in_ok-command-5.ensures fourth c.bindings_option.ensures.rule c.bindings_option.ensures.local in
-    let sixth = with_argument _ _ _ _ _ c.in_ok-command-6.ensures fifth c.iri_option.ensures.rule c.iri_option.ensures.local in
-    IfOk-weaker c.arg-7.result _ _ (λ made added. with_argument _ made _ _ _ added sixth c.file_argument.ensures.rule c.file_argument.ensures.local) c.arg-7.ensures
+    let limited = c.in_ok-command-3.ensures _ second in
+    IfOk-weaker c.arg-3.result _ _ (λ made added. with_argument _ made _ _ _ added limited c.file_argument.ensures.rule c.file_argument.ensures.local) c.arg-3.ensures

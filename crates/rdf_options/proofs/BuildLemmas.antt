@@ -3,7 +3,7 @@ use Rattle.std.proofs.Common.{◌≡◌, ◌∙◌, ◌||◌, ap, ap₂, false}
 use Rattle.clap.specs.Words.{AddsArg, AddsSubcommand, App, Rule, app_of, rule_of, with_rule, with_subcommand}
 use Rattle.clap.specs.declared.builder.arg.Arg.{Arg}
 use Rattle.clap.specs.declared.builder.command.Command.{Command}
-use Rattle.rdf_command.specs.Words.{ReadsAs}
+use Rattle.rdf_options.specs.Options.{ReadsAs}
 
 -- an argument that is added reads as its rule
 pub with_argument : (old new : Command) (x : Arg) (a : App) (r : Rule) → AddsArg old x new → ReadsAs old a → rule_of x ≡ r → x.global ≡ false → ReadsAs new (with_rule a r)

@@ -1,9 +1,9 @@
 // The command line: its subcommands, their options, and what help says of them.
 
 ghost use Rattle.std.specs.Prelude.{◌≡◌, IfOk, codes, false};
-ghost use Rattle.clap.specs.Words.{app_of, rule_of};
+ghost use Rattle.clap.specs.Words.{App, app_of, rule_of, with_subcommand};
 ghost use Rattle.clap.specs.declared.builder.value_parser.ValueParser.TheVariants.{Names};
-ghost use Rattle.rdf_command.specs.Words.{ReadsAs, action_app, ascii_rule, base_rule, bindings_rule, depth_rule, file_rule, format_rule, iri_rule, limit_rule, node_prefix_rule, prefixes_rule, rdfconv, token_rule, with_ascii, with_node_prefix, with_prefixes};
+ghost use Rattle.rdf_options.specs.Options.{ReadsAs, action_app, ascii_rule, base_rule, bindings_rule, depth_rule, file_rule, format_rule, iri_rule, limit_rule, node_prefix_rule, prefixes_rule, rdfconv, token_rule, with_ascii, with_limits, with_node_prefix, with_prefixes};
 
 use clap::builder::ValueParser;
 use clap::{Arg, ArgAction, Command};
@@ -75,9 +75,22 @@ pub fn program<'a>(alloc: Global, formats: &'a [&'a str]) -> Result<Command<'a>,
         .about("Read N-Triples, N-Quads, Turtle or TriG, and write N-Quads")
         .after_help(PROGRAM_NOTES)
         .subcommand_required(true);
-    let command = command.subcommand(prefixed_command(alloc, "check", CHECK, formats)?)?;
-    let command = command.subcommand(action_command(alloc, "show", SHOW, formats)?)?;
-    command.subcommand(convert_command(alloc, formats)?)
+    let command = add_action(command, prefixed_command(alloc, "check", CHECK, formats))?;
+    let command = add_action(command, action_command(alloc, "show", SHOW, formats))?;
+    add_action(command, convert_command(alloc, formats))
+}
+
+// The command with one more subcommand, if there was memory to make that.
+fn add_action<'a>(
+    command: Command<'a>,
+    action: Result<Command<'a>, AllocError>,
+) -> Result<Command<'a>, AllocError>
+    ensures { (a b : App) → app_of command.entry ≡ a → IfOk action.entry (λ c. ReadsAs c b) → IfOk result (λ c. app_of c ≡ with_subcommand a b.top) }
+{
+    match action {
+        Ok(action) => command.subcommand(action),
+        Err(AllocError) => Err(AllocError),
+    }
 }
 
 // The subcommand that writes quads.
@@ -85,9 +98,8 @@ fn convert_command<'a>(alloc: Global, formats: &'a [&'a str]) -> Result<Command<
     ensures { IfOk result (λ c. ReadsAs c (with_node_prefix (with_ascii (with_prefixes (action_app (Names formats.entry) (codes "convert")))))) }
 {
     let command = prefixed_command(alloc, "convert", CONVERT, formats)?;
-    let ascii = ascii_option(alloc);
-    let node_prefix = node_prefix_option(alloc);
-    command.arg(ascii)?.arg(node_prefix)
+    let command = command.arg(ascii_option(alloc))?;
+    command.arg(node_prefix_option(alloc))
 }
 
 // A subcommand that looks at prefixes.
@@ -100,8 +112,7 @@ fn prefixed_command<'a>(
     ensures { IfOk result (λ c. ReadsAs c (with_prefixes (action_app (Names formats.entry) name.now))) }
 {
     let command = action_command(alloc, name, about, formats)?;
-    let prefixes = prefixes_option(alloc);
-    command.arg(prefixes)
+    command.arg(prefixes_option(alloc))
 }
 
 fn action_command<'a>(
@@ -117,11 +128,18 @@ fn action_command<'a>(
         .after_help(COMMAND_NOTES);
     let command = command.arg(format_option(alloc, formats))?;
     let command = command.arg(base_option(alloc))?;
+    let command = add_limits(alloc, command)?;
+    command.arg(file_argument(alloc))
+}
+
+// The command with an option for each limit.
+fn add_limits<'a>(alloc: Global, command: Command<'a>) -> Result<Command<'a>, AllocError>
+    ensures { (a : App) → ReadsAs command.entry a → IfOk result (λ c. ReadsAs c (with_limits a)) }
+{
     let command = command.arg(token_option(alloc))?;
     let command = command.arg(depth_option(alloc))?;
     let command = command.arg(bindings_option(alloc))?;
-    let command = command.arg(iri_option(alloc))?;
-    command.arg(file_argument(alloc))
+    command.arg(iri_option(alloc))
 }
 
 fn format_option<'a>(alloc: Global, formats: &'a [&'a str]) -> Arg<'a>

@@ -1,9 +1,0 @@
-use Rattle.std.proofs.lemmas.Result.{IfOk-weaker}
-use Rattle.rdf_command.proofs.BuildLemmas.{with_argument}
-use Rattle.rdf_command.proofs.options.convert_command.Goals as goal
-
-pub returns : goal.returns
-returns c =
-    let first = with_argument _ _ _ _ _ c.in_ok-arg.ensures c.in_ok-command.ensures c.ascii_option-ascii.ensures.rule c.ascii_option-ascii.ensures.local in
-    IfOk-weaker c.arg-2.result _ _ (λ made added. with_argument _ made _ _ _ added first c.node_prefix_option-node_prefix.ensures.rule c.node_prefix_option-node_prefix.ensures.local)
-    c.arg-2.ensures

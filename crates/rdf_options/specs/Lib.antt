@@ -1,0 +1,2 @@
+-- what has to be believed
+pub mod Options

@@ -1,0 +1,94 @@
+-- The program's command line, as `clap` defines one: its subcommands, their options, ranges and defaults.
+use Rattle.std.specs.Prelude.{◌≡◌, ◌∷◌, ℕ, true, false, [], Some, codes}
+use Rattle.clap.specs.Words.{App, Rule, Text, new_app, new_rule, with_rule, with_subcommand}
+use Rattle.clap.specs.Simple.{app_of, on_top}
+use Rattle.clap.specs.declared.builder.command.Command.{Command}
+use Rattle.clap.specs.declared.builder.command.Command.TheViews.{out-Command}
+use Rattle.clap.specs.declared.builder.action.ArgAction.TheVariants.{Set, SetTrue}
+use Rattle.clap.specs.declared.builder.value_parser.ValueParser.{ValueParser}
+use Rattle.clap.specs.declared.builder.value_parser.ValueParser.TheVariants.{Unsigned}
+
+-- an option with one value, which help calls by one name
+abbrev pub option_rule : Text → ValueParser → Rule
+option_rule id parser = record (new_rule id) {
+  long = Some id;
+  action = Some Set;
+  value_names = 1;
+  parser = Some parser;
+}
+
+-- the format, which is TriG where nothing is said
+abbrev pub format_rule : ValueParser → Rule
+format_rule names = record (option_rule (codes "format") names) { defaults = codes "trig" ∷ [] }
+
+-- the base IRI of relative references; there is none unless it is given
+abbrev pub base_rule : Rule
+base_rule = record (new_rule (codes "base")) { long = Some (codes "base"); action = Some Set; value_names = 1 }
+
+-- a number in a range, with a default
+abbrev pub limit_rule : Text → ℕ → ℕ → Text → Rule
+limit_rule id least most default = record (option_rule id (Unsigned least most)) { defaults = default ∷ [] }
+
+-- the most characters of a token: up to 2^28, and 2^24 unless given
+abbrev pub token_rule : Rule
+token_rule = limit_rule (codes "token") 1 268435456 (codes "16777216")
+
+-- the most brackets and parentheses open at one time: up to 2^20, and 1024 unless given
+abbrev pub depth_rule : Rule
+depth_rule = limit_rule (codes "depth") 0 1048576 (codes "1024")
+
+-- the most prefixes bound at one time: up to 2^24, and 2^16 unless given
+abbrev pub bindings_rule : Rule
+bindings_rule = limit_rule (codes "bindings") 0 16777216 (codes "65536")
+
+-- the most bytes of an IRI: up to 2^28, and 2^20 unless given
+abbrev pub iri_rule : Rule
+iri_rule = limit_rule (codes "iri") 1 268435456 (codes "1048576")
+
+-- the file to read, given without an option; standard input is read where there is none
+abbrev pub file_rule : Rule
+file_rule = record (new_rule (codes "file")) { action = Some Set; value_names = 1 }
+
+-- the file of bindings
+abbrev pub prefixes_rule : Rule
+prefixes_rule = record (new_rule (codes "prefixes")) { long = Some (codes "prefixes"); action = Some Set; value_names = 1 }
+
+-- a subcommand with an option for each limit
+abbrev pub with_limits : App → App
+with_limits a = with_rule (with_rule (with_rule (with_rule a token_rule) depth_rule) bindings_rule) iri_rule
+
+-- a subcommand with the options that all have, where the parser takes the names of the formats
+abbrev pub action_app : ValueParser → Text → App
+action_app names action = with_rule (with_limits (with_rule (with_rule (new_app action) (format_rule names)) base_rule)) file_rule
+
+-- a subcommand that looks at prefixes
+abbrev pub with_prefixes : App → App
+with_prefixes a = with_rule a prefixes_rule
+
+-- the flag that asks for lines in ASCII
+abbrev pub ascii_rule : Rule
+ascii_rule = record (new_rule (codes "ascii")) { long = Some (codes "ascii"); action = Some SetTrue }
+
+-- a subcommand that writes lines in ASCII too
+abbrev pub with_ascii : App → App
+with_ascii a = with_rule a ascii_rule
+
+-- the word in front of the names of nodes; there is none unless it is given
+abbrev pub node_prefix_rule : Rule
+node_prefix_rule = record (new_rule (codes "node-prefix")) { long = Some (codes "node-prefix"); action = Some Set; value_names = 1 }
+
+-- a subcommand that writes names of nodes
+abbrev pub with_node_prefix : App → App
+with_node_prefix a = with_rule a node_prefix_rule
+
+-- the program's command line
+abbrev pub rdfconv : ValueParser → App
+rdfconv names = with_subcommand (with_subcommand (with_subcommand
+    (on_top (λ s. record s { subcommand_required = true }) (new_app (codes "rdfconv")))
+    (with_prefixes (action_app names (codes "check"))).top)
+    (action_app names (codes "show")).top)
+    (with_node_prefix (with_ascii (with_prefixes (action_app names (codes "convert"))))).top
+
+-- the command has no global argument, and a parse reads this of it
+abbrev pub ReadsAs : Command → App → Type 0
+ReadsAs c a = ((out-Command c).has_globals ≡ false) × (app_of c ≡ a)

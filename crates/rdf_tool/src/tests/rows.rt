@@ -1,0 +1,292 @@
+// Runs, words, and what comes of them.
+
+use super::texts::HELP;
+use rdf_command::Action;
+use rdf_stream::{Escapes, Form};
+
+/// A task over a document, and what comes of its run.
+pub(crate) struct Run {
+    pub(crate) action: Action,
+    pub(crate) form: Form,
+    pub(crate) document: &'static str,
+    pub(crate) status: u8,
+    pub(crate) written: &'static str,
+    pub(crate) reported: &'static str,
+}
+
+pub(crate) static RUNS: [Run; 9] = [
+    Run {
+        action: Action::Check,
+        form: Form::NQuads,
+        document: "<a:> <b:> <c:> <g:>.\n_:x <b:> <c:>.",
+        status: 0,
+        written: "accepted, 2 quads, 35 bytes\n",
+        reported: "",
+    },
+    Run {
+        action: Action::Check,
+        form: Form::NTriples,
+        document: "<a:> <b:> <c:>.\n<a> <b:> <c:>.",
+        status: 1,
+        written: "",
+        reported: "rdfconv: relative IRI at byte 16, line 2\n",
+    },
+    Run {
+        action: Action::Show,
+        form: Form::NQuads,
+        document: "<a:> \"é\" .\n?",
+        status: 1,
+        written: "0 4 iri\n5 3 string\n10 1 dot\n11 1 lineend\n",
+        reported: "rdfconv: no token at byte 12, line 2\n",
+    },
+    Run {
+        action: Action::Convert,
+        form: Form::NTriples,
+        document: "<a:> <b:> \"x\" .",
+        status: 0,
+        written: "<a:> <b:> \"x\" .\n",
+        reported: "",
+    },
+    Run {
+        action: Action::Convert,
+        form: Form::NQuads,
+        document: "<a:> <b:> _:x <g:>.",
+        status: 0,
+        written: "<a:> <b:> _:x <g:> .\n",
+        reported: "",
+    },
+    Run {
+        action: Action::Convert,
+        form: Form::NTriples,
+        document: "<a:> <b:> <c:> <g:> .",
+        status: 1,
+        written: "",
+        reported: "rdfconv: unexpected token at byte 15, line 1\n",
+    },
+    Run {
+        action: Action::Convert,
+        form: Form::NTriples,
+        document: "",
+        status: 0,
+        written: "",
+        reported: "",
+    },
+    Run {
+        action: Action::Convert,
+        form: Form::TriG,
+        document: "PREFIX : <a:> :g { :s :p [ :q ( 1 ) ] }",
+        status: 0,
+        written: "<a:s> <a:p> _:a25 <a:g> .\n_:a25 <a:q> _:c32 <a:g> .\n_:c32 <http://www.w3.org/1999/02/22-rdf-syntax-ns#first> \"1\"^^<http://www.w3.org/2001/XMLSchema#integer> <a:g> .\n_:c32 <http://www.w3.org/1999/02/22-rdf-syntax-ns#rest> <http://www.w3.org/1999/02/22-rdf-syntax-ns#nil> <a:g> .\n",
+        reported: "",
+    },
+    Run {
+        action: Action::Check,
+        form: Form::Turtle,
+        document: "e:s",
+        status: 1,
+        written: "",
+        reported: "rdfconv: unbound prefix at byte 0, line 1\n",
+    },
+];
+
+/// Limits of a token and of an IRI, and what comes of a run over `<a:> <b:> <c:> .` with them.
+pub(crate) struct Limited {
+    pub(crate) token: u64,
+    pub(crate) iri: u64,
+    pub(crate) status: u8,
+    pub(crate) written: &'static str,
+    pub(crate) reported: &'static str,
+}
+
+pub(crate) static LIMITED: [Limited; 3] = [
+    Limited {
+        token: 4,
+        iri: 2,
+        status: 0,
+        written: "<a:> <b:> <c:> .\n",
+        reported: "",
+    },
+    Limited {
+        token: 3,
+        iri: 2,
+        status: 1,
+        written: "",
+        reported: "rdfconv: token too long at byte 0, line 1\n",
+    },
+    Limited {
+        token: 4,
+        iri: 1,
+        status: 1,
+        written: "",
+        reported: "rdfconv: IRI too long at byte 0, line 1\n",
+    },
+];
+
+/// The fields of a task, with texts borrowed.
+#[derive(Clone, Copy)]
+pub(crate) struct Fields<'a> {
+    pub(crate) action: Action,
+    pub(crate) form: Form,
+    pub(crate) base: Option<&'a str>,
+    /// Those of a token, of open brackets, of bindings and of an IRI.
+    pub(crate) limits: [u64; 4],
+    pub(crate) escapes: Escapes,
+    pub(crate) node_prefix: Option<&'a str>,
+    pub(crate) prefixes: Option<&'a str>,
+    pub(crate) file: Option<&'a str>,
+}
+
+/// Words, and the task that they give.
+pub(crate) struct Asked {
+    /// The words, with a space between each two.
+    pub(crate) line: &'static str,
+    pub(crate) fields: Fields<'static>,
+}
+
+pub(crate) static TASKS: [Asked; 3] = [
+    Asked {
+        line: "rdfconv convert",
+        fields: Fields {
+            action: Action::Convert,
+            form: Form::TriG,
+            base: None,
+            limits: [16777216, 1024, 65536, 1048576],
+            escapes: Escapes::Plain,
+            node_prefix: None,
+            prefixes: None,
+            file: None,
+        },
+    },
+    Asked {
+        line: "rdfconv convert --iri 12 --format=nt --base http://a/b/c --token=1 --depth 0 data.nt --ascii --bindings 2 --prefixes ex.txt --node-prefix Ab1",
+        fields: Fields {
+            action: Action::Convert,
+            form: Form::NTriples,
+            base: Some("http://a/b/c"),
+            limits: [1, 0, 2, 12],
+            escapes: Escapes::Ascii,
+            node_prefix: Some("Ab1"),
+            prefixes: Some("ex.txt"),
+            file: Some("data.nt"),
+        },
+    },
+    Asked {
+        line: "rdfconv convert --iri=10 --base=http://a/b",
+        fields: Fields {
+            action: Action::Convert,
+            form: Form::TriG,
+            base: Some("http://a/b"),
+            limits: [16777216, 1024, 65536, 10],
+            escapes: Escapes::Plain,
+            node_prefix: None,
+            prefixes: None,
+            file: None,
+        },
+    },
+];
+
+/// The words that the program is started with, and what comes of it. Its standard input and its files are `INPUT` and `FILES`.
+pub(crate) struct Started {
+    /// The words, with a space between each two.
+    pub(crate) line: &'static str,
+    pub(crate) status: u8,
+    pub(crate) written: &'static str,
+    pub(crate) reported: &'static str,
+}
+
+pub(crate) const INPUT: &str = "<a:> <b:> _:input .";
+
+pub(crate) static FILES: [(&str, &str); 5] = [
+    ("data.nt", "<a:> <b:> \"file\" ."),
+    ("data.ttl", "ex:s ex:p ex:o ."),
+    ("accents.ttl", "<a:é> <b:> \"😀\" , _:é ."),
+    ("ex.txt", "ex: http://e/\n"),
+    ("bad.txt", "ex: http://e/\nex: e\n"),
+];
+
+pub(crate) static STARTED: [Started; 14] = [
+    Started {
+        line: "rdfconv convert --format nt data.nt",
+        status: 0,
+        written: "<a:> <b:> \"file\" .\n",
+        reported: "",
+    },
+    Started {
+        line: "rdfconv convert",
+        status: 0,
+        written: "<a:> <b:> _:ninput .\n",
+        reported: "",
+    },
+    Started {
+        line: "rdfconv show data.nt",
+        status: 0,
+        written: "0 4 iri\n5 4 iri\n10 6 string\n17 1 dot\n",
+        reported: "",
+    },
+    Started {
+        line: "rdfconv check --iri 1 data.nt",
+        status: 1,
+        written: "",
+        reported: "rdfconv: IRI too long at byte 0, line 1\n",
+    },
+    Started {
+        line: "rdfconv check no.nt",
+        status: 3,
+        written: "",
+        reported: "rdfconv: cannot open file\n",
+    },
+    Started {
+        line: "rdfconv convert --prefixes ex.txt data.ttl",
+        status: 0,
+        written: "<http://e/s> <http://e/p> <http://e/o> .\n",
+        reported: "",
+    },
+    Started {
+        line: "rdfconv check --prefixes=data.nt data.ttl",
+        status: 2,
+        written: "",
+        reported: "rdfconv: bad prefixes at line 1\n",
+    },
+    Started {
+        line: "rdfconv convert --format=nt --prefixes=bad.txt",
+        status: 2,
+        written: "",
+        reported: "rdfconv: bad prefixes at line 2\n",
+    },
+    Started {
+        line: "rdfconv convert --format=nt --prefixes=ex.txt",
+        status: 0,
+        written: "<a:> <b:> _:input .\n",
+        reported: "",
+    },
+    Started {
+        line: "rdfconv check --prefixes=no.txt",
+        status: 3,
+        written: "",
+        reported: "rdfconv: cannot open file\n",
+    },
+    Started {
+        line: "rdfconv check --prefixes=bad.txt no.nt",
+        status: 3,
+        written: "",
+        reported: "rdfconv: cannot open file\n",
+    },
+    Started {
+        line: "rdfconv convert --ascii accents.ttl",
+        status: 0,
+        written: "<a:\\u00E9> <b:> \"\\U0001F600\" .\n<a:\\u00E9> <b:> _:né .\n",
+        reported: "",
+    },
+    Started {
+        line: "rdfconv convert --node-prefix=x1 accents.ttl",
+        status: 0,
+        written: "<a:é> <b:> \"😀\" .\n<a:é> <b:> _:x1né .\n",
+        reported: "",
+    },
+    Started {
+        line: "rdfconv --help",
+        status: 0,
+        written: HELP,
+        reported: "",
+    },
+];
