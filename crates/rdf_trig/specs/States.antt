@@ -103,29 +103,24 @@ abbrev pub spelling_of : Spelling → M.Spelling
 spelling_of spelling.Dotted = M.Dotted
 spelling_of spelling.Sparql = M.Sparql
 
--- where the reader stands between statements, in a directive with this prefix, or before a block with this label, in the machine's words
-abbrev pub outer_of : Outer → List ℕ → M.Topic → M.Mode
-outer_of outer.Start p g = M.Start
-outer_of (outer.Inside b) p g = M.Inside
-outer_of outer.Over p g = M.Over
-outer_of (outer.WantPrefix w) p g = M.WantPrefix (spelling_of w)
-outer_of (outer.WantPrefixIri w) p g = M.WantPrefixIri (spelling_of w) p
-outer_of (outer.WantBaseIri w) p g = M.WantBaseIri (spelling_of w)
-outer_of outer.WantDot p g = M.WantDot
-outer_of outer.GraphWord p g = M.GraphWord
-outer_of (outer.GraphBracket n) p g = M.GraphBracket n
-outer_of outer.WantBrace p g = M.WantBrace g.term
+-- where the reader stands between statements, after a `[` at this offset, in a directive with this prefix, or before a block with this label, in the
+-- machine's words
+abbrev pub outer_of : Outer → ℕ → List ℕ → M.Topic → M.Mode
+outer_of outer.Start n p g = M.Start
+outer_of (outer.Inside b) n p g = M.Inside
+outer_of outer.Over n p g = M.Over
+outer_of (outer.WantPrefix w) n p g = M.WantPrefix (spelling_of w)
+outer_of (outer.WantPrefixIri w) n p g = M.WantPrefixIri (spelling_of w) p
+outer_of (outer.WantBaseIri w) n p g = M.WantBaseIri (spelling_of w)
+outer_of outer.WantDot n p g = M.WantDot
+outer_of outer.GraphWord n p g = M.GraphWord
+outer_of outer.GraphBracket n p g = M.GraphBracket n
+outer_of outer.WantBrace n p g = M.WantBrace g.term
 
 -- the graph of the block whose statements come next; none outside of a block, and in one of the default graph
 abbrev pub outer_graph : Outer → M.Topic → Option term.Subject
 outer_graph (outer.Inside b) g = block_graph b g
 outer_graph o g = None
-
--- the offset of the `[` that has just come, 0 where none has
-abbrev pub bracket_of : Mode → ℕ
-bracket_of (mode.PropertyListStart n) = n
-bracket_of (mode.Outer (outer.GraphBracket n)) = n
-bracket_of m = 0
 
 -- the first and the present cell of a collection, 0 where there is none
 abbrev pub first_of : Container → ℕ
@@ -159,15 +154,15 @@ around_in r a = around_of a (level_of r.level) (up_in r)
 abbrev pub text_in : {A : Type 0} → State A → List ℕ
 text_in r = chars (string_bytes r.text)
 
--- the mode of the machine that a mode of the reader is, with the texts and frames of a state
+-- the mode of the machine that a mode of the reader is, with the bracket, texts and frames of a state
 abbrev pub mode_at : {A : Type 0} → DocForm → State A → Mode → M.Mode
-mode_at form r (mode.Outer o) = outer_of o (text_in r) r.graph
+mode_at form r (mode.Outer o) = outer_of o r.bracket (text_in r) r.graph
 mode_at form r mode.AfterSubject = M.after_subject form (level_of r.level) r.frame.subject
 mode_at form r mode.Want = M.Want (place_in r)
 mode_at form r mode.After = M.After (place_in r)
 mode_at form r mode.AfterText = M.AfterText (text_in r) (place_in r)
 mode_at form r mode.WantType = M.WantType (text_in r) (place_in r)
-mode_at form r (mode.PropertyListStart n) = M.PropertyListStart n (up_in r)
+mode_at form r mode.PropertyListStart = M.PropertyListStart r.bracket (up_in r)
 mode_at form r mode.CollectionStart = M.CollectionStart (up_in r)
 mode_at form r mode.WantVerb = M.WantVerb r.frame.subject (M.Statement (level_of r.level))
 mode_at form r mode.AfterSemicolon = after_semicolon_at (place_in r)

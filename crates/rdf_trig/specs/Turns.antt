@@ -32,7 +32,7 @@ use Rattle.rdf_trig.specs.Names.{prefix_of}
 use Rattle.rdf_trig.specs.Quads.{Setting, named, node, resource, anon_at, labelled, short_value, long_value, tag_of, tagged_literal, typed_literal, cell_at, rest_quad}
 use Rattle.rdf_trig.specs.Machine as M
 use Rattle.rdf_trig.specs.Machine.{Reply, No, Go, nil, quad_at}
-use Rattle.rdf_trig.specs.States.{level_of, graph_of, outer_of, outer_graph, spelling_of, bracket_of, first_of, cell_of, after_semicolon_at, up_in, place_in, around_in, text_in, mode_at, graph_at, setting, setting_in, rest_of}
+use Rattle.rdf_trig.specs.States.{level_of, graph_of, outer_of, outer_graph, spelling_of, first_of, cell_of, after_semicolon_at, up_in, place_in, around_in, text_in, mode_at, graph_at, setting, setting_in, rest_of}
 use Rattle.rdf_trig.specs.States.{name_at, use_at, use_in, scope_in, IsNamed, IsNamedIn, NameIn, moved}
 use Rattle.rdf_trig.specs.Spelled.{SpellsTag}
 use Rattle.rdf_trig.specs.Holding.{text_bytes, level_bytes, outer_bytes, TextFits, NameFits, FrameFits, OpenFits, Fits, Closes, frames_most}
@@ -63,17 +63,17 @@ begun c u i p early object.Collection l = Go u early None c (M.CollectionStart (
 
 -- the reply that is a turn of a state: in the scope after the token, with what the token stands for
 abbrev pub turned : {A : Type 0} → DocForm → State A → InForce → Use → Option (List ℕ) → Turn → Leaf → Reply
-turned form r s u i (turn.Lead o) l = Go u None None (setting s (outer_graph o r.graph)) (outer_of o (text_in r) r.graph)
+turned form r s u i (turn.Lead o) l = Go u None None (setting s (outer_graph o r.graph)) (outer_of o r.bracket (text_in r) r.graph)
 turned form r s u i (turn.Prefix w) l = Go u None None (setting s None) (M.WantPrefixIri (spelling_of w) (prefix_of l))
 turned form r s u i turn.GraphName l = Go u None None (setting s None) (M.WantBrace (named i))
 turned form r s u i turn.GraphLabel l = Go u None None (setting s None) (M.WantBrace (node (labelled l)))
 turned form r s u i turn.GraphBracket l = Go u None None (setting s None) (M.GraphBracket l.at.offset)
-turned form r s u i turn.GraphNode l = Go u None None (setting s None) (M.WantBrace (node (Anon (bracket_of r.mode))))
+turned form r s u i turn.GraphNode l = Go u None None (setting s None) (M.WantBrace (node (Anon r.bracket)))
 turned form r s u i turn.SubjectBlock l = Go u None None (setting s r.frame.subject.term) M.Inside
 turned form r s u i (turn.Subject v b) l = Go u None None (setting s (graph_of v r.graph)) (subject_mode form (level_of v) b i l)
 turned form r s u i (turn.Verb a v) l = Go u None None (setting_in s r) (M.Want (M.Listed r.frame.subject (verb_by v i) (around_in r a)))
 turned form r s u i (turn.FirstVerb v) l =
-    Go u None None (setting_in s r) (M.Want (M.Listed (M.sized (node (Anon (bracket_of r.mode)))) (verb_by v i) (M.InPropertyList (up_in r))))
+    Go u None None (setting_in s r) (M.Want (M.Listed (M.sized (node (Anon r.bracket))) (verb_by v i) (M.InPropertyList (up_in r))))
 turned form r s u i (turn.Object b) l = begun (setting_in s r) u i (place_in r) None b l
 turned form r s u i (turn.FirstItem b) l = begun (setting_in s r) u i (M.InCollection l.at.offset l.at.offset (up_in r)) None b l
 turned form r s u i (turn.NextItem b) l =
@@ -86,7 +86,7 @@ turned form r s u i turn.Tag l =
     let c = setting_in s r in Go u None (quad_at c (place_in r) (tagged_literal (text_in r) (tag_of l))) c (M.After (place_in r))
 turned form r s u i turn.DatatypeMark l = Go u None None (setting_in s r) (M.WantType (text_in r) (place_in r))
 turned form r s u i turn.Datatype l = let c = setting_in s r in Go u None (quad_at c (place_in r) (typed_literal (text_in r) i)) c (M.After (place_in r))
-turned form r s u i turn.EndNode l = Go u None None (setting_in s r) (M.node_closed form (up_in r) (M.sized (node (Anon (bracket_of r.mode)))))
+turned form r s u i turn.EndNode l = Go u None None (setting_in s r) (M.node_closed form (up_in r) (M.sized (node (Anon r.bracket))))
 turned form r s u i turn.EndPropertyList l = Go u None None (setting_in s r) (M.property_list_closed (up_in r) r.frame.subject)
 turned form r s u i turn.EmptyCollection l = Go u None None (setting_in s r) (M.collection_closed (up_in r) (M.unsized (Some nil)))
 turned form r s u i turn.EndCollection l =
@@ -241,7 +241,7 @@ IsOuterStart form k x =
     (s : InForce) (l : Leaf) →
     let reply = M.start form (setting s None) k l in
     MatchOption x (reply ≡ M.subject_start form (setting s None) M.Top k l)
-    (λ o. (p : List ℕ) (g : M.Topic) → reply ≡ Go (use_at s k l) None None (setting s (outer_graph o g)) (outer_of o p g))
+    (λ o. (n : ℕ) (p : List ℕ) (g : M.Topic) → reply ≡ Go (use_at s k l) None None (setting s (outer_graph o g)) (outer_of o n p g))
 
 -- tokens of the kind suit the turn, whether an IRI comes with them or not
 abbrev pub SuitsAny : Kind → Turn → Type 0

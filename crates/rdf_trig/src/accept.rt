@@ -73,6 +73,7 @@ impl<A: Allocator + Copy> State<A> {
             datatype: Name::new(alloc),
             tag: TagText::new(alloc),
             name: Name::new(alloc),
+            bracket: 0,
             depth: 0,
         }
     }

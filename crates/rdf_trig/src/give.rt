@@ -144,7 +144,7 @@ fn object_quad<'a, A: Allocator>(
 {
     match state.mode {
         Mode::After => Some(quad_at(&state.frame, object, graph)),
-        Mode::PropertyListStart(_) => quad_up(&state.frames, object, graph),
+        Mode::PropertyListStart => quad_up(&state.frames, object, graph),
         _ => None,
     }
 }

@@ -36,7 +36,7 @@ impl<A: Allocator> State<A> {
                 .len(),
             Mode::Want
             | Mode::After
-            | Mode::PropertyListStart(_)
+            | Mode::PropertyListStart
             | Mode::CollectionStart
             | Mode::AfterSemicolon => 0,
         }

@@ -39,7 +39,7 @@ impl<A: Allocator + Copy> State<A> {
         ensures stack { FramesTaken self.old (Turn.FirstVerb verb) self.new }
         ensures fits { TurnFits self.old (Turn.FirstVerb verb) self.new }
     {
-        self.frame.subject.set_anon(self.mode.bracket());
+        self.frame.subject.set_anon(self.bracket);
         self.verb(Around::PropertyList, verb);
     }
 

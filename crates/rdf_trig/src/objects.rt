@@ -61,7 +61,8 @@ impl<A: Allocator + Copy> State<A> {
                 self.open()?;
                 self.object.set_anon(token.offset);
                 self.hold(rest, Held::Resource);
-                self.mode = Mode::PropertyListStart(token.offset);
+                self.mode = Mode::PropertyListStart;
+                self.bracket = token.offset;
             }
             ObjectStart::Collection => {
                 self.open()?;

@@ -73,6 +73,17 @@ impl<A: Allocator + Copy> State<A> {
         Ok(())
     }
 
+    // The `[` after GRAPH.
+    pub fn take_bracket(&mut self, token: &Token<'_>)
+        ensures takes { Takes self.old Turn.GraphBracket (leaf token.now) self.new }
+        ensures depth { self.new.depth ≡ self.old.depth }
+        ensures stack { FramesTaken self.old Turn.GraphBracket self.new }
+        ensures fits { TurnFits self.old Turn.GraphBracket self.new }
+    {
+        self.bracket = token.offset;
+        self.lead(Outer::GraphBracket);
+    }
+
     // The `]` after GRAPH and `[`. No frame is open there.
     pub fn graph_node(&mut self)
         ensures takes { (l : Leaf) → Takes self.old Turn.GraphNode l self.new }
@@ -80,7 +91,7 @@ impl<A: Allocator + Copy> State<A> {
         ensures stack { FramesTaken self.old Turn.GraphNode self.new }
         ensures fits { TurnFits self.old Turn.GraphNode self.new }
     {
-        self.graph.set_anon(self.mode.bracket());
+        self.graph.set_anon(self.bracket);
         self.frames.clear();
         self.lead(Outer::WantBrace);
     }

@@ -1,7 +1,7 @@
 // Where the reader stands: what has been read, as far as it matters for what may come.
 
 ghost use Rattle.std.specs.Prelude.{◌≡◌};
-ghost use Rattle.rdf_trig.specs.States.{bracket_of, first_of, cell_of};
+ghost use Rattle.rdf_trig.specs.States.{first_of, cell_of};
 
 use crate::names::Name;
 use crate::rest::Rest;
@@ -79,7 +79,7 @@ pub enum Outer {
     WantDot,
     /// After GRAPH, after its `[`, and after its label.
     GraphWord,
-    GraphBracket(u64),
+    GraphBracket,
     WantBrace,
 }
 
@@ -96,7 +96,7 @@ pub enum Mode {
     AfterText,
     WantType,
     /// After `[` and after `(`.
-    PropertyListStart(u64),
+    PropertyListStart,
     CollectionStart,
     /// A verb has to come; after `;` one may; after a property list that is a subject.
     WantVerb,
@@ -149,6 +149,8 @@ pub struct State<A: Allocator = Global> {
     pub tag: TagText<A>,
     /// The IRI that the last token stands for.
     pub name: Name<A>,
+    /// The offset of the `[` that has just come.
+    pub bracket: u64,
     /// How many `[` and `(` are open.
     pub depth: u64,
 }
@@ -182,20 +184,6 @@ impl Container {
         match self {
             Container::Cells { first, cell } => (first, cell),
             Container::List(_) => (0, 0),
-        }
-    }
-}
-
-impl Mode {
-    /// The offset of the `[` that has just come, 0 where none has.
-    #[inline(always)]
-    pub fn bracket(self) -> u64
-        ensures { result ≡ bracket_of self }
-    {
-        match self {
-            Mode::PropertyListStart(node) => node,
-            Mode::Outer(Outer::GraphBracket(node)) => node,
-            _ => 0,
         }
     }
 }

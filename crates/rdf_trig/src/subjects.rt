@@ -43,7 +43,10 @@ impl<A: Allocator + Copy> State<A> {
                 self.frame.subject.set_label(label_of(token.text))?;
                 self.stand(Mode::AfterSubject);
             }
-            SubjectStart::Brackets => self.stand(Mode::PropertyListStart(token.offset)),
+            SubjectStart::Brackets => {
+                self.bracket = token.offset;
+                self.stand(Mode::PropertyListStart);
+            }
             SubjectStart::Collection => self.stand(Mode::CollectionStart),
         }
         Ok(())
@@ -67,7 +70,7 @@ impl<A: Allocator + Copy> State<A> {
         ensures stack { FramesTaken self.old Turn.EndNode self.new }
         ensures fits { TurnFits self.old Turn.EndNode self.new }
     {
-        self.frame.subject.set_anon(self.mode.bracket());
+        self.frame.subject.set_anon(self.bracket);
         let mode = self.node_closed();
         self.stand(mode);
     }

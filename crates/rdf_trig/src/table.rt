@@ -31,7 +31,7 @@ impl<A: Allocator> State<A> {
             Mode::After => self.after_object(kind),
             Mode::AfterText => self.after_text(kind),
             Mode::WantType => self.want_type(kind),
-            Mode::PropertyListStart(_) => self.property_list_start(kind),
+            Mode::PropertyListStart => self.property_list_start(kind),
             Mode::CollectionStart => self.collection_start(kind),
             Mode::WantVerb => self.want_verb(Around::Statement, kind),
             Mode::AfterSemicolon => self.after_semicolon(kind),

@@ -6,7 +6,7 @@ ghost use Rattle.rdf_trig.specs.Turns.{Suits, Takes, TakesFit, FramesTaken};
 
 use crate::fault::StepFault;
 use crate::rest::Rest;
-use crate::state::{Held, Mode, Outer, State};
+use crate::state::{Held, Mode, State};
 use crate::turn::Turn;
 use rdf_tokens::Token;
 use std::alloc::Allocator;
@@ -28,7 +28,7 @@ impl<A: Allocator + Copy> State<A> {
             Turn::Prefix(spelling) => self.take_prefix(spelling, token)?,
             Turn::GraphName => self.graph_name(),
             Turn::GraphLabel => self.graph_label(token)?,
-            Turn::GraphBracket => self.lead(Outer::GraphBracket(token.offset)),
+            Turn::GraphBracket => self.take_bracket(token),
             Turn::GraphNode => self.graph_node(),
             Turn::SubjectBlock => self.subject_block(),
             Turn::Subject(level, start) => self.subject(level, start, token)?,

@@ -111,12 +111,12 @@ mode_ordinary form n mode.AfterSemicolon h = semicolon_ordinary (place_in n)
 mode_ordinary form n m h = tt
 
 -- outside of statements only the three modes that wait for a directive's parts are not ordinary
-outer_ordinary : (o : Outer) (p : List ℕ) (g : M.Topic) → ((w : Spelling) → o ≡ outer.WantPrefix w → ⊥) →
-    ((w : Spelling) → o ≡ outer.WantPrefixIri w → ⊥) → ((w : Spelling) → o ≡ outer.WantBaseIri w → ⊥) → Ordinary (outer_of o p g)
-outer_ordinary (outer.WantPrefix w) p g a b c = absurd (a w refl)
-outer_ordinary (outer.WantPrefixIri w) p g a b c = absurd (b w refl)
-outer_ordinary (outer.WantBaseIri w) p g a b c = absurd (c w refl)
-outer_ordinary o p g a b c = tt
+outer_ordinary : (o : Outer) (n : ℕ) (p : List ℕ) (g : M.Topic) → ((w : Spelling) → o ≡ outer.WantPrefix w → ⊥) →
+    ((w : Spelling) → o ≡ outer.WantPrefixIri w → ⊥) → ((w : Spelling) → o ≡ outer.WantBaseIri w → ⊥) → Ordinary (outer_of o n p g)
+outer_ordinary (outer.WantPrefix w) n p g a b c = absurd (a w refl)
+outer_ordinary (outer.WantPrefixIri w) n p g a b c = absurd (b w refl)
+outer_ordinary (outer.WantBaseIri w) n p g a b c = absurd (c w refl)
+outer_ordinary o n p g a b c = tt
 
 -- in a statement, whatever frames are open, a look-up that succeeds is the machine's
 pub mode_looks : {A T : Type 0} (n : State A) (m : Mode) (t : InForce) (k : Kind) (l : Leaf) (i : Option (List ℕ)) (r : Result T StepFault) →
@@ -138,7 +138,7 @@ pub outer_looks : {A T : Type 0} (n : State A) (o : Outer) (t : InForce) (k : Ki
     ((w : Spelling) → o ≡ outer.WantBaseIri w → ⊥) →
     OnOk r (Names t k l i) → OnOk r ((form : DocForm) (s : InForce) → SameScope s t → LooksUp s (mode_at form n (mode.Outer o)) k l i t)
 outer_looks n o t k l i (Ok x) a b c h =
-    λ form s e. looks_ordinary s t (outer_of o (text_in n) n.graph) k l i (outer_ordinary o (text_in n) n.graph a b c) e h
+    λ form s e. looks_ordinary s t (outer_of o n.bracket (text_in n) n.graph) k l i (outer_ordinary o n.bracket (text_in n) n.graph a b c) e h
 outer_looks n o t k l i (Err r) a b c h = tt
 
 -- outside of statements and of directives a look-up that fails is the machine's
@@ -148,7 +148,7 @@ pub outer_none : {A T : Type 0} (n : State A) (o : Outer) (t : InForce) (k : Kin
     IfErr r (λ f. Unnamed t k l f) → IfErr r (λ f. (form : DocForm) (s : InForce) → SameScope s t → LooksUpNone s (mode_at form n (mode.Outer o)) k l f)
 outer_none n o t k l (Ok x) a b c h = tt
 outer_none n o t k l (Err r) a b c h =
-    λ form s e. none_ordinary s t (outer_of o (text_in n) n.graph) k l r (outer_ordinary o (text_in n) n.graph a b c) e h
+    λ form s e. none_ordinary s t (outer_of o n.bracket (text_in n) n.graph) k l r (outer_ordinary o n.bracket (text_in n) n.graph a b c) e h
 
 -- scopes that agree do so after both have taken a base
 based_same : (s t : InForce) (o : Option (List ℕ)) → SameScope s t → SameScope (with_base s o) (with_base t o)

@@ -37,17 +37,17 @@ up_within {A} v u (f ∷ fs) =
     subst (λ n. up_size (up_from v (M.At (place_of v f u)) fs) ≤ up_size u + n) (sym (sum_by-cons (frame_bytes {A = A}) f fs)) (omega (arith, here, below))
 
 -- outside of statements no predicate list is open
-outer_none : (o : Outer) (p : List ℕ) (g : M.Topic) → mode_size (outer_of o p g) ≡ 0
-outer_none outer.Start p g = refl
-outer_none (outer.Inside b) p g = refl
-outer_none outer.Over p g = refl
-outer_none (outer.WantPrefix w) p g = refl
-outer_none (outer.WantPrefixIri w) p g = refl
-outer_none (outer.WantBaseIri w) p g = refl
-outer_none outer.WantDot p g = refl
-outer_none outer.GraphWord p g = refl
-outer_none (outer.GraphBracket n) p g = refl
-outer_none outer.WantBrace p g = refl
+outer_none : (o : Outer) (n : ℕ) (p : List ℕ) (g : M.Topic) → mode_size (outer_of o n p g) ≡ 0
+outer_none outer.Start n p g = refl
+outer_none (outer.Inside b) n p g = refl
+outer_none outer.Over n p g = refl
+outer_none (outer.WantPrefix w) n p g = refl
+outer_none (outer.WantPrefixIri w) n p g = refl
+outer_none (outer.WantBaseIri w) n p g = refl
+outer_none outer.WantDot n p g = refl
+outer_none outer.GraphWord n p g = refl
+outer_none outer.GraphBracket n p g = refl
+outer_none outer.WantBrace n p g = refl
 
 -- nor before a subject's verb
 subject_none : (form : DocForm) (v : M.Level) (s : M.Topic) → mode_size (M.after_subject form v s) ≡ 0
@@ -64,14 +64,14 @@ semicolon_within v (container.Cells first cell) s p u = omega arith
 
 -- in each mode at most the frame in hand is counted with those below it
 mode_within : {A : Type 0} (form : DocForm) (r : State A) (m : Mode) → mode_size (mode_at form r m) ≤ up_size (up_in r) + frame_bytes r.frame
-mode_within form r (mode.Outer o) = let z = outer_none o (text_in r) r.graph in omega (arith, z)
+mode_within form r (mode.Outer o) = let z = outer_none o r.bracket (text_in r) r.graph in omega (arith, z)
 mode_within form r mode.AfterSubject =
     let z = subject_none form (level_of r.level) r.frame.subject in subst (λ n. n ≤ up_size (up_in r) + frame_bytes r.frame) (sym z) (omega arith)
 mode_within form r mode.Want = place_within (level_of r.level) r.frame (up_in r)
 mode_within form r mode.After = place_within (level_of r.level) r.frame (up_in r)
 mode_within form r mode.AfterText = place_within (level_of r.level) r.frame (up_in r)
 mode_within form r mode.WantType = place_within (level_of r.level) r.frame (up_in r)
-mode_within form r (mode.PropertyListStart n) = omega arith
+mode_within form r mode.PropertyListStart = omega arith
 mode_within form r mode.CollectionStart = omega arith
 mode_within form r mode.WantVerb = omega arith
 mode_within form r mode.AfterSemicolon = semicolon_within (level_of r.level) r.frame.container r.frame.subject r.frame.verb (up_in r)

@@ -108,7 +108,7 @@ settled form c n (mode.Outer (outer.WantPrefixIri w)) k l h = refl
 settled form c n (mode.Outer (outer.WantBaseIri w)) k l h = refl
 settled form c n (mode.Outer outer.WantDot) k l h = refl
 settled form c n (mode.Outer outer.GraphWord) k l h = refl
-settled form c n (mode.Outer (outer.GraphBracket x)) k l h = refl
+settled form c n (mode.Outer outer.GraphBracket) k l h = refl
 settled form c n (mode.Outer outer.WantBrace) k l h = refl
 settled form c n mode.AfterSubject k l h = subject form (level_of n.level)
   where
@@ -120,7 +120,7 @@ settled form c n mode.Want k l h = refl
 settled form c n mode.After k l h = refl
 settled form c n mode.AfterText k l h = absurd h
 settled form c n mode.WantType k l h = refl
-settled form c n (mode.PropertyListStart x) k l h = refl
+settled form c n mode.PropertyListStart k l h = refl
 settled form c n mode.CollectionStart k l h = absurd h
 settled form c n mode.WantVerb k l h = refl
 settled form c n mode.AfterSemicolon k l h = after_semicolon (place_in n)

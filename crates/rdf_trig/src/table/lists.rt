@@ -3,7 +3,7 @@
 ghost use Rattle.std.specs.Prelude.{◌≡◌, ℕ, ◌≤◌, List, None, Option, IfSome};
 ghost use Rattle.rdf_trig.specs.Machine as M;
 ghost use Rattle.rdf_trig.specs.States.{IsNamed, setting, graph_of, level_of, outer_graph, outer_of, mode_at};
-ghost use Rattle.rdf_trig.specs.States.{setting_in, place_in, up_in, around_in, bracket_of, after_semicolon_at, mode_after_dot};
+ghost use Rattle.rdf_trig.specs.States.{setting_in, place_in, up_in, around_in, after_semicolon_at, mode_after_dot};
 ghost use Rattle.rdf_trig.specs.Holding.{outer_bytes, level_bytes, OpenFits, frames_most};
 ghost use Rattle.rdf_trig.specs.Turns.{IsVerb, SuitsVerb};
 ghost use Rattle.rdf_trig.specs.Turns.{Means, MeansHere, MeansVerb, IsSuited, KeepsFrames, IsWithin};
@@ -63,7 +63,7 @@ impl<A: Allocator> State<A> {
     #[tactic(auto, using(crate::proofs::machine::Fallbacks::fallbacks))]
     #[inline(always)]
     pub fn property_list_start(&self, kind: Kind) -> Option<Turn>
-        ensures means { (form : DocForm) → Means form self.now kind result (λ s. M.property_list_start form (setting_in s self.now) (bracket_of self.now.mode) (up_in self.now) kind) }
+        ensures means { (form : DocForm) → Means form self.now kind result (λ s. M.property_list_start form (setting_in s self.now) self.now.bracket (up_in self.now) kind) }
         ensures suits { IfSome result (IsSuited kind) }
         ensures frames { IfSome result (KeepsFrames kind) }
         ensures fits { (n : ℕ) → OpenFits n self.now → IfSome result (IsWithin n self.now) }
@@ -171,7 +171,7 @@ impl<A: Allocator> State<A> {
 #[inline(always)]
 fn after_dot(level: Level) -> Outer
     ensures graph { (g : M.Topic) → outer_graph result g ≡ graph_of level g }
-    ensures mode { (p : List ℕ) (g : M.Topic) → outer_of result p g ≡ mode_after_dot (level_of level) }
+    ensures mode { (n : ℕ) (p : List ℕ) (g : M.Topic) → outer_of result n p g ≡ mode_after_dot (level_of level) }
     ensures bytes { (p : ℕ) (g : M.Topic) → outer_bytes result p g ≡ level_bytes level g }
 {
     match level {

@@ -2,7 +2,7 @@
 
 ghost use Rattle.std.specs.Prelude.{◌≡◌, ℕ, ◌≤◌, List, None, Option, IfSome};
 ghost use Rattle.rdf_trig.specs.Machine as M;
-ghost use Rattle.rdf_trig.specs.States.{IsNamed, setting, block_graph, outer_graph, outer_of, spelling_of, bracket_of};
+ghost use Rattle.rdf_trig.specs.States.{IsNamed, setting, block_graph, outer_graph, outer_of, spelling_of};
 ghost use Rattle.rdf_trig.specs.Holding.{text_bytes, block_bytes, outer_bytes, level_bytes, OpenFits, IsTextless, frames_most};
 ghost use Rattle.rdf_trig.specs.Turns.{BeginsSubject, SuitsSubject, IsOuterStart};
 ghost use Rattle.rdf_trig.specs.Turns.{Decides, Means, MeansSubject, IsSuited, SuitsAny, SuitsIn, KeepsFrames, IsWithin};
@@ -33,7 +33,7 @@ impl<A: Allocator> State<A> {
             Outer::WantBaseIri(spelling) => self.want_iri(spelling, kind),
             Outer::WantDot => self.want_dot(kind),
             Outer::GraphWord => self.graph_word(kind),
-            Outer::GraphBracket(_) => self.graph_bracket(kind),
+            Outer::GraphBracket => self.graph_bracket(kind),
             Outer::WantBrace => self.want_brace(kind),
         }
     }
@@ -133,7 +133,7 @@ impl<A: Allocator> State<A> {
 
     #[inline(always)]
     fn graph_bracket(&self, kind: Kind) -> Option<Turn>
-        ensures means { (form : DocForm) → Means form self.now kind result (λ s. M.graph_bracket (setting s None) (bracket_of self.now.mode) kind) }
+        ensures means { (form : DocForm) → Means form self.now kind result (λ s. M.graph_bracket (setting s None) self.now.bracket kind) }
         ensures suits { IfSome result (IsSuited kind) }
         ensures frames { IfSome result (KeepsFrames kind) }
         ensures fits { (n : ℕ) → OpenFits n self.now → IfSome result (IsWithin n self.now) }
@@ -182,7 +182,7 @@ fn outer_start(form: DocForm, kind: Kind) -> Option<Outer>
 
 #[inline(always)]
 fn directive_end(spelling: Spelling) -> Outer
-    ensures mode { (p : List ℕ) (g : M.Topic) → outer_of result p g ≡ M.directive_end (spelling_of spelling) }
+    ensures mode { (n : ℕ) (p : List ℕ) (g : M.Topic) → outer_of result n p g ≡ M.directive_end (spelling_of spelling) }
     ensures graph { (g : M.Topic) → outer_graph result g ≡ None }
     ensures fits { IsTextless result }
 {

@@ -1,6 +1,4 @@
-use Rattle.std.proofs.Common.{◌≡◌, ◌∙◌, None, ap, subst}
-use Rattle.rdf_terms.specs.Terms.{Anon}
-use Rattle.rdf_trig.specs.Quads.{node}
+use Rattle.std.proofs.Common.{◌≡◌, None, subst}
 use Rattle.rdf_trig.specs.Machine as M
 use Rattle.rdf_trig.specs.Machine.{Go}
 use Rattle.rdf_trig.specs.States.{setting_in, up_in, moved}
@@ -11,4 +9,4 @@ pub returns-clause-takes : goal.returns-clause-takes
 returns-clause-takes g c = λ l form s u.
     let self = c.args.self.now in
     subst (λ x. Go u None None (setting_in s self) (M.Want (M.Listed x (verb_by c.args.verb self.name) (M.InPropertyList (up_in self)))) ≡ moved form s u c.verb.new.self)
-    (c.set_anon.ensures ∙ ap (λ n. M.sized (node (Anon n))) c.bracket.ensures) (c.verb.ensures.takes l form s u)
+    c.set_anon.ensures (c.verb.ensures.takes l form s u)

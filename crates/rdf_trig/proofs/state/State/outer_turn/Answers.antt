@@ -1,9 +1,4 @@
 -- A token in each mode outside of statements.
-use Rattle.std.proofs.Common.{◌∙◌, None, ap, sym}
-use Rattle.rdf_trig.specs.declared.state.Mode.TheVariants as mode
-use Rattle.rdf_trig.specs.Machine as M
-use Rattle.rdf_trig.specs.States.{bracket_of, setting}
-use Rattle.rdf_trig.proofs.code.TurnsLemmas.{means_at}
 use Rattle.rdf_trig.proofs.state.State.outer_turn.Goals as goal
 
 pub returns-in-Start-clause-means : goal.returns-in-Start-clause-means
@@ -19,11 +14,7 @@ pub returns-in-GraphWord-clause-means : goal.returns-in-GraphWord-clause-means
 returns-in-GraphWord-clause-means g c = rw c.in-GraphWord.is (c.graph_word.ensures.means c.args.form)
 
 pub returns-in-GraphBracket-clause-means : goal.returns-in-GraphBracket-clause-means
-returns-in-GraphBracket-clause-means g c =
-    let form = c.args.form in
-    rw c.in-GraphBracket.is (means_at form c.args.self.now c.args.kind c.graph_bracket.result _ _
-    (λ s l. ap (λ m. M.graph_bracket (setting s None) (bracket_of m) c.args.kind l) (sym (c.requires.mode ∙ ap mode.Outer c.in-GraphBracket.is)))
-    (c.graph_bracket.ensures.means form))
+returns-in-GraphBracket-clause-means g c = rw c.in-GraphBracket.is (c.graph_bracket.ensures.means c.args.form)
 
 pub returns-in-WantBrace-clause-means : goal.returns-in-WantBrace-clause-means
 returns-in-WantBrace-clause-means g c = rw c.in-WantBrace.is (c.want_brace.ensures.means c.args.form)

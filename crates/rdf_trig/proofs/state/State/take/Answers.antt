@@ -38,7 +38,7 @@ pub returns-in-EndCollection-clause-takes : goal.returns-in-EndCollection-clause
 returns-in-EndCollection-clause-takes g c = rw c.in-EndCollection.is (c.end_collection.ensures.takes (leaf c.args.token.now))
 
 pub returns-in-GraphBracket-clause-takes : goal.returns-in-GraphBracket-clause-takes
-returns-in-GraphBracket-clause-takes g c = rw c.in-GraphBracket.is (c.lead-in-GraphBracket.ensures.takes (leaf c.args.token.now))
+returns-in-GraphBracket-clause-takes g c = rw c.in-GraphBracket.is c.take_bracket.ensures.takes
 
 pub returns-in_ok-take_prefix-in-Prefix-clause-takes : goal.returns-in_ok-take_prefix-in-Prefix-clause-takes
 returns-in_ok-take_prefix-in-Prefix-clause-takes g c = rw c.in-Prefix.is c.in_ok-take_prefix-in-Prefix.ensures.takes

@@ -1,8 +1,6 @@
 -- A token in each mode, as it stands in the state.
-use Rattle.std.proofs.Common.{ap, sym}
-use Rattle.rdf_trig.specs.Machine as M
-use Rattle.rdf_trig.specs.States.{bracket_of, setting_in, up_in, place_in}
-use Rattle.rdf_trig.proofs.code.TurnsLemmas.{decides_at, means_at, subject_decides, subject_suits, semicolon_decides, semicolon_suits}
+use Rattle.rdf_trig.specs.States.{place_in}
+use Rattle.rdf_trig.proofs.code.TurnsLemmas.{decides_at, subject_decides, subject_suits, semicolon_decides, semicolon_suits}
 use Rattle.rdf_trig.proofs.state.State.turn.Goals as goal
 
 pub returns-in-Want-clause-means : goal.returns-in-Want-clause-means
@@ -18,12 +16,7 @@ pub returns-in-WantType-clause-means : goal.returns-in-WantType-clause-means
 returns-in-WantType-clause-means g c = decides_at c.args.form c.args.self.now c.args.kind c.want_type.result _ c.in-WantType.is (c.want_type.ensures.means c.args.form)
 
 pub returns-in-PropertyListStart-clause-means : goal.returns-in-PropertyListStart-clause-means
-returns-in-PropertyListStart-clause-means g c =
-    let self = c.args.self.now in
-    let form = c.args.form in
-    decides_at form self c.args.kind c.property_list_start.result _ c.in-PropertyListStart.is (means_at form self c.args.kind c.property_list_start.result _ _
-    (λ s l. ap (λ m. M.property_list_start form (setting_in s self) (bracket_of m) (up_in self) c.args.kind l) (sym c.in-PropertyListStart.is))
-    (c.property_list_start.ensures.means form))
+returns-in-PropertyListStart-clause-means g c = decides_at c.args.form c.args.self.now c.args.kind c.property_list_start.result _ c.in-PropertyListStart.is (c.property_list_start.ensures.means c.args.form)
 
 pub returns-in-CollectionStart-clause-means : goal.returns-in-CollectionStart-clause-means
 returns-in-CollectionStart-clause-means g c = decides_at c.args.form c.args.self.now c.args.kind c.collection_start.result _ c.in-CollectionStart.is (c.collection_start.ensures.means c.args.form)
