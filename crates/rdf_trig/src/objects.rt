@@ -23,6 +23,7 @@ use std::mem;
 impl<A: Allocator + Copy> State<A> {
     // An object begins.
     #[tactic(auto, using(crate::proofs::code::FrameStack::stack_steps))]
+    #[inline(always)]
     pub fn object(
         &mut self,
         rest: Rest,
