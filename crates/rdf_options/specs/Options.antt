@@ -1,9 +1,7 @@
 -- The program's command line, as `clap` defines one: its subcommands, their options, ranges and defaults.
-use Rattle.std.specs.Prelude.{◌≡◌, ◌∷◌, ℕ, true, false, [], Some, codes}
+use Rattle.std.specs.Prelude.{◌∷◌, ℕ, true, [], Some, codes}
 use Rattle.clap.specs.Words.{App, Rule, Text, new_app, new_rule, with_rule, with_subcommand}
-use Rattle.clap.specs.Simple.{app_of, on_top}
-use Rattle.clap.specs.declared.builder.command.Command.{Command}
-use Rattle.clap.specs.declared.builder.command.Command.TheViews.{out-Command}
+use Rattle.clap.specs.Simple.{on_top}
 use Rattle.clap.specs.declared.builder.action.ArgAction.TheVariants.{Set, SetTrue}
 use Rattle.clap.specs.declared.builder.value_parser.ValueParser.{ValueParser}
 use Rattle.clap.specs.declared.builder.value_parser.ValueParser.TheVariants.{Unsigned}
@@ -53,13 +51,11 @@ file_rule = record (new_rule (codes "file")) { action = Some Set; value_names = 
 abbrev pub prefixes_rule : Rule
 prefixes_rule = record (new_rule (codes "prefixes")) { long = Some (codes "prefixes"); action = Some Set; value_names = 1 }
 
--- a subcommand with an option for each limit
-abbrev pub with_limits : App → App
-with_limits a = with_rule (with_rule (with_rule (with_rule a token_rule) depth_rule) bindings_rule) iri_rule
-
 -- a subcommand with the options that all have, where the parser takes the names of the formats
 abbrev pub action_app : ValueParser → Text → App
-action_app names action = with_rule (with_limits (with_rule (with_rule (new_app action) (format_rule names)) base_rule)) file_rule
+action_app names action =
+    with_rule (with_rule (with_rule (with_rule (with_rule (with_rule (with_rule (new_app action)
+    (format_rule names)) base_rule) token_rule) depth_rule) bindings_rule) iri_rule) file_rule
 
 -- a subcommand that looks at prefixes
 abbrev pub with_prefixes : App → App
@@ -88,7 +84,3 @@ rdfconv names = with_subcommand (with_subcommand (with_subcommand
     (with_prefixes (action_app names (codes "check"))).top)
     (action_app names (codes "show")).top)
     (with_node_prefix (with_ascii (with_prefixes (action_app names (codes "convert"))))).top
-
--- the command has no global argument, and a parse reads this of it
-abbrev pub ReadsAs : Command → App → Type 0
-ReadsAs c a = ((out-Command c).has_globals ≡ false) × (app_of c ≡ a)

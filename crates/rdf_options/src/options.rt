@@ -1,9 +1,10 @@
 // The command line: its subcommands, their options, and what help says of them.
 
-ghost use Rattle.std.specs.Prelude.{◌≡◌, IfOk, codes, false};
-ghost use Rattle.clap.specs.Words.{App, app_of, rule_of, with_subcommand};
+ghost use Rattle.std.specs.Prelude.{◌≡◌, IfOk, codes};
+ghost use Rattle.clap.specs.Words.{App, app_of, with_subcommand};
 ghost use Rattle.clap.specs.declared.builder.value_parser.ValueParser.TheVariants.{Names};
-ghost use Rattle.rdf_options.specs.Options.{ReadsAs, action_app, ascii_rule, base_rule, bindings_rule, depth_rule, file_rule, format_rule, iri_rule, limit_rule, node_prefix_rule, prefixes_rule, rdfconv, token_rule, with_ascii, with_limits, with_node_prefix, with_prefixes};
+ghost use Rattle.rdf_options.specs.Building.{HasRule, ReadsAs};
+ghost use Rattle.rdf_options.specs.Options.{action_app, ascii_rule, base_rule, bindings_rule, depth_rule, file_rule, format_rule, iri_rule, limit_rule, node_prefix_rule, prefixes_rule, rdfconv, token_rule, with_ascii, with_node_prefix, with_prefixes};
 
 use clap::builder::ValueParser;
 use clap::{Arg, ArgAction, Command};
@@ -123,28 +124,23 @@ fn action_command<'a>(
 ) -> Result<Command<'a>, AllocError>
     ensures { IfOk result (λ c. ReadsAs c (action_app (Names formats.entry) name.now)) }
 {
-    let command = Command::new(alloc, name)
+    let arguments = vec![in alloc;
+        format_option(alloc, formats),
+        base_option(alloc),
+        token_option(alloc),
+        depth_option(alloc),
+        bindings_option(alloc),
+        iri_option(alloc),
+        file_argument(alloc),
+    ]?;
+    Command::new(alloc, name)
         .about(about)
-        .after_help(COMMAND_NOTES);
-    let command = command.arg(format_option(alloc, formats))?;
-    let command = command.arg(base_option(alloc))?;
-    let command = add_limits(alloc, command)?;
-    command.arg(file_argument(alloc))
-}
-
-// The command with an option for each limit.
-fn add_limits<'a>(alloc: Global, command: Command<'a>) -> Result<Command<'a>, AllocError>
-    ensures { (a : App) → ReadsAs command.entry a → IfOk result (λ c. ReadsAs c (with_limits a)) }
-{
-    let command = command.arg(token_option(alloc))?;
-    let command = command.arg(depth_option(alloc))?;
-    let command = command.arg(bindings_option(alloc))?;
-    command.arg(iri_option(alloc))
+        .after_help(COMMAND_NOTES)
+        .args(arguments)
 }
 
 fn format_option<'a>(alloc: Global, formats: &'a [&'a str]) -> Arg<'a>
-    ensures rule { rule_of result ≡ format_rule (Names formats.entry) }
-    ensures local { result.global ≡ false }
+    ensures { HasRule result (format_rule (Names formats.entry)) }
 {
     Arg::new(alloc, "format")
         .long("format")
@@ -156,8 +152,7 @@ fn format_option<'a>(alloc: Global, formats: &'a [&'a str]) -> Arg<'a>
 }
 
 fn base_option<'a>(alloc: Global) -> Arg<'a>
-    ensures rule { rule_of result ≡ base_rule }
-    ensures local { result.global ≡ false }
+    ensures { HasRule result base_rule }
 {
     Arg::new(alloc, "base")
         .long("base")
@@ -169,8 +164,7 @@ fn base_option<'a>(alloc: Global) -> Arg<'a>
 }
 
 fn token_option<'a>(alloc: Global) -> Arg<'a>
-    ensures rule { rule_of result ≡ token_rule }
-    ensures local { result.global ≡ false }
+    ensures { HasRule result token_rule }
 {
     limit_option(
         alloc,
@@ -185,8 +179,7 @@ fn token_option<'a>(alloc: Global) -> Arg<'a>
 }
 
 fn depth_option<'a>(alloc: Global) -> Arg<'a>
-    ensures rule { rule_of result ≡ depth_rule }
-    ensures local { result.global ≡ false }
+    ensures { HasRule result depth_rule }
 {
     limit_option(
         alloc,
@@ -201,8 +194,7 @@ fn depth_option<'a>(alloc: Global) -> Arg<'a>
 }
 
 fn bindings_option<'a>(alloc: Global) -> Arg<'a>
-    ensures rule { rule_of result ≡ bindings_rule }
-    ensures local { result.global ≡ false }
+    ensures { HasRule result bindings_rule }
 {
     limit_option(
         alloc,
@@ -217,8 +209,7 @@ fn bindings_option<'a>(alloc: Global) -> Arg<'a>
 }
 
 fn iri_option<'a>(alloc: Global) -> Arg<'a>
-    ensures rule { rule_of result ≡ iri_rule }
-    ensures local { result.global ≡ false }
+    ensures { HasRule result iri_rule }
 {
     limit_option(
         alloc,
@@ -233,8 +224,7 @@ fn iri_option<'a>(alloc: Global) -> Arg<'a>
 }
 
 fn limit_option<'a>(alloc: Global, limit: Limit<'a>) -> Arg<'a>
-    ensures rule { rule_of result ≡ limit_rule limit.entry.name.now limit.entry.least limit.entry.most limit.entry.default.now }
-    ensures local { result.global ≡ false }
+    ensures { HasRule result (limit_rule limit.entry.name.now limit.entry.least limit.entry.most limit.entry.default.now) }
 {
     Arg::new(alloc, limit.name)
         .long(limit.name)
@@ -246,8 +236,7 @@ fn limit_option<'a>(alloc: Global, limit: Limit<'a>) -> Arg<'a>
 }
 
 fn prefixes_option<'a>(alloc: Global) -> Arg<'a>
-    ensures rule { rule_of result ≡ prefixes_rule }
-    ensures local { result.global ≡ false }
+    ensures { HasRule result prefixes_rule }
 {
     Arg::new(alloc, "prefixes")
         .long("prefixes")
@@ -257,8 +246,7 @@ fn prefixes_option<'a>(alloc: Global) -> Arg<'a>
 }
 
 fn ascii_option<'a>(alloc: Global) -> Arg<'a>
-    ensures rule { rule_of result ≡ ascii_rule }
-    ensures local { result.global ≡ false }
+    ensures { HasRule result ascii_rule }
 {
     Arg::new(alloc, "ascii")
         .long("ascii")
@@ -269,8 +257,7 @@ fn ascii_option<'a>(alloc: Global) -> Arg<'a>
 }
 
 fn node_prefix_option<'a>(alloc: Global) -> Arg<'a>
-    ensures rule { rule_of result ≡ node_prefix_rule }
-    ensures local { result.global ≡ false }
+    ensures { HasRule result node_prefix_rule }
 {
     Arg::new(alloc, "node-prefix")
         .long("node-prefix")
@@ -280,8 +267,7 @@ fn node_prefix_option<'a>(alloc: Global) -> Arg<'a>
 }
 
 fn file_argument<'a>(alloc: Global) -> Arg<'a>
-    ensures rule { rule_of result ≡ file_rule }
-    ensures local { result.global ≡ false }
+    ensures { HasRule result file_rule }
 {
     Arg::new(alloc, "file")
         .action(ArgAction::Set)

@@ -1,6 +1,6 @@
 use Rattle.std.proofs.Common.{subst, IfOk}
 use Rattle.std.proofs.lemmas.Result.{IfOk-weaker}
-use Rattle.rdf_options.specs.Options.{ReadsAs}
+use Rattle.rdf_options.specs.Building.{ReadsAs}
 use Rattle.rdf_options.proofs.BuildLemmas.{with_action}
 use Rattle.rdf_options.proofs.options.add_action.Goals as goal
 

@@ -4,6 +4,6 @@ use Rattle.rdf_options.proofs.options.convert_command.Goals as goal
 
 pub returns : goal.returns
 returns c =
-    let first = with_argument _ _ _ _ _ c.in_ok-command-2.ensures c.in_ok-command.ensures c.ascii_option.ensures.rule c.ascii_option.ensures.local in
-    IfOk-weaker c.arg-2.result _ _ (λ made added. with_argument _ made _ _ _ added first c.node_prefix_option.ensures.rule c.node_prefix_option.ensures.local)
+    let first = with_argument _ _ _ _ _ c.in_ok-command-2.ensures c.in_ok-command.ensures c.ascii_option.ensures in
+    IfOk-weaker c.arg-2.result _ _ (λ made added. with_argument _ made _ _ _ added first c.node_prefix_option.ensures)
     c.arg-2.ensures

@@ -4,5 +4,5 @@ use Rattle.rdf_options.proofs.options.prefixed_command.Goals as goal
 
 pub returns : goal.returns
 returns c =
-    IfOk-weaker c.arg.result _ _ (λ made added. with_argument _ made _ _ _ added c.in_ok-command.ensures c.prefixes_option.ensures.rule c.prefixes_option.ensures.local)
+    IfOk-weaker c.arg.result _ _ (λ made added. with_argument _ made _ _ _ added c.in_ok-command.ensures c.prefixes_option.ensures)
     c.arg.ensures
