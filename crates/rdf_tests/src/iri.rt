@@ -93,20 +93,24 @@ fn resolves(alloc: Global, base: &str, reference: &str, limit: u64, wanted: Answ
     iri_text(reference) && is_answered(resolve(alloc, base.as_ref(), reference, limit), wanted)
 }
 
-#[test]
-fn references_against_bases(rt: HostRuntime) {
+/// The first of the references that does not resolve so, if there is one.
+fn unresolved(alloc: Global) -> Option<&'static str> {
     for (reference, wanted) in REFERENCES.as_slice() {
-        assert!(rt;
-            resolves(rt.alloc(), BASE, reference, 100, Ok(wanted)),
-            "{reference}"
-        );
+        if !resolves(alloc, BASE, reference, 100, Ok(wanted)) {
+            return Some(reference);
+        }
     }
     for (base, reference, limit, wanted) in OTHERS.as_slice() {
-        assert!(rt;
-            resolves(rt.alloc(), base, reference, *limit, *wanted),
-            "{reference}"
-        );
+        if !resolves(alloc, base, reference, *limit, *wanted) {
+            return Some(reference);
+        }
     }
+    None
+}
+
+#[test]
+fn references_against_bases(rt: HostRuntime) {
+    assert_eq!(rt; unresolved(rt.alloc()), None);
 }
 
 /// References and their parts.

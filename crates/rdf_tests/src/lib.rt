@@ -13,6 +13,8 @@ mod memory;
 #[cfg(test)]
 mod puts;
 #[cfg(test)]
+mod reading;
+#[cfg(test)]
 mod sinks;
 #[cfg(test)]
 mod terms;

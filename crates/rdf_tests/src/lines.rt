@@ -2,9 +2,10 @@
 
 ghost use Rattle.std.specs.Prelude.{◌≡◌, ◌≤◌, false, length};
 
+use crate::reading::{Document, Form, Piece, Report, read};
 use crate::sinks::{RecordingSink, recording_sink};
 use rdf_iri::Limits;
-use rdf_lines::{Fault, LineForm, LineReader, Summary};
+use rdf_lines::LineForm;
 use rdf_terms::Reason;
 use std::alloc::Global;
 
@@ -18,45 +19,48 @@ struct Row {
     answer: Result<(u64, u64, u64), (Reason, u64, u64)>,
 }
 
-/// A reader of tokens of 18 characters and IRIs of 14 bytes.
-fn line_reader(alloc: Global, form: LineForm) -> LineReader {
-    let limits = Limits::new(18, 0, 0, 14).unwrap_or_default();
-    LineReader::new(alloc, form, limits)
-}
-
-/// Reads a document whose first bytes come in one piece, and the others one by one.
-fn read(
-    reader: &mut LineReader,
-    text: &[u8],
-    cut: usize,
+/// Reads a document whose first bytes come in one piece, and the others one by one, with tokens of 18 characters and IRIs of 14 bytes.
+fn read_cut(
+    alloc: Global,
+    form: LineForm,
+    first: &[u8],
+    rest: &[u8],
     sink: &mut RecordingSink,
-) -> Result<Summary, Fault>
-    requires within { cut ≤ length text.now }
-    requires live { sink.old.failed ≡ false }
+) -> Option<Report>
+    requires { sink.old.failed ≡ false }
 {
-    reader.feed(&text[..cut], sink)?;
-    for byte in &text[cut..] {
-        reader.feed(&[*byte], sink)?;
-    }
-    reader.finish(sink)
+    let pieces = [Piece {
+        bytes: first,
+        times: 1,
+    }];
+    let document = Document {
+        pieces: pieces.as_slice(),
+        rest,
+    };
+    let limits = Limits::new(18, 0, 0, 14)?;
+    read(alloc, Form::Lines(form), limits, &document, sink)
 }
 
-/// Whether this was to be answered for a document, and these lines to be put.
-fn is_answered(row: &Row, answer: Result<Summary, Fault>, sink: &RecordingSink) -> bool {
-    let is_answered = match answer {
-        Ok(summary) => row.answer == Ok((summary.quads, summary.tokens, summary.bytes)),
-        Err(fault) => row.answer == Err((fault.reason, fault.offset, fault.line)),
-    };
-    is_answered && sink.lines.as_slice() == row.lines.as_bytes()
+/// Whether this was to be answered for a document.
+fn is_answered(row: &Row, report: &Report) -> bool {
+    report.has_ended
+        && match report.answer {
+            Ok(summary) => row.answer == Ok((summary.quads, summary.tokens, summary.bytes)),
+            Err(fault) => row.answer == Err((fault.reason, fault.offset, fault.line)),
+        }
 }
 
 fn is_read_cut(alloc: Global, row: &Row, cut: usize) -> bool
     requires { cut ≤ length row.now.bytes.now }
 {
-    let mut reader = line_reader(alloc, row.form);
     let mut sink = recording_sink(alloc, 64);
-    let answer = read(&mut reader, row.bytes, cut, &mut sink);
-    is_answered(row, answer, &sink)
+    let (first, rest) = row.bytes.split_at(cut);
+    match read_cut(alloc, row.form, first, rest, &mut sink) {
+        Some(report) => {
+            is_answered(row, &report) && sink.lines.as_slice() == row.lines.as_bytes()
+        }
+        None => false,
+    }
 }
 
 /// Whether a document puts its lines and reports what it is to, wherever the bytes begin to come one by one.
@@ -172,25 +176,27 @@ fn a_document_is_read_the_same_however_it_is_cut(rt: HostRuntime) {
 }
 
 /// How many bytes a reader holds that was fed a text, whether it was refused or not.
-fn held_after(alloc: Global, text: &str) -> u64 {
-    let mut reader = line_reader(alloc, LineForm::NQuads);
+fn held_after(alloc: Global, text: &str) -> Option<u64> {
     let mut sink = recording_sink(alloc, 64);
-    let _ = reader.feed(text.as_bytes(), &mut sink);
-    reader.held()
+    let report = read_cut(alloc, LineForm::NQuads, text.as_bytes(), b"", &mut sink)?;
+    Some(report.held)
 }
+
+/// Texts, and how many bytes are held after them.
+static HELD: [(&str, u64); 8] = [
+    ("", 0),
+    ("<a:s", 4),
+    ("<a:s> <a:", 6),
+    ("<a:s> <a:p> \"a\u{E9}\"@en ", 11),
+    ("_:x1 <a:p> \"\\u0041b\"^^<a:t> _:g ", 11),
+    ("<a:s> <a:p> \"ab\" .", 0),
+    ("<a:s> <a:p> <a:o> _:g <a:x> ", 1),
+    ("<a:s> <a:p> x", 7),
+];
 
 #[test]
 fn the_texts_of_an_open_statement_are_held(rt: HostRuntime) {
-    for (text, held) in [
-        ("", 0),
-        ("<a:s", 4),
-        ("<a:s> <a:", 6),
-        ("<a:s> <a:p> \"a\u{E9}\"@en ", 11),
-        ("_:x1 <a:p> \"\\u0041b\"^^<a:t> _:g ", 11),
-        ("<a:s> <a:p> \"ab\" .", 0),
-        ("<a:s> <a:p> <a:o> _:g <a:x> ", 1),
-        ("<a:s> <a:p> x", 7),
-    ] {
-        assert_eq!(rt; held_after(rt.alloc(), text), held, "{text}");
+    for (text, held) in HELD.as_slice() {
+        assert_eq!(rt; held_after(rt.alloc(), text), Some(*held), "{text}");
     }
 }

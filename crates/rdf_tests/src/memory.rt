@@ -2,22 +2,23 @@
 
 ghost use Rattle.std.specs.Prelude.{◌≡◌, ◌≤◌};
 
-use rdf_driver::{Fault, Summary};
+use crate::reading::{Form, Report, read_pieces};
+use crate::sinks::put_copy;
+use rdf_driver::Fault;
 use rdf_iri::{BindingFault, BindingReason, IriFault, Limits, Scope, read_bindings, resolve};
-use rdf_lines::{Escapes, LabelFault, LineForm, LineReader, Style, label_text, write_line};
+use rdf_lines::{Escapes, LabelFault, LineForm, Style, label_text, write_line};
 use rdf_terms::{
     Iri, Known, Label, LiteralRef, NodeRef, PutFault, QuadList, QuadRef, QuadSink, Reason,
     SubjectRef, Tag, TailRef, TermFault, TermRef, ValueFault, iri_text, iri_value, known,
     local_value, set_iri_value, set_string_value, string_value,
 };
 use rdf_tokens::{Dialect, Scanner};
-use rdf_trig::{DocForm, Options, TrigReader, read_document};
+use rdf_trig::{DocForm, Options, read_document};
 use refusing_alloc::Refusing;
 use std::alloc::{AllocError, Allocator, Global};
-use std::process::Abort;
 
 /// Why calls stopped.
-#[derive(Clone, Copy, PartialEq, Eq, Debug)]
+#[derive(Clone, Copy, PartialEq, Eq)]
 enum Stop {
     Memory,
     /// Another error, or something that was to stay is not as it was.
@@ -109,11 +110,12 @@ static INSIDES: [(Inside, &str); 6] = [
 /// Values of escapes.
 fn make_values<A: Allocator + Copy>(alloc: A) -> Result<(), Stop> {
     for (inside, text) in INSIDES.as_slice() {
-        match inside {
-            Inside::String => string_value(alloc, text)?,
-            Inside::Iri => iri_value(alloc, text)?,
-            Inside::Local => local_value(alloc, text)?,
+        let value = match inside {
+            Inside::String => string_value(alloc, text),
+            Inside::Iri => iri_value(alloc, text),
+            Inside::Local => local_value(alloc, text),
         };
+        value?;
     }
     Ok(())
 }
@@ -152,21 +154,6 @@ fn quad<'a>(node: NodeRef<'a>, object: TermRef<'a>) -> QuadRef<'a> {
     }
 }
 
-/// A quad copied and kept.
-fn keep_quad<A: Allocator + Copy>(
-    alloc: A,
-    quad: QuadRef<'_>,
-    list: &mut QuadList<A>,
-) -> Result<(), Stop> {
-    match quad.try_copy(alloc) {
-        Ok(copy) => match list.put(&copy.view()) {
-            Ok(()) => Ok(()),
-            Err(fault) => Err(Stop::from(fault)),
-        },
-        Err(_) => Err(Stop::Memory),
-    }
-}
-
 /// A quad written. Where its line is not appended, those before it stay.
 fn append<A: Allocator + Copy>(
     quad: QuadRef<'_>,
@@ -181,13 +168,14 @@ fn append<A: Allocator + Copy>(
     }
 }
 
+/// A quad copied and kept, three times.
 fn keep_quads<A: Allocator + Copy>(
     alloc: A,
     quad: QuadRef<'_>,
     list: &mut QuadList<A>,
 ) -> Result<(), Stop> {
     for _ in 0..3 {
-        keep_quad(alloc, quad, list)?;
+        put_copy(alloc, quad, list)?;
     }
     Ok(())
 }
@@ -303,16 +291,27 @@ fn put_names<A: Allocator + Copy>(alloc: A, scope: &Scope<A>, reference: &str) -
     Ok(())
 }
 
+/// References that are taken as the base, or bound to a prefix.
+static NAMES: [(Option<&str>, &str); 6] = [
+    (None, "http://h/b/c"),
+    (Some("x"), "../d/"),
+    (Some(""), "e?q#f"),
+    (None, "../g/"),
+    (None, "i/j/k/l/m/n/o/p/"),
+    (Some("x"), "#h"),
+];
+
 /// Bases and bindings, one after another.
 fn set_names<A: Allocator + Copy>(scope: &mut Scope<A>) -> Result<(), Stop>
     requires { 1 ≤ scope.old.limits.token }
 {
-    set_base(scope, "http://h/b/c")?;
-    bind(scope, "x", "../d/")?;
-    bind(scope, "", "e?q#f")?;
-    set_base(scope, "../g/")?;
-    set_base(scope, "i/j/k/l/m/n/o/p/")?;
-    bind(scope, "x", "#h")
+    for (prefix, reference) in NAMES.as_slice() {
+        match prefix {
+            Some(prefix) => bind(scope, prefix, reference)?,
+            None => set_base(scope, reference)?,
+        }
+    }
+    Ok(())
 }
 
 /// Bases, bindings, and the IRIs of references and names.
@@ -343,14 +342,6 @@ fn read_a_file<A: Allocator + Copy>(alloc: A) -> Result<(), Stop> {
     }
 }
 
-/// Want of memory, if it was reported and each call after it reports that reading has ended.
-fn ended(fault: Fault, next: Result<Summary, Fault>) -> Stop {
-    match next {
-        Err(ended) if ended.reason == Reason::Ended => Stop::from(fault),
-        _ => Stop::Wrong,
-    }
-}
-
 /// A token that is pushed in two pieces.
 fn push_a_token<A: Allocator + Copy>(alloc: A) -> Result<(), Stop> {
     let mut scanner = Scanner::new(alloc, Dialect::Turtle, 99);
@@ -359,46 +350,21 @@ fn push_a_token<A: Allocator + Copy>(alloc: A) -> Result<(), Stop> {
     Ok(())
 }
 
-fn feed_lines<A: Allocator + Copy>(
-    reader: &mut LineReader<A>,
-    list: &mut QuadList<A>,
-) -> Result<(), Stop> {
-    for piece in LINES {
-        if let Err(fault) = reader.feed(piece.as_bytes(), list) {
-            return Err(ended(fault, reader.finish(list)));
-        }
-    }
-    match reader.finish(list) {
-        Ok(_) => Ok(()),
-        Err(fault) => Err(ended(fault, reader.finish(list))),
+/// What a document came to, if the calls after it report that reading has ended.
+fn ended(report: Option<Report>) -> Result<(), Stop> {
+    match report {
+        Some(report) if report.has_ended => match report.answer {
+            Ok(_) => Ok(()),
+            Err(fault) => Err(Stop::from(fault)),
+        },
+        _ => Err(Stop::Wrong),
     }
 }
 
-/// Lines, read in pieces.
-fn read_lines<A: Allocator + Copy>(alloc: A, form: LineForm) -> Result<(), Stop> {
-    let mut reader = LineReader::new(alloc, form, Limits::default());
-    feed_lines(&mut reader, &mut QuadList::new(alloc))
-}
-
-fn feed_statements<A: Allocator + Copy>(
-    reader: &mut TrigReader<A>,
-    list: &mut QuadList<A>,
-) -> Result<(), Stop> {
-    for piece in STATEMENTS {
-        if let Err(fault) = reader.feed(piece.as_bytes(), list) {
-            return Err(ended(fault, reader.finish(list)));
-        }
-    }
-    match reader.finish(list) {
-        Ok(_) => Ok(()),
-        Err(fault) => Err(ended(fault, reader.finish(list))),
-    }
-}
-
-/// Statements, read in pieces.
-fn read_statements<A: Allocator + Copy>(alloc: A, form: DocForm) -> Result<(), Stop> {
-    let mut reader = TrigReader::new(alloc, options(form)?);
-    feed_statements(&mut reader, &mut QuadList::new(alloc))
+/// A document, read in pieces.
+fn read_a_document<A: Allocator + Copy>(alloc: A, form: Form) -> Result<(), Stop> {
+    let mut list = QuadList::new(alloc);
+    ended(read_pieces(alloc, form, &mut list))
 }
 
 /// A document, read at once.
@@ -417,20 +383,6 @@ fn options<A: Allocator>(form: DocForm) -> Result<Options<A>, Stop> {
     }
 }
 
-/// A document of N-Triples in pieces.
-pub const LINES: [&str; 3] = [
-    "<http://a/\\u0073> <a:p> \"\\t\\u00e9 a",
-    " text\"@en-GB .\n_:x <a:p> _:y .\n<a:s> ",
-    "<a:p> \"x\"^^<a:t> . # c\n<a:s> <a:p> <a:o> .",
-];
-
-/// A document of Turtle in pieces. Its last dot is decided by its end, and a quad is given out there.
-pub const STATEMENTS: [&str; 3] = [
-    "@base <http://h/b/c> . @prefix : <#> . :s a :b%20\\~c, <s\\u0061>, _:l ; :p 'a\\t",
-    "'@en, \"b\"^^:t, 1 . [ :p [ :q ( 1 [ ] ( \"a\" ) () ) ] ] . @prefix : <x> . ( [ :p :o ] ) ",
-    ":p :o .",
-];
-
 /// More growths than any of these calls asks for.
 const MOST: u64 = 2000;
 
@@ -445,8 +397,7 @@ enum Task {
     Scope,
     File,
     Token,
-    Lines(LineForm),
-    Statements(DocForm),
+    Pieces(Form),
     Whole(DocForm),
 }
 
@@ -459,10 +410,10 @@ static TASKS: [Task; 14] = [
     Task::Scope,
     Task::File,
     Task::Token,
-    Task::Lines(LineForm::NTriples),
-    Task::Lines(LineForm::NQuads),
-    Task::Statements(DocForm::Turtle),
-    Task::Statements(DocForm::TriG),
+    Task::Pieces(Form::Lines(LineForm::NTriples)),
+    Task::Pieces(Form::Lines(LineForm::NQuads)),
+    Task::Pieces(Form::Statements(DocForm::Turtle)),
+    Task::Pieces(Form::Statements(DocForm::TriG)),
     Task::Whole(DocForm::Turtle),
     Task::Whole(DocForm::TriG),
 ];
@@ -477,28 +428,41 @@ fn run<A: Allocator + Copy>(alloc: A, task: Task) -> Result<(), Stop> {
         Task::Scope => use_a_scope(alloc),
         Task::File => read_a_file(alloc),
         Task::Token => push_a_token(alloc),
-        Task::Lines(form) => read_lines(alloc, form),
-        Task::Statements(form) => read_statements(alloc, form),
+        Task::Pieces(form) => read_a_document(alloc, form),
         Task::Whole(form) => read_a_whole(alloc, form),
     }
 }
 
-/// Whether the task ends well where no growth is refused, after it was stopped by want of memory wherever one was.
-fn ends_where_memory_does(rt: &impl Abort, alloc: Global, task: Task) -> bool {
+/// How the task ends where the growth after so many is refused, and whether one was.
+fn run_after(alloc: Global, task: Task, calls: u64) -> (Result<(), Stop>, bool) {
+    let memory = Refusing::after(alloc, calls);
+    let result = run(&memory, task);
+    (result, memory.has_refused())
+}
+
+/// After how many calls the task does not end as it is to, if it ever does not: well where no growth is refused, and for want of memory wherever
+/// one is.
+fn misreported(alloc: Global, task: Task) -> Option<u64> {
     for calls in 0..MOST {
-        let memory = Refusing::after(alloc, calls);
-        let result = run(&memory, task);
-        if !memory.has_refused() {
-            return result == Ok(());
+        let (result, has_refused) = run_after(alloc, task, calls);
+        let wanted = if has_refused {
+            Err(Stop::Memory)
+        } else {
+            Ok(())
+        };
+        if result != wanted {
+            return Some(calls);
         }
-        assert_eq!(rt; result, Err(Stop::Memory), "{task:?} after {calls} calls");
+        if !has_refused {
+            return None;
+        }
     }
-    false
+    Some(MOST)
 }
 
 #[test]
 fn memory_is_reported_exactly_where_it_is_refused(rt: HostRuntime) {
     for task in TASKS.as_slice() {
-        assert!(rt; ends_where_memory_does(&rt, rt.alloc(), *task), "{task:?}");
+        assert_eq!(rt; misreported(rt.alloc(), *task), None, "{task:?}");
     }
 }

@@ -7,7 +7,7 @@ ghost use Rattle.rdf_lines.specs.Writing.{line};
 
 use rdf_lines::{Escapes, LabelFault, Style, write_line};
 use rdf_terms::{PutFault, QuadList, QuadRef, QuadSink};
-use std::alloc::Global;
+use std::alloc::{Allocator, Global};
 
 /// Counts the puts and the quads that are taken, keeps their lines, and fails where there is no room for one more.
 #[derive(Drop)]
@@ -99,11 +99,18 @@ pub fn has_lines(alloc: Global, list: &QuadList, lines: &str) -> bool {
     }
 }
 
-/// Whether this is the line of a quad.
-pub fn has_line(alloc: Global, quad: QuadRef<'_>, line: &str) -> bool {
-    let mut out = Vec::new(alloc);
-    match write_line(&quad, Style::Tagged, Escapes::Plain, &mut out) {
-        Ok(()) => out.as_slice() == line.as_bytes(),
-        Err(_) => false,
+/// Puts a copy of a quad into a list.
+pub fn put_copy<A: Allocator + Copy>(
+    alloc: A,
+    quad: QuadRef<'_>,
+    list: &mut QuadList<A>,
+) -> Result<(), PutFault> {
+    match quad.try_copy(alloc) {
+        Ok(copy) => {
+            let put = list.put(&copy.view());
+            drop(copy);
+            put
+        }
+        Err(_) => Err(PutFault::Memory),
     }
 }

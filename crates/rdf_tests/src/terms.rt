@@ -1,6 +1,6 @@
 // Outside values: the examples of the Recommendations, and characters at the ends of their classes.
 
-use crate::sinks::{has_line, has_lines};
+use crate::sinks::{has_lines, put_copy};
 use rdf_terms::*;
 use std::alloc::Global;
 
@@ -146,42 +146,36 @@ enum Made {
     Tag,
 }
 
-fn copies_iri(alloc: Global, iri: IriView<'_>, text: &str) -> bool {
-    match iri.try_copy(alloc) {
-        Ok(copy) => copy.as_str() == text,
-        Err(_) => false,
+fn is_iri(alloc: Global, text: &str) -> Result<bool, TermFault> {
+    let iri = Iri::new(alloc, text)?;
+    match iri.view().try_copy(alloc) {
+        Ok(copy) => Ok(iri.as_str() == text && copy.as_str() == text),
+        Err(_) => Err(TermFault::Memory),
     }
 }
 
-fn copies_label(alloc: Global, label: LabelView<'_>, text: &str) -> bool {
-    match label.try_copy(alloc) {
-        Ok(copy) => copy.view().as_str() == text,
-        Err(_) => false,
+fn is_label(alloc: Global, text: &str) -> Result<bool, TermFault> {
+    let label = Label::new(alloc, text)?;
+    match label.view().try_copy(alloc) {
+        Ok(copy) => Ok(label.as_str() == text && copy.as_str() == text),
+        Err(_) => Err(TermFault::Memory),
     }
 }
 
-fn copies_tag(alloc: Global, tag: TagView<'_>, text: &str) -> bool {
-    match tag.try_copy(alloc) {
-        Ok(copy) => copy.view().as_str() == text,
-        Err(_) => false,
+fn is_tag(alloc: Global, text: &str) -> Result<bool, TermFault> {
+    let tag = Tag::new(alloc, text)?;
+    match tag.view().try_copy(alloc) {
+        Ok(copy) => Ok(tag.as_str() == text && copy.as_str() == text),
+        Err(_) => Err(TermFault::Memory),
     }
 }
 
 /// Whether such a term is made of the text, which has it and of which a copy has it; or why it is none.
 fn is_made(alloc: Global, made: Made, text: &str) -> Result<bool, TermFault> {
     match made {
-        Made::Iri => {
-            let iri = Iri::new(alloc, text)?;
-            Ok(iri.as_str() == text && copies_iri(alloc, iri.view(), text))
-        }
-        Made::Label => {
-            let label = Label::new(alloc, text)?;
-            Ok(label.as_str() == text && copies_label(alloc, label.view(), text))
-        }
-        Made::Tag => {
-            let tag = Tag::new(alloc, text)?;
-            Ok(tag.as_str() == text && copies_tag(alloc, tag.view(), text))
-        }
+        Made::Iri => is_iri(alloc, text),
+        Made::Label => is_label(alloc, text),
+        Made::Tag => is_tag(alloc, text),
     }
 }
 
@@ -411,11 +405,11 @@ fn of_iris(iri: IriView<'_>) -> QuadRef<'_> {
 const COPIED: &str =
     "<http://g/> <http://www.w3.org/1999/02/22-rdf-syntax-ns#first> \"1\"^^<http://www.w3.org/2001/XMLSchema#integer> <http://g/> .\n";
 
+/// Whether a list of a copy of the quad has its line.
 fn copies_quad(alloc: Global, iri: IriView<'_>) -> bool {
-    match of_iris(iri).try_copy(alloc) {
-        Ok(copy) => has_line(alloc, copy.view(), COPIED),
-        Err(_) => false,
-    }
+    let mut list = QuadList::new(alloc);
+    let is_put = put_copy(alloc, of_iris(iri), &mut list).is_ok();
+    is_put && has_lines(alloc, &list, COPIED)
 }
 
 fn copies_a_quad(alloc: Global) -> bool {

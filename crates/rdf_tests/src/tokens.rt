@@ -5,7 +5,7 @@ use rdf_tokens::{Dialect, Kind, RunClass, Scanner, plain_run};
 use std::alloc::{AllocError, Global};
 
 // What a call answers: the kind, the offset, the line and the number of bytes of a token.
-#[derive(Clone, Copy, PartialEq, Eq, Debug)]
+#[derive(Clone, Copy, PartialEq, Eq)]
 enum Answer {
     Started,
     Took(usize),
@@ -290,25 +290,26 @@ fn take_answers(scanner: &mut Scanner, answers: &mut Vec<Answer>) -> Result<(), 
     Ok(())
 }
 
-// The answers to a text of the Turtle dialect, cut after each byte whose bit is set.
-fn answers_to(alloc: Global, text: &[u8], cuts: u64) -> Result<Vec<Answer>, AllocError> {
-    let mut scanner = Scanner::new(alloc, Dialect::Turtle, 64);
-    let mut answers = Vec::new(alloc);
-    let mut piece = Vec::new(alloc);
+// Takes the answers to a text, cut after each byte whose bit is set.
+fn take_all(
+    scanner: &mut Scanner,
+    text: &[u8],
+    cuts: u64,
+    answers: &mut Vec<Answer>,
+) -> Result<(), AllocError> {
+    let mut from = 0;
     let mut left = cuts;
-    for byte in text {
-        piece.push(*byte)?;
+    for at in 0..text.len() {
         if left % 2 == 1 {
-            push(&mut scanner, piece.as_slice());
-            piece.clear();
-            take_answers(&mut scanner, &mut answers)?;
+            push(scanner, &text[from..=at]);
+            take_answers(scanner, answers)?;
+            from = at + 1;
         }
         left /= 2;
     }
-    push(&mut scanner, piece.as_slice());
+    push(scanner, &text[from..]);
     scanner.end();
-    take_answers(&mut scanner, &mut answers)?;
-    Ok(answers)
+    take_answers(scanner, answers)
 }
 
 /// Texts of the Turtle dialect, and all that a scanner answers.
@@ -416,10 +417,10 @@ static EXAMPLES: [(&str, &[Answer]); 11] = [
 
 /// Whether a text of the Turtle dialect, cut after each byte whose bit is set, has these answers.
 fn is_cut(alloc: Global, text: &[u8], cuts: u64, want: &[Answer]) -> bool {
-    match answers_to(alloc, text, cuts) {
-        Ok(answers) => answers.as_slice() == want,
-        Err(_) => false,
-    }
+    let mut scanner = Scanner::new(alloc, Dialect::Turtle, 64);
+    let mut answers = Vec::new(alloc);
+    let is_taken = take_all(&mut scanner, text, cuts, &mut answers).is_ok();
+    is_taken && answers.as_slice() == want
 }
 
 #[test]

@@ -3,18 +3,16 @@
 use super::runs::{Asked, End, Task, run};
 use rdf_lines::Fault;
 use rdf_stream::{Form, StreamFault, report};
-use rdf_terms::{Iri, Label, LiteralRef, Node, NodeRef, Reason, Tag, Tail, TailRef, Term, TermRef};
+use rdf_terms::{Iri, Label, LiteralRef, NodeRef, Reason, Tag, TailRef, TermRef};
 use std::alloc::{AllocError, Global};
 
-pub(crate) fn repeated(
-    alloc: Global,
-    front: &str,
-    part: &str,
-    count: u64,
-) -> Result<String, AllocError> {
-    let mut text = String::from_str(alloc, front)?;
-    for _ in 0..count {
-        text.push_str(part)?;
+/// Parts, each so many times, one after another.
+pub(crate) fn text_of(alloc: Global, parts: &[(&str, u64)]) -> Result<String, AllocError> {
+    let mut text = String::new(alloc);
+    for (part, times) in parts {
+        for _ in 0..*times {
+            text.push_str(part)?;
+        }
     }
     Ok(text)
 }
@@ -48,19 +46,18 @@ fn is_done_in_few_calls(alloc: Global, asked: &Asked<'_>, text: &str, quads: u64
     }
 }
 
-/// 20,000 lines, one of which has a literal of 300,000 characters, where that is asked for.
-fn large_document(alloc: Global, is_one_line: bool) -> Result<String, AllocError> {
-    if is_one_line {
-        let mut long = repeated(alloc, "<a:> <b:> \"", "x", 300_000)?;
-        long.push_str("\" .\n")?;
-        return Ok(long);
-    }
-    repeated(alloc, "", "<a:> <b:> \"x\" .\n", 20_000)
-}
+static LINES: [(&str, u64); 1] = [("<a:> <b:> \"x\" .\n", 20_000)];
 
+static LONG_LINE: [(&str, u64); 3] = [("<a:> <b:> \"", 1), ("x", 300_000), ("\" .\n", 1)];
+
+/// Whether 20,000 lines are converted so, or one line with a literal of 300,000 characters.
 fn is_converted_in_few_calls(alloc: Global, form: Form, is_one_line: bool) -> bool {
-    let quads = if is_one_line { 1 } else { 20_000 };
-    match large_document(alloc, is_one_line) {
+    let (parts, quads) = if is_one_line {
+        (LONG_LINE.as_slice(), 1)
+    } else {
+        (LINES.as_slice(), 20_000)
+    };
+    match text_of(alloc, parts) {
         Ok(document) => {
             let asked = Asked::of(Task::Convert, form, document.as_bytes());
             is_done_in_few_calls(alloc, &asked, &document, quads)
@@ -86,7 +83,7 @@ fn large_tokens(alloc: Global) -> Result<String, AllocError> {
 }
 
 fn is_shown_in_few_calls(alloc: Global) -> bool {
-    match (large_document(alloc, false), large_tokens(alloc)) {
+    match (text_of(alloc, LINES.as_slice()), large_tokens(alloc)) {
         (Ok(document), Ok(tokens)) => {
             let asked = Asked::of(Task::Show, Form::Turtle, document.as_bytes());
             is_done_in_few_calls(alloc, &asked, &tokens, 20_000)
@@ -112,7 +109,7 @@ fn a_large_document_is_read_in_few_calls(rt: HostRuntime) {
 
 /// Whether so many short lines go to a drain that takes so many calls.
 fn is_written_in_calls(alloc: Global, form: Form, puts: u64) -> bool {
-    match repeated(alloc, "", "<a:> <b:> <c:> .\n", 1000) {
+    match text_of(alloc, &[("<a:> <b:> <c:> .\n", 1000)]) {
         Ok(text) => {
             let asked = Asked {
                 puts,
@@ -132,62 +129,70 @@ fn the_lines_of_a_piece_are_few_calls(rt: HostRuntime) {
     assert!(rt; is_written_in_calls(rt.alloc(), Form::TriG, 2));
 }
 
+/// What kind of term it is, its text, and that of its tag or type. Of a node without a label there is no text.
+fn texts(term: TermRef<'_>) -> (&str, &str, &str) {
+    match term {
+        TermRef::Iri(iri) => ("iri", iri.as_str(), ""),
+        TermRef::Node(NodeRef::Label(label)) => ("label", label.as_str(), ""),
+        TermRef::Node(_) => ("node", "", ""),
+        TermRef::Literal(literal) => match literal.tail {
+            TailRef::Lang(tag) => ("tagged", literal.lexical, tag.as_str()),
+            TailRef::Typed(iri) => ("typed", literal.lexical, iri.as_str()),
+        },
+    }
+}
+
+fn is_same(one: TermRef<'_>, other: TermRef<'_>) -> bool {
+    texts(one) == texts(other)
+}
+
+fn is_copied(alloc: Global, term: TermRef<'_>) -> bool {
+    match term.try_copy(alloc) {
+        Ok(copy) => is_same(copy.view(), term),
+        Err(_) => false,
+    }
+}
+
+/// Whether an IRI of this text is copied, and a literal with this lexical form and type.
 fn copies_iri(alloc: Global, text: &str) -> bool {
-    let Ok(iri) = Iri::new(alloc, text) else {
-        return false;
-    };
-    match TermRef::Iri(iri.view()).try_copy(alloc) {
-        Ok(Term::Iri(copy)) => copy.as_str() == text,
-        _ => false,
+    match Iri::new(alloc, text) {
+        Ok(iri) => {
+            let typed = LiteralRef::new(text, TailRef::Typed(iri.view()));
+            iri.as_str() == text
+                && is_copied(alloc, TermRef::Iri(iri.view()))
+                && is_copied(alloc, TermRef::Literal(typed))
+        }
+        Err(_) => false,
     }
 }
 
 fn copies_label(alloc: Global, text: &str) -> bool {
-    let Ok(label) = Label::new(alloc, text) else {
-        return false;
-    };
-    match TermRef::Node(NodeRef::Label(label.view())).try_copy(alloc) {
-        Ok(Term::Node(Node::Label(copy))) => copy.as_str() == text,
-        _ => false,
-    }
-}
-
-/// Whether a literal whose lexical form and type are this text is copied.
-fn copies_typed(alloc: Global, text: &str) -> bool {
-    let Ok(iri) = Iri::new(alloc, text) else {
-        return false;
-    };
-    let literal = LiteralRef::new(text, TailRef::Typed(iri.view()));
-    match TermRef::Literal(literal).try_copy(alloc) {
-        Ok(Term::Literal(copy)) => {
-            copy.lexical.as_str() == text
-                && matches!(&copy.tail, Tail::Typed(kind) if kind.as_str() == text)
+    match Label::new(alloc, text) {
+        Ok(label) => {
+            label.as_str() == text && is_copied(alloc, TermRef::Node(NodeRef::Label(label.view())))
         }
-        _ => false,
+        Err(_) => false,
     }
 }
 
+/// Whether a literal with this lexical form and a tag is copied.
 fn copies_tagged(alloc: Global, text: &str) -> bool {
-    let Ok(tag) = Tag::new(alloc, "en-GB") else {
-        return false;
-    };
-    let literal = LiteralRef::new(text, TailRef::Lang(tag.view()));
-    match TermRef::Literal(literal).try_copy(alloc) {
-        Ok(Term::Literal(copy)) => copy.lexical.as_str() == text,
-        _ => false,
+    match Tag::new(alloc, "en-GB") {
+        Ok(tag) => {
+            let tagged = LiteralRef::new(text, TailRef::Lang(tag.view()));
+            is_copied(alloc, TermRef::Literal(tagged))
+        }
+        Err(_) => false,
     }
 }
 
 fn copies_long_terms(alloc: Global) -> bool {
     match (
-        repeated(alloc, "a:", "b", 200_000),
-        repeated(alloc, "", "b", 200_000),
+        text_of(alloc, &[("a:", 1), ("b", 200_000)]),
+        text_of(alloc, &[("b", 200_000)]),
     ) {
         (Ok(text), Ok(name)) => {
-            copies_iri(alloc, &text)
-                && copies_label(alloc, &name)
-                && copies_typed(alloc, &text)
-                && copies_tagged(alloc, &text)
+            copies_iri(alloc, &text) && copies_label(alloc, &name) && copies_tagged(alloc, &text)
         }
         _ => false,
     }

@@ -1,14 +1,14 @@
 // Runs of which each growth is refused in turn, and each call of a device fails; and the other calls that can report want of memory.
 
 use super::devices::parts_of;
-use super::large::repeated;
+use super::large::text_of;
 use super::runs::{Asked, End, Outcome, Task, is_alike, run};
 use rdf_iri::Limits;
 use rdf_lines::Fault;
 use rdf_stream::{Form, LoadFault, StreamFault, load_bindings, report};
 use rdf_terms::Reason;
 use refusing_alloc::Refusing;
-use std::alloc::{AllocError, Allocator, Global};
+use std::alloc::{Allocator, Global};
 
 /// Formats, limits of open brackets, and documents.
 static DOCUMENTS: [(Form, u64, &str); 11] = [
@@ -166,25 +166,26 @@ fn goes_on(alloc: Global, form: Form, depth: u64, document: &str, met: Met) -> O
     None
 }
 
+/// The first of the documents over which a task does not end so, and the task, if there is one.
+fn unstopped(alloc: Global, met: Met) -> Option<(&'static str, Task)> {
+    for (form, depth, document) in DOCUMENTS.as_slice() {
+        if let Some(task) = goes_on(alloc, *form, *depth, document, met) {
+            return Some((document, task));
+        }
+    }
+    None
+}
+
 #[test]
 fn whichever_call_of_a_device_fails_the_run_ends_there(rt: HostRuntime) {
-    for (form, depth, document) in DOCUMENTS.as_slice() {
-        for met in [Met::Fill, Met::Put] {
-            assert_eq!(rt;
-                goes_on(rt.alloc(), *form, *depth, document, met),
-                None,
-                "{document}"
-            );
-        }
+    for met in [Met::Fill, Met::Put] {
+        assert_eq!(rt; unstopped(rt.alloc(), met), None);
     }
 }
 
 #[test]
 fn whichever_growth_is_refused_memory_is_reported(rt: HostRuntime) {
-    for (form, depth, document) in DOCUMENTS.as_slice() {
-        let stays = goes_on(rt.alloc(), *form, *depth, document, Met::Growth);
-        assert_eq!(rt; stays, None, "{document}");
-    }
+    assert_eq!(rt; unstopped(rt.alloc(), Met::Growth), None);
 }
 
 #[test]
@@ -246,23 +247,25 @@ fn a_report_is_appended_whole_or_for_want_of_memory_not_at_all(rt: HostRuntime) 
     assert!(rt; false, "each call met a refusal");
 }
 
-/// A long token, or brackets in brackets.
-fn long_document(alloc: Global, form: Form) -> Result<String, AllocError> {
-    if form == Form::TriG {
-        let mut deep = repeated(alloc, "<a:> <b:> ", "[ <c:> ( ", 200)?;
-        for _ in 0..200 {
-            deep.push_str(") ] ")?;
-        }
-        deep.push_str(".\n")?;
-        return Ok(deep);
+static LONG_TOKEN: [(&str, u64); 3] = [("<a:> <b:> \"", 1), ("x", 150_000), ("\" .\n", 1)];
+
+static DEEP: [(&str, u64); 4] = [
+    ("<a:> <b:> ", 1),
+    ("[ <c:> ( ", 200),
+    (") ] ", 200),
+    (".\n", 1),
+];
+
+/// The parts of a long token, or of brackets in brackets.
+fn long_document(form: Form) -> &'static [(&'static str, u64)] {
+    match form {
+        Form::TriG => DEEP.as_slice(),
+        _ => LONG_TOKEN.as_slice(),
     }
-    let mut long = repeated(alloc, "<a:> <b:> \"", "x", 150_000)?;
-    long.push_str("\" .\n")?;
-    Ok(long)
 }
 
 fn long_ends_where_met(alloc: Global, form: Form, task: Task) -> bool {
-    match long_document(alloc, form) {
+    match text_of(alloc, long_document(form)) {
         Ok(document) => {
             let asked = Asked::of(task, form, document.as_bytes());
             ends_where_met(alloc, &asked, Met::Growth)

@@ -4,113 +4,120 @@ use super::runs::Task;
 use rdf_stream::Form;
 use rdf_terms::Reason;
 
-/// Documents that are the same in some formats, with one base or none, and limits of a token, of open brackets, of bindings and of an IRI.
-pub(crate) struct Set {
-    pub(crate) forms: &'static [Form],
-    pub(crate) base: &'static str,
-    pub(crate) limits: [u64; 4],
-    pub(crate) rows: &'static [(&'static [u8], &'static str)],
+/// The formats that a document is read as, in each of which the same is to come of it, and under what.
+#[derive(Clone, Copy)]
+pub(crate) enum Set {
+    /// Turtle and TriG, with no base and limits that the document does not meet.
+    Statements,
+    Turtle,
+    TriG,
+    /// N-Triples and N-Quads.
+    Lines,
+    NTriples,
+    NQuads,
+    /// Turtle and TriG, with tokens of 12 characters.
+    ShortTokens,
+    OneBracket,
+    OnePrefix,
+    /// Turtle and TriG, with IRIs of 10 bytes.
+    ShortIris,
+    /// Turtle and TriG, with a base.
+    WithBase,
 }
 
-pub(crate) static SETS: [Set; 11] = [
-    Set {
-        forms: &[Form::Turtle, Form::TriG],
-        base: "",
-        limits: [1000, 9, 9, 1000],
-        rows: &[
-            (
-                b"PREFIX : <http://e/>\n:s :p [ :q ( 1 2 ) ] .",
-                "<http://e/s> <http://e/p> _:a27 .
+pub(crate) static ROWS: [(Set, &[u8], &str); 45] = [
+    (
+        Set::Statements,
+        b"PREFIX : <http://e/>\n:s :p [ :q ( 1 2 ) ] .",
+        "<http://e/s> <http://e/p> _:a27 .
 _:a27 <http://e/q> _:c34 .
 _:c34 <http://www.w3.org/1999/02/22-rdf-syntax-ns#first> \"1\"^^<http://www.w3.org/2001/XMLSchema#integer> .
 _:c34 <http://www.w3.org/1999/02/22-rdf-syntax-ns#rest> _:c36 .
 _:c36 <http://www.w3.org/1999/02/22-rdf-syntax-ns#first> \"2\"^^<http://www.w3.org/2001/XMLSchema#integer> .
 _:c36 <http://www.w3.org/1999/02/22-rdf-syntax-ns#rest> <http://www.w3.org/1999/02/22-rdf-syntax-ns#nil> .
 ",
-            ),
-            (b"_:a19 <http://a/p> [] .", "_:na19 <http://a/p> _:a19 .\n"),
-            (
-                b"<http://a/s> <http://a/p> <http://a/s> ; <http://a/q> e:x .",
-                "<http://a/s> <http://a/p> <http://a/s> .\nrdfconv: unbound prefix at byte 54, line 1\n",
-            ),
-            (
-                b"PREFIX x: <http://x/>\nx:s x:p x:o .\nPREFIX x: <http://y/>\nx:s x:p x:o .",
-                "<http://x/s> <http://x/p> <http://x/o> .\n<http://y/s> <http://y/p> <http://y/o> .\n",
-            ),
-            (
-                b"<http://a/s> <http://a/p> \"\"\"a\"b\n\\u00E9\\t\"\"\" .",
-                "<http://a/s> <http://a/p> \"a\\\"b\\né\t\" .\n",
-            ),
-            (
-                b"<http://a/s> <http://a/p> <http://a/s> .\xff",
-                "rdfconv: bad UTF-8 at byte 40, line 1\n",
-            ),
-            (
-                b"<s> <http://a/p> <http://a/s> .",
-                "rdfconv: no base at byte 0, line 1\n",
-            ),
-            (
-                b"( <http://a/s> ) <http://a/p> [] , () .",
-                "_:c2 <http://www.w3.org/1999/02/22-rdf-syntax-ns#first> <http://a/s> .
+    ),
+    (
+        Set::Statements,
+        b"_:a19 <http://a/p> [] .",
+        "_:na19 <http://a/p> _:a19 .\n",
+    ),
+    (
+        Set::Statements,
+        b"<http://a/s> <http://a/p> <http://a/s> ; <http://a/q> e:x .",
+        "<http://a/s> <http://a/p> <http://a/s> .\nrdfconv: unbound prefix at byte 54, line 1\n",
+    ),
+    (
+        Set::Statements,
+        b"PREFIX x: <http://x/>\nx:s x:p x:o .\nPREFIX x: <http://y/>\nx:s x:p x:o .",
+        "<http://x/s> <http://x/p> <http://x/o> .\n<http://y/s> <http://y/p> <http://y/o> .\n",
+    ),
+    (
+        Set::Statements,
+        b"<http://a/s> <http://a/p> \"\"\"a\"b\n\\u00E9\\t\"\"\" .",
+        "<http://a/s> <http://a/p> \"a\\\"b\\né\t\" .\n",
+    ),
+    (
+        Set::Statements,
+        b"<http://a/s> <http://a/p> <http://a/s> .\xff",
+        "rdfconv: bad UTF-8 at byte 40, line 1\n",
+    ),
+    (
+        Set::Statements,
+        b"<s> <http://a/p> <http://a/s> .",
+        "rdfconv: no base at byte 0, line 1\n",
+    ),
+    (
+        Set::Statements,
+        b"( <http://a/s> ) <http://a/p> [] , () .",
+        "_:c2 <http://www.w3.org/1999/02/22-rdf-syntax-ns#first> <http://a/s> .
 _:c2 <http://www.w3.org/1999/02/22-rdf-syntax-ns#rest> <http://www.w3.org/1999/02/22-rdf-syntax-ns#nil> .
 _:c2 <http://a/p> _:a30 .
 _:c2 <http://a/p> <http://www.w3.org/1999/02/22-rdf-syntax-ns#nil> .
 ",
-            ),
-            (
-                b"<http://a/s> <http://a/p> (\"\"\"a\") .",
-                "rdfconv: no token at byte 27, line 1\n",
-            ),
-        ],
-    },
-    Set {
-        forms: &[Form::Turtle],
-        base: "",
-        limits: [1000, 9, 9, 1000],
-        rows: &[(
-            b"<http://g/> { <http://a/s> <http://a/p> <http://a/s> }",
-            "rdfconv: unexpected token at byte 12, line 1\n",
-        )],
-    },
-    Set {
-        forms: &[Form::TriG],
-        base: "",
-        limits: [1000, 9, 9, 1000],
-        rows: &[
-            (
-                b"{ } GRAPH [] { <http://a/s> <http://a/p> <http://a/s> }",
-                "<http://a/s> <http://a/p> <http://a/s> _:a10 .\n",
-            ),
-            (
-                b"<http://g/> { _:x <http://a/p> <http://a/s> . } _:x <http://a/p> <http://a/s> .",
-                "_:nx <http://a/p> <http://a/s> <http://g/> .\n_:nx <http://a/p> <http://a/s> .\n",
-            ),
-            (
-                b"[ <http://a/p> <http://a/s> ] { }",
-                "_:a0 <http://a/p> <http://a/s> .\nrdfconv: unexpected token at byte 30, line 1\n",
-            ),
-        ],
-    },
-    Set {
-        forms: &[Form::NTriples, Form::NQuads],
-        base: "",
-        limits: [1000, 9, 9, 1000],
-        rows: &[
-            // Lines that stand as they are written, and others: a cut within one makes it one of the others.
-            (
-                b"<a:s> <a:p> <a:o> .\n<a:s>\t<a:p>  \"\\u00e9\" . # c\r\n_:b <a:p> \"x\"@en .\n\n<a:s> <a:p> \"y\"^^<a:t> .\n_:b <a:p> \"\xC3\xA9\" .\n<a:s> <a:p> \"q\\\"r\\n\" .\n",
-                "<a:s> <a:p> <a:o> .
+    ),
+    (
+        Set::Statements,
+        b"<http://a/s> <http://a/p> (\"\"\"a\") .",
+        "rdfconv: no token at byte 27, line 1\n",
+    ),
+    (
+        Set::Turtle,
+        b"<http://g/> { <http://a/s> <http://a/p> <http://a/s> }",
+        "rdfconv: unexpected token at byte 12, line 1\n",
+    ),
+    (
+        Set::TriG,
+        b"{ } GRAPH [] { <http://a/s> <http://a/p> <http://a/s> }",
+        "<http://a/s> <http://a/p> <http://a/s> _:a10 .\n",
+    ),
+    (
+        Set::TriG,
+        b"<http://g/> { _:x <http://a/p> <http://a/s> . } _:x <http://a/p> <http://a/s> .",
+        "_:nx <http://a/p> <http://a/s> <http://g/> .\n_:nx <http://a/p> <http://a/s> .\n",
+    ),
+    (
+        Set::TriG,
+        b"[ <http://a/p> <http://a/s> ] { }",
+        "_:a0 <http://a/p> <http://a/s> .\nrdfconv: unexpected token at byte 30, line 1\n",
+    ),
+    // Lines that stand as they are written, and others: a cut within one makes it one of the others.
+    (
+        Set::Lines,
+        b"<a:s> <a:p> <a:o> .\n<a:s>\t<a:p>  \"\\u00e9\" . # c\r\n_:b <a:p> \"x\"@en .\n\n<a:s> <a:p> \"y\"^^<a:t> .\n_:b <a:p> \"\xC3\xA9\" .\n<a:s> <a:p> \"q\\\"r\\n\" .\n",
+        "<a:s> <a:p> <a:o> .
 <a:s> <a:p> \"é\" .
 _:b <a:p> \"x\"@en .
 <a:s> <a:p> \"y\"^^<a:t> .
 _:b <a:p> \"é\" .
 <a:s> <a:p> \"q\\\"r\\n\" .
 ",
-            ),
-            // Lines that stand so but for a CR before each LF, and other ends among them.
-            (
-                b"<a:s> <a:p> <a:o> .\r\n<a:s> <a:p> \"x\"@en .\r\n<a:s> <a:p> \"\xC3\xA9\" .\n_:b <a:p> \"q\\\"r\\n\" .\r\n\r\n<a:s> <a:p> \"y\"^^<a:t> .\r\n<a:s> <a:p> \"z\" .\r<a:s> <a:p> \"w\" .\n\r<a:s> <a:p> <a:o> . # c\r\n_:b <a:p> <a:o> .\r\n",
-                "<a:s> <a:p> <a:o> .
+    ),
+    // Lines that stand so but for a CR before each LF, and other ends among them.
+    (
+        Set::Lines,
+        b"<a:s> <a:p> <a:o> .\r\n<a:s> <a:p> \"x\"@en .\r\n<a:s> <a:p> \"\xC3\xA9\" .\n_:b <a:p> \"q\\\"r\\n\" .\r\n\r\n<a:s> <a:p> \"y\"^^<a:t> .\r\n<a:s> <a:p> \"z\" .\r<a:s> <a:p> \"w\" .\n\r<a:s> <a:p> <a:o> . # c\r\n_:b <a:p> <a:o> .\r\n",
+        "<a:s> <a:p> <a:o> .
 <a:s> <a:p> \"x\"@en .
 <a:s> <a:p> \"é\" .
 _:b <a:p> \"q\\\"r\\n\" .
@@ -120,168 +127,160 @@ _:b <a:p> \"q\\\"r\\n\" .
 <a:s> <a:p> <a:o> .
 _:b <a:p> <a:o> .
 ",
-            ),
-            (
-                b"<a:s> <a:p> <a:o> .\r\n<a:s> <a:p> <a:o> .\r\n<a:s> <a:p> <o> .\r\n",
-                "<a:s> <a:p> <a:o> .\n<a:s> <a:p> <a:o> .\nrdfconv: relative IRI at byte 54, line 3\n",
-            ),
-            (
-                b"<a:s> <a:p> <a:o> .\n<a:s> <a:p> <o> .\n",
-                "<a:s> <a:p> <a:o> .\nrdfconv: relative IRI at byte 32, line 2\n",
-            ),
-            // Strings with the escapes that are written, with others, and with what is no escape.
-            (
-                b"<a:s> <a:p> \"q\\\"r\\n\" .\n<a:s> <a:p> \"\\\\\\r\\n'\"@en .\n<a:s> <a:p> \"a\\tb\" .\n<a:s> <a:p> \"\\n\\'\\u0022\" .\n<a:s> <a:p> \"\\\"\"^^<a:t> .\n",
-                "<a:s> <a:p> \"q\\\"r\\n\" .\n<a:s> <a:p> \"\\\\\\r\\n'\"@en .\n<a:s> <a:p> \"a\tb\" .\n<a:s> <a:p> \"\\n'\\\"\" .\n<a:s> <a:p> \"\\\"\"^^<a:t> .\n",
-            ),
-            (
-                b"<a:s> <a:p> \"\\n\" .\n<a:s> <a:p> \"\\n\\x\" .\n",
-                "<a:s> <a:p> \"\\n\" .\nrdfconv: no token at byte 31, line 2\n",
-            ),
-            (
-                b"<a:s> <a:p> \"\\n\" .\n<a:s> <a:p> \"\\\" .\n",
-                "<a:s> <a:p> \"\\n\" .\nrdfconv: no token at byte 31, line 2\n",
-            ),
-            (
-                b"<a:s> <a:p> <a:o> .\n<a:s> <a:p> \"x\"^^<http://www.w3.org/2001/XMLSchema#string> .\n<a:s> <a:p> \"z\" .\n",
-                "<a:s> <a:p> <a:o> .\n<a:s> <a:p> \"x\" .\n<a:s> <a:p> \"z\" .\n",
-            ),
-            (
-                b"<a:s> <a:p> <a:o> .\n<a:s> <a:p> <a:o>",
-                "<a:s> <a:p> <a:o> .\nrdfconv: unexpected token at byte 37, line 2\n",
-            ),
-            (
-                b"<http://a/s> <http://a/p>\n",
-                "rdfconv: unexpected token at byte 25, line 1\n",
-            ),
-            (
-                b"<http://a/s> <http://a/p> <http://a/s> .\r\n<http://a/s> <http://a/p> <http://a/s> .",
-                "<http://a/s> <http://a/p> <http://a/s> .\n<http://a/s> <http://a/p> <http://a/s> .\n",
-            ),
-            (
-                b"<http://a/s> <http://a/p> <http://a/s> .\xff",
-                "<http://a/s> <http://a/p> <http://a/s> .\nrdfconv: bad UTF-8 at byte 40, line 1\n",
-            ),
-            (
-                b"<http://a/s> <http://a/p> <http://a/s> . <http://a/s> <http://a/p> <http://a/s> .",
-                "<http://a/s> <http://a/p> <http://a/s> .
+    ),
+    (
+        Set::Lines,
+        b"<a:s> <a:p> <a:o> .\r\n<a:s> <a:p> <a:o> .\r\n<a:s> <a:p> <o> .\r\n",
+        "<a:s> <a:p> <a:o> .\n<a:s> <a:p> <a:o> .\nrdfconv: relative IRI at byte 54, line 3\n",
+    ),
+    (
+        Set::Lines,
+        b"<a:s> <a:p> <a:o> .\n<a:s> <a:p> <o> .\n",
+        "<a:s> <a:p> <a:o> .\nrdfconv: relative IRI at byte 32, line 2\n",
+    ),
+    // Strings with the escapes that are written, with others, and with what is no escape.
+    (
+        Set::Lines,
+        b"<a:s> <a:p> \"q\\\"r\\n\" .\n<a:s> <a:p> \"\\\\\\r\\n'\"@en .\n<a:s> <a:p> \"a\\tb\" .\n<a:s> <a:p> \"\\n\\'\\u0022\" .\n<a:s> <a:p> \"\\\"\"^^<a:t> .\n",
+        "<a:s> <a:p> \"q\\\"r\\n\" .\n<a:s> <a:p> \"\\\\\\r\\n'\"@en .\n<a:s> <a:p> \"a\tb\" .\n<a:s> <a:p> \"\\n'\\\"\" .\n<a:s> <a:p> \"\\\"\"^^<a:t> .\n",
+    ),
+    (
+        Set::Lines,
+        b"<a:s> <a:p> \"\\n\" .\n<a:s> <a:p> \"\\n\\x\" .\n",
+        "<a:s> <a:p> \"\\n\" .\nrdfconv: no token at byte 31, line 2\n",
+    ),
+    (
+        Set::Lines,
+        b"<a:s> <a:p> \"\\n\" .\n<a:s> <a:p> \"\\\" .\n",
+        "<a:s> <a:p> \"\\n\" .\nrdfconv: no token at byte 31, line 2\n",
+    ),
+    (
+        Set::Lines,
+        b"<a:s> <a:p> <a:o> .\n<a:s> <a:p> \"x\"^^<http://www.w3.org/2001/XMLSchema#string> .\n<a:s> <a:p> \"z\" .\n",
+        "<a:s> <a:p> <a:o> .\n<a:s> <a:p> \"x\" .\n<a:s> <a:p> \"z\" .\n",
+    ),
+    (
+        Set::Lines,
+        b"<a:s> <a:p> <a:o> .\n<a:s> <a:p> <a:o>",
+        "<a:s> <a:p> <a:o> .\nrdfconv: unexpected token at byte 37, line 2\n",
+    ),
+    (
+        Set::Lines,
+        b"<http://a/s> <http://a/p>\n",
+        "rdfconv: unexpected token at byte 25, line 1\n",
+    ),
+    (
+        Set::Lines,
+        b"<http://a/s> <http://a/p> <http://a/s> .\r\n<http://a/s> <http://a/p> <http://a/s> .",
+        "<http://a/s> <http://a/p> <http://a/s> .\n<http://a/s> <http://a/p> <http://a/s> .\n",
+    ),
+    (
+        Set::Lines,
+        b"<http://a/s> <http://a/p> <http://a/s> .\xff",
+        "<http://a/s> <http://a/p> <http://a/s> .\nrdfconv: bad UTF-8 at byte 40, line 1\n",
+    ),
+    (
+        Set::Lines,
+        b"<http://a/s> <http://a/p> <http://a/s> . <http://a/s> <http://a/p> <http://a/s> .",
+        "<http://a/s> <http://a/p> <http://a/s> .
 rdfconv: unexpected token at byte 41, line 1
 ",
-            ),
-            (
-                b"\n<http://a/s> <http://a/p> <http://a/s> .\n\n",
-                "<http://a/s> <http://a/p> <http://a/s> .\n",
-            ),
-            (
-                b"<http://a/s> <http://a/p> _:x .",
-                "<http://a/s> <http://a/p> _:x .\n",
-            ),
-            (
-                b"<http://a/s> <http://a/p> <http://a/s> .\n<s> <http://a/p> <http://a/s> .",
-                "<http://a/s> <http://a/p> <http://a/s> .\nrdfconv: relative IRI at byte 41, line 2\n",
-            ),
-            (
-                b"<http://a/s> <http://a/p> \"x\"^^<http://www.w3.org/2001/XMLSchema#string> . # c",
-                "<http://a/s> <http://a/p> \"x\" .\n",
-            ),
-            (
-                b"<http://a/s> <http://a/p> \"\\uD800\" .",
-                "rdfconv: bad escape at byte 26, line 1\n",
-            ),
-            (
-                b"<http://a/\\u003E> <http://a/p> <http://a/s> .",
-                "rdfconv: bad escape at byte 0, line 1\n",
-            ),
-            (
-                b"_:a:b <http://a/p> <http://a/s> .#",
-                "_:a:b <http://a/p> <http://a/s> .\n",
-            ),
-            (
-                b"<http://a/s> <http://a/p> \"\\q\" .",
-                "rdfconv: no token at byte 26, line 1\n",
-            ),
-        ],
-    },
-    Set {
-        forms: &[Form::NQuads],
-        base: "",
-        limits: [1000, 9, 9, 1000],
-        rows: &[
-            (
-                b"_:x <http://a/p> _:x _:g .",
-                "_:x <http://a/p> _:x _:g .\n",
-            ),
-            (
-                b"<http://a/s> <http://a/p> \"a\\tb\\u00E9\\n\" @en-GB <http://g/> .",
-                "<http://a/s> <http://a/p> \"a\tbé\\n\"@en-GB <http://g/> .\n",
-            ),
-        ],
-    },
-    Set {
-        forms: &[Form::NTriples],
-        base: "",
-        limits: [1000, 9, 9, 1000],
-        rows: &[(
-            b"<http://a/s> <http://a/p> <http://a/s> <http://g/> .",
-            "rdfconv: unexpected token at byte 39, line 1\n",
-        )],
-    },
-    Set {
-        forms: &[Form::Turtle, Form::TriG],
-        base: "",
-        limits: [12, 9, 9, 1000],
-        rows: &[
-            (
-                b"<http://a/s> <http://a/p> truefalsetrue .",
-                "rdfconv: token too long at byte 26, line 1\n",
-            ),
-            (b"bbbbbbbbbbbb", "rdfconv: no token at byte 0, line 1\n"),
-            (
-                b"bbbbbbbbbbbbb",
-                "rdfconv: token too long at byte 0, line 1\n",
-            ),
-            (
-                b"aaaaaaaaaaaa",
-                "rdfconv: unexpected token at byte 0, line 1\n",
-            ),
-        ],
-    },
-    Set {
-        forms: &[Form::Turtle, Form::TriG],
-        base: "",
-        limits: [1000, 1, 9, 1000],
-        rows: &[(
-            b"<http://a/s> <http://a/p> [ <http://a/q> [] ] .",
-            "<http://a/s> <http://a/p> _:a26 .\nrdfconv: too deep at byte 41, line 1\n",
-        )],
-    },
-    Set {
-        forms: &[Form::Turtle, Form::TriG],
-        base: "",
-        limits: [1000, 9, 1, 1000],
-        rows: &[(
-            b"PREFIX a: <http://a/> PREFIX a: <http://b/> PREFIX b: <http://b/>",
-            "rdfconv: too many bindings at byte 54, line 1\n",
-        )],
-    },
-    Set {
-        forms: &[Form::Turtle, Form::TriG],
-        base: "",
-        limits: [1000, 9, 9, 10],
-        rows: &[(
-            b"<http://a/ss> <http://a/p> <http://a/s> .",
-            "rdfconv: IRI too long at byte 0, line 1\n",
-        )],
-    },
-    Set {
-        forms: &[Form::Turtle, Form::TriG],
-        base: "http://a/b/c/d;p?q",
-        limits: [1000, 9, 9, 1000],
-        rows: &[(
-            b"<../g> <#s> <?y> .",
-            "<http://a/b/g> <http://a/b/c/d;p?q#s> <http://a/b/c/d;p?y> .\n",
-        )],
-    },
+    ),
+    (
+        Set::Lines,
+        b"\n<http://a/s> <http://a/p> <http://a/s> .\n\n",
+        "<http://a/s> <http://a/p> <http://a/s> .\n",
+    ),
+    (
+        Set::Lines,
+        b"<http://a/s> <http://a/p> _:x .",
+        "<http://a/s> <http://a/p> _:x .\n",
+    ),
+    (
+        Set::Lines,
+        b"<http://a/s> <http://a/p> <http://a/s> .\n<s> <http://a/p> <http://a/s> .",
+        "<http://a/s> <http://a/p> <http://a/s> .\nrdfconv: relative IRI at byte 41, line 2\n",
+    ),
+    (
+        Set::Lines,
+        b"<http://a/s> <http://a/p> \"x\"^^<http://www.w3.org/2001/XMLSchema#string> . # c",
+        "<http://a/s> <http://a/p> \"x\" .\n",
+    ),
+    (
+        Set::Lines,
+        b"<http://a/s> <http://a/p> \"\\uD800\" .",
+        "rdfconv: bad escape at byte 26, line 1\n",
+    ),
+    (
+        Set::Lines,
+        b"<http://a/\\u003E> <http://a/p> <http://a/s> .",
+        "rdfconv: bad escape at byte 0, line 1\n",
+    ),
+    (
+        Set::Lines,
+        b"_:a:b <http://a/p> <http://a/s> .#",
+        "_:a:b <http://a/p> <http://a/s> .\n",
+    ),
+    (
+        Set::Lines,
+        b"<http://a/s> <http://a/p> \"\\q\" .",
+        "rdfconv: no token at byte 26, line 1\n",
+    ),
+    (
+        Set::NQuads,
+        b"_:x <http://a/p> _:x _:g .",
+        "_:x <http://a/p> _:x _:g .\n",
+    ),
+    (
+        Set::NQuads,
+        b"<http://a/s> <http://a/p> \"a\\tb\\u00E9\\n\" @en-GB <http://g/> .",
+        "<http://a/s> <http://a/p> \"a\tbé\\n\"@en-GB <http://g/> .\n",
+    ),
+    (
+        Set::NTriples,
+        b"<http://a/s> <http://a/p> <http://a/s> <http://g/> .",
+        "rdfconv: unexpected token at byte 39, line 1\n",
+    ),
+    (
+        Set::ShortTokens,
+        b"<http://a/s> <http://a/p> truefalsetrue .",
+        "rdfconv: token too long at byte 26, line 1\n",
+    ),
+    (
+        Set::ShortTokens,
+        b"bbbbbbbbbbbb",
+        "rdfconv: no token at byte 0, line 1\n",
+    ),
+    (
+        Set::ShortTokens,
+        b"bbbbbbbbbbbbb",
+        "rdfconv: token too long at byte 0, line 1\n",
+    ),
+    (
+        Set::ShortTokens,
+        b"aaaaaaaaaaaa",
+        "rdfconv: unexpected token at byte 0, line 1\n",
+    ),
+    (
+        Set::OneBracket,
+        b"<http://a/s> <http://a/p> [ <http://a/q> [] ] .",
+        "<http://a/s> <http://a/p> _:a26 .\nrdfconv: too deep at byte 41, line 1\n",
+    ),
+    (
+        Set::OnePrefix,
+        b"PREFIX a: <http://a/> PREFIX a: <http://b/> PREFIX b: <http://b/>",
+        "rdfconv: too many bindings at byte 54, line 1\n",
+    ),
+    (
+        Set::ShortIris,
+        b"<http://a/ss> <http://a/p> <http://a/s> .",
+        "rdfconv: IRI too long at byte 0, line 1\n",
+    ),
+    (
+        Set::WithBase,
+        b"<../g> <#s> <?y> .",
+        "<http://a/b/g> <http://a/b/c/d;p?q#s> <http://a/b/c/d;p?y> .\n",
+    ),
 ];
 
 /// Texts whose tokens are shown.

@@ -2,11 +2,11 @@
 
 ghost use Rattle.std.specs.Prelude.{◌≡◌, ◌≤◌, false, length};
 
+use crate::reading::{Document, Piece, Report, read_statements};
 use crate::sinks::{RecordingSink, has_lines, recording_sink};
-use rdf_driver::{Fault, Summary};
 use rdf_iri::Limits;
 use rdf_terms::{Iri, Reason};
-use rdf_trig::{DocForm, Options, TrigReader, read_document};
+use rdf_trig::{DocForm, Options, read_document};
 use std::alloc::Global;
 
 /// What a document is read under.
@@ -73,42 +73,46 @@ fn options(alloc: Global, under: Under, form: DocForm) -> Option<Options> {
 }
 
 /// Reads a document whose first bytes come in one piece, and the others one by one.
-fn read(
-    reader: &mut TrigReader,
-    bytes: &[u8],
-    cut: usize,
+fn read_cut(
+    alloc: Global,
+    options: Options,
+    first: &[u8],
+    rest: &[u8],
     sink: &mut RecordingSink,
-) -> Result<Summary, Fault>
-    requires within { cut ≤ length bytes.now }
-    requires live { sink.old.failed ≡ false }
+) -> Report
+    requires { sink.old.failed ≡ false }
 {
-    reader.feed(&bytes[..cut], sink)?;
-    for byte in &bytes[cut..] {
-        reader.feed(&[*byte], sink)?;
-    }
-    reader.finish(sink)
+    let pieces = [Piece {
+        bytes: first,
+        times: 1,
+    }];
+    let document = Document {
+        pieces: pieces.as_slice(),
+        rest,
+    };
+    read_statements(alloc, options, &document, sink)
 }
 
-/// Whether this was to be reported of a document, and these lines to be put.
-fn is_answered(row: &Row, answer: Result<Summary, Fault>, sink: &RecordingSink) -> bool {
-    let is_answered = match answer {
-        Ok(summary) => {
-            row.refused.is_none()
-                && summary.quads == sink.quads
-                && summary.bytes == row.bytes.len() as u64
+/// Whether this was to be reported of a document with so many quads.
+fn is_answered(row: &Row, report: &Report, quads: u64) -> bool {
+    report.has_ended
+        && match report.answer {
+            Ok(summary) => {
+                row.refused.is_none()
+                    && summary.quads == quads
+                    && summary.bytes == row.bytes.len() as u64
+            }
+            Err(fault) => row.refused == Some((fault.reason, fault.offset, fault.line)),
         }
-        Err(fault) => row.refused == Some((fault.reason, fault.offset, fault.line)),
-    };
-    is_answered && sink.lines.as_slice() == row.lines.as_bytes()
 }
 
 fn is_read_cut(alloc: Global, options: Options, row: &Row, cut: usize) -> bool
     requires { cut ≤ length row.now.bytes.now }
 {
-    let mut reader = TrigReader::new(alloc, options);
     let mut sink = recording_sink(alloc, 64);
-    let answer = read(&mut reader, row.bytes, cut, &mut sink);
-    is_answered(row, answer, &sink)
+    let (first, rest) = row.bytes.split_at(cut);
+    let report = read_cut(alloc, options, first, rest, &mut sink);
+    is_answered(row, &report, sink.quads) && sink.lines.as_slice() == row.lines.as_bytes()
 }
 
 fn is_read_at_once(alloc: Global, options: Options, row: &Row) -> bool {
@@ -138,7 +142,8 @@ fn misread(alloc: Global, form: DocForm, rows: &[Row]) -> Option<usize> {
     None
 }
 
-static ROWS: [Row; 57] = [
+/// Documents that are read.
+static READ: [Row; 28] = [
     Row {
         under: Under::Both,
         bytes: b"@prefix e: <http://e/> . e:s a e:t ; e:p \"x\"@en , 'y'^^e:t , _:b ; . [ e:q \"z\"@prefix ] .",
@@ -307,6 +312,56 @@ _:c58 <http://www.w3.org/1999/02/22-rdf-syntax-ns#rest> <http://www.w3.org/1999/
         refused: None,
     },
     Row {
+        under: Under::Trig,
+        bytes: b"<http://g/> { <http://a/s> <http://a/p> <http://a/s> }",
+        lines: "<http://a/s> <http://a/p> <http://a/s> <http://g/> .\n",
+        refused: None,
+    },
+    Row {
+        under: Under::Trig,
+        bytes: b"{ } GRAPH [] { <http://a/s> <http://a/p> <http://a/s> }",
+        lines: "<http://a/s> <http://a/p> <http://a/s> _:a10 .\n",
+        refused: None,
+    },
+    Row {
+        under: Under::Trig,
+        bytes: b"<http://g/> { _:x <http://a/p> <http://a/s> . } _:x <http://a/p> <http://a/s> .",
+        lines: "_:nx <http://a/p> <http://a/s> <http://g/> .
+_:nx <http://a/p> <http://a/s> .
+",
+        refused: None,
+    },
+    Row {
+        under: Under::Trig,
+        bytes: b"GRAPH <http://g/> { [ <http://a/p> <http://a/s> ] . <http://a/s> <http://a/p> ( ) }",
+        lines: "_:a20 <http://a/p> <http://a/s> <http://g/> .
+<http://a/s> <http://a/p> <http://www.w3.org/1999/02/22-rdf-syntax-ns#nil> <http://g/> .
+",
+        refused: None,
+    },
+    Row {
+        under: Under::Base,
+        bytes: b"<s> <http://a/p> <http://a/s> .",
+        lines: "<http://h/b/s> <http://a/p> <http://a/s> .\n",
+        refused: None,
+    },
+    Row {
+        under: Under::ShortTokens,
+        bytes: b"<http://a/s> <http://a/p> <http://a/s> .",
+        lines: "<http://a/s> <http://a/p> <http://a/s> .\n",
+        refused: None,
+    },
+    Row {
+        under: Under::ShortIris,
+        bytes: b"<http://a/s> <http://a/p> <http://a/s> .",
+        lines: "<http://a/s> <http://a/p> <http://a/s> .\n",
+        refused: None,
+    },
+];
+
+/// Documents that are refused.
+static REFUSED: [Row; 29] = [
+    Row {
         under: Under::Both,
         bytes: b"@base <x> .",
         lines: "",
@@ -392,34 +447,6 @@ _:c58 <http://www.w3.org/1999/02/22-rdf-syntax-ns#rest> <http://www.w3.org/1999/
     },
     Row {
         under: Under::Trig,
-        bytes: b"<http://g/> { <http://a/s> <http://a/p> <http://a/s> }",
-        lines: "<http://a/s> <http://a/p> <http://a/s> <http://g/> .\n",
-        refused: None,
-    },
-    Row {
-        under: Under::Trig,
-        bytes: b"{ } GRAPH [] { <http://a/s> <http://a/p> <http://a/s> }",
-        lines: "<http://a/s> <http://a/p> <http://a/s> _:a10 .\n",
-        refused: None,
-    },
-    Row {
-        under: Under::Trig,
-        bytes: b"<http://g/> { _:x <http://a/p> <http://a/s> . } _:x <http://a/p> <http://a/s> .",
-        lines: "_:nx <http://a/p> <http://a/s> <http://g/> .
-_:nx <http://a/p> <http://a/s> .
-",
-        refused: None,
-    },
-    Row {
-        under: Under::Trig,
-        bytes: b"GRAPH <http://g/> { [ <http://a/p> <http://a/s> ] . <http://a/s> <http://a/p> ( ) }",
-        lines: "_:a20 <http://a/p> <http://a/s> <http://g/> .
-<http://a/s> <http://a/p> <http://www.w3.org/1999/02/22-rdf-syntax-ns#nil> <http://g/> .
-",
-        refused: None,
-    },
-    Row {
-        under: Under::Trig,
         bytes: b"{ <http://a/s> <http://a/p> <http://a/s> . . }",
         lines: "<http://a/s> <http://a/p> <http://a/s> .\n",
         refused: Some((Reason::Unexpected, 43, 1)),
@@ -461,18 +488,6 @@ _:nx <http://a/p> <http://a/s> .
         refused: Some((Reason::Unexpected, 0, 1)),
     },
     Row {
-        under: Under::Base,
-        bytes: b"<s> <http://a/p> <http://a/s> .",
-        lines: "<http://h/b/s> <http://a/p> <http://a/s> .\n",
-        refused: None,
-    },
-    Row {
-        under: Under::ShortTokens,
-        bytes: b"<http://a/s> <http://a/p> <http://a/s> .",
-        lines: "<http://a/s> <http://a/p> <http://a/s> .\n",
-        refused: None,
-    },
-    Row {
         under: Under::ShortTokens,
         bytes: b"<http://a/ss> <http://a/p> <http://a/s> .",
         lines: "",
@@ -510,12 +525,6 @@ _:nx <http://a/p> <http://a/s> .
     },
     Row {
         under: Under::ShortIris,
-        bytes: b"<http://a/s> <http://a/p> <http://a/s> .",
-        lines: "<http://a/s> <http://a/p> <http://a/s> .\n",
-        refused: None,
-    },
-    Row {
-        under: Under::ShortIris,
         bytes: b"<http://a/ss> <http://a/p> <http://a/s> .",
         lines: "",
         refused: Some((Reason::IriTooLong, 0, 1)),
@@ -532,7 +541,18 @@ _:nx <http://a/p> <http://a/s> .
 fn a_document_is_read_the_same_however_it_is_cut(rt: HostRuntime) {
     for form in [DocForm::Turtle, DocForm::TriG] {
         assert_eq!(rt;
-            misread(rt.alloc(), form, ROWS.as_slice()),
+            misread(rt.alloc(), form, READ.as_slice()),
+            None,
+            "{form:?}"
+        );
+    }
+}
+
+#[test]
+fn a_document_is_refused_the_same_however_it_is_cut(rt: HostRuntime) {
+    for form in [DocForm::Turtle, DocForm::TriG] {
+        assert_eq!(rt;
+            misread(rt.alloc(), form, REFUSED.as_slice()),
             None,
             "{form:?}"
         );

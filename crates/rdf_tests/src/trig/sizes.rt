@@ -1,16 +1,18 @@
 // Brackets in their tens of thousands, piece by piece, and how much is held.
 
+use crate::reading::{Document, Form, Piece, Report, read};
 use crate::sinks::CountingSink;
+use rdf_driver::{Fault, Summary};
 use rdf_iri::Limits;
 use rdf_terms::Reason;
-use rdf_trig::{DocForm, Options, TrigReader};
+use rdf_trig::DocForm;
 use std::alloc::Global;
 
 /// A document of pieces, each of which comes some times over: how many brackets may be open, how many quads are put, and why it is refused, at
 /// which byte, if it is.
 struct Nested {
     depth: u64,
-    pieces: &'static [(&'static str, u32)],
+    pieces: &'static [Piece<'static>],
     quads: u64,
     refused: Option<(Reason, u64)>,
 }
@@ -19,10 +21,22 @@ static NESTED: [Nested; 3] = [
     Nested {
         depth: 100000,
         pieces: &[
-            ("<http://a/s> <http://a/p> ", 1),
-            ("((((((((((", 10000),
-            ("))))))))))", 10000),
-            (" .", 1),
+            Piece {
+                bytes: b"<http://a/s> <http://a/p> ",
+                times: 1,
+            },
+            Piece {
+                bytes: b"((((((((((",
+                times: 10000,
+            },
+            Piece {
+                bytes: b"))))))))))",
+                times: 10000,
+            },
+            Piece {
+                bytes: b" .",
+                times: 1,
+            },
         ],
         quads: 199999,
         refused: None,
@@ -30,10 +44,22 @@ static NESTED: [Nested; 3] = [
     Nested {
         depth: 100000,
         pieces: &[
-            ("<http://a/s> <http://a/p> ", 1),
-            ("[ <http://a/q> (", 50000),
-            (")]", 50000),
-            (" .", 1),
+            Piece {
+                bytes: b"<http://a/s> <http://a/p> ",
+                times: 1,
+            },
+            Piece {
+                bytes: b"[ <http://a/q> (",
+                times: 50000,
+            },
+            Piece {
+                bytes: b")]",
+                times: 50000,
+            },
+            Piece {
+                bytes: b" .",
+                times: 1,
+            },
         ],
         quads: 149999,
         refused: None,
@@ -41,49 +67,66 @@ static NESTED: [Nested; 3] = [
     Nested {
         depth: 99999,
         pieces: &[
-            ("<http://a/s> <http://a/p> ", 1),
-            ("((((((((((", 10000),
-            ("))))))))))", 10000),
-            (" .", 1),
+            Piece {
+                bytes: b"<http://a/s> <http://a/p> ",
+                times: 1,
+            },
+            Piece {
+                bytes: b"((((((((((",
+                times: 10000,
+            },
+            Piece {
+                bytes: b"))))))))))",
+                times: 10000,
+            },
+            Piece {
+                bytes: b" .",
+                times: 1,
+            },
         ],
         quads: 99998,
         refused: Some((Reason::TooDeep, 100025)),
     },
 ];
 
-fn reader(alloc: Global, limits: [u64; 4]) -> Option<TrigReader> {
+/// What came of a document of pieces under these limits.
+fn report(
+    alloc: Global,
+    limits: [u64; 4],
+    pieces: &[Piece<'_>],
+    sink: &mut CountingSink,
+) -> Option<Report> {
     let [token, depth, bindings, iri] = limits;
     let limits = Limits::new(token, depth, bindings, iri)?;
-    let options = Options::new(DocForm::TriG, None, limits)?;
-    Some(TrigReader::new(alloc, options))
+    let document = Document { pieces, rest: b"" };
+    read(
+        alloc,
+        Form::Statements(DocForm::TriG),
+        limits,
+        &document,
+        sink,
+    )
 }
 
-/// Why the pieces are refused, and at which byte, if they are.
-fn refusal(
-    reader: &mut TrigReader,
-    pieces: &[(&str, u32)],
-    sink: &mut CountingSink,
-) -> Option<(Reason, u64)> {
-    for (piece, times) in pieces {
-        for _ in 0..*times {
-            if let Err(fault) = reader.feed(piece.as_bytes(), sink) {
-                return Some((fault.reason, fault.offset));
-            }
-        }
-    }
-    match reader.finish(sink) {
-        Ok(_) => None,
-        Err(fault) => Some((fault.reason, fault.offset)),
+/// Whether this is why a document is refused, and at which byte, if it is.
+fn is_answered(answer: Result<Summary, Fault>, refused: Option<(Reason, u64)>) -> bool {
+    match answer {
+        Ok(_) => refused.is_none(),
+        Err(fault) => refused == Some((fault.reason, fault.offset)),
     }
 }
 
 fn is_nested_so(alloc: Global, nested: &Nested) -> bool {
-    let Some(mut reader) = reader(alloc, [100, nested.depth, 9, 100]) else {
-        return false;
-    };
+    let limits = [100, nested.depth, 9, 100];
     let mut sink = CountingSink { quads: 0 };
-    let refused = refusal(&mut reader, nested.pieces, &mut sink);
-    refused == nested.refused && sink.quads == nested.quads
+    match report(alloc, limits, nested.pieces, &mut sink) {
+        Some(report) => {
+            is_answered(report.answer, nested.refused)
+                && report.has_ended
+                && sink.quads == nested.quads
+        }
+        None => false,
+    }
 }
 
 #[test]
@@ -95,10 +138,13 @@ fn brackets_nest_as_deep_as_the_limit_says(rt: HostRuntime) {
 
 /// How many bytes are held after a piece.
 fn held_after(alloc: Global, limits: [u64; 4], piece: &str) -> Option<u64> {
-    let mut reader = reader(alloc, limits)?;
+    let pieces = [Piece {
+        bytes: piece.as_bytes(),
+        times: 1,
+    }];
     let mut sink = CountingSink { quads: 0 };
-    let _ = reader.feed(piece.as_bytes(), &mut sink);
-    Some(reader.held())
+    let report = report(alloc, limits, pieces.as_slice(), &mut sink)?;
+    Some(report.held)
 }
 
 /// Limits, a piece, and how many bytes are held after it.

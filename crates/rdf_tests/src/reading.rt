@@ -1,0 +1,253 @@
+// Documents in pieces, read by the reader of their form. Only here is a reader made and dropped, since its many parts are dear to prove: where a
+// scope ends they are dropped one by one in the function itself, but `drop` is a call, and the parts are proved once.
+
+ghost use Rattle.std.specs.Prelude.{◌≡◌, true, false, OnOk, OnErr};
+
+use rdf_driver::{Fault, Summary};
+use rdf_iri::Limits;
+use rdf_lines::{LineForm, LineReader};
+use rdf_terms::{QuadSink, Reason};
+use rdf_trig::{DocForm, Options, TrigReader};
+use std::alloc::Allocator;
+
+/// The form of a document, which says by which reader it is read.
+#[derive(Clone, Copy, Debug)]
+pub enum Form {
+    Lines(LineForm),
+    Statements(DocForm),
+}
+
+/// Bytes that come in one piece, so many times.
+#[derive(Clone, Copy)]
+pub struct Piece<'a> {
+    pub bytes: &'a [u8],
+    pub times: u32,
+}
+
+/// A document: its pieces, and after them bytes that come one by one.
+#[derive(Clone, Copy)]
+pub struct Document<'a> {
+    pub pieces: &'a [Piece<'a>],
+    pub rest: &'a [u8],
+}
+
+/// What came of reading a document.
+#[derive(Clone, Copy)]
+pub struct Report {
+    pub answer: Result<Summary, Fault>,
+    /// How many bytes were held when all had come, or when it was refused.
+    pub held: u64,
+    /// Whether the calls after the last one report that reading has ended.
+    pub has_ended: bool,
+}
+
+/// What comes after the end.
+const MORE: &[u8] = b"<a:s> <a:p> <a:o> .\n";
+
+fn is_ended(fault: Option<Fault>) -> bool {
+    match fault {
+        Some(fault) => fault.reason == Reason::Ended,
+        None => false,
+    }
+}
+
+fn feed_lines<A: Allocator + Copy, S: QuadSink>(
+    reader: &mut LineReader<A>,
+    document: &Document<'_>,
+    sink: &mut S,
+) -> Result<(), Fault>
+    requires { S.has_failed sink.old ≡ false }
+    ensures live { OnOk result (S.has_failed sink.new ≡ false) }
+    ensures done { OnErr result (reader.new.done ≡ true) }
+{
+    for piece in document.pieces {
+        for _ in 0..piece.times {
+            reader.feed(piece.bytes, sink)?;
+        }
+    }
+    for byte in document.rest {
+        reader.feed(&[*byte], sink)?;
+    }
+    Ok(())
+}
+
+fn finish_lines<A: Allocator + Copy, S: QuadSink>(
+    reader: &mut LineReader<A>,
+    fed: Result<(), Fault>,
+    sink: &mut S,
+) -> Result<Summary, Fault>
+    requires live { OnOk fed (S.has_failed sink.old ≡ false) }
+    requires done { OnErr fed (reader.old.done ≡ true) }
+    ensures { reader.new.done ≡ true }
+{
+    fed?;
+    reader.finish(sink)
+}
+
+fn report_lines<A: Allocator + Copy, S: QuadSink>(
+    reader: &mut LineReader<A>,
+    document: &Document<'_>,
+    sink: &mut S,
+) -> Report
+    requires { S.has_failed sink.old ≡ false }
+{
+    let fed = feed_lines(reader, document, sink);
+    let held = reader.held();
+    let answer = finish_lines(reader, fed, sink);
+    let fed = reader.feed(MORE, sink).err();
+    let finished = reader.finish(sink).err();
+    Report {
+        answer,
+        held,
+        has_ended: is_ended(fed) && is_ended(finished),
+    }
+}
+
+fn read_lines<A: Allocator + Copy, S: QuadSink>(
+    alloc: A,
+    form: LineForm,
+    limits: Limits,
+    document: &Document<'_>,
+    sink: &mut S,
+) -> Report
+    requires { S.has_failed sink.old ≡ false }
+{
+    let mut reader = LineReader::new(alloc, form, limits);
+    let report = report_lines(&mut reader, document, sink);
+    drop(reader);
+    report
+}
+
+fn feed_statements<A: Allocator + Copy, S: QuadSink>(
+    reader: &mut TrigReader<A>,
+    document: &Document<'_>,
+    sink: &mut S,
+) -> Result<(), Fault>
+    requires { S.has_failed sink.old ≡ false }
+    ensures live { OnOk result (S.has_failed sink.new ≡ false) }
+    ensures done { OnErr result (reader.new.done ≡ true) }
+{
+    for piece in document.pieces {
+        for _ in 0..piece.times {
+            reader.feed(piece.bytes, sink)?;
+        }
+    }
+    for byte in document.rest {
+        reader.feed(&[*byte], sink)?;
+    }
+    Ok(())
+}
+
+fn finish_statements<A: Allocator + Copy, S: QuadSink>(
+    reader: &mut TrigReader<A>,
+    fed: Result<(), Fault>,
+    sink: &mut S,
+) -> Result<Summary, Fault>
+    requires live { OnOk fed (S.has_failed sink.old ≡ false) }
+    requires done { OnErr fed (reader.old.done ≡ true) }
+    ensures { reader.new.done ≡ true }
+{
+    fed?;
+    reader.finish(sink)
+}
+
+fn report_statements<A: Allocator + Copy, S: QuadSink>(
+    reader: &mut TrigReader<A>,
+    document: &Document<'_>,
+    sink: &mut S,
+) -> Report
+    requires { S.has_failed sink.old ≡ false }
+{
+    let fed = feed_statements(reader, document, sink);
+    let held = reader.held();
+    let answer = finish_statements(reader, fed, sink);
+    let fed = reader.feed(MORE, sink).err();
+    let finished = reader.finish(sink).err();
+    Report {
+        answer,
+        held,
+        has_ended: is_ended(fed) && is_ended(finished),
+    }
+}
+
+/// Reads a document of Turtle or TriG.
+pub fn read_statements<A: Allocator + Copy, S: QuadSink>(
+    alloc: A,
+    options: Options<A>,
+    document: &Document<'_>,
+    sink: &mut S,
+) -> Report
+    requires { S.has_failed sink.old ≡ false }
+{
+    let mut reader = TrigReader::new(alloc, options);
+    let report = report_statements(&mut reader, document, sink);
+    drop(reader);
+    report
+}
+
+/// Reads a document of any form, with no base.
+pub fn read<A: Allocator + Copy, S: QuadSink>(
+    alloc: A,
+    form: Form,
+    limits: Limits,
+    document: &Document<'_>,
+    sink: &mut S,
+) -> Option<Report>
+    requires { S.has_failed sink.old ≡ false }
+{
+    match form {
+        Form::Lines(form) => Some(read_lines(alloc, form, limits, document, sink)),
+        Form::Statements(form) => {
+            let options = Options::new(form, None, limits)?;
+            Some(read_statements(alloc, options, document, sink))
+        }
+    }
+}
+
+/// A document of N-Triples in pieces.
+static LINES: [Piece<'static>; 3] = [
+    Piece {
+        bytes: b"<http://a/\\u0073> <a:p> \"\\t\\u00e9 a",
+        times: 1,
+    },
+    Piece {
+        bytes: b" text\"@en-GB .\n_:x <a:p> _:y .\n<a:s> ",
+        times: 1,
+    },
+    Piece {
+        bytes: b"<a:p> \"x\"^^<a:t> . # c\n<a:s> <a:p> <a:o> .",
+        times: 1,
+    },
+];
+
+/// A document of Turtle in pieces. Its last dot is decided by its end, and a quad is given out there.
+static STATEMENTS: [Piece<'static>; 3] = [
+    Piece {
+        bytes: b"@base <http://h/b/c> . @prefix : <#> . :s a :b%20\\~c, <s\\u0061>, _:l ; :p 'a\\t",
+        times: 1,
+    },
+    Piece {
+        bytes: b"'@en, \"b\"^^:t, 1 . [ :p [ :q ( 1 [ ] ( \"a\" ) () ) ] ] . @prefix : <x> . ( [ :p :o ] ) ",
+        times: 1,
+    },
+    Piece {
+        bytes: b":p :o .",
+        times: 1,
+    },
+];
+
+/// Reads the document above of this form.
+pub fn read_pieces<A: Allocator + Copy, S: QuadSink>(
+    alloc: A,
+    form: Form,
+    sink: &mut S,
+) -> Option<Report>
+    requires { S.has_failed sink.old ≡ false }
+{
+    let pieces = match form {
+        Form::Lines(_) => LINES.as_slice(),
+        Form::Statements(_) => STATEMENTS.as_slice(),
+    };
+    let document = Document { pieces, rest: b"" };
+    read(alloc, form, Limits::default(), &document, sink)
+}
