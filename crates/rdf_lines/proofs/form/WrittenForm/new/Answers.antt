@@ -1,0 +1,6 @@
+use Rattle.std.proofs.Common.{ap}
+use Rattle.rdf_lines.specs.NodePrefixes.{Form}
+use Rattle.rdf_lines.proofs.form.WrittenForm.new.Goals as goal
+
+pub returns : goal.returns
+returns c = ap {B = Form} (λ word. record { style = c.args.style; escapes = c.args.escapes; prefix = word }) c.none.ensures

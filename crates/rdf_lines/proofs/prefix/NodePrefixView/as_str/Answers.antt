@@ -1,0 +1,5 @@
+use Rattle.std.proofs.Common.{refl}
+use Rattle.rdf_lines.proofs.prefix.NodePrefixView.as_str.Goals as goal
+
+pub returns : goal.returns
+returns c = refl

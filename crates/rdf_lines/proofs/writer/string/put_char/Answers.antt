@@ -1,0 +1,18 @@
+use Rattle.std.proofs.Common.{◌++◌, ap, sym, ◌∙◌}
+use Rattle.std.specs.Prelude.{encode_utf8_all}
+use Rattle.std.proofs.Math.Utf8.{encode}
+use Rattle.rdf_lines.specs.Writing.{escaped}
+use Rattle.rdf_lines.proofs.WrittenBytesLemmas.{on_ok, where_ok}
+use Rattle.rdf_lines.proofs.writer.string.put_char.Goals as goal
+
+pub returns-in-34-clause-written : goal.returns-in-34-clause-written
+unfolding encode
+returns-in-34-clause-written g c =
+    on_ok c.extend_from_slice.result (λ h. h ∙ ap (λ x. c.args.out.now.items ++ encode_utf8_all (escaped c.args.escapes x)) (sym c.in-34.is))
+    (where_ok c.extend_from_slice.result _ _ _ c.extend_from_slice.ensures.items)
+
+pub returns-in-10-clause-written : goal.returns-in-10-clause-written
+unfolding encode
+returns-in-10-clause-written g c =
+    on_ok c.extend_from_slice-in-10.result (λ h. h ∙ ap (λ x. c.args.out.now.items ++ encode_utf8_all (escaped c.args.escapes x)) (sym c.in-10.is))
+    (where_ok c.extend_from_slice-in-10.result _ _ _ c.extend_from_slice-in-10.ensures.items)
