@@ -1,5 +1,6 @@
 pub mod ViewsLemmas
 pub mod WellFormedLemmas
+pub mod PutLemmas
 pub mod LineOutLemmas
 pub mod PiecesLemmas
 pub mod PartsLemmas

@@ -1,0 +1,5 @@
+use Rattle.std.proofs.Common.{rules}
+use Rattle.rdf_stream.proofs.devices.InSource.failed.Goals as goal
+
+pub returns : goal.returns
+returns g c = search rules

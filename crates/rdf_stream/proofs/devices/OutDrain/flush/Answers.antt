@@ -1,0 +1,6 @@
+use Rattle.std.proofs.Common.{ap}
+use Rattle.rdf_stream.specs.Devices.{Written}
+use Rattle.rdf_stream.proofs.devices.OutDrain.flush.Goals as goal
+
+pub returns-in-Err-clause-flushed : goal.returns-in-Err-clause-flushed
+returns-in-Err-clause-flushed g c = ap (λ (s : Written). s.is_flushed) c.fail.ensures

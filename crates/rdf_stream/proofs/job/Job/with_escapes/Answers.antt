@@ -1,0 +1,6 @@
+use Rattle.std.proofs.Common.{ap}
+use Rattle.rdf_stream.specs.Jobs.{JobRead}
+use Rattle.rdf_stream.proofs.job.Job.with_escapes.Goals as goal
+
+pub returns : goal.returns
+returns g c = ap (λ (j : JobRead). record j { escapes = c.args.escapes }) c.job.view_is

@@ -1,0 +1,5 @@
+use Rattle.std.proofs.Common.{refl}
+use Rattle.rdf_stream.proofs.messages.read_failed.Goals as goal
+
+pub returns : goal.returns
+returns c = refl
