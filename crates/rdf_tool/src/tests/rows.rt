@@ -76,7 +76,11 @@ pub(crate) static RUNS: [Run; 9] = [
         form: Form::TriG,
         document: "PREFIX : <a:> :g { :s :p [ :q ( 1 ) ] }",
         status: 0,
-        written: "<a:s> <a:p> _:a25 <a:g> .\n_:a25 <a:q> _:c32 <a:g> .\n_:c32 <http://www.w3.org/1999/02/22-rdf-syntax-ns#first> \"1\"^^<http://www.w3.org/2001/XMLSchema#integer> <a:g> .\n_:c32 <http://www.w3.org/1999/02/22-rdf-syntax-ns#rest> <http://www.w3.org/1999/02/22-rdf-syntax-ns#nil> <a:g> .\n",
+        written: "\
+            <a:s> <a:p> _:a25 <a:g> .\n\
+            _:a25 <a:q> _:c32 <a:g> .\n\
+            _:c32 <http://www.w3.org/1999/02/22-rdf-syntax-ns#first> \"1\"^^<http://www.w3.org/2001/XMLSchema#integer> <a:g> .\n\
+            _:c32 <http://www.w3.org/1999/02/22-rdf-syntax-ns#rest> <http://www.w3.org/1999/02/22-rdf-syntax-ns#nil> <a:g> .\n",
         reported: "",
     },
     Run {
