@@ -14,7 +14,7 @@ use Rattle.rdf_terms.specs.Classes.Class.{hex_digit, iri_char}
 use Rattle.rdf_terms.specs.Terms.{all_have}
 use Rattle.rdf_terms.specs.Runs.{IsRun, PassBetween, goes_over, is_unescaped, iri_byte}
 use Rattle.rdf_terms.specs.Values.{Inside, of_string, of_iri, EscapeState, outside, slash, digits, Move, leads, means, fails, allowed, letter_move, echar_move, digit_move, hex_value, go, move, value}
-use Rattle.rdf_terms.specs.Escapes.{run_of, stands, completes, value_after, IsRead, Reads}
+use Rattle.rdf_terms.specs.Escapes.{run_of, stands, completes, value_after, with_front, IsPutUpTo, IsRead, Reads}
 use Rattle.rdf_terms.proofs.CharsLemmas.{Next, next_char}
 use Rattle.rdf_terms.proofs.IriBytes.{iri_bytes, have-append}
 use Rattle.rdf_terms.proofs.ValuesLemmas.{backslash_excluded}
@@ -151,6 +151,17 @@ slash_letter i c u v =
 pub slash_high : (i : Inside) (c : ℕ) → 128 ≤ c → move i slash c ≡ fails
 slash_high i c h = slash_letter i c (none_of c 117 h (omega arith)) (none_of c 85 h (omega arith)) ∙ echar_high i c h
 
+-- a letter of ECHAR is no byte that is none
+pub no_letter : (i : Inside) (k b c : ℕ) → letter_move k ≡ fails → means c ≡ echar_move i b → (b == k) ≡ false
+no_letter i k b c f e = by i e
+  where
+    means≢fails : means c ≡ fails → ⊥
+    means≢fails h = cc
+
+    by : (i : Inside) → means c ≡ echar_move i b → (b == k) ≡ false
+    by of_string e = ne_eqb b k (λ x. means≢fails (e ∙ (ap letter_move x ∙ f)))
+    by of_iri e = absurd (means≢fails e)
+
 -- after a backslash stands the letter of an ECHAR, or the escape is bad
 pub reads_letter : (i : Inside) (bs : List ℕ) (at : ℕ) (o : Option ℕ) → at < length bs → IsUtf8 (drop at bs) → (get_or bs at 0 == 117) ≡ false →
     (get_or bs at 0 == 85) ≡ false → completes o ≡ echar_move i (get_or bs at 0) → IfSome o (λ c. scalar c ≡ true) →
@@ -219,10 +230,6 @@ no_digit i (suc k) n bs at p u f =
 pub is_some-map : (f : List ℕ → List ℕ) (o : Option (List ℕ)) → is_some (option_map f o) ≡ is_some o
 is_some-map f None = refl
 is_some-map f (Some w) = refl
-
--- what was built before what is left
-abbrev pub with_front : List ℕ → Option (List ℕ) → Option (List ℕ)
-with_front out o = option_map (λ w. chars out ++ w) o
 
 -- before the first character nothing has been given out
 pub with_front-nil : (out : List ℕ) (o : Option (List ℕ)) → out ≡ [] → with_front out o ≡ o
@@ -389,3 +396,23 @@ with_front-first i text out e = sym (with_front-nil out (value i outside (chars 
 -- at the end of the text what was built is its value
 pub with_front-end : (i : Inside) (out bs : List ℕ) (at : ℕ) → length bs ≤ at → with_front out (value i outside (chars (drop at bs))) ≡ Some (chars out)
 with_front-end i out bs at l = ap (with_front out) (value_end i bs at l) ∙ ap Some (append-nil (chars out))
+
+-- one character was put, which an escape means
+pub put_one : (i : Inside) (bs before after : List ℕ) (at c end : ℕ) → IsRead i (leads outside) bs at c end → IsUtf8 before → after ≡ before ++ encode_utf8 c →
+    IsPutUpTo i bs before after at end
+put_one i bs before after at c end r u e = record {
+  from = r.from;
+  within = r.within;
+  utf8 = r.utf8;
+  value = ap (with_front before) r.value ∙ with_front-push before after c (value i outside (chars (drop end bs))) u r.character e;
+}
+
+-- and more after it
+pub put_more : (i : Inside) (bs before between after : List ℕ) (at mid end : ℕ) → IsPutUpTo i bs before between at mid → IsPutUpTo i bs between after mid end →
+    IsPutUpTo i bs before after at end
+put_more i bs before between after at mid end p q = record {
+  from = omega (arith, p.from, q.from);
+  within = q.within;
+  utf8 = q.utf8;
+  value = p.value ∙ q.value;
+}

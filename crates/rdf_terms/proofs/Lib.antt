@@ -7,6 +7,7 @@ pub mod CharsLemmas
 pub mod TermsLemmas
 pub mod UsedCharacters
 pub mod EscapesLemmas
+pub mod FourDigits
 pub mod ValuesLemmas
 pub mod InsideLemmas
 pub mod KnownLemmas

@@ -1,15 +1,15 @@
 -- What the code's way from escape to escape in a token's inside means.
-use Rattle.std.specs.Prelude.{◌≡◌, ℕ, ◌≤◌, Bool, true, List, length, drop, Option, Some, None}
+use Rattle.std.specs.Prelude.{◌≡◌, ℕ, ◌+◌, ◌*◌, ◌≤◌, ◌==◌, ◌&&◌, nat_le, Bool, true, cond, List, ◌++◌, length, get_or, drop, Option, Some, None, option_map}
 use Rattle.std.specs.Option.{MatchOption}
 use Rattle.std.specs.Str.{chars, IsUtf8}
 use Rattle.rdf_terms.specs.Classes.{has, scalar}
-use Rattle.rdf_terms.specs.Classes.Class.{iri_char}
+use Rattle.rdf_terms.specs.Classes.Class.{hex_digit, iri_char}
 use Rattle.rdf_terms.specs.Runs.{is_unescaped}
 use Rattle.rdf_terms.specs.declared.runs.Run.{Run}
 use Rattle.rdf_terms.specs.declared.runs.Run.TheVariants.{Iri, Unescaped}
 use Rattle.rdf_terms.specs.declared.values.Inside.{Inside as CodeInside}
 use Rattle.rdf_terms.specs.declared.values.Inside.TheVariants.{OfString, OfIri}
-use Rattle.rdf_terms.specs.Values.{Inside, of_string, of_iri, Move, means, fails, go, value}
+use Rattle.rdf_terms.specs.Values.{Inside, of_string, of_iri, Move, outside, means, fails, go, hex_value, value}
 
 -- the kind of text with escapes for which the code has this name
 abbrev pub inside_of : CodeInside → Inside
@@ -46,3 +46,35 @@ pub record IsRead (i : Inside) (m : Move) (bs : List ℕ) (at c end : ℕ) : Typ
 -- the rest of an escape was read, or it is bad
 abbrev pub Reads : Inside → Move → List ℕ → ℕ → Option (ℕ × ℕ) → Type 0
 Reads i m bs at r = MatchOption r (value_after i m bs at ≡ None) (λ x. IsRead i m bs at x.0 x.1)
+
+-- what a byte counts as a hex digit, or more than four digits write where it is none
+abbrev pub digit_or_none : ℕ → ℕ
+digit_or_none b = cond (has hex_digit b) (hex_value b) 65536
+
+-- four bytes are hex digits
+abbrev pub are_four_digits : List ℕ → ℕ → Bool
+are_four_digits bs at = has hex_digit (get_or bs at 0)
+    && (has hex_digit (get_or bs (at + 1) 0) && (has hex_digit (get_or bs (at + 2) 0) && has hex_digit (get_or bs (at + 3) 0)))
+
+-- the number that they write then
+abbrev pub four_number : List ℕ → ℕ → ℕ
+four_number bs at = 16 * (16 * (16 * hex_value (get_or bs at 0) + hex_value (get_or bs (at + 1) 0)) + hex_value (get_or bs (at + 2) 0)) + hex_value (get_or bs (at + 3) 0)
+
+-- a backslash and `u` stand at a place, and four bytes after them
+abbrev pub begins_uchar : List ℕ → ℕ → Bool
+begins_uchar bs at = nat_le (at + 6) (length bs) && (get_or bs at 0 == 92 && get_or bs (at + 1) 0 == 117)
+
+-- what was built before what is left
+abbrev pub with_front : List ℕ → Option (List ℕ) → Option (List ℕ)
+with_front out o = option_map (λ w. chars out ++ w) o
+
+-- what stands from one place up to another was put behind what was built before
+pub record IsPutUpTo (i : Inside) (bs before after : List ℕ) (at end : ℕ) : Type 0 where
+  pub from : at ≤ end
+  pub within : end ≤ length bs
+  pub utf8 : IsUtf8 (drop end bs)
+  pub value : with_front before (value i outside (chars (drop at bs))) ≡ with_front after (value i outside (chars (drop end bs)))
+
+-- that was done up to where escapes end, or one is bad
+abbrev pub IsPut : Inside → List ℕ → List ℕ → List ℕ → ℕ → Option ℕ → Type 0
+IsPut i bs before after at r = MatchOption r (value i outside (chars (drop at bs)) ≡ None) (λ end. IsPutUpTo i bs before after at end)

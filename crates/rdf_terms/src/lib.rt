@@ -5,6 +5,7 @@
 mod buffers;
 mod classes;
 mod constants;
+pub mod escapes;
 mod fault;
 mod iris;
 mod kind;

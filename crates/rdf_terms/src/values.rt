@@ -7,11 +7,12 @@ ghost use Rattle.rdf_terms.specs.Classes.{has, scalar};
 ghost use Rattle.rdf_terms.specs.Classes.Class.{iri_char, hex_digit};
 ghost use Rattle.rdf_terms.specs.Runs.{IsRun, goes_over};
 ghost use Rattle.rdf_terms.specs.Terms.{all_have};
-ghost use Rattle.rdf_terms.specs.Values.{value, inside, is_fit, outside, slash, string_value, iri_value, leads, means, fails, allowed, echar_move, letter_move, digit_move, hex_value};
-ghost use Rattle.rdf_terms.specs.Escapes.{inside_of, run_of, completes, Reads};
+ghost use Rattle.rdf_terms.specs.Values.{value, inside, is_fit, outside, slash, string_value, iri_value, leads, means, fails, allowed, echar_move, digit_move, hex_value};
+ghost use Rattle.rdf_terms.specs.Escapes.{inside_of, run_of, completes, IsRead, Reads, IsPut, IsPutUpTo};
 
 use crate::Kind;
 use crate::classes::{hex_value, is_iri_char};
+use crate::escapes::{begins_uchar, four_digits, letter_meaning};
 use crate::runs::{Run, run_end};
 use std::alloc::{AllocError, Allocator};
 
@@ -221,15 +222,107 @@ fn put_value<A: Allocator>(
     out.reserve(text.len())?;
     let mut at = put_run(out, inside, text, 0)?;
     while at < text.len() {
-        match escape(inside, text.as_bytes(), at) {
-            Some((meant, next)) => {
-                out.push(meant)?;
-                at = put_run(out, inside, text, next)?;
-            }
+        let next = match put_escapes(out, inside, text, at)? {
+            Some(next) => next,
             None => return Ok(false),
-        }
+        };
+        at = put_run(out, inside, text, next)?;
     }
     Ok(true)
+}
+
+/// Puts what the escape at a place means. Where it is a UCHAR of four digits, so are the next ones often, and they are put with it.
+#[inline(always)]
+fn put_escapes<A: Allocator>(
+    out: &mut String<A>,
+    inside: Inside,
+    text: &str,
+    at: usize,
+) -> Result<Option<usize>, AllocError>
+    requires within { at < length text.now }
+    requires utf8 { IsUtf8 (drop at text.now) }
+    requires stopped { goes_over (run_of (inside_of inside)) (get_or text.now at 0) ≡ false }
+    ensures put { IfOk result (λ r. IsPut (inside_of inside) text.now (string_bytes out.old) (string_bytes out.new) at r) }
+    ensures on { IfOk result (λ r. IfSome r (λ end. at < end)) }
+{
+    match short_uchar(inside, text.as_bytes(), at) {
+        Some((meant, next)) => {
+            out.push(meant)?;
+            Ok(Some(put_row(out, inside, text, next)?))
+        }
+        None => put_escape(out, inside, text, at),
+    }
+}
+
+/// Puts what the UCHARs of four digits mean that stand in a row from a place on: where they end.
+#[inline(always)]
+fn put_row<A: Allocator>(
+    out: &mut String<A>,
+    inside: Inside,
+    text: &str,
+    from: usize,
+) -> Result<usize, AllocError>
+    requires within { from ≤ length text.now }
+    requires utf8 { IsUtf8 (drop from text.now) }
+    ensures { IfOk result (λ end. IsPutUpTo (inside_of inside) text.now (string_bytes out.old) (string_bytes out.new) from end) }
+{
+    let mut at = from;
+    while let Some((meant, next)) = short_uchar(inside, text.as_bytes(), at) {
+        out.push(meant)?;
+        at = next;
+    }
+    Ok(at)
+}
+
+/// Puts what an escape of any form means: where it ends, unless it is bad.
+#[inline(always)]
+fn put_escape<A: Allocator>(
+    out: &mut String<A>,
+    inside: Inside,
+    text: &str,
+    at: usize,
+) -> Result<Option<usize>, AllocError>
+    requires within { at < length text.now }
+    requires utf8 { IsUtf8 (drop at text.now) }
+    requires stopped { goes_over (run_of (inside_of inside)) (get_or text.now at 0) ≡ false }
+    ensures put { IfOk result (λ r. IsPut (inside_of inside) text.now (string_bytes out.old) (string_bytes out.new) at r) }
+    ensures on { IfOk result (λ r. IfSome r (λ end. at < end)) }
+{
+    match escape(inside, text.as_bytes(), at) {
+        Some((meant, next)) => {
+            out.push(meant)?;
+            Ok(Some(next))
+        }
+        None => Ok(None),
+    }
+}
+
+/// What a UCHAR of four digits means that stands at a place, and where it ends, if it is not bad.
+#[inline(always)]
+fn short_uchar(inside: Inside, text: &[u8], at: usize) -> Option<(char, usize)>
+    requires within { at ≤ length text.now }
+    requires utf8 { IsUtf8 (drop at text.now) }
+    ensures read { IfSome result (λ x. IsRead (inside_of inside) (leads outside) text.now at x.0 x.1) }
+    ensures on { IfSome result (λ x. at < x.1) }
+{
+    if !begins_uchar(text, at) {
+        return None;
+    }
+    match four_digits(text, at + 2) {
+        Some(number) => with_end(numbered(inside, number), at + 6),
+        None => None,
+    }
+}
+
+/// A character with the place where its escape ends.
+#[inline(always)]
+fn with_end(meant: Option<char>, end: usize) -> Option<(char, usize)>
+    ensures { result ≡ option_map (λ c. (c, end)) meant }
+{
+    match meant {
+        Some(c) => Some((c, end)),
+        None => None,
+    }
 }
 
 /// What stands at a place as it is, up to the next escape: the place of that.
@@ -277,13 +370,24 @@ fn after_backslash(inside: Inside, text: &[u8], at: usize) -> Option<(char, usiz
     if at == text.len() {
         return None;
     }
+    match letter(inside, text[at]) {
+        Some(c) => Some((c, at + 1)),
+        None => after_no_letter(inside, text, at),
+    }
+}
+
+/// The same where what follows the backslash is no letter of ECHAR.
+#[inline(always)]
+fn after_no_letter(inside: Inside, text: &[u8], at: usize) -> Option<(char, usize)>
+    requires within { at < length text.now }
+    requires utf8 { IsUtf8 (drop at text.now) }
+    requires none { echar_move (inside_of inside) (get_or text.now at 0) ≡ fails }
+    ensures { Reads (inside_of inside) (leads slash) text.now at result }
+{
     match text[at] {
         b'u' => number(inside, text, at + 1, 4),
         b'U' => number(inside, text, at + 1, 8),
-        byte => match letter(inside, byte) {
-            Some(c) => Some((c, at + 1)),
-            None => None,
-        },
+        _ => None,
     }
 }
 
@@ -294,26 +398,8 @@ fn letter(inside: Inside, byte: u8) -> Option<char>
     ensures character { IfSome result (λ c. scalar c ≡ true) }
 {
     match inside {
-        Inside::OfString => string_letter(byte),
+        Inside::OfString => letter_meaning(byte),
         Inside::OfIri => None,
-    }
-}
-
-#[inline(always)]
-fn string_letter(byte: u8) -> Option<char>
-    ensures is { completes result ≡ letter_move byte }
-    ensures character { IfSome result (λ c. scalar c ≡ true) }
-{
-    match byte {
-        b't' => Some('\t'),
-        b'b' => Some('\u{8}'),
-        b'n' => Some('\n'),
-        b'r' => Some('\r'),
-        b'f' => Some('\u{C}'),
-        b'"' => Some('"'),
-        b'\'' => Some('\''),
-        b'\\' => Some('\\'),
-        _ => None,
     }
 }
 

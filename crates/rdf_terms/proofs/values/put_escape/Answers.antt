@@ -1,0 +1,13 @@
+use Rattle.std.proofs.Common.{subst}
+use Rattle.std.specs.String.{string_bytes}
+use Rattle.std.proofs.lemmas.Str.{IsUtf8-string_bytes}
+use Rattle.rdf_terms.specs.Escapes.{inside_of, IsRead}
+use Rattle.rdf_terms.specs.Values.{leads, outside}
+use Rattle.rdf_terms.proofs.EscapesLemmas.{put_one}
+use Rattle.rdf_terms.proofs.values.put_escape.Goals as goal
+
+pub returns-in_ok-push-in-Some-clause-put : goal.returns-in_ok-push-in-Some-clause-put
+returns-in_ok-push-in-Some-clause-put g c =
+    let i = inside_of c.args.inside in
+    let read = subst (λ w. IsRead i (leads outside) w c.args.at c.in-Some.meant c.in-Some.next) c.as_bytes.ensures.value c.in-Some.ensures.read in
+    put_one i c.args.text.now (string_bytes c.args.out.now) _ c.args.at c.in-Some.meant c.in-Some.next read (IsUtf8-string_bytes c.args.out.now) c.in_ok-push-in-Some.ensures.bytes
