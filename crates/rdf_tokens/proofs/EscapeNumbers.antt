@@ -1,14 +1,17 @@
 -- The hex digits of an escape write the number of a character, by a test of the first of them.
-use Rattle.std.proofs.Common.{◌≡◌, ℕ, ◌+◌, ◌*◌, ◌^◌, suc, ◌<◌, ◌≤◌, Bool, true, false, not, nat_le, ◌&&◌, ◌||◌, ◌==◌, ◌⊎◌, List, inl, inr, get_or, take, drop, refl, sym, ap, ◌∙◌, subst, arith, ⊎_elim, length, length-drop}
-use Rattle.std.proofs.lemmas.Bool.{and_parts, cases_Bool, eqb-true, leb-true, false≢true}
+use Rattle.std.proofs.Common.{◌≡◌, ℕ, ◌+◌, ◌*◌, ◌^◌, suc, ◌<◌, ◌≤◌, Bool, true, false, not, nat_le, ◌&&◌, ◌||◌, ◌==◌, ◌⊎◌, List, Option, Some, None, is_some, inl, inr, get_or, take, drop, refl, sym, ap, ◌∙◌, subst, arith, ⊎_elim, length, length-drop}
+use Rattle.std.proofs.lemmas.Bool.{agree_below_at, and_parts, cases_Bool, cases_lt, eqb-true, leb-true, false≢true}
 use Rattle.std.proofs.lemmas.Bool.Decides.{nat_tests}
 use Rattle.std.proofs.lemmas.List.{drop_more, length-take-le}
-use Rattle.rdf_terms.specs.Classes.{scalar}
+use Rattle.rdf_terms.specs.Classes.{has, scalar}
+use Rattle.rdf_terms.specs.Classes.Class.{hex_digit}
+use Rattle.rdf_terms.specs.Escapes.{are_four_digits, begins_uchar, completes}
 use Rattle.rdf_terms.specs.Pieces.{hex_number, hex_value}
 use Rattle.rdf_terms.specs.Runs.{PassBetween}
 use Rattle.rdf_terms.specs.Terms.{all_have}
+use Rattle.rdf_terms.specs.Values.{Move, means, letter_move}
 use Rattle.rdf_terms.proofs.EscapesLemmas.{slice_passes}
-use Rattle.rdf_tokens.specs.Escapes.{is_hex, IsHexes, IsNumber, is_surrogate, is_plane, is_in_first_plane, is_in_planes}
+use Rattle.rdf_tokens.specs.Escapes.{is_hex, is_letter, begins_long_uchar, are_four_of_character, are_eight_of_character, IsHexes, IsNumber, IsUchar, is_surrogate, is_plane, is_in_first_plane, is_in_planes}
 use Rattle.rdf_tokens.proofs.RestEscapes.{hex_below, implied}
 
 -- a number below the surrogates is that of a character
@@ -193,3 +196,71 @@ eight-number bs from end h t = record { hexes = h; character = subst (λ n. scal
         (four_character bs (from + 4) (omega arith) hex
         (subst (λ k. is_surrogate (digit (from + 4)) (digit k) ≡ false) fifth (subst (λ k. is_surrogate (digit k) (digit (from + 2 + 3)) ≡ false) fourth (not_true _ s.1)))))
         (either (is_plane (digit (from + 2)) (digit (from + 3))) (is_in_first_plane bs (from + 2)) q.1)
+
+-- whether a move completes a character
+meaning : Move → Bool
+meaning (means c) = true
+meaning _ = false
+
+-- a letter of ECHAR means a character, and no other byte does, by a test of each byte
+pub letter_tells : (b : ℕ) (o : Option ℕ) → b < 256 → completes o ≡ letter_move b → is_some o ≡ is_letter b
+unfolding meaning
+letter_tells b o l e = some o ∙ (ap meaning e ∙ agree_below_at (λ b. meaning (letter_move b)) is_letter 256 b refl l)
+  where
+    some : (o : Option ℕ) → is_some o ≡ meaning (completes o)
+    some None = refl
+    some (Some c) = refl
+
+-- a hex digit of the grammar is one
+hex_of : (c : ℕ) → has hex_digit c ≡ true → is_hex c ≡ true
+unfolding has
+hex_of c h = grind (arith, nat_tests)
+
+-- so four are, at each place
+four_pass : (bs : List ℕ) (at : ℕ) → are_four_digits bs at ≡ true → PassBetween is_hex bs at (at + 4)
+four_pass bs at h k from to =
+    let p = and_parts (has hex_digit (get_or bs at 0)) _ h in
+    let q = and_parts (has hex_digit (get_or bs (at + 1) 0)) _ p.1 in
+    let r = and_parts (has hex_digit (get_or bs (at + 2) 0)) _ q.1 in
+    let here : (j : ℕ) → has hex_digit (get_or bs j 0) ≡ true → j ≡ k → is_hex (get_or bs k 0) ≡ true = λ j x e. subst (λ i. is_hex (get_or bs i 0) ≡ true) e (hex_of (get_or bs j 0) x) in
+    ⊎_elim (λ (x : k < at + 1). here at p.0 (omega arith))
+    (λ x. ⊎_elim (λ (y : k < at + 2). here (at + 1) q.0 (omega arith))
+    (λ y. ⊎_elim (λ (z : k < at + 3). here (at + 2) r.0 (omega arith)) (λ z. here (at + 3) r.1 (omega arith)) (cases_lt k (at + 3)))
+    (cases_lt k (at + 2)))
+    (cases_lt k (at + 1))
+
+-- what is a UCHAR of four digits, by its bytes
+pub short_uchar : (bs : List ℕ) (at : ℕ) → begins_uchar bs at ≡ true → are_four_of_character bs (at + 2) ≡ true → IsUchar bs at (at + 6)
+short_uchar bs at b f =
+    let p = and_parts (nat_le (at + 6) (length bs)) _ b in
+    let q = and_parts (get_or bs at 0 == 92) _ p.1 in
+    let r = and_parts (are_four_digits bs (at + 2)) _ f in
+    let six : at + 2 + 4 ≡ at + 6 = omega arith in
+    record {
+      slash = eqb-true (get_or bs at 0) 92 q.0;
+      digits = inl (
+        eqb-true (get_or bs (at + 1) 0) 117 q.1,
+        four-number bs (at + 2) (at + 6)
+            record { ends = sym six; within = leb-true (at + 6) (length bs) p.0; hexes = subst (PassBetween is_hex bs (at + 2)) six (four_pass bs (at + 2) r.0) }
+            (not_true _ r.1),
+      );
+    }
+
+-- and one of eight
+pub long_uchar : (bs : List ℕ) (at : ℕ) → begins_long_uchar bs at ≡ true → are_eight_of_character bs (at + 2) ≡ true → IsUchar bs at (at + 10)
+long_uchar bs at b f =
+    let p = and_parts (nat_le (at + 10) (length bs)) _ b in
+    let q = and_parts (get_or bs at 0 == 92) _ p.1 in
+    let r = and_parts (are_four_digits bs (at + 2) && are_four_digits bs (at + 2 + 4)) _ f in
+    let s = and_parts (are_four_digits bs (at + 2)) _ r.0 in
+    let hexes : PassBetween is_hex bs (at + 2) (at + 10) = λ k from to.
+    ⊎_elim (λ (x : k < at + 2 + 4). four_pass bs (at + 2) s.0 k from x) (λ x. four_pass bs (at + 2 + 4) s.1 k x (omega arith)) (cases_lt k (at + 2 + 4)) in
+    record {
+      slash = eqb-true (get_or bs at 0) 92 q.0;
+      digits = inr (
+        eqb-true (get_or bs (at + 1) 0) 85 q.1,
+        eight-number bs (at + 2) (at + 10)
+            record { ends = omega arith; within = leb-true (at + 10) (length bs) p.0; hexes = hexes }
+            r.1,
+      );
+    }

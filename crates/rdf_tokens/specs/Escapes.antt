@@ -2,6 +2,7 @@
 use Rattle.std.specs.Prelude.{◌≡◌, ◌⊎◌, ℕ, ◌+◌, ◌-◌, ◌*◌, ◌≤◌, Bool, true, not, ◌&&◌, ◌||◌, ◌==◌, nat_le, List, [], ◌∷◌, ◌++◌, length, get_or, drop, take, slice_range, is_some}
 use Rattle.rdf_terms.specs.Classes.{has, is_digit, within, one_of, scalar}
 use Rattle.rdf_terms.specs.Classes.Class.{iri_char}
+use Rattle.rdf_terms.specs.Escapes.{are_four_digits}
 use Rattle.rdf_terms.specs.Pieces.{MayMean, hex_number, hex_value}
 use Rattle.rdf_terms.specs.Runs.{PassBetween}
 use Rattle.rdf_terms.specs.Values.{Inside, of_string, of_iri, outside, value}
@@ -46,6 +47,18 @@ is_in_first_plane bs at = get_or bs at 0 == 48 && (get_or bs (at + 1) 0 == 48 &&
 abbrev pub is_in_planes : List ℕ → ℕ → Bool
 is_in_planes bs at =
     get_or bs at 0 == 48 && (get_or bs (at + 1) 0 == 48 && (is_plane (get_or bs (at + 2) 0) (get_or bs (at + 3) 0) || is_in_first_plane bs (at + 2)))
+
+-- four bytes are hex digits that write the number of a character
+abbrev pub are_four_of_character : List ℕ → ℕ → Bool
+are_four_of_character bs at = are_four_digits bs at && not (is_surrogate (get_or bs at 0) (get_or bs (at + 1) 0))
+
+-- eight are
+abbrev pub are_eight_of_character : List ℕ → ℕ → Bool
+are_eight_of_character bs at = are_four_digits bs at && are_four_digits bs (at + 4) && is_in_planes bs at
+
+-- a backslash and `U` stand at a place, and eight bytes after them
+abbrev pub begins_long_uchar : List ℕ → ℕ → Bool
+begins_long_uchar bs at = nat_le (at + 10) (length bs) && (get_or bs at 0 == 92 && get_or bs (at + 1) 0 == 85)
 
 -- four hex digits write a character of IRIs: by the first two it is not of ASCII, or the other two tell it
 abbrev pub is_iri_four : List ℕ → ℕ → Bool

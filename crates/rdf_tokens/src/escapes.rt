@@ -4,8 +4,10 @@ ghost use Rattle.std.specs.Prelude.{◌≡◌, ◌<◌, ◌≤◌, ◌+◌, ◌&
 ghost use Rattle.rdf_terms.specs.Pieces.{hex_value};
 ghost use Rattle.rdf_terms.specs.Runs.{IsRun, goes_over};
 ghost use Rattle.rdf_tokens.specs.Escapes.{is_hex, is_letter, is_surrogate, is_plane, is_in_first_plane, is_in_planes, is_iri_four, writes_iri_char};
+ghost use Rattle.rdf_tokens.specs.Escapes.{begins_long_uchar, are_four_of_character, are_eight_of_character};
 ghost use Rattle.rdf_tokens.specs.Escapes.{IsHexes, IsNumber, IsUchar, IsIriUchar, FitsInIri, FitsInString, RestsInIri, RestsInString};
 
+use rdf_terms::escapes::{are_four_digits, begins_uchar, letter_meaning};
 use rdf_terms::is_iri_char;
 use rdf_terms::runs::{Run, run_end};
 
@@ -30,10 +32,13 @@ fn escape_end(bytes: &[u8], at: usize) -> Option<usize>
     ensures fits { IfSome result (λ end. FitsInString bytes.now at end) }
     ensures on { IfSome result (λ end. at < end) }
 {
+    if let Some(next) = short_uchar_end(bytes, at) {
+        return Some(plain_end(Run::Text, bytes, next));
+    }
     if is_echar(bytes, at) {
         return Some(run_end(Run::Text, bytes, at + 2));
     }
-    match uchar_end(bytes, at) {
+    match long_uchar_end(bytes, at) {
         Some(next) => Some(plain_end(Run::Text, bytes, next)),
         None => None,
     }
@@ -120,53 +125,77 @@ pub(crate) fn is_echar(bytes: &[u8], at: usize) -> bool
     bytes.len() - at >= 2 && bytes[at] == b'\\' && is_letter(bytes[at + 1])
 }
 
+/// Whether a byte is a letter of ECHAR.
+#[inline(always)]
 fn is_letter(byte: u8) -> bool
     ensures { result ≡ is_letter byte }
 {
-    matches!(
-        byte,
-        b't' | b'b' | b'n' | b'r' | b'f' | b'"' | b'\'' | b'\\'
-    )
+    letter_meaning(byte).is_some()
 }
 
-/// Where the UCHAR at a place ends, if all of it is there and its number is that of a character.
+/// Where the UCHAR at a place ends, if all of it is there and its number is that of a character. Most have four digits.
 #[inline(always)]
 pub(crate) fn uchar_end(bytes: &[u8], at: usize) -> Option<usize>
     requires { at ≤ length bytes.now }
     ensures { IfSome result (λ end. IsUchar bytes.now at end) }
 {
-    if bytes.len() - at < 2 || bytes[at] != b'\\' {
-        return None;
-    }
-    match bytes[at + 1] {
-        b'u' => four_end(bytes, at + 2),
-        b'U' => eight_end(bytes, at + 2),
-        _ => None,
+    match short_uchar_end(bytes, at) {
+        Some(end) => Some(end),
+        None => long_uchar_end(bytes, at),
     }
 }
 
-/// Where four hex digits end, if they are there and write the number of a character.
+/// The same of one with four digits.
 #[inline(always)]
-fn four_end(bytes: &[u8], from: usize) -> Option<usize>
-    requires { from ≤ length bytes.now }
-    ensures { IfSome result (λ end. IsNumber bytes.now from 4 end) }
+fn short_uchar_end(bytes: &[u8], at: usize) -> Option<usize>
+    requires { at ≤ length bytes.now }
+    ensures { IfSome result (λ end. IsUchar bytes.now at end) }
 {
-    match hex_end(bytes, from, 4) {
-        Some(end) if !is_surrogate(bytes[from], bytes[from + 1]) => Some(end),
-        _ => None,
+    if begins_uchar(bytes, at) && are_four_of_character(bytes, at + 2) {
+        Some(at + 6)
+    } else {
+        None
     }
+}
+
+/// The same of one with eight.
+#[inline(always)]
+fn long_uchar_end(bytes: &[u8], at: usize) -> Option<usize>
+    requires { at ≤ length bytes.now }
+    ensures { IfSome result (λ end. IsUchar bytes.now at end) }
+{
+    if begins_long_uchar(bytes, at) && are_eight_of_character(bytes, at + 2) {
+        Some(at + 10)
+    } else {
+        None
+    }
+}
+
+/// Whether `\U` stands at a place, and eight bytes after it.
+#[inline(always)]
+fn begins_long_uchar(bytes: &[u8], at: usize) -> bool
+    requires { at ≤ length bytes.now }
+    ensures { result ≡ begins_long_uchar bytes.now at }
+{
+    bytes.len() - at >= 10 && bytes[at] == b'\\' && bytes[at + 1] == b'U'
+}
+
+/// Whether four bytes are hex digits that write the number of a character.
+#[inline(always)]
+fn are_four_of_character(bytes: &[u8], at: usize) -> bool
+    requires { at + 4 ≤ length bytes.now }
+    ensures { result ≡ are_four_of_character bytes.now at }
+{
+    are_four_digits(bytes, at) && !is_surrogate(bytes[at], bytes[at + 1])
 }
 
 /// The same of eight.
 #[inline(always)]
-fn eight_end(bytes: &[u8], from: usize) -> Option<usize>
-    requires { from ≤ length bytes.now }
-    ensures { IfSome result (λ end. IsNumber bytes.now from 8 end) }
+fn are_eight_of_character(bytes: &[u8], at: usize) -> bool
+    requires { at + 8 ≤ length bytes.now }
+    ensures { result ≡ are_eight_of_character bytes.now at }
 {
-    match hex_end(bytes, from, 8) {
-        Some(end) if is_in_planes(bytes, from) => Some(end),
-        _ => None,
-    }
+    are_four_digits(bytes, at) && are_four_digits(bytes, at + 4) && is_in_planes(bytes, at)
 }
 
 /// Whether the first two of four hex digits are those of a surrogate.
@@ -203,30 +232,4 @@ fn is_in_first_plane(bytes: &[u8], at: usize) -> bool
     ensures { result ≡ is_in_first_plane bytes.now at }
 {
     bytes[at] == b'0' && bytes[at + 1] == b'0' && !is_surrogate(bytes[at + 2], bytes[at + 3])
-}
-
-/// Where so many hex digits end, if they are there.
-#[inline(always)]
-fn hex_end(bytes: &[u8], from: usize, count: usize) -> Option<usize>
-    requires { from ≤ length bytes.now }
-    ensures { IfSome result (λ end. IsHexes bytes.now from count end) }
-{
-    if bytes.len() - from < count {
-        return None;
-    }
-    let end = from + count;
-    let mut at = from;
-    while at < end {
-        if !is_hex(bytes[at]) {
-            return None;
-        }
-        at += 1;
-    }
-    Some(end)
-}
-
-fn is_hex(byte: u8) -> bool
-    ensures { result ≡ is_hex byte }
-{
-    matches!(byte, b'0'..=b'9' | b'A'..=b'F' | b'a'..=b'f')
 }

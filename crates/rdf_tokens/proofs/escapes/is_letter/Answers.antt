@@ -1,0 +1,6 @@
+use Rattle.std.proofs.Common.{◌∙◌}
+use Rattle.rdf_tokens.proofs.EscapeNumbers.{letter_tells}
+use Rattle.rdf_tokens.proofs.escapes.is_letter.Goals as goal
+
+pub returns : goal.returns
+returns c = c.is_some.ensures ∙ letter_tells c.args.byte c.letter_meaning.result c.ranges.byte.fits c.letter_meaning.ensures.is
