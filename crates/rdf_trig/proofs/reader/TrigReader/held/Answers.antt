@@ -1,4 +1,4 @@
-use Rattle.std.proofs.Common.{◌+◌, ◌≤◌, ℕ, false, List, subst}
+use Rattle.std.proofs.Common.{◌≡◌, ◌+◌, ◌≤◌, ℕ, false, List, subst}
 use Rattle.rdf_terms.specs.Terms.{Quad}
 use Rattle.rdf_tokens.specs.Good.{tokens_of}
 use Rattle.rdf_tokens.specs.Scans.{unread_bytes}
@@ -9,6 +9,9 @@ use Rattle.rdf_trig.specs.Owed.{Owed}
 use Rattle.rdf_trig.specs.Accepting.{TrigRead, tree_words}
 use Rattle.rdf_trig.proofs.code.OwedHeld.{owed_held}
 use Rattle.rdf_trig.proofs.reader.TrigReader.held.Goals as goal
+
+pub returns-clause-sum : goal.returns-clause-sum
+returns-clause-sum g c = subst (λ (r : TrigRead). c.held.result ≡ unread_bytes r.scanner + r.grammar.held) c.self.view_is c.held.ensures.sum
 
 pub returns-clause-least : goal.returns-clause-least
 returns-clause-least g c =

@@ -1,4 +1,10 @@
-use Rattle.rdf_trig.specs.States.{text_in, place_in, setting_in}
+use Rattle.std.proofs.Common.{◌≡◌, ◌⊎◌, ℕ, List, None, ⊎_elim, refl}
+use Rattle.rdf_terms.specs.declared.kind.Kind.{Kind}
+use Rattle.rdf_terms.specs.declared.kind.Kind.TheVariants.{LangTag, AtBase, AtPrefix}
+use Rattle.rdf_tokens.specs.Leaves.{Leaf}
+use Rattle.rdf_trig.specs.Machine as M
+use Rattle.rdf_trig.specs.Quads.{Setting, tag_of, tagged_literal}
+use Rattle.rdf_trig.specs.States.{text_in, place_in, setting_in, use_at}
 use Rattle.rdf_trig.proofs.machine.Fallbacks.{text-else}
 use Rattle.rdf_trig.proofs.code.TurnsLemmas.{means_at}
 use Rattle.rdf_trig.proofs.state.State.after_text.Goals as goal
@@ -15,3 +21,13 @@ returns-in_default g c =
       frames = c.after_object.ensures.frames;
       fits = λ m o h. c.after_object.ensures.fits m o;
     }
+
+-- each of the three kinds is the tag of the string
+tag_after : (c : Setting) (w : List ℕ) (p : M.Place) (k : Kind) (l : Leaf) → (k ≡ LangTag) ⊎ ((k ≡ AtBase) ⊎ (k ≡ AtPrefix)) →
+    M.after_text c w p k l ≡ M.Go (use_at c.scope k l) None (M.quad_at c p (tagged_literal w (tag_of l))) c (M.After p)
+tag_after c w p k l h = ⊎_elim (λ e. rw e refl) (λ h. ⊎_elim (λ e. rw e refl) (λ e. rw e refl) h) h
+
+pub returns-in-LangTag-clause-means : goal.returns-in-LangTag-clause-means
+returns-in-LangTag-clause-means g c = λ form s l i n.
+    let self = c.args.self.now in
+    tag_after (setting_in s self) (text_in self) (place_in self) c.args.kind l c.in-LangTag.is
