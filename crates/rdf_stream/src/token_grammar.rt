@@ -9,7 +9,7 @@ ghost use Rattle.rdf_stream.specs.TokenWords.{token_words};
 
 use crate::devices::Drain;
 use crate::line_out::LineOut;
-use rdf_driver::{Accepts, Grammar};
+use rdf_driver::{Accepts, Grammar, Known};
 use rdf_terms::{Dialect, Kind, PutFault, Reason};
 use rdf_tokens::Token;
 use std::alloc::Allocator;
@@ -112,7 +112,11 @@ impl<'a, T: Spoken, D: Drain, A: Allocator + Copy> Accepts<LineOut<'a, D, A>> fo
     ghost has_failed = { λ lines. D.has_failed lines.drain.now };
 
     // The end has no line.
-    fn accept(&mut self, token: &Token<'_>, lines: &mut LineOut<'a, D, A>) -> Result<u64, Reason> {
+    fn accept<K: Known>(
+        &mut self,
+        token: &Token<'_>,
+        lines: &mut LineOut<'a, D, A>,
+    ) -> Result<u64, Reason> {
         if is_end(token.kind) {
             return Ok(0);
         }

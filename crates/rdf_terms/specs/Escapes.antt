@@ -68,7 +68,7 @@ begins_uchar bs at = nat_le (at + 6) (length bs) && (get_or bs at 0 == 92 && get
 abbrev pub with_front : List ℕ → Option (List ℕ) → Option (List ℕ)
 with_front out o = option_map (λ w. chars out ++ w) o
 
--- what stands from one place up to another was put behind what was built before
+-- what stands from one place up to another was put after what was built before
 pub record IsPutUpTo (i : Inside) (bs before after : List ℕ) (at end : ℕ) : Type 0 where
   pub from : at ≤ end
   pub within : end ≤ length bs

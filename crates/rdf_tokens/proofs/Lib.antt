@@ -31,6 +31,7 @@ pub mod StepLemmas
 pub mod OverLemmas
 pub mod LookLemmas
 pub mod PastGood
+mod PeekLemmas
 pub mod GrammarsLemmas
 pub mod GrammarFronts
 pub mod LanguageLemmas

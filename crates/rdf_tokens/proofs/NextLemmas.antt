@@ -81,7 +81,7 @@ open_now v e = by_flags v.broken v.ended (is_empty v.pending) e
     by_flags false false p h = refl
 
 -- what is not the kind of the end does not test as it
-not_end : (k : Kind) → k ≢ End → is_end k ≡ false
+pub not_end : (k : Kind) → k ≢ End → is_end k ≡ false
 not_end End n = absurd (n refl)
 not_end k n = refl
 

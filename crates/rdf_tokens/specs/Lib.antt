@@ -8,6 +8,7 @@ pub mod Unread
 pub mod Scans
 pub mod Moves
 pub mod Passing
+pub mod Peek
 pub mod Sorts
 pub mod Machines
 pub mod Iri

@@ -10,6 +10,7 @@ mod iris;
 pub mod laws;
 mod look;
 mod over;
+mod peek;
 mod plain;
 mod quick;
 mod scanner;
@@ -17,6 +18,7 @@ mod states;
 mod strings;
 mod token;
 
+pub use peek::Peeked;
 pub use plain::{RunClass, plain_run};
 pub use rdf_terms::{Dialect, Kind};
 pub use scanner::Scanner;

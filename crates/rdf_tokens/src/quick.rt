@@ -189,7 +189,7 @@ fn quick_string(dialect: Dialect, quote: Quote, text: &str) -> Quick
 
 /// Whether `_:` comes first, and a letter, a digit or `_`.
 #[inline(always)]
-fn begins_label(bytes: &[u8]) -> bool
+pub(crate) fn begins_label(bytes: &[u8]) -> bool
     ensures { result ≡ begins_label bytes.now }
 {
     bytes.len() > 2 && bytes[0] == b'_' && bytes[1] == b':' && begins_label_name(bytes[2])
@@ -347,7 +347,7 @@ fn single(dialect: Dialect, byte: u8) -> Option<Kind>
 
 /// Whether the text begins with a letter, and not before the end within which no names are.
 #[inline(always)]
-fn is_sought(dialect: Dialect, bytes: &[u8], no_names: &Option<NoNames>) -> bool
+pub(crate) fn is_sought(dialect: Dialect, bytes: &[u8], no_names: &Option<NoNames>) -> bool
     ensures { result ≡ is_sought dialect bytes.now no_names.now }
 {
     if dialect != Dialect::Turtle || !begins_in_letter(bytes) {
@@ -454,7 +454,7 @@ fn quick_number(text: &str) -> Quick
 
 /// Where the run of digits from a place on ends.
 #[inline(always)]
-fn digits_end(bytes: &[u8], from: usize) -> usize
+pub(crate) fn digits_end(bytes: &[u8], from: usize) -> usize
     requires { from ≤ length bytes.now }
     ensures { IsRun is_digit bytes.now from result }
 {
@@ -481,7 +481,7 @@ fn is_point(bytes: &[u8], at: usize) -> bool
 
 /// Whether there is a byte with which no integer goes on, nor a number that begins with it.
 #[inline(always)]
-fn is_integer_end(bytes: &[u8], at: usize) -> bool
+pub(crate) fn is_integer_end(bytes: &[u8], at: usize) -> bool
     ensures { result ≡ is_integer_end bytes.now at }
 {
     at < bytes.len() && ends_integer(bytes[at])
@@ -514,7 +514,7 @@ fn ends_number(byte: u8) -> bool
 
 /// Whether the text is the word `a`, where its run of letters, digits, `_` and `-` ends at a byte with which no name goes on.
 #[inline(always)]
-fn is_a(bytes: &[u8], end: usize) -> bool
+pub(crate) fn is_a(bytes: &[u8], end: usize) -> bool
     requires { 0 < length bytes.now }
     ensures { result ≡ is_a bytes.now end }
 {
@@ -523,7 +523,7 @@ fn is_a(bytes: &[u8], end: usize) -> bool
 
 /// Whether the text of Turtle begins with a dot and a byte of ASCII that is no digit: with no number.
 #[inline(always)]
-fn is_dot(dialect: Dialect, bytes: &[u8]) -> bool
+pub(crate) fn is_dot(dialect: Dialect, bytes: &[u8]) -> bool
     ensures { result ≡ is_dot dialect bytes.now }
 {
     dialect == Dialect::Turtle
@@ -534,7 +534,7 @@ fn is_dot(dialect: Dialect, bytes: &[u8]) -> bool
 }
 
 #[inline(always)]
-fn is_colon(bytes: &[u8], at: usize) -> bool
+pub(crate) fn is_colon(bytes: &[u8], at: usize) -> bool
     ensures { result ≡ is_colon bytes.now at }
 {
     at < bytes.len() && bytes[at] == b':'
@@ -542,7 +542,7 @@ fn is_colon(bytes: &[u8], at: usize) -> bool
 
 /// Whether there is a byte with which no name goes on.
 #[inline(always)]
-fn is_name_end(bytes: &[u8], at: usize) -> bool
+pub(crate) fn is_name_end(bytes: &[u8], at: usize) -> bool
     ensures { result ≡ is_name_end bytes.now at }
 {
     at < bytes.len() && ends_name(bytes[at])

@@ -1,6 +1,6 @@
 // The scanner.
 
-ghost use Rattle.std.specs.Prelude.{◌≡◌, ◌==◌, ℕ, List, [], ◌++◌, count_by, true, OnOk, OnErr, IfOk, cond, min, ◌-◌, ◌+◌, ◌≤◌, ◌<◌, ◌&&◌, ◌||◌, nat_le, length, drop, take, ⊤, ◌/◌};
+ghost use Rattle.std.specs.Prelude.{◌≡◌, ◌==◌, ℕ, List, [], ◌++◌, count_by, true, OnOk, OnErr, IfOk, IfSome, cond, min, ◌-◌, ◌+◌, ◌≤◌, ◌<◌, ◌&&◌, ◌||◌, nat_le, length, drop, take, ⊤, ◌/◌};
 ghost use Rattle.std.specs.Str.{chars, IsCharBoundary};
 ghost use Rattle.std.specs.String.{string_bytes};
 ghost use mathlib.Core.Option.{none};
@@ -12,11 +12,13 @@ ghost use Rattle.rdf_tokens.specs.contracts.scanner.Scanner.{the_row};
 ghost use Rattle.rdf_tokens.specs.Moves.{closed, grown, good_bytes, is_broken, rest_of_bytes, is_settled, tail_now, fault_place, is_flat, GivesBytes, IsEndGiven, Moves, MovesBytes, Stands};
 ghost use Rattle.rdf_tokens.specs.Passing.{is_idle, passed};
 ghost use Rattle.rdf_tokens.specs.Front.{bytes_of};
+ghost use Rattle.rdf_tokens.specs.Peek.{IsPeeked, MayPeek, TakesSeen, is_plain};
 
 use crate::blank::{blank_run, is_one_space};
 use crate::front::{NoNames, Walk};
 use crate::good::{few_line_feeds, good_front, line_feeds, mark_len};
 use crate::look::{Look, Tail, first_look, look_at};
+use crate::peek::{Peeked, first_seen};
 use crate::token::{Fault, Token};
 use rdf_terms::{Dialect, Kind, Reason};
 use std::alloc::{AllocError, Allocator, Global};
@@ -170,6 +172,48 @@ impl<A: Allocator + Copy> Scanner<A> {
         }
     }
 
+    /// The next token of Turtle, where its first bytes settle it and it stands at once or after one space. Nothing is taken. `None` tells nothing:
+    /// then `next` is to be asked. It takes no memory.
+    #[inline(always)]
+    pub fn peek(&self) -> Option<Peeked>
+        ensures { IfSome result (IsPeeked self.now) }
+    {
+        if !self.may_peek() {
+            return None;
+        }
+        first_seen(self.rest(), &self.no_names)
+    }
+
+    /// Gives the token that was seen, as `next` would.
+    #[inline(always)]
+    pub fn take(&mut self, peeked: Peeked) -> Token<'_>
+        requires { IsPeeked self.old peeked }
+        ensures* { sem 𝓛 (follows_so (the_row A.row A.Allocator) (the_row A.row A.Allocator) self.entry.ghost_name none (λ _ _. ⊤)
+            (TakesSeen self.old peeked (token_of result))) }
+    {
+        self.move_on(peeked.blank, 0);
+        self.give(peeked.kind, peeked.len)
+    }
+
+    // Whether a token may be seen: tokens of Turtle are given outside of a comment, and none was looked at before or may be too long.
+    #[inline(always)]
+    fn may_peek(&self) -> bool
+        ensures { result ≡ true → MayPeek self.now }
+    {
+        if !self.is_plain() {
+            return false;
+        }
+        self.walk.is_none() && self.rest().len() as u64 <= self.limit
+    }
+
+    // Whether tokens of Turtle are given, and no comment is open.
+    #[inline(always)]
+    fn is_plain(&self) -> bool
+        ensures { result ≡ is_plain self.now }
+    {
+        self.dialect == Dialect::Turtle && self.begun && !self.stopped && !self.comment
+    }
+
     /// Whether so many bytes can be passed: the scanner stands between two tokens, and the document does not become too long.
     pub fn can_pass(&self, len: usize) -> bool
         ensures { result ≡ (is_idle self.now && nat_le (self.now.taken.offset + len) most_bytes) }
@@ -263,6 +307,7 @@ impl<A: Allocator + Copy> Scanner<A> {
         }
     }
 
+    #[inline(always)]
     fn give(&mut self, kind: Kind, len: usize) -> Token<'_>
         requires { (n : ℕ) × (len ≡ bytes_of n self.old.text) × (is_flat kind ≡ true → count_by (λ c. c == 10) (take n self.old.text) ≡ 0) }
         ensures* { sem 𝓛 (follows_so (the_row A.row A.Allocator) (the_row A.row A.Allocator) self.entry.ghost_name none (λ _ _. ⊤)

@@ -19,6 +19,7 @@ use crate::slots::{TagText, Topic};
 use crate::spares::Spares;
 use crate::state::{Frame, Held, Level, Mode, Outer, State};
 use crate::turn::Turn;
+use rdf_driver::Known;
 use rdf_iri::Scope;
 use rdf_terms::{Kind, QuadSink};
 use rdf_tokens::Token;
@@ -102,26 +103,26 @@ impl<A: Allocator + Copy> State<A> {
         }
     }
 
-    // Moves, once the quads were put.
+    // Moves, once the quads were put, by a token of this kind.
     #[inline(always)]
-    fn move_on(&mut self, turn: Turn, token: &Token<'_>) -> Result<(), StepFault>
+    fn move_on(&mut self, turn: Turn, kind: Kind, token: &Token<'_>) -> Result<(), StepFault>
         requires token { IsTurtleToken token.now }
         requires suits { Suits turn token.now.kind self.old.name }
-        requires room { DepthMay token.now.kind self.old.depth }
+        requires room { DepthMay kind self.old.depth }
         ensures takes { OnOk result (Takes self.old turn (leaf token.now) self.new) }
-        ensures depth { OnOk result (DepthMoves token.now.kind self.old.depth self.new.depth) }
+        ensures depth { OnOk result (DepthMoves kind self.old.depth self.new.depth) }
         ensures stack { OnOk result (FramesTaken self.old turn self.new) }
         ensures fits { OnOk result (TakesFit self.old turn token.now self.new) }
         ensures err { IfErr result (λ r. r ≡ StepFault.Memory) }
     {
         self.take(turn, token)?;
-        self.depth = depth_after(self.depth, token.kind);
+        self.depth = depth_after(self.depth, kind);
         Ok(())
     }
 
     /// Accepts a token, and answers how many quads it determined, or says why not. After an error nothing is known of the
     /// state.
-    pub fn accept<S: QuadSink>(
+    pub fn accept<S: QuadSink, K: Known>(
         &mut self,
         rules: &Rules,
         scope: &mut Scope<A>,
@@ -140,10 +141,12 @@ impl<A: Allocator + Copy> State<A> {
         ensures live { OnOk result (S.has_failed sink.new ≡ false) }
         ensures err { IfErr result (FailsAll S.takes S.leaves S.has_failed rules.now.form scope.old self.old token.now sink.old sink.new) }
     {
-        let turn = self.check(rules, token.kind)?;
+        // Read once, before the token is lent: where the caller knows the kind, so does all that follows.
+        let kind = token.kind;
+        let turn = self.check(rules, kind)?;
         self.look_up(scope, token)?;
         let given = give(self, token, sink)?;
-        self.move_on(turn, token)?;
+        self.move_on(turn, kind, token)?;
         Ok(given)
     }
 }

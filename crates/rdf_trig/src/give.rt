@@ -26,6 +26,7 @@ use rdf_tokens::Token;
 use std::alloc::Allocator;
 
 /// Puts the quads that the token determines, and answers how many they are.
+#[inline(always)]
 pub fn give<A: Allocator, S: QuadSink>(
     state: &State<A>,
     token: &Token<'_>,

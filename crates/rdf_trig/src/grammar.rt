@@ -13,7 +13,7 @@ use crate::form::DocForm;
 use crate::reader::Options;
 use crate::rules::Rules;
 use crate::state::State;
-use rdf_driver::{Grammar, Holds, QuadGrammar, QuadItem};
+use rdf_driver::{Grammar, Holds, Known, QuadGrammar, QuadItem};
 use rdf_iri::{Limits, Scope};
 use rdf_terms::{Dialect, QuadSink, Reason};
 use rdf_tokens::Token;
@@ -73,6 +73,7 @@ impl<A: Allocator + Copy> TreeGrammar<A> {
 }
 
 // The state before the first token.
+#[inline(never)]
 fn restart<A: Allocator + Copy>(alloc: A, state: &mut State<A>)
     ensures { (form : DocForm) (sizes : Sizes) → Keeps form sizes state.new }
 {
@@ -80,6 +81,7 @@ fn restart<A: Allocator + Copy>(alloc: A, state: &mut State<A>)
 }
 
 // A scope with no base and no prefixes.
+#[inline(never)]
 fn clear<A: Allocator + Copy>(alloc: A, limits: Limits, scope: &mut Scope<A>)
     ensures { scope.new.limits ≡ limits }
 {
@@ -115,12 +117,16 @@ impl<A: Allocator + Copy> Grammar for TreeGrammar<A> {
 }
 
 impl<A: Allocator + Copy> QuadGrammar for TreeGrammar<A> {
-    fn accept_quads<S: QuadSink>(
+    #[inline(always)]
+    fn accept_quads<S: QuadSink, K: Known>(
         &mut self,
         token: &Token<'_>,
         sink: &mut S,
     ) -> Result<u64, Reason> {
-        match self.state.accept(&self.rules, &mut self.scope, token, sink) {
+        match self
+            .state
+            .accept::<S, K>(&self.rules, &mut self.scope, token, sink)
+        {
             Ok(given) => Ok(given),
             Err(fault) => {
                 // A step that fails leaves any state, so both begin anew.

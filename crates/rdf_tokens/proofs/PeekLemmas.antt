@@ -1,0 +1,184 @@
+-- A token that is seen before it is taken: the white space before it, and that it is the next step.
+use Rattle.std.proofs.Common.{◌≡◌, ℕ, suc, ◌≤◌, ◌==◌, Bool, true, false, cond, not, nat_lt, List, [], ◌∷◌, refl, sym, ap, ◌∙◌, subst, length, length-drop, get_or, take, drop, count_by, arith, Option, Some, None, IsUtf8}
+use Rattle.std.specs.Prelude.{IfSome, encode_utf8_all}
+use Rattle.std.specs.Str.{chars, IsCharBoundary}
+use Rattle.std.proofs.lemmas.Bool.{and_parts, eqb-true, ltb-true, true≢false}
+use Rattle.std.proofs.lemmas.Str.{encodes-chars, IsCharBoundary-after_ascii, IsCharBoundary-start}
+use Rattle.rdf_terms.specs.Classes.{is_turtle}
+use Rattle.rdf_terms.specs.declared.kind.Dialect.{Dialect}
+use Rattle.rdf_terms.specs.declared.kind.Dialect.TheVariants.{Lines, Turtle}
+use Rattle.rdf_tokens.specs.Blank.{comment_after}
+use Rattle.rdf_tokens.specs.Front.{bytes_of}
+use Rattle.rdf_tokens.specs.Look.{IsLook}
+use Rattle.rdf_tokens.specs.Moves.{BeginsChar, GivesBytes, MovesBytes, Moves, Stands, tail_now}
+use Rattle.rdf_tokens.specs.Peek.{IsBare, IsPeeked, IsSeen, MayPeek, Sees, TakesSeen, is_local, is_plain, one_space}
+use Rattle.rdf_tokens.specs.Quick.{IsToken, is_name_end, stands_at}
+use Rattle.rdf_tokens.specs.Scans.{is_end}
+use Rattle.rdf_tokens.specs.Tokens.{Tail, Token, blank, over, rest_of, step}
+use Rattle.rdf_tokens.specs.Unread.{Unread}
+use Rattle.rdf_tokens.specs.declared.look.Look.TheVariants.{Token as Given}
+use Rattle.rdf_tokens.specs.declared.peek.Peeked.{Peeked}
+use Rattle.rdf_tokens.proofs.BlankLemmas.{blank_by, blank-bytes, blank-step, comment_by, comment-bytes, comment-step}
+use Rattle.rdf_tokens.proofs.ByteLemmas.{Cut, cut}
+use Rattle.rdf_tokens.proofs.LookLemmas.{token-look}
+use Rattle.rdf_tokens.proofs.MoveLemmas.{bared, bared_is, moves_bared, stands_bared}
+use Rattle.rdf_tokens.proofs.NextLemmas.{gives_look, not_end}
+use Rattle.rdf_tokens.proofs.OverLemmas.{over-short}
+use Rattle.rdf_tokens.proofs.PlaceLemmas.{feeds-chars}
+use Rattle.rdf_tokens.proofs.QuickLemmas.{not_true}
+use Rattle.rdf_tokens.proofs.StepLemmas.{step-token}
+
+-- what a local part is that was seen
+pub record IsLocal (bs : List ℕ) (from end : ℕ) : Type 0 where
+  pub ends : is_name_end bs end ≡ true
+  pub some : end ≡ from → ⊥
+  pub no_hyphen : get_or bs from 0 ≡ 45 → ⊥
+
+-- the test of it tells all three
+pub local_is : (bs : List ℕ) (from end : ℕ) → is_local bs from end ≡ true → IsLocal bs from end
+local_is bs from end e =
+    let p = and_parts (is_name_end bs end) _ e in
+    let q = and_parts (nat_lt from end) _ p.1 in
+    let l = ltb-true from end q.0 in
+    record { ends = p.0; some = λ z. omega (arith, z, l); no_hyphen = λ z. let h : not (get_or bs from 0 == 45) ≡ false = ap (λ b. not (b == 45)) z in absurd (true≢false (sym q.1 ∙ h)) }
+
+-- there is no white space before such a byte, and no comment
+bare_front : (bs : List ℕ) → IsBare bs → (blank Turtle false bs ≡ 0) × (comment_after Turtle false bs ≡ false)
+bare_front [] b = absurd (let l = b.some in omega arith)
+bare_front (c ∷ w) b =
+    (blank-step Turtle false c w ∙ ap (λ o. blank_by Turtle o w) b.first, comment-step Turtle false c w ∙ ap (λ o. comment_by Turtle o w) b.first)
+
+-- a token that is seen after one space or none
+pub seen_after : (bs : List ℕ) (n : ℕ) (o : Option Peeked) → n ≡ one_space bs → Sees (drop n bs) n o → IfSome o (λ p. IsBare (drop n bs)) → IfSome o (IsSeen bs)
+seen_after bs n None e s b = tt
+seen_after bs n (Some p) e s b = by_space bs p (subst (λ n. Sees (drop n bs) n (Some p)) e s) (subst (λ n. IsBare (drop n bs)) e b)
+  where
+    none : (bs : List ℕ) (p : Peeked) → Sees bs 0 (Some p) → IsBare bs → IsSeen bs p
+    none bs p s b =
+        let f = bare_front bs b in
+        let z = sym s.0 in
+        record {
+          space = f.0 ∙ z;
+          closed = f.1;
+          flat = ap (λ n. count_by (λ b. b == 10) (take n bs)) s.0;
+          token = subst (λ n. IsToken Turtle (drop n bs) p.len p.kind) z s.1;
+        }
+
+    one : (w : List ℕ) (p : Peeked) → Sees w 1 (Some p) → IsBare w → IsSeen (32 ∷ w) p
+    one w p s b =
+        let f = bare_front w b in
+        let z = sym s.0 in
+        record {
+          space = ap suc f.0 ∙ z;
+          closed = f.1;
+          flat = ap (λ n. count_by (λ b. b == 10) (take n (32 ∷ w))) s.0;
+          token = subst (λ n. IsToken Turtle (drop n (32 ∷ w)) p.len p.kind) z s.1;
+        }
+
+    by_space : (bs : List ℕ) (p : Peeked) → Sees (drop (one_space bs) bs) (one_space bs) (Some p) → IsBare (drop (one_space bs) bs) → IsSeen bs p
+    by_space [] p s b = none [] p s b
+    by_space (c ∷ w) p s b = go (stands_at 32 (c ∷ w) 0) refl s b
+      where
+        go : (t : Bool) → stands_at 32 (c ∷ w) 0 ≡ t → Sees (drop (cond t 1 0) (c ∷ w)) (cond t 1 0) (Some p) → IsBare (drop (cond t 1 0) (c ∷ w)) → IsSeen (c ∷ w) p
+        go true e s b = subst (λ c. IsSeen (c ∷ w) p) (sym (eqb-true c 32 (and_parts (nat_lt 0 (length (c ∷ w))) _ e).1)) (one w p s b)
+        go false e s b = none (c ∷ w) p s b
+
+-- the text can be cut after the space
+pub space_cut : (bs : List ℕ) → IsUtf8 bs → IsCharBoundary bs (one_space bs)
+space_cut bs u = go (stands_at 32 bs 0) refl
+  where
+    go : (t : Bool) → stands_at 32 bs 0 ≡ t → IsCharBoundary bs (cond t 1 0)
+    go true e =
+        let p = and_parts (nat_lt 0 (length bs)) _ e in
+        IsCharBoundary-after_ascii bs 0 u (ltb-true 0 (length bs) p.0) (let b = eqb-true (get_or bs 0 0) 32 p.1 in omega (arith, b))
+    go false e = IsCharBoundary-start bs u
+
+-- the parts of the test
+record IsPlain (v : Unread) : Type 0 where
+  dialect : v.dialect ≡ Turtle
+  begun : v.begun ≡ true
+  running : v.stopped ≡ false
+  outside : v.comment ≡ false
+
+plain_is : (v : Unread) → is_plain v ≡ true → IsPlain v
+plain_is v e =
+    let p = and_parts (is_turtle v.dialect) _ e in
+    let q = and_parts v.begun _ p.1 in
+    let r = and_parts (not v.stopped) _ q.1 in
+    record { dialect = turtle v.dialect p.0; begun = q.0; running = not_true _ r.0; outside = not_true _ r.1 }
+  where
+    turtle : (d : Dialect) → is_turtle d ≡ true → d ≡ Turtle
+    turtle Turtle e = refl
+    turtle Lines e = absurd (true≢false (sym e))
+
+-- What is seen in the bytes of the text is the next step.
+module _ (v : Unread) (bs : List ℕ) (p : Peeked) (u : IsUtf8 bs) (e : chars bs ≡ v.text) (m : MayPeek v) (b : BeginsChar v.pending) (s : IsSeen bs p) where
+  space : p.blank ≡ bytes_of (blank Turtle false (chars bs)) (chars bs)
+  space = sym s.space ∙ blank-bytes Turtle false bs u
+
+  c : Cut bs p.blank (blank Turtle false (chars bs))
+  c = cut bs p.blank (blank Turtle false (chars bs)) u space
+
+  plain : IsPlain v
+  plain = plain_is v m.plain
+
+  there : (P : Dialect → List ℕ → Type 0) → P Turtle (chars bs) → P v.dialect v.text
+  there P x = subst (λ d. P d v.text) (sym plain.dialect) (subst (P Turtle) e x)
+
+  short : over Turtle v.limit (chars (drop p.blank bs)) ≡ false
+  short =
+      let l : length bs ≤ v.limit = subst (λ n. n ≤ v.limit) (ap (λ w. length (encode_utf8_all w)) (sym e) ∙ ap length (encodes-chars bs u)) m.short in
+      over-short Turtle v.limit (drop p.blank bs) c.rest_utf8 (omega (arith, l, length-drop p.blank bs))
+
+  no_feeds : count_by (λ c. c == 10) (take (blank Turtle false (chars bs)) (chars bs)) ≡ 0
+  no_feeds = ap (count_by (λ c. c == 10)) (sym c.front) ∙ (sym (feeds-chars (take p.blank bs) c.front_utf8) ∙ s.flat)
+
+  next : (t : Tail) → IsLook (Given p.len p.kind) (step Turtle v.limit t (rest_of Turtle false (chars bs))) (rest_of Turtle false (chars bs))
+  next t =
+      subst (λ w. IsLook (Given p.len p.kind) (step Turtle v.limit t w) w) c.rest
+      (token-look Turtle v.limit t (drop p.blank bs) p.len p.kind c.rest_utf8 short s.token)
+
+  pub is_peeked : IsPeeked v p
+  is_peeked = record {
+    running = plain.running;
+    begun = plain.begun;
+    outside = plain.outside;
+    begins = b;
+    space = there (λ d w. p.blank ≡ bytes_of (blank d false w) w) space;
+    closed = there (λ d w. comment_after d false w ≡ false) (sym (comment-bytes Turtle false bs u) ∙ s.closed);
+    flat = there (λ d w. count_by (λ c. c == 10) (take (blank d false w) w) ≡ 0) no_feeds;
+    look = λ t. there (λ d w. IsLook (Given p.len p.kind) (step d v.limit t (rest_of d false w)) (rest_of d false w)) (next t);
+  }
+
+-- the same of what may be seen
+pub peeked_now : (v : Unread) (bs : List ℕ) (o : Option Peeked) → IsUtf8 bs → chars bs ≡ v.text → MayPeek v → BeginsChar v.pending → IfSome o (IsSeen bs) → IfSome o (IsPeeked v)
+peeked_now v bs None u e m b s = tt
+peeked_now v bs (Some p) u e m b s = is_peeked v bs p u e m b s
+
+-- A token that is seen is taken: the scanner moves over the white space before it.
+module _ (v mid : Unread) (p : Peeked) (s : IsPeeked v p) (h : MovesBytes v p.blank mid) where
+  pub bared_peeked : mid ≡ bared v
+  bared_peeked =
+      bared_is v mid v.text p.blank v.comment h refl s.begun (s.space ∙ ap (λ b. bytes_of (blank v.dialect b v.text) v.text) (sym s.outside))
+      (s.outside ∙ (sym s.closed ∙ ap (λ b. comment_after v.dialect b v.text) (sym s.outside)))
+
+  -- and the token is the step there
+  pub look_peeked : IsLook (Given p.len p.kind) (step mid.dialect mid.limit (tail_now mid) mid.text) mid.text
+  look_peeked =
+      subst (λ m. IsLook (Given p.len p.kind) (step m.dialect m.limit (tail_now m) m.text) m.text) (sym bared_peeked)
+      (subst (λ b. IsLook (Given p.len p.kind) (step v.dialect v.limit (tail_now v) (rest_of v.dialect b v.text)) (rest_of v.dialect b v.text)) (sym s.outside) (s.look (tail_now v)))
+
+  -- so it is given
+  pub takes_seen : {t : Token} {new : Unread} → GivesBytes mid p.kind p.len t new → TakesSeen v p t new
+  takes_seen {t} {new} g =
+      let l = look_peeked in
+      let k = ap (λ t. t.kind) (g l.0 l.3).token in
+      record {
+        given = gives_look v mid (subst (Moves v []) (sym bared_peeked) (moves_bared v s.begun)) s.running s.begins (subst Stands (sym bared_peeked) (stands_bared v)) p.len p.kind t new l g;
+        kind = k;
+        goes_on = ap is_end k ∙ not_end p.kind (step-token mid.dialect mid.limit (tail_now mid) mid.text l.0 p.kind l.1).2;
+      }
+
+-- what may be seen, by the bytes of the text
+pub may_see : (v : Unread) (bs : List ℕ) → IsUtf8 bs → chars bs ≡ v.text → is_plain v ≡ true → length bs ≤ v.limit → MayPeek v
+may_see v bs u e p l = record { plain = p; short = subst (λ n. n ≤ v.limit) (ap length (sym (encodes-chars bs u)) ∙ ap (λ w. length (encode_utf8_all w)) e) l }
