@@ -13,6 +13,7 @@ enum Answer {
     Pending(u64),
     Undecided,
     Unseen,
+    Passed,
     Token(Kind, u64, u64, usize),
     Fault(Reason, u64),
 }
@@ -51,6 +52,7 @@ enum Step {
     Push(&'static [u8]),
     Next,
     See,
+    PassLineFeed,
     End,
     Pending,
 }
@@ -64,6 +66,10 @@ fn take(alloc: Global, scanner: &mut Scanner, step: Step) -> Answer {
         Step::Push(piece) => push(scanner, piece),
         Step::Next => next(scanner),
         Step::See => see(scanner),
+        Step::PassLineFeed => {
+            scanner.pass_line_feed();
+            Answer::Passed
+        }
         Step::End => {
             scanner.end();
             Answer::Ended
@@ -73,7 +79,7 @@ fn take(alloc: Global, scanner: &mut Scanner, step: Step) -> Answer {
 }
 
 /// What is done with a scanner, and what it answers.
-static STEPS: [(Step, Answer); 205] = [
+static STEPS: [(Step, Answer); 212] = [
     // Frequent tokens are seen before they are taken, but for the first of a document.
     (Step::Start(Dialect::Turtle, 64), Answer::Started),
     (
@@ -100,6 +106,14 @@ static STEPS: [(Step, Answer); 205] = [
     (Step::See, Answer::Unseen),
     (Step::Next, Answer::Token(Kind::Semicolon, 47, 2, 1)),
     (Step::See, Answer::Unseen),
+    // A line feed is passed where a token stands after it.
+    (Step::Push(b".\n, \n\n;"), Answer::Took(7)),
+    (Step::See, Answer::Token(Kind::Dot, 48, 2, 1)),
+    (Step::PassLineFeed, Answer::Passed),
+    (Step::See, Answer::Token(Kind::Comma, 50, 3, 1)),
+    (Step::PassLineFeed, Answer::Passed),
+    (Step::See, Answer::Unseen),
+    (Step::Next, Answer::Token(Kind::Semicolon, 54, 5, 1)),
     // More bytes decide.
     (Step::Start(Dialect::Turtle, 64), Answer::Started),
     (Step::Push(b"1."), Answer::Took(2)),

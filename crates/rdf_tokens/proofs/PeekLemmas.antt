@@ -1,8 +1,9 @@
 -- A token that is seen before it is taken: the white space before it, and that it is the next step.
-use Rattle.std.proofs.Common.{◌≡◌, ℕ, suc, ◌≤◌, ◌==◌, Bool, true, false, cond, not, nat_lt, List, [], ◌∷◌, refl, sym, ap, ◌∙◌, subst, length, length-drop, get_or, take, drop, count_by, arith, Option, Some, None, IsUtf8}
+use Rattle.std.proofs.Common.{◌≡◌, ℕ, suc, ◌+◌, ◌≤◌, ◌==◌, Bool, true, false, cond, not, nat_lt, List, [], ◌∷◌, refl, sym, ap, ◌∙◌, subst, length, length-drop, get_or, take, drop, count_by, arith, Option, Some, None, IsUtf8}
 use Rattle.std.specs.Prelude.{IfSome, encode_utf8_all}
 use Rattle.std.specs.Str.{chars, IsCharBoundary}
 use Rattle.std.proofs.lemmas.Bool.{and_parts, eqb-true, ltb-true, true≢false}
+use Rattle.std.proofs.lemmas.List.{append-nil}
 use Rattle.std.proofs.lemmas.Str.{encodes-chars, IsCharBoundary-after_ascii, IsCharBoundary-start}
 use Rattle.rdf_terms.specs.Classes.{is_turtle}
 use Rattle.rdf_terms.specs.declared.kind.Dialect.{Dialect}
@@ -13,7 +14,7 @@ use Rattle.rdf_tokens.specs.Look.{IsLook}
 use Rattle.rdf_tokens.specs.Moves.{BeginsChar, GivesBytes, MovesBytes, Moves, Stands, tail_now}
 use Rattle.rdf_tokens.specs.Peek.{IsBare, IsPeeked, IsSeen, MayPeek, Sees, TakesSeen, is_local, is_plain, one_space}
 use Rattle.rdf_tokens.specs.Quick.{IsToken, is_name_end, stands_at}
-use Rattle.rdf_tokens.specs.Scans.{is_end}
+use Rattle.rdf_tokens.specs.Scans.{HasScanned, PassesBlank, is_end}
 use Rattle.rdf_tokens.specs.Tokens.{Tail, Token, blank, over, rest_of, step}
 use Rattle.rdf_tokens.specs.Unread.{Unread}
 use Rattle.rdf_tokens.specs.declared.look.Look.TheVariants.{Token as Given}
@@ -21,11 +22,12 @@ use Rattle.rdf_tokens.specs.declared.peek.Peeked.{Peeked}
 use Rattle.rdf_tokens.proofs.BlankLemmas.{blank_by, blank-bytes, blank-step, comment_by, comment-bytes, comment-step}
 use Rattle.rdf_tokens.proofs.ByteLemmas.{Cut, cut}
 use Rattle.rdf_tokens.proofs.LookLemmas.{token-look}
-use Rattle.rdf_tokens.proofs.MoveLemmas.{bared, bared_is, moves_bared, stands_bared}
+use Rattle.rdf_tokens.proofs.MoveLemmas.{bared, bared_is, moves_bared, one_bared, stands_bared}
 use Rattle.rdf_tokens.proofs.NextLemmas.{gives_look, not_end}
 use Rattle.rdf_tokens.proofs.OverLemmas.{over-short}
 use Rattle.rdf_tokens.proofs.PlaceLemmas.{feeds-chars}
 use Rattle.rdf_tokens.proofs.QuickLemmas.{not_true}
+use Rattle.rdf_tokens.proofs.ReadLemmas.{read_on}
 use Rattle.rdf_tokens.proofs.StepLemmas.{step-token}
 
 -- what a local part is that was seen
@@ -182,3 +184,20 @@ module _ (v mid : Unread) (p : Peeked) (s : IsPeeked v p) (h : MovesBytes v p.bl
 -- what may be seen, by the bytes of the text
 pub may_see : (v : Unread) (bs : List ℕ) → IsUtf8 bs → chars bs ≡ v.text → is_plain v ≡ true → length bs ≤ v.limit → MayPeek v
 may_see v bs u e p l = record { plain = p; short = subst (λ n. n ≤ v.limit) (ap length (sym (encodes-chars bs u)) ∙ ap (λ w. length (encode_utf8_all w)) e) l }
+
+-- One byte of white space of Turtle is passed before a token: what was read stays as it is.
+pub passes_one : (v new : Unread) (rest : List ℕ) → is_plain v ≡ true → BeginsChar v.pending → MovesBytes v 1 new → rest ≡ v.text →
+    bytes_of (blank Turtle false rest) rest ≡ 1 → comment_after Turtle false rest ≡ false → PassesBlank v new
+passes_one v new rest p b h r l k =
+    let q = plain_is v p in
+    let is = one_bared v new rest h r q.begun q.outside (ap (λ d. bytes_of (blank d false rest) rest) q.dialect ∙ l) (ap (λ d. comment_after d false rest) q.dialect ∙ k) in
+    let m : Moves v [] new = subst (Moves v []) (sym is) (moves_bared v q.begun) in
+    let stopped : new.stopped ≡ v.stopped = ap (λ v. v.stopped) m.same in
+    let less = m.less in
+    record {
+      same = record { dialect = ap (λ v. v.dialect) m.same; limit = ap (λ v. v.limit) m.same };
+      ended = ap (λ v. v.ended) m.same;
+      stopped = stopped;
+      less = subst (λ x. length new.text + cond x 0 1 ≤ length v.text + cond v.stopped 0 1) (sym stopped) (omega arith);
+      read = λ bytes ts s. subst (HasScanned new bytes) (append-nil ts) (read_on v new bytes ts [] q.running b m s);
+    }

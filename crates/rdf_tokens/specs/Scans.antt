@@ -115,6 +115,14 @@ pub record GivesToken (old : Unread) (t : Token) (new : Unread) : Type 0 where
   pub stops : new.stopped ≡ cond (is_end t.kind) true false
   pub read : (bytes : List ℕ) (ts : List Token) → HasScanned old bytes ts → HasScanned new bytes (ts ++ t ∷ [])
 
+-- White space before the next token was passed, or nothing.
+pub record PassesBlank (old new : Unread) : Type 0 where
+  pub same : SameScan old new
+  pub ended : new.ended ≡ old.ended
+  pub stopped : new.stopped ≡ old.stopped
+  pub less : left new ≤ left old
+  pub read : (bytes : List ℕ) (ts : List Token) → HasScanned old bytes ts → HasScanned new bytes ts
+
 -- all tokens that the bytes decide were given
 pub record Waits (old new : Unread) : Type 0 where
   pub same : SameScan old new

@@ -1,6 +1,6 @@
 // White space and comments.
 
-ghost use Rattle.std.specs.Prelude.{◌≡◌, ◌==◌, ◌≤◌, true, false, length, take, count_by};
+ghost use Rattle.std.specs.Prelude.{◌≡◌, ◌==◌, ◌≤◌, true, false, cond, length, take, count_by};
 ghost use Rattle.std.specs.Str.{chars};
 ghost use Rattle.rdf_tokens.specs.Tokens.{blank, is_line_end as ends_line, is_space as spaces};
 ghost use Rattle.rdf_tokens.specs.Blank.{comment_step, comment_after, goes_on, is_cut, is_hash};
@@ -94,24 +94,26 @@ fn is_hash(bytes: &[u8], at: usize) -> bool
     at < bytes.len() && bytes[at] == b'#'
 }
 
-/// Whether one space stands before a character that is neither white space nor the beginning of a comment.
+/// Whether this byte of white space stands before a character that is neither white space nor the beginning of a comment.
 #[inline(always)]
-pub(crate) fn is_one_space(dialect: Dialect, text: &str) -> bool
+pub(crate) fn is_one(white: u8, dialect: Dialect, text: &str) -> bool
+    requires { spaces dialect white ≡ true }
     ensures len { result ≡ true → bytes_of (blank dialect false (chars text.now)) (chars text.now) ≡ 1 }
     ensures comment { result ≡ true → comment_after dialect false (chars text.now) ≡ false }
-    ensures feeds { result ≡ true → count_by (λ c. c == 10) (take (blank dialect false (chars text.now)) (chars text.now)) ≡ 0 }
+    ensures feeds { result ≡ true → count_by (λ c. c == 10) (take (blank dialect false (chars text.now)) (chars text.now)) ≡ cond (white == 10) 1 0 }
 {
-    is_one_space_byte(dialect, text.as_bytes())
+    is_one_byte(white, dialect, text.as_bytes())
 }
 
 #[inline(always)]
-fn is_one_space_byte(dialect: Dialect, bytes: &[u8]) -> bool
+fn is_one_byte(white: u8, dialect: Dialect, bytes: &[u8]) -> bool
+    requires { spaces dialect white ≡ true }
     ensures len { result ≡ true → blank dialect false bytes.now ≡ 1 }
     ensures comment { result ≡ true → comment_after dialect false bytes.now ≡ false }
-    ensures feeds { result ≡ true → count_by (λ b. b == 10) (take 1 bytes.now) ≡ 0 }
+    ensures feeds { result ≡ true → count_by (λ b. b == 10) (take 1 bytes.now) ≡ cond (white == 10) 1 0 }
 {
     match bytes {
-        [b' ', next, ..] => comment_step(dialect, false, *next).is_none(),
+        [first, next, ..] => *first == white && comment_step(dialect, false, *next).is_none(),
         _ => false,
     }
 }

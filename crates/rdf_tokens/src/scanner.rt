@@ -6,7 +6,7 @@ ghost use Rattle.std.specs.String.{string_bytes};
 ghost use mathlib.Core.Option.{none};
 ghost use Rattle.std.specs.Borrow.{sem, follows_so};
 ghost use Rattle.rdf_tokens.specs.Tokens.{Token as Read, step, is_empty};
-ghost use Rattle.rdf_tokens.specs.Scans.{HasScanned, Pushes, Gives, most_bytes, token_of, place_of, unread_bytes, IsWaiting, most_unread, fitting};
+ghost use Rattle.rdf_tokens.specs.Scans.{PassesBlank, HasScanned, Pushes, Gives, most_bytes, token_of, place_of, unread_bytes, IsWaiting, most_unread, fitting};
 ghost use Rattle.rdf_tokens.specs.Look.{tail_after, IsLook};
 ghost use Rattle.rdf_tokens.specs.contracts.scanner.Scanner.{the_row};
 ghost use Rattle.rdf_tokens.specs.Moves.{closed, grown, good_bytes, is_broken, rest_of_bytes, is_settled, tail_now, fault_place, is_flat, GivesBytes, IsEndGiven, Moves, MovesBytes, Stands};
@@ -14,7 +14,7 @@ ghost use Rattle.rdf_tokens.specs.Passing.{is_idle, passed};
 ghost use Rattle.rdf_tokens.specs.Front.{bytes_of};
 ghost use Rattle.rdf_tokens.specs.Peek.{IsPeeked, MayPeek, TakesSeen, is_plain};
 
-use crate::blank::{blank_run, is_one_space};
+use crate::blank::{blank_run, is_one};
 use crate::front::{NoNames, Walk};
 use crate::good::{few_line_feeds, good_front, line_feeds, mark_len};
 use crate::look::{Look, Tail, first_look, look_at};
@@ -193,6 +193,18 @@ impl<A: Allocator + Copy> Scanner<A> {
     {
         self.move_on(peeked.blank, 0);
         self.give(peeked.kind, peeked.len)
+    }
+
+    /// Passes a line feed of Turtle that stands next, where neither white space nor a comment comes after it. What the next token is, and where
+    /// it stands, stays as it is: it is only sooner looked for. It takes no memory.
+    #[inline(always)]
+    pub fn pass_line_feed(&mut self)
+        ensures { PassesBlank self.old self.new }
+    {
+        let _ = &self.dialect;
+        if self.is_plain() && is_one(b'\n', Dialect::Turtle, self.rest()) {
+            self.move_on(1, 1);
+        }
     }
 
     // Whether a token may be seen: tokens of Turtle are given outside of a comment, and none was looked at before or may be too long.
@@ -414,7 +426,7 @@ impl<A: Allocator + Copy> Scanner<A> {
         ensures moves { Moves self.old [] self.new }
         ensures stands { Stands self.new }
     {
-        if !self.comment && is_one_space(self.dialect, self.rest()) {
+        if !self.comment && is_one(b' ', self.dialect, self.rest()) {
             self.move_on(1, 0);
             return;
         }

@@ -28,26 +28,26 @@ move_on-requires g c =
     let w = chars c.rest.result.now in
     let r = c.rest.ensures in
     let n = blank c.self.inside.dialect false w in
-    let one = c.is_one_space.ensures in
-    let is = c.if-is_one_space.true in
+    let one = c.is_one.ensures in
+    let is = c.if-is_one.true in
     (n, sym (ap (bytes_of n) (sym r) ∙ one.len is), sym (ap (λ w. count_by (λ c. c == 10) (take n w)) (sym r) ∙ one.feeds is))
 
-pub returns-then-is_one_space-clause-moves : goal.returns-then-is_one_space-clause-moves
-returns-then-is_one_space-clause-moves g c =
+pub returns-then-is_one-clause-moves : goal.returns-then-is_one-clause-moves
+returns-then-is_one-clause-moves g c =
     let v = c.self.view_is in
     let w = chars c.rest.result.now in
-    let one = c.is_one_space.ensures in
-    let is = c.if-is_one_space.true in
+    let one = c.is_one.ensures in
+    let is = c.if-is_one.true in
     let new = one_bared c.args.self.now c.move_on.new.self w c.move_on.ensures c.rest.ensures c.requires (ap (λ v. v.comment) (sym v) ∙ c.if-not-self.true)
     (ap (λ v. bytes_of (blank v.dialect false w) w) (sym v) ∙ one.len is) (ap (λ v. comment_after v.dialect false w) (sym v) ∙ one.comment is) in
     subst (Moves c.args.self.now []) (sym new) (moves_bared c.args.self.now c.requires)
 
-pub returns-then-is_one_space-clause-stands : goal.returns-then-is_one_space-clause-stands
-returns-then-is_one_space-clause-stands g c =
+pub returns-then-is_one-clause-stands : goal.returns-then-is_one-clause-stands
+returns-then-is_one-clause-stands g c =
     let v = c.self.view_is in
     let w = chars c.rest.result.now in
-    let one = c.is_one_space.ensures in
-    let is = c.if-is_one_space.true in
+    let one = c.is_one.ensures in
+    let is = c.if-is_one.true in
     let new = one_bared c.args.self.now c.move_on.new.self w c.move_on.ensures c.rest.ensures c.requires (ap (λ v. v.comment) (sym v) ∙ c.if-not-self.true)
     (ap (λ v. bytes_of (blank v.dialect false w) w) (sym v) ∙ one.len is) (ap (λ v. comment_after v.dialect false w) (sym v) ∙ one.comment is) in
     subst Stands (sym new) (stands_bared c.args.self.now)
