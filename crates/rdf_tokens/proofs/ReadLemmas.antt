@@ -1,5 +1,5 @@
 -- How reading goes on.
-use Rattle.std.proofs.Common.{◌+◌, ◌≡◌, ℕ, ◌<◌, ◌≤◌, Bool, true, false, cond, List, [], ◌∷◌, ◌++◌, ◌||◌, ◌==◌, inl, inr, refl, sym, ap, ◌∙◌, subst, append_assoc, is_some, length, take, drop, arith}
+use Rattle.std.proofs.Common.{◌+◌, ◌≡◌, ℕ, ◌<◌, ◌≤◌, min, Bool, true, false, cond, List, [], ◌∷◌, ◌++◌, ◌||◌, ◌==◌, inl, inr, refl, sym, ap, ◌∙◌, subst, append_assoc, is_some, length, take, drop, arith}
 use Rattle.std.proofs.lemmas.List.{length-take-le, append-nil, take-append-drop}
 use Rattle.std.proofs.lemmas.Bool.{cond-true, cond-false}
 use Rattle.std.proofs.lemmas.Bool.Decides.{nat_tests}
@@ -11,7 +11,7 @@ use Rattle.rdf_tokens.specs.Tokens.Tail.{goes_on, ended, broken}
 use Rattle.rdf_terms.specs.declared.kind.Dialect.{Dialect}
 use Rattle.rdf_tokens.specs.Good.{first_place, good, tail_of, tokens_at, tokens_of}
 use Rattle.rdf_tokens.specs.Unread.{Unread}
-use Rattle.rdf_tokens.specs.Scans.{most_bytes, reading_by, reading_of, Reads, HasScanned, SameScan, IsOpen, TakesBytes, unread_bytes, most_unread, fitting}
+use Rattle.rdf_tokens.specs.Scans.{most_bytes, reading_by, reading_of, Reads, HasScanned, SameScan, IsOpen, TakesBytes, unread_bytes, most_unread, fitting, at_once}
 use Rattle.rdf_tokens.specs.Moves.{beyond, BeginsChar, good_bytes, rest_of_bytes, is_broken, counted, lengthened, grown, tail_now, moved, Moves}
 use Rattle.rdf_tokens.proofs.GoodLemmas.{good_front}
 use Rattle.rdf_tokens.proofs.PlaceLemmas.{end_of-append}
@@ -162,7 +162,7 @@ read_push v bytes piece ts s n r = by_broken v.broken refl
         (has_read (lengthened v piece) refl (reads (lengthened v piece) refl refl refl refl (grows v.broken x)))
 
 -- what a scanner has read where bytes were taken
-pub takes_bytes : (old new : Unread) (piece : List ℕ) (n : ℕ) → old.stopped ≡ false → old.ended ≡ false → n ≤ length piece → n ≡ fitting old (length piece) →
+pub takes_bytes : (old new : Unread) (piece : List ℕ) (n : ℕ) → old.stopped ≡ false → old.ended ≡ false → n ≤ length piece → n ≡ fitting old (min (length piece) (at_once old.limit)) →
     (unread_bytes old < most_unread old.limit → 0 < length piece → 0 < n) → old.taken.offset + n ≤ most_bytes → new ≡ grown old (take n piece) → TakesBytes old piece n new
 takes_bytes old new piece n s e within count progress most is =
     subst (TakesBytes old piece n) (sym is) (by_broken old.broken refl)

@@ -3,7 +3,7 @@ use Rattle.std.proofs.Common.{◌≡◌, ℕ, ◌+◌, ◌-◌, ◌*◌, ◌/◌
 use Rattle.std.specs.Prelude.{encode_utf8_all}
 use Rattle.std.specs.Int.{is_in_range}
 use Rattle.std.specs.Str.Lossy.{utf8_error_len, second_byte_min, second_byte_max}
-use Rattle.std.proofs.Math.Nat.{min-le_left, min-le_right, min-eq_left, min-eq_right, le-min}
+use Rattle.std.proofs.Math.Nat.{min-le_left, min-le_right, min-eq_left, min-eq_right, le-min, le-max_left}
 use Rattle.std.proofs.lemmas.Bool.{cases_lt, lt-ltb, le-ltb, ne_eqb, and_from, false≢true}
 use Rattle.std.proofs.lemmas.List.{take-append-drop}
 use Rattle.std.proofs.lemmas.Str.{len_utf8_bounds, length-encode}
@@ -13,7 +13,7 @@ use Rattle.rdf_terms.proofs.ShapesLemmas.{live-front}
 use Rattle.rdf_tokens.specs.Tokens.{is_empty, over}
 use Rattle.rdf_tokens.specs.Unread.{Unread}
 use Rattle.rdf_tokens.specs.Moves.{BeginsChar}
-use Rattle.rdf_tokens.specs.Scans.{most_bytes, most_unread, unread_bytes, fitting}
+use Rattle.rdf_tokens.specs.Scans.{most_bytes, most_unread, unread_bytes, fitting, at_once}
 
 -- a character has four bytes at most
 few_bytes : (w : List ℕ) → length (encode_utf8_all w) ≤ 4 * length w
@@ -87,6 +87,13 @@ fitting-some v n l m r =
     let left = most_bytes - v.taken.offset in
     let free = most_unread v.limit - unread_bytes v in
     let a : 1 ≤ min n (min left free) = le-min (omega arith) (le-min (omega arith) (omega arith)) in
+    omega arith
+
+-- of some bytes some are taken at once
+pub at_once-some : (limit n : ℕ) → 0 < n → 0 < min n (at_once limit)
+at_once-some limit n l =
+    let a : 512 ≤ at_once limit = le-max_left 512 (min 65536 (limit / 2)) in
+    let b : 1 ≤ min n (at_once limit) = le-min (omega arith) (omega arith) in
     omega arith
 
 pub room-fits : (limit unread taken : ℕ) → unread ≤ most_unread limit → unread ≤ taken → taken ≤ most_bytes → unread ≤ most_unread (min limit (most_bytes / 4))

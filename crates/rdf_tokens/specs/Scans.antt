@@ -1,5 +1,5 @@
 -- What a scanner has read, and what its calls give.
-use Rattle.std.specs.Prelude.{◌≡◌, ◌≢◌, ℕ, ◌<◌, ◌≤◌, ◌+◌, ◌-◌, ◌*◌, min, Bool, true, false, cond, List, [], ◌∷◌, ◌++◌, ◌⊎◌, length, take, encode_utf8_all, Option, Some, None, Result, Ok, Err}
+use Rattle.std.specs.Prelude.{◌≡◌, ◌≢◌, ℕ, ◌<◌, ◌≤◌, ◌+◌, ◌-◌, ◌*◌, ◌/◌, min, max, Bool, true, false, cond, List, [], ◌∷◌, ◌++◌, ◌⊎◌, length, take, encode_utf8_all, Option, Some, None, Result, Ok, Err}
 use Rattle.std.specs.Str.{chars}
 use Rattle.rdf_terms.specs.declared.kind.Dialect.{Dialect}
 use Rattle.rdf_terms.specs.declared.kind.Kind.TheVariants.{End}
@@ -71,6 +71,10 @@ most_unread limit = 4 * (limit + 1) + 3
 abbrev pub fitting : Unread → ℕ → ℕ
 fitting v n = min n (min (most_bytes - v.taken.offset) (most_unread v.limit - unread_bytes v))
 
+-- the most bytes that are taken at once: tokens are found sooner in a text that has no more bytes than the limit
+abbrev pub at_once : ℕ → ℕ
+at_once limit = max 512 (min 65536 (limit / 2))
+
 -- Bytes may come, and all tokens that those so far decide were given. What is left is the beginning of a token within the limit, and of a character.
 pub record IsWaiting (v : Unread) : Type 0 where
   pub running : v.stopped ≡ false
@@ -87,7 +91,7 @@ pub record TakesBytes (old : Unread) (piece : List ℕ) (n : ℕ) (new : Unread)
   pub before : IsOpen old
   pub after : IsOpen new
   pub within : n ≤ length piece
-  pub count : n ≡ fitting old (length piece)
+  pub count : n ≡ fitting old (min (length piece) (at_once old.limit))
   pub progress : unread_bytes old < most_unread old.limit → 0 < length piece → 0 < n
   pub most : new.taken.offset ≤ most_bytes
   pub read : (bytes : List ℕ) (ts : List Token) → HasScanned old bytes ts → HasScanned new (bytes ++ take n piece) ts

@@ -6,7 +6,7 @@ ghost use Rattle.std.specs.String.{string_bytes};
 ghost use mathlib.Core.Option.{none};
 ghost use Rattle.std.specs.Borrow.{sem, follows_so};
 ghost use Rattle.rdf_tokens.specs.Tokens.{Token as Read, step, is_empty};
-ghost use Rattle.rdf_tokens.specs.Scans.{PassesBlank, HasScanned, Pushes, Gives, most_bytes, token_of, place_of, unread_bytes, IsWaiting, most_unread, fitting};
+ghost use Rattle.rdf_tokens.specs.Scans.{PassesBlank, HasScanned, Pushes, Gives, most_bytes, token_of, place_of, unread_bytes, IsWaiting, most_unread, fitting, at_once};
 ghost use Rattle.rdf_tokens.specs.Look.{tail_after, IsLook};
 ghost use Rattle.rdf_tokens.specs.contracts.scanner.Scanner.{the_row};
 ghost use Rattle.rdf_tokens.specs.Moves.{closed, grown, good_bytes, is_broken, rest_of_bytes, is_settled, tail_now, fault_place, is_flat, GivesBytes, IsEndGiven, Moves, MovesBytes, Stands};
@@ -26,6 +26,11 @@ use std::marker::Model;
 
 /// The greatest number of bytes in a document.
 const MOST_BYTES: u64 = 0x7fff_ffff_ffff_ffff;
+
+/// The number of bytes that are taken at once at most, and where the limit is low.
+const MOST_AT_ONCE: u64 = 65536;
+
+const LEAST_AT_ONCE: u64 = 512;
 
 /// The number of bytes for which memory stays where it is given back.
 const LEAST_CAPACITY: usize = 65536;
@@ -131,7 +136,7 @@ impl<A: Allocator + Copy> Scanner<A> {
         }
     }
 
-    /// Takes the bytes of the piece that there is room for, and answers how many. After a `next` that answered `None` they are at least
+    /// Takes the bytes of the piece that there is room for, and answers how many: at most 65,536 at once, and fewer where the limit is low. After a `next` that answered `None` they are at least
     /// one of a piece that is not empty. After a stop and after `end` it answers `Ended`. A document has at most 2^63 - 1 bytes: for a
     /// piece after them it answers `DocumentTooLong`. After that, and after `Memory`, the scanner is stopped.
     pub fn push(&mut self, piece: &[u8]) -> Result<usize, Fault>
@@ -143,7 +148,7 @@ impl<A: Allocator + Copy> Scanner<A> {
         if self.taken == MOST_BYTES && !piece.is_empty() {
             return Err(self.stop(Reason::DocumentTooLong));
         }
-        let len = self.room(piece.len());
+        let len = self.room(piece.len().min(at_once(self.limit)));
         match self.take_in(&piece[..len]) {
             Ok(()) => Ok(len),
             Err(_) => Err(self.stop(Reason::Memory)),
@@ -477,6 +482,14 @@ impl<A: Allocator + Copy> Scanner<A> {
             line: self.last_line,
         }
     }
+}
+
+/// The most bytes of a piece that are taken at once. Most tokens are recognized at once only in a text that has no more bytes than the limit on their
+/// characters, so half of them are taken, or 512.
+fn at_once(limit: u64) -> usize
+    ensures { result ≡ at_once limit }
+{
+    (limit / 2).min(MOST_AT_ONCE).max(LEAST_AT_ONCE) as usize
 }
 
 /// The most bytes of which no token was given. Above a quarter of what a document has at most, the limit makes no difference.

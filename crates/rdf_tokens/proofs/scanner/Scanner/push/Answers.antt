@@ -1,13 +1,14 @@
-use Rattle.std.proofs.Common.{◌≡◌, ◌<◌, ◌≤◌, ◌+◌, false, length, take, ap, sym, ◌∙◌, subst, ⊎_elim, arith}
+use Rattle.std.proofs.Common.{◌≡◌, ◌<◌, ◌≤◌, ◌+◌, false, min, length, take, ap, sym, ◌∙◌, subst, ⊎_elim, arith}
+use Rattle.std.proofs.Math.Nat.{min-le_left}
 use Rattle.std.proofs.lemmas.Bool.{eqb-true, cases_lt}
 use Rattle.std.proofs.lemmas.List.{length-take-le}
 use Rattle.std.proofs.lemmas.Str.{IsUtf8-string_bytes}
 use Rattle.std.specs.String.{string_bytes}
-use Rattle.rdf_tokens.specs.Scans.{most_bytes, most_unread, unread_bytes}
+use Rattle.rdf_tokens.specs.Scans.{most_bytes, most_unread, unread_bytes, fitting, at_once}
 use Rattle.rdf_tokens.proofs.Inside.{unread_of}
 use Rattle.rdf_tokens.proofs.HeldLemmas.{unread_size}
 use Rattle.rdf_tokens.proofs.ReadLemmas.{takes_bytes}
-use Rattle.rdf_tokens.proofs.RoomLemmas.{fitting-within, fitting-most, fitting-room, fitting-some}
+use Rattle.rdf_tokens.proofs.RoomLemmas.{at_once-some, fitting-within, fitting-most, fitting-room, fitting-some}
 use Rattle.rdf_tokens.proofs.scanner.Scanner.push.Goals.{else-self-eq-MOST_BYTES-via-then-self-eq-MOST_BYTES+else-not-is_empty, else-self-eq-MOST_BYTES-via-else-self-eq-MOST_BYTES}
 use Rattle.rdf_tokens.proofs.scanner.Scanner.push.Goals as goal
 
@@ -20,9 +21,12 @@ take_in-requires-clause-room g c =
     let bounded = c.self.invariant.bounded in
     let here : unread_bytes (unread_of s) ≤ most_unread s.limit = omega (arith, size) in
     let unread : unread_bytes old ≤ most_unread old.limit = subst (λ v. unread_bytes v ≤ most_unread v.limit) c.self.view_is here in
-    let fits = fitting-within old (length piece) in
-    let part : length (take c.room-len.result piece) ≡ c.room-len.result = length-take-le c.room-len.result piece (omega (arith, c.room-len.ensures)) in
-    omega (arith, part, c.room-len.ensures, fitting-room old (length piece) unread)
+    let most = min (length piece) (at_once old.limit) in
+    let room : c.room-len.result ≡ fitting old most = c.room-len.ensures ∙ ap (fitting old) (c.min.ensures ∙ ap (min (length piece)) (c.at_once.ensures ∙ ap (λ v. at_once v.limit) c.self.view_is)) in
+    let fits = fitting-within old most in
+    let less = min-le_left (length piece) (at_once old.limit) in
+    let part : length (take c.room-len.result piece) ≡ c.room-len.result = length-take-le c.room-len.result piece (omega (arith, room)) in
+    omega (arith, part, room, fitting-room old most unread)
 
 pub returns-in-Ok : goal.returns-in-Ok
 returns-in-Ok g c =
@@ -37,7 +41,9 @@ returns-in-Ok g c =
       | else-self-eq-MOST_BYTES-via-then-self-eq-MOST_BYTES+else-not-is_empty w ↦ let e : length piece ≡ 0 = eqb-true (length piece) 0 (sym w.is_empty.ensures ∙ w.if-not-is_empty.false) in absurd (omega arith)
       | else-self-eq-MOST_BYTES-via-else-self-eq-MOST_BYTES w ↦ ⊎_elim (λ x. x) (λ x. absurd (w.if-self-eq-MOST_BYTES.false (omega (arith, before)))) (cases_lt old.taken.offset most_bytes)
     ] in
-    let progress : unread_bytes old < most_unread old.limit → 0 < length piece → 0 < n = λ r l. subst (λ k. 0 < k) (sym c.room-len.ensures) (fitting-some old (length piece) l (unfilled l) r) in
-    let within : n ≤ length piece = let a = fitting-within old (length piece) in omega (arith, c.room-len.ensures) in
-    let far : old.taken.offset + n ≤ most_bytes = let a = fitting-most old (length piece) most in omega (arith, c.room-len.ensures) in
-    takes_bytes old _ piece n stopped ended within c.room-len.ensures progress far c.in-Ok.ensures.ok
+    let some = min (length piece) (at_once old.limit) in
+    let room : n ≡ fitting old some = c.room-len.ensures ∙ ap (fitting old) (c.min.ensures ∙ ap (min (length piece)) (c.at_once.ensures ∙ ap (λ v. at_once v.limit) c.self.view_is)) in
+    let progress : unread_bytes old < most_unread old.limit → 0 < length piece → 0 < n = λ r l. subst (λ k. 0 < k) (sym room) (fitting-some old some (at_once-some old.limit (length piece) l) (unfilled l) r) in
+    let within : n ≤ length piece = let a = fitting-within old some in let b = min-le_left (length piece) (at_once old.limit) in omega (arith, room) in
+    let far : old.taken.offset + n ≤ most_bytes = let a = fitting-most old some most in omega (arith, room) in
+    takes_bytes old _ piece n stopped ended within room progress far c.in-Ok.ensures.ok
