@@ -128,9 +128,17 @@ fn is_same(a: &str, b: &str) -> bool
         return false;
     }
     if a.len() > SHORT {
-        return a == b;
+        return is_same_long(a, b);
     }
     has_same_bytes(a.as_bytes(), b.as_bytes())
+}
+
+/// The same of long ones, by a call: what it takes to compare them is not got ready for each prefix of the row.
+#[inline(never)]
+fn is_same_long(a: &str, b: &str) -> bool
+    ensures { result ≡ bytes_eq a.now b.now }
+{
+    a == b
 }
 
 #[inline(always)]
