@@ -185,6 +185,19 @@ impl Known for OnlyShortString {
     }
 }
 
+/// It is `Kind::IriRef`.
+pub struct OnlyIriRef;
+
+impl Known for OnlyIriRef {
+    ghost is = { λ k. k ≡ KindIs.IriRef };
+
+    #[inline(always)]
+    fn kind(of: Kind) -> Kind {
+        let _ = of;
+        Kind::IriRef
+    }
+}
+
 /// It is `Kind::Integer`.
 pub struct OnlyInteger;
 

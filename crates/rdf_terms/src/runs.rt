@@ -65,13 +65,13 @@ pub fn two_run_ends(run: Run, bytes: &[u8], from: usize) -> (usize, usize)
     }
     let hits = stops(run, u8x16::from_slice(&bytes[from..]));
     if hits == 0 {
-        let first = run_end(run, bytes, from + LANES);
+        let first = far_run_end(run, bytes, from + LANES);
         return (first, end_after(run, bytes, first));
     }
     let first = hits.trailing_zeros() as usize;
     let others = hits >> (first + 1);
     if others == 0 {
-        return (from + first, run_end(run, bytes, from + LANES));
+        return (from + first, far_run_end(run, bytes, from + LANES));
     }
     (
         from + first,
@@ -86,10 +86,18 @@ fn end_after(run: Run, bytes: &[u8], at: usize) -> usize
     ensures { at < length bytes.now → IsRun (goes_over run) bytes.now (at + 1) result }
 {
     if at < bytes.len() {
-        run_end(run, bytes, at + 1)
+        far_run_end(run, bytes, at + 1)
     } else {
         at
     }
+}
+
+/// What `run_end` answers, by a call: most ends are near, and what seeks two of them stays small.
+fn far_run_end(run: Run, bytes: &[u8], from: usize) -> usize
+    requires { from ≤ length bytes.now }
+    ensures { IsRun (goes_over run) bytes.now from result }
+{
+    run_end(run, bytes, from)
 }
 
 /// The same byte by byte.

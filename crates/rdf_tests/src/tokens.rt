@@ -14,6 +14,7 @@ enum Answer {
     Undecided,
     Unseen,
     Passed,
+    Stayed,
     Token(Kind, u64, u64, usize),
     Fault(Reason, u64),
 }
@@ -53,6 +54,7 @@ enum Step {
     Next,
     See,
     PassLineFeed,
+    PassBlanks,
     End,
     Pending,
 }
@@ -70,6 +72,13 @@ fn take(alloc: Global, scanner: &mut Scanner, step: Step) -> Answer {
             scanner.pass_line_feed();
             Answer::Passed
         }
+        Step::PassBlanks => {
+            if scanner.pass_blanks() {
+                Answer::Passed
+            } else {
+                Answer::Stayed
+            }
+        }
         Step::End => {
             scanner.end();
             Answer::Ended
@@ -79,7 +88,7 @@ fn take(alloc: Global, scanner: &mut Scanner, step: Step) -> Answer {
 }
 
 /// What is done with a scanner, and what it answers.
-static STEPS: [(Step, Answer); 212] = [
+static STEPS: [(Step, Answer); 239] = [
     // Frequent tokens are seen before they are taken, but for the first of a document.
     (Step::Start(Dialect::Turtle, 64), Answer::Started),
     (
@@ -114,6 +123,37 @@ static STEPS: [(Step, Answer); 212] = [
     (Step::PassLineFeed, Answer::Passed),
     (Step::See, Answer::Unseen),
     (Step::Next, Answer::Token(Kind::Semicolon, 54, 5, 1)),
+    // So are these, and any of them once white space and comments are passed.
+    (Step::Start(Dialect::Turtle, 64), Answer::Started),
+    (
+        Step::Push(b"; @en 1.5 { } :x : .\n \t# a\n  y:z ;"),
+        Answer::Took(34),
+    ),
+    (Step::Next, Answer::Token(Kind::Semicolon, 0, 1, 1)),
+    (Step::See, Answer::Token(Kind::LangTag, 2, 1, 3)),
+    (Step::See, Answer::Token(Kind::Decimal, 6, 1, 3)),
+    (Step::See, Answer::Token(Kind::OpenBrace, 10, 1, 1)),
+    (Step::See, Answer::Token(Kind::CloseBrace, 12, 1, 1)),
+    (Step::See, Answer::Token(Kind::PnameLn, 14, 1, 2)),
+    (Step::See, Answer::Token(Kind::PnameNs, 17, 1, 1)),
+    (Step::See, Answer::Token(Kind::Dot, 19, 1, 1)),
+    (Step::See, Answer::Unseen),
+    (Step::PassBlanks, Answer::Passed),
+    (Step::See, Answer::Token(Kind::PnameLn, 29, 3, 3)),
+    (Step::PassBlanks, Answer::Passed),
+    (Step::See, Answer::Unseen),
+    (Step::PassBlanks, Answer::Stayed),
+    (Step::Next, Answer::Token(Kind::Semicolon, 33, 3, 1)),
+    (Step::Push(b" # a"), Answer::Took(4)),
+    (Step::PassBlanks, Answer::Passed),
+    (Step::PassBlanks, Answer::Stayed),
+    (Step::See, Answer::Unseen),
+    (Step::Push(b"b\n;x"), Answer::Took(4)),
+    (Step::Next, Answer::Token(Kind::Semicolon, 40, 4, 1)),
+    (Step::Start(Dialect::Lines, 64), Answer::Started),
+    (Step::Push(b" ."), Answer::Took(2)),
+    (Step::PassBlanks, Answer::Stayed),
+    (Step::Next, Answer::Token(Kind::Dot, 1, 1, 1)),
     // More bytes decide.
     (Step::Start(Dialect::Turtle, 64), Answer::Started),
     (Step::Push(b"1."), Answer::Took(2)),

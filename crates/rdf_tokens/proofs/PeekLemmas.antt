@@ -1,9 +1,9 @@
 -- A token that is seen before it is taken: the white space before it, and that it is the next step.
-use Rattle.std.proofs.Common.{◌≡◌, ℕ, suc, ◌+◌, ◌≤◌, ◌==◌, Bool, true, false, cond, not, nat_lt, List, [], ◌∷◌, refl, sym, ap, ◌∙◌, subst, length, length-drop, get_or, take, drop, count_by, arith, Option, Some, None, IsUtf8}
+use Rattle.std.proofs.Common.{◌≡◌, ℕ, suc, ◌+◌, ◌≤◌, ◌==◌, Bool, true, false, cond, not, nat_lt, List, [], ◌∷◌, ◌++◌, ◌<◌, refl, sym, ap, ◌∙◌, subst, length, length-append, length-drop, get_or, take, drop, count_by, arith, Option, Some, None, IsUtf8}
 use Rattle.std.specs.Prelude.{IfSome, encode_utf8_all}
 use Rattle.std.specs.Str.{chars, IsCharBoundary}
 use Rattle.std.proofs.lemmas.Bool.{and_parts, eqb-true, ltb-true, true≢false}
-use Rattle.std.proofs.lemmas.List.{append-nil}
+use Rattle.std.proofs.lemmas.List.{append-nil, take-append-drop}
 use Rattle.std.proofs.lemmas.Str.{encodes-chars, IsCharBoundary-after_ascii, IsCharBoundary-start}
 use Rattle.rdf_terms.specs.Classes.{is_turtle}
 use Rattle.rdf_terms.specs.declared.kind.Dialect.{Dialect}
@@ -14,7 +14,7 @@ use Rattle.rdf_tokens.specs.Look.{IsLook}
 use Rattle.rdf_tokens.specs.Moves.{BeginsChar, GivesBytes, MovesBytes, Moves, Stands, tail_now}
 use Rattle.rdf_tokens.specs.Peek.{IsBare, IsPeeked, IsSeen, MayPeek, Sees, TakesSeen, is_local, is_plain, one_space}
 use Rattle.rdf_tokens.specs.Quick.{IsToken, is_name_end, stands_at}
-use Rattle.rdf_tokens.specs.Scans.{HasScanned, PassesBlank, is_end}
+use Rattle.rdf_tokens.specs.Scans.{HasScanned, PassesBlank, is_end, left}
 use Rattle.rdf_tokens.specs.Tokens.{Tail, Token, blank, over, rest_of, step}
 use Rattle.rdf_tokens.specs.Unread.{Unread}
 use Rattle.rdf_tokens.specs.declared.look.Look.TheVariants.{Token as Given}
@@ -181,16 +181,18 @@ module _ (v mid : Unread) (p : Peeked) (s : IsPeeked v p) (h : MovesBytes v p.bl
         goes_on = ap is_end k ∙ not_end p.kind (step-token mid.dialect mid.limit (tail_now mid) mid.text l.0 p.kind l.1).2;
       }
 
+-- where tokens are given, the document has begun
+pub plain_begun : (v : Unread) → is_plain v ≡ true → v.begun ≡ true
+plain_begun v p = (plain_is v p).begun
+
 -- what may be seen, by the bytes of the text
 pub may_see : (v : Unread) (bs : List ℕ) → IsUtf8 bs → chars bs ≡ v.text → is_plain v ≡ true → length bs ≤ v.limit → MayPeek v
 may_see v bs u e p l = record { plain = p; short = subst (λ n. n ≤ v.limit) (ap length (sym (encodes-chars bs u)) ∙ ap (λ w. length (encode_utf8_all w)) e) l }
 
--- One byte of white space of Turtle is passed before a token: what was read stays as it is.
-pub passes_one : (v new : Unread) (rest : List ℕ) → is_plain v ≡ true → BeginsChar v.pending → MovesBytes v 1 new → rest ≡ v.text →
-    bytes_of (blank Turtle false rest) rest ≡ 1 → comment_after Turtle false rest ≡ false → PassesBlank v new
-passes_one v new rest p b h r l k =
+-- White space is passed before a token: what was read stays as it is.
+pub passes_bared : (v new : Unread) → is_plain v ≡ true → BeginsChar v.pending → new ≡ bared v → PassesBlank v new
+passes_bared v new p b is =
     let q = plain_is v p in
-    let is = one_bared v new rest h r q.begun q.outside (ap (λ d. bytes_of (blank d false rest) rest) q.dialect ∙ l) (ap (λ d. comment_after d false rest) q.dialect ∙ k) in
     let m : Moves v [] new = subst (Moves v []) (sym is) (moves_bared v q.begun) in
     let stopped : new.stopped ≡ v.stopped = ap (λ v. v.stopped) m.same in
     let less = m.less in
@@ -201,3 +203,24 @@ passes_one v new rest p b h r l k =
       less = subst (λ x. length new.text + cond x 0 1 ≤ length v.text + cond v.stopped 0 1) (sym stopped) (omega arith);
       read = λ bytes ts s. subst (HasScanned new bytes) (append-nil ts) (read_on v new bytes ts [] q.running b m s);
     }
+
+-- One byte of it is passed.
+pub passes_one : (v new : Unread) (rest : List ℕ) → is_plain v ≡ true → BeginsChar v.pending → MovesBytes v 1 new → rest ≡ v.text →
+    bytes_of (blank Turtle false rest) rest ≡ 1 → comment_after Turtle false rest ≡ false → PassesBlank v new
+passes_one v new rest p b h r l k =
+    let q = plain_is v p in
+    passes_bared v new p b
+    (one_bared v new rest h r q.begun q.outside (ap (λ d. bytes_of (blank d false rest) rest) q.dialect ∙ l) (ap (λ d. comment_after d false rest) q.dialect ∙ k))
+
+-- what comes after some characters is shorter
+shorter : (u w x : List ℕ) → u ++ w ≡ x → (u ≡ [] → ⊥) → length w < length x
+shorter [] w x e h = absurd (h refl)
+shorter (c ∷ u) w x e h = subst (λ x. length w < length x) e (let l = length-append (c ∷ u) w in omega (arith, l))
+
+-- Where it has some bytes, less is left.
+pub bared_less : (v : Unread) (rest : List ℕ) (len : ℕ) → rest ≡ v.text → len ≡ bytes_of (blank v.dialect v.comment rest) rest → (len ≡ 0 → ⊥) → left (bared v) < left v
+bared_less v rest len r l some =
+    let n = blank v.dialect v.comment v.text in
+    let none : take n v.text ≡ [] → ⊥ = λ e. some (l ∙ (ap (λ w. bytes_of (blank v.dialect v.comment w) w) r ∙ ap (λ u. length (encode_utf8_all u)) e)) in
+    let less = shorter (take n v.text) (drop n v.text) v.text (take-append-drop n v.text) none in
+    omega (arith, less)

@@ -20,6 +20,7 @@ pub(crate) struct Blank {
 }
 
 /// The white space and the comments at the front of a text that may begin in a comment.
+#[inline(always)]
 pub(crate) fn blank_run(dialect: Dialect, in_comment: bool, text: &str) -> Blank
     ensures len { result.len ≡ bytes_of (blank dialect in_comment (chars text.now)) (chars text.now) }
     ensures comment { result.in_comment ≡ comment_after dialect in_comment (chars text.now) }
@@ -28,6 +29,7 @@ pub(crate) fn blank_run(dialect: Dialect, in_comment: bool, text: &str) -> Blank
 }
 
 /// A comment and the white space after it at a time. A byte from 128 on stands in a comment as it is, and is no white space.
+#[inline(always)]
 fn blank_bytes(dialect: Dialect, in_comment: bool, bytes: &[u8]) -> Blank
     ensures len { result.len ≡ blank dialect in_comment bytes.now }
     ensures comment { result.in_comment ≡ comment_after dialect in_comment bytes.now }

@@ -1,16 +1,17 @@
 // The next token, seen before it is taken.
 
-ghost use Rattle.std.specs.Prelude.{◌≡◌, ◌<◌, true, length, get_or, Some, IfSome};
+ghost use Rattle.std.specs.Prelude.{◌≡◌, ℕ, ◌<◌, List, true, length, get_or, Some, IfSome};
 ghost use Rattle.rdf_terms.specs.Classes.{is_digit, is_letter};
 ghost use Rattle.rdf_terms.specs.declared.kind.Dialect.TheVariants.{Turtle};
 ghost use Rattle.rdf_tokens.specs.Peek.{IsBare, IsSeen, Sees, is_local, one_space};
-ghost use Rattle.rdf_tokens.specs.Quick.{begins_iri, opens_with, single};
+ghost use Rattle.rdf_terms.specs.declared.kind.Kind.TheVariants.{Decimal, Integer, IriRef, LabelNode, LangTag, PnameLn, PnameNs, ShortString};
+ghost use Rattle.rdf_tokens.specs.Quick.{IsToken, begins_iri, is_colon, opens_with, single};
 ghost use Rattle.rdf_tokens.specs.declared.states.text.Quote.TheVariants.{Double};
 
 use crate::front::NoNames;
 use crate::quick::{
-    begins_label, begins_string, digits_end, is_a, is_colon, is_dot, is_integer_end, is_name_end,
-    is_sought, stands_at,
+    begins_label, begins_string, begins_tag, digits_end, is_a, is_colon, is_dot, is_integer_end,
+    is_name_end, is_sought, quick_named, quick_number, quick_tag, stands_at,
 };
 use rdf_terms::runs::{Run, run_end, two_run_ends};
 use rdf_terms::{Dialect, Kind};
@@ -64,12 +65,27 @@ fn seen(blank: usize, text: &str, no_names: &Option<NoNames>) -> Option<Peeked>
         b']' => seen_byte(blank, text, Kind::CloseBracket),
         b'(' => seen_byte(blank, text, Kind::OpenParen),
         b')' => seen_byte(blank, text, Kind::CloseParen),
+        b'{' => seen_byte(blank, text, Kind::OpenBrace),
+        b'}' => seen_byte(blank, text, Kind::CloseBrace),
         b'.' => seen_dot(blank, text),
-        b'<' => seen_iri(blank, text),
-        b'_' => seen_label(blank, text),
-        b'"' => seen_string(blank, text),
-        b'0'..=b'9' => seen_integer(blank, text),
+        b'<' => seen_as(Kind::IriRef, blank, iri_len(text)),
+        b'_' => seen_as(Kind::LabelNode, blank, label_len(text)),
+        b'"' => seen_as(Kind::ShortString, blank, string_len(text)),
+        b'0'..=b'9' => seen_number(blank, text),
+        b':' => seen_local(blank, text),
+        b'@' => seen_as(Kind::LangTag, blank, tag_len(text)),
         _ => None,
+    }
+}
+
+/// A token of this kind, if one of some length was found.
+#[inline(always)]
+fn seen_as(kind: Kind, blank: usize, len: Option<usize>) -> Option<Peeked>
+    ensures { (bs : List ℕ) → IfSome len (λ n. IsToken Turtle bs n kind) → Sees bs blank result }
+{
+    match len {
+        Some(len) => Some(Peeked { kind, blank, len }),
+        None => None,
     }
 }
 
@@ -139,74 +155,137 @@ fn is_local(bytes: &[u8], from: usize, end: usize) -> bool
     is_name_end(bytes, end) && from < end && bytes[from] != b'-'
 }
 
-/// A reference in angle brackets without an escape.
-fn seen_iri(blank: usize, text: &str) -> Option<Peeked>
-    requires { begins_iri text.now ≡ true }
+/// An integer or a decimal without a sign.
+#[inline(always)]
+fn seen_number(blank: usize, text: &str) -> Option<Peeked>
+    requires some { 0 < length text.now }
+    requires digit { is_digit (get_or text.now 0 0) ≡ true }
     ensures { Sees text.now blank result }
+{
+    match integer_len(text) {
+        Some(len) => seen_as(Kind::Integer, blank, Some(len)),
+        None => seen_as(Kind::Decimal, blank, decimal_len(text)),
+    }
+}
+
+/// A name with an empty prefix. Its local part may be empty too.
+#[inline(always)]
+fn seen_local(blank: usize, text: &str) -> Option<Peeked>
+    requires { is_colon text.now 0 ≡ true }
+    ensures { Sees text.now blank result }
+{
+    match local_len(text) {
+        Some(len) => seen_as(Kind::PnameLn, blank, Some(len)),
+        None => seen_as(Kind::PnameNs, blank, prefix_len(text)),
+    }
+}
+
+// The lengths of tokens are found by calls, so that the look at the first byte, which every token needs, is inlined. A number goes back
+// in a register.
+
+/// The length of a reference in angle brackets without an escape.
+fn iri_len(text: &str) -> Option<usize>
+    requires { begins_iri text.now ≡ true }
+    ensures { IfSome result (λ n. IsToken Turtle text.now n IriRef) }
 {
     let bytes = text.as_bytes();
     let end = run_end(Run::Iri, bytes, 1);
     if stands_at(b'>', bytes, end) {
-        return Some(Peeked {
-            kind: Kind::IriRef,
-            blank,
-            len: end + 1,
-        });
+        return Some(end + 1);
     }
     None
 }
 
-/// The label of a blank node.
-fn seen_label(blank: usize, text: &str) -> Option<Peeked>
-    ensures { Sees text.now blank result }
+/// The length of the label of a blank node.
+fn label_len(text: &str) -> Option<usize>
+    ensures { IfSome result (λ n. IsToken Turtle text.now n LabelNode) }
 {
     let bytes = text.as_bytes();
     if begins_label(bytes) {
         let end = run_end(Run::Name, bytes, 3);
         if is_name_end(bytes, end) {
-            return Some(Peeked {
-                kind: Kind::LabelNode,
-                blank,
-                len: end,
-            });
+            return Some(end);
         }
     }
     None
 }
 
-/// A string in double quotes that is not empty.
-fn seen_string(blank: usize, text: &str) -> Option<Peeked>
+/// The length of a string in double quotes that is not empty.
+fn string_len(text: &str) -> Option<usize>
     requires { opens_with Turtle Double text.now ≡ true }
-    ensures { Sees text.now blank result }
+    ensures { IfSome result (λ n. IsToken Turtle text.now n ShortString) }
 {
     let bytes = text.as_bytes();
     if begins_string(bytes) {
         let end = run_end(Run::Text, bytes, 2);
         if stands_at(b'"', bytes, end) {
-            return Some(Peeked {
-                kind: Kind::ShortString,
-                blank,
-                len: end + 1,
-            });
+            return Some(end + 1);
         }
     }
     None
 }
 
-/// An integer without a sign.
-fn seen_integer(blank: usize, text: &str) -> Option<Peeked>
+/// The length of an integer without a sign.
+fn integer_len(text: &str) -> Option<usize>
     requires some { 0 < length text.now }
     requires digit { is_digit (get_or text.now 0 0) ≡ true }
-    ensures { Sees text.now blank result }
+    ensures { IfSome result (λ n. IsToken Turtle text.now n Integer) }
 {
     let bytes = text.as_bytes();
     let end = digits_end(bytes, 1);
     if is_integer_end(bytes, end) {
-        return Some(Peeked {
-            kind: Kind::Integer,
-            blank,
-            len: end,
-        });
+        return Some(end);
     }
     None
+}
+
+/// The length of a decimal that begins with a digit.
+fn decimal_len(text: &str) -> Option<usize>
+    requires some { 0 < length text.now }
+    requires digit { is_digit (get_or text.now 0 0) ≡ true }
+    ensures { IfSome result (λ n. IsToken Turtle text.now n Decimal) }
+{
+    let quick = quick_number(text);
+    match quick.kind {
+        Some(Kind::Decimal) => Some(quick.len),
+        _ => None,
+    }
+}
+
+/// The length of a name with an empty prefix and a local part.
+fn local_len(text: &str) -> Option<usize>
+    requires { is_colon text.now 0 ≡ true }
+    ensures { IfSome result (λ n. IsToken Turtle text.now n PnameLn) }
+{
+    let quick = quick_named(text);
+    match quick.kind {
+        Some(Kind::PnameLn) => Some(quick.len),
+        _ => None,
+    }
+}
+
+/// The length of an empty prefix with its colon, where no local part comes after it.
+fn prefix_len(text: &str) -> Option<usize>
+    requires { is_colon text.now 0 ≡ true }
+    ensures { IfSome result (λ n. IsToken Turtle text.now n PnameNs) }
+{
+    let quick = quick_named(text);
+    match quick.kind {
+        Some(Kind::PnameNs) => Some(quick.len),
+        _ => None,
+    }
+}
+
+/// The length of a language tag.
+fn tag_len(text: &str) -> Option<usize>
+    ensures { IfSome result (λ n. IsToken Turtle text.now n LangTag) }
+{
+    if !begins_tag(text.as_bytes()) {
+        return None;
+    }
+    let quick = quick_tag(text);
+    match quick.kind {
+        Some(Kind::LangTag) => Some(quick.len),
+        _ => None,
+    }
 }

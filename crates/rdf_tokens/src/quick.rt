@@ -41,8 +41,7 @@ pub(crate) fn quick_front(dialect: Dialect, text: &str, no_names: &Option<NoName
         return Quick { len: 1, kind };
     }
     if is_named(dialect, bytes) {
-        let end = run_end(Run::Name, bytes, 1);
-        return quick_local(text, 0, end);
+        return quick_named(text);
     }
     if is_dot(dialect, bytes) {
         return Quick {
@@ -221,7 +220,7 @@ fn quick_label(text: &str) -> Quick
 
 /// Whether `@` comes first and a letter, and with the byte after it neither `@prefix` nor `@base` begins.
 #[inline(always)]
-fn begins_tag(bytes: &[u8]) -> bool
+pub(crate) fn begins_tag(bytes: &[u8]) -> bool
     ensures { result ≡ begins_tag bytes.now }
 {
     bytes.len() > 2
@@ -246,7 +245,7 @@ fn begins_directive(first: u8, second: u8) -> bool
 
 /// A tag of one part or two, up to a byte of ASCII with which no tag goes on.
 #[inline(always)]
-fn quick_tag(text: &str) -> Quick
+pub(crate) fn quick_tag(text: &str) -> Quick
     requires { begins_tag text.now ≡ true }
     ensures { (dialect : Dialect) → IsQuick dialect text.now result.len result.kind }
 {
@@ -409,6 +408,16 @@ fn quick_local(text: &str, colon: usize, end: usize) -> Quick
     }
 }
 
+/// A name of Turtle with an empty prefix.
+#[inline(always)]
+pub(crate) fn quick_named(text: &str) -> Quick
+    requires { is_colon text.now 0 ≡ true }
+    ensures { IsQuick Turtle text.now result.len result.kind }
+{
+    let end = run_end(Run::Name, text.as_bytes(), 1);
+    quick_local(text, 0, end)
+}
+
 /// Whether the text of Turtle begins with a colon.
 #[inline(always)]
 fn is_named(dialect: Dialect, bytes: &[u8]) -> bool
@@ -427,7 +436,7 @@ fn begins_number(dialect: Dialect, bytes: &[u8]) -> bool
 
 /// An integer or a decimal of Turtle that begins with a digit, up to a byte of ASCII with which no number goes on.
 #[inline(always)]
-fn quick_number(text: &str) -> Quick
+pub(crate) fn quick_number(text: &str) -> Quick
     requires some { 0 < length text.now }
     requires digit { is_digit (get_or text.now 0 0) ≡ true }
     ensures { IsQuick Turtle text.now result.len result.kind }

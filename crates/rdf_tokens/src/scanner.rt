@@ -1,12 +1,12 @@
 // The scanner.
 
-ghost use Rattle.std.specs.Prelude.{◌≡◌, ◌==◌, ℕ, List, [], ◌++◌, count_by, true, OnOk, OnErr, IfOk, IfSome, cond, min, ◌-◌, ◌+◌, ◌≤◌, ◌<◌, ◌&&◌, ◌||◌, nat_le, length, drop, take, ⊤, ◌/◌};
+ghost use Rattle.std.specs.Prelude.{false, ◌≡◌, ◌==◌, ℕ, List, [], ◌++◌, count_by, true, OnOk, OnErr, IfOk, IfSome, cond, min, ◌-◌, ◌+◌, ◌≤◌, ◌<◌, ◌&&◌, ◌||◌, nat_le, length, drop, take, ⊤, ◌/◌};
 ghost use Rattle.std.specs.Str.{chars, IsCharBoundary};
 ghost use Rattle.std.specs.String.{string_bytes};
 ghost use mathlib.Core.Option.{none};
 ghost use Rattle.std.specs.Borrow.{sem, follows_so};
 ghost use Rattle.rdf_tokens.specs.Tokens.{Token as Read, step, is_empty};
-ghost use Rattle.rdf_tokens.specs.Scans.{PassesBlank, HasScanned, Pushes, Gives, most_bytes, token_of, place_of, unread_bytes, IsWaiting, most_unread, fitting, at_once};
+ghost use Rattle.rdf_tokens.specs.Scans.{PassesBlank, HasScanned, Pushes, Gives, left, most_bytes, token_of, place_of, unread_bytes, IsWaiting, most_unread, fitting, at_once};
 ghost use Rattle.rdf_tokens.specs.Look.{tail_after, IsLook};
 ghost use Rattle.rdf_tokens.specs.contracts.scanner.Scanner.{the_row};
 ghost use Rattle.rdf_tokens.specs.Moves.{closed, grown, good_bytes, is_broken, rest_of_bytes, is_settled, tail_now, fault_place, is_flat, GivesBytes, IsEndGiven, Moves, MovesBytes, Stands};
@@ -210,6 +210,25 @@ impl<A: Allocator + Copy> Scanner<A> {
         if self.is_plain() && is_one(b'\n', Dialect::Turtle, self.rest()) {
             self.move_on(1, 1);
         }
+    }
+
+    /// Passes the white space and the comments of Turtle that stand next, and answers whether there were some. What the next token is, and
+    /// where it stands, stays as it is: it is only sooner looked for. It takes no memory.
+    pub fn pass_blanks(&mut self) -> bool
+        ensures passes { PassesBlank self.old self.new }
+        ensures forward { result ≡ true → left self.new < left self.old }
+        ensures unchanged { result ≡ false → self.new ≡ self.old }
+    {
+        if !self.is_plain() {
+            return false;
+        }
+        let blank = blank_run(self.dialect, self.comment, self.rest());
+        if blank.len == 0 {
+            return false;
+        }
+        self.comment = blank.in_comment;
+        self.advance(blank.len);
+        true
     }
 
     // Whether a token may be seen: tokens of Turtle are given outside of a comment, and none was looked at before or may be too long.

@@ -8,7 +8,7 @@ returns-then-hits-eq0-clause-first c =
     let p = goes_over c.args.run in
     let bs = c.args.bytes.now in
     let room : c.args.from + 16 ≤ length c.args.bytes.now = omega (arith, c.if-bytes-from-lt-LANES.false, c.requires) in
-    run_on p bs c.args.from 16 _ _ refl (none_stops p bs c.args.from 16 room (sym c.stops-hits.ensures ∙ c.if-hits-eq0.true)) c.run_end-first.ensures
+    run_on p bs c.args.from 16 _ _ refl (none_stops p bs c.args.from 16 room (sym c.stops-hits.ensures ∙ c.if-hits-eq0.true)) c.far_run_end-first.ensures
 
 pub overflow_shr-others : goal.overflow_shr-others
 overflow_shr-others c =
@@ -21,7 +21,7 @@ returns-then-others-eq0-clause-first c =
 pub returns-then-others-eq0-clause-second : goal.returns-then-others-eq0-clause-second
 returns-then-others-eq0-clause-second c within =
     second_beyond (goes_over c.args.run) c.args.bytes.now c.args.from c.stops-hits.result (omega arith) c.stops-hits.ensures (omega arith) _
-    c.if-others-eq0.true c.run_end.ensures
+    c.if-others-eq0.true c.far_run_end.ensures
 
 pub returns-clause-first : goal.returns-clause-first
 returns-clause-first c =

@@ -1,8 +1,7 @@
 -- The first byte tells the token, or a name is sought.
-use Rattle.std.proofs.Common.{◌≡◌, ◌<◌, ◌∙◌, true, inl, refl, sym, ap, subst, length, get_or, IsUtf8}
+use Rattle.std.proofs.Common.{◌≡◌, ◌<◌, ◌∙◌, true, sym, ap, subst, length, get_or, IsUtf8}
 use Rattle.rdf_terms.specs.declared.kind.Kind.TheVariants.{Dot}
 use Rattle.rdf_terms.specs.Classes.{is_digit, is_letter}
-use Rattle.rdf_terms.specs.Runs.{IsRun, is_name_byte}
 use Rattle.rdf_tokens.specs.Quick.{IsQuick, IsToken, single, is_colon}
 use Rattle.rdf_tokens.proofs.QuickLemmas.{named, numbered, quick_dot, quick_kind, some-bytes, sought}
 use Rattle.rdf_tokens.proofs.quick.quick_front.Goals as goal
@@ -28,21 +27,15 @@ returns-then-is_sought c =
     let q = c.quick_name.result in
     subst (λ d. IsQuick d c.args.text.now q.len q.kind) (sym (sought c.args.dialect c.as_bytes-bytes.result.now c.args.no_names.now (sym c.is_sought.ensures ∙ c.if-is_sought.true)).0) c.quick_name.ensures
 
-pub quick_local-requires-clause-prefix : goal.quick_local-requires-clause-prefix
-quick_local-requires-clause-prefix c = inl refl
-
-pub quick_local-requires-clause-colon : goal.quick_local-requires-clause-colon
-quick_local-requires-clause-colon c =
+pub quick_named-requires : goal.quick_named-requires
+quick_named-requires c =
     subst (λ b. is_colon b 0 ≡ true) c.as_bytes-bytes.ensures.value
     (named c.args.dialect c.as_bytes-bytes.result.now (sym c.is_named.ensures ∙ c.if-is_named.true)).1
 
-pub quick_local-requires-clause-local : goal.quick_local-requires-clause-local
-quick_local-requires-clause-local c = subst (λ b. IsRun is_name_byte b 1 c.run_end-end.result) c.as_bytes-bytes.ensures.value c.run_end-end.ensures
-
 pub returns-then-is_named : goal.returns-then-is_named
 returns-then-is_named c =
-    let q = c.quick_local.result in
-    subst (λ d. IsQuick d c.args.text.now q.len q.kind) (sym (named c.args.dialect c.as_bytes-bytes.result.now (sym c.is_named.ensures ∙ c.if-is_named.true)).0) c.quick_local.ensures
+    let q = c.quick_named.result in
+    subst (λ d. IsQuick d c.args.text.now q.len q.kind) (sym (named c.args.dialect c.as_bytes-bytes.result.now (sym c.is_named.ensures ∙ c.if-is_named.true)).0) c.quick_named.ensures
 
 pub returns-then-is_dot : goal.returns-then-is_dot
 returns-then-is_dot c =

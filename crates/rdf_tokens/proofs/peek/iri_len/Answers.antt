@@ -1,18 +1,16 @@
 -- A reference, by its brackets and the run between them.
-use Rattle.std.proofs.Common.{◌≡◌, ◌+◌, ◌∙◌, true, refl, sym, subst, IsUtf8}
+use Rattle.std.proofs.Common.{◌≡◌, ◌+◌, ◌∙◌, true, sym, subst, IsUtf8}
 use Rattle.rdf_terms.specs.declared.kind.Dialect.TheVariants.{Turtle}
 use Rattle.rdf_terms.specs.declared.kind.Kind.TheVariants.{IriRef}
 use Rattle.rdf_tokens.specs.Quick.{IsToken, begins_iri}
 use Rattle.rdf_tokens.proofs.PlainQuick.{quick_iri}
-use Rattle.rdf_tokens.proofs.peek.seen_iri.Goals as goal
+use Rattle.rdf_tokens.proofs.peek.iri_len.Goals as goal
 
 pub returns-then-stands_at : goal.returns-then-stands_at
 returns-then-stands_at c =
     let bs = c.as_bytes-bytes.result.now in
     let v = c.as_bytes-bytes.ensures.value in
-    let end = c.run_end-end.result in (
-      refl,
-      subst (λ b. IsToken Turtle b (end + 1) IriRef) v
-          (quick_iri Turtle bs (subst IsUtf8 (sym v) c.utf8.text) (subst (λ b. begins_iri b ≡ true) (sym v) c.requires) end c.run_end-end.ensures
-          (sym c.stands_at.ensures ∙ c.if-stands_at.true)),
-    )
+    let end = c.run_end-end.result in
+    subst (λ b. IsToken Turtle b (end + 1) IriRef) v
+    (quick_iri Turtle bs (subst IsUtf8 (sym v) c.utf8.text) (subst (λ b. begins_iri b ≡ true) (sym v) c.requires) end c.run_end-end.ensures
+    (sym c.stands_at.ensures ∙ c.if-stands_at.true))
