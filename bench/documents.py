@@ -146,8 +146,19 @@ def turtle(out):
         put_book(out, n)
 
 
+def indented(out):
+    """The same, with a line for each verb, as programs write it."""
+    out.put(PREFIXES)
+    n = 0
+    while not out.is_full():
+        n += 1
+        out.put('lib:book-%d a t:Book ;\n    t:shelf lib:shelf-%d , lib:shelf-%d ;\n    t:pages %d ;\n    t:weight %d.5 ;\n'
+                '    t:author [\n        t:name "A%d"@en\n    ] ;\n    t:parts ( lib:p%d lib:q%d ) .\n\n'
+                % (n, n % 97, n % 89, n % 900, n % 7, n, n, n), 12)
+
+
 def trig(out):
-    """The same, four statements a graph block."""
+    """The same as `turtle`, four statements a graph block."""
     out.put(PREFIXES)
     n = 0
     while not out.is_full():
@@ -210,6 +221,7 @@ DOCUMENTS = {
     'nt': Document('N-Triples', 'nt', [], ntriples),
     'nq': Document('N-Quads', 'nq', [], nquads),
     'ttl': Document('Turtle with prefixes', 'ttl', [], turtle),
+    'indented': Document('Turtle, a line for each verb', 'ttl', [], indented),
     'trig': Document('TriG with prefixes', 'trig', [], trig),
     'prefixes': Document('Many prefixes', 'ttl', [], prefixes),
     'comments': Document('Four comments', 'ttl', [], comments),
