@@ -12,7 +12,7 @@ use Rattle.rdf_tokens.proofs.scanner.Scanner.pass_blanks.Goals as goal
 pub returns-clause-passes : goal.returns-clause-passes
 returns-clause-passes g c =
     let old = c.args.self.now in
-    let plain = sym c.is_plain.ensures ∙ c.if-not-is_plain.false in
+    let plain = (c.may_peek.ensures c.if-not-may_peek.false).plain in
     let begins = subst (λ v. BeginsChar v.pending) c.self.view_is c.self.invariant.held.begins in
     let begun = ap (λ v. v.begun) c.self.view_is ∙ plain_begun old plain in
     let rest = c.rest.ensures ∙ ap (λ v. v.text) (sym c.self.view_is) in
@@ -23,7 +23,7 @@ returns-clause-passes g c =
 pub returns-clause-forward : goal.returns-clause-forward
 returns-clause-forward g c =
     let old = c.args.self.now in
-    let plain = sym c.is_plain.ensures ∙ c.if-not-is_plain.false in
+    let plain = (c.may_peek.ensures c.if-not-may_peek.false).plain in
     let begun = ap (λ v. v.begun) c.self.view_is ∙ plain_begun old plain in
     let rest = c.rest.ensures ∙ ap (λ v. v.text) (sym c.self.view_is) in
     let new = bared_is _ c.advance.new.self (chars c.rest.result.now) c.blank_run-blank.result.len c.blank_run-blank.result.in_comment c.advance.ensures rest begun
