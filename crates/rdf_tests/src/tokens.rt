@@ -4,7 +4,7 @@ use rdf_terms::Reason;
 use rdf_tokens::{Dialect, Kind, RunClass, Scanner, plain_run};
 use std::alloc::{AllocError, Global};
 
-// What a call answers: the kind, the offset, the line and the number of bytes of a token.
+// What a call answers: the kind, the offset, the line and the number of bytes of a token; of a plain name the place of its colon too.
 #[derive(Clone, Copy, PartialEq, Eq)]
 enum Answer {
     Started,
@@ -16,6 +16,7 @@ enum Answer {
     Passed,
     Stayed,
     Token(Kind, u64, u64, usize),
+    PlainName(u64, u64, usize, usize),
     Fault(Reason, u64),
 }
 
@@ -31,6 +32,9 @@ fn see(scanner: &mut Scanner) -> Answer {
     match scanner.peek() {
         Some(peeked) => {
             let token = scanner.take(peeked);
+            if token.colon > 0 {
+                return Answer::PlainName(token.offset, token.line, token.text.len(), token.colon);
+            }
             Answer::Token(token.kind, token.offset, token.line, token.text.len())
         }
         None => Answer::Unseen,
@@ -97,9 +101,9 @@ static STEPS: [(Step, Answer); 239] = [
     ),
     (Step::See, Answer::Unseen),
     (Step::Next, Answer::Token(Kind::Semicolon, 0, 1, 1)),
-    (Step::See, Answer::Token(Kind::PnameLn, 2, 1, 3)),
+    (Step::See, Answer::PlainName(2, 1, 3, 1)),
     (Step::See, Answer::Token(Kind::A, 6, 1, 1)),
-    (Step::See, Answer::Token(Kind::PnameLn, 8, 1, 7)),
+    (Step::See, Answer::PlainName(8, 1, 7, 3)),
     (Step::See, Answer::Token(Kind::Comma, 16, 1, 1)),
     (Step::See, Answer::Token(Kind::LabelNode, 18, 1, 3)),
     (Step::See, Answer::Token(Kind::OpenBracket, 22, 1, 1)),
@@ -139,7 +143,7 @@ static STEPS: [(Step, Answer); 239] = [
     (Step::See, Answer::Token(Kind::Dot, 19, 1, 1)),
     (Step::See, Answer::Unseen),
     (Step::PassBlanks, Answer::Passed),
-    (Step::See, Answer::Token(Kind::PnameLn, 29, 3, 3)),
+    (Step::See, Answer::PlainName(29, 3, 3, 1)),
     (Step::PassBlanks, Answer::Passed),
     (Step::See, Answer::Unseen),
     (Step::PassBlanks, Answer::Stayed),

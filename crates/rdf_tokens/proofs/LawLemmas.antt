@@ -116,7 +116,7 @@ given_all v bytes ts s h = subst (λ s. Reads s v.ended v bytes ts) s h.reads
 
 -- what is given is next
 pub next_given : NextTokenIsGiven
-next_given old new bytes ts (Ok (Some t)) h g =
+next_given old new bytes ts (Ok (Some t)) h (g, _) =
     subst (λ e. IsBeginning (ts ++ token_of t ∷ []) (tokens_of old.dialect old.limit bytes e).tokens) g.ended
     (subst (λ d. IsBeginning (ts ++ token_of t ∷ []) (tokens_of d old.limit bytes new.ended).tokens) g.same.dialect
     (subst (λ l. IsBeginning (ts ++ token_of t ∷ []) (tokens_of new.dialect l bytes new.ended).tokens) g.same.limit

@@ -1,24 +1,26 @@
 -- A token that is seen before it is taken: the white space before it, and that it is the next step.
-use Rattle.std.proofs.Common.{◌≡◌, ℕ, suc, ◌+◌, ◌≤◌, ◌==◌, Bool, true, false, cond, not, nat_lt, List, [], ◌∷◌, ◌++◌, ◌<◌, refl, sym, ap, ◌∙◌, subst, length, length-append, length-drop, get_or, take, drop, count_by, arith, Option, Some, None, IsUtf8}
+use Rattle.std.proofs.Common.{◌≡◌, ℕ, zero, suc, ◌+◌, ◌≤◌, ◌==◌, Bool, true, false, cond, not, nat_lt, List, [], ◌∷◌, ◌++◌, ◌<◌, refl, sym, ap, ◌∙◌, subst, length, length-append, length-drop, get_or, take, drop, count_by, arith, Option, Some, None, IsUtf8}
 use Rattle.std.specs.Prelude.{IfSome, encode_utf8_all}
 use Rattle.std.specs.Str.{chars, IsCharBoundary}
-use Rattle.std.proofs.lemmas.Bool.{and_parts, eqb-true, ltb-true, true≢false}
-use Rattle.std.proofs.lemmas.List.{append-nil, take-append-drop}
+use Rattle.std.proofs.lemmas.Bool.{and_parts, eqb-true, ltb-true, or_left, true≢false}
+use Rattle.std.proofs.lemmas.List.{append-nil, get_or-take, length-take-le, take-append-drop}
 use Rattle.std.proofs.lemmas.Str.{encodes-chars, IsCharBoundary-after_ascii, IsCharBoundary-start}
-use Rattle.rdf_terms.specs.Classes.{is_turtle}
+use Rattle.rdf_terms.specs.Classes.{is_letter, is_turtle}
+use Rattle.rdf_terms.specs.Runs.{IsRun, is_name_byte}
 use Rattle.rdf_terms.specs.declared.kind.Dialect.{Dialect}
 use Rattle.rdf_terms.specs.declared.kind.Dialect.TheVariants.{Lines, Turtle}
 use Rattle.rdf_tokens.specs.Blank.{comment_after}
 use Rattle.rdf_tokens.specs.Front.{bytes_of}
 use Rattle.rdf_tokens.specs.Look.{IsLook}
-use Rattle.rdf_tokens.specs.Moves.{BeginsChar, GivesBytes, MovesBytes, Moves, Stands, tail_now}
+use Rattle.rdf_tokens.specs.Moves.{BeginsChar, GivesWithColon, MovesBytes, Moves, Stands, tail_now}
 use Rattle.rdf_tokens.specs.Peek.{IsBare, IsPeeked, IsSeen, MayPeek, Sees, TakesSeen, is_local, is_plain, one_space}
-use Rattle.rdf_tokens.specs.Quick.{IsToken, is_name_end, stands_at}
-use Rattle.rdf_tokens.specs.Scans.{HasScanned, PassesBlank, is_end, left}
-use Rattle.rdf_tokens.specs.Tokens.{Tail, Token, blank, over, rest_of, step}
+use Rattle.rdf_tokens.specs.Quick.{IsToken, is_colon, is_name_end, stands_at}
+use Rattle.rdf_tokens.specs.Scans.{HasScanned, IsPlainName, PassesBlank, KnowsColon, is_end, left, token_of}
+use Rattle.rdf_tokens.specs.Tokens.{Tail, blank, over, rest_of, step}
 use Rattle.rdf_tokens.specs.Unread.{Unread}
-use Rattle.rdf_tokens.specs.declared.look.Look.TheVariants.{Token as Given}
+use Rattle.rdf_tokens.specs.declared.look.Look.TheVariants.{Token as IsAt}
 use Rattle.rdf_tokens.specs.declared.peek.Peeked.{Peeked}
+use Rattle.rdf_tokens.specs.declared.token.Token.{Token as Given}
 use Rattle.rdf_tokens.proofs.BlankLemmas.{blank_by, blank-bytes, blank-step, comment_by, comment-bytes, comment-step}
 use Rattle.rdf_tokens.proofs.ByteLemmas.{Cut, cut}
 use Rattle.rdf_tokens.proofs.LookLemmas.{token-look}
@@ -44,6 +46,29 @@ local_is bs from end e =
     let l = ltb-true from end q.0 in
     record { ends = p.0; some = λ z. omega (arith, z, l); no_hyphen = λ z. let h : not (get_or bs from 0 == 45) ≡ false = ap (λ b. not (b == 45)) z in absurd (true≢false (sym q.1 ∙ h)) }
 
+-- of a plain name its colon may be said
+knows : (bs : List ℕ) (n : ℕ) → IsPlainName bs n → KnowsColon bs n
+knows bs zero p = tt
+knows bs (suc n) p = p
+
+-- a name of a letter, a run, a colon and a run up to its end is plain
+pub plain_name : (bs : List ℕ) (colon end : ℕ) → is_letter (get_or bs 0 0) ≡ true → IsRun is_name_byte bs 1 colon → is_colon bs colon ≡ true →
+    IsRun is_name_byte bs (colon + 1) end → KnowsColon (take end bs) colon
+plain_name bs colon end letter first is second =
+    let some = first.from in
+    let past = second.from in
+    let n : length (take end bs) ≡ end = length-take-le end bs second.within in
+    knows (take end bs) colon (record {
+      within = omega (arith, n);
+      is = get_or-take end bs colon 0 (omega arith) ∙ eqb-true _ 58 (and_parts (nat_lt colon (length bs)) _ is).1;
+      before = λ k from to. ap is_name_byte (get_or-take end bs k 0 (omega arith)) ∙ front k to;
+      after = λ k from to. ap is_name_byte (get_or-take end bs k 0 (omega (arith, n))) ∙ second.pass k from (omega (arith, n));
+    })
+  where
+    front : (k : ℕ) → k < colon → is_name_byte (get_or bs k 0) ≡ true
+    front zero to = or_left _ _ (or_left _ _ (or_left _ _ letter))
+    front (suc k) to = first.pass (suc k) (omega arith) to
+
 -- there is no white space before such a byte, and no comment
 bare_front : (bs : List ℕ) → IsBare bs → (blank Turtle false bs ≡ 0) × (comment_after Turtle false bs ≡ false)
 bare_front [] b = absurd (let l = b.some in omega arith)
@@ -64,6 +89,7 @@ seen_after bs n (Some p) e s b = by_space bs p (subst (λ n. Sees (drop n bs) n 
           closed = f.1;
           flat = ap (λ n. count_by (λ b. b == 10) (take n bs)) s.0;
           token = subst (λ n. IsToken Turtle (drop n bs) p.len p.kind) z s.1;
+          colon = subst (λ n. KnowsColon (take p.len (drop n bs)) p.colon) z s.2;
         }
 
     one : (w : List ℕ) (p : Peeked) → Sees w 1 (Some p) → IsBare w → IsSeen (32 ∷ w) p
@@ -75,6 +101,7 @@ seen_after bs n (Some p) e s b = by_space bs p (subst (λ n. Sees (drop n bs) n 
           closed = f.1;
           flat = ap (λ n. count_by (λ b. b == 10) (take n (32 ∷ w))) s.0;
           token = subst (λ n. IsToken Turtle (drop n (32 ∷ w)) p.len p.kind) z s.1;
+          colon = subst (λ n. KnowsColon (take p.len (drop n (32 ∷ w))) p.colon) z s.2;
         }
 
     by_space : (bs : List ℕ) (p : Peeked) → Sees (drop (one_space bs) bs) (one_space bs) (Some p) → IsBare (drop (one_space bs) bs) → IsSeen bs p
@@ -135,10 +162,15 @@ module _ (v : Unread) (bs : List ℕ) (p : Peeked) (u : IsUtf8 bs) (e : chars bs
   no_feeds : count_by (λ c. c == 10) (take (blank Turtle false (chars bs)) (chars bs)) ≡ 0
   no_feeds = ap (count_by (λ c. c == 10)) (sym c.front) ∙ (sym (feeds-chars (take p.blank bs) c.front_utf8) ∙ s.flat)
 
-  next : (t : Tail) → IsLook (Given p.len p.kind) (step Turtle v.limit t (rest_of Turtle false (chars bs))) (rest_of Turtle false (chars bs))
+  next : (t : Tail) → IsLook (IsAt p.len p.kind) (step Turtle v.limit t (rest_of Turtle false (chars bs))) (rest_of Turtle false (chars bs))
   next t =
-      subst (λ w. IsLook (Given p.len p.kind) (step Turtle v.limit t w) w) c.rest
+      subst (λ w. IsLook (IsAt p.len p.kind) (step Turtle v.limit t w) w) c.rest
       (token-look Turtle v.limit t (drop p.blank bs) p.len p.kind c.rest_utf8 short s.token)
+
+  colon : KnowsColon (take p.len (encode_utf8_all (rest_of Turtle false (chars bs)))) p.colon
+  colon =
+      subst (λ w. KnowsColon (take p.len (encode_utf8_all w)) p.colon) c.rest
+      (subst (λ w. KnowsColon (take p.len w) p.colon) (sym (encodes-chars (drop p.blank bs) c.rest_utf8)) s.colon)
 
   pub is_peeked : IsPeeked v p
   is_peeked = record {
@@ -149,7 +181,8 @@ module _ (v : Unread) (bs : List ℕ) (p : Peeked) (u : IsUtf8 bs) (e : chars bs
     space = there (λ d w. p.blank ≡ bytes_of (blank d false w) w) space;
     closed = there (λ d w. comment_after d false w ≡ false) (sym (comment-bytes Turtle false bs u) ∙ s.closed);
     flat = there (λ d w. count_by (λ c. c == 10) (take (blank d false w) w) ≡ 0) no_feeds;
-    look = λ t. there (λ d w. IsLook (Given p.len p.kind) (step d v.limit t (rest_of d false w)) (rest_of d false w)) (next t);
+    look = λ t. there (λ d w. IsLook (IsAt p.len p.kind) (step d v.limit t (rest_of d false w)) (rest_of d false w)) (next t);
+    colon = there (λ d w. KnowsColon (take p.len (encode_utf8_all (rest_of d false w))) p.colon) colon;
   }
 
 -- the same of what may be seen
@@ -165,18 +198,25 @@ module _ (v mid : Unread) (p : Peeked) (s : IsPeeked v p) (h : MovesBytes v p.bl
       (s.outside ∙ (sym s.closed ∙ ap (λ b. comment_after v.dialect b v.text) (sym s.outside)))
 
   -- and the token is the step there
-  pub look_peeked : IsLook (Given p.len p.kind) (step mid.dialect mid.limit (tail_now mid) mid.text) mid.text
+  pub look_peeked : IsLook (IsAt p.len p.kind) (step mid.dialect mid.limit (tail_now mid) mid.text) mid.text
   look_peeked =
-      subst (λ m. IsLook (Given p.len p.kind) (step m.dialect m.limit (tail_now m) m.text) m.text) (sym bared_peeked)
-      (subst (λ b. IsLook (Given p.len p.kind) (step v.dialect v.limit (tail_now v) (rest_of v.dialect b v.text)) (rest_of v.dialect b v.text)) (sym s.outside) (s.look (tail_now v)))
+      subst (λ m. IsLook (IsAt p.len p.kind) (step m.dialect m.limit (tail_now m) m.text) m.text) (sym bared_peeked)
+      (subst (λ b. IsLook (IsAt p.len p.kind) (step v.dialect v.limit (tail_now v) (rest_of v.dialect b v.text)) (rest_of v.dialect b v.text)) (sym s.outside) (s.look (tail_now v)))
+
+  -- whose colon is right
+  pub colon_peeked : KnowsColon (take p.len (encode_utf8_all mid.text)) p.colon
+  colon_peeked =
+      subst (λ m. KnowsColon (take p.len (encode_utf8_all m.text)) p.colon) (sym bared_peeked)
+      (subst (λ b. KnowsColon (take p.len (encode_utf8_all (rest_of v.dialect b v.text))) p.colon) (sym s.outside) s.colon)
 
   -- so it is given
-  pub takes_seen : {t : Token} {new : Unread} → GivesBytes mid p.kind p.len t new → TakesSeen v p t new
+  pub takes_seen : {t : Given} {new : Unread} → GivesWithColon mid p.kind p.len t new → TakesSeen v p t new
   takes_seen {t} {new} g =
       let l = look_peeked in
-      let k = ap (λ t. t.kind) (g l.0 l.3).token in
+      let k = ap (λ t. t.kind) (g.0 l.0 l.3).token in
       record {
-        given = gives_look v mid (subst (Moves v []) (sym bared_peeked) (moves_bared v s.begun)) s.running s.begins (subst Stands (sym bared_peeked) (stands_bared v)) p.len p.kind t new l g;
+        given = gives_look v mid (subst (Moves v []) (sym bared_peeked) (moves_bared v s.begun)) s.running s.begins (subst Stands (sym bared_peeked) (stands_bared v)) p.len p.kind (token_of t) new l g.0;
+        colon = g.1;
         kind = k;
         goes_on = ap is_end k ∙ not_end p.kind (step-token mid.dialect mid.limit (tail_now mid) mid.text l.0 p.kind l.1).2;
       }

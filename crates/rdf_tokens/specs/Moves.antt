@@ -8,6 +8,8 @@ use Rattle.rdf_terms.specs.declared.reason.Reason.TheVariants.{BadUtf8}
 use Rattle.rdf_tokens.specs.Tokens.{Tail, Place, Token, past, is_empty, blank, with_tokens}
 use Rattle.rdf_tokens.specs.Tokens.Tail.{goes_on, ended, broken}
 use Rattle.rdf_tokens.specs.Good.{good, tokens_at}
+use Rattle.rdf_tokens.specs.Scans.{KnowsItsColon, token_of}
+use Rattle.rdf_tokens.specs.declared.token.Token.{Token as Given}
 use Rattle.rdf_tokens.specs.Front.{bytes_of}
 use Rattle.rdf_tokens.specs.Unread.{Unread}
 
@@ -74,10 +76,18 @@ pub record IsGiven (old : Unread) (k : Kind) (n : ℕ) (t : Token) (new : Unread
 abbrev pub GivesBytes : Unread → Kind → ℕ → Token → Unread → Type 0
 GivesBytes old k len t new = (n : ℕ) → len ≡ bytes_of n old.text → IsGiven old k n t new
 
+-- and the colon of the token that is given is right
+abbrev pub GivesWithColon : Unread → Kind → ℕ → Given → Unread → Type 0
+GivesWithColon old k len t new = GivesBytes old k len (token_of t) new × KnowsItsColon t
+
 -- The end was given, and the reader has stopped.
 pub record IsEndGiven (old : Unread) (t : Token) (new : Unread) : Type 0 where
   pub token : t ≡ record { kind = End; text = []; at = old.place }
   pub stopped : new ≡ record old { stopped = true }
+
+-- and it is no name
+abbrev pub GivesEnd : Unread → Given → Unread → Type 0
+GivesEnd old t new = IsEndGiven old (token_of t) new × KnowsItsColon t
 
 -- the reader stands so many bytes on
 abbrev pub MovesBytes : Unread → ℕ → Unread → Type 0

@@ -7,11 +7,12 @@ use Rattle.rdf_tokens.specs.Front.{bytes_of}
 use Rattle.rdf_tokens.specs.Look.{IsLook}
 use Rattle.rdf_tokens.specs.Moves.{BeginsChar}
 use Rattle.rdf_tokens.specs.Quick.{IsToken, is_name_end, stands_at}
-use Rattle.rdf_tokens.specs.Scans.{GivesToken, is_end}
-use Rattle.rdf_tokens.specs.Tokens.{Tail, Token, blank, rest_of, step}
+use Rattle.rdf_tokens.specs.Scans.{GivesToken, KnowsItsColon, KnowsColon, is_end, token_of}
+use Rattle.rdf_tokens.specs.Tokens.{Tail, blank, rest_of, step}
 use Rattle.rdf_tokens.specs.Unread.{Unread}
-use Rattle.rdf_tokens.specs.declared.look.Look.TheVariants.{Token as Given}
+use Rattle.rdf_tokens.specs.declared.look.Look.TheVariants.{Token as IsAt}
 use Rattle.rdf_tokens.specs.declared.peek.Peeked.{Peeked}
+use Rattle.rdf_tokens.specs.declared.token.Token.{Token as Given}
 
 -- the length of the space that comes first
 abbrev pub one_space : List ℕ → ℕ
@@ -24,7 +25,7 @@ is_local bs from end = is_name_end bs end && (nat_lt from end && not (get_or bs 
 -- The text begins with this token, seen after so many bytes of white space.
 abbrev pub Sees : List ℕ → ℕ → Option Peeked → Type 0
 Sees bs n None = Unit {0}
-Sees bs n (Some p) = (p.blank ≡ n) × IsToken Turtle bs p.len p.kind
+Sees bs n (Some p) = (p.blank ≡ n) × IsToken Turtle bs p.len p.kind × KnowsColon (take p.len bs) p.colon
 
 -- The text begins neither with white space nor with a comment.
 pub record IsBare (bs : List ℕ) : Type 0 where
@@ -37,6 +38,7 @@ pub record IsSeen (bs : List ℕ) (p : Peeked) : Type 0 where
   pub closed : comment_after Turtle false bs ≡ false
   pub flat : count_by (λ b. b == 10) (take p.blank bs) ≡ 0
   pub token : IsToken Turtle (drop p.blank bs) p.len p.kind
+  pub colon : KnowsColon (take p.len (drop p.blank bs)) p.colon
 
 -- tokens of Turtle are given, and no comment is open
 abbrev pub is_plain : Unread → Bool
@@ -56,10 +58,12 @@ pub record IsPeeked (v : Unread) (p : Peeked) : Type 0 where
   pub space : p.blank ≡ bytes_of (blank v.dialect false v.text) v.text
   pub closed : comment_after v.dialect false v.text ≡ false
   pub flat : count_by (λ c. c == 10) (take (blank v.dialect false v.text) v.text) ≡ 0
-  pub look : (t : Tail) → IsLook (Given p.len p.kind) (step v.dialect v.limit t (rest_of v.dialect false v.text)) (rest_of v.dialect false v.text)
+  pub look : (t : Tail) → IsLook (IsAt p.len p.kind) (step v.dialect v.limit t (rest_of v.dialect false v.text)) (rest_of v.dialect false v.text)
+  pub colon : KnowsColon (take p.len (encode_utf8_all (rest_of v.dialect false v.text))) p.colon
 
 -- The token that was seen was given, and it is not the end.
-pub record TakesSeen (old : Unread) (p : Peeked) (t : Token) (new : Unread) : Type 0 where
-  pub given : GivesToken old t new
+pub record TakesSeen (old : Unread) (p : Peeked) (t : Given) (new : Unread) : Type 0 where
+  pub given : GivesToken old (token_of t) new
+  pub colon : KnowsItsColon t
   pub kind : t.kind ≡ p.kind
   pub goes_on : is_end t.kind ≡ false

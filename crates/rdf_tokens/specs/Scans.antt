@@ -1,10 +1,11 @@
 -- What a scanner has read, and what its calls give.
-use Rattle.std.specs.Prelude.{◌≡◌, ◌≢◌, ℕ, ◌<◌, ◌≤◌, ◌+◌, ◌-◌, ◌*◌, ◌/◌, min, max, Bool, true, false, cond, List, [], ◌∷◌, ◌++◌, ◌⊎◌, length, take, encode_utf8_all, Option, Some, None, Result, Ok, Err}
+use Rattle.std.specs.Prelude.{◌≡◌, ◌≢◌, ℕ, zero, suc, ◌<◌, ◌≤◌, ◌+◌, ◌-◌, ◌*◌, ◌/◌, min, max, Bool, true, false, cond, List, [], ◌∷◌, ◌++◌, ◌⊎◌, length, take, get_or, encode_utf8_all, ⊤, Option, Some, None, Result, Ok, Err}
 use Rattle.std.specs.Str.{chars}
 use Rattle.rdf_terms.specs.declared.kind.Dialect.{Dialect}
 use Rattle.rdf_terms.specs.declared.kind.Kind.TheVariants.{End}
 use Rattle.rdf_terms.specs.declared.reason.Reason.{Reason}
 use Rattle.rdf_terms.specs.declared.reason.Reason.TheVariants.{BadUtf8, NoToken, BadEscape, TokenTooLong, DocumentTooLong, Memory, Ended}
+use Rattle.rdf_terms.specs.Runs.{PassBetween, is_name_byte}
 use Rattle.rdf_terms.specs.Shapes.{Shape}
 use Rattle.rdf_terms.specs.Values.{is_fit}
 use Rattle.rdf_tokens.specs.declared.token.Token.{Token as Given}
@@ -40,6 +41,22 @@ pub record HasScanned (v : Unread) (bytes : List ℕ) (ts : List Token) : Type 0
 -- a token that the scanner gives, by its characters
 abbrev pub token_of : Given → Token
 token_of t = record { kind = t.kind; text = chars t.text.now; at = record { offset = t.offset; line = t.line } }
+
+-- a name of ASCII letters, digits, '_' and '-' alone, but for one colon, which stands at this place
+pub record IsPlainName (bs : List ℕ) (colon : ℕ) : Type 0 where
+  pub within : colon < length bs
+  pub is : get_or bs colon 0 ≡ 58
+  pub before : PassBetween is_name_byte bs 0 colon
+  pub after : PassBetween is_name_byte bs (colon + 1) (length bs)
+
+-- what the colon of a token says of its bytes; 0 says nothing
+abbrev pub KnowsColon : List ℕ → ℕ → Type 0
+KnowsColon bs zero = ⊤
+KnowsColon bs (suc n) = IsPlainName bs (suc n)
+
+-- it is so of the colon that comes with a token
+abbrev pub KnowsItsColon : Given → Type 0
+KnowsItsColon t = KnowsColon t.text.now t.colon
 
 -- the byte offset and the line that an error reports
 abbrev pub place_of : Fault → Place
@@ -155,6 +172,6 @@ StopsFor r old at new = ⊥
 
 -- what next gives
 abbrev pub Gives : Unread → Result (Option Given) Fault → Unread → Type 0
-Gives old (Ok (Some t)) new = GivesToken old (token_of t) new
+Gives old (Ok (Some t)) new = GivesToken old (token_of t) new × KnowsItsColon t
 Gives old (Ok None) new = Waits old new
 Gives old (Err f) new = StopsFor f.reason old (place_of f) new

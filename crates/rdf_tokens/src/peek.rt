@@ -25,6 +25,8 @@ pub struct Peeked {
     pub(crate) blank: usize,
     // How many bytes it has.
     pub(crate) len: usize,
+    // The colon, as the token has it.
+    pub(crate) colon: usize,
 }
 
 /// The token of Turtle that a text begins with, after one space or none, where its first bytes settle it. Only frequent tokens are seen: `None`
@@ -84,7 +86,12 @@ fn seen_as(kind: Kind, blank: usize, len: Option<usize>) -> Option<Peeked>
     ensures { (bs : List ℕ) → IfSome len (λ n. IsToken Turtle bs n kind) → Sees bs blank result }
 {
     match len {
-        Some(len) => Some(Peeked { kind, blank, len }),
+        Some(len) => Some(Peeked {
+            kind,
+            blank,
+            len,
+            colon: 0,
+        }),
         None => None,
     }
 }
@@ -100,6 +107,7 @@ fn seen_byte(blank: usize, text: &str, kind: Kind) -> Option<Peeked>
         kind,
         blank,
         len: 1,
+        colon: 0,
     })
 }
 
@@ -113,6 +121,7 @@ fn seen_dot(blank: usize, text: &str) -> Option<Peeked>
             kind: Kind::Dot,
             blank,
             len: 1,
+            colon: 0,
         });
     }
     None
@@ -133,6 +142,7 @@ fn seen_name(blank: usize, text: &str) -> Option<Peeked>
                 kind: Kind::PnameLn,
                 blank,
                 len: end,
+                colon,
             });
         }
         return None;
@@ -142,6 +152,7 @@ fn seen_name(blank: usize, text: &str) -> Option<Peeked>
             kind: Kind::A,
             blank,
             len: 1,
+            colon: 0,
         });
     }
     None

@@ -1,15 +1,15 @@
 // The scanner.
 
-ghost use Rattle.std.specs.Prelude.{false, ◌≡◌, ◌==◌, ℕ, List, [], ◌++◌, count_by, true, OnOk, OnErr, IfOk, IfSome, cond, min, ◌-◌, ◌+◌, ◌≤◌, ◌<◌, ◌&&◌, ◌||◌, nat_le, length, drop, take, ⊤, ◌/◌};
+ghost use Rattle.std.specs.Prelude.{false, ◌≡◌, ◌==◌, ℕ, List, [], ◌++◌, count_by, true, OnOk, OnErr, IfOk, IfSome, cond, min, ◌-◌, ◌+◌, ◌≤◌, ◌<◌, ◌&&◌, ◌||◌, nat_le, length, drop, take, encode_utf8_all, ⊤, ◌/◌};
 ghost use Rattle.std.specs.Str.{chars, IsCharBoundary};
 ghost use Rattle.std.specs.String.{string_bytes};
 ghost use mathlib.Core.Option.{none};
 ghost use Rattle.std.specs.Borrow.{sem, follows_so};
 ghost use Rattle.rdf_tokens.specs.Tokens.{Token as Read, step, is_empty};
-ghost use Rattle.rdf_tokens.specs.Scans.{PassesBlank, HasScanned, Pushes, Gives, left, most_bytes, token_of, place_of, unread_bytes, IsWaiting, most_unread, fitting, at_once};
+ghost use Rattle.rdf_tokens.specs.Scans.{PassesBlank, HasScanned, Pushes, Gives, KnowsColon, left, most_bytes, token_of, place_of, unread_bytes, IsWaiting, most_unread, fitting, at_once};
 ghost use Rattle.rdf_tokens.specs.Look.{tail_after, IsLook};
 ghost use Rattle.rdf_tokens.specs.contracts.scanner.Scanner.{the_row};
-ghost use Rattle.rdf_tokens.specs.Moves.{closed, grown, good_bytes, is_broken, rest_of_bytes, is_settled, tail_now, fault_place, is_flat, GivesBytes, IsEndGiven, Moves, MovesBytes, Stands};
+ghost use Rattle.rdf_tokens.specs.Moves.{closed, grown, good_bytes, is_broken, rest_of_bytes, is_settled, tail_now, fault_place, is_flat, GivesEnd, GivesWithColon, Moves, MovesBytes, Stands};
 ghost use Rattle.rdf_tokens.specs.Passing.{is_idle, passed};
 ghost use Rattle.rdf_tokens.specs.Front.{bytes_of};
 ghost use Rattle.rdf_tokens.specs.Peek.{IsPeeked, MayPeek, TakesSeen, is_plain};
@@ -173,7 +173,7 @@ impl<A: Allocator + Copy> Scanner<A> {
             Look::Undecided => Ok(None),
             Look::Complete => Ok(Some(self.give_end())),
             Look::Stop(reason) => Err(self.stop_here(reason)),
-            Look::Token(len, kind) => Ok(Some(self.give(kind, len))),
+            Look::Token(len, kind) => Ok(Some(self.give(kind, len, 0))),
         }
     }
 
@@ -194,10 +194,10 @@ impl<A: Allocator + Copy> Scanner<A> {
     pub fn take(&mut self, peeked: Peeked) -> Token<'_>
         requires { IsPeeked self.old peeked }
         ensures* { sem 𝓛 (follows_so (the_row A.row A.Allocator) (the_row A.row A.Allocator) self.entry.ghost_name none (λ _ _. ⊤)
-            (TakesSeen self.old peeked (token_of result))) }
+            (TakesSeen self.old peeked result)) }
     {
         self.move_on(peeked.blank, 0);
-        self.give(peeked.kind, peeked.len)
+        self.give(peeked.kind, peeked.len, peeked.colon)
     }
 
     /// Passes a line feed of Turtle that stands next, where neither white space nor a comment comes after it. What the next token is, and where
@@ -332,7 +332,7 @@ impl<A: Allocator + Copy> Scanner<A> {
 
     fn give_end(&mut self) -> Token<'_>
         ensures* { sem 𝓛 (follows_so (the_row A.row A.Allocator) (the_row A.row A.Allocator) self.entry.ghost_name none (λ _ _. ⊤)
-            (IsEndGiven self.old (token_of result))) }
+            (GivesEnd self.old result)) }
     {
         self.stopped = true;
         Token {
@@ -340,14 +340,16 @@ impl<A: Allocator + Copy> Scanner<A> {
             text: "",
             offset: self.offset,
             line: self.line,
+            colon: 0,
         }
     }
 
     #[inline(always)]
-    fn give(&mut self, kind: Kind, len: usize) -> Token<'_>
-        requires { (n : ℕ) × (len ≡ bytes_of n self.old.text) × (is_flat kind ≡ true → count_by (λ c. c == 10) (take n self.old.text) ≡ 0) }
+    fn give(&mut self, kind: Kind, len: usize, colon: usize) -> Token<'_>
+        requires bytes { (n : ℕ) × (len ≡ bytes_of n self.old.text) × (is_flat kind ≡ true → count_by (λ c. c == 10) (take n self.old.text) ≡ 0) }
+        requires colon { KnowsColon (take len (encode_utf8_all self.old.text)) colon }
         ensures* { sem 𝓛 (follows_so (the_row A.row A.Allocator) (the_row A.row A.Allocator) self.entry.ghost_name none (λ _ _. ⊤)
-            (GivesBytes self.old kind len (token_of result))) }
+            (GivesWithColon self.old kind len result)) }
     {
         let start = self.start;
         let end = start + len;
@@ -363,6 +365,7 @@ impl<A: Allocator + Copy> Scanner<A> {
             text: &self.text.as_str()[start..end],
             offset,
             line,
+            colon,
         }
     }
 

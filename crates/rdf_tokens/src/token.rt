@@ -13,6 +13,9 @@ pub struct Token<'a> {
     pub offset: u64,
     /// One plus the number of LF bytes before it.
     pub line: u64,
+    /// Of a name that is known to be letters, digits, `_` and `-` of ASCII with one colon between them: how many bytes stand before the colon.
+    /// Else 0, which tells nothing.
+    pub colon: usize,
 }
 
 /// Why a document was refused, or why reading stopped, and where.

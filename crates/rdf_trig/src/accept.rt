@@ -3,6 +3,7 @@
 ghost use Rattle.std.specs.Prelude.{◌≡◌, ℕ, ◌≤◌, ◌<◌, ◌+◌, ◌^◌, ◌&&◌, length, nat_le, true, false, OnOk, IfOk, IfErr};
 ghost use Rattle.rdf_iri.specs.Limits.{Sizes};
 ghost use Rattle.rdf_iri.specs.Scope.{InForce};
+ghost use Rattle.rdf_tokens.specs.Scans.{KnowsItsColon};
 ghost use Rattle.rdf_trig.specs.declared.form.DocForm.{DocForm};
 ghost use Rattle.rdf_trig.specs.Machine as M;
 ghost use Rattle.rdf_trig.specs.States.{leaf, IsTurtleToken, mode_in, DepthMoves};
@@ -131,6 +132,7 @@ impl<A: Allocator + Copy> State<A> {
     ) -> Result<u64, StepFault>
         requires token { IsTurtleToken token.now }
         requires short { length (leaf token.now).text ≤ scope.old.limits.token }
+        requires colon { KnowsItsColon token.now }
         requires most { rules.now.limits.depth ≡ scope.old.limits.depth }
         requires keeps { Keeps rules.now.form scope.old.limits self.old }
         requires live { S.has_failed sink.old ≡ false }

@@ -10,6 +10,7 @@ ghost use Rattle.rdf_terms.specs.Known.{known_chars};
 ghost use Rattle.rdf_iri.specs.Texts.{IsIriText, byte_len};
 ghost use Rattle.rdf_iri.specs.Scope.{ExpandsHere, NotExpanded, ResolvesHere};
 ghost use Rattle.rdf_tokens.specs.Leaves.{iri_of};
+ghost use Rattle.rdf_tokens.specs.Scans.{KnowsItsColon};
 ghost use Rattle.rdf_trig.specs.Machine as M;
 ghost use Rattle.rdf_trig.specs.Owed.{iri_size};
 ghost use Rattle.rdf_trig.specs.States.{leaf, IsTurtleToken, PrefixFits};
@@ -18,7 +19,7 @@ ghost use Rattle.rdf_trig.specs.Scopes.{IsReference, IsPrefixed, MeansLocal, Nam
 
 use crate::fault::StepFault;
 use crate::plain::{lacks_escapes, lacks_iri_escapes};
-use crate::spelled::parts;
+use crate::spelled::{parts, plain_parts};
 use crate::state::{Mode, Outer, State};
 use rdf_iri::{IriFault, Scope};
 use rdf_terms::{
@@ -158,10 +159,15 @@ impl<A: Allocator + Copy> Name<A> {
     ) -> Result<(), StepFault>
         requires token { IsTurtleToken token.now }
         requires kind { IsPrefixed token.now.kind }
+        requires colon { KnowsItsColon token.now }
         ensures ok { OnOk result (Names scope.now token.now.kind (leaf token.now) self.new) }
         ensures fits { OnOk result (NameFits scope.now.limits.iri self.new) }
         ensures err { IfErr result (λ r. Unnamed scope.now token.now.kind (leaf token.now) r) }
     {
+        if token.colon > 0 {
+            let (prefix, local) = plain_parts(token.text, token.colon);
+            return Ok(self.expand(scope, prefix, local)?);
+        }
         let (prefix, local) = parts(token.text);
         if lacks_escapes(local) {
             return Ok(self.expand(scope, prefix, local)?);
@@ -274,6 +280,7 @@ impl<A: Allocator + Copy> State<A> {
     pub fn look_up(&mut self, scope: &mut Scope<A>, token: &Token<'_>) -> Result<(), StepFault>
         requires token { IsTurtleToken token.now }
         requires short { PrefixFits (4 * scope.old.limits.token) self.old self.old.mode }
+        requires colon { KnowsItsColon token.now }
         ensures ok { OnOk result (Finds self.old self.old.mode scope.old token.now self.new.name scope.new) }
         ensures fits { OnOk result (NameFits scope.old.limits.iri self.new.name) }
         ensures same { self.new ≡ record self.old { name = self.new.name } }
@@ -293,6 +300,7 @@ impl<A: Allocator + Copy> State<A> {
     ) -> Result<(), StepFault>
         requires token { IsTurtleToken token.now }
         requires short { PrefixFits (4 * scope.old.limits.token) self.old (Mode.Outer outer) }
+        requires colon { KnowsItsColon token.now }
         ensures ok { OnOk result (Finds self.old (Mode.Outer outer) scope.old token.now self.new.name scope.new) }
         ensures fits { OnOk result (NameFits scope.old.limits.iri self.new.name) }
         ensures same { self.new ≡ record self.old { name = self.new.name } }
@@ -319,6 +327,7 @@ impl<A: Allocator + Copy> State<A> {
     #[inline(always)]
     fn look_up_name(&mut self, scope: &Scope<A>, token: &Token<'_>) -> Result<(), StepFault>
         requires token { IsTurtleToken token.now }
+        requires colon { KnowsItsColon token.now }
         ensures ok { OnOk result (Names scope.now token.now.kind (leaf token.now) self.new.name) }
         ensures fits { OnOk result (NameFits scope.now.limits.iri self.new.name) }
         ensures same { self.new ≡ record self.old { name = self.new.name } }
@@ -337,6 +346,7 @@ fn name_token<A: Allocator + Copy>(
     token: &Token<'_>,
 ) -> Result<(), StepFault>
     requires token { IsTurtleToken token.now }
+    requires colon { KnowsItsColon token.now }
     ensures ok { OnOk result (Names scope.now token.now.kind (leaf token.now) name.new) }
     ensures fits { OnOk result (NameFits scope.now.limits.iri name.new) }
     ensures err { IfErr result (λ r. Unnamed scope.now token.now.kind (leaf token.now) r) }

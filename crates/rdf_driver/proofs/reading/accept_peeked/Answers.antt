@@ -1,5 +1,5 @@
 -- A token that was seen is given, accepted and counted.
-use Rattle.std.proofs.Common.{◌∙◌, sym, subst}
+use Rattle.std.proofs.Common.{◌∙◌, rules, sym, subst}
 use Rattle.rdf_tokens.specs.Scans.{GivesToken, token_of}
 use Rattle.rdf_driver.specs.Reading.{moment_of}
 use Rattle.rdf_driver.proofs.ReadingLemmas.{has_room, is_short, quads_room}
@@ -24,3 +24,9 @@ count_token-requires-clause-quads g c =
     let given = subst (λ k. GivesToken v (record { kind = k; text = t.text; at = t.at }) last) (s.kind ∙ sym c.kind.ensures) s.given in
     quads_room g.G.Grammar.words g.G.Accepts.takes c.requires.lawful (moment_of c.args.progress.now c.args.sink.now) last c.accept.new.self
     c.accept.new.sink (record { kind = c.kind.result; text = t.text; at = t.at }) c.in-Ok.given c.requires.ready given c.in-Ok.ensures.ok
+
+pub returns-then-matches-clause-reads : goal.returns-then-matches-clause-reads
+returns-then-matches-clause-reads g c = search rules
+
+pub returns-else-matches-clause-reads : goal.returns-else-matches-clause-reads
+returns-else-matches-clause-reads g c = search rules

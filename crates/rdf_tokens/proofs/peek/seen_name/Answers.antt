@@ -1,11 +1,12 @@
 -- A name, by the colon, the runs beside it and the byte after them; or the word `a`.
-use Rattle.std.proofs.Common.{◌≡◌, ◌+◌, ◌∙◌, true, inr, refl, sym, subst, length, get_or, IsUtf8}
+use Rattle.std.proofs.Common.{◌≡◌, ◌+◌, ◌∙◌, true, inr, refl, sym, subst, length, get_or, take, IsUtf8}
 use Rattle.std.proofs.lemmas.Bool.{and_parts, ltb-true}
 use Rattle.rdf_terms.specs.declared.kind.Dialect.TheVariants.{Turtle}
 use Rattle.rdf_terms.specs.declared.kind.Kind.TheVariants.{A, PnameLn}
 use Rattle.rdf_terms.specs.Classes.{is_letter}
 use Rattle.rdf_tokens.specs.Quick.{IsToken}
-use Rattle.rdf_tokens.proofs.PeekLemmas.{local_is}
+use Rattle.rdf_tokens.specs.Scans.{KnowsColon}
+use Rattle.rdf_tokens.proofs.PeekLemmas.{local_is, plain_name}
 use Rattle.rdf_tokens.proofs.QuickLemmas.{quick_a, quick_local}
 use Rattle.rdf_tokens.proofs.peek.seen_name.Goals as goal
 
@@ -16,12 +17,13 @@ returns-then-is_local c =
     let colon = c.two_run_ends-colon.result.0 in
     let end = c.two_run_ends-colon.result.1 in
     let is = sym c.is_colon.ensures ∙ c.if-is_colon.true in
+    let letter = subst (λ b. is_letter (get_or b 0 0) ≡ true) (sym v) c.requires.letter in
+    let first = c.two_run_ends-colon.ensures.first in
+    let second = c.two_run_ends-colon.ensures.second (ltb-true colon (length bs) (and_parts _ _ is).0) in
     let l = local_is bs (colon + 1) end (sym c.is_local.ensures ∙ c.if-is_local.true) in (
       refl,
-      subst (λ b. IsToken Turtle b end PnameLn) v
-          (quick_local bs colon end (subst IsUtf8 (sym v) c.utf8.text)
-          (inr (subst (λ b. is_letter (get_or b 0 0) ≡ true) (sym v) c.requires.letter, c.two_run_ends-colon.ensures.first)) is
-          (c.two_run_ends-colon.ensures.second (ltb-true colon (length bs) (and_parts _ _ is).0)) l.ends l.some l.no_hyphen),
+      subst (λ b. IsToken Turtle b end PnameLn) v (quick_local bs colon end (subst IsUtf8 (sym v) c.utf8.text) (inr (letter, first)) is second l.ends l.some l.no_hyphen),
+      subst (λ b. KnowsColon (take end b) colon) v (plain_name bs colon end letter first is second),
     )
 
 pub returns-then-is_a : goal.returns-then-is_a
@@ -31,4 +33,5 @@ returns-then-is_a c =
       refl,
       subst (λ b. IsToken Turtle b 1 A) v
           (quick_a bs c.two_run_ends-colon.result.0 (subst IsUtf8 (sym v) c.utf8.text) c.two_run_ends-colon.ensures.first (sym c.is_a.ensures ∙ c.if-is_a.true)),
+      tt,
     )

@@ -33,7 +33,7 @@ returns-in-Complete g c =
     let begins : BeginsChar old.pending = subst (λ v. BeginsChar v.pending) c.self.view_is c.self.invariant.held.begins in
     let m = subst (Moves old []) same (moves_both old c.drop_mark.new.self c.drop_blanks.new.self [] [] c.drop_mark.ensures.moves c.drop_blanks.ensures.moves) in
     let stands = subst Stands same c.drop_blanks.ensures.stands in
-    ((refl, (λ _. tt), ends_at old mid m running begins stands c.give_end.follows.holds-at-none c.in-Complete.ensures.look), tt)
+    ((refl, (λ _. tt), (ends_at old mid m running begins stands c.give_end.follows.holds-at-none.0 c.in-Complete.ensures.look, c.give_end.follows.holds-at-none.1)), tt)
 
 pub returns-in-Stop : goal.returns-in-Stop
 returns-in-Stop g c =
@@ -47,8 +47,8 @@ returns-in-Stop g c =
     let e = c.stop_here.ensures in
     ((refl, (λ _. tt), stops_at old mid m running begins stands e.reason e.place e.stopped c.in-Stop.ensures.look), tt)
 
-pub give-requires : goal.give-requires
-give-requires g c = let l = c.in-Token.ensures.look in (l.0, l.3, λ f. flat_text _ _ _ _ l.0 c.in-Token.kind l.1 f)
+pub give-requires-clause-bytes : goal.give-requires-clause-bytes
+give-requires-clause-bytes g c = let l = c.in-Token.ensures.look in (l.0, l.3, λ f. flat_text _ _ _ _ l.0 c.in-Token.kind l.1 f)
 
 pub returns-in-Token : goal.returns-in-Token
 returns-in-Token g c =
@@ -59,4 +59,4 @@ returns-in-Token g c =
     let begins : BeginsChar old.pending = subst (λ v. BeginsChar v.pending) c.self.view_is c.self.invariant.held.begins in
     let m = subst (Moves old []) same (moves_both old c.drop_mark.new.self c.drop_blanks.new.self [] [] c.drop_mark.ensures.moves c.drop_blanks.ensures.moves) in
     let stands = subst Stands same c.drop_blanks.ensures.stands in
-    ((refl, (λ _. tt), gives_look old mid m running begins stands _ _ _ _ c.in-Token.ensures.look c.give.follows.holds-at-none), tt)
+    ((refl, (λ _. tt), (gives_look old mid m running begins stands _ _ _ _ c.in-Token.ensures.look c.give.follows.holds-at-none.0, c.give.follows.holds-at-none.1)), tt)

@@ -5,9 +5,25 @@ use Rattle.std.specs.Str.{chars}
 use Rattle.rdf_terms.specs.Values.{local_value}
 use Rattle.rdf_trig.specs.Scopes.{MeansLocal, Names}
 use Rattle.rdf_trig.specs.States.{leaf}
+use Rattle.rdf_trig.proofs.code.ColonLemmas.{known_colon}
 use Rattle.rdf_trig.proofs.code.LocalShapes.{token_local}
 use Rattle.rdf_trig.proofs.code.LookUps.{name_names}
 use Rattle.rdf_trig.proofs.names.Name.set_prefixed.Goals as goal
+
+pub plain_parts-requires-clause-colon : goal.plain_parts-requires-clause-colon
+plain_parts-requires-clause-colon g c = known_colon c.args.token.now.text.now c.args.token.now.colon c.if-token-gt0.true c.requires.colon
+
+pub plain_parts-requires-clause-means : goal.plain_parts-requires-clause-means
+plain_parts-requires-clause-means g c = token_local c.args.token.now c.requires.kind c.requires.token
+
+pub returns-then-token-gt0-clause-ok : goal.returns-then-token-gt0-clause-ok
+returns-then-token-gt0-clause-ok g c =
+    let expanded = c.in_ok-expand.ensures.expanded in
+    subst (Names c.args.scope.now c.args.token.now.kind (leaf c.args.token.now)) (sym expanded.1)
+    (name_names c.args.scope.now c.args.token.now.kind (leaf c.args.token.now) (chars c.plain_parts.result.0.now) (chars c.plain_parts.result.1.now) expanded.0 c.requires.kind
+    c.plain_parts.ensures.prefix
+    (ap (λ o. unwrap_or o []) (sym c.plain_parts.ensures.value ∙ ap local_value c.plain_parts.ensures.local))
+    expanded.2)
 
 pub lacks_escapes-requires : goal.lacks_escapes-requires
 lacks_escapes-requires g c = subst MeansLocal (sym c.parts.ensures.local) (token_local c.args.token.now c.requires.kind c.requires.token)
@@ -17,7 +33,7 @@ local_text-requires g c = subst MeansLocal (sym c.parts.ensures.local) (token_lo
 
 pub returns-clause-ok : goal.returns-clause-ok
 returns-clause-ok g c =
-    let expanded = c.in_ok-expand-2.ensures.expanded in
+    let expanded = c.in_ok-expand-3.ensures.expanded in
     subst (Names c.args.scope.now c.args.token.now.kind (leaf c.args.token.now)) (sym expanded.1)
     (name_names c.args.scope.now c.args.token.now.kind (leaf c.args.token.now) (chars c.parts.result.0.now) (chars c.as_str.result.now) expanded.0 c.requires.kind
     c.parts.ensures.prefix
@@ -26,7 +42,7 @@ returns-clause-ok g c =
 
 pub returns-then-lacks_escapes-clause-ok : goal.returns-then-lacks_escapes-clause-ok
 returns-then-lacks_escapes-clause-ok g c =
-    let expanded = c.in_ok-expand.ensures.expanded in
+    let expanded = c.in_ok-expand-2.ensures.expanded in
     subst (Names c.args.scope.now c.args.token.now.kind (leaf c.args.token.now)) (sym expanded.1)
     (name_names c.args.scope.now c.args.token.now.kind (leaf c.args.token.now) (chars c.parts.result.0.now) (chars c.parts.result.1.now) expanded.0 c.requires.kind
     c.parts.ensures.prefix

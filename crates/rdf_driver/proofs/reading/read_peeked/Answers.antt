@@ -1,0 +1,6 @@
+-- The kind is the one that the arm names.
+use Rattle.std.proofs.Common.{rules}
+use Rattle.rdf_driver.proofs.reading.read_peeked.Goals as goal
+
+pub accept_peeked-requires-in-Comma-clause-known : goal.accept_peeked-requires-in-Comma-clause-known
+accept_peeked-requires-in-Comma-clause-known g c = search rules
