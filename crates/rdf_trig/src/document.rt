@@ -41,7 +41,9 @@ pub fn read_document<A: Allocator + Copy>(
 {
     let mut list = QuadList::new(alloc);
     let mut reader = TrigReader::new(alloc, options);
-    match read_all(&mut reader, bytes, &mut list) {
+    let read = read_all(&mut reader, bytes, &mut list);
+    drop(reader);
+    match read {
         Ok(()) => Ok(list),
         Err(fault) => Err(fault),
     }
