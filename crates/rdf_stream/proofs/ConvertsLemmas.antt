@@ -16,7 +16,7 @@ use Rattle.rdf_driver.proofs.PromiseLemmas.{read_goes_on}
 use Rattle.rdf_stream.specs.declared.fault.StreamFault.{StreamFault}
 use Rattle.rdf_stream.specs.declared.fault.StreamFault.TheVariants as stream
 use Rattle.rdf_stream.specs.declared.line_out.LineOut.{LineOut}
-use Rattle.rdf_stream.specs.Converting.{Begins, HaltsFor, IsConverting, RunEnds, RunHalts}
+use Rattle.rdf_stream.specs.Converting.{Begins, HaltsFor, IsConverting, RunEnds, RunHalts, Starts}
 use Rattle.rdf_stream.specs.Converts.{Accepts, IsPrompt, RefusesDocument, StopsFor, WritesDue, WritesSome}
 use Rattle.rdf_stream.specs.Devices.{HasGiven, Reading}
 use Rattle.rdf_stream.specs.Faults.{IsOfDocument, IsRefusal}
@@ -204,6 +204,15 @@ module _ {G X D : Type 0} (A : Type 0) (contents : D → Option (List ℕ)) (fai
         ⊎_elim (λ p. subst IsRefusal (sym p.0) tt)
         (λ p. halts_document reported (conversion w x first.0.scanner.limit (form_of first.1.form)) p.0.bytes left.has_ended old new (failed now.1.drain.now) (p.1.halts x b)) h
 
+-- the same by what was asked of the reader, and of the lines
+pub begins_with : {G X D A : Type 0} (failed : D → Bool) (w : Words G X Quad) (x : X) (reader : Driven G) (first : LineOut D A) (form : Form) → form_of first.form ≡ form →
+    first.buffer.now.items ≡ [] → failed first.drain.now ≡ false → Starts w x reader form.style → Begins failed w x reader first
+begins_with failed w x reader first form e none live s = record { starts = subst (λ f. Starts w x reader f.style) (sym e) s; none_waits = none; live = live }
+
+-- what holds of a drain as it was and as it is, by other names
+pub by_drains : {D : Type 0} (P : D → D → Type 0) (was is was' is' : D) → was ≡ was' → is ≡ is' → P was is → P was' is'
+by_drains P was is was' is' o n h = subst (λ d. P was' d) n (subst (λ d. P d is) o h)
+
 -- ---- by the job
 
 -- what holds of a line format with these limits holds of the job that asks for them
@@ -222,49 +231,49 @@ trees_job P job form k x i n l f e h =
     (subst (λ y. P (conversion tree_words (tree_job form job) job.limits.token y)) e
     (subst (λ y. P (conversion tree_words y y.start.limits.token f)) i (subst (λ m. P (conversion tree_words x m f)) l h)))
 
--- before any token nothing is due
-none_due : (k : Kind) (job : JobRead) → Due (conversion_by k job).language.documents [] []
-none_due (Line form) job = lines_lawful.due (record { rules = record { form = form; iri = 0 }; limit = 0; mode = Begin; held = 0 }) (record { form = form; iri = 0 }) [] [] (refl, refl)
-none_due (Tree form) job = due_ran form (tree_job form job).start [] (at_start (tree_job form job).start) [] refl
+-- ---- before the first byte
 
--- the source was never asked for bytes
-pub none_prompt : (job : JobRead) (left : Reading) (old : Option (List ℕ)) → IsPrompt (conversion_of job) left.remaining left old old
-none_prompt job left old = record {
-  before = [];
-  piece = [];
-  consumed = Consumes-nil left.remaining;
-  few = omega arith;
-  at_fill = old;
-  writes = record {
-    quads = [];
-    due = subst (λ ts. Due (language_of job).documents ts []) (sym (ap (λ r. r.tokens) (tokens_of-nil (language_of job).dialect (language_of job).limit))) (none_due (kind_of job.form) job);
-    written = Appends-nil old;
-    ascii = λ is labels. tt;
-  };
-  grows = record { more = []; added = Appends-nil old };
-}
+module _ {G X : Type 0} (w : Words G X Quad) (x : X) (reader : Driven G) (form : Form) (b : Starts w x reader form.style) where
+  abbrev begun_job : Conversion
+  begun_job = conversion w x reader.scanner.limit form
 
--- there was no memory to begin with
-pub none_stops : (job : JobRead) (left : Reading) (old : Option (List ℕ)) (write_failed : Bool) → left.has_ended ≡ false → left.has_failed ≡ false → write_failed ≡ false →
-    StopsFor stream.Memory (conversion_of job) left.remaining left old old write_failed
-none_stops job left old write_failed o r f = (
-  f,
-  none_given left o r,
-  record {
-    quads = [];
-    due = record {
-      ahead = [];
-      after = (reading_of (language_of job) [] left.has_ended).tokens;
-      tokens = refl;
-      kept = none_passes;
-      rest = [];
-      due = none_due (kind_of job.form) job;
-    };
-    written = Appends-nil old;
-    ascii = λ is labels. tt;
-  },
-)
-  where
-    none_passes : PassesNone (language_of job).passes []
-    none_passes [] after t e p = let z : [] ≡ t ∷ after = e in cc
-    none_passes (u ∷ us) after t e p = let z : [] ≡ u ∷ (us ++ t ∷ after) = e in cc
+  -- nothing is due
+  none_due : Due (w.documents x) (reading_of begun_job.language [] false).tokens []
+  none_due = b.convertible.lawful.due reader.grammar x (reading_of begun_job.language [] false).tokens [] b.read.reached
+
+  -- the source was never asked for bytes
+  pub none_prompt : (left : Reading) (old : Option (List ℕ)) → IsPrompt begun_job left.remaining left old old
+  none_prompt left old = record {
+    before = [];
+    piece = [];
+    consumed = Consumes-nil left.remaining;
+    few = omega arith;
+    at_fill = old;
+    writes = record { quads = []; due = none_due; written = Appends-nil old; ascii = λ is labels. tt };
+    grows = record { more = []; added = Appends-nil old };
+  }
+
+  -- there was no memory to begin with
+  pub none_stops : (left : Reading) (old : Option (List ℕ)) (write_failed : Bool) → left.has_ended ≡ false → left.has_failed ≡ false → write_failed ≡ false →
+      StopsFor stream.Memory begun_job left.remaining left old old write_failed
+  none_stops left old write_failed o r f = (
+    f,
+    none_given left o r,
+    record {
+      quads = [];
+      due = record {
+        ahead = [];
+        after = (reading_of begun_job.language [] left.has_ended).tokens;
+        tokens = refl;
+        kept = none_passes;
+        rest = [];
+        due = subst (λ ts. Due (w.documents x) ts []) (ap (λ r. r.tokens) (tokens_of-nil w.dialect reader.scanner.limit)) none_due;
+      };
+      written = Appends-nil old;
+      ascii = λ is labels. tt;
+    },
+  )
+    where
+      none_passes : PassesNone begun_job.language.passes []
+      none_passes [] after t e p = let z : [] ≡ t ∷ after = e in cc
+      none_passes (u ∷ us) after t e p = let z : [] ≡ u ∷ (us ++ t ∷ after) = e in cc

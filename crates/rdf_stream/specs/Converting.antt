@@ -12,6 +12,7 @@ use Rattle.rdf_driver.specs.Readers.{Driven, HasRead}
 use Rattle.rdf_driver.specs.Words.{Lawful, Words}
 use Rattle.rdf_lines.specs.declared.form.Style.{Style}
 use Rattle.rdf_lines.specs.Forms.{form_of}
+use Rattle.rdf_lines.specs.NodePrefixes.{Form}
 use Rattle.rdf_lines.specs.Writing.{CanWrite, Writable}
 use Rattle.rdf_stream.specs.Languages.{Conversion, conversion}
 use Rattle.rdf_stream.specs.declared.fault.StreamFault.{StreamFault}
@@ -121,20 +122,17 @@ Reports contents failed f reported before after =
     ((reported ≡ fault.Write) × ReportsWrite contents failed before after) ⊎ ((reported ≡ fault_by f.reason f) × ReportsFault contents failed before after)
 
 -- Whatever the run began with, all bytes of the source were converted, where they are known.
-abbrev pub Converts : {G X S D A : Type 0} → Words G X Quad → source.Ghosts S → drain.Ghosts D → Driven G → S → LineOut D A → LineOut D A → Summary → Type 0
-Converts {G} {X} w says takes reader from first lines summary = (x : X) → Begins takes.has_failed w x reader first →
-    AcceptsAll (conversion w x reader.scanner.limit (form_of first.form)) (says.remaining from)
-    (takes.contents first.drain.now) (takes.contents lines.drain.now) summary
+abbrev pub Converts : {G X S D : Type 0} → Words G X Quad → source.Ghosts S → drain.Ghosts D → Driven G → Form → S → D → D → Summary → Type 0
+Converts {G} {X} w says takes reader form from old new summary = (x : X) → Starts w x reader form.style →
+    AcceptsAll (conversion w x reader.scanner.limit form) (says.remaining from) (takes.contents old) (takes.contents new) summary
 
 -- Whatever the run began with, this is why the conversion stopped, and what it had written.
-abbrev pub ConversionStops : {G X S D A : Type 0} → Words G X Quad → source.Ghosts S → drain.Ghosts D → Driven G → S → S → LineOut D A → LineOut D A
-    → StreamFault → Type 0
-ConversionStops {G} {X} w says takes reader from left first lines reported = (x : X) → Begins takes.has_failed w x reader first →
-    StopsFor reported (conversion w x reader.scanner.limit (form_of first.form)) (says.remaining from) (told says left)
-    (takes.contents first.drain.now) (takes.contents lines.drain.now) (takes.has_failed lines.drain.now)
+abbrev pub ConversionStops : {G X S D : Type 0} → Words G X Quad → source.Ghosts S → drain.Ghosts D → Driven G → Form → S → S → D → D → StreamFault → Type 0
+ConversionStops {G} {X} w says takes reader form from left old new reported = (x : X) → Starts w x reader form.style →
+    StopsFor reported (conversion w x reader.scanner.limit form) (says.remaining from) (told says left)
+    (takes.contents old) (takes.contents new) (takes.has_failed new)
 
 -- Whatever the run began with, no line that was due waited while the source was asked for more.
-abbrev pub KeepsPrompt : {G X S D A : Type 0} → Words G X Quad → source.Ghosts S → drain.Ghosts D → Driven G → S → S → LineOut D A → LineOut D A → Type 0
-KeepsPrompt {G} {X} w says takes reader from left first lines = (x : X) → Begins takes.has_failed w x reader first →
-    IsPrompt (conversion w x reader.scanner.limit (form_of first.form)) (says.remaining from) (told says left)
-    (takes.contents first.drain.now) (takes.contents lines.drain.now)
+abbrev pub KeepsPrompt : {G X S D : Type 0} → Words G X Quad → source.Ghosts S → drain.Ghosts D → Driven G → Form → S → S → D → D → Type 0
+KeepsPrompt {G} {X} w says takes reader form from left old new = (x : X) → Starts w x reader form.style →
+    IsPrompt (conversion w x reader.scanner.limit form) (says.remaining from) (told says left) (takes.contents old) (takes.contents new)

@@ -34,8 +34,16 @@ pub fn check<A: Allocator + Copy, S: Source>(
 {
     let mut job = job;
     match job.form().kind() {
-        Kind::Line(form) => check_with(alloc, line_reader(alloc, form, job.limits()), source),
-        Kind::Tree(form) => check_with(alloc, tree_reader(alloc, job.options(form)), source),
+        Kind::Line(form) => {
+            let limits = job.limits();
+            drop(job);
+            check_with(alloc, line_reader(alloc, form, limits), source)
+        }
+        Kind::Tree(form) => {
+            let options = job.options(form);
+            drop(job);
+            check_with(alloc, tree_reader(alloc, options), source)
+        }
     }
 }
 

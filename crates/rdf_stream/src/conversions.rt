@@ -1,11 +1,11 @@
 // From a document to the lines of its quads.
 
-ghost use Rattle.std.specs.Prelude.{◌≡◌, ◌<◌, ◌++◌, true, false, length, OnOk, IfOk, IfErr, IfSome};
-ghost use Rattle.rdf_stream.specs.Converting.{Begins, ConversionStops, Converts, IsConverting, IsPutting, KeepsPrompt, RunEnds, RunHalts};
+ghost use Rattle.std.specs.Prelude.{◌≡◌, ◌++◌, true, false, OnOk, IfOk, IfErr, IfSome};
+ghost use Rattle.rdf_stream.specs.Converting.{ConversionStops, Converts, IsConverting, IsPutting, KeepsPrompt, RunEnds, RunHalts, Starts};
 ghost use Rattle.rdf_stream.specs.Converts.{AcceptsAll, IsPrompt, StopsFor};
 ghost use Rattle.rdf_stream.specs.Faults.{IsRefusal};
-ghost use Rattle.rdf_stream.specs.Languages.{conversion_of};
-ghost use Rattle.rdf_stream.specs.LineOut.{OnlyGrows, SameOut};
+ghost use Rattle.rdf_stream.specs.Languages.{conversion_of, written_form};
+ghost use Rattle.rdf_stream.specs.LineOut.{OnlyGrows};
 ghost use Rattle.rdf_stream.specs.Told.{AsTold, told};
 
 use crate::devices::{Drain, Failed, Source};
@@ -43,46 +43,49 @@ pub fn convert<A: Allocator + Copy, S: Source, D: Drain>(
     ensures prompt { IsPrompt (conversion_of job) (S.remaining source.old) (told S.Source source.new)
         (D.contents drain.old) (D.contents drain.new) }
 {
-    let mut piece = piece_buffer(alloc)?;
-    let mut buffer = Vec::new(alloc);
     let mut job = job;
     match job.form().kind() {
         Kind::Line(form) => {
-            let written = job.written_form(Style::Kept);
             let reader = line_reader(alloc, form, job.limits());
-            let mut lines = LineOut::new(written, &mut buffer, drain);
-            convert_with(reader, source, piece.as_mut_slice(), &mut lines)
+            let result = convert_with(alloc, reader, Style::Kept, &job, source, drain);
+            drop(job);
+            result
         }
         Kind::Tree(form) => {
             let reader = tree_reader(alloc, job.options(form));
-            let written = job.written_form(Style::Tagged);
-            let mut lines = LineOut::new(written, &mut buffer, drain);
-            convert_with(reader, source, piece.as_mut_slice(), &mut lines)
+            let result = convert_with(alloc, reader, Style::Tagged, &job, source, drain);
+            drop(job);
+            result
         }
     }
 }
 
+// Converts what the reader reads, with blank nodes named in a style and all else that is written as the job asks.
 fn convert_with<A: Allocator + Copy, G: Passes<A>, S: Source, D: Drain>(
+    alloc: A,
     reader: Reader<G, A>,
+    style: Style,
+    job: &Job<A>,
     source: &mut S,
-    piece: &mut [u8],
-    lines: &mut LineOut<'_, D, A>,
+    drain: &mut D,
 ) -> Result<Summary, StreamFault>
-    requires begins { (x : G.Setting) × Begins D.has_failed G.words x reader lines.old }
-    requires styled { lines.old.form.style ≡ G.style }
+    requires starts { (x : G.Setting) × Starts G.words x reader style }
+    requires styled { style ≡ G.style }
     requires more { S.has_ended source.old ≡ false }
     requires source { S.has_failed source.old ≡ false }
-    requires room { 0 < length piece.old }
-    ensures accepted { IfOk result (Converts G.words S.Source D.Drain reader source.old lines.old lines.new) }
+    requires drain { D.has_failed drain.old ≡ false }
+    ensures accepted { IfOk result (Converts G.words S.Source D.Drain reader (written_form style job.now) source.old drain.old drain.new) }
     ensures ended { OnOk result (S.has_ended source.new ≡ true) }
-    ensures flushed { OnOk result (D.is_flushed lines.new.drain.now ≡ true) }
-    ensures same { SameOut lines.old lines.new }
-    ensures stops { IfErr result (ConversionStops G.words S.Source D.Drain reader source.old source.new lines.old lines.new) }
+    ensures flushed { OnOk result (D.is_flushed drain.new ≡ true) }
+    ensures stops { IfErr result (ConversionStops G.words S.Source D.Drain reader (written_form style job.now) source.old source.new drain.old drain.new) }
     ensures refused { IfErr result IsRefusal }
-    ensures prompt { KeepsPrompt G.words S.Source D.Drain reader source.old source.new lines.old lines.new }
+    ensures prompt { KeepsPrompt G.words S.Source D.Drain reader (written_form style job.now) source.old source.new drain.old drain.new }
 {
+    let mut piece = piece_buffer(alloc)?;
     let mut reader = reader;
-    read_pieces(source, piece, &mut reader, lines)
+    let mut buffer = Vec::new(alloc);
+    let mut lines = LineOut::new(job.written_form(style), &mut buffer, drain);
+    read_pieces(source, piece.as_mut_slice(), &mut reader, &mut lines)
 }
 
 impl<'a, A: Allocator + Copy, G: QuadGrammar + Passes<A>, D: Drain> Run<LineOut<'a, D, A>>

@@ -1,6 +1,6 @@
 // From a document to the lines of its tokens.
 
-ghost use Rattle.std.specs.Prelude.{◌≡◌, [], true, false, OnOk, IfOk, IfErr};
+ghost use Rattle.std.specs.Prelude.{◌≡◌, true, false, OnOk, IfOk, IfErr};
 ghost use Rattle.rdf_stream.specs.Faults.{IsRefusal};
 ghost use Rattle.rdf_stream.specs.LineOut.{SameOut};
 ghost use Rattle.rdf_stream.specs.Showing.{IsShowing, ShowEnds, ShowHalts};
@@ -38,11 +38,17 @@ pub fn show<A: Allocator + Copy, S: Source, D: Drain>(
     ensures stops { IfErr result (λ fault. AsTold (ShowStops fault job) S.Source D.Drain source.old source.new drain.old drain.new) }
     ensures refused { IfErr result IsRefusal }
 {
-    let mut buffer = Vec::new(alloc);
-    let mut lines = LineOut::new(job.written_form(Style::Kept), &mut buffer, drain);
     match dialect(job.form()) {
-        Dialect::Lines => show_in(alloc, InLines, &job, source, &mut lines),
-        Dialect::Turtle => show_in(alloc, InTurtle, &job, source, &mut lines),
+        Dialect::Lines => {
+            let result = show_in(alloc, InLines, &job, source, drain);
+            drop(job);
+            result
+        }
+        Dialect::Turtle => {
+            let result = show_in(alloc, InTurtle, &job, source, drain);
+            drop(job);
+            result
+        }
     }
 }
 
@@ -51,24 +57,24 @@ fn show_in<T: Spoken + Drop, A: Allocator + Copy, S: Source, D: Drain>(
     spoken: T,
     job: &Job<A>,
     source: &mut S,
-    lines: &mut LineOut<'_, D, A>,
+    drain: &mut D,
 ) -> Result<Summary, StreamFault>
     requires dialect { T.spoken ≡ dialect_of job.now.form }
     requires more { S.has_ended source.old ≡ false }
     requires source { S.has_failed source.old ≡ false }
-    requires none_waits { lines.old.buffer.now.items ≡ [] }
-    requires live { D.has_failed lines.old.drain.now ≡ false }
-    ensures accepted { IfOk result (ShowsAll job.now (S.remaining source.old) (D.contents lines.old.drain.now) (D.contents lines.new.drain.now)) }
+    requires drain { D.has_failed drain.old ≡ false }
+    ensures accepted { IfOk result (ShowsAll job.now (S.remaining source.old) (D.contents drain.old) (D.contents drain.new)) }
     ensures ended { OnOk result (S.has_ended source.new ≡ true) }
-    ensures flushed { OnOk result (D.is_flushed lines.new.drain.now ≡ true) }
-    ensures same { SameOut lines.old lines.new }
-    ensures stops { IfErr result (λ fault. AsTold (ShowStops fault job.now) S.Source D.Drain source.old source.new lines.old.drain.now lines.new.drain.now) }
+    ensures flushed { OnOk result (D.is_flushed drain.new ≡ true) }
+    ensures stops { IfErr result (λ fault. AsTold (ShowStops fault job.now) S.Source D.Drain source.old source.new drain.old drain.new) }
     ensures refused { IfErr result IsRefusal }
 {
     let mut piece = piece_buffer(alloc)?;
+    let mut buffer = Vec::new(alloc);
+    let mut lines = LineOut::new(job.written_form(Style::Kept), &mut buffer, drain);
     let limit = job.limits().token();
     let mut reader = Reader::new(alloc, TokenGrammar::new(spoken, limit), limit);
-    read_pieces(source, piece.as_mut_slice(), &mut reader, lines)
+    read_pieces(source, piece.as_mut_slice(), &mut reader, &mut lines)
 }
 
 impl<'a, T: Spoken + Drop, D: Drain, A: Allocator + Copy> Run<LineOut<'a, D, A>>

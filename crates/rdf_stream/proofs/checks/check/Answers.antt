@@ -13,21 +13,21 @@ returns-in-Line-clause-stops g c =
     if_err c.check_with.result _ _
     (λ reported h.
     lines_job (λ j. CheckStops reported j.language (g.S.Source.remaining c.args.source.now) (reading g.S.Source.remaining g.S.Source.last g.S.Source.has_ended g.S.Source.has_failed c.check_with.new.source)) c.args.job c.in-Line.form (search rules)
-    c.limits.result.iri (search rules) c.line_reader.result.scanner.limit (search rules) _ refl (h _ (record { lawful = lines_lawful; read = c.line_reader.ensures.read })))
+    c.limits-limits.result.iri (search rules) c.line_reader.result.scanner.limit (search rules) _ refl (h _ (record { lawful = lines_lawful; read = c.line_reader.ensures.read })))
     c.check_with.ensures.stops
 
-pub returns-clause-accepted : goal.returns-clause-accepted
-returns-clause-accepted g c =
+pub returns-in-Tree-clause-accepted : goal.returns-in-Tree-clause-accepted
+returns-in-Tree-clause-accepted g c =
     if_ok c.check_with-in-Tree.result _ _
     (λ s h.
     trees_job (λ j. IfSome (g.S.Source.remaining c.args.source.now) (λ bytes. IsAccepted j.language bytes s)) c.args.job c.in-Tree.form (search rules)
-    c.options.result (search rules) c.tree_reader.result.scanner.limit (search rules) _ refl (h _ (record { lawful = trees_lawful; read = c.tree_reader.ensures.read })))
+    c.options-options.result (search rules) c.tree_reader.result.scanner.limit (search rules) _ refl (h _ (record { lawful = trees_lawful; read = c.tree_reader.ensures.read })))
     c.check_with-in-Tree.ensures.accepted
 
-pub returns-clause-stops : goal.returns-clause-stops
-returns-clause-stops g c =
+pub returns-in-Tree-clause-stops : goal.returns-in-Tree-clause-stops
+returns-in-Tree-clause-stops g c =
     if_err c.check_with-in-Tree.result _ _
     (λ reported h.
     trees_job (λ j. CheckStops reported j.language (g.S.Source.remaining c.args.source.now) (reading g.S.Source.remaining g.S.Source.last g.S.Source.has_ended g.S.Source.has_failed c.check_with-in-Tree.new.source)) c.args.job c.in-Tree.form
-    (search rules) c.options.result (search rules) c.tree_reader.result.scanner.limit (search rules) _ refl (h _ (record { lawful = trees_lawful; read = c.tree_reader.ensures.read })))
+    (search rules) c.options-options.result (search rules) c.tree_reader.result.scanner.limit (search rules) _ refl (h _ (record { lawful = trees_lawful; read = c.tree_reader.ensures.read })))
     c.check_with-in-Tree.ensures.stops
