@@ -1,10 +1,11 @@
 // From a document to the lines of its quads.
 
 ghost use Rattle.std.specs.Prelude.{◌≡◌, ◌++◌, true, false, OnOk, IfOk, IfErr, IfSome};
+ghost use Rattle.rdf_lines.specs.Forms.{form_of};
 ghost use Rattle.rdf_stream.specs.Converting.{ConversionStops, Converts, IsConverting, IsPutting, KeepsPrompt, RunEnds, RunHalts, Starts};
 ghost use Rattle.rdf_stream.specs.Converts.{AcceptsAll, IsPrompt, StopsFor};
 ghost use Rattle.rdf_stream.specs.Faults.{IsRefusal};
-ghost use Rattle.rdf_stream.specs.Languages.{conversion_of, written_form};
+ghost use Rattle.rdf_stream.specs.Languages.{conversion_of};
 ghost use Rattle.rdf_stream.specs.LineOut.{OnlyGrows};
 ghost use Rattle.rdf_stream.specs.Told.{AsTold, told};
 
@@ -17,7 +18,7 @@ use crate::parts::{Parts, take_parts};
 use crate::passes::Passes;
 use crate::pieces::{Run, piece_buffer, read_pieces};
 use rdf_driver::{QuadGrammar, Reader, Summary};
-use rdf_lines::{LineEnding, Style, line_reader};
+use rdf_lines::{LineEnding, Style, WrittenForm, line_reader};
 use rdf_trig::tree_reader;
 use std::alloc::Allocator;
 
@@ -47,44 +48,49 @@ pub fn convert<A: Allocator + Copy, S: Source, D: Drain>(
     match job.form().kind() {
         Kind::Line(form) => {
             let reader = line_reader(alloc, form, job.limits());
-            let result = convert_with(alloc, reader, Style::Kept, &job, source, drain);
+            let result = convert_with(alloc, reader, job.written_form(Style::Kept), source, drain);
             drop(job);
             result
         }
         Kind::Tree(form) => {
             let reader = tree_reader(alloc, job.options(form));
-            let result = convert_with(alloc, reader, Style::Tagged, &job, source, drain);
+            let result = convert_with(
+                alloc,
+                reader,
+                job.written_form(Style::Tagged),
+                source,
+                drain,
+            );
             drop(job);
             result
         }
     }
 }
 
-// Converts what the reader reads, with blank nodes named in a style and all else that is written as the job asks.
+// Converts what the reader reads to lines that are written so.
 fn convert_with<A: Allocator + Copy, G: Passes<A>, S: Source, D: Drain>(
     alloc: A,
     reader: Reader<G, A>,
-    style: Style,
-    job: &Job<A>,
+    written: WrittenForm<'_>,
     source: &mut S,
     drain: &mut D,
 ) -> Result<Summary, StreamFault>
-    requires starts { (x : G.Setting) × Starts G.words x reader style }
-    requires styled { style ≡ G.style }
+    requires starts { (x : G.Setting) × Starts G.words x reader written.style }
+    requires styled { written.style ≡ G.style }
     requires more { S.has_ended source.old ≡ false }
     requires source { S.has_failed source.old ≡ false }
     requires drain { D.has_failed drain.old ≡ false }
-    ensures accepted { IfOk result (Converts G.words S.Source D.Drain reader (written_form style job.now) source.old drain.old drain.new) }
+    ensures accepted { IfOk result (Converts G.words S.Source D.Drain reader (form_of written.entry) source.old drain.old drain.new) }
     ensures ended { OnOk result (S.has_ended source.new ≡ true) }
     ensures flushed { OnOk result (D.is_flushed drain.new ≡ true) }
-    ensures stops { IfErr result (ConversionStops G.words S.Source D.Drain reader (written_form style job.now) source.old source.new drain.old drain.new) }
+    ensures stops { IfErr result (ConversionStops G.words S.Source D.Drain reader (form_of written.entry) source.old source.new drain.old drain.new) }
     ensures refused { IfErr result IsRefusal }
-    ensures prompt { KeepsPrompt G.words S.Source D.Drain reader (written_form style job.now) source.old source.new drain.old drain.new }
+    ensures prompt { KeepsPrompt G.words S.Source D.Drain reader (form_of written.entry) source.old source.new drain.old drain.new }
 {
     let mut piece = piece_buffer(alloc)?;
     let mut reader = reader;
     let mut buffer = Vec::new(alloc);
-    let mut lines = LineOut::new(job.written_form(style), &mut buffer, drain);
+    let mut lines = LineOut::new(written, &mut buffer, drain);
     read_pieces(source, piece.as_mut_slice(), &mut reader, &mut lines)
 }
 
