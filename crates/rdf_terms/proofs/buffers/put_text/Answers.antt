@@ -1,0 +1,6 @@
+-- The text was emptied, so what is pushed is all of it.
+use Rattle.std.proofs.Common.{rules}
+use Rattle.rdf_terms.proofs.buffers.put_text.Goals as goal
+
+pub returns : goal.returns
+returns g c = search rules
