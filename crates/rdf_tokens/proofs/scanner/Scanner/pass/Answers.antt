@@ -1,6 +1,0 @@
--- The lines are counted on by the line feeds of what is passed.
-use Rattle.std.proofs.Common.{rules}
-use Rattle.rdf_tokens.proofs.scanner.Scanner.pass.Goals as goal
-
-pub returns : goal.returns
-returns g c = search rules
