@@ -43,7 +43,9 @@ fn invalid(alloc: Global, reason: &str) -> Result<Error, AllocError>
     ensures { IfOk result (λ error. kind_of error ≡ ErrorKind.InvalidValue) }
 {
     let mut command = program(alloc, FORMATS.as_slice())?;
-    command.error(ErrorKind::InvalidValue, reason)
+    let error = command.error(ErrorKind::InvalidValue, reason);
+    drop(command);
+    error
 }
 
 fn command_by<'a>(
@@ -58,7 +60,9 @@ fn command_by<'a>(
 {
     let matches = program(alloc, formats)?.try_get_matches_from(words)?;
     let (name, found) = matches.subcommand().unwrap();
-    task_of(alloc, name, found)
+    let task = task_of(alloc, name, found);
+    drop(matches);
+    task
 }
 
 fn task_of(alloc: Global, name: &str, found: &ArgMatches<'_>) -> Result<Task, WordsFault>

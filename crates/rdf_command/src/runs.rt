@@ -139,7 +139,7 @@ fn prefixes_line(alloc: Global, line: u64) -> Result<Vec<u8>, AllocError>
     ensures { IfOk result (λ text. text.items ≡ prefixes_text line) }
 {
     let mut text = Vec::from_slice(alloc, b"rdfconv: bad prefixes at line ")?;
-    text.extend_from_slice(Buffer::new().format(line).as_bytes())?;
+    put_number(line, &mut text)?;
     text.extend_from_slice(b"\n")?;
     Ok(text)
 }
@@ -212,12 +212,26 @@ fn check_to<S: Source, O: Drain>(
 fn accepted_line(alloc: Global, summary: Summary) -> Result<Vec<u8>, AllocError>
     ensures { IfOk result (λ text. text.items ≡ accepted_text summary) }
 {
-    let mut text = Vec::from_slice(alloc, b"accepted, ")?;
-    text.extend_from_slice(Buffer::new().format(summary.quads).as_bytes())?;
-    text.extend_from_slice(b" quads, ")?;
-    text.extend_from_slice(Buffer::new().format(summary.bytes).as_bytes())?;
-    text.extend_from_slice(b" bytes\n")?;
+    let mut text = Vec::new(alloc);
+    put_accepted(summary, &mut text)?;
     Ok(text)
+}
+
+fn put_accepted(summary: Summary, text: &mut Vec<u8>) -> Result<(), AllocError>
+    requires { text.old.items ≡ [] }
+    ensures { OnOk result (text.new.items ≡ accepted_text summary) }
+{
+    text.extend_from_slice(b"accepted, ")?;
+    put_number(summary.quads, text)?;
+    text.extend_from_slice(b" quads, ")?;
+    put_number(summary.bytes, text)?;
+    text.extend_from_slice(b" bytes\n")
+}
+
+fn put_number(number: u64, text: &mut Vec<u8>) -> Result<(), AllocError>
+    ensures { OnOk result (text.new.items ≡ text.old.items ++ decimal number) }
+{
+    text.extend_from_slice(Buffer::new().format(number).as_bytes())
 }
 
 // Writes the bytes, and sends them on.
