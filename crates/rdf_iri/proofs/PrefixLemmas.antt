@@ -1,4 +1,4 @@
--- A row of prefixes and the others behind it are one list: what is bound in it, how a prefix is set, and what all texts have.
+-- A row of prefixes and the others after it are one list: what is bound in it, how a prefix is set, and what all texts have.
 use Rattle.std.proofs.Common.{◌≡◌, ◌≤◌, ◌<◌, ◌+◌, ◌*◌, ℕ, suc, Bool, true, false, cond, List, [], ◌∷◌, ◌++◌, length, take, drop, get_or, Option, Some, None, refl, sym, ap, ap₂, ◌∙◌, subst, append_assoc, ⊎_elim, arith, add-one, length-append}
 use Rattle.std.proofs.Math.ListN.{set}
 use native.Mathlib.Nat.{mul-add, mul_comm}
@@ -23,7 +23,7 @@ use Rattle.rdf_iri.proofs.TextsLemmas.{equal-true, equal-self}
 use Rattle.rdf_iri.specs.Limits.{Sizes}
 use Rattle.rdf_iri.proofs.ScopeLemmas.{swapped, some_not, same_text, length-entries_of}
 
--- where a prefix is not bound, the first has another, and it is not bound behind it
+-- where a prefix is not bound, the first has another, and it is not bound after it
 parted : (e : List ℕ × List ℕ) (es : List (List ℕ × List ℕ)) (q : List ℕ) → bound_to (e ∷ es) q ≡ None → (equal q e.0 ≡ false) × (bound_to es q ≡ None)
 parted e es q h =
     ⊎_elim
@@ -31,19 +31,19 @@ parted e es q h =
     (λ (f : equal q e.0 ≡ false). (f, sym (cond-false (equal q e.0) (Some e.1) (bound_to es q) f) ∙ h))
     (cases_Bool (equal q e.0))
 
--- what is not bound in front is bound as it is behind
-pub bound_to-behind : (xs ys : List (List ℕ × List ℕ)) (q : List ℕ) → bound_to xs q ≡ None → bound_to (xs ++ ys) q ≡ bound_to ys q
-bound_to-behind [] ys q h = refl
-bound_to-behind (e ∷ xs) ys q h =
+-- what is not bound in front is bound as it is after it
+pub bound_to-after : (xs ys : List (List ℕ × List ℕ)) (q : List ℕ) → bound_to xs q ≡ None → bound_to (xs ++ ys) q ≡ bound_to ys q
+bound_to-after [] ys q h = refl
+bound_to-after (e ∷ xs) ys q h =
     let p = parted e xs q h in
-    cond-false (equal q e.0) (Some e.1) (bound_to (xs ++ ys) q) p.0 ∙ bound_to-behind xs ys q p.1
+    cond-false (equal q e.0) (Some e.1) (bound_to (xs ++ ys) q) p.0 ∙ bound_to-after xs ys q p.1
 
 -- a prefix that stands in the row is bound
 pub bound_to-there : (row others : List (List ℕ × List ℕ)) (p : List ℕ) (i : ℕ) (s : StandsAt row p i) → bound_to (row ++ others) p ≡ Some s.iri
 bound_to-there row others p i s =
     ap (λ (r : List (List ℕ × List ℕ)). bound_to (r ++ others) p) s.there
     ∙ (ap (λ (r : List (List ℕ × List ℕ)). bound_to r p) (append_assoc s.front ((p, s.iri) ∷ s.rest) others)
-    ∙ (bound_to-behind s.front ((p, s.iri) ∷ (s.rest ++ others)) p s.before
+    ∙ (bound_to-after s.front ((p, s.iri) ∷ (s.rest ++ others)) p s.before
     ∙ cond-true (equal p p) (Some s.iri) (bound_to (s.rest ++ others) p) (equal-self p)))
 
 -- another entry in front changes nothing
@@ -59,12 +59,12 @@ passed q e o n p iri k h =
     cond-false (equal q e.0) (Some e.1) n f ∙ (h ∙ ap (λ (x : Option (List ℕ)). cond (equal p q) (Some iri) x) (sym (cond-false (equal q e.0) (Some e.1) o f))))
     (cases_Bool (equal q e.0))
 
--- what is set behind entries with other prefixes is set in all
-pub Sets-behind : (front old new : List (List ℕ × List ℕ)) (p iri : List ℕ) → bound_to front p ≡ None → Sets old p iri new → Sets (front ++ old) p iri (front ++ new)
-Sets-behind [] old new p iri h s = s
-Sets-behind (e ∷ f) old new p iri h s =
+-- what is set after entries with other prefixes is set in all
+pub Sets-after : (front old new : List (List ℕ × List ℕ)) (p iri : List ℕ) → bound_to front p ≡ None → Sets old p iri new → Sets (front ++ old) p iri (front ++ new)
+Sets-after [] old new p iri h s = s
+Sets-after (e ∷ f) old new p iri h s =
     let k = parted e f p h in
-    let r = Sets-behind f old new p iri k.1 s in
+    let r = Sets-after f old new p iri k.1 s in
     let same : ◌≡◌ {A = ℕ} (cond (is_some (bound_to (e ∷ (f ++ old)) p)) 0 1) (cond (is_some (bound_to (f ++ old) p)) 0 1) =
     ap {B = ℕ} (λ (o : Option (List ℕ)). cond (is_some o) 0 1) (cond-false (equal p e.0) (Some e.1) (bound_to (f ++ old) p) k.0) in
     let count = r.count in
@@ -94,16 +94,16 @@ Sets-new : (p iri : List ℕ) → Sets [] p iri ((p, iri) ∷ [])
 Sets-new p iri = record { bound = λ q. ap (λ (b : Bool). cond b (Some iri) None) (swapped q p); count = omega arith }
 
 -- so no prefix stands twice after it, if none did
-KeptApart-behind : (front xs ys os ns : List (List ℕ × List ℕ)) (p iri : List ℕ) → bound_to front p ≡ None → Sets (xs ++ os) p iri (ys ++ ns) →
+KeptApart-after : (front xs ys os ns : List (List ℕ × List ℕ)) (p iri : List ℕ) → bound_to front p ≡ None → Sets (xs ++ os) p iri (ys ++ ns) →
     KeptApart ys ns → KeptApart (front ++ xs) os → KeptApart (front ++ ys) ns
-KeptApart-behind [] xs ys os ns p iri h s k a = k
-KeptApart-behind (e ∷ f) xs ys os ns p iri h s k a =
+KeptApart-after [] xs ys os ns p iri h s k a = k
+KeptApart-after (e ∷ f) xs ys os ns p iri h s k a =
     let t = parted e f p h in
     let n : bound_to (f ++ (ys ++ ns)) e.0 ≡ None =
-    (Sets-behind f (xs ++ os) (ys ++ ns) p iri t.1 s).bound e.0
+    (Sets-after f (xs ++ os) (ys ++ ns) p iri t.1 s).bound e.0
     ∙ (cond-false (equal p e.0) (Some iri) (bound_to (f ++ (xs ++ os)) e.0) t.0
     ∙ (ap (λ (r : List (List ℕ × List ℕ)). bound_to r e.0) (sym (append_assoc f xs os)) ∙ a.0)) in
-    (ap (λ (r : List (List ℕ × List ℕ)). bound_to r e.0) (append_assoc f ys ns) ∙ n, KeptApart-behind f xs ys os ns p iri t.1 s k a.1)
+    (ap (λ (r : List (List ℕ × List ℕ)). bound_to r e.0) (append_assoc f ys ns) ∙ n, KeptApart-after f xs ys os ns p iri t.1 s k a.1)
 
 KeptApart-rest : (front xs os : List (List ℕ × List ℕ)) → KeptApart (front ++ xs) os → KeptApart xs os
 KeptApart-rest [] xs os a = a
@@ -120,34 +120,34 @@ Sets-anew row others p iri i s =
     let to : anew s iri ++ others ≡ s.front ++ ((p, iri) ∷ (s.rest ++ others)) = append_assoc s.front ((p, iri) ∷ s.rest) others in
     subst (λ (o : List (List ℕ × List ℕ)). Sets o p iri (anew s iri ++ others)) (sym from)
     (subst (λ (n : List (List ℕ × List ℕ)). Sets (s.front ++ ((p, s.iri) ∷ (s.rest ++ others))) p iri n) (sym to)
-    (Sets-behind s.front ((p, s.iri) ∷ (s.rest ++ others)) ((p, iri) ∷ (s.rest ++ others)) p iri s.before (Sets-at p s.iri iri (s.rest ++ others))))
+    (Sets-after s.front ((p, s.iri) ∷ (s.rest ++ others)) ((p, iri) ∷ (s.rest ++ others)) p iri s.before (Sets-at p s.iri iri (s.rest ++ others))))
 
 pub KeptApart-anew : (row others : List (List ℕ × List ℕ)) (p iri : List ℕ) (i : ℕ) (s : StandsAt row p i) → KeptApart row others → KeptApart (anew s iri) others
 KeptApart-anew row others p iri i s a =
     let b = subst (λ (r : List (List ℕ × List ℕ)). KeptApart r others) s.there a in
     let c = KeptApart-rest s.front ((p, s.iri) ∷ s.rest) others b in
-    KeptApart-behind s.front ((p, s.iri) ∷ s.rest) ((p, iri) ∷ s.rest) others others p iri s.before (Sets-at p s.iri iri (s.rest ++ others)) (c.0, c.1) b
+    KeptApart-after s.front ((p, s.iri) ∷ s.rest) ((p, iri) ∷ s.rest) others others p iri s.before (Sets-at p s.iri iri (s.rest ++ others)) (c.0, c.1) b
 
 -- the row with a new prefix at its end, where there are no others
 pub Sets-pushed : (row others : List (List ℕ × List ℕ)) (p iri : List ℕ) → others ≡ [] → bound_to row p ≡ None → Sets (row ++ others) p iri ((row ++ (p, iri) ∷ []) ++ others)
 Sets-pushed row others p iri e h =
     subst (λ (os : List (List ℕ × List ℕ)). Sets (row ++ os) p iri ((row ++ (p, iri) ∷ []) ++ os)) (sym e)
     (subst (λ (n : List (List ℕ × List ℕ)). Sets (row ++ []) p iri n) (sym (append-nil (row ++ (p, iri) ∷ [])))
-    (Sets-behind row [] ((p, iri) ∷ []) p iri h (Sets-new p iri)))
+    (Sets-after row [] ((p, iri) ∷ []) p iri h (Sets-new p iri)))
 
 pub KeptApart-pushed : (row others : List (List ℕ × List ℕ)) (p iri : List ℕ) → others ≡ [] → bound_to row p ≡ None → KeptApart row others → KeptApart (row ++ (p, iri) ∷ []) others
 KeptApart-pushed row others p iri e h a =
     subst (λ (os : List (List ℕ × List ℕ)). KeptApart (row ++ (p, iri) ∷ []) os) (sym e)
-    (KeptApart-behind row [] ((p, iri) ∷ []) [] [] p iri h (Sets-new p iri) (refl, tt)
+    (KeptApart-after row [] ((p, iri) ∷ []) [] [] p iri h (Sets-new p iri) (refl, tt)
     (subst (λ (r : List (List ℕ × List ℕ)). KeptApart r []) (sym (append-nil row)) (subst (KeptApart row) e a)))
 
 -- the others with a prefix set that is not in the row
 pub KeptApart-others : (row old new : List (List ℕ × List ℕ)) (p iri : List ℕ) → bound_to row p ≡ None → Sets old p iri new → KeptApart row old → KeptApart row new
 KeptApart-others row old new p iri h s a =
     subst (λ (r : List (List ℕ × List ℕ)). KeptApart r new) (append-nil row)
-    (KeptApart-behind row [] [] old new p iri h s tt (subst (λ (r : List (List ℕ × List ℕ)). KeptApart r old) (sym (append-nil row)) a))
+    (KeptApart-after row [] [] old new p iri h s tt (subst (λ (r : List (List ℕ × List ℕ)). KeptApart r old) (sym (append-nil row)) a))
 
--- what is bound behind a row is so in all
+-- what is bound after a row is so in all
 pub bound_to-apart : (row others : List (List ℕ × List ℕ)) → KeptApart row others → (q iri : List ℕ) → bound_to others q ≡ Some iri → bound_to (row ++ others) q ≡ Some iri
 bound_to-apart [] others a q iri h = h
 bound_to-apart (e ∷ row) others a q iri h =
@@ -177,7 +177,7 @@ row_within (e ∷ row) others most a f =
         (λ (g : equal q e.0 ≡ false). cond-false (equal q e.0) (Some e.1) (bound_to (row ++ others) q) g ∙ h)
         (cases_Bool (equal q e.0))
 
--- entries of a row with more behind it
+-- entries of a row with more after it
 pub entries_of-append : {Z : Type 0} (es fs : List (String Z × List ℕ)) → entries_of (es ++ fs) ≡ entries_of es ++ entries_of fs
 entries_of-append [] fs = refl
 entries_of-append (e ∷ es) fs = ap (λ (x : List (List ℕ × List ℕ)). (chars (string_bytes e.0), e.1) ∷ x) (entries_of-append es fs)
@@ -223,7 +223,7 @@ goes_on row i r q l e u f h =
     ap (λ (n : ℕ). bound_to (entries_of (take n row)) (chars q)) (add-one i)
     ∙ (ap (λ x. bound_to (entries_of x) (chars q)) (take-suc row i r l)
     ∙ (ap (λ (x : List (List ℕ × List ℕ)). bound_to x (chars q)) (entries_of-append (take i row) (get_or row i r ∷ []))
-    ∙ (bound_to-behind (entries_of (take i row)) (entries_of (get_or row i r ∷ [])) (chars q) h ∙ one)))
+    ∙ (bound_to-after (entries_of (take i row)) (entries_of (get_or row i r ∷ [])) (chars q) h ∙ one)))
 
 -- what stands at a place is within the row
 pub place_within : {Z : Type 0} (row : List (String Z × List ℕ)) (p : List ℕ) (i : ℕ) (s : StandsAt (entries_of row) p i) → i < length row

@@ -27,9 +27,10 @@ use std::marker::Model;
 /// The greatest number of bytes in a document.
 const MOST_BYTES: u64 = 0x7fff_ffff_ffff_ffff;
 
-/// The number of bytes that are taken at once at most, and where the limit is low.
+/// The number of bytes that are taken at once at most.
 const MOST_AT_ONCE: u64 = 65536;
 
+/// The same where the limit is low.
 const LEAST_AT_ONCE: u64 = 512;
 
 /// The number of bytes for which memory stays where it is given back.
@@ -136,9 +137,10 @@ impl<A: Allocator + Copy> Scanner<A> {
         }
     }
 
-    /// Takes the bytes of the piece that there is room for, and answers how many: at most 65,536 at once, and fewer where the limit is low. After a `next` that answered `None` they are at least
-    /// one of a piece that is not empty. After a stop and after `end` it answers `Ended`. A document has at most 2^63 - 1 bytes: for a
-    /// piece after them it answers `DocumentTooLong`. After that, and after `Memory`, the scanner is stopped.
+    /// Takes the bytes of the piece that there is room for, and answers how many: at most 65,536 at once, and fewer where the limit is low.
+    /// After a `next` that answered `None` they are at least one of a piece that is not empty. After a stop and after `end` it answers `Ended`.
+    /// A document has at most 2^63 - 1 bytes: for a piece after them it answers `DocumentTooLong`. After that, and after `Memory`, the scanner
+    /// is stopped.
     pub fn push(&mut self, piece: &[u8]) -> Result<usize, Fault>
         ensures { Pushes self.old piece.now result self.new }
     {
@@ -508,8 +510,8 @@ impl<A: Allocator + Copy> Scanner<A> {
     }
 }
 
-/// The most bytes of a piece that are taken at once. Most tokens are recognized at once only in a text that has no more bytes than the limit on their
-/// characters, so half of them are taken, or 512.
+/// The most bytes of a piece that are taken at once. Most tokens are recognized at once only in a text that has no more bytes than the limit
+/// on their characters, so half of them are taken, or 512.
 fn at_once(limit: u64) -> usize
     ensures { result ≡ at_once limit }
 {

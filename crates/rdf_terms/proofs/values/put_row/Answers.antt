@@ -1,4 +1,4 @@
--- Each escape of the row was put behind those before it.
+-- Each escape of the row was put after those before it.
 use Rattle.std.proofs.Common.{◌≤◌, IsUtf8, ap, arith, drop, length, refl, subst, sym}
 use Rattle.std.specs.String.{string_bytes}
 use Rattle.std.proofs.lemmas.Str.{IsUtf8-string_bytes}

@@ -4,7 +4,7 @@ use Rattle.std.specs.Str.{chars}
 use Rattle.rdf_iri.specs.Scope.{entries_of, bound_to}
 use Rattle.rdf_iri.specs.Prefixes.{StandsAt}
 use Rattle.rdf_iri.proofs.ScopeLemmas.{bound_to-text}
-use Rattle.rdf_iri.proofs.PrefixLemmas.{place_within, bound_to-there, bound_to-behind, iri_there, text_copied}
+use Rattle.rdf_iri.proofs.PrefixLemmas.{place_within, bound_to-there, bound_to-after, iri_there, text_copied}
 use Rattle.rdf_iri.proofs.prefixes.Prefixes.get.Goals as goal
 
 pub index-requires : goal.index-requires
@@ -32,4 +32,4 @@ returns-in-None g c =
     text_copied c.get.result
     ∙ (c.get.ensures.value
     ∙ (sym (bound_to-text others p c.utf8.prefix)
-    ∙ (sym (bound_to-behind (entries_of row) (entries_of others.entries) (chars p) new) ∙ ap (λ (x : List (List ℕ × List ℕ)). bound_to x (chars p)) c.self.view_is)))
+    ∙ (sym (bound_to-after (entries_of row) (entries_of others.entries) (chars p) new) ∙ ap (λ (x : List (List ℕ × List ℕ)). bound_to x (chars p)) c.self.view_is)))

@@ -6,7 +6,7 @@ use Rattle.std.specs.Str.{chars}
 use Rattle.rdf_iri.specs.Scope.{entries_of, bound_to}
 use Rattle.rdf_iri.specs.Prefixes.{KeptApart, StandsAt, Sets}
 use Rattle.rdf_iri.proofs.ScopeLemmas.{Sets-inserted}
-use Rattle.rdf_iri.proofs.PrefixLemmas.{place_within, key_there, entries_of-anew, entries_of-append, Sets-behind, Sets-anew, Sets-pushed, KeptApart-anew, KeptApart-pushed, KeptApart-others}
+use Rattle.rdf_iri.proofs.PrefixLemmas.{place_within, key_there, entries_of-anew, entries_of-append, Sets-after, Sets-anew, Sets-pushed, KeptApart-anew, KeptApart-pushed, KeptApart-others}
 use Rattle.rdf_iri.proofs.prefixes.Prefixes.set.Goals as goal
 
 pub index_mut-requires : goal.index_mut-requires
@@ -80,5 +80,5 @@ returns-clause-set g c =
     let i = c.in_ok-insert.ensures in
     let new : bound_to (entries_of row) (chars p) ≡ None = subst (λ r. bound_to (entries_of r) (chars p) ≡ None) c.deref.ensures.value c.in_default.ensures in
     subst (λ (o : List (List ℕ × List ℕ)). Sets o (chars p) c.args.iri (entries_of row ++ entries_of c.insert.new.self.entries)) c.self.view_is
-    (Sets-behind (entries_of row) _ _ (chars p) c.args.iri new
+    (Sets-after (entries_of row) _ _ (chars p) c.args.iri new
     (Sets-inserted c.self.inside.others c.insert.new.self c.in_ok-key.key p c.args.iri _ c.in_ok-key.ensures.ok c.utf8.prefix i.updates i.old i.len))

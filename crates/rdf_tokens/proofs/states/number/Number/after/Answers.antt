@@ -1,6 +1,0 @@
--- No exponent goes on with what is no digit and no sign.
-use Rattle.std.proofs.Common.{rules}
-use Rattle.rdf_tokens.proofs.states.number.Number.after.Goals as goal
-
-pub returns-in_default-3 : goal.returns-in_default-3
-returns-in_default-3 c = search rules
