@@ -1,5 +1,5 @@
 -- A whole conversion, from what its run has done.
-use Rattle.std.proofs.Common.{◌≡◌, ℕ, Bool, true, false, List, [], ◌∷◌, ◌++◌, Option, IfSome, refl, sym, ap, subst, ⊎_elim, arith}
+use Rattle.std.proofs.Common.{◌≡◌, ℕ, Bool, true, false, List, [], ◌∷◌, ◌++◌, Option, IfSome, refl, sym, ap, subst, ◌∙◌, ⊎_elim, arith}
 use Rattle.std.proofs.KnownBytes.{Appends-nil, Consumes-nil, Consumes-whole}
 use Rattle.rdf_terms.specs.declared.reason.Reason.{Reason}
 use Rattle.rdf_terms.specs.declared.reason.Reason.TheVariants as reason
@@ -23,6 +23,7 @@ use Rattle.rdf_stream.specs.Faults.{IsOfDocument, IsRefusal}
 use Rattle.rdf_lines.specs.declared.form.LineForm.{LineForm}
 use Rattle.rdf_lines.specs.declared.form.Style.{Style}
 use Rattle.rdf_lines.specs.declared.form.Style.TheVariants.{Kept, Tagged}
+use Rattle.rdf_lines.specs.declared.form.WrittenForm.{WrittenForm}
 use Rattle.rdf_lines.specs.Accepting.{line_words}
 use Rattle.rdf_trig.specs.declared.form.DocForm.{DocForm}
 use Rattle.rdf_trig.specs.Accepting.{tree_words}
@@ -32,12 +33,7 @@ use Rattle.rdf_stream.specs.Jobs.{JobRead}
 use Rattle.rdf_lines.specs.Forms.{form_of}
 use Rattle.rdf_lines.specs.NodePrefixes.{Form}
 use Rattle.rdf_stream.specs.Kinds.{kind_of}
-use Rattle.rdf_stream.specs.Languages.{Conversion, conversion, conversion_by, conversion_of, language_of, tree_job, written_form}
-use Rattle.rdf_stream.specs.declared.form.Kind.{Kind}
-use Rattle.rdf_lines.specs.Machine.{Begin}
-use Rattle.rdf_lines.proofs.AcceptingLemmas.{lawful as lines_lawful}
-use Rattle.rdf_trig.specs.Machine.{at_start}
-use Rattle.rdf_trig.proofs.machine.ExactDocuments.{due_ran}
+use Rattle.rdf_stream.specs.Languages.{Conversion, conversion, conversion_by, conversion_of, tree_job, written_form}
 use Rattle.rdf_stream.specs.LineOut.{OnlyGrows}
 use Rattle.rdf_stream.specs.Pieces.{ReadStops, ReadsAll, SourceFails, TakenBefore}
 use Rattle.rdf_lines.proofs.NodePrefixLemmas.{IsNodePrefix-had}
@@ -96,6 +92,22 @@ halts_stops stream.Read job ends known left old new write_failed given h = absur
 halts_stops stream.Write job ends known left old new write_failed given h = (h.0, given, h.1)
 halts_stops stream.Memory job ends known left old new write_failed given h = (h.0, given, h.1)
 
+-- what holds of a drain as it was and as it is, by other names
+pub by_drains : {D : Type 0} (P : D → D → Type 0) (was is was' is' : D) → was ≡ was' → is ≡ is' → P was is → P was' is'
+by_drains P was is was' is' o n h = subst (λ d. P was' d) n (subst (λ d. P d is) o h)
+
+-- lines of this form, of which none waits, over a drain that has not failed
+pub record AreFresh {D A : Type 0} (failed : D → Bool) (asked : Form) (lines : LineOut D A) (old : D) : Type 0 where
+  pub form : form_of lines.form ≡ asked
+  pub none_waits : lines.buffer.now.items ≡ []
+  pub drain : lines.drain.now ≡ old
+  pub live : failed old ≡ false
+
+-- so are those over an empty buffer
+pub over_empty : {D A : Type 0} (failed : D → Bool) (written : WrittenForm) (lines : LineOut D A) (waiting : List ℕ) (old : D) →
+    lines.form ≡ written → lines.buffer.now.items ≡ waiting → waiting ≡ [] → lines.drain.now ≡ old → failed old ≡ false → AreFresh failed (form_of written) lines old
+over_empty failed written lines waiting old f b e d l = record { form = ap form_of f; none_waits = b ∙ e; drain = d; live = l }
+
 module _ {G X D : Type 0} (A : Type 0) (contents : D → Option (List ℕ)) (failed flushed : D → Bool) (w : Words G X Quad) (style : Style) where
   -- a reader, and its lines
   abbrev pub R : Type 0
@@ -130,33 +142,35 @@ module _ {G X D : Type 0} (A : Type 0) (contents : D → Option (List ℕ)) (fai
     };
   }
 
-  module _ (x : X) (limit : ℕ) (form : Form) (first now : R) (same_limit : first.0.scanner.limit ≡ limit) (same_form : form_of first.1.form ≡ form) (b : Begins failed w x first.0 first.1)
+  -- a run over fresh lines begins
+  pub begun_fresh : (x : X) (form : Form) (first : R) (old : D) → AreFresh failed form first.1 old → Starts w x first.0 form.style → Begins failed w x first.0 first.1
+  begun_fresh x form first old f s = record { starts = subst (λ a. Starts w x first.0 a.style) (sym f.form) s; none_waits = f.none_waits; live = ap failed f.drain ∙ f.live }
+
+  -- a run over such lines, from the drain as it was to the drain as it is
+  module _ (x : X) (form : Form) (first now : R) (old new : D) (fresh : AreFresh failed form first.1 old) (is : now.1.drain.now ≡ new) (starts : Starts w x first.0 form.style)
       (known : Option (List ℕ)) (left : Reading) where
+    abbrev b : Begins failed w x first.0 first.1
+    b = begun_fresh x form first old fresh starts
+
     abbrev job : Conversion
-    job = conversion w x limit form
+    job = conversion w x first.0.scanner.limit form
 
-    abbrev old : Option (List ℕ)
-    old = contents first.1.drain.now
+    -- by the form that was asked for, and the names of the drain
+    asked : (P : Form → D → D → Type 0) → P (form_of first.1.form) first.1.drain.now now.1.drain.now → P form old new
+    asked P h = by_drains (P form) _ _ old new fresh.drain is (subst (λ f. P f first.1.drain.now now.1.drain.now) fresh.form h)
 
-    abbrev new : Option (List ℕ)
-    new = contents now.1.drain.now
-
-    -- by the limit and the form that were asked for
-    asked : (P : ℕ → Form → Type 0) → P first.0.scanner.limit (form_of first.1.form) → P limit form
-    asked P h = subst (λ f. P limit f) same_form (subst (λ n. P n (form_of first.1.form)) same_limit h)
-
-    pub converted : (s : Summary) → ReadsAll Ended known left s first now → IfSome known (λ bytes. Accepts job bytes old new s)
+    pub converted : (s : Summary) → ReadsAll Ended known left s first now → IfSome known (λ bytes. Accepts job bytes (contents old) (contents new) s)
     converted s h =
-        Consumes-whole known left.remaining h.bytes (λ bytes. Accepts job bytes old new s) h.consumed h.at_end (asked (λ n s'. Accepts (conversion w x n s') h.bytes old new s) (h.is_end.accepts x b))
+        Consumes-whole known left.remaining h.bytes (λ bytes. Accepts job bytes (contents old) (contents new) s) h.consumed h.at_end
+        (asked (λ f o n. Accepts (conversion w x first.0.scanner.limit f) h.bytes (contents o) (contents n) s) (h.is_end.accepts x b))
 
     -- the lines of all quads that are due in the bytes that were taken were written
-    writes_taken : (bytes : List ℕ) (at : R) → Taken first bytes at → WritesDue job (reading_of job.language bytes false).tokens old (contents at.1.drain.now)
+    writes_taken : (bytes : List ℕ) (at : R) → Taken first bytes at → WritesDue job (reading_of job.language bytes false).tokens (contents first.1.drain.now) (contents at.1.drain.now)
     writes_taken bytes at t =
         let o = t.handed x b in
         let n = at.0.scanner.limit in
-        let here = contents at.1.drain.now in
-        asked (λ k s. WritesDue (conversion w x k s) (reading_of (in_words w x k) bytes false).tokens old here)
-        (subst (λ k. WritesDue (conversion w x k (form_of first.1.form)) (reading_of (in_words w x k) bytes false).tokens old here) t.limit
+        subst (λ f. WritesDue (conversion w x first.0.scanner.limit f) (reading_of job.language bytes false).tokens (contents first.1.drain.now) (contents at.1.drain.now)) fresh.form
+        (subst (λ k. WritesDue (conversion w x k (form_of first.1.form)) (reading_of (in_words w x k) bytes false).tokens (contents first.1.drain.now) (contents at.1.drain.now)) t.limit
         (record {
           quads = o.quads;
           due = b.starts.convertible.lawful.due at.0.grammar x (reading_of (in_words w x n) bytes false).tokens o.quads o.read.reached;
@@ -165,19 +179,21 @@ module _ {G X D : Type 0} (A : Type 0) (contents : D → Option (List ℕ)) (fai
         }))
 
     -- those that are due in the bytes before the last fill were written then
-    pub prompt : TakenBefore Taken Stays known left first now → IsPrompt job known left old new
-    prompt h = record {
-      before = h.before;
-      piece = h.piece;
-      consumed = h.consumed;
-      few = h.few;
-      at_fill = contents h.at_fill.1.drain.now;
-      writes = writes_taken h.before h.at_fill h.is_taken;
-      grows = (h.stays_on h.at_fill (grows_none contents h.at_fill.1)).grows;
-    }
+    pub prompt : TakenBefore Taken Stays known left first now → IsPrompt job known left (contents old) (contents new)
+    prompt h =
+        by_drains (λ o n. IsPrompt job known left (contents o) (contents n)) _ _ old new fresh.drain is
+        (record {
+          before = h.before;
+          piece = h.piece;
+          consumed = h.consumed;
+          few = h.few;
+          at_fill = contents h.at_fill.1.drain.now;
+          writes = writes_taken h.before h.at_fill h.is_taken;
+          grows = (h.stays_on h.at_fill (grows_none contents h.at_fill.1)).grows;
+        })
 
     -- the source failed
-    broke : SourceFails Taken known left first now → StopsFor stream.Read job known left old new (failed now.1.drain.now)
+    broke : SourceFails Taken known left first now → StopsFor stream.Read job known left (contents first.1.drain.now) (contents now.1.drain.now) (failed now.1.drain.now)
     broke h =
         let o = h.is_taken.handed x b in
         let law = b.starts.convertible.lawful in (
@@ -185,33 +201,26 @@ module _ {G X D : Type 0} (A : Type 0) (contents : D → Option (List ℕ)) (fai
           record {
             bytes = h.bytes;
             consumed = h.consumed;
-            goes_on = asked (λ k s. GoesOn (in_words w x k) h.bytes) (subst (λ k. GoesOn (in_words w x k) h.bytes) h.is_taken.limit (read_goes_on w law now.0 x h.bytes o.quads o.read));
+            goes_on = subst (λ k. GoesOn (in_words w x k) h.bytes) h.is_taken.limit (read_goes_on w law now.0 x h.bytes o.quads o.read);
             writes = writes_taken h.bytes now h.is_taken;
           },
         )
 
-    pub stopped : (reported : StreamFault) → ReadStops Taken Halted reported known left first now →
-        StopsFor reported job known left old new (failed now.1.drain.now)
+    pub stopped : (reported : StreamFault) → ReadStops Taken Halted reported known left first now → StopsFor reported job known left (contents old) (contents new) (failed new)
     stopped reported h =
-        ⊎_elim (λ p. subst (λ t. StopsFor t job known left old new (failed now.1.drain.now)) (sym p.0) (broke p.1))
+        by_drains (λ o n. StopsFor reported job known left (contents o) (contents n) (failed n)) _ _ old new fresh.drain is
+        (⊎_elim (λ p. subst (λ t. StopsFor t job known left (contents first.1.drain.now) (contents now.1.drain.now) (failed now.1.drain.now)) (sym p.0) (broke p.1))
         (λ p.
-        halts_stops reported job (b.starts.convertible.lawful.ends x) known left old new (failed now.1.drain.now) p.0
-        (asked (λ n s. HaltsFor reported (conversion w x n s) p.0.bytes left.has_ended old new (failed now.1.drain.now)) (p.1.halts x b)))
-        h
+        halts_stops reported job (b.starts.convertible.lawful.ends x) known left (contents first.1.drain.now) (contents now.1.drain.now) (failed now.1.drain.now) p.0
+        (subst (λ f. HaltsFor reported (conversion w x first.0.scanner.limit f) p.0.bytes left.has_ended (contents first.1.drain.now) (contents now.1.drain.now) (failed now.1.drain.now)) fresh.form (p.1.halts x b)))
+        h)
 
     pub refused_document : (reported : StreamFault) → ReadStops Taken Halted reported known left first now → IsRefusal reported
     refused_document reported h =
         ⊎_elim (λ p. subst IsRefusal (sym p.0) tt)
-        (λ p. halts_document reported (conversion w x first.0.scanner.limit (form_of first.1.form)) p.0.bytes left.has_ended old new (failed now.1.drain.now) (p.1.halts x b)) h
-
--- the same by what was asked of the reader, and of the lines
-pub begins_with : {G X D A : Type 0} (failed : D → Bool) (w : Words G X Quad) (x : X) (reader : Driven G) (first : LineOut D A) (form : Form) → form_of first.form ≡ form →
-    first.buffer.now.items ≡ [] → failed first.drain.now ≡ false → Starts w x reader form.style → Begins failed w x reader first
-begins_with failed w x reader first form e none live s = record { starts = subst (λ f. Starts w x reader f.style) (sym e) s; none_waits = none; live = live }
-
--- what holds of a drain as it was and as it is, by other names
-pub by_drains : {D : Type 0} (P : D → D → Type 0) (was is was' is' : D) → was ≡ was' → is ≡ is' → P was is → P was' is'
-by_drains P was is was' is' o n h = subst (λ d. P was' d) n (subst (λ d. P d is) o h)
+        (λ p.
+        halts_document reported (conversion w x first.0.scanner.limit (form_of first.1.form)) p.0.bytes left.has_ended (contents first.1.drain.now) (contents now.1.drain.now) (failed now.1.drain.now)
+        (p.1.halts x b)) h
 
 -- ---- by the job
 

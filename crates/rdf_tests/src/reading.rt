@@ -1,7 +1,7 @@
 // Documents in pieces, read by the reader of their form. Only here is a reader made and dropped, since its many parts are dear to prove: where a
 // scope ends they are dropped one by one in the function itself, but `drop` is a call, and the parts are proved once.
 
-ghost use Rattle.std.specs.Prelude.{◌≡◌, true, false, OnOk, OnErr};
+ghost use Rattle.std.specs.Prelude.{◌≡◌, Bool, true, false, OnOk, OnErr};
 
 use rdf_driver::{Fault, Summary};
 use rdf_iri::Limits;
@@ -51,49 +51,123 @@ fn is_ended(fault: Option<Fault>) -> bool {
     }
 }
 
-fn feed_lines<A: Allocator + Copy, S: QuadSink>(
-    reader: &mut LineReader<A>,
-    document: &Document<'_>,
+/// A reader of documents that come in pieces.
+trait Pieces {
+    /// Whether a call has failed, or the end was read.
+    ghost is_done: { Self → Bool };
+
+    fn feed<S: QuadSink>(&mut self, piece: &[u8], sink: &mut S) -> Result<(), Fault>
+        requires { is_done self.old ≡ false → S.has_failed sink.old ≡ false }
+        ensures live { OnOk result (S.has_failed sink.new ≡ false) }
+        ensures done { OnErr result (is_done self.new ≡ true) };
+
+    fn finish<S: QuadSink>(&mut self, sink: &mut S) -> Result<Summary, Fault>
+        requires { is_done self.old ≡ false → S.has_failed sink.old ≡ false }
+        ensures { is_done self.new ≡ true };
+
+    fn held(&self) -> u64;
+}
+
+impl<A: Allocator + Copy> Pieces for LineReader<A> {
+    ghost is_done = { λ reader. reader.done };
+
+    fn feed<S: QuadSink>(&mut self, piece: &[u8], sink: &mut S) -> Result<(), Fault> {
+        self.feed(piece, sink)
+    }
+
+    fn finish<S: QuadSink>(&mut self, sink: &mut S) -> Result<Summary, Fault> {
+        self.finish(sink)
+    }
+
+    fn held(&self) -> u64 {
+        self.held()
+    }
+}
+
+impl<A: Allocator + Copy> Pieces for TrigReader<A> {
+    ghost is_done = { λ reader. reader.done };
+
+    fn feed<S: QuadSink>(&mut self, piece: &[u8], sink: &mut S) -> Result<(), Fault> {
+        self.feed(piece, sink)
+    }
+
+    fn finish<S: QuadSink>(&mut self, sink: &mut S) -> Result<Summary, Fault> {
+        self.finish(sink)
+    }
+
+    fn held(&self) -> u64 {
+        self.held()
+    }
+}
+
+fn feed_piece<R: Pieces, S: QuadSink>(
+    reader: &mut R,
+    piece: &Piece<'_>,
     sink: &mut S,
 ) -> Result<(), Fault>
     requires { S.has_failed sink.old ≡ false }
     ensures live { OnOk result (S.has_failed sink.new ≡ false) }
-    ensures done { OnErr result (reader.new.done ≡ true) }
+    ensures done { OnErr result (R.is_done reader.new ≡ true) }
 {
-    for piece in document.pieces {
-        for _ in 0..piece.times {
-            reader.feed(piece.bytes, sink)?;
-        }
+    for _ in 0..piece.times {
+        reader.feed(piece.bytes, sink)?;
     }
-    for byte in document.rest {
+    Ok(())
+}
+
+fn feed_bytes<R: Pieces, S: QuadSink>(
+    reader: &mut R,
+    bytes: &[u8],
+    sink: &mut S,
+) -> Result<(), Fault>
+    requires { S.has_failed sink.old ≡ false }
+    ensures live { OnOk result (S.has_failed sink.new ≡ false) }
+    ensures done { OnErr result (R.is_done reader.new ≡ true) }
+{
+    for byte in bytes {
         reader.feed(&[*byte], sink)?;
     }
     Ok(())
 }
 
-fn finish_lines<A: Allocator + Copy, S: QuadSink>(
-    reader: &mut LineReader<A>,
+fn feed_document<R: Pieces, S: QuadSink>(
+    reader: &mut R,
+    document: &Document<'_>,
+    sink: &mut S,
+) -> Result<(), Fault>
+    requires { S.has_failed sink.old ≡ false }
+    ensures live { OnOk result (S.has_failed sink.new ≡ false) }
+    ensures done { OnErr result (R.is_done reader.new ≡ true) }
+{
+    for piece in document.pieces {
+        feed_piece(reader, piece, sink)?;
+    }
+    feed_bytes(reader, document.rest, sink)
+}
+
+fn finish_fed<R: Pieces, S: QuadSink>(
+    reader: &mut R,
     fed: Result<(), Fault>,
     sink: &mut S,
 ) -> Result<Summary, Fault>
     requires live { OnOk fed (S.has_failed sink.old ≡ false) }
-    requires done { OnErr fed (reader.old.done ≡ true) }
-    ensures { reader.new.done ≡ true }
+    requires done { OnErr fed (R.is_done reader.old ≡ true) }
+    ensures { R.is_done reader.new ≡ true }
 {
     fed?;
     reader.finish(sink)
 }
 
-fn report_lines<A: Allocator + Copy, S: QuadSink>(
-    reader: &mut LineReader<A>,
+fn report_on<R: Pieces, S: QuadSink>(
+    reader: &mut R,
     document: &Document<'_>,
     sink: &mut S,
 ) -> Report
     requires { S.has_failed sink.old ≡ false }
 {
-    let fed = feed_lines(reader, document, sink);
+    let fed = feed_document(reader, document, sink);
     let held = reader.held();
-    let answer = finish_lines(reader, fed, sink);
+    let answer = finish_fed(reader, fed, sink);
     let fed = reader.feed(MORE, sink).err();
     let finished = reader.finish(sink).err();
     Report {
@@ -103,6 +177,7 @@ fn report_lines<A: Allocator + Copy, S: QuadSink>(
     }
 }
 
+/// Reads a document of N-Triples or N-Quads.
 fn read_lines<A: Allocator + Copy, S: QuadSink>(
     alloc: A,
     form: LineForm,
@@ -113,61 +188,9 @@ fn read_lines<A: Allocator + Copy, S: QuadSink>(
     requires { S.has_failed sink.old ≡ false }
 {
     let mut reader = LineReader::new(alloc, form, limits);
-    let report = report_lines(&mut reader, document, sink);
+    let report = report_on(&mut reader, document, sink);
     drop(reader);
     report
-}
-
-fn feed_statements<A: Allocator + Copy, S: QuadSink>(
-    reader: &mut TrigReader<A>,
-    document: &Document<'_>,
-    sink: &mut S,
-) -> Result<(), Fault>
-    requires { S.has_failed sink.old ≡ false }
-    ensures live { OnOk result (S.has_failed sink.new ≡ false) }
-    ensures done { OnErr result (reader.new.done ≡ true) }
-{
-    for piece in document.pieces {
-        for _ in 0..piece.times {
-            reader.feed(piece.bytes, sink)?;
-        }
-    }
-    for byte in document.rest {
-        reader.feed(&[*byte], sink)?;
-    }
-    Ok(())
-}
-
-fn finish_statements<A: Allocator + Copy, S: QuadSink>(
-    reader: &mut TrigReader<A>,
-    fed: Result<(), Fault>,
-    sink: &mut S,
-) -> Result<Summary, Fault>
-    requires live { OnOk fed (S.has_failed sink.old ≡ false) }
-    requires done { OnErr fed (reader.old.done ≡ true) }
-    ensures { reader.new.done ≡ true }
-{
-    fed?;
-    reader.finish(sink)
-}
-
-fn report_statements<A: Allocator + Copy, S: QuadSink>(
-    reader: &mut TrigReader<A>,
-    document: &Document<'_>,
-    sink: &mut S,
-) -> Report
-    requires { S.has_failed sink.old ≡ false }
-{
-    let fed = feed_statements(reader, document, sink);
-    let held = reader.held();
-    let answer = finish_statements(reader, fed, sink);
-    let fed = reader.feed(MORE, sink).err();
-    let finished = reader.finish(sink).err();
-    Report {
-        answer,
-        held,
-        has_ended: is_ended(fed) && is_ended(finished),
-    }
 }
 
 /// Reads a document of Turtle or TriG.
@@ -180,7 +203,7 @@ pub fn read_statements<A: Allocator + Copy, S: QuadSink>(
     requires { S.has_failed sink.old ≡ false }
 {
     let mut reader = TrigReader::new(alloc, options);
-    let report = report_statements(&mut reader, document, sink);
+    let report = report_on(&mut reader, document, sink);
     drop(reader);
     report
 }
