@@ -52,7 +52,7 @@ fn is_ended(fault: Option<Fault>) -> bool {
 }
 
 /// A reader of documents that come in pieces.
-trait Pieces {
+trait PieceReader {
     /// Whether a call has failed, or the end was read.
     ghost is_done: { Self → Bool };
 
@@ -68,7 +68,7 @@ trait Pieces {
     fn held(&self) -> u64;
 }
 
-impl<A: Allocator + Copy> Pieces for LineReader<A> {
+impl<A: Allocator + Copy> PieceReader for LineReader<A> {
     ghost is_done = { λ reader. reader.done };
 
     fn feed<S: QuadSink>(&mut self, piece: &[u8], sink: &mut S) -> Result<(), Fault> {
@@ -84,7 +84,7 @@ impl<A: Allocator + Copy> Pieces for LineReader<A> {
     }
 }
 
-impl<A: Allocator + Copy> Pieces for TrigReader<A> {
+impl<A: Allocator + Copy> PieceReader for TrigReader<A> {
     ghost is_done = { λ reader. reader.done };
 
     fn feed<S: QuadSink>(&mut self, piece: &[u8], sink: &mut S) -> Result<(), Fault> {
@@ -100,7 +100,7 @@ impl<A: Allocator + Copy> Pieces for TrigReader<A> {
     }
 }
 
-fn feed_piece<R: Pieces, S: QuadSink>(
+fn feed_piece<R: PieceReader, S: QuadSink>(
     reader: &mut R,
     piece: &Piece<'_>,
     sink: &mut S,
@@ -115,7 +115,7 @@ fn feed_piece<R: Pieces, S: QuadSink>(
     Ok(())
 }
 
-fn feed_bytes<R: Pieces, S: QuadSink>(
+fn feed_bytes<R: PieceReader, S: QuadSink>(
     reader: &mut R,
     bytes: &[u8],
     sink: &mut S,
@@ -130,7 +130,7 @@ fn feed_bytes<R: Pieces, S: QuadSink>(
     Ok(())
 }
 
-fn feed_document<R: Pieces, S: QuadSink>(
+fn feed_document<R: PieceReader, S: QuadSink>(
     reader: &mut R,
     document: &Document<'_>,
     sink: &mut S,
@@ -145,7 +145,7 @@ fn feed_document<R: Pieces, S: QuadSink>(
     feed_bytes(reader, document.rest, sink)
 }
 
-fn finish_fed<R: Pieces, S: QuadSink>(
+fn finish_fed<R: PieceReader, S: QuadSink>(
     reader: &mut R,
     fed: Result<(), Fault>,
     sink: &mut S,
@@ -158,7 +158,7 @@ fn finish_fed<R: Pieces, S: QuadSink>(
     reader.finish(sink)
 }
 
-fn report_on<R: Pieces, S: QuadSink>(
+fn report_on<R: PieceReader, S: QuadSink>(
     reader: &mut R,
     document: &Document<'_>,
     sink: &mut S,
