@@ -1,5 +1,5 @@
 -- What is passed is the white space before the next token.
-use Rattle.std.proofs.Common.{ap, ◌∙◌, sym, subst, ◌<◌}
+use Rattle.std.proofs.Common.{ap, ◌∙◌, sym, subst, ◌<◌, rules}
 use Rattle.std.specs.Str.{chars}
 use Rattle.rdf_tokens.specs.Front.{bytes_of}
 use Rattle.rdf_tokens.specs.Moves.{BeginsChar}
@@ -32,3 +32,9 @@ returns-clause-forward g c =
     let len = c.blank_run-blank.ensures.len ∙ ap (λ v. bytes_of (blank v.dialect v.comment w) w) c.self.view_is in
     let less = bared_less old w c.blank_run-blank.result.len c.rest.ensures len c.if-blank-eq0.false in
     λ _. subst (λ v. left v < left old) (sym new) less
+
+pub returns-then-blank-eq0-clause-passes : goal.returns-then-blank-eq0-clause-passes
+returns-then-blank-eq0-clause-passes g c = search rules
+
+pub returns-then-blank-eq0-clause-unchanged : goal.returns-then-blank-eq0-clause-unchanged
+returns-then-blank-eq0-clause-unchanged g c = search rules
