@@ -29,6 +29,9 @@ fn push(scanner: &mut Scanner, piece: &[u8]) -> Answer {
 
 // Takes the token that is seen.
 fn see(scanner: &mut Scanner) -> Answer {
+    if !scanner.may_peek() {
+        return Answer::Unseen;
+    }
     match scanner.peek() {
         Some(peeked) => {
             let token = scanner.take(peeked);
@@ -38,6 +41,22 @@ fn see(scanner: &mut Scanner) -> Answer {
             Answer::Token(token.kind, token.offset, token.line, token.text.len())
         }
         None => Answer::Unseen,
+    }
+}
+
+fn pass_line_feed(scanner: &mut Scanner) -> Answer {
+    if !scanner.may_peek() {
+        return Answer::Stayed;
+    }
+    scanner.pass_line_feed();
+    Answer::Passed
+}
+
+fn pass_blanks(scanner: &mut Scanner) -> Answer {
+    if scanner.may_peek() && scanner.pass_blanks() {
+        Answer::Passed
+    } else {
+        Answer::Stayed
     }
 }
 
@@ -72,17 +91,8 @@ fn take(alloc: Global, scanner: &mut Scanner, step: Step) -> Answer {
         Step::Push(piece) => push(scanner, piece),
         Step::Next => next(scanner),
         Step::See => see(scanner),
-        Step::PassLineFeed => {
-            scanner.pass_line_feed();
-            Answer::Passed
-        }
-        Step::PassBlanks => {
-            if scanner.pass_blanks() {
-                Answer::Passed
-            } else {
-                Answer::Stayed
-            }
-        }
+        Step::PassLineFeed => pass_line_feed(scanner),
+        Step::PassBlanks => pass_blanks(scanner),
         Step::End => {
             scanner.end();
             Answer::Ended
@@ -149,7 +159,7 @@ static STEPS: [(Step, Answer); 239] = [
     (Step::PassBlanks, Answer::Stayed),
     (Step::Next, Answer::Token(Kind::Semicolon, 33, 3, 1)),
     (Step::Push(b" # a"), Answer::Took(4)),
-    (Step::PassBlanks, Answer::Passed),
+    (Step::PassBlanks, Answer::Stayed),
     (Step::PassBlanks, Answer::Stayed),
     (Step::See, Answer::Unseen),
     (Step::Push(b"b\n;x"), Answer::Took(4)),

@@ -1,10 +1,10 @@
 -- A token that is seen before it is taken: the white space before it, and that it is the next step.
 use Rattle.std.proofs.Common.{◌≡◌, ℕ, zero, suc, ◌+◌, ◌≤◌, ◌==◌, Bool, true, false, cond, not, nat_lt, List, [], ◌∷◌, ◌++◌, ◌<◌, refl, sym, ap, ◌∙◌, subst, length, length-append, length-drop, get_or, take, drop, count_by, arith, Option, Some, None, IsUtf8}
-use Rattle.std.specs.Prelude.{IfSome, encode_utf8_all}
+use Rattle.std.specs.Prelude.{◌&&◌, IfSome, encode_utf8_all}
 use Rattle.std.specs.Str.{chars, IsCharBoundary}
 use Rattle.std.proofs.lemmas.Bool.{and_parts, eqb-true, ltb-true, or_left, true≢false}
 use Rattle.std.proofs.lemmas.List.{append-nil, get_or-take, length-take-le, take-append-drop}
-use Rattle.std.proofs.lemmas.Str.{encodes-chars, IsCharBoundary-after_ascii, IsCharBoundary-start}
+use Rattle.std.proofs.lemmas.Str.{encodes-append, encodes-chars, IsCharBoundary-after_ascii, IsCharBoundary-start}
 use Rattle.rdf_terms.specs.Classes.{is_letter, is_turtle}
 use Rattle.rdf_terms.specs.Runs.{IsRun, is_name_byte}
 use Rattle.rdf_terms.specs.declared.kind.Dialect.{Dialect}
@@ -12,11 +12,11 @@ use Rattle.rdf_terms.specs.declared.kind.Dialect.TheVariants.{Lines, Turtle}
 use Rattle.rdf_tokens.specs.Blank.{comment_after}
 use Rattle.rdf_tokens.specs.Front.{bytes_of}
 use Rattle.rdf_tokens.specs.Look.{IsLook}
-use Rattle.rdf_tokens.specs.Moves.{BeginsChar, GivesWithColon, MovesBytes, Moves, Stands, tail_now}
+use Rattle.rdf_tokens.specs.Moves.{BeginsChar, GivesWithColon, MovesBytes, Moves, Stands, moved, tail_now}
 use Rattle.rdf_tokens.specs.Peek.{IsBare, IsPeeked, IsSeen, MayPeek, Sees, TakesSeen, is_local, is_plain, one_space}
 use Rattle.rdf_tokens.specs.Quick.{IsToken, is_colon, is_name_end, stands_at}
 use Rattle.rdf_tokens.specs.Scans.{HasScanned, IsPlainName, PassesBlank, KnowsColon, is_end, left, token_of}
-use Rattle.rdf_tokens.specs.Tokens.{Tail, blank, over, rest_of, step}
+use Rattle.rdf_tokens.specs.Tokens.{Place, Tail, blank, over, past, rest_of, step}
 use Rattle.rdf_tokens.specs.Unread.{Unread}
 use Rattle.rdf_tokens.specs.declared.look.Look.TheVariants.{Token as IsAt}
 use Rattle.rdf_tokens.specs.declared.peek.Peeked.{Peeked}
@@ -141,7 +141,7 @@ plain_is v e =
     turtle Lines e = absurd (true≢false (sym e))
 
 -- What is seen in the bytes of the text is the next step.
-module _ (v : Unread) (bs : List ℕ) (p : Peeked) (u : IsUtf8 bs) (e : chars bs ≡ v.text) (m : MayPeek v) (b : BeginsChar v.pending) (s : IsSeen bs p) where
+module _ (v : Unread) (bs : List ℕ) (p : Peeked) (u : IsUtf8 bs) (e : chars bs ≡ v.text) (m : MayPeek v) (s : IsSeen bs p) where
   space : p.blank ≡ bytes_of (blank Turtle false (chars bs)) (chars bs)
   space = sym s.space ∙ blank-bytes Turtle false bs u
 
@@ -174,10 +174,7 @@ module _ (v : Unread) (bs : List ℕ) (p : Peeked) (u : IsUtf8 bs) (e : chars bs
 
   pub is_peeked : IsPeeked v p
   is_peeked = record {
-    running = plain.running;
-    begun = plain.begun;
-    outside = plain.outside;
-    begins = b;
+    may = m;
     space = there (λ d w. p.blank ≡ bytes_of (blank d false w) w) space;
     closed = there (λ d w. comment_after d false w ≡ false) (sym (comment-bytes Turtle false bs u) ∙ s.closed);
     flat = there (λ d w. count_by (λ c. c == 10) (take (blank d false w) w) ≡ 0) no_feeds;
@@ -186,39 +183,68 @@ module _ (v : Unread) (bs : List ℕ) (p : Peeked) (u : IsUtf8 bs) (e : chars bs
   }
 
 -- the same of what may be seen
-pub peeked_now : (v : Unread) (bs : List ℕ) (o : Option Peeked) → IsUtf8 bs → chars bs ≡ v.text → MayPeek v → BeginsChar v.pending → IfSome o (IsSeen bs) → IfSome o (IsPeeked v)
-peeked_now v bs None u e m b s = tt
-peeked_now v bs (Some p) u e m b s = is_peeked v bs p u e m b s
+pub peeked_now : (v : Unread) (bs : List ℕ) (o : Option Peeked) → IsUtf8 bs → chars bs ≡ v.text → MayPeek v → IfSome o (IsSeen bs) → IfSome o (IsPeeked v)
+peeked_now v bs None u e m s = tt
+peeked_now v bs (Some p) u e m s = is_peeked v bs p u e m s
+
+-- After some characters outside of a comment `peek` can be asked again.
+may_on : (v : Unread) (p : Place) (n : ℕ) → MayPeek v → MayPeek (moved v p v.begun false (drop n v.text))
+may_on v p n m =
+    let front = encode_utf8_all (take n v.text) in
+    let rest = encode_utf8_all (drop n v.text) in
+    let whole : encode_utf8_all v.text ≡ front ++ rest = ap encode_utf8_all (sym (take-append-drop n v.text)) ∙ encodes-append (take n v.text) (drop n v.text) in
+    let short = m.short in
+    record {
+      plain = subst (λ b. is_turtle v.dialect && (v.begun && (not v.stopped && not b)) ≡ true) (plain_is v m.plain).outside m.plain;
+      begins = m.begins;
+      short = omega (arith, ap length whole, length-append front rest, short);
+    }
+
+-- So it can after white space, where no comment is open.
+pub may_bared : (v : Unread) → MayPeek v → comment_after v.dialect v.comment v.text ≡ false → MayPeek (bared v)
+may_bared v m e =
+    let n = blank v.dialect v.comment v.text in
+    let p = past v.place (take n v.text) in
+    subst (λ c. MayPeek (moved v p true c (drop n v.text))) (sym e) (subst (λ b. MayPeek (moved v p b false (drop n v.text))) (plain_is v m.plain).begun (may_on v p n m))
 
 -- A token that is seen is taken: the scanner moves over the white space before it.
 module _ (v mid : Unread) (p : Peeked) (s : IsPeeked v p) (h : MovesBytes v p.blank mid) where
+  known : IsPlain v
+  known = plain_is v s.may.plain
+
+  none_open : comment_after v.dialect v.comment v.text ≡ false
+  none_open = ap (λ b. comment_after v.dialect b v.text) known.outside ∙ s.closed
+
   pub bared_peeked : mid ≡ bared v
   bared_peeked =
-      bared_is v mid v.text p.blank v.comment h refl s.begun (s.space ∙ ap (λ b. bytes_of (blank v.dialect b v.text) v.text) (sym s.outside))
-      (s.outside ∙ (sym s.closed ∙ ap (λ b. comment_after v.dialect b v.text) (sym s.outside)))
+      bared_is v mid v.text p.blank v.comment h refl known.begun (s.space ∙ ap (λ b. bytes_of (blank v.dialect b v.text) v.text) (sym known.outside))
+      (known.outside ∙ sym none_open)
 
   -- and the token is the step there
   pub look_peeked : IsLook (IsAt p.len p.kind) (step mid.dialect mid.limit (tail_now mid) mid.text) mid.text
   look_peeked =
       subst (λ m. IsLook (IsAt p.len p.kind) (step m.dialect m.limit (tail_now m) m.text) m.text) (sym bared_peeked)
-      (subst (λ b. IsLook (IsAt p.len p.kind) (step v.dialect v.limit (tail_now v) (rest_of v.dialect b v.text)) (rest_of v.dialect b v.text)) (sym s.outside) (s.look (tail_now v)))
+      (subst (λ b. IsLook (IsAt p.len p.kind) (step v.dialect v.limit (tail_now v) (rest_of v.dialect b v.text)) (rest_of v.dialect b v.text)) (sym known.outside) (s.look (tail_now v)))
 
   -- whose colon is right
   pub colon_peeked : KnowsColon (take p.len (encode_utf8_all mid.text)) p.colon
   colon_peeked =
       subst (λ m. KnowsColon (take p.len (encode_utf8_all m.text)) p.colon) (sym bared_peeked)
-      (subst (λ b. KnowsColon (take p.len (encode_utf8_all (rest_of v.dialect b v.text))) p.colon) (sym s.outside) s.colon)
+      (subst (λ b. KnowsColon (take p.len (encode_utf8_all (rest_of v.dialect b v.text))) p.colon) (sym known.outside) s.colon)
 
   -- so it is given
   pub takes_seen : {t : Given} {new : Unread} → GivesWithColon mid p.kind p.len t new → TakesSeen v p t new
   takes_seen {t} {new} g =
       let l = look_peeked in
-      let k = ap (λ t. t.kind) (g.0 l.0 l.3).token in
+      let is = g.0 l.0 l.3 in
+      let k = ap (λ t. t.kind) is.token in
       record {
-        given = gives_look v mid (subst (Moves v []) (sym bared_peeked) (moves_bared v s.begun)) s.running s.begins (subst Stands (sym bared_peeked) (stands_bared v)) p.len p.kind (token_of t) new l g.0;
+        given = gives_look v mid (subst (Moves v []) (sym bared_peeked) (moves_bared v known.begun)) known.running s.may.begins (subst Stands (sym bared_peeked) (stands_bared v)) p.len p.kind (token_of t) new l g.0;
         colon = g.1;
         kind = k;
         goes_on = ap is_end k ∙ not_end p.kind (step-token mid.dialect mid.limit (tail_now mid) mid.text l.0 p.kind l.1).2;
+        again = subst MayPeek (sym is.moved_on)
+            (may_on mid (past mid.place (take l.0 mid.text)) l.0 (subst MayPeek (sym bared_peeked) (may_bared v s.may none_open)));
       }
 
 -- where tokens are given, the document has begun
@@ -226,13 +252,13 @@ pub plain_begun : (v : Unread) → is_plain v ≡ true → v.begun ≡ true
 plain_begun v p = (plain_is v p).begun
 
 -- what may be seen, by the bytes of the text
-pub may_see : (v : Unread) (bs : List ℕ) → IsUtf8 bs → chars bs ≡ v.text → is_plain v ≡ true → length bs ≤ v.limit → MayPeek v
-may_see v bs u e p l = record { plain = p; short = subst (λ n. n ≤ v.limit) (ap length (sym (encodes-chars bs u)) ∙ ap (λ w. length (encode_utf8_all w)) e) l }
+pub may_see : (v : Unread) (bs : List ℕ) → IsUtf8 bs → chars bs ≡ v.text → BeginsChar v.pending → is_plain v ≡ true → length bs ≤ v.limit → MayPeek v
+may_see v bs u e b p l = record { plain = p; begins = b; short = subst (λ n. n ≤ v.limit) (ap length (sym (encodes-chars bs u)) ∙ ap (λ w. length (encode_utf8_all w)) e) l }
 
 -- White space is passed before a token: what was read stays as it is.
-pub passes_bared : (v new : Unread) → is_plain v ≡ true → BeginsChar v.pending → new ≡ bared v → PassesBlank v new
-passes_bared v new p b is =
-    let q = plain_is v p in
+pub passes_bared : (v new : Unread) → MayPeek v → new ≡ bared v → PassesBlank v new
+passes_bared v new may is =
+    let q = plain_is v may.plain in
     let m : Moves v [] new = subst (Moves v []) (sym is) (moves_bared v q.begun) in
     let stopped : new.stopped ≡ v.stopped = ap (λ v. v.stopped) m.same in
     let less = m.less in
@@ -241,16 +267,18 @@ passes_bared v new p b is =
       ended = ap (λ v. v.ended) m.same;
       stopped = stopped;
       less = subst (λ x. length new.text + cond x 0 1 ≤ length v.text + cond v.stopped 0 1) (sym stopped) (omega arith);
-      read = λ bytes ts s. subst (HasScanned new bytes) (append-nil ts) (read_on v new bytes ts [] q.running b m s);
+      read = λ bytes ts s. subst (HasScanned new bytes) (append-nil ts) (read_on v new bytes ts [] q.running may.begins m s);
     }
 
--- One byte of it is passed.
-pub passes_one : (v new : Unread) (rest : List ℕ) → is_plain v ≡ true → BeginsChar v.pending → MovesBytes v 1 new → rest ≡ v.text →
-    bytes_of (blank Turtle false rest) rest ≡ 1 → comment_after Turtle false rest ≡ false → PassesBlank v new
-passes_one v new rest p b h r l k =
-    let q = plain_is v p in
-    passes_bared v new p b
-    (one_bared v new rest h r q.begun q.outside (ap (λ d. bytes_of (blank d false rest) rest) q.dialect ∙ l) (ap (λ d. comment_after d false rest) q.dialect ∙ k))
+-- One byte of it is passed, and no comment is open.
+pub one_passed : (v new : Unread) (rest : List ℕ) → MayPeek v → MovesBytes v 1 new → rest ≡ v.text → bytes_of (blank Turtle false rest) rest ≡ 1 →
+    comment_after Turtle false rest ≡ false → (new ≡ bared v) × (comment_after v.dialect v.comment v.text ≡ false)
+one_passed v new rest m h r l k =
+    let q = plain_is v m.plain in
+    let closed = ap (λ d. comment_after d false rest) q.dialect ∙ k in (
+      one_bared v new rest h r q.begun q.outside (ap (λ d. bytes_of (blank d false rest) rest) q.dialect ∙ l) closed,
+      ap (λ b. comment_after v.dialect b v.text) q.outside ∙ (ap (comment_after v.dialect false) (sym r) ∙ closed),
+    )
 
 -- what comes after some characters is shorter
 shorter : (u w x : List ℕ) → u ++ w ≡ x → (u ≡ [] → ⊥) → length w < length x
@@ -264,3 +292,21 @@ bared_less v rest len r l some =
     let none : take n v.text ≡ [] → ⊥ = λ e. some (l ∙ (ap (λ w. bytes_of (blank v.dialect v.comment w) w) r ∙ ap (λ u. length (encode_utf8_all u)) e)) in
     let less = shorter (take n v.text) (drop n v.text) v.text (take-append-drop n v.text) none in
     omega (arith, less)
+
+-- White space was passed of so many bytes, where the scanner is u inside.
+module _ {u v new : Unread} {rest : List ℕ} {len : ℕ} {comment : Bool} (m : MayPeek v) (same : u ≡ v) (r : rest ≡ v.text)
+    (h : (n : ℕ) → len ≡ bytes_of n u.text → new ≡ moved u (past u.place (take n u.text)) u.begun comment (drop n u.text))
+    (l : len ≡ bytes_of (blank u.dialect u.comment rest) rest) (k : comment ≡ comment_after u.dialect u.comment rest) where
+  pub blanks_bared : new ≡ bared v
+  blanks_bared = bared_is u new rest len comment h (r ∙ ap (λ v. v.text) (sym same)) (ap (λ v. v.begun) same ∙ plain_begun v m.plain) l k ∙ ap bared same
+
+  -- where it was some, less is left
+  pub blanks_less : (len ≡ 0 → ⊥) → left new < left v
+  blanks_less some =
+      subst (λ x. left x < left v) (sym blanks_bared) (bared_less v rest len r (l ∙ ap (λ v. bytes_of (blank v.dialect v.comment rest) rest) same) some)
+
+  -- and outside of a comment `peek` can be asked again
+  pub blanks_again : not comment ≡ true → MayPeek new
+  blanks_again e =
+      let closed = ap (comment_after v.dialect v.comment) (sym r) ∙ (ap (λ v. comment_after v.dialect v.comment rest) (sym same) ∙ (sym k ∙ not_true _ e)) in
+      subst MayPeek (sym blanks_bared) (may_bared v m closed)

@@ -44,26 +44,25 @@ pub record IsSeen (bs : List ℕ) (p : Peeked) : Type 0 where
 abbrev pub is_plain : Unread → Bool
 is_plain v = is_turtle v.dialect && (v.begun && (not v.stopped && not v.comment))
 
--- It is so, and no token of the text is longer than the limit.
+-- It is so, the bytes after the text begin a character, or are none, and no token of the text is longer than the limit.
 pub record MayPeek (v : Unread) : Type 0 where
   pub plain : is_plain v ≡ true
+  pub begins : BeginsChar v.pending
   pub short : length (encode_utf8_all v.text) ≤ v.limit
 
--- The scanner gives tokens, and the next is this one, whatever comes after the text. The white space before it has no line feed.
+-- Tokens may be seen, and the next is this one, whatever comes after the text. The white space before it has no line feed.
 pub record IsPeeked (v : Unread) (p : Peeked) : Type 0 where
-  pub running : v.stopped ≡ false
-  pub begun : v.begun ≡ true
-  pub outside : v.comment ≡ false
-  pub begins : BeginsChar v.pending
+  pub may : MayPeek v
   pub space : p.blank ≡ bytes_of (blank v.dialect false v.text) v.text
   pub closed : comment_after v.dialect false v.text ≡ false
   pub flat : count_by (λ c. c == 10) (take (blank v.dialect false v.text) v.text) ≡ 0
   pub look : (t : Tail) → IsLook (IsAt p.len p.kind) (step v.dialect v.limit t (rest_of v.dialect false v.text)) (rest_of v.dialect false v.text)
   pub colon : KnowsColon (take p.len (encode_utf8_all (rest_of v.dialect false v.text))) p.colon
 
--- The token that was seen was given, and it is not the end.
+-- The token that was seen was given, it is not the end, and the next may be seen.
 pub record TakesSeen (old : Unread) (p : Peeked) (t : Given) (new : Unread) : Type 0 where
   pub given : GivesToken old (token_of t) new
   pub colon : KnowsItsColon t
   pub kind : t.kind ≡ p.kind
   pub goes_on : is_end t.kind ≡ false
+  pub again : MayPeek new

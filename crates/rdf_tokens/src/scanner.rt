@@ -179,19 +179,30 @@ impl<A: Allocator + Copy> Scanner<A> {
         }
     }
 
-    /// The next token of Turtle, where its first bytes settle it and it stands at once or after one space. Nothing is taken. `None` tells nothing:
-    /// then `next` is to be asked. It takes no memory.
+    /// Whether `peek` can be asked: tokens of Turtle are given, no comment is open, the text has no more bytes than a token may have characters,
+    /// and the token that it begins with was not looked at before. `false` tells nothing: then `next` is to be asked. While tokens are seen and
+    /// taken it stays `true`. It takes no memory.
+    #[inline(always)]
+    pub fn may_peek(&self) -> bool
+        ensures { result ≡ true → MayPeek self.now }
+    {
+        if !self.is_plain() {
+            return false;
+        }
+        self.walk.is_none() && self.rest().len() as u64 <= self.limit
+    }
+
+    /// The next token of Turtle, where its first bytes settle it and it stands at once or after one space. It is asked after `may_peek` has
+    /// answered `true`. Nothing is taken. `None` tells nothing: then `next` is to be asked. It takes no memory.
     #[inline(always)]
     pub fn peek(&self) -> Option<Peeked>
+        requires { MayPeek self.now }
         ensures { IfSome result (IsPeeked self.now) }
     {
-        if !self.may_peek() {
-            return None;
-        }
         first_seen(self.rest(), &self.no_names)
     }
 
-    /// Gives the token that was seen, as `next` would.
+    /// Gives the token that was seen, as `next` would. After it `peek` can be asked again.
     #[inline(always)]
     pub fn take(&mut self, peeked: Peeked) -> Token<'_>
         requires { IsPeeked self.old peeked }
@@ -202,46 +213,35 @@ impl<A: Allocator + Copy> Scanner<A> {
         self.give(peeked.kind, peeked.len, peeked.colon)
     }
 
-    /// Passes a line feed of Turtle that stands next, where neither white space nor a comment comes after it. What the next token is, and where
-    /// it stands, stays as it is: it is only sooner looked for. It takes no memory.
+    /// Passes a line feed of Turtle that stands next, where `peek` can be asked and neither white space nor a comment comes after it. What the
+    /// next token is, and where it stands, stays as it is: it is only sooner looked for, and `peek` can be asked again. It takes no memory.
     #[inline(always)]
     pub fn pass_line_feed(&mut self)
-        ensures { PassesBlank self.old self.new }
+        requires { MayPeek self.old }
+        ensures passes { PassesBlank self.old self.new }
+        ensures again { MayPeek self.new }
     {
-        let _ = &self.dialect;
-        if self.is_plain() && is_one(b'\n', Dialect::Turtle, self.rest()) {
+        if is_one(b'\n', Dialect::Turtle, self.rest()) {
             self.move_on(1, 1);
         }
     }
 
-    /// Passes the white space and the comments of Turtle that stand next, where `peek` may see what comes after them, and answers whether there
-    /// were some. What the next token is, and where it stands, stays as it is: it is only sooner looked for. It takes no memory.
+    /// Passes the white space and the comments of Turtle that stand next, where `peek` can be asked, and answers whether there were some and it
+    /// can be asked again: it can't where the text ends in a comment. What the next token is, and where it stands, stays as it is: it is only
+    /// sooner looked for. It takes no memory.
     pub fn pass_blanks(&mut self) -> bool
+        requires { MayPeek self.old }
         ensures passes { PassesBlank self.old self.new }
         ensures forward { result ≡ true → left self.new < left self.old }
-        ensures unchanged { result ≡ false → self.new ≡ self.old }
+        ensures again { result ≡ true → MayPeek self.new }
     {
-        if !self.may_peek() {
-            return false;
-        }
         let blank = blank_run(self.dialect, self.comment, self.rest());
         if blank.len == 0 {
             return false;
         }
         self.comment = blank.in_comment;
         self.advance(blank.len);
-        true
-    }
-
-    // Whether a token may be seen: tokens of Turtle are given outside of a comment, and none was looked at before or may be too long.
-    #[inline(always)]
-    fn may_peek(&self) -> bool
-        ensures { result ≡ true → MayPeek self.now }
-    {
-        if !self.is_plain() {
-            return false;
-        }
-        self.walk.is_none() && self.rest().len() as u64 <= self.limit
+        !blank.in_comment
     }
 
     // Whether tokens of Turtle are given, and no comment is open.
