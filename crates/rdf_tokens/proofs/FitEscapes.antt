@@ -137,7 +137,7 @@ fits_echar bs at end e = record {
 }
 
 -- a hex digit is one of the grammar's
-has_hex : (c : ℕ) → is_hex c ≡ true → has hex_digit c ≡ true
+pub has_hex : (c : ℕ) → is_hex c ≡ true → has hex_digit c ≡ true
 unfolding has
 has_hex c h = grind (arith, nat_tests)
 

@@ -1,6 +1,8 @@
 // The insides of strings and IRIs: plain bytes by runs, and whole escapes between them.
 
-ghost use Rattle.std.specs.Prelude.{◌≡◌, ◌<◌, ◌≤◌, ◌+◌, ◌&&◌, ◌==◌, ◌⊎◌, nat_le, true, false, length, get_or, IfSome};
+ghost use Rattle.std.specs.Prelude.{◌≡◌, ◌<◌, ◌≤◌, ◌+◌, ◌*◌, ◌&&◌, ◌==◌, ◌⊎◌, nat_le, true, false, length, get_or, IfSome};
+ghost use Rattle.rdf_terms.specs.Classes.{has};
+ghost use Rattle.rdf_terms.specs.Classes.Class.{iri_char};
 ghost use Rattle.rdf_terms.specs.Pieces.{hex_value};
 ghost use Rattle.rdf_terms.specs.Runs.{IsRun, goes_over};
 ghost use Rattle.rdf_tokens.specs.Escapes.{is_hex, is_letter, is_surrogate, is_plane, is_in_first_plane, is_in_planes, is_iri_four, writes_iri_char};
@@ -8,8 +10,8 @@ ghost use Rattle.rdf_tokens.specs.Escapes.{begins_long_uchar, are_four_of_charac
 ghost use Rattle.rdf_tokens.specs.Escapes.{IsHexes, IsNumber, IsUchar, IsIriUchar, FitsInIri, FitsInString, RestsInIri, RestsInString};
 
 use rdf_terms::escapes::{are_four_digits, begins_uchar, letter_meaning};
-use rdf_terms::is_iri_char;
 use rdf_terms::runs::{Run, run_end};
+use rdf_terms::{hex_value, is_iri_char};
 
 /// The place after the plain bytes and the whole escapes of a string from a place on. A bad escape is not passed.
 pub(crate) fn string_end(bytes: &[u8], from: usize) -> usize
@@ -98,22 +100,19 @@ fn is_iri_four(bytes: &[u8], at: usize) -> bool
     requires { IsHexes bytes.now at 4 (at + 4) }
     ensures { result ≡ is_iri_four bytes.now at }
 {
-    bytes[at] != b'0'
-        || bytes[at + 1] != b'0'
-        || is_iri_char((16 * digit(bytes[at + 2]) + digit(bytes[at + 3])) as char)
+    bytes[at] != b'0' || bytes[at + 1] != b'0' || are_two_of_iri_char(bytes[at + 2], bytes[at + 3])
 }
 
-/// What a hex digit counts.
+/// The same of two.
 #[inline(always)]
-fn digit(byte: u8) -> u8
-    requires { is_hex byte ≡ true }
-    ensures value { result ≡ hex_value byte }
-    ensures small { result < 16 }
+fn are_two_of_iri_char(first: u8, second: u8) -> bool
+    requires first { is_hex first ≡ true }
+    requires second { is_hex second ≡ true }
+    ensures { result ≡ has iri_char (16 * hex_value first + hex_value second) }
 {
-    match byte {
-        b'0'..=b'9' => byte - b'0',
-        b'A'..=b'F' => byte - b'A' + 10,
-        _ => byte - b'a' + 10,
+    match (hex_value(first as char), hex_value(second as char)) {
+        (Some(front), Some(back)) => is_iri_char((16 * front + back) as char),
+        _ => unreachable!(),
     }
 }
 
