@@ -1,6 +1,6 @@
 // Resolution of a reference against a base (RFC 3986, section 5.2).
 
-ghost use Rattle.std.specs.Prelude.{◌≡◌, ℕ, ◌++◌, ◌≤◌, OnOk, IfOk, IfErr};
+ghost use Rattle.std.specs.Prelude.{◌≡◌, ℕ, ◌++◌, ◌≤◌, [], OnOk, IfOk, IfErr};
 ghost use Rattle.std.specs.Str.{chars};
 ghost use Rattle.std.specs.String.{string_bytes};
 ghost use Rattle.rdf_terms.specs.Terms.{IsIri};
@@ -157,30 +157,43 @@ fn resolved_bytes<A: Allocator + Copy>(
 ) -> Result<Vec<u8, A>, AllocError>
     ensures { IfOk result (λ bytes. bytes.items ≡ recompose (target (parts_of base.now) (parts_of reference.now))) }
 {
+    let mut out = Vec::with_capacity(alloc, base.len() + reference.len() + 1)?;
+    put_resolved(&mut out, base, reference)?;
+    Ok(out)
+}
+
+/// Puts the text of a reference without a scheme into an empty buffer.
+fn put_resolved<A: Allocator + Copy>(
+    out: &mut Vec<u8, A>,
+    base: &str,
+    reference: &str,
+) -> Result<(), AllocError>
+    requires { out.old.items ≡ [] }
+    ensures { OnOk result (out.new.items ≡ recompose (target (parts_of base.now) (parts_of reference.now))) }
+{
     let b = cut_parts(base);
     let r = cut_parts(reference);
-    let mut out = Vec::with_capacity(alloc, base.len() + reference.len() + 1)?;
-    put_scheme(&mut out, b.scheme)?;
+    put_scheme(out, b.scheme)?;
     match r.authority {
         Some(_) => {
-            put_authority(&mut out, r.authority)?;
-            put_path(&mut out, b"", r.path.as_bytes())?;
-            put_suffix(&mut out, b'?', r.query)?;
+            put_authority(out, r.authority)?;
+            put_path(out, b"", r.path.as_bytes())?;
+            put_suffix(out, b'?', r.query)?;
         }
         None => {
-            put_authority(&mut out, b.authority)?;
+            put_authority(out, b.authority)?;
             if r.path.is_empty() {
                 out.extend_from_slice(b.path.as_bytes())?;
-                put_suffix(&mut out, b'?', first_of(r.query, b.query))?;
+                put_suffix(out, b'?', first_of(r.query, b.query))?;
             } else {
                 let front = merge_front(b.authority, b.path.as_bytes(), r.path.as_bytes());
-                put_path(&mut out, front, r.path.as_bytes())?;
-                put_suffix(&mut out, b'?', r.query)?;
+                put_path(out, front, r.path.as_bytes())?;
+                put_suffix(out, b'?', r.query)?;
             }
         }
     }
-    put_suffix(&mut out, b'#', r.fragment)?;
-    Ok(out)
+    put_suffix(out, b'#', r.fragment)?;
+    Ok(())
 }
 
 fn first_of<'a>(first: Option<&'a str>, second: Option<&'a str>) -> Option<&'a str>

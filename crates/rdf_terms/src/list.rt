@@ -1,12 +1,12 @@
 // A sink that keeps its quads.
 
-ghost use Rattle.std.specs.Prelude.{◌≡◌, ◌++◌, ◌∷◌, [], false, length, slice_get, option_map};
+ghost use Rattle.std.specs.Prelude.{◌≡◌, ◌++◌, ◌∷◌, [], false, length, slice_get, option_map, OnErr, OnOk};
 ghost use Rattle.rdf_terms.specs.Views.{quad_of};
 
 use crate::sink::{PutFault, QuadSink};
 use crate::terms::Quad;
 use crate::views::QuadRef;
-use std::alloc::{Allocator, Global};
+use std::alloc::{AllocError, Allocator, Global};
 use std::marker::Model;
 
 /// The quads that were put, in order, repeats and all.
@@ -53,6 +53,15 @@ impl<A: Allocator + Copy> QuadList<A> {
             None => None,
         }
     }
+
+    // Appends a copy of a quad.
+    fn push(&mut self, quad: &QuadRef<'_>) -> Result<(), AllocError>
+        ensures pushed { OnOk result (self.new ≡ self.old ++ quad_of quad.now ∷ []) }
+        ensures unchanged { OnErr result (self.new ≡ self.old) }
+    {
+        self.quads.push(quad.try_copy(self.alloc)?)?;
+        Ok(())
+    }
 }
 
 impl<A: Allocator + Copy> QuadSink for QuadList<A> {
@@ -63,10 +72,7 @@ impl<A: Allocator + Copy> QuadSink for QuadList<A> {
     ghost has_failed = { λ _. false };
 
     fn put(&mut self, quad: &QuadRef<'_>) -> Result<(), PutFault> {
-        let Ok(quad) = quad.try_copy(self.alloc) else {
-            return Err(PutFault::Memory);
-        };
-        match self.quads.push(quad) {
+        match self.push(quad) {
             Ok(()) => Ok(()),
             Err(_) => Err(PutFault::Memory),
         }
