@@ -163,7 +163,7 @@ fn resolved_bytes<A: Allocator + Copy>(
 }
 
 /// Puts the text of a reference without a scheme into an empty buffer.
-fn put_resolved<A: Allocator + Copy>(
+fn put_resolved<A: Allocator>(
     out: &mut Vec<u8, A>,
     base: &str,
     reference: &str,

@@ -1,5 +1,5 @@
 -- Bytes that are placed in a buffer that has room for them, and how much room a line takes at most.
-use Rattle.std.specs.Prelude.{◌≡◌, ℕ, ◌+◌, ◌*◌, ◌/◌, ◌%◌, Bool, true, List, [], ◌∷◌, ◌++◌, Option, Some, None, decimal, length, take}
+use Rattle.std.specs.Prelude.{◌≡◌, ℕ, ◌+◌, ◌*◌, ◌/◌, ◌%◌, ◌≤◌, Bool, true, List, [], ◌∷◌, ◌++◌, Option, Some, None, decimal, length, take}
 use Rattle.rdf_terms.specs.declared.views.NodeRef.{NodeRef}
 use Rattle.rdf_terms.specs.declared.views.NodeRef.TheVariants as node_ref
 use Rattle.rdf_terms.specs.declared.views.TailRef.{TailRef}
@@ -20,6 +20,16 @@ pub record Placed (old new : List ℕ) (at : ℕ) (xs : List ℕ) (end : ℕ) : 
   pub bytes : take end new ≡ take at old ++ xs
   pub moved : end ≡ at + length xs
   pub len : length new ≡ length old
+
+-- new has xs after the first `at` bytes of old, up to `end`, and anything after that
+pub record WrittenAt (old new : List ℕ) (at : ℕ) (xs : List ℕ) (end : ℕ) : Type 0 where
+  pub bytes : take end new ≡ take at old ++ xs
+  pub within : end ≤ length new
+
+-- the first `at` bytes stay
+pub record KeptFront (old new : List ℕ) (at : ℕ) : Type 0 where
+  pub bytes : take at new ≡ take at old
+  pub within : at ≤ length new
 
 -- the bytes of a label, or the most digits of an offset
 abbrev pub node_room : NodeRef → ℕ

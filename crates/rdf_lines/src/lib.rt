@@ -2,6 +2,7 @@
 #![tactic(auto)]
 
 mod accept;
+mod buffer;
 mod canonical;
 mod form;
 mod grammar;
@@ -14,6 +15,7 @@ mod spelled;
 mod state;
 mod writer;
 
+pub use buffer::LineBuffer;
 pub use canonical::pass_lines;
 pub use form::{Escapes, LineEnding, LineForm, Style, WrittenForm};
 pub use grammar::LineGrammar;

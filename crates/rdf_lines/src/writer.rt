@@ -4,18 +4,19 @@ mod at_once;
 mod digits;
 mod escape;
 mod line;
-mod place;
+pub(crate) mod place;
 mod room;
 mod string;
 mod term;
-mod writable;
+pub(crate) mod writable;
 
-ghost use Rattle.std.specs.Prelude.{◌≡◌, ◌↔◌, ◌∷◌, ◌++◌, chars, encode_utf8_all, string_bytes, IfOk, OnErr, OnOk};
+ghost use Rattle.std.specs.Prelude.{◌≡◌, ◌↔◌, ◌∷◌, ◌++◌, ◌≤◌, chars, encode_utf8_all, length, string_bytes, IfOk, OnErr, OnOk};
 ghost use Rattle.std.specs.Result.{IsErrOf};
 ghost use Rattle.rdf_terms.specs.Views.{node_of, quad_of};
 ghost use Rattle.rdf_lines.specs.declared.form.Escapes.TheVariants.{Plain};
 ghost use Rattle.rdf_lines.specs.Forms.{form_of};
 ghost use Rattle.rdf_lines.specs.NodePrefixes.{line_in};
+ghost use Rattle.rdf_lines.specs.Placing.{KeptFront, WrittenAt};
 ghost use Rattle.rdf_lines.specs.WrittenBytes.{line_bytes};
 ghost use Rattle.rdf_lines.specs.Writing.{CanWrite, CanWriteNode, line, node_text, rename_node};
 
@@ -68,43 +69,71 @@ pub fn write_line_in<A: Allocator + Copy>(
     if !can_write(quad, form.style) {
         return Err(LabelFault::NotLabelled);
     }
-    match put_quad(quad, &form, out) {
-        Ok(()) => Ok(()),
-        Err(_) => Err(LabelFault::Memory),
+    let start = out.len();
+    match put_quad(quad, &form, start, out) {
+        Ok(end) => {
+            out.truncate(end);
+            Ok(())
+        }
+        Err(_) => {
+            out.truncate(start);
+            Err(LabelFault::Memory)
+        }
     }
 }
 
-// What is written in ASCII may have escapes in each part.
+/// Puts the line of a quad after the first `at` bytes, and answers where it ends; what stands after that is not said. In ASCII each part may
+/// have escapes.
 #[inline(always)]
-fn put_quad<A: Allocator + Copy>(
+pub(crate) fn put_quad<A: Allocator + Copy>(
     quad: &QuadRef<'_>,
     form: &WrittenForm<'_>,
+    at: usize,
     out: &mut Vec<u8, A>,
-) -> Result<(), AllocError>
-    ensures written { OnOk result (out.new.items ≡ out.old.items ++ line_bytes (form_of form.now) quad.now) }
-    ensures unchanged { OnErr result (out.new.items ≡ out.old.items) }
+) -> Result<usize, AllocError>
+    requires { at ≤ length out.old.items }
+    ensures written { IfOk result (λ end. WrittenAt out.old.items out.new.items at (line_bytes (form_of form.now) quad.now) end) }
+    ensures kept { OnErr result (KeptFront out.old.items out.new.items at) }
 {
     match form.escapes {
-        Escapes::Plain => put_plain(quad, form, out),
-        Escapes::Ascii => put_in_parts(quad, form, out),
+        Escapes::Plain => put_plain(quad, form, at, out),
+        Escapes::Ascii => put_apart(quad, form, at, out),
     }
 }
 
-// With one growth of the buffer where the texts are short and stand as they are, as most do.
+// At once where the texts are short and stand as they are, as most do.
 #[inline(always)]
 fn put_plain<A: Allocator + Copy>(
     quad: &QuadRef<'_>,
     form: &WrittenForm<'_>,
+    at: usize,
     out: &mut Vec<u8, A>,
-) -> Result<(), AllocError>
-    requires { form.now.escapes ≡ Plain }
-    ensures written { OnOk result (out.new.items ≡ out.old.items ++ line_bytes (form_of form.now) quad.now) }
-    ensures unchanged { OnErr result (out.new.items ≡ out.old.items) }
+) -> Result<usize, AllocError>
+    requires at { at ≤ length out.old.items }
+    requires plain { form.now.escapes ≡ Plain }
+    ensures written { IfOk result (λ end. WrittenAt out.old.items out.new.items at (line_bytes (form_of form.now) quad.now) end) }
+    ensures kept { OnErr result (KeptFront out.old.items out.new.items at) }
 {
     match short_room(quad, form.prefix.as_str()) {
-        Some(room) if has_no_escapes(quad.object) => put_at_once(quad, form, room, out),
-        _ => put_in_parts(quad, form, out),
+        Some(room) if has_no_escapes(&quad.object) => put_at_once(quad, form, room, at, out),
+        _ => put_apart(quad, form, at, out),
     }
+}
+
+// Part by part. What stood after the first `at` bytes is cut off.
+fn put_apart<A: Allocator + Copy>(
+    quad: &QuadRef<'_>,
+    form: &WrittenForm<'_>,
+    at: usize,
+    out: &mut Vec<u8, A>,
+) -> Result<usize, AllocError>
+    requires { at ≤ length out.old.items }
+    ensures written { IfOk result (λ end. WrittenAt out.old.items out.new.items at (line_bytes (form_of form.now) quad.now) end) }
+    ensures kept { OnErr result (KeptFront out.old.items out.new.items at) }
+{
+    out.truncate(at);
+    put_in_parts(quad, form, out)?;
+    Ok(out.len())
 }
 
 /// The text of a blank node with its `_:`, as `write_line` writes it.

@@ -142,14 +142,14 @@ module _ {G X D A : Type 0} (contents : D → Option (List ℕ)) (failed : D →
 
   -- what the drain took after the bytes that it had
   abbrev Behind : LineOut D A → List Quad → List ℕ → Type 0
-  Behind after qs rest = Moves (contents lines.drain.now) (contents after.drain.now) (lines.buffer.now.items ++ bytes_of lines.form qs) rest
+  Behind after qs rest = Moves (contents lines.drain.now) (contents after.drain.now) (lines.buffer.now ++ bytes_of lines.form qs) rest
 
   -- from the beginning of the run
   from_first : (after : LineOut D A) (qs : List Quad) (rest : List ℕ) → Behind after qs rest → Moves (contents first.drain.now) (contents after.drain.now) (lines_of (form_of first.form) (o.quads ++ qs)) rest
   from_first after qs rest m =
-      let styled = subst (λ s. Moves (contents lines.drain.now) (contents after.drain.now) (lines.buffer.now.items ++ bytes_of s qs) rest) o.same.form m in
+      let styled = subst (λ s. Moves (contents lines.drain.now) (contents after.drain.now) (lines.buffer.now ++ bytes_of s qs) rest) o.same.form m in
       subst (λ b. Moves (contents first.drain.now) (contents after.drain.now) b rest) (sym (bytes_of-append first.form o.quads qs))
-      (moves_on (contents first.drain.now) (contents lines.drain.now) (contents after.drain.now) (lines_of (form_of first.form) o.quads) (bytes_of first.form qs) lines.buffer.now.items rest o.moves styled)
+      (moves_on (contents first.drain.now) (contents lines.drain.now) (contents after.drain.now) (lines_of (form_of first.form) o.quads) (bytes_of first.form qs) lines.buffer.now rest o.moves styled)
 
   -- a beginning of the lines was written
   written_front : (after : LineOut D A) (ts : List Token) (qs : List Quad) (rest : List ℕ) → Writable lines.form.style qs → Behind after qs rest → Begun l ts (o.quads ++ qs) →
@@ -162,24 +162,24 @@ module _ {G X D A : Type 0} (contents : D → Option (List ℕ)) (failed : D →
   }
 
   -- all that waited was taken then
-  written_all : (mid after : LineOut D A) (qs : List Quad) → Writes contents lines (bytes_of lines.form qs) mid → Appends (contents mid.drain.now) (contents after.drain.now) mid.buffer.now.items →
+  written_all : (mid after : LineOut D A) (qs : List Quad) → Writes contents lines (bytes_of lines.form qs) mid → Appends (contents mid.drain.now) (contents after.drain.now) mid.buffer.now →
       Appends (contents first.drain.now) (contents after.drain.now) (lines_of (form_of first.form) (o.quads ++ qs))
   written_all mid after qs m t =
-      moves_all (contents first.drain.now) (contents mid.drain.now) (contents after.drain.now) (lines_of (form_of first.form) (o.quads ++ qs)) mid.buffer.now.items (from_first mid qs mid.buffer.now.items m) t
+      moves_all (contents first.drain.now) (contents mid.drain.now) (contents after.drain.now) (lines_of (form_of first.form) (o.quads ++ qs)) mid.buffer.now (from_first mid qs mid.buffer.now m) t
 
   -- the drain took a beginning of what waited
-  then_front : (mid after : LineOut D A) (qs : List Quad) (rest : List ℕ) → Writes contents lines (bytes_of lines.form qs) mid → Moves (contents mid.drain.now) (contents after.drain.now) mid.buffer.now.items rest →
+  then_front : (mid after : LineOut D A) (qs : List Quad) (rest : List ℕ) → Writes contents lines (bytes_of lines.form qs) mid → Moves (contents mid.drain.now) (contents after.drain.now) mid.buffer.now rest →
       Behind after qs rest
   then_front mid after qs rest m n =
-      subst (λ b. Moves (contents lines.drain.now) (contents after.drain.now) b rest) (append-nil (lines.buffer.now.items ++ bytes_of lines.form qs))
-      (moves_on (contents lines.drain.now) (contents mid.drain.now) (contents after.drain.now) (lines.buffer.now.items ++ bytes_of lines.form qs) [] mid.buffer.now.items rest m
-      (subst (λ b. Moves (contents mid.drain.now) (contents after.drain.now) b rest) (sym (append-nil mid.buffer.now.items)) n))
+      subst (λ b. Moves (contents lines.drain.now) (contents after.drain.now) b rest) (append-nil (lines.buffer.now ++ bytes_of lines.form qs))
+      (moves_on (contents lines.drain.now) (contents mid.drain.now) (contents after.drain.now) (lines.buffer.now ++ bytes_of lines.form qs) [] mid.buffer.now rest m
+      (subst (λ b. Moves (contents mid.drain.now) (contents after.drain.now) b rest) (sym (append-nil mid.buffer.now)) n))
 
   more_front : (after : LineOut D A) (done later : List Quad) (rest : List ℕ) → Behind after done rest → Behind after (done ++ later) (rest ++ bytes_of lines.form later)
   more_front after done later rest m =
       subst (λ b. Moves (contents lines.drain.now) (contents after.drain.now) b (rest ++ bytes_of lines.form later))
-      (append_assoc lines.buffer.now.items (bytes_of lines.form done) (bytes_of lines.form later) ∙ ap (λ b. lines.buffer.now.items ++ b) (sym (bytes_of-append lines.form done later)))
-      (moves_more (contents lines.drain.now) (contents after.drain.now) (lines.buffer.now.items ++ bytes_of lines.form done) (bytes_of lines.form later) rest m)
+      (append_assoc lines.buffer.now (bytes_of lines.form done) (bytes_of lines.form later) ∙ ap (λ b. lines.buffer.now ++ b) (sym (bytes_of-append lines.form done later)))
+      (moves_more (contents lines.drain.now) (contents after.drain.now) (lines.buffer.now ++ bytes_of lines.form done) (bytes_of lines.form later) rest m)
 
   -- quads that are due can be written
   styled : (ts : List Token) (qs rest : List Quad) → Due (w.documents x) ts ((o.quads ++ qs) ++ rest) → AllByRecursion (CanWrite lines.form.style) qs
@@ -212,7 +212,7 @@ module _ {G X D A : Type 0} (contents : D → Option (List ℕ)) (failed : D →
       by : (b : Bool) → failed mid.drain.now ≡ b → WritesFront job ts (contents first.drain.now) (contents after.drain.now)
       by true e =
           written_front after ts h.more h.tries.rest (left_able ts mid h)
-          (subst (λ k. Moves (contents lines.drain.now) k (lines.buffer.now.items ++ bytes_of lines.form h.more) h.tries.rest) (sym (t.before_it e)) h.tries.moves) h.due
+          (subst (λ k. Moves (contents lines.drain.now) k (lines.buffer.now ++ bytes_of lines.form h.more) h.tries.rest) (sym (t.before_it e)) h.tries.moves) h.due
       by false e =
           let (done, later, split, writes) = h.tries.whole e in
           let (rest, moves) = t.while_taking e in
@@ -371,7 +371,7 @@ module _ {G X D A : Type 0} (contents : D → Option (List ℕ)) (failed : D →
     more_put mid s able m live = record {
       quads = o.quads ++ more;
       read = read';
-      moves = from_first mid more mid.buffer.now.items m;
+      moves = from_first mid more mid.buffer.now m;
       writable = both_writable first.form.style o.quads more o.writable able;
       same = same_out first lines mid o.same s;
       live = live;
@@ -418,7 +418,7 @@ module _ {G X D A : Type 0} (contents : D → Option (List ℕ)) (failed : D →
         by stream.Write h = (
           h.0,
           written_front after ts p.given h.1 able
-              (subst (λ b. Moves (contents lines.drain.now) (contents after.drain.now) (lines.buffer.now.items ++ b) h.1) their_lines h.2)
+              (subst (λ b. Moves (contents lines.drain.now) (contents after.drain.now) (lines.buffer.now ++ b) h.1) their_lines h.2)
               (begun' text reader' p.limit p.given passed'),
         )
         by stream.Memory h = (
@@ -426,7 +426,7 @@ module _ {G X D A : Type 0} (contents : D → Option (List ℕ)) (failed : D →
           record {
             quads = o.quads;
             due = begins_less l ts o.quads p.given (begun' text reader' p.limit p.given passed');
-            written = moves_all (contents first.drain.now) (contents lines.drain.now) (contents after.drain.now) (lines_of (form_of first.form) o.quads) lines.buffer.now.items o.moves h.1;
+            written = moves_all (contents first.drain.now) (contents lines.drain.now) (contents after.drain.now) (lines_of (form_of first.form) o.quads) lines.buffer.now o.moves h.1;
             ascii = these_ascii;
           },
         )
@@ -435,12 +435,12 @@ module _ {G X D A : Type 0} (contents : D → Option (List ℕ)) (failed : D →
   -- ---- what waits is handed over
 
   -- all of it
-  pub handed : (after : LineOut D A) → SameOut lines after → Appends (contents lines.drain.now) (contents after.drain.now) lines.buffer.now.items → after.buffer.now.items ≡ [] →
+  pub handed : (after : LineOut D A) → SameOut lines after → Appends (contents lines.drain.now) (contents after.drain.now) lines.buffer.now → after.buffer.now ≡ [] →
       failed after.drain.now ≡ false → HandedOver contents failed w x reader bytes first after
   handed after s t none live = record {
     quads = o.quads;
     read = o.read;
-    written = moves_all (contents first.drain.now) (contents lines.drain.now) (contents after.drain.now) (lines_of (form_of first.form) o.quads) lines.buffer.now.items o.moves t;
+    written = moves_all (contents first.drain.now) (contents lines.drain.now) (contents after.drain.now) (lines_of (form_of first.form) o.quads) lines.buffer.now o.moves t;
     writable = o.writable;
     none_waits = none;
     same = same_out first lines after o.same s;
@@ -448,12 +448,12 @@ module _ {G X D A : Type 0} (contents : D → Option (List ℕ)) (failed : D →
   }
 
   -- the drain failed
-  pub handing_broke : (after : LineOut D A) → SameOut lines after → AppendsFront (contents lines.drain.now) (contents after.drain.now) lines.buffer.now.items → failed after.drain.now ≡ true →
+  pub handing_broke : (after : LineOut D A) → SameOut lines after → AppendsFront (contents lines.drain.now) (contents after.drain.now) lines.buffer.now → failed after.drain.now ≡ true →
       Halts stream.Write bytes false after
   handing_broke after s t broke =
-      let (rest, m) = front_moves (contents lines.drain.now) (contents after.drain.now) lines.buffer.now.items t in
-      let all = moves_on (contents first.drain.now) (contents lines.drain.now) (contents after.drain.now) (lines_of (form_of first.form) o.quads) [] lines.buffer.now.items rest o.moves
-      (subst (λ b. Moves (contents lines.drain.now) (contents after.drain.now) b rest) (sym (append-nil lines.buffer.now.items)) m) in
+      let (rest, m) = front_moves (contents lines.drain.now) (contents after.drain.now) lines.buffer.now t in
+      let all = moves_on (contents first.drain.now) (contents lines.drain.now) (contents after.drain.now) (lines_of (form_of first.form) o.quads) [] lines.buffer.now rest o.moves
+      (subst (λ b. Moves (contents lines.drain.now) (contents after.drain.now) b rest) (sym (append-nil lines.buffer.now)) m) in
       let now = (reading_of l bytes false).tokens in
       record {
         same = same_out first lines after o.same s;
@@ -483,7 +483,7 @@ module _ {G X D A : Type 0} (contents : D → Option (List ℕ)) (failed : D →
     all_writable = all_able f.more all_put.writable
 
     -- the document was read and written
-    pub end_read : (after : LineOut D A) → SameOut mid after → Appends (contents mid.drain.now) (contents after.drain.now) mid.buffer.now.items →
+    pub end_read : (after : LineOut D A) → SameOut mid after → Appends (contents mid.drain.now) (contents after.drain.now) mid.buffer.now →
         SameOut first after × Accepts job bytes (contents first.drain.now) (contents after.drain.now) summary
     end_read after s t = (
       same_out first mid after (same_out first lines mid o.same all_put.same) s,
@@ -499,10 +499,10 @@ module _ {G X D A : Type 0} (contents : D → Option (List ℕ)) (failed : D →
     )
 
     -- the drain failed
-    pub end_broke : (after : LineOut D A) → SameOut mid after → AppendsFront (contents mid.drain.now) (contents after.drain.now) mid.buffer.now.items → failed after.drain.now ≡ true →
+    pub end_broke : (after : LineOut D A) → SameOut mid after → AppendsFront (contents mid.drain.now) (contents after.drain.now) mid.buffer.now → failed after.drain.now ≡ true →
         Halts stream.Write bytes true after
     end_broke after s t broke =
-        let (rest, m) = front_moves (contents mid.drain.now) (contents after.drain.now) mid.buffer.now.items t in
+        let (rest, m) = front_moves (contents mid.drain.now) (contents after.drain.now) mid.buffer.now t in
         record {
           same = same_out first mid after (same_out first lines mid o.same all_put.same) s;
           halts = (broke, written_front after (reading_of l bytes true).tokens f.more rest all_put.writable (then_front mid after f.more rest all_put.writes m) all_begun);
@@ -586,7 +586,7 @@ module _ {G X D A : Type 0} (contents : D → Option (List ℕ)) (failed : D →
   }
 
   -- what waited was handed over
-  pub run_handed : (after : LineOut D A) → SameOut lines after → Appends (contents lines.drain.now) (contents after.drain.now) lines.buffer.now.items → after.buffer.now.items ≡ [] →
+  pub run_handed : (after : LineOut D A) → SameOut lines after → Appends (contents lines.drain.now) (contents after.drain.now) lines.buffer.now → after.buffer.now ≡ [] →
       failed after.drain.now ≡ false → IsConverting contents failed w style reader first bytes old after
   run_handed after s t none live = record {
     begun = i.begun;
@@ -596,7 +596,7 @@ module _ {G X D A : Type 0} (contents : D → Option (List ℕ)) (failed : D →
   }
 
   -- the drain failed
-  pub run_broke : (after : LineOut D A) → SameOut lines after → AppendsFront (contents lines.drain.now) (contents after.drain.now) lines.buffer.now.items → failed after.drain.now ≡ true →
+  pub run_broke : (after : LineOut D A) → SameOut lines after → AppendsFront (contents lines.drain.now) (contents after.drain.now) lines.buffer.now → failed after.drain.now ≡ true →
       RunHalts contents failed w stream.Write reader first bytes false after
   run_broke after s t broke = halted stream.Write bytes false after (λ x y o. handing_broke contents failed w x old bytes first lines y o after s t broke)
 
@@ -633,7 +633,7 @@ module _ {G X D A : Type 0} (contents : D → Option (List ℕ)) (failed : D →
 
   module _ (summary : Summary) (mid : LineOut D A) (f : Finishes w (Takes contents failed) old lines summary mid) where
     -- the document was read and written
-    pub run_ends : (flushed : D → Bool) (after : LineOut D A) → SameOut mid after → Appends (contents mid.drain.now) (contents after.drain.now) mid.buffer.now.items → flushed after.drain.now ≡ true →
+    pub run_ends : (flushed : D → Bool) (after : LineOut D A) → SameOut mid after → Appends (contents mid.drain.now) (contents after.drain.now) mid.buffer.now → flushed after.drain.now ≡ true →
         RunEnds contents failed flushed w summary reader first bytes after
     run_ends flushed after s t sent = record {
       same = (end_read contents failed w i.begun.0 old bytes first lines i.begun.1.starts.convertible put_now summary mid f after s t).0;
@@ -644,7 +644,7 @@ module _ {G X D A : Type 0} (contents : D → Option (List ℕ)) (failed : D →
     }
 
     -- the drain failed
-    pub end_run_broke : (after : LineOut D A) → SameOut mid after → AppendsFront (contents mid.drain.now) (contents after.drain.now) mid.buffer.now.items → failed after.drain.now ≡ true →
+    pub end_run_broke : (after : LineOut D A) → SameOut mid after → AppendsFront (contents mid.drain.now) (contents after.drain.now) mid.buffer.now → failed after.drain.now ≡ true →
         RunHalts contents failed w stream.Write reader first bytes true after
     end_run_broke after s t broke = halted stream.Write bytes true after (λ x y o. end_broke contents failed w x old bytes first lines y o summary mid f after s t broke)
 

@@ -99,13 +99,13 @@ by_drains P was is was' is' o n h = subst (λ d. P was' d) n (subst (λ d. P d i
 -- lines of this form, of which none waits, over a drain that has not failed
 pub record AreFresh {D A : Type 0} (failed : D → Bool) (asked : Form) (lines : LineOut D A) (old : D) : Type 0 where
   pub form : form_of lines.form ≡ asked
-  pub none_waits : lines.buffer.now.items ≡ []
+  pub none_waits : lines.buffer.now ≡ []
   pub drain : lines.drain.now ≡ old
   pub live : failed old ≡ false
 
 -- so are those over an empty buffer
 pub over_empty : {D A : Type 0} (failed : D → Bool) (written : WrittenForm) (lines : LineOut D A) (waiting : List ℕ) (old : D) →
-    lines.form ≡ written → lines.buffer.now.items ≡ waiting → waiting ≡ [] → lines.drain.now ≡ old → failed old ≡ false → AreFresh failed (form_of written) lines old
+    lines.form ≡ written → lines.buffer.now ≡ waiting → waiting ≡ [] → lines.drain.now ≡ old → failed old ≡ false → AreFresh failed (form_of written) lines old
 over_empty failed written lines waiting old f b e d l = record { form = ap form_of f; none_waits = b ∙ e; drain = d; live = l }
 
 module _ {G X D : Type 0} (A : Type 0) (contents : D → Option (List ℕ)) (failed flushed : D → Bool) (w : Words G X Quad) (style : Style) where

@@ -61,12 +61,12 @@ module _ {D A : Type 0} (contents : D → Option (List ℕ)) (failed : D → Boo
   -- some bytes were not put
   pub refusal_grows : (reported : StreamFault) (a b : LineOut D A) (bytes : List ℕ) → SameOut a b → PutHalts contents failed reported a bytes b → OnlyGrows contents a b
   refusal_grows stream.Write a b bytes s h = grows_moved contents a b _ h.1 s h.2
-  refusal_grows stream.Memory a b bytes s h = grows_by contents a b a.buffer.now.items s h.1
+  refusal_grows stream.Memory a b bytes s h = grows_by contents a b a.buffer.now s h.1
   refusal_grows reported a b bytes s h = absurd h
 
   -- what waited was handed over, and a fault is reported
   pub stop_grows : (f : Fault) (reported : StreamFault) (a b : LineOut D A) → SameOut a b → Reports contents failed f reported a b → OnlyGrows contents a b
-  stop_grows f reported a b s h = ⊎_elim (λ p. by (failed a.drain.now) refl p.1) (λ p. grows_by contents a b a.buffer.now.items s p.1.taken) h
+  stop_grows f reported a b s h = ⊎_elim (λ p. by (failed a.drain.now) refl p.1) (λ p. grows_by contents a b a.buffer.now s p.1.taken) h
     where
       by : (e : Bool) → failed a.drain.now ≡ e → ReportsWrite contents failed a b → OnlyGrows contents a b
       by true e t = record { same = s; grows = subst (Grows (contents a.drain.now)) (sym (t.before_it e)) (record { more = []; added = Appends-nil (contents a.drain.now) }) }

@@ -82,15 +82,15 @@ module _ {D A : Type 0} (contents : D → Option (List ℕ)) (failed : D → Boo
   -- some bytes were written, and then others
   pub writes_on : (a b c : LineOut D A) (bs cs : List ℕ) → Writes contents a bs b → Writes contents b cs c → Writes contents a (bs ++ cs) c
   writes_on a b c bs cs p q =
-      subst (λ l. Moves (contents a.drain.now) (contents c.drain.now) l c.buffer.now.items) (append_assoc a.buffer.now.items bs cs)
-      (moves_on (contents a.drain.now) (contents b.drain.now) (contents c.drain.now) (a.buffer.now.items ++ bs) cs b.buffer.now.items c.buffer.now.items p q)
+      subst (λ l. Moves (contents a.drain.now) (contents c.drain.now) l c.buffer.now) (append_assoc a.buffer.now bs cs)
+      (moves_on (contents a.drain.now) (contents b.drain.now) (contents c.drain.now) (a.buffer.now ++ bs) cs b.buffer.now c.buffer.now p q)
 
   -- the lines of quads that were put are in the buffer or the drain, one after another
   pub taken : (qs : List Quad) (a b : LineOut D A) → Puts a qs b → AllByRecursion (CanWrite a.form.style) qs → Taken a qs b
   taken [] a b h w = subst (Taken a []) (sym h) (record {
     same = record { form = refl; buffer = refl; drain = refl };
     writable = tt;
-    writes = waits_same (contents a.drain.now) a.buffer.now.items a.buffer.now.items refl;
+    writes = waits_same (contents a.drain.now) a.buffer.now a.buffer.now refl;
     live = λ l. l;
   })
   taken (q ∷ qs) a b h w =
@@ -109,7 +109,7 @@ module _ {D A : Type 0} (contents : D → Option (List ℕ)) (failed : D → Boo
   pub record Tried (a : LineOut D A) (qs : List Quad) (b : LineOut D A) : Type 0 where
     pub same : SameOut a b
     pub rest : List ℕ
-    pub moves : Moves (contents a.drain.now) (contents b.drain.now) (a.buffer.now.items ++ bytes_of a.form qs) rest
+    pub moves : Moves (contents a.drain.now) (contents b.drain.now) (a.buffer.now ++ bytes_of a.form qs) rest
     pub writable : AllByRecursion (CanWrite a.form.style) qs → Writable a.form.style qs
     -- where the drain has not failed, the lines of some of the quads were written
     pub whole : failed b.drain.now ≡ false → (done later : List Quad) × (qs ≡ done ++ later) × Writes contents a (bytes_of a.form done) b
@@ -118,10 +118,10 @@ module _ {D A : Type 0} (contents : D → Option (List ℕ)) (failed : D → Boo
   pub tried : (qs : List Quad) (a b : LineOut D A) → Tries a qs b → Tried a qs b
   tried [] a b h = subst (Tried a []) (sym h) (record {
     same = record { form = refl; buffer = refl; drain = refl };
-    rest = a.buffer.now.items;
-    moves = waits_same (contents a.drain.now) a.buffer.now.items a.buffer.now.items refl;
+    rest = a.buffer.now;
+    moves = waits_same (contents a.drain.now) a.buffer.now a.buffer.now refl;
     writable = λ w. tt;
-    whole = λ l. ([], [], refl, waits_same (contents a.drain.now) a.buffer.now.items a.buffer.now.items refl);
+    whole = λ l. ([], [], refl, waits_same (contents a.drain.now) a.buffer.now a.buffer.now refl);
   })
   tried (q ∷ qs) a b h = ⊎_elim last (more (λ n x. tried qs n b x)) h
     where
@@ -129,7 +129,7 @@ module _ {D A : Type 0} (contents : D → Option (List ℕ)) (failed : D → Boo
       last p = record {
         same = p.1.same;
         rest = p.1.rest;
-        moves = subst (λ l. Moves (contents a.drain.now) (contents b.drain.now) (a.buffer.now.items ++ l) p.1.rest)
+        moves = subst (λ l. Moves (contents a.drain.now) (contents b.drain.now) (a.buffer.now ++ l) p.1.rest)
             (ap encode_utf8_all (sym (append-nil (line_in (form_of a.form) q))) ∙ ap (λ rs. bytes_of a.form (q ∷ rs)) (sym p.0)) p.1.moves;
         writable = λ w. ((untruncated_quad q p.1.formed, w.0), subst (Writable a.form.style) (sym p.0) tt);
         whole = λ l. ([], q ∷ qs, refl, p.1.live l);
@@ -145,9 +145,9 @@ module _ {D A : Type 0} (contents : D → Option (List ℕ)) (failed : D → Boo
             same = same_out a next b t.same r.same;
             rest = r.rest;
             moves = subst (λ l. Moves (contents a.drain.now) (contents b.drain.now) l r.rest)
-                (append_assoc a.buffer.now.items (line_bytes a.form q) (bytes_of a.form qs) ∙ ap (λ l. a.buffer.now.items ++ l) (sym join))
-                (moves_on (contents a.drain.now) (contents next.drain.now) (contents b.drain.now) (a.buffer.now.items ++ line_bytes a.form q) (bytes_of a.form qs) next.buffer.now.items r.rest first
-                (subst (λ f. Moves (contents next.drain.now) (contents b.drain.now) (next.buffer.now.items ++ bytes_of f qs) r.rest) t.same.form r.moves));
+                (append_assoc a.buffer.now (line_bytes a.form q) (bytes_of a.form qs) ∙ ap (λ l. a.buffer.now ++ l) (sym join))
+                (moves_on (contents a.drain.now) (contents next.drain.now) (contents b.drain.now) (a.buffer.now ++ line_bytes a.form q) (bytes_of a.form qs) next.buffer.now r.rest first
+                (subst (λ f. Moves (contents next.drain.now) (contents b.drain.now) (next.buffer.now ++ bytes_of f qs) r.rest) t.same.form r.moves));
             writable = λ w. (
               (untruncated_quad q t.formed, w.0),
               subst (λ (f : WrittenForm). Writable f.style qs) t.same.form (r.writable (subst (λ (f : WrittenForm). AllByRecursion (CanWrite f.style) qs) (sym t.same.form) w.1)),
@@ -196,13 +196,13 @@ module _ {D A : Type 0} (contents : D → Option (List ℕ)) (failed : D → Boo
   put_left stream.Write p = (
     p.0,
     p.1 ++ bytes,
-    moves_more (contents before.drain.now) (contents after.drain.now) before.buffer.now.items bytes p.1
-        (subst (λ l. Moves (contents before.drain.now) (contents after.drain.now) l p.1) (append-nil (before.buffer.now.items ++ []) ∙ append-nil before.buffer.now.items)
-        (moves_on (contents before.drain.now) (contents mid.drain.now) (contents after.drain.now) (before.buffer.now.items ++ []) [] mid.buffer.now.items p.1 m p.2)),
+    moves_more (contents before.drain.now) (contents after.drain.now) before.buffer.now bytes p.1
+        (subst (λ l. Moves (contents before.drain.now) (contents after.drain.now) l p.1) (append-nil (before.buffer.now ++ []) ∙ append-nil before.buffer.now)
+        (moves_on (contents before.drain.now) (contents mid.drain.now) (contents after.drain.now) (before.buffer.now ++ []) [] mid.buffer.now p.1 m p.2)),
   )
   put_left stream.Memory p = (
     p.0,
-    subst (Appends (contents before.drain.now) (contents after.drain.now)) (append-nil before.buffer.now.items)
-        (moves_all (contents before.drain.now) (contents mid.drain.now) (contents after.drain.now) (before.buffer.now.items ++ []) mid.buffer.now.items m p.1),
+    subst (Appends (contents before.drain.now) (contents after.drain.now)) (append-nil before.buffer.now)
+        (moves_all (contents before.drain.now) (contents mid.drain.now) (contents after.drain.now) (before.buffer.now ++ []) mid.buffer.now m p.1),
   )
   put_left reported p = absurd p

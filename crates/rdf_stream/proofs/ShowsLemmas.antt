@@ -111,7 +111,7 @@ module _ {D A : Type 0} (contents : D → Option (List ℕ)) (failed : D → Boo
 
   -- what the drain took after the bytes that it had
   abbrev Behind : LineOut D A → List Token → List ℕ → Type 0
-  Behind after ts rest = Moves (contents lines.drain.now) (contents after.drain.now) (lines.buffer.now.items ++ all_lines ts) rest
+  Behind after ts rest = Moves (contents lines.drain.now) (contents after.drain.now) (lines.buffer.now ++ all_lines ts) rest
 
   -- from the beginning of the run
   from_first : (after : LineOut D A) (ts : List Token) (rest : List ℕ) → Behind after ts rest → Moves (contents first.drain.now) (contents after.drain.now) (all_lines (before ++ ts)) rest
@@ -132,10 +132,10 @@ module _ {D A : Type 0} (contents : D → Option (List ℕ)) (failed : D → Boo
       (moves_front (contents first.drain.now) (contents after.drain.now) (all_lines (before ++ ts)) rest (from_first after ts rest m))
 
   -- all that waited was taken then
-  written_all : (mid after : LineOut D A) (ts : List Token) → Writes contents lines (all_lines ts) mid → Appends (contents mid.drain.now) (contents after.drain.now) mid.buffer.now.items →
+  written_all : (mid after : LineOut D A) (ts : List Token) → Writes contents lines (all_lines ts) mid → Appends (contents mid.drain.now) (contents after.drain.now) mid.buffer.now →
       Appends (contents first.drain.now) (contents after.drain.now) (all_lines (before ++ ts))
   written_all mid after ts m t =
-      moves_all (contents first.drain.now) (contents mid.drain.now) (contents after.drain.now) (all_lines (before ++ ts)) mid.buffer.now.items (from_first mid ts mid.buffer.now.items m) t
+      moves_all (contents first.drain.now) (contents mid.drain.now) (contents after.drain.now) (all_lines (before ++ ts)) mid.buffer.now (from_first mid ts mid.buffer.now m) t
 
   -- the lines of all tokens of some bytes
   written_tokens : (after : LineOut D A) (ts us : List Token) → Appends (contents first.drain.now) (contents after.drain.now) (all_lines (before ++ ts)) → before ++ ts ≡ without_end us →
@@ -143,18 +143,18 @@ module _ {D A : Type 0} (contents : D → Option (List ℕ)) (failed : D → Boo
   written_tokens after ts us a e = subst (Appends (contents first.drain.now) (contents after.drain.now)) (ap all_lines e ∙ lines_without us) a
 
   -- the drain took a beginning of what waited
-  then_front : (mid after : LineOut D A) (ts : List Token) (rest : List ℕ) → Writes contents lines (all_lines ts) mid → Moves (contents mid.drain.now) (contents after.drain.now) mid.buffer.now.items rest →
+  then_front : (mid after : LineOut D A) (ts : List Token) (rest : List ℕ) → Writes contents lines (all_lines ts) mid → Moves (contents mid.drain.now) (contents after.drain.now) mid.buffer.now rest →
       Behind after ts rest
   then_front mid after ts rest m n =
-      subst (λ b. Moves (contents lines.drain.now) (contents after.drain.now) b rest) (append-nil (lines.buffer.now.items ++ all_lines ts))
-      (moves_on (contents lines.drain.now) (contents mid.drain.now) (contents after.drain.now) (lines.buffer.now.items ++ all_lines ts) [] mid.buffer.now.items rest m
-      (subst (λ b. Moves (contents mid.drain.now) (contents after.drain.now) b rest) (sym (append-nil mid.buffer.now.items)) n))
+      subst (λ b. Moves (contents lines.drain.now) (contents after.drain.now) b rest) (append-nil (lines.buffer.now ++ all_lines ts))
+      (moves_on (contents lines.drain.now) (contents mid.drain.now) (contents after.drain.now) (lines.buffer.now ++ all_lines ts) [] mid.buffer.now rest m
+      (subst (λ b. Moves (contents mid.drain.now) (contents after.drain.now) b rest) (sym (append-nil mid.buffer.now)) n))
 
   more_front : (after : LineOut D A) (done later : List Token) (rest : List ℕ) → Behind after done rest → Behind after (done ++ later) (rest ++ all_lines later)
   more_front after done later rest m =
       subst (λ b. Moves (contents lines.drain.now) (contents after.drain.now) b (rest ++ all_lines later))
-      (append_assoc lines.buffer.now.items (all_lines done) (all_lines later) ∙ ap (λ b. lines.buffer.now.items ++ b) (sym (all-append done later)))
-      (moves_more (contents lines.drain.now) (contents after.drain.now) (lines.buffer.now.items ++ all_lines done) (all_lines later) rest m)
+      (append_assoc lines.buffer.now (all_lines done) (all_lines later) ∙ ap (λ b. lines.buffer.now ++ b) (sym (all-append done later)))
+      (moves_more (contents lines.drain.now) (contents after.drain.now) (lines.buffer.now ++ all_lines done) (all_lines later) rest m)
 
   -- ---- an error of the reader: some tokens were tried
 
@@ -180,7 +180,7 @@ module _ {D A : Type 0} (contents : D → Option (List ℕ)) (failed : D → Boo
       by : (b : Bool) → failed mid.drain.now ≡ b → ShowsFront r (contents first.drain.now) (contents after.drain.now)
       by true e =
           written_front after r h.more h.tries.rest
-          (subst (λ k. Moves (contents lines.drain.now) k (lines.buffer.now.items ++ all_lines h.more) h.tries.rest) (sym (t.before_it e)) h.tries.moves) h.begun
+          (subst (λ k. Moves (contents lines.drain.now) k (lines.buffer.now ++ all_lines h.more) h.tries.rest) (sym (t.before_it e)) h.tries.moves) h.begun
       by false e =
           let (done, later, split, writes) = h.tries.whole e in
           let (rest, moves) = t.while_taking e in
@@ -375,7 +375,7 @@ module _ {D A : Type 0} (contents : D → Option (List ℕ)) (failed : D → Boo
     all' = read'.reached ∙ ap (λ n. without_end (tokens_of d n (bytes ++ piece) false).tokens) f.limit ∙ ap (λ r. without_end r.tokens) (same_reading (bytes ++ piece) false)
 
     -- all lines were handed over
-    piece_read : (after : LineOut D A) → SameOut mid after → Appends (contents mid.drain.now) (contents after.drain.now) mid.buffer.now.items → after.buffer.now.items ≡ [] →
+    piece_read : (after : LineOut D A) → SameOut mid after → Appends (contents mid.drain.now) (contents after.drain.now) mid.buffer.now → after.buffer.now ≡ [] →
         failed after.drain.now ≡ false → HandedOver contents failed d job reader' (bytes ++ piece) first after
     piece_read after s t none live = record {
       dialect = o.dialect;
@@ -388,10 +388,10 @@ module _ {D A : Type 0} (contents : D → Option (List ℕ)) (failed : D → Boo
     }
 
     -- the drain failed
-    piece_broke : (after : LineOut D A) → SameOut mid after → AppendsFront (contents mid.drain.now) (contents after.drain.now) mid.buffer.now.items → failed after.drain.now ≡ true →
+    piece_broke : (after : LineOut D A) → SameOut mid after → AppendsFront (contents mid.drain.now) (contents after.drain.now) mid.buffer.now → failed after.drain.now ≡ true →
         Halted stream.Write (bytes ++ piece) false after
     piece_broke after s t broke =
-        let (rest, m) = front_moves (contents mid.drain.now) (contents after.drain.now) mid.buffer.now.items t in
+        let (rest, m) = front_moves (contents mid.drain.now) (contents after.drain.now) mid.buffer.now t in
         record {
           same = same_out first mid after (same_out first lines mid o.same put'.same) s;
           halts = (broke, written_front after now_all f.more rest (then_front mid after f.more rest put'.writes m) (begun_all now_all (before ++ f.more) all'));
@@ -408,7 +408,7 @@ module _ {D A : Type 0} (contents : D → Option (List ℕ)) (failed : D → Boo
     all_end = due_tokens d _ (before ++ f.more) sums.due ∙ ap (λ r. without_end r.tokens) (same_reading bytes true)
 
     -- the document was read, and its tokens shown
-    end_read : (after : LineOut D A) → SameOut mid after → Appends (contents mid.drain.now) (contents after.drain.now) mid.buffer.now.items →
+    end_read : (after : LineOut D A) → SameOut mid after → Appends (contents mid.drain.now) (contents after.drain.now) mid.buffer.now →
         SameOut first after × Shows job bytes (contents first.drain.now) (contents after.drain.now) (record summary { quads = 0 })
     end_read after s t = (
       same_out first mid after (same_out first lines mid o.same all_put.same) s,
@@ -422,10 +422,10 @@ module _ {D A : Type 0} (contents : D → Option (List ℕ)) (failed : D → Boo
     )
 
     -- the drain failed
-    end_broke : (after : LineOut D A) → SameOut mid after → AppendsFront (contents mid.drain.now) (contents after.drain.now) mid.buffer.now.items → failed after.drain.now ≡ true →
+    end_broke : (after : LineOut D A) → SameOut mid after → AppendsFront (contents mid.drain.now) (contents after.drain.now) mid.buffer.now → failed after.drain.now ≡ true →
         Halted stream.Write bytes true after
     end_broke after s t broke =
-        let (rest, m) = front_moves (contents mid.drain.now) (contents after.drain.now) mid.buffer.now.items t in
+        let (rest, m) = front_moves (contents mid.drain.now) (contents after.drain.now) mid.buffer.now t in
         record {
           same = same_out first mid after (same_out first lines mid o.same all_put.same) s;
           halts = (broke, written_front after (tokens_in job bytes true) f.more rest (then_front mid after f.more rest all_put.writes m) (begun_all (tokens_in job bytes true) (before ++ f.more) all_end));
@@ -455,7 +455,7 @@ module _ {D A : Type 0} (contents : D → Option (List ℕ)) (failed : D → Boo
   module _ (piece : List ℕ) where
     module _ (new : Driven ℕ) (mid : LineOut D A) (f : Feeds (token_words d) (TakesToken contents failed) old lines piece new mid) where
       -- a piece more
-      pub run_takes : (after : LineOut D A) → SameOut mid after → Appends (contents mid.drain.now) (contents after.drain.now) mid.buffer.now.items → after.buffer.now.items ≡ [] →
+      pub run_takes : (after : LineOut D A) → SameOut mid after → Appends (contents mid.drain.now) (contents after.drain.now) mid.buffer.now → after.buffer.now ≡ [] →
           failed after.drain.now ≡ false → IsShowing contents failed d reader first (bytes ++ piece) new after
       run_takes after s t none live = record {
         begun = i.begun;
@@ -482,7 +482,7 @@ module _ {D A : Type 0} (contents : D → Option (List ℕ)) (failed : D → Boo
           omega (arith, b, small, few)
 
       -- the drain failed
-      pub run_broke : (after : LineOut D A) → SameOut mid after → AppendsFront (contents mid.drain.now) (contents after.drain.now) mid.buffer.now.items → failed after.drain.now ≡ true →
+      pub run_broke : (after : LineOut D A) → SameOut mid after → AppendsFront (contents mid.drain.now) (contents after.drain.now) mid.buffer.now → failed after.drain.now ≡ true →
           ShowHalts contents failed d stream.Write reader first (bytes ++ piece) false after
       run_broke after s t broke = halted stream.Write (bytes ++ piece) false after (λ job o. piece_broke contents failed d job old bytes first lines o piece new mid f after s t broke)
 
@@ -495,7 +495,7 @@ module _ {D A : Type 0} (contents : D → Option (List ℕ)) (failed : D → Boo
 
   module _ (summary : Summary) (mid : LineOut D A) (f : Finishes (token_words d) (TakesToken contents failed) old lines summary mid) where
     -- the document was read, and its tokens shown
-    pub run_ends : (flushed : D → Bool) (after : LineOut D A) → SameOut mid after → Appends (contents mid.drain.now) (contents after.drain.now) mid.buffer.now.items → flushed after.drain.now ≡ true →
+    pub run_ends : (flushed : D → Bool) (after : LineOut D A) → SameOut mid after → Appends (contents mid.drain.now) (contents after.drain.now) mid.buffer.now → flushed after.drain.now ≡ true →
         ShowEnds contents failed flushed d (record summary { quads = 0 }) reader first bytes after
     run_ends flushed after s t sent = record {
       same = (end_read contents failed d i.begun.0 old bytes first lines begun_with summary mid f after s t).0;
@@ -504,7 +504,7 @@ module _ {D A : Type 0} (contents : D → Option (List ℕ)) (failed : D → Boo
     }
 
     -- the drain failed
-    pub end_run_broke : (after : LineOut D A) → SameOut mid after → AppendsFront (contents mid.drain.now) (contents after.drain.now) mid.buffer.now.items → failed after.drain.now ≡ true →
+    pub end_run_broke : (after : LineOut D A) → SameOut mid after → AppendsFront (contents mid.drain.now) (contents after.drain.now) mid.buffer.now → failed after.drain.now ≡ true →
         ShowHalts contents failed d stream.Write reader first bytes true after
     end_run_broke after s t broke = halted stream.Write bytes true after (λ job o. end_broke contents failed d job old bytes first lines o summary mid f after s t broke)
 

@@ -88,7 +88,7 @@ module _ {D A : Type 0} (contents : D → Option (List ℕ)) (failed : D → Boo
   pub put : (ts : List Token) (a b : LineOut D A) → Puts a ts b → Put a ts b
   put [] a b h = subst (Put a []) (sym h) (record {
     same = record { form = refl; buffer = refl; drain = refl };
-    writes = waits_same (contents a.drain.now) a.buffer.now.items a.buffer.now.items refl;
+    writes = waits_same (contents a.drain.now) a.buffer.now a.buffer.now refl;
   })
   put (t ∷ ts) a b h =
       let (next, x, rest) = h in
@@ -99,7 +99,7 @@ module _ {D A : Type 0} (contents : D → Option (List ℕ)) (failed : D → Boo
   pub record TriedTokens (a : LineOut D A) (ts : List Token) (b : LineOut D A) : Type 0 where
     pub same : SameOut a b
     pub rest : List ℕ
-    pub moves : Moves (contents a.drain.now) (contents b.drain.now) (a.buffer.now.items ++ all_lines ts) rest
+    pub moves : Moves (contents a.drain.now) (contents b.drain.now) (a.buffer.now ++ all_lines ts) rest
     -- where the drain has not failed, the lines of some of the tokens were written
     pub whole : failed b.drain.now ≡ false → (done later : List Token) × (ts ≡ done ++ later) × Writes contents a (all_lines done) b
 
@@ -107,9 +107,9 @@ module _ {D A : Type 0} (contents : D → Option (List ℕ)) (failed : D → Boo
   pub tried_tokens : (ts : List Token) (a b : LineOut D A) → Tries a ts b → TriedTokens a ts b
   tried_tokens [] a b h = subst (TriedTokens a []) (sym h) (record {
     same = record { form = refl; buffer = refl; drain = refl };
-    rest = a.buffer.now.items;
-    moves = waits_same (contents a.drain.now) a.buffer.now.items a.buffer.now.items refl;
-    whole = λ l. ([], [], refl, waits_same (contents a.drain.now) a.buffer.now.items a.buffer.now.items refl);
+    rest = a.buffer.now;
+    moves = waits_same (contents a.drain.now) a.buffer.now a.buffer.now refl;
+    whole = λ l. ([], [], refl, waits_same (contents a.drain.now) a.buffer.now a.buffer.now refl);
   })
   tried_tokens (t ∷ ts) a b h = ⊎_elim last (more (λ n x. tried_tokens ts n b x)) h
     where
@@ -117,7 +117,7 @@ module _ {D A : Type 0} (contents : D → Option (List ℕ)) (failed : D → Boo
       last p = record {
         same = p.1.same;
         rest = p.1.rest;
-        moves = subst (λ l. Moves (contents a.drain.now) (contents b.drain.now) (a.buffer.now.items ++ l) p.1.rest)
+        moves = subst (λ l. Moves (contents a.drain.now) (contents b.drain.now) (a.buffer.now ++ l) p.1.rest)
             (sym (append-nil (token_line t)) ∙ ap (λ us. all_lines (t ∷ us)) (sym p.0)) p.1.moves;
         whole = λ l. ([], t ∷ ts, refl, p.1.live l);
       }
@@ -129,8 +129,8 @@ module _ {D A : Type 0} (contents : D → Option (List ℕ)) (failed : D → Boo
           record {
             same = same_out a next b x.same r.same;
             rest = r.rest;
-            moves = subst (λ l. Moves (contents a.drain.now) (contents b.drain.now) l r.rest) (append_assoc a.buffer.now.items (token_line t) (all_lines ts))
-                (moves_on (contents a.drain.now) (contents next.drain.now) (contents b.drain.now) (a.buffer.now.items ++ token_line t) (all_lines ts) next.buffer.now.items r.rest x.writes r.moves);
+            moves = subst (λ l. Moves (contents a.drain.now) (contents b.drain.now) l r.rest) (append_assoc a.buffer.now (token_line t) (all_lines ts))
+                (moves_on (contents a.drain.now) (contents next.drain.now) (contents b.drain.now) (a.buffer.now ++ token_line t) (all_lines ts) next.buffer.now r.rest x.writes r.moves);
             whole = λ l.
                 let (done, later, split, writes) = r.whole l in
                 (t ∷ done, later, ap (λ us. t ∷ us) split, writes_on contents failed a next b (token_line t) (all_lines done) x.writes writes);

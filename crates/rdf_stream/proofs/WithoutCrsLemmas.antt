@@ -1,9 +1,9 @@
 -- Lines without their CRs, run by run.
-use Rattle.std.proofs.Common.{◌≡◌, ◌++◌, ◌-◌, ◌<◌, ℕ, zero, suc, List, [], ◌∷◌, ◌==◌, true, false, not, length, take, drop, length-take, sym, ap, refl, ◌∙◌, arith}
+use Rattle.std.proofs.Common.{◌≡◌, ◌++◌, ◌+◌, ◌-◌, ◌<◌, ℕ, zero, suc, List, [], ◌∷◌, ◌==◌, true, false, not, length, take, drop, length-take, sym, ap, refl, ◌∙◌, arith}
 use Rattle.std.specs.Prelude.{slice_index}
 use Rattle.std.proofs.lemmas.Bool.{cond-true, cond-false}
 use Rattle.std.proofs.Math.Seq.{take-length}
-use Rattle.std.proofs.lemmas.List.{length-drop, take-append-le}
+use Rattle.std.proofs.lemmas.List.{drop-drop, length-drop, take-append-le}
 use Rattle.rdf_lines.specs.Canonical.{without_crs}
 use Rattle.rdf_lines.specs.WrittenBytes.{BeginsWith}
 
@@ -26,6 +26,11 @@ no_cr (b ∷ w) f =
 -- all from a place on
 pub slice_rest : (w : List ℕ) (n : ℕ) → take (length w - n) (drop n w) ≡ drop n w
 slice_rest w n = ap (λ k. take k (drop n w)) (sym (length-drop n w)) ∙ take-length (drop n w)
+
+-- all that comes after the byte at a place
+pub after_one : (w : List ℕ) (n : ℕ) →
+    (let rest = take (length w - n) (drop n w) in take (length rest - 1) (drop 1 rest)) ≡ drop (n + 1) w
+after_one w n = slice_rest (take (length w - n) (drop n w)) 1 ∙ (ap (drop 1) (slice_rest w n) ∙ drop-drop 1 n w)
 
 -- what begins so still does where more is appended
 pub begins_more : (a b c w : List ℕ) → BeginsWith a b → c ≡ b ++ w → BeginsWith a c

@@ -39,7 +39,7 @@ pub record Starts {G X : Type 0} (w : Words G X Quad) (x : X) (reader : Driven G
 -- The same, and no line waits.
 pub record Begins {G X D A : Type 0} (failed : D → Bool) (w : Words G X Quad) (x : X) (reader : Driven G) (lines : LineOut D A) : Type 0 where
   pub starts : Starts w x reader lines.form.style
-  pub none_waits : lines.buffer.now.items ≡ []
+  pub none_waits : lines.buffer.now ≡ []
   pub live : failed lines.drain.now ≡ false
 
 -- The reader has read these bytes, the drain has taken the lines of all quads that are due in them, and none waits.
@@ -49,7 +49,7 @@ pub record HandedOver {G X D A : Type 0} (contents : D → Option (List ℕ)) (f
   pub read : HasRead w reader x bytes quads
   pub written : Appends (contents first.drain.now) (contents lines.drain.now) (lines_of (form_of first.form) quads)
   pub writable : Writable first.form.style quads
-  pub none_waits : lines.buffer.now.items ≡ []
+  pub none_waits : lines.buffer.now ≡ []
   pub same : SameOut first lines
   pub live : failed lines.drain.now ≡ false
 
@@ -58,7 +58,7 @@ pub record HasPut {G X D A : Type 0} (contents : D → Option (List ℕ)) (faile
     (bytes : List ℕ) (first lines : LineOut D A) : Type 0 where
   pub quads : List Quad
   pub read : HasRead w reader x bytes quads
-  pub moves : Moves (contents first.drain.now) (contents lines.drain.now) (lines_of (form_of first.form) quads) lines.buffer.now.items
+  pub moves : Moves (contents first.drain.now) (contents lines.drain.now) (lines_of (form_of first.form) quads) lines.buffer.now
   pub writable : Writable first.form.style quads
   pub same : SameOut first lines
   pub live : failed lines.drain.now ≡ false
@@ -107,14 +107,14 @@ pub record RunEnds {G X D A : Type 0} (contents : D → Option (List ℕ)) (fail
 pub record ReportsWrite {D A : Type 0} (contents : D → Option (List ℕ)) (failed : D → Bool) (before after : LineOut D A) : Type 0 where
   pub failed_now : failed after.drain.now ≡ true
   pub while_taking : failed before.drain.now ≡ false → (rest : List ℕ) ×
-      Moves (contents before.drain.now) (contents after.drain.now) before.buffer.now.items rest
+      Moves (contents before.drain.now) (contents after.drain.now) before.buffer.now rest
   pub before_it : failed before.drain.now ≡ true → contents after.drain.now ≡ contents before.drain.now
 
 -- The drain has not failed, and has taken all that waited.
 pub record ReportsFault {D A : Type 0} (contents : D → Option (List ℕ)) (failed : D → Bool) (before after : LineOut D A) : Type 0 where
   pub live : failed before.drain.now ≡ false
   pub live_now : failed after.drain.now ≡ false
-  pub taken : Appends (contents before.drain.now) (contents after.drain.now) before.buffer.now.items
+  pub taken : Appends (contents before.drain.now) (contents after.drain.now) before.buffer.now
 
 -- what is reported of a reader's fault, once all that waited was handed over
 abbrev pub Reports : {D A : Type 0} → (D → Option (List ℕ)) → (D → Bool) → Fault → StreamFault → LineOut D A → LineOut D A → Type 0

@@ -33,7 +33,7 @@ pub record OnlyGrows {D A : Type 0} (contents : D → Option (List ℕ)) (before
 
 -- The drain took a front of the bytes that waited and of these, and the others wait.
 abbrev pub Writes : {D A : Type 0} → (D → Option (List ℕ)) → LineOut D A → List ℕ → LineOut D A → Type 0
-Writes contents before bytes after = Moves (contents before.drain.now) (contents after.drain.now) (before.buffer.now.items ++ bytes) after.buffer.now.items
+Writes contents before bytes after = Moves (contents before.drain.now) (contents after.drain.now) (before.buffer.now ++ bytes) after.buffer.now
 
 -- the bytes of the quad's line
 abbrev pub line_bytes : WrittenForm → Quad → List ℕ
@@ -44,7 +44,7 @@ pub record Takes {D A : Type 0} (contents : D → Option (List ℕ)) (failed : D
   pub same : SameOut before after
   pub formed : ∥ IsQuad q ∥₁
   pub writes : Writes contents before (line_bytes before.form q) after
-  pub few : length before.buffer.now.items < most_waiting → length after.buffer.now.items < most_waiting
+  pub few : length before.buffer.now < most_waiting → length after.buffer.now < most_waiting
   pub live : failed after.drain.now ≡ false
 
 -- what a refused put leaves: the drain took a beginning of the lines, and where it has not failed nothing of the quad's line
@@ -52,14 +52,14 @@ pub record Leaves {D A : Type 0} (contents : D → Option (List ℕ)) (failed : 
   pub same : SameOut before after
   pub formed : ∥ IsQuad q ∥₁
   pub rest : List ℕ
-  pub moves : Moves (contents before.drain.now) (contents after.drain.now) (before.buffer.now.items ++ line_bytes before.form q) rest
+  pub moves : Moves (contents before.drain.now) (contents after.drain.now) (before.buffer.now ++ line_bytes before.form q) rest
   pub live : failed after.drain.now ≡ false → Writes contents before [] after
 
 -- What is reported of bytes that were not put, once all that waited was handed over: nothing of them was written, or where the drain failed, a beginning of
 -- what waited and of them.
 abbrev pub PutHalts : {D A : Type 0} → (D → Option (List ℕ)) → (D → Bool) → StreamFault → LineOut D A → List ℕ → LineOut D A → Type 0
 PutHalts contents failed fault.Write before bytes after =
-    (failed after.drain.now ≡ true) × (rest : List ℕ) × Moves (contents before.drain.now) (contents after.drain.now) (before.buffer.now.items ++ bytes) rest
+    (failed after.drain.now ≡ true) × (rest : List ℕ) × Moves (contents before.drain.now) (contents after.drain.now) (before.buffer.now ++ bytes) rest
 PutHalts contents failed fault.Memory before bytes after =
-    (failed after.drain.now ≡ false) × Appends (contents before.drain.now) (contents after.drain.now) before.buffer.now.items
+    (failed after.drain.now ≡ false) × Appends (contents before.drain.now) (contents after.drain.now) before.buffer.now
 PutHalts contents failed reported before bytes after = ⊥

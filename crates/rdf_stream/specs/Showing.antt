@@ -26,7 +26,7 @@ pub record LeavesToken {D A : Type 0} (contents : D → Option (List ℕ)) (fail
     (before : LineOut D A) (t : Token) (after : LineOut D A) : Type 0 where
   pub same : SameOut before after
   pub rest : List ℕ
-  pub moves : Moves (contents before.drain.now) (contents after.drain.now) (before.buffer.now.items ++ token_line t) rest
+  pub moves : Moves (contents before.drain.now) (contents after.drain.now) (before.buffer.now ++ token_line t) rest
   pub live : failed after.drain.now ≡ false → Writes contents before [] after
 
 -- A reader of the job's tokens has read nothing, and no line waits.
@@ -34,7 +34,7 @@ pub record Begins {D A : Type 0} (failed : D → Bool) (d : Dialect) (job : JobR
   pub dialect : d ≡ dialect_of job.form
   pub limit : reader.scanner.limit ≡ job.limits.token
   pub read : HasRead (token_words d) reader tt [] []
-  pub none_waits : lines.buffer.now.items ≡ []
+  pub none_waits : lines.buffer.now ≡ []
   pub live : failed lines.drain.now ≡ false
 
 -- The reader has read these bytes, the drain has taken the lines of all tokens that they decide, and none waits.
@@ -44,7 +44,7 @@ pub record HandedOver {D A : Type 0} (contents : D → Option (List ℕ)) (faile
   pub limit : reader.scanner.limit ≡ job.limits.token
   pub read : HasRead (token_words d) reader tt bytes (without_end (tokens_in job bytes false).tokens)
   pub written : Appends (contents first.drain.now) (contents lines.drain.now) (token_lines (tokens_in job bytes false).tokens)
-  pub none_waits : lines.buffer.now.items ≡ []
+  pub none_waits : lines.buffer.now ≡ []
   pub same : SameOut first lines
   pub live : failed lines.drain.now ≡ false
 

@@ -18,7 +18,7 @@ use crate::parts::{Parts, take_parts};
 use crate::passes::Passes;
 use crate::pieces::{Run, piece_buffer, read_pieces};
 use rdf_driver::{QuadGrammar, Reader, Summary};
-use rdf_lines::{LineEnding, Style, WrittenForm, line_reader};
+use rdf_lines::{LineBuffer, LineEnding, Style, WrittenForm, line_reader};
 use rdf_trig::tree_reader;
 use std::alloc::Allocator;
 
@@ -89,7 +89,7 @@ fn convert_with<A: Allocator + Copy, G: Passes<A>, S: Source, D: Drain>(
 {
     let mut piece = piece_buffer(alloc)?;
     let mut reader = reader;
-    let mut buffer = Vec::new(alloc);
+    let mut buffer = LineBuffer::new(alloc);
     let mut lines = LineOut::new(written, &mut buffer, drain);
     read_pieces(source, piece.as_mut_slice(), &mut reader, &mut lines)
 }

@@ -16,7 +16,7 @@ use crate::put::put_all;
 use crate::token_line::put_token_line;
 use crate::views::see_quad;
 use crate::without_crs::put_without_crs;
-use rdf_lines::{Escapes, LabelFault, LineEnding, WrittenForm, write_line_in};
+use rdf_lines::{Escapes, LabelFault, LineBuffer, LineEnding, WrittenForm};
 use rdf_terms::{PutFault, QuadRef, QuadSink};
 use rdf_tokens::{Fault, Token};
 use std::alloc::{Allocator, Global};
@@ -32,7 +32,7 @@ const COPIED_LEN: usize = 4096;
 #[derive(Drop)]
 pub(crate) struct LineOut<'a, D: Drain, A: Allocator = Global> {
     form: WrittenForm<'a>,
-    buffer: &'a mut Vec<u8, A>,
+    buffer: &'a mut LineBuffer<A>,
     drain: &'a mut D,
 }
 
@@ -40,7 +40,7 @@ impl<'a, D: Drain, A: Allocator + Copy> LineOut<'a, D, A> {
     /// No line waits.
     pub(crate) fn new(
         form: WrittenForm<'a>,
-        buffer: &'a mut Vec<u8, A>,
+        buffer: &'a mut LineBuffer<A>,
         drain: &'a mut D,
     ) -> LineOut<'a, D, A>
         ensures form { result.form ≡ form.entry }
@@ -73,9 +73,9 @@ impl<'a, D: Drain, A: Allocator + Copy> LineOut<'a, D, A> {
     pub(crate) fn hand_over(&mut self) -> Result<(), Failed>
         requires live { D.has_failed self.old.drain.now ≡ false }
         ensures same { SameOut self.old self.new }
-        ensures empty { OnOk result (self.new.buffer.now.items ≡ []) }
-        ensures ok { OnOk result (Appends (D.contents self.old.drain.now) (D.contents self.new.drain.now) self.old.buffer.now.items) }
-        ensures err { OnErr result (AppendsFront (D.contents self.old.drain.now) (D.contents self.new.drain.now) self.old.buffer.now.items) }
+        ensures empty { OnOk result (self.new.buffer.now ≡ []) }
+        ensures ok { OnOk result (Appends (D.contents self.old.drain.now) (D.contents self.new.drain.now) self.old.buffer.now) }
+        ensures err { OnErr result (AppendsFront (D.contents self.old.drain.now) (D.contents self.new.drain.now) self.old.buffer.now) }
         ensures failed { D.has_failed self.new.drain.now ≡ is_err result }
     {
         put_all(self.drain, self.buffer.as_slice())?;
@@ -87,9 +87,9 @@ impl<'a, D: Drain, A: Allocator + Copy> LineOut<'a, D, A> {
     pub(crate) fn send(&mut self) -> Result<(), Failed>
         requires live { D.has_failed self.old.drain.now ≡ false }
         ensures same { SameOut self.old self.new }
-        ensures ok { OnOk result (Appends (D.contents self.old.drain.now) (D.contents self.new.drain.now) self.old.buffer.now.items) }
+        ensures ok { OnOk result (Appends (D.contents self.old.drain.now) (D.contents self.new.drain.now) self.old.buffer.now) }
         ensures flushed { OnOk result (D.is_flushed self.new.drain.now ≡ true) }
-        ensures err { OnErr result (AppendsFront (D.contents self.old.drain.now) (D.contents self.new.drain.now) self.old.buffer.now.items) }
+        ensures err { OnErr result (AppendsFront (D.contents self.old.drain.now) (D.contents self.new.drain.now) self.old.buffer.now) }
         ensures failed { D.has_failed self.new.drain.now ≡ is_err result }
     {
         self.hand_over()?;
@@ -101,7 +101,7 @@ impl<'a, D: Drain, A: Allocator + Copy> LineOut<'a, D, A> {
         requires live { D.has_failed self.old.drain.now ≡ false }
         ensures same { SameOut self.old self.new }
         ensures writes { OnOk result (Writes D.contents self.old (written_as ending lines.now) self.new) }
-        ensures few { OnOk result (length self.old.buffer.now.items < most_waiting → length self.new.buffer.now.items < most_waiting) }
+        ensures few { OnOk result (length self.old.buffer.now < most_waiting → length self.new.buffer.now < most_waiting) }
         ensures live { OnOk result (D.has_failed self.new.drain.now ≡ false) }
         ensures halts { IfErr result (λ reported. PutHalts D.contents D.has_failed reported self.old (written_as ending lines.now) self.new) }
     {
@@ -116,7 +116,7 @@ impl<'a, D: Drain, A: Allocator + Copy> LineOut<'a, D, A> {
         requires live { D.has_failed self.old.drain.now ≡ false }
         ensures same { SameOut self.old self.new }
         ensures writes { OnOk result (Writes D.contents self.old (without_crs lines.now) self.new) }
-        ensures few { OnOk result (length self.old.buffer.now.items < most_waiting → length self.new.buffer.now.items < most_waiting) }
+        ensures few { OnOk result (length self.old.buffer.now < most_waiting → length self.new.buffer.now < most_waiting) }
         ensures live { OnOk result (D.has_failed self.new.drain.now ≡ false) }
         ensures halts { IfErr result (λ reported. PutHalts D.contents D.has_failed reported self.old (without_crs lines.now) self.new) }
     {
@@ -138,7 +138,7 @@ impl<'a, D: Drain, A: Allocator + Copy> LineOut<'a, D, A> {
         requires live { D.has_failed self.old.drain.now ≡ false }
         ensures same { SameOut self.old self.new }
         ensures writes { OnOk result (Writes D.contents self.old lines.now self.new) }
-        ensures few { OnOk result (length self.old.buffer.now.items < most_waiting → length self.new.buffer.now.items < most_waiting) }
+        ensures few { OnOk result (length self.old.buffer.now < most_waiting → length self.new.buffer.now < most_waiting) }
         ensures live { OnOk result (D.has_failed self.new.drain.now ≡ false) }
         ensures halts { IfErr result (λ reported. PutHalts D.contents D.has_failed reported self.old lines.now self.new) }
     {
@@ -160,11 +160,11 @@ impl<'a, D: Drain, A: Allocator + Copy> LineOut<'a, D, A> {
         requires live { D.has_failed self.old.drain.now ≡ false }
         ensures same { SameOut self.old self.new }
         ensures writes { OnOk result (Writes D.contents self.old lines.now self.new) }
-        ensures few { OnOk result (length self.old.buffer.now.items < most_waiting → length self.new.buffer.now.items < most_waiting) }
+        ensures few { OnOk result (length self.old.buffer.now < most_waiting → length self.new.buffer.now < most_waiting) }
         ensures live { OnOk result (D.has_failed self.new.drain.now ≡ false) }
         ensures halts { IfErr result (λ reported. PutHalts D.contents D.has_failed reported self.old lines.now self.new) }
     {
-        match self.buffer.extend_from_slice(lines) {
+        match self.buffer.append(lines) {
             Ok(()) => {}
             Err(_) => return Err(handed_over(self)),
         }
@@ -208,7 +208,7 @@ impl<'a, D: Drain, A: Allocator + Copy> QuadSink for LineOut<'a, D, A> {
 
     fn put(&mut self, quad: &QuadRef<'_>) -> Result<(), PutFault> {
         see_quad(quad);
-        match write_line_in(quad, self.form, self.buffer) {
+        match self.buffer.put_line(quad, self.form) {
             Ok(()) => {}
             // No reader gives a quad that its style can't write. If one did, it would end the run.
             Err(LabelFault::NotLabelled) => return Err(PutFault::Memory),

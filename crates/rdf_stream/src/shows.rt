@@ -15,7 +15,7 @@ use crate::line_out::{LineOut, stop};
 use crate::pieces::{Run, piece_buffer, read_pieces};
 use crate::token_grammar::{InLines, InTurtle, Spoken, TokenGrammar};
 use rdf_driver::{Reader, Summary};
-use rdf_lines::Style;
+use rdf_lines::{LineBuffer, Style};
 use rdf_terms::Dialect;
 use std::alloc::Allocator;
 
@@ -70,7 +70,7 @@ fn show_in<T: Spoken + Drop, A: Allocator + Copy, S: Source, D: Drain>(
     ensures refused { IfErr result IsRefusal }
 {
     let mut piece = piece_buffer(alloc)?;
-    let mut buffer = Vec::new(alloc);
+    let mut buffer = LineBuffer::new(alloc);
     let mut lines = LineOut::new(job.written_form(Style::Kept), &mut buffer, drain);
     let limit = job.limits().token();
     let mut reader = Reader::new(alloc, TokenGrammar::new(spoken, limit), limit);

@@ -7,6 +7,7 @@ ghost use Rattle.rdf_lines.specs.WrittenBytes.{BeginsWith};
 ghost use Rattle.rdf_stream.specs.Shows.{kind_name, token_line};
 
 use itoa::Buffer;
+use rdf_lines::LineBuffer;
 use rdf_tokens::{Kind, Token};
 use std::alloc::{AllocError, Allocator};
 
@@ -14,10 +15,10 @@ use std::alloc::{AllocError, Allocator};
 /// Where a growth of memory is refused, it appends nothing.
 pub(crate) fn put_token_line<A: Allocator + Copy>(
     token: Token<'_>,
-    out: &mut Vec<u8, A>,
+    out: &mut LineBuffer<A>,
 ) -> Result<(), AllocError>
-    ensures written { OnOk result (out.new.items ≡ out.old.items ++ token_line (token_of token.entry)) }
-    ensures unchanged { OnErr result (out.new.items ≡ out.old.items) }
+    ensures written { OnOk result (out.new ≡ out.old ++ token_line (token_of token.entry)) }
+    ensures unchanged { OnErr result (out.new ≡ out.old) }
 {
     let start = out.len();
     match put_parts(token, out) {
@@ -29,22 +30,25 @@ pub(crate) fn put_token_line<A: Allocator + Copy>(
     }
 }
 
-fn put_parts<A: Allocator + Copy>(token: Token<'_>, out: &mut Vec<u8, A>) -> Result<(), AllocError>
-    ensures written { OnOk result (out.new.items ≡ out.old.items ++ token_line (token_of token.entry)) }
-    ensures grown { OnErr result (BeginsWith out.old.items out.new.items) }
+fn put_parts<A: Allocator + Copy>(
+    token: Token<'_>,
+    out: &mut LineBuffer<A>,
+) -> Result<(), AllocError>
+    ensures written { OnOk result (out.new ≡ out.old ++ token_line (token_of token.entry)) }
+    ensures grown { OnErr result (BeginsWith out.old out.new) }
 {
     put_number(token.offset, out)?;
     put_number(char_count(token.text), out)?;
-    out.extend_from_slice(kind_name(token.kind).as_bytes())?;
-    out.extend_from_slice(b"\n")
+    out.append(kind_name(token.kind).as_bytes())?;
+    out.append(b"\n")
 }
 
-fn put_number<A: Allocator + Copy>(number: u64, out: &mut Vec<u8, A>) -> Result<(), AllocError>
-    ensures written { OnOk result (out.new.items ≡ out.old.items ++ (decimal number ++ codes " ")) }
-    ensures grown { OnErr result (BeginsWith out.old.items out.new.items) }
+fn put_number<A: Allocator + Copy>(number: u64, out: &mut LineBuffer<A>) -> Result<(), AllocError>
+    ensures written { OnOk result (out.new ≡ out.old ++ (decimal number ++ codes " ")) }
+    ensures grown { OnErr result (BeginsWith out.old out.new) }
 {
-    out.extend_from_slice(Buffer::new().format(number).as_bytes())?;
-    out.extend_from_slice(b" ")
+    out.append(Buffer::new().format(number).as_bytes())?;
+    out.append(b" ")
 }
 
 fn char_count(text: &str) -> u64

@@ -6,7 +6,9 @@ use crate::reading::{Form, Report, read_pieces};
 use crate::sinks::put_copy;
 use rdf_driver::Fault;
 use rdf_iri::{BindingFault, BindingReason, IriFault, Limits, Scope, read_bindings, resolve};
-use rdf_lines::{Escapes, LabelFault, LineForm, Style, label_text, write_line};
+use rdf_lines::{
+    Escapes, LabelFault, LineBuffer, LineForm, Style, WrittenForm, label_text, write_line,
+};
 use rdf_terms::{
     Iri, Known, Label, LiteralRef, NodeRef, PutFault, QuadList, QuadRef, QuadSink, Reason,
     SubjectRef, Tag, TailRef, TermFault, TermRef, ValueFault, iri_text, iri_value, known,
@@ -188,7 +190,43 @@ fn append_lines<A: Allocator + Copy>(quad: QuadRef<'_>, out: &mut Vec<u8, A>) ->
     Ok(())
 }
 
-/// A quad kept, and written in both forms, three times, and the name of its subject's node.
+/// A quad's line put into a buffer. Where it is not appended, those before it stay.
+fn put_line<A: Allocator + Copy>(
+    quad: QuadRef<'_>,
+    escapes: Escapes,
+    lines: &mut LineBuffer<A>,
+) -> Result<(), Stop> {
+    let len = lines.len();
+    match lines.put_line(&quad, WrittenForm::new(Style::Tagged, escapes)) {
+        Ok(()) => Ok(()),
+        Err(fault) if lines.len() == len => Err(Stop::from(fault)),
+        Err(_) => Err(Stop::Wrong),
+    }
+}
+
+/// The bytes of a line put into a buffer, likewise.
+fn put_bytes<A: Allocator + Copy>(bytes: &[u8], lines: &mut LineBuffer<A>) -> Result<(), Stop> {
+    let len = lines.len();
+    match lines.append(bytes) {
+        Ok(()) => Ok(()),
+        Err(_) if lines.len() == len => Err(Stop::Memory),
+        Err(_) => Err(Stop::Wrong),
+    }
+}
+
+fn fill_buffer<A: Allocator + Copy>(
+    quad: QuadRef<'_>,
+    lines: &mut LineBuffer<A>,
+) -> Result<(), Stop> {
+    for _ in 0..3 {
+        put_line(quad, Escapes::Plain, lines)?;
+        put_line(quad, Escapes::Ascii, lines)?;
+        put_bytes(b"<a:> <b:> <c:> .\n", lines)?;
+    }
+    Ok(())
+}
+
+/// A quad kept, and written in both forms, three times, also into a buffer, and the name of its subject's node.
 fn write_quad<A: Allocator + Copy>(
     alloc: A,
     node: NodeRef<'_>,
@@ -197,6 +235,7 @@ fn write_quad<A: Allocator + Copy>(
     let quad = quad(node, object);
     keep_quads(alloc, quad, &mut QuadList::new(alloc))?;
     append_lines(quad, &mut Vec::new(alloc))?;
+    fill_buffer(quad, &mut LineBuffer::new(alloc))?;
     label_text(alloc, node, Style::Tagged)?;
     Ok(())
 }

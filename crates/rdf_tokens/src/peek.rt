@@ -16,6 +16,9 @@ use crate::quick::{
 use rdf_terms::runs::{Run, run_end, two_run_ends};
 use rdf_terms::{Dialect, Kind};
 
+/// A bit for each of `,`, `.`, `;` and `{`, at the number that its last six bits are.
+const MARKS: u64 = 1 << 44 | 1 << 46 | 1 << 59;
+
 /// A token that stands next: seen, and not yet taken.
 #[derive(Clone, Copy, Debug)]
 pub struct Peeked {
@@ -60,22 +63,45 @@ fn seen(blank: usize, text: &str, no_names: &Option<NoNames>) -> Option<Peeked>
     if is_sought(Dialect::Turtle, bytes, no_names) {
         return seen_name(blank, text);
     }
+    if is_mark(bytes[0]) {
+        return seen_mark(blank, text);
+    }
     match bytes[0] {
-        b';' => seen_byte(blank, text, Kind::Semicolon),
-        b',' => seen_byte(blank, text, Kind::Comma),
         b'[' => seen_byte(blank, text, Kind::OpenBracket),
         b']' => seen_byte(blank, text, Kind::CloseBracket),
         b'(' => seen_byte(blank, text, Kind::OpenParen),
         b')' => seen_byte(blank, text, Kind::CloseParen),
-        b'{' => seen_byte(blank, text, Kind::OpenBrace),
         b'}' => seen_byte(blank, text, Kind::CloseBrace),
-        b'.' => seen_dot(blank, text),
         b'<' => seen_as(Kind::IriRef, blank, iri_len(text)),
         b'_' => seen_as(Kind::LabelNode, blank, label_len(text)),
         b'"' => seen_as(Kind::ShortString, blank, string_len(text)),
         b'0'..=b'9' => seen_number(blank, text),
         b':' => seen_local(blank, text),
         b'@' => seen_as(Kind::LangTag, blank, tag_len(text)),
+        _ => None,
+    }
+}
+
+/// Whether a byte is a comma, a dot, a semicolon or an opening brace, or has the last six bits of one. This comes before the match over all other
+/// bytes, which LLVM makes a jump through a table, since processors predict a branch better than such a jump. Were the bytes compared with
+/// these, LLVM would make the two one table; so their bits are asked.
+#[inline(always)]
+fn is_mark(byte: u8) -> bool {
+    MARKS >> (byte & 63) & 1 == 1
+}
+
+/// A comma, a semicolon, an opening brace, or a dot before a byte of ASCII that is no digit.
+#[inline(always)]
+fn seen_mark(blank: usize, text: &str) -> Option<Peeked>
+    requires { 0 < length text.now }
+    ensures token { Sees text.now blank result }
+    ensures bare { IfSome result (λ p. IsBare text.now) }
+{
+    match text.as_bytes()[0] {
+        b',' => seen_byte(blank, text, Kind::Comma),
+        b'.' => seen_dot(blank, text),
+        b';' => seen_byte(blank, text, Kind::Semicolon),
+        b'{' => seen_byte(blank, text, Kind::OpenBrace),
         _ => None,
     }
 }

@@ -1,13 +1,13 @@
 // Lines whose texts stand as they are: the buffer grows once, and the parts are placed in what is new of it.
 
-ghost use Rattle.std.specs.Prelude.{◌≡◌, ◌++◌, ◌+◌, ◌<◌, ◌≤◌, [], ◌∷◌, length, true, encode_utf8_all, OnErr, OnOk};
+ghost use Rattle.std.specs.Prelude.{◌≡◌, ◌++◌, ◌+◌, ◌<◌, ◌≤◌, [], ◌∷◌, length, true, encode_utf8_all, IfOk, OnErr, OnOk};
 ghost use Rattle.rdf_terms.specs.declared.runs.Run.TheVariants.{Text};
 ghost use Rattle.rdf_terms.specs.Runs.{goes_over};
 ghost use Rattle.rdf_terms.specs.Terms.{all_have};
 ghost use Rattle.rdf_terms.specs.Views.{iri_chars};
 ghost use Rattle.rdf_lines.specs.declared.form.Escapes.TheVariants.{Plain};
 ghost use Rattle.rdf_lines.specs.Forms.{form_of};
-ghost use Rattle.rdf_lines.specs.Placing.{Placed, graph_room, has_no_escapes, label_bytes, line_room, node_room, number_bytes, subject_room, tail_room, term_room};
+ghost use Rattle.rdf_lines.specs.Placing.{Placed, WrittenAt, graph_room, has_no_escapes, label_bytes, line_room, node_room, number_bytes, subject_room, tail_room, term_room};
 ghost use Rattle.rdf_lines.specs.Writing.{space, type_text};
 ghost use Rattle.rdf_lines.specs.WrittenBytes.{BeginsWith, graph_bytes, iri_bytes, line_bytes, node_bytes, string_bytes_of, subject_bytes, tail_bytes, term_bytes};
 
@@ -23,40 +23,47 @@ use std::alloc::{AllocError, Allocator};
 /// Lines that take no more are placed in so many zeros, which are written by a few stores.
 const COMMON_ROOM: usize = 192;
 
-/// Appends the line of a quad that takes so many bytes at most.
+/// Puts the line of a quad that takes so many bytes at most after the first `at` bytes, and answers where it ends.
 #[inline(always)]
 pub fn put_at_once<A: Allocator + Copy>(
     quad: &QuadRef<'_>,
     form: &WrittenForm<'_>,
     room: usize,
+    at: usize,
     out: &mut Vec<u8, A>,
-) -> Result<(), AllocError>
+) -> Result<usize, AllocError>
+    requires at { at ≤ length out.old.items }
     requires plain { form.now.escapes ≡ Plain }
     requires text { has_no_escapes quad.now.object ≡ true }
     requires room { line_room (length form.now.prefix.word.now) quad.now ≤ room }
     requires short { room ≤ 4096 }
-    ensures written { OnOk result (out.new.items ≡ out.old.items ++ line_bytes (form_of form.now) quad.now) }
+    ensures written { IfOk result (λ end. WrittenAt out.old.items out.new.items at (line_bytes (form_of form.now) quad.now) end) }
     ensures unchanged { OnErr result (out.new.items ≡ out.old.items) }
 {
-    let start = out.len();
-    make_room(out, room)?;
-    let end = place_line(out.as_mut_slice(), start, quad, form);
-    out.truncate(end);
-    Ok(())
+    make_room(out, at, room)?;
+    Ok(place_line(out.as_mut_slice(), at, quad, form))
 }
 
-/// Appends so many bytes or more, of any value.
+/// Appends bytes of any value, where fewer than these come after the first `at`.
 #[inline(always)]
-fn make_room<A: Allocator + Copy>(out: &mut Vec<u8, A>, room: usize) -> Result<(), AllocError>
-    requires { room ≤ 4096 }
+fn make_room<A: Allocator + Copy>(
+    out: &mut Vec<u8, A>,
+    at: usize,
+    room: usize,
+) -> Result<(), AllocError>
+    requires at { at ≤ length out.old.items }
+    requires short { room ≤ 4096 }
     ensures front { OnOk result (BeginsWith out.old.items out.new.items) }
-    ensures room { OnOk result (length out.old.items + room ≤ length out.new.items) }
+    ensures room { OnOk result (at + room ≤ length out.new.items) }
     ensures unchanged { OnErr result (out.new.items ≡ out.old.items) }
 {
+    let len = out.len();
+    if room <= len - at {
+        return Ok(());
+    }
     if room <= COMMON_ROOM {
         out.extend_from_slice(&[0; COMMON_ROOM])
     } else {
-        let len = out.len();
         out.resize(len + room, 0)
     }
 }

@@ -25,6 +25,16 @@ pub fn place_two(slot: &mut [u8], at: usize, first: u8, second: u8) -> usize
     place_byte(slot, next, second)
 }
 
+/// Places a text of any length by one call.
+pub fn place_all(slot: &mut [u8], at: usize, text: &[u8]) -> usize
+    requires { at + length text.now ≤ length slot.old }
+    ensures { Placed slot.old slot.new at text.now result }
+{
+    let end = at + text.len();
+    slot[at..end].copy_from_slice(text);
+    end
+}
+
 /// Places a text of any length, without a call for one of common length.
 #[inline(always)]
 pub fn place_text(slot: &mut [u8], at: usize, text: &[u8]) -> usize

@@ -1,10 +1,10 @@
 // How much room a line takes at most, where its texts are short.
 
-ghost use Rattle.std.specs.Prelude.{◌≡◌, ◌^◌, ◌<◌, ◌≤◌, length, IfSome};
+ghost use Rattle.std.specs.Prelude.{◌≡◌, ◌+◌, ◌^◌, ◌<◌, ◌≤◌, length, IfSome};
 ghost use Rattle.rdf_lines.specs.Placing.{graph_room, has_no_escapes, line_room, node_room, subject_room, tail_room, term_room};
 
 use rdf_terms::runs::{Run, is_run};
-use rdf_terms::{NodeRef, QuadRef, SubjectRef, TailRef, TermRef};
+use rdf_terms::{LiteralRef, NodeRef, QuadRef, SubjectRef, TailRef, TermRef};
 
 /// The most bytes that the texts of two parts of a short line have.
 const SHORT: usize = 512;
@@ -15,9 +15,9 @@ pub fn short_room(quad: &QuadRef<'_>, word: &str) -> Option<usize>
     ensures room { IfSome result (λ room. line_room (length word.now) quad.now ≤ room) }
     ensures short { IfSome result (λ room. room ≤ 4096) }
 {
-    let names = subject_room(quad.subject) + quad.predicate.as_str().len();
-    let others = graph_room(quad.graph) + word.len();
-    let object = term_room(quad.object);
+    let names = subject_room(&quad.subject) + quad.predicate.as_str().len();
+    let others = graph_room(&quad.graph) + word.len();
+    let object = term_room(&quad.object);
     if names > SHORT || others > SHORT || object > SHORT {
         return None;
     }
@@ -25,8 +25,8 @@ pub fn short_room(quad: &QuadRef<'_>, word: &str) -> Option<usize>
 }
 
 #[inline(always)]
-fn subject_room(subject: SubjectRef<'_>) -> usize
-    ensures room { result ≡ subject_room subject.entry }
+fn subject_room(subject: &SubjectRef<'_>) -> usize
+    ensures room { result ≡ subject_room subject.now }
     ensures fits { result < 2 ^ 63 }
 {
     match subject {
@@ -36,8 +36,8 @@ fn subject_room(subject: SubjectRef<'_>) -> usize
 }
 
 #[inline(always)]
-fn node_room(node: NodeRef<'_>) -> usize
-    ensures room { result ≡ node_room node.entry }
+fn node_room(node: &NodeRef<'_>) -> usize
+    ensures room { result ≡ node_room node.now }
     ensures fits { result < 2 ^ 63 }
 {
     match node {
@@ -48,14 +48,21 @@ fn node_room(node: NodeRef<'_>) -> usize
 }
 
 #[inline(always)]
-fn term_room(term: TermRef<'_>) -> usize
-    ensures { result ≡ term_room term.entry }
+fn term_room(term: &TermRef<'_>) -> usize
+    ensures { result ≡ term_room term.now }
 {
     match term {
         TermRef::Iri(iri) => iri.as_str().len(),
         TermRef::Node(node) => node_room(node),
-        TermRef::Literal(literal) => literal.lexical.len() + tail_room(literal.tail),
+        TermRef::Literal(literal) => literal_room(*literal),
     }
+}
+
+#[inline(always)]
+fn literal_room(literal: LiteralRef<'_>) -> usize
+    ensures { result ≡ length literal.entry.lexical.now + tail_room literal.entry.tail }
+{
+    literal.lexical.len() + tail_room(literal.tail)
 }
 
 #[inline(always)]
@@ -69,8 +76,8 @@ fn tail_room(tail: TailRef<'_>) -> usize
 }
 
 #[inline(always)]
-fn graph_room(graph: Option<SubjectRef<'_>>) -> usize
-    ensures room { result ≡ graph_room graph.entry }
+fn graph_room(graph: &Option<SubjectRef<'_>>) -> usize
+    ensures room { result ≡ graph_room graph.now }
     ensures fits { result < 2 ^ 63 }
 {
     match graph {
@@ -81,8 +88,8 @@ fn graph_room(graph: Option<SubjectRef<'_>>) -> usize
 
 /// Whether an object has no escapes in the plain form.
 #[inline(always)]
-pub fn has_no_escapes(object: TermRef<'_>) -> bool
-    ensures { result ≡ has_no_escapes object.entry }
+pub fn has_no_escapes(object: &TermRef<'_>) -> bool
+    ensures { result ≡ has_no_escapes object.now }
 {
     match object {
         TermRef::Iri(_) => true,

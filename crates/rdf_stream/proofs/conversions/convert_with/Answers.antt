@@ -19,7 +19,7 @@ pub read_pieces-requires-clause-begun : goal.read_pieces-requires-clause-begun
 read_pieces-requires-clause-begun g c =
     begins _ g.D.Drain.contents g.D.Drain.has_failed g.D.Drain.is_flushed g.G.Grammar.words g.G.Passes.style c.requires.starts.0 (c.args.reader, c.new-lines.result)
     (begun_fresh _ g.D.Drain.contents g.D.Drain.has_failed g.D.Drain.is_flushed g.G.Grammar.words g.G.Passes.style _ (form_of c.args.written) (c.args.reader, c.new-lines.result) _
-    (over_empty _ _ _ _ _ c.new-lines.ensures.form (ap (λ b. b.items) c.new-lines.ensures.buffer) c.new-buffer.ensures.items c.new-lines.ensures.drain c.requires.drain) c.requires.starts.1)
+    (over_empty _ _ _ _ _ c.new-lines.ensures.form c.new-lines.ensures.buffer c.new-buffer.ensures c.new-lines.ensures.drain c.requires.drain) c.requires.starts.1)
     (ap (λ f. f.style) (ap form_of c.new-lines.ensures.form) ∙ c.requires.styled)
 
 pub read_pieces-requires-clause-stays : goal.read_pieces-requires-clause-stays
@@ -37,7 +37,7 @@ returns-clause-refused g c =
     if_err c.read_pieces.result _ IsRefusal
     (refused_document _ g.D.Drain.contents g.D.Drain.has_failed g.D.Drain.is_flushed g.G.Grammar.words g.G.Passes.style c.requires.starts.0 (form_of c.args.written) (c.args.reader, c.new-lines.result)
     (c.read_pieces.new.run, c.read_pieces.new.out) _ _
-    (over_empty _ _ _ _ _ c.new-lines.ensures.form (ap (λ b. b.items) c.new-lines.ensures.buffer) c.new-buffer.ensures.items c.new-lines.ensures.drain c.requires.drain) refl c.requires.starts.1 _ _)
+    (over_empty _ _ _ _ _ c.new-lines.ensures.form c.new-lines.ensures.buffer c.new-buffer.ensures c.new-lines.ensures.drain c.requires.drain) refl c.requires.starts.1 _ _)
     c.read_pieces.ensures.stops
 
 pub returns-clause-accepted : goal.returns-clause-accepted
@@ -46,7 +46,7 @@ returns-clause-accepted g c =
     (λ s a x b.
     converted _ g.D.Drain.contents g.D.Drain.has_failed g.D.Drain.is_flushed g.G.Grammar.words g.G.Passes.style x (form_of c.args.written) (c.args.reader, c.new-lines.result)
     (c.read_pieces.new.run, c.read_pieces.new.out) _ _
-    (over_empty _ _ _ _ _ c.new-lines.ensures.form (ap (λ b. b.items) c.new-lines.ensures.buffer) c.new-buffer.ensures.items c.new-lines.ensures.drain c.requires.drain) (search rules) b _ _ s a)
+    (over_empty _ _ _ _ _ c.new-lines.ensures.form c.new-lines.ensures.buffer c.new-buffer.ensures c.new-lines.ensures.drain c.requires.drain) (search rules) b _ _ s a)
     c.read_pieces.ensures.read
 
 pub returns-clause-stops : goal.returns-clause-stops
@@ -55,11 +55,11 @@ returns-clause-stops g c =
     (λ reported a x b.
     stopped _ g.D.Drain.contents g.D.Drain.has_failed g.D.Drain.is_flushed g.G.Grammar.words g.G.Passes.style x (form_of c.args.written) (c.args.reader, c.new-lines.result)
     (c.read_pieces.new.run, c.read_pieces.new.out) _ _
-    (over_empty _ _ _ _ _ c.new-lines.ensures.form (ap (λ b. b.items) c.new-lines.ensures.buffer) c.new-buffer.ensures.items c.new-lines.ensures.drain c.requires.drain) (search rules) b _ _ reported a)
+    (over_empty _ _ _ _ _ c.new-lines.ensures.form c.new-lines.ensures.buffer c.new-buffer.ensures c.new-lines.ensures.drain c.requires.drain) (search rules) b _ _ reported a)
     c.read_pieces.ensures.stops
 
 pub returns-clause-prompt : goal.returns-clause-prompt
 returns-clause-prompt g c = λ x b.
     prompt _ g.D.Drain.contents g.D.Drain.has_failed g.D.Drain.is_flushed g.G.Grammar.words g.G.Passes.style x (form_of c.args.written) (c.args.reader, c.new-lines.result)
     (c.read_pieces.new.run, c.read_pieces.new.out) _ _
-    (over_empty _ _ _ _ _ c.new-lines.ensures.form (ap (λ b. b.items) c.new-lines.ensures.buffer) c.new-buffer.ensures.items c.new-lines.ensures.drain c.requires.drain) (search rules) b _ _ c.read_pieces.ensures.before
+    (over_empty _ _ _ _ _ c.new-lines.ensures.form c.new-lines.ensures.buffer c.new-buffer.ensures c.new-lines.ensures.drain c.requires.drain) (search rules) b _ _ c.read_pieces.ensures.before

@@ -20,7 +20,7 @@ read_pieces-requires-clause-begun g c =
       dialect = c.requires.dialect;
       limit = search rules;
       read = c.new-reader.ensures.read tt refl;
-      none_waits = ap (λ b. b.items) c.new-lines.ensures.buffer ∙ c.new-buffer.ensures.items;
+      none_waits = c.new-lines.ensures.buffer ∙ c.new-buffer.ensures;
       live = ap g.D.Drain.has_failed c.new-lines.ensures.drain ∙ c.requires.drain;
     })
 
@@ -33,7 +33,7 @@ returns-clause-accepted g c =
       dialect = c.requires.dialect;
       limit = search rules;
       read = c.new-reader.ensures.read tt refl;
-      none_waits = ap (λ b. b.items) c.new-lines.ensures.buffer ∙ c.new-buffer.ensures.items;
+      none_waits = c.new-lines.ensures.buffer ∙ c.new-buffer.ensures;
       live = ap g.D.Drain.has_failed c.new-lines.ensures.drain ∙ c.requires.drain;
     }) _ _ s a))
     c.read_pieces.ensures.read
@@ -47,7 +47,7 @@ returns-clause-stops g c =
       dialect = c.requires.dialect;
       limit = search rules;
       read = c.new-reader.ensures.read tt refl;
-      none_waits = ap (λ b. b.items) c.new-lines.ensures.buffer ∙ c.new-buffer.ensures.items;
+      none_waits = c.new-lines.ensures.buffer ∙ c.new-buffer.ensures;
       live = ap g.D.Drain.has_failed c.new-lines.ensures.drain ∙ c.requires.drain;
     }) _ _ reported a))
     c.read_pieces.ensures.stops
@@ -70,7 +70,7 @@ returns-clause-refused g c =
       dialect = c.requires.dialect;
       limit = search rules;
       read = c.new-reader.ensures.read tt refl;
-      none_waits = ap (λ b. b.items) c.new-lines.ensures.buffer ∙ c.new-buffer.ensures.items;
+      none_waits = c.new-lines.ensures.buffer ∙ c.new-buffer.ensures;
       live = ap g.D.Drain.has_failed c.new-lines.ensures.drain ∙ c.requires.drain;
     }) _ _ reported a)
     c.read_pieces.ensures.stops

@@ -2,7 +2,6 @@ use Rattle.std.proofs.Common.{◌≡◌, ℕ, List, length, ◌++◌, ◌∙◌,
 use Rattle.std.proofs.lemmas.Result.{on_ok_weaker}
 use Rattle.std.specs.Prelude.{decimal}
 use Rattle.std.specs.Str.{chars}
-use Rattle.rdf_lines.proofs.WrittenBytesLemmas.{where_ok}
 use Rattle.rdf_stream.proofs.PutLemmas.{then_put}
 use Rattle.rdf_stream.proofs.token_line.put_parts.Goals as goal
 
@@ -13,7 +12,7 @@ number_put old mid new bytes after n count p q same =
 
 pub returns-clause-written : goal.returns-clause-written
 returns-clause-written g c =
-    let old = c.args.out.now.items in
+    let old = c.args.out.now in
     let count = number_put old _ _ _ _ _ (length (chars c.args.token.text.now)) c.in_ok-put_number.ensures.written c.in_ok-put_number-2.ensures.written (search rules) in
-    let kind = then_put old _ _ _ _ count (c.in_ok-extend_from_slice.ensures.items ∙ ap (λ l. c.put_number-2.new.out.items ++ l) (c.as_bytes.ensures.value ∙ c.kind_name.ensures)) in
-    on_ok_weaker c.extend_from_slice-2.result (λ e. then_put old _ _ _ _ kind e) (where_ok c.extend_from_slice-2.result _ _ _ c.extend_from_slice-2.ensures.items)
+    let kind = then_put old _ _ _ _ count (c.in_ok-append.ensures.appended ∙ ap (λ l. c.put_number-2.new.out ++ l) (c.as_bytes.ensures.value ∙ c.kind_name.ensures)) in
+    on_ok_weaker c.append-2.result (λ e. then_put old _ _ _ _ kind e) c.append-2.ensures.appended

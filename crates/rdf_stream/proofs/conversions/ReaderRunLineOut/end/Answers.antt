@@ -16,11 +16,11 @@ returns-in-Ok-send-clause-ends g c = λ first bytes i.
 
 pub returns-in-Ok-send-clause-stays : goal.returns-in-Ok-send-clause-stays
 returns-in-Ok-send-clause-stays g c = λ first s.
-    grows_both g.D.Drain.contents _ _ _ s (grows_both g.D.Drain.contents _ _ _ (puts_grow g.D.Drain.contents g.D.Drain.has_failed _ _ _ c.in-Ok.ensures.ok.puts) (grows_by g.D.Drain.contents _ _ c.finish.new.sink.buffer.now.items (search rules) (search rules)))
+    grows_both g.D.Drain.contents _ _ _ s (grows_both g.D.Drain.contents _ _ _ (puts_grow g.D.Drain.contents g.D.Drain.has_failed _ _ _ c.in-Ok.ensures.ok.puts) (grows_by g.D.Drain.contents _ _ c.finish.new.sink.buffer.now (search rules) (search rules)))
 
 pub returns-in-Err-send-clause-stays : goal.returns-in-Err-send-clause-stays
 returns-in-Err-send-clause-stays g c = λ first s.
-    grows_both g.D.Drain.contents _ _ _ s (grows_both g.D.Drain.contents _ _ _ (puts_grow g.D.Drain.contents g.D.Drain.has_failed _ _ _ c.in-Ok.ensures.ok.puts) (grows_front g.D.Drain.contents _ _ c.finish.new.sink.buffer.now.items (search rules) (search rules)))
+    grows_both g.D.Drain.contents _ _ _ s (grows_both g.D.Drain.contents _ _ _ (puts_grow g.D.Drain.contents g.D.Drain.has_failed _ _ _ c.in-Ok.ensures.ok.puts) (grows_front g.D.Drain.contents _ _ c.finish.new.sink.buffer.now (search rules) (search rules)))
 
 pub returns-in-Err-send-clause-halts : goal.returns-in-Err-send-clause-halts
 returns-in-Err-send-clause-halts g c = λ first bytes i.

@@ -30,10 +30,10 @@ returns-in-Ok-hand_over-clause-count g c =
     ∙ (length-append bytes c.args.piece.now ∙ ap (λ n. n + length c.args.piece.now) (sym before))
 
 pub returns-in-Ok-hand_over-clause-stays : goal.returns-in-Ok-hand_over-clause-stays
-returns-in-Ok-hand_over-clause-stays g c = λ first s. grows_both g.D.Drain.contents _ _ _ (c.in-Ok.ensures.stays first s) (grows_by g.D.Drain.contents _ _ c.take_parts.new.out.buffer.now.items (search rules) (search rules))
+returns-in-Ok-hand_over-clause-stays g c = λ first s. grows_both g.D.Drain.contents _ _ _ (c.in-Ok.ensures.stays first s) (grows_by g.D.Drain.contents _ _ c.take_parts.new.out.buffer.now (search rules) (search rules))
 
 pub returns-in-Err-hand_over-clause-stays : goal.returns-in-Err-hand_over-clause-stays
-returns-in-Err-hand_over-clause-stays g c = λ first s. grows_both g.D.Drain.contents _ _ _ (c.in-Ok.ensures.stays first s) (grows_front g.D.Drain.contents _ _ c.take_parts.new.out.buffer.now.items (search rules) (search rules))
+returns-in-Err-hand_over-clause-stays g c = λ first s. grows_both g.D.Drain.contents _ _ _ (c.in-Ok.ensures.stays first s) (grows_front g.D.Drain.contents _ _ c.take_parts.new.out.buffer.now (search rules) (search rules))
 
 pub returns-in-Err-hand_over-clause-halts : goal.returns-in-Err-hand_over-clause-halts
 returns-in-Err-hand_over-clause-halts g c = λ first bytes i.

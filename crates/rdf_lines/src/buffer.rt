@@ -1,0 +1,110 @@
+// Lines in memory that is filled once and used again.
+
+ghost use Rattle.std.specs.Prelude.{◌≡◌, ◌↔◌, ◌≤◌, ◌++◌, [], length, take, encode_utf8_all, OnErr, OnOk};
+ghost use Rattle.std.specs.Result.{IsErrOf};
+ghost use Rattle.rdf_terms.specs.Views.{quad_of};
+ghost use Rattle.rdf_lines.specs.Forms.{form_of};
+ghost use Rattle.rdf_lines.specs.NodePrefixes.{line_in};
+ghost use Rattle.rdf_lines.specs.Writing.{CanWrite};
+
+use crate::form::WrittenForm;
+use crate::writer::place::place_all;
+use crate::writer::writable::can_write;
+use crate::writer::{LabelFault, put_quad};
+use rdf_terms::QuadRef;
+use std::alloc::{AllocError, Allocator, Global};
+use std::marker::Model;
+
+/// The bytes of lines, in order. It differs from a vector of bytes in cost alone: what `clear` and `truncate` take away stays in memory, and the
+/// next line is placed over it, so that no memory has to be filled for it first.
+#[derive(Drop)]
+pub struct LineBuffer<A: Allocator = Global> {
+    bytes: Vec<u8, A>,
+    len: usize,
+}
+
+impl<A: Allocator> Model for LineBuffer<A> {
+    ghost use Rattle.std.specs.Prelude.{ℕ, ◌≤◌, List, length, take};
+
+    ghost Value = { List ℕ };
+
+    ghost view = { λ b. take b.len b.bytes.items };
+
+    ghost invariant = { λ b. b.len ≤ length b.bytes.items };
+}
+
+impl<A: Allocator + Copy> LineBuffer<A> {
+    /// No lines. It takes no memory.
+    pub fn new(alloc: A) -> LineBuffer<A>
+        ensures { result ≡ [] }
+    {
+        LineBuffer {
+            bytes: Vec::new(alloc),
+            len: 0,
+        }
+    }
+
+    /// How many bytes the lines have.
+    #[inline(always)]
+    pub fn len(&self) -> usize
+        ensures { result ≡ length self.now }
+    {
+        self.len
+    }
+
+    /// The bytes of the lines.
+    pub fn as_slice(&self) -> &[u8]
+        ensures { result.now ≡ self.now }
+    {
+        &self.bytes.as_slice()[..self.len]
+    }
+
+    /// Takes all bytes away. Their memory stays.
+    pub fn clear(&mut self)
+        ensures { self.new ≡ [] }
+    {
+        self.len = 0;
+    }
+
+    /// Takes away what comes after the first `len` bytes. Its memory stays.
+    pub fn truncate(&mut self, len: usize)
+        requires { len ≤ length self.old }
+        ensures { self.new ≡ take len self.old }
+    {
+        self.len = len;
+    }
+
+    /// Appends bytes. Where a growth of memory is refused, it appends nothing.
+    pub fn append(&mut self, bytes: &[u8]) -> Result<(), AllocError>
+        ensures appended { OnOk result (self.new ≡ self.old ++ bytes.now) }
+        ensures unchanged { OnErr result (self.new ≡ self.old) }
+    {
+        if bytes.len() <= self.bytes.len() - self.len {
+            self.len = place_all(self.bytes.as_mut_slice(), self.len, bytes);
+            return Ok(());
+        }
+        self.bytes.truncate(self.len);
+        self.bytes.extend_from_slice(bytes)?;
+        self.len = self.bytes.len();
+        Ok(())
+    }
+
+    /// Appends the line of a quad in N-Quads, as `write_line_in` does. After an error the lines are as they were.
+    #[inline(always)]
+    pub fn put_line(&mut self, quad: &QuadRef<'_>, form: WrittenForm<'_>) -> Result<(), LabelFault>
+        ensures written { OnOk result (self.new ≡ self.old ++ encode_utf8_all (line_in (form_of form.entry) (quad_of quad.now))) }
+        ensures unchanged { OnErr result (self.new ≡ self.old) }
+        ensures not_labelled { IsErrOf result LabelFault.NotLabelled ↔ ¬ CanWrite form.entry.style (quad_of quad.now) }
+    {
+        if !can_write(quad, form.style) {
+            return Err(LabelFault::NotLabelled);
+        }
+        match put_quad(quad, &form, self.len, &mut self.bytes) {
+            Ok(end) => {
+                self.len = end;
+                Ok(())
+            }
+            Err(_) => Err(LabelFault::Memory),
+        }
+    }
+}
