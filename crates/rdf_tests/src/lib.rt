@@ -1,7 +1,9 @@
-//! Tests of the crates below rdf_stream, over their public calls. They stand in a crate of their own, since a crate
-//! with tests is proved twice.
+//! The tests of all crates, over their public calls. They stand in one crate of their own, since a crate with tests is
+//! proved twice.
 #![tactic(auto)]
 
+#[cfg(test)]
+mod command;
 #[cfg(test)]
 mod growths;
 #[cfg(test)]
@@ -16,6 +18,8 @@ mod puts;
 mod reading;
 #[cfg(test)]
 mod sinks;
+#[cfg(test)]
+mod stream;
 #[cfg(test)]
 mod terms;
 #[cfg(test)]

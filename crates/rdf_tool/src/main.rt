@@ -1,9 +1,6 @@
 //! The program `rdfconv`: it reads a document of N-Triples, N-Quads, Turtle or TriG, and writes N-Quads.
 #![tactic(auto)]
 
-#[cfg(test)]
-mod tests;
-
 use rdf_command::{Process, start};
 use rdf_stream::Out;
 use std::process::ExitCode;
