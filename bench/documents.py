@@ -197,6 +197,15 @@ def literal(out):
     out.put('" .\n', 1)
 
 
+def literals(out):
+    """Four literals, each a quarter of the document."""
+    text = ''.join(TITLES).replace('"', '\\"')
+    for n in range(4):
+        out.put('<http://example.org/library/book-%d> <http://example.org/terms/text> "' % n)
+        out.put(text * (out.size // (4 * len(text.encode()))))
+        out.put('" .\n', 1)
+
+
 def prefixes(out):
     """As many prefixes as may be bound, or as fill a third of the document, and names that have each in turn."""
     count = min(MOST_BINDINGS, out.size // 150)
@@ -228,6 +237,7 @@ DOCUMENTS = {
     'nested': Document('Brackets, 1,000 deep', 'ttl', [], nested),
     'deep': Document('One nest of brackets', 'ttl', ['--depth', str(MOST_DEPTH)], deep),
     'literal': Document('One literal', 'nt', ['--token', str(MOST_TOKEN)], literal),
+    'literals': Document('Four literals', 'nt', ['--token', str(MOST_TOKEN)], literals),
     'plain': Document('Lines of IRIs', 'nt', [], plain),
     'escaped': Document('Lines of escapes', 'nt', [], escaped),
     'crlf': Document('Lines with CR and LF', 'nt', [], carriage_returns),

@@ -15,8 +15,11 @@ use rdf_terms::QuadRef;
 use std::alloc::{AllocError, Allocator, Global};
 use std::marker::Model;
 
-/// The bytes of lines, in order. It differs from a vector of bytes in cost alone: what `clear` and `truncate` take away stays in memory, and the
-/// next line is placed over it, so that no memory has to be filled for it first.
+/// How many bytes stay in memory at most where no lines are left.
+const KEPT_LEN: usize = 1_048_576;
+
+/// The bytes of lines, in order. It differs from a vector of bytes in cost alone: what `clear` and `truncate` take away stays in memory (a MiB of it
+/// at most after `clear`), and the next line is placed over it, so that no memory has to be filled for it first.
 #[derive(Drop)]
 pub struct LineBuffer<A: Allocator = Global> {
     bytes: Vec<u8, A>,
@@ -59,11 +62,15 @@ impl<A: Allocator + Copy> LineBuffer<A> {
         &self.bytes.as_slice()[..self.len]
     }
 
-    /// Takes all bytes away. Their memory stays.
+    /// Takes all bytes away. Their memory stays, but for what a long line took beyond a MiB, which is given back.
     pub fn clear(&mut self)
         ensures { self.new ≡ [] }
     {
         self.len = 0;
+        if self.bytes.len() > KEPT_LEN {
+            self.bytes.truncate(KEPT_LEN);
+            self.bytes.shrink_to(KEPT_LEN);
+        }
     }
 
     /// Takes away what comes after the first `len` bytes. Its memory stays.

@@ -1,4 +1,4 @@
-// Runs over memory, and words.
+// The command line: the words of a task, and runs over memory.
 
 ghost use Rattle.rdf_iri.specs.Scope.{BaseFits};
 ghost use Rattle.rdf_command.specs.Runs.{AreFresh};

@@ -1,4 +1,4 @@
-// Runs over memory: worked documents, and devices that fail.
+// Complete runs over memory: worked documents, and devices that fail.
 
 mod devices;
 mod large;
