@@ -15,10 +15,13 @@ use rdf_terms::QuadRef;
 use std::alloc::{AllocError, Allocator, Global};
 use std::marker::Model;
 
-/// How many bytes stay in memory at most where no lines are left.
+/// Lines of more bytes give memory back when they are taken away.
+const LONG_LEN: usize = 8_388_608;
+
+/// How much of it stays then.
 const KEPT_LEN: usize = 1_048_576;
 
-/// The bytes of lines, in order. It differs from a vector of bytes in cost alone: what `clear` and `truncate` take away stays in memory (a MiB of it
+/// The bytes of lines, in order. It differs from a vector of bytes in cost alone: what `clear` and `truncate` take away stays in memory (8 MiB of it
 /// at most after `clear`), and the next line is placed over it, so that no memory has to be filled for it first.
 #[derive(Drop)]
 pub struct LineBuffer<A: Allocator = Global> {
@@ -62,12 +65,12 @@ impl<A: Allocator + Copy> LineBuffer<A> {
         &self.bytes.as_slice()[..self.len]
     }
 
-    /// Takes all bytes away. Their memory stays, but for what a long line took beyond a MiB, which is given back.
+    /// Takes all bytes away. Their memory stays, up to 8 MiB; of more all but a MiB is given back.
     pub fn clear(&mut self)
         ensures { self.new ≡ [] }
     {
         self.len = 0;
-        if self.bytes.len() > KEPT_LEN {
+        if self.bytes.len() > LONG_LEN {
             self.bytes.truncate(KEPT_LEN);
             self.bytes.shrink_to(KEPT_LEN);
         }
