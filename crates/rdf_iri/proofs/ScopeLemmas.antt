@@ -115,11 +115,6 @@ pub Binds-set : (s t : InForce) (prefix iri : List ℕ) (new : List (List ℕ ×
 Binds-set s t prefix iri new k e =
     subst (Binds s prefix iri) (sym e) (record { base = refl; limits = refl; bound = k.bound; count = k.count })
 
--- what is not there is none
-pub none_from : (o : Option (List ℕ)) → is_some o ≡ false → o ≡ None
-none_from None h = refl
-none_from (Some w) h = absurd (false≢true (sym h))
-
 -- what is there is not none
 pub some_not : (o : Option (List ℕ)) → is_some o ≡ true → o ≡ None → ⊥
 some_not o h e = false≢true (ap is_some (sym e) ∙ h)

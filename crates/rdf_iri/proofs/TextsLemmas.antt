@@ -106,16 +106,6 @@ pub Lacks-append : (c : ℕ) (u v : List ℕ) → Lacks c u → Lacks c v → La
 Lacks-append c [] v l m = m
 Lacks-append c (d ∷ u) v l m = (l.0, Lacks-append c u v l.1 m)
 
--- a text without c has none in its first part
-pub Lacks-left : (c : ℕ) (u v : List ℕ) → Lacks c (u ++ v) → Lacks c u
-Lacks-left c [] v l = tt
-Lacks-left c (d ∷ u) v l = (l.0, Lacks-left c u v l.1)
-
--- a text without c has none in its second part
-pub Lacks-right : (c : ℕ) (u v : List ℕ) → Lacks c (u ++ v) → Lacks c v
-Lacks-right c [] v l = l
-Lacks-right c (d ∷ u) v l = Lacks-right c u v l.1
-
 -- the test for a front
 pub begins-true : (front w : List ℕ) → begins front w ≡ true → w ≡ front ++ drop (length front) w
 begins-true [] w h = refl

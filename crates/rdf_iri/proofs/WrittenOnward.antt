@@ -4,14 +4,13 @@ use Rattle.std.specs.Str.{IsUtf8, IsCharBoundary}
 use Rattle.std.proofs.lemmas.Bool.{cases_Bool, cond-true, cond-false}
 use Rattle.std.proofs.lemmas.List.{length-append, take-append-le, take-append-drop, length-take-le}
 use Rattle.std.proofs.lemmas.Str.{IsCharBoundary-after_ascii}
-use Rattle.std.proofs.Math.Seq.{take-append_seam, drop-append_seam, take-append-add, drop-append-add, take-length, get_or-append_seam}
+use Rattle.std.proofs.Math.Seq.{take-append_seam, drop-append_seam, take-append-add, drop-append-add, get_or-append_seam}
 use Rattle.rdf_iri.specs.Texts.{BeginsWith}
 use Rattle.rdf_iri.specs.Dots.{has_slash, parent}
 use Rattle.rdf_iri.specs.Resolve.{directory}
 use Rattle.rdf_iri.specs.Directory.{has_dots}
 use Rattle.rdf_iri.specs.Steps.{path_in, tail_in, onward, Leads, Passes, IsDirectory, front_at, path_at, written_onward}
 use Rattle.rdf_iri.proofs.StepsLemmas.{path-tail, last-moves}
-use Rattle.rdf_iri.proofs.Written.{no_items}
 
 -- what stands in front of the path
 pub front-there : (root : ℕ) (text : List ℕ) (d : IsDirectory root text) → front_at root text ≡ d.front
@@ -60,19 +59,6 @@ parent-directory w =
     (λ t. ap (λ x. x ++ 47 ∷ []) (cond-true (has_slash w) (47 ∷ parent w) [] t) ∙ ap (λ x. 47 ∷ x) (sym (cond-true (has_slash w) (parent w ++ 47 ∷ []) [] t)))
     (λ f. ap (λ x. x ++ 47 ∷ []) (cond-false (has_slash w) (47 ∷ parent w) [] f) ∙ ap (λ x. 47 ∷ x) (sym (cond-false (has_slash w) (parent w ++ 47 ∷ []) [] f)))
     (cases_Bool (has_slash w))
-
--- the directory above the root is the root
-pub above-root : (root : ℕ) (text : List ℕ) (d : IsDirectory root text) → length text ≤ root → (root ≤ length text) × (take root text ≡ front_at root text ++ (parent (path_at root text) ++ 47 ∷ []))
-above-root root text d l =
-    let h = d.at_root in
-    let w = whole-length root text d in
-    let e : root ≡ length text = omega (arith, h, w) in
-    let n : d.path ≡ [] = no_items d.path (omega (arith, h, w)) in (
-      omega (arith, e),
-      ap (λ (i : ℕ). take i text) e ∙ (take-length text ∙ (d.whole
-          ∙ (ap (λ x. d.front ++ (x ++ 47 ∷ [])) (n ∙ ap parent (sym n))
-          ∙ (ap (λ x. x ++ (parent d.path ++ 47 ∷ [])) (sym (front-there root text d)) ∙ ap (λ x. front_at root text ++ (parent x ++ 47 ∷ [])) (sym (path-there root text d)))))),
-    )
 
 -- the directory above another one
 pub above-there : (root k : ℕ) (text : List ℕ) (d : IsDirectory root text) → root < length text → k ≤ length (slice_range text root (length text - 1)) →

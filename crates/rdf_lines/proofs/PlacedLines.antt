@@ -1,5 +1,5 @@
 -- The bytes of the parts of a line whose texts stand as they are.
-use Rattle.std.proofs.Common.{◌≡◌, ℕ, true, List, [], ◌∷◌, ◌++◌, length, take, refl, ap, sym, ◌∙◌, arith}
+use Rattle.std.proofs.Common.{◌≡◌, ℕ, true, List, [], ◌∷◌, ◌++◌, refl, ap, sym, ◌∙◌, arith}
 use Rattle.std.specs.Prelude.{flat_map, chars, decimal, encode_utf8_all, IsUtf8}
 use Rattle.rdf_terms.specs.declared.views.IriView.{IriView}
 use Rattle.rdf_terms.specs.declared.views.LabelView.{LabelView}
@@ -12,9 +12,9 @@ use Rattle.rdf_lines.specs.declared.form.Escapes.{Escapes}
 use Rattle.rdf_lines.specs.declared.form.Escapes.TheVariants.{Plain}
 use Rattle.rdf_lines.specs.declared.form.Style.{Style}
 use Rattle.rdf_lines.specs.declared.form.Style.TheVariants.{Kept, Tagged}
-use Rattle.rdf_lines.specs.Placing.{Placed, label_bytes, number_bytes}
+use Rattle.rdf_lines.specs.Placing.{label_bytes, number_bytes}
 use Rattle.rdf_lines.specs.Writing.{escaped, written}
-use Rattle.rdf_lines.specs.WrittenBytes.{BeginsWith, iri_bytes, node_bytes, string_bytes_of}
+use Rattle.rdf_lines.specs.WrittenBytes.{iri_bytes, node_bytes, string_bytes_of}
 use Rattle.rdf_lines.proofs.EncodedLine.{between, encoded_node}
 use Rattle.rdf_lines.proofs.EscapedRuns.{plain_iri, text_stands}
 
@@ -43,7 +43,3 @@ pub placed_cell : (s : Style) (e : Escapes) (prefix word : List ℕ) (n : ℕ) �
     → number_bytes s word 99 n ≡ node_bytes (record { style = s; escapes = e; prefix = prefix }) (node_ref.Cell n)
 placed_cell Kept e prefix word n h = refl
 placed_cell Tagged e prefix word n h = sym (encoded_node (record { style = Tagged; escapes = e; prefix = prefix }) (node_ref.Cell n) word (99 ∷ decimal n) h refl)
-
--- a line that was placed after what stood there was appended to it
-pub placed_appended : {old room new line : List ℕ} {end : ℕ} → BeginsWith old room → Placed room new (length old) line end → take end new ≡ old ++ line
-placed_appended {old} {room} {new} {line} {end} h p = p.bytes ∙ ap (λ x. x ++ line) h

@@ -1,6 +1,5 @@
 -- Writes at places of one buffer, one after another.
-use Rattle.std.proofs.Common.{◌≡◌, ℕ, ◌+◌, ◌-◌, ◌≤◌, List, [], ◌++◌, length, take, drop, ap, sym, ◌∙◌, refl, subst, arith, append_assoc, length-append, length-take-le, length-drop, take-add, take-take, take_at, drop_at, take_all, take-append-drop}
-use Rattle.std.proofs.lemmas.List.{append-nil}
+use Rattle.std.proofs.Common.{◌≡◌, ℕ, ◌+◌, ◌-◌, ◌≤◌, List, [], ◌++◌, length, take, drop, ap, sym, ◌∙◌, subst, arith, append_assoc, length-append, length-take-le, length-drop, take-add, take-take, take_at, drop_at, take_all, take-append-drop}
 use Rattle.rdf_lines.specs.Placing.{Placed}
 
 -- a second write begins where the first ended
@@ -31,10 +30,6 @@ Placed-ends {a} {b} {c} {i} {j} {k} src half within fits covers p q =
     let whole : take last (take half src) ++ take half (drop last src) ≡ src =
     (λ x. take-take last half src (omega arith) x ++ take_all half (drop last src) (omega (arith, length-drop last src)) x) ∙ take-append-drop last src in
     record { bytes = both.bytes ∙ ap (λ l. take i a ++ l) whole; moved = both.moved ∙ ap (λ l. i + length l) whole; len = both.len }
-
--- no byte is placed by no write
-pub Placed-none : (a : List ℕ) (i : ℕ) → Placed a a i [] i
-Placed-none a i = record { bytes = sym (append-nil (take i a)); moved = omega arith; len = refl }
 
 -- what was placed, by another name
 pub Placed-as : {a b xs ys : List ℕ} {i j : ℕ} → xs ≡ ys → Placed a b i xs j → Placed a b i ys j

@@ -22,11 +22,6 @@ pub all-append : (ts us : List Token) → all_lines (ts ++ us) ≡ all_lines ts 
 all-append [] us = refl
 all-append (t ∷ ts) us = ap (λ l. token_line t ++ l) (all-append ts us) ∙ sym (append_assoc (token_line t) (all_lines ts) (all_lines us))
 
--- so are the lines that are shown, which leave out the end
-pub lines-append : (ts us : List Token) → token_lines (ts ++ us) ≡ token_lines ts ++ token_lines us
-lines-append [] us = refl
-lines-append (t ∷ ts) us = ap (λ l. shown t ++ l) (lines-append ts us) ∙ sym (append_assoc (shown t) (token_lines ts) (token_lines us))
-
 -- what is shown of some tokens is a line for each but the end
 lines_step : (b : Bool) (t : Token) (ts : List Token) → all_lines (cond b ts (t ∷ ts)) ≡ cond b [] (token_line t) ++ all_lines ts
 lines_step true t ts = refl

@@ -51,10 +51,6 @@ pub matches-any : (d : Dialect) (before : List Kind) (k : Kind) (later : List Ki
 matches-any d [] k later w m = inl m
 matches-any d (l ∷ before) k later w m = inr (matches-any d before k later w m)
 
--- a longer text of the expression begins so
-pub LiveIn : Regex → List ℕ → Type 0
-LiveIn r u = (c : ℕ) × (w : List ℕ) × Matches r (u ++ c ∷ w)
-
 -- a beginning that is found goes on to some token
 pub live-matches : (d : Dialect) (u : List ℕ) → is_live d u ≡ true → (c : ℕ) × (w : List ℕ) × Matches (any_shape d kinds) (u ++ c ∷ w)
 unfolding is_live

@@ -2,7 +2,6 @@
 use Rattle.std.proofs.Common.{◌≡◌, ℕ, zero, suc, ◌<◌, ◌≤◌, Bool, true, false, cond, nat_lt, List, [], ◌∷◌, refl, sym, ap, ◌∙◌, length, length-append, take, arith, Option, Some, None, encode_utf8, lt-ltb, ⊎_elim}
 use Rattle.std.specs.Prelude.{encode_utf8_all}
 use Rattle.std.proofs.lemmas.Bool.{le-ltb, cases_lt}
-use Rattle.std.proofs.lemmas.Bool.Decides.{nat_tests}
 use Rattle.std.proofs.lemmas.Str.{len_utf8_bounds, length-encode}
 use Rattle.rdf_terms.specs.declared.kind.Kind.{Kind}
 use Rattle.rdf_terms.specs.declared.kind.Dialect.{Dialect}
@@ -88,28 +87,3 @@ in_bytes-longer w (Some x) (Some y) h i = go (nat_lt x.0 y.0) ∙ ap (λ t. cond
     go : (t : Bool) → in_bytes w (cond t (Some y) (Some x)) ≡ cond t (in_bytes w (Some y)) (in_bytes w (Some x))
     go true = refl
     go false = refl
-
--- a chain of longer fronts, from either end
-pub longer-none : (a : Option (ℕ × Kind)) → longer_front a None ≡ a
-longer-none None = refl
-longer-none (Some x) = refl
-
--- the longest of three fronts, in whatever order they are compared
-pub longer-assoc : (a b c : Option (ℕ × Kind)) → longer_front (longer_front a b) c ≡ longer_front a (longer_front b c)
-longer-assoc None b c = refl
-longer-assoc (Some x) None c = refl
-longer-assoc (Some x) (Some y) None = longer-none (cond (nat_lt x.0 y.0) (Some y) (Some x))
-longer-assoc (Some x) (Some y) (Some z) = go (nat_lt x.0 y.0) refl (nat_lt y.0 z.0) refl
-  where
-    between : (i j k : ℕ) → nat_lt i j ≡ true → nat_lt j k ≡ true → nat_lt i k ≡ true
-    between i j k e f = grind (arith, nat_tests)
-
-    below : (i j k : ℕ) → nat_lt i j ≡ false → nat_lt j k ≡ false → nat_lt i k ≡ false
-    below i j k e f = grind (arith, nat_tests)
-
-    go : (s : Bool) → nat_lt x.0 y.0 ≡ s → (t : Bool) → nat_lt y.0 z.0 ≡ t →
-        longer_front (cond s (Some y) (Some x)) (Some z) ≡ longer_front (Some x) (cond t (Some z) (Some y))
-    go true e true f = ap (λ b. cond b (Some z) (Some y)) f ∙ sym (ap (λ b. cond b (Some z) (Some x)) (between x.0 y.0 z.0 e f))
-    go true e false f = ap (λ b. cond b (Some z) (Some y)) f ∙ sym (ap (λ b. cond b (Some y) (Some x)) e)
-    go false e true f = refl
-    go false e false f = ap (λ b. cond b (Some z) (Some x)) (below x.0 y.0 z.0 e f) ∙ sym (ap (λ b. cond b (Some y) (Some x)) e)

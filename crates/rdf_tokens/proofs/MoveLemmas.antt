@@ -1,9 +1,9 @@
 -- What the steps of a scanner read.
-use Rattle.std.proofs.Common.{Option, Some, None, ◌≡◌, ℕ, suc, ◌≤◌, Bool, true, false, cond, not, List, [], ◌∷◌, ◌++◌, ◌==◌, inl, inr, refl, sym, ap, ◌∙◌, subst, append_assoc, length, take, drop, arith, length-drop, length-append, encode_utf8}
+use Rattle.std.proofs.Common.{Option, Some, None, ◌≡◌, ℕ, suc, ◌≤◌, Bool, true, false, cond, List, [], ◌∷◌, ◌++◌, ◌==◌, inl, inr, refl, sym, ap, ◌∙◌, subst, append_assoc, length, take, drop, arith, length-drop, length-append, encode_utf8}
 use Rattle.std.specs.Prelude.{encode_utf8_all}
 use Rattle.std.proofs.lemmas.Str.{length-encode, len_utf8_bounds}
-use Rattle.std.proofs.lemmas.List.{append-nil, take_all, take-append-le, drop-append-le, take-append-drop}
-use Rattle.std.proofs.lemmas.Bool.{cond-false, or_from}
+use Rattle.std.proofs.lemmas.List.{append-nil, take_all, take-append-drop}
+use Rattle.std.proofs.lemmas.Bool.{cond-false}
 use Rattle.rdf_terms.specs.declared.kind.Dialect.{Dialect}
 use Rattle.rdf_terms.specs.declared.kind.Kind.{Kind}
 use Rattle.rdf_tokens.specs.Tokens.{Place, past, Tail, Outcome, Token, Reading, is_empty, blank, rest_of, place_of, step, tokens, with_token, with_tokens, end_tokens, stop_place}
@@ -12,7 +12,7 @@ use Rattle.rdf_tokens.specs.Tokens.Step.{token, stop}
 use Rattle.rdf_tokens.specs.Good.{mark, tokens_at, tokens_of}
 use Rattle.rdf_tokens.specs.Unread.{Unread}
 use Rattle.rdf_tokens.specs.Scans.{HasScanned}
-use Rattle.rdf_tokens.specs.Moves.{MovesBytes, BeginsChar, tail_now, is_settled, MayCome, moved, Stands, Moves}
+use Rattle.rdf_tokens.specs.Moves.{MovesBytes, BeginsChar, tail_now, MayCome, moved, Stands, Moves}
 use Rattle.rdf_tokens.specs.Front.{bytes_of}
 use Rattle.rdf_tokens.specs.Blank.{comment_step, comment_after}
 use Rattle.rdf_tokens.proofs.BlankLemmas.{blank_by, comment_by, blank-step, comment-step, tokens-blank, tokens-rest, rest-blank}
@@ -37,11 +37,6 @@ moves_both a b c ts us m n = joined b.place b.begun b.comment b.text (subst (Mov
 open_tail : (v : Unread) → v.broken ≡ false → v.ended ≡ false → tail_now v ≡ goes_on
 open_tail v b e = cond-false _ _ _ b ∙ cond-false _ _ _ e
 
--- the leading U+FEFF
-mark_more : (w x : List ℕ) → is_empty w ≡ false → mark (w ++ x) ≡ mark w
-mark_more [] x e = absurd (let h : true ≡ false = e in cc)
-mark_more (c ∷ w) x e = refl
-
 -- a byte order mark is part of the text
 pub mark_within : (w : List ℕ) → mark w ≤ length w
 mark_within [] = omega arith
@@ -50,34 +45,6 @@ mark_within (c ∷ w) = by_test (c == 0xFEFF)
     by_test : (b : Bool) → cond b 1 0 ≤ length (c ∷ w)
     by_test true = omega arith
     by_test false = omega arith
-
--- a byte order mark is dropped without a token, as the definition drops it
-pub moves_mark : (v : Unread) → v.begun ≡ false → is_settled v ≡ true → Moves v [] (moved v (past v.place (take (mark v.text) v.text)) true v.comment (drop (mark v.text) v.text))
-moves_mark v f s = record { same = refl; less = omega (arith, length-drop (mark v.text) v.text); on = λ t x m. ap (λ b. tokens_at v.dialect v.limit t b v.comment v.place (v.text ++ x)) f ∙ read t x m }
-  where
-    n : ℕ
-    n = mark v.text
-
-    full : is_empty v.text ≡ true → v.broken ≡ false → v.ended ≡ false → ⊥
-    full i b e =
-        let h : is_settled v ≡ false = or_from _ _ (ap not i) (or_from _ _ b e) in
-        let g : true ≡ false = sym s ∙ h in cc
-
-    read : (t : Tail) (x : List ℕ) → MayCome v t x → tokens_at v.dialect v.limit t false v.comment v.place (v.text ++ x)
-        ≡ tokens v.dialect v.limit t v.comment (past v.place (take n v.text)) (drop n v.text ++ x)
-    read t x (inl m) =
-        ap (λ w. tokens_at v.dialect v.limit t false v.comment v.place w) (ap (λ x. v.text ++ x) m.1 ∙ append-nil v.text)
-        ∙ ap (tokens v.dialect v.limit t v.comment (past v.place (take n v.text))) (sym (ap (λ x. drop n v.text ++ x) m.1 ∙ append-nil (drop n v.text)))
-    read t x (inr m) = at (is_empty v.text) refl
-      where
-        at : (b : Bool) → is_empty v.text ≡ b → tokens_at v.dialect v.limit t false v.comment v.place (v.text ++ x)
-            ≡ tokens v.dialect v.limit t v.comment (past v.place (take n v.text)) (drop n v.text ++ x)
-        at true i = absurd (full i m.0 m.1)
-        at false i =
-            let l = mark_within v.text in
-            ap (λ k. tokens v.dialect v.limit t v.comment (past v.place (take k (v.text ++ x))) (drop k (v.text ++ x))) (mark_more v.text x i)
-            ∙ (ap (λ w. tokens v.dialect v.limit t v.comment (past v.place w) (drop n (v.text ++ x))) (take-append-le n v.text x l)
-            ∙ ap (tokens v.dialect v.limit t v.comment (past v.place (take n v.text))) (drop-append-le n v.text x l))
 
 -- white space and comments
 blank_within : (d : Dialect) (b : Bool) (w : List ℕ) → blank d b w ≤ length w

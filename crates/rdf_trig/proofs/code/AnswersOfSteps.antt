@@ -1,12 +1,7 @@
 -- What the machine answers, from the parts of a step.
-use Rattle.std.proofs.Common.{◌≡◌, ◌≤◌, ◌<◌, ◌+◌, ◌*◌, ◌^◌, ℕ, Bool, true, false, List, [], ◌∷◌, ◌++◌, ◌&&◌, length, Option, Some, None, refl, sym, ap, ◌∙◌, subst, arith}
+use Rattle.std.proofs.Common.{◌≡◌, ◌≤◌, ◌<◌, ◌+◌, ◌*◌, ◌^◌, ℕ, Bool, true, false, List, [], ◌++◌, ◌&&◌, length, Option, Some, None, refl, sym, ap, ◌∙◌, subst, arith}
 use Rattle.std.specs.Prelude.{nat_le}
-use Rattle.std.specs.Str.{encode_utf8_all}
-use lib.Utf8.{encode}
-use Rattle.std.specs.Char.{len_utf8}
 use Rattle.std.proofs.lemmas.Bool.{cond-true, cond-false, false≢true}
-use Rattle.std.proofs.lemmas.List.{length-append}
-use Rattle.std.proofs.lemmas.Str.{len_utf8_bounds, length-encode}
 use Rattle.rdf_terms.specs.declared.kind.Kind.{Kind}
 use Rattle.rdf_terms.specs.declared.kind.Kind.TheVariants.{IriRef, OpenBracket, CloseBracket, OpenParen, CloseParen}
 use Rattle.rdf_terms.specs.Terms.{Quad}
@@ -203,16 +198,6 @@ keeps_moved form s sizes old r k l u t keeps short e d room stack fits =
 -- a character has at most four bytes
 pub bytes_at_most : (w : List ℕ) (n : ℕ) → length w ≤ n → byte_len w ≤ 4 * n
 bytes_at_most w n h = let b = few_bytes w in omega (arith, b, h)
-
--- and at least one
-pub bytes_at_least : (w : List ℕ) → length w ≤ byte_len w
-bytes_at_least [] = omega arith
-bytes_at_least (c ∷ w) =
-    let one = (len_utf8_bounds c).0 in
-    let size : length (encode c) ≡ len_utf8 c = length-encode c in
-    let all : byte_len (c ∷ w) ≡ length (encode c) + byte_len w = length-append (encode c) (encode_utf8_all w) in
-    let rest = bytes_at_least w in
-    omega (arith, one, size, all, rest)
 
 -- the limits stay
 bound_limits : (s : InForce) (p : List ℕ) (o : Option (List ℕ)) → (with_binding s p o).limits ≡ s.limits
