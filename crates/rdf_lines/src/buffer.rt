@@ -9,20 +9,19 @@ ghost use Rattle.rdf_lines.specs.Writing.{CanWrite};
 
 use crate::form::WrittenForm;
 use crate::writer::place::place_all;
-use crate::writer::writable::can_write;
 use crate::writer::{LabelFault, put_quad};
 use rdf_terms::QuadRef;
 use std::alloc::{AllocError, Allocator, Global};
 use std::marker::Model;
 
-/// Lines of more bytes give memory back when they are taken away. With 1 MiB documents of literals of that length take 4 to 8 % more time.
+/// Where more bytes than these were filled, `clear` gives memory back.
 const LONG_LEN: usize = 8_388_608;
 
-/// How much of it stays then.
+/// How many bytes it keeps then.
 const KEPT_LEN: usize = 1_048_576;
 
-/// The bytes of lines, in order. It differs from a vector of bytes in cost alone: what `clear` and `truncate` take away stays in memory (of more than
-/// 8 MiB one after `clear`), and the next line is placed over it, so that no memory has to be filled for it first.
+/// The bytes of lines, in order. It differs from a vector of bytes in cost alone: what `clear` and `truncate` take away stays in memory, and the next
+/// line is placed over it, so that no memory has to be filled for it first.
 #[derive(Drop)]
 pub struct LineBuffer<A: Allocator = Global> {
     bytes: Vec<u8, A>,
@@ -106,15 +105,7 @@ impl<A: Allocator + Copy> LineBuffer<A> {
         ensures unchanged { OnErr result (self.new ≡ self.old) }
         ensures not_labelled { IsErrOf result LabelFault.NotLabelled ↔ ¬ CanWrite form.entry.style (quad_of quad.now) }
     {
-        if !can_write(quad, form.style) {
-            return Err(LabelFault::NotLabelled);
-        }
-        match put_quad(quad, &form, self.len, &mut self.bytes) {
-            Ok(end) => {
-                self.len = end;
-                Ok(())
-            }
-            Err(_) => Err(LabelFault::Memory),
-        }
+        self.len = put_quad(quad, &form, self.len, &mut self.bytes)?;
+        Ok(())
     }
 }

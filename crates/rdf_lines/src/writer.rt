@@ -39,6 +39,17 @@ pub enum LabelFault {
     Memory,
 }
 
+impl From<AllocError> for LabelFault {
+    ghost use Rattle.std.specs.Prelude.{◌≡◌};
+    ghost use Rattle.rdf_lines.specs.declared.writer.LabelFault.TheVariants.{Memory};
+
+    ghost from_gives = { λ _ fault. fault ≡ Memory };
+
+    fn from(_: AllocError) -> LabelFault {
+        LabelFault::Memory
+    }
+}
+
 /// Appends the line of a quad in N-Quads, with its LF: each part and a space, then a dot. In strings `"`, `\`,
 /// LF and CR are escaped, and xsd:string is not written. In ASCII the characters above U+007F of strings and IRIs are
 /// escaped too, and those of labels stay.
@@ -66,39 +77,41 @@ pub fn write_line_in<A: Allocator + Copy>(
     ensures unchanged { OnErr result (out.new.items ≡ out.old.items) }
     ensures not_labelled { IsErrOf result LabelFault.NotLabelled ↔ ¬ CanWrite form.entry.style (quad_of quad.now) }
 {
-    if !can_write(quad, form.style) {
-        return Err(LabelFault::NotLabelled);
-    }
     let start = out.len();
     match put_quad(quad, &form, start, out) {
         Ok(end) => {
             out.truncate(end);
             Ok(())
         }
-        Err(_) => {
+        Err(fault) => {
             out.truncate(start);
-            Err(LabelFault::Memory)
+            Err(fault)
         }
     }
 }
 
-/// Puts the line of a quad after the first `at` bytes, and answers where it ends; what stands after that is not said. In ASCII each part may
-/// have escapes.
+/// Puts the line of a quad after the first `at` bytes, and answers where it ends; what stands after that is not said. After an error too the
+/// first `at` bytes are as they were.
 #[inline(always)]
 pub(crate) fn put_quad<A: Allocator + Copy>(
     quad: &QuadRef<'_>,
     form: &WrittenForm<'_>,
     at: usize,
     out: &mut Vec<u8, A>,
-) -> Result<usize, AllocError>
+) -> Result<usize, LabelFault>
     requires { at ≤ length out.old.items }
     ensures written { IfOk result (λ end. WrittenAt out.old.items out.new.items at (line_bytes (form_of form.now) quad.now) end) }
     ensures kept { OnErr result (KeptFront out.old.items out.new.items at) }
+    ensures not_labelled { IsErrOf result LabelFault.NotLabelled ↔ ¬ CanWrite form.now.style (quad_of quad.now) }
 {
-    match form.escapes {
-        Escapes::Plain => put_plain(quad, form, at, out),
-        Escapes::Ascii => put_apart(quad, form, at, out),
+    if !can_write(quad, form.style) {
+        return Err(LabelFault::NotLabelled);
     }
+    let end = match form.escapes {
+        Escapes::Plain => put_plain(quad, form, at, out)?,
+        Escapes::Ascii => put_apart(quad, form, at, out)?,
+    };
+    Ok(end)
 }
 
 // At once where the texts are short and stand as they are, as most do.
@@ -120,7 +133,7 @@ fn put_plain<A: Allocator + Copy>(
     }
 }
 
-// Part by part. What stood after the first `at` bytes is cut off.
+// Part by part, since in ASCII each may have escapes. What stood after the first `at` bytes is cut off.
 fn put_apart<A: Allocator + Copy>(
     quad: &QuadRef<'_>,
     form: &WrittenForm<'_>,
@@ -148,10 +161,7 @@ pub fn label_text<A: Allocator + Copy>(
     let mut digits = Buffer::new();
     match letter_and_name(node, style, &mut digits) {
         None => Err(LabelFault::NotLabelled),
-        Some((letter, name)) => match joined(alloc, letter, name) {
-            Ok(text) => Ok(text),
-            Err(_) => Err(LabelFault::Memory),
-        },
+        Some((letter, name)) => Ok(joined(alloc, letter, name)?),
     }
 }
 
