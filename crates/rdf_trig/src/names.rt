@@ -149,7 +149,7 @@ impl<A: Allocator + Copy> Name<A> {
     }
 
     // The IRI of a prefixed name.
-    #[tactic(auto, using(crate::proofs::code::LookUps::name_names, crate::proofs::code::LookUps::name_not))]
+    #[tactic(auto, using(crate::proofs::code::LookUps::name_not))]
     #[inline(always)]
     fn set_prefixed(
         &mut self,

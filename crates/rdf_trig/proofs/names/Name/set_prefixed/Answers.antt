@@ -3,11 +3,11 @@ use Rattle.std.proofs.Common.{[], ap, sym, ◌∙◌, subst}
 use Rattle.std.specs.Prelude.{unwrap_or}
 use Rattle.std.specs.Str.{chars}
 use Rattle.rdf_terms.specs.Values.{local_value}
-use Rattle.rdf_trig.specs.Scopes.{MeansLocal, Names}
+use Rattle.rdf_trig.specs.Scopes.{MeansLocal}
 use Rattle.rdf_trig.specs.States.{leaf}
 use Rattle.rdf_trig.proofs.code.ColonLemmas.{known_colon}
 use Rattle.rdf_trig.proofs.code.LocalShapes.{token_local}
-use Rattle.rdf_trig.proofs.code.LookUps.{name_names}
+use Rattle.rdf_trig.proofs.code.LookUps.{expanded_names}
 use Rattle.rdf_trig.proofs.names.Name.set_prefixed.Goals as goal
 
 pub plain_parts-requires-clause-colon : goal.plain_parts-requires-clause-colon
@@ -18,12 +18,9 @@ plain_parts-requires-clause-means g c = token_local c.args.token.now c.requires.
 
 pub returns-then-token-gt0-clause-ok : goal.returns-then-token-gt0-clause-ok
 returns-then-token-gt0-clause-ok g c =
-    let expanded = c.in_ok-expand.ensures.expanded in
-    subst (Names c.args.scope.now c.args.token.now.kind (leaf c.args.token.now)) (sym expanded.1)
-    (name_names c.args.scope.now c.args.token.now.kind (leaf c.args.token.now) (chars c.plain_parts.result.0.now) (chars c.plain_parts.result.1.now) expanded.0 c.requires.kind
-    c.plain_parts.ensures.prefix
+    expanded_names c.args.scope.now c.args.token.now.kind (leaf c.args.token.now) (chars c.plain_parts.result.0.now) (chars c.plain_parts.result.1.now) _ c.requires.kind c.plain_parts.ensures.prefix
     (ap (λ o. unwrap_or o []) (sym c.plain_parts.ensures.value ∙ ap local_value c.plain_parts.ensures.local))
-    expanded.2)
+    c.in_ok-expand.ensures.expanded
 
 pub lacks_escapes-requires : goal.lacks_escapes-requires
 lacks_escapes-requires g c = subst MeansLocal (sym c.parts.ensures.local) (token_local c.args.token.now c.requires.kind c.requires.token)
@@ -33,18 +30,12 @@ local_text-requires g c = subst MeansLocal (sym c.parts.ensures.local) (token_lo
 
 pub returns-clause-ok : goal.returns-clause-ok
 returns-clause-ok g c =
-    let expanded = c.in_ok-expand-3.ensures.expanded in
-    subst (Names c.args.scope.now c.args.token.now.kind (leaf c.args.token.now)) (sym expanded.1)
-    (name_names c.args.scope.now c.args.token.now.kind (leaf c.args.token.now) (chars c.parts.result.0.now) (chars c.as_str.result.now) expanded.0 c.requires.kind
-    c.parts.ensures.prefix
+    expanded_names c.args.scope.now c.args.token.now.kind (leaf c.args.token.now) (chars c.parts.result.0.now) (chars c.as_str.result.now) _ c.requires.kind c.parts.ensures.prefix
     (ap chars c.as_str.ensures.value ∙ ap (λ o. unwrap_or o []) (c.in_ok-local.ensures.ok ∙ ap local_value c.parts.ensures.local))
-    expanded.2)
+    c.in_ok-expand-3.ensures.expanded
 
 pub returns-then-lacks_escapes-clause-ok : goal.returns-then-lacks_escapes-clause-ok
 returns-then-lacks_escapes-clause-ok g c =
-    let expanded = c.in_ok-expand-2.ensures.expanded in
-    subst (Names c.args.scope.now c.args.token.now.kind (leaf c.args.token.now)) (sym expanded.1)
-    (name_names c.args.scope.now c.args.token.now.kind (leaf c.args.token.now) (chars c.parts.result.0.now) (chars c.parts.result.1.now) expanded.0 c.requires.kind
-    c.parts.ensures.prefix
+    expanded_names c.args.scope.now c.args.token.now.kind (leaf c.args.token.now) (chars c.parts.result.0.now) (chars c.parts.result.1.now) _ c.requires.kind c.parts.ensures.prefix
     (ap (λ o. unwrap_or o []) (sym (c.lacks_escapes.ensures.value c.if-lacks_escapes.true) ∙ ap local_value c.parts.ensures.local))
-    expanded.2)
+    c.in_ok-expand-2.ensures.expanded
