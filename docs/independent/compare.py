@@ -62,21 +62,22 @@ class Comparison:
         done = subprocess.run(words, input=document, stdout=subprocess.PIPE, stderr=subprocess.PIPE)
         return done.returncode, done.stdout, done.stderr.decode('utf-8', 'replace')
 
-    def compare(self, document, form, base=None, expected=None):
-        """Holds the program to the reader, and both to what is expected: the lines and None, or None and the refusal's reason and byte."""
+    def compare(self, document, form, base=None, expected=None, group=''):
+        """Holds the program to the reader, and both to what is expected: the lines and None, or None and the refusal's reason and byte. A
+        difference names the group, if there is one."""
         outcome = read(document, form, base)
         due = (1, outcome.lines, 'rdfconv: %s at byte %d, line %d\n' % outcome.refusal) if outcome.refusal else (0, outcome.lines, '')
         found = self.run(document, form, base)
         self.count += 1
         self.accepted += outcome.refusal is None
         if found != due:
-            self.report(document, form, base, 'the program', found, 'the reader', due)
+            self.report(document, form, base, group, 'the program', found, 'the reader', due)
         elif expected and expected != ((None, outcome.refusal[:2]) if outcome.refusal else (outcome.lines, None)):
-            self.report(document, form, base, 'both', found, 'the table', expected)
+            self.report(document, form, base, group, 'both', found, 'the table', expected)
         elif found[1]:
             self.written.append(found[1])
 
-    def report(self, document, form, base, *said):
+    def report(self, document, form, base, group, *said):
         self.differs += 1
         self.shown += 1
         if self.shown > MOST_SHOWN:
@@ -85,7 +86,7 @@ class Comparison:
         path = os.path.join(self.folder, '%d.%s' % (self.shown, form))
         with open(path, 'wb') as file:
             file.write(document)
-        print('differs: %s%s' % (path, ' --base ' + base if base else ''))
+        print('differs: %s%s%s' % (path, ' --base ' + base if base else '', ', of %s' % group if group else ''))
         one, other = repr(said[1]), repr(said[3])
         same = len(os.path.commonprefix([one, other]))
         for who, what in ((said[0], one), (said[2], other)):
@@ -97,7 +98,7 @@ class Comparison:
             lines = b''.join(self.written[first:first + 100])
             found = self.run(lines, 'nq', None)
             if found != (0, lines, ''):
-                self.report(lines, 'nq', None, 'the program', found, 'as written', (0, lines, ''))
+                self.report(lines, 'nq', None, '', 'the program', found, 'as written', (0, lines, ''))
 
     def end(self):
         self.read_back()
@@ -107,7 +108,7 @@ class Comparison:
 
 def compare_cases(comparison):
     for it in cases():
-        comparison.compare(it.document, it.form, expected=(it.lines, it.refusal))
+        comparison.compare(it.document, it.form, expected=(it.lines, it.refusal), group=it.group)
 
 
 def compare_references(comparison):
