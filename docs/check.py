@@ -7,9 +7,11 @@
 The options' ranges and defaults, the formats and the reasons are read from the sources and compared with what help (where
 the program is built), docs/rdfconv.1, README.md and docs/REFUSALS.md say. The counts of docs/DEFINITIONS.md
 are compared with the files. Each indented line of a page that begins with `$` is
-run in a scratch folder with a copy of examples/, and what comes is compared with the lines below it; lines whose programs are
-not installed are counted. Ends in one line of counts, with status 1 where something differs.
+run in a scratch folder with a copy of examples/, and what comes is compared with the lines below it. Where a program of the pages is
+not installed, its lines are left out, and those that need a file of such a line; the first line says so. Ends in one line of counts,
+with status 1 where something differs.
 """
+import fnmatch
 import os
 import re
 import shutil
@@ -151,6 +153,44 @@ def examples(page):
     return [(command, expected) for command, expected in filter(None, found)]
 
 
+def programs_of(command):
+    """The programs of OTHERS that a line needs, by itself or for a script of examples/ that it runs."""
+    text = command
+    for script in re.findall(r'\bexamples/[\w/]+\.sh\b', command):
+        if os.path.exists(os.path.join(TOP, script)):
+            text += '\n' + re.sub(r'(?m)^ *#.*', '', read(script))
+    return [word for word in OTHERS if re.search(r'(?<![-\w])%s\b' % word, text)]
+
+
+def files_of(command):
+    """The words of a line that may name files: those that it takes, and those that it makes by `>` or tee. What a loop or parallel puts
+    into a name is `*`."""
+    text = re.sub(r'\{=.*?=\}|\{[^{} ]*\}|\$\w+', '*', command)
+    words = re.findall(r'(>|\btee )? *([^\s\'"`|&;<>()]+)', text)
+    words = [(mark, word) for mark, word in words if re.fullmatch(r'[\w./*?-]*[A-Za-z][\w./*?-]*', word)]
+    return {word for mark, word in words if not mark}, {word for mark, word in words if mark}
+
+
+def is_among(word, names):
+    return any(fnmatch.fnmatch(word, name) or fnmatch.fnmatch(name, word) for name in names)
+
+
+def plan(page):
+    """The commands of a page, the lines that should come, and whether they are left out: where a program is missing, or where they take
+    a file of a line that is left out, and no other makes it."""
+    found, there, lost = [], set(), set()
+    for command, expected in examples(page):
+        takes, makes = files_of(command)
+        takes = {word for word in takes if not is_among(word, there | makes) and not os.path.exists(os.path.join(TOP, word))}
+        left_out = not all(map(shutil.which, programs_of(command))) or any(is_among(word, lost) for word in takes)
+        if left_out:
+            lost |= makes | {word for word in takes if '.' in word}
+        else:
+            there |= takes | makes
+        found.append((command, expected, left_out))
+    return found
+
+
 def run_page(counts, page):
     with tempfile.TemporaryDirectory() as folder:
         shutil.copytree(os.path.join(TOP, 'examples'), os.path.join(folder, 'examples'))
@@ -158,10 +198,9 @@ def run_page(counts, page):
         for name in ('bin/rdfconv', 'rdfconv'):
             os.symlink(PROGRAM, os.path.join(folder, name))
         how = dict(os.environ, PATH='%s/bin:%s' % (folder, os.environ['PATH']), SHELL='/bin/bash', LC_ALL='C.UTF-8', HOME=folder)
-        for command, expected in examples(page):
-            lacking = [word for word in OTHERS if re.search(r'\b%s\b' % word, command) and not shutil.which(word)]
-            if lacking:
-                counts.skipped += 1
+        for command, expected, left_out in plan(page):
+            counts.skipped += left_out
+            if left_out:
                 continue
             got = subprocess.run(['bash', '-c', command], cwd=folder, env=how, stdin=subprocess.DEVNULL, stdout=subprocess.PIPE,
                                  stderr=subprocess.STDOUT).stdout.decode(errors='backslashreplace')
@@ -174,11 +213,15 @@ def run_page(counts, page):
 def main():
     counts = Counts()
     asked = sys.argv[1:]
+    pages = [page for page in PAGES if not asked or any(word in page for word in asked)]
+    missing = [word for word in OTHERS if not shutil.which(word)]
+    if missing:
+        left_out = sum(it[2] for page in pages for it in plan(page))
+        print('not installed: %s; %d lines are left out' % (', '.join(missing), left_out))
     if not asked:
         compare(counts)
-    for page in PAGES:
-        if not asked or any(word in page for word in asked):
-            run_page(counts, page)
+    for page in pages:
+        run_page(counts, page)
     print('%d facts, %d lines run, %d left out, %d differ' % (counts.facts, counts.lines, counts.skipped, counts.differ))
     return 1 if counts.differ else 0
 
