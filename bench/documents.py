@@ -157,6 +157,74 @@ def indented(out):
                 % (n, n % 97, n % 89, n % 900, n % 7, n, n, n), 12)
 
 
+CATALOGUE_PREFIXES = '''@base <http://example.org/catalogue> .
+@prefix : <http://example.org/catalogue#> .
+@prefix lib: <http://example.org/library/> .
+@prefix t: <http://example.org/terms/> .
+@prefix rdfs: <http://www.w3.org/2000/01/rdf-schema#> .
+@prefix xsd: <http://www.w3.org/2001/XMLSchema#> .
+
+'''
+CATALOGUED = '''lib:book-%(n)d
+    a t:Book , :Item ;
+    rdfs:label "The Sea Around Us"@en , "Море вокруг нас"@ru , "われらをめぐる海"@ja ;
+    t:printed "19%(year)02d-07-%(day)02d"^^xsd:date ;
+    t:shelf lib:shelf-%(shelf)d , :wing ;
+    t:isLent %(lent)s ;
+    t:pages %(pages)d ;
+    t:weight 0.%(pages)d ;
+    t:shift -%(day)d ;
+    t:scan lib:scan-%(n)d.jpg ;
+    t:note "a \'first\' edition, \\"signed\\"" ;
+    t:author [
+        a t:Person ;
+        t:name "Rachel Carson" ;
+        t:born "1907"^^xsd:gYear
+    ] ;
+    rdfs:seeAlso <http://example.net/works/%(n)d> , <#work-%(n)d> .
+
+'''
+
+
+def catalogue(out):
+    """Books as catalogues have them: dates, booleans, signed and decimal numbers, several scripts, names with dots, indented lines."""
+    out.put(CATALOGUE_PREFIXES)
+    put_numbered(out, 20, lambda n: CATALOGUED % {
+        'n': n, 'year': n % 89 + 10, 'day': n % 27 + 1, 'shelf': n % 97, 'lent': 'true' if n % 3 else 'false', 'pages': n % 900})
+
+
+VOCABULARY_PREFIXES = '''@prefix t: <http://example.org/terms#> .
+@prefix owl: <http://www.w3.org/2002/07/owl#> .
+@prefix rdfs: <http://www.w3.org/2000/01/rdf-schema#> .
+@prefix xsd: <http://www.w3.org/2001/XMLSchema#> .
+
+'''
+DEFINED = '''t:term-%(n)d
+    a owl:ObjectProperty , owl:FunctionalProperty ;
+    rdfs:label "term %(n)d"@en , "Begriff %(n)d"@de ;
+    rdfs:comment """Relates a work to the "first" place where a copy of it was kept.
+
+A place may be a shelf, a hall or a whole house; see term %(m)d for what
+is said of loans. Where more than one place is known, the oldest is meant.
+"""@en ;
+    rdfs:domain t:Work ;
+    rdfs:range [
+        a owl:Class ;
+        owl:unionOf ( t:Shelf t:Hall t:House )
+    ] ;
+    rdfs:subPropertyOf t:term-%(m)d ;
+    owl:versionInfo "%(m)d" ;
+    rdfs:isDefinedBy <http://example.org/terms> .
+
+'''
+
+
+def vocabulary(out):
+    """Terms as vocabularies define them, with comments of several lines."""
+    out.put(VOCABULARY_PREFIXES)
+    put_numbered(out, 18, lambda n: DEFINED % {'n': n, 'm': n * 7 % 89})
+
+
 def trig(out):
     """The same as `turtle`, four statements a graph block."""
     out.put(PREFIXES)
@@ -227,6 +295,8 @@ def comments(out):
 Document = collections.namedtuple('Document', ['name', 'format', 'options', 'write'])
 
 DOCUMENTS = {
+    'catalogue': Document('Catalogue', 'ttl', [], catalogue),
+    'vocabulary': Document('Vocabulary', 'ttl', [], vocabulary),
     'nt': Document('N-Triples', 'nt', [], ntriples),
     'nq': Document('N-Quads', 'nq', [], nquads),
     'ttl': Document('Turtle with prefixes', 'ttl', [], turtle),
