@@ -28,24 +28,26 @@ Options of a command, which reads FILE or standard input:
   --depth N        brackets and parentheses open at one time, 0 to 1048576 [default: 1024]
   --bindings N     prefixes bound at one time, 0 to 16777216 [default: 65536]
   --iri N          bytes of one IRI, 1 to 268435456 [default: 1048576]
-  --prefixes FILE2 (check, convert) prefixes that are bound before the document: a line for
-                   each, as `ex: http://example.org/`; line formats have none
+  --prefixes PREFIXES
+                   (check, convert) file of prefixes that are bound before the document: a line
+                   for each, as `ex: http://example.org/`; line formats have none
   --ascii          (convert) characters above U+007F of strings and IRIs as \\uXXXX or
                    \\UXXXXXXXX; labels of blank nodes have no escapes, and stay as they are
   --node-prefix WORD
                    (convert) WORD, of ASCII letters and digits, in front of the label of each
                    blank node, so that outputs with different words of one length can be joined
-Past one of the limits N a document is refused.
+Past one of the limits N a document is refused. `show` looks at tokens alone: --base, --depth,
+--bindings and --iri have no use there, but a base that is no IRI, or is too long, is reported.
 
 Exit status:
   0  accepted, or help was asked for
   1  refused, with `rdfconv: REASON at byte N, line M` on standard error
   2  the words are no command, the base is no IRI or too long, WORD is empty or has another
-     character, or a line of FILE2 is refused, with `rdfconv: bad prefixes at line N`
+     character, or a line of PREFIXES is refused, with `rdfconv: bad prefixes at line N`
   3  a file does not open, or a read or write failed
   4  out of memory";
 
-/// What stands below the help of a subcommand.
+/// What stands below the help of `check` and of `convert`.
 const COMMAND_NOTES: &str = "\
 The format is not guessed from the file's name. Past one of the limits N a document is refused.
 
@@ -53,7 +55,19 @@ Exit status:
   0  accepted, or help was asked for
   1  refused, with `rdfconv: REASON at byte N, line M` on standard error
   2  the words are no command, the base is no IRI or too long, WORD is empty or has another
-     character, or a line of FILE2 is refused, with `rdfconv: bad prefixes at line N`
+     character, or a line of PREFIXES is refused, with `rdfconv: bad prefixes at line N`
+  3  a file does not open, or a read or write failed
+  4  out of memory";
+
+/// What stands below the help of `show`.
+const SHOW_NOTES: &str = "\
+The format is not guessed from the file's name. A token of more than --token characters is refused. Tokens alone are looked
+at: --base, --depth, --bindings and --iri have no use here, but a base that is no IRI, or is too long, is reported.
+
+Exit status:
+  0  each token has its line, or help was asked for
+  1  refused, with `rdfconv: REASON at byte N, line M` on standard error
+  2  the words are no command, or the base is no IRI or too long
   3  a file does not open, or a read or write failed
   4  out of memory";
 
@@ -77,7 +91,10 @@ pub fn program<'a>(alloc: Global, formats: &'a [&'a str]) -> Result<Command<'a>,
         .after_help(PROGRAM_NOTES)
         .subcommand_required(true);
     let command = add_action(command, prefixed_command(alloc, "check", CHECK, formats))?;
-    let command = add_action(command, action_command(alloc, "show", SHOW, formats))?;
+    let command = add_action(
+        command,
+        action_command(alloc, "show", SHOW, SHOW_NOTES, formats),
+    )?;
     add_action(command, convert_command(alloc, formats))
 }
 
@@ -112,7 +129,7 @@ fn prefixed_command<'a>(
 ) -> Result<Command<'a>, AllocError>
     ensures { IfOk result (λ c. ReadsAs c (with_prefixes (action_app (Names formats.entry) name.now))) }
 {
-    let command = action_command(alloc, name, about, formats)?;
+    let command = action_command(alloc, name, about, COMMAND_NOTES, formats)?;
     command.arg(prefixes_option(alloc))
 }
 
@@ -120,6 +137,7 @@ fn action_command<'a>(
     alloc: Global,
     name: &'a str,
     about: &'a str,
+    notes: &'a str,
     formats: &'a [&'a str],
 ) -> Result<Command<'a>, AllocError>
     ensures { IfOk result (λ c. ReadsAs c (action_app (Names formats.entry) name.now)) }
@@ -135,7 +153,7 @@ fn action_command<'a>(
     ]?;
     Command::new(alloc, name)
         .about(about)
-        .after_help(COMMAND_NOTES)
+        .after_help(notes)
         .args(arguments)
 }
 
@@ -241,7 +259,7 @@ fn prefixes_option<'a>(alloc: Global) -> Arg<'a>
     Arg::new(alloc, "prefixes")
         .long("prefixes")
         .action(ArgAction::Set)
-        .value_name("FILE2")
+        .value_name("PREFIXES")
         .help("File of prefixes bound before the document, a line each: `ex: http://example.org/`")
 }
 

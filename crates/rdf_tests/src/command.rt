@@ -15,7 +15,7 @@ use rdf_stream::{Escapes, Form, In, Limits, Out, Source};
 use rows::{Asked, FILES, Fields, INPUT, LIMITED, Limited, RUNS, Run, STARTED, Started, TASKS};
 use std::alloc::{AllocError, Global};
 use std::test::Fail;
-use texts::{COMMAND_NOTES, COMMANDS, HELP, Help, NOT_UTF8, REFUSED, Refused};
+use texts::{COMMANDS, HELP, Help, NOT_UTF8, REFUSED, Refused};
 
 /// What came of a run.
 #[derive(Drop)]
@@ -242,7 +242,7 @@ fn command_help_differs_in(alloc: Global, name: &str, help: &str) -> Option<&'st
 
 /// What differs in the help of a command, which begins with these lines and options.
 fn help_differs_in(alloc: Global, help: &Help) -> Option<&'static str> {
-    match format!(in alloc; "{}{}{COMMAND_NOTES}", help.first, help.options) {
+    match format!(in alloc; "{}{}{}", help.first, help.options, help.notes) {
         Ok(text) => command_help_differs_in(alloc, help.name, text.as_str()),
         Err(_) => Some("memory"),
     }

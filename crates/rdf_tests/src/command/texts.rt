@@ -24,29 +24,32 @@ Options of a command, which reads FILE or standard input:
   --depth N        brackets and parentheses open at one time, 0 to 1048576 [default: 1024]
   --bindings N     prefixes bound at one time, 0 to 16777216 [default: 65536]
   --iri N          bytes of one IRI, 1 to 268435456 [default: 1048576]
-  --prefixes FILE2 (check, convert) prefixes that are bound before the document: a line for
-                   each, as `ex: http://example.org/`; line formats have none
+  --prefixes PREFIXES
+                   (check, convert) file of prefixes that are bound before the document: a line
+                   for each, as `ex: http://example.org/`; line formats have none
   --ascii          (convert) characters above U+007F of strings and IRIs as \\uXXXX or
                    \\UXXXXXXXX; labels of blank nodes have no escapes, and stay as they are
   --node-prefix WORD
                    (convert) WORD, of ASCII letters and digits, in front of the label of each
                    blank node, so that outputs with different words of one length can be joined
-Past one of the limits N a document is refused.
+Past one of the limits N a document is refused. `show` looks at tokens alone: --base, --depth,
+--bindings and --iri have no use there, but a base that is no IRI, or is too long, is reported.
 
 Exit status:
   0  accepted, or help was asked for
   1  refused, with `rdfconv: REASON at byte N, line M` on standard error
   2  the words are no command, the base is no IRI or too long, WORD is empty or has another
-     character, or a line of FILE2 is refused, with `rdfconv: bad prefixes at line N`
+     character, or a line of PREFIXES is refused, with `rdfconv: bad prefixes at line N`
   3  a file does not open, or a read or write failed
   4  out of memory
 ";
 
-/// The help of a subcommand, up to what ends it.
+/// The help of a subcommand, in its three parts.
 pub(crate) struct Help {
     pub(crate) name: &'static str,
     pub(crate) first: &'static str,
     pub(crate) options: &'static str,
+    pub(crate) notes: &'static str,
 }
 
 pub(crate) static COMMANDS: [Help; 3] = [
@@ -54,16 +57,19 @@ pub(crate) static COMMANDS: [Help; 3] = [
         name: "check",
         first: "Read a document to its end, and count its quads and bytes\n\nUsage: rdfconv check [OPTIONS] [FILE]\n",
         options: CHECK_HELP,
+        notes: COMMAND_NOTES,
     },
     Help {
         name: "show",
         first: "Write a line for each token: its offset, its characters and its kind\n\nUsage: rdfconv show [OPTIONS] [FILE]\n",
         options: SHOW_HELP,
+        notes: SHOW_NOTES,
     },
     Help {
         name: "convert",
         first: "Write the quads of a document as lines of N-Quads\n\nUsage: rdfconv convert [OPTIONS] [FILE]\n",
         options: CONVERT_HELP,
+        notes: COMMAND_NOTES,
     },
 ];
 
@@ -73,14 +79,14 @@ Arguments:
   [FILE]  Document to read, in place of standard input
 
 Options:
-      --format <FORMAT>   Format of the document: nt N-Triples, nq N-Quads, ttl Turtle, trig TriG [default: trig] [possible values: nt, nq, ttl, trig]
-      --base <IRI>        Absolute IRI that relative references start from, at most --iri bytes; line formats have none
-      --token <N>         Characters of one token, 1 to 268435456 [default: 16777216]
-      --depth <N>         Brackets and parentheses open at one time, 0 to 1048576 [default: 1024]
-      --bindings <N>      Prefixes bound at one time, 0 to 16777216 [default: 65536]
-      --iri <N>           Bytes of one IRI, 1 to 268435456 [default: 1048576]
-      --prefixes <FILE2>  File of prefixes bound before the document, a line each: `ex: http://example.org/`
-  -h, --help              Print help
+      --format <FORMAT>      Format of the document: nt N-Triples, nq N-Quads, ttl Turtle, trig TriG [default: trig] [possible values: nt, nq, ttl, trig]
+      --base <IRI>           Absolute IRI that relative references start from, at most --iri bytes; line formats have none
+      --token <N>            Characters of one token, 1 to 268435456 [default: 16777216]
+      --depth <N>            Brackets and parentheses open at one time, 0 to 1048576 [default: 1024]
+      --bindings <N>         Prefixes bound at one time, 0 to 16777216 [default: 65536]
+      --iri <N>              Bytes of one IRI, 1 to 268435456 [default: 1048576]
+      --prefixes <PREFIXES>  File of prefixes bound before the document, a line each: `ex: http://example.org/`
+  -h, --help                 Print help
 ";
 
 /// What follows these lines in the help of `convert`.
@@ -89,16 +95,16 @@ Arguments:
   [FILE]  Document to read, in place of standard input
 
 Options:
-      --format <FORMAT>     Format of the document: nt N-Triples, nq N-Quads, ttl Turtle, trig TriG [default: trig] [possible values: nt, nq, ttl, trig]
-      --base <IRI>          Absolute IRI that relative references start from, at most --iri bytes; line formats have none
-      --token <N>           Characters of one token, 1 to 268435456 [default: 16777216]
-      --depth <N>           Brackets and parentheses open at one time, 0 to 1048576 [default: 1024]
-      --bindings <N>        Prefixes bound at one time, 0 to 16777216 [default: 65536]
-      --iri <N>             Bytes of one IRI, 1 to 268435456 [default: 1048576]
-      --prefixes <FILE2>    File of prefixes bound before the document, a line each: `ex: http://example.org/`
-      --ascii               Characters above U+007F of strings and IRIs as \\uXXXX or \\UXXXXXXXX; labels of blank nodes stay
-      --node-prefix <WORD>  Word of ASCII letters and digits in front of the label of each blank node
-  -h, --help                Print help
+      --format <FORMAT>      Format of the document: nt N-Triples, nq N-Quads, ttl Turtle, trig TriG [default: trig] [possible values: nt, nq, ttl, trig]
+      --base <IRI>           Absolute IRI that relative references start from, at most --iri bytes; line formats have none
+      --token <N>            Characters of one token, 1 to 268435456 [default: 16777216]
+      --depth <N>            Brackets and parentheses open at one time, 0 to 1048576 [default: 1024]
+      --bindings <N>         Prefixes bound at one time, 0 to 16777216 [default: 65536]
+      --iri <N>              Bytes of one IRI, 1 to 268435456 [default: 1048576]
+      --prefixes <PREFIXES>  File of prefixes bound before the document, a line each: `ex: http://example.org/`
+      --ascii                Characters above U+007F of strings and IRIs as \\uXXXX or \\UXXXXXXXX; labels of blank nodes stay
+      --node-prefix <WORD>   Word of ASCII letters and digits in front of the label of each blank node
+  -h, --help                 Print help
 ";
 
 /// What follows these lines in the help of `show`.
@@ -116,7 +122,20 @@ Options:
   -h, --help             Print help
 ";
 
-/// What ends the help of each subcommand.
+/// What ends the help of `show`.
+pub(crate) const SHOW_NOTES: &str = "
+The format is not guessed from the file's name. A token of more than --token characters is refused. Tokens alone are looked
+at: --base, --depth, --bindings and --iri have no use here, but a base that is no IRI, or is too long, is reported.
+
+Exit status:
+  0  each token has its line, or help was asked for
+  1  refused, with `rdfconv: REASON at byte N, line M` on standard error
+  2  the words are no command, or the base is no IRI or too long
+  3  a file does not open, or a read or write failed
+  4  out of memory
+";
+
+/// What ends the help of `check` and of `convert`.
 pub(crate) const COMMAND_NOTES: &str = "
 The format is not guessed from the file's name. Past one of the limits N a document is refused.
 
@@ -124,7 +143,7 @@ Exit status:
   0  accepted, or help was asked for
   1  refused, with `rdfconv: REASON at byte N, line M` on standard error
   2  the words are no command, the base is no IRI or too long, WORD is empty or has another
-     character, or a line of FILE2 is refused, with `rdfconv: bad prefixes at line N`
+     character, or a line of PREFIXES is refused, with `rdfconv: bad prefixes at line N`
   3  a file does not open, or a read or write failed
   4  out of memory
 ";
