@@ -3,6 +3,7 @@
 
     docs/check.py             the numbers and words of help, manual and README, and each line of the pages as it stands
     docs/check.py REFUSALS    the lines of this page alone
+    docs/check.py scripts     the scripts of examples/ alone, where something is missing, full or closed
 
 The options' ranges and defaults, the formats and the reasons are read from the sources and compared with what help (where
 the program is built), docs/rdfconv.1, README.md and docs/REFUSALS.md say. The counts of docs/DEFINITIONS.md
@@ -12,6 +13,7 @@ not installed, its lines are left out, and those that need a file of such a line
 with status 1 where something differs.
 """
 import fnmatch
+import gzip
 import os
 import re
 import shutil
@@ -210,6 +212,61 @@ def run_page(counts, page):
                 print('%s: $ %s\n  should give: %s\n  but gives:   %s' % (page, command, '\n               '.join(expected), got.replace('\n', '\n               ')))
 
 
+# The scripts of examples/, where something is missing, full or closed
+
+SCRIPTS = [  # the command, its status, how many lines it writes, the last line on standard error
+    ('examples/skip.py bad.nt', 2, 0, 'skip: error: the following arguments are required: BAD'),
+    ('examples/skip.py bad.nt none/bad', 3, 0, 'skip: none/bad: No such file or directory'),
+    ('examples/skip.py bad.nt /dev/full', 3, 0, 'skip: /dev/full: No space left on device'),
+    ('ulimit -f 1; examples/skip.py bad.nt bad', 3, 9, 'skip: bad: File too large'),
+    ('examples/skip.py bad.nt ./bad.nt', 2, 0, 'skip: ./bad.nt is the dump itself'),
+    ('examples/skip.py none.nt bad', 3, 0, 'skip: none.nt: No such file or directory'),
+    ('examples/skip.py folder.nt bad', 3, 0, 'skip: folder.nt: Is a directory'),
+    ('examples/skip.py examples/library.ttl bad', 2, 0, 'skip: examples/library.ttl is no .nt or .nq'),
+    ('examples/skip.py bad.nt bad', 1, 20, 'skip: refused lines: 20'),
+    ('examples/skip.py bad.nt.gz bad', 1, 20, 'skip: refused lines: 20'),
+    ('examples/skip.py cut.nt.gz bad', 3, 0, 'skip: cut.nt.gz, copied to TMPDIR: the packed file is cut off'),
+    ('examples/skip.py examples/library.nt bad', 0, 3, 'skip: refused lines: 0'),
+    ('examples/skip.py bad.nt bad > /dev/full', 3, 0, 'skip: rdfconv ended with status 3'),
+    ('examples/skip.py bad.nt bad >&-', 3, 0, 'skip: standard output: Bad file descriptor'),
+    ('examples/skip.py bad.nt bad --program none', 127, 0, 'skip: none: No such file or directory'),
+    ('examples/blocks.py none.nt', 3, 0, 'blocks: none.nt: No such file or directory'),
+    ('examples/blocks.py folder.nt', 3, 0, 'blocks: folder.nt: no file that can be cut'),
+    ('examples/blocks.py bad.nt 9x', 2, 0, 'blocks: error: argument BLOCK: no such size as 64M: 9x'),
+    ('examples/blocks.py bad.nt 100 > /dev/full', 3, 0, 'blocks: standard output: No space left on device'),
+    ('ulimit -f 1; examples/blocks.py large.nt 5k', 3, 11, 'rdfconv: write failed'),
+    ('examples/blocks.py bad.nt 100 --program none', 127, 0, 'blocks: none: No such file or directory'),
+    ('examples/where.py none "rdfconv: no token at byte 0, line 1"', 3, 1, 'where: none: No such file or directory'),
+    ('examples/where.py bad.nt "rdfconv: no token at byte 9999, line 1"', 3, 1, 'where: bad.nt has no byte 9999'),
+    ('examples/where.py bad.nt "rdfconv: no token at byte 0, line 1" > /dev/full', 3, 0,
+     'where: standard input or output: No space left on device'),
+    ('examples/where.py bad.nt "rdfconv: bad base"', 1, 1, ''),
+    ('examples/skip.py bad.nt bad 2> text; examples/where.py bad.nt < bad', 1, 80, ''),
+    ('rdfconv check examples/library.ttl 2>&1 | examples/where.py examples/library.ttl', 0, 1, ''),
+    ('examples/where.py bad.nt', 2, 0, 'where: no message'),
+]
+
+
+def run_scripts(counts):
+    with tempfile.TemporaryDirectory() as folder:
+        shutil.copytree(os.path.join(TOP, 'examples'), os.path.join(folder, 'examples'))
+        os.makedirs(os.path.join(folder, 'bin'))
+        os.symlink(PROGRAM, os.path.join(folder, 'bin', 'rdfconv'))
+        os.makedirs(os.path.join(folder, 'folder.nt'))
+        good, bad = (b'<http://a/%s> <http://a/p> %s .\n' % (b'x' * 50, it) for it in (b'<http://a/o>', b'<http://a/a space>'))
+        packed = gzip.compress((good + bad) * 20)
+        for name, data in (('bad.nt', (good + bad) * 20), ('large.nt', good * 400), ('bad.nt.gz', packed), ('cut.nt.gz', packed[:-10])):
+            with open(os.path.join(folder, name), 'wb') as file:
+                file.write(data)
+        how = dict(os.environ, PATH='%s/bin:%s' % (folder, os.environ['PATH']), LC_ALL='C.UTF-8')
+        for command, *expected in SCRIPTS:
+            got = subprocess.run(['bash', '-c', command], cwd=folder, env=how, stdin=subprocess.DEVNULL, stdout=subprocess.PIPE,
+                                 stderr=subprocess.PIPE)
+            told = got.stderr.decode(errors='backslashreplace').rstrip('\n').split('\n')[-1]
+            found = [got.returncode, got.stdout.count(b'\n'), told]
+            counts.expect('%s gives %s in place of %s' % (command, found, expected), found == expected)
+
+
 def main():
     counts = Counts()
     asked = sys.argv[1:]
@@ -220,6 +277,8 @@ def main():
         print('not installed: %s; %d lines are left out' % (', '.join(missing), left_out))
     if not asked:
         compare(counts)
+    if not asked or 'scripts' in asked:
+        run_scripts(counts)
     for page in pages:
         run_page(counts, page)
     print('%d facts, %d lines run, %d left out, %d differ' % (counts.facts, counts.lines, counts.skipped, counts.differ))

@@ -2,17 +2,30 @@
 """Shows the place of a refusal: its line, with a caret under the byte.
 
     examples/where.py FILE 'rdfconv: no token at byte 26, line 1'
-    rdfconv check FILE 2>&1 >/dev/null | examples/where.py FILE
+    rdfconv check FILE 2>&1 | examples/where.py FILE
 
-Without a message on the command line, it is read from standard input. Of a long line, what stands near the byte is shown. FILE
-may be packed (.gz): the byte is one of the document in it. Status 1 where there is no message with a place, or FILE has no such byte.
+Without a message on the command line, messages are read from standard input, and each line is answered when it comes. A message with
+no place, such as `accepted, ..` or `rdfconv: bad base`, is passed on as it is. Of a long line, what stands near the byte is shown.
+FILE may be packed (.gz, .bz2, .xz): the byte is one of the document in it. The lines of BAD that skip.py writes are messages too.
+
+Status 0: each message was `accepted, ..`. 1: some message was another. 2: the words are wrong, or there was no message. 3: FILE can't
+be read or has no such byte (the message is passed on then), or standard input can't be read, or the output written.
 """
+import bz2
 import codecs
+import contextlib
 import gzip
+import lzma
+import os
 import re
+import signal
 import sys
 import unicodedata
+import zlib
 
+OPENERS = {'.gz': gzip.open, '.bz2': bz2.open, '.xz': lzma.open}
+PLACE = re.compile(r'(?:[^<"]*\brdfconv: )?([\w -]+) at byte (\d+), line (\d+)(?:\t.*)?$')
+ACCEPTED = re.compile(r'(?:[^<"]*[\t ])?accepted, \d+ quads?, \d+ bytes?$')
 REACH = 240
 MOST_COLUMNS = 60
 PIECE = 65536
@@ -76,23 +89,65 @@ def place(count, before, after):
     return left + front + back + right + '\n' + ' ' * columns(left + front) + '^'
 
 
-def main():
-    if len(sys.argv) not in (2, 3):
-        sys.exit(__doc__)
-    message = sys.argv[2] if len(sys.argv) == 3 else sys.stdin.read()
-    found = re.search(r'(?:rdfconv: )?(.*) at byte (\d+), line (\d+)', message)
+def shown_place(name, reason, offset, line):
+    """The place in the file, or None where it has no such byte."""
+    opener = OPENERS.get(os.path.splitext(name)[1])
+    with (opener or open)(name, 'rb') as file:
+        seen = near(file, 0 if opener else line_start(file, offset), offset)
+    return seen and '%s:%s:%d: %s\n%s' % (name, line, seen[0] + 1, reason, place(*seen))
+
+
+def answer(name, message):
+    """What is said to a message, on standard output and standard error, and the status."""
+    found = PLACE.match(message)
     if not found:
-        sys.exit('where: no place in the message: ' + message.strip())
-    name, offset = sys.argv[1], int(found[2])
-    is_packed = name.endswith('.gz')
-    with (gzip.open if is_packed else open)(name, 'rb') as file:
-        seen = near(file, 0 if is_packed else line_start(file, offset), offset)
-    if not seen:
-        sys.exit('where: %s has no byte %d' % (name, offset))
-    sys.stdout.reconfigure(encoding='utf-8')
-    print('%s:%s:%d: %s' % (name, found[3], seen[0] + 1, found[1].split(': ')[-1]))
-    print(place(*seen))
+        return message, '', 0 if ACCEPTED.match(message) else 1
+    try:
+        text = shown_place(name, found[1], int(found[2]), found[3])
+    except (OSError, EOFError, zlib.error, lzma.LZMAError) as fault:
+        return message, 'where: %s: %s' % (name, getattr(fault, 'strerror', None) or fault), 3
+    return (text, '', 1) if text else (message, 'where: %s has no byte %s' % (name, found[2]), 3)
+
+
+def put(descriptor, text):
+    """Writes a line there. The bytes of a name or a message that are no UTF-8 stay as they were."""
+    data = (text + '\n').encode('utf-8', 'surrogateescape')
+    while data:
+        data = data[os.write(descriptor, data):]
+
+
+def messages(words):
+    """The messages, each as soon as it is there."""
+    for message in words or open(0, encoding='utf-8', errors='surrogateescape', newline='\n', closefd=False):
+        yield from filter(None, message.split('\n'))
+
+
+def answer_all(name, words):
+    """The greatest status."""
+    statuses = []
+    for message in messages(words):
+        output, error, status = answer(name, message)
+        put(1, output)
+        if error:
+            put(2, error)
+        statuses.append(status)
+    if not statuses:
+        put(2, 'where: no message')
+    return max(statuses, default=2)
+
+
+def main():
+    signal.signal(signal.SIGINT, signal.SIG_DFL)
+    try:
+        if len(sys.argv) not in (2, 3):
+            put(2, __doc__.rstrip())
+            return 2
+        return answer_all(sys.argv[1], sys.argv[2:])
+    except OSError as fault:
+        with contextlib.suppress(OSError):
+            put(2, 'where: standard input or output: %s' % fault.strerror)
+        return 3
 
 
 if __name__ == '__main__':
-    main()
+    sys.exit(main())
