@@ -234,7 +234,7 @@ SCRIPTS = [  # the command, its status, how many lines it writes, the last line 
     ('examples/blocks.py folder.nt', 3, 0, 'blocks: folder.nt: no file that can be cut'),
     ('examples/blocks.py bad.nt 9x', 2, 0, 'blocks: error: argument BLOCK: no such size as 64M: 9x'),
     ('examples/blocks.py bad.nt 100 > /dev/full', 3, 0, 'blocks: standard output: No space left on device'),
-    ('ulimit -f 1; examples/blocks.py large.nt 5k', 3, 11, 'rdfconv: write failed'),
+    ('ulimit -f 1; examples/blocks.py large.nt 5k', 153, 11, 'blocks: rdfconv ended with status 153'),
     ('examples/blocks.py bad.nt 100 --program none', 127, 0, 'blocks: none: No such file or directory'),
     ('examples/where.py none "rdfconv: no token at byte 0, line 1"', 3, 1, 'where: none: No such file or directory'),
     ('examples/where.py bad.nt "rdfconv: no token at byte 9999, line 1"', 3, 1, 'where: bad.nt has no byte 9999'),

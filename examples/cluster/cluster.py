@@ -115,11 +115,11 @@ def words_of(asked, names):
     for n, name in enumerate(names):
         words = [asked.program, 'convert', '--format', format_of(name)]
         if asked.base is not None:
-            words += ['--base', asked.base.replace('{}', urllib.parse.quote(os.fsencode(name)))]
+            words += ['--base=' + asked.base.replace('{}', urllib.parse.quote(os.fsencode(name)))]
         if asked.prefixes is not None:
-            words += ['--prefixes', os.path.abspath(asked.prefixes)]
+            words += ['--prefixes=' + os.path.abspath(asked.prefixes)]
         if asked.node_prefix is not None:
-            words += ['--node-prefix', '%s%0*d' % (asked.node_prefix, digits, n)]
+            words += ['--node-prefix=%s%0*d' % (asked.node_prefix, digits, n)]
         yield words + ['--ascii'] * asked.ascii
 
 
