@@ -1,4 +1,10 @@
-/* The converter for C: a document in memory is read, and its quads are written as lines of N-Quads to memory. */
+/* The converter for C and C++: a document in memory is read, and its quads are written as lines of N-Quads to memory.
+
+   To link, name the C library of the Rattle kit after ours, which takes rattle_alloc and its like from there:
+
+       cc -o program program.c crates/rdf_c/out/librdf_c.a "$kit/c/liblibc_c.a"        (c++ in place of cc for C++)
+
+   kit is the folder of the kit, kit=$(dirname "$(rt doc)"). build.sh beside this file proves and builds librdf_c.a, and links so. */
 #ifndef RDFCONV_H
 #define RDFCONV_H
 #include <stddef.h>
@@ -9,7 +15,7 @@ enum { RDFCONV_NTRIPLES, RDFCONV_NQUADS, RDFCONV_TURTLE, RDFCONV_TRIG };
 enum {
     RDFCONV_ACCEPTED = 0,
     RDFCONV_REFUSED = 1,
-    RDFCONV_NO_JOB = 2, /* no such format, limit or form, the base is no IRI, or the word is no word */
+    RDFCONV_NO_JOB = 2, /* no such format, limit or form, the base is no IRI or longer than the limit, or the word is no word */
     RDFCONV_MEMORY = 4,
     RDFCONV_ROOM = 5,   /* accepted, but the lines have more bytes (`needed`) than the output */
     RDFCONV_PREFIXES = 6 /* a line of the prefixes is refused */
@@ -43,15 +49,45 @@ typedef struct {
     "ended", "unexpected token", "relative IRI", "IRI too long", "write failed", "unbound prefix", "no base", "too deep", \
     "too many bindings", "bad binding" }
 
-/* A slice is a pointer, which is never NULL, and a length in bytes. A base of length 0 is none. The prefixes are lines
-   of a prefix with its colon, a space and an IRI, as the program's --prefixes reads them; of length 0 they are none. The word, of ASCII
-   letters and digits, stands in front of the name of each node that is written, as that of the program's --node-prefix; of length 0 it
-   changes no name. The output and the outcome overlap nothing else. */
+#ifdef __cplusplus
+extern "C" {
+#endif
+
+/* A slice is a pointer and a length in bytes; of length 0 its pointer may be NULL, or any other. A base of length 0 is none. The prefixes
+   are lines of a prefix with its colon, a space and an IRI, as the program's --prefixes reads them; of length 0 they are none. The word, of
+   ASCII letters and digits, stands in front of the name of each node that is written, as that of the program's --node-prefix; of length 0
+   it changes no name. The request and the outcome are not NULL. The output and the outcome overlap nothing else, and no other thread
+   writes to what a call reads. Calls may run side by side, but none from a signal handler, nor in a forked child of a process with
+   threads. */
 void rdfconv_convert(const rdfconv_request *request, const uint8_t *base, size_t base_len, const uint8_t *prefixes,
                      size_t prefixes_len, const uint8_t *word, size_t word_len, const uint8_t *input, size_t input_len, uint8_t *output,
                      size_t output_len, rdfconv_outcome *outcome);
 
 void rdfconv_check(const rdfconv_request *request, const uint8_t *base, size_t base_len, const uint8_t *prefixes,
                    size_t prefixes_len, const uint8_t *input, size_t input_len, rdfconv_outcome *outcome);
+
+#ifdef __cplusplus
+}
+#endif
+
+/* The library itself, as whoever finds its calls by name has them (dlsym, ctypes, another language), takes no NULL: there a slice of length
+   0 needs the address of some byte. Here the two names stand for these functions, which give it that. */
+static inline void rdfconv_convert_slices(const rdfconv_request *request, const uint8_t *base, size_t base_len, const uint8_t *prefixes,
+                                          size_t prefixes_len, const uint8_t *word, size_t word_len, const uint8_t *input,
+                                          size_t input_len, uint8_t *output, size_t output_len, rdfconv_outcome *outcome) {
+    uint8_t none = 0, no_room = 0;
+    rdfconv_convert(request, base_len ? base : &none, base_len, prefixes_len ? prefixes : &none, prefixes_len, word_len ? word : &none,
+                    word_len, input_len ? input : &none, input_len, output_len ? output : &no_room, output_len, outcome);
+}
+
+static inline void rdfconv_check_slices(const rdfconv_request *request, const uint8_t *base, size_t base_len, const uint8_t *prefixes,
+                                        size_t prefixes_len, const uint8_t *input, size_t input_len, rdfconv_outcome *outcome) {
+    uint8_t none = 0;
+    rdfconv_check(request, base_len ? base : &none, base_len, prefixes_len ? prefixes : &none, prefixes_len, input_len ? input : &none,
+                  input_len, outcome);
+}
+
+#define rdfconv_convert rdfconv_convert_slices
+#define rdfconv_check rdfconv_check_slices
 
 #endif

@@ -1,8 +1,21 @@
-"""The converter from Python, by ctypes over librdfconv.so beside this file (see build.sh)."""
+"""The converter from Python, by ctypes over librdfconv.so beside this file, which build.sh makes.
+
+    lines = rdfconv.convert('ex:a ex:b [] .', 'ttl', prefixes={'ex': 'http://example.org/'})
+    quads, tokens, size = rdfconv.check(document, 'nt')
+
+Document, base, prefixes and word are str, which is read as its UTF-8, or bytes, bytearray or memoryview, which are read where they
+stand: let no other thread write there while a call lasts. Prefixes are lines of a prefix with its colon, a space and an IRI, or a dict of
+prefixes without their colons and IRIs. The word, of ASCII letters and digits, stands in front of the names of nodes. The limits token,
+depth, bindings and iri, and ascii, are those of the program."""
+import contextlib
 import ctypes
+import operator
 import os
+import re
+from collections.abc import Mapping
 
 FORMATS = {'nt': 0, 'nq': 1, 'ttl': 2, 'trig': 3}
+LIMITS = {'token': (1, 268435456), 'depth': (0, 1048576), 'bindings': (0, 16777216), 'iri': (1, 268435456)}
 REASONS = ['', 'bad UTF-8', 'no token', 'bad escape', 'token too long', 'document too long', 'out of memory', 'ended', 'unexpected token',
            'relative IRI', 'IRI too long', 'write failed', 'unbound prefix', 'no base', 'too deep', 'too many bindings', 'bad binding']
 
@@ -16,65 +29,160 @@ class Outcome(ctypes.Structure):
                 ('status', 'reason', 'offset', 'line', 'quads', 'tokens', 'bytes', 'needed', 'written')]
 
 
-class Refused(Exception):
-    """A document that is refused, with the lines of the quads before the place."""
+class Buffer(ctypes.Structure):
+    """Python's Py_buffer: where the bytes of an object stand."""
+    _fields_ = [('address', ctypes.c_void_p), ('object', ctypes.c_void_p), ('length', ctypes.c_ssize_t), ('itemsize', ctypes.c_ssize_t),
+                ('readonly', ctypes.c_int), ('ndim', ctypes.c_int),
+                *((name, ctypes.c_void_p) for name in ('format', 'shape', 'strides', 'suboffsets', 'internal'))]
 
-    def __init__(self, outcome, lines):
-        super().__init__(f'{REASONS[outcome.reason]} at byte {outcome.offset}, line {outcome.line}')
-        self.offset, self.line, self.lines = outcome.offset, outcome.line, lines
+
+class Refused(Exception):
+    """A document that is refused: the reason, the byte from 0, its line from 1, and the lines of the quads before that place."""
+
+    def __init__(self, reason, offset, line, lines):
+        super().__init__(f'{reason} at byte {offset}, line {line}')
+        self.reason, self.offset, self.line, self.lines = reason, offset, line, lines
+
+    def __reduce__(self):
+        return Refused, (self.reason, self.offset, self.line, self.lines)
 
 
 class BadPrefixes(Exception):
-    """A line of the prefixes that is refused."""
+    """A line of the prefixes, or an entry of their dict, that is refused: the reason, and which it is, from 1."""
 
-    def __init__(self, outcome):
-        super().__init__(f'bad prefixes at line {outcome.line}')
-        self.line, self.reason = outcome.line, REASONS[outcome.reason]
+    def __init__(self, reason, line):
+        super().__init__(f'bad prefixes at line {line}')
+        self.reason, self.line = reason, line
 
-
-library = ctypes.CDLL(os.path.join(os.path.dirname(os.path.abspath(__file__)), 'librdfconv.so'))
-SLICE = [ctypes.c_char_p, ctypes.c_size_t]
-library.rdfconv_convert.argtypes = [ctypes.POINTER(Request), *SLICE, *SLICE, *SLICE, *SLICE, ctypes.c_void_p, ctypes.c_size_t,
-                                     ctypes.POINTER(Outcome)]
-library.rdfconv_convert.restype = None
-library.rdfconv_check.argtypes = [ctypes.POINTER(Request), *SLICE, *SLICE, *SLICE, ctypes.POINTER(Outcome)]
-library.rdfconv_check.restype = None
+    def __reduce__(self):
+        return BadPrefixes, (self.reason, self.line)
 
 
-def request(format, token=1 << 24, depth=1 << 10, bindings=1 << 16, iri=1 << 20, ascii=False):
-    return Request(FORMATS[format], token, depth, bindings, iri, int(ascii))
+def load(path):
+    if not os.path.exists(path):
+        raise ImportError(f'{path} is missing. To make it, run {os.path.dirname(path)}/build.sh', name=__name__, path=path)
+    try:
+        library = ctypes.CDLL(path)
+    except OSError as error:
+        raise ImportError(f'{error}. To make it anew, run {os.path.dirname(path)}/build.sh', name=__name__, path=path) from error
+    slices = [ctypes.c_void_p, ctypes.c_size_t]
+    library.rdfconv_convert.argtypes = [ctypes.POINTER(Request), *slices * 5, ctypes.POINTER(Outcome)]
+    library.rdfconv_check.argtypes = [ctypes.POINTER(Request), *slices * 3, ctypes.POINTER(Outcome)]
+    library.rdfconv_convert.restype = library.rdfconv_check.restype = None
+    return library
 
 
-def ended(outcome, lines):
+library = load(os.path.join(os.path.dirname(os.path.abspath(__file__)), 'librdfconv.so'))
+get_buffer, release_buffer = ctypes.pythonapi.PyObject_GetBuffer, ctypes.pythonapi.PyBuffer_Release
+get_buffer.argtypes, get_buffer.restype = [ctypes.py_object, ctypes.POINTER(Buffer), ctypes.c_int], ctypes.c_int
+release_buffer.argtypes, release_buffer.restype = [ctypes.POINTER(Buffer)], None
+
+
+def bytes_of(name, value):
+    """The argument's bytes, as an object that has them in memory in a row."""
+    if isinstance(value, str):
+        try:
+            return value.encode()
+        except UnicodeEncodeError as error:
+            raise ValueError(f'{name} has a lone surrogate at character {error.start}') from None
+    if isinstance(value, memoryview) and not value.c_contiguous:
+        return value.tobytes()
+    if isinstance(value, (bytes, bytearray, memoryview)):
+        return value
+    raise TypeError(f'{name} is of type {type(value).__name__}, not str, bytes, bytearray or memoryview')
+
+
+def prefixes_of(value):
+    """The lines of the prefixes. Of a dict each entry is one line, and the mark in front is passed over."""
+    if not isinstance(value, Mapping):
+        return bytes_of('prefixes', value)
+    for text in (*value, *value.values()):
+        if not isinstance(text, str):
+            raise TypeError(f'prefixes has {text!r:.99}, which is of type {type(text).__name__}, not str')
+        if re.search('[\r\n]', text):
+            raise ValueError(f'prefixes has {text!r:.99}, with a line end')
+    return bytes_of('prefixes', '\ufeff' + '\n'.join(f'{prefix}: {iri}' for prefix, iri in value.items()))
+
+
+@contextlib.contextmanager
+def slices_of(*objects):
+    """The address and the length of each object's bytes, which stay there until the end."""
+    with contextlib.ExitStack() as held:
+        found = []
+        for one in objects:
+            buffer = Buffer()
+            get_buffer(one, buffer, 0)
+            held.callback(release_buffer, buffer)
+            found += [buffer.address or ctypes.addressof(buffer), buffer.length]  # never NULL, as the library asks
+        yield found
+
+
+def request_of(format, token, depth, bindings, iri, ascii):
+    if not isinstance(format, str):
+        raise TypeError(f'format is of type {type(format).__name__}, not str')
+    if format not in FORMATS:
+        raise ValueError(f'format is {format!r:.99}, not one of {", ".join(FORMATS)}')
+    if ascii not in (False, True):
+        raise ValueError(f'ascii is {ascii!r:.99}, not False or True')
+    asked = Request(FORMATS[format], ascii=bool(ascii))
+    for name, value in dict(token=token, depth=depth, bindings=bindings, iri=iri).items():
+        least, most = LIMITS[name]
+        try:
+            number = operator.index(value)
+        except TypeError:
+            raise TypeError(f'{name} is of type {type(value).__name__}, not int') from None
+        if not least <= number <= most:
+            raise ValueError(f'{name} is {number}, not {least} to {most}')
+        setattr(asked, name, number)
+    return asked
+
+
+def base_of(value, iri):
+    base = bytes_of('base', value)
+    if memoryview(base).nbytes > iri:
+        raise ValueError(f'base has {memoryview(base).nbytes} bytes, more than the limit iri of {iri}')
+    return base
+
+
+def word_of(value):
+    word = bytes_of('word', value)
+    if not re.fullmatch(rb'[0-9A-Za-z]*', word):
+        raise ValueError(f'word is {value!r:.99}, not of ASCII letters and digits alone')
+    return word
+
+
+def end(outcome, base, lines):
     if outcome.status == 1:
-        raise Refused(outcome, lines)
-    if outcome.status == 2:
-        raise ValueError('no such base, word or limits')
+        raise Refused(REASONS[outcome.reason], outcome.offset, outcome.line, lines)
+    if outcome.status == 2:  # all else that has no job was looked at before
+        raise ValueError(f'base is {base!r:.99}, which is no IRI')
     if outcome.status == 4:
-        raise MemoryError
+        raise MemoryError('out of memory')
     if outcome.status == 6:
-        raise BadPrefixes(outcome)
+        raise BadPrefixes(REASONS[outcome.reason], outcome.line)
 
 
-def convert(document, format='trig', base=b'', prefixes=b'', word=b'', **asks):
-    """The lines of the document's quads, as bytes. The prefixes are lines of a prefix with its colon, a space and an IRI; the word, of
-    ASCII letters and digits, stands in front of the nodes' names."""
-    asked, outcome, room = request(format, **asks), Outcome(), 2 * len(document) + 4096
-    while True:
-        output = ctypes.create_string_buffer(room)
-        library.rdfconv_convert(asked, base, len(base), prefixes, len(prefixes), word, len(word), document, len(document), output, room,
-                                outcome)
-        if outcome.needed <= room:
-            break
-        room = outcome.needed
+def convert(document, format='trig', base='', prefixes='', word='', *, token=1 << 24, depth=1 << 10, bindings=1 << 16, iri=1 << 20,
+            ascii=False):
+    """The lines of the document's quads, as bytes."""
+    asked, outcome = request_of(format, token, depth, bindings, iri, ascii), Outcome()
+    with slices_of(base_of(base, iri), prefixes_of(prefixes), word_of(word), bytes_of('document', document)) as slices:
+        room = 2 * slices[-1] + 4096
+        while True:
+            output = ctypes.create_string_buffer(room)
+            library.rdfconv_convert(asked, *slices, ctypes.addressof(output), room, outcome)
+            if outcome.needed <= room:
+                break
+            room = outcome.needed
     lines = ctypes.string_at(output, outcome.written)
-    ended(outcome, lines)
+    end(outcome, base, lines)
     return lines
 
 
-def check(document, format='trig', base=b'', prefixes=b'', **asks):
+def check(document, format='trig', base='', prefixes='', *, token=1 << 24, depth=1 << 10, bindings=1 << 16, iri=1 << 20, ascii=False):
     """How many quads, tokens and bytes an accepted document has."""
-    outcome = Outcome()
-    library.rdfconv_check(request(format, **asks), base, len(base), prefixes, len(prefixes), document, len(document), outcome)
-    ended(outcome, b'')
+    asked, outcome = request_of(format, token, depth, bindings, iri, ascii), Outcome()
+    with slices_of(base_of(base, iri), prefixes_of(prefixes), bytes_of('document', document)) as slices:
+        library.rdfconv_check(asked, *slices, outcome)
+    end(outcome, base, b'')
     return outcome.quads, outcome.tokens, outcome.bytes
