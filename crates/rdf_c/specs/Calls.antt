@@ -76,11 +76,16 @@ pub record GivesRefusal (job : JobRead) (input old new : List ℕ) (o : Outcome)
   pub refuses : RefusesDocument reason (conversion_of job) input true (record { offset = o.offset; line = o.line }) (Some []) (Some lines)
   pub gives : Gives lines old new o
 
+-- A status with which nothing is written.
+abbrev pub WritesNothing : ℕ → Type 0
+WritesNothing s = (s ≡ 2) ⊎ (s ≡ 4) ⊎ (s ≡ 6)
+
 -- How the conversion of a job ends.
 pub record Converts (job : JobRead) (input old new : List ℕ) (o : Outcome) : Type 0 where
   pub whole : o.status ≡ 0 → GivesLines job input old new o × (o.needed ≡ o.written)
   pub front : o.status ≡ 5 → GivesLines job input old new o × (o.written < o.needed)
   pub refused : o.status ≡ 1 → GivesRefusal job input old new o
+  pub kept : o.status ≡ 4 → new ≡ old
   pub found : o.status ≢ 2
   pub loaded : o.status ≢ 6
   pub status : IsStatus o.status
@@ -92,6 +97,7 @@ pub record HasConverted (request : Request) (base_text prefixes word_text input 
   pub refused : o.status ≡ 1 → (job : JobRead) × AsksFor request base_text prefixes word_text job × GivesRefusal job input old new o
   pub no_job : o.status ≡ 2 → AsksForNothing request base_text word_text
   pub bad_prefixes : o.status ≡ 6 → GivesLine request prefixes o
+  pub kept : WritesNothing o.status → new ≡ old
   pub status : IsStatus o.status
 
 -- The input is refused at the place.

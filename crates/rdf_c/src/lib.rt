@@ -19,7 +19,8 @@ use std::alloc::Global;
 /// outcome says how many bytes the lines have. A base of no bytes is none. The prefixes are
 /// lines of a prefix and its IRI each, as the program's `--prefixes` reads them. The word, of ASCII letters and digits, stands in front of
 /// the name of each node that is written; of no bytes it changes no name. Of a refused document the lines before the refusal are
-/// written. Bytes of the output after the lines stay as they are.
+/// written. Bytes of the output after the lines stay as they are, and so does all of it where there is no job, where a line of the prefixes
+/// is refused, and where memory was refused.
 #[unsafe(no_mangle)]
 pub extern "C" fn rdfconv_convert(
     alloc: Global,

@@ -24,10 +24,15 @@ pub(crate) fn convert_bytes(alloc: Global, job: Job, input: &[u8], output: &mut 
     };
     let ended = convert_to(alloc, job, input, &mut lines);
     let needed = lines.bytes.len() as u64;
-    let written = copy_front(lines.bytes.as_slice(), output) as u64;
     match ended {
-        Ok(summary) => accepted(summary, needed, written),
-        Err(StreamFault::Refused(fault)) => refused(fault, needed, written),
+        Ok(summary) => {
+            let written = copy_front(lines.bytes.as_slice(), output) as u64;
+            accepted(summary, needed, written)
+        }
+        Err(StreamFault::Refused(fault)) => {
+            let written = copy_front(lines.bytes.as_slice(), output) as u64;
+            refused(fault, needed, written)
+        }
         Err(_) => Outcome::of_status(4),
     }
 }
