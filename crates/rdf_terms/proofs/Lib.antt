@@ -17,6 +17,7 @@ pub mod LocalLemmas
 pub mod PiecesLemmas
 pub mod SinksLemmas
 pub mod IriBytes
+pub mod LookUps
 pub mod RunsLemmas
 pub mod ValueBytes
 pub mod PlainTokens

@@ -7,6 +7,7 @@ mod classes;
 mod constants;
 pub mod escapes;
 mod fault;
+mod halves;
 mod iris;
 mod kind;
 mod labels;

@@ -6,6 +6,7 @@ ghost use Rattle.rdf_terms.specs.Runs.{iri_byte, goes_over, is_ascii_byte, is_as
 ghost use Rattle.rdf_terms.specs.Terms.{all_have};
 
 use crate::classes::is_iri_byte;
+use crate::halves::{by_high_half, by_low_half};
 use std::simd::prelude::*;
 
 /// The number of bytes that are seen at a time.
@@ -183,35 +184,43 @@ fn stops(run: Run, v: u8x16) -> u64
     }
 }
 
+// A class by the halves of a byte, which belongs to the class where they have a bit in common. A lower half has bit k where the byte with it
+// and the upper half k belongs to the class, and an upper half k below 8 has bit k.
+
+const IRI_LOW: [u8; 16] = [
+    0xB8, 0xFC, 0xF8, 0xFC, 0xFC, 0xFC, 0xFC, 0xFC, 0xFC, 0xFC, 0xFC, 0x7C, 0x54, 0x7C, 0xD4, 0xFC,
+];
+
+// All bytes from 128 on belong to it. Their upper halves have bit 4, as each lower half has: no byte from 0x40 to 0x4F is excluded.
+const IRI_HIGH: [u8; 16] = [1, 2, 4, 8, 16, 32, 64, 128, 16, 16, 16, 16, 16, 16, 16, 16];
+
 #[inline(always)]
 fn iri_stops(v: u8x16) -> u64
     ensures { result ≡ mask_l (map (λ b. not (iri_byte b)) v) }
 {
-    let blanks = v.simd_lt(u8x16::splat(b'!')) | v.simd_eq(u8x16::splat(b'"'));
-    let angles = v.simd_eq(u8x16::splat(b'<')) | v.simd_eq(u8x16::splat(b'>'));
-    let braces = (v - u8x16::splat(b'{')).simd_lt(u8x16::splat(3));
-    let slants = v.simd_eq(u8x16::splat(b'\\')) | v.simd_eq(u8x16::splat(b'`'));
-    let others = slants | v.simd_eq(u8x16::splat(b'^'));
-    ((blanks | angles) | (braces | others)).to_bitmask()
+    let common = by_low_half(IRI_LOW, v) & by_high_half(IRI_HIGH, v);
+    common.simd_eq(u8x16::splat(0)).to_bitmask()
 }
+
+// Bytes that differ in their lower halves are found by one look-up. Where none has a lower half, its place has a byte with another one.
+
+const TEXT_STOPS: [u8; 16] = [
+    1, 0, b'"', 0, 0, 0, 0, b'\'', 0, 0, b'\n', 0, b'\\', b'\r', 0, 0,
+];
 
 #[inline(always)]
 fn text_stops(v: u8x16) -> u64
     ensures { result ≡ mask_l (map (λ b. not (is_text_byte b)) v) }
 {
-    let quotes = v.simd_eq(u8x16::splat(b'"')) | v.simd_eq(u8x16::splat(b'\''));
-    let breaks = v.simd_eq(u8x16::splat(b'\n')) | v.simd_eq(u8x16::splat(b'\r'));
-    ((quotes | breaks) | v.simd_eq(u8x16::splat(b'\\'))).to_bitmask()
+    by_low_half(TEXT_STOPS, v).simd_eq(v).to_bitmask()
 }
 
 #[inline(always)]
 fn ascii_text_stops(v: u8x16) -> u64
     ensures { result ≡ mask_l (map (λ b. not (is_ascii_text_byte b)) v) }
 {
-    let quotes = v.simd_eq(u8x16::splat(b'"')) | v.simd_eq(u8x16::splat(b'\''));
-    let breaks = v.simd_eq(u8x16::splat(b'\n')) | v.simd_eq(u8x16::splat(b'\r'));
-    let others = v.simd_eq(u8x16::splat(b'\\')) | v.simd_ge(u8x16::splat(128));
-    ((quotes | breaks) | others).to_bitmask()
+    let others = v.simd_ge(u8x16::splat(128));
+    (by_low_half(TEXT_STOPS, v).simd_eq(v) | others).to_bitmask()
 }
 
 #[inline(always)]
@@ -221,16 +230,19 @@ fn ascii_stops(v: u8x16) -> u64
     v.simd_ge(u8x16::splat(128)).to_bitmask()
 }
 
+const NAME_LOW: [u8; 16] = [
+    0xA8, 0xF8, 0xF8, 0xF8, 0xF8, 0xF8, 0xF8, 0xF8, 0xF8, 0xF8, 0xF0, 0x50, 0x50, 0x54, 0x50, 0x70,
+];
+
+// No byte from 128 on belongs to it.
+const NAME_HIGH: [u8; 16] = [1, 2, 4, 8, 16, 32, 64, 128, 0, 0, 0, 0, 0, 0, 0, 0];
+
 #[inline(always)]
 fn name_stops(v: u8x16) -> u64
     ensures { result ≡ mask_l (map (λ b. not (is_name_byte b)) v) }
 {
-    let from_a = (v | u8x16::splat(0x20)) - u8x16::splat(b'a');
-    let from_0 = v - u8x16::splat(b'0');
-    let no_letter = from_a.simd_ge(u8x16::splat(26));
-    let no_digit = from_0.simd_ge(u8x16::splat(10));
-    let no_line = v.simd_ne(u8x16::splat(b'_')) & v.simd_ne(u8x16::splat(b'-'));
-    ((no_letter & no_digit) & no_line).to_bitmask()
+    let common = by_low_half(NAME_LOW, v) & by_high_half(NAME_HIGH, v);
+    common.simd_eq(u8x16::splat(0)).to_bitmask()
 }
 
 #[inline(always)]
@@ -254,13 +266,16 @@ fn space_stops(v: u8x16) -> u64
     (v.simd_ne(u8x16::splat(b' ')) & v.simd_ne(u8x16::splat(b'\t'))).to_bitmask()
 }
 
+// The white bytes, which differ in their lower halves too.
+const WHITE: [u8; 16] = [
+    b' ', 0, 0, 0, 0, 0, 0, 0, 0, b'\t', b'\n', 0, 0, b'\r', 0, 0,
+];
+
 #[inline(always)]
 fn white_stops(v: u8x16) -> u64
     ensures { result ≡ mask_l (map (λ b. not (is_white b)) v) }
 {
-    let no_space = v.simd_ne(u8x16::splat(b' ')) & v.simd_ne(u8x16::splat(b'\t'));
-    let no_break = v.simd_ne(u8x16::splat(b'\n')) & v.simd_ne(u8x16::splat(b'\r'));
-    (no_space & no_break).to_bitmask()
+    by_low_half(WHITE, v).simd_ne(v).to_bitmask()
 }
 
 /// Whether the run goes over all of the bytes. The last load overlaps the one before it.

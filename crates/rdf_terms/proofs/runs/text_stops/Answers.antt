@@ -1,12 +1,9 @@
-use Rattle.std.proofs.Common.{ℕ, refl}
-use Rattle.std.proofs.lemmas.Simd.{zip2_splat}
+use Rattle.std.proofs.Common.{refl, sym}
+use Rattle.std.proofs.lemmas.List.{map-id}
 use Rattle.rdf_terms.proofs.RunsLemmas.{joined, mask_is}
 use Rattle.rdf_terms.proofs.runs.text_stops.Goals as goal
 
 pub returns : goal.returns
 returns c =
     let v = c.args.v in
-    let long = c.fits-v.0 in
-    let quotes = joined _ _ _ v (zip2_splat {Y = ℕ} _ v 16 34 long) (zip2_splat {Y = ℕ} _ v 16 39 long) in
-    let breaks = joined _ _ _ v (zip2_splat {Y = ℕ} _ v 16 10 long) (zip2_splat {Y = ℕ} _ v 16 13 long) in
-    mask_is _ _ v _ long c.fits-v.1 (joined _ _ _ v (joined _ _ _ v quotes breaks) (zip2_splat {Y = ℕ} _ v 16 92 long)) refl
+    mask_is _ _ v _ c.fits-v.0 c.fits-v.1 (joined _ _ _ v c.by_low_half.ensures (sym (map-id v))) refl

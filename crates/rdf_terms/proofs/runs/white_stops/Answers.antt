@@ -1,12 +1,9 @@
-use Rattle.std.proofs.Common.{ℕ, bit_and, refl}
-use Rattle.std.proofs.lemmas.Simd.{zip2_splat}
+use Rattle.std.proofs.Common.{refl, sym}
+use Rattle.std.proofs.lemmas.List.{map-id}
 use Rattle.rdf_terms.proofs.RunsLemmas.{joined, mask_is}
 use Rattle.rdf_terms.proofs.runs.white_stops.Goals as goal
 
 pub returns : goal.returns
 returns c =
     let v = c.args.v in
-    let long = c.fits-v.0 in
-    let no_space = joined bit_and _ _ v (zip2_splat {Y = ℕ} _ v 16 32 long) (zip2_splat {Y = ℕ} _ v 16 9 long) in
-    let no_break = joined bit_and _ _ v (zip2_splat {Y = ℕ} _ v 16 10 long) (zip2_splat {Y = ℕ} _ v 16 13 long) in
-    mask_is _ _ v _ long c.fits-v.1 (joined bit_and _ _ v no_space no_break) refl
+    mask_is _ _ v _ c.fits-v.0 c.fits-v.1 (joined _ _ _ v c.by_low_half.ensures (sym (map-id v))) refl
