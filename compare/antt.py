@@ -343,6 +343,11 @@ class Specs:
         found = self.python[definition.python_name]
         return found if definition.arity else found()
 
+    def remember(self, crate, module, name):
+        """Has each answer of a definition computed once."""
+        function = self.function(crate, module, name)
+        self.python[self.definition(crate, module, name).python_name] = functools.cache(function)
+
     def replace(self, crate, module, name, function):
         """Puts a Python function in place of a definition, for speed."""
         definition = self.definition(crate, module, name)

@@ -61,12 +61,12 @@ def comparisons(seed, is_quick):
     yield 'texts: their tokens, whole or cut, broken, limited', lambda it: scanning.compare_tokens(it, seed, size(2, 3), size(2000, 20000))
     yield 'documents written by hand', readings.compare_cases
     for form in readings.FORMATS:
-        many = size(300, 2500)
+        many = size(200, 2500)
         yield 'documents (%s): tokens, quads with marks, refusals' % form, lambda it, form=form: readings.compare_documents(it, seed, form, many)
         yield 'documents (%s) with small limits' % form, lambda it, form=form: readings.compare_limits(it, seed, form, many)
         yield 'written lines (%s), read back' % form, lambda it, form=form: readings.compare_read_back(it, seed, form, many // 2)
     for form in ('ttl', 'trig'):
-        yield 'documents (%s): what is owed after each token' % form, lambda it, form=form: readings.compare_owed(it, seed, form, size(300, 2500))
+        yield 'documents (%s): what is owed after each token' % form, lambda it, form=form: readings.compare_owed(it, seed, form, size(200, 2500))
 
 
 def with_kit(compare):

@@ -103,7 +103,7 @@ def kinds_of_recommendations(specs):
 
 
 def put_fast_words(specs):
-    """Replaces the slow definitions, and gives the automata that stand for them."""
+    """Replaces the slow definitions, and has some answers computed once."""
     kinds = kinds_of_definitions(specs)
     three_quotes = specs.function('rdf_tokens', 'Tokens', 'three_quotes')
 
@@ -124,6 +124,8 @@ def put_fast_words(specs):
     for module, name, function in (('rdf_terms.Shapes', 'kind_of', kind_of), ('rdf_terms.Shapes', 'is_live', is_live),
                                    ('rdf_tokens.Tokens', 'longest', longest), ('rdf_tokens.Tokens', 'past', past)):
         specs.replace(*module.split('.'), name, function)
+    for module, name in (('Classes', 'has'), ('Values', 'iri_value'), ('Values', 'string_value')):
+        specs.remember('rdf_terms', module, name)
 
 
 def compare_words(specs, seed, many):
