@@ -88,6 +88,7 @@ FOR_MUTANTS = {
     'resolved': lambda it: references.compare_resolved(it, 1, 2, 0),
     'values': lambda it: values.compare_values(it, 1, 2000),
     'numeric': lambda it: values.compare_numeric_escapes(it, 4999),
+    'words': lambda it: scanning.compare_words(it, 1, 20),
     'tokens': lambda it: scanning.compare_tokens(it, 1, 1, 500),
     'documents': lambda it: readings.compare_documents(it, 1, 'trig', 200),
     'cases': readings.compare_cases,

@@ -27,6 +27,7 @@ MUTANTS = [
     Mutant('keywords in capitals alone', TERMINALS, '(one (the c) ∣ one (the (c + 32)))', 'one (the c)', 'rows'),
     Mutant('a label may be a name too', TERMINALS, 'shape d PnameNs = only_turtle d (optional pn_prefix',
            'shape d PnameNs = only_turtle d (optional (one (the (code "_")) ∣ pn_prefix)', 'rows'),
+    Mutant('no row for a comma', TERMINALS, 'shape d Comma = only_turtle d (word (codes ","))\n', '', 'rows'),
     Mutant('a true that is a graph', TERMINALS, '(word (codes "true"))', '(any_case (codes "GRAPH"))', 'kinds'),
     Mutant('LF is no white space in Turtle', TOKENS, '|| c == code "\\t" || is_line_end c', '|| c == code "\\t"', 'parts'),
     # productions
@@ -72,6 +73,9 @@ MUTANTS = [
            'tokens'),
     Mutant('bad bytes where the token before them begins', TOKENS, 'stop_place bad_utf8 p w = past p w', 'stop_place bad_utf8 p w = p', 'tokens'),
     Mutant('two byte order marks', GOOD, 'cond (has_byte_order_mark w) 1 0', 'cond (has_byte_order_mark w) 2 0', 'tokens'),
+    Mutant('an empty string and a quote in place of a long string', TOKENS, 'only_long true (Some k) = None', 'only_long true (Some k) = Some k',
+           'words'),
+    Mutant('offsets count characters', TOKENS, 'p.offset + len_utf8 c', 'p.offset + 1', 'words'),
     # quads, refusals, what is owed
     Mutant('rdf:rest before what is in the item', EVENTS,
            'items_events c (item o os) r rest = object_events c o (node (cell_of o)) (Some (known_chars RdfFirst)) None (rest',

@@ -40,14 +40,16 @@ class Definitions:
         self.specs = specs
         names = {
             'rdf_tokens.Good': ['tokens_of'], 'rdf_tokens.Leaves': ['iri_of'], 'rdf_terms.Terms': ['has_scheme'],
-            'rdf_lines.NodePrefixes': ['line_in', 'named'], 'rdf_trig.Owed': ['document_held'],
-            'rdf_trig.Events': ['document_events', 'event_quads'], 'rdf_trig.Documents': ['opens', 'open_in'], 'rdf_iri.Texts': ['byte_len']}
+            'rdf_tokens.Grammars': ['items_below', 'unmarked'], 'rdf_lines.NodePrefixes': ['text_in', 'named'],
+            'rdf_trig.Events': ['document_events', 'event_quads'], 'rdf_trig.Documents': ['opens', 'open_in'],
+            'rdf_trig.Owed': ['document_held'], 'rdf_iri.Texts': ['byte_len']}
         for module, some_names in names.items():
             for name in some_names:
                 setattr(self, name, specs.function(*module.split('.'), name))
         self.line_tokens, self.line_quads = (specs.function('rdf_lines', 'Lines', it) for it in ('document_tokens', 'document_quads'))
-        self.tree_tokens, self.tree_quads = specs.function('rdf_trig', 'Trees', 'document_tokens'), \
-            specs.function('rdf_trig', 'TreeQuads', 'document_quads')
+        self.tree_tokens = specs.function('rdf_trig', 'Trees', 'document_tokens')
+        self.tree_quads = specs.function('rdf_trig', 'TreeQuads', 'document_quads')
+        self.event_tokens = specs.function('rdf_trig', 'Events', 'tokens')
         self.grammars = {it.grammar: LineGrammar(specs, 'rdf_lines', 'Lines', it.grammar) if it.dialect == 'Lines' else
                          TreeGrammar(specs, 'rdf_trig', 'Trees', it.grammar) for it in FORMATS.values()}
 
@@ -85,8 +87,8 @@ class Definitions:
             return self.line_quads(0, tree)
         events = self.document_events(start, tree)
         quads = self.event_quads(0, events)
-        if self.tree_quads(start, 0, tree) != quads:
-            raise Wrong('the quads of the tree are not those of its events')
+        if self.event_tokens(events) != self.tree_tokens(tree) or self.tree_quads(start, 0, tree) != quads:
+            raise Wrong('the tokens or the quads of a tree are not those of its events')
         return quads
 
     def blamed_in_lines(self, tokens, limits):
@@ -120,7 +122,8 @@ class Definitions:
         return 'too many bindings' if use.name == 'binds' and use.args[0] else None
 
     def lines(self, quads, form):
-        return ''.join(string_of(self.line_in(form, it)) for it in quads).encode()
+        """The bytes that are written for some quads."""
+        return string_of(self.text_in(form, tuple(quads))).encode()
 
 
 @functools.cache
@@ -206,9 +209,9 @@ def reading_difference(definitions, document, form, base):
     wanted = reader.read(document, form, base)
     style = written_form(FORMATS[form].style)
     if found.refusal:
-        due = [it['item'] for it in found.quads if it['mark'] < found.accepted]
-        return difference('refusal', document, form, base, (definitions.lines(due, style), found.refusal), (wanted.lines, wanted.refusal and
-                                                                                                     tuple(wanted.refusal)))
+        due = definitions.items_below(found.accepted, found.quads)
+        wanted = wanted.lines, wanted.refusal and tuple(wanted.refusal)
+        return difference('refusal', document, form, base, (definitions.lines(due, style), found.refusal), wanted)
     by_reader = reader.READERS[form](document, base)
     try:
         by_reader.document()
@@ -223,7 +226,7 @@ def compare_cases(specs):
     definitions = Definitions(specs)
     for case in cases.cases():
         found = definitions.read(case.document, case.form)
-        lines = definitions.lines([it['item'] for it in found.quads], written_form(FORMATS[case.form].style))
+        lines = definitions.lines(definitions.unmarked(found.quads), written_form(FORMATS[case.form].style))
         said = (None, found.refusal[:2]) if found.refusal else (lines, None)
         yield difference('case', case.document, case.form, None, said, (case.lines, case.refusal))
 
@@ -235,13 +238,22 @@ def compare_read_back(specs, seed, form, many):
         outcome = definitions.read(document, form, base)
         if outcome.refusal:
             continue
-        quads = [it['item'] for it in outcome.quads]
+        quads = definitions.unmarked(outcome.quads)
         for style in (written_form(FORMATS[form].style, escapes, prefix) for escapes in ('Plain', 'Ascii') for prefix in ('', 'a1')):
             written = definitions.lines(quads, style)
             back = definitions.read(written, 'nq')
-            is_right = back.refusal is None and [it['item'] for it in back.quads] == [definitions.named(style, it) for it in quads]
-            is_ascii = style['escapes'].name == 'Plain' or max(written, default=0) < 128 or not document.isascii()
+            is_right = back.refusal is None and definitions.unmarked(back.quads) == tuple(definitions.named(style, it) for it in quads)
+            is_ascii = style['escapes'].name == 'Plain' or written.isascii() or not all(label.isascii() for label in labels_in(quads))
             yield None if is_right and is_ascii else 'lines of %r, %s, as %s: %r are read as %s' % (document, form, style, written, back)
+
+
+def labels_in(value):
+    """The labels of blank nodes in quads."""
+    if isinstance(value, Con) and value.name == 'Label':
+        yield string_of(value.args[0])
+    elif isinstance(value, (Con, dict, tuple)):
+        for part in value.args if isinstance(value, Con) else value.values() if isinstance(value, dict) else value:
+            yield from labels_in(part)
 
 
 # What is owed
@@ -410,6 +422,6 @@ def compare_limits(specs, seed, form, many):
                          'iri': chosen.choice([8, 16, 24, 40, NO_LIMIT])})
         base = None if base and len(base) > limits['iri'] else base
         outcome = definitions.read(document, form, base, limits)
-        quads = [it['item'] for it in outcome.quads if outcome.refusal is None or it['mark'] < outcome.accepted]
+        quads = definitions.items_below(outcome.accepted, outcome.quads) if outcome.refusal else definitions.unmarked(outcome.quads)
         found = definitions.lines(quads, written_form(FORMATS[form].style)), outcome.refusal
         yield difference('limits %s' % dict(limits), document, form, base, found, read_within(document, form, base, limits))

@@ -10,7 +10,7 @@ import reader
 import utf8
 from antt import Specs
 from kit import Con, NONE, Pair, Record, some, string_of, text_of
-from shapes import DIALECTS, Shapes, due
+from shapes import DIALECTS, KINDS, Shapes, due
 
 NO_LIMIT = 10**6
 # The reader's kinds of tokens that have another name in the definitions.
@@ -97,7 +97,7 @@ def kinds_of_definitions(specs):
 def kinds_of_recommendations(specs):
     """The same of the terminals typed from the Recommendations: keywords before the tags that they are too."""
     shapes = Shapes(specs)
-    order = [*[it for it in shapes.kinds if it.startswith('At')], *[it for it in shapes.kinds if not it.startswith('At')]]
+    order = [*[it for it in KINDS if it.startswith('At')], *[it for it in KINDS if not it.startswith('At')]]
     return {dialect: Kinds(shapes, [(kind, shapes.automaton(due(grammars[0], kind))) for kind in order])
             for dialect, grammars in DIALECTS.items()}
 

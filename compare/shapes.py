@@ -20,6 +20,7 @@ TEXTS = {
     'Carets': "'^^'", 'Dot': "'.'", 'True': "'true'", 'False': "'false'", 'A': "'a'", 'AtPrefix': "'@prefix'", 'AtBase': "'@base'",
     'Prefix': '"PREFIX"', 'Base': '"BASE"', 'Graph': '"GRAPH"', 'Semicolon': "';'", 'Comma': "','", 'OpenBracket': "'['",
     'CloseBracket': "']'", 'OpenParen': "'('", 'CloseParen': "')'", 'OpenBrace': "'{'", 'CloseBrace': "'}'"}
+KINDS = [*TERMINALS, *TEXTS, 'LineEnd', 'End']      # all rows; End has no text
 KEYWORDS_AND_TAGS = [{'AtPrefix', 'LangTag'}, {'AtBase', 'LangTag'}]    # of these the keyword counts
 
 
@@ -34,7 +35,7 @@ def due(grammar, kind):
         return with_one_class(ebnf.TERMINALS[grammar].get('EOL'))
     if kind in TERMINALS:
         return ebnf.choice([ebnf.terminal(grammar, it) for it in TERMINALS[kind] if it in ebnf.TERMINALS[grammar]])
-    text = TEXTS.get(kind)      # End has none
+    text = TEXTS.get(kind)
     if text is None or not any(has_text(it, text) for it in ([grammar, 'TriG'] if grammar == 'Turtle' else [grammar])):
         return ebnf.NONE
     return (ebnf.word_in_any_case if text[0] == '"' else ebnf.word_of)(text[1:-1])
@@ -56,8 +57,6 @@ class Shapes:
         self.specs = specs
         self.shape = specs.function('rdf_terms', 'Terminals', 'shape')
         self.has = functools.cache(specs.function('rdf_terms', 'Classes', 'has'))
-        clauses = specs.definition('rdf_terms', 'Terminals', 'shape').clauses
-        self.kinds = [patterns[1][1] for patterns, _ in clauses]
         self.first = sorted(self.borders())
         self.mask = functools.cache(self.mask_of)
         self.automata = {}
@@ -72,7 +71,7 @@ class Shapes:
                 for number in numbers_in([body for _, body in definition.clauses]):
                     found.update([number, number + 1, number + 32, number + 33])
         for grammar in ebnf.TERMINALS:
-            for kind in self.kinds:
+            for kind in KINDS:
                 for ranges in ebnf.letters_in(due(grammar, kind)):
                     found.update(it for low, high in ranges for it in (low, high + 1))
         return found
@@ -131,8 +130,10 @@ def expression_of(regex):
 def compare_rows(specs):
     """Each row in each grammar, with its terminal."""
     shapes = Shapes(specs)
+    rows = [patterns[1][1] for patterns, _ in specs.definition('rdf_terms', 'Terminals', 'shape').clauses]
+    yield None if sorted(rows) == sorted(KINDS) else 'the rows of the table of shapes: %s' % rows
     for dialect, grammars in DIALECTS.items():
-        for grammar, kind in itertools.product(grammars, shapes.kinds):
+        for grammar, kind in itertools.product(grammars, KINDS):
             word = difference(shapes.of_kind(dialect, kind), shapes.automaton(due(grammar, kind)))
             yield None if word is None else 'shape %s %s and %s: only one has %s' % (dialect, kind, grammar, shapes.text(word))
 
@@ -142,6 +143,7 @@ def compare_parts(specs):
     shapes = Shapes(specs)
     label, tag = (specs.function('rdf_terms', 'Terminals', it) for it in ('label_name', 'tag_name'))
     is_space, is_line_end = (specs.function('rdf_tokens', 'Tokens', it) for it in ('is_space', 'is_line_end'))
+    is_word_char = specs.function('rdf_lines', 'NodePrefixes', 'is_word_char')
     for dialect, grammars in DIALECTS.items():
         for grammar in grammars:
             for name, front, regex in (('BLANK_NODE_LABEL', '_:', label(Con(dialect))), ('LANGTAG', '@', tag)):
@@ -154,6 +156,9 @@ def compare_parts(specs):
     ends = shapes.mask(frozenset(ranges_of(due('N-Triples', 'LineEnd'))))
     found = sum(1 << it for it, c in enumerate(shapes.first) if is_line_end(c))
     yield None if found == ends else 'the ends of lines'
+    words = shapes.mask(ebnf.class_of('a-zA-Z0-9'))     # of these a word in front of names has characters
+    found = sum(1 << it for it, c in enumerate(shapes.first) if is_word_char(c))
+    yield None if found == words else 'the characters of words in front of names'
 
 
 def ranges_of(expression):
@@ -164,7 +169,7 @@ def compare_kinds(specs):
     """No text has two kinds, but for the keywords that are tags."""
     shapes = Shapes(specs)
     for dialect in DIALECTS:
-        for one, other in itertools.combinations(shapes.kinds, 2):
+        for one, other in itertools.combinations(KINDS, 2):
             word = common_word(shapes.of_kind(dialect, one), shapes.of_kind(dialect, other))
             is_stated = dialect == 'Turtle' and {one, other} in KEYWORDS_AND_TAGS
             yield None if (word is not None) == is_stated else '%s: %s and %s share %s' % (dialect, one, other, shapes.text(word))
@@ -174,7 +179,7 @@ def compare_all_code_points(specs):
     """In each cell all code points are in the same classes: so the automata are exact. Takes a minute."""
     shapes = Shapes(specs)
     has = specs.function('rdf_terms', 'Classes', 'has')
-    used = {it for dialect in DIALECTS for kind in shapes.kinds
+    used = {it for dialect in DIALECTS for kind in KINDS
             for it in ebnf.letters_in(expression_of(shapes.shape(Con(dialect), Con(kind))))}
     for label in sorted(used, key=repr):
         if label.name == 'the':     # one character, which is a cell of its own

@@ -69,6 +69,9 @@ def compare_values(specs, seed, many):
     functions = [(name, specs.function('rdf_terms', 'Values', name), own)
                  for name, own in (('string_value', string_value), ('iri_value', iri_value), ('local_value', local_value))]
     chosen = random.Random('values %s' % seed)
+    hex_number = specs.function('rdf_terms', 'Pieces', 'hex_number')
+    for digits in [*'0123456789abcdefABCDEF', *(''.join(chosen.choice('0123456789abcdefABCDEF') for _ in range(8)) for _ in range(100))]:
+        yield None if hex_number(text_of(digits)) == int(digits, 16) else 'the number of the hex digits ' + digits
     fixed = [''.join(it) for length in range(3) for it in itertools.product(PIECES, repeat=length)]
     for text in fixed + [''.join(chosen.choice(PIECES) for _ in range(chosen.randint(1, 6))) for _ in range(many)]:
         for name, function, own in functions:
@@ -85,6 +88,8 @@ def compare_known(specs):
         for name in names.split():
             found = string_of(known_chars(Con(front + name.capitalize())))
             yield None if found == vocabulary + name else 'known IRI: %s' % found
+    found = string_of(specs.function('rdf_terms', 'Terms', 'xsd_string'))
+    yield None if found == xsd + 'string' else 'xsd_string: %s' % found
 
 
 def form(style, escapes='Plain', prefix=''):
