@@ -4,7 +4,7 @@ import shutil
 
 HERE = os.path.dirname(os.path.abspath(__file__))
 TOP = os.path.dirname(HERE)
-INDEPENDENT = os.path.join(TOP, 'docs', 'independent')      # the folder of reader.py, cases.py and documents.py
+INDEPENDENT = os.path.join(HERE, 'independent')      # the folder of reader.py, cases.py and documents.py
 
 
 def specs_file(crate, module):

@@ -1,9 +1,9 @@
 #!/usr/bin/env python3
 """Holds the pages to the program.
 
-    docs/check.py             the numbers and words of help, manual and README, and each line of the pages as it stands
-    docs/check.py REFUSALS    the lines of this page alone
-    docs/check.py scripts     the scripts of examples/ alone, where something is missing, full or closed
+    compare/check.py             the numbers and words of help, manual and README, and each line of the pages as it stands
+    compare/check.py REFUSALS    the lines of this page alone
+    compare/check.py scripts     the scripts of examples/ alone, where something is missing, full or closed
 
 The options' ranges and defaults, the formats and the reasons are read from the sources and compared with what help (where
 the program is built), docs/rdfconv.1, README.md and docs/REFUSALS.md say. The counts of docs/DEFINITIONS.md

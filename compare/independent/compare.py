@@ -1,10 +1,10 @@
 #!/usr/bin/env python3
 """Compares `rdfconv convert` with the independent reader beside this file, over documents written by hand and at random.
 
-    docs/independent/compare.py                                     # 1,000 random documents of each format, half a minute in all
-    docs/independent/compare.py --documents 20000 --seed 2          # more of them, and others
-    docs/independent/compare.py --all-characters                    # each character of Unicode in names, labels, IRIs, strings: hours
-    docs/independent/compare.py --program ~/.local/bin/rdfconv      # another program
+    compare/independent/compare.py                                     # 1,000 random documents of each format, half a minute in all
+    compare/independent/compare.py --documents 20000 --seed 2          # more of them, and others
+    compare/independent/compare.py --all-characters                    # each character of Unicode in names, labels, IRIs, strings: hours
+    compare/independent/compare.py --program ~/.local/bin/rdfconv      # another program
 
 Status, output and message have to be the same, byte for byte. What the program writes is read back as N-Quads too, many outputs at
 a time, and has to come out as it is. Prints a line for each kind of document, and for each difference the file with the document, in a

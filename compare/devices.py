@@ -2,7 +2,7 @@
 """Tries the program over standard streams that fail, and with memory refused, and compares what it answers with the table in
 docs/DECISIONS.md. It needs `cc`; the full file system needs root. The last line counts.
 
-    docs/devices.py
+    compare/devices.py
 
 `rt ci` or `rt run` in crates/rdf_tool builds the program; RDFCONV names another.
 """
