@@ -5,7 +5,7 @@ use Rattle.std.proofs.lemmas.Bool.Decides.{nat_tests}
 use Rattle.std.proofs.lemmas.Str.{encode_ascii, length-encode}
 use Rattle.std.specs.Str.{chars}
 use Rattle.rdf_terms.specs.declared.kind.Kind.{Kind}
-use Rattle.rdf_terms.specs.declared.kind.Kind.TheVariants.{A, Dot, LineEnd, Semicolon, Comma, OpenBracket, CloseBracket, OpenParen, CloseParen, OpenBrace, CloseBrace, PnameNs, PnameLn}
+use Rattle.rdf_terms.specs.declared.kind.Kind.TheVariants.{A, Carets, Dot, LineEnd, Semicolon, Comma, OpenBracket, CloseBracket, OpenParen, CloseParen, OpenBrace, CloseBrace, PnameNs, PnameLn}
 use Rattle.rdf_terms.specs.declared.kind.Dialect.{Dialect}
 use Rattle.rdf_terms.specs.declared.kind.Dialect.TheVariants.{Lines, Turtle}
 use Rattle.rdf_terms.specs.Classes.{is_digit, is_letter}
@@ -21,7 +21,7 @@ use Rattle.rdf_tokens.specs.Tokens.{with_length, three_quotes, only_long}
 use Rattle.rdf_tokens.specs.Fixed.{Row, fits, left, is_begun, live_by, rows_of}
 use Rattle.rdf_tokens.specs.Front.{Reached, longer_front, begins, row_front, front_by, state_of}
 use Rattle.rdf_tokens.specs.Machine.{step, kind_at, goes_on}
-use Rattle.rdf_tokens.specs.Quick.{IsToken, IsQuick, single, is_sought, is_named, IsPrefix, is_colon, ends_name, is_name_end, is_a, is_dot, begins_number}
+use Rattle.rdf_tokens.specs.Quick.{IsToken, IsQuick, single, is_sought, is_named, IsPrefix, is_colon, ends_name, is_name_end, is_a, is_dot, begins_number, are_carets, stands_at}
 use Rattle.rdf_tokens.proofs.ByteLemmas.{at-start, ascii_first}
 use Rattle.rdf_tokens.proofs.NoNamesLemmas.{implied, low-letter, letter_steps, no_long, no_quotes, one_on}
 use Rattle.rdf_tokens.proofs.RestLemmas.{reached-run}
@@ -130,6 +130,29 @@ quick_single d [] k u l e = absurd (omega arith)
 quick_single d (c ∷ t) k u l e =
     let p = single-is d c k e in
     settled d (c ∷ t) 1 (step d Start c) None (Some (1, k)) 1 k u (first-none d (c ∷ t) (step d Start c) u l p.low refl p.none) p.out (sym (p.front t)) (p.closed t) refl (p.fit _)
+
+-- two carets are a token
+pub quick_carets : (d : Dialect) (bs : List ℕ) → IsUtf8 bs → are_carets bs ≡ true → IsToken d bs 2 Carets
+unfolding is_fit
+quick_carets d [] u e = absurd (false≢true e)
+quick_carets d (c ∷ []) u e = absurd (false≢true (and_parts (stands_at 94 (c ∷ []) 0) _ e).1)
+quick_carets d (c ∷ x ∷ t) u e =
+    let bs = c ∷ x ∷ t in
+    let p = and_parts (stands_at 94 bs 0) (stands_at 94 bs 1) e in
+    let first : c ≡ 94 = eqb-true c 94 (and_parts (nat_lt 0 (length bs)) (c == 94) p.0).1 in
+    let second : x ≡ 94 = eqb-true x 94 (and_parts (nat_lt 1 (length bs)) (x == 94) p.1).1 in
+    subst (λ c. IsUtf8 (c ∷ x ∷ t) → IsToken d (c ∷ x ∷ t) 2 Carets) (sym first)
+    (λ u. subst (λ x. IsUtf8 (94 ∷ x ∷ t) → IsToken d (94 ∷ x ∷ t) 2 Carets) (sym second) (λ u. both d t u) u) u
+  where
+    both : (d : Dialect) (t : List ℕ) → IsUtf8 (94 ∷ 94 ∷ t) → IsToken d (94 ∷ 94 ∷ t) 2 Carets
+    both Lines t u =
+        settled Lines (94 ∷ 94 ∷ t) 1 (step Lines Start 94) None (Some (2, Carets)) 2 Carets u
+        (first-none Lines (94 ∷ 94 ∷ t) (step Lines Start 94) u (omega arith) (omega arith) refl refl) refl refl
+        (on_both (λ t. live_by (rows_of Lines fixed) (94 ∷ 94 ∷ t)) refl (λ x t. refl) t) refl refl
+    both Turtle t u =
+        settled Turtle (94 ∷ 94 ∷ t) 1 (step Turtle Start 94) None (Some (2, Carets)) 2 Carets u
+        (first-none Turtle (94 ∷ 94 ∷ t) (step Turtle Start 94) u (omega arith) (omega arith) refl refl) refl refl
+        (on_both (λ t. live_by (rows_of Turtle fixed) (94 ∷ 94 ∷ t)) refl (λ x t. refl) t) refl refl
 
 -- no character of a spelling is ':'
 abbrev no_colon : Bool → List ℕ → Bool

@@ -140,6 +140,10 @@ begins_directive a b = (a == 112 && b == 114) || (a == 98 && b == 97)
 abbrev pub begins_tag : List ℕ → Bool
 begins_tag bs = nat_lt 2 (length bs) && ((get_or bs 0 0 == 64) && (is_letter (get_or bs 1 0) && not (begins_directive (get_or bs 1 0) (get_or bs 2 0))))
 
+-- two carets come first
+abbrev pub are_carets : List ℕ → Bool
+are_carets bs = stands_at 94 bs 0 && stands_at 94 bs 1
+
 -- a letter or a digit
 abbrev pub is_part_byte : ℕ → Bool
 is_part_byte b = is_letter b || is_digit b

@@ -8,7 +8,7 @@ ghost use Rattle.rdf_tokens.specs.Quick.{IsQuick, single, stands_at};
 ghost use Rattle.rdf_tokens.specs.Quick.{is_sought, is_named, IsPrefix, is_colon, ends_name, is_name_end, is_a};
 ghost use Rattle.rdf_tokens.specs.Quick.{is_dot, begins_number, is_point, is_integer_end, is_decimal_end, ends_integer, ends_number};
 ghost use Rattle.rdf_tokens.specs.Quick.{begins_iri, quote_byte, opens_with, begins_string, is_empty_string, begins_label, begins_label_name};
-ghost use Rattle.rdf_tokens.specs.Quick.{begins_tag, begins_directive, is_part_byte, is_tag_end, is_later_end};
+ghost use Rattle.rdf_tokens.specs.Quick.{begins_tag, begins_directive, is_part_byte, is_tag_end, is_later_end, are_carets};
 ghost use Rattle.rdf_terms.specs.Runs.{IsRun, is_name_byte, is_ascii_text_byte};
 
 use crate::front::{NoNames, begins_in_letter};
@@ -61,7 +61,7 @@ pub(crate) fn quick_front(dialect: Dialect, text: &str, no_names: &Option<NoName
     quick_plain(text)
 }
 
-/// A token without an escape that begins with `<`, `_:` or `@`.
+/// A token without an escape that begins with `<`, `_:` or `@`, or two carets.
 #[inline(always)]
 fn quick_plain(text: &str) -> Quick
     requires some { 0 < length text.now }
@@ -77,7 +77,21 @@ fn quick_plain(text: &str) -> Quick
     if begins_tag(bytes) {
         return quick_tag(text);
     }
+    if are_carets(bytes) {
+        return Quick {
+            len: 2,
+            kind: Some(Kind::Carets),
+        };
+    }
     Quick { len: 0, kind: None }
+}
+
+/// Whether two carets come first.
+#[inline(always)]
+fn are_carets(bytes: &[u8]) -> bool
+    ensures { result ≡ are_carets bytes.now }
+{
+    stands_at(b'^', bytes, 0) && stands_at(b'^', bytes, 1)
 }
 
 /// Whether a reference in angle brackets may come first.
