@@ -13,6 +13,7 @@ pub mod NumberLemmas
 mod NumberQuick
 mod PlainQuick
 mod TagQuick
+mod WordQuick
 pub mod NameLemmas
 pub mod NameSorts
 pub mod IriSorts

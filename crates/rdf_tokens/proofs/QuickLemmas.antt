@@ -438,7 +438,7 @@ ended-state (Number number.Dead) e = (refl, refl)
 ended-state s e = absurd (false≢true e)
 
 -- each byte of ASCII: one with which no name goes on ends the word `a`
-abbrev word_tests : ℕ → Bool
+abbrev pub word_tests : ℕ → Bool
 word_tests x = not (ends_name x) || (is_name_byte x || at_ended (step Turtle (step Turtle Start 97) x))
 
 -- and one that is no digit ends what begins with a dot

@@ -65,6 +65,17 @@ is_name_end bs at = nat_lt at (length bs) && ends_name (get_or bs at 0)
 abbrev pub is_a : List ℕ → ℕ → Bool
 is_a bs end = (end == 1) && ((get_or bs 0 0 == 97) && is_name_end bs end)
 
+-- the word `true`, by the end of that run
+abbrev pub is_true : List ℕ → ℕ → Bool
+is_true bs end =
+    (end == 4) && ((get_or bs 0 0 == 116) && ((get_or bs 1 0 == 114) && ((get_or bs 2 0 == 117) && ((get_or bs 3 0 == 101) && is_name_end bs end))))
+
+-- the word `false`
+abbrev pub is_false : List ℕ → ℕ → Bool
+is_false bs end =
+    (end == 5) && ((get_or bs 0 0 == 102) && ((get_or bs 1 0 == 97) && ((get_or bs 2 0 == 108) && ((get_or bs 3 0 == 115)
+    && ((get_or bs 4 0 == 101) && is_name_end bs end)))))
+
 -- a dot of Turtle before a byte of ASCII that is no digit, with which no number begins
 abbrev pub is_dot : Dialect → List ℕ → Bool
 is_dot d bs = is_turtle d && (nat_lt 1 (length bs) && ((get_or bs 0 0 == 46) && (nat_lt (get_or bs 1 0) 128 && not (is_digit (get_or bs 1 0)))))

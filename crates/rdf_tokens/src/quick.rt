@@ -8,7 +8,7 @@ ghost use Rattle.rdf_tokens.specs.Quick.{IsQuick, single, stands_at};
 ghost use Rattle.rdf_tokens.specs.Quick.{is_sought, is_named, IsPrefix, is_colon, ends_name, is_name_end, is_a};
 ghost use Rattle.rdf_tokens.specs.Quick.{is_dot, begins_number, is_point, is_integer_end, is_decimal_end, ends_integer, ends_number};
 ghost use Rattle.rdf_tokens.specs.Quick.{begins_iri, quote_byte, opens_with, begins_string, is_empty_string, begins_label, begins_label_name};
-ghost use Rattle.rdf_tokens.specs.Quick.{begins_tag, begins_directive, is_part_byte, is_tag_end, is_later_end, are_carets};
+ghost use Rattle.rdf_tokens.specs.Quick.{begins_tag, begins_directive, is_part_byte, is_tag_end, is_later_end, are_carets, is_true, is_false};
 ghost use Rattle.rdf_terms.specs.Runs.{IsRun, is_name_byte, is_ascii_text_byte};
 
 use crate::front::{NoNames, begins_in_letter};
@@ -372,7 +372,8 @@ pub(crate) fn is_sought(dialect: Dialect, bytes: &[u8], no_names: &Option<NoName
     }
 }
 
-/// A name of Turtle that begins with a letter, and whose other characters are letters, digits, `_` and `-`; or the word `a`.
+/// A name of Turtle that begins with a letter, and whose other characters are letters, digits, `_` and `-`; or one of the words `a`, `true` and
+/// `false`.
 #[inline(always)]
 fn quick_name(text: &str) -> Quick
     requires some { 0 < length text.now }
@@ -388,6 +389,28 @@ fn quick_name(text: &str) -> Quick
         return Quick {
             len: 1,
             kind: Some(Kind::A),
+        };
+    }
+    quick_word(text, colon)
+}
+
+/// The word `true` or `false`, where its run of letters, digits, `_` and `-` ends at a byte with which no name goes on.
+#[inline(always)]
+fn quick_word(text: &str, end: usize) -> Quick
+    requires { IsRun is_name_byte text.now 1 end }
+    ensures { IsQuick Turtle text.now result.len result.kind }
+{
+    let bytes = text.as_bytes();
+    if is_true(bytes, end) {
+        return Quick {
+            len: 4,
+            kind: Some(Kind::True),
+        };
+    }
+    if is_false(bytes, end) {
+        return Quick {
+            len: 5,
+            kind: Some(Kind::False),
         };
     }
     Quick { len: 0, kind: None }
@@ -542,6 +565,35 @@ pub(crate) fn is_a(bytes: &[u8], end: usize) -> bool
     ensures { result ≡ is_a bytes.now end }
 {
     end == 1 && bytes[0] == b'a' && is_name_end(bytes, end)
+}
+
+/// The same of the word `true`.
+#[inline(always)]
+fn is_true(bytes: &[u8], end: usize) -> bool
+    requires { end ≤ length bytes.now }
+    ensures { result ≡ is_true bytes.now end }
+{
+    end == 4
+        && bytes[0] == b't'
+        && bytes[1] == b'r'
+        && bytes[2] == b'u'
+        && bytes[3] == b'e'
+        && is_name_end(bytes, end)
+}
+
+/// The same of the word `false`.
+#[inline(always)]
+fn is_false(bytes: &[u8], end: usize) -> bool
+    requires { end ≤ length bytes.now }
+    ensures { result ≡ is_false bytes.now end }
+{
+    end == 5
+        && bytes[0] == b'f'
+        && bytes[1] == b'a'
+        && bytes[2] == b'l'
+        && bytes[3] == b's'
+        && bytes[4] == b'e'
+        && is_name_end(bytes, end)
 }
 
 /// Whether the text of Turtle begins with a dot and a byte of ASCII that is no digit: with no number.

@@ -23,6 +23,9 @@ quick_local-requires-clause-local c =
     subst (λ b. IsRun is_name_byte b (colon + 1) c.two_run_ends-colon.result.1) c.as_bytes-bytes.ensures.value
     (c.two_run_ends-colon.ensures.second (ltb-true colon (length c.as_bytes-bytes.result.now) (and_parts _ _ is).0))
 
+pub quick_word-requires : goal.quick_word-requires
+quick_word-requires c = subst (λ b. IsRun is_name_byte b 1 c.two_run_ends-colon.result.0) c.as_bytes-bytes.ensures.value c.two_run_ends-colon.ensures.first
+
 pub returns-then-is_a : goal.returns-then-is_a
 returns-then-is_a c =
     let bs = c.as_bytes-bytes.result.now in
