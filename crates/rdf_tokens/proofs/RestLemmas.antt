@@ -37,7 +37,7 @@ module _ (s : State) (p : ℕ → Bool) (bs : List ℕ) (at end : ℕ) (r : IsRu
   }
 
 -- the character at a place before the end
-first_char : (bs : List ℕ) (at : ℕ) → IsUtf8 (drop at bs) → at < length bs →
+pub first_char : (bs : List ℕ) (at : ℕ) → IsUtf8 (drop at bs) → at < length bs →
     (c : ℕ) × (drop at bs ≡ encode_utf8 c ++ drop (at + len_utf8 c) bs) × (at + len_utf8 c ≤ length bs)
 first_char bs at u l = go u.0 u.1.1
   where

@@ -1,13 +1,13 @@
 -- Strings with one quote at each end: how the states come to a place inside them, and what stands before it means.
-use Rattle.std.proofs.Common.{◌≡◌, ℕ, ◌+◌, ◌-◌, ◌<◌, ◌≤◌, true, false, not, ◌==◌, nat_lt, List, ◌++◌, refl, sym, ap, ◌∙◌, subst, arith, ⊎_elim, length, get_or, drop, IsUtf8, None, encode_utf8}
+use Rattle.std.proofs.Common.{◌≡◌, ℕ, ◌+◌, ◌-◌, ◌<◌, ◌≤◌, true, false, not, ◌==◌, nat_lt, List, ◌++◌, refl, sym, ap, ◌∙◌, subst, arith, ⊎_elim, length, get_or, drop, inl, inr, lt-ltb, IsUtf8, None, encode_utf8}
 use Rattle.std.specs.Char.{len_utf8}
 use Rattle.std.specs.Str.{chars}
-use Rattle.std.proofs.lemmas.Bool.{and_parts, cases_lt, cond-false, eqb-true, le-ltb, leb-true, ltb-true, ne_eqb}
+use Rattle.std.proofs.lemmas.Bool.{and_from, and_parts, cases_lt, cond-false, eqb-true, le-ltb, le-leb, leb-true, lt-leb, ltb-true, ne_eqb}
 use Rattle.std.proofs.lemmas.List.{get_or-drop, get_or_append_left}
 use Rattle.std.proofs.lemmas.Str.{encode_ascii, length-encode, len_utf8_bounds}
 use Rattle.rdf_terms.specs.declared.kind.Dialect.{Dialect}
 use Rattle.rdf_terms.specs.declared.kind.Kind.TheVariants.{ShortString}
-use Rattle.rdf_terms.specs.Runs.{is_unescaped}
+use Rattle.rdf_terms.specs.Runs.{IsRun, is_ascii_byte, is_text_byte, is_unescaped}
 use Rattle.rdf_tokens.specs.declared.states.machine.State.TheVariants.{Text}
 use Rattle.rdf_tokens.specs.declared.states.text.Sort.TheVariants as sort
 use Rattle.rdf_tokens.specs.declared.states.text.Text.TheVariants as text
@@ -22,11 +22,12 @@ use Rattle.rdf_tokens.specs.Strings.{IsFirst, IsHighChar, RestsInQuotes, begins_
 use Rattle.rdf_tokens.specs.Text as strings
 use Rattle.rdf_tokens.specs.Tokens.{three_quotes}
 use Rattle.rdf_tokens.proofs.BlankLemmas.{high-encode}
-use Rattle.rdf_tokens.proofs.FitEscapes.{fits_byte, fits_echar, fits_uchar, fits_unescaped, fits-more}
+use Rattle.rdf_tokens.proofs.FitEscapes.{fits_byte, fits_echar, fits_run, fits_uchar, fits_unescaped, fits-more}
 use Rattle.rdf_tokens.proofs.NoNamesLemmas.{no_long}
-use Rattle.rdf_tokens.proofs.PlainQuick.{after_plain, after_quote, low_quote, one_quote, plain_fits, plain_second, string_token}
+use Rattle.rdf_tokens.proofs.PlainQuick.{after_plain, after_quote, low_quote, one_quote, plain_fits, plain_second, quick_string, string_token, utf8_after}
 use Rattle.rdf_tokens.proofs.RestEscapes.{opened_escape, rests_byte, uchar_from}
-use Rattle.rdf_tokens.proofs.RestLemmas.{reached-run}
+use Rattle.rdf_tokens.proofs.RestLemmas.{first_char, reached-run}
+use Rattle.rdf_tokens.proofs.RestStates.{rests_short}
 use Rattle.rdf_tokens.proofs.StateLemmas.{reached-step}
 
 -- a byte that is a quote of the one kind
@@ -162,3 +163,47 @@ module _ (d : Dialect) (q : Quote) (bs : List ℕ) (u : IsUtf8 bs) (o : opens_wi
   -- the string, up to its second quote
   pub string_whole : (end : ℕ) → RestsInQuotes q bs first end → FitsInString bs first end → stands_at (quote_byte q) bs end ≡ true → IsToken d bs (end + 1) ShortString
   string_whole end r g z = string_token d q bs u o end one (fits-more bs 1 first end first_fits g) z (string_reached end r)
+
+-- What stands in strings leads from the first quote up to the second: some bytes, be the first of ASCII or not.
+module _ (d : Dialect) (q : Quote) (bs : List ℕ) (u : IsUtf8 bs) (o : opens_with d q bs ≡ true) (end : ℕ) (some : 1 < end) (r : IsRun is_text_byte bs 1 end)
+    (z : stands_at (quote_byte q) bs end ≡ true) where
+  within : 1 < length bs
+  within = let w = r.within in omega arith
+
+  -- the run after the first character
+  run_from : (at : ℕ) → 1 ≤ at → at ≤ end → IsRun is_text_byte bs at end
+  run_from at l m = record { from = m; within = r.within; pass = λ k a b. r.pass k (omega arith) b; stops = r.stops }
+
+  text_byte : is_text_byte (get_or bs 1 0) ≡ true
+  text_byte = r.pass 1 (omega arith) some
+
+  low_first : get_or bs 1 0 < 128 → IsToken d bs (end + 1) ShortString
+  low_first l =
+      let ascii : is_ascii_byte (get_or bs 1 0) ≡ true = ap not (lt-leb 128 (get_or bs 1 0) l) in
+      quick_string d q bs u o end (and_from (nat_lt 1 (length bs)) _ (lt-ltb 1 (length bs) within) (and_from (is_text_byte (get_or bs 1 0)) _ text_byte ascii)) (run_from 2 (omega arith) (omega arith)) z
+
+  high_first : 128 ≤ get_or bs 1 0 → IsToken d bs (end + 1) ShortString
+  high_first h =
+      let one = first_char bs 1 (utf8_after d q bs u o) within in
+      let first = 1 + len_utf8 one.0 in
+      let begins : begins_high bs ≡ true = and_from (nat_lt 1 (length bs)) _ (lt-ltb 1 (length bs) within) (le-leb 128 (get_or bs 1 0) h) in
+      let char = high_char bs first one.0 begins one.1 refl one.2 in
+      let size = length-encode char.c in
+      let long = char.past in
+      let p = and_parts (nat_lt end (length bs)) (get_or bs end 0 == quote_byte q) z in
+      let low : get_or bs end 0 < 128 = subst (λ n. n < 128) (sym (eqb-true (get_or bs end 0) (quote_byte q) p.1)) (low_quote q) in
+      let whole : first ≤ end = ⊎_elim
+      (λ (m : end < first).
+      let place : 1 + (end - 1) ≡ end = omega arith in
+      let inside : end - 1 < length (encode_utf8 char.c) = omega (arith, size, long) in
+      let byte : get_or bs (1 + (end - 1)) 0 ≡ get_or (encode_utf8 char.c) (end - 1) 0 =
+      sym (get_or-drop 1 bs (end - 1) 0) ∙ (ap (λ v. get_or v (end - 1) 0) char.is ∙ get_or_append_left (encode_utf8 char.c) (drop first bs) 0 (end - 1) inside) in
+      let high = high-encode char.c char.high (end - 1) inside in
+      absurd (omega (arith, byte, high, low, ap (λ j. get_or bs j 0) place)))
+      (λ m. m)
+      (cases_lt end first) in
+      let rest = run_from first (omega arith) whole in
+      string_whole d q bs u o first (inr (inl char)) end (rests_short q bs first end rest) (fits_run bs first end rest) z
+
+  pub run_string : IsToken d bs (end + 1) ShortString
+  run_string = ⊎_elim low_first high_first (cases_lt (get_or bs 1 0) 128)

@@ -10,8 +10,8 @@ ghost use Rattle.rdf_tokens.specs.declared.states.text.Quote.TheVariants.{Double
 
 use crate::front::NoNames;
 use crate::quick::{
-    begins_label, begins_string, begins_tag, digits_end, is_a, is_colon, is_dot, is_integer_end,
-    is_name_end, is_sought, quick_named, quick_number, quick_tag, stands_at,
+    begins_label, begins_tag, digits_end, is_a, is_colon, is_dot, is_integer_end, is_name_end,
+    is_sought, quick_named, quick_number, quick_tag, stands_at,
 };
 use rdf_terms::runs::{Run, run_end, two_run_ends};
 use rdf_terms::{Dialect, Kind};
@@ -253,11 +253,9 @@ fn string_len(text: &str) -> Option<usize>
     ensures { IfSome result (λ n. IsToken Turtle text.now n ShortString) }
 {
     let bytes = text.as_bytes();
-    if begins_string(bytes) {
-        let end = run_end(Run::Text, bytes, 2);
-        if stands_at(b'"', bytes, end) {
-            return Some(end + 1);
-        }
+    let end = run_end(Run::Text, bytes, 1);
+    if end > 1 && stands_at(b'"', bytes, end) {
+        return Some(end + 1);
     }
     None
 }

@@ -187,11 +187,8 @@ fn quick_string(dialect: Dialect, quote: Quote, text: &str) -> Quick
             kind: Some(Kind::ShortString),
         };
     }
-    if !begins_string(bytes) {
-        return Quick { len: 0, kind: None };
-    }
-    let end = run_end(Run::Text, bytes, 2);
-    if stands_at(quote_byte(quote), bytes, end) {
+    let end = run_end(Run::Text, bytes, 1);
+    if end > 1 && stands_at(quote_byte(quote), bytes, end) {
         return Quick {
             len: end + 1,
             kind: Some(Kind::ShortString),

@@ -4,7 +4,7 @@ use Rattle.rdf_terms.specs.declared.kind.Dialect.TheVariants.{Turtle}
 use Rattle.rdf_terms.specs.declared.kind.Kind.TheVariants.{ShortString}
 use Rattle.rdf_tokens.specs.declared.states.text.Quote.TheVariants.{Double}
 use Rattle.rdf_tokens.specs.Quick.{IsToken, opens_with}
-use Rattle.rdf_tokens.proofs.PlainQuick.{quick_string}
+use Rattle.rdf_tokens.proofs.StringLemmas.{run_string}
 use Rattle.rdf_tokens.proofs.peek.string_len.Goals as goal
 
 pub returns-then-stands_at : goal.returns-then-stands_at
@@ -13,5 +13,5 @@ returns-then-stands_at c =
     let v = c.as_bytes-bytes.ensures.value in
     let end = c.run_end-end.result in
     subst (λ b. IsToken Turtle b (end + 1) ShortString) v
-    (quick_string Turtle Double bs (subst IsUtf8 (sym v) c.utf8.text) (subst (λ b. opens_with Turtle Double b ≡ true) (sym v) c.requires) end
-    (sym c.begins_string.ensures ∙ c.if-begins_string.true) c.run_end-end.ensures (sym c.stands_at.ensures ∙ c.if-stands_at.true))
+    (run_string Turtle Double bs (subst IsUtf8 (sym v) c.utf8.text) (subst (λ b. opens_with Turtle Double b ≡ true) (sym v) c.requires) end c.if-end-gt1.true
+    c.run_end-end.ensures (sym c.stands_at.ensures ∙ c.if-stands_at.true))

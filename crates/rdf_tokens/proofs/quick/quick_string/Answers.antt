@@ -2,7 +2,8 @@
 use Rattle.std.proofs.Common.{◌≡◌, ◌+◌, ◌∙◌, true, sym, subst, IsUtf8}
 use Rattle.rdf_terms.specs.declared.kind.Kind.TheVariants.{ShortString}
 use Rattle.rdf_tokens.specs.Quick.{IsToken, opens_with, stands_at}
-use Rattle.rdf_tokens.proofs.PlainQuick.{quick_empty, quick_string}
+use Rattle.rdf_tokens.proofs.PlainQuick.{quick_empty}
+use Rattle.rdf_tokens.proofs.StringLemmas.{run_string}
 use Rattle.rdf_tokens.proofs.quick.quick_string.Goals as goal
 
 pub returns-then-is_empty_string : goal.returns-then-is_empty_string
@@ -22,6 +23,5 @@ returns-then-stands_at c =
     let q = c.args.quote in
     let end = c.run_end-end.result in
     subst (λ b. IsToken d b (end + 1) ShortString) v
-    (quick_string d q bs (subst IsUtf8 (sym v) c.utf8.text) (subst (λ b. opens_with d q b ≡ true) (sym v) c.requires) end
-    (sym c.begins_string.ensures ∙ c.if-not-begins_string.false) c.run_end-end.ensures
+    (run_string d q bs (subst IsUtf8 (sym v) c.utf8.text) (subst (λ b. opens_with d q b ≡ true) (sym v) c.requires) end c.if-end-gt1.true c.run_end-end.ensures
     (subst (λ n. stands_at n bs end ≡ true) c.quote_byte.ensures (sym c.stands_at.ensures ∙ c.if-stands_at.true)))
