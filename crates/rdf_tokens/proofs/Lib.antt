@@ -14,6 +14,7 @@ mod NumberQuick
 mod PlainQuick
 mod TagQuick
 mod WordQuick
+mod DotLemmas
 pub mod NameLemmas
 pub mod NameSorts
 pub mod IriSorts

@@ -21,7 +21,7 @@ use Rattle.rdf_tokens.specs.Tokens.{with_length, three_quotes, only_long}
 use Rattle.rdf_tokens.specs.Fixed.{Row, fits, left, is_begun, live_by, rows_of}
 use Rattle.rdf_tokens.specs.Front.{Reached, longer_front, begins, row_front, front_by, state_of}
 use Rattle.rdf_tokens.specs.Machine.{step, kind_at, goes_on}
-use Rattle.rdf_tokens.specs.Quick.{IsToken, IsQuick, single, is_sought, is_named, IsPrefix, is_colon, ends_name, is_name_end, is_a, is_dot, begins_number, are_carets, stands_at}
+use Rattle.rdf_tokens.specs.Quick.{IsToken, IsQuick, single, is_sought, is_named, IsPrefix, is_colon, ends_name, is_name_end, is_a, is_dot, begins_number, are_carets, stands_at, is_over, is_last, ends_local, RestsInLocal}
 use Rattle.rdf_tokens.proofs.ByteLemmas.{at-start, ascii_first}
 use Rattle.rdf_tokens.proofs.NoNamesLemmas.{implied, low-letter, letter_steps, no_long, no_quotes, one_on}
 use Rattle.rdf_tokens.proofs.RestLemmas.{reached-run}
@@ -284,6 +284,17 @@ end-steps c e h =
     let p = and_parts _ _ (other (is_name_byte c) _ (implied (ends_name c) _ (agree_below_at end_tests (λ c. true) 128 c refl low) e) h) in
     (dead-state _ p.0, dead-state _ p.1)
 
+-- each byte of ASCII: one with which no name goes on leads to no state, from within a local part and from after a dot in it
+abbrev over_tests : ℕ → Bool
+over_tests c = not (is_over c) || (at_dead (step Turtle (Name name.Local) c) && at_dead (step Turtle (Name name.LocalDots) c))
+
+-- so it does
+over-steps : (c : ℕ) → is_over c ≡ true → (step Turtle (Name name.Local) c ≡ Name name.Dead) × (step Turtle (Name name.LocalDots) c ≡ Name name.Dead)
+over-steps c e =
+    let low : c < 128 = ltb-true c 128 (and_parts (nat_lt c 128) _ (and_parts (ends_name c) _ e).0).0 in
+    let p = and_parts _ _ (implied (is_over c) _ (agree_below_at over_tests (λ c. true) 128 c refl low) e) in
+    (dead-state _ p.0, dead-state _ p.1)
+
 -- no escape of a name is bad
 name-fit : (w : List ℕ) → (is_fit PnameNs w ≡ true) × (is_fit PnameLn w ≡ true)
 unfolding is_fit
@@ -296,8 +307,7 @@ colon-quotes (a ∷ []) = refl
 colon-quotes (a ∷ b ∷ w) = refl
 
 -- A prefix, which may be empty, a colon, and a run of name bytes after it that ends before the text does.
-module _ (bs : List ℕ) (colon end : ℕ) (u : IsUtf8 bs) (p : IsPrefix bs colon) (m : is_colon bs colon ≡ true) (q : IsRun is_name_byte bs (colon + 1) end)
-    (z : is_name_end bs end ≡ true) where
+module _ (bs : List ℕ) (colon end : ℕ) (u : IsUtf8 bs) (p : IsPrefix bs colon) (m : is_colon bs colon ≡ true) (q : IsRun is_name_byte bs (colon + 1) end) where
   inside : colon < length bs
   inside = ltb-true colon (length bs) (and_parts _ _ m).0
 
@@ -349,8 +359,8 @@ module _ (bs : List ℕ) (colon end : ℕ) (u : IsUtf8 bs) (p : IsPrefix bs colo
           byte_on colon (Name name.Prefix) (Name name.Colon) (Some PnameNs) None i (omega (arith, is_58)) prefix (ap (step Turtle (Name name.Prefix)) (sym is_58)) refl
 
   -- and after the byte that ends the name
-  over : (s : State) (k : Kind) → Reached Turtle bs end s (Some (end, k)) → step Turtle s (get_or bs end 0) ≡ Name name.Dead → ((w : List ℕ) → is_fit k w ≡ true) → IsToken Turtle bs end k
-  over s k h x t =
+  over : is_name_end bs end ≡ true → (s : State) (k : Kind) → Reached Turtle bs end s (Some (end, k)) → step Turtle s (get_or bs end 0) ≡ Name name.Dead → ((w : List ℕ) → is_fit k w ≡ true) → IsToken Turtle bs end k
+  over z s k h x t =
       let c = get_or bs end 0 in
       let p = and_parts _ _ z in
       let i = inside in
@@ -361,16 +371,16 @@ module _ (bs : List ℕ) (colon end : ℕ) (u : IsUtf8 bs) (p : IsPrefix bs colo
       (rows-none (rows_of Turtle fixed) bs colon refl i is_58)
       (longer-second f colon end k (rows-short (rows_of Turtle fixed) bs colon refl is_58) (omega arith)) (t _)
 
-  ended : (step Turtle (Name name.Colon) (get_or bs end 0) ≡ Name name.Dead) × (step Turtle (Name name.Local) (get_or bs end 0) ≡ Name name.Dead)
-  ended = let p = and_parts _ _ z in end-steps (get_or bs end 0) p.1 (q.stops (ltb-true end (length bs) p.0))
+  ended : is_name_end bs end ≡ true → (step Turtle (Name name.Colon) (get_or bs end 0) ≡ Name name.Dead) × (step Turtle (Name name.Local) (get_or bs end 0) ≡ Name name.Dead)
+  ended z = let p = and_parts _ _ z in end-steps (get_or bs end 0) p.1 (q.stops (ltb-true end (length bs) p.0))
 
   -- nothing stands after the colon, and the token is a namespace
-  pub quick_namespace : end ≡ colon + 1 → IsToken Turtle bs end PnameNs
-  quick_namespace x = over (Name name.Colon) PnameNs (subst (λ n. Reached Turtle bs n (Name name.Colon) (Some (n, PnameNs))) (sym x) after) ended.0 (λ w. (name-fit w).0)
+  pub quick_namespace : is_name_end bs end ≡ true → end ≡ colon + 1 → IsToken Turtle bs end PnameNs
+  quick_namespace z x = over z (Name name.Colon) PnameNs (subst (λ n. Reached Turtle bs n (Name name.Colon) (Some (n, PnameNs))) (sym x) after) (ended z).0 (λ w. (name-fit w).0)
 
   -- a local part stands there
-  pub quick_local : (end ≡ colon + 1 → ⊥) → (get_or bs (colon + 1) 0 ≡ 45 → ⊥) → IsToken Turtle bs end PnameLn
-  quick_local n h =
+  local_on : (end ≡ colon + 1 → ⊥) → (get_or bs (colon + 1) 0 ≡ 45 → ⊥) → Reached Turtle bs end (Name name.Local) (Some (end, PnameLn))
+  local_on n h =
       let from = q.from in
       let within = q.within in
       let more : colon + 1 < end = omega (arith, n) in
@@ -379,8 +389,49 @@ module _ (bs : List ℕ) (colon end : ℕ) (u : IsUtf8 bs) (p : IsPrefix bs colo
       let first = byte_on (colon + 1) (Name name.Colon) (Name name.Local) (Some PnameLn) (Some (colon + 1, PnameNs)) (omega arith) (low-name c named) after (sym (local-first c named (no_hyphen c h))) refl in
       let rest : IsRun is_name_byte bs (colon + 1 + 1) end = record { from = omega arith; within = within; pass = λ k a b. q.pass k (omega arith) b; stops = q.stops } in
       let kind : Some PnameLn ≡ only_long (three_quotes Turtle (chars bs)) (Some PnameLn) = sym (ap (λ x. only_long x (Some PnameLn)) quotes) in
-      let all = reached-run Turtle bs (colon + 1 + 1) end (Name name.Local) (Some PnameLn) (Some (colon + 1, PnameNs)) kind (rests_local bs (colon + 1 + 1) end rest) first in
-      over (Name name.Local) PnameLn all ended.1 (λ w. (name-fit w).1)
+      reached-run Turtle bs (colon + 1 + 1) end (Name name.Local) (Some PnameLn) (Some (colon + 1, PnameNs)) kind (rests_local bs (colon + 1 + 1) end rest) first
+
+  -- and ends at the byte after the run
+  pub quick_local : is_name_end bs end ≡ true → (end ≡ colon + 1 → ⊥) → (get_or bs (colon + 1) 0 ≡ 45 → ⊥) → IsToken Turtle bs end PnameLn
+  quick_local z n h = over z (Name name.Local) PnameLn (local_on n h) (ended z).1 (λ w. (name-fit w).1)
+
+  -- It goes on after the run, up to a place where it ends.
+  module _ (last : ℕ) (n : end ≡ colon + 1 → ⊥) (h : get_or bs (colon + 1) 0 ≡ 45 → ⊥) (r : RestsInLocal bs end last) where
+    last_on : Reached Turtle bs last (Name name.Local) (Some (last, PnameLn))
+    last_on =
+        let kind : Some PnameLn ≡ only_long (three_quotes Turtle (chars bs)) (Some PnameLn) = sym (ap (λ x. only_long x (Some PnameLn)) quotes) in
+        reached-run Turtle bs end last (Name name.Local) (Some PnameLn) None kind r (local_on n h)
+
+    -- the states end after a byte
+    last_at : (at : ℕ) (s : State) → Reached Turtle bs at s (Some (last, PnameLn)) → is_last bs at ≡ true →
+        (is_over (get_or bs at 0) ≡ true → step Turtle s (get_or bs at 0) ≡ Name name.Dead) → IsToken Turtle bs last PnameLn
+    last_at at s k z x =
+        let c = get_or bs at 0 in
+        let p = and_parts (nat_lt at (length bs)) _ z in
+        let o = and_parts (ends_name c) _ p.1 in
+        let i = inside in
+        let from = q.from in
+        let more = r.from in
+        let f = front_by (rows_of Turtle fixed) bs in
+        let low : c < 128 = ltb-true c 128 (and_parts (nat_lt c 128) _ o.0).0 in
+        settled Turtle bs (at + 1) (Name name.Dead) (Some (last, PnameLn)) f last PnameLn u
+        (byte_on at s (Name name.Dead) None (Some (last, PnameLn)) (ltb-true at (length bs) p.0) low k (sym (x p.1)) refl) refl refl
+        (rows-none (rows_of Turtle fixed) bs colon refl i is_58)
+        (longer-second f colon last PnameLn (rows-short (rows_of Turtle fixed) bs colon refl is_58) (omega arith)) (name-fit _).1
+
+    pub quick_dotted : ends_local bs last ≡ true → IsToken Turtle bs last PnameLn
+    quick_dotted e = by_end (is_last bs last) refl e
+      where
+        by_end : (t : Bool) → is_last bs last ≡ t → (t || (stands_at 46 bs last && is_last bs (last + 1))) ≡ true → IsToken Turtle bs last PnameLn
+        by_end true z e = last_at last (Name name.Local) last_on z (λ o. (over-steps (get_or bs last 0) o).0)
+        by_end false z e =
+            let p = and_parts (stands_at 46 bs last) _ e in
+            let d = and_parts (nat_lt last (length bs)) (get_or bs last 0 == 46) p.0 in
+            let dot : get_or bs last 0 ≡ 46 = eqb-true (get_or bs last 0) 46 d.1 in
+            last_at (last + 1) (Name name.LocalDots)
+            (byte_on last (Name name.Local) (Name name.LocalDots) None (Some (last, PnameLn)) (ltb-true last (length bs) d.0) (omega (arith, dot)) last_on
+            (sym (ap (step Turtle (Name name.Local)) dot)) refl)
+            p.1 (λ o. (over-steps (get_or bs (last + 1) 0) o).1)
 
 -- what is told of the first byte is a token
 pub quick_kind : (d : Dialect) (bs : List ℕ) (o : Option Kind) → IsUtf8 bs → 0 < length bs → o ≡ single d (get_or bs 0 0) → IsQuick d bs 1 o

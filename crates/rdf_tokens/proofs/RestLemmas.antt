@@ -51,7 +51,7 @@ first_char bs at u l = go u.0 u.1.1
         )
 
 -- a front that was found last replaces one that was found before it
-with_length-again : (m n : ℕ) (k : Option Kind) (b : Option (ℕ × Kind)) → with_length m k b ≡ with_length m k (with_length n k b)
+pub with_length-again : (m n : ℕ) (k : Option Kind) (b : Option (ℕ × Kind)) → with_length m k b ≡ with_length m k (with_length n k b)
 with_length-again m n None b = refl
 with_length-again m n (Some x) b = refl
 

@@ -10,10 +10,12 @@ use Rattle.rdf_terms.specs.Runs.{IsRun, is_name_byte, is_ascii_text_byte}
 use Rattle.rdf_terms.specs.Shapes.{is_live}
 use Rattle.rdf_terms.specs.Values.{is_fit}
 use Rattle.rdf_tokens.specs.declared.front.NoNames.{NoNames}
+use Rattle.rdf_tokens.specs.declared.states.machine.State.TheVariants as state
+use Rattle.rdf_tokens.specs.declared.states.name.Name.TheVariants as name
 use Rattle.rdf_tokens.specs.declared.states.text.Quote.{Quote}
 use Rattle.rdf_tokens.specs.declared.states.text.Quote.TheVariants.{Double, Single}
 use Rattle.rdf_tokens.specs.Tokens.{longest}
-use Rattle.rdf_tokens.specs.Front.{in_bytes}
+use Rattle.rdf_tokens.specs.Front.{Rests, in_bytes}
 
 -- The text begins with this token of so many bytes, and with no longer one, whatever may come after it. Its escapes are fit.
 pub record IsToken (d : Dialect) (bs : List ℕ) (n : ℕ) (k : Kind) : Type 0 where
@@ -53,11 +55,31 @@ is_named d bs = is_turtle d && is_colon bs 0
 abbrev pub IsPrefix : List ℕ → ℕ → Type 0
 IsPrefix bs colon = (colon ≡ 0) ⊎ ((is_letter (get_or bs 0 0) ≡ true) × IsRun is_name_byte bs 1 colon)
 
+-- this byte stands at a place
+abbrev pub stands_at : ℕ → List ℕ → ℕ → Bool
+stands_at b bs at = nat_lt at (length bs) && get_or bs at 0 == b
+
 -- a byte of ASCII that is none of ':', '.', '%' and a backslash: no name goes on with it but with a letter, a digit, '_' or '-'
 abbrev pub ends_name : ℕ → Bool
 ends_name b = nat_lt b 128 && not (one_of (58 ∷ 46 ∷ 37 ∷ 92 ∷ []) b)
 
+-- one of these that is no letter, digit, '_' or '-' either
+abbrev pub is_over : ℕ → Bool
+is_over b = ends_name b && not (is_name_byte b)
+
 -- such a byte stands at a place
+abbrev pub is_last : List ℕ → ℕ → Bool
+is_last bs at = nat_lt at (length bs) && is_over (get_or bs at 0)
+
+-- it does, or it stands after a dot there: a local part before the place does not go on
+abbrev pub ends_local : List ℕ → ℕ → Bool
+ends_local bs at = is_last bs at || (stands_at 46 bs at && is_last bs (at + 1))
+
+-- the bytes between two places lead back to the state within a local part
+abbrev pub RestsInLocal : List ℕ → ℕ → ℕ → Type 0
+RestsInLocal bs at end = Rests (state.Name name.Local) bs at end
+
+-- a byte that ends a name stands at a place
 abbrev pub is_name_end : List ℕ → ℕ → Bool
 is_name_end bs at = nat_lt at (length bs) && ends_name (get_or bs at 0)
 
@@ -103,10 +125,6 @@ is_integer_end bs at = nat_lt at (length bs) && ends_integer (get_or bs at 0)
 -- digits stand between the dot and a place, and there a byte that ends a decimal
 abbrev pub is_decimal_end : List ℕ → ℕ → ℕ → Bool
 is_decimal_end bs dot at = nat_lt (dot + 1) at && (nat_lt at (length bs) && ends_number (get_or bs at 0))
-
--- this byte stands at a place
-abbrev pub stands_at : ℕ → List ℕ → ℕ → Bool
-stands_at b bs at = nat_lt at (length bs) && get_or bs at 0 == b
 
 -- a letter, a digit or '_'
 abbrev pub begins_label_name : ℕ → Bool

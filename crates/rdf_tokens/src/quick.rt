@@ -1,6 +1,6 @@
 // Tokens that the first bytes of a text settle.
 
-ghost use Rattle.std.specs.Prelude.{◌≡◌, ◌+◌, ◌<◌, ◌≤◌, true, length, get_or};
+ghost use Rattle.std.specs.Prelude.{◌≡◌, ◌+◌, ◌<◌, ◌≤◌, true, length, get_or, IfSome};
 ghost use Rattle.rdf_terms.specs.Classes.{is_digit, is_letter};
 ghost use Rattle.rdf_terms.specs.declared.kind.Dialect.{Dialect};
 ghost use Rattle.rdf_terms.specs.declared.kind.Dialect.TheVariants.{Turtle};
@@ -9,6 +9,7 @@ ghost use Rattle.rdf_tokens.specs.Quick.{is_sought, is_named, IsPrefix, is_colon
 ghost use Rattle.rdf_tokens.specs.Quick.{is_dot, begins_number, is_point, is_integer_end, is_decimal_end, ends_integer, ends_number};
 ghost use Rattle.rdf_tokens.specs.Quick.{begins_iri, quote_byte, opens_with, begins_string, is_empty_string, begins_label, begins_label_name};
 ghost use Rattle.rdf_tokens.specs.Quick.{begins_tag, begins_directive, is_part_byte, is_tag_end, is_later_end, are_carets, is_true, is_false};
+ghost use Rattle.rdf_tokens.specs.Quick.{RestsInLocal, is_over, is_last, ends_local};
 ghost use Rattle.rdf_terms.specs.Runs.{IsRun, is_name_byte, is_ascii_text_byte};
 
 use crate::front::{NoNames, begins_in_letter};
@@ -424,6 +425,9 @@ fn quick_local(text: &str, colon: usize, end: usize) -> Quick
 {
     let bytes = text.as_bytes();
     let local = colon + 1;
+    if end > local && stands_at(b'.', bytes, end) {
+        return quick_dotted(text, colon, end);
+    }
     if !is_name_end(bytes, end) {
         return Quick { len: 0, kind: None };
     }
@@ -440,6 +444,77 @@ fn quick_local(text: &str, colon: usize, end: usize) -> Quick
         len: end,
         kind: Some(Kind::PnameLn),
     }
+}
+
+/// The same where a dot comes after a run that is not empty: more of the local part may come after the dot.
+#[inline(never)]
+fn quick_dotted(text: &str, colon: usize, end: usize) -> Quick
+    requires prefix { IsPrefix text.now colon }
+    requires colon { is_colon text.now colon ≡ true }
+    requires local { IsRun is_name_byte text.now (colon + 1) end }
+    requires some { colon + 1 < end }
+    ensures { IsQuick Turtle text.now result.len result.kind }
+{
+    let bytes = text.as_bytes();
+    let last = dotted_end(bytes, end);
+    if bytes[colon + 1] == b'-' || !ends_local(bytes, last) {
+        return Quick { len: 0, kind: None };
+    }
+    Quick {
+        len: last,
+        kind: Some(Kind::PnameLn),
+    }
+}
+
+/// The end of the dots from a place on that each have a run after them, and of these runs.
+#[inline(always)]
+fn dotted_end(bytes: &[u8], from: usize) -> usize
+    requires { from ≤ length bytes.now }
+    ensures { RestsInLocal bytes.now from result }
+{
+    let mut at = from;
+    while let Some(next) = after_dot(bytes, at) {
+        at = next;
+    }
+    at
+}
+
+/// The end of the run after the dot at a place, where both are there.
+#[inline(always)]
+fn after_dot(bytes: &[u8], at: usize) -> Option<usize>
+    requires { at ≤ length bytes.now }
+    ensures rests { IfSome result (λ end. RestsInLocal bytes.now at end) }
+    ensures on { IfSome result (λ end. at < end) }
+{
+    if !stands_at(b'.', bytes, at) {
+        return None;
+    }
+    let end = run_end(Run::Name, bytes, at + 1);
+    if end > at + 1 { Some(end) } else { None }
+}
+
+/// Whether a local part ends at a place, where no name goes on with the byte there, or with a dot and the byte after it.
+#[inline(always)]
+fn ends_local(bytes: &[u8], at: usize) -> bool
+    requires { at ≤ length bytes.now }
+    ensures { result ≡ ends_local bytes.now at }
+{
+    is_last(bytes, at) || stands_at(b'.', bytes, at) && is_last(bytes, at + 1)
+}
+
+/// Whether there is a byte with which no name goes on.
+#[inline(always)]
+fn is_last(bytes: &[u8], at: usize) -> bool
+    ensures { result ≡ is_last bytes.now at }
+{
+    at < bytes.len() && is_over(bytes[at])
+}
+
+#[inline(always)]
+fn is_over(byte: u8) -> bool
+    ensures { result ≡ is_over byte }
+{
+    ends_name(byte) && !begins_label_name(byte) && byte != b'-'
 }
 
 /// A name of Turtle with an empty prefix.

@@ -1,0 +1,12 @@
+use Rattle.std.proofs.Common.{◌-◌, ◌≤◌, length}
+use Rattle.rdf_tokens.specs.Quick.{RestsInLocal}
+use Rattle.rdf_tokens.proofs.quick.dotted_end.Given as goal
+
+abbrev pub invariant-loop-next : goal.invariant-loop-next
+invariant-loop-next l = record {
+  within : l.at ≤ length l.bytes;
+  rests : RestsInLocal l.bytes l.from l.at;
+}
+
+abbrev pub decreases-loop-next : goal.decreases-loop-next
+decreases-loop-next l = length l.bytes - l.at
