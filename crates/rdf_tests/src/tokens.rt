@@ -102,7 +102,7 @@ fn take(alloc: Global, scanner: &mut Scanner, step: Step) -> Answer {
 }
 
 /// What is done with a scanner, and what it answers.
-static STEPS: [(Step, Answer); 239] = [
+static STEPS: [(Step, Answer); 245] = [
     // Frequent tokens are seen before they are taken, but for the first of a document.
     (Step::Start(Dialect::Turtle, 64), Answer::Started),
     (
@@ -137,6 +137,13 @@ static STEPS: [(Step, Answer); 239] = [
     (Step::PassLineFeed, Answer::Passed),
     (Step::See, Answer::Unseen),
     (Step::Next, Answer::Token(Kind::Semicolon, 54, 5, 1)),
+    // So is an indentation after it, but none before another line feed.
+    (Step::Push(b"\n \t,\n \n;"), Answer::Took(8)),
+    (Step::PassLineFeed, Answer::Passed),
+    (Step::See, Answer::Token(Kind::Comma, 58, 6, 1)),
+    (Step::PassLineFeed, Answer::Passed),
+    (Step::See, Answer::Unseen),
+    (Step::Next, Answer::Token(Kind::Semicolon, 62, 8, 1)),
     // So are these, and any of them once white space and comments are passed.
     (Step::Start(Dialect::Turtle, 64), Answer::Started),
     (

@@ -1,13 +1,16 @@
 -- White space and comments, a run at a time.
-use Rattle.std.proofs.Common.{◌≡◌, ℕ, zero, suc, ◌+◌, ◌-◌, ◌<◌, ◌≤◌, Bool, true, false, cond, List, [], ◌∷◌, ◌&&◌, ◌==◌, not, refl, sym, ap, ◌∙◌, subst, length, get_or, drop, arith, lt-ltb, ⊎_elim}
+use Rattle.std.proofs.Common.{◌≡◌, ℕ, zero, suc, ◌+◌, ◌-◌, ◌<◌, ◌≤◌, Bool, true, false, cond, List, [], ◌∷◌, ◌&&◌, ◌==◌, not, refl, sym, ap, ◌∙◌, subst, length, get_or, nat_lt, take, drop, count_by, is_some, arith, lt-ltb, ⊎_elim, Option, Some, None}
 use Rattle.std.proofs.lemmas.Bool.{and_parts, cases_lt, eqb-true, false≢true, ltb-true}
 use Rattle.std.proofs.lemmas.Bool.Decides.{nat_tests}
 use Rattle.std.proofs.lemmas.List.{drop_more, drop_all}
 use Rattle.rdf_terms.specs.declared.kind.Dialect.{Dialect}
 use Rattle.rdf_terms.specs.declared.kind.Dialect.TheVariants.{Lines, Turtle}
-use Rattle.rdf_terms.specs.Runs.{IsRun, PassBetween}
+use Rattle.rdf_terms.specs.Runs.{IsRun, PassBetween, is_space as is_space_byte}
 use Rattle.rdf_tokens.specs.Tokens.{is_line_end, is_space, blank}
-use Rattle.rdf_tokens.specs.Blank.{comment_after, goes_on, is_cut, is_hash}
+use Rattle.rdf_tokens.specs.Blank.{comment_after, comment_step, goes_on, is_bare, is_cut, is_hash}
+use Rattle.rdf_tokens.specs.Quick.{stands_at}
+use Rattle.rdf_tokens.proofs.BlankLemmas.{blank_by, blank-step, comment_by, comment-step}
+use Rattle.rdf_tokens.proofs.PlaceLemmas.{feeds-append}
 
 -- A text begins with so many characters of white space and comments. What comes after them is taken on as if a comment were open there, or none.
 pub record Goes (d : Dialect) (b : Bool) (w : List ℕ) (n : ℕ) (b' : Bool) (v : List ℕ) : Type 0 where
@@ -148,3 +151,65 @@ hash_opens d bs at e =
     opens : (d : Dialect) (w : List ℕ) → Goes d false (35 ∷ w) 0 true (35 ∷ w)
     opens Lines w = let len : blank Lines false (35 ∷ w) ≡ blank Lines true (35 ∷ w) = refl in record { len = omega (arith, len); comment = refl }
     opens Turtle w = let len : blank Turtle false (35 ∷ w) ≡ blank Turtle true (35 ∷ w) = refl in record { len = omega (arith, len); comment = refl }
+
+-- A line feed, a run of spaces and tabs, and no more white space: so much comes first, and no comment is open.
+module _ (bs : List ℕ) (end : ℕ) (z : stands_at 10 bs 0 ≡ true) (r : IsRun is_space_byte bs 1 end) (b : is_bare bs end ≡ true) where
+  feed : (0 < length bs) × (get_or bs 0 0 ≡ 10)
+  feed = let p = and_parts (nat_lt 0 (length bs)) (get_or bs 0 0 == 10) z in (ltb-true 0 (length bs) p.0, eqb-true (get_or bs 0 0) 10 p.1)
+
+  -- what comes after them
+  past_end : (blank Turtle false (drop end bs) ≡ 0) × (comment_after Turtle false (drop end bs) ≡ false)
+  past_end =
+      let p = and_parts (nat_lt end (length bs)) _ b in
+      let c = get_or bs end 0 in
+      let w = drop (end + 1) bs in
+      let none = is_none (comment_step Turtle false c) p.1 in
+      let more = drop_more bs end 0 (ltb-true end (length bs) p.0) in (
+        ap (blank Turtle false) more ∙ (blank-step Turtle false c w ∙ ap (λ o. blank_by Turtle o w) none),
+        ap (comment_after Turtle false) more ∙ (comment-step Turtle false c w ∙ ap (λ o. comment_by Turtle o w) none),
+      )
+    where
+      is_none : (o : Option Bool) → not (is_some o) ≡ true → o ≡ None
+      is_none None e = refl
+      is_none (Some x) e = absurd (false≢true e)
+
+  goes : Goes Turtle false bs end false (drop end bs)
+  goes =
+      let from = r.from in
+      let n : 1 + (end - 1) ≡ end = omega arith in
+      let first : Goes Turtle false bs 1 false (drop 1 bs) =
+      subst (λ w. Goes Turtle false w 1 false (drop 1 bs)) (sym (drop_more bs 0 0 feed.0)) (white_on Turtle (get_or bs 0 0) (drop 1 bs) (ap (is_space Turtle) feed.1)) in
+      subst (λ n. Goes Turtle false bs n false (drop end bs)) n
+      (and_then Turtle false false false bs (drop 1 bs) (drop end bs) 1 (end - 1) first (run_on Turtle false is_space_byte spaces bs 1 end r))
+    where
+      spaces : (c : ℕ) (w : List ℕ) → is_space_byte c ≡ true → Goes Turtle false (c ∷ w) 1 false w
+      spaces c w e = white_on Turtle c w (grind (arith, nat_tests))
+
+  pub indented : (blank Turtle false bs ≡ end) × (comment_after Turtle false bs ≡ false)
+  indented = let g = goes.len in let p = past_end.0 in (omega (arith, g, p), goes.comment ∙ past_end.1)
+
+  -- one line feed is among them
+  pub one_feed : count_by (λ b. b == 10) (take end bs) ≡ 1
+  one_feed =
+      let from = r.from in
+      let within = r.within in
+      let n : suc (end - 1) ≡ end = omega arith in
+      let cut : take end bs ≡ 10 ∷ take (end - 1) (drop 1 bs) =
+      ap (λ k. take k bs) (sym n) ∙ (ap (take (suc (end - 1))) (drop_more bs 0 0 feed.0) ∙ ap (λ c. c ∷ take (end - 1) (drop 1 bs)) feed.1) in
+      let rest = no_feeds (end - 1) 1 (omega arith) (λ k l m. r.pass k l (omega arith)) in
+      let all = feeds-append (10 ∷ []) (take (end - 1) (drop 1 bs)) in
+      let one : count_by (λ b. b == 10) (10 ∷ []) ≡ 1 = refl in
+      let same = ap (count_by (λ b. b == 10)) cut in
+      omega (arith, rest, all, one, same)
+    where
+      no_feeds : (n at : ℕ) → at + n ≤ length bs → PassBetween is_space_byte bs at (at + n) → count_by (λ b. b == 10) (take n (drop at bs)) ≡ 0
+      no_feeds zero at l p = refl
+      no_feeds (suc n) at l p =
+          let c = get_or bs at 0 in
+          let e : is_space_byte c ≡ true = p at (omega arith) (omega arith) in
+          let f : (c == 10) ≡ false = grind (arith, nat_tests) in
+          let rest = no_feeds n (at + 1) (omega arith) (λ k x y. p k (omega arith) (omega arith)) in
+          let all = feeds-append (c ∷ []) (take n (drop (at + 1) bs)) in
+          let one : count_by (λ b. b == 10) (c ∷ []) ≡ 0 = ap (λ b. 0 + cond b 1 0) f in
+          let same = ap (λ w. count_by (λ b. b == 10) (take (suc n) w)) (drop_more bs at 0 (omega arith)) in
+          omega (arith, rest, all, one, same)

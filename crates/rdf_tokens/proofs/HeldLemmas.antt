@@ -155,12 +155,12 @@ module _ (text : List ℕ) (start n len : ℕ) (pending : List ℕ) (place taken
           last = h.last;
         }
 
--- the line feeds in white space of one byte
-pub blank_feeds : (d : Dialect) (bs : List ℕ) → IsUtf8 bs → blank d false bs ≡ 1 →
-    count_by (λ c. c == 10) (take (blank d false (chars bs)) (chars bs)) ≡ count_by (λ b. b == 10) (take 1 bs)
-blank_feeds d bs u e =
-    let c = cut bs (blank d false (chars bs)) 1 u (sym e ∙ blank-bytes d false bs u) in
-    sym (feeds-chars (take 1 bs) c.front_utf8 ∙ ap (count_by (λ b. b == 10)) c.front)
+-- the line feeds in white space of so many bytes
+pub blank_feeds : {n : ℕ} (d : Dialect) (bs : List ℕ) → IsUtf8 bs → blank d false bs ≡ n →
+    count_by (λ c. c == 10) (take (blank d false (chars bs)) (chars bs)) ≡ count_by (λ b. b == 10) (take n bs)
+blank_feeds {n} d bs u e =
+    let c = cut bs (blank d false (chars bs)) n u (sym e ∙ blank-bytes d false bs u) in
+    sym (feeds-chars (take n bs) c.front_utf8 ∙ ap (count_by (λ b. b == 10)) c.front)
 
 -- the place after all of the text
 pub place_after : (text : List ℕ) (start : ℕ) (pending : List ℕ) (place taken : Place) → Held text start pending place taken → IsUtf8 text →

@@ -270,8 +270,8 @@ passes_bared v new may is =
       read = λ bytes ts s. subst (HasScanned new bytes) (append-nil ts) (read_on v new bytes ts [] q.running may.begins m s);
     }
 
--- One byte of it is passed, and no comment is open.
-pub one_passed : (v new : Unread) (rest : List ℕ) → MayPeek v → MovesBytes v 1 new → rest ≡ v.text → bytes_of (blank Turtle false rest) rest ≡ 1 →
+-- So many bytes of it are passed, and no comment is open.
+pub one_passed : {len : ℕ} (v new : Unread) (rest : List ℕ) → MayPeek v → MovesBytes v len new → rest ≡ v.text → bytes_of (blank Turtle false rest) rest ≡ len →
     comment_after Turtle false rest ≡ false → (new ≡ bared v) × (comment_after v.dialect v.comment v.text ≡ false)
 one_passed v new rest m h r l k =
     let q = plain_is v m.plain in

@@ -1,6 +1,7 @@
 -- White space and comments: whether a comment is open after them.
-use Rattle.std.specs.Prelude.{ℕ, Bool, true, false, cond, List, [], ◌∷◌, ◌==◌, ◌&&◌, nat_lt, length, get_or, Option, Some, None}
+use Rattle.std.specs.Prelude.{ℕ, Bool, true, false, cond, List, [], ◌∷◌, ◌==◌, ◌&&◌, nat_lt, not, is_some, length, get_or, Option, Some, None}
 use Rattle.rdf_terms.specs.declared.kind.Dialect.{Dialect}
+use Rattle.rdf_terms.specs.declared.kind.Dialect.TheVariants.{Turtle}
 use Rattle.rdf_terms.specs.Runs.{is_comment_byte}
 use Rattle.rdf_tokens.specs.Tokens.{is_line_end, is_space}
 
@@ -22,6 +23,10 @@ goes_on b c = b && is_comment_byte c
 -- a comment is open up to the end of the bytes
 abbrev pub is_cut : Bool → List ℕ → ℕ → Bool
 is_cut b bs end = b && end == length bs
+
+-- neither white space of Turtle nor the beginning of a comment stands at a place, but some other byte
+abbrev pub is_bare : List ℕ → ℕ → Bool
+is_bare bs at = nat_lt at (length bs) && not (is_some (comment_step Turtle false (get_or bs at 0)))
 
 -- '#' stands at a place
 abbrev pub is_hash : List ℕ → ℕ → Bool

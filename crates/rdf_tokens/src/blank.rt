@@ -1,12 +1,14 @@
 // White space and comments.
 
-ghost use Rattle.std.specs.Prelude.{◌≡◌, ◌==◌, ◌≤◌, true, false, cond, length, take, count_by};
+ghost use Rattle.std.specs.Prelude.{◌≡◌, ◌==◌, ◌<◌, ◌≤◌, true, false, cond, length, take, count_by};
 ghost use Rattle.std.specs.Str.{chars};
 ghost use Rattle.rdf_tokens.specs.Tokens.{blank, is_line_end as ends_line, is_space as spaces};
-ghost use Rattle.rdf_tokens.specs.Blank.{comment_step, comment_after, goes_on, is_cut, is_hash};
+ghost use Rattle.rdf_tokens.specs.Blank.{comment_step, comment_after, goes_on, is_bare, is_cut, is_hash};
 ghost use Rattle.rdf_terms.specs.Runs.{IsRun};
 ghost use Rattle.rdf_tokens.specs.Front.{bytes_of};
+ghost use Rattle.rdf_terms.specs.declared.kind.Dialect.TheVariants.{Turtle};
 
+use crate::quick::stands_at;
 use rdf_terms::Dialect;
 use rdf_terms::runs::{Run, run_end};
 
@@ -118,6 +120,37 @@ fn is_one_byte(white: u8, dialect: Dialect, bytes: &[u8]) -> bool
         [first, next, ..] => *first == white && comment_step(dialect, false, *next).is_none(),
         _ => false,
     }
+}
+
+/// How many bytes a line feed of Turtle has with the spaces and tabs after it, where they are all the white space that comes first, and no comment
+/// comes after them. Else it is none.
+pub(crate) fn indented_len(text: &str) -> usize
+    ensures len { 0 < result → bytes_of (blank Turtle false (chars text.now)) (chars text.now) ≡ result }
+    ensures comment { 0 < result → comment_after Turtle false (chars text.now) ≡ false }
+    ensures feeds { 0 < result → count_by (λ c. c == 10) (take (blank Turtle false (chars text.now)) (chars text.now)) ≡ 1 }
+{
+    indented_bytes(text.as_bytes())
+}
+
+#[inline(always)]
+fn indented_bytes(bytes: &[u8]) -> usize
+    ensures len { 0 < result → blank Turtle false bytes.now ≡ result }
+    ensures comment { 0 < result → comment_after Turtle false bytes.now ≡ false }
+    ensures feeds { 0 < result → count_by (λ b. b == 10) (take result bytes.now) ≡ 1 }
+{
+    if !stands_at(b'\n', bytes, 0) {
+        return 0;
+    }
+    let end = run_end(Run::Spaces, bytes, 1);
+    if is_bare(bytes, end) { end } else { 0 }
+}
+
+/// Whether at a place there is neither white space of Turtle nor the beginning of a comment, but some other byte.
+#[inline(always)]
+fn is_bare(bytes: &[u8], at: usize) -> bool
+    ensures { result ≡ is_bare bytes.now at }
+{
+    at < bytes.len() && comment_step(Dialect::Turtle, false, bytes[at]).is_none()
 }
 
 /// Whether a comment is open after a byte; None where the byte is neither white space nor in a comment.

@@ -14,11 +14,12 @@ ghost use Rattle.rdf_tokens.specs.Passing.{is_idle, passed};
 ghost use Rattle.rdf_tokens.specs.Front.{bytes_of};
 ghost use Rattle.rdf_tokens.specs.Peek.{IsPeeked, MayPeek, TakesSeen, is_plain};
 
-use crate::blank::{blank_run, is_one};
+use crate::blank::{blank_run, indented_len, is_one};
 use crate::front::{NoNames, Walk};
 use crate::good::{few_line_feeds, good_front, line_feeds, mark_len};
 use crate::look::{Look, Tail, first_look, look_at};
 use crate::peek::{Peeked, first_seen};
+use crate::quick::stands_at;
 use crate::token::{Fault, Token};
 use rdf_terms::{Dialect, Kind, Reason};
 use std::alloc::{AllocError, Allocator, Global};
@@ -213,16 +214,34 @@ impl<A: Allocator + Copy> Scanner<A> {
         self.give(peeked.kind, peeked.len, peeked.colon)
     }
 
-    /// Passes a line feed of Turtle that stands next, where `peek` can be asked and neither white space nor a comment comes after it. What the
-    /// next token is, and where it stands, stays as it is: it is only sooner looked for, and `peek` can be asked again. It takes no memory.
+    /// Passes a line feed of Turtle that stands next and the spaces and tabs after it, where `peek` can be asked and neither more white space nor a
+    /// comment comes after them. What the next token is, and where it stands, stays as it is: it is only sooner looked for, and `peek` can be asked
+    /// again. It takes no memory.
     #[inline(always)]
     pub fn pass_line_feed(&mut self)
         requires { MayPeek self.old }
         ensures passes { PassesBlank self.old self.new }
         ensures again { MayPeek self.new }
     {
+        if !stands_at(b'\n', self.rest().as_bytes(), 0) {
+            return;
+        }
         if is_one(b'\n', Dialect::Turtle, self.rest()) {
             self.move_on(1, 1);
+        } else {
+            self.pass_indentation();
+        }
+    }
+
+    // The same where a line feed stands next, with spaces or tabs.
+    fn pass_indentation(&mut self)
+        requires { MayPeek self.old }
+        ensures passes { PassesBlank self.old self.new }
+        ensures again { MayPeek self.new }
+    {
+        let len = indented_len(self.rest());
+        if len > 0 {
+            self.move_on(len, 1);
         }
     }
 

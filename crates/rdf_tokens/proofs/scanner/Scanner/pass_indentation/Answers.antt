@@ -1,0 +1,32 @@
+-- The line feed and what comes after it are the white space before the next token.
+use Rattle.std.proofs.Common.{◌≡◌, ◌==◌, ◌∙◌, sym, subst, ap, take, count_by, false}
+use Rattle.std.specs.Str.{chars}
+use Rattle.rdf_terms.specs.declared.kind.Dialect.TheVariants.{Turtle}
+use Rattle.rdf_tokens.specs.Front.{bytes_of}
+use Rattle.rdf_tokens.specs.Peek.{MayPeek}
+use Rattle.rdf_tokens.specs.Tokens.{blank}
+use Rattle.rdf_tokens.proofs.PeekLemmas.{may_bared, one_passed, passes_bared}
+use Rattle.rdf_tokens.proofs.scanner.Scanner.pass_indentation.Goals as goal
+
+pub returns-then-len-gt0-clause-passes : goal.returns-then-len-gt0-clause-passes
+returns-then-len-gt0-clause-passes g c =
+    let is = c.if-len-gt0.true in
+    let e = c.indented_len-len.ensures in
+    let one = one_passed c.args.self.now c.move_on.new.self (chars c.rest.result.now) c.requires c.move_on.ensures c.rest.ensures (e.len is) (e.comment is) in
+    passes_bared c.args.self.now c.move_on.new.self c.requires one.0
+
+pub returns-then-len-gt0-clause-again : goal.returns-then-len-gt0-clause-again
+returns-then-len-gt0-clause-again g c =
+    let is = c.if-len-gt0.true in
+    let e = c.indented_len-len.ensures in
+    let one = one_passed c.args.self.now c.move_on.new.self (chars c.rest.result.now) c.requires c.move_on.ensures c.rest.ensures (e.len is) (e.comment is) in
+    subst MayPeek (sym one.0) (may_bared c.args.self.now c.requires one.1)
+
+pub move_on-requires : goal.move_on-requires
+move_on-requires g c =
+    let w = chars c.rest.result.now in
+    let r = c.rest.ensures in
+    let n = blank Turtle false w in
+    let e = c.indented_len-len.ensures in
+    let is = c.if-len-gt0.true in
+    (n, sym (ap (bytes_of n) (sym r) ∙ e.len is), sym (ap (λ w. count_by (λ c. c == 10) (take n w)) (sym r) ∙ e.feeds is))
