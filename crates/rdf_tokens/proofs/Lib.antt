@@ -15,6 +15,8 @@ mod PlainQuick
 mod TagQuick
 mod WordQuick
 mod DotLemmas
+mod LongLemmas
+mod LongQuick
 pub mod NameLemmas
 pub mod NameSorts
 pub mod IriSorts

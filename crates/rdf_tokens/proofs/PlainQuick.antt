@@ -175,7 +175,7 @@ closed_string Lines Single = refl
 closed_string Turtle Double = refl
 closed_string Turtle Single = refl
 
-closed_empty : (d : Dialect) (q : Quote) → Text (text.Empty q) ≡ step d (Text (text.Opened q)) (quote_byte q)
+pub closed_empty : (d : Dialect) (q : Quote) → Text (text.Empty q) ≡ step d (Text (text.Opened q)) (quote_byte q)
 closed_empty Lines Double = refl
 closed_empty Lines Single = refl
 closed_empty Turtle Double = refl
@@ -226,7 +226,7 @@ module _ (d : Dialect) (q : Quote) (bs : List ℕ) (u : IsUtf8 bs) (o : opens_wi
       first-none d bs (Text (text.Opened q)) u some_string ascii_quote (opened d q (and_parts (has_quote d q) _ o).0 ∙ sym (ap (step d Start) is_quote)) refl
 
   -- no spelling stands there, and none is begun
-  no_spelling : (front_by (rows_of d fixed) bs ≡ None) × (live_by (rows_of d fixed) bs ≡ false)
+  pub no_spelling : (front_by (rows_of d fixed) bs ≡ None) × (live_by (rows_of d fixed) bs ≡ false)
   no_spelling = unspelled d (quote_byte q) bs (quote_spells q) some_string is_quote
 
   -- what stands between the quotes has a meaning

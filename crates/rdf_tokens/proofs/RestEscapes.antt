@@ -32,7 +32,7 @@ use Rattle.rdf_tokens.proofs.RestStates.{rests_short, rests_long}
 use Rattle.rdf_tokens.proofs.StateLemmas.{reached-step}
 
 -- over one byte of ASCII to a state without a token
-byte_on : (d : Dialect) (bs : List ℕ) (at : ℕ) (s t : State) (b : Option (ℕ × Kind)) → at < length bs → get_or bs at 0 < 128 → step d s (get_or bs at 0) ≡ t →
+pub byte_on : (d : Dialect) (bs : List ℕ) (at : ℕ) (s t : State) (b : Option (ℕ × Kind)) → at < length bs → get_or bs at 0 < 128 → step d s (get_or bs at 0) ≡ t →
     kind_at t ≡ None → Reached d bs at s b → Reached d bs (at + 1) t b
 byte_on d bs at s t b l a e n r =
     let c = get_or bs at 0 in
@@ -98,7 +98,7 @@ none_told : (d : Dialect) (bs : List ℕ) (s : State) (at : ℕ) (b : Option (�
 none_told d bs s at b n = ap (λ k. with_length at k b) (ap (only_long (three_quotes d (chars bs))) n ∙ no_long (three_quotes d (chars bs)))
 
 -- bytes that lead back to a state without a token
-rests_by : (s : State) (bs : List ℕ) (at end : ℕ) → kind_at s ≡ None → at ≤ end → end ≤ length bs →
+pub rests_by : (s : State) (bs : List ℕ) (at end : ℕ) → kind_at s ≡ None → at ≤ end → end ≤ length bs →
     ((d : Dialect) (b : Option (ℕ × Kind)) → Reached d bs at s b → Reached d bs end s b) → Rests s bs at end
 rests_by s bs at end n from within f = record {
   from = from;

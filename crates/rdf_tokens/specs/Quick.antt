@@ -12,6 +12,7 @@ use Rattle.rdf_terms.specs.Values.{is_fit}
 use Rattle.rdf_tokens.specs.declared.front.NoNames.{NoNames}
 use Rattle.rdf_tokens.specs.declared.states.machine.State.TheVariants as state
 use Rattle.rdf_tokens.specs.declared.states.name.Name.TheVariants as name
+use Rattle.rdf_tokens.specs.declared.states.text.Text.TheVariants as text
 use Rattle.rdf_tokens.specs.declared.states.text.Quote.{Quote}
 use Rattle.rdf_tokens.specs.declared.states.text.Quote.TheVariants.{Double, Single}
 use Rattle.rdf_tokens.specs.Tokens.{longest}
@@ -156,6 +157,22 @@ begins_string bs = nat_lt 1 (length bs) && is_ascii_text_byte (get_or bs 1 0)
 abbrev pub is_empty_string : Quote → List ℕ → Bool
 is_empty_string q bs =
     stands_at (quote_byte q) bs 1 && (nat_lt 2 (length bs) && (nat_lt (get_or bs 2 0) 128 && not (get_or bs 2 0 == quote_byte q)))
+
+-- three of this quote stand at a place
+abbrev pub stands_thrice : Quote → List ℕ → ℕ → Bool
+stands_thrice q bs at = stands_at (quote_byte q) bs at && (stands_at (quote_byte q) bs (at + 1) && stands_at (quote_byte q) bs (at + 2))
+
+-- a byte of ASCII that is neither this quote nor a backslash
+abbrev pub is_inner : Quote → ℕ → Bool
+is_inner q b = nat_lt b 128 && (not (b == quote_byte q) && not (b == 92))
+
+-- such a byte stands at a place
+abbrev pub stands_inner : Quote → List ℕ → ℕ → Bool
+stands_inner q bs at = nat_lt at (length bs) && is_inner q (get_or bs at 0)
+
+-- the bytes between two places lead back to the state within a string between three of this quote
+abbrev pub RestsInLong : Quote → List ℕ → ℕ → ℕ → Type 0
+RestsInLong q bs at end = Rests (state.Text (text.Long q)) bs at end
 
 -- '<' comes first
 abbrev pub begins_iri : List ℕ → Bool

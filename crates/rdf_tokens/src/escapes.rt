@@ -28,7 +28,7 @@ pub(crate) fn string_end(bytes: &[u8], from: usize) -> usize
 
 /// Where the escape at a place and the plain bytes after it end, if all of it is there and it is not bad.
 #[inline(always)]
-fn escape_end(bytes: &[u8], at: usize) -> Option<usize>
+pub(crate) fn escape_end(bytes: &[u8], at: usize) -> Option<usize>
     requires { at ≤ length bytes.now }
     ensures rests { IfSome result (λ end. RestsInString bytes.now at end) }
     ensures fits { IfSome result (λ end. FitsInString bytes.now at end) }

@@ -9,9 +9,11 @@ ghost use Rattle.rdf_tokens.specs.Quick.{is_sought, is_named, IsPrefix, is_colon
 ghost use Rattle.rdf_tokens.specs.Quick.{is_dot, begins_number, is_point, is_integer_end, is_decimal_end, ends_integer, ends_number};
 ghost use Rattle.rdf_tokens.specs.Quick.{begins_iri, quote_byte, opens_with, begins_string, is_empty_string, begins_label, begins_label_name};
 ghost use Rattle.rdf_tokens.specs.Quick.{begins_tag, begins_directive, is_part_byte, is_tag_end, is_later_end, are_carets, is_true, is_false};
-ghost use Rattle.rdf_tokens.specs.Quick.{RestsInLocal, is_over, is_last, ends_local};
+ghost use Rattle.rdf_tokens.specs.Escapes.{FitsInString};
+ghost use Rattle.rdf_tokens.specs.Quick.{RestsInLocal, is_over, is_last, ends_local, RestsInLong, is_inner, stands_inner, stands_thrice};
 ghost use Rattle.rdf_terms.specs.Runs.{IsRun, is_name_byte, is_ascii_text_byte};
 
+use crate::escapes::escape_end;
 use crate::front::{NoNames, begins_in_letter};
 use crate::states::text::Quote;
 use rdf_terms::runs::{Run, run_end, two_run_ends};
@@ -195,7 +197,89 @@ fn quick_string(dialect: Dialect, quote: Quote, text: &str) -> Quick
             kind: Some(Kind::ShortString),
         };
     }
+    if end == 1 && dialect == Dialect::Turtle {
+        return quick_long(quote, text);
+    }
     Quick { len: 0, kind: None }
+}
+
+/// A string of Turtle between three quotes, up to the next three.
+#[inline(never)]
+fn quick_long(quote: Quote, text: &str) -> Quick
+    requires { opens_with Turtle quote text.now ≡ true }
+    ensures { IsQuick Turtle text.now result.len result.kind }
+{
+    let bytes = text.as_bytes();
+    if stands_thrice(quote, bytes, 0) {
+        let end = long_end(quote, bytes, 3);
+        if stands_thrice(quote, bytes, end) {
+            return Quick {
+                len: end + 3,
+                kind: Some(Kind::LongString),
+            };
+        }
+    }
+    Quick { len: 0, kind: None }
+}
+
+/// Whether three of this quote stand at a place.
+#[inline(always)]
+fn stands_thrice(quote: Quote, bytes: &[u8], at: usize) -> bool
+    requires { at ≤ length bytes.now }
+    ensures { result ≡ stands_thrice quote bytes.now at }
+{
+    let byte = quote_byte(quote);
+    stands_at(byte, bytes, at) && stands_at(byte, bytes, at + 1) && stands_at(byte, bytes, at + 2)
+}
+
+/// The place after what stands inside such a string from a place on: plain bytes, line ends, the other quote, whole escapes, and quotes each of which
+/// has another byte of ASCII after it.
+#[inline(always)]
+fn long_end(quote: Quote, bytes: &[u8], from: usize) -> usize
+    requires { from ≤ length bytes.now }
+    ensures rests { RestsInLong quote bytes.now from result }
+    ensures fits { FitsInString bytes.now from result }
+{
+    let mut at = run_end(Run::Text, bytes, from);
+    while let Some(next) = inner_end(quote, bytes, at) {
+        at = run_end(Run::Text, bytes, next);
+    }
+    at
+}
+
+/// The end of what stands at a place inside such a string and is no run.
+#[inline(always)]
+fn inner_end(quote: Quote, bytes: &[u8], at: usize) -> Option<usize>
+    requires { at ≤ length bytes.now }
+    ensures rests { IfSome result (λ end. RestsInLong quote bytes.now at end) }
+    ensures fits { IfSome result (λ end. FitsInString bytes.now at end) }
+    ensures on { IfSome result (λ end. at < end) }
+{
+    if stands_inner(quote, bytes, at) {
+        return Some(at + 1);
+    }
+    if stands_at(quote_byte(quote), bytes, at) {
+        if stands_inner(quote, bytes, at + 1) {
+            return Some(at + 2);
+        }
+        return None;
+    }
+    escape_end(bytes, at)
+}
+
+/// Whether a byte of ASCII stands at a place that is neither this quote nor a backslash.
+#[inline(always)]
+fn stands_inner(quote: Quote, bytes: &[u8], at: usize) -> bool
+    ensures { result ≡ stands_inner quote bytes.now at }
+{
+    at < bytes.len() && is_inner(quote, bytes[at])
+}
+
+#[inline(always)]
+fn is_inner(quote: Quote, byte: u8) -> bool
+    ensures { result ≡ is_inner quote byte }
+{
+    byte < 128 && byte != quote_byte(quote) && byte != b'\\'
 }
 
 /// Whether `_:` comes first, and a letter, a digit or `_`.

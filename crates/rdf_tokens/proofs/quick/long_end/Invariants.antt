@@ -1,0 +1,14 @@
+use Rattle.std.proofs.Common.{◌-◌, ◌≤◌, length}
+use Rattle.rdf_tokens.specs.Escapes.{FitsInString}
+use Rattle.rdf_tokens.specs.Quick.{RestsInLong}
+use Rattle.rdf_tokens.proofs.quick.long_end.Given as goal
+
+abbrev pub invariant-loop-next : goal.invariant-loop-next
+invariant-loop-next l = record {
+  within : l.at ≤ length l.bytes;
+  rests : RestsInLong l.quote l.bytes l.from l.at;
+  fits : FitsInString l.bytes l.from l.at;
+}
+
+abbrev pub decreases-loop-next : goal.decreases-loop-next
+decreases-loop-next l = length l.bytes - l.at
