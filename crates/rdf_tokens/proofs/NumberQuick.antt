@@ -1,6 +1,6 @@
--- Numbers that begin with a digit: the states over their digits, and after the byte that ends them.
-use Rattle.std.proofs.Common.{◌≡◌, ℕ, zero, suc, ◌+◌, ◌-◌, ◌<◌, ◌≤◌, Bool, true, false, cond, nat_lt, List, [], ◌∷◌, ◌&&◌, ◌||◌, ◌==◌, not, refl, sym, ap, ◌∙◌, subst, length, get_or, arith, Option, Some, None, IsUtf8}
-use Rattle.std.proofs.lemmas.Bool.{agree_below_at, and_parts, false≢true, eqb-true, ltb-true}
+-- Numbers that begin with a digit, or with a sign and a digit: the states over their digits, and after the byte that ends them.
+use Rattle.std.proofs.Common.{◌≡◌, ℕ, zero, suc, ◌+◌, ◌-◌, ◌<◌, ◌≤◌, Bool, true, false, cond, nat_lt, List, [], ◌∷◌, ◌&&◌, ◌||◌, ◌==◌, not, refl, sym, ap, ◌∙◌, subst, length, get_or, inl, inr, ◌⊎◌, arith, Option, Some, None, IsUtf8}
+use Rattle.std.proofs.lemmas.Bool.{agree_below_at, and_parts, false≢true, eqb-true, ltb-true, or_left, or_right}
 use Rattle.std.proofs.lemmas.Bool.Decides.{nat_tests}
 use Rattle.std.proofs.lemmas.Str.{encode_ascii, length-encode}
 use Rattle.std.specs.Str.{chars}
@@ -18,7 +18,7 @@ use Rattle.rdf_tokens.specs.Tokens.{with_length, three_quotes, only_long}
 use Rattle.rdf_tokens.specs.Fixed.{Row, fits, left, is_begun, live_by, rows_of}
 use Rattle.rdf_tokens.specs.Front.{Reached, longer_front, begins, front_by}
 use Rattle.rdf_tokens.specs.Machine.{step, kind_at}
-use Rattle.rdf_tokens.specs.Quick.{IsToken, is_point, is_integer_end, is_decimal_end, ends_integer, ends_number}
+use Rattle.rdf_tokens.specs.Quick.{BeginsNumber, IsToken, is_sign, is_point, is_integer_end, is_decimal_end, ends_integer, ends_number}
 use Rattle.rdf_tokens.proofs.ByteLemmas.{at-start, ascii_first}
 use Rattle.rdf_tokens.proofs.NoNamesLemmas.{implied, one_on}
 use Rattle.rdf_tokens.proofs.QuickLemmas.{settled, not_true, other, at_ended, ended-state}
@@ -60,6 +60,16 @@ digits-state : (s : State) → at_digits s ≡ true → s ≡ Number number.Digi
 digits-state (Number number.Digits) e = refl
 digits-state s e = absurd (false≢true e)
 
+-- a state after a sign
+abbrev at_sign : State → Bool
+at_sign (Number number.Sign) = true
+at_sign s = false
+
+-- that state
+sign-state : (s : State) → at_sign s ≡ true → s ≡ Number number.Sign
+sign-state (Number number.Sign) e = refl
+sign-state s e = absurd (false≢true e)
+
 -- a state after digits after the dot
 abbrev at_fraction : State → Bool
 at_fraction (Number number.Fraction) = true
@@ -70,9 +80,9 @@ fraction-state : (s : State) → at_fraction s ≡ true → s ≡ Number number.
 fraction-state (Number number.Fraction) e = refl
 fraction-state s e = absurd (false≢true e)
 
--- each byte of ASCII: a digit begins no spelling
+-- each byte of ASCII: a digit begins no spelling, nor does a sign
 abbrev first_tests : ℕ → Bool
-first_tests c = not (is_digit c) || no_first c (rows_of Turtle fixed)
+first_tests c = not (is_sign c || is_digit c) || no_first c (rows_of Turtle fixed)
 
 -- it leads to the digits and stays there
 abbrev digits_tests : ℕ → Bool
@@ -101,6 +111,19 @@ digit_steps c e =
     (implied (is_digit c) _ (agree_below_at digits_tests (λ c. true) 128 c refl (low-digit c e)) e) in
     (digits-state (step Turtle Start c) p.0, digits-state (step Turtle (Number number.Digits) c) p.1)
 
+-- each byte of ASCII: a sign leads to where a digit leads on
+abbrev sign_tests : ℕ → Bool
+sign_tests c = not (is_sign c) || at_sign (step Turtle Start c)
+
+abbrev signed_tests : ℕ → Bool
+signed_tests c = not (is_digit c) || at_digits (step Turtle (Number number.Sign) c)
+
+sign_step : (c : ℕ) → is_sign c ≡ true → step Turtle Start c ≡ Number number.Sign
+sign_step c e = let low : c < 128 = grind (arith, nat_tests) in sign-state _ (implied (is_sign c) _ (agree_below_at sign_tests (λ c. true) 128 c refl low) e)
+
+sign_digit : (c : ℕ) → is_digit c ≡ true → step Turtle (Number number.Sign) c ≡ Number number.Digits
+sign_digit c e = digits-state _ (implied (is_digit c) _ (agree_below_at signed_tests (λ c. true) 128 c refl (low-digit c e)) e)
+
 -- and those after the dot
 fraction_steps : (c : ℕ) → is_digit c ≡ true → (step Turtle (Number number.DigitsDot) c ≡ Number number.Fraction) × (step Turtle (Number number.Fraction) c ≡ Number number.Fraction)
 fraction_steps c e =
@@ -108,8 +131,8 @@ fraction_steps c e =
     (implied (is_digit c) _ (agree_below_at fraction_tests (λ c. true) 128 c refl (low-digit c e)) e) in
     (fraction-state (step Turtle (Number number.DigitsDot) c) p.0, fraction-state (step Turtle (Number number.Fraction) c) p.1)
 
--- three quotes do not begin with a digit
-no_digit_quotes : (c : ℕ) (w : List ℕ) → is_digit c ≡ true → three_quotes Turtle (c ∷ w) ≡ false
+-- three quotes do not begin with a digit, nor with a sign
+no_digit_quotes : (c : ℕ) (w : List ℕ) → (is_sign c || is_digit c) ≡ true → three_quotes Turtle (c ∷ w) ≡ false
 no_digit_quotes c [] e = refl
 no_digit_quotes c (a ∷ []) e = refl
 no_digit_quotes c (a ∷ b ∷ w) e =
@@ -122,13 +145,30 @@ number-fit : (w : List ℕ) → (is_fit Integer w ≡ true) × (is_fit Decimal w
 unfolding is_fit
 number-fit w = (refl, refl)
 
--- A text that begins with a digit, and its run of digits.
-module _ (bs : List ℕ) (end : ℕ) (u : IsUtf8 bs) (l : 0 < length bs) (e : is_digit (get_or bs 0 0) ≡ true) (r : IsRun is_digit bs 1 end) where
+-- what a number begins with
+abbrev begins_number : ℕ → Bool
+begins_number c = is_sign c || is_digit c
+
+low-first : (c : ℕ) → begins_number c ≡ true → c < 128
+low-first c e = grind (arith, nat_tests)
+
+-- A text that begins with a digit, or with a sign and a digit, and its run of digits.
+module _ (bs : List ℕ) (start end : ℕ) (u : IsUtf8 bs) (n : BeginsNumber bs start) (r : IsRun is_digit bs (start + 1) end) where
+  l : 0 < length bs
+  l = let i = n.inside in omega arith
+
+  first : begins_number (get_or bs 0 0) ≡ true
+  first = by n.sign
+    where
+      by : (start ≡ 0) ⊎ ((start ≡ 1) × (is_sign (get_or bs 0 0) ≡ true)) → begins_number (get_or bs 0 0) ≡ true
+      by (inl z) = or_right (is_sign (get_or bs 0 0)) _ (subst (λ k. is_digit (get_or bs k 0) ≡ true) z n.digit)
+      by (inr p) = or_left (is_sign (get_or bs 0 0)) _ p.1
+
   -- such a text does not begin with three quotes
   quotes : three_quotes Turtle (chars bs) ≡ false
   quotes =
       let c = get_or bs 0 0 in
-      ap (three_quotes Turtle) (one_on bs 0 (at-start bs u) l (low-digit c e)).0 ∙ no_digit_quotes c _ e
+      ap (three_quotes Turtle) (one_on bs 0 (at-start bs u) l (low-first c first)).0 ∙ no_digit_quotes c _ first
 
   -- one byte of ASCII on
   byte_on : (at : ℕ) (s t : State) (k : Option Kind) (b : Option (ℕ × Kind)) → at < length bs → get_or bs at 0 < 128 → Reached Turtle bs at s b →
@@ -161,17 +201,32 @@ module _ (bs : List ℕ) (end : ℕ) (u : IsUtf8 bs) (l : 0 < length bs) (e : is
   -- the states after the digits in front
   whole : Reached Turtle bs end (Number number.Digits) (Some (end, Integer))
   whole =
-      let c = get_or bs 0 0 in
-      let a : c < 128 = low-digit c e in
-      let k : only_long (three_quotes Turtle (chars bs)) (Some Integer) ≡ Some Integer = ap (λ x. only_long x (Some Integer)) quotes in
-      let first : Reached Turtle bs 1 (Number number.Digits) (Some (1, Integer)) = subst (λ k. Reached Turtle bs 1 (Number number.Digits) (with_length 1 k None)) k
-      (reached-first Turtle bs 1 c (Number number.Digits) u (ascii_first bs 0 l a) (omega (arith, ap length (encode_ascii c a), length-encode c)) (omega arith) (sym (digit_steps c e).0)) in
-      digits_to (Number number.Digits) Integer 1 end refl (λ c d. (digit_steps c d).1) r first
+      digits_to (Number number.Digits) Integer (start + 1) end refl (λ c d. (digit_steps c d).1) r (by n.sign)
+    where
+      one : (k : Option Kind) (s : State) → s ≡ step Turtle Start (get_or bs 0 0) → k ≡ kind_at s → Reached Turtle bs 1 s (with_length 1 k None)
+      one k s es ek =
+          let c = get_or bs 0 0 in
+          let a : c < 128 = low-first c first in
+          let same : only_long (three_quotes Turtle (chars bs)) (kind_at s) ≡ k = ap (λ x. only_long x (kind_at s)) quotes ∙ sym ek in
+          subst (λ k. Reached Turtle bs 1 s (with_length 1 k None)) same
+          (reached-first Turtle bs 1 c s u (ascii_first bs 0 l a) (omega (arith, ap length (encode_ascii c a), length-encode c)) (omega arith) es)
+
+      by : (start ≡ 0) ⊎ ((start ≡ 1) × (is_sign (get_or bs 0 0) ≡ true)) → Reached Turtle bs (start + 1) (Number number.Digits) (Some (start + 1, Integer))
+      by (inl z) =
+          let d : is_digit (get_or bs 0 0) ≡ true = subst (λ k. is_digit (get_or bs k 0) ≡ true) z n.digit in
+          subst (λ k. Reached Turtle bs (k + 1) (Number number.Digits) (Some (k + 1, Integer))) (sym z)
+          (one (Some Integer) (Number number.Digits) (sym (digit_steps (get_or bs 0 0) d).0) refl)
+      by (inr p) =
+          let i = n.inside in
+          let d : is_digit (get_or bs 1 0) ≡ true = subst (λ k. is_digit (get_or bs k 0) ≡ true) p.0 n.digit in
+          subst (λ k. Reached Turtle bs (k + 1) (Number number.Digits) (Some (k + 1, Integer))) (sym p.0)
+          (byte_on 1 (Number number.Sign) (Number number.Digits) (Some Integer) None (let z = p.0 in omega arith) (low-digit (get_or bs 1 0) d)
+          (one None (Number number.Sign) (sym (sign_step (get_or bs 0 0) p.1)) refl) (sym (sign_digit (get_or bs 1 0) d)) refl)
 
   -- no spelling begins so
-  unspelled : (v : List ℕ) → 0 < length v → is_digit (get_or v 0 0) ≡ true → (front_by (rows_of Turtle fixed) v ≡ None) × (live_by (rows_of Turtle fixed) v ≡ false)
+  unspelled : (v : List ℕ) → 0 < length v → begins_number (get_or v 0 0) ≡ true → (front_by (rows_of Turtle fixed) v ≡ None) × (live_by (rows_of Turtle fixed) v ≡ false)
   unspelled [] l e = absurd (omega arith)
-  unspelled (c ∷ t) l e = first_rows (rows_of Turtle fixed) c t (implied (is_digit c) _ (agree_below_at first_tests (λ c. true) 128 c refl (low-digit c e)) e)
+  unspelled (c ∷ t) l e = first_rows (rows_of Turtle fixed) c t (implied (begins_number c) _ (agree_below_at first_tests (λ c. true) 128 c refl (low-first c e)) e)
 
   -- the token ends before a byte after which the states have ended
   ended_at : (s : State) (k : Kind) (to : ℕ) → Reached Turtle bs to s (Some (to, k)) → to < length bs → get_or bs to 0 < 128 → at_ended (step Turtle s (get_or bs to 0)) ≡ true →
@@ -179,7 +234,7 @@ module _ (bs : List ℕ) (end : ℕ) (u : IsUtf8 bs) (l : 0 < length bs) (e : is
   ended_at s k to h i a x t =
       let s' = step Turtle s (get_or bs to 0) in
       let d = ended-state s' x in
-      let z = unspelled bs l e in
+      let z = unspelled bs l first in
       settled Turtle bs (to + 1) s' (Some (to, k)) None to k u (byte_on to s s' None (Some (to, k)) i a h refl (sym d.0)) d.1 (sym z.0) z.1 refl (t _)
 
   -- an integer

@@ -1,5 +1,5 @@
 -- Tokens that the first bytes of a text settle.
-use Rattle.std.specs.Prelude.{◌≡◌, ◌+◌, ℕ, Bool, true, false, cond, not, ◌&&◌, ◌||◌, ◌==◌, nat_lt, List, [], ◌∷◌, length, get_or, take, Option, None, Some, ◌⊎◌}
+use Rattle.std.specs.Prelude.{◌≡◌, ◌+◌, ◌<◌, ℕ, Bool, true, false, cond, not, ◌&&◌, ◌||◌, ◌==◌, nat_lt, List, [], ◌∷◌, length, get_or, take, Option, None, Some, ◌⊎◌}
 use Rattle.std.specs.Str.{chars}
 use Rattle.rdf_terms.specs.declared.kind.Dialect.{Dialect}
 use Rattle.rdf_terms.specs.declared.kind.Dialect.TheVariants.{Lines, Turtle}
@@ -106,6 +106,20 @@ is_dot d bs = is_turtle d && (nat_lt 1 (length bs) && ((get_or bs 0 0 == 46) && 
 -- a digit of Turtle comes first
 abbrev pub begins_number : Dialect → List ℕ → Bool
 begins_number d bs = is_turtle d && is_digit (get_or bs 0 0)
+
+-- '+' or '-'
+abbrev pub is_sign : ℕ → Bool
+is_sign b = b == 43 || b == 45
+
+-- a sign of Turtle comes first, and a digit second
+abbrev pub begins_signed : Dialect → List ℕ → Bool
+begins_signed d bs = is_turtle d && (nat_lt 1 (length bs) && (is_sign (get_or bs 0 0) && is_digit (get_or bs 1 0)))
+
+-- digits begin at a place, with a sign before them or nothing
+pub record BeginsNumber (bs : List ℕ) (from : ℕ) : Type 0 where
+  pub inside : from < length bs
+  pub digit : is_digit (get_or bs from 0) ≡ true
+  pub sign : (from ≡ 0) ⊎ ((from ≡ 1) × (is_sign (get_or bs 0 0) ≡ true))
 
 -- '.' stands at a place
 abbrev pub is_point : List ℕ → ℕ → Bool

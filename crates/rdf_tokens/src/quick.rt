@@ -6,6 +6,7 @@ ghost use Rattle.rdf_terms.specs.declared.kind.Dialect.{Dialect};
 ghost use Rattle.rdf_terms.specs.declared.kind.Dialect.TheVariants.{Turtle};
 ghost use Rattle.rdf_tokens.specs.Quick.{IsQuick, single, stands_at};
 ghost use Rattle.rdf_tokens.specs.Quick.{is_sought, is_named, IsPrefix, is_colon, ends_name, is_name_end, is_a};
+ghost use Rattle.rdf_tokens.specs.Quick.{BeginsNumber, begins_signed};
 ghost use Rattle.rdf_tokens.specs.Quick.{is_dot, begins_number, is_point, is_integer_end, is_decimal_end, ends_integer, ends_number};
 ghost use Rattle.rdf_tokens.specs.Quick.{begins_iri, quote_byte, opens_with, begins_string, is_empty_string, begins_label, begins_label_name};
 ghost use Rattle.rdf_tokens.specs.Quick.{begins_tag, begins_directive, is_part_byte, is_tag_end, is_later_end, are_carets, is_true, is_false};
@@ -54,6 +55,9 @@ pub(crate) fn quick_front(dialect: Dialect, text: &str, no_names: &Option<NoName
     }
     if begins_number(dialect, bytes) {
         return quick_number(text);
+    }
+    if begins_signed(dialect, bytes) {
+        return quick_signed(text);
     }
     if opens_with(dialect, Quote::Single, bytes) {
         return quick_string(dialect, Quote::Single, text);
@@ -634,8 +638,26 @@ pub(crate) fn quick_number(text: &str) -> Quick
     requires digit { is_digit (get_or text.now 0 0) ≡ true }
     ensures { IsQuick Turtle text.now result.len result.kind }
 {
+    number_from(text, 0)
+}
+
+/// The same after a sign.
+#[inline(never)]
+fn quick_signed(text: &str) -> Quick
+    requires { begins_signed Turtle text.now ≡ true }
+    ensures { IsQuick Turtle text.now result.len result.kind }
+{
+    number_from(text, 1)
+}
+
+/// An integer or a decimal whose digits begin at a place, up to a byte of ASCII with which no number goes on.
+#[inline(always)]
+fn number_from(text: &str, from: usize) -> Quick
+    requires { BeginsNumber text.now from }
+    ensures { IsQuick Turtle text.now result.len result.kind }
+{
     let bytes = text.as_bytes();
-    let end = digits_end(bytes, 1);
+    let end = digits_end(bytes, from + 1);
     if is_integer_end(bytes, end) {
         return Quick {
             len: end,
@@ -652,6 +674,14 @@ pub(crate) fn quick_number(text: &str) -> Quick
         }
     }
     Quick { len: 0, kind: None }
+}
+
+/// Whether the text of Turtle begins with a sign and a digit.
+#[inline(always)]
+fn begins_signed(dialect: Dialect, bytes: &[u8]) -> bool
+    ensures { result ≡ begins_signed dialect bytes.now }
+{
+    dialect == Dialect::Turtle && matches!(bytes, [b'+' | b'-', b'0'..=b'9', ..])
 }
 
 /// Where the run of digits from a place on ends.

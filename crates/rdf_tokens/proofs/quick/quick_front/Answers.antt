@@ -1,9 +1,10 @@
 -- The first byte tells the token, or a name is sought.
 use Rattle.std.proofs.Common.{◌≡◌, ◌<◌, ◌∙◌, true, sym, ap, subst, length, get_or, IsUtf8}
+use Rattle.rdf_terms.specs.declared.kind.Dialect.TheVariants.{Turtle}
 use Rattle.rdf_terms.specs.declared.kind.Kind.TheVariants.{Dot}
 use Rattle.rdf_terms.specs.Classes.{is_digit, is_letter}
-use Rattle.rdf_tokens.specs.Quick.{IsQuick, IsToken, single, is_colon}
-use Rattle.rdf_tokens.proofs.QuickLemmas.{named, numbered, quick_dot, quick_kind, some-bytes, sought}
+use Rattle.rdf_tokens.specs.Quick.{IsQuick, IsToken, begins_signed, single, is_colon}
+use Rattle.rdf_tokens.proofs.QuickLemmas.{named, numbered, quick_dot, quick_kind, signed, some-bytes, sought}
 use Rattle.rdf_tokens.proofs.quick.quick_front.Goals as goal
 
 pub returns-then-is_some : goal.returns-then-is_some
@@ -57,6 +58,17 @@ returns-then-begins_number c =
     let q = c.quick_number.result in
     subst (λ d. IsQuick d c.args.text.now q.len q.kind) (sym (numbered c.args.dialect c.as_bytes-bytes.result.now (sym c.begins_number.ensures ∙ c.if-begins_number.true)).0)
     c.quick_number.ensures
+
+pub quick_signed-requires : goal.quick_signed-requires
+quick_signed-requires c =
+    subst (λ b. begins_signed Turtle b ≡ true) c.as_bytes-bytes.ensures.value
+    (signed c.args.dialect c.as_bytes-bytes.result.now (sym c.begins_signed.ensures ∙ c.if-begins_signed.true)).1
+
+pub returns-then-begins_signed : goal.returns-then-begins_signed
+returns-then-begins_signed c =
+    let q = c.quick_signed.result in
+    subst (λ d. IsQuick d c.args.text.now q.len q.kind) (sym (signed c.args.dialect c.as_bytes-bytes.result.now (sym c.begins_signed.ensures ∙ c.if-begins_signed.true)).0)
+    c.quick_signed.ensures
 
 pub returns : goal.returns
 returns c = c.quick_plain.ensures c.args.dialect

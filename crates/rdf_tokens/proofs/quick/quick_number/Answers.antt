@@ -1,28 +1,6 @@
--- The parts of a number, by its runs of digits and the bytes between them.
-use Rattle.std.proofs.Common.{◌≡◌, ◌<◌, ◌∙◌, true, sym, subst, length, get_or, IsUtf8}
-use Rattle.rdf_terms.specs.declared.kind.Dialect.TheVariants.{Turtle}
-use Rattle.rdf_terms.specs.declared.kind.Kind.TheVariants.{Integer, Decimal}
-use Rattle.rdf_terms.specs.Classes.{is_digit}
-use Rattle.rdf_tokens.specs.Quick.{IsToken}
-use Rattle.rdf_tokens.proofs.NumberQuick.{quick_integer, quick_decimal}
+-- The digits begin at the first byte.
+use Rattle.std.proofs.Common.{inl, refl}
 use Rattle.rdf_tokens.proofs.quick.quick_number.Goals as goal
 
-pub returns-then-is_integer_end : goal.returns-then-is_integer_end
-returns-then-is_integer_end c =
-    let bs = c.as_bytes-bytes.result.now in
-    let v = c.as_bytes-bytes.ensures.value in
-    let end = c.digits_end-end.result in
-    subst (λ b. IsToken Turtle b end Integer) v
-    (quick_integer bs end (subst IsUtf8 (sym v) c.utf8.text) (subst (λ b. 0 < length b) (sym v) c.requires.some)
-    (subst (λ b. is_digit (get_or b 0 0) ≡ true) (sym v) c.requires.digit) c.digits_end-end.ensures (sym c.is_integer_end.ensures ∙ c.if-is_integer_end.true))
-
-pub returns-then-is_decimal_end : goal.returns-then-is_decimal_end
-returns-then-is_decimal_end c =
-    let bs = c.as_bytes-bytes.result.now in
-    let v = c.as_bytes-bytes.ensures.value in
-    let end = c.digits_end-end.result in
-    let last = c.digits_end-last.result in
-    subst (λ b. IsToken Turtle b last Decimal) v
-    (quick_decimal bs end (subst IsUtf8 (sym v) c.utf8.text) (subst (λ b. 0 < length b) (sym v) c.requires.some)
-    (subst (λ b. is_digit (get_or b 0 0) ≡ true) (sym v) c.requires.digit) c.digits_end-end.ensures last (sym c.is_point.ensures ∙ c.if-is_point.true) c.digits_end-last.ensures
-    (sym c.is_decimal_end.ensures ∙ c.if-is_decimal_end.true))
+pub number_from-requires : goal.number_from-requires
+number_from-requires c = record { inside = c.requires.some; digit = c.requires.digit; sign = inl refl }
