@@ -55,7 +55,7 @@ def comparisons(seed, is_quick):
     yield 'references against a base', lambda it: references.compare_resolved(it, seed, size(3, 4), size(50, 1000))
     yield 'values of escapes in strings, IRIs and local parts', lambda it: values.compare_values(it, seed, size(5000, 50000))
     yield 'IRIs that documents mean without spelling them', values.compare_known
-    yield 'characters: their numeric escapes', lambda it: values.compare_numeric_escapes(it, size(997, 17))
+    yield 'characters as they are written', lambda it: values.compare_written_characters(it, size(997, 17))
     yield 'names of nodes, all different', values.compare_names
     yield 'words that are replaced to be fast', lambda it: scanning.compare_words(it, seed, size(100, 1500))
     yield 'texts: their tokens, whole or cut, broken, limited', lambda it: scanning.compare_tokens(it, seed, size(2, 3), size(2000, 20000))
@@ -87,7 +87,7 @@ FOR_MUTANTS = {
     'dots': lambda it: references.compare_dots(it, 6),
     'resolved': lambda it: references.compare_resolved(it, 1, 2, 0),
     'values': lambda it: values.compare_values(it, 1, 2000),
-    'numeric': lambda it: values.compare_numeric_escapes(it, 4999),
+    'written': lambda it: values.compare_written_characters(it, 4999),
     'words': lambda it: scanning.compare_words(it, 1, 20),
     'tokens': lambda it: scanning.compare_tokens(it, 1, 1, 500),
     'documents': lambda it: readings.compare_documents(it, 1, 'trig', 200),

@@ -63,7 +63,8 @@ MUTANTS = [
     Mutant('two nodes have one name', WRITING, 'Label (97 ∷ decimal n)', 'Label (99 ∷ decimal n)', 'names'),
     Mutant('a word behind the name', PREFIXES, 'Label (p ++ x)', 'Label (x ++ p)', 'names'),
     Mutant('CR is written as it is', WRITING, '(cond (c == 13) (92 ∷ 114 ∷ []) (written e c))', '(written e c)', 'back'),
-    Mutant('three hex digits after \\u', WRITING, '(92 ∷ 117 ∷ hex_digits (0x1000 ∷ 0x100', '(92 ∷ 117 ∷ hex_digits (0x100', 'numeric'),
+    Mutant('three hex digits after \\u', WRITING, '(92 ∷ 117 ∷ hex_digits (0x1000 ∷ 0x100', '(92 ∷ 117 ∷ hex_digits (0x100', 'written'),
+    Mutant('U+0080 in ASCII', WRITING, 'nat_le c 0x7F', 'nat_le c 0x80', 'written'),
     Mutant('every type is written', WRITING, 'type_text e true i = []', 'type_text e true i = 94 ∷ 94 ∷ iri_text e i', 'documents'),
     # tokens
     Mutant('empty strings before a quote', TOKENS, '(longest d (c ∷ w) (length (c ∷ w)))', '(longest d (c ∷ w) 2)', 'tokens'),

@@ -66,10 +66,8 @@ class Shapes:
         found = {0, ebnf.LAST + 1}
         for module in ('Classes', 'Terminals'):
             for definition in self.specs.module('rdf_terms', module).definitions.values():
-                if module == 'Terminals' and definition.name in ('Shape', 'Live') or not is_computed(definition):
-                    continue
-                for number in numbers_in([body for _, body in definition.clauses]):
-                    found.update([number, number + 1, number + 32, number + 33])
+                for number in numbers_in([body for _, body in definition.clauses] if is_computed(definition) else []):
+                    found.update([number, number + 1, number + 32, number + 33])    # 32 from a capital to its small letter
         for grammar in ebnf.TERMINALS:
             for kind in KINDS:
                 for ranges in ebnf.letters_in(due(grammar, kind)):

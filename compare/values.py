@@ -97,14 +97,29 @@ def form(style, escapes='Plain', prefix=''):
     return Record({'style': Con(style), 'escapes': Con(escapes), 'prefix': text_of(prefix)})
 
 
-def compare_numeric_escapes(specs, step):
-    """`uchar` of each so many-th character: `\\u` with four digits, `\\U` with eight above U+FFFF; and that it is read as the character."""
-    uchar, read = specs.function('rdf_lines', 'Writing', 'uchar'), specs.function('rdf_terms', 'Values', 'string_value')
-    for c in sorted({*range(0x80, 0x110000, step), 0x80, 0xFF, 0x7FF, 0x800, 0xD7FF, 0xE000, 0xFFFF, 0x10000, 0xFFFFF, 0x100000, 0x10FFFF}):
-        if not 0xD800 <= c <= 0xDFFF:
-            found = uchar(c)
-            is_right = string_of(found) == ('\\u%04X' if c <= 0xFFFF else '\\U%08X') % c and value_in(read(found)) == (c,)
-            yield None if is_right else 'the escape of U+%04X: %s' % (c, string_of(found))
+def numeric_escape(c):
+    return ('\\u%04X' if c <= 0xFFFF else '\\U%08X') % c
+
+
+def compare_written_characters(specs, step):
+    """Characters as they are written: in ASCII by a numeric escape above U+007F, and in a string four of them by a letter.
+
+    The first characters, and each so many-th after them; what is written is read as the character.
+    """
+    written, escaped, uchar = (specs.function('rdf_lines', 'Writing', it) for it in ('written', 'escaped', 'uchar'))
+    read = specs.function('rdf_terms', 'Values', 'string_value')
+    letters = {'"': '\\"', '\\': '\\\\', '\n': '\\n', '\r': '\\r'}
+    borders = [0xD7FF, 0xE000, 0xFFFF, 0x10000, 0xFFFFF, 0x100000, 0x10FFFF]
+    for c in sorted({*range(0x300), *range(0x300, 0x110000, step), *borders}):
+        if 0xD800 <= c <= 0xDFFF:
+            continue
+        for escapes in ('Plain', 'Ascii'):
+            in_iri = chr(c) if escapes == 'Plain' or c <= 0x7F else numeric_escape(c)
+            in_string = letters.get(chr(c), in_iri)
+            found = written(Con(escapes), c), escaped(Con(escapes), c)
+            is_right = found == (text_of(in_iri), text_of(in_string)) and value_in(read(found[1])) == (c,)
+            yield None if is_right else 'U+%04X as it is written, %s: %s' % (c, escapes, found)
+        yield None if string_of(uchar(c)) == numeric_escape(c) and value_in(read(uchar(c))) == (c,) else 'the escape of U+%04X' % c
 
 
 def compare_names(specs):
