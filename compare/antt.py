@@ -159,7 +159,7 @@ class Translation:
                     self.match(pattern, 'a%d' % at, tests, names)
                     at += 1
             lines.append(' if %s:' % (' and '.join(tests) or 'True'))
-            lines += ['  v_%s = %s' % (name, path) for name, path in names.items()]
+            lines += ['  %s = %s' % (local(name), path) for name, path in names.items()]
             lines.append('  return ' + self.python(body, frozenset(names)))
         lines.append(' raise NoClause(%r)' % self.definition.name)
         return '\n'.join(lines)
@@ -205,7 +205,7 @@ class Translation:
         return '()'
 
     def python_lambda(self, scope, name, body):
-        return '(lambda v_%s: %s)' % (name, self.python(body, scope | {name}))
+        return '(lambda %s: %s)' % (local(name), self.python(body, scope | {name}))
 
     def python_if(self, scope, test, one, other):
         return '(%s if %s else %s)' % (self.python(one, scope), self.python(test, scope), self.python(other, scope))
@@ -240,7 +240,7 @@ class Translation:
 
     def applied(self, scope, function, arguments):
         if function[0] == 'name' and function[1] in scope:
-            return 'v_%s%s' % (function[1], called(arguments))
+            return local(function[1]) + called(arguments)
         if function[0] == 'name':
             return self.meaning(self.module.lookup(function[1]), arguments)
         if function[0] == 'field' and function[1][0] == 'name' and function[1][1] not in scope and function[1][1] in self.module.aliases:
@@ -262,6 +262,11 @@ class Translation:
         if len(arguments) < count:
             return 'curried(%d, %s)%s' % (count, name, called(arguments))
         return '%s(%s)%s' % (name, ', '.join(arguments[:count]), called(arguments[count:]))
+
+
+def local(name):
+    """The Python name of a variable."""
+    return 'v_' + name.replace("'", '_q')
 
 
 def called(arguments):

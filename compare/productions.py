@@ -162,6 +162,8 @@ def compare_languages(one, other, helpers, what):
 
 def compare_trees(specs):
     """Each definition of rdf_trig's Trees with its production, in Turtle and in TriG."""
+    maybe = specs.definition('rdf_trig', 'Trees', 'maybe_tokens').texts
+    yield None if maybe == [('tokens None', '[]'), ('tokens (Some x)', 'tokens x')] else 'maybe_tokens is not as it is read here: %s' % maybe
     for grammar in FORMS:
         trees = TreeGrammar(specs, 'rdf_trig', 'Trees', grammar)
         helpers = {it: trees.expression(it, lambda name: False) for it in TAIL_HELPERS}

@@ -152,7 +152,7 @@ def made_documents(seed, form, many, longest=700):
 
 
 def compare_viable(specs, seed, many):
-    """The first token with which no tree begins: lists of kinds, most of them extended while that can be, are given a tree up to there."""
+    """The first token with which no tree begins: those before it have a tree, after a completion, and with it none is found."""
     definitions = Definitions(specs)
     chosen = random.Random('viable %s' % seed)
     for form in FORMATS.values():
@@ -176,7 +176,7 @@ def compare_viable(specs, seed, many):
 
 
 def viable_difference(definitions, form, kinds):
-    """That no tree begins with kinds of which the recogniser refuses the last: with none of some completions is there a tree."""
+    """A tree that begins with kinds of which the recogniser refuses the last, or None: some completions are tried."""
     chart = Chart(recogniser(form.grammar))
     for it in kinds[:-1]:
         chart.take(it)
