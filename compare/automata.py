@@ -98,13 +98,13 @@ class Automaton:
         return [it in found for it in range(len(self.rows))]
 
 
-def first_in(one, other, is_wanted):
-    """The letters of a shortest word after which both automata are in states that are wanted, or None."""
+def first_states(one, other, is_wanted):
+    """The states of both automata, and the letters of a shortest word that leads to them, where they are first as wanted; or None."""
     came, waiting = {(0, 0): None}, deque([(0, 0)])
     while waiting:
         states = waiting.popleft()
         if is_wanted(one.accepts[states[0]], other.accepts[states[1]]):
-            return way_to(came, states)
+            return states, way_to(came, states)
         for letter, after in enumerate(zip(one.rows[states[0]], other.rows[states[1]])):
             if after not in came:
                 came[after] = states, letter
@@ -121,10 +121,20 @@ def way_to(came, states):
 
 
 def difference(one, other):
-    """The letters of a shortest word that one of the two accepts and the other does not, or None where their languages are equal."""
-    return first_in(one, other, lambda a, b: a != b)
+    """The letters of a shortest word that one of the two accepts and the other does not, and whether it is the first that accepts it.
+
+    None where their languages are equal.
+    """
+    found = first_states(one, other, lambda a, b: a != b)
+    return found and (found[1], one.accepts[found[0][0]])
 
 
 def common_word(one, other):
     """The letters of a shortest word that both accept, or None."""
-    return first_in(one, other, lambda a, b: a and b)
+    found = first_states(one, other, lambda a, b: a and b)
+    return found and found[1]
+
+
+def told(found, what, text):
+    """None where nothing differs, or what differs, and who alone has which text."""
+    return None if found is None else '%s: %s alone has %s' % (what, 'the definition' if found[1] else 'the grammar', text(found[0]))

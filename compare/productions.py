@@ -2,7 +2,7 @@
 import functools
 
 import ebnf
-from automata import Automaton, difference
+from automata import Automaton, difference, told
 from kit import Con, NONE as NO_VALUE, Record, some
 from shapes import TERMINALS, TEXTS
 
@@ -156,8 +156,8 @@ def compare_languages(one, other, helpers, what):
     """None where the two expressions have the same language, or where they differ."""
     letters = sorted(set().union(*map(ebnf.letters_in, [one, other, *helpers.values()])) - set(helpers))
     mask = functools.cache(lambda label: 1 << letters.index(label))
-    word = difference(Automaton(one, len(letters), mask, helpers), Automaton(other, len(letters), mask))
-    return None if word is None else '%s: only one has %s' % (what, ' '.join(letters[it] for it in word) or 'the empty text')
+    found = difference(Automaton(one, len(letters), mask, helpers), Automaton(other, len(letters), mask))
+    return told(found, what, lambda word: ' '.join(letters[it] for it in word) or 'the empty text')
 
 
 def compare_trees(specs):

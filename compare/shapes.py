@@ -4,7 +4,7 @@ import functools
 import itertools
 
 import ebnf
-from automata import Automaton, common_word, difference
+from automata import Automaton, common_word, difference, told
 from kit import Con
 from notation import NoComputation
 
@@ -92,8 +92,8 @@ class Shapes:
         return self.automata[dialect, kind]
 
     def text(self, word):
-        """A word of cells as a text."""
-        return None if word is None else [hex(self.first[it]) if it < len(self.first) else it for it in word]
+        """A word of cells as the code points that are first in them."""
+        return ' '.join('U+%04X' % self.first[it] for it in word) or 'the empty text'
 
 
 def is_computed(definition):
@@ -132,8 +132,8 @@ def compare_rows(specs):
     yield None if sorted(rows) == sorted(KINDS) else 'the rows of the table of shapes: %s' % rows
     for dialect, grammars in DIALECTS.items():
         for grammar, kind in itertools.product(grammars, KINDS):
-            word = difference(shapes.of_kind(dialect, kind), shapes.automaton(due(grammar, kind)))
-            yield None if word is None else 'shape %s %s and %s: only one has %s' % (dialect, kind, grammar, shapes.text(word))
+            found = difference(shapes.of_kind(dialect, kind), shapes.automaton(due(grammar, kind)))
+            yield told(found, 'shape %s %s and %s' % (dialect, kind, grammar), shapes.text)
 
 
 def compare_parts(specs):
@@ -146,8 +146,8 @@ def compare_parts(specs):
         for grammar in grammars:
             for name, front, regex in (('BLANK_NODE_LABEL', '_:', label(Con(dialect))), ('LANGTAG', '@', tag)):
                 whole = shapes.automaton(('sequence', ebnf.word_of(front), expression_of(regex)))
-                word = difference(whole, shapes.automaton(ebnf.terminal(grammar, name)))
-                yield None if word is None else 'the name of %s in %s: only one has %s' % (name, grammar, shapes.text(word))
+                found = difference(whole, shapes.automaton(ebnf.terminal(grammar, name)))
+                yield told(found, 'the name of %s in %s' % (name, grammar), shapes.text)
             white = shapes.mask(frozenset(ranges_of(ebnf.terminal(grammar, 'WS'))))
             found = sum(1 << it for it, c in enumerate(shapes.first) if is_space(Con(dialect), c))
             yield None if found == white else 'white space of %s' % grammar
@@ -170,7 +170,7 @@ def compare_kinds(specs):
         for one, other in itertools.combinations(KINDS, 2):
             word = common_word(shapes.of_kind(dialect, one), shapes.of_kind(dialect, other))
             is_stated = dialect == 'Turtle' and {one, other} in KEYWORDS_AND_TAGS
-            yield None if (word is not None) == is_stated else '%s: %s and %s share %s' % (dialect, one, other, shapes.text(word))
+            yield None if (word is not None) == is_stated else '%s: %s and %s share %s' % (dialect, one, other, word and shapes.text(word))
 
 
 def compare_all_code_points(specs):
