@@ -310,9 +310,9 @@ module _ {G X D A : Type 0} (contents : D → Option (List ℕ)) (failed : D →
     fault_piece after reason.Ended h t = absurd (false≢true (sym o.read.running ∙ h.0))
     fault_piece after reason.Memory h t = (t.live_now, tells_some read_so_far.tokens mid after (left_piece reason.Memory h) t)
     fault_piece after reason.Sink h t = absurd (false≢true (sym t.live ∙ h.1))
-    fault_piece after reason.DocumentTooLong h t = ((h.full x bytes o.quads o.read).too_long, tells_some read_so_far.tokens mid after (left_piece reason.DocumentTooLong h) t)
+    fault_piece after reason.DocumentTooLong h t = (t.live_now, ((h.full x bytes o.quads o.read).too_long, tells_some read_so_far.tokens mid after (left_piece reason.DocumentTooLong h) t))
     fault_piece after why h t =
-        tells_due why (record { offset = n; line = k }) read_so_far mid after (refuses why (record { offset = n; line = k }) (piece_reading w reader.scanner.limit piece) mid h) t
+        (t.live_now, tells_due why (record { offset = n; line = k }) read_so_far mid after (refuses why (record { offset = n; line = k }) (piece_reading w reader.scanner.limit piece) mid h) t)
 
     -- an error in a piece
     pub piece_halts : (why : Reason) (after : LineOut D A) (reported : StreamFault) → FailsPiece why → SameOut mid after → Reports contents failed (record { reason = why; offset = n; line = k }) reported mid after →
@@ -342,7 +342,7 @@ module _ {G X D A : Type 0} (contents : D → Option (List ℕ)) (failed : D →
     fault_end after reason.Memory h t = (t.live_now, tells_some read_all.tokens mid after (left_end reason.Memory h) t)
     fault_end after reason.Sink h t = absurd (false≢true (sym t.live ∙ h.1))
     fault_end after reason.DocumentTooLong h t = absurd (h.refused x bytes o.quads o.read).1
-    fault_end after why h t = tells_due why (record { offset = n; line = k }) read_all mid after (refuses why (record { offset = n; line = k }) end_reading mid h) t
+    fault_end after why h t = (t.live_now, tells_due why (record { offset = n; line = k }) read_all mid after (refuses why (record { offset = n; line = k }) end_reading mid h) t)
 
     -- an error at the end
     pub end_halts : (why : Reason) (after : LineOut D A) (reported : StreamFault) → FailsEnd why → SameOut mid after → Reports contents failed (record { reason = why; offset = n; line = k }) reported mid after →

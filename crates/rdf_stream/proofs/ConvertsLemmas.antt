@@ -19,7 +19,7 @@ use Rattle.rdf_stream.specs.declared.line_out.LineOut.{LineOut}
 use Rattle.rdf_stream.specs.Converting.{Begins, HaltsFor, IsConverting, RunEnds, RunHalts, Starts}
 use Rattle.rdf_stream.specs.Converts.{Accepts, IsPrompt, RefusesDocument, StopsFor, WritesDue, WritesSome}
 use Rattle.rdf_stream.specs.Devices.{HasGiven, Reading}
-use Rattle.rdf_stream.specs.Faults.{IsOfDocument, IsRefusal}
+use Rattle.rdf_stream.specs.Faults.{IsOfDocument, IsRefusal, IsSentOn}
 use Rattle.rdf_lines.specs.declared.form.LineForm.{LineForm}
 use Rattle.rdf_lines.specs.declared.form.Style.{Style}
 use Rattle.rdf_lines.specs.declared.form.Style.TheVariants.{Kept, Tagged}
@@ -53,7 +53,7 @@ refuses_more job ends why bytes more e at old new h = (h.0, refused_in_more job.
 -- what is not read on is not read on with more bytes
 halts_for_more : (reported : StreamFault) (job : Conversion) → EndsAtBlame job.language → (bytes more : List ℕ) (old new : Option (List ℕ)) (failed : Bool) →
     HaltsFor reported job bytes false old new failed → HaltsFor reported job (bytes ++ more) false old new failed
-halts_for_more (stream.Refused f) job ends bytes more old new failed h = refuses_more job ends f.reason bytes more false (place_of f) old new h
+halts_for_more (stream.Refused f) job ends bytes more old new failed h = (h.0, refuses_more job ends f.reason bytes more false (place_of f) old new h.1)
 halts_for_more stream.Read job ends bytes more old new failed h = h
 halts_for_more stream.Write job ends bytes more old new failed h =
     (h.0, record { quads = h.1.quads; due = due_more job.language ends bytes more false h.1.quads h.1.due; written = h.1.written; ascii = h.1.ascii })
@@ -78,7 +78,7 @@ refuses_document job why bytes e at old new h = tt
 
 -- a refusal that a conversion reports is one of the document
 halts_document : (reported : StreamFault) (job : Conversion) (bytes : List ℕ) (e : Bool) (old new : Option (List ℕ)) (failed : Bool) → HaltsFor reported job bytes e old new failed → IsRefusal reported
-halts_document (stream.Refused f) job bytes e old new failed h = refuses_document job f.reason bytes e (place_of f) old new h
+halts_document (stream.Refused f) job bytes e old new failed h = refuses_document job f.reason bytes e (place_of f) old new h.1
 halts_document stream.Read job bytes e old new failed h = tt
 halts_document stream.Write job bytes e old new failed h = tt
 halts_document stream.Memory job bytes e old new failed h = tt
@@ -87,7 +87,7 @@ halts_document stream.Memory job bytes e old new failed h = tt
 halts_stops : (reported : StreamFault) (job : Conversion) → EndsAtBlame job.language → (known : Option (List ℕ)) (left : Reading) (old new : Option (List ℕ)) (write_failed : Bool) (given : HasGiven known left) →
     HaltsFor reported job given.bytes left.has_ended old new write_failed → StopsFor reported job known left old new write_failed
 halts_stops (stream.Refused f) job ends known left old new write_failed given h =
-    (all_given known left (λ bytes e. RefusesDocument f.reason job bytes e (place_of f) old new) (λ bytes more x. refuses_more job ends f.reason bytes more true (place_of f) old new x) given h, given, h)
+    (h.0, all_given known left (λ bytes e. RefusesDocument f.reason job bytes e (place_of f) old new) (λ bytes more x. refuses_more job ends f.reason bytes more true (place_of f) old new x) given h.1, given, h.1)
 halts_stops stream.Read job ends known left old new write_failed given h = absurd h
 halts_stops stream.Write job ends known left old new write_failed given h = (h.0, given, h.1)
 halts_stops stream.Memory job ends known left old new write_failed given h = (h.0, given, h.1)
@@ -117,7 +117,7 @@ module _ {G X D : Type 0} (A : Type 0) (contents : D → Option (List ℕ)) (fai
   Taken first bytes now = IsConverting contents failed w style first.0 first.1 bytes now.0 now.1
 
   abbrev pub Halted : StreamFault → R → List ℕ → Bool → R → Type 0
-  Halted reported first bytes e now = RunHalts contents failed w reported first.0 first.1 bytes e now.1
+  Halted reported first bytes e now = RunHalts contents failed w reported first.0 first.1 bytes e now.1 × IsSentOn reported (flushed now.1.drain.now)
 
   abbrev pub Ended : Summary → R → List ℕ → R → Type 0
   Ended s first bytes now = RunEnds contents failed flushed w s first.0 first.1 bytes now.1
@@ -197,6 +197,7 @@ module _ {G X D : Type 0} (A : Type 0) (contents : D → Option (List ℕ)) (fai
     broke h =
         let o = h.is_taken.handed x b in
         let law = b.starts.convertible.lawful in (
+          o.live,
           h.broken,
           record {
             bytes = h.bytes;
@@ -212,7 +213,7 @@ module _ {G X D : Type 0} (A : Type 0) (contents : D → Option (List ℕ)) (fai
         (⊎_elim (λ p. subst (λ t. StopsFor t job known left (contents first.1.drain.now) (contents now.1.drain.now) (failed now.1.drain.now)) (sym p.0) (broke p.1))
         (λ p.
         halts_stops reported job (b.starts.convertible.lawful.ends x) known left (contents first.1.drain.now) (contents now.1.drain.now) (failed now.1.drain.now) p.0
-        (subst (λ f. HaltsFor reported (conversion w x first.0.scanner.limit f) p.0.bytes left.has_ended (contents first.1.drain.now) (contents now.1.drain.now) (failed now.1.drain.now)) fresh.form (p.1.halts x b)))
+        (subst (λ f. HaltsFor reported (conversion w x first.0.scanner.limit f) p.0.bytes left.has_ended (contents first.1.drain.now) (contents now.1.drain.now) (failed now.1.drain.now)) fresh.form (p.1.0.halts x b)))
         h)
 
     pub refused_document : (reported : StreamFault) → ReadStops Taken Halted reported known left first now → IsRefusal reported
@@ -220,7 +221,13 @@ module _ {G X D : Type 0} (A : Type 0) (contents : D → Option (List ℕ)) (fai
         ⊎_elim (λ p. subst IsRefusal (sym p.0) tt)
         (λ p.
         halts_document reported (conversion w x first.0.scanner.limit (form_of first.1.form)) p.0.bytes left.has_ended (contents first.1.drain.now) (contents now.1.drain.now) (failed now.1.drain.now)
-        (p.1.halts x b)) h
+        (p.1.0.halts x b)) h
+
+    -- what was written before a refusal was flushed
+    pub sent_on : (reported : StreamFault) → ReadStops Taken Halted reported known left first now → IsSentOn reported (flushed new)
+    sent_on reported h =
+        by_drains (λ o n. IsSentOn reported (flushed n)) _ _ old new fresh.drain is
+        (⊎_elim (λ p. subst (λ t. IsSentOn t (flushed now.1.drain.now)) (sym p.0) tt) (λ p. p.1.1) h)
 
 -- ---- by the job
 

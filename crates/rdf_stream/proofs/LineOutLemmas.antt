@@ -1,5 +1,5 @@
 -- What a sink of lines has handed over after some puts, and what waits.
-use Rattle.std.proofs.Common.{◌≡◌, ℕ, Bool, false, List, [], ◌∷◌, ◌++◌, Option, refl, sym, ap, subst, ◌∙◌, append_assoc, ⊎_elim, inr}
+use Rattle.std.proofs.Common.{◌≡◌, ℕ, Bool, true, false, List, [], ◌∷◌, ◌++◌, Option, refl, sym, ap, subst, ◌∙◌, append_assoc, ⊎_elim, inr}
 use Rattle.std.proofs.lemmas.List.{append-nil}
 use Rattle.std.proofs.lemmas.Str.{encodes-append}
 use Rattle.std.proofs.lemmas.Grind.{flat_map-append}
@@ -15,6 +15,7 @@ use Rattle.rdf_lines.specs.declared.form.WrittenForm.{WrittenForm}
 use Rattle.rdf_lines.specs.Forms.{form_of}
 use Rattle.rdf_lines.specs.NodePrefixes.{line_in, text_in}
 use Rattle.rdf_stream.specs.Devices.{AppendsFront}
+use Rattle.rdf_stream.specs.Faults.{IsSentOn}
 use Rattle.rdf_stream.specs.LineOut.{Leaves, Moves, PutHalts, SameOut, Takes, Writes, line_bytes}
 use Rattle.rdf_stream.specs.declared.fault.StreamFault.{StreamFault}
 use Rattle.rdf_stream.specs.declared.fault.StreamFault.TheVariants as stream
@@ -206,3 +207,14 @@ module _ {D A : Type 0} (contents : D → Option (List ℕ)) (failed : D → Boo
         (moves_all (contents before.drain.now) (contents mid.drain.now) (contents after.drain.now) (before.buffer.now ++ []) mid.buffer.now m p.1),
   )
   put_left reported p = absurd p
+
+-- what is reported of bytes that were not put is no refusal
+pub put_sent : {D A : Type 0} (contents : D → Option (List ℕ)) (failed : D → Bool) (before after : LineOut D A) (bytes : List ℕ) (reported : StreamFault) (flushed : Bool) →
+    PutHalts contents failed reported before bytes after → IsSentOn reported flushed
+put_sent contents failed before after bytes (stream.Refused f) flushed p = absurd p
+put_sent contents failed before after bytes reported flushed p = tt
+
+-- what was flushed was so whatever is reported
+pub sent_any : (reported : StreamFault) (flushed : Bool) → flushed ≡ true → IsSentOn reported flushed
+sent_any (stream.Refused f) flushed s = s
+sent_any reported flushed s = tt

@@ -23,7 +23,7 @@ use Rattle.rdf_stream.specs.declared.fault.StreamFault.{StreamFault}
 use Rattle.rdf_stream.specs.declared.fault.StreamFault.TheVariants as stream
 use Rattle.rdf_stream.specs.declared.line_out.LineOut.{LineOut}
 use Rattle.rdf_stream.specs.Devices.{AppendsFront, HasGiven, Reading as Reader}
-use Rattle.rdf_stream.specs.Faults.{IsOfDocument, IsRefusal, fault_by}
+use Rattle.rdf_stream.specs.Faults.{IsOfDocument, IsRefusal, IsSentOn, fault_by}
 use Rattle.rdf_stream.specs.LineOut.{Moves, SameOut, Writes}
 use Rattle.rdf_stream.specs.Converting.{Reports, ReportsFault, ReportsWrite}
 use Rattle.rdf_stream.specs.Pieces.{ReadStops, ReadsAll, SourceFails}
@@ -321,8 +321,8 @@ module _ {D A : Type 0} (contents : D → Option (List ℕ)) (failed : D → Boo
     fault_piece after reason.Ended h t = absurd (false≢true (sym o.read.running ∙ h.0))
     fault_piece after reason.Memory h t = (t.live_now, tells_some (tokens_in job all_bytes false) mid after (left_piece reason.Memory h) t)
     fault_piece after reason.Sink h t = absurd (false≢true (sym t.live ∙ h.1))
-    fault_piece after reason.DocumentTooLong h t = overruns_shown after h t
-    fault_piece after why h t = tells_refused why here all_bytes false mid after (refuses why here all_bytes false (piece_reading w reader.scanner.limit piece) mid refl h) t
+    fault_piece after reason.DocumentTooLong h t = (t.live_now, overruns_shown after h t)
+    fault_piece after why h t = (t.live_now, tells_refused why here all_bytes false mid after (refuses why here all_bytes false (piece_reading w reader.scanner.limit piece) mid refl h) t)
 
     -- an error in a piece
     piece_halts : (why : Reason) (after : LineOut D A) (reported : StreamFault) → FailsPiece why → SameOut mid after → Reports contents failed (record { reason = why; offset = n; line = k }) reported mid after →
@@ -351,7 +351,7 @@ module _ {D A : Type 0} (contents : D → Option (List ℕ)) (failed : D → Boo
     fault_end after reason.Ended h t = absurd (false≢true (sym o.read.running ∙ h.0))
     fault_end after reason.Memory h t = (t.live_now, tells_some (tokens_in job bytes true) mid after (left_end reason.Memory h) t)
     fault_end after reason.Sink h t = absurd (false≢true (sym t.live ∙ h.1))
-    fault_end after why h t = tells_refused why end_at bytes true mid after (refuses why end_at bytes true end_reading mid refl h) t
+    fault_end after why h t = (t.live_now, tells_refused why end_at bytes true mid after (refuses why end_at bytes true end_reading mid refl h) t)
 
     -- an error at the end
     end_halts : (why : Reason) (after : LineOut D A) (reported : StreamFault) → FailsEnd why → SameOut mid after → Reports contents failed (record { reason = why; offset = n; line = k }) reported mid after →
@@ -525,7 +525,7 @@ refusal_of_document why job bytes e at old new h = tt
 
 -- a refusal that showing reports is one of the document
 halts_of_document : (reported : StreamFault) (job : JobRead) (bytes : List ℕ) (e : Bool) (old new : Option (List ℕ)) (failed : Bool) → HaltsFor reported job bytes e old new failed → IsRefusal reported
-halts_of_document (stream.Refused f) job bytes e old new failed h = refusal_of_document f.reason job bytes e (place_of f) old new h
+halts_of_document (stream.Refused f) job bytes e old new failed h = refusal_of_document f.reason job bytes e (place_of f) old new h.1
 halts_of_document stream.Read job bytes e old new failed h = tt
 halts_of_document stream.Write job bytes e old new failed h = tt
 halts_of_document stream.Memory job bytes e old new failed h = tt
@@ -534,7 +534,7 @@ halts_of_document stream.Memory job bytes e old new failed h = tt
 halts_stops : (reported : StreamFault) (job : JobRead) (known : Option (List ℕ)) (left : Reader) (old new : Option (List ℕ)) (write_failed : Bool) (given : HasGiven known left) →
     HaltsFor reported job given.bytes left.has_ended old new write_failed → ShowStops reported job known left old new write_failed
 halts_stops (stream.Refused f) job known left old new write_failed given h =
-    (all_given known left (λ bytes e. ShowRefuses f.reason job bytes e (place_of f) old new) (λ bytes more x. stops_more job bytes more true old new f.reason (place_of f) x) given h, given, h)
+    (h.0, all_given known left (λ bytes e. ShowRefuses f.reason job bytes e (place_of f) old new) (λ bytes more x. stops_more job bytes more true old new f.reason (place_of f) x) given h.1, given, h.1)
 halts_stops stream.Read job known left old new write_failed given h = absurd h
 halts_stops stream.Write job known left old new write_failed given h = (h.0, given, h.1)
 halts_stops stream.Memory job known left old new write_failed given h = (h.0, given, h.1)
@@ -548,7 +548,7 @@ module _ {D : Type 0} (A : Type 0) (contents : D → Option (List ℕ)) (failed 
   Taken first bytes now = IsShowing contents failed d first.0 first.1 bytes now.0 now.1
 
   abbrev pub Stopped : StreamFault → State → List ℕ → Bool → State → Type 0
-  Stopped reported first bytes e now = ShowHalts contents failed d reported first.0 first.1 bytes e now.1
+  Stopped reported first bytes e now = ShowHalts contents failed d reported first.0 first.1 bytes e now.1 × IsSentOn reported (flushed now.1.drain.now)
 
   abbrev pub Ended : Summary → State → List ℕ → State → Type 0
   Ended s first bytes now = ShowEnds contents failed flushed d s first.0 first.1 bytes now.1
@@ -585,6 +585,7 @@ module _ {D : Type 0} (A : Type 0) (contents : D → Option (List ℕ)) (failed 
     broke : SourceFails Taken known left first now → ShowStops stream.Read job known left old new (failed now.1.drain.now)
     broke h =
         let o = h.is_taken.handed job b in (
+          o.live,
           h.broken,
           record {
             bytes = h.bytes;
@@ -598,9 +599,13 @@ module _ {D : Type 0} (A : Type 0) (contents : D → Option (List ℕ)) (failed 
     pub run_stopped : (reported : StreamFault) → ReadStops Taken Stopped reported known left first now → ShowStops reported job known left old new (failed now.1.drain.now)
     run_stopped reported h =
         ⊎_elim (λ p. subst (λ t. ShowStops t job known left old new (failed now.1.drain.now)) (sym p.0) (broke p.1))
-        (λ p. halts_stops reported job known left old new (failed now.1.drain.now) p.0 (p.1.halts job b)) h
+        (λ p. halts_stops reported job known left old new (failed now.1.drain.now) p.0 (p.1.0.halts job b)) h
 
     -- an error of a run is one that `show` may report
     pub run_refused : (reported : StreamFault) → ReadStops Taken Stopped reported known left first now → IsRefusal reported
     run_refused reported h =
-        ⊎_elim (λ p. subst IsRefusal (sym p.0) tt) (λ p. halts_of_document reported job p.0.bytes left.has_ended old new (failed now.1.drain.now) (p.1.halts job b)) h
+        ⊎_elim (λ p. subst IsRefusal (sym p.0) tt) (λ p. halts_of_document reported job p.0.bytes left.has_ended old new (failed now.1.drain.now) (p.1.0.halts job b)) h
+
+    -- what was written before a refusal was flushed
+    pub run_sent : (reported : StreamFault) → ReadStops Taken Stopped reported known left first now → IsSentOn reported (flushed now.1.drain.now)
+    run_sent reported h = ⊎_elim (λ p. subst (λ t. IsSentOn t (flushed now.1.drain.now)) (sym p.0) tt) (λ p. p.1.1) h

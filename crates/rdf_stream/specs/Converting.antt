@@ -81,7 +81,7 @@ pub record IsConverting {G X D A : Type 0} (contents : D → Option (List ℕ)) 
 
 -- why the bytes are not read on, and what was written
 abbrev pub HaltsFor : StreamFault → Conversion → List ℕ → Bool → Option (List ℕ) → Option (List ℕ) → Bool → Type 0
-HaltsFor (fault.Refused f) job bytes is_end old new failed = RefusesDocument f.reason job bytes is_end (place_of f) old new
+HaltsFor (fault.Refused f) job bytes is_end old new failed = (failed ≡ false) × RefusesDocument f.reason job bytes is_end (place_of f) old new
 HaltsFor fault.Read job bytes is_end old new failed = ⊥
 HaltsFor fault.Write job bytes is_end old new failed = (failed ≡ true) × WritesFront job (reading_of job.language bytes is_end).tokens old new
 HaltsFor fault.Memory job bytes is_end old new failed = (failed ≡ false) × WritesSome job (reading_of job.language bytes is_end).tokens old new

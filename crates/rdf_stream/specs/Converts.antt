@@ -102,9 +102,9 @@ pub record IsPrompt (job : Conversion) (known : Option (List ℕ)) (left : Readi
 -- Why a conversion stopped, by what the source gave, and what it had written: whole lines, but where the drain failed a beginning of them.
 abbrev pub StopsFor : StreamFault → Conversion → Option (List ℕ) → Reading → Option (List ℕ) → Option (List ℕ) → Bool → Type 0
 StopsFor (Refused f) job known left old new write_failed =
-    IfSome known (λ bytes. RefusesDocument f.reason job bytes true (place_of f) old new)
+    (write_failed ≡ false) × IfSome known (λ bytes. RefusesDocument f.reason job bytes true (place_of f) old new)
     × (given : HasGiven known left) × RefusesDocument f.reason job given.bytes left.has_ended (place_of f) old new
-StopsFor Read job known left old new write_failed = HasBroken left × BreaksOff job known left.remaining old new
+StopsFor Read job known left old new write_failed = (write_failed ≡ false) × HasBroken left × BreaksOff job known left.remaining old new
 StopsFor Write job known left old new write_failed =
     (write_failed ≡ true) × (given : HasGiven known left) × WritesFront job (reading_of job.language given.bytes left.has_ended).tokens old new
 StopsFor Memory job known left old new write_failed =

@@ -1,4 +1,5 @@
 -- The fault of a run, by the fault of its reader.
+use Rattle.std.specs.Prelude.{◌≡◌, Bool, true}
 use Rattle.rdf_terms.specs.declared.reason.Reason.{Reason}
 use Rattle.rdf_terms.specs.declared.reason.Reason.TheVariants.{Memory as OutOfMemory, Ended, Sink}
 use Rattle.rdf_tokens.specs.declared.token.Fault.{Fault}
@@ -22,3 +23,8 @@ IsOfDocument reason = Unit
 abbrev pub IsRefusal : StreamFault → Type 0
 IsRefusal (Refused f) = IsOfDocument f.reason
 IsRefusal reported = Unit
+
+-- After a refusal what was written has been flushed.
+abbrev pub IsSentOn : StreamFault → Bool → Type 0
+IsSentOn (Refused f) flushed = flushed ≡ true
+IsSentOn reported flushed = Unit

@@ -50,7 +50,7 @@ pub record HandedOver {D A : Type 0} (contents : D → Option (List ℕ)) (faile
 
 -- why the bytes are not read on, and what was written
 abbrev pub HaltsFor : StreamFault → JobRead → List ℕ → Bool → Option (List ℕ) → Option (List ℕ) → Bool → Type 0
-HaltsFor (fault.Refused f) job bytes is_end old new failed = ShowRefuses f.reason job bytes is_end (place_of f) old new
+HaltsFor (fault.Refused f) job bytes is_end old new failed = (failed ≡ false) × ShowRefuses f.reason job bytes is_end (place_of f) old new
 HaltsFor fault.Read job bytes is_end old new failed = ⊥
 HaltsFor fault.Write job bytes is_end old new failed = (failed ≡ true) × ShowsFront (tokens_in job bytes is_end) old new
 HaltsFor fault.Memory job bytes is_end old new failed = (failed ≡ false) × ShowsSome (tokens_in job bytes is_end) old new

@@ -126,9 +126,9 @@ ShowsFront reading old new = AppendsFront old new (token_lines reading.tokens)
 -- Why the tokens were not all shown, by what the source gave, and what was written: whole lines, but where the drain failed a beginning of them.
 abbrev pub ShowStops : StreamFault → JobRead → Option (List ℕ) → Reader → Option (List ℕ) → Option (List ℕ) → Bool → Type 0
 ShowStops (Refused f) job known left old new write_failed =
-    IfSome known (λ bytes. ShowRefuses f.reason job bytes true (place_of f) old new)
+    (write_failed ≡ false) × IfSome known (λ bytes. ShowRefuses f.reason job bytes true (place_of f) old new)
     × (given : HasGiven known left) × ShowRefuses f.reason job given.bytes left.has_ended (place_of f) old new
-ShowStops Read job known left old new write_failed = HasBroken left × ShowsSoFar job known left.remaining old new
+ShowStops Read job known left old new write_failed = (write_failed ≡ false) × HasBroken left × ShowsSoFar job known left.remaining old new
 ShowStops Write job known left old new write_failed =
     (write_failed ≡ true) × (given : HasGiven known left) × ShowsFront (tokens_in job given.bytes left.has_ended) old new
 ShowStops Memory job known left old new write_failed =

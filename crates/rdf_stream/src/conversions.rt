@@ -4,7 +4,7 @@ ghost use Rattle.std.specs.Prelude.{◌≡◌, ◌++◌, true, false, OnOk, IfOk
 ghost use Rattle.rdf_lines.specs.Forms.{form_of};
 ghost use Rattle.rdf_stream.specs.Converting.{ConversionStops, Converts, IsConverting, IsPutting, KeepsPrompt, RunEnds, RunHalts, Starts};
 ghost use Rattle.rdf_stream.specs.Converts.{AcceptsAll, IsPrompt, StopsFor};
-ghost use Rattle.rdf_stream.specs.Faults.{IsRefusal};
+ghost use Rattle.rdf_stream.specs.Faults.{IsRefusal, IsSentOn};
 ghost use Rattle.rdf_stream.specs.Languages.{conversion_of};
 ghost use Rattle.rdf_stream.specs.LineOut.{OnlyGrows};
 ghost use Rattle.rdf_stream.specs.Told.{AsTold, told};
@@ -23,7 +23,7 @@ use rdf_trig::tree_reader;
 use std::alloc::Allocator;
 
 /// Reads a document of the job's format from the source, writes the lines of its quads to the drain with the job's
-/// escapes and its word in front of the names of nodes, and flushes it.
+/// escapes and its word in front of the names of nodes, and flushes it, also after a refusal.
 ///
 /// Before it asks the source for more, all lines that are due of the bytes so far have been handed to the drain (`prompt`),
 /// and so they have before a refusal or a failed read is reported.
@@ -41,6 +41,7 @@ pub fn convert<A: Allocator + Copy, S: Source, D: Drain>(
     ensures flushed { OnOk result (D.is_flushed drain.new ≡ true) }
     ensures stops { IfErr result (λ fault. AsTold (StopsFor fault (conversion_of job)) S.Source D.Drain source.old source.new drain.old drain.new) }
     ensures refused { IfErr result IsRefusal }
+    ensures sent { IfErr result (λ fault. IsSentOn fault (D.is_flushed drain.new)) }
     ensures prompt { IsPrompt (conversion_of job) (S.remaining source.old) (told S.Source source.new)
         (D.contents drain.old) (D.contents drain.new) }
 {
@@ -85,6 +86,7 @@ fn convert_with<A: Allocator + Copy, G: Passes<A>, S: Source, D: Drain>(
     ensures flushed { OnOk result (D.is_flushed drain.new ≡ true) }
     ensures stops { IfErr result (ConversionStops G.words S.Source D.Drain reader (form_of written.entry) source.old source.new drain.old drain.new) }
     ensures refused { IfErr result IsRefusal }
+    ensures sent { IfErr result (λ fault. IsSentOn fault (D.is_flushed drain.new)) }
     ensures prompt { KeepsPrompt G.words S.Source D.Drain reader (form_of written.entry) source.old source.new drain.old drain.new }
 {
     let mut piece = piece_buffer(alloc)?;
@@ -98,7 +100,8 @@ impl<'a, A: Allocator + Copy, G: QuadGrammar + Passes<A>, D: Drain> Run<LineOut<
     for Reader<G, A> {
     ghost taken = { λ first bytes now. IsConverting D.contents D.has_failed G.words G.style first.0 first.1 bytes now.0 now.1 };
 
-    ghost halts = { λ reported first bytes is_end now. RunHalts D.contents D.has_failed G.words reported first.0 first.1 bytes is_end now.1 };
+    ghost halts = { λ reported first bytes is_end now. RunHalts D.contents D.has_failed G.words reported first.0 first.1 bytes is_end now.1
+        × IsSentOn reported (D.is_flushed now.1.drain.now) };
 
     ghost ends = { λ summary first bytes now. RunEnds D.contents D.has_failed D.is_flushed G.words summary first.0 first.1 bytes now.1 };
 
@@ -132,7 +135,8 @@ impl<'a, A: Allocator + Copy, G: QuadGrammar + Passes<A>, D: Drain> Run<LineOut<
 impl<'a, A: Allocator + Copy, G: Passes<A>, D: Drain> Parts<LineOut<'a, D, A>> for Reader<G, A> {
     ghost taken = { λ first bytes now. IsPutting D.contents D.has_failed G.words G.style first.0 first.1 bytes now.0 now.1 };
 
-    ghost halts = { λ reported first bytes is_end now. RunHalts D.contents D.has_failed G.words reported first.0 first.1 bytes is_end now.1 };
+    ghost halts = { λ reported first bytes is_end now. RunHalts D.contents D.has_failed G.words reported first.0 first.1 bytes is_end now.1
+        × IsSentOn reported (D.is_flushed now.1.drain.now) };
 
     ghost stays = { λ first now. OnlyGrows D.contents first.1 now.1 };
 

@@ -5,6 +5,7 @@ ghost use Rattle.std.specs.Io.KnownBytes.{Appends};
 ghost use Rattle.rdf_lines.specs.Canonical.{without_crs, written_as};
 ghost use Rattle.rdf_stream.specs.Converting.{Reports};
 ghost use Rattle.rdf_stream.specs.Devices.{AppendsFront};
+ghost use Rattle.rdf_stream.specs.Faults.{IsSentOn};
 ghost use Rattle.rdf_tokens.specs.Scans.{token_of};
 ghost use Rattle.rdf_stream.specs.LineOut.{Leaves, PutHalts, SameOut, Takes, Writes, most_waiting};
 ghost use Rattle.rdf_stream.specs.Showing.{LeavesToken, TakesToken};
@@ -228,7 +229,7 @@ impl<'a, D: Drain, A: Allocator + Copy> QuadSink for LineOut<'a, D, A> {
     }
 }
 
-/// Hands over what waits where no memory was left, and says what is reported of it.
+/// Hands over what waits where no memory was left, sends it on, and says what is reported of it.
 pub(crate) fn handed_over<A: Allocator + Copy, D: Drain>(
     lines: &mut LineOut<'_, D, A>,
 ) -> StreamFault
@@ -236,24 +237,26 @@ pub(crate) fn handed_over<A: Allocator + Copy, D: Drain>(
     ensures same { SameOut lines.old lines.new }
     ensures halts { PutHalts D.contents D.has_failed result lines.old [] lines.new }
 {
-    match lines.hand_over() {
+    let sent = lines.send();
+    match sent {
         Ok(()) => StreamFault::Memory,
         Err(Failed) => StreamFault::Write,
     }
 }
 
-/// Hands over what waits, and says what is reported of the reader's fault: a failure of the drain comes first.
+/// Hands over what waits, sends it on, and says what is reported of the reader's fault: a failure of the drain comes first.
 pub(crate) fn stop<A: Allocator + Copy, D: Drain>(
     fault: Fault,
     lines: &mut LineOut<'_, D, A>,
 ) -> StreamFault
     ensures same { SameOut lines.old lines.new }
     ensures reports { Reports D.contents D.has_failed fault result lines.old lines.new }
+    ensures sent { IsSentOn result (D.is_flushed lines.new.drain.now) }
 {
     if lines.failed() {
         return StreamFault::Write;
     }
-    match lines.hand_over() {
+    match lines.send() {
         Ok(()) => StreamFault::from(fault),
         Err(Failed) => StreamFault::Write,
     }

@@ -1,7 +1,7 @@
 // From a document to the lines of its tokens.
 
 ghost use Rattle.std.specs.Prelude.{◌≡◌, true, false, OnOk, IfOk, IfErr};
-ghost use Rattle.rdf_stream.specs.Faults.{IsRefusal};
+ghost use Rattle.rdf_stream.specs.Faults.{IsRefusal, IsSentOn};
 ghost use Rattle.rdf_stream.specs.LineOut.{SameOut};
 ghost use Rattle.rdf_stream.specs.Showing.{IsShowing, ShowEnds, ShowHalts};
 ghost use Rattle.rdf_stream.specs.Shows.{ShowStops, ShowsAll, dialect_of};
@@ -20,7 +20,7 @@ use rdf_terms::Dialect;
 use std::alloc::Allocator;
 
 /// Reads the tokens of the source in the dialect of the job's format, and writes a line of each but the end to the drain:
-/// where it begins, its number of characters, and the name of its kind. It flushes the drain. No rule of a grammar is looked at.
+/// where it begins, its number of characters, and the name of its kind. It flushes the drain, also after a refusal. No rule of a grammar is looked at.
 ///
 /// The lines are handed over as `convert` does it: before it asks the source for more, and before a refusal or a failed read is reported.
 pub fn show<A: Allocator + Copy, S: Source, D: Drain>(
@@ -37,6 +37,7 @@ pub fn show<A: Allocator + Copy, S: Source, D: Drain>(
     ensures flushed { OnOk result (D.is_flushed drain.new ≡ true) }
     ensures stops { IfErr result (λ fault. AsTold (ShowStops fault job) S.Source D.Drain source.old source.new drain.old drain.new) }
     ensures refused { IfErr result IsRefusal }
+    ensures sent { IfErr result (λ fault. IsSentOn fault (D.is_flushed drain.new)) }
 {
     match dialect(job.form()) {
         Dialect::Lines => {
@@ -68,6 +69,7 @@ fn show_in<T: Spoken + Drop, A: Allocator + Copy, S: Source, D: Drain>(
     ensures flushed { OnOk result (D.is_flushed drain.new ≡ true) }
     ensures stops { IfErr result (λ fault. AsTold (ShowStops fault job.now) S.Source D.Drain source.old source.new drain.old drain.new) }
     ensures refused { IfErr result IsRefusal }
+    ensures sent { IfErr result (λ fault. IsSentOn fault (D.is_flushed drain.new)) }
 {
     let mut piece = piece_buffer(alloc)?;
     let mut buffer = LineBuffer::new(alloc);
@@ -81,7 +83,8 @@ impl<'a, T: Spoken + Drop, D: Drain, A: Allocator + Copy> Run<LineOut<'a, D, A>>
     for Reader<TokenGrammar<T>, A> {
     ghost taken = { λ first bytes now. IsShowing D.contents D.has_failed T.spoken first.0 first.1 bytes now.0 now.1 };
 
-    ghost halts = { λ reported first bytes is_end now. ShowHalts D.contents D.has_failed T.spoken reported first.0 first.1 bytes is_end now.1 };
+    ghost halts = { λ reported first bytes is_end now. ShowHalts D.contents D.has_failed T.spoken reported first.0 first.1 bytes is_end now.1
+        × IsSentOn reported (D.is_flushed now.1.drain.now) };
 
     ghost ends = { λ summary first bytes now. ShowEnds D.contents D.has_failed D.is_flushed T.spoken summary first.0 first.1 bytes now.1 };
 

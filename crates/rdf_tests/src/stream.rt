@@ -21,7 +21,7 @@ fn is_read(alloc: Global, asked: &Asked<'_>, text: &str, shown: &Outcome) -> boo
     let checked = run(alloc, alloc, &asked.to(Task::Check));
     let also_shown = run(alloc, alloc, &asked.to(Task::Show));
     converted.text.as_slice() == text.as_bytes()
-        && converted.flushed == converted.is_done()
+        && converted.flushed == converted.is_sent()
         && is_checked(&checked, &converted)
         && is_alike(&also_shown, shown)
 }
@@ -157,7 +157,7 @@ fn is_stopped(alloc: Global, row: &Failing) -> bool {
     let stopped = run(alloc, alloc, &asked);
     let checked = run(alloc, alloc, &asked.to(Task::Check));
     stopped.text.as_slice() == row.text.as_bytes()
-        && !stopped.flushed
+        && stopped.flushed == stopped.is_sent()
         && (row.task == Task::Show || is_checked(&checked, &stopped))
 }
 

@@ -107,18 +107,22 @@ fn run_that_meets(alloc: Global, asked: &Asked<'_>, met: Met, calls: u64) -> (Ou
 }
 
 /// Whether the run ended for what it met, after a beginning of what it writes where it meets nothing: whole lines of it where the drain
-/// did not fail, and else so many bytes.
+/// did not fail, and else so many bytes. Lines that were written before a growth was refused were flushed.
 fn is_stopped(stopped: &Outcome, met: Met, calls: u64, whole: &Outcome) -> bool {
     let Some(written) = stopped.text.as_slice().get(..stopped.len) else {
         return false;
     };
-    if stopped.flushed || !whole.text.as_slice().starts_with(written) {
+    if !whole.text.as_slice().starts_with(written) {
         return false;
     }
     match met {
-        Met::Growth => stopped.end == End::Memory && are_lines(written),
-        Met::Fill => stopped.end == End::Read && are_lines(written),
-        Met::Put => stopped.end == End::Write && stopped.len as u64 == calls,
+        Met::Growth => {
+            stopped.end == End::Memory
+                && are_lines(written)
+                && (stopped.flushed || written.is_empty())
+        }
+        Met::Fill => stopped.end == End::Read && are_lines(written) && !stopped.flushed,
+        Met::Put => { stopped.end == End::Write && stopped.len as u64 == calls && !stopped.flushed }
     }
 }
 

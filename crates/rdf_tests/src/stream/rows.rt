@@ -403,7 +403,7 @@ pub(crate) struct Failing {
 }
 
 /// The source fails in the middle, or where nothing but the end is left to be read, which alone would refuse the document; or what was read is
-/// refused before it fails, and before any line comes to a drain that fails at once.
+/// refused before it fails, and before any line comes to a drain that takes one call alone: that of the flush.
 pub(crate) static FAILING: [Failing; 27] = [
     Failing {
         task: Task::Convert,
@@ -627,7 +627,7 @@ pub(crate) static FAILING: [Failing; 27] = [
         limits: [1, 9],
         document: "<a:s> <a:p> <http://a/o> .",
         fills: u64::MAX,
-        puts: 0,
+        puts: 1,
         text: "rdfconv: IRI too long at byte 12, line 1\n",
     },
     Failing {
@@ -636,7 +636,7 @@ pub(crate) static FAILING: [Failing; 27] = [
         limits: [1, 9],
         document: "<a:s> <a:p> <http://a/o> .",
         fills: u64::MAX,
-        puts: 0,
+        puts: 1,
         text: "rdfconv: IRI too long at byte 12, line 1\n",
     },
     Failing {
@@ -645,7 +645,7 @@ pub(crate) static FAILING: [Failing; 27] = [
         limits: [1, 10],
         document: "<a:s> <a:p> ( ( 1 ) ) .",
         fills: u64::MAX,
-        puts: 0,
+        puts: 1,
         text: "rdfconv: too deep at byte 14, line 1\n",
     },
 ];

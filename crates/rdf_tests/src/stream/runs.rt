@@ -93,8 +93,9 @@ impl End {
 }
 
 impl Outcome {
-    pub(crate) fn is_done(&self) -> bool {
-        matches!(self.end, End::Done(_))
+    /// Whether what was written is to be flushed: at the end, and after a refusal.
+    pub(crate) fn is_sent(&self) -> bool {
+        matches!(self.end, End::Done(_) | End::Refused)
     }
 }
 
@@ -181,8 +182,8 @@ pub(crate) fn is_alike(one: &Outcome, other: &Outcome) -> bool {
         && one.text.as_slice() == other.text.as_slice()
 }
 
-/// Whether a run writes and reports this text, and flushes where it is done.
+/// Whether a run writes and reports this text, and flushes where it is done or refused.
 pub(crate) fn has_text(alloc: Global, asked: &Asked<'_>, text: &[u8]) -> bool {
     let run = run(alloc, alloc, asked);
-    run.text.as_slice() == text && run.flushed == run.is_done()
+    run.text.as_slice() == text && run.flushed == run.is_sent()
 }

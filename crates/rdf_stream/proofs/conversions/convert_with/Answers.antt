@@ -3,7 +3,7 @@ use Rattle.std.proofs.Common.{rules, ◌≡◌, ◌∙◌, true, refl, ap}
 use Rattle.rdf_lines.specs.Forms.{form_of}
 use Rattle.rdf_stream.specs.Faults.{IsRefusal}
 use Rattle.rdf_stream.specs.Told.{told}
-use Rattle.rdf_stream.proofs.ConvertsLemmas.{begins, begun_fresh, by_drains, converted, none_prompt, none_stops, over_empty, prompt, refused_document, stopped}
+use Rattle.rdf_stream.proofs.ConvertsLemmas.{begins, begun_fresh, by_drains, converted, none_prompt, none_stops, over_empty, prompt, refused_document, sent_on, stopped}
 use Rattle.rdf_stream.proofs.GrowthLemmas.{grows_none}
 use Rattle.rdf_stream.proofs.PiecesLemmas.{if_err, if_ok, on_ok, reported_stops}
 use Rattle.rdf_stream.proofs.conversions.convert_with.Goals as goal
@@ -38,6 +38,14 @@ returns-clause-refused g c =
     (refused_document _ g.D.Drain.contents g.D.Drain.has_failed g.D.Drain.is_flushed g.G.Grammar.words g.G.Passes.style c.requires.starts.0 (form_of c.args.written) (c.args.reader, c.new-lines.result)
     (c.read_pieces.new.run, c.read_pieces.new.out) _ _
     (over_empty _ _ _ _ _ c.new-lines.ensures.form c.new-lines.ensures.buffer c.new-buffer.ensures c.new-lines.ensures.drain c.requires.drain) refl c.requires.starts.1 _ _)
+    c.read_pieces.ensures.stops
+
+pub returns-clause-sent : goal.returns-clause-sent
+returns-clause-sent g c =
+    if_err c.read_pieces.result _ _
+    (sent_on _ g.D.Drain.contents g.D.Drain.has_failed g.D.Drain.is_flushed g.G.Grammar.words g.G.Passes.style c.requires.starts.0 (form_of c.args.written) (c.args.reader, c.new-lines.result)
+    (c.read_pieces.new.run, c.read_pieces.new.out) _ _
+    (over_empty _ _ _ _ _ c.new-lines.ensures.form c.new-lines.ensures.buffer c.new-buffer.ensures c.new-lines.ensures.drain c.requires.drain) (search rules) c.requires.starts.1 _ _)
     c.read_pieces.ensures.stops
 
 pub returns-clause-accepted : goal.returns-clause-accepted

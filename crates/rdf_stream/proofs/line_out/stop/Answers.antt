@@ -1,4 +1,5 @@
-use Rattle.std.proofs.Common.{inr, sym, ◌∙◌}
+use Rattle.std.proofs.Common.{inr, rules, sym, ◌∙◌}
+use Rattle.rdf_stream.proofs.LineOutLemmas.{sent_any}
 use Rattle.rdf_stream.proofs.line_out.stop.Goals as goal
 
 pub returns-in-Ok-clause-reports : goal.returns-in-Ok-clause-reports
@@ -10,3 +11,6 @@ returns-in-Ok-clause-reports g c = inr (
     taken = c.in-Ok.ensures.ok;
   },
 )
+
+pub returns-in-Ok-clause-sent : goal.returns-in-Ok-clause-sent
+returns-in-Ok-clause-sent g c = sent_any c.from.result _ (search rules)

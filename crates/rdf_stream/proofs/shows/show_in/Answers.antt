@@ -1,11 +1,11 @@
 -- A run over the pieces of a source: it begins with nothing read, and each outcome is that of the pieces.
 use Rattle.std.proofs.Common.{rules, ◌≡◌, true, refl, ap, ◌∙◌, []}
 use Rattle.std.proofs.KnownBytes.{Appends-nil}
-use Rattle.rdf_stream.specs.Faults.{IsRefusal}
+use Rattle.rdf_stream.specs.Faults.{IsRefusal, IsSentOn}
 use Rattle.rdf_stream.specs.Shows.{ShowStops, ShowsAll}
 use Rattle.rdf_stream.specs.Told.{told}
 use Rattle.rdf_stream.proofs.ConvertsLemmas.{by_drains}
-use Rattle.rdf_stream.proofs.ShowsLemmas.{run_begins, run_refused, run_shown, run_stopped}
+use Rattle.rdf_stream.proofs.ShowsLemmas.{run_begins, run_refused, run_sent, run_shown, run_stopped}
 use Rattle.rdf_stream.proofs.PiecesLemmas.{if_err, if_ok, none_given, on_ok, reported_stops}
 use Rattle.rdf_stream.proofs.shows.show_in.Goals as goal
 
@@ -73,4 +73,18 @@ returns-clause-refused g c =
       none_waits = c.new-lines.ensures.buffer ∙ c.new-buffer.ensures;
       live = ap g.D.Drain.has_failed c.new-lines.ensures.drain ∙ c.requires.drain;
     }) _ _ reported a)
+    c.read_pieces.ensures.stops
+
+pub returns-clause-sent : goal.returns-clause-sent
+returns-clause-sent g c =
+    if_err c.read_pieces.result _ _
+    (λ reported a.
+    by_drains (λ old new. IsSentOn reported (g.D.Drain.is_flushed new)) c.new-lines.result.drain.now c.read_pieces.new.out.drain.now c.args.drain.now _ c.new-lines.ensures.drain (search rules)
+    (run_sent _ g.D.Drain.contents g.D.Drain.has_failed g.D.Drain.is_flushed g.T.Spoken.spoken c.args.job.now _ _ (record {
+      dialect = c.requires.dialect;
+      limit = search rules;
+      read = c.new-reader.ensures.read tt refl;
+      none_waits = c.new-lines.ensures.buffer ∙ c.new-buffer.ensures;
+      live = ap g.D.Drain.has_failed c.new-lines.ensures.drain ∙ c.requires.drain;
+    }) _ _ reported a))
     c.read_pieces.ensures.stops

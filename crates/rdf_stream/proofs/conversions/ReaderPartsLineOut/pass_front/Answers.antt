@@ -7,6 +7,7 @@ use Rattle.rdf_stream.specs.LineOut.{PutHalts, Writes}
 use Rattle.rdf_stream.proofs.ConvertingLemmas.{kept_where, live_now, pass_halts, run_passes}
 use Rattle.rdf_stream.proofs.ConvertsLemmas.{halts_more}
 use Rattle.rdf_stream.proofs.GrowthLemmas.{grows_both, grows_moved, refusal_grows}
+use Rattle.rdf_stream.proofs.LineOutLemmas.{put_sent}
 use Rattle.rdf_stream.proofs.PartsLemmas.{ascii_take, low_written}
 use Rattle.rdf_stream.proofs.conversions.ReaderPartsLineOut.pass_front.Goals as goal
 
@@ -30,9 +31,11 @@ returns-in-Err-clause-halts g c = λ more first bytes i.
     let rest = drop c.pass-passed.result text in
     let halts = pass_halts g.D.Drain.contents g.D.Drain.has_failed g.G.Grammar.words g.G.Passes.style first.0 first.1 bytes c.args.self.now c.args.lines.now i part c.args.ending (kept_where c.args.lines.now.form c.args.is_ascii _ (search rules) (λ e. low_written c.args.ending _ (ascii_take c.pass-passed.result c.args.text.now (c.requires.ascii e)))) _ c.pass-passed.ensures.passes _ _ c.in-Err.ensures.same reported in
     let whole : (bytes ++ part) ++ (rest ++ more) ≡ bytes ++ (text ++ more) = append_assoc bytes part (rest ++ more)
-    ∙ (ap (λ l. bytes ++ l) (sym (append_assoc part rest more)) ∙ ap (λ l. bytes ++ (l ++ more)) (take-append-drop c.pass-passed.result text)) in
-    subst (λ b. RunHalts g.D.Drain.contents g.D.Drain.has_failed g.G.Grammar.words c.in-Err.fault first.0 first.1 b false c.append.new.self) whole
-    (halts_more g.D.Drain.contents g.D.Drain.has_failed g.G.Grammar.words c.in-Err.fault first.0 first.1 (bytes ++ part) (rest ++ more) c.append.new.self halts)
+    ∙ (ap (λ l. bytes ++ l) (sym (append_assoc part rest more)) ∙ ap (λ l. bytes ++ (l ++ more)) (take-append-drop c.pass-passed.result text)) in (
+      subst (λ b. RunHalts g.D.Drain.contents g.D.Drain.has_failed g.G.Grammar.words c.in-Err.fault first.0 first.1 b false c.append.new.self) whole
+          (halts_more g.D.Drain.contents g.D.Drain.has_failed g.G.Grammar.words c.in-Err.fault first.0 first.1 (bytes ++ part) (rest ++ more) c.append.new.self halts),
+      put_sent g.D.Drain.contents g.D.Drain.has_failed _ _ _ c.in-Err.fault _ c.in-Err.ensures.halts,
+    )
 
 pub returns-in-Ok-clause-stays : goal.returns-in-Ok-clause-stays
 returns-in-Ok-clause-stays g c = λ first s. grows_both g.D.Drain.contents _ _ _ s (grows_moved g.D.Drain.contents _ _ _ _ c.in-Ok.ensures.same c.in-Ok.ensures.writes)

@@ -24,9 +24,11 @@ returns-in-Ok-clause-few g c =
 pub returns-in-Err-clause-halts : goal.returns-in-Err-clause-halts
 returns-in-Err-clause-halts g c = λ more first bytes i.
     let part = c.args.part.now in
-    let halts = run_halts g.D.Drain.contents g.D.Drain.has_failed g.G.Grammar.words g.G.Passes.style first.0 first.1 bytes c.args.self.now c.args.lines.now i part _ _ _ _ _ _ _ c.in-Err.ensures.err c.stop.ensures.same c.stop.ensures.reports in
-    subst (λ b. RunHalts g.D.Drain.contents g.D.Drain.has_failed g.G.Grammar.words c.stop.result first.0 first.1 b false c.stop.new.lines) (append_assoc bytes part more)
-    (halts_more g.D.Drain.contents g.D.Drain.has_failed g.G.Grammar.words c.stop.result first.0 first.1 (bytes ++ part) more c.stop.new.lines halts)
+    let halts = run_halts g.D.Drain.contents g.D.Drain.has_failed g.G.Grammar.words g.G.Passes.style first.0 first.1 bytes c.args.self.now c.args.lines.now i part _ _ _ _ _ _ _ c.in-Err.ensures.err c.stop.ensures.same c.stop.ensures.reports in (
+      subst (λ b. RunHalts g.D.Drain.contents g.D.Drain.has_failed g.G.Grammar.words c.stop.result first.0 first.1 b false c.stop.new.lines) (append_assoc bytes part more)
+          (halts_more g.D.Drain.contents g.D.Drain.has_failed g.G.Grammar.words c.stop.result first.0 first.1 (bytes ++ part) more c.stop.new.lines halts),
+      c.stop.ensures.sent,
+    )
 
 pub returns-in-Ok-clause-stays : goal.returns-in-Ok-clause-stays
 returns-in-Ok-clause-stays g c = λ first s. grows_both g.D.Drain.contents _ _ _ s (puts_grow g.D.Drain.contents g.D.Drain.has_failed _ _ _ c.in-Ok.ensures.ok.puts)

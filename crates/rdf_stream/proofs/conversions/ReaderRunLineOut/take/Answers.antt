@@ -37,9 +37,11 @@ returns-in-Err-hand_over-clause-stays g c = λ first s. grows_both g.D.Drain.con
 
 pub returns-in-Err-hand_over-clause-halts : goal.returns-in-Err-hand_over-clause-halts
 returns-in-Err-hand_over-clause-halts g c = λ first bytes i.
-    let put = putting g.D.Drain.contents g.D.Drain.has_failed g.G.Grammar.words g.G.Passes.style first.0 first.1 bytes c.args.self.now c.args.lines.now i in
-    run_broke g.D.Drain.contents g.D.Drain.has_failed g.G.Grammar.words g.G.Passes.style first.0 first.1 _ _ _ (c.in-Ok.ensures.takes first bytes put) _
-    (search rules) (search rules) (search rules)
+    let put = putting g.D.Drain.contents g.D.Drain.has_failed g.G.Grammar.words g.G.Passes.style first.0 first.1 bytes c.args.self.now c.args.lines.now i in (
+      run_broke g.D.Drain.contents g.D.Drain.has_failed g.G.Grammar.words g.G.Passes.style first.0 first.1 _ _ _ (c.in-Ok.ensures.takes first bytes put) _
+          (search rules) (search rules) (search rules),
+      tt,
+    )
 
 pub returns-in-Err-clause-stays : goal.returns-in-Err-clause-stays
 returns-in-Err-clause-stays g c = c.in-Err.ensures.stays
