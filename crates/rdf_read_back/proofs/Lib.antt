@@ -2,4 +2,5 @@
 pub mod WrittenParts
 pub mod WrittenSteps
 pub mod WrittenLimits
+pub mod OfConverting
 pub mod OfWriting

@@ -1,5 +1,5 @@
--- What is written for a document of Turtle or TriG is a document of N-Quads, with the same quads.
-use Rattle.std.specs.Prelude.{◌≡◌, ◌≤◌, ◌+◌, ◌*◌, ℕ, List, length, Some, IfSome, encode_utf8_all}
+-- What is written for a document is a document of N-Quads, with the same quads: of Turtle or TriG, and what `convert` answers for any format.
+use Rattle.std.specs.Prelude.{◌≡◌, ◌≤◌, ◌+◌, ◌*◌, ℕ, List, length, Option, Some, IfSome, encode_utf8_all}
 use Rattle.rdf_terms.specs.Terms.{Quad, IsIri}
 use Rattle.rdf_tokens.specs.Grammars.{IsDocumentOf, IsWhole, IsReadToItsEnd}
 use Rattle.rdf_tokens.specs.Scans.{most_bytes}
@@ -13,6 +13,10 @@ use Rattle.rdf_lines.specs.Writing.{text, Writable}
 use Rattle.rdf_lines.specs.Documents.{in_lines}
 use Rattle.rdf_trig.specs.declared.form.DocForm.{DocForm}
 use Rattle.rdf_trig.specs.Language.{language}
+use Rattle.rdf_driver.specs.declared.summary.Summary.{Summary}
+use Rattle.rdf_stream.specs.Converts.{Accepts, lines_of}
+use Rattle.rdf_stream.specs.Jobs.{JobRead}
+use Rattle.rdf_stream.specs.Languages.{conversion_of}
 
 -- the base, where there is one, and what each prefix is bound to are IRIs
 pub record HasIris (s : InForce) : Type 0 where
@@ -38,3 +42,23 @@ PrefixedDocumentIsRead = (e : Escapes) (p : List ℕ) (form : DocForm) (start : 
     string_width e * start.limits.token ≤ token_then → iri_width e * start.limits.iri + 2 ≤ token_then → 64 ≤ token_then →
     start.limits.iri ≤ iri_then → 64 ≤ iri_then →
     IsReadToItsEnd (in_lines NQuads (length p + token_then) iri_then) (encode_utf8_all (text_in (record { style = Tagged; escapes = e; prefix = p }) qs))
+
+-- What the types of a job's parts say: its base and its bindings are IRIs, and its word has letters and digits alone.
+pub record IsJob (job : JobRead) : Type 0 where
+  pub iris : HasIris (record { base = job.base; bindings = job.bindings; limits = job.limits })
+  pub word : IsNodePrefix job.node_prefix
+
+-- These limits, with the word's length more for tokens, suffice for what is written for the job.
+pub record Suffice (job : JobRead) (token_then iri_then : ℕ) : Type 0 where
+  pub strings : string_width job.escapes * job.limits.token ≤ token_then
+  pub iris : iri_width job.escapes * job.limits.iri + 2 ≤ token_then
+  pub token : 64 ≤ token_then
+  pub kept : job.limits.iri ≤ iri_then
+  pub iri : 64 ≤ iri_then
+
+-- What `convert` has written where it accepts a document, of any format, is read to its end as N-Quads. That its quads are those of the document is
+-- `reads_back` of what it promises.
+abbrev pub ConvertedIsRead : Type 0
+ConvertedIsRead = (job : JobRead) (bytes : List ℕ) (old new : Option (List ℕ)) (s : Summary) → IsJob job →
+    (accepted : Accepts (conversion_of job) bytes old new s) → (token_then iri_then : ℕ) → Suffice job token_then iri_then →
+    IsReadToItsEnd (in_lines NQuads (length job.node_prefix + token_then) iri_then) (lines_of (conversion_of job).form accepted.quads)

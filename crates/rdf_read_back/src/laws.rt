@@ -1,6 +1,6 @@
 //! The laws of reading back. These functions do nothing: their contracts are the laws.
 
-ghost use Rattle.rdf_read_back.specs.Laws.{DocumentIsWritable, WrittenDocumentIsRead, PrefixedDocumentIsRead};
+ghost use Rattle.rdf_read_back.specs.Laws.{ConvertedIsRead, DocumentIsWritable, WrittenDocumentIsRead, PrefixedDocumentIsRead};
 
 /// The quads of a document can be written with a node that has no label named by its offset: they are well formed.
 pub fn document_is_writable()
@@ -16,4 +16,9 @@ pub fn written_document_is_read()
 /// With a word in front of the names of nodes it is read so too, with the word's length more for tokens.
 pub fn prefixed_document_is_read()
     ensures { PrefixedDocumentIsRead }
+{}
+
+/// What `convert` has written where it accepts a document, of any format, is read to its end so: its clause `accepted` says all that this takes.
+pub fn converted_is_read()
+    ensures { ConvertedIsRead }
 {}

@@ -1,12 +1,12 @@
 -- A whole check, from what its run has done.
-use Rattle.std.proofs.Common.{◌≡◌, ℕ, ◌+◌, Bool, true, false, List, [], ◌++◌, length, Option, IfSome, refl, sym, ap, subst, ⊎_elim, ◌∙◌, length-append}
+use Rattle.std.proofs.Common.{◌≡◌, ◌≤◌, ℕ, ◌+◌, Bool, true, false, List, [], ◌++◌, length, Option, IfSome, refl, sym, ap, subst, ⊎_elim, ◌∙◌, arith, length-append}
 use Rattle.std.proofs.lemmas.Bool.{false≢true}
 use Rattle.std.proofs.KnownBytes.{Consumes-whole}
 use Rattle.rdf_terms.specs.declared.reason.Reason.{Reason}
 use Rattle.rdf_terms.specs.declared.reason.Reason.TheVariants as reason
 use Rattle.rdf_terms.specs.Terms.{Quad}
 use Rattle.rdf_tokens.specs.Tokens.{Place}
-use Rattle.rdf_tokens.specs.Scans.{place_of}
+use Rattle.rdf_tokens.specs.Scans.{most_bytes, place_of}
 use Rattle.rdf_tokens.specs.Grammars.{GoesOn, Language}
 use Rattle.rdf_tokens.proofs.LanguageLemmas.{EndsAtBlame, refused_in_more}
 use Rattle.rdf_driver.specs.declared.summary.Summary.{Summary}
@@ -16,7 +16,7 @@ use Rattle.rdf_driver.proofs.PromiseLemmas.{read_goes_on}
 use Rattle.rdf_stream.specs.declared.checks.NoQuads.{NoQuads}
 use Rattle.rdf_stream.specs.declared.fault.StreamFault.{StreamFault}
 use Rattle.rdf_stream.specs.declared.fault.StreamFault.TheVariants as stream
-use Rattle.rdf_stream.specs.Checks.{BeginsToRead, CheckEnds, CheckHalts, CheckStops, ChecksNoMore, IsChecking, IsRefusedFor, IsAccepted}
+use Rattle.rdf_stream.specs.Checks.{BeginsToRead, CheckEnds, CheckHalts, CheckStops, ChecksNoMore, HasChecked, IsChecking, IsRefusedFor, IsAccepted}
 use Rattle.rdf_stream.specs.Devices.{HasGiven, Reading}
 use Rattle.rdf_stream.specs.Faults.{IsOfDocument, IsRefusal, fault_by}
 use Rattle.rdf_stream.specs.Pieces.{ReadStops, ReadsAll, SourceFails}
@@ -58,14 +58,15 @@ module _ {G X : Type 0} (w : Words G X Quad) (first old : Driven G) (bytes : Lis
             at_limit (λ m. IsRefusedFor why (in_words w x m) (bytes ++ piece) false (record { offset = n; line = k })) (z.0, z.1)
 
   -- the document was read
-  pub end_read : (before after : NoQuads) (s : Summary) → Finishes w TakesNone old before s after → CheckEnds w s first bytes
-  end_read before after s f = λ x b.
+  pub end_read : length bytes ≤ most_bytes → (before after : NoQuads) (s : Summary) → Finishes w TakesNone old before s after → CheckEnds w s first bytes
+  end_read few before after s f = λ x b.
       let (quads, h) = i.read x b in
       let sums = f.read x bytes quads h in
       at_limit (λ m. IsAccepted (in_words w x m) bytes s) (record {
         quads = quads ++ f.more;
         document = sums.document;
         within = sums.whole;
+        size = few;
         counts = record { quads = sums.given; tokens = sums.accepted; bytes = sums.taken };
       })
 
@@ -127,6 +128,12 @@ halts_more w reported first bytes more h = record {
   halts = λ x b. checks_no_more reported (in_words w x first.scanner.limit) (b.lawful.ends x) bytes more (h.halts x b);
 }
 
+-- so are they, and no more than a document has
+pub few_read : {G X : Type 0} (w : Words G X Quad) (first new : Driven G) (bytes : List ℕ) → IsChecking w first bytes new → new.so_far.bytes ≤ most_bytes → HasChecked w first bytes new
+few_read w first new bytes j few =
+    let (x, b) = j.begun in
+    let counts : new.so_far.bytes ≡ length bytes = ap (λ (s : Summary). s.bytes) (j.read x b).1.so_far in (j, subst (λ n. n ≤ most_bytes) counts few)
+
 -- the bytes are counted
 pub counted : {G X : Type 0} (w : Words G X Quad) (first old new : Driven G) (bytes piece : List ℕ) → IsChecking w first bytes old → IsChecking w first (bytes ++ piece) new → new.so_far.bytes ≡ old.so_far.bytes + length piece
 counted w first old new bytes piece i j =
@@ -141,7 +148,7 @@ module _ {G X : Type 0} (w : Words G X Quad) where
   R = Driven G × NoQuads
 
   abbrev pub Taken : R → List ℕ → R → Type 0
-  Taken first bytes now = IsChecking w first.0 bytes now.0
+  Taken first bytes now = HasChecked w first.0 bytes now.0
 
   abbrev pub Halted : StreamFault → R → List ℕ → Bool → R → Type 0
   Halted reported first bytes e now = CheckHalts w reported first.0 bytes e
@@ -151,7 +158,7 @@ module _ {G X : Type 0} (w : Words G X Quad) where
 
   -- nothing was read
   pub begins : (x : X) (first : R) → BeginsToRead w x first.0 → Taken first [] first
-  begins x first b = record { begun = (x, b); limit = refl; read = λ y b. ([], b.read) }
+  begins x first b = (record { begun = (x, b); limit = refl; read = λ y b. ([], b.read) }, omega arith)
 
   module _ (x : X) (limit : ℕ) (first now : R) (same_limit : first.0.scanner.limit ≡ limit) (b : BeginsToRead w x first.0) (known : Option (List ℕ)) (left : Reading) where
     -- a run that read to the end has accepted the document, as `check` promises
@@ -162,12 +169,12 @@ module _ {G X : Type 0} (w : Words G X Quad) where
     -- where the source failed, what was read before it may begin a document
     broke : SourceFails Taken known left first now → CheckStops stream.Read (in_words w x limit) known left
     broke h =
-        let (quads, r) = h.is_taken.read x b in
+        let (quads, r) = h.is_taken.0.read x b in
         let goes_on = read_goes_on w b.lawful now.0 x h.bytes quads r in (
           h.broken,
           h.bytes,
           h.consumed,
-          subst (λ n. GoesOn (in_words w x n) h.bytes) same_limit (subst (λ n. GoesOn (in_words w x n) h.bytes) h.is_taken.limit goes_on),
+          subst (λ n. GoesOn (in_words w x n) h.bytes) same_limit (subst (λ n. GoesOn (in_words w x n) h.bytes) h.is_taken.0.limit goes_on),
         )
 
     -- each other end is a failed source, or the reader's refusal at its place

@@ -483,14 +483,15 @@ module _ {G X D A : Type 0} (contents : D → Option (List ℕ)) (failed : D →
     all_writable = all_able f.more all_put.writable
 
     -- the document was read and written
-    pub end_read : (after : LineOut D A) → SameOut mid after → Appends (contents mid.drain.now) (contents after.drain.now) mid.buffer.now →
+    pub end_read : length bytes ≤ most_bytes → (after : LineOut D A) → SameOut mid after → Appends (contents mid.drain.now) (contents after.drain.now) mid.buffer.now →
         SameOut first after × Accepts job bytes (contents first.drain.now) (contents after.drain.now) summary
-    end_read after s t = (
+    end_read few after s t = (
       same_out first mid after (same_out first lines mid o.same all_put.same) s,
       record {
         quads = o.quads ++ f.more;
         document = sums.document;
         within = sums.whole;
+        size = few;
         written = written_all mid after f.more all_put.writes t;
         reads_back = λ limit h. form_reads_back (form_of first.form) (o.quads ++ f.more) limit is_word all_writable h;
         ascii = all_ascii f.more all_put.writable;
@@ -587,11 +588,12 @@ module _ {G X D A : Type 0} (contents : D → Option (List ℕ)) (failed : D →
 
   -- what waited was handed over
   pub run_handed : (after : LineOut D A) → SameOut lines after → Appends (contents lines.drain.now) (contents after.drain.now) lines.buffer.now → after.buffer.now ≡ [] →
-      failed after.drain.now ≡ false → IsConverting contents failed w style reader first bytes old after
-  run_handed after s t none live = record {
+      failed after.drain.now ≡ false → length bytes ≤ most_bytes → IsConverting contents failed w style reader first bytes old after
+  run_handed after s t none live few = record {
     begun = i.begun;
     styled = i.styled;
     limit = i.limit;
+    few = few;
     handed = λ x y. handed contents failed w x old bytes first lines y.starts.convertible (i.put x y) after s t none live;
   }
 
@@ -633,14 +635,14 @@ module _ {G X D A : Type 0} (contents : D → Option (List ℕ)) (failed : D →
 
   module _ (summary : Summary) (mid : LineOut D A) (f : Finishes w (Takes contents failed) old lines summary mid) where
     -- the document was read and written
-    pub run_ends : (flushed : D → Bool) (after : LineOut D A) → SameOut mid after → Appends (contents mid.drain.now) (contents after.drain.now) mid.buffer.now → flushed after.drain.now ≡ true →
+    pub run_ends : length bytes ≤ most_bytes → (flushed : D → Bool) (after : LineOut D A) → SameOut mid after → Appends (contents mid.drain.now) (contents after.drain.now) mid.buffer.now → flushed after.drain.now ≡ true →
         RunEnds contents failed flushed w summary reader first bytes after
-    run_ends flushed after s t sent = record {
-      same = (end_read contents failed w i.begun.0 old bytes first lines i.begun.1.starts.convertible put_now summary mid f after s t).0;
+    run_ends few flushed after s t sent = record {
+      same = (end_read contents failed w i.begun.0 old bytes first lines i.begun.1.starts.convertible put_now summary mid f few after s t).0;
       sent = sent;
       accepts = λ x y.
           subst (λ n. Accepts (conversion w x n (form_of first.form)) bytes (contents first.drain.now) (contents after.drain.now) summary) i.limit
-          (end_read contents failed w x old bytes first lines y.starts.convertible (i.put x y) summary mid f after s t).1;
+          (end_read contents failed w x old bytes first lines y.starts.convertible (i.put x y) summary mid f few after s t).1;
     }
 
     -- the drain failed

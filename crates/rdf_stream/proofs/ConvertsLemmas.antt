@@ -131,6 +131,7 @@ module _ {G X D : Type 0} (A : Type 0) (contents : D → Option (List ℕ)) (fai
     begun = (x, b);
     styled = styled;
     limit = refl;
+    few = omega arith;
     handed = λ y b. record {
       quads = [];
       read = b.starts.read;

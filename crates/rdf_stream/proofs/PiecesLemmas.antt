@@ -58,6 +58,11 @@ pub on_ok : {T E : Type 0} (r : Result T E) (P : T → Type 0) (Q : Type 0) → 
 on_ok (Ok x) P Q f h = f x h
 on_ok (Err e) P Q f h = tt
 
+-- what follows from two things that hold holds
+pub on_both : {T E : Type 0} (r : Result T E) (P Q R : Type 0) → (P → Q → R) → OnOk r P → OnOk r Q → OnOk r R
+on_both (Ok x) P Q R f p q = f p q
+on_both (Err e) P Q R f p q = tt
+
 -- no byte was read
 abbrev pub none_given : (left : Reading) → left.has_ended ≡ false → left.has_failed ≡ false → HasGiven left.remaining left
 none_given left more live = record { bytes = []; consumed = Consumes-nil left.remaining; ended = λ e. absurd (false≢true (sym more ∙ e)); live = live }

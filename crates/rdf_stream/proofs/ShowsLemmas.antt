@@ -408,12 +408,13 @@ module _ {D A : Type 0} (contents : D → Option (List ℕ)) (failed : D → Boo
     all_end = due_tokens d _ (before ++ f.more) sums.due ∙ ap (λ r. without_end r.tokens) (same_reading bytes true)
 
     -- the document was read, and its tokens shown
-    end_read : (after : LineOut D A) → SameOut mid after → Appends (contents mid.drain.now) (contents after.drain.now) mid.buffer.now →
+    end_read : length bytes ≤ most_bytes → (after : LineOut D A) → SameOut mid after → Appends (contents mid.drain.now) (contents after.drain.now) mid.buffer.now →
         SameOut first after × Shows job bytes (contents first.drain.now) (contents after.drain.now) (record summary { quads = 0 })
-    end_read after s t = (
+    end_read few after s t = (
       same_out first mid after (same_out first lines mid o.same all_put.same) s,
       record {
         whole = ap (λ r. r.outcome) (sym (same_reading bytes true)) ∙ sums.document.0;
+        size = few;
         written = written_tokens after f.more (tokens_in job bytes true).tokens (written_all mid after f.more all_put.writes t) all_end;
         no_quads = refl;
         tokens = sums.accepted ∙ ap (λ r. length r.tokens) (same_reading bytes true);
@@ -456,9 +457,10 @@ module _ {D A : Type 0} (contents : D → Option (List ℕ)) (failed : D → Boo
     module _ (new : Driven ℕ) (mid : LineOut D A) (f : Feeds (token_words d) (TakesToken contents failed) old lines piece new mid) where
       -- a piece more
       pub run_takes : (after : LineOut D A) → SameOut mid after → Appends (contents mid.drain.now) (contents after.drain.now) mid.buffer.now → after.buffer.now ≡ [] →
-          failed after.drain.now ≡ false → IsShowing contents failed d reader first (bytes ++ piece) new after
-      run_takes after s t none live = record {
+          failed after.drain.now ≡ false → new.scanner.taken.offset ≤ most_bytes → IsShowing contents failed d reader first (bytes ++ piece) new after
+      run_takes after s t none live few = record {
         begun = i.begun;
+        few = subst (λ n. n ≤ most_bytes) (ap (λ (p : Place). p.offset) (f.read tt bytes _ begun_with.read).scanned.taken) few;
         handed = λ job y. piece_read contents failed d job old bytes first lines (i.handed job y) piece new mid f after s t none live;
       }
 
@@ -495,12 +497,12 @@ module _ {D A : Type 0} (contents : D → Option (List ℕ)) (failed : D → Boo
 
   module _ (summary : Summary) (mid : LineOut D A) (f : Finishes (token_words d) (TakesToken contents failed) old lines summary mid) where
     -- the document was read, and its tokens shown
-    pub run_ends : (flushed : D → Bool) (after : LineOut D A) → SameOut mid after → Appends (contents mid.drain.now) (contents after.drain.now) mid.buffer.now → flushed after.drain.now ≡ true →
+    pub run_ends : length bytes ≤ most_bytes → (flushed : D → Bool) (after : LineOut D A) → SameOut mid after → Appends (contents mid.drain.now) (contents after.drain.now) mid.buffer.now → flushed after.drain.now ≡ true →
         ShowEnds contents failed flushed d (record summary { quads = 0 }) reader first bytes after
-    run_ends flushed after s t sent = record {
-      same = (end_read contents failed d i.begun.0 old bytes first lines begun_with summary mid f after s t).0;
+    run_ends few flushed after s t sent = record {
+      same = (end_read contents failed d i.begun.0 old bytes first lines begun_with summary mid f few after s t).0;
       sent = sent;
-      shows = λ job y. (end_read contents failed d job old bytes first lines (i.handed job y) summary mid f after s t).1;
+      shows = λ job y. (end_read contents failed d job old bytes first lines (i.handed job y) summary mid f few after s t).1;
     }
 
     -- the drain failed
@@ -557,6 +559,7 @@ module _ {D : Type 0} (A : Type 0) (contents : D → Option (List ℕ)) (failed 
   pub run_begins : (job : JobRead) (first : State) → Begins failed d job first.0 first.1 → Taken first [] first
   run_begins job first b = record {
     begun = (job, b);
+    few = omega arith;
     handed = λ y b.
         let none = tokens_of-nil (dialect_of y.form) y.limits.token in
         record {

@@ -1,11 +1,11 @@
 -- What reading a document to its end reports.
-use Rattle.std.specs.Prelude.{◌≡◌, ℕ, Bool, true, List, [], Option, IfSome}
+use Rattle.std.specs.Prelude.{◌≡◌, ◌≤◌, ℕ, Bool, true, List, [], length, Option, IfSome}
 use Rattle.std.specs.Io.KnownBytes.{Consumes}
 use Rattle.rdf_terms.specs.declared.reason.Reason.{Reason}
 use Rattle.rdf_terms.specs.declared.reason.Reason.TheVariants.{DocumentTooLong}
 use Rattle.rdf_terms.specs.Terms.{Quad}
 use Rattle.rdf_tokens.specs.Tokens.{Place}
-use Rattle.rdf_tokens.specs.Scans.{place_of}
+use Rattle.rdf_tokens.specs.Scans.{most_bytes, place_of}
 use Rattle.rdf_tokens.specs.Grammars.{GoesOn, IsDocumentOf, IsTooLong, IsWhole, Language, Refused as IsRefused}
 use Rattle.rdf_driver.specs.declared.summary.Summary.{Summary}
 use Rattle.rdf_driver.specs.Readers.{Driven, HasRead}
@@ -22,6 +22,7 @@ pub record IsAccepted (language : Language) (bytes : List ℕ) (s : Summary) : T
   pub quads : List Quad
   pub document : IsDocumentOf language bytes quads
   pub within : IsWhole language bytes
+  pub size : length bytes ≤ most_bytes
   pub counts : Counts language bytes quads s
 
 -- all bytes of a source are such a document, where they are known
@@ -54,6 +55,10 @@ pub record IsChecking {G X : Type 0} (w : Words G X Quad) (reader : Driven G) (b
   pub begun : (x : X) × BeginsToRead w x reader
   pub limit : now.scanner.limit ≡ reader.scanner.limit
   pub read : (x : X) → BeginsToRead w x reader → (quads : List Quad) × HasRead w now x bytes quads
+
+-- The same, and they are no more than a document has.
+abbrev pub HasChecked : {G X : Type 0} → Words G X Quad → Driven G → List ℕ → Driven G → Type 0
+HasChecked w reader bytes now = IsChecking w reader bytes now × (length bytes ≤ most_bytes)
 
 -- why the bytes are not read on
 abbrev pub ChecksNoMore : StreamFault → Language → List ℕ → Bool → Type 0

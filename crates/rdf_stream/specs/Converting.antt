@@ -1,11 +1,11 @@
 -- What a conversion has done after each piece, and why it stops within one.
-use Rattle.std.specs.Prelude.{◌≡◌, ◌⊎◌, ℕ, Bool, true, false, List, [], Option}
+use Rattle.std.specs.Prelude.{◌≡◌, ◌⊎◌, ◌≤◌, ℕ, Bool, true, false, List, [], length, Option}
 use Rattle.std.specs.Io.KnownBytes.{Appends}
 use Rattle.std.specs.List.{AllByRecursion}
 use Rattle.rdf_terms.specs.Terms.{Quad}
 use Rattle.rdf_tokens.specs.Tokens.{Token}
 use Rattle.rdf_tokens.specs.Grammars.{Due, reading_of}
-use Rattle.rdf_tokens.specs.Scans.{place_of}
+use Rattle.rdf_tokens.specs.Scans.{most_bytes, place_of}
 use Rattle.rdf_tokens.specs.declared.token.Fault.{Fault}
 use Rattle.rdf_driver.specs.declared.summary.Summary.{Summary}
 use Rattle.rdf_driver.specs.Readers.{Driven, HasRead}
@@ -71,12 +71,13 @@ pub record IsPutting {G X D A : Type 0} (contents : D → Option (List ℕ)) (fa
   pub limit : now.scanner.limit ≡ reader.scanner.limit
   pub put : (x : X) → Begins failed w x reader first → HasPut contents failed w x now bytes first lines
 
--- The same, and they were all handed over.
+-- The same, they were all handed over, and the bytes are no more than a document has.
 pub record IsConverting {G X D A : Type 0} (contents : D → Option (List ℕ)) (failed : D → Bool) (w : Words G X Quad) (style : Style)
     (reader : Driven G) (first : LineOut D A) (bytes : List ℕ) (now : Driven G) (lines : LineOut D A) : Type 0 where
   pub begun : (x : X) × Begins failed w x reader first
   pub styled : first.form.style ≡ style
   pub limit : now.scanner.limit ≡ reader.scanner.limit
+  pub few : length bytes ≤ most_bytes
   pub handed : (x : X) → Begins failed w x reader first → HandedOver contents failed w x now bytes first lines
 
 -- why the bytes are not read on, and what was written

@@ -6,7 +6,7 @@ use Rattle.rdf_terms.specs.declared.reason.Reason.{Reason}
 use Rattle.rdf_terms.specs.declared.reason.Reason.TheVariants.{DocumentTooLong}
 use Rattle.rdf_terms.specs.Terms.{Quad}
 use Rattle.rdf_tokens.specs.Tokens.{Place, Token}
-use Rattle.rdf_tokens.specs.Scans.{place_of}
+use Rattle.rdf_tokens.specs.Scans.{most_bytes, place_of}
 use Rattle.rdf_tokens.specs.Grammars.{BeginsDue, Due, GoesOn, IsDocumentOf, IsTooLong, IsWhole, Language, RefusedIn, reading_of}
 use Rattle.rdf_driver.specs.declared.summary.Summary.{Summary}
 use Rattle.rdf_lines.specs.declared.form.Escapes.TheVariants.{Ascii}
@@ -37,6 +37,7 @@ pub record Accepts (job : Conversion) (bytes : List ℕ) (old new : Option (List
   pub quads : List Quad
   pub document : IsDocumentOf job.language bytes quads
   pub within : IsWhole job.language bytes
+  pub size : length bytes ≤ most_bytes
   pub written : Appends old new (lines_of job.form quads)
   pub reads_back : (limit : ℕ) → length (text_in job.form quads) ≤ limit → ReadsBackIn job.form quads limit
   pub ascii : IsAscii job.form quads

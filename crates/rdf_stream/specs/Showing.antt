@@ -1,9 +1,9 @@
 -- What showing tokens has done after each piece, and why it stops within one.
-use Rattle.std.specs.Prelude.{◌≡◌, ℕ, Bool, true, false, List, [], ◌++◌, Option}
+use Rattle.std.specs.Prelude.{◌≡◌, ◌≤◌, ℕ, Bool, true, false, List, [], ◌++◌, length, Option}
 use Rattle.std.specs.Io.KnownBytes.{Appends}
 use Rattle.rdf_terms.specs.declared.kind.Dialect.{Dialect}
 use Rattle.rdf_tokens.specs.Tokens.{Token}
-use Rattle.rdf_tokens.specs.Scans.{place_of}
+use Rattle.rdf_tokens.specs.Scans.{most_bytes, place_of}
 use Rattle.rdf_driver.specs.declared.summary.Summary.{Summary}
 use Rattle.rdf_driver.specs.Readers.{Driven, HasRead}
 use Rattle.rdf_stream.specs.Jobs.{JobRead}
@@ -55,10 +55,11 @@ HaltsFor fault.Read job bytes is_end old new failed = ⊥
 HaltsFor fault.Write job bytes is_end old new failed = (failed ≡ true) × ShowsFront (tokens_in job bytes is_end) old new
 HaltsFor fault.Memory job bytes is_end old new failed = (failed ≡ false) × ShowsSome (tokens_in job bytes is_end) old new
 
--- Since the run began these bytes were read, and the lines of their tokens were handed over.
+-- Since the run began these bytes were read, no more than a document has, and the lines of their tokens were handed over.
 pub record IsShowing {D A : Type 0} (contents : D → Option (List ℕ)) (failed : D → Bool) (d : Dialect)
     (reader : Driven ℕ) (first : LineOut D A) (bytes : List ℕ) (now : Driven ℕ) (lines : LineOut D A) : Type 0 where
   pub begun : (job : JobRead) × Begins failed d job reader first
+  pub few : length bytes ≤ most_bytes
   pub handed : (job : JobRead) → Begins failed d job reader first → HandedOver contents failed d job now bytes first lines
 
 -- Since the run began these bytes came, and are not read on.

@@ -1,5 +1,5 @@
 -- The line of a token, what showing the tokens of a document writes, and why it stops.
-use Rattle.std.specs.Prelude.{◌≡◌, ℕ, ◌+◌, Bool, true, false, cond, List, [], ◌∷◌, ◌++◌, length, take, Option, IfSome, codes, decimal}
+use Rattle.std.specs.Prelude.{◌≡◌, ◌≤◌, ℕ, ◌+◌, Bool, true, false, cond, List, [], ◌∷◌, ◌++◌, length, take, Option, IfSome, codes, decimal}
 use Rattle.std.specs.Io.KnownBytes.{Appends, Consumes}
 use Rattle.rdf_terms.specs.declared.kind.Dialect.{Dialect}
 use Rattle.rdf_terms.specs.declared.kind.Dialect.TheVariants.{Lines, Turtle as turtle}
@@ -80,6 +80,7 @@ token_lines (t ∷ ts) = shown t ++ token_lines ts
 -- All of the bytes are tokens, their lines were written, and the summary counts them.
 pub record Shows (job : JobRead) (bytes : List ℕ) (old new : Option (List ℕ)) (s : Summary) : Type 0 where
   pub whole : (tokens_in job bytes true).outcome ≡ complete
+  pub size : length bytes ≤ most_bytes
   pub written : Appends old new (token_lines (tokens_in job bytes true).tokens)
   pub no_quads : s.quads ≡ 0
   pub tokens : s.tokens + 1 ≡ length (tokens_in job bytes true).tokens

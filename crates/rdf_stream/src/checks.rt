@@ -1,7 +1,7 @@
 // Reading a document to its end.
 
 ghost use Rattle.std.specs.Prelude.{◌≡◌, true, false, OnOk, IfOk, IfErr};
-ghost use Rattle.rdf_stream.specs.Checks.{BeginsToRead, CheckAccepts, CheckEnds, CheckHalts, CheckStops, IsAllAccepted, IsChecking, ReadingStops};
+ghost use Rattle.rdf_stream.specs.Checks.{BeginsToRead, CheckAccepts, CheckEnds, CheckHalts, CheckStops, HasChecked, IsAllAccepted, IsChecking, ReadingStops};
 ghost use Rattle.rdf_stream.specs.Faults.{IsRefusal};
 ghost use Rattle.rdf_stream.specs.Languages.{language_of};
 ghost use Rattle.rdf_stream.specs.Told.{told};
@@ -66,7 +66,7 @@ fn check_with<A: Allocator + Copy, G: Passes<A>, S: Source>(
 }
 
 impl<A: Allocator + Copy, G: Passes<A>> Run<NoQuads> for Reader<G, A> {
-    ghost taken = { λ first bytes now. IsChecking G.words first.0 bytes now.0 };
+    ghost taken = { λ first bytes now. HasChecked G.words first.0 bytes now.0 };
 
     ghost halts = { λ reported first bytes is_end now. CheckHalts G.words reported first.0 bytes is_end };
 

@@ -12,7 +12,7 @@ send-requires g c =
 
 pub returns-in-Ok-send-clause-ends : goal.returns-in-Ok-send-clause-ends
 returns-in-Ok-send-clause-ends g c = λ first bytes i.
-    run_ends g.D.Drain.contents g.D.Drain.has_failed g.G.Grammar.words g.G.Passes.style first.0 first.1 bytes c.args.self.now c.args.lines.now (putting g.D.Drain.contents g.D.Drain.has_failed g.G.Grammar.words g.G.Passes.style first.0 first.1 bytes c.args.self.now c.args.lines.now i) _ _ c.in-Ok.ensures.ok g.D.Drain.is_flushed _ (search rules) (search rules) (search rules)
+    run_ends g.D.Drain.contents g.D.Drain.has_failed g.G.Grammar.words g.G.Passes.style first.0 first.1 bytes c.args.self.now c.args.lines.now (putting g.D.Drain.contents g.D.Drain.has_failed g.G.Grammar.words g.G.Passes.style first.0 first.1 bytes c.args.self.now c.args.lines.now i) _ _ c.in-Ok.ensures.ok i.few g.D.Drain.is_flushed _ (search rules) (search rules) (search rules)
 
 pub returns-in-Ok-send-clause-stays : goal.returns-in-Ok-send-clause-stays
 returns-in-Ok-send-clause-stays g c = λ first s.

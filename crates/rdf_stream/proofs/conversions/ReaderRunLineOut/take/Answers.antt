@@ -1,5 +1,6 @@
 -- A piece: its lines are handed over, and an error within it or of the drain stops the run.
-use Rattle.std.proofs.Common.{rules, ap, ◌+◌, ◌∙◌, length, length-append, sym}
+use Rattle.std.proofs.Common.{rules, ap, ◌+◌, ◌≤◌, ◌∙◌, length, length-append, subst, sym}
+use Rattle.rdf_tokens.specs.Scans.{most_bytes}
 use Rattle.rdf_stream.proofs.ConvertingLemmas.{count_now, live_now, putting, run_broke, run_handed}
 use Rattle.rdf_stream.proofs.GrowthLemmas.{grows_both, grows_by, grows_front}
 use Rattle.rdf_stream.proofs.conversions.ReaderRunLineOut.take.Goals as goal
@@ -20,6 +21,7 @@ returns-in-Ok-hand_over-clause-takes g c = λ first bytes i.
     let put = putting g.D.Drain.contents g.D.Drain.has_failed g.G.Grammar.words g.G.Passes.style first.0 first.1 bytes c.args.self.now c.args.lines.now i in
     run_handed g.D.Drain.contents g.D.Drain.has_failed g.G.Grammar.words g.G.Passes.style first.0 first.1 _ _ _ (c.in-Ok.ensures.takes first bytes put) _
     (search rules) (search rules) (search rules) (search rules)
+    (subst (λ n. n ≤ most_bytes) (count_now g.D.Drain.contents g.D.Drain.has_failed g.G.Grammar.words g.G.Passes.style first.0 first.1 _ _ _ (c.in-Ok.ensures.takes first bytes put)) c.in-Ok.ensures.few)
 
 pub returns-in-Ok-hand_over-clause-count : goal.returns-in-Ok-hand_over-clause-count
 returns-in-Ok-hand_over-clause-count g c =

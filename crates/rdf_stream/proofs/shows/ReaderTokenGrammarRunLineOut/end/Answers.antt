@@ -13,13 +13,13 @@ send-requires g c =
 pub returns-in-Ok-send-clause-ends : goal.returns-in-Ok-send-clause-ends
 returns-in-Ok-send-clause-ends g c = λ first bytes i.
     subst (λ s. ShowEnds g.D.Drain.contents g.D.Drain.has_failed g.D.Drain.is_flushed g.T.Spoken.spoken s first.0 first.1 bytes c.send.new.self) (sym c.of_tokens.ensures)
-    (run_ends g.D.Drain.contents g.D.Drain.has_failed g.T.Spoken.spoken first.0 first.1 bytes c.args.self.now c.args.lines.now i _ _ c.in-Ok.ensures.ok g.D.Drain.is_flushed _ (search rules) (search rules) (search rules))
+    (run_ends g.D.Drain.contents g.D.Drain.has_failed g.T.Spoken.spoken first.0 first.1 bytes c.args.self.now c.args.lines.now i _ _ c.in-Ok.ensures.ok i.few g.D.Drain.is_flushed _ (search rules) (search rules) (search rules))
 
 pub returns-in-Ok-send-clause-stays : goal.returns-in-Ok-send-clause-stays
 returns-in-Ok-send-clause-stays g c = λ before s.
     let (first, bytes, i) = c.requires.begun in
     stays_on g.D.Drain.contents g.D.Drain.has_failed g.T.Spoken.spoken first.0 first.1 bytes c.args.self.now c.args.lines.now i _
-    (run_ends g.D.Drain.contents g.D.Drain.has_failed g.T.Spoken.spoken first.0 first.1 bytes c.args.self.now c.args.lines.now i _ _ c.in-Ok.ensures.ok g.D.Drain.is_flushed _ (search rules) (search rules) (search rules)).same before.1 s
+    (run_ends g.D.Drain.contents g.D.Drain.has_failed g.T.Spoken.spoken first.0 first.1 bytes c.args.self.now c.args.lines.now i _ _ c.in-Ok.ensures.ok i.few g.D.Drain.is_flushed _ (search rules) (search rules) (search rules)).same before.1 s
 
 pub returns-in-Err-send-clause-stays : goal.returns-in-Err-send-clause-stays
 returns-in-Err-send-clause-stays g c = λ before s.

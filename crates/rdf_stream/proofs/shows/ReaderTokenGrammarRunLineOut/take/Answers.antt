@@ -6,7 +6,7 @@ use Rattle.rdf_stream.proofs.shows.ReaderTokenGrammarRunLineOut.take.Goals as go
 pub returns-in-Ok-hand_over-clause-takes : goal.returns-in-Ok-hand_over-clause-takes
 returns-in-Ok-hand_over-clause-takes g c = λ first bytes i.
     run_takes g.D.Drain.contents g.D.Drain.has_failed g.T.Spoken.spoken first.0 first.1 bytes c.args.self.now c.args.lines.now i _ _ _ c.in-Ok.ensures.ok _
-    (search rules) (search rules) (search rules) (search rules)
+    (search rules) (search rules) (search rules) (search rules) c.in-Ok.ensures.few
 
 pub returns-in-Ok-hand_over-clause-count : goal.returns-in-Ok-hand_over-clause-count
 returns-in-Ok-hand_over-clause-count g c =
