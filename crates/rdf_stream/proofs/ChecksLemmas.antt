@@ -1,5 +1,5 @@
 -- A whole check, from what its run has done.
-use Rattle.std.proofs.Common.{◌≡◌, ◌≤◌, ℕ, ◌+◌, Bool, true, false, List, [], ◌++◌, length, Option, IfSome, refl, sym, ap, subst, ⊎_elim, ◌∙◌, arith, length-append}
+use Rattle.std.proofs.Common.{◌≡◌, ◌≤◌, ℕ, ◌+◌, Bool, true, false, List, [], ◌++◌, length, take, Option, IfSome, refl, sym, ap, subst, ⊎_elim, ◌∙◌, arith, length-append}
 use Rattle.std.proofs.lemmas.Bool.{false≢true}
 use Rattle.std.proofs.KnownBytes.{Consumes-whole}
 use Rattle.rdf_terms.specs.declared.reason.Reason.{Reason}
@@ -20,7 +20,7 @@ use Rattle.rdf_stream.specs.Checks.{BeginsToRead, CheckEnds, CheckHalts, CheckSt
 use Rattle.rdf_stream.specs.Devices.{HasGiven, Reading}
 use Rattle.rdf_stream.specs.Faults.{IsOfDocument, IsRefusal, fault_by}
 use Rattle.rdf_stream.specs.Pieces.{ReadStops, ReadsAll, SourceFails}
-use Rattle.rdf_stream.proofs.PiecesLemmas.{all_given, too_long_more}
+use Rattle.rdf_stream.proofs.PiecesLemmas.{all_given, same_front, too_long_more}
 
 -- a sink that only counts stays as it is
 abbrev pub TakesNone : NoQuads → Quad → NoQuads → Type 0
@@ -52,7 +52,8 @@ module _ {G X : Type 0} (w : Words G X Quad) (first old : Driven G) (bytes : Lis
         by x quads r reason.Ended h = absurd (false≢true (sym r.running ∙ h.0))
         by x quads r reason.Memory h = tt
         by x quads r reason.Sink h = absurd (false≢true h.1)
-        by x quads r reason.DocumentTooLong h = (h.full x bytes quads r).too_long
+        by x quads r reason.DocumentTooLong h =
+            let f = h.full x bytes quads r in (f.too_long, at_limit (λ m. GoesOn (in_words w x m) (take most_bytes (bytes ++ piece))) f.goes_on)
         by x quads r why h =
             let z = h.refused x bytes quads r in
             at_limit (λ m. IsRefusedFor why (in_words w x m) (bytes ++ piece) false (record { offset = n; line = k })) (z.0, z.1)
@@ -88,7 +89,7 @@ module _ {G X : Type 0} (w : Words G X Quad) (first old : Driven G) (bytes : Lis
 
 -- what is refused stays refused, with more bytes or with all of them
 refused_more : (l : Language) → EndsAtBlame l → (why : Reason) (bytes more : List ℕ) (e : Bool) (at : Place) → IsRefusedFor why l bytes false at → IsRefusedFor why l (bytes ++ more) e at
-refused_more l ends reason.DocumentTooLong bytes more e at h = too_long_more bytes more at h
+refused_more l ends reason.DocumentTooLong bytes more e at h = (too_long_more bytes more at h.0, subst (GoesOn l) (sym (same_front bytes more at h.0)) h.1)
 refused_more l ends why bytes more e at h = (h.0, refused_in_more l ends bytes more e why at h.0 h.1)
 
 -- what is not read on is not read on with more bytes

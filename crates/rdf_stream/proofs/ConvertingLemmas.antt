@@ -36,7 +36,7 @@ use Rattle.rdf_stream.specs.declared.fault.StreamFault.{StreamFault}
 use Rattle.rdf_stream.specs.declared.fault.StreamFault.TheVariants as stream
 use Rattle.rdf_stream.specs.declared.line_out.LineOut.{LineOut}
 use Rattle.rdf_stream.specs.Converting.{HandedOver, HaltsFor, HasPut, IsConverting, IsPutting, RunEnds, RunHalts, IsConvertible, Reports, ReportsFault, ReportsWrite}
-use Rattle.rdf_stream.specs.Converts.{Accepts, IsAscii, WritesDue, WritesFront, WritesSome, lines_of}
+use Rattle.rdf_stream.specs.Converts.{Accepts, IsAscii, RefusesDocument, WritesDue, WritesFront, WritesSome, lines_of}
 use Rattle.rdf_stream.specs.Devices.{AppendsFront}
 use Rattle.rdf_stream.specs.Faults.{fault_by}
 use Rattle.rdf_stream.specs.LineOut.{Leaves, Moves, PutHalts, SameOut, Takes, Writes}
@@ -298,6 +298,17 @@ module _ {G X D A : Type 0} (contents : D → Option (List ℕ)) (failed : D →
               (begins_all l (reading_of l (take most_bytes all) false).tokens (o.quads ++ h.more) f.goes_on.front.kept f.due));
         }
 
+    -- the drain has the lines of all that is due in as many bytes
+    tells_full : (after : LineOut D A) → R.Overruns w (Takes contents failed) reader lines piece (record { offset = n; line = k }) mid → ReportsFault contents failed mid after →
+        RefusesDocument reason.DocumentTooLong job (bytes ++ piece) false (record { offset = n; line = k }) (contents first.drain.now) (contents after.drain.now)
+    tells_full after h t =
+        let f = h.full x bytes o.quads o.read in
+        let put = taken contents failed h.more lines mid h.puts (styled_all (reading_of l (take most_bytes (bytes ++ piece)) false).tokens h.more f.due) in (
+          f.too_long,
+          f.goes_on,
+          record { quads = o.quads ++ h.more; due = f.due; written = written_all mid after h.more put.writes t.taken; ascii = all_ascii h.more put.writable },
+        )
+
     left_piece : (why : Reason) → FailsPiece why → LeftOff read_so_far.tokens mid
     left_piece reason.Ended h = absurd (false≢true (sym o.read.running ∙ h.0))
     left_piece reason.Memory h = leaves_off (piece_reading w reader.scanner.limit piece) mid h.0
@@ -310,7 +321,7 @@ module _ {G X D A : Type 0} (contents : D → Option (List ℕ)) (failed : D →
     fault_piece after reason.Ended h t = absurd (false≢true (sym o.read.running ∙ h.0))
     fault_piece after reason.Memory h t = (t.live_now, tells_some read_so_far.tokens mid after (left_piece reason.Memory h) t)
     fault_piece after reason.Sink h t = absurd (false≢true (sym t.live ∙ h.1))
-    fault_piece after reason.DocumentTooLong h t = (t.live_now, ((h.full x bytes o.quads o.read).too_long, tells_some read_so_far.tokens mid after (left_piece reason.DocumentTooLong h) t))
+    fault_piece after reason.DocumentTooLong h t = (t.live_now, tells_full after h t)
     fault_piece after why h t =
         (t.live_now, tells_due why (record { offset = n; line = k }) read_so_far mid after (refuses why (record { offset = n; line = k }) (piece_reading w reader.scanner.limit piece) mid h) t)
 

@@ -39,7 +39,7 @@ use Rattle.rdf_stream.specs.Pieces.{ReadStops, ReadsAll, SourceFails, TakenBefor
 use Rattle.rdf_lines.proofs.NodePrefixLemmas.{IsNodePrefix-had}
 use Rattle.rdf_stream.proofs.ConvertingLemmas.{written_ascii}
 use Rattle.rdf_stream.proofs.GrowthLemmas.{grows_none}
-use Rattle.rdf_stream.proofs.PiecesLemmas.{all_given, none_given, too_long_more}
+use Rattle.rdf_stream.proofs.PiecesLemmas.{all_given, none_given, same_front, too_long_more}
 
 -- what was written of what is due is due with more bytes
 some_more : (job : Conversion) → EndsAtBlame job.language → (bytes more : List ℕ) (e : Bool) (old new : Option (List ℕ)) → WritesSome job (reading_of job.language bytes false).tokens old new → WritesSome job (reading_of job.language (bytes ++ more) e).tokens old new
@@ -47,7 +47,12 @@ some_more job ends bytes more e old new h = record { quads = h.quads; due = due_
 
 -- what is refused stays refused, with more bytes or with all of them
 refuses_more : (job : Conversion) → EndsAtBlame job.language → (why : Reason) (bytes more : List ℕ) (e : Bool) (at : Place) (old new : Option (List ℕ)) → RefusesDocument why job bytes false at old new → RefusesDocument why job (bytes ++ more) e at old new
-refuses_more job ends reason.DocumentTooLong bytes more e at old new h = (too_long_more bytes more at h.0, some_more job ends bytes more e old new h.1)
+refuses_more job ends reason.DocumentTooLong bytes more e at old new h =
+    let same = sym (same_front bytes more at h.0) in (
+      too_long_more bytes more at h.0,
+      subst (GoesOn job.language) same h.1,
+      subst (λ b. WritesDue job (reading_of job.language b false).tokens old new) same h.2,
+    )
 refuses_more job ends why bytes more e at old new h = (h.0, refused_in_more job.language ends bytes more e why at h.0 h.1, h.2)
 
 -- what is not read on is not read on with more bytes

@@ -15,9 +15,13 @@ use Rattle.rdf_stream.specs.declared.fault.StreamFault.TheVariants as stream
 use Rattle.rdf_stream.specs.Devices.{HasGiven, Reading}
 use Rattle.rdf_stream.specs.Pieces.{HaltsOn, ReadStops, ReadsAll, ReadsEnd, StaysOn, TakenBefore, TakesMore}
 
+-- of too many bytes those that a document may have are the same with more
+pub same_front : (bytes more : List ℕ) (at : Place) → IsTooLong bytes at → take most_bytes (bytes ++ more) ≡ take most_bytes bytes
+same_front bytes more at h = take-append-le most_bytes bytes more (omega (arith, h.0))
+
 -- too many bytes are too many with more
 pub too_long_more : (bytes more : List ℕ) (at : Place) → IsTooLong bytes at → IsTooLong (bytes ++ more) at
-too_long_more bytes more at h = (omega (arith, h.0, length-append bytes more), h.1 ∙ ap end_of (sym (take-append-le most_bytes bytes more (omega (arith, h.0)))))
+too_long_more bytes more at h = (omega (arith, h.0, length-append bytes more), h.1 ∙ ap end_of (sym (same_front bytes more at h)))
 
 -- the bytes that were known are those that were read and those that are left
 known_more : (known left : Option (List ℕ)) (bytes : List ℕ) (P : List ℕ → Type 0) → Consumes known left bytes → ((rest : List ℕ) → P (bytes ++ rest)) → IfSome known P

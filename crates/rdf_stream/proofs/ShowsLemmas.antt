@@ -87,7 +87,8 @@ module _ (job : JobRead) (bytes more : List ℕ) (e : Bool) where
     stops_more reason.DocumentTooLong at s =
         let same : take most_bytes (bytes ++ more) ≡ take most_bytes bytes = take-append-le most_bytes bytes more (omega (arith, s.0.0)) in (
           (omega (arith, s.0.0, length-append bytes more), s.0.1 ∙ ap end_of (sym same)),
-          subst (λ b. Appends old new (token_lines (tokens_in job b false).tokens)) (sym same) s.1,
+          subst (λ b. (tokens_in job b false).outcome ≡ undecided) (sym same) s.1,
+          subst (λ b. Appends old new (token_lines (tokens_in job b false).tokens)) (sym same) s.2,
         )
     stops_more why at s = absurd s
 
@@ -305,6 +306,7 @@ module _ {D A : Type 0} (contents : D → Option (List ℕ)) (failed : D → Boo
         let f = h.full tt bytes before o.read in
         let p = put contents failed h.more lines mid h.puts in (
           f.too_long,
+          ap (λ r. r.outcome) (sym (same_reading (take most_bytes all_bytes) false)) ∙ f.goes_on.ends,
           written_tokens after h.more (tokens_in job (take most_bytes all_bytes) false).tokens (written_all mid after h.more p.writes t.taken)
               (due_tokens d _ (before ++ h.more) f.due ∙ ap (λ r. without_end r.tokens) (same_reading (take most_bytes all_bytes) false)),
         )

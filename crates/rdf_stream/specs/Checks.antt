@@ -1,5 +1,5 @@
 -- What reading a document to its end reports.
-use Rattle.std.specs.Prelude.{◌≡◌, ◌≤◌, ℕ, Bool, true, List, [], length, Option, IfSome}
+use Rattle.std.specs.Prelude.{◌≡◌, ◌≤◌, ℕ, Bool, true, List, [], length, take, Option, IfSome}
 use Rattle.std.specs.Io.KnownBytes.{Consumes}
 use Rattle.rdf_terms.specs.declared.reason.Reason.{Reason}
 use Rattle.rdf_terms.specs.declared.reason.Reason.TheVariants.{DocumentTooLong}
@@ -29,9 +29,10 @@ pub record IsAccepted (language : Language) (bytes : List ℕ) (s : Summary) : T
 abbrev pub IsAllAccepted : Language → Option (List ℕ) → Summary → Type 0
 IsAllAccepted language known s = IfSome known (λ bytes. IsAccepted language bytes s)
 
--- The bytes, with their end or before more come, are refused at the place, so they are no document within the limits; or there are too many.
+-- The bytes, with their end or before more come, are refused at the place, so they are no document within the limits. Or there are too many,
+-- and as many as a document may have go on.
 abbrev pub IsRefusedFor : Reason → Language → List ℕ → Bool → Place → Type 0
-IsRefusedFor DocumentTooLong language bytes is_end at = IsTooLong bytes at
+IsRefusedFor DocumentTooLong language bytes is_end at = IsTooLong bytes at × GoesOn language (take most_bytes bytes)
 IsRefusedFor reason language bytes is_end at = IsRefused language bytes is_end reason at
 
 -- Why a document was not read to its end. What is refused is refused by what the source gave, and on a failed read that decides no refusal.

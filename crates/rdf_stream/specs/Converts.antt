@@ -1,5 +1,5 @@
 -- What a conversion writes, and why it stops.
-use Rattle.std.specs.Prelude.{◌≡◌, ℕ, ◌+◌, ◌≤◌, ◌<◌, Bool, true, false, List, ◌++◌, length, Option, IfSome, encode_utf8_all}
+use Rattle.std.specs.Prelude.{◌≡◌, ℕ, ◌+◌, ◌≤◌, ◌<◌, Bool, true, false, List, ◌++◌, length, take, Option, IfSome, encode_utf8_all}
 use Rattle.std.specs.Io.KnownBytes.{Appends, Consumes}
 use Rattle.std.specs.List.{AllByRecursion}
 use Rattle.rdf_terms.specs.declared.reason.Reason.{Reason}
@@ -73,9 +73,11 @@ pub record WritesFront (job : Conversion) (tokens : List Token) (old new : Optio
   pub ascii : IsAscii job.form quads
 
 -- The bytes are refused at the place, so they are no document within the limits, and the lines of the quads that are due before it were
--- written; or there are too many bytes.
+-- written. Or there are too many bytes: as many as a document may have go on, and the lines of all quads that are due in them were written.
 abbrev pub RefusesDocument : Reason → Conversion → List ℕ → Bool → Place → Option (List ℕ) → Option (List ℕ) → Type 0
-RefusesDocument DocumentTooLong job bytes is_end at old new = IsTooLong bytes at × WritesSome job (reading_of job.language bytes is_end).tokens old new
+RefusesDocument DocumentTooLong job bytes is_end at old new =
+    IsTooLong bytes at × GoesOn job.language (take most_bytes bytes)
+    × WritesDue job (reading_of job.language (take most_bytes bytes) false).tokens old new
 RefusesDocument reason job bytes is_end at old new =
     (ahead : List Token) × RefusedIn job.language (reading_of job.language bytes is_end) reason at ahead × WritesDue job ahead old new
 

@@ -96,14 +96,16 @@ pub record StopsAt (reading : Reading) (o : Outcome) (at : Place) (old new : Opt
   pub place : reading.at ≡ at
   pub written : Appends old new (token_lines reading.tokens)
 
--- The tokens stop at the place; or there are too many bytes, and the lines of the tokens that the allowed ones decide were written.
+-- The tokens stop at the place. Or there are too many bytes: the allowed ones leave the next token open, and the lines of those that they
+-- decide were written.
 abbrev pub ShowRefuses : Reason → JobRead → List ℕ → Bool → Place → Option (List ℕ) → Option (List ℕ) → Type 0
 ShowRefuses BadUtf8 job bytes is_end at old new = StopsAt (tokens_in job bytes is_end) bad_utf8 at old new
 ShowRefuses NoToken job bytes is_end at old new = StopsAt (tokens_in job bytes is_end) no_token at old new
 ShowRefuses BadEscape job bytes is_end at old new = StopsAt (tokens_in job bytes is_end) bad_escape at old new
 ShowRefuses TokenTooLong job bytes is_end at old new = StopsAt (tokens_in job bytes is_end) token_too_long at old new
 ShowRefuses DocumentTooLong job bytes is_end at old new =
-    IsTooLong bytes at × Appends old new (token_lines (tokens_in job (take most_bytes bytes) false).tokens)
+    IsTooLong bytes at × ((tokens_in job (take most_bytes bytes) false).outcome ≡ undecided)
+    × Appends old new (token_lines (tokens_in job (take most_bytes bytes) false).tokens)
 ShowRefuses reason job bytes is_end at old new = ⊥
 
 -- The source has given these bytes, which do not decide what stands after them, and the lines of the tokens that they decide were written.

@@ -1,17 +1,17 @@
 -- What it means that a document is read as a whole.
-use Rattle.std.specs.Prelude.{ℕ, true, List, Result, Ok, Err}
+use Rattle.std.specs.Prelude.{ℕ, true, List, take, Result, Ok, Err}
 use Rattle.rdf_terms.specs.declared.reason.Reason.{Reason}
 use Rattle.rdf_terms.specs.declared.reason.Reason.TheVariants.{DocumentTooLong, Memory}
 use Rattle.rdf_terms.specs.Terms.{Quad}
 use Rattle.rdf_tokens.specs.Tokens.{Place}
-use Rattle.rdf_tokens.specs.Scans.{place_of}
-use Rattle.rdf_tokens.specs.Grammars.{Language, IsDocumentOf, IsWhole, Refused, IsTooLong}
+use Rattle.rdf_tokens.specs.Scans.{most_bytes, place_of}
+use Rattle.rdf_tokens.specs.Grammars.{GoesOn, Language, IsDocumentOf, IsWhole, Refused, IsTooLong}
 use Rattle.rdf_tokens.specs.declared.token.Fault.{Fault}
 
--- Why the bytes are not read as a whole: they are refused, there are too many, or memory is short.
+-- Why the bytes are not read as a whole: they are refused, there are too many and as many as a document may have go on, or memory is short.
 abbrev pub NotRead : Language → List ℕ → Reason → Place → Type 0
 NotRead l bytes Memory at = Unit
-NotRead l bytes DocumentTooLong at = IsTooLong bytes at
+NotRead l bytes DocumentTooLong at = IsTooLong bytes at × GoesOn l (take most_bytes bytes)
 NotRead l bytes reason at = Refused l bytes true reason at
 
 -- The bytes are a document of these quads within the limits; or they are not read.

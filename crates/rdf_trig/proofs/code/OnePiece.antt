@@ -32,7 +32,7 @@ module _ {G X : Type 0} (w : Words G X Quad) (law : Lawful w) (leaves : List Qua
   pub not_fed : (reason : Reason) (at : Place) (new : Driven G) (before after : List Quad) →
       FeedFails w Puts leaves (λ y. false) reason at old before bytes new after → NotRead lang bytes reason at
   not_fed Memory at new before after y = tt
-  not_fed DocumentTooLong at new before after y = (y.full x [] [] h).too_long
+  not_fed DocumentTooLong at new before after y = let f = y.full x [] [] h in (f.too_long, f.goes_on)
   not_fed Ended at new before after y = absurd (let z : true ≡ false = sym y.0 ∙ running in cc)
   not_fed Sink at new before after y = absurd (let z : false ≡ true = y.1 in cc)
   not_fed reason at new before after y =
