@@ -5,7 +5,7 @@ use Rattle.rdf_stream.specs.Jobs.{JobRead}
 use Rattle.rdf_stream.specs.declared.fault.StreamFault.{StreamFault}
 use Rattle.rdf_stream.specs.declared.fault.StreamFault.TheVariants.{Refused, Read, Write, Memory}
 use Rattle.rdf_command.specs.declared.task.Task.{Task}
-use Rattle.rdf_command.specs.Runs.{Does, RunEnds, StartsWith, StopsAction, job_of}
+use Rattle.rdf_command.specs.Runs.{Does, HandsOver, RunEnds, SendsOn, StartsWith, StopsAction, job_of}
 use Rattle.rdf_command.specs.Statuses.{ReportsFault, status_of}
 
 some_status : (fault : StreamFault) → status_of fault ≡ 0 → ⊥
@@ -14,19 +14,23 @@ some_status Read e = omega (arith, e)
 some_status Write e = omega (arith, e)
 some_status Memory e = omega (arith, e)
 
-module _ (t : Task) (prefixes : Option (Option (List ℕ))) (bindings : List (List ℕ × List ℕ)) (starts : StartsWith t.limits prefixes bindings)
+module _ (t : Task) (prefixes : Option (Option (List ℕ))) (left : Option Reading) (bindings : List (List ℕ × List ℕ)) (starts : StartsWith t.limits prefixes left bindings)
     (job : JobRead) (is : job ≡ job_of t bindings) (known : Option (List ℕ)) (source : Reading) (out_old : Option (List ℕ)) (out : Written)
-    (err_old : Option (List ℕ)) (err : Written) where
-  pub run_done : IfSome known (λ bytes. Does t.action job bytes out_old out.contents) → out.is_flushed ≡ true → RunEnds t prefixes known 0 out_old out err_old err
+    (err_old : Option (List ℕ)) (err : Written) (prompt : HandsOver t.action job known source out_old out.contents) where
+  -- by the task's job
+  prompt_so : HandsOver t.action (job_of t bindings) known source out_old out.contents
+  prompt_so = subst (λ j. HandsOver t.action j known source out_old out.contents) is prompt
+
+  pub run_done : IfSome known (λ bytes. Does t.action job bytes out_old out.contents) → out.is_flushed ≡ true → RunEnds t prefixes known (record { prefixes = left; document = source }) 0 out_old out err_old err
   run_done done flushed =
-      inl (bindings, source, starts, ((λ e. (subst (λ j. IfSome known (λ bytes. Does t.action j bytes out_old out.contents)) is done, flushed)), (λ n. absurd (n refl))))
+      inl (bindings, starts, ((λ e. (subst (λ j. IfSome known (λ bytes. Does t.action j bytes out_old out.contents)) is done, flushed)), (λ n. absurd (n refl)), prompt_so))
 
   pub run_stopped : (fault : StreamFault) (status : ℕ) → status ≡ status_of fault → StopsAction t.action fault job known source out_old out.contents out.has_failed
-      → ReportsFault fault err_old err.contents err.has_failed → RunEnds t prefixes known status out_old out err_old err
-  run_stopped fault status same stops reported =
+      → SendsOn t.action fault out.is_flushed → ReportsFault fault err_old err.contents err.has_failed
+      → RunEnds t prefixes known (record { prefixes = left; document = source }) status out_old out err_old err
+  run_stopped fault status same stops sent reported =
       inl (
         bindings,
-        source,
         starts,
         (
           (λ e. absurd (some_status fault (sym same ∙ e))),
@@ -34,7 +38,9 @@ module _ (t : Task) (prefixes : Option (Option (List ℕ))) (bindings : List (Li
             fault = fault;
             status_is = same;
             stops = subst (λ j. StopsAction t.action fault j known source out_old out.contents out.has_failed) is stops;
+            sent = sent;
             reported = reported;
           }),
+          prompt_so,
         ),
       )

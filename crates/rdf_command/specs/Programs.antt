@@ -10,7 +10,7 @@ use Rattle.rdf_command.specs.declared.host.Host as host
 use Rattle.rdf_command.specs.declared.task.Task.{Task}
 use Rattle.rdf_command.specs.declared.task.WordsFault.{WordsFault}
 use Rattle.rdf_command.specs.declared.task.WordsFault.TheVariants.{Memory}
-use Rattle.rdf_command.specs.Runs.{RunEnds}
+use Rattle.rdf_command.specs.Runs.{FilesRead, RunEnds}
 use Rattle.rdf_command.specs.Statuses.{GoesTo, RefusesWords, Reports}
 use Rattle.rdf_command.specs.Words.{GivesNone, GivesTask, IsUsageOf, TakesFormats}
 
@@ -60,23 +60,23 @@ pub record IsNotOpen (is_shut : Text → Type 0) (t : Task) (status : ℕ) (out_
   pub reported : Reports (codes "rdfconv: cannot open file\n") err_old err.contents err.has_failed
 
 -- What the task names was read, the file of bindings where there is one, and the document, its file or else standard input; and the run of the
--- task ended so. Or a file did not open.
-abbrev pub TaskEnds : (Option Text → Option (List ℕ) → Type 0) → (Text → Type 0) → Task → ℕ
+-- task ended so, with the files given back. Or a file did not open.
+abbrev pub TaskEnds : (Option Text → Option (List ℕ) → Type 0) → (Text → Type 0) → Task → Option FilesRead → ℕ
     → Option (List ℕ) → Written → Option (List ℕ) → Written → Type 0
-TaskEnds has_document is_shut t status out_old out err_old err =
-    ((prefixes : Option (Option (List ℕ))) × (known : Option (List ℕ)) × HasPrefixes has_document (prefixes_of t) prefixes
-    × has_document (file_of t) known × RunEnds t prefixes known status out_old out err_old err)
+TaskEnds has_document is_shut t files status out_old out err_old err =
+    ((prefixes : Option (Option (List ℕ))) × (known : Option (List ℕ)) × (left : FilesRead) × HasPrefixes has_document (prefixes_of t) prefixes
+    × has_document (file_of t) known × (files ≡ Some left) × RunEnds t prefixes known left status out_old out err_old err)
     ⊎ IsNotOpen is_shut t status out_old out err_old err
 
 -- The words give a task, which ended so; or they give none, which the status and the text on an output say.
-abbrev pub ProgramEnds : (List Text → Type 0) → Type 0 → (Option Text → Option (List ℕ) → Type 0) → (Text → Type 0) → ℕ
+abbrev pub ProgramEnds : (List Text → Type 0) → Type 0 → (Option Text → Option (List ℕ) → Type 0) → (Text → Type 0) → Option FilesRead → ℕ
     → Option (List ℕ) → Written → Option (List ℕ) → Written → Type 0
-ProgramEnds has_words has_bad_word has_document is_shut status out_old out err_old err =
-    ((task : Task) × IsGiven has_words task × TaskEnds has_document is_shut task status out_old out err_old err)
+ProgramEnds has_words has_bad_word has_document is_shut files status out_old out err_old err =
+    ((task : Task) × IsGiven has_words task × TaskEnds has_document is_shut task files status out_old out err_old err)
     ⊎ ((fault : WordsFault) × IsNotGiven has_words has_bad_word fault
     × RefusesWords fault status err_old err.contents err.has_failed × GoesTo fault out_old out.contents err_old err.contents)
 
 -- The program ended so over what its host starts it with: the words, the documents, and the files that do not open.
-abbrev pub HostEnds : {H I : Type 0} → host.Ghosts H I → H → ℕ → Option (List ℕ) → Written → Option (List ℕ) → Written → Type 0
-HostEnds says h status out_old out err_old err =
-    ProgramEnds (says.has_words h) (says.has_bad_word h) (says.has_document h) (says.is_shut h) status out_old out err_old err
+abbrev pub HostEnds : {H I : Type 0} → host.Ghosts H I → H → Option FilesRead → ℕ → Option (List ℕ) → Written → Option (List ℕ) → Written → Type 0
+HostEnds says h files status out_old out err_old err =
+    ProgramEnds (says.has_words h) (says.has_bad_word h) (says.has_document h) (says.is_shut h) files status out_old out err_old err

@@ -1,12 +1,14 @@
 -- What a run of the program does.
-use Rattle.std.specs.Prelude.{◌≡◌, ◌≢◌, ◌⊎◌, ℕ, Bool, true, false, List, [], ◌++◌, codes, decimal, Option, Some, None, IfSome}
+use Rattle.std.specs.Prelude.{◌≡◌, ◌≢◌, ◌⊎◌, ℕ, Bool, true, false, List, [], ◌++◌, codes, decimal, Option, Some, None, IfSome, option_map}
 use Rattle.std.specs.Io.KnownBytes.{Appends}
 use Rattle.rdf_driver.specs.declared.summary.Summary.{Summary}
 use Rattle.rdf_stream.specs.Checks.{CheckStops, IsAccepted}
-use Rattle.rdf_stream.specs.Converts.{IsConverted, StopsFor}
+use Rattle.rdf_stream.specs.Converts.{IsConverted, IsPrompt, StopsFor}
 use Rattle.rdf_stream.specs.declared.devices.Drain as drain
+use Rattle.rdf_stream.specs.declared.devices.Source as source
 use Rattle.rdf_stream.specs.Devices.{AppendsFront, Reading, Written}
-use Rattle.rdf_stream.specs.Told.{written}
+use Rattle.rdf_stream.specs.Faults.{IsSentOn}
+use Rattle.rdf_stream.specs.Told.{told, written}
 use Rattle.rdf_iri.specs.Limits.{Sizes}
 use Rattle.rdf_iri.specs.Bindings.{BindingMap}
 use Rattle.rdf_stream.specs.Jobs.{JobRead, word_of}
@@ -30,6 +32,15 @@ job_of t bindings = record { form = t.form; base = t.base; bindings = bindings; 
 abbrev pub AsWritten : {O E : Type 0} → (Option (List ℕ) → Written → Option (List ℕ) → Written → Type 0)
     → drain.Ghosts O → drain.Ghosts E → O → O → E → E → Type 0
 AsWritten claim out err out_old out_new err_old err_new = claim (out.contents out_old) (written out out_new) (err.contents err_old) (written err err_new)
+
+-- what sources that were read tell of themselves: that of the bindings, where there is one, and that of the document
+pub record FilesRead : Type 0 where
+  pub prefixes : Option Reading
+  pub document : Reading
+
+-- what these files tell
+abbrev pub files_told : {I : Type 0} → source.Ghosts I → Files I → FilesRead
+files_told says files = record { prefixes = option_map (told says) files.prefixes; document = told says files.document }
 
 -- no call was made of these sources
 pub record AreFresh {I : Type 0} (has_ended has_failed : I → Bool) (files : Files I) : Type 0 where
@@ -69,6 +80,18 @@ StopsAction Check fault job known left old new write_failed = StopsCheck fault j
 StopsAction Show fault job known left old new write_failed = ShowStops fault job known left old new write_failed
 StopsAction Convert fault job known left old new write_failed = StopsFor fault (conversion_of job) known left old new write_failed
 
+-- a conversion hands over each line before it asks for more
+abbrev pub HandsOver : Action → JobRead → Option (List ℕ) → Reading → Option (List ℕ) → Option (List ℕ) → Type 0
+HandsOver Check job known left old new = Unit
+HandsOver Show job known left old new = Unit
+HandsOver Convert job known left old new = IsPrompt (conversion_of job) known left old new
+
+-- after a refusal what was written has been flushed; a check has written nothing
+abbrev pub SendsOn : Action → StreamFault → Bool → Type 0
+SendsOn Check fault flushed = Unit
+SendsOn Show fault flushed = IsSentOn fault flushed
+SendsOn Convert fault flushed = IsSentOn fault flushed
+
 -- The document was accepted, and what the task asks for was written and flushed.
 abbrev pub IsDone : Task → List (List ℕ × List ℕ) → Option (List ℕ) → Option (List ℕ) → Written → Type 0
 IsDone t bindings known out_old out = IfSome known (λ bytes. Does t.action (job_of t bindings) bytes out_old out.contents) × (out.is_flushed ≡ true)
@@ -79,39 +102,44 @@ pub record RunStops (t : Task) (bindings : List (List ℕ × List ℕ)) (status 
   pub fault : StreamFault
   pub status_is : status ≡ status_of fault
   pub stops : StopsAction t.action fault (job_of t bindings) known source out_old out.contents out.has_failed
+  pub sent : SendsOn t.action fault out.is_flushed
   pub reported : ReportsFault fault err_old err.contents err.has_failed
 
 -- A run with these bindings, over a source of these bytes, left the source and the two outputs like this: it is done at 0, and else it stopped.
+-- In either case no line waited while more was asked for.
 abbrev pub DocumentEnds : Task → List (List ℕ × List ℕ) → ℕ → Option (List ℕ) → Reading → Option (List ℕ) → Written → Option (List ℕ) → Written → Type 0
 DocumentEnds t bindings status known source out_old out err_old err =
     (status ≡ 0 → IsDone t bindings known out_old out) × (status ≢ 0 → RunStops t bindings status known source out_old out err_old err)
+    × HandsOver t.action (job_of t bindings) known source out_old out.contents
 
--- The bindings that a document starts with: none, or those of a file of these bytes.
-abbrev pub StartsWith : Sizes → Option (Option (List ℕ)) → List (List ℕ × List ℕ) → Type 0
-StartsWith sizes None bindings = bindings ≡ []
-StartsWith sizes (Some known) bindings = (b : BindingMap) × (left : Reading) × Loads sizes known left b × (bindings ≡ b.bindings)
+-- The bindings that a document starts with: none, or those of a file of these bytes, whose source tells this then.
+abbrev pub StartsWith : Sizes → Option (Option (List ℕ)) → Option Reading → List (List ℕ × List ℕ) → Type 0
+StartsWith sizes None left bindings = bindings ≡ []
+StartsWith sizes (Some known) None bindings = ⊥
+StartsWith sizes (Some known) (Some left) bindings = (b : BindingMap) × Loads sizes known left b × (bindings ≡ b.bindings)
 
 -- This is the job that the task asks for, with the bindings that its document starts with.
-abbrev pub IsJobOf : Task → Option (Option (List ℕ)) → JobRead → Type 0
-IsJobOf t prefixes job = (bindings : List (List ℕ × List ℕ)) × StartsWith t.limits prefixes bindings × (job ≡ job_of t bindings)
+abbrev pub IsJobOf : Task → Option (Option (List ℕ)) → Option Reading → JobRead → Type 0
+IsJobOf t prefixes left job = (bindings : List (List ℕ × List ℕ)) × StartsWith t.limits prefixes left bindings × (job ≡ job_of t bindings)
 
--- Why there are no bindings to start with: the file of these bytes was not loaded.
-abbrev pub StartsNot : LoadFault → Sizes → Option (Option (List ℕ)) → Type 0
-StartsNot fault sizes None = ⊥
-StartsNot fault sizes (Some known) = (left : Reading) × LoadStops fault sizes known left
+-- Why there are no bindings to start with: the file of these bytes was not loaded, and its source tells this then.
+abbrev pub StartsNot : LoadFault → Sizes → Option (Option (List ℕ)) → Option Reading → Type 0
+StartsNot fault sizes None left = ⊥
+StartsNot fault sizes (Some known) None = ⊥
+StartsNot fault sizes (Some known) (Some left) = LoadStops fault sizes known left
 
 -- The file of bindings was not loaded, which the status and the text on the error output say, and nothing was written.
-pub record PrefixesStop (t : Task) (prefixes : Option (Option (List ℕ))) (status : ℕ) (out_old : Option (List ℕ)) (out : Written)
+pub record PrefixesStop (t : Task) (prefixes : Option (Option (List ℕ))) (left : Option Reading) (status : ℕ) (out_old : Option (List ℕ)) (out : Written)
     (err_old : Option (List ℕ)) (err : Written) : Type 0 where
   pub fault : LoadFault
-  pub stops : StartsNot fault t.limits prefixes
+  pub stops : StartsNot fault t.limits prefixes left
   pub status_is : status ≡ load_status fault
   pub unwritten : out.contents ≡ out_old
   pub reported : ReportsLoad fault err_old err.contents err.has_failed
 
--- The document was read with the bindings to start with, and the run ended so; or there are none to start with.
-abbrev pub RunEnds : Task → Option (Option (List ℕ)) → Option (List ℕ) → ℕ → Option (List ℕ) → Written → Option (List ℕ) → Written → Type 0
-RunEnds t prefixes known status out_old out err_old err =
-    ((bindings : List (List ℕ × List ℕ)) × (source : Reading) × StartsWith t.limits prefixes bindings
-    × DocumentEnds t bindings status known source out_old out err_old err)
-    ⊎ PrefixesStop t prefixes status out_old out err_old err
+-- The document was read with the bindings to start with, and the run ended so; or there are none to start with. The files tell this then.
+abbrev pub RunEnds : Task → Option (Option (List ℕ)) → Option (List ℕ) → FilesRead → ℕ → Option (List ℕ) → Written → Option (List ℕ) → Written → Type 0
+RunEnds t prefixes known left status out_old out err_old err =
+    ((bindings : List (List ℕ × List ℕ)) × StartsWith t.limits prefixes left.prefixes bindings
+    × DocumentEnds t bindings status known left.document out_old out err_old err)
+    ⊎ PrefixesStop t prefixes left.prefixes status out_old out err_old err

@@ -4,7 +4,7 @@ ghost use Rattle.std.specs.Prelude.{◌≡◌, ◌⊎◌, false, IfErr, IfOk, If
 ghost use Rattle.clap.specs.Words.{Text};
 ghost use Rattle.rdf_iri.specs.Scope.{BaseFits};
 ghost use Rattle.rdf_command.specs.Programs.{HasPrefixes, HostEnds, IsGiven, IsNotGiven, TaskEnds, file_of, prefixes_of};
-ghost use Rattle.rdf_command.specs.Runs.{AreFresh, AsWritten};
+ghost use Rattle.rdf_command.specs.Runs.{AreFresh, AsWritten, files_told};
 
 use crate::commands::{command_of, not_utf8};
 use crate::host::{Host, NoWords, NotOpen};
@@ -13,15 +13,33 @@ use crate::task::{Task, WordsFault};
 use rdf_stream::Drain;
 use std::alloc::{AllocError, Global};
 
-/// Does what the words ask for, and answers the status.
-pub fn start<H: Host, O: Drain, E: Drain>(alloc: Global, host: &H, out: &mut O, err: &mut E) -> u8
+/// How the program ended.
+#[derive(Drop)]
+pub struct Ended<I> {
+    /// The status.
+    pub status: u8,
+    /// What it read, where all that its task names was opened.
+    pub files: Option<Files<I>>,
+}
+
+/// Does what the words ask for, and answers the status, with the files that it read.
+pub fn start<H: Host, O: Drain, E: Drain>(
+    alloc: Global,
+    host: &H,
+    out: &mut O,
+    err: &mut E,
+) -> Ended<H::Input>
     requires out { O.has_failed out.old ≡ false }
     requires err { E.has_failed err.old ≡ false }
-    ensures { AsWritten (HostEnds H.Host host.now result) O.Drain E.Drain out.old out.new err.old err.new }
+    ensures { AsWritten (HostEnds H.Host host.now (option_map (files_told H.Input.Source) result.files) result.status)
+        O.Drain E.Drain out.old out.new err.old err.new }
 {
     match task_of(alloc, host) {
         Ok(task) => run_task(alloc, task, host, out, err),
-        Err(fault) => refuse_words(alloc, &fault, out, err),
+        Err(fault) => Ended {
+            status: refuse_words(alloc, &fault, out, err),
+            files: None,
+        },
     }
 }
 
@@ -52,16 +70,26 @@ fn run_task<H: Host, O: Drain, E: Drain>(
     host: &H,
     out: &mut O,
     err: &mut E,
-) -> u8
+) -> Ended<H::Input>
     requires base { BaseFits task.base task.limits }
     requires out { O.has_failed out.old ≡ false }
     requires err { E.has_failed err.old ≡ false }
-    ensures { AsWritten (TaskEnds (H.has_document host.now) (H.is_shut host.now) task result)
+    ensures { AsWritten (TaskEnds (H.has_document host.now) (H.is_shut host.now) task (option_map (files_told H.Input.Source) result.files) result.status)
         O.Drain E.Drain out.old out.new err.old err.new }
 {
     match open_files(host, &task) {
-        Ok(files) => run(alloc, task, files, out, err),
-        Err(NotOpen) => refuse_file(err),
+        Ok(files) => {
+            let mut files = files;
+            let status = run(alloc, task, &mut files, out, err);
+            Ended {
+                status,
+                files: Some(files),
+            }
+        }
+        Err(NotOpen) => Ended {
+            status: refuse_file(err),
+            files: None,
+        },
     }
 }
 

@@ -9,7 +9,7 @@ mod runs;
 mod task;
 
 pub use commands::command_of;
-pub use entry::start;
+pub use entry::{Ended, start};
 pub use host::{Host, NoWords, NotOpen, Opened, Process};
 pub use runs::{Files, refuse_words, run};
 pub use task::{Action, Task, WordsFault};

@@ -3,21 +3,20 @@
 ghost use Rattle.std.specs.Prelude.{◌≡◌, ◌++◌, ℕ, List, [], false, true, codes, decimal, IfErr, IfOk, IfSome, OnErr, OnOk, is_err, option_map};
 ghost use Rattle.std.specs.Io.KnownBytes.{Appends};
 ghost use Rattle.rdf_iri.specs.Scope.{BaseFits};
-ghost use Rattle.rdf_stream.specs.Devices.{AppendsFront, Reading};
+ghost use Rattle.rdf_stream.specs.Devices.{AppendsFront};
 ghost use Rattle.rdf_stream.specs.Jobs.{word_of};
-ghost use Rattle.rdf_stream.specs.Loads.{LoadStops, Loads};
 ghost use Rattle.rdf_stream.specs.Messages.{report_text};
-ghost use Rattle.rdf_stream.specs.Told.{AsTold};
+ghost use Rattle.rdf_stream.specs.Told.{AsTold, told};
 ghost use Rattle.rdf_stream.specs.declared.fault.StreamFault.{StreamFault};
-ghost use Rattle.rdf_command.specs.Runs.{AreFresh, AsWritten, Does, IsChecked, IsJobOf, RunEnds, StartsNot, StopsAction, StopsCheck, accepted_text};
+ghost use Rattle.rdf_command.specs.Runs.{AreFresh, AsWritten, Does, HandsOver, IsChecked, IsJobOf, RunEnds, SendsOn, StartsNot, StopsAction, StopsCheck, accepted_text, files_told};
 ghost use Rattle.rdf_command.specs.Statuses.{GoesTo, RefusesWords, Reports, ReportsLoad, ReportsFault, load_status, prefixes_text, status_of};
 
 use crate::task::{Action, Task, WordsFault};
 use clap::Error;
 use itoa::Buffer;
 use rdf_stream::{
-    Bindings, Drain, Failed, Job, Limits, LoadFault, NodePrefix, Source, StreamFault, Summary,
-    check, convert, load_bindings, out_of_memory, put_all, read_failed, report, show, write_failed,
+    Drain, Failed, Job, LoadFault, NodePrefix, Source, StreamFault, Summary, check, convert,
+    load_bindings, out_of_memory, put_all, read_failed, report, show, write_failed,
 };
 use std::alloc::{AllocError, Global};
 
@@ -30,29 +29,27 @@ pub struct Files<I> {
     pub document: I,
 }
 
-/// Runs a task over its files, and answers the status. The file of bindings is read first.
-pub fn run<I: Source + Drop, O: Drain, E: Drain>(
+/// Runs a task over its files, which it is lent, and answers the status. The file of bindings is read first.
+pub fn run<I: Source, O: Drain, E: Drain>(
     alloc: Global,
     task: Task,
-    files: Files<I>,
+    files: &mut Files<I>,
     out: &mut O,
     err: &mut E,
 ) -> u8
     requires base { BaseFits task.base task.limits }
-    requires fresh { AreFresh I.has_ended I.has_failed files }
+    requires fresh { AreFresh I.has_ended I.has_failed files.old }
     requires out { O.has_failed out.old ≡ false }
     requires err { E.has_failed err.old ≡ false }
-    ensures { AsWritten (RunEnds task (option_map I.remaining files.prefixes) (I.remaining files.document) result)
+    ensures { AsWritten (RunEnds task (option_map I.remaining files.old.prefixes) (I.remaining files.old.document) (files_told I.Source files.new) result)
         O.Drain E.Drain out.old out.new err.old err.new }
 {
-    let Files { prefixes, document } = files;
     let action = task.action;
-    let mut document = document;
-    let job = match job_of(alloc, task, prefixes) {
+    let job = match job_of(alloc, task, &mut files.prefixes) {
         Ok(job) => job,
         Err(fault) => return refuse_prefixes(alloc, &fault, err),
     };
-    match act(alloc, action, job, &mut document, out) {
+    match act(alloc, action, job, &mut files.document, out) {
         Ok(()) => 0,
         Err(fault) => {
             tell_fault(alloc, &fault, err);
@@ -62,21 +59,17 @@ pub fn run<I: Source + Drop, O: Drain, E: Drain>(
 }
 
 // What a task asks for, with the bindings of its file.
-fn job_of<I: Source + Drop>(
-    alloc: Global,
-    task: Task,
-    prefixes: Option<I>,
-) -> Result<Job, LoadFault>
+fn job_of<I: Source>(alloc: Global, task: Task, prefixes: &mut Option<I>) -> Result<Job, LoadFault>
     requires base { BaseFits task.base task.limits }
-    requires fresh { IfSome prefixes (λ s. (I.has_ended s ≡ false) × (I.has_failed s ≡ false)) }
-    ensures job { IfOk result (IsJobOf task (option_map I.remaining prefixes)) }
-    ensures stops { IfErr result (λ fault. StartsNot fault task.limits (option_map I.remaining prefixes)) }
+    requires fresh { IfSome prefixes.old (λ s. (I.has_ended s ≡ false) × (I.has_failed s ≡ false)) }
+    ensures job { IfOk result (IsJobOf task (option_map I.remaining prefixes.old) (option_map (told I.Source) prefixes.new)) }
+    ensures stops { IfErr result (λ fault. StartsNot fault task.limits (option_map I.remaining prefixes.old) (option_map (told I.Source) prefixes.new)) }
 {
     let limits = task.limits;
     let job = bare_job(task);
     match prefixes {
         Some(source) => {
-            let bindings = load(alloc, limits, source)?;
+            let bindings = load_bindings(alloc, limits, source)?;
             Ok(job.with_bindings(bindings))
         }
         None => Ok(job),
@@ -102,16 +95,6 @@ fn named(job: Job, prefix: Option<NodePrefix>) -> Job
         Some(prefix) => job.with_node_prefix(prefix),
         None => job,
     }
-}
-
-fn load<I: Source + Drop>(alloc: Global, limits: Limits, source: I) -> Result<Bindings, LoadFault>
-    requires more { I.has_ended source ≡ false }
-    requires source { I.has_failed source ≡ false }
-    ensures loaded { IfOk result (λ b. (left : Reading) × Loads limits (I.remaining source) left b) }
-    ensures stops { IfErr result (λ fault. (left : Reading) × LoadStops fault limits (I.remaining source) left) }
-{
-    let mut source = source;
-    load_bindings(alloc, limits, &mut source)
 }
 
 /// The text and the status of a file of bindings that was not loaded.
@@ -167,6 +150,8 @@ fn act<S: Source, O: Drain>(
     ensures accepted { OnOk result (IfSome (S.remaining source.old) (λ bytes. Does action job bytes (O.contents out.old) (O.contents out.new))) }
     ensures flushed { OnOk result (O.is_flushed out.new ≡ true) }
     ensures stops { IfErr result (λ fault. AsTold (StopsAction action fault job) S.Source O.Drain source.old source.new out.old out.new) }
+    ensures sent { IfErr result (λ fault. SendsOn action fault (O.is_flushed out.new)) }
+    ensures prompt { HandsOver action job (S.remaining source.old) (told S.Source source.new) (O.contents out.old) (O.contents out.new) }
 {
     match action {
         Action::Check => check_to(alloc, job, source, out),

@@ -71,7 +71,9 @@ fn ran(alloc: Global, task: Task, document: &str) -> Ended
     let mut reported = Vec::new(alloc);
     let mut out = Out::new(&mut written);
     let mut err = Out::new(&mut reported);
-    let status = run(alloc, task, files(document), &mut out, &mut err);
+    let mut files = files(document);
+    let status = run(alloc, task, &mut files, &mut out, &mut err);
+    drop(files);
     drop(out);
     drop(err);
     Ended {
@@ -350,7 +352,9 @@ fn started(alloc: Global, host: &InMemory<'_>) -> Ended {
     let mut reported = Vec::new(alloc);
     let mut out = Out::new(&mut written);
     let mut err = Out::new(&mut reported);
-    let status = start(alloc, host, &mut out, &mut err);
+    let ended = start(alloc, host, &mut out, &mut err);
+    let status = ended.status;
+    drop(ended);
     drop(out);
     drop(err);
     Ended {

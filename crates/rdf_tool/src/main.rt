@@ -9,5 +9,5 @@ fn main(rt: HostRuntime) -> ExitCode {
     let process = Process::new(&rt);
     let mut out = Out::new(rt.stdout());
     let mut err = Out::new(rt.stderr());
-    ExitCode::from(start(rt.alloc(), &process, &mut out, &mut err))
+    ExitCode::from(start(rt.alloc(), &process, &mut out, &mut err).status)
 }
