@@ -52,7 +52,7 @@ static ALIKE: [(Form, &[u8]); 2] = [
     ),
     (
         Form::Statements(DocForm::TriG),
-        b"<http://a/s> <http://a/p> <http://a/s> .\n",
+        b"_:s <http://a/p> [ a 1 ; <http://a/p> \"a\"@en , \"1\"^^<http://a/t> , 1.5 , true ] , ( 1 _:o ) , \"\"\"x\"\"\" .\n",
     ),
 ];
 

@@ -9,11 +9,12 @@ mod streams;
 
 use rdf_iri::Limits;
 use rdf_lines::Fault;
-use rdf_stream::{Form, StreamFault, report};
+use rdf_stream::{BindingFault, BindingReason, Form, LoadFault, StreamFault, report};
 use rdf_terms::Reason;
 use rows::{FAILING, FORMS, Failing, REASONS, ROWS, SHOWN, Set};
 use runs::{Asked, Outcome, Task, has_text, is_alike, is_checked, run};
 use std::alloc::Global;
+use std::fmt::Display;
 
 /// Whether `convert` writes and reports this text, a check reports and counts the same, and the same as here is shown.
 fn is_read(alloc: Global, asked: &Asked<'_>, text: &str, shown: &Outcome) -> bool {
@@ -127,6 +128,34 @@ fn a_report_names_the_reason_and_the_place(rt: HostRuntime) {
     for (reason, line) in REASONS.as_slice() {
         assert!(rt; is_reported(rt.alloc(), *reason, line), "{line}");
     }
+}
+
+/// Whether a fault is displayed as this text.
+fn is_displayed<F: Display>(alloc: Global, fault: &F, text: &str) -> bool {
+    match format!(in alloc; "{fault}") {
+        Ok(shown) => shown.as_str() == text,
+        Err(_) => false,
+    }
+}
+
+#[test]
+fn a_fault_is_displayed_with_its_place(rt: HostRuntime) {
+    let refused = StreamFault::Refused(Fault {
+        reason: Reason::NoToken,
+        offset: 41,
+        line: 3,
+    });
+    let bad = LoadFault::Bad(BindingFault {
+        reason: BindingReason::BadBinding,
+        line: 7,
+    });
+    assert!(rt; is_displayed(rt.alloc(), &refused, "refused at byte 41, line 3"));
+    assert!(rt; is_displayed(rt.alloc(), &StreamFault::Read, "read failed"));
+    assert!(rt; is_displayed(rt.alloc(), &StreamFault::Write, "write failed"));
+    assert!(rt; is_displayed(rt.alloc(), &StreamFault::Memory, "out of memory"));
+    assert!(rt; is_displayed(rt.alloc(), &bad, "refused at line 7"));
+    assert!(rt; is_displayed(rt.alloc(), &LoadFault::Read, "read failed"));
+    assert!(rt; is_displayed(rt.alloc(), &LoadFault::Memory, "out of memory"));
 }
 
 #[test]

@@ -208,7 +208,13 @@ pub(crate) static FILES: [(&str, &str); 5] = [
     ("bad.txt", "ex: http://e/\nex: e\n"),
 ];
 
-pub(crate) static STARTED: [Started; 14] = [
+pub(crate) static STARTED: [Started; 15] = [
+    Started {
+        line: "rdfconv check x x x x x x x x x x x x x x x x x x x x x x x x x x x x x x x x x x x x x x x x x x x x x x x x",
+        status: 2,
+        written: "",
+        reported: "error: unexpected argument 'x' found\n\nUsage: rdfconv check [OPTIONS] [FILE]\n\nFor more information, try '--help'.\n",
+    },
     Started {
         line: "rdfconv convert --format nt data.nt",
         status: 0,

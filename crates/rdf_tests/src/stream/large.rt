@@ -1,6 +1,6 @@
 // Documents of several pieces, and long texts: they are read in few calls, and where there is memory none is reported as refused.
 
-use super::runs::{Asked, End, Task, run};
+use super::runs::{Asked, End, Task, has_text, run};
 use rdf_lines::Fault;
 use rdf_stream::{Form, StreamFault, report};
 use rdf_terms::{Iri, Label, LiteralRef, NodeRef, Reason, Tag, TailRef, TermRef};
@@ -105,6 +105,37 @@ fn a_large_document_is_read_in_few_calls(rt: HostRuntime) {
         );
     }
     assert!(rt; is_shown_in_few_calls(rt.alloc()));
+}
+
+/// How many prefixes there are.
+const PREFIXES: u64 = 5000;
+
+/// A document that binds them, and has a statement of names in the first, a middle one and the last.
+fn many_prefixes(alloc: Global) -> Result<String, AllocError> {
+    let mut text = String::new(alloc);
+    for number in 0..PREFIXES {
+        let line = format!(in alloc; "PREFIX p{number}: <http://example.org/{number}/>\n")?;
+        text.push_str(&line)?;
+    }
+    text.push_str("p0:s p2500:p p4999:o .\n")?;
+    Ok(text)
+}
+
+fn are_bound(alloc: Global, form: Form) -> bool {
+    match many_prefixes(alloc) {
+        Ok(document) => has_text(
+            alloc,
+            &Asked::of(Task::Convert, form, document.as_bytes()),
+            b"<http://example.org/0/s> <http://example.org/2500/p> <http://example.org/4999/o> .\n",
+        ),
+        Err(_) => false,
+    }
+}
+
+#[test]
+fn thousands_of_prefixes_are_bound(rt: HostRuntime) {
+    assert!(rt; are_bound(rt.alloc(), Form::Turtle));
+    assert!(rt; are_bound(rt.alloc(), Form::TriG));
 }
 
 /// Whether so many short lines go to a drain that takes so many calls.
