@@ -38,5 +38,6 @@ mod SettledLemmas
 pub mod AcceptingLemmas
 pub mod CanonicalLines
 pub mod FrontsLemmas
+mod PlainLabels
 mod PassedLemmas
 pub mod WithoutCrs

@@ -247,8 +247,31 @@ fn iri(text: &str, limit: u64) -> Option<IriPart<'_>>
     Some(IriPart { iri, rest })
 }
 
-// A label, whose `_:` came before. Each of its characters may stand in an IRI, and a space may not.
+// A label, whose `_:` came before.
 fn label(text: &str) -> Option<&str>
+    ensures { IfSome result (λ rest. LabelStands text.now rest.now) }
+{
+    match plain_label(text) {
+        Some(rest) => Some(rest),
+        None => any_label(text),
+    }
+}
+
+// One of ASCII letters, digits, `_` and `-`.
+fn plain_label(text: &str) -> Option<&str>
+    ensures { IfSome result (λ rest. LabelStands text.now rest.now) }
+{
+    let bytes = text.as_bytes();
+    let end = run_end(Run::Name, bytes, 0);
+    after_byte_at(text, end, b' ')?;
+    if end == 0 || bytes[0] == b'-' {
+        return None;
+    }
+    Some(&text[end..])
+}
+
+// Any label. Each of its characters may stand in an IRI, and a space may not.
+fn any_label(text: &str) -> Option<&str>
     ensures { IfSome result (λ rest. LabelStands text.now rest.now) }
 {
     let end = run_end(Run::Iri, text.as_bytes(), 0);

@@ -1,7 +1,7 @@
 use Rattle.std.proofs.Common.{◌≡◌, ◌++◌, take, drop, ap, sym, ◌∙◌}
 use Rattle.std.proofs.lemmas.List.{take-append-drop}
 use Rattle.rdf_lines.proofs.FrontsLemmas.{front_slice, label_stands}
-use Rattle.rdf_lines.proofs.canonical.label.Goals as goal
+use Rattle.rdf_lines.proofs.canonical.any_label.Goals as goal
 
 pub returns : goal.returns
 returns c =
