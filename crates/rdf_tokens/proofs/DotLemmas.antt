@@ -1,6 +1,6 @@
 -- Dots within a local part, each with a run of name bytes after it, lead back to the state within it.
-use Rattle.std.proofs.Common.{◌≡◌, ◌+◌, ◌<◌, ◌≤◌, ℕ, Bool, true, false, nat_lt, List, length, get_or, ◌==◌, not, ◌||◌, refl, sym, ap, ◌∙◌, arith, None}
-use Rattle.std.proofs.lemmas.Bool.{agree_below, agree_below_at, and_parts, eqb-true, false≢true, ltb-true}
+use Rattle.std.proofs.Common.{◌≡◌, ◌+◌, ◌<◌, ◌≤◌, ℕ, Bool, true, false, nat_lt, List, length, get_or, ◌==◌, not, ◌||◌, refl, sym, ap, arith, None}
+use Rattle.std.proofs.lemmas.Bool.{agree_below, agree_below_at, and_parts, eqb-true, false≢true}
 use Rattle.std.proofs.lemmas.Str.{encode_ascii, length-encode}
 use Rattle.std.specs.Str.{chars}
 use Rattle.rdf_terms.specs.Runs.{IsRun, is_name_byte}
@@ -9,7 +9,7 @@ use Rattle.rdf_terms.specs.declared.kind.Dialect.TheVariants.{Lines, Turtle}
 use Rattle.rdf_tokens.specs.declared.states.machine.State.{State}
 use Rattle.rdf_tokens.specs.declared.states.machine.State.TheVariants.{Name}
 use Rattle.rdf_tokens.specs.declared.states.name.Name.TheVariants as name
-use Rattle.rdf_tokens.specs.Front.{Reached, kind_here}
+use Rattle.rdf_tokens.specs.Front.{kind_here}
 use Rattle.rdf_tokens.specs.Machine.{step}
 use Rattle.rdf_tokens.specs.Quick.{RestsInLocal, stands_at}
 use Rattle.rdf_tokens.specs.Tokens.{three_quotes, with_length}

@@ -1,6 +1,6 @@
 -- The inside of a string between three quotes: what leads back to the state there.
 use Rattle.std.specs.Prelude.{IfSome}
-use Rattle.std.proofs.Common.{Option, Some, None, ◌≡◌, ◌+◌, ◌<◌, ◌≤◌, ℕ, Bool, true, false, nat_lt, List, length, get_or, ◌==◌, not, ◌&&◌, ◌||◌, refl, sym, ap, ◌∙◌, subst, arith}
+use Rattle.std.proofs.Common.{Option, Some, None, ◌≡◌, ◌+◌, ◌<◌, ℕ, Bool, true, false, nat_lt, List, length, get_or, ◌==◌, not, ◌&&◌, ◌||◌, refl, sym, ap, ◌∙◌, subst, arith}
 use Rattle.std.proofs.lemmas.Bool.{agree_below, agree_below_at, and_parts, eqb-true, false≢true, ltb-true}
 use Rattle.rdf_terms.specs.Runs.{is_unescaped}
 use Rattle.rdf_terms.specs.declared.kind.Dialect.{Dialect}

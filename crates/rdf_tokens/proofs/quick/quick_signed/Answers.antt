@@ -1,5 +1,5 @@
 -- The digits begin after the sign.
-use Rattle.std.proofs.Common.{◌≡◌, ◌<◌, ◌&&◌, nat_lt, true, inr, refl, length, get_or}
+use Rattle.std.proofs.Common.{◌&&◌, nat_lt, inr, refl, length, get_or}
 use Rattle.std.proofs.lemmas.Bool.{and_parts, ltb-true}
 use Rattle.rdf_terms.specs.Classes.{is_digit}
 use Rattle.rdf_tokens.specs.Quick.{is_sign}

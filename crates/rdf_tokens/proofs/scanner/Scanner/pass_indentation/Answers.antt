@@ -1,5 +1,5 @@
 -- The line feed and what comes after it are the white space before the next token.
-use Rattle.std.proofs.Common.{◌≡◌, ◌==◌, ◌∙◌, sym, subst, ap, take, count_by, false}
+use Rattle.std.proofs.Common.{◌==◌, ◌∙◌, sym, subst, ap, take, count_by, false}
 use Rattle.std.specs.Str.{chars}
 use Rattle.rdf_terms.specs.declared.kind.Dialect.TheVariants.{Turtle}
 use Rattle.rdf_tokens.specs.Front.{bytes_of}
