@@ -4,3 +4,6 @@ pub mod WrittenSteps
 pub mod WrittenLimits
 pub mod OfConverting
 pub mod OfWriting
+pub mod RefusedOnce
+pub mod BlamedOnce
+pub mod RefusalLaws

@@ -1,7 +1,9 @@
 -- What is written for a document is a document of N-Quads, with the same quads: of Turtle or TriG, and what `convert` answers for any format.
-use Rattle.std.specs.Prelude.{◌≡◌, ◌≤◌, ◌+◌, ◌*◌, ℕ, List, length, Option, Some, IfSome, encode_utf8_all}
+use Rattle.std.specs.Prelude.{◌≡◌, ◌≤◌, ◌+◌, ◌*◌, ℕ, Bool, false, List, ◌++◌, length, Option, Some, IfSome, encode_utf8_all}
 use Rattle.rdf_terms.specs.Terms.{Quad, IsIri}
-use Rattle.rdf_tokens.specs.Grammars.{IsDocumentOf, IsWhole, IsReadToItsEnd}
+use Rattle.rdf_terms.specs.declared.reason.Reason.{Reason}
+use Rattle.rdf_tokens.specs.Tokens.{Place}
+use Rattle.rdf_tokens.specs.Grammars.{IsDocumentOf, IsWhole, IsReadToItsEnd, Refused}
 use Rattle.rdf_tokens.specs.Scans.{most_bytes}
 use Rattle.rdf_iri.specs.Scope.{InForce, bound_to}
 use Rattle.rdf_lines.specs.declared.form.LineForm.TheVariants.{NQuads}
@@ -16,7 +18,7 @@ use Rattle.rdf_trig.specs.Language.{language}
 use Rattle.rdf_driver.specs.declared.summary.Summary.{Summary}
 use Rattle.rdf_stream.specs.Converts.{Accepts, lines_of}
 use Rattle.rdf_stream.specs.Jobs.{JobRead}
-use Rattle.rdf_stream.specs.Languages.{conversion_of}
+use Rattle.rdf_stream.specs.Languages.{conversion_of, language_of}
 
 -- the base, where there is one, and what each prefix is bound to are IRIs
 pub record HasIris (s : InForce) : Type 0 where
@@ -62,3 +64,13 @@ abbrev pub ConvertedIsRead : Type 0
 ConvertedIsRead = (job : JobRead) (bytes : List ℕ) (old new : Option (List ℕ)) (s : Summary) → IsJob job →
     (accepted : Accepts (conversion_of job) bytes old new s) → (token_then iri_then : ℕ) → Suffice job token_then iri_then →
     IsReadToItsEnd (in_lines NQuads (length job.node_prefix + token_then) iri_then) (lines_of (conversion_of job).form accepted.quads)
+
+-- A reading of a job's document is refused for one reason, at one place.
+abbrev pub RefusedOnce : Type 0
+RefusedOnce = (job : JobRead) (bytes : List ℕ) (is_end : Bool) (reason other : Reason) (at place : Place) →
+    Refused (language_of job) bytes is_end reason at → Refused (language_of job) bytes is_end other place → (reason ≡ other) × (at ≡ place)
+
+-- More bytes, or the end, change nothing of a refusal.
+abbrev pub RefusedInMore : Type 0
+RefusedInMore = (job : JobRead) (bytes more : List ℕ) (is_end : Bool) (reason : Reason) (at : Place) →
+    Refused (language_of job) bytes false reason at → Refused (language_of job) (bytes ++ more) is_end reason at

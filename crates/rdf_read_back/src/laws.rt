@@ -1,6 +1,6 @@
 //! The laws of reading back. These functions do nothing: their contracts are the laws.
 
-ghost use Rattle.rdf_read_back.specs.Laws.{ConvertedIsRead, DocumentIsWritable, WrittenDocumentIsRead, PrefixedDocumentIsRead};
+ghost use Rattle.rdf_read_back.specs.Laws.{ConvertedIsRead, DocumentIsWritable, PrefixedDocumentIsRead, RefusedInMore, RefusedOnce, WrittenDocumentIsRead};
 
 /// The quads of a document can be written with a node that has no label named by its offset: they are well formed.
 pub fn document_is_writable()
@@ -21,4 +21,14 @@ pub fn prefixed_document_is_read()
 /// What `convert` has written where it accepts a document, of any format, is read to its end so: its clause `accepted` says all that this takes.
 pub fn converted_is_read()
     ensures { ConvertedIsRead }
+{}
+
+/// What is read of a document, of any format, is refused for one reason, at one place.
+pub fn refused_once()
+    ensures { RefusedOnce }
+{}
+
+/// More bytes, or the end, change nothing of a refusal. So reason and place are the same however a document is cut.
+pub fn refused_in_more()
+    ensures { RefusedInMore }
 {}

@@ -1,0 +1,142 @@
+-- A token is refused for one reason.
+use Rattle.std.proofs.Common.{◌≡◌, ℕ, ◌⊎◌, inl, inr, false, List, [], ◌∷◌, ◌++◌, Option, Some, None, refl, sym, ap, ◌∙◌, subst, ⊎_elim, append_assoc, arith}
+use Rattle.rdf_terms.specs.declared.kind.Kind.{Kind}
+use Rattle.rdf_terms.specs.declared.kind.Kind.TheVariants.{IriRef, PnameNs, PnameLn, OpenBracket, OpenParen}
+use Rattle.rdf_terms.specs.declared.reason.Reason.{Reason}
+use Rattle.rdf_terms.specs.declared.reason.Reason.TheVariants as reason
+use Rattle.rdf_terms.specs.Terms.{Quad}
+use Rattle.rdf_tokens.specs.Tokens.{Token}
+use Rattle.rdf_tokens.specs.Grammars.{Shaped, Viable}
+use Rattle.rdf_tokens.specs.Leaves.{Leaf, leaf_of}
+use Rattle.rdf_iri.specs.Scope.{InForce}
+use Rattle.rdf_trig.specs.declared.form.DocForm.{DocForm}
+use Rattle.rdf_trig.specs.Documents.{InTree, IsDeep, IsLong, IsOneMore, StandsFor, documents, opens, trees}
+use Rattle.rdf_trig.specs.Events.{Use, document_events, event_quads, itself, tokens}
+use Rattle.rdf_trig.specs.Language.{Blamed}
+use Rattle.rdf_trig.specs.Machine.{Mode, Reply, No, Go, Start, depth, step}
+use Rattle.rdf_trig.specs.Quads.{Setting, in_default}
+use Rattle.rdf_trig.specs.Refusals.{Refusal, RefusedFor, unexpected, too_deep, unbound, no_base, iri_too_long, too_many_bindings}
+use Rattle.rdf_trig.proofs.machine.DepthAndSense.{Facts, IsUse, step_facts}
+use Rattle.rdf_trig.proofs.machine.ViableTokens.{Stand, any_passing, begins_reached, on_reply, reach, reach-snoc, stand, step_on, and_on}
+use Rattle.rdf_trig.proofs.trees.BoundNames.{settled}
+use Rattle.rdf_trig.proofs.trees.Senses.{same_sense, tokens_after}
+use Rattle.rdf_trig.proofs.trees.TokensOfEvents.{document_told}
+
+-- an opening bracket stands for itself
+opened_use : (s : InForce) (k : Kind) (l : Leaf) (u : Use) → opens k ≡ 1 → IsUse s k l u → u ≡ itself
+opened_use s OpenBracket l u o h = h
+opened_use s OpenParen l u o h = h
+opened_use s k l u o h = absurd (let z : 0 ≡ 1 = o in omega arith)
+
+module _ (form : DocForm) (start : InForce) (ahead : List Token) (t : Token) where
+  -- the tokens of a tree in which it stands
+  told : (u : Use) (p : InTree form start ahead t u) → tokens (document_events start p.tree) ≡ ahead ++ t ∷ tokens p.rest
+  told u p = ap tokens p.events ∙ tokens_after p.front t u p.rest ∙ ap (λ x. x ++ t ∷ tokens p.rest) p.read
+
+  -- so it is in a tree
+  bracket_itself : (u : Use) → InTree form start ahead t u → opens t.kind ≡ 1 → u ≡ itself
+  bracket_itself u p o =
+      let all = any_passing (document_events start p.tree) in
+      let s = begins_reached false form ahead start (p.tree, t ∷ tokens p.rest, told u p, all) in
+      let n = begins_reached false form (ahead ++ t ∷ []) start (p.tree, tokens p.rest, told u p ∙ sym (append_assoc ahead (t ∷ []) (tokens p.rest)), all) in
+      let z : step_on false form s.0 t ≡ Some n.0 = sym (reach-snoc false form ahead t (in_default start) Start ∙ ap (λ o. and_on false form o t) s.1) ∙ n.1 in
+      by s.0 n.0 s.1 (step form (Stand.setting s.0) (Stand.mode s.0) t.kind (leaf_of t)) refl z
+    where
+      by : (s n : Stand) → reach false form (in_default start) Start ahead ≡ Some s → (r : Reply) → step form s.setting s.mode t.kind (leaf_of t) ≡ r →
+          on_reply false r (λ c' m'. Some (stand c' m')) ≡ Some n → u ≡ itself
+      by s n e No h z = absurd (let y : None ≡ Some n = z in cc)
+      by s n e (Go x early now c m) h z =
+          same_sense false form start ahead t s x u early now c m e h p
+          ∙ opened_use s.setting.scope t.kind (leaf_of t) x o (subst (Facts (depth s.mode) s.setting.scope t.kind (leaf_of t)) h (step_facts form s.setting s.mode t.kind (leaf_of t))).1
+
+  -- what stands for something in a document begins one
+  stands_viable : (u : Use) → StandsFor form start ahead t u → Viable (documents form start) (ahead ++ t ∷ [])
+  stands_viable u x = let p = x.place in (
+    tokens p.rest,
+    event_quads 0 (document_events start p.tree),
+    record { tree = p.tree; tokens = append_assoc ahead (t ∷ []) (tokens p.rest) ∙ (sym (told u p) ∙ document_told p.tree start); bound = x.bound; quads = refl },
+  )
+
+  -- and a tree
+  stands_shaped : (u : Use) → StandsFor form start ahead t u → Shaped (trees form start) (ahead ++ t ∷ [])
+  stands_shaped u x = let p = x.place in (
+    tokens p.rest,
+    event_quads 0 (document_events start p.tree),
+    record { tree = p.tree; tokens = append_assoc ahead (t ∷ []) (tokens p.rest) ∙ (sym (told u p) ∙ document_told p.tree start); quads = refl },
+  )
+
+  -- a bracket has no long IRI, and binds nothing
+  deep_apart : (u : Use) → StandsFor form start ahead t u → IsDeep start ahead t → IsLong start.limits u ⊎ IsOneMore u → ⊥
+  deep_apart u x d h =
+      let e = bracket_itself u x.place d.0 in ⊎_elim (λ l. subst (IsLong start.limits) e l) (λ m. subst IsOneMore e m) h
+
+  -- a name is no IRIREF
+  no_reference : (t.kind ≡ PnameLn) ⊎ (t.kind ≡ PnameNs) → t.kind ≡ IriRef → ⊥
+  no_reference n r = ⊎_elim (λ e. let z : PnameLn ≡ IriRef = sym e ∙ r in cc) (λ e. let z : PnameNs ≡ IriRef = sym e ∙ r in cc) n
+
+  -- a long IRI is not that of a binding too many
+  long_apart : (u v : Use) → StandsFor form start ahead t u → StandsFor form start ahead t v → IsLong start.limits u → (IsLong start.limits v → ⊥) → ⊥
+  long_apart u v x y l n = n (subst (IsLong start.limits) (settled form start ahead t u v x.place y.place) l)
+
+  one : (x y : Refusal) → RefusedFor form start ahead t x → RefusedFor form start ahead t y → x ≡ y
+  one unexpected unexpected h k = refl
+  one unexpected unbound h k = absurd (h k.0.shaped)
+  one unexpected no_base h k = absurd (h k.0.shaped)
+  one unexpected too_deep h k = absurd (h (stands_shaped k.0 k.1))
+  one unexpected iri_too_long h k = absurd (h (stands_shaped k.0 k.1))
+  one unexpected too_many_bindings h k = absurd (h (stands_shaped k.0 k.1))
+  one unbound unexpected h k = absurd (k h.0.shaped)
+  one unbound unbound h k = refl
+  one unbound no_base h k = absurd (no_reference h.1.0 k.1.0)
+  one unbound too_deep h k = absurd (h.0.excluded (stands_viable k.0 k.1))
+  one unbound iri_too_long h k = absurd (h.0.excluded (stands_viable k.0 k.1))
+  one unbound too_many_bindings h k = absurd (h.0.excluded (stands_viable k.0 k.1))
+  one no_base unexpected h k = absurd (k h.0.shaped)
+  one no_base unbound h k = absurd (no_reference k.1.0 h.1.0)
+  one no_base no_base h k = refl
+  one no_base too_deep h k = absurd (h.0.excluded (stands_viable k.0 k.1))
+  one no_base iri_too_long h k = absurd (h.0.excluded (stands_viable k.0 k.1))
+  one no_base too_many_bindings h k = absurd (h.0.excluded (stands_viable k.0 k.1))
+  one too_deep unexpected h k = absurd (k (stands_shaped h.0 h.1))
+  one too_deep unbound h k = absurd (k.0.excluded (stands_viable h.0 h.1))
+  one too_deep no_base h k = absurd (k.0.excluded (stands_viable h.0 h.1))
+  one too_deep too_deep h k = refl
+  one too_deep iri_too_long h k = absurd (deep_apart k.0 k.1 h.2 (inl k.2))
+  one too_deep too_many_bindings h k = absurd (deep_apart k.0 k.1 h.2 (inr k.2))
+  one iri_too_long unexpected h k = absurd (k (stands_shaped h.0 h.1))
+  one iri_too_long unbound h k = absurd (k.0.excluded (stands_viable h.0 h.1))
+  one iri_too_long no_base h k = absurd (k.0.excluded (stands_viable h.0 h.1))
+  one iri_too_long too_deep h k = absurd (deep_apart h.0 h.1 k.2 (inl h.2))
+  one iri_too_long iri_too_long h k = refl
+  one iri_too_long too_many_bindings h k = absurd (long_apart h.0 k.0 h.1 k.1 h.2 k.3)
+  one too_many_bindings unexpected h k = absurd (k (stands_shaped h.0 h.1))
+  one too_many_bindings unbound h k = absurd (k.0.excluded (stands_viable h.0 h.1))
+  one too_many_bindings no_base h k = absurd (k.0.excluded (stands_viable h.0 h.1))
+  one too_many_bindings too_deep h k = absurd (deep_apart h.0 h.1 k.2 (inr h.2))
+  one too_many_bindings iri_too_long h k = absurd (long_apart k.0 h.0 k.1 h.1 k.2 h.3)
+  one too_many_bindings too_many_bindings h k = refl
+
+  -- the reason that a reader reports
+  abbrev reported : Refusal → Reason
+  reported unexpected = reason.Unexpected
+  reported too_deep = reason.TooDeep
+  reported unbound = reason.Unbound
+  reported no_base = reason.NoBase
+  reported iri_too_long = reason.IriTooLong
+  reported too_many_bindings = reason.TooManyBindings
+
+  refusal_of : (r : Reason) → Blamed form start r ahead t → (x : Refusal) × (r ≡ reported x) × RefusedFor form start ahead t x
+  refusal_of reason.Unexpected h = (unexpected, refl, h)
+  refusal_of reason.TooDeep h = (too_deep, refl, h)
+  refusal_of reason.Unbound h = (unbound, refl, h)
+  refusal_of reason.NoBase h = (no_base, refl, h)
+  refusal_of reason.IriTooLong h = (iri_too_long, refl, h)
+  refusal_of reason.TooManyBindings h = (too_many_bindings, refl, h)
+  refusal_of r h = absurd h
+
+  -- So there is one reason for it.
+  pub blamed_once : (r s : Reason) → Blamed form start r ahead t → Blamed form start s ahead t → r ≡ s
+  blamed_once r s h k =
+      let (x, e, a) = refusal_of r h in
+      let (y, f, b) = refusal_of s k in
+      e ∙ (ap reported (one x y a b) ∙ sym f)
