@@ -46,9 +46,13 @@ ReportsLoad (Bad f) old new failed = Reports (prefixes_text f.line) old new fail
 ReportsLoad load.Read old new failed = Reports (report_text Read) old new failed
 ReportsLoad load.Memory old new failed = Reports (report_text Memory) old new failed
 
--- 0 where help was asked for, and else 2
+-- help or the version was asked for
+abbrev pub IsAskedFor : ErrorKind → Type 0
+IsAskedFor kind = (kind ≡ DisplayHelp) ⊎ (kind ≡ DisplayVersion)
+
+-- 0 where help or the version was asked for, and else 2
 abbrev pub IsUsageStatus : ErrorKind → ℕ → Type 0
-IsUsageStatus kind status = (kind ≡ DisplayHelp → status ≡ 0) × (kind ≢ DisplayHelp → kind ≢ DisplayVersion → status ≡ 2)
+IsUsageStatus kind status = (IsAskedFor kind → status ≡ 0) × (kind ≢ DisplayHelp → kind ≢ DisplayVersion → status ≡ 2)
 
 -- the status of words that are no task, and the text that is reported where it is no text of clap's
 abbrev pub RefusesWords : WordsFault → ℕ → Option (List ℕ) → Option (List ℕ) → Bool → Type 0
@@ -57,8 +61,8 @@ RefusesWords words.BadBase status old new failed = (status ≡ 2) × Reports (co
 RefusesWords words.BadNodePrefix status old new failed = (status ≡ 2) × Reports (codes "rdfconv: bad node prefix\n") old new failed
 RefusesWords words.Memory status old new failed = (status ≡ 4) × Reports (report_text Memory) old new failed
 
--- help changes the output alone, and all else the error output alone
+-- help and the version change the output alone, and all else the error output alone
 abbrev pub GoesTo : {O E : Type 0} → WordsFault → O → O → E → E → Type 0
 GoesTo (words.Usage e) out_old out_new err_old err_new =
-    (kind_of e ≡ DisplayHelp → err_new ≡ err_old) × (kind_of e ≢ DisplayHelp → kind_of e ≢ DisplayVersion → out_new ≡ out_old)
+    (IsAskedFor (kind_of e) → err_new ≡ err_old) × (kind_of e ≢ DisplayHelp → kind_of e ≢ DisplayVersion → out_new ≡ out_old)
 GoesTo fault out_old out_new err_old err_new = out_new ≡ out_old

@@ -102,6 +102,11 @@ abbrev pub escapes_by : Option Text → Escapes
 escapes_by None = Plain
 escapes_by (Some text) = cond (bytes_eq text (codes "true")) Ascii Plain
 
+-- the file that a word names; none where there is no word, or where it is a hyphen, which stands for standard input
+abbrev pub file_by : Option Text → Option Text
+file_by None = None
+file_by (Some text) = cond (bytes_eq text (codes "-")) None (Some text)
+
 -- each field of the task is what the subcommand's name and matches give
 pub record IsTaskBy (p : Entered) (t : Task) : Type 0 where
   pub action : action_name t.action ≡ p.0
@@ -113,7 +118,7 @@ pub record IsTaskBy (p : Entered) (t : Task) : Type 0 where
   pub node_prefix : t.node_prefix ≡ option_map chars (first_of (codes "node-prefix") p.1)
   pub good_node_prefix : IfSome (first_of (codes "node-prefix") p.1) IsWord
   pub prefixes : option_map string_bytes t.prefixes ≡ first_of (codes "prefixes") p.1
-  pub file : option_map string_bytes t.file ≡ first_of (codes "file") p.1
+  pub file : option_map string_bytes t.file ≡ file_by (first_of (codes "file") p.1)
 
 -- the base among the matches is no IRI, or too long
 abbrev pub HasBadBase : Entered → Type 0

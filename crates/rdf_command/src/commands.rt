@@ -9,7 +9,7 @@ ghost use Rattle.rdf_lines.specs.declared.form.Escapes.TheVariants.{Ascii, Plain
 ghost use Rattle.rdf_iri.specs.Texts.{byte_len};
 ghost use Rattle.rdf_options.specs.Options.{rdfconv};
 ghost use Rattle.rdf_command.specs.Programs.{IsTaskOf, IsNoTaskOf};
-ghost use Rattle.rdf_command.specs.Words.{Entered, GivesNone, GivesTask, HasLimits, HasNumber, HasSizes, IsBase, IsEntered, IsTaskBy, IsUsageOf, IsWord, NoBaseOf, NoTaskBy, NoWordOf, TakesFormats, escapes_by, format_names, number_of};
+ghost use Rattle.rdf_command.specs.Words.{Entered, GivesNone, GivesTask, HasLimits, HasNumber, HasSizes, IsBase, IsEntered, IsTaskBy, IsUsageOf, IsWord, NoBaseOf, NoTaskBy, NoWordOf, TakesFormats, escapes_by, file_by, format_names, number_of};
 
 use crate::names::{FORMATS, action_of, form_of};
 use crate::task::{Task, WordsFault};
@@ -78,7 +78,7 @@ fn task_of(alloc: Global, name: &str, found: &ArgMatches<'_>) -> Result<Task, Wo
     let escapes = escapes_by(found.get_str("ascii"));
     let node_prefix = node_prefix_of(alloc, found.get_str("node-prefix"))?;
     let prefixes = owned(alloc, found.get_str("prefixes"))?;
-    let file = owned(alloc, found.get_str("file"))?;
+    let file = owned(alloc, file_by(found.get_str("file")))?;
     Ok(Task {
         action,
         form,
@@ -89,6 +89,22 @@ fn task_of(alloc: Global, name: &str, found: &ArgMatches<'_>) -> Result<Task, Wo
         prefixes,
         file,
     })
+}
+
+// The file that a word names: none where there is no word, or where it is `-`, which stands for standard input.
+fn file_by(text: Option<&str>) -> Option<&str>
+    ensures { option_map (λ s. s.now) result ≡ file_by (option_map (λ s. s.now) text.entry) }
+{
+    match text {
+        Some(text) => named(text),
+        None => None,
+    }
+}
+
+fn named(text: &str) -> Option<&str>
+    ensures { option_map (λ s. s.now) result ≡ file_by (Some text.now) }
+{
+    if text == "-" { None } else { Some(text) }
 }
 
 // A flag has the text `true` where it was given, and `false` where it was not. A command without it has no text.

@@ -80,7 +80,7 @@ with_node_prefix a = with_rule a node_prefix_rule
 -- the program's command line
 abbrev pub rdfconv : ValueParser → App
 rdfconv names = with_subcommand (with_subcommand (with_subcommand
-    (on_top (λ s. record s { subcommand_required = true }) (new_app (codes "rdfconv")))
+    (on_top (λ s. record s { subcommand_required = true; has_version = true }) (new_app (codes "rdfconv")))
     (with_prefixes (action_app names (codes "check"))).top)
     (action_app names (codes "show")).top)
     (with_node_prefix (with_ascii (with_prefixes (action_app names (codes "convert"))))).top

@@ -10,6 +10,9 @@ use clap::builder::ValueParser;
 use clap::{Arg, ArgAction, Command};
 use std::alloc::{AllocError, Global};
 
+/// The version, and the kit that it is proved and built with.
+const VERSION: &str = "1.0.0, proved with rattle-kit-13f logic dac8208d650f15bf";
+
 /// What the subcommands do.
 const CHECK: &str = "Read a document to its end, and count its quads and bytes";
 
@@ -19,7 +22,7 @@ const CONVERT: &str = "Write the quads of a document as lines of N-Quads";
 
 /// What stands below the help of the program.
 const PROGRAM_NOTES: &str = "\
-Options of a command, which reads FILE or standard input:
+Options of a command, which reads FILE, or standard input where there is none or it is `-`:
   --format FORMAT  nt (N-Triples), nq (N-Quads), ttl (Turtle) or trig (TriG) [default: trig];
                    it is not guessed from the file's name
   --base IRI       absolute IRI that relative references start from, at most --iri bytes;
@@ -88,6 +91,7 @@ pub fn program<'a>(alloc: Global, formats: &'a [&'a str]) -> Result<Command<'a>,
 {
     let command = Command::new(alloc, "rdfconv")
         .about("Read N-Triples, N-Quads, Turtle or TriG, and write N-Quads")
+        .version(VERSION)
         .after_help(PROGRAM_NOTES)
         .subcommand_required(true);
     let command = add_action(command, prefixed_command(alloc, "check", CHECK, formats))?;
@@ -290,5 +294,5 @@ fn file_argument<'a>(alloc: Global) -> Arg<'a>
     Arg::new(alloc, "file")
         .action(ArgAction::Set)
         .value_name("FILE")
-        .help("Document to read, in place of standard input")
+        .help("Document to read; without one, or with `-`, standard input")
 }

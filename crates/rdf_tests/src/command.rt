@@ -15,7 +15,7 @@ use rdf_stream::{Escapes, Form, In, Limits, Out, Source};
 use rows::{Asked, FILES, Fields, INPUT, LIMITED, Limited, RUNS, Run, STARTED, Started, TASKS};
 use std::alloc::{AllocError, Global};
 use std::test::Fail;
-use texts::{COMMANDS, HELP, Help, NOT_UTF8, REFUSED, Refused};
+use texts::{COMMANDS, HELP, Help, NOT_UTF8, REFUSED, Refused, VERSION};
 
 /// What came of a run.
 #[derive(Drop)]
@@ -234,6 +234,8 @@ fn program_help_differs_in(alloc: Global) -> Option<&'static str> {
     refusal_differs_in(alloc, &["rdfconv", "--help"], 0, HELP, "")
         .or(refusal_differs_in(alloc, &["rdfconv", "-h"], 0, HELP, ""))
         .or(refusal_differs_in(alloc, &["rdfconv", "help"], 0, HELP, ""))
+        .or(refusal_differs_in(alloc, &["rdfconv", "--version"], 0, VERSION, ""))
+        .or(refusal_differs_in(alloc, &["rdfconv", "-V"], 0, VERSION, ""))
 }
 
 fn command_help_differs_in(alloc: Global, name: &str, help: &str) -> Option<&'static str> {

@@ -208,7 +208,7 @@ pub(crate) static FILES: [(&str, &str); 5] = [
     ("bad.txt", "ex: http://e/\nex: e\n"),
 ];
 
-pub(crate) static STARTED: [Started; 15] = [
+pub(crate) static STARTED: [Started; 16] = [
     Started {
         line: "rdfconv check x x x x x x x x x x x x x x x x x x x x x x x x x x x x x x x x x x x x x x x x x x x x x x x x",
         status: 2,
@@ -223,6 +223,12 @@ pub(crate) static STARTED: [Started; 15] = [
     },
     Started {
         line: "rdfconv convert",
+        status: 0,
+        written: "<a:> <b:> _:ninput .\n",
+        reported: "",
+    },
+    Started {
+        line: "rdfconv convert -",
         status: 0,
         written: "<a:> <b:> _:ninput .\n",
         reported: "",

@@ -13,9 +13,10 @@ Commands:
   help     Print this message or the help of the given subcommand(s)
 
 Options:
-  -h, --help  Print help
+  -h, --help     Print help
+  -V, --version  Print version
 
-Options of a command, which reads FILE or standard input:
+Options of a command, which reads FILE, or standard input where there is none or it is `-`:
   --format FORMAT  nt (N-Triples), nq (N-Quads), ttl (Turtle) or trig (TriG) [default: trig];
                    it is not guessed from the file's name
   --base IRI       absolute IRI that relative references start from, at most --iri bytes;
@@ -43,6 +44,10 @@ Exit status:
   3  a file does not open, or a read or write failed
   4  out of memory
 ";
+
+/// What `rdfconv --version` writes.
+pub(crate) const VERSION: &str =
+    "rdfconv 1.0.0, proved with rattle-kit-13f logic dac8208d650f15bf\n";
 
 /// The help of a subcommand, in its three parts.
 pub(crate) struct Help {
@@ -76,7 +81,7 @@ pub(crate) static COMMANDS: [Help; 3] = [
 /// What follows these lines in the help of `check`.
 pub(crate) const CHECK_HELP: &str = "
 Arguments:
-  [FILE]  Document to read, in place of standard input
+  [FILE]  Document to read; without one, or with `-`, standard input
 
 Options:
       --format <FORMAT>      Format of the document: nt N-Triples, nq N-Quads, ttl Turtle, trig TriG [default: trig] [possible values: nt, nq, ttl, trig]
@@ -92,7 +97,7 @@ Options:
 /// What follows these lines in the help of `convert`.
 pub(crate) const CONVERT_HELP: &str = "
 Arguments:
-  [FILE]  Document to read, in place of standard input
+  [FILE]  Document to read; without one, or with `-`, standard input
 
 Options:
       --format <FORMAT>      Format of the document: nt N-Triples, nq N-Quads, ttl Turtle, trig TriG [default: trig] [possible values: nt, nq, ttl, trig]
@@ -110,7 +115,7 @@ Options:
 /// What follows these lines in the help of `show`.
 pub(crate) const SHOW_HELP: &str = "
 Arguments:
-  [FILE]  Document to read, in place of standard input
+  [FILE]  Document to read; without one, or with `-`, standard input
 
 Options:
       --format <FORMAT>  Format of the document: nt N-Triples, nq N-Quads, ttl Turtle, trig TriG [default: trig] [possible values: nt, nq, ttl, trig]

@@ -3,7 +3,7 @@ use Rattle.std.proofs.Common.{◌∙◌, ap, sym, subst, codes, chars, option_ma
 use Rattle.clap.proofs.WalkLemmas.{first_value-rows}
 use Rattle.clap.proofs.TakesLemmas.{passed_up}
 use Rattle.clap.specs.Words.{found_of, rows_of}
-use Rattle.rdf_command.specs.Words.{IsBase, IsWord, escapes_by}
+use Rattle.rdf_command.specs.Words.{IsBase, IsWord, escapes_by, file_by}
 use Rattle.rdf_command.proofs.GivenLemmas.{no_task, no_word, text_given, text_is}
 use Rattle.rdf_command.proofs.commands.task_of.Goals as goal
 
@@ -47,5 +47,5 @@ returns-clause-task c =
       node_prefix = c.in_ok-node_prefix.ensures.word ∙ ap (option_map chars) word;
       good_node_prefix = subst (λ text. IfSome text IsWord) word c.in_ok-node_prefix.ensures.good;
       prefixes = c.in_ok-prefixes.ensures ∙ prefixes;
-      file = c.in_ok-file.ensures ∙ file;
+      file = c.in_ok-file.ensures ∙ (c.file_by.ensures ∙ ap file_by file);
     }
