@@ -95,6 +95,9 @@ def compare(counts):
     manual, readme, refusals = plain(read('docs/rdfconv.1')), read('README.md'), read('docs/REFUSALS.md')
     source = read('crates/rdf_options/src/options.rt')
     counts.expect('four options with a number in crates/rdf_options/src/options.rt', len(limits()) == 4)
+    version, kit = re.search(r'VERSION: &str = "([\d.]+), proved with (.*)";', source).groups()
+    counts.expect('--version is the first of CHANGELOG.md', re.search(r'^## (.*)$', read('CHANGELOG.md'), re.M)[1] == version)
+    counts.expect('the kit of --version is that of README', '`%s`' % kit in readme)
     for name, least, most, default in limits():
         said = '%d to %d' % (least, most)
         row = re.search(r'--%s N +.*' % name, source)[0]
