@@ -1,6 +1,6 @@
 #!/bin/bash
-# archives.sh WORK TO: the programs as they are, an archive of the static program with its manual, documents and examples, and one of the
-# crate rdfconv-sys for Rust with the static library inside. Members stand in the order of their names, without owner and time.
+# archives.sh WORK TO: the programs as they are, an archive of the static program with its manual, completions, documents and examples,
+# and one of the crate rdfconv-sys for Rust with the static library inside. Members stand in the order of their names, without owner and time.
 set -euo pipefail
 work=$1 to=$2
 tree=$work/tree parts=$work/programs
@@ -21,6 +21,7 @@ install -m 755 "$parts/rdfconv-static" "$inside/rdfconv"
 install -m 644 "$work/FACTS" "$tree/README.md" "$tree/CHANGELOG.md" "$tree/SECURITY.md" "$tree/docs/rdfconv.1" "$inside"
 mkdir "$inside/docs"
 install -m 644 "$tree"/docs/*.md "$tree"/docs/*.svg "$inside/docs"
+cp -R "$tree/packaging/completions" "$inside/completions"
 cp -R "$tree/examples" "$inside/examples"
 pack "$name"
 

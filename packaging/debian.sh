@@ -1,6 +1,6 @@
 #!/bin/bash
-# debian.sh WORK TO: the Debian packages rdfconv (program, manual, documents, examples) and librdfconv-dev (header, static library,
-# pkg-config file, manual of the calls), from the parts that ./release has made in WORK.
+# debian.sh WORK TO: the Debian packages rdfconv (program, manual, completions, documents, examples) and librdfconv-dev (header, static
+# library, pkg-config file, manual of the calls), from the parts that ./release has made in WORK.
 set -euo pipefail
 work=$1 to=$2
 tree=$work/tree parts=$work/programs
@@ -50,6 +50,9 @@ finish() {
 begin rdfconv
 put 755 "$parts/rdfconv" usr/bin/rdfconv
 put_packed "$tree/docs/rdfconv.1" usr/share/man/man1/rdfconv.1.gz
+put 644 "$tree/packaging/completions/rdfconv.bash" usr/share/bash-completion/completions/rdfconv
+put 644 "$tree/packaging/completions/_rdfconv" usr/share/zsh/vendor-completions/_rdfconv
+put 644 "$tree/packaging/completions/rdfconv.fish" usr/share/fish/vendor_completions.d/rdfconv.fish
 put 644 "$work/FACTS" usr/share/doc/rdfconv/FACTS
 put 644 "$tree/README.md" usr/share/doc/rdfconv/README.md
 put 644 "$tree/SECURITY.md" usr/share/doc/rdfconv/SECURITY.md
