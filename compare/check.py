@@ -7,7 +7,7 @@
 
 The options' ranges and defaults, the formats and the reasons are read from the sources and compared with what help (where
 the program is built), docs/rdfconv.1, README.md and docs/REFUSALS.md say. The counts of docs/DEFINITIONS.md
-are compared with the files. Each indented line of a page that begins with `$` is
+are compared with the files, and the completions with the help. Each indented line of a page that begins with `$` is
 run in a scratch folder with a copy of examples/, and what comes is compared with the lines below it. Where a program of the pages is
 not installed, its lines are left out, and those that need a file of such a line; the first line says so. Ends in one line of counts,
 with status 1 where something differs.
@@ -135,6 +135,8 @@ def compare_help(counts, manual):
         for name, least, most, default in limits():
             row = re.search(r'--%s <N> .*' % name, text)[0]
             counts.expect('%s --help of --%s' % (command, name), '%d to %d [default: %d]' % (least, most, default) in row)
+    completions = subprocess.run([sys.executable, os.path.join(TOP, 'packaging', 'completions.py'), '--check', PROGRAM])
+    counts.expect('completions are those of the help', completions.returncode == 0)
     for status, said in re.findall(r'^  (\d)  (.*)$', told.stdout.decode(), re.M):
         counts.expect('manual has status %s' % status, re.search(r'\b%s %s' % (status, re.escape(said.split('`')[0].strip())), manual))
 
