@@ -110,7 +110,6 @@ def compare(counts):
     counts.expect('default format', 'default_value("trig")' in source and 'default trig' in manual)
     counts.expect('twelve reasons in crates/rdf_stream/src/messages.rt', len(reasons()) == 12)
     for reason in reasons():
-        counts.expect('README has the reason ' + reason, '`%s`' % reason in readme)
         counts.expect('manual has the reason ' + reason, reason in manual)
         counts.expect('docs/REFUSALS.md has a section on ' + reason, '\n### %s\n' % reason in refusals)
     header = read('examples/library/rdfconv.h')
