@@ -21,6 +21,10 @@ import subprocess
 import sys
 import tempfile
 
+sys.dont_write_bytecode = True
+
+import believed as by_definition      # noqa: E402
+
 TOP = os.path.dirname(os.path.dirname(os.path.abspath(__file__)))
 PROGRAM = os.environ.get('RDFCONV', os.path.join(TOP, 'rdfconv'))
 PAGES = ['README.md', 'docs/REFUSALS.md', 'docs/GUIDE.md']
@@ -89,6 +93,9 @@ def compare_counts(counts):
         counts.expect('docs/DEFINITIONS.md counts the lines of ' + crate, int(lines) == sum(found.values()))
         counts.expect('docs/DEFINITIONS.md lists the files of ' + crate, files == ', '.join('%s %d' % it for it in found.items()))
     counts.expect('docs/DEFINITIONS.md adds them up', 'That is {:,} lines in all.'.format(total) in page)
+    headline, everything = (by_definition.size(it) for it in by_definition.cited())
+    counts.expect('docs/DEFINITIONS.md counts them by definition', '`convert` cites {:,} lines, with'.format(headline) in page
+                  and 'All public calls cite {:,} lines'.format(everything) in page)
 
 
 def compare(counts):
