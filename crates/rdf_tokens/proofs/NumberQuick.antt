@@ -1,24 +1,25 @@
 -- Numbers that begin with a digit, or with a sign and a digit: the states over their digits, and after the byte that ends them.
 use Rattle.std.proofs.Common.{◌≡◌, ℕ, zero, suc, ◌+◌, ◌-◌, ◌<◌, ◌≤◌, Bool, true, false, cond, nat_lt, List, [], ◌∷◌, ◌&&◌, ◌||◌, ◌==◌, not, refl, sym, ap, ◌∙◌, subst, length, get_or, inl, inr, ◌⊎◌, arith, Option, Some, None, IsUtf8}
-use Rattle.std.proofs.lemmas.Bool.{agree_below_at, and_parts, false≢true, eqb-true, ltb-true, or_left, or_right}
+use Rattle.std.proofs.lemmas.Bool.{agree_below, agree_below_at, and_parts, false≢true, eqb-true, ltb-true, ltb-false, or_left, or_right}
 use Rattle.std.proofs.lemmas.Bool.Decides.{nat_tests}
 use Rattle.std.proofs.lemmas.Str.{encode_ascii, length-encode}
 use Rattle.std.specs.Str.{chars}
 use Rattle.rdf_terms.specs.declared.kind.Kind.{Kind}
-use Rattle.rdf_terms.specs.declared.kind.Kind.TheVariants.{Integer, Decimal}
+use Rattle.rdf_terms.specs.declared.kind.Kind.TheVariants.{Integer, Decimal, Double}
 use Rattle.rdf_terms.specs.declared.kind.Dialect.TheVariants.{Turtle}
-use Rattle.rdf_terms.specs.Classes.{is_digit}
+use Rattle.rdf_terms.specs.Classes.{is_digit, one_of}
 use Rattle.rdf_terms.specs.Shapes.{fixed}
 use Rattle.rdf_terms.specs.Runs.{IsRun, PassBetween}
 use Rattle.rdf_terms.specs.Values.{is_fit}
 use Rattle.rdf_tokens.specs.declared.states.machine.State.{State}
 use Rattle.rdf_tokens.specs.declared.states.machine.State.TheVariants.{Start, Number}
 use Rattle.rdf_tokens.specs.declared.states.number.Number.TheVariants as number
+use Rattle.rdf_tokens.specs.declared.states.number.Number as numbers
 use Rattle.rdf_tokens.specs.Tokens.{with_length, three_quotes, only_long}
 use Rattle.rdf_tokens.specs.Fixed.{Row, fits, left, is_begun, live_by, rows_of}
 use Rattle.rdf_tokens.specs.Front.{Reached, longer_front, begins, front_by}
 use Rattle.rdf_tokens.specs.Machine.{step, kind_at}
-use Rattle.rdf_tokens.specs.Quick.{BeginsNumber, IsToken, is_sign, is_point, is_integer_end, is_decimal_end, ends_integer, ends_number}
+use Rattle.rdf_tokens.specs.Quick.{BeginsNumber, IsMantissa, IsToken, after_sign, is_sign, is_point, is_exponent, is_integer_end, is_decimal_end, is_double_end, ends_integer, ends_number}
 use Rattle.rdf_tokens.proofs.ByteLemmas.{at-start, ascii_first}
 use Rattle.rdf_tokens.proofs.NoNamesLemmas.{implied, one_on}
 use Rattle.rdf_tokens.proofs.QuickLemmas.{settled, not_true, other, at_ended, ended-state}
@@ -50,86 +51,59 @@ first_rows (r ∷ rs) c t n =
     let h = first_rows rs c t a.1 in
     (ap (λ z. longer_front (cond z (Some (length r.text, r.kind)) None) (front_by rs (c ∷ t))) p.0 ∙ h.0, ap (λ z. z || live_by rs (c ∷ t)) p.1 ∙ h.1)
 
--- a state after the digits of an integer
-abbrev at_digits : State → Bool
-at_digits (Number number.Digits) = true
-at_digits s = false
+-- a state is this one of a number, which other tokens have not
+abbrev is_at : numbers.Number → State → Bool
+is_at number.Sign (Number number.Sign) = true
+is_at number.Digits (Number number.Digits) = true
+is_at number.Fraction (Number number.Fraction) = true
+is_at number.Exponent (Number number.Exponent) = true
+is_at number.ExponentSign (Number number.ExponentSign) = true
+is_at number.ExponentDigits (Number number.ExponentDigits) = true
+is_at n s = false
 
 -- that state
-digits-state : (s : State) → at_digits s ≡ true → s ≡ Number number.Digits
-digits-state (Number number.Digits) e = refl
-digits-state s e = absurd (false≢true e)
+is-at : (n : numbers.Number) (s : State) → is_at n s ≡ true → s ≡ Number n
+is-at number.Sign (Number number.Sign) e = refl
+is-at number.Digits (Number number.Digits) e = refl
+is-at number.Fraction (Number number.Fraction) e = refl
+is-at number.Exponent (Number number.Exponent) e = refl
+is-at number.ExponentSign (Number number.ExponentSign) e = refl
+is-at number.ExponentDigits (Number number.ExponentDigits) e = refl
+is-at n s e = absurd (false≢true e)
 
--- a state after a sign
-abbrev at_sign : State → Bool
-at_sign (Number number.Sign) = true
-at_sign s = false
+-- a byte of some kind leads from one state to another
+abbrev leads : (ℕ → Bool) → State → numbers.Number → ℕ → Bool
+leads f s n c = not (f c) || is_at n (step Turtle s c)
 
--- that state
-sign-state : (s : State) → at_sign s ≡ true → s ≡ Number number.Sign
-sign-state (Number number.Sign) e = refl
-sign-state s e = absurd (false≢true e)
+-- a byte of some kind that is no digit ends the token at a state
+abbrev ends : (ℕ → Bool) → State → ℕ → Bool
+ends f s c = not (f c) || (is_digit c || at_ended (step Turtle s c))
 
--- a state after digits after the dot
-abbrev at_fraction : State → Bool
-at_fraction (Number number.Fraction) = true
-at_fraction s = false
+-- each byte of ASCII is tried
+step_is : (f : ℕ → Bool) (s : State) (n : numbers.Number) → agree_below (leads f s n) (λ c. true) 128 ≡ true → (c : ℕ) → f c ≡ true → c < 128 → step Turtle s c ≡ Number n
+step_is f s n t c e l = is-at n (step Turtle s c) (implied (f c) _ (agree_below_at (leads f s n) (λ c. true) 128 c t l) e)
 
--- that state
-fraction-state : (s : State) → at_fraction s ≡ true → s ≡ Number number.Fraction
-fraction-state (Number number.Fraction) e = refl
-fraction-state s e = absurd (false≢true e)
+step_ends : (f : ℕ → Bool) (s : State) → agree_below (ends f s) (λ c. true) 128 ≡ true → (c : ℕ) → f c ≡ true → c < 128 → is_digit c ≡ false → at_ended (step Turtle s c) ≡ true
+step_ends f s t c e l d = other (is_digit c) _ (implied (f c) _ (agree_below_at (ends f s) (λ c. true) 128 c t l) e) d
 
--- each byte of ASCII: a digit begins no spelling, nor does a sign
+-- a digit begins no spelling, nor does a sign
 abbrev first_tests : ℕ → Bool
 first_tests c = not (is_sign c || is_digit c) || no_first c (rows_of Turtle fixed)
-
--- it leads to the digits and stays there
-abbrev digits_tests : ℕ → Bool
-digits_tests c = not (is_digit c) || (at_digits (step Turtle Start c) && at_digits (step Turtle (Number number.Digits) c))
-
--- and so after the dot
-abbrev fraction_tests : ℕ → Bool
-fraction_tests c = not (is_digit c) || (at_fraction (step Turtle (Number number.DigitsDot) c) && at_fraction (step Turtle (Number number.Fraction) c))
-
--- a byte that ends an integer leads to no state
-abbrev integer_tests : ℕ → Bool
-integer_tests x = not (ends_integer x) || (is_digit x || at_ended (step Turtle (Number number.Digits) x))
-
--- and one that ends a decimal
-abbrev decimal_tests : ℕ → Bool
-decimal_tests x = not (ends_number x) || (is_digit x || at_ended (step Turtle (Number number.Fraction) x))
 
 -- digits are ASCII
 low-digit : (c : ℕ) → is_digit c ≡ true → c < 128
 low-digit c e = grind (arith, nat_tests)
 
--- the steps of a digit
-digit_steps : (c : ℕ) → is_digit c ≡ true → (step Turtle Start c ≡ Number number.Digits) × (step Turtle (Number number.Digits) c ≡ Number number.Digits)
-digit_steps c e =
-    let p = and_parts (at_digits (step Turtle Start c)) (at_digits (step Turtle (Number number.Digits) c))
-    (implied (is_digit c) _ (agree_below_at digits_tests (λ c. true) 128 c refl (low-digit c e)) e) in
-    (digits-state (step Turtle Start c) p.0, digits-state (step Turtle (Number number.Digits) c) p.1)
+-- signs are
+low-sign : (c : ℕ) → is_sign c ≡ true → c < 128
+low-sign c e = grind (arith, nat_tests)
 
--- each byte of ASCII: a sign leads to where a digit leads on
-abbrev sign_tests : ℕ → Bool
-sign_tests c = not (is_sign c) || at_sign (step Turtle Start c)
+-- 'E' or 'e'
+abbrev is_e : ℕ → Bool
+is_e c = one_of (69 ∷ 101 ∷ []) c
 
-abbrev signed_tests : ℕ → Bool
-signed_tests c = not (is_digit c) || at_digits (step Turtle (Number number.Sign) c)
-
-sign_step : (c : ℕ) → is_sign c ≡ true → step Turtle Start c ≡ Number number.Sign
-sign_step c e = let low : c < 128 = grind (arith, nat_tests) in sign-state _ (implied (is_sign c) _ (agree_below_at sign_tests (λ c. true) 128 c refl low) e)
-
-sign_digit : (c : ℕ) → is_digit c ≡ true → step Turtle (Number number.Sign) c ≡ Number number.Digits
-sign_digit c e = digits-state _ (implied (is_digit c) _ (agree_below_at signed_tests (λ c. true) 128 c refl (low-digit c e)) e)
-
--- and those after the dot
-fraction_steps : (c : ℕ) → is_digit c ≡ true → (step Turtle (Number number.DigitsDot) c ≡ Number number.Fraction) × (step Turtle (Number number.Fraction) c ≡ Number number.Fraction)
-fraction_steps c e =
-    let p = and_parts (at_fraction (step Turtle (Number number.DigitsDot) c)) (at_fraction (step Turtle (Number number.Fraction) c))
-    (implied (is_digit c) _ (agree_below_at fraction_tests (λ c. true) 128 c refl (low-digit c e)) e) in
-    (fraction-state (step Turtle (Number number.DigitsDot) c) p.0, fraction-state (step Turtle (Number number.Fraction) c) p.1)
+low-e : (c : ℕ) → is_e c ≡ true → c < 128
+low-e c e = grind (arith, nat_tests)
 
 -- three quotes do not begin with a digit, nor with a sign
 no_digit_quotes : (c : ℕ) (w : List ℕ) → (is_sign c || is_digit c) ≡ true → three_quotes Turtle (c ∷ w) ≡ false
@@ -140,10 +114,10 @@ no_digit_quotes c (a ∷ b ∷ w) e =
     let q : (c == 39) ≡ false = grind (arith, nat_tests) in
     ap (λ t. ((t && a == 34) && b == 34) || ((c == 39 && a == 39) && b == 39)) p ∙ ap (λ t. (t && a == 39) && b == 39) q
 
--- integers and decimals have no escapes
-number-fit : (w : List ℕ) → (is_fit Integer w ≡ true) × (is_fit Decimal w ≡ true)
+-- numbers have no escapes
+number-fit : (w : List ℕ) → (is_fit Integer w ≡ true) × ((is_fit Decimal w ≡ true) × (is_fit Double w ≡ true))
 unfolding is_fit
-number-fit w = (refl, refl)
+number-fit w = (refl, (refl, refl))
 
 -- what a number begins with
 abbrev begins_number : ℕ → Bool
@@ -178,6 +152,11 @@ module _ (bs : List ℕ) (start end : ℕ) (u : IsUtf8 bs) (n : BeginsNumber bs 
       reached-step Turtle bs at (at + 1) c s t k b (with_length (at + 1) k b) h (ascii_first bs at i a) (omega (arith, ap length (encode_ascii c a), length-encode c)) (omega arith) es
       (ek ∙ sym (ap (λ x. only_long x (kind_at t)) quotes)) refl
 
+  -- a digit on
+  digit_on : (at : ℕ) (s t : State) (k : Option Kind) (b : Option (ℕ × Kind)) → at < length bs → is_digit (get_or bs at 0) ≡ true → Reached Turtle bs at s b →
+      step Turtle s (get_or bs at 0) ≡ t → k ≡ kind_at t → Reached Turtle bs (at + 1) t (with_length (at + 1) k b)
+  digit_on at s t k b i d h e ek = byte_on at s t k b i (low-digit (get_or bs at 0) d) h (sym e) ek
+
   -- over so many digits that leave a state as it is
   digits_on : (s : State) (k : Kind) (at n : ℕ) → Some k ≡ kind_at s → ((c : ℕ) → is_digit c ≡ true → step Turtle s c ≡ s) → PassBetween is_digit bs at (at + n) → at + n ≤ length bs →
       Reached Turtle bs at s (Some (at, k)) → Reached Turtle bs (at + n) s (Some (at + n, k))
@@ -187,7 +166,7 @@ module _ (bs : List ℕ) (start end : ℕ) (u : IsUtf8 bs) (n : BeginsNumber bs 
       let d : is_digit c ≡ true = p (at + n) (omega arith) (omega arith) in
       let x : at + n + 1 ≡ at + suc n = omega arith in
       subst (λ m. Reached Turtle bs m s (Some (m, k))) x
-      (byte_on (at + n) s s (Some k) (Some (at + n, k)) (omega arith) (low-digit c d) (digits_on s k at n ek f (λ i a b. p i a (omega arith)) (omega arith) h) (sym (f c d)) ek)
+      (digit_on (at + n) s s (Some k) (Some (at + n, k)) (omega arith) d (digits_on s k at n ek f (λ i a b. p i a (omega arith)) (omega arith) h) (f c d) ek)
 
   -- the same up to a place
   digits_to : (s : State) (k : Kind) (at to : ℕ) → Some k ≡ kind_at s → ((c : ℕ) → is_digit c ≡ true → step Turtle s c ≡ s) → IsRun is_digit bs at to →
@@ -201,7 +180,7 @@ module _ (bs : List ℕ) (start end : ℕ) (u : IsUtf8 bs) (n : BeginsNumber bs 
   -- the states after the digits in front
   whole : Reached Turtle bs end (Number number.Digits) (Some (end, Integer))
   whole =
-      digits_to (Number number.Digits) Integer (start + 1) end refl (λ c d. (digit_steps c d).1) r (by n.sign)
+      digits_to (Number number.Digits) Integer (start + 1) end refl (λ c d. step_is is_digit (Number number.Digits) number.Digits refl c d (low-digit c d)) r (by n.sign)
     where
       one : (k : Option Kind) (s : State) → s ≡ step Turtle Start (get_or bs 0 0) → k ≡ kind_at s → Reached Turtle bs 1 s (with_length 1 k None)
       one k s es ek =
@@ -215,13 +194,14 @@ module _ (bs : List ℕ) (start end : ℕ) (u : IsUtf8 bs) (n : BeginsNumber bs 
       by (inl z) =
           let d : is_digit (get_or bs 0 0) ≡ true = subst (λ k. is_digit (get_or bs k 0) ≡ true) z n.digit in
           subst (λ k. Reached Turtle bs (k + 1) (Number number.Digits) (Some (k + 1, Integer))) (sym z)
-          (one (Some Integer) (Number number.Digits) (sym (digit_steps (get_or bs 0 0) d).0) refl)
+          (one (Some Integer) (Number number.Digits) (sym (step_is is_digit Start number.Digits refl (get_or bs 0 0) d (low-digit (get_or bs 0 0) d))) refl)
       by (inr p) =
           let i = n.inside in
           let d : is_digit (get_or bs 1 0) ≡ true = subst (λ k. is_digit (get_or bs k 0) ≡ true) p.0 n.digit in
           subst (λ k. Reached Turtle bs (k + 1) (Number number.Digits) (Some (k + 1, Integer))) (sym p.0)
-          (byte_on 1 (Number number.Sign) (Number number.Digits) (Some Integer) None (let z = p.0 in omega arith) (low-digit (get_or bs 1 0) d)
-          (one None (Number number.Sign) (sym (sign_step (get_or bs 0 0) p.1)) refl) (sym (sign_digit (get_or bs 1 0) d)) refl)
+          (digit_on 1 (Number number.Sign) (Number number.Digits) (Some Integer) None (let z = p.0 in omega arith) d
+          (one None (Number number.Sign) (sym (step_is is_sign Start number.Sign refl (get_or bs 0 0) p.1 (low-sign (get_or bs 0 0) p.1))) refl)
+          (step_is is_digit (Number number.Sign) number.Digits refl (get_or bs 1 0) d (low-digit (get_or bs 1 0) d)) refl)
 
   -- no spelling begins so
   unspelled : (v : List ℕ) → 0 < length v → begins_number (get_or v 0 0) ≡ true → (front_by (rows_of Turtle fixed) v ≡ None) × (live_by (rows_of Turtle fixed) v ≡ false)
@@ -244,8 +224,25 @@ module _ (bs : List ℕ) (start end : ℕ) (u : IsUtf8 bs) (n : BeginsNumber bs 
       let p = and_parts _ _ z in
       let i : end < length bs = ltb-true end (length bs) p.0 in
       let a : x < 128 = ltb-true x 128 (and_parts _ _ p.1).0 in
-      ended_at (Number number.Digits) Integer end whole i a
-      (other (is_digit x) _ (implied (ends_integer x) _ (agree_below_at integer_tests (λ c. true) 128 x refl a) p.1) (r.stops i)) (λ w. (number-fit w).0)
+      ended_at (Number number.Digits) Integer end whole i a (step_ends ends_integer (Number number.Digits) refl x p.1 a (r.stops i)) (λ w. (number-fit w).0)
+
+  -- the states after a dot
+  dot : is_point bs end ≡ true → Reached Turtle bs (end + 1) (Number number.DigitsDot) (Some (end, Integer))
+  dot m =
+      let p = and_parts (nat_lt end (length bs)) (get_or bs end 0 == 46) m in
+      let is_46 : get_or bs end 0 ≡ 46 = eqb-true (get_or bs end 0) 46 p.1 in
+      byte_on end (Number number.Digits) (Number number.DigitsDot) None (Some (end, Integer)) (ltb-true end (length bs) p.0) (omega (arith, is_46)) whole (ap (step Turtle (Number number.Digits)) (sym is_46)) refl
+
+  -- the states after a dot and the digits after it
+  fraction : (last : ℕ) → is_point bs end ≡ true → IsRun is_digit bs (end + 1) last → end + 1 < last → Reached Turtle bs last (Number number.Fraction) (Some (last, Decimal))
+  fraction last m q more =
+      let c = get_or bs (end + 1) 0 in
+      let d : is_digit c ≡ true = q.pass (end + 1) (omega arith) more in
+      let within = q.within in
+      let rest : IsRun is_digit bs (end + 1 + 1) last = record { from = omega arith; within = within; pass = λ k a b. q.pass k (omega arith) b; stops = q.stops } in
+      digits_to (Number number.Fraction) Decimal (end + 1 + 1) last refl (λ c d. step_is is_digit (Number number.Fraction) number.Fraction refl c d (low-digit c d)) rest
+      (digit_on (end + 1) (Number number.DigitsDot) (Number number.Fraction) (Some Decimal) (Some (end, Integer)) (omega arith) d (dot m)
+      (step_is is_digit (Number number.DigitsDot) number.Fraction refl c d (low-digit c d)) refl)
 
   -- a decimal
   pub quick_decimal : (last : ℕ) → is_point bs end ≡ true → IsRun is_digit bs (end + 1) last → is_decimal_end bs end last ≡ true → IsToken Turtle bs last Decimal
@@ -253,17 +250,74 @@ module _ (bs : List ℕ) (start end : ℕ) (u : IsUtf8 bs) (n : BeginsNumber bs 
       let x = get_or bs last 0 in
       let p = and_parts _ _ z in
       let o = and_parts _ _ p.1 in
-      let more : end + 1 < last = ltb-true (end + 1) last p.0 in
       let i : last < length bs = ltb-true last (length bs) o.0 in
       let a : x < 128 = ltb-true x 128 (and_parts _ _ o.1).0 in
-      let is_46 : get_or bs end 0 ≡ 46 = eqb-true (get_or bs end 0) 46 (and_parts (nat_lt end (length bs)) (get_or bs end 0 == 46) m).1 in
-      let dot : Reached Turtle bs (end + 1) (Number number.DigitsDot) (Some (end, Integer)) =
-      byte_on end (Number number.Digits) (Number number.DigitsDot) None (Some (end, Integer)) (omega arith) (omega (arith, is_46)) whole (ap (step Turtle (Number number.Digits)) (sym is_46)) refl in
-      let c = get_or bs (end + 1) 0 in
-      let d : is_digit c ≡ true = q.pass (end + 1) (omega arith) more in
-      let first : Reached Turtle bs (end + 1 + 1) (Number number.Fraction) (Some (end + 1 + 1, Decimal)) =
-      byte_on (end + 1) (Number number.DigitsDot) (Number number.Fraction) (Some Decimal) (Some (end, Integer)) (omega arith) (low-digit c d) dot (sym (fraction_steps c d).0) refl in
+      ended_at (Number number.Fraction) Decimal last (fraction last m q (ltb-true (end + 1) last p.0)) i a
+      (step_ends ends_number (Number number.Fraction) refl x o.1 a (q.stops i)) (λ w. (number-fit w).1.0)
+
+  -- The states have come to a place in a number, from where the letter of an exponent leads on.
+  record TakesExponent (at : ℕ) : Type 0 where
+    s : State
+    b : Option (ℕ × Kind)
+    reached : Reached Turtle bs at s b
+    leads_on : agree_below (leads is_e s number.Exponent) (λ c. true) 128 ≡ true
+
+  -- they have at the end of the digits
+  takes : (at : ℕ) → (at ≡ end) ⊎ ((is_point bs end ≡ true) × IsRun is_digit bs (end + 1) at) → TakesExponent at
+  takes at (inl e) = record { s = Number number.Digits; b = Some (end, Integer); reached = subst (λ k. Reached Turtle bs k (Number number.Digits) (Some (end, Integer))) (sym e) whole; leads_on = refl }
+  takes at (inr p) = by (nat_lt (end + 1) at) refl
+    where
+      by : (t : Bool) → nat_lt (end + 1) at ≡ t → TakesExponent at
+      by true e = record { s = Number number.Fraction; b = Some (at, Decimal); reached = fraction at p.0 p.1 (ltb-true (end + 1) at e); leads_on = refl }
+      by false e =
+          let from = p.1.from in
+          let x : at ≡ end + 1 = omega (arith, ltb-false (end + 1) at e) in
+          record { s = Number number.DigitsDot; b = Some (end, Integer); reached = subst (λ k. Reached Turtle bs k (Number number.DigitsDot) (Some (end, Integer))) (sym x) (dot p.0); leads_on = refl }
+
+  -- the states after the letter of an exponent, its sign if it has one, and a digit
+  exponent : (at : ℕ) → TakesExponent at → is_exponent bs at ≡ true → after_sign bs (at + 1) < length bs → is_digit (get_or bs (after_sign bs (at + 1)) 0) ≡ true →
+      Reached Turtle bs (after_sign bs (at + 1) + 1) (Number number.ExponentDigits) (Some (after_sign bs (at + 1) + 1, Double))
+  exponent at h e l d =
+      let p = and_parts (nat_lt at (length bs)) (is_e (get_or bs at 0)) e in
+      let low = low-e (get_or bs at 0) p.1 in
+      let here : Reached Turtle bs (at + 1) (Number number.Exponent) h.b =
+      byte_on at h.s (Number number.Exponent) None h.b (ltb-true at (length bs) p.0) low h.reached (sym (step_is is_e h.s number.Exponent h.leads_on (get_or bs at 0) p.1 low)) refl in
+      by here (nat_lt (at + 1) (length bs) && is_sign (get_or bs (at + 1) 0)) refl l d
+    where
+      by : Reached Turtle bs (at + 1) (Number number.Exponent) h.b → (t : Bool) → (nat_lt (at + 1) (length bs) && is_sign (get_or bs (at + 1) 0)) ≡ t →
+          cond t (at + 1 + 1) (at + 1) < length bs → is_digit (get_or bs (cond t (at + 1 + 1) (at + 1)) 0) ≡ true →
+          Reached Turtle bs (cond t (at + 1 + 1) (at + 1) + 1) (Number number.ExponentDigits) (Some (cond t (at + 1 + 1) (at + 1) + 1, Double))
+      by here true e l d =
+          let p = and_parts (nat_lt (at + 1) (length bs)) (is_sign (get_or bs (at + 1) 0)) e in
+          let low = low-sign (get_or bs (at + 1) 0) p.1 in
+          digit_on (at + 1 + 1) (Number number.ExponentSign) (Number number.ExponentDigits) (Some Double) h.b l d
+          (byte_on (at + 1) (Number number.Exponent) (Number number.ExponentSign) None h.b (ltb-true (at + 1) (length bs) p.0) low here
+          (sym (step_is is_sign (Number number.Exponent) number.ExponentSign refl (get_or bs (at + 1) 0) p.1 low)) refl)
+          (step_is is_digit (Number number.ExponentSign) number.ExponentDigits refl (get_or bs (at + 1 + 1) 0) d (low-digit (get_or bs (at + 1 + 1) 0) d)) refl
+      by here false e l d =
+          digit_on (at + 1) (Number number.Exponent) (Number number.ExponentDigits) (Some Double) h.b l d here
+          (step_is is_digit (Number number.Exponent) number.ExponentDigits refl (get_or bs (at + 1) 0) d (low-digit (get_or bs (at + 1) 0) d)) refl
+
+  -- a double
+  double_from : (at first last : ℕ) → first ≡ after_sign bs (at + 1) → TakesExponent at → is_exponent bs at ≡ true → IsRun is_digit bs first last → is_double_end bs first last ≡ true →
+      IsToken Turtle bs last Double
+  double_from at first last f h e q z =
+      let x = get_or bs last 0 in
+      let p = and_parts (nat_lt first last) (nat_lt last (length bs) && nat_lt x 128) z in
+      let o = and_parts (nat_lt last (length bs)) (nat_lt x 128) p.1 in
+      let some : first < last = ltb-true first last p.0 in
+      let i : last < length bs = ltb-true last (length bs) o.0 in
+      let d : is_digit (get_or bs first 0) ≡ true = q.pass first (omega arith) some in
+      let one : Reached Turtle bs (first + 1) (Number number.ExponentDigits) (Some (first + 1, Double)) =
+      subst (λ k. Reached Turtle bs (k + 1) (Number number.ExponentDigits) (Some (k + 1, Double))) (sym f)
+      (exponent at h e (subst (λ k. k < length bs) f (omega arith)) (subst (λ k. is_digit (get_or bs k 0) ≡ true) f d)) in
       let within = q.within in
-      let rest : IsRun is_digit bs (end + 1 + 1) last = record { from = omega arith; within = within; pass = λ k a b. q.pass k (omega arith) b; stops = q.stops } in
-      ended_at (Number number.Fraction) Decimal last (digits_to (Number number.Fraction) Decimal (end + 1 + 1) last refl (λ c d. (fraction_steps c d).1) rest first) i a
-      (other (is_digit x) _ (implied (ends_number x) _ (agree_below_at decimal_tests (λ c. true) 128 x refl a) o.1) (q.stops i)) (λ w. (number-fit w).1)
+      let rest : IsRun is_digit bs (first + 1) last = record { from = omega arith; within = within; pass = λ k a b. q.pass k (omega arith) b; stops = q.stops } in
+      ended_at (Number number.ExponentDigits) Double last
+      (digits_to (Number number.ExponentDigits) Double (first + 1) last refl (λ c d. step_is is_digit (Number number.ExponentDigits) number.ExponentDigits refl c d (low-digit c d)) rest one) i
+      (ltb-true x 128 o.1) (step_ends (λ c. nat_lt c 128) (Number number.ExponentDigits) refl x o.1 (ltb-true x 128 o.1) (q.stops i)) (λ w. (number-fit w).1.1)
+
+-- the same by the place where its digits end
+pub quick_double : (bs : List ℕ) (start at first last : ℕ) → IsUtf8 bs → BeginsNumber bs start → IsMantissa bs start at → first ≡ after_sign bs (at + 1) → is_exponent bs at ≡ true →
+    IsRun is_digit bs first last → is_double_end bs first last ≡ true → IsToken Turtle bs last Double
+quick_double bs start at first last u n m f e q z = double_from bs start m.end u n m.run at first last f (takes bs start m.end u n m.run at m.rest) e q z

@@ -21,7 +21,7 @@ use Rattle.rdf_tokens.specs.Tokens.{with_length, three_quotes, only_long}
 use Rattle.rdf_tokens.specs.Fixed.{Row, fits, left, is_begun, live_by, rows_of}
 use Rattle.rdf_tokens.specs.Front.{Reached, longer_front, begins, row_front, front_by, state_of}
 use Rattle.rdf_tokens.specs.Machine.{step, kind_at, goes_on}
-use Rattle.rdf_tokens.specs.Quick.{IsToken, IsQuick, single, is_sought, is_named, IsPrefix, is_colon, ends_name, is_name_end, is_a, is_dot, begins_number, begins_signed, are_carets, stands_at, is_over, is_last, ends_local, RestsInLocal}
+use Rattle.rdf_tokens.specs.Quick.{IsToken, IsQuick, single, is_sought, is_named, IsPrefix, is_colon, ends_name, is_name_end, is_a, is_dot, BeginsNumber, begins_number, begins_signed, is_sign, are_carets, stands_at, is_over, is_last, ends_local, RestsInLocal}
 use Rattle.rdf_tokens.proofs.ByteLemmas.{at-start, ascii_first}
 use Rattle.rdf_tokens.proofs.NoNamesLemmas.{implied, low-letter, letter_steps, no_long, no_quotes, one_on}
 use Rattle.rdf_tokens.proofs.RestLemmas.{reached-run}
@@ -538,12 +538,16 @@ quick_dot Turtle (c ∷ x ∷ t) u e =
     subst (λ c. IsUtf8 (c ∷ x ∷ t) → IsToken Turtle (c ∷ x ∷ t) 1 Dot) (sym (eqb-true c 46 p.0))
     (λ u. quick_first 46 x t Dot u (dot-first x (ltb-true x 128 q.0) (not_true _ q.1))) u
 
--- where a number with a sign is sought
-pub signed : (d : Dialect) (bs : List ℕ) → begins_signed d bs ≡ true → (d ≡ Turtle) × (begins_signed Turtle bs ≡ true)
-signed Lines bs e = absurd (false≢true e)
-signed Turtle bs e = (refl, e)
-
 -- where a number is sought
-pub numbered : (d : Dialect) (bs : List ℕ) → begins_number d bs ≡ true → (d ≡ Turtle) × (is_digit (get_or bs 0 0) ≡ true)
+pub numbered : (d : Dialect) (bs : List ℕ) → begins_number d bs ≡ true → (d ≡ Turtle) × BeginsNumber bs 0
 numbered Lines bs e = absurd (false≢true e)
-numbered Turtle bs e = (refl, e)
+numbered Turtle [] e = absurd (false≢true e)
+numbered Turtle (c ∷ t) e = (refl, record { inside = omega arith; digit = e; sign = inl refl })
+
+-- and one with a sign
+pub signed : (d : Dialect) (bs : List ℕ) → begins_signed d bs ≡ true → (d ≡ Turtle) × BeginsNumber bs 1
+signed Lines bs e = absurd (false≢true e)
+signed Turtle bs e =
+    let p = and_parts (nat_lt 1 (length bs)) (is_sign (get_or bs 0 0) && is_digit (get_or bs 1 0)) e in
+    let o = and_parts (is_sign (get_or bs 0 0)) (is_digit (get_or bs 1 0)) p.1 in
+    (refl, record { inside = ltb-true 1 (length bs) p.0; digit = o.1; sign = inr (refl, o.0) })

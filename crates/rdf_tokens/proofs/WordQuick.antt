@@ -1,8 +1,9 @@
 -- The words `true` and `false` before a byte with which no name goes on: the states have no token there, and the spellings have one.
-use Rattle.std.proofs.Common.{◌≡◌, ℕ, ◌+◌, ◌<◌, true, false, nat_lt, List, ◌∷◌, ◌==◌, refl, sym, ap, ◌∙◌, subst, length, get_or, take, drop, arith, Some, None, IsUtf8}
-use Rattle.std.proofs.lemmas.Bool.{agree_below_at, and_parts, eqb-true, ltb-true}
-use Rattle.std.proofs.lemmas.List.{drop_more}
+use Rattle.std.proofs.Common.{◌≡◌, ℕ, ◌+◌, ◌<◌, true, false, nat_lt, List, [], ◌∷◌, ◌++◌, ◌==◌, refl, sym, ap, ◌∙◌, subst, length, get_or, take, drop, arith, Some, None, IsUtf8}
+use Rattle.std.proofs.lemmas.Bool.{agree_below_at, and_parts, false≢true, eqb-true, ltb-true}
+use Rattle.std.proofs.lemmas.List.{drop_more, get_or_append_left}
 use Rattle.std.proofs.lemmas.Str.{encode_ascii, length-encode}
+use Rattle.std.specs.List.{starts_with}
 use Rattle.std.specs.Str.{chars}
 use Rattle.rdf_terms.specs.declared.kind.Kind.{Kind}
 use Rattle.rdf_terms.specs.declared.kind.Kind.TheVariants.{True, False}
@@ -17,7 +18,7 @@ use Rattle.rdf_tokens.specs.Tokens.{three_quotes, only_long}
 use Rattle.rdf_tokens.specs.Fixed.{live_by, rows_of}
 use Rattle.rdf_tokens.specs.Front.{front_by}
 use Rattle.rdf_tokens.specs.Machine.{step, kind_at}
-use Rattle.rdf_tokens.specs.Quick.{IsToken, ends_name, is_name_end, is_true, is_false}
+use Rattle.rdf_tokens.specs.Quick.{IsToken, ends_name, is_name_end, is_word}
 use Rattle.rdf_tokens.proofs.ByteLemmas.{ascii_first}
 use Rattle.rdf_tokens.proofs.NoNamesLemmas.{implied, letter_steps, low-letter, no_long}
 use Rattle.rdf_tokens.proofs.QuickLemmas.{ended-state, first-none, other, settled, word_tests}
@@ -44,46 +45,34 @@ word_at bs end k u l r z f v t =
     (omega (arith, ap length (encode_ascii x low), length-encode x)) (omega arith) refl none refl in
     settled Turtle bs (end + 1) s None (Some (end, k)) end k u next d.1 (sym f) v refl t
 
+-- a text that starts with a word is the word and what is left
+word-front : (bs w : List ℕ) → starts_with ◌==◌ bs w ≡ true → bs ≡ w ++ drop (length w) bs
+word-front bs [] e = refl
+word-front [] (c ∷ w) e = absurd (false≢true e)
+word-front (x ∷ bs) (c ∷ w) e =
+    let p = and_parts (c == x) (starts_with ◌==◌ bs w) e in ap (λ z. z ∷ bs) (sym (eqb-true c x p.0)) ∙ ap (λ s. c ∷ s) (word-front bs w p.1)
+
+-- A word that is the one spelling at the front of a text that goes on after it, and the beginning of no longer one.
+pub quick_word : (bs : List ℕ) (end : ℕ) (w : List ℕ) (k : Kind) → IsUtf8 bs → IsRun is_name_byte bs 1 end → is_word w bs end ≡ true → 0 < length w → is_letter (get_or w 0 0) ≡ true →
+    ((x : ℕ) (t : List ℕ) → front_by (rows_of Turtle fixed) (w ++ x ∷ t) ≡ Some (length w, k)) → ((x : ℕ) (t : List ℕ) → live_by (rows_of Turtle fixed) (w ++ x ∷ t) ≡ false) →
+    ((v : List ℕ) → is_fit k v ≡ true) → IsToken Turtle bs end k
+quick_word bs end w k u r e some l f v t =
+    let p = and_parts (end == length w) _ e in
+    let q = and_parts (starts_with ◌==◌ bs w) _ p.1 in
+    let whole : end ≡ length w = eqb-true end (length w) p.0 in
+    let i : end < length bs = ltb-true end (length bs) (and_parts (nat_lt end (length bs)) _ q.1).0 in
+    let x = get_or bs end 0 in
+    let rest = drop (end + 1) bs in
+    let all : bs ≡ w ++ x ∷ rest = word-front bs w q.0 ∙ ap (λ n. w ++ drop n bs) (sym whole) ∙ ap (λ s. w ++ s) (drop_more bs end 0 i) in
+    let letter : is_letter (get_or bs 0 0) ≡ true = ap (λ b. is_letter (get_or b 0 0)) all ∙ ap is_letter (get_or_append_left w (x ∷ rest) 0 0 some) ∙ l in
+    word_at bs end k u letter r q.1 (ap (front_by (rows_of Turtle fixed)) all ∙ f x rest ∙ ap (λ n. Some (n, k)) (sym whole)) (ap (live_by (rows_of Turtle fixed)) all ∙ v x rest) (t _)
+
 -- the word `true`
-pub quick_true : (bs : List ℕ) (end : ℕ) → IsUtf8 bs → IsRun is_name_byte bs 1 end → is_true bs end ≡ true → IsToken Turtle bs 4 True
+pub quick_true : (bs : List ℕ) (end : ℕ) → IsUtf8 bs → IsRun is_name_byte bs 1 end → is_word (116 ∷ 114 ∷ 117 ∷ 101 ∷ []) bs end ≡ true → IsToken Turtle bs end True
 unfolding is_fit
-quick_true bs end u r e =
-    let p = and_parts (end == 4) _ e in
-    let q = and_parts (get_or bs 0 0 == 116) _ p.1 in
-    let q1 = and_parts (get_or bs 1 0 == 114) _ q.1 in
-    let q2 = and_parts (get_or bs 2 0 == 117) _ q1.1 in
-    let q3 = and_parts (get_or bs 3 0 == 101) _ q2.1 in
-    let four : end ≡ 4 = eqb-true end 4 p.0 in
-    let z : is_name_end bs 4 ≡ true = subst (λ n. is_name_end bs n ≡ true) four q3.1 in
-    let i : 4 < length bs = ltb-true 4 (length bs) (and_parts (nat_lt 4 (length bs)) _ z).0 in
-    let t = eqb-true (get_or bs 0 0) 116 q.0 in
-    let all : bs ≡ 116 ∷ 114 ∷ 117 ∷ 101 ∷ get_or bs 4 0 ∷ drop 5 bs =
-    drop_more bs 0 0 (omega arith) ∙ (ap (λ c. c ∷ drop 1 bs) t
-    ∙ ap (λ w. 116 ∷ w) (drop_more bs 1 0 (omega arith) ∙ (ap (λ c. c ∷ drop 2 bs) (eqb-true (get_or bs 1 0) 114 q1.0)
-    ∙ ap (λ w. 114 ∷ w) (drop_more bs 2 0 (omega arith) ∙ (ap (λ c. c ∷ drop 3 bs) (eqb-true (get_or bs 2 0) 117 q2.0)
-    ∙ ap (λ w. 117 ∷ w) (drop_more bs 3 0 (omega arith) ∙ (ap (λ c. c ∷ drop 4 bs) (eqb-true (get_or bs 3 0) 101 q3.0)
-    ∙ ap (λ w. 101 ∷ w) (drop_more bs 4 0 i)))))))) in
-    word_at bs 4 True u (ap is_letter t) (subst (IsRun is_name_byte bs 1) four r) z (ap (front_by (rows_of Turtle fixed)) all) (ap (live_by (rows_of Turtle fixed)) all) refl
+quick_true bs end u r e = quick_word bs end (116 ∷ 114 ∷ 117 ∷ 101 ∷ []) True u r e (omega arith) refl (λ x t. refl) (λ x t. refl) (λ v. refl)
 
 -- the word `false`
-pub quick_false : (bs : List ℕ) (end : ℕ) → IsUtf8 bs → IsRun is_name_byte bs 1 end → is_false bs end ≡ true → IsToken Turtle bs 5 False
+pub quick_false : (bs : List ℕ) (end : ℕ) → IsUtf8 bs → IsRun is_name_byte bs 1 end → is_word (102 ∷ 97 ∷ 108 ∷ 115 ∷ 101 ∷ []) bs end ≡ true → IsToken Turtle bs end False
 unfolding is_fit
-quick_false bs end u r e =
-    let p = and_parts (end == 5) _ e in
-    let q = and_parts (get_or bs 0 0 == 102) _ p.1 in
-    let q1 = and_parts (get_or bs 1 0 == 97) _ q.1 in
-    let q2 = and_parts (get_or bs 2 0 == 108) _ q1.1 in
-    let q3 = and_parts (get_or bs 3 0 == 115) _ q2.1 in
-    let q4 = and_parts (get_or bs 4 0 == 101) _ q3.1 in
-    let five : end ≡ 5 = eqb-true end 5 p.0 in
-    let z : is_name_end bs 5 ≡ true = subst (λ n. is_name_end bs n ≡ true) five q4.1 in
-    let i : 5 < length bs = ltb-true 5 (length bs) (and_parts (nat_lt 5 (length bs)) _ z).0 in
-    let t = eqb-true (get_or bs 0 0) 102 q.0 in
-    let all : bs ≡ 102 ∷ 97 ∷ 108 ∷ 115 ∷ 101 ∷ get_or bs 5 0 ∷ drop 6 bs =
-    drop_more bs 0 0 (omega arith) ∙ (ap (λ c. c ∷ drop 1 bs) t
-    ∙ ap (λ w. 102 ∷ w) (drop_more bs 1 0 (omega arith) ∙ (ap (λ c. c ∷ drop 2 bs) (eqb-true (get_or bs 1 0) 97 q1.0)
-    ∙ ap (λ w. 97 ∷ w) (drop_more bs 2 0 (omega arith) ∙ (ap (λ c. c ∷ drop 3 bs) (eqb-true (get_or bs 2 0) 108 q2.0)
-    ∙ ap (λ w. 108 ∷ w) (drop_more bs 3 0 (omega arith) ∙ (ap (λ c. c ∷ drop 4 bs) (eqb-true (get_or bs 3 0) 115 q3.0)
-    ∙ ap (λ w. 115 ∷ w) (drop_more bs 4 0 (omega arith) ∙ (ap (λ c. c ∷ drop 5 bs) (eqb-true (get_or bs 4 0) 101 q4.0)
-    ∙ ap (λ w. 101 ∷ w) (drop_more bs 5 0 i)))))))))) in
-    word_at bs 5 False u (ap is_letter t) (subst (IsRun is_name_byte bs 1) five r) z (ap (front_by (rows_of Turtle fixed)) all) (ap (live_by (rows_of Turtle fixed)) all) refl
+quick_false bs end u r e = quick_word bs end (102 ∷ 97 ∷ 108 ∷ 115 ∷ 101 ∷ []) False u r e (omega arith) refl (λ x t. refl) (λ x t. refl) (λ v. refl)

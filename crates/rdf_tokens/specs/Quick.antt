@@ -1,5 +1,6 @@
 -- Tokens that the first bytes of a text settle.
 use Rattle.std.specs.Prelude.{◌≡◌, ◌+◌, ◌<◌, ℕ, Bool, true, false, cond, not, ◌&&◌, ◌||◌, ◌==◌, nat_lt, List, [], ◌∷◌, length, get_or, take, Option, None, Some, ◌⊎◌}
+use Rattle.std.specs.List.{starts_with}
 use Rattle.std.specs.Str.{chars}
 use Rattle.rdf_terms.specs.declared.kind.Dialect.{Dialect}
 use Rattle.rdf_terms.specs.declared.kind.Dialect.TheVariants.{Lines, Turtle}
@@ -88,16 +89,9 @@ is_name_end bs at = nat_lt at (length bs) && ends_name (get_or bs at 0)
 abbrev pub is_a : List ℕ → ℕ → Bool
 is_a bs end = (end == 1) && ((get_or bs 0 0 == 97) && is_name_end bs end)
 
--- the word `true`, by the end of that run
-abbrev pub is_true : List ℕ → ℕ → Bool
-is_true bs end =
-    (end == 4) && ((get_or bs 0 0 == 116) && ((get_or bs 1 0 == 114) && ((get_or bs 2 0 == 117) && ((get_or bs 3 0 == 101) && is_name_end bs end))))
-
--- the word `false`
-abbrev pub is_false : List ℕ → ℕ → Bool
-is_false bs end =
-    (end == 5) && ((get_or bs 0 0 == 102) && ((get_or bs 1 0 == 97) && ((get_or bs 2 0 == 108) && ((get_or bs 3 0 == 115)
-    && ((get_or bs 4 0 == 101) && is_name_end bs end)))))
+-- another word, likewise
+abbrev pub is_word : List ℕ → List ℕ → ℕ → Bool
+is_word w bs end = (end == length w) && (starts_with ◌==◌ bs w && is_name_end bs end)
 
 -- a dot of Turtle before a byte of ASCII that is no digit, with which no number begins
 abbrev pub is_dot : Dialect → List ℕ → Bool
@@ -140,6 +134,24 @@ is_integer_end bs at = nat_lt at (length bs) && ends_integer (get_or bs at 0)
 -- digits stand between the dot and a place, and there a byte that ends a decimal
 abbrev pub is_decimal_end : List ℕ → ℕ → ℕ → Bool
 is_decimal_end bs dot at = nat_lt (dot + 1) at && (nat_lt at (length bs) && ends_number (get_or bs at 0))
+
+-- 'E' or 'e' stands at a place
+abbrev pub is_exponent : List ℕ → ℕ → Bool
+is_exponent bs at = nat_lt at (length bs) && one_of (69 ∷ 101 ∷ []) (get_or bs at 0)
+
+-- the place after the sign at a place, or the place itself where there is none
+abbrev pub after_sign : List ℕ → ℕ → ℕ
+after_sign bs at = cond (nat_lt at (length bs) && is_sign (get_or bs at 0)) (at + 1) at
+
+-- digits stand between two places, and after them a byte of ASCII
+abbrev pub is_double_end : List ℕ → ℕ → ℕ → Bool
+is_double_end bs from at = nat_lt from at && (nat_lt at (length bs) && nat_lt (get_or bs at 0) 128)
+
+-- the digits of a number end at a place: the first run of them, or after a dot a second one, which may be empty
+pub record IsMantissa (bs : List ℕ) (from at : ℕ) : Type 0 where
+  pub end : ℕ
+  pub run : IsRun is_digit bs (from + 1) end
+  pub rest : (at ≡ end) ⊎ ((is_point bs end ≡ true) × IsRun is_digit bs (end + 1) at)
 
 -- a letter, a digit or '_'
 abbrev pub begins_label_name : ℕ → Bool

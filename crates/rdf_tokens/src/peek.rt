@@ -10,8 +10,8 @@ ghost use Rattle.rdf_tokens.specs.declared.states.text.Quote.TheVariants.{Double
 
 use crate::front::NoNames;
 use crate::quick::{
-    begins_label, begins_tag, digits_end, is_a, is_colon, is_dot, is_integer_end, is_name_end,
-    is_sought, quick_named, quick_number, quick_tag, stands_at,
+    begins_label, begins_tag, digits_end, is_a, is_colon, is_decimal_end, is_dot, is_integer_end,
+    is_name_end, is_point, is_sought, quick_named, quick_tag, stands_at,
 };
 use rdf_terms::runs::{Run, run_end, two_run_ends};
 use rdf_terms::{Dialect, Kind};
@@ -280,11 +280,15 @@ fn decimal_len(text: &str) -> Option<usize>
     requires digit { is_digit (get_or text.now 0 0) ≡ true }
     ensures { IfSome result (λ n. IsToken Turtle text.now n Decimal) }
 {
-    let quick = quick_number(text);
-    match quick.kind {
-        Some(Kind::Decimal) => Some(quick.len),
-        _ => None,
+    let bytes = text.as_bytes();
+    let end = digits_end(bytes, 1);
+    if is_point(bytes, end) {
+        let last = digits_end(bytes, end + 1);
+        if is_decimal_end(bytes, end, last) {
+            return Some(last);
+        }
     }
+    None
 }
 
 /// The length of a name with an empty prefix and a local part.

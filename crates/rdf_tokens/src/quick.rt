@@ -5,11 +5,11 @@ ghost use Rattle.rdf_terms.specs.Classes.{is_digit, is_letter};
 ghost use Rattle.rdf_terms.specs.declared.kind.Dialect.{Dialect};
 ghost use Rattle.rdf_terms.specs.declared.kind.Dialect.TheVariants.{Turtle};
 ghost use Rattle.rdf_tokens.specs.Quick.{IsQuick, single, stands_at};
-ghost use Rattle.rdf_tokens.specs.Quick.{is_sought, is_named, IsPrefix, is_colon, ends_name, is_name_end, is_a};
-ghost use Rattle.rdf_tokens.specs.Quick.{BeginsNumber, begins_signed};
+ghost use Rattle.rdf_tokens.specs.Quick.{is_sought, is_named, IsPrefix, is_colon, ends_name, is_name_end, is_a, is_word};
+ghost use Rattle.rdf_tokens.specs.Quick.{BeginsNumber, IsMantissa, begins_signed, is_exponent, after_sign, is_double_end};
 ghost use Rattle.rdf_tokens.specs.Quick.{is_dot, begins_number, is_point, is_integer_end, is_decimal_end, ends_integer, ends_number};
 ghost use Rattle.rdf_tokens.specs.Quick.{begins_iri, quote_byte, opens_with, begins_string, is_empty_string, begins_label, begins_label_name};
-ghost use Rattle.rdf_tokens.specs.Quick.{begins_tag, begins_directive, is_part_byte, is_tag_end, is_later_end, are_carets, is_true, is_false};
+ghost use Rattle.rdf_tokens.specs.Quick.{begins_tag, begins_directive, is_part_byte, is_tag_end, is_later_end, are_carets};
 ghost use Rattle.rdf_tokens.specs.Escapes.{FitsInString};
 ghost use Rattle.rdf_tokens.specs.Quick.{RestsInLocal, is_over, is_last, ends_local, RestsInLong, is_inner, stands_inner, stands_thrice};
 ghost use Rattle.rdf_terms.specs.Runs.{IsRun, is_name_byte, is_ascii_text_byte};
@@ -54,10 +54,10 @@ pub(crate) fn quick_front(dialect: Dialect, text: &str, no_names: &Option<NoName
         };
     }
     if begins_number(dialect, bytes) {
-        return quick_number(text);
+        return quick_number(text, 0);
     }
     if begins_signed(dialect, bytes) {
-        return quick_signed(text);
+        return quick_number(text, 1);
     }
     if opens_with(dialect, Quote::Single, bytes) {
         return quick_string(dialect, Quote::Single, text);
@@ -487,15 +487,15 @@ fn quick_word(text: &str, end: usize) -> Quick
     ensures { IsQuick Turtle text.now result.len result.kind }
 {
     let bytes = text.as_bytes();
-    if is_true(bytes, end) {
+    if is_word(b"true", bytes, end) {
         return Quick {
-            len: 4,
+            len: end,
             kind: Some(Kind::True),
         };
     }
-    if is_false(bytes, end) {
+    if is_word(b"false", bytes, end) {
         return Quick {
-            len: 5,
+            len: end,
             kind: Some(Kind::False),
         };
     }
@@ -631,28 +631,9 @@ fn begins_number(dialect: Dialect, bytes: &[u8]) -> bool
     dialect == Dialect::Turtle && matches!(bytes, [b'0'..=b'9', ..])
 }
 
-/// An integer or a decimal of Turtle that begins with a digit, up to a byte of ASCII with which no number goes on.
-#[inline(always)]
-pub(crate) fn quick_number(text: &str) -> Quick
-    requires some { 0 < length text.now }
-    requires digit { is_digit (get_or text.now 0 0) ≡ true }
-    ensures { IsQuick Turtle text.now result.len result.kind }
-{
-    number_from(text, 0)
-}
-
-/// The same after a sign.
+/// A number of Turtle whose digits begin at a place, up to a byte of ASCII with which no number goes on.
 #[inline(never)]
-fn quick_signed(text: &str) -> Quick
-    requires { begins_signed Turtle text.now ≡ true }
-    ensures { IsQuick Turtle text.now result.len result.kind }
-{
-    number_from(text, 1)
-}
-
-/// An integer or a decimal whose digits begin at a place, up to a byte of ASCII with which no number goes on.
-#[inline(always)]
-fn number_from(text: &str, from: usize) -> Quick
+fn quick_number(text: &str, from: usize) -> Quick
     requires { BeginsNumber text.now from }
     ensures { IsQuick Turtle text.now result.len result.kind }
 {
@@ -664,16 +645,68 @@ fn number_from(text: &str, from: usize) -> Quick
             kind: Some(Kind::Integer),
         };
     }
-    if is_point(bytes, end) {
-        let last = digits_end(bytes, end + 1);
-        if is_decimal_end(bytes, end, last) {
+    if !is_point(bytes, end) {
+        return quick_double(text, from, end);
+    }
+    let last = digits_end(bytes, end + 1);
+    if is_decimal_end(bytes, end, last) {
+        return Quick {
+            len: last,
+            kind: Some(Kind::Decimal),
+        };
+    }
+    quick_double(text, from, last)
+}
+
+/// A double whose digits, with a dot among or after them or without one, end at a place, up to a byte of ASCII that is no digit.
+#[inline(always)]
+fn quick_double(text: &str, from: usize, at: usize) -> Quick
+    requires begins { BeginsNumber text.now from }
+    requires mantissa { IsMantissa text.now from at }
+    ensures { IsQuick Turtle text.now result.len result.kind }
+{
+    let bytes = text.as_bytes();
+    if is_exponent(bytes, at) {
+        let first = after_sign(bytes, at + 1);
+        let end = digits_end(bytes, first);
+        if is_double_end(bytes, first, end) {
             return Quick {
-                len: last,
-                kind: Some(Kind::Decimal),
+                len: end,
+                kind: Some(Kind::Double),
             };
         }
     }
     Quick { len: 0, kind: None }
+}
+
+/// Whether the letter of an exponent stands at a place.
+#[inline(always)]
+fn is_exponent(bytes: &[u8], at: usize) -> bool
+    ensures { result ≡ is_exponent bytes.now at }
+{
+    at < bytes.len() && matches!(bytes[at], b'E' | b'e')
+}
+
+/// The place after the sign at a place, or the place itself where there is none.
+#[inline(always)]
+fn after_sign(bytes: &[u8], at: usize) -> usize
+    requires { at ≤ length bytes.now }
+    ensures value { result ≡ after_sign bytes.now at }
+    ensures within { result ≤ length bytes.now }
+{
+    if at < bytes.len() && matches!(bytes[at], b'+' | b'-') {
+        at + 1
+    } else {
+        at
+    }
+}
+
+/// Whether there are digits between two places, and a byte of ASCII after them.
+#[inline(always)]
+fn is_double_end(bytes: &[u8], from: usize, at: usize) -> bool
+    ensures { result ≡ is_double_end bytes.now from at }
+{
+    from < at && at < bytes.len() && bytes[at] < 128
 }
 
 /// Whether the text of Turtle begins with a sign and a digit.
@@ -705,7 +738,7 @@ fn is_digit(byte: u8) -> bool
 }
 
 #[inline(always)]
-fn is_point(bytes: &[u8], at: usize) -> bool
+pub(crate) fn is_point(bytes: &[u8], at: usize) -> bool
     ensures { result ≡ is_point bytes.now at }
 {
     at < bytes.len() && bytes[at] == b'.'
@@ -721,7 +754,7 @@ pub(crate) fn is_integer_end(bytes: &[u8], at: usize) -> bool
 
 /// Whether there are digits after the dot, and a byte after them with which no decimal goes on.
 #[inline(always)]
-fn is_decimal_end(bytes: &[u8], dot: usize, at: usize) -> bool
+pub(crate) fn is_decimal_end(bytes: &[u8], dot: usize, at: usize) -> bool
     requires { dot < length bytes.now }
     ensures { result ≡ is_decimal_end bytes.now dot at }
 {
@@ -753,33 +786,12 @@ pub(crate) fn is_a(bytes: &[u8], end: usize) -> bool
     end == 1 && bytes[0] == b'a' && is_name_end(bytes, end)
 }
 
-/// The same of the word `true`.
+/// The same of another word.
 #[inline(always)]
-fn is_true(bytes: &[u8], end: usize) -> bool
-    requires { end ≤ length bytes.now }
-    ensures { result ≡ is_true bytes.now end }
+fn is_word(word: &[u8], bytes: &[u8], end: usize) -> bool
+    ensures { result ≡ is_word word.now bytes.now end }
 {
-    end == 4
-        && bytes[0] == b't'
-        && bytes[1] == b'r'
-        && bytes[2] == b'u'
-        && bytes[3] == b'e'
-        && is_name_end(bytes, end)
-}
-
-/// The same of the word `false`.
-#[inline(always)]
-fn is_false(bytes: &[u8], end: usize) -> bool
-    requires { end ≤ length bytes.now }
-    ensures { result ≡ is_false bytes.now end }
-{
-    end == 5
-        && bytes[0] == b'f'
-        && bytes[1] == b'a'
-        && bytes[2] == b'l'
-        && bytes[3] == b's'
-        && bytes[4] == b'e'
-        && is_name_end(bytes, end)
+    end == word.len() && bytes.starts_with(word) && is_name_end(bytes, end)
 }
 
 /// Whether the text of Turtle begins with a dot and a byte of ASCII that is no digit: with no number.

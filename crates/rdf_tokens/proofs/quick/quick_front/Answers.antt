@@ -2,8 +2,8 @@
 use Rattle.std.proofs.Common.{◌≡◌, ◌<◌, ◌∙◌, true, sym, ap, subst, length, get_or, IsUtf8}
 use Rattle.rdf_terms.specs.declared.kind.Dialect.TheVariants.{Turtle}
 use Rattle.rdf_terms.specs.declared.kind.Kind.TheVariants.{Dot}
-use Rattle.rdf_terms.specs.Classes.{is_digit, is_letter}
-use Rattle.rdf_tokens.specs.Quick.{IsQuick, IsToken, begins_signed, single, is_colon}
+use Rattle.rdf_terms.specs.Classes.{is_letter}
+use Rattle.rdf_tokens.specs.Quick.{BeginsNumber, IsQuick, IsToken, single, is_colon}
 use Rattle.rdf_tokens.proofs.QuickLemmas.{named, numbered, quick_dot, quick_kind, signed, some-bytes, sought}
 use Rattle.rdf_tokens.proofs.quick.quick_front.Goals as goal
 
@@ -44,13 +44,9 @@ returns-then-is_dot c =
     let v = c.as_bytes-bytes.ensures.value in
     subst (λ b. IsToken c.args.dialect b 1 Dot) v (quick_dot c.args.dialect bs (subst IsUtf8 (sym v) c.utf8.text) (sym c.is_dot.ensures ∙ c.if-is_dot.true))
 
-pub quick_number-requires-clause-some : goal.quick_number-requires-clause-some
-quick_number-requires-clause-some c =
-    subst (λ b. 0 < length b) c.as_bytes-bytes.ensures.value (some-bytes (length c.as_bytes-bytes.result.now) (sym c.is_empty.ensures ∙ c.if-is_empty.false))
-
-pub quick_number-requires-clause-digit : goal.quick_number-requires-clause-digit
-quick_number-requires-clause-digit c =
-    subst (λ b. is_digit (get_or b 0 0) ≡ true) c.as_bytes-bytes.ensures.value
+pub quick_number-requires : goal.quick_number-requires
+quick_number-requires c =
+    subst (λ b. BeginsNumber b 0) c.as_bytes-bytes.ensures.value
     (numbered c.args.dialect c.as_bytes-bytes.result.now (sym c.begins_number.ensures ∙ c.if-begins_number.true)).1
 
 pub returns-then-begins_number : goal.returns-then-begins_number
@@ -59,16 +55,16 @@ returns-then-begins_number c =
     subst (λ d. IsQuick d c.args.text.now q.len q.kind) (sym (numbered c.args.dialect c.as_bytes-bytes.result.now (sym c.begins_number.ensures ∙ c.if-begins_number.true)).0)
     c.quick_number.ensures
 
-pub quick_signed-requires : goal.quick_signed-requires
-quick_signed-requires c =
-    subst (λ b. begins_signed Turtle b ≡ true) c.as_bytes-bytes.ensures.value
+pub quick_number-requires-then-begins_signed : goal.quick_number-requires-then-begins_signed
+quick_number-requires-then-begins_signed c =
+    subst (λ b. BeginsNumber b 1) c.as_bytes-bytes.ensures.value
     (signed c.args.dialect c.as_bytes-bytes.result.now (sym c.begins_signed.ensures ∙ c.if-begins_signed.true)).1
 
 pub returns-then-begins_signed : goal.returns-then-begins_signed
 returns-then-begins_signed c =
-    let q = c.quick_signed.result in
+    let q = c.quick_number-then-begins_signed.result in
     subst (λ d. IsQuick d c.args.text.now q.len q.kind) (sym (signed c.args.dialect c.as_bytes-bytes.result.now (sym c.begins_signed.ensures ∙ c.if-begins_signed.true)).0)
-    c.quick_signed.ensures
+    c.quick_number-then-begins_signed.ensures
 
 pub returns : goal.returns
 returns c = c.quick_plain.ensures c.args.dialect

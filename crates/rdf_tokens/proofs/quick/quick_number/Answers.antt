@@ -1,6 +1,27 @@
--- The digits begin at the first byte.
-use Rattle.std.proofs.Common.{inl, refl}
+-- The parts of a number, by its runs of digits and the bytes between them.
+use Rattle.std.proofs.Common.{◌≡◌, ◌+◌, ◌∙◌, true, inl, inr, refl, sym, subst, IsUtf8}
+use Rattle.rdf_terms.specs.declared.kind.Dialect.TheVariants.{Turtle}
+use Rattle.rdf_terms.specs.declared.kind.Kind.TheVariants.{Integer, Decimal}
+use Rattle.rdf_terms.specs.Classes.{is_digit}
+use Rattle.rdf_terms.specs.Runs.{IsRun}
+use Rattle.rdf_tokens.specs.Quick.{BeginsNumber, IsToken, is_point}
+use Rattle.rdf_tokens.proofs.NumberQuick.{quick_integer, quick_decimal}
 use Rattle.rdf_tokens.proofs.quick.quick_number.Goals as goal
 
-pub number_from-requires : goal.number_from-requires
-number_from-requires c = record { inside = c.requires.some; digit = c.requires.digit; sign = inl refl }
+pub returns-then-is_integer_end : goal.returns-then-is_integer_end
+returns-then-is_integer_end c =
+    let bs = c.as_bytes-bytes.result.now in
+    let v = c.as_bytes-bytes.ensures.value in
+    let end = c.digits_end-end.result in
+    subst (λ b. IsToken Turtle b end Integer) v
+    (quick_integer bs c.args.from end (subst IsUtf8 (sym v) c.utf8.text) (subst (λ b. BeginsNumber b c.args.from) (sym v) c.requires) c.digits_end-end.ensures (sym c.is_integer_end.ensures ∙ c.if-is_integer_end.true))
+
+pub returns-then-is_decimal_end : goal.returns-then-is_decimal_end
+returns-then-is_decimal_end c =
+    let bs = c.as_bytes-bytes.result.now in
+    let v = c.as_bytes-bytes.ensures.value in
+    let end = c.digits_end-end.result in
+    let last = c.digits_end-last.result in
+    subst (λ b. IsToken Turtle b last Decimal) v
+    (quick_decimal bs c.args.from end (subst IsUtf8 (sym v) c.utf8.text) (subst (λ b. BeginsNumber b c.args.from) (sym v) c.requires) c.digits_end-end.ensures last
+    (sym c.is_point.ensures ∙ c.if-not-is_point.false) c.digits_end-last.ensures (sym c.is_decimal_end.ensures ∙ c.if-is_decimal_end.true))
