@@ -428,7 +428,7 @@ fn take_all(
 }
 
 /// Texts of the Turtle dialect, and all that a scanner answers.
-static EXAMPLES: [(&str, &[Answer]); 11] = [
+static EXAMPLES: [(&str, &[Answer]); 12] = [
     (
         "\u{FEFF}<http://é/> a \"x\", 1.5e0 # ü\n'''y\n''' .",
         &[
@@ -458,6 +458,18 @@ static EXAMPLES: [(&str, &[Answer]); 11] = [
             Answer::Token(Kind::Double, 0, 1, 4),
             Answer::Token(Kind::End, 4, 1, 0),
             Answer::Fault(Reason::Ended, 4),
+        ],
+    ),
+    (
+        "1.5e3 -2E-1, 3.e+4 5e+",
+        &[
+            Answer::Token(Kind::Double, 0, 1, 5),
+            Answer::Token(Kind::Double, 6, 1, 5),
+            Answer::Token(Kind::Comma, 11, 1, 1),
+            Answer::Token(Kind::Double, 13, 1, 5),
+            Answer::Token(Kind::Integer, 19, 1, 1),
+            Answer::Fault(Reason::NoToken, 20),
+            Answer::Fault(Reason::Ended, 22),
         ],
     ),
     (
