@@ -47,6 +47,20 @@ impl<A: Allocator> Prefixes<A> {
     pub(crate) fn get(&self, prefix: &str) -> Option<&Iri<A>>
         ensures { text_of result ≡ bound_to self.now (chars prefix.now) }
     {
+        if self.row.len() > ROW {
+            return self.get_of_many(prefix);
+        }
+        match place_in(&self.row, prefix) {
+            Some(place) => Some(&self.row[place].1),
+            None => self.others.get(prefix),
+        }
+    }
+
+    /// The same where the row has many.
+    #[inline(never)]
+    fn get_of_many(&self, prefix: &str) -> Option<&Iri<A>>
+        ensures { text_of result ≡ bound_to self.now (chars prefix.now) }
+    {
         match place_of(&self.slots, &self.row, prefix) {
             Some(place) => Some(&self.row[place].1),
             None => self.others.get(prefix),

@@ -1,5 +1,5 @@
 -- A prefix stands where its slot says, or among the first, or nowhere in the row.
-use Rattle.std.proofs.Common.{◌≡◌, List, ℕ, None, take, subst}
+use Rattle.std.proofs.Common.{◌≡◌, None, subst}
 use Rattle.std.specs.Prelude.{MatchOption}
 use Rattle.std.specs.Str.{chars}
 use Rattle.rdf_iri.specs.Scope.{bound_to, entries_of}

@@ -1,5 +1,4 @@
-use Rattle.std.proofs.Common.{◌≡◌, ◌<◌, ◌∙◌, ◌%◌, List, ℕ, [], get_or, ap, sym, subst, length, true, arith}
-use Rattle.std.specs.Str.{bytes_eq}
+use Rattle.std.proofs.Common.{◌<◌, ◌∙◌, ◌%◌, ℕ, [], get_or, ap, sym, length, arith}
 use Rattle.std.specs.String.{string_bytes}
 use Rattle.std.proofs.lemmas.Bool.{false≢true}
 use Rattle.std.proofs.lemmas.Slice.Eq.{bytes_eq-Decides}

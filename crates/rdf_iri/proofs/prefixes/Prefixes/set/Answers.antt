@@ -1,6 +1,5 @@
 -- A prefix is set where it stands in the row, at the end of the row, or among the others.
 use Rattle.std.proofs.Common.{rules, ◌≡◌, ◌∙◌, List, [], ◌∷◌, ◌++◌, ℕ, None, refl, ap, sym, subst, arith}
-use Rattle.std.proofs.lemmas.List.{nil_from_length}
 use Rattle.std.proofs.Math.ListN.{set}
 use Rattle.std.specs.Str.{chars}
 use Rattle.rdf_iri.specs.Scope.{entries_of, bound_to}

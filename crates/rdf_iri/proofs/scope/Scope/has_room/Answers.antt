@@ -1,5 +1,5 @@
 -- A prefix has room where fewer are bound than may be, or where it is bound.
-use Rattle.std.proofs.Common.{◌≡◌, ◌<◌, ◌≤◌, ℕ, Bool, true, false, List, Option, None, Some, length, is_some, refl, subst, sym, ◌∙◌}
+use Rattle.std.proofs.Common.{◌≡◌, ◌<◌, ◌≤◌, ℕ, Bool, List, Option, None, Some, length, is_some, refl, subst, sym, ◌∙◌}
 use Rattle.std.specs.Prelude.{MatchBool}
 use Rattle.std.specs.Str.{chars}
 use denote.Ref.{Bor}
