@@ -191,7 +191,7 @@ impl<A: Allocator + Copy> Scope<A> {
     fn has_room(&self, prefix: &str) -> bool
         ensures { MatchBool result (HasRoom self.now (chars prefix.now)) (IsFull self.now (chars prefix.now)) }
     {
-        self.names.get(prefix).is_some() || self.names.are_fewer(self.limits.bindings())
+        self.names.are_fewer(self.limits.bindings()) || self.names.get(prefix).is_some()
     }
 
     /// The IRI of a name: that of its prefix, with the local part after it. The local part is a value, without the
