@@ -1,6 +1,7 @@
 -- What a grammar says of its documents, and of what accepting their tokens does.
-use Rattle.std.specs.Prelude.{◌≡◌, ◌≤◌, ◌*◌, ℕ, Bool, true, false, List, [], ◌∷◌, ◌++◌, length}
+use Rattle.std.specs.Prelude.{◌≡◌, ◌≤◌, ◌*◌, ◌↔◌, ℕ, Bool, true, false, List, [], ◌∷◌, ◌++◌, length}
 use Rattle.rdf_terms.specs.declared.kind.Dialect.{Dialect}
+use Rattle.rdf_terms.specs.declared.kind.Kind.{Kind}
 use Rattle.rdf_terms.specs.declared.kind.Kind.TheVariants.{End}
 use Rattle.rdf_terms.specs.declared.reason.Reason.{Reason}
 use Rattle.rdf_terms.specs.declared.reason.Reason.TheVariants.{BadUtf8, NoToken, BadEscape, TokenTooLong, DocumentTooLong, Memory, Ended, Sink}
@@ -75,3 +76,11 @@ Misses w takes leaves failed TokenTooLong old t before after = ⊥
 Misses w takes leaves failed DocumentTooLong old t before after = ⊥
 Misses w takes leaves failed Ended old t before after = ⊥
 Misses w takes leaves failed reason old t before after = Blames w reason old t before after
+
+-- The answer is yes exactly if some tree begins with the tokens and then a token of the kind, whatever that token spells.
+abbrev pub CanFollow : {I : Type 0} → (List Token → List (MarkedItem I) → Type 0) → List Token → Kind → Bool → Type 0
+CanFollow trees ts kind answer = (t : Token) → t.kind ≡ kind → ((answer ≡ true) ↔ Viable trees (ts ++ t ∷ []))
+
+-- The same of the tokens that were accepted, whatever they are.
+abbrev pub KnowsNext : {G X I : Type 0} → Words G X I → (X → List Token → List (MarkedItem I) → Type 0) → G → Kind → Bool → Type 0
+KnowsNext {G} {X} {I} w trees g kind answer = (x : X) (ts : List Token) (qs : List I) → w.reached g x ts qs → CanFollow (trees x) ts kind answer

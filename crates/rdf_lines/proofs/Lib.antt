@@ -36,6 +36,7 @@ pub mod WellFormed
 pub mod WrittenLimits
 mod SettledLemmas
 pub mod AcceptingLemmas
+mod NextKinds
 pub mod CanonicalLines
 pub mod FrontsLemmas
 mod PlainLabels

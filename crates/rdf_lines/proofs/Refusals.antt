@@ -169,7 +169,7 @@ not_taken n i l t = by (has_scheme i) (ap (λ b. has_scheme i && not b) (sym (lt
     by false e = cc
 
 -- tokens that are taken are those of some tree
-in_trees : (n : ℕ) (f : LineForm) (ts : List Token) (m : Mode) (qs : List Quad) → run (is_taken n) f Begin ts ≡ ran m qs → run any_iri f Begin ts ≡ ran m qs
+pub in_trees : (n : ℕ) (f : LineForm) (ts : List Token) (m : Mode) (qs : List Quad) → run (is_taken n) f Begin ts ≡ ran m qs → run any_iri f Begin ts ≡ ran m qs
 in_trees n f ts m qs e = wider_run (is_taken n) any_iri (λ i t. refl) f ts Begin m qs e
 
 module _ (n : ℕ) (f : LineForm) (ts : List Token) (t : Token) (m : Mode) (qs : List Quad) (e : run (is_taken n) f Begin ts ≡ ran m qs) where

@@ -58,6 +58,12 @@ abbrev pub gave : Mode → Bool
 gave AfterDot = true
 gave m = false
 
+-- an answer that is no refusal
+abbrev pub is_accepted : Answer → Bool
+is_accepted (goes m) = true
+is_accepted (gives q m) = true
+is_accepted (refuses r) = false
+
 -- a token and its leaf
 abbrev pub leaf : Given → Leaf
 leaf t = leaf_of (token_of t)

@@ -14,7 +14,8 @@ use rdf_tokens::Token;
 use std::alloc::Allocator;
 
 impl<A: Allocator> State<A> {
-    /// Takes a token. A statement's quad is put at its dot; after an error the reader has finished.
+    /// Takes a token. A statement's quad is put at its dot. A token that is unexpected changes nothing; after another
+    /// error the reader has finished.
     #[inline(always)]
     pub fn accept<S: QuadSink>(
         &mut self,
@@ -27,6 +28,7 @@ impl<A: Allocator> State<A> {
         ensures ok { OnOk result (Does S.takes (answer rules (mode_of self.old) token.now) sink.old (mode_of self.new) sink.new) }
         ensures live { OnOk result (S.has_failed sink.new ≡ false) }
         ensures held { StaysWithin rules.iri self.old self.old.mode token.now self.new self.new.mode }
+        ensures stays { IfErr result (λ r. r ≡ Reason.Unexpected → self.new ≡ self.old) }
         ensures err { IfErr result (λ r. Fails S.leaves S.has_failed r (answer rules (mode_of self.old) token.now) sink.old sink.new) }
     {
         match self.next(rules, token, sink) {
@@ -34,6 +36,7 @@ impl<A: Allocator> State<A> {
                 self.mode = mode;
                 Ok(())
             }
+            Err(Reason::Unexpected) => Err(Reason::Unexpected),
             Err(reason) => {
                 self.mode = Mode::Finished;
                 Err(reason)
@@ -54,6 +57,7 @@ impl<A: Allocator> State<A> {
         ensures ok { IfOk result (λ m. Does S.takes (answer rules (mode_of self.old) token.now) sink.old (mode_at self.new m) sink.new) }
         ensures live { OnOk result (S.has_failed sink.new ≡ false) }
         ensures held { IfOk result (StaysWithin rules.iri self.old self.old.mode token.now self.new) }
+        ensures stays { IfErr result (λ r. r ≡ Reason.Unexpected → self.new ≡ self.old) }
         ensures err { IfErr result (λ r. Fails S.leaves S.has_failed r (answer rules (mode_of self.old) token.now) sink.old sink.new) }
     {
         match self.mode {
@@ -74,6 +78,7 @@ impl<A: Allocator> State<A> {
         requires { IsLineToken token.now }
         ensures ok { IfOk result (λ m. LeadsTo limit M.Begin token.now (mode_at self.new m)) }
         ensures held { IfOk result (StaysWithin limit self.old Mode.Begin token.now self.new) }
+        ensures stays { IfErr result (λ r. r ≡ Reason.Unexpected → self.new ≡ self.old) }
         ensures err { IfErr result (IsDeclined limit M.Begin token.now) }
     {
         match token.kind {
@@ -96,6 +101,7 @@ impl<A: Allocator> State<A> {
         requires { IsLineToken token.now }
         ensures ok { IfOk result (λ m. LeadsTo limit (mode_at self.old Mode.AfterSubject) token.now (mode_at self.new m)) }
         ensures held { IfOk result (StaysWithin limit self.old Mode.AfterSubject token.now self.new) }
+        ensures stays { IfErr result (λ r. r ≡ Reason.Unexpected → self.new ≡ self.old) }
         ensures err { IfErr result (IsDeclined limit (mode_at self.old Mode.AfterSubject) token.now) }
     {
         match token.kind {
@@ -112,6 +118,7 @@ impl<A: Allocator> State<A> {
         requires { IsLineToken token.now }
         ensures ok { IfOk result (λ m. LeadsTo limit (mode_at self.old Mode.AfterPredicate) token.now (mode_at self.new m)) }
         ensures held { IfOk result (StaysWithin limit self.old Mode.AfterPredicate token.now self.new) }
+        ensures stays { IfErr result (λ r. r ≡ Reason.Unexpected → self.new ≡ self.old) }
         ensures err { IfErr result (IsDeclined limit (mode_at self.old Mode.AfterPredicate) token.now) }
     {
         match token.kind {
@@ -144,6 +151,7 @@ impl<A: Allocator> State<A> {
             (answer rules (mode_at self.old Mode.AfterString) token.now) sink.old (mode_at self.new m) sink.new) }
         ensures live { OnOk result (S.has_failed sink.new ≡ false) }
         ensures held { IfOk result (StaysWithin rules.iri self.old Mode.AfterString token.now self.new) }
+        ensures stays { IfErr result (λ r. r ≡ Reason.Unexpected → self.new ≡ self.old) }
         ensures err { IfErr result (λ r. Fails S.leaves S.has_failed r
             (answer rules (mode_at self.old Mode.AfterString) token.now) sink.old sink.new) }
     {
@@ -162,6 +170,7 @@ impl<A: Allocator> State<A> {
         requires { IsLineToken token.now }
         ensures ok { IfOk result (λ m. LeadsTo limit (mode_at self.old Mode.AfterCarets) token.now (mode_at self.new m)) }
         ensures held { IfOk result (StaysWithin limit self.old Mode.AfterCarets token.now self.new) }
+        ensures stays { IfErr result (λ r. r ≡ Reason.Unexpected → self.new ≡ self.old) }
         ensures err { IfErr result (IsDeclined limit (mode_at self.old Mode.AfterCarets) token.now) }
     {
         match token.kind {
@@ -188,6 +197,7 @@ impl<A: Allocator> State<A> {
             (answer rules (mode_at self.old (Mode.AfterObject kind)) token.now) sink.old (mode_at self.new m) sink.new) }
         ensures live { OnOk result (S.has_failed sink.new ≡ false) }
         ensures held { IfOk result (StaysWithin rules.iri self.old (Mode.AfterObject kind) token.now self.new) }
+        ensures stays { IfErr result (λ r. r ≡ Reason.Unexpected → self.new ≡ self.old) }
         ensures err { IfErr result (λ r. Fails S.leaves S.has_failed r
             (answer rules (mode_at self.old (Mode.AfterObject kind)) token.now) sink.old sink.new) }
     {

@@ -20,6 +20,6 @@ pub use canonical::pass_lines;
 pub use form::{Escapes, LineEnding, LineForm, Style, WrittenForm};
 pub use grammar::LineGrammar;
 pub use prefix::{NodePrefix, NodePrefixView};
-pub use rdf_driver::{Fault, Summary};
+pub use rdf_driver::{Fault, Kinds, Summary};
 pub use reader::{LineReader, line_reader};
 pub use writer::{LabelFault, label_text, write_line, write_line_in};

@@ -2,16 +2,20 @@
 
 ghost use Rattle.std.specs.Prelude.{◌≡◌, ◌≤◌, ◌+◌, [], false, true, not, is_ok, OnOk, IfOk, IfErr};
 ghost use Rattle.rdf_tokens.specs.Scans.{most_bytes, unread_bytes, place_of};
+ghost use Rattle.rdf_terms.specs.declared.kind.Kind.{Kind};
+ghost use Rattle.rdf_driver.specs.Kinds.{has};
+ghost use Rattle.rdf_driver.specs.Words.{KnowsNext};
 ghost use Rattle.rdf_driver.specs.Readers.{HasRead, SameLimits, Feeds, FeedFails, Finishes, FinishFails, TakesExactly, FinishesExactly, IsPlacedWith, IsPlacedInRead};
 ghost use Rattle.rdf_driver.specs.Readers as R;
 ghost use Rattle.rdf_lines.specs.Documents.{most_held};
+ghost use Rattle.rdf_lines.specs.Lines.{trees};
 ghost use Rattle.rdf_lines.specs.Accepting.{line_words};
 
 use crate::form::LineForm;
 use crate::grammar::LineGrammar;
-use rdf_driver::{Fault, Reader, Summary};
+use rdf_driver::{Fault, Kinds, Reader, Summary};
 use rdf_iri::Limits;
-use rdf_terms::QuadSink;
+use rdf_terms::{Kind, QuadSink};
 use std::alloc::{Allocator, Global};
 use std::marker::Model;
 
@@ -89,6 +93,22 @@ impl<A: Allocator + Copy> LineReader<A> {
         ensures limits { SameLimits line_words self.old self.new }
     {
         self.reader.finish(sink)
+    }
+
+    /// Whether a token of this kind can come next, as `Reader::may_come` says: exactly if some tree of the format
+    /// begins with the tokens that were accepted and such a token. After `Reason::Unexpected` these are the kinds that
+    /// could have stood at its place.
+    pub fn may_come(&self, kind: Kind) -> bool
+        ensures exact { KnowsNext line_words (λ x. trees x.form) self.now.grammar kind result }
+    {
+        self.reader.may_come(kind)
+    }
+
+    /// The kinds of which a token can come next, as `may_come` says of each.
+    pub fn expected(&self) -> Kinds
+        ensures exact { (k : Kind) → KnowsNext line_words (λ x. trees x.form) self.now.grammar k (has result k) }
+    {
+        self.reader.expected()
     }
 
     /// The bytes of the texts that are held: of the next token, as far as it has come, and of the line that is being read. After each

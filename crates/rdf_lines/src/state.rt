@@ -1,15 +1,19 @@
 // What has been read of a line.
 
-ghost use Rattle.std.specs.Prelude.{◌≡◌, ◌≤◌, ℕ};
+ghost use Rattle.std.specs.Prelude.{◌≡◌, ◌≤◌, ℕ, List};
 ghost use Rattle.std.specs.Str.{chars};
 ghost use Rattle.rdf_terms.specs.Terms.{Literal, Resource};
 ghost use Rattle.rdf_terms.specs.Views.{tail_by, subject_by, term_by};
 ghost use Rattle.rdf_tokens.specs.Scans.{most_bytes};
 ghost use Rattle.rdf_lines.specs.Machine as M;
-ghost use Rattle.rdf_lines.specs.States.{object_of, mode_of, gave, is_begin, front_bytes, object_bytes, state_bytes, HoldsAtMost};
+ghost use Rattle.rdf_tokens.specs.Leaves.{Leaf};
+ghost use Rattle.rdf_terms.specs.Terms.{Subject, Term};
+ghost use Rattle.rdf_lines.specs.Lines.{any_iri};
+ghost use Rattle.rdf_lines.specs.States.{object_of, mode_of, gave, is_begin, front_bytes, object_bytes, state_bytes, HoldsAtMost, is_accepted};
 
+use crate::form::LineForm;
 use crate::slots::{IriText, SubjectText, TailText};
-use rdf_terms::{Known, LiteralRef, SubjectRef, TailRef, TermRef, known};
+use rdf_terms::{Kind, Known, LiteralRef, SubjectRef, TailRef, TermRef, known};
 use std::alloc::{Allocator, Global};
 
 /// What an object is that has come.
@@ -89,6 +93,30 @@ impl<A: Allocator> State<A> {
         matches!(self.mode, Mode::AfterDot)
     }
 
+    /// Whether a token of this kind may stand here, whatever it spells.
+    pub fn may_come(&self, form: LineForm, kind: Kind) -> bool
+        ensures { (l : Leaf) → result ≡ is_accepted (M.accept any_iri form (mode_of self.now) kind l) }
+    {
+        match self.mode {
+            Mode::Begin => matches!(
+                kind,
+                Kind::IriRef | Kind::LabelNode | Kind::LineEnd | Kind::End
+            ),
+            Mode::AfterSubject | Mode::AfterCarets => matches!(kind, Kind::IriRef),
+            Mode::AfterPredicate => {
+                matches!(kind, Kind::IriRef | Kind::LabelNode | Kind::ShortString)
+            }
+            Mode::AfterString => match kind {
+                Kind::LangTag | Kind::Carets => true,
+                _ => may_follow_object(form, kind),
+            },
+            Mode::AfterObject(_) => may_follow_object(form, kind),
+            Mode::AfterGraph(_) => matches!(kind, Kind::Dot),
+            Mode::AfterDot => matches!(kind, Kind::LineEnd | Kind::End),
+            Mode::Finished => false,
+        }
+    }
+
     /// The object of this kind, borrowed.
     #[inline(always)]
     #[tactic(auto, unfolding(rdf_terms::specs::Known::known_chars))]
@@ -138,6 +166,16 @@ impl<A: Allocator> State<A> {
             ObjectKind::Plain => self.lexical.len() as u64,
             ObjectKind::WithTail => self.lexical.len() as u64 + self.tail.len(),
         }
+    }
+}
+
+// Whether a token of this kind may follow an object that is whole.
+fn may_follow_object(form: LineForm, kind: Kind) -> bool
+    ensures { (s : Subject) (p : List ℕ) (o : Term) (l : Leaf) → result ≡ is_accepted (M.object_then any_iri form s p o kind l) }
+{
+    match (form, kind) {
+        (_, Kind::Dot) | (LineForm::NQuads, Kind::IriRef | Kind::LabelNode) => true,
+        _ => false,
     }
 }
 

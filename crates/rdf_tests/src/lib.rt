@@ -1,13 +1,16 @@
 //! The tests of all crates, over their public calls. They stand in one crate of their own, since a crate with tests is
 //! proved twice.
 //!
-//! Most modules test one crate: `terms`, `iri`, `tokens`, `lines` and `writer` (both of rdf_lines), `trig`, `stream` and
-//! `command`. Three test all readers where memory is refused or a sink fails: `memory`, `growths` and `puts`. `reading` and
-//! `sinks` have no tests: they read a document in pieces, and keep the quads that come.
+//! Most modules test one crate: `terms`, `iri`, `tokens`, `lines` and `writer` (both of rdf_lines), `trig`, `stream`
+//! and `command`. `expected` tests which kinds of tokens all readers name after an unexpected one. Three test all
+//! readers where memory is refused or a sink fails: `memory`, `growths` and `puts`. `reading` and `sinks` have no
+//! tests: they read a document in pieces, and keep the quads that come.
 #![tactic(auto)]
 
 #[cfg(test)]
 mod command;
+#[cfg(test)]
+mod expected;
 #[cfg(test)]
 mod growths;
 #[cfg(test)]

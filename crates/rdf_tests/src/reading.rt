@@ -3,7 +3,7 @@
 
 ghost use Rattle.std.specs.Prelude.{◌≡◌, Bool, true, false, OnOk, OnErr};
 
-use rdf_driver::{Fault, Summary};
+use rdf_driver::{Fault, Kinds, Summary};
 use rdf_iri::Limits;
 use rdf_lines::{LineForm, LineReader};
 use rdf_terms::{QuadSink, Reason};
@@ -37,6 +37,8 @@ pub struct Report {
     pub answer: Result<Summary, Fault>,
     /// How many bytes were held when all had come, or when it was refused.
     pub held: u64,
+    /// The kinds of which a token could come next then.
+    pub expected: Kinds,
     /// Whether the calls after the last one report that reading has ended.
     pub has_ended: bool,
 }
@@ -66,6 +68,8 @@ trait PieceReader {
         ensures { is_done self.new ≡ true };
 
     fn held(&self) -> u64;
+
+    fn expected(&self) -> Kinds;
 }
 
 impl<A: Allocator + Copy> PieceReader for LineReader<A> {
@@ -82,6 +86,10 @@ impl<A: Allocator + Copy> PieceReader for LineReader<A> {
     fn held(&self) -> u64 {
         self.held()
     }
+
+    fn expected(&self) -> Kinds {
+        self.expected()
+    }
 }
 
 impl<A: Allocator + Copy> PieceReader for TrigReader<A> {
@@ -97,6 +105,10 @@ impl<A: Allocator + Copy> PieceReader for TrigReader<A> {
 
     fn held(&self) -> u64 {
         self.held()
+    }
+
+    fn expected(&self) -> Kinds {
+        self.expected()
     }
 }
 
@@ -168,11 +180,13 @@ fn report_on<R: PieceReader, S: QuadSink>(
     let fed = feed_document(reader, document, sink);
     let held = reader.held();
     let answer = finish_fed(reader, fed, sink);
+    let expected = reader.expected();
     let fed = reader.feed(MORE, sink).err();
     let finished = reader.finish(sink).err();
     Report {
         answer,
         held,
+        expected,
         has_ended: is_ended(fed) && is_ended(finished),
     }
 }

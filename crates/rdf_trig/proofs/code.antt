@@ -16,3 +16,4 @@ pub mod LookUps
 pub mod AgreeingScopes
 pub mod StartingBase
 pub mod OnePiece
+pub mod NextKinds

@@ -121,8 +121,8 @@ impl<A: Allocator + Copy> State<A> {
         Ok(())
     }
 
-    /// Accepts a token, and answers how many quads it determined, or says why not. After an error nothing is known of the
-    /// state.
+    /// Accepts a token, and answers how many quads it determined, or says why not. A token that is unexpected changes
+    /// nothing. After another error nothing is known of the state.
     pub fn accept<S: QuadSink, K: Known>(
         &mut self,
         rules: &Rules,
@@ -141,6 +141,7 @@ impl<A: Allocator + Copy> State<A> {
         ensures limits { OnOk result (scope.new.limits ≡ scope.old.limits) }
         ensures keeps { OnOk result (Keeps rules.now.form scope.old.limits self.new) }
         ensures live { OnOk result (S.has_failed sink.new ≡ false) }
+        ensures stays { IfErr result (λ r. r ≡ StepFault.Unexpected → (self.new ≡ self.old) × (scope.new ≡ scope.old)) }
         ensures err { IfErr result (FailsAll S.takes S.leaves S.has_failed rules.now.form scope.old self.old token.now sink.old sink.new) }
     {
         // Read once, before the token is lent: where the caller knows the kind, so does all that follows.

@@ -4,6 +4,7 @@ ghost use Rattle.std.specs.Prelude.{◌≡◌};
 ghost use Rattle.rdf_iri.specs.Limits.{Sizes};
 ghost use Rattle.rdf_iri.specs.Scope.{bytes_held};
 ghost use Rattle.rdf_trig.specs.declared.form.DocForm.{DocForm};
+ghost use Rattle.rdf_trig.specs.Documents.{trees};
 ghost use Rattle.rdf_trig.specs.Machine as M;
 ghost use Rattle.rdf_trig.specs.Steps.{Keeps};
 ghost use Rattle.rdf_trig.specs.Accepting.{tree_words, reason_of};
@@ -13,9 +14,9 @@ use crate::form::DocForm;
 use crate::reader::Options;
 use crate::rules::Rules;
 use crate::state::State;
-use rdf_driver::{Grammar, Holds, Known, QuadGrammar, QuadItem};
+use rdf_driver::{Foresees, Grammar, Holds, Known, QuadGrammar, QuadItem};
 use rdf_iri::{Limits, Scope};
-use rdf_terms::{Dialect, QuadSink, Reason};
+use rdf_terms::{Dialect, Kind, QuadSink, Reason};
 use rdf_tokens::Token;
 use std::alloc::{Allocator, Global};
 use std::marker::Model;
@@ -116,6 +117,14 @@ impl<A: Allocator + Copy> Grammar for TreeGrammar<A> {
     }
 }
 
+impl<A: Allocator + Copy> Foresees for TreeGrammar<A> {
+    ghost trees = { λ x. trees x.form x.start };
+
+    fn may_come(&self, kind: Kind) -> bool {
+        self.state.may_come(self.rules.form, kind)
+    }
+}
+
 impl<A: Allocator + Copy> QuadGrammar for TreeGrammar<A> {
     #[inline(always)]
     fn accept_quads<S: QuadSink, K: Known>(
@@ -128,6 +137,7 @@ impl<A: Allocator + Copy> QuadGrammar for TreeGrammar<A> {
             .accept::<S, K>(&self.rules, &mut self.scope, token, sink)
         {
             Ok(given) => Ok(given),
+            Err(StepFault::Unexpected) => Err(Reason::Unexpected),
             Err(fault) => {
                 // A step that fails leaves any state, so both begin anew.
                 restart(self.alloc, &mut self.state);

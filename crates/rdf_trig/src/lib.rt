@@ -29,5 +29,5 @@ mod turns;
 pub use document::read_document;
 pub use form::DocForm;
 pub use grammar::TreeGrammar;
-pub use rdf_driver::{Fault, Summary};
+pub use rdf_driver::{Fault, Kinds, Summary};
 pub use reader::{Options, TrigReader, tree_reader};

@@ -2,9 +2,13 @@
 
 ghost use Rattle.std.specs.Prelude.{◌≡◌, ◌+◌, ◌≤◌, [], true, false, not, is_ok, OnOk, IfOk, IfErr, SomeIff};
 ghost use Rattle.rdf_tokens.specs.Scans.{most_bytes, place_of, unread_bytes};
+ghost use Rattle.rdf_terms.specs.declared.kind.Kind.{Kind};
+ghost use Rattle.rdf_driver.specs.Kinds.{has};
+ghost use Rattle.rdf_driver.specs.Words.{KnowsNext};
 ghost use Rattle.rdf_driver.specs.Readers as R;
 ghost use Rattle.rdf_driver.specs.Readers.{HasRead, SameLimits, Feeds, FeedFails, Finishes, FinishFails, TakesExactly, FinishesExactly, IsPlacedWith, IsPlacedInRead};
 ghost use Rattle.rdf_iri.specs.Scope.{BaseFits};
+ghost use Rattle.rdf_trig.specs.Documents.{trees};
 ghost use Rattle.rdf_trig.specs.Language.{chosen_alone};
 ghost use Rattle.rdf_trig.specs.Accepting.{tree_words, HoldsOwed};
 ghost use Rattle.rdf_trig.specs.Owed.{most_held};
@@ -12,9 +16,9 @@ ghost use Rattle.rdf_trig.specs.Owed.{most_held};
 use crate::form::DocForm;
 use crate::grammar::TreeGrammar;
 use crate::rules::Rules;
-use rdf_driver::{Fault, Reader, Summary};
+use rdf_driver::{Fault, Kinds, Reader, Summary};
 use rdf_iri::{Bindings, Limits, Scope};
-use rdf_terms::{Iri, QuadSink};
+use rdf_terms::{Iri, Kind, QuadSink};
 use std::alloc::{Allocator, Global};
 use std::marker::Model;
 
@@ -191,6 +195,23 @@ impl<A: Allocator + Copy> TrigReader<A> {
     {
         self.reader.finish(sink)
     }
+
+    /// Whether a token of this kind can come next, as `Reader::may_come` says: exactly if some tree of the form begins
+    /// with the tokens that were accepted and such a token, whether names and references stand for something or not.
+    /// After `Reason::Unexpected` these are the kinds that could have stood at its place.
+    pub fn may_come(&self, kind: Kind) -> bool
+        ensures exact { KnowsNext tree_words (λ x. trees x.form x.start) self.now.grammar kind result }
+    {
+        self.reader.may_come(kind)
+    }
+
+    /// The kinds of which a token can come next, as `may_come` says of each.
+    pub fn expected(&self) -> Kinds
+        ensures exact { (k : Kind) → KnowsNext tree_words (λ x. trees x.form x.start) self.now.grammar k (has result k) }
+    {
+        self.reader.expected()
+    }
+
     /// How many bytes of text are held: those of which no token was given, those of the open frames and of the quad in hand, the base,
     /// and the prefixes with their IRIs. After each call, also one that failed, they are at most what the limits allow (`most` of `new`,
     /// `limits` of `feed` and `finish`), and until one fails or finishes at least what is owed after the tokens so far, with the base and

@@ -3,6 +3,7 @@ use Rattle.std.proofs.Common.{◌+◌, arith, subst, sym, ap, refl, ◌∙◌}
 use Rattle.rdf_iri.specs.Scope.{bytes_held}
 use Rattle.rdf_tokens.specs.Scans.{token_of}
 use Rattle.rdf_driver.specs.Words.{Takes, Misses, KeepsLimits}
+use Rattle.rdf_trig.specs.declared.fault.StepFault.TheVariants as fault
 use Rattle.rdf_trig.specs.Steps.{state_of}
 use Rattle.rdf_trig.specs.Owed.{most_kept}
 use Rattle.rdf_trig.specs.Holding.{state_bytes}
@@ -25,6 +26,16 @@ returns-in-Ok-clause-ok g c =
     subst (λ y. Takes tree_words g.S.QuadSink.takes y t c.in-Ok.given c.args.sink.now new c.accept.new.sink) c.self.view_is
     (takes_token g.S.QuadSink.takes old t c.accept.new.self c.accept.new.scope c.in-Ok.given bytes c.args.sink.now c.accept.new.sink
     (let enough = open_within r.rules.form c.accept.new.self in omega (arith, enough)) (c.in-Ok.ensures.ok r.scope (same_scope r.scope)) (c.in-Ok.ensures.count r.scope))
+
+pub returns-in-Err-Unexpected-clause-err : goal.returns-in-Err-Unexpected-clause-err
+returns-in-Err-Unexpected-clause-err g c =
+    let r = c.self.inside in
+    let t = token_of c.args.token.now in
+    let old : TreeAt = record { form = r.rules.form; limit = r.rules.limits.token; state = state_of r.rules.form r.scope r.state; held = state_bytes r.state + bytes_held r.scope } in
+    subst (λ y. Misses tree_words g.S.QuadSink.takes g.S.QuadSink.leaves g.S.QuadSink.has_failed (reason_of fault.Unexpected) y t c.args.sink.now c.accept.new.sink) c.self.view_is
+    (subst (λ f. Misses tree_words g.S.QuadSink.takes g.S.QuadSink.leaves g.S.QuadSink.has_failed (reason_of f) old t c.args.sink.now c.accept.new.sink) c.in-Err-Unexpected.field-0-is
+    (misses_token g.S.QuadSink.takes old t g.S.QuadSink.leaves g.S.QuadSink.has_failed c.args.sink.now c.accept.new.sink c.in-Err-Unexpected.field-0
+    (c.in-Err-Unexpected.ensures.err r.scope (same_scope r.scope))))
 
 pub returns-in-Err-clause-err : goal.returns-in-Err-clause-err
 returns-in-Err-clause-err g c =

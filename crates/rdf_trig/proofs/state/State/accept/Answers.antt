@@ -5,12 +5,14 @@ use Rattle.rdf_trig.specs.Machine as M
 use Rattle.rdf_trig.proofs.machine.AcceptedTokens.{accepted}
 use Rattle.rdf_trig.specs.States.{leaf, moved, mode_in, use_in, scope_in, DepthMoves}
 use Rattle.rdf_trig.specs.Steps.{state_of, given, GaveUp, DepthMay}
+use Rattle.rdf_trig.specs.Scopes.{FindsNone}
 use Rattle.rdf_trig.specs.Holding.{most_text, Fits}
 use Rattle.rdf_trig.specs.Turns.{turned, frames_after, turn_bytes}
 use Rattle.rdf_trig.proofs.code.HoldingLemmas.{token_within, name_within, named_fits}
 use Rattle.rdf_trig.proofs.code.PutsInRow.{told_stops}
 use Rattle.rdf_trig.proofs.code.TurnsLemmas.{turned_named, bytes_named}
 use Rattle.rdf_trig.proofs.code.AnswersOfSteps.{fails_stops, fails_gave, fails_after, accepts_moved, keeps_moved, limits_kept, same_scope, bytes_at_most}
+use Rattle.rdf_trig.proofs.code.NextKinds.{other_fault}
 use Rattle.rdf_trig.proofs.state.State.accept.Goals as goal
 
 pub returns-in_err-look_up-clause-err : goal.returns-in_err-look_up-clause-err
@@ -124,3 +126,19 @@ returns-clause-keeps g c =
     (subst (Fits (most_text sizes)) (sym same) (named_fits (most_text sizes) self name fits)).around
     (subst (λ r. turn_bytes r turn ≤ most_text sizes) (sym same)
     (subst (λ b. b ≤ most_text sizes) (sym (bytes_named self name turn)) (c.in_ok-turn.ensures.fits (most_text sizes) fits))))
+
+-- A name that stands for nothing, and a put that is refused, are no unexpected tokens.
+pub returns-in_err-look_up-clause-stays : goal.returns-in_err-look_up-clause-stays
+returns-in_err-look_up-clause-stays g c =
+    let here = c.args.scope.now in
+    other_fault c.from_residual-in_err-look_up.result c.in_err-look_up.field-0.0 _ c.from_residual-in_err-look_up.ensures.1
+    (λ u. subst (FindsNone c.args.self.now c.args.self.now.mode here c.args.token.now) u c.in_err-look_up.ensures.err c.args.rules.now.form here (same_scope here))
+
+pub returns-in_err-given-clause-stays : goal.returns-in_err-given-clause-stays
+returns-in_err-given-clause-stays g c =
+    let form = c.args.rules.now.form in
+    let here = c.args.scope.now in
+    other_fault c.from_residual-in_err-given.result c.in_err-given.field-0.0 _ c.from_residual-in_err-given.ensures.1
+    (λ u.
+    subst (λ e. GaveUp g.S.QuadSink.takes g.S.QuadSink.leaves g.S.QuadSink.has_failed e (given form here c.look_up.new.self c.args.token.now) c.args.sink.now c.give.new.sink) u
+    (c.in_err-given.ensures.err form here))

@@ -1,0 +1,234 @@
+// Which kinds of tokens the readers name after an unexpected token.
+
+ghost use Rattle.std.specs.Prelude.{◌≡◌, ◌≤◌, false, length};
+
+use crate::reading::{Document, Form, Piece, Report, read};
+use crate::sinks::recording_sink;
+use rdf_driver::Kinds;
+use rdf_iri::Limits;
+use rdf_lines::LineForm;
+use rdf_terms::{Kind, Reason};
+use rdf_trig::DocForm;
+use std::alloc::Global;
+
+/// A document with an unexpected token, its place, and the kinds that could stand there.
+#[derive(Clone, Copy)]
+struct Row {
+    form: Form,
+    bytes: &'static [u8],
+    offset: u64,
+    kinds: &'static [Kind],
+}
+
+/// The set of some kinds.
+fn set_of(kinds: &[Kind]) -> Kinds {
+    let mut set = Kinds::none();
+    for kind in kinds {
+        set = set.with(*kind);
+    }
+    set
+}
+
+fn is_named(row: &Row, report: &Report) -> bool {
+    report.expected.bits() == set_of(row.kinds).bits()
+        && match report.answer {
+            Ok(_) => false,
+            Err(fault) => fault.reason == Reason::Unexpected && fault.offset == row.offset,
+        }
+}
+
+/// Whether the kinds are named for a document whose first bytes come in one piece, and the others one by one.
+fn is_named_cut(alloc: Global, row: &Row, cut: usize) -> bool
+    requires { cut ≤ length row.now.bytes.now }
+{
+    let mut sink = recording_sink(alloc, 64);
+    let (first, rest) = row.bytes.split_at(cut);
+    let pieces = [Piece {
+        bytes: first,
+        times: 1,
+    }];
+    let document = Document {
+        pieces: pieces.as_slice(),
+        rest,
+    };
+    match read(alloc, row.form, Limits::default(), &document, &mut sink) {
+        Some(report) => is_named(row, &report),
+        None => false,
+    }
+}
+
+static ROWS: [Row; 19] = [
+    Row {
+        form: Form::Lines(LineForm::NTriples),
+        bytes: b"<a:s> <a:p> <a:o> <a:g> .",
+        offset: 18,
+        kinds: &[Kind::Dot],
+    },
+    Row {
+        form: Form::Lines(LineForm::NQuads),
+        bytes: b"<a:s> <a:p> <a:o> \"g\" .",
+        offset: 18,
+        kinds: &[Kind::IriRef, Kind::LabelNode, Kind::Dot],
+    },
+    Row {
+        form: Form::Lines(LineForm::NQuads),
+        bytes: b"<a:s> <a:p> \"x\" \"g\" .",
+        offset: 16,
+        kinds: &[
+            Kind::IriRef,
+            Kind::LabelNode,
+            Kind::LangTag,
+            Kind::Carets,
+            Kind::Dot,
+        ],
+    },
+    Row {
+        form: Form::Lines(LineForm::NQuads),
+        bytes: b"<a:s> <a:p> <a:o> <a:g> <a:g>",
+        offset: 24,
+        kinds: &[Kind::Dot],
+    },
+    Row {
+        form: Form::Lines(LineForm::NTriples),
+        bytes: b"<a:s> <a:p> \"x\"^^_:t .",
+        offset: 17,
+        kinds: &[Kind::IriRef],
+    },
+    Row {
+        form: Form::Lines(LineForm::NTriples),
+        bytes: b"<a:s> _:p <a:o> .",
+        offset: 6,
+        kinds: &[Kind::IriRef],
+    },
+    Row {
+        form: Form::Lines(LineForm::NTriples),
+        bytes: b"<a:s> <a:p> . ",
+        offset: 12,
+        kinds: &[Kind::IriRef, Kind::LabelNode, Kind::ShortString],
+    },
+    Row {
+        form: Form::Lines(LineForm::NTriples),
+        bytes: b"<a:s> <a:p> <a:o> . <a:s>",
+        offset: 20,
+        kinds: &[Kind::LineEnd, Kind::End],
+    },
+    Row {
+        form: Form::Lines(LineForm::NTriples),
+        bytes: b"\"s\"",
+        offset: 0,
+        kinds: &[Kind::IriRef, Kind::LabelNode, Kind::LineEnd, Kind::End],
+    },
+    Row {
+        form: Form::Statements(DocForm::Turtle),
+        bytes: b"<a:s> <a:p> [ <a:q> 1 .",
+        offset: 22,
+        kinds: &[Kind::Semicolon, Kind::Comma, Kind::CloseBracket],
+    },
+    Row {
+        form: Form::Statements(DocForm::Turtle),
+        bytes: b"<a:s> <a:p> <a:o> }",
+        offset: 18,
+        kinds: &[Kind::Dot, Kind::Semicolon, Kind::Comma],
+    },
+    Row {
+        form: Form::Statements(DocForm::Turtle),
+        bytes: b"<a:s> \"p\" 1 .",
+        offset: 6,
+        kinds: &[Kind::IriRef, Kind::A, Kind::PnameNs, Kind::PnameLn],
+    },
+    Row {
+        form: Form::Statements(DocForm::TriG),
+        bytes: b"<a:s> \"p\" 1 .",
+        offset: 6,
+        kinds: &[
+            Kind::IriRef,
+            Kind::A,
+            Kind::PnameNs,
+            Kind::PnameLn,
+            Kind::OpenBrace,
+        ],
+    },
+    Row {
+        form: Form::Statements(DocForm::TriG),
+        bytes: b"GRAPH [ <a:s>",
+        offset: 8,
+        kinds: &[Kind::CloseBracket],
+    },
+    Row {
+        form: Form::Statements(DocForm::TriG),
+        bytes: b"<a:g> { <a:s> <a:p> \"x\" ]",
+        offset: 24,
+        kinds: &[
+            Kind::LangTag,
+            Kind::Carets,
+            Kind::Dot,
+            Kind::AtPrefix,
+            Kind::AtBase,
+            Kind::Semicolon,
+            Kind::Comma,
+            Kind::CloseBrace,
+        ],
+    },
+    Row {
+        form: Form::Statements(DocForm::TriG),
+        bytes: b"<a:s> <a:p> ( 1 . ",
+        offset: 16,
+        kinds: &[
+            Kind::IriRef,
+            Kind::LabelNode,
+            Kind::ShortString,
+            Kind::LongString,
+            Kind::Integer,
+            Kind::Decimal,
+            Kind::Double,
+            Kind::True,
+            Kind::False,
+            Kind::PnameNs,
+            Kind::PnameLn,
+            Kind::OpenBracket,
+            Kind::OpenParen,
+            Kind::CloseParen,
+        ],
+    },
+    Row {
+        form: Form::Statements(DocForm::Turtle),
+        bytes: b"@prefix <a:b> .",
+        offset: 8,
+        kinds: &[Kind::PnameNs],
+    },
+    Row {
+        form: Form::Statements(DocForm::Turtle),
+        bytes: b"[ <a:p> 1 ] , ",
+        offset: 12,
+        kinds: &[
+            Kind::IriRef,
+            Kind::Dot,
+            Kind::A,
+            Kind::PnameNs,
+            Kind::PnameLn,
+        ],
+    },
+    Row {
+        form: Form::Statements(DocForm::Turtle),
+        bytes: b"<a:s> <a:p> 1",
+        offset: 13,
+        kinds: &[Kind::Dot, Kind::Semicolon, Kind::Comma],
+    },
+];
+
+/// Whether the kinds are named wherever the bytes begin to come one by one.
+fn is_named_always(alloc: Global, row: &Row) -> bool {
+    for cut in 0..=row.bytes.len() {
+        if !is_named_cut(alloc, row, cut) {
+            return false;
+        }
+    }
+    true
+}
+
+#[test]
+fn kinds_that_could_stand_there_are_named(rt: HostRuntime) {
+    for row in ROWS.as_slice() {
+        assert!(rt; is_named_always(rt.alloc(), row), "{}", row.offset);
+    }
+}

@@ -1,0 +1,66 @@
+-- Which kinds of tokens can come next in Turtle and TriG: those to which the machine has a reply, whatever their names stand for.
+use Rattle.std.proofs.Common.{◌≡◌, ◌↔◌, Bool, true, false, List, [], ◌∷◌, ◌++◌, Option, Some, None, refl, sym, ap, ◌∙◌, subst}
+use Rattle.std.specs.Prelude.{is_some, IfErr, IsErrAnd, Result, Ok, Err}
+use Rattle.rdf_terms.specs.declared.kind.Kind.{Kind}
+use Rattle.rdf_terms.specs.Terms.{Quad}
+use Rattle.rdf_tokens.specs.Tokens.{Token}
+use Rattle.rdf_tokens.specs.Grammars.{Shaped}
+use Rattle.rdf_iri.specs.Scope.{InForce}
+use Rattle.rdf_tokens.specs.Leaves.{Leaf, leaf_of}
+use Rattle.rdf_driver.specs.Words.{KnowsNext}
+use Rattle.rdf_trig.specs.declared.form.DocForm.{DocForm}
+use Rattle.rdf_trig.specs.declared.fault.StepFault.{StepFault}
+use Rattle.rdf_trig.specs.declared.fault.StepFault.TheVariants as fault
+use Rattle.rdf_trig.specs.declared.state.State.{State as Code}
+use Rattle.rdf_trig.specs.declared.state.Mode.{Mode as Stands}
+use Rattle.rdf_trig.specs.declared.turn.Turn.{Turn}
+use Rattle.rdf_trig.specs.Quads.{in_default}
+use Rattle.rdf_trig.specs.Documents.{trees}
+use Rattle.rdf_trig.specs.Machine.{Start, Reply, No, Go, step}
+use Rattle.rdf_trig.specs.States.{graph_at, is_go, mode_at, setting}
+use Rattle.rdf_trig.specs.Turns.{Decides}
+use Rattle.rdf_trig.specs.Accepting.{TreeAt, tree_words}
+use Rattle.rdf_trig.proofs.machine.ViableTokens.{Stand, stand, reach, reached_shaped, reach-snoc, and_on, lax, on_reply, unexpected}
+use Rattle.rdf_trig.proofs.machine.RefusedTokens.{reached_start}
+use Rattle.rdf_trig.proofs.code.TurnsLemmas.{turn_goes}
+
+-- What is decided of a kind is whether the machine has a reply to it.
+pub decides_goes : {A : Type 0} (form : DocForm) (r : Code A) (m : Stands) (k : Kind) (x : Option Turn) → Decides form r m k x → (s : InForce) (l : Leaf) →
+    is_some x ≡ is_go (step form (setting s (graph_at r m)) (mode_at form r m) k l)
+decides_goes form r m k None h s l = sym (ap is_go (h s l))
+decides_goes form r m k (Some t) h s l = sym (turn_goes form r m k t h s l)
+
+-- after tokens that were accepted, those with one more begin a tree exactly if the machine has a reply to it
+one_more : (form : DocForm) (start : InForce) (ts : List Token) (t : Token) (s : Stand) → reach true form (in_default start) Start ts ≡ Some s →
+    (is_go (step form s.setting s.mode t.kind (leaf_of t)) ≡ true) ↔ Shaped (trees form start) (ts ++ t ∷ [])
+one_more form start ts t s e = by (step form s.setting s.mode t.kind (leaf_of t)) refl
+  where
+    by : (y : Reply) → step form s.setting s.mode t.kind (leaf_of t) ≡ y → (is_go y ≡ true) ↔ Shaped (trees form start) (ts ++ t ∷ [])
+    by No h = (λ z. absurd (let y : false ≡ true = z in cc), λ v. absurd ((unexpected form start ts t s e h).1 v))
+    by (Go u early now c m) h = (
+      λ z.
+          reached_shaped form start (ts ++ t ∷ []) (stand c m)
+          (reach-snoc false form ts t (in_default start) Start ∙ ap (λ o. and_on false form o t) (lax form ts (in_default start) Start s e) ∙ ap (λ y. on_reply false y (λ c' m'. Some (stand c' m'))) h),
+      λ v. refl,
+    )
+
+-- So the reader's answer of a kind is right after whatever tokens it has accepted.
+pub knows_next : (g : TreeAt) (kind : Kind) (answer : Bool) → ((s : InForce) (l : Leaf) → answer ≡ is_go (step g.form (record { scope = s; graph = g.state.setting.graph }) g.state.mode kind l)) →
+    KnowsNext tree_words (λ x. trees x.form x.start) g kind answer
+knows_next g kind answer is x ts qs r t k =
+    let m = r.2.machine in
+    let l = leaf_of t in
+    let same : answer ≡ is_go (step x.form m.setting m.mode t.kind l) =
+    is m.setting.scope l
+    ∙ ap (λ f. is_go (step f (record { scope = m.setting.scope; graph = g.state.setting.graph }) g.state.mode kind l)) r.0
+    ∙ ap (λ y. is_go (step x.form (record { scope = m.setting.scope; graph = g.state.setting.graph }) y kind l)) (sym r.2.same.mode)
+    ∙ ap (λ y. is_go (step x.form (record { scope = m.setting.scope; graph = y }) m.mode kind l)) (sym r.2.same.graph)
+    ∙ ap (λ y. is_go (step x.form m.setting m.mode y l)) (sym k) in
+    subst (λ b. (b ≡ true) ↔ Shaped (trees x.form x.start) (ts ++ t ∷ [])) (sym same)
+    (one_more x.form x.start ts t (stand m.setting m.mode) (reached_start x.form x.start ts m qs r.2.accepted))
+
+-- A fault that is passed up and is not for an unexpected token says nothing of one.
+pub other_fault : {T : Type 0} (r : Result T StepFault) (told : StepFault) (P : Type 0) → IsErrAnd r (λ e. e ≡ told) → (told ≡ fault.Unexpected → ⊥) →
+    IfErr r (λ e. e ≡ fault.Unexpected → P)
+other_fault (Ok x) told P h n = tt
+other_fault (Err e) told P h n = λ u. absurd (n (sym h ∙ u))

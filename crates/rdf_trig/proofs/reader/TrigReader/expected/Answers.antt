@@ -1,0 +1,10 @@
+use Rattle.std.proofs.Common.{subst}
+use Rattle.rdf_terms.specs.declared.kind.Kind.{Kind}
+use Rattle.rdf_driver.specs.Kinds.{has}
+use Rattle.rdf_driver.specs.Words.{KnowsNext}
+use Rattle.rdf_trig.specs.Documents.{trees}
+use Rattle.rdf_trig.specs.Accepting.{tree_words}
+use Rattle.rdf_trig.proofs.reader.TrigReader.expected.Goals as goal
+
+pub returns : goal.returns
+returns g c = record { exact = subst (λ r. (k : Kind) → KnowsNext tree_words (λ x. trees x.form x.start) r.grammar k (has c.expected.result k)) c.self.view_is c.expected.ensures.exact }
