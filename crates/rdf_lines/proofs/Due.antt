@@ -6,13 +6,15 @@ use Rattle.std.proofs.Math.Seq.{take-append-add, take-nil, take-append_seam}
 use Rattle.std.specs.Prelude.{nat_lt}
 use Rattle.rdf_terms.specs.declared.kind.Kind.TheVariants.{IriRef, Dot, LineEnd, End}
 use Rattle.rdf_tokens.specs.Tokens.{Token}
-use Rattle.rdf_tokens.specs.Grammars.{Marked, items_below, Due}
+use Rattle.rdf_tokens.specs.Grammars.{Marked, items_below, Due, Rises}
+use Rattle.rdf_tokens.proofs.GrammarsLemmas.{rises_from}
 use Rattle.rdf_terms.specs.Terms.{Quad, has_scheme}
 use Rattle.rdf_lines.specs.declared.form.LineForm.{LineForm}
 use Rattle.rdf_tokens.specs.Leaves.{token}
 use Rattle.rdf_lines.specs.Lines.{Name, Ref, Lab, Object, Named, Plain, WithType, WithTag, Statement, Line, Document, last, next, name_tokens, object_tokens, graph_tokens, head_tokens, statement_tokens, line_tokens, document_tokens, quad_of, line_quads, document_quads, documents}
 use Rattle.rdf_lines.proofs.PlainQuads.{plain_quads}
 use Rattle.rdf_lines.specs.Lines as L
+use Rattle.rdf_lines.specs.Laws.{MarksNeverFall}
 use Rattle.rdf_lines.specs.Machine.{Mode, Begin, ran, run}
 use Rattle.rdf_lines.proofs.Lag.{is_dot, dots, given_dots}
 use Rattle.rdf_lines.proofs.Runs.{given_begin}
@@ -140,3 +142,19 @@ pub same_due : (f : LineForm) (ts : List Token) (qs rs : List Quad) → Due (doc
 same_due f ts qs rs a b =
     let r = ran_viable has_scheme f ts (a.0, a.1, a.2) in
     sym a.3 ∙ (due_in f ts a.0 r.0 r.1 a.1 r.2 a.2 ∙ (sym (due_in f ts b.0 r.0 r.1 b.1 r.2 b.2) ∙ b.3))
+
+-- no mark of a tree is below the number of tokens before it, nor below the mark before it
+rises : (d : Document) (n : ℕ) → Rises n (document_quads n d)
+rises (last L.empty e) n = tt
+rises (last (L.one s) e) n = (omega arith, tt)
+rises (next L.empty e d) n =
+    let m = n + length (line_tokens L.empty) + 1 in
+    rises_from (document_quads m d) n m (omega arith) (rises d m)
+rises (next (L.one s) e d) n =
+    let m = n + length (statement_tokens s) + 1 in
+    let size : length (statement_tokens s) ≡ length (head_tokens s) + 1 = length-append (head_tokens s) (token Dot s.dot ∷ []) in
+    (omega arith, rises_from (document_quads m d) (n + length (head_tokens s)) m (omega (arith, size)) (rises d m))
+
+-- the quads of a tree come in the order in which they are due
+pub never_fall : MarksNeverFall
+never_fall d = rises d 0

@@ -1,16 +1,19 @@
 -- The machine accepts some tokens one by one exactly if some document begins with them: each mode has a completion.
 use Rattle.std.proofs.Common.{◌≡◌, ℕ, Bool, true, List, [], ◌∷◌, ◌++◌, refl, sym, ap, ◌∙◌, Some, None}
 use Rattle.std.specs.Prelude.{codes}
+use Rattle.std.specs.List.{All}
+use Rattle.std.proofs.lemmas.List.Elements.{All-nil, All-cons}
 use Rattle.rdf_terms.specs.Classes.{has}
 use Rattle.rdf_terms.specs.declared.kind.Kind.TheVariants.{IriRef, Dot, End}
 use Rattle.rdf_terms.specs.declared.reason.Reason.{Reason}
 use Rattle.rdf_tokens.specs.Tokens.{Token}
 use Rattle.rdf_tokens.specs.Good.{first_place}
-use Rattle.rdf_tokens.specs.Grammars.{Viable}
-use Rattle.rdf_terms.specs.Terms.{Iri, Resource, Literal, Typed, Quad, xsd_string}
+use Rattle.rdf_tokens.specs.Grammars.{Marked, Viable, CompletedWith}
+use Rattle.rdf_terms.specs.Terms.{Iri, Resource, Literal, Typed, Quad, xsd_string, has_scheme}
 use Rattle.rdf_lines.specs.declared.form.LineForm.{LineForm}
 use Rattle.rdf_tokens.specs.Leaves.{Leaf, leaf_of, token}
-use Rattle.rdf_lines.specs.Lines.{IsDocument, document_quads}
+use Rattle.rdf_lines.specs.Lines.{IsDocument, document_quads, any_iri}
+use Rattle.rdf_lines.specs.Laws.{IsClosing, BeginningsAreCompleted}
 use Rattle.rdf_lines.proofs.PlainQuads.{plain_quads}
 use Rattle.rdf_lines.specs.Machine.{Mode, Begin, AfterSubject, AfterPredicate, AfterString, AfterCarets, AfterObject, AfterGraph, AfterDot, Finished, refuses, quad, accept, ran, refused, go_on, run}
 use Rattle.rdf_lines.proofs.Sound.{sound}
@@ -57,14 +60,19 @@ completes test f h (AfterGraph s p o g) = (quad s p o (Some g) ∷ [], refl)
 completes test f h AfterDot = ([], refl)
 completes test f h Finished = ([], refl)
 
--- tokens that are accepted begin a document
-pub viable_ran : (test : List ℕ → Bool) (f : LineForm) → test word ≡ true → (ts : List Token) (m : Mode) (qs : List Quad) → run test f Begin ts ≡ ran m qs → Viable (IsDocument test f) ts
-viable_ran test f h ts m qs e =
+-- tokens that are accepted are completed to a document
+completed_ran : (test : List ℕ → Bool) (f : LineForm) → test word ≡ true → (ts : List Token) (m : Mode) (qs : List Quad) → run test f Begin ts ≡ ran m qs →
+    (all : List Marked) × IsDocument test f (ts ++ completion m) all
+completed_ran test f h ts m qs e =
     let c = completes test f h m in
     let all : run test f Begin (ts ++ completion m) ≡ ran Finished (qs ++ c.0) =
     run_append test f ts (completion m) Begin ∙ (ap (λ r. then r (λ n. run test f n (completion m))) e ∙ ap (with_quads qs) c.1) in
     let d = sound test f (ts ++ completion m) (qs ++ c.0) all in
-    (completion m, document_quads 0 d.0, (d.0, d.1, d.2, refl))
+    (document_quads 0 d.0, (d.0, d.1, d.2, refl))
+
+-- so they begin one
+pub viable_ran : (test : List ℕ → Bool) (f : LineForm) → test word ≡ true → (ts : List Token) (m : Mode) (qs : List Quad) → run test f Begin ts ≡ ran m qs → Viable (IsDocument test f) ts
+viable_ran test f h ts m qs e = let d = completed_ran test f h ts m qs e in (completion m, d.0, d.1)
 
 -- tokens that begin a document are accepted
 pub ran_viable : (test : List ℕ → Bool) (f : LineForm) (ts : List Token) → Viable (IsDocument test f) ts → (m : Mode) × (qs : List Quad) × (run test f Begin ts ≡ ran m qs)
@@ -81,3 +89,31 @@ not_viable test f ts t m qs r e a v =
     let x : run test f Begin (ts ++ t ∷ []) ≡ refused r = run_one test f ts t Begin m qs e ∙ ap (λ y. with_quads qs (go_on y (λ n. run test f n []))) a in
     let z : refused r ≡ ran w.0 w.1 = sym x ∙ w.2 in
     cc
+
+-- each token of a completion is one of those that are written so
+dot_closes : All IsClosing ends
+dot_closes = All-cons IsClosing (token Dot (leaf (codes "."))) (token End (leaf []) ∷ []) refl (All-cons IsClosing (token End (leaf [])) [] refl (All-nil IsClosing))
+
+iri_closes : (ts : List Token) → All IsClosing ts → All IsClosing (iri ∷ ts)
+iri_closes ts h = All-cons IsClosing iri ts refl h
+
+all_close : (m : Mode) → All IsClosing (completion m)
+all_close Begin = All-cons IsClosing (token End (leaf [])) [] refl (All-nil IsClosing)
+all_close (AfterSubject s) = iri_closes (iri ∷ ends) (iri_closes ends dot_closes)
+all_close (AfterPredicate s p) = iri_closes ends dot_closes
+all_close (AfterString s p w) = dot_closes
+all_close (AfterCarets s p w) = iri_closes ends dot_closes
+all_close (AfterObject s p o) = dot_closes
+all_close (AfterGraph s p o g) = dot_closes
+all_close AfterDot = All-cons IsClosing (token End (leaf [])) [] refl (All-nil IsClosing)
+all_close Finished = All-nil IsClosing
+
+-- What begins a document, or a tree, is completed by these tokens.
+completed : (test : List ℕ → Bool) (f : LineForm) → test word ≡ true → (ts : List Token) → Viable (IsDocument test f) ts → CompletedWith IsClosing (IsDocument test f) ts
+completed test f h ts v =
+    let r = ran_viable test f ts v in
+    let d = completed_ran test f h ts r.0 r.1 r.2 in
+    (completion r.0, d.0, all_close r.0, d.1)
+
+pub beginnings_completed : BeginningsAreCompleted
+beginnings_completed f ts = (λ v. completed has_scheme f refl ts v, λ v. completed any_iri f refl ts v)

@@ -1,16 +1,18 @@
 -- The laws of line reading and of the written lines.
-use Rattle.std.specs.Prelude.{◌≡◌, ◌≢◌, ◌<◌, ◌≤◌, ◌+◌, ◌*◌, ℕ, true, false, List, ◌∷◌, ◌++◌, map, length, Option, Some, None, encode_utf8_all}
+use Rattle.std.specs.Prelude.{◌≡◌, ◌≢◌, ◌<◌, ◌≤◌, ◌+◌, ◌*◌, ℕ, true, false, List, [], ◌∷◌, ◌++◌, codes, map, length, Option, Some, None, encode_utf8_all}
 use Rattle.std.specs.List.{AllByRecursion}
+use Rattle.rdf_terms.specs.declared.kind.Kind.{Kind}
+use Rattle.rdf_terms.specs.declared.kind.Kind.TheVariants.{IriRef, Dot, End}
 use Rattle.rdf_terms.specs.declared.reason.Reason.{Reason}
 use Rattle.rdf_terms.specs.Terms.{Node, IsNode, Tail, Lang, Typed, Subject, Iri, Blank, Term, Resource, Literal, Quad}
 use Rattle.rdf_tokens.specs.Tokens.{Place, Token}
-use Rattle.rdf_tokens.specs.Grammars.{Marked, unmarked, Due, reading_of, IsDocumentOf, IsWithin, GoesOn, IsWhole, Refused, IsReadToItsEnd}
+use Rattle.rdf_tokens.specs.Grammars.{Marked, unmarked, Viable, Shaped, Due, Rises, CompletedWith, reading_of, IsDocumentOf, IsWithin, GoesOn, IsWhole, Refused, IsReadToItsEnd}
 use Rattle.rdf_driver.specs.Readers.{Driven, HasRead}
 use Rattle.rdf_iri.specs.Texts.{byte_len}
 use Rattle.rdf_lines.specs.declared.form.LineForm.{LineForm}
 use Rattle.rdf_lines.specs.declared.form.LineForm.TheVariants.{NQuads}
 use Rattle.rdf_lines.specs.declared.rules.Rules.{Rules}
-use Rattle.rdf_lines.specs.Lines.{documents, trees}
+use Rattle.rdf_lines.specs.Lines.{Document, document_quads, documents, trees}
 use Rattle.rdf_lines.specs.Documents.{in_lines}
 use Rattle.rdf_lines.specs.Accepting.{LineAt, line_words}
 use Rattle.rdf_lines.specs.declared.form.Escapes.{Escapes}
@@ -36,6 +38,26 @@ TokensSettleWhatIsDue = (form : LineForm) (ts : List Token) (qs rs : List Quad) 
 abbrev pub DueBeginsTheQuads : Type 0
 DueBeginsTheQuads = (form : LineForm) (ts more : List Token) (qs : List Quad) (all : List Marked) →
     Due (documents form) ts qs → documents form (ts ++ more) all → (rest : List Quad) × (unmarked all ≡ qs ++ rest)
+
+-- The quads of a tree come in the order in which they are due.
+abbrev pub MarksNeverFall : Type 0
+MarksNeverFall = (d : Document) → Rises 0 (document_quads 0 d)
+
+-- the tokens of which completions are made
+abbrev pub closing_text : Kind → Option (List ℕ)
+closing_text IriRef = Some (codes "<a:>")
+closing_text Dot = Some (codes ".")
+closing_text End = Some []
+closing_text k = None
+
+-- the token is one of these, as it is written there
+abbrev pub IsClosing : Token → Type 0
+IsClosing t = closing_text t.kind ≡ Some t.text
+
+-- Tokens that begin a document are completed to one by such tokens, and tokens that begin a tree, to a tree: a reader is never in a dead end.
+abbrev pub BeginningsAreCompleted : Type 0
+BeginningsAreCompleted = (form : LineForm) (ts : List Token) →
+    (Viable (documents form) ts → CompletedWith IsClosing (documents form) ts) × (Shaped (trees form) ts → CompletedWith IsClosing (trees form) ts)
 
 -- What a reader has read decides tokens that are all in the front, leaves the next one open, and the quads that were put are due after them.
 abbrev pub ReadQuadsAreDue : Type 0

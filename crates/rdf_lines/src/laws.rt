@@ -6,7 +6,7 @@ ghost use Rattle.rdf_lines.specs.declared.form.Escapes.{Escapes};
 ghost use Rattle.rdf_lines.specs.declared.form.Style.{Style};
 ghost use Rattle.rdf_lines.specs.Writing.{Writable, rename_node, text};
 ghost use Rattle.rdf_lines.specs.Canonical.{CanonicalLinesAreRead, CanonicalLinesAreWritten};
-ghost use Rattle.rdf_lines.specs.Laws.{ReadsBack, TokensSettleTheQuads, TokensSettleWhatIsDue, DueBeginsTheQuads, ReadQuadsAreDue, DocumentsAreRead, RefusedIsNoDocument, WrittenTextIsRead, DocumentIsWritable, WrittenDocumentIsRead, AsciiIsWritten};
+ghost use Rattle.rdf_lines.specs.Laws.{ReadsBack, MarksNeverFall, TokensSettleTheQuads, TokensSettleWhatIsDue, DueBeginsTheQuads, BeginningsAreCompleted, ReadQuadsAreDue, DocumentsAreRead, RefusedIsNoDocument, WrittenTextIsRead, DocumentIsWritable, WrittenDocumentIsRead, AsciiIsWritten};
 ghost use Rattle.rdf_lines.specs.Laws.{PrefixedTextReadsBack, PrefixedTextIsRead, PrefixedDocumentIsRead, PrefixedAsciiIsWritten, FormsAgreeOnAscii, PrefixedNamesStayApart, PrefixesKeepApart, JoinedTextsReadBack, NoPrefixIsNoChange};
 
 /// The bytes written for quads are a document of N-Quads, whose quads are these, renamed, one for one and in
@@ -18,6 +18,11 @@ pub fn written_text_reads_back()
 /// No two nodes are written under one name.
 pub fn names_stay_apart()
     ensures { (s : Style) (m n : Node) → IsNode m → IsNode n → rename_node s m ≡ rename_node s n → m ≡ n }
+{}
+
+/// The marks never fall along the quads of a tree: a quad is not due before one that stands in front of it.
+pub fn marks_never_fall()
+    ensures { MarksNeverFall }
 {}
 
 /// Every tree of the same tokens has the same quads, with the same marks.
@@ -33,6 +38,11 @@ pub fn tokens_settle_what_is_due()
 /// What is due is a beginning of the quads of each document that begins so.
 pub fn due_begins_the_quads()
     ensures { DueBeginsTheQuads }
+{}
+
+/// What begins a document is completed to one by an IRI, a dot and the end of the input.
+pub fn beginnings_are_completed()
+    ensures { BeginningsAreCompleted }
 {}
 
 /// What a reader has read begins a document within the limits, and the quads that were put are those that are due.

@@ -18,7 +18,7 @@ use Rattle.rdf_tokens.specs.Tokens.Outcome.{undecided, complete, token_too_long,
 use Rattle.rdf_tokens.specs.Good.{good, mark, first_place, tokens_at, tokens_of, tail_of}
 use Rattle.rdf_tokens.specs.Unread.{Unread}
 use Rattle.rdf_tokens.specs.Scans.{is_end, HasScanned, Reads, reading_of}
-use Rattle.rdf_tokens.specs.Grammars.{counted}
+use Rattle.rdf_tokens.specs.Grammars.{MarkedItem, Rises, counted}
 use Rattle.rdf_tokens.proofs.GoodLemmas.{good_front}
 use Rattle.rdf_tokens.proofs.TokensLemmas.{step_token}
 use Rattle.rdf_tokens.proofs.LawLemmas.{by_steps, tokens_of-tokens, end_last, nothing_yet}
@@ -179,3 +179,8 @@ counted_complete d limit bytes e x =
 pub tokens_of-nil : (d : Dialect) (limit : ℕ) → tokens_of d limit [] false ≡ record { tokens = []; outcome = undecided; at = first_place }
 unfolding tokens_of utf8_valid_len
 tokens_of-nil d limit = ap (tokens_at d limit goes_on false false first_place) chars-nil ∙ nothing_yet d limit false first_place
+
+-- marks that rise from a higher number rise from a lower one
+pub rises_from : {I : Type 0} (is : List (MarkedItem I)) (m n : ℕ) → m ≤ n → Rises n is → Rises m is
+rises_from [] m n l r = tt
+rises_from (i ∷ is) m n l r = (omega (arith, l, r.0), r.1)

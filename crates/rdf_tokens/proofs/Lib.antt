@@ -48,6 +48,7 @@ pub mod Inside
 pub mod LawLemmas
 pub mod PassingLemmas
 pub mod OutcomeLemmas
+pub mod OpenText
 pub mod LawExamples
 pub mod LimitLemmas
 mod RestLemmas

@@ -43,12 +43,12 @@ made d [] e = other complete (λ x. let h : complete ≡ undecided = x in cc) e
 made d (c ∷ w) e = taken (c ∷ w) (longest d (c ∷ w) (length (c ∷ w))) e
 
 -- only where more may come is a step undecided, and then the text is the beginning of a token within the limit
-record IsLeftOpen (d : Dialect) (limit : ℕ) (t : Tail) (w : List ℕ) : Type 0 where
-  goes : t ≡ goes_on
-  within : over d limit w ≡ false
-  begins : (is_empty w || is_live d w) ≡ true
+pub record IsLeftOpen (d : Dialect) (limit : ℕ) (t : Tail) (w : List ℕ) : Type 0 where
+  pub goes : t ≡ goes_on
+  pub within : over d limit w ≡ false
+  pub begins : (is_empty w || is_live d w) ≡ true
 
-left_open : (d : Dialect) (limit : ℕ) (t : Tail) (w : List ℕ) → step d limit t w ≡ stop undecided → IsLeftOpen d limit t w
+pub left_open : (d : Dialect) (limit : ℕ) (t : Tail) (w : List ℕ) → step d limit t w ≡ stop undecided → IsLeftOpen d limit t w
 unfolding step
 left_open d limit t w e =
     ⊎_elim

@@ -1,5 +1,6 @@
 -- What belongs to every grammar over tokens whose documents have quads, or other items: which beginnings some document has, and which items are due in them.
 use Rattle.std.specs.Prelude.{◌≡◌, ◌≢◌, ℕ, ◌≤◌, ◌<◌, ◌+◌, Bool, true, false, cond, List, [], ◌∷◌, ◌++◌, nat_lt, length, take}
+use Rattle.std.specs.List.{All}
 use Rattle.rdf_terms.specs.declared.kind.Dialect.{Dialect}
 use Rattle.rdf_terms.specs.declared.reason.Reason.{Reason}
 use Rattle.rdf_terms.specs.declared.reason.Reason.TheVariants.{BadUtf8, NoToken, BadEscape, TokenTooLong, DocumentTooLong, Memory, Ended, Sink}
@@ -41,6 +42,15 @@ Shaped trees ts = Viable trees ts
 -- before the last of the tokens.
 abbrev pub Due : {I : Type 0} → (List Token → List (MarkedItem I) → Type 0) → List Token → List I → Type 0
 Due {I} documents ts is = (more : List Token) × (all : List (MarkedItem I)) × documents (ts ++ more) all × (items_below (length ts) all ≡ is)
+
+-- the marks are at least n, and none is below the one before it
+abbrev pub Rises : {I : Type 0} → ℕ → List (MarkedItem I) → Type 0
+Rises n [] = Unit {0}
+Rises n (i ∷ is) = (n ≤ i.mark) × Rises i.mark is
+
+-- Some tokens that all pass a test complete others to a document.
+abbrev pub CompletedWith : {I : Type 0} → (Token → Type 0) → (List Token → List (MarkedItem I) → Type 0) → List Token → Type 0
+CompletedWith {I} closing documents ts = (more : List Token) × (is : List (MarkedItem I)) × All closing more × documents (ts ++ more) is
 
 -- no token of the list passes a limit, where the relation says that a token does so after the tokens before it
 abbrev pub PassesNone : (List Token → Token → Type 0) → List Token → Type 0

@@ -17,7 +17,7 @@ use Rattle.rdf_tokens.specs.Tokens.{Place, Outcome, Token, Reading, three_quotes
 use Rattle.rdf_tokens.specs.Tokens.Outcome.{undecided, complete, token_too_long, bad_utf8, no_token, bad_escape}
 use Rattle.rdf_tokens.specs.Good.{tokens_of}
 use Rattle.rdf_tokens.specs.Unread.{Unread}
-use Rattle.rdf_tokens.specs.Scans.{HasScanned, IsToken, Gives, token_of, place_of}
+use Rattle.rdf_tokens.specs.Scans.{HasScanned, IsToken, Gives, token_of, place_of, unread_bytes}
 
 -- a list that goes on with further tokens
 abbrev pub IsBeginning : List Token → List Token → Type 0
@@ -97,6 +97,15 @@ TokensKeepTheLimit = (d : Dialect) (limit : ℕ) (bytes : List ℕ) (e : Bool) �
 -- The text from a place on, as far as the bytes are characters.
 abbrev pub text_at : List ℕ → Place → List ℕ
 text_at bytes p = chars (drop p.offset (take (utf8_valid_len bytes) bytes))
+
+-- the bytes that leave the next token open: from the place where the tokens end, as far as the bytes are characters
+abbrev pub open_bytes : Dialect → ℕ → List ℕ → List ℕ
+open_bytes d limit bytes = drop (tokens_of d limit bytes false).at.offset (take (utf8_valid_len bytes) bytes)
+
+-- A scanner that may be handed more holds at least the bytes that leave the next token open.
+abbrev pub OpenTextIsPending : Type 0
+OpenTextIsPending = (v : Unread) (bytes : List ℕ) (ts : List Token) → HasScanned v bytes ts → v.stopped ≡ false → v.ended ≡ false →
+    (tokens_of v.dialect v.limit bytes false).outcome ≡ undecided → length (open_bytes v.dialect v.limit bytes) ≤ unread_bytes v
 
 -- The first n characters of a text may be a token of the kind: they have its shape, and where three quotes come first it is a long string.
 pub record IsFront (d : Dialect) (w : List ℕ) (n : ℕ) (k : Kind) : Type 0 where

@@ -1,6 +1,6 @@
 //! The laws of token lists. These functions do nothing: their contracts are the laws.
 
-ghost use Rattle.rdf_tokens.specs.Laws.{MoreBytesOnlyLengthen, GivenTokensAreABeginning, NextTokenIsGiven, TokensStandAtTheirPlaces, TokensHaveShapes, TokensKeepTheLimit, EndStandsLast, LongestIsFound, TokensAreLongest, OutcomesHaveReasons};
+ghost use Rattle.rdf_tokens.specs.Laws.{MoreBytesOnlyLengthen, GivenTokensAreABeginning, NextTokenIsGiven, TokensStandAtTheirPlaces, TokensHaveShapes, TokensKeepTheLimit, EndStandsLast, LongestIsFound, TokensAreLongest, OutcomesHaveReasons, OpenTextIsPending};
 ghost use Rattle.rdf_tokens.specs.Passing.{PassedTokensAreRead};
 
 /// More bytes, or the end, only lengthen the list of tokens, and change no outcome that is decided.
@@ -53,6 +53,11 @@ pub fn tokens_are_longest()
 /// no further; no front of the text there has a shape; or nothing stands there, or the beginning of a token.
 pub fn outcomes_have_reasons()
     ensures { OutcomesHaveReasons }
+{}
+
+/// A scanner that may be handed more holds at least the bytes that leave the next token open.
+pub fn open_text_is_pending()
+    ensures { OpenTextIsPending }
 {}
 
 /// Bytes that spell some tokens, passed between two tokens, leave a scanner as reading them would.

@@ -22,4 +22,4 @@ pub use peek::Peeked;
 pub use plain::{RunClass, plain_run};
 pub use rdf_terms::{Dialect, Kind};
 pub use scanner::Scanner;
-pub use token::{Fault, Token};
+pub use token::{Fault, ScanFault, Token};

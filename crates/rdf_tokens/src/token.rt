@@ -28,3 +28,6 @@ pub struct Fault {
     /// One plus the number of LF bytes before it.
     pub line: u64,
 }
+
+/// Why a scanner stopped, and where.
+pub type ScanFault = Fault;

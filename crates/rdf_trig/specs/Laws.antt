@@ -1,12 +1,11 @@
 -- The laws of the definitions, of the machine against them, and of reading.
 use Rattle.std.specs.Prelude.{◌≡◌, ◌≤◌, ℕ, true, false, List, [], ◌∷◌, ◌++◌, length, codes, Option, Some, None}
-use Rattle.std.specs.List.{All}
 use Rattle.rdf_terms.specs.declared.kind.Kind.{Kind}
 use Rattle.rdf_terms.specs.declared.kind.Kind.TheVariants.{IriRef, PnameNs, Dot, CloseBracket, CloseParen, OpenBrace, CloseBrace, End}
 use Rattle.rdf_terms.specs.declared.reason.Reason.{Reason}
 use Rattle.rdf_terms.specs.Terms.{Quad, has_scheme}
 use Rattle.rdf_tokens.specs.Tokens.{Place, Token}
-use Rattle.rdf_tokens.specs.Grammars.{Marked, unmarked, Viable, Shaped, Due, PassesNone, IsFront, reading_of, IsDocumentOf, IsWithin, GoesOn, Refused, IsReadToItsEnd}
+use Rattle.rdf_tokens.specs.Grammars.{Marked, unmarked, Viable, Shaped, Due, PassesNone, IsFront, CompletedWith, reading_of, IsDocumentOf, IsWithin, GoesOn, Refused, IsReadToItsEnd, Rises}
 use Rattle.rdf_driver.specs.Words.{in_words}
 use Rattle.rdf_driver.specs.Readers.{HasRead}
 use Rattle.rdf_iri.specs.Scope.{InForce, bound_to, Binds}
@@ -27,11 +26,6 @@ use Rattle.rdf_trig.specs.Accepting.{TrigRead, tree_words}
 abbrev pub EventsTellTheTree : Type 0
 EventsTellTheTree = (form : DocForm) (start : InForce) (d : Document form) →
     (tokens (document_events start d) ≡ document_tokens d) × (event_quads 0 (document_events start d) ≡ document_quads start 0 d)
-
--- the marks are at least n, and none is below the one before it
-abbrev pub Rises : ℕ → List Marked → Type 0
-Rises n [] = Unit {0}
-Rises n (q ∷ qs) = (n ≤ q.mark) × Rises q.mark qs
 
 -- The quads of a tree come in the order in which they are due.
 abbrev pub MarksNeverFall : Type 0
@@ -97,7 +91,7 @@ IsClosing t = closing_text t.kind ≡ Some t.text
 
 -- Tokens that begin a document are completed to one by such tokens, and tokens that begin a tree, to a tree. They need no binding and no base.
 abbrev pub CompletedBy : (List Token → List Marked → Type 0) → List Token → Type 0
-CompletedBy documents ts = (more : List Token) × (qs : List Marked) × All IsClosing more × documents (ts ++ more) qs
+CompletedBy documents ts = CompletedWith IsClosing documents ts
 
 -- So a reader that has accepted some tokens is never in a dead end.
 abbrev pub BeginningsAreCompleted : Type 0

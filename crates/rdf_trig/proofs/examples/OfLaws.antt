@@ -5,7 +5,7 @@ use Rattle.std.proofs.Math.Utf8.{encode}
 use Rattle.rdf_terms.specs.Classes.{has}
 use Rattle.rdf_terms.specs.Terms.{Typed, Resource}
 use Rattle.rdf_iri.specs.Resolve.{resolved}
-use Rattle.rdf_tokens.specs.Grammars.{Due, unmarked, IsFront}
+use Rattle.rdf_tokens.specs.Grammars.{Due, unmarked, IsFront, Rises}
 use Rattle.rdf_iri.specs.Scope.{bound_to, Binds}
 use Rattle.rdf_terms.specs.declared.kind.Kind.TheVariants.{IriRef, Prefix, PnameNs, PnameLn, Semicolon, OpenBracket, CloseBracket, OpenBrace, End}
 use Rattle.rdf_terms.specs.Terms.{Node, Label, Anon, Cell, Blank, Term, Quad}
@@ -24,7 +24,7 @@ use Rattle.rdf_trig.specs.TreeQuads.{document_quads}
 use Rattle.rdf_trig.specs.Documents.{documents, trees, InTree}
 use Rattle.rdf_trig.specs.Refusals.{unexpected, too_deep, unbound, no_base, iri_too_long, too_many_bindings}
 use Rattle.rdf_trig.specs.Machine.{sized, spelt, Top, Listed, WantPrefixIri, Sparql, Statement, InPropertyList, At, Start, Over, Want, After, AfterPropertyList, State, at_start, ran, accept_all}
-use Rattle.rdf_trig.specs.Laws.{Rises, CompletedBy, IsRefusedAfter, Reads, ViableWhereBound, ShapedAndBound, NamelessWhere}
+use Rattle.rdf_trig.specs.Laws.{CompletedBy, IsRefusedAfter, Reads, ViableWhereBound, ShapedAndBound, NamelessWhere}
 use Rattle.rdf_trig.proofs.examples.Documents.{leaf, quad, start, nested_tokens, nested_tree, nested_quads, nested_is, booleans_tokens, booleans_tree, booleans_quads, booleans_is, inner_collection_quads, inner_collection_tree, one_label_tokens, one_label_quads, one_label_is}
 use Rattle.rdf_trig.proofs.theorems.StatedLaws.{due_front, stops, begins, tree_told, never_fall}
 use Rattle.rdf_trig.proofs.machine.ExactDocuments.{same_quads, same_due, accepted_document, document_accepted}

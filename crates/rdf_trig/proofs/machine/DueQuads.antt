@@ -2,7 +2,8 @@
 use Rattle.std.proofs.Common.{◌≡◌, ℕ, zero, suc, ◌+◌, ◌≤◌, true, List, [], ◌∷◌, ◌++◌, length, Option, Some, None, refl, sym, ap, ◌∙◌, arith}
 use Rattle.std.specs.Prelude.{nat_lt}
 use Rattle.std.proofs.lemmas.Bool.{cond-true, cond-false, lt-ltb, le-ltb}
-use Rattle.rdf_tokens.specs.Grammars.{items_below}
+use Rattle.rdf_tokens.specs.Grammars.{items_below, Rises}
+use Rattle.rdf_tokens.proofs.GrammarsLemmas.{rises_from}
 use Rattle.rdf_terms.specs.Terms.{Quad}
 use Rattle.rdf_tokens.specs.Tokens.{Token}
 use Rattle.rdf_tokens.specs.Grammars.{Marked}
@@ -14,7 +15,6 @@ use Rattle.rdf_trig.specs.Quads.{Setting, in_default}
 use Rattle.rdf_trig.specs.Events.{Event, Took, Gave, give, document_events, tokens, event_quads}
 use Rattle.rdf_trig.specs.Machine.{Mode, Start, Reply, No, Go, start, step, waiting, fronted, go_on, run}
 use Rattle.rdf_trig.specs.Machine.{kept}
-use Rattle.rdf_trig.specs.Laws.{Rises}
 use Rattle.rdf_trig.proofs.machine.Soundness.{unput}
 use Rattle.rdf_trig.proofs.machine.ViableTokens.{run_tree}
 
@@ -37,11 +37,6 @@ before_due es zero k j e = before_none es j k (omega arith)
 before_due [] (suc n) k j e = refl
 before_due (Took t u ∷ es) (suc n) k j e = before_due es n (k + 1) j (omega arith)
 before_due (Gave q ∷ es) (suc n) k j e = cond-true (nat_lt k j) _ _ (lt-ltb _ _ (omega arith)) ∙ ap (λ x. q ∷ x) (before_due es (suc n) k j e)
-
--- marks that rise from a higher number rise from a lower one
-rises_from : (qs : List Marked) (m n : ℕ) → m ≤ n → Rises n qs → Rises m qs
-rises_from [] m n l r = tt
-rises_from (q ∷ qs) m n l r = (omega (arith, l, r.0), r.1)
 
 -- the marks of events rise, as the law of marks says
 pub marked_rises : (es : List Event) (n : ℕ) → Rises n (event_quads n es)

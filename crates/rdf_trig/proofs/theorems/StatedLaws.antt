@@ -1,7 +1,7 @@
 -- The laws as they are stated.
 use Rattle.std.specs.Prelude.{nat_lt}
 use Rattle.std.proofs.lemmas.Bool.{cond-true, cond-false, cases_lt, lt-ltb, le-ltb}
-use Rattle.rdf_tokens.specs.Grammars.{Marked, unmarked, items_below, Due}
+use Rattle.rdf_tokens.specs.Grammars.{Marked, unmarked, items_below, Due, Rises}
 use Rattle.rdf_trig.specs.Documents.{documents}
 use Rattle.std.proofs.Common.{sym, ℕ, ◌∷◌, ◌++◌, ◌<◌, ◌≤◌, [], ap, refl, ◌∙◌, ⊎_elim, arith, length, ◌≡◌, List, subst}
 use Rattle.rdf_terms.specs.Terms.{Quad}
@@ -14,7 +14,7 @@ use Rattle.rdf_trig.specs.TreeQuads.{document_quads}
 use Rattle.rdf_trig.specs.Events.{tokens, event_quads, document_events}
 use Rattle.rdf_trig.specs.Refusals.{Refusal}
 use Rattle.rdf_trig.specs.Machine.{State, refuses, accept, at_start, ran, accept_all}
-use Rattle.rdf_trig.specs.Laws.{Rises, Reads, IsRefusedAfter}
+use Rattle.rdf_trig.specs.Laws.{Reads, IsRefusedAfter}
 use Rattle.rdf_trig.proofs.trees.TokensOfEvents.{document_told}
 use Rattle.rdf_trig.proofs.trees.MarksOfEvents.{document_marks}
 use Rattle.rdf_trig.proofs.machine.DueQuads.{marked_rises}
