@@ -17,6 +17,7 @@ pub mod Slices
 pub mod ResolvedText
 pub mod ScopeLemmas
 pub mod PrefixLemmas
+pub mod TableLemmas
 pub mod BaseLemmas
 pub mod HeldLemmas
 pub mod BindingLemmas

@@ -24,7 +24,7 @@ use Rattle.rdf_iri.specs.Limits.{Sizes}
 use Rattle.rdf_iri.proofs.ScopeLemmas.{swapped, some_not, same_text, length-entries_of}
 
 -- where a prefix is not bound, the first has another, and it is not bound after it
-parted : (e : List ℕ × List ℕ) (es : List (List ℕ × List ℕ)) (q : List ℕ) → bound_to (e ∷ es) q ≡ None → (equal q e.0 ≡ false) × (bound_to es q ≡ None)
+pub parted : (e : List ℕ × List ℕ) (es : List (List ℕ × List ℕ)) (q : List ℕ) → bound_to (e ∷ es) q ≡ None → (equal q e.0 ≡ false) × (bound_to es q ≡ None)
 parted e es q h =
     ⊎_elim
     (λ (t : equal q e.0 ≡ true). absurd (some_not _ (ap is_some (cond-true (equal q e.0) (Some e.1) (bound_to es q) t)) h))
@@ -89,9 +89,14 @@ Sets-at p was iri rest =
       count = omega (arith, here);
     }
 
--- a new one is set alone
-Sets-new : (p iri : List ℕ) → Sets [] p iri ((p, iri) ∷ [])
-Sets-new p iri = record { bound = λ q. ap (λ (b : Bool). cond b (Some iri) None) (swapped q p); count = omega arith }
+-- a new one is set in front of others
+Sets-new : (others : List (List ℕ × List ℕ)) (p iri : List ℕ) → bound_to others p ≡ None → Sets others p iri ((p, iri) ∷ others)
+Sets-new others p iri h =
+    let more : ◌≡◌ {A = ℕ} (cond (is_some (bound_to others p)) 0 1) 1 = ap {B = ℕ} (λ (o : Option (List ℕ)). cond (is_some o) 0 1) h in
+    record {
+      bound = λ q. ap (λ (b : Bool). cond b (Some iri) (bound_to others q)) (swapped q p);
+      count = omega (arith, more);
+    }
 
 -- so no prefix stands twice after it, if none did
 KeptApart-after : (front xs ys os ns : List (List ℕ × List ℕ)) (p iri : List ℕ) → bound_to front p ≡ None → Sets (xs ++ os) p iri (ys ++ ns) →
@@ -128,18 +133,16 @@ KeptApart-anew row others p iri i s a =
     let c = KeptApart-rest s.front ((p, s.iri) ∷ s.rest) others b in
     KeptApart-after s.front ((p, s.iri) ∷ s.rest) ((p, iri) ∷ s.rest) others others p iri s.before (Sets-at p s.iri iri (s.rest ++ others)) (c.0, c.1) b
 
--- the row with a new prefix at its end, where there are no others
-pub Sets-pushed : (row others : List (List ℕ × List ℕ)) (p iri : List ℕ) → others ≡ [] → bound_to row p ≡ None → Sets (row ++ others) p iri ((row ++ (p, iri) ∷ []) ++ others)
+-- the row with a prefix at its end that is nowhere bound
+pub Sets-pushed : (row others : List (List ℕ × List ℕ)) (p iri : List ℕ) → bound_to others p ≡ None → bound_to row p ≡ None → Sets (row ++ others) p iri ((row ++ (p, iri) ∷ []) ++ others)
 Sets-pushed row others p iri e h =
-    subst (λ (os : List (List ℕ × List ℕ)). Sets (row ++ os) p iri ((row ++ (p, iri) ∷ []) ++ os)) (sym e)
-    (subst (λ (n : List (List ℕ × List ℕ)). Sets (row ++ []) p iri n) (sym (append-nil (row ++ (p, iri) ∷ [])))
-    (Sets-after row [] ((p, iri) ∷ []) p iri h (Sets-new p iri)))
+    subst (λ (n : List (List ℕ × List ℕ)). Sets (row ++ others) p iri n) (sym (append_assoc row ((p, iri) ∷ []) others))
+    (Sets-after row others ((p, iri) ∷ others) p iri h (Sets-new others p iri e))
 
-pub KeptApart-pushed : (row others : List (List ℕ × List ℕ)) (p iri : List ℕ) → others ≡ [] → bound_to row p ≡ None → KeptApart row others → KeptApart (row ++ (p, iri) ∷ []) others
+pub KeptApart-pushed : (row others : List (List ℕ × List ℕ)) (p iri : List ℕ) → bound_to others p ≡ None → bound_to row p ≡ None → KeptApart row others → KeptApart (row ++ (p, iri) ∷ []) others
 KeptApart-pushed row others p iri e h a =
-    subst (λ (os : List (List ℕ × List ℕ)). KeptApart (row ++ (p, iri) ∷ []) os) (sym e)
-    (KeptApart-after row [] ((p, iri) ∷ []) [] [] p iri h (Sets-new p iri) (refl, tt)
-    (subst (λ (r : List (List ℕ × List ℕ)). KeptApart r []) (sym (append-nil row)) (subst (KeptApart row) e a)))
+    KeptApart-after row [] ((p, iri) ∷ []) others others p iri h (Sets-new others p iri e) (e, tt)
+    (subst (λ (r : List (List ℕ × List ℕ)). KeptApart r others) (sym (append-nil row)) a)
 
 -- the others with a prefix set that is not in the row
 pub KeptApart-others : (row old new : List (List ℕ × List ℕ)) (p iri : List ℕ) → bound_to row p ≡ None → Sets old p iri new → KeptApart row old → KeptApart row new

@@ -15,6 +15,7 @@ pub mod Resolve
 pub mod Directory
 pub mod Seen
 pub mod Prefixes
+pub mod Table
 pub mod Rules
 pub mod Steps
 pub mod Roots

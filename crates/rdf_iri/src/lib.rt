@@ -13,6 +13,7 @@ mod prefixes;
 mod resolution;
 mod scope;
 mod steps;
+mod table;
 
 pub use bindings::{Bindings, read_bindings};
 pub use fault::{BindingFault, BindingReason, IriFault};

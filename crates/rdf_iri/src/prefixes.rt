@@ -6,38 +6,39 @@ ghost use Rattle.std.specs.Str.{chars, bytes_eq};
 ghost use Rattle.rdf_iri.specs.Texts.{byte_len};
 ghost use Rattle.rdf_iri.specs.Seen.{text_of};
 ghost use Rattle.rdf_iri.specs.Scope.{bound_to, binding_bytes, entries_of};
-ghost use Rattle.rdf_iri.specs.Prefixes.{StandsAt, Sets, entry_bytes};
+ghost use Rattle.rdf_iri.specs.Prefixes.{KeptApart, StandsAt, Sets, entry_bytes};
+ghost use Rattle.rdf_iri.specs.Table.{HaveSlots};
 
 use crate::limits::Limits;
+use crate::table::{ROW, find, is_next};
 use rdf_terms::{Iri, text_len};
 use std::alloc::{AllocError, Allocator, Global};
 use std::collections::BTreeMap;
 use std::marker::Model;
 
-/// How many prefixes stand in the row.
-const ROW: usize = 16;
-
 /// How long a prefix is at most that is compared byte by byte.
 const SHORT: usize = 8;
 
-/// Prefixes, without their colons, and their IRIs. The first ones stand in a row, where those of another length are passed over at once;
-/// the others stand in a map, since there chosen prefixes do not make it slow.
+/// Prefixes, without their colons, and their IRIs. The first ones stand in a row, where those of another length are passed
+/// over at once. The others stand in a map, since there chosen prefixes do not make it slow. Once the map has many, more go
+/// into the row and have a slot each in a table, or, where their slots are taken, into the map.
 #[derive(Drop)]
 pub(crate) struct Prefixes<A: Allocator = Global> {
     row: Vec<(String<A>, Iri<A>), A>,
+    slots: Vec<u32, A>,
     others: BTreeMap<String<A>, Iri<A>, A>,
 }
 
 impl<A: Allocator> Model for Prefixes<A> {
     ghost use Rattle.std.specs.Prelude.{ℕ, List, ◌++◌};
     ghost use Rattle.rdf_iri.specs.Scope.{entries_of};
-    ghost use Rattle.rdf_iri.specs.Prefixes.{KeptApart};
+    ghost use Rattle.rdf_iri.specs.Table.{Kept};
 
     ghost Value = { List (List ℕ × List ℕ) };
 
     ghost view = { λ p. entries_of p.row.items ++ entries_of p.others.entries };
 
-    ghost invariant = { λ p. KeptApart (entries_of p.row.items) (entries_of p.others.entries) };
+    ghost invariant = { λ p. Kept p.slots.items p.row.items p.others.entries };
 }
 
 impl<A: Allocator> Prefixes<A> {
@@ -46,7 +47,21 @@ impl<A: Allocator> Prefixes<A> {
     pub(crate) fn get(&self, prefix: &str) -> Option<&Iri<A>>
         ensures { text_of result ≡ bound_to self.now (chars prefix.now) }
     {
+        if self.row.len() > ROW {
+            return self.get_of_many(prefix);
+        }
         match place_in(&self.row, prefix) {
+            Some(place) => Some(&self.row[place].1),
+            None => self.others.get(prefix),
+        }
+    }
+
+    /// The same where the row has many.
+    #[inline(never)]
+    fn get_of_many(&self, prefix: &str) -> Option<&Iri<A>>
+        ensures { text_of result ≡ bound_to self.now (chars prefix.now) }
+    {
+        match place_of(&self.slots, &self.row, prefix) {
             Some(place) => Some(&self.row[place].1),
             None => self.others.get(prefix),
         }
@@ -83,6 +98,7 @@ impl<A: Allocator + Copy> Prefixes<A> {
     {
         Prefixes {
             row: Vec::new(alloc),
+            slots: Vec::new(alloc),
             others: BTreeMap::new(alloc),
         }
     }
@@ -92,12 +108,13 @@ impl<A: Allocator + Copy> Prefixes<A> {
         ensures set { OnOk result (Sets self.old (chars prefix.now) iri self.new) }
         ensures unchanged { OnErr result (self.new ≡ self.old) }
     {
-        if let Some(place) = place_in(&self.row, prefix) {
+        if let Some(place) = place_of(&self.slots, &self.row, prefix) {
             self.row[place].1 = iri;
             return Ok(());
         }
         let key = String::from_str(alloc, prefix)?;
-        if self.row.len() < ROW && self.others.is_empty() {
+        let next = is_next(alloc, &mut self.slots, &self.row, &self.others, prefix)?;
+        if next {
             self.row.push((key, iri))?;
             return Ok(());
         }
@@ -107,6 +124,41 @@ impl<A: Allocator + Copy> Prefixes<A> {
 }
 
 /// Where a prefix stands in the row.
+#[inline(always)]
+fn place_of<A: Allocator>(slots: &[u32], row: &[(String<A>, Iri<A>)], prefix: &str) -> Option<usize>
+    requires slots { HaveSlots slots.now row.now }
+    requires apart { KeptApart (entries_of row.now) [] }
+    ensures { MatchOption result (bound_to (entries_of row.now) (chars prefix.now) ≡ None) (StandsAt (entries_of row.now) (chars prefix.now)) }
+{
+    if row.len() <= ROW {
+        place_in(row, prefix)
+    } else {
+        place_of_many(slots, row, prefix)
+    }
+}
+
+/// The same where the row has many: by their slots, and the first ones one by one.
+#[inline(never)]
+fn place_of_many<A: Allocator>(
+    slots: &[u32],
+    row: &[(String<A>, Iri<A>)],
+    prefix: &str,
+) -> Option<usize>
+    requires many { 16 < length row.now }
+    requires slots { HaveSlots slots.now row.now }
+    requires apart { KeptApart (entries_of row.now) [] }
+    ensures { MatchOption result (bound_to (entries_of row.now) (chars prefix.now) ≡ None) (StandsAt (entries_of row.now) (chars prefix.now)) }
+{
+    match find(slots, row, prefix) {
+        Some(place) => Some(place),
+        None => {
+            let (first, _) = row.split_at(ROW);
+            place_in(first, prefix)
+        }
+    }
+}
+
+/// Where a prefix stands in a row, sought one by one.
 #[inline(always)]
 fn place_in<A: Allocator>(row: &[(String<A>, Iri<A>)], prefix: &str) -> Option<usize>
     ensures { MatchOption result (bound_to (entries_of row.now) (chars prefix.now) ≡ None) (StandsAt (entries_of row.now) (chars prefix.now)) }
@@ -121,7 +173,7 @@ fn place_in<A: Allocator>(row: &[(String<A>, Iri<A>)], prefix: &str) -> Option<u
 
 /// Whether two prefixes are one.
 #[inline(always)]
-fn is_same(a: &str, b: &str) -> bool
+pub(crate) fn is_same(a: &str, b: &str) -> bool
     ensures { result ≡ bytes_eq a.now b.now }
 {
     if a.len() != b.len() {

@@ -191,7 +191,7 @@ impl<A: Allocator + Copy> Scope<A> {
     fn has_room(&self, prefix: &str) -> bool
         ensures { MatchBool result (HasRoom self.now (chars prefix.now)) (IsFull self.now (chars prefix.now)) }
     {
-        self.names.get(prefix).is_some() || self.names.are_fewer(self.limits.bindings())
+        self.names.are_fewer(self.limits.bindings()) || self.names.get(prefix).is_some()
     }
 
     /// The IRI of a name: that of its prefix, with the local part after it. The local part is a value, without the
@@ -225,7 +225,8 @@ impl<A: Allocator + Copy> Scope<A> {
     }
 
     /// The bytes of the texts in force: the base, and each prefix, without its colon, with its IRI. What the texts have
-    /// as spare capacity and the size of the map's nodes are not counted. It takes no memory.
+    /// as spare capacity, the map's nodes and the table of many prefixes (512 KiB at most) are not counted. It takes no
+    /// memory.
     pub fn held(&self) -> u64
         ensures sum { result ≡ bytes_held self.now }
         ensures most { result ≤ most_bytes_held self.now.limits }

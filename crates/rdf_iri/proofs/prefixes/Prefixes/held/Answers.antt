@@ -17,7 +17,7 @@ row_len-held-requires g c =
     let was = sym c.self.view_is in
     let sizes = subst (λ (x : List (List ℕ × List ℕ)). (q iri : List ℕ) → bound_to x q ≡ Some iri → (byte_len q ≤ 4 * l.token) × (byte_len iri ≤ l.iri)) was c.requires.sizes in
     let count = subst (λ (x : List (List ℕ × List ℕ)). length x ≤ l.bindings) was c.requires.count in
-    let bound = row_bound (entries_of row) others l c.self.invariant sizes count in
+    let bound = row_bound (entries_of row) others l c.self.invariant.apart sizes count in
     let most = most_fits l c.are_in_range.ensures in
     let same = ap (sum_by entry_bytes) c.deref.ensures.value in
     let texts = sum-entries_of row in
@@ -32,9 +32,9 @@ loop-prefix-init g c =
     let sizes = subst (λ (x : List (List ℕ × List ℕ)). (q iri : List ℕ) → bound_to x q ≡ Some iri → (byte_len q ≤ 4 * l.token) × (byte_len iri ≤ l.iri)) was c.requires.sizes in
     let count = subst (λ (x : List (List ℕ × List ℕ)). length x ≤ l.bindings) was c.requires.count in
     let rest = sum_within others (4 * l.token + l.iri)
-    (λ q iri h. let k = sizes q iri (bound_to-apart (entries_of row) (entries_of others.entries) c.self.invariant q iri h) in let a = k.0 in let b = k.1 in omega (arith, a, b))
+    (λ q iri h. let k = sizes q iri (bound_to-apart (entries_of row) (entries_of others.entries) c.self.invariant.apart q iri h) in let a = k.0 in let b = k.1 in omega (arith, a, b))
     c.iter-prefix-items.ensures.found in
-    let bound = all_within (entries_of row) (entries_of others.entries) l c.self.invariant sizes rest count in
+    let bound = all_within (entries_of row) (entries_of others.entries) l c.self.invariant.apart sizes rest count in
     let first = c.row_len-held.ensures ∙ (ap (sum_by entry_bytes) c.deref.ensures.value ∙ sym (sum-entries_of row)) in
     let rest = ap (sum_by entry_bytes) (c.into_iter-prefix-iterator.ensures.into_iter_gives ∙ c.iter-prefix-items.ensures.rest) ∙ sym (sum-entries_of others.entries) in
     let both = sum_by-append binding_bytes (entries_of row) (entries_of others.entries) in

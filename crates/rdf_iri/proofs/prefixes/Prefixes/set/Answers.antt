@@ -1,18 +1,28 @@
 -- A prefix is set where it stands in the row, at the end of the row, or among the others.
-use Rattle.std.proofs.Common.{◌≡◌, ◌∙◌, List, [], ◌∷◌, ◌++◌, ℕ, None, refl, ap, sym, subst, arith}
-use Rattle.std.proofs.lemmas.List.{nil_from_length}
+use Rattle.std.proofs.Common.{rules, ◌≡◌, ◌∙◌, List, [], ◌∷◌, ◌++◌, ℕ, None, refl, ap, sym, subst, arith}
 use Rattle.std.proofs.Math.ListN.{set}
 use Rattle.std.specs.Str.{chars}
 use Rattle.rdf_iri.specs.Scope.{entries_of, bound_to}
 use Rattle.rdf_iri.specs.Prefixes.{KeptApart, StandsAt, Sets}
+use Rattle.rdf_iri.specs.Table.{HaveSlots, Kept, IsNext}
 use Rattle.rdf_iri.proofs.ScopeLemmas.{Sets-inserted}
 use Rattle.rdf_iri.proofs.PrefixLemmas.{place_within, key_there, entries_of-anew, entries_of-append, Sets-after, Sets-anew, Sets-pushed, KeptApart-anew, KeptApart-pushed, KeptApart-others}
+use Rattle.rdf_iri.proofs.TableLemmas.{KeptApart-alone, HaveSlots-anew, HaveSlots-kept, HaveSlots-pushed}
 use Rattle.rdf_iri.proofs.prefixes.Prefixes.set.Goals as goal
+
+pub place_of-requires : goal.place_of-requires
+place_of-requires g c =
+    let kept = c.self.invariant in
+    let row = sym c.deref-2.ensures.value in
+    record {
+      slots = subst (λ (s : List ℕ). HaveSlots s c.deref-2.result.now) (sym c.deref.ensures.value) (subst (λ r. HaveSlots c.self.inside.slots.items r) row kept.placed);
+      apart = subst (λ r. KeptApart (entries_of r) []) row (KeptApart-alone _ _ kept.apart);
+    }
 
 pub index_mut-requires : goal.index_mut-requires
 index_mut-requires g c =
-    let w = place_within c.deref.result.now (chars c.args.prefix.now) c.in-Some.place c.in-Some.ensures in
-    omega (arith, w, c.deref.ensures.len)
+    let w = place_within c.deref-2.result.now (chars c.args.prefix.now) c.in-Some.place c.in-Some.ensures in
+    omega (arith, w, c.deref-2.ensures.len)
 
 pub invariant_of-self : goal.invariant_of-self
 invariant_of-self g c =
@@ -21,9 +31,13 @@ invariant_of-self g c =
     let others = entries_of c.self.inside.others.entries in
     let i = c.in-Some.place in
     let r = c.index_mut.result.now in
-    let s = subst (λ r. StandsAt (entries_of r) p i) c.deref.ensures.value c.in-Some.ensures in
-    subst (λ (x : List (List ℕ × List ℕ)). KeptApart x others) (sym (entries_of-anew row p c.args.iri i (r.0, c.args.iri) s (key_there row p i r s c.index_mut.ensures.value) refl))
-    (KeptApart-anew (entries_of row) others p c.args.iri i s c.self.invariant)
+    let s = subst (λ r. StandsAt (entries_of r) p i) c.deref-2.ensures.value c.in-Some.ensures in
+    record {
+      apart = subst (λ (x : List (List ℕ × List ℕ)). KeptApart x others)
+          (sym (entries_of-anew row p c.args.iri i (r.0, c.args.iri) s (key_there row p i r s c.index_mut.ensures.value) refl))
+          (KeptApart-anew (entries_of row) others p c.args.iri i s c.self.invariant.apart);
+      placed = HaveSlots-anew c.self.inside.slots.items row i r c.args.iri c.index_mut.ensures.value c.self.invariant.placed;
+    }
 
 pub returns-in-Some-clause-set : goal.returns-in-Some-clause-set
 returns-in-Some-clause-set g c =
@@ -32,53 +46,79 @@ returns-in-Some-clause-set g c =
     let others = entries_of c.self.inside.others.entries in
     let i = c.in-Some.place in
     let r = c.index_mut.result.now in
-    let s = subst (λ r. StandsAt (entries_of r) p i) c.deref.ensures.value c.in-Some.ensures in
+    let s = subst (λ r. StandsAt (entries_of r) p i) c.deref-2.ensures.value c.in-Some.ensures in
     subst (λ (o : List (List ℕ × List ℕ)). Sets o p c.args.iri (entries_of (set row i (r.0, c.args.iri)) ++ others)) c.self.view_is
     (subst (λ (x : List (List ℕ × List ℕ)). Sets (entries_of row ++ others) p c.args.iri (x ++ others))
     (sym (entries_of-anew row p c.args.iri i (r.0, c.args.iri) s (key_there row p i r s c.index_mut.ensures.value) refl))
     (Sets-anew (entries_of row) others p c.args.iri i s))
 
-pub invariant_of-self-then-is_empty : goal.invariant_of-self-then-is_empty
-invariant_of-self-then-is_empty g c =
+pub invariant_of-self-then-next : goal.invariant_of-self-then-next
+invariant_of-self-then-next g c =
     let p = chars c.args.prefix.now in
+    let slots = c.is_next.new.slots.items in
     let row = c.self.inside.row.items in
-    let others = entries_of c.self.inside.others.entries in
-    let new : bound_to (entries_of row) p ≡ None = subst (λ r. bound_to (entries_of r) p ≡ None) c.deref.ensures.value c.in_default.ensures in
-    let none : others ≡ [] = ap entries_of (nil_from_length c.self.inside.others.entries (c.is_empty.ensures.0 c.if-is_empty.true)) in
+    let others = c.self.inside.others.entries in
+    let new : bound_to (entries_of row) p ≡ None = subst (λ r. bound_to (entries_of r) p ≡ None) c.deref-2.ensures.value c.in_default.ensures in
+    let next = subst (λ r. IsNext slots r others c.args.prefix.now) c.deref-3.ensures.value (c.in_ok-next.ensures.next c.if-next.true) in
     let all : entries_of c.push.new.self.items ≡ entries_of row ++ (p, c.args.iri) ∷ [] =
     ap entries_of c.in_ok-push.ensures.items
     ∙ (entries_of-append row ((c.in_ok-key.key, c.args.iri) ∷ []) ∙ ap (λ (k : List ℕ). entries_of row ++ (chars k, c.args.iri) ∷ []) c.in_ok-key.ensures.ok) in
-    subst (λ (x : List (List ℕ × List ℕ)). KeptApart x others) (sym all) (KeptApart-pushed (entries_of row) others p c.args.iri none new c.self.invariant)
+    record {
+      apart = subst (λ (x : List (List ℕ × List ℕ)). KeptApart x (entries_of others)) (sym all)
+          (KeptApart-pushed (entries_of row) (entries_of others) p c.args.iri next.new new c.self.invariant.apart);
+      placed = subst (λ r. HaveSlots slots r) (sym c.in_ok-push.ensures.items)
+          (HaveSlots-pushed slots row c.in_ok-key.key c.args.prefix.now c.args.iri c.in_ok-key.ensures.ok
+          (HaveSlots-kept c.self.inside.slots.items slots row c.in_ok-next.ensures.kept c.self.invariant.placed) next.slot);
+    }
 
-pub returns-then-is_empty-clause-set : goal.returns-then-is_empty-clause-set
-returns-then-is_empty-clause-set g c =
+pub returns-then-next-clause-set : goal.returns-then-next-clause-set
+returns-then-next-clause-set g c =
     let p = chars c.args.prefix.now in
     let row = c.self.inside.row.items in
-    let others = entries_of c.self.inside.others.entries in
-    let new : bound_to (entries_of row) p ≡ None = subst (λ r. bound_to (entries_of r) p ≡ None) c.deref.ensures.value c.in_default.ensures in
-    let none : others ≡ [] = ap entries_of (nil_from_length c.self.inside.others.entries (c.is_empty.ensures.0 c.if-is_empty.true)) in
+    let others = c.self.inside.others.entries in
+    let new : bound_to (entries_of row) p ≡ None = subst (λ r. bound_to (entries_of r) p ≡ None) c.deref-2.ensures.value c.in_default.ensures in
+    let next = subst (λ r. IsNext c.is_next.new.slots.items r others c.args.prefix.now) c.deref-3.ensures.value (c.in_ok-next.ensures.next c.if-next.true) in
     let all : entries_of c.push.new.self.items ≡ entries_of row ++ (p, c.args.iri) ∷ [] =
     ap entries_of c.in_ok-push.ensures.items
     ∙ (entries_of-append row ((c.in_ok-key.key, c.args.iri) ∷ []) ∙ ap (λ (k : List ℕ). entries_of row ++ (chars k, c.args.iri) ∷ []) c.in_ok-key.ensures.ok) in
-    subst (λ (o : List (List ℕ × List ℕ)). Sets o p c.args.iri (entries_of c.push.new.self.items ++ others)) c.self.view_is
-    (subst (λ (x : List (List ℕ × List ℕ)). Sets (entries_of row ++ others) p c.args.iri (x ++ others)) (sym all)
-    (Sets-pushed (entries_of row) others p c.args.iri none new))
+    subst (λ (o : List (List ℕ × List ℕ)). Sets o p c.args.iri (entries_of c.push.new.self.items ++ entries_of others)) c.self.view_is
+    (subst (λ (x : List (List ℕ × List ℕ)). Sets (entries_of row ++ entries_of others) p c.args.iri (x ++ entries_of others)) (sym all)
+    (Sets-pushed (entries_of row) (entries_of others) p c.args.iri next.new new))
+
+pub invariant_of-self-in_err-push : goal.invariant_of-self-in_err-push
+invariant_of-self-in_err-push g c =
+    let slots = c.is_next.new.slots.items in
+    let same = c.in_err-push.ensures.items in
+    let row = c.self.inside.row.items in
+    subst (λ r. Kept slots r c.self.inside.others.entries) (sym same)
+    (record { apart = c.self.invariant.apart; placed = HaveSlots-kept c.self.inside.slots.items slots row c.is_next.ensures.kept c.self.invariant.placed })
+
+pub invariant_of-self-in_err-insert : goal.invariant_of-self-in_err-insert
+invariant_of-self-in_err-insert g c =
+    let slots = c.is_next.new.slots.items in
+    let row = c.self.inside.row.items in
+    let h : c.insert.new.self.entries ≡ c.self.inside.others.entries = search rules in
+    subst (λ os. Kept slots row os) (sym h)
+    (record { apart = c.self.invariant.apart; placed = HaveSlots-kept c.self.inside.slots.items slots row c.is_next.ensures.kept c.self.invariant.placed })
 
 pub invariant_of-self-2 : goal.invariant_of-self-2
 invariant_of-self-2 g c =
     let p = c.args.prefix.now in
     let row = c.self.inside.row.items in
     let i = c.in_ok-insert.ensures in
-    let new : bound_to (entries_of row) (chars p) ≡ None = subst (λ r. bound_to (entries_of r) (chars p) ≡ None) c.deref.ensures.value c.in_default.ensures in
-    KeptApart-others (entries_of row) _ _ (chars p) c.args.iri new
-    (Sets-inserted c.self.inside.others c.insert.new.self c.in_ok-key.key p c.args.iri _ c.in_ok-key.ensures.ok c.utf8.prefix i.updates i.old i.len) c.self.invariant
+    let new : bound_to (entries_of row) (chars p) ≡ None = subst (λ r. bound_to (entries_of r) (chars p) ≡ None) c.deref-2.ensures.value c.in_default.ensures in
+    record {
+      apart = KeptApart-others (entries_of row) _ _ (chars p) c.args.iri new
+          (Sets-inserted c.self.inside.others c.insert.new.self c.in_ok-key.key p c.args.iri _ c.in_ok-key.ensures.ok c.utf8.prefix i.updates i.old i.len) c.self.invariant.apart;
+      placed = HaveSlots-kept c.self.inside.slots.items c.is_next.new.slots.items row c.is_next.ensures.kept c.self.invariant.placed;
+    }
 
 pub returns-clause-set : goal.returns-clause-set
 returns-clause-set g c =
     let p = c.args.prefix.now in
     let row = c.self.inside.row.items in
     let i = c.in_ok-insert.ensures in
-    let new : bound_to (entries_of row) (chars p) ≡ None = subst (λ r. bound_to (entries_of r) (chars p) ≡ None) c.deref.ensures.value c.in_default.ensures in
+    let new : bound_to (entries_of row) (chars p) ≡ None = subst (λ r. bound_to (entries_of r) (chars p) ≡ None) c.deref-2.ensures.value c.in_default.ensures in
     subst (λ (o : List (List ℕ × List ℕ)). Sets o (chars p) c.args.iri (entries_of row ++ entries_of c.insert.new.self.entries)) c.self.view_is
     (Sets-after (entries_of row) _ _ (chars p) c.args.iri new
     (Sets-inserted c.self.inside.others c.insert.new.self c.in_ok-key.key p c.args.iri _ c.in_ok-key.ensures.ok c.utf8.prefix i.updates i.old i.len))
