@@ -225,7 +225,8 @@ impl<A: Allocator + Copy> Scope<A> {
     }
 
     /// The bytes of the texts in force: the base, and each prefix, without its colon, with its IRI. What the texts have
-    /// as spare capacity and the size of the map's nodes are not counted. It takes no memory.
+    /// as spare capacity, the map's nodes and the table of many prefixes (512 KiB at most) are not counted. It takes no
+    /// memory.
     pub fn held(&self) -> u64
         ensures sum { result ≡ bytes_held self.now }
         ensures most { result ≤ most_bytes_held self.now.limits }
