@@ -1,6 +1,6 @@
 // Turtle and TriG as a grammar that a reader drives.
 
-ghost use Rattle.std.specs.Prelude.{◌≡◌};
+ghost use Rattle.std.specs.Prelude.{◌≡◌, ◌≢◌};
 ghost use Rattle.rdf_iri.specs.Limits.{Sizes};
 ghost use Rattle.rdf_iri.specs.Scope.{bytes_held};
 ghost use Rattle.rdf_trig.specs.declared.form.DocForm.{DocForm};
@@ -73,20 +73,26 @@ impl<A: Allocator + Copy> TreeGrammar<A> {
     }
 }
 
-// The state before the first token.
+// What is left after a step that failed. It leaves any state, so state and scope begin anew; but a token that is
+// unexpected has changed nothing. It is a call, so that the step itself stays as short as it was.
 #[inline(never)]
-fn restart<A: Allocator + Copy>(alloc: A, state: &mut State<A>)
-    ensures { (form : DocForm) (sizes : Sizes) → Keeps form sizes state.new }
+fn begin_anew<A: Allocator + Copy>(
+    fault: StepFault,
+    alloc: A,
+    limits: Limits,
+    state: &mut State<A>,
+    scope: &mut Scope<A>,
+)
+    ensures stays { fault ≡ StepFault.Unexpected → (state.new ≡ state.old) × (scope.new ≡ scope.old) }
+    ensures anew { fault ≢ StepFault.Unexpected → ((form : DocForm) (sizes : Sizes) → Keeps form sizes state.new) × (scope.new.limits ≡ limits) }
 {
-    *state = State::new(alloc);
-}
-
-// A scope with no base and no prefixes.
-#[inline(never)]
-fn clear<A: Allocator + Copy>(alloc: A, limits: Limits, scope: &mut Scope<A>)
-    ensures { scope.new.limits ≡ limits }
-{
-    *scope = Scope::new(alloc, None, limits);
+    match fault {
+        StepFault::Unexpected => {}
+        _ => {
+            *state = State::new(alloc);
+            *scope = Scope::new(alloc, None, limits);
+        }
+    }
 }
 
 /// The fault of a step, as a reader reports it.
@@ -137,12 +143,9 @@ impl<A: Allocator + Copy> QuadGrammar for TreeGrammar<A> {
             .accept::<S, K>(&self.rules, &mut self.scope, token, sink)
         {
             Ok(given) => Ok(given),
-            Err(StepFault::Unexpected) => Err(Reason::Unexpected),
             Err(fault) => {
-                // A step that fails leaves any state, so both begin anew.
-                restart(self.alloc, &mut self.state);
                 let Rules { limits, .. } = self.rules;
-                clear(self.alloc, limits, &mut self.scope);
+                begin_anew(fault, self.alloc, limits, &mut self.state, &mut self.scope);
                 Err(reason_of(fault))
             }
         }

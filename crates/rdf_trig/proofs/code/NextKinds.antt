@@ -1,10 +1,12 @@
 -- Which kinds of tokens can come next in Turtle and TriG: those to which the machine has a reply, whatever their names stand for.
-use Rattle.std.proofs.Common.{◌≡◌, ◌↔◌, Bool, true, false, List, [], ◌∷◌, ◌++◌, Option, Some, None, refl, sym, ap, ◌∙◌, subst}
+use Rattle.std.proofs.Common.{◌≡◌, ◌≢◌, ◌↔◌, ◌⊎◌, inl, inr, Bool, true, false, List, [], ◌∷◌, ◌++◌, Option, Some, None, refl, sym, ap, ◌∙◌, subst, ⊎_elim}
 use Rattle.std.specs.Prelude.{is_some, IfErr, IsErrAnd, Result, Ok, Err}
 use Rattle.rdf_terms.specs.declared.kind.Kind.{Kind}
 use Rattle.rdf_terms.specs.Terms.{Quad}
 use Rattle.rdf_tokens.specs.Tokens.{Token}
 use Rattle.rdf_tokens.specs.Grammars.{Shaped}
+use Rattle.rdf_terms.specs.declared.reason.Reason.TheVariants as reason
+use Rattle.rdf_iri.specs.Limits.{Sizes}
 use Rattle.rdf_iri.specs.Scope.{InForce}
 use Rattle.rdf_tokens.specs.Leaves.{Leaf, leaf_of}
 use Rattle.rdf_driver.specs.Words.{KnowsNext}
@@ -19,7 +21,8 @@ use Rattle.rdf_trig.specs.Documents.{trees}
 use Rattle.rdf_trig.specs.Machine.{Start, Reply, No, Go, step}
 use Rattle.rdf_trig.specs.States.{graph_at, is_go, mode_at, setting}
 use Rattle.rdf_trig.specs.Turns.{Decides}
-use Rattle.rdf_trig.specs.Accepting.{TreeAt, tree_words}
+use Rattle.rdf_trig.specs.Steps.{Keeps}
+use Rattle.rdf_trig.specs.Accepting.{TreeAt, reason_of, tree_words}
 use Rattle.rdf_trig.proofs.machine.ViableTokens.{Stand, stand, reach, reached_shaped, reach-snoc, and_on, lax, on_reply, unexpected}
 use Rattle.rdf_trig.proofs.machine.RefusedTokens.{reached_start}
 use Rattle.rdf_trig.proofs.code.TurnsLemmas.{turn_goes}
@@ -64,3 +67,30 @@ pub other_fault : {T : Type 0} (r : Result T StepFault) (told : StepFault) (P : 
     IfErr r (λ e. e ≡ fault.Unexpected → P)
 other_fault (Ok x) told P h n = tt
 other_fault (Err e) told P h n = λ u. absurd (n (sym h ∙ u))
+
+-- a fault is that of an unexpected token, or is not
+is_unexpected : (f : StepFault) → (f ≡ fault.Unexpected) ⊎ (f ≢ fault.Unexpected)
+is_unexpected fault.Unexpected = inl refl
+is_unexpected f = inr (λ e. cc)
+
+-- and a reader reports it as such only where it is
+pub reason_unexpected : (f : StepFault) → reason_of f ≡ reason.Unexpected → f ≡ fault.Unexpected
+reason_unexpected fault.Unexpected e = refl
+reason_unexpected fault.TooDeep e = absurd (let z : reason.TooDeep ≡ reason.Unexpected = e in cc)
+reason_unexpected fault.Unbound e = absurd (let z : reason.Unbound ≡ reason.Unexpected = e in cc)
+reason_unexpected fault.NoBase e = absurd (let z : reason.NoBase ≡ reason.Unexpected = e in cc)
+reason_unexpected fault.IriTooLong e = absurd (let z : reason.IriTooLong ≡ reason.Unexpected = e in cc)
+reason_unexpected fault.TooManyBindings e = absurd (let z : reason.TooManyBindings ≡ reason.Unexpected = e in cc)
+reason_unexpected fault.Memory e = absurd (let z : reason.Memory ≡ reason.Unexpected = e in cc)
+reason_unexpected fault.Sink e = absurd (let z : reason.Sink ≡ reason.Unexpected = e in cc)
+
+-- After a fault the state and the scope are as they were, or begin anew: what a state keeps holds.
+pub kept_after : {A : Type 0} (f : StepFault) (form : DocForm) (limits : Sizes) (was mid new : Code A) (before between after : InForce) →
+    (f ≡ fault.Unexpected → (mid ≡ was) × (between ≡ before)) → (f ≡ fault.Unexpected → (new ≡ mid) × (after ≡ between)) →
+    (f ≢ fault.Unexpected → ((form : DocForm) (sizes : Sizes) → Keeps form sizes new) × (after.limits ≡ limits)) →
+    (before.limits ≡ limits) × Keeps form limits was → (after.limits ≡ limits) × Keeps form limits new
+kept_after f form limits was mid new before between after one two anew i =
+    ⊎_elim
+    (λ u. (ap (λ (s : InForce). s.limits) ((two u).1 ∙ (one u).1) ∙ i.0, subst (Keeps form limits) (sym ((two u).0 ∙ (one u).0)) i.1))
+    (λ o. ((anew o).1, (anew o).0 form limits))
+    (is_unexpected f)

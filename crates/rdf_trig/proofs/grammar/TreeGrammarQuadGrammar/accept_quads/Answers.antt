@@ -1,9 +1,10 @@
 -- What a step of the reader did is what the machine does, so the driver may use the grammar.
-use Rattle.std.proofs.Common.{◌+◌, arith, subst, sym, ap, refl, ◌∙◌}
-use Rattle.rdf_iri.specs.Scope.{bytes_held}
+use Rattle.std.proofs.Common.{ℕ, ◌+◌, arith, subst, sym, ap, ap₂, refl, ◌∙◌}
+use Rattle.rdf_iri.specs.Scope.{InForce, bytes_held}
 use Rattle.rdf_tokens.specs.Scans.{token_of}
 use Rattle.rdf_driver.specs.Words.{Takes, Misses, KeepsLimits}
-use Rattle.rdf_trig.specs.declared.fault.StepFault.TheVariants as fault
+use Rattle.rdf_trig.specs.declared.form.DocForm.{DocForm}
+use Rattle.rdf_trig.specs.declared.state.State.{State}
 use Rattle.rdf_trig.specs.Steps.{state_of}
 use Rattle.rdf_trig.specs.Owed.{most_kept}
 use Rattle.rdf_trig.specs.Holding.{state_bytes}
@@ -11,10 +12,18 @@ use Rattle.rdf_trig.specs.Accepting.{TreeAt, reason_of, tree_words}
 use Rattle.rdf_trig.proofs.code.AnswersOfSteps.{same_scope}
 use Rattle.rdf_trig.proofs.code.OpenLists.{open_within}
 use Rattle.rdf_trig.proofs.code.LawfulGrammar.{takes_token, misses_token}
+use Rattle.rdf_trig.proofs.code.NextKinds.{kept_after, reason_unexpected}
 use Rattle.rdf_trig.proofs.grammar.TreeGrammarQuadGrammar.accept_quads.Goals as goal
 
+-- a state and a scope as a grammar has them
+abbrev stands : {A : Type 0} → DocForm → ℕ → State A → InForce → TreeAt
+stands form limit state scope = record { form = form; limit = limit; state = state_of form scope state; held = state_bytes state + bytes_held scope }
+
 pub invariant_of-self-in-Err : goal.invariant_of-self-in-Err
-invariant_of-self-in-Err g c = (c.clear.ensures, c.restart.ensures c.self.inside.rules.form c.self.inside.rules.limits)
+invariant_of-self-in-Err g c =
+    let r = c.self.inside in
+    kept_after c.in-Err.fault r.rules.form r.rules.limits r.state c.accept.new.self c.begin_anew.new.state r.scope c.accept.new.scope c.begin_anew.new.scope
+    c.in-Err.ensures.stays c.begin_anew.ensures.stays c.begin_anew.ensures.anew c.self.invariant
 
 pub returns-in-Ok-clause-ok : goal.returns-in-Ok-clause-ok
 returns-in-Ok-clause-ok g c =
@@ -26,16 +35,6 @@ returns-in-Ok-clause-ok g c =
     subst (λ y. Takes tree_words g.S.QuadSink.takes y t c.in-Ok.given c.args.sink.now new c.accept.new.sink) c.self.view_is
     (takes_token g.S.QuadSink.takes old t c.accept.new.self c.accept.new.scope c.in-Ok.given bytes c.args.sink.now c.accept.new.sink
     (let enough = open_within r.rules.form c.accept.new.self in omega (arith, enough)) (c.in-Ok.ensures.ok r.scope (same_scope r.scope)) (c.in-Ok.ensures.count r.scope))
-
-pub returns-in-Err-Unexpected-clause-err : goal.returns-in-Err-Unexpected-clause-err
-returns-in-Err-Unexpected-clause-err g c =
-    let r = c.self.inside in
-    let t = token_of c.args.token.now in
-    let old : TreeAt = record { form = r.rules.form; limit = r.rules.limits.token; state = state_of r.rules.form r.scope r.state; held = state_bytes r.state + bytes_held r.scope } in
-    subst (λ y. Misses tree_words g.S.QuadSink.takes g.S.QuadSink.leaves g.S.QuadSink.has_failed (reason_of fault.Unexpected) y t c.args.sink.now c.accept.new.sink) c.self.view_is
-    (subst (λ f. Misses tree_words g.S.QuadSink.takes g.S.QuadSink.leaves g.S.QuadSink.has_failed (reason_of f) old t c.args.sink.now c.accept.new.sink) c.in-Err-Unexpected.field-0-is
-    (misses_token g.S.QuadSink.takes old t g.S.QuadSink.leaves g.S.QuadSink.has_failed c.args.sink.now c.accept.new.sink c.in-Err-Unexpected.field-0
-    (c.in-Err-Unexpected.ensures.err r.scope (same_scope r.scope))))
 
 pub returns-in-Err-clause-err : goal.returns-in-Err-clause-err
 returns-in-Err-clause-err g c =
@@ -57,6 +56,17 @@ returns-in-Ok-clause-limits g c =
 pub returns-in-Err-clause-limits : goal.returns-in-Err-clause-limits
 returns-in-Err-clause-limits g c =
     let r = c.self.inside in
-    let bytes = state_bytes c.restart.new.state + bytes_held c.clear.new.scope in
-    let new : TreeAt = record { form = r.rules.form; limit = r.rules.limits.token; state = state_of r.rules.form c.clear.new.scope c.restart.new.state; held = bytes } in
-    subst (λ y. KeepsLimits tree_words y new) c.self.view_is (record { token = refl; most = ap most_kept (c.clear.ensures ∙ sym c.self.invariant.0) })
+    let bytes = state_bytes c.begin_anew.new.state + bytes_held c.begin_anew.new.scope in
+    let new : TreeAt = record { form = r.rules.form; limit = r.rules.limits.token; state = state_of r.rules.form c.begin_anew.new.scope c.begin_anew.new.state; held = bytes } in
+    let kept =
+    kept_after c.in-Err.fault r.rules.form r.rules.limits r.state c.accept.new.self c.begin_anew.new.state r.scope c.accept.new.scope c.begin_anew.new.scope
+    c.in-Err.ensures.stays c.begin_anew.ensures.stays c.begin_anew.ensures.anew c.self.invariant in
+    subst (λ y. KeepsLimits tree_words y new) c.self.view_is (record { token = refl; most = ap most_kept (kept.0 ∙ sym c.self.invariant.0) })
+
+pub returns-in-Err-clause-stays : goal.returns-in-Err-clause-stays
+returns-in-Err-clause-stays g c = λ e.
+    let r = c.self.inside in
+    let u = reason_unexpected c.in-Err.fault (sym c.reason_of.ensures ∙ e) in
+    let one = c.in-Err.ensures.stays u in
+    let two = c.begin_anew.ensures.stays u in
+    ap₂ (stands r.rules.form r.rules.limits.token) (two.0 ∙ one.0) (two.1 ∙ one.1) ∙ c.self.view_is
