@@ -325,12 +325,12 @@ def owed_by_reader(document, form, base, count):
 
 
 def compare_owed(specs, seed, form, many):
-    """`document_held` after each token of documents, with what the reader notes of its predicate lists."""
+    """`document_held` after each token of documents, nothing counted of the scope, with what the reader notes of its predicate lists."""
     definitions = Definitions(specs)
     for document, base in made_documents('owed %s' % seed, form, many):
         outcome = definitions.read(document, form, base)
         if outcome.refusal is None:
-            found = definitions.document_held(scope(base), outcome.tree)
+            found = definitions.document_held(lambda scope: 0, scope(base), outcome.tree)
             yield difference('what is owed', document, form, base, found, owed_by_reader(document, form, base, outcome.accepted))
 
 

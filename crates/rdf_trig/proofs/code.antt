@@ -8,6 +8,7 @@ pub mod FrameStack
 pub mod HoldingLemmas
 pub mod OpenLists
 pub mod OwedHeld
+pub mod ScopeSizes
 pub mod SpelledLemmas
 pub mod LocalShapes
 pub mod ColonLemmas

@@ -1,11 +1,12 @@
 -- Turtle and TriG as a grammar that a reader drives.
-use Rattle.std.specs.Prelude.{◌≡◌, ℕ, ◌+◌, ◌≤◌, List, false}
+use Rattle.std.specs.Prelude.{◌≡◌, ℕ, ◌+◌, ◌≤◌, List, false, length}
 use Rattle.rdf_terms.specs.declared.kind.Dialect.TheVariants.{Turtle as turtle}
 use Rattle.rdf_terms.specs.declared.reason.Reason.{Reason}
 use Rattle.rdf_terms.specs.declared.reason.Reason.TheVariants as reason
 use Rattle.rdf_terms.specs.Terms.{Quad}
 use Rattle.rdf_tokens.specs.Good.{tokens_of}
 use Rattle.rdf_tokens.specs.Scans.{unread_bytes}
+use Rattle.rdf_tokens.specs.Laws.{open_bytes}
 use Rattle.rdf_iri.specs.Scope.{bytes_held}
 use Rattle.rdf_driver.specs.Words.{Words}
 use Rattle.rdf_driver.specs.Readers.{Driven, HasRead}
@@ -15,7 +16,7 @@ use Rattle.rdf_trig.specs.declared.fault.StepFault.TheVariants as fault
 use Rattle.rdf_trig.specs.Documents.{documents, Passes}
 use Rattle.rdf_trig.specs.Machine.{State, mode_size}
 use Rattle.rdf_trig.specs.Alike.{RunsTo}
-use Rattle.rdf_trig.specs.Owed.{Owed, most_kept}
+use Rattle.rdf_trig.specs.Owed.{Owed, OwedInAll, most_kept}
 use Rattle.rdf_trig.specs.Language.{Chosen, Blamed}
 
 -- what accepts the tokens of Turtle or TriG: the form, the most characters of a token, and what has been read
@@ -53,6 +54,13 @@ HoldsOwed r n =
     (x : Chosen) (bytes : List ℕ) (quads : List Quad) (size : ℕ) → HasRead tree_words r x bytes quads →
     Owed x.form x.start (tokens_of tree_words.dialect r.scanner.limit bytes false).tokens size →
     unread_bytes r.scanner + bytes_held r.grammar.state.setting.scope + size ≤ n
+
+-- so many bytes are at least those that leave the next token open, and what is owed in all after the tokens so far
+abbrev pub HoldsAllOwed : TrigRead → ℕ → Type 0
+HoldsAllOwed r n =
+    (x : Chosen) (bytes : List ℕ) (quads : List Quad) (size : ℕ) → HasRead tree_words r x bytes quads →
+    OwedInAll x.form x.start (tokens_of tree_words.dialect r.scanner.limit bytes false).tokens size →
+    length (open_bytes tree_words.dialect r.scanner.limit bytes) + size ≤ n
 
 -- the error of a step, as a reader reports it
 abbrev pub reason_of : StepFault → Reason

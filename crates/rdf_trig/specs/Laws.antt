@@ -8,15 +8,15 @@ use Rattle.rdf_tokens.specs.Tokens.{Place, Token}
 use Rattle.rdf_tokens.specs.Grammars.{Marked, unmarked, Viable, Shaped, Due, PassesNone, IsFront, CompletedWith, reading_of, IsDocumentOf, IsWithin, GoesOn, Refused, IsReadToItsEnd, Rises}
 use Rattle.rdf_driver.specs.Words.{in_words}
 use Rattle.rdf_driver.specs.Readers.{HasRead}
-use Rattle.rdf_iri.specs.Scope.{InForce, bound_to, Binds}
+use Rattle.rdf_iri.specs.Scope.{InForce, bound_to, Binds, bytes_held}
 use Rattle.rdf_tokens.specs.Leaves.{Leaf, leaf_of, iri_of}
 use Rattle.rdf_trig.specs.declared.form.DocForm.{DocForm}
 use Rattle.rdf_trig.specs.Trees.{Document, document_tokens}
-use Rattle.rdf_trig.specs.Names.{reference_in, name_in, prefix_of, with_binding}
+use Rattle.rdf_trig.specs.Names.{reference_in, name_in, prefix_of, with_binding, SameNames}
 use Rattle.rdf_trig.specs.TreeQuads.{document_quads}
 use Rattle.rdf_trig.specs.Events.{Use, tokens, event_quads, document_events, BoundFront}
 use Rattle.rdf_trig.specs.Documents.{documents, trees, InTree, Passes}
-use Rattle.rdf_trig.specs.Owed.{Owed}
+use Rattle.rdf_trig.specs.Owed.{HasToHold, scope_size}
 use Rattle.rdf_trig.specs.Refusals.{Refusal, RefusedFor}
 use Rattle.rdf_trig.specs.Machine.{Over, State, refuses, accept, at_start, ran, accept_all}
 use Rattle.rdf_trig.specs.Language.{Chosen, language}
@@ -40,10 +40,14 @@ abbrev pub TokensSettleWhatIsDue : Type 0
 TokensSettleWhatIsDue = (form : DocForm) (start : InForce) (ts : List Token) (qs rs : List Quad) → Due (documents form start) ts qs →
     Due (documents form start) ts rs → qs ≡ rs
 
--- Something is owed after tokens that begin a document, and it is the same in each document that begins with them.
+-- Something has to be held after tokens that begin a document, whatever is counted of a scope, and it is the same in each document that begins with them.
 abbrev pub TokensSettleWhatIsOwed : Type 0
-TokensSettleWhatIsOwed = (form : DocForm) (start : InForce) (ts : List Token) → Viable (documents form start) ts →
-    (size : ℕ) × Owed form start ts size × ((other : ℕ) → Owed form start ts other → other ≡ size)
+TokensSettleWhatIsOwed = (outside : InForce → ℕ) (form : DocForm) (start : InForce) (ts : List Token) → Viable (documents form start) ts →
+    (size : ℕ) × HasToHold outside form start ts size × ((other : ℕ) → HasToHold outside form start ts other → other ≡ size)
+
+-- Scopes in which all names stand for the same take the same bytes, and no more than either of them holds.
+abbrev pub ScopesAlikeTakeAlike : Type 0
+ScopesAlikeTakeAlike = (s t : InForce) → SameNames s t → (scope_size s ≡ scope_size t) × (scope_size s ≤ bytes_held t)
 
 -- What is due is a beginning of the quads of each document that begins so.
 abbrev pub DueBeginsTheQuads : Type 0

@@ -1,6 +1,6 @@
 //! The laws of Turtle and TriG. These functions do nothing: their contracts are the laws.
 
-ghost use Rattle.rdf_trig.specs.Laws.{EventsTellTheTree, MarksNeverFall, TokensSettleTheQuads, TokensSettleWhatIsDue, TokensSettleWhatIsOwed, DueBeginsTheQuads, TokensSettleTheirSenses, ViableIsShapedAndBound, BeginningsAreCompleted, NamelessIsUnbound, DirectivesBind};
+ghost use Rattle.rdf_trig.specs.Laws.{EventsTellTheTree, MarksNeverFall, TokensSettleTheQuads, TokensSettleWhatIsDue, TokensSettleWhatIsOwed, ScopesAlikeTakeAlike, DueBeginsTheQuads, TokensSettleTheirSenses, ViableIsShapedAndBound, BeginningsAreCompleted, NamelessIsUnbound, DirectivesBind};
 ghost use Rattle.rdf_trig.specs.Laws.{DocumentsAreAccepted, AcceptedIsADocument, AcceptedBeginsADocument, RefusedForItsReason, ReadQuadsAreDue, DocumentsAreRead, RefusedIsNoDocument};
 
 /// The events of a tree, from left to right, have the tokens that it derives, and its quads with their marks.
@@ -23,9 +23,15 @@ pub fn tokens_settle_what_is_due()
     ensures { TokensSettleWhatIsDue }
 {}
 
-/// Something is owed after tokens that begin a document, and it is the same in each document that begins with them.
+/// Something is owed after tokens that begin a document, with whatever is counted of the scope there, and it is the same in each document that
+/// begins with them.
 pub fn tokens_settle_what_is_owed()
     ensures { TokensSettleWhatIsOwed }
+{}
+
+/// Two scopes in which all names stand for the same take the same bytes, and no more than either of them holds.
+pub fn scopes_alike_take_alike()
+    ensures { ScopesAlikeTakeAlike }
 {}
 
 /// What is due is a beginning of the quads of each document that begins so.

@@ -10,7 +10,7 @@ ghost use Rattle.rdf_driver.specs.Readers.{HasRead, SameLimits, Feeds, FeedFails
 ghost use Rattle.rdf_iri.specs.Scope.{BaseFits};
 ghost use Rattle.rdf_trig.specs.Documents.{trees};
 ghost use Rattle.rdf_trig.specs.Language.{chosen_alone};
-ghost use Rattle.rdf_trig.specs.Accepting.{tree_words, HoldsOwed};
+ghost use Rattle.rdf_trig.specs.Accepting.{tree_words, HoldsOwed, HoldsAllOwed};
 ghost use Rattle.rdf_trig.specs.Owed.{most_held};
 
 use crate::form::DocForm;
@@ -215,11 +215,12 @@ impl<A: Allocator + Copy> TrigReader<A> {
     /// How many bytes of text are held: those of which no token was given, those of the open frames and of the quad in hand, the base,
     /// and the prefixes with their IRIs. After each call, also one that failed, they are at most what the limits allow (`most` of `new`,
     /// `limits` of `feed` and `finish`), and until one fails or finishes at least what is owed after the tokens so far, with the base and
-    /// the prefixes (`least`). Spare capacity is not counted. It takes no memory.
+    /// the prefixes (`least`; `owed` says it of the document). Spare capacity is not counted. It takes no memory.
     pub fn held(&self) -> u64
         ensures sum { result ≡ unread_bytes self.now.scanner + self.now.grammar.held }
         ensures most { result ≤ R.most_held tree_words self.now }
         ensures least { HoldsOwed self.now result }
+        ensures owed { HoldsAllOwed self.now result }
     {
         self.reader.held()
     }

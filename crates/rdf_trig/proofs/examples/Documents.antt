@@ -1,5 +1,5 @@
 -- Documents whose quads, with their marks, are computed from the definitions: from a list of tokens to what it means.
-use Rattle.std.proofs.Common.{◌≡◌, ℕ, Bool, true, List, [], ◌∷◌, ◌++◌, ◌&&◌, take, drop, Option, Some, None, refl, sym, ◌∙◌}
+use Rattle.std.proofs.Common.{◌≡◌, ◌≤◌, ℕ, Bool, true, List, [], ◌∷◌, ◌++◌, ◌&&◌, take, drop, Option, Some, None, refl, sym, ◌∙◌}
 use Rattle.std.specs.Prelude.{codes}
 use Rattle.std.proofs.lemmas.Bool.{and_parts}
 use Rattle.rdf_terms.specs.Classes.{has}
@@ -14,7 +14,7 @@ use Rattle.rdf_terms.specs.Known.{known_chars}
 use Rattle.rdf_terms.specs.declared.constants.Known.TheVariants.{RdfType, RdfFirst, RdfRest, RdfNil, XsdString, XsdInteger, XsdBoolean}
 use Rattle.rdf_tokens.specs.Tokens.{Token}
 use Rattle.rdf_tokens.specs.Grammars.{Marked}
-use Rattle.rdf_iri.specs.Scope.{InForce}
+use Rattle.rdf_iri.specs.Scope.{InForce, bytes_held}
 use Rattle.rdf_tokens.specs.Leaves.{Leaf, token}
 use Rattle.rdf_trig.specs.declared.form.DocForm.TheVariants.{Turtle, TriG}
 use Rattle.rdf_trig.specs.Trees.{PrefixedName, pname_ln, pname_ns, Iri, iri_ref, prefixed, BlankNode, label, anon, Verb, predicate, type_word, String, short, long, Tag, lang_tag, base_tag, prefix_tag, RDFLiteral, plain, tagged, typed, NumericLiteral, integer, decimal, double, BooleanLiteral, true_word, false_word, Literal, rdf, numeric, boolean, Object, iri_object, blank_object, collection_object, list_object, literal_object, Collection, collection, Items, no_items, item, BlankNodePropertyList, property_list, PredicateObjectList, predicate_objects, More, no_more, semicolon, semicolon_objects, ObjectList, objects, Commas, no_commas, comma, iri_subject, blank_subject, collection_subject, Triples, subject_triples, list_triples, Directive, prefix_id, base, sparql_prefix, sparql_base, LabelOrSubject, iri_label, blank_label, TriplesBlock, last, last_dot, dot, WrappedGraph, wrapped, TriplesOrGraph, named_graph, label_triples, Triples2, list_triples2, collection_triples2, Block, triples_or_graph, default_graph, triples2, Body, Document, end, with_directive, with_body}
@@ -22,11 +22,12 @@ use Rattle.rdf_trig.specs.Trees as tree
 use Rattle.rdf_trig.specs.Names.{reference_in, name_in, is_full}
 use Rattle.rdf_trig.specs.Events.{Event, Took, Gave, document_events, event_quads, Bound}
 use Rattle.rdf_trig.specs.Documents.{documents}
-use Rattle.rdf_trig.specs.Owed.{document_held, held_after, Owed, most_held}
+use Rattle.rdf_trig.specs.Owed.{document_held, held_after, Owed, OwedInAll, scope_size, most_held}
 use Rattle.std.proofs.Math.Utf8.{encode}
 use Rattle.rdf_trig.proofs.machine.ClosingTokens.{has_iri}
 use Rattle.rdf_trig.proofs.machine.ViableTokens.{use_bound}
-use Rattle.rdf_trig.proofs.machine.OpenSizes.{owed_is_settled}
+use Rattle.rdf_trig.proofs.machine.OpenSizes.{held_is_settled}
+use Rattle.rdf_trig.proofs.code.ScopeSizes.{scopes_alike}
 
 abbrev pub leaf : List ℕ → ℕ → ℕ → Leaf
 leaf w offset line = record { text = w; at = record { offset = offset; line = line } }
@@ -408,7 +409,7 @@ unfolding reference_in name_in resolved is_full has
 open_bound = named_bound (document_events start open_tree) refl
 
 owed_by : (k size : ℕ) → take k open_tokens ++ drop k open_tokens ≡ open_tokens →
-    held_after 0 (take k open_tokens) (document_held start open_tree) ≡ size → Owed TriG start (take k open_tokens) size
+    held_after 0 (take k open_tokens) (document_held (λ s. 0) start open_tree) ≡ size → Owed TriG start (take k open_tokens) size
 owed_by k size e h = record { tree = open_tree; more = drop k open_tokens; tokens = e; bound = open_bound; held = h }
 
 pub owed_inside : Owed TriG start (take 5 open_tokens) 30
@@ -427,8 +428,20 @@ owed_not = owed_by 8 0 refl refl
 pub owed_alone : (size : ℕ) → Owed TriG start (take 5 open_tokens) size → size ≡ 30
 unfolding reference_in name_in resolved is_full has encode
 owed_alone size o =
-    let settled = owed_is_settled TriG start (take 5 open_tokens) (drop 5 open_tokens, event_quads 0 (document_events start open_tree), record { tree = open_tree; tokens = refl; bound = open_bound; quads = refl }) in
+    let settled = held_is_settled (λ s. 0) TriG start (take 5 open_tokens) (drop 5 open_tokens, event_quads 0 (document_events start open_tree), record { tree = open_tree; tokens = refl; bound = open_bound; quads = refl }) in
     settled.2 size o ∙ sym (settled.2 30 owed_inside)
+
+-- with a base of ten bytes and a prefix of ten, its IRI included, so many more have to be held
+abbrev pub started : InForce
+started = record start { base = Some (codes "http://a/b"); bindings = (codes "x", codes "http://x/") ∷ [] }
+
+pub owed_in_all : OwedInAll TriG started (take 5 open_tokens) 50
+unfolding reference_in name_in resolved is_full has encode
+owed_in_all = record { tree = open_tree; more = drop 5 open_tokens; tokens = refl; bound = named_bound (document_events started open_tree) refl; held = refl }
+
+-- a reader holds no less of it
+pub started_within : scope_size started ≤ bytes_held started
+started_within = (scopes_alike started started record { base = refl; limits = refl; bound = λ q. refl; count = refl }).1
 
 -- the most that may be held, for two sets of limits
 pub most_of_some : most_held (record { token = 16; depth = 2; bindings = 1; iri = 64 }) ≡ 839

@@ -1,13 +1,14 @@
-use Rattle.std.proofs.Common.{◌≡◌, ◌+◌, ◌≤◌, ℕ, false, List, subst}
+use Rattle.std.proofs.Common.{◌≡◌, ◌+◌, ◌≤◌, ℕ, false, List, subst, length}
 use Rattle.rdf_terms.specs.Terms.{Quad}
 use Rattle.rdf_tokens.specs.Good.{tokens_of}
 use Rattle.rdf_tokens.specs.Scans.{unread_bytes}
+use Rattle.rdf_tokens.specs.Laws.{open_bytes}
 use Rattle.rdf_iri.specs.Scope.{bytes_held}
 use Rattle.rdf_driver.specs.Readers.{HasRead}
 use Rattle.rdf_trig.specs.Language.{Chosen}
-use Rattle.rdf_trig.specs.Owed.{Owed}
+use Rattle.rdf_trig.specs.Owed.{Owed, OwedInAll}
 use Rattle.rdf_trig.specs.Accepting.{TrigRead, tree_words}
-use Rattle.rdf_trig.proofs.code.OwedHeld.{owed_held}
+use Rattle.rdf_trig.proofs.code.OwedHeld.{owed_held, all_owed_held}
 use Rattle.rdf_trig.proofs.reader.TrigReader.held.Goals as goal
 
 pub returns-clause-sum : goal.returns-clause-sum
@@ -18,3 +19,9 @@ returns-clause-least g c =
     subst
     (λ (r : TrigRead). (x : Chosen) (bytes : List ℕ) (quads : List Quad) (size : ℕ) → HasRead tree_words r x bytes quads → Owed x.form x.start (tokens_of tree_words.dialect r.scanner.limit bytes false).tokens size → unread_bytes r.scanner + bytes_held r.grammar.state.setting.scope + size ≤ c.held.result)
     c.self.view_is (owed_held _ c.held.result c.held.ensures.sum)
+
+pub returns-clause-owed : goal.returns-clause-owed
+returns-clause-owed g c =
+    subst
+    (λ (r : TrigRead). (x : Chosen) (bytes : List ℕ) (quads : List Quad) (size : ℕ) → HasRead tree_words r x bytes quads → OwedInAll x.form x.start (tokens_of tree_words.dialect r.scanner.limit bytes false).tokens size → length (open_bytes tree_words.dialect r.scanner.limit bytes) + size ≤ c.held.result)
+    c.self.view_is (all_owed_held _ c.held.result c.held.ensures.sum)
