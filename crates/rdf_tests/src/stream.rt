@@ -3,6 +3,7 @@
 mod devices;
 mod large;
 mod memory;
+mod refused;
 mod rows;
 mod runs;
 mod streams;
