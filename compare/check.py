@@ -103,7 +103,7 @@ def compare(counts):
     source = read('crates/rdf_options/src/options.rt')
     counts.expect('four options with a number in crates/rdf_options/src/options.rt', len(limits()) == 4)
     version, kit = re.search(r'VERSION: &str = "([\d.]+), proved with (.*)";', source).groups()
-    counts.expect('--version is the first of CHANGELOG.md', re.search(r'^## (.*)$', read('CHANGELOG.md'), re.M)[1] == version)
+    counts.expect('--version is the first of CHANGELOG.md', re.search(r'^## (\d.*)$', read('CHANGELOG.md'), re.M)[1] == version)
     counts.expect('the kit of --version is that of README', '`%s`' % kit in readme)
     for name, least, most, default in limits():
         said = '%d to %d' % (least, most)

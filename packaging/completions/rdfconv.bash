@@ -7,14 +7,14 @@ _rdfconv() {
     [ "$word" != = ] || word=
     [ "$before" != = ] || before=${COMP_WORDS[COMP_CWORD - 2]}
     case "$command $before" in
-    'check --format') wanted='nt nq ttl trig' ;;
+    'check --format') wanted='nt nq ttl trig name' ;;
     'check --base' | 'check --token' | 'check --depth' | 'check --bindings' | 'check --iri') wanted='' ;;
     'check --prefixes') wanted=FILES ;;
     'check '*) wanted=FILES options='--format --base --token --depth --bindings --iri --prefixes -h|--help' ;;
-    'show --format') wanted='nt nq ttl trig' ;;
+    'show --format') wanted='nt nq ttl trig name' ;;
     'show --base' | 'show --token' | 'show --depth' | 'show --bindings' | 'show --iri') wanted='' ;;
     'show '*) wanted=FILES options='--format --base --token --depth --bindings --iri -h|--help' ;;
-    'convert --format') wanted='nt nq ttl trig' ;;
+    'convert --format') wanted='nt nq ttl trig name' ;;
     'convert --base' | 'convert --token' | 'convert --depth' | 'convert --bindings' | 'convert --iri' | 'convert --node-prefix') wanted='' ;;
     'convert --prefixes') wanted=FILES ;;
     'convert '*) wanted=FILES options='--format --base --token --depth --bindings --iri --prefixes --ascii --node-prefix -h|--help' ;;

@@ -8,11 +8,11 @@ function __rdfconv_in
 end
 
 complete -c rdfconv -f
-complete -c rdfconv -n '__rdfconv_in ""' -a 'check\\t"Read a document to its end, and count its quads and bytes" show\\t"Write a line for each token: its offset, its characters and its kind" convert\\t"Write the quads of a document as lines of N-Quads" help\\t"Print this message or the help of the given subcommand(s)"'
+complete -c rdfconv -n '__rdfconv_in ""' -a 'check\\t"Read documents to their ends, and count the quads and bytes of each" show\\t"Write a line for each token: its offset, its characters and its kind" convert\\t"Write the quads of a document as lines of N-Quads" help\\t"Print this message or the help of the given subcommand(s)"'
 complete -c rdfconv -n '__rdfconv_in "" "-h |--help "' -s h -l help -d 'Print help'
 complete -c rdfconv -n '__rdfconv_in "" "-V |--version "' -s V -l version -d 'Print version'
 complete -c rdfconv -n '__rdfconv_in check' -F
-complete -c rdfconv -n '__rdfconv_in check "--format[= ]."' -l format -x -a 'nt\\t"N-Triples" nq\\t"N-Quads" ttl\\t"Turtle" trig\\t"TriG"' -d 'Format of the document'
+complete -c rdfconv -n '__rdfconv_in check "--format[= ]."' -l format -x -a 'nt\\t"N-Triples" nq\\t"N-Quads" ttl\\t"Turtle" trig\\t"TriG" name\\t"the one that the file\'s name ends in"' -d 'Format'
 complete -c rdfconv -n '__rdfconv_in check "--base[= ]."' -l base -x -d 'Absolute IRI that relative references start from, at most --iri bytes'
 complete -c rdfconv -n '__rdfconv_in check "--token[= ]."' -l token -x -d 'Characters of one token, 1 to 268435456'
 complete -c rdfconv -n '__rdfconv_in check "--depth[= ]."' -l depth -x -d 'Brackets and parentheses open at one time, 0 to 1048576'
@@ -21,7 +21,7 @@ complete -c rdfconv -n '__rdfconv_in check "--iri[= ]."' -l iri -x -d 'Bytes of 
 complete -c rdfconv -n '__rdfconv_in check "--prefixes[= ]."' -l prefixes -r -F -d 'File of prefixes bound before the document, a line each'
 complete -c rdfconv -n '__rdfconv_in check "-h |--help "' -s h -l help -d 'Print help'
 complete -c rdfconv -n '__rdfconv_in show' -F
-complete -c rdfconv -n '__rdfconv_in show "--format[= ]."' -l format -x -a 'nt\\t"N-Triples" nq\\t"N-Quads" ttl\\t"Turtle" trig\\t"TriG"' -d 'Format of the document'
+complete -c rdfconv -n '__rdfconv_in show "--format[= ]."' -l format -x -a 'nt\\t"N-Triples" nq\\t"N-Quads" ttl\\t"Turtle" trig\\t"TriG" name\\t"the one that the file\'s name ends in"' -d 'Format'
 complete -c rdfconv -n '__rdfconv_in show "--base[= ]."' -l base -x -d 'Absolute IRI that relative references start from, at most --iri bytes'
 complete -c rdfconv -n '__rdfconv_in show "--token[= ]."' -l token -x -d 'Characters of one token, 1 to 268435456'
 complete -c rdfconv -n '__rdfconv_in show "--depth[= ]."' -l depth -x -d 'Brackets and parentheses open at one time, 0 to 1048576'
@@ -29,7 +29,7 @@ complete -c rdfconv -n '__rdfconv_in show "--bindings[= ]."' -l bindings -x -d '
 complete -c rdfconv -n '__rdfconv_in show "--iri[= ]."' -l iri -x -d 'Bytes of one IRI, 1 to 268435456'
 complete -c rdfconv -n '__rdfconv_in show "-h |--help "' -s h -l help -d 'Print help'
 complete -c rdfconv -n '__rdfconv_in convert' -F
-complete -c rdfconv -n '__rdfconv_in convert "--format[= ]."' -l format -x -a 'nt\\t"N-Triples" nq\\t"N-Quads" ttl\\t"Turtle" trig\\t"TriG"' -d 'Format of the document'
+complete -c rdfconv -n '__rdfconv_in convert "--format[= ]."' -l format -x -a 'nt\\t"N-Triples" nq\\t"N-Quads" ttl\\t"Turtle" trig\\t"TriG" name\\t"the one that the file\'s name ends in"' -d 'Format'
 complete -c rdfconv -n '__rdfconv_in convert "--base[= ]."' -l base -x -d 'Absolute IRI that relative references start from, at most --iri bytes'
 complete -c rdfconv -n '__rdfconv_in convert "--token[= ]."' -l token -x -d 'Characters of one token, 1 to 268435456'
 complete -c rdfconv -n '__rdfconv_in convert "--depth[= ]."' -l depth -x -d 'Brackets and parentheses open at one time, 0 to 1048576'
@@ -39,4 +39,4 @@ complete -c rdfconv -n '__rdfconv_in convert "--prefixes[= ]."' -l prefixes -r -
 complete -c rdfconv -n '__rdfconv_in convert "--ascii "' -l ascii -d 'Characters above U+007F of strings and IRIs as \\uXXXX or \\UXXXXXXXX'
 complete -c rdfconv -n '__rdfconv_in convert "--node-prefix[= ]."' -l node-prefix -x -d 'Word of ASCII letters and digits in front of the label of each blank node'
 complete -c rdfconv -n '__rdfconv_in convert "-h |--help "' -s h -l help -d 'Print help'
-complete -c rdfconv -n '__rdfconv_in help' -a 'check\\t"Read a document to its end, and count its quads and bytes" show\\t"Write a line for each token: its offset, its characters and its kind" convert\\t"Write the quads of a document as lines of N-Quads" help\\t"Print this message or the help of the given subcommand(s)"'
+complete -c rdfconv -n '__rdfconv_in help' -a 'check\\t"Read documents to their ends, and count the quads and bytes of each" show\\t"Write a line for each token: its offset, its characters and its kind" convert\\t"Write the quads of a document as lines of N-Quads" help\\t"Print this message or the help of the given subcommand(s)"'

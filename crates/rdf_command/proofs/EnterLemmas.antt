@@ -14,20 +14,24 @@ use Rattle.clap.proofs.WalkLemmas.{list_any-map}
 use Rattle.rdf_stream.specs.declared.form.Form.{Form}
 use Rattle.rdf_command.specs.declared.task.Action.{Action}
 use Rattle.rdf_command.specs.declared.task.Action.TheVariants.{Check, Show, Convert}
-use Rattle.rdf_options.specs.Options.{action_app, ascii_rule, node_prefix_rule, prefixes_rule, rdfconv}
-use Rattle.rdf_command.specs.Words.{Entered, HasLimits, IsEntered, action_name, form_name, format_names, forms}
+use Rattle.rdf_options.specs.Options.{action_app, ascii_rule, file_rule, files_rule, node_prefix_rule, prefixes_rule, rdfconv}
+use Rattle.rdf_command.specs.Words.{Entered, HasLimits, IsEntered, IsFormatWord, action_name, by_name, form_name, format_names, forms}
 use Rattle.rdf_command.proofs.RowLemmas.{Each, IsRead, same_text, value-of}
 use Rattle.rdf_command.proofs.GivenLemmas.{pair_is, same_some}
 use Rattle.rdf_command.proofs.LevelLemmas.{IsHelp, LevelHolds, enters}
 
--- a text among the names of forms is the name of one
-named_form : (forms : List Form) (text : Text) → list_any (λ name. bytes_eq name text) (map form_name forms) ≡ true → (f : Form) × (form_name f ≡ text)
-named_form [] text e = absurd (true≢false (sym e))
-named_form (f ∷ rest) text e = go (bytes_eq (form_name f) text) refl e (named_form rest text)
+-- a text among the words for forms is one
+format_word : (forms : List Form) (text : Text) → list_any (λ name. bytes_eq name text) (map form_name forms ++ by_name ∷ []) ≡ true → IsFormatWord text
+format_word [] text e = go (bytes_eq by_name text) refl e
   where
-    go : (b : Bool) → bytes_eq (form_name f) text ≡ b → (b || list_any (λ name. bytes_eq name text) (map form_name rest)) ≡ true
-        → (list_any (λ name. bytes_eq name text) (map form_name rest) ≡ true → (g : Form) × (form_name g ≡ text)) → (g : Form) × (form_name g ≡ text)
-    go true is e later = (f, same_text (form_name f) text is)
+    go : (b : Bool) → bytes_eq by_name text ≡ b → (b || false) ≡ true → IsFormatWord text
+    go true is e = inr (sym (same_text by_name text is))
+    go false is e = absurd (true≢false (sym e))
+format_word (f ∷ rest) text e = go (bytes_eq (form_name f) text) refl e (format_word rest text)
+  where
+    go : (b : Bool) → bytes_eq (form_name f) text ≡ b → (b || list_any (λ name. bytes_eq name text) (map form_name rest ++ by_name ∷ [])) ≡ true
+        → (list_any (λ name. bytes_eq name text) (map form_name rest ++ by_name ∷ []) ≡ true → IsFormatWord text) → IsFormatWord text
+    go true is e later = inl (f, same_text (form_name f) text is)
     go false is e later = later e
 
 module _ (names : Bor (List (Bor Text))) (known : texts names.now ≡ format_names) where
@@ -37,21 +41,27 @@ module _ (names : Bor (List (Bor Text))) (known : texts names.now ≡ format_nam
   own_rules Show = []
   own_rules Convert = prefixes_rule ∷ ascii_rule ∷ node_prefix_rule ∷ []
 
+  -- what it reads
+  abbrev reads : Action → Rule
+  reads Check = files_rule
+  reads Show = file_rule
+  reads Convert = file_rule
+
   -- the options of a built subcommand
   abbrev options : Action → List Rule
-  options a = filled_from 1 ((action_app (Names names) []).top.rules ++ own_rules a ++ help_rule ∷ [])
+  options a = filled_from 1 ((action_app (Names names) (reads a) []).top.rules ++ own_rules a ++ help_rule ∷ [])
 
   are_read : (a : Action) → Each (IsRead (options a)) (options a)
   unfolding clap_on_literals
   are_read Check =
-      let set = inl (refl, refl, refl) in
-      ((refl, set), ((refl, set), ((refl, set), ((refl, set), ((refl, set), ((refl, set), ((refl, set), ((refl, set), ((refl, inr (inr refl)), tt)))))))))
+      let set = inl (refl, (refl, refl)) in
+      ((refl, set), ((refl, set), ((refl, set), ((refl, set), ((refl, set), ((refl, set), ((refl, inr (inr (inl (refl, (refl, refl))))), ((refl, set), ((refl, inr (inr (inr refl))), tt)))))))))
   are_read Show =
-      let set = inl (refl, refl, refl) in
-      ((refl, set), ((refl, set), ((refl, set), ((refl, set), ((refl, set), ((refl, set), ((refl, set), ((refl, inr (inr refl)), tt))))))))
+      let set = inl (refl, (refl, refl)) in
+      ((refl, set), ((refl, set), ((refl, set), ((refl, set), ((refl, set), ((refl, set), ((refl, set), ((refl, inr (inr (inr refl))), tt))))))))
   are_read Convert =
-      let set = inl (refl, refl, refl) in
-      ((refl, set), ((refl, set), ((refl, set), ((refl, set), ((refl, set), ((refl, set), ((refl, set), ((refl, set), ((refl, inr (inl (refl, omega arith))), ((refl, set), ((refl, inr (inr refl)), tt)))))))))))
+      let set = inl (refl, (refl, refl)) in
+      ((refl, set), ((refl, set), ((refl, set), ((refl, set), ((refl, set), ((refl, set), ((refl, set), ((refl, set), ((refl, inr (inl (refl, omega arith))), ((refl, set), ((refl, inr (inr (inr refl))), tt)))))))))))
 
   -- a built subcommand of the program
   abbrev IsAction : Shape → Type 0
@@ -87,13 +97,12 @@ module _ (names : Bor (List (Bor Text))) (known : texts names.now ≡ format_nam
           iri = (iri.0, iri.1, accepts-Accepts false (Unsigned 1 268435456) iri.0 iri.2);
         }
 
-    form-of : (f : Form) × (first_of (codes "format") rows ≡ Some (form_name f))
+    format-of : (word : Text) × (first_of (codes "format") rows ≡ Some word) × IsFormatWord word
     unfolding clap_on_literals
-    form-of =
+    format-of =
         let format = value-of (options a) _ rows (are_read a).0.0 holds.pass (holds.defaults.0 (omega arith)) in
         let among : list_any (λ name. bytes_eq name format.0) (texts names.now) ≡ true = sym (list_any-map (λ name. bytes_eq name format.0) (λ (s : Bor Text). s.now) names.now) ∙ format.2 in
-        let form = named_form forms format.0 (subst (λ xs. list_any (λ name. bytes_eq name format.0) xs ≡ true) known among) in
-        (form.0, format.1 ∙ ap (λ t. Some t) (sym form.1))
+        (format.0, format.1, format_word forms format.0 (subst (λ xs. list_any (λ name. bytes_eq name format.0) xs ≡ true) known among))
 
   -- the subcommand that the words name, with its matches
   pub entered : (words : List Text) → fault_of (rdfconv (Names names)) words ≡ [] → (p : Entered) × (subcommand_of (rdfconv (Names names)) words ≡ Some p) × IsEntered p
@@ -101,7 +110,7 @@ module _ (names : Bor (List (Bor Text))) (known : texts names.now ≡ format_nam
       let at = enters (built (rdfconv (Names names))) IsAction is_ready_leaf subcommands (argument_words (rdfconv (Names names)) words) needs_subcommand offers_help none in
       let rows = rows_after at.0.rules [] at.1 in
       let holds : LevelHolds (options at.2.0) rows = subst (λ rules. LevelHolds rules rows) at.2.2 at.4 in
-      ((at.0.name, rows), at.3, record { action = (at.2.0, at.2.1); form = form-of at.2.0 rows holds; limits = limits-of at.2.0 rows holds })
+      ((at.0.name, rows), at.3, record { action = (at.2.0, at.2.1); format = format-of at.2.0 rows holds; limits = limits-of at.2.0 rows holds })
 
   -- the same, of what a parse was seen to enter
   pub entered-at : (words : List Text) (p : Entered) → fault_of (rdfconv (Names names)) words ≡ [] → subcommand_of (rdfconv (Names names)) words ≡ Some p → IsEntered p

@@ -1,17 +1,20 @@
 -- What clap's getters hand out, against what its definition says of the words.
-use Rattle.std.proofs.Common.{◌≡◌, ◌∙◌, true≢false, refl, sym, ap, ap₂, List, [], ℕ, codes, Bool, true, false, Option, Some, None, option_map, is_some, unwrap_or, ⊎_elim}
+use Rattle.std.proofs.Common.{◌≡◌, ◌∙◌, true≢false, refl, sym, subst, ap, ap₂, inl, inr, List, [], ◌∷◌, ◌++◌, ℕ, codes, Bool, true, false, Option, Some, None, option_map, drop, is_some, map, string_bytes, take, unwrap_or, ⊎_elim}
+use Rattle.std.proofs.lemmas.List.{append_assoc, map-append, take-append-drop}
 use Rattle.std.specs.Prelude.{◌≢◌}
 use Rattle.std.specs.Borrow.{Bor}
-use Rattle.clap.specs.Words.{App, Text, fault_of, first_of, first_value, kind_of, rows_of, subcommand_of}
+use Rattle.clap.specs.Words.{App, Text, all_of, fault_of, first_of, first_value, kind_of, rows_of, subcommand_of}
 use Rattle.clap.specs.Kinds.{HasKind, IsAmong}
 use Rattle.clap.specs.declared.error.Error.{Error}
 use Rattle.clap.specs.declared.error.kind.ErrorKind.{ErrorKind}
 use Rattle.clap.specs.declared.error.kind.ErrorKind.TheVariants.{OutOfMemory}
 use Rattle.clap.specs.declared.parser.matches.Found.{Found}
 use Rattle.clap.proofs.WalkLemmas.{first_value-rows}
+use Rattle.rdf_stream.specs.declared.form.Form.{Form}
+use Rattle.rdf_command.specs.declared.task.Document.{Document}
 use Rattle.rdf_command.specs.declared.task.WordsFault.{WordsFault}
-use Rattle.rdf_command.specs.declared.task.WordsFault.TheVariants.{Usage, BadBase, BadNodePrefix, Memory}
-use Rattle.rdf_command.specs.Words.{Entered, GivesNone, NoBaseOf, NoTaskBy, NoWordOf, fault_by, number_of}
+use Rattle.rdf_command.specs.declared.task.WordsFault.TheVariants.{Usage, BadBase, BadNodePrefix, NoFormat, Memory}
+use Rattle.rdf_command.specs.Words.{AreDocuments, Entered, GivesNone, IsFormBy, IsFormless, NoBaseOf, NoFormOf, NoFormsOf, NoTaskBy, NoWordOf, fault_by, further_by, further_of, name_by, number_of}
 
 -- what is there is not none
 some≢none : {X : Type 0} (x : X) → None ≡ Some x → ⊥
@@ -79,6 +82,7 @@ pub refused_by : (a : App) (words : List Text) (p : Entered) (fault : WordsFault
 refused_by a words p (Usage e) none is h = absurd h
 refused_by a words p BadBase none is h = record { entered = p; taken = none; matches = is; holds = h }
 refused_by a words p BadNodePrefix none is h = record { entered = p; taken = none; matches = is; holds = h }
+refused_by a words p (NoFormat name) none is h = record { entered = p; taken = none; matches = is; holds = h }
 refused_by a words p Memory none is h = tt
 
 -- a base that is none is the base of the matches
@@ -86,6 +90,7 @@ pub no_task : (p : Entered) (most : ℕ) (base : Option Text) (fault : WordsFaul
 no_task p most base (Usage e) is limit h = absurd h
 no_task p most base BadBase is limit h = (h.0, most, sym is ∙ h.1, limit, h.2)
 no_task p most base BadNodePrefix is limit h = absurd h
+no_task p most base (NoFormat name) is limit h = absurd h
 no_task p most base Memory is limit h = tt
 
 -- a text that is no word is that of the matches
@@ -93,4 +98,57 @@ pub no_word : (p : Entered) (word : Option Text) (fault : WordsFault) → word �
 no_word p word (Usage e) is h = absurd h
 no_word p word BadBase is h = absurd h
 no_word p word BadNodePrefix is h = (h.0, sym is ∙ h.1, h.2)
+no_word p word (NoFormat name) is h = absurd h
 no_word p word Memory is h = tt
+
+-- a first document without a format is that of the matches
+pub no_form : (p : Entered) (word : Text) (first : Option Text) (fault : WordsFault) → first_of (codes "format") p.1 ≡ Some word → first ≡ first_of (codes "file") p.1
+    → NoFormOf word (name_by first) fault → NoTaskBy p fault
+no_form p word first (Usage e) given is h = absurd h
+no_form p word first BadBase given is h = absurd h
+no_form p word first BadNodePrefix given is h = absurd h
+no_form p word first (NoFormat at) given is h =
+    record { word = word; given = given; formless = subst (IsFormless word) (sym h.0) h.1; named = inl (h.0 ∙ ap name_by is) }
+no_form p word first Memory given is h = tt
+
+-- so is a further one
+pub no_forms : (p : Entered) (word : Text) (more : List Text) (fault : WordsFault) → first_of (codes "format") p.1 ≡ Some word
+    → more ≡ further_by p.0 (all_of (codes "file") p.1) → NoFormsOf word more fault → NoTaskBy p fault
+no_forms p word more (Usage e) given is h = absurd h
+no_forms p word more BadBase given is h = absurd h
+no_forms p word more BadNodePrefix given is h = absurd h
+no_forms p word more (NoFormat at) given is h =
+    record { word = word; given = given; formless = h.0; named = inr (h.1.0, h.1.1, sym is ∙ h.1.2) }
+no_forms p word more Memory given is h = tt
+
+-- ---- documents
+
+-- a name that has no format is among the names
+pub formless_among : (word name : Text) (front rest names : List Text) (fault : WordsFault) → names ≡ front ++ name ∷ rest → NoFormOf word name fault → NoFormsOf word names fault
+formless_among word name front rest names (Usage e) is h = absurd h
+formless_among word name front rest names BadBase is h = absurd h
+formless_among word name front rest names BadNodePrefix is h = absurd h
+formless_among word name front rest names (NoFormat at) is h = (subst (IsFormless word) (sym h.0) h.1, (front, rest, is ∙ ap (λ n. front ++ n ∷ rest) (sym h.0)))
+formless_among word name front rest names Memory is h = tt
+
+-- the text behind a reference
+abbrev now_of : Bor Text → Text
+now_of s = s.now
+
+-- with a document more those of fewer names are left
+pub next_document : (word : Text) (all : List Text) (left rest : List (Bor Text)) (x : Bor Text) (docs : List Document) (d : Document) → left ≡ x ∷ rest
+    → IsFormBy word x.now d.form → string_bytes d.name ≡ x.now
+    → ((tail : List (Form × Text)) → AreDocuments word (map (λ s. s.now) left) tail → AreDocuments word all (further_of docs ++ tail))
+    → (tail : List (Form × Text)) → AreDocuments word (map (λ s. s.now) rest) tail → AreDocuments word all (further_of (docs ++ d ∷ []) ++ tail)
+next_document word all left rest x docs d is form name before tail are =
+    let more : List (Form × Text) = (d.form, string_bytes d.name) ∷ tail in
+    subst (AreDocuments word all) same (before more (subst (λ names. AreDocuments word (map now_of names) more) (sym is) ((form, name), are)))
+  where
+    same : further_of docs ++ ((d.form, string_bytes d.name) ∷ tail) ≡ further_of (docs ++ d ∷ []) ++ tail
+    same = sym (ap (λ xs. xs ++ tail) (map-append _ docs (d ∷ [])) ∙ append_assoc (further_of docs) ((d.form, string_bytes d.name) ∷ []) tail)
+
+-- a name at its place among all
+pub name_among : (names : List (Bor Text)) (i : ℕ) (x : Bor Text) (rest : List (Bor Text)) → drop i names ≡ x ∷ rest
+    → map now_of names ≡ map now_of (take i names) ++ x.now ∷ map now_of rest
+name_among names i x rest is =
+    sym (ap (map now_of) (take-append-drop i names)) ∙ (map-append now_of (take i names) (drop i names) ∙ ap (λ ys. map now_of (take i names) ++ map now_of ys) is)

@@ -4,3 +4,4 @@ pub mod LevelLemmas
 pub mod EnterLemmas
 pub mod GivenLemmas
 pub mod RunLemmas
+pub mod SeveralLemmas

@@ -10,7 +10,7 @@ use Rattle.clap.specs.Faults.{action_fault, use_fault, values_fault}
 use Rattle.clap.specs.Takes.{value_passes, values_pass}
 use Rattle.clap.specs.Values.{refused_kind}
 use Rattle.clap.specs.ValueTests.{accepts}
-use Rattle.clap.specs.declared.builder.action.ArgAction.TheVariants.{Set, SetTrue, Help}
+use Rattle.clap.specs.declared.builder.action.ArgAction.TheVariants.{Append, Set, SetTrue, Help}
 use Rattle.clap.specs.declared.builder.value_parser.ValueParser.{ValueParser}
 use Rattle.clap.specs.declared.parser.matches.ValueSource.{ValueSource}
 use Rattle.clap.specs.declared.parser.matches.ValueSource.TheVariants.{CommandLine}
@@ -126,16 +126,24 @@ module _ (c : List Rule) (a : Rule) (known : arg_by_id c a.id ≡ Some a) where
       (λ r is old. (values_pass-at r.id (r.values ++ values) (r.values ++ values) is refl (passed_also a r.values values (old a (ap (arg_by_id c) is ∙ known)) p), tt))
 
 -- a use of the argument has one value
+abbrev pub HasOne : Rule → Type 0
+HasOne a = ((unwrap_or_range a.range).start_inclusive ≡ 1) × (most_values a ≡ 1)
+
+-- the argument takes one value
 abbrev pub TakesOne : Rule → Type 0
-TakesOne a = (action_of a ≡ Set) × ((unwrap_or_range a.range).start_inclusive ≡ 1) × (most_values a ≡ 1)
+TakesOne a = (action_of a ≡ Set) × HasOne a
+
+-- the argument takes a value with each use
+abbrev pub TakesMore : Rule → Type 0
+TakesMore a = (action_of a ≡ Append) × HasOne a
 
 -- the argument is a flag, and a use of it without a value stands for one
 abbrev pub IsFlag : Rule → Type 0
 IsFlag a = (action_of a ≡ SetTrue) × (0 < length a.missing)
 
--- the argument is found by its name, and takes one value, is a flag or asks for help
+-- the argument is found by its name, and takes one value or more, is a flag or asks for help
 abbrev pub IsRead : List Rule → Rule → Type 0
-IsRead c a = (arg_by_id c a.id ≡ Some a) × (TakesOne a ⊎ (IsFlag a ⊎ (action_of a ≡ Help)))
+IsRead c a = (arg_by_id c a.id ≡ Some a) × (TakesOne a ⊎ (IsFlag a ⊎ (TakesMore a ⊎ (action_of a ≡ Help))))
 
 -- an argument that takes one value was given one
 only_one : (n : ℕ) → range_kinds 1 1 n ≡ [] → n ≡ 1
@@ -165,22 +173,31 @@ module _ (c : List Rule) (again : Bool) where
       parts : (range_kinds (unwrap_or_range a.range).start_inclusive (most_values a) (length values) ≡ []) × (action_fault (action_of a) again a (values_or_missing a values) rows ≡ [])
       parts = no_kind _ _ e
 
-      go : TakesOne a ⊎ (IsFlag a ⊎ (action_of a ≡ Help)) → RowsPass c (used a values rows)
-      go (inr (inr help)) = absurd (some_kind _ _ (ap (λ x. action_fault x again a (values_or_missing a values) rows) (sym help) ∙ parts.1))
+      -- the one value of a use
+      single : HasOne a → (v : Text) × (values_or_missing a values ≡ v ∷ [])
+      single one =
+          let range : range_kinds 1 1 (length values) ≡ [] = rw (one.0, one.1) at parts.0 in
+          let found = one_value values (only_one (length values) range) in
+          (found.0, ap (values_or_missing a) found.1)
+
+      passed : HasOne a → values_fault a (values_or_missing a values) ≡ [] → Passed a (values_or_missing a values)
+      passed one none = let some : 0 < length (values_or_missing a values) = rw (single one).1 (omega arith) in (some, values_passed a (values_or_missing a values) none)
+
+      go : TakesOne a ⊎ (IsFlag a ⊎ (TakesMore a ⊎ (action_of a ≡ Help))) → RowsPass c (used a values rows)
+      go (inr (inr (inr help))) = absurd (some_kind _ _ (ap (λ x. action_fault x again a (values_or_missing a values) rows) (sym help) ∙ parts.1))
+      go (inr (inr (inl more))) =
+          let each : action_fault Append again a (values_or_missing a values) rows ≡ [] = ap (λ x. action_fault x again a (values_or_missing a values) rows) (sym more.0) ∙ parts.1 in
+          subst (λ x. RowsPass c (used_as x a.id (reading_by a) (values_or_missing a values) rows)) (sym more.0)
+          (with_values-passes c a read.0 (reading_by a) CommandLine (values_or_missing a values) rows (passed more.1 each) h)
       go (inr (inl flag)) =
           let set : action_fault SetTrue again a (values_or_missing a values) rows ≡ [] = ap (λ x. action_fault x again a (values_or_missing a values) rows) (sym flag.0) ∙ parts.1 in
           let pass : Passed a (values_or_missing a values) = (flag_value a values flag.1, values_passed a (values_or_missing a values) (no_kind _ _ set).1) in
           subst (λ x. RowsPass c (used_as x a.id (reading_by a) (values_or_missing a values) rows)) (sym flag.0)
           (with_values-passes c a read.0 (reading_by a) CommandLine (values_or_missing a values) (without a.id rows) pass (without-passes c a.id rows h))
       go (inl one) =
-          let range : range_kinds 1 1 (length values) ≡ [] = rw (one.1, one.2) at parts.0 in
-          let single = one_value values (only_one (length values) range) in
-          let given : values_or_missing a values ≡ single.0 ∷ [] = ap (values_or_missing a) single.1 in
           let set : action_fault Set again a (values_or_missing a values) rows ≡ [] = ap (λ x. action_fault x again a (values_or_missing a values) rows) (sym one.0) ∙ parts.1 in
-          let some : 0 < length (values_or_missing a values) = rw given (omega arith) in
-          let pass : Passed a (values_or_missing a values) = (some, values_passed a (values_or_missing a values) (no_kind _ _ set).1) in
           subst (λ x. RowsPass c (used_as x a.id (reading_by a) (values_or_missing a values) rows)) (sym one.0)
-          (with_values-passes c a read.0 (reading_by a) CommandLine (values_or_missing a values) (without a.id rows) pass (without-passes c a.id rows h))
+          (with_values-passes c a read.0 (reading_by a) CommandLine (values_or_missing a values) (without a.id rows) (passed one.1 (no_kind _ _ set).1) (without-passes c a.id rows h))
 
 -- ---- what is read of rows that pass
 

@@ -1,11 +1,14 @@
 -- How a run over a document ends, by the job that it was read with.
-use Rattle.std.proofs.Common.{◌≡◌, ℕ, true, List, Option, IfSome, refl, sym, subst, inl, ◌∙◌, arith}
-use Rattle.rdf_stream.specs.Devices.{Reading, Written}
+use Rattle.std.proofs.Common.{◌≡◌, ℕ, true, List, ◌++◌, Option, Some, None, IfSome, refl, sym, subst, inl, ◌∙◌, arith}
+use Rattle.rdf_driver.specs.declared.summary.Summary.{Summary}
+use Rattle.rdf_stream.specs.Checks.{IsAccepted}
+use Rattle.rdf_stream.specs.Devices.{AppendsFront, Reading, Written}
 use Rattle.rdf_stream.specs.Jobs.{JobRead}
+use Rattle.rdf_stream.specs.Languages.{language_of}
 use Rattle.rdf_stream.specs.declared.fault.StreamFault.{StreamFault}
 use Rattle.rdf_stream.specs.declared.fault.StreamFault.TheVariants.{Refused, Read, Write, Memory}
 use Rattle.rdf_command.specs.declared.task.Task.{Task}
-use Rattle.rdf_command.specs.Runs.{Does, HandsOver, RunEnds, SendsOn, StartsWith, StopsAction, job_of}
+use Rattle.rdf_command.specs.Runs.{Does, HandsOver, RunEnds, SendsOn, StartsWith, StopsAction, accepted_text, job_of}
 use Rattle.rdf_command.specs.Statuses.{ReportsFault, status_of}
 
 some_status : (fault : StreamFault) → status_of fault ≡ 0 → ⊥
@@ -44,3 +47,10 @@ module _ (t : Task) (prefixes : Option (Option (List ℕ))) (left : Option Readi
           prompt_so,
         ),
       )
+
+-- the line about an accepted document, of which a beginning was written
+pub front_told : (known : Option (List ℕ)) (job : JobRead) (s : Summary) (front text : List ℕ) (old new : Option (List ℕ)) → IfSome known (λ bytes. IsAccepted (language_of job) bytes s)
+    → text ≡ front ++ accepted_text s → AppendsFront old new text
+    → IfSome known (λ bytes. (x : Summary) × IsAccepted (language_of job) bytes x × AppendsFront old new (front ++ accepted_text x))
+front_told None job s front text old new accepted is written = tt
+front_told (Some bytes) job s front text old new accepted is written = (s, accepted, subst (AppendsFront old new) is written)

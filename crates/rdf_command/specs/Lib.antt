@@ -2,4 +2,5 @@
 pub mod Words
 pub mod Statuses
 pub mod Runs
+pub mod Several
 pub mod Programs

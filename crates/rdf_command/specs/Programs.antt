@@ -1,18 +1,22 @@
 -- What the whole program does, over what it is started with: words, standard input and files, as the program's host says.
-use Rattle.std.specs.Prelude.{◌≡◌, ◌⊎◌, ℕ, List, codes, Option, Some, None, option_map, ⊤}
+use Rattle.std.specs.Prelude.{◌≡◌, ◌⊎◌, ℕ, List, [], ◌∷◌, codes, Option, Some, None, option_map, ⊤}
 use Rattle.std.specs.String.{string_bytes}
 use Rattle.clap.specs.Words.{Text}
 use Rattle.clap.specs.declared.builder.value_parser.ValueParser.{ValueParser}
 use Rattle.clap.specs.declared.error.kind.ErrorKind.TheVariants.{InvalidValue}
 use Rattle.rdf_stream.specs.Devices.{Written}
+use Rattle.rdf_stream.specs.declared.fault.LoadFault.{LoadFault}
+use Rattle.rdf_stream.specs.declared.form.Form.{Form}
 use Rattle.rdf_options.specs.Options.{rdfconv}
 use Rattle.rdf_command.specs.declared.host.Host as host
+use Rattle.rdf_command.specs.declared.task.Document.{Document}
 use Rattle.rdf_command.specs.declared.task.Task.{Task}
 use Rattle.rdf_command.specs.declared.task.WordsFault.{WordsFault}
 use Rattle.rdf_command.specs.declared.task.WordsFault.TheVariants.{Memory}
 use Rattle.rdf_command.specs.Runs.{FilesRead, RunEnds}
-use Rattle.rdf_command.specs.Statuses.{GoesTo, RefusesWords, Reports}
-use Rattle.rdf_command.specs.Words.{GivesNone, GivesTask, IsUsageOf, TakesFormats}
+use Rattle.rdf_command.specs.Several.{EndsEach, GivesBindings, GivesNoBindings}
+use Rattle.rdf_command.specs.Statuses.{GoesTo, RefusesWords, Reports, ReportsLoad, load_status}
+use Rattle.rdf_command.specs.Words.{GivesNone, GivesTask, IsUsageOf, TakesFormats, further_of, name_by}
 
 -- These words give the task, as the command line of the program defines it.
 abbrev pub IsTaskOf : List Text → Task → Type 0
@@ -61,12 +65,55 @@ pub record IsNotOpen (is_shut : Text → Type 0) (t : Task) (status : ℕ) (out_
 
 -- What the task names was read, the file of bindings where there is one, and the document, its file or else standard input; and the run of the
 -- task ended so, with the files given back. Or a file did not open.
-abbrev pub TaskEnds : (Option Text → Option (List ℕ) → Type 0) → (Text → Type 0) → Task → Option FilesRead → ℕ
+abbrev pub OneEnds : (Option Text → Option (List ℕ) → Type 0) → (Text → Type 0) → Task → Option FilesRead → ℕ
     → Option (List ℕ) → Written → Option (List ℕ) → Written → Type 0
-TaskEnds has_document is_shut t files status out_old out err_old err =
+OneEnds has_document is_shut t files status out_old out err_old err =
     ((prefixes : Option (Option (List ℕ))) × (known : Option (List ℕ)) × (left : FilesRead) × HasPrefixes has_document (prefixes_of t) prefixes
     × has_document (file_of t) known × (files ≡ Some left) × RunEnds t prefixes known left status out_old out err_old err)
     ⊎ IsNotOpen is_shut t status out_old out err_old err
+
+-- all documents of a task, each with its format and its name
+abbrev pub documents_of : Task → List (Form × Text)
+documents_of t = (t.form, name_by (file_of t)) ∷ further_of t.more.items
+
+-- The file of bindings was read, where there is one, and the documents were checked in turn.
+pub record ChecksEach (has_document : Option Text → Option (List ℕ) → Type 0) (is_shut : Text → Type 0) (t : Task) (status : ℕ)
+    (out_old : Option (List ℕ)) (out : Written) (err_old : Option (List ℕ)) (err : Written) : Type 0 where
+  pub prefixes : Option (Option (List ℕ))
+  pub opened : HasPrefixes has_document (prefixes_of t) prefixes
+  pub bytes : Option (List ℕ)
+  pub given : GivesBindings t.limits prefixes bytes
+  pub ends : EndsEach has_document is_shut (record { base = t.base; limits = t.limits; prefixes = bytes }) (documents_of t) 0 status out_old out err_old err
+
+-- The file of bindings gave none, which the status and the text on the error output say, and no document was read.
+pub record ChecksNone (has_document : Option Text → Option (List ℕ) → Type 0) (t : Task) (status : ℕ) (out_old : Option (List ℕ)) (out : Written)
+    (err_old : Option (List ℕ)) (err : Written) : Type 0 where
+  pub prefixes : Option (Option (List ℕ))
+  pub opened : HasPrefixes has_document (prefixes_of t) prefixes
+  pub fault : LoadFault
+  pub none : GivesNoBindings fault t.limits prefixes
+  pub status_is : status ≡ load_status fault
+  pub unwritten : out.contents ≡ out_old
+  pub reported : ReportsLoad fault err_old err.contents err.has_failed
+
+-- how a check of several documents ends
+abbrev pub SeveralEnd : (Option Text → Option (List ℕ) → Type 0) → (Text → Type 0) → Task → ℕ
+    → Option (List ℕ) → Written → Option (List ℕ) → Written → Type 0
+SeveralEnd has_document is_shut t status out_old out err_old err =
+    ChecksEach has_document is_shut t status out_old out err_old err
+    ⊎ (ChecksNone has_document t status out_old out err_old err ⊎ IsNotOpen is_shut t status out_old out err_old err)
+
+-- By the documents after the first: without any the task is run over its document, and else each is checked, and no file is given back.
+abbrev pub EndsBy : List Document → (Option Text → Option (List ℕ) → Type 0) → (Text → Type 0) → Task → Option FilesRead → ℕ
+    → Option (List ℕ) → Written → Option (List ℕ) → Written → Type 0
+EndsBy [] has_document is_shut t files status out_old out err_old err = OneEnds has_document is_shut t files status out_old out err_old err
+EndsBy (d ∷ ds) has_document is_shut t files status out_old out err_old err =
+    (files ≡ None) × SeveralEnd has_document is_shut t status out_old out err_old err
+
+-- how a task ends
+abbrev pub TaskEnds : (Option Text → Option (List ℕ) → Type 0) → (Text → Type 0) → Task → Option FilesRead → ℕ
+    → Option (List ℕ) → Written → Option (List ℕ) → Written → Type 0
+TaskEnds has_document is_shut t = EndsBy t.more.items has_document is_shut t
 
 -- The words give a task, which ended so; or they give none, which the status and the text on an output say.
 abbrev pub ProgramEnds : (List Text → Type 0) → Type 0 → (Option Text → Option (List ℕ) → Type 0) → (Text → Type 0) → Option FilesRead → ℕ

@@ -52,9 +52,18 @@ pub record AreFresh {I : Type 0} (has_ended has_failed : I → Bool) (files : Fi
 abbrev pub accepted_text : Summary → List ℕ
 accepted_text s = codes "accepted, " ++ decimal s.quads ++ codes " quads, " ++ decimal s.bytes ++ codes " bytes\n"
 
--- The bytes are a document within the limits, and the line that counts what is in it was written.
+-- what stands in front of a line about a document: nothing, or its name, a colon and a space
+abbrev pub front_of : Option (List ℕ) → List ℕ
+front_of None = []
+front_of (Some name) = name ++ codes ": "
+
+-- The bytes are a document within the limits, and the line that counts what is in it was written, with its name in front if it has one.
+abbrev pub IsCheckedAs : Option (List ℕ) → JobRead → List ℕ → Option (List ℕ) → Option (List ℕ) → Type 0
+IsCheckedAs name job bytes old new = (s : Summary) × IsAccepted (language_of job) bytes s × Appends old new (front_of name ++ accepted_text s)
+
+-- the same without a name
 abbrev pub IsChecked : JobRead → List ℕ → Option (List ℕ) → Option (List ℕ) → Type 0
-IsChecked job bytes old new = (s : Summary) × IsAccepted (language_of job) bytes s × Appends old new (accepted_text s)
+IsChecked = IsCheckedAs None
 
 -- Memory was refused: while the document was read, or for the line that counts what is in it.
 abbrev pub LacksMemory : JobRead → Option (List ℕ) → Reading → Type 0
@@ -62,11 +71,15 @@ LacksMemory job known left =
     CheckStops Memory (language_of job) known left ⊎ IfSome known (λ bytes. (s : Summary) × IsAccepted (language_of job) bytes s)
 
 -- Why a check stopped. The line was not written, but for a beginning where the drain failed.
+abbrev pub StopsCheckAs : Option (List ℕ) → StreamFault → JobRead → Option (List ℕ) → Reading → Option (List ℕ) → Option (List ℕ) → Bool → Type 0
+StopsCheckAs name Write job known left old new write_failed =
+    (write_failed ≡ true) × IfSome known (λ bytes. (s : Summary) × IsAccepted (language_of job) bytes s × AppendsFront old new (front_of name ++ accepted_text s))
+StopsCheckAs name Memory job known left old new write_failed = LacksMemory job known left × (new ≡ old)
+StopsCheckAs name fault job known left old new write_failed = CheckStops fault (language_of job) known left × (new ≡ old)
+
+-- the same of the line without a name
 abbrev pub StopsCheck : StreamFault → JobRead → Option (List ℕ) → Reading → Option (List ℕ) → Option (List ℕ) → Bool → Type 0
-StopsCheck Write job known left old new write_failed =
-    (write_failed ≡ true) × IfSome known (λ bytes. (s : Summary) × IsAccepted (language_of job) bytes s × AppendsFront old new (accepted_text s))
-StopsCheck Memory job known left old new write_failed = LacksMemory job known left × (new ≡ old)
-StopsCheck fault job known left old new write_failed = CheckStops fault (language_of job) known left × (new ≡ old)
+StopsCheck = StopsCheckAs None
 
 -- what an accepted document brings
 abbrev pub Does : Action → JobRead → List ℕ → Option (List ℕ) → Option (List ℕ) → Type 0

@@ -1,11 +1,12 @@
 -- The status that the program exits with, and the texts that it writes.
 use Rattle.std.specs.Prelude.{◌≡◌, ◌≢◌, ◌⊎◌, ℕ, Bool, false, List, ◌++◌, Option, codes, decimal}
 use Rattle.std.specs.Io.KnownBytes.{Appends}
+use Rattle.std.specs.String.{string_bytes}
 use Rattle.clap.specs.Words.{kind_of}
 use Rattle.clap.specs.declared.error.kind.ErrorKind.{ErrorKind}
 use Rattle.clap.specs.declared.error.kind.ErrorKind.TheVariants.{DisplayHelp, DisplayVersion}
 use Rattle.rdf_stream.specs.Devices.{AppendsFront}
-use Rattle.rdf_stream.specs.Messages.{report_text}
+use Rattle.rdf_stream.specs.Messages.{fault_text, report_text}
 use Rattle.rdf_stream.specs.declared.fault.LoadFault.{LoadFault}
 use Rattle.rdf_stream.specs.declared.fault.LoadFault.TheVariants as load
 use Rattle.rdf_stream.specs.declared.fault.LoadFault.TheVariants.{Bad}
@@ -24,6 +25,18 @@ status_of Memory = 4
 -- The text is written to a device, or a beginning of it, where the device failed.
 abbrev pub Reports : List ℕ → Option (List ℕ) → Option (List ℕ) → Bool → Type 0
 Reports text old new failed = AppendsFront old new text × (failed ≡ false → Appends old new text)
+
+-- a text about the document of this name; it takes memory, and where that is refused, want of memory is reported in its place
+abbrev pub ReportsOf : List ℕ → List ℕ → Option (List ℕ) → Option (List ℕ) → Bool → Type 0
+ReportsOf name text old new failed = Reports (name ++ codes ": " ++ text) old new failed ⊎ Reports (report_text Memory) old new failed
+
+-- what is reported of the fault of the document of this name
+abbrev pub ReportsFaultOf : List ℕ → StreamFault → Option (List ℕ) → Option (List ℕ) → Bool → Type 0
+ReportsFaultOf name fault old new failed = ReportsOf name (fault_text fault ++ codes "\n") old new failed
+
+-- the line that reports a document whose name ends in no format
+abbrev pub no_format_text : List ℕ → List ℕ
+no_format_text name = codes "rdfconv: no format in the name " ++ name ++ codes "\n"
 
 -- the line that reports a bad line of a file of bindings
 abbrev pub prefixes_text : ℕ → List ℕ
@@ -54,11 +67,13 @@ IsAskedFor kind = (kind ≡ DisplayHelp) ⊎ (kind ≡ DisplayVersion)
 abbrev pub IsUsageStatus : ErrorKind → ℕ → Type 0
 IsUsageStatus kind status = (IsAskedFor kind → status ≡ 0) × (kind ≢ DisplayHelp → kind ≢ DisplayVersion → status ≡ 2)
 
--- the status of words that are no task, and the text that is reported where it is no text of clap's
+-- The status of words that are no task, and the text that is reported where it is no text of clap's. The line about a name takes memory, and nothing is
+-- reported where that is refused.
 abbrev pub RefusesWords : WordsFault → ℕ → Option (List ℕ) → Option (List ℕ) → Bool → Type 0
 RefusesWords (words.Usage e) status old new failed = IsUsageStatus (kind_of e) status
 RefusesWords words.BadBase status old new failed = (status ≡ 2) × Reports (codes "rdfconv: bad base\n") old new failed
 RefusesWords words.BadNodePrefix status old new failed = (status ≡ 2) × Reports (codes "rdfconv: bad node prefix\n") old new failed
+RefusesWords (words.NoFormat name) status old new failed = (status ≡ 2) × (Reports (no_format_text (string_bytes name)) old new failed ⊎ (new ≡ old))
 RefusesWords words.Memory status old new failed = (status ≡ 4) × Reports (report_text Memory) old new failed
 
 -- help and the version change the output alone, and all else the error output alone

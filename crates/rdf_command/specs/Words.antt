@@ -1,10 +1,10 @@
 -- The task that the words of the command line ask for.
-use Rattle.std.specs.Prelude.{◌≡◌, ◌≢◌, ◌∷◌, ◌≤◌, ◌^◌, ℕ, List, [], Option, Some, None, bytes_eq, codes, cond, length, map, option_map, IfSome}
+use Rattle.std.specs.Prelude.{◌≡◌, ◌≢◌, ◌⊎◌, ◌∷◌, ◌++◌, ◌≤◌, ◌^◌, ℕ, List, [], Option, Some, None, bytes_eq, codes, cond, drop, length, map, option_map, unwrap_or, IfSome}
 use Rattle.std.specs.Borrow.{Bor}
 use Rattle.std.specs.Str.{chars}
 use Rattle.std.specs.Str.Parse.{digits_value, without_leading_plus}
 use Rattle.std.specs.String.{string_bytes}
-use Rattle.clap.specs.Words.{App, IsAmong, IsUnsignedIn, Row, Text, fault_of, first_of, kind_of, subcommand_of}
+use Rattle.clap.specs.Words.{App, IsAmong, IsUnsignedIn, Row, Text, all_of, fault_of, first_of, kind_of, subcommand_of}
 use Rattle.clap.specs.Walk.{texts}
 use Rattle.clap.specs.declared.builder.value_parser.ValueParser.{ValueParser}
 use Rattle.clap.specs.declared.builder.value_parser.ValueParser.TheVariants.{Names}
@@ -20,9 +20,10 @@ use Rattle.rdf_stream.specs.declared.form.Form.{Form}
 use Rattle.rdf_stream.specs.declared.form.Form.TheVariants.{NTriples, NQuads, Turtle, TriG}
 use Rattle.rdf_command.specs.declared.task.Action.{Action}
 use Rattle.rdf_command.specs.declared.task.Action.TheVariants.{Check, Show, Convert}
+use Rattle.rdf_command.specs.declared.task.Document.{Document}
 use Rattle.rdf_command.specs.declared.task.Task.{Task}
 use Rattle.rdf_command.specs.declared.task.WordsFault.{WordsFault}
-use Rattle.rdf_command.specs.declared.task.WordsFault.TheVariants.{Usage, BadBase, BadNodePrefix, Memory}
+use Rattle.rdf_command.specs.declared.task.WordsFault.TheVariants.{Usage, BadBase, BadNodePrefix, NoFormat, Memory}
 
 -- ---- names
 
@@ -37,9 +38,13 @@ form_name TriG = codes "trig"
 abbrev pub forms : List Form
 forms = NTriples ∷ NQuads ∷ Turtle ∷ TriG ∷ []
 
+-- the value of --format that asks for the format that a file's name ends in
+abbrev pub by_name : Text
+by_name = codes "name"
+
 -- the values that --format takes, in the order in which help lists them
 abbrev pub format_names : List Text
-format_names = map form_name forms
+format_names = map form_name forms ++ by_name ∷ []
 
 -- the subcommand that asks for an action
 abbrev pub action_name : Action → Text
@@ -72,10 +77,14 @@ pub record HasLimits (rows : List Row) : Type 0 where
   pub bindings : HasNumber (codes "bindings") 0 (2 ^ 24) rows
   pub iri : HasNumber (codes "iri") 1 (2 ^ 28) rows
 
+-- a value that --format takes
+abbrev pub IsFormatWord : Text → Type 0
+IsFormatWord word = ((f : Form) × (form_name f ≡ word)) ⊎ (word ≡ by_name)
+
 -- what holds of each parse that finds no fault
 pub record IsEntered (p : Entered) : Type 0 where
   pub action : (a : Action) × (action_name a ≡ p.0)
-  pub form : (f : Form) × (first_of (codes "format") p.1 ≡ Some (form_name f))
+  pub format : (word : Text) × (first_of (codes "format") p.1 ≡ Some word) × IsFormatWord word
   pub limits : HasLimits p.1
 
 -- ---- the task
@@ -89,6 +98,14 @@ pub record IsBase (most : ℕ) (text : Text) : Type 0 where
 pub record IsWord (text : Text) : Type 0 where
   pub word : IsNodePrefix (chars text)
   pub some : text ≢ []
+
+-- the name ends in a dot and the name of the format
+abbrev pub EndsIn : Text → Form → Type 0
+EndsIn name f = (front : Text) × (name ≡ front ++ codes "." ++ form_name f)
+
+-- the format of a document of this name, by the value of --format: the one that it names, or the one that the document's name ends in
+abbrev pub IsFormBy : Text → Text → Form → Type 0
+IsFormBy word name f = (form_name f ≡ word) ⊎ ((word ≡ by_name) × EndsIn name f)
 
 -- the limits are the numbers of their options
 pub record HasSizes (rows : List Row) (sizes : Sizes) : Type 0 where
@@ -107,10 +124,35 @@ abbrev pub file_by : Option Text → Option Text
 file_by None = None
 file_by (Some text) = cond (bytes_eq text (codes "-")) None (Some text)
 
+-- the name of a document by the word for it: the word, or a hyphen where there is none
+abbrev pub name_by : Option Text → Text
+name_by word = unwrap_or word (codes "-")
+
+-- the words for the documents of a subcommand after the first; `check` alone takes more than one
+abbrev pub further_by : Text → Option (List Text) → List Text
+further_by name words = cond (bytes_eq name (codes "check")) (drop 1 (unwrap_or words [])) []
+
+-- a document that is checked after the first: its format, and the word for it
+abbrev pub further_of : List Document → List (Form × Text)
+further_of = map (λ d. (d.form, string_bytes d.name))
+
+-- each word is the name of the document at its place, whose format is that of its name by the value of --format
+abbrev pub AreDocuments : Text → List Text → List (Form × Text) → Type 0
+AreDocuments word [] [] = Unit {0}
+AreDocuments word (name ∷ names) (d ∷ ds) = (IsFormBy word name d.0 × (d.1 ≡ name)) × AreDocuments word names ds
+AreDocuments word names ds = ⊥
+
+-- the formats are those of the documents by the value of --format
+pub record HasForms (p : Entered) (t : Task) : Type 0 where
+  pub word : Text
+  pub given : first_of (codes "format") p.1 ≡ Some word
+  pub form : IsFormBy word (name_by (first_of (codes "file") p.1)) t.form
+  pub more : AreDocuments word (further_by p.0 (all_of (codes "file") p.1)) (further_of t.more.items)
+
 -- each field of the task is what the subcommand's name and matches give
 pub record IsTaskBy (p : Entered) (t : Task) : Type 0 where
   pub action : action_name t.action ≡ p.0
-  pub form : first_of (codes "format") p.1 ≡ Some (form_name t.form)
+  pub forms : HasForms p t
   pub base : t.base ≡ option_map chars (first_of (codes "base") p.1)
   pub good_base : IfSome (first_of (codes "base") p.1) (IsBase t.limits.iri)
   pub limits : HasSizes p.1 t.limits
@@ -129,11 +171,40 @@ HasBadBase p = (text : Text) × (most : ℕ) × (first_of (codes "base") p.1 ≡
 abbrev pub HasBadNodePrefix : Entered → Type 0
 HasBadNodePrefix p = (text : Text) × (first_of (codes "node-prefix") p.1 ≡ Some text) × (IsWord text → ⊥)
 
+-- a document of this name has no format by the value of --format: it is to be the one that the name ends in, and it ends in none
+abbrev pub IsFormless : Text → Text → Type 0
+IsFormless word name = (word ≡ by_name) × ((f : Form) → EndsIn name f → ⊥)
+
+-- among the matches is a document of this name that has no format by the value of --format among them
+pub record HasFormless (p : Entered) (name : Text) : Type 0 where
+  pub word : Text
+  pub given : first_of (codes "format") p.1 ≡ Some word
+  pub formless : IsFormless word name
+  pub named : (name ≡ name_by (first_of (codes "file") p.1))
+      ⊎ ((front rest : List Text) × (further_by p.0 (all_of (codes "file") p.1) ≡ front ++ name ∷ rest))
+
+-- why a document of this name has no format
+abbrev pub NoFormOf : Text → Text → WordsFault → Type 0
+NoFormOf word name (Usage e) = ⊥
+NoFormOf word name BadBase = ⊥
+NoFormOf word name BadNodePrefix = ⊥
+NoFormOf word name (NoFormat at) = (string_bytes at ≡ name) × IsFormless word name
+NoFormOf word name Memory = Unit
+
+-- why one of the documents of these names has no format
+abbrev pub NoFormsOf : Text → List Text → WordsFault → Type 0
+NoFormsOf word names (Usage e) = ⊥
+NoFormsOf word names BadBase = ⊥
+NoFormsOf word names BadNodePrefix = ⊥
+NoFormsOf word names (NoFormat at) = IsFormless word (string_bytes at) × ((front rest : List Text) × (names ≡ front ++ string_bytes at ∷ rest))
+NoFormsOf word names Memory = Unit
+
 -- why a text gives no base
 abbrev pub NoBaseOf : ℕ → Option Text → WordsFault → Type 0
 NoBaseOf most base (Usage e) = ⊥
 NoBaseOf most base BadBase = (text : Text) × (base ≡ Some text) × (IsBase most text → ⊥)
 NoBaseOf most base BadNodePrefix = ⊥
+NoBaseOf most base (NoFormat at) = ⊥
 NoBaseOf most base Memory = Unit
 
 -- why a text gives no word
@@ -141,6 +212,7 @@ abbrev pub NoWordOf : Option Text → WordsFault → Type 0
 NoWordOf word (Usage e) = ⊥
 NoWordOf word BadBase = ⊥
 NoWordOf word BadNodePrefix = (text : Text) × (word ≡ Some text) × (IsWord text → ⊥)
+NoWordOf word (NoFormat at) = ⊥
 NoWordOf word Memory = Unit
 
 -- why matches give no task
@@ -148,9 +220,10 @@ abbrev pub NoTaskBy : Entered → WordsFault → Type 0
 NoTaskBy p (Usage e) = ⊥
 NoTaskBy p BadBase = HasBadBase p
 NoTaskBy p BadNodePrefix = HasBadNodePrefix p
+NoTaskBy p (NoFormat name) = HasFormless p (string_bytes name)
 NoTaskBy p Memory = Unit
 
--- the parser takes these names of formats and no others
+-- the parser takes these words for formats and no others
 abbrev pub TakesFormats : ValueParser → Type 0
 TakesFormats parser = (names : Bor (List (Bor Text))) × (parser ≡ Names names) × (texts names.now ≡ format_names)
 
@@ -165,11 +238,13 @@ pub record Gives (a : App) (words : List Text) (P : Entered → Type 0) : Type 0
 abbrev pub GivesTask : App → List Text → Task → Type 0
 GivesTask a words t = Gives a words (λ p. IsTaskBy p t)
 
--- Why the words give no task: clap's definition refuses them, or asks for help, with a kind that it names; or the base or the word for names is bad.
+-- Why the words give no task: clap's definition refuses them, or asks for help, with a kind that it names; or the base or the word for names is bad, or
+-- a document has no format.
 abbrev pub GivesNone : App → List Text → WordsFault → Type 0
 GivesNone a words (Usage e) = (kind_of e ≢ OutOfMemory) × IsAmong (kind_of e) (fault_of a words)
 GivesNone a words BadBase = Gives a words HasBadBase
 GivesNone a words BadNodePrefix = Gives a words HasBadNodePrefix
+GivesNone a words (NoFormat name) = Gives a words (λ p. HasFormless p (string_bytes name))
 GivesNone a words Memory = Unit
 
 -- the fault of an error of clap, by its kind
@@ -182,4 +257,5 @@ abbrev pub IsUsageOf : ErrorKind → WordsFault → Type 0
 IsUsageOf kind (Usage e) = kind_of e ≡ kind
 IsUsageOf kind BadBase = ⊥
 IsUsageOf kind BadNodePrefix = ⊥
+IsUsageOf kind (NoFormat name) = ⊥
 IsUsageOf kind Memory = Unit

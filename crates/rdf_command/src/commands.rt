@@ -1,7 +1,7 @@
 // The task that the words of the command line ask for.
 
 ghost use Rattle.std.specs.Prelude.{◌≡◌, ◌⊎◌, ◌<◌, ◌≤◌, ◌^◌, IfErr, IfOk, IfSome, OnOk, Some, Option, chars, codes, cond, map, option_map, string_bytes, ℕ, List};
-ghost use Rattle.clap.specs.Words.{App, Text, first_of, found_of, kind_of, rows_of, subcommand_rows_of};
+ghost use Rattle.clap.specs.Words.{App, Text, all_of, first_of, found_of, kind_of, rows_of, subcommand_rows_of};
 ghost use Rattle.clap.specs.declared.builder.value_parser.ValueParser.{ValueParser};
 ghost use Rattle.clap.specs.declared.builder.value_parser.ValueParser.TheVariants.{Names};
 ghost use Rattle.rdf_iri.specs.Scope.{BaseFits};
@@ -9,14 +9,14 @@ ghost use Rattle.rdf_lines.specs.declared.form.Escapes.TheVariants.{Ascii, Plain
 ghost use Rattle.rdf_iri.specs.Texts.{byte_len};
 ghost use Rattle.rdf_options.specs.Options.{rdfconv};
 ghost use Rattle.rdf_command.specs.Programs.{IsTaskOf, IsNoTaskOf};
-ghost use Rattle.rdf_command.specs.Words.{Entered, GivesNone, GivesTask, HasLimits, HasNumber, HasSizes, IsBase, IsEntered, IsTaskBy, IsUsageOf, IsWord, NoBaseOf, NoTaskBy, NoWordOf, TakesFormats, escapes_by, file_by, format_names, number_of};
+ghost use Rattle.rdf_command.specs.Words.{Entered, GivesNone, GivesTask, HasLimits, HasNumber, HasSizes, IsBase, IsEntered, IsTaskBy, IsUsageOf, IsWord, NoBaseOf, NoFormOf, NoFormsOf, NoTaskBy, NoWordOf, TakesFormats, AreDocuments, IsFormBy, IsFormatWord, escapes_by, file_by, format_names, further_by, further_of, name_by, number_of};
 
-use crate::names::{FORMATS, action_of, form_of};
-use crate::task::{Task, WordsFault};
+use crate::names::{FORMATS, action_of, form_by};
+use crate::task::{Document, Task, WordsFault};
 use clap::error::ErrorKind;
 use clap::{ArgMatches, Error};
 use rdf_options::program;
-use rdf_stream::{Escapes, Iri, Limits, NodePrefix, TermFault};
+use rdf_stream::{Escapes, Form, Iri, Limits, NodePrefix, TermFault};
 use std::alloc::{AllocError, Global};
 
 /// The task that the words ask for. The first word is the program's name.
@@ -72,13 +72,15 @@ fn task_of(alloc: Global, name: &str, found: &ArgMatches<'_>) -> Result<Task, Wo
     ensures refused { IfErr result (NoTaskBy (name.now, rows_of (found_of found.now))) }
 {
     let action = action_of(name);
-    let form = form_of(found.get_str("format").unwrap());
+    let word = found.get_str("format").unwrap();
+    let form = form_in(alloc, word, name_by(found.get_str("file")))?;
     let limits = limits_of(found);
     let base = base_of(alloc, found.get_str("base"), limits.iri())?;
     let escapes = escapes_by(found.get_str("ascii"));
     let node_prefix = node_prefix_of(alloc, found.get_str("node-prefix"))?;
     let prefixes = owned(alloc, found.get_str("prefixes"))?;
     let file = owned(alloc, file_by(found.get_str("file")))?;
+    let more = documents_of(alloc, word, further_by(name, found.get_strs("file")))?;
     Ok(Task {
         action,
         form,
@@ -88,7 +90,68 @@ fn task_of(alloc: Global, name: &str, found: &ArgMatches<'_>) -> Result<Task, Wo
         node_prefix,
         prefixes,
         file,
+        more,
     })
+}
+
+// The word for a document, a hyphen where there is none.
+fn name_by(word: Option<&str>) -> &str
+    ensures { result.now ≡ name_by (option_map (λ s. s.now) word.entry) }
+{
+    match word {
+        Some(word) => word,
+        None => "-",
+    }
+}
+
+// The words for documents of this subcommand after the first.
+fn further_by<'a>(name: &str, words: Option<&'a [&'a str]>) -> &'a [&'a str]
+    ensures { map (λ s. s.now) result.now ≡ further_by name.now (option_map (λ s. map (λ v. v.now) s.now) words.entry) }
+{
+    match words {
+        Some(words) if name == "check" && !words.is_empty() => &words[1..],
+        _ => &[],
+    }
+}
+
+// The documents of these names, by a word for formats.
+fn documents_of(alloc: Global, word: &str, names: &[&str]) -> Result<Vec<Document>, WordsFault>
+    requires { IsFormatWord word.now }
+    ensures documents { IfOk result (λ ds. AreDocuments word.now (map (λ s. s.now) names.now) (further_of ds.items)) }
+    ensures refused { IfErr result (NoFormsOf word.now (map (λ s. s.now) names.now)) }
+{
+    let mut documents = Vec::new(alloc);
+    for name in names {
+        let document = document_of(alloc, word, name)?;
+        match documents.push(document) {
+            Ok(()) => {}
+            Err(_) => return Err(WordsFault::Memory),
+        }
+    }
+    Ok(documents)
+}
+
+fn document_of(alloc: Global, word: &str, name: &str) -> Result<Document, WordsFault>
+    requires { IsFormatWord word.now }
+    ensures form { IfOk result (λ d. IsFormBy word.now name.now d.form) }
+    ensures name { IfOk result (λ d. string_bytes d.name ≡ name.now) }
+    ensures refused { IfErr result (NoFormOf word.now name.now) }
+{
+    let form = form_in(alloc, word, name)?;
+    let name = String::from_str(alloc, name)?;
+    Ok(Document { form, name })
+}
+
+// The format of a document of this name, by a word for formats.
+fn form_in(alloc: Global, word: &str, name: &str) -> Result<Form, WordsFault>
+    requires { IsFormatWord word.now }
+    ensures form { IfOk result (IsFormBy word.now name.now) }
+    ensures refused { IfErr result (NoFormOf word.now name.now) }
+{
+    match form_by(word, name) {
+        Some(form) => Ok(form),
+        None => Err(WordsFault::NoFormat(String::from_str(alloc, name)?)),
+    }
 }
 
 // The file that a word names: none where there is no word, or where it is `-`, which stands for standard input.
@@ -101,7 +164,7 @@ fn file_by(text: Option<&str>) -> Option<&str>
     }
 }
 
-fn named(text: &str) -> Option<&str>
+pub(crate) fn named(text: &str) -> Option<&str>
     ensures { option_map (λ s. s.now) result ≡ file_by (Some text.now) }
 {
     if text == "-" { None } else { Some(text) }

@@ -3,12 +3,13 @@
 ghost use Rattle.std.specs.Prelude.{◌≡◌, ◌⊎◌, false, IfErr, IfOk, IfSome, List, map, OnErr, option_map, Some, string_bytes};
 ghost use Rattle.clap.specs.Words.{Text};
 ghost use Rattle.rdf_iri.specs.Scope.{BaseFits};
-ghost use Rattle.rdf_command.specs.Programs.{HasPrefixes, HostEnds, IsGiven, IsNotGiven, TaskEnds, file_of, prefixes_of};
+ghost use Rattle.rdf_command.specs.Programs.{HasPrefixes, HostEnds, IsGiven, IsNotGiven, OneEnds, TaskEnds, file_of, prefixes_of};
 ghost use Rattle.rdf_command.specs.Runs.{AreFresh, AsWritten, files_told};
 
 use crate::commands::{command_of, not_utf8};
 use crate::host::{Host, NoWords, NotOpen};
 use crate::runs::{Files, refuse_file, refuse_words, run};
+use crate::several::check_each;
 use crate::task::{Task, WordsFault};
 use rdf_stream::Drain;
 use std::alloc::{AllocError, Global};
@@ -18,11 +19,11 @@ use std::alloc::{AllocError, Global};
 pub struct Ended<I> {
     /// The status.
     pub status: u8,
-    /// What it read, where all that its task names was opened.
+    /// What it read, where its task names one document and all that it names was opened.
     pub files: Option<Files<I>>,
 }
 
-/// Does what the words ask for, and answers the status, with the files that it read.
+/// Does what the words ask for, and answers the status, with the files that it read for one document.
 pub fn start<H: Host, O: Drain, E: Drain>(
     alloc: Global,
     host: &H,
@@ -77,6 +78,29 @@ fn run_task<H: Host, O: Drain, E: Drain>(
     ensures { AsWritten (TaskEnds (H.has_document host.now) (H.is_shut host.now) task (option_map (files_told H.Input.Source) result.files) result.status)
         O.Drain E.Drain out.old out.new err.old err.new }
 {
+    if task.more.as_slice().is_empty() {
+        return run_one(alloc, task, host, out, err);
+    }
+    Ended {
+        status: check_each(alloc, &task, host, out, err),
+        files: None,
+    }
+}
+
+// Runs a task over its document, the only one.
+fn run_one<H: Host, O: Drain, E: Drain>(
+    alloc: Global,
+    task: Task,
+    host: &H,
+    out: &mut O,
+    err: &mut E,
+) -> Ended<H::Input>
+    requires base { BaseFits task.base task.limits }
+    requires out { O.has_failed out.old ≡ false }
+    requires err { E.has_failed err.old ≡ false }
+    ensures { AsWritten (OneEnds (H.has_document host.now) (H.is_shut host.now) task (option_map (files_told H.Input.Source) result.files) result.status)
+        O.Drain E.Drain out.old out.new err.old err.new }
+{
     match open_files(host, &task) {
         Ok(files) => {
             let mut files = files;
@@ -105,7 +129,8 @@ fn open_files<H: Host>(host: &H, task: &Task) -> Result<Files<H::Input>, NotOpen
     Ok(Files { prefixes, document })
 }
 
-fn open_prefixes<H: Host>(host: &H, task: &Task) -> Result<Option<H::Input>, NotOpen>
+/// Opens the file of bindings, where the task names one.
+pub fn open_prefixes<H: Host>(host: &H, task: &Task) -> Result<Option<H::Input>, NotOpen>
     ensures opened { IfOk result (λ prefixes. HasPrefixes (H.has_document host.now) (prefixes_of task.now) (option_map H.Input.remaining prefixes)) }
     ensures fresh { IfOk result (λ prefixes. IfSome prefixes (λ s. (H.Input.has_ended s ≡ false) × (H.Input.has_failed s ≡ false))) }
     ensures shut { OnErr result ((path : Text) × (prefixes_of task.now ≡ Some path) × H.is_shut host.now path) }

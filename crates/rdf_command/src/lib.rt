@@ -6,10 +6,11 @@ mod entry;
 mod host;
 mod names;
 mod runs;
+mod several;
 mod task;
 
 pub use commands::command_of;
 pub use entry::{Ended, start};
 pub use host::{Host, NoWords, NotOpen, Opened, Process};
 pub use runs::{Files, refuse_words, run};
-pub use task::{Action, Task, WordsFault};
+pub use task::{Action, Document, Task, WordsFault};

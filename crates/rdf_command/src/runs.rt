@@ -8,8 +8,8 @@ ghost use Rattle.rdf_stream.specs.Jobs.{word_of};
 ghost use Rattle.rdf_stream.specs.Messages.{report_text};
 ghost use Rattle.rdf_stream.specs.Told.{AsTold, told};
 ghost use Rattle.rdf_stream.specs.declared.fault.StreamFault.{StreamFault};
-ghost use Rattle.rdf_command.specs.Runs.{AreFresh, AsWritten, Does, HandsOver, IsChecked, IsJobOf, RunEnds, SendsOn, StartsNot, StopsAction, StopsCheck, accepted_text, files_told};
-ghost use Rattle.rdf_command.specs.Statuses.{GoesTo, RefusesWords, Reports, ReportsLoad, ReportsFault, load_status, prefixes_text, status_of};
+ghost use Rattle.rdf_command.specs.Runs.{AreFresh, AsWritten, Does, HandsOver, IsCheckedAs, IsJobOf, RunEnds, SendsOn, StartsNot, StopsAction, StopsCheckAs, accepted_text, files_told, front_of};
+ghost use Rattle.rdf_command.specs.Statuses.{GoesTo, RefusesWords, Reports, ReportsLoad, ReportsFault, ReportsFaultOf, ReportsOf, load_status, no_format_text, prefixes_text, status_of};
 
 use crate::task::{Action, Task, WordsFault};
 use clap::Error;
@@ -98,7 +98,7 @@ fn named(job: Job, prefix: Option<NodePrefix>) -> Job
 }
 
 /// The text and the status of a file of bindings that was not loaded.
-fn refuse_prefixes<E: Drain>(alloc: Global, fault: &LoadFault, err: &mut E) -> u8
+pub fn refuse_prefixes<E: Drain>(alloc: Global, fault: &LoadFault, err: &mut E) -> u8
     requires { E.has_failed err.old ≡ false }
     ensures status { result ≡ load_status fault.now }
     ensures reported { ReportsLoad fault.now (E.contents err.old) (E.contents err.new) (E.has_failed err.new) }
@@ -154,7 +154,7 @@ fn act<S: Source, O: Drain>(
     ensures prompt { HandsOver action job (S.remaining source.old) (told S.Source source.new) (O.contents out.old) (O.contents out.new) }
 {
     match action {
-        Action::Check => check_to(alloc, job, source, out),
+        Action::Check => check_to(alloc, job, None, source, out),
         Action::Show => match show(alloc, job, source, out) {
             Ok(_) => Ok(()),
             Err(fault) => Err(fault),
@@ -166,25 +166,26 @@ fn act<S: Source, O: Drain>(
     }
 }
 
-// Checks a document, and says what is in it.
-fn check_to<S: Source, O: Drain>(
+/// Checks a document, and says what is in it, with a name in front if there is one.
+pub fn check_to<S: Source, O: Drain>(
     alloc: Global,
     job: Job,
+    name: Option<&str>,
     source: &mut S,
     out: &mut O,
 ) -> Result<(), StreamFault>
     requires more { S.has_ended source.old ≡ false }
     requires source { S.has_failed source.old ≡ false }
     requires out { O.has_failed out.old ≡ false }
-    ensures accepted { OnOk result (IfSome (S.remaining source.old) (λ bytes. IsChecked job bytes (O.contents out.old) (O.contents out.new))) }
+    ensures accepted { OnOk result (IfSome (S.remaining source.old) (λ bytes. IsCheckedAs (option_map (λ s. s.now) name.entry) job bytes (O.contents out.old) (O.contents out.new))) }
     ensures flushed { OnOk result (O.is_flushed out.new ≡ true) }
-    ensures stops { IfErr result (λ fault. AsTold (StopsCheck fault job) S.Source O.Drain source.old source.new out.old out.new) }
+    ensures stops { IfErr result (λ fault. AsTold (StopsCheckAs (option_map (λ s. s.now) name.entry) fault job) S.Source O.Drain source.old source.new out.old out.new) }
 {
     let summary = match check(alloc, job, source) {
         Ok(summary) => summary,
         Err(fault) => return Err(fault),
     };
-    let text = match accepted_line(alloc, summary) {
+    let text = match accepted_line(alloc, name, summary) {
         Ok(text) => text,
         Err(AllocError) => return Err(StreamFault::Memory),
     };
@@ -194,17 +195,34 @@ fn check_to<S: Source, O: Drain>(
     }
 }
 
-fn accepted_line(alloc: Global, summary: Summary) -> Result<Vec<u8>, AllocError>
-    ensures { IfOk result (λ text. text.items ≡ accepted_text summary) }
+fn accepted_line(alloc: Global, name: Option<&str>, summary: Summary) -> Result<Vec<u8>, AllocError>
+    ensures { IfOk result (λ text. text.items ≡ front_of (option_map (λ s. s.now) name.entry) ++ accepted_text summary) }
 {
-    let mut text = Vec::new(alloc);
+    let mut text = front_of(alloc, name)?;
     put_accepted(summary, &mut text)?;
     Ok(text)
 }
 
+// What stands in front of the line about a document.
+fn front_of(alloc: Global, name: Option<&str>) -> Result<Vec<u8>, AllocError>
+    ensures { IfOk result (λ text. text.items ≡ front_of (option_map (λ s. s.now) name.entry)) }
+{
+    match name {
+        Some(name) => named_front(alloc, name),
+        None => Ok(Vec::new(alloc)),
+    }
+}
+
+fn named_front(alloc: Global, name: &str) -> Result<Vec<u8>, AllocError>
+    ensures { IfOk result (λ text. text.items ≡ name.now ++ codes ": ") }
+{
+    let mut text = Vec::from_slice(alloc, name.as_bytes())?;
+    text.extend_from_slice(b": ")?;
+    Ok(text)
+}
+
 fn put_accepted(summary: Summary, text: &mut Vec<u8>) -> Result<(), AllocError>
-    requires { text.old.items ≡ [] }
-    ensures { OnOk result (text.new.items ≡ accepted_text summary) }
+    ensures { OnOk result (text.new.items ≡ text.old.items ++ accepted_text summary) }
 {
     text.extend_from_slice(b"accepted, ")?;
     put_number(summary.quads, text)?;
@@ -231,7 +249,8 @@ fn write_out<O: Drain>(bytes: &[u8], out: &mut O) -> Result<(), Failed>
     out.flush()
 }
 
-fn status(fault: &StreamFault) -> u8
+/// The status of a fault.
+pub fn status(fault: &StreamFault) -> u8
     ensures { result ≡ status_of fault.now }
 {
     match fault {
@@ -284,6 +303,41 @@ fn tell_memory<E: Drain>(err: &mut E) -> u8
     4
 }
 
+/// Reports the fault of the document of this name.
+pub fn tell_fault_of<E: Drain>(alloc: Global, name: &str, fault: &StreamFault, err: &mut E)
+    requires { E.has_failed err.old ≡ false }
+    ensures { ReportsFaultOf name.now fault.now (E.contents err.old) (E.contents err.new) (E.has_failed err.new) }
+{
+    let mut line = Vec::new(alloc);
+    match report(alloc, fault, &mut line) {
+        Ok(()) => tell_of(alloc, name, &line[b"rdfconv: ".len()..], err),
+        Err(_) => {
+            tell_memory(err);
+        }
+    }
+}
+
+/// Reports a text about the document of this name, or want of memory where that is refused for the line.
+pub fn tell_of<E: Drain>(alloc: Global, name: &str, text: &[u8], err: &mut E)
+    requires { E.has_failed err.old ≡ false }
+    ensures { ReportsOf name.now text.now (E.contents err.old) (E.contents err.new) (E.has_failed err.new) }
+{
+    match line_of(alloc, name, text) {
+        Ok(line) => tell_bytes(line.as_slice(), err),
+        Err(AllocError) => {
+            tell_memory(err);
+        }
+    }
+}
+
+fn line_of(alloc: Global, name: &str, text: &[u8]) -> Result<Vec<u8>, AllocError>
+    ensures { IfOk result (λ line. line.items ≡ name.now ++ codes ": " ++ text.now) }
+{
+    let mut line = named_front(alloc, name)?;
+    line.extend_from_slice(text)?;
+    Ok(line)
+}
+
 /// The text and the status of words that are no task. Help goes to the output.
 pub fn refuse_words<O: Drain, E: Drain>(
     alloc: Global,
@@ -314,8 +368,23 @@ pub fn refuse_words<O: Drain, E: Drain>(
             tell("rdfconv: bad node prefix\n", err);
             2
         }
+        WordsFault::NoFormat(name) => {
+            if let Ok(line) = no_format_line(alloc, name.as_str()) {
+                tell_bytes(line.as_slice(), err);
+            }
+            2
+        }
         WordsFault::Memory => tell_memory(err),
     }
+}
+
+fn no_format_line(alloc: Global, name: &str) -> Result<Vec<u8>, AllocError>
+    ensures { IfOk result (λ line. line.items ≡ no_format_text name.now) }
+{
+    let mut line = Vec::from_slice(alloc, b"rdfconv: no format in the name ")?;
+    line.extend_from_slice(name.as_bytes())?;
+    line.extend_from_slice(b"\n")?;
+    Ok(line)
 }
 
 // Where memory for the text is refused, nothing is reported.

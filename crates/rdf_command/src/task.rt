@@ -21,6 +21,15 @@ pub enum Action {
     Convert,
 }
 
+/// A document that is checked after the first.
+#[derive(Drop)]
+pub struct Document {
+    /// The format.
+    pub form: Form,
+    /// The word for it: the name of its file, or `-` for standard input.
+    pub name: String,
+}
+
 /// A run of the program.
 #[derive(Drop)]
 pub struct Task {
@@ -40,6 +49,8 @@ pub struct Task {
     pub prefixes: Option<String>,
     /// The file that is read, or None for standard input.
     pub file: Option<String>,
+    /// The documents that are checked after this one, in the order of their words. No other action has any.
+    pub more: Vec<Document>,
 }
 
 /// Why the words are no task.
@@ -51,6 +62,8 @@ pub enum WordsFault {
     BadBase,
     /// The word for the names of nodes is empty, or has another character than ASCII letters and digits.
     BadNodePrefix,
+    /// The format is to be the one that a document's name ends in, and this name ends in none.
+    NoFormat(String),
     /// A growth of memory was refused.
     Memory,
 }

@@ -2,7 +2,7 @@
 use Rattle.std.specs.Prelude.{◌∷◌, ℕ, true, [], Some, codes}
 use Rattle.clap.specs.Words.{App, Rule, Text, new_app, new_rule, with_rule, with_subcommand}
 use Rattle.clap.specs.Simple.{on_top}
-use Rattle.clap.specs.declared.builder.action.ArgAction.TheVariants.{Set, SetTrue}
+use Rattle.clap.specs.declared.builder.action.ArgAction.TheVariants.{Append, Set, SetTrue}
 use Rattle.clap.specs.declared.builder.value_parser.ValueParser.{ValueParser}
 use Rattle.clap.specs.declared.builder.value_parser.ValueParser.TheVariants.{Unsigned}
 
@@ -15,7 +15,7 @@ option_rule id parser = record (new_rule id) {
   parser = Some parser;
 }
 
--- the format, which is TriG where nothing is said
+-- the format, or the word that asks for the one that a file's name ends in; it is TriG where nothing is said
 abbrev pub format_rule : ValueParser → Rule
 format_rule names = record (option_rule (codes "format") names) { defaults = codes "trig" ∷ [] }
 
@@ -47,15 +47,19 @@ iri_rule = limit_rule (codes "iri") 1 268435456 (codes "1048576")
 abbrev pub file_rule : Rule
 file_rule = record (new_rule (codes "file")) { action = Some Set; value_names = 1 }
 
+-- the files to read, each given by a word of its own; standard input is read where there is none
+abbrev pub files_rule : Rule
+files_rule = record (new_rule (codes "file")) { action = Some Append; value_names = 1 }
+
 -- the file of bindings
 abbrev pub prefixes_rule : Rule
 prefixes_rule = record (new_rule (codes "prefixes")) { long = Some (codes "prefixes"); action = Some Set; value_names = 1 }
 
--- a subcommand with the options that all have, where the parser takes the names of the formats
-abbrev pub action_app : ValueParser → Text → App
-action_app names action =
+-- a subcommand with the options that all have, where the parser takes the words for formats, and what it reads
+abbrev pub action_app : ValueParser → Rule → Text → App
+action_app names reads action =
     with_rule (with_rule (with_rule (with_rule (with_rule (with_rule (with_rule (new_app action)
-    (format_rule names)) base_rule) token_rule) depth_rule) bindings_rule) iri_rule) file_rule
+    (format_rule names)) base_rule) token_rule) depth_rule) bindings_rule) iri_rule) reads
 
 -- a subcommand that looks at prefixes
 abbrev pub with_prefixes : App → App
@@ -81,6 +85,6 @@ with_node_prefix a = with_rule a node_prefix_rule
 abbrev pub rdfconv : ValueParser → App
 rdfconv names = with_subcommand (with_subcommand (with_subcommand
     (on_top (λ s. record s { subcommand_required = true; has_version = true }) (new_app (codes "rdfconv")))
-    (with_prefixes (action_app names (codes "check"))).top)
-    (action_app names (codes "show")).top)
-    (with_node_prefix (with_ascii (with_prefixes (action_app names (codes "convert"))))).top
+    (with_prefixes (action_app names files_rule (codes "check"))).top)
+    (action_app names file_rule (codes "show")).top)
+    (with_node_prefix (with_ascii (with_prefixes (action_app names file_rule (codes "convert"))))).top

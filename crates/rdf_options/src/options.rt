@@ -1,10 +1,10 @@
 // The command line: its subcommands, their options, and what help says of them.
 
 ghost use Rattle.std.specs.Prelude.{◌≡◌, IfOk, codes};
-ghost use Rattle.clap.specs.Words.{App, app_of, with_subcommand};
+ghost use Rattle.clap.specs.Words.{App, Rule, app_of, with_subcommand};
 ghost use Rattle.clap.specs.declared.builder.value_parser.ValueParser.TheVariants.{Names};
 ghost use Rattle.rdf_options.specs.Building.{HasRule, ReadsAs};
-ghost use Rattle.rdf_options.specs.Options.{action_app, ascii_rule, base_rule, bindings_rule, depth_rule, file_rule, format_rule, iri_rule, limit_rule, node_prefix_rule, prefixes_rule, rdfconv, token_rule, with_ascii, with_node_prefix, with_prefixes};
+ghost use Rattle.rdf_options.specs.Options.{action_app, ascii_rule, base_rule, bindings_rule, depth_rule, file_rule, files_rule, format_rule, iri_rule, limit_rule, node_prefix_rule, prefixes_rule, rdfconv, token_rule, with_ascii, with_node_prefix, with_prefixes};
 
 use clap::builder::ValueParser;
 use clap::{Arg, ArgAction, Command};
@@ -14,7 +14,7 @@ use std::alloc::{AllocError, Global};
 const VERSION: &str = "1.0.0, proved with rattle-kit-13f logic dac8208d650f15bf";
 
 /// What the subcommands do.
-const CHECK: &str = "Read a document to its end, and count its quads and bytes";
+const CHECK: &str = "Read documents to their ends, and count the quads and bytes of each";
 
 const SHOW: &str = "Write a line for each token: its offset, its characters and its kind";
 
@@ -22,9 +22,10 @@ const CONVERT: &str = "Write the quads of a document as lines of N-Quads";
 
 /// What stands below the help of the program.
 const PROGRAM_NOTES: &str = "\
-Options of a command, which reads FILE, or standard input where there is none or it is `-`:
-  --format FORMAT  nt (N-Triples), nq (N-Quads), ttl (Turtle) or trig (TriG) [default: trig];
-                   it is not guessed from the file's name
+Options of a command, which reads FILE, or standard input where there is none or it is `-`.
+`check` takes several FILEs, and has a line for each, with its name in front:
+  --format FORMAT  nt (N-Triples), nq (N-Quads), ttl (Turtle), trig (TriG) [default: trig], or
+                   name: the one that the file's name ends in, as `.nt`; it is not guessed unasked
   --base IRI       absolute IRI that relative references start from, at most --iri bytes;
                    without one they are refused; line formats have none
   --token N        characters of one token, 1 to 268435456 [default: 16777216]
@@ -46,31 +47,52 @@ Exit status:
   0  accepted, or help was asked for
   1  refused, with `rdfconv: REASON at byte N, line M` on standard error
   2  the words are no command, the base is no IRI or too long, WORD is empty or has another
-     character, or a line of PREFIXES is refused, with `rdfconv: bad prefixes at line N`
+     character, a file's name ends in no format where it is asked for one, or a line of PREFIXES
+     is refused, with `rdfconv: bad prefixes at line N`
+  3  a file does not open, or a read or write failed
+  4  out of memory
+The status of several documents is the greatest of theirs.";
+
+/// What stands below the help of `check`.
+const CHECK_NOTES: &str = "\
+The format is not guessed from the file's name, unless it is asked for by `--format name`. Past one of the limits N a
+document is refused. Of several FILEs each has a line with its name in front, on standard output where it is accepted, and
+else on standard error; after a refusal the next is read. The status is the greatest of theirs.
+
+Exit status:
+  0  accepted, or help was asked for
+  1  refused, with `rdfconv: REASON at byte N, line M` on standard error
+  2  the words are no command, the base is no IRI or too long, a file's name ends in no format
+     where it is asked for one, or a line of PREFIXES is refused, with
+     `rdfconv: bad prefixes at line N`
   3  a file does not open, or a read or write failed
   4  out of memory";
 
-/// What stands below the help of `check` and of `convert`.
-const COMMAND_NOTES: &str = "\
-The format is not guessed from the file's name. Past one of the limits N a document is refused.
+/// What stands below the help of `convert`.
+const CONVERT_NOTES: &str = "\
+The format is not guessed from the file's name, unless it is asked for by `--format name`. Past one of the limits N a
+document is refused.
 
 Exit status:
   0  accepted, or help was asked for
   1  refused, with `rdfconv: REASON at byte N, line M` on standard error
   2  the words are no command, the base is no IRI or too long, WORD is empty or has another
-     character, or a line of PREFIXES is refused, with `rdfconv: bad prefixes at line N`
+     character, a file's name ends in no format where it is asked for one, or a line of PREFIXES
+     is refused, with `rdfconv: bad prefixes at line N`
   3  a file does not open, or a read or write failed
   4  out of memory";
 
 /// What stands below the help of `show`.
 const SHOW_NOTES: &str = "\
-The format is not guessed from the file's name. A token of more than --token characters is refused. Tokens alone are looked
-at: --base, --depth, --bindings and --iri have no use here, but a base that is no IRI, or is too long, is reported.
+The format is not guessed from the file's name, unless it is asked for by `--format name`. A token of more than --token
+characters is refused. Tokens alone are looked at: --base, --depth, --bindings and --iri have no use here, but a base
+that is no IRI, or is too long, is reported.
 
 Exit status:
   0  each token has its line, or help was asked for
   1  refused, with `rdfconv: REASON at byte N, line M` on standard error
-  2  the words are no command, or the base is no IRI or too long
+  2  the words are no command, the base is no IRI or too long, or the file's name ends in no
+     format where it is asked for one
   3  a file does not open, or a read or write failed
   4  out of memory";
 
@@ -85,7 +107,15 @@ struct Limit<'a> {
     help: &'a str,
 }
 
-/// The whole command line, where a format has one of these names.
+/// The name of a subcommand, and what its help says: of what it does, and below its options.
+#[derive(Clone, Copy)]
+struct About<'a> {
+    name: &'a str,
+    about: &'a str,
+    notes: &'a str,
+}
+
+/// The whole command line, where these are the words for formats.
 pub fn program<'a>(alloc: Global, formats: &'a [&'a str]) -> Result<Command<'a>, AllocError>
     ensures { IfOk result (λ c. app_of c ≡ rdfconv (Names formats.entry)) }
 {
@@ -94,11 +124,8 @@ pub fn program<'a>(alloc: Global, formats: &'a [&'a str]) -> Result<Command<'a>,
         .version(VERSION)
         .after_help(PROGRAM_NOTES)
         .subcommand_required(true);
-    let command = add_action(command, prefixed_command(alloc, "check", CHECK, formats))?;
-    let command = add_action(
-        command,
-        action_command(alloc, "show", SHOW, SHOW_NOTES, formats),
-    )?;
+    let command = add_action(command, check_command(alloc, formats))?;
+    let command = add_action(command, show_command(alloc, formats))?;
     add_action(command, convert_command(alloc, formats))
 }
 
@@ -115,36 +142,54 @@ fn add_action<'a>(
     }
 }
 
+// The subcommand that counts what documents bring.
+fn check_command<'a>(alloc: Global, formats: &'a [&'a str]) -> Result<Command<'a>, AllocError>
+    ensures { IfOk result (λ c. ReadsAs c (with_prefixes (action_app (Names formats.entry) files_rule (codes "check")))) }
+{
+    let about = About {
+        name: "check",
+        about: CHECK,
+        notes: CHECK_NOTES,
+    };
+    let command = action_command(alloc, about, formats, files_argument(alloc))?;
+    command.arg(prefixes_option(alloc))
+}
+
+// The subcommand that shows tokens.
+fn show_command<'a>(alloc: Global, formats: &'a [&'a str]) -> Result<Command<'a>, AllocError>
+    ensures { IfOk result (λ c. ReadsAs c (action_app (Names formats.entry) file_rule (codes "show"))) }
+{
+    let about = About {
+        name: "show",
+        about: SHOW,
+        notes: SHOW_NOTES,
+    };
+    action_command(alloc, about, formats, file_argument(alloc))
+}
+
 // The subcommand that writes quads.
 fn convert_command<'a>(alloc: Global, formats: &'a [&'a str]) -> Result<Command<'a>, AllocError>
-    ensures { IfOk result (λ c. ReadsAs c (with_node_prefix (with_ascii (with_prefixes (action_app (Names formats.entry) (codes "convert")))))) }
+    ensures { IfOk result (λ c. ReadsAs c (with_node_prefix (with_ascii (with_prefixes (action_app (Names formats.entry) file_rule (codes "convert")))))) }
 {
-    let command = prefixed_command(alloc, "convert", CONVERT, formats)?;
+    let about = About {
+        name: "convert",
+        about: CONVERT,
+        notes: CONVERT_NOTES,
+    };
+    let command = action_command(alloc, about, formats, file_argument(alloc))?;
+    let command = command.arg(prefixes_option(alloc))?;
     let command = command.arg(ascii_option(alloc))?;
     command.arg(node_prefix_option(alloc))
 }
 
-// A subcommand that looks at prefixes.
-fn prefixed_command<'a>(
-    alloc: Global,
-    name: &'a str,
-    about: &'a str,
-    formats: &'a [&'a str],
-) -> Result<Command<'a>, AllocError>
-    ensures { IfOk result (λ c. ReadsAs c (with_prefixes (action_app (Names formats.entry) name.now))) }
-{
-    let command = action_command(alloc, name, about, COMMAND_NOTES, formats)?;
-    command.arg(prefixes_option(alloc))
-}
-
+// A subcommand with the options that all have, and the argument of what it reads.
 fn action_command<'a>(
     alloc: Global,
-    name: &'a str,
-    about: &'a str,
-    notes: &'a str,
+    about: About<'a>,
     formats: &'a [&'a str],
+    reads: Arg<'a>,
 ) -> Result<Command<'a>, AllocError>
-    ensures { IfOk result (λ c. ReadsAs c (action_app (Names formats.entry) name.now)) }
+    ensures { (r : Rule) → HasRule reads.entry r → IfOk result (λ c. ReadsAs c (action_app (Names formats.entry) r about.entry.name.now)) }
 {
     let arguments = vec![in alloc;
         format_option(alloc, formats),
@@ -153,11 +198,11 @@ fn action_command<'a>(
         depth_option(alloc),
         bindings_option(alloc),
         iri_option(alloc),
-        file_argument(alloc),
+        reads,
     ]?;
-    Command::new(alloc, name)
-        .about(about)
-        .after_help(notes)
+    Command::new(alloc, about.name)
+        .about(about.about)
+        .after_help(about.notes)
         .args(arguments)
 }
 
@@ -168,7 +213,9 @@ fn format_option<'a>(alloc: Global, formats: &'a [&'a str]) -> Arg<'a>
         .long("format")
         .action(ArgAction::Set)
         .value_name("FORMAT")
-        .help("Format of the document: nt N-Triples, nq N-Quads, ttl Turtle, trig TriG")
+        .help(
+            "Format: nt N-Triples, nq N-Quads, ttl Turtle, trig TriG, name the one that the file's name ends in",
+        )
         .value_parser(formats)
         .default_value("trig")
 }
@@ -295,4 +342,13 @@ fn file_argument<'a>(alloc: Global) -> Arg<'a>
         .action(ArgAction::Set)
         .value_name("FILE")
         .help("Document to read; without one, or with `-`, standard input")
+}
+
+fn files_argument<'a>(alloc: Global) -> Arg<'a>
+    ensures { HasRule result files_rule }
+{
+    Arg::new(alloc, "file")
+        .action(ArgAction::Append)
+        .value_name("FILE")
+        .help("Documents to read; without one, or with `-`, standard input")
 }

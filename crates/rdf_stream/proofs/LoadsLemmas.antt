@@ -11,9 +11,9 @@ use Rattle.rdf_iri.specs.declared.fault.BindingReason.{BindingReason}
 use Rattle.rdf_iri.specs.declared.fault.BindingReason.TheVariants.{Memory as OutOfMemory, BadBinding, TokenTooLong, IriTooLong, TooManyBindings}
 use Rattle.rdf_iri.specs.declared.fault.BindingFault.{BindingFault}
 use Rattle.rdf_stream.specs.declared.fault.LoadFault.{LoadFault}
-use Rattle.rdf_stream.specs.declared.fault.LoadFault.TheVariants.{Read}
+use Rattle.rdf_stream.specs.declared.fault.LoadFault.TheVariants.{Bad, Memory, Read}
 use Rattle.rdf_stream.specs.Devices.{HasGiven, Reading}
-use Rattle.rdf_stream.specs.Loads.{HasGivenAll, LoadStops, ReadsNot, load_fault}
+use Rattle.rdf_stream.specs.Loads.{BindsNot, HasGivenAll, LoadStops, ReadsNot, load_fault}
 
 -- Since a source was asked first it gave these bytes, and it may be asked for more.
 pub record IsGiving (known : Option (List ℕ)) (left : Reading) (bytes : List ℕ) (room : ℕ) : Type 0 where
@@ -31,16 +31,28 @@ pub all_given : (known : Option (List ℕ)) (left : Reading) (bytes : List ℕ) 
 all_given known left bytes h = record { bytes = bytes; consumed = h.consumed; ended = λ e. h.at_end; live = h.live }
 
 -- so is a fault of the file
-pub refused : (f : BindingFault) (sizes : Sizes) (known : Option (List ℕ)) (left : Reading) (bytes : List ℕ) → HasGivenAll known left bytes → IsRefused f.reason sizes bytes f.line
-    → LoadStops (load_fault f.reason f) sizes known left
-refused f sizes known left bytes h r = by f.reason refl r
+pub refused : (f : BindingFault) (sizes : Sizes) (bytes : List ℕ) → IsRefused f.reason sizes bytes f.line → BindsNot (load_fault f.reason f) sizes bytes
+refused f sizes bytes r = by f.reason refl r
   where
-    by : (reason : BindingReason) → f.reason ≡ reason → IsRefused reason sizes bytes f.line → LoadStops (load_fault reason f) sizes known left
-    by OutOfMemory e r = all_given known left bytes h
-    by BadBinding e r = (bytes, h, subst (λ x. FailsAt x sizes bytes f.line) (sym e) r)
-    by TokenTooLong e r = (bytes, h, subst (λ x. FailsAt x sizes bytes f.line) (sym e) r)
-    by IriTooLong e r = (bytes, h, subst (λ x. FailsAt x sizes bytes f.line) (sym e) r)
-    by TooManyBindings e r = (bytes, h, subst (λ x. FailsAt x sizes bytes f.line) (sym e) r)
+    by : (reason : BindingReason) → f.reason ≡ reason → IsRefused reason sizes bytes f.line → BindsNot (load_fault reason f) sizes bytes
+    by OutOfMemory e r = tt
+    by BadBinding e r = subst (λ x. FailsAt x sizes bytes f.line) (sym e) r
+    by TokenTooLong e r = subst (λ x. FailsAt x sizes bytes f.line) (sym e) r
+    by IriTooLong e r = subst (λ x. FailsAt x sizes bytes f.line) (sym e) r
+    by TooManyBindings e r = subst (λ x. FailsAt x sizes bytes f.line) (sym e) r
+
+-- the bytes that a source gave are no bindings
+pub binds_not : (fault : LoadFault) (sizes : Sizes) (known : Option (List ℕ)) (left : Reading) (bytes : List ℕ) → HasGivenAll known left bytes → BindsNot fault sizes bytes
+    → LoadStops fault sizes known left
+binds_not (Bad f) sizes known left bytes h r = (bytes, h, r)
+binds_not Read sizes known left bytes h r = absurd r
+binds_not Memory sizes known left bytes h r = all_given known left bytes h
+
+-- the source did not give all its bytes
+pub reads_not : (fault : LoadFault) (sizes : Sizes) (known : Option (List ℕ)) (left : Reading) → ReadsNot fault known left → LoadStops fault sizes known left
+reads_not (Bad f) sizes known left r = absurd r
+reads_not Read sizes known left r = r
+reads_not Memory sizes known left r = r
 
 module _ (known : Option (List ℕ)) (left left' : Reading) (bytes : List ℕ) (room : ℕ) (i : IsGiving known left bytes room) where
   -- the source failed

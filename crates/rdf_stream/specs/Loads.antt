@@ -27,6 +27,12 @@ ReadsNot (Bad f) known left = ⊥
 ReadsNot Read known left = HasBroken left × (bytes : List ℕ) × Consumes known left.remaining bytes
 ReadsNot Memory known left = HasGiven known left
 
+-- why the bytes of a file give no bindings: a line of them fails, or memory was refused
+abbrev pub BindsNot : LoadFault → Sizes → List ℕ → Type 0
+BindsNot (Bad f) sizes bytes = FailsAt f.reason sizes bytes f.line
+BindsNot Read sizes bytes = ⊥
+BindsNot Memory sizes bytes = Unit
+
 -- Why no bindings were loaded: a line of all that the source had fails, the source failed, or memory was refused.
 abbrev pub LoadStops : LoadFault → Sizes → Option (List ℕ) → Reading → Type 0
 LoadStops (Bad f) sizes known left = (bytes : List ℕ) × HasGivenAll known left bytes × FailsAt f.reason sizes bytes f.line

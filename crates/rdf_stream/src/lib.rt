@@ -26,7 +26,7 @@ pub use devices::{Drain, Failed, In, Out, Source};
 pub use fault::{LoadFault, StreamFault};
 pub use form::Form;
 pub use job::Job;
-pub use loads::load_bindings;
+pub use loads::{bindings_in, load_bindings, read_whole};
 pub use messages::{out_of_memory, read_failed, report, write_failed};
 pub use put::put_all;
 pub use rdf_driver::{Fault, Summary};

@@ -9,7 +9,8 @@ mod texts;
 
 use hosts::InMemory;
 use rdf_command::{
-    Action, Files, Host, NoWords, Process, Task, WordsFault, command_of, refuse_words, run, start,
+    Action, Document, Files, Host, NoWords, Process, Task, WordsFault, command_of, refuse_words,
+    run, start,
 };
 use rdf_stream::{Escapes, Form, In, Limits, Out, Source};
 use rows::{Asked, FILES, Fields, INPUT, LIMITED, Limited, RUNS, Run, STARTED, Started, TASKS};
@@ -40,7 +41,7 @@ impl Ended {
     }
 }
 
-fn task(action: Action, form: Form, limits: Limits) -> Task
+fn task(alloc: Global, action: Action, form: Form, limits: Limits) -> Task
     ensures { BaseFits result.base result.limits }
 {
     Task {
@@ -52,6 +53,7 @@ fn task(action: Action, form: Form, limits: Limits) -> Task
         node_prefix: None,
         prefixes: None,
         file: None,
+        more: Vec::new(alloc),
     }
 }
 
@@ -84,7 +86,7 @@ fn ran(alloc: Global, task: Task, document: &str) -> Ended
 }
 
 fn run_differs_in(alloc: Global, row: &Run) -> Option<&'static str> {
-    let task = task(row.action, row.form, Limits::default());
+    let task = task(alloc, row.action, row.form, Limits::default());
     ran(alloc, task, row.document).differs_in(row.status, row.written, row.reported)
 }
 
@@ -99,7 +101,7 @@ fn limited_run_differs_in(alloc: Global, row: &Limited) -> Option<&'static str> 
     let Some(limits) = Limits::new(row.token, 0, 0, row.iri) else {
         return Some("limits");
     };
-    let task = task(Action::Convert, Form::NTriples, limits);
+    let task = task(alloc, Action::Convert, Form::NTriples, limits);
     ran(alloc, task, "<a:> <b:> <c:> .").differs_in(row.status, row.written, row.reported)
 }
 
@@ -141,8 +143,25 @@ fn other_text(task: &Task, fields: &Fields<'_>) -> Option<&'static str> {
     } else if task.file.as_deref() != fields.file {
         Some("file")
     } else {
-        None
+        other_document(task.more.as_slice(), fields.more)
     }
+}
+
+fn other_document(more: &[Document], expected: &[(Form, &str)]) -> Option<&'static str> {
+    if more.len() != expected.len() {
+        return Some("number of documents");
+    }
+    let mut left = expected;
+    for document in more {
+        let Some((row, rest)) = left.split_first() else {
+            return Some("number of documents");
+        };
+        if document.form != row.0 || document.name.as_str() != row.1 {
+            return Some("document");
+        }
+        left = rest;
+    }
+    None
 }
 
 fn task_differs_in(alloc: Global, words: &[&str], fields: &Fields<'_>) -> Option<&'static str> {
@@ -305,6 +324,7 @@ fn long_task_differs_in(alloc: Global, base: &str, file: &str) -> Option<&'stati
         node_prefix: None,
         prefixes: None,
         file: Some(file),
+        more: &[],
     };
     task_differs_in(alloc, &words, &fields)
 }

@@ -138,6 +138,8 @@ pub(crate) struct Fields<'a> {
     pub(crate) node_prefix: Option<&'a str>,
     pub(crate) prefixes: Option<&'a str>,
     pub(crate) file: Option<&'a str>,
+    /// The formats and names of the documents after the first.
+    pub(crate) more: &'a [(Form, &'a str)],
 }
 
 /// Words, and the task that they give.
@@ -147,7 +149,7 @@ pub(crate) struct Asked {
     pub(crate) fields: Fields<'static>,
 }
 
-pub(crate) static TASKS: [Asked; 3] = [
+pub(crate) static TASKS: [Asked; 6] = [
     Asked {
         line: "rdfconv convert",
         fields: Fields {
@@ -159,6 +161,7 @@ pub(crate) static TASKS: [Asked; 3] = [
             node_prefix: None,
             prefixes: None,
             file: None,
+            more: &[],
         },
     },
     Asked {
@@ -172,6 +175,7 @@ pub(crate) static TASKS: [Asked; 3] = [
             node_prefix: Some("Ab1"),
             prefixes: Some("ex.txt"),
             file: Some("data.nt"),
+            more: &[],
         },
     },
     Asked {
@@ -185,6 +189,53 @@ pub(crate) static TASKS: [Asked; 3] = [
             node_prefix: None,
             prefixes: None,
             file: None,
+            more: &[],
+        },
+    },
+    Asked {
+        line: "rdfconv check - --iri 9 a.nt - b",
+        fields: Fields {
+            action: Action::Check,
+            form: Form::TriG,
+            base: None,
+            limits: [16777216, 1024, 65536, 9],
+            escapes: Escapes::Plain,
+            node_prefix: None,
+            prefixes: None,
+            file: None,
+            more: &[(Form::TriG, "a.nt"), (Form::TriG, "-"), (Form::TriG, "b")],
+        },
+    },
+    Asked {
+        line: "rdfconv check --format name a.ttl b.nt .nq a.ttl.trig",
+        fields: Fields {
+            action: Action::Check,
+            form: Form::Turtle,
+            base: None,
+            limits: [16777216, 1024, 65536, 1048576],
+            escapes: Escapes::Plain,
+            node_prefix: None,
+            prefixes: None,
+            file: Some("a.ttl"),
+            more: &[
+                (Form::NTriples, "b.nt"),
+                (Form::NQuads, ".nq"),
+                (Form::TriG, "a.ttl.trig"),
+            ],
+        },
+    },
+    Asked {
+        line: "rdfconv convert --format=name a/b.nq",
+        fields: Fields {
+            action: Action::Convert,
+            form: Form::NQuads,
+            base: None,
+            limits: [16777216, 1024, 65536, 1048576],
+            escapes: Escapes::Plain,
+            node_prefix: None,
+            prefixes: None,
+            file: Some("a/b.nq"),
+            more: &[],
         },
     },
 ];
@@ -208,12 +259,12 @@ pub(crate) static FILES: [(&str, &str); 5] = [
     ("bad.txt", "ex: http://e/\nex: e\n"),
 ];
 
-pub(crate) static STARTED: [Started; 16] = [
+pub(crate) static STARTED: [Started; 22] = [
     Started {
-        line: "rdfconv check x x x x x x x x x x x x x x x x x x x x x x x x x x x x x x x x x x x x x x x x x x x x x x x x",
+        line: "rdfconv show x x x x x x x x x x x x x x x x x x x x x x x x x x x x x x x x x x x x x x x x x x x x x x x x",
         status: 2,
         written: "",
-        reported: "error: unexpected argument 'x' found\n\nUsage: rdfconv check [OPTIONS] [FILE]\n\nFor more information, try '--help'.\n",
+        reported: "error: unexpected argument 'x' found\n\nUsage: rdfconv show [OPTIONS] [FILE]\n\nFor more information, try '--help'.\n",
     },
     Started {
         line: "rdfconv convert --format nt data.nt",
@@ -303,6 +354,42 @@ pub(crate) static STARTED: [Started; 16] = [
         line: "rdfconv --help",
         status: 0,
         written: HELP,
+        reported: "",
+    },
+    Started {
+        line: "rdfconv check - data.nt data.ttl no.nt accents.ttl",
+        status: 3,
+        written: "-: accepted, 1 quads, 19 bytes\ndata.nt: accepted, 1 quads, 18 bytes\naccents.ttl: accepted, 2 quads, 27 bytes\n",
+        reported: "data.ttl: unbound prefix at byte 0, line 1\nno.nt: cannot open file\n",
+    },
+    Started {
+        line: "rdfconv check --format name data.nt data.ttl",
+        status: 1,
+        written: "data.nt: accepted, 1 quads, 18 bytes\n",
+        reported: "data.ttl: unbound prefix at byte 0, line 1\n",
+    },
+    Started {
+        line: "rdfconv check --base http://a/ --prefixes ex.txt data.ttl data.ttl",
+        status: 0,
+        written: "data.ttl: accepted, 1 quads, 16 bytes\ndata.ttl: accepted, 1 quads, 16 bytes\n",
+        reported: "",
+    },
+    Started {
+        line: "rdfconv check --prefixes bad.txt data.ttl data.nt",
+        status: 2,
+        written: "",
+        reported: "rdfconv: bad prefixes at line 2\n",
+    },
+    Started {
+        line: "rdfconv check --prefixes no.txt data.ttl data.nt",
+        status: 3,
+        written: "",
+        reported: "rdfconv: cannot open file\n",
+    },
+    Started {
+        line: "rdfconv convert --format name data.nt",
+        status: 0,
+        written: "<a:> <b:> \"file\" .\n",
         reported: "",
     },
 ];

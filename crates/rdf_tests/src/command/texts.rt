@@ -7,7 +7,7 @@ Read N-Triples, N-Quads, Turtle or TriG, and write N-Quads
 Usage: rdfconv <COMMAND>
 
 Commands:
-  check    Read a document to its end, and count its quads and bytes
+  check    Read documents to their ends, and count the quads and bytes of each
   show     Write a line for each token: its offset, its characters and its kind
   convert  Write the quads of a document as lines of N-Quads
   help     Print this message or the help of the given subcommand(s)
@@ -16,9 +16,10 @@ Options:
   -h, --help     Print help
   -V, --version  Print version
 
-Options of a command, which reads FILE, or standard input where there is none or it is `-`:
-  --format FORMAT  nt (N-Triples), nq (N-Quads), ttl (Turtle) or trig (TriG) [default: trig];
-                   it is not guessed from the file's name
+Options of a command, which reads FILE, or standard input where there is none or it is `-`.
+`check` takes several FILEs, and has a line for each, with its name in front:
+  --format FORMAT  nt (N-Triples), nq (N-Quads), ttl (Turtle), trig (TriG) [default: trig], or
+                   name: the one that the file's name ends in, as `.nt`; it is not guessed unasked
   --base IRI       absolute IRI that relative references start from, at most --iri bytes;
                    without one they are refused; line formats have none
   --token N        characters of one token, 1 to 268435456 [default: 16777216]
@@ -40,9 +41,11 @@ Exit status:
   0  accepted, or help was asked for
   1  refused, with `rdfconv: REASON at byte N, line M` on standard error
   2  the words are no command, the base is no IRI or too long, WORD is empty or has another
-     character, or a line of PREFIXES is refused, with `rdfconv: bad prefixes at line N`
+     character, a file's name ends in no format where it is asked for one, or a line of PREFIXES
+     is refused, with `rdfconv: bad prefixes at line N`
   3  a file does not open, or a read or write failed
   4  out of memory
+The status of several documents is the greatest of theirs.
 ";
 
 /// What `rdfconv --version` writes.
@@ -60,9 +63,9 @@ pub(crate) struct Help {
 pub(crate) static COMMANDS: [Help; 3] = [
     Help {
         name: "check",
-        first: "Read a document to its end, and count its quads and bytes\n\nUsage: rdfconv check [OPTIONS] [FILE]\n",
+        first: "Read documents to their ends, and count the quads and bytes of each\n\nUsage: rdfconv check [OPTIONS] [FILE]...\n",
         options: CHECK_HELP,
-        notes: COMMAND_NOTES,
+        notes: CHECK_NOTES,
     },
     Help {
         name: "show",
@@ -74,17 +77,17 @@ pub(crate) static COMMANDS: [Help; 3] = [
         name: "convert",
         first: "Write the quads of a document as lines of N-Quads\n\nUsage: rdfconv convert [OPTIONS] [FILE]\n",
         options: CONVERT_HELP,
-        notes: COMMAND_NOTES,
+        notes: CONVERT_NOTES,
     },
 ];
 
 /// What follows these lines in the help of `check`.
 pub(crate) const CHECK_HELP: &str = "
 Arguments:
-  [FILE]  Document to read; without one, or with `-`, standard input
+  [FILE]...  Documents to read; without one, or with `-`, standard input
 
 Options:
-      --format <FORMAT>      Format of the document: nt N-Triples, nq N-Quads, ttl Turtle, trig TriG [default: trig] [possible values: nt, nq, ttl, trig]
+      --format <FORMAT>      Format: nt N-Triples, nq N-Quads, ttl Turtle, trig TriG, name the one that the file's name ends in [default: trig] [possible values: nt, nq, ttl, trig, name]
       --base <IRI>           Absolute IRI that relative references start from, at most --iri bytes; line formats have none
       --token <N>            Characters of one token, 1 to 268435456 [default: 16777216]
       --depth <N>            Brackets and parentheses open at one time, 0 to 1048576 [default: 1024]
@@ -100,7 +103,7 @@ Arguments:
   [FILE]  Document to read; without one, or with `-`, standard input
 
 Options:
-      --format <FORMAT>      Format of the document: nt N-Triples, nq N-Quads, ttl Turtle, trig TriG [default: trig] [possible values: nt, nq, ttl, trig]
+      --format <FORMAT>      Format: nt N-Triples, nq N-Quads, ttl Turtle, trig TriG, name the one that the file's name ends in [default: trig] [possible values: nt, nq, ttl, trig, name]
       --base <IRI>           Absolute IRI that relative references start from, at most --iri bytes; line formats have none
       --token <N>            Characters of one token, 1 to 268435456 [default: 16777216]
       --depth <N>            Brackets and parentheses open at one time, 0 to 1048576 [default: 1024]
@@ -118,7 +121,7 @@ Arguments:
   [FILE]  Document to read; without one, or with `-`, standard input
 
 Options:
-      --format <FORMAT>  Format of the document: nt N-Triples, nq N-Quads, ttl Turtle, trig TriG [default: trig] [possible values: nt, nq, ttl, trig]
+      --format <FORMAT>  Format: nt N-Triples, nq N-Quads, ttl Turtle, trig TriG, name the one that the file's name ends in [default: trig] [possible values: nt, nq, ttl, trig, name]
       --base <IRI>       Absolute IRI that relative references start from, at most --iri bytes; line formats have none
       --token <N>        Characters of one token, 1 to 268435456 [default: 16777216]
       --depth <N>        Brackets and parentheses open at one time, 0 to 1048576 [default: 1024]
@@ -129,26 +132,46 @@ Options:
 
 /// What ends the help of `show`.
 pub(crate) const SHOW_NOTES: &str = "
-The format is not guessed from the file's name. A token of more than --token characters is refused. Tokens alone are looked
-at: --base, --depth, --bindings and --iri have no use here, but a base that is no IRI, or is too long, is reported.
+The format is not guessed from the file's name, unless it is asked for by `--format name`. A token of more than --token
+characters is refused. Tokens alone are looked at: --base, --depth, --bindings and --iri have no use here, but a base
+that is no IRI, or is too long, is reported.
 
 Exit status:
   0  each token has its line, or help was asked for
   1  refused, with `rdfconv: REASON at byte N, line M` on standard error
-  2  the words are no command, or the base is no IRI or too long
+  2  the words are no command, the base is no IRI or too long, or the file's name ends in no
+     format where it is asked for one
   3  a file does not open, or a read or write failed
   4  out of memory
 ";
 
-/// What ends the help of `check` and of `convert`.
-pub(crate) const COMMAND_NOTES: &str = "
-The format is not guessed from the file's name. Past one of the limits N a document is refused.
+/// What ends the help of `check`.
+pub(crate) const CHECK_NOTES: &str = "
+The format is not guessed from the file's name, unless it is asked for by `--format name`. Past one of the limits N a
+document is refused. Of several FILEs each has a line with its name in front, on standard output where it is accepted, and
+else on standard error; after a refusal the next is read. The status is the greatest of theirs.
+
+Exit status:
+  0  accepted, or help was asked for
+  1  refused, with `rdfconv: REASON at byte N, line M` on standard error
+  2  the words are no command, the base is no IRI or too long, a file's name ends in no format
+     where it is asked for one, or a line of PREFIXES is refused, with
+     `rdfconv: bad prefixes at line N`
+  3  a file does not open, or a read or write failed
+  4  out of memory
+";
+
+/// What ends the help of `convert`.
+pub(crate) const CONVERT_NOTES: &str = "
+The format is not guessed from the file's name, unless it is asked for by `--format name`. Past one of the limits N a
+document is refused.
 
 Exit status:
   0  accepted, or help was asked for
   1  refused, with `rdfconv: REASON at byte N, line M` on standard error
   2  the words are no command, the base is no IRI or too long, WORD is empty or has another
-     character, or a line of PREFIXES is refused, with `rdfconv: bad prefixes at line N`
+     character, a file's name ends in no format where it is asked for one, or a line of PREFIXES
+     is refused, with `rdfconv: bad prefixes at line N`
   3  a file does not open, or a read or write failed
   4  out of memory
 ";
@@ -178,7 +201,7 @@ pub(crate) struct Refused {
     pub(crate) reported: &'static str,
 }
 
-pub(crate) static REFUSED: [Refused; 29] = [
+pub(crate) static REFUSED: [Refused; 33] = [
     Refused {
         line: "",
         reported: NO_COMMAND,
@@ -193,11 +216,11 @@ pub(crate) static REFUSED: [Refused; 29] = [
     },
     Refused {
         line: "rdfconv convert --format xml",
-        reported: "error: invalid value 'xml' for '--format <FORMAT>'\n  [possible values: nt, nq, ttl, trig]\n\nFor more information, try '--help'.\n",
+        reported: "error: invalid value 'xml' for '--format <FORMAT>'\n  [possible values: nt, nq, ttl, trig, name]\n\nFor more information, try '--help'.\n",
     },
     Refused {
         line: "rdfconv check --format --help",
-        reported: "error: a value is required for '--format <FORMAT>' but none was supplied\n  [possible values: nt, nq, ttl, trig]\n\nFor more information, try '--help'.\n",
+        reported: "error: a value is required for '--format <FORMAT>' but none was supplied\n  [possible values: nt, nq, ttl, trig, name]\n\nFor more information, try '--help'.\n",
     },
     Refused {
         line: "rdfconv convert --format=nt --format=nt",
@@ -209,7 +232,7 @@ pub(crate) static REFUSED: [Refused; 29] = [
     },
     Refused {
         line: "rdfconv check --colour x",
-        reported: "error: unexpected argument '--colour' found\n\n  tip: to pass '--colour' as a value, use '-- --colour'\n\nUsage: rdfconv check [OPTIONS] [FILE]\n\nFor more information, try '--help'.\n",
+        reported: "error: unexpected argument '--colour' found\n\n  tip: to pass '--colour' as a value, use '-- --colour'\n\nUsage: rdfconv check [OPTIONS] [FILE]...\n\nFor more information, try '--help'.\n",
     },
     Refused {
         line: "rdfconv show --prefixes ex.txt",
@@ -217,7 +240,7 @@ pub(crate) static REFUSED: [Refused; 29] = [
     },
     Refused {
         line: "rdfconv check --ascii",
-        reported: "error: unexpected argument '--ascii' found\n\n  tip: to pass '--ascii' as a value, use '-- --ascii'\n\nUsage: rdfconv check [OPTIONS] [FILE]\n\nFor more information, try '--help'.\n",
+        reported: "error: unexpected argument '--ascii' found\n\n  tip: to pass '--ascii' as a value, use '-- --ascii'\n\nUsage: rdfconv check [OPTIONS] [FILE]...\n\nFor more information, try '--help'.\n",
     },
     Refused {
         line: "rdfconv show --ascii",
@@ -233,7 +256,7 @@ pub(crate) static REFUSED: [Refused; 29] = [
     },
     Refused {
         line: "rdfconv check --node-prefix a",
-        reported: "error: unexpected argument '--node-prefix' found\n\n  tip: to pass '--node-prefix' as a value, use '-- --node-prefix'\n\nUsage: rdfconv check [OPTIONS] [FILE]\n\nFor more information, try '--help'.\n",
+        reported: "error: unexpected argument '--node-prefix' found\n\n  tip: to pass '--node-prefix' as a value, use '-- --node-prefix'\n\nUsage: rdfconv check [OPTIONS] [FILE]...\n\nFor more information, try '--help'.\n",
     },
     Refused {
         line: "rdfconv show --node-prefix=a",
@@ -294,5 +317,21 @@ pub(crate) static REFUSED: [Refused; 29] = [
     Refused {
         line: "rdfconv convert --node-prefix=",
         reported: "rdfconv: bad node prefix\n",
+    },
+    Refused {
+        line: "rdfconv convert --format name data.nt.gz",
+        reported: "rdfconv: no format in the name data.nt.gz\n",
+    },
+    Refused {
+        line: "rdfconv show --format=name",
+        reported: "rdfconv: no format in the name -\n",
+    },
+    Refused {
+        line: "rdfconv check --format=name -",
+        reported: "rdfconv: no format in the name -\n",
+    },
+    Refused {
+        line: "rdfconv check --format=name a.nt b.ttl nt c.trig",
+        reported: "rdfconv: no format in the name nt\n",
     },
 ];

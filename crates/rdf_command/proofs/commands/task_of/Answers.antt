@@ -1,45 +1,63 @@
 -- The matches of a parse without a fault have all that a task needs, but a base or a word may be bad.
-use Rattle.std.proofs.Common.{◌∙◌, ap, sym, subst, codes, chars, option_map, IfSome, Some}
-use Rattle.clap.proofs.WalkLemmas.{first_value-rows}
+use Rattle.std.proofs.Common.{◌∙◌, ap, sym, subst, codes, chars, map, option_map, IfSome, Some}
+use Rattle.clap.proofs.WalkLemmas.{first_value-rows, raw_values-rows}
 use Rattle.clap.proofs.TakesLemmas.{passed_up}
 use Rattle.clap.specs.Words.{found_of, rows_of}
-use Rattle.rdf_command.specs.Words.{IsBase, IsWord, escapes_by, file_by}
-use Rattle.rdf_command.proofs.GivenLemmas.{no_task, no_word, text_given, text_is}
+use Rattle.rdf_command.specs.Words.{AreDocuments, IsBase, IsFormBy, IsFormatWord, IsWord, NoFormOf, NoFormsOf, escapes_by, file_by, further_by, further_of, name_by}
+use Rattle.rdf_command.proofs.GivenLemmas.{no_form, no_forms, no_task, no_word, text_given, text_is}
 use Rattle.rdf_command.proofs.commands.task_of.Goals as goal
 
-pub unwrap-requires : goal.unwrap-requires
-unwrap-requires c = text_given (found_of c.args.found.now) (codes "format") _ c.get_str.result c.get_str.ensures c.requires.form.1
+pub unwrap-word-requires : goal.unwrap-word-requires
+unwrap-word-requires c = text_given (found_of c.args.found.now) (codes "format") _ c.get_str.result c.get_str.ensures c.requires.format.1
 
-pub form_of-form-requires : goal.form_of-form-requires
-form_of-form-requires c =
-    (c.requires.form.0, sym (text_is (found_of c.args.found.now) (codes "format") _ c.get_str.result c.get_str.ensures c.requires.form.1 c.unwrap.result c.unwrap.ensures))
+pub form_in-requires : goal.form_in-requires
+form_in-requires c =
+    subst IsFormatWord (sym (text_is (found_of c.args.found.now) (codes "format") _ c.get_str.result c.get_str.ensures c.requires.format.1 c.unwrap-word.result c.unwrap-word.ensures)) c.requires.format.2
+
+pub returns-in_err-form-clause-refused : goal.returns-in_err-form-clause-refused
+returns-in_err-form-clause-refused c =
+    let found = found_of c.args.found.now in
+    let word = text_is found (codes "format") _ c.get_str.result c.get_str.ensures c.requires.format.1 c.unwrap-word.result c.unwrap-word.ensures in
+    let file = c.get_str-2.ensures ∙ first_value-rows found (codes "file") in
+    passed_up c.from_residual.result c.in_err-form.field-0.0 _ c.from_residual.ensures.1
+    (no_form (c.args.name.now, rows_of found) c.requires.format.0 _ c.in_err-form.field-0.0 c.requires.format.1 file
+    (subst (λ name. NoFormOf c.requires.format.0 name c.in_err-form.field-0.0) c.name_by.ensures
+    (subst (λ w. NoFormOf w c.name_by.result.now c.in_err-form.field-0.0) word c.in_err-form.ensures.refused)))
 
 pub returns-in_err-base-clause-refused : goal.returns-in_err-base-clause-refused
 returns-in_err-base-clause-refused c =
     let found = found_of c.args.found.now in
-    let base = c.get_str-2.ensures ∙ first_value-rows found (codes "base") in
-    passed_up c.from_residual.result c.in_err-base.field-0.0 _ c.from_residual.ensures.1
+    let base = c.get_str-3.ensures ∙ first_value-rows found (codes "base") in
+    passed_up c.from_residual-in_err-base.result c.in_err-base.field-0.0 _ c.from_residual-in_err-base.ensures.1
     (no_task (c.args.name.now, rows_of found) c.iri.result _ c.in_err-base.field-0.0 base (c.limits_of-limits.ensures.iri ∙ ap (λ n. Some n) (sym c.iri.ensures)) c.in_err-base.ensures.bad)
 
 pub returns-in_err-node_prefix-clause-refused : goal.returns-in_err-node_prefix-clause-refused
 returns-in_err-node_prefix-clause-refused c =
     let found = found_of c.args.found.now in
-    let word = c.get_str-4.ensures ∙ first_value-rows found (codes "node-prefix") in
+    let word = c.get_str-5.ensures ∙ first_value-rows found (codes "node-prefix") in
     passed_up c.from_residual-in_err-node_prefix.result c.in_err-node_prefix.field-0.0 _ c.from_residual-in_err-node_prefix.ensures.1
     (no_word (c.args.name.now, rows_of found) _ c.in_err-node_prefix.field-0.0 word c.in_err-node_prefix.ensures.bad)
 
 pub returns-clause-task : goal.returns-clause-task
 returns-clause-task c =
     let found = found_of c.args.found.now in
-    let base = c.get_str-2.ensures ∙ first_value-rows found (codes "base") in
-    let ascii = c.get_str-3.ensures ∙ first_value-rows found (codes "ascii") in
-    let word = c.get_str-4.ensures ∙ first_value-rows found (codes "node-prefix") in
-    let prefixes = c.get_str-5.ensures ∙ first_value-rows found (codes "prefixes") in
-    let file = c.get_str-6.ensures ∙ first_value-rows found (codes "file") in
-    let form = text_is found (codes "format") _ c.get_str.result c.get_str.ensures c.requires.form.1 c.unwrap.result c.unwrap.ensures in
+    let base = c.get_str-3.ensures ∙ first_value-rows found (codes "base") in
+    let ascii = c.get_str-4.ensures ∙ first_value-rows found (codes "ascii") in
+    let word = c.get_str-5.ensures ∙ first_value-rows found (codes "node-prefix") in
+    let prefixes = c.get_str-6.ensures ∙ first_value-rows found (codes "prefixes") in
+    let file = c.get_str-7.ensures ∙ first_value-rows found (codes "file") in
+    let format = text_is found (codes "format") _ c.get_str.result c.get_str.ensures c.requires.format.1 c.unwrap-word.result c.unwrap-word.ensures in
+    let first = c.name_by.ensures ∙ ap name_by (c.get_str-2.ensures ∙ first_value-rows found (codes "file")) in
+    let further = c.further_by.ensures ∙ ap (further_by c.args.name.now) (c.get_strs.ensures ∙ raw_values-rows found (codes "file")) in
     record {
       action = c.action_of-action.ensures;
-      form = c.requires.form.1 ∙ ap (λ t. Some t) (sym (c.form_of-form.ensures ∙ form));
+      forms = record {
+        word = c.requires.format.0;
+        given = c.requires.format.1;
+        form = subst (λ name. IsFormBy c.requires.format.0 name c.in_ok-form.form) first (subst (λ w. IsFormBy w c.name_by.result.now c.in_ok-form.form) format c.in_ok-form.ensures.form);
+        more = subst (λ names. AreDocuments c.requires.format.0 names (further_of c.in_ok-more.more.items)) further
+            (subst (λ w. AreDocuments w (map (λ s. s.now) c.further_by.result.now) (further_of c.in_ok-more.more.items)) format c.in_ok-more.ensures.documents);
+      };
       base = c.in_ok-base.ensures.base ∙ ap (option_map chars) base;
       good_base = subst (λ text. IfSome text (IsBase c.limits_of-limits.result.iri)) base (rw c.iri.ensures at c.in_ok-base.ensures.good);
       limits = c.limits_of-limits.ensures;
@@ -49,3 +67,12 @@ returns-clause-task c =
       prefixes = c.in_ok-prefixes.ensures ∙ prefixes;
       file = c.in_ok-file.ensures ∙ (c.file_by.ensures ∙ ap file_by file);
     }
+
+pub returns-in_err-more-clause-refused : goal.returns-in_err-more-clause-refused
+returns-in_err-more-clause-refused c =
+    let found = found_of c.args.found.now in
+    let word = text_is found (codes "format") _ c.get_str.result c.get_str.ensures c.requires.format.1 c.unwrap-word.result c.unwrap-word.ensures in
+    let further = c.further_by.ensures ∙ ap (further_by c.args.name.now) (c.get_strs.ensures ∙ raw_values-rows found (codes "file")) in
+    passed_up c.from_residual-in_err-more.result c.in_err-more.field-0.0 _ c.from_residual-in_err-more.ensures.1
+    (no_forms (c.args.name.now, rows_of found) c.requires.format.0 _ c.in_err-more.field-0.0 c.requires.format.1 further
+    (subst (λ w. NoFormsOf w (map (λ s. s.now) c.further_by.result.now) c.in_err-more.field-0.0) word c.in_err-more.ensures.refused))

@@ -1,9 +1,11 @@
 use Rattle.std.proofs.lemmas.Result.{IfOk-weaker}
+use Rattle.rdf_options.specs.Options.{file_rule}
 use Rattle.rdf_options.proofs.BuildLemmas.{with_argument}
 use Rattle.rdf_options.proofs.options.convert_command.Goals as goal
 
 pub returns : goal.returns
 returns c =
-    let first = with_argument _ _ _ _ _ c.in_ok-command-2.ensures c.in_ok-command.ensures c.ascii_option.ensures in
-    IfOk-weaker c.arg-2.result _ _ (λ made added. with_argument _ made _ _ _ added first c.node_prefix_option.ensures)
-    c.arg-2.ensures
+    let first = with_argument _ _ _ _ _ c.in_ok-command-2.ensures (c.in_ok-command.ensures file_rule c.file_argument.ensures) c.prefixes_option.ensures in
+    let second = with_argument _ _ _ _ _ c.in_ok-command-3.ensures first c.ascii_option.ensures in
+    IfOk-weaker c.arg-3.result _ _ (λ made added. with_argument _ made _ _ _ added second c.node_prefix_option.ensures)
+    c.arg-3.ensures

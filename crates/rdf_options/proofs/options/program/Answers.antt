@@ -7,6 +7,6 @@ returns c =
     let top = ap app_of_fields c.subcommand_required-command.ensures
     ∙ ap (on_top (λ s. record s { subcommand_required = true })) (ap app_of_fields c.after_help.ensures
     ∙ (ap app_of_fields c.version.ensures ∙ ap (on_top (λ s. record s { has_version = true })) (ap app_of_fields c.about.ensures ∙ c.new.ensures.app))) in
-    let one = c.in_ok-command.ensures _ _ top c.prefixed_command.ensures in
-    let two = c.in_ok-command-2.ensures _ _ one c.action_command.ensures in
+    let one = c.in_ok-command.ensures _ _ top c.check_command.ensures in
+    let two = c.in_ok-command-2.ensures _ _ one c.show_command.ensures in
     c.add_action-3.ensures _ _ two c.convert_command.ensures

@@ -1,0 +1,96 @@
+-- Documents that are checked in turn: what is left to do completes the whole.
+use Rattle.std.proofs.Common.{◌≡◌, ◌==◌, ◌||◌, ℕ, Bool, true, false, List, [], ◌∷◌, Option, None, Some, arith, eqb-true, length, refl, sym, subst, ◌∙◌}
+use Rattle.std.proofs.lemmas.Bool.{false≢true, true≢false}
+use Rattle.rdf_iri.specs.Limits.{Sizes}
+use Rattle.rdf_stream.specs.Devices.{Reading, Written}
+use Rattle.rdf_stream.specs.Loads.{BindsNot, HasGivenAll, ReadsNot}
+use Rattle.rdf_stream.specs.declared.fault.LoadFault.{LoadFault}
+use Rattle.rdf_stream.specs.declared.fault.LoadFault.TheVariants.{Bad, Memory, Read}
+use Rattle.rdf_stream.specs.declared.form.Form.{Form}
+use Rattle.rdf_command.specs.declared.task.Document.{Document}
+use Rattle.rdf_command.specs.declared.task.Task.{Task}
+use Rattle.rdf_command.specs.Programs.{EndsBy, OneEnds, SeveralEnd}
+use Rattle.rdf_command.specs.Runs.{FilesRead}
+use Rattle.rdf_command.specs.Several.{Either, EndsEach, EndsOne, GivesNoBindings, Shared, has_failed_output, status_after}
+
+module _ (has_document : Option (List ℕ) → Option (List ℕ) → Type 0) (is_shut : List ℕ → Type 0) (shared : Shared) (whole : List (Form × List ℕ))
+    (out_old err_old : Option (List ℕ)) where
+  -- Whatever is done with the documents that are left, or nothing where an output has failed, all of them have ended so then.
+  abbrev pub Completes : List (Form × List ℕ) → Bool → ℕ → Written → Written → Type 0
+  Completes left failed so_far out_now err_now =
+      (status : ℕ) (out err : Written)
+      → Either failed ((status ≡ so_far) × (out ≡ out_now) × (err ≡ err_now)) (EndsEach has_document is_shut shared left so_far status out_now.contents out err_now.contents err)
+      → EndsEach has_document is_shut shared whole 0 status out_old out err_old err
+
+  -- a document more
+  pub next_completes : (d : Form × List ℕ) (left : List (Form × List ℕ)) (so_far own : ℕ) (failed : Bool) (out_now err_now out_next err_next : Written)
+      → Completes (d ∷ left) false so_far out_now err_now → EndsOne has_document is_shut shared d own out_now.contents out_next err_now.contents err_next
+      → failed ≡ has_failed_output out_next err_next → Completes left failed (status_after so_far own failed) out_next err_next
+  next_completes d left so_far own failed out_now err_now out_next err_next before one is status out err rest =
+      before status out err (own, out_next, err_next, one, subst (λ b. Either b Stops Goes) is (go failed rest))
+    where
+      Stops : Type 0
+      Stops = (status ≡ status_after so_far own true) × (out ≡ out_next) × (err ≡ err_next)
+
+      Goes : Type 0
+      Goes = EndsEach has_document is_shut shared left (status_after so_far own false) status out_next.contents out err_next.contents err
+
+      go : (b : Bool)
+          → Either b ((status ≡ status_after so_far own b) × (out ≡ out_next) × (err ≡ err_next))
+          (EndsEach has_document is_shut shared left (status_after so_far own b) status out_next.contents out err_next.contents err)
+          → Either b Stops Goes
+      go true r = r
+      go false r = r
+
+  -- no document is left, or an output has failed
+  pub completed : (so_far : ℕ) (failed : Bool) (out_now err_now : Written) → Completes [] failed so_far out_now err_now
+      → EndsEach has_document is_shut shared whole 0 so_far out_old out_now err_old err_now
+  completed so_far true out_now err_now c = c so_far out_now err_now (refl, refl, refl)
+  completed so_far false out_now err_now c = c so_far out_now err_now (refl, refl, refl)
+
+  pub stopped : (left : List (Form × List ℕ)) (so_far : ℕ) (failed : Bool) (out_now err_now : Written) → failed ≡ true → Completes left failed so_far out_now err_now
+      → EndsEach has_document is_shut shared whole 0 so_far out_old out_now err_old err_now
+  stopped left so_far true out_now err_now e c = c so_far out_now err_now (refl, refl, refl)
+  stopped left so_far false out_now err_now e c = absurd (false≢true e)
+
+-- before the first document nothing is done
+pub first_completes : (has_document : Option (List ℕ) → Option (List ℕ) → Type 0) (is_shut : List ℕ → Type 0) (shared : Shared) (whole : List (Form × List ℕ))
+    (out_now err_now : Written) → Completes has_document is_shut shared whole out_now.contents err_now.contents whole false 0 out_now err_now
+first_completes has_document is_shut shared whole out_now err_now status out err ends = ends
+
+-- where no output has failed each may be written to
+pub both_live : (a b failed : Bool) → failed ≡ (a || b) → failed ≡ false → (a ≡ false) × (b ≡ false)
+both_live true b failed e f = absurd (false≢true (sym f ∙ e))
+both_live false b failed e f = (refl, sym e ∙ f)
+
+-- ---- the file of bindings
+
+-- the source of the file did not give all its bytes
+pub none_by_source : (fault : LoadFault) (sizes : Sizes) (known : Option (List ℕ)) (left : Reading) → ReadsNot fault known left → GivesNoBindings fault sizes (Some known)
+none_by_source (Bad f) sizes known left r = absurd r
+none_by_source Read sizes known left r = (left, r)
+none_by_source Memory sizes known left r = (left, r)
+
+-- the bytes that it gave are no bindings
+pub none_by_bytes : (fault : LoadFault) (sizes : Sizes) (known : Option (List ℕ)) (left : Reading) (bytes : List ℕ) → HasGivenAll known left bytes → BindsNot fault sizes bytes
+    → GivesNoBindings fault sizes (Some known)
+none_by_bytes (Bad f) sizes known left bytes h r = (left, (bytes, h, r))
+none_by_bytes Read sizes known left bytes h r = absurd r
+none_by_bytes Memory sizes known left bytes h r = (left, record { bytes = bytes; consumed = h.consumed; ended = λ e. h.at_end; live = h.live })
+
+-- ---- a task
+
+-- A task with further documents ends as a check of several does.
+pub several_end : (more : List Document) (has_document : Option (List ℕ) → Option (List ℕ) → Type 0) (is_shut : List ℕ → Type 0) (t : Task) (status : ℕ)
+    (out_old : Option (List ℕ)) (out : Written) (err_old : Option (List ℕ)) (err : Written) → (length more == 0) ≡ false
+    → SeveralEnd has_document is_shut t status out_old out err_old err → EndsBy more has_document is_shut t None status out_old out err_old err
+several_end [] has_document is_shut t status out_old out err_old err some ends = absurd (true≢false some)
+several_end (d ∷ ds) has_document is_shut t status out_old out err_old err some ends = (refl, ends)
+
+-- one without ends as its run does
+pub one_ends : (more : List Document) (has_document : Option (List ℕ) → Option (List ℕ) → Type 0) (is_shut : List ℕ → Type 0) (t : Task) (files : Option FilesRead) (status : ℕ)
+    (out_old : Option (List ℕ)) (out : Written) (err_old : Option (List ℕ)) (err : Written) → (length more == 0) ≡ true
+    → OneEnds has_document is_shut t files status out_old out err_old err → EndsBy more has_document is_shut t files status out_old out err_old err
+one_ends [] has_document is_shut t files status out_old out err_old err none ends = ends
+one_ends (d ∷ ds) has_document is_shut t files status out_old out err_old err none ends =
+    let same : length (d ∷ ds) ≡ 0 = eqb-true _ _ none in absurd (omega arith)

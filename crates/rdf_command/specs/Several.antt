@@ -1,0 +1,136 @@
+-- What a check of several documents does: one after the other, with a line for each, to the last one or until an output fails.
+use Rattle.std.specs.Prelude.{◌≡◌, ◌⊎◌, ◌||◌, ℕ, Bool, true, false, List, [], ◌∷◌, ◌++◌, codes, cond, Option, Some, None, IfSome, nat_lt, option_map, ⊤}
+use Rattle.std.specs.Borrow.{Bor}
+use Rattle.rdf_iri.specs.Bindings.{BindingMap, IsReadFrom}
+use Rattle.rdf_iri.specs.Limits.{Sizes}
+use Rattle.rdf_lines.specs.declared.form.Escapes.TheVariants.{Plain}
+use Rattle.rdf_stream.specs.Devices.{Reading, Written}
+use Rattle.rdf_stream.specs.Jobs.{JobRead}
+use Rattle.rdf_stream.specs.Loads.{BindsNot, HasGivenAll, LoadStops}
+use Rattle.rdf_stream.specs.declared.fault.LoadFault.{LoadFault}
+use Rattle.rdf_stream.specs.declared.fault.LoadFault.TheVariants.{Memory}
+use Rattle.rdf_stream.specs.declared.fault.StreamFault.{StreamFault}
+use Rattle.rdf_stream.specs.declared.form.Form.{Form}
+use Rattle.rdf_command.specs.declared.several.Plan.{Plan}
+use Rattle.rdf_command.specs.Runs.{IsCheckedAs, StopsCheckAs}
+use Rattle.rdf_command.specs.Statuses.{ReportsFaultOf, ReportsLoad, ReportsOf, load_status, status_of}
+use Rattle.rdf_command.specs.Words.{file_by}
+
+-- the greater of two statuses
+abbrev pub worse : ℕ → ℕ → ℕ
+worse a b = cond (nat_lt a b) b a
+
+-- what all documents are read with: the base, the limits, and the bytes of the file of bindings where there is one
+pub record Shared : Type 0 where
+  pub base : Option (List ℕ)
+  pub limits : Sizes
+  pub prefixes : Option (List ℕ)
+
+abbrev pub shared_of : Plan → Shared
+shared_of p = record { base = option_map (λ b. b.now) p.base; limits = p.limits; prefixes = option_map (λ b. b.now) p.prefixes }
+
+-- the bindings of these bytes, or none where there are no bytes
+abbrev pub BindsFrom : Sizes → Option (List ℕ) → List (List ℕ × List ℕ) → Type 0
+BindsFrom sizes None bindings = bindings ≡ []
+BindsFrom sizes (Some bytes) bindings = (b : BindingMap) × IsReadFrom sizes bytes b × (bindings ≡ b.bindings)
+
+-- why these bytes give none
+abbrev pub BindsNotFrom : LoadFault → Sizes → Option (List ℕ) → Type 0
+BindsNotFrom fault sizes None = fault ≡ Memory
+BindsNotFrom fault sizes (Some bytes) = BindsNot fault sizes bytes
+
+-- the job of one document: what is written of quads has no say in a check
+abbrev pub check_job : Shared → Form → List (List ℕ × List ℕ) → JobRead
+check_job shared form bindings =
+    record { form = form; base = shared.base; bindings = bindings; escapes = Plain; node_prefix = []; limits = shared.limits }
+
+-- The job is that of a document of this format, with the bindings of the bytes.
+abbrev pub IsCheckJob : Shared → Form → JobRead → Type 0
+IsCheckJob shared form job =
+    (bindings : List (List ℕ × List ℕ)) × BindsFrom shared.limits shared.prefixes bindings × (job ≡ check_job shared form bindings)
+
+-- The document was accepted, and its line written and flushed.
+pub record AcceptsOne (job : JobRead) (name : List ℕ) (known : Option (List ℕ)) (status : ℕ) (out_old : Option (List ℕ)) (out : Written)
+    (err_old : Option (List ℕ)) (err : Written) : Type 0 where
+  pub status_is : status ≡ 0
+  pub checked : IfSome known (λ bytes. IsCheckedAs (Some name) job bytes out_old out.contents)
+  pub flushed : out.is_flushed ≡ true
+  pub untold : err.contents ≡ err_old
+
+-- The document was not accepted, for a fault that the status and the line about it say.
+pub record StopsOne (job : JobRead) (name : List ℕ) (known : Option (List ℕ)) (left : Reading) (status : ℕ) (out_old : Option (List ℕ)) (out : Written)
+    (err_old : Option (List ℕ)) (err : Written) : Type 0 where
+  pub fault : StreamFault
+  pub status_is : status ≡ status_of fault
+  pub stops : StopsCheckAs (Some name) fault job known left out_old out.contents out.has_failed
+  pub reported : ReportsFaultOf name fault err_old err.contents err.has_failed
+
+-- The document of this format and name was opened and read.
+pub record ReadsOne (has_document : Option (List ℕ) → Option (List ℕ) → Type 0) (shared : Shared) (d : Form × List ℕ) (status : ℕ)
+    (out_old : Option (List ℕ)) (out : Written) (err_old : Option (List ℕ)) (err : Written) : Type 0 where
+  pub job : JobRead
+  pub is_job : IsCheckJob shared d.0 job
+  pub known : Option (List ℕ)
+  pub opened : has_document (file_by (Some d.1)) known
+  pub left : Reading
+  pub ends : AcceptsOne job d.1 known status out_old out err_old err ⊎ StopsOne job d.1 known left status out_old out err_old err
+
+-- The file of this name did not open.
+pub record OpensNone (is_shut : List ℕ → Type 0) (d : Form × List ℕ) (status : ℕ) (out_old : Option (List ℕ)) (out : Written)
+    (err_old : Option (List ℕ)) (err : Written) : Type 0 where
+  pub path : List ℕ
+  pub named : file_by (Some d.1) ≡ Some path
+  pub shut : is_shut path
+  pub status_is : status ≡ 3
+  pub unwritten : out.contents ≡ out_old
+  pub reported : ReportsOf d.1 (codes "cannot open file\n") err_old err.contents err.has_failed
+
+-- There was nothing to read it with.
+pub record BindsNone (shared : Shared) (status : ℕ) (out_old : Option (List ℕ)) (out : Written) (err_old : Option (List ℕ)) (err : Written) : Type 0 where
+  pub fault : LoadFault
+  pub binds_not : BindsNotFrom fault shared.limits shared.prefixes
+  pub status_is : status ≡ load_status fault
+  pub unwritten : out.contents ≡ out_old
+  pub reported : ReportsLoad fault err_old err.contents err.has_failed
+
+-- how one of several documents ends
+abbrev pub EndsOne : (Option (List ℕ) → Option (List ℕ) → Type 0) → (List ℕ → Type 0) → Shared → Form × List ℕ → ℕ
+    → Option (List ℕ) → Written → Option (List ℕ) → Written → Type 0
+EndsOne has_document is_shut shared d status out_old out err_old err =
+    ReadsOne has_document shared d status out_old out err_old err
+    ⊎ (OpensNone is_shut d status out_old out err_old err ⊎ BindsNone shared status out_old out err_old err)
+
+-- one of the outputs has failed
+abbrev pub has_failed_output : Written → Written → Bool
+has_failed_output out err = out.has_failed || err.has_failed
+
+-- the status so far after a document with this one, which is at least 3 where an output has failed
+abbrev pub status_after : ℕ → ℕ → Bool → ℕ
+status_after so_far status failed = cond failed (worse (worse so_far status) 3) (worse so_far status)
+
+-- one claim or another
+abbrev pub Either : Bool → Type 0 → Type 0 → Type 0
+Either true P Q = P
+Either false P Q = Q
+
+-- The documents were checked in turn, from a status so far to the last one, to the last of them or to the first after which an output had failed.
+abbrev pub EndsEach : (Option (List ℕ) → Option (List ℕ) → Type 0) → (List ℕ → Type 0) → Shared → List (Form × List ℕ) → ℕ → ℕ
+    → Option (List ℕ) → Written → Option (List ℕ) → Written → Type 0
+EndsEach has_document is_shut shared [] so_far status out_old out err_old err = (status ≡ so_far) × (out.contents ≡ out_old) × (err.contents ≡ err_old)
+EndsEach has_document is_shut shared (d ∷ ds) so_far status out_old out err_old err =
+    (own : ℕ) × (out_next : Written) × (err_next : Written) × EndsOne has_document is_shut shared d own out_old out_next err_old err_next
+    × Either (has_failed_output out_next err_next)
+    ((status ≡ status_after so_far own true) × (out ≡ out_next) × (err ≡ err_next))
+    (EndsEach has_document is_shut shared ds (status_after so_far own false) status out_next.contents out err_next.contents err)
+
+-- The file of bindings, where there is one, had these bytes, and they are bindings.
+abbrev pub GivesBindings : Sizes → Option (Option (List ℕ)) → Option (List ℕ) → Type 0
+GivesBindings sizes None None = ⊤
+GivesBindings sizes None (Some bytes) = ⊥
+GivesBindings sizes (Some known) None = ⊥
+GivesBindings sizes (Some known) (Some bytes) = ((left : Reading) × HasGivenAll known left bytes) × ((b : BindingMap) × IsReadFrom sizes bytes b)
+
+-- The file of bindings gave none.
+abbrev pub GivesNoBindings : LoadFault → Sizes → Option (Option (List ℕ)) → Type 0
+GivesNoBindings fault sizes None = ⊥
+GivesNoBindings fault sizes (Some known) = (left : Reading) × LoadStops fault sizes known left

@@ -1,0 +1,274 @@
+// A check of several documents, one after the other.
+
+ghost use Rattle.std.specs.Prelude.{◌≡◌, ◌⊎◌, false, IfErr, IfOk, IfSome, List, None, Option, Some, map, option_map, string_bytes, ℕ};
+ghost use Rattle.rdf_iri.specs.Scope.{BaseFits};
+ghost use Rattle.rdf_stream.specs.Devices.{Reading};
+ghost use Rattle.rdf_stream.specs.Told.{told, written};
+ghost use Rattle.rdf_command.specs.Programs.{SeveralEnd, documents_of, file_of};
+ghost use Rattle.rdf_command.specs.Runs.{AsWritten};
+ghost use Rattle.rdf_command.specs.Words.{name_by};
+ghost use Rattle.rdf_command.specs.Several.{AcceptsOne, BindsNotFrom, EndsEach, EndsOne, GivesBindings, GivesNoBindings, IsCheckJob, StopsOne, has_failed_output, shared_of, status_after, worse};
+
+use crate::commands::named;
+use crate::entry::open_prefixes;
+use crate::host::{Host, NotOpen};
+use crate::runs::{check_to, refuse_file, refuse_prefixes, status, tell_fault_of, tell_of};
+use crate::task::Task;
+use rdf_stream::{
+    Drain, Form, Iri, Job, Limits, LoadFault, Source, TermFault, bindings_in, read_whole,
+};
+use std::alloc::{AllocError, Global};
+
+/// What all documents are read with.
+#[derive(Clone, Copy)]
+pub struct Plan<'a> {
+    /// Where memory is taken.
+    pub alloc: Global,
+    /// What relative references are resolved against.
+    pub base: Option<&'a Iri>,
+    /// How large the parts of a document may be.
+    pub limits: Limits,
+    /// The bytes of the file of the prefixes that are bound before each document, or None where none are.
+    pub prefixes: Option<&'a [u8]>,
+}
+
+/// The status after a document, and whether an output had failed by then, so that no more are read.
+#[derive(Clone, Copy)]
+struct Turn {
+    status: u8,
+    has_failed: bool,
+}
+
+/// Checks all documents of a task, and answers the status.
+pub fn check_each<H: Host, O: Drain, E: Drain>(
+    alloc: Global,
+    task: &Task,
+    host: &H,
+    out: &mut O,
+    err: &mut E,
+) -> u8
+    requires base { BaseFits task.now.base task.now.limits }
+    requires out { O.has_failed out.old ≡ false }
+    requires err { E.has_failed err.old ≡ false }
+    ensures { AsWritten (SeveralEnd (H.has_document host.now) (H.is_shut host.now) task.now result)
+        O.Drain E.Drain out.old out.new err.old err.new }
+{
+    let source = match open_prefixes(host, task) {
+        Ok(source) => source,
+        Err(NotOpen) => return refuse_file(err),
+    };
+    let prefixes = match given(alloc, task.limits, source) {
+        Ok(prefixes) => prefixes,
+        Err(fault) => return refuse_prefixes(alloc, &fault, err),
+    };
+    let plan = Plan {
+        alloc,
+        base: task.base.as_ref(),
+        limits: task.limits,
+        prefixes: prefixes.as_deref(),
+    };
+    check_with(&plan, task, host, out, err)
+}
+
+// The bytes of the file of bindings, once they are seen to be bindings.
+fn given<I: Source + Drop>(
+    alloc: Global,
+    limits: Limits,
+    source: Option<I>,
+) -> Result<Option<Vec<u8>>, LoadFault>
+    requires { IfSome source (λ s. (I.has_ended s ≡ false) × (I.has_failed s ≡ false)) }
+    ensures given { IfOk result (λ bytes. GivesBindings limits (option_map I.remaining source) (option_map (λ b. b.items) bytes)) }
+    ensures none { IfErr result (λ fault. GivesNoBindings fault limits (option_map I.remaining source)) }
+{
+    match source {
+        Some(source) => Ok(Some(given_by(alloc, limits, source)?)),
+        None => Ok(None),
+    }
+}
+
+fn given_by<I: Source + Drop>(
+    alloc: Global,
+    limits: Limits,
+    source: I,
+) -> Result<Vec<u8>, LoadFault>
+    requires more { I.has_ended source ≡ false }
+    requires live { I.has_failed source ≡ false }
+    ensures given { IfOk result (λ bytes. GivesBindings limits (Some (I.remaining source)) (Some bytes.items)) }
+    ensures none { IfErr result (λ fault. GivesNoBindings fault limits (Some (I.remaining source))) }
+{
+    let mut source = source;
+    let bytes = read_whole(alloc, &mut source)?;
+    bindings_in(alloc, limits, bytes.as_slice())?;
+    Ok(bytes)
+}
+
+// Checks the documents in turn. After one that an output failed at no more are read.
+fn check_with<H: Host, O: Drain, E: Drain>(
+    plan: &Plan<'_>,
+    task: &Task,
+    host: &H,
+    out: &mut O,
+    err: &mut E,
+) -> u8
+    requires base { BaseFits (shared_of plan.now).base plan.now.limits }
+    requires out { O.has_failed out.old ≡ false }
+    requires err { E.has_failed err.old ≡ false }
+    ensures { AsWritten (EndsEach (H.has_document host.now) (H.is_shut host.now) (shared_of plan.now) (documents_of task.now) 0 result)
+        O.Drain E.Drain out.old out.new err.old err.new }
+{
+    let first = (task.form, name_of(task));
+    let more = task.more.as_slice();
+    let mut turn = check_next(plan, host, first, out, err);
+    let mut worst = status_after(0, turn);
+    for document in more {
+        if turn.has_failed {
+            return worst;
+        }
+        turn = check_next(
+            plan,
+            host,
+            (document.form, document.name.as_str()),
+            out,
+            err,
+        );
+        worst = status_after(worst, turn);
+    }
+    worst
+}
+
+// The name of a task's first document.
+fn name_of(task: &Task) -> &str
+    ensures { result.now ≡ name_by (file_of task.now) }
+{
+    match task.file.as_deref() {
+        Some(name) => name,
+        None => "-",
+    }
+}
+
+// Checks the next document, and says whether an output has failed since.
+fn check_next<H: Host, O: Drain, E: Drain>(
+    plan: &Plan<'_>,
+    host: &H,
+    document: (Form, &str),
+    out: &mut O,
+    err: &mut E,
+) -> Turn
+    requires base { BaseFits (shared_of plan.now).base plan.now.limits }
+    requires out { O.has_failed out.old ≡ false }
+    requires err { E.has_failed err.old ≡ false }
+    ensures ends { AsWritten (EndsOne (H.has_document host.now) (H.is_shut host.now) (shared_of plan.now) (document.entry.0, document.entry.1.now) result.status)
+        O.Drain E.Drain out.old out.new err.old err.new }
+    ensures failed { result.has_failed ≡ has_failed_output (written O.Drain out.new) (written E.Drain err.new) }
+{
+    let status = check_one(plan, host, document, out, err);
+    Turn {
+        status,
+        has_failed: out.failed() || err.failed(),
+    }
+}
+
+// Checks a document, and answers its status.
+fn check_one<H: Host, O: Drain, E: Drain>(
+    plan: &Plan<'_>,
+    host: &H,
+    document: (Form, &str),
+    out: &mut O,
+    err: &mut E,
+) -> u8
+    requires base { BaseFits (shared_of plan.now).base plan.now.limits }
+    requires out { O.has_failed out.old ≡ false }
+    requires err { E.has_failed err.old ≡ false }
+    ensures { AsWritten (EndsOne (H.has_document host.now) (H.is_shut host.now) (shared_of plan.now) (document.entry.0, document.entry.1.now) result)
+        O.Drain E.Drain out.old out.new err.old err.new }
+{
+    let (form, name) = document;
+    let job = match job_for(plan, form) {
+        Ok(job) => job,
+        Err(fault) => return refuse_prefixes(plan.alloc, &fault, err),
+    };
+    match host.open(named(name)) {
+        Ok(source) => check_source(plan.alloc, (job, name), source, out, err),
+        Err(NotOpen) => {
+            tell_of(plan.alloc, name, b"cannot open file\n", err);
+            3
+        }
+    }
+}
+
+// Checks the document that a source has, and answers its status.
+fn check_source<I: Source + Drop, O: Drain, E: Drain>(
+    alloc: Global,
+    document: (Job, &str),
+    source: I,
+    out: &mut O,
+    err: &mut E,
+) -> u8
+    requires more { I.has_ended source ≡ false }
+    requires source { I.has_failed source ≡ false }
+    requires out { O.has_failed out.old ≡ false }
+    requires err { E.has_failed err.old ≡ false }
+    ensures { (left : Reading) × (AsWritten (AcceptsOne document.entry.0 document.entry.1.now (I.remaining source) result) O.Drain E.Drain out.old out.new err.old err.new
+        ⊎ AsWritten (StopsOne document.entry.0 document.entry.1.now (I.remaining source) left result) O.Drain E.Drain out.old out.new err.old err.new) }
+{
+    let (job, name) = document;
+    let mut source = source;
+    match check_to(alloc, job, Some(name), &mut source, out) {
+        Ok(()) => 0,
+        Err(fault) => {
+            tell_fault_of(alloc, name, &fault, err);
+            status(&fault)
+        }
+    }
+}
+
+// What a document of this format is read with.
+fn job_for(plan: &Plan<'_>, form: Form) -> Result<Job, LoadFault>
+    requires { BaseFits (shared_of plan.now).base plan.now.limits }
+    ensures job { IfOk result (IsCheckJob (shared_of plan.now) form) }
+    ensures none { IfErr result (λ fault. BindsNotFrom fault plan.now.limits (shared_of plan.now).prefixes) }
+{
+    let base = copied(plan.alloc, plan.base)?;
+    let job = Job::new(form, base, plan.limits).unwrap();
+    match plan.prefixes {
+        Some(bytes) => Ok(job.with_bindings(bindings_in(plan.alloc, plan.limits, bytes)?)),
+        None => Ok(job),
+    }
+}
+
+fn copied(alloc: Global, base: Option<&Iri>) -> Result<Option<Iri>, AllocError>
+    ensures { IfOk result (λ copy. copy ≡ option_map (λ b. b.now) base.entry) }
+{
+    match base {
+        Some(base) => Ok(Some(copy_of(alloc, base)?)),
+        None => Ok(None),
+    }
+}
+
+fn copy_of(alloc: Global, iri: &Iri) -> Result<Iri, AllocError>
+    ensures { IfOk result (λ copy. copy ≡ iri.now) }
+{
+    match Iri::new(alloc, iri.as_str()) {
+        Ok(copy) => Ok(copy),
+        Err(TermFault::BadTerm) => unreachable!(),
+        Err(TermFault::Memory) => Err(AllocError),
+    }
+}
+
+// The status so far, after a document.
+fn status_after(so_far: u8, turn: Turn) -> u8
+    ensures { result ≡ status_after so_far turn.status turn.has_failed }
+{
+    let status = worse(so_far, turn.status);
+    if turn.has_failed {
+        worse(status, 3)
+    } else {
+        status
+    }
+}
+
+fn worse(a: u8, b: u8) -> u8
+    ensures { result ≡ worse a b }
+{
+    if a < b { b } else { a }
+}

@@ -1,0 +1,9 @@
+use Rattle.std.proofs.lemmas.Result.{IfOk-weaker}
+use Rattle.rdf_options.specs.Options.{files_rule}
+use Rattle.rdf_options.proofs.BuildLemmas.{with_argument}
+use Rattle.rdf_options.proofs.options.check_command.Goals as goal
+
+pub returns : goal.returns
+returns c =
+    IfOk-weaker c.arg.result _ _ (λ made added. with_argument _ made _ _ _ added (c.in_ok-command.ensures files_rule c.files_argument.ensures) c.prefixes_option.ensures)
+    c.arg.ensures
