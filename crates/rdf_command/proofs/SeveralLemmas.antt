@@ -11,7 +11,7 @@ use Rattle.rdf_command.specs.declared.task.Document.{Document}
 use Rattle.rdf_command.specs.declared.task.Task.{Task}
 use Rattle.rdf_command.specs.Programs.{EndsBy, OneEnds, SeveralEnd}
 use Rattle.rdf_command.specs.Runs.{FilesRead}
-use Rattle.rdf_command.specs.Several.{Either, EndsEach, EndsOne, GivesNoBindings, Shared, has_failed_output, status_after}
+use Rattle.rdf_command.specs.Several.{Either, EndsEach, EndsLeft, EndsOne, GivesNoBindings, Shared, has_failed_output, status_after}
 
 module _ (has_document : Option (List ℕ) → Option (List ℕ) → Type 0) (is_shut : List ℕ → Type 0) (shared : Shared) (whole : List (Form × List ℕ))
     (out_old err_old : Option (List ℕ)) where
@@ -19,8 +19,8 @@ module _ (has_document : Option (List ℕ) → Option (List ℕ) → Type 0) (is
   abbrev pub Completes : List (Form × List ℕ) → Bool → ℕ → Written → Written → Type 0
   Completes left failed so_far out_now err_now =
       (status : ℕ) (out err : Written)
-      → Either failed ((status ≡ so_far) × (out ≡ out_now) × (err ≡ err_now)) (EndsEach has_document is_shut shared left so_far status out_now.contents out err_now.contents err)
-      → EndsEach has_document is_shut shared whole 0 status out_old out err_old err
+      → Either failed ((status ≡ so_far) × (out ≡ out_now) × (err ≡ err_now)) (EndsLeft has_document is_shut shared left so_far status out_now out err_now err)
+      → EndsEach has_document is_shut shared whole status out_old out err_old err
 
   -- a document more
   pub next_completes : (d : Form × List ℕ) (left : List (Form × List ℕ)) (so_far own : ℕ) (failed : Bool) (out_now err_now out_next err_next : Written)
@@ -33,30 +33,30 @@ module _ (has_document : Option (List ℕ) → Option (List ℕ) → Type 0) (is
       Stops = (status ≡ status_after so_far own true) × (out ≡ out_next) × (err ≡ err_next)
 
       Goes : Type 0
-      Goes = EndsEach has_document is_shut shared left (status_after so_far own false) status out_next.contents out err_next.contents err
+      Goes = EndsLeft has_document is_shut shared left (status_after so_far own false) status out_next out err_next err
 
       go : (b : Bool)
           → Either b ((status ≡ status_after so_far own b) × (out ≡ out_next) × (err ≡ err_next))
-          (EndsEach has_document is_shut shared left (status_after so_far own b) status out_next.contents out err_next.contents err)
+          (EndsLeft has_document is_shut shared left (status_after so_far own b) status out_next out err_next err)
           → Either b Stops Goes
       go true r = r
       go false r = r
 
   -- no document is left, or an output has failed
   pub completed : (so_far : ℕ) (failed : Bool) (out_now err_now : Written) → Completes [] failed so_far out_now err_now
-      → EndsEach has_document is_shut shared whole 0 so_far out_old out_now err_old err_now
+      → EndsEach has_document is_shut shared whole so_far out_old out_now err_old err_now
   completed so_far true out_now err_now c = c so_far out_now err_now (refl, refl, refl)
   completed so_far false out_now err_now c = c so_far out_now err_now (refl, refl, refl)
 
   pub stopped : (left : List (Form × List ℕ)) (so_far : ℕ) (failed : Bool) (out_now err_now : Written) → failed ≡ true → Completes left failed so_far out_now err_now
-      → EndsEach has_document is_shut shared whole 0 so_far out_old out_now err_old err_now
+      → EndsEach has_document is_shut shared whole so_far out_old out_now err_old err_now
   stopped left so_far true out_now err_now e c = c so_far out_now err_now (refl, refl, refl)
   stopped left so_far false out_now err_now e c = absurd (false≢true e)
 
 -- before the first document nothing is done
 pub first_completes : (has_document : Option (List ℕ) → Option (List ℕ) → Type 0) (is_shut : List ℕ → Type 0) (shared : Shared) (whole : List (Form × List ℕ))
     (out_now err_now : Written) → Completes has_document is_shut shared whole out_now.contents err_now.contents whole false 0 out_now err_now
-first_completes has_document is_shut shared whole out_now err_now status out err ends = ends
+first_completes has_document is_shut shared whole out_now err_now status out err ends = (out_now, err_now, refl, refl, ends)
 
 -- where no output has failed each may be written to
 pub both_live : (a b failed : Bool) → failed ≡ (a || b) → failed ≡ false → (a ≡ false) × (b ≡ false)

@@ -83,7 +83,7 @@ pub record ChecksEach (has_document : Option Text → Option (List ℕ) → Type
   pub opened : HasPrefixes has_document (prefixes_of t) prefixes
   pub bytes : Option (List ℕ)
   pub given : GivesBindings t.limits prefixes bytes
-  pub ends : EndsEach has_document is_shut (record { base = t.base; limits = t.limits; prefixes = bytes }) (documents_of t) 0 status out_old out err_old err
+  pub ends : EndsEach has_document is_shut (record { base = t.base; limits = t.limits; prefixes = bytes }) (documents_of t) status out_old out err_old err
 
 -- The file of bindings gave none, which the status and the text on the error output say, and no document was read.
 pub record ChecksNone (has_document : Option Text → Option (List ℕ) → Type 0) (t : Task) (status : ℕ) (out_old : Option (List ℕ)) (out : Written)
@@ -96,12 +96,22 @@ pub record ChecksNone (has_document : Option Text → Option (List ℕ) → Type
   pub unwritten : out.contents ≡ out_old
   pub reported : ReportsLoad fault err_old err.contents err.has_failed
 
+-- The file of bindings did not open, which the status and the text on the error output say, and no document was read.
+pub record OpensNoBindings (is_shut : Text → Type 0) (t : Task) (status : ℕ) (out_old : Option (List ℕ)) (out : Written)
+    (err_old : Option (List ℕ)) (err : Written) : Type 0 where
+  pub path : Text
+  pub named : prefixes_of t ≡ Some path
+  pub shut : is_shut path
+  pub status_is : status ≡ 3
+  pub unwritten : out.contents ≡ out_old
+  pub reported : Reports (codes "rdfconv: cannot open file\n") err_old err.contents err.has_failed
+
 -- how a check of several documents ends
 abbrev pub SeveralEnd : (Option Text → Option (List ℕ) → Type 0) → (Text → Type 0) → Task → ℕ
     → Option (List ℕ) → Written → Option (List ℕ) → Written → Type 0
 SeveralEnd has_document is_shut t status out_old out err_old err =
     ChecksEach has_document is_shut t status out_old out err_old err
-    ⊎ (ChecksNone has_document t status out_old out err_old err ⊎ IsNotOpen is_shut t status out_old out err_old err)
+    ⊎ (ChecksNone has_document t status out_old out err_old err ⊎ OpensNoBindings is_shut t status out_old out err_old err)
 
 -- By the documents after the first: without any the task is run over its document, and else each is checked, and no file is given back.
 abbrev pub EndsBy : List Document → (Option Text → Option (List ℕ) → Type 0) → (Text → Type 0) → Task → Option FilesRead → ℕ

@@ -113,15 +113,23 @@ abbrev pub Either : Bool → Type 0 → Type 0 → Type 0
 Either true P Q = P
 Either false P Q = Q
 
--- The documents were checked in turn, from a status so far to the last one, to the last of them or to the first after which an output had failed.
-abbrev pub EndsEach : (Option (List ℕ) → Option (List ℕ) → Type 0) → (List ℕ → Type 0) → Shared → List (Form × List ℕ) → ℕ → ℕ
-    → Option (List ℕ) → Written → Option (List ℕ) → Written → Type 0
-EndsEach has_document is_shut shared [] so_far status out_old out err_old err = (status ≡ so_far) × (out.contents ≡ out_old) × (err.contents ≡ err_old)
-EndsEach has_document is_shut shared (d ∷ ds) so_far status out_old out err_old err =
-    (own : ℕ) × (out_next : Written) × (err_next : Written) × EndsOne has_document is_shut shared d own out_old out_next err_old err_next
+-- The documents that are left were checked in turn, from a status and outputs so far to the last of them, or to the first after which an output had
+-- failed. The outputs are as that document left them.
+abbrev pub EndsLeft : (Option (List ℕ) → Option (List ℕ) → Type 0) → (List ℕ → Type 0) → Shared → List (Form × List ℕ) → ℕ → ℕ
+    → Written → Written → Written → Written → Type 0
+EndsLeft has_document is_shut shared [] so_far status out_now out err_now err = (status ≡ so_far) × (out ≡ out_now) × (err ≡ err_now)
+EndsLeft has_document is_shut shared (d ∷ ds) so_far status out_now out err_now err =
+    (own : ℕ) × (out_next : Written) × (err_next : Written) × EndsOne has_document is_shut shared d own out_now.contents out_next err_now.contents err_next
     × Either (has_failed_output out_next err_next)
     ((status ≡ status_after so_far own true) × (out ≡ out_next) × (err ≡ err_next))
-    (EndsEach has_document is_shut shared ds (status_after so_far own false) status out_next.contents out err_next.contents err)
+    (EndsLeft has_document is_shut shared ds (status_after so_far own false) status out_next out err_next err)
+
+-- the same of all documents, from outputs with these contents
+abbrev pub EndsEach : (Option (List ℕ) → Option (List ℕ) → Type 0) → (List ℕ → Type 0) → Shared → List (Form × List ℕ) → ℕ
+    → Option (List ℕ) → Written → Option (List ℕ) → Written → Type 0
+EndsEach has_document is_shut shared ds status out_old out err_old err =
+    (out_first : Written) × (err_first : Written) × (out_first.contents ≡ out_old) × (err_first.contents ≡ err_old)
+    × EndsLeft has_document is_shut shared ds 0 status out_first out err_first err
 
 -- The file of bindings, where there is one, had these bytes, and they are bindings.
 abbrev pub GivesBindings : Sizes → Option (Option (List ℕ)) → Option (List ℕ) → Type 0

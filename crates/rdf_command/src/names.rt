@@ -11,7 +11,8 @@ use rdf_stream::Form;
 /// The words for formats: their names, and `name` for the one that a document's name ends in.
 pub static FORMATS: [&str; 5] = ["nt", "nq", "ttl", "trig", "name"];
 
-/// The format of a document of this name, by a word for formats. There is none where the name is to end in one and does not.
+/// The format of a document of this name, by a word for formats. There is none where the name is to end in one and
+/// does not.
 pub fn form_by(word: &str, name: &str) -> Option<Form>
     requires { IsFormatWord word.now }
     ensures form { IfSome result (IsFormBy word.now name.now) }

@@ -113,7 +113,7 @@ fn check_with<H: Host, O: Drain, E: Drain>(
     requires base { BaseFits (shared_of plan.now).base plan.now.limits }
     requires out { O.has_failed out.old ≡ false }
     requires err { E.has_failed err.old ≡ false }
-    ensures { AsWritten (EndsEach (H.has_document host.now) (H.is_shut host.now) (shared_of plan.now) (documents_of task.now) 0 result)
+    ensures { AsWritten (EndsEach (H.has_document host.now) (H.is_shut host.now) (shared_of plan.now) (documents_of task.now) result)
         O.Drain E.Drain out.old out.new err.old err.new }
 {
     let first = (task.form, name_of(task));

@@ -16,8 +16,8 @@ Options:
   -h, --help     Print help
   -V, --version  Print version
 
-Options of a command, which reads FILE, or standard input where there is none or it is `-`.
-`check` takes several FILEs, and has a line for each, with its name in front:
+`check` takes several FILEs, and has a line for each, with its name in front.
+Options of a command, which reads FILE, or standard input where there is none or it is `-`:
   --format FORMAT  nt (N-Triples), nq (N-Quads), ttl (Turtle), trig (TriG) [default: trig], or
                    name: the one that the file's name ends in, as `.nt`; it is not guessed unasked
   --base IRI       absolute IRI that relative references start from, at most --iri bytes;
@@ -147,9 +147,10 @@ Exit status:
 
 /// What ends the help of `check`.
 pub(crate) const CHECK_NOTES: &str = "
-The format is not guessed from the file's name, unless it is asked for by `--format name`. Past one of the limits N a
-document is refused. Of several FILEs each has a line with its name in front, on standard output where it is accepted, and
-else on standard error; after a refusal the next is read. The status is the greatest of theirs.
+The format is not guessed from the file's name, unless it is asked for by `--format name`.
+Past one of the limits N a document is refused. Of several FILEs each has a line with its name
+in front, on standard output where it is accepted, and else on standard error; after a refusal
+the next is read. The status is the greatest of theirs.
 
 Exit status:
   0  accepted, or help was asked for
@@ -163,8 +164,8 @@ Exit status:
 
 /// What ends the help of `convert`.
 pub(crate) const CONVERT_NOTES: &str = "
-The format is not guessed from the file's name, unless it is asked for by `--format name`. Past one of the limits N a
-document is refused.
+The format is not guessed from the file's name, unless it is asked for by `--format name`.
+Past one of the limits N a document is refused.
 
 Exit status:
   0  accepted, or help was asked for

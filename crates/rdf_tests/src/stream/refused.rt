@@ -1,4 +1,5 @@
-// Documents that are refused: one byte of each is no UTF-8, their brackets stay open, or they begin with a long run of one letter.
+// Documents that are refused: one byte of each is no UTF-8, their brackets stay open, or they begin with a long run
+// of one letter.
 
 use super::large::text_of;
 use super::runs::{Asked, Task, has_text, run};
@@ -42,7 +43,8 @@ fn bad_utf8_at(alloc: Global, document: &str, at: usize) -> Result<String, Alloc
     format!(in alloc; "rdfconv: bad UTF-8 at byte {at}, line {line}\n")
 }
 
-/// Whether with FF in place of this byte it is named, whole and byte by byte, where the document is converted and where it is checked.
+/// Whether with FF in place of this byte it is named, whole and byte by byte, where the document is converted and
+/// where it is checked.
 fn is_named(alloc: Global, document: &str, at: usize) -> Result<bool, AllocError> {
     let spoiled = with_ff(alloc, document, at)?;
     let line = bad_utf8_at(alloc, document, at)?;
@@ -96,7 +98,8 @@ fn lines_of_open(alloc: Global, lines: u64, fault: &str) -> Result<String, Alloc
     Ok(text)
 }
 
-/// Whether of a hundred thousand parentheses that stay open, with so many allowed, these lines are written, and this is reported.
+/// Whether of a hundred thousand parentheses that stay open, with so many allowed, these lines are written, and this
+/// is reported.
 fn is_left_open(alloc: Global, depth: u64, lines: u64, fault: &str) -> bool {
     let parts = [("<http://a/s> <http://a/p> ", 1), ("(", 100_000)];
     let (Ok(document), Ok(text), Some(limits)) = (
@@ -125,7 +128,8 @@ fn a_hundred_thousand_brackets_stay_open(rt: HostRuntime) {
     );
 }
 
-/// Whether of so many of a letter, where a token has at most 1,000 characters, this is reported, whole and byte by byte.
+/// Whether of so many of a letter, where a token has at most 1,000 characters, this is reported, whole and byte by
+/// byte.
 fn is_told(alloc: Global, letter: &str, times: u64, line: &str) -> bool {
     let parts = [(letter, times)];
     let (Ok(document), Some(limits)) = (
