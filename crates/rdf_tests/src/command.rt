@@ -151,15 +151,10 @@ fn other_document(more: &[Document], expected: &[(Form, &str)]) -> Option<&'stat
     if more.len() != expected.len() {
         return Some("number of documents");
     }
-    let mut left = expected;
-    for document in more {
-        let Some((row, rest)) = left.split_first() else {
-            return Some("number of documents");
-        };
+    for (document, row) in more.iter().zip(expected.iter()) {
         if document.form != row.0 || document.name.as_str() != row.1 {
             return Some("document");
         }
-        left = rest;
     }
     None
 }
