@@ -461,15 +461,16 @@ static EXAMPLES: [(&str, &[Answer]); 12] = [
         ],
     ),
     (
-        "1.5e3 -2E-1, 3.e+4 5e+",
+        "1.5e3 -2E-1, 3.e+4 5e:x",
         &[
             Answer::Token(Kind::Double, 0, 1, 5),
             Answer::Token(Kind::Double, 6, 1, 5),
             Answer::Token(Kind::Comma, 11, 1, 1),
             Answer::Token(Kind::Double, 13, 1, 5),
             Answer::Token(Kind::Integer, 19, 1, 1),
-            Answer::Fault(Reason::NoToken, 20),
-            Answer::Fault(Reason::Ended, 22),
+            Answer::Token(Kind::PnameLn, 20, 1, 3),
+            Answer::Token(Kind::End, 23, 1, 0),
+            Answer::Fault(Reason::Ended, 23),
         ],
     ),
     (
