@@ -21,7 +21,7 @@ returns-in_err-document-clause-refused c =
 pub loop-name-preserved : goal.loop-name-preserved
 loop-name-preserved c =
     subst (λ docs. (tail : List (Form × Text)) → AreDocuments c.args.word.now (map (λ s. s.now) (drop (c.loop-name.name-index + 1) c.args.names.now)) tail
-        → AreDocuments c.args.word.now (map (λ s. s.now) c.args.names.now) (further_of docs ++ tail)) (sym c.in-Ok.ensures.items)
+    → AreDocuments c.args.word.now (map (λ s. s.now) c.args.names.now) (further_of docs ++ tail)) (sym c.in-Ok.ensures.items)
     (next_document c.args.word.now _ _ _ _ c.loop-name.documents.items c.in_ok-document.document (drop_more c.args.names.now c.loop-name.name-index _ c.loop-name-test.true)
     c.in_ok-document.ensures.form c.in_ok-document.ensures.name c.loop-name.invariant)
 
