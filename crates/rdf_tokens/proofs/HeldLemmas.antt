@@ -13,7 +13,7 @@ use Rattle.rdf_terms.specs.declared.kind.Dialect.{Dialect}
 use Rattle.rdf_tokens.specs.Tokens.{Place, past, blank}
 use Rattle.rdf_tokens.specs.Good.{good}
 use Rattle.rdf_tokens.specs.Moves.{BeginsChar, beyond, good_bytes, rest_of_bytes, is_broken}
-use Rattle.rdf_tokens.specs.Held.{Held}
+use Rattle.rdf_tokens.specs.Held.{Held, all_bytes}
 use Rattle.rdf_tokens.specs.Scans.{most_bytes}
 use Rattle.rdf_tokens.proofs.GoodLemmas.{good_front}
 use Rattle.rdf_tokens.proofs.BlankLemmas.{blank-bytes}
@@ -94,7 +94,7 @@ text_grown text new start pending piece place taken h u e =
 -- how many bytes are held then
 pub bounded_grown : (text new : List ℕ) (start : ℕ) (pending kept piece : List ℕ) (most : ℕ) → new ≡ drop start text ++ good_bytes (pending ++ piece) →
     kept ≡ cond (is_broken (pending ++ piece)) [] (rest_of_bytes (pending ++ piece)) → length text - start + length pending + length piece ≤ most →
-    length new - 0 + length kept ≤ most
+    all_bytes new kept ≤ most
 bounded_grown text new start pending kept piece most e k l =
     let n : length new ≡ length (drop start text) + length (good_bytes (pending ++ piece)) = ap length e ∙ length-append (drop start text) (good_bytes (pending ++ piece)) in
     let g = kept_within (pending ++ piece) kept k in

@@ -2,6 +2,7 @@
 use Rattle.std.proofs.Common.{drop}
 use Rattle.std.specs.Str.{chars}
 use Rattle.std.specs.String.{string_bytes}
+use Rattle.rdf_tokens.specs.Held.{all_bytes}
 use Rattle.rdf_tokens.specs.Tokens.{Place}
 use Rattle.rdf_tokens.specs.Unread.{Unread}
 use Rattle.rdf_tokens.specs.declared.scanner.Scanner.TheInside.{Inside}
@@ -21,6 +22,7 @@ module _ {Z : Type 0} where
     taken = p;
     ended = s.ended;
     stopped = s.stopped;
+    held = all_bytes (string_bytes s.text) s.pending.items;
   }
 
   abbrev pub unread_of : Inside Z → Unread

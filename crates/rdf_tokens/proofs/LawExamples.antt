@@ -52,7 +52,7 @@ part_first =
 
 -- a scanner that was handed `1 .` and its end, and has given the integer
 given_one : Unread
-given_one = record (unread Turtle 8 (32 ∷ 46 ∷ []) []) {
+given_one = record (unread Turtle 8 [] (32 ∷ 46 ∷ []) []) {
   place = record { offset = 1; line = 1 };
   begun = true;
   taken = end_of (49 ∷ 32 ∷ 46 ∷ []);
@@ -72,7 +72,7 @@ one_first =
 
 -- a scanner that has given the end has given all
 given_end : Unread
-given_end = record (unread Turtle 8 [] []) {
+given_end = record (unread Turtle 8 [] [] []) {
   place = record { offset = 3; line = 1 };
   begun = true;
   taken = end_of (49 ∷ 32 ∷ 46 ∷ []);

@@ -10,8 +10,9 @@ use Rattle.rdf_tokens.specs.Tokens.{Token, Reading, is_empty, with_tokens}
 use Rattle.rdf_tokens.specs.Tokens.Tail.{goes_on, ended, broken}
 use Rattle.rdf_terms.specs.declared.kind.Dialect.{Dialect}
 use Rattle.rdf_tokens.specs.Good.{first_place, good, tail_of, tokens_at, tokens_of}
+use Rattle.rdf_tokens.specs.Held.{all_bytes}
 use Rattle.rdf_tokens.specs.Unread.{Unread}
-use Rattle.rdf_tokens.specs.Scans.{most_bytes, reading_by, reading_of, Reads, HasScanned, SameScan, IsOpen, TakesBytes, unread_bytes, most_unread, fitting, at_once}
+use Rattle.rdf_tokens.specs.Scans.{most_bytes, reading_by, reading_of, Reads, HasScanned, PassesBlank, SameButHeld, SameScan, IsOpen, TakesBytes, unread_bytes, most_unread, fitting, at_once}
 use Rattle.rdf_tokens.specs.Moves.{beyond, BeginsChar, good_bytes, rest_of_bytes, is_broken, counted, lengthened, grown, tail_now, moved, Moves}
 use Rattle.rdf_tokens.proofs.GoodLemmas.{good_front}
 use Rattle.rdf_tokens.proofs.PlaceLemmas.{end_of-append}
@@ -99,6 +100,25 @@ read_on v w bytes ts us s b m r =
         by_end true h r = r ∙ (ap (with_tokens ts) (known true h) ∙ with_both ts us _)
         by_end false h r = λ more e. r more e ∙ (ap (with_tokens ts) (comes v.broken refl h more e) ∙ with_both ts us _)
 
+-- what is held of the text that was read is not looked at
+pub scanned_same : (v : Unread) (n : ℕ) (bytes : List ℕ) (ts : List Token) → HasScanned v bytes ts → HasScanned (record v { held = n }) bytes ts
+scanned_same v n bytes ts r = record { taken = r.taken; reads = by v.stopped v.ended r.reads }
+  where
+    now : (k : Bool) (more : List ℕ) (e : Bool) → reading_by k v more e ≡ reading_by k (record v { held = n }) more e
+    now true more e = refl
+    now false more e = refl
+
+    by : (s e : Bool) → Reads s e v bytes ts → Reads s e (record v { held = n }) bytes ts
+    by true e r = r
+    by false true r = r ∙ ap (with_tokens ts) (now v.broken [] true)
+    by false false r = λ more e. r more e ∙ ap (with_tokens ts) (now v.broken more e)
+
+-- where nothing else changes, nothing of what is to be read does
+pub passes_same : (old new : Unread) → SameButHeld old new → PassesBlank old new
+passes_same old new is =
+    subst (PassesBlank old) (sym is)
+    (record { same = record { dialect = refl; limit = refl }; ended = refl; stopped = refl; less = omega arith; read = scanned_same old new.held })
+
 -- a piece comes
 pub read_push : (v : Unread) (bytes piece : List ℕ) (ts : List Token) → v.stopped ≡ false → v.ended ≡ false → HasScanned v bytes ts →
     HasScanned (grown v piece) (bytes ++ piece) ts
@@ -163,10 +183,22 @@ read_push v bytes piece ts s n r = by_broken v.broken refl
 
 -- what a scanner has read where bytes were taken
 pub takes_bytes : (old new : Unread) (piece : List ℕ) (n : ℕ) → old.stopped ≡ false → old.ended ≡ false → n ≤ length piece → n ≡ fitting old (min (length piece) (at_once old.limit)) →
-    (unread_bytes old < most_unread old.limit → 0 < length piece → 0 < n) → old.taken.offset + n ≤ most_bytes → new ≡ grown old (take n piece) → TakesBytes old piece n new
+    (unread_bytes old < most_unread old.limit → 0 < length piece → 0 < n) → old.taken.offset + n ≤ most_bytes → SameButHeld (grown old (take n piece)) new → TakesBytes old piece n new
 takes_bytes old new piece n s e within count progress most is =
-    subst (TakesBytes old piece n) (sym is) (by_broken old.broken refl)
+    subst (TakesBytes old piece n) (sym is) (takes_same (by_broken old.broken refl))
   where
+    takes_same : TakesBytes old piece n (grown old (take n piece)) → TakesBytes old piece n (record (grown old (take n piece)) { held = new.held })
+    takes_same t = record {
+      same = record { dialect = t.same.dialect; limit = t.same.limit };
+      before = t.before;
+      after = record { running = t.after.running; more = t.after.more };
+      within = t.within;
+      count = t.count;
+      progress = t.progress;
+      most = t.most;
+      read = λ bytes ts r. scanned_same _ new.held (bytes ++ take n piece) ts (t.read bytes ts r);
+    }
+
     size : old.taken.offset + length (take n piece) ≤ most_bytes
     size = let l = length-take-le n piece within in omega arith
 
@@ -211,8 +243,8 @@ unfolding utf8_valid_len utf8_error_len
 begins_nil = record { none_whole = refl; may_come = refl }
 
 -- a scanner that has taken nothing
-abbrev pub unread : Dialect → ℕ → List ℕ → List ℕ → Unread
-unread d limit text pending = record {
+abbrev pub unread : Dialect → ℕ → List ℕ → List ℕ → List ℕ → Unread
+unread d limit bytes text pending = record {
   dialect = d;
   limit = limit;
   place = first_place;
@@ -224,15 +256,16 @@ unread d limit text pending = record {
   taken = first_place;
   ended = false;
   stopped = false;
+  held = all_bytes bytes pending;
 }
 
 -- a scanner that has taken no bytes has given no tokens
-read_nothing : (d : Dialect) (limit : ℕ) → HasScanned (unread d limit [] []) [] []
+read_nothing : (d : Dialect) (limit : ℕ) (bytes : List ℕ) → HasScanned (unread d limit bytes [] []) [] []
 unfolding tokens_of
-read_nothing d limit = record { taken = refl; reads = λ more e. refl }
+read_nothing d limit bytes = record { taken = refl; reads = λ more e. refl }
 
 -- a new scanner has given no tokens of no bytes, however its empty buffers are written
-pub read_new : (d : Dialect) (limit : ℕ) (bytes pending : List ℕ) → bytes ≡ [] → pending ≡ [] → HasScanned (unread d limit (chars bytes) pending) [] []
+pub read_new : (d : Dialect) (limit : ℕ) (bytes pending : List ℕ) → bytes ≡ [] → pending ≡ [] → HasScanned (unread d limit bytes (chars bytes) pending) [] []
 read_new d limit bytes pending a b =
-    subst (λ x. HasScanned (unread d limit x pending) [] []) (sym (ap chars a ∙ chars-nil))
-    (subst (λ x. HasScanned (unread d limit [] x) [] []) (sym b) (read_nothing d limit))
+    subst (λ x. HasScanned (unread d limit bytes x pending) [] []) (sym (ap chars a ∙ chars-nil))
+    (subst (λ x. HasScanned (unread d limit bytes [] x) [] []) (sym b) (read_nothing d limit bytes))

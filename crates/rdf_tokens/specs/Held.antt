@@ -10,6 +10,10 @@ use Rattle.rdf_tokens.specs.NoNames.{HasNoNames}
 use Rattle.rdf_tokens.specs.Moves.{BeginsChar}
 use Rattle.rdf_tokens.specs.Scans.{most_bytes, most_unread}
 
+-- the bytes of all texts that are held: of the text, what was read of it too, and of a character that has not come whole
+abbrev pub all_bytes : List ℕ → List ℕ → ℕ
+all_bytes text pending = length text + length pending
+
 -- a place has no more lines than bytes before it
 abbrev pub IsPlace : Place → Type 0
 IsPlace p = p.line ≤ p.offset + 1
@@ -29,4 +33,4 @@ pub record Holds (d : Dialect) (limit : ℕ) (text : List ℕ) (start : ℕ) (wa
   pub held : Held text start pending place taken
   pub walked : Walked d (drop start text) walk
   pub no_names : HasNoNames d (drop start text) names
-  pub bounded : length text - start + length pending ≤ most_unread limit
+  pub bounded : all_bytes text pending ≤ most_unread limit

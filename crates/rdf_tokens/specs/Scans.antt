@@ -84,6 +84,10 @@ unread_bytes v = length (encode_utf8_all v.text) + length v.pending
 abbrev pub most_unread : ℕ → ℕ
 most_unread limit = 4 * (limit + 1) + 3
 
+-- nothing changes but how much is held of the text that was read
+abbrev pub SameButHeld : Unread → Unread → Type 0
+SameButHeld old new = new ≡ record old { held = new.held }
+
 -- how many of so many bytes are taken
 abbrev pub fitting : Unread → ℕ → ℕ
 fitting v n = min n (min (most_bytes - v.taken.offset) (most_unread v.limit - unread_bytes v))

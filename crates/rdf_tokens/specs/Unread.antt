@@ -25,3 +25,5 @@ pub record Unread : Type 0 where
   pub ended : Bool
   -- a fault was reported, or the end was given
   pub stopped : Bool
+  -- how many bytes the texts have that are held, also the text that was read, which stays until the next piece comes
+  pub held : ℕ

@@ -6,7 +6,7 @@ ghost use Rattle.std.specs.String.{string_bytes};
 ghost use mathlib.Core.Option.{none};
 ghost use Rattle.std.specs.Borrow.{sem, follows_so};
 ghost use Rattle.rdf_tokens.specs.Tokens.{Token as Read, step, is_empty};
-ghost use Rattle.rdf_tokens.specs.Scans.{PassesBlank, HasScanned, Pushes, Gives, KnowsColon, left, most_bytes, token_of, place_of, unread_bytes, IsWaiting, most_unread, fitting, at_once};
+ghost use Rattle.rdf_tokens.specs.Scans.{PassesBlank, SameButHeld, HasScanned, Pushes, Gives, KnowsColon, left, most_bytes, token_of, place_of, unread_bytes, IsWaiting, most_unread, fitting, at_once};
 ghost use Rattle.rdf_tokens.specs.Look.{tail_after, IsLook};
 ghost use Rattle.rdf_tokens.specs.contracts.scanner.Scanner.{the_row};
 ghost use Rattle.rdf_tokens.specs.Moves.{closed, grown, good_bytes, is_broken, rest_of_bytes, is_settled, tail_now, fault_place, is_flat, GivesEnd, GivesWithColon, Moves, MovesBytes, Stands};
@@ -67,7 +67,7 @@ impl<A: Allocator> Model for Scanner<A> {
     ghost use Rattle.std.specs.Str.{chars};
     ghost use Rattle.std.specs.String.{string_bytes};
     ghost use Rattle.rdf_tokens.specs.Unread.{Unread};
-    ghost use Rattle.rdf_tokens.specs.Held.{Holds};
+    ghost use Rattle.rdf_tokens.specs.Held.{all_bytes, Holds};
 
     ghost Value = { Unread };
 
@@ -83,6 +83,7 @@ impl<A: Allocator> Model for Scanner<A> {
       taken = record { offset = s.taken; line = s.last_line };
       ended = s.ended;
       stopped = s.stopped;
+      held = all_bytes (string_bytes s.text) s.pending.items;
     } };
 
     ghost invariant = { λ s. Holds s.dialect s.limit (string_bytes s.text) s.start s.walk s.no_names s.pending.items
@@ -117,11 +118,14 @@ impl<A: Allocator + Copy> Scanner<A> {
         }
     }
 
-    /// How many bytes are held of which no token was given: of the text, and of a character that has not come whole. They are at most
-    /// four for each character of the limit and for one more, and three. After a `next` that answered `None` they are the bytes that
-    /// leave the next token open. It takes no memory.
+    /// How many bytes are held of which no token was given: of the text, and of a character that has not come whole. After a `next` that
+    /// answered `None` they are the bytes that leave the next token open. Text that was read stays until the next `push`. It is not counted
+    /// here, but with it too the bytes that are held are at most four for each character of the limit and for one more, and three: at all
+    /// times, also after an error. It takes no memory.
     pub fn pending(&self) -> u64
         ensures count { result ≡ unread_bytes self.now }
+        ensures within { result ≤ self.now.held }
+        ensures all { self.now.held ≤ most_unread self.now.limit }
         ensures bound { result ≤ most_unread self.now.limit }
         ensures few { result ≤ most_bytes }
     {
@@ -293,10 +297,11 @@ impl<A: Allocator + Copy> Scanner<A> {
         self.last_line += feeds;
     }
 
-    /// Gives memory back that the text of given tokens took, as after a long one. Nothing else changes: where a smaller block is refused,
-    /// the greater one stays.
+    /// Gives memory back that the text of given tokens took, as after a long one. What is to be read stays as it is: where a smaller block
+    /// is refused, the greater one stays.
     pub fn shrink(&mut self)
-        ensures { self.new ≡ self.old }
+        ensures same { SameButHeld self.old self.new }
+        ensures less { self.new.held ≤ self.old.held }
     {
         match drop_front(&mut self.text, self.start) {
             Ok(()) => {
@@ -422,14 +427,14 @@ impl<A: Allocator + Copy> Scanner<A> {
         len.min(left.min(free) as usize)
     }
 
-    // Where a growth is refused, nothing changes. It is called once for each piece, and what it counts is a loop over all bytes: inlined, that loop
+    // Where a growth is refused, nothing of what is to be read changes. It is called once for each piece, and what it counts is a loop over all bytes: inlined, that loop
     // took two instructions more for sixteen bytes.
     #[inline(never)]
     fn take_in(&mut self, piece: &[u8]) -> Result<(), AllocError>
         requires most { self.old.taken.offset + length piece.now ≤ most_bytes }
         requires room { unread_bytes self.old + length piece.now ≤ most_unread self.old.limit }
-        ensures ok { OnOk result (self.new ≡ grown self.old piece.now) }
-        ensures err { OnErr result (self.new ≡ self.old) }
+        ensures ok { OnOk result (SameButHeld (grown self.old piece.now) self.new) }
+        ensures err { OnErr result (SameButHeld self.old self.new) }
     {
         if !self.broken {
             drop_front(&mut self.text, self.start)?;

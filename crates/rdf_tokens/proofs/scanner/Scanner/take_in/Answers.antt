@@ -5,7 +5,7 @@ use Rattle.std.specs.String.{string_bytes}
 use Rattle.rdf_tokens.specs.Tokens.{Place}
 use Rattle.rdf_tokens.specs.Unread.{Unread}
 use Rattle.rdf_tokens.specs.Moves.{good_bytes, rest_of_bytes, is_broken, grown, counted, lengthened}
-use Rattle.rdf_tokens.specs.Held.{Held, Holds}
+use Rattle.rdf_tokens.specs.Held.{Held, Holds, all_bytes}
 use Rattle.rdf_tokens.specs.Scans.{most_bytes, most_unread, unread_bytes}
 use Rattle.rdf_tokens.specs.declared.scanner.Scanner.TheInside.{Inside}
 use Rattle.rdf_tokens.proofs.Inside.{unread_at, unread_of}
@@ -25,11 +25,15 @@ module _ {Z : Type 0} where
   abbrev HoldsAt : Inside Z → Place → Type 0
   HoldsAt s p = Holds s.dialect s.limit (string_bytes s.text) s.start s.walk s.no_names s.pending.items (record { offset = s.offset; line = s.line }) p
 
-abbrev with_fields : Unread → List ℕ → List ℕ → Bool → Place → Unread
-with_fields v text pending broken taken = record v { text = text; pending = pending; broken = broken; taken = taken }
+abbrev with_fields : Unread → ℕ → List ℕ → List ℕ → Bool → Place → Unread
+with_fields v held text pending broken taken = record v { text = text; pending = pending; broken = broken; taken = taken; held = held }
 
-same_fields : (v : Unread) {t t' p p' : List ℕ} {b b' : Bool} {q q' : Place} → t ≡ t' → p ≡ p' → b ≡ b' → q ≡ q' → with_fields v t p b q ≡ with_fields v t' p' b' q'
-same_fields v e f h k = cc
+same_fields : (v : Unread) (n : ℕ) {t t' p p' : List ℕ} {b b' : Bool} {q q' : Place} → t ≡ t' → p ≡ p' → b ≡ b' → q ≡ q' → with_fields v n t p b q ≡ with_fields v n t' p' b' q'
+same_fields v n e f h k = cc
+
+-- what has come, and how much is held
+abbrev holding : ℕ → Unread → Unread
+holding n v = record v { held = n }
 
 pub invariant_of-self-2 : goal.invariant_of-self-2
 invariant_of-self-2 g c =
@@ -61,18 +65,20 @@ returns-clause-ok g c =
     let s = c.self.inside in
     let piece = c.args.piece.now in
     let v : Unread = unread_of s in
-    let P : Inside _ → Type 0 = λ i. unread_at i (after i piece c.line_feeds.result) ≡ grown v piece in
-    let all : unread_at c.if-not-self.self-inside (after c.if-not-self.self-inside piece c.line_feeds.result) ≡ grown v piece = elim c.if-not-self.branch [
+    let held : Inside _ → ℕ = λ i. all_bytes (string_bytes i.text) i.pending.items in
+    let P : Inside _ → Type 0 = λ i. unread_at i (after i piece c.line_feeds.result) ≡ holding (held i) (grown v piece) in
+    let i = c.if-not-self.self-inside in
+    let all : unread_at i (after i piece c.line_feeds.result) ≡ holding (held i) (grown v piece) = elim c.if-not-self.branch [
       | then-not-self+in_ok-drop_front+in_ok-self-inside w ↦
           let new : string_bytes w.add_piece.new.text ≡ drop s.start (string_bytes s.text) ++ good_bytes (s.pending.items ++ piece) =
           w.in_ok-self-inside.ensures.text ∙ ap (λ x. x ++ good_bytes (s.pending.items ++ piece)) w.in_ok-drop_front.ensures.ok in
           let text = text_grown (string_bytes s.text) (string_bytes w.add_piece.new.text) s.start s.pending.items piece _ _ c.self.invariant.held (IsUtf8-string_bytes s.text) new in
           let kept : w.add_piece.new.pending.items ≡ cond (is_broken (s.pending.items ++ piece)) [] (rest_of_bytes (s.pending.items ++ piece)) =
           w.in_ok-self-inside.ensures.pending ∙ ap (λ b. cond b [] (rest_of_bytes (s.pending.items ++ piece))) w.in_ok-self-inside.ensures.broken in
-          subst P (sym w.self-inside-is) (same_fields v text kept w.in_ok-self-inside.ensures.broken (ap (λ n. after s piece n) c.line_feeds.ensures)
-          ∙ sym (cond-false s.broken (counted v piece) (lengthened v piece) w.if-not-self.true))
+          subst P (sym w.self-inside-is) (same_fields v (all_bytes (string_bytes w.add_piece.new.text) w.add_piece.new.pending.items) text kept w.in_ok-self-inside.ensures.broken (ap (λ n. after s piece n) c.line_feeds.ensures)
+          ∙ ap (holding (all_bytes (string_bytes w.add_piece.new.text) w.add_piece.new.pending.items)) (sym (cond-false s.broken (counted v piece) (lengthened v piece) w.if-not-self.true)))
       | else-not-self w ↦
           subst P (sym w.self-inside-is)
-          (ap (λ n. unread_at s (after s piece n)) c.line_feeds.ensures ∙ sym (cond-true s.broken (counted v piece) (lengthened v piece) w.if-not-self.false))
+          (ap (λ n. unread_at s (after s piece n)) c.line_feeds.ensures ∙ ap (holding (held s)) (sym (cond-true s.broken (counted v piece) (lengthened v piece) w.if-not-self.false)))
     ] in
-    all ∙ ap (λ v. grown v piece) c.self.view_is
+    all ∙ ap (λ v. holding (held i) (grown v piece)) c.self.view_is
