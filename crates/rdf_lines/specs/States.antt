@@ -1,5 +1,5 @@
 -- What the states of the reader's code mean, and what taking a token does.
-use Rattle.std.specs.Prelude.{◌≡◌, ◌≤◌, ◌+◌, ◌*◌, ◌^◌, ℕ, Bool, true, false, List, length, Option, option_map, ◌⊎◌}
+use Rattle.std.specs.Prelude.{◌≡◌, ◌≤◌, ◌+◌, ◌*◌, ◌^◌, ℕ, Bool, true, false, List, length, Option, Some, None, option_map, ◌⊎◌}
 use Rattle.std.specs.Str.{chars}
 use Rattle.std.specs.String.{string_bytes}
 use Rattle.rdf_terms.specs.declared.reason.Reason.{Reason}
@@ -20,27 +20,32 @@ use Rattle.rdf_lines.specs.declared.state.Mode.TheVariants as at
 use Rattle.rdf_lines.specs.declared.state.State.{State}
 use Rattle.rdf_tokens.specs.Leaves.{Leaf, leaf_of}
 use Rattle.rdf_lines.specs.Documents.{most_text}
+use Rattle.rdf_lines.specs.Slots.{iri_or_string, tail_or_string}
 use Rattle.rdf_lines.specs.Machine.{Mode, Begin, AfterSubject, AfterPredicate, AfterString, AfterCarets, AfterObject, AfterGraph, AfterDot, Finished, Answer, accept, goes, gives, is_taken, quad, refuses}
 
 -- the characters of the lexical form
 abbrev pub text_in : {A : Type 0} → State A → List ℕ
 text_in r = chars (string_bytes r.lexical)
 
+-- the predicate
+abbrev pub predicate_of : {A : Type 0} → State A → List ℕ
+predicate_of r = iri_or_string r.predicate
+
 -- the term of an object of this kind
 abbrev pub object_of : {A : Type 0} → State A → ObjectKind → Term
 object_of r Named = Resource r.object
 object_of r Plain = Literal (text_in r) (Typed xsd_string)
-object_of r WithTail = Literal (text_in r) r.tail
+object_of r WithTail = Literal (text_in r) (tail_or_string r.tail)
 
 -- the mode of the machine that a mode of the reader is, with the texts of a state
 abbrev pub mode_at : {A : Type 0} → State A → Stand → Mode
 mode_at r at.Begin = Begin
 mode_at r at.AfterSubject = AfterSubject r.subject
-mode_at r at.AfterPredicate = AfterPredicate r.subject r.predicate
-mode_at r at.AfterString = AfterString r.subject r.predicate (text_in r)
-mode_at r at.AfterCarets = AfterCarets r.subject r.predicate (text_in r)
-mode_at r (at.AfterObject k) = AfterObject r.subject r.predicate (object_of r k)
-mode_at r (at.AfterGraph k) = AfterGraph r.subject r.predicate (object_of r k) r.graph
+mode_at r at.AfterPredicate = AfterPredicate r.subject (predicate_of r)
+mode_at r at.AfterString = AfterString r.subject (predicate_of r) (text_in r)
+mode_at r at.AfterCarets = AfterCarets r.subject (predicate_of r) (text_in r)
+mode_at r (at.AfterObject k) = AfterObject r.subject (predicate_of r) (object_of r k)
+mode_at r (at.AfterGraph k) = AfterGraph r.subject (predicate_of r) (object_of r k) r.graph
 mode_at r at.AfterDot = AfterDot
 mode_at r at.Finished = Finished
 
@@ -78,7 +83,7 @@ answer rules m t = accept (is_taken rules.iri) rules.form m t.kind (leaf t)
 
 -- the quad of the parts that were read, with an object of this kind
 abbrev pub quad_with : {A : Type 0} → State A → ObjectKind → Option SubjectRef → Quad
-quad_with r k g = quad r.subject r.predicate (object_of r k) (option_map (subject_by chars) g)
+quad_with r k g = quad r.subject (predicate_of r) (object_of r k) (option_map (subject_by chars) g)
 
 -- why a token is not accepted where nothing is put
 abbrev pub Declines : Reason → Answer → Type 0
@@ -135,40 +140,25 @@ abbrev pub subject_bytes : Subject → ℕ
 subject_bytes (Iri i) = byte_len i
 subject_bytes (Blank n) = node_bytes n
 
--- the bytes of a datatype or a tag
-abbrev pub tail_bytes : Tail → ℕ
-tail_bytes (Lang t) = byte_len t
-tail_bytes (Typed i) = byte_len i
+-- the bytes of a predicate, where one has come
+abbrev pub predicate_bytes : Option (List ℕ) → ℕ
+predicate_bytes (Some i) = byte_len i
+predicate_bytes None = 0
 
--- the bytes of the subject and the predicate
-abbrev pub front_bytes : {A : Type 0} → State A → ℕ
-front_bytes r = subject_bytes r.subject + byte_len r.predicate
+-- the bytes of a datatype or a tag, where one has come
+abbrev pub tail_bytes : Option Tail → ℕ
+tail_bytes (Some (Lang t)) = byte_len t
+tail_bytes (Some (Typed i)) = byte_len i
+tail_bytes None = 0
 
 -- the bytes of the lexical form
 abbrev pub text_bytes : {A : Type 0} → State A → ℕ
 text_bytes r = length (string_bytes r.lexical)
 
--- the bytes of the texts of an object of this kind; xsd:string, where it is not spelled, is none of them
-abbrev pub object_bytes : {A : Type 0} → State A → ObjectKind → ℕ
-object_bytes r Named = subject_bytes r.object
-object_bytes r Plain = text_bytes r
-object_bytes r WithTail = text_bytes r + tail_bytes r.tail
-
--- the bytes of the texts that belong to a mode
-abbrev pub bytes_at : {A : Type 0} → State A → Stand → ℕ
-bytes_at r at.Begin = 0
-bytes_at r at.AfterSubject = subject_bytes r.subject
-bytes_at r at.AfterPredicate = front_bytes r
-bytes_at r at.AfterString = front_bytes r + text_bytes r
-bytes_at r at.AfterCarets = front_bytes r + text_bytes r
-bytes_at r (at.AfterObject k) = front_bytes r + object_bytes r k
-bytes_at r (at.AfterGraph k) = front_bytes r + object_bytes r k + subject_bytes r.graph
-bytes_at r at.AfterDot = 0
-bytes_at r at.Finished = 0
-
--- the bytes of the texts that a state holds; what it has of others is room for the next ones
+-- the bytes of all texts of a state, whatever its mode
 abbrev pub state_bytes : {A : Type 0} → State A → ℕ
-state_bytes r = bytes_at r r.mode
+state_bytes r =
+    subject_bytes r.subject + predicate_bytes r.predicate + subject_bytes r.object + text_bytes r + tail_bytes r.tail + subject_bytes r.graph
 
 -- how many texts belong to a mode at most
 abbrev pub texts_in : Stand → ℕ
@@ -182,9 +172,9 @@ texts_in (at.AfterGraph k) = 5
 texts_in at.AfterDot = 0
 texts_in at.Finished = 0
 
--- in a mode a state holds no more than so many bytes for each of its texts
+-- a state holds no more than so many bytes for each text that belongs to a mode
 abbrev pub HoldsAt : {A : Type 0} → ℕ → State A → Stand → Type 0
-HoldsAt n r m = bytes_at r m ≤ texts_in m * n
+HoldsAt n r m = state_bytes r ≤ texts_in m * n
 
 -- the same in the mode that it has
 abbrev pub HoldsAtMost : {A : Type 0} → ℕ → State A → Type 0

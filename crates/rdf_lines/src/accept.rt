@@ -38,6 +38,7 @@ impl<A: Allocator> State<A> {
             }
             Err(Reason::Unexpected) => Err(Reason::Unexpected),
             Err(reason) => {
+                self.clear();
                 self.mode = Mode::Finished;
                 Err(reason)
             }
@@ -202,7 +203,11 @@ impl<A: Allocator> State<A> {
             (answer rules (mode_at self.old (Mode.AfterObject kind)) token.now) sink.old sink.new) }
     {
         match (rules.form, token.kind) {
-            (_, Kind::Dot) => self.give(kind, None, sink),
+            (_, Kind::Dot) => {
+                let mode = self.give(kind, None, sink)?;
+                self.clear();
+                Ok(mode)
+            }
             (LineForm::NQuads, Kind::IriRef) => {
                 self.graph.set_iri(token.text, rules.iri)?;
                 Ok(Mode::AfterGraph(kind))
@@ -217,21 +222,26 @@ impl<A: Allocator> State<A> {
 
     #[inline(always)]
     fn after_graph<S: QuadSink>(
-        &self,
+        &mut self,
         kind: ObjectKind,
         token: &Token<'_>,
         sink: &mut S,
     ) -> Result<Mode, Reason>
         requires { S.has_failed sink.old ≡ false }
         ensures ok { IfOk result (λ m. DoesByAnyRules S.takes
-            (mode_at self.now (Mode.AfterGraph kind)) token.now sink.old (mode_at self.now m) sink.new) }
+            (mode_at self.old (Mode.AfterGraph kind)) token.now sink.old (mode_at self.new m) sink.new) }
         ensures live { OnOk result (S.has_failed sink.new ≡ false) }
-        ensures held { IfOk result (λ m. (n : ℕ) → HoldsAt n self.now m) }
+        ensures held { IfOk result (λ m. (n : ℕ) → HoldsAt n self.new m) }
+        ensures stays { IfErr result (λ r. self.new ≡ self.old) }
         ensures err { IfErr result (λ r. FailsByAnyRules S.leaves S.has_failed r
-            (mode_at self.now (Mode.AfterGraph kind)) token.now sink.old sink.new) }
+            (mode_at self.old (Mode.AfterGraph kind)) token.now sink.old sink.new) }
     {
         match token.kind {
-            Kind::Dot => self.give(kind, Some(self.graph.view()), sink),
+            Kind::Dot => {
+                let mode = self.give(kind, Some(self.graph.view()), sink)?;
+                self.clear();
+                Ok(mode)
+            }
             _ => Err(Reason::Unexpected),
         }
     }
@@ -245,9 +255,9 @@ impl<A: Allocator> State<A> {
         sink: &mut S,
     ) -> Result<Mode, Reason>
         requires { S.has_failed sink.old ≡ false }
-        ensures ok { IfOk result (λ m. Does S.takes (gives (quad_with self.now kind graph.entry) M.AfterDot) sink.old (mode_at self.now m) sink.new) }
+        ensures mode { IfOk result (λ m. m ≡ Mode.AfterDot) }
+        ensures ok { OnOk result (S.takes sink.old (quad_with self.now kind graph.entry) sink.new) }
         ensures live { OnOk result (S.has_failed sink.new ≡ false) }
-        ensures held { IfOk result (λ m. (n : ℕ) → HoldsAt n self.now m) }
         ensures err { IfErr result (λ r. Fails S.leaves S.has_failed r (gives (quad_with self.now kind graph.entry) M.AfterDot) sink.old sink.new) }
     {
         let quad = QuadRef {
@@ -266,7 +276,7 @@ impl<A: Allocator> State<A> {
     #[inline(always)]
     fn after_dot(&self, token: &Token<'_>) -> Result<Mode, Reason>
         ensures ok { IfOk result (λ m. (g : Rules) → answer g M.AfterDot token.now ≡ goes (mode_at self.now m)) }
-        ensures held { IfOk result (λ m. (n : ℕ) → HoldsAt n self.now m) }
+        ensures held { IfOk result (λ m. (n : ℕ) → HoldsAt n self.now Mode.AfterDot → HoldsAt n self.now m) }
         ensures err { IfErr result (λ r. (g : Rules) → Declines r (answer g M.AfterDot token.now)) }
     {
         match token.kind {

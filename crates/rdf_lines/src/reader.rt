@@ -9,7 +9,7 @@ ghost use Rattle.rdf_driver.specs.Readers.{HasRead, SameLimits, Feeds, FeedFails
 ghost use Rattle.rdf_driver.specs.Readers as R;
 ghost use Rattle.rdf_lines.specs.Documents.{most_held};
 ghost use Rattle.rdf_lines.specs.Lines.{trees};
-ghost use Rattle.rdf_lines.specs.Accepting.{line_words};
+ghost use Rattle.rdf_lines.specs.Accepting.{all_bytes, line_words};
 
 use crate::form::LineForm;
 use crate::grammar::LineGrammar;
@@ -112,11 +112,13 @@ impl<A: Allocator + Copy> LineReader<A> {
     }
 
     /// The bytes of the texts that are held: of the next token, as far as it has come, and of the line that is being read. After each
-    /// call, also one that failed, they are at most what the limits allow (`most` of `new`, `limits` of `feed` and `finish`). Spare
-    /// capacity is not counted. It takes no memory.
+    /// call, also one that failed, they are at most what the limits allow (`most` of `new`, `limits` of `feed` and `finish`), and so are
+    /// the bytes of all texts of the reader, which has besides these the text of the last tokens until the next piece comes. Spare capacity
+    /// is not counted. It takes no memory.
     pub fn held(&self) -> u64
         ensures sum { result ≡ unread_bytes self.now.scanner + self.now.grammar.held }
         ensures most { result ≤ R.most_held line_words self.now }
+        ensures all { all_bytes self.now ≤ R.most_held line_words self.now }
     {
         self.reader.held()
     }

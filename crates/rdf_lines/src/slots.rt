@@ -1,19 +1,18 @@
-// Texts that are used again from line to line: those of a subject, of a predicate, and of what follows a string.
+// Texts whose memory is used again from line to line: those of a subject, of a predicate, and of what follows a string.
 
-ghost use Rattle.std.specs.Prelude.{◌≡◌, ◌≤◌, ◌*◌, [], length, true, drop, OnOk, IfErr};
+ghost use Rattle.std.specs.Prelude.{◌≡◌, ◌≤◌, ◌*◌, [], length, true, drop, None, Some, OnOk, IfErr};
 ghost use Rattle.std.specs.Str.{chars};
 ghost use Rattle.rdf_terms.specs.Buffers.{iri_in};
 ghost use Rattle.rdf_terms.specs.Shapes.{Shape};
 ghost use Rattle.rdf_terms.specs.Values as V;
-ghost use Rattle.rdf_terms.specs.Terms.{Subject, Iri, Label, Blank, Lang, Typed, xsd_string};
+ghost use Rattle.rdf_terms.specs.Terms.{Subject, Iri, Label, Blank, Lang, Typed};
 ghost use Rattle.rdf_terms.specs.Views.{iri_chars, subject_by, tail_by};
 ghost use Rattle.rdf_iri.specs.Texts.{byte_len};
 ghost use Rattle.rdf_lines.specs.Machine.{is_taken};
-ghost use Rattle.rdf_lines.specs.Slots.{subject_at, tail_at};
+ghost use Rattle.rdf_lines.specs.Slots.{iri_or_string, subject_at, tail_or_string};
 ghost use Rattle.rdf_lines.specs.Spelled.{IriRefused};
-ghost use Rattle.rdf_lines.specs.States.{subject_bytes, tail_bytes};
+ghost use Rattle.rdf_lines.specs.States.{predicate_bytes, subject_bytes, tail_bytes};
 ghost use Rattle.rdf_lines.specs.declared.slots.SubjectKind.TheVariants as SubjectKind;
-ghost use Rattle.rdf_lines.specs.declared.slots.TailKind.TheVariants as TailKind;
 
 use crate::spelled::{set_iri, tag_of};
 use rdf_terms::{
@@ -72,10 +71,17 @@ impl<A: Allocator> SubjectText<A> {
         ensures short { OnOk result (byte_len (iri_in (chars text.now)) ≤ limit) }
         ensures err { IfErr result (λ r. IriRefused limit r (iri_in (chars text.now))) }
     {
-        self.kind = SubjectKind::Nothing;
-        set_iri(&mut self.text, text, limit)?;
-        self.kind = SubjectKind::Iri;
-        Ok(())
+        match set_iri(&mut self.text, text, limit) {
+            Ok(()) => {
+                self.kind = SubjectKind::Iri;
+                Ok(())
+            }
+            Err(reason) => {
+                self.kind = SubjectKind::Nothing;
+                self.text.clear();
+                Err(reason)
+            }
+        }
     }
 
     /// The node of a BLANK_NODE_LABEL.
@@ -86,10 +92,17 @@ impl<A: Allocator> SubjectText<A> {
         ensures short { OnOk result (byte_len (drop 2 (chars text.now)) ≤ 4 * length (chars text.now)) }
         ensures err { IfErr result (λ r. r ≡ Reason.Memory) }
     {
-        self.kind = SubjectKind::Nothing;
-        put_text(&mut self.text, label_of(text))?;
-        self.kind = SubjectKind::Label;
-        Ok(())
+        match put_text(&mut self.text, label_of(text)) {
+            Ok(()) => {
+                self.kind = SubjectKind::Label;
+                Ok(())
+            }
+            Err(_) => {
+                self.kind = SubjectKind::Nothing;
+                self.text.clear();
+                Err(Reason::Memory)
+            }
+        }
     }
 
     /// The subject, borrowed.
@@ -106,14 +119,19 @@ impl<A: Allocator> SubjectText<A> {
         }
     }
 
-    /// How many bytes its IRI or label has.
+    /// As before the first subject, but for the memory, which stays.
+    pub fn clear(&mut self)
+        ensures { self.new ≡ subject_at SubjectKind.Nothing [] }
+    {
+        self.kind = SubjectKind::Nothing;
+        self.text.clear();
+    }
+
+    /// How many bytes its text has: its IRI or label.
     pub fn len(&self) -> u64
         ensures { result ≡ subject_bytes self.now }
     {
-        match self.kind {
-            SubjectKind::Iri | SubjectKind::Label => text_len(self.text.as_str()),
-            SubjectKind::Nothing => 0,
-        }
+        text_len(self.text.as_str())
     }
 }
 
@@ -125,23 +143,22 @@ pub struct IriText<A: Allocator = Global> {
 }
 
 impl<A: Allocator> Model for IriText<A> {
-    ghost use Rattle.std.specs.Prelude.{◌≡◌, ℕ, List, true};
+    ghost use Rattle.std.specs.Prelude.{ℕ, List, Option};
     ghost use Rattle.std.specs.Str.{chars};
     ghost use Rattle.std.specs.String.{string_bytes};
-    ghost use Rattle.rdf_terms.specs.Terms.{IsIri};
-    ghost use Rattle.rdf_lines.specs.Slots.{iri_at};
+    ghost use Rattle.rdf_lines.specs.Slots.{iri_at, IsIriText};
 
-    ghost Value = { List ℕ };
+    ghost Value = { Option (List ℕ) };
 
     ghost view = { λ i. iri_at i.has_come (chars (string_bytes i.text)) };
 
-    ghost invariant = { λ i. i.has_come ≡ true → ∥ IsIri (chars (string_bytes i.text)) ∥₁ };
+    ghost invariant = { λ i. IsIriText i.has_come (chars (string_bytes i.text)) };
 }
 
 impl<A: Allocator> IriText<A> {
     /// Before the first predicate. It takes no memory.
     pub fn new(alloc: A) -> IriText<A>
-        ensures { result ≡ xsd_string }
+        ensures { result ≡ None }
     {
         IriText {
             has_come: false,
@@ -153,22 +170,29 @@ impl<A: Allocator> IriText<A> {
     #[inline(always)]
     pub fn set(&mut self, text: &str, limit: u64) -> Result<(), Reason>
         requires fit { V.is_fit Kind.IriRef (chars text.now) ≡ true }
-        ensures ok { OnOk result (self.new ≡ iri_in (chars text.now)) }
+        ensures ok { OnOk result (self.new ≡ Some (iri_in (chars text.now))) }
         ensures taken { OnOk result (is_taken limit (iri_in (chars text.now)) ≡ true) }
         ensures short { OnOk result (byte_len (iri_in (chars text.now)) ≤ limit) }
         ensures err { IfErr result (λ r. IriRefused limit r (iri_in (chars text.now))) }
     {
-        self.has_come = false;
-        set_iri(&mut self.text, text, limit)?;
-        self.has_come = true;
-        Ok(())
+        match set_iri(&mut self.text, text, limit) {
+            Ok(()) => {
+                self.has_come = true;
+                Ok(())
+            }
+            Err(reason) => {
+                self.has_come = false;
+                self.text.clear();
+                Err(reason)
+            }
+        }
     }
 
-    /// The IRI, borrowed.
+    /// The IRI, borrowed. Where none has come it is xsd:string.
     #[inline(always)]
     #[tactic(auto, unfolding(rdf_terms::specs::Known::known_chars))]
     pub fn view(&self) -> IriView<'_>
-        ensures { iri_chars result ≡ self.now }
+        ensures { iri_chars result ≡ iri_or_string self.now }
     {
         if self.has_come {
             IriView::new(self.text.as_str())
@@ -177,11 +201,19 @@ impl<A: Allocator> IriText<A> {
         }
     }
 
-    /// How many bytes it has.
-    pub fn len(&self) -> u64
-        ensures { result ≡ byte_len self.now }
+    /// As before the first predicate, but for the memory, which stays.
+    pub fn clear(&mut self)
+        ensures { self.new ≡ None }
     {
-        text_len(self.view().as_str())
+        self.has_come = false;
+        self.text.clear();
+    }
+
+    /// How many bytes its text has.
+    pub fn len(&self) -> u64
+        ensures { result ≡ predicate_bytes self.now }
+    {
+        text_len(self.text.as_str())
     }
 }
 
@@ -204,10 +236,11 @@ pub struct TailText<A: Allocator = Global> {
 impl<A: Allocator> Model for TailText<A> {
     ghost use Rattle.std.specs.Str.{chars};
     ghost use Rattle.std.specs.String.{string_bytes};
+    ghost use Rattle.std.specs.Prelude.{Option};
     ghost use Rattle.rdf_terms.specs.Terms.{Tail};
     ghost use Rattle.rdf_lines.specs.Slots.{tail_at, IsTailText};
 
-    ghost Value = { Tail };
+    ghost Value = { Option Tail };
 
     ghost view = { λ t. tail_at t.kind (chars (string_bytes t.text)) };
 
@@ -217,7 +250,7 @@ impl<A: Allocator> Model for TailText<A> {
 impl<A: Allocator> TailText<A> {
     /// Before the first datatype or tag. It takes no memory.
     pub fn new(alloc: A) -> TailText<A>
-        ensures { result ≡ tail_at TailKind.Nothing [] }
+        ensures { result ≡ None }
     {
         TailText {
             kind: TailKind::Nothing,
@@ -229,36 +262,50 @@ impl<A: Allocator> TailText<A> {
     #[inline(always)]
     pub fn set_datatype(&mut self, text: &str, limit: u64) -> Result<(), Reason>
         requires fit { V.is_fit Kind.IriRef (chars text.now) ≡ true }
-        ensures ok { OnOk result (self.new ≡ Typed (iri_in (chars text.now))) }
+        ensures ok { OnOk result (self.new ≡ Some (Typed (iri_in (chars text.now)))) }
         ensures taken { OnOk result (is_taken limit (iri_in (chars text.now)) ≡ true) }
         ensures short { OnOk result (byte_len (iri_in (chars text.now)) ≤ limit) }
         ensures err { IfErr result (λ r. IriRefused limit r (iri_in (chars text.now))) }
     {
-        self.kind = TailKind::Nothing;
-        set_iri(&mut self.text, text, limit)?;
-        self.kind = TailKind::Datatype;
-        Ok(())
+        match set_iri(&mut self.text, text, limit) {
+            Ok(()) => {
+                self.kind = TailKind::Datatype;
+                Ok(())
+            }
+            Err(reason) => {
+                self.kind = TailKind::Nothing;
+                self.text.clear();
+                Err(reason)
+            }
+        }
     }
 
     /// The tag of a LANGTAG.
     #[inline(always)]
     pub fn set_tag(&mut self, text: &str) -> Result<(), Reason>
         requires { Shape Dialect.Lines Kind.LangTag (chars text.now) }
-        ensures ok { OnOk result (self.new ≡ Lang (drop 1 (chars text.now))) }
+        ensures ok { OnOk result (self.new ≡ Some (Lang (drop 1 (chars text.now)))) }
         ensures short { OnOk result (byte_len (drop 1 (chars text.now)) ≤ 4 * length (chars text.now)) }
         ensures err { IfErr result (λ r. r ≡ Reason.Memory) }
     {
-        self.kind = TailKind::Nothing;
-        put_text(&mut self.text, tag_of(text))?;
-        self.kind = TailKind::Tag;
-        Ok(())
+        match put_text(&mut self.text, tag_of(text)) {
+            Ok(()) => {
+                self.kind = TailKind::Tag;
+                Ok(())
+            }
+            Err(_) => {
+                self.kind = TailKind::Nothing;
+                self.text.clear();
+                Err(Reason::Memory)
+            }
+        }
     }
 
-    /// The datatype or the tag, borrowed.
+    /// The datatype or the tag, borrowed. Where none has come it is xsd:string.
     #[inline(always)]
     #[tactic(auto, unfolding(rdf_terms::specs::Known::known_chars))]
     pub fn view(&self) -> TailRef<'_>
-        ensures { tail_by chars result ≡ self.now }
+        ensures { tail_by chars result ≡ tail_or_string self.now }
     {
         match self.kind {
             TailKind::Datatype => TailRef::Typed(IriView::new(self.text.as_str())),
@@ -267,13 +314,18 @@ impl<A: Allocator> TailText<A> {
         }
     }
 
-    /// How many bytes it has.
+    /// As before the first datatype or tag, but for the memory, which stays.
+    pub fn clear(&mut self)
+        ensures { self.new ≡ None }
+    {
+        self.kind = TailKind::Nothing;
+        self.text.clear();
+    }
+
+    /// How many bytes its text has.
     pub fn len(&self) -> u64
         ensures { result ≡ tail_bytes self.now }
     {
-        match self.view() {
-            TailRef::Typed(datatype) => text_len(datatype.as_str()),
-            TailRef::Lang(tag) => text_len(tag.as_str()),
-        }
+        text_len(self.text.as_str())
     }
 }

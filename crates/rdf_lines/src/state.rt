@@ -9,7 +9,7 @@ ghost use Rattle.rdf_lines.specs.Machine as M;
 ghost use Rattle.rdf_tokens.specs.Leaves.{Leaf};
 ghost use Rattle.rdf_terms.specs.Terms.{Subject, Term};
 ghost use Rattle.rdf_lines.specs.Lines.{any_iri};
-ghost use Rattle.rdf_lines.specs.States.{object_of, mode_of, gave, is_begin, front_bytes, object_bytes, state_bytes, HoldsAtMost, is_accepted};
+ghost use Rattle.rdf_lines.specs.States.{object_of, mode_of, gave, is_begin, state_bytes, HoldsAtMost, is_accepted};
 
 use crate::form::LineForm;
 use crate::slots::{IriText, SubjectText, TailText};
@@ -41,8 +41,8 @@ pub enum Mode {
     Finished,
 }
 
-/// What has been read of a line. The mode says which of the texts belong to it; the others are room for those to come, so that a line
-/// whose texts are no longer than those before it takes no memory.
+/// What has been read of a line. The texts are cleared when the line's quad was put, and keep their memory, so that a line whose texts are
+/// no longer than those before it takes none.
 #[derive(Drop)]
 pub struct State<A: Allocator = Global> {
     pub mode: Mode,
@@ -131,41 +131,30 @@ impl<A: Allocator> State<A> {
         }
     }
 
-    /// The bytes of the texts that are held.
+    /// Clears the texts. Their memory stays.
+    #[inline(always)]
+    pub fn clear(&mut self)
+        ensures { state_bytes self.new ≡ 0 }
+    {
+        self.subject.clear();
+        self.predicate.clear();
+        self.object.clear();
+        self.lexical.clear();
+        self.tail.clear();
+        self.graph.clear();
+    }
+
+    /// The bytes of all texts.
     pub fn held(&self) -> u64
         requires { state_bytes self.now ≤ most_bytes }
         ensures { result ≡ state_bytes self.now }
     {
-        match self.mode {
-            Mode::Begin | Mode::AfterDot | Mode::Finished => 0,
-            Mode::AfterSubject => self.subject.len(),
-            Mode::AfterPredicate => self.front_len(),
-            Mode::AfterString | Mode::AfterCarets => self.front_len() + self.lexical.len() as u64,
-            Mode::AfterObject(kind) => self.front_len() + self.object_len(kind),
-            Mode::AfterGraph(kind) => {
-                self.front_len() + self.object_len(kind) + self.graph.len()
-            }
-        }
-    }
-
-    // The bytes of the subject and the predicate.
-    fn front_len(&self) -> u64
-        requires { front_bytes self.now ≤ most_bytes }
-        ensures { result ≡ front_bytes self.now }
-    {
-        self.subject.len() + self.predicate.len()
-    }
-
-    // The bytes of an object's texts.
-    fn object_len(&self, kind: ObjectKind) -> u64
-        requires { object_bytes self.now kind ≤ most_bytes }
-        ensures { result ≡ object_bytes self.now kind }
-    {
-        match kind {
-            ObjectKind::Named => self.object.len(),
-            ObjectKind::Plain => self.lexical.len() as u64,
-            ObjectKind::WithTail => self.lexical.len() as u64 + self.tail.len(),
-        }
+        self.subject.len()
+            + self.predicate.len()
+            + self.object.len()
+            + self.lexical.len() as u64
+            + self.tail.len()
+            + self.graph.len()
     }
 }
 

@@ -1,5 +1,5 @@
-use Rattle.std.proofs.Common.{refl, rules}
+use Rattle.std.proofs.Common.{rules}
 use Rattle.rdf_lines.proofs.state.State.give.Goals as goal
 
 pub returns-in-Ok-clause-ok : goal.returns-in-Ok-clause-ok
-returns-in-Ok-clause-ok g c = (refl, search rules)
+returns-in-Ok-clause-ok g c = search rules

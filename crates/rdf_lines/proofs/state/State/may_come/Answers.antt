@@ -2,7 +2,7 @@ use Rattle.std.proofs.Common.{◌≡◌, ◌∙◌, sym, ap, subst}
 use Rattle.rdf_terms.specs.Terms.{Literal, Typed, xsd_string}
 use Rattle.rdf_lines.specs.Lines.{any_iri}
 use Rattle.rdf_lines.specs.Machine.{accept}
-use Rattle.rdf_lines.specs.States.{is_accepted, mode_at, text_in}
+use Rattle.rdf_lines.specs.States.{is_accepted, mode_at, predicate_of, text_in}
 use Rattle.rdf_lines.proofs.NextKinds.{text_then}
 use Rattle.rdf_lines.proofs.state.State.may_come.Goals as goal
 
@@ -12,5 +12,5 @@ returns-in_default-kind g c l =
     let r = c.args.self.now in
     let k = c.args.kind in
     subst (λ m. c.may_follow_object.result ≡ is_accepted (accept any_iri c.args.form (mode_at r m) k l)) (sym c.in-AfterString.is)
-    (c.may_follow_object.ensures r.subject r.predicate (Literal (text_in r) (Typed xsd_string)) l
-    ∙ ap is_accepted (sym (text_then c.args.form r.subject r.predicate (text_in r) k l c.in_default-kind.not-LangTag c.in_default-kind.not-Carets)))
+    (c.may_follow_object.ensures r.subject (predicate_of r) (Literal (text_in r) (Typed xsd_string)) l
+    ∙ ap is_accepted (sym (text_then c.args.form r.subject (predicate_of r) (text_in r) k l c.in_default-kind.not-LangTag c.in_default-kind.not-Carets)))

@@ -32,7 +32,7 @@ pub returns-in-AfterCarets-clause-err : goal.returns-in-AfterCarets-clause-err
 returns-in-AfterCarets-clause-err g c = rw c.in-AfterCarets.is (fails_declines g.S.QuadSink.leaves g.S.QuadSink.has_failed (λ (f : LineForm). answer (record { form = f; iri = c.args.rules.iri }) (mode_at c.args.self.now at.AfterCarets) c.args.token.now) c.args.rules.form c.args.sink.now c.after_carets.result c.after_carets.ensures.err)
 
 pub returns-in-AfterGraph-clause-ok : goal.returns-in-AfterGraph-clause-ok
-returns-in-AfterGraph-clause-ok g c = rw c.in-AfterGraph.is (does_same g.S.QuadSink.takes (λ (x : Rules). answer x (mode_at c.args.self.now (at.AfterGraph c.in-AfterGraph.kind)) c.args.token.now) c.args.rules c.args.sink.now c.after_graph.new.sink (mode_at c.args.self.now) c.after_graph.result c.after_graph.ensures.ok)
+returns-in-AfterGraph-clause-ok g c = rw c.in-AfterGraph.is (does_same g.S.QuadSink.takes (λ (x : Rules). answer x (mode_at c.args.self.now (at.AfterGraph c.in-AfterGraph.kind)) c.args.token.now) c.args.rules c.args.sink.now c.after_graph.new.sink (mode_at c.after_graph.new.self) c.after_graph.result c.after_graph.ensures.ok)
 
 pub returns-in-AfterGraph-clause-err : goal.returns-in-AfterGraph-clause-err
 returns-in-AfterGraph-clause-err g c = rw c.in-AfterGraph.is (fails_same g.S.QuadSink.leaves g.S.QuadSink.has_failed (λ (x : Rules). answer x (mode_at c.args.self.now (at.AfterGraph c.in-AfterGraph.kind)) c.args.token.now) c.args.rules c.args.sink.now c.after_graph.new.sink c.after_graph.result c.after_graph.ensures.err)
