@@ -556,7 +556,8 @@ fn feeds_of(kind: Kind, text: &[u8]) -> usize
     ensures { result ≡ count_by (λ b. b == 10) text.now }
 {
     match kind {
-        Kind::LineEnd | Kind::LongString => line_feeds(text),
+        Kind::LineEnd => few_line_feeds(text),
+        Kind::LongString => line_feeds(text),
         _ => 0,
     }
 }
