@@ -427,8 +427,8 @@ impl<A: Allocator + Copy> Scanner<A> {
         len.min(left.min(free) as usize)
     }
 
-    // Where a growth is refused, nothing of what is to be read changes. It is called once for each piece, and what it counts is a loop over all bytes: inlined, that loop
-    // took two instructions more for sixteen bytes.
+    // Where a growth is refused, nothing of what is to be read changes. It is called once for each piece, and what it counts is a loop over all
+    // bytes: inlined, that loop took two instructions more for sixteen bytes.
     #[inline(never)]
     fn take_in(&mut self, piece: &[u8]) -> Result<(), AllocError>
         requires most { self.old.taken.offset + length piece.now ≤ most_bytes }
