@@ -215,10 +215,13 @@ impl<A: Allocator + Copy> TrigReader<A> {
     /// How many bytes of text are held: those of which no token was given, those of the open frames and of the quad in hand, the base,
     /// and the prefixes with their IRIs. After each call, also one that failed, they are at most what the limits allow (`most` of `new`,
     /// `limits` of `feed` and `finish`), and until one fails or finishes at least what is owed after the tokens so far, with the base and
-    /// the prefixes (`least`; `owed` says it of the document). Spare capacity is not counted. It takes no memory.
+    /// the prefixes (`least`; `owed` says it of the document). The text that the scanner has read stays until more comes. It is not counted
+    /// here, but with it too they are at most what the limits allow (`scanned`). Texts of the statements and brackets before are kept for the
+    /// next ones, and not counted, nor is spare capacity. It takes no memory.
     pub fn held(&self) -> u64
         ensures sum { result ≡ unread_bytes self.now.scanner + self.now.grammar.held }
         ensures most { result ≤ R.most_held tree_words self.now }
+        ensures scanned { self.now.scanner.held + self.now.grammar.held ≤ R.most_held tree_words self.now }
         ensures least { HoldsOwed self.now result }
         ensures owed { HoldsAllOwed self.now result }
     {
