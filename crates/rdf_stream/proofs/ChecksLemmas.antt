@@ -18,6 +18,7 @@ use Rattle.rdf_stream.specs.declared.fault.StreamFault.{StreamFault}
 use Rattle.rdf_stream.specs.declared.fault.StreamFault.TheVariants as stream
 use Rattle.rdf_stream.specs.Checks.{BeginsToRead, CheckEnds, CheckHalts, CheckStops, ChecksNoMore, HasChecked, IsChecking, IsRefusedFor, IsAccepted}
 use Rattle.rdf_stream.specs.Devices.{HasGiven, Reading}
+use Rattle.rdf_stream.specs.Expected.{Stands}
 use Rattle.rdf_stream.specs.Faults.{IsOfDocument, IsRefusal, fault_by}
 use Rattle.rdf_stream.specs.Pieces.{ReadStops, ReadsAll, SourceFails}
 use Rattle.rdf_stream.proofs.PiecesLemmas.{all_given, same_front, too_long_more}
@@ -152,7 +153,7 @@ module _ {G X : Type 0} (w : Words G X Quad) where
   Taken first bytes now = HasChecked w first.0 bytes now.0
 
   abbrev pub Halted : StreamFault → R → List ℕ → Bool → R → Type 0
-  Halted reported first bytes e now = CheckHalts w reported first.0 bytes e
+  Halted reported first bytes e now = CheckHalts w reported first.0 bytes e × Stands w (λ x. BeginsToRead w x first.0) first.0.scanner.limit reported bytes e now.0
 
   abbrev pub Ended : Summary → R → List ℕ → R → Type 0
   Ended s first bytes now = CheckEnds w s first.0 bytes
@@ -184,11 +185,11 @@ module _ {G X : Type 0} (w : Words G X Quad) where
         ⊎_elim (λ p. subst (λ t. CheckStops t (in_words w x limit) known left) (sym p.0) (broke p.1))
         (λ p.
         halts_stops reported (in_words w x limit) (b.lawful.ends x) known left p.0
-        (subst (λ n. ChecksNoMore reported (in_words w x n) p.0.bytes left.has_ended) same_limit (p.1.halts x b)))
+        (subst (λ n. ChecksNoMore reported (in_words w x n) p.0.bytes left.has_ended) same_limit (p.1.0.halts x b)))
         h
 
     -- an error of a run is one that `check` may report, and none of a drain
     pub refused_document : (reported : StreamFault) → ReadStops Taken Halted reported known left first now → IsRefusal reported
     refused_document reported h =
         ⊎_elim (λ p. subst IsRefusal (sym p.0) tt)
-        (λ p. halts_of_document reported (in_words w x first.0.scanner.limit) p.0.bytes left.has_ended (p.1.halts x b)) h
+        (λ p. halts_of_document reported (in_words w x first.0.scanner.limit) p.0.bytes left.has_ended (p.1.0.halts x b)) h

@@ -19,6 +19,7 @@ use Rattle.rdf_stream.specs.declared.line_out.LineOut.{LineOut}
 use Rattle.rdf_stream.specs.Converting.{Begins, HaltsFor, IsConverting, RunEnds, RunHalts, Starts}
 use Rattle.rdf_stream.specs.Converts.{Accepts, IsPrompt, RefusesDocument, StopsFor, WritesDue, WritesSome}
 use Rattle.rdf_stream.specs.Devices.{HasGiven, Reading}
+use Rattle.rdf_stream.specs.Expected.{Stands}
 use Rattle.rdf_stream.specs.Faults.{IsOfDocument, IsRefusal, IsSentOn}
 use Rattle.rdf_lines.specs.declared.form.LineForm.{LineForm}
 use Rattle.rdf_lines.specs.declared.form.Style.{Style}
@@ -122,7 +123,9 @@ module _ {G X D : Type 0} (A : Type 0) (contents : D → Option (List ℕ)) (fai
   Taken first bytes now = IsConverting contents failed w style first.0 first.1 bytes now.0 now.1
 
   abbrev pub Halted : StreamFault → R → List ℕ → Bool → R → Type 0
-  Halted reported first bytes e now = RunHalts contents failed w reported first.0 first.1 bytes e now.1 × IsSentOn reported (flushed now.1.drain.now)
+  Halted reported first bytes e now =
+      RunHalts contents failed w reported first.0 first.1 bytes e now.1 × IsSentOn reported (flushed now.1.drain.now)
+      × Stands w (λ x. Begins failed w x first.0 first.1) first.0.scanner.limit reported bytes e now.0
 
   abbrev pub Ended : Summary → R → List ℕ → R → Type 0
   Ended s first bytes now = RunEnds contents failed flushed w s first.0 first.1 bytes now.1

@@ -9,6 +9,7 @@ pub mod ConvertingLemmas
 pub mod GrowthLemmas
 pub mod ConvertsLemmas
 pub mod DocumentLemmas
+pub mod ExpectedLemmas
 pub mod ChecksLemmas
 pub mod TokenWordsLemmas
 pub mod TokenOutLemmas

@@ -2,18 +2,20 @@
 
 ghost use Rattle.std.specs.Prelude.{◌≡◌, true, false, OnOk, IfOk, IfErr};
 ghost use Rattle.rdf_stream.specs.Checks.{BeginsToRead, CheckAccepts, CheckEnds, CheckHalts, CheckStops, HasChecked, IsAllAccepted, IsChecking, ReadingStops};
+ghost use Rattle.rdf_stream.specs.Expected.{ExpectsFor, NoKind, RunExpects, Stands, trees_of};
 ghost use Rattle.rdf_stream.specs.Faults.{IsRefusal};
 ghost use Rattle.rdf_stream.specs.Languages.{language_of};
 ghost use Rattle.rdf_stream.specs.Told.{told};
 
 use crate::devices::Source;
+use crate::expected::expected_beside;
 use crate::fault::StreamFault;
 use crate::form::Kind;
 use crate::job::Job;
 use crate::parts::{Parts, take_parts};
 use crate::passes::Passes;
 use crate::pieces::{Run, piece_buffer, read_pieces};
-use rdf_driver::{Reader, Summary};
+use rdf_driver::{Kinds, Reader, Summary};
 use rdf_lines::{LineEnding, line_reader};
 use rdf_terms::{PutFault, QuadRef, QuadSink};
 use rdf_trig::tree_reader;
@@ -32,17 +34,40 @@ pub fn check<A: Allocator + Copy, S: Source>(
     ensures stops { IfErr result (λ fault. CheckStops fault (language_of job) (S.remaining source.old) (told S.Source source.new)) }
     ensures refused { IfErr result IsRefusal }
 {
+    let mut expected = Kinds::none();
+    check_expecting(alloc, job, source, &mut expected)
+}
+
+/// What `check` does, and the kinds of tokens that could have stood in the place of one that was unexpected. A kind is
+/// in the set exactly if some document begins with the tokens before that place and then a token of the kind, whatever
+/// it spells; limits, and what names and references stand for, are left aside. The set is empty where the document is
+/// accepted and where the fault is another one. What it had before is dropped.
+pub fn check_expecting<A: Allocator + Copy, S: Source>(
+    alloc: A,
+    job: Job<A>,
+    source: &mut S,
+    expected: &mut Kinds,
+) -> Result<Summary, StreamFault>
+    requires more { S.has_ended source.old ≡ false }
+    requires source { S.has_failed source.old ≡ false }
+    ensures accepted { IfOk result (IsAllAccepted (language_of job) (S.remaining source.old)) }
+    ensures ended { OnOk result (S.has_ended source.new ≡ true) }
+    ensures stops { IfErr result (λ fault. CheckStops fault (language_of job) (S.remaining source.old) (told S.Source source.new)) }
+    ensures refused { IfErr result IsRefusal }
+    ensures none { OnOk result (NoKind expected.new) }
+    ensures expected { IfErr result (λ fault. ExpectsFor fault (language_of job) (trees_of job) (S.remaining source.old) (told S.Source source.new) expected.new) }
+{
     let mut job = job;
     match job.form().kind() {
         Kind::Line(form) => {
             let limits = job.limits();
             drop(job);
-            check_with(alloc, line_reader(alloc, form, limits), source)
+            check_with(alloc, line_reader(alloc, form, limits), source, expected)
         }
         Kind::Tree(form) => {
             let options = job.options(form);
             drop(job);
-            check_with(alloc, tree_reader(alloc, options), source)
+            check_with(alloc, tree_reader(alloc, options), source, expected)
         }
     }
 }
@@ -51,6 +76,7 @@ fn check_with<A: Allocator + Copy, G: Passes<A>, S: Source>(
     alloc: A,
     reader: Reader<G, A>,
     source: &mut S,
+    expected: &mut Kinds,
 ) -> Result<Summary, StreamFault>
     requires begun { (x : G.Setting) × BeginsToRead G.words x reader }
     requires more { S.has_ended source.old ≡ false }
@@ -59,16 +85,22 @@ fn check_with<A: Allocator + Copy, G: Passes<A>, S: Source>(
     ensures ended { OnOk result (S.has_ended source.new ≡ true) }
     ensures stops { IfErr result (ReadingStops G.words S.Source reader source.old source.new) }
     ensures refused { IfErr result IsRefusal }
+    ensures expected { RunExpects G.words G.trees (λ x. BeginsToRead G.words x reader) reader.scanner.limit result
+        (S.remaining source.old) (told S.Source source.new) expected.new }
 {
+    *expected = Kinds::none();
     let mut piece = piece_buffer(alloc)?;
     let mut reader = reader;
-    read_pieces(source, piece.as_mut_slice(), &mut reader, &mut NoQuads)
+    let result = read_pieces(source, piece.as_mut_slice(), &mut reader, &mut NoQuads);
+    *expected = expected_beside(&reader, &result);
+    result
 }
 
 impl<A: Allocator + Copy, G: Passes<A>> Run<NoQuads> for Reader<G, A> {
     ghost taken = { λ first bytes now. HasChecked G.words first.0 bytes now.0 };
 
-    ghost halts = { λ reported first bytes is_end now. CheckHalts G.words reported first.0 bytes is_end };
+    ghost halts = { λ reported first bytes is_end now. CheckHalts G.words reported first.0 bytes is_end
+        × Stands G.words (λ x. BeginsToRead G.words x first.0) first.0.scanner.limit reported bytes is_end now.0 };
 
     ghost ends = { λ summary first bytes now. CheckEnds G.words summary first.0 bytes };
 
@@ -91,7 +123,8 @@ impl<A: Allocator + Copy, G: Passes<A>> Run<NoQuads> for Reader<G, A> {
 impl<A: Allocator + Copy, G: Passes<A>> Parts<NoQuads> for Reader<G, A> {
     ghost taken = { λ first bytes now. IsChecking G.words first.0 bytes now.0 };
 
-    ghost halts = { λ reported first bytes is_end now. CheckHalts G.words reported first.0 bytes is_end };
+    ghost halts = { λ reported first bytes is_end now. CheckHalts G.words reported first.0 bytes is_end
+        × Stands G.words (λ x. BeginsToRead G.words x first.0) first.0.scanner.limit reported bytes is_end now.0 };
 
     ghost stays = { λ first now. Unit };
 

@@ -2,14 +2,16 @@
 
 ghost use Rattle.std.specs.Prelude.{◌≡◌, ◌++◌, true, false, OnOk, IfOk, IfErr, IfSome};
 ghost use Rattle.rdf_lines.specs.Forms.{form_of};
-ghost use Rattle.rdf_stream.specs.Converting.{ConversionStops, Converts, IsConverting, IsPutting, KeepsPrompt, RunEnds, RunHalts, Starts};
+ghost use Rattle.rdf_stream.specs.Converting.{Begins, ConversionStops, Converts, IsConverting, IsPutting, KeepsPrompt, RunEnds, RunHalts, Starts};
 ghost use Rattle.rdf_stream.specs.Converts.{AcceptsAll, IsPrompt, StopsFor};
+ghost use Rattle.rdf_stream.specs.Expected.{ExpectsFor, NoKind, RunExpects, Stands, trees_of};
 ghost use Rattle.rdf_stream.specs.Faults.{IsRefusal, IsSentOn};
-ghost use Rattle.rdf_stream.specs.Languages.{conversion_of};
+ghost use Rattle.rdf_stream.specs.Languages.{conversion_of, language_of};
 ghost use Rattle.rdf_stream.specs.LineOut.{OnlyGrows};
 ghost use Rattle.rdf_stream.specs.Told.{AsTold, told};
 
 use crate::devices::{Drain, Failed, Source};
+use crate::expected::expected_beside;
 use crate::fault::StreamFault;
 use crate::form::Kind;
 use crate::job::Job;
@@ -17,7 +19,7 @@ use crate::line_out::{LineOut, stop};
 use crate::parts::{Parts, take_parts};
 use crate::passes::Passes;
 use crate::pieces::{Run, piece_buffer, read_pieces};
-use rdf_driver::{QuadGrammar, Reader, Summary};
+use rdf_driver::{Kinds, QuadGrammar, Reader, Summary};
 use rdf_lines::{LineBuffer, LineEnding, Style, WrittenForm, line_reader};
 use rdf_trig::tree_reader;
 use std::alloc::Allocator;
@@ -45,11 +47,44 @@ pub fn convert<A: Allocator + Copy, S: Source, D: Drain>(
     ensures prompt { IsPrompt (conversion_of job) (S.remaining source.old) (told S.Source source.new)
         (D.contents drain.old) (D.contents drain.new) }
 {
+    let mut expected = Kinds::none();
+    convert_expecting(alloc, job, source, drain, &mut expected)
+}
+
+/// What `convert` does, and the kinds of tokens that could have stood in the place of one that was unexpected, as `check_expecting` says.
+pub fn convert_expecting<A: Allocator + Copy, S: Source, D: Drain>(
+    alloc: A,
+    job: Job<A>,
+    source: &mut S,
+    drain: &mut D,
+    expected: &mut Kinds,
+) -> Result<Summary, StreamFault>
+    requires more { S.has_ended source.old ≡ false }
+    requires source { S.has_failed source.old ≡ false }
+    requires drain { D.has_failed drain.old ≡ false }
+    ensures accepted { IfOk result (AcceptsAll (conversion_of job) (S.remaining source.old) (D.contents drain.old) (D.contents drain.new)) }
+    ensures ended { OnOk result (S.has_ended source.new ≡ true) }
+    ensures flushed { OnOk result (D.is_flushed drain.new ≡ true) }
+    ensures stops { IfErr result (λ fault. AsTold (StopsFor fault (conversion_of job)) S.Source D.Drain source.old source.new drain.old drain.new) }
+    ensures refused { IfErr result IsRefusal }
+    ensures sent { IfErr result (λ fault. IsSentOn fault (D.is_flushed drain.new)) }
+    ensures prompt { IsPrompt (conversion_of job) (S.remaining source.old) (told S.Source source.new)
+        (D.contents drain.old) (D.contents drain.new) }
+    ensures none { OnOk result (NoKind expected.new) }
+    ensures expected { IfErr result (λ fault. ExpectsFor fault (language_of job) (trees_of job) (S.remaining source.old) (told S.Source source.new) expected.new) }
+{
     let mut job = job;
     match job.form().kind() {
         Kind::Line(form) => {
             let reader = line_reader(alloc, form, job.limits());
-            let result = convert_with(alloc, reader, job.written_form(Style::Kept), source, drain);
+            let result = convert_with(
+                alloc,
+                reader,
+                job.written_form(Style::Kept),
+                source,
+                drain,
+                expected,
+            );
             drop(job);
             result
         }
@@ -61,6 +96,7 @@ pub fn convert<A: Allocator + Copy, S: Source, D: Drain>(
                 job.written_form(Style::Tagged),
                 source,
                 drain,
+                expected,
             );
             drop(job);
             result
@@ -75,6 +111,7 @@ fn convert_with<A: Allocator + Copy, G: Passes<A>, S: Source, D: Drain>(
     written: WrittenForm<'_>,
     source: &mut S,
     drain: &mut D,
+    expected: &mut Kinds,
 ) -> Result<Summary, StreamFault>
     requires starts { (x : G.Setting) × Starts G.words x reader written.style }
     requires styled { written.style ≡ G.style }
@@ -88,12 +125,17 @@ fn convert_with<A: Allocator + Copy, G: Passes<A>, S: Source, D: Drain>(
     ensures refused { IfErr result IsRefusal }
     ensures sent { IfErr result (λ fault. IsSentOn fault (D.is_flushed drain.new)) }
     ensures prompt { KeepsPrompt G.words S.Source D.Drain reader (form_of written.entry) source.old source.new drain.old drain.new }
+    ensures expected { RunExpects G.words G.trees (λ x. Starts G.words x reader written.entry.style) reader.scanner.limit result
+        (S.remaining source.old) (told S.Source source.new) expected.new }
 {
+    *expected = Kinds::none();
     let mut piece = piece_buffer(alloc)?;
     let mut reader = reader;
     let mut buffer = LineBuffer::new(alloc);
     let mut lines = LineOut::new(written, &mut buffer, drain);
-    read_pieces(source, piece.as_mut_slice(), &mut reader, &mut lines)
+    let result = read_pieces(source, piece.as_mut_slice(), &mut reader, &mut lines);
+    *expected = expected_beside(&reader, &result);
+    result
 }
 
 impl<'a, A: Allocator + Copy, G: QuadGrammar + Passes<A>, D: Drain> Run<LineOut<'a, D, A>>
@@ -101,7 +143,8 @@ impl<'a, A: Allocator + Copy, G: QuadGrammar + Passes<A>, D: Drain> Run<LineOut<
     ghost taken = { λ first bytes now. IsConverting D.contents D.has_failed G.words G.style first.0 first.1 bytes now.0 now.1 };
 
     ghost halts = { λ reported first bytes is_end now. RunHalts D.contents D.has_failed G.words reported first.0 first.1 bytes is_end now.1
-        × IsSentOn reported (D.is_flushed now.1.drain.now) };
+        × IsSentOn reported (D.is_flushed now.1.drain.now)
+        × Stands G.words (λ x. Begins D.has_failed G.words x first.0 first.1) first.0.scanner.limit reported bytes is_end now.0 };
 
     ghost ends = { λ summary first bytes now. RunEnds D.contents D.has_failed D.is_flushed G.words summary first.0 first.1 bytes now.1 };
 
@@ -136,7 +179,8 @@ impl<'a, A: Allocator + Copy, G: Passes<A>, D: Drain> Parts<LineOut<'a, D, A>> f
     ghost taken = { λ first bytes now. IsPutting D.contents D.has_failed G.words G.style first.0 first.1 bytes now.0 now.1 };
 
     ghost halts = { λ reported first bytes is_end now. RunHalts D.contents D.has_failed G.words reported first.0 first.1 bytes is_end now.1
-        × IsSentOn reported (D.is_flushed now.1.drain.now) };
+        × IsSentOn reported (D.is_flushed now.1.drain.now)
+        × Stands G.words (λ x. Begins D.has_failed G.words x first.0 first.1) first.0.scanner.limit reported bytes is_end now.0 };
 
     ghost stays = { λ first now. OnlyGrows D.contents first.1 now.1 };
 

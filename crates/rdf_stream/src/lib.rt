@@ -4,6 +4,7 @@
 mod checks;
 mod conversions;
 mod devices;
+mod expected;
 mod fault;
 mod form;
 mod job;
@@ -20,8 +21,8 @@ mod token_line;
 mod views;
 mod without_crs;
 
-pub use checks::check;
-pub use conversions::convert;
+pub use checks::{check, check_expecting};
+pub use conversions::{convert, convert_expecting};
 pub use devices::{Drain, Failed, In, Out, Source};
 pub use fault::{LoadFault, StreamFault};
 pub use form::Form;
@@ -29,7 +30,7 @@ pub use job::Job;
 pub use loads::{bindings_in, load_bindings, read_whole};
 pub use messages::{out_of_memory, read_failed, report, write_failed};
 pub use put::put_all;
-pub use rdf_driver::{Fault, Summary};
+pub use rdf_driver::{Fault, Kinds, Summary};
 pub use rdf_iri::{BindingFault, BindingReason, Bindings, Limits};
 pub use rdf_lines::{Escapes, NodePrefix};
 pub use rdf_terms::{Iri, TermFault};

@@ -1,4 +1,4 @@
-// Which kinds of tokens the readers name after an unexpected token.
+// Which kinds of tokens the readers name after an unexpected token, and runs beside their faults.
 
 ghost use Rattle.std.specs.Prelude.{◌≡◌, ◌≤◌, false, length};
 
@@ -7,6 +7,7 @@ use crate::sinks::recording_sink;
 use rdf_driver::Kinds;
 use rdf_iri::Limits;
 use rdf_lines::LineForm;
+use rdf_stream::{Form as Format, In, Job, Out, check_expecting, convert_expecting};
 use rdf_terms::{Kind, Reason};
 use rdf_trig::DocForm;
 use std::alloc::Global;
@@ -230,5 +231,63 @@ fn is_named_always(alloc: Global, row: &Row) -> bool {
 fn kinds_that_could_stand_there_are_named(rt: HostRuntime) {
     for row in ROWS.as_slice() {
         assert!(rt; is_named_always(rt.alloc(), row), "{}", row.offset);
+    }
+}
+
+/// The format of a run over documents of this form.
+fn format_of(form: Form) -> Format {
+    match form {
+        Form::Lines(LineForm::NTriples) => Format::NTriples,
+        Form::Lines(LineForm::NQuads) => Format::NQuads,
+        Form::Statements(DocForm::Turtle) => Format::Turtle,
+        Form::Statements(DocForm::TriG) => Format::TriG,
+    }
+}
+
+/// The set that a check of the document hands out, and the one that a conversion does. Each comes with a set that has
+/// a kind.
+fn handed_out(alloc: Global, format: Format, bytes: &[u8]) -> Option<(Kinds, Kinds)> {
+    let mut checked = Kinds::none().with(Kind::Graph);
+    let mut converted = checked;
+    let job = Job::new(format, None, Limits::default())?;
+    let _ = check_expecting(alloc, job, &mut In::new(bytes), &mut checked);
+    let job = Job::new(format, None, Limits::default())?;
+    let mut lines = Vec::new(alloc);
+    let mut drain = Out::new(&mut lines);
+    let _ = convert_expecting(alloc, job, &mut In::new(bytes), &mut drain, &mut converted);
+    drop(drain);
+    Some((checked, converted))
+}
+
+/// Whether both sets have these kinds and no others.
+fn hands_out(alloc: Global, format: Format, bytes: &[u8], kinds: &[Kind]) -> bool {
+    let bits = set_of(kinds).bits();
+    match handed_out(alloc, format, bytes) {
+        Some((checked, converted)) => checked.bits() == bits && converted.bits() == bits,
+        None => false,
+    }
+}
+
+#[test]
+fn a_run_hands_out_the_kinds_that_could_stand_there(rt: HostRuntime) {
+    for row in ROWS.as_slice() {
+        assert!(rt;
+            hands_out(rt.alloc(), format_of(row.form), row.bytes, row.kinds),
+            "{}",
+            row.offset
+        );
+    }
+}
+
+/// Documents that are accepted, or refused for another reason.
+static OTHERS: [&[u8]; 4] = [b"", b"<a:s> <a:p> <a:o> .", b"<a:s> <p> <a:o> .", b"\xff"];
+
+#[test]
+fn a_run_hands_out_no_kind_where_no_token_is_unexpected(rt: HostRuntime) {
+    for bytes in OTHERS.as_slice() {
+        assert!(rt;
+            hands_out(rt.alloc(), Format::Turtle, bytes, &[]),
+            "{bytes:?}"
+        );
     }
 }

@@ -1,11 +1,22 @@
 use Rattle.std.proofs.Common.{sym, subst, ◌++◌, false, append_assoc}
-use Rattle.rdf_stream.specs.Checks.{CheckHalts}
+use Rattle.rdf_stream.specs.Checks.{BeginsToRead, CheckHalts}
+use Rattle.rdf_stream.specs.Expected.{StandsFor}
 use Rattle.rdf_stream.proofs.ChecksLemmas.{halts_more, piece_halts}
+use Rattle.rdf_stream.proofs.ExpectedLemmas.{stands_in_piece, stands_more}
 use Rattle.rdf_stream.proofs.checks.ReaderPartsNoQuads.read_part.Goals as goal
 
 pub returns-in-Err-clause-halts : goal.returns-in-Err-clause-halts
 returns-in-Err-clause-halts g c = λ more first bytes i.
     let part = c.args.part.now in
-    let halts = subst (λ reported. CheckHalts g.G.Grammar.words reported first.0 (bytes ++ part) false) (sym c.from.ensures)
-    (piece_halts g.G.Grammar.words first.0 c.args.self.now bytes i part _ _ _ c.in-Err.fault.reason c.in-Err.fault.offset c.in-Err.fault.line c.in-Err.ensures.err) in
-    subst (λ b. CheckHalts g.G.Grammar.words c.from.result first.0 b false) (append_assoc bytes part more) (halts_more g.G.Grammar.words c.from.result first.0 (bytes ++ part) more halts)
+    let w = g.G.Grammar.words in
+    let limit = first.0.scanner.limit in
+    let halts = subst (λ reported. CheckHalts w reported first.0 (bytes ++ part) false) (sym c.from.ensures)
+    (piece_halts w first.0 c.args.self.now bytes i part _ _ _ c.in-Err.fault.reason c.in-Err.fault.offset c.in-Err.fault.line c.in-Err.ensures.err) in (
+      subst (λ b. CheckHalts w c.from.result first.0 b false) (append_assoc bytes part more) (halts_more w c.from.result first.0 (bytes ++ part) more halts),
+      λ x b.
+          let (quads, read) = i.read x b in
+          subst (λ all. StandsFor w x limit c.from.result all false c.feed.new.self.grammar) (append_assoc bytes part more)
+          (stands_more w x limit (b.lawful.ends x) c.feed.new.self.grammar c.from.result (bytes ++ part) more
+          (subst (λ reported. StandsFor w x limit reported (bytes ++ part) false c.feed.new.self.grammar) (sym c.from.ensures)
+          (stands_in_piece w x c.args.self.now bytes quads read limit i.limit _ _ _ _ _ _ c.in-Err.fault.offset c.in-Err.fault.line part c.in-Err.fault.reason c.in-Err.ensures.err))),
+    )

@@ -6,6 +6,7 @@ use Rattle.rdf_stream.specs.Converting.{RunHalts}
 use Rattle.rdf_stream.specs.LineOut.{PutHalts, Writes}
 use Rattle.rdf_stream.proofs.ConvertingLemmas.{kept_where, live_now, pass_halts, run_passes}
 use Rattle.rdf_stream.proofs.ConvertsLemmas.{halts_more}
+use Rattle.rdf_stream.proofs.ExpectedLemmas.{stands_unput}
 use Rattle.rdf_stream.proofs.GrowthLemmas.{grows_both, grows_moved, refusal_grows}
 use Rattle.rdf_stream.proofs.LineOutLemmas.{put_sent}
 use Rattle.rdf_stream.proofs.PartsLemmas.{ascii_take, low_written}
@@ -35,6 +36,7 @@ returns-in-Err-clause-halts g c = λ more first bytes i.
       subst (λ b. RunHalts g.D.Drain.contents g.D.Drain.has_failed g.G.Grammar.words c.in-Err.fault first.0 first.1 b false c.append.new.self) whole
           (halts_more g.D.Drain.contents g.D.Drain.has_failed g.G.Grammar.words c.in-Err.fault first.0 first.1 (bytes ++ part) (rest ++ more) c.append.new.self halts),
       put_sent g.D.Drain.contents g.D.Drain.has_failed _ _ _ c.in-Err.fault _ c.in-Err.ensures.halts,
+      λ x b. stands_unput g.D.Drain.contents g.D.Drain.has_failed g.G.Grammar.words x first.0.scanner.limit c.in-Err.fault _ _ _ _ _ _ c.in-Err.ensures.halts,
     )
 
 pub returns-in-Ok-clause-stays : goal.returns-in-Ok-clause-stays

@@ -1,8 +1,10 @@
 -- A part: its lines are put, and an error within it stops the run, whatever comes after it.
 use Rattle.std.proofs.Common.{◌++◌, false, append_assoc, subst}
 use Rattle.rdf_stream.specs.Converting.{RunHalts}
+use Rattle.rdf_stream.specs.Expected.{StandsFor}
 use Rattle.rdf_stream.proofs.ConvertingLemmas.{few_now, live_now, run_halts, run_reads}
 use Rattle.rdf_stream.proofs.ConvertsLemmas.{halts_more}
+use Rattle.rdf_stream.proofs.ExpectedLemmas.{stands_in_piece, stands_more, stands_told}
 use Rattle.rdf_stream.proofs.GrowthLemmas.{feed_grows, grows_both, puts_grow, stop_grows}
 use Rattle.rdf_stream.proofs.conversions.ReaderPartsLineOut.read_part.Goals as goal
 
@@ -28,6 +30,15 @@ returns-in-Err-clause-halts g c = λ more first bytes i.
       subst (λ b. RunHalts g.D.Drain.contents g.D.Drain.has_failed g.G.Grammar.words c.stop.result first.0 first.1 b false c.stop.new.lines) (append_assoc bytes part more)
           (halts_more g.D.Drain.contents g.D.Drain.has_failed g.G.Grammar.words c.stop.result first.0 first.1 (bytes ++ part) more c.stop.new.lines halts),
       c.stop.ensures.sent,
+      λ x b.
+          let put = i.put x b in
+          let w = g.G.Grammar.words in
+          let limit = first.0.scanner.limit in
+          let now = c.feed.new.self in
+          subst (λ all. StandsFor w x limit c.stop.result all false now.grammar) (append_assoc bytes part more)
+          (stands_more w x limit (b.starts.convertible.lawful.ends x) now.grammar c.stop.result (bytes ++ part) more
+          (stands_told g.D.Drain.contents g.D.Drain.has_failed w x limit c.in-Err.fault _ _ _ (bytes ++ part) false now.grammar c.stop.ensures.reports
+          (stands_in_piece w x c.args.self.now bytes put.quads put.read limit i.limit _ _ _ _ _ now c.in-Err.fault.offset c.in-Err.fault.line part c.in-Err.fault.reason c.in-Err.ensures.err))),
     )
 
 pub returns-in-Ok-clause-stays : goal.returns-in-Ok-clause-stays

@@ -1,8 +1,9 @@
 -- The end: what waits is sent, and an error there or of the drain stops the run.
-use Rattle.std.proofs.Common.{rules}
+use Rattle.std.proofs.Common.{rules, true}
 use Rattle.rdf_stream.proofs.LineOutLemmas.{puts_live}
 use Rattle.rdf_stream.proofs.GrowthLemmas.{finish_grows, grows_both, grows_by, grows_front, puts_grow, stop_grows}
 use Rattle.rdf_stream.proofs.ConvertingLemmas.{end_run_broke, end_run_halts, live_now, putting, run_ends}
+use Rattle.rdf_stream.proofs.ExpectedLemmas.{stands_at_end, stands_told}
 use Rattle.rdf_stream.proofs.conversions.ReaderRunLineOut.end.Goals as goal
 
 pub send-requires : goal.send-requires
@@ -24,7 +25,7 @@ returns-in-Err-send-clause-stays g c = λ first s.
 
 pub returns-in-Err-send-clause-halts : goal.returns-in-Err-send-clause-halts
 returns-in-Err-send-clause-halts g c = λ first bytes i.
-    (end_run_broke g.D.Drain.contents g.D.Drain.has_failed g.G.Grammar.words g.G.Passes.style first.0 first.1 bytes c.args.self.now c.args.lines.now (putting g.D.Drain.contents g.D.Drain.has_failed g.G.Grammar.words g.G.Passes.style first.0 first.1 bytes c.args.self.now c.args.lines.now i) _ _ c.in-Ok.ensures.ok _ (search rules) (search rules) (search rules), tt)
+    (end_run_broke g.D.Drain.contents g.D.Drain.has_failed g.G.Grammar.words g.G.Passes.style first.0 first.1 bytes c.args.self.now c.args.lines.now (putting g.D.Drain.contents g.D.Drain.has_failed g.G.Grammar.words g.G.Passes.style first.0 first.1 bytes c.args.self.now c.args.lines.now i) _ _ c.in-Ok.ensures.ok _ (search rules) (search rules) (search rules), tt, λ x b. tt)
 
 pub returns-in-Err-clause-stays : goal.returns-in-Err-clause-stays
 returns-in-Err-clause-stays g c = λ first s.
@@ -33,5 +34,11 @@ returns-in-Err-clause-stays g c = λ first s.
     (stop_grows g.D.Drain.contents g.D.Drain.has_failed _ _ _ _ c.stop.ensures.same c.stop.ensures.reports))
 
 pub returns-in-Err-clause-halts : goal.returns-in-Err-clause-halts
-returns-in-Err-clause-halts g c = λ first bytes i.
-    (end_run_halts g.D.Drain.contents g.D.Drain.has_failed g.G.Grammar.words g.G.Passes.style first.0 first.1 bytes c.args.self.now c.args.lines.now (putting g.D.Drain.contents g.D.Drain.has_failed g.G.Grammar.words g.G.Passes.style first.0 first.1 bytes c.args.self.now c.args.lines.now i) _ _ _ _ _ _ _ c.in-Err.ensures.err c.stop.ensures.same c.stop.ensures.reports, c.stop.ensures.sent)
+returns-in-Err-clause-halts g c = λ first bytes i. (
+  end_run_halts g.D.Drain.contents g.D.Drain.has_failed g.G.Grammar.words g.G.Passes.style first.0 first.1 bytes c.args.self.now c.args.lines.now (putting g.D.Drain.contents g.D.Drain.has_failed g.G.Grammar.words g.G.Passes.style first.0 first.1 bytes c.args.self.now c.args.lines.now i) _ _ _ _ _ _ _ c.in-Err.ensures.err c.stop.ensures.same c.stop.ensures.reports,
+  c.stop.ensures.sent,
+  λ x b.
+      let put = (putting g.D.Drain.contents g.D.Drain.has_failed g.G.Grammar.words g.G.Passes.style first.0 first.1 bytes c.args.self.now c.args.lines.now i).put x b in
+      stands_told g.D.Drain.contents g.D.Drain.has_failed g.G.Grammar.words x first.0.scanner.limit c.in-Err.fault _ _ _ bytes true c.finish.new.self.grammar c.stop.ensures.reports
+      (stands_at_end g.G.Grammar.words x c.args.self.now bytes put.quads put.read first.0.scanner.limit i.limit _ _ _ _ _ c.finish.new.self c.in-Err.fault.offset c.in-Err.fault.line c.in-Err.fault.reason c.in-Err.ensures.err),
+)

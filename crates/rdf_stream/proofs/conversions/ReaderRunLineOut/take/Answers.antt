@@ -43,6 +43,7 @@ returns-in-Err-hand_over-clause-halts g c = λ first bytes i.
       run_broke g.D.Drain.contents g.D.Drain.has_failed g.G.Grammar.words g.G.Passes.style first.0 first.1 _ _ _ (c.in-Ok.ensures.takes first bytes put) _
           (search rules) (search rules) (search rules),
       tt,
+      λ x b. tt,
     )
 
 pub returns-in-Err-clause-stays : goal.returns-in-Err-clause-stays

@@ -2,11 +2,14 @@
 use Rattle.std.proofs.Common.{rules, refl, IfSome}
 use Rattle.rdf_lines.proofs.AcceptingLemmas.{lawful as lines_lawful}
 use Rattle.rdf_trig.proofs.code.LawfulGrammar.{lawful as trees_lawful}
-use Rattle.rdf_stream.specs.Checks.{CheckStops, IsAccepted}
+use Rattle.rdf_lines.specs.Accepting.{line_words}
+use Rattle.rdf_trig.specs.Accepting.{tree_words}
+use Rattle.rdf_stream.specs.Checks.{BeginsToRead, CheckStops, IsAccepted}
 use Rattle.rdf_stream.specs.Devices.{reading}
 use Rattle.rdf_stream.proofs.ConvertsLemmas.{lines_job, trees_job}
+use Rattle.rdf_stream.proofs.ExpectedLemmas.{expects_err, expects_none, lines_expect, trees_expect}
 use Rattle.rdf_stream.proofs.PiecesLemmas.{if_err, if_ok}
-use Rattle.rdf_stream.proofs.checks.check.Goals as goal
+use Rattle.rdf_stream.proofs.checks.check_expecting.Goals as goal
 
 pub returns-in-Line-clause-stops : goal.returns-in-Line-clause-stops
 returns-in-Line-clause-stops g c =
@@ -31,3 +34,27 @@ returns-in-Tree-clause-stops g c =
     trees_job (λ j. CheckStops reported j.language (g.S.Source.remaining c.args.source.now) (reading g.S.Source.remaining g.S.Source.last g.S.Source.has_ended g.S.Source.has_failed c.check_with-in-Tree.new.source)) c.args.job c.in-Tree.form
     (search rules) c.options-options.result (search rules) c.tree_reader.result.scanner.limit (search rules) _ refl (h _ (record { lawful = trees_lawful; read = c.tree_reader.ensures.read })))
     c.check_with-in-Tree.ensures.stops
+
+pub returns-in-Line-clause-expected : goal.returns-in-Line-clause-expected
+returns-in-Line-clause-expected g c =
+    expects_err _ _ _ _ _
+    (lines_expect c.args.job c.in-Line.form (search rules) c.limits-limits.result.iri (search rules) c.line_reader.result.scanner.limit (search rules) (λ x. BeginsToRead line_words x c.line_reader.result)
+    (record { lawful = lines_lawful; read = c.line_reader.ensures.read }) _ _ _ _ c.check_with.ensures.expected)
+
+pub returns-in-Line-clause-none : goal.returns-in-Line-clause-none
+returns-in-Line-clause-none g c =
+    expects_none _ _ _ _ _
+    (lines_expect c.args.job c.in-Line.form (search rules) c.limits-limits.result.iri (search rules) c.line_reader.result.scanner.limit (search rules) (λ x. BeginsToRead line_words x c.line_reader.result)
+    (record { lawful = lines_lawful; read = c.line_reader.ensures.read }) _ _ _ _ c.check_with.ensures.expected)
+
+pub returns-in-Tree-clause-expected : goal.returns-in-Tree-clause-expected
+returns-in-Tree-clause-expected g c =
+    expects_err _ _ _ _ _
+    (trees_expect c.args.job c.in-Tree.form (search rules) c.options-options.result (search rules) c.tree_reader.result.scanner.limit (search rules) (λ x. BeginsToRead tree_words x c.tree_reader.result)
+    (record { lawful = trees_lawful; read = c.tree_reader.ensures.read }) _ _ _ _ c.check_with-in-Tree.ensures.expected)
+
+pub returns-in-Tree-clause-none : goal.returns-in-Tree-clause-none
+returns-in-Tree-clause-none g c =
+    expects_none _ _ _ _ _
+    (trees_expect c.args.job c.in-Tree.form (search rules) c.options-options.result (search rules) c.tree_reader.result.scanner.limit (search rules) (λ x. BeginsToRead tree_words x c.tree_reader.result)
+    (record { lawful = trees_lawful; read = c.tree_reader.ensures.read }) _ _ _ _ c.check_with-in-Tree.ensures.expected)

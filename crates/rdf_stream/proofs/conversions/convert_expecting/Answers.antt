@@ -1,13 +1,17 @@
 -- A conversion of either kind of format, from what its run has done to what the caller is reported.
 use Rattle.std.proofs.Common.{rules, ap, ◌∙◌, IfSome}
 use Rattle.rdf_lines.specs.declared.form.Style.TheVariants.{Tagged}
+use Rattle.rdf_lines.specs.Accepting.{line_words}
+use Rattle.rdf_trig.specs.Accepting.{tree_words}
+use Rattle.rdf_stream.specs.Converting.{Starts}
 use Rattle.rdf_stream.specs.Converts.{Accepts, IsPrompt, StopsFor}
 use Rattle.rdf_stream.specs.Languages.{written_form}
 use Rattle.rdf_stream.specs.Told.{told}
 use Rattle.rdf_stream.proofs.ConvertsLemmas.{lines_job, trees_job}
 use Rattle.rdf_stream.proofs.DocumentLemmas.{lines_convertible, trees_convertible}
+use Rattle.rdf_stream.proofs.ExpectedLemmas.{expects_err, expects_none, lines_expect, trees_expect}
 use Rattle.rdf_stream.proofs.PiecesLemmas.{if_err, if_ok}
-use Rattle.rdf_stream.proofs.conversions.convert.Goals as goal
+use Rattle.rdf_stream.proofs.conversions.convert_expecting.Goals as goal
 
 pub convert_with-result-requires-clause-starts : goal.convert_with-result-requires-clause-starts
 convert_with-result-requires-clause-starts g c = (_, record { convertible = lines_convertible _ _ (ap (λ f. f.style) c.written_form.ensures); read = c.line_reader-reader.ensures.read })
@@ -58,3 +62,27 @@ returns-in-Tree-clause-prompt g c =
     trees_job (λ j. IsPrompt j (g.S.Source.remaining c.args.source.now) (told g.S.Source c.convert_with-result-in-Tree.new.source) (g.D.Drain.contents c.args.drain.now) (g.D.Drain.contents c.convert_with-result-in-Tree.new.drain)) c.args.job c.in-Tree.form (search rules)
     c.options.result (search rules) c.tree_reader-reader.result.scanner.limit (search rules) _ (c.written_form-in-Tree.ensures ∙ ap (written_form Tagged) c.options.ensures.left)
     (c.convert_with-result-in-Tree.ensures.prompt _ (record { convertible = trees_convertible _ _ (ap (λ f. f.style) c.written_form-in-Tree.ensures); read = c.tree_reader-reader.ensures.read }))
+
+pub returns-in-Line-clause-expected : goal.returns-in-Line-clause-expected
+returns-in-Line-clause-expected g c =
+    expects_err _ _ _ _ _
+    (lines_expect c.args.job c.in-Line.form (search rules) c.limits.result.iri (search rules) c.line_reader-reader.result.scanner.limit (search rules) (λ x. Starts line_words x c.line_reader-reader.result c.written_form.result.style)
+    (record { convertible = lines_convertible _ _ (ap (λ f. f.style) c.written_form.ensures); read = c.line_reader-reader.ensures.read }) _ _ _ _ c.convert_with-result.ensures.expected)
+
+pub returns-in-Line-clause-none : goal.returns-in-Line-clause-none
+returns-in-Line-clause-none g c =
+    expects_none _ _ _ _ _
+    (lines_expect c.args.job c.in-Line.form (search rules) c.limits.result.iri (search rules) c.line_reader-reader.result.scanner.limit (search rules) (λ x. Starts line_words x c.line_reader-reader.result c.written_form.result.style)
+    (record { convertible = lines_convertible _ _ (ap (λ f. f.style) c.written_form.ensures); read = c.line_reader-reader.ensures.read }) _ _ _ _ c.convert_with-result.ensures.expected)
+
+pub returns-in-Tree-clause-expected : goal.returns-in-Tree-clause-expected
+returns-in-Tree-clause-expected g c =
+    expects_err _ _ _ _ _
+    (trees_expect c.args.job c.in-Tree.form (search rules) c.options.result (search rules) c.tree_reader-reader.result.scanner.limit (search rules) (λ x. Starts tree_words x c.tree_reader-reader.result c.written_form-in-Tree.result.style)
+    (record { convertible = trees_convertible _ _ (ap (λ f. f.style) c.written_form-in-Tree.ensures); read = c.tree_reader-reader.ensures.read }) _ _ _ _ c.convert_with-result-in-Tree.ensures.expected)
+
+pub returns-in-Tree-clause-none : goal.returns-in-Tree-clause-none
+returns-in-Tree-clause-none g c =
+    expects_none _ _ _ _ _
+    (trees_expect c.args.job c.in-Tree.form (search rules) c.options.result (search rules) c.tree_reader-reader.result.scanner.limit (search rules) (λ x. Starts tree_words x c.tree_reader-reader.result c.written_form-in-Tree.result.style)
+    (record { convertible = trees_convertible _ _ (ap (λ f. f.style) c.written_form-in-Tree.ensures); read = c.tree_reader-reader.ensures.read }) _ _ _ _ c.convert_with-result-in-Tree.ensures.expected)
