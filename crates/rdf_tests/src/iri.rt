@@ -469,13 +469,7 @@ static FILES: [File; 42] = [
         b"@prefix x\xC3\x97: <s:> .",
         Some((BindingReason::BadBinding, 1)),
     ),
-    (
-        9,
-        9,
-        99,
-        b"PREFIX\n",
-        Some((BindingReason::BadBinding, 1)),
-    ),
+    (9, 9, 99, b"PREFIX\n", Some((BindingReason::BadBinding, 1))),
     (
         2,
         9,
