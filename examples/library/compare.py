@@ -69,6 +69,8 @@ REFUSED = [
     (dict(base='no iri'), ValueError, "base is 'no iri', which is no IRI"),
     (dict(base=b'a:\xff'), ValueError, "base is b'a:\\xff', which is no IRI"),
     (dict(prefixes={'x': 'a:b', 'y:': 'a:c'}), rdfconv.BadPrefixes, 'bad prefixes at line 2'),
+    (dict(prefixes={'x': 'a:b', '#y': 'a:c'}), rdfconv.BadPrefixes, 'bad prefixes at line 2'),
+    (dict(prefixes={'@prefix x': '<a:b> .'}), rdfconv.BadPrefixes, 'bad prefixes at line 1'),
     (dict(document='<a:s> <a:p>\n1'), rdfconv.Refused, 'unexpected token at byte 13, line 2'),
 ]
 

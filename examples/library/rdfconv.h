@@ -54,9 +54,9 @@ extern "C" {
 #endif
 
 /* A slice is a pointer and a length in bytes; of length 0 its pointer may be NULL, or any other. A base of length 0 is none. The prefixes
-   are lines of a prefix with its colon, a space and an IRI, as the program's --prefixes reads them; of length 0 they are none. The word, of
-   ASCII letters and digits, stands in front of the name of each node that is written, as that of the program's --node-prefix; of length 0
-   it changes no name. With status 2, 4 and 6 nothing is written to the output. The request and the outcome are not NULL. The output and
+   are lines of a prefix with its colon, a space and an IRI, or lines as in Turtle or SPARQL, or comments, as the program's --prefixes reads
+   them; of length 0 they are none. The word, of ASCII letters and digits, stands in front of the name of each node that is written, as that
+   of the program's --node-prefix; of length 0 it changes no name. With status 2, 4 and 6 nothing is written to the output. The request and the outcome are not NULL. The output and
    the outcome overlap nothing else, and no other thread writes to what a call reads. Calls may run side by side, but none from a signal
    handler, nor in a forked child of a process with threads. */
 void rdfconv_convert(const rdfconv_request *request, const uint8_t *base, size_t base_len, const uint8_t *prefixes,

@@ -4,7 +4,7 @@
     quads, tokens, size = rdfconv.check(document, 'nt')
 
 Document, base, prefixes and word are str, which is read as its UTF-8, or bytes, bytearray or memoryview, which are read where they
-stand: let no other thread write there while a call lasts. Prefixes are lines of a prefix with its colon, a space and an IRI, or a dict of
+stand: let no other thread write there while a call lasts. Prefixes are lines as the program's --prefixes reads them, or a dict of
 prefixes without their colons and IRIs. The word, of ASCII letters and digits, stands in front of the names of nodes. The limits token,
 depth, bindings and iri, and ascii, are those of the program."""
 import contextlib
@@ -101,7 +101,12 @@ def prefixes_of(value):
             raise TypeError(f'prefixes has {text!r:.99}, which is of type {type(text).__name__}, not str')
         if re.search('[\r\n]', text):
             raise ValueError(f'prefixes has {text!r:.99}, with a line end')
-    return bytes_of('prefixes', '\ufeff' + '\n'.join(f'{prefix}: {iri}' for prefix, iri in value.items()))
+    return bytes_of('prefixes', '\ufeff' + '\n'.join(line_of(prefix, iri) for prefix, iri in value.items()))
+
+
+def line_of(prefix, iri):
+    """The line of an entry. What no prefix has could make it a comment or a directive, so it gives a line that is refused."""
+    return ':' if re.search('[ \t#]', prefix) else f'{prefix}: {iri}'
 
 
 @contextlib.contextmanager

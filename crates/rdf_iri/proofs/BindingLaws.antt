@@ -10,7 +10,7 @@ use Rattle.rdf_iri.specs.Texts.{Lacks, before, after}
 use Rattle.rdf_iri.specs.Bindings.{byte_order_mark, MarkDropped, with_feeds, IsCut, LinesOf, Entry, EntryFits, bindings_of, TextSays, Says, AllSay, FailsFor}
 use Rattle.rdf_iri.specs.BindingLaws.{FailingFilesAreNone}
 use Rattle.rdf_iri.proofs.TextsLemmas.{cut_suffix}
-use Rattle.rdf_iri.proofs.BindingLemmas.{one_binding, no_empty_binding}
+use Rattle.rdf_iri.proofs.BindingLineLemmas.{one_binding, no_quiet_binding}
 use Rattle.rdf_iri.proofs.BindingSteps.{more, adds, adds_nothing}
 use Rattle.rdf_iri.proofs.BindingFiles.{one_text}
 
@@ -68,8 +68,8 @@ two e f a b = ap (λ x. (x, e.1)) a ∙ ap (λ x. (f.0, x)) b
 -- a text says one thing
 text_once : (text : List ℕ) (e f : Entry) → TextSays text e → TextSays text f → e ≡ f
 text_once text None None a b = refl
-text_once text None (Some y) a b = absurd (no_empty_binding text y.0 y.1 a b)
-text_once text (Some x) None a b = absurd (no_empty_binding text x.0 x.1 b a)
+text_once text None (Some y) a b = absurd (no_quiet_binding text y.0 y.1 a.1 b)
+text_once text (Some x) None a b = absurd (no_quiet_binding text x.0 x.1 b.1 a)
 text_once text (Some x) (Some y) a b = let k = one_binding text x.0 x.1 y.0 y.1 a b in ap Some (two x y k.0 k.1)
 
 -- so a line says one thing

@@ -3,13 +3,15 @@ use Rattle.std.proofs.Common.{◌≡◌, ℕ, ◌+◌, ◌*◌, ◌<◌, ◌≤�
 use Rattle.std.specs.Prelude.{is_some}
 use Rattle.std.proofs.lemmas.Bool.{cases_Bool, cond-true, cond-false, false≢true}
 use Rattle.std.proofs.lemmas.List.{length-append}
+use Rattle.std.specs.Str.{chars, IsUtf8}
 use Rattle.rdf_terms.specs.Terms.{has_scheme, IsIri}
 use Rattle.rdf_iri.specs.declared.fault.IriFault.TheVariants as fault
 use Rattle.rdf_iri.specs.Limits.{Sizes}
 use Rattle.rdf_iri.specs.Texts.{byte_len, equal}
 use Rattle.rdf_iri.specs.Resolution.{Resolves}
 use Rattle.rdf_iri.specs.Scope.{InForce, bound_to, Binds, HasRoom, IsFull, IsBound, NotBound, BaseFits, KeepsLimits}
-use Rattle.rdf_iri.specs.Bindings.{Entry, bindings_of, BindingMap, KeepsSizes}
+use Rattle.rdf_iri.specs.BindingLines.{IsBinding, SaysNothing}
+use Rattle.rdf_iri.specs.Bindings.{Entry, TextSays, bindings_of, BindingMap, KeepsSizes}
 use Rattle.rdf_iri.proofs.TextsLemmas.{equal-true, equal-from}
 
 -- an IRI with a scheme resolves to itself, whatever the base
@@ -159,6 +161,16 @@ pub adds_nothing : (es : List Entry) → bindings_of (es ++ None ∷ []) ≡ bin
 adds_nothing [] = refl
 adds_nothing (None ∷ es) = adds_nothing es
 adds_nothing (Some e ∷ es) = ap (kept_in e) (adds_nothing es)
+
+-- a text that neither says nothing nor binds a prefix says nothing that could be taken
+pub none_said : (text : List ℕ) → (SaysNothing (chars text) → ⊥) → ((prefix iri : List ℕ) → IsBinding text prefix iri → ⊥) → (entry : Entry) → TextSays text entry → ⊥
+none_said text m n None s = m s.1
+none_said text m n (Some e) s = n e.0 e.1 s
+
+-- what says something is UTF-8
+pub said_utf8 : (text : List ℕ) (entry : Entry) → TextSays text entry → IsUtf8 text
+said_utf8 text None s = s.0
+said_utf8 text (Some e) s = s.utf8
 
 -- a scope that begins with what is handed in keeps the limits
 pub starting_keeps : (base : Option (List ℕ)) (limits : Sizes) (b : BindingMap) → BaseFits base limits → KeepsSizes b → b.limits ≡ limits → KeepsLimits (record { base = base; bindings = b.bindings; limits = limits })

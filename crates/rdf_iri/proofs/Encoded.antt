@@ -84,19 +84,19 @@ after-bytes k w l =
     ap (after k) e ∙ (cut_suffix k (bytes (before k w)) (option_map bytes (after k w)) (bytes-lacks k (before k w) l (before-lacks k w))).1
 
 -- an ASCII front
-abbrev are_ascii : List ℕ → Bool
+abbrev pub are_ascii : List ℕ → Bool
 are_ascii [] = true
 are_ascii (k ∷ w) = nat_lt k 128 && are_ascii w
 
 -- ASCII before a text is before its bytes
-ahead : (front w : List ℕ) → are_ascii front ≡ true → bytes (front ++ w) ≡ front ++ bytes w
+pub ahead : (front w : List ℕ) → are_ascii front ≡ true → bytes (front ++ w) ≡ front ++ bytes w
 ahead [] w a = refl
 ahead (k ∷ front) w a =
     let p = and_parts (nat_lt k 128) (are_ascii front) a in
     bytes-cons k (front ++ w) (ltb-true k 128 p.0) ∙ ap (λ x. k ∷ x) (ahead front w p.1)
 
 -- a text whose bytes begin with ASCII begins with it
-after_front : (front w rest : List ℕ) → are_ascii front ≡ true → bytes w ≡ front ++ rest → (v : List ℕ) × (w ≡ front ++ v) × (bytes v ≡ rest)
+pub after_front : (front w rest : List ℕ) → are_ascii front ≡ true → bytes w ≡ front ++ rest → (v : List ℕ) × (w ≡ front ++ v) × (bytes v ≡ rest)
 after_front [] w rest a e = (w, refl, e)
 after_front (k ∷ front) w rest a e =
     let p = and_parts (nat_lt k 128) (are_ascii front) a in

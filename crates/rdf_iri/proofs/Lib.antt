@@ -20,6 +20,7 @@ pub mod PrefixLemmas
 pub mod TableLemmas
 pub mod BaseLemmas
 pub mod HeldLemmas
+pub mod BindingLineLemmas
 pub mod BindingLemmas
 pub mod BindingSteps
 pub mod BindingFiles

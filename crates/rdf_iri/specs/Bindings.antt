@@ -1,17 +1,15 @@
--- A file of bindings: each line binds a prefix to an IRI, as `x: http://example.org/x#`, or is empty.
+-- A file of bindings: each line binds a prefix to an IRI, as `x: http://example.org/x#`, or says nothing.
 use Prim.Native.Char.{code}
 use Rattle.std.specs.Prelude.{◌≡◌, ℕ, ◌+◌, ◌*◌, ◌<◌, ◌≤◌, cond, List, [], ◌∷◌, ◌++◌, ◌⊎◌, length, Option, Some, None, is_some, codes, ⊤}
 use Rattle.std.specs.List.{AllByRecursion}
 use Rattle.std.specs.Str.{chars, IsUtf8}
-use Rattle.rdf_terms.specs.declared.kind.Dialect.TheVariants.{Turtle}
-use Rattle.rdf_terms.specs.declared.kind.Kind.TheVariants.{PnameNs}
-use Rattle.rdf_terms.specs.Terminals.{Shape}
 use Rattle.rdf_terms.specs.Terms.{IsIri}
 use Rattle.rdf_iri.specs.declared.fault.BindingReason.{BindingReason}
 use Rattle.rdf_iri.specs.declared.fault.BindingReason.TheVariants.{BadBinding, TokenTooLong, IriTooLong, TooManyBindings, Memory}
 use Rattle.rdf_iri.specs.Limits.{Sizes}
 use Rattle.rdf_iri.specs.Texts.{Lacks, BeginsWith, byte_len}
 use Rattle.rdf_iri.specs.Scope.{bound_to}
+use Rattle.rdf_iri.specs.BindingLines.{IsBinding, SaysNothing}
 
 -- U+FEFF, as bytes
 abbrev pub byte_order_mark : List ℕ
@@ -43,16 +41,9 @@ CrDropped line text = (line ≡ text ++ code "\r" ∷ []) ⊎ (((front : List �
 abbrev pub Entry : Type 0
 Entry = Option (List ℕ × List ℕ)
 
--- the text is a prefix with its colon (PNAME_NS of Turtle 6.5), one space, and an absolute IRI without brackets and escapes
-pub record IsBinding (text prefix iri : List ℕ) : Type 0 where
-  pub utf8 : IsUtf8 text
-  pub parts : chars text ≡ (prefix ++ codes ":") ++ (codes " " ++ iri)
-  pub shape : Shape Turtle PnameNs (prefix ++ codes ":")
-  pub absolute : IsIri iri
-
--- an empty line says nothing; any other has to be a prefix with its colon, a space and an absolute IRI
+-- a text in UTF-8 says nothing, as an empty one and a comment do, or it binds a prefix to an IRI
 abbrev pub TextSays : List ℕ → Entry → Type 0
-TextSays text None = text ≡ []
+TextSays text None = IsUtf8 text × SaysNothing (chars text)
 TextSays text (Some e) = IsBinding text e.0 e.1
 
 -- what a line says that may end in CR, which is no part of what it says

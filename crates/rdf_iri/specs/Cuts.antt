@@ -21,3 +21,8 @@ after c (d ∷ w) = cond (d == c) (Some w) (after c w)
 abbrev pub from : ℕ → List ℕ → List ℕ
 from c [] = []
 from c (d ∷ w) = cond (d == c) (d ∷ w) (from c w)
+
+-- the text without the characters at its beginning that pass the test
+abbrev pub past : (ℕ → Bool) → List ℕ → List ℕ
+past test [] = []
+past test (c ∷ w) = cond (test c) (past test w) (c ∷ w)

@@ -6,6 +6,7 @@ pub mod Resolution
 pub mod Limits
 pub mod Faults
 pub mod Scope
+pub mod BindingLines
 pub mod Bindings
 -- what need not be: functions that compute, what the code's side speaks of, and the laws, which say that both agree
 pub mod Cuts

@@ -1,22 +1,19 @@
 // Bindings that are handed in with a document, and the file that they are read from.
 
-ghost use Rattle.std.specs.Prelude.{◌≡◌, ◌≤◌, ◌*◌, ◌++◌, ◌∷◌, [], ℕ, List, None, IfOk, IfErr, OnOk, MatchOption, length};
+ghost use Rattle.std.specs.Prelude.{◌≡◌, ◌≤◌, ◌*◌, None, IfOk, IfErr, OnOk, length};
 ghost use Rattle.std.specs.Str.{chars};
-ghost use Rattle.rdf_terms.specs.declared.kind.Dialect.TheVariants.{Turtle};
-ghost use Rattle.rdf_terms.specs.declared.kind.Kind.TheVariants.{PnameNs};
-ghost use Rattle.rdf_terms.specs.Terminals.{Shape};
 ghost use Rattle.rdf_iri.specs.Cuts.{before, after};
 ghost use Rattle.rdf_iri.specs.Seen.{text_of};
-ghost use Rattle.rdf_iri.specs.Bindings.{MarkDropped, CrDropped, IsBinding, IsReadFrom, IsRefused};
+ghost use Rattle.rdf_iri.specs.Bindings.{MarkDropped, CrDropped, IsReadFrom, IsRefused};
 ghost use Rattle.rdf_iri.specs.BindingSteps.{TakesLine, StopsAt};
 
+use crate::binding_lines::{binding_in, says_nothing};
 use crate::fault::{BindingFault, BindingReason, IriFault};
 use crate::limits::Limits;
-use crate::parts::cut;
 use crate::places::{begins_with, bytes_before};
 use crate::prefixes::Prefixes;
 use crate::scope::Scope;
-use rdf_terms::{Iri, has_scheme, iri_text, is_pname_ns};
+use rdf_terms::Iri;
 use std::alloc::{Allocator, Global};
 use std::marker::Model;
 
@@ -46,9 +43,11 @@ impl<A: Allocator> Bindings<A> {
     }
 }
 
-/// The bindings of a file in UTF-8. Each line is empty, or a prefix with its colon, a space and an absolute IRI as it is,
-/// without brackets and escapes; of the lines of one prefix the last counts. Lines end at LF or at CR and LF. One U+FEFF
-/// at the beginning is ignored.
+/// The bindings of a file in UTF-8. Each line binds a prefix to an absolute IRI without escapes, in one of three forms:
+/// `ex: http://example.org/`, `@prefix ex: <http://example.org/> .` or `PREFIX ex: <http://example.org/>`; or it is empty,
+/// blank or a comment. Of the lines of one prefix the last counts. The first form has one space and nothing more; the
+/// others are as in Turtle, with a comment behind them or not, but each in one line. Lines end at LF or at CR and LF. One
+/// U+FEFF at the beginning is ignored.
 pub fn read_bindings<A: Allocator + Copy>(
     alloc: A,
     limits: Limits,
@@ -103,16 +102,27 @@ fn without_cr(line: &[u8]) -> &[u8]
     if *last == b'\r' { front } else { line }
 }
 
+fn bind_line<A: Allocator + Copy>(scope: &mut Scope<A>, line: &[u8]) -> Result<(), BindingReason>
+    requires { scope.old.base ≡ None }
+    ensures ok { OnOk result (TakesLine scope.old line.now scope.new) }
+    ensures err { IfErr result (λ reason. StopsAt reason scope.old line.now) }
+{
+    match str::from_utf8(line) {
+        Ok(text) => bind_text(scope, text),
+        Err(_) => Err(BindingReason::BadBinding),
+    }
+}
+
 /// Binds what a line says, if it says something.
-fn bind_line<A: Allocator + Copy>(scope: &mut Scope<A>, text: &[u8]) -> Result<(), BindingReason>
+fn bind_text<A: Allocator + Copy>(scope: &mut Scope<A>, text: &str) -> Result<(), BindingReason>
     requires { scope.old.base ≡ None }
     ensures ok { OnOk result (TakesLine scope.old text.now scope.new) }
     ensures err { IfErr result (λ reason. StopsAt reason scope.old text.now) }
 {
-    if text.is_empty() {
+    if says_nothing(text) {
         return Ok(());
     }
-    let Some((prefix, iri)) = binding(text) else {
+    let Some((prefix, iri)) = binding_in(text) else {
         return Err(BindingReason::BadBinding);
     };
     if char_count(prefix) as u64 >= scope.limits().token() {
@@ -124,42 +134,6 @@ fn bind_line<A: Allocator + Copy>(scope: &mut Scope<A>, text: &[u8]) -> Result<(
         Err(IriFault::TooManyBindings) => Err(BindingReason::TooManyBindings),
         Err(IriFault::Memory) => Err(BindingReason::Memory),
         Err(IriFault::NoBase | IriFault::Unbound) => unreachable!(),
-    }
-}
-
-/// The prefix and the IRI of a line, if it has the form of a binding.
-fn binding(text: &[u8]) -> Option<(&str, &str)>
-    ensures { MatchOption result ((prefix iri : List ℕ) → IsBinding text.now prefix iri → ⊥) (λ p. IsBinding text.now (chars p.0.now) (chars p.1.now)) }
-{
-    match str::from_utf8(text) {
-        Ok(text) => binding_in(text),
-        Err(_) => None,
-    }
-}
-
-fn binding_in(text: &str) -> Option<(&str, &str)>
-    ensures { MatchOption result ((prefix iri : List ℕ) → IsBinding text.now prefix iri → ⊥) (λ p. IsBinding text.now (chars p.0.now) (chars p.1.now)) }
-{
-    let (name, rest) = cut(text, ' ');
-    match rest {
-        Some(iri) => {
-            if is_pname_ns(name) && iri_text(iri) && has_scheme(iri) {
-                Some((without_colon(name), iri))
-            } else {
-                None
-            }
-        }
-        None => None,
-    }
-}
-
-fn without_colon(name: &str) -> &str
-    requires { Shape Turtle PnameNs (chars name.now) }
-    ensures { name.now ≡ result.now ++ 58 ∷ [] }
-{
-    match name.strip_suffix(':') {
-        Some(prefix) => prefix,
-        None => unreachable!(),
     }
 }
 

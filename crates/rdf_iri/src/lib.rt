@@ -2,6 +2,7 @@
 #![tactic(auto)]
 
 mod base;
+mod binding_lines;
 mod bindings;
 mod dots;
 mod fault;

@@ -16,7 +16,7 @@ pub enum Format {
 pub struct Options<'a> {
     /// The absolute IRI that relative references start from; empty for none.
     pub base: &'a str,
-    /// Lines of a prefix with its colon, a space and an IRI.
+    /// Lines of a prefix with its colon, a space and an IRI, or as in Turtle or SPARQL, or comments.
     pub prefixes: &'a str,
     /// Letters and digits in front of the name of each blank node.
     pub node_prefix: &'a str,

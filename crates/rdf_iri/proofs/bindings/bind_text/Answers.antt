@@ -1,10 +1,18 @@
 -- A line within the limits is bound, and each error of the scope is one of the line.
-use Rattle.std.proofs.Common.{Some, ap, subst, ◌∙◌, arith}
+use Rattle.std.proofs.Common.{Some, None, ap, sym, refl, subst, ◌∙◌, arith}
+use Rattle.std.proofs.lemmas.Bool.{false≢true}
 use Rattle.std.specs.Str.{chars}
 use Rattle.rdf_iri.specs.Limits.{Sizes}
 use Rattle.rdf_iri.specs.Scope.{NotBound}
-use Rattle.rdf_iri.proofs.BindingSteps.{bound_line, long_line, full_line, long_name, short_name}
-use Rattle.rdf_iri.proofs.bindings.bind_line.Goals as goal
+use Rattle.rdf_iri.proofs.BindingSteps.{bound_line, long_line, full_line, long_name, short_name, none_said}
+use Rattle.rdf_iri.proofs.bindings.bind_text.Goals as goal
+
+pub returns-then-says_nothing-clause-ok : goal.returns-then-says_nothing-clause-ok
+returns-then-says_nothing-clause-ok g c = (None, (c.utf8.text, c.says_nothing.ensures.0 c.if-says_nothing.true), tt, refl)
+
+pub returns-in_default-clause-err : goal.returns-in_default-clause-err
+returns-in_default-clause-err g c =
+    none_said c.args.text.now (λ s. false≢true (sym c.if-says_nothing.false ∙ c.says_nothing.ensures.1 s)) c.in_default.ensures
 
 pub returns-then-char_count-token-clause-err : goal.returns-then-char_count-token-clause-err
 returns-then-char_count-token-clause-err g c = (

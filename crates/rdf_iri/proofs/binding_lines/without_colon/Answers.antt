@@ -1,7 +1,7 @@
 use Rattle.std.proofs.Common.{arith}
 use Rattle.std.proofs.lemmas.Str.Pattern.{strip_suffix_char}
 use Rattle.rdf_terms.proofs.NamesLemmas.{ns_without_colon}
-use Rattle.rdf_iri.proofs.bindings.without_colon.Goals as goal
+use Rattle.rdf_iri.proofs.binding_lines.without_colon.Goals as goal
 
 pub returns : goal.returns
 returns c = rw c.in-Some.is at (strip_suffix_char 58 c.args.name.now c.strip_suffix.result c.strip_suffix.ensures.cases (omega arith))

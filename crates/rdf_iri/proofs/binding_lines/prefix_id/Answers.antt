@@ -1,0 +1,15 @@
+use Rattle.std.proofs.Common.{◌∙◌, sym, subst}
+use Rattle.std.specs.Str.{chars}
+use Rattle.std.proofs.lemmas.Bool.{false≢true}
+use Rattle.rdf_iri.specs.BindingSteps.{EndsAtDot}
+use Rattle.rdf_iri.proofs.BindingLineLemmas.{one_pair}
+use Rattle.rdf_iri.proofs.BindingLemmas.{passed_none}
+use Rattle.rdf_iri.proofs.binding_lines.prefix_id.Goals as goal
+
+pub returns-in_err-prefix : goal.returns-in_err-prefix
+returns-in_err-prefix c = passed_none c.from_residual.result _ _ c.from_residual.ensures (λ p i d. c.in_err-prefix.ensures (p, i, d.0) d.1)
+
+pub returns-else-ends_at_dot : goal.returns-else-ends_at_dot
+returns-else-ends_at_dot c = λ p i d.
+    let same = one_pair (chars c.args.text.now) (p, i, d.0) (chars c.in_ok-prefix.prefix.now, chars c.in_ok-prefix.iri.now, chars c.in_ok-prefix.rest.now) d.1 c.in_ok-prefix.ensures in
+    false≢true (sym c.if-ends_at_dot.false ∙ c.ends_at_dot.ensures.1 (subst EndsAtDot same.rest d.2))
