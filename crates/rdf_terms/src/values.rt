@@ -13,7 +13,7 @@ ghost use Rattle.rdf_terms.specs.Escapes.{inside_of, run_of, completes, IsRead, 
 use crate::Kind;
 use crate::classes::{hex_value, is_iri_char};
 use crate::escapes::{begins_uchar, four_digits, letter_meaning};
-use crate::runs::{Run, run_end};
+use crate::runs::{Run, near_run_end, run_end};
 use std::alloc::{AllocError, Allocator};
 
 /// Why a text has no value.
@@ -338,11 +338,23 @@ fn put_run<A: Allocator>(
     ensures run { IfOk result (λ end. IsRun (goes_over (run_of (inside_of inside))) text.now from end) }
     ensures put { IfOk result (λ end. string_bytes out.new ≡ string_bytes out.old ++ slice_range text.now from end) }
 {
-    let end = run_end(run_of(inside), text.as_bytes(), from);
+    let end = plain_end(inside, text.as_bytes(), from);
     if from < end {
         out.push_str(&text[from..end])?;
     }
     Ok(end)
+}
+
+/// Where what stands from a place on as it is ends.
+#[inline(always)]
+fn plain_end(inside: Inside, bytes: &[u8], from: usize) -> usize
+    requires { from ≤ length bytes.now }
+    ensures { IsRun (goes_over (run_of (inside_of inside))) bytes.now from result }
+{
+    match inside {
+        Inside::OfString => run_end(Run::Unescaped, bytes, from),
+        Inside::OfIri => near_run_end(Run::Iri, bytes, from),
+    }
 }
 
 /// What the escape at a place means, and where it ends. No other character that ends a run may stand there.
