@@ -23,7 +23,7 @@ pub fn put_text<A: Allocator>(out: &mut String<A>, text: &str) -> Result<(), All
     out.push_str(text)
 }
 
-/// Puts what an IRIREF spells in place of a text: most have no escape. None is bad, since the token is fit.
+/// Puts what an IRIREF spells in place of a text. Most have no escape, and none is bad, since the token is fit.
 pub fn put_iri<A: Allocator>(out: &mut String<A>, text: &str) -> Result<(), AllocError>
     requires { is_fit Kind.IriRef (chars text.now) ≡ true }
     ensures value { OnOk result (chars (string_bytes out.new) ≡ iri_in (chars text.now)) }

@@ -52,7 +52,8 @@ pub fn run_end(run: Run, bytes: &[u8], from: usize) -> usize
     short_run_end(run, bytes, at)
 }
 
-/// The same of a text that often ends soon, as the inside of a token does. Fewer than sixteen bytes are seen in one load, with those before them.
+/// The same of a text that often ends soon, as the inside of a token does. Where fewer than sixteen bytes are left, they
+/// are seen in one load with those before them.
 #[inline(always)]
 pub(crate) fn near_run_end(run: Run, bytes: &[u8], from: usize) -> usize
     requires { from ≤ length bytes.now }

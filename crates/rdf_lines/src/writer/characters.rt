@@ -24,7 +24,8 @@ pub fn place_characters(slot: &mut [u8], at: usize, text: &str) -> usize
     }
 }
 
-// Run by run, each with the byte after it. No other characters than some of ASCII are escaped, so the bytes may be looked at in their place.
+// Run by run, each with the byte after it. Only characters of ASCII are escaped, so bytes may be looked at in place of
+// characters.
 #[inline(never)]
 fn place_escaped(slot: &mut [u8], at: usize, bytes: &[u8]) -> usize
     requires { at + 2 * length bytes.now ≤ length slot.old }
