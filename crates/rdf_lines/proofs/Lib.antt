@@ -23,6 +23,7 @@ pub mod PlainRuns
 pub mod WrittenBytesLemmas
 pub mod Places
 pub mod PlacedLines
+mod PlacedCharacters
 mod DigitPairs
 pub mod LawExamples
 mod SpelledLemmas

@@ -1,30 +1,23 @@
 -- The bytes of the parts of a line whose texts stand as they are.
-use Rattle.std.proofs.Common.{◌≡◌, ℕ, true, List, [], ◌∷◌, ◌++◌, refl, ap, sym, ◌∙◌, arith}
-use Rattle.std.specs.Prelude.{flat_map, chars, decimal, encode_utf8_all, IsUtf8}
+use Rattle.std.proofs.Common.{◌≡◌, ℕ, List, [], ◌∷◌, ◌++◌, refl, ap, sym, ◌∙◌, arith}
+use Rattle.std.specs.Prelude.{flat_map, decimal, encode_utf8_all}
 use Rattle.rdf_terms.specs.declared.views.IriView.{IriView}
 use Rattle.rdf_terms.specs.declared.views.LabelView.{LabelView}
 use Rattle.rdf_terms.specs.declared.views.NodeRef.TheVariants as node_ref
-use Rattle.rdf_terms.specs.declared.runs.Run.TheVariants.{Text}
-use Rattle.rdf_terms.specs.Runs.{goes_over}
-use Rattle.rdf_terms.specs.Terms.{all_have}
 use Rattle.rdf_terms.specs.Views.{iri_chars}
 use Rattle.rdf_lines.specs.declared.form.Escapes.{Escapes}
 use Rattle.rdf_lines.specs.declared.form.Escapes.TheVariants.{Plain}
 use Rattle.rdf_lines.specs.declared.form.Style.{Style}
 use Rattle.rdf_lines.specs.declared.form.Style.TheVariants.{Kept, Tagged}
 use Rattle.rdf_lines.specs.Placing.{label_bytes, number_bytes}
-use Rattle.rdf_lines.specs.Writing.{escaped, written}
-use Rattle.rdf_lines.specs.WrittenBytes.{iri_bytes, node_bytes, string_bytes_of}
+use Rattle.rdf_lines.specs.Writing.{written}
+use Rattle.rdf_lines.specs.WrittenBytes.{iri_bytes, node_bytes}
 use Rattle.rdf_lines.proofs.EncodedLine.{between, encoded_node}
-use Rattle.rdf_lines.proofs.EscapedRuns.{plain_iri, text_stands}
+use Rattle.rdf_lines.proofs.EscapedRuns.{plain_iri}
 
 -- an IRI in its brackets, in the plain form
 pub plain_iri_bytes : (i : IriView) → iri_bytes Plain i ≡ 60 ∷ i.text.now ++ 62 ∷ []
 plain_iri_bytes i = between 60 62 (flat_map (written Plain) (iri_chars i)) (omega arith) (omega arith) ∙ ap (λ x. 60 ∷ x ++ 62 ∷ []) (plain_iri i)
-
--- a string without escapes in its quotes
-pub plain_string_bytes : (w : List ℕ) → IsUtf8 w → all_have (goes_over Text) w ≡ true → string_bytes_of Plain w ≡ 34 ∷ w ++ 34 ∷ []
-plain_string_bytes w u h = between 34 34 (flat_map (escaped Plain) (chars w)) (omega arith) (omega arith) ∙ ap (λ x. 34 ∷ x ++ 34 ∷ []) (text_stands Plain w u h)
 
 -- the label of a node, with a word in front
 pub placed_label : (s : Style) (e : Escapes) (prefix word : List ℕ) (l : LabelView) → encode_utf8_all prefix ≡ word

@@ -1,5 +1,5 @@
 -- Bytes that are placed in a buffer that has room for them, and how much room a line takes at most.
-use Rattle.std.specs.Prelude.{◌≡◌, ℕ, ◌+◌, ◌*◌, ◌/◌, ◌%◌, ◌≤◌, Bool, true, List, [], ◌∷◌, ◌++◌, Option, Some, None, decimal, length, take}
+use Rattle.std.specs.Prelude.{◌≡◌, ℕ, ◌+◌, ◌*◌, ◌/◌, ◌%◌, ◌≤◌, List, [], ◌∷◌, ◌++◌, Option, Some, None, decimal, length, take}
 use Rattle.rdf_terms.specs.declared.views.NodeRef.{NodeRef}
 use Rattle.rdf_terms.specs.declared.views.NodeRef.TheVariants as node_ref
 use Rattle.rdf_terms.specs.declared.views.TailRef.{TailRef}
@@ -9,9 +9,6 @@ use Rattle.rdf_terms.specs.declared.views.SubjectRef.TheVariants as subject_ref
 use Rattle.rdf_terms.specs.declared.views.TermRef.{TermRef}
 use Rattle.rdf_terms.specs.declared.views.TermRef.TheVariants as term_ref
 use Rattle.rdf_terms.specs.declared.views.QuadRef.{QuadRef}
-use Rattle.rdf_terms.specs.declared.runs.Run.TheVariants.{Text}
-use Rattle.rdf_terms.specs.Runs.{goes_over}
-use Rattle.rdf_terms.specs.Terms.{all_have}
 use Rattle.rdf_lines.specs.declared.form.Style.{Style}
 use Rattle.rdf_lines.specs.declared.form.Style.TheVariants.{Kept, Tagged}
 
@@ -47,7 +44,7 @@ abbrev pub tail_room : TailRef → ℕ
 tail_room (tail_ref.Lang t) = length t.text.now
 tail_room (tail_ref.Typed i) = length i.text.now
 
--- the most bytes that the texts of an object take
+-- the most bytes that the texts of an object have
 abbrev pub term_room : TermRef → ℕ
 term_room (term_ref.Iri i) = length i.text.now
 term_room (term_ref.Node n) = node_room n
@@ -58,15 +55,9 @@ abbrev pub graph_room : Option SubjectRef → ℕ
 graph_room None = 0
 graph_room (Some s) = subject_room s
 
--- the most bytes of a line whose texts stand as they are, with a word of so many bytes in front of each name
+-- the most bytes of a line in the plain form, in which a byte of a string may become two, with a word of so many bytes in front of each name
 abbrev pub line_room : ℕ → QuadRef → ℕ
-line_room word q = subject_room q.subject + length q.predicate.text.now + term_room q.object + graph_room q.graph + 3 * word + 20
-
--- whether an object has no escapes in the plain form, in which IRIs have none
-abbrev pub has_no_escapes : TermRef → Bool
-has_no_escapes (term_ref.Iri i) = true
-has_no_escapes (term_ref.Node n) = true
-has_no_escapes (term_ref.Literal l) = all_have (goes_over Text) l.lexical.now
+line_room word q = subject_room q.subject + length q.predicate.text.now + 2 * term_room q.object + graph_room q.graph + 3 * word + 20
 
 -- the bytes of a label with its `_:` and a word in front
 abbrev pub label_bytes : Style → List ℕ → List ℕ → List ℕ

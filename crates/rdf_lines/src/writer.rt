@@ -1,6 +1,7 @@
 // The line that is written for a quad, and the text of a blank node (N-Quads 4).
 
 mod at_once;
+mod characters;
 mod digits;
 mod escape;
 mod line;
@@ -25,7 +26,7 @@ use at_once::put_at_once;
 use itoa::Buffer;
 use line::put_in_parts;
 use rdf_terms::{NodeRef, QuadRef};
-use room::{has_no_escapes, short_room};
+use room::short_room;
 use std::alloc::{AllocError, Allocator};
 use term::letter_and_name;
 use writable::can_write;
@@ -114,7 +115,7 @@ pub(crate) fn put_quad<A: Allocator + Copy>(
     Ok(end)
 }
 
-// At once where the texts are short and stand as they are, as most do.
+// At once where the texts are short, as most are.
 #[inline(always)]
 fn put_plain<A: Allocator + Copy>(
     quad: &QuadRef<'_>,
@@ -128,8 +129,8 @@ fn put_plain<A: Allocator + Copy>(
     ensures kept { OnErr result (KeptFront out.old.items out.new.items at) }
 {
     match short_room(quad, form.prefix.as_str()) {
-        Some(room) if has_no_escapes(&quad.object) => put_at_once(quad, form, room, at, out),
-        _ => put_apart(quad, form, at, out),
+        Some(room) => put_at_once(quad, form, room, at, out),
+        None => put_apart(quad, form, at, out),
     }
 }
 

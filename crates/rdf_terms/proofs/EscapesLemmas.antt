@@ -13,7 +13,7 @@ use Rattle.rdf_terms.specs.Classes.{has, member, scalar}
 use Rattle.rdf_terms.specs.Classes.Class.{hex_digit, iri_char}
 use Rattle.rdf_terms.specs.Terms.{all_have}
 use Rattle.rdf_terms.specs.Runs.{IsRun, PassBetween, goes_over, is_unescaped, iri_byte}
-use Rattle.rdf_terms.specs.Values.{Inside, of_string, of_iri, EscapeState, outside, slash, digits, Move, leads, means, fails, allowed, letter_move, echar_move, digit_move, hex_value, go, move, value}
+use Rattle.rdf_terms.specs.Values.{Inside, of_string, of_iri, EscapeState, outside, slash, digits, Move, leads, means, fails, allowed, letter_move, echar_move, digit_move, hex_value, go, move, value, iri_value}
 use Rattle.rdf_terms.specs.Escapes.{run_of, stands, completes, value_after, with_front, IsPutUpTo, IsRead, Reads}
 use Rattle.rdf_terms.proofs.CharsLemmas.{Next, next_char}
 use Rattle.rdf_terms.proofs.IriBytes.{iri_bytes, have-append}
@@ -309,6 +309,23 @@ unescaped_chars (c ∷ w) h =
 pub run_stands : (i : Inside) (bs : List ℕ) → IsUtf8 bs → all_have (goes_over (run_of i)) bs ≡ true → all_have (stands i) (chars bs) ≡ true
 run_stands of_string bs u h = unescaped_chars (chars bs) (ap (all_have is_unescaped) (encodes-chars bs u) ∙ h)
 run_stands of_iri bs u h = sym (iri_bytes bs u) ∙ h
+
+-- an IRI without a backslash means itself, if it means anything
+plain_value : (w : List ℕ) → all_have is_unescaped w ≡ true → (value of_iri outside w ≡ None → ⊥) → value of_iri outside w ≡ Some w
+plain_value [] h some = refl
+plain_value (c ∷ w) h some =
+    let p = and_parts (is_unescaped c) (all_have is_unescaped w) h in
+    let step : move of_iri outside c ≡ allowed of_iri c = cond-false (c == 92) (leads slash) (allowed of_iri c) (not-true (c == 92) p.0) in
+    let rest : EscapeState → Option (List ℕ) = λ t. value of_iri t w in
+    ⊎_elim
+    (λ e. let one : value of_iri outside (c ∷ w) ≡ option_map (λ v. c ∷ v) (value of_iri outside w) = ap (λ m. go m rest) (step ∙ cond-true (has iri_char c) (means c) fails e) in
+    one ∙ ap (option_map (λ v. c ∷ v)) (plain_value w p.1 (λ none. some (one ∙ ap (option_map (λ v. c ∷ v)) none))))
+    (λ e. absurd (some (ap (λ m. go m rest) (step ∙ cond-false (has iri_char c) (means c) fails e))))
+    (cases_Bool (has iri_char c))
+
+-- so its bytes are copied
+pub unescaped_iri : (bs : List ℕ) → IsUtf8 bs → all_have is_unescaped bs ≡ true → (iri_value (chars bs) ≡ None → ⊥) → iri_value (chars bs) ≡ Some (chars bs)
+unescaped_iri bs u h some = plain_value (chars bs) (run_stands of_string bs u h) some
 
 -- a byte that is excluded from IRIs is a character that is
 excluded : (b : ℕ) → iri_byte b ≡ false → has iri_char b ≡ false

@@ -171,3 +171,26 @@ module _ (p : ℕ → Bool) (bs : List ℕ) (at m : ℕ) (room : at + 16 ≤ len
   second_ends more =
       subst (λ o. IsRun p bs (at + count_trailing_zeros 64 m + 1) (at + count_trailing_zeros 64 m + 1 + count_trailing_zeros 64 o)) (sym others_are)
       (one_ends p bs _ (15 - count_trailing_zeros 64 m) (omega (arith, first_within, room)) (omega arith) (omega (arith, others_are, more)))
+
+-- the bytes that are left are seen in a load with those before them, whose bits are shifted out of its mask
+module _ (p : ℕ → Bool) (bs : List ℕ) (last from m : ℕ) (whole : last + 16 ≡ length bs) (over : last ≤ from) (within : from ≤ length bs) (is : m ≡ stop_mask p bs last 16) where
+  left_are : m / 2 ^ (from - last) ≡ stop_mask p bs from (length bs - from)
+  left_are =
+      ap (λ n. n / 2 ^ (from - last)) is
+      ∙ (stop_mask-after p bs last (from - last) (length bs - from) 16 (omega (arith, whole, over, within))
+      ∙ ap (λ j. stop_mask p bs j (length bs - from)) (omega (arith, over)))
+
+  pub none_left : m / 2 ^ (from - last) ≡ 0 → IsRun p bs from (length bs)
+  none_left none =
+      let r = none_stops p bs from (length bs - from) (omega (arith, within)) (sym left_are ∙ none) in
+      record {
+        from = within;
+        within = omega arith;
+        pass = λ k a b. r.pass k a (omega (arith, b, within));
+        stops = λ short. absurd (omega (arith, short));
+      }
+
+  pub some_left : 0 < m / 2 ^ (from - last) → IsRun p bs from (from + count_trailing_zeros 64 (m / 2 ^ (from - last)))
+  some_left some =
+      subst (λ h. IsRun p bs from (from + count_trailing_zeros 64 h)) (sym left_are)
+      (one_ends p bs from (length bs - from) (omega (arith, within)) (omega (arith, whole, over)) (omega (arith, left_are, some)))

@@ -10,6 +10,7 @@ ghost use Rattle.rdf_terms.specs.Values.{is_fit};
 ghost use Rattle.rdf_terms.specs.Buffers.{iri_in, string_in};
 
 use crate::Kind;
+use crate::runs::{Run, is_run};
 use crate::values::{ValueFault, set_iri_value, set_string_value, without_ends};
 use std::alloc::{AllocError, Allocator};
 
@@ -22,13 +23,17 @@ pub fn put_text<A: Allocator>(out: &mut String<A>, text: &str) -> Result<(), All
     out.push_str(text)
 }
 
-/// Puts what an IRIREF spells in place of a text. None of its escapes is bad, since the token is fit.
+/// Puts what an IRIREF spells in place of a text. Most have no escape, and none is bad, since the token is fit.
 pub fn put_iri<A: Allocator>(out: &mut String<A>, text: &str) -> Result<(), AllocError>
     requires { is_fit Kind.IriRef (chars text.now) ≡ true }
     ensures value { OnOk result (chars (string_bytes out.new) ≡ iri_in (chars text.now)) }
     ensures characters { OnOk result (all_have (has iri_char) (chars (string_bytes out.new)) ≡ true) }
 {
-    match set_iri_value(out, without_ends(text)) {
+    let inside = without_ends(text);
+    if is_run(Run::Unescaped, inside.as_bytes()) {
+        return put_text(out, inside);
+    }
+    match set_iri_value(out, inside) {
         Ok(()) => Ok(()),
         Err(ValueFault::BadEscape) => unreachable!(),
         Err(ValueFault::Memory) => Err(AllocError),

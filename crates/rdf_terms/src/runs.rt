@@ -52,6 +52,26 @@ pub fn run_end(run: Run, bytes: &[u8], from: usize) -> usize
     short_run_end(run, bytes, at)
 }
 
+/// The same of a text that often ends soon, as the inside of a token does. Where fewer than sixteen bytes are left, they
+/// are seen in one load with those before them.
+#[inline(always)]
+pub(crate) fn near_run_end(run: Run, bytes: &[u8], from: usize) -> usize
+    requires { from ≤ length bytes.now }
+    ensures { IsRun (goes_over run) bytes.now from result }
+{
+    let len = bytes.len();
+    if len < LANES || len - from >= LANES {
+        return run_end(run, bytes, from);
+    }
+    let last = len - LANES;
+    let all = stops(run, u8x16::from_slice(&bytes[last..]));
+    let hits = all >> (from - last);
+    if hits == 0 {
+        return len;
+    }
+    from + hits.trailing_zeros() as usize
+}
+
 /// The end of the run from a place on, and the end of the run after the byte there, where there is one. Both are seen in one load where
 /// they are near.
 #[inline(always)]

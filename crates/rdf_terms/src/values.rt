@@ -1,6 +1,6 @@
 // The characters that a token's inside means.
 
-ghost use Rattle.std.specs.Prelude.{◌≡◌, ◌↔◌, ◌^◌, ◌≤◌, ◌<◌, ◌++◌, true, false, cond, IfOk, OnOk, OnErr, IfSome, SomeIff, Err, Some, None, is_some, option_map, drop, length, get_or, slice_range};
+ghost use Rattle.std.specs.Prelude.{◌≡◌, ◌↔◌, ◌^◌, ◌≤◌, ◌<◌, ◌++◌, true, false, cond, IfOk, OnOk, OnErr, IfSome, SomeIff, Err, Some, None, is_some, option_map, drop, length, get_or, slice_range, encode_utf8};
 ghost use Rattle.std.specs.Str.{chars, IsUtf8};
 ghost use Rattle.std.specs.String.{string_bytes};
 ghost use Rattle.rdf_terms.specs.Classes.{has, scalar};
@@ -13,7 +13,7 @@ ghost use Rattle.rdf_terms.specs.Escapes.{inside_of, run_of, completes, IsRead, 
 use crate::Kind;
 use crate::classes::{hex_value, is_iri_char};
 use crate::escapes::{begins_uchar, four_digits, letter_meaning};
-use crate::runs::{Run, run_end};
+use crate::runs::{Run, near_run_end, run_end};
 use std::alloc::{AllocError, Allocator};
 
 /// Why a text has no value.
@@ -247,7 +247,7 @@ fn put_escapes<A: Allocator>(
 {
     match short_uchar(inside, text.as_bytes(), at) {
         Some((meant, next)) => {
-            out.push(meant)?;
+            push_char(out, meant)?;
             Ok(Some(put_row(out, inside, text, next)?))
         }
         None => put_escape(out, inside, text, at),
@@ -268,10 +268,22 @@ fn put_row<A: Allocator>(
 {
     let mut at = from;
     while let Some((meant, next)) = short_uchar(inside, text.as_bytes(), at) {
-        out.push(meant)?;
+        push_char(out, meant)?;
         at = next;
     }
     Ok(at)
+}
+
+/// Appends a character. One of two bytes, as the letters of Greek, Cyrillic and Arabic are, costs no call.
+#[inline(always)]
+fn push_char<A: Allocator>(out: &mut String<A>, c: char) -> Result<(), AllocError>
+    ensures { OnOk result (string_bytes out.new ≡ string_bytes out.old ++ encode_utf8 c) }
+{
+    if matches!(c, '\u{80}'..='\u{7FF}') {
+        let mut bytes = [0; 4];
+        return out.push_str(c.encode_utf8(&mut bytes));
+    }
+    out.push(c)
 }
 
 /// Puts what an escape of any form means: where it ends, unless it is bad.
@@ -338,11 +350,23 @@ fn put_run<A: Allocator>(
     ensures run { IfOk result (λ end. IsRun (goes_over (run_of (inside_of inside))) text.now from end) }
     ensures put { IfOk result (λ end. string_bytes out.new ≡ string_bytes out.old ++ slice_range text.now from end) }
 {
-    let end = run_end(run_of(inside), text.as_bytes(), from);
+    let end = plain_end(inside, text.as_bytes(), from);
     if from < end {
         out.push_str(&text[from..end])?;
     }
     Ok(end)
+}
+
+/// Where what stands from a place on as it is ends.
+#[inline(always)]
+fn plain_end(inside: Inside, bytes: &[u8], from: usize) -> usize
+    requires { from ≤ length bytes.now }
+    ensures { IsRun (goes_over (run_of (inside_of inside))) bytes.now from result }
+{
+    match inside {
+        Inside::OfString => run_end(Run::Unescaped, bytes, from),
+        Inside::OfIri => near_run_end(Run::Iri, bytes, from),
+    }
 }
 
 /// What the escape at a place means, and where it ends. No other character that ends a run may stand there.

@@ -69,9 +69,9 @@ static ROWS: [Row; 4] = [
         escapes: Escapes::Plain,
         label: "\u{E9}",
         iri: "http://www.w3.org/2001/XMLSchema#string",
-        lexical: "\u{E9}\"\\\n\r\t'",
+        lexical: "\u{E9}\"\\\n\r\t' and more bytes than are seen at once\n",
         is_tagged: false,
-        line: "_:\u{E9} <http://www.w3.org/2001/XMLSchema#string> \"\u{E9}\\\"\\\\\\n\\r\t'\" <http://www.w3.org/2001/XMLSchema#string> .\n",
+        line: "_:\u{E9} <http://www.w3.org/2001/XMLSchema#string> \"\u{E9}\\\"\\\\\\n\\r\t' and more bytes than are seen at once\\n\" <http://www.w3.org/2001/XMLSchema#string> .\n",
     },
     Row {
         escapes: Escapes::Ascii,

@@ -1,17 +1,15 @@
-// Lines whose texts stand as they are: the buffer grows once, and the parts are placed in what is new of it.
+// Lines whose texts are short: the buffer grows once, and the parts are placed in what is new of it.
 
-ghost use Rattle.std.specs.Prelude.{◌≡◌, ◌++◌, ◌+◌, ◌<◌, ◌≤◌, [], ◌∷◌, length, true, encode_utf8_all, IfOk, OnErr, OnOk};
-ghost use Rattle.rdf_terms.specs.declared.runs.Run.TheVariants.{Text};
-ghost use Rattle.rdf_terms.specs.Runs.{goes_over};
-ghost use Rattle.rdf_terms.specs.Terms.{all_have};
+ghost use Rattle.std.specs.Prelude.{◌≡◌, ◌++◌, ◌+◌, ◌*◌, ◌<◌, ◌≤◌, [], ◌∷◌, length, encode_utf8_all, IfOk, OnErr, OnOk};
 ghost use Rattle.rdf_terms.specs.Views.{iri_chars};
 ghost use Rattle.rdf_lines.specs.declared.form.Escapes.TheVariants.{Plain};
 ghost use Rattle.rdf_lines.specs.Forms.{form_of};
-ghost use Rattle.rdf_lines.specs.Placing.{Placed, WrittenAt, graph_room, has_no_escapes, label_bytes, line_room, node_room, number_bytes, subject_room, tail_room, term_room};
+ghost use Rattle.rdf_lines.specs.Placing.{Placed, WrittenAt, graph_room, label_bytes, line_room, node_room, number_bytes, subject_room, tail_room, term_room};
 ghost use Rattle.rdf_lines.specs.Writing.{space, type_text};
 ghost use Rattle.rdf_lines.specs.WrittenBytes.{BeginsWith, graph_bytes, iri_bytes, line_bytes, node_bytes, string_bytes_of, subject_bytes, tail_bytes, term_bytes};
 
 use crate::form::{Style, WrittenForm};
+use crate::writer::characters::place_characters;
 use crate::writer::digits::place_digits;
 use crate::writer::place::{place_byte, place_text, place_two};
 use crate::writer::term::is_plain;
@@ -34,7 +32,6 @@ pub fn put_at_once<A: Allocator + Copy>(
 ) -> Result<usize, AllocError>
     requires at { at ≤ length out.old.items }
     requires plain { form.now.escapes ≡ Plain }
-    requires text { has_no_escapes quad.now.object ≡ true }
     requires room { line_room (length form.now.prefix.word.now) quad.now ≤ room }
     requires short { room ≤ 4096 }
     ensures written { IfOk result (λ end. WrittenAt out.old.items out.new.items at (line_bytes (form_of form.now) quad.now) end) }
@@ -72,7 +69,6 @@ fn make_room<A: Allocator + Copy>(
 #[inline(always)]
 fn place_line(slot: &mut [u8], at: usize, quad: &QuadRef<'_>, form: &WrittenForm<'_>) -> usize
     requires plain { form.now.escapes ≡ Plain }
-    requires text { has_no_escapes quad.now.object ≡ true }
     requires room { at + line_room (length form.now.prefix.word.now) quad.now ≤ length slot.old }
     ensures { Placed slot.old slot.new at (line_bytes (form_of form.now) quad.now) result }
 {
@@ -202,10 +198,9 @@ fn place_start(slot: &mut [u8], at: usize, word: &str) -> usize
 #[inline(always)]
 fn place_object(slot: &mut [u8], at: usize, object: &TermRef<'_>, form: &WrittenForm<'_>) -> usize
     requires plain { form.now.escapes ≡ Plain }
-    requires text { has_no_escapes object.now ≡ true }
-    requires room { at + (term_room object.now + length form.now.prefix.word.now + 7) ≤ length slot.old }
+    requires room { at + (2 * term_room object.now + length form.now.prefix.word.now + 7) ≤ length slot.old }
     ensures placed { Placed slot.old slot.new at (term_bytes (form_of form.now) object.now ++ space) result }
-    ensures within { result ≤ at + (term_room object.now + length form.now.prefix.word.now + 7) }
+    ensures within { result ≤ at + (2 * term_room object.now + length form.now.prefix.word.now + 7) }
 {
     let end = place_term(slot, at, object, form);
     place_byte(slot, end, b' ')
@@ -214,10 +209,9 @@ fn place_object(slot: &mut [u8], at: usize, object: &TermRef<'_>, form: &Written
 #[inline(always)]
 fn place_term(slot: &mut [u8], at: usize, term: &TermRef<'_>, form: &WrittenForm<'_>) -> usize
     requires plain { form.now.escapes ≡ Plain }
-    requires text { has_no_escapes term.now ≡ true }
-    requires room { at + (term_room term.now + length form.now.prefix.word.now + 6) ≤ length slot.old }
+    requires room { at + (2 * term_room term.now + length form.now.prefix.word.now + 6) ≤ length slot.old }
     ensures placed { Placed slot.old slot.new at (term_bytes (form_of form.now) term.now) result }
-    ensures within { result ≤ at + (term_room term.now + length form.now.prefix.word.now + 6) }
+    ensures within { result ≤ at + (2 * term_room term.now + length form.now.prefix.word.now + 6) }
 {
     match term {
         TermRef::Iri(iri) => place_iri(slot, at, *iri),
@@ -228,13 +222,12 @@ fn place_term(slot: &mut [u8], at: usize, term: &TermRef<'_>, form: &WrittenForm
 
 #[inline(never)]
 fn place_literal(slot: &mut [u8], at: usize, literal: &LiteralRef<'_>) -> usize
-    requires text { all_have (goes_over Text) literal.now.lexical.now ≡ true }
-    requires room { at + (length literal.now.lexical.now + tail_room literal.now.tail + 6) ≤ length slot.old }
+    requires room { at + (2 * (length literal.now.lexical.now + tail_room literal.now.tail) + 6) ≤ length slot.old }
     ensures placed { Placed slot.old slot.new at (string_bytes_of Plain literal.now.lexical.now ++ tail_bytes Plain literal.now.tail) result }
-    ensures within { result ≤ at + (length literal.now.lexical.now + tail_room literal.now.tail + 6) }
+    ensures within { result ≤ at + (2 * (length literal.now.lexical.now + tail_room literal.now.tail) + 6) }
 {
     let inside = place_byte(slot, at, b'"');
-    let close = place_text(slot, inside, literal.lexical.as_bytes());
+    let close = place_characters(slot, inside, literal.lexical);
     let end = place_byte(slot, close, b'"');
     place_tail(slot, end, literal.tail)
 }

@@ -10,7 +10,7 @@ use crate::writer::term::{put_iri, put_name, put_term};
 use rdf_terms::{IriView, QuadRef, SubjectRef, TermRef};
 use std::alloc::{AllocError, Allocator};
 
-/// Appends the line of a quad part by part, as lines are that have escapes or long texts.
+/// Appends the line of a quad part by part, as lines are that have long texts or are in ASCII.
 #[inline(never)]
 pub fn put_in_parts<A: Allocator + Copy>(
     quad: &QuadRef<'_>,

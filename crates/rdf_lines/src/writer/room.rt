@@ -1,15 +1,14 @@
 // How much room a line takes at most, where its texts are short.
 
 ghost use Rattle.std.specs.Prelude.{◌≡◌, ◌+◌, ◌^◌, ◌<◌, ◌≤◌, length, IfSome};
-ghost use Rattle.rdf_lines.specs.Placing.{graph_room, has_no_escapes, line_room, node_room, subject_room, tail_room, term_room};
+ghost use Rattle.rdf_lines.specs.Placing.{graph_room, line_room, node_room, subject_room, tail_room, term_room};
 
-use rdf_terms::runs::{Run, is_run};
 use rdf_terms::{LiteralRef, NodeRef, QuadRef, SubjectRef, TailRef, TermRef};
 
 /// The most bytes that the texts of two parts of a short line have.
 const SHORT: usize = 512;
 
-/// The most bytes of the line of a quad with a word of so many bytes in front of each name, or None where a text is long.
+/// The most bytes of the line of a quad, where an escape may stand for each byte of its object, with a word of so many bytes in front of each name, or None where a text is long.
 #[inline(always)]
 pub fn short_room(quad: &QuadRef<'_>, word: &str) -> Option<usize>
     ensures room { IfSome result (λ room. line_room (length word.now) quad.now ≤ room) }
@@ -21,7 +20,7 @@ pub fn short_room(quad: &QuadRef<'_>, word: &str) -> Option<usize>
     if names > SHORT || others > SHORT || object > SHORT {
         return None;
     }
-    Some(names + object + others + 2 * word.len() + 20)
+    Some(names + 2 * object + others + 2 * word.len() + 20)
 }
 
 #[inline(always)]
@@ -83,17 +82,5 @@ fn graph_room(graph: &Option<SubjectRef<'_>>) -> usize
     match graph {
         None => 0,
         Some(subject) => subject_room(subject),
-    }
-}
-
-/// Whether an object has no escapes in the plain form.
-#[inline(always)]
-pub fn has_no_escapes(object: &TermRef<'_>) -> bool
-    ensures { result ≡ has_no_escapes object.now }
-{
-    match object {
-        TermRef::Iri(_) => true,
-        TermRef::Node(_) => true,
-        TermRef::Literal(literal) => is_run(Run::Text, literal.lexical.as_bytes()),
     }
 }

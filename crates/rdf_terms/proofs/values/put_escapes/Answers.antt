@@ -15,5 +15,5 @@ returns-in_ok-put_row-in-Some-clause-put g c =
     let out = c.args.out.now in
     let read = subst (λ w. IsRead i (leads outside) w at c.in-Some.meant c.in-Some.next) c.as_bytes.ensures.value c.in-Some.ensures.read in
     put_more i text (string_bytes out) _ _ at c.in-Some.next _
-    (put_one i text (string_bytes out) _ at c.in-Some.meant c.in-Some.next read (IsUtf8-string_bytes out) c.in_ok-push-in-Some.ensures.bytes)
+    (put_one i text (string_bytes out) _ at c.in-Some.meant c.in-Some.next read (IsUtf8-string_bytes out) c.in_ok-push_char-in-Some.ensures)
     c.in_ok-put_row-in-Some.ensures

@@ -29,7 +29,7 @@ loop-meant-preserved g c =
     let text = c.args.text.now in
     let read = subst (λ w. IsRead i (leads outside) w l.at c.in-Some.meant c.in-Some.next) c.as_bytes.ensures.value c.in-Some.ensures.read in
     put_more i text (string_bytes c.args.out.now) (string_bytes l.out) _ c.args.from l.at c.in-Some.next l.invariant
-    (put_one i text (string_bytes l.out) _ l.at c.in-Some.meant c.in-Some.next read (IsUtf8-string_bytes l.out) c.in_ok-push.ensures.bytes)
+    (put_one i text (string_bytes l.out) _ l.at c.in-Some.meant c.in-Some.next read (IsUtf8-string_bytes l.out) c.in_ok-push_char.ensures)
 
 pub returns : goal.returns
 returns g c = c.loop-meant.invariant

@@ -11,7 +11,6 @@ range-requires-clause-start_boundary g c p = IsCharBoundary-from_drop c.args.tex
 
 pub range-requires-clause-end_boundary : goal.range-requires-clause-end_boundary
 range-requires-clause-end_boundary g c =
-    let end = c.run_end-end.result in
-    let run = subst (λ x. IsRun (goes_over x) c.as_bytes.result.now c.args.from end) c.run_of.ensures c.run_end-end.ensures in
+    let end = c.plain_end-end.result in
     run_cut (inside_of c.args.inside) c.args.text.now c.args.from end
-    (subst (λ w. IsRun (goes_over (run_of (inside_of c.args.inside))) w c.args.from end) c.as_bytes.ensures.value run)
+    (subst (λ w. IsRun (goes_over (run_of (inside_of c.args.inside))) w c.args.from end) c.as_bytes.ensures.value c.plain_end-end.ensures)
