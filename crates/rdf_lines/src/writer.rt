@@ -4,7 +4,6 @@ mod at_once;
 mod digits;
 mod escape;
 mod line;
-pub(crate) mod place;
 mod room;
 mod string;
 mod term;

@@ -1,7 +1,7 @@
 use Rattle.std.proofs.Common.{◌++◌, [], ◌∷◌, ap, sym, ◌∙◌}
 use Rattle.std.proofs.lemmas.Str.{IsUtf8-had}
 use Rattle.rdf_lines.proofs.PlacedLines.{plain_string_bytes}
-use Rattle.rdf_lines.proofs.Places.{Placed-as, Placed-then}
+use Rattle.rdf_terms.proofs.Places.{Placed-as, Placed-then}
 use Rattle.rdf_lines.proofs.writer.at_once.place_literal.Goals as goal
 
 pub returns-clause-placed : goal.returns-clause-placed
