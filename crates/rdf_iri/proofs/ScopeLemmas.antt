@@ -160,10 +160,8 @@ KeepsLimits-bound s t prefix iri k b r p l =
     Some-injective {v} e = ap (λ o. unwrap_or o v) e
 
 -- joined texts
-pub chars-joined : (t0 t1 t2 f l front : List ℕ) → t0 ≡ [] → t1 ≡ t0 ++ f → t2 ≡ t1 ++ l → IsUtf8 f → chars f ≡ front → chars t2 ≡ front ++ chars l
-chars-joined t0 t1 t2 f l front e0 e1 e2 u e =
-    let whole : t2 ≡ f ++ l = e2 ∙ ap (λ x. x ++ l) (e1 ∙ ap (λ x. x ++ f) e0) in
-    ap chars whole ∙ (chars-append f l u ∙ ap (λ x. x ++ chars l) e)
+pub chars-joined : (t f l front : List ℕ) → t ≡ f ++ l → IsUtf8 f → chars f ≡ front → chars t ≡ front ++ chars l
+chars-joined t f l front whole u e = ap chars whole ∙ (chars-append f l u ∙ ap (λ x. x ++ chars l) e)
 
 -- an IRI that was put together is that of the name
 pub expands_joined : {T : Type 0} (s : InForce) (prefix local front iri : List ℕ) (r : Result T IriFault) → bound_to s.bindings prefix ≡ Some front →

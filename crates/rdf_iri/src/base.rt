@@ -2,7 +2,6 @@
 
 ghost use Rattle.std.specs.Prelude.{◌≡◌, ◌++◌, ◌≤◌, ◌<◌, ◌^◌, [], true, false, Some, IfErr, OnOk, OnErr, MatchOption, ⊤, length};
 ghost use Rattle.std.specs.Str.{chars, encode_utf8_all};
-ghost use Rattle.std.specs.String.{string_bytes};
 ghost use Rattle.rdf_terms.specs.Terms.{IsIri, has_scheme};
 ghost use Rattle.rdf_iri.specs.Texts.{IsIriText, byte_len};
 ghost use Rattle.rdf_iri.specs.Seen.{slices, text_of};
@@ -19,7 +18,7 @@ use crate::parts::{Parts, cut_parts};
 use crate::places::{begins_with, directory_len};
 use crate::resolution::resolved;
 use crate::steps::{ends_at, put_onward};
-use rdf_terms::{Iri, put_text};
+use rdf_terms::{Iri, TextBuffer};
 use std::alloc::{AllocError, Allocator};
 use std::marker::Model;
 
@@ -113,10 +112,10 @@ impl<A: Allocator + Copy> Base<A> {
         &self,
         alloc: A,
         reference: &str,
-        text: &mut String<A>,
+        text: &mut TextBuffer<A>,
     ) -> Result<(), AllocError>
         requires { has_scheme (chars reference.now) ≡ false }
-        ensures target { OnOk result (chars (string_bytes text.new) ≡ recompose (target (parts_of self.now) (parts_of (chars reference.now)))) }
+        ensures target { OnOk result (chars text.new ≡ recompose (target (parts_of self.now) (parts_of (chars reference.now)))) }
         ensures base { IsIri self.now }
     {
         match self.root {
@@ -127,8 +126,8 @@ impl<A: Allocator + Copy> Base<A> {
                 put_beyond(text, self.iri.as_str(), root, reference)
             }
             _ => {
-                *text = resolved(alloc, self.iri.as_str(), reference)?;
-                Ok(())
+                let resolved = resolved(alloc, self.iri.as_str(), reference)?;
+                text.put(resolved.as_str())
             }
         }
     }
@@ -146,8 +145,8 @@ fn is_path(reference: &[u8]) -> bool
 }
 
 /// Puts a path after the base's root or its last directory.
-fn put_after<A: Allocator>(
-    text: &mut String<A>,
+fn put_after<A: Allocator + Copy>(
+    text: &mut TextBuffer<A>,
     base: &str,
     root: Root,
     reference: &str,
@@ -155,20 +154,20 @@ fn put_after<A: Allocator>(
     requires root { HasRoot base.now root }
     requires path { HasOwnPath reference.now }
     requires no_scheme { has_scheme reference.now ≡ false }
-    ensures { OnOk result (string_bytes text.new ≡ recompose (target (parts_of base.now) (parts_of reference.now))) }
+    ensures { OnOk result (text.new ≡ recompose (target (parts_of base.now) (parts_of reference.now))) }
 {
     if reference.as_bytes()[0] == b'/' {
-        put_text(text, &base[..root.first])?;
+        text.put(&base[..root.first])?;
         put_onward(text, root.first, reference, 1)
     } else {
-        put_text(text, &base[..root.last])?;
+        text.put(&base[..root.last])?;
         put_onward(text, root.first, reference, 0)
     }
 }
 
 /// Puts a query or a fragment, or nothing, after the base's path, and after its query where the reference has none.
-fn put_beyond<A: Allocator>(
-    text: &mut String<A>,
+fn put_beyond<A: Allocator + Copy>(
+    text: &mut TextBuffer<A>,
     base: &str,
     root: Root,
     reference: &str,
@@ -176,7 +175,7 @@ fn put_beyond<A: Allocator>(
     requires root { HasRoot base.now root }
     requires path { path_in reference.now ≡ [] }
     requires no_scheme { has_scheme reference.now ≡ false }
-    ensures { OnOk result (string_bytes text.new ≡ recompose (target (parts_of base.now) (parts_of reference.now))) }
+    ensures { OnOk result (text.new ≡ recompose (target (parts_of base.now) (parts_of reference.now))) }
 {
     if begins_with(reference.as_bytes(), b"?") {
         put_both(text, &base[..root.path], reference)
@@ -185,12 +184,14 @@ fn put_beyond<A: Allocator>(
     }
 }
 
-fn put_both<A: Allocator>(text: &mut String<A>, front: &str, rest: &str) -> Result<(), AllocError>
-    ensures { OnOk result (string_bytes text.new ≡ front.now ++ rest.now) }
+fn put_both<A: Allocator + Copy>(
+    text: &mut TextBuffer<A>,
+    front: &str,
+    rest: &str,
+) -> Result<(), AllocError>
+    ensures { OnOk result (text.new ≡ front.now ++ rest.now) }
 {
-    put_text(text, front)?;
-    text.push_str(rest)?;
-    Ok(())
+    text.put_joined(front, rest)
 }
 
 /// Where a base is cut, if its path begins with a slash.

@@ -16,7 +16,7 @@ use crate::dots::remove_dots;
 use crate::fault::IriFault;
 use crate::parts::cut_parts;
 use crate::places::{begins_with, directory_len};
-use rdf_terms::{Iri, has_scheme, put_text};
+use rdf_terms::{Iri, TextBuffer, has_scheme};
 use std::alloc::{AllocError, Allocator};
 
 /// The IRI of a reference within `limit` bytes: the reference itself where it has a scheme, else the reference
@@ -97,19 +97,19 @@ pub fn resolve_into<A: Allocator + Copy>(
     alloc: A,
     base: Option<&Base<A>>,
     reference: &str,
-    text: &mut String<A>,
+    text: &mut TextBuffer<A>,
     limit: u64,
 ) -> Result<(), IriFault>
     requires { IsIriText (chars reference.now) }
-    ensures resolved { OnOk result (Resolves (text_of base.entry) (chars reference.now) (chars (string_bytes text.new))) }
-    ensures is_iri { OnOk result (IsIri (chars (string_bytes text.new))) }
-    ensures within { OnOk result (byte_len (chars (string_bytes text.new)) ≤ limit) }
+    ensures resolved { OnOk result (Resolves (text_of base.entry) (chars reference.now) (chars text.new)) }
+    ensures is_iri { OnOk result (IsIri (chars text.new)) }
+    ensures within { OnOk result (byte_len (chars text.new) ≤ limit) }
     ensures refused { IfErr result (Unresolved (text_of base.entry) (chars reference.now) limit) }
 {
     if let Err(fault) = put_absolute(alloc, base, reference, text) {
         return Err(fault);
     }
-    if text.len() as u64 > limit {
+    if text.byte_len() > limit {
         return Err(IriFault::IriTooLong);
     }
     Ok(())
@@ -120,15 +120,15 @@ fn put_absolute<A: Allocator + Copy>(
     alloc: A,
     base: Option<&Base<A>>,
     reference: &str,
-    text: &mut String<A>,
+    text: &mut TextBuffer<A>,
 ) -> Result<(), IriFault>
     requires { IsIriText (chars reference.now) }
-    ensures resolved { OnOk result (Resolves (text_of base.entry) (chars reference.now) (chars (string_bytes text.new))) }
-    ensures is_iri { OnOk result (IsIri (chars (string_bytes text.new))) }
+    ensures resolved { OnOk result (Resolves (text_of base.entry) (chars reference.now) (chars text.new)) }
+    ensures is_iri { OnOk result (IsIri (chars text.new)) }
     ensures refused { IfErr result (λ r. (limit : ℕ) → Unresolved (text_of base.entry) (chars reference.now) limit r) }
 {
     if has_scheme(reference) {
-        put_text(text, reference)?;
+        text.put(reference)?;
         return Ok(());
     }
     let Some(base) = base else {

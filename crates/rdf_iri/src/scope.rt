@@ -14,7 +14,7 @@ use crate::fault::IriFault;
 use crate::limits::Limits;
 use crate::prefixes::{Prefixes, iri_len};
 use crate::resolution::{resolve, resolve_in_place, resolve_into};
-use rdf_terms::Iri;
+use rdf_terms::{Iri, IriView, TextBuffer};
 use std::alloc::{Allocator, Global};
 use std::marker::Model;
 
@@ -130,10 +130,10 @@ impl<A: Allocator + Copy> Scope<A> {
 
     /// Puts the IRI of a reference, against the base in force, in place of a text, in the memory that the text has. After an error
     /// nothing is known of the text.
-    pub fn resolve_into(&self, reference: &str, text: &mut String<A>) -> Result<(), IriFault>
+    pub fn resolve_into(&self, reference: &str, text: &mut TextBuffer<A>) -> Result<(), IriFault>
         requires { IsIriText (chars reference.now) }
-        ensures resolved { OnOk result (ResolvesHere self.now (chars reference.now) (chars (string_bytes text.new))) }
-        ensures is_iri { OnOk result (IsIri (chars (string_bytes text.new))) }
+        ensures resolved { OnOk result (ResolvesHere self.now (chars reference.now) (chars text.new)) }
+        ensures is_iri { OnOk result (IsIri (chars text.new)) }
         ensures refused { IfErr result (UnresolvedHere self.now (chars reference.now)) }
     {
         resolve_into(
@@ -201,9 +201,9 @@ impl<A: Allocator + Copy> Scope<A> {
         ensures expanded { IfOk result (ExpandsHere self.now (chars prefix.now) (chars local.now)) }
         ensures refused { IfErr result (NotExpanded self.now (chars prefix.now) (chars local.now)) }
     {
-        let mut text = String::new(self.alloc);
+        let mut text = TextBuffer::new(self.alloc);
         self.expand_into(prefix, local, &mut text)?;
-        Ok(Iri::of_text(text))
+        Ok(IriView::of_bytes(text.as_bytes()).try_copy(self.alloc)?)
     }
 
     /// Puts the IRI of a name in place of a text, in the memory that the text has. After an error nothing is known of the text.
@@ -211,11 +211,11 @@ impl<A: Allocator + Copy> Scope<A> {
         &self,
         prefix: &str,
         local: &str,
-        text: &mut String<A>,
+        text: &mut TextBuffer<A>,
     ) -> Result<(), IriFault>
         requires { IsIriText (chars local.now) }
-        ensures expanded { OnOk result (ExpandsHere self.now (chars prefix.now) (chars local.now) (chars (string_bytes text.new))) }
-        ensures is_iri { OnOk result (IsIri (chars (string_bytes text.new))) }
+        ensures expanded { OnOk result (ExpandsHere self.now (chars prefix.now) (chars local.now) (chars text.new)) }
+        ensures is_iri { OnOk result (IsIri (chars text.new)) }
         ensures refused { IfErr result (NotExpanded self.now (chars prefix.now) (chars local.now)) }
     {
         let Some(front) = self.names.get(prefix) else {
@@ -247,16 +247,16 @@ fn base_len<A: Allocator>(base: Option<&Iri<A>>) -> u64
 }
 
 /// Puts an IRI with more characters after it in place of a text.
-fn put_joined<A: Allocator>(
-    text: &mut String<A>,
+fn put_joined<A: Allocator + Copy>(
+    text: &mut TextBuffer<A>,
     front: &Iri<A>,
     local: &str,
     limit: u64,
 ) -> Result<(), IriFault>
     requires { IsIriText (chars local.now) }
-    ensures joined { OnOk result (chars (string_bytes text.new) ≡ front.now ++ chars local.now) }
-    ensures is_iri { OnOk result (IsIri (chars (string_bytes text.new))) }
-    ensures within { OnOk result (byte_len (chars (string_bytes text.new)) ≤ limit) }
+    ensures joined { OnOk result (chars text.new ≡ front.now ++ chars local.now) }
+    ensures is_iri { OnOk result (IsIri (chars text.new)) }
+    ensures within { OnOk result (byte_len (chars text.new) ≤ limit) }
     ensures refused { IfErr result (NotJoined front.now (chars local.now) limit) }
 {
     let front = front.as_str();
@@ -264,8 +264,6 @@ fn put_joined<A: Allocator>(
     if len as u64 > limit {
         return Err(IriFault::IriTooLong);
     }
-    text.clear();
-    text.push_str(front)?;
-    text.push_str(local)?;
+    text.put_joined(front, local)?;
     Ok(())
 }

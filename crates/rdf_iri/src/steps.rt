@@ -2,12 +2,12 @@
 
 ghost use Rattle.std.specs.Prelude.{◌≡◌, ◌≤◌, ◌<◌, ◌+◌, ◌++◌, ◌∷◌, [], false, OnOk, MatchBool, length, take, drop, get_or, slice_range};
 ghost use Rattle.std.specs.Str.{IsCharBoundary};
-ghost use Rattle.std.specs.String.{string_bytes};
 ghost use Rattle.rdf_iri.specs.Texts.{before};
 ghost use Rattle.rdf_iri.specs.Dots.{fits_D, parent};
 ghost use Rattle.rdf_iri.specs.Steps.{path_in, IsMove, IsInPath, IsDirectory, front_at, path_at, written_onward};
 
 use crate::places::directory_len;
+use rdf_terms::TextBuffer;
 use std::alloc::{AllocError, Allocator};
 
 /// What a segment of a path does to the directory that the path is written after, and where the next one begins.
@@ -23,15 +23,15 @@ enum Move {
 }
 
 /// Appends a reference that is a path to a text that ends in a directory. The first slash of the text's path is the last of `root` bytes.
-pub(crate) fn put_onward<A: Allocator>(
-    text: &mut String<A>,
+pub(crate) fn put_onward<A: Allocator + Copy>(
+    text: &mut TextBuffer<A>,
     root: usize,
     reference: &str,
     from: usize,
 ) -> Result<(), AllocError>
-    requires text { IsDirectory root (string_bytes text.old) }
+    requires text { IsDirectory root text.old }
     requires cut { IsCharBoundary reference.now from }
-    ensures { OnOk result (string_bytes text.new ≡ written_onward root (string_bytes text.old) (drop from reference.now)) }
+    ensures { OnOk result (text.new ≡ written_onward root text.old (drop from reference.now)) }
 {
     let mut kept = from;
     let mut at = from;
@@ -51,7 +51,7 @@ pub(crate) fn put_onward<A: Allocator>(
                 kept = next;
             }
             Move::Last => {
-                text.push_str(&reference[kept..])?;
+                text.push(&reference[kept..])?;
                 return Ok(());
             }
         }
@@ -60,8 +60,8 @@ pub(crate) fn put_onward<A: Allocator>(
 
 /// Appends what stands between two places of a reference.
 #[inline(always)]
-fn put_between<A: Allocator>(
-    text: &mut String<A>,
+fn put_between<A: Allocator + Copy>(
+    text: &mut TextBuffer<A>,
     reference: &str,
     from: usize,
     to: usize,
@@ -69,10 +69,10 @@ fn put_between<A: Allocator>(
     requires order { from ≤ to }
     requires from { IsCharBoundary reference.now from }
     requires to { IsCharBoundary reference.now to }
-    ensures { OnOk result (string_bytes text.new ≡ string_bytes text.old ++ slice_range reference.now from to) }
+    ensures { OnOk result (text.new ≡ text.old ++ slice_range reference.now from to) }
 {
     if from < to {
-        text.push_str(&reference[from..to])
+        text.push(&reference[from..to])
     } else {
         Ok(())
     }

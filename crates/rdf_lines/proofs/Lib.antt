@@ -21,7 +21,6 @@ pub mod EncodedLine
 pub mod EscapedRuns
 pub mod PlainRuns
 pub mod WrittenBytesLemmas
-pub mod Places
 pub mod PlacedLines
 mod PlacedCharacters
 mod DigitPairs

@@ -12,12 +12,6 @@ use Rattle.rdf_terms.specs.declared.views.QuadRef.{QuadRef}
 use Rattle.rdf_lines.specs.declared.form.Style.{Style}
 use Rattle.rdf_lines.specs.declared.form.Style.TheVariants.{Kept, Tagged}
 
--- new has xs after the first `at` bytes of old, up to `end`
-pub record Placed (old new : List ℕ) (at : ℕ) (xs : List ℕ) (end : ℕ) : Type 0 where
-  pub bytes : take end new ≡ take at old ++ xs
-  pub moved : end ≡ at + length xs
-  pub len : length new ≡ length old
-
 -- new has xs after the first `at` bytes of old, up to `end`, and anything after that
 pub record WrittenAt (old new : List ℕ) (at : ℕ) (xs : List ℕ) (end : ℕ) : Type 0 where
   pub bytes : take end new ≡ take at old ++ xs

@@ -8,9 +8,9 @@ ghost use Rattle.rdf_lines.specs.NodePrefixes.{line_in};
 ghost use Rattle.rdf_lines.specs.Writing.{CanWrite};
 
 use crate::form::WrittenForm;
-use crate::writer::place::place_all;
 use crate::writer::{LabelFault, put_quad};
 use rdf_terms::QuadRef;
+use rdf_terms::place::place_all;
 use std::alloc::{AllocError, Allocator, Global};
 use std::marker::Model;
 

@@ -5,7 +5,6 @@ mod characters;
 mod digits;
 mod escape;
 mod line;
-pub(crate) mod place;
 mod room;
 mod string;
 mod term;

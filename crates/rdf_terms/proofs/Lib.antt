@@ -19,6 +19,7 @@ pub mod SinksLemmas
 pub mod IriBytes
 pub mod LookUps
 pub mod RunsLemmas
+pub mod Places
 pub mod ValueBytes
 pub mod PlainTokens
 pub mod SchemeLemmas

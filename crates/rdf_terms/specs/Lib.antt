@@ -17,4 +17,5 @@ pub mod Escapes
 pub mod Names
 pub mod Local
 pub mod Runs
+pub mod Placing
 pub mod Laws

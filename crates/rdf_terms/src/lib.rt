@@ -15,12 +15,14 @@ pub mod laws;
 mod list;
 mod local;
 mod names;
+pub mod place;
 mod reason;
 pub mod runs;
 mod sink;
 mod spelled;
 mod tags;
 mod terms;
+mod text;
 mod values;
 mod views;
 
@@ -41,6 +43,7 @@ pub use sink::{PutFault, QuadSink};
 pub use spelled::known;
 pub use tags::{Tag, is_tag};
 pub use terms::{Literal, Node, Quad, Subject, Tail, Term};
+pub use text::TextBuffer;
 pub use values::{
     ValueFault, iri_value, is_fit, set_iri_value, set_string_value, string_value, without_ends,
     without_first,

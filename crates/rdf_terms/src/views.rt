@@ -7,7 +7,7 @@ ghost use Rattle.rdf_terms.specs.Terms.{IsIri, IsLabel, IsTag};
 /// An absolute IRI: characters of IRIREF, and a scheme.
 #[derive(Clone, Copy)]
 pub struct IriView<'a> {
-    text: &'a str,
+    text: &'a [u8],
     ghost utf8: { ∥ IsUtf8 text.now ∥₁ },
     ghost is_iri: { ∥ IsIri (chars text.now) ∥₁ },
 }
@@ -15,7 +15,7 @@ pub struct IriView<'a> {
 /// The part of a blank node label after `_:`, of the line formats.
 #[derive(Clone, Copy)]
 pub struct LabelView<'a> {
-    text: &'a str,
+    text: &'a [u8],
     ghost utf8: { ∥ IsUtf8 text.now ∥₁ },
     ghost is_label: { ∥ IsLabel (chars text.now) ∥₁ },
 }
@@ -34,11 +34,32 @@ impl<'a> IriView<'a> {
         requires { IsIri (chars text.now) }
         ensures { result.text.now ≡ text.entry.now }
     {
+        IriView::of_bytes(text.as_bytes())
+    }
+
+    /// The same of its bytes in UTF-8.
+    #[inline(always)]
+    pub fn of_bytes(text: &'a [u8]) -> IriView<'a>
+        requires utf8 { IsUtf8 text.now }
+        requires text { IsIri (chars text.now) }
+        ensures { result.text.now ≡ text.entry.now }
+    {
         IriView { text }
     }
 
-    /// The IRI, without brackets.
+    /// The IRI, without brackets. Its UTF-8 is checked once more.
     pub fn as_str(self) -> &'a str
+        ensures { result.now ≡ self.entry.text.now }
+    {
+        match str::from_utf8(self.text) {
+            Ok(text) => text,
+            Err(_) => unreachable!(),
+        }
+    }
+
+    /// The IRI, without brackets, in UTF-8.
+    #[inline(always)]
+    pub fn as_bytes(self) -> &'a [u8]
         ensures { result.now ≡ self.entry.text.now }
     {
         self.text
@@ -51,11 +72,32 @@ impl<'a> LabelView<'a> {
         requires { IsLabel (chars text.now) }
         ensures { result.text.now ≡ text.entry.now }
     {
+        LabelView::of_bytes(text.as_bytes())
+    }
+
+    /// The same of its bytes in UTF-8.
+    #[inline(always)]
+    pub fn of_bytes(text: &'a [u8]) -> LabelView<'a>
+        requires utf8 { IsUtf8 text.now }
+        requires text { IsLabel (chars text.now) }
+        ensures { result.text.now ≡ text.entry.now }
+    {
         LabelView { text }
     }
 
-    /// The label, without its `_:`.
+    /// The label, without its `_:`. Its UTF-8 is checked once more.
     pub fn as_str(self) -> &'a str
+        ensures { result.now ≡ self.entry.text.now }
+    {
+        match str::from_utf8(self.text) {
+            Ok(text) => text,
+            Err(_) => unreachable!(),
+        }
+    }
+
+    /// The label, without its `_:`, in UTF-8.
+    #[inline(always)]
+    pub fn as_bytes(self) -> &'a [u8]
         ensures { result.now ≡ self.entry.text.now }
     {
         self.text

@@ -11,8 +11,8 @@ use rdf_lines::{
 };
 use rdf_terms::{
     Iri, Known, Label, LiteralRef, NodeRef, PutFault, QuadList, QuadRef, QuadSink, Reason,
-    SubjectRef, Tag, TailRef, TermFault, TermRef, ValueFault, iri_text, iri_value, known,
-    local_value, set_iri_value, set_string_value, string_value,
+    SubjectRef, Tag, TailRef, TermFault, TermRef, TextBuffer, ValueFault, iri_text, iri_value,
+    known, local_value, set_iri_value, set_string_value, string_value,
 };
 use rdf_tokens::{Dialect, Scanner};
 use rdf_trig::{DocForm, Options, read_document};
@@ -326,7 +326,7 @@ fn put_names<A: Allocator + Copy>(alloc: A, scope: &Scope<A>, reference: &str) -
     let mut text = String::from_str(alloc, reference)?;
     scope.resolve_in_place(&mut text)?;
     scope.resolve_into(reference, &mut text)?;
-    scope.expand_into("x", reference, &mut text)?;
+    scope.expand_into("x", reference, &mut TextBuffer::new(alloc))?;
     Ok(())
 }
 

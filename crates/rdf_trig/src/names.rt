@@ -23,7 +23,7 @@ use crate::spelled::{parts, plain_parts};
 use crate::state::{Mode, Outer, State};
 use rdf_iri::{IriFault, Scope};
 use rdf_terms::{
-    IriView, Kind, Known, ValueFault, known, local_value, put_iri, text_len, without_ends,
+    IriView, Kind, Known, TextBuffer, ValueFault, known, local_value, put_iri, without_ends,
 };
 use rdf_tokens::Token;
 use std::alloc::{Allocator, Global};
@@ -34,20 +34,19 @@ use std::mem;
 #[derive(Drop)]
 pub struct Name<A: Allocator = Global> {
     is_some: bool,
-    text: String<A>,
+    text: TextBuffer<A>,
 }
 
 impl<A: Allocator> Model for Name<A> {
     ghost use Rattle.std.specs.Prelude.{◌≡◌, ℕ, List, Option, Some, None, cond, true};
     ghost use Rattle.std.specs.Str.{chars};
-    ghost use Rattle.std.specs.String.{string_bytes};
     ghost use Rattle.rdf_terms.specs.Terms.{IsIri};
 
     ghost Value = { Option (List ℕ) };
 
-    ghost view = { λ n. cond n.is_some (Some (chars (string_bytes n.text))) None };
+    ghost view = { λ n. cond n.is_some (Some (chars n.text)) None };
 
-    ghost invariant = { λ n. n.is_some ≡ true → ∥ IsIri (chars (string_bytes n.text)) ∥₁ };
+    ghost invariant = { λ n. n.is_some ≡ true → ∥ IsIri (chars n.text) ∥₁ };
 }
 
 impl<A: Allocator> Name<A> {
@@ -57,7 +56,7 @@ impl<A: Allocator> Name<A> {
     {
         Name {
             is_some: false,
-            text: String::new(alloc),
+            text: TextBuffer::new(alloc),
         }
     }
 
@@ -71,10 +70,10 @@ impl<A: Allocator> Name<A> {
 
     /// Gives its text away for another one.
     #[inline(always)]
-    pub fn give(&mut self, text: &mut String<A>)
+    pub fn give(&mut self, text: &mut TextBuffer<A>)
         requires { is_some self.old ≡ true }
-        ensures text { Some (chars (string_bytes text.new)) ≡ self.old }
-        ensures is_iri { IsIri (chars (string_bytes text.new)) }
+        ensures text { Some (chars text.new) ≡ self.old }
+        ensures is_iri { IsIri (chars text.new) }
         ensures none { self.new ≡ None }
     {
         mem::swap(&mut self.text, text);
@@ -87,7 +86,7 @@ impl<A: Allocator> Name<A> {
         ensures { iri_chars result ≡ unwrap_or self.now (known_chars other) }
     {
         if self.is_some {
-            IriView::new(self.text.as_str())
+            IriView::of_bytes(self.text.as_bytes())
         } else {
             known(other)
         }
@@ -104,7 +103,7 @@ impl<A: Allocator> Name<A> {
         ensures { result ≡ iri_size self.now }
     {
         if self.is_some {
-            text_len(self.text.as_str())
+            self.text.byte_len()
         } else {
             0
         }
@@ -131,7 +130,12 @@ impl<A: Allocator + Copy> Name<A> {
 
     // The IRI of a reference.
     #[tactic(auto, using(crate::proofs::code::LookUps::reference_at))]
-    fn set_reference(&mut self, scope: &Scope<A>, token: &Token<'_>) -> Result<(), StepFault>
+    fn set_reference(
+        &mut self,
+        alloc: A,
+        scope: &Scope<A>,
+        token: &Token<'_>,
+    ) -> Result<(), StepFault>
         requires token { IsTurtleToken token.now }
         requires kind { IsReference token.now.kind }
         ensures ok { OnOk result (Names scope.now token.now.kind (leaf token.now) self.new) }
@@ -139,7 +143,7 @@ impl<A: Allocator + Copy> Name<A> {
         ensures err { IfErr result (λ r. Unnamed scope.now token.now.kind (leaf token.now) r) }
     {
         self.is_some = false;
-        match put_reference(&mut self.text, scope, token) {
+        match put_reference(alloc, &mut self.text, scope, token) {
             Ok(()) => {
                 self.is_some = true;
                 Ok(())
@@ -180,22 +184,24 @@ impl<A: Allocator + Copy> Name<A> {
 // Puts the IRI of a reference in place of a text. A reference without escapes is resolved as it stands in the token.
 #[tactic(auto, using(crate::proofs::code::LookUps::reference_not))]
 fn put_reference<A: Allocator + Copy>(
-    text: &mut String<A>,
+    alloc: A,
+    text: &mut TextBuffer<A>,
     scope: &Scope<A>,
     token: &Token<'_>,
 ) -> Result<(), StepFault>
     requires token { IsTurtleToken token.now }
     requires kind { IsReference token.now.kind }
-    ensures ok { OnOk result (ResolvesHere scope.now (iri_of (leaf token.now)) (chars (string_bytes text.new))) }
-    ensures is_iri { OnOk result (IsIri (chars (string_bytes text.new))) }
+    ensures ok { OnOk result (ResolvesHere scope.now (iri_of (leaf token.now)) (chars text.new)) }
+    ensures is_iri { OnOk result (IsIri (chars text.new)) }
     ensures err { IfErr result (λ r. Unnamed scope.now token.now.kind (leaf token.now) r) }
 {
     let inside = without_ends(token.text);
     if lacks_iri_escapes(inside) {
         scope.resolve_into(inside, text)?;
     } else {
-        set_reference_text(text, token)?;
-        scope.resolve_in_place(text)?;
+        let mut reference = reference_text(alloc, token)?;
+        scope.resolve_in_place(&mut reference)?;
+        text.put(reference.as_str())?;
     }
     Ok(())
 }
@@ -352,7 +358,7 @@ fn name_token<A: Allocator + Copy>(
     ensures err { IfErr result (λ r. Unnamed scope.now token.now.kind (leaf token.now) r) }
 {
     match token.kind {
-        Kind::IriRef => name.set_reference(scope, token),
+        Kind::IriRef => name.set_reference(alloc, scope, token),
         Kind::PnameNs | Kind::PnameLn => name.set_prefixed(alloc, scope, token),
         _ => {
             name.clear();

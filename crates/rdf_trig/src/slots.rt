@@ -12,7 +12,7 @@ ghost use Rattle.rdf_trig.specs.Owed.{iri_size};
 
 use crate::names::Name;
 use rdf_terms::{
-    IriView, Known, LabelView, NodeRef, SubjectRef, TagView, known, put_text, text_len,
+    IriView, Known, LabelView, NodeRef, SubjectRef, TagView, TextBuffer, known, put_text, text_len,
 };
 use std::alloc::{AllocError, Allocator, Global};
 use std::marker::Model;
@@ -31,12 +31,11 @@ pub enum SubjectKind {
 #[derive(Drop)]
 pub struct Topic<A: Allocator = Global> {
     kind: SubjectKind,
-    text: String<A>,
+    text: TextBuffer<A>,
 }
 
 impl<A: Allocator> Model for Topic<A> {
     ghost use Rattle.std.specs.Str.{chars};
-    ghost use Rattle.std.specs.String.{string_bytes};
     ghost use Rattle.std.specs.Coded.{codes};
     ghost use Rattle.rdf_trig.specs.Slots.{topic_at, IsOfKind};
     ghost use Rattle.rdf_trig.specs.Machine as M;
@@ -46,9 +45,9 @@ impl<A: Allocator> Model for Topic<A> {
 
     ghost coded = { Prim.hlevel (codes, topic_code) };
 
-    ghost view = { λ t. topic_at t.kind (chars (string_bytes t.text)) };
+    ghost view = { λ t. topic_at t.kind (chars t.text) };
 
-    ghost invariant = { λ t. IsOfKind t.kind (chars (string_bytes t.text)) };
+    ghost invariant = { λ t. IsOfKind t.kind (chars t.text) };
 }
 
 impl<A: Allocator> Topic<A> {
@@ -58,7 +57,7 @@ impl<A: Allocator> Topic<A> {
     {
         Topic {
             kind: SubjectKind::Nil,
-            text: String::new(alloc),
+            text: TextBuffer::new(alloc),
         }
     }
 
@@ -70,17 +69,6 @@ impl<A: Allocator> Topic<A> {
     {
         name.give(&mut self.text);
         self.kind = SubjectKind::Iri;
-    }
-
-    /// The node of a label, which stands here without its `_:`.
-    pub fn set_label(&mut self, label: &str) -> Result<(), AllocError>
-        requires { IsLabel (chars label.now) }
-        ensures { OnOk result (self.new ≡ topic_at SubjectKind.Label (chars label.now)) }
-    {
-        self.kind = SubjectKind::Nil;
-        put_text(&mut self.text, label)?;
-        self.kind = SubjectKind::Label;
-        Ok(())
     }
 
     /// The node of a `[` at this byte offset.
@@ -113,9 +101,9 @@ impl<A: Allocator> Topic<A> {
         ensures { Some (subject_by chars result) ≡ self.now.term }
     {
         match self.kind {
-            SubjectKind::Iri => SubjectRef::Iri(IriView::new(self.text.as_str())),
+            SubjectKind::Iri => SubjectRef::Iri(IriView::of_bytes(self.text.as_bytes())),
             SubjectKind::Label => {
-                SubjectRef::Node(NodeRef::Label(LabelView::new(self.text.as_str())))
+                SubjectRef::Node(NodeRef::Label(LabelView::of_bytes(self.text.as_bytes())))
             }
             SubjectKind::Anon(offset) => SubjectRef::Node(NodeRef::Anon(offset)),
             SubjectKind::Cell(offset) => SubjectRef::Node(NodeRef::Cell(offset)),
@@ -142,9 +130,22 @@ impl<A: Allocator> Topic<A> {
         ensures { result ≡ self.now.size }
     {
         match self.kind {
-            SubjectKind::Iri | SubjectKind::Label => text_len(self.text.as_str()),
+            SubjectKind::Iri | SubjectKind::Label => self.text.byte_len(),
             SubjectKind::Anon(_) | SubjectKind::Cell(_) | SubjectKind::Nil => 0,
         }
+    }
+}
+
+impl<A: Allocator + Copy> Topic<A> {
+    /// The node of a label, which stands here without its `_:`.
+    pub fn set_label(&mut self, label: &str) -> Result<(), AllocError>
+        requires { IsLabel (chars label.now) }
+        ensures { OnOk result (self.new ≡ topic_at SubjectKind.Label (chars label.now)) }
+    {
+        self.kind = SubjectKind::Nil;
+        self.text.put(label)?;
+        self.kind = SubjectKind::Label;
+        Ok(())
     }
 }
 

@@ -4,15 +4,16 @@ ghost use Rattle.std.specs.Prelude.{◌≡◌, ◌++◌, ◌+◌, ◌*◌, ◌<�
 ghost use Rattle.rdf_terms.specs.Views.{iri_chars};
 ghost use Rattle.rdf_lines.specs.declared.form.Escapes.TheVariants.{Plain};
 ghost use Rattle.rdf_lines.specs.Forms.{form_of};
-ghost use Rattle.rdf_lines.specs.Placing.{Placed, WrittenAt, graph_room, label_bytes, line_room, node_room, number_bytes, subject_room, tail_room, term_room};
+ghost use Rattle.rdf_terms.specs.Placing.{Placed};
+ghost use Rattle.rdf_lines.specs.Placing.{WrittenAt, graph_room, label_bytes, line_room, node_room, number_bytes, subject_room, tail_room, term_room};
 ghost use Rattle.rdf_lines.specs.Writing.{space, type_text};
 ghost use Rattle.rdf_lines.specs.WrittenBytes.{BeginsWith, graph_bytes, iri_bytes, line_bytes, node_bytes, string_bytes_of, subject_bytes, tail_bytes, term_bytes};
 
 use crate::form::{Style, WrittenForm};
 use crate::writer::characters::place_characters;
 use crate::writer::digits::place_digits;
-use crate::writer::place::{place_byte, place_text, place_two};
 use crate::writer::term::is_plain;
+use rdf_terms::place::{place_byte, place_text, place_two};
 use rdf_terms::{
     IriView, LabelView, LiteralRef, NodeRef, QuadRef, SubjectRef, TagView, TailRef, TermRef,
 };
@@ -125,7 +126,7 @@ fn place_iri(slot: &mut [u8], at: usize, iri: IriView<'_>) -> usize
     ensures within { result ≡ at + (length iri.entry.text.now + 2) }
 {
     let inside = place_byte(slot, at, b'<');
-    let end = place_text(slot, inside, iri.as_str().as_bytes());
+    let end = place_text(slot, inside, iri.as_bytes());
     place_byte(slot, end, b'>')
 }
 
@@ -151,10 +152,10 @@ fn place_label(slot: &mut [u8], at: usize, label: LabelView<'_>, form: &WrittenF
 {
     let begin = place_start(slot, at, form.prefix.as_str());
     match form.style {
-        Style::Kept => place_text(slot, begin, label.as_str().as_bytes()),
+        Style::Kept => place_text(slot, begin, label.as_bytes()),
         Style::Tagged => {
             let name = place_byte(slot, begin, b'n');
-            place_text(slot, name, label.as_str().as_bytes())
+            place_text(slot, name, label.as_bytes())
         }
     }
 }
@@ -240,7 +241,7 @@ fn place_tail(slot: &mut [u8], at: usize, tail: TailRef<'_>) -> usize
 {
     match tail {
         TailRef::Lang(tag) => place_tag(slot, at, tag),
-        TailRef::Typed(datatype) => place_type(slot, at, is_plain(datatype.as_str()), datatype),
+        TailRef::Typed(datatype) => place_type(slot, at, is_plain(datatype.as_bytes()), datatype),
     }
 }
 

@@ -2,11 +2,11 @@
 
 ghost use Rattle.std.specs.Prelude.{◌≡◌, ◌+◌, ◌*◌, ◌≤◌, flat_map, length};
 ghost use Rattle.rdf_lines.specs.declared.form.Escapes.TheVariants.{Plain};
-ghost use Rattle.rdf_lines.specs.Placing.{Placed};
+ghost use Rattle.rdf_terms.specs.Placing.{Placed};
 ghost use Rattle.rdf_lines.specs.Writing.{escaped};
 ghost use Rattle.rdf_lines.specs.WrittenBytes.{escaped_bytes};
 
-use crate::writer::place::{place_byte, place_text, place_two};
+use rdf_terms::place::{place_byte, place_text, place_two};
 use rdf_terms::runs::{Run, is_run, run_end};
 
 /// Places the characters of a string in the plain form. Most strings are one run.

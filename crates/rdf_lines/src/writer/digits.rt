@@ -1,9 +1,10 @@
 // A number in decimal, placed from its first digit on.
 
 ghost use Rattle.std.specs.Prelude.{◌≡◌, ◌++◌, ◌+◌, ◌/◌, ◌%◌, ◌<◌, ◌≤◌, decimal, length};
-ghost use Rattle.rdf_lines.specs.Placing.{Placed, two_digits};
+ghost use Rattle.rdf_terms.specs.Placing.{Placed};
+ghost use Rattle.rdf_lines.specs.Placing.{two_digits};
 
-use crate::writer::place::{place_byte, place_two};
+use rdf_terms::place::{place_byte, place_two};
 
 static PAIRS: [u8; 200] =
     *b"00010203040506070809101112131415161718192021222324252627282930313233343536373839404142434445464748495051525354555657585960616263646566676869707172737475767778798081828384858687888990919293949596979899";

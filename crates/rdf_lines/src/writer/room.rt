@@ -14,7 +14,7 @@ pub fn short_room(quad: &QuadRef<'_>, word: &str) -> Option<usize>
     ensures room { IfSome result (λ room. line_room (length word.now) quad.now ≤ room) }
     ensures short { IfSome result (λ room. room ≤ 4096) }
 {
-    let names = subject_room(&quad.subject) + quad.predicate.as_str().len();
+    let names = subject_room(&quad.subject) + quad.predicate.as_bytes().len();
     let others = graph_room(&quad.graph) + word.len();
     let object = term_room(&quad.object);
     if names > SHORT || others > SHORT || object > SHORT {
@@ -29,7 +29,7 @@ fn subject_room(subject: &SubjectRef<'_>) -> usize
     ensures fits { result < 2 ^ 63 }
 {
     match subject {
-        SubjectRef::Iri(iri) => iri.as_str().len(),
+        SubjectRef::Iri(iri) => iri.as_bytes().len(),
         SubjectRef::Node(node) => node_room(node),
     }
 }
@@ -40,7 +40,7 @@ fn node_room(node: &NodeRef<'_>) -> usize
     ensures fits { result < 2 ^ 63 }
 {
     match node {
-        NodeRef::Label(label) => label.as_str().len(),
+        NodeRef::Label(label) => label.as_bytes().len(),
         NodeRef::Anon(_) => 20,
         NodeRef::Cell(_) => 20,
     }
@@ -51,7 +51,7 @@ fn term_room(term: &TermRef<'_>) -> usize
     ensures { result ≡ term_room term.now }
 {
     match term {
-        TermRef::Iri(iri) => iri.as_str().len(),
+        TermRef::Iri(iri) => iri.as_bytes().len(),
         TermRef::Node(node) => node_room(node),
         TermRef::Literal(literal) => literal_room(*literal),
     }
@@ -70,7 +70,7 @@ fn tail_room(tail: TailRef<'_>) -> usize
 {
     match tail {
         TailRef::Lang(tag) => tag.as_str().len(),
-        TailRef::Typed(datatype) => datatype.as_str().len(),
+        TailRef::Typed(datatype) => datatype.as_bytes().len(),
     }
 }
 

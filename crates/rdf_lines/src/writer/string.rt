@@ -39,7 +39,7 @@ pub fn put_characters<A: Allocator + Copy>(
     ensures grown { OnErr result (BeginsWith out.old.items out.new.items) }
 {
     match escapes {
-        Escapes::Plain => out.extend_from_slice(iri.as_str().as_bytes()),
+        Escapes::Plain => out.extend_from_slice(iri.as_bytes()),
         Escapes::Ascii => put_in_ascii(iri, out),
     }
 }
@@ -54,8 +54,8 @@ fn put_in_ascii<A: Allocator + Copy>(
     ensures written { OnOk result (out.new.items ≡ out.old.items ++ encode_utf8_all (flat_map (written Ascii) (iri_chars iri.entry))) }
     ensures grown { OnErr result (BeginsWith out.old.items out.new.items) }
 {
-    if is_run(Run::Ascii, iri.as_str().as_bytes()) {
-        return out.extend_from_slice(iri.as_str().as_bytes());
+    if is_run(Run::Ascii, iri.as_bytes()) {
+        return out.extend_from_slice(iri.as_bytes());
     }
     put_escaped(iri.as_str(), Escapes::Ascii, out)
 }

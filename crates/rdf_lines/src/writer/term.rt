@@ -139,16 +139,16 @@ fn put_tail<A: Allocator + Copy>(
 {
     match tail {
         TailRef::Lang(tag) => put_two("@", tag.as_str(), out),
-        TailRef::Typed(datatype) => put_type(is_plain(datatype.as_str()), datatype, escapes, out),
+        TailRef::Typed(datatype) => put_type(is_plain(datatype.as_bytes()), datatype, escapes, out),
     }
 }
 
 /// Whether a datatype is xsd:string, which is not written.
 #[inline(always)]
-pub fn is_plain(datatype: &str) -> bool
+pub fn is_plain(datatype: &[u8]) -> bool
     ensures { result ≡ bytes_eq datatype.now xsd_string }
 {
-    datatype == "http://www.w3.org/2001/XMLSchema#string"
+    datatype == b"http://www.w3.org/2001/XMLSchema#string".as_slice()
 }
 
 #[tactic(auto, using(crate::proofs::EncodedLine::encoded_type))]

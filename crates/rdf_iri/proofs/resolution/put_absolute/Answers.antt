@@ -8,8 +8,8 @@ use Rattle.rdf_iri.specs.Seen.{text_of}
 use Rattle.rdf_iri.proofs.ResolvedText.{IsIri-target, Resolves-target, target_text}
 use Rattle.rdf_iri.proofs.resolution.put_absolute.Goals as goal
 
-pub returns-in_err-put_text-clause-refused : goal.returns-in_err-put_text-clause-refused
-returns-in_err-put_text-clause-refused g c =
+pub returns-in_err-put-clause-refused : goal.returns-in_err-put-clause-refused
+returns-in_err-put-clause-refused g c =
     let p = err_from_is_err_and c.from_residual.result c.from_residual.ensures.1 in
     rw (p.1, p.2) (λ limit. (chars c.args.reference.now, inl (sym c.has_scheme.ensures ∙ c.if-has_scheme.true, refl)))
 

@@ -1,21 +1,11 @@
 -- The text that was made absolute is within the limit, or too long.
 use Rattle.std.proofs.Common.{arith}
 use Rattle.std.specs.Str.{chars}
-use Rattle.std.specs.String.{string_bytes}
-use Rattle.std.proofs.lemmas.Str.{IsUtf8-string_bytes}
-use Rattle.rdf_iri.proofs.ResolvedText.{byte_len-chars}
 use Rattle.rdf_iri.proofs.resolution.resolve_into.Goals as goal
 
-pub returns-then-len-limit-clause-refused : goal.returns-then-len-limit-clause-refused
-returns-then-len-limit-clause-refused g c =
-    let text = c.put_absolute.new.text in
-    let n = byte_len-chars (string_bytes text) (IsUtf8-string_bytes text) in
-    (chars (string_bytes text), c.in_default.ensures.resolved, omega (arith, n, c.if-len-limit.true, c.len.ensures, text.bytes.ok.0))
-
-pub returns-clause-within : goal.returns-clause-within
-returns-clause-within g c =
-    let text = c.put_absolute.new.text in
-    omega (arith, byte_len-chars (string_bytes text) (IsUtf8-string_bytes text), c.if-len-limit.false, c.len.ensures, text.bytes.ok.0)
+pub returns-then-byte_len-limit-clause-refused : goal.returns-then-byte_len-limit-clause-refused
+returns-then-byte_len-limit-clause-refused g c =
+    (chars c.put_absolute.new.text, c.in_default.ensures.resolved, omega (arith, c.if-byte_len-limit.true, c.byte_len.ensures))
 
 pub returns-in-Err-clause-refused : goal.returns-in-Err-clause-refused
 returns-in-Err-clause-refused g c = c.in-Err.ensures.refused c.args.limit

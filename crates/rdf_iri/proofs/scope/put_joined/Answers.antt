@@ -1,4 +1,4 @@
--- Two texts that were appended are the joined one, and its size was tested before.
+-- Two texts that were put one after the other are the joined one, and its size was tested before.
 use Rattle.std.proofs.Common.{ap, sym, subst, arith}
 use Rattle.std.proofs.lemmas.Result.{err_from_is_err_and}
 use Rattle.rdf_terms.specs.Terms.{IsIri}
@@ -10,19 +10,14 @@ pub returns-then-len-limit-clause-refused : goal.returns-then-len-limit-clause-r
 returns-then-len-limit-clause-refused g c =
     omega (arith, byte_len-joined _ _ _ c.as_str-front.utf8 c.utf8.local c.as_str-front.ensures.value, c.if-len-limit.true)
 
-pub returns-in_err-push_str-clause-refused : goal.returns-in_err-push_str-clause-refused
-returns-in_err-push_str-clause-refused g c =
+pub returns-in_err-put_joined-clause-refused : goal.returns-in_err-put_joined-clause-refused
+returns-in_err-put_joined-clause-refused g c =
     let p = err_from_is_err_and c.from_residual.result c.from_residual.ensures.1 in
-    rw (p.1, p.2) (omega (arith, byte_len-joined _ _ _ c.as_str-front.utf8 c.utf8.local c.as_str-front.ensures.value, c.if-len-limit.false))
-
-pub returns-in_err-push_str-2-clause-refused : goal.returns-in_err-push_str-2-clause-refused
-returns-in_err-push_str-2-clause-refused g c =
-    let p = err_from_is_err_and c.from_residual-in_err-push_str-2.result c.from_residual-in_err-push_str-2.ensures.1 in
     rw (p.1, p.2) (omega (arith, byte_len-joined _ _ _ c.as_str-front.utf8 c.utf8.local c.as_str-front.ensures.value, c.if-len-limit.false))
 
 pub returns-clause-joined : goal.returns-clause-joined
 returns-clause-joined g c =
-    chars-joined _ _ _ _ _ _ c.clear.ensures.bytes c.in_ok-push_str.ensures.bytes c.in_ok-push_str-2.ensures.bytes c.as_str-front.utf8 c.as_str-front.ensures.value
+    chars-joined _ _ _ _ c.in_ok-put_joined.ensures c.as_str-front.utf8 c.as_str-front.ensures.value
 
 pub returns-clause-is_iri : goal.returns-clause-is_iri
 returns-clause-is_iri g c =

@@ -1,9 +1,7 @@
 -- Each move keeps what the text with the rest of the reference comes to.
-use Rattle.std.proofs.Common.{◌≡◌, ◌≤◌, ◌++◌, ◌∷◌, [], ◌∙◌, ap, sym, subst, append_assoc, length, drop, take, slice_range, arith}
-use Rattle.std.specs.String.{string_bytes}
+use Rattle.std.proofs.Common.{IsUtf8, ◌≡◌, ◌≤◌, ◌++◌, ◌∷◌, [], ◌∙◌, ap, sym, subst, append_assoc, length, drop, take, slice_range, arith}
 use Rattle.std.proofs.lemmas.List.{append-nil}
 use Rattle.std.proofs.lemmas.List.Folds.{drop_split}
-use Rattle.std.proofs.lemmas.Str.{IsUtf8-string_bytes}
 use Rattle.rdf_iri.specs.declared.steps.Move.TheVariants.{Here, Up, Into, Last}
 use Rattle.rdf_iri.specs.Steps.{IsMove, front_at, path_at}
 use Rattle.rdf_iri.specs.Dots.{parent}
@@ -14,7 +12,7 @@ use Rattle.rdf_iri.proofs.steps.put_onward.Goals as goal
 pub loop-next-init : goal.loop-next-init
 loop-next-init g c =
     let w = c.args.reference.now in
-    let text = string_bytes c.args.text.now in
+    let text = c.args.text.now in
     let same : text ≡ text ++ slice_range w c.args.from c.args.from = sym (append-nil text) ∙ ap (λ x. text ++ x) (sym (between-none w c.args.from)) in
     record {
       order = omega arith;
@@ -27,7 +25,7 @@ pub loop-next-preserved-in-Into : goal.loop-next-preserved-in-Into
 loop-next-preserved-in-Into g c =
     let w = c.args.reference.now in
     let i = c.loop-next.invariant in
-    let text = string_bytes c.loop-next.text in
+    let text = c.loop-next.text in
     let m = subst (λ x. IsMove x c.loop-next.at (Into c.in-Into.next)) c.as_bytes.ensures.value c.in-Into.ensures in
     let some = m.0.some in
     let longer : text ++ slice_range w c.loop-next.kept c.in-Into.next ≡ (text ++ slice_range w c.loop-next.kept c.loop-next.at) ++ (m.1 ++ 47 ∷ []) =
@@ -46,8 +44,8 @@ loop-next-preserved-in-Here g c =
     let w = c.args.reference.now in
     let i = c.loop-next.invariant in
     let m = subst (λ x. IsMove x c.loop-next.at (Here c.in-Here.next)) c.as_bytes.ensures.value c.in-Here.ensures in
-    let text = string_bytes c.put_between.new.text in
-    let same : string_bytes c.loop-next.text ++ slice_range w c.loop-next.kept c.loop-next.at ≡ text ++ slice_range w c.in-Here.next c.in-Here.next =
+    let text = c.put_between.new.text in
+    let same : c.loop-next.text ++ slice_range w c.loop-next.kept c.loop-next.at ≡ text ++ slice_range w c.in-Here.next c.in-Here.next =
     sym c.in_ok-put_between-in-Here.ensures ∙ (sym (append-nil text) ∙ ap (λ x. text ++ x) (sym (between-none w c.in-Here.next))) in
     let b = passes-boundary w c.loop-next.at c.in-Here.next c.utf8.reference m.0 in
     record {
@@ -58,27 +56,26 @@ loop-next-preserved-in-Here g c =
     }
 
 pub truncate-requires : goal.truncate-requires
-truncate-requires g c = λ _.
+truncate-requires g c =
     let text = c.put_between-in-Up.new.text in
-    let e = c.as_bytes-in-Up.ensures.value in
-    let l : c.above-len.result ≤ length (string_bytes text) = subst (λ x. c.above-len.result ≤ length x) e c.above-len.ensures.within in
-    let t : take c.above-len.result (string_bytes text) ≡ front_at c.args.root (string_bytes text) ++ (parent (path_at c.args.root (string_bytes text)) ++ 47 ∷ []) =
+    let e = c.as_bytes-in-Up.ensures.bytes in
+    let l : c.above-len.result ≤ length text = subst (λ x. c.above-len.result ≤ length x) e c.above-len.ensures.within in
+    let t : take c.above-len.result text ≡ front_at c.args.root text ++ (parent (path_at c.args.root text) ++ 47 ∷ []) =
     subst (λ x. take c.above-len.result x ≡ front_at c.args.root x ++ (parent (path_at c.args.root x) ++ 47 ∷ [])) e c.above-len.ensures.text in
-    let b = directory-boundary (string_bytes text) (front_at c.args.root (string_bytes text) ++ parent (path_at c.args.root (string_bytes text))) c.above-len.result (IsUtf8-string_bytes text) l
-    (t ∙ sym (append_assoc (front_at c.args.root (string_bytes text)) (parent (path_at c.args.root (string_bytes text))) (47 ∷ []))) in
-    (b.0, λ _. b.1)
+    directory-boundary text (front_at c.args.root text ++ parent (path_at c.args.root text)) c.above-len.result (subst IsUtf8 e c.as_bytes-in-Up.ensures.utf8) l
+    (t ∙ sym (append_assoc (front_at c.args.root text) (parent (path_at c.args.root text)) (47 ∷ [])))
 
 pub loop-next-preserved : goal.loop-next-preserved
 loop-next-preserved g c =
     let w = c.args.reference.now in
     let i = c.loop-next.invariant in
     let m = subst (λ x. IsMove x c.loop-next.at (Up c.in-Up.next)) c.as_bytes.ensures.value c.in-Up.ensures in
-    let text = string_bytes c.put_between-in-Up.new.text in
-    let cut = string_bytes c.truncate.new.self in
-    let e = c.as_bytes-in-Up.ensures.value in
-    let here : string_bytes c.loop-next.text ++ slice_range w c.loop-next.kept c.loop-next.at ≡ text = sym c.in_ok-put_between-in-Up.ensures in
+    let text = c.put_between-in-Up.new.text in
+    let cut = c.truncate.new.self in
+    let e = c.as_bytes-in-Up.ensures.bytes in
+    let here : c.loop-next.text ++ slice_range w c.loop-next.kept c.loop-next.at ≡ text = sym c.in_ok-put_between-in-Up.ensures in
     let t : cut ≡ front_at c.args.root text ++ (parent (path_at c.args.root text) ++ 47 ∷ []) =
-    c.truncate.ensures.bytes ∙ subst (λ x. take c.above-len.result x ≡ front_at c.args.root x ++ (parent (path_at c.args.root x) ++ 47 ∷ [])) e c.above-len.ensures.text in
+    c.truncate.ensures ∙ subst (λ x. take c.above-len.result x ≡ front_at c.args.root x ++ (parent (path_at c.args.root x) ++ 47 ∷ [])) e c.above-len.ensures.text in
     let same : cut ≡ cut ++ slice_range w c.in-Up.next c.in-Up.next = sym (append-nil cut) ∙ ap (λ x. cut ++ x) (sym (between-none w c.in-Up.next)) in
     let b = passes-boundary w c.loop-next.at c.in-Up.next c.utf8.reference m.0 in
     record {
@@ -92,9 +89,9 @@ pub returns-in-Last : goal.returns-in-Last
 returns-in-Last g c =
     let w = c.args.reference.now in
     let i = c.loop-next.invariant in
-    let text = string_bytes c.loop-next.text in
+    let text = c.loop-next.text in
     let m = subst (λ x. IsMove x c.loop-next.at Last) c.as_bytes.ensures.value c.in-Last.ensures in
-    c.in_ok-push_str-in-Last.ensures.bytes
+    c.in_ok-push-in-Last.ensures
     ∙ (ap (λ x. text ++ x) (c.range_from.ensures.value ∙ drop_split w c.loop-next.kept c.loop-next.at i.order)
     ∙ (sym (append_assoc text (slice_range w c.loop-next.kept c.loop-next.at) (drop c.loop-next.at w)) ∙ comes-last c.args.root _ _ _ _ m i.comes))
 

@@ -1,6 +1,5 @@
 use Rattle.std.proofs.Common.{◌≤◌, ◌-◌, ◌++◌, length, drop, slice_range}
 use Rattle.std.specs.Str.{IsCharBoundary}
-use Rattle.std.specs.String.{string_bytes}
 use Rattle.rdf_iri.proofs.WrittenOnward.{Comes}
 use Rattle.rdf_iri.proofs.steps.put_onward.Given as goal
 
@@ -10,7 +9,7 @@ invariant-loop-next g l = record {
   order : l.kept ≤ l.at;
   kept : IsCharBoundary l.reference l.kept;
   at : IsCharBoundary l.reference l.at;
-  comes : Comes l.root (string_bytes l.initial.text) (drop l.from l.reference) (string_bytes l.text ++ slice_range l.reference l.kept l.at) (drop l.at l.reference);
+  comes : Comes l.root l.initial.text (drop l.from l.reference) (l.text ++ slice_range l.reference l.kept l.at) (drop l.at l.reference);
 }
 
 abbrev pub decreases-loop-next : goal.decreases-loop-next

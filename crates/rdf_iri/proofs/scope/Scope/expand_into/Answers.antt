@@ -2,7 +2,6 @@
 use Rattle.std.proofs.Common.{◌≡◌, ◌∙◌, ◌≤◌, ℕ, Some, None, ap, sym, subst}
 use Rattle.std.specs.Prelude.{OnOk, IfErr}
 use Rattle.std.specs.Str.{chars}
-use Rattle.std.specs.String.{string_bytes}
 use Rattle.rdf_iri.specs.Texts.{byte_len}
 use Rattle.rdf_iri.specs.Seen.{text_of}
 use Rattle.rdf_iri.specs.Scope.{InForce, bound_to, NotJoined}
@@ -28,8 +27,8 @@ limit g c = c.iri.ensures ∙ ap (λ (s : InForce). s.limits.iri) c.self.view_is
 
 pub returns-clause-expanded : goal.returns-clause-expanded
 returns-clause-expanded g c =
-    expands_joined c.args.self.now _ _ c.in-Some.front.now (chars (string_bytes c.put_joined.new.text)) c.put_joined.result (found g c) c.put_joined.ensures.joined
-    (subst (λ (n : ℕ). OnOk c.put_joined.result (byte_len (chars (string_bytes c.put_joined.new.text)) ≤ n)) (limit g c) c.put_joined.ensures.within)
+    expands_joined c.args.self.now _ _ c.in-Some.front.now (chars c.put_joined.new.text) c.put_joined.result (found g c) c.put_joined.ensures.joined
+    (subst (λ (n : ℕ). OnOk c.put_joined.result (byte_len (chars c.put_joined.new.text) ≤ n)) (limit g c) c.put_joined.ensures.within)
 
 pub returns-clause-refused : goal.returns-clause-refused
 returns-clause-refused g c =

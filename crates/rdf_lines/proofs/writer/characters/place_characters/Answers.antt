@@ -7,7 +7,7 @@ use Rattle.rdf_lines.specs.declared.form.Escapes.TheVariants.{Plain}
 use Rattle.rdf_lines.specs.Writing.{escaped}
 use Rattle.rdf_lines.proofs.EscapedRuns.{text_stands}
 use Rattle.rdf_lines.proofs.PlacedCharacters.{escaped_by_bytes}
-use Rattle.rdf_lines.proofs.Places.{Placed-as}
+use Rattle.rdf_terms.proofs.Places.{Placed-as}
 use Rattle.rdf_lines.proofs.writer.characters.place_characters.Goals as goal
 
 pub returns-then-is_run-clause-placed : goal.returns-then-is_run-clause-placed

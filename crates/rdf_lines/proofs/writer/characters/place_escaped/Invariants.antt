@@ -1,7 +1,7 @@
 use Rattle.std.proofs.Common.{◌+◌, ◌-◌, ◌*◌, ◌≤◌, length, take}
 use Rattle.std.specs.Prelude.{flat_map}
 use Rattle.rdf_lines.specs.declared.form.Escapes.TheVariants.{Plain}
-use Rattle.rdf_lines.specs.Placing.{Placed}
+use Rattle.rdf_terms.specs.Placing.{Placed}
 use Rattle.rdf_lines.specs.Writing.{escaped}
 use Rattle.rdf_lines.proofs.writer.characters.place_escaped.Given as goal
 

@@ -1,6 +1,6 @@
 use Rattle.std.proofs.Common.{sym, arith}
 use Rattle.itoa.proofs.Decimal.{decimal_four, length_four}
-use Rattle.rdf_lines.proofs.Places.{Placed-as, Placed-then}
+use Rattle.rdf_terms.proofs.Places.{Placed-as, Placed-then}
 use Rattle.rdf_lines.proofs.writer.digits.+place_digits.Goals as goal
 
 pub place_short-next-requires : goal.place_short-next-requires

@@ -10,7 +10,7 @@ pub returns-then-is_run-clause-written : goal.returns-then-is_run-clause-written
 returns-then-is_run-clause-written g c =
     let out = c.args.out.now.items in
     let have : all_have is_ascii_byte c.args.iri.text.now ≡ true =
-    ap (all_have is_ascii_byte) (sym (c.as_bytes.ensures.value ∙ c.as_str.ensures)) ∙ (sym c.is_run.ensures ∙ c.if-is_run.true) in
+    ap (all_have is_ascii_byte) (sym c.as_bytes.ensures) ∙ (sym c.is_run.ensures ∙ c.if-is_run.true) in
     on_ok c.extend_from_slice.result
-    (λ e. e ∙ ap (λ x. out ++ x) (c.as_bytes-then-is_run.ensures.value ∙ (c.as_str-then-is_run.ensures ∙ sym (ascii_iri c.args.iri have))))
+    (λ e. e ∙ ap (λ x. out ++ x) (c.as_bytes-then-is_run.ensures ∙ sym (ascii_iri c.args.iri have)))
     (where_ok c.extend_from_slice.result _ _ _ c.extend_from_slice.ensures.items)

@@ -1,17 +1,16 @@
 use Rattle.std.proofs.Common.{sym, subst}
 use Rattle.std.specs.Str.{chars}
-use Rattle.std.specs.String.{string_bytes}
 use Rattle.rdf_terms.specs.Terms.{IsIri, IsLabel}
 use Rattle.rdf_terms.proofs.TermsLemmas.{IsIri-had, IsLabel-had}
 use Rattle.rdf_trig.specs.Slots.{IsOfKind}
 use Rattle.rdf_trig.proofs.slots.Topic.view.Goals as goal
 
-pub new-requires : goal.new-requires
-new-requires g c =
-    subst (λ w. IsIri (chars w)) (sym c.as_str.ensures.value)
-    (IsIri-had _ (subst (λ k. IsOfKind k (chars (string_bytes c.self.inside.text))) c.in-Iri.is c.self.invariant))
+pub of_bytes-requires-clause-text : goal.of_bytes-requires-clause-text
+of_bytes-requires-clause-text g c =
+    subst (λ w. IsIri (chars w)) (sym c.as_bytes.ensures.bytes)
+    (IsIri-had _ (subst (λ k. IsOfKind k (chars c.self.inside.text)) c.in-Iri.is c.self.invariant))
 
-pub new-requires-in-Label : goal.new-requires-in-Label
-new-requires-in-Label g c =
-    subst (λ w. IsLabel (chars w)) (sym c.as_str-in-Label.ensures.value)
-    (IsLabel-had _ (subst (λ k. IsOfKind k (chars (string_bytes c.self.inside.text))) c.in-Label.is c.self.invariant))
+pub of_bytes-requires-in-Label-clause-text : goal.of_bytes-requires-in-Label-clause-text
+of_bytes-requires-in-Label-clause-text g c =
+    subst (λ w. IsLabel (chars w)) (sym c.as_bytes-in-Label.ensures.bytes)
+    (IsLabel-had _ (subst (λ k. IsOfKind k (chars c.self.inside.text)) c.in-Label.is c.self.invariant))

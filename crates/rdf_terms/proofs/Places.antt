@@ -1,6 +1,6 @@
 -- Writes at places of one buffer, one after another.
 use Rattle.std.proofs.Common.{◌≡◌, ℕ, ◌+◌, ◌-◌, ◌≤◌, List, [], ◌++◌, length, take, drop, ap, sym, ◌∙◌, subst, arith, append_assoc, length-append, length-take-le, length-drop, take-add, take-take, take_at, drop_at, take_all, take-append-drop}
-use Rattle.rdf_lines.specs.Placing.{Placed}
+use Rattle.rdf_terms.specs.Placing.{Placed}
 
 -- a second write begins where the first ended
 pub Placed-then : {a b c xs ys : List ℕ} {i j k : ℕ} → Placed a b i xs j → Placed b c j ys k → Placed a c i (xs ++ ys) k

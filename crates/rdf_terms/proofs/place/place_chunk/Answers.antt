@@ -1,6 +1,6 @@
 use Rattle.std.proofs.Common.{◌≡◌, length, take, arith, length-take-le}
 use Rattle.std.proofs.lemmas.Simd.{take_more_put_chunk, length-put_chunk}
-use Rattle.rdf_lines.proofs.writer.place.place_chunk.Goals as goal
+use Rattle.rdf_terms.proofs.place.place_chunk.Goals as goal
 
 pub returns : goal.returns
 returns g c =

@@ -1,7 +1,7 @@
 use Rattle.std.proofs.Common.{◌-◌, rules, length}
 use Rattle.std.proofs.lemmas.List.{take_rest}
-use Rattle.rdf_lines.proofs.Places.{Placed-ends}
-use Rattle.rdf_lines.proofs.writer.place.place_ends.Goals as goal
+use Rattle.rdf_terms.proofs.Places.{Placed-ends}
+use Rattle.rdf_terms.proofs.place.place_ends.Goals as goal
 
 pub returns : goal.returns
 returns g c =

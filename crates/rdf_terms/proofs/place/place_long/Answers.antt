@@ -1,7 +1,7 @@
 use Rattle.std.proofs.Common.{◌≡◌, ◌+◌, rules, arith, ap, length, take-add, length-take-le, take-append-drop}
 use Rattle.std.proofs.lemmas.List.{take_rest}
-use Rattle.rdf_lines.proofs.Places.{Placed-then}
-use Rattle.rdf_lines.proofs.writer.place.place_long.Goals as goal
+use Rattle.rdf_terms.proofs.Places.{Placed-then}
+use Rattle.rdf_terms.proofs.place.place_long.Goals as goal
 
 pub loop-done-preserved : goal.loop-done-preserved
 loop-done-preserved c =

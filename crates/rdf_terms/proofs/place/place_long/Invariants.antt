@@ -1,6 +1,6 @@
 use Rattle.std.proofs.Common.{◌+◌, ◌-◌, ◌≤◌, length, take}
-use Rattle.rdf_lines.specs.Placing.{Placed}
-use Rattle.rdf_lines.proofs.writer.place.place_long.Given as goal
+use Rattle.rdf_terms.specs.Placing.{Placed}
+use Rattle.rdf_terms.proofs.place.place_long.Given as goal
 
 abbrev pub invariant-loop-done : goal.invariant-loop-done
 invariant-loop-done l = (l.done + 32 ≤ length l.text) × Placed l.fn.slot l.slot l.at (take l.done l.text) (l.at + l.done)
