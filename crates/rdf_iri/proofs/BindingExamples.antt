@@ -1,4 +1,4 @@
--- A file whose second line is no binding: it fails there, and by the law no entries are what it says.
+-- Lines that say something, and a file whose second line is no binding: it fails there, and by the law no entries are what it says.
 use Rattle.std.proofs.Common.{◌≡◌, ℕ, suc, List, [], ◌∷◌, length, None, inl, inr, refl, sym, ap, ◌∙◌, ◌++◌, subst, ⊎_elim, arith}
 use Rattle.std.specs.Prelude.{codes}
 use Rattle.std.specs.Str.{chars}
@@ -9,15 +9,49 @@ use Rattle.rdf_iri.specs.Cuts.{past}
 use Rattle.rdf_iri.specs.declared.fault.BindingReason.TheVariants.{BadBinding}
 use Rattle.rdf_iri.specs.Limits.{Sizes}
 use Rattle.rdf_iri.specs.Texts.{BeginsWith}
-use Rattle.rdf_iri.specs.BindingLines.{is_blank, IsBinding, SaysNothing}
+use Rattle.rdf_iri.specs.BindingLines.{is_blank, IsBinding, IsPrefixId, IsSparqlPrefix, SaysNothing}
 use Rattle.rdf_iri.specs.Bindings.{byte_order_mark, Entry, TextSays, Says, IsFile, FailsAt}
-use Rattle.rdf_iri.proofs.BindingLineLemmas.{nothing_there, no_binding, no_declaration_at}
+use Rattle.rdf_iri.proofs.BindingLineLemmas.{keyword_from, nothing_there, no_binding, no_declaration_at}
 use Rattle.rdf_iri.proofs.BindingLemmas.{no_plain_without_space, cr_kept}
 use Rattle.rdf_iri.proofs.BindingSteps.{none_said}
 use Rattle.rdf_iri.proofs.BindingFiles.{one_text}
 use Rattle.rdf_iri.proofs.BindingLaws.{failing_files}
 
--- it has no blank
+-- a comment says nothing
+pub comment_line : SaysNothing (codes "\t# x")
+comment_line = inr (codes " x", record { blanks = codes "\t"; parts = refl; are_blanks = refl }, ((λ e. omega (arith, e)), ((λ e. omega (arith, e)), tt)))
+
+-- a directive of Turtle binds the empty prefix, with few blanks and a comment behind it
+pub directive_line : IsPrefixId (codes "@prefix :<a:>.#") [] (codes "a:")
+directive_line = record {
+  at_name = codes " :<a:>.#";
+  at_iri = codes "<a:>.#";
+  at_dot = codes ".#";
+  rest = codes "#";
+  word = record { blanks = []; parts = refl; are_blanks = refl };
+  apart = (32, codes ":<a:>.#", refl, refl);
+  name = record { blanks = codes " "; parts = refl; are_blanks = refl };
+  reference = record { blanks = []; parts = refl; are_blanks = refl };
+  dot = record { blanks = []; parts = refl; are_blanks = refl };
+  ends = inr ([], record { blanks = []; parts = refl; are_blanks = refl }, tt);
+}
+
+-- and so does one of SPARQL, in any case
+pub sparql_line : IsSparqlPrefix (codes "Prefix :<a:>") [] (codes "a:")
+sparql_line = record {
+  keyword = codes "Prefix";
+  at_name = codes " :<a:>";
+  at_iri = codes "<a:>";
+  rest = [];
+  any_case = keyword_from (codes "Prefix") refl;
+  word = record { blanks = []; parts = refl; are_blanks = refl };
+  apart = (32, codes ":<a:>", refl, refl);
+  name = record { blanks = codes " "; parts = refl; are_blanks = refl };
+  reference = record { blanks = []; parts = refl; are_blanks = refl };
+  ends = inl refl;
+}
+
+-- the letter of the file has no blank in front
 letter : past is_blank (chars (codes "x")) ≡ codes "x"
 unfolding chars
 letter = refl

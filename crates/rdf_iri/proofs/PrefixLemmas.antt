@@ -8,6 +8,7 @@ use Rattle.std.specs.String.{string_bytes}
 use Rattle.std.specs.Str.{chars, bytes_eq, IsUtf8}
 use Rattle.std.specs.List.{sum_by}
 use Rattle.std.specs.Option.{option_copied}
+use Rattle.std.specs.BTreeMap.{BTreeMap, get_by_text}
 use denote.Ref.{Bor}
 use Rattle.std.proofs.lemmas.Bool.{cases_Bool, cond-true, cond-false}
 use Rattle.std.proofs.lemmas.List.{append-nil, take-append-drop, length-take-le}
@@ -21,7 +22,7 @@ use Rattle.rdf_iri.specs.Scope.{bound_to, entries_of, binding_bytes}
 use Rattle.rdf_iri.specs.Prefixes.{KeptApart, StandsAt, Sets}
 use Rattle.rdf_iri.proofs.TextsLemmas.{equal-true, equal-self}
 use Rattle.rdf_iri.specs.Limits.{Sizes}
-use Rattle.rdf_iri.proofs.ScopeLemmas.{swapped, some_not, same_text, length-entries_of}
+use Rattle.rdf_iri.proofs.ScopeLemmas.{swapped, some_not, same_text, length-entries_of, bound_to-text}
 
 -- where a prefix is not bound, the first has another, and it is not bound after it
 pub parted : (e : List ℕ × List ℕ) (es : List (List ℕ × List ℕ)) (q : List ℕ) → bound_to (e ∷ es) q ≡ None → (equal q e.0 ≡ false) × (bound_to es q ≡ None)
@@ -318,3 +319,20 @@ row_bound row others limits a f l =
 pub text_copied : (o : Option (Bor (List ℕ))) → text_of o ≡ option_copied o
 text_copied None = refl
 text_copied (Some s) = refl
+
+-- an entry that is found in the row is what its prefix is bound to
+pub found_in_row : {Z : Type 0} (row seen others : List (String Z × List ℕ)) (all : List (List ℕ × List ℕ)) (p : List ℕ) (i : ℕ) (r : String Z × List ℕ) → seen ≡ row →
+    entries_of row ++ entries_of others ≡ all → StandsAt (entries_of seen) p i → r ≡ get_or row i r → Some r.1 ≡ bound_to all p
+found_in_row row seen others all p i r e v s g =
+    let t = subst (λ x. StandsAt (entries_of x) p i) e s in
+    ap Some (sym (iri_there row p i r t g)) ∙ sym (subst (λ x. bound_to x p ≡ Some t.iri) v (bound_to-there (entries_of row) (entries_of others) p i t))
+
+-- and a prefix that is not in the row is bound as the map says
+pub found_in_map : {Z : Type 0} (row seen : List (String Z × List ℕ)) (others : BTreeMap (String Z) (List ℕ)) (all : List (List ℕ × List ℕ)) (prefix : List ℕ) (o : Option (Bor (List ℕ))) →
+    IsUtf8 prefix → seen ≡ row → entries_of row ++ entries_of others.entries ≡ all → bound_to (entries_of seen) (chars prefix) ≡ None → option_copied o ≡ get_by_text others prefix →
+    text_of o ≡ bound_to all (chars prefix)
+found_in_map row seen others all prefix o u e v n g =
+    let new = subst (λ x. bound_to (entries_of x) (chars prefix) ≡ None) e n in
+    text_copied o
+    ∙ (g ∙ (sym (bound_to-text others prefix u)
+    ∙ (sym (bound_to-after (entries_of row) (entries_of others.entries) (chars prefix) new) ∙ ap (λ x. bound_to x (chars prefix)) v)))

@@ -11,7 +11,7 @@ use Rattle.std.proofs.lemmas.Slice.Eq.{bytes_eq-Decides}
 use Rattle.rdf_iri.specs.Texts.{equal}
 use Rattle.rdf_iri.specs.Scope.{bound_to, entries_of}
 use Rattle.rdf_iri.specs.Prefixes.{KeptApart, StandsAt}
-use Rattle.rdf_iri.specs.Table.{hash_of, first_slot, mark_of, Names, HasSlot, IsFree, keys_of, IsKeyAt, HaveSlots, KeepsSlots}
+use Rattle.rdf_iri.specs.Table.{hash_of, first_slot, mark_of, Names, HasSlot, IsFree, keys_of, IsKeyAt, HaveSlots, KeepsSlots, Kept}
 use Rattle.rdf_iri.proofs.TextsLemmas.{equal-true, equal-from}
 use Rattle.rdf_iri.proofs.ScopeLemmas.{some_not, same_text}
 use Rattle.rdf_iri.proofs.PrefixLemmas.{parted, bound_to-there, entries_of-append}
@@ -43,9 +43,22 @@ bound_to-alone (e ∷ xs) ys q h =
     let p = parted e (xs ++ ys) q h in
     cond-false (equal q e.0) (Some e.1) (bound_to (xs ++ []) q) p.0 ∙ bound_to-alone xs ys q p.1
 
+-- so no prefix stands twice in the row alone
 pub KeptApart-alone : (row others : List (List ℕ × List ℕ)) → KeptApart row others → KeptApart row []
 KeptApart-alone [] others a = tt
 KeptApart-alone (e ∷ row) others a = (bound_to-alone row others e.0 a.0, KeptApart-alone row others a.1)
+
+-- what is asked for where a prefix is sought in the row
+pub record Sought {Z : Type 0} (slots : List ℕ) (row : List (String Z × List ℕ)) : Type 0 where
+  pub placed : HaveSlots slots row
+  pub apart : KeptApart (entries_of row) []
+
+-- it holds of what is kept, as the code sees it
+pub sought : {Z : Type 0} (slots seen_slots : List ℕ) (row seen others : List (String Z × List ℕ)) → seen_slots ≡ slots → seen ≡ row → Kept slots row others → Sought seen_slots seen
+sought slots seen_slots row seen others e f k = record {
+  placed = subst (λ s. HaveSlots s seen) (sym e) (subst (HaveSlots slots) (sym f) k.placed);
+  apart = subst (λ r. KeptApart (entries_of r) []) (sym f) (KeptApart-alone (entries_of row) (entries_of others) k.apart);
+}
 
 -- a prefix that has these bytes at a place stands there, and at none before it
 pub stands_where : {Z : Type 0} (row : List (String Z × List ℕ)) (q : List ℕ) (i : ℕ) → KeptApart (entries_of row) [] → IsKeyAt row q i → StandsAt (entries_of row) (chars q) i

@@ -19,9 +19,9 @@ use std::marker::Model;
 /// How long a prefix is at most that is compared byte by byte.
 const SHORT: usize = 8;
 
-/// Prefixes, without their colons, and their IRIs. The first ones stand in a row, where those of another length are passed
-/// over at once. The others stand in a map, since there chosen prefixes do not make it slow. Once the map has many, more go
-/// into the row and have a slot each in a table, or, where their slots are taken, into the map.
+/// Prefixes, without their colons, and their IRIs. The first ones stand in a row, where those of another length are
+/// passed over at once. The others stand in a map, since there chosen prefixes do not make it slow. Once the map has
+/// many, more go into the row and have a slot each in a table, or, where their slots are taken, into the map.
 #[derive(Drop)]
 pub(crate) struct Prefixes<A: Allocator = Global> {
     row: Vec<(String<A>, Iri<A>), A>,

@@ -7,17 +7,13 @@ use Rattle.rdf_iri.specs.Prefixes.{KeptApart, StandsAt, Sets}
 use Rattle.rdf_iri.specs.Table.{HaveSlots, Kept, IsNext}
 use Rattle.rdf_iri.proofs.ScopeLemmas.{Sets-inserted}
 use Rattle.rdf_iri.proofs.PrefixLemmas.{place_within, key_there, entries_of-anew, entries_of-append, Sets-after, Sets-anew, Sets-pushed, KeptApart-anew, KeptApart-pushed, KeptApart-others}
-use Rattle.rdf_iri.proofs.TableLemmas.{KeptApart-alone, HaveSlots-anew, HaveSlots-kept, HaveSlots-pushed}
+use Rattle.rdf_iri.proofs.TableLemmas.{sought, HaveSlots-anew, HaveSlots-kept, HaveSlots-pushed}
 use Rattle.rdf_iri.proofs.prefixes.Prefixes.set.Goals as goal
 
 pub place_of-requires : goal.place_of-requires
 place_of-requires g c =
-    let kept = c.self.invariant in
-    let row = sym c.deref-2.ensures.value in
-    record {
-      slots = subst (λ (s : List ℕ). HaveSlots s c.deref-2.result.now) (sym c.deref.ensures.value) (subst (λ r. HaveSlots c.self.inside.slots.items r) row kept.placed);
-      apart = subst (λ r. KeptApart (entries_of r) []) row (KeptApart-alone _ _ kept.apart);
-    }
+    let s = sought c.self.inside.slots.items c.deref.result.now c.self.inside.row.items c.deref-2.result.now c.self.inside.others.entries c.deref.ensures.value c.deref-2.ensures.value c.self.invariant in
+    record { slots = s.placed; apart = s.apart }
 
 pub index_mut-requires : goal.index_mut-requires
 index_mut-requires g c =
