@@ -1,12 +1,12 @@
 // From a document to the lines of its quads.
 
 ghost use Rattle.std.specs.Prelude.{◌≡◌, ◌++◌, true, false, OnOk, IfOk, IfErr, IfSome};
-ghost use Rattle.rdf_lines.specs.Forms.{form_of};
 ghost use Rattle.rdf_stream.specs.Converting.{ConversionStops, Converts, IsConverting, IsPutting, KeepsPrompt, RunEnds, RunHalts, Starts};
 ghost use Rattle.rdf_stream.specs.Converts.{AcceptsAll, IsPrompt, StopsFor};
 ghost use Rattle.rdf_stream.specs.Faults.{IsRefusal, IsSentOn};
 ghost use Rattle.rdf_stream.specs.Languages.{conversion_of};
 ghost use Rattle.rdf_stream.specs.LineOut.{OnlyGrows};
+ghost use Rattle.rdf_stream.specs.Outputs.{output_of};
 ghost use Rattle.rdf_stream.specs.Told.{AsTold, told};
 
 use crate::devices::{Drain, Failed, Source};
@@ -14,16 +14,17 @@ use crate::fault::StreamFault;
 use crate::form::Kind;
 use crate::job::Job;
 use crate::line_out::{LineOut, stop};
+use crate::output::OutputView;
 use crate::parts::{Parts, take_parts};
 use crate::passes::Passes;
 use crate::pieces::{Run, piece_buffer, read_pieces};
 use rdf_driver::{QuadGrammar, Reader, Summary};
-use rdf_lines::{LineBuffer, LineEnding, Style, WrittenForm, line_reader};
+use rdf_lines::{LineBuffer, LineEnding, Style, line_reader};
 use rdf_trig::tree_reader;
 use std::alloc::Allocator;
 
 /// Reads a document of the job's format from the source, writes the lines of its quads to the drain with the job's
-/// escapes and its word in front of the names of nodes, and flushes it, also after a refusal.
+/// escapes, its word in front of the names of nodes and its graph, and flushes it, also after a refusal.
 ///
 /// Before it asks the source for more, all lines that are due of the bytes so far have been handed to the drain (`prompt`),
 /// and so they have before a refusal or a failed read is reported.
@@ -49,50 +50,44 @@ pub fn convert<A: Allocator + Copy, S: Source, D: Drain>(
     match job.form().kind() {
         Kind::Line(form) => {
             let reader = line_reader(alloc, form, job.limits());
-            let result = convert_with(alloc, reader, job.written_form(Style::Kept), source, drain);
+            let result = convert_with(alloc, reader, job.output(Style::Kept), source, drain);
             drop(job);
             result
         }
         Kind::Tree(form) => {
             let reader = tree_reader(alloc, job.options(form));
-            let result = convert_with(
-                alloc,
-                reader,
-                job.written_form(Style::Tagged),
-                source,
-                drain,
-            );
+            let result = convert_with(alloc, reader, job.output(Style::Tagged), source, drain);
             drop(job);
             result
         }
     }
 }
 
-// Converts what the reader reads to lines that are written so.
+// Converts what the reader reads to the lines of its quads.
 fn convert_with<A: Allocator + Copy, G: Passes<A>, S: Source, D: Drain>(
     alloc: A,
     reader: Reader<G, A>,
-    written: WrittenForm<'_>,
+    output: OutputView<'_>,
     source: &mut S,
     drain: &mut D,
 ) -> Result<Summary, StreamFault>
-    requires starts { (x : G.Setting) × Starts G.words x reader written.style }
-    requires styled { written.style ≡ G.style }
+    requires starts { (x : G.Setting) × Starts G.words x reader output.lines.style }
+    requires styled { output.lines.style ≡ G.style }
     requires more { S.has_ended source.old ≡ false }
     requires source { S.has_failed source.old ≡ false }
     requires drain { D.has_failed drain.old ≡ false }
-    ensures accepted { IfOk result (Converts G.words S.Source D.Drain reader (form_of written.entry) source.old drain.old drain.new) }
+    ensures accepted { IfOk result (Converts G.words S.Source D.Drain reader (output_of output.entry) source.old drain.old drain.new) }
     ensures ended { OnOk result (S.has_ended source.new ≡ true) }
     ensures flushed { OnOk result (D.is_flushed drain.new ≡ true) }
-    ensures stops { IfErr result (ConversionStops G.words S.Source D.Drain reader (form_of written.entry) source.old source.new drain.old drain.new) }
+    ensures stops { IfErr result (ConversionStops G.words S.Source D.Drain reader (output_of output.entry) source.old source.new drain.old drain.new) }
     ensures refused { IfErr result IsRefusal }
     ensures sent { IfErr result (λ fault. IsSentOn fault (D.is_flushed drain.new)) }
-    ensures prompt { KeepsPrompt G.words S.Source D.Drain reader (form_of written.entry) source.old source.new drain.old drain.new }
+    ensures prompt { KeepsPrompt G.words S.Source D.Drain reader (output_of output.entry) source.old source.new drain.old drain.new }
 {
     let mut piece = piece_buffer(alloc)?;
     let mut reader = reader;
     let mut buffer = LineBuffer::new(alloc);
-    let mut lines = LineOut::new(written, &mut buffer, drain);
+    let mut lines = LineOut::new(output, &mut buffer, drain);
     read_pieces(source, piece.as_mut_slice(), &mut reader, &mut lines)
 }
 

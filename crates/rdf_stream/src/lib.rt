@@ -10,6 +10,7 @@ mod job;
 mod line_out;
 mod loads;
 mod messages;
+mod output;
 mod parts;
 mod passes;
 mod pieces;
