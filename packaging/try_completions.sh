@@ -22,7 +22,7 @@ rdfconv zz|
 rdfconv help con|convert
 rdfconv show --|--format --base --token --depth --bindings --iri --help
 rdfconv check --|--format --base --token --depth --bindings --iri --prefixes --help
-rdfconv convert --|--format --base --token --depth --bindings --iri --prefixes --ascii --node-prefix --help
+rdfconv convert --|--format --base --token --depth --bindings --iri --prefixes --ascii --node-prefix --graph --help
 rdfconv check --as|
 rdfconv convert --f|--format
 rdfconv convert --format |nt nq ttl trig

@@ -15,9 +15,9 @@ _rdfconv() {
     'show --base' | 'show --token' | 'show --depth' | 'show --bindings' | 'show --iri') wanted='' ;;
     'show '*) wanted=FILES options='--format --base --token --depth --bindings --iri -h|--help' ;;
     'convert --format') wanted='nt nq ttl trig name' ;;
-    'convert --base' | 'convert --token' | 'convert --depth' | 'convert --bindings' | 'convert --iri' | 'convert --node-prefix') wanted='' ;;
+    'convert --base' | 'convert --token' | 'convert --depth' | 'convert --bindings' | 'convert --iri' | 'convert --node-prefix' | 'convert --graph') wanted='' ;;
     'convert --prefixes') wanted=FILES ;;
-    'convert '*) wanted=FILES options='--format --base --token --depth --bindings --iri --prefixes --ascii --node-prefix -h|--help' ;;
+    'convert '*) wanted=FILES options='--format --base --token --depth --bindings --iri --prefixes --ascii --node-prefix --graph -h|--help' ;;
     'help '*) wanted='check show convert help' options='' ;;
     ' '*) wanted='check show convert help' options='-h|--help -V|--version' ;;
     esac

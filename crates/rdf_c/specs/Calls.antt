@@ -1,5 +1,5 @@
 -- What a call asks for, and what it answers.
-use Rattle.std.specs.Prelude.{◌≡◌, ◌≢◌, ◌⊎◌, ◌<◌, ◌++◌, ℕ, Bool, true, false, List, [], ◌∷◌, Some, length, take, drop, min}
+use Rattle.std.specs.Prelude.{◌≡◌, ◌≢◌, ◌⊎◌, ◌<◌, ◌++◌, ℕ, Bool, true, false, List, [], ◌∷◌, None, Some, length, take, drop, min}
 use Rattle.std.specs.Str.{IsUtf8, chars}
 use Rattle.rdf_iri.specs.Bindings.{FailsAt, IsReadFrom}
 use Rattle.rdf_iri.specs.Limits.{InRange, Sizes}
@@ -36,6 +36,7 @@ pub record AsksFor (request : Request) (base_text prefixes word_text : List ℕ)
   pub bindings : IsReadFrom job.limits prefixes (record { bindings = job.bindings; limits = job.limits })
   pub escapes : request.ascii ≡ number_of_escapes job.escapes
   pub word : job.node_prefix ≡ chars word_text
+  pub graph : job.graph ≡ None
   pub limits : job.limits ≡ sizes_of request
   pub range : InRange job.limits
   pub fits : BaseFits job.base job.limits

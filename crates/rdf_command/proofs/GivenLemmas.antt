@@ -13,8 +13,8 @@ use Rattle.clap.proofs.WalkLemmas.{first_value-rows}
 use Rattle.rdf_stream.specs.declared.form.Form.{Form}
 use Rattle.rdf_command.specs.declared.task.Document.{Document}
 use Rattle.rdf_command.specs.declared.task.WordsFault.{WordsFault}
-use Rattle.rdf_command.specs.declared.task.WordsFault.TheVariants.{Usage, BadBase, BadNodePrefix, NoFormat, Memory}
-use Rattle.rdf_command.specs.Words.{AreDocuments, Entered, GivesNone, IsFormBy, IsFormless, NoBaseOf, NoFormOf, NoFormsOf, NoTaskBy, NoWordOf, fault_by, further_by, further_of, name_by, number_of}
+use Rattle.rdf_command.specs.declared.task.WordsFault.TheVariants.{Usage, BadBase, BadNodePrefix, BadGraph, NoFormat, Memory}
+use Rattle.rdf_command.specs.Words.{AreDocuments, Entered, GivesNone, IsFormBy, IsFormless, NoBaseOf, NoFormOf, NoFormsOf, NoGraphOf, NoTaskBy, NoWordOf, fault_by, further_by, further_of, name_by, number_of}
 
 -- what is there is not none
 some≢none : {X : Type 0} (x : X) → None ≡ Some x → ⊥
@@ -82,6 +82,7 @@ pub refused_by : (a : App) (words : List Text) (p : Entered) (fault : WordsFault
 refused_by a words p (Usage e) none is h = absurd h
 refused_by a words p BadBase none is h = record { entered = p; taken = none; matches = is; holds = h }
 refused_by a words p BadNodePrefix none is h = record { entered = p; taken = none; matches = is; holds = h }
+refused_by a words p BadGraph none is h = record { entered = p; taken = none; matches = is; holds = h }
 refused_by a words p (NoFormat name) none is h = record { entered = p; taken = none; matches = is; holds = h }
 refused_by a words p Memory none is h = tt
 
@@ -90,6 +91,7 @@ pub no_task : (p : Entered) (most : ℕ) (base : Option Text) (fault : WordsFaul
 no_task p most base (Usage e) is limit h = absurd h
 no_task p most base BadBase is limit h = (h.0, most, sym is ∙ h.1, limit, h.2)
 no_task p most base BadNodePrefix is limit h = absurd h
+no_task p most base BadGraph is limit h = absurd h
 no_task p most base (NoFormat name) is limit h = absurd h
 no_task p most base Memory is limit h = tt
 
@@ -98,8 +100,18 @@ pub no_word : (p : Entered) (word : Option Text) (fault : WordsFault) → word �
 no_word p word (Usage e) is h = absurd h
 no_word p word BadBase is h = absurd h
 no_word p word BadNodePrefix is h = (h.0, sym is ∙ h.1, h.2)
+no_word p word BadGraph is h = absurd h
 no_word p word (NoFormat name) is h = absurd h
 no_word p word Memory is h = tt
+
+-- a graph that is none is the graph of the matches
+pub no_graph : (p : Entered) (most : ℕ) (graph : Option Text) (fault : WordsFault) → graph ≡ first_of (codes "graph") p.1 → number_of (codes "iri") p.1 ≡ Some most → NoGraphOf most graph fault → NoTaskBy p fault
+no_graph p most graph (Usage e) is limit h = absurd h
+no_graph p most graph BadBase is limit h = absurd h
+no_graph p most graph BadNodePrefix is limit h = absurd h
+no_graph p most graph BadGraph is limit h = (h.0, most, sym is ∙ h.1, limit, h.2)
+no_graph p most graph (NoFormat name) is limit h = absurd h
+no_graph p most graph Memory is limit h = tt
 
 -- a first document without a format is that of the matches
 pub no_form : (p : Entered) (word : Text) (first : Option Text) (fault : WordsFault) → first_of (codes "format") p.1 ≡ Some word → first ≡ first_of (codes "file") p.1
@@ -107,6 +119,7 @@ pub no_form : (p : Entered) (word : Text) (first : Option Text) (fault : WordsFa
 no_form p word first (Usage e) given is h = absurd h
 no_form p word first BadBase given is h = absurd h
 no_form p word first BadNodePrefix given is h = absurd h
+no_form p word first BadGraph given is h = absurd h
 no_form p word first (NoFormat at) given is h =
     record { word = word; given = given; formless = subst (IsFormless word) (sym h.0) h.1; named = inl (h.0 ∙ ap name_by is) }
 no_form p word first Memory given is h = tt
@@ -117,6 +130,7 @@ pub no_forms : (p : Entered) (word : Text) (more : List Text) (fault : WordsFaul
 no_forms p word more (Usage e) given is h = absurd h
 no_forms p word more BadBase given is h = absurd h
 no_forms p word more BadNodePrefix given is h = absurd h
+no_forms p word more BadGraph given is h = absurd h
 no_forms p word more (NoFormat at) given is h =
     record { word = word; given = given; formless = h.0; named = inr (h.1.0, h.1.1, sym is ∙ h.1.2) }
 no_forms p word more Memory given is h = tt
@@ -128,6 +142,7 @@ pub formless_among : (word name : Text) (front rest names : List Text) (fault : 
 formless_among word name front rest names (Usage e) is h = absurd h
 formless_among word name front rest names BadBase is h = absurd h
 formless_among word name front rest names BadNodePrefix is h = absurd h
+formless_among word name front rest names BadGraph is h = absurd h
 formless_among word name front rest names (NoFormat at) is h = (subst (IsFormless word) (sym h.0) h.1, (front, rest, is ∙ ap (λ n. front ++ n ∷ rest) (sym h.0)))
 formless_among word name front rest names Memory is h = tt
 

@@ -26,7 +26,7 @@ use Rattle.rdf_command.specs.Statuses.{ReportsLoad, ReportsFault, load_status, s
 
 -- the job that a task asks for, with these bindings
 abbrev pub job_of : Task → List (List ℕ × List ℕ) → JobRead
-job_of t bindings = record { form = t.form; base = t.base; bindings = bindings; escapes = t.escapes; node_prefix = word_of t.node_prefix; limits = t.limits }
+job_of t bindings = record { form = t.form; base = t.base; bindings = bindings; escapes = t.escapes; node_prefix = word_of t.node_prefix; graph = t.graph; limits = t.limits }
 
 -- The claim holds of the bytes that the output held and of what it tells now, and of the same of the error output.
 abbrev pub AsWritten : {O E : Type 0} → (Option (List ℕ) → Written → Option (List ℕ) → Written → Type 0)

@@ -42,7 +42,7 @@ BindsNotFrom fault sizes (Some bytes) = BindsNot fault sizes bytes
 -- the job of one document: what is written of quads has no say in a check
 abbrev pub check_job : Shared → Form → List (List ℕ × List ℕ) → JobRead
 check_job shared form bindings =
-    record { form = form; base = shared.base; bindings = bindings; escapes = Plain; node_prefix = []; limits = shared.limits }
+    record { form = form; base = shared.base; bindings = bindings; escapes = Plain; node_prefix = []; graph = None; limits = shared.limits }
 
 -- The job is that of a document of this format, with the bindings of the bytes.
 abbrev pub IsCheckJob : Shared → Form → JobRead → Type 0

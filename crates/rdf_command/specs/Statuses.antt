@@ -73,6 +73,7 @@ abbrev pub RefusesWords : WordsFault → ℕ → Option (List ℕ) → Option (L
 RefusesWords (words.Usage e) status old new failed = IsUsageStatus (kind_of e) status
 RefusesWords words.BadBase status old new failed = (status ≡ 2) × Reports (codes "rdfconv: bad base\n") old new failed
 RefusesWords words.BadNodePrefix status old new failed = (status ≡ 2) × Reports (codes "rdfconv: bad node prefix\n") old new failed
+RefusesWords words.BadGraph status old new failed = (status ≡ 2) × Reports (codes "rdfconv: bad graph\n") old new failed
 RefusesWords (words.NoFormat name) status old new failed = (status ≡ 2) × (Reports (no_format_text (string_bytes name)) old new failed ⊎ (new ≡ old))
 RefusesWords words.Memory status old new failed = (status ≡ 4) × Reports (report_text Memory) old new failed
 

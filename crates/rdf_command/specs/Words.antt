@@ -23,7 +23,7 @@ use Rattle.rdf_command.specs.declared.task.Action.TheVariants.{Check, Show, Conv
 use Rattle.rdf_command.specs.declared.task.Document.{Document}
 use Rattle.rdf_command.specs.declared.task.Task.{Task}
 use Rattle.rdf_command.specs.declared.task.WordsFault.{WordsFault}
-use Rattle.rdf_command.specs.declared.task.WordsFault.TheVariants.{Usage, BadBase, BadNodePrefix, NoFormat, Memory}
+use Rattle.rdf_command.specs.declared.task.WordsFault.TheVariants.{Usage, BadBase, BadNodePrefix, BadGraph, NoFormat, Memory}
 
 -- ---- names
 
@@ -159,6 +159,8 @@ pub record IsTaskBy (p : Entered) (t : Task) : Type 0 where
   pub escapes : t.escapes ≡ escapes_by (first_of (codes "ascii") p.1)
   pub node_prefix : t.node_prefix ≡ option_map chars (first_of (codes "node-prefix") p.1)
   pub good_node_prefix : IfSome (first_of (codes "node-prefix") p.1) IsWord
+  pub graph : t.graph ≡ option_map chars (first_of (codes "graph") p.1)
+  pub good_graph : IfSome (first_of (codes "graph") p.1) (IsBase t.limits.iri)
   pub prefixes : option_map string_bytes t.prefixes ≡ first_of (codes "prefixes") p.1
   pub file : option_map string_bytes t.file ≡ file_by (first_of (codes "file") p.1)
 
@@ -170,6 +172,11 @@ HasBadBase p = (text : Text) × (most : ℕ) × (first_of (codes "base") p.1 ≡
 -- the text of --node-prefix among the matches is no such word
 abbrev pub HasBadNodePrefix : Entered → Type 0
 HasBadNodePrefix p = (text : Text) × (first_of (codes "node-prefix") p.1 ≡ Some text) × (IsWord text → ⊥)
+
+-- the graph among the matches is no IRI, or too long
+abbrev pub HasBadGraph : Entered → Type 0
+HasBadGraph p = (text : Text) × (most : ℕ) × (first_of (codes "graph") p.1 ≡ Some text)
+    × (number_of (codes "iri") p.1 ≡ Some most) × (IsBase most text → ⊥)
 
 -- a document of this name has no format by the value of --format: it is to be the one that the name ends in, and it ends in none
 abbrev pub IsFormless : Text → Text → Type 0
@@ -188,6 +195,7 @@ abbrev pub NoFormOf : Text → Text → WordsFault → Type 0
 NoFormOf word name (Usage e) = ⊥
 NoFormOf word name BadBase = ⊥
 NoFormOf word name BadNodePrefix = ⊥
+NoFormOf word name BadGraph = ⊥
 NoFormOf word name (NoFormat at) = (string_bytes at ≡ name) × IsFormless word name
 NoFormOf word name Memory = Unit
 
@@ -196,6 +204,7 @@ abbrev pub NoFormsOf : Text → List Text → WordsFault → Type 0
 NoFormsOf word names (Usage e) = ⊥
 NoFormsOf word names BadBase = ⊥
 NoFormsOf word names BadNodePrefix = ⊥
+NoFormsOf word names BadGraph = ⊥
 NoFormsOf word names (NoFormat at) = IsFormless word (string_bytes at) × ((front rest : List Text) × (names ≡ front ++ string_bytes at ∷ rest))
 NoFormsOf word names Memory = Unit
 
@@ -204,6 +213,7 @@ abbrev pub NoBaseOf : ℕ → Option Text → WordsFault → Type 0
 NoBaseOf most base (Usage e) = ⊥
 NoBaseOf most base BadBase = (text : Text) × (base ≡ Some text) × (IsBase most text → ⊥)
 NoBaseOf most base BadNodePrefix = ⊥
+NoBaseOf most base BadGraph = ⊥
 NoBaseOf most base (NoFormat at) = ⊥
 NoBaseOf most base Memory = Unit
 
@@ -212,14 +222,25 @@ abbrev pub NoWordOf : Option Text → WordsFault → Type 0
 NoWordOf word (Usage e) = ⊥
 NoWordOf word BadBase = ⊥
 NoWordOf word BadNodePrefix = (text : Text) × (word ≡ Some text) × (IsWord text → ⊥)
+NoWordOf word BadGraph = ⊥
 NoWordOf word (NoFormat at) = ⊥
 NoWordOf word Memory = Unit
+
+-- why a text gives no graph
+abbrev pub NoGraphOf : ℕ → Option Text → WordsFault → Type 0
+NoGraphOf most graph (Usage e) = ⊥
+NoGraphOf most graph BadBase = ⊥
+NoGraphOf most graph BadNodePrefix = ⊥
+NoGraphOf most graph BadGraph = (text : Text) × (graph ≡ Some text) × (IsBase most text → ⊥)
+NoGraphOf most graph (NoFormat at) = ⊥
+NoGraphOf most graph Memory = Unit
 
 -- why matches give no task
 abbrev pub NoTaskBy : Entered → WordsFault → Type 0
 NoTaskBy p (Usage e) = ⊥
 NoTaskBy p BadBase = HasBadBase p
 NoTaskBy p BadNodePrefix = HasBadNodePrefix p
+NoTaskBy p BadGraph = HasBadGraph p
 NoTaskBy p (NoFormat name) = HasFormless p (string_bytes name)
 NoTaskBy p Memory = Unit
 
@@ -238,12 +259,13 @@ pub record Gives (a : App) (words : List Text) (P : Entered → Type 0) : Type 0
 abbrev pub GivesTask : App → List Text → Task → Type 0
 GivesTask a words t = Gives a words (λ p. IsTaskBy p t)
 
--- Why the words give no task: clap's definition refuses them, or asks for help, with a kind that it names; or the base or the word for names is bad, or
--- a document has no format.
+-- Why the words give no task: clap's definition refuses them, or asks for help, with a kind that it names; or the base, the word for names or the
+-- graph is bad, or a document has no format.
 abbrev pub GivesNone : App → List Text → WordsFault → Type 0
 GivesNone a words (Usage e) = (kind_of e ≢ OutOfMemory) × IsAmong (kind_of e) (fault_of a words)
 GivesNone a words BadBase = Gives a words HasBadBase
 GivesNone a words BadNodePrefix = Gives a words HasBadNodePrefix
+GivesNone a words BadGraph = Gives a words HasBadGraph
 GivesNone a words (NoFormat name) = Gives a words (λ p. HasFormless p (string_bytes name))
 GivesNone a words Memory = Unit
 
@@ -257,5 +279,6 @@ abbrev pub IsUsageOf : ErrorKind → WordsFault → Type 0
 IsUsageOf kind (Usage e) = kind_of e ≡ kind
 IsUsageOf kind BadBase = ⊥
 IsUsageOf kind BadNodePrefix = ⊥
+IsUsageOf kind BadGraph = ⊥
 IsUsageOf kind (NoFormat name) = ⊥
 IsUsageOf kind Memory = Unit

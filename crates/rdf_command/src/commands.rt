@@ -1,6 +1,7 @@
 // The task that the words of the command line ask for.
 
 ghost use Rattle.std.specs.Prelude.{◌≡◌, ◌⊎◌, ◌<◌, ◌≤◌, ◌^◌, IfErr, IfOk, IfSome, OnOk, Some, Option, chars, codes, cond, map, option_map, string_bytes, ℕ, List};
+ghost use Rattle.std.specs.Result.{IsErrOf};
 ghost use Rattle.clap.specs.Words.{App, Text, all_of, first_of, found_of, kind_of, rows_of, subcommand_rows_of};
 ghost use Rattle.clap.specs.declared.builder.value_parser.ValueParser.{ValueParser};
 ghost use Rattle.clap.specs.declared.builder.value_parser.ValueParser.TheVariants.{Names};
@@ -9,7 +10,7 @@ ghost use Rattle.rdf_lines.specs.declared.form.Escapes.TheVariants.{Ascii, Plain
 ghost use Rattle.rdf_iri.specs.Texts.{byte_len};
 ghost use Rattle.rdf_options.specs.Options.{rdfconv};
 ghost use Rattle.rdf_command.specs.Programs.{IsTaskOf, IsNoTaskOf};
-ghost use Rattle.rdf_command.specs.Words.{Entered, GivesNone, GivesTask, HasLimits, HasNumber, HasSizes, IsBase, IsEntered, IsTaskBy, IsUsageOf, IsWord, NoBaseOf, NoFormOf, NoFormsOf, NoTaskBy, NoWordOf, TakesFormats, AreDocuments, IsFormBy, IsFormatWord, escapes_by, file_by, format_names, further_by, further_of, name_by, number_of};
+ghost use Rattle.rdf_command.specs.Words.{Entered, GivesNone, GivesTask, HasLimits, HasNumber, HasSizes, IsBase, IsEntered, IsTaskBy, IsUsageOf, IsWord, NoBaseOf, NoFormOf, NoFormsOf, NoGraphOf, NoTaskBy, NoWordOf, TakesFormats, AreDocuments, IsFormBy, IsFormatWord, escapes_by, file_by, format_names, further_by, further_of, name_by, number_of};
 
 use crate::names::{FORMATS, action_of, form_by};
 use crate::task::{Document, Task, WordsFault};
@@ -78,6 +79,7 @@ fn task_of(alloc: Global, name: &str, found: &ArgMatches<'_>) -> Result<Task, Wo
     let base = base_of(alloc, found.get_str("base"), limits.iri())?;
     let escapes = escapes_by(found.get_str("ascii"));
     let node_prefix = node_prefix_of(alloc, found.get_str("node-prefix"))?;
+    let graph = graph_of(alloc, found.get_str("graph"), limits.iri())?;
     let prefixes = owned(alloc, found.get_str("prefixes"))?;
     let file = owned(alloc, file_by(found.get_str("file")))?;
     let more = documents_of(alloc, word, further_by(name, found.get_strs("file")))?;
@@ -88,6 +90,7 @@ fn task_of(alloc: Global, name: &str, found: &ArgMatches<'_>) -> Result<Task, Wo
         limits,
         escapes,
         node_prefix,
+        graph,
         prefixes,
         file,
         more,
@@ -226,12 +229,45 @@ fn base_within(alloc: Global, text: &str, most: u64) -> Result<Iri, WordsFault>
     ensures fits { IfOk result (λ base. byte_len base ≤ most) }
     ensures bad { IfErr result (NoBaseOf most (Some text.now)) }
 {
-    if text.len() as u64 > most {
-        return Err(WordsFault::BadBase);
-    }
-    match Iri::new(alloc, text) {
+    match iri_within(alloc, text, most) {
         Ok(base) => Ok(base),
         Err(TermFault::BadTerm) => Err(WordsFault::BadBase),
+        Err(TermFault::Memory) => Err(WordsFault::Memory),
+    }
+}
+
+// The IRI of a text of at most so many bytes.
+fn iri_within(alloc: Global, text: &str, most: u64) -> Result<Iri, TermFault>
+    ensures iri { IfOk result (λ iri. iri ≡ chars text.now) }
+    ensures good { OnOk result (IsBase most text.now) }
+    ensures fits { IfOk result (λ iri. byte_len iri ≤ most) }
+    ensures bad { IsErrOf result TermFault.BadTerm → ¬ IsBase most text.now }
+{
+    if text.len() as u64 > most {
+        return Err(TermFault::BadTerm);
+    }
+    Iri::new(alloc, text)
+}
+
+fn graph_of(alloc: Global, text: Option<&str>, most: u64) -> Result<Option<Iri>, WordsFault>
+    ensures graph { IfOk result (λ graph. graph ≡ option_map chars (option_map (λ s. s.now) text.entry)) }
+    ensures good { OnOk result (IfSome (option_map (λ s. s.now) text.entry) (IsBase most)) }
+    ensures bad { IfErr result (NoGraphOf most (option_map (λ s. s.now) text.entry)) }
+{
+    match text {
+        Some(text) => Ok(Some(graph_within(alloc, text, most)?)),
+        None => Ok(None),
+    }
+}
+
+fn graph_within(alloc: Global, text: &str, most: u64) -> Result<Iri, WordsFault>
+    ensures graph { IfOk result (λ graph. graph ≡ chars text.now) }
+    ensures good { OnOk result (IsBase most text.now) }
+    ensures bad { IfErr result (NoGraphOf most (Some text.now)) }
+{
+    match iri_within(alloc, text, most) {
+        Ok(graph) => Ok(graph),
+        Err(TermFault::BadTerm) => Err(WordsFault::BadGraph),
         Err(TermFault::Memory) => Err(WordsFault::Memory),
     }
 }

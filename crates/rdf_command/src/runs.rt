@@ -1,6 +1,6 @@
 // A run, its status, and what it reports.
 
-ghost use Rattle.std.specs.Prelude.{◌≡◌, ◌++◌, ℕ, List, [], false, true, codes, decimal, IfErr, IfOk, IfSome, OnErr, OnOk, is_err, option_map};
+ghost use Rattle.std.specs.Prelude.{◌≡◌, ◌++◌, ℕ, List, [], None, false, true, codes, decimal, IfErr, IfOk, IfSome, OnErr, OnOk, is_err, option_map};
 ghost use Rattle.std.specs.Io.KnownBytes.{Appends};
 ghost use Rattle.rdf_iri.specs.Scope.{BaseFits};
 ghost use Rattle.rdf_stream.specs.Devices.{AppendsFront};
@@ -15,7 +15,7 @@ use crate::task::{Action, Task, WordsFault};
 use clap::Error;
 use itoa::Buffer;
 use rdf_stream::{
-    Drain, Failed, Job, LoadFault, NodePrefix, Source, StreamFault, Summary, check, convert,
+    Drain, Failed, Iri, Job, LoadFault, NodePrefix, Source, StreamFault, Summary, check, convert,
     load_bindings, out_of_memory, put_all, read_failed, report, show, write_failed,
 };
 use std::alloc::{AllocError, Global};
@@ -79,11 +79,12 @@ fn job_of<I: Source>(alloc: Global, task: Task, prefixes: &mut Option<I>) -> Res
 // What a task asks for, without bindings.
 fn bare_job(task: Task) -> Job
     requires { BaseFits task.base task.limits }
-    ensures { result ≡ record { form = task.form; base = task.base; bindings = []; escapes = task.escapes; node_prefix = word_of task.node_prefix; limits = task.limits } }
+    ensures { result ≡ record { form = task.form; base = task.base; bindings = []; escapes = task.escapes; node_prefix = word_of task.node_prefix; graph = task.graph; limits = task.limits } }
 {
     let job = Job::new(task.form, task.base, task.limits).unwrap();
     let job = job.with_escapes(task.escapes);
-    named(job, task.node_prefix)
+    let job = named(job, task.node_prefix);
+    placed(job, task.graph)
 }
 
 // The job with the task's word in front of the names of nodes, where it has one.
@@ -93,6 +94,17 @@ fn named(job: Job, prefix: Option<NodePrefix>) -> Job
 {
     match prefix {
         Some(prefix) => job.with_node_prefix(prefix),
+        None => job,
+    }
+}
+
+// The job with the task's graph for quads of the default graph, where it has one.
+fn placed(job: Job, graph: Option<Iri>) -> Job
+    requires { job.graph ≡ None }
+    ensures { result ≡ record job { graph = graph } }
+{
+    match graph {
+        Some(graph) => job.with_graph(graph),
         None => job,
     }
 }
@@ -366,6 +378,10 @@ pub fn refuse_words<O: Drain, E: Drain>(
         }
         WordsFault::BadNodePrefix => {
             tell("rdfconv: bad node prefix\n", err);
+            2
+        }
+        WordsFault::BadGraph => {
+            tell("rdfconv: bad graph\n", err);
             2
         }
         WordsFault::NoFormat(name) => {

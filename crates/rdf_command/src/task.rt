@@ -45,6 +45,8 @@ pub struct Task {
     pub escapes: Escapes,
     /// The word in front of the names of nodes in the lines of quads, or None where there is none.
     pub node_prefix: Option<NodePrefix>,
+    /// The graph in which quads of the default graph are written, or None where they stay there.
+    pub graph: Option<Iri>,
     /// The file of the prefixes that are bound before the document, or None where none are.
     pub prefixes: Option<String>,
     /// The file that is read, or None for standard input.
@@ -62,6 +64,8 @@ pub enum WordsFault {
     BadBase,
     /// The word for the names of nodes is empty, or has another character than ASCII letters and digits.
     BadNodePrefix,
+    /// The graph is no IRI, or has more bytes than an IRI may have.
+    BadGraph,
     /// The format is to be the one that a document's name ends in, and this name ends in none.
     NoFormat(String),
     /// A growth of memory was refused.

@@ -29,7 +29,7 @@ use Rattle.rdf_lines.proofs.PlainQuads.{plain_quads}
 use Rattle.rdf_lines.specs.Lines as L
 use Rattle.rdf_lines.specs.Documents.{Passes, in_lines}
 use Rattle.rdf_lines.specs.NodePrefixes.{Form}
-use Rattle.rdf_lines.specs.Writing.{uchar, written, escaped, iri_text, subject_text, string_text, rename_subject, rename_term, rename}
+use Rattle.rdf_lines.specs.Writing.{uchar, written, escaped, iri_text, subject_text, string_text, rename_subject, rename_term, rename, Writable}
 use Rattle.rdf_lines.specs.Laws.{string_width, iri_width, WrittenDocumentIsRead, PrefixedDocumentIsRead, SubjectWithin, TermWithin, GraphWithin, IrisWithin, TermShort, GraphShort, TokensWithin}
 use Rattle.rdf_lines.proofs.LinesLemmas.{without_marks}
 use Rattle.rdf_lines.proofs.UcharLemmas.{written_cases, uchar_cases}
@@ -235,17 +235,33 @@ document_fits x form limit n bytes qs document whole token_then iri_then a b c d
     let here = subst (AllByRecursion (Good x limit n token_then iri_then a b c d e)) tokens g in
     subst (AllByRecursion (Fits x limit n token_then iri_then a b c d e)) same (tree_fits x limit n token_then iri_then a b c d e tree here)
 
+-- the quads of a document, and the limits that suffice
+pub record Fitting (x : Escapes) (qs : List Quad) (token_then iri_then : ℕ) : Type 0 where
+  pub writable : Writable Kept qs
+  pub least : 2 ≤ token_then
+  pub shorts : AllByRecursion (TokensWithin x token_then) (map (rename Kept) qs)
+  pub iris : AllByRecursion (IrisWithin iri_then) qs
+
+pub fitting : (x : Escapes) (form : LineForm) (limit n : ℕ) (bytes : List ℕ) (qs : List Quad) → IsDocumentOf (in_lines form limit n) bytes qs → IsWhole (in_lines form limit n) bytes →
+    (token_then iri_then : ℕ) → string_width x * limit ≤ token_then → iri_width x * n + 2 ≤ token_then → 64 ≤ token_then → n ≤ iri_then → 64 ≤ iri_then → Fitting x qs token_then iri_then
+fitting x form limit n bytes qs document whole token_then iri_then a b c d e =
+    let fits = document_fits x form limit n bytes qs document whole token_then iri_then a b c d e in
+    record {
+      writable = document_writable form limit n bytes qs document;
+      least = omega arith;
+      shorts = shorts x limit n token_then iri_then a b c d e qs fits;
+      iris = iris x limit n token_then iri_then a b c d e qs fits;
+    }
+
 -- the law that what was written is read to its end
 pub document_read_back : WrittenDocumentIsRead
 document_read_back x form limit n bytes qs document whole token_then iri_then a b c d e =
-    let fits = document_fits x form limit n bytes qs document whole token_then iri_then a b c d e in
-    let short = shorts x limit n token_then iri_then a b c d e qs fits in
-    text_read Kept x qs token_then iri_then (document_writable form limit n bytes qs document) (let h : 2 ≤ token_then = omega arith in h) short (iris x limit n token_then iri_then a b c d e qs fits)
+    let fits = fitting x form limit n bytes qs document whole token_then iri_then a b c d e in
+    text_read Kept x qs token_then iri_then fits.writable fits.least fits.shorts fits.iris
 
 -- and with a word in front of the names
 pub form_document_read : PrefixedDocumentIsRead
 form_document_read x p form limit n bytes qs word document whole token_then iri_then a b c d e =
-    let fits = document_fits x form limit n bytes qs document whole token_then iri_then a b c d e in
+    let fits = fitting x form limit n bytes qs document whole token_then iri_then a b c d e in
     let f : Form = record { style = Kept; escapes = x; prefix = p } in
-    let short = shorts x limit n token_then iri_then a b c d e qs fits in
-    form_text_read f qs token_then iri_then word (document_writable form limit n bytes qs document) (let h : 2 ≤ token_then = omega arith in h) short (iris x limit n token_then iri_then a b c d e qs fits)
+    form_text_read f qs token_then iri_then word fits.writable fits.least fits.shorts fits.iris

@@ -81,10 +81,18 @@ node_prefix_rule = record (new_rule (codes "node-prefix")) { long = Some (codes 
 abbrev pub with_node_prefix : App → App
 with_node_prefix a = with_rule a node_prefix_rule
 
+-- the graph of quads of the default graph; there is none unless it is given
+abbrev pub graph_rule : Rule
+graph_rule = record (new_rule (codes "graph")) { long = Some (codes "graph"); action = Some Set; value_names = 1 }
+
+-- a subcommand that writes quads in a graph too
+abbrev pub with_graph : App → App
+with_graph a = with_rule a graph_rule
+
 -- the program's command line
 abbrev pub rdfconv : ValueParser → App
 rdfconv names = with_subcommand (with_subcommand (with_subcommand
     (on_top (λ s. record s { subcommand_required = true; has_version = true }) (new_app (codes "rdfconv")))
     (with_prefixes (action_app names files_rule (codes "check"))).top)
     (action_app names file_rule (codes "show")).top)
-    (with_node_prefix (with_ascii (with_prefixes (action_app names file_rule (codes "convert"))))).top
+    (with_graph (with_node_prefix (with_ascii (with_prefixes (action_app names file_rule (codes "convert")))))).top

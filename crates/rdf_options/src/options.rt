@@ -4,7 +4,7 @@ ghost use Rattle.std.specs.Prelude.{◌≡◌, IfOk, codes};
 ghost use Rattle.clap.specs.Words.{App, Rule, app_of, with_subcommand};
 ghost use Rattle.clap.specs.declared.builder.value_parser.ValueParser.TheVariants.{Names};
 ghost use Rattle.rdf_options.specs.Building.{HasRule, ReadsAs};
-ghost use Rattle.rdf_options.specs.Options.{action_app, ascii_rule, base_rule, bindings_rule, depth_rule, file_rule, files_rule, format_rule, iri_rule, limit_rule, node_prefix_rule, prefixes_rule, rdfconv, token_rule, with_ascii, with_node_prefix, with_prefixes};
+ghost use Rattle.rdf_options.specs.Options.{action_app, ascii_rule, base_rule, bindings_rule, depth_rule, file_rule, files_rule, format_rule, graph_rule, iri_rule, limit_rule, node_prefix_rule, prefixes_rule, rdfconv, token_rule, with_ascii, with_graph, with_node_prefix, with_prefixes};
 
 use clap::builder::ValueParser;
 use clap::{Arg, ArgAction, Command};
@@ -40,15 +40,17 @@ Options of a command, which reads FILE, or standard input where there is none or
   --node-prefix WORD
                    (convert) WORD, of ASCII letters and digits, in front of the label of each
                    blank node, so that outputs with different words of one length can be joined
+  --graph IRI      (convert) absolute IRI of a graph, at most --iri bytes, in which quads of the
+                   default graph are written; those of other graphs stay in theirs
 Past one of the limits N a document is refused. `show` looks at tokens alone: --base, --depth,
 --bindings and --iri have no use there, but a base that is no IRI, or is too long, is reported.
 
 Exit status:
   0  accepted, or help was asked for
   1  refused, with `rdfconv: REASON at byte N, line M` on standard error
-  2  the words are no command, the base is no IRI or too long, WORD is empty or has another
-     character, a file's name ends in no format where it is asked for one, or a line of PREFIXES
-     is refused, with `rdfconv: bad prefixes at line N`
+  2  the words are no command, the base or the graph is no IRI or too long, WORD is empty or has
+     another character, a file's name ends in no format where it is asked for one, or a line of
+     PREFIXES is refused, with `rdfconv: bad prefixes at line N`
   3  a file does not open, or a read or write failed
   4  out of memory
 The status of several documents is the greatest of theirs.";
@@ -77,9 +79,9 @@ Past one of the limits N a document is refused.
 Exit status:
   0  accepted, or help was asked for
   1  refused, with `rdfconv: REASON at byte N, line M` on standard error
-  2  the words are no command, the base is no IRI or too long, WORD is empty or has another
-     character, a file's name ends in no format where it is asked for one, or a line of PREFIXES
-     is refused, with `rdfconv: bad prefixes at line N`
+  2  the words are no command, the base or the graph is no IRI or too long, WORD is empty or has
+     another character, a file's name ends in no format where it is asked for one, or a line of
+     PREFIXES is refused, with `rdfconv: bad prefixes at line N`
   3  a file does not open, or a read or write failed
   4  out of memory";
 
@@ -170,7 +172,7 @@ fn show_command<'a>(alloc: Global, formats: &'a [&'a str]) -> Result<Command<'a>
 
 // The subcommand that writes quads.
 fn convert_command<'a>(alloc: Global, formats: &'a [&'a str]) -> Result<Command<'a>, AllocError>
-    ensures { IfOk result (λ c. ReadsAs c (with_node_prefix (with_ascii (with_prefixes (action_app (Names formats.entry) file_rule (codes "convert")))))) }
+    ensures { IfOk result (λ c. ReadsAs c (with_graph (with_node_prefix (with_ascii (with_prefixes (action_app (Names formats.entry) file_rule (codes "convert"))))))) }
 {
     let about = About {
         name: "convert",
@@ -180,7 +182,8 @@ fn convert_command<'a>(alloc: Global, formats: &'a [&'a str]) -> Result<Command<
     let command = action_command(alloc, about, formats, file_argument(alloc))?;
     let command = command.arg(prefixes_option(alloc))?;
     let command = command.arg(ascii_option(alloc))?;
-    command.arg(node_prefix_option(alloc))
+    let command = command.arg(node_prefix_option(alloc))?;
+    command.arg(graph_option(alloc))
 }
 
 // A subcommand with the options that all have, and the argument of what it reads.
@@ -334,6 +337,18 @@ fn node_prefix_option<'a>(alloc: Global) -> Arg<'a>
         .action(ArgAction::Set)
         .value_name("WORD")
         .help("Word of ASCII letters and digits in front of the label of each blank node")
+}
+
+fn graph_option<'a>(alloc: Global) -> Arg<'a>
+    ensures { HasRule result graph_rule }
+{
+    Arg::new(alloc, "graph")
+        .long("graph")
+        .action(ArgAction::Set)
+        .value_name("IRI")
+        .help(
+            "Absolute IRI of the graph that quads of the default graph are written in, at most --iri bytes",
+        )
 }
 
 fn file_argument<'a>(alloc: Global) -> Arg<'a>

@@ -2,6 +2,7 @@
 pub mod WrittenParts
 pub mod WrittenSteps
 pub mod WrittenLimits
+pub mod PlacedLimits
 pub mod OfConverting
 pub mod OfWriting
 pub mod RefusedOnce

@@ -1,32 +1,73 @@
 -- What a conversion has written is read to its end, whatever its format.
-use Rattle.std.proofs.Common.{ℕ, ◌+◌, List, length, Option}
-use Rattle.rdf_tokens.specs.Grammars.{IsReadToItsEnd}
+use Rattle.std.proofs.Common.{ℕ, ◌+◌, ◌*◌, ◌≤◌, List, length, Option, Some, None, arith}
+use Rattle.std.specs.Prelude.{map, IfSome}
+use Rattle.std.specs.List.{AllByRecursion}
+use Rattle.rdf_terms.specs.Terms.{Quad}
+use Rattle.rdf_tokens.specs.Scans.{most_bytes}
+use Rattle.rdf_iri.specs.Texts.{byte_len}
+use Rattle.rdf_tokens.specs.Grammars.{IsDocumentOf, IsReadToItsEnd, IsWhole}
 use Rattle.rdf_driver.specs.declared.summary.Summary.{Summary}
 use Rattle.rdf_lines.specs.declared.form.LineForm.TheVariants.{NQuads}
 use Rattle.rdf_lines.specs.declared.form.LineForm.TheVariants as line
 use Rattle.rdf_lines.specs.Documents.{in_lines}
-use Rattle.rdf_lines.proofs.WrittenLimits.{form_document_read as lines_read}
+use Rattle.rdf_lines.specs.declared.form.LineForm.{LineForm}
+use Rattle.rdf_lines.specs.declared.form.Style.{Style}
+use Rattle.rdf_lines.specs.declared.form.Style.TheVariants.{Kept, Tagged}
+use Rattle.rdf_lines.specs.Laws.{IrisWithin, TokensWithin, iri_width}
+use Rattle.rdf_lines.specs.Writing.{Writable, iri_text, rename}
+use Rattle.rdf_lines.proofs.FormReadBack.{form_text_read}
+use Rattle.rdf_lines.proofs.WrittenLimits.{fitting as lines_fit, written_iri}
 use Rattle.rdf_stream.specs.declared.form.Form.{Form}
 use Rattle.rdf_stream.specs.declared.form.Form.TheVariants as form
+use Rattle.rdf_trig.specs.declared.form.DocForm.{DocForm}
 use Rattle.rdf_trig.specs.declared.form.DocForm.TheVariants.{Turtle, TriG}
+use Rattle.rdf_trig.specs.Language.{language}
 use Rattle.rdf_stream.specs.Converts.{Accepts, lines_of}
 use Rattle.rdf_stream.specs.Jobs.{JobRead}
 use Rattle.rdf_stream.specs.Kinds.{kind_of}
-use Rattle.rdf_stream.specs.Languages.{conversion_by, tree_job}
+use Rattle.rdf_stream.specs.Languages.{conversion_by, put_quads, tree_job, written_form}
+use Rattle.rdf_stream.specs.Graphs.{all_in_graph}
+use Rattle.rdf_stream.proofs.ConvertingLemmas.{placed_writable}
 use Rattle.rdf_read_back.specs.Laws.{ConvertedIsRead, IsJob, Suffice}
-use Rattle.rdf_read_back.proofs.WrittenLimits.{form_document_read as trees_read}
+use Rattle.rdf_read_back.proofs.PlacedLimits.{placed_iris, placed_shorts}
+use Rattle.rdf_read_back.proofs.WrittenLimits.{fitting as trees_fit}
 
 module _ (job : JobRead) (bytes : List ℕ) (old new : Option (List ℕ)) (s : Summary) (is : IsJob job) (token_then iri_then : ℕ) (l : Suffice job token_then iri_then) where
-  by_form : (f : Form) (a : Accepts (conversion_by (kind_of f) job) bytes old new s) →
-      IsReadToItsEnd (in_lines NQuads (length job.node_prefix + token_then) iri_then) (lines_of (conversion_by (kind_of f) job).form a.quads)
-  by_form form.NTriples a =
-      lines_read job.escapes job.node_prefix line.NTriples job.limits.token job.limits.iri bytes a.quads is.word a.document a.within token_then iri_then l.strings l.iris l.token l.kept l.iri
-  by_form form.NQuads a =
-      lines_read job.escapes job.node_prefix NQuads job.limits.token job.limits.iri bytes a.quads is.word a.document a.within token_then iri_then l.strings l.iris l.token l.kept l.iri
-  by_form form.Turtle a =
-      trees_read job.escapes job.node_prefix Turtle (tree_job Turtle job).start bytes a.quads is.word is.iris a.size a.document a.within token_then iri_then l.strings l.iris l.token l.kept l.iri
-  by_form form.TriG a =
-      trees_read job.escapes job.node_prefix TriG (tree_job TriG job).start bytes a.quads is.word is.iris a.size a.document a.within token_then iri_then l.strings l.iris l.token l.kept l.iri
+  -- the graph's IRI as it is written
+  graph_fits : (g : Option (List ℕ)) → IfSome g (λ i. (iri_width job.escapes * byte_len i + 2 ≤ token_then) × (byte_len i ≤ iri_then))
+      → IfSome g (λ i. length (iri_text job.escapes i) ≤ token_then) × IfSome g (λ i. byte_len i ≤ iri_then)
+  graph_fits None h = (tt, tt)
+  graph_fits (Some i) h = (omega (arith, written_iri job.escapes i, h.0), h.1)
+
+  -- lines of quads that fit, in the graph
+  read : (style : Style) (qs : List Quad) → Writable style qs → 2 ≤ token_then → AllByRecursion (TokensWithin job.escapes token_then) (map (rename style) qs)
+      → AllByRecursion (IrisWithin iri_then) qs
+      → IsReadToItsEnd (in_lines NQuads (length job.node_prefix + token_then) iri_then) (lines_of (written_form style job) (all_in_graph job.graph qs))
+  read style qs writable least shorts iris =
+      let fits = graph_fits job.graph l.graph in
+      form_text_read (written_form style job) (all_in_graph job.graph qs) token_then iri_then is.word (placed_writable style job.graph is.graph qs writable) least
+      (placed_shorts style job.escapes token_then job.graph fits.0 qs shorts) (placed_iris iri_then job.graph fits.1 qs iris)
+
+  -- those of a document of a line format
+  of_lines : (form : LineForm) (qs : List Quad) → IsDocumentOf (in_lines form job.limits.token job.limits.iri) bytes qs → IsWhole (in_lines form job.limits.token job.limits.iri) bytes
+      → IsReadToItsEnd (in_lines NQuads (length job.node_prefix + token_then) iri_then) (lines_of (written_form Kept job) (all_in_graph job.graph qs))
+  of_lines form qs document whole =
+      let fits = lines_fit job.escapes form job.limits.token job.limits.iri bytes qs document whole token_then iri_then l.strings l.iris l.token l.kept l.iri in
+      read Kept qs fits.writable fits.least fits.shorts fits.iris
+
+  -- and those of a document of Turtle or TriG
+  of_trees : (form : DocForm) (qs : List Quad) → length bytes ≤ most_bytes → IsDocumentOf (language form (tree_job form job).start) bytes qs → IsWhole (language form (tree_job form job).start) bytes
+      → IsReadToItsEnd (in_lines NQuads (length job.node_prefix + token_then) iri_then) (lines_of (written_form Tagged job) (all_in_graph job.graph qs))
+  of_trees form qs size document whole =
+      let fits = trees_fit job.escapes form (tree_job form job).start bytes qs is.iris size document whole token_then iri_then l.strings l.iris l.token l.kept l.iri in
+      read Tagged qs fits.writable fits.least fits.shorts fits.iris
+
+  by_form : (f : Form) (a : Accepts (conversion_by (kind_of f) job) bytes old new s) → let c = conversion_by (kind_of f) job in
+      IsReadToItsEnd (in_lines NQuads (length job.node_prefix + token_then) iri_then) (lines_of c.form (put_quads c a.quads))
+  by_form form.NTriples a = of_lines line.NTriples a.quads a.document a.within
+  by_form form.NQuads a = of_lines NQuads a.quads a.document a.within
+  by_form form.Turtle a = of_trees Turtle a.quads a.size a.document a.within
+  by_form form.TriG a = of_trees TriG a.quads a.size a.document a.within
 
 -- so it is for the job's format
 pub converted_read : ConvertedIsRead

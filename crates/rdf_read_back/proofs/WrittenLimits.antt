@@ -184,13 +184,13 @@ module _ (r : Room) (form : DocForm) (start : InForce) (same : r.iri ≡ start.l
       )
 
 -- the quads of a document, and the limits that suffice
-record Fitting (x : Escapes) (qs : List Quad) (token_then iri_then : ℕ) : Type 0 where
-  writable : Writable Tagged qs
-  least : 2 ≤ token_then
-  shorts : AllByRecursion (TokensWithin x token_then) (map (rename Tagged) qs)
-  iris : AllByRecursion (IrisWithin iri_then) qs
+pub record Fitting (x : Escapes) (qs : List Quad) (token_then iri_then : ℕ) : Type 0 where
+  pub writable : Writable Tagged qs
+  pub least : 2 ≤ token_then
+  pub shorts : AllByRecursion (TokensWithin x token_then) (map (rename Tagged) qs)
+  pub iris : AllByRecursion (IrisWithin iri_then) qs
 
-fitting : (x : Escapes) (form : DocForm) (start : InForce) (bytes : List ℕ) (qs : List Quad) → HasIris start → length bytes ≤ most_bytes →
+pub fitting : (x : Escapes) (form : DocForm) (start : InForce) (bytes : List ℕ) (qs : List Quad) → HasIris start → length bytes ≤ most_bytes →
     IsDocumentOf (language form start) bytes qs → IsWhole (language form start) bytes → (token_then iri_then : ℕ) →
     string_width x * start.limits.token ≤ token_then → iri_width x * start.limits.iri + 2 ≤ token_then → 64 ≤ token_then →
     start.limits.iri ≤ iri_then → 64 ≤ iri_then → Fitting x qs token_then iri_then

@@ -5,6 +5,7 @@ use Rattle.rdf_terms.specs.declared.reason.Reason.{Reason}
 use Rattle.rdf_tokens.specs.Tokens.{Place}
 use Rattle.rdf_tokens.specs.Grammars.{IsDocumentOf, IsWhole, IsReadToItsEnd, Refused}
 use Rattle.rdf_tokens.specs.Scans.{most_bytes}
+use Rattle.rdf_iri.specs.Texts.{byte_len}
 use Rattle.rdf_iri.specs.Scope.{InForce, bound_to}
 use Rattle.rdf_lines.specs.declared.form.LineForm.TheVariants.{NQuads}
 use Rattle.rdf_lines.specs.declared.form.Escapes.{Escapes}
@@ -18,7 +19,7 @@ use Rattle.rdf_trig.specs.Language.{language}
 use Rattle.rdf_driver.specs.declared.summary.Summary.{Summary}
 use Rattle.rdf_stream.specs.Converts.{Accepts, lines_of}
 use Rattle.rdf_stream.specs.Jobs.{JobRead}
-use Rattle.rdf_stream.specs.Languages.{conversion_of, language_of}
+use Rattle.rdf_stream.specs.Languages.{conversion_of, language_of, put_quads}
 
 -- the base, where there is one, and what each prefix is bound to are IRIs
 pub record HasIris (s : InForce) : Type 0 where
@@ -45,10 +46,11 @@ PrefixedDocumentIsRead = (e : Escapes) (p : List ℕ) (form : DocForm) (start : 
     start.limits.iri ≤ iri_then → 64 ≤ iri_then →
     IsReadToItsEnd (in_lines NQuads (length p + token_then) iri_then) (encode_utf8_all (text_in (record { style = Tagged; escapes = e; prefix = p }) qs))
 
--- What the types of a job's parts say: its base and its bindings are IRIs, and its word has letters and digits alone.
+-- What the types of a job's parts say: its base, its bindings and its graph are IRIs, and its word has letters and digits alone.
 pub record IsJob (job : JobRead) : Type 0 where
   pub iris : HasIris (record { base = job.base; bindings = job.bindings; limits = job.limits })
   pub word : IsNodePrefix job.node_prefix
+  pub graph : IfSome job.graph IsIri
 
 -- These limits, with the word's length more for tokens, suffice for what is written for the job.
 pub record Suffice (job : JobRead) (token_then iri_then : ℕ) : Type 0 where
@@ -57,13 +59,14 @@ pub record Suffice (job : JobRead) (token_then iri_then : ℕ) : Type 0 where
   pub token : 64 ≤ token_then
   pub kept : job.limits.iri ≤ iri_then
   pub iri : 64 ≤ iri_then
+  pub graph : IfSome job.graph (λ g. (iri_width job.escapes * byte_len g + 2 ≤ token_then) × (byte_len g ≤ iri_then))
 
--- What `convert` has written where it accepts a document, of any format, is read to its end as N-Quads. That its quads are those of the document is
--- `reads_back` of what it promises.
+-- What `convert` has written where it accepts a document, of any format, is read to its end as N-Quads. That its quads are those of the document, in the
+-- graph that was asked for, is `reads_back` of what it promises.
 abbrev pub ConvertedIsRead : Type 0
 ConvertedIsRead = (job : JobRead) (bytes : List ℕ) (old new : Option (List ℕ)) (s : Summary) → IsJob job →
     (accepted : Accepts (conversion_of job) bytes old new s) → (token_then iri_then : ℕ) → Suffice job token_then iri_then →
-    IsReadToItsEnd (in_lines NQuads (length job.node_prefix + token_then) iri_then) (lines_of (conversion_of job).form accepted.quads)
+    IsReadToItsEnd (in_lines NQuads (length job.node_prefix + token_then) iri_then) (lines_of (conversion_of job).form (put_quads (conversion_of job) accepted.quads))
 
 -- A reading of a job's document is refused for one reason, at one place.
 abbrev pub RefusedOnce : Type 0

@@ -1,6 +1,6 @@
 -- A piece more, the end, or an error within one: what the drain has then.
-use Rattle.std.proofs.Common.{◌≡◌, ◌≤◌, ◌<◌, ℕ, Bool, true, false, List, [], ◌∷◌, ◌++◌, ◌⊎◌, ◌||◌, length, take, drop, Option, refl, sym, ap, subst, ◌∙◌, append_assoc, ⊎_elim, arith}
-use Rattle.std.proofs.lemmas.List.{append-nil, take-append-drop}
+use Rattle.std.proofs.Common.{◌≡◌, ◌≤◌, ◌<◌, ℕ, Bool, true, false, List, [], ◌∷◌, ◌++◌, ◌⊎◌, ◌||◌, ◌&&◌, ◌==◌, length, take, drop, Option, None, Some, IfSome, refl, sym, ap, subst, ◌∙◌, append_assoc, ⊎_elim, arith}
+use Rattle.std.proofs.lemmas.List.{append-nil, map-id, take-append-drop}
 use Rattle.std.proofs.lemmas.Bool.{false≢true, and_parts, eqb-true}
 use Rattle.std.specs.Prelude.{encode_utf8_all}
 use Rattle.std.specs.Str.{chars}
@@ -9,7 +9,8 @@ use Rattle.std.specs.Io.KnownBytes.{Appends}
 use Rattle.std.specs.List.{AllByRecursion}
 use Rattle.rdf_terms.specs.declared.reason.Reason.{Reason}
 use Rattle.rdf_terms.specs.declared.reason.Reason.TheVariants as reason
-use Rattle.rdf_terms.specs.Terms.{Quad}
+use Rattle.rdf_terms.specs.Terms.{Quad, Subject, IsGraph, IsIri, IsQuad}
+use Rattle.rdf_terms.proofs.TermsLemmas.{IsIri-had}
 use Rattle.rdf_tokens.specs.Tokens.{Place, Token, Reading}
 use Rattle.rdf_tokens.specs.Good.{tokens_of}
 use Rattle.rdf_tokens.specs.Grammars.{BeginsDue, Due, Language, PassesNone, RefusedIn, reading_of}
@@ -24,17 +25,20 @@ use Rattle.rdf_lines.specs.declared.form.Escapes.TheVariants.{Plain, Ascii}
 use Rattle.rdf_lines.specs.declared.form.LineEnding.{LineEnding}
 use Rattle.rdf_lines.specs.declared.form.Style.{Style}
 use Rattle.rdf_lines.specs.Canonical.{written_as}
-use Rattle.rdf_lines.specs.Writing.{CanWrite, Writable}
-use Rattle.rdf_lines.specs.declared.form.WrittenForm.{WrittenForm}
+use Rattle.rdf_lines.specs.Writing.{CanWrite, CanWriteGraph, Writable}
 use Rattle.rdf_lines.specs.Forms.{form_of}
 use Rattle.rdf_lines.specs.NodePrefixes.{Form, IsNodePrefix, text_in, unprefixed}
 use Rattle.rdf_lines.proofs.NodePrefixLemmas.{IsNodePrefix-had}
 use Rattle.rdf_lines.proofs.FormReadBack.{form_ascii, form_reads_back}
 use Rattle.rdf_lines.proofs.FormsAgree.{forms_agree}
-use Rattle.rdf_stream.specs.Languages.{Conversion, conversion}
+use Rattle.rdf_stream.specs.Languages.{Conversion, Output, conversion, put_quads}
 use Rattle.rdf_stream.specs.declared.fault.StreamFault.{StreamFault}
 use Rattle.rdf_stream.specs.declared.fault.StreamFault.TheVariants as stream
 use Rattle.rdf_stream.specs.declared.line_out.LineOut.{LineOut}
+use Rattle.rdf_stream.specs.declared.output.OutputView.{OutputView}
+use Rattle.rdf_stream.specs.Graphs.{all_in_graph, in_graph, or_graph}
+use Rattle.rdf_stream.proofs.OutputLemmas.{no_graph}
+use Rattle.rdf_stream.specs.Outputs.{lines_by, output_of}
 use Rattle.rdf_stream.specs.Converting.{HandedOver, HaltsFor, HasPut, IsConverting, IsPutting, RunEnds, RunHalts, IsConvertible, Reports, ReportsFault, ReportsWrite}
 use Rattle.rdf_stream.specs.Converts.{Accepts, IsAscii, RefusesDocument, WritesDue, WritesFront, WritesSome, lines_of}
 use Rattle.rdf_stream.specs.Devices.{AppendsFront}
@@ -51,9 +55,40 @@ both_writable s [] rs p q = q
 both_writable s (x ∷ qs) rs p q = (p.0, both_writable s qs rs p.1 q)
 
 -- what is written in ASCII is so
-pub written_ascii : (f : Form) (qs : List Quad) → IsNodePrefix f.prefix → Writable f.style qs → IsAscii f qs
+written_ascii : (f : Form) (qs : List Quad) → IsNodePrefix f.prefix → Writable f.style qs → IsAscii f qs
 written_ascii f qs p w is labels =
     subst (λ (e : Escapes). AllByRecursion (λ b. b < 128) (encode_utf8_all (text_in (record { style = f.style; escapes = e; prefix = f.prefix }) qs))) (sym is) (form_ascii f.style f.prefix qs p w labels)
+
+-- an IRI is known to be one
+pub graph_had : (g : Option (List ℕ)) → ∥ IfSome g IsIri ∥₁ → IfSome g IsIri
+graph_had None h = tt
+graph_had (Some i) h = IsIri-had i h
+
+-- a label that is given where there is none is well formed and can be written, as the others are
+graph_writable : (s : Style) (i : List ℕ) → IsIri i → (g : Option Subject) → IsGraph g → CanWriteGraph s g → IsGraph (or_graph i g) × CanWriteGraph s (or_graph i g)
+graph_writable s i is None formed can = (is, tt)
+graph_writable s i is (Some g) formed can = (formed, can)
+
+-- so a quad stays well formed, and can be written
+quad_writable : (s : Style) (g : Option (List ℕ)) → IfSome g IsIri → (q : Quad) → IsQuad q × CanWrite s q → IsQuad (in_graph g q) × CanWrite s (in_graph g q)
+quad_writable s None is q p = p
+quad_writable s (Some i) is q p =
+    let (formed, can) = p in
+    let g = graph_writable s i is q.graph formed.graph can.graph in
+    (record { subject = formed.subject; predicate = formed.predicate; object = formed.object; graph = g.0 }, record { subject = can.subject; object = can.object; graph = g.1 })
+
+-- and so all of them
+pub placed_writable : (s : Style) (g : Option (List ℕ)) → IfSome g IsIri → (qs : List Quad) → Writable s qs → Writable s (all_in_graph g qs)
+placed_writable s g is [] w = tt
+placed_writable s g is (q ∷ qs) w = (quad_writable s g is q w.0, placed_writable s g is qs w.1)
+
+-- what is written of them in ASCII is so
+pub placed_ascii : (o : Output) (qs : List Quad) → IsNodePrefix o.form.prefix → IfSome o.graph IsIri → Writable o.form.style qs → IsAscii o.form (all_in_graph o.graph qs)
+placed_ascii o qs p is w = written_ascii o.form (all_in_graph o.graph qs) p (placed_writable o.form.style o.graph is qs w)
+
+-- without a graph they are the same
+pub not_placed : (qs : List Quad) → all_in_graph None qs ≡ qs
+not_placed qs = map-id qs
 
 -- what holds of all quads of two lists holds of those of the first, and of the second
 all_in_first : (P : Quad → Type 0) (qs rs : List Quad) → AllByRecursion P (qs ++ rs) → AllByRecursion P qs
@@ -113,59 +148,63 @@ module _ (l : Language) where
   begins_refused r why at ahead qs x d = begins_ahead r.tokens ahead (x.token ∷ x.after) qs x.tokens x.front.kept d
 
 -- where some text is the plain lines of quads, it is their lines in the form
-abbrev KeepsText : WrittenForm → List ℕ → Type 0
-KeepsText w text = (qs : List Quad) → text ≡ lines_of (plain w.style) qs → text ≡ lines_of (form_of w) qs
+abbrev KeepsText : OutputView → List ℕ → Type 0
+KeepsText w text = (qs : List Quad) → text ≡ lines_of (plain w.lines.style) qs → text ≡ lines_by (output_of w) qs
 
-module _ {G X D A : Type 0} (contents : D → Option (List ℕ)) (failed : D → Bool) (w : Words G X Quad) (x : X) (reader : Driven G) (bytes : List ℕ) (first lines : LineOut D A) (convertible : IsConvertible w x first.form.style)
+module _ {G X D A : Type 0} (contents : D → Option (List ℕ)) (failed : D → Bool) (w : Words G X Quad) (x : X) (reader : Driven G) (bytes : List ℕ) (first lines : LineOut D A) (convertible : IsConvertible w x first.form.lines.style)
     (o : HasPut contents failed w x reader bytes first lines) where
   abbrev l : Language
   l = in_words w x reader.scanner.limit
 
   abbrev job : Conversion
-  job = conversion w x reader.scanner.limit (form_of first.form)
+  job = conversion w x reader.scanner.limit (output_of first.form)
 
   -- the word of the form is one
-  is_word : IsNodePrefix (form_of first.form).prefix
-  is_word = IsNodePrefix-had (form_of first.form).prefix first.form.prefix.is_prefix
+  is_word : IsNodePrefix (output_of first.form).form.prefix
+  is_word = IsNodePrefix-had (output_of first.form).form.prefix first.form.lines.prefix.is_prefix
+
+  -- the graph is one
+  is_graph : IfSome (output_of first.form).graph IsIri
+  is_graph = graph_had (output_of first.form).graph first.form.graph.is_graph
 
   -- with more quads that can be written, what was put can
-  all_able : (qs : List Quad) → Writable lines.form.style qs → Writable first.form.style (o.quads ++ qs)
-  all_able qs able = both_writable first.form.style o.quads qs o.writable (subst (λ (y : WrittenForm). Writable y.style qs) o.same.form able)
+  all_able : (qs : List Quad) → Writable lines.form.lines.style qs → Writable first.form.lines.style (o.quads ++ qs)
+  all_able qs able = both_writable first.form.lines.style o.quads qs o.writable (subst (λ (y : OutputView). Writable y.lines.style qs) o.same.form able)
 
   -- their lines are ASCII where they are to be
-  all_ascii : (qs : List Quad) → Writable lines.form.style qs → IsAscii (form_of first.form) (o.quads ++ qs)
-  all_ascii qs able = written_ascii (form_of first.form) (o.quads ++ qs) is_word (all_able qs able)
+  all_ascii : (qs : List Quad) → Writable lines.form.lines.style qs → IsAscii (output_of first.form).form (put_quads job (o.quads ++ qs))
+  all_ascii qs able = placed_ascii (output_of first.form) (o.quads ++ qs) is_word is_graph (all_able qs able)
 
   -- so are those that were put
-  these_ascii : IsAscii (form_of first.form) o.quads
-  these_ascii = written_ascii (form_of first.form) o.quads is_word o.writable
+  these_ascii : IsAscii (output_of first.form).form (put_quads job o.quads)
+  these_ascii = placed_ascii (output_of first.form) o.quads is_word is_graph o.writable
 
   -- what the drain took after the bytes that it had
   abbrev Behind : LineOut D A → List Quad → List ℕ → Type 0
   Behind after qs rest = Moves (contents lines.drain.now) (contents after.drain.now) (lines.buffer.now ++ bytes_of lines.form qs) rest
 
   -- from the beginning of the run
-  from_first : (after : LineOut D A) (qs : List Quad) (rest : List ℕ) → Behind after qs rest → Moves (contents first.drain.now) (contents after.drain.now) (lines_of (form_of first.form) (o.quads ++ qs)) rest
+  from_first : (after : LineOut D A) (qs : List Quad) (rest : List ℕ) → Behind after qs rest → Moves (contents first.drain.now) (contents after.drain.now) (lines_by (output_of first.form) (o.quads ++ qs)) rest
   from_first after qs rest m =
       let styled = subst (λ s. Moves (contents lines.drain.now) (contents after.drain.now) (lines.buffer.now ++ bytes_of s qs) rest) o.same.form m in
       subst (λ b. Moves (contents first.drain.now) (contents after.drain.now) b rest) (sym (bytes_of-append first.form o.quads qs))
-      (moves_on (contents first.drain.now) (contents lines.drain.now) (contents after.drain.now) (lines_of (form_of first.form) o.quads) (bytes_of first.form qs) lines.buffer.now rest o.moves styled)
+      (moves_on (contents first.drain.now) (contents lines.drain.now) (contents after.drain.now) (lines_by (output_of first.form) o.quads) (bytes_of first.form qs) lines.buffer.now rest o.moves styled)
 
   -- a beginning of the lines was written
-  written_front : (after : LineOut D A) (ts : List Token) (qs : List Quad) (rest : List ℕ) → Writable lines.form.style qs → Behind after qs rest → Begun l ts (o.quads ++ qs) →
+  written_front : (after : LineOut D A) (ts : List Token) (qs : List Quad) (rest : List ℕ) → Writable lines.form.lines.style qs → Behind after qs rest → Begun l ts (o.quads ++ qs) →
       WritesFront job ts (contents first.drain.now) (contents after.drain.now)
   written_front after ts qs rest able m d = record {
     quads = o.quads ++ qs;
     due = d;
-    written = moves_front (contents first.drain.now) (contents after.drain.now) (lines_of (form_of first.form) (o.quads ++ qs)) rest (from_first after qs rest m);
+    written = moves_front (contents first.drain.now) (contents after.drain.now) (lines_by (output_of first.form) (o.quads ++ qs)) rest (from_first after qs rest m);
     ascii = all_ascii qs able;
   }
 
   -- all that waited was taken then
   written_all : (mid after : LineOut D A) (qs : List Quad) → Writes contents lines (bytes_of lines.form qs) mid → Appends (contents mid.drain.now) (contents after.drain.now) mid.buffer.now →
-      Appends (contents first.drain.now) (contents after.drain.now) (lines_of (form_of first.form) (o.quads ++ qs))
+      Appends (contents first.drain.now) (contents after.drain.now) (lines_by (output_of first.form) (o.quads ++ qs))
   written_all mid after qs m t =
-      moves_all (contents first.drain.now) (contents mid.drain.now) (contents after.drain.now) (lines_of (form_of first.form) (o.quads ++ qs)) mid.buffer.now (from_first mid qs mid.buffer.now m) t
+      moves_all (contents first.drain.now) (contents mid.drain.now) (contents after.drain.now) (lines_by (output_of first.form) (o.quads ++ qs)) mid.buffer.now (from_first mid qs mid.buffer.now m) t
 
   -- the drain took a beginning of what waited
   then_front : (mid after : LineOut D A) (qs : List Quad) (rest : List ℕ) → Writes contents lines (bytes_of lines.form qs) mid → Moves (contents mid.drain.now) (contents after.drain.now) mid.buffer.now rest →
@@ -182,12 +221,12 @@ module _ {G X D A : Type 0} (contents : D → Option (List ℕ)) (failed : D →
       (moves_more (contents lines.drain.now) (contents after.drain.now) (lines.buffer.now ++ bytes_of lines.form done) (bytes_of lines.form later) rest m)
 
   -- quads that are due can be written
-  styled : (ts : List Token) (qs rest : List Quad) → Due (w.documents x) ts ((o.quads ++ qs) ++ rest) → AllByRecursion (CanWrite lines.form.style) qs
+  styled : (ts : List Token) (qs rest : List Quad) → Due (w.documents x) ts ((o.quads ++ qs) ++ rest) → AllByRecursion (CanWrite lines.form.lines.style) qs
   styled ts qs rest d =
-      subst (λ (f : WrittenForm). AllByRecursion (CanWrite f.style) qs) (sym o.same.form)
-      (all_in_last (CanWrite first.form.style) o.quads qs (all_in_first (CanWrite first.form.style) (o.quads ++ qs) rest (convertible.can_write ts ((o.quads ++ qs) ++ rest) d)))
+      subst (λ (f : OutputView). AllByRecursion (CanWrite f.lines.style) qs) (sym o.same.form)
+      (all_in_last (CanWrite first.form.lines.style) o.quads qs (all_in_first (CanWrite first.form.lines.style) (o.quads ++ qs) rest (convertible.can_write ts ((o.quads ++ qs) ++ rest) d)))
 
-  styled_all : (ts : List Token) (qs : List Quad) → Due (w.documents x) ts (o.quads ++ qs) → AllByRecursion (CanWrite lines.form.style) qs
+  styled_all : (ts : List Token) (qs : List Quad) → Due (w.documents x) ts (o.quads ++ qs) → AllByRecursion (CanWrite lines.form.lines.style) qs
   styled_all ts qs d = styled ts qs [] (subst (Due (w.documents x) ts) (sym (append-nil (o.quads ++ qs))) d)
 
   -- ---- an error of the reader: some quads were tried, and they are due
@@ -198,7 +237,7 @@ module _ {G X D A : Type 0} (contents : D → Option (List ℕ)) (failed : D →
     pub due : Begun l ts (o.quads ++ more)
 
   -- they can all be written
-  left_able : (ts : List Token) (mid : LineOut D A) (h : LeftOff ts mid) → Writable lines.form.style h.more
+  left_able : (ts : List Token) (mid : LineOut D A) (h : LeftOff ts mid) → Writable lines.form.lines.style h.more
   left_able ts mid h = h.tries.writable (styled h.due.ahead h.more h.due.rest h.due.due)
 
   leaves_off : (readings : List ℕ → Reading) (mid : LineOut D A) → LeavesOff w (Takes contents failed) (Leaves contents failed) reader lines readings mid → LeftOff (readings bytes).tokens mid
@@ -227,7 +266,7 @@ module _ {G X D A : Type 0} (contents : D → Option (List ℕ)) (failed : D →
         quads = o.quads ++ done;
         due = begins_less l ts (o.quads ++ done) later (subst (Begun l ts) (ap (λ qs. o.quads ++ qs) split ∙ sym (append_assoc o.quads done later)) h.due);
         written = written_all mid after done writes t.taken;
-        ascii = all_ascii done (writable_in_first lines.form.style done later (subst (Writable lines.form.style) split (left_able ts mid h)));
+        ascii = all_ascii done (writable_in_first lines.form.lines.style done later (subst (Writable lines.form.lines.style) split (left_able ts mid h)));
       }
 
   -- what was refused
@@ -377,13 +416,13 @@ module _ {G X D A : Type 0} (contents : D → Option (List ℕ)) (failed : D →
         (convertible.lawful.kept reader'.grammar x (reading_of now' (bytes ++ part) false).tokens (o.quads ++ more) read'.reached) due')
 
     -- the lines of more quads were put
-    more_put : (mid : LineOut D A) → SameOut lines mid → Writable first.form.style more → Writes contents lines (bytes_of lines.form more) mid → failed mid.drain.now ≡ false →
+    more_put : (mid : LineOut D A) → SameOut lines mid → Writable first.form.lines.style more → Writes contents lines (bytes_of lines.form more) mid → failed mid.drain.now ≡ false →
         HasPut contents failed w x reader' (bytes ++ part) first mid
     more_put mid s able m live = record {
       quads = o.quads ++ more;
       read = read';
       moves = from_first mid more mid.buffer.now m;
-      writable = both_writable first.form.style o.quads more o.writable able;
+      writable = both_writable first.form.lines.style o.quads more o.writable able;
       same = same_out first lines mid o.same s;
       live = live;
     }
@@ -393,10 +432,10 @@ module _ {G X D A : Type 0} (contents : D → Option (List ℕ)) (failed : D →
   part_read part reader' mid f =
       let read' = f.read x bytes o.quads o.read in
       let put = taken contents failed f.more lines mid f.puts (styled_all (reading_of (now' part reader' f.limit f.more read') (bytes ++ part) false).tokens f.more (due' part reader' f.limit f.more read')) in
-      more_put part reader' f.limit f.more read' mid put.same (subst (λ (y : WrittenForm). Writable y.style f.more) o.same.form put.writable) put.writes (put.live o.live)
+      more_put part reader' f.limit f.more read' mid put.same (subst (λ (y : OutputView). Writable y.lines.style f.more) o.same.form put.writable) put.writes (put.live o.live)
 
   -- Some text was passed: it is the plain lines of quads in the style, but for CRs.
-  module _ (style : Style) (same_style : first.form.style ≡ style) (ending : LineEnding) (text : List ℕ) (kept : KeepsText lines.form (written_as ending text)) (reader' : Driven G)
+  module _ (style : Style) (same_style : first.form.lines.style ≡ style) (ending : LineEnding) (text : List ℕ) (kept : KeepsText lines.form (written_as ending text)) (reader' : Driven G)
       (p : PassesText w style ending reader text reader') where
     -- what is written of it
     abbrev put : List ℕ
@@ -406,7 +445,7 @@ module _ {G X D A : Type 0} (contents : D → Option (List ℕ)) (failed : D →
     passed' = p.read x bytes o.quads o.read
 
     their_lines : put ≡ bytes_of lines.form p.given
-    their_lines = kept p.given (subst (λ s. put ≡ lines_of (plain s) p.given) (sym (ap (λ (f : WrittenForm). f.style) o.same.form ∙ same_style)) p.is)
+    their_lines = kept p.given (subst (λ s. put ≡ lines_of (plain s) p.given) (sym (ap (λ (f : OutputView). f.lines.style) o.same.form ∙ same_style)) p.is)
 
     -- it was put
     pub text_put : (after : LineOut D A) → SameOut lines after → Writes contents lines put after → failed after.drain.now ≡ false → HasPut contents failed w x reader' (bytes ++ text) first after
@@ -421,8 +460,8 @@ module _ {G X D A : Type 0} (contents : D → Option (List ℕ)) (failed : D →
         ts : List Token
         ts = (reading_of l (bytes ++ text) false).tokens
 
-        able : Writable lines.form.style p.given
-        able = subst (λ y. Writable y p.given) (sym (ap (λ (f : WrittenForm). f.style) o.same.form ∙ same_style)) p.writable
+        able : Writable lines.form.lines.style p.given
+        able = subst (λ y. Writable y p.given) (sym (ap (λ (f : OutputView). f.lines.style) o.same.form ∙ same_style)) p.writable
 
         by : (reported : StreamFault) → PutHalts contents failed reported lines put after →
             HaltsFor reported job (bytes ++ text) false (contents first.drain.now) (contents after.drain.now) (failed after.drain.now)
@@ -437,7 +476,7 @@ module _ {G X D A : Type 0} (contents : D → Option (List ℕ)) (failed : D →
           record {
             quads = o.quads;
             due = begins_less l ts o.quads p.given (begun' text reader' p.limit p.given passed');
-            written = moves_all (contents first.drain.now) (contents lines.drain.now) (contents after.drain.now) (lines_of (form_of first.form) o.quads) lines.buffer.now o.moves h.1;
+            written = moves_all (contents first.drain.now) (contents lines.drain.now) (contents after.drain.now) (lines_by (output_of first.form) o.quads) lines.buffer.now o.moves h.1;
             ascii = these_ascii;
           },
         )
@@ -451,7 +490,7 @@ module _ {G X D A : Type 0} (contents : D → Option (List ℕ)) (failed : D →
   handed after s t none live = record {
     quads = o.quads;
     read = o.read;
-    written = moves_all (contents first.drain.now) (contents lines.drain.now) (contents after.drain.now) (lines_of (form_of first.form) o.quads) lines.buffer.now o.moves t;
+    written = moves_all (contents first.drain.now) (contents lines.drain.now) (contents after.drain.now) (lines_by (output_of first.form) o.quads) lines.buffer.now o.moves t;
     writable = o.writable;
     none_waits = none;
     same = same_out first lines after o.same s;
@@ -463,7 +502,7 @@ module _ {G X D A : Type 0} (contents : D → Option (List ℕ)) (failed : D →
       Halts stream.Write bytes false after
   handing_broke after s t broke =
       let (rest, m) = front_moves (contents lines.drain.now) (contents after.drain.now) lines.buffer.now t in
-      let all = moves_on (contents first.drain.now) (contents lines.drain.now) (contents after.drain.now) (lines_of (form_of first.form) o.quads) [] lines.buffer.now rest o.moves
+      let all = moves_on (contents first.drain.now) (contents lines.drain.now) (contents after.drain.now) (lines_by (output_of first.form) o.quads) [] lines.buffer.now rest o.moves
       (subst (λ b. Moves (contents lines.drain.now) (contents after.drain.now) b rest) (sym (append-nil lines.buffer.now)) m) in
       let now = (reading_of l bytes false).tokens in
       record {
@@ -473,8 +512,8 @@ module _ {G X D A : Type 0} (contents : D → Option (List ℕ)) (failed : D →
           record {
             quads = o.quads;
             due = begins_all l now o.quads (convertible.lawful.kept reader.grammar x now o.quads o.read.reached) (convertible.lawful.due reader.grammar x now o.quads o.read.reached);
-            written = moves_front (contents first.drain.now) (contents after.drain.now) (lines_of (form_of first.form) o.quads) rest
-                (subst (λ b. Moves (contents first.drain.now) (contents after.drain.now) b rest) (append-nil (lines_of (form_of first.form) o.quads)) all);
+            written = moves_front (contents first.drain.now) (contents after.drain.now) (lines_by (output_of first.form) o.quads) rest
+                (subst (λ b. Moves (contents first.drain.now) (contents after.drain.now) b rest) (append-nil (lines_by (output_of first.form) o.quads)) all);
             ascii = these_ascii;
           },
         );
@@ -490,7 +529,7 @@ module _ {G X D A : Type 0} (contents : D → Option (List ℕ)) (failed : D →
     all_put : Taken contents failed lines f.more mid
     all_put = taken contents failed f.more lines mid f.puts (styled_all (reading_of l bytes true).tokens f.more sums.due)
 
-    all_writable : Writable first.form.style (o.quads ++ f.more)
+    all_writable : Writable first.form.lines.style (o.quads ++ f.more)
     all_writable = all_able f.more all_put.writable
 
     -- the document was read and written
@@ -504,7 +543,8 @@ module _ {G X D A : Type 0} (contents : D → Option (List ℕ)) (failed : D →
         within = sums.whole;
         size = few;
         written = written_all mid after f.more all_put.writes t;
-        reads_back = λ limit h. form_reads_back (form_of first.form) (o.quads ++ f.more) limit is_word all_writable h;
+        reads_back = λ limit h.
+            form_reads_back (output_of first.form).form (put_quads job (o.quads ++ f.more)) limit is_word (placed_writable first.form.lines.style (output_of first.form).graph is_graph (o.quads ++ f.more) all_writable) h;
         ascii = all_ascii f.more all_put.writable;
         counts = record { quads = sums.given; tokens = sums.accepted; bytes = sums.taken };
       },
@@ -533,12 +573,15 @@ kept_by Ascii false s text t low qs is = absurd (false≢true t)
 kept_by Ascii true s text t low qs is = is ∙ ap encode_utf8_all (sym (forms_agree s [] qs (subst IsAsciiText is (low refl))))
 
 -- the test answers that they stand so
-pub kept_where : (w : WrittenForm) (is_ascii : Bool) (text : List ℕ) → keeps_lines w is_ascii ≡ true → (is_ascii ≡ true → IsAsciiText text) → KeepsText w text
+pub kept_where : (w : OutputView) (is_ascii : Bool) (text : List ℕ) → keeps_lines w is_ascii ≡ true → (is_ascii ≡ true → IsAsciiText text) → KeepsText w text
 kept_where w is_ascii text t low qs is =
-    let (raw, none) = and_parts (is_ascii || is_raw w.escapes) _ t in
-    let no_word = no_bytes w.prefix.word.now (eqb-true (length w.prefix.word.now) 0 none) in
-    kept_by w.escapes is_ascii w.style text raw low qs is
-    ∙ ap (λ (x : List ℕ). lines_of (record { style = w.style; escapes = w.escapes; prefix = x }) qs) (sym no_word)
+    let (kept, none) = and_parts ((is_ascii || is_raw w.lines.escapes) && (length w.lines.prefix.word.now == 0)) _ t in
+    let (raw, empty) = and_parts (is_ascii || is_raw w.lines.escapes) _ kept in
+    let no_word = no_bytes w.lines.prefix.word.now (eqb-true (length w.lines.prefix.word.now) 0 empty) in
+    let default = no_graph w.graph.iri.now (eqb-true (length w.graph.iri.now) 0 none) in
+    kept_by w.lines.escapes is_ascii w.lines.style text raw low qs is
+    ∙ (ap (λ (x : List ℕ). lines_of (record { style = w.lines.style; escapes = w.lines.escapes; prefix = x }) qs) (sym no_word)
+    ∙ (ap (lines_of (form_of w.lines)) (sym (not_placed qs)) ∙ ap (λ g. lines_of (form_of w.lines) (all_in_graph g qs)) (sym default)))
 
 -- what was handed over was put
 put_of : {G X D A : Type 0} (contents : D → Option (List ℕ)) (failed : D → Bool) (w : Words G X Quad) (x : X) (reader : Driven G) (bytes : List ℕ) (first lines : LineOut D A) →
@@ -547,8 +590,8 @@ put_of contents failed w x reader bytes first lines o = record {
   quads = o.quads;
   read = o.read;
   moves = record {
-    front = lines_of (form_of first.form) o.quads;
-    whole = sym (ap (λ b. lines_of (form_of first.form) o.quads ++ b) o.none_waits ∙ append-nil (lines_of (form_of first.form) o.quads));
+    front = lines_by (output_of first.form) o.quads;
+    whole = sym (ap (λ b. lines_by (output_of first.form) o.quads ++ b) o.none_waits ∙ append-nil (lines_by (output_of first.form) o.quads));
     taken = o.written;
   };
   writable = o.writable;
@@ -589,12 +632,12 @@ module _ {G X D A : Type 0} (contents : D → Option (List ℕ)) (failed : D →
 
   -- what halts by the limit of the reader halts by that of the run
   halted : (reported : StreamFault) (b : List ℕ) (e : Bool) (after : LineOut D A) →
-      ((x : X) (s : IsConvertible w x first.form.style) (o : HasPut contents failed w x old bytes first lines) → Halts contents failed w x old bytes first lines s o reported b e after) → RunHalts contents failed w reported reader first b e after
+      ((x : X) (s : IsConvertible w x first.form.lines.style) (o : HasPut contents failed w x old bytes first lines) → Halts contents failed w x old bytes first lines s o reported b e after) → RunHalts contents failed w reported reader first b e after
   halted reported b e after h = record {
     begun = i.begun;
     same = (h i.begun.0 i.begun.1.starts.convertible put_now).same;
     halts = λ x y.
-        subst (λ n. HaltsFor reported (conversion w x n (form_of first.form)) b e (contents first.drain.now) (contents after.drain.now) (failed after.drain.now)) i.limit (h x y.starts.convertible (i.put x y)).halts;
+        subst (λ n. HaltsFor reported (conversion w x n (output_of first.form)) b e (contents first.drain.now) (contents after.drain.now) (failed after.drain.now)) i.limit (h x y.starts.convertible (i.put x y)).halts;
   }
 
   -- what waited was handed over
@@ -652,7 +695,7 @@ module _ {G X D A : Type 0} (contents : D → Option (List ℕ)) (failed : D →
       same = (end_read contents failed w i.begun.0 old bytes first lines i.begun.1.starts.convertible put_now summary mid f few after s t).0;
       sent = sent;
       accepts = λ x y.
-          subst (λ n. Accepts (conversion w x n (form_of first.form)) bytes (contents first.drain.now) (contents after.drain.now) summary) i.limit
+          subst (λ n. Accepts (conversion w x n (output_of first.form)) bytes (contents first.drain.now) (contents after.drain.now) summary) i.limit
           (end_read contents failed w x old bytes first lines y.starts.convertible (i.put x y) summary mid f few after s t).1;
     }
 

@@ -24,21 +24,20 @@ use Rattle.rdf_stream.specs.Faults.{IsOfDocument, IsRefusal, IsSentOn}
 use Rattle.rdf_lines.specs.declared.form.LineForm.{LineForm}
 use Rattle.rdf_lines.specs.declared.form.Style.{Style}
 use Rattle.rdf_lines.specs.declared.form.Style.TheVariants.{Kept, Tagged}
-use Rattle.rdf_lines.specs.declared.form.WrittenForm.{WrittenForm}
+use Rattle.rdf_stream.specs.declared.output.OutputView.{OutputView}
 use Rattle.rdf_lines.specs.Accepting.{line_words}
 use Rattle.rdf_trig.specs.declared.form.DocForm.{DocForm}
 use Rattle.rdf_trig.specs.Accepting.{tree_words}
 use Rattle.rdf_trig.specs.Language.{Chosen}
 use Rattle.rdf_stream.specs.declared.form.Kind.TheVariants.{Line, Tree}
 use Rattle.rdf_stream.specs.Jobs.{JobRead}
-use Rattle.rdf_lines.specs.Forms.{form_of}
-use Rattle.rdf_lines.specs.NodePrefixes.{Form}
+use Rattle.rdf_stream.specs.Outputs.{output_of}
 use Rattle.rdf_stream.specs.Kinds.{kind_of}
-use Rattle.rdf_stream.specs.Languages.{Conversion, conversion, conversion_by, conversion_of, tree_job, written_form}
+use Rattle.rdf_stream.specs.Languages.{Conversion, Output, conversion, conversion_by, conversion_of, output, tree_job}
 use Rattle.rdf_stream.specs.LineOut.{OnlyGrows}
 use Rattle.rdf_stream.specs.Pieces.{ReadStops, ReadsAll, SourceFails, TakenBefore}
 use Rattle.rdf_lines.proofs.NodePrefixLemmas.{IsNodePrefix-had}
-use Rattle.rdf_stream.proofs.ConvertingLemmas.{written_ascii}
+use Rattle.rdf_stream.proofs.ConvertingLemmas.{graph_had, placed_ascii}
 use Rattle.rdf_stream.proofs.GrowthLemmas.{grows_none}
 use Rattle.rdf_stream.proofs.PiecesLemmas.{all_given, none_given, same_front, too_long_more}
 
@@ -72,7 +71,7 @@ halts_more contents failed w reported reader first bytes more lines h = record {
   begun = h.begun;
   same = h.same;
   halts = λ x b.
-      halts_for_more reported (conversion w x reader.scanner.limit (form_of first.form)) (b.starts.convertible.lawful.ends x) bytes more (contents first.drain.now) (contents lines.drain.now) (failed lines.drain.now) (h.halts x b);
+      halts_for_more reported (conversion w x reader.scanner.limit (output_of first.form)) (b.starts.convertible.lawful.ends x) bytes more (contents first.drain.now) (contents lines.drain.now) (failed lines.drain.now) (h.halts x b);
 }
 
 -- a refusal is of the document
@@ -103,16 +102,16 @@ pub by_drains : {D : Type 0} (P : D → D → Type 0) (was is was' is' : D) → 
 by_drains P was is was' is' o n h = subst (λ d. P was' d) n (subst (λ d. P d is) o h)
 
 -- lines of this form, of which none waits, over a drain that has not failed
-pub record AreFresh {D A : Type 0} (failed : D → Bool) (asked : Form) (lines : LineOut D A) (old : D) : Type 0 where
-  pub form : form_of lines.form ≡ asked
+pub record AreFresh {D A : Type 0} (failed : D → Bool) (asked : Output) (lines : LineOut D A) (old : D) : Type 0 where
+  pub form : output_of lines.form ≡ asked
   pub none_waits : lines.buffer.now ≡ []
   pub drain : lines.drain.now ≡ old
   pub live : failed old ≡ false
 
 -- so are those over an empty buffer
-pub over_empty : {D A : Type 0} (failed : D → Bool) (written : WrittenForm) (lines : LineOut D A) (waiting : List ℕ) (old : D) →
-    lines.form ≡ written → lines.buffer.now ≡ waiting → waiting ≡ [] → lines.drain.now ≡ old → failed old ≡ false → AreFresh failed (form_of written) lines old
-over_empty failed written lines waiting old f b e d l = record { form = ap form_of f; none_waits = b ∙ e; drain = d; live = l }
+pub over_empty : {D A : Type 0} (failed : D → Bool) (written : OutputView) (lines : LineOut D A) (waiting : List ℕ) (old : D) →
+    lines.form ≡ written → lines.buffer.now ≡ waiting → waiting ≡ [] → lines.drain.now ≡ old → failed old ≡ false → AreFresh failed (output_of written) lines old
+over_empty failed written lines waiting old f b e d l = record { form = ap output_of f; none_waits = b ∙ e; drain = d; live = l }
 
 module _ {G X D : Type 0} (A : Type 0) (contents : D → Option (List ℕ)) (failed flushed : D → Bool) (w : Words G X Quad) (style : Style) where
   -- a reader, and its lines
@@ -134,7 +133,7 @@ module _ {G X D : Type 0} (A : Type 0) (contents : D → Option (List ℕ)) (fai
   Stays first now = OnlyGrows contents first.1 now.1
 
   -- nothing was read or written
-  pub begins : (x : X) (first : R) → Begins failed w x first.0 first.1 → first.1.form.style ≡ style → Taken first [] first
+  pub begins : (x : X) (first : R) → Begins failed w x first.0 first.1 → first.1.form.lines.style ≡ style → Taken first [] first
   begins x first b styled = record {
     begun = (x, b);
     styled = styled;
@@ -152,11 +151,11 @@ module _ {G X D : Type 0} (A : Type 0) (contents : D → Option (List ℕ)) (fai
   }
 
   -- a run over fresh lines begins
-  pub begun_fresh : (x : X) (form : Form) (first : R) (old : D) → AreFresh failed form first.1 old → Starts w x first.0 form.style → Begins failed w x first.0 first.1
-  begun_fresh x form first old f s = record { starts = subst (λ a. Starts w x first.0 a.style) (sym f.form) s; none_waits = f.none_waits; live = ap failed f.drain ∙ f.live }
+  pub begun_fresh : (x : X) (form : Output) (first : R) (old : D) → AreFresh failed form first.1 old → Starts w x first.0 form.form.style → Begins failed w x first.0 first.1
+  begun_fresh x form first old f s = record { starts = subst (λ a. Starts w x first.0 a.form.style) (sym f.form) s; none_waits = f.none_waits; live = ap failed f.drain ∙ f.live }
 
   -- a run over such lines, from the drain as it was to the drain as it is
-  module _ (x : X) (form : Form) (first now : R) (old new : D) (fresh : AreFresh failed form first.1 old) (is : now.1.drain.now ≡ new) (starts : Starts w x first.0 form.style)
+  module _ (x : X) (form : Output) (first now : R) (old new : D) (fresh : AreFresh failed form first.1 old) (is : now.1.drain.now ≡ new) (starts : Starts w x first.0 form.form.style)
       (known : Option (List ℕ)) (left : Reading) where
     abbrev b : Begins failed w x first.0 first.1
     b = begun_fresh x form first old fresh starts
@@ -165,7 +164,7 @@ module _ {G X D : Type 0} (A : Type 0) (contents : D → Option (List ℕ)) (fai
     job = conversion w x first.0.scanner.limit form
 
     -- by the form that was asked for, and the names of the drain
-    asked : (P : Form → D → D → Type 0) → P (form_of first.1.form) first.1.drain.now now.1.drain.now → P form old new
+    asked : (P : Output → D → D → Type 0) → P (output_of first.1.form) first.1.drain.now now.1.drain.now → P form old new
     asked P h = by_drains (P form) _ _ old new fresh.drain is (subst (λ f. P f first.1.drain.now now.1.drain.now) fresh.form h)
 
     pub converted : (s : Summary) → ReadsAll Ended known left s first now → IfSome known (λ bytes. Accepts job bytes (contents old) (contents new) s)
@@ -179,12 +178,13 @@ module _ {G X D : Type 0} (A : Type 0) (contents : D → Option (List ℕ)) (fai
         let o = t.handed x b in
         let n = at.0.scanner.limit in
         subst (λ f. WritesDue (conversion w x first.0.scanner.limit f) (reading_of job.language bytes false).tokens (contents first.1.drain.now) (contents at.1.drain.now)) fresh.form
-        (subst (λ k. WritesDue (conversion w x k (form_of first.1.form)) (reading_of (in_words w x k) bytes false).tokens (contents first.1.drain.now) (contents at.1.drain.now)) t.limit
+        (subst (λ k. WritesDue (conversion w x k (output_of first.1.form)) (reading_of (in_words w x k) bytes false).tokens (contents first.1.drain.now) (contents at.1.drain.now)) t.limit
         (record {
           quads = o.quads;
           due = b.starts.convertible.lawful.due at.0.grammar x (reading_of (in_words w x n) bytes false).tokens o.quads o.read.reached;
           written = o.written;
-          ascii = written_ascii (form_of first.1.form) o.quads (IsNodePrefix-had (form_of first.1.form).prefix first.1.form.prefix.is_prefix) o.writable;
+          ascii = placed_ascii (output_of first.1.form) o.quads (IsNodePrefix-had (output_of first.1.form).form.prefix first.1.form.lines.prefix.is_prefix)
+              (graph_had (output_of first.1.form).graph first.1.form.graph.is_graph) o.writable;
         }))
 
     -- those that are due in the bytes before the last fill were written then
@@ -229,7 +229,7 @@ module _ {G X D : Type 0} (A : Type 0) (contents : D → Option (List ℕ)) (fai
     refused_document reported h =
         ⊎_elim (λ p. subst IsRefusal (sym p.0) tt)
         (λ p.
-        halts_document reported (conversion w x first.0.scanner.limit (form_of first.1.form)) p.0.bytes left.has_ended (contents first.1.drain.now) (contents now.1.drain.now) (failed now.1.drain.now)
+        halts_document reported (conversion w x first.0.scanner.limit (output_of first.1.form)) p.0.bytes left.has_ended (contents first.1.drain.now) (contents now.1.drain.now) (failed now.1.drain.now)
         (p.1.0.halts x b)) h
 
     -- what was written before a refusal was flushed
@@ -241,7 +241,7 @@ module _ {G X D : Type 0} (A : Type 0) (contents : D → Option (List ℕ)) (fai
 -- ---- by the job
 
 -- what holds of a line format with these limits holds of the job that asks for them
-pub lines_job : (P : Conversion → Type 0) (job : JobRead) (form : LineForm) → kind_of job.form ≡ Line form → (iri : ℕ) → iri ≡ job.limits.iri → (n : ℕ) → n ≡ job.limits.token → (f : Form) → f ≡ written_form Kept job →
+pub lines_job : (P : Conversion → Type 0) (job : JobRead) (form : LineForm) → kind_of job.form ≡ Line form → (iri : ℕ) → iri ≡ job.limits.iri → (n : ℕ) → n ≡ job.limits.token → (f : Output) → f ≡ output Kept job →
     P (conversion line_words (record { form = form; iri = iri }) n f) → P (conversion_of job)
 lines_job P job form k iri i n l f e h =
     subst (λ y. P (conversion_by y job)) (sym k)
@@ -249,7 +249,7 @@ lines_job P job form k iri i n l f e h =
     (subst (λ m. P (conversion line_words (record { form = form; iri = job.limits.iri }) m f)) l (subst (λ m. P (conversion line_words (record { form = form; iri = m }) n f)) i h)))
 
 -- the same of Turtle and TriG
-pub trees_job : (P : Conversion → Type 0) (job : JobRead) (form : DocForm) → kind_of job.form ≡ Tree form → (x : Chosen) → x ≡ tree_job form job → (n : ℕ) → n ≡ x.start.limits.token → (f : Form) → f ≡ written_form Tagged job →
+pub trees_job : (P : Conversion → Type 0) (job : JobRead) (form : DocForm) → kind_of job.form ≡ Tree form → (x : Chosen) → x ≡ tree_job form job → (n : ℕ) → n ≡ x.start.limits.token → (f : Output) → f ≡ output Tagged job →
     P (conversion tree_words x n f) → P (conversion_of job)
 trees_job P job form k x i n l f e h =
     subst (λ y. P (conversion_by y job)) (sym k)
@@ -258,7 +258,7 @@ trees_job P job form k x i n l f e h =
 
 -- ---- before the first byte
 
-module _ {G X : Type 0} (w : Words G X Quad) (x : X) (reader : Driven G) (form : Form) (b : Starts w x reader form.style) where
+module _ {G X : Type 0} (w : Words G X Quad) (x : X) (reader : Driven G) (form : Output) (b : Starts w x reader form.form.style) where
   abbrev begun_job : Conversion
   begun_job = conversion w x reader.scanner.limit form
 

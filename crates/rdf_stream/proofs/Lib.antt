@@ -1,6 +1,7 @@
 pub mod ViewsLemmas
 pub mod WellFormedLemmas
 pub mod PutLemmas
+pub mod OutputLemmas
 pub mod LineOutLemmas
 pub mod PiecesLemmas
 pub mod PartsLemmas

@@ -1,25 +1,27 @@
 -- What a sink of lines has handed over after some puts, and what waits.
 use Rattle.std.proofs.Common.{◌≡◌, ℕ, Bool, true, false, List, [], ◌∷◌, ◌++◌, Option, refl, sym, ap, subst, ◌∙◌, append_assoc, ⊎_elim, inr}
-use Rattle.std.proofs.lemmas.List.{append-nil}
+use Rattle.std.proofs.lemmas.List.{append-nil, map-append}
 use Rattle.std.proofs.lemmas.Str.{encodes-append}
 use Rattle.std.proofs.lemmas.Grind.{flat_map-append}
 use Rattle.std.proofs.KnownBytes.{Appends-nil, Appends-trans}
-use Rattle.std.specs.Prelude.{encode_utf8_all}
+use Rattle.std.specs.Prelude.{encode_utf8_all, map}
 use Rattle.std.specs.Io.KnownBytes.{Appends}
 use Rattle.std.specs.List.{AllByRecursion}
 use Rattle.rdf_terms.specs.Sinks as sink
 use Rattle.rdf_terms.specs.Sinks.{Attempts}
-use Rattle.rdf_terms.specs.Terms.{Quad}
+use Rattle.rdf_terms.specs.Terms.{Quad, IsQuad}
 use Rattle.rdf_lines.specs.Writing.{CanWrite, Writable}
-use Rattle.rdf_lines.specs.declared.form.WrittenForm.{WrittenForm}
 use Rattle.rdf_lines.specs.Forms.{form_of}
 use Rattle.rdf_lines.specs.NodePrefixes.{line_in, text_in}
 use Rattle.rdf_stream.specs.Devices.{AppendsFront}
 use Rattle.rdf_stream.specs.Faults.{IsSentOn}
-use Rattle.rdf_stream.specs.LineOut.{Leaves, Moves, PutHalts, SameOut, Takes, Writes, line_bytes}
+use Rattle.rdf_stream.specs.LineOut.{Leaves, LeavesBytes, Moves, PutHalts, SameOut, Takes, Writes, line_bytes}
 use Rattle.rdf_stream.specs.declared.fault.StreamFault.{StreamFault}
 use Rattle.rdf_stream.specs.declared.fault.StreamFault.TheVariants as stream
 use Rattle.rdf_stream.specs.declared.line_out.LineOut.{LineOut}
+use Rattle.rdf_stream.specs.declared.output.OutputView.{OutputView}
+use Rattle.rdf_stream.specs.Graphs.{in_graph}
+use Rattle.rdf_stream.specs.Outputs.{graph_of, line_by, lines_by, output_of}
 use Rattle.rdf_stream.proofs.WellFormedLemmas.{untruncated_quad}
 
 -- nothing was taken
@@ -55,12 +57,26 @@ pub moves_all : (a b c : Option (List ℕ)) (bytes rest : List ℕ) → Moves a 
 moves_all a b c bytes rest m t = subst (Appends a c) (sym m.whole) (Appends-trans a b c m.front rest m.taken t)
 
 -- the bytes of the quads' lines
-abbrev pub bytes_of : WrittenForm → List Quad → List ℕ
-bytes_of f qs = encode_utf8_all (text_in (form_of f) qs)
+abbrev pub bytes_of : OutputView → List Quad → List ℕ
+bytes_of f qs = lines_by (output_of f) qs
+
+-- a quad in the graph that is asked for
+abbrev placed : OutputView → Quad → Quad
+placed f q = in_graph (graph_of f.graph) q
+
+-- the characters of its line
+abbrev line_chars : OutputView → Quad → List ℕ
+line_chars f q = line_in (form_of f.lines) (placed f q)
+
+-- the characters of the quads' lines
+abbrev lines_chars : OutputView → List Quad → List ℕ
+lines_chars f qs = text_in (form_of f.lines) (map (placed f) qs)
 
 -- the lines of two lists are those of the first and then the second
-pub bytes_of-append : (f : WrittenForm) (qs rs : List Quad) → bytes_of f (qs ++ rs) ≡ bytes_of f qs ++ bytes_of f rs
-bytes_of-append f qs rs = ap encode_utf8_all (flat_map-append (line_in (form_of f)) qs rs) ∙ encodes-append (text_in (form_of f) qs) (text_in (form_of f) rs)
+pub bytes_of-append : (f : OutputView) (qs rs : List Quad) → bytes_of f (qs ++ rs) ≡ bytes_of f qs ++ bytes_of f rs
+bytes_of-append f qs rs =
+    ap encode_utf8_all (ap (text_in (form_of f.lines)) (map-append (placed f) qs rs) ∙ flat_map-append (line_in (form_of f.lines)) (map (placed f) qs) (map (placed f) rs))
+    ∙ encodes-append (lines_chars f qs) (lines_chars f rs)
 
 -- the form and the place of the bytes stay the same over two steps
 pub same_out : {D A : Type 0} (a b c : LineOut D A) → SameOut a b → SameOut b c → SameOut a c
@@ -76,7 +92,7 @@ module _ {D A : Type 0} (contents : D → Option (List ℕ)) (failed : D → Boo
   -- puts of quads that the style can write
   pub record Taken (a : LineOut D A) (qs : List Quad) (b : LineOut D A) : Type 0 where
     pub same : SameOut a b
-    pub writable : Writable a.form.style qs
+    pub writable : Writable a.form.lines.style qs
     pub writes : Writes contents a (bytes_of a.form qs) b
     pub live : failed a.drain.now ≡ false → failed b.drain.now ≡ false
 
@@ -87,7 +103,7 @@ module _ {D A : Type 0} (contents : D → Option (List ℕ)) (failed : D → Boo
       (moves_on (contents a.drain.now) (contents b.drain.now) (contents c.drain.now) (a.buffer.now ++ bs) cs b.buffer.now c.buffer.now p q)
 
   -- the lines of quads that were put are in the buffer or the drain, one after another
-  pub taken : (qs : List Quad) (a b : LineOut D A) → Puts a qs b → AllByRecursion (CanWrite a.form.style) qs → Taken a qs b
+  pub taken : (qs : List Quad) (a b : LineOut D A) → Puts a qs b → AllByRecursion (CanWrite a.form.lines.style) qs → Taken a qs b
   taken [] a b h w = subst (Taken a []) (sym h) (record {
     same = record { form = refl; buffer = refl; drain = refl };
     writable = tt;
@@ -96,12 +112,12 @@ module _ {D A : Type 0} (contents : D → Option (List ℕ)) (failed : D → Boo
   })
   taken (q ∷ qs) a b h w =
       let (next, t, rest) = h in
-      let r = taken qs next b rest (subst (λ (f : WrittenForm). AllByRecursion (CanWrite f.style) qs) (sym t.same.form) w.1) in
+      let r = taken qs next b rest (subst (λ (f : OutputView). AllByRecursion (CanWrite f.lines.style) qs) (sym t.same.form) w.1) in
       let more = subst (λ f. Writes contents next (bytes_of f qs) b) t.same.form r.writes in
       record {
         same = same_out a next b t.same r.same;
-        writable = ((untruncated_quad q t.formed, w.0), subst (λ (f : WrittenForm). Writable f.style qs) t.same.form r.writable);
-        writes = subst (λ l. Writes contents a l b) (sym (encodes-append (line_in (form_of a.form) q) (text_in (form_of a.form) qs)))
+        writable = ((untruncated_quad q t.formed, w.0), subst (λ (f : OutputView). Writable f.lines.style qs) t.same.form r.writable);
+        writes = subst (λ l. Writes contents a l b) (sym (encodes-append (line_chars a.form q) (lines_chars a.form qs)))
             (writes_on a next b (line_bytes a.form q) (bytes_of a.form qs) t.writes more);
         live = λ l. r.live t.live;
       }
@@ -111,7 +127,7 @@ module _ {D A : Type 0} (contents : D → Option (List ℕ)) (failed : D → Boo
     pub same : SameOut a b
     pub rest : List ℕ
     pub moves : Moves (contents a.drain.now) (contents b.drain.now) (a.buffer.now ++ bytes_of a.form qs) rest
-    pub writable : AllByRecursion (CanWrite a.form.style) qs → Writable a.form.style qs
+    pub writable : AllByRecursion (CanWrite a.form.lines.style) qs → Writable a.form.lines.style qs
     -- where the drain has not failed, the lines of some of the quads were written
     pub whole : failed b.drain.now ≡ false → (done later : List Quad) × (qs ≡ done ++ later) × Writes contents a (bytes_of a.form done) b
 
@@ -131,8 +147,8 @@ module _ {D A : Type 0} (contents : D → Option (List ℕ)) (failed : D → Boo
         same = p.1.same;
         rest = p.1.rest;
         moves = subst (λ l. Moves (contents a.drain.now) (contents b.drain.now) (a.buffer.now ++ l) p.1.rest)
-            (ap encode_utf8_all (sym (append-nil (line_in (form_of a.form) q))) ∙ ap (λ rs. bytes_of a.form (q ∷ rs)) (sym p.0)) p.1.moves;
-        writable = λ w. ((untruncated_quad q p.1.formed, w.0), subst (Writable a.form.style) (sym p.0) tt);
+            (ap encode_utf8_all (sym (append-nil (line_chars a.form q))) ∙ ap (λ rs. bytes_of a.form (q ∷ rs)) (sym p.0)) p.1.moves;
+        writable = λ w. ((untruncated_quad q p.1.formed, w.0), subst (Writable a.form.lines.style) (sym p.0) tt);
         whole = λ l. ([], q ∷ qs, refl, p.1.live l);
       }
 
@@ -141,7 +157,7 @@ module _ {D A : Type 0} (contents : D → Option (List ℕ)) (failed : D → Boo
           let (next, t, tries) = p in
           let r = others next tries in
           let first = t.writes in
-          let join = encodes-append (line_in (form_of a.form) q) (text_in (form_of a.form) qs) in
+          let join = encodes-append (line_chars a.form q) (lines_chars a.form qs) in
           record {
             same = same_out a next b t.same r.same;
             rest = r.rest;
@@ -151,14 +167,14 @@ module _ {D A : Type 0} (contents : D → Option (List ℕ)) (failed : D → Boo
                 (subst (λ f. Moves (contents next.drain.now) (contents b.drain.now) (next.buffer.now ++ bytes_of f qs) r.rest) t.same.form r.moves));
             writable = λ w. (
               (untruncated_quad q t.formed, w.0),
-              subst (λ (f : WrittenForm). Writable f.style qs) t.same.form (r.writable (subst (λ (f : WrittenForm). AllByRecursion (CanWrite f.style) qs) (sym t.same.form) w.1)),
+              subst (λ (f : OutputView). Writable f.lines.style qs) t.same.form (r.writable (subst (λ (f : OutputView). AllByRecursion (CanWrite f.lines.style) qs) (sym t.same.form) w.1)),
             );
             whole = λ l.
                 let (done, later, split, writes) = r.whole l in (
                   q ∷ done,
                   later,
                   ap (λ rs. q ∷ rs) split,
-                  subst (λ l. Writes contents a l b) (sym (encodes-append (line_in (form_of a.form) q) (text_in (form_of a.form) done)))
+                  subst (λ l. Writes contents a l b) (sym (encodes-append (line_chars a.form q) (lines_chars a.form done)))
                       (writes_on a next b (line_bytes a.form q) (bytes_of a.form done) first (subst (λ s. Writes contents next (bytes_of s done) b) t.same.form writes)),
                 );
           }
@@ -172,6 +188,17 @@ module _ {D A : Type 0} (contents : D → Option (List ℕ)) (failed : D → Boo
   pub puts_live : (qs : List Quad) (a b : LineOut D A) → Puts a qs b → failed a.drain.now ≡ false → failed b.drain.now ≡ false
   puts_live [] a b h l = subst (λ (x : LineOut D A). failed x.drain.now ≡ false) (sym h) l
   puts_live (q ∷ qs) a b h l = puts_live qs h.0 b h.2 h.1.live
+
+-- what is left of a line that was not put is what is left of its quad
+pub left_by : {D A : Type 0} (contents : D → Option (List ℕ)) (failed : D → Bool) (before after : LineOut D A) (q : Quad) → ∥ IsQuad q ∥₁ → (g : Option (List ℕ)) → g ≡ graph_of before.form.graph →
+    LeavesBytes contents failed before (line_by (record { form = form_of before.form.lines; graph = g }) q) after → Leaves contents failed before q after
+left_by contents failed before after q formed g e h = record {
+  same = h.same;
+  formed = formed;
+  rest = h.rest;
+  moves = subst (λ x. Moves (contents before.drain.now) (contents after.drain.now) (before.buffer.now ++ line_by (record { form = form_of before.form.lines; graph = x }) q) h.rest) e h.moves;
+  live = h.live;
+}
 
 -- ---- bytes that go to the drain after what waited
 

@@ -11,19 +11,18 @@ use Rattle.rdf_driver.specs.declared.summary.Summary.{Summary}
 use Rattle.rdf_driver.specs.Readers.{Driven, HasRead}
 use Rattle.rdf_driver.specs.Words.{Lawful, Words}
 use Rattle.rdf_lines.specs.declared.form.Style.{Style}
-use Rattle.rdf_lines.specs.Forms.{form_of}
-use Rattle.rdf_lines.specs.NodePrefixes.{Form}
 use Rattle.rdf_lines.specs.Writing.{CanWrite, Writable}
-use Rattle.rdf_stream.specs.Languages.{Conversion, conversion}
+use Rattle.rdf_stream.specs.Languages.{Conversion, Output, conversion}
 use Rattle.rdf_stream.specs.declared.fault.StreamFault.{StreamFault}
 use Rattle.rdf_stream.specs.declared.fault.StreamFault.TheVariants as fault
 use Rattle.rdf_stream.specs.declared.line_out.LineOut.{LineOut}
 use Rattle.rdf_stream.specs.declared.devices.Source as source
 use Rattle.rdf_stream.specs.declared.devices.Drain as drain
-use Rattle.rdf_stream.specs.Converts.{Accepts, AcceptsAll, IsPrompt, RefusesDocument, StopsFor, WritesFront, WritesSome, lines_of}
+use Rattle.rdf_stream.specs.Converts.{Accepts, AcceptsAll, IsPrompt, RefusesDocument, StopsFor, WritesFront, WritesSome}
 use Rattle.rdf_stream.specs.Told.{told}
 use Rattle.rdf_stream.specs.Faults.{fault_by}
 use Rattle.rdf_stream.specs.LineOut.{Moves, SameOut}
+use Rattle.rdf_stream.specs.Outputs.{lines_by, output_of}
 
 -- what a conversion asks of a grammar and of the style of its lines
 pub record IsConvertible {G X : Type 0} (w : Words G X Quad) (x : X) (style : Style) : Type 0 where
@@ -38,7 +37,7 @@ pub record Starts {G X : Type 0} (w : Words G X Quad) (x : X) (reader : Driven G
 
 -- The same, and no line waits.
 pub record Begins {G X D A : Type 0} (failed : D → Bool) (w : Words G X Quad) (x : X) (reader : Driven G) (lines : LineOut D A) : Type 0 where
-  pub starts : Starts w x reader lines.form.style
+  pub starts : Starts w x reader lines.form.lines.style
   pub none_waits : lines.buffer.now ≡ []
   pub live : failed lines.drain.now ≡ false
 
@@ -47,8 +46,8 @@ pub record HandedOver {G X D A : Type 0} (contents : D → Option (List ℕ)) (f
     (reader : Driven G) (bytes : List ℕ) (first lines : LineOut D A) : Type 0 where
   pub quads : List Quad
   pub read : HasRead w reader x bytes quads
-  pub written : Appends (contents first.drain.now) (contents lines.drain.now) (lines_of (form_of first.form) quads)
-  pub writable : Writable first.form.style quads
+  pub written : Appends (contents first.drain.now) (contents lines.drain.now) (lines_by (output_of first.form) quads)
+  pub writable : Writable first.form.lines.style quads
   pub none_waits : lines.buffer.now ≡ []
   pub same : SameOut first lines
   pub live : failed lines.drain.now ≡ false
@@ -58,8 +57,8 @@ pub record HasPut {G X D A : Type 0} (contents : D → Option (List ℕ)) (faile
     (bytes : List ℕ) (first lines : LineOut D A) : Type 0 where
   pub quads : List Quad
   pub read : HasRead w reader x bytes quads
-  pub moves : Moves (contents first.drain.now) (contents lines.drain.now) (lines_of (form_of first.form) quads) lines.buffer.now
-  pub writable : Writable first.form.style quads
+  pub moves : Moves (contents first.drain.now) (contents lines.drain.now) (lines_by (output_of first.form) quads) lines.buffer.now
+  pub writable : Writable first.form.lines.style quads
   pub same : SameOut first lines
   pub live : failed lines.drain.now ≡ false
 
@@ -67,7 +66,7 @@ pub record HasPut {G X D A : Type 0} (contents : D → Option (List ℕ)) (faile
 pub record IsPutting {G X D A : Type 0} (contents : D → Option (List ℕ)) (failed : D → Bool) (w : Words G X Quad) (style : Style)
     (reader : Driven G) (first : LineOut D A) (bytes : List ℕ) (now : Driven G) (lines : LineOut D A) : Type 0 where
   pub begun : (x : X) × Begins failed w x reader first
-  pub styled : first.form.style ≡ style
+  pub styled : first.form.lines.style ≡ style
   pub limit : now.scanner.limit ≡ reader.scanner.limit
   pub put : (x : X) → Begins failed w x reader first → HasPut contents failed w x now bytes first lines
 
@@ -75,7 +74,7 @@ pub record IsPutting {G X D A : Type 0} (contents : D → Option (List ℕ)) (fa
 pub record IsConverting {G X D A : Type 0} (contents : D → Option (List ℕ)) (failed : D → Bool) (w : Words G X Quad) (style : Style)
     (reader : Driven G) (first : LineOut D A) (bytes : List ℕ) (now : Driven G) (lines : LineOut D A) : Type 0 where
   pub begun : (x : X) × Begins failed w x reader first
-  pub styled : first.form.style ≡ style
+  pub styled : first.form.lines.style ≡ style
   pub limit : now.scanner.limit ≡ reader.scanner.limit
   pub few : length bytes ≤ most_bytes
   pub handed : (x : X) → Begins failed w x reader first → HandedOver contents failed w x now bytes first lines
@@ -93,7 +92,7 @@ pub record RunHalts {G X D A : Type 0} (contents : D → Option (List ℕ)) (fai
   pub begun : (x : X) × Begins failed w x reader first
   pub same : SameOut first lines
   pub halts : (x : X) → Begins failed w x reader first →
-      HaltsFor reported (conversion w x reader.scanner.limit (form_of first.form)) bytes is_end
+      HaltsFor reported (conversion w x reader.scanner.limit (output_of first.form)) bytes is_end
       (contents first.drain.now) (contents lines.drain.now) (failed lines.drain.now)
 
 -- Since the run began these bytes came, they are all that there are, and were converted.
@@ -102,7 +101,7 @@ pub record RunEnds {G X D A : Type 0} (contents : D → Option (List ℕ)) (fail
   pub same : SameOut first lines
   pub sent : flushed lines.drain.now ≡ true
   pub accepts : (x : X) → Begins failed w x reader first →
-      Accepts (conversion w x reader.scanner.limit (form_of first.form)) bytes (contents first.drain.now) (contents lines.drain.now) summary
+      Accepts (conversion w x reader.scanner.limit (output_of first.form)) bytes (contents first.drain.now) (contents lines.drain.now) summary
 
 -- The drain has failed: before, and is as it was, or while it took what waited.
 pub record ReportsWrite {D A : Type 0} (contents : D → Option (List ℕ)) (failed : D → Bool) (before after : LineOut D A) : Type 0 where
@@ -123,17 +122,17 @@ Reports contents failed f reported before after =
     ((reported ≡ fault.Write) × ReportsWrite contents failed before after) ⊎ ((reported ≡ fault_by f.reason f) × ReportsFault contents failed before after)
 
 -- Whatever the run began with, all bytes of the source were converted, where they are known.
-abbrev pub Converts : {G X S D : Type 0} → Words G X Quad → source.Ghosts S → drain.Ghosts D → Driven G → Form → S → D → D → Summary → Type 0
-Converts {G} {X} w says takes reader form from old new summary = (x : X) → Starts w x reader form.style →
-    AcceptsAll (conversion w x reader.scanner.limit form) (says.remaining from) (takes.contents old) (takes.contents new) summary
+abbrev pub Converts : {G X S D : Type 0} → Words G X Quad → source.Ghosts S → drain.Ghosts D → Driven G → Output → S → D → D → Summary → Type 0
+Converts {G} {X} w says takes reader output from old new summary = (x : X) → Starts w x reader output.form.style →
+    AcceptsAll (conversion w x reader.scanner.limit output) (says.remaining from) (takes.contents old) (takes.contents new) summary
 
 -- Whatever the run began with, this is why the conversion stopped, and what it had written.
-abbrev pub ConversionStops : {G X S D : Type 0} → Words G X Quad → source.Ghosts S → drain.Ghosts D → Driven G → Form → S → S → D → D → StreamFault → Type 0
-ConversionStops {G} {X} w says takes reader form from left old new reported = (x : X) → Starts w x reader form.style →
-    StopsFor reported (conversion w x reader.scanner.limit form) (says.remaining from) (told says left)
+abbrev pub ConversionStops : {G X S D : Type 0} → Words G X Quad → source.Ghosts S → drain.Ghosts D → Driven G → Output → S → S → D → D → StreamFault → Type 0
+ConversionStops {G} {X} w says takes reader output from left old new reported = (x : X) → Starts w x reader output.form.style →
+    StopsFor reported (conversion w x reader.scanner.limit output) (says.remaining from) (told says left)
     (takes.contents old) (takes.contents new) (takes.has_failed new)
 
 -- Whatever the run began with, no line that was due waited while the source was asked for more.
-abbrev pub KeepsPrompt : {G X S D : Type 0} → Words G X Quad → source.Ghosts S → drain.Ghosts D → Driven G → Form → S → S → D → D → Type 0
-KeepsPrompt {G} {X} w says takes reader form from left old new = (x : X) → Starts w x reader form.style →
-    IsPrompt (conversion w x reader.scanner.limit form) (says.remaining from) (told says left) (takes.contents old) (takes.contents new)
+abbrev pub KeepsPrompt : {G X S D : Type 0} → Words G X Quad → source.Ghosts S → drain.Ghosts D → Driven G → Output → S → S → D → D → Type 0
+KeepsPrompt {G} {X} w says takes reader output from left old new = (x : X) → Starts w x reader output.form.style →
+    IsPrompt (conversion w x reader.scanner.limit output) (says.remaining from) (told says left) (takes.contents old) (takes.contents new)

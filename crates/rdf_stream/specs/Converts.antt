@@ -16,7 +16,7 @@ use Rattle.rdf_lines.specs.Laws.{ReadsBackIn}
 use Rattle.rdf_stream.specs.declared.fault.StreamFault.{StreamFault}
 use Rattle.rdf_stream.specs.declared.fault.StreamFault.TheVariants.{Refused, Read, Write, Memory}
 use Rattle.rdf_stream.specs.Devices.{AppendsFront, Grows, HasBroken, HasGiven, Reading}
-use Rattle.rdf_stream.specs.Languages.{Conversion}
+use Rattle.rdf_stream.specs.Languages.{Conversion, put_quads}
 
 -- the bytes of the quads' lines
 abbrev pub lines_of : Form → List Quad → List ℕ
@@ -32,15 +32,16 @@ pub record Counts (language : Language) (input : List ℕ) (qs : List Quad) (s :
   pub tokens : s.tokens + 1 ≡ length (reading_of language input true).tokens
   pub bytes : s.bytes ≡ length input
 
--- The bytes are a document within the limits, the lines of its quads were written, and what was written reads back as these quads.
+-- The bytes are a document within the limits, the lines of its quads were written, and what was written reads back as these quads, in the graph
+-- that was asked for.
 pub record Accepts (job : Conversion) (bytes : List ℕ) (old new : Option (List ℕ)) (s : Summary) : Type 0 where
   pub quads : List Quad
   pub document : IsDocumentOf job.language bytes quads
   pub within : IsWhole job.language bytes
   pub size : length bytes ≤ most_bytes
-  pub written : Appends old new (lines_of job.form quads)
-  pub reads_back : (limit : ℕ) → length (text_in job.form quads) ≤ limit → ReadsBackIn job.form quads limit
-  pub ascii : IsAscii job.form quads
+  pub written : Appends old new (lines_of job.form (put_quads job quads))
+  pub reads_back : (limit : ℕ) → length (text_in job.form (put_quads job quads)) ≤ limit → ReadsBackIn job.form (put_quads job quads) limit
+  pub ascii : IsAscii job.form (put_quads job quads)
   pub counts : Counts job.language bytes quads s
 
 -- the same, whatever was counted
@@ -55,22 +56,22 @@ AcceptsAll job known old new s = IfSome known (λ bytes. Accepts job bytes old n
 pub record WritesDue (job : Conversion) (ahead : List Token) (old new : Option (List ℕ)) : Type 0 where
   pub quads : List Quad
   pub due : Due job.language.documents ahead quads
-  pub written : Appends old new (lines_of job.form quads)
-  pub ascii : IsAscii job.form quads
+  pub written : Appends old new (lines_of job.form (put_quads job quads))
+  pub ascii : IsAscii job.form (put_quads job quads)
 
 -- whole lines were written, of the first of the quads that are due in the front of these tokens
 pub record WritesSome (job : Conversion) (tokens : List Token) (old new : Option (List ℕ)) : Type 0 where
   pub quads : List Quad
   pub due : BeginsDue job.language.documents job.language.passes tokens quads
-  pub written : Appends old new (lines_of job.form quads)
-  pub ascii : IsAscii job.form quads
+  pub written : Appends old new (lines_of job.form (put_quads job quads))
+  pub ascii : IsAscii job.form (put_quads job quads)
 
 -- a beginning of the lines of the quads that are due in the front of these tokens was written
 pub record WritesFront (job : Conversion) (tokens : List Token) (old new : Option (List ℕ)) : Type 0 where
   pub quads : List Quad
   pub due : BeginsDue job.language.documents job.language.passes tokens quads
-  pub written : AppendsFront old new (lines_of job.form quads)
-  pub ascii : IsAscii job.form quads
+  pub written : AppendsFront old new (lines_of job.form (put_quads job quads))
+  pub ascii : IsAscii job.form (put_quads job quads)
 
 -- The bytes are refused at the place, so they are no document within the limits, and the lines of the quads that are due before it were
 -- written. Or there are too many bytes: as many as a document may have go on, and the lines of all quads that are due in them were written.

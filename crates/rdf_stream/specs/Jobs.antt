@@ -6,13 +6,14 @@ use Rattle.rdf_lines.specs.declared.form.Escapes.TheVariants.{Plain}
 use Rattle.rdf_stream.specs.declared.form.Form.{Form}
 
 -- the document's format, its base or none, the prefixes that are bound before it with their IRIs, the escapes of what is written, the word in front of the
--- names of nodes there, which may be empty, and the limits
+-- names of nodes there, which may be empty, the graph that quads of the default graph get there or none, and the limits
 pub record JobRead : Type 0 where
   pub form : Form
   pub base : Option (List ℕ)
   pub bindings : List (List ℕ × List ℕ)
   pub escapes : Escapes
   pub node_prefix : List ℕ
+  pub graph : Option (List ℕ)
   pub limits : Sizes
 
 -- the word that was given, or the empty one
@@ -20,6 +21,6 @@ abbrev pub word_of : Option (List ℕ) → List ℕ
 word_of None = []
 word_of (Some w) = w
 
--- without a base and bindings, in plain lines without a word, and with the default limits
+-- without a base and bindings, in plain lines without a word and a graph, and with the default limits
 abbrev pub job_of : Form → JobRead
-job_of form = record { form = form; base = None; bindings = []; escapes = Plain; node_prefix = []; limits = default_sizes }
+job_of form = record { form = form; base = None; bindings = []; escapes = Plain; node_prefix = []; graph = None; limits = default_sizes }

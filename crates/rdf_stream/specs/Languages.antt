@@ -1,5 +1,5 @@
 -- What each format is to a run: its language, and how the quads of its documents are written.
-use Rattle.std.specs.Prelude.{ℕ}
+use Rattle.std.specs.Prelude.{ℕ, List, Option}
 use Rattle.rdf_terms.specs.Terms.{Quad}
 use Rattle.rdf_tokens.specs.Grammars.{Language}
 use Rattle.rdf_driver.specs.Words.{Words, in_words}
@@ -13,19 +13,34 @@ use Rattle.rdf_stream.specs.declared.form.Kind.{Kind}
 use Rattle.rdf_stream.specs.declared.form.Kind.TheVariants.{Line, Tree}
 use Rattle.rdf_stream.specs.Kinds.{kind_of}
 use Rattle.rdf_stream.specs.Jobs.{JobRead}
+use Rattle.rdf_stream.specs.Graphs.{all_in_graph}
+
+-- how quads are written: the form of their lines, and the graph that those of the default graph get, or none
+pub record Output : Type 0 where
+  pub form : Form
+  pub graph : Option (List ℕ)
 
 -- what is read, and how its quads are written
 pub record Conversion : Type 1 where
   pub language : Language
   pub form : Form
+  pub graph : Option (List ℕ)
+
+-- the quads as they are written: those of the default graph are in the graph that was asked for
+abbrev pub put_quads : Conversion → List Quad → List Quad
+put_quads job qs = all_in_graph job.graph qs
 
 -- the conversion of what a grammar reads from this start on, with this limit on its tokens
-abbrev pub conversion : {G X : Type 0} → Words G X Quad → X → ℕ → Form → Conversion
-conversion w x limit form = record { language = in_words w x limit; form = form }
+abbrev pub conversion : {G X : Type 0} → Words G X Quad → X → ℕ → Output → Conversion
+conversion w x limit output = record { language = in_words w x limit; form = output.form; graph = output.graph }
 
 -- what a job asks of the lines, with blank nodes named in a style
 abbrev pub written_form : Style → JobRead → Form
 written_form style job = record { style = style; escapes = job.escapes; prefix = job.node_prefix }
+
+-- so its form, and the job's graph
+abbrev pub output : Style → JobRead → Output
+output style job = record { form = written_form style job; graph = job.graph }
 
 -- the base and the bindings of the job are in force before the first token
 abbrev pub tree_job : DocForm → JobRead → Chosen
@@ -33,8 +48,8 @@ tree_job form job = record { form = form; start = record { base = job.base; bind
 
 -- The line formats have no relative references and no prefixes, and so no base and no bindings. Their labels are kept, those of the others are renamed.
 abbrev pub conversion_by : Kind → JobRead → Conversion
-conversion_by (Line form) job = record { language = in_lines form job.limits.token job.limits.iri; form = written_form Kept job }
-conversion_by (Tree form) job = record { language = language form (tree_job form job).start; form = written_form Tagged job }
+conversion_by (Line form) job = record { language = in_lines form job.limits.token job.limits.iri; form = written_form Kept job; graph = job.graph }
+conversion_by (Tree form) job = record { language = language form (tree_job form job).start; form = written_form Tagged job; graph = job.graph }
 
 -- what a job asks of `convert`
 abbrev pub conversion_of : JobRead → Conversion

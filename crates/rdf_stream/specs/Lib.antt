@@ -4,6 +4,7 @@ pub mod Told
 pub mod Messages
 pub mod Jobs
 pub mod Kinds
+pub mod Graphs
 pub mod Languages
 pub mod WrittenForms
 pub mod Converts
@@ -13,6 +14,8 @@ pub mod Expected
 pub mod Shows
 pub mod Loads
 -- what need not be: functions that compute, machines and states, what the code's side speaks of, and the laws
+pub mod GraphTexts
+pub mod Outputs
 pub mod LineOut
 pub mod Pieces
 pub mod Parts

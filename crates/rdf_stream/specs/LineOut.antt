@@ -1,14 +1,13 @@
 -- What a sink of lines does to the bytes of its drain and to those that wait for it.
-use Rattle.std.specs.Prelude.{◌≡◌, ◌<◌, ℕ, Bool, true, false, List, [], ◌++◌, length, Option, encode_utf8_all}
+use Rattle.std.specs.Prelude.{◌≡◌, ◌<◌, ℕ, Bool, true, false, List, [], ◌++◌, length, Option}
 use Rattle.std.specs.Io.KnownBytes.{Appends}
 use Rattle.rdf_terms.specs.Terms.{Quad, IsQuad}
-use Rattle.rdf_lines.specs.declared.form.WrittenForm.{WrittenForm}
-use Rattle.rdf_lines.specs.Forms.{form_of}
-use Rattle.rdf_lines.specs.NodePrefixes.{line_in}
 use Rattle.rdf_stream.specs.Devices.{Grows}
 use Rattle.rdf_stream.specs.declared.fault.StreamFault.{StreamFault}
 use Rattle.rdf_stream.specs.declared.fault.StreamFault.TheVariants as fault
 use Rattle.rdf_stream.specs.declared.line_out.LineOut.{LineOut}
+use Rattle.rdf_stream.specs.declared.output.OutputView.{OutputView}
+use Rattle.rdf_stream.specs.Outputs.{line_by, output_of}
 
 -- fewer bytes wait when a line has been put
 abbrev pub most_waiting : ℕ
@@ -20,7 +19,7 @@ pub record Moves (before after : Option (List ℕ)) (bytes rest : List ℕ) : Ty
   pub whole : bytes ≡ front ++ rest
   pub taken : Appends before after front
 
--- the form stays, and where the bytes go
+-- the form stays, and the graph, and where the bytes go
 pub record SameOut {D A : Type 0} (before after : LineOut D A) : Type 0 where
   pub form : after.form ≡ before.form
   pub buffer : after.buffer.ghost_name ≡ before.buffer.ghost_name
@@ -36,8 +35,22 @@ abbrev pub Writes : {D A : Type 0} → (D → Option (List ℕ)) → LineOut D A
 Writes contents before bytes after = Moves (contents before.drain.now) (contents after.drain.now) (before.buffer.now ++ bytes) after.buffer.now
 
 -- the bytes of the quad's line
-abbrev pub line_bytes : WrittenForm → Quad → List ℕ
-line_bytes f q = encode_utf8_all (line_in (form_of f) q)
+abbrev pub line_bytes : OutputView → Quad → List ℕ
+line_bytes f q = line_by (output_of f) q
+
+-- What a put of some bytes does: they are written after the others.
+pub record TakesBytes {D A : Type 0} (contents : D → Option (List ℕ)) (failed : D → Bool) (before : LineOut D A) (bytes : List ℕ) (after : LineOut D A) : Type 0 where
+  pub same : SameOut before after
+  pub writes : Writes contents before bytes after
+  pub few : length before.buffer.now < most_waiting → length after.buffer.now < most_waiting
+  pub live : failed after.drain.now ≡ false
+
+-- what a refused put of them leaves: the drain took a beginning of all, and where it has not failed nothing of them
+pub record LeavesBytes {D A : Type 0} (contents : D → Option (List ℕ)) (failed : D → Bool) (before : LineOut D A) (bytes : List ℕ) (after : LineOut D A) : Type 0 where
+  pub same : SameOut before after
+  pub rest : List ℕ
+  pub moves : Moves (contents before.drain.now) (contents after.drain.now) (before.buffer.now ++ bytes) rest
+  pub live : failed after.drain.now ≡ false → Writes contents before [] after
 
 -- What a put of a quad does: its line is written after the others. The quad's type says that it is well formed.
 pub record Takes {D A : Type 0} (contents : D → Option (List ℕ)) (failed : D → Bool) (before : LineOut D A) (q : Quad) (after : LineOut D A) : Type 0 where

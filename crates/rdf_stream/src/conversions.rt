@@ -1,13 +1,13 @@
 // From a document to the lines of its quads.
 
 ghost use Rattle.std.specs.Prelude.{◌≡◌, ◌++◌, true, false, OnOk, IfOk, IfErr, IfSome};
-ghost use Rattle.rdf_lines.specs.Forms.{form_of};
 ghost use Rattle.rdf_stream.specs.Converting.{Begins, ConversionStops, Converts, IsConverting, IsPutting, KeepsPrompt, RunEnds, RunHalts, Starts};
 ghost use Rattle.rdf_stream.specs.Converts.{AcceptsAll, IsPrompt, StopsFor};
 ghost use Rattle.rdf_stream.specs.Expected.{ExpectsFor, NoKind, RunExpects, Stands, trees_of};
 ghost use Rattle.rdf_stream.specs.Faults.{IsRefusal, IsSentOn};
 ghost use Rattle.rdf_stream.specs.Languages.{conversion_of, language_of};
 ghost use Rattle.rdf_stream.specs.LineOut.{OnlyGrows};
+ghost use Rattle.rdf_stream.specs.Outputs.{output_of};
 ghost use Rattle.rdf_stream.specs.Told.{AsTold, told};
 
 use crate::devices::{Drain, Failed, Source};
@@ -16,16 +16,17 @@ use crate::fault::StreamFault;
 use crate::form::Kind;
 use crate::job::Job;
 use crate::line_out::{LineOut, stop};
+use crate::output::OutputView;
 use crate::parts::{Parts, take_parts};
 use crate::passes::Passes;
 use crate::pieces::{Run, piece_buffer, read_pieces};
 use rdf_driver::{Kinds, QuadGrammar, Reader, Summary};
-use rdf_lines::{LineBuffer, LineEnding, Style, WrittenForm, line_reader};
+use rdf_lines::{LineBuffer, LineEnding, Style, line_reader};
 use rdf_trig::tree_reader;
 use std::alloc::Allocator;
 
 /// Reads a document of the job's format from the source, writes the lines of its quads to the drain with the job's
-/// escapes and its word in front of the names of nodes, and flushes it, also after a refusal.
+/// escapes, its word in front of the names of nodes and its graph, and flushes it, also after a refusal.
 ///
 /// Before it asks the source for more, all lines that are due of the bytes so far have been handed to the drain (`prompt`),
 /// and so they have before a refusal or a failed read is reported.
@@ -80,7 +81,7 @@ pub fn convert_expecting<A: Allocator + Copy, S: Source, D: Drain>(
             let result = convert_with(
                 alloc,
                 reader,
-                job.written_form(Style::Kept),
+                job.output(Style::Kept),
                 source,
                 drain,
                 expected,
@@ -93,7 +94,7 @@ pub fn convert_expecting<A: Allocator + Copy, S: Source, D: Drain>(
             let result = convert_with(
                 alloc,
                 reader,
-                job.written_form(Style::Tagged),
+                job.output(Style::Tagged),
                 source,
                 drain,
                 expected,
@@ -104,35 +105,35 @@ pub fn convert_expecting<A: Allocator + Copy, S: Source, D: Drain>(
     }
 }
 
-// Converts what the reader reads to lines that are written so.
+// Converts what the reader reads to the lines of its quads.
 fn convert_with<A: Allocator + Copy, G: Passes<A>, S: Source, D: Drain>(
     alloc: A,
     reader: Reader<G, A>,
-    written: WrittenForm<'_>,
+    output: OutputView<'_>,
     source: &mut S,
     drain: &mut D,
     expected: &mut Kinds,
 ) -> Result<Summary, StreamFault>
-    requires starts { (x : G.Setting) × Starts G.words x reader written.style }
-    requires styled { written.style ≡ G.style }
+    requires starts { (x : G.Setting) × Starts G.words x reader output.lines.style }
+    requires styled { output.lines.style ≡ G.style }
     requires more { S.has_ended source.old ≡ false }
     requires source { S.has_failed source.old ≡ false }
     requires drain { D.has_failed drain.old ≡ false }
-    ensures accepted { IfOk result (Converts G.words S.Source D.Drain reader (form_of written.entry) source.old drain.old drain.new) }
+    ensures accepted { IfOk result (Converts G.words S.Source D.Drain reader (output_of output.entry) source.old drain.old drain.new) }
     ensures ended { OnOk result (S.has_ended source.new ≡ true) }
     ensures flushed { OnOk result (D.is_flushed drain.new ≡ true) }
-    ensures stops { IfErr result (ConversionStops G.words S.Source D.Drain reader (form_of written.entry) source.old source.new drain.old drain.new) }
+    ensures stops { IfErr result (ConversionStops G.words S.Source D.Drain reader (output_of output.entry) source.old source.new drain.old drain.new) }
     ensures refused { IfErr result IsRefusal }
     ensures sent { IfErr result (λ fault. IsSentOn fault (D.is_flushed drain.new)) }
-    ensures prompt { KeepsPrompt G.words S.Source D.Drain reader (form_of written.entry) source.old source.new drain.old drain.new }
-    ensures expected { RunExpects G.words G.trees (λ x. Starts G.words x reader written.entry.style) reader.scanner.limit result
+    ensures prompt { KeepsPrompt G.words S.Source D.Drain reader (output_of output.entry) source.old source.new drain.old drain.new }
+    ensures expected { RunExpects G.words G.trees (λ x. Starts G.words x reader output.entry.lines.style) reader.scanner.limit result
         (S.remaining source.old) (told S.Source source.new) expected.new }
 {
     *expected = Kinds::none();
     let mut piece = piece_buffer(alloc)?;
     let mut reader = reader;
     let mut buffer = LineBuffer::new(alloc);
-    let mut lines = LineOut::new(written, &mut buffer, drain);
+    let mut lines = LineOut::new(output, &mut buffer, drain);
     let result = read_pieces(source, piece.as_mut_slice(), &mut reader, &mut lines);
     *expected = expected_beside(&reader, &result);
     result

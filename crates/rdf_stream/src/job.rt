@@ -1,13 +1,15 @@
 // What a run is asked for.
 
-ghost use Rattle.std.specs.Prelude.{◌≡◌, ◌↔◌, None, [], Decides, IfSome};
+ghost use Rattle.std.specs.Prelude.{◌≡◌, ◌↔◌, None, Some, [], Decides, IfSome};
 ghost use Rattle.rdf_iri.specs.Scope.{BaseFits};
 ghost use Rattle.rdf_iri.specs.Texts.{byte_len};
 ghost use Rattle.rdf_lines.specs.Forms.{form_of};
 ghost use Rattle.rdf_stream.specs.Jobs.{JobRead};
-ghost use Rattle.rdf_stream.specs.Languages.{tree_job, written_form};
+ghost use Rattle.rdf_stream.specs.Languages.{output, tree_job, written_form};
+ghost use Rattle.rdf_stream.specs.Outputs.{output_of};
 
 use crate::form::Form;
+use crate::output::{GraphView, OutputView};
 use rdf_iri::{Bindings, Limits};
 use rdf_lines::{Escapes, NodePrefix, NodePrefixView, Style, WrittenForm};
 use rdf_terms::Iri;
@@ -15,9 +17,10 @@ use rdf_trig::{DocForm, Options};
 use std::alloc::{Allocator, Global};
 use std::marker::Model;
 
-/// The format of a document, the base that its references are resolved against first, the prefixes that are bound before
-/// it, the escapes of what is written for it, the word in front of the names of nodes there, and the limits. The line
-/// formats have no relative references and no prefixes, so they do not look at base and bindings.
+/// The format of a document, the base that its references are resolved against first, the prefixes that are bound
+/// before it, the escapes of what is written for it, the word in front of the names of nodes there, the graph that quads
+/// of the default graph get there, and the limits. The line formats have no relative references and no prefixes, so they
+/// do not look at base and bindings.
 #[derive(Drop)]
 pub struct Job<A: Allocator = Global> {
     form: Form,
@@ -25,6 +28,7 @@ pub struct Job<A: Allocator = Global> {
     bindings: Option<Bindings<A>>,
     escapes: Escapes,
     node_prefix: Option<NodePrefix<A>>,
+    graph: Option<Iri<A>>,
     limits: Limits,
 }
 
@@ -42,6 +46,7 @@ impl<A: Allocator> Model for Job<A> {
       bindings = handed_in j.bindings;
       escapes = j.escapes;
       node_prefix = word_of j.node_prefix;
+      graph = j.graph;
       limits = j.limits;
     } };
 
@@ -49,8 +54,8 @@ impl<A: Allocator> Model for Job<A> {
 }
 
 impl<A: Allocator> Job<A> {
-    /// A job without bindings, in plain lines and without a word in front of the names of nodes, or None where the base has more
-    /// bytes than the limits allow for an IRI. It takes no memory.
+    /// A job without bindings, in plain lines, without a word in front of the names of nodes and without a graph, or None
+    /// where the base has more bytes than the limits allow for an IRI. It takes no memory.
     pub fn new(form: Form, base: Option<Iri<A>>, limits: Limits) -> Option<Job<A>>
         ensures made { IfSome result (λ job. job ≡ record {
           form = form;
@@ -58,6 +63,7 @@ impl<A: Allocator> Job<A> {
           bindings = [];
           escapes = Escapes.Plain;
           node_prefix = [];
+          graph = None;
           limits = limits;
         }) }
         ensures none { (result ≡ None) ↔ ¬ BaseFits base limits }
@@ -71,6 +77,7 @@ impl<A: Allocator> Job<A> {
             bindings: None,
             escapes: Escapes::Plain,
             node_prefix: None,
+            graph: None,
             limits,
         })
     }
@@ -85,6 +92,7 @@ impl<A: Allocator> Job<A> {
             base,
             escapes,
             node_prefix,
+            graph,
             limits,
             ..
         } = self;
@@ -94,6 +102,7 @@ impl<A: Allocator> Job<A> {
             bindings: Some(bindings),
             escapes,
             node_prefix,
+            graph,
             limits,
         }
     }
@@ -116,6 +125,7 @@ impl<A: Allocator> Job<A> {
             base,
             bindings,
             escapes,
+            graph,
             limits,
             ..
         } = self;
@@ -125,6 +135,32 @@ impl<A: Allocator> Job<A> {
             bindings,
             escapes,
             node_prefix: Some(prefix),
+            graph,
+            limits,
+        }
+    }
+
+    /// The same, with quads of the default graph written in this graph, in place of the one that was. A quad that has a
+    /// graph stays in it. It takes no memory.
+    pub fn with_graph(self, graph: Iri<A>) -> Job<A>
+        ensures { result ≡ record self { graph = Some graph } }
+    {
+        let Job {
+            form,
+            base,
+            bindings,
+            escapes,
+            node_prefix,
+            limits,
+            ..
+        } = self;
+        Job {
+            form,
+            base,
+            bindings,
+            escapes,
+            node_prefix,
+            graph: Some(graph),
             limits,
         }
     }
@@ -136,8 +172,22 @@ impl<A: Allocator> Job<A> {
         self.form
     }
 
-    /// What is asked of the lines, with blank nodes named in a style.
-    pub(crate) fn written_form(&self, style: Style) -> WrittenForm<'_>
+    /// How quads are written, with blank nodes named in a style.
+    pub(crate) fn output(&self, style: Style) -> OutputView<'_>
+        ensures { output_of result ≡ output style self.now }
+    {
+        let graph = match &self.graph {
+            Some(iri) => GraphView::new(iri),
+            None => GraphView::none(),
+        };
+        OutputView {
+            lines: self.written_form(style),
+            graph,
+        }
+    }
+
+    // What is asked of the lines.
+    fn written_form(&self, style: Style) -> WrittenForm<'_>
         ensures { form_of result ≡ written_form style self.now }
     {
         let prefix = match &self.node_prefix {

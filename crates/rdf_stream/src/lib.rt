@@ -11,6 +11,7 @@ mod job;
 mod line_out;
 mod loads;
 mod messages;
+mod output;
 mod parts;
 mod passes;
 mod pieces;

@@ -2,22 +2,25 @@
 
 ghost use Rattle.std.specs.Prelude.{◌≡◌, ◌↔◌, [], ◌<◌, length, true, false, Bool, List, ℕ, Option, is_err, OnOk, OnErr, IfErr};
 ghost use Rattle.std.specs.Io.KnownBytes.{Appends};
+ghost use Rattle.rdf_terms.specs.Views.{quad_of};
 ghost use Rattle.rdf_lines.specs.Canonical.{without_crs, written_as};
 ghost use Rattle.rdf_stream.specs.Converting.{Reports};
 ghost use Rattle.rdf_stream.specs.Devices.{AppendsFront};
 ghost use Rattle.rdf_stream.specs.Faults.{IsSentOn};
 ghost use Rattle.rdf_tokens.specs.Scans.{token_of};
-ghost use Rattle.rdf_stream.specs.LineOut.{Leaves, PutHalts, SameOut, Takes, Writes, most_waiting};
+ghost use Rattle.rdf_stream.specs.LineOut.{Leaves, LeavesBytes, PutHalts, SameOut, Takes, TakesBytes, Writes, line_bytes, most_waiting};
+ghost use Rattle.rdf_stream.specs.Outputs.{line_of};
 ghost use Rattle.rdf_stream.specs.Showing.{LeavesToken, TakesToken};
 ghost use Rattle.rdf_stream.specs.WrittenForms.{keeps_lines};
 
 use crate::devices::{Drain, Failed};
 use crate::fault::StreamFault;
+use crate::output::{OutputView, in_graph};
 use crate::put::put_all;
 use crate::token_line::put_token_line;
 use crate::views::see_quad;
 use crate::without_crs::put_without_crs;
-use rdf_lines::{Escapes, LabelFault, LineBuffer, LineEnding, WrittenForm};
+use rdf_lines::{Escapes, LabelFault, LineBuffer, LineEnding};
 use rdf_terms::{PutFault, QuadRef, QuadSink};
 use rdf_tokens::{Fault, Token};
 use std::alloc::{Allocator, Global};
@@ -28,11 +31,11 @@ const WAITING_LEN: usize = 65536;
 /// Fewer bytes than these are copied after what waits, and more go to the drain as they stand.
 const COPIED_LEN: usize = 4096;
 
-/// The lines of the quads that were put: the drain has their front, and the buffer what waits for it. A put of a quad
-/// that the style can't write is refused, as one for which there is no memory.
+/// The lines of the quads that were put, in the graph that was asked for: the drain has their front, and the buffer
+/// what waits for it. A put of a quad that the style can't write is refused, as one for which there is no memory.
 #[derive(Drop)]
 pub(crate) struct LineOut<'a, D: Drain, A: Allocator = Global> {
-    form: WrittenForm<'a>,
+    form: OutputView<'a>,
     buffer: &'a mut LineBuffer<A>,
     drain: &'a mut D,
 }
@@ -40,7 +43,7 @@ pub(crate) struct LineOut<'a, D: Drain, A: Allocator = Global> {
 impl<'a, D: Drain, A: Allocator + Copy> LineOut<'a, D, A> {
     /// No line waits.
     pub(crate) fn new(
-        form: WrittenForm<'a>,
+        form: OutputView<'a>,
         buffer: &'a mut LineBuffer<A>,
         drain: &'a mut D,
     ) -> LineOut<'a, D, A>
@@ -59,15 +62,16 @@ impl<'a, D: Drain, A: Allocator + Copy> LineOut<'a, D, A> {
 
     /// Whether characters above U+007F are escaped.
     pub(crate) fn is_ascii(&self) -> bool {
-        matches!(self.form.escapes, Escapes::Ascii)
+        matches!(self.form.lines.escapes, Escapes::Ascii)
     }
 
     /// Whether plain lines stand in what is written as they are, where they are known to be ASCII or not.
     pub(crate) fn keeps_lines(&self, are_ascii: bool) -> bool
         ensures { result ≡ keeps_lines self.now.form are_ascii }
     {
-        (are_ascii || matches!(self.form.escapes, Escapes::Plain))
-            && self.form.prefix.as_str().is_empty()
+        (are_ascii || matches!(self.form.lines.escapes, Escapes::Plain))
+            && self.form.lines.prefix.as_str().is_empty()
+            && self.form.graph.is_none()
     }
 
     /// Hands over all that waits.
@@ -178,6 +182,41 @@ impl<'a, D: Drain, A: Allocator + Copy> LineOut<'a, D, A> {
         Ok(())
     }
 
+    // Puts the line of a quad as it is.
+    #[inline(always)]
+    fn put_line(&mut self, quad: &QuadRef<'_>) -> Result<(), PutFault>
+        requires live { D.has_failed self.old.drain.now ≡ false }
+        ensures taken { OnOk result (TakesBytes D.contents D.has_failed self.old (line_of self.old.form.lines quad.now) self.new) }
+        ensures left { OnErr result (LeavesBytes D.contents D.has_failed self.old (line_of self.old.form.lines quad.now) self.new) }
+        ensures device { (D.has_failed self.new.drain.now ≡ true) ↔ (result ≡ Err PutFault.Device) }
+    {
+        match self.buffer.put_line(quad, self.form.lines) {
+            Ok(()) => {}
+            // No reader gives a quad that its style can't write. If one did, it would end the run.
+            Err(LabelFault::NotLabelled) => return Err(PutFault::Memory),
+            Err(LabelFault::Memory) => return Err(PutFault::Memory),
+        }
+        if self.buffer.len() < WAITING_LEN {
+            return Ok(());
+        }
+        match self.hand_over() {
+            Ok(()) => Ok(()),
+            Err(Failed) => Err(PutFault::Device),
+        }
+    }
+
+    // Puts the line of a quad in the graph that was asked for. It stands apart, so that a put without one is no longer
+    // for it.
+    #[inline(never)]
+    fn put_in_graph(&mut self, quad: &QuadRef<'_>) -> Result<(), PutFault>
+        requires live { D.has_failed self.old.drain.now ≡ false }
+        ensures taken { OnOk result (TakesBytes D.contents D.has_failed self.old (line_bytes self.old.form (quad_of quad.now)) self.new) }
+        ensures left { OnErr result (LeavesBytes D.contents D.has_failed self.old (line_bytes self.old.form (quad_of quad.now)) self.new) }
+        ensures device { (D.has_failed self.new.drain.now ≡ true) ↔ (result ≡ Err PutFault.Device) }
+    {
+        self.put_line(&in_graph(quad, self.form.graph))
+    }
+
     /// Puts the line of a token.
     #[inline(always)]
     pub(crate) fn put_token(&mut self, token: Token<'_>) -> Result<(), PutFault>
@@ -209,19 +248,10 @@ impl<'a, D: Drain, A: Allocator + Copy> QuadSink for LineOut<'a, D, A> {
 
     fn put(&mut self, quad: &QuadRef<'_>) -> Result<(), PutFault> {
         see_quad(quad);
-        match self.buffer.put_line(quad, self.form) {
-            Ok(()) => {}
-            // No reader gives a quad that its style can't write. If one did, it would end the run.
-            Err(LabelFault::NotLabelled) => return Err(PutFault::Memory),
-            Err(LabelFault::Memory) => return Err(PutFault::Memory),
+        if self.form.graph.is_none() {
+            return self.put_line(quad);
         }
-        if self.buffer.len() < WAITING_LEN {
-            return Ok(());
-        }
-        match self.hand_over() {
-            Ok(()) => Ok(()),
-            Err(Failed) => Err(PutFault::Device),
-        }
+        self.put_in_graph(quad)
     }
 
     fn failed(&self) -> bool {

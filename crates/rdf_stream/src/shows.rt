@@ -73,7 +73,7 @@ fn show_in<T: Spoken + Drop, A: Allocator + Copy, S: Source, D: Drain>(
 {
     let mut piece = piece_buffer(alloc)?;
     let mut buffer = LineBuffer::new(alloc);
-    let mut lines = LineOut::new(job.written_form(Style::Kept), &mut buffer, drain);
+    let mut lines = LineOut::new(job.output(Style::Kept), &mut buffer, drain);
     let limit = job.limits().token();
     let mut reader = Reader::new(alloc, TokenGrammar::new(spoken, limit), limit);
     read_pieces(source, piece.as_mut_slice(), &mut reader, &mut lines)

@@ -51,6 +51,7 @@ fn task(alloc: Global, action: Action, form: Form, limits: Limits) -> Task
         limits,
         escapes: Escapes::Plain,
         node_prefix: None,
+        graph: None,
         prefixes: None,
         file: None,
         more: Vec::new(alloc),
@@ -138,6 +139,8 @@ fn other_field(task: &Task, fields: &Fields<'_>) -> Option<&'static str> {
 fn other_text(task: &Task, fields: &Fields<'_>) -> Option<&'static str> {
     if task.node_prefix.as_ref().map(|word| word.view().as_str()) != fields.node_prefix {
         Some("node prefix")
+    } else if task.graph.as_ref().map(|graph| graph.as_str()) != fields.graph {
+        Some("graph")
     } else if task.prefixes.as_deref() != fields.prefixes {
         Some("prefixes")
     } else if task.file.as_deref() != fields.file {
@@ -317,6 +320,7 @@ fn long_task_differs_in(alloc: Global, base: &str, file: &str) -> Option<&'stati
         limits: [1, 2, 3, 200000],
         escapes: Escapes::Plain,
         node_prefix: None,
+        graph: None,
         prefixes: None,
         file: Some(file),
         more: &[],

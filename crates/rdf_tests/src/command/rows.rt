@@ -136,6 +136,7 @@ pub(crate) struct Fields<'a> {
     pub(crate) limits: [u64; 4],
     pub(crate) escapes: Escapes,
     pub(crate) node_prefix: Option<&'a str>,
+    pub(crate) graph: Option<&'a str>,
     pub(crate) prefixes: Option<&'a str>,
     pub(crate) file: Option<&'a str>,
     /// The formats and names of the documents after the first.
@@ -159,13 +160,14 @@ pub(crate) static TASKS: [Asked; 6] = [
             limits: [16777216, 1024, 65536, 1048576],
             escapes: Escapes::Plain,
             node_prefix: None,
+            graph: None,
             prefixes: None,
             file: None,
             more: &[],
         },
     },
     Asked {
-        line: "rdfconv convert --iri 12 --format=nt --base http://a/b/c --token=1 --depth 0 data.nt --ascii --bindings 2 --prefixes ex.txt --node-prefix Ab1",
+        line: "rdfconv convert --iri 12 --format=nt --base http://a/b/c --token=1 --depth 0 data.nt --ascii --bindings 2 --prefixes ex.txt --node-prefix Ab1 --graph http://a/b/g",
         fields: Fields {
             action: Action::Convert,
             form: Form::NTriples,
@@ -173,6 +175,7 @@ pub(crate) static TASKS: [Asked; 6] = [
             limits: [1, 0, 2, 12],
             escapes: Escapes::Ascii,
             node_prefix: Some("Ab1"),
+            graph: Some("http://a/b/g"),
             prefixes: Some("ex.txt"),
             file: Some("data.nt"),
             more: &[],
@@ -187,6 +190,7 @@ pub(crate) static TASKS: [Asked; 6] = [
             limits: [16777216, 1024, 65536, 10],
             escapes: Escapes::Plain,
             node_prefix: None,
+            graph: None,
             prefixes: None,
             file: None,
             more: &[],
@@ -201,6 +205,7 @@ pub(crate) static TASKS: [Asked; 6] = [
             limits: [16777216, 1024, 65536, 9],
             escapes: Escapes::Plain,
             node_prefix: None,
+            graph: None,
             prefixes: None,
             file: None,
             more: &[(Form::TriG, "a.nt"), (Form::TriG, "-"), (Form::TriG, "b")],
@@ -215,6 +220,7 @@ pub(crate) static TASKS: [Asked; 6] = [
             limits: [16777216, 1024, 65536, 1048576],
             escapes: Escapes::Plain,
             node_prefix: None,
+            graph: None,
             prefixes: None,
             file: Some("a.ttl"),
             more: &[
@@ -233,6 +239,7 @@ pub(crate) static TASKS: [Asked; 6] = [
             limits: [16777216, 1024, 65536, 1048576],
             escapes: Escapes::Plain,
             node_prefix: None,
+            graph: None,
             prefixes: None,
             file: Some("a/b.nq"),
             more: &[],
@@ -251,15 +258,19 @@ pub(crate) struct Started {
 
 pub(crate) const INPUT: &str = "<a:> <b:> _:input .";
 
-pub(crate) static FILES: [(&str, &str); 5] = [
+pub(crate) static FILES: [(&str, &str); 6] = [
     ("data.nt", "<a:> <b:> \"file\" ."),
     ("data.ttl", "ex:s ex:p ex:o ."),
+    (
+        "graphs.trig",
+        "<a:> <b:> [] . <a:g> { <a:> <b:> _:x } [ <b:> 1 ] .",
+    ),
     ("accents.ttl", "<a:é> <b:> \"😀\" , _:é ."),
     ("ex.txt", "ex: http://e/\n"),
     ("bad.txt", "ex: http://e/\nex: e\n"),
 ];
 
-pub(crate) static STARTED: [Started; 22] = [
+pub(crate) static STARTED: [Started; 26] = [
     Started {
         line: "rdfconv show x x x x x x x x x x x x x x x x x x x x x x x x x x x x x x x x x x x x x x x x x x x x x x x x",
         status: 2,
@@ -348,6 +359,30 @@ pub(crate) static STARTED: [Started; 22] = [
         line: "rdfconv convert --node-prefix=x1 accents.ttl",
         status: 0,
         written: "<a:é> <b:> \"😀\" .\n<a:é> <b:> _:x1né .\n",
+        reported: "",
+    },
+    Started {
+        line: "rdfconv convert --graph a:h data.nt",
+        status: 0,
+        written: "<a:> <b:> \"file\" <a:h> .\n",
+        reported: "",
+    },
+    Started {
+        line: "rdfconv convert --graph a:h --format nt data.nt",
+        status: 0,
+        written: "<a:> <b:> \"file\" <a:h> .\n",
+        reported: "",
+    },
+    Started {
+        line: "rdfconv convert --graph=a:é --ascii --node-prefix x accents.ttl",
+        status: 0,
+        written: "<a:\\u00E9> <b:> \"\\U0001F600\" <a:\\u00E9> .\n<a:\\u00E9> <b:> _:xné <a:\\u00E9> .\n",
+        reported: "",
+    },
+    Started {
+        line: "rdfconv convert graphs.trig --graph a:h",
+        status: 0,
+        written: "<a:> <b:> _:a10 <a:h> .\n<a:> <b:> _:nx <a:g> .\n_:a39 <b:> \"1\"^^<http://www.w3.org/2001/XMLSchema#integer> <a:h> .\n",
         reported: "",
     },
     Started {

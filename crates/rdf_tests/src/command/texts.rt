@@ -34,15 +34,17 @@ Options of a command, which reads FILE, or standard input where there is none or
   --node-prefix WORD
                    (convert) WORD, of ASCII letters and digits, in front of the label of each
                    blank node, so that outputs with different words of one length can be joined
+  --graph IRI      (convert) absolute IRI of a graph, at most --iri bytes, in which quads of the
+                   default graph are written; those of other graphs stay in theirs
 Past one of the limits N a document is refused. `show` looks at tokens alone: --base, --depth,
 --bindings and --iri have no use there, but a base that is no IRI, or is too long, is reported.
 
 Exit status:
   0  accepted, or help was asked for
   1  refused, with `rdfconv: REASON at byte N, line M` on standard error
-  2  the words are no command, the base is no IRI or too long, WORD is empty or has another
-     character, a file's name ends in no format where it is asked for one, or a line of PREFIXES
-     is refused, with `rdfconv: bad prefixes at line N`
+  2  the words are no command, the base or the graph is no IRI or too long, WORD is empty or has
+     another character, a file's name ends in no format where it is asked for one, or a line of
+     PREFIXES is refused, with `rdfconv: bad prefixes at line N`
   3  a file does not open, or a read or write failed
   4  out of memory
 The status of several documents is the greatest of theirs.
@@ -112,6 +114,7 @@ Options:
       --prefixes <PREFIXES>  File of prefixes bound before the document, a line each: `ex: http://example.org/`
       --ascii                Characters above U+007F of strings and IRIs as \\uXXXX or \\UXXXXXXXX; labels of blank nodes stay
       --node-prefix <WORD>   Word of ASCII letters and digits in front of the label of each blank node
+      --graph <IRI>          Absolute IRI of the graph that quads of the default graph are written in, at most --iri bytes
   -h, --help                 Print help
 ";
 
@@ -170,9 +173,9 @@ Past one of the limits N a document is refused.
 Exit status:
   0  accepted, or help was asked for
   1  refused, with `rdfconv: REASON at byte N, line M` on standard error
-  2  the words are no command, the base is no IRI or too long, WORD is empty or has another
-     character, a file's name ends in no format where it is asked for one, or a line of PREFIXES
-     is refused, with `rdfconv: bad prefixes at line N`
+  2  the words are no command, the base or the graph is no IRI or too long, WORD is empty or has
+     another character, a file's name ends in no format where it is asked for one, or a line of
+     PREFIXES is refused, with `rdfconv: bad prefixes at line N`
   3  a file does not open, or a read or write failed
   4  out of memory
 ";
@@ -202,7 +205,7 @@ pub(crate) struct Refused {
     pub(crate) reported: &'static str,
 }
 
-pub(crate) static REFUSED: [Refused; 33] = [
+pub(crate) static REFUSED: [Refused; 37] = [
     Refused {
         line: "",
         reported: NO_COMMAND,
@@ -318,6 +321,22 @@ pub(crate) static REFUSED: [Refused; 33] = [
     Refused {
         line: "rdfconv convert --node-prefix=",
         reported: "rdfconv: bad node prefix\n",
+    },
+    Refused {
+        line: "rdfconv convert --graph g",
+        reported: "rdfconv: bad graph\n",
+    },
+    Refused {
+        line: "rdfconv convert --graph=",
+        reported: "rdfconv: bad graph\n",
+    },
+    Refused {
+        line: "rdfconv convert --graph a:12345678 --iri 9",
+        reported: "rdfconv: bad graph\n",
+    },
+    Refused {
+        line: "rdfconv check --graph a:g",
+        reported: "error: unexpected argument '--graph' found\n\n  tip: to pass '--graph' as a value, use '-- --graph'\n\nUsage: rdfconv check [OPTIONS] [FILE]...\n\nFor more information, try '--help'.\n",
     },
     Refused {
         line: "rdfconv convert --format name data.nt.gz",

@@ -1,21 +1,16 @@
-use Rattle.std.proofs.Common.{refl}
-use Rattle.rdf_stream.proofs.LineOutLemmas.{waits, waits_same}
+use Rattle.std.proofs.Common.{refl, sym, ◌∙◌}
+use Rattle.std.proofs.lemmas.Bool.{eqb-true}
+use Rattle.std.proofs.lemmas.Result.{on_err_weaker}
+use Rattle.rdf_stream.proofs.LineOutLemmas.{left_by}
+use Rattle.rdf_stream.proofs.OutputLemmas.{no_graph}
 use Rattle.rdf_stream.proofs.line_out.LineOutQuadSink.put.Goals as goal
 
-pub returns-in-Err-NotLabelled-clause-left : goal.returns-in-Err-NotLabelled-clause-left
-returns-in-Err-NotLabelled-clause-left g c = record {
-  same = record { form = refl; buffer = refl; drain = refl };
-  formed = c.see_quad.ensures;
-  rest = _;
-  moves = waits _ _ _ refl;
-  live = λ h. waits_same _ _ _ c.in-Err-NotLabelled.ensures.unchanged;
-}
+pub returns-then-is_none-clause-left : goal.returns-then-is_none-clause-left
+returns-then-is_none-clause-left g c =
+    on_err_weaker c.put_line.result
+    (left_by g.D.Drain.contents g.D.Drain.has_failed c.args.self.now _ _ c.see_quad.ensures _ (sym (no_graph _ (eqb-true _ 0 (sym c.is_none.ensures ∙ c.if-is_none.true)))))
+    c.put_line.ensures.left
 
-pub returns-in-Err-Memory-clause-left : goal.returns-in-Err-Memory-clause-left
-returns-in-Err-Memory-clause-left g c = record {
-  same = record { form = refl; buffer = refl; drain = refl };
-  formed = c.see_quad.ensures;
-  rest = _;
-  moves = waits _ _ _ refl;
-  live = λ h. waits_same _ _ _ c.in-Err-Memory.ensures.unchanged;
-}
+pub returns-clause-left : goal.returns-clause-left
+returns-clause-left g c =
+    on_err_weaker c.put_in_graph.result (left_by g.D.Drain.contents g.D.Drain.has_failed c.args.self.now _ _ c.see_quad.ensures _ refl) c.put_in_graph.ensures.left

@@ -1,0 +1,7 @@
+use Rattle.std.proofs.Common.{ap}
+use Rattle.std.specs.Prelude.{Some}
+use Rattle.rdf_stream.specs.Jobs.{JobRead}
+use Rattle.rdf_stream.proofs.job.Job.with_graph.Goals as goal
+
+pub returns : goal.returns
+returns g c = ap (λ (j : JobRead). record j { graph = Some c.args.graph }) c.self.view_is

@@ -1,0 +1,33 @@
+-- What the code's values of an output mean.
+use Rattle.std.specs.Prelude.{ℕ, List, Option, None, encode_utf8_all}
+use Rattle.rdf_terms.specs.Terms.{Quad}
+use Rattle.rdf_terms.specs.Views.{quad_of}
+use Rattle.rdf_terms.specs.declared.views.QuadRef.{QuadRef}
+use Rattle.rdf_lines.specs.declared.form.WrittenForm.{WrittenForm}
+use Rattle.rdf_lines.specs.Forms.{form_of}
+use Rattle.rdf_lines.specs.NodePrefixes.{line_in, text_in}
+use Rattle.rdf_stream.specs.declared.output.GraphView.{GraphView}
+use Rattle.rdf_stream.specs.declared.output.OutputView.{OutputView}
+use Rattle.rdf_stream.specs.GraphTexts.{graph_in}
+use Rattle.rdf_stream.specs.Graphs.{all_in_graph, in_graph}
+use Rattle.rdf_stream.specs.Languages.{Output}
+
+-- the graph that the code's value means
+abbrev pub graph_of : GraphView → Option (List ℕ)
+graph_of v = graph_in v.iri.now
+
+-- the output that the code's value means
+abbrev pub output_of : OutputView → Output
+output_of v = record { form = form_of v.lines; graph = graph_of v.graph }
+
+-- the bytes of a quad's line
+abbrev pub line_by : Output → Quad → List ℕ
+line_by o q = encode_utf8_all (line_in o.form (in_graph o.graph q))
+
+-- the bytes of the quads' lines
+abbrev pub lines_by : Output → List Quad → List ℕ
+lines_by o qs = encode_utf8_all (text_in o.form (all_in_graph o.graph qs))
+
+-- the bytes of the line of a quad as it is
+abbrev pub line_of : WrittenForm → QuadRef → List ℕ
+line_of f q = line_by (record { form = form_of f; graph = None }) (quad_of q)
