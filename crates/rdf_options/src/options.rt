@@ -4,7 +4,7 @@ ghost use Rattle.std.specs.Prelude.{◌≡◌, IfOk, codes};
 ghost use Rattle.clap.specs.Words.{App, Rule, app_of, with_subcommand};
 ghost use Rattle.clap.specs.declared.builder.value_parser.ValueParser.TheVariants.{Names};
 ghost use Rattle.rdf_options.specs.Building.{HasRule, ReadsAs};
-ghost use Rattle.rdf_options.specs.Options.{action_app, ascii_rule, base_rule, bindings_rule, depth_rule, file_rule, files_rule, format_rule, iri_rule, limit_rule, node_prefix_rule, prefixes_rule, rdfconv, token_rule, with_ascii, with_node_prefix, with_prefixes};
+ghost use Rattle.rdf_options.specs.Options.{action_app, ascii_rule, base_rule, bindings_rule, depth_rule, file_rule, files_rule, format_rule, iri_rule, limit_rule, node_prefix_rule, output_rule, prefixes_rule, rdfconv, token_rule, with_ascii, with_node_prefix, with_output, with_prefixes};
 
 use clap::builder::ValueParser;
 use clap::{Arg, ArgAction, Command};
@@ -40,6 +40,9 @@ Options of a command, which reads FILE, or standard input where there is none or
   --node-prefix WORD
                    (convert) WORD, of ASCII letters and digits, in front of the label of each
                    blank node, so that outputs with different words of one length can be joined
+  -o, --output OUTPUT
+                   (convert) file to write: it is there whole, or is what it was; it is written as
+                   OUTPUT.part, which must not be there, and renamed when all is on its device
 Past one of the limits N a document is refused. `show` looks at tokens alone: --base, --depth,
 --bindings and --iri have no use there, but a base that is no IRI, or is too long, is reported.
 
@@ -49,7 +52,7 @@ Exit status:
   2  the words are no command, the base is no IRI or too long, WORD is empty or has another
      character, a file's name ends in no format where it is asked for one, or a line of PREFIXES
      is refused, with `rdfconv: bad prefixes at line N`
-  3  a file does not open, or a read or write failed
+  3  a file does not open or can't be created, or a read or write failed
   4  out of memory
 The status of several documents is the greatest of theirs.";
 
@@ -73,6 +76,8 @@ Exit status:
 const CONVERT_NOTES: &str = "\
 The format is not guessed from the file's name, unless it is asked for by `--format name`.
 Past one of the limits N a document is refused.
+OUTPUT is there whole, or is what it was: it is written as OUTPUT.part, which must not be there, and
+renamed when all is on its device. Only a regular file is replaced.
 
 Exit status:
   0  accepted, or help was asked for
@@ -80,7 +85,7 @@ Exit status:
   2  the words are no command, the base is no IRI or too long, WORD is empty or has another
      character, a file's name ends in no format where it is asked for one, or a line of PREFIXES
      is refused, with `rdfconv: bad prefixes at line N`
-  3  a file does not open, or a read or write failed
+  3  a file does not open or can't be created, or a read or write failed
   4  out of memory";
 
 /// What stands below the help of `show`.
@@ -170,7 +175,7 @@ fn show_command<'a>(alloc: Global, formats: &'a [&'a str]) -> Result<Command<'a>
 
 // The subcommand that writes quads.
 fn convert_command<'a>(alloc: Global, formats: &'a [&'a str]) -> Result<Command<'a>, AllocError>
-    ensures { IfOk result (λ c. ReadsAs c (with_node_prefix (with_ascii (with_prefixes (action_app (Names formats.entry) file_rule (codes "convert")))))) }
+    ensures { IfOk result (λ c. ReadsAs c (with_output (with_node_prefix (with_ascii (with_prefixes (action_app (Names formats.entry) file_rule (codes "convert"))))))) }
 {
     let about = About {
         name: "convert",
@@ -180,7 +185,8 @@ fn convert_command<'a>(alloc: Global, formats: &'a [&'a str]) -> Result<Command<
     let command = action_command(alloc, about, formats, file_argument(alloc))?;
     let command = command.arg(prefixes_option(alloc))?;
     let command = command.arg(ascii_option(alloc))?;
-    command.arg(node_prefix_option(alloc))
+    let command = command.arg(node_prefix_option(alloc))?;
+    command.arg(output_option(alloc))
 }
 
 // A subcommand with the options that all have, and the argument of what it reads.
@@ -334,6 +340,19 @@ fn node_prefix_option<'a>(alloc: Global) -> Arg<'a>
         .action(ArgAction::Set)
         .value_name("WORD")
         .help("Word of ASCII letters and digits in front of the label of each blank node")
+}
+
+fn output_option<'a>(alloc: Global) -> Arg<'a>
+    ensures { HasRule result output_rule }
+{
+    Arg::new(alloc, "output")
+        .short('o')
+        .long("output")
+        .action(ArgAction::Set)
+        .value_name("OUTPUT")
+        .help(
+            "File to write, which is there whole or not at all; without one, or with `-`, standard output",
+        )
 }
 
 fn file_argument<'a>(alloc: Global) -> Arg<'a>
