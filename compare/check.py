@@ -136,7 +136,7 @@ def compare_help(counts, manual):
         return
     for command in ('check', 'show', 'convert'):
         text = subprocess.run([PROGRAM, command, '--help'], stdout=subprocess.PIPE, check=True).stdout.decode()
-        for option, value in re.findall(r'^ +--([\w-]+)(?: <(\w+)>)?', text, re.M):
+        for option, value in re.findall(r'^ +(?:-\w, )?--([\w-]+)(?: <(\w+)>)?', text, re.M):
             counts.expect('manual has --%s of %s' % (option, command), ('--%s %s' % (option, value)).strip() in manual)
         for name, least, most, default in limits():
             row = re.search(r'--%s <N> .*' % name, text)[0]
@@ -255,6 +255,23 @@ SCRIPTS = [  # the command, its status, how many lines it writes, the last line 
     ('examples/skip.py bad.nt bad 2> text; examples/where.py bad.nt < bad', 1, 80, ''),
     ('rdfconv check examples/library.ttl 2>&1 | examples/where.py examples/library.ttl', 0, 1, ''),
     ('examples/where.py bad.nt', 2, 0, 'where: no message'),
+    # A file that is written whole or not at all
+    ('rdfconv convert --format nt -o out.nq large.nt && cmp large.nt out.nq && ls out.nq*', 0, 1, ''),
+    ('rdfconv convert --format nt -o out.nq bad.nt; echo $?; cmp large.nt out.nq && ls out.nq*', 0, 2, 'rdfconv: no token at byte 165, line 2'),
+    ('rdfconv convert --format nt -o new.nq bad.nt; ls new.nq*', 2, 0, "ls: cannot access 'new.nq*': No such file or directory"),
+    ('rdfconv convert --prefixes bad.nt -o out.nq large.nt; echo $?; cmp large.nt out.nq && ls out.nq*', 0, 2, 'rdfconv: bad prefixes at line 1'),
+    ('rdfconv convert --format nt -o out.nq none.nt; ls out.nq*', 0, 1, 'rdfconv: cannot open file'),
+    ('rdfconv convert --format nt --output=none/out.nq large.nt', 3, 0, 'rdfconv: cannot open file'),
+    ('rdfconv convert --format nt -o folder.nt large.nt; ls -d folder.nt*', 0, 1, 'rdfconv: cannot open file'),
+    ('ln -s out.nq link.nq; rdfconv convert --format nt -o link.nq large.nt; ls link.nq*', 0, 1, 'rdfconv: cannot open file'),
+    ('echo held > out.nq.part; rdfconv convert --format nt -o out.nq large.nt; cat out.nq.part; rm out.nq.part', 0, 1, 'rdfconv: cannot open file'),
+    ('head -n 3 large.nt > own.nq; rdfconv convert --format nt -o own.nq own.nq; cmp own.nq <(head -n 3 large.nt); ls own.nq*', 0, 1, ''),
+    ('head -n 3 large.nt | rdfconv convert --format nt -oout.nq; wc -l < out.nq; ls out.nq*', 0, 2, ''),
+    ('(printf "<a:> <b:> <"; head -c 90000000 /dev/zero | tr "\\0" x) 2> /dev/null | (ulimit -v 40000; rdfconv convert --token 268435456 -o out.nq); '
+     'wc -l < out.nq; ls out.nq*', 0, 2, 'rdfconv: out of memory'),
+    ('mkfifo pipe; (cat large.nt; sleep 2) > pipe & { timeout -s KILL 1 rdfconv convert --format nt -o out.nq pipe; } 2> /dev/null; '
+     'wc -l < out.nq; ls out.nq*; rm out.nq.part', 0, 3, ''),
+    ('rdfconv convert --format nt -o - large.nt; ls ./-*', 2, 400, "ls: cannot access './-*': No such file or directory"),
 ]
 
 

@@ -16,8 +16,8 @@ _rdfconv() {
     'show '*) wanted=FILES options='--format --base --token --depth --bindings --iri -h|--help' ;;
     'convert --format') wanted='nt nq ttl trig name' ;;
     'convert --base' | 'convert --token' | 'convert --depth' | 'convert --bindings' | 'convert --iri' | 'convert --node-prefix' | 'convert --graph') wanted='' ;;
-    'convert --prefixes') wanted=FILES ;;
-    'convert '*) wanted=FILES options='--format --base --token --depth --bindings --iri --prefixes --ascii --node-prefix --graph -h|--help' ;;
+    'convert --prefixes' | 'convert -o' | 'convert --output') wanted=FILES ;;
+    'convert '*) wanted=FILES options='--format --base --token --depth --bindings --iri --prefixes --ascii --node-prefix --graph -o|--output -h|--help' ;;
     'help '*) wanted='check show convert help' options='' ;;
     ' '*) wanted='check show convert help' options='-h|--help -V|--version' ;;
     esac

@@ -39,5 +39,6 @@ complete -c rdfconv -n '__rdfconv_in convert "--prefixes[= ]."' -l prefixes -r -
 complete -c rdfconv -n '__rdfconv_in convert "--ascii "' -l ascii -d 'Characters above U+007F of strings and IRIs as \\uXXXX or \\UXXXXXXXX'
 complete -c rdfconv -n '__rdfconv_in convert "--node-prefix[= ]."' -l node-prefix -x -d 'Word of ASCII letters and digits in front of the label of each blank node'
 complete -c rdfconv -n '__rdfconv_in convert "--graph[= ]."' -l graph -x -d 'Absolute IRI of the graph that quads of the default graph are written in, at most --iri bytes'
+complete -c rdfconv -n '__rdfconv_in convert "-o[= ].|--output[= ]."' -s o -l output -r -F -d 'File to write, which is there whole or not at all'
 complete -c rdfconv -n '__rdfconv_in convert "-h |--help "' -s h -l help -d 'Print help'
 complete -c rdfconv -n '__rdfconv_in help' -a 'check\\t"Read documents to their ends, and count the quads and bytes of each" show\\t"Write a line for each token: its offset, its characters and its kind" convert\\t"Write the quads of a document as lines of N-Quads" help\\t"Print this message or the help of the given subcommand(s)"'

@@ -14,7 +14,7 @@ use Rattle.clap.proofs.WalkLemmas.{list_any-map}
 use Rattle.rdf_stream.specs.declared.form.Form.{Form}
 use Rattle.rdf_command.specs.declared.task.Action.{Action}
 use Rattle.rdf_command.specs.declared.task.Action.TheVariants.{Check, Show, Convert}
-use Rattle.rdf_options.specs.Options.{action_app, ascii_rule, file_rule, files_rule, graph_rule, node_prefix_rule, prefixes_rule, rdfconv}
+use Rattle.rdf_options.specs.Options.{action_app, ascii_rule, file_rule, files_rule, graph_rule, node_prefix_rule, output_rule, prefixes_rule, rdfconv}
 use Rattle.rdf_command.specs.Words.{Entered, HasLimits, IsEntered, IsFormatWord, action_name, by_name, form_name, format_names, forms}
 use Rattle.rdf_command.proofs.RowLemmas.{Each, IsRead, same_text, value-of}
 use Rattle.rdf_command.proofs.GivenLemmas.{pair_is, same_some}
@@ -39,7 +39,7 @@ module _ (names : Bor (List (Bor Text))) (known : texts names.now ≡ format_nam
   abbrev own_rules : Action → List Rule
   own_rules Check = prefixes_rule ∷ []
   own_rules Show = []
-  own_rules Convert = prefixes_rule ∷ ascii_rule ∷ node_prefix_rule ∷ graph_rule ∷ []
+  own_rules Convert = prefixes_rule ∷ ascii_rule ∷ node_prefix_rule ∷ graph_rule ∷ output_rule ∷ []
 
   -- what it reads
   abbrev reads : Action → Rule
@@ -61,7 +61,7 @@ module _ (names : Bor (List (Bor Text))) (known : texts names.now ≡ format_nam
       ((refl, set), ((refl, set), ((refl, set), ((refl, set), ((refl, set), ((refl, set), ((refl, set), ((refl, inr (inr (inr refl))), tt))))))))
   are_read Convert =
       let set = inl (refl, (refl, refl)) in
-      ((refl, set), ((refl, set), ((refl, set), ((refl, set), ((refl, set), ((refl, set), ((refl, set), ((refl, set), ((refl, inr (inl (refl, omega arith))), ((refl, set), ((refl, set), ((refl, inr (inr (inr refl))), tt))))))))))))
+      ((refl, set), ((refl, set), ((refl, set), ((refl, set), ((refl, set), ((refl, set), ((refl, set), ((refl, set), ((refl, inr (inl (refl, omega arith))), ((refl, set), ((refl, set), ((refl, set), ((refl, inr (inr (inr refl))), tt)))))))))))))
 
   -- a built subcommand of the program
   abbrev IsAction : Shape → Type 0

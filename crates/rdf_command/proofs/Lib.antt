@@ -4,4 +4,5 @@ pub mod LevelLemmas
 pub mod EnterLemmas
 pub mod GivenLemmas
 pub mod RunLemmas
+pub mod OutputLemmas
 pub mod SeveralLemmas

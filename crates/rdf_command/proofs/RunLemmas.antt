@@ -11,7 +11,7 @@ use Rattle.rdf_command.specs.declared.task.Task.{Task}
 use Rattle.rdf_command.specs.Runs.{Does, HandsOver, RunEnds, SendsOn, StartsWith, StopsAction, accepted_text, job_of}
 use Rattle.rdf_command.specs.Statuses.{ReportsFault, status_of}
 
-some_status : (fault : StreamFault) → status_of fault ≡ 0 → ⊥
+pub some_status : (fault : StreamFault) → status_of fault ≡ 0 → ⊥
 some_status (Refused f) e = omega (arith, e)
 some_status Read e = omega (arith, e)
 some_status Write e = omega (arith, e)

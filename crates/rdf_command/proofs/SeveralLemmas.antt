@@ -9,6 +9,7 @@ use Rattle.rdf_stream.specs.declared.fault.LoadFault.TheVariants.{Bad, Memory, R
 use Rattle.rdf_stream.specs.declared.form.Form.{Form}
 use Rattle.rdf_command.specs.declared.task.Document.{Document}
 use Rattle.rdf_command.specs.declared.task.Task.{Task}
+use Rattle.rdf_command.specs.Outputs.{Outputs}
 use Rattle.rdf_command.specs.Programs.{EndsBy, OneEnds, SeveralEnd}
 use Rattle.rdf_command.specs.Runs.{FilesRead}
 use Rattle.rdf_command.specs.Several.{Either, EndsEach, EndsLeft, EndsOne, GivesNoBindings, Shared, has_failed_output, status_after}
@@ -81,16 +82,16 @@ none_by_bytes Memory sizes known left bytes h r = (left, record { bytes = bytes;
 -- ---- a task
 
 -- A task with further documents ends as a check of several does.
-pub several_end : (more : List Document) (has_document : Option (List ℕ) → Option (List ℕ) → Type 0) (is_shut : List ℕ → Type 0) (t : Task) (status : ℕ)
+pub several_end : (more : List Document) (has_document : Option (List ℕ) → Option (List ℕ) → Type 0) (is_shut : List ℕ → Type 0) (says : Outputs) (t : Task) (status : ℕ)
     (out_old : Option (List ℕ)) (out : Written) (err_old : Option (List ℕ)) (err : Written) → (length more == 0) ≡ false
-    → SeveralEnd has_document is_shut t status out_old out err_old err → EndsBy more has_document is_shut t None status out_old out err_old err
-several_end [] has_document is_shut t status out_old out err_old err some ends = absurd (true≢false some)
-several_end (d ∷ ds) has_document is_shut t status out_old out err_old err some ends = (refl, ends)
+    → SeveralEnd has_document is_shut t status out_old out err_old err → EndsBy more has_document is_shut says t None status out_old out err_old err
+several_end [] has_document is_shut says t status out_old out err_old err some ends = absurd (true≢false some)
+several_end (d ∷ ds) has_document is_shut says t status out_old out err_old err some ends = (refl, ends)
 
 -- one without ends as its run does
-pub one_ends : (more : List Document) (has_document : Option (List ℕ) → Option (List ℕ) → Type 0) (is_shut : List ℕ → Type 0) (t : Task) (files : Option FilesRead) (status : ℕ)
+pub one_ends : (more : List Document) (has_document : Option (List ℕ) → Option (List ℕ) → Type 0) (is_shut : List ℕ → Type 0) (says : Outputs) (t : Task) (files : Option FilesRead) (status : ℕ)
     (out_old : Option (List ℕ)) (out : Written) (err_old : Option (List ℕ)) (err : Written) → (length more == 0) ≡ true
-    → OneEnds has_document is_shut t files status out_old out err_old err → EndsBy more has_document is_shut t files status out_old out err_old err
-one_ends [] has_document is_shut t files status out_old out err_old err none ends = ends
-one_ends (d ∷ ds) has_document is_shut t files status out_old out err_old err none ends =
+    → OneEnds has_document is_shut says t files status out_old out err_old err → EndsBy more has_document is_shut says t files status out_old out err_old err
+one_ends [] has_document is_shut says t files status out_old out err_old err none ends = ends
+one_ends (d ∷ ds) has_document is_shut says t files status out_old out err_old err none ends =
     let same : length (d ∷ ds) ≡ 0 = eqb-true _ _ none in absurd (omega arith)

@@ -3,4 +3,5 @@ pub mod Words
 pub mod Statuses
 pub mod Runs
 pub mod Several
+pub mod Outputs
 pub mod Programs

@@ -13,7 +13,8 @@ use Rattle.rdf_command.specs.declared.task.Document.{Document}
 use Rattle.rdf_command.specs.declared.task.Task.{Task}
 use Rattle.rdf_command.specs.declared.task.WordsFault.{WordsFault}
 use Rattle.rdf_command.specs.declared.task.WordsFault.TheVariants.{Memory}
-use Rattle.rdf_command.specs.Runs.{FilesRead, RunEnds}
+use Rattle.rdf_command.specs.Outputs.{EndsTo, Outputs, output_of}
+use Rattle.rdf_command.specs.Runs.{FilesRead}
 use Rattle.rdf_command.specs.Several.{EndsEach, GivesBindings, GivesNoBindings}
 use Rattle.rdf_command.specs.Statuses.{GoesTo, RefusesWords, Reports, ReportsLoad, load_status}
 use Rattle.rdf_command.specs.Words.{GivesNone, GivesTask, IsUsageOf, TakesFormats, further_of, name_by}
@@ -63,13 +64,13 @@ pub record IsNotOpen (is_shut : Text → Type 0) (t : Task) (status : ℕ) (out_
   pub unwritten : out.contents ≡ out_old
   pub reported : Reports (codes "rdfconv: cannot open file\n") err_old err.contents err.has_failed
 
--- What the task names was read, the file of bindings where there is one, and the document, its file or else standard input; and the run of the
--- task ended so, with the files given back. Or a file did not open.
-abbrev pub OneEnds : (Option Text → Option (List ℕ) → Type 0) → (Text → Type 0) → Task → Option FilesRead → ℕ
+-- What the task names was opened, the file of bindings where there is one, and the document, its file or else standard input; and the run of the
+-- task over these ended so, with the files given back, whose lines went to the output or to a file. Or a file did not open.
+abbrev pub OneEnds : (Option Text → Option (List ℕ) → Type 0) → (Text → Type 0) → Outputs → Task → Option FilesRead → ℕ
     → Option (List ℕ) → Written → Option (List ℕ) → Written → Type 0
-OneEnds has_document is_shut t files status out_old out err_old err =
-    ((prefixes : Option (Option (List ℕ))) × (known : Option (List ℕ)) × (left : FilesRead) × HasPrefixes has_document (prefixes_of t) prefixes
-    × has_document (file_of t) known × (files ≡ Some left) × RunEnds t prefixes known left status out_old out err_old err)
+OneEnds has_document is_shut says t files status out_old out err_old err =
+    ((prefixes : Option (Option (List ℕ))) × (known : Option (List ℕ)) × HasPrefixes has_document (prefixes_of t) prefixes
+    × has_document (file_of t) known × EndsTo (output_of t) says t prefixes known files status out_old out err_old err)
     ⊎ IsNotOpen is_shut t status out_old out err_old err
 
 -- all documents of a task, each with its format and its name
@@ -114,26 +115,31 @@ SeveralEnd has_document is_shut t status out_old out err_old err =
     ⊎ (ChecksNone has_document t status out_old out err_old err ⊎ OpensNoBindings is_shut t status out_old out err_old err)
 
 -- By the documents after the first: without any the task is run over its document, and else each is checked, and no file is given back.
-abbrev pub EndsBy : List Document → (Option Text → Option (List ℕ) → Type 0) → (Text → Type 0) → Task → Option FilesRead → ℕ
+abbrev pub EndsBy : List Document → (Option Text → Option (List ℕ) → Type 0) → (Text → Type 0) → Outputs → Task → Option FilesRead → ℕ
     → Option (List ℕ) → Written → Option (List ℕ) → Written → Type 0
-EndsBy [] has_document is_shut t files status out_old out err_old err = OneEnds has_document is_shut t files status out_old out err_old err
-EndsBy (d ∷ ds) has_document is_shut t files status out_old out err_old err =
+EndsBy [] has_document is_shut says t files status out_old out err_old err = OneEnds has_document is_shut says t files status out_old out err_old err
+EndsBy (d ∷ ds) has_document is_shut says t files status out_old out err_old err =
     (files ≡ None) × SeveralEnd has_document is_shut t status out_old out err_old err
 
 -- how a task ends
-abbrev pub TaskEnds : (Option Text → Option (List ℕ) → Type 0) → (Text → Type 0) → Task → Option FilesRead → ℕ
+abbrev pub TaskEnds : (Option Text → Option (List ℕ) → Type 0) → (Text → Type 0) → Outputs → Task → Option FilesRead → ℕ
     → Option (List ℕ) → Written → Option (List ℕ) → Written → Type 0
-TaskEnds has_document is_shut t = EndsBy t.more.items has_document is_shut t
+TaskEnds has_document is_shut says t = EndsBy t.more.items has_document is_shut says t
 
 -- The words give a task, which ended so; or they give none, which the status and the text on an output say.
-abbrev pub ProgramEnds : (List Text → Type 0) → Type 0 → (Option Text → Option (List ℕ) → Type 0) → (Text → Type 0) → Option FilesRead → ℕ
+abbrev pub ProgramEnds : (List Text → Type 0) → Type 0 → (Option Text → Option (List ℕ) → Type 0) → (Text → Type 0) → Outputs → Option FilesRead → ℕ
     → Option (List ℕ) → Written → Option (List ℕ) → Written → Type 0
-ProgramEnds has_words has_bad_word has_document is_shut files status out_old out err_old err =
-    ((task : Task) × IsGiven has_words task × TaskEnds has_document is_shut task files status out_old out err_old err)
+ProgramEnds has_words has_bad_word has_document is_shut says files status out_old out err_old err =
+    ((task : Task) × IsGiven has_words task × TaskEnds has_document is_shut says task files status out_old out err_old err)
     ⊎ ((fault : WordsFault) × IsNotGiven has_words has_bad_word fault
     × RefusesWords fault status err_old err.contents err.has_failed × GoesTo fault out_old out.contents err_old err.contents)
 
--- The program ended so over what its host starts it with: the words, the documents, and the files that do not open.
-abbrev pub HostEnds : {H I : Type 0} → host.Ghosts H I → H → Option FilesRead → ℕ → Option (List ℕ) → Written → Option (List ℕ) → Written → Type 0
+-- what a host tells of files that are to be written
+abbrev pub outputs_of : {H I O : Type 0} → host.Ghosts H I O → H → Outputs
+outputs_of host h = record { has = host.has_output h; is_left = host.is_left h; is_unwritable = host.is_unwritable h }
+
+-- The program ended so over what its host starts it with: the words, the documents, the files that do not open, and those that it writes.
+abbrev pub HostEnds : {H I O : Type 0} → host.Ghosts H I O → H → Option FilesRead → ℕ → Option (List ℕ) → Written → Option (List ℕ) → Written → Type 0
 HostEnds says h files status out_old out err_old err =
-    ProgramEnds (says.has_words h) (says.has_bad_word h) (says.has_document h) (says.is_shut h) files status out_old out err_old err
+    ProgramEnds (says.has_words h) (says.has_bad_word h) (says.has_document h) (says.is_shut h) (outputs_of says h) files status
+    out_old out err_old err

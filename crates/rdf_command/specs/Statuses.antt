@@ -12,6 +12,8 @@ use Rattle.rdf_stream.specs.declared.fault.LoadFault.TheVariants as load
 use Rattle.rdf_stream.specs.declared.fault.LoadFault.TheVariants.{Bad}
 use Rattle.rdf_stream.specs.declared.fault.StreamFault.{StreamFault}
 use Rattle.rdf_stream.specs.declared.fault.StreamFault.TheVariants.{Refused, Read, Write, Memory}
+use Rattle.rdf_command.specs.declared.host.NoOutput.{NoOutput}
+use Rattle.rdf_command.specs.declared.host.NoOutput.TheVariants as output
 use Rattle.rdf_command.specs.declared.task.WordsFault.{WordsFault}
 use Rattle.rdf_command.specs.declared.task.WordsFault.TheVariants as words
 
@@ -58,6 +60,16 @@ abbrev pub ReportsLoad : LoadFault → Option (List ℕ) → Option (List ℕ) �
 ReportsLoad (Bad f) old new failed = Reports (prefixes_text f.line) old new failed ⊎ (new ≡ old)
 ReportsLoad load.Read old new failed = Reports (report_text Read) old new failed
 ReportsLoad load.Memory old new failed = Reports (report_text Memory) old new failed
+
+-- the status where an output was not created
+abbrev pub output_status : NoOutput → ℕ
+output_status output.NotOpen = 3
+output_status output.Memory = 4
+
+-- what is reported then
+abbrev pub output_text : NoOutput → List ℕ
+output_text output.NotOpen = codes "rdfconv: cannot open file\n"
+output_text output.Memory = report_text Memory
 
 -- help or the version was asked for
 abbrev pub IsAskedFor : ErrorKind → Type 0

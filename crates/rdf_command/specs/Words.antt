@@ -119,7 +119,7 @@ abbrev pub escapes_by : Option Text → Escapes
 escapes_by None = Plain
 escapes_by (Some text) = cond (bytes_eq text (codes "true")) Ascii Plain
 
--- the file that a word names; none where there is no word, or where it is a hyphen, which stands for standard input
+-- the file that a word names; none where there is no word, or where it is a hyphen, which stands for standard input, or for standard output
 abbrev pub file_by : Option Text → Option Text
 file_by None = None
 file_by (Some text) = cond (bytes_eq text (codes "-")) None (Some text)
@@ -163,6 +163,7 @@ pub record IsTaskBy (p : Entered) (t : Task) : Type 0 where
   pub good_graph : IfSome (first_of (codes "graph") p.1) (IsBase t.limits.iri)
   pub prefixes : option_map string_bytes t.prefixes ≡ first_of (codes "prefixes") p.1
   pub file : option_map string_bytes t.file ≡ file_by (first_of (codes "file") p.1)
+  pub output : option_map string_bytes t.output ≡ file_by (first_of (codes "output") p.1)
 
 -- the base among the matches is no IRI, or too long
 abbrev pub HasBadBase : Entered → Type 0

@@ -82,6 +82,7 @@ fn task_of(alloc: Global, name: &str, found: &ArgMatches<'_>) -> Result<Task, Wo
     let graph = graph_of(alloc, found.get_str("graph"), limits.iri())?;
     let prefixes = owned(alloc, found.get_str("prefixes"))?;
     let file = owned(alloc, file_by(found.get_str("file")))?;
+    let output = owned(alloc, file_by(found.get_str("output")))?;
     let more = documents_of(alloc, word, further_by(name, found.get_strs("file")))?;
     Ok(Task {
         action,
@@ -93,6 +94,7 @@ fn task_of(alloc: Global, name: &str, found: &ArgMatches<'_>) -> Result<Task, Wo
         graph,
         prefixes,
         file,
+        output,
         more,
     })
 }
@@ -157,7 +159,7 @@ fn form_in(alloc: Global, word: &str, name: &str) -> Result<Form, WordsFault>
     }
 }
 
-// The file that a word names: none where there is no word, or where it is `-`, which stands for standard input.
+// The file that a word names: none where there is no word, or where it is `-`, which stands for the standard stream.
 fn file_by(text: Option<&str>) -> Option<&str>
     ensures { option_map (λ s. s.now) result ≡ file_by (option_map (λ s. s.now) text.entry) }
 {

@@ -3,12 +3,13 @@
 ghost use Rattle.std.specs.Prelude.{◌≡◌, ◌⊎◌, false, IfErr, IfOk, IfSome, List, map, OnErr, option_map, Some, string_bytes};
 ghost use Rattle.clap.specs.Words.{Text};
 ghost use Rattle.rdf_iri.specs.Scope.{BaseFits};
-ghost use Rattle.rdf_command.specs.Programs.{HasPrefixes, HostEnds, IsGiven, IsNotGiven, OneEnds, TaskEnds, file_of, prefixes_of};
+ghost use Rattle.rdf_command.specs.Programs.{HasPrefixes, HostEnds, IsGiven, IsNotGiven, OneEnds, TaskEnds, file_of, outputs_of, prefixes_of};
 ghost use Rattle.rdf_command.specs.Runs.{AreFresh, AsWritten, files_told};
 
 use crate::commands::{command_of, not_utf8};
 use crate::host::{Host, NoWords, NotOpen};
-use crate::runs::{Files, refuse_file, refuse_words, run};
+use crate::output::run_over;
+use crate::runs::{Files, refuse_file, refuse_words};
 use crate::several::check_each;
 use crate::task::{Task, WordsFault};
 use rdf_stream::Drain;
@@ -75,7 +76,7 @@ fn run_task<H: Host, O: Drain, E: Drain>(
     requires base { BaseFits task.base task.limits }
     requires out { O.has_failed out.old ≡ false }
     requires err { E.has_failed err.old ≡ false }
-    ensures { AsWritten (TaskEnds (H.has_document host.now) (H.is_shut host.now) task (option_map (files_told H.Input.Source) result.files) result.status)
+    ensures { AsWritten (TaskEnds (H.has_document host.now) (H.is_shut host.now) (outputs_of H.Host host.now) task (option_map (files_told H.Input.Source) result.files) result.status)
         O.Drain E.Drain out.old out.new err.old err.new }
 {
     if task.more.as_slice().is_empty() {
@@ -98,18 +99,11 @@ fn run_one<H: Host, O: Drain, E: Drain>(
     requires base { BaseFits task.base task.limits }
     requires out { O.has_failed out.old ≡ false }
     requires err { E.has_failed err.old ≡ false }
-    ensures { AsWritten (OneEnds (H.has_document host.now) (H.is_shut host.now) task (option_map (files_told H.Input.Source) result.files) result.status)
+    ensures { AsWritten (OneEnds (H.has_document host.now) (H.is_shut host.now) (outputs_of H.Host host.now) task (option_map (files_told H.Input.Source) result.files) result.status)
         O.Drain E.Drain out.old out.new err.old err.new }
 {
     match open_files(host, &task) {
-        Ok(files) => {
-            let mut files = files;
-            let status = run(alloc, task, &mut files, out, err);
-            Ended {
-                status,
-                files: Some(files),
-            }
-        }
+        Ok(files) => run_over(alloc, task, host, files, out, err),
         Err(NotOpen) => Ended {
             status: refuse_file(err),
             files: None,

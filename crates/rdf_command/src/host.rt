@@ -1,14 +1,16 @@
 // What the program is started with, and the process that starts it.
 
-ghost use Rattle.std.specs.Prelude.{◌≡◌, false, IfErr, IfOk, List, map, None, OnErr, Option, option_map, Some, string_bytes, ℕ, ⊤};
+ghost use Rattle.std.specs.Prelude.{◌≡◌, false, true, IfErr, IfOk, List, map, None, OnErr, OnOk, Option, option_map, Some, string_bytes, ℕ, ⊤};
 ghost use Rattle.clap.specs.Words.{Text};
+ghost use Rattle.rdf_command.specs.Outputs.{IsEmpty};
+ghost use Rattle.rdf_command.specs.declared.host.NoOutput.{NoOutput};
 ghost use Rattle.rdf_command.specs.declared.host.NoWords.{NoWords};
 
-use rdf_stream::{In, Source};
+use rdf_stream::{Drain, Failed, In, Out, Source};
 use std::alloc::{AllocError, Global};
 use std::fs::File;
 use std::io::{ErrorKind, Read, Stdin};
-use std::{env, io};
+use std::{env, fs, io};
 
 /// Why there are no words.
 #[derive(Clone, Copy, Debug, PartialEq, Eq)]
@@ -31,10 +33,29 @@ impl From<AllocError> for NoWords {
 #[derive(Clone, Copy, Debug, PartialEq, Eq)]
 pub struct NotOpen;
 
-/// The words of a command line, and the documents that they may name.
+/// Why there is no output.
+#[derive(Clone, Copy, Debug, PartialEq, Eq)]
+pub enum NoOutput {
+    /// It could not be created.
+    NotOpen,
+    /// A growth of memory was refused.
+    Memory,
+}
+
+impl From<AllocError> for NoOutput {
+    ghost from_gives = { λ _ why. why ≡ NoOutput.Memory };
+
+    fn from(_: AllocError) -> NoOutput {
+        NoOutput::Memory
+    }
+}
+
+/// The words of a command line, the documents that they may name, and the files that they may ask for.
 pub trait Host {
     /// What a document is read from.
     type Input: Source + Drop;
+    /// A file that is being written, and has not got its name yet. It can't be dropped: it is kept or discarded.
+    type Output: Drain;
 
     /// These are the words, the program's name first.
     ghost has_words: { Self → List Text → Type 0 };
@@ -44,6 +65,12 @@ pub trait Host {
     ghost has_document: { Self → Option Text → Option (List ℕ) → Type 0 };
     /// The file of this name does not open.
     ghost is_shut: { Self → Text → Type 0 };
+    /// The file of this name has these bytes now, where they are known.
+    ghost has_output: { Self → Text → Option (List ℕ) → Type 0 };
+    /// The file of this name is what it was before an output was created for it, if it was there.
+    ghost is_left: { Self → Text → Type 0 };
+    /// No output can be created for this name.
+    ghost is_unwritable: { Self → Text → Type 0 };
 
     /// The words of the command line.
     fn words(&self, alloc: Global) -> Result<Vec<String>, NoWords>
@@ -56,6 +83,22 @@ pub trait Host {
         ensures more { IfOk result (λ input. Self.Input.has_ended input ≡ false) }
         ensures live { IfOk result (λ input. Self.Input.has_failed input ≡ false) }
         ensures shut { OnErr result ((path : Text) × (option_map (λ s. s.now) file.entry ≡ Some path) × is_shut self.now path) };
+
+    /// Creates an empty output that can become the file of this name.
+    fn create(&self, alloc: Global, name: &str) -> Result<Self::Output, NoOutput>
+        ensures empty { IfOk result (λ output. IsEmpty (Self.Output.contents output)) }
+        ensures live { IfOk result (λ output. Self.Output.has_failed output ≡ false) }
+        ensures unwritable { IfErr result (λ why. why ≡ NoOutput.NotOpen → is_unwritable self.now name.now) };
+
+    /// Makes the output the file of this name, in place of one that is there. Where that fails nothing is left of it.
+    fn keep(&self, output: Self::Output, name: &str) -> Result<(), Failed>
+        requires { Self.Output.is_flushed output ≡ true }
+        ensures kept { OnOk result (has_output self.now name.now (Self.Output.contents output)) }
+        ensures unnamed { OnErr result (is_left self.now name.now) };
+
+    /// Removes the output that was created for this name.
+    fn discard(&self, output: Self::Output, name: &str)
+        ensures { is_left self.now name.now };
 }
 
 /// The process: its command line, its standard input, and the files that it may open. What these are no contract
@@ -83,6 +126,32 @@ impl Read for Opened {
     }
 }
 
+/// A file that is being written beside the one that it is to be.
+pub struct Beside {
+    path: String,
+    out: Out<File>,
+}
+
+impl Drain for Beside {
+    ghost contents = { λ s. s.out.contents };
+
+    ghost has_failed = { λ s. s.out.has_failed };
+
+    ghost is_flushed = { λ s. s.out.is_flushed };
+
+    fn put_some(&mut self, bytes: &[u8]) -> Result<usize, Failed> {
+        self.out.put_some(bytes)
+    }
+
+    fn flush(&mut self) -> Result<(), Failed> {
+        self.out.flush()
+    }
+
+    fn failed(&self) -> bool {
+        self.out.failed()
+    }
+}
+
 impl<'a> Process<'a> {
     /// The process.
     pub fn new(rt: &'a HostRuntime) -> Process<'a> {
@@ -93,6 +162,8 @@ impl<'a> Process<'a> {
 impl<'a> Host for Process<'a> {
     type Input = In<Opened>;
 
+    type Output = Beside;
+
     ghost has_words = { λ _ _. ⊤ };
 
     ghost has_bad_word = { λ _. ⊤ };
@@ -100,6 +171,12 @@ impl<'a> Host for Process<'a> {
     ghost has_document = { λ _ _ known. known ≡ None };
 
     ghost is_shut = { λ _ _. ⊤ };
+
+    ghost has_output = { λ _ _ _. ⊤ };
+
+    ghost is_left = { λ _ _. ⊤ };
+
+    ghost is_unwritable = { λ _ _. ⊤ };
 
     fn words(&self, alloc: Global) -> Result<Vec<String>, NoWords> {
         match env::args(self.rt) {
@@ -118,5 +195,66 @@ impl<'a> Host for Process<'a> {
             },
         };
         Ok(In::new(opened))
+    }
+
+    // A file that is there already beside it is not overwritten: it may be that of another run.
+    fn create(&self, alloc: Global, name: &str) -> Result<Beside, NoOutput> {
+        if !may_be_replaced(self.rt, name) {
+            return Err(NoOutput::NotOpen);
+        }
+        let path = path_beside(alloc, name)?;
+        match File::create_new(self.rt, path.as_str()) {
+            Ok(file) => Ok(Beside {
+                path,
+                out: Out::new(file),
+            }),
+            Err(_) => Err(NoOutput::NotOpen),
+        }
+    }
+
+    fn keep(&self, output: Beside, name: &str) -> Result<(), Failed> {
+        let Beside { path, out } = output;
+        drop(out);
+        match rename_whole(self.rt, path.as_str(), name) {
+            Ok(()) => Ok(()),
+            Err(_) => {
+                remove(self.rt, path.as_str());
+                Err(Failed)
+            }
+        }
+    }
+
+    fn discard(&self, output: Beside, _name: &str) {
+        let Beside { path, out } = output;
+        drop(out);
+        remove(self.rt, path.as_str());
+    }
+}
+
+// Whether there is a regular file of this name, or nothing. A directory, a device or a link is not replaced.
+fn may_be_replaced(rt: &HostRuntime, name: &str) -> bool {
+    match fs::symlink_metadata(rt, name) {
+        Ok(found) => found.is_file(),
+        Err(_) => true,
+    }
+}
+
+// Where the file of this name is while it is written.
+fn path_beside(alloc: Global, name: &str) -> Result<String, AllocError> {
+    let mut path = String::from_str(alloc, name)?;
+    path.push_str(".part")?;
+    Ok(path)
+}
+
+// Gives a file a name once all its bytes are on its device, so that the name never stands for a part of them.
+fn rename_whole(rt: &HostRuntime, path: &str, name: &str) -> io::Result<()> {
+    File::open(rt, path)?.sync_all()?;
+    fs::rename(rt, path, name)
+}
+
+// A file that can't be removed stays: there is no other way to be rid of it.
+fn remove(rt: &HostRuntime, path: &str) {
+    match fs::remove_file(rt, path) {
+        Ok(()) | Err(_) => {}
     }
 }

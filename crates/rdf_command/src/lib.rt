@@ -5,12 +5,13 @@ mod commands;
 mod entry;
 mod host;
 mod names;
+mod output;
 mod runs;
 mod several;
 mod task;
 
 pub use commands::command_of;
 pub use entry::{Ended, start};
-pub use host::{Host, NoWords, NotOpen, Opened, Process};
+pub use host::{Beside, Host, NoOutput, NoWords, NotOpen, Opened, Process};
 pub use runs::{Files, refuse_words, run};
 pub use task::{Action, Document, Task, WordsFault};

@@ -9,8 +9,9 @@ ghost use Rattle.rdf_stream.specs.Messages.{report_text};
 ghost use Rattle.rdf_stream.specs.Told.{AsTold, told};
 ghost use Rattle.rdf_stream.specs.declared.fault.StreamFault.{StreamFault};
 ghost use Rattle.rdf_command.specs.Runs.{AreFresh, AsWritten, Does, HandsOver, IsCheckedAs, IsJobOf, RunEnds, SendsOn, StartsNot, StopsAction, StopsCheckAs, accepted_text, files_told, front_of};
-ghost use Rattle.rdf_command.specs.Statuses.{GoesTo, RefusesWords, Reports, ReportsLoad, ReportsFault, ReportsFaultOf, ReportsOf, load_status, no_format_text, prefixes_text, status_of};
+ghost use Rattle.rdf_command.specs.Statuses.{GoesTo, RefusesWords, Reports, ReportsLoad, ReportsFault, ReportsFaultOf, ReportsOf, load_status, no_format_text, output_status, output_text, prefixes_text, status_of};
 
+use crate::host::NoOutput;
 use crate::task::{Action, Task, WordsFault};
 use clap::Error;
 use itoa::Buffer;
@@ -41,8 +42,9 @@ pub fn run<I: Source, O: Drain, E: Drain>(
     requires fresh { AreFresh I.has_ended I.has_failed files.old }
     requires out { O.has_failed out.old ≡ false }
     requires err { E.has_failed err.old ≡ false }
-    ensures { AsWritten (RunEnds task (option_map I.remaining files.old.prefixes) (I.remaining files.old.document) (files_told I.Source files.new) result)
+    ensures ends { AsWritten (RunEnds task (option_map I.remaining files.old.prefixes) (I.remaining files.old.document) (files_told I.Source files.new) result)
         O.Drain E.Drain out.old out.new err.old err.new }
+    ensures untold { result ≡ 0 → err.new ≡ err.old }
 {
     let action = task.action;
     let job = match job_of(alloc, task, &mut files.prefixes) {
@@ -146,6 +148,28 @@ pub fn refuse_file<E: Drain>(err: &mut E) -> u8
     ensures reported { Reports (codes "rdfconv: cannot open file\n") (E.contents err.old) (E.contents err.new) (E.has_failed err.new) }
 {
     tell("rdfconv: cannot open file\n", err);
+    3
+}
+
+/// The text and the status of an output that was not created.
+pub fn refuse_output<E: Drain>(why: NoOutput, err: &mut E) -> u8
+    requires { E.has_failed err.old ≡ false }
+    ensures status { result ≡ output_status why }
+    ensures reported { Reports (output_text why) (E.contents err.old) (E.contents err.new) (E.has_failed err.new) }
+{
+    match why {
+        NoOutput::NotOpen => refuse_file(err),
+        NoOutput::Memory => tell_memory(err),
+    }
+}
+
+/// The text and the status of an output that could not get its name.
+pub fn refuse_name<E: Drain>(err: &mut E) -> u8
+    requires { E.has_failed err.old ≡ false }
+    ensures status { result ≡ 3 }
+    ensures reported { Reports (report_text StreamFault.Write) (E.contents err.old) (E.contents err.new) (E.has_failed err.new) }
+{
+    tell(write_failed(), err);
     3
 }
 

@@ -51,6 +51,8 @@ pub struct Task {
     pub prefixes: Option<String>,
     /// The file that is read, or None for standard input.
     pub file: Option<String>,
+    /// The file that the lines are written to, or None for standard output.
+    pub output: Option<String>,
     /// The documents that are checked after this one, in the order of their words. No other action has any.
     pub more: Vec<Document>,
 }

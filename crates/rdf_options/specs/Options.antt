@@ -89,10 +89,18 @@ graph_rule = record (new_rule (codes "graph")) { long = Some (codes "graph"); ac
 abbrev pub with_graph : App → App
 with_graph a = with_rule a graph_rule
 
+-- the file that the lines are written to; they go to standard output unless it is given
+abbrev pub output_rule : Rule
+output_rule = record (new_rule (codes "output")) { short = Some 111; long = Some (codes "output"); action = Some Set; value_names = 1 }
+
+-- a subcommand that can write a file
+abbrev pub with_output : App → App
+with_output a = with_rule a output_rule
+
 -- the program's command line
 abbrev pub rdfconv : ValueParser → App
 rdfconv names = with_subcommand (with_subcommand (with_subcommand
     (on_top (λ s. record s { subcommand_required = true; has_version = true }) (new_app (codes "rdfconv")))
     (with_prefixes (action_app names files_rule (codes "check"))).top)
     (action_app names file_rule (codes "show")).top)
-    (with_graph (with_node_prefix (with_ascii (with_prefixes (action_app names file_rule (codes "convert")))))).top
+    (with_output (with_graph (with_node_prefix (with_ascii (with_prefixes (action_app names file_rule (codes "convert"))))))).top

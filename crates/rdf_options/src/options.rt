@@ -4,7 +4,7 @@ ghost use Rattle.std.specs.Prelude.{◌≡◌, IfOk, codes};
 ghost use Rattle.clap.specs.Words.{App, Rule, app_of, with_subcommand};
 ghost use Rattle.clap.specs.declared.builder.value_parser.ValueParser.TheVariants.{Names};
 ghost use Rattle.rdf_options.specs.Building.{HasRule, ReadsAs};
-ghost use Rattle.rdf_options.specs.Options.{action_app, ascii_rule, base_rule, bindings_rule, depth_rule, file_rule, files_rule, format_rule, graph_rule, iri_rule, limit_rule, node_prefix_rule, prefixes_rule, rdfconv, token_rule, with_ascii, with_graph, with_node_prefix, with_prefixes};
+ghost use Rattle.rdf_options.specs.Options.{action_app, ascii_rule, base_rule, bindings_rule, depth_rule, file_rule, files_rule, format_rule, graph_rule, iri_rule, limit_rule, node_prefix_rule, output_rule, prefixes_rule, rdfconv, token_rule, with_ascii, with_graph, with_node_prefix, with_output, with_prefixes};
 
 use clap::builder::ValueParser;
 use clap::{Arg, ArgAction, Command};
@@ -42,6 +42,9 @@ Options of a command, which reads FILE, or standard input where there is none or
                    blank node, so that outputs with different words of one length can be joined
   --graph IRI      (convert) absolute IRI of a graph, at most --iri bytes, in which quads of the
                    default graph are written; those of other graphs stay in theirs
+  -o, --output OUTPUT
+                   (convert) file to write: it is there whole, or is what it was; it is written as
+                   OUTPUT.part, which must not be there, and renamed when all is on its device
 Past one of the limits N a document is refused. `show` looks at tokens alone: --base, --depth,
 --bindings and --iri have no use there, but a base that is no IRI, or is too long, is reported.
 
@@ -51,7 +54,7 @@ Exit status:
   2  the words are no command, the base or the graph is no IRI or too long, WORD is empty or has
      another character, a file's name ends in no format where it is asked for one, or a line of
      PREFIXES is refused, with `rdfconv: bad prefixes at line N`
-  3  a file does not open, or a read or write failed
+  3  a file does not open or can't be created, or a read or write failed
   4  out of memory
 The status of several documents is the greatest of theirs.";
 
@@ -75,6 +78,8 @@ Exit status:
 const CONVERT_NOTES: &str = "\
 The format is not guessed from the file's name, unless it is asked for by `--format name`.
 Past one of the limits N a document is refused.
+OUTPUT is there whole, or is what it was: it is written as OUTPUT.part, which must not be there, and
+renamed when all is on its device. Only a regular file is replaced.
 
 Exit status:
   0  accepted, or help was asked for
@@ -82,7 +87,7 @@ Exit status:
   2  the words are no command, the base or the graph is no IRI or too long, WORD is empty or has
      another character, a file's name ends in no format where it is asked for one, or a line of
      PREFIXES is refused, with `rdfconv: bad prefixes at line N`
-  3  a file does not open, or a read or write failed
+  3  a file does not open or can't be created, or a read or write failed
   4  out of memory";
 
 /// What stands below the help of `show`.
@@ -172,7 +177,7 @@ fn show_command<'a>(alloc: Global, formats: &'a [&'a str]) -> Result<Command<'a>
 
 // The subcommand that writes quads.
 fn convert_command<'a>(alloc: Global, formats: &'a [&'a str]) -> Result<Command<'a>, AllocError>
-    ensures { IfOk result (λ c. ReadsAs c (with_graph (with_node_prefix (with_ascii (with_prefixes (action_app (Names formats.entry) file_rule (codes "convert"))))))) }
+    ensures { IfOk result (λ c. ReadsAs c (with_output (with_graph (with_node_prefix (with_ascii (with_prefixes (action_app (Names formats.entry) file_rule (codes "convert")))))))) }
 {
     let about = About {
         name: "convert",
@@ -183,7 +188,8 @@ fn convert_command<'a>(alloc: Global, formats: &'a [&'a str]) -> Result<Command<
     let command = command.arg(prefixes_option(alloc))?;
     let command = command.arg(ascii_option(alloc))?;
     let command = command.arg(node_prefix_option(alloc))?;
-    command.arg(graph_option(alloc))
+    let command = command.arg(graph_option(alloc))?;
+    command.arg(output_option(alloc))
 }
 
 // A subcommand with the options that all have, and the argument of what it reads.
@@ -348,6 +354,19 @@ fn graph_option<'a>(alloc: Global) -> Arg<'a>
         .value_name("IRI")
         .help(
             "Absolute IRI of the graph that quads of the default graph are written in, at most --iri bytes",
+        )
+}
+
+fn output_option<'a>(alloc: Global) -> Arg<'a>
+    ensures { HasRule result output_rule }
+{
+    Arg::new(alloc, "output")
+        .short('o')
+        .long("output")
+        .action(ArgAction::Set)
+        .value_name("OUTPUT")
+        .help(
+            "File to write, which is there whole or not at all; without one, or with `-`, standard output",
         )
 }
 

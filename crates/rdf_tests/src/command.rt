@@ -7,13 +7,16 @@ mod hosts;
 mod rows;
 mod texts;
 
-use hosts::InMemory;
+use hosts::{InMemory, Making, Outputs};
 use rdf_command::{
     Action, Document, Files, Host, NoWords, Process, Task, WordsFault, command_of, refuse_words,
     run, start,
 };
 use rdf_stream::{Escapes, Form, In, Limits, Out, Source};
-use rows::{Asked, FILES, Fields, INPUT, LIMITED, Limited, RUNS, Run, STARTED, Started, TASKS};
+use rows::{
+    Asked, FILES, Fields, INPUT, INTO_FILES, IntoFile, LIMITED, Limited, RUNS, Run, STARTED,
+    Started, TASKS,
+};
 use std::alloc::{AllocError, Global};
 use std::test::Fail;
 use texts::{COMMANDS, HELP, Help, NOT_UTF8, REFUSED, Refused, VERSION};
@@ -54,6 +57,7 @@ fn task(alloc: Global, action: Action, form: Form, limits: Limits) -> Task
         graph: None,
         prefixes: None,
         file: None,
+        output: None,
         more: Vec::new(alloc),
     }
 }
@@ -145,6 +149,8 @@ fn other_text(task: &Task, fields: &Fields<'_>) -> Option<&'static str> {
         Some("prefixes")
     } else if task.file.as_deref() != fields.file {
         Some("file")
+    } else if task.output.as_deref() != fields.output {
+        Some("output")
     } else {
         other_document(task.more.as_slice(), fields.more)
     }
@@ -323,6 +329,7 @@ fn long_task_differs_in(alloc: Global, base: &str, file: &str) -> Option<&'stati
         graph: None,
         prefixes: None,
         file: Some(file),
+        output: None,
         more: &[],
     };
     task_differs_in(alloc, &words, &fields)
@@ -364,6 +371,7 @@ fn start_differs_in(
         words,
         input: INPUT,
         files: FILES.as_slice(),
+        outputs: Outputs::new(Making::NotCreated),
     };
     started(alloc, &host).differs_in(status, written, reported)
 }
@@ -409,6 +417,46 @@ fn unlike_start(alloc: Global) -> Option<(&'static str, &'static str)> {
 #[test]
 fn the_program_does_what_its_words_say(rt: HostRuntime) {
     assert_eq!(rt; unlike_start(rt.alloc()), None);
+}
+
+/// What differs in a run whose lines go to a file.
+fn made_differs_in(outputs: &Outputs, row: &IntoFile) -> Option<&'static str> {
+    let kept = outputs.kept.get().map(|bytes| bytes.as_slice());
+    if kept != row.kept.map(|text| text.as_bytes()) {
+        Some("kept")
+    } else if outputs.is_discarded.get() != row.is_discarded {
+        Some("discarded")
+    } else {
+        None
+    }
+}
+
+fn into_file_differs_in(alloc: Global, row: &IntoFile) -> Option<&'static str> {
+    let host = InMemory {
+        words: Ok(row.line),
+        input: INPUT,
+        files: FILES.as_slice(),
+        outputs: Outputs::new(row.making),
+    };
+    let ended = started(alloc, &host);
+    ended
+        .differs_in(row.status, "", row.reported)
+        .or(made_differs_in(&host.outputs, row))
+}
+
+/// The first row of which something else comes, and what is not so.
+fn unlike_file(alloc: Global) -> Option<(&'static str, &'static str)> {
+    for row in INTO_FILES.as_slice() {
+        if let Some(other) = into_file_differs_in(alloc, row) {
+            return Some((row.line, other));
+        }
+    }
+    None
+}
+
+#[test]
+fn a_file_is_written_whole_or_not_at_all(rt: HostRuntime) {
+    assert_eq!(rt; unlike_file(rt.alloc()), None);
 }
 
 /// The words, with a zero byte after each.

@@ -1,6 +1,6 @@
 // Complete runs over memory: worked documents, and devices that fail.
 
-mod devices;
+pub(crate) mod devices;
 mod large;
 mod memory;
 mod refused;

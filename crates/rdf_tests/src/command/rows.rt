@@ -1,5 +1,6 @@
 // Runs, words, and what comes of them.
 
+use super::hosts::Making;
 use super::texts::HELP;
 use rdf_command::Action;
 use rdf_stream::{Escapes, Form};
@@ -139,6 +140,7 @@ pub(crate) struct Fields<'a> {
     pub(crate) graph: Option<&'a str>,
     pub(crate) prefixes: Option<&'a str>,
     pub(crate) file: Option<&'a str>,
+    pub(crate) output: Option<&'a str>,
     /// The formats and names of the documents after the first.
     pub(crate) more: &'a [(Form, &'a str)],
 }
@@ -163,11 +165,12 @@ pub(crate) static TASKS: [Asked; 6] = [
             graph: None,
             prefixes: None,
             file: None,
+            output: None,
             more: &[],
         },
     },
     Asked {
-        line: "rdfconv convert --iri 12 --format=nt --base http://a/b/c --token=1 --depth 0 data.nt --ascii --bindings 2 --prefixes ex.txt --node-prefix Ab1 --graph http://a/b/g",
+        line: "rdfconv convert --iri 12 --format=nt --base http://a/b/c --token=1 --depth 0 data.nt --ascii --bindings 2 --prefixes ex.txt --node-prefix Ab1 --graph http://a/b/g -o out.nq",
         fields: Fields {
             action: Action::Convert,
             form: Form::NTriples,
@@ -178,6 +181,7 @@ pub(crate) static TASKS: [Asked; 6] = [
             graph: Some("http://a/b/g"),
             prefixes: Some("ex.txt"),
             file: Some("data.nt"),
+            output: Some("out.nq"),
             more: &[],
         },
     },
@@ -193,6 +197,7 @@ pub(crate) static TASKS: [Asked; 6] = [
             graph: None,
             prefixes: None,
             file: None,
+            output: None,
             more: &[],
         },
     },
@@ -208,6 +213,7 @@ pub(crate) static TASKS: [Asked; 6] = [
             graph: None,
             prefixes: None,
             file: None,
+            output: None,
             more: &[(Form::TriG, "a.nt"), (Form::TriG, "-"), (Form::TriG, "b")],
         },
     },
@@ -223,6 +229,7 @@ pub(crate) static TASKS: [Asked; 6] = [
             graph: None,
             prefixes: None,
             file: Some("a.ttl"),
+            output: None,
             more: &[
                 (Form::NTriples, "b.nt"),
                 (Form::NQuads, ".nq"),
@@ -242,6 +249,7 @@ pub(crate) static TASKS: [Asked; 6] = [
             graph: None,
             prefixes: None,
             file: Some("a/b.nq"),
+            output: None,
             more: &[],
         },
     },
@@ -270,7 +278,7 @@ pub(crate) static FILES: [(&str, &str); 6] = [
     ("bad.txt", "ex: http://e/\nex: e\n"),
 ];
 
-pub(crate) static STARTED: [Started; 26] = [
+pub(crate) static STARTED: [Started; 27] = [
     Started {
         line: "rdfconv show x x x x x x x x x x x x x x x x x x x x x x x x x x x x x x x x x x x x x x x x x x x x x x x x",
         status: 2,
@@ -291,6 +299,12 @@ pub(crate) static STARTED: [Started; 26] = [
     },
     Started {
         line: "rdfconv convert -",
+        status: 0,
+        written: "<a:> <b:> _:ninput .\n",
+        reported: "",
+    },
+    Started {
+        line: "rdfconv convert --output=- -",
         status: 0,
         written: "<a:> <b:> _:ninput .\n",
         reported: "",
@@ -426,5 +440,93 @@ pub(crate) static STARTED: [Started; 26] = [
         status: 0,
         written: "<a:> <b:> \"file\" .\n",
         reported: "",
+    },
+];
+
+/// The words that the program is started with, where the lines go to the file `out.nq`, and what comes of it. Nothing
+/// is written to the output.
+pub(crate) struct IntoFile {
+    /// The words, with a space between each two.
+    pub(crate) line: &'static str,
+    pub(crate) making: Making,
+    pub(crate) status: u8,
+    /// What the file has then, if it is there.
+    pub(crate) kept: Option<&'static str>,
+    pub(crate) is_discarded: bool,
+    pub(crate) reported: &'static str,
+}
+
+pub(crate) static INTO_FILES: [IntoFile; 9] = [
+    IntoFile {
+        line: "rdfconv convert -o out.nq --format nt data.nt",
+        making: Making::Works,
+        status: 0,
+        kept: Some("<a:> <b:> \"file\" .\n"),
+        is_discarded: false,
+        reported: "",
+    },
+    IntoFile {
+        line: "rdfconv convert -oout.nq",
+        making: Making::Works,
+        status: 0,
+        kept: Some("<a:> <b:> _:ninput .\n"),
+        is_discarded: false,
+        reported: "",
+    },
+    IntoFile {
+        line: "rdfconv convert --output=out.nq data.ttl",
+        making: Making::Works,
+        status: 1,
+        kept: None,
+        is_discarded: true,
+        reported: "rdfconv: unbound prefix at byte 0, line 1\n",
+    },
+    IntoFile {
+        line: "rdfconv convert --output out.nq --prefixes bad.txt data.ttl",
+        making: Making::Works,
+        status: 2,
+        kept: None,
+        is_discarded: true,
+        reported: "rdfconv: bad prefixes at line 2\n",
+    },
+    IntoFile {
+        line: "rdfconv convert -o out.nq data.nt",
+        making: Making::NotWritten,
+        status: 3,
+        kept: None,
+        is_discarded: true,
+        reported: "rdfconv: write failed\n",
+    },
+    IntoFile {
+        line: "rdfconv convert -o out.nq data.nt",
+        making: Making::NotNamed,
+        status: 3,
+        kept: None,
+        is_discarded: false,
+        reported: "rdfconv: write failed\n",
+    },
+    IntoFile {
+        line: "rdfconv convert -o out.nq data.nt",
+        making: Making::NotCreated,
+        status: 3,
+        kept: None,
+        is_discarded: false,
+        reported: "rdfconv: cannot open file\n",
+    },
+    IntoFile {
+        line: "rdfconv convert -o out.nq data.nt",
+        making: Making::NoMemory,
+        status: 4,
+        kept: None,
+        is_discarded: false,
+        reported: "rdfconv: out of memory\n",
+    },
+    IntoFile {
+        line: "rdfconv convert -o out.nq no.nt",
+        making: Making::Works,
+        status: 3,
+        kept: None,
+        is_discarded: false,
+        reported: "rdfconv: cannot open file\n",
     },
 ];

@@ -36,6 +36,9 @@ Options of a command, which reads FILE, or standard input where there is none or
                    blank node, so that outputs with different words of one length can be joined
   --graph IRI      (convert) absolute IRI of a graph, at most --iri bytes, in which quads of the
                    default graph are written; those of other graphs stay in theirs
+  -o, --output OUTPUT
+                   (convert) file to write: it is there whole, or is what it was; it is written as
+                   OUTPUT.part, which must not be there, and renamed when all is on its device
 Past one of the limits N a document is refused. `show` looks at tokens alone: --base, --depth,
 --bindings and --iri have no use there, but a base that is no IRI, or is too long, is reported.
 
@@ -45,7 +48,7 @@ Exit status:
   2  the words are no command, the base or the graph is no IRI or too long, WORD is empty or has
      another character, a file's name ends in no format where it is asked for one, or a line of
      PREFIXES is refused, with `rdfconv: bad prefixes at line N`
-  3  a file does not open, or a read or write failed
+  3  a file does not open or can't be created, or a read or write failed
   4  out of memory
 The status of several documents is the greatest of theirs.
 ";
@@ -115,6 +118,7 @@ Options:
       --ascii                Characters above U+007F of strings and IRIs as \\uXXXX or \\UXXXXXXXX; labels of blank nodes stay
       --node-prefix <WORD>   Word of ASCII letters and digits in front of the label of each blank node
       --graph <IRI>          Absolute IRI of the graph that quads of the default graph are written in, at most --iri bytes
+  -o, --output <OUTPUT>      File to write, which is there whole or not at all; without one, or with `-`, standard output
   -h, --help                 Print help
 ";
 
@@ -169,6 +173,8 @@ Exit status:
 pub(crate) const CONVERT_NOTES: &str = "
 The format is not guessed from the file's name, unless it is asked for by `--format name`.
 Past one of the limits N a document is refused.
+OUTPUT is there whole, or is what it was: it is written as OUTPUT.part, which must not be there, and
+renamed when all is on its device. Only a regular file is replaced.
 
 Exit status:
   0  accepted, or help was asked for
@@ -176,7 +182,7 @@ Exit status:
   2  the words are no command, the base or the graph is no IRI or too long, WORD is empty or has
      another character, a file's name ends in no format where it is asked for one, or a line of
      PREFIXES is refused, with `rdfconv: bad prefixes at line N`
-  3  a file does not open, or a read or write failed
+  3  a file does not open or can't be created, or a read or write failed
   4  out of memory
 ";
 
@@ -205,7 +211,7 @@ pub(crate) struct Refused {
     pub(crate) reported: &'static str,
 }
 
-pub(crate) static REFUSED: [Refused; 37] = [
+pub(crate) static REFUSED: [Refused; 39] = [
     Refused {
         line: "",
         reported: NO_COMMAND,
@@ -273,6 +279,14 @@ pub(crate) static REFUSED: [Refused; 37] = [
     Refused {
         line: "rdfconv convert --node-prefix=a --node-prefix=b",
         reported: "error: the argument '--node-prefix <WORD>' cannot be used multiple times\n\nUsage: rdfconv convert [OPTIONS] [FILE]\n\nFor more information, try '--help'.\n",
+    },
+    Refused {
+        line: "rdfconv check -o out.nq",
+        reported: "error: unexpected argument '-o' found\n\n  tip: to pass '-o' as a value, use '-- -o'\n\nUsage: rdfconv check [OPTIONS] [FILE]...\n\nFor more information, try '--help'.\n",
+    },
+    Refused {
+        line: "rdfconv convert -o a.nq --output=b.nq",
+        reported: "error: the argument '--output <OUTPUT>' cannot be used multiple times\n\nUsage: rdfconv convert [OPTIONS] [FILE]\n\nFor more information, try '--help'.\n",
     },
     Refused {
         line: "rdfconv convert --token=0",

@@ -1,6 +1,6 @@
 // Devices that give or take some bytes a call and fail at a given call.
 
-ghost use Rattle.std.specs.Prelude.{Some, ◌≡◌, false};
+ghost use Rattle.std.specs.Prelude.{Some, ◌≡◌, [], false};
 
 use rdf_stream::{Drain, Failed, Source};
 use std::alloc::Global;
@@ -115,7 +115,8 @@ pub(crate) fn parts_of(bytes: &[u8], cut: usize, calls: u64) -> Parts<'_>
 
 /// Takes so many bytes a call, and fails after these calls.
 pub(crate) fn slow_drain(alloc: Global, room: usize, calls: u64) -> SlowDrain
-    ensures { result.failed ≡ false }
+    ensures live { result.failed ≡ false }
+    ensures empty { result.bytes.items ≡ [] }
 {
     SlowDrain {
         bytes: Vec::new(alloc),

@@ -54,6 +54,7 @@ returns-clause-task c =
     let graph = c.get_str-6.ensures ∙ first_value-rows found (codes "graph") in
     let prefixes = c.get_str-7.ensures ∙ first_value-rows found (codes "prefixes") in
     let file = c.get_str-8.ensures ∙ first_value-rows found (codes "file") in
+    let output = c.get_str-9.ensures ∙ first_value-rows found (codes "output") in
     let format = text_is found (codes "format") _ c.get_str.result c.get_str.ensures c.requires.format.1 c.unwrap-word.result c.unwrap-word.ensures in
     let first = c.name_by.ensures ∙ ap name_by (c.get_str-2.ensures ∙ first_value-rows found (codes "file")) in
     let further = c.further_by.ensures ∙ ap (further_by c.args.name.now) (c.get_strs.ensures ∙ raw_values-rows found (codes "file")) in
@@ -76,6 +77,7 @@ returns-clause-task c =
       good_graph = subst (λ text. IfSome text (IsBase c.limits_of-limits.result.iri)) graph (rw c.iri-2.ensures at c.in_ok-graph.ensures.good);
       prefixes = c.in_ok-prefixes.ensures ∙ prefixes;
       file = c.in_ok-file.ensures ∙ (c.file_by.ensures ∙ ap file_by file);
+      output = c.in_ok-output.ensures ∙ (c.file_by-2.ensures ∙ ap file_by output);
     }
 
 pub returns-in_err-more-clause-refused : goal.returns-in_err-more-clause-refused

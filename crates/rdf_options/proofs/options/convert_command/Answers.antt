@@ -8,5 +8,6 @@ returns c =
     let first = with_argument _ _ _ _ _ c.in_ok-command-2.ensures (c.in_ok-command.ensures file_rule c.file_argument.ensures) c.prefixes_option.ensures in
     let second = with_argument _ _ _ _ _ c.in_ok-command-3.ensures first c.ascii_option.ensures in
     let third = with_argument _ _ _ _ _ c.in_ok-command-4.ensures second c.node_prefix_option.ensures in
-    IfOk-weaker c.arg-4.result _ _ (λ made added. with_argument _ made _ _ _ added third c.graph_option.ensures)
-    c.arg-4.ensures
+    let fourth = with_argument _ _ _ _ _ c.in_ok-command-5.ensures third c.graph_option.ensures in
+    IfOk-weaker c.arg-5.result _ _ (λ made added. with_argument _ made _ _ _ added fourth c.output_option.ensures)
+    c.arg-5.ensures

@@ -1,0 +1,116 @@
+// The run of a task over its document, whose lines go to the output or to a file of their own.
+
+ghost use Rattle.std.specs.Prelude.{◌≡◌, ◌≢◌, false, true, option_map};
+ghost use Rattle.rdf_iri.specs.Scope.{BaseFits};
+ghost use Rattle.rdf_stream.specs.Messages.{report_text};
+ghost use Rattle.rdf_stream.specs.Told.{written};
+ghost use Rattle.rdf_stream.specs.declared.fault.StreamFault.{StreamFault};
+ghost use Rattle.rdf_command.specs.Outputs.{EndsInto, EndsOnto, EndsTo, output_of};
+ghost use Rattle.rdf_command.specs.Programs.{outputs_of};
+ghost use Rattle.rdf_command.specs.Runs.{AreFresh, AsWritten, files_told};
+ghost use Rattle.rdf_command.specs.Statuses.{Reports};
+
+use crate::entry::Ended;
+use crate::host::Host;
+use crate::runs::{Files, refuse_name, refuse_output, run};
+use crate::task::Task;
+use rdf_stream::{Drain, Failed, Source};
+use std::alloc::Global;
+
+/// Runs a task over its files. Its lines go to the file that it writes, or to the output where it writes none.
+pub fn run_over<H: Host, O: Drain, E: Drain>(
+    alloc: Global,
+    task: Task,
+    host: &H,
+    files: Files<H::Input>,
+    out: &mut O,
+    err: &mut E,
+) -> Ended<H::Input>
+    requires base { BaseFits task.base task.limits }
+    requires fresh { AreFresh H.Input.has_ended H.Input.has_failed files }
+    requires out { O.has_failed out.old ≡ false }
+    requires err { E.has_failed err.old ≡ false }
+    ensures { AsWritten (EndsTo (output_of task) (outputs_of H.Host host.now) task (option_map H.Input.remaining files.prefixes)
+        (H.Input.remaining files.document) (option_map (files_told H.Input.Source) result.files) result.status)
+        O.Drain E.Drain out.old out.new err.old err.new }
+{
+    let mut task = task;
+    match task.output.take() {
+        Some(name) => run_into(alloc, task, name.as_str(), host, files, err),
+        None => run_onto(alloc, task, files, out, err),
+    }
+}
+
+// Runs a task whose lines go to the output.
+fn run_onto<I: Source + Drop, O: Drain, E: Drain>(
+    alloc: Global,
+    task: Task,
+    files: Files<I>,
+    out: &mut O,
+    err: &mut E,
+) -> Ended<I>
+    requires base { BaseFits task.base task.limits }
+    requires fresh { AreFresh I.has_ended I.has_failed files }
+    requires out { O.has_failed out.old ≡ false }
+    requires err { E.has_failed err.old ≡ false }
+    ensures { AsWritten (EndsOnto task (option_map I.remaining files.prefixes) (I.remaining files.document) (option_map (files_told I.Source) result.files) result.status)
+        O.Drain E.Drain out.old out.new err.old err.new }
+{
+    let mut files = files;
+    let status = run(alloc, task, &mut files, out, err);
+    Ended {
+        status,
+        files: Some(files),
+    }
+}
+
+// Runs a task whose lines go to the file of this name.
+fn run_into<H: Host, E: Drain>(
+    alloc: Global,
+    task: Task,
+    name: &str,
+    host: &H,
+    files: Files<H::Input>,
+    err: &mut E,
+) -> Ended<H::Input>
+    requires base { BaseFits task.base task.limits }
+    requires fresh { AreFresh H.Input.has_ended H.Input.has_failed files }
+    requires err { E.has_failed err.old ≡ false }
+    ensures { EndsInto (outputs_of H.Host host.now) name.now task (option_map H.Input.remaining files.prefixes) (H.Input.remaining files.document)
+        (option_map (files_told H.Input.Source) result.files) result.status (E.contents err.old) (written E.Drain err.new) }
+{
+    let mut output = match host.create(alloc, name) {
+        Ok(output) => output,
+        Err(why) => {
+            return Ended {
+                status: refuse_output(why, err),
+                files: None,
+            };
+        }
+    };
+    let mut files = files;
+    let status = run(alloc, task, &mut files, &mut output, err);
+    Ended {
+        status: finish(host, output, name, status, err),
+        files: Some(files),
+    }
+}
+
+// Keeps the output of a run that is done, discards that of one which stopped, and answers the status then.
+fn finish<H: Host, E: Drain>(host: &H, output: H::Output, name: &str, status: u8, err: &mut E) -> u8
+    requires flushed { status ≡ 0 → H.Output.is_flushed output ≡ true }
+    requires err { status ≡ 0 → E.has_failed err.old ≡ false }
+    ensures stopped { status ≢ 0 → (result ≡ status) × (err.new ≡ err.old) }
+    ensures kept { result ≡ 0 → (status ≡ 0) × (err.new ≡ err.old) × H.has_output host.now name.now (H.Output.contents output) }
+    ensures left { result ≢ 0 → H.is_left host.now name.now }
+    ensures unnamed { status ≡ 0 → result ≢ 0 → (result ≡ 3) × Reports (report_text StreamFault.Write) (E.contents err.old) (E.contents err.new) (E.has_failed err.new) }
+{
+    if status != 0 {
+        host.discard(output, name);
+        return status;
+    }
+    match host.keep(output, name) {
+        Ok(()) => 0,
+        Err(Failed) => refuse_name(err),
+    }
+}
