@@ -1,13 +1,12 @@
 -- The kinds that are handed out beside a fault, from how the grammar stands after a refusal.
 use Rattle.std.proofs.Common.{◌≡◌, ℕ, Bool, true, false, List, ◌++◌, Option, IfErr, OnOk, Result, Ok, Err, refl, sym, subst, ⊎_elim}
 use Rattle.std.specs.Result.{IsErrAnd}
-use Rattle.rdf_terms.specs.declared.kind.Kind.{Kind}
 use Rattle.rdf_terms.specs.declared.reason.Reason.{Reason}
 use Rattle.rdf_terms.specs.declared.reason.Reason.TheVariants as reason
 use Rattle.rdf_terms.specs.Terms.{Quad}
 use Rattle.rdf_tokens.specs.Tokens.{Place}
 use Rattle.rdf_tokens.specs.Scans.{place_of}
-use Rattle.rdf_tokens.specs.Grammars.{Language, RefusedIn, reading_of}
+use Rattle.rdf_tokens.specs.Grammars.{RefusedIn, reading_of}
 use Rattle.rdf_tokens.specs.declared.token.Fault.{Fault}
 use Rattle.rdf_tokens.proofs.LanguageLemmas.{EndsAtBlame, refused_in_more}
 use Rattle.rdf_driver.specs.declared.summary.Summary.{Summary}

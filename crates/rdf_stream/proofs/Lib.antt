@@ -11,6 +11,7 @@ pub mod GrowthLemmas
 pub mod ConvertsLemmas
 pub mod DocumentLemmas
 pub mod ExpectedLemmas
+pub mod ExplainsLemmas
 pub mod ChecksLemmas
 pub mod TokenWordsLemmas
 pub mod TokenOutLemmas

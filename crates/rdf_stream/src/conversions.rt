@@ -52,7 +52,8 @@ pub fn convert<A: Allocator + Copy, S: Source, D: Drain>(
     convert_expecting(alloc, job, source, drain, &mut expected)
 }
 
-/// What `convert` does, and the kinds of tokens that could have stood in the place of one that was unexpected, as `check_expecting` says.
+/// What `convert` does, and the kinds of tokens that could have stood in the place of one that was unexpected, as
+/// `check_expecting` says.
 pub fn convert_expecting<A: Allocator + Copy, S: Source, D: Drain>(
     alloc: A,
     job: Job<A>,

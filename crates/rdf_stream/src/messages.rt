@@ -75,13 +75,16 @@ fn put_refusal<A: Allocator + Copy>(fault: &Fault, line: &mut Vec<u8, A>) -> Res
     put_number(fault.line, line)
 }
 
-fn put_number<A: Allocator + Copy>(number: u64, line: &mut Vec<u8, A>) -> Result<(), AllocError>
+pub(crate) fn put_number<A: Allocator + Copy>(
+    number: u64,
+    line: &mut Vec<u8, A>,
+) -> Result<(), AllocError>
     ensures { OnOk result (line.new.items ≡ line.old.items ++ decimal number) }
 {
     line.extend_from_slice(Buffer::new().format(number).as_bytes())
 }
 
-fn words(reason: Reason) -> &'static str
+pub(crate) fn words(reason: Reason) -> &'static str
     ensures { result.now ≡ reason_text reason }
 {
     match reason {

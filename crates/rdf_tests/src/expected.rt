@@ -7,7 +7,9 @@ use crate::sinks::recording_sink;
 use rdf_driver::Kinds;
 use rdf_iri::Limits;
 use rdf_lines::LineForm;
-use rdf_stream::{Form as Format, In, Job, Out, check_expecting, convert_expecting};
+use rdf_stream::{
+    Form as Format, In, Job, Out, StreamFault, check_expecting, convert_expecting, explain,
+};
 use rdf_terms::{Kind, Reason};
 use rdf_trig::DocForm;
 use std::alloc::Global;
@@ -288,6 +290,67 @@ fn a_run_hands_out_no_kind_where_no_token_is_unexpected(rt: HostRuntime) {
         assert!(rt;
             hands_out(rt.alloc(), Format::Turtle, bytes, &[]),
             "{bytes:?}"
+        );
+    }
+}
+
+/// A document, and the line that explains its refusal.
+struct Explained {
+    format: Format,
+    bytes: &'static [u8],
+    line: &'static str,
+}
+
+static EXPLAINED: [Explained; 5] = [
+    Explained {
+        format: Format::NTriples,
+        bytes: b"<a:s> <a:p> \"x\" <a:g> .",
+        line: "a:1: unexpected token; expected language tag, \"^^\" or \".\"\n",
+    },
+    Explained {
+        format: Format::NQuads,
+        bytes: b"\n\n<a:s> <a:p> <a:o> <a:g> <a:g>",
+        line: "a:3: unexpected token; expected \".\"\n",
+    },
+    Explained {
+        format: Format::NTriples,
+        bytes: b"\"s\"",
+        line: "a:1: unexpected token; expected IRI, blank node label, line end or end of document\n",
+    },
+    Explained {
+        format: Format::Turtle,
+        bytes: b"@prefix <a:b> .",
+        line: "a:1: unexpected token; expected prefix\n",
+    },
+    Explained {
+        format: Format::TriG,
+        bytes: b"<a:s> <a:p> ( 1 . ",
+        line: "a:1: unexpected token; expected IRI, blank node label, string, number, \"true\", \"false\", prefixed name, \"[\", \"(\" or \")\"\n",
+    },
+];
+
+/// Whether a refusal of the document named `a` is explained by this line.
+fn is_explained(alloc: Global, format: Format, bytes: &[u8], line: &str) -> bool {
+    let mut expected = Kinds::none();
+    let Some(job) = Job::new(format, None, Limits::default()) else {
+        return false;
+    };
+    match check_expecting(alloc, job, &mut In::new(bytes), &mut expected) {
+        Err(StreamFault::Refused(fault)) => match explain(alloc, "a", &fault, expected) {
+            Ok(text) => text.as_slice() == line.as_bytes(),
+            Err(_) => false,
+        },
+        _ => false,
+    }
+}
+
+#[test]
+fn a_refusal_is_explained_in_a_line(rt: HostRuntime) {
+    for row in EXPLAINED.as_slice() {
+        assert!(rt;
+            is_explained(rt.alloc(), row.format, row.bytes, row.line),
+            "{}",
+            row.line
         );
     }
 }
