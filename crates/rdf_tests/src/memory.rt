@@ -325,8 +325,9 @@ fn put_names<A: Allocator + Copy>(alloc: A, scope: &Scope<A>, reference: &str) -
     }
     let mut text = String::from_str(alloc, reference)?;
     scope.resolve_in_place(&mut text)?;
-    scope.resolve_into(reference, &mut text)?;
-    scope.expand_into("x", reference, &mut TextBuffer::new(alloc))?;
+    let mut place = TextBuffer::new(alloc);
+    scope.resolve_into(reference, &mut place)?;
+    scope.expand_into("x", reference, &mut place)?;
     Ok(())
 }
 
