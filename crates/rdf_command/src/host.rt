@@ -9,7 +9,7 @@ ghost use Rattle.rdf_command.specs.declared.host.NoWords.{NoWords};
 use rdf_stream::{Drain, Failed, In, Out, Source};
 use std::alloc::{AllocError, Global};
 use std::fs::File;
-use std::io::{ErrorKind, Read, Stdin};
+use std::io::{ErrorKind, Read, Stdin, Stdout, Write};
 use std::{env, fs, io};
 
 /// Why there are no words.
@@ -54,7 +54,7 @@ impl From<AllocError> for NoOutput {
 pub trait Host {
     /// What a document is read from.
     type Input: Source + Drop;
-    /// A file that is being written, and has not got its name yet. It can't be dropped: it is kept or discarded.
+    /// A file that is being written, and has not got its name yet. It may be no `Drop` type, so that code over any host keeps or discards it.
     type Output: Drain;
 
     /// These are the words, the program's name first.
@@ -126,13 +126,41 @@ impl Read for Opened {
     }
 }
 
-/// A file that is being written beside the one that it is to be.
-pub struct Beside {
-    path: String,
-    out: Out<File>,
+/// Standard output, or a file that was created.
+#[derive(Drop)]
+pub enum Device {
+    /// Standard output.
+    Output(Stdout),
+    /// A file that was created.
+    File(File),
 }
 
-impl Drain for Beside {
+impl Write for Device {
+    fn write(&mut self, buf: &[u8]) -> io::Result<usize> {
+        match self {
+            Device::Output(output) => output.write(buf),
+            Device::File(file) => file.write(buf),
+        }
+    }
+
+    fn flush(&mut self) -> io::Result<()> {
+        match self {
+            Device::Output(output) => output.flush(),
+            Device::File(file) => file.flush(),
+        }
+    }
+}
+
+/// Where lines go: standard output, or a file that is written beside the one that it is to be. One type stands for both, so that the
+/// program has one copy of the code that writes lines.
+#[derive(Drop)]
+pub struct Destination {
+    // The name of the file while it is written; none for standard output.
+    part: Option<String>,
+    out: Out<Device>,
+}
+
+impl Drain for Destination {
     ghost contents = { λ s. s.out.contents };
 
     ghost has_failed = { λ s. s.out.has_failed };
@@ -157,12 +185,22 @@ impl<'a> Process<'a> {
     pub fn new(rt: &'a HostRuntime) -> Process<'a> {
         Process { rt }
     }
+
+    /// The process's standard output.
+    pub fn output(&self) -> Destination
+        ensures { result.out.has_failed ≡ false }
+    {
+        Destination {
+            part: None,
+            out: Out::new(Device::Output(self.rt.stdout())),
+        }
+    }
 }
 
 impl<'a> Host for Process<'a> {
     type Input = In<Opened>;
 
-    type Output = Beside;
+    type Output = Destination;
 
     ghost has_words = { λ _ _. ⊤ };
 
@@ -198,23 +236,26 @@ impl<'a> Host for Process<'a> {
     }
 
     // A file that is there already beside it is not overwritten: it may be that of another run.
-    fn create(&self, alloc: Global, name: &str) -> Result<Beside, NoOutput> {
+    fn create(&self, alloc: Global, name: &str) -> Result<Destination, NoOutput> {
         if !may_be_replaced(self.rt, name) {
             return Err(NoOutput::NotOpen);
         }
         let path = path_beside(alloc, name)?;
         match File::create_new(self.rt, path.as_str()) {
-            Ok(file) => Ok(Beside {
-                path,
-                out: Out::new(file),
+            Ok(file) => Ok(Destination {
+                part: Some(path),
+                out: Out::new(Device::File(file)),
             }),
             Err(_) => Err(NoOutput::NotOpen),
         }
     }
 
-    fn keep(&self, output: Beside, name: &str) -> Result<(), Failed> {
-        let Beside { path, out } = output;
+    fn keep(&self, output: Destination, name: &str) -> Result<(), Failed> {
+        let Destination { part, out } = output;
         drop(out);
+        let Some(path) = part else {
+            return Err(Failed);
+        };
         match rename_whole(self.rt, path.as_str(), name) {
             Ok(()) => Ok(()),
             Err(_) => {
@@ -224,10 +265,12 @@ impl<'a> Host for Process<'a> {
         }
     }
 
-    fn discard(&self, output: Beside, _name: &str) {
-        let Beside { path, out } = output;
+    fn discard(&self, output: Destination, _name: &str) {
+        let Destination { part, out } = output;
         drop(out);
-        remove(self.rt, path.as_str());
+        if let Some(path) = part {
+            remove(self.rt, path.as_str());
+        }
     }
 }
 

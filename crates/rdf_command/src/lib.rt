@@ -12,6 +12,6 @@ mod task;
 
 pub use commands::command_of;
 pub use entry::{Ended, start};
-pub use host::{Beside, Host, NoOutput, NoWords, NotOpen, Opened, Process};
+pub use host::{Destination, Device, Host, NoOutput, NoWords, NotOpen, Opened, Process};
 pub use runs::{Files, refuse_words, run};
 pub use task::{Action, Document, Task, WordsFault};

@@ -8,7 +8,7 @@ ghost use Rattle.rdf_lines.specs.NodePrefixes.{line_in};
 ghost use Rattle.rdf_lines.specs.Writing.{CanWrite};
 
 use crate::form::WrittenForm;
-use crate::writer::{LabelFault, put_quad};
+use crate::writer::{LabelFault, Usual, put_quad};
 use rdf_terms::QuadRef;
 use rdf_terms::place::place_all;
 use std::alloc::{AllocError, Allocator, Global};
@@ -105,7 +105,22 @@ impl<A: Allocator + Copy> LineBuffer<A> {
         ensures unchanged { OnErr result (self.new ≡ self.old) }
         ensures not_labelled { IsErrOf result LabelFault.NotLabelled ↔ ¬ CanWrite form.entry.style (quad_of quad.now) }
     {
-        self.len = put_quad(quad, &form, self.len, &mut self.bytes)?;
+        self.put_line_for::<Usual>(quad, form)
+    }
+
+    /// What `put_line` does, for a caller that names itself by a type. Each such type has machine code of its own, which stands in the caller where
+    /// that is the only one to name it: a program that puts lines in two places calls this in one of them.
+    #[inline(always)]
+    pub fn put_line_for<C>(
+        &mut self,
+        quad: &QuadRef<'_>,
+        form: WrittenForm<'_>,
+    ) -> Result<(), LabelFault>
+        ensures written { OnOk result (self.new ≡ self.old ++ encode_utf8_all (line_in (form_of form.entry) (quad_of quad.now))) }
+        ensures unchanged { OnErr result (self.new ≡ self.old) }
+        ensures not_labelled { IsErrOf result LabelFault.NotLabelled ↔ ¬ CanWrite form.entry.style (quad_of quad.now) }
+    {
+        self.len = put_quad::<C, A>(quad, &form, self.len, &mut self.bytes)?;
         Ok(())
     }
 }

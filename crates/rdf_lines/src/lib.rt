@@ -22,4 +22,4 @@ pub use grammar::LineGrammar;
 pub use prefix::{NodePrefix, NodePrefixView};
 pub use rdf_driver::{Fault, Kinds, Summary};
 pub use reader::{LineReader, line_reader};
-pub use writer::{LabelFault, label_text, write_line, write_line_in};
+pub use writer::{LabelFault, Usual, label_text, write_line, write_line_in};

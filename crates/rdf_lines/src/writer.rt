@@ -39,6 +39,9 @@ pub enum LabelFault {
     Memory,
 }
 
+/// Who puts a line, where nobody names himself. See `LineBuffer::put_line_for`.
+pub struct Usual;
+
 impl From<AllocError> for LabelFault {
     ghost use Rattle.std.specs.Prelude.{◌≡◌};
     ghost use Rattle.rdf_lines.specs.declared.writer.LabelFault.TheVariants.{Memory};
@@ -78,7 +81,7 @@ pub fn write_line_in<A: Allocator + Copy>(
     ensures not_labelled { IsErrOf result LabelFault.NotLabelled ↔ ¬ CanWrite form.entry.style (quad_of quad.now) }
 {
     let start = out.len();
-    match put_quad(quad, &form, start, out) {
+    match put_quad::<Usual, A>(quad, &form, start, out) {
         Ok(end) => {
             out.truncate(end);
             Ok(())
@@ -93,7 +96,7 @@ pub fn write_line_in<A: Allocator + Copy>(
 /// Puts the line of a quad after the first `at` bytes, and answers where it ends; what stands after that is not said. After an error too the
 /// first `at` bytes are as they were.
 #[inline(always)]
-pub(crate) fn put_quad<A: Allocator + Copy>(
+pub(crate) fn put_quad<C, A: Allocator + Copy>(
     quad: &QuadRef<'_>,
     form: &WrittenForm<'_>,
     at: usize,
@@ -108,15 +111,16 @@ pub(crate) fn put_quad<A: Allocator + Copy>(
         return Err(LabelFault::NotLabelled);
     }
     let end = match form.escapes {
-        Escapes::Plain => put_plain(quad, form, at, out)?,
+        Escapes::Plain => put_plain::<C, A>(quad, form, at, out)?,
         Escapes::Ascii => put_apart(quad, form, at, out)?,
     };
     Ok(end)
 }
 
-// At once where the texts are short, as most are.
+// At once where the texts are short, as most are. This is too large for LLVM to take a mark for it, so it stands in its caller only where it is
+// called once: hence an instance for each.
 #[inline(always)]
-fn put_plain<A: Allocator + Copy>(
+fn put_plain<C, A: Allocator + Copy>(
     quad: &QuadRef<'_>,
     form: &WrittenForm<'_>,
     at: usize,

@@ -31,6 +31,12 @@ const WAITING_LEN: usize = 65536;
 /// Fewer bytes than these are copied after what waits, and more go to the drain as they stand.
 const COPIED_LEN: usize = 4096;
 
+/// Puts quads as they are.
+struct AsItIs;
+
+/// Puts quads in the graph that was asked for.
+struct InGraph;
+
 /// The lines of the quads that were put, in the graph that was asked for: the drain has their front, and the buffer
 /// what waits for it. A put of a quad that the style can't write is refused, as one for which there is no memory.
 #[derive(Drop)]
@@ -182,15 +188,15 @@ impl<'a, D: Drain, A: Allocator + Copy> LineOut<'a, D, A> {
         Ok(())
     }
 
-    // Puts the line of a quad as it is.
+    // Puts the line of a quad as it is, for a caller that names itself.
     #[inline(always)]
-    fn put_line(&mut self, quad: &QuadRef<'_>) -> Result<(), PutFault>
+    fn put_line<C>(&mut self, quad: &QuadRef<'_>) -> Result<(), PutFault>
         requires live { D.has_failed self.old.drain.now ≡ false }
         ensures taken { OnOk result (TakesBytes D.contents D.has_failed self.old (line_of self.old.form.lines quad.now) self.new) }
         ensures left { OnErr result (LeavesBytes D.contents D.has_failed self.old (line_of self.old.form.lines quad.now) self.new) }
         ensures device { (D.has_failed self.new.drain.now ≡ true) ↔ (result ≡ Err PutFault.Device) }
     {
-        match self.buffer.put_line(quad, self.form.lines) {
+        match self.buffer.put_line_for::<C>(quad, self.form.lines) {
             Ok(()) => {}
             // No reader gives a quad that its style can't write. If one did, it would end the run.
             Err(LabelFault::NotLabelled) => return Err(PutFault::Memory),
@@ -214,7 +220,7 @@ impl<'a, D: Drain, A: Allocator + Copy> LineOut<'a, D, A> {
         ensures left { OnErr result (LeavesBytes D.contents D.has_failed self.old (line_bytes self.old.form (quad_of quad.now)) self.new) }
         ensures device { (D.has_failed self.new.drain.now ≡ true) ↔ (result ≡ Err PutFault.Device) }
     {
-        self.put_line(&in_graph(quad, self.form.graph))
+        self.put_line::<InGraph>(&in_graph(quad, self.form.graph))
     }
 
     /// Puts the line of a token.
@@ -249,7 +255,7 @@ impl<'a, D: Drain, A: Allocator + Copy> QuadSink for LineOut<'a, D, A> {
     fn put(&mut self, quad: &QuadRef<'_>) -> Result<(), PutFault> {
         see_quad(quad);
         if self.form.graph.is_none() {
-            return self.put_line(quad);
+            return self.put_line::<AsItIs>(quad);
         }
         self.put_in_graph(quad)
     }

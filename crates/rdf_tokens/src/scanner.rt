@@ -249,15 +249,18 @@ impl<A: Allocator + Copy> Scanner<A> {
         }
     }
 
-    /// Passes the white space and the comments of Turtle that stand next, where `peek` can be asked, and answers whether there were some and it
-    /// can be asked again: it can't where the text ends in a comment. What the next token is, and where it stands, stays as it is: it is only
-    /// sooner looked for. It takes no memory.
+    /// Passes the white space and the comments of Turtle that stand next, where `peek` can be asked, and answers whether there were some and
+    /// asking it again may tell more. It can't where the text ends in a comment, nor where one space is all there was: `peek` has looked behind
+    /// it, and it stays. What the next token is, and where it stands, stays as it is: it is only sooner looked for. It takes no memory.
     pub fn pass_blanks(&mut self) -> bool
         requires { MayPeek self.old }
         ensures passes { PassesBlank self.old self.new }
         ensures forward { result ≡ true → left self.new < left self.old }
         ensures again { result ≡ true → MayPeek self.new }
     {
+        if is_one(b' ', Dialect::Turtle, self.rest()) {
+            return false;
+        }
         let blank = blank_run(self.dialect, self.comment, self.rest());
         if blank.len == 0 {
             return false;

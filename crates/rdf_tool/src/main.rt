@@ -7,7 +7,7 @@ use std::process::ExitCode;
 
 fn main(rt: HostRuntime) -> ExitCode {
     let process = Process::new(&rt);
-    let mut out = Out::new(rt.stdout());
+    let mut out = process.output();
     let mut err = Out::new(rt.stderr());
     ExitCode::from(start(rt.alloc(), &process, &mut out, &mut err).status)
 }
