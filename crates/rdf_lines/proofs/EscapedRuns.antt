@@ -14,7 +14,7 @@ use Rattle.std.proofs.lemmas.Str.{IsUtf8-had, IsUtf8-take, IsCharBoundary-end, I
 use Rattle.rdf_terms.specs.declared.views.IriView.{IriView}
 use Rattle.rdf_terms.specs.Classes.{has}
 use Rattle.rdf_terms.specs.Classes.Class.{iri_char}
-use Rattle.rdf_terms.specs.Runs.{IsRun, goes_over, is_text_byte, is_ascii_byte, is_ascii_text_byte}
+use Rattle.rdf_terms.specs.Runs.{IsRun, goes_over, is_short_byte, is_ascii_byte, is_ascii_quote_byte}
 use Rattle.rdf_terms.specs.Terms.{all_have}
 use Rattle.rdf_terms.specs.Views.{iri_chars}
 use Rattle.rdf_tokens.proofs.GoodLemmas.{encode_one}
@@ -51,7 +51,7 @@ no_high p none c l h = fails (encode c) (let n = length-encode c in let one = (l
     fails (b ∷ w) l a h = none b a.0 (and_parts (p b) (all_have p w) h).0
 
 -- a run in a string of the ASCII form goes over no byte from 128 on
-no_ascii_text : (b : ℕ) → 128 ≤ b → is_ascii_text_byte b ≡ true → ⊥
+no_ascii_text : (b : ℕ) → 128 ≤ b → is_ascii_quote_byte b ≡ true → ⊥
 no_ascii_text b l h = grind (arith, nat_tests)
 
 -- nor does one in an IRI
@@ -64,7 +64,7 @@ high_stands Plain c l h = stands c l
   where
     stands : (c : ℕ) → 128 ≤ c → escaped Plain c ≡ c ∷ []
     stands c l = grind (arith, nat_tests)
-high_stands Ascii c l h = absurd (no_high is_ascii_text_byte no_ascii_text c l h)
+high_stands Ascii c l h = absurd (no_high is_ascii_quote_byte no_ascii_text c l h)
 
 -- so a character whose bytes a run goes over is written as itself
 stands : (e : Escapes) (c : ℕ) → all_have (passes e) (encode c) ≡ true → escaped e c ≡ c ∷ []
@@ -102,18 +102,18 @@ run_front : (e : Escapes) (w : List ℕ) (n : ℕ) → IsRun (goes_over (run_of 
 run_front e w n r = front_passes (passes e) w n (λ k l. r.pass k (omega arith) l) r.within
 
 -- the text may be cut where a run ends
-all_low : (w : List ℕ) → all_have is_ascii_text_byte w ≡ true → AllByRecursion (λ c. c < 128) w
+all_low : (w : List ℕ) → all_have is_ascii_quote_byte w ≡ true → AllByRecursion (λ c. c < 128) w
 all_low [] h = tt
-all_low (b ∷ w) h = let p = and_parts (is_ascii_text_byte b) (all_have is_ascii_text_byte w) h in (low b p.0, all_low w p.1)
+all_low (b ∷ w) h = let p = and_parts (is_ascii_quote_byte b) (all_have is_ascii_quote_byte w) h in (low b p.0, all_low w p.1)
   where
-    low : (b : ℕ) → is_ascii_text_byte b ≡ true → b < 128
+    low : (b : ℕ) → is_ascii_quote_byte b ≡ true → b < 128
     low b h = grind (arith, nat_tests)
 
 -- before its end a text is cut at a byte of ASCII, or after bytes of ASCII
 cut_inside : (e : Escapes) (w : List ℕ) (n : ℕ) → IsUtf8 w → IsRun (goes_over (run_of e)) w 0 n → n < length w → IsCharBoundary w n
 cut_inside Plain w n u r l = IsCharBoundary-before_ascii w n l (low (get_or w n 0) (r.stops l))
   where
-    low : (b : ℕ) → is_text_byte b ≡ false → b < 128
+    low : (b : ℕ) → is_short_byte 34 b ≡ false → b < 128
     low b h = grind (arith, nat_tests)
 cut_inside Ascii w n u r l =
     let a = all_low (take n w) (run_front Ascii w n r) in

@@ -23,7 +23,7 @@ use Rattle.rdf_lines.specs.Canonical.{end_text, end_count, statement_text, ended
 use Rattle.rdf_lines.specs.Fronts.{Stands, IriStands, LabelStands, TagStands, StringStands, SubjectStands, PredicateStands, TailStands, ObjectStands, GraphStands, LineStands, LinesStand, AreLines, CharactersStand, EscapeStands}
 use Rattle.rdf_lines.specs.Laws.{TermShort, TailShort, GraphShort, TokensWithin}
 use Rattle.rdf_lines.specs.Writing.{written, escaped, iri_text, subject_text, string_text, type_text, tail_text, term_text, space, graph_text}
-use Rattle.rdf_terms.specs.Runs.{iri_byte, is_text_byte, IsRun}
+use Rattle.rdf_terms.specs.Runs.{iri_byte, is_short_byte, IsRun}
 use Rattle.rdf_terms.proofs.IriBytes.{iri_bytes}
 use Rattle.rdf_terms.proofs.RunsLemmas.{run_decides}
 use Rattle.rdf_lines.proofs.EscapedRuns.{each, run_cut}
@@ -115,17 +115,13 @@ characters_then a b c f g = record {
 }
 
 -- a run, and characters after it
-pub run_then : (a : List ℕ) (end : ℕ) (b c : List ℕ) → IsUtf8 a → IsRun is_text_byte a 0 end → a ≡ take end a ++ b → CharactersStand b c → CharactersStand a c
+pub run_then : (a : List ℕ) (end : ℕ) (b c : List ℕ) → IsUtf8 a → IsRun (is_short_byte 34) a 0 end → a ≡ take end a ++ b → CharactersStand b c → CharactersStand a c
 run_then a end b c u r e f =
     let run = take end a in
     let good : IsUtf8 run = IsUtf8-take a end u (run_cut Plain a end u r) in
     let plain : flat_map (escaped Plain) run ≡ run = plain_front a end (λ k l. run_plain (get_or a k 0) (r.pass k (omega arith) l)) in
     let same : encode_utf8_all (flat_map (escaped Plain) (chars run)) ≡ run = escaped_text (chars run) ∙ (ap (flat_map (escaped Plain)) (encodes-chars run good) ∙ plain) in
     characters_then a b c (record { characters = chars run; are = all_scalar (chars run) (scalars-chars run good); stands = e ∙ ap (λ x. x ++ b) (sym same) }) f
-
--- a single quote
-pub quote_stands : (a b : List ℕ) → a ≡ 39 ∷ b → CharactersStand a b
-quote_stands a b e = record { characters = 39 ∷ []; are = refl; stands = stands_byte 39 a b (omega arith) e }
 
 -- an escape
 pub escape_stands : (a b c : List ℕ) → a ≡ 92 ∷ b → EscapeStands b c → CharactersStand a c

@@ -7,7 +7,7 @@ use Rattle.std.proofs.lemmas.Bool.Decides.{nat_tests}
 use Rattle.std.proofs.lemmas.List.{append-nil, take_more}
 use Rattle.std.proofs.lemmas.List.Concat.{flat_map-append}
 use Rattle.std.proofs.lemmas.Str.{encodes-chars}
-use Rattle.rdf_terms.specs.Runs.{IsRun, is_text_byte}
+use Rattle.rdf_terms.specs.Runs.{IsRun, is_short_byte}
 use Rattle.rdf_terms.specs.Terms.{all_have}
 use Rattle.rdf_terms.proofs.EscapesLemmas.{slice_passes}
 use Rattle.rdf_lines.specs.declared.form.Escapes.TheVariants.{Plain}
@@ -25,24 +25,24 @@ pub escaped_by_bytes : (w : List ℕ) → IsUtf8 w → escaped_bytes Plain w ≡
 escaped_by_bytes w u = escaped_text (chars w) ∙ ap (flat_map (escaped Plain)) (encodes-chars w u)
 
 -- a byte of a run stands as it is
-byte_stands : (b : ℕ) → is_text_byte b ≡ true → escaped Plain b ≡ b ∷ []
+byte_stands : (b : ℕ) → is_short_byte 34 b ≡ true → escaped Plain b ≡ b ∷ []
 byte_stands b h = grind (arith, nat_tests)
 
 -- so does a run
-bytes_stand : (w : List ℕ) → all_have is_text_byte w ≡ true → flat_map (escaped Plain) w ≡ w
+bytes_stand : (w : List ℕ) → all_have (is_short_byte 34) w ≡ true → flat_map (escaped Plain) w ≡ w
 bytes_stand [] h = refl
 bytes_stand (b ∷ w) h =
-    let p = and_parts (is_text_byte b) (all_have is_text_byte w) h in
+    let p = and_parts (is_short_byte 34 b) (all_have (is_short_byte 34) w) h in
     ap (λ x. x ++ flat_map (escaped Plain) w) (byte_stands b p.0) ∙ ap (λ x. b ∷ x) (bytes_stand w p.1)
 
 -- a run after what was placed
-pub run_placed : (bs : List ℕ) (from stop : ℕ) → IsRun is_text_byte bs from stop →
+pub run_placed : (bs : List ℕ) (from stop : ℕ) → IsRun (is_short_byte 34) bs from stop →
     flat_map (escaped Plain) (take from bs) ++ slice_range bs from stop ≡ flat_map (escaped Plain) (take stop bs)
 run_placed bs from stop r =
     let n = stop - from in
     let run = take n (drop from bs) in
     let whole : from + n ≡ stop = omega (arith, r.from) in
-    let plain : flat_map (escaped Plain) run ≡ run = bytes_stand run (slice_passes is_text_byte bs from n (omega (arith, r.from, r.within)) (λ k a b. r.pass k a (omega (arith, r.from)))) in
+    let plain : flat_map (escaped Plain) run ≡ run = bytes_stand run (slice_passes (is_short_byte 34) bs from n (omega (arith, r.from, r.within)) (λ k a b. r.pass k a (omega (arith, r.from)))) in
     ap (λ x. flat_map (escaped Plain) (take from bs) ++ x) (sym plain)
     ∙ (sym (flat_map-append (escaped Plain) (take from bs) run)
     ∙ ap (flat_map (escaped Plain)) (sym (take-add from n bs) ∙ ap (λ m. take m bs) whole))

@@ -8,7 +8,7 @@ use Rattle.std.proofs.lemmas.Bool.Decides.{nat_tests}
 use Rattle.std.proofs.lemmas.List.{append-nil}
 use Rattle.std.proofs.lemmas.List.Concat.{flat_map-append}
 use Rattle.std.proofs.lemmas.Str.{encodes-append}
-use Rattle.rdf_terms.specs.Runs.{is_text_byte}
+use Rattle.rdf_terms.specs.Runs.{is_short_byte}
 use Rattle.rdf_tokens.proofs.GoodLemmas.{encode_one}
 use Rattle.rdf_lines.specs.declared.form.Escapes.TheVariants.{Plain}
 use Rattle.rdf_lines.specs.Writing.{escaped}
@@ -31,7 +31,7 @@ plain_front (c ∷ w) (suc n) h =
     ∙ ap (λ x. c ∷ x) (plain_front w n (λ k l. h (suc k) (omega arith)))
 
 -- the bytes that a run goes over stand as they are
-pub run_plain : (c : ℕ) → is_text_byte c ≡ true → is_escaped c ≡ false
+pub run_plain : (c : ℕ) → is_short_byte 34 c ≡ true → is_escaped c ≡ false
 run_plain c e = grind (arith, nat_tests)
 
 -- no character from U+0080 on is escaped

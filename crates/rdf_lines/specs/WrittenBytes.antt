@@ -8,7 +8,7 @@ use Rattle.rdf_terms.specs.declared.views.SubjectRef.{SubjectRef}
 use Rattle.rdf_terms.specs.declared.views.TermRef.{TermRef}
 use Rattle.rdf_terms.specs.declared.views.QuadRef.{QuadRef}
 use Rattle.rdf_terms.specs.declared.runs.Run.{Run}
-use Rattle.rdf_terms.specs.declared.runs.Run.TheVariants.{Text, AsciiText}
+use Rattle.rdf_terms.specs.declared.runs.Run.TheVariants.{QuoteText, AsciiQuoteText}
 use Rattle.rdf_terms.specs.Terms.{Label}
 use Rattle.rdf_terms.specs.Views.{iri_chars, node_by, node_of, tail_by, subject_by, term_by, quad_of}
 use Rattle.rdf_lines.specs.declared.form.Escapes.{Escapes}
@@ -19,8 +19,8 @@ use Rattle.rdf_lines.specs.Writing.{escaped, rename_node, node_text, iri_text, s
 
 -- what stands in a string as it is
 abbrev pub run_of : Escapes → Run
-run_of Plain = Text
-run_of Ascii = AsciiText
+run_of Plain = QuoteText
+run_of Ascii = AsciiQuoteText
 
 -- those of a text with its escapes
 abbrev pub escaped_bytes : Escapes → List ℕ → List ℕ

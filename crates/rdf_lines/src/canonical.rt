@@ -2,7 +2,7 @@
 
 ghost use Rattle.std.specs.Prelude.{◌≡◌, ◌<◌, ◌≤◌, ◌+◌, ℕ, ◌∷◌, ◌++◌, length, take, get_or, IfSome};
 ghost use Rattle.std.specs.Str.{chars, IsUtf8};
-ghost use Rattle.rdf_terms.specs.Runs.{is_text_byte, IsRun};
+ghost use Rattle.rdf_terms.specs.Runs.{is_short_byte, IsRun};
 ghost use Rattle.rdf_tokens.specs.Scans.{most_bytes};
 ghost use Rattle.rdf_lines.specs.Canonical.{PassesLines, end_count, end_text};
 ghost use Rattle.rdf_lines.specs.Fronts.{IriStands, LabelStands, TagStands, StringStands, SubjectStands, PredicateStands, TailStands, ObjectStands, GraphStands, LineStandsByAnyLimit, AreLines, CharactersStand, EscapeStands};
@@ -300,7 +300,7 @@ fn string(text: &str) -> Option<&str>
 {
     let mut rest = text;
     'runs: loop {
-        let end = run_end(Run::Text, rest.as_bytes(), 0);
+        let end = run_end(Run::QuoteText, rest.as_bytes(), 0);
         if let Some(left) = after_byte_at(rest, end, b'"') {
             return Some(left);
         }
@@ -308,16 +308,13 @@ fn string(text: &str) -> Option<&str>
     }
 }
 
-// The text after a run of a string's characters, and after the single quote or the escape that ends it.
+// The text after a run of a string's characters, and after the escape that ends it.
 fn after_run(text: &str, end: usize) -> Option<&str>
-    requires run { IsRun is_text_byte text.now 0 end }
+    requires run { IsRun (is_short_byte 34) text.now 0 end }
     ensures stands { IfSome result (λ rest. CharactersStand text.now rest.now) }
     ensures shorter { IfSome result (λ rest. length rest.now < length text.now) }
 {
-    match after_byte_at(text, end, b'\\') {
-        Some(letter) => after_letter(letter),
-        None => after_byte_at(text, end, b'\''),
-    }
+    after_letter(after_byte_at(text, end, b'\\')?)
 }
 
 // The text after the letter of an escape that is written, whose backslash came before.

@@ -3,7 +3,7 @@ use Rattle.std.specs.Prelude.{◌≡◌, ℕ, ◌+◌, ◌<◌, ◌≤◌, Bool,
 use Rattle.rdf_terms.specs.Classes.{member, is_digit, is_letter, one_of}
 use Rattle.rdf_terms.specs.Classes.Class.{iri_char}
 use Rattle.rdf_terms.specs.declared.runs.Run.{Run}
-use Rattle.rdf_terms.specs.declared.runs.Run.TheVariants.{Iri, Text, AsciiText, Ascii, Name, Unescaped, Comment, Spaces, White}
+use Rattle.rdf_terms.specs.declared.runs.Run.TheVariants.{Iri, Text, QuoteText, SingleQuoteText, LongQuoteText, LongSingleQuoteText, AsciiQuoteText, Ascii, Name, Unescaped, Comment, Spaces, White}
 
 -- a byte of the UTF-8 of the characters of an IRIREF: what it excludes is ASCII
 abbrev pub iri_byte : ℕ → Bool
@@ -13,13 +13,21 @@ iri_byte b = nat_le 128 b || member iri_char b
 abbrev pub is_text_byte : ℕ → Bool
 is_text_byte b = not (one_of (34 ∷ 39 ∷ 92 ∷ 10 ∷ 13 ∷ []) b)
 
+-- neither this quote nor a backslash: what stands between three of the quote as it is
+abbrev pub is_long_byte : ℕ → ℕ → Bool
+is_long_byte q b = not (b == q) && not (b == 92)
+
+-- nor CR or LF: what stands in a string with one of the quote at each end
+abbrev pub is_short_byte : ℕ → ℕ → Bool
+is_short_byte q b = is_long_byte q b && not (b == 10 || b == 13)
+
 -- a byte of ASCII
 abbrev pub is_ascii_byte : ℕ → Bool
 is_ascii_byte b = not (nat_le 128 b)
 
--- one that stands in strings
-abbrev pub is_ascii_text_byte : ℕ → Bool
-is_ascii_text_byte b = is_text_byte b && is_ascii_byte b
+-- one that stands in a string between double quotes
+abbrev pub is_ascii_quote_byte : ℕ → Bool
+is_ascii_quote_byte b = is_short_byte 34 b && is_ascii_byte b
 
 -- an ASCII letter, a digit, '_' or '-', each of them allowed in a name after its first character
 abbrev pub is_name_byte : ℕ → Bool
@@ -49,7 +57,11 @@ is_white b = b == 32 || b == 9 || is_line_break b
 abbrev pub goes_over : Run → ℕ → Bool
 goes_over Iri b = iri_byte b
 goes_over Text b = is_text_byte b
-goes_over AsciiText b = is_ascii_text_byte b
+goes_over QuoteText b = is_short_byte 34 b
+goes_over SingleQuoteText b = is_short_byte 39 b
+goes_over LongQuoteText b = is_long_byte 34 b
+goes_over LongSingleQuoteText b = is_long_byte 39 b
+goes_over AsciiQuoteText b = is_ascii_quote_byte b
 goes_over Ascii b = is_ascii_byte b
 goes_over Name b = is_name_byte b
 goes_over Unescaped b = is_unescaped b

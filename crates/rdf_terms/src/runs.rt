@@ -2,7 +2,7 @@
 
 ghost use Rattle.std.specs.Prelude.{◌≡◌, ◌+◌, ◌≤◌, ◌<◌, length, map, not};
 ghost use Rattle.std.specs.Simd.Lanes.{mask_l};
-ghost use Rattle.rdf_terms.specs.Runs.{iri_byte, goes_over, is_ascii_byte, is_ascii_text_byte, is_name_byte, is_text_byte, is_unescaped, is_line_break, is_comment_byte, is_space, is_white, IsRun, IsRunIn};
+ghost use Rattle.rdf_terms.specs.Runs.{iri_byte, goes_over, is_ascii_byte, is_ascii_quote_byte, is_long_byte, is_name_byte, is_short_byte, is_text_byte, is_unescaped, is_line_break, is_comment_byte, is_space, is_white, IsRun, IsRunIn};
 ghost use Rattle.rdf_terms.specs.Terms.{all_have};
 
 use crate::classes::is_iri_byte;
@@ -19,8 +19,16 @@ pub enum Run {
     Iri,
     /// What a string has as it is, in whichever quotes it stands.
     Text,
-    /// What a string has as it is, in ASCII.
-    AsciiText,
+    /// What a STRING_LITERAL_QUOTE has as it is: all but `"`, backslash, CR and LF.
+    QuoteText,
+    /// What a STRING_LITERAL_SINGLE_QUOTE has as it is: all but `'`, backslash, CR and LF.
+    SingleQuoteText,
+    /// What a STRING_LITERAL_LONG_QUOTE has as it is: all but `"` and backslash.
+    LongQuoteText,
+    /// What a STRING_LITERAL_LONG_SINGLE_QUOTE has as it is: all but `'` and backslash.
+    LongSingleQuoteText,
+    /// What a STRING_LITERAL_QUOTE has as it is, in ASCII.
+    AsciiQuoteText,
     /// ASCII.
     Ascii,
     /// Letters, digits, `_` and `-`, in ASCII.
@@ -141,7 +149,11 @@ fn is_passed(run: Run, byte: u8) -> bool
     match run {
         Run::Iri => is_iri_byte(byte),
         Run::Text => is_text_byte(byte),
-        Run::AsciiText => is_text_byte(byte) && byte < 128,
+        Run::QuoteText => is_short_byte(b'"', byte),
+        Run::SingleQuoteText => is_short_byte(b'\'', byte),
+        Run::LongQuoteText => is_long_byte(b'"', byte),
+        Run::LongSingleQuoteText => is_long_byte(b'\'', byte),
+        Run::AsciiQuoteText => is_short_byte(b'"', byte) && byte < 128,
         Run::Ascii => byte < 128,
         Run::Name => matches!(byte, b'A'..=b'Z' | b'a'..=b'z' | b'0'..=b'9' | b'_' | b'-'),
         Run::Unescaped => byte != b'\\',
@@ -156,6 +168,20 @@ fn is_text_byte(byte: u8) -> bool
     ensures { result ≡ is_text_byte byte }
 {
     !matches!(byte, b'"' | b'\'' | b'\\' | b'\n' | b'\r')
+}
+
+#[inline(always)]
+fn is_short_byte(quote: u8, byte: u8) -> bool
+    ensures { result ≡ is_short_byte quote byte }
+{
+    is_long_byte(quote, byte) && !is_line_break(byte)
+}
+
+#[inline(always)]
+fn is_long_byte(quote: u8, byte: u8) -> bool
+    ensures { result ≡ is_long_byte quote byte }
+{
+    byte != quote && byte != b'\\'
 }
 
 #[inline(always)]
@@ -194,7 +220,11 @@ fn stops(run: Run, v: u8x16) -> u64
     match run {
         Run::Iri => iri_stops(v),
         Run::Text => text_stops(v),
-        Run::AsciiText => ascii_text_stops(v),
+        Run::QuoteText => quote_stops(v),
+        Run::SingleQuoteText => single_quote_stops(v),
+        Run::LongQuoteText => long_quote_stops(v),
+        Run::LongSingleQuoteText => long_single_quote_stops(v),
+        Run::AsciiQuoteText => ascii_quote_stops(v),
         Run::Ascii => ascii_stops(v),
         Run::Name => name_stops(v),
         Run::Unescaped => backslashes(v),
@@ -235,12 +265,48 @@ fn text_stops(v: u8x16) -> u64
     by_low_half(TEXT_STOPS, v).simd_eq(v).to_bitmask()
 }
 
+const QUOTE_STOPS: [u8; 16] = [
+    1, 0, b'"', 0, 0, 0, 0, 0, 0, 0, b'\n', 0, b'\\', b'\r', 0, 0,
+];
+
 #[inline(always)]
-fn ascii_text_stops(v: u8x16) -> u64
-    ensures { result ≡ mask_l (map (λ b. not (is_ascii_text_byte b)) v) }
+fn quote_stops(v: u8x16) -> u64
+    ensures { result ≡ mask_l (map (λ b. not (is_short_byte 34 b)) v) }
+{
+    by_low_half(QUOTE_STOPS, v).simd_eq(v).to_bitmask()
+}
+
+#[inline(always)]
+fn ascii_quote_stops(v: u8x16) -> u64
+    ensures { result ≡ mask_l (map (λ b. not (is_ascii_quote_byte b)) v) }
 {
     let others = v.simd_ge(u8x16::splat(128));
-    (by_low_half(TEXT_STOPS, v).simd_eq(v) | others).to_bitmask()
+    (by_low_half(QUOTE_STOPS, v).simd_eq(v) | others).to_bitmask()
+}
+
+const SINGLE_QUOTE_STOPS: [u8; 16] = [
+    1, 0, 0, 0, 0, 0, 0, b'\'', 0, 0, b'\n', 0, b'\\', b'\r', 0, 0,
+];
+
+#[inline(always)]
+fn single_quote_stops(v: u8x16) -> u64
+    ensures { result ≡ mask_l (map (λ b. not (is_short_byte 39 b)) v) }
+{
+    by_low_half(SINGLE_QUOTE_STOPS, v).simd_eq(v).to_bitmask()
+}
+
+#[inline(always)]
+fn long_quote_stops(v: u8x16) -> u64
+    ensures { result ≡ mask_l (map (λ b. not (is_long_byte 34 b)) v) }
+{
+    (v.simd_eq(u8x16::splat(b'"')) | v.simd_eq(u8x16::splat(b'\\'))).to_bitmask()
+}
+
+#[inline(always)]
+fn long_single_quote_stops(v: u8x16) -> u64
+    ensures { result ≡ mask_l (map (λ b. not (is_long_byte 39 b)) v) }
+{
+    (v.simd_eq(u8x16::splat(b'\'')) | v.simd_eq(u8x16::splat(b'\\'))).to_bitmask()
 }
 
 #[inline(always)]

@@ -1,7 +1,7 @@
 -- Plain bytes and whole escapes of a string or an IRI have a meaning, whatever text comes after them.
-use Rattle.std.proofs.Common.{◌≡◌, ℕ, ◌+◌, ◌-◌, ◌<◌, ◌≤◌, Bool, true, false, List, [], ◌∷◌, ◌++◌, inl, inr, is_some, get_or, take, drop, refl, sym, ap, ◌∙◌, subst, arith, ⊎_elim, append_assoc, length, length-drop}
+use Rattle.std.proofs.Common.{◌≡◌, ℕ, ◌+◌, ◌-◌, ◌<◌, ◌≤◌, ◌==◌, Bool, true, false, not, List, [], ◌∷◌, ◌++◌, inl, inr, is_some, get_or, take, drop, refl, sym, ap, ◌∙◌, subst, arith, ⊎_elim, append_assoc, length, length-drop}
 use Rattle.std.specs.Prelude.{slice_range}
-use Rattle.std.proofs.lemmas.Bool.{and_from, and_parts, cases_lt, false≢true}
+use Rattle.std.proofs.lemmas.Bool.{and_from, and_parts, cases_Bool, cases_lt, eqb-true, false≢true}
 use Rattle.std.proofs.lemmas.Bool.Decides.{nat_tests}
 use Rattle.std.proofs.lemmas.List.{append-nil, get_or-drop, get_or-take, length-take-le}
 use Rattle.std.proofs.lemmas.List.Folds.{drop_split}
@@ -10,13 +10,17 @@ use Rattle.rdf_terms.specs.Classes.{has}
 use Rattle.rdf_terms.specs.Classes.Class.{hex_digit, iri_char}
 use Rattle.rdf_terms.specs.Escapes.{stands}
 use Rattle.rdf_terms.specs.Pieces.{IsNumberEscape, MayMean, hex_number}
-use Rattle.rdf_terms.specs.Runs.{IsRun, PassBetween, iri_byte, is_text_byte, is_unescaped}
+use Rattle.rdf_terms.specs.declared.runs.Run.{Run}
+use Rattle.rdf_terms.specs.Runs.{IsRun, PassBetween, goes_over, iri_byte, is_unescaped}
 use Rattle.rdf_terms.specs.Terms.{all_have}
 use Rattle.rdf_terms.specs.Values.{Inside, of_string, of_iri, outside, slash, Move, means, move, go, value, string_value}
 use Rattle.rdf_terms.proofs.EscapesLemmas.{is_some-map, slice_passes, value_stands}
 use Rattle.rdf_terms.proofs.PiecesLemmas.{number_escape-takes}
 use Rattle.rdf_terms.proofs.ValueBytes.{high_byte_stands}
-use Rattle.rdf_tokens.specs.Escapes.{is_hex, is_letter, IsEchar, IsHexes, IsNumber, IsUchar, IsIriUchar, FitsIn, FitsInString, FitsInIri}
+use Rattle.rdf_tokens.specs.declared.states.text.Quote.{Quote}
+use Rattle.rdf_tokens.specs.declared.states.text.Quote.TheVariants.{Double, Single}
+use Rattle.rdf_tokens.specs.Quick.{long_run, short_run}
+use Rattle.rdf_tokens.specs.Escapes.{is_hex, is_letter, IsEchar, IsEscapeThen, IsHexes, IsNumber, IsUchar, IsIriUchar, FitsIn, FitsInString, FitsInIri}
 use Rattle.rdf_tokens.proofs.EscapeNumbers.{digits-hex, digits-length}
 use Rattle.rdf_tokens.proofs.RestEscapes.{letter_below, implied, uchar_from}
 
@@ -44,9 +48,13 @@ fits-more {i} bs at mid end a b = record {
 pub fits-value : {i : Inside} (bs : List ℕ) (at end : ℕ) → FitsIn i bs at end → is_some (value i outside (slice_range bs at end)) ≡ true
 fits-value {i} bs at end f = ap (λ w. is_some (value i outside w)) (sym (append-nil (slice_range bs at end))) ∙ f.value []
 
--- a plain byte is no backslash
-pub text_unescaped : (b : ℕ) → is_text_byte b ≡ true → is_unescaped b ≡ true
-text_unescaped b e = grind (arith, nat_tests)
+-- what a run that ends at a backslash goes over is none
+run_unescaped : (r : Run) (b : ℕ) → goes_over r 92 ≡ false → goes_over r b ≡ true → is_unescaped b ≡ true
+run_unescaped r b n e =
+    ⊎_elim
+    (λ z. absurd (false≢true (sym n ∙ (ap (goes_over r) (sym (eqb-true b 92 z)) ∙ e))))
+    (λ z. ap not z)
+    (cases_Bool (b == 92))
 
 -- bytes that stand as they are
 fits_standing : (i : Inside) (bs : List ℕ) (at end : ℕ) → at ≤ end → end ≤ length bs → PassBetween (stands i) bs at end → FitsIn i bs at end
@@ -75,9 +83,18 @@ iri_stands b l e = ⊎_elim (λ a. low b a e) (λ a. high_byte_stands of_iri b a
 pub fits_iri_run : (bs : List ℕ) (at end : ℕ) → ((k : ℕ) → get_or bs k 0 < 256) → IsRun iri_byte bs at end → FitsInIri bs at end
 fits_iri_run bs at end byte r = fits_standing of_iri bs at end r.from r.within (λ k a b. iri_stands (get_or bs k 0) (byte k) (r.pass k a b))
 
--- plain bytes of a string
-pub fits_run : (bs : List ℕ) (at end : ℕ) → IsRun is_text_byte bs at end → FitsInString bs at end
-fits_run bs at end r = fits_unescaped bs at end r.from r.within (λ k a b. text_unescaped (get_or bs k 0) (r.pass k a b))
+-- a run in a string
+pub fits_run : (r : Run) (bs : List ℕ) (at end : ℕ) → goes_over r 92 ≡ false → IsRun (goes_over r) bs at end → FitsInString bs at end
+fits_run r bs at end n x = fits_unescaped bs at end x.from x.within (λ k a b. run_unescaped r (get_or bs k 0) n (x.pass k a b))
+
+-- the runs of strings end at a backslash
+pub short_slash : (q : Quote) → goes_over (short_run q) 92 ≡ false
+short_slash Double = refl
+short_slash Single = refl
+
+pub long_slash : (q : Quote) → goes_over (long_run q) 92 ≡ false
+long_slash Double = refl
+long_slash Single = refl
 
 -- one byte
 pub fits_byte : (bs : List ℕ) (at : ℕ) → at < length bs → is_unescaped (get_or bs at 0) ≡ true → FitsInString bs at (at + 1)
@@ -195,3 +212,8 @@ fits_uchar bs at end u = fits_number of_string bs at end u tt
 -- in an IRI those that IRIs have
 pub fits_iri_uchar : (bs : List ℕ) (at end : ℕ) → IsIriUchar bs at end → FitsInIri bs at end
 fits_iri_uchar bs at end u = fits_number of_iri bs at end u.uchar u.allowed
+
+-- an escape of a string and the run after it
+pub fits_then : (r : Run) (bs : List ℕ) (at end : ℕ) → goes_over r 92 ≡ false → IsEscapeThen r bs at end → FitsInString bs at end
+fits_then r bs at end n x =
+    fits-more bs at x.mid end (⊎_elim (λ u. fits_echar bs at x.mid u) (λ u. fits_uchar bs at x.mid u) x.escape) (fits_run r bs x.mid end n x.run)

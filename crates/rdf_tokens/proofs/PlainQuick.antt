@@ -10,7 +10,7 @@ use Rattle.rdf_terms.specs.declared.kind.Kind.TheVariants.{IriRef, ShortString, 
 use Rattle.rdf_terms.specs.declared.kind.Dialect.{Dialect}
 use Rattle.rdf_terms.specs.declared.kind.Dialect.TheVariants.{Lines, Turtle}
 use Rattle.rdf_terms.specs.Shapes.{fixed}
-use Rattle.rdf_terms.specs.Runs.{IsRun, iri_byte, is_text_byte, is_ascii_text_byte, is_name_byte}
+use Rattle.rdf_terms.specs.Runs.{IsRun, goes_over, iri_byte, is_name_byte, is_unescaped}
 use Rattle.rdf_terms.specs.Values.{is_fit}
 use Rattle.rdf_terms.proofs.PlainTokens.{valued_iri_fit, valued_string_fit}
 use Rattle.rdf_terms.proofs.ValueBytes.{utf8_bytes}
@@ -26,9 +26,9 @@ use Rattle.rdf_tokens.specs.Tokens.{with_length, three_quotes, only_long}
 use Rattle.rdf_tokens.specs.Fixed.{live_by, rows_of}
 use Rattle.rdf_tokens.specs.Front.{IsAt, Reached, front_by}
 use Rattle.rdf_tokens.specs.Machine.{step, kind_at}
-use Rattle.rdf_tokens.specs.Quick.{IsToken, stands_at, begins_label, begins_label_name, quote_byte, has_quote, opens_with, begins_string, is_empty_string, begins_iri, ends_name, is_name_end}
+use Rattle.rdf_tokens.specs.Quick.{IsToken, is_plain, short_run, stands_at, begins_label, begins_label_name, quote_byte, has_quote, opens_with, begins_string, is_empty_string, begins_iri, ends_name, is_name_end}
 use Rattle.rdf_tokens.proofs.ByteLemmas.{at-start, ascii_first}
-use Rattle.rdf_tokens.proofs.FitEscapes.{fits_byte, fits_iri_run, fits_none, fits_run, fits-more, fits-value, text_unescaped}
+use Rattle.rdf_tokens.proofs.FitEscapes.{fits_byte, fits_iri_run, fits_none, fits_run, fits-more, fits-value, short_slash}
 use Rattle.rdf_tokens.proofs.NoNamesLemmas.{implied, no_long, one_on}
 use Rattle.rdf_tokens.proofs.NumberQuick.{no_first, first_rows}
 use Rattle.rdf_tokens.proofs.QuickLemmas.{settled, first-none, other, not_true, low-name}
@@ -141,7 +141,7 @@ no_string-state s e = absurd (false≢true e)
 
 -- each byte of ASCII: one that stands in strings leads into the string after its quote
 abbrev string_tests : Dialect → Quote → ℕ → Bool
-string_tests d q c = not (is_ascii_text_byte c) || at_short q (step d (Text (text.Opened q)) c)
+string_tests d q c = not (is_plain q c) || at_short q (step d (Text (text.Opened q)) c)
 
 -- and one that is not the quote leads out of the empty string
 abbrev empty_tests : Dialect → Quote → ℕ → Bool
@@ -155,8 +155,8 @@ string_all Turtle Double = (refl, refl)
 string_all Turtle Single = (refl, refl)
 
 -- the step of a byte that stands in strings
-string-first : (d : Dialect) (q : Quote) (c : ℕ) → c < 128 → is_ascii_text_byte c ≡ true → step d (Text (text.Opened q)) c ≡ Text (text.Short q)
-string-first d q c l e = short-state q _ (implied (is_ascii_text_byte c) _ (agree_below_at (string_tests d q) (λ c. true) 128 c (string_all d q).0 l) e)
+string-first : (d : Dialect) (q : Quote) (c : ℕ) → c < 128 → is_plain q c ≡ true → step d (Text (text.Opened q)) c ≡ Text (text.Short q)
+string-first d q c l e = short-state q _ (implied (is_plain q c) _ (agree_below_at (string_tests d q) (λ c. true) 128 c (string_all d q).0 l) e)
 
 -- that of a byte after two quotes that is not a third
 empty-last : (d : Dialect) (q : Quote) (c : ℕ) → c < 128 → (c == quote_byte q) ≡ false → step d (Text (text.Empty q)) c ≡ Text text.Dead
@@ -192,17 +192,19 @@ pub low_quote : (q : Quote) → quote_byte q < 128
 low_quote Double = omega arith
 low_quote Single = omega arith
 
--- a byte that stands in strings in ASCII is ASCII, stands in strings, and is no quote
-plain_byte : (c : ℕ) (q : Quote) → is_ascii_text_byte c ≡ true → (c < 128) × (is_text_byte c ≡ true) × ((c == quote_byte q) ≡ false)
-plain_byte c q e = (low c e, text_on c e, no_quote q c e)
+-- a byte of ASCII that stands in strings in this quote is ASCII, no backslash, and not the quote
+plain_byte : (c : ℕ) (q : Quote) → is_plain q c ≡ true → (c < 128) × (is_unescaped c ≡ true) × ((c == quote_byte q) ≡ false)
+plain_byte c q e = (low q c e, no_slash q c e, no_quote q c e)
   where
-    low : (c : ℕ) → is_ascii_text_byte c ≡ true → c < 128
-    low c e = grind (arith, nat_tests)
+    low : (q : Quote) (c : ℕ) → is_plain q c ≡ true → c < 128
+    low Double c e = grind (arith, nat_tests)
+    low Single c e = grind (arith, nat_tests)
 
-    text_on : (c : ℕ) → is_ascii_text_byte c ≡ true → is_text_byte c ≡ true
-    text_on c e = (and_parts (is_text_byte c) _ e).0
+    no_slash : (q : Quote) (c : ℕ) → is_plain q c ≡ true → is_unescaped c ≡ true
+    no_slash Double c e = grind (arith, nat_tests)
+    no_slash Single c e = grind (arith, nat_tests)
 
-    no_quote : (q : Quote) (c : ℕ) → is_ascii_text_byte c ≡ true → (c == quote_byte q) ≡ false
+    no_quote : (q : Quote) (c : ℕ) → is_plain q c ≡ true → (c == quote_byte q) ≡ false
     no_quote Double c e = grind (arith, nat_tests)
     no_quote Single c e = grind (arith, nat_tests)
 
@@ -266,11 +268,11 @@ module _ (d : Dialect) (q : Quote) (bs : List ℕ) (u : IsUtf8 bs) (o : opens_wi
       (string_fit end (omega arith) inside low f)
 
   -- a byte of ASCII that stands in strings comes second
-  module _ (e : begins_string bs ≡ true) where
+  module _ (e : begins_string q bs ≡ true) where
     pub two : 1 < length bs
     two = ltb-true 1 (length bs) (and_parts (nat_lt 1 (length bs)) _ e).0
 
-    pub plain_second : (get_or bs 1 0 < 128) × (is_text_byte (get_or bs 1 0) ≡ true) × ((get_or bs 1 0 == quote_byte q) ≡ false)
+    pub plain_second : (get_or bs 1 0 < 128) × (is_unescaped (get_or bs 1 0) ≡ true) × ((get_or bs 1 0 == quote_byte q) ≡ false)
     plain_second = plain_byte (get_or bs 1 0) q (and_parts (nat_lt 1 (length bs)) _ e).1
 
     -- the states after it
@@ -281,13 +283,13 @@ module _ (d : Dialect) (q : Quote) (bs : List ℕ) (u : IsUtf8 bs) (o : opens_wi
 
     -- it has a meaning
     pub plain_fits : FitsInString bs 1 2
-    plain_fits = fits_byte bs 1 two (text_unescaped (get_or bs 1 0) plain_second.1)
+    plain_fits = fits_byte bs 1 two plain_second.1
 
   -- Bytes that stand in strings come between the quotes, and no escape.
-  pub quick_string : (end : ℕ) → begins_string bs ≡ true → IsRun is_text_byte bs 2 end → stands_at (quote_byte q) bs end ≡ true → IsToken d bs (end + 1) ShortString
+  pub quick_string : (end : ℕ) → begins_string q bs ≡ true → IsRun (goes_over (short_run q)) bs 2 end → stands_at (quote_byte q) bs end ≡ true → IsToken d bs (end + 1) ShortString
   quick_string end e r z =
       let none = sym (no_long (three_quotes d (chars bs))) in
-      string_token end (one_quote (two e) (plain_second e).2) (fits-more bs 1 2 end (plain_fits e) (fits_run bs 2 end r)) z
+      string_token end (one_quote (two e) (plain_second e).2) (fits-more bs 1 2 end (plain_fits e) (fits_run (short_run q) bs 2 end (short_slash q) r)) z
       (reached-run d bs 2 end (Text (text.Short q)) None None none (rests_short q bs 2 end r) (after_plain e))
 
   -- The second byte is the quote too, and the third another byte of ASCII.

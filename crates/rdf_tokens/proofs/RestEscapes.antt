@@ -7,7 +7,8 @@ use Rattle.std.proofs.lemmas.List.{drop_more}
 use Rattle.std.proofs.lemmas.Str.{encode_ascii, len_utf8_ascii}
 use Rattle.rdf_terms.specs.declared.kind.Dialect.{Dialect}
 use Rattle.rdf_terms.specs.declared.kind.Kind.{Kind}
-use Rattle.rdf_terms.specs.Runs.{IsRun, PassBetween, is_text_byte}
+use Rattle.rdf_terms.specs.declared.runs.Run.{Run}
+use Rattle.rdf_terms.specs.Runs.{PassBetween}
 use Rattle.rdf_tokens.specs.declared.states.machine.State.{State}
 use Rattle.rdf_tokens.specs.declared.states.machine.State.TheVariants as state
 use Rattle.rdf_tokens.specs.declared.states.iri.Iri.TheVariants as iri_state
@@ -21,11 +22,12 @@ use Rattle.rdf_tokens.specs.declared.states.text.Sort.{Sort as TextSort}
 use Rattle.rdf_tokens.specs.declared.states.text.Sort.TheVariants as text_sort
 use Rattle.rdf_tokens.specs.Front.{Reached, Rests, kind_here}
 use Rattle.rdf_tokens.specs.Machine.{step, kind_at}
+use Rattle.rdf_tokens.specs.Quick.{long_run, short_run}
 use Rattle.rdf_tokens.specs.Sorts.{sort_by}
 use Rattle.rdf_tokens.specs.Tokens.{with_length, only_long, three_quotes}
 use Rattle.rdf_tokens.specs.Iri as iri
 use Rattle.rdf_tokens.specs.Text as text
-use Rattle.rdf_tokens.specs.Escapes.{is_hex, is_letter, IsHexes, IsNumber, IsEchar, IsUchar, RestsInString, RestsInIri}
+use Rattle.rdf_tokens.specs.Escapes.{is_hex, is_letter, IsHexes, IsNumber, IsEchar, IsEscapeThen, IsUchar, RestsInIri}
 use Rattle.rdf_tokens.proofs.NoNamesLemmas.{no_long}
 use Rattle.rdf_tokens.proofs.RestLemmas.{rests-more}
 use Rattle.rdf_tokens.proofs.RestStates.{rests_short, rests_long}
@@ -220,18 +222,32 @@ long_numbers q = record {
 short_letter : (q : Quote) (d : Dialect) (c : ℕ) → is_letter c ≡ true → step d (state.Text (text_state.ShortEscape q)) c ≡ state.Text (text_state.Short q)
 short_letter q d c h = ap state.Text (escaped-letter (λ n. text_state.ShortHex q n) (text_state.Short q) (sort_by text.ascii text.high c) (text_letter c h))
 
--- an escape of a string
-pub rests_escape : (bs : List ℕ) (at end : ℕ) → IsEchar bs at end ⊎ IsUchar bs at end → RestsInString bs at end
-rests_escape bs at end u = record {
-  short = λ q. ⊎_elim
-      (λ x. rests_echar (state.Text (text_state.Short q)) (state.Text (text_state.ShortEscape q)) (λ n. state.Text (text_state.ShortHex q n)) (short_numbers q) (short_letter q) bs at end x)
-      (λ x. rests_uchar (state.Text (text_state.Short q)) (state.Text (text_state.ShortEscape q)) (λ n. state.Text (text_state.ShortHex q n)) (short_numbers q) bs at end x)
-      u;
-  long = λ q. ⊎_elim
-      (λ x. rests_echar (state.Text (text_state.Long q)) (state.Text (text_state.LongEscape q)) (λ n. state.Text (text_state.LongHex q n)) (long_numbers q) (λ d c h. ap state.Text (escaped-letter (λ n. text_state.LongHex q n) (text_state.Long q) (sort_by text.ascii text.high c) (text_letter c h))) bs at end x)
-      (λ x. rests_uchar (state.Text (text_state.Long q)) (state.Text (text_state.LongEscape q)) (λ n. state.Text (text_state.LongHex q n)) (long_numbers q) bs at end x)
-      u;
-}
+-- an escape leads back into a string with one quote at each end
+pub short_escape : (q : Quote) (bs : List ℕ) (at end : ℕ) → IsEchar bs at end ⊎ IsUchar bs at end → Rests (state.Text (text_state.Short q)) bs at end
+short_escape q bs at end u = ⊎_elim
+    (λ x. rests_echar (state.Text (text_state.Short q)) (state.Text (text_state.ShortEscape q)) (λ n. state.Text (text_state.ShortHex q n)) (short_numbers q) (short_letter q) bs at end x)
+    (λ x. rests_uchar (state.Text (text_state.Short q)) (state.Text (text_state.ShortEscape q)) (λ n. state.Text (text_state.ShortHex q n)) (short_numbers q) bs at end x)
+    u
+
+-- and into one with three
+pub long_escape : (q : Quote) (bs : List ℕ) (at end : ℕ) → IsEchar bs at end ⊎ IsUchar bs at end → Rests (state.Text (text_state.Long q)) bs at end
+long_escape q bs at end u = ⊎_elim
+    (λ x. rests_echar (state.Text (text_state.Long q)) (state.Text (text_state.LongEscape q)) (λ n. state.Text (text_state.LongHex q n)) (long_numbers q) (λ d c h. ap state.Text (escaped-letter (λ n. text_state.LongHex q n) (text_state.Long q) (sort_by text.ascii text.high c) (text_letter c h))) bs at end x)
+    (λ x. rests_uchar (state.Text (text_state.Long q)) (state.Text (text_state.LongEscape q)) (λ n. state.Text (text_state.LongHex q n)) (long_numbers q) bs at end x)
+    u
+
+-- so does an escape with the run after it
+pub short_then : (q : Quote) (bs : List ℕ) (at end : ℕ) → IsEscapeThen (short_run q) bs at end → Rests (state.Text (text_state.Short q)) bs at end
+short_then q bs at end x = rests-more (state.Text (text_state.Short q)) bs at x.mid end (short_escape q bs at x.mid x.escape) (rests_short q bs x.mid end x.run)
+
+pub long_then : (q : Quote) (bs : List ℕ) (at end : ℕ) → IsEscapeThen (long_run q) bs at end → Rests (state.Text (text_state.Long q)) bs at end
+long_then q bs at end x = rests-more (state.Text (text_state.Long q)) bs at x.mid end (long_escape q bs at x.mid x.escape) (rests_long q bs x.mid end x.run)
+
+-- it has some bytes
+pub escape_on : (r : Run) (bs : List ℕ) (at end : ℕ) → IsEscapeThen r bs at end → at < end
+escape_on r bs at end x =
+    let l : at < x.mid = ⊎_elim (λ u. omega (arith, u.ends)) (λ u. (uchar_from bs at x.mid u).0) x.escape in
+    omega (arith, l, x.run.from)
 
 -- an escape after the first quote leads into the string
 pub opened_escape : (d : Dialect) (q : Quote) (bs : List ℕ) (at end : ℕ) (b : Option (ℕ × Kind)) → IsEchar bs at end ⊎ IsUchar bs at end →
@@ -250,30 +266,12 @@ opened_escape d q bs at end b u r =
     slash Double = refl
     slash Single = refl
 
--- a byte that leaves the state within a string in this quote as it is
-pub rests_byte : (q : Quote) (bs : List ℕ) (at : ℕ) → at < length bs → get_or bs at 0 < 128 →
-    ((d : Dialect) → step d (state.Text (text_state.Short q)) (get_or bs at 0) ≡ state.Text (text_state.Short q)) → Rests (state.Text (text_state.Short q)) bs at (at + 1)
-rests_byte q bs at l a e =
-    let s = state.Text (text_state.Short q) in
-    rests_by s bs at (at + 1) refl (omega arith) (omega arith) (λ d b r. byte_on d bs at s s b l a (e d) refl r)
-
 -- the bytes that are tested are an ECHAR
 pub echar_of : (bs : List ℕ) (at : ℕ) → (nat_le (at + 2) (length bs) && get_or bs at 0 == 92 && is_letter (get_or bs (at + 1) 0)) ≡ true → IsEchar bs at (at + 2)
 echar_of bs at e =
     let p = and_parts _ _ e in
     let q = and_parts _ _ p.0 in
     record { ends = refl; within = leb-true (at + 2) (length bs) q.0; slash = eqb-true (get_or bs at 0) 92 q.1; letter = p.1 }
-
--- a run in a string
-pub rests_string : (bs : List ℕ) (at end : ℕ) → IsRun is_text_byte bs at end → RestsInString bs at end
-rests_string bs at end r = record { short = λ q. rests_short q bs at end r; long = λ q. rests_long q bs at end r }
-
--- one more piece of a string
-pub string-more : (bs : List ℕ) (at mid end : ℕ) → RestsInString bs at mid → RestsInString bs mid end → RestsInString bs at end
-string-more bs at mid end a b = record {
-  short = λ q. rests-more _ bs at mid end (a.short q) (b.short q);
-  long = λ q. rests-more _ bs at mid end (a.long q) (b.long q);
-}
 
 -- The states of IRIs.
 abbrev is_hex_in_iri : IriSort → Bool

@@ -2,7 +2,7 @@
 use Rattle.std.proofs.Common.{◌≡◌, ℕ, ◌<◌, ◌==◌, Bool, true, false, not, ◌||◌, nat_lt, List, [], ◌∷◌, get_or, refl, sym, ap, ◌∙◌, arith, ⊎_elim}
 use Rattle.std.proofs.lemmas.Bool.{agree_below, agree_below_at, cases_lt, cond-false, eqb-true, le-ltb, false≢true}
 use Rattle.std.proofs.lemmas.Bool.Decides.{nat_tests}
-use Rattle.rdf_terms.specs.Runs.{iri_byte, IsRun, is_text_byte, is_name_byte}
+use Rattle.rdf_terms.specs.Runs.{goes_over, iri_byte, IsRun, is_long_byte, is_name_byte, is_short_byte}
 use Rattle.rdf_terms.specs.declared.kind.Dialect.{Dialect}
 use Rattle.rdf_tokens.specs.declared.states.machine.State.{State}
 use Rattle.rdf_tokens.specs.declared.states.machine.State.TheVariants as state
@@ -16,6 +16,7 @@ use Rattle.rdf_tokens.specs.declared.states.text.Sort.TheVariants as text_sort
 use Rattle.rdf_tokens.specs.declared.states.name.Name.TheVariants as name_state
 use Rattle.rdf_tokens.specs.Front.{Rests}
 use Rattle.rdf_tokens.specs.Machine.{step}
+use Rattle.rdf_tokens.specs.Quick.{long_run, short_run}
 use Rattle.rdf_tokens.specs.Sorts.{wide_of}
 use Rattle.rdf_tokens.specs.Iri as iri
 use Rattle.rdf_tokens.specs.Text as text
@@ -71,8 +72,11 @@ iri_below : (x : ℕ) → iri_byte x ≡ false → x < 128
 iri_below x e = ⊎_elim (λ l. l) (λ l. absurd (let h : iri_byte x ≡ true = grind (arith, nat_tests) in false≢true (sym e ∙ h))) (cases_lt x 128)
 
 -- what ends a run in a string is ASCII
-text_below : (x : ℕ) → is_text_byte x ≡ false → x < 128
-text_below x e = ⊎_elim (λ l. l) (λ l. absurd (let h : is_text_byte x ≡ true = grind (arith, nat_tests) in false≢true (sym e ∙ h))) (cases_lt x 128)
+short_below : (q x : ℕ) → q < 128 → is_short_byte q x ≡ false → x < 128
+short_below q x a e = ⊎_elim (λ l. l) (λ l. absurd (let h : is_short_byte q x ≡ true = grind (arith, nat_tests) in false≢true (sym e ∙ h))) (cases_lt x 128)
+
+long_below : (q x : ℕ) → q < 128 → is_long_byte q x ≡ false → x < 128
+long_below q x a e = ⊎_elim (λ l. l) (λ l. absurd (let h : is_long_byte q x ≡ true = grind (arith, nat_tests) in false≢true (sym e ∙ h))) (cases_lt x 128)
 
 -- a run in a name is ASCII
 name_below : (x : ℕ) → is_name_byte x ≡ true → x < 128
@@ -86,24 +90,29 @@ rests_iri bs at end r =
     (λ d c b l h e. ap (λ x. state.Iri (iri.move iri_state.Inside x)) (cond-false (nat_lt c 128) (iri.ascii c) (iri.high (wide_of c)) (le-ltb c 128 l)))
     (λ b x h p e. iri_below x e)
 
--- a run of text bytes leaves a state within a string as it is, if it leaves it for each byte
-rests_text : (s : Text) → ((d : Dialect) → agree_below (rests_at d (state.Text s) is_text_byte) (λ _. true) 128 ≡ true) → (place (state.Text s) ≡ 0 → ⊥) →
-    ((d : Dialect) → text.move d s text_sort.Plain ≡ s) → (bs : List ℕ) (at end : ℕ) → IsRun is_text_byte bs at end → Rests (state.Text s) bs at end
-rests_text s all n plain bs at end r =
-    rests_run (state.Text s) is_text_byte bs at end r
-    (λ d c l e. low d (state.Text s) is_text_byte n (all d) c l e)
+-- a run of a string's bytes leaves a state within it as it is, if it leaves it for each byte
+rests_text : (s : Text) (p : ℕ → Bool) → ((d : Dialect) → agree_below (rests_at d (state.Text s) p) (λ _. true) 128 ≡ true) → (place (state.Text s) ≡ 0 → ⊥) →
+    ((d : Dialect) → text.move d s text_sort.Plain ≡ s) → ((x : ℕ) → p x ≡ false → x < 128) →
+    (bs : List ℕ) (at end : ℕ) → IsRun p bs at end → Rests (state.Text s) bs at end
+rests_text s p all n plain below bs at end r =
+    rests_run (state.Text s) p bs at end r
+    (λ d c l e. low d (state.Text s) p n (all d) c l e)
     (λ d c b l h e. ap (λ x. state.Text (text.move d s x)) (cond-false (nat_lt c 128) (text.ascii c) (text.high (wide_of c)) (le-ltb c 128 l)) ∙ ap (λ t. state.Text t) (plain d))
-    (λ b x h p e. text_below x e)
+    (λ b x h p e. below x e)
 
--- a run of text bytes leaves the state as it is in a string with one quote at each end
-pub rests_short : (q : Quote) (bs : List ℕ) (at end : ℕ) → IsRun is_text_byte bs at end → Rests (state.Text (text_state.Short q)) bs at end
-rests_short Double bs at end r = rests_text (text_state.Short Double) (λ d. refl) (λ (z : 2 ≡ 0). omega (arith, z)) (λ d. refl) bs at end r
-rests_short Single bs at end r = rests_text (text_state.Short Single) (λ d. refl) (λ (z : 3 ≡ 0). omega (arith, z)) (λ d. refl) bs at end r
+-- so in a string with one quote at each end
+pub rests_short : (q : Quote) (bs : List ℕ) (at end : ℕ) → IsRun (goes_over (short_run q)) bs at end → Rests (state.Text (text_state.Short q)) bs at end
+rests_short Double bs at end r =
+    rests_text (text_state.Short Double) (is_short_byte 34) (λ d. refl) (λ (z : 2 ≡ 0). omega (arith, z)) (λ d. refl) (λ x e. short_below 34 x (omega arith) e) bs at end r
+rests_short Single bs at end r =
+    rests_text (text_state.Short Single) (is_short_byte 39) (λ d. refl) (λ (z : 3 ≡ 0). omega (arith, z)) (λ d. refl) (λ x e. short_below 39 x (omega arith) e) bs at end r
 
--- a run of text bytes leaves the state as it is in a string with three quotes at each end
-pub rests_long : (q : Quote) (bs : List ℕ) (at end : ℕ) → IsRun is_text_byte bs at end → Rests (state.Text (text_state.Long q)) bs at end
-rests_long Double bs at end r = rests_text (text_state.Long Double) (λ d. refl) (λ (z : 4 ≡ 0). omega (arith, z)) (λ d. refl) bs at end r
-rests_long Single bs at end r = rests_text (text_state.Long Single) (λ d. refl) (λ (z : 5 ≡ 0). omega (arith, z)) (λ d. refl) bs at end r
+-- and in one with three quotes at each end
+pub rests_long : (q : Quote) (bs : List ℕ) (at end : ℕ) → IsRun (goes_over (long_run q)) bs at end → Rests (state.Text (text_state.Long q)) bs at end
+rests_long Double bs at end r =
+    rests_text (text_state.Long Double) (is_long_byte 34) (λ d. refl) (λ (z : 4 ≡ 0). omega (arith, z)) (λ d. refl) (λ x e. long_below 34 x (omega arith) e) bs at end r
+rests_long Single bs at end r =
+    rests_text (text_state.Long Single) (is_long_byte 39) (λ d. refl) (λ (z : 5 ≡ 0). omega (arith, z)) (λ d. refl) (λ x e. long_below 39 x (omega arith) e) bs at end r
 
 -- a run of name bytes leaves a state as it is, if it leaves it for each byte
 rests_name : (s : State) → ((d : Dialect) → agree_below (rests_at d s is_name_byte) (λ _. true) 128 ≡ true) → (place s ≡ 0 → ⊥) →

@@ -7,7 +7,7 @@ use Rattle.std.proofs.lemmas.List.{get_or-drop, get_or_append_left}
 use Rattle.std.proofs.lemmas.Str.{encode_ascii, length-encode, len_utf8_bounds}
 use Rattle.rdf_terms.specs.declared.kind.Dialect.{Dialect}
 use Rattle.rdf_terms.specs.declared.kind.Kind.TheVariants.{ShortString}
-use Rattle.rdf_terms.specs.Runs.{IsRun, is_ascii_byte, is_text_byte, is_unescaped}
+use Rattle.rdf_terms.specs.Runs.{IsRun, goes_over, is_ascii_byte, is_short_byte}
 use Rattle.rdf_tokens.specs.declared.states.machine.State.TheVariants.{Text}
 use Rattle.rdf_tokens.specs.declared.states.text.Sort.TheVariants as sort
 use Rattle.rdf_tokens.specs.declared.states.text.Text.TheVariants as text
@@ -16,47 +16,19 @@ use Rattle.rdf_tokens.specs.declared.states.text.Quote.TheVariants.{Double, Sing
 use Rattle.rdf_tokens.specs.Escapes.{FitsInString}
 use Rattle.rdf_tokens.specs.Front.{Reached}
 use Rattle.rdf_tokens.specs.Machine.{step}
-use Rattle.rdf_tokens.specs.Quick.{IsToken, opens_with, quote_byte, stands_at}
+use Rattle.rdf_tokens.specs.Quick.{IsToken, opens_with, quote_byte, short_run, stands_at}
 use Rattle.rdf_tokens.specs.Sorts.{wide_of}
-use Rattle.rdf_tokens.specs.Strings.{IsFirst, IsHighChar, RestsInQuotes, begins_high, other_byte}
+use Rattle.rdf_tokens.specs.Strings.{IsFirst, IsHighChar, RestsInQuotes, begins_high}
 use Rattle.rdf_tokens.specs.Text as strings
 use Rattle.rdf_tokens.specs.Tokens.{three_quotes}
 use Rattle.rdf_tokens.proofs.BlankLemmas.{high-encode}
-use Rattle.rdf_tokens.proofs.FitEscapes.{fits_byte, fits_echar, fits_run, fits_uchar, fits_unescaped, fits-more}
+use Rattle.rdf_tokens.proofs.FitEscapes.{fits_echar, fits_run, fits_uchar, fits_unescaped, fits-more, short_slash}
 use Rattle.rdf_tokens.proofs.NoNamesLemmas.{no_long}
 use Rattle.rdf_tokens.proofs.PlainQuick.{after_plain, after_quote, low_quote, one_quote, plain_fits, plain_second, quick_string, string_token, utf8_after}
-use Rattle.rdf_tokens.proofs.RestEscapes.{opened_escape, rests_byte, uchar_from}
+use Rattle.rdf_tokens.proofs.RestEscapes.{opened_escape, uchar_from}
 use Rattle.rdf_tokens.proofs.RestLemmas.{first_char, reached-run}
 use Rattle.rdf_tokens.proofs.RestStates.{rests_short}
 use Rattle.rdf_tokens.proofs.StateLemmas.{reached-step}
-
--- a byte that is a quote of the one kind
-is_other : (q : Quote) (bs : List ℕ) (at : ℕ) → stands_at (other_byte q) bs at ≡ true → (at < length bs) × (get_or bs at 0 ≡ other_byte q)
-is_other q bs at z =
-    let p = and_parts (nat_lt at (length bs)) (get_or bs at 0 == other_byte q) z in
-    (ltb-true at (length bs) p.0, eqb-true (get_or bs at 0) (other_byte q) p.1)
-
--- it leads back to the state within a string in the other kind
-pub rests_other : (q : Quote) (bs : List ℕ) (at : ℕ) → stands_at (other_byte q) bs at ≡ true → RestsInQuotes q bs at (at + 1)
-rests_other q bs at z =
-    let x = is_other q bs at z in
-    rests_byte q bs at x.0 (subst (λ b. b < 128) (sym x.1) (low q)) (λ d. ap (step d (Text (text.Short q))) x.1 ∙ stays q d)
-  where
-    low : (q : Quote) → other_byte q < 128
-    low Double = omega arith
-    low Single = omega arith
-
-    stays : (q : Quote) (d : Dialect) → step d (Text (text.Short q)) (other_byte q) ≡ Text (text.Short q)
-    stays Double d = refl
-    stays Single d = refl
-
--- and stands for itself
-pub fits_other : (q : Quote) (bs : List ℕ) (at : ℕ) → stands_at (other_byte q) bs at ≡ true → FitsInString bs at (at + 1)
-fits_other q bs at z = let x = is_other q bs at z in fits_byte bs at x.0 (ap is_unescaped x.1 ∙ plain q)
-  where
-    plain : (q : Quote) → is_unescaped (other_byte q) ≡ true
-    plain Double = refl
-    plain Single = refl
 
 -- a character at the second byte is not of ASCII where that byte is not
 pub high_char : (bs : List ℕ) (end c : ℕ) → begins_high bs ≡ true → drop 1 bs ≡ encode_utf8 c ++ drop end bs → end ≡ 1 + len_utf8 c → end ≤ length bs → IsHighChar bs 1 end
@@ -97,8 +69,8 @@ high_step d q c l =
     plain Single = refl
 
 -- what stands after the first quote ends within the text
-pub first_within : (bs : List ℕ) (end : ℕ) → IsFirst bs end → (2 ≤ end) × (end ≤ length bs)
-first_within bs end f = ⊎_elim
+pub first_within : (q : Quote) (bs : List ℕ) (end : ℕ) → IsFirst q bs end → (2 ≤ end) × (end ≤ length bs)
+first_within q bs end f = ⊎_elim
     (λ x. let l : 1 < length bs = ltb-true 1 (length bs) (and_parts (nat_lt 1 (length bs)) _ x.0).0 in let e = x.1 in (omega arith, omega arith))
     (λ x. ⊎_elim
     (λ y. (omega (arith, y.past, len_utf8_bounds y.c), y.within))
@@ -110,7 +82,7 @@ first_within bs end f = ⊎_elim
     f
 
 -- A quote of the dialect comes first, and then what can stand in a string.
-module _ (d : Dialect) (q : Quote) (bs : List ℕ) (u : IsUtf8 bs) (o : opens_with d q bs ≡ true) (first : ℕ) (f : IsFirst bs first) where
+module _ (d : Dialect) (q : Quote) (bs : List ℕ) (u : IsUtf8 bs) (o : opens_with d q bs ≡ true) (first : ℕ) (f : IsFirst q bs first) where
   -- the second byte is no quote
   second : (get_or bs 1 0 == quote_byte q) ≡ false
   second = ⊎_elim
@@ -136,7 +108,7 @@ module _ (d : Dialect) (q : Quote) (bs : List ℕ) (u : IsUtf8 bs) (o : opens_wi
           omega (arith, byte)
 
   one : three_quotes d (chars bs) ≡ false
-  one = let l = first_within bs first f in let a = l.0 in let b = l.1 in one_quote d q bs u o (omega arith) second
+  one = let l = first_within q bs first f in let a = l.0 in let b = l.1 in one_quote d q bs u o (omega arith) second
 
   -- the states after it
   first_on : Reached d bs first (Text (text.Short q)) None
@@ -165,22 +137,26 @@ module _ (d : Dialect) (q : Quote) (bs : List ℕ) (u : IsUtf8 bs) (o : opens_wi
   string_whole end r g z = string_token d q bs u o end one (fits-more bs 1 first end first_fits g) z (string_reached end r)
 
 -- What stands in strings leads from the first quote up to the second: some bytes, be the first of ASCII or not.
-module _ (d : Dialect) (q : Quote) (bs : List ℕ) (u : IsUtf8 bs) (o : opens_with d q bs ≡ true) (end : ℕ) (some : 1 < end) (r : IsRun is_text_byte bs 1 end)
+module _ (d : Dialect) (q : Quote) (bs : List ℕ) (u : IsUtf8 bs) (o : opens_with d q bs ≡ true) (end : ℕ) (some : 1 < end) (r : IsRun (goes_over (short_run q)) bs 1 end)
     (z : stands_at (quote_byte q) bs end ≡ true) where
   within : 1 < length bs
   within = let w = r.within in omega arith
 
   -- the run after the first character
-  run_from : (at : ℕ) → 1 ≤ at → at ≤ end → IsRun is_text_byte bs at end
+  run_from : (at : ℕ) → 1 ≤ at → at ≤ end → IsRun (goes_over (short_run q)) bs at end
   run_from at l m = record { from = m; within = r.within; pass = λ k a b. r.pass k (omega arith) b; stops = r.stops }
 
-  text_byte : is_text_byte (get_or bs 1 0) ≡ true
-  text_byte = r.pass 1 (omega arith) some
+  text_byte : is_short_byte (quote_byte q) (get_or bs 1 0) ≡ true
+  text_byte = short q (get_or bs 1 0) (r.pass 1 (omega arith) some)
+    where
+      short : (q : Quote) (b : ℕ) → goes_over (short_run q) b ≡ true → is_short_byte (quote_byte q) b ≡ true
+      short Double b e = e
+      short Single b e = e
 
   low_first : get_or bs 1 0 < 128 → IsToken d bs (end + 1) ShortString
   low_first l =
       let ascii : is_ascii_byte (get_or bs 1 0) ≡ true = ap not (lt-leb 128 (get_or bs 1 0) l) in
-      quick_string d q bs u o end (and_from (nat_lt 1 (length bs)) _ (lt-ltb 1 (length bs) within) (and_from (is_text_byte (get_or bs 1 0)) _ text_byte ascii)) (run_from 2 (omega arith) (omega arith)) z
+      quick_string d q bs u o end (and_from (nat_lt 1 (length bs)) _ (lt-ltb 1 (length bs) within) (and_from (is_short_byte (quote_byte q) (get_or bs 1 0)) _ text_byte ascii)) (run_from 2 (omega arith) (omega arith)) z
 
   high_first : 128 ≤ get_or bs 1 0 → IsToken d bs (end + 1) ShortString
   high_first h =
@@ -203,7 +179,7 @@ module _ (d : Dialect) (q : Quote) (bs : List ℕ) (u : IsUtf8 bs) (o : opens_wi
       (λ m. m)
       (cases_lt end first) in
       let rest = run_from first (omega arith) whole in
-      string_whole d q bs u o first (inr (inl char)) end (rests_short q bs first end rest) (fits_run bs first end rest) z
+      string_whole d q bs u o first (inr (inl char)) end (rests_short q bs first end rest) (fits_run (short_run q) bs first end (short_slash q) rest) z
 
   pub run_string : IsToken d bs (end + 1) ShortString
   run_string = ⊎_elim low_first high_first (cases_lt (get_or bs 1 0) 128)

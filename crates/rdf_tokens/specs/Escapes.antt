@@ -4,12 +4,11 @@ use Rattle.rdf_terms.specs.Classes.{has, is_digit, within, one_of, scalar}
 use Rattle.rdf_terms.specs.Classes.Class.{iri_char}
 use Rattle.rdf_terms.specs.Escapes.{are_four_digits}
 use Rattle.rdf_terms.specs.Pieces.{MayMean, hex_number, hex_value}
-use Rattle.rdf_terms.specs.Runs.{PassBetween}
+use Rattle.rdf_terms.specs.declared.runs.Run.{Run}
+use Rattle.rdf_terms.specs.Runs.{IsRun, PassBetween, goes_over}
 use Rattle.rdf_terms.specs.Values.{Inside, of_string, of_iri, outside, value}
 use Rattle.rdf_tokens.specs.declared.states.iri.Iri.TheVariants as iri_state
 use Rattle.rdf_tokens.specs.declared.states.machine.State.TheVariants as state
-use Rattle.rdf_tokens.specs.declared.states.text.Quote.{Quote}
-use Rattle.rdf_tokens.specs.declared.states.text.Text.TheVariants as text_state
 use Rattle.rdf_tokens.specs.Front.{Rests}
 
 -- HEX
@@ -87,12 +86,13 @@ pub record IsIriUchar (bs : List ℕ) (at end : ℕ) : Type 0 where
   pub uchar : IsUchar bs at end
   pub allowed : MayMean of_iri (hex_number (slice_range bs (at + 2) end))
 
--- the bytes between two places lead back to the state within a string, in whichever quotes it stands
-pub record RestsInString (bs : List ℕ) (at end : ℕ) : Type 0 where
-  pub short : (q : Quote) → Rests (state.Text (text_state.Short q)) bs at end
-  pub long : (q : Quote) → Rests (state.Text (text_state.Long q)) bs at end
+-- an escape of a string stands at a place, and the run after it ends at another
+pub record IsEscapeThen (r : Run) (bs : List ℕ) (at end : ℕ) : Type 0 where
+  pub mid : ℕ
+  pub escape : IsEchar bs at mid ⊎ IsUchar bs at mid
+  pub run : IsRun (goes_over r) bs mid end
 
--- the same within an IRI
+-- the bytes between two places lead back to the state within an IRI
 abbrev pub RestsInIri : List ℕ → ℕ → ℕ → Type 0
 RestsInIri bs at end = Rests (state.Iri iri_state.Inside) bs at end
 

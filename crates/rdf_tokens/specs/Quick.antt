@@ -7,7 +7,9 @@ use Rattle.rdf_terms.specs.declared.kind.Dialect.TheVariants.{Lines, Turtle}
 use Rattle.rdf_terms.specs.declared.kind.Kind.{Kind}
 use Rattle.rdf_terms.specs.declared.kind.Kind.TheVariants.{Dot, LineEnd, Semicolon, Comma, OpenBracket, CloseBracket, OpenParen, CloseParen, OpenBrace, CloseBrace}
 use Rattle.rdf_terms.specs.Classes.{is_digit, is_letter, is_turtle, one_of}
-use Rattle.rdf_terms.specs.Runs.{IsRun, is_name_byte, is_ascii_text_byte}
+use Rattle.rdf_terms.specs.declared.runs.Run.{Run}
+use Rattle.rdf_terms.specs.declared.runs.Run.TheVariants.{QuoteText, SingleQuoteText, LongQuoteText, LongSingleQuoteText}
+use Rattle.rdf_terms.specs.Runs.{IsRun, is_ascii_byte, is_name_byte, is_short_byte}
 use Rattle.rdf_terms.specs.Shapes.{is_live}
 use Rattle.rdf_terms.specs.Values.{is_fit}
 use Rattle.rdf_tokens.specs.declared.front.NoNames.{NoNames}
@@ -175,9 +177,23 @@ has_quote d Single = is_turtle d
 abbrev pub opens_with : Dialect → Quote → List ℕ → Bool
 opens_with d q bs = has_quote d q && stands_at (quote_byte q) bs 0
 
--- a byte of ASCII comes second that stands in strings as it is
-abbrev pub begins_string : List ℕ → Bool
-begins_string bs = nat_lt 1 (length bs) && is_ascii_text_byte (get_or bs 1 0)
+-- what a string in this quote has as it is
+abbrev pub short_run : Quote → Run
+short_run Double = QuoteText
+short_run Single = SingleQuoteText
+
+-- what one between three of this quote has
+abbrev pub long_run : Quote → Run
+long_run Double = LongQuoteText
+long_run Single = LongSingleQuoteText
+
+-- a byte of ASCII that stands in strings in this quote as it is
+abbrev pub is_plain : Quote → ℕ → Bool
+is_plain q b = is_short_byte (quote_byte q) b && is_ascii_byte b
+
+-- such a byte comes second
+abbrev pub begins_string : Quote → List ℕ → Bool
+begins_string q bs = nat_lt 1 (length bs) && is_plain q (get_or bs 1 0)
 
 -- the quote comes second too, and another byte of ASCII third
 abbrev pub is_empty_string : Quote → List ℕ → Bool

@@ -3,16 +3,10 @@ use Rattle.std.specs.Prelude.{◌≡◌, ◌⊎◌, ℕ, ◌+◌, ◌≤◌, nat
 use Rattle.std.specs.Char.{len_utf8}
 use Rattle.rdf_tokens.specs.declared.states.machine.State.TheVariants as state
 use Rattle.rdf_tokens.specs.declared.states.text.Quote.{Quote}
-use Rattle.rdf_tokens.specs.declared.states.text.Quote.TheVariants.{Double, Single}
 use Rattle.rdf_tokens.specs.declared.states.text.Text.TheVariants as text_state
 use Rattle.rdf_tokens.specs.Escapes.{IsEchar, IsUchar}
 use Rattle.rdf_tokens.specs.Front.{Rests}
 use Rattle.rdf_tokens.specs.Quick.{begins_string}
-
--- the byte of the other quote
-abbrev pub other_byte : Quote → ℕ
-other_byte Double = 39
-other_byte Single = 34
 
 -- a character that is not of ASCII stands between two places
 pub record IsHighChar (bs : List ℕ) (at end : ℕ) : Type 0 where
@@ -22,9 +16,9 @@ pub record IsHighChar (bs : List ℕ) (at end : ℕ) : Type 0 where
   pub past : end ≡ at + len_utf8 c
   pub within : end ≤ length bs
 
--- what stands after the first quote ends there: a byte of ASCII that stands in strings as it is, a character from U+0080 on, or an escape
-abbrev pub IsFirst : List ℕ → ℕ → Type 0
-IsFirst bs end = ((begins_string bs ≡ true) × (end ≡ 2)) ⊎ (IsHighChar bs 1 end ⊎ (IsEchar bs 1 end ⊎ IsUchar bs 1 end))
+-- what stands after the first quote ends there: a byte of ASCII that stands in such strings as it is, a character from U+0080 on, or an escape
+abbrev pub IsFirst : Quote → List ℕ → ℕ → Type 0
+IsFirst q bs end = ((begins_string q bs ≡ true) × (end ≡ 2)) ⊎ (IsHighChar bs 1 end ⊎ (IsEchar bs 1 end ⊎ IsUchar bs 1 end))
 
 -- a byte from 128 on comes second
 abbrev pub begins_high : List ℕ → Bool

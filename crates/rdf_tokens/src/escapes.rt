@@ -7,41 +7,68 @@ ghost use Rattle.rdf_terms.specs.Pieces.{hex_value};
 ghost use Rattle.rdf_terms.specs.Runs.{IsRun, goes_over};
 ghost use Rattle.rdf_tokens.specs.Escapes.{is_hex, is_letter, is_surrogate, is_plane, is_in_first_plane, is_in_planes, is_iri_four, writes_iri_char};
 ghost use Rattle.rdf_tokens.specs.Escapes.{begins_long_uchar, are_four_of_character, are_eight_of_character};
-ghost use Rattle.rdf_tokens.specs.Escapes.{IsHexes, IsNumber, IsUchar, IsIriUchar, FitsInIri, FitsInString, RestsInIri, RestsInString};
+ghost use Rattle.rdf_tokens.specs.Escapes.{IsHexes, IsNumber, IsUchar, IsIriUchar, FitsInIri, FitsInString, IsEscapeThen, RestsInIri};
+ghost use Rattle.rdf_tokens.specs.Quick.{short_run};
+ghost use Rattle.rdf_tokens.specs.Strings.{RestsInQuotes};
 
+use crate::states::text::Quote;
 use rdf_terms::escapes::{are_four_digits, begins_uchar, letter_meaning};
 use rdf_terms::runs::{Run, run_end};
 use rdf_terms::{hex_value, is_iri_char};
 
-/// The place after the plain bytes and the whole escapes of a string from a place on. A bad escape is not passed.
-pub(crate) fn string_end(bytes: &[u8], from: usize) -> usize
+/// The place after the plain bytes and the whole escapes of a string in this quote from a place on. A bad escape is not passed.
+pub(crate) fn string_end(quote: Quote, bytes: &[u8], from: usize) -> usize
     requires { from ≤ length bytes.now }
-    ensures rests { RestsInString bytes.now from result }
+    ensures rests { RestsInQuotes quote bytes.now from result }
     ensures fits { FitsInString bytes.now from result }
 {
-    let mut at = run_end(Run::Text, bytes, from);
-    while let Some(next) = escape_end(bytes, at) {
+    match quote {
+        Quote::Double => parts_end(Quote::Double, bytes, from),
+        Quote::Single => parts_end(Quote::Single, bytes, from),
+    }
+}
+
+/// The same, with a loop of its own for each quote.
+#[inline(always)]
+fn parts_end(quote: Quote, bytes: &[u8], from: usize) -> usize
+    requires { from ≤ length bytes.now }
+    ensures rests { RestsInQuotes quote bytes.now from result }
+    ensures fits { FitsInString bytes.now from result }
+{
+    let run = short_run(quote);
+    let mut at = run_end(run, bytes, from);
+    while let Some(next) = escape_end(run, bytes, at) {
         at = next;
     }
     at
 }
 
-/// Where the escape at a place and the plain bytes after it end, if all of it is there and it is not bad.
+/// What a string in this quote has as it is.
 #[inline(always)]
-pub(crate) fn escape_end(bytes: &[u8], at: usize) -> Option<usize>
-    requires { at ≤ length bytes.now }
-    ensures rests { IfSome result (λ end. RestsInString bytes.now at end) }
-    ensures fits { IfSome result (λ end. FitsInString bytes.now at end) }
-    ensures on { IfSome result (λ end. at < end) }
+pub(crate) fn short_run(quote: Quote) -> Run
+    ensures { result ≡ short_run quote }
+{
+    match quote {
+        Quote::Double => Run::QuoteText,
+        Quote::Single => Run::SingleQuoteText,
+    }
+}
+
+/// Where the escape at a place and the run after it end, if all of the escape is there and it is not bad.
+#[inline(always)]
+pub(crate) fn escape_end(run: Run, bytes: &[u8], at: usize) -> Option<usize>
+    requires within { at ≤ length bytes.now }
+    requires backslash { goes_over run 92 ≡ false }
+    ensures { IfSome result (λ end. IsEscapeThen run bytes.now at end) }
 {
     if let Some(next) = short_uchar_end(bytes, at) {
-        return Some(plain_end(Run::Text, bytes, next));
+        return Some(plain_end(run, bytes, next));
     }
     if is_echar(bytes, at) {
-        return Some(run_end(Run::Text, bytes, at + 2));
+        return Some(run_end(run, bytes, at + 2));
     }
     match long_uchar_end(bytes, at) {
-        Some(next) => Some(plain_end(Run::Text, bytes, next)),
+        Some(next) => Some(plain_end(run, bytes, next)),
         None => None,
     }
 }

@@ -253,7 +253,7 @@ fn string_len(text: &str) -> Option<usize>
     ensures { IfSome result (λ n. IsToken Turtle text.now n ShortString) }
 {
     let bytes = text.as_bytes();
-    let end = run_end(Run::Text, bytes, 1);
+    let end = run_end(Run::QuoteText, bytes, 1);
     if end > 1 && stands_at(b'"', bytes, end) {
         return Some(end + 1);
     }

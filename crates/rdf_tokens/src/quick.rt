@@ -11,10 +11,10 @@ ghost use Rattle.rdf_tokens.specs.Quick.{is_dot, begins_number, is_point, is_int
 ghost use Rattle.rdf_tokens.specs.Quick.{begins_iri, quote_byte, opens_with, begins_string, is_empty_string, begins_label, begins_label_name};
 ghost use Rattle.rdf_tokens.specs.Quick.{begins_tag, begins_directive, is_part_byte, is_tag_end, is_later_end, are_carets};
 ghost use Rattle.rdf_tokens.specs.Escapes.{FitsInString};
-ghost use Rattle.rdf_tokens.specs.Quick.{RestsInLocal, is_over, is_last, ends_local, RestsInLong, is_inner, stands_inner, stands_thrice};
-ghost use Rattle.rdf_terms.specs.Runs.{IsRun, is_name_byte, is_ascii_text_byte};
+ghost use Rattle.rdf_tokens.specs.Quick.{RestsInLocal, is_over, is_last, ends_local, RestsInLong, is_inner, is_plain, long_run, stands_inner, stands_thrice};
+ghost use Rattle.rdf_terms.specs.Runs.{IsRun, is_name_byte};
 
-use crate::escapes::escape_end;
+use crate::escapes::{escape_end, short_run};
 use crate::front::{NoNames, begins_in_letter};
 use crate::states::text::Quote;
 use rdf_terms::runs::{Run, run_end, two_run_ends};
@@ -157,12 +157,12 @@ pub(crate) fn opens_with(dialect: Dialect, quote: Quote, bytes: &[u8]) -> bool
     is_quote && stands_at(quote_byte(quote), bytes, 0)
 }
 
-/// Whether a byte of ASCII comes second that stands in strings as it is.
+/// Whether a byte of ASCII comes second that stands in strings in this quote as it is.
 #[inline(always)]
-pub(crate) fn begins_string(bytes: &[u8]) -> bool
-    ensures { result ≡ begins_string bytes.now }
+pub(crate) fn begins_string(quote: Quote, bytes: &[u8]) -> bool
+    ensures { result ≡ begins_string quote bytes.now }
 {
-    bytes.len() > 1 && is_plain(bytes[1])
+    bytes.len() > 1 && is_plain(quote, bytes[1])
 }
 
 /// Whether the same quote comes second, and another byte of ASCII third.
@@ -175,13 +175,13 @@ fn is_empty_string(quote: Quote, bytes: &[u8]) -> bool
 }
 
 #[inline(always)]
-fn is_plain(byte: u8) -> bool
-    ensures { result ≡ is_ascii_text_byte byte }
+fn is_plain(quote: Quote, byte: u8) -> bool
+    ensures { result ≡ is_plain quote byte }
 {
-    !matches!(byte, b'"' | b'\'' | b'\\' | b'\n' | b'\r') && byte < 128
+    byte < 128 && byte != quote_byte(quote) && !matches!(byte, b'\\' | b'\n' | b'\r')
 }
 
-/// A string in quotes, up to the next byte that is a quote, a backslash or the end of a line.
+/// A string in quotes, up to the next byte that is this quote, a backslash or the end of a line.
 #[inline(always)]
 fn quick_string(dialect: Dialect, quote: Quote, text: &str) -> Quick
     requires { opens_with dialect quote text.now ≡ true }
@@ -194,7 +194,7 @@ fn quick_string(dialect: Dialect, quote: Quote, text: &str) -> Quick
             kind: Some(Kind::ShortString),
         };
     }
-    let end = run_end(Run::Text, bytes, 1);
+    let end = run_end(short_run(quote), bytes, 1);
     if end > 1 && stands_at(quote_byte(quote), bytes, end) {
         return Quick {
             len: end + 1,
@@ -236,22 +236,45 @@ fn stands_thrice(quote: Quote, bytes: &[u8], at: usize) -> bool
     stands_at(byte, bytes, at) && stands_at(byte, bytes, at + 1) && stands_at(byte, bytes, at + 2)
 }
 
-/// The place after what stands inside such a string from a place on: plain bytes, line ends, the other quote, whole escapes, and quotes each of which
-/// has another byte of ASCII after it.
-#[inline(always)]
-fn long_end(quote: Quote, bytes: &[u8], from: usize) -> usize
+/// The place after what stands inside such a string from a place on: plain bytes, whole escapes, and quotes each of which has another byte of ASCII
+/// after it.
+pub(crate) fn long_end(quote: Quote, bytes: &[u8], from: usize) -> usize
     requires { from ≤ length bytes.now }
     ensures rests { RestsInLong quote bytes.now from result }
     ensures fits { FitsInString bytes.now from result }
 {
-    let mut at = run_end(Run::Text, bytes, from);
+    match quote {
+        Quote::Double => inside_end(Quote::Double, bytes, from),
+        Quote::Single => inside_end(Quote::Single, bytes, from),
+    }
+}
+
+/// The same, with a loop of its own for each quote.
+#[inline(always)]
+fn inside_end(quote: Quote, bytes: &[u8], from: usize) -> usize
+    requires { from ≤ length bytes.now }
+    ensures rests { RestsInLong quote bytes.now from result }
+    ensures fits { FitsInString bytes.now from result }
+{
+    let mut at = run_end(long_run(quote), bytes, from);
     while let Some(next) = inner_end(quote, bytes, at) {
-        at = run_end(Run::Text, bytes, next);
+        at = next;
     }
     at
 }
 
-/// The end of what stands at a place inside such a string and is no run.
+/// What a string between three of this quote has as it is.
+#[inline(always)]
+fn long_run(quote: Quote) -> Run
+    ensures { result ≡ long_run quote }
+{
+    match quote {
+        Quote::Double => Run::LongQuoteText,
+        Quote::Single => Run::LongSingleQuoteText,
+    }
+}
+
+/// The end of what stands at a place inside such a string and is no run, and of the run after it.
 #[inline(always)]
 fn inner_end(quote: Quote, bytes: &[u8], at: usize) -> Option<usize>
     requires { at ≤ length bytes.now }
@@ -259,16 +282,13 @@ fn inner_end(quote: Quote, bytes: &[u8], at: usize) -> Option<usize>
     ensures fits { IfSome result (λ end. FitsInString bytes.now at end) }
     ensures on { IfSome result (λ end. at < end) }
 {
-    if stands_inner(quote, bytes, at) {
-        return Some(at + 1);
-    }
     if stands_at(quote_byte(quote), bytes, at) {
         if stands_inner(quote, bytes, at + 1) {
-            return Some(at + 2);
+            return Some(run_end(long_run(quote), bytes, at + 2));
         }
         return None;
     }
-    escape_end(bytes, at)
+    escape_end(long_run(quote), bytes, at)
 }
 
 /// Whether a byte of ASCII stands at a place that is neither this quote nor a backslash.

@@ -1,10 +1,9 @@
 // Strings with one quote at each end, read without the states.
 
-ghost use Rattle.std.specs.Prelude.{◌≡◌, ◌≤◌, ◌<◌, true, length, drop, IfSome, IsUtf8};
+ghost use Rattle.std.specs.Prelude.{◌≡◌, ◌<◌, true, length, drop, IfSome, IsUtf8};
 ghost use Rattle.rdf_terms.specs.declared.kind.Kind.TheVariants.{ShortString};
-ghost use Rattle.rdf_tokens.specs.Escapes.{FitsInString};
 ghost use Rattle.rdf_tokens.specs.Quick.{IsToken, opens_with};
-ghost use Rattle.rdf_tokens.specs.Strings.{begins_high, other_byte, IsFirst, RestsInQuotes};
+ghost use Rattle.rdf_tokens.specs.Strings.{begins_high, IsFirst};
 ghost use Rattle.rdf_tokens.specs.Walk.{Walked};
 
 use crate::bytes::char_at;
@@ -55,10 +54,10 @@ fn quoted_len(dialect: Dialect, quote: Quote, text: &str, walk: &mut Option<Walk
     ensures walked { Walked dialect text.now walk.new }
 {
     let bytes = text.as_bytes();
-    let Some(first) = first_end(text) else {
+    let Some(first) = first_end(quote, text) else {
         return None;
     };
-    let end = inside_end(quote, bytes, first);
+    let end = string_end(quote, bytes, first);
     if stands_at(quote_byte(quote), bytes, end) {
         return Some(end + 1);
     }
@@ -70,13 +69,13 @@ fn quoted_len(dialect: Dialect, quote: Quote, text: &str, walk: &mut Option<Walk
 
 /// Where the first character or escape of a string ends, if it can stand there.
 #[inline(always)]
-fn first_end(text: &str) -> Option<usize>
+fn first_end(quote: Quote, text: &str) -> Option<usize>
     requires some { 0 < length text.now }
     requires utf8 { IsUtf8 (drop 1 text.now) }
-    ensures { IfSome result (λ end. IsFirst text.now end) }
+    ensures { IfSome result (λ end. IsFirst quote text.now end) }
 {
     let bytes = text.as_bytes();
-    if begins_string(bytes) {
+    if begins_string(quote, bytes) {
         return Some(2);
     }
     if begins_high(bytes) {
@@ -94,29 +93,4 @@ fn begins_high(bytes: &[u8]) -> bool
     ensures { result ≡ begins_high bytes.now }
 {
     bytes.len() > 1 && bytes[1] >= 128
-}
-
-/// The place after what stands inside a string from a place on, the other quote too.
-#[inline(always)]
-fn inside_end(quote: Quote, bytes: &[u8], from: usize) -> usize
-    requires { from ≤ length bytes.now }
-    ensures rests { RestsInQuotes quote bytes.now from result }
-    ensures fits { FitsInString bytes.now from result }
-{
-    let other = other_byte(quote);
-    let mut at = string_end(bytes, from);
-    while stands_at(other, bytes, at) {
-        at = string_end(bytes, at + 1);
-    }
-    at
-}
-
-#[inline(always)]
-fn other_byte(quote: Quote) -> u8
-    ensures { result ≡ other_byte quote }
-{
-    match quote {
-        Quote::Double => b'\'',
-        Quote::Single => b'"',
-    }
 }

@@ -17,7 +17,7 @@ pub fn place_characters(slot: &mut [u8], at: usize, text: &str) -> usize
     ensures within { result ≤ at + 2 * length text.now }
 {
     let bytes = text.as_bytes();
-    if is_run(Run::Text, bytes) {
+    if is_run(Run::QuoteText, bytes) {
         place_text(slot, at, bytes)
     } else {
         place_escaped(slot, at, bytes)
@@ -35,7 +35,7 @@ fn place_escaped(slot: &mut [u8], at: usize, bytes: &[u8]) -> usize
     let mut end = at;
     let mut from = 0;
     while from < bytes.len() {
-        let stop = run_end(Run::Text, bytes, from);
+        let stop = run_end(Run::QuoteText, bytes, from);
         end = place_text(slot, end, &bytes[from..stop]);
         if stop == bytes.len() {
             return end;

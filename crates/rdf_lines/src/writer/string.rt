@@ -124,8 +124,8 @@ fn run_of(escapes: Escapes) -> Run
     ensures { result ≡ run_of escapes }
 {
     match escapes {
-        Escapes::Plain => Run::Text,
-        Escapes::Ascii => Run::AsciiText,
+        Escapes::Plain => Run::QuoteText,
+        Escapes::Ascii => Run::AsciiQuoteText,
     }
 }
 

@@ -7,6 +7,7 @@ ghost use Rattle.rdf_tokens.specs.declared.states.machine.State.{State};
 ghost use Rattle.rdf_tokens.specs.declared.states.machine.State.TheVariants as state;
 
 use crate::escapes::{iri_end, string_end};
+use crate::quick::long_end;
 use crate::states::iri::Iri;
 use crate::states::label::Label;
 use crate::states::machine::State;
@@ -142,7 +143,8 @@ impl Shape for Text {
     #[inline(always)]
     fn rest_end(self, text: &str, from: usize) -> usize {
         match self {
-            Text::Short(_) | Text::Long(_) => string_end(text.as_bytes(), from),
+            Text::Short(quote) => string_end(quote, text.as_bytes(), from),
+            Text::Long(quote) => long_end(quote, text.as_bytes(), from),
             _ => from,
         }
     }

@@ -1,6 +1,7 @@
 -- A string, by its quotes and the run between them.
 use Rattle.std.proofs.Common.{◌≡◌, ◌+◌, ◌∙◌, true, sym, subst, IsUtf8}
 use Rattle.rdf_terms.specs.declared.kind.Kind.TheVariants.{ShortString}
+use Rattle.rdf_terms.specs.Runs.{IsRun, goes_over}
 use Rattle.rdf_tokens.specs.Quick.{IsToken, opens_with, stands_at}
 use Rattle.rdf_tokens.proofs.PlainQuick.{quick_empty}
 use Rattle.rdf_tokens.proofs.StringLemmas.{run_string}
@@ -23,5 +24,6 @@ returns-then-stands_at c =
     let q = c.args.quote in
     let end = c.run_end-end.result in
     subst (λ b. IsToken d b (end + 1) ShortString) v
-    (run_string d q bs (subst IsUtf8 (sym v) c.utf8.text) (subst (λ b. opens_with d q b ≡ true) (sym v) c.requires) end c.if-end-gt1.true c.run_end-end.ensures
+    (run_string d q bs (subst IsUtf8 (sym v) c.utf8.text) (subst (λ b. opens_with d q b ≡ true) (sym v) c.requires) end c.if-end-gt1.true
+    (subst (λ r. IsRun (goes_over r) bs 1 end) c.short_run.ensures c.run_end-end.ensures)
     (subst (λ n. stands_at n bs end ≡ true) c.quote_byte.ensures (sym c.stands_at.ensures ∙ c.if-stands_at.true)))

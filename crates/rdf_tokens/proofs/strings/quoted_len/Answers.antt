@@ -22,9 +22,9 @@ returns-then-stands_at-clause-token c =
     let v = c.as_bytes-bytes.ensures.value in
     let d = c.args.dialect in
     let q = c.args.quote in
-    let e = c.inside_end-end in
+    let e = c.string_end-end in
     subst (λ b. IsToken d b (e.result + 1) ShortString) v
-    (string_whole d q bs (subst IsUtf8 (sym v) c.utf8.text) (subst (λ b. opens_with d q b ≡ true) (sym v) c.requires.opens) c.in-Some.first (subst (λ b. IsFirst b c.in-Some.first) (sym v) c.in-Some.ensures) e.result
+    (string_whole d q bs (subst IsUtf8 (sym v) c.utf8.text) (subst (λ b. opens_with d q b ≡ true) (sym v) c.requires.opens) c.in-Some.first (subst (λ b. IsFirst q b c.in-Some.first) (sym v) c.in-Some.ensures) e.result
     e.ensures.rests e.ensures.fits (subst (λ n. stands_at n bs e.result ≡ true) c.quote_byte.ensures (sym c.stands_at.ensures ∙ c.if-stands_at.true)))
 
 pub walk_to-requires-clause-reached : goal.walk_to-requires-clause-reached
@@ -33,6 +33,6 @@ walk_to-requires-clause-reached c =
     let v = c.as_bytes-bytes.ensures.value in
     let d = c.args.dialect in
     let q = c.args.quote in
-    let e = c.inside_end-end in
+    let e = c.string_end-end in
     subst (λ b. Reached d b e.result (Text (Short q)) None) v
-    (string_reached d q bs (subst IsUtf8 (sym v) c.utf8.text) (subst (λ b. opens_with d q b ≡ true) (sym v) c.requires.opens) c.in-Some.first (subst (λ b. IsFirst b c.in-Some.first) (sym v) c.in-Some.ensures) e.result e.ensures.rests)
+    (string_reached d q bs (subst IsUtf8 (sym v) c.utf8.text) (subst (λ b. opens_with d q b ≡ true) (sym v) c.requires.opens) c.in-Some.first (subst (λ b. IsFirst q b c.in-Some.first) (sym v) c.in-Some.ensures) e.result e.ensures.rests)

@@ -1,6 +1,6 @@
 use Rattle.std.proofs.Common.{◌≡◌, true, ap, sym, ◌∙◌}
 use Rattle.std.specs.Prelude.{flat_map}
-use Rattle.rdf_terms.specs.declared.runs.Run.TheVariants.{Text}
+use Rattle.rdf_terms.specs.declared.runs.Run.TheVariants.{QuoteText}
 use Rattle.rdf_terms.specs.Runs.{goes_over}
 use Rattle.rdf_terms.specs.Terms.{all_have}
 use Rattle.rdf_lines.specs.declared.form.Escapes.TheVariants.{Plain}
@@ -14,7 +14,7 @@ pub returns-then-is_run-clause-placed : goal.returns-then-is_run-clause-placed
 returns-then-is_run-clause-placed c =
     let text = c.args.text.now in
     let value = c.as_bytes-bytes.ensures.value in
-    let run : all_have (goes_over Text) text ≡ true = ap (all_have (goes_over Text)) (sym value) ∙ (sym c.is_run.ensures ∙ c.if-is_run.true) in
+    let run : all_have (goes_over QuoteText) text ≡ true = ap (all_have (goes_over QuoteText)) (sym value) ∙ (sym c.is_run.ensures ∙ c.if-is_run.true) in
     Placed-as (value ∙ sym (text_stands Plain text c.utf8.text run)) c.place_text.ensures
 
 pub returns-else-is_run-clause-placed : goal.returns-else-is_run-clause-placed

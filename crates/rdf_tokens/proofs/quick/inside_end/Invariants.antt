@@ -1,11 +1,12 @@
 use Rattle.std.proofs.Common.{◌-◌, ◌≤◌, length}
-use Rattle.rdf_tokens.specs.Escapes.{FitsInString, RestsInString}
-use Rattle.rdf_tokens.proofs.escapes.string_end.Given as goal
+use Rattle.rdf_tokens.specs.Escapes.{FitsInString}
+use Rattle.rdf_tokens.specs.Quick.{RestsInLong}
+use Rattle.rdf_tokens.proofs.quick.inside_end.Given as goal
 
 abbrev pub invariant-loop-next : goal.invariant-loop-next
 invariant-loop-next l = record {
   within : l.at ≤ length l.bytes;
-  rests : RestsInString l.bytes l.from l.at;
+  rests : RestsInLong l.quote l.bytes l.from l.at;
   fits : FitsInString l.bytes l.from l.at;
 }
 
