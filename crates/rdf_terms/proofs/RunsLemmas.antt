@@ -1,7 +1,7 @@
 -- Runs of bytes, from the lanes of a load to whole texts.
 use Rattle.std.proofs.Common.{◌≡◌, ℕ, zero, suc, ◌+◌, ◌-◌, ◌*◌, ◌/◌, ◌%◌, ◌^◌, ◌<◌, ◌≤◌, Bool, true, false, not, cond, ◌&&◌, ◌==◌, List, [], ◌∷◌, length, map, take, drop, get_or, refl, sym, ap, ap₂, subst, ◌∙◌, arith, ⊎_elim, Fits, w8}
 use Rattle.std.proofs.Math.Nat.{div-one, zero-div, pow-suc, mul_comm, div-div-eq-div-mul}
-use Rattle.std.proofs.lemmas.Bool.{agree_below, agree_below_at, not-true, not-false, and_from, cases_lt, eq-eqb, ne_eqb}
+use Rattle.std.proofs.lemmas.Bool.{eqb-true, false≢true, agree_below, agree_below_at, not-true, not-false, and_from, cases_lt, eq-eqb, ne_eqb}
 use Rattle.std.proofs.lemmas.List.{length-map, drop-take, drop-drop}
 use Rattle.std.proofs.lemmas.Simd.{map-map, mask_l-mod, zip2_of_maps, run_in_chunk_le, run_in_chunk_fails, run_in_chunk_stops, length-chunk, leading_from_mask_l, trailing_mask_l}
 use lib.Count.{count_trailing_zeros}
@@ -11,14 +11,19 @@ use Rattle.rdf_terms.specs.Terms.{all_have}
 use Rattle.rdf_terms.specs.Runs.{PassBetween, IsRun, IsRunIn}
 
 -- the mask of lanes that were computed one by one, by a test of each of the 256 bytes
-pub mask_is : (f : ℕ → ℕ) (p : ℕ → Bool) (v z : List ℕ) → length v ≡ 16 → Each1 (Fits w8) v → z ≡ map f v → agree_below (λ x. top 7 (f x)) p 256 ≡ true →
+pub mask_within : (f : ℕ → ℕ) (p : ℕ → Bool) (v z : List ℕ) → length v ≤ 64 → Each1 (Fits w8) v → z ≡ map f v → agree_below (λ x. top 7 (f x)) p 256 ≡ true →
     mask_l (map (top 7) z) % 2 ^ 64 ≡ mask_l (map p v)
-mask_is f p v z long fits e all =
-    ap (λ l. mask_l l % 2 ^ 64) (ap (map (top 7)) e ∙ (map-map (top 7) f v ∙ same v fits)) ∙ mask_l-mod (map p v) 64 (omega (arith, length-map v p, long))
+mask_within f p v z few fits e all =
+    ap (λ l. mask_l l % 2 ^ 64) (ap (map (top 7)) e ∙ (map-map (top 7) f v ∙ same v fits)) ∙ mask_l-mod (map p v) 64 (omega (arith, length-map v p, few))
   where
     same : (v : List ℕ) → Each1 (Fits w8) v → map (λ x. top 7 (f x)) v ≡ map p v
     same [] t = refl
     same (x ∷ xs) t = ap₂ (λ a b. a ∷ b) (agree_below_at (λ x. top 7 (f x)) p 256 x all t.0.fits) (same xs t.1)
+
+-- the same of sixteen lanes
+pub mask_is : (f : ℕ → ℕ) (p : ℕ → Bool) (v z : List ℕ) → length v ≡ 16 → Each1 (Fits w8) v → z ≡ map f v → agree_below (λ x. top 7 (f x)) p 256 ≡ true →
+    mask_l (map (top 7) z) % 2 ^ 64 ≡ mask_l (map p v)
+mask_is f p v z long fits e all = mask_within f p v z (omega (arith, long)) fits e all
 
 -- an operation on two vectors that were computed lane by lane from v
 pub joined : (h : ℕ → ℕ → ℕ) (f g : ℕ → ℕ) (v : List ℕ) {a b : List ℕ} → a ≡ map f v → b ≡ map g v → zip2 h a b ≡ map (λ x. h (f x) (g x)) v
@@ -62,6 +67,21 @@ last_decides p bs last n at count whole over front r =
     (λ l. let all : count ≡ n = omega (arith, r.few) in
     eq-eqb count n all ∙ sym (all_pass p bs (pass-more p bs 0 last (length bs) (λ k from to. front k from (omega arith)) (λ k from to. r.pass k from (omega (arith, all))))))
     (cases_lt count n)
+
+-- the first n bytes and the last decide, where they cover all
+pub front_passes : (p : ℕ → Bool) (bs : List ℕ) (n first last : ℕ) → n ≤ length bs → length bs ≤ n + n → IsRunIn p bs 0 n first →
+    IsRunIn p bs (length bs - n) n last → (first == n) ≡ true → (last == n) ≡ all_have p bs
+front_passes p bs n first last short long front back e =
+    let all : first ≡ n = eqb-true first n e in
+    last_decides p bs (length bs - n) n n last (omega (arith, short)) (omega (arith, long)) (λ k from to. front.pass k from (omega (arith, all, to))) back
+
+-- and the first n alone where one of them does not pass
+pub front_fails : (p : ℕ → Bool) (bs : List ℕ) (n first : ℕ) → n ≤ length bs → IsRunIn p bs 0 n first → (first == n) ≡ false → false ≡ all_have p bs
+front_fails p bs n first short front e =
+    ⊎_elim
+    (λ (l : first < n). sym (one_fails p bs (0 + first) (omega (arith, l, short)) (front.stops l)))
+    (λ l. absurd (false≢true (sym e ∙ eq-eqb first n (omega (arith, l, front.few)))))
+    (cases_lt first n)
 
 -- the run from the first byte on ends with the text just where all bytes pass
 pub run_decides : (p : ℕ → Bool) (bs : List ℕ) (end : ℕ) → IsRun p bs 0 end → (end == length bs) ≡ all_have p bs
@@ -109,6 +129,20 @@ module _ (p : ℕ → Bool) (bs : List ℕ) (at n : ℕ) (room : at + n ≤ leng
     pass = one_stops.pass;
     stops = λ _. one_stops.stops one_within;
   }
+
+-- whether the mask has a bit says whether all bytes pass
+pub lanes_decide : (p : ℕ → Bool) (bs : List ℕ) (at n m : ℕ) → at + n ≤ length bs → n ≤ 64 → m ≡ stop_mask p bs at n →
+    (count : ℕ) × IsRunIn p bs at n count × ((m == 0) ≡ (count == n))
+lanes_decide p bs at n m room few e =
+    ⊎_elim
+    (λ (l : 0 < m).
+      let some : 0 < stop_mask p bs at n = omega (arith, e, l) in
+      let k = count_trailing_zeros 64 (stop_mask p bs at n) in
+      (k, one_stops p bs at n room few some, ne_eqb m 0 (λ z. omega (arith, z, l)) ∙ sym (ne_eqb k n (λ z. omega (arith, z, one_within p bs at n room few some)))))
+    (λ l.
+      let none : m ≡ 0 = omega (arith, l) in
+      (n, none_stops p bs at n room (sym e ∙ none), eq-eqb m 0 none ∙ sym (eq-eqb n n refl)))
+    (cases_lt 0 m)
 
 -- a mask without its lowest bits is that of the bytes after them
 mask-drop : (q : ℕ → Bool) (n : ℕ) (xs : List ℕ) → mask_l (map q xs) / 2 ^ n ≡ mask_l (map q (drop n xs))

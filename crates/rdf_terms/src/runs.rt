@@ -1,6 +1,6 @@
 // Runs of bytes that a text has as they are, seen sixteen at a time.
 
-ghost use Rattle.std.specs.Prelude.{◌≡◌, ◌+◌, ◌≤◌, ◌<◌, length, map, not};
+ghost use Rattle.std.specs.Prelude.{◌≡◌, ◌==◌, ◌+◌, ◌≤◌, ◌<◌, ℕ, length, map, not};
 ghost use Rattle.std.specs.Simd.Lanes.{mask_l};
 ghost use Rattle.rdf_terms.specs.Runs.{iri_byte, goes_over, is_ascii_byte, is_ascii_quote_byte, is_long_byte, is_name_byte, is_short_byte, is_text_byte, is_unescaped, is_line_break, is_comment_byte, is_space, is_white, IsRun, IsRunIn};
 ghost use Rattle.rdf_terms.specs.Terms.{all_have};
@@ -370,7 +370,7 @@ pub fn is_run(run: Run, bytes: &[u8]) -> bool
     ensures { result ≡ all_have (goes_over run) bytes.now }
 {
     if bytes.len() < LANES {
-        return short_run_end(run, bytes, 0) == bytes.len();
+        return is_short_run(run, bytes);
     }
     let last = bytes.len() - LANES;
     let mut at = 0;
@@ -381,4 +381,41 @@ pub fn is_run(run: Run, bytes: &[u8]) -> bool
         at += LANES;
     }
     passed_lanes(run, bytes, last) == LANES
+}
+
+/// The same of fewer than sixteen bytes. Most literals have as few.
+#[inline(always)]
+fn is_short_run(run: Run, bytes: &[u8]) -> bool
+    requires { length bytes.now < 16 }
+    ensures { result ≡ all_have (goes_over run) bytes.now }
+{
+    match run {
+        Run::QuoteText if bytes.len() >= 8 => has_quote_ends::<8>(bytes),
+        Run::QuoteText if bytes.len() >= 4 => has_quote_ends::<4>(bytes),
+        _ => short_run_end(run, bytes, 0) == bytes.len(),
+    }
+}
+
+/// Whether a string between double quotes has the first N bytes and the last N as they are, which are all of them.
+#[inline(always)]
+fn has_quote_ends<const N: usize>(bytes: &[u8]) -> bool
+    requires covers { (N ≤ length bytes.now) × (length bytes.now ≤ N + N) }
+    requires few { N ≤ 16 }
+    ensures { result ≡ all_have (is_short_byte 34) bytes.now }
+{
+    let last = bytes.len() - N;
+    has_quote_lanes::<N>(bytes, 0) && has_quote_lanes::<N>(bytes, last)
+}
+
+/// Whether a string between double quotes has the N bytes from a place on as they are.
+#[inline(always)]
+fn has_quote_lanes<const N: usize>(bytes: &[u8], at: usize) -> bool
+    requires within { at + N ≤ length bytes.now }
+    requires few { N ≤ 16 }
+    ensures { (count : ℕ) × IsRunIn (is_short_byte 34) bytes.now at N count × (result ≡ (count == N)) }
+{
+    let v = Simd::<u8, N>::from_slice(&bytes[at..]);
+    let ends = v.simd_eq(Simd::splat(b'"')) | v.simd_eq(Simd::splat(b'\\'));
+    let breaks = v.simd_eq(Simd::splat(b'\n')) | v.simd_eq(Simd::splat(b'\r'));
+    (ends | breaks).to_bitmask() == 0
 }

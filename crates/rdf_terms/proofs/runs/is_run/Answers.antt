@@ -1,10 +1,7 @@
 use Rattle.std.proofs.Common.{arith}
 use Rattle.rdf_terms.specs.Runs.{goes_over}
-use Rattle.rdf_terms.proofs.RunsLemmas.{run_decides, last_decides}
+use Rattle.rdf_terms.proofs.RunsLemmas.{last_decides}
 use Rattle.rdf_terms.proofs.runs.is_run.Goals as goal
-
-pub returns-then-bytes-lt-LANES : goal.returns-then-bytes-lt-LANES
-returns-then-bytes-lt-LANES c = run_decides (goes_over c.args.run) c.args.bytes.now c.short_run_end.result c.short_run_end.ensures
 
 pub returns : goal.returns
 returns c =
