@@ -1,7 +1,8 @@
 // Turns where an object stands, and the parts of a literal.
 
-ghost use Rattle.std.specs.Prelude.{◌≡◌, ℕ, ◌+◌, ◌*◌, ◌≤◌, true, length, is_some, OnOk, IfErr, codes};
+ghost use Rattle.std.specs.Prelude.{◌≡◌, ◌+◌, ◌*◌, ◌≤◌, [], true, length, is_some, OnOk, IfErr, codes};
 ghost use Rattle.std.specs.Str.{chars};
+ghost use Rattle.std.specs.String.{string_bytes};
 ghost use Rattle.rdf_tokens.specs.Leaves.{Leaf};
 ghost use Rattle.rdf_trig.specs.declared.turn.Turn.TheVariants as Turn;
 ghost use Rattle.rdf_trig.specs.Machine as M;
@@ -15,7 +16,7 @@ use crate::rest::Rest;
 use crate::spelled::{set_long_string, tag_of};
 use crate::state::{Container, Held, Mode, State};
 use crate::turn::ObjectStart;
-use rdf_terms::{Known, label_of, put_string};
+use rdf_terms::{Known, label_of, put_string, put_text};
 use rdf_tokens::Token;
 use std::alloc::Allocator;
 use std::mem;
@@ -40,14 +41,12 @@ impl<A: Allocator + Copy> State<A> {
     {
         match start {
             ObjectStart::Name => {
-                self.text.clear();
                 self.object.take(&mut self.name);
-                self.hold(rest, Held::Resource);
+                self.hold_object(rest);
             }
             ObjectStart::Label => {
-                self.text.clear();
                 self.object.set_label(label_of(token.text))?;
-                self.hold(rest, Held::Resource);
+                self.hold_object(rest);
             }
             ObjectStart::ShortString => {
                 self.object.set_nil();
@@ -65,7 +64,7 @@ impl<A: Allocator + Copy> State<A> {
             ObjectStart::Brackets => {
                 self.open()?;
                 self.object.set_anon(token.offset);
-                self.hold(rest, Held::Resource);
+                self.hold_object(rest);
                 self.mode = Mode::PropertyListStart;
                 self.bracket = token.offset;
             }
@@ -162,10 +161,19 @@ impl<A: Allocator + Copy> State<A> {
         ensures err { IfErr result (λ r. r ≡ StepFault.Memory) }
     {
         self.object.set_nil();
-        self.text.clear();
-        self.text.push_str(lexical)?;
+        put_text(&mut self.text, lexical)?;
         self.hold(rest, Held::OfKnown(datatype));
         Ok(())
+    }
+
+    // The reader stands after an IRI or a node, whose quad is held. The text is in no use, and emptied.
+    #[inline(always)]
+    fn hold_object(&mut self, rest: Rest)
+        ensures same { self.new ≡ record self.old { text = self.new.text; rest = rest; held = Held.Resource; mode = Mode.After } }
+        ensures text { string_bytes self.new.text ≡ [] }
+    {
+        self.text.clear();
+        self.hold(rest, Held::Resource);
     }
 
     // The reader stands after an object, whose quad is held.

@@ -16,9 +16,11 @@ use Rattle.rdf_iri.proofs.ResolvedText.{byte_len-chars}
 use Rattle.rdf_trig.specs.declared.form.DocForm.{DocForm}
 use Rattle.rdf_trig.specs.declared.state.Frame.{Frame}
 use Rattle.rdf_trig.specs.declared.state.Mode.{Mode}
+use Rattle.rdf_trig.specs.declared.state.Mode.TheVariants as mode
 use Rattle.rdf_trig.specs.declared.state.Outer.{Outer}
 use Rattle.rdf_trig.specs.declared.state.Outer.TheVariants as outer
 use Rattle.rdf_trig.specs.declared.state.Held.{Held}
+use Rattle.rdf_trig.specs.declared.state.Held.TheVariants as held
 use Rattle.rdf_trig.specs.declared.state.State.{State}
 use Rattle.rdf_tokens.specs.declared.token.Token.{Token as Given}
 use Rattle.rdf_tokens.specs.Good.{most_bytes}
@@ -64,6 +66,14 @@ pub stands_fits : {A : Type 0} (n : ℕ) (old new : State A) (m : Mode) (h : Hel
     new ≡ record old { rest = x; held = h; mode = m } → Fits n old → Fits n new
 stands_fits n old new m h x e f =
     subst (Fits n) (sym e) (record { graph = f.graph; object = f.object; tail = f.tail; frame = f.frame; frames = f.frames; spares = f.spares })
+
+-- so too with another object, where the text is emptied
+pub held_fits : {A : Type 0} (n : ℕ) (old new : State A) (o : Topic) (x : Option (ℕ × ℕ)) →
+    new ≡ record old { object = o; text = new.text; rest = x; held = held.Resource; mode = mode.After } → string_bytes new.text ≡ [] →
+    Fits n old → o.size ≤ n → Fits n new
+held_fits n old new o x e t f h =
+    let empty = ap length t in
+    subst (Fits n) (sym e) (record { graph = f.graph; object = omega (arith, h, empty); tail = f.tail; frame = f.frame; frames = f.frames; spares = f.spares })
 
 -- a subject without a text fits
 pub empty_fits : (n : ℕ) (x : Topic) (k : SubjectKind) → x ≡ topic_at k [] → x.size ≤ n

@@ -1,5 +1,5 @@
 use Rattle.std.proofs.Common.{subst}
-use Rattle.std.specs.Str.{IsCharBoundary, IsUtf8}
+use Rattle.std.specs.Str.{IsUtf8}
 use Rattle.std.proofs.lemmas.Str.{IsCharBoundary-start}
 use Rattle.rdf_trig.proofs.emptied.clear_text.Goals as goal
 

@@ -4,19 +4,16 @@ use Rattle.rdf_trig.specs.declared.slots.SubjectKind.TheVariants as kind
 use Rattle.rdf_trig.specs.declared.state.Held.TheVariants as held
 use Rattle.rdf_trig.specs.declared.state.Mode.TheVariants as mode
 use Rattle.rdf_terms.specs.declared.constants.Known.TheVariants.{XsdBoolean}
-use Rattle.rdf_trig.proofs.code.HoldingLemmas.{stands_fits, label_fits, empty_fits}
+use Rattle.rdf_trig.proofs.code.HoldingLemmas.{stands_fits, held_fits, label_fits, empty_fits}
 use Rattle.rdf_trig.proofs.code.SpelledLemmas.{true_length, false_length}
 use Rattle.rdf_trig.proofs.state.State.object.Goals as goal
 
 pub returns-in_ok-set_label-in-Label-clause-fits : goal.returns-in_ok-set_label-in-Label-clause-fits
 returns-in_ok-set_label-in-Label-clause-fits g c = λ n t h f.
-    let self = c.args.self.now in
     let label = c.set_label.new.self in
-    let text = c.clear-in-Label.new.self in
+    let made = c.hold_object-in-Label in
     let size = label_fits n label _ (leaf c.args.token.now).text c.in_ok-set_label-in-Label.ensures c.label_of.ensures.label t in
-    let empty = ap length c.clear-in-Label.ensures.bytes in
-    stands_fits n (record self { text = text; object = label }) c.hold-in-Label.new.self mode.After held.Resource _ c.hold-in-Label.ensures
-    (record { graph = f.graph; object = omega (arith, size, empty); tail = f.tail; frame = f.frame; frames = f.frames; spares = f.spares })
+    held_fits n c.args.self.now made.new.self label _ made.ensures.same made.ensures.text f size
 
 pub returns-in_ok-known_literal-in-True-clause-fits : goal.returns-in_ok-known_literal-in-True-clause-fits
 returns-in_ok-known_literal-in-True-clause-fits g c = λ n t h f.
@@ -44,13 +41,12 @@ returns-in_ok-known_literal-in-False-clause-fits g c = λ n t h f.
 
 pub returns-in_ok-open-in-Brackets-clause-fits : goal.returns-in_ok-open-in-Brackets-clause-fits
 returns-in_ok-open-in-Brackets-clause-fits g c = λ n t h o.
-    let f = c.in_ok-open-in-Brackets.ensures.fits n o in
-    let object = f.object in
     let node = c.set_anon.new.self in
-    let empty = empty_fits 0 node (kind.Anon c.args.token.now.offset) c.set_anon.ensures in
-    let k = stands_fits n (record c.«open».new.self { object = node }) c.hold-in-Brackets.new.self mode.After held.Resource _ c.hold-in-Brackets.ensures
-    (record { graph = f.graph; object = omega (arith, object, empty); tail = f.tail; frame = f.frame; frames = f.frames; spares = f.spares }) in
-    record { graph = k.graph; object = k.object; tail = k.tail; frame = k.frame; frames = k.frames; spares = k.spares }
+    let made = c.hold_object-in-Brackets in
+    let f =
+    held_fits n c.«open».new.self made.new.self node _ made.ensures.same made.ensures.text (c.in_ok-open-in-Brackets.ensures.fits n o)
+    (empty_fits n node (kind.Anon c.args.token.now.offset) c.set_anon.ensures) in
+    record { graph = f.graph; object = f.object; tail = f.tail; frame = f.frame; frames = f.frames; spares = f.spares }
 
 pub returns-in_ok-open-in-Collection-clause-fits : goal.returns-in_ok-open-in-Collection-clause-fits
 returns-in_ok-open-in-Collection-clause-fits g c = λ n t h o.
